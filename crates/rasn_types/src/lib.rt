@@ -1,0 +1,6 @@
+//! ASN.1's basic types, as far as the packed encoding rules call them.
+#![tactic(auto)]
+
+pub mod integer;
+pub mod types;
+pub mod width;

@@ -1,0 +1,67 @@
+//! Codecs, tags and identifiers.
+
+ghost use Rattle.std.specs.Prelude.{◌≡◌};
+
+/// A variant of the packed encoding rules (X.691 7).
+#[derive(Clone, Copy, Debug, PartialEq, Eq)]
+pub enum Codec {
+    /// The ALIGNED variant.
+    Aper,
+    /// The UNALIGNED variant.
+    Uper,
+}
+
+/// A class of tags (X.680 8.1), in ascending order.
+#[derive(Clone, Copy, Debug, PartialEq, Eq, PartialOrd, Ord)]
+pub enum Class {
+    Universal,
+    Application,
+    Context,
+    Private,
+}
+
+/// A tag (X.680 8.1). Tags are ordered by class, then by value (X.680 8.6).
+#[derive(Clone, Copy, Debug, PartialEq, Eq, PartialOrd, Ord)]
+pub struct Tag {
+    /// The class.
+    pub class: Class,
+    /// The number within the class.
+    pub value: u32,
+}
+
+impl Tag {
+    /// The tag of BOOLEAN.
+    pub const BOOL: Tag = Tag {
+        class: Class::Universal,
+        value: 1,
+    };
+
+    /// The tag of INTEGER.
+    pub const INTEGER: Tag = Tag {
+        class: Class::Universal,
+        value: 2,
+    };
+
+    /// The tag of NULL.
+    pub const NULL: Tag = Tag {
+        class: Class::Universal,
+        value: 5,
+    };
+
+    /// A tag of a class with a value.
+    pub const fn new(class: Class, value: u32) -> Tag
+        ensures class { result.class ≡ class }
+        ensures value { result.value ≡ value }
+    {
+        Tag { class, value }
+    }
+}
+
+/// The name that a value is given in its schema, where it has one. The packed encoding rules write no names.
+#[derive(Clone, Copy)]
+pub struct Identifier(pub Option<&'static str>);
+
+impl Identifier {
+    /// No name.
+    pub const EMPTY: Identifier = Identifier(None);
+}
