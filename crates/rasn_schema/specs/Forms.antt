@@ -1,0 +1,105 @@
+-- The schemas that the constraints of a type make of its kind, and families of schemas in which no other stands.
+use Rattle.std.specs.Prelude.{ℕ, ◌≡◌, ◌-◌, ◌^◌, Bool, false, List, refl, Some, None, pos, negsuc}
+use Rattle.rasn_types.specs.Values.{Value}
+use Rattle.rasn_schema.specs.Schemas
+use Rattle.rasn_schema.specs.Schemas.{Schema, Bounds, Size, between}
+use Rattle.rasn_schema.specs.Normal.{normal}
+use Rattle.rasn_schema.specs.Depth.{IsLeaf, CutOf, Unfolds, meets_cut}
+use Rattle.rasn_schema.specs.Constraints.{bounds_in, size_in, is_marked, permitted}
+use Rattle.rasn_schema.specs.declared.constraints.Bounded.TheVariants.{Range}
+use Rattle.rasn_schema.specs.declared.constraints.Constraints.{Constraints}
+
+-- X.680 49: no constraint
+abbrev pub no_constraints : Constraints
+no_constraints = record { value = None; size = None; alphabet = None }
+
+-- X.680 51.4: a value constraint alone, without a mark: to be within bounds
+abbrev pub within : Bounds → Constraints
+within b = record { value = Some (record { constraint = Range b.low b.high; extensible = false }); size = None; alphabet = None }
+
+-- the numbers that a signed number type of w bits holds
+abbrev pub signed_range : ℕ → Bounds
+signed_range w = between (negsuc (2 ^ (w - 1) - 1)) (pos (2 ^ (w - 1) - 1))
+
+-- the numbers that an unsigned number type of w bits holds
+abbrev pub unsigned_range : ℕ → Bounds
+unsigned_range w = between (pos 0) (pos (2 ^ w - 1))
+
+-- the numbers that an i128 holds
+abbrev pub i128_range : Bounds
+i128_range = signed_range 128
+
+-- X.691 13: INTEGER under the first value constraint, with its mark, of a number type with a range. Other constraints change nothing.
+abbrev pub number_schema : Constraints → Bounds → Schema
+number_schema c range = Schema.number (bounds_in c.value) (is_marked c.value) range
+
+-- X.691 11.9: the size that strings and lists have under the first size constraint
+abbrev pub size_of : Constraints → Size
+size_of c = size_in c.size
+
+-- whether that constraint has an extension marker
+abbrev pub is_size_marked : Constraints → Bool
+is_size_marked c = is_marked c.size
+
+-- X.691 30.4: the characters of a string type that the first permitted alphabet leaves, in the type's order; an extensible one isn't visible
+abbrev pub alphabet_of : List ℕ → Constraints → List ℕ
+alphabet_of own c = permitted own c.alphabet
+
+-- a family that is one kind at every depth, in which no schema stands
+abbrev pub always : Schema → ℕ → Schema
+always s n = s
+
+-- kinds in which no schema stands, and nothing is cut off
+abbrev pub IsSimple : Schema → Type 0
+IsSimple Schemas.cut = ⊥
+IsSimple s = IsLeaf s
+
+simple_leaf : (s : Schema) → IsSimple s → IsLeaf s
+simple_leaf Schemas.cut h = absurd h
+simple_leaf _ h = h
+
+pub simple_whole : (s : Schema) → IsSimple s → (v : Value) → meets_cut s v ≡ false
+unfolding meets_cut
+simple_whole Schemas.boolean h v = refl
+simple_whole Schemas.null h v = refl
+simple_whole Schemas.real h v = refl
+simple_whole Schemas.any h v = refl
+simple_whole Schemas.identifier h v = refl
+simple_whole Schemas.date h v = refl
+simple_whole (Schemas.text k) h v = refl
+simple_whole (Schemas.time k) h v = refl
+simple_whole (Schemas.number b m r) h v = refl
+simple_whole (Schemas.items r e x) h v = refl
+simple_whole (Schemas.octet_string z m) h v = refl
+simple_whole (Schemas.bit_string z m) h v = refl
+simple_whole (Schemas.char_string a z m) h v = refl
+simple_whole Schemas.cut h v = absurd h
+simple_whole (Schemas.list e z m) h v = absurd h
+simple_whole (Schemas.set_of e z m) h v = absurd h
+simple_whole (Schemas.sequence o p x a) h v = absurd h
+simple_whole (Schemas.choice p a x) h v = absurd h
+
+pub simple_normal : (s : Schema) → IsSimple s → (v : Value) → normal s v ≡ v
+unfolding normal
+simple_normal Schemas.boolean h v = refl
+simple_normal Schemas.null h v = refl
+simple_normal Schemas.real h v = refl
+simple_normal Schemas.any h v = refl
+simple_normal Schemas.identifier h v = refl
+simple_normal Schemas.date h v = refl
+simple_normal (Schemas.text k) h v = refl
+simple_normal (Schemas.time k) h v = refl
+simple_normal (Schemas.number b m r) h v = refl
+simple_normal (Schemas.items r e x) h v = refl
+simple_normal (Schemas.octet_string z m) h v = refl
+simple_normal (Schemas.bit_string z m) h v = refl
+simple_normal (Schemas.char_string a z m) h v = refl
+simple_normal Schemas.cut h v = absurd h
+simple_normal (Schemas.list e z m) h v = absurd h
+simple_normal (Schemas.set_of e z m) h v = absurd h
+simple_normal (Schemas.sequence o p x a) h v = absurd h
+simple_normal (Schemas.choice p a x) h v = absurd h
+
+-- what such a family owes
+pub simple_unfolds : (s : Schema) → IsSimple s → Unfolds (always s)
+simple_unfolds s h = record { grows = λ n. CutOf.alike (simple_leaf s h); holds = λ v. (0, simple_whole s h v) }

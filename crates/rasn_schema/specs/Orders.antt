@@ -1,0 +1,25 @@
+-- The order in which a record's root parts are written (ITU-T X.691, 21.1; X.680, 8.6).
+use Rattle.std.specs.Prelude.{ℕ, zero, suc, ◌+◌, cond, List, [], ◌∷◌}
+use Rattle.rasn_schema.specs.Schemas.{Tag, tag_less, Order, listed, by_tag}
+
+-- x put into a list at a place, or at its end
+abbrev pub insert_at {ℓ} : {A : Type ℓ} → ℕ → A → List A → List A
+insert_at zero x ys = x ∷ ys
+insert_at (suc n) x [] = x ∷ []
+insert_at (suc n) x (y ∷ ys) = y ∷ insert_at n x ys
+
+-- how many tags of a list are less than t
+abbrev pub how_many_less : Tag → List Tag → ℕ
+how_many_less t [] = 0
+how_many_less t (u ∷ us) = cond (tag_less u t) 1 0 + how_many_less t us
+
+-- X.680 8.6: what hangs on each tag, in ascending order of the tags
+abbrev pub by_tags {ℓ} : {A : Type ℓ} → List Tag → List A → List A
+by_tags ts [] = []
+by_tags [] (x ∷ xs) = x ∷ xs
+by_tags (t ∷ ts) (x ∷ xs) = insert_at (how_many_less t ts) x (by_tags ts xs)
+
+-- X.691 19.6, 21.1: a SEQUENCE's parts as listed, a SET's in ascending order of their tags
+abbrev pub ordered {ℓ} : {A : Type ℓ} → Order → List Tag → List A → List A
+ordered listed ts xs = xs
+ordered by_tag ts xs = by_tags ts xs

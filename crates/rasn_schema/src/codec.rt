@@ -1,0 +1,372 @@
+//! The traits of values that can be encoded and decoded, and of encoders and decoders.
+
+ghost use Rattle.std.specs.Prelude.{◌≡◌, ℕ, suc, true, false, Bool, OnErr, IsErrAnd, List, [], Option};
+ghost use Rattle.std.specs.Fn.{FnOnceReturnsAtMut};
+ghost use Rattle.rasn_types.specs.Values.{Value, truth, nothing, whole};
+ghost use Rattle.rasn_schema.specs.Schemas.{Schema, listed};
+ghost use Rattle.rasn_schema.specs.Normal.{normal};
+ghost use Rattle.rasn_schema.specs.Forms.{number_schema};
+ghost use Rattle.rasn_schema.specs.Calls.{AtDepths, Writes, Answers, takes_none, PresentsWell, ReadsWell};
+ghost use Rattle.rasn_schema.specs.Records.{record_at, no_additions, record_value};
+ghost use Rattle.rasn_schema.specs.Scopes.{OpensToWrite, ClosesWritten, WritesScope, OpensToRead, ClosesRead, ReadsScope, ScopesWell};
+
+use crate::fields::Constructed;
+use crate::record::{DecodeParts, EncodeParts};
+use crate::schema::{AsnType, Constraints, IntegerType};
+use rasn_types::types::{Codec, Identifier, Tag};
+
+/// What writes values, one after another. Each call presents one value of one schema, or refuses it.
+///
+/// A refused encoder refuses from then on, and says so before anything else.
+pub trait Encoder: Sized {
+    ghost use Rattle.rasn_types.specs.declared.types.Codec.{Codec};
+
+    type Error: Drop;
+
+    /// What waits outside while a record is open.
+    type Scope: Drop;
+
+    // One value is presented: what was written before, and what is written after it.
+    ghost presents: { Self → Schema → Value → Self → Type 0 };
+
+    // An error by which a value is refused: it has no encoding, or the encoder had failed; and the fault that the error names stands in the value.
+    ghost refuses: { Self.Error → Self → Schema → Value → Type 0 };
+
+    // A scope is opened: what was before, what waits outside, and how it is inside.
+    ghost opens: { Self → Self.Scope → Self → Type 0 };
+
+    // An error that says that memory ran out.
+    ghost memory: { Self.Error → Self → Type 0 };
+
+    // An error that says that the encoder had failed before.
+    ghost already: { Self.Error → Self → Type 0 };
+
+    ghost failed: { Self → Bool };
+
+    ghost codec: { Self → Codec };
+
+    /// The variant in use.
+    fn codec(&self) -> Codec
+        ensures { result ≡ codec self.now };
+
+    /// Writes a BOOLEAN, one bit (X.691 12).
+    fn encode_bool(
+        &mut self,
+        tag: Tag,
+        value: bool,
+        identifier: Identifier,
+    ) -> Result<(), Self::Error>
+        ensures law { Writes memory presents refuses Schema.boolean (truth value) self.old result self.new }
+        ensures again { failed self.old ≡ true → IsErrAnd result (λ e. already e self.old) }
+        ensures fails { OnErr result (failed self.new ≡ true) };
+
+    /// Writes an INTEGER under constraints (X.691 13).
+    fn encode_integer<I: IntegerType>(
+        &mut self,
+        tag: Tag,
+        constraints: &Constraints,
+        value: &I,
+        identifier: Identifier,
+    ) -> Result<(), Self::Error>
+        ensures law { Writes memory presents refuses (number_schema constraints.now I.range) (whole (I.number value.now)) self.old result self.new }
+        ensures again { failed self.old ≡ true → IsErrAnd result (λ e. already e self.old) }
+        ensures fails { OnErr result (failed self.new ≡ true) };
+
+    /// Writes a NULL, no bits (X.691 18). Takes no memory.
+    fn encode_null(&mut self, tag: Tag, identifier: Identifier) -> Result<(), Self::Error>
+        ensures law { Writes takes_none presents refuses Schema.null nothing self.old result self.new }
+        ensures again { failed self.old ≡ true → IsErrAnd result (λ e. already e self.old) }
+        ensures fails { OnErr result (failed self.new ≡ true) };
+
+    /// Opens a SEQUENCE (X.691 19): the calls from here to `close_sequence` write its components, in the order of
+    /// `FIELDS`.
+    fn open_sequence<C: Constructed>(
+        &mut self,
+        tag: Tag,
+        identifier: Identifier,
+    ) -> Result<Self::Scope, Self::Error>
+        ensures law { OpensToWrite memory presents refuses opens C.parts self.old result self.new }
+        ensures again { failed self.old ≡ true → IsErrAnd result (λ e. already e self.old) }
+        ensures fails { OnErr result (failed self.new ≡ true) };
+
+    /// Closes a SEQUENCE in which its components were written.
+    fn close_sequence<C: Constructed>(&mut self, scope: Self::Scope) -> Result<(), Self::Error>
+        ensures law { ClosesWritten memory presents refuses opens C.parts scope self.old result self.new }
+        ensures again { failed self.old ≡ true → IsErrAnd result (λ e. already e self.old) }
+        ensures fails { OnErr result (failed self.new ≡ true) };
+
+    /// Refuses from now on.
+    fn fail(&mut self)
+        ensures { failed self.new ≡ true };
+
+    /// Writes a SEQUENCE (X.691 19), whose components `scope` writes, in the order of `FIELDS`.
+    final fn encode_sequence<
+        C: Constructed,
+        F: FnOnce(&mut Self) -> Result<(), Self::Error>,
+        I: Into<Identifier>,
+    >(&mut self, tag: Tag, scope: F, identifier: I) -> Result<(), Self::Error>
+        requires { F.IsAlwaysCallable scope }
+        ensures law { (rs : List (Option Value)) (k : ℕ) → WritesScope memory presents refuses C.parts rs k (FnOnceReturnsAtMut F.FnOnce scope)
+            → AtDepths (record_at listed C.parts false no_additions) (suc k) (λ s. Writes memory presents refuses s (normal s (record_value rs [])) self.old result self.new) }
+        ensures again { failed self.old ≡ true → IsErrAnd result (λ e. already e self.old) }
+        ensures fails { OnErr result (failed self.new ≡ true) }
+    {
+        let outside = self.open_sequence::<C>(tag, identifier.into())?;
+        if let Err(error) = scope(self) {
+            self.fail();
+            return Err(error);
+        }
+        self.close_sequence::<C>(outside)
+    }
+
+    /// Writes a SEQUENCE (X.691 19) by the list of its components, which stand in the order of `FIELDS`.
+    final fn encode_record<C: Constructed, P: EncodeParts, I: Into<Identifier>>(
+        &mut self,
+        tag: Tag,
+        parts: &P,
+        identifier: I,
+    ) -> Result<(), Self::Error>
+        requires { (n : ℕ) → C.parts n ≡ P.parts parts.now n }
+        ensures law { AtDepths (record_at listed C.parts false no_additions) (suc (P.levels parts.now))
+            (λ s. Writes memory presents refuses s (normal s (record_value (P.contents parts.now) [])) self.old result self.new) }
+        ensures again { failed self.old ≡ true → IsErrAnd result (λ e. already e self.old) }
+        ensures fails { OnErr result (failed self.new ≡ true) }
+    {
+        let outside = self.open_sequence::<C>(tag, identifier.into())?;
+        parts.encode_parts(self)?;
+        self.close_sequence::<C>(outside)
+    }
+
+    // What holds of each encoder's relations.
+    ghost lawful: { PresentsWell failed memory presents };
+}
+
+/// What reads values, one after another. Each call takes the front of what is left that spells one value of one
+/// schema, or refuses.
+///
+/// A refused decoder refuses from then on, and says so before anything else.
+pub trait Decoder: Sized {
+    ghost use Rattle.rasn_types.specs.declared.types.Codec.{Codec};
+
+    type Error: Drop;
+
+    /// What waits outside while a record is open.
+    type Scope: Drop;
+
+    // How many levels may still be entered.
+    ghost levels: { Self → ℕ };
+
+    // A front of what is left spells a value, and what is left behind it.
+    ghost spells: { Schema → Self → Value → Self → Type 0 };
+
+    // A scope is opened to read a schema: what was before, what waits outside, and how it is inside.
+    ghost opens: { Schema → Self → Self.Scope → Self → Type 0 };
+
+    // A scope ends: how it is inside, what waited outside, and how it is behind the scope.
+    ghost closes: { Self → Self.Scope → Self → Type 0 };
+
+    // The fault that an error names stands in what is left.
+    ghost fault: { Self.Error → Self → Type 0 };
+
+    // An error that says that memory ran out.
+    ghost memory: { Self.Error → Self → Type 0 };
+
+    // An error that says that the decoder had failed before.
+    ghost already: { Self.Error → Self → Type 0 };
+
+    ghost failed: { Self → Bool };
+
+    ghost codec: { Self → Codec };
+
+    /// The variant in use.
+    fn codec(&self) -> Codec
+        ensures { result ≡ codec self.now };
+
+    /// Reads a BOOLEAN (X.691 12). Takes no memory.
+    fn decode_bool(&mut self, tag: Tag) -> Result<bool, Self::Error>
+        ensures law { Answers takes_none fault (spells Schema.boolean) truth self.old result self.new }
+        ensures again { failed self.old ≡ true → IsErrAnd result (λ e. already e self.old) }
+        ensures fails { OnErr result (failed self.new ≡ true) };
+
+    /// Reads an INTEGER under constraints (X.691 13).
+    fn decode_integer<I: IntegerType>(
+        &mut self,
+        tag: Tag,
+        constraints: &Constraints,
+    ) -> Result<I, Self::Error>
+        ensures law { Answers memory fault (spells (number_schema constraints.now I.range)) (λ x. whole (I.number x)) self.old result self.new }
+        ensures again { failed self.old ≡ true → IsErrAnd result (λ e. already e self.old) }
+        ensures fails { OnErr result (failed self.new ≡ true) };
+
+    /// Reads a NULL (X.691 18). Takes no memory.
+    fn decode_null(&mut self, tag: Tag) -> Result<(), Self::Error>
+        ensures law { Answers takes_none fault (spells Schema.null) (λ _. nothing) self.old result self.new }
+        ensures again { failed self.old ≡ true → IsErrAnd result (λ e. already e self.old) }
+        ensures fails { OnErr result (failed self.new ≡ true) };
+
+    /// Opens a SEQUENCE (X.691 19), which takes a level: the calls from here to `close_sequence` read its components,
+    /// in the order of `FIELDS`. At no level left it refuses.
+    fn open_sequence<C: Constructed>(&mut self, tag: Tag) -> Result<Self::Scope, Self::Error>
+        ensures law { OpensToRead levels memory fault spells opens C.parts self.old result self.new }
+        ensures again { failed self.old ≡ true → IsErrAnd result (λ e. already e self.old) }
+        ensures fails { OnErr result (failed self.new ≡ true) };
+
+    /// Closes a SEQUENCE, and gives its level back.
+    fn close_sequence(&mut self, scope: Self::Scope) -> Result<(), Self::Error>
+        ensures law { failed self.old ≡ false → ClosesRead memory fault closes scope self.old result self.new }
+        ensures again { failed self.old ≡ true → IsErrAnd result (λ e. already e self.old) }
+        ensures fails { OnErr result (failed self.new ≡ true) };
+
+    /// Refuses from now on.
+    fn fail(&mut self)
+        ensures { failed self.new ≡ true };
+
+    /// Reads a SEQUENCE (X.691 19), whose components `scope` reads, in the order of `FIELDS`.
+    final fn decode_sequence<C: Constructed + Drop, F: FnOnce(&mut Self) -> Result<C, Self::Error>>(
+        &mut self,
+        tag: Tag,
+        scope: F,
+    ) -> Result<C, Self::Error>
+        requires { (x : _) → suc (levels x.now) ≡ levels self.old → F.pre scope x }
+        ensures law { ReadsScope levels memory fault spells C.parts C.contents (levels self.old) (FnOnceReturnsAtMut F.FnOnce scope)
+            → Answers memory fault (spells (record_at listed C.parts false no_additions (levels self.old))) (λ x. record_value (C.contents x) []) self.old result self.new }
+        ensures again { failed self.old ≡ true → IsErrAnd result (λ e. already e self.old) }
+        ensures fails { OnErr result (failed self.new ≡ true) }
+    {
+        let outside = self.open_sequence::<C>(tag)?;
+        match scope(self) {
+            Ok(value) => {
+                self.close_sequence(outside)?;
+                Ok(value)
+            }
+            Err(error) => {
+                self.fail();
+                Err(error)
+            }
+        }
+    }
+
+    /// Reads a SEQUENCE (X.691 19) by the list of its components, which stand in the order of `FIELDS`, and answers
+    /// what they are.
+    final fn decode_record<C: Constructed, P: DecodeParts>(
+        &mut self,
+        tag: Tag,
+        parts: &P,
+    ) -> Result<P::Values, Self::Error>
+        requires { (n : ℕ) → C.parts n ≡ P.parts parts.now n }
+        ensures law { Answers memory fault (spells (record_at listed C.parts false no_additions (levels self.old))) (λ values. record_value (P.contents values) []) self.old result self.new }
+        ensures again { failed self.old ≡ true → IsErrAnd result (λ e. already e self.old) }
+        ensures fails { OnErr result (failed self.new ≡ true) }
+    {
+        let outside = self.open_sequence::<C>(tag)?;
+        let values = parts.decode_parts(self)?;
+        self.close_sequence(outside)?;
+        Ok(values)
+    }
+
+    // What holds of each decoder's relations.
+    ghost lawful: { (s : Schema) → ReadsWell levels failed memory fault (spells s) };
+
+    // What holds of each decoder's scopes.
+    ghost scopes: { ScopesWell failed memory fault spells opens closes };
+}
+
+/// A value that can be encoded. A call that answers Ok presents the normal form of the value by its schema, and a
+/// call refuses, memory and earlier refusals aside, exactly where that has no encoding.
+pub trait Encode: AsnType {
+    /// Writes the value under a tag, constraints and a name.
+    fn encode_with_tag_and_constraints<E: Encoder>(
+        &self,
+        encoder: &mut E,
+        tag: Tag,
+        constraints: &Constraints,
+        identifier: Identifier,
+    ) -> Result<(), E::Error>
+        ensures law { AtDepths (Self.schema constraints.now) (Self.levels self.now)
+            (λ s. Writes E.memory E.presents E.refuses s (normal s (Self.value self.now)) encoder.old result encoder.new) }
+        ensures again { E.failed encoder.old ≡ true → IsErrAnd result (λ e. E.already e encoder.old) }
+        ensures fails { OnErr result (E.failed encoder.new ≡ true) };
+
+    /// Writes the value under its type's own tag, constraints and name.
+    final fn encode<E: Encoder>(&self, encoder: &mut E) -> Result<(), E::Error>
+        ensures law { AtDepths (Self.schema Self.CONSTRAINTS) (Self.levels self.now)
+            (λ s. Writes E.memory E.presents E.refuses s (normal s (Self.value self.now)) encoder.old result encoder.new) }
+        ensures again { E.failed encoder.old ≡ true → IsErrAnd result (λ e. E.already e encoder.old) }
+        ensures fails { OnErr result (E.failed encoder.new ≡ true) }
+    {
+        self.encode_with_tag_and_constraints(
+            encoder,
+            Self::TAG,
+            &Self::CONSTRAINTS,
+            Self::IDENTIFIER,
+        )
+    }
+
+    /// Writes the value under a tag, and its type's own constraints and name.
+    final fn encode_with_tag<E: Encoder>(&self, encoder: &mut E, tag: Tag) -> Result<(), E::Error>
+        ensures law { AtDepths (Self.schema Self.CONSTRAINTS) (Self.levels self.now)
+            (λ s. Writes E.memory E.presents E.refuses s (normal s (Self.value self.now)) encoder.old result encoder.new) }
+        ensures again { E.failed encoder.old ≡ true → IsErrAnd result (λ e. E.already e encoder.old) }
+        ensures fails { OnErr result (E.failed encoder.new ≡ true) }
+    {
+        self.encode_with_tag_and_constraints(encoder, tag, &Self::CONSTRAINTS, Self::IDENTIFIER)
+    }
+
+    /// Writes the value under constraints, and its type's own tag and name.
+    final fn encode_with_constraints<E: Encoder>(
+        &self,
+        encoder: &mut E,
+        constraints: &Constraints,
+    ) -> Result<(), E::Error>
+        ensures law { AtDepths (Self.schema constraints.now) (Self.levels self.now)
+            (λ s. Writes E.memory E.presents E.refuses s (normal s (Self.value self.now)) encoder.old result encoder.new) }
+        ensures again { E.failed encoder.old ≡ true → IsErrAnd result (λ e. E.already e encoder.old) }
+        ensures fails { OnErr result (E.failed encoder.new ≡ true) }
+    {
+        self.encode_with_tag_and_constraints(encoder, Self::TAG, constraints, Self::IDENTIFIER)
+    }
+}
+
+/// A value that can be decoded. A call that answers Ok has taken what spells the value by its schema, to the levels
+/// left, and a call refuses, memory and earlier refusals aside, exactly where nothing does.
+pub trait Decode: AsnType + Sized + Drop {
+    /// Reads a value under a tag and constraints.
+    fn decode_with_tag_and_constraints<D: Decoder>(
+        decoder: &mut D,
+        tag: Tag,
+        constraints: &Constraints,
+    ) -> Result<Self, D::Error>
+        ensures law { Answers D.memory D.fault (D.spells (Self.schema constraints.now (D.levels decoder.old))) Self.value decoder.old result decoder.new }
+        ensures again { D.failed decoder.old ≡ true → IsErrAnd result (λ e. D.already e decoder.old) }
+        ensures fails { OnErr result (D.failed decoder.new ≡ true) };
+
+    /// Reads a value under its type's own tag and constraints.
+    final fn decode<D: Decoder>(decoder: &mut D) -> Result<Self, D::Error>
+        ensures law { Answers D.memory D.fault (D.spells (Self.schema Self.CONSTRAINTS (D.levels decoder.old))) Self.value decoder.old result decoder.new }
+        ensures again { D.failed decoder.old ≡ true → IsErrAnd result (λ e. D.already e decoder.old) }
+        ensures fails { OnErr result (D.failed decoder.new ≡ true) }
+    {
+        Self::decode_with_tag_and_constraints(decoder, Self::TAG, &Self::CONSTRAINTS)
+    }
+
+    /// Reads a value under a tag and its type's own constraints.
+    final fn decode_with_tag<D: Decoder>(decoder: &mut D, tag: Tag) -> Result<Self, D::Error>
+        ensures law { Answers D.memory D.fault (D.spells (Self.schema Self.CONSTRAINTS (D.levels decoder.old))) Self.value decoder.old result decoder.new }
+        ensures again { D.failed decoder.old ≡ true → IsErrAnd result (λ e. D.already e decoder.old) }
+        ensures fails { OnErr result (D.failed decoder.new ≡ true) }
+    {
+        Self::decode_with_tag_and_constraints(decoder, tag, &Self::CONSTRAINTS)
+    }
+
+    /// Reads a value under its type's own tag and under constraints.
+    final fn decode_with_constraints<D: Decoder>(
+        decoder: &mut D,
+        constraints: &Constraints,
+    ) -> Result<Self, D::Error>
+        ensures law { Answers D.memory D.fault (D.spells (Self.schema constraints.now (D.levels decoder.old))) Self.value decoder.old result decoder.new }
+        ensures again { D.failed decoder.old ≡ true → IsErrAnd result (λ e. D.already e decoder.old) }
+        ensures fails { OnErr result (D.failed decoder.new ≡ true) }
+    {
+        Self::decode_with_tag_and_constraints(decoder, Self::TAG, constraints)
+    }
+}

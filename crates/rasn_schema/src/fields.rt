@@ -1,0 +1,103 @@
+//! What a record states of its components: their tags, in which order they stand, and whether they may be absent.
+
+ghost use Rattle.std.specs.Prelude.{◌≡◌, ℕ, true, false, List, Option, count_by};
+ghost use Rattle.rasn_types.specs.Values.{Value};
+ghost use Rattle.rasn_schema.specs.Schemas.{Parts, Order, listed};
+ghost use Rattle.rasn_schema.specs.Lawful.{are_required};
+ghost use Rattle.rasn_schema.specs.Records.{record_at, no_additions};
+
+use crate::schema::AsnType;
+use rasn_types::types::Tag;
+use std::marker::Model;
+
+/// The tags of a type: its own, or those of the root alternatives of an untagged choice (X.680 29).
+#[derive(Clone, Copy)]
+pub enum TagTree {
+    /// The tag of the type.
+    Leaf(Tag),
+    /// The trees of the root alternatives of an untagged choice. There is at least one.
+    Choice(&'static [TagTree]),
+}
+
+/// Whether a component of a record may be absent (X.680 25.4).
+#[derive(Clone, Copy, Debug, PartialEq, Eq)]
+pub enum Presence {
+    /// It is always there.
+    Required,
+    /// It may be absent.
+    Optional,
+    /// Where it is absent its default stands for it.
+    Default,
+}
+
+/// A component of a record.
+#[derive(Clone, Copy)]
+pub struct Field {
+    /// Its place in its list, from 0.
+    pub index: usize,
+    /// The smallest tag of its tag tree.
+    pub tag: Tag,
+    /// Its tags.
+    pub tag_tree: TagTree,
+    /// Whether it may be absent.
+    pub presence: Presence,
+    /// Its name.
+    pub name: &'static str,
+}
+
+/// The components of a record, in the order in which its type lists them.
+#[derive(Drop)]
+pub struct Fields {
+    /// The fields, each at its index.
+    pub list: &'static [Field],
+}
+
+impl Model for Fields {
+    ghost use Rattle.std.specs.Prelude.{List, map};
+    ghost use Rattle.rasn_schema.specs.Fields.{Shape, shape_of};
+
+    ghost Value = { List Shape };
+
+    ghost view = { λ fields. map shape_of fields.list.now };
+}
+
+impl Fields {
+    ghost use Rattle.rasn_schema.specs.Fields.{may_be_absent};
+
+    /// How many of the components may be absent: each has a presence bit (X.691 19.2).
+    pub fn number_of_optional_and_default_fields(&self) -> usize
+        ensures { result ≡ count_by may_be_absent self.now }
+    {
+        self.list
+            .iter()
+            .filter(|field| field.presence != Presence::Required)
+            .count()
+    }
+}
+
+/// A record: a SEQUENCE, or a SET (X.680 25, 27).
+pub trait Constructed: AsnType {
+    ghost use Rattle.rasn_types.specs.declared.types.Tag.{Tag};
+    ghost use Rattle.rasn_schema.specs.Fields.{Shape, shapes_from};
+    ghost use Rattle.rasn_schema.specs.declared.constraints.Constraints.{Constraints};
+
+    /// The root components, in the order of the type.
+    const FIELDS: Fields;
+
+    ghost FIELDS: { List Shape };
+
+    // The root components, to a number of levels.
+    ghost parts: { ℕ → Parts };
+
+    // What the root components of a value are, each absent or there.
+    ghost contents: { Self → List (Option Value) };
+
+    // The fields are those of the components.
+    ghost described: { (n : ℕ) → FIELDS ≡ shapes_from 0 (parts n) };
+
+    // No component may be absent yet.
+    ghost all_required: { (n : ℕ) → are_required (parts n) ≡ true };
+
+    // The schema is the record of the components.
+    ghost is_record: { (c : Constraints) → Self.schema c ≡ record_at listed parts false no_additions };
+}

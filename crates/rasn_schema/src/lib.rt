@@ -1,0 +1,11 @@
+//! How types state their schemas, and the traits of values and codecs.
+#![tactic(auto)]
+
+pub mod codec;
+pub mod constraints;
+pub mod fields;
+pub mod integers;
+pub mod limits;
+pub mod plain;
+pub mod record;
+pub mod schema;
