@@ -1,0 +1,5 @@
+use Rattle.per_core.proofs.model.canonical_bytes_are_decoded.Goals as goal
+use Rattle.per_core.proofs.Laws
+
+pub returns : goal.returns
+returns c = Laws.written_is_read

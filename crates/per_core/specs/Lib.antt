@@ -1,0 +1,8 @@
+pub mod Basic
+pub mod Canon
+pub mod Counts
+pub mod Ends
+pub mod Spellings
+pub mod Took
+pub mod Versions
+pub mod Writers

@@ -1,0 +1,53 @@
+-- What may be read: which bits may stand from a position on, of all encodings that a basic decoder takes.
+use Rattle.std.specs.Prelude.{ℕ, ◌≡◌, ◌⊎◌, Bool, true, false, ◌++◌, length, replicate}
+use Rattle.rasn_types.specs.Bits.{Bits, number_of}
+use Rattle.rasn_types.specs.Variants.{Variant}
+use Rattle.per_core.specs.Writers.{pad, after}
+
+-- the bits that may stand from a position on
+abbrev pub Spelling : Type 1
+Spelling = ℕ → Bits → Type 0
+
+-- these bits alone
+abbrev pub exactly : Bits → Spelling
+exactly bs p bits = bits ≡ bs
+
+-- bits of one spelling, followed by bits of another from the position behind them
+pub record Then (f g : Spelling) (p : ℕ) (bits : Bits) : Type 0 where
+  pub front : Bits
+  pub rest : Bits
+  pub is_front : f p front
+  pub is_rest : g (after p front) rest
+  pub whole : bits ≡ front ++ rest
+
+-- bits of one of two spellings
+abbrev pub Either : Spelling → Spelling → Spelling
+Either f g p bits = f p bits ⊎ g p bits
+
+-- a spelling, where a fact holds
+abbrev pub When : Type 0 → Spelling → Spelling
+When A f p bits = A × f p bits
+
+-- no bits at all
+abbrev pub never : Spelling
+never p bits = ⊥
+
+-- how a reader reads: the variant, and whether padding and spare bits must be zero (this project's choice)
+pub record Settings : Type 0 where
+  pub variant : Variant
+  pub strict : Bool
+
+-- zero bits, where they must be
+abbrev pub ZeroIf : Bool → Bits → Type 0
+ZeroIf true bits = bits ≡ replicate (length bits) false
+ZeroIf false bits = Unit {0}
+
+-- the bits up to the next octet, in ALIGNED alone; of any value where zero isn't asked for (this project's choice)
+pub record AnyPadding (a : Settings) (p : ℕ) (bits : Bits) : Type 0 where
+  pub fits : length bits ≡ pad a.variant p
+  pub zeros : ZeroIf a.strict bits
+
+-- X.691 11.3: w bits that mean n
+pub record Field (w n p : ℕ) (bits : Bits) : Type 0 where
+  pub wide : length bits ≡ w
+  pub means : number_of bits ≡ n

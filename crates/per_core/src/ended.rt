@@ -1,0 +1,46 @@
+//! The end of a complete encoding (X.691 11.1).
+
+ghost use Rattle.std.specs.Prelude.{◌≡◌, ◌%◌, ◌≤◌, OnOk, OnErr, IfErr, length};
+ghost use Rattle.per_core.specs.Ends.{Ends, IsWhy};
+
+use per_bits::BitReader;
+
+/// Why bits that were read are no complete encoding.
+#[derive(Clone, Copy, Debug, PartialEq, Eq)]
+pub enum Surplus {
+    /// There are no bits, where a value of no bits takes one octet: the number of bits missing.
+    Missing(u128),
+    /// The one octet of a value of no bits isn't zero.
+    NonzeroOctet,
+    /// Whole octets are left over: their number.
+    ExtraOctets(u128),
+}
+
+/// Whether bits end as a complete encoding does: `left` is what is left of `total` bits behind a value.
+///
+/// Fewer than eight bits may be left, whatever they are. A value of no bits takes one octet, which is zero.
+pub fn ended(left: &BitReader<'_>, total: u128) -> Result<(), Surplus>
+    requires fits { length left.now ≤ total }
+    requires octets { total % 8 ≡ 0 }
+    ensures ok { OnOk result (Ends left.now total) }
+    ensures none { OnErr result (Ends left.now total → ⊥) }
+    ensures why { IfErr result (IsWhy left.now total) }
+{
+    let count = left.len();
+    if count < total {
+        if count >= 8 {
+            return Err(Surplus::ExtraOctets(count / 8));
+        }
+        return Ok(());
+    }
+    if count < 8 {
+        return Err(Surplus::Missing(8 - count));
+    }
+    if left.first_bits(8) != 0 {
+        return Err(Surplus::NonzeroOctet);
+    }
+    if count >= 16 {
+        return Err(Surplus::ExtraOctets(count / 8 - 1));
+    }
+    Ok(())
+}
