@@ -1,0 +1,14 @@
+pub mod Carry
+pub mod Carrying
+pub mod Chains
+pub mod Deeper
+pub mod Loosen
+pub mod Newer
+pub mod Normals
+pub mod Older
+pub mod Readers
+pub mod Samples
+pub mod Takes
+pub mod Transitive
+pub mod Types
+pub mod Widens

@@ -1,0 +1,5 @@
+use Rattle.per_laws.proofs.versions.newer_version_refuses_without_widening.Goals as goal
+use Rattle.per_laws.proofs.Readers
+
+pub returns : goal.returns
+returns c = Readers.newer_refuses

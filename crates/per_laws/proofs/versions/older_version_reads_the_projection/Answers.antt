@@ -1,0 +1,5 @@
+use Rattle.per_laws.proofs.versions.older_version_reads_the_projection.Goals as goal
+use Rattle.per_laws.proofs.Readers
+
+pub returns : goal.returns
+returns c = Readers.older_answers
