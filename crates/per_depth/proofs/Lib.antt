@@ -1,0 +1,13 @@
+pub mod Deeply
+pub mod Depths
+pub mod Dropping
+pub mod Few
+pub mod FewVersions
+pub mod Growing
+pub mod Levelled
+pub mod Layers
+pub mod NormalForms
+pub mod Peers
+pub mod Reading
+pub mod Same
+pub mod Samples
