@@ -1,0 +1,101 @@
+-- A long list of bytes, without computing with its bits.
+use Rattle.std.proofs.Common.{◌≡◌, refl, sym, ap, ◌∙◌, ℕ, zero, suc, ◌+◌, ◌*◌, ◌/◌, ◌%◌, ◌<◌, ◌^◌, true, false, ltb, List, [], ◌∷◌, ◌++◌, append_assoc, length, length-append, replicate, drop, map, Some, cond, arith, mod-eq_of_lt, lit<}
+use Rattle.std.proofs.lemmas.List.{length-replicate, take-replicate, drop-replicate}
+use Rattle.rasn_types.specs.Bits.{Bits, to_bits, number_of, unpack, pack, AreOctets}
+use Rattle.rasn_types.specs.Variants.{unaligned}
+use Rattle.rasn_types.specs.Values.{Value, truth, values, as_values}
+use Rattle.rasn_schema.specs.Schemas.{any_size}
+use Rattle.per_core.specs.Writers.{Writer, just, padding, go_on, join, complete, after, written_if, ◌▹◌, in_a_row}
+use Rattle.per_core.specs.Counts.{determinant, rows, in_rows, counted, list_items}
+use Rattle.per_core.specs.Canon.{bytes, canon, completed}
+use Rattle.per_core.proofs.Within.{number-to_bits}
+use Rattle.per_rows.specs.Build.{record_of, list_of, list}
+use Rattle.per_rows.specs.Samples.{byte}
+
+abbrev zero_byte : Value
+zero_byte = record_of (replicate 8 (truth false))
+
+abbrev written : Writer
+written = canon unaligned byte zero_byte
+
+unpack-append : (os ps : List ℕ) → unpack (os ++ ps) ≡ unpack os ++ unpack ps
+unpack-append [] ps = refl
+unpack-append (o ∷ os) ps = ap (λ z. to_bits 8 o ++ z) (unpack-append os ps) ∙ sym (append_assoc (to_bits 8 o) (unpack os) (unpack ps))
+
+-- n bytes in a row
+run : (n p : ℕ) → in_a_row (replicate n written) p ≡ Some (unpack (replicate n 0))
+unfolding canon
+run zero p = refl
+run (suc n) p = ap (join (replicate 8 false)) (run n ((p + 8) % 8))
+
+-- the octets of a row's count and of its bytes
+abbrev pub count_octets : ℕ → List ℕ
+count_octets m = cond (ltb m 128) (m ∷ []) (cond (ltb m 16384) ((128 + m / 256) ∷ m % 256 ∷ []) ((192 + m / 16384) ∷ []))
+
+abbrev pub row_octets : List ℕ → List ℕ
+row_octets [] = []
+row_octets (m ∷ ms) = count_octets m ++ (replicate m 0 ++ row_octets ms)
+
+abbrev pub total : List ℕ → ℕ
+total [] = 0
+total (m ∷ ms) = m + total ms
+
+abbrev pub AreCoded : List ℕ → Type 0
+AreCoded [] = Unit {0}
+AreCoded (m ∷ ms) = (determinant m ≡ unpack (count_octets m)) × AreOctets (count_octets m) × AreCoded ms
+
+zeros-append : (n : ℕ) (os : List ℕ) → AreOctets os → AreOctets (replicate n 0 ++ os)
+zeros-append zero os h = h
+zeros-append (suc n) os h = (lit< tt, zeros-append n os h)
+
+octets-append : (os ps : List ℕ) → AreOctets os → AreOctets ps → AreOctets (os ++ ps)
+octets-append [] ps h k = k
+octets-append (o ∷ os) ps h k = (h.0, octets-append os ps h.1 k)
+
+row_octets-are : (ms : List ℕ) → AreCoded ms → AreOctets (row_octets ms)
+row_octets-are [] k = tt
+row_octets-are (m ∷ ms) k = octets-append (count_octets m) (replicate m 0 ++ row_octets ms) k.1 (zeros-append m (row_octets ms) (row_octets-are ms k.2))
+
+one_row : (d : Bits) (m k p : ℕ) (w : Writer) (os : List ℕ) → ((q : ℕ) → w q ≡ Some (unpack os)) →
+    (padding unaligned ▹ (just d ▹ (in_a_row (replicate m written) ▹ w))) p ≡ Some (d ++ (unpack (replicate m 0) ++ unpack os))
+one_row d m k p w os h = ap (λ z. join [] (join d z)) (ap (λ z. go_on z w (after (after p []) d)) (run m (after (after p []) d)) ∙ ap (join (unpack (replicate m 0))) (h (after (after (after p []) d) (unpack (replicate m 0)))))
+
+rows_written : (ms : List ℕ) → AreCoded ms → (p : ℕ) → in_rows unaligned ms (replicate (total ms) written) p ≡ Some (unpack (row_octets ms))
+rows_written [] k p = refl
+rows_written (m ∷ ms) k p =
+    ap (λ z. (padding unaligned ▹ (just (determinant m) ▹ (in_a_row z ▹ in_rows unaligned ms (drop m (replicate (m + total ms) written))))) p) (take-replicate m (m + total ms) written (omega arith))
+    ∙ ap (λ z. (padding unaligned ▹ (just (determinant m) ▹ (in_a_row (replicate m written) ▹ in_rows unaligned ms z))) p) (drop-replicate m (m + total ms) written ∙ ap (λ (n : ℕ). replicate n written) (omega arith))
+    ∙ one_row (determinant m) m 0 p (in_rows unaligned ms (replicate (total ms) written)) (row_octets ms) (rows_written ms k.2)
+    ∙ ap (λ z. Some (z ++ (unpack (replicate m 0) ++ unpack (row_octets ms)))) k.0
+    ∙ ap (λ z. Some (unpack (count_octets m) ++ z)) (sym (unpack-append (replicate m 0) (row_octets ms)))
+    ∙ ap (λ z. Some z) (sym (unpack-append (count_octets m) (replicate m 0 ++ row_octets ms)))
+
+-- whole octets are complete
+length-unpack : (os : List ℕ) → length (unpack os) ≡ 8 * length os
+length-unpack [] = refl
+length-unpack (o ∷ os) = length-append (to_bits 8 o) (unpack os) ∙ ap (λ (k : ℕ). 8 + k) (length-unpack os) ∙ (omega arith)
+
+packed : (os : List ℕ) → AreOctets os → pack (length os) (unpack os) ≡ os
+packed [] h = refl
+packed (o ∷ os) h =
+    let r : number_of (to_bits 8 o) ≡ o = number-to_bits 8 o ∙ mod-eq_of_lt h.0 in
+    ap (λ z. z ∷ pack (length os) (unpack os)) r ∙ ap (λ z. o ∷ z) (packed os h.1)
+
+complete_octets : (os : List ℕ) → 0 < length os → AreOctets os → complete (unpack os) ≡ os
+complete_octets os l h = ap (λ (n : ℕ). pack n (unpack os)) (omega (arith, length-unpack os)) ∙ packed os h
+
+-- the same elements one by one
+each : (n : ℕ) → map (canon unaligned byte) (values (as_values (replicate n zero_byte))) ≡ replicate n written
+each zero = refl
+each (suc n) = ap (λ z. written ∷ z) (each n)
+
+pub long_bytes : (n : ℕ) → ltb n (2 ^ 64) ≡ true → total (rows n) ≡ n → AreCoded (rows n) → 0 < length (row_octets (rows n)) →
+    bytes unaligned (list_of byte any_size) (list (replicate n zero_byte)) ≡ Some (row_octets (rows n))
+unfolding bytes
+long_bytes n l s c m =
+    ap (λ z. completed (counted unaligned any_size false list_items z 0)) (each n)
+    ∙ ap (λ (k : ℕ). completed (written_if (ltb k (2 ^ 64)) (in_rows unaligned (rows k) (replicate n written)) 0)) (length-replicate n written)
+    ∙ ap (λ z. completed (written_if z (in_rows unaligned (rows n) (replicate n written)) 0)) l
+    ∙ ap (λ (k : ℕ). completed (in_rows unaligned (rows n) (replicate k written) 0)) (sym s)
+    ∙ ap completed (rows_written (rows n) c 0)
+    ∙ ap (λ z. Some z) (complete_octets (row_octets (rows n)) m (row_octets-are (rows n) c))

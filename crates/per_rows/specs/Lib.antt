@@ -1,0 +1,2 @@
+pub mod Build
+pub mod Samples

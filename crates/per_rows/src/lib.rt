@@ -1,0 +1,14 @@
+//! Worked encodings of the packed encoding rules, as theorems.
+#![tactic(auto)]
+
+pub mod choices;
+pub mod dates;
+pub mod extensions;
+pub mod integers;
+pub mod lists;
+pub mod readings;
+pub mod records;
+pub mod refusals;
+pub mod sets;
+pub mod strings;
+pub mod versions;
