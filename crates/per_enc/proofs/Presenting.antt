@@ -1,0 +1,53 @@
+-- What the calls of an encoder present.
+use Rattle.std.specs.Prelude.{OnOk, OnErr, IfErr, Result, Ok, Err, Bool}
+use Rattle.std.proofs.Common.{◌≡◌, refl, sym, ap, ◌∙◌, subst, true, false, [], ◌∷◌, Some, append-nil, inl, inr, None, Option}
+use Rattle.rasn_types.specs.Bits.{Bits}
+use Rattle.rasn_types.specs.Codecs.{variant_of}
+use Rattle.rasn_types.specs.Values.{Value, truth, nothing}
+use Rattle.rasn_types.specs.Variants.{Variant}
+use Rattle.rasn_schema.specs.Schemas.{Schema}
+use Rattle.rasn_schema.specs.Calls.{Writes, takes_none}
+use Rattle.per_core.specs.Writers.{Writer, join, just, ◌▹◌}
+use Rattle.per_core.specs.Canon.{canon}
+use Rattle.per_enc.specs.declared.error.EncodeError.{EncodeError}
+use Rattle.per_enc.specs.Faults.{IsMemory, IsAlready, RefusesValue, Stands}
+use Rattle.per_enc.specs.State.{State, Wrote, Presents, view}
+
+-- a call that wrote a value's canonical bits, or found no memory
+pub writes : (x y : State) (w : Writer) (s : Schema) (v : Value) (result : Result (Unit {0}) EncodeError) → w ≡ canon (variant_of x.codec) s v →
+    OnOk result (Wrote x w y) → IfErr result (λ e. IsMemory e x) → Writes IsMemory Presents RefusesValue s v x result y
+writes x y w s v (Ok u) c h k = subst (λ (g : Writer). Wrote x g y) c h
+writes x y w s v (Err e) c h k = inl k
+
+-- an encoder that had been refused refuses again
+pub refuses_again : (e : EncodeError) (x : State) (s : Schema) (v : Value) → IsAlready e x → x.failed ≡ true → RefusesValue e x s v
+refuses_again e x s v h f = record {
+  none = λ g. absurd cc;
+  stands = subst (λ k. Stands k x s v) (sym h.kind_is) f;
+  codec_is = h.codec_is;
+}
+
+-- X.691 12: a BOOLEAN is one bit
+pub boolean_bits : (a : Variant) (b : Bool) → just (b ∷ []) ≡ canon a Schema.boolean (truth b)
+unfolding canon
+boolean_bits a b = refl
+
+-- X.691 18: a NULL is no bits
+pub presents_null : (x : State) → x.failed ≡ false → Presents x Schema.null nothing x
+unfolding canon
+presents_null x f = record { begun = f; left = f; same = refl; written = λ p b. ap Some (sym (append-nil x.bits)) }
+
+-- X.691 18: a NULL, where the encoder had not been refused
+pub null_law : (x : State) (result : Result (Unit {0}) EncodeError) → OnOk result (x.failed ≡ false) → IfErr result (λ e. IsAlready e x) → OnErr result (x.failed ≡ true) →
+    Writes takes_none Presents RefusesValue Schema.null nothing x result x
+null_law x (Ok u) h k f = presents_null x h
+null_law x (Err e) h k f = inr (refuses_again e x Schema.null nothing k f)
+
+-- the first value of an encoder stands alone
+pub presents_first : (x y : State) (s : Schema) (v : Value) → x.bits ≡ [] → Presents x s v y → view y 0 ≡ canon (variant_of x.codec) s v 0
+presents_first x y s v e h =
+    h.written 0 refl ∙ ap (λ (b : Bits). (just b ▹ canon (variant_of x.codec) s v) 0) e ∙ alone (canon (variant_of x.codec) s v 0)
+  where
+    alone : (o : Option Bits) → join [] o ≡ o
+    alone None = refl
+    alone (Some b) = refl

@@ -1,0 +1,12 @@
+-- What holds of an encoder's relations.
+use Rattle.std.proofs.Common.{◌∙◌}
+use Rattle.rasn_schema.specs.Calls.{PresentsWell}
+use Rattle.per_enc.specs.Faults.{IsMemory}
+use Rattle.per_enc.specs.State.{State, Presents}
+
+pub presents_well : PresentsWell (λ (x : State). x.failed) IsMemory Presents
+presents_well = record {
+  begun = λ x s v y w. w.begun;
+  left = λ x s v y w. w.left;
+  room = λ x s v y e w m. record { kind_is = m.kind_is; codec_is = m.codec_is ∙ w.same };
+}
