@@ -1,0 +1,12 @@
+use Rattle.std.proofs.Common.{inr, refl, ap, ◌∙◌}
+use Rattle.rasn_schema.specs.Schemas.{boolean}
+use Rattle.per_de.proofs.Calls.{refuses, tested_in_bits, reads_truth, no_truth}
+use Rattle.per_de.proofs.DecoderDecoder.decode_bool.Goals as goal
+
+pub returns-in-Ok-clause-law : goal.returns-in-Ok-clause-law
+returns-in-Ok-clause-law c = rw (← c.self.view_is) (record { live = ap (λ z. z.failed) c.self.view_is ∙ c.in_ok-check_unfailed.ensures.ok; took = reads_truth _ _ _ _ c.in-Ok.ensures.ok; same = refl })
+
+pub returns-in-Err-clause-law : goal.returns-in-Err-clause-law
+returns-in-Err-clause-law c =
+    let h = c.in-Err.ensures.err in
+    rw (← c.self.view_is) (inr (refuses boolean _ c.in-Err.kind _ c.refuse.ensures.error (tested_in_bits _ c.in-Err.kind _ h.0) (no_truth _ _ h.1)))

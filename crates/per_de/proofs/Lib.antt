@@ -1,0 +1,12 @@
+pub mod Above
+pub mod Counts
+pub mod Fields
+pub mod Forms
+pub mod Naturals
+pub mod Rows
+pub mod Parts
+pub mod Under
+pub mod Within
+pub mod Fits
+pub mod Marks
+pub mod Calls

@@ -1,0 +1,40 @@
+-- What a decoder holds, and what its calls read.
+use Rattle.std.specs.Prelude.{◌≡◌, ℕ, Bool, false}
+use Rattle.rasn_types.specs.Bits.{Bits}
+use Rattle.rasn_types.specs.Codecs.{variant_of}
+use Rattle.rasn_types.specs.Values.{Value}
+use Rattle.rasn_types.specs.declared.types.Codec.{Codec}
+use Rattle.rasn_schema.specs.Schemas.{Schema}
+use Rattle.per_core.specs.Spellings.{Settings}
+use Rattle.per_core.specs.Basic.{basic}
+use Rattle.per_core.specs.Took.{Took}
+
+-- What a decoder is told: the codec, and how many levels of values it may enter.
+pub record Options : Type 0 where
+  pub codec : Codec
+  pub levels : ℕ
+
+-- What a decoder holds: the bits that are left, whether a call has refused, how many levels it may still enter, and
+-- the codec in use. The position in an octet follows from the number of bits that are left (`place`).
+pub record State : Type 0 where
+  pub bits : Bits
+  pub failed : Bool
+  pub levels : ℕ
+  pub codec : Codec
+
+-- The variant of the codec. Padding is any bits.
+abbrev pub settings : Codec → Settings
+settings c = record { variant = variant_of c; strict = false }
+
+abbrev pub settings_of : State → Settings
+settings_of s = settings s.codec
+
+-- the same with other bits left
+abbrev pub with_bits : State → Bits → State
+with_bits s b = record s { bits = b }
+
+-- A front of the bits that are left spells a value, and the bits behind it are left.
+pub record Spells (c : Schema) (s : State) (v : Value) (t : State) : Type 0 where
+  pub live : s.failed ≡ false
+  pub took : Took (basic (settings_of s) c v) s.bits t.bits
+  pub same : t ≡ with_bits s t.bits

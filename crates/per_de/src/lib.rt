@@ -1,0 +1,237 @@
+//! The decoder of the packed encoding rules: it reads every basic encoding.
+#![tactic(auto)]
+
+ghost use Rattle.std.specs.Prelude.{◌≡◌, ℕ, true, false, OnOk, OnErr, IfOk, IfErr};
+ghost use Rattle.rasn_types.specs.declared.types.Codec.TheVariants.{Uper};
+ghost use Rattle.per_de.specs.State.{State, Options, Spells};
+ghost use Rattle.per_de.specs.Faults.{Fault, refusal};
+ghost use Rattle.per_de.specs.declared.error.DecodeErrorKind.TheVariants.{ExceedsMaxParseDepth, OutOfMemory, AlreadyFailed};
+ghost use Rattle.per_de.specs.Scopes.{Enters, Opens, Closes};
+ghost use Rattle.per_de.specs.Laws.{reads_well};
+ghost use Rattle.per_de.specs.ScopeLaws.{scopes_well};
+
+mod bounded;
+pub mod error;
+mod length;
+mod natural;
+mod number;
+mod whole;
+
+pub use crate::error::{DecodeError, DecodeErrorKind, ParserFailCause};
+use crate::length::take_bit;
+use crate::number::take_integer;
+use per_bits::{BitList, BitReader};
+use rasn_schema::codec;
+use rasn_schema::constraints::Constraints;
+use rasn_schema::fields::Constructed;
+use rasn_schema::schema::IntegerType;
+use rasn_types::types::{Codec, Tag};
+use std::alloc::{Allocator, Global};
+use std::marker::Model;
+
+/// What a decoder is told: the variant of the rules, and how deep values may stand inside one another.
+#[derive(Clone, Copy, Debug)]
+pub struct DecoderOptions {
+    codec: Codec,
+    levels: u32,
+}
+
+impl Model for DecoderOptions {
+    ghost Value = { Options };
+
+    ghost view = { λ o. record { codec = o.codec; levels = o.levels } };
+
+    ghost inverse = { λ v. record { codec = v.codec; levels = v.levels } };
+}
+
+impl DecoderOptions {
+    /// The UNALIGNED variant (X.691 7), and 128 levels.
+    pub const fn unaligned() -> Self
+        ensures { result ≡ record { codec = Uper; levels = 128 } }
+    {
+        DecoderOptions {
+            codec: Codec::Uper,
+            levels: 128,
+        }
+    }
+}
+
+/// A reader of values from the front of bits. Every basic encoding is read, canonical or not.
+#[derive(Drop)]
+pub struct Decoder<'input> {
+    alloc: Global,
+    bits: BitReader<'input>,
+    codec: Codec,
+    levels: u32,
+    failed: bool,
+}
+
+impl<'input> Model for Decoder<'input> {
+    ghost Value = { State };
+
+    ghost view = { λ d. record { bits = d.bits; failed = d.failed; levels = d.levels; codec = d.codec } };
+}
+
+impl<'input> Decoder<'input> {
+    /// A decoder of all bits of the list. What its values own is taken from `alloc`.
+    pub fn new<A: Allocator>(
+        alloc: Global,
+        input: &'input BitList<A>,
+        options: DecoderOptions,
+    ) -> Self
+        ensures { result ≡ record { bits = input.now; failed = false; levels = options.levels; codec = options.codec } }
+    {
+        Decoder {
+            alloc,
+            bits: BitReader::new(input),
+            codec: options.codec,
+            levels: options.levels,
+            failed: false,
+        }
+    }
+
+    /// The bits that are left.
+    pub fn input(&self) -> BitReader<'input>
+        ensures { result ≡ self.now.bits }
+    {
+        self.bits.clone().unwrap()
+    }
+
+    /// The variant in use.
+    pub fn codec(&self) -> Codec
+        ensures { result ≡ self.now.codec }
+    {
+        self.codec
+    }
+
+    /// An error of a kind, with the variant in use.
+    fn error(&self, kind: DecodeErrorKind) -> DecodeError
+        ensures { result ≡ refusal kind self.now }
+    {
+        DecodeError {
+            kind,
+            codec: self.codec,
+        }
+    }
+
+    /// Refuses where a call has refused before.
+    fn check_unfailed(&self) -> Result<(), DecodeError>
+        ensures ok { OnOk result (self.now.failed ≡ false) }
+        ensures err { IfErr result (λ e. e ≡ refusal AlreadyFailed self.now) }
+        ensures failed { OnErr result (self.now.failed ≡ true) }
+    {
+        if self.failed {
+            return Err(self.error(DecodeErrorKind::AlreadyFailed));
+        }
+        Ok(())
+    }
+
+    /// The error of a refused call, after which every call is refused.
+    fn refuse(&mut self, kind: DecodeErrorKind) -> DecodeError
+        ensures error { result ≡ refusal kind self.old }
+        ensures state { self.new ≡ record self.old { failed = true } }
+    {
+        self.failed = true;
+        self.error(kind)
+    }
+
+    /// Enters a level, where one is left.
+    fn enter(&mut self) -> Result<Scope, DecodeErrorKind>
+        ensures ok { IfOk result (λ scope. Enters self.old scope self.new) }
+        ensures err { IfErr result (λ kind. kind ≡ ExceedsMaxParseDepth) }
+        ensures none { OnErr result (self.old.levels ≡ 0) }
+        ensures same { OnErr result (self.new ≡ self.old) }
+    {
+        let outside = self.levels;
+        match outside.checked_sub(1) {
+            Some(inside) => {
+                self.levels = inside;
+                Ok(Scope { levels: outside })
+            }
+            None => Err(DecodeErrorKind::ExceedsMaxParseDepth),
+        }
+    }
+}
+
+/// What waits outside while a record is open: the levels that may be entered there.
+#[derive(Drop)]
+pub struct Scope {
+    levels: u32,
+}
+
+impl<'input> codec::Decoder for Decoder<'input> {
+    type Error = DecodeError;
+
+    type Scope = Scope;
+
+    ghost levels = { λ s. s.levels };
+
+    ghost spells = { Spells };
+
+    ghost opens = { Opens };
+
+    ghost closes = { Closes };
+
+    ghost fault = { Fault };
+
+    ghost memory = { λ e s. e ≡ refusal OutOfMemory s };
+
+    ghost already = { λ e s. e ≡ refusal AlreadyFailed s };
+
+    ghost failed = { λ s. s.failed };
+
+    ghost codec = { λ s. s.codec };
+
+    fn codec(&self) -> Codec {
+        Decoder::codec(self)
+    }
+
+    fn decode_bool(&mut self, _tag: Tag) -> Result<bool, DecodeError> {
+        self.check_unfailed()?;
+        match take_bit(&mut self.bits) {
+            Ok(bit) => Ok(bit),
+            Err(kind) => Err(self.refuse(kind)),
+        }
+    }
+
+    fn decode_integer<I: IntegerType>(
+        &mut self,
+        _tag: Tag,
+        constraints: &Constraints,
+    ) -> Result<I, DecodeError> {
+        self.check_unfailed()?;
+        match take_integer(&mut self.bits, self.codec, self.alloc, constraints) {
+            Ok(number) => Ok(number),
+            Err(kind) => Err(self.refuse(kind)),
+        }
+    }
+
+    fn decode_null(&mut self, _tag: Tag) -> Result<(), DecodeError> {
+        self.check_unfailed()
+    }
+
+    fn open_sequence<C: Constructed>(&mut self, _tag: Tag) -> Result<Scope, DecodeError> {
+        self.check_unfailed()?;
+        match self.enter() {
+            Ok(scope) => Ok(scope),
+            Err(kind) => Err(self.refuse(kind)),
+        }
+    }
+
+    fn close_sequence(&mut self, scope: Scope) -> Result<(), DecodeError> {
+        self.check_unfailed()?;
+        self.levels = scope.levels;
+        Ok(())
+    }
+
+    fn fail(&mut self) {
+        self.failed = true;
+    }
+
+    ghost lawful = { reads_well };
+
+    ghost scopes = { scopes_well };
+}
+
+#[cfg(test)]
+mod tests;

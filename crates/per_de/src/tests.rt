@@ -1,0 +1,536 @@
+ghost use Rattle.std.specs.Prelude.{[], refl, false};
+ghost use Rattle.rasn_schema.specs.Schemas.{listed};
+ghost use Rattle.rasn_schema.specs.Forms.{no_constraints};
+ghost use Rattle.rasn_schema.specs.Families.{record_unfolds, parts_unfold};
+ghost use Rattle.rasn_schema.specs.Records.{record_at, no_additions, record_value};
+
+use super::*;
+use rasn_schema::codec::Decoder as _;
+use rasn_schema::constraints::{Bounded, Constraint, Extensible};
+use rasn_schema::fields::Fields;
+use rasn_schema::schema::AsnType;
+use rasn_types::types::{Class, Identifier};
+use std::process::Abort;
+use std::test::Fail;
+
+const ALIGNED: DecoderOptions = DecoderOptions {
+    codec: Codec::Aper,
+    levels: 128,
+};
+
+/// What the first INTEGER in the octets is, and how many bits are left behind it.
+fn read<I: IntegerType>(
+    alloc: Global,
+    octets: &[u8],
+    options: DecoderOptions,
+    constraints: &Constraints,
+) -> Result<(Result<I, DecodeError>, u128), Fail> {
+    let list = BitList::from_octets(alloc, octets)?;
+    let mut decoder = Decoder::new(alloc, &list, options);
+    let number = decoder.decode_integer(Tag::INTEGER, constraints);
+    Ok((number, decoder.input().len()))
+}
+
+fn expect_number(
+    rt: &impl Abort,
+    alloc: Global,
+    octets: &[u8],
+    expected: i128,
+) -> Result<(), Fail> {
+    let unaligned = DecoderOptions::unaligned();
+    let (number, left) = read::<i128>(alloc, octets, unaligned, &Constraints::NONE)?;
+    assert_eq!(rt; number, Ok(expected), "of {octets:?}");
+    assert_eq!(rt; left, 0, "of {octets:?}");
+    Ok(())
+}
+
+fn expect_refusal(
+    rt: &impl Abort,
+    alloc: Global,
+    octets: &[u8],
+    kind: DecodeErrorKind,
+) -> Result<(), Fail> {
+    let unaligned = DecoderOptions::unaligned();
+    let (number, _) = read::<i128>(alloc, octets, unaligned, &Constraints::NONE)?;
+    let codec = Codec::Uper;
+    assert_eq!(rt; number, Err(DecodeError { kind, codec }), "of {octets:?}");
+    Ok(())
+}
+
+#[test]
+fn reads_each_value(rt: HostRuntime) -> Result<(), Fail> {
+    let list = BitList::from_octets(rt.alloc(), &[0x80, 0x82, 0x80])?;
+    let mut decoder = Decoder::new(rt.alloc(), &list, DecoderOptions::unaligned());
+    assert_eq!(rt; decoder.codec(), Codec::Uper);
+    assert!(rt; decoder.decode_bool(Tag::BOOL)?);
+    assert_eq!(rt; decoder.input().len(), 23);
+    decoder.decode_null(Tag::NULL)?;
+    assert_eq!(rt; decoder.input().len(), 23);
+    assert_eq!(rt;
+        decoder.decode_integer::<i128>(Tag::INTEGER, &Constraints::NONE)?,
+        5
+    );
+    assert_eq!(rt; decoder.input().len(), 7);
+    assert!(rt; !decoder.decode_bool(Tag::BOOL)?);
+    Ok(())
+}
+
+#[test]
+fn reads_numbers(rt: HostRuntime) -> Result<(), Fail> {
+    expect_number(&rt, rt.alloc(), &[0x02, 0x10, 0x00], 4096)?;
+    expect_number(&rt, rt.alloc(), &[0x02, 0x00, 0x80], 128)?;
+    expect_number(&rt, rt.alloc(), &[0x02, 0xff, 0x7f], -129)
+}
+
+#[test]
+fn reads_what_is_not_canonical(rt: HostRuntime) -> Result<(), Fail> {
+    // a superfluous octet, and a length of two octets
+    expect_number(&rt, rt.alloc(), &[0x02, 0x00, 0x05], 5)?;
+    expect_number(&rt, rt.alloc(), &[0x80, 0x01, 0x05], 5)
+}
+
+#[test]
+fn reads_fragments(rt: HostRuntime) -> Result<(), Fail> {
+    let mut octets = Vec::new(rt.alloc());
+    octets.push(0xc1)?;
+    for _ in 0..16384 {
+        octets.push(0x00)?;
+    }
+    octets.push(0x01)?;
+    octets.push(0x05)?;
+    expect_number(&rt, rt.alloc(), &octets, 5)
+}
+
+#[test]
+fn reads_behind_padding(rt: HostRuntime) -> Result<(), Fail> {
+    // X.691 11.9.3.3: the length begins on an octet
+    let list = BitList::from_octets(rt.alloc(), &[0x80, 0x05, 0x0a, 0x24, 0x0a, 0x8d, 0x1f])?;
+    let mut decoder = Decoder::new(rt.alloc(), &list, ALIGNED);
+    assert_eq!(rt; decoder.codec(), Codec::Aper);
+    assert!(rt; decoder.decode_bool(Tag::BOOL)?);
+    let number: i128 = decoder.decode_integer(Tag::INTEGER, &Constraints::NONE)?;
+    assert_eq!(rt; number, 43_554_344_223);
+    assert!(rt; decoder.input().is_empty());
+    Ok(())
+}
+
+#[test]
+fn refuses_by_kind(rt: HostRuntime) -> Result<(), Fail> {
+    let fragment_code = DecodeErrorKind::ParserFail(ParserFailCause::FragmentCode);
+    expect_refusal(
+        &rt,
+        rt.alloc(),
+        &[0x00],
+        DecodeErrorKind::UnexpectedEmptyInput,
+    )?;
+    expect_refusal(
+        &rt,
+        rt.alloc(),
+        &[0x02, 0x10],
+        DecodeErrorKind::Incomplete(8),
+    )?;
+    expect_refusal(&rt, rt.alloc(), &[0x80], DecodeErrorKind::Incomplete(8))?;
+    expect_refusal(&rt, rt.alloc(), &[0xc0], fragment_code)?;
+    expect_refusal(&rt, rt.alloc(), &[0xc5], fragment_code)?;
+    expect_refusal(&rt, rt.alloc(), &[0xff], fragment_code)?;
+    // a fragment of 16384 octets, of which one is there
+    expect_refusal(
+        &rt,
+        rt.alloc(),
+        &[0xc1, 0x00],
+        DecodeErrorKind::Incomplete(131_064),
+    )
+}
+
+#[test]
+fn refuses_what_the_type_does_not_hold(rt: HostRuntime) -> Result<(), Fail> {
+    // 17 octets of 2 to the power 127
+    let mut octets = [0; 18];
+    octets[0] = 0x11;
+    octets[2] = 0x80;
+    expect_refusal(
+        &rt,
+        rt.alloc(),
+        &octets,
+        DecodeErrorKind::IntegerOverflow(128),
+    )
+}
+
+// (..65535)
+const UP_TO_65535: &[Constraint] = &[Constraint::Value(Extensible {
+    constraint: Bounded::Range {
+        start: None,
+        end: Some(65535),
+    },
+    extensible: false,
+})];
+
+// (-1..)
+const FROM_MINUS_1: &[Constraint] = &[Constraint::Value(Extensible {
+    constraint: Bounded::Range {
+        start: Some(-1),
+        end: None,
+    },
+    extensible: false,
+})];
+
+// (0..)
+const FROM_0: &[Constraint] = &[Constraint::Value(Extensible {
+    constraint: Bounded::Range {
+        start: Some(0),
+        end: None,
+    },
+    extensible: false,
+})];
+
+// (1..10, ...)
+const FROM_1_TO_10: &[Constraint] = &[Constraint::Value(Extensible {
+    constraint: Bounded::Range {
+        start: Some(1),
+        end: Some(10),
+    },
+    extensible: true,
+})];
+
+// (0..65536)
+const FROM_0_TO_65536: &[Constraint] = &[Constraint::Value(Extensible {
+    constraint: Bounded::Range {
+        start: Some(0),
+        end: Some(65536),
+    },
+    extensible: false,
+})];
+
+// (-1..254)
+const FROM_MINUS_1_TO_254: &[Constraint] = &[Constraint::Value(Extensible {
+    constraint: Bounded::Range {
+        start: Some(-1),
+        end: Some(254),
+    },
+    extensible: false,
+})];
+
+const SEVEN: &[Constraint] = &[Constraint::Value(Extensible {
+    constraint: Bounded::Single(7),
+    extensible: false,
+})];
+
+/// The octets `first` and `count` times `then`.
+fn repeated(alloc: Global, first: u8, then: u8, count: usize) -> Result<Vec<u8>, Fail> {
+    let mut octets = Vec::new(alloc);
+    octets.push(first)?;
+    for _ in 0..count {
+        octets.push(then)?;
+    }
+    Ok(octets)
+}
+
+#[test]
+fn reads_numbers_under_bounds(rt: HostRuntime) -> Result<(), Fail> {
+    let unaligned = DecoderOptions::unaligned();
+    let rows: [(DecoderOptions, &'static [Constraint], &[u8], i128, u128); 12] = [
+        (unaligned, UP_TO_65535, &[0x01, 0x80], -128, 0),
+        (unaligned, FROM_MINUS_1, &[0x02, 0x10, 0x01], 4096, 0),
+        (unaligned, FROM_1_TO_10, &[0x80, 0x88, 0x00], 16, 7),
+        (unaligned, FROM_1_TO_10, &[0x20], 5, 3),
+        (unaligned, FROM_1_TO_10, &[0x80, 0x82, 0x80], 5, 7),
+        (unaligned, FROM_MINUS_1_TO_254, &[0x00], -1, 0),
+        (unaligned, SEVEN, &[], 7, 0),
+        (ALIGNED, FROM_0_TO_65536, &[0x00, 0xfd], 253, 0),
+        (ALIGNED, FROM_0_TO_65536, &[0x40, 0x01, 0x00], 256, 0),
+        (
+            ALIGNED,
+            FROM_0_TO_65536,
+            &[0x80, 0x01, 0x00, 0x00],
+            65536,
+            0,
+        ),
+        // a count of four octets, which is more than 65536 takes
+        (
+            ALIGNED,
+            FROM_0_TO_65536,
+            &[0xc0, 0x00, 0x00, 0x00, 0x05],
+            5,
+            0,
+        ),
+        (ALIGNED, FROM_MINUS_1_TO_254, &[0x06], 5, 0),
+    ];
+    for (options, constraints, octets, expected, left) in rows {
+        let constraints = Constraints::new(constraints);
+        let (number, behind) = read::<i128>(rt.alloc(), octets, options, &constraints)?;
+        assert_eq!(rt; number, Ok(expected), "of {octets:?}");
+        assert_eq!(rt; behind, left, "of {octets:?}");
+    }
+    Ok(())
+}
+
+#[test]
+fn refuses_numbers_outside_bounds(rt: HostRuntime) -> Result<(), Fail> {
+    let unaligned = DecoderOptions::unaligned();
+    let constraints = Constraints::new(FROM_1_TO_10);
+    let (number, _) = read::<i128>(rt.alloc(), &[0x78], unaligned, &constraints)?;
+    let kind = DecodeErrorKind::ValueConstraintNotSatisfied(Some(16), Some(1), Some(10));
+    let codec = Codec::Uper;
+    assert_eq!(rt; number, Err(DecodeError { kind, codec }));
+
+    // 2 to the power 127 is named by its absence
+    let mut octets = [0; 18];
+    octets[0] = 0x11;
+    octets[2] = 0x80;
+    let constraints = Constraints::new(UP_TO_65535);
+    let (number, _) = read::<i128>(rt.alloc(), &octets, unaligned, &constraints)?;
+    let kind = DecodeErrorKind::ValueConstraintNotSatisfied(None, None, Some(65535));
+    assert_eq!(rt; number, Err(DecodeError { kind, codec }));
+
+    let constraints = Constraints::new(FROM_0_TO_65536);
+    let octets = [0x80, 0x01, 0x00, 0x01];
+    let (number, _) = read::<i128>(rt.alloc(), &octets, ALIGNED, &constraints)?;
+    let kind = DecodeErrorKind::ValueConstraintNotSatisfied(Some(65537), Some(0), Some(65536));
+    let codec = Codec::Aper;
+    assert_eq!(rt; number, Err(DecodeError { kind, codec }));
+    Ok(())
+}
+
+#[test]
+fn refuses_numbers_that_do_not_fit(rt: HostRuntime) -> Result<(), Fail> {
+    let unaligned = DecoderOptions::unaligned();
+    let codec = Codec::Uper;
+    let octets = repeated(rt.alloc(), 0x10, 0xff, 16)?;
+    let constraints = Constraints::new(FROM_0);
+    let (number, _) = read::<i128>(rt.alloc(), &octets, unaligned, &constraints)?;
+    let kind = DecodeErrorKind::IntegerOverflow(128);
+    assert_eq!(rt; number, Err(DecodeError { kind, codec }));
+
+    // a lower bound that doesn't fit the type refuses nothing by itself
+    let constraints = Constraints::new(FROM_MINUS_1_TO_254);
+    let (number, _) = read::<u8>(rt.alloc(), &[0x06], unaligned, &constraints)?;
+    assert_eq!(rt; number, Ok(5));
+    let (number, _) = read::<u8>(rt.alloc(), &[0x00], unaligned, &constraints)?;
+    let kind = DecodeErrorKind::IntegerOverflow(8);
+    assert_eq!(rt; number, Err(DecodeError { kind, codec }));
+    Ok(())
+}
+
+/// SEQUENCE { }
+#[derive(Drop)]
+struct Empty {}
+
+impl AsnType for Empty {
+    const TAG: Tag = Tag {
+        class: Class::Universal,
+        value: 16,
+    };
+
+    const CONSTRAINTS: Constraints = Constraints::NONE;
+
+    ghost CONSTRAINTS = { no_constraints };
+
+    const IDENTIFIER: Identifier = Identifier::EMPTY;
+
+    ghost schema = { λ _. record_at listed no_additions false no_additions };
+
+    ghost value = { λ _. record_value [] [] };
+
+    ghost levels = { λ _. 1 };
+
+    ghost unfolds = { λ _. record_unfolds parts_unfold parts_unfold };
+}
+
+impl Constructed for Empty {
+    const FIELDS: Fields = Fields { list: &[] };
+
+    ghost FIELDS = { [] };
+
+    ghost parts = { no_additions };
+
+    ghost contents = { λ _. [] };
+
+    ghost described = { λ _. refl };
+
+    ghost all_required = { λ _. refl };
+
+    ghost is_record = { λ _. refl };
+}
+
+#[test]
+fn takes_a_level_for_each_record(rt: HostRuntime) -> Result<(), Fail> {
+    let list = BitList::from_octets(rt.alloc(), &[0xa0])?;
+    let mut decoder = Decoder::new(rt.alloc(), &list, DecoderOptions::unaligned());
+    let mut scopes = Vec::new(rt.alloc());
+    for _ in 0..128 {
+        scopes.push(decoder.open_sequence::<Empty>(Empty::TAG)?)?;
+    }
+    // the level of a record that is closed may be entered again
+    let Some(innermost) = scopes.pop() else {
+        panic!(rt; "a scope was opened");
+    };
+    assert!(rt; decoder.decode_bool(Tag::BOOL)?);
+    decoder.close_sequence(innermost)?;
+    assert!(rt; !decoder.decode_bool(Tag::BOOL)?);
+    let again = decoder.open_sequence::<Empty>(Empty::TAG)?;
+    assert_eq!(rt; decoder.input().len(), 6);
+
+    let codec = Codec::Uper;
+    let kind = DecodeErrorKind::ExceedsMaxParseDepth;
+    let deeper = decoder.open_sequence::<Empty>(Empty::TAG);
+    assert_eq!(rt; deeper.err(), Some(DecodeError { kind, codec }));
+    let kind = DecodeErrorKind::AlreadyFailed;
+    let closed = decoder.close_sequence(again);
+    assert_eq!(rt; closed, Err(DecodeError { kind, codec }));
+    Ok(())
+}
+
+#[test]
+fn refuses_after_a_failed_scope(rt: HostRuntime) -> Result<(), Fail> {
+    let list = BitList::from_octets(rt.alloc(), &[0x80])?;
+    let mut decoder = Decoder::new(rt.alloc(), &list, DecoderOptions::unaligned());
+    decoder.fail();
+    let codec = Codec::Uper;
+    let kind = DecodeErrorKind::AlreadyFailed;
+    let opened = decoder.open_sequence::<Empty>(Empty::TAG);
+    assert_eq!(rt; opened.err(), Some(DecodeError { kind, codec }));
+    Ok(())
+}
+
+#[test]
+fn refuses_after_a_refusal(rt: HostRuntime) -> Result<(), Fail> {
+    let list = BitList::new(rt.alloc());
+    let mut decoder = Decoder::new(rt.alloc(), &list, DecoderOptions::unaligned());
+    let codec = Codec::Uper;
+    let kind = DecodeErrorKind::Incomplete(1);
+    assert_eq!(rt;
+        decoder.decode_bool(Tag::BOOL),
+        Err(DecodeError { kind, codec })
+    );
+    let kind = DecodeErrorKind::AlreadyFailed;
+    let number: Result<i128, _> = decoder.decode_integer(Tag::INTEGER, &Constraints::NONE);
+    assert_eq!(rt; number, Err(DecodeError { kind, codec }));
+    assert_eq!(rt;
+        decoder.decode_bool(Tag::BOOL),
+        Err(DecodeError { kind, codec })
+    );
+    assert_eq!(rt;
+        decoder.decode_null(Tag::NULL),
+        Err(DecodeError { kind, codec })
+    );
+    Ok(())
+}
+
+#[test]
+fn shows_errors(rt: HostRuntime) -> Result<(), Fail> {
+    let tag = Tag::BOOL;
+    let texts = [
+        (
+            DecodeErrorKind::Incomplete(8),
+            "the input ends 8 bits early",
+        ),
+        (
+            DecodeErrorKind::ParserFail(ParserFailCause::NonzeroEmptyValue),
+            "the octet of an empty value is not zero",
+        ),
+        (
+            DecodeErrorKind::ParserFail(ParserFailCause::FragmentCode),
+            "a fragment has a code other than 1 to 4",
+        ),
+        (
+            DecodeErrorKind::ParserFail(ParserFailCause::EmptyBitmap),
+            "the bitmap of additions is empty",
+        ),
+        (
+            DecodeErrorKind::UnexpectedExtraData(2),
+            "2 octets are left over",
+        ),
+        (DecodeErrorKind::MissingTag, "a part was read out of turn"),
+        (
+            DecodeErrorKind::TypeNotExtensible,
+            "the type has no extension additions",
+        ),
+        (
+            DecodeErrorKind::ExceedsMaxLength,
+            "there are more items than can be counted",
+        ),
+        (
+            DecodeErrorKind::IntegerOverflow(64),
+            "the number does not fit 64 bits",
+        ),
+        (
+            DecodeErrorKind::SizeConstraintNotSatisfied(301, Some(1), Some(300)),
+            "the size 301 is not between Some(1) and Some(300)",
+        ),
+        (
+            DecodeErrorKind::ValueConstraintNotSatisfied(None, None, Some(-1)),
+            "the number None is not between None and Some(-1)",
+        ),
+        (
+            DecodeErrorKind::PermittedAlphabet,
+            "a character is not in the permitted alphabet",
+        ),
+        (
+            DecodeErrorKind::EnumerationIndexNotFound(3, true),
+            "there is no item 3 (added: true)",
+        ),
+        (
+            DecodeErrorKind::ChoiceIndexNotFound(0),
+            "there is no alternative 0",
+        ),
+        (
+            DecodeErrorKind::ChoiceIndexExceedsPlatformWidth,
+            "the index of an alternative is past 64 bits",
+        ),
+        (
+            DecodeErrorKind::RequiredExtensionNotPresent(tag),
+            "the required addition Tag { class: Universal, value: 1 } is absent",
+        ),
+        (
+            DecodeErrorKind::ExceedsMaxParseDepth,
+            "the value is too deep",
+        ),
+        (
+            DecodeErrorKind::StringConversionFailed,
+            "the octets are not UTF-8",
+        ),
+        (DecodeErrorKind::InvalidDate, "there is no such day"),
+        (DecodeErrorKind::RealNotSupported, "REAL is not supported"),
+        (
+            DecodeErrorKind::Below,
+            "an object identifier or a time is malformed",
+        ),
+        (
+            DecodeErrorKind::UnexpectedEmptyInput,
+            "a number has no octets",
+        ),
+        (
+            DecodeErrorKind::AlreadyFailed,
+            "the decoder has failed before",
+        ),
+        (DecodeErrorKind::OutOfMemory, "out of memory"),
+    ];
+    for (kind, text) in texts {
+        let shown = format!(in rt.alloc(); "{kind}")?;
+        assert_eq!(rt; shown.as_str(), text);
+    }
+
+    let kind = DecodeErrorKind::Incomplete(8);
+    let error = DecodeError {
+        kind,
+        codec: Codec::Uper,
+    };
+    let shown = format!(in rt.alloc(); "{error}, {error:?}")?;
+    assert_eq!(rt;
+        shown.as_str(),
+        "the input ends 8 bits early (Uper), DecodeError { kind: Incomplete(8), codec: Uper }"
+    );
+    assert_eq!(rt; kind.name(), "Incomplete");
+    Ok(())
+}
+
+#[test]
+fn shows_options(rt: HostRuntime) -> Result<(), Fail> {
+    let options = DecoderOptions::unaligned();
+    let shown = format!(in rt.alloc(); "{options:?}")?;
+    assert_eq!(rt;
+        shown.as_str(),
+        "DecoderOptions { codec: Uper, levels: 128 }"
+    );
+    Ok(())
+}
