@@ -1,0 +1,73 @@
+-- What a fresh decoder reads, and how the reading ends, is what octets are read as.
+use Rattle.std.proofs.Common.{◌≡◌, ◌≢◌, refl, sym, ap, ◌∙◌, subst, ℕ, false, List, ◌⊎◌, inl, inr, ◌%◌, ◌*◌, length, arith, Result, Ok, Err}
+use Rattle.std.specs.Prelude.{IfErr}
+use Rattle.rasn_types.specs.Bits.{Bits, AreOctets, unpack}
+use Rattle.rasn_types.specs.Codecs.{variant_of}
+use Rattle.rasn_types.specs.declared.types.Codec.{Codec}
+use Rattle.rasn_types.specs.Values.{Value}
+use Rattle.rasn_schema.specs.Schemas.{Schema}
+use Rattle.rasn_schema.specs.Calls.{Refuses}
+use Rattle.per_core.specs.Basic.{fills}
+use Rattle.per_core.specs.Ends.{Ends}
+use Rattle.per_core.proofs.Whole.{one_reading}
+use Rattle.per_core.proofs.Took.{took_agree}
+use Rattle.per_core.proofs.Laws.{one_value, length_unpack}
+use Rattle.per_core.proofs.Filling.{fills_read, fills_back}
+use Rattle.per_de.specs.State.{State, Options, Spells, with_bits}
+use Rattle.per_de.specs.Faults.{Fault, refusal}
+use Rattle.per_de.specs.declared.error.DecodeError.{DecodeError}
+use Rattle.per_de.specs.declared.error.DecodeErrorKind.{DecodeErrorKind}
+use Rattle.per_de.specs.declared.error.DecodeErrorKind.TheVariants.{OutOfMemory}
+use Rattle.rasn_per.specs.Whole.{basically, AreReadAs, AreUnread}
+
+-- a decoder that has just begun with octets
+abbrev pub fresh : Codec → List ℕ → State
+fresh a octets = record { bits = unpack octets; failed = false; levels = 128; codec = a }
+
+pub begun : (a : Codec) (octets : List ℕ) (b : Bits) (o : Options) (s : State) → s ≡ record { bits = b; failed = false; levels = o.levels; codec = o.codec } → o ≡ record { codec = a; levels = 128 } → b ≡ unpack octets → s ≡ fresh a octets
+begun a octets b o s e f g = e ∙ ap (λ (z : Options). record { bits = b; failed = false; levels = z.levels; codec = z.codec }) f ∙ ap (λ (z : Bits). record { bits = z; failed = false; levels = 128; codec = a }) g
+
+pub whole_octets : (octets : List ℕ) (b : Bits) (n : ℕ) → b ≡ unpack octets → n ≡ length b → n % 8 ≡ 0
+whole_octets octets b n e f =
+    let l : n ≡ 8 * length octets = f ∙ ap length e ∙ length_unpack octets in omega arith
+
+module _ (a : Codec) (schema : ℕ → Schema) (octets : List ℕ) where
+  -- how the reading of all octets ended, as its calls say it
+  pub record Ended (end : Bits → ℕ → Type 0) (t : State) (b : Bits) : Type 0 where
+    pub left : Bits
+    pub total : ℕ
+    pub ends : end left total
+    pub left_is : left ≡ t.bits
+    pub total_is : total ≡ length b
+    pub all : b ≡ unpack octets
+
+  so : (end : Bits → ℕ → Type 0) (t : State) (b : Bits) → Ended end t b → end t.bits (length (unpack octets))
+  so end t b h = subst (λ z. end t.bits z) (h.total_is ∙ ap length h.all) (subst (λ z. end z h.total) h.left_is h.ends)
+
+  pub decoded : (v : Value) (s t : State) (b : Bits) → s ≡ fresh a octets → AreOctets octets → Spells (schema s.levels) s v t → Ended Ends t b → AreReadAs (variant_of a) schema v octets
+  decoded v s t b e o h d = record { are_read = r; only = λ w x. one_value (basically (variant_of a)) (schema 128) w v octets x r }
+    where
+      r : fills (basically (variant_of a)) (schema 128) v octets
+      r = fills_read (variant_of a) (schema 128) v octets t.bits o (subst (λ z. Spells (schema z.levels) z v t) e h).took (so Ends t b d)
+
+  -- where the decoder reads nothing, the octets are read as nothing
+  unread : ((v : Value) (t : State) → Spells (schema 128) (fresh a octets) v t → ⊥) → AreUnread (variant_of a) schema octets
+  unread none v x =
+      let k = fills_back (variant_of a) (schema 128) v octets x in
+      none v (with_bits (fresh a octets) k.0) (record { live = refl; took = k.1; same = refl })
+
+  pub refused : {T : Type 0} (result : Result T DecodeError) (f : DecodeError) (s : State) → s ≡ fresh a octets → result ≡ Err f
+      → ((f ≡ refusal OutOfMemory s) ⊎ Refuses (Spells (schema s.levels)) Fault f s) → IfErr result (λ e. e.kind ≢ OutOfMemory → AreUnread (variant_of a) schema octets)
+  refused result f s e g h = rw g (λ n. go n h)
+    where
+      go : f.kind ≢ OutOfMemory → ((f ≡ refusal OutOfMemory s) ⊎ Refuses (Spells (schema s.levels)) Fault f s) → AreUnread (variant_of a) schema octets
+      go n (inl m) = absurd (n (ap (λ (z : DecodeError). z.kind) m))
+      go n (inr r) = unread (λ v t k. (subst (λ z. (v : Value) (t : State) → Spells (schema z.levels) z v t → ⊥) e r.nothing) v t k)
+
+  -- nor are they where what was read doesn't end so
+  pub unended : (v : Value) (s t : State) (b : Bits) → s ≡ fresh a octets → Spells (schema s.levels) s v t → Ended (λ l n. Ends l n → ⊥) t b → AreUnread (variant_of a) schema octets
+  unended v s t b e h d w x =
+      let k = fills_back (variant_of a) (schema 128) w octets x in
+      let g = (subst (λ z. Spells (schema z.levels) z v t) e h).took in
+      let m = took_agree (one_reading (basically (variant_of a)) (schema 128) v w) g k.1 in
+      so (λ l n. Ends l n → ⊥) t b d (subst (λ z. Ends z (length (unpack octets))) (sym m.1) k.2)

@@ -1,0 +1,24 @@
+use Rattle.std.proofs.Common.{◌≡◌, ◌∙◌, ap, Err}
+use Rattle.std.proofs.lemmas.Result.{err_from_is_err_and}
+use Rattle.rasn_types.specs.declared.types.Codec.TheVariants.{Uper}
+use Rattle.rasn_types.proofs.Reading.{are_octets}
+use Rattle.rasn_per.proofs.Decoded.{begun, whole_octets, decoded, refused, unended}
+use Rattle.rasn_per.proofs.uper.decode.Goals as goal
+
+pub returns-in_err-value-clause-err : goal.returns-in_err-value-clause-err
+returns-in_err-value-clause-err g c =
+    let p = err_from_is_err_and c.from_residual.result c.from_residual.ensures.1 in
+    refused Uper (g.T.AsnType.schema g.T.AsnType.CONSTRAINTS) _ _ _ _ (begun Uper _ _ _ _ c.new-decoder.ensures c.unaligned.ensures c.in-Ok.ensures) (p.1 ∙ ap Err p.2) c.in_err-value.ensures.law
+
+pub ended-requires-clause-octets : goal.ended-requires-clause-octets
+ended-requires-clause-octets g c = whole_octets _ _ _ c.in-Ok.ensures c.len.ensures
+
+pub returns-in-Ok-ended-clause-ok : goal.returns-in-Ok-ended-clause-ok
+returns-in-Ok-ended-clause-ok g c =
+    decoded Uper _ _ _ _ _ _ (begun Uper _ _ _ _ c.new-decoder.ensures c.unaligned.ensures c.in-Ok.ensures) (are_octets _ c.type_inv.octets) c.in_ok-value.ensures.law
+    (record { left = c.input.result; total = c.len.result; ends = c.in-Ok-ended.ensures.ok; left_is = c.input.ensures; total_is = c.len.ensures; all = c.in-Ok.ensures })
+
+pub returns-clause-err : goal.returns-clause-err
+returns-clause-err g c n =
+    unended Uper (g.T.AsnType.schema g.T.AsnType.CONSTRAINTS) _ _ _ _ _ (begun Uper _ _ _ _ c.new-decoder.ensures c.unaligned.ensures c.in-Ok.ensures) c.in_ok-value.ensures.law
+    (record { left = c.input.result; total = c.len.result; ends = c.in-Err.ensures.none; left_is = c.input.ensures; total_is = c.len.ensures; all = c.in-Ok.ensures })

@@ -1,0 +1,31 @@
+-- What is written for a value, and what octets are read as: the words of the main theorem.
+use Rattle.std.specs.Prelude.{◌≡◌, ℕ, false, List, Some, None}
+use Rattle.rasn_types.specs.Variants.{Variant}
+use Rattle.rasn_types.specs.Values.{Value}
+use Rattle.rasn_schema.specs.Schemas.{Schema}
+use Rattle.rasn_schema.specs.Normal.{normal}
+use Rattle.rasn_schema.specs.Calls.{AtDepths}
+use Rattle.per_core.specs.Spellings.{Settings}
+use Rattle.per_core.specs.Canon.{bytes}
+use Rattle.per_core.specs.Basic.{read}
+
+-- X.691 11.1: octets are the canonical bytes of a value's normal form, by the schema of its type at each depth that holds the value
+abbrev pub AreBytes : Variant → (ℕ → Schema) → ℕ → Value → List ℕ → Type 0
+AreBytes a schema levels v octets = AtDepths schema levels (λ s. bytes a s (normal s v) ≡ Some octets)
+
+-- there are none
+abbrev pub HasNoBytes : Variant → (ℕ → Schema) → ℕ → Value → Type 0
+HasNoBytes a schema levels v = AtDepths schema levels (λ s. bytes a s (normal s v) ≡ None)
+
+-- a reader that takes any padding bits
+abbrev pub basically : Variant → Settings
+basically a = record { variant = a; strict = false }
+
+-- within 128 levels octets are read as a value, and as no other
+pub record AreReadAs (a : Variant) (schema : ℕ → Schema) (v : Value) (octets : List ℕ) : Type 0 where
+  pub are_read : read (basically a) schema v octets
+  pub only : (w : Value) → read (basically a) schema w octets → w ≡ v
+
+-- within 128 levels octets are read as no value
+abbrev pub AreUnread : Variant → (ℕ → Schema) → List ℕ → Type 0
+AreUnread a schema octets = (v : Value) → read (basically a) schema v octets → ⊥

@@ -1,0 +1,7 @@
+//! The packed encoding rules of ASN.1 (ITU-T X.691), UNALIGNED variant: values to octets and back.
+#![tactic(auto)]
+
+pub use per_bits as bits;
+
+pub mod per;
+pub mod uper;
