@@ -1,0 +1,19 @@
+use Rattle.std.proofs.Common.{arith}
+use Rattle.std.proofs.lemmas.Result.{err_from_is_err_and}
+use Rattle.rasn_schema.specs.Normal.{normal, settle}
+use Rattle.rasn_schema.proofs.Writing.{required_refused, required_written, last_written}
+use Rattle.per_samples_a.proofs.pair.fn.PairEncode.encode_with_tag_and_constraints.encode_sequence.Goals as goal
+
+pub returns-in_err-encode_with_tag : goal.returns-in_err-encode_with_tag
+unfolding normal settle
+returns-in_err-encode_with_tag g c =
+    let p = err_from_is_err_and c.from_residual.result c.from_residual.ensures.1 in
+    rw (p.1, p.2) (record { at = λ n le. required_refused g.E.Encoder.memory g.E.Encoder.presents g.E.Encoder.refuses (c.in_err-encode_with_tag.ensures.law.at n (omega arith)) })
+
+pub returns : goal.returns
+unfolding normal settle
+returns g c = record {
+  at = λ n le.
+      required_written g.E.Encoder.memory g.E.Encoder.presents g.E.Encoder.refuses g.met.E.Encoder.lawful _ _ _ _ _ _ _ (c.in_ok-encode_with_tag.ensures.law.at n (omega arith)) _ _
+      (last_written g.E.Encoder.memory g.E.Encoder.presents g.E.Encoder.refuses _ _ _ _ _ _ (c.encode_with_tag-2.ensures.law.at n (omega arith)));
+}

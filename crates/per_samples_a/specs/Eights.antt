@@ -1,0 +1,43 @@
+-- SEQUENCE { a BOOLEAN, b INTEGER, c NULL, d BOOLEAN, e INTEGER, f BOOLEAN, g NULL, h INTEGER }
+use Rattle.std.specs.Prelude.{ℕ, Bool, List, [], ◌∷◌, Option, Some, ℤ}
+use Rattle.rasn_types.specs.Values.{Value, truth, nothing, whole}
+use Rattle.rasn_schema.specs.Schemas.{Schema, TagTree, leaf, Parts, no_parts, part, required}
+use Rattle.rasn_schema.specs.Depth.{Unfolds}
+use Rattle.rasn_schema.specs.Forms.{no_constraints, number_schema, i128_range, always, simple_unfolds}
+use Rattle.rasn_schema.specs.Families.{UnfoldsParts, parts_unfold, part_unfolds}
+
+-- the tag of a component by its place (X.680 25.3, AUTOMATIC TAGS)
+abbrev pub at : ℕ → TagTree
+at i = leaf (record { class = 2; number = i })
+
+-- INTEGER
+abbrev pub integer : Schema
+integer = number_schema no_constraints i128_range
+
+abbrev pub eight_parts : ℕ → Parts
+eight_parts n =
+    part (at 0) required Schema.boolean (
+    part (at 1) required integer (
+    part (at 2) required Schema.null (
+    part (at 3) required Schema.boolean (
+    part (at 4) required integer (
+    part (at 5) required Schema.boolean (
+    part (at 6) required Schema.null (
+    part (at 7) required integer no_parts)))))))
+
+abbrev pub eight_contents : Bool → ℤ → Bool → ℤ → Bool → ℤ → List (Option Value)
+eight_contents a b d e f h =
+    Some (truth a) ∷ Some (whole b) ∷ Some nothing ∷ Some (truth d) ∷ Some (whole e) ∷ Some (truth f) ∷ Some nothing ∷ Some (whole h) ∷ []
+
+-- each component is of one kind at every depth
+pub booleans : Unfolds (always Schema.boolean)
+booleans = simple_unfolds Schema.boolean tt
+
+pub integers : Unfolds (always integer)
+integers = simple_unfolds integer tt
+
+pub nulls : Unfolds (always Schema.null)
+nulls = simple_unfolds Schema.null tt
+
+pub eight_unfold : UnfoldsParts eight_parts
+eight_unfold = part_unfolds booleans (part_unfolds integers (part_unfolds nulls (part_unfolds booleans (part_unfolds integers (part_unfolds booleans (part_unfolds nulls (part_unfolds integers parts_unfold)))))))

@@ -1,0 +1,135 @@
+//! A SEQUENCE of two required components of any types, by the list of them.
+
+ghost use Rattle.std.specs.Prelude.{refl, [], false, suc, max};
+ghost use Rattle.rasn_schema.specs.Schemas.{listed};
+ghost use Rattle.rasn_schema.specs.Forms.{no_constraints};
+ghost use Rattle.rasn_schema.specs.Fields.{shapes_from};
+ghost use Rattle.rasn_schema.specs.Records.{record_at, no_additions, record_value};
+ghost use Rattle.rasn_schema.specs.Families.{record_unfolds, part_unfolds, parts_unfold};
+ghost use Rattle.per_samples_a.specs.Boths.{both_parts, both_contents};
+
+use rasn_schema::codec::{Decode, Decoder, Encode, Encoder};
+use rasn_schema::fields::{Constructed, Field, Fields, Presence, TagTree};
+use rasn_schema::record::{End, Required};
+use rasn_schema::schema::{AsnType, Constraints};
+use rasn_types::types::{Class, Identifier, Tag};
+use std::marker::PhantomData;
+
+/// SEQUENCE { a A, b B }
+#[derive(Drop)]
+pub struct Both<A, B> {
+    pub a: A,
+    pub b: B,
+}
+
+impl<A: AsnType, B: AsnType> AsnType for Both<A, B> {
+    const TAG: Tag = Tag {
+        class: Class::Universal,
+        value: 16,
+    };
+
+    const CONSTRAINTS: Constraints = Constraints::NONE;
+
+    ghost CONSTRAINTS = { no_constraints };
+
+    const IDENTIFIER: Identifier = Identifier::EMPTY;
+
+    ghost schema = { λ _. record_at listed (both_parts (A.schema A.CONSTRAINTS) (B.schema B.CONSTRAINTS)) false no_additions };
+
+    ghost value = { λ x. record_value (both_contents (A.value x.a) (B.value x.b)) [] };
+
+    ghost levels = { λ x. suc (max (A.levels x.a) (max (B.levels x.b) 0)) };
+
+    ghost unfolds = { λ _. record_unfolds (part_unfolds (A.unfolds A.CONSTRAINTS) (part_unfolds (B.unfolds B.CONSTRAINTS) parts_unfold)) parts_unfold };
+}
+
+/// The tags of the components (AUTOMATIC TAGS).
+const A_TAG: Tag = Tag {
+    class: Class::Context,
+    value: 0,
+};
+
+const B_TAG: Tag = Tag {
+    class: Class::Context,
+    value: 1,
+};
+
+const FIELDS: &[Field] = &[
+    Field {
+        index: 0,
+        tag: A_TAG,
+        tag_tree: TagTree::Leaf(A_TAG),
+        presence: Presence::Required,
+        name: "a",
+    },
+    Field {
+        index: 1,
+        tag: B_TAG,
+        tag_tree: TagTree::Leaf(B_TAG),
+        presence: Presence::Required,
+        name: "b",
+    },
+];
+
+impl<A: AsnType, B: AsnType> Constructed for Both<A, B> {
+    const FIELDS: Fields = Fields { list: FIELDS };
+
+    ghost FIELDS = { shapes_from 0 (both_parts (A.schema A.CONSTRAINTS) (B.schema B.CONSTRAINTS) 0) };
+
+    ghost parts = { both_parts (A.schema A.CONSTRAINTS) (B.schema B.CONSTRAINTS) };
+
+    ghost contents = { λ x. both_contents (A.value x.a) (B.value x.b) };
+
+    ghost described = { λ _. refl };
+
+    ghost all_required = { λ _. refl };
+
+    ghost is_record = { λ _. refl };
+}
+
+impl<A: Encode, B: Encode> Encode for Both<A, B> {
+    fn encode_with_tag_and_constraints<E: Encoder>(
+        &self,
+        encoder: &mut E,
+        tag: Tag,
+        constraints: &Constraints,
+        identifier: Identifier,
+    ) -> Result<(), E::Error> {
+        let _ = constraints;
+        let parts = Required {
+            tag: A_TAG,
+            constraints: None,
+            value: &self.a,
+            next: Required {
+                tag: B_TAG,
+                constraints: None,
+                value: &self.b,
+                next: End {},
+            },
+        };
+        encoder.encode_record::<Both<A, B>, _, _>(tag, &parts, identifier)
+    }
+}
+
+impl<A: Decode, B: Decode> Decode for Both<A, B> {
+    fn decode_with_tag_and_constraints<D: Decoder>(
+        decoder: &mut D,
+        tag: Tag,
+        constraints: &Constraints,
+    ) -> Result<Both<A, B>, D::Error> {
+        let _ = constraints;
+        let parts = Required {
+            tag: A_TAG,
+            constraints: None,
+            value: PhantomData::<A>,
+            next: Required {
+                tag: B_TAG,
+                constraints: None,
+                value: PhantomData::<B>,
+                next: End {},
+            },
+        };
+        let (a, (b, ())) = decoder.decode_record::<Both<A, B>, _>(tag, &parts)?;
+        Ok(Both { a, b })
+    }
+}

@@ -1,0 +1,131 @@
+//! A SEQUENCE of two required components, by a scope that writes or reads them.
+
+ghost use Rattle.std.specs.Prelude.{refl, true, [], ◌∷◌, false, ◌≡◌, IsErrAnd, OnErr};
+ghost use Rattle.rasn_schema.specs.Schemas.{listed};
+ghost use Rattle.rasn_schema.specs.Normal.{normals};
+ghost use Rattle.rasn_schema.specs.Calls.{Answers};
+ghost use Rattle.rasn_schema.specs.Forms.{no_constraints};
+ghost use Rattle.rasn_schema.specs.Fields.{shapes_from};
+ghost use Rattle.rasn_schema.specs.Records.{AtParts, record_at, no_additions, record_value};
+ghost use Rattle.rasn_schema.specs.Families.{record_unfolds, parts_unfold};
+ghost use Rattle.rasn_schema.specs.Scopes.{WritesParts, ReadsParts};
+ghost use Rattle.per_samples_a.specs.Pairs.{pair_parts, pair_contents, pair_unfolds};
+
+use rasn_schema::codec::{Decode, Decoder, Encode, Encoder};
+use rasn_schema::fields::{Constructed, Field, Fields, Presence, TagTree};
+use rasn_schema::schema::{AsnType, Constraints};
+use rasn_types::types::{Class, Identifier, Tag};
+
+/// SEQUENCE { a BOOLEAN, b INTEGER }
+#[derive(Clone, Copy, Debug, PartialEq)]
+pub struct Pair {
+    pub a: bool,
+    pub b: i128,
+}
+
+impl AsnType for Pair {
+    const TAG: Tag = Tag {
+        class: Class::Universal,
+        value: 16,
+    };
+
+    const CONSTRAINTS: Constraints = Constraints::NONE;
+
+    ghost CONSTRAINTS = { no_constraints };
+
+    const IDENTIFIER: Identifier = Identifier::EMPTY;
+
+    ghost schema = { λ _. record_at listed pair_parts false no_additions };
+
+    ghost value = { λ x. record_value (pair_contents x.a x.b) [] };
+
+    ghost levels = { λ _. 1 };
+
+    ghost unfolds = { λ _. record_unfolds pair_unfolds parts_unfold };
+}
+
+/// The tags of the components (AUTOMATIC TAGS).
+const A: Tag = Tag {
+    class: Class::Context,
+    value: 0,
+};
+
+const B: Tag = Tag {
+    class: Class::Context,
+    value: 1,
+};
+
+const FIELDS: &[Field] = &[
+    Field {
+        index: 0,
+        tag: A,
+        tag_tree: TagTree::Leaf(A),
+        presence: Presence::Required,
+        name: "a",
+    },
+    Field {
+        index: 1,
+        tag: B,
+        tag_tree: TagTree::Leaf(B),
+        presence: Presence::Required,
+        name: "b",
+    },
+];
+
+impl Constructed for Pair {
+    const FIELDS: Fields = Fields { list: FIELDS };
+
+    ghost FIELDS = { shapes_from 0 (pair_parts 0) };
+
+    ghost parts = { pair_parts };
+
+    ghost contents = { λ x. pair_contents x.a x.b };
+
+    ghost described = { λ _. refl };
+
+    ghost all_required = { λ _. refl };
+
+    ghost is_record = { λ _. refl };
+}
+
+impl Encode for Pair {
+    fn encode_with_tag_and_constraints<E: Encoder>(
+        &self,
+        encoder: &mut E,
+        tag: Tag,
+        constraints: &Constraints,
+        identifier: Identifier,
+    ) -> Result<(), E::Error> {
+        let _ = constraints;
+        encoder.encode_sequence::<Pair, _, _>(
+            tag,
+            |e: &mut E| -> Result<(), E::Error>
+                ensures { AtParts pair_parts 0 (λ ps. WritesParts E.memory E.presents E.refuses ps (normals ps (pair_contents self.entry.now.a self.entry.now.b)) e.old result e.new) }
+            {
+                self.a.encode_with_tag(e, A)?;
+                self.b.encode_with_tag(e, B)
+            },
+            identifier,
+        )
+    }
+}
+
+impl Decode for Pair {
+    fn decode_with_tag_and_constraints<D: Decoder>(
+        decoder: &mut D,
+        tag: Tag,
+        constraints: &Constraints,
+    ) -> Result<Pair, D::Error> {
+        let _ = constraints;
+        decoder.decode_sequence(
+            tag,
+            |d|
+                ensures { Answers D.memory D.fault (ReadsParts D.spells (pair_parts (D.levels d.old))) (λ x. pair_contents x.a x.b) d.old result d.new }
+            {
+                let a = bool::decode_with_tag(d, A)?;
+                let b = i128::decode_with_tag(d, B)?;
+                Ok(Pair { a, b })
+            },
+        )
+    }
+}
