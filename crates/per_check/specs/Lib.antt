@@ -1,0 +1,4 @@
+pub mod Words
+pub mod Faults
+pub mod Recoding
+pub mod Answers

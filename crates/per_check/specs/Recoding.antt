@@ -1,0 +1,61 @@
+-- From the octets of a value to the canonical octets of the same value.
+use Rattle.std.specs.Prelude.{ℕ, ◌≢◌, List, true, false, pos, negsuc}
+use Rattle.rasn_types.specs.Variants
+use Rattle.rasn_types.specs.Variants.{unaligned}
+use Rattle.rasn_types.specs.Values.{Value}
+use Rattle.rasn_schema.specs.Schemas.{Schema, unbounded, between, listed}
+use Rattle.rasn_schema.specs.Forms.{always, i128_range}
+use Rattle.rasn_schema.specs.Records.{record_at, no_additions}
+use Rattle.per_samples_a.specs.Numbers.{at_least, at_most}
+use Rattle.per_samples_a.specs.Fours.{four_parts}
+use Rattle.per_samples_a.specs.Sevens.{seven_parts}
+use Rattle.rasn_per.specs.Whole.{AreBytes, HasNoBytes, AreReadAs, AreUnread}
+use Rattle.rasn_per.specs.Kinds.{IsInOctets}
+use Rattle.per_enc.specs.declared.error.EncodeErrorKind.TheVariants as Encoding
+use Rattle.per_de.specs.declared.error.DecodeErrorKind.TheVariants as Decoding
+use Rattle.per_check.specs.declared.arguments.Variant.{Variant}
+use Rattle.per_check.specs.declared.arguments.Variant.TheVariants.{Uper}
+use Rattle.per_check.specs.declared.arguments.TypeName.{TypeName}
+use Rattle.per_check.specs.declared.arguments.TypeName.TheVariants.{Boolean, Null, Integer, UpTo65535, FromMinusOne, Natural, ZeroTo65536, OneToTenExtensible, Four, Seven}
+use Rattle.per_check.specs.declared.fault.Fault.{Fault}
+use Rattle.per_check.specs.declared.fault.Fault.TheVariants as Faults
+
+-- the variant that is meant (X.691 7)
+abbrev pub rules_of : Variant → Variants.Variant
+rules_of Uper = unaligned
+
+-- what the name of a type means: BOOLEAN (X.680 18); NULL (X.680 24); INTEGER (X.680 19) within 128 bits, alone and under value
+-- constraints (X.680 51.4); and SEQUENCE (X.680 25) of required components
+abbrev pub schema_of : TypeName → ℕ → Schema
+schema_of Boolean = always Schema.boolean
+schema_of Null = always Schema.null
+schema_of Integer = always (Schema.number unbounded false i128_range)
+schema_of UpTo65535 = always (Schema.number (at_most (pos 65535)) false i128_range)
+schema_of FromMinusOne = always (Schema.number (at_least (negsuc 0)) false i128_range)
+schema_of Natural = always (Schema.number (at_least (pos 0)) false i128_range)
+schema_of ZeroTo65536 = always (Schema.number (between (pos 0) (pos 65536)) false i128_range)
+schema_of OneToTenExtensible = always (Schema.number (between (pos 1) (pos 10)) true i128_range)
+schema_of Four = record_at listed four_parts false no_additions
+schema_of Seven = record_at listed seven_parts false no_additions
+
+-- octets are read as one value, whose canonical octets these are
+pub record Recodes (rules : Variants.Variant) (schema : ℕ → Schema) (octets canonical : List ℕ) : Type 0 where
+  pub value : Value
+  pub levels : ℕ
+  pub is_read : AreReadAs rules schema value octets
+  pub is_written : AreBytes rules schema levels value canonical
+
+-- octets are read as one value, which has no canonical octets
+pub record IsUnwritable (rules : Variants.Variant) (schema : ℕ → Schema) (octets : List ℕ) : Type 0 where
+  pub value : Value
+  pub levels : ℕ
+  pub is_read : AreReadAs rules schema value octets
+  pub is_unwritten : HasNoBytes rules schema levels value
+
+-- Why octets are refused: they are read as no value, and what the kind says is in them; or as one without canonical
+-- octets; or memory ran out.
+abbrev pub IsRefusal : Variants.Variant → (ℕ → Schema) → List ℕ → Fault → Type 0
+IsRefusal rules schema octets (Faults.Decode kind) =
+    (kind ≢ Decoding.OutOfMemory → AreUnread rules schema octets) × IsInOctets rules schema octets kind
+IsRefusal rules schema octets (Faults.Encode kind) = kind ≢ Encoding.OutOfMemory → IsUnwritable rules schema octets
+IsRefusal rules schema octets _ = ⊥

@@ -1,0 +1,26 @@
+-- The words after the program's name.
+use Rattle.std.specs.Prelude.{ℕ, List, [], ◌∷◌, codes}
+use Rattle.per_check.specs.declared.arguments.Variant.{Variant}
+use Rattle.per_check.specs.declared.arguments.Variant.TheVariants.{Uper}
+use Rattle.per_check.specs.declared.arguments.TypeName.{TypeName}
+use Rattle.per_check.specs.declared.arguments.TypeName.TheVariants.{Boolean, Null, Integer, UpTo65535, FromMinusOne, Natural, ZeroTo65536, OneToTenExtensible, Four, Seven}
+use Rattle.per_check.specs.declared.arguments.Arguments.{Arguments}
+
+abbrev pub variant_word : Variant → List ℕ
+variant_word Uper = codes "uper"
+
+abbrev pub type_word : TypeName → List ℕ
+type_word Boolean = codes "boolean"
+type_word Null = codes "null"
+type_word Integer = codes "integer"
+type_word UpTo65535 = codes "upto"
+type_word FromMinusOne = codes "from"
+type_word Natural = codes "natural"
+type_word ZeroTo65536 = codes "i65536"
+type_word OneToTenExtensible = codes "iext"
+type_word Four = codes "four"
+type_word Seven = codes "seven"
+
+-- a variant and a type
+abbrev pub words_of : Arguments → List (List ℕ)
+words_of a = variant_word a.variant ∷ type_word a.type_name ∷ []

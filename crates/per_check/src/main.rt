@@ -1,0 +1,49 @@
+//! Reads a value of a type in hexadecimal and prints its canonical encoding (X.691), in hexadecimal too.
+//!
+//! `per_check uper TYPE` reads the first line of its standard input. TYPE is `boolean`, `null`, `integer`, `upto`, `from`,
+//! `natural`, `i65536`, `iext`, `four` or `seven`.
+#![tactic(auto)]
+
+ghost use Rattle.std.specs.Prelude.{◌≡◌, ◌⊎◌, IfErr};
+ghost use Rattle.per_check.specs.declared.fault.Fault.TheVariants.{OutOfMemory, WrongArguments};
+
+mod arguments;
+mod fault;
+mod line;
+mod recode;
+mod run;
+
+use crate::fault::Fault;
+use std::alloc::AllocError;
+use std::env;
+use std::env::Env;
+use std::io::Input;
+use std::process::ExitCode;
+
+fn main(rt: HostRuntime) -> ExitCode {
+    let mut faults = rt.stderr();
+    let status = match words(&rt) {
+        Ok(words) => run::run(
+            rt.alloc(),
+            words.as_slice(),
+            &mut rt.reader(),
+            &mut rt.stdout(),
+            &mut faults,
+        ),
+        Err(fault) => fault.report(&mut faults),
+    };
+    ExitCode::from(status)
+}
+
+/// The words after the program's name. Words that are no text are wrong arguments.
+fn words(rt: &(impl Env + AllocGlobal)) -> Result<Vec<String>, Fault>
+    ensures { IfErr result (λ f. (f ≡ OutOfMemory) ⊎ (f ≡ WrongArguments)) }
+{
+    let all = env::args(rt).map_err(|error| Fault::of_io(&error, Fault::WrongArguments))?;
+    // Not `collect`, which goes on where the room that it asks for at first is refused.
+    let mut words = Vec::new(rt.alloc());
+    for word in all.skip(1) {
+        words.push(word).map_err(AllocError::from)?;
+    }
+    Ok(words)
+}

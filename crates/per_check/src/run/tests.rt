@@ -1,0 +1,430 @@
+use super::*;
+use std::alloc::AllocError;
+use std::io;
+use std::io::{BufReader, ErrorKind, Read};
+use std::process::Abort;
+use std::test::Fail;
+
+const USAGE: &str = "usage: per_check (aper|uper) TYPE\n";
+
+/// What a run answered and wrote.
+#[derive(Drop)]
+struct Ran {
+    status: u8,
+    output: Vec<u8>,
+    faults: Vec<u8>,
+}
+
+/// Gives the first octets of `text`, and then fails.
+#[derive(Drop)]
+struct BrokenReader {
+    text: &'static [u8],
+    kind: ErrorKind,
+}
+
+impl Read for BrokenReader {
+    fn read(&mut self, buffer: &mut [u8]) -> io::Result<usize> {
+        match (self.text.split_first(), buffer.first_mut()) {
+            (Some((octet, rest)), Some(place)) => {
+                *place = *octet;
+                self.text = rest;
+                Ok(1)
+            }
+            _ => Err(io::Error::from(self.kind)),
+        }
+    }
+}
+
+/// Takes `room` octets, and then fails.
+#[derive(Drop)]
+struct BrokenWriter {
+    room: usize,
+    kind: ErrorKind,
+}
+
+impl io::Write for BrokenWriter {
+    fn write(&mut self, octets: &[u8]) -> io::Result<usize> {
+        let count = octets.len().min(self.room);
+        if count == 0 {
+            return Err(io::Error::from(self.kind));
+        }
+        self.room -= count;
+        Ok(count)
+    }
+
+    fn flush(&mut self) -> io::Result<()> {
+        Ok(())
+    }
+}
+
+/// Keeps what it takes to itself, and can't pass it on.
+#[derive(Drop)]
+struct StuckWriter;
+
+impl io::Write for StuckWriter {
+    fn write(&mut self, octets: &[u8]) -> io::Result<usize> {
+        Ok(octets.len())
+    }
+
+    fn flush(&mut self) -> io::Result<()> {
+        Err(io::Error::from(ErrorKind::BrokenPipe))
+    }
+}
+
+/// Takes nothing, and calls that no error.
+#[derive(Drop)]
+struct FullWriter;
+
+impl io::Write for FullWriter {
+    fn write(&mut self, _octets: &[u8]) -> io::Result<usize> {
+        Ok(0)
+    }
+
+    fn flush(&mut self) -> io::Result<()> {
+        Ok(())
+    }
+}
+
+fn words(alloc: Global, text: &str) -> Result<Vec<String>, AllocError> {
+    let mut words = Vec::new(alloc);
+    for word in text.split_ascii_whitespace() {
+        words.push(String::from_str(alloc, word)?)?;
+    }
+    Ok(words)
+}
+
+fn run_on(alloc: Global, arguments: &str, mut input: &[u8]) -> Result<Ran, AllocError> {
+    let arguments = words(alloc, arguments)?;
+    let mut output = Vec::new(alloc);
+    let mut faults = Vec::new(alloc);
+    let status = run(
+        alloc,
+        arguments.as_slice(),
+        &mut input,
+        &mut output,
+        &mut faults,
+    );
+    Ok(Ran {
+        status,
+        output,
+        faults,
+    })
+}
+
+fn assert_ran(rt: &impl Abort, ran: &Ran, status: u8, output: &str, faults: &str) {
+    assert_eq!(rt; ran.output.as_slice(), output.as_bytes());
+    assert_eq!(rt; ran.faults.as_slice(), faults.as_bytes());
+    assert_eq!(rt; ran.status, status);
+}
+
+#[test]
+fn prints_the_canonical_encoding(rt: HostRuntime) -> Result<(), Fail> {
+    for (arguments, input, output) in [
+        ("uper integer", "021000\n", "021000\n"),
+        ("uper integer", "020005\n", "0105\n"),
+        ("uper integer", "02ff7f\n", "02ff7f\n"),
+        ("uper integer", "020080\n", "020080\n"),
+        ("uper null", "00\n", "00\n"),
+        ("uper boolean", "ff\n", "80\n"),
+        ("uper boolean", "7f\n", "00\n"),
+        ("uper upto", "0180\n", "0180\n"),
+        ("uper from", "021001\n", "021001\n"),
+        // The greatest number of 128 bits, by its distance from -1.
+        (
+            "uper from",
+            "1080000000000000000000000000000000\n",
+            "1080000000000000000000000000000000\n",
+        ),
+        ("uper natural", "0180\n", "0180\n"),
+        ("uper i65536", "800000\n", "800000\n"),
+        ("uper iext", "808800\n", "808800\n"),
+        ("uper iext", "20\n", "20\n"),
+        // 5, which is within the bounds, as a number out of them.
+        ("uper iext", "808280\n", "20\n"),
+        ("uper four", "82851205468f8020\n", "82851205468f8020\n"),
+        ("uper seven", "00\n", "00\n"),
+    ] {
+        assert_ran(
+            &rt,
+            &run_on(rt.alloc(), arguments, input.as_bytes())?,
+            0,
+            output,
+            "",
+        );
+    }
+    Ok(())
+}
+
+#[test]
+fn refuses_by_name(rt: HostRuntime) -> Result<(), Fail> {
+    for (arguments, input, faults) in [
+        ("uper integer", "0210\n", "Incomplete\n"),
+        ("uper integer", "00\n", "UnexpectedEmptyInput\n"),
+        ("uper integer", "c0\n", "ParserFail\n"),
+        ("uper null", "\n", "Incomplete\n"),
+        ("uper null", "01\n", "ParserFail\n"),
+        ("uper null", "0000\n", "UnexpectedExtraData\n"),
+        ("uper boolean", "80aabb\n", "UnexpectedExtraData\n"),
+        // 2 to the 127th.
+        (
+            "uper integer",
+            "110080000000000000000000000000000000\n",
+            "IntegerOverflow\n",
+        ),
+        // 65536.
+        ("uper upto", "03010000\n", "ValueConstraintNotSatisfied\n"),
+        (
+            "uper from",
+            "1080000000000000000000000000000001\n",
+            "IntegerOverflow\n",
+        ),
+        (
+            "uper natural",
+            "10ffffffffffffffffffffffffffffffff\n",
+            "IntegerOverflow\n",
+        ),
+        // 65537.
+        ("uper i65536", "800080\n", "ValueConstraintNotSatisfied\n"),
+        // 16, as a number within the bounds.
+        ("uper iext", "78\n", "ValueConstraintNotSatisfied\n"),
+        ("uper four", "82851205468f80\n", "Incomplete\n"),
+        ("uper seven", "\n", "Incomplete\n"),
+        ("uper seven", "01\n", "ParserFail\n"),
+        ("uper seven", "0000\n", "UnexpectedExtraData\n"),
+    ] {
+        assert_ran(
+            &rt,
+            &run_on(rt.alloc(), arguments, input.as_bytes())?,
+            1,
+            "",
+            faults,
+        );
+    }
+    Ok(())
+}
+
+#[test]
+fn takes_one_line(rt: HostRuntime) -> Result<(), Fail> {
+    for (input, output) in [
+        (b"021000".as_slice(), "021000\n"),
+        (b"021000\r\n", "021000\n"),
+        (b"021000\r", "021000\n"),
+        (b"02Ff7F\n", "02ff7f\n"),
+        (b"0105\n021000\n", "0105\n"),
+        (b"0105\nno hexadecimal \xff", "0105\n"),
+    ] {
+        assert_ran(
+            &rt,
+            &run_on(rt.alloc(), "uper integer", input)?,
+            0,
+            output,
+            "",
+        );
+    }
+    for input in [b"".as_slice(), b"\n", b"\r\n", b"\r", b"\n0105\n"] {
+        assert_ran(
+            &rt,
+            &run_on(rt.alloc(), "uper integer", input)?,
+            1,
+            "",
+            "Incomplete\n",
+        );
+    }
+    Ok(())
+}
+
+#[test]
+fn refuses_other_text(rt: HostRuntime) -> Result<(), Fail> {
+    for input in [
+        b"02100\n".as_slice(),
+        b"0\n",
+        b"02100g\n",
+        b"02 10 00\n",
+        b" 021000\n",
+        b"021000 \n",
+        b"0x021000\n",
+        b"021000\r\r\n",
+        b"\r021000\n",
+        b"0210\xff\xfe\n",
+        b"0105\0\n",
+    ] {
+        let ran = run_on(rt.alloc(), "uper integer", input)?;
+        assert_ran(&rt, &ran, 2, "", "bad hexadecimal\n");
+    }
+    Ok(())
+}
+
+#[test]
+fn refuses_other_arguments(rt: HostRuntime) -> Result<(), Fail> {
+    for arguments in [
+        "",
+        "uper",
+        "integer",
+        "uper integer integer",
+        "integer uper",
+        "aper integer",
+        "UPER integer",
+        "uper Integer",
+        "uper real",
+        "uper integers",
+    ] {
+        assert_ran(
+            &rt,
+            &run_on(rt.alloc(), arguments, b"021000\n")?,
+            2,
+            "",
+            USAGE,
+        );
+    }
+    Ok(())
+}
+
+#[test]
+fn tells_wrong_arguments_before_it_reads(rt: HostRuntime) -> Result<(), Fail> {
+    let arguments = words(rt.alloc(), "uper")?;
+    let mut input = b"021000\n0105\n".as_slice();
+    let mut faults = Vec::new(rt.alloc());
+    let status = run(
+        rt.alloc(),
+        arguments.as_slice(),
+        &mut input,
+        &mut FullWriter,
+        &mut faults,
+    );
+    assert_eq!(rt; status, 2);
+    assert_eq!(rt; faults.as_slice(), USAGE.as_bytes());
+    assert_eq!(rt; input, b"021000\n0105\n".as_slice());
+    Ok(())
+}
+
+#[test]
+fn leaves_what_follows_the_line(rt: HostRuntime) -> Result<(), Fail> {
+    let arguments = words(rt.alloc(), "uper integer")?;
+    let mut input = b"021000\n0105\n".as_slice();
+    let mut output = Vec::new(rt.alloc());
+    let status = run(
+        rt.alloc(),
+        arguments.as_slice(),
+        &mut input,
+        &mut output,
+        &mut FullWriter,
+    );
+    assert_eq!(rt; status, 0);
+    assert_eq!(rt; output.as_slice(), b"021000\n".as_slice());
+    assert_eq!(rt; input, b"0105\n".as_slice());
+    Ok(())
+}
+
+#[test]
+fn tells_that_it_cannot_read(rt: HostRuntime) -> Result<(), Fail> {
+    let alloc = rt.alloc();
+    for (text, kind, status, told) in [
+        (
+            b"".as_slice(),
+            ErrorKind::BrokenPipe,
+            2,
+            "cannot read input\n",
+        ),
+        (b"021", ErrorKind::BrokenPipe, 2, "cannot read input\n"),
+        (b"0210", ErrorKind::OutOfMemory, 1, "OutOfMemory\n"),
+        // Nothing is read behind the line.
+        (b"021000\n", ErrorKind::BrokenPipe, 0, ""),
+    ] {
+        let arguments = words(alloc, "uper integer")?;
+        let mut input = BufReader::new(alloc, BrokenReader { text, kind })?;
+        let mut output = Vec::new(alloc);
+        let mut faults = Vec::new(alloc);
+        let answered = run(
+            alloc,
+            arguments.as_slice(),
+            &mut input,
+            &mut output,
+            &mut faults,
+        );
+        assert_eq!(rt; answered, status);
+        assert_eq!(rt; faults.as_slice(), told.as_bytes());
+        assert_eq!(rt; output.is_empty(), status != 0);
+    }
+    Ok(())
+}
+
+#[test]
+fn tells_that_it_cannot_write(rt: HostRuntime) -> Result<(), Fail> {
+    let alloc = rt.alloc();
+    for (room, kind, status, told) in [
+        (0, ErrorKind::BrokenPipe, 2, "cannot write output\n"),
+        (1, ErrorKind::StorageFull, 2, "cannot write output\n"),
+        (6, ErrorKind::WriteZero, 2, "cannot write output\n"),
+        (2, ErrorKind::OutOfMemory, 1, "OutOfMemory\n"),
+    ] {
+        let arguments = words(alloc, "uper integer")?;
+        let mut input = b"021000\n".as_slice();
+        let mut output = BrokenWriter { room, kind };
+        let mut faults = Vec::new(alloc);
+        let answered = run(
+            alloc,
+            arguments.as_slice(),
+            &mut input,
+            &mut output,
+            &mut faults,
+        );
+        assert_eq!(rt; answered, status);
+        assert_eq!(rt; faults.as_slice(), told.as_bytes());
+    }
+    Ok(())
+}
+
+#[test]
+fn tells_that_output_is_not_taken(rt: HostRuntime) -> Result<(), Fail> {
+    let alloc = rt.alloc();
+    let arguments = words(alloc, "uper integer")?;
+    let mut input = b"021000\n021000\n".as_slice();
+    let mut faults = Vec::new(alloc);
+    let status = run(
+        alloc,
+        arguments.as_slice(),
+        &mut input,
+        &mut FullWriter,
+        &mut faults,
+    );
+    assert_eq!(rt; status, 2);
+    let status = run(
+        alloc,
+        arguments.as_slice(),
+        &mut input,
+        &mut StuckWriter,
+        &mut faults,
+    );
+    assert_eq!(rt; status, 2);
+    let told = b"cannot write output\ncannot write output\n".as_slice();
+    assert_eq!(rt; faults.as_slice(), told);
+    Ok(())
+}
+
+#[test]
+fn keeps_its_status_where_faults_cannot_be_told(rt: HostRuntime) -> Result<(), Fail> {
+    let alloc = rt.alloc();
+    let kind = ErrorKind::BrokenPipe;
+    for (arguments, text, status) in [
+        ("uper", b"021000\n".as_slice(), 2),
+        ("uper integer", b"0210\n", 1),
+        ("uper integer", b"0\n", 2),
+        ("uper integer", b"021000\n", 2),
+    ] {
+        for room in [0, 1, 4] {
+            let arguments = words(alloc, arguments)?;
+            let mut input = text;
+            let mut output = BrokenWriter { room: 0, kind };
+            let mut faults = BrokenWriter { room, kind };
+            let answered = run(
+                alloc,
+                arguments.as_slice(),
+                &mut input,
+                &mut output,
+                &mut faults,
+            );
+            assert_eq!(rt; answered, status);
+        }
+    }
+    Ok(())
+}
