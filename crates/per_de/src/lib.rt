@@ -12,6 +12,7 @@ ghost use Rattle.per_de.specs.ScopeLaws.{scopes_well};
 
 mod bounded;
 pub mod error;
+mod items;
 mod length;
 mod natural;
 mod number;

@@ -10,7 +10,7 @@ ghost use Rattle.per_de.specs.Numbers.{TookNatural};
 ghost use Rattle.per_de.specs.Faults.{Faulty};
 
 use crate::error::DecodeErrorKind;
-use crate::length::take_octets;
+use crate::items::take_octets;
 use per_bits::BitReader;
 use rasn_types::types::Codec;
 use std::alloc::Global;

@@ -11,7 +11,8 @@ ghost use Rattle.per_de.specs.Numbers.{OfEach, IsFit, AreSome};
 ghost use Rattle.per_de.specs.Faults.{Faulty, Misfit};
 
 use crate::error::DecodeErrorKind;
-use crate::length::{take_bit, take_octets};
+use crate::items::take_octets;
+use crate::length::take_bit;
 use crate::whole::{ReadNumber, take_under_bounds};
 use per_bits::BitReader;
 use rasn_schema::constraints::{Bounded, Constraints, Extensible};

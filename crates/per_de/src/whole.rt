@@ -11,7 +11,7 @@ ghost use Rattle.per_de.specs.Faults.{Faulty};
 
 use crate::bounded::take_bounded;
 use crate::error::DecodeErrorKind;
-use crate::length::take_octets;
+use crate::items::take_octets;
 use crate::natural::take_natural;
 use per_bits::BitReader;
 use rasn_types::integer::whole_of_octets;

@@ -1,0 +1,151 @@
+//! Items that are counted: octets, bits and characters, each of as many bits (X.691 11.9, 16, 17, 30.5).
+
+ghost use Rattle.std.specs.Prelude.{◌≡◌, ℕ, ◌+◌, ◌*◌, ◌^◌, ◌<◌, ◌≤◌, [], ◌∷◌, List, length, OnOk, IfOk, IfErr};
+ghost use Rattle.rasn_types.specs.Bits.{Bits};
+ghost use Rattle.per_core.specs.Spellings.{Field};
+ghost use Rattle.per_core.specs.Basic.{Row, Octets, Unsized};
+ghost use Rattle.per_core.specs.Took.{Took};
+ghost use Rattle.per_de.specs.State.{settings};
+ghost use Rattle.per_de.specs.Items.{counted_of, bits_of, Adds, TookItems};
+ghost use Rattle.per_de.specs.Faults.{Stopped};
+ghost use Rattle.per_de.specs.declared.items.Item.TheVariants.{Octet};
+
+use crate::error::DecodeErrorKind;
+use crate::length::{Length, take_length, take_number};
+use per_bits::BitReader;
+use rasn_types::types::Codec;
+use std::alloc::{AllocError, Global};
+
+/// What is counted.
+#[derive(Clone, Copy)]
+pub enum Item {
+    /// Octets.
+    Octet,
+    /// Bits.
+    Bit,
+    /// Characters of so many bits each.
+    Character(u32),
+}
+
+impl Item {
+    /// How many bits an item has.
+    pub fn width(self) -> u128
+        ensures { result ≡ bits_of self }
+    {
+        match self {
+            Item::Octet => 8,
+            Item::Bit => 1,
+            Item::Character(width) => u128::from(width),
+        }
+    }
+}
+
+/// What gathers items as they are read.
+pub trait Collector {
+    ghost use Rattle.per_de.specs.declared.items.Item.{Item};
+
+    // The items that are held, by their codes.
+    ghost holds: { Self → List ℕ → Type 0 };
+
+    // What the items are.
+    ghost item: { Self → Item };
+
+    /// What the items are.
+    fn item(&self) -> Item
+        ensures item { result ≡ item self.now }
+        ensures few { bits_of result ≤ 16 };
+
+    /// Appends the item of a code.
+    fn push(&mut self, code: u128) -> Result<(), AllocError>
+        requires { code < 2 ^ bits_of (item self.old) }
+        ensures ok { OnOk result (Adds holds self.old (code ∷ []) self.new) }
+        ensures item { OnOk result (item self.new ≡ item self.old) };
+}
+
+impl Collector for Vec<u8> {
+    ghost holds = { λ octets codes. octets.items ≡ codes };
+
+    ghost item = { λ _. Octet };
+
+    fn item(&self) -> Item {
+        Item::Octet
+    }
+
+    fn push(&mut self, code: u128) -> Result<(), AllocError> {
+        Vec::push(self, code as u8)?;
+        Ok(())
+    }
+}
+
+/// Takes `count` items and appends them.
+pub fn take_row<C: Collector>(
+    bits: &mut BitReader<'_>,
+    count: usize,
+    items: &mut C,
+) -> Result<(), DecodeErrorKind>
+    ensures ok { OnOk result (TookItems C.holds (Row (Field (bits_of (C.item items.old)))) count items.old items.new bits.old bits.new) }
+    ensures item { OnOk result (C.item items.new ≡ C.item items.old) }
+    ensures err { IfErr result (Stopped (length bits.old < bits_of (C.item items.old) * count)) }
+{
+    let width = items.item().width();
+    let mut row = bits
+        .take(width * count as u128)
+        .map_err(DecodeErrorKind::Incomplete)?;
+    for _ in 0..count {
+        items.push(take_number(&mut row, width)?)?;
+    }
+    Ok(())
+}
+
+/// Takes `more` items, and answers how many there are with the `count` before them.
+fn take_more<C: Collector>(
+    bits: &mut BitReader<'_>,
+    count: usize,
+    more: u128,
+    items: &mut C,
+) -> Result<usize, DecodeErrorKind>
+    requires { more ≤ 65536 }
+    ensures ok { IfOk result (λ all. all ≡ count + more) }
+    ensures took { OnOk result (TookItems C.holds (Row (Field (bits_of (C.item items.old)))) more items.old items.new bits.old bits.new) }
+    ensures item { OnOk result (C.item items.new ≡ C.item items.old) }
+    ensures err { IfErr result (Stopped (count + more < 2 ^ 64 → length bits.old < bits_of (C.item items.old) * more)) }
+{
+    let all = count
+        .checked_add(more as usize)
+        .ok_or(DecodeErrorKind::ExceedsMaxLength)?;
+    take_row(bits, more as usize, items)?;
+    Ok(all)
+}
+
+/// Takes an unconstrained length and the items that it counts, in any row of fragments (X.691 11.9.3.5 to 11.9.3.8).
+/// Answers how many there were.
+pub fn take_unsized<C: Collector>(
+    bits: &mut BitReader<'_>,
+    codec: Codec,
+    items: &mut C,
+) -> Result<usize, DecodeErrorKind>
+    ensures ok { IfOk result (λ n. TookItems C.holds (Unsized (settings codec) (Field (bits_of (C.item items.old)))) n items.old items.new bits.old bits.new) }
+    ensures err { IfErr result (Stopped ((xs : List ℕ) (t : Bits) → length xs < 2 ^ 64 → Took (Unsized (settings codec) (Field (bits_of (C.item items.old))) xs) bits.old t → ⊥)) }
+{
+    let mut count = 0;
+    loop {
+        match take_length(bits, codec)? {
+            Length::Last(more) => return take_more(bits, count, more, items),
+            Length::Fragment(more) => count = take_more(bits, count, more, items)?,
+        }
+    }
+}
+
+/// Takes an unconstrained length and the octets that it counts, in any row of fragments.
+pub fn take_octets(
+    bits: &mut BitReader<'_>,
+    codec: Codec,
+    alloc: Global,
+) -> Result<Vec<u8>, DecodeErrorKind>
+    ensures ok { IfOk result (λ octets. Took (Octets (settings codec) octets.items) bits.old bits.new) }
+    ensures err { IfErr result (Stopped ((os : List ℕ) (t : Bits) → Took (Octets (settings codec) os) bits.old t → ⊥)) }
+{
+    let mut octets = Vec::new(alloc);
+    take_unsized(bits, codec, &mut octets)?;
+    Ok(octets)
+}
