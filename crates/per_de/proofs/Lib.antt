@@ -10,3 +10,6 @@ pub mod Within
 pub mod Fits
 pub mod Marks
 pub mod Calls
+pub mod Marked
+pub mod SizeForms
+pub mod Miscounts

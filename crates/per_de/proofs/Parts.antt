@@ -16,7 +16,7 @@ use Rattle.per_de.specs.declared.length.Length.TheVariants.{Last, Fragment}
 use Rattle.per_de.specs.declared.error.DecodeErrorKind.{DecodeErrorKind}
 use Rattle.per_de.specs.Items.{Adds, TookItems, Gathered}
 use Rattle.per_de.specs.Lengths.{CountOf, LengthOf}
-use Rattle.per_de.specs.Faults.{Stopped}
+use Rattle.per_de.specs.Kinds.{Stopped}
 use Rattle.per_de.proofs.Fields.{field_below}
 use Rattle.per_de.proofs.Counts.{Begins, short, long, fragment, count_begins, one_count, unpadded}
 use Rattle.per_de.proofs.Rows.{row_wide, adds_none, adds_more}
@@ -201,6 +201,10 @@ stopped k f (inl e) = inl e
 stopped k f (inr h) = inr (h.0, f h.1)
 
 -- two facts about a result
+pub if_both : {A E : Type 0} {P Q R : A → Type 0} (r : Result A E) → ((x : A) → P x → Q x → R x) → IfOk r P → IfOk r Q → IfOk r R
+if_both (Ok x) f p q = f x p q
+if_both (Err e) f p q = tt
+
 pub both_ok : {A E B : Type 0} {P Q : A → Type 0} (r : Result A E) → ((x : A) → P x → B → Q x) → IfOk r P → OnOk r B → IfOk r Q
 both_ok (Ok x) f p b = f x p b
 both_ok (Err e) f p b = tt

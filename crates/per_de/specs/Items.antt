@@ -1,8 +1,10 @@
 -- Counted items of as many bits each: octets, bits and characters (X.691 11.9, 16, 17, 30.5). An item's code is the number that its bits mean.
-use Rattle.std.specs.Prelude.{◌≡◌, ℕ, List, ◌++◌, length}
+use Rattle.std.specs.Prelude.{◌≡◌, ℕ, Bool, List, ◌++◌, length}
 use Rattle.rasn_types.specs.Bits.{Bits}
+use Rattle.rasn_schema.specs.Schemas.{Size}
+use Rattle.per_core.specs.Basic.{Unsized, Sized, Lengthy}
 use Rattle.per_core.specs.Counts.{Counted, octet_items, bit_items, char_items}
-use Rattle.per_core.specs.Spellings.{Spelling}
+use Rattle.per_core.specs.Spellings.{Settings, Spelling, Field}
 use Rattle.per_core.specs.Took.{Took}
 use Rattle.per_de.specs.declared.items.Item.{Item}
 use Rattle.per_de.specs.declared.items.Item.TheVariants.{Octet, Bit, Character}
@@ -18,6 +20,22 @@ abbrev pub bits_of : Item → ℕ
 bits_of Octet = 8
 bits_of Bit = 1
 bits_of (Character w) = w
+
+-- an item, by its code
+abbrev pub coded : Item → ℕ → Spelling
+coded i = Field (bits_of i)
+
+-- X.691 11.9.3.5 to 11.9.3.8: items behind an unconstrained length
+abbrev pub unsized_items : Settings → Item → List ℕ → Spelling
+unsized_items a i = Unsized a (coded i)
+
+-- items whose count the size allows
+abbrev pub sized_items : Settings → Size → Item → List ℕ → Spelling
+sized_items a size i = Sized a size (counted_of i) (coded i)
+
+-- X.691 16, 17, 30.5: items under a size constraint
+abbrev pub lengthy_items : Settings → Size → Bool → Item → List ℕ → Spelling
+lengthy_items a size mark i = Lengthy a size mark (counted_of i) (coded i)
 
 -- items were appended: what was held before is held with these behind it
 pub record Adds {C : Type 0} (holds : C → List ℕ → Type 0) (before : C) (codes : List ℕ) (after : C) : Type 0 where

@@ -2,12 +2,12 @@
 
 ghost use Rattle.std.specs.Prelude.{◌≡◌, ℕ, ◌+◌, ◌*◌, ◌^◌, ◌<◌, ◌≤◌, [], ◌∷◌, List, length, OnOk, IfOk, IfErr};
 ghost use Rattle.rasn_types.specs.Bits.{Bits};
-ghost use Rattle.per_core.specs.Spellings.{Field};
-ghost use Rattle.per_core.specs.Basic.{Row, Octets, Unsized};
+ghost use Rattle.per_core.specs.Counts.{is_aligned};
+ghost use Rattle.per_core.specs.Basic.{Row, Octets};
 ghost use Rattle.per_core.specs.Took.{Took};
 ghost use Rattle.per_de.specs.State.{settings};
-ghost use Rattle.per_de.specs.Items.{counted_of, bits_of, Adds, TookItems};
-ghost use Rattle.per_de.specs.Faults.{Stopped};
+ghost use Rattle.per_de.specs.Items.{counted_of, bits_of, coded, unsized_items, Adds, TookItems};
+ghost use Rattle.per_de.specs.Kinds.{Stopped, NoneIn};
 ghost use Rattle.per_de.specs.declared.items.Item.TheVariants.{Octet};
 
 use crate::error::DecodeErrorKind;
@@ -36,6 +36,22 @@ impl Item {
             Item::Octet => 8,
             Item::Bit => 1,
             Item::Character(width) => u128::from(width),
+        }
+    }
+
+    /// Whether items begin on an octet in ALIGNED, behind a count above 0 from `least` to `most` (X.691 16.9 to 16.11,
+    /// 17.6 to 17.8, 30.5.6, 30.5.7).
+    pub fn is_aligned(self, least: usize, most: usize) -> bool
+        ensures { result ≡ is_aligned (counted_of self) least most }
+    {
+        let is_fixed = least == most;
+        match self {
+            Item::Octet => !(is_fixed && most <= 2),
+            Item::Bit => !(is_fixed && most <= 16),
+            Item::Character(width) => {
+                let bits = most as u128 * u128::from(width);
+                if is_fixed { 16 < bits } else { 16 <= bits }
+            }
         }
     }
 }
@@ -83,7 +99,7 @@ pub fn take_row<C: Collector>(
     count: usize,
     items: &mut C,
 ) -> Result<(), DecodeErrorKind>
-    ensures ok { OnOk result (TookItems C.holds (Row (Field (bits_of (C.item items.old)))) count items.old items.new bits.old bits.new) }
+    ensures ok { OnOk result (TookItems C.holds (Row (coded (C.item items.old))) count items.old items.new bits.old bits.new) }
     ensures item { OnOk result (C.item items.new ≡ C.item items.old) }
     ensures err { IfErr result (Stopped (length bits.old < bits_of (C.item items.old) * count)) }
 {
@@ -106,7 +122,7 @@ fn take_more<C: Collector>(
 ) -> Result<usize, DecodeErrorKind>
     requires { more ≤ 65536 }
     ensures ok { IfOk result (λ all. all ≡ count + more) }
-    ensures took { OnOk result (TookItems C.holds (Row (Field (bits_of (C.item items.old)))) more items.old items.new bits.old bits.new) }
+    ensures took { OnOk result (TookItems C.holds (Row (coded (C.item items.old))) more items.old items.new bits.old bits.new) }
     ensures item { OnOk result (C.item items.new ≡ C.item items.old) }
     ensures err { IfErr result (Stopped (count + more < 2 ^ 64 → length bits.old < bits_of (C.item items.old) * more)) }
 {
@@ -124,8 +140,9 @@ pub fn take_unsized<C: Collector>(
     codec: Codec,
     items: &mut C,
 ) -> Result<usize, DecodeErrorKind>
-    ensures ok { IfOk result (λ n. TookItems C.holds (Unsized (settings codec) (Field (bits_of (C.item items.old)))) n items.old items.new bits.old bits.new) }
-    ensures err { IfErr result (Stopped ((xs : List ℕ) (t : Bits) → length xs < 2 ^ 64 → Took (Unsized (settings codec) (Field (bits_of (C.item items.old))) xs) bits.old t → ⊥)) }
+    ensures ok { IfOk result (λ n. TookItems C.holds (unsized_items (settings codec) (C.item items.old)) n items.old items.new bits.old bits.new) }
+    ensures few { IfOk result (λ n. n < 2 ^ 64) }
+    ensures err { IfErr result (Stopped ((xs : List ℕ) (t : Bits) → length xs < 2 ^ 64 → Took (unsized_items (settings codec) (C.item items.old) xs) bits.old t → ⊥)) }
 {
     let mut count = 0;
     loop {
@@ -143,7 +160,7 @@ pub fn take_octets(
     alloc: Global,
 ) -> Result<Vec<u8>, DecodeErrorKind>
     ensures ok { IfOk result (λ octets. Took (Octets (settings codec) octets.items) bits.old bits.new) }
-    ensures err { IfErr result (Stopped ((os : List ℕ) (t : Bits) → Took (Octets (settings codec) os) bits.old t → ⊥)) }
+    ensures err { IfErr result (Stopped (NoneIn (Octets (settings codec)) bits.old)) }
 {
     let mut octets = Vec::new(alloc);
     take_unsized(bits, codec, &mut octets)?;

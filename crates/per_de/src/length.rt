@@ -6,7 +6,7 @@ ghost use Rattle.per_core.specs.Spellings.{AnyPadding, Field};
 ghost use Rattle.per_core.specs.Took.{Took};
 ghost use Rattle.per_de.specs.State.{settings};
 ghost use Rattle.per_de.specs.Lengths.{LengthOf, CountOf};
-ghost use Rattle.per_de.specs.Faults.{Refused};
+ghost use Rattle.per_de.specs.Kinds.{Refused};
 ghost use Rattle.per_de.specs.declared.length.Length.{Length};
 
 use crate::error::{DecodeErrorKind, ParserFailCause};

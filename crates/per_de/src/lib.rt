@@ -16,6 +16,7 @@ mod items;
 mod length;
 mod natural;
 mod number;
+mod sizes;
 mod whole;
 
 pub use crate::error::{DecodeError, DecodeErrorKind, ParserFailCause};
@@ -174,6 +175,8 @@ impl<'input> codec::Decoder for Decoder<'input> {
     ghost closes = { Closes };
 
     ghost fault = { Fault };
+
+    ghost unended = { λ _ _ _. ⊥ };
 
     ghost memory = { λ e s. e ≡ refusal OutOfMemory s };
 

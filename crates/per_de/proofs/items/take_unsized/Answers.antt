@@ -45,10 +45,9 @@ loop-more-smaller g c =
 
 pub loop-more-preserved : goal.loop-more-preserved
 loop-more-preserved g c =
-    let h = c.loop-more.invariant in
-    (
+    let h = c.loop-more.invariant in (
       rw c.in_ok-count-in-Fragment.ensures.ok (items_go_on h.0 (rw c.in-Fragment.is at c.in_ok-more.ensures.ok)
-      (subst (λ z. TookItems g.C.Collector.holds (Row (Field (bits_of z))) c.in-Fragment.more c.loop-more.items c.take_more-in-Fragment.new.items c.take_length.new.bits c.take_more-in-Fragment.new.bits) h.1
-      c.in_ok-count-in-Fragment.ensures.took)),
+          (subst (λ z. TookItems g.C.Collector.holds (Row (Field (bits_of z))) c.in-Fragment.more c.loop-more.items c.take_more-in-Fragment.new.items c.take_length.new.bits c.take_more-in-Fragment.new.bits) h.1
+          c.in_ok-count-in-Fragment.ensures.took)),
       c.in_ok-count-in-Fragment.ensures.item ∙ h.1,
     )
