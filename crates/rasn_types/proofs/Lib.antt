@@ -2,3 +2,4 @@ pub mod Bits
 pub mod Integers
 pub mod Octets
 pub mod Reading
+pub mod Rows
