@@ -14,14 +14,6 @@ pub struct Interval {
 }
 
 impl Interval {
-    /// The characters from `first` to `last`.
-    pub const fn new(first: u32, last: u32) -> Interval
-        ensures first { result.first ≡ first }
-        ensures last { result.last ≡ last }
-    {
-        Interval { first, last }
-    }
-
     /// Whether a character is within the interval.
     pub fn contains(self, character: u32) -> bool
         ensures { result ≡ (leb self.first character && leb character self.last) }
