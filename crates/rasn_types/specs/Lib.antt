@@ -3,6 +3,7 @@ pub mod Bits
 pub mod Codecs
 pub mod Contents
 pub mod Integers
+pub mod Intervals
 pub mod Octets
 pub mod Values
 pub mod Variants

@@ -2,5 +2,7 @@
 #![tactic(auto)]
 
 pub mod integer;
+pub mod intervals;
+pub mod strings;
 pub mod types;
 pub mod width;
