@@ -1,6 +1,8 @@
-//! Codecs, tags and identifiers.
+//! Codecs, tags, identifiers and values.
 
 ghost use Rattle.std.specs.Prelude.{◌≡◌};
+
+pub use crate::big::Integer;
 
 /// A variant of the packed encoding rules (X.691 7).
 #[derive(Clone, Copy, Debug, PartialEq, Eq)]
