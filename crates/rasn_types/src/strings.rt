@@ -461,6 +461,7 @@ impl BmpString {
     pub fn from_units(characters: Vec<u16>) -> Self
         ensures { result ≡ characters.items }
     {
+        all_are_own(&characters);
         BmpString { characters }
     }
 
@@ -540,6 +541,11 @@ fn character_at(octets: &[u8], index: usize) -> Option<u32>
 {
     octets.get(index).map(|octet| u32::from(*octet))
 }
+
+/// States that any 16 bits are a character of BMPString.
+fn all_are_own(units: &[u16])
+    ensures { has_all bmp units.now ≡ true }
+{}
 
 /// The 16 bits at an index, as a character; `None` from the count on.
 fn unit_at(units: &[u16], index: usize) -> Option<u32>
