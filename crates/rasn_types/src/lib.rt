@@ -2,8 +2,10 @@
 #![tactic(auto)]
 
 pub mod big;
+pub mod bit_string;
 pub mod integer;
 pub mod intervals;
+pub mod octet_strings;
 pub mod strings;
 pub mod types;
 pub mod width;
