@@ -1,6 +1,9 @@
+pub mod Ascending
 pub mod Bits
 pub mod Integers
+pub mod Least
 pub mod Octets
 pub mod Own
 pub mod Reading
 pub mod Rows
+pub mod Walking

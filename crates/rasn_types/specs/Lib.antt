@@ -5,5 +5,7 @@ pub mod Contents
 pub mod Integers
 pub mod Intervals
 pub mod Octets
+pub mod Prepared
 pub mod Values
 pub mod Variants
+pub mod Walks

@@ -1,8 +1,10 @@
 //! ASN.1's basic types, as far as the packed encoding rules call them.
 #![tactic(auto)]
 
+pub mod alphabet;
 pub mod integer;
 pub mod intervals;
+mod permitted;
 pub mod strings;
 pub mod types;
 pub mod width;
