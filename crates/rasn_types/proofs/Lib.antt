@@ -1,5 +1,6 @@
 pub mod Ascending
 pub mod Bits
+pub mod Codes
 pub mod Integers
 pub mod Least
 pub mod Octets

@@ -130,12 +130,13 @@ fn width_of_characters(count: u32, aligned: bool) -> u32
     ensures width { (alphabet : List ℕ) → length alphabet ≡ count → result ≡ char_width (variant_when aligned) alphabet }
     ensures few { result ≤ 16 }
 {
+    let width = width_of(u128::from(count));
     if !aligned {
-        width_of(u128::from(count))
+        width
     } else if count <= 1 {
         0
     } else {
-        1 << width_of(u128::from(width_of(u128::from(count))))
+        1 << width_of(u128::from(width))
     }
 }
 
