@@ -1,7 +1,7 @@
 -- The numbers that permitted characters are written as.
-use Rattle.std.proofs.Common.{◌≡◌, refl, sym, ap, ap₂, ◌∙◌, subst, ℕ, zero, suc, ◌+◌, ◌*◌, ◌%◌, ◌^◌, ◌<◌, ◌≤◌, ◌⊎◌, max, Bool, true, false, cond, ◌&&◌, ◌||◌, leb, ltb, eqb, nat_eq, List, [], ◌∷◌, length, Option, Some, None, slice_get, IfSome, arith, pow_mono, le_trans, mod-eq_of_lt, inl, inr}
+use Rattle.std.proofs.Common.{◌≡◌, refl, sym, ap, ap₂, ◌∙◌, subst, ℕ, zero, suc, ◌+◌, ◌*◌, ◌%◌, ◌^◌, ◌<◌, ◌≤◌, ◌⊎◌, max, Bool, true, false, cond, ◌&&◌, ◌||◌, leb, ltb, eqb, nat_eq, List, [], ◌∷◌, length, Option, Some, None, slice_get, IsSome, IfSome, ◌↔◌, arith, pow_mono, le_trans, mod-eq_of_lt, inl, inr}
 use Rattle.std.specs.List.{list_any}
-use Rattle.std.proofs.lemmas.Bool.{cases_Bool, cases_lt, leb-true, ltb-true, le-ltb, lt-leb, eqb-true, eqb-false, eq-eqb, ne_eqb, cond-true, cond-false, or_cases, or_left, or_right, or_from, and_from, both_ways}
+use Rattle.std.proofs.lemmas.Bool.{cases_Bool, cases_lt, leb-true, ltb-true, le-ltb, lt-leb, eqb-true, eqb-false, eq-eqb, ne_eqb, cond-true, cond-false, or_cases, or_left, or_right, or_from, and_from, and_parts, both_ways}
 use Rattle.rasn_types.specs.Alphabets.{Alphabet, char_width, char_code, keep_own, has, index_of, more, greatest, restricted, restricted_to}
 use Rattle.rasn_types.specs.Bits.{width}
 use Rattle.rasn_types.specs.Intervals.{expand, ascend_from}
@@ -168,3 +168,29 @@ permitted_own own o is_aligned a e c h = ap (λ (b : Alphabet). has b.characters
     go : (p : Option (List ℕ)) → has (restricted_to (expand own) p) c ≡ false
     go None = h
     go (Some some) = has-restricted (expand own) some c ∙ ap (λ (b : Bool). b && has some c) h
+
+pub restricted_own : (own : List ℕ) (o : Option (List ℕ)) (c : ℕ) → has (restricted_to own o) c ≡ true → has own c ≡ true
+restricted_own own None c h = h
+restricted_own own (Some some) c h = (and_parts (has own c) (has some c) (sym (has-restricted own some c) ∙ h)).0
+
+-- a character is permitted exactly where it has a code
+pub code_some : (a : Alphabet) (c : ℕ) → IsSome (char_code a.variant a.characters c) ↔ (has a.characters c ≡ true)
+unfolding char_code
+code_some a c = go (cases_Bool (has a.characters c))
+  where
+    kept : (b : Bool) (i : ℕ) (o : Option ℕ) → o ≡ Some i → IsSome (keep_own b c o)
+    kept b i o e = subst (λ p. IsSome (keep_own b c p)) (sym e) refl
+
+    left : (b : Bool) (o : Option ℕ) → o ≡ None → IsSome (keep_own b c o) → ⊥
+    left b o e h = let k : IsSome (keep_own b c None) = subst (λ p. IsSome (keep_own b c p)) e h in cc
+
+    go : (has a.characters c ≡ true) ⊎ (has a.characters c ≡ false) → IsSome (keep_own (ltb (greatest a.characters) (2 ^ char_width a.variant a.characters)) c (index_of c a.characters)) ↔ (has a.characters c ≡ true)
+    go (inl h) = (λ _. h, λ _. let q = index_of_has a.characters c h in kept _ q.0 _ q.1)
+    go (inr h) = (λ k. absurd (left _ _ (index_of_none c a.characters h) k), λ k. absurd (both_ways (has a.characters c) h k))
+
+pub place_permitted : (a : Alphabet) (own_values : Bool) → Ready a own_values → own_values ≡ false → (k : ℕ) → IfSome (slice_get a.characters k) (λ c. has a.characters c ≡ true)
+place_permitted a own_values r f k = go (slice_get a.characters k) refl
+  where
+    go : (o : Option ℕ) → slice_get a.characters k ≡ o → IfSome o (λ c. has a.characters c ≡ true)
+    go None e = tt
+    go (Some c) e = (index_below a.characters c k (index_at 0 a.characters k c r.up e).0).3

@@ -1,6 +1,6 @@
 //! The permitted alphabet of a character string, and the numbers that its characters are written as (X.691 30.4, 30.5).
 
-ghost use Rattle.std.specs.Prelude.{◌≡◌, ℕ, List, ◌^◌, ◌<◌, ◌≤◌, Some, length, slice_get, IfSome};
+ghost use Rattle.std.specs.Prelude.{◌≡◌, ℕ, List, ◌^◌, ◌<◌, ◌≤◌, true, Some, length, slice_get, IsSome, IfSome, ◌↔◌};
 ghost use Rattle.rasn_types.specs.Alphabets.{Alphabet, char_width, char_code, has, index_of, restricted_to};
 ghost use Rattle.rasn_types.specs.Prepared.{listed};
 ghost use Rattle.rasn_types.specs.Variants.{variant_when};
@@ -39,6 +39,7 @@ impl CharacterAlphabet {
     pub fn new<S: StaticPermittedAlphabet>(permitted: Option<&'static [u32]>, aligned: bool) -> Self
         ensures variant { result.variant ≡ variant_when aligned }
         ensures characters { result.characters ≡ restricted_to S.alphabet (listed permitted.entry) }
+        ensures own { (character : ℕ) → has result.characters character ≡ true → has S.alphabet character ≡ true }
     {
         let own = S::intervals();
         let (count, greatest) = match permitted {
@@ -67,6 +68,7 @@ impl CharacterAlphabet {
     /// bits of one, else its place in ascending order. `None` where it isn't permitted.
     pub fn encode(&self, character: u32) -> Option<u32>
         ensures code { result ≡ char_code self.now.variant self.now.characters character }
+        ensures permitted { IsSome result ↔ (has self.now.characters character ≡ true) }
         ensures fits { IfSome result (λ code. code < 2 ^ char_width self.now.variant self.now.characters) }
     {
         if !self.own_values {
@@ -81,6 +83,7 @@ impl CharacterAlphabet {
     /// The character that is written as a number; `None` where there is none.
     pub fn decode(&self, code: u32) -> Option<u32>
         ensures some { IfSome result (λ character. char_code self.now.variant self.now.characters character ≡ Some code) }
+        ensures permitted { IfSome result (λ character. has self.now.characters character ≡ true) }
         ensures every { (character : ℕ) → char_code self.now.variant self.now.characters character ≡ Some code → result ≡ Some character }
     {
         if !self.own_values {

@@ -13,7 +13,7 @@ loop-character-preserved c =
     let P : Option ℕ → Type 0 = λ o. Least (expand c.args.own.now) c.args.at (seen ++ x ∷ []) o in
     rw (take_more c.args.permitted.now c.loop-character.character-index 0 c.loop-character-test.true) (elim c.if-at-character.branch [
       | then-at-character+then-contains w ↦ subst P (sym w.next-is)
-        (least_takes (expand c.args.own.now) c.args.at seen c.loop-character.next x w.lesser.result c.loop-character.invariant (sym w.contains.ensures ∙ w.if-contains.true) w.if-at-character.true w.lesser.ensures)
+          (least_takes (expand c.args.own.now) c.args.at seen c.loop-character.next x w.lesser.result c.loop-character.invariant (sym w.contains.ensures ∙ w.if-contains.true) w.if-at-character.true w.lesser.ensures)
       | else-at-character w ↦ subst P (sym w.next-is) (least_keeps (expand c.args.own.now) c.args.at seen c.loop-character.next x c.loop-character.invariant (λ h l. elim w.else-at-character.branch [
         | else-at-character-via-then-at-character+else-contains w' ↦ both_ways w'.contains.result w'.if-contains.false (w'.contains.ensures ∙ h)
         | else-at-character-via-else-at-character w' ↦ let i = w'.if-at-character.false in omega arith
