@@ -2,4 +2,5 @@ pub mod Bits
 pub mod Fewest
 pub mod Integers
 pub mod Octets
+pub mod Packing
 pub mod Reading

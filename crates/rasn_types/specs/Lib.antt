@@ -5,5 +5,6 @@ pub mod Contents
 pub mod Forms
 pub mod Integers
 pub mod Octets
+pub mod Packed
 pub mod Values
 pub mod Variants

@@ -2,6 +2,7 @@
 #![tactic(auto)]
 
 pub mod big;
+pub mod bit_string;
 pub mod integer;
 pub mod types;
 pub mod width;
