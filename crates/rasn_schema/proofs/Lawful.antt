@@ -3,7 +3,8 @@ use Rattle.std.proofs.Common.{refl, ℕ, ◌-◌, ◌^◌, true, false, Some, po
 use Rattle.rasn_types.specs.Values.{Value, whole, fields, no_slots, absent, there}
 use Rattle.rasn_schema.specs.Depth.{meets_cut, Unfolds, alike}
 use Rattle.rasn_schema.specs.Lawful.{IsLawful, IsLawfulType}
-use Rattle.rasn_schema.specs.Schemas.{between, unbounded, TagTree, leaf, one_of, tree, no_trees, required, optional, group, default, listed, by_tag, Schema, Parts, no_parts, part}
+use Rattle.rasn_constraints.specs.Bounds.{between, unbounded}
+use Rattle.rasn_schema.specs.Schemas.{TagTree, leaf, one_of, tree, no_trees, required, optional, group, default, listed, by_tag, Schema, Parts, no_parts, part}
 
 -- BOOLEAN, NULL, INTEGER
 boolean_is_lawful : IsLawful Schema.boolean

@@ -2,10 +2,10 @@
 #![tactic(auto)]
 
 pub mod codec;
-pub mod constraints;
 pub mod fields;
 pub mod integers;
-pub mod limits;
 pub mod plain;
 pub mod record;
 pub mod schema;
+
+pub use rasn_constraints::{constraints, limits};
