@@ -7,6 +7,7 @@ pub mod bit_string;
 pub mod integer;
 pub mod intervals;
 pub mod octet_strings;
+mod permitted;
 pub mod strings;
 pub mod types;
 pub mod width;
