@@ -4,3 +4,4 @@ pub mod Integers
 pub mod Octets
 pub mod Packing
 pub mod Reading
+pub mod Texts
