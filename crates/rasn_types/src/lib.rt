@@ -4,5 +4,6 @@
 pub mod big;
 pub mod bit_string;
 pub mod integer;
+pub mod octet_strings;
 pub mod types;
 pub mod width;
