@@ -2,8 +2,7 @@
 use Rattle.std.proofs.Common.{◌≡◌, ◌∙◌, ◌<◌, ◌⊎◌, inl, inr, ℕ, ◌^◌, ◌&&◌, ltb, Bool, true, false, List, [], ◌∷◌, length, refl, sym, ap, subst, arith, Option, Some, None}
 use Rattle.std.proofs.lemmas.Bool.{lt-ltb, ltb-true}
 use Rattle.rasn_types.specs.Bits.{Bits}
-use Rattle.rasn_schema.specs.Bounds.{allows, at_least, at_most}
-use Rattle.rasn_schema.specs.Schemas.{Size, any_size}
+use Rattle.rasn_constraints.specs.Bounds.{allows, at_least, at_most, Size, any_size}
 use Rattle.per_core.specs.Basic.{Unsized, Sized}
 use Rattle.per_core.specs.Counts.{Counted}
 use Rattle.per_core.specs.Spellings.{Settings, Spelling, never}

@@ -5,8 +5,7 @@ use Rattle.std.proofs.lemmas.Bool.{cases_lt, lt-ltb, ltb-true}
 use Rattle.rasn_types.specs.Bits.{Bits, width}
 use Rattle.rasn_types.specs.Variants.{Variant, aligned, unaligned}
 use Rattle.rasn_types.proofs.Bits.{width_least}
-use Rattle.rasn_schema.specs.Bounds.{allows, holds, at_least, at_most, not_below, not_above}
-use Rattle.rasn_schema.specs.Schemas.{Size, any_size}
+use Rattle.rasn_constraints.specs.Bounds.{allows, holds, at_least, at_most, not_below, not_above, Size, any_size}
 use Rattle.per_core.specs.Basic.{Row, Unsized, PaddingIf, Sized, InOctets, IsBounded, length_form, bounded_by, bounded_form}
 use Rattle.per_core.specs.Counts.{Counted, is_aligned}
 use Rattle.per_core.specs.Spellings.{Settings, Spelling, Then, When, AnyPadding, Field}

@@ -1,7 +1,7 @@
 -- Counted items of as many bits each: octets, bits and characters (X.691 11.9, 16, 17, 30.5). An item's code is the number that its bits mean.
 use Rattle.std.specs.Prelude.{◌≡◌, ℕ, Bool, List, ◌++◌, length}
 use Rattle.rasn_types.specs.Bits.{Bits}
-use Rattle.rasn_schema.specs.Schemas.{Size}
+use Rattle.rasn_constraints.specs.Bounds.{Size}
 use Rattle.per_core.specs.Basic.{Unsized, Sized, Lengthy}
 use Rattle.per_core.specs.Counts.{Counted, octet_items, bit_items, char_items}
 use Rattle.per_core.specs.Spellings.{Settings, Spelling, Field}

@@ -2,8 +2,7 @@
 use lib.Signed.{le_z}
 use Rattle.std.specs.Prelude.{◌≡◌, ℕ, ◌+◌, ◌^◌, ◌≤◌, Bool, true, false, cond, [], Option, Some, None, ℤ, pos, negsuc}
 use Rattle.rasn_types.specs.Bits.{Bits}
-use Rattle.rasn_schema.specs.Bounds.{above, holds, fits_i128}
-use Rattle.rasn_schema.specs.Schemas.{Bounds, unbounded}
+use Rattle.rasn_constraints.specs.Bounds.{above, holds, fits_i128, Bounds, unbounded}
 use Rattle.per_core.specs.Spellings.{Settings, Spelling, When, never}
 use Rattle.per_core.specs.Basic.{InNatural, InWhole, Octets, Marked, bounded_form}
 use Rattle.per_core.specs.Took.{Took}

@@ -2,8 +2,8 @@
 
 ghost use Rattle.std.specs.Prelude.{◌≡◌, ℕ, ◌^◌, ◌<◌, ◌≤◌, ◌&&◌, ltb, true, false, List, length, OnOk, OnErr, IfOk, IfErr};
 ghost use Rattle.rasn_types.specs.Bits.{Bits};
-ghost use Rattle.rasn_schema.specs.Bounds.{allows};
-ghost use Rattle.rasn_schema.specs.Constraints.{start_of, end_of, size_between, size_in, is_marked};
+ghost use Rattle.rasn_constraints.specs.Bounds.{allows};
+ghost use Rattle.rasn_constraints.specs.Constraints.{start_of, end_of, size_between, size_in, is_marked};
 ghost use Rattle.per_core.specs.Basic.{PaddingIf};
 ghost use Rattle.per_core.specs.Counts.{is_aligned};
 ghost use Rattle.per_core.specs.Took.{Took};

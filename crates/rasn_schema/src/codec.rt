@@ -1,11 +1,15 @@
 //! The traits of values that can be encoded and decoded, and of encoders and decoders.
 
-ghost use Rattle.std.specs.Prelude.{◌≡◌, ℕ, suc, true, false, Bool, OnErr, IsErrAnd, List, [], Option};
+ghost use Rattle.std.specs.Prelude.{◌≡◌, ℕ, suc, true, false, Bool, OnErr, IfOk, IsErrAnd, List, [], Option};
+ghost use Rattle.std.specs.Cow.{cow_slice_items, IsOwnedSlice};
 ghost use Rattle.std.specs.Fn.{FnOnceReturnsAtMut};
-ghost use Rattle.rasn_types.specs.Values.{Value, truth, nothing, whole};
+ghost use Rattle.std.specs.String.{string_bytes};
+ghost use Rattle.rasn_types.specs.Alphabets.{visible, ia5, printable, numeric, bmp};
+ghost use Rattle.rasn_types.specs.Contents.{utf8, other};
+ghost use Rattle.rasn_types.specs.Values.{Value, truth, nothing, whole, octets, bits, characters};
 ghost use Rattle.rasn_schema.specs.Schemas.{Schema, listed};
 ghost use Rattle.rasn_schema.specs.Normal.{normal};
-ghost use Rattle.rasn_schema.specs.Forms.{number_schema};
+ghost use Rattle.rasn_schema.specs.Forms.{number_schema, octet_schema, bit_schema, character_schema};
 ghost use Rattle.rasn_schema.specs.Calls.{AtDepths, Writes, Reads, takes_none, PresentsWell, ReadsWell};
 ghost use Rattle.rasn_schema.specs.Records.{record_at, no_additions, record_value};
 ghost use Rattle.rasn_schema.specs.Scopes.{OpensToWrite, ClosesWritten, WritesScope, OpensToRead, ClosesRead, ReadsScope, ScopesWell, KeepsCodec};
@@ -13,7 +17,14 @@ ghost use Rattle.rasn_schema.specs.Scopes.{OpensToWrite, ClosesWritten, WritesSc
 use crate::fields::Constructed;
 use crate::record::{DecodeParts, EncodeParts};
 use crate::schema::{AsnType, Constraints, IntegerType};
+use rasn_types::bit_string::BitString;
+use rasn_types::octet_strings::{Any, GeneralString, GraphicString, TeletexString, Utf8String};
+use rasn_types::strings::{
+    BmpString, Ia5String, NumericString, PrintableString, StaticPermittedAlphabet, VisibleString,
+};
 use rasn_types::types::{Codec, Identifier, Tag};
+use std::alloc::Global;
+use std::borrow::CowSlice;
 
 /// What writes values, one after another. Each call presents one value of one schema, or refuses it.
 ///
@@ -81,6 +92,110 @@ pub trait Encoder: Sized {
         ensures fails { OnErr result (failed self.new ≡ true) }
         ensures kept { codec self.new ≡ codec self.old };
 
+    /// Writes the octets of a value whose type isn't known, behind an unconstrained length in octets (X.691 11.2).
+    fn encode_any(
+        &mut self,
+        tag: Tag,
+        value: &Any,
+        identifier: Identifier,
+    ) -> Result<(), Self::Error>
+        ensures law { Writes memory presents refuses Schema.any (octets value.now) self.old result self.new }
+        ensures again { failed self.old ≡ true → IsErrAnd result (λ e. already e self.old) }
+        ensures fails { OnErr result (failed self.new ≡ true) }
+        ensures kept { codec self.new ≡ codec self.old };
+
+    /// Writes an OCTET STRING under constraints, of which the size counts octets (X.691 17).
+    fn encode_octet_string(
+        &mut self,
+        tag: Tag,
+        constraints: &Constraints,
+        value: &[u8],
+        identifier: Identifier,
+    ) -> Result<(), Self::Error>
+        ensures law { Writes memory presents refuses (octet_schema constraints.now) (octets value.now) self.old result self.new }
+        ensures again { failed self.old ≡ true → IsErrAnd result (λ e. already e self.old) }
+        ensures fails { OnErr result (failed self.new ≡ true) }
+        ensures kept { codec self.new ≡ codec self.old };
+
+    /// Writes a BIT STRING under constraints, of which the size counts bits (X.691 16).
+    fn encode_bit_string(
+        &mut self,
+        tag: Tag,
+        constraints: &Constraints,
+        value: &BitString,
+        identifier: Identifier,
+    ) -> Result<(), Self::Error>
+        ensures law { Writes memory presents refuses (bit_schema constraints.now) (bits value.now) self.old result self.new }
+        ensures again { failed self.old ≡ true → IsErrAnd result (λ e. already e self.old) }
+        ensures fails { OnErr result (failed self.new ≡ true) }
+        ensures kept { codec self.new ≡ codec self.old };
+
+    /// Writes a string of a known-multiplier type under constraints: of each character its code among those that the
+    /// type and its permitted alphabet leave (X.691 30.5). The size counts characters.
+    fn encode_known_multiplier_string<S: StaticPermittedAlphabet>(
+        &mut self,
+        tag: Tag,
+        constraints: &Constraints,
+        value: &S,
+        identifier: Identifier,
+    ) -> Result<(), Self::Error>
+        ensures law { Writes memory presents refuses (character_schema S.alphabet constraints.now) (characters (S.characters value.now)) self.old result self.new }
+        ensures again { failed self.old ≡ true → IsErrAnd result (λ e. already e self.old) }
+        ensures fails { OnErr result (failed self.new ≡ true) }
+        ensures kept { codec self.new ≡ codec self.old };
+
+    /// Writes a UTF8String: its octets behind an unconstrained length. No constraint is visible (X.691 30.6).
+    fn encode_utf8_string(
+        &mut self,
+        tag: Tag,
+        constraints: &Constraints,
+        value: &str,
+        identifier: Identifier,
+    ) -> Result<(), Self::Error>
+        ensures law { Writes memory presents refuses (Schema.text utf8) (octets value.now) self.old result self.new }
+        ensures again { failed self.old ≡ true → IsErrAnd result (λ e. already e self.old) }
+        ensures fails { OnErr result (failed self.new ≡ true) }
+        ensures kept { codec self.new ≡ codec self.old };
+
+    /// Writes a GeneralString: its octets behind an unconstrained length. No constraint is visible (X.691 30.6).
+    fn encode_general_string(
+        &mut self,
+        tag: Tag,
+        constraints: &Constraints,
+        value: &GeneralString,
+        identifier: Identifier,
+    ) -> Result<(), Self::Error>
+        ensures law { Writes memory presents refuses (Schema.text other) (octets value.now) self.old result self.new }
+        ensures again { failed self.old ≡ true → IsErrAnd result (λ e. already e self.old) }
+        ensures fails { OnErr result (failed self.new ≡ true) }
+        ensures kept { codec self.new ≡ codec self.old };
+
+    /// Writes a GraphicString: its octets behind an unconstrained length. No constraint is visible (X.691 30.6).
+    fn encode_graphic_string(
+        &mut self,
+        tag: Tag,
+        constraints: &Constraints,
+        value: &GraphicString,
+        identifier: Identifier,
+    ) -> Result<(), Self::Error>
+        ensures law { Writes memory presents refuses (Schema.text other) (octets value.now) self.old result self.new }
+        ensures again { failed self.old ≡ true → IsErrAnd result (λ e. already e self.old) }
+        ensures fails { OnErr result (failed self.new ≡ true) }
+        ensures kept { codec self.new ≡ codec self.old };
+
+    /// Writes a TeletexString: its octets behind an unconstrained length. No constraint is visible (X.691 30.6).
+    fn encode_teletex_string(
+        &mut self,
+        tag: Tag,
+        constraints: &Constraints,
+        value: &TeletexString,
+        identifier: Identifier,
+    ) -> Result<(), Self::Error>
+        ensures law { Writes memory presents refuses (Schema.text other) (octets value.now) self.old result self.new }
+        ensures again { failed self.old ≡ true → IsErrAnd result (λ e. already e self.old) }
+        ensures fails { OnErr result (failed self.new ≡ true) }
+        ensures kept { codec self.new ≡ codec self.old };
+
     /// Opens a SEQUENCE (X.691 19): the calls from here to `close_sequence` write its components, in the order of
     /// `FIELDS`.
     fn open_sequence<C: Constructed>(
@@ -104,6 +219,86 @@ pub trait Encoder: Sized {
     fn fail(&mut self)
         ensures fails { failed self.new ≡ true }
         ensures kept { codec self.new ≡ codec self.old };
+
+    /// Writes a VisibleString under constraints (X.691 30.5).
+    final fn encode_visible_string(
+        &mut self,
+        tag: Tag,
+        constraints: &Constraints,
+        value: &VisibleString,
+        identifier: Identifier,
+    ) -> Result<(), Self::Error>
+        ensures law { Writes memory presents refuses (character_schema visible constraints.now) (characters value.now) self.old result self.new }
+        ensures again { failed self.old ≡ true → IsErrAnd result (λ e. already e self.old) }
+        ensures fails { OnErr result (failed self.new ≡ true) }
+        ensures kept { codec self.new ≡ codec self.old }
+    {
+        self.encode_known_multiplier_string(tag, constraints, value, identifier)
+    }
+
+    /// Writes an IA5String under constraints (X.691 30.5).
+    final fn encode_ia5_string(
+        &mut self,
+        tag: Tag,
+        constraints: &Constraints,
+        value: &Ia5String,
+        identifier: Identifier,
+    ) -> Result<(), Self::Error>
+        ensures law { Writes memory presents refuses (character_schema ia5 constraints.now) (characters value.now) self.old result self.new }
+        ensures again { failed self.old ≡ true → IsErrAnd result (λ e. already e self.old) }
+        ensures fails { OnErr result (failed self.new ≡ true) }
+        ensures kept { codec self.new ≡ codec self.old }
+    {
+        self.encode_known_multiplier_string(tag, constraints, value, identifier)
+    }
+
+    /// Writes a PrintableString under constraints (X.691 30.5).
+    final fn encode_printable_string(
+        &mut self,
+        tag: Tag,
+        constraints: &Constraints,
+        value: &PrintableString,
+        identifier: Identifier,
+    ) -> Result<(), Self::Error>
+        ensures law { Writes memory presents refuses (character_schema printable constraints.now) (characters value.now) self.old result self.new }
+        ensures again { failed self.old ≡ true → IsErrAnd result (λ e. already e self.old) }
+        ensures fails { OnErr result (failed self.new ≡ true) }
+        ensures kept { codec self.new ≡ codec self.old }
+    {
+        self.encode_known_multiplier_string(tag, constraints, value, identifier)
+    }
+
+    /// Writes a NumericString under constraints (X.691 30.5).
+    final fn encode_numeric_string(
+        &mut self,
+        tag: Tag,
+        constraints: &Constraints,
+        value: &NumericString,
+        identifier: Identifier,
+    ) -> Result<(), Self::Error>
+        ensures law { Writes memory presents refuses (character_schema numeric constraints.now) (characters value.now) self.old result self.new }
+        ensures again { failed self.old ≡ true → IsErrAnd result (λ e. already e self.old) }
+        ensures fails { OnErr result (failed self.new ≡ true) }
+        ensures kept { codec self.new ≡ codec self.old }
+    {
+        self.encode_known_multiplier_string(tag, constraints, value, identifier)
+    }
+
+    /// Writes a BMPString under constraints (X.691 30.5).
+    final fn encode_bmp_string(
+        &mut self,
+        tag: Tag,
+        constraints: &Constraints,
+        value: &BmpString,
+        identifier: Identifier,
+    ) -> Result<(), Self::Error>
+        ensures law { Writes memory presents refuses (character_schema bmp constraints.now) (characters value.now) self.old result self.new }
+        ensures again { failed self.old ≡ true → IsErrAnd result (λ e. already e self.old) }
+        ensures fails { OnErr result (failed self.new ≡ true) }
+        ensures kept { codec self.new ≡ codec self.old }
+    {
+        self.encode_known_multiplier_string(tag, constraints, value, identifier)
+    }
 
     /// Writes a SEQUENCE (X.691 19), whose components `scope` writes, in the order of `FIELDS`.
     final fn encode_sequence<
@@ -193,6 +388,15 @@ pub trait Decoder: Sized {
     fn codec(&self) -> Codec
         ensures { result ≡ codec self.now };
 
+    /// Where the memory of what is read comes from.
+    fn alloc(&self) -> Global;
+
+    /// Refuses from now on, and answers that memory ran out: for an implementation whose own growth was refused.
+    fn out_of_memory(&mut self) -> Self::Error
+        ensures memory { memory result self.old }
+        ensures fails { failed self.new ≡ true }
+        ensures kept { codec self.new ≡ codec self.old };
+
     /// Reads a BOOLEAN (X.691 12). Takes no memory.
     fn decode_bool(&mut self, tag: Tag) -> Result<bool, Self::Error>
         ensures law { Reads takes_none fault spells Schema.boolean truth self.old result self.new }
@@ -218,6 +422,91 @@ pub trait Decoder: Sized {
         ensures fails { OnErr result (failed self.new ≡ true) }
         ensures kept { codec self.new ≡ codec self.old };
 
+    /// Reads the octets of a value whose type isn't known (X.691 11.2).
+    fn decode_any(&mut self, tag: Tag) -> Result<Any, Self::Error>
+        ensures law { Reads memory fault spells Schema.any (λ x. octets x) self.old result self.new }
+        ensures again { failed self.old ≡ true → IsErrAnd result (λ e. already e self.old) }
+        ensures fails { OnErr result (failed self.new ≡ true) }
+        ensures kept { codec self.new ≡ codec self.old };
+
+    /// Reads an OCTET STRING under constraints (X.691 17). The octets are `Owned`.
+    fn decode_octet_string(
+        &mut self,
+        tag: Tag,
+        constraints: &Constraints,
+    ) -> Result<CowSlice<'static, u8>, Self::Error>
+        ensures law { Reads memory fault spells (octet_schema constraints.now) (λ x. octets (cow_slice_items x)) self.old result self.new }
+        ensures owned { IfOk result (λ x. IsOwnedSlice x) }
+        ensures again { failed self.old ≡ true → IsErrAnd result (λ e. already e self.old) }
+        ensures fails { OnErr result (failed self.new ≡ true) }
+        ensures kept { codec self.new ≡ codec self.old };
+
+    /// Reads a BIT STRING under constraints (X.691 16).
+    fn decode_bit_string(
+        &mut self,
+        tag: Tag,
+        constraints: &Constraints,
+    ) -> Result<BitString, Self::Error>
+        ensures law { Reads memory fault spells (bit_schema constraints.now) (λ x. bits x) self.old result self.new }
+        ensures again { failed self.old ≡ true → IsErrAnd result (λ e. already e self.old) }
+        ensures fails { OnErr result (failed self.new ≡ true) }
+        ensures kept { codec self.new ≡ codec self.old };
+
+    /// Reads a string of a known-multiplier type under constraints (X.691 30.5).
+    fn decode_known_multiplier_string<S: StaticPermittedAlphabet>(
+        &mut self,
+        tag: Tag,
+        constraints: &Constraints,
+    ) -> Result<S, Self::Error>
+        ensures law { Reads memory fault spells (character_schema S.alphabet constraints.now) (λ x. characters (S.characters x)) self.old result self.new }
+        ensures again { failed self.old ≡ true → IsErrAnd result (λ e. already e self.old) }
+        ensures fails { OnErr result (failed self.new ≡ true) }
+        ensures kept { codec self.new ≡ codec self.old };
+
+    /// Reads a UTF8String (X.691 30.6). No constraint is visible.
+    fn decode_utf8_string(
+        &mut self,
+        tag: Tag,
+        constraints: &Constraints,
+    ) -> Result<Utf8String, Self::Error>
+        ensures law { Reads memory fault spells (Schema.text utf8) (λ x. octets (string_bytes x)) self.old result self.new }
+        ensures again { failed self.old ≡ true → IsErrAnd result (λ e. already e self.old) }
+        ensures fails { OnErr result (failed self.new ≡ true) }
+        ensures kept { codec self.new ≡ codec self.old };
+
+    /// Reads a GeneralString (X.691 30.6). No constraint is visible.
+    fn decode_general_string(
+        &mut self,
+        tag: Tag,
+        constraints: &Constraints,
+    ) -> Result<GeneralString, Self::Error>
+        ensures law { Reads memory fault spells (Schema.text other) (λ x. octets x) self.old result self.new }
+        ensures again { failed self.old ≡ true → IsErrAnd result (λ e. already e self.old) }
+        ensures fails { OnErr result (failed self.new ≡ true) }
+        ensures kept { codec self.new ≡ codec self.old };
+
+    /// Reads a GraphicString (X.691 30.6). No constraint is visible.
+    fn decode_graphic_string(
+        &mut self,
+        tag: Tag,
+        constraints: &Constraints,
+    ) -> Result<GraphicString, Self::Error>
+        ensures law { Reads memory fault spells (Schema.text other) (λ x. octets x) self.old result self.new }
+        ensures again { failed self.old ≡ true → IsErrAnd result (λ e. already e self.old) }
+        ensures fails { OnErr result (failed self.new ≡ true) }
+        ensures kept { codec self.new ≡ codec self.old };
+
+    /// Reads a TeletexString (X.691 30.6). No constraint is visible.
+    fn decode_teletex_string(
+        &mut self,
+        tag: Tag,
+        constraints: &Constraints,
+    ) -> Result<TeletexString, Self::Error>
+        ensures law { Reads memory fault spells (Schema.text other) (λ x. octets x) self.old result self.new }
+        ensures again { failed self.old ≡ true → IsErrAnd result (λ e. already e self.old) }
+        ensures fails { OnErr result (failed self.new ≡ true) }
+        ensures kept { codec self.new ≡ codec self.old };
+
     /// Opens a SEQUENCE (X.691 19), which takes a level: the calls from here to `close_sequence` read its components,
     /// in the order of `FIELDS`. At no level left it refuses.
     fn open_sequence<C: Constructed>(&mut self, tag: Tag) -> Result<Self::Scope, Self::Error>
@@ -237,6 +526,76 @@ pub trait Decoder: Sized {
     fn fail(&mut self)
         ensures fails { failed self.new ≡ true }
         ensures kept { codec self.new ≡ codec self.old };
+
+    /// Reads a VisibleString under constraints (X.691 30.5).
+    final fn decode_visible_string(
+        &mut self,
+        tag: Tag,
+        constraints: &Constraints,
+    ) -> Result<VisibleString, Self::Error>
+        ensures law { Reads memory fault spells (character_schema visible constraints.now) (λ x. characters x) self.old result self.new }
+        ensures again { failed self.old ≡ true → IsErrAnd result (λ e. already e self.old) }
+        ensures fails { OnErr result (failed self.new ≡ true) }
+        ensures kept { codec self.new ≡ codec self.old }
+    {
+        self.decode_known_multiplier_string::<VisibleString>(tag, constraints)
+    }
+
+    /// Reads an IA5String under constraints (X.691 30.5).
+    final fn decode_ia5_string(
+        &mut self,
+        tag: Tag,
+        constraints: &Constraints,
+    ) -> Result<Ia5String, Self::Error>
+        ensures law { Reads memory fault spells (character_schema ia5 constraints.now) (λ x. characters x) self.old result self.new }
+        ensures again { failed self.old ≡ true → IsErrAnd result (λ e. already e self.old) }
+        ensures fails { OnErr result (failed self.new ≡ true) }
+        ensures kept { codec self.new ≡ codec self.old }
+    {
+        self.decode_known_multiplier_string::<Ia5String>(tag, constraints)
+    }
+
+    /// Reads a PrintableString under constraints (X.691 30.5).
+    final fn decode_printable_string(
+        &mut self,
+        tag: Tag,
+        constraints: &Constraints,
+    ) -> Result<PrintableString, Self::Error>
+        ensures law { Reads memory fault spells (character_schema printable constraints.now) (λ x. characters x) self.old result self.new }
+        ensures again { failed self.old ≡ true → IsErrAnd result (λ e. already e self.old) }
+        ensures fails { OnErr result (failed self.new ≡ true) }
+        ensures kept { codec self.new ≡ codec self.old }
+    {
+        self.decode_known_multiplier_string::<PrintableString>(tag, constraints)
+    }
+
+    /// Reads a NumericString under constraints (X.691 30.5).
+    final fn decode_numeric_string(
+        &mut self,
+        tag: Tag,
+        constraints: &Constraints,
+    ) -> Result<NumericString, Self::Error>
+        ensures law { Reads memory fault spells (character_schema numeric constraints.now) (λ x. characters x) self.old result self.new }
+        ensures again { failed self.old ≡ true → IsErrAnd result (λ e. already e self.old) }
+        ensures fails { OnErr result (failed self.new ≡ true) }
+        ensures kept { codec self.new ≡ codec self.old }
+    {
+        self.decode_known_multiplier_string::<NumericString>(tag, constraints)
+    }
+
+    /// Reads a BMPString under constraints (X.691 30.5).
+    final fn decode_bmp_string(
+        &mut self,
+        tag: Tag,
+        constraints: &Constraints,
+    ) -> Result<BmpString, Self::Error>
+        ensures law { Reads memory fault spells (character_schema bmp constraints.now) (λ x. characters x) self.old result self.new }
+        ensures again { failed self.old ≡ true → IsErrAnd result (λ e. already e self.old) }
+        ensures fails { OnErr result (failed self.new ≡ true) }
+        ensures kept { codec self.new ≡ codec self.old }
+    {
+        self.decode_known_multiplier_string::<BmpString>(tag, constraints)
+    }
 
     /// Reads a SEQUENCE (X.691 19), whose components `scope` reads, in the order of `FIELDS`.
     final fn decode_sequence<

@@ -1,7 +1,7 @@
 use Rattle.std.proofs.Common.{false}
 use Rattle.std.proofs.lemmas.Result.{IfOk-weaker, IfErr-weaker}
 use Rattle.per_de.specs.Items.{counted_of, coded}
-use Rattle.rasn_schema.specs.Schemas.{any_size}
+use Rattle.rasn_constraints.specs.Bounds.{any_size}
 use Rattle.per_de.specs.State.{settings}
 use Rattle.per_de.proofs.Calls.{faulty_map}
 use Rattle.per_de.proofs.Miscounts.{unsized_ok, none_unsized, tested_size}

@@ -1,6 +1,6 @@
 use Rattle.std.proofs.Common.{inr, refl}
 use Rattle.std.proofs.lemmas.Result.{err_from_is_err_and}
-use Rattle.rasn_schema.specs.Constraints.{size_between}
+use Rattle.rasn_constraints.specs.Constraints.{size_between}
 use Rattle.per_de.specs.State.{settings}
 use Rattle.per_de.proofs.Miscounts.{sized_ok, none_faulty, miscounted}
 use Rattle.per_de.proofs.sizes.take_sized.Goals as goal
