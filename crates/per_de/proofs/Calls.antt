@@ -40,6 +40,9 @@ faulty_map k g f (inr h) = inr (g h.0, f h.1)
 not_failed : (c : Schema) (a : Settings) (s : Bits) → IsAt a c s AlreadyFailed → ⊥
 not_failed (Schema.number bounds mark range) a s h = h
 not_failed (Schema.octet_string size mark) a s h = h
+not_failed (Schema.bit_string size mark) a s h = h
+not_failed (Schema.char_string alphabet size mark) a s h = h
+not_failed (Schema.text kind) a s h = h
 not_failed Schema.cut a s h = h
 not_failed _ a s h = h
 

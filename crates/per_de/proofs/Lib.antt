@@ -13,3 +13,4 @@ pub mod Calls
 pub mod Marked
 pub mod SizeForms
 pub mod Miscounts
+pub mod Coded

@@ -4,14 +4,15 @@ use Rattle.rasn_types.specs.Bits.{Bits}
 use Rattle.rasn_types.specs.Values.{Value}
 use Rattle.rasn_schema.specs.Schemas.{TagTree, required, Schema, Parts, part}
 use Rattle.rasn_schema.specs.Scopes.{record_of}
-use Rattle.per_core.specs.Counts.{octet_items}
 use Rattle.per_core.specs.Spellings.{Settings}
-use Rattle.per_core.specs.Basic.{octet, basic}
+use Rattle.per_core.specs.Basic.{basic}
 use Rattle.per_core.specs.Took.{Took}
 use Rattle.per_de.specs.Kinds.{IsTested}
 use Rattle.per_de.specs.Numbers.{IsOfNumber}
-use Rattle.per_de.specs.Sizes.{IsOfSize}
+use Rattle.per_de.specs.Sizes.{IsOfItems}
 use Rattle.per_de.specs.State.{State, settings_of}
+use Rattle.per_de.specs.Strings.{IsOfString, IsOfText}
+use Rattle.per_de.specs.declared.items.Item.TheVariants.{Octet, Bit}
 use Rattle.per_de.specs.declared.error.DecodeError.{DecodeError}
 use Rattle.per_de.specs.declared.error.DecodeErrorKind.{DecodeErrorKind}
 use Rattle.per_de.specs.declared.error.DecodeErrorKind.TheVariants.{ExceedsMaxParseDepth, AlreadyFailed}
@@ -24,7 +25,10 @@ IsOfCut k = IsTested k
 -- What a kind says of the first of bits, as a schema reads them. Kinds that no call answers yet say what never holds.
 abbrev pub IsAt : Settings → Schema → Bits → DecodeErrorKind → Type 0
 IsAt a (Schema.number bounds mark range) s k = IsOfNumber a bounds mark s k
-IsAt a (Schema.octet_string size mark) s k = IsOfSize a size mark octet_items octet s k
+IsAt a (Schema.octet_string size mark) s k = IsOfItems a size mark Octet s k
+IsAt a (Schema.bit_string size mark) s k = IsOfItems a size mark Bit s k
+IsAt a (Schema.char_string alphabet size mark) s k = IsOfString a alphabet size mark s k
+IsAt a (Schema.text kind) s k = IsOfText a kind s k
 IsAt a Schema.cut s k = IsOfCut k
 IsAt a c s k = IsTested k
 

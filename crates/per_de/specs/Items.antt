@@ -1,5 +1,5 @@
 -- Counted items of as many bits each: octets, bits and characters (X.691 11.9, 16, 17, 30.5). An item's code is the number that its bits mean.
-use Rattle.std.specs.Prelude.{◌≡◌, ℕ, Bool, List, ◌++◌, length}
+use Rattle.std.specs.Prelude.{◌≡◌, ℕ, Bool, cond, List, ◌++◌, length}
 use Rattle.rasn_types.specs.Bits.{Bits}
 use Rattle.rasn_constraints.specs.Bounds.{Size}
 use Rattle.per_core.specs.Basic.{Unsized, Sized, Lengthy}
@@ -53,3 +53,7 @@ pub record Gathered (P : List ℕ → Type 0) (form : List ℕ → Spelling) (s 
   pub codes : List ℕ
   pub held : P codes
   pub took : Took (form codes) s t
+
+-- a bit's code
+abbrev pub bit_code : Bool → ℕ
+bit_code b = cond b 1 0

@@ -9,3 +9,4 @@ pub mod ScopeLaws
 pub mod Scopes
 pub mod Sizes
 pub mod State
+pub mod Strings

@@ -66,6 +66,9 @@ pub trait Collector {
     // What the items are.
     ghost item: { Self → Item };
 
+    // How many items are held at most, where only so many can be.
+    ghost count: { Self → ℕ };
+
     /// What the items are.
     fn item(&self) -> Item
         ensures item { result ≡ item self.now }
@@ -73,15 +76,19 @@ pub trait Collector {
 
     /// Appends the item of a code.
     fn push(&mut self, code: u128) -> Result<(), AllocError>
-        requires { code < 2 ^ bits_of (item self.old) }
+        requires few { code < 2 ^ bits_of (item self.old) }
+        requires room { count self.old < usize.MAX }
         ensures ok { OnOk result (Adds holds self.old (code ∷ []) self.new) }
-        ensures item { OnOk result (item self.new ≡ item self.old) };
+        ensures item { OnOk result (item self.new ≡ item self.old) }
+        ensures count { OnOk result (count self.new ≤ count self.old + 1) };
 }
 
 impl Collector for Vec<u8> {
     ghost holds = { λ octets codes. octets.items ≡ codes };
 
     ghost item = { λ _. Octet };
+
+    ghost count = { λ _. 0 };
 
     fn item(&self) -> Item {
         Item::Octet
@@ -99,8 +106,10 @@ pub fn take_row<C: Collector>(
     count: usize,
     items: &mut C,
 ) -> Result<(), DecodeErrorKind>
+    requires { C.count items.old + count ≤ usize.MAX }
     ensures ok { OnOk result (TookItems C.holds (Row (coded (C.item items.old))) count items.old items.new bits.old bits.new) }
     ensures item { OnOk result (C.item items.new ≡ C.item items.old) }
+    ensures count { OnOk result (C.count items.new ≤ C.count items.old + count) }
     ensures err { IfErr result (Stopped (length bits.old < bits_of (C.item items.old) * count)) }
 {
     let width = items.item().width();
@@ -120,8 +129,10 @@ fn take_more<C: Collector>(
     more: u128,
     items: &mut C,
 ) -> Result<usize, DecodeErrorKind>
-    requires { more ≤ 65536 }
+    requires few { more ≤ 65536 }
+    requires count { C.count items.old ≤ count }
     ensures ok { IfOk result (λ all. all ≡ count + more) }
+    ensures count { IfOk result (λ all. C.count items.new ≤ all) }
     ensures took { OnOk result (TookItems C.holds (Row (coded (C.item items.old))) more items.old items.new bits.old bits.new) }
     ensures item { OnOk result (C.item items.new ≡ C.item items.old) }
     ensures err { IfErr result (Stopped (count + more < 2 ^ 64 → length bits.old < bits_of (C.item items.old) * more)) }
@@ -140,6 +151,7 @@ pub fn take_unsized<C: Collector>(
     codec: Codec,
     items: &mut C,
 ) -> Result<usize, DecodeErrorKind>
+    requires { C.count items.old ≡ 0 }
     ensures ok { IfOk result (λ n. TookItems C.holds (unsized_items (settings codec) (C.item items.old)) n items.old items.new bits.old bits.new) }
     ensures few { IfOk result (λ n. n < 2 ^ 64) }
     ensures err { IfErr result (Stopped ((xs : List ℕ) (t : Bits) → length xs < 2 ^ 64 → Took (unsized_items (settings codec) (C.item items.old) xs) bits.old t → ⊥)) }

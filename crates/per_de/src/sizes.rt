@@ -47,7 +47,8 @@ fn take_between<C: Collector>(
     most: usize,
     items: &mut C,
 ) -> Result<usize, DecodeErrorKind>
-    requires { most < 65536 }
+    requires few { most < 65536 }
+    requires empty { C.count items.old ≡ 0 }
     ensures ok { IfOk result (λ n. TookItems C.holds (items_between (settings codec) least most (C.item items.old)) n items.old items.new bits.old bits.new) }
     ensures err { IfErr result (Stopped (NoneIn (items_between (settings codec) least most (C.item items.old)) bits.old)) }
 {
@@ -66,6 +67,7 @@ fn take_under_size<C: Collector>(
     size: &Bounded<usize>,
     items: &mut C,
 ) -> Result<usize, DecodeErrorKind>
+    requires { C.count items.old ≡ 0 }
     ensures ok { IfOk result (λ n. TookItems C.holds (items_under (settings codec) (size_between size.now) (C.item items.old)) n items.old items.new bits.old bits.new) }
     ensures err { IfErr result (Stopped ((xs : List ℕ) (t : Bits) → length xs < 2 ^ 64 → Took (items_under (settings codec) (size_between size.now) (C.item items.old) xs) bits.old t → ⊥)) }
 {
@@ -103,6 +105,7 @@ fn take_sized<C: Collector>(
     size: &Bounded<usize>,
     items: &mut C,
 ) -> Result<usize, DecodeErrorKind>
+    requires { C.count items.old ≡ 0 }
     ensures ok { IfOk result (λ n. TookItems C.holds (sized_items (settings codec) (size_between size.now) (C.item items.old)) n items.old items.new bits.old bits.new) }
     ensures err { IfErr result (Faulty (IsOfItems (settings codec) (size_between size.now) false (C.item items.old) bits.old) (NoneIn (sized_items (settings codec) (size_between size.now) (C.item items.old)) bits.old)) }
 {
@@ -120,6 +123,7 @@ fn take_constrained<C: Collector>(
     size: Extensible<Bounded<usize>>,
     items: &mut C,
 ) -> Result<usize, DecodeErrorKind>
+    requires { C.count items.old ≡ 0 }
     ensures ok { IfOk result (λ n. TookItems C.holds (lengthy_items (settings codec) (size_between size.constraint) size.extensible (C.item items.old)) n items.old items.new bits.old bits.new) }
     ensures err { IfErr result (Faulty (IsOfItems (settings codec) (size_between size.constraint) size.extensible (C.item items.old) bits.old) (NoneIn (lengthy_items (settings codec) (size_between size.constraint) size.extensible (C.item items.old)) bits.old)) }
 {
@@ -139,6 +143,7 @@ pub fn take_items<C: Collector>(
     size: Option<Extensible<Bounded<usize>>>,
     items: &mut C,
 ) -> Result<usize, DecodeErrorKind>
+    requires { C.count items.old ≡ 0 }
     ensures ok { IfOk result (λ n. TookItems C.holds (lengthy_items (settings codec) (size_in size) (is_marked size) (C.item items.old)) n items.old items.new bits.old bits.new) }
     ensures err { IfErr result (Faulty (IsOfItems (settings codec) (size_in size) (is_marked size) (C.item items.old) bits.old) (NoneIn (lengthy_items (settings codec) (size_in size) (is_marked size) (C.item items.old)) bits.old)) }
 {

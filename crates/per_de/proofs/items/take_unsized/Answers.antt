@@ -13,11 +13,11 @@ returns-in_err-more-clause-err g c =
     let h = c.in_err-more.ensures.err in
     rw (p.1, p.2) (inr (h.0, no_items_length c.loop-more.invariant.0 h.1))
 
-pub take_more-requires : goal.take_more-requires
-take_more-requires g c = (small_length (Last c.in-Last.more) (rw c.in-Last.is at c.in_ok-more.ensures.ok)).0
+pub take_more-requires-clause-few : goal.take_more-requires-clause-few
+take_more-requires-clause-few g c = (small_length (Last c.in-Last.more) (rw c.in-Last.is at c.in_ok-more.ensures.ok)).0
 
-pub take_more-requires-in-Fragment : goal.take_more-requires-in-Fragment
-take_more-requires-in-Fragment g c = (small_length (Fragment c.in-Fragment.more) (rw c.in-Fragment.is at c.in_ok-more.ensures.ok)).0
+pub take_more-requires-in-Fragment-clause-few : goal.take_more-requires-in-Fragment-clause-few
+take_more-requires-in-Fragment-clause-few g c = (small_length (Fragment c.in-Fragment.more) (rw c.in-Fragment.is at c.in_ok-more.ensures.ok)).0
 
 pub returns-in-Last-clause-ok : goal.returns-in-Last-clause-ok
 returns-in-Last-clause-ok g c =
@@ -50,4 +50,5 @@ loop-more-preserved g c =
           (subst (λ z. TookItems g.C.Collector.holds (Row (Field (bits_of z))) c.in-Fragment.more c.loop-more.items c.take_more-in-Fragment.new.items c.take_length.new.bits c.take_more-in-Fragment.new.bits) h.1
           c.in_ok-count-in-Fragment.ensures.took)),
       c.in_ok-count-in-Fragment.ensures.item ∙ h.1,
+      c.in_ok-count-in-Fragment.ensures.count,
     )

@@ -21,10 +21,15 @@ returns-in_err-code-clause-err g c =
     ))
 
 pub overflow_cast-count : goal.overflow_cast-count
-overflow_cast-count g c = omega (arith, few_codes (settings c.args.codec) c.in_ok-code.code (c.args.most - c.args.least + 1) (let h = c.requires in omega arith) (recoded (settings c.args.codec) c.in_ok-code.code c.saturating_sub.ensures c.in_ok-code.ensures.ok))
+overflow_cast-count g c = omega (arith, few_codes (settings c.args.codec) c.in_ok-code.code (c.args.most - c.args.least + 1) (let h = c.requires.few in omega arith) (recoded (settings c.args.codec) c.in_ok-code.code c.saturating_sub.ensures c.in_ok-code.ensures.ok))
 
 pub overflow_add-count : goal.overflow_add-count
-overflow_add-count g c = let l = c.ranges.least.fits in omega (arith, few_counted (settings c.args.codec) c.args.least c.args.most c.in_ok-code.code c.requires l (recoded (settings c.args.codec) c.in_ok-code.code c.saturating_sub.ensures c.in_ok-code.ensures.ok))
+overflow_add-count g c = let l = c.ranges.least.fits in omega (arith, few_counted (settings c.args.codec) c.args.least c.args.most c.in_ok-code.code c.requires.few l (recoded (settings c.args.codec) c.in_ok-code.code c.saturating_sub.ensures c.in_ok-code.ensures.ok))
+
+pub take_row-requires : goal.take_row-requires
+take_row-requires g c =
+    let l = c.ranges.least.fits in
+    omega (arith, c.requires.empty, few_counted (settings c.args.codec) c.args.least c.args.most c.in_ok-code.code c.requires.few l (recoded (settings c.args.codec) c.in_ok-code.code c.saturating_sub.ensures c.in_ok-code.ensures.ok))
 
 pub returns-in_err-take_row-clause-err : goal.returns-in_err-take_row-clause-err
 returns-in_err-take_row-clause-err g c =
