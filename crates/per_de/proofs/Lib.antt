@@ -14,3 +14,6 @@ pub mod Marked
 pub mod SizeForms
 pub mod Miscounts
 pub mod Coded
+pub mod CharacterCodes
+pub mod Texts
+pub mod StringCalls

@@ -1,5 +1,5 @@
 -- An extensible constraint's bit, and what stands behind it.
-use Rattle.std.proofs.Common.{◌≡◌, ◌∙◌, sym, subst, Bool, true, false, [], ◌∷◌, ◌++◌, ◌⊎◌, inl, inr}
+use Rattle.std.proofs.Common.{◌≡◌, ◌∙◌, sym, subst, Bool, true, false, [], ◌∷◌, ◌⊎◌, inl, inr}
 use Rattle.rasn_types.specs.Bits.{Bits}
 use Rattle.per_core.specs.Spellings.{Spelling, exactly, Then}
 use Rattle.per_core.specs.Basic.{Marked}

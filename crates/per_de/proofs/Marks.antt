@@ -1,5 +1,5 @@
 -- An extensible constraint's bit, and the number behind it (X.691 13.1).
-use Rattle.std.proofs.Common.{◌≡◌, ◌∷◌, Bool, true, false, [], inl, inr, ℤ}
+use Rattle.std.proofs.Common.{◌≡◌, ◌∷◌, true, false, [], inr, ℤ}
 use Rattle.rasn_types.specs.Bits.{Bits}
 use Rattle.rasn_constraints.specs.Bounds.{Bounds, unbounded}
 use Rattle.per_core.specs.Spellings.{Settings, never}

@@ -1,9 +1,8 @@
 -- Items under a size constraint, and why there are none (X.691 11.9, 16.6, 17.3, 30.4).
-use Rattle.std.proofs.Common.{◌≡◌, ◌∙◌, ◌<◌, ◌⊎◌, inl, inr, ℕ, ◌^◌, ◌&&◌, ltb, Bool, true, false, List, [], ◌∷◌, length, refl, sym, ap, subst, arith, Option, Some, None}
+use Rattle.std.proofs.Common.{◌≡◌, ◌∙◌, ◌<◌, inr, ℕ, ◌^◌, ◌&&◌, ltb, Bool, true, false, List, [], ◌∷◌, length, sym, ap, arith, Option}
 use Rattle.std.proofs.lemmas.Bool.{lt-ltb, ltb-true}
 use Rattle.rasn_types.specs.Bits.{Bits}
 use Rattle.rasn_constraints.specs.Bounds.{allows, at_least, at_most, Size, any_size}
-use Rattle.per_core.specs.Basic.{Unsized, Sized}
 use Rattle.per_core.specs.Counts.{Counted}
 use Rattle.per_core.specs.Spellings.{Settings, Spelling, never}
 use Rattle.per_core.specs.Took.{Took}
@@ -11,7 +10,7 @@ use Rattle.per_core.proofs.Lengths.{and_right}
 use Rattle.per_core.proofs.Took.{took_map}
 use Rattle.per_de.specs.Items.{TookItems, bits_of, counted_of, coded, unsized_items, sized_items, lengthy_items}
 use Rattle.per_de.specs.Kinds.{Faulty, IsTested, NoneIn, Refused, Stopped}
-use Rattle.per_de.specs.Sizes.{IsOfSize, IsOfItems, items_under, under_size}
+use Rattle.per_de.specs.Sizes.{IsOfSize, IsOfItems, items_under}
 use Rattle.per_de.specs.declared.items.Item.{Item}
 use Rattle.per_de.specs.declared.error.DecodeErrorKind.{DecodeErrorKind}
 use Rattle.per_de.specs.declared.error.DecodeErrorKind.TheVariants.{SizeConstraintNotSatisfied}
@@ -33,7 +32,7 @@ module _ (a : Settings) (i : Item) where
   any_sized : (xs : List ℕ) {s t : Bits} → length xs < 2 ^ 64 → Took (unsized_items a i xs) s t → Took (sized_items a any_size i xs) s t
   any_sized xs l b = took_map (λ p c x. record { allowed = lt-ltb (length xs) (2 ^ 64) l; spelled = x }) b
 
-  pub unsized_ok : {C : Type 0} {holds : C → List ℕ → Type 0} {n : ℕ} {before after : C} {s t : Bits} → n < 2 ^ 64 → TookItems holds (unsized_items a i) n before after s t
+  pub unsized_ok : {C : Type 0} {holds : C → C → List ℕ → Type 0} {n : ℕ} {before after : C} {s t : Bits} → n < 2 ^ 64 → TookItems holds (unsized_items a i) n before after s t
       → TookItems holds (sized_items a any_size i) n before after s t
   unsized_ok l b = record { codes = b.codes; count = b.count; added = b.added; took = any_sized b.codes (omega (arith, b.count)) b.took }
 
@@ -42,7 +41,7 @@ module _ (a : Settings) (i : Item) where
 
   module _ (size : Size) where
     -- items whose count the size allows
-    pub sized_ok : {C : Type 0} {holds : C → List ℕ → Type 0} {n : ℕ} {before after : C} {s t : Bits} → allows size n ≡ true → TookItems holds (items_under a size i) n before after s t
+    pub sized_ok : {C : Type 0} {holds : C → C → List ℕ → Type 0} {n : ℕ} {before after : C} {s t : Bits} → allows size n ≡ true → TookItems holds (items_under a size i) n before after s t
         → TookItems holds (sized_items a size i) n before after s t
     sized_ok h b = record {
       codes = b.codes;
@@ -55,7 +54,7 @@ module _ (a : Settings) (i : Item) where
     none_sized none xs t b = none xs t (countable size (length xs) b.spelled.allowed) (of_sized a (counted_of i) (coded i) xs size b)
 
     -- and items whose count it doesn't
-    pub miscounted : {C : Type 0} {holds : C → List ℕ → Type 0} {n : ℕ} {before after : C} {s t : Bits} {least most : Option ℕ} → allows size n ≡ false → least ≡ size.least → most ≡ size.most
+    pub miscounted : {C : Type 0} {holds : C → C → List ℕ → Type 0} {n : ℕ} {before after : C} {s t : Bits} {least most : Option ℕ} → allows size n ≡ false → least ≡ size.least → most ≡ size.most
         → TookItems holds (items_under a size i) n before after s t → IsOfItems a size false i s (SizeConstraintNotSatisfied n least most) × NoneIn (sized_items a size i) s
     miscounted {n = n} {s = s} {t = t} h l u b = (
       record { items = b.codes; rest = t; count = b.count; is_least = l; is_most = u; refused = h; took = b.took },
@@ -70,11 +69,11 @@ module _ (a : Settings) (i : Item) where
 
     -- behind an extension bit
     module _ {s m : Bits} where
-      pub in_size : {C : Type 0} {holds : C → List ℕ → Type 0} {n : ℕ} {before after : C} {t : Bits} → s ≡ false ∷ m → TookItems holds (sized_items a size i) n before after m t
+      pub in_size : {C : Type 0} {holds : C → C → List ℕ → Type 0} {n : ℕ} {before after : C} {t : Bits} → s ≡ false ∷ m → TookItems holds (sized_items a size i) n before after m t
           → TookItems holds (lengthy_items a size true i) n before after s t
       in_size {t = t} e b = record { codes = b.codes; count = b.count; added = b.added; took = mark_in (sized_items a size i) (sized_items a any_size i) e b.codes t b.took }
 
-      pub past_size : {C : Type 0} {holds : C → List ℕ → Type 0} {n : ℕ} {before after : C} {t : Bits} → s ≡ true ∷ m → n < 2 ^ 64 → TookItems holds (unsized_items a i) n before after m t
+      pub past_size : {C : Type 0} {holds : C → C → List ℕ → Type 0} {n : ℕ} {before after : C} {t : Bits} → s ≡ true ∷ m → n < 2 ^ 64 → TookItems holds (unsized_items a i) n before after m t
           → TookItems holds (lengthy_items a size true i) n before after s t
       past_size {t = t} e l b = record {
         codes = b.codes;

@@ -117,17 +117,17 @@ module _ (w : ℕ) where
       took_map (λ p x j. record { fragments = suc k; spelled = record { these = these; others = others; all = refl; spelled = j } }) (took_then q.1 (took_then h (took_then c i)))
 
 -- Items from a start are those that were read so far and then those from here.
-pub record ItemsSoFar {C : Type 0} (holds : C → List ℕ → Type 0) (a : Settings) (w : ℕ) (start here : Bits) (before items : C) (n : ℕ) : Type 0 where
+pub record ItemsSoFar {C : Type 0} (holds : C → C → List ℕ → Type 0) (a : Settings) (w : ℕ) (start here : Bits) (before items : C) (n : ℕ) : Type 0 where
   pub codes : List ℕ
   pub count : length codes ≡ n
   pub added : Adds holds before codes items
   pub on : (xs : List ℕ) (t : Bits) → Took (Unsized a (Field w) xs) here t → Took (Unsized a (Field w) (codes ++ xs)) start t
   pub back : (xs : List ℕ) (t : Bits) → Took (Unsized a (Field w) xs) start t → (others : List ℕ) × (xs ≡ codes ++ others) × Took (Unsized a (Field w) others) here t
 
-pub items_begin : {C : Type 0} (holds : C → List ℕ → Type 0) (a : Settings) (w : ℕ) (s : Bits) (items : C) → ItemsSoFar holds a w s s items items 0
+pub items_begin : {C : Type 0} (holds : C → C → List ℕ → Type 0) (a : Settings) (w : ℕ) (s : Bits) (items : C) → ItemsSoFar holds a w s s items items 0
 items_begin holds a w s items = record { codes = []; count = refl; added = adds_none holds items; on = λ xs t b. b; back = λ xs t b. (xs, refl, b) }
 
-module _ {C : Type 0} {holds : C → List ℕ → Type 0} {a : Settings} {w : ℕ} {start here : Bits} {before items : C} {n : ℕ} (h : ItemsSoFar holds a w start here before items n) where
+module _ {C : Type 0} {holds : C → C → List ℕ → Type 0} {a : Settings} {w : ℕ} {start here : Bits} {before items : C} {n : ℕ} (h : ItemsSoFar holds a w start here before items n) where
   pub items_go_on : {k : ℕ} {m l : Bits} {more : C} → Took (LengthOf a (Fragment k)) here m → TookItems holds (Row (Field w)) k items more m l → ItemsSoFar holds a w start l before more (n + k)
   items_go_on {k} {m} {l} b c = record {
     codes = h.codes ++ c.codes;
@@ -180,15 +180,15 @@ module _ {C : Type 0} {holds : C → List ℕ → Type 0} {a : Settings} {w : �
       omega (arith, v, y, u, g)
 
 -- all items are those that were appended to none
-pub are_gathered : {C : Type 0} {holds : C → List ℕ → Type 0} {form : List ℕ → Spelling} {n : ℕ} {before after : C} {s t : Bits} → TookItems holds form n before after s t → holds before [] → Gathered (holds after) form s t
-are_gathered b h = record { codes = b.codes; held = b.added.behind [] h; took = b.took }
+pub are_gathered : {C : Type 0} {holds : C → C → List ℕ → Type 0} {form : List ℕ → Spelling} {n : ℕ} {before after : C} {s t : Bits} → TookItems holds form n before after s t → holds before before [] → Gathered (holds before after) form s t
+are_gathered {before = before} b h = record { codes = b.codes; held = b.added.behind before [] h; took = b.took }
 
 -- octets are items
-pub are_octets : {C : Type 0} {holds : C → List ℕ → Type 0} {a : Settings} {n : ℕ} {before after : C} {s t : Bits} → TookItems holds (Unsized a (Field 8)) n before after s t → holds before [] → n < 2 ^ 64
-    → Gathered (holds after) (Octets a) s t
-are_octets b h l = record {
+pub are_octets : {C : Type 0} {holds : C → C → List ℕ → Type 0} {a : Settings} {n : ℕ} {before after : C} {s t : Bits} → TookItems holds (Unsized a (Field 8)) n before after s t → holds before before [] → n < 2 ^ 64
+    → Gathered (holds before after) (Octets a) s t
+are_octets {before = before} b h l = record {
   codes = b.codes;
-  held = b.added.behind [] h;
+  held = b.added.behind before [] h;
   took = took_map (λ p x i. record { allowed = lt-ltb (length b.codes) (2 ^ 64) (omega (arith, b.count)); spelled = i }) b.took;
 }
 

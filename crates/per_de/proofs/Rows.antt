@@ -34,14 +34,14 @@ module _ (w : ℕ) where
   row_more (y ∷ xs) x a b = let q = then_took a in took_then q.1 (row_more xs x q.2 b)
 
 -- items that were appended one after the other
-pub adds_none : {C : Type 0} (holds : C → List ℕ → Type 0) (items : C) → Adds holds items [] items
-adds_none holds items = record { behind = λ xs h. subst (λ z. holds items z) (sym (append-nil xs)) h }
+pub adds_none : {C : Type 0} (holds : C → C → List ℕ → Type 0) (items : C) → Adds holds items [] items
+adds_none holds items = record { behind = λ start xs h. subst (λ z. holds start items z) (sym (append-nil xs)) h }
 
-pub adds_more : {C : Type 0} {holds : C → List ℕ → Type 0} {first second third : C} {xs ys : List ℕ} → Adds holds first xs second → Adds holds second ys third → Adds holds first (xs ++ ys) third
-adds_more {holds = holds} {third = third} {xs = xs} {ys = ys} a b = record { behind = λ zs h. subst (λ z. holds third z) (append_assoc zs xs ys) (b.behind (zs ++ xs) (a.behind zs h)) }
+pub adds_more : {C : Type 0} {holds : C → C → List ℕ → Type 0} {first second third : C} {xs ys : List ℕ} → Adds holds first xs second → Adds holds second ys third → Adds holds first (xs ++ ys) third
+adds_more {holds = holds} {third = third} {xs = xs} {ys = ys} a b = record { behind = λ start zs h. subst (λ z. holds start third z) (append_assoc zs xs ys) (b.behind start (zs ++ xs) (a.behind start zs h)) }
 
 -- the first `i` of `count` items
-pub record RowSoFar {C : Type 0} (holds : C → List ℕ → Type 0) (w : ℕ) (front row : Bits) (before items : C) (i count : ℕ) : Type 0 where
+pub record RowSoFar {C : Type 0} (holds : C → C → List ℕ → Type 0) (w : ℕ) (front row : Bits) (before items : C) (i count : ℕ) : Type 0 where
   pub these : List ℕ
   pub many : length these ≡ i
   pub within : i ≤ count
@@ -50,7 +50,7 @@ pub record RowSoFar {C : Type 0} (holds : C → List ℕ → Type 0) (w : ℕ) (
   pub took : Took (Row (Field w) these) front row
 
 -- before the first
-pub row_begins : {C : Type 0} (holds : C → List ℕ → Type 0) (w : ℕ) (front : Bits) (items : C) (count : ℕ) → length front ≡ w * count → RowSoFar holds w front front items items 0 count
+pub row_begins : {C : Type 0} (holds : C → C → List ℕ → Type 0) (w : ℕ) (front : Bits) (items : C) (count : ℕ) → length front ≡ w * count → RowSoFar holds w front front items items 0 count
 row_begins holds w front items count l = record {
   these = [];
   many = refl;
@@ -61,7 +61,7 @@ row_begins holds w front items count l = record {
 }
 
 -- with one more
-pub row_goes_on : {C : Type 0} {holds : C → List ℕ → Type 0} {w : ℕ} {front row rest : Bits} {before items more : C} {i count : ℕ} (x : ℕ) → RowSoFar holds w front row before items i count → i < count
+pub row_goes_on : {C : Type 0} {holds : C → C → List ℕ → Type 0} {w : ℕ} {front row rest : Bits} {before items more : C} {i count : ℕ} (x : ℕ) → RowSoFar holds w front row before items i count → i < count
     → Took (Field w x) row rest → Adds holds items (x ∷ []) more → RowSoFar holds w front rest before more (i + 1) count
 row_goes_on {w = w} {row = row} {rest} {i = i} x h k a b = record {
   these = h.these ++ x ∷ [];
@@ -73,7 +73,7 @@ row_goes_on {w = w} {row = row} {rest} {i = i} x h k a b = record {
 }
 
 -- there is a further one
-pub one_more_left : {C : Type 0} {holds : C → List ℕ → Type 0} {w : ℕ} {front row : Bits} {before items : C} {i count : ℕ} → RowSoFar holds w front row before items i count → i < count → w ≤ length row
+pub one_more_left : {C : Type 0} {holds : C → C → List ℕ → Type 0} {w : ℕ} {front row : Bits} {before items : C} {i count : ℕ} → RowSoFar holds w front row before items i count → i < count → w ≤ length row
 one_more_left {w = w} {i = i} h k = omega (arith, h.left, mul-suc w i, mul-le-mul_left {m = suc i} w k)
 
 -- with all of them
@@ -81,7 +81,7 @@ pub no_more : {A : Type 0} (xs : List A) → length xs ≡ 0 → xs ≡ []
 no_more [] l = refl
 no_more (x ∷ xs) l = absurd (omega arith)
 
-pub row_ends : {C : Type 0} {holds : C → List ℕ → Type 0} {w : ℕ} {front row s t : Bits} {before items : C} {i count : ℕ} → RowSoFar holds w front row before items i count → count ≤ i → s ≡ front ++ t
+pub row_ends : {C : Type 0} {holds : C → C → List ℕ → Type 0} {w : ℕ} {front row s t : Bits} {before items : C} {i count : ℕ} → RowSoFar holds w front row before items i count → count ≤ i → s ≡ front ++ t
     → TookItems holds (Row (Field w)) count before items s t
 row_ends {w = w} {front} {row} {s} {t} {i = i} h l e =
     let n : row ≡ [] = no_more row (omega (arith, h.left, mul-le-mul_left w l)) in

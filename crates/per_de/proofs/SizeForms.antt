@@ -1,20 +1,20 @@
 -- Items as a size has them written, seen from the bits that are left (X.691 11.9).
-use Rattle.std.proofs.Common.{◌≡◌, ◌∙◌, ◌<◌, ◌≤◌, ◌⊎◌, inl, inr, ℕ, ◌+◌, ◌-◌, ◌*◌, ◌^◌, ◌&&◌, ltb, leb, eqb, Bool, true, false, cond, List, [], ◌∷◌, length, refl, sym, ap, subst, arith, Option, Some, None, le-leb, le-ltb, leb-true, pos, pow_mono}
+use Rattle.std.proofs.Common.{◌≡◌, ◌∙◌, ◌<◌, ◌≤◌, ◌⊎◌, inl, inr, ℕ, ◌+◌, ◌-◌, ◌*◌, ◌^◌, ◌&&◌, ltb, leb, eqb, Bool, true, false, cond, List, length, refl, sym, ap, subst, arith, Option, Some, None, le-leb, le-ltb, leb-true, pos, pow_mono}
 use Rattle.std.specs.Prelude.{option_map}
-use Rattle.std.proofs.lemmas.Bool.{cases_lt, lt-ltb, ltb-true}
+use Rattle.std.proofs.lemmas.Bool.{cases_lt, lt-ltb}
 use Rattle.rasn_types.specs.Bits.{Bits, width}
 use Rattle.rasn_types.specs.Variants.{Variant, aligned, unaligned}
 use Rattle.rasn_types.proofs.Bits.{width_least}
-use Rattle.rasn_constraints.specs.Bounds.{allows, holds, at_least, at_most, not_below, not_above, Size, any_size}
+use Rattle.rasn_constraints.specs.Bounds.{allows, holds, Size}
 use Rattle.per_core.specs.Basic.{Row, Unsized, PaddingIf, Sized, InOctets, IsBounded, length_form, bounded_by, bounded_form}
 use Rattle.per_core.specs.Counts.{Counted, is_aligned}
-use Rattle.per_core.specs.Spellings.{Settings, Spelling, Then, When, AnyPadding, Field}
+use Rattle.per_core.specs.Spellings.{Settings, Spelling, Then, AnyPadding, Field}
 use Rattle.per_core.specs.Took.{Took}
 use Rattle.per_core.proofs.Agree.{padding_agree, field_agree}
-use Rattle.per_core.proofs.Lengths.{Zip, Zip-same, bounded_form_agree, unsized_agree, and_left, and_right}
+use Rattle.per_core.proofs.Lengths.{Zip-same, bounded_form_agree, unsized_agree, and_left, and_right}
 use Rattle.per_core.proofs.Took.{took_then, then_took, took_map, took_agree, nothing_took}
 use Rattle.per_de.specs.Kinds.{NoneIn}
-use Rattle.per_de.specs.Items.{Adds, TookItems}
+use Rattle.per_de.specs.Items.{TookItems}
 use Rattle.per_de.specs.Sizes.{Between, under_size}
 use Rattle.per_de.proofs.Fields.{when_took, field_below}
 use Rattle.per_de.proofs.Rows.{row_wide}
@@ -85,7 +85,7 @@ padding_once a true c d = (took_agree (padding_agree a) c d).1
 padding_once a false c d = sym (nothing_took c) ∙ nothing_took d
 
 module _ (a : Settings) (lb ub : ℕ) (kind : Counted) (w o n : ℕ) {s m : Bits} (b : Took (bounded_form a (ub - lb + 1) o) s m) (e : n ≡ lb + o) where
-  pub between_took : {C : Type 0} {holds : C → List ℕ → Type 0} {before after : C} {l t : Bits} {test : Bool} → test ≡ (ltb 0 n && is_aligned kind lb ub) → Took (PaddingIf test a) m l
+  pub between_took : {C : Type 0} {holds : C → C → List ℕ → Type 0} {before after : C} {l t : Bits} {test : Bool} → test ≡ (ltb 0 n && is_aligned kind lb ub) → Took (PaddingIf test a) m l
       → TookItems holds (Row (Field w)) n before after l t → TookItems holds (Between a lb ub kind (Field w)) n before after s t
   between_took {l = l} {t = t} i p r = record {
     codes = r.codes;
@@ -205,5 +205,5 @@ counts_held l u n h = short l u
     short (Some l) (Some u) = ap (λ z. leb l n && z) (always (leb n u))
 
 -- items in equal forms
-pub as_form : {C : Type 0} {holds : C → List ℕ → Type 0} {f h : List ℕ → Spelling} {n : ℕ} {before after : C} {s t : Bits} → ((xs : List ℕ) → f xs ≡ h xs) → TookItems holds f n before after s t → TookItems holds h n before after s t
+pub as_form : {C : Type 0} {holds : C → C → List ℕ → Type 0} {f h : List ℕ → Spelling} {n : ℕ} {before after : C} {s t : Bits} → ((xs : List ℕ) → f xs ≡ h xs) → TookItems holds f n before after s t → TookItems holds h n before after s t
 as_form {s = s} {t} e b = record { codes = b.codes; count = b.count; added = b.added; took = subst (λ z. Took z s t) (e b.codes) b.took }

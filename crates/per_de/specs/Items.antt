@@ -37,12 +37,12 @@ sized_items a size i = Sized a size (counted_of i) (coded i)
 abbrev pub lengthy_items : Settings → Size → Bool → Item → List ℕ → Spelling
 lengthy_items a size mark i = Lengthy a size mark (counted_of i) (coded i)
 
--- items were appended: what was held before is held with these behind it
-pub record Adds {C : Type 0} (holds : C → List ℕ → Type 0) (before : C) (codes : List ℕ) (after : C) : Type 0 where
-  pub behind : (xs : List ℕ) → holds before xs → holds after (xs ++ codes)
+-- items were appended: what was held before, since any start, is held with these behind it
+pub record Adds {C : Type 0} (holds : C → C → List ℕ → Type 0) (before : C) (codes : List ℕ) (after : C) : Type 0 where
+  pub behind : (start : C) (xs : List ℕ) → holds start before xs → holds start after (xs ++ codes)
 
 -- n items were read, in some form, and appended
-pub record TookItems {C : Type 0} (holds : C → List ℕ → Type 0) (form : List ℕ → Spelling) (n : ℕ) (before after : C) (s t : Bits) : Type 0 where
+pub record TookItems {C : Type 0} (holds : C → C → List ℕ → Type 0) (form : List ℕ → Spelling) (n : ℕ) (before after : C) (s t : Bits) : Type 0 where
   pub codes : List ℕ
   pub count : length codes ≡ n
   pub added : Adds holds before codes after

@@ -60,8 +60,8 @@ impl Item {
 pub trait Collector {
     ghost use Rattle.per_de.specs.declared.items.Item.{Item};
 
-    // The items that are held, by their codes.
-    ghost holds: { Self → List ℕ → Type 0 };
+    // The items that are held since a start, by their codes.
+    ghost holds: { Self → Self → List ℕ → Type 0 };
 
     // What the items are.
     ghost item: { Self → Item };
@@ -75,7 +75,7 @@ pub trait Collector {
         ensures few { bits_of result ≤ 16 };
 
     /// Appends the item of a code.
-    fn push(&mut self, code: u128) -> Result<(), AllocError>
+    fn push(&mut self, code: u32) -> Result<(), AllocError>
         requires few { code < 2 ^ bits_of (item self.old) }
         requires room { count self.old < usize.MAX }
         ensures ok { OnOk result (Adds holds self.old (code ∷ []) self.new) }
@@ -84,7 +84,7 @@ pub trait Collector {
 }
 
 impl Collector for Vec<u8> {
-    ghost holds = { λ octets codes. octets.items ≡ codes };
+    ghost holds = { λ _ octets codes. octets.items ≡ codes };
 
     ghost item = { λ _. Octet };
 
@@ -94,7 +94,7 @@ impl Collector for Vec<u8> {
         Item::Octet
     }
 
-    fn push(&mut self, code: u128) -> Result<(), AllocError> {
+    fn push(&mut self, code: u32) -> Result<(), AllocError> {
         Vec::push(self, code as u8)?;
         Ok(())
     }
@@ -117,7 +117,7 @@ pub fn take_row<C: Collector>(
         .take(width * count as u128)
         .map_err(DecodeErrorKind::Incomplete)?;
     for _ in 0..count {
-        items.push(take_number(&mut row, width)?)?;
+        items.push(take_number(&mut row, width)? as u32)?;
     }
     Ok(())
 }

@@ -45,7 +45,7 @@ pub fn take_octet_string(
 }
 
 impl Collector for BitString {
-    ghost holds = { λ bits codes. map bit_code bits ≡ codes };
+    ghost holds = { λ _ bits codes. map bit_code bits ≡ codes };
 
     ghost item = { λ _. Bit };
 
@@ -55,7 +55,7 @@ impl Collector for BitString {
         Item::Bit
     }
 
-    fn push(&mut self, code: u128) -> Result<(), AllocError> {
+    fn push(&mut self, code: u32) -> Result<(), AllocError> {
         BitString::push(self, code == 1)
     }
 }
@@ -78,15 +78,16 @@ pub fn take_bit_string(
 
 /// Characters as they are read.
 #[derive(Drop)]
-struct Characters<S: Drop> {
+struct Characters<S: StaticPermittedAlphabet> {
     alphabet: CharacterAlphabet,
     string: S,
     /// Whether a code had no character. The characters before it stand in the string.
     has_unknown: bool,
+    ghost own: { (character : ℕ) → has alphabet.characters character ≡ true → has S.alphabet character ≡ true },
 }
 
 impl<S: StaticPermittedAlphabet> Collector for Characters<S> {
-    ghost holds = { λ c codes. AreRead c.alphabet c.has_unknown (S.characters c.string) codes };
+    ghost holds = { λ start c codes. (c.alphabet ≡ start.alphabet) × AreRead start.alphabet c.has_unknown (S.characters c.string) codes };
 
     ghost item = { λ c. Character (char_width c.alphabet.variant c.alphabet.characters) };
 
@@ -96,11 +97,11 @@ impl<S: StaticPermittedAlphabet> Collector for Characters<S> {
         Item::Character(self.alphabet.width())
     }
 
-    fn push(&mut self, code: u128) -> Result<(), AllocError> {
+    fn push(&mut self, code: u32) -> Result<(), AllocError> {
         if self.has_unknown {
             return Ok(());
         }
-        match self.alphabet.decode(code as u32) {
+        match self.alphabet.decode(code) {
             Some(character) => self.string.push(character)?,
             None => self.has_unknown = true,
         }
@@ -158,5 +159,8 @@ pub fn take_utf8(
     ensures err { IfErr result (Faulty (IsOfText (settings codec) utf8 bits.old) (NoneIn (Proper (is_text utf8) (Octets (settings codec))) bits.old)) }
 {
     let octets = take_octets(bits, codec, alloc)?;
-    Utf8String::from_utf8(octets).map_err(|_| DecodeErrorKind::StringConversionFailed)
+    match Utf8String::from_utf8(octets) {
+        Ok(text) => Ok(text),
+        Err(_) => Err(DecodeErrorKind::StringConversionFailed),
+    }
 }

@@ -1,4 +1,4 @@
-use Rattle.std.proofs.Common.{◌≡◌, ◌∙◌, ◌+◌, ◌^◌, ◌<◌, ◌≤◌, arith, ap, refl, sym, subst, ℕ, rules}
+use Rattle.std.proofs.Common.{◌≡◌, ◌∙◌, ◌^◌, ◌<◌, arith, ap, refl, sym, subst, ℕ, rules, pow_mono}
 use Rattle.per_de.specs.Items.{TookItems, bits_of}
 use Rattle.per_core.specs.Basic.{Row}
 use Rattle.per_core.specs.Spellings.{Field}
@@ -17,6 +17,9 @@ push-requires-clause-room g c = omega (arith, c.loop.invariant.2, c.loop-test.tr
 
 pub returns-clause-count : goal.returns-clause-count
 returns-clause-count g c = omega (arith, c.loop.invariant.2, c.loop.auto.counter-end)
+
+pub overflow_cast-branch : goal.overflow_cast-branch
+overflow_cast-branch g c = omega (arith, field_below c.in_ok-take_number.ensures.ok, pow_mono {i = c.width-width.result} {j = 16} (omega (arith, c.width-width.ensures, c.item.ensures.few)))
 
 pub loop-preserved : goal.loop-preserved
 loop-preserved g c = (row_goes_on _ c.loop.invariant.0 c.loop-test.true c.in_ok-take_number.ensures.ok c.in_ok-push.ensures.ok, c.in_ok-push.ensures.item ∙ c.loop.invariant.1, omega (arith, c.in_ok-push.ensures.count, c.loop.invariant.2))

@@ -2,7 +2,7 @@ use Rattle.std.proofs.Common.{◌∙◌, ap, ◌∷◌}
 use Rattle.std.proofs.lemmas.Result.{IfOk-weaker, IfErr-weaker}
 use Rattle.rasn_constraints.specs.Constraints.{bounds_of}
 use Rattle.per_de.specs.State.{settings}
-use Rattle.per_de.proofs.Marks.{in_root, past_root, faulty_root, faulty_past, no_bit}
+use Rattle.per_de.proofs.Marks.{in_root, past_root, faulty_root, faulty_past}
 use Rattle.per_de.proofs.number.take_constrained.Goals as goal
 
 pub returns-then-not-value-clause-err : goal.returns-then-not-value-clause-err

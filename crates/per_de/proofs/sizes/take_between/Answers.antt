@@ -1,8 +1,6 @@
-use Rattle.std.proofs.Common.{◌≡◌, ◌∙◌, ◌+◌, ◌-◌, ◌<◌, ◌^◌, ◌&&◌, ltb, ℕ, arith, inr, ap, sym, refl, subst}
+use Rattle.std.proofs.Common.{◌+◌, ◌-◌, ◌&&◌, ltb, arith, inr, ap, sym, refl}
 use Rattle.std.proofs.lemmas.Result.{err_from_is_err_and}
-use Rattle.per_core.specs.Basic.{bounded_form}
 use Rattle.per_core.specs.Counts.{is_aligned}
-use Rattle.per_core.specs.Took.{Took}
 use Rattle.per_de.specs.Items.{bits_of, coded, counted_of}
 use Rattle.per_de.specs.State.{settings}
 use Rattle.per_de.proofs.Parts.{stopped}

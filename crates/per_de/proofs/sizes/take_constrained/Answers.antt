@@ -1,8 +1,8 @@
-use Rattle.std.proofs.Common.{◌∙◌, ap, ◌∷◌, rules}
-use Rattle.std.proofs.lemmas.Result.{err_from_is_err_and, IfOk-weaker, IfErr-weaker}
+use Rattle.std.proofs.Common.{◌∙◌, ap, ◌∷◌}
+use Rattle.std.proofs.lemmas.Result.{IfOk-weaker, IfErr-weaker}
 use Rattle.rasn_constraints.specs.Constraints.{size_between}
 use Rattle.per_de.specs.State.{settings}
-use Rattle.per_de.proofs.Miscounts.{in_size, past_size, faulty_in, faulty_past, no_bit}
+use Rattle.per_de.proofs.Miscounts.{in_size, past_size, faulty_in, faulty_past}
 use Rattle.per_de.proofs.Parts.{if_both}
 use Rattle.per_de.proofs.sizes.take_constrained.Goals as goal
 

@@ -1,5 +1,5 @@
 use Rattle.std.proofs.Common.{false}
-use Rattle.std.proofs.lemmas.Result.{IfOk-weaker, IfErr-weaker}
+use Rattle.std.proofs.lemmas.Result.{IfErr-weaker}
 use Rattle.per_de.specs.Items.{counted_of, coded}
 use Rattle.rasn_constraints.specs.Bounds.{any_size}
 use Rattle.per_de.specs.State.{settings}

@@ -1,7 +1,7 @@
 use Rattle.std.proofs.Common.{◌∙◌, sym, subst}
 use Rattle.std.proofs.lemmas.Result.{IfOk-weaker, IfErr-weaker}
 use Rattle.per_core.specs.Took.{Took}
-use Rattle.per_de.specs.Items.{TookItems, counted_of, coded}
+use Rattle.per_de.specs.Items.{counted_of, coded}
 use Rattle.per_de.specs.State.{settings}
 use Rattle.per_de.proofs.Parts.{stopped}
 use Rattle.per_de.proofs.SizeForms.{under_between, under_unsized, as_form}
