@@ -4,6 +4,7 @@ use std::process::Abort;
 
 /// What is expected of an alphabet: its bits, some characters with their codes, a character that isn't permitted, and
 /// a code that none has.
+#[derive(Drop)]
 struct Expected {
     width: u32,
     codes: &'static [(u32, u32)],
