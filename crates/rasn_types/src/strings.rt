@@ -138,7 +138,7 @@ impl PartialEq for VisibleString {
     ghost laws = { Prim.search (comparing, rules) };
 
     fn eq(&self, other: &VisibleString) -> bool {
-        self.characters.as_slice() == other.characters.as_slice()
+        self.as_iso646_bytes() == other.as_iso646_bytes()
     }
 }
 
@@ -225,7 +225,7 @@ impl PartialEq for Ia5String {
     ghost laws = { Prim.search (comparing, rules) };
 
     fn eq(&self, other: &Ia5String) -> bool {
-        self.characters.as_slice() == other.characters.as_slice()
+        self.as_iso646_bytes() == other.as_iso646_bytes()
     }
 }
 
@@ -338,7 +338,7 @@ impl PartialEq for PrintableString {
     ghost laws = { Prim.search (comparing, rules) };
 
     fn eq(&self, other: &PrintableString) -> bool {
-        self.characters.as_slice() == other.characters.as_slice()
+        self.as_bytes() == other.as_bytes()
     }
 }
 
@@ -431,7 +431,7 @@ impl PartialEq for NumericString {
     ghost laws = { Prim.search (comparing, rules) };
 
     fn eq(&self, other: &NumericString) -> bool {
-        self.characters.as_slice() == other.characters.as_slice()
+        self.as_bytes() == other.as_bytes()
     }
 }
 
@@ -514,7 +514,7 @@ impl PartialEq for BmpString {
     ghost laws = { Prim.search (comparing, rules) };
 
     fn eq(&self, other: &BmpString) -> bool {
-        self.units.as_slice() == other.units.as_slice()
+        self.as_units() == other.as_units()
     }
 }
 
