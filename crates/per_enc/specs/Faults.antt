@@ -2,9 +2,9 @@
 use Rattle.std.specs.Prelude.{ℕ, ◌≡◌, ◌⊎◌, Bool, true, false, ◌||◌, List, [], ◌∷◌, Option, Some, None, is_some, MatchOption, ℤ}
 use Rattle.rasn_types.specs.Codecs.{variant_of}
 use Rattle.rasn_types.specs.Values.{Value, whole}
-use Rattle.rasn_schema.specs.Bounds.{holds, fits_i128}
+use Rattle.rasn_constraints.specs.Bounds.{holds, fits_i128, Bounds}
 use Rattle.rasn_schema.specs.Records.{record_value}
-use Rattle.rasn_schema.specs.Schemas.{Bounds, Schema, Parts, part, Presence, TagTree}
+use Rattle.rasn_schema.specs.Schemas.{Schema, Parts, part, Presence, TagTree}
 use Rattle.rasn_schema.specs.Scopes.{record_of}
 use Rattle.per_core.specs.Canon.{canon}
 use Rattle.per_enc.specs.State.{State}

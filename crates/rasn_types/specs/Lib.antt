@@ -6,5 +6,8 @@ pub mod Forms
 pub mod Integers
 pub mod Intervals
 pub mod Octets
+pub mod Packed
+pub mod Prepared
 pub mod Values
 pub mod Variants
+pub mod Walks

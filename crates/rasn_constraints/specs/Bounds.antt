@@ -1,0 +1,64 @@
+-- Bounds of numbers and of counts: which numbers stand within bounds, and which counts a size allows (ITU-T X.680, 51).
+use Rattle.std.specs.Prelude.{ℕ, suc, ◌+◌, ◌-◌, ◌^◌, Bool, true, ◌&&◌, leb, ltb, Option, Some, None, ℤ, pos, negsuc}
+use lib.Signed.{le_z}
+
+-- X.680 51.4: the least and the greatest number of a value constraint, each where there is one
+pub record Bounds : Type 0 where
+  pub low : Option ℤ
+  pub high : Option ℤ
+
+-- X.680 51.5: the least and the greatest count of a size constraint, each where there is one
+pub record Size : Type 0 where
+  pub least : Option ℕ
+  pub most : Option ℕ
+
+-- no value constraint
+abbrev pub unbounded : Bounds
+unbounded = record { low = None; high = None }
+
+-- no size constraint
+abbrev pub any_size : Size
+any_size = record { least = None; most = None }
+
+-- the bounds with a least and a greatest number
+abbrev pub between : ℤ → ℤ → Bounds
+between a b = record { low = Some a; high = Some b }
+
+-- whether a count is at least the lower bound, where there is one
+abbrev pub at_least : Option ℕ → ℕ → Bool
+at_least None n = true
+at_least (Some l) n = leb l n
+
+-- whether a count is at most the upper bound, where there is one
+abbrev pub at_most : Option ℕ → ℕ → Bool
+at_most None n = true
+at_most (Some u) n = leb n u
+
+-- X.680 51.5: whether a size allows a count; no string or list has more members than `usize::MAX` (this project's choice)
+abbrev pub allows : Size → ℕ → Bool
+allows size n = at_least size.least n && (at_most size.most n && ltb n (2 ^ 64))
+
+-- whether a number is at least the lower bound, where there is one
+abbrev pub not_below : Option ℤ → ℤ → Bool
+not_below None v = true
+not_below (Some l) v = le_z l v
+
+-- whether a number is at most the upper bound, where there is one
+abbrev pub not_above : Option ℤ → ℤ → Bool
+not_above None v = true
+not_above (Some u) v = le_z v u
+
+-- X.680 51.4: whether a number stands within bounds
+abbrev pub holds : Bounds → ℤ → Bool
+holds b v = not_below b.low v && not_above b.high v
+
+-- whether a number is one of the type i128
+abbrev pub fits_i128 : ℤ → Bool
+fits_i128 v = holds (record { low = Some (negsuc (2 ^ 127 - 1)); high = Some (pos (2 ^ 127 - 1)) }) v
+
+-- X.691 11.5.3, 11.7.3: how far v is above l, where it isn't below
+abbrev pub above : ℤ → ℤ → ℕ
+above (pos l) (pos v) = v - l
+above (pos l) (negsuc v) = 0
+above (negsuc l) (pos v) = v + suc l
+above (negsuc l) (negsuc v) = l - v

@@ -1,7 +1,0 @@
-use Rattle.std.proofs.Common.{◌≡◌, drop}
-use Rattle.rasn_schema.specs.Constraints.{first_of, stated_size}
-use Rattle.rasn_schema.proofs.constraints.Constraints.size.Given as goal
-
--- the first of the constraints that are left is the first of all
-abbrev pub invariant-loop-constraint : goal.invariant-loop-constraint
-invariant-loop-constraint l = first_of stated_size (drop l.constraint-index l.constraint-items) ≡ l.self.size
