@@ -1,9 +1,9 @@
 -- Sizes and permitted alphabets of character strings.
 use Rattle.std.specs.Prelude.{ℕ, Bool, true, false, List, [], ◌∷◌, Some, None}
 use Rattle.rasn_types.specs.Alphabets.{from_to}
-use Rattle.rasn_schema.specs.Forms.{no_constraints}
-use Rattle.rasn_schema.specs.declared.constraints.Bounded.TheVariants.{Range}
-use Rattle.rasn_schema.specs.declared.constraints.Constraints.{Constraints}
+use Rattle.rasn_constraints.specs.Ranges.{no_constraints}
+use Rattle.rasn_constraints.specs.declared.constraints.Bounded.TheVariants.{Range}
+use Rattle.rasn_constraints.specs.declared.constraints.Constraints.{Constraints}
 
 -- X.680 51.5, 52: a size alone, from a least to a greatest count of characters, and whether it has an extension marker
 abbrev pub sized : ℕ → ℕ → Bool → Constraints
