@@ -38,7 +38,7 @@ impl Encode for OctetString {
         constraints: &Constraints,
         identifier: Identifier,
     ) -> Result<(), E::Error> {
-        encoder.encode_octet_string(tag, constraints, self.as_octets(), identifier)
+        encoder.encode_octet_string(tag, constraints, self.as_bytes(), identifier)
     }
 }
 
