@@ -167,6 +167,7 @@ impl<A: Allocator + Clone> Encoder<A> {
         ensures ok { OnOk result (Wrote self.old (just (bit ∷ [])) self.new) }
         ensures err { IfErr result (λ e. IsMemory e self.old) }
         ensures fails { OnErr result (self.new.failed ≡ true) }
+        ensures kept { self.new.codec ≡ self.old.codec }
     {
         let pushed = self.bits.push(bit);
         self.unless_out_of_memory(pushed)
@@ -178,6 +179,7 @@ impl<A: Allocator + Clone> Encoder<A> {
         ensures ok { OnOk result (Wrote self.old (octets_unsized (variant_of self.old.codec) octets.now) self.new) }
         ensures err { IfErr result (λ e. IsMemory e self.old) }
         ensures fails { OnErr result (self.new.failed ≡ true) }
+        ensures kept { self.new.codec ≡ self.old.codec }
     {
         let pushed = push_octets_unsized(&mut self.bits, self.codec, octets);
         self.unless_out_of_memory(pushed)
