@@ -1,25 +1,29 @@
 //! The canonical encoder of the packed encoding rules (ITU-T X.691).
 #![tactic(auto)]
 
-ghost use Rattle.std.specs.Prelude.{◌≡◌, ◌∷◌, [], true, false, Some, OnOk, OnErr, IfOk, IfErr};
+ghost use Rattle.std.specs.Prelude.{◌≡◌, ◌≤◌, ◌∷◌, [], true, false, Some, OnOk, OnErr, IfOk, IfErr};
+ghost use Rattle.rasn_types.specs.Bits.{to_bits};
 ghost use Rattle.rasn_types.specs.Codecs.{variant_of};
 ghost use Rattle.rasn_types.specs.declared.types.Codec.TheVariants.{Uper};
 ghost use Rattle.rasn_schema.specs.Calls.{Writes};
-ghost use Rattle.per_core.specs.Writers.{just, complete};
-ghost use Rattle.per_core.specs.Counts.{octets_unsized};
+ghost use Rattle.per_core.specs.Writers.{just, complete, in_a_row};
+ghost use Rattle.per_core.specs.Counts.{octet_writers, octets_unsized};
 ghost use Rattle.per_core.specs.Canon.{completed};
 ghost use Rattle.per_enc.specs.State.{view, Wrote, Presents};
 ghost use Rattle.per_enc.specs.Faults.{IsError, IsMemory, IsAlready, RefusesValue, RefusesOutput};
 
 pub mod error;
 mod integers;
+mod items;
 mod lengths;
 mod numbers;
+mod sizes;
+mod strings;
 #[cfg(test)]
 mod tests;
 
 pub use error::{EncodeError, EncodeErrorKind};
-use lengths::push_octets_unsized;
+use items::Octets;
 use per_bits::{BitList, BitReader};
 use per_core::per;
 use rasn_schema::codec;
@@ -173,6 +177,31 @@ impl<A: Allocator + Clone> Encoder<A> {
         self.unless_out_of_memory(pushed)
     }
 
+    /// Writes the low `width` bits of a number, highest first (X.691 11.3).
+    fn put_bits(&mut self, number: u128, width: u128) -> Result<(), EncodeError>
+        requires begun { self.old.failed ≡ false }
+        requires few { width ≤ 128 }
+        ensures ok { OnOk result (Wrote self.old (just (to_bits width number)) self.new) }
+        ensures err { IfErr result (λ e. IsMemory e self.old) }
+        ensures fails { OnErr result (self.new.failed ≡ true) }
+        ensures kept { self.new.codec ≡ self.old.codec }
+    {
+        let pushed = self.bits.push_bits(number, width);
+        self.unless_out_of_memory(pushed)
+    }
+
+    /// Writes octets with no length.
+    fn put_bare_octets(&mut self, octets: &[u8]) -> Result<(), EncodeError>
+        requires { self.old.failed ≡ false }
+        ensures ok { OnOk result (Wrote self.old (in_a_row (octet_writers octets.now)) self.new) }
+        ensures err { IfErr result (λ e. IsMemory e self.old) }
+        ensures fails { OnErr result (self.new.failed ≡ true) }
+        ensures kept { self.new.codec ≡ self.old.codec }
+    {
+        let pushed = self.bits.push_octets(octets);
+        self.unless_out_of_memory(pushed)
+    }
+
     /// Writes octets behind an unconstrained length (X.691 11.9.3.5 to 11.9.3.8).
     fn put_octets(&mut self, octets: &[u8]) -> Result<(), EncodeError>
         requires { self.old.failed ≡ false }
@@ -181,8 +210,7 @@ impl<A: Allocator + Clone> Encoder<A> {
         ensures fails { OnErr result (self.new.failed ≡ true) }
         ensures kept { self.new.codec ≡ self.old.codec }
     {
-        let pushed = push_octets_unsized(&mut self.bits, self.codec, octets);
-        self.unless_out_of_memory(pushed)
+        self.put_unsized(&Octets(octets))
     }
 
     /// What was made, unless memory ran out; then the encoder has failed.
