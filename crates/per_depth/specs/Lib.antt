@@ -1,2 +1,3 @@
 pub mod Levels
+pub mod Listings
 pub mod Written

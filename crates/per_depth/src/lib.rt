@@ -4,6 +4,8 @@
 //! written stands at a Cut of its tree. A part that is left out at its default (X.691, section 19) isn't written.
 #![tactic(auto)]
 
+pub mod lawful;
+
 ghost use Rattle.std.specs.Prelude.{◌≡◌, ◌+◌, ◌<◌, ◌≤◌, ◌++◌, ℕ, suc, false, List, Some};
 ghost use Rattle.rasn_types.specs.Bits.{Bits};
 ghost use Rattle.rasn_types.specs.Values.{Value};

@@ -1,2 +1,3 @@
-pub mod Reading
 pub mod Long
+pub mod Reading
+pub mod Unfoldings

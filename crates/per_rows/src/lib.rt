@@ -1,10 +1,11 @@
-//! Worked encodings of the packed encoding rules, as theorems.
+//! Worked encodings of the packed encoding rules, and worked cases of lawful schemas, as theorems.
 #![tactic(auto)]
 
 pub mod choices;
 pub mod dates;
 pub mod extensions;
 pub mod integers;
+pub mod lawful;
 pub mod lists;
 pub mod readings;
 pub mod records;

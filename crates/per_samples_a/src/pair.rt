@@ -3,12 +3,11 @@
 ghost use Rattle.std.specs.Prelude.{refl, true, [], ◌∷◌, false, ◌≡◌, IsErrAnd, OnErr};
 ghost use Rattle.rasn_schema.specs.Schemas.{listed};
 ghost use Rattle.rasn_schema.specs.Normal.{normals};
-ghost use Rattle.rasn_schema.specs.Calls.{Answers};
 ghost use Rattle.rasn_schema.specs.Forms.{no_constraints};
 ghost use Rattle.rasn_schema.specs.Fields.{shapes_from};
 ghost use Rattle.rasn_schema.specs.Records.{AtParts, record_at, no_additions, record_value};
 ghost use Rattle.rasn_schema.specs.Families.{record_unfolds, parts_unfold};
-ghost use Rattle.rasn_schema.specs.Scopes.{WritesParts, ReadsParts};
+ghost use Rattle.rasn_schema.specs.Scopes.{WritesParts, AnswersParts};
 ghost use Rattle.per_samples_a.specs.Pairs.{pair_parts, pair_contents, pair_unfolds};
 
 use rasn_schema::codec::{Decode, Decoder, Encode, Encoder};
@@ -100,7 +99,8 @@ impl Encode for Pair {
         encoder.encode_sequence::<Pair, _, _>(
             tag,
             |e: &mut E| -> Result<(), E::Error>
-                ensures { AtParts pair_parts 0 (λ ps. WritesParts E.memory E.presents E.refuses ps (normals ps (pair_contents self.entry.now.a self.entry.now.b)) e.old result e.new) }
+                ensures law { AtParts pair_parts 0 (λ ps. WritesParts E.memory E.presents E.refuses ps (normals ps (pair_contents self.entry.now.a self.entry.now.b)) e.old result e.new) }
+                ensures kept { E.codec e.new ≡ E.codec e.old }
             {
                 self.a.encode_with_tag(e, A)?;
                 self.b.encode_with_tag(e, B)
@@ -119,8 +119,10 @@ impl Decode for Pair {
         let _ = constraints;
         decoder.decode_sequence(
             tag,
+            None::<fn() -> Pair>,
             |d|
-                ensures { Answers D.memory D.fault (ReadsParts D.spells (pair_parts (D.levels d.old))) (λ x. pair_contents x.a x.b) d.old result d.new }
+                ensures law { AnswersParts D.memory D.fault D.spells (pair_parts (D.levels d.old)) (λ x. pair_contents x.a x.b) d.old result d.new }
+                ensures kept { D.codec d.new ≡ D.codec d.old }
             {
                 let a = bool::decode_with_tag(d, A)?;
                 let b = i128::decode_with_tag(d, B)?;

@@ -4,7 +4,7 @@ use Rattle.rasn_types.specs.Values.{Value}
 use Rattle.rasn_schema.specs.Schemas.{TagTree, Presence, required, optional, group, default, listed, Schema, Parts, no_parts, part}
 use Rattle.rasn_schema.specs.Calls.{Refuses, ReadsWell}
 use Rattle.rasn_schema.specs.Records.{record_at, no_additions, record_value}
-use Rattle.rasn_schema.specs.Scopes.{record_of, ReadsPart, reads_required, ReadsParts, reads_end, reads_next, ScopesWell}
+use Rattle.rasn_schema.specs.Scopes.{record_of, ReadsPart, reads_required, ReadsParts, reads_end, reads_next, faulty_required, FaultyParts, faulty_here, faulty_behind, ScopesWell}
 
 module _ {S : Type 0} {spells : Schema → S → Value → S → Type 0} where
   required_of : {c : Schema} {s t : S} {x : Option Value} → ReadsPart spells required c s x t → (v : Value) × (x ≡ Some v) × spells c s v t
@@ -17,16 +17,15 @@ module _ {S : Type 0} {spells : Schema → S → Value → S → Type 0} where
       → (y : Option Value) × (ys : List (Option Value)) × (m : S) × (xs ≡ y ∷ ys) × ReadsPart spells p c s y m × ReadsParts spells ps m ys t
   next_of (reads_next {m = m} {r = y} {rs = ys} a b) = (y, ys, m, refl, a, b)
 
-module _ {S E : Type 0} {levels : S → ℕ} {failed : S → Bool} {memory fault : E → S → Type 0} {spells : Schema → S → Value → S → Type 0}
-    (L : (c : Schema) → ReadsWell levels failed memory fault (spells c)) where
+module _ {S E : Type 0} {levels : S → ℕ} {failed : S → Bool} {memory : E → S → Type 0} {spells : Schema → S → Value → S → Type 0}
+    (L : (c : Schema) → ReadsWell levels failed memory (spells c)) where
   -- a component is read as well as a value
-  pub part_reads_well : (p : Presence) (c : Schema) → ReadsWell levels failed memory fault (ReadsPart spells p c)
+  pub part_reads_well : (p : Presence) (c : Schema) → ReadsWell levels failed memory (ReadsPart spells p c)
   part_reads_well required c = record {
     one = λ s x y t u a b. let h = required_of a in let j = required_of b in let q = (L c).one s h.0 j.0 t u h.2 j.2 in (h.1 ∙ ap Some q.0 ∙ sym j.1, q.1);
     level = λ s x t a. let h = required_of a in (L c).level s h.0 t h.2;
     begun = λ s x t a. let h = required_of a in (L c).begun s h.0 t h.2;
     left = λ s x t a. let h = required_of a in (L c).left s h.0 t h.2;
-    back = λ s x t e a. let h = required_of a in (L c).back s h.0 t e h.2;
     room = λ s x t e a. let h = required_of a in (L c).room s h.0 t e h.2;
   }
   part_reads_well optional c = record {
@@ -34,7 +33,6 @@ module _ {S E : Type 0} {levels : S → ℕ} {failed : S → Bool} {memory fault
     level = λ s x t a. elim a [ ];
     begun = λ s x t a. elim a [ ];
     left = λ s x t a. elim a [ ];
-    back = λ s x t e a. elim a [ ];
     room = λ s x t e a. elim a [ ];
   }
   part_reads_well group c = record {
@@ -42,7 +40,6 @@ module _ {S E : Type 0} {levels : S → ℕ} {failed : S → Bool} {memory fault
     level = λ s x t a. elim a [ ];
     begun = λ s x t a. elim a [ ];
     left = λ s x t a. elim a [ ];
-    back = λ s x t e a. elim a [ ];
     room = λ s x t e a. elim a [ ];
   }
   part_reads_well (default d) c = record {
@@ -50,28 +47,26 @@ module _ {S E : Type 0} {levels : S → ℕ} {failed : S → Bool} {memory fault
     level = λ s x t a. elim a [ ];
     begun = λ s x t a. elim a [ ];
     left = λ s x t a. elim a [ ];
-    back = λ s x t e a. elim a [ ];
     room = λ s x t e a. elim a [ ];
   }
 
   -- a component that is not read
-  pub fails_part : {A : Type 0} {k : TagTree} {p : Presence} {c : Schema} {ps : Parts} {s : S} {e : E}
-      → A ⊎ Refuses (ReadsPart spells p c) fault e s → A ⊎ Refuses (ReadsParts spells (part k p c ps)) fault e s
-  fails_part (inl a) = inl a
-  fails_part (inr r) = inr (record { nothing = λ xs t a. let q = next_of a in r.nothing q.0 q.2 q.4; stands = r.stands })
-
-  pub fails_required : {A : Type 0} {k : TagTree} {c : Schema} {ps : Parts} {s : S} {e : E}
-      → A ⊎ Refuses (spells c) fault e s → A ⊎ Refuses (ReadsParts spells (part k required c ps)) fault e s
+  pub fails_required : {fault : Schema → E → S → Type 0} {A : Type 0} {k : TagTree} {c : Schema} {ps : Parts} {s : S} {e : E}
+      → A ⊎ Refuses (spells c) (fault c) e s → A ⊎ Refuses (ReadsParts spells (part k required c ps)) (λ e. FaultyParts fault spells e (part k required c ps)) e s
   fails_required (inl a) = inl a
-  fails_required (inr r) = fails_part (inr (record { nothing = λ x t a. let h = required_of a in r.nothing h.0 t h.2; stands = r.stands }))
+  fails_required (inr r) = inr (record {
+    nothing = λ xs t a. let q = next_of a in let h = required_of q.4 in r.nothing h.0 q.2 h.2;
+    stands = faulty_here (faulty_required r.stands);
+  })
 
   -- a component behind one that was read
-  pub fails_behind : {k : TagTree} {p : Presence} {c : Schema} {ps : Parts} {s m : S} {x : Option Value} {e : E} → ReadsPart spells p c s x m
-      → memory e m ⊎ Refuses (ReadsParts spells ps) fault e m → memory e s ⊎ Refuses (ReadsParts spells (part k p c ps)) fault e s
+  pub fails_behind : {fault : Schema → E → S → Type 0} {k : TagTree} {p : Presence} {c : Schema} {ps : Parts} {s m : S} {x : Option Value} {e : E} → ReadsPart spells p c s x m
+      → memory e m ⊎ Refuses (ReadsParts spells ps) (λ e. FaultyParts fault spells e ps) e m
+      → memory e s ⊎ Refuses (ReadsParts spells (part k p c ps)) (λ e. FaultyParts fault spells e (part k p c ps)) e s
   fails_behind {p = p} {c = c} {s = s} {m = m} {x = x} {e = e} a (inl h) = inl ((part_reads_well p c).room s x m e a h)
   fails_behind {p = p} {c = c} {ps = ps} {s = s} {m = m} {x = x} {e = e} a (inr r) = inr (record {
     nothing = λ xs t b. let q = next_of b in r.nothing q.1 t (subst (λ z. ReadsParts spells ps z q.1 t) ((part_reads_well p c).one s q.0 x q.2 m q.4 a).1 q.5);
-    stands = (part_reads_well p c).back s x m e a r.stands;
+    stands = faulty_behind a r.stands;
   })
 
   -- components are read in one way
@@ -88,10 +83,6 @@ module _ {S E : Type 0} {levels : S → ℕ} {failed : S → Bool} {memory fault
   parts_left ps s xs t h reads_end = h
   parts_left ps s xs t h (reads_next {p = p} {c = c} {ps = qs} {m = m} {r = y} {rs = ys} a b) = parts_left qs m ys t ((part_reads_well p c).left s y m a) b
 
-  pub parts_back : (ps : Parts) (s : S) (xs : List (Option Value)) (t : S) (e : E) → ReadsParts spells ps s xs t → fault e t → fault e s
-  parts_back ps s xs t e reads_end h = h
-  parts_back ps s xs t e (reads_next {p = p} {c = c} {ps = qs} {m = m} {r = y} {rs = ys} a b) h = (part_reads_well p c).back s y m e a (parts_back qs m ys t e b h)
-
   pub parts_room : (ps : Parts) (s : S) (xs : List (Option Value)) (t : S) (e : E) → ReadsParts spells ps s xs t → memory e t → memory e s
   parts_room ps s xs t e reads_end h = h
   parts_room ps s xs t e (reads_next {p = p} {c = c} {ps = qs} {m = m} {r = y} {rs = ys} a b) h = (part_reads_well p c).room s y m e a (parts_room qs m ys t e b h)
@@ -102,9 +93,9 @@ pub required_read : {S : Type 0} {spells : Schema → S → Value → S → Type
 required_read m a b = reads_next (reads_required a) b
 
 -- a record, as the calls of a decoder read it
-module _ {S O E : Type 0} {levels : S → ℕ} {failed : S → Bool} {memory fault : E → S → Type 0} {spells : Schema → S → Value → S → Type 0}
-    {opens : Schema → S → O → S → Type 0} {closes : S → O → S → Type 0}
-    (L : (c : Schema) → ReadsWell levels failed memory fault (spells c)) (K : ScopesWell failed memory fault spells opens closes)
+module _ {S O E : Type 0} {levels : S → ℕ} {failed : S → Bool} {memory : E → S → Type 0} {fault : Schema → E → S → Type 0} {unended : O → E → S → Type 0}
+    {spells : Schema → S → Value → S → Type 0} {opens : Schema → S → O → S → Type 0} {closes : S → O → S → Type 0}
+    (L : (c : Schema) → ReadsWell levels failed memory (spells c)) (K : ScopesWell failed memory fault unended spells opens closes)
     (parts : ℕ → Parts) {s i : S} {o : O} (l : levels s ≡ suc (levels i)) (h : opens (record_of (parts (levels i))) s o i) where
   as_record : (P : Schema → Type 0) → P (record_of (parts (levels i))) → P (record_at listed parts false no_additions (levels s))
   as_record P q = subst P (sym (ap (record_at listed parts false no_additions) l)) q
@@ -117,21 +108,21 @@ module _ {S O E : Type 0} {levels : S → ℕ} {failed : S → Bool} {memory fau
   record_ended xs j t a b = as_record (λ c. spells c s (record_value xs []) t) (K.record_read (parts (levels i)) s i j t o xs h a b)
 
   -- a component that is not read
-  pub record_failed : {e : E} → memory e i ⊎ Refuses (ReadsParts spells (parts (levels i))) fault e i
-      → memory e s ⊎ Refuses (spells (record_at listed parts false no_additions (levels s))) fault e s
+  pub record_failed : {e : E} → memory e i ⊎ Refuses (ReadsParts spells (parts (levels i))) (λ e. FaultyParts fault spells e (parts (levels i))) e i
+      → memory e s ⊎ Refuses (spells (record_at listed parts false no_additions (levels s))) (fault (record_at listed parts false no_additions (levels s))) e s
   record_failed {e} (inl m) = inl (K.room (record_of (parts (levels i))) s o i e h m)
-  record_failed {e} (inr r) = inr (as_record (λ c. Refuses (spells c) fault e s) (record {
+  record_failed {e} (inr r) = inr (as_record (λ c. Refuses (spells c) (fault c) e s) (record {
     nothing = λ v t q. let k = K.record_back (parts (levels i)) s i t o v h q in r.nothing k.0 k.1 k.2;
-    stands = K.back (record_of (parts (levels i))) s o i e h r.stands;
+    stands = K.in_part (parts (levels i)) s o i e h r.stands;
   }))
 
   -- an end that is not read
-  pub record_endless : {e : E} (xs : List (Option Value)) (j : S) → ReadsParts spells (parts (levels i)) i xs j → memory e j ⊎ (((t : S) → closes j o t → ⊥) × fault e j)
-      → memory e s ⊎ Refuses (spells (record_at listed parts false no_additions (levels s))) fault e s
+  pub record_endless : {e : E} (xs : List (Option Value)) (j : S) → ReadsParts spells (parts (levels i)) i xs j → memory e j ⊎ (((t : S) → closes j o t → ⊥) × unended o e j)
+      → memory e s ⊎ Refuses (spells (record_at listed parts false no_additions (levels s))) (fault (record_at listed parts false no_additions (levels s))) e s
   record_endless {e} xs j a (inl m) = inl (K.room (record_of (parts (levels i))) s o i e h (parts_room L (parts (levels i)) i xs j e a m))
-  record_endless {e} xs j a (inr b) = inr (as_record (λ c. Refuses (spells c) fault e s) (record {
+  record_endless {e} xs j a (inr b) = inr (as_record (λ c. Refuses (spells c) (fault c) e s) (record {
     nothing = λ v t q.
         let k = K.record_back (parts (levels i)) s i t o v h q in
         b.0 t (subst (λ z. closes z o t) (parts_one L (parts (levels i)) i k.0 xs k.1 j k.2 a).1 k.3);
-    stands = K.back (record_of (parts (levels i))) s o i e h (parts_back L (parts (levels i)) i xs j e a b.1);
+    stands = K.at_end (parts (levels i)) s i j o xs e h a b.1;
   }))

@@ -33,11 +33,14 @@ abbrev pub Answers : {S V T E : Type 0} → (E → S → Type 0) → (E → S �
 Answers memory fault R value s (Ok v) t = R s (value v) t
 Answers memory fault R value s (Err e) t = memory e s ⊎ Refuses R fault e s
 
--- What holds of each relation of a decoder: one value and one state, at the same depth, unfailed, and a later fault or want of memory is one of the whole.
-pub record ReadsWell {S V E : Type 0} (levels : S → ℕ) (failed : S → Bool) (memory fault : E → S → Type 0) (R : S → V → S → Type 0) : Type 0 where
+-- The law of a call of a decoder that reads a schema.
+abbrev pub Reads : {S T E : Type 0} → (E → S → Type 0) → (Schema → E → S → Type 0) → (Schema → S → Value → S → Type 0) → Schema → (T → Value) → S → Result T E → S → Type 0
+Reads memory fault spells c = Answers memory (fault c) (spells c)
+
+-- What holds of each relation of a decoder: one value and one state, at the same depth, unfailed, and want of memory behind it is want of memory of the whole.
+pub record ReadsWell {S V E : Type 0} (levels : S → ℕ) (failed : S → Bool) (memory : E → S → Type 0) (R : S → V → S → Type 0) : Type 0 where
   pub one : (s : S) (v w : V) (t u : S) → R s v t → R s w u → (v ≡ w) × (t ≡ u)
   pub level : (s : S) (v : V) (t : S) → R s v t → levels t ≡ levels s
   pub begun : (s : S) (v : V) (t : S) → R s v t → failed s ≡ false
   pub left : (s : S) (v : V) (t : S) → R s v t → failed t ≡ false
-  pub back : (s : S) (v : V) (t : S) (e : E) → R s v t → fault e t → fault e s
   pub room : (s : S) (v : V) (t : S) (e : E) → R s v t → memory e t → memory e s

@@ -45,6 +45,18 @@ is_size_marked c = is_marked c.size
 abbrev pub alphabet_of : List ℕ → Constraints → List ℕ
 alphabet_of own c = permitted own c.alphabet
 
+-- X.691 17: OCTET STRING under the first size constraint, with its mark
+abbrev pub octet_schema : Constraints → Schema
+octet_schema c = Schema.octet_string (size_of c) (is_size_marked c)
+
+-- X.691 16: BIT STRING under the first size constraint, with its mark
+abbrev pub bit_schema : Constraints → Schema
+bit_schema c = Schema.bit_string (size_of c) (is_size_marked c)
+
+-- X.691 30.5: a known-multiplier string of a type with these characters, under the first size constraint, with its mark, and the first permitted alphabet
+abbrev pub character_schema : List ℕ → Constraints → Schema
+character_schema own c = Schema.char_string (alphabet_of own c) (size_of c) (is_size_marked c)
+
 -- a family that is one kind at every depth, in which no schema stands
 abbrev pub always : Schema → ℕ → Schema
 always s n = s

@@ -55,6 +55,10 @@ ClosesWritten {E} {X} memory presents refuses opens parts o j r y =
     (x i : X) (n : ℕ) (rs : List (Option Value)) → opens x o i → PresentsParts presents (parts n) i rs j
     → Writes memory presents refuses (record_of (parts n)) (record_value rs []) x r y
 
+-- What a function owes that is lent a codec: the variant stays.
+pub record KeepsCodec {X R C : Type 0} (codec : X → C) (returns : X → R → X → Type 0) : Type 0 where
+  pub stays : (x : X) (r : R) (y : X) → returns x r y → codec y ≡ codec x
+
 -- What a function owes that is lent an encoder to write the components rs of at most k levels.
 pub record WritesScope {E X : Type 0} (memory : E → X → Type 0) (presents : X → Schema → Value → X → Type 0) (refuses : E → X → Schema → Value → Type 0)
     (parts : ℕ → Parts) (rs : List (Option Value)) (k : ℕ) (returns : X → Result (Unit {0}) E → X → Type 0) : Type 0 where
@@ -70,28 +74,45 @@ pub data ReadsParts {S : Type 0} (spells : Schema → S → Value → S → Type
   reads_next : {k : TagTree} {p : Presence} {c : Schema} {ps : Parts} {s m t : S} {r : Option Value} {rs : List (Option Value)}
       → ReadsPart spells p c s r m → ReadsParts spells ps m rs t → ReadsParts spells (part k p c ps) s (r ∷ rs) t
 
+-- The fault that an error names stands in one component.
+pub data FaultyPart {S E : Type 0} (fault : Schema → E → S → Type 0) (e : E) : Presence → Schema → S → Type 0 where
+  faulty_required : {c : Schema} {s : S} → fault c e s → FaultyPart fault e required c s
+
+-- The fault that an error names stands in one of some components, behind those that are read before it.
+pub data FaultyParts {S E : Type 0} (fault : Schema → E → S → Type 0) (spells : Schema → S → Value → S → Type 0) (e : E) : Parts → S → Type 0 where
+  faulty_here : {k : TagTree} {p : Presence} {c : Schema} {ps : Parts} {s : S} → FaultyPart fault e p c s → FaultyParts fault spells e (part k p c ps) s
+  faulty_behind : {k : TagTree} {p : Presence} {c : Schema} {ps : Parts} {s m : S} {r : Option Value}
+      → ReadsPart spells p c s r m → FaultyParts fault spells e ps m → FaultyParts fault spells e (part k p c ps) s
+
+-- The law of what reads components.
+abbrev pub AnswersParts : {S T E : Type 0} → (E → S → Type 0) → (Schema → E → S → Type 0) → (Schema → S → Value → S → Type 0) → Parts → (T → List (Option Value)) → S → Result T E → S → Type 0
+AnswersParts memory fault spells ps = Answers memory (λ e. FaultyParts fault spells e ps) (ReadsParts spells ps)
+
 -- The law of opening a record to read: Ok is inside, one level deeper, and Err, memory aside, comes only where no such record is read.
-abbrev pub OpensToRead : {E S O : Type 0} → (S → ℕ) → (E → S → Type 0) → (E → S → Type 0) → (Schema → S → Value → S → Type 0) → (Schema → S → O → S → Type 0)
+abbrev pub OpensToRead : {E S O : Type 0} → (S → ℕ) → (E → S → Type 0) → (Schema → E → S → Type 0) → (Schema → S → Value → S → Type 0) → (Schema → S → O → S → Type 0)
     → (ℕ → Parts) → S → Result O E → S → Type 0
 OpensToRead levels memory fault spells opens parts s (Ok o) i = (levels s ≡ suc (levels i)) × opens (record_of (parts (levels i))) s o i
-OpensToRead levels memory fault spells opens parts s (Err e) i = memory e s ⊎ Refuses (spells (record_at listed parts false no_additions (levels s))) fault e s
+OpensToRead levels memory fault spells opens parts s (Err e) i =
+    let c = record_at listed parts false no_additions (levels s) in memory e s ⊎ Refuses (spells c) (fault c) e s
 
 -- The law of closing one: Err, memory aside, comes only where the record can't end here.
-abbrev pub ClosesRead : {E S O : Type 0} → (E → S → Type 0) → (E → S → Type 0) → (S → O → S → Type 0) → O → S → Result (Unit {0}) E → S → Type 0
-ClosesRead memory fault closes o s (Ok u) t = closes s o t
-ClosesRead {S = S} memory fault closes o s (Err e) t = memory e s ⊎ (((u : S) → closes s o u → ⊥) × fault e s)
+abbrev pub ClosesRead : {E S O : Type 0} → (E → S → Type 0) → (O → E → S → Type 0) → (S → O → S → Type 0) → O → S → Result (Unit {0}) E → S → Type 0
+ClosesRead memory unended closes o s (Ok u) t = closes s o t
+ClosesRead {S = S} memory unended closes o s (Err e) t = memory e s ⊎ (((u : S) → closes s o u → ⊥) × unended o e s)
 
 -- What a function owes that is lent a decoder, with `outer` levels before the scope, to read components.
-pub record ReadsScope {E S T : Type 0} (levels : S → ℕ) (memory fault : E → S → Type 0) (spells : Schema → S → Value → S → Type 0)
+pub record ReadsScope {E S T : Type 0} (levels : S → ℕ) (memory : E → S → Type 0) (fault : Schema → E → S → Type 0) (spells : Schema → S → Value → S → Type 0)
     (parts : ℕ → Parts) (contents : T → List (Option Value)) (outer : ℕ) (returns : S → Result T E → S → Type 0) : Type 0 where
-  pub keeps : (s : S) (r : Result T E) (t : S) → suc (levels s) ≡ outer → returns s r t → Answers memory fault (ReadsParts spells (parts (levels s))) contents s r t
+  pub keeps : (s : S) (r : Result T E) (t : S) → suc (levels s) ≡ outer → returns s r t → AnswersParts memory fault spells (parts (levels s)) contents s r t
 
--- What holds of a decoder's scopes. A record is what stands in its scope, up to its end: what is read there is the record, and no record is read in another way.
-pub record ScopesWell {E S O : Type 0} (failed : S → Bool) (memory fault : E → S → Type 0) (spells : Schema → S → Value → S → Type 0)
-    (opens : Schema → S → O → S → Type 0) (closes : S → O → S → Type 0) : Type 0 where
+-- What holds of a decoder's scopes. A record is what stands in its scope, up to its end: what is read there is the record, no record is read in another way, and
+-- a fault in a component, or at the end, is one of the record.
+pub record ScopesWell {E S O : Type 0} (failed : S → Bool) (memory : E → S → Type 0) (fault : Schema → E → S → Type 0) (unended : O → E → S → Type 0)
+    (spells : Schema → S → Value → S → Type 0) (opens : Schema → S → O → S → Type 0) (closes : S → O → S → Type 0) : Type 0 where
   pub inside : (c : Schema) (s : S) (o : O) (i : S) → opens c s o i → failed i ≡ false
-  pub back : (c : Schema) (s : S) (o : O) (i : S) (e : E) → opens c s o i → fault e i → fault e s
   pub room : (c : Schema) (s : S) (o : O) (i : S) (e : E) → opens c s o i → memory e i → memory e s
+  pub in_part : (ps : Parts) (s : S) (o : O) (i : S) (e : E) → opens (record_of ps) s o i → FaultyParts fault spells e ps i → fault (record_of ps) e s
+  pub at_end : (ps : Parts) (s i j : S) (o : O) (rs : List (Option Value)) (e : E) → opens (record_of ps) s o i → ReadsParts spells ps i rs j → unended o e j → fault (record_of ps) e s
   pub record_read : (ps : Parts) (s i j t : S) (o : O) (rs : List (Option Value)) → opens (record_of ps) s o i
       → ReadsParts spells ps i rs j → closes j o t → spells (record_of ps) s (record_value rs []) t
   pub record_back : (ps : Parts) (s i t : S) (o : O) (v : Value) → opens (record_of ps) s o i → spells (record_of ps) s v t

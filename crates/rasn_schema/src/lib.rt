@@ -6,6 +6,8 @@ pub mod constraints;
 pub mod fields;
 pub mod integers;
 pub mod limits;
+pub mod octets;
 pub mod plain;
 pub mod record;
 pub mod schema;
+pub mod strings;

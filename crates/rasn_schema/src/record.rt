@@ -4,10 +4,9 @@ ghost use Rattle.std.specs.Prelude.{◌≡◌, ℕ, suc, true, max, OnErr, IsErr
 ghost use Rattle.rasn_types.specs.Values.{Value};
 ghost use Rattle.rasn_schema.specs.Schemas.{Parts, no_parts, part, required};
 ghost use Rattle.rasn_schema.specs.Normal.{normals};
-ghost use Rattle.rasn_schema.specs.Calls.{Answers};
 ghost use Rattle.rasn_schema.specs.Records.{AtParts, own_or};
 ghost use Rattle.rasn_schema.specs.Fields.{tagged};
-ghost use Rattle.rasn_schema.specs.Scopes.{WritesParts, ReadsParts};
+ghost use Rattle.rasn_schema.specs.Scopes.{WritesParts, AnswersParts};
 
 use crate::codec::{Decode, Decoder, Encode, Encoder};
 use crate::schema::Constraints;
@@ -29,7 +28,8 @@ pub trait EncodeParts {
     fn encode_parts<E: Encoder>(&self, encoder: &mut E) -> Result<(), E::Error>
         ensures law { AtParts (Self.parts self.now) (Self.levels self.now)
             (λ ps. WritesParts E.memory E.presents E.refuses ps (normals ps (Self.contents self.now)) encoder.old result encoder.new) }
-        ensures fails { OnErr result (E.failed encoder.new ≡ true) };
+        ensures fails { OnErr result (E.failed encoder.new ≡ true) }
+        ensures kept { E.codec encoder.new ≡ E.codec encoder.old };
 }
 
 /// Components of a record that are still to be read, in their order.
@@ -45,8 +45,9 @@ pub trait DecodeParts {
 
     /// Reads the components in turn.
     fn decode_parts<D: Decoder>(&self, decoder: &mut D) -> Result<Self::Values, D::Error>
-        ensures law { Answers D.memory D.fault (ReadsParts D.spells (Self.parts self.now (D.levels decoder.old))) Self.contents decoder.old result decoder.new }
-        ensures fails { OnErr result (D.failed decoder.new ≡ true) };
+        ensures law { AnswersParts D.memory D.fault D.spells (Self.parts self.now (D.levels decoder.old)) Self.contents decoder.old result decoder.new }
+        ensures fails { OnErr result (D.failed decoder.new ≡ true) }
+        ensures kept { D.codec decoder.new ≡ D.codec decoder.old };
 }
 
 /// The end of the components.

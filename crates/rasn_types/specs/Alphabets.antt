@@ -1,6 +1,6 @@
 -- The known-multiplier character strings: how wide a character is, and its code (ITU-T X.691, 30.5).
 -- An alphabet is its characters' values in ascending order, each once.
-use Rattle.std.specs.Prelude.{ℕ, zero, suc, ◌+◌, ◌^◌, max, Bool, cond, leb, ltb, eqb, List, [], ◌∷◌, length, Option, Some, None}
+use Rattle.std.specs.Prelude.{ℕ, zero, suc, ◌+◌, ◌^◌, max, Bool, true, false, cond, leb, ltb, eqb, ◌&&◌, ◌||◌, List, [], ◌∷◌, ◌++◌, length, filter, Option, Some, None}
 use Rattle.rasn_types.specs.Bits.{width}
 use Rattle.rasn_types.specs.Variants.{Variant, aligned, unaligned}
 
@@ -42,3 +42,47 @@ from_to (suc n) c = c ∷ from_to n (suc c)
 -- X.680 41: the alphabet of VisibleString, the characters 32 to 126
 abbrev pub visible : List ℕ
 visible = from_to 95 32
+
+-- X.680 41: the alphabet of PrintableString: space, the marks ' ( ) + , - . / : = ?, the digits and the letters
+abbrev pub printable : List ℕ
+printable = 32 ∷ (from_to 3 39 ++ from_to 16 43 ++ 61 ∷ 63 ∷ (from_to 26 65 ++ from_to 26 97))
+
+-- X.680 41: the alphabet of NumericString, space and the digits
+abbrev pub numeric : List ℕ
+numeric = 32 ∷ from_to 10 48
+
+-- so many numbers in a row, as a word that is not written out unasked
+unfoldable pub row : ℕ → ℕ → List ℕ
+row n c = from_to n c
+
+-- X.680 41: the alphabet of IA5String, the characters 0 to 127
+abbrev pub ia5 : List ℕ
+ia5 = row 128 0
+
+-- X.680 41: the alphabet of BMPString, 0 to 65535, with the surrogates (this project's choice)
+abbrev pub bmp : List ℕ
+bmp = row 65536 0
+
+-- whether a list has a number
+abbrev pub has : List ℕ → ℕ → Bool
+has [] n = false
+has (x ∷ xs) n = eqb x n || has xs n
+
+-- whether a list has each of some numbers
+abbrev pub has_all : List ℕ → List ℕ → Bool
+has_all own [] = true
+has_all own (c ∷ cs) = has own c && has_all own cs
+
+-- X.680 51.7: the characters of a type that are among some, which may stand in any order
+abbrev pub restricted : List ℕ → List ℕ → List ℕ
+restricted own some = filter (has some) own
+
+-- X.691 30.4: the same, where some are given; else all
+abbrev pub restricted_to : List ℕ → Option (List ℕ) → List ℕ
+restricted_to own None = own
+restricted_to own (Some some) = restricted own some
+
+-- what an encoding of characters rests on: the variant, and the permitted characters in ascending order
+pub record Alphabet : Type 0 where
+  pub variant : Variant
+  pub characters : List ℕ

@@ -2,7 +2,9 @@ pub mod Alphabets
 pub mod Bits
 pub mod Codecs
 pub mod Contents
+pub mod Forms
 pub mod Integers
+pub mod Intervals
 pub mod Octets
 pub mod Values
 pub mod Variants

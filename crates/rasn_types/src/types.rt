@@ -1,6 +1,8 @@
-//! Codecs, tags and identifiers.
+//! Codecs, tags, identifiers and values.
 
 ghost use Rattle.std.specs.Prelude.{◌≡◌};
+
+pub use crate::big::Integer;
 
 /// A variant of the packed encoding rules (X.691 7).
 #[derive(Clone, Copy, Debug, PartialEq, Eq)]
@@ -30,6 +32,12 @@ pub struct Tag {
 }
 
 impl Tag {
+    /// The tag of no type: of a value whose type isn't known.
+    pub const EOC: Tag = Tag {
+        class: Class::Universal,
+        value: 0,
+    };
+
     /// The tag of BOOLEAN.
     pub const BOOL: Tag = Tag {
         class: Class::Universal,
@@ -42,10 +50,76 @@ impl Tag {
         value: 2,
     };
 
+    /// The tag of BIT STRING.
+    pub const BIT_STRING: Tag = Tag {
+        class: Class::Universal,
+        value: 3,
+    };
+
+    /// The tag of OCTET STRING.
+    pub const OCTET_STRING: Tag = Tag {
+        class: Class::Universal,
+        value: 4,
+    };
+
     /// The tag of NULL.
     pub const NULL: Tag = Tag {
         class: Class::Universal,
         value: 5,
+    };
+
+    /// The tag of UTF8String.
+    pub const UTF8_STRING: Tag = Tag {
+        class: Class::Universal,
+        value: 12,
+    };
+
+    /// The tag of NumericString.
+    pub const NUMERIC_STRING: Tag = Tag {
+        class: Class::Universal,
+        value: 18,
+    };
+
+    /// The tag of PrintableString.
+    pub const PRINTABLE_STRING: Tag = Tag {
+        class: Class::Universal,
+        value: 19,
+    };
+
+    /// The tag of TeletexString.
+    pub const TELETEX_STRING: Tag = Tag {
+        class: Class::Universal,
+        value: 20,
+    };
+
+    /// The tag of IA5String.
+    pub const IA5_STRING: Tag = Tag {
+        class: Class::Universal,
+        value: 22,
+    };
+
+    /// The tag of GraphicString.
+    pub const GRAPHIC_STRING: Tag = Tag {
+        class: Class::Universal,
+        value: 25,
+    };
+
+    /// The tag of VisibleString.
+    pub const VISIBLE_STRING: Tag = Tag {
+        class: Class::Universal,
+        value: 26,
+    };
+
+    /// The tag of GeneralString.
+    pub const GENERAL_STRING: Tag = Tag {
+        class: Class::Universal,
+        value: 27,
+    };
+
+    /// The tag of BMPString.
+    pub const BMP_STRING: Tag = Tag {
+        class: Class::Universal,
+        value: 30,
     };
 
     /// A tag of a class with a value.

@@ -1,4 +1,4 @@
-use Rattle.std.proofs.Common.{arith}
+use Rattle.std.proofs.Common.{arith, ◌∙◌}
 use Rattle.std.proofs.lemmas.Result.{err_from_is_err_and}
 use Rattle.rasn_schema.specs.Normal.{normal, settle}
 use Rattle.rasn_schema.proofs.Writing.{required_refused, required_written, last_written}
@@ -7,13 +7,18 @@ use Rattle.per_samples_a.proofs.pair.fn.PairEncode.encode_with_tag_and_constrain
 pub returns-in_err-encode_with_tag : goal.returns-in_err-encode_with_tag
 unfolding normal settle
 returns-in_err-encode_with_tag g c =
-    let p = err_from_is_err_and c.from_residual.result c.from_residual.ensures.1 in
-    rw (p.1, p.2) (record { at = λ n le. required_refused g.E.Encoder.memory g.E.Encoder.presents g.E.Encoder.refuses (c.in_err-encode_with_tag.ensures.law.at n (omega arith)) })
+    let p = err_from_is_err_and c.from_residual.result c.from_residual.ensures.1 in record {
+      law = rw (p.1, p.2) (record { at = λ n le. required_refused g.E.Encoder.memory g.E.Encoder.presents g.E.Encoder.refuses (c.in_err-encode_with_tag.ensures.law.at n (omega arith)) });
+      kept = c.in_err-encode_with_tag.ensures.kept;
+    }
 
 pub returns : goal.returns
 unfolding normal settle
 returns g c = record {
-  at = λ n le.
-      required_written g.E.Encoder.memory g.E.Encoder.presents g.E.Encoder.refuses g.met.E.Encoder.lawful _ _ _ _ _ _ _ (c.in_ok-encode_with_tag.ensures.law.at n (omega arith)) _ _
-      (last_written g.E.Encoder.memory g.E.Encoder.presents g.E.Encoder.refuses _ _ _ _ _ _ (c.encode_with_tag-2.ensures.law.at n (omega arith)));
+  law = record {
+    at = λ n le.
+        required_written g.E.Encoder.memory g.E.Encoder.presents g.E.Encoder.refuses g.met.E.Encoder.lawful _ _ _ _ _ _ _ (c.in_ok-encode_with_tag.ensures.law.at n (omega arith)) _ _
+        (last_written g.E.Encoder.memory g.E.Encoder.presents g.E.Encoder.refuses _ _ _ _ _ _ (c.encode_with_tag-2.ensures.law.at n (omega arith)));
+  };
+  kept = c.encode_with_tag-2.ensures.kept ∙ c.in_ok-encode_with_tag.ensures.kept;
 }
