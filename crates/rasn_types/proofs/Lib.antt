@@ -1,7 +1,11 @@
+pub mod Ascending
 pub mod Bits
+pub mod Codes
 pub mod Fewest
 pub mod Integers
+pub mod Least
 pub mod Octets
 pub mod Own
 pub mod Reading
 pub mod Rows
+pub mod Walking

@@ -149,7 +149,7 @@ abbrev pub later : ℕ → Option ℕ → Option ℕ
 later n None = None
 later n (Some k) = Some (n + k)
 
-more-later : (n : ℕ) (o : Option ℕ) → more (later n o) ≡ later (suc n) o
+pub more-later : (n : ℕ) (o : Option ℕ) → more (later n o) ≡ later (suc n) o
 more-later n None = refl
 more-later n (Some k) = ap (λ (m : ℕ). Some m) (omega arith)
 
