@@ -6,6 +6,7 @@ pub mod Integers
 pub mod Least
 pub mod Octets
 pub mod Own
+pub mod Packing
 pub mod Reading
 pub mod Rows
 pub mod Walking

@@ -6,6 +6,7 @@ pub mod Forms
 pub mod Integers
 pub mod Intervals
 pub mod Octets
+pub mod Packed
 pub mod Prepared
 pub mod Values
 pub mod Variants

@@ -1,16 +1,209 @@
-//! stub
+//! Bits kept in octets (X.680 22).
+
+ghost use Rattle.std.specs.Prelude.{◌≡◌, ◌+◌, ◌-◌, ◌*◌, ◌^◌, ◌<◌, ◌≤◌, [], ◌∷◌, ◌++◌, length, take, slice_get, false, replicate, IfOk, OnOk, OnErr, IsTrue, ◌↔◌};
+ghost use Rattle.std.specs.Bool.{beq};
+ghost use Rattle.std.specs.Cmp.{bool_eq_equiv, partial_equiv_from_equiv};
+ghost use Rattle.std.specs.Cmp.Lexicographic.{lists_equiv, pointwise};
+ghost use Rattle.rasn_types.specs.Bits.{number_of, to_bits, unpack};
+ghost use Rattle.rasn_types.specs.Packed.{packed, ArePacked};
+
+use std::alloc::{AllocError, Global};
+use std::fmt;
 use std::marker::Model;
 
-/// stub
+/// A list of bits (X.680 22), at most `usize::MAX` of them. A contract speaks of the bits alone.
 #[derive(Drop)]
 pub struct BitString {
-    bits: Vec<bool>,
+    octets: Vec<u8>,
+    len: usize,
 }
 
 impl Model for BitString {
-    ghost use Rattle.std.specs.Prelude.{List, Bool};
+    ghost use Rattle.std.specs.Prelude.{List, Bool, take};
+    ghost use Rattle.rasn_types.specs.Bits.{unpack};
+    ghost use Rattle.rasn_types.specs.Packed.{ArePacked};
 
     ghost Value = { List Bool };
 
-    ghost view = { λ a. a.bits.items };
+    ghost view = { λ a. take a.len (unpack a.octets.items) };
+
+    ghost invariant = { λ a. ArePacked a.len a.octets.items };
+}
+
+impl BitString {
+    /// No bits, which take no memory.
+    pub fn new(alloc: Global) -> BitString
+        ensures { result ≡ [] }
+    {
+        BitString {
+            octets: Vec::new(alloc),
+            len: 0,
+        }
+    }
+
+    /// The first `len` bits of the octets, the highest of each octet first. The only error is want of memory.
+    pub fn from_octets(alloc: Global, octets: &[u8], len: usize) -> Result<BitString, AllocError>
+        requires { len ≤ 8 * length octets.now }
+        ensures { IfOk result (λ bits. bits ≡ take len (unpack octets.now)) }
+    {
+        let mut kept = Vec::from_slice(alloc, &octets[..len.div_ceil(8)])?;
+        if len % 8 > 0 {
+            kept[len / 8] = first_bits(octets[len / 8], len % 8);
+        }
+        Ok(BitString { octets: kept, len })
+    }
+
+    /// How many bits there are.
+    pub fn len(&self) -> usize
+        ensures { result ≡ length self.now }
+    {
+        self.len
+    }
+
+    /// Whether there is no bit.
+    pub fn is_empty(&self) -> bool
+        ensures { IsTrue result ↔ (self.now ≡ []) }
+    {
+        self.len == 0
+    }
+
+    /// The bit at an index, the first at 0; `None` from the length on.
+    pub fn get(&self, index: usize) -> Option<bool>
+        ensures { result ≡ slice_get self.now index }
+    {
+        if index < self.len {
+            Some(self.octets[index / 8] >> (7 - index % 8) & 1 == 1)
+        } else {
+            None
+        }
+    }
+
+    /// The bits in the fewest octets, the first bit highest. Spare bits of the last octet are zero (X.690 8.6.2).
+    pub fn as_octets(&self) -> &[u8]
+        ensures octets { result.now ≡ packed self.now }
+        ensures bits { take (length self.now) (unpack result.now) ≡ self.now }
+    {
+        self.octets.as_slice()
+    }
+
+    /// Appends a bit. The only error is want of memory, and then the bits are as they were.
+    pub fn push(&mut self, bit: bool) -> Result<(), AllocError>
+        requires { length self.old < usize.MAX }
+        ensures ok { OnOk result (self.new ≡ self.old ++ bit ∷ []) }
+        ensures err { OnErr result (self.new ≡ self.old) }
+    {
+        append_bit(&mut self.octets, self.len, bit)?;
+        self.len += 1;
+        Ok(())
+    }
+}
+
+/// Equality of the bits.
+impl PartialEq for BitString {
+    ghost eq = { pointwise beq };
+
+    ghost laws = { partial_equiv_from_equiv (lists_equiv bool_eq_equiv) };
+
+    fn eq(&self, other: &BitString) -> bool {
+        self.len == other.len && self.octets == other.octets
+    }
+}
+
+impl Eq for BitString {
+    ghost laws = { lists_equiv bool_eq_equiv };
+}
+
+/// Prints the octets, and how many bits of them count.
+impl fmt::Debug for BitString {
+    fn fmt<W: fmt::Write>(&self, f: &mut fmt::Formatter<W>) -> fmt::Result {
+        f.debug_struct("BitString")
+            .field("octets", &self.octets)
+            .field("len", &self.len)
+            .finish()
+    }
+}
+
+/// Appends a bit to `len` bits kept in octets. After an error the octets are as they were.
+fn append_bit(octets: &mut Vec<u8>, len: usize, bit: bool) -> Result<(), AllocError>
+    requires { ArePacked len octets.old.items }
+    ensures ok { OnOk result (octets.new.items ≡ packed (take len (unpack octets.old.items) ++ bit ∷ [])) }
+    ensures err { OnErr result (octets.new.items ≡ octets.old.items) }
+{
+    let place = len % 8;
+    if place == 0 {
+        octets.push(0)?;
+    }
+    octets[len / 8] |= u8::from(bit) << (7 - place);
+    Ok(())
+}
+
+/// The first `count` bits of an octet, the others zero.
+fn first_bits(octet: u8, count: usize) -> u8
+    requires some { 0 < count }
+    requires few { count ≤ 8 }
+    ensures { result ≡ number_of (take count (to_bits 8 octet) ++ replicate (8 - count) false) }
+{
+    octet >> (8 - count) << (8 - count)
+}
+
+#[cfg(test)]
+mod tests {
+    use super::*;
+    use std::test::Fail;
+
+    // the 44 bits of X.690 8.6.4.2
+    const OCTETS: [u8; 6] = [0x0a, 0x3b, 0x5f, 0x29, 0x1c, 0xd0];
+
+    #[test]
+    fn keeps_the_first_bits(rt: HostRuntime) -> Result<(), AllocError> {
+        let bits = BitString::from_octets(
+            rt.alloc(),
+            &[0x0a, 0x3b, 0x5f, 0x29, 0x1c, 0xdf, 0xff],
+            44,
+        )?;
+        assert_eq!(rt; bits.len(), 44);
+        assert_eq!(rt; bits.as_octets(), &OCTETS[..]);
+        assert_eq!(rt; bits, BitString::from_octets(rt.alloc(), &OCTETS, 44)?);
+        assert!(rt; bits != BitString::from_octets(rt.alloc(), &OCTETS, 45)?);
+        assert!(rt; bits != BitString::from_octets(rt.alloc(), &OCTETS, 48)?);
+        Ok(())
+    }
+
+    #[test]
+    fn gets_each_bit(rt: HostRuntime) -> Result<(), AllocError> {
+        let bits = BitString::from_octets(rt.alloc(), &[0b1010_0000, 0b0000_0001], 16)?;
+        for index in 0..16 {
+            let expected = index == 0 || index == 2 || index == 15;
+            assert_eq!(rt; bits.get(index), Some(expected), "at {index}");
+        }
+        assert_eq!(rt; bits.get(16), None);
+        assert_eq!(rt; bits.get(usize::MAX), None);
+        Ok(())
+    }
+
+    #[test]
+    fn pushes_bits(rt: HostRuntime) -> Result<(), Fail> {
+        let whole = BitString::from_octets(rt.alloc(), &OCTETS, 44)?;
+        let mut bits = BitString::new(rt.alloc());
+        assert!(rt; bits.is_empty());
+        for index in 0..44 {
+            assert_eq!(rt; bits.get(index), None);
+            let Some(bit) = whole.get(index) else {
+                panic!(rt; "44 bits are there");
+            };
+            assert!(rt; bits.len() < usize::MAX);
+            bits.push(bit)?;
+        }
+        assert!(rt; !bits.is_empty());
+        assert_eq!(rt; bits, whole);
+        Ok(())
+    }
+
+    #[test]
+    fn prints(rt: HostRuntime) -> Result<(), AllocError> {
+        let bits = BitString::from_octets(rt.alloc(), &[0xff], 3)?;
+        let printed = format!(in rt.alloc(); "{bits:?}")?;
+        assert_eq!(rt; printed.as_str(), "BitString { octets: [224], len: 3 }");
+        Ok(())
+    }
 }

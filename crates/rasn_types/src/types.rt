@@ -3,6 +3,7 @@
 ghost use Rattle.std.specs.Prelude.{◌≡◌};
 
 pub use crate::big::Integer;
+pub use crate::bit_string::BitString;
 
 /// A variant of the packed encoding rules (X.691 7).
 #[derive(Clone, Copy, Debug, PartialEq, Eq)]
