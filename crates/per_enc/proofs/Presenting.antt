@@ -1,13 +1,15 @@
 -- What the calls of an encoder present.
 use Rattle.std.specs.Prelude.{OnOk, OnErr, IfErr, Result, Ok, Err, Bool}
-use Rattle.std.proofs.Common.{◌≡◌, refl, sym, ap, ◌∙◌, subst, true, false, [], ◌∷◌, Some, append-nil, inl, inr, None, Option}
+use Rattle.std.proofs.Common.{◌≡◌, refl, sym, ap, ◌∙◌, subst, true, false, ℕ, List, [], ◌∷◌, Some, append-nil, inl, inr, None, Option}
 use Rattle.rasn_types.specs.Bits.{Bits}
 use Rattle.rasn_types.specs.Codecs.{variant_of}
-use Rattle.rasn_types.specs.Values.{Value, truth, nothing}
+use Rattle.rasn_types.specs.Values.{Value, truth, nothing, octets}
+use Rattle.rasn_types.specs.Contents.{is_text, TextKind}
 use Rattle.rasn_types.specs.Variants.{Variant}
 use Rattle.rasn_schema.specs.Schemas.{Schema}
 use Rattle.rasn_schema.specs.Calls.{Writes, takes_none}
-use Rattle.per_core.specs.Writers.{Writer, join, just, ◌▹◌}
+use Rattle.per_core.specs.Counts.{octets_unsized}
+use Rattle.per_core.specs.Writers.{Writer, join, just, written_if, ◌▹◌}
 use Rattle.per_core.specs.Canon.{canon}
 use Rattle.per_enc.specs.declared.error.EncodeError.{EncodeError}
 use Rattle.per_enc.specs.Faults.{IsMemory, IsAlready, RefusesValue, Stands}
@@ -31,6 +33,16 @@ refuses_again e x s v h f = record {
 pub boolean_bits : (a : Variant) (b : Bool) → just (b ∷ []) ≡ canon a Schema.boolean (truth b)
 unfolding canon
 boolean_bits a b = refl
+
+-- X.691 11.2: octets of a type that isn't known
+pub any_bits : (a : Variant) (os : List ℕ) → octets_unsized a os ≡ canon a Schema.any (octets os)
+unfolding canon
+any_bits a os = refl
+
+-- X.691 30.6: octets of a text
+pub text_bits : (a : Variant) (kind : TextKind) (os : List ℕ) → is_text kind os ≡ true → octets_unsized a os ≡ canon a (Schema.text kind) (octets os)
+unfolding canon
+text_bits a kind os h = ap (λ (b : Bool). written_if b (octets_unsized a os)) (sym h)
 
 -- X.691 18: a NULL is no bits
 pub presents_null : (x : State) → x.failed ≡ false → Presents x Schema.null nothing x

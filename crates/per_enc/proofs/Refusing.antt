@@ -2,23 +2,26 @@
 use Rattle.std.specs.Prelude.{OnOk, IfErr, Result, Ok, Err}
 use Rattle.std.proofs.Common.{◌≡◌, ◌⊎◌, refl, sym, ap, ◌∙◌, subst, ℕ, zero, suc, ◌+◌, ◌-◌, ◌≤◌, Bool, true, false, ◌&&◌, ◌||◌, cond, ltb, ltb-true, List, [], ◌∷◌, length, take, drop, length-drop, arith, Option, Some, None, inl, inr}
 use Rattle.std.proofs.lemmas.Bool.{ltb-false}
+use Rattle.rasn_types.specs.Alphabets.{Alphabet, char_width}
+use Rattle.rasn_types.specs.Bits.{Bits}
 use Rattle.rasn_types.specs.Codecs.{variant_of}
-use Rattle.rasn_types.specs.Values.{Value, octets}
+use Rattle.rasn_types.specs.Values.{Value, bits, characters, octets}
 use Rattle.rasn_types.specs.Variants.{Variant}
 use Rattle.rasn_schema.specs.Bounds.{allows}
 use Rattle.rasn_schema.specs.Calls.{Writes}
 use Rattle.rasn_schema.specs.Schemas.{Schema, Size, any_size}
-use Rattle.per_core.specs.Canon.{canon}
-use Rattle.per_core.specs.Counts.{bounded, counted, Counted, counted_in, counted_under, determinant, in_rows, is_aligned, marked_form, octet_items, octet_writers, padding_if, rows}
+use Rattle.per_core.specs.Canon.{canon, char_writers}
+use Rattle.per_core.specs.Counts.{bounded, counted, Counted, counted_in, counted_under, determinant, in_rows, is_aligned, marked_form, octet_items, octet_writers, padding_if, rows, bit_items, bit_writers, char_items}
 use Rattle.per_core.specs.Writers.{Writer, go_on, in_a_row, just, padding, written_if, ◌▹◌}
 use Rattle.per_enc.specs.declared.error.EncodeError.{EncodeError}
 use Rattle.per_enc.specs.declared.error.EncodeErrorKind.{EncodeErrorKind}
-use Rattle.per_enc.specs.declared.error.EncodeErrorKind.TheVariants.{SizeConstraintNotSatisfied}
-use Rattle.per_enc.specs.Faults.{at_once, IsMemory, OutsideSize, RefusesValue, Stands}
+use Rattle.per_enc.specs.declared.error.EncodeErrorKind.TheVariants.{AlphabetConstraintNotSatisfied, SizeConstraintNotSatisfied}
+use Rattle.per_enc.specs.Faults.{at_once, IsMemory, OutsideSize, RefusesValue, Stands, HasForeign}
 use Rattle.per_enc.specs.Items.{HasRefused, refused_behind, refused_here, RefusesCounted, no_memory, wrong_count, wrong_item}
 use Rattle.per_enc.specs.Rows.{row}
 use Rattle.per_enc.specs.State.{Presents, State, Wrote}
 use Rattle.per_enc.proofs.Fragments.{first_fragment, length-octet_writers, rows_of_few, rows_of_many}
+use Rattle.per_enc.proofs.Steps.{length-bit_writers, length-char_writers}
 use Rattle.per_enc.proofs.Writing.{none_behind, wrote_same}
 
 none_in_a_row : (ws : List Writer) → HasRefused ws → (p : ℕ) → in_a_row ws p ≡ None
@@ -127,3 +130,49 @@ pub octet_string_law : (x y : State) (size : Size) (mark : Bool) (os : List ℕ)
     Writes IsMemory Presents RefusesValue (Schema.octet_string size mark) (octets os) x result y
 octet_string_law x y size mark os =
     counted_law x y (Schema.octet_string size mark) (octets os) size mark octet_items (λ k. ⊥) (octet_writers os) (octet_string_form (variant_of x.codec) size mark os) (octet_count x size mark os) (λ k m h. absurd h)
+
+-- X.691 16: a BIT STRING
+bit_string_form : (a : Variant) (size : Size) (mark : Bool) (bs : Bits) (p : ℕ) → counted a size mark bit_items (bit_writers bs) p ≡ canon a (Schema.bit_string size mark) (bits bs) p
+unfolding canon
+bit_string_form a size mark bs p = refl
+
+bit_count : (x : State) (size : Size) (mark : Bool) (bs : Bits) (lower upper : Option ℕ) → mark ≡ false → OutsideSize size (length (bit_writers bs)) (length (bit_writers bs)) lower upper →
+    Stands (SizeConstraintNotSatisfied (length (bit_writers bs)) lower upper) x (Schema.bit_string size mark) (bits bs)
+bit_count x size true bs lower upper m o = absurd cc
+bit_count x size false bs lower upper m o = at_once (subst (λ (n : ℕ). OutsideSize size n (length (bit_writers bs)) lower upper) (length-bit_writers bs) o)
+
+pub bit_string_law : (x y : State) (size : Size) (mark : Bool) (bs : Bits) (result : Result (Unit {0}) EncodeError) →
+    OnOk result (Wrote x (counted (variant_of x.codec) size mark bit_items (bit_writers bs)) y) → IfErr result (λ e. RefusesCounted size mark (λ k. ⊥) (bit_writers bs) e x) →
+    Writes IsMemory Presents RefusesValue (Schema.bit_string size mark) (bits bs) x result y
+bit_string_law x y size mark bs =
+    counted_law x y (Schema.bit_string size mark) (bits bs) size mark bit_items (λ k. ⊥) (bit_writers bs) (bit_string_form (variant_of x.codec) size mark bs) (bit_count x size mark bs) (λ k m h. absurd h)
+
+-- X.691 30.5: a known-multiplier string
+char_string_form : (a : Variant) (alphabet : List ℕ) (size : Size) (mark : Bool) (cs : List ℕ) (p : ℕ) →
+    counted a size mark (char_items (char_width a alphabet)) (char_writers a alphabet cs) p ≡ canon a (Schema.char_string alphabet size mark) (characters cs) p
+unfolding canon
+char_string_form a alphabet size mark cs p = refl
+
+char_count : (x : State) (a : Variant) (alphabet : List ℕ) (size : Size) (mark : Bool) (cs : List ℕ) (lower upper : Option ℕ) → mark ≡ false →
+    OutsideSize size (length (char_writers a alphabet cs)) (length (char_writers a alphabet cs)) lower upper →
+    Stands (SizeConstraintNotSatisfied (length (char_writers a alphabet cs)) lower upper) x (Schema.char_string alphabet size mark) (characters cs)
+char_count x a alphabet size true cs lower upper m o = absurd cc
+char_count x a alphabet size false cs lower upper m o = at_once (subst (λ (n : ℕ). OutsideSize size n (length (char_writers a alphabet cs)) lower upper) (length-char_writers a alphabet cs) o)
+
+char_foreign : (x : State) (a : Variant) (alphabet : List ℕ) (size : Size) (mark : Bool) (cs : List ℕ) (k : EncodeErrorKind) → (mark || allows size (length (char_writers a alphabet cs))) ≡ true →
+    (k ≡ AlphabetConstraintNotSatisfied) × HasForeign alphabet cs → Stands k x (Schema.char_string alphabet size mark) (characters cs)
+char_foreign x a alphabet size mark cs k m h =
+    subst (λ (q : EncodeErrorKind). Stands q x (Schema.char_string alphabet size mark) (characters cs)) (sym h.0)
+    (at_once (subst (λ (n : ℕ). (mark || allows size n) ≡ true) (length-char_writers a alphabet cs) m, h.1))
+
+pub char_string_law : (x y : State) (alphabet : Alphabet) (own : List ℕ) (size : Size) (mark : Bool) (cs : List ℕ) (result : Result (Unit {0}) EncodeError) → alphabet.variant ≡ variant_of x.codec → alphabet.characters ≡ own →
+    OnOk result (Wrote x (counted (variant_of x.codec) size mark (char_items (char_width alphabet.variant alphabet.characters)) (char_writers alphabet.variant alphabet.characters cs)) y) →
+    IfErr result (λ e. RefusesCounted size mark (λ k. (k ≡ AlphabetConstraintNotSatisfied) × HasForeign alphabet.characters cs) (char_writers alphabet.variant alphabet.characters cs) e x) →
+    Writes IsMemory Presents RefusesValue (Schema.char_string own size mark) (characters cs) x result y
+char_string_law x y alphabet own size mark cs result v c w h =
+    let a = alphabet.variant in
+    let ds = alphabet.characters in
+    subst (λ (os : List ℕ). Writes IsMemory Presents RefusesValue (Schema.char_string os size mark) (characters cs) x result y) c
+    (counted_law x y (Schema.char_string ds size mark) (characters cs) size mark (char_items (char_width a ds)) (λ k. (k ≡ AlphabetConstraintNotSatisfied) × HasForeign ds cs) (char_writers a ds cs)
+    (λ p. subst (λ (b : Variant). counted (variant_of x.codec) size mark (char_items (char_width b ds)) (char_writers b ds cs) p ≡ canon (variant_of x.codec) (Schema.char_string ds size mark) (characters cs) p) (sym v) (char_string_form (variant_of x.codec) ds size mark cs p))
+    (char_count x a ds size mark cs) (char_foreign x a ds size mark cs) result w h)

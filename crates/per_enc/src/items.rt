@@ -11,7 +11,10 @@ ghost use Rattle.per_enc.specs.State.{Wrote};
 ghost use Rattle.per_enc.specs.declared.error.EncodeErrorKind.{EncodeErrorKind};
 
 use crate::Encoder;
-use crate::error::EncodeError;
+use crate::error::{EncodeError, EncodeErrorKind};
+use rasn_types::alphabet::CharacterAlphabet;
+use rasn_types::bit_string::BitString;
+use rasn_types::strings::StaticPermittedAlphabet;
 use std::alloc::Allocator;
 
 /// Items that a length counts.
@@ -78,5 +81,87 @@ impl Items for Octets<'_> {
         end: usize,
     ) -> Result<(), EncodeError> {
         encoder.put_bare_octets(&self.0[start..end])
+    }
+}
+
+impl Items for BitString {
+    ghost use Rattle.per_core.specs.Counts.{bit_items, bit_writers};
+
+    ghost kind = { λ x. bit_items };
+
+    ghost writers = { λ a x. bit_writers x };
+
+    ghost fault = { λ k x. ⊥ };
+
+    fn len(&self) -> usize {
+        BitString::len(self)
+    }
+
+    fn is_aligned(&self, lower: usize, upper: usize) -> bool {
+        lower != upper || upper > 16
+    }
+
+    fn put<A: Allocator + Clone>(
+        &self,
+        encoder: &mut Encoder<A>,
+        start: usize,
+        end: usize,
+    ) -> Result<(), EncodeError> {
+        for index in start..end {
+            encoder.put_bit(self.get(index).unwrap())?;
+        }
+        Ok(())
+    }
+}
+
+/// Characters, in an alphabet that may permit some of those of their type (X.691 30.5).
+#[derive(Drop)]
+pub(crate) struct Characters<'a, S> {
+    pub(crate) string: &'a S,
+    pub(crate) alphabet: CharacterAlphabet,
+}
+
+impl<S: StaticPermittedAlphabet> Items for Characters<'_, S> {
+    ghost use Rattle.std.specs.Prelude.{◌≡◌};
+    ghost use Rattle.rasn_types.specs.Alphabets.{char_width};
+    ghost use Rattle.per_core.specs.Canon.{char_writers};
+    ghost use Rattle.per_core.specs.Counts.{char_items};
+    ghost use Rattle.per_enc.specs.Faults.{HasForeign};
+    ghost use Rattle.per_enc.specs.declared.error.EncodeErrorKind.TheVariants.{AlphabetConstraintNotSatisfied};
+
+    ghost kind = { λ x. char_items (char_width x.alphabet.variant x.alphabet.characters) };
+
+    ghost writers = { λ a x. char_writers x.alphabet.variant x.alphabet.characters (S.characters x.string.now) };
+
+    ghost fault = { λ k x. (k ≡ AlphabetConstraintNotSatisfied) × HasForeign x.alphabet.characters (S.characters x.string.now) };
+
+    fn len(&self) -> usize {
+        self.string.len()
+    }
+
+    fn is_aligned(&self, lower: usize, upper: usize) -> bool {
+        let bits = upper * self.alphabet.width() as usize;
+        if lower == upper {
+            bits > 16
+        } else {
+            bits >= 16
+        }
+    }
+
+    fn put<A: Allocator + Clone>(
+        &self,
+        encoder: &mut Encoder<A>,
+        start: usize,
+        end: usize,
+    ) -> Result<(), EncodeError> {
+        let width = u128::from(self.alphabet.width());
+        for index in start..end {
+            let character = self.string.character(index).unwrap();
+            let Some(code) = self.alphabet.encode(character) else {
+                return Err(encoder.refuse(EncodeErrorKind::AlphabetConstraintNotSatisfied));
+            };
+            encoder.put_bits(u128::from(code), width)?;
+        }
+        Ok(())
     }
 }

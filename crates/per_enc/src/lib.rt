@@ -29,6 +29,9 @@ use per_core::per;
 use rasn_schema::codec;
 use rasn_schema::fields::Constructed;
 use rasn_schema::schema::{Constraints, IntegerType};
+use rasn_types::bit_string::BitString;
+use rasn_types::octet_strings::{Any, GeneralString, GraphicString, TeletexString};
+use rasn_types::strings::StaticPermittedAlphabet;
 use rasn_types::types::{Codec, Identifier, Tag};
 use std::alloc::{AllocError, Allocator};
 use std::marker::Model;
@@ -290,6 +293,93 @@ impl<A: Allocator + Clone> codec::Encoder for Encoder<A> {
 
     fn encode_null(&mut self, _tag: Tag, _identifier: Identifier) -> Result<(), EncodeError> {
         self.check_unfailed()
+    }
+
+    fn encode_any(
+        &mut self,
+        _tag: Tag,
+        value: &Any,
+        _identifier: Identifier,
+    ) -> Result<(), EncodeError> {
+        self.check_unfailed()?;
+        self.put_octets(value.as_octets())
+    }
+
+    fn encode_octet_string(
+        &mut self,
+        _tag: Tag,
+        constraints: &Constraints,
+        value: &[u8],
+        _identifier: Identifier,
+    ) -> Result<(), EncodeError> {
+        self.check_unfailed()?;
+        self.put_octet_string(constraints, value)
+    }
+
+    fn encode_bit_string(
+        &mut self,
+        _tag: Tag,
+        constraints: &Constraints,
+        value: &BitString,
+        _identifier: Identifier,
+    ) -> Result<(), EncodeError> {
+        self.check_unfailed()?;
+        self.put_bit_string(constraints, value)
+    }
+
+    fn encode_known_multiplier_string<S: StaticPermittedAlphabet>(
+        &mut self,
+        _tag: Tag,
+        constraints: &Constraints,
+        value: &S,
+        _identifier: Identifier,
+    ) -> Result<(), EncodeError> {
+        self.check_unfailed()?;
+        self.put_characters(constraints, value)
+    }
+
+    fn encode_utf8_string(
+        &mut self,
+        _tag: Tag,
+        _constraints: &Constraints,
+        value: &str,
+        _identifier: Identifier,
+    ) -> Result<(), EncodeError> {
+        self.check_unfailed()?;
+        self.put_octets(value.as_bytes())
+    }
+
+    fn encode_general_string(
+        &mut self,
+        _tag: Tag,
+        _constraints: &Constraints,
+        value: &GeneralString,
+        _identifier: Identifier,
+    ) -> Result<(), EncodeError> {
+        self.check_unfailed()?;
+        self.put_octets(value.as_octets())
+    }
+
+    fn encode_graphic_string(
+        &mut self,
+        _tag: Tag,
+        _constraints: &Constraints,
+        value: &GraphicString,
+        _identifier: Identifier,
+    ) -> Result<(), EncodeError> {
+        self.check_unfailed()?;
+        self.put_octets(value.as_octets())
+    }
+
+    fn encode_teletex_string(
+        &mut self,
+        _tag: Tag,
+        _constraints: &Constraints,
+        value: &TeletexString,
+        _identifier: Identifier,
+    ) -> Result<(), EncodeError> {
+        self.check_unfailed()?;
+        self.put_octets(value.as_octets())
     }
 
     fn open_sequence<C: Constructed>(
