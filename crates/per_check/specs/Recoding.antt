@@ -3,8 +3,10 @@ use Rattle.std.specs.Prelude.{ℕ, ◌≢◌, List, true, false, pos, negsuc}
 use Rattle.rasn_types.specs.Variants
 use Rattle.rasn_types.specs.Variants.{unaligned}
 use Rattle.rasn_types.specs.Values.{Value}
-use Rattle.rasn_schema.specs.Schemas.{Schema, unbounded, between, listed}
-use Rattle.rasn_schema.specs.Forms.{always, i128_range}
+use Rattle.rasn_constraints.specs.Bounds.{unbounded, between}
+use Rattle.rasn_schema.specs.Schemas.{Schema, listed}
+use Rattle.rasn_constraints.specs.Ranges.{i128_range}
+use Rattle.rasn_schema.specs.Forms.{always}
 use Rattle.rasn_schema.specs.Records.{record_at, no_additions}
 use Rattle.per_samples_a.specs.Numbers.{at_least, at_most}
 use Rattle.per_samples_a.specs.Fours.{four_parts}

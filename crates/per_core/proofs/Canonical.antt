@@ -4,9 +4,9 @@ use Rattle.rasn_types.specs.Alphabets.{char_width, visible}
 use Rattle.rasn_types.specs.Bits.{Bits, to_bits}
 use Rattle.rasn_types.specs.Contents.{is_text, is_time, is_identifier}
 use Rattle.rasn_types.specs.Values.{Value, whole, truth, nothing, characters, elements, bag, bag_of, fields, alternative, day, Side, root, added, Values, no_values, value, Slots, no_slots, there, absent, values, as_values, slots, as_slots, same, before}
-use Rattle.rasn_schema.specs.Bounds.{holds}
+use Rattle.rasn_constraints.specs.Bounds.{holds, Bounds, Size, any_size}
 use Rattle.rasn_schema.specs.Orders.{ordered, by_tags, insert_at, how_many_less}
-use Rattle.rasn_schema.specs.Schemas.{Bounds, Size, any_size, tags, Order, listed, by_tag, Tag, Schema, Parts, no_parts, part}
+use Rattle.rasn_schema.specs.Schemas.{tags, Order, listed, by_tag, Tag, Schema, Parts, no_parts, part}
 use Rattle.per_core.specs.Basic
 use Rattle.per_core.specs.Basic.{Proper, As, Lengthy, octet, bit, Octets, Rule, Fields_in, Chosen, ExtensionBit, IsBounded, IsNumberOf, String, IsDay, basic, basic_in, rules_in}
 use Rattle.per_core.specs.Canon

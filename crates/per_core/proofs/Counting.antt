@@ -1,8 +1,7 @@
 -- Counted items are spelled by what the length relation asks.
 use Rattle.std.proofs.Common.{◌≡◌, refl, sym, ap, ◌∙◌, subst, ℕ, zero, suc, ◌+◌, ◌-◌, ◌*◌, ◌/◌, ◌%◌, ◌<◌, ◌≤◌, Bool, true, false, cond, ◌&&◌, ltb, List, [], ◌∷◌, ◌++◌, map, length, take, drop, replicate, arith, Option, Some, None, ltb-true, append-nil, length-take, length-drop, take-append-drop, take_all, lt-ltb, le-ltb}
 use Rattle.rasn_types.specs.Bits.{Bits, to_bits}
-use Rattle.rasn_schema.specs.Bounds.{allows}
-use Rattle.rasn_schema.specs.Schemas.{Size, any_size}
+use Rattle.rasn_constraints.specs.Bounds.{allows, Size, any_size}
 use Rattle.per_core.specs.Basic.{Row, LastCount, Fragment, Unsized, PaddingIf, length_form, Sized, Lengthy}
 use Rattle.per_core.specs.Counts.{rows, unless_zero, determinant, in_rows, Counted, is_aligned, padding_if, counted_under, counted_in, marked_form, counted}
 use Rattle.per_core.specs.Spellings.{Settings, Spelling, exactly, Then, AnyPadding, Field}

@@ -2,8 +2,7 @@
 use Rattle.std.proofs.Common.{◌≡◌, refl, sym, ap, ◌∙◌, subst, ℕ, zero, suc, ◌+◌, ◌-◌, ◌*◌, ◌/◌, ◌^◌, ◌<◌, ◌≤◌, Bool, true, false, cond, ◌&&◌, leb, ltb, eqb, List, [], ◌∷◌, ◌++◌, length, arith, inl, inr, Option, Some, None, pow-suc, leb-true}
 use Rattle.rasn_types.specs.Bits.{Bits, width, number_of}
 use Rattle.rasn_types.specs.Variants.{Variant, aligned, unaligned}
-use Rattle.rasn_schema.specs.Bounds.{allows}
-use Rattle.rasn_schema.specs.Schemas.{Size, any_size}
+use Rattle.rasn_constraints.specs.Bounds.{allows, Size, any_size}
 use Rattle.per_core.specs.Basic.{Row, InOctets, bounded_form, bounded_by, IsBounded, LastCount, Fragment, InFragments, Unsized, PaddingIf, length_form, Sized, Lengthy, octet, Octets}
 use Rattle.per_core.specs.Counts.{Counted, octet_items, is_aligned}
 use Rattle.per_core.specs.Spellings.{Settings, Spelling, exactly, Then, AnyPadding, Field}

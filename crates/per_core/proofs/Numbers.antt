@@ -4,8 +4,7 @@ use Rattle.std.proofs.lemmas.Bool.{lt-leb}
 use Rattle.std.proofs.Math.Nat.{add-mod_right}
 use Rattle.rasn_types.specs.Bits.{Bits, to_bits, number_of, pack, unpack, width}
 use Rattle.rasn_types.specs.Octets.{natural_bits, whole_bits, octets_of_natural, octets_of_whole, twos_complement, unsigned, signed, signed_bits}
-use Rattle.rasn_schema.specs.Bounds.{holds, fits_i128, above}
-use Rattle.rasn_schema.specs.Schemas.{Bounds, unbounded}
+use Rattle.rasn_constraints.specs.Bounds.{holds, fits_i128, above, Bounds, unbounded}
 use Rattle.per_core.specs.Basic.{InNatural, InWhole, number_spelling, IsNumber, IsNumberOf, Marked, Small}
 use Rattle.per_core.specs.Counts.{counted_octets, number_under, number_form, marked_form, small}
 use Rattle.per_core.specs.Spellings.{Settings, exactly, Then, Field}

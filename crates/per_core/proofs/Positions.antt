@@ -6,9 +6,9 @@ use Rattle.rasn_types.specs.Contents.{is_date, is_text, is_time, is_identifier}
 use Rattle.rasn_types.specs.Octets.{natural_bits, whole_bits, octets_of_natural}
 use Rattle.rasn_types.specs.Values.{Value, values, slots, Side, root, added, same, bag_of}
 use Rattle.rasn_types.specs.Variants.{Variant, aligned, unaligned}
-use Rattle.rasn_schema.specs.Bounds.{allows, fits_i128, holds, above}
+use Rattle.rasn_constraints.specs.Bounds.{allows, fits_i128, holds, above, Bounds, Size, any_size}
 use Rattle.rasn_schema.specs.Orders.{ordered}
-use Rattle.rasn_schema.specs.Schemas.{Bounds, Size, any_size, tags, Schema, Presence}
+use Rattle.rasn_schema.specs.Schemas.{tags, Schema, Presence}
 use Rattle.per_core.specs.Canon.{canon, members, Member, shown, flag, flagged, flags_of, bodies_of, bitmap_of, any_set, bitmap, opens_of, extension_bit, with_additions, record_of, chosen, choice_of, item_of, date_of, year_writer, in_range, year_of, char_writers, ascending, on_truth, on_nothing, on_whole, on_octets, on_bits, on_characters, on_item, on_day, on_elements, on_bag, on_fields, on_alternative}
 use Rattle.per_core.specs.Counts.{Counted, bounded, in_rows, determinant, rows, counted_under, counted_in, counted, marked_form, padding_if, is_aligned, octet_writers, bit_writers, octets_unsized, counted_octets, number_under, number_form, open_bits, small, list_items, octet_items, bit_items}
 use Rattle.per_core.specs.Writers.{Writer, just, refused, ◌▹◌, go_on, join, in_a_row, padding, written_if}

@@ -6,7 +6,8 @@ use Rattle.std.proofs.Math.Nat.{add-mod_right}
 use Rattle.std.proofs.Math.Pow.{mod-mod-pow}
 use Rattle.rasn_types.specs.Bits.{Bits, to_bits, number_of, pack, unpack}
 use Rattle.rasn_types.specs.Values.{Value, same}
-use Rattle.rasn_schema.specs.Schemas.{any_size, Presence, required, optional, group, default}
+use Rattle.rasn_constraints.specs.Bounds.{any_size}
+use Rattle.rasn_schema.specs.Schemas.{Presence, required, optional, group, default}
 use Rattle.per_core.specs.Basic.{Sized, octet, bit, Octets, Fills, Open, Rule, FlagOf, Flags, IsLeftOut, Body, Bodies, Root, Additions_in, IsBitmap, Fields_in}
 use Rattle.per_core.specs.Canon.{Member, shown, flagged, if_shown, flags_of, bodies_of, also_bit, bitmap_of, any_set, bitmap, opens_of, extension_bit, with_additions, record_of}
 use Rattle.per_core.specs.Counts.{counted, octet_items, bit_items, bit_writers, octets_unsized, open_bits}

@@ -1,7 +1,7 @@
 -- Two readings of a record: by the same rules, or by the rules of a newer and an older version.
 use Rattle.std.proofs.Common.{◌≡◌, refl, sym, subst, ◌-◌, Bool, true, false, List, [], ◌∷◌, length, arith, Option, Some}
 use Rattle.rasn_types.specs.Values.{Value}
-use Rattle.rasn_schema.specs.Schemas.{any_size}
+use Rattle.rasn_constraints.specs.Bounds.{any_size}
 use Rattle.per_core.specs.Basic.{Sized, bit, Fills, Rule, FlagOf, Flags, IsLeftOut, Holds, Body, Bodies, Root, Unknown, OpenOf, Additions, IsBitmap, Extended, Fields}
 use Rattle.per_core.specs.Counts.{bit_items}
 use Rattle.per_core.specs.Spellings.{Settings, Spelling, exactly, Then, Field}

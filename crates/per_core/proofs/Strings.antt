@@ -6,7 +6,7 @@ use Rattle.rasn_types.specs.Bits.{width}
 use Rattle.rasn_types.specs.Contents.{is_date}
 use Rattle.rasn_types.specs.Values.{day}
 use Rattle.rasn_types.specs.Variants.{Variant, aligned, unaligned}
-use Rattle.rasn_schema.specs.Schemas.{Size}
+use Rattle.rasn_constraints.specs.Bounds.{Size}
 use Rattle.per_core.specs.Basic.{Char, String, IsBounded, YearIn, year_form, Year, IsDay, As}
 use Rattle.per_core.specs.Canon.{char_writers, coded, date_of, year_writer, in_range, year_of}
 use Rattle.per_core.specs.Counts.{char_items, counted, bounded, number_under}

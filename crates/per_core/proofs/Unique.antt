@@ -4,8 +4,7 @@ use lib.Signed.{le_z}
 use Rattle.rasn_types.specs.Bits.{unpack}
 use Rattle.rasn_types.specs.Octets.{unsigned, signed}
 use Rattle.rasn_types.specs.Values.{Value}
-use Rattle.rasn_schema.specs.Bounds.{holds, above}
-use Rattle.rasn_schema.specs.Schemas.{Bounds, unbounded}
+use Rattle.rasn_constraints.specs.Bounds.{holds, above, Bounds, unbounded}
 use Rattle.per_core.specs.Basic.{Marked, InNatural, InWhole, number_spelling, IsNumber, IsNumberOf, at_least_zero, Small, Fills, Open, As}
 use Rattle.per_core.specs.Spellings.{Settings, Spelling, Field}
 use Rattle.per_core.proofs.Agree.{Agree, weaken, either_agree, when_agree, field_agree, no_yes, yes_no, behind}

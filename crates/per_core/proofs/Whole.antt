@@ -4,7 +4,8 @@ use Rattle.rasn_types.specs.Alphabets.{char_code, char_width, keep_own, index_of
 use Rattle.rasn_types.specs.Contents.{is_text, is_time, is_identifier}
 use Rattle.rasn_types.specs.Values.{Value, whole, truth, nothing, characters, elements, bag_of, fields, alternative, day, Side, root, added, as_values, as_slots}
 use Rattle.rasn_schema.specs.Orders.{ordered, by_tags, insert_at, how_many_less}
-use Rattle.rasn_schema.specs.Schemas.{Size, any_size, tags, count, Presence, required, optional, group, default, Order, listed, by_tag, Tag, Schema, Parts, no_parts, part}
+use Rattle.rasn_constraints.specs.Bounds.{Size, any_size}
+use Rattle.rasn_schema.specs.Schemas.{tags, count, Presence, required, optional, group, default, Order, listed, by_tag, Tag, Schema, Parts, no_parts, part}
 use Rattle.per_core.specs.Basic
 use Rattle.per_core.specs.Basic.{Proper, Lengthy, octet, bit, Octets, Fills, Open, Rule, FlagOf, IsLeftOut, Fields, As, IsBounded, Chosen, ExtensionBit, Char, String, YearIn, year_form, Year, IsDay, basic, basic_in, rules, rules_in}
 use Rattle.per_core.specs.Counts.{list_items, octet_items, bit_items, char_items}

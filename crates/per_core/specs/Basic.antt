@@ -7,10 +7,10 @@ use Rattle.rasn_types.specs.Contents.{is_text, is_time, is_identifier, is_date}
 use Rattle.rasn_types.specs.Octets.{unsigned, signed}
 use Rattle.rasn_types.specs.Values.{Value, whole, truth, nothing, characters, elements, bag_of, fields, alternative, day, Side, root, added, as_values, as_slots}
 use Rattle.rasn_types.specs.Variants.{Variant, aligned, unaligned}
-use Rattle.rasn_schema.specs.Bounds.{allows, holds, fits_i128, above}
+use Rattle.rasn_constraints.specs.Bounds.{allows, holds, fits_i128, above, Bounds, Size, any_size, unbounded}
 use Rattle.rasn_schema.specs.Orders.{ordered}
 use Rattle.rasn_schema.specs.Schemas
-use Rattle.rasn_schema.specs.Schemas.{Bounds, Size, any_size, unbounded, tags, Presence, required, optional, group, default, Schema, Parts, no_parts, part}
+use Rattle.rasn_schema.specs.Schemas.{tags, Presence, required, optional, group, default, Schema, Parts, no_parts, part}
 use Rattle.per_core.specs.Counts.{Counted, list_items, octet_items, bit_items, char_items, is_aligned}
 use Rattle.per_core.specs.Spellings.{Settings, ZeroIf, Spelling, exactly, Then, Either, When, never, AnyPadding, Field}
 

@@ -6,10 +6,10 @@ use Rattle.rasn_types.specs.Bits.{Bits, to_bits}
 use Rattle.rasn_types.specs.Contents.{is_text, is_time, is_identifier, is_date}
 use Rattle.rasn_types.specs.Values.{Value, whole, truth, nothing, item, octets, bits, characters, elements, bag, fields, alternative, day, Side, root, added, values, slots, same, sorted, before, bag_of}
 use Rattle.rasn_types.specs.Variants.{Variant}
-use Rattle.rasn_schema.specs.Bounds.{holds}
+use Rattle.rasn_constraints.specs.Bounds.{holds, any_size}
 use Rattle.rasn_schema.specs.Orders.{ordered}
 use Rattle.rasn_schema.specs.Schemas
-use Rattle.rasn_schema.specs.Schemas.{any_size, tags, Presence, required, optional, group, default, Schema, Parts, no_parts, part}
+use Rattle.rasn_schema.specs.Schemas.{tags, Presence, required, optional, group, default, Schema, Parts, no_parts, part}
 use Rattle.per_core.specs.Counts.{list_items, octet_items, bit_items, char_items, counted, octet_writers, bit_writers, octets_unsized, number_form, number_under, open_bits, small, bounded, determinant}
 use Rattle.per_core.specs.Writers.{Writer, just, refused, ◌▹◌, written_if, complete}
 

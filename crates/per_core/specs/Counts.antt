@@ -3,8 +3,7 @@ use Rattle.std.specs.Prelude.{ℕ, zero, suc, ◌+◌, ◌-◌, ◌*◌, ◌/◌
 use Rattle.rasn_types.specs.Bits.{Bits, width, to_bits, pack}
 use Rattle.rasn_types.specs.Octets.{octets_of_natural, natural_bits, whole_bits}
 use Rattle.rasn_types.specs.Variants.{Variant, aligned, unaligned}
-use Rattle.rasn_schema.specs.Bounds.{allows, holds, fits_i128, above}
-use Rattle.rasn_schema.specs.Schemas.{Bounds, Size, any_size}
+use Rattle.rasn_constraints.specs.Bounds.{allows, holds, fits_i128, above, Bounds, Size, any_size}
 use Rattle.per_core.specs.Writers.{Writer, just, refused, ◌▹◌, in_a_row, padding, written_if, complete}
 
 -- X.691 11.5: a constrained whole number: the o-th of n numbers, counted from 0

@@ -5,9 +5,9 @@ use Rattle.rasn_types.specs.Bits.{Bits}
 use Rattle.rasn_types.specs.Octets.{signed}
 use Rattle.rasn_types.specs.Values.{Value, truth, nothing, whole}
 use Rattle.rasn_schema.specs.Schemas
-use Rattle.rasn_schema.specs.Schemas.{Schema, Parts, Bounds, unbounded, listed}
+use Rattle.rasn_constraints.specs.Bounds.{Bounds, unbounded, holds}
+use Rattle.rasn_schema.specs.Schemas.{Schema, Parts, listed}
 use Rattle.rasn_schema.specs.Records.{record_at, no_additions}
-use Rattle.rasn_schema.specs.Bounds.{holds}
 use Rattle.rasn_schema.specs.Calls.{Answers, Refuses, takes_none}
 use Rattle.per_core.specs.Spellings.{Settings}
 use Rattle.per_core.specs.Basic.{basic, basic_in, Octets, IsNumberOf}

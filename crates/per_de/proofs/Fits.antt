@@ -2,10 +2,9 @@
 use Rattle.std.proofs.Common.{◌≡◌, ◌∙◌, refl, sym, subst, inr, false, ℕ, Option, Some, None, ℤ, pos, negsuc}
 use Rattle.std.specs.Prelude.{option_map}
 use Rattle.rasn_types.specs.Bits.{Bits}
-use Rattle.rasn_schema.specs.Bounds.{holds}
-use Rattle.rasn_schema.specs.Constraints.{start_of, end_of, bounds_of}
-use Rattle.rasn_schema.specs.Schemas.{Bounds}
-use Rattle.rasn_schema.specs.declared.constraints.Bounded.{Bounded}
+use Rattle.rasn_constraints.specs.Bounds.{holds, Bounds}
+use Rattle.rasn_constraints.specs.Constraints.{start_of, end_of, bounds_of}
+use Rattle.rasn_constraints.specs.declared.constraints.Bounded.{Bounded}
 use Rattle.per_core.specs.Spellings.{Settings}
 use Rattle.per_core.specs.Basic.{IsNumberOf}
 use Rattle.per_core.specs.Took.{Took}

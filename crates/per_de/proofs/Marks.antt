@@ -1,7 +1,7 @@
 -- An extensible constraint's bit, and the number behind it (X.691 13.1).
 use Rattle.std.proofs.Common.{◌≡◌, ◌∙◌, sym, subst, Bool, true, false, [], ◌∷◌, ◌++◌, ◌⊎◌, inl, inr, ℤ}
 use Rattle.rasn_types.specs.Bits.{Bits}
-use Rattle.rasn_schema.specs.Schemas.{Bounds, unbounded}
+use Rattle.rasn_constraints.specs.Bounds.{Bounds, unbounded}
 use Rattle.per_core.specs.Spellings.{Settings, exactly, Then}
 use Rattle.per_core.specs.Basic.{IsNumber, IsNumberOf}
 use Rattle.per_core.specs.Took.{Took}

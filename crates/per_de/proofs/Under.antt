@@ -1,7 +1,7 @@
 -- Numbers as bounds have them written, seen from the bits that are left.
 use Rattle.std.proofs.Common.{◌≡◌, ◌∙◌, sym, ap, subst, ℕ, ◌+◌, ◌^◌, ◌<◌, ◌≤◌, List, [], length, arith, Some, None, ℤ, pos, FitsSigned}
 use Rattle.std.specs.Int.{w128}
-use Rattle.rasn_schema.specs.Bounds.{above}
+use Rattle.rasn_constraints.specs.Bounds.{above}
 use Rattle.rasn_types.specs.Bits.{Bits}
 use Rattle.per_core.specs.Spellings.{Settings}
 use Rattle.per_core.specs.Basic.{InWhole, InNatural, Octets, bounded_form}

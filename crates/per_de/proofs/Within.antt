@@ -1,8 +1,7 @@
 -- Numbers within bounds are those that the bounds have written, and that stand within them (X.691 13.2).
 use lib.Signed.{le_z}
 use Rattle.std.proofs.Common.{◌≡◌, ◌∙◌, refl, sym, ap, subst, ℕ, ◌+◌, ◌<◌, true, false, arith, Option, Some, None, ℤ, pos, negsuc, leb-true}
-use Rattle.rasn_schema.specs.Bounds.{holds, fits_i128, above}
-use Rattle.rasn_schema.specs.Schemas.{Bounds}
+use Rattle.rasn_constraints.specs.Bounds.{holds, fits_i128, above, Bounds}
 use Rattle.rasn_types.specs.Bits.{Bits}
 use Rattle.rasn_types.specs.Octets.{unsigned}
 use Rattle.per_core.specs.Spellings.{Settings}

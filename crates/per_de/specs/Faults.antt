@@ -1,8 +1,7 @@
 -- The fault that a refusal names, where it stands.
 use Rattle.std.specs.Prelude.{◌≡◌, ◌⊎◌, ℕ, ℤ, true, false, [], ◌++◌}
 use Rattle.rasn_types.specs.Bits.{Bits}
-use Rattle.rasn_schema.specs.Bounds.{holds, fits_i128}
-use Rattle.rasn_schema.specs.Schemas.{Bounds}
+use Rattle.rasn_constraints.specs.Bounds.{holds, fits_i128, Bounds}
 use Rattle.per_core.specs.Spellings.{Settings}
 use Rattle.per_core.specs.Basic.{Octets}
 use Rattle.per_core.specs.Took.{Took}

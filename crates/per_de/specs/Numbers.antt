@@ -2,8 +2,7 @@
 use lib.Signed.{le_z}
 use Rattle.std.specs.Prelude.{◌≡◌, ℕ, ◌+◌, ◌^◌, ◌≤◌, true, false, cond, Option, Some, None, ℤ, pos, negsuc}
 use Rattle.rasn_types.specs.Bits.{Bits}
-use Rattle.rasn_schema.specs.Bounds.{above, holds, fits_i128}
-use Rattle.rasn_schema.specs.Schemas.{Bounds}
+use Rattle.rasn_constraints.specs.Bounds.{above, holds, fits_i128, Bounds}
 use Rattle.per_core.specs.Spellings.{Settings, Spelling, When}
 use Rattle.per_core.specs.Basic.{InNatural, InWhole, bounded_form}
 use Rattle.per_core.specs.Took.{Took}

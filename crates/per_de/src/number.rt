@@ -2,8 +2,8 @@
 
 ghost use Rattle.std.specs.Prelude.{◌≡◌, ℤ, false, IfOk, IfErr};
 ghost use Rattle.rasn_types.specs.Bits.{Bits};
-ghost use Rattle.rasn_schema.specs.Schemas.{unbounded};
-ghost use Rattle.rasn_schema.specs.Constraints.{bounds_of, bounds_in, is_marked};
+ghost use Rattle.rasn_constraints.specs.Bounds.{unbounded};
+ghost use Rattle.rasn_constraints.specs.Constraints.{bounds_of, bounds_in, is_marked};
 ghost use Rattle.per_core.specs.Basic.{IsNumberOf};
 ghost use Rattle.per_core.specs.Took.{Took};
 ghost use Rattle.per_de.specs.State.{settings};

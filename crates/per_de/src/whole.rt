@@ -3,7 +3,7 @@
 ghost use Rattle.std.specs.Prelude.{◌≡◌, ℕ, ℤ, Some, None, IfOk, IfErr};
 ghost use Rattle.rasn_types.specs.Bits.{Bits};
 ghost use Rattle.rasn_types.specs.Octets.{signed};
-ghost use Rattle.rasn_schema.specs.Bounds.{above};
+ghost use Rattle.rasn_constraints.specs.Bounds.{above};
 ghost use Rattle.per_core.specs.Took.{Took};
 ghost use Rattle.per_de.specs.State.{settings};
 ghost use Rattle.per_de.specs.Numbers.{OfRead, IsAbove, under_bounds};

@@ -3,11 +3,12 @@ use Rattle.std.proofs.Common.{◌≡◌, sym, ap, ◌∙◌, ap₂, ℕ, ◌+◌
 use Rattle.std.proofs.lemmas.Bool.Decides.{nat_tests}
 use lib.Signed.{le_z}
 use Rattle.rasn_types.specs.Values.{Value}
-use Rattle.rasn_schema.specs.Bounds.{holds, not_below, not_above, above}
+use Rattle.rasn_constraints.specs.Bounds.{holds, not_below, not_above, above, Bounds}
 use Rattle.rasn_schema.specs.Depth.{meets_cut}
-use Rattle.rasn_schema.specs.Lawful.{IsLawful, AreLawful, is_value, are_lawful_bounds}
+use Rattle.rasn_constraints.specs.LawfulConstraints.{are_lawful_bounds}
+use Rattle.rasn_schema.specs.Lawful.{IsLawful, AreLawful, is_value}
 use Rattle.rasn_schema.specs.Normal.{normal}
-use Rattle.rasn_schema.specs.Schemas.{Bounds, required, optional, group, default, Order, Schema, Parts, no_parts, part}
+use Rattle.rasn_schema.specs.Schemas.{required, optional, group, default, Order, Schema, Parts, no_parts, part}
 use Rattle.per_core.proofs.Lengths.{and_left, and_right}
 use Rattle.per_depth.specs.Listings.{HasDefault}
 use Rattle.per_depth.specs.Written.{is_written}

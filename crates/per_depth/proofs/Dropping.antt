@@ -2,7 +2,8 @@
 use Rattle.per_core.specs.Basic
 use Rattle.std.proofs.Common.{◌≡◌, refl, sym, ap, ◌∙◌, subst, ℕ, zero, suc, ◌+◌, Bool, true, false, List, [], ◌∷◌, length, arith, Option, Some, None}
 use Rattle.rasn_types.specs.Values.{sorted, before, code, Value, elements, bag_of, fields, alternative, Side, root, added, as_values, as_slots, values, slots}
-use Rattle.rasn_schema.specs.Schemas.{Size, tags, count, Presence, required, optional, group, default, Order, Schema, Parts, no_parts, part}
+use Rattle.rasn_constraints.specs.Bounds.{Size}
+use Rattle.rasn_schema.specs.Schemas.{tags, count, Presence, required, optional, group, default, Order, Schema, Parts, no_parts, part}
 use Rattle.rasn_schema.specs.Orders.{ordered}
 use Rattle.rasn_schema.specs.Depth.{meets_cut, slots_meet_cut, meets_cut_at, any_of, CutOf, CutParts, cut_here, alike, cut_list, cut_set_of, cut_sequence, cut_choice, no_cut, cut_part}
 use Rattle.per_core.specs.Spellings.{Settings, Spelling}

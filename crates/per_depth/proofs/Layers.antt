@@ -4,7 +4,8 @@ use Rattle.per_core.specs.Canon
 use Rattle.std.proofs.Common.{◌≡◌, refl, sym, ap, ◌∙◌, subst, ℕ, zero, suc, Bool, true, false, List, [], ◌∷◌, length, Option, Some}
 use Rattle.rasn_types.specs.Values.{Value, same, before, elements, bag, bag_of, fields, alternative, Side, root, added, Values, no_values, value, values, as_values, Slots, no_slots, absent, there, slots, as_slots}
 use Rattle.rasn_types.specs.Variants.{Variant}
-use Rattle.rasn_schema.specs.Schemas.{Size, Order, listed, by_tag, Tag, tags, Schema, Parts, no_parts, part}
+use Rattle.rasn_constraints.specs.Bounds.{Size}
+use Rattle.rasn_schema.specs.Schemas.{Order, listed, by_tag, Tag, tags, Schema, Parts, no_parts, part}
 use Rattle.rasn_schema.specs.Orders.{ordered, by_tags, insert_at, how_many_less}
 use Rattle.per_core.specs.Spellings.{Settings, Spelling, Then}
 use Rattle.per_core.specs.Writers.{Writer, ◌▹◌, written_if}

@@ -3,7 +3,8 @@ use Rattle.per_core.specs.Basic
 use Rattle.rasn_schema.specs.Schemas
 use Rattle.std.proofs.Common.{◌≡◌, refl, sym, ap, ◌∙◌, subst, ℕ, zero, suc, ◌+◌, Bool, true, false, cond, not, ◌&&◌, List, [], ◌∷◌, length, eq-eqb, Option, Some, None}
 use Rattle.rasn_types.specs.Values.{Value, same, code, equal_lists, put, sorted, before, elements, bag_of, fields, alternative, Side, root, added, as_values, as_slots, slots}
-use Rattle.rasn_schema.specs.Schemas.{Size, Presence, required, optional, group, default, Order, TagTree, tags, count, Schema, Parts, no_parts, part}
+use Rattle.rasn_constraints.specs.Bounds.{Size}
+use Rattle.rasn_schema.specs.Schemas.{Presence, required, optional, group, default, Order, TagTree, tags, count, Schema, Parts, no_parts, part}
 use Rattle.rasn_schema.specs.Orders.{ordered}
 use Rattle.rasn_schema.specs.Depth.{any_of, IsLeaf}
 use Rattle.per_core.specs.Spellings.{Settings}

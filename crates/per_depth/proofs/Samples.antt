@@ -2,7 +2,8 @@
 use Rattle.std.proofs.Common.{◌≡◌, refl, ℕ, zero, suc, arith, true, false, [], ◌∷◌, Some, None}
 use Rattle.rasn_types.specs.Values.{Value, fields, no_slots, absent, there}
 use Rattle.rasn_types.specs.Variants.{unaligned}
-use Rattle.rasn_schema.specs.Schemas.{TagTree, leaf, required, optional, group, default, Order, Schema, any_size, no_parts, part}
+use Rattle.rasn_constraints.specs.Bounds.{any_size}
+use Rattle.rasn_schema.specs.Schemas.{TagTree, leaf, required, optional, group, default, Order, Schema, no_parts, part}
 use Rattle.rasn_schema.specs.Normal.{normal}
 use Rattle.per_core.specs.Canon.{bytes}
 use Rattle.per_depth.specs.Written.{writes_cut}

@@ -1,7 +1,8 @@
 -- How many levels a value has, how deep a tree of kinds is cut off, and a tree to so many levels.
 use Rattle.std.specs.Prelude.{ℕ, zero, suc, max, ◌<◌, Bool}
 use Rattle.rasn_types.specs.Values.{Value, elements, bag, fields, alternative, day, Values, no_values, value, Slots, no_slots, absent, there}
-use Rattle.rasn_schema.specs.Schemas.{Size, Presence, Order, TagTree, Schema, Parts, no_parts, part}
+use Rattle.rasn_constraints.specs.Bounds.{Size}
+use Rattle.rasn_schema.specs.Schemas.{Presence, Order, TagTree, Schema, Parts, no_parts, part}
 
 -- A list, a bag, a record and an alternative are one level above what stands in them; a date is a record that holds a choice (X.691, section 32).
 unfoldable mutual

@@ -4,11 +4,11 @@
 ghost use Rattle.std.specs.Prelude.{◌≡◌, ◌↔◌, ◌⊎◌, ◌+◌, ◌<◌, ◌≤◌, ◌^◌, ℕ, Bool, true, false, List, Some, ℤ};
 ghost use Rattle.rasn_types.specs.Values.{Value, Side, Slots, fields, slots};
 ghost use Rattle.rasn_types.specs.Variants.{Variant};
-ghost use Rattle.rasn_schema.specs.Bounds.{holds, above};
+ghost use Rattle.rasn_constraints.specs.Bounds.{holds, above, Bounds};
 ghost use Rattle.rasn_schema.specs.Depth.{Unfolds, meets_cut};
 ghost use Rattle.rasn_schema.specs.Lawful.{IsLawful, IsLawfulType, is_value};
 ghost use Rattle.rasn_schema.specs.Normal.{normal};
-ghost use Rattle.rasn_schema.specs.Schemas.{Bounds, Tag, default, Order, by_tag, Schema, Parts};
+ghost use Rattle.rasn_schema.specs.Schemas.{Tag, default, Order, by_tag, Schema, Parts};
 ghost use Rattle.per_core.specs.Basic.{read};
 ghost use Rattle.per_core.specs.Canon.{canon, bytes};
 ghost use Rattle.per_core.specs.Spellings.{Settings};

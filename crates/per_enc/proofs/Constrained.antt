@@ -11,12 +11,12 @@ use Rattle.rasn_types.proofs.Octets.{length-whole_bits}
 use Rattle.rasn_types.specs.Values.{whole}
 use Rattle.rasn_types.specs.Variants.{Variant}
 use Rattle.rasn_types.proofs.Reading.{fits-is_i128}
-use Rattle.rasn_schema.specs.Bounds.{above, fits_i128, holds, not_above}
+use Rattle.rasn_constraints.specs.Bounds.{above, fits_i128, holds, not_above, Bounds, unbounded}
 use Rattle.rasn_schema.specs.Calls.{Writes}
-use Rattle.rasn_schema.specs.Constraints.{bounds_in, is_marked}
-use Rattle.rasn_schema.specs.Schemas.{Schema, Bounds, unbounded}
-use Rattle.rasn_schema.specs.declared.constraints.Bounded.{Bounded}
-use Rattle.rasn_schema.specs.declared.constraints.Extensible.{Extensible}
+use Rattle.rasn_constraints.specs.Constraints.{bounds_in, is_marked}
+use Rattle.rasn_schema.specs.Schemas.{Schema}
+use Rattle.rasn_constraints.specs.declared.constraints.Bounded.{Bounded}
+use Rattle.rasn_constraints.specs.declared.constraints.Extensible.{Extensible}
 use Rattle.per_core.specs.Canon.{canon}
 use Rattle.per_core.specs.Counts.{bounded, counted_octets, marked_form, number_form, number_under, octets_unsized}
 use Rattle.per_core.specs.Writers.{Writer, just, join, after, written_if}

@@ -7,12 +7,11 @@ use Rattle.std.proofs.Math.Bool.{and-true}
 use Rattle.rasn_types.specs.Codecs.{variant_of}
 use Rattle.rasn_types.specs.Variants.{Variant}
 use Rattle.rasn_types.specs.declared.types.Codec.{Codec}
-use Rattle.rasn_schema.specs.Bounds.{allows, holds}
-use Rattle.rasn_schema.specs.Constraints.{bounds_by, end_of, is_marked, size_between, size_in, start_of}
-use Rattle.rasn_schema.specs.declared.constraints.Bounded.{Bounded}
-use Rattle.rasn_schema.specs.declared.constraints.Bounded.TheVariants as Variants
-use Rattle.rasn_schema.specs.declared.constraints.Extensible.{Extensible}
-use Rattle.rasn_schema.specs.Schemas.{Size, any_size}
+use Rattle.rasn_constraints.specs.Bounds.{allows, holds, Size, any_size}
+use Rattle.rasn_constraints.specs.Constraints.{bounds_by, end_of, is_marked, size_between, size_in, start_of}
+use Rattle.rasn_constraints.specs.declared.constraints.Bounded.{Bounded}
+use Rattle.rasn_constraints.specs.declared.constraints.Bounded.TheVariants as Variants
+use Rattle.rasn_constraints.specs.declared.constraints.Extensible.{Extensible}
 use Rattle.per_core.specs.Counts.{bounded, counted, Counted, marked_form, counted_in, counted_under, determinant, in_rows, is_aligned, padding_if, rows}
 use Rattle.per_core.specs.Writers.{Writer, just, ◌▹◌, in_a_row, padding, written_if}
 use Rattle.per_enc.specs.declared.error.EncodeError.{EncodeError}

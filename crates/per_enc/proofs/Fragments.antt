@@ -9,7 +9,7 @@ use Rattle.rasn_types.specs.Bits.{Bits, to_bits, unpack}
 use Rattle.rasn_types.specs.Variants.{Variant, aligned}
 use Rattle.per_core.specs.Writers.{Writer, just, ◌▹◌, pad, join, go_on, after, in_a_row, padding, written_if}
 use Rattle.per_core.specs.Counts.{rows, unless_zero, in_rows, determinant, octet_writers, Counted, counted_in}
-use Rattle.rasn_schema.specs.Schemas.{any_size}
+use Rattle.rasn_constraints.specs.Bounds.{any_size}
 use Rattle.per_enc.specs.Rows.{row}
 use Rattle.per_enc.specs.State.{Appends}
 use Rattle.per_enc.proofs.Writing.{then_assoc, then_nothing}

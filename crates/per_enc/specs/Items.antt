@@ -1,7 +1,6 @@
 -- Items that are counted and written one after another, and why they are refused (ITU-T X.691, 11.9).
 use Rattle.std.specs.Prelude.{ℕ, ◌≡◌, Bool, true, false, ◌||◌, List, ◌∷◌, length, Option, None}
-use Rattle.rasn_schema.specs.Bounds.{allows}
-use Rattle.rasn_schema.specs.Schemas.{Size}
+use Rattle.rasn_constraints.specs.Bounds.{allows, Size}
 use Rattle.per_core.specs.Writers.{Writer}
 use Rattle.per_enc.specs.declared.error.EncodeError.{EncodeError}
 use Rattle.per_enc.specs.declared.error.EncodeErrorKind.{EncodeErrorKind}

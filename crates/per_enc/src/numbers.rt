@@ -7,7 +7,7 @@ ghost use Rattle.rasn_types.specs.Octets.{natural_bits, octets_of_natural};
 ghost use Rattle.rasn_types.specs.Variants.{aligned};
 ghost use Rattle.per_core.specs.Writers.{just, padding, ◌▹◌};
 ghost use Rattle.per_core.specs.Counts.{bounded, counted_octets, number_under};
-ghost use Rattle.rasn_schema.specs.Bounds.{above, not_above};
+ghost use Rattle.rasn_constraints.specs.Bounds.{above, not_above};
 ghost use Rattle.per_enc.specs.State.{Appends};
 
 use crate::lengths::{push_count, push_padding};

@@ -3,9 +3,8 @@
 ghost use Rattle.std.specs.Prelude.{◌≡◌, ◌⊎◌, ◌+◌, ◌-◌, ◌≤◌, length, slice_range, true, false, OnOk, OnErr, IfErr};
 ghost use Rattle.rasn_types.specs.Codecs.{variant_of};
 ghost use Rattle.rasn_types.specs.Variants.{Variant};
-ghost use Rattle.rasn_schema.specs.Bounds.{allows};
-ghost use Rattle.rasn_schema.specs.Constraints.{is_marked, size_in};
-ghost use Rattle.rasn_schema.specs.Schemas.{any_size};
+ghost use Rattle.rasn_constraints.specs.Bounds.{allows, any_size};
+ghost use Rattle.rasn_constraints.specs.Constraints.{is_marked, size_in};
 ghost use Rattle.per_core.specs.Counts.{bounded, counted, counted_in, determinant, padding_if};
 ghost use Rattle.per_core.specs.Writers.{just, padding, ◌▹◌};
 ghost use Rattle.per_enc.specs.Faults.{IsMemory};

@@ -3,7 +3,8 @@ use Rattle.std.proofs.Common.{◌≡◌, refl, sym, ap, ◌∙◌, subst, ℕ, z
 use Rattle.rasn_types.specs.Bits.{Bits}
 use Rattle.rasn_types.specs.Values.{Value, fields, alternative, Side, root, added, as_slots}
 use Rattle.rasn_schema.specs.Orders.{ordered, by_tags, insert_at, how_many_less}
-use Rattle.rasn_schema.specs.Schemas.{Size, Order, listed, by_tag, Tag}
+use Rattle.rasn_constraints.specs.Bounds.{Size}
+use Rattle.rasn_schema.specs.Schemas.{Order, listed, by_tag, Tag}
 use Rattle.per_core.specs.Basic
 use Rattle.per_core.specs.Basic.{As, Lengthy, IsBounded, Rule, Bodies, Root, OpenOf, Additions_in, Fields_in, Chosen}
 use Rattle.per_core.specs.Counts.{list_items}

@@ -4,7 +4,8 @@ use Rattle.rasn_types.specs.Values.{sorted, before, code, Value, elements, bag, 
 use Rattle.rasn_schema.specs.Depth.{meets_cut, slots_meet_cut, meets_cut_at, in_elements, any_of, IsLeaf, CutOf, CutParts, cut_here, alike, cut_list, cut_set_of, cut_sequence, cut_choice, no_cut, cut_part}
 use Rattle.rasn_schema.specs.Orders.{ordered}
 use Rattle.rasn_schema.specs.Schemas
-use Rattle.rasn_schema.specs.Schemas.{Size, tags, count, Presence, Schema, Parts, no_parts, part}
+use Rattle.rasn_constraints.specs.Bounds.{Size}
+use Rattle.rasn_schema.specs.Schemas.{tags, count, Presence, Schema, Parts, no_parts, part}
 use Rattle.per_core.specs.Basic.{IsLeftOut, As, Lengthy, Unknown_in, Additions_in, Fields_in, Chosen, basic_in, rules_in}
 use Rattle.per_core.specs.Counts.{list_items}
 use Rattle.per_core.specs.Spellings.{Settings, Spelling}

@@ -4,9 +4,9 @@ use Rattle.rasn_types.specs.Alphabets.{visible, char_width}
 use Rattle.rasn_types.specs.Contents.{is_text, is_time, is_identifier}
 use Rattle.rasn_types.specs.Values.{Value, whole, characters, elements, bag_of, fields, alternative, day, Side, root, added, as_values, as_slots}
 use Rattle.rasn_types.specs.Variants.{Variant, aligned, unaligned}
-use Rattle.rasn_schema.specs.Bounds.{above}
+use Rattle.rasn_constraints.specs.Bounds.{above, Bounds, Size, any_size, unbounded}
 use Rattle.rasn_schema.specs.Orders.{ordered}
-use Rattle.rasn_schema.specs.Schemas.{Bounds, Size, any_size, unbounded, tags, Schema, Parts, no_parts, part}
+use Rattle.rasn_schema.specs.Schemas.{tags, Schema, Parts, no_parts, part}
 use Rattle.per_core.specs.Basic
 use Rattle.per_core.specs.Basic.{bounded_by, IsBounded, InOctets, InFragments, Unsized, PaddingIf, length_form, Sized, Marked, Lengthy, octet, bit, Octets, InNatural, InWhole, number_spelling, IsNumber, IsNumberOf, at_least_zero, Small, Fills, Open, Rule, Unknown_in, Additions_in, IsBitmap, Fields_in, Chosen, Char, String, YearIn, year_form, IsDay, As, Proper, basic_in, rules_in, fills}
 use Rattle.per_core.specs.Counts.{Counted, list_items, octet_items, bit_items, char_items, is_aligned}

@@ -4,7 +4,8 @@ use Rattle.rasn_types.specs.Bits.{Bits}
 use Rattle.rasn_types.specs.Values.{sorted, before, code, Value, elements, bag_of, fields, alternative, Side, root, added, as_values, as_slots, values, slots}
 use Rattle.rasn_schema.specs.Depth.{meets_cut, slots_meet_cut, meets_cut_at, in_slots, any_of}
 use Rattle.rasn_schema.specs.Orders.{ordered}
-use Rattle.rasn_schema.specs.Schemas.{Size, tags, count, Presence, required, optional, group, default, Order, Schema, Parts, no_parts, part}
+use Rattle.rasn_constraints.specs.Bounds.{Size}
+use Rattle.rasn_schema.specs.Schemas.{tags, count, Presence, required, optional, group, default, Order, Schema, Parts, no_parts, part}
 use Rattle.per_core.specs.Basic
 use Rattle.per_core.specs.Basic.{FlagOf, IsLeftOut, As, Additions_in, Chosen, basic, basic_in, rules}
 use Rattle.per_core.specs.Spellings.{Settings}

@@ -4,7 +4,7 @@ use Rattle.std.proofs.lemmas.List.{length-replicate, take-replicate, drop-replic
 use Rattle.rasn_types.specs.Bits.{Bits, to_bits, number_of, unpack, pack, AreOctets}
 use Rattle.rasn_types.specs.Variants.{unaligned}
 use Rattle.rasn_types.specs.Values.{Value, truth, values, as_values}
-use Rattle.rasn_schema.specs.Schemas.{any_size}
+use Rattle.rasn_constraints.specs.Bounds.{any_size}
 use Rattle.per_core.specs.Writers.{Writer, just, padding, go_on, join, complete, after, written_if, ◌▹◌, in_a_row}
 use Rattle.per_core.specs.Counts.{determinant, rows, in_rows, counted, list_items}
 use Rattle.per_core.specs.Canon.{bytes, canon, completed}

@@ -4,8 +4,8 @@ use Rattle.std.proofs.lemmas.List.{length-replicate, take-append-drop}
 use Rattle.std.proofs.lemmas.List.{append-nil}
 use Rattle.rasn_types.specs.Bits.{Bits, unpack, to_bits}
 use Rattle.rasn_types.specs.Values.{Value, truth, fields, as_slots}
-use Rattle.rasn_schema.specs.Schemas.{Schema, Parts, listed, any_size}
-use Rattle.rasn_schema.specs.Bounds.{allows}
+use Rattle.rasn_constraints.specs.Bounds.{any_size, allows}
+use Rattle.rasn_schema.specs.Schemas.{Schema, Parts, listed}
 use Rattle.per_core.specs.Writers.{Writer, pad, just, ◌▹◌, padding, in_a_row, written_if}
 use Rattle.per_core.specs.Counts.{counted, bit_items, bit_writers, octet_writers, octets_unsized, open_bits}
 use Rattle.rasn_types.specs.Variants.{Variant}

@@ -3,7 +3,8 @@ use Rattle.std.specs.Prelude.{ℕ, zero, suc, ◌+◌, false, true, List, [], �
 use Rattle.rasn_types.specs.Variants.{aligned, unaligned}
 use Rattle.per_core.specs.Spellings.{Settings}
 use Rattle.rasn_types.specs.Values.{Value, elements, fields, as_values, as_slots}
-use Rattle.rasn_schema.specs.Schemas.{Bounds, Size, unbounded, TagTree, leaf, Presence, required, listed, by_tag, Schema, Parts, no_parts, part}
+use Rattle.rasn_constraints.specs.Bounds.{Bounds, Size, unbounded}
+use Rattle.rasn_schema.specs.Schemas.{TagTree, leaf, Presence, required, listed, by_tag, Schema, Parts, no_parts, part}
 
 -- the negative of a number
 abbrev pub minus : ℕ → ℤ

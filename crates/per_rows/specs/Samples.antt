@@ -2,7 +2,8 @@
 use Rattle.std.specs.Prelude.{ℕ, zero, suc, false, true, List, [], ◌∷◌, replicate, Some, None, pos}
 use Rattle.rasn_types.specs.Values.{Value, whole, truth, day}
 use Rattle.rasn_types.specs.Alphabets.{visible, from_to}
-use Rattle.rasn_schema.specs.Schemas.{any_size, between, one_of, tree, no_trees, Presence, required, optional, group, default, listed, Schema, no_parts}
+use Rattle.rasn_constraints.specs.Bounds.{any_size, between}
+use Rattle.rasn_schema.specs.Schemas.{one_of, tree, no_trees, Presence, required, optional, group, default, listed, Schema, no_parts}
 use Rattle.per_rows.specs.Build.{minus, integer, integer_in, sized, octet_string, list_of, numbered, sequence, sequence_with, extensible_sequence, choice, extensible_choice, members, set, context, private_tag, record_with, extended}
 
 -- SEQUENCE { a BOOLEAN, b INTEGER, c BOOLEAN, d INTEGER (-10..400) }

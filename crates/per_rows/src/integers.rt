@@ -4,7 +4,8 @@
 ghost use Rattle.std.specs.Prelude.{◌≡◌, ◌+◌, ◌^◌, ◌-◌, List, [], ◌∷◌, ◌++◌, replicate, true, false, Some, None, pos};
 ghost use Rattle.rasn_types.specs.Variants.{aligned, unaligned};
 ghost use Rattle.rasn_types.specs.Values.{whole, truth, nothing, item, root, added};
-ghost use Rattle.rasn_schema.specs.Schemas.{Schema, between, unbounded};
+ghost use Rattle.rasn_constraints.specs.Bounds.{between, unbounded};
+ghost use Rattle.rasn_schema.specs.Schemas.{Schema};
 ghost use Rattle.per_core.specs.Writers.{complete};
 ghost use Rattle.per_core.specs.Canon.{bytes};
 ghost use Rattle.per_rows.specs.Build.{integer, integer_in, extensible_integer, at_least, at_most, minus};

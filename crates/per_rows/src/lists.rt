@@ -5,7 +5,8 @@ ghost use Rattle.std.specs.Prelude.{◌≡◌, List, [], ◌∷◌, ◌++◌, re
 ghost use Rattle.rasn_types.specs.Variants.{aligned, unaligned};
 ghost use Rattle.rasn_types.specs.Values.{whole, truth, nothing, octets, bits, characters};
 ghost use Rattle.rasn_types.specs.Bits.{unpack};
-ghost use Rattle.rasn_schema.specs.Schemas.{Schema, any_size};
+ghost use Rattle.rasn_constraints.specs.Bounds.{any_size};
+ghost use Rattle.rasn_schema.specs.Schemas.{Schema};
 ghost use Rattle.per_core.specs.Canon.{bytes};
 ghost use Rattle.per_rows.specs.Build.{bit_string, list_of, sized, record_of, list};
 ghost use Rattle.per_rows.specs.Samples.{byte, element, with_lists, only_x};

@@ -3,7 +3,8 @@
 
 ghost use Rattle.std.specs.Prelude.{◌≡◌, List, [], ◌∷◌, ◌++◌, replicate, true, false, Some, None, pos};
 ghost use Rattle.rasn_types.specs.Values.{Value, whole, truth, octets};
-ghost use Rattle.rasn_schema.specs.Schemas.{Schema, any_size, between};
+ghost use Rattle.rasn_constraints.specs.Bounds.{any_size, between};
+ghost use Rattle.rasn_schema.specs.Schemas.{Schema};
 ghost use Rattle.per_core.specs.Basic.{fills, front};
 ghost use Rattle.per_rows.specs.Build.{aper, uper, zero_padded, integer, integer_in, extensible_integer, octet_string, extended, record_of, record_with};
 ghost use Rattle.per_rows.specs.Samples.{with_default, deep, nest, nested, shallow_version, with_group, required_addition, default_addition, no_additions, outer1, outer2, outer3};

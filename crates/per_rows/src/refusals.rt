@@ -3,7 +3,8 @@
 
 ghost use Rattle.std.specs.Prelude.{◌≡◌, ℕ, List, [], ◌∷◌, ◌++◌, replicate, true, false, Some, None, pos};
 ghost use Rattle.rasn_types.specs.Values.{Value};
-ghost use Rattle.rasn_schema.specs.Schemas.{Schema, any_size, between};
+ghost use Rattle.rasn_constraints.specs.Bounds.{any_size, between};
+ghost use Rattle.rasn_schema.specs.Schemas.{Schema};
 ghost use Rattle.per_core.specs.Spellings.{Settings};
 ghost use Rattle.per_core.specs.Basic.{fills};
 ghost use Rattle.per_core.specs.Canon.{bytes};

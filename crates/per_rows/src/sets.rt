@@ -4,7 +4,8 @@
 ghost use Rattle.std.specs.Prelude.{◌≡◌, List, [], ◌∷◌, true, false, Some, None, pos, negsuc};
 ghost use Rattle.rasn_types.specs.Variants.{aligned, unaligned};
 ghost use Rattle.rasn_types.specs.Values.{whole, truth, nothing, alternative, root, bag_of};
-ghost use Rattle.rasn_schema.specs.Schemas.{Schema, any_size};
+ghost use Rattle.rasn_constraints.specs.Bounds.{any_size};
+ghost use Rattle.rasn_schema.specs.Schemas.{Schema};
 ghost use Rattle.per_core.specs.Canon.{bytes};
 ghost use Rattle.per_rows.specs.Build.{integer, record_of, record_with};
 ghost use Rattle.per_rows.specs.Samples.{b_before_a, optional_members, untagged_member};

@@ -4,7 +4,7 @@
 ghost use Rattle.std.specs.Prelude.{◌≡◌, List, [], ◌∷◌, ◌++◌, replicate, true, false, Some, None, pos};
 ghost use Rattle.rasn_types.specs.Variants.{aligned, unaligned};
 ghost use Rattle.rasn_types.specs.Values.{whole, truth, octets, item, added, root, alternative};
-ghost use Rattle.rasn_schema.specs.Schemas.{any_size};
+ghost use Rattle.rasn_constraints.specs.Bounds.{any_size};
 ghost use Rattle.rasn_schema.specs.Normal.{normal};
 ghost use Rattle.per_core.specs.Canon.{bytes};
 ghost use Rattle.per_core.specs.Versions.{project, widen};

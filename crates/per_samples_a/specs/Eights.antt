@@ -3,7 +3,8 @@ use Rattle.std.specs.Prelude.{ℕ, Bool, List, [], ◌∷◌, Option, Some, ℤ}
 use Rattle.rasn_types.specs.Values.{Value, truth, nothing, whole}
 use Rattle.rasn_schema.specs.Schemas.{Schema, TagTree, leaf, Parts, no_parts, part, required}
 use Rattle.rasn_schema.specs.Depth.{Unfolds}
-use Rattle.rasn_schema.specs.Forms.{no_constraints, number_schema, i128_range, always, simple_unfolds}
+use Rattle.rasn_constraints.specs.Ranges.{no_constraints, i128_range}
+use Rattle.rasn_schema.specs.Forms.{number_schema, always, simple_unfolds}
 use Rattle.rasn_schema.specs.Families.{UnfoldsParts, parts_unfold, part_unfolds}
 
 -- the tag of a component by its place (X.680 25.3, AUTOMATIC TAGS)

@@ -1,8 +1,8 @@
 -- Value constraints.
 use Rattle.std.specs.Prelude.{Some, None, ℤ, true}
-use Rattle.rasn_schema.specs.Schemas.{Bounds}
-use Rattle.rasn_schema.specs.declared.constraints.Bounded.TheVariants.{Range}
-use Rattle.rasn_schema.specs.declared.constraints.Constraints.{Constraints}
+use Rattle.rasn_constraints.specs.Bounds.{Bounds}
+use Rattle.rasn_constraints.specs.declared.constraints.Bounded.TheVariants.{Range}
+use Rattle.rasn_constraints.specs.declared.constraints.Constraints.{Constraints}
 
 -- X.680 51.4: a lower bound alone
 abbrev pub at_least : ℤ → Bounds

@@ -1,8 +1,10 @@
 -- SEQUENCE { a INTEGER (7..7) }
 use Rattle.std.specs.Prelude.{ℕ, List, [], ◌∷◌, Option, Some, ℤ, pos}
 use Rattle.rasn_types.specs.Values.{Value, whole}
-use Rattle.rasn_schema.specs.Schemas.{Schema, Parts, no_parts, part, required, between}
-use Rattle.rasn_schema.specs.Forms.{within, number_schema, i128_range, simple_unfolds}
+use Rattle.rasn_constraints.specs.Bounds.{between}
+use Rattle.rasn_schema.specs.Schemas.{Schema, Parts, no_parts, part, required}
+use Rattle.rasn_constraints.specs.Ranges.{within, i128_range}
+use Rattle.rasn_schema.specs.Forms.{number_schema, simple_unfolds}
 use Rattle.rasn_schema.specs.Families.{UnfoldsParts, parts_unfold, part_unfolds}
 use Rattle.per_samples_a.specs.Eights.{at}
 

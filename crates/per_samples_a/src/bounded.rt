@@ -3,8 +3,9 @@
 ghost use Rattle.std.specs.Prelude.{[], ◌∷◌, pos, negsuc};
 ghost use Rattle.rasn_types.specs.Values.{whole};
 ghost use Rattle.rasn_types.specs.Variants.{aligned, unaligned};
-ghost use Rattle.rasn_schema.specs.Schemas.{between};
-ghost use Rattle.rasn_schema.specs.Forms.{within, number_schema, i128_range, unsigned_range, always, simple_unfolds};
+ghost use Rattle.rasn_constraints.specs.Bounds.{between};
+ghost use Rattle.rasn_constraints.specs.Ranges.{within, i128_range, unsigned_range};
+ghost use Rattle.rasn_schema.specs.Forms.{number_schema, always, simple_unfolds};
 ghost use Rattle.per_samples_a.specs.Numbers.{extensible_within};
 ghost use Rattle.per_samples_a.specs.Rows.{IsWrittenAs, IsUnwritten};
 

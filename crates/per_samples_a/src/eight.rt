@@ -2,7 +2,7 @@
 
 ghost use Rattle.std.specs.Prelude.{refl, [], ◌∷◌, false};
 ghost use Rattle.rasn_schema.specs.Schemas.{listed};
-ghost use Rattle.rasn_schema.specs.Forms.{no_constraints};
+ghost use Rattle.rasn_constraints.specs.Ranges.{no_constraints};
 ghost use Rattle.rasn_schema.specs.Fields.{shapes_from};
 ghost use Rattle.rasn_schema.specs.Records.{record_at, no_additions, record_value};
 ghost use Rattle.rasn_schema.specs.Families.{record_unfolds, parts_unfold};

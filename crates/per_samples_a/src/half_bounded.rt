@@ -3,7 +3,8 @@
 ghost use Rattle.std.specs.Prelude.{[], ◌∷◌, pos, negsuc};
 ghost use Rattle.rasn_types.specs.Values.{whole};
 ghost use Rattle.rasn_types.specs.Variants.{unaligned};
-ghost use Rattle.rasn_schema.specs.Forms.{within, number_schema, i128_range, always, simple_unfolds};
+ghost use Rattle.rasn_constraints.specs.Ranges.{within, i128_range};
+ghost use Rattle.rasn_schema.specs.Forms.{number_schema, always, simple_unfolds};
 ghost use Rattle.per_samples_a.specs.Numbers.{at_least, at_most};
 ghost use Rattle.per_samples_a.specs.Rows.{IsWrittenAs, IsUnwritten};
 

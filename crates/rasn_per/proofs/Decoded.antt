@@ -57,10 +57,10 @@ module _ (a : Codec) (schema : ℕ → Schema) (octets : List ℕ) where
       none v (with_bits (fresh a octets) k.0) (record { live = refl; took = k.1; same = refl })
 
   pub refused : {T : Type 0} (result : Result T DecodeError) (f : DecodeError) (s : State) → s ≡ fresh a octets → result ≡ Err f
-      → ((f ≡ refusal OutOfMemory s) ⊎ Refuses (Spells (schema s.levels)) Fault f s) → IfErr result (λ e. e.kind ≢ OutOfMemory → AreUnread (variant_of a) schema octets)
+      → ((f ≡ refusal OutOfMemory s) ⊎ Refuses (Spells (schema s.levels)) (Fault (schema s.levels)) f s) → IfErr result (λ e. e.kind ≢ OutOfMemory → AreUnread (variant_of a) schema octets)
   refused result f s e g h = rw g (λ n. go n h)
     where
-      go : f.kind ≢ OutOfMemory → ((f ≡ refusal OutOfMemory s) ⊎ Refuses (Spells (schema s.levels)) Fault f s) → AreUnread (variant_of a) schema octets
+      go : f.kind ≢ OutOfMemory → ((f ≡ refusal OutOfMemory s) ⊎ Refuses (Spells (schema s.levels)) (Fault (schema s.levels)) f s) → AreUnread (variant_of a) schema octets
       go n (inl m) = absurd (n (ap (λ (z : DecodeError). z.kind) m))
       go n (inr r) = unread (λ v t k. (subst (λ z. (v : Value) (t : State) → Spells (schema z.levels) z v t → ⊥) e r.nothing) v t k)
 

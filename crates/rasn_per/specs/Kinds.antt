@@ -28,8 +28,8 @@ pub record LeaveOver (a : Variant) (schema : ℕ → Schema) (octets : List ℕ)
   pub read : Took (basic (basically a) (schema 128) value) (unpack octets) left
   pub are_over : AreOver left (length (unpack octets)) over
 
--- what a kind says of the octets
+-- what a kind says of the octets, as a type's schema reads them within 128 levels
 abbrev pub IsInOctets : Variant → (ℕ → Schema) → List ℕ → DecodeErrorKind → Type 0
 IsInOctets a schema octets (UnexpectedExtraData over) = LeaveOver a schema octets over
 IsInOctets a schema octets OutOfMemory = Unit {0}
-IsInOctets a schema octets k = IsInBits (basically a) k (unpack octets)
+IsInOctets a schema octets k = IsInBits (basically a) k (schema 128) (unpack octets)

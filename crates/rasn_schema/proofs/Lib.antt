@@ -1,3 +1,2 @@
-pub mod Lawful
 pub mod Reading
 pub mod Writing

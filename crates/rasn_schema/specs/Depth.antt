@@ -1,7 +1,8 @@
 -- A type of any depth as a family of trees: its schema cut off at each number of levels, and what such a family owes.
 use Rattle.std.specs.Prelude.{ℕ, zero, suc, ◌≡◌, Bool, true, false, ◌||◌, List, [], ◌∷◌, Option, Some, None}
 use Rattle.rasn_types.specs.Values.{Value, elements, bag, fields, alternative, root, added, values, slots}
-use Rattle.rasn_schema.specs.Schemas.{Size, Presence, Order, TagTree, Schema, Parts, no_parts, part}
+use Rattle.rasn_constraints.specs.Bounds.{Size}
+use Rattle.rasn_schema.specs.Schemas.{Presence, Order, TagTree, Schema, Parts, no_parts, part}
 
 -- whether a test passes for one of a list
 abbrev pub any_of : {A : Type 0} → (A → Bool) → List A → Bool

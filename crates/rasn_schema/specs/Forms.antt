@@ -1,33 +1,13 @@
 -- The schemas that the constraints of a type make of its kind, and families of schemas in which no other stands.
-use Rattle.std.specs.Prelude.{ℕ, ◌≡◌, ◌-◌, ◌^◌, Bool, false, List, refl, Some, None, pos, negsuc}
+use Rattle.std.specs.Prelude.{ℕ, ◌≡◌, Bool, false, List, refl}
 use Rattle.rasn_types.specs.Values.{Value}
 use Rattle.rasn_schema.specs.Schemas
-use Rattle.rasn_schema.specs.Schemas.{Schema, Bounds, Size, between}
+use Rattle.rasn_constraints.specs.Bounds.{Bounds, Size}
+use Rattle.rasn_schema.specs.Schemas.{Schema}
 use Rattle.rasn_schema.specs.Normal.{normal}
 use Rattle.rasn_schema.specs.Depth.{IsLeaf, CutOf, Unfolds, meets_cut}
-use Rattle.rasn_schema.specs.Constraints.{bounds_in, size_in, is_marked, permitted}
-use Rattle.rasn_schema.specs.declared.constraints.Bounded.TheVariants.{Range}
-use Rattle.rasn_schema.specs.declared.constraints.Constraints.{Constraints}
-
--- X.680 49: no constraint
-abbrev pub no_constraints : Constraints
-no_constraints = record { value = None; size = None; alphabet = None }
-
--- X.680 51.4: a value constraint alone, without a mark: to be within bounds
-abbrev pub within : Bounds → Constraints
-within b = record { value = Some (record { constraint = Range b.low b.high; extensible = false }); size = None; alphabet = None }
-
--- the numbers that a signed number type of w bits holds
-abbrev pub signed_range : ℕ → Bounds
-signed_range w = between (negsuc (2 ^ (w - 1) - 1)) (pos (2 ^ (w - 1) - 1))
-
--- the numbers that an unsigned number type of w bits holds
-abbrev pub unsigned_range : ℕ → Bounds
-unsigned_range w = between (pos 0) (pos (2 ^ w - 1))
-
--- the numbers that an i128 holds
-abbrev pub i128_range : Bounds
-i128_range = signed_range 128
+use Rattle.rasn_constraints.specs.Constraints.{bounds_in, size_in, is_marked, permitted}
+use Rattle.rasn_constraints.specs.declared.constraints.Constraints.{Constraints}
 
 -- X.691 13: INTEGER under the first value constraint, with its mark, of a number type with a range. Other constraints change nothing.
 abbrev pub number_schema : Constraints → Bounds → Schema

@@ -1,24 +1,12 @@
 -- What a lawful schema is: what ITU-T X.680 asks of a type, and the limits of this project.
-use Rattle.std.specs.Prelude.{ℕ, zero, suc, ◌+◌, ◌^◌, ◌≡◌, Bool, true, false, not, ◌&&◌, leb, ltb, eqb, List, [], ◌∷◌, ◌++◌, length, Option, Some, None, ℤ}
-use lib.Signed.{le_z}
+use Rattle.std.specs.Prelude.{ℕ, zero, suc, ◌+◌, ◌^◌, ◌≡◌, Bool, true, false, not, ◌&&◌, ltb, eqb, List, [], ◌∷◌, ◌++◌, length, Option, Some, None}
 use Rattle.rasn_types.specs.Contents.{is_text, is_time, is_identifier, is_date}
 use Rattle.rasn_types.specs.Values.{Value, whole, truth, nothing, item, octets, bits, characters, elements, bag, fields, alternative, day, root, added, values, slots, same, bag_of}
-use Rattle.rasn_schema.specs.Bounds.{holds, above}
+use Rattle.rasn_constraints.specs.Bounds.{holds, Bounds}
+use Rattle.rasn_constraints.specs.LawfulConstraints.{are_lawful_bounds, is_lawful_size}
 use Rattle.rasn_schema.specs.Depth.{Unfolds, meets_cut}
 use Rattle.rasn_schema.specs.Normal.{normal}
-use Rattle.rasn_schema.specs.Schemas.{Bounds, Tag, TagTree, leaf, one_of, TagTrees, no_trees, tree, Presence, required, optional, group, default, Order, listed, by_tag, Schema, Parts, no_parts, part}
-
--- X.680 51.4: whether bounds are in order, and hold at most `i128::MAX` numbers where both are there (this project's limit)
-abbrev pub are_lawful_bounds : Option ℤ → Option ℤ → Bool
-are_lawful_bounds None high = true
-are_lawful_bounds (Some l) None = true
-are_lawful_bounds (Some l) (Some u) = le_z l u && ltb (above l u + 1) (2 ^ 127)
-
--- X.680 51.5: whether the bounds of a size are in order
-abbrev pub is_lawful_size : Option ℕ → Option ℕ → Bool
-is_lawful_size None most = true
-is_lawful_size (Some l) None = true
-is_lawful_size (Some l) (Some u) = leb l u
+use Rattle.rasn_schema.specs.Schemas.{Tag, TagTree, leaf, one_of, TagTrees, no_trees, tree, Presence, required, optional, group, default, Order, listed, by_tag, Schema, Parts, no_parts, part}
 
 unfoldable mutual
   -- X.680 29.3: all tags of a tree

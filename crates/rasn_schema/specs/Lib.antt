@@ -1,12 +1,9 @@
-pub mod Bounds
 pub mod Calls
-pub mod Constraints
 pub mod Depth
 pub mod Families
 pub mod Fields
 pub mod Forms
 pub mod Lawful
-pub mod LawfulConstraints
 pub mod Normal
 pub mod Orders
 pub mod Records

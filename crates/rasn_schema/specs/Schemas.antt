@@ -1,25 +1,8 @@
 -- The types of ITU-T X.680 as the packed encoding rules see them (X.691, 10.3): a finite tree of kinds.
-use Rattle.std.specs.Prelude.{ℕ, ◌+◌, Bool, true, false, cond, ltb, List, [], ◌∷◌, Option, Some, None, ℤ}
+use Rattle.std.specs.Prelude.{ℕ, ◌+◌, Bool, true, false, cond, ltb, List, [], ◌∷◌}
 use Rattle.rasn_types.specs.Contents.{TextKind, TimeKind}
 use Rattle.rasn_types.specs.Values.{Value}
-
--- X.680 51.4: the least and the greatest number of a value constraint, each where there is one
-pub record Bounds : Type 0 where
-  pub low : Option ℤ
-  pub high : Option ℤ
-
--- X.680 51.5: the least and the greatest count of a size constraint, each where there is one
-pub record Size : Type 0 where
-  pub least : Option ℕ
-  pub most : Option ℕ
-
--- no value constraint
-abbrev pub unbounded : Bounds
-unbounded = record { low = None; high = None }
-
--- no size constraint
-abbrev pub any_size : Size
-any_size = record { least = None; most = None }
+use Rattle.rasn_constraints.specs.Bounds.{Bounds, Size}
 
 -- X.680 8.1: a class, 0 to 3 for universal, application, context-specific and private, and a number
 pub record Tag : Type 0 where
@@ -113,7 +96,3 @@ tags (part t p s ps) = smallest t ∷ tags ps
 abbrev pub count : Parts → ℕ
 count no_parts = 0
 count (part t p s ps) = 1 + count ps
-
--- the bounds with a least and a greatest number
-abbrev pub between : ℤ → ℤ → Bounds
-between a b = record { low = Some a; high = Some b }

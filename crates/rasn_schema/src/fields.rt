@@ -79,7 +79,7 @@ impl Fields {
 pub trait Constructed: AsnType {
     ghost use Rattle.rasn_types.specs.declared.types.Tag.{Tag};
     ghost use Rattle.rasn_schema.specs.Fields.{Shape, shapes_from};
-    ghost use Rattle.rasn_schema.specs.declared.constraints.Constraints.{Constraints};
+    ghost use Rattle.rasn_constraints.specs.declared.constraints.Constraints.{Constraints};
 
     /// The root components, in the order of the type.
     const FIELDS: Fields;

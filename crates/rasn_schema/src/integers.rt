@@ -1,15 +1,16 @@
-//! INTEGER as Rust's own number types.
+//! INTEGER as Rust's own number types, and as one that holds every number.
 
 ghost use Rattle.std.specs.Prelude.{pos};
 ghost use Rattle.rasn_types.specs.Values.{whole};
-ghost use Rattle.rasn_schema.specs.Forms.{number_schema, no_constraints, within, i128_range, signed_range, unsigned_range, always, simple_unfolds};
+ghost use Rattle.rasn_constraints.specs.Bounds.{unbounded};
+ghost use Rattle.rasn_constraints.specs.Ranges.{no_constraints, within, i128_range, signed_range, unsigned_range};
+ghost use Rattle.rasn_schema.specs.Forms.{number_schema, always, simple_unfolds};
 
 use crate::codec::{Decode, Decoder, Encode, Encoder};
-use crate::constraints::{Bounded, Constraint, Constraints, Extensible};
-use crate::schema::{AsnType, IntegerType};
-use rasn_types::integer::{signed_octets_of, whole_of_octets};
+use crate::schema::AsnType;
+use rasn_constraints::constraints::{Bounded, Constraint, Constraints, Extensible};
+use rasn_types::big::Integer;
 use rasn_types::types::{Identifier, Tag};
-use std::alloc::{AllocError, Allocator, Global};
 
 const I8_RANGE: &[Constraint] = &[Constraint::Value(Extensible {
     constraint: Bounded::Range {
@@ -18,33 +19,6 @@ const I8_RANGE: &[Constraint] = &[Constraint::Value(Extensible {
     },
     extensible: false,
 })];
-
-impl IntegerType for i8 {
-    const WIDTH: u32 = 8;
-
-    ghost WIDTH = { 8 };
-
-    ghost number = { λ z. z };
-
-    ghost range = { signed_range 8 };
-
-    fn to_i128(&self) -> Option<i128> {
-        Some(i128::from(*self))
-    }
-
-    fn try_from_i128(value: i128) -> Option<i8> {
-        i8::try_from(value).ok()
-    }
-
-    fn to_signed_bytes_be<A: Allocator>(&self, alloc: A) -> Result<Vec<u8, A>, AllocError> {
-        signed_octets_of(alloc, i128::from(*self))
-    }
-
-    fn try_from_signed_bytes(alloc: Global, octets: &[u8]) -> Result<Option<i8>, AllocError> {
-        let _ = alloc;
-        Ok(whole_of_octets(octets).and_then(|number| i8::try_from(number).ok()))
-    }
-}
 
 impl AsnType for i8 {
     const TAG: Tag = Tag::INTEGER;
@@ -95,33 +69,6 @@ const I16_RANGE: &[Constraint] = &[Constraint::Value(Extensible {
     extensible: false,
 })];
 
-impl IntegerType for i16 {
-    const WIDTH: u32 = 16;
-
-    ghost WIDTH = { 16 };
-
-    ghost number = { λ z. z };
-
-    ghost range = { signed_range 16 };
-
-    fn to_i128(&self) -> Option<i128> {
-        Some(i128::from(*self))
-    }
-
-    fn try_from_i128(value: i128) -> Option<i16> {
-        i16::try_from(value).ok()
-    }
-
-    fn to_signed_bytes_be<A: Allocator>(&self, alloc: A) -> Result<Vec<u8, A>, AllocError> {
-        signed_octets_of(alloc, i128::from(*self))
-    }
-
-    fn try_from_signed_bytes(alloc: Global, octets: &[u8]) -> Result<Option<i16>, AllocError> {
-        let _ = alloc;
-        Ok(whole_of_octets(octets).and_then(|number| i16::try_from(number).ok()))
-    }
-}
-
 impl AsnType for i16 {
     const TAG: Tag = Tag::INTEGER;
 
@@ -170,33 +117,6 @@ const I32_RANGE: &[Constraint] = &[Constraint::Value(Extensible {
     },
     extensible: false,
 })];
-
-impl IntegerType for i32 {
-    const WIDTH: u32 = 32;
-
-    ghost WIDTH = { 32 };
-
-    ghost number = { λ z. z };
-
-    ghost range = { signed_range 32 };
-
-    fn to_i128(&self) -> Option<i128> {
-        Some(i128::from(*self))
-    }
-
-    fn try_from_i128(value: i128) -> Option<i32> {
-        i32::try_from(value).ok()
-    }
-
-    fn to_signed_bytes_be<A: Allocator>(&self, alloc: A) -> Result<Vec<u8, A>, AllocError> {
-        signed_octets_of(alloc, i128::from(*self))
-    }
-
-    fn try_from_signed_bytes(alloc: Global, octets: &[u8]) -> Result<Option<i32>, AllocError> {
-        let _ = alloc;
-        Ok(whole_of_octets(octets).and_then(|number| i32::try_from(number).ok()))
-    }
-}
 
 impl AsnType for i32 {
     const TAG: Tag = Tag::INTEGER;
@@ -247,33 +167,6 @@ const I64_RANGE: &[Constraint] = &[Constraint::Value(Extensible {
     extensible: false,
 })];
 
-impl IntegerType for i64 {
-    const WIDTH: u32 = 64;
-
-    ghost WIDTH = { 64 };
-
-    ghost number = { λ z. z };
-
-    ghost range = { signed_range 64 };
-
-    fn to_i128(&self) -> Option<i128> {
-        Some(i128::from(*self))
-    }
-
-    fn try_from_i128(value: i128) -> Option<i64> {
-        i64::try_from(value).ok()
-    }
-
-    fn to_signed_bytes_be<A: Allocator>(&self, alloc: A) -> Result<Vec<u8, A>, AllocError> {
-        signed_octets_of(alloc, i128::from(*self))
-    }
-
-    fn try_from_signed_bytes(alloc: Global, octets: &[u8]) -> Result<Option<i64>, AllocError> {
-        let _ = alloc;
-        Ok(whole_of_octets(octets).and_then(|number| i64::try_from(number).ok()))
-    }
-}
-
 impl AsnType for i64 {
     const TAG: Tag = Tag::INTEGER;
 
@@ -312,33 +205,6 @@ impl Decode for i64 {
         constraints: &Constraints,
     ) -> Result<i64, D::Error> {
         decoder.decode_integer::<i64>(tag, constraints)
-    }
-}
-
-impl IntegerType for i128 {
-    const WIDTH: u32 = 128;
-
-    ghost WIDTH = { 128 };
-
-    ghost number = { λ z. z };
-
-    ghost range = { i128_range };
-
-    fn to_i128(&self) -> Option<i128> {
-        Some(*self)
-    }
-
-    fn try_from_i128(value: i128) -> Option<i128> {
-        Some(value)
-    }
-
-    fn to_signed_bytes_be<A: Allocator>(&self, alloc: A) -> Result<Vec<u8, A>, AllocError> {
-        signed_octets_of(alloc, *self)
-    }
-
-    fn try_from_signed_bytes(alloc: Global, octets: &[u8]) -> Result<Option<i128>, AllocError> {
-        let _ = alloc;
-        Ok(whole_of_octets(octets))
     }
 }
 
@@ -391,33 +257,6 @@ const U8_RANGE: &[Constraint] = &[Constraint::Value(Extensible {
     extensible: false,
 })];
 
-impl IntegerType for u8 {
-    const WIDTH: u32 = 8;
-
-    ghost WIDTH = { 8 };
-
-    ghost number = { pos };
-
-    ghost range = { unsigned_range 8 };
-
-    fn to_i128(&self) -> Option<i128> {
-        Some(i128::from(*self))
-    }
-
-    fn try_from_i128(value: i128) -> Option<u8> {
-        u8::try_from(value).ok()
-    }
-
-    fn to_signed_bytes_be<A: Allocator>(&self, alloc: A) -> Result<Vec<u8, A>, AllocError> {
-        signed_octets_of(alloc, i128::from(*self))
-    }
-
-    fn try_from_signed_bytes(alloc: Global, octets: &[u8]) -> Result<Option<u8>, AllocError> {
-        let _ = alloc;
-        Ok(whole_of_octets(octets).and_then(|number| u8::try_from(number).ok()))
-    }
-}
-
 impl AsnType for u8 {
     const TAG: Tag = Tag::INTEGER;
 
@@ -466,33 +305,6 @@ const U16_RANGE: &[Constraint] = &[Constraint::Value(Extensible {
     },
     extensible: false,
 })];
-
-impl IntegerType for u16 {
-    const WIDTH: u32 = 16;
-
-    ghost WIDTH = { 16 };
-
-    ghost number = { pos };
-
-    ghost range = { unsigned_range 16 };
-
-    fn to_i128(&self) -> Option<i128> {
-        Some(i128::from(*self))
-    }
-
-    fn try_from_i128(value: i128) -> Option<u16> {
-        u16::try_from(value).ok()
-    }
-
-    fn to_signed_bytes_be<A: Allocator>(&self, alloc: A) -> Result<Vec<u8, A>, AllocError> {
-        signed_octets_of(alloc, i128::from(*self))
-    }
-
-    fn try_from_signed_bytes(alloc: Global, octets: &[u8]) -> Result<Option<u16>, AllocError> {
-        let _ = alloc;
-        Ok(whole_of_octets(octets).and_then(|number| u16::try_from(number).ok()))
-    }
-}
 
 impl AsnType for u16 {
     const TAG: Tag = Tag::INTEGER;
@@ -543,33 +355,6 @@ const U32_RANGE: &[Constraint] = &[Constraint::Value(Extensible {
     extensible: false,
 })];
 
-impl IntegerType for u32 {
-    const WIDTH: u32 = 32;
-
-    ghost WIDTH = { 32 };
-
-    ghost number = { pos };
-
-    ghost range = { unsigned_range 32 };
-
-    fn to_i128(&self) -> Option<i128> {
-        Some(i128::from(*self))
-    }
-
-    fn try_from_i128(value: i128) -> Option<u32> {
-        u32::try_from(value).ok()
-    }
-
-    fn to_signed_bytes_be<A: Allocator>(&self, alloc: A) -> Result<Vec<u8, A>, AllocError> {
-        signed_octets_of(alloc, i128::from(*self))
-    }
-
-    fn try_from_signed_bytes(alloc: Global, octets: &[u8]) -> Result<Option<u32>, AllocError> {
-        let _ = alloc;
-        Ok(whole_of_octets(octets).and_then(|number| u32::try_from(number).ok()))
-    }
-}
-
 impl AsnType for u32 {
     const TAG: Tag = Tag::INTEGER;
 
@@ -619,33 +404,6 @@ const U64_RANGE: &[Constraint] = &[Constraint::Value(Extensible {
     extensible: false,
 })];
 
-impl IntegerType for u64 {
-    const WIDTH: u32 = 64;
-
-    ghost WIDTH = { 64 };
-
-    ghost number = { pos };
-
-    ghost range = { unsigned_range 64 };
-
-    fn to_i128(&self) -> Option<i128> {
-        Some(i128::from(*self))
-    }
-
-    fn try_from_i128(value: i128) -> Option<u64> {
-        u64::try_from(value).ok()
-    }
-
-    fn to_signed_bytes_be<A: Allocator>(&self, alloc: A) -> Result<Vec<u8, A>, AllocError> {
-        signed_octets_of(alloc, i128::from(*self))
-    }
-
-    fn try_from_signed_bytes(alloc: Global, octets: &[u8]) -> Result<Option<u64>, AllocError> {
-        let _ = alloc;
-        Ok(whole_of_octets(octets).and_then(|number| u64::try_from(number).ok()))
-    }
-}
-
 impl AsnType for u64 {
     const TAG: Tag = Tag::INTEGER;
 
@@ -687,51 +445,43 @@ impl Decode for u64 {
     }
 }
 
-#[cfg(test)]
-mod tests {
-    use super::*;
+impl AsnType for Integer {
+    const TAG: Tag = Tag::INTEGER;
 
-    fn holds<I: IntegerType>(number: i128) -> bool {
-        I::try_from_i128(number).and_then(|value| value.to_i128()) == Some(number)
+    const CONSTRAINTS: Constraints = Constraints::NONE;
+
+    ghost CONSTRAINTS = { no_constraints };
+
+    const IDENTIFIER: Identifier = Identifier::EMPTY;
+
+    ghost schema = { λ c. always (number_schema c unbounded) };
+
+    ghost value = { whole };
+
+    ghost levels = { λ _. 0 };
+
+    ghost unfolds = { λ c. simple_unfolds (number_schema c unbounded) tt };
+}
+
+impl Encode for Integer {
+    #[tactic(auto, unfolding(crate::specs::Normal::normal))]
+    fn encode_with_tag_and_constraints<E: Encoder>(
+        &self,
+        encoder: &mut E,
+        tag: Tag,
+        constraints: &Constraints,
+        identifier: Identifier,
+    ) -> Result<(), E::Error> {
+        encoder.encode_integer::<Integer>(tag, constraints, self, identifier)
     }
+}
 
-    #[test]
-    fn ends_of_the_types(rt: HostRuntime) {
-        assert!(rt;
-            holds::<i8>(-128) && holds::<i8>(127) && !holds::<i8>(-129) && !holds::<i8>(128)
-        );
-        assert!(rt; holds::<i16>(-32768) && !holds::<i16>(32768));
-        assert!(rt; holds::<i32>(2147483647) && !holds::<i32>(-2147483649));
-        assert!(rt; holds::<i64>(-9223372036854775808) && !holds::<i64>(9223372036854775808));
-        assert!(rt; holds::<i128>(i128::MIN) && holds::<i128>(i128::MAX));
-        assert!(rt; holds::<u8>(0) && holds::<u8>(255) && !holds::<u8>(-1) && !holds::<u8>(256));
-        assert!(rt; holds::<u16>(65535) && !holds::<u16>(65536));
-        assert!(rt; holds::<u32>(4294967295) && !holds::<u32>(4294967296));
-        assert!(rt; holds::<u64>(18446744073709551615) && !holds::<u64>(18446744073709551616));
-    }
-
-    fn from_octets<I: IntegerType>(
-        rt: &HostRuntime,
-        octets: &[u8],
-    ) -> Result<Option<I>, AllocError> {
-        I::try_from_signed_bytes(rt.alloc(), octets)
-    }
-
-    // X.690 8.3: two's complement, highest first
-    #[test]
-    fn octets_of_the_types(rt: HostRuntime) -> Result<(), AllocError> {
-        assert_eq!(rt; from_octets::<u8>(&rt, &[0x00, 0xff])?, Some(255));
-        assert_eq!(rt; from_octets::<u8>(&rt, &[0xff])?, None);
-        assert_eq!(rt; from_octets::<i8>(&rt, &[0xff])?, Some(-1));
-        assert_eq!(rt; from_octets::<i8>(&rt, &[0x00, 0x80])?, None);
-        assert_eq!(rt;
-            255u8.to_signed_bytes_be(rt.alloc())?.as_slice(),
-            &[0x00, 0xff][..]
-        );
-        assert_eq!(rt;
-            (-129i64).to_signed_bytes_be(rt.alloc())?.as_slice(),
-            &[0xff, 0x7f][..]
-        );
-        Ok(())
+impl Decode for Integer {
+    fn decode_with_tag_and_constraints<D: Decoder>(
+        decoder: &mut D,
+        tag: Tag,
+        constraints: &Constraints,
+    ) -> Result<Integer, D::Error> {
+        decoder.decode_integer::<Integer>(tag, constraints)
     }
 }

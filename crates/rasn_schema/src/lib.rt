@@ -2,12 +2,12 @@
 #![tactic(auto)]
 
 pub mod codec;
-pub mod constraints;
 pub mod fields;
 pub mod integers;
-pub mod limits;
 pub mod octets;
 pub mod plain;
 pub mod record;
 pub mod schema;
 pub mod strings;
+
+pub use rasn_constraints::{constraints, limits};

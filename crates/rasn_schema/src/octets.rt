@@ -2,7 +2,8 @@
 
 ghost use Rattle.rasn_types.specs.Values.{bits, octets};
 ghost use Rattle.rasn_schema.specs.Schemas.{Schema};
-ghost use Rattle.rasn_schema.specs.Forms.{no_constraints, octet_schema, bit_schema, always, simple_unfolds};
+ghost use Rattle.rasn_constraints.specs.Ranges.{no_constraints};
+ghost use Rattle.rasn_schema.specs.Forms.{octet_schema, bit_schema, always, simple_unfolds};
 
 use crate::codec::{Decode, Decoder, Encode, Encoder};
 use crate::schema::{AsnType, Constraints};
@@ -37,7 +38,7 @@ impl Encode for OctetString {
         constraints: &Constraints,
         identifier: Identifier,
     ) -> Result<(), E::Error> {
-        encoder.encode_octet_string(tag, constraints, self.as_octets(), identifier)
+        encoder.encode_octet_string(tag, constraints, self.as_bytes(), identifier)
     }
 }
 

@@ -2,7 +2,8 @@
 
 ghost use Rattle.rasn_types.specs.Values.{truth, nothing};
 ghost use Rattle.rasn_schema.specs.Schemas.{Schema};
-ghost use Rattle.rasn_schema.specs.Forms.{no_constraints, always, simple_unfolds};
+ghost use Rattle.rasn_constraints.specs.Ranges.{no_constraints};
+ghost use Rattle.rasn_schema.specs.Forms.{always, simple_unfolds};
 
 use crate::codec::{Decode, Decoder, Encode, Encoder};
 use crate::schema::{AsnType, Constraints};

@@ -5,7 +5,8 @@ ghost use Rattle.rasn_types.specs.Alphabets.{visible, ia5, printable, numeric, b
 ghost use Rattle.rasn_types.specs.Contents.{utf8, other};
 ghost use Rattle.rasn_types.specs.Values.{characters, octets};
 ghost use Rattle.rasn_schema.specs.Schemas.{Schema};
-ghost use Rattle.rasn_schema.specs.Forms.{no_constraints, character_schema, always, simple_unfolds};
+ghost use Rattle.rasn_constraints.specs.Ranges.{no_constraints};
+ghost use Rattle.rasn_schema.specs.Forms.{character_schema, always, simple_unfolds};
 
 use crate::codec::{Decode, Decoder, Encode, Encoder};
 use crate::schema::{AsnType, Constraints};

@@ -1,12 +1,11 @@
 -- Ascending numbers: walks over them, and the places that they stand at.
-use Rattle.std.proofs.Common.{◌≡◌, refl, sym, ap, ap₂, ◌∙◌, subst, ℕ, zero, suc, ◌+◌, ◌-◌, ◌^◌, ◌<◌, ◌≤◌, ◌⊎◌, min, max, Bool, true, false, cond, ◌&&◌, ◌||◌, leb, ltb, eqb, List, [], ◌∷◌, ◌++◌, length, get_or, take, drop, filter, Option, Some, None, slice_get, IfSome, MatchOption, arith, inl, inr, length-append}
-use Rattle.std.proofs.lemmas.Bool.{cases_lt, cases_Bool, ltb-true, ltb-false, lt-ltb, le-ltb, eqb-true, eqb-false, eq-eqb, ne_eqb, and_parts, and_from, and_right, or_cases, or_left, or_right, or_parts, cond-true, cond-false, both_ways, leb-true, le-leb}
-use Rattle.std.proofs.lemmas.List.{take_more}
-use Rattle.rasn_types.specs.Alphabets.{has, restricted, row, from_to, index_of, more, greatest}
+use Rattle.std.proofs.Common.{◌≡◌, refl, sym, ap, ◌∙◌, subst, ℕ, zero, suc, ◌+◌, ◌-◌, ◌^◌, ◌<◌, ◌≤◌, ◌⊎◌, Bool, true, false, cond, ◌&&◌, ◌||◌, ltb, eqb, List, [], ◌∷◌, ◌++◌, length, filter, arith, inl, inr}
+use Rattle.std.proofs.lemmas.Bool.{cases_Bool, ltb-true, ltb-false, lt-ltb, le-ltb, eqb-true, eq-eqb, and_from, and_right, or_cases, or_left, or_right, cond-true, cond-false}
+use Rattle.rasn_types.specs.Alphabets.{has, restricted, row, from_to}
 use Rattle.rasn_types.specs.Intervals.{expand, ascend_from, characters_of}
 use Rattle.rasn_types.specs.Walks.{from_on}
 use Rattle.rasn_types.specs.declared.intervals.Interval.{Interval}
-use Rattle.rasn_types.proofs.Rows.{step_first, has-append, has-characters_of, within_interval, length-expand, later, later-later, more-later}
+use Rattle.rasn_types.proofs.Rows.{step_first, has-append, has-characters_of, within_interval, length-expand}
 
 -- numbers that ascend from n on
 abbrev pub Up : ℕ → List ℕ → Type 0

@@ -1,12 +1,12 @@
 -- The numbers that permitted characters are written as.
-use Rattle.std.proofs.Common.{◌≡◌, refl, sym, ap, ap₂, ◌∙◌, subst, ℕ, zero, suc, ◌+◌, ◌*◌, ◌%◌, ◌^◌, ◌<◌, ◌≤◌, ◌⊎◌, max, Bool, true, false, cond, ◌&&◌, ◌||◌, leb, ltb, eqb, nat_eq, List, [], ◌∷◌, length, Option, Some, None, slice_get, IsSome, IfSome, ◌↔◌, arith, pow_mono, le_trans, mod-eq_of_lt, inl, inr}
+use Rattle.std.proofs.Common.{◌≡◌, refl, sym, ap, ◌∙◌, subst, ℕ, zero, suc, ◌+◌, ◌*◌, ◌%◌, ◌^◌, ◌<◌, ◌≤◌, ◌⊎◌, max, Bool, true, false, cond, ◌&&◌, ◌||◌, leb, ltb, eqb, nat_eq, List, [], ◌∷◌, length, Option, Some, None, slice_get, IsSome, IfSome, ◌↔◌, arith, pow_mono, le_trans, mod-eq_of_lt, inl, inr}
 use Rattle.std.specs.List.{list_any}
-use Rattle.std.proofs.lemmas.Bool.{cases_Bool, cases_lt, leb-true, ltb-true, le-ltb, lt-leb, eqb-true, eqb-false, eq-eqb, ne_eqb, cond-true, cond-false, or_cases, or_left, or_right, or_from, and_from, and_parts, both_ways}
-use Rattle.rasn_types.specs.Alphabets.{Alphabet, char_width, char_code, keep_own, has, index_of, more, greatest, restricted, restricted_to}
+use Rattle.std.proofs.lemmas.Bool.{cases_Bool, leb-true, ltb-true, lt-leb, eqb-true, eqb-false, eq-eqb, ne_eqb, cond-true, cond-false, or_left, or_right, or_from, and_parts, both_ways}
+use Rattle.rasn_types.specs.Alphabets.{Alphabet, char_width, char_code, keep_own, has, index_of, more, greatest, restricted_to}
 use Rattle.rasn_types.specs.Bits.{width}
-use Rattle.rasn_types.specs.Intervals.{expand, ascend_from}
+use Rattle.rasn_types.specs.Intervals.{expand}
 use Rattle.rasn_types.specs.Prepared.{IsPrepared, alphabet_of}
-use Rattle.rasn_types.specs.Variants.{Variant, aligned, unaligned, variant_when}
+use Rattle.rasn_types.specs.Variants.{Variant, aligned, unaligned}
 use Rattle.rasn_types.specs.declared.intervals.Interval.{Interval}
 use Rattle.rasn_types.proofs.Ascending.{Up, up-expand, up-restricted, has-restricted}
 use Rattle.rasn_types.proofs.Bits.{width_holds, width_least}

@@ -1,7 +1,6 @@
 -- The least permitted number, found by one pass over the permitted ones in any order.
-use Rattle.std.proofs.Common.{◌≡◌, refl, sym, ap, ◌∙◌, subst, ℕ, zero, suc, ◌+◌, ◌^◌, ◌<◌, ◌≤◌, ◌⊎◌, min, Bool, true, false, cond, ◌&&◌, ◌||◌, eqb, List, [], ◌∷◌, ◌++◌, length, get_or, take, Option, Some, None, slice_get, IfSome, MatchOption, arith, inl, inr}
+use Rattle.std.proofs.Common.{◌≡◌, refl, sym, ap, ◌∙◌, subst, ℕ, ◌^◌, ◌<◌, ◌≤◌, ◌⊎◌, min, true, false, eqb, List, [], ◌∷◌, ◌++◌, Option, Some, None, slice_get, IfSome, MatchOption, arith, inl, inr}
 use Rattle.std.proofs.lemmas.Bool.{cases_lt, eqb-true, eq-eqb, and_parts, and_from, or_cases, or_left, or_right}
-use Rattle.std.proofs.lemmas.List.{take_more}
 use Rattle.rasn_types.specs.Alphabets.{has, restricted}
 use Rattle.rasn_types.specs.Intervals.{expand, ascend_from}
 use Rattle.rasn_types.specs.Walks.{from_on}

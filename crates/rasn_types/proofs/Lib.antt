@@ -9,4 +9,5 @@ pub mod Own
 pub mod Packing
 pub mod Reading
 pub mod Rows
+pub mod Texts
 pub mod Walking

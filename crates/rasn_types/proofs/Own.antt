@@ -1,9 +1,8 @@
 -- Strings of a type's own characters.
-use Rattle.std.proofs.Common.{◌≡◌, refl, sym, ap, ◌∙◌, ℕ, zero, suc, ◌+◌, ◌<◌, ◌≤◌, max, Bool, true, false, ◌&&◌, ◌||◌, eqb, List, [], ◌∷◌, ◌++◌, length, get_or, Option, Some, None, slice_get, IfSome, Fits, w16, arith, inl, inr}
-use Rattle.std.proofs.lemmas.Bool.{eqb-true, and_parts, and_from, or_cases, le-leb, lt-ltb, leb-true, ltb-true}
-use Rattle.std.proofs.lemmas.Option.{slice_get-map}
+use Rattle.std.proofs.Common.{◌≡◌, refl, sym, ◌∙◌, ℕ, zero, suc, ◌+◌, ◌<◌, ◌≤◌, true, eqb, List, [], ◌∷◌, ◌++◌, get_or, slice_get, IfSome, Fits, w16, arith, inl, inr}
+use Rattle.std.proofs.lemmas.Bool.{eqb-true, and_parts, and_from, or_cases, le-leb, lt-ltb, ltb-true}
 use Rattle.rasn_types.specs.Alphabets.{has, has_all, row, greatest, visible, ia5, printable, numeric, bmp}
-use Rattle.rasn_types.specs.Intervals.{expand, characters_of}
+use Rattle.rasn_types.specs.Intervals.{expand}
 use Rattle.rasn_types.proofs.Rows.{has-row}
 
 -- the intervals of each type have its characters

@@ -1,12 +1,12 @@
 -- One step of a walk over the permitted characters in ascending order.
-use Rattle.std.proofs.Common.{◌≡◌, refl, sym, ap, ◌∙◌, subst, ℕ, zero, suc, ◌+◌, ◌-◌, ◌<◌, ◌≤◌, max, Bool, true, cond, eqb, List, [], ◌∷◌, length, drop, Option, Some, None, slice_get, arith}
+use Rattle.std.proofs.Common.{◌≡◌, refl, sym, ap, ◌∙◌, subst, ℕ, zero, suc, ◌+◌, ◌≤◌, true, eqb, List, [], ◌∷◌, drop, Option, Some, None, slice_get, arith}
 use Rattle.std.proofs.lemmas.Bool.{eq-eqb, ne_eqb, cond-true, cond-false}
-use Rattle.rasn_types.specs.Alphabets.{restricted, index_of, more, greatest}
+use Rattle.rasn_types.specs.Alphabets.{restricted, index_of, more}
 use Rattle.rasn_types.specs.Intervals.{expand, ascend_from}
 use Rattle.rasn_types.specs.Walks.{from_on}
 use Rattle.rasn_types.specs.declared.intervals.Interval.{Interval}
-use Rattle.rasn_types.proofs.Ascending.{Up, up-restricted, from_on-all, from_on-next, from_on-first}
-use Rattle.rasn_types.proofs.Rows.{later, later-later, later-zero}
+use Rattle.rasn_types.proofs.Ascending.{up-restricted, from_on-all, from_on-next, from_on-first}
+use Rattle.rasn_types.proofs.Rows.{later}
 
 -- at the start all are left
 pub begins : (is : List Interval) (some : List ℕ) → ascend_from 0 is ≡ true → from_on 0 (restricted (expand is) some) ≡ restricted (expand is) some

@@ -1,67 +1,16 @@
-//! stub
+//! Types whose values are octets (X.680 23, 41), and open types (X.680 14).
 
-ghost use Rattle.std.specs.Prelude.{◌≡◌};
+ghost use Rattle.std.specs.Prelude.{◌≡◌, ◌↔◌, [], IsTrue, length, nat_eq};
+ghost use Rattle.std.specs.Cmp.{partial_equiv_from_equiv};
+ghost use Rattle.std.specs.Cmp.Lexicographic.{nat_list_eq_equiv, pointwise};
 
 use std::marker::Model;
 
-/// stub
-#[derive(Drop)]
-pub struct Any {
-    octets: Vec<u8>,
-}
+/// The characters of a UTF8String (X.680 41), in UTF-8.
+pub type Utf8String = String;
 
-impl Model for Any {
-    ghost use Rattle.std.specs.Prelude.{List, ℕ};
-
-    ghost Value = { List ℕ };
-
-    ghost view = { λ a. a.octets.items };
-}
-
-/// stub
-#[derive(Drop)]
-pub struct GeneralString {
-    octets: Vec<u8>,
-}
-
-impl Model for GeneralString {
-    ghost use Rattle.std.specs.Prelude.{List, ℕ};
-
-    ghost Value = { List ℕ };
-
-    ghost view = { λ a. a.octets.items };
-}
-
-/// stub
-#[derive(Drop)]
-pub struct GraphicString {
-    octets: Vec<u8>,
-}
-
-impl Model for GraphicString {
-    ghost use Rattle.std.specs.Prelude.{List, ℕ};
-
-    ghost Value = { List ℕ };
-
-    ghost view = { λ a. a.octets.items };
-}
-
-/// stub
-#[derive(Drop)]
-pub struct TeletexString {
-    octets: Vec<u8>,
-}
-
-impl Model for TeletexString {
-    ghost use Rattle.std.specs.Prelude.{List, ℕ};
-
-    ghost Value = { List ℕ };
-
-    ghost view = { λ a. a.octets.items };
-}
-
-/// stub
-#[derive(Drop)]
+/// The octets of an OCTET STRING (X.680 23).
+#[derive(Drop, Debug)]
 pub struct OctetString {
     octets: Vec<u8>,
 }
@@ -74,90 +23,389 @@ impl Model for OctetString {
     ghost view = { λ a. a.octets.items };
 }
 
-/// stub
-pub type Utf8String = String;
-
-impl From<Vec<u8>> for Any {
-    ghost from_gives = { λ v x. x ≡ v.items };
-
-    fn from(octets: Vec<u8>) -> Any {
-        Any { octets }
+impl OctetString {
+    /// These octets.
+    pub fn new(octets: Vec<u8>) -> OctetString
+        ensures { result ≡ octets.items }
+    {
+        OctetString { octets }
     }
-}
 
-impl Any {
-    /// stub
-    pub fn as_octets(&self) -> &[u8]
+    /// The octets.
+    pub fn as_bytes(&self) -> &[u8]
         ensures { result.now ≡ self.now }
     {
         self.octets.as_slice()
     }
-}
 
-impl From<Vec<u8>> for GeneralString {
-    ghost from_gives = { λ v x. x ≡ v.items };
-
-    fn from(octets: Vec<u8>) -> GeneralString {
-        GeneralString { octets }
-    }
-}
-
-impl GeneralString {
-    /// stub
-    pub fn as_octets(&self) -> &[u8]
-        ensures { result.now ≡ self.now }
+    /// The octets, as their own list.
+    pub fn into_vec(self) -> Vec<u8>
+        ensures { result.items ≡ self }
     {
-        self.octets.as_slice()
+        self.octets
     }
-}
 
-impl From<Vec<u8>> for GraphicString {
-    ghost from_gives = { λ v x. x ≡ v.items };
-
-    fn from(octets: Vec<u8>) -> GraphicString {
-        GraphicString { octets }
-    }
-}
-
-impl GraphicString {
-    /// stub
-    pub fn as_octets(&self) -> &[u8]
-        ensures { result.now ≡ self.now }
+    /// How many octets there are.
+    pub fn len(&self) -> usize
+        ensures { result ≡ length self.now }
     {
-        self.octets.as_slice()
+        self.octets.len()
     }
-}
 
-impl From<Vec<u8>> for TeletexString {
-    ghost from_gives = { λ v x. x ≡ v.items };
-
-    fn from(octets: Vec<u8>) -> TeletexString {
-        TeletexString { octets }
-    }
-}
-
-impl TeletexString {
-    /// stub
-    pub fn as_octets(&self) -> &[u8]
-        ensures { result.now ≡ self.now }
+    /// Whether there is no octet.
+    pub fn is_empty(&self) -> bool
+        ensures { IsTrue result ↔ (self.now ≡ []) }
     {
-        self.octets.as_slice()
+        self.octets.is_empty()
     }
 }
 
 impl From<Vec<u8>> for OctetString {
-    ghost from_gives = { λ v x. x ≡ v.items };
+    ghost from_gives = { λ octets held. held ≡ octets.items };
 
     fn from(octets: Vec<u8>) -> OctetString {
-        OctetString { octets }
+        OctetString::new(octets)
     }
 }
 
-impl OctetString {
-    /// stub
-    pub fn as_octets(&self) -> &[u8]
+/// Equality of the octets.
+impl PartialEq for OctetString {
+    ghost eq = { pointwise nat_eq };
+
+    ghost laws = { partial_equiv_from_equiv nat_list_eq_equiv };
+
+    fn eq(&self, other: &OctetString) -> bool {
+        self.octets == other.octets
+    }
+}
+
+impl Eq for OctetString {
+    ghost laws = { nat_list_eq_equiv };
+}
+
+/// The octets of a GeneralString (X.680 41), any of them.
+#[derive(Drop, Debug)]
+pub struct GeneralString {
+    octets: Vec<u8>,
+}
+
+impl Model for GeneralString {
+    ghost use Rattle.std.specs.Prelude.{List, ℕ};
+
+    ghost Value = { List ℕ };
+
+    ghost view = { λ a. a.octets.items };
+}
+
+impl GeneralString {
+    /// These octets.
+    pub fn new(octets: Vec<u8>) -> GeneralString
+        ensures { result ≡ octets.items }
+    {
+        GeneralString { octets }
+    }
+
+    /// The octets.
+    pub fn as_bytes(&self) -> &[u8]
         ensures { result.now ≡ self.now }
     {
         self.octets.as_slice()
+    }
+
+    /// The octets, as their own list.
+    pub fn into_vec(self) -> Vec<u8>
+        ensures { result.items ≡ self }
+    {
+        self.octets
+    }
+
+    /// How many octets there are.
+    pub fn len(&self) -> usize
+        ensures { result ≡ length self.now }
+    {
+        self.octets.len()
+    }
+
+    /// Whether there is no octet.
+    pub fn is_empty(&self) -> bool
+        ensures { IsTrue result ↔ (self.now ≡ []) }
+    {
+        self.octets.is_empty()
+    }
+}
+
+impl From<Vec<u8>> for GeneralString {
+    ghost from_gives = { λ octets held. held ≡ octets.items };
+
+    fn from(octets: Vec<u8>) -> GeneralString {
+        GeneralString::new(octets)
+    }
+}
+
+/// Equality of the octets.
+impl PartialEq for GeneralString {
+    ghost eq = { pointwise nat_eq };
+
+    ghost laws = { partial_equiv_from_equiv nat_list_eq_equiv };
+
+    fn eq(&self, other: &GeneralString) -> bool {
+        self.octets == other.octets
+    }
+}
+
+impl Eq for GeneralString {
+    ghost laws = { nat_list_eq_equiv };
+}
+
+/// The octets of a GraphicString (X.680 41), any of them.
+#[derive(Drop, Debug)]
+pub struct GraphicString {
+    octets: Vec<u8>,
+}
+
+impl Model for GraphicString {
+    ghost use Rattle.std.specs.Prelude.{List, ℕ};
+
+    ghost Value = { List ℕ };
+
+    ghost view = { λ a. a.octets.items };
+}
+
+impl GraphicString {
+    /// These octets.
+    pub fn new(octets: Vec<u8>) -> GraphicString
+        ensures { result ≡ octets.items }
+    {
+        GraphicString { octets }
+    }
+
+    /// The octets.
+    pub fn as_bytes(&self) -> &[u8]
+        ensures { result.now ≡ self.now }
+    {
+        self.octets.as_slice()
+    }
+
+    /// The octets, as their own list.
+    pub fn into_vec(self) -> Vec<u8>
+        ensures { result.items ≡ self }
+    {
+        self.octets
+    }
+
+    /// How many octets there are.
+    pub fn len(&self) -> usize
+        ensures { result ≡ length self.now }
+    {
+        self.octets.len()
+    }
+
+    /// Whether there is no octet.
+    pub fn is_empty(&self) -> bool
+        ensures { IsTrue result ↔ (self.now ≡ []) }
+    {
+        self.octets.is_empty()
+    }
+}
+
+impl From<Vec<u8>> for GraphicString {
+    ghost from_gives = { λ octets held. held ≡ octets.items };
+
+    fn from(octets: Vec<u8>) -> GraphicString {
+        GraphicString::new(octets)
+    }
+}
+
+/// Equality of the octets.
+impl PartialEq for GraphicString {
+    ghost eq = { pointwise nat_eq };
+
+    ghost laws = { partial_equiv_from_equiv nat_list_eq_equiv };
+
+    fn eq(&self, other: &GraphicString) -> bool {
+        self.octets == other.octets
+    }
+}
+
+impl Eq for GraphicString {
+    ghost laws = { nat_list_eq_equiv };
+}
+
+/// The octets of a TeletexString (X.680 41), any of them.
+#[derive(Drop, Debug)]
+pub struct TeletexString {
+    octets: Vec<u8>,
+}
+
+impl Model for TeletexString {
+    ghost use Rattle.std.specs.Prelude.{List, ℕ};
+
+    ghost Value = { List ℕ };
+
+    ghost view = { λ a. a.octets.items };
+}
+
+impl TeletexString {
+    /// These octets.
+    pub fn new(octets: Vec<u8>) -> TeletexString
+        ensures { result ≡ octets.items }
+    {
+        TeletexString { octets }
+    }
+
+    /// The octets.
+    pub fn as_bytes(&self) -> &[u8]
+        ensures { result.now ≡ self.now }
+    {
+        self.octets.as_slice()
+    }
+
+    /// The octets, as their own list.
+    pub fn into_vec(self) -> Vec<u8>
+        ensures { result.items ≡ self }
+    {
+        self.octets
+    }
+
+    /// How many octets there are.
+    pub fn len(&self) -> usize
+        ensures { result ≡ length self.now }
+    {
+        self.octets.len()
+    }
+
+    /// Whether there is no octet.
+    pub fn is_empty(&self) -> bool
+        ensures { IsTrue result ↔ (self.now ≡ []) }
+    {
+        self.octets.is_empty()
+    }
+}
+
+impl From<Vec<u8>> for TeletexString {
+    ghost from_gives = { λ octets held. held ≡ octets.items };
+
+    fn from(octets: Vec<u8>) -> TeletexString {
+        TeletexString::new(octets)
+    }
+}
+
+/// Equality of the octets.
+impl PartialEq for TeletexString {
+    ghost eq = { pointwise nat_eq };
+
+    ghost laws = { partial_equiv_from_equiv nat_list_eq_equiv };
+
+    fn eq(&self, other: &TeletexString) -> bool {
+        self.octets == other.octets
+    }
+}
+
+impl Eq for TeletexString {
+    ghost laws = { nat_list_eq_equiv };
+}
+
+/// The encoding of a value of an open type (X.680 14), any octets.
+#[derive(Drop, Debug)]
+pub struct Any {
+    octets: Vec<u8>,
+}
+
+impl Model for Any {
+    ghost use Rattle.std.specs.Prelude.{List, ℕ};
+
+    ghost Value = { List ℕ };
+
+    ghost view = { λ a. a.octets.items };
+}
+
+impl Any {
+    /// These octets.
+    pub fn new(octets: Vec<u8>) -> Any
+        ensures { result ≡ octets.items }
+    {
+        Any { octets }
+    }
+
+    /// The octets.
+    pub fn as_bytes(&self) -> &[u8]
+        ensures { result.now ≡ self.now }
+    {
+        self.octets.as_slice()
+    }
+
+    /// The octets, as their own list.
+    pub fn into_vec(self) -> Vec<u8>
+        ensures { result.items ≡ self }
+    {
+        self.octets
+    }
+
+    /// How many octets there are.
+    pub fn len(&self) -> usize
+        ensures { result ≡ length self.now }
+    {
+        self.octets.len()
+    }
+
+    /// Whether there is no octet.
+    pub fn is_empty(&self) -> bool
+        ensures { IsTrue result ↔ (self.now ≡ []) }
+    {
+        self.octets.is_empty()
+    }
+}
+
+impl From<Vec<u8>> for Any {
+    ghost from_gives = { λ octets held. held ≡ octets.items };
+
+    fn from(octets: Vec<u8>) -> Any {
+        Any::new(octets)
+    }
+}
+
+/// Equality of the octets.
+impl PartialEq for Any {
+    ghost eq = { pointwise nat_eq };
+
+    ghost laws = { partial_equiv_from_equiv nat_list_eq_equiv };
+
+    fn eq(&self, other: &Any) -> bool {
+        self.octets == other.octets
+    }
+}
+
+impl Eq for Any {
+    ghost laws = { nat_list_eq_equiv };
+}
+
+#[cfg(test)]
+mod tests {
+    use super::*;
+    use std::alloc::AllocError;
+
+    #[test]
+    fn holds_octets(rt: HostRuntime) -> Result<(), AllocError> {
+        let octets = OctetString::new(vec![in rt.alloc(); 0x00, 0xff]?);
+        assert_eq!(rt; octets.as_bytes(), &[0x00, 0xff][..]);
+        assert_eq!(rt; octets.len(), 2);
+        assert!(rt; !octets.is_empty());
+        assert!(rt; octets != OctetString::from(vec![in rt.alloc(); 0x00]?));
+        let printed = format!(in rt.alloc(); "{octets:?}")?;
+        assert_eq!(rt; printed.as_str(), "OctetString { octets: [0, 255] }");
+        let list = octets.into_vec();
+        assert_eq!(rt; list.as_slice(), &[0x00, 0xff][..]);
+        Ok(())
+    }
+
+    #[test]
+    fn holds_any_octets(rt: HostRuntime) -> Result<(), AllocError> {
+        let octets = vec![in rt.alloc(); 0x80]?;
+        let octets = GeneralString::from(octets).into_vec();
+        let octets = GraphicString::from(octets).into_vec();
+        let octets = TeletexString::from(octets).into_vec();
+        let octets = Any::from(octets);
+        assert_eq!(rt; octets.as_bytes(), &[0x80][..]);
+        Ok(())
     }
 }

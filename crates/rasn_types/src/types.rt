@@ -4,6 +4,9 @@ ghost use Rattle.std.specs.Prelude.{◌≡◌};
 
 pub use crate::big::Integer;
 pub use crate::bit_string::BitString;
+pub use crate::octet_strings::{
+    Any, GeneralString, GraphicString, OctetString, TeletexString, Utf8String,
+};
 
 /// A variant of the packed encoding rules (X.691 7).
 #[derive(Clone, Copy, Debug, PartialEq, Eq)]

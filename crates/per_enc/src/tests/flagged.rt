@@ -2,10 +2,12 @@
 
 ghost use Rattle.std.specs.Prelude.{refl, [], ◌∷◌, false, pos, Some};
 ghost use Rattle.rasn_types.specs.Values.{truth, whole};
-ghost use Rattle.rasn_schema.specs.Schemas.{Schema, between, leaf, listed, no_parts, part, required};
+ghost use Rattle.rasn_constraints.specs.Bounds.{between};
+ghost use Rattle.rasn_schema.specs.Schemas.{Schema, leaf, listed, no_parts, part, required};
 ghost use Rattle.rasn_schema.specs.Families.{part_unfolds, parts_unfold, record_unfolds};
 ghost use Rattle.rasn_schema.specs.Fields.{shapes_from};
-ghost use Rattle.rasn_schema.specs.Forms.{i128_range, no_constraints, number_schema, simple_unfolds, within};
+ghost use Rattle.rasn_constraints.specs.Ranges.{i128_range, no_constraints, within};
+ghost use Rattle.rasn_schema.specs.Forms.{number_schema, simple_unfolds};
 ghost use Rattle.rasn_schema.specs.Records.{record_at, no_additions, record_value};
 
 use rasn_schema::codec::{Encode, Encoder};

@@ -2,7 +2,8 @@
 //! named where several would do.
 
 ghost use Rattle.rasn_types.specs.Values.{whole};
-ghost use Rattle.rasn_schema.specs.Forms.{always, i128_range, no_constraints, number_schema, simple_unfolds};
+ghost use Rattle.rasn_constraints.specs.Ranges.{i128_range, no_constraints};
+ghost use Rattle.rasn_schema.specs.Forms.{always, number_schema, simple_unfolds};
 
 use super::*;
 use linked_list_allocator::LocalHeap;

@@ -1,6 +1,6 @@
 use Rattle.std.proofs.Common.{◌∙◌, ap, ◌∷◌}
 use Rattle.std.proofs.lemmas.Result.{IfOk-weaker, IfErr-weaker}
-use Rattle.rasn_schema.specs.Constraints.{bounds_of}
+use Rattle.rasn_constraints.specs.Constraints.{bounds_of}
 use Rattle.per_de.specs.State.{settings}
 use Rattle.per_de.proofs.Marks.{faulty_behind, in_root, past_root, root_back, past_back}
 use Rattle.per_de.proofs.number.take_constrained.Goals as goal

@@ -2,7 +2,7 @@ use Rattle.std.proofs.Common.{◌≡◌, ◌<◌, inr, arith, sym, ap, ◌∙◌
 use Rattle.std.proofs.lemmas.Result.{err_from_is_err_and}
 use Rattle.std.proofs.lemmas.Bool.Decides.{nat_tests}
 use Rattle.rasn_types.specs.Octets.{signed}
-use Rattle.rasn_schema.specs.Bounds.{holds}
+use Rattle.rasn_constraints.specs.Bounds.{holds}
 use Rattle.per_de.proofs.Rows.{no_more}
 use Rattle.per_de.proofs.Calls.{no_length_no_number, no_octets_no_number, out_of_range_no_number, no_octets, octets_number, stopped_faulty}
 use Rattle.per_de.proofs.number.take_unbounded.Goals as goal

@@ -1,5 +1,5 @@
 use Rattle.std.proofs.lemmas.Result.{err_from_is_err_and, IfOk-weaker, IfErr-weaker}
-use Rattle.rasn_schema.specs.Constraints.{bounds_of}
+use Rattle.rasn_constraints.specs.Constraints.{bounds_of}
 use Rattle.per_de.specs.State.{settings}
 use Rattle.per_de.proofs.Calls.{faulty_map}
 use Rattle.per_de.proofs.Fits.{starts, ends, fit_number, misfit_faulty, no_number}

@@ -1,7 +1,7 @@
 use Rattle.std.proofs.Common.{◌∙◌, sym, refl, inr}
 use Rattle.std.proofs.lemmas.Iterator.Adapters.{option_map_id}
 use Rattle.std.proofs.lemmas.Result.{on_ok_weaker, IfOk-at_ok}
-use Rattle.rasn_schema.specs.Constraints.{bounds_of}
+use Rattle.rasn_constraints.specs.Constraints.{bounds_of}
 use Rattle.per_enc.proofs.Constrained.{presents_within, presents_marked, presents_outside, within_law, outside_law, refuses_outside}
 use Rattle.per_enc.proofs.Encoder.put_constrained.Goals as goal
 

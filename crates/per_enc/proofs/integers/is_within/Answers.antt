@@ -2,8 +2,8 @@ use Rattle.std.proofs.Common.{◌≡◌, ◌∙◌, sym, ap, ap₂, subst, IsTru
 use Rattle.std.proofs.lemmas.Iterator.Adapters.{option_map_id}
 use Rattle.rasn_types.specs.Octets.{signed}
 use Rattle.rasn_types.proofs.Octets.{signed-signed_octets}
-use Rattle.rasn_schema.specs.Bounds.{fits_i128, holds}
-use Rattle.rasn_schema.specs.Constraints.{bounds_of}
+use Rattle.rasn_constraints.specs.Bounds.{fits_i128, holds}
+use Rattle.rasn_constraints.specs.Constraints.{bounds_of}
 use Rattle.per_enc.proofs.Constrained.{IsHeld, negative_within, positive_within}
 use Rattle.per_enc.proofs.integers.is_within.Goals as goal
 use Rattle.per_enc.proofs.integers.is_within.Goals.{then-is_negative, else-is_negative}

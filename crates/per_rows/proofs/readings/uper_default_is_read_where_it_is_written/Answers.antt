@@ -1,6 +1,7 @@
 use Rattle.std.proofs.Common.{refl, lit<, [], ◌∷◌, pos, true, false, Some}
 use Rattle.rasn_types.specs.Values.{whole}
-use Rattle.rasn_schema.specs.Schemas.{between, default, no_parts}
+use Rattle.rasn_constraints.specs.Bounds.{between}
+use Rattle.rasn_schema.specs.Schemas.{default, no_parts}
 use Rattle.per_core.specs.Basic.{basic_in, rules}
 use Rattle.per_core.specs.Canon.{canon}
 use Rattle.per_core.proofs.Within.{just_within, then_within}

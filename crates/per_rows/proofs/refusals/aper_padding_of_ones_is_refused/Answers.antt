@@ -2,7 +2,7 @@ use Rattle.std.proofs.Common.{◌≡◌, sym, ap, ◌∙◌, subst, ℕ, ◌+◌
 use Rattle.rasn_types.specs.Bits.{Bits}
 use Rattle.rasn_types.specs.Variants.{aligned}
 use Rattle.rasn_types.specs.Values.{Value}
-use Rattle.rasn_schema.specs.Schemas.{between}
+use Rattle.rasn_constraints.specs.Bounds.{between}
 use Rattle.per_core.specs.Writers.{pad}
 use Rattle.per_core.specs.Basic.{basic_in, fills, InOctets}
 use Rattle.per_core.specs.Canon.{canon}

@@ -1,6 +1,7 @@
 use Rattle.std.proofs.Common.{◌≡◌, refl, ap, lit<, [], ◌∷◌, List, length, Option, Some, true, false, Bool, arith}
 use Rattle.rasn_types.specs.Values.{Value, truth}
-use Rattle.rasn_schema.specs.Schemas.{Schema, Parts, any_size}
+use Rattle.rasn_constraints.specs.Bounds.{any_size}
+use Rattle.rasn_schema.specs.Schemas.{Schema, Parts}
 use Rattle.per_core.specs.Spellings.{Settings, Spelling, Then, exactly}
 use Rattle.per_core.specs.Writers.{just}
 use Rattle.per_core.specs.Counts.{bit_items}

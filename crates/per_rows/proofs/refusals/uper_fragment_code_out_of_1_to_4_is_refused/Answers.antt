@@ -1,7 +1,7 @@
 use Rattle.std.proofs.Common.{◌≡◌, refl, sym, ap, ◌∙◌, lit<, ℕ, zero, suc, ◌+◌, ◌<◌, List, [], ◌∷◌, ◌++◌, length, true, false, arith, inl, inr}
 use Rattle.rasn_types.specs.Bits.{Bits, to_bits, number_of}
 use Rattle.rasn_types.specs.Values.{Value}
-use Rattle.rasn_schema.specs.Schemas.{any_size}
+use Rattle.rasn_constraints.specs.Bounds.{any_size}
 use Rattle.per_core.specs.Spellings.{Then, Field, AnyPadding, exactly}
 use Rattle.per_core.specs.Basic.{Fills, fills, basic, basic_in, LastCount, Fragment, InFragments, octet}
 use Rattle.per_core.proofs.Agree.{Agree, weaken, then_agree, padding_agree, field_agree}

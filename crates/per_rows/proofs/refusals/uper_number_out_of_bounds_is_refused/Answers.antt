@@ -1,7 +1,7 @@
 use Rattle.std.proofs.Common.{◌≡◌, refl, sym, ap, ◌∙◌, subst, lit<, [], ◌∷◌, true, false, pos, ℤ, arith}
 use Rattle.rasn_types.specs.Values.{Value, whole}
-use Rattle.rasn_schema.specs.Bounds.{holds, above}
-use Rattle.rasn_schema.specs.Schemas.{Schema, between, unbounded}
+use Rattle.rasn_constraints.specs.Bounds.{holds, above, between, unbounded}
+use Rattle.rasn_schema.specs.Schemas.{Schema}
 use Rattle.per_core.specs.Spellings.{Then, exactly, Field}
 use Rattle.per_core.specs.Basic.{basic, basic_in, IsNumber}
 use Rattle.per_core.specs.Canon.{bytes, canon}

@@ -1,4 +1,4 @@
-use Rattle.std.proofs.Common.{◌≡◌, ◌∙◌, sym, ap, subst, ℕ, ◌^◌, ◌<◌, ◌≤◌, List, length, true, not, arith}
+use Rattle.std.proofs.Common.{◌≡◌, ◌∙◌, sym, ap, ℕ, ◌^◌, ◌<◌, ◌≤◌, length, arith}
 use Rattle.rasn_types.specs.Alphabets.{char_width}
 use Rattle.rasn_types.specs.Bits.{width}
 use Rattle.rasn_types.specs.Variants.{variant_when}

@@ -1,4 +1,4 @@
-use Rattle.std.proofs.Common.{◌≡◌, ◌∙◌, sym, ap, ℕ, ◌+◌, ◌-◌, drop, arith, slice_get}
+use Rattle.std.proofs.Common.{◌∙◌, sym, ap, ◌+◌, ◌-◌, drop, arith, slice_get}
 use Rattle.rasn_types.specs.Intervals.{expand}
 use Rattle.rasn_types.proofs.Rows.{step_at, get_here, get_further}
 use Rattle.rasn_types.proofs.intervals.get.Goals as goal

@@ -1,4 +1,4 @@
-use Rattle.std.proofs.Common.{◌≡◌, ◌∙◌, sym, ap, ℕ, ◌+◌, get_or, drop, arith, Some}
+use Rattle.std.proofs.Common.{◌∙◌, sym, ap, ◌+◌, get_or, drop, arith}
 use Rattle.rasn_types.specs.Alphabets.{index_of}
 use Rattle.rasn_types.specs.Intervals.{expand}
 use Rattle.rasn_types.proofs.Rows.{step_at, length_next, length-expand, none, within_interval, index_here, index_further, later, later-later}

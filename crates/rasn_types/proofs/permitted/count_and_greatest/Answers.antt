@@ -1,6 +1,5 @@
-use Rattle.std.proofs.Common.{◌≡◌, ap, ℕ, List, [], ◌∷◌, length, arith}
-use Rattle.rasn_types.specs.Alphabets.{greatest, restricted}
-use Rattle.rasn_types.specs.Intervals.{expand}
+use Rattle.std.proofs.Common.{ap, length, arith}
+use Rattle.rasn_types.specs.Alphabets.{greatest}
 use Rattle.rasn_types.proofs.Ascending.{length-restricted}
 use Rattle.rasn_types.proofs.Walking.{begins, next_some, next_none}
 use Rattle.rasn_types.proofs.permitted.count_and_greatest.Goals as goal

@@ -1,4 +1,4 @@
-use Rattle.std.proofs.Common.{◌≡◌, ◌∙◌, sym, ap, ℕ, ◌+◌, List, [], ◌∷◌, length, slice_get, arith}
+use Rattle.std.proofs.Common.{◌≡◌, ◌∙◌, sym, ap, ◌+◌, slice_get, arith}
 use Rattle.rasn_types.specs.Alphabets.{restricted}
 use Rattle.rasn_types.specs.Intervals.{expand}
 use Rattle.rasn_types.specs.Walks.{from_on}

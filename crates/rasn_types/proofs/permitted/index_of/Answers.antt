@@ -1,4 +1,4 @@
-use Rattle.std.proofs.Common.{◌≡◌, ◌∙◌, sym, ap, ℕ, ◌+◌, List, [], ◌∷◌, length, arith}
+use Rattle.std.proofs.Common.{◌∙◌, sym, ap, length, arith}
 use Rattle.rasn_types.specs.Alphabets.{index_of, restricted}
 use Rattle.rasn_types.specs.Intervals.{expand}
 use Rattle.rasn_types.specs.Walks.{from_on}

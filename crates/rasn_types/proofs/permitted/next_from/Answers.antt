@@ -1,4 +1,4 @@
-use Rattle.std.proofs.Common.{◌≡◌, ◌∙◌, sym, subst, ap, ℕ, ◌+◌, ◌≤◌, true, false, List, ◌∷◌, [], ◌++◌, get_or, take, Option, arith}
+use Rattle.std.proofs.Common.{◌∙◌, sym, subst, ℕ, List, ◌∷◌, [], ◌++◌, get_or, take, Option, arith}
 use Rattle.std.proofs.lemmas.Bool.{both_ways}
 use Rattle.std.proofs.lemmas.List.{take_more, take_all}
 use Rattle.rasn_types.specs.Intervals.{expand}

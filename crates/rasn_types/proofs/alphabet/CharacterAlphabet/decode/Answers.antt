@@ -1,5 +1,5 @@
-use Rattle.std.proofs.Common.{◌≡◌, ◌∙◌, sym, ap, subst, ℕ, ◌^◌, ◌<◌, true, false, Option, Some, None, IfSome}
-use Rattle.rasn_types.specs.Alphabets.{char_width, char_code, has}
+use Rattle.std.proofs.Common.{◌≡◌, ◌∙◌, sym, ap, subst, ℕ, true, Some, IfSome}
+use Rattle.rasn_types.specs.Alphabets.{char_code, has}
 use Rattle.rasn_types.specs.Prepared.{listed}
 use Rattle.std.proofs.lemmas.Bool.{both_ways}
 use Rattle.rasn_types.proofs.Codes.{ready, code_own, place_code, place_only, place_permitted, own_only}

@@ -1,4 +1,4 @@
-use Rattle.std.proofs.Common.{◌≡◌, ◌∙◌, sym, ap, subst, ℕ, ◌^◌, ◌<◌, true, false, Option, Some, None, IsSome, IfSome, ◌↔◌}
+use Rattle.std.proofs.Common.{◌≡◌, ◌∙◌, sym, subst, ℕ, ◌^◌, ◌<◌, true, Option, Some, IsSome, IfSome, ◌↔◌}
 use Rattle.rasn_types.specs.Alphabets.{char_width, char_code, has}
 use Rattle.rasn_types.specs.Prepared.{listed}
 use Rattle.rasn_types.proofs.Codes.{ready, code_place, code_own, code_none, code_fits, code_some}

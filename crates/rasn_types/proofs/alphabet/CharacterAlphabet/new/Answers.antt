@@ -1,4 +1,4 @@
-use Rattle.std.proofs.Common.{◌≡◌, ◌∙◌, sym, ap, ℕ, true, List}
+use Rattle.std.proofs.Common.{◌∙◌, sym, ap, ℕ, List}
 use Rattle.rasn_types.specs.Alphabets.{has}
 use Rattle.rasn_types.specs.Intervals.{expand}
 use Rattle.rasn_types.specs.Prepared.{listed}

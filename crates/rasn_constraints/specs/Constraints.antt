@@ -3,13 +3,13 @@ use lib.Signed.{le_z}
 use Rattle.std.specs.Prelude.{ℕ, ◌+◌, ◌^◌, ℤ, Bool, false, cond, ltb, eqb, ◌&&◌, ◌||◌, List, [], ◌∷◌, Option, Some, None, option_map, filter}
 use Rattle.std.specs.Option.{option_or}
 use Rattle.std.specs.Borrow.{Bor}
-use Rattle.rasn_schema.specs.Bounds.{above}
-use Rattle.rasn_schema.specs.Schemas.{Bounds, Size, unbounded, any_size}
-use Rattle.rasn_schema.specs.declared.constraints.Bounded.{Bounded}
-use Rattle.rasn_schema.specs.declared.constraints.Bounded.TheVariants as Variants
-use Rattle.rasn_schema.specs.declared.constraints.Constraint.{Constraint}
-use Rattle.rasn_schema.specs.declared.constraints.Constraint.TheVariants.{Value, Size as OfSize, PermittedAlphabet}
-use Rattle.rasn_schema.specs.declared.constraints.Extensible.{Extensible}
+use Rattle.rasn_types.specs.Alphabets.{restricted}
+use Rattle.rasn_constraints.specs.Bounds.{above, Bounds, Size, unbounded, any_size}
+use Rattle.rasn_constraints.specs.declared.constraints.Bounded.{Bounded}
+use Rattle.rasn_constraints.specs.declared.constraints.Bounded.TheVariants as Variants
+use Rattle.rasn_constraints.specs.declared.constraints.Constraint.{Constraint}
+use Rattle.rasn_constraints.specs.declared.constraints.Constraint.TheVariants.{Value, Size as OfSize, PermittedAlphabet}
+use Rattle.rasn_constraints.specs.declared.constraints.Extensible.{Extensible}
 
 -- X.680 51.2, 51.4: the lower end, where there is one; a single value is its own
 abbrev pub start_of : {T : Type 0} → Bounded T → Option T
@@ -94,12 +94,7 @@ abbrev pub size_in : Option (Extensible (Bounded ℕ)) → Size
 size_in None = any_size
 size_in (Some e) = size_between e.constraint
 
--- whether a list has a number
-abbrev pub has : List ℕ → ℕ → Bool
-has [] n = false
-has (x ∷ xs) n = eqb x n || has xs n
-
 -- the characters of a type that a permitted alphabet in use leaves
 abbrev pub permitted : List ℕ → Option (Extensible (List ℕ)) → List ℕ
 permitted own None = own
-permitted own (Some e) = cond e.extensible own (filter (has e.constraint) own)
+permitted own (Some e) = cond e.extensible own (restricted own e.constraint)

@@ -1,7 +1,28 @@
--- Which counts a size allows, and which numbers stand within bounds (ITU-T X.680, 51).
+-- Bounds of numbers and of counts: which numbers stand within bounds, and which counts a size allows (ITU-T X.680, 51).
 use Rattle.std.specs.Prelude.{ℕ, suc, ◌+◌, ◌-◌, ◌^◌, Bool, true, ◌&&◌, leb, ltb, Option, Some, None, ℤ, pos, negsuc}
 use lib.Signed.{le_z}
-use Rattle.rasn_schema.specs.Schemas.{Bounds, Size}
+
+-- X.680 51.4: the least and the greatest number of a value constraint, each where there is one
+pub record Bounds : Type 0 where
+  pub low : Option ℤ
+  pub high : Option ℤ
+
+-- X.680 51.5: the least and the greatest count of a size constraint, each where there is one
+pub record Size : Type 0 where
+  pub least : Option ℕ
+  pub most : Option ℕ
+
+-- no value constraint
+abbrev pub unbounded : Bounds
+unbounded = record { low = None; high = None }
+
+-- no size constraint
+abbrev pub any_size : Size
+any_size = record { least = None; most = None }
+
+-- the bounds with a least and a greatest number
+abbrev pub between : ℤ → ℤ → Bounds
+between a b = record { low = Some a; high = Some b }
 
 -- whether a count is at least the lower bound, where there is one
 abbrev pub at_least : Option ℕ → ℕ → Bool

@@ -1,9 +1,8 @@
 //! The test of constraints that are made at run time.
 
 ghost use Rattle.std.specs.Prelude.{◌≡◌};
-ghost use Rattle.rasn_schema.specs.Constraints.{bounds_of, size_between};
-ghost use Rattle.rasn_schema.specs.Lawful.{are_lawful_bounds, is_lawful_size};
-ghost use Rattle.rasn_schema.specs.LawfulConstraints.{are_lawful};
+ghost use Rattle.rasn_constraints.specs.Constraints.{bounds_of, size_between};
+ghost use Rattle.rasn_constraints.specs.LawfulConstraints.{are_lawful_bounds, is_lawful_size, are_lawful};
 
 use crate::constraints::{Bounded, Constraints};
 

@@ -3,7 +3,7 @@
 ghost use Rattle.std.specs.Prelude.{◌≡◌, ◌≤◌, ℕ, ℤ, pos, true, false, MatchOption, option_map};
 ghost use Rattle.std.specs.Option.{ForSome};
 ghost use Rattle.either.specs.Either.{IsLeftAnd, IsRightAnd};
-ghost use Rattle.rasn_schema.specs.Bounds.{above, holds};
+ghost use Rattle.rasn_constraints.specs.Bounds.{above, holds};
 
 use either::{Either, Left, Right};
 use std::marker::Model;
@@ -43,7 +43,7 @@ pub enum Bounded<T> {
 }
 
 impl<T: Copy> Bounded<T> {
-    ghost use Rattle.rasn_schema.specs.Constraints.{start_of, end_of};
+    ghost use Rattle.rasn_constraints.specs.Constraints.{start_of, end_of};
 
     /// The start and the end, each where there is one. A single value is its own start and end.
     pub fn start_and_end(&self) -> (Option<T>, Option<T>)
@@ -59,7 +59,7 @@ impl<T: Copy> Bounded<T> {
 }
 
 impl<T: Number> Bounded<T> {
-    ghost use Rattle.rasn_schema.specs.Constraints.{start_of, bounds_by, how_many};
+    ghost use Rattle.rasn_constraints.specs.Constraints.{start_of, bounds_by, how_many};
 
     /// Whether a value is within the bounds: none is, where the start is above the end.
     pub fn contains(&self, value: &T) -> bool
@@ -182,7 +182,7 @@ pub enum Constraint {
 }
 
 impl Constraint {
-    ghost use Rattle.rasn_schema.specs.Constraints.{stated_value, stated_size, stated_alphabet, listed_alphabet};
+    ghost use Rattle.rasn_constraints.specs.Constraints.{stated_value, stated_size, stated_alphabet, listed_alphabet};
 
     /// The bounds of a number, where it states these.
     pub fn as_value(&self) -> Option<Extensible<Bounded<i128>>>
@@ -220,7 +220,7 @@ impl Constraint {
 pub struct Constraints(pub &'static [Constraint]);
 
 impl Model for Constraints {
-    ghost use Rattle.rasn_schema.specs.Constraints.{Effective, effective};
+    ghost use Rattle.rasn_constraints.specs.Constraints.{Effective, effective};
 
     ghost Value = { Effective };
 
@@ -228,7 +228,7 @@ impl Model for Constraints {
 }
 
 impl Constraints {
-    ghost use Rattle.rasn_schema.specs.Constraints.{effective, listed_alphabet};
+    ghost use Rattle.rasn_constraints.specs.Constraints.{effective, listed_alphabet};
 
     /// No constraint.
     pub const NONE: Constraints = Constraints(&[]);

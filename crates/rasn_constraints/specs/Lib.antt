@@ -1,0 +1,4 @@
+pub mod Bounds
+pub mod Constraints
+pub mod LawfulConstraints
+pub mod Ranges
