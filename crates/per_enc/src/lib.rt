@@ -302,7 +302,7 @@ impl<A: Allocator + Clone> codec::Encoder for Encoder<A> {
         _identifier: Identifier,
     ) -> Result<(), EncodeError> {
         self.check_unfailed()?;
-        self.put_octets(value.as_octets())
+        self.put_octets(value.as_bytes())
     }
 
     fn encode_octet_string(
@@ -357,7 +357,7 @@ impl<A: Allocator + Clone> codec::Encoder for Encoder<A> {
         _identifier: Identifier,
     ) -> Result<(), EncodeError> {
         self.check_unfailed()?;
-        self.put_octets(value.as_octets())
+        self.put_octets(value.as_bytes())
     }
 
     fn encode_graphic_string(
@@ -368,7 +368,7 @@ impl<A: Allocator + Clone> codec::Encoder for Encoder<A> {
         _identifier: Identifier,
     ) -> Result<(), EncodeError> {
         self.check_unfailed()?;
-        self.put_octets(value.as_octets())
+        self.put_octets(value.as_bytes())
     }
 
     fn encode_teletex_string(
@@ -379,7 +379,7 @@ impl<A: Allocator + Clone> codec::Encoder for Encoder<A> {
         _identifier: Identifier,
     ) -> Result<(), EncodeError> {
         self.check_unfailed()?;
-        self.put_octets(value.as_octets())
+        self.put_octets(value.as_bytes())
     }
 
     fn open_sequence<C: Constructed>(
