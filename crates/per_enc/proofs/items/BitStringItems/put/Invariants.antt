@@ -1,4 +1,3 @@
-use Rattle.rasn_types.specs.Codecs.{variant_of}
 use Rattle.per_core.specs.Counts.{bit_writers}
 use Rattle.per_core.specs.Writers.{in_a_row}
 use Rattle.std.specs.Prelude.{slice_range}

@@ -1,4 +1,4 @@
-use Rattle.std.proofs.Common.{◌≡◌, ◌∙◌, sym, ap, ap₂, inr, ◌<◌, length, arith, ℕ, Option, Some, None, List, subst}
+use Rattle.std.proofs.Common.{◌≡◌, ◌∙◌, sym, inr, ◌<◌, length, arith, ℕ, Some, None, subst}
 use Rattle.std.specs.Prelude.{slice_get}
 use Rattle.rasn_types.specs.Alphabets.{char_code, char_width}
 use Rattle.rasn_types.specs.Bits.{to_bits}
