@@ -8,38 +8,56 @@ use Rattle.rasn_schema.specs.Schemas
 use Rattle.rasn_constraints.specs.Bounds.{Bounds, unbounded, holds}
 use Rattle.rasn_schema.specs.Schemas.{Schema, Parts, listed}
 use Rattle.rasn_schema.specs.Records.{record_at, no_additions}
-use Rattle.rasn_schema.specs.Calls.{Answers, Refuses, takes_none}
+use Rattle.rasn_schema.specs.Calls.{Reads, Refuses, takes_none}
 use Rattle.per_core.specs.Spellings.{Settings}
 use Rattle.per_core.specs.Basic.{basic, basic_in, Octets, IsNumberOf}
 use Rattle.per_core.specs.Took.{Took}
 use Rattle.per_core.proofs.Lengths.{same_octets}
 use Rattle.per_core.proofs.Took.{took_agree, took_map}
 use Rattle.per_de.specs.State.{State, Spells, settings_of}
-use Rattle.per_de.specs.Faults.{Fault, Faulty, Refused, Stopped, IsOf, IsInBits, IsTested, at_once, refusal}
+use Rattle.per_de.specs.Faults.{Fault, IsAt, IsOf, at_once, refusal}
+use Rattle.per_de.specs.Kinds.{Faulty, IsTested, NoneIn}
+use Rattle.per_de.specs.Numbers.{IsOfNumber, IsOfOctets}
 use Rattle.per_de.specs.declared.error.DecodeError.{DecodeError}
 use Rattle.per_de.specs.declared.error.DecodeErrorKind.{DecodeErrorKind}
 use Rattle.per_de.specs.declared.error.DecodeErrorKind.TheVariants.{AlreadyFailed, UnexpectedEmptyInput, ValueConstraintNotSatisfied, ExceedsMaxParseDepth, OutOfMemory}
 
--- kinds
-pub tested_in_bits : (a : Settings) (k : DecodeErrorKind) (b : Bits) → IsTested k → IsInBits a k b
-tested_in_bits a UnexpectedEmptyInput b h = absurd h
-tested_in_bits a (ValueConstraintNotSatisfied named low high) b h = absurd h
-tested_in_bits a _ b h = h
+-- a kind that tests show may come with numbers and octets
+pub tested_number : (a : Settings) (bounds : Bounds) (mark : Bool) (s : Bits) (k : DecodeErrorKind) → IsTested k → IsOfNumber a bounds mark s k
+tested_number a bounds mark s UnexpectedEmptyInput h = absurd h
+tested_number a bounds mark s (ValueConstraintNotSatisfied named low high) h = absurd h
+tested_number a bounds mark s _ h = h
 
-in_bits_of : (k : DecodeErrorKind) (s : State) → IsInBits (settings_of s) k s.bits → IsOf k s
-in_bits_of AlreadyFailed s h = absurd h
-in_bits_of _ s h = h
+pub tested_octets : (a : Settings) (s : Bits) (k : DecodeErrorKind) → IsTested k → IsOfOctets a s k
+tested_octets a s UnexpectedEmptyInput h = absurd h
+tested_octets a s _ h = h
+
+pub faulty_map : {P Q A B : Type 0} (k : DecodeErrorKind) → (P → Q) → (A → B) → (k ≡ OutOfMemory) ⊎ (P × A) → (k ≡ OutOfMemory) ⊎ (Q × B)
+faulty_map k g f (inl e) = inl e
+faulty_map k g f (inr h) = inr (g h.0, f h.1)
 
 -- a refusal
-pub refuses : (c : Schema) (s : State) (k : DecodeErrorKind) (e : DecodeError) → e ≡ refusal k s → IsInBits (settings_of s) k s.bits
-    → ((v : Value) (t : Bits) → Took (basic (settings_of s) c v) s.bits t → ⊥) → Refuses (Spells c) Fault e s
+not_failed : (c : Schema) (a : Settings) (s : Bits) → IsAt a c s AlreadyFailed → ⊥
+not_failed (Schema.number bounds mark range) a s h = h
+not_failed (Schema.octet_string size mark) a s h = h
+not_failed (Schema.bit_string size mark) a s h = h
+not_failed (Schema.char_string alphabet size mark) a s h = h
+not_failed (Schema.text kind) a s h = h
+not_failed Schema.cut a s h = h
+not_failed _ a s h = h
+
+of_state : (k : DecodeErrorKind) (c : Schema) (s : State) → IsAt (settings_of s) c s.bits k → IsOf k c s
+of_state AlreadyFailed c s h = absurd (not_failed c (settings_of s) s.bits h)
+of_state _ c s h = at_once h
+
+pub refuses : (c : Schema) (s : State) (k : DecodeErrorKind) (e : DecodeError) → e ≡ refusal k s → IsAt (settings_of s) c s.bits k → NoneIn (basic (settings_of s) c) s.bits → Refuses (Spells c) (Fault c) e s
 refuses c s k e i h none = record {
   nothing = λ v t a. none v t.bits a.took;
-  stands = subst (λ z. Fault z s) (sym i) (record { codec = refl; stands = in_bits_of k s h });
+  stands = subst (λ z. Fault c z s) (sym i) (record { codec = refl; stands = of_state k c s h });
 }
 
 pub faulty : (c : Schema) (s : State) (k : DecodeErrorKind) (e : DecodeError) → e ≡ refusal k s
-    → Faulty (settings_of s) s.bits ((v : Value) (t : Bits) → Took (basic (settings_of s) c v) s.bits t → ⊥) k → (e ≡ refusal OutOfMemory s) ⊎ Refuses (Spells c) Fault e s
+    → Faulty (IsAt (settings_of s) c s.bits) (NoneIn (basic (settings_of s) c) s.bits) k → (e ≡ refusal OutOfMemory s) ⊎ Refuses (Spells c) (Fault c) e s
 faulty c s k e i (inl m) = inl (i ∙ ap (λ z. refusal z s) m)
 faulty c s k e i (inr h) = inr (refuses c s k e i h.0 h.1)
 
@@ -87,8 +105,8 @@ pub octets_number : (a : Settings) (range : Bounds) (z : ℤ) (os : List ℕ) (s
 octets_number a range z os s t h some means fits = took_map
     (λ p b i. record { in_range = fits; spelled = record { within = refl; spelled = record { octets = os; some = some; means = means; spelled = i } } }) h
 
-pub no_octets : (a : Settings) (s : Bits) (os : List ℕ) (u : Bits) → Took (Octets a os) s u → os ≡ [] → IsInBits a UnexpectedEmptyInput s
-no_octets a s os u b e = at_once (u, subst (λ z. Took (Octets a z) s u) e b)
+pub none_there : (a : Settings) (s : Bits) (os : List ℕ) (u : Bits) → Took (Octets a os) s u → os ≡ [] → Took (Octets a []) s u
+none_there a s os u b e = subst (λ z. Took (Octets a z) s u) e b
 
 module _ (a : Settings) (range : Bounds) (s : Bits) where
   abbrev pub NoNumber : Type 0
@@ -109,37 +127,25 @@ module _ (a : Settings) (range : Bounds) (s : Bits) where
       let i : q.octets ≡ os = (took_agree (same_octets a q.octets os) q.took b).0 in
       let j : true ≡ false = sym q.in_range ∙ ap (λ x. holds range x) (sym q.means ∙ ap signed i) ∙ e in cc
 
--- of a refused length, and of a refused number
-pub stopped_faulty : {A B : Type 0} (a : Settings) (b : Bits) (k : DecodeErrorKind) → (A → B) → Stopped A k → Faulty a b B k
-stopped_faulty a b k f (inl e) = inl e
-stopped_faulty a b k f (inr h) = inr (tested_in_bits a k b h.0, f h.1)
-
-pub refused_faulty : {A B : Type 0} (a : Settings) (b : Bits) (k : DecodeErrorKind) → (A → B) → Refused A k → Faulty a b B k
-refused_faulty a b k f h = inr (tested_in_bits a k b h.0, f h.1)
-
-pub faulty_map : {A B : Type 0} (a : Settings) (b : Bits) (k : DecodeErrorKind) → (A → B) → Faulty a b A k → Faulty a b B k
-faulty_map a b k f (inl e) = inl e
-faulty_map a b k f (inr h) = inr (h.0, f h.1)
-
-pub faulty_whole : (a : Settings) (bounds : Bounds) (mark : Bool) (range : Bounds) (s : Bits) (k : DecodeErrorKind) → Faulty a s ((z : ℤ) (t : Bits) → Took (IsNumberOf a bounds mark range z) s t → ⊥) k
-    → Faulty a s ((v : Value) (t : Bits) → Took (basic a (Schemas.number bounds mark range) v) s t → ⊥) k
-faulty_whole a bounds mark range s k = faulty_map a s k (λ none v t b. let q = whole_read a bounds mark range v s t b in none q.0 t q.1)
+pub faulty_whole : (a : Settings) (bounds : Bounds) (mark : Bool) (range : Bounds) (s : Bits) (k : DecodeErrorKind) → Faulty (IsOfNumber a bounds mark s) (NoneIn (IsNumberOf a bounds mark range) s) k
+    → Faulty (IsAt a (Schemas.number bounds mark range) s) (NoneIn (basic a (Schemas.number bounds mark range)) s) k
+faulty_whole a bounds mark range s k = faulty_map k (λ h. h) (λ none v t b. let q = whole_read a bounds mark range v s t b in none q.0 t q.1)
 
 -- after a refusal nothing is read, and the error says so
-pub failed_refuses : (c : Schema) (s : State) (e : DecodeError) → e ≡ refusal AlreadyFailed s → s.failed ≡ true → Refuses (Spells c) Fault e s
+pub failed_refuses : (c : Schema) (s : State) (e : DecodeError) → e ≡ refusal AlreadyFailed s → s.failed ≡ true → Refuses (Spells c) (Fault c) e s
 failed_refuses c s e i f = record {
   nothing = λ v t a. let l = a.live in let h : true ≡ false = sym f ∙ l in cc;
-  stands = subst (λ z. Fault z s) (sym i) (record { codec = refl; stands = f });
+  stands = subst (λ z. Fault c z s) (sym i) (record { codec = refl; stands = f });
 }
 
 pub null_answers : (s : State) (r : Result (Unit {0}) DecodeError) → OnOk r (s.failed ≡ false) → IfErr r (λ e. e ≡ refusal AlreadyFailed s) → OnErr r (s.failed ≡ true)
-    → Answers takes_none Fault (Spells Schemas.null) (λ u. nothing) s r s
+    → Reads takes_none Fault Spells Schemas.null (λ u. nothing) s r s
 null_answers s (Ok u) ok err failed = record { live = ok; took = reads_nothing (settings_of s) s.bits; same = refl }
 null_answers s (Err e) ok err failed = inr (failed_refuses Schemas.null s e err failed)
 
 -- at no level left no record is entered
 pub too_deep : (s : State) (e : DecodeError) (parts : ℕ → Parts) (n : ℕ) → n ≡ 0 → e ≡ refusal ExceedsMaxParseDepth s
-    → (e ≡ refusal OutOfMemory s) ⊎ Refuses (Spells (record_at listed parts false no_additions n)) Fault e s
+    → let c = record_at listed parts false no_additions n in (e ≡ refusal OutOfMemory s) ⊎ Refuses (Spells c) (Fault c) e s
 unfolding basic_in
 too_deep s e parts zero h i = inr (refuses Schemas.cut s ExceedsMaxParseDepth e i tt (λ v t b. b.spelled))
 too_deep s e parts (suc n) h i = absurd (omega arith)

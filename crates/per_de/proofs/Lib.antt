@@ -10,3 +10,10 @@ pub mod Within
 pub mod Fits
 pub mod Marks
 pub mod Calls
+pub mod Marked
+pub mod SizeForms
+pub mod Miscounts
+pub mod Coded
+pub mod CharacterCodes
+pub mod Texts
+pub mod StringCalls

@@ -5,14 +5,14 @@ use Rattle.rasn_types.specs.Values.{Value, fields, as_slots}
 use Rattle.rasn_schema.specs.Lawful.{are_required}
 use Rattle.rasn_schema.specs.Schemas.{TagTree, Presence, required, Schema, Parts, no_parts, part}
 use Rattle.rasn_schema.specs.Records.{record_value}
-use Rattle.rasn_schema.specs.Scopes.{record_of, ReadsPart, reads_required, ReadsParts, reads_end, reads_next, ScopesWell}
+use Rattle.rasn_schema.specs.Scopes.{record_of, ReadsPart, reads_required, ReadsParts, reads_end, reads_next, FaultyParts, faulty_required, faulty_here, faulty_behind, ScopesWell}
 use Rattle.per_core.specs.Spellings.{Settings, exactly}
 use Rattle.per_core.specs.Basic.{basic, basic_in, rules, rules_in, Flags, Bodies, Root, Fields_in}
 use Rattle.per_core.specs.Took.{place, Took}
 use Rattle.per_core.proofs.Took.{took_then, then_took, took_map, took_nothing, nothing_took}
 use Rattle.per_de.specs.State.{State, Spells, settings_of, with_bits}
-use Rattle.per_de.specs.Faults.{Fault, IsOf, refusal}
-use Rattle.per_de.specs.Scopes.{at_level, Enters, Opens, Closes}
+use Rattle.per_de.specs.Faults.{Fault, IsOf, IsInParts, here, later, inside, refusal}
+use Rattle.per_de.specs.Scopes.{at_level, Opens, Closes}
 use Rattle.per_de.specs.declared.Scope.{Scope}
 use Rattle.per_de.specs.declared.error.DecodeError.{DecodeError}
 use Rattle.per_de.specs.declared.error.DecodeErrorKind.{DecodeErrorKind}
@@ -120,14 +120,41 @@ took_record a ps h v s t b = go b.spelled.of.0 b.spelled.of.1 b.spelled.is b.spe
         (rs, e, root_of rs t (subst (λ z. Took (Root (rules a ps) rs) s z) (nothing_took q.2) q.1))
     go rs (x ∷ xs) e y = absurd y.is_rest
 
--- the same decoder inside a record
-inside_fault : (k : DecodeErrorKind) (s : State) (n : ℕ) → IsOf k (at_level s n) → IsOf k s
-inside_fault AlreadyFailed s n h = h
-inside_fault _ s n h = h
+-- what a kind says of a decoder that reads components
+abbrev OfParts : DecodeErrorKind → Parts → State → Type 0
+OfParts AlreadyFailed ps s = s.failed ≡ true
+OfParts k ps s = IsInParts (settings_of s) k ps s.bits
 
-fault_outside : (s : State) (o : Scope) (i : State) (e : DecodeError) → Enters s o i → Fault e i → Fault e s
-fault_outside s o i e a f =
-    record { codec = f.codec ∙ ap (λ z. z.codec) a.same; stands = inside_fault e.kind s i.levels (subst (λ z. IsOf e.kind z) a.same f.stands) }
+in_first : (k : DecodeErrorKind) (t : TagTree) (c : Schema) (ps : Parts) (s : State) → IsOf k c s → OfParts k (part t required c ps) s
+in_first AlreadyFailed t c ps s h = h
+in_first _ t c ps s h = here h
+
+further : (k : DecodeErrorKind) {t : TagTree} {c : Schema} {ps : Parts} {v : Value} {s m : State} → Spells c s v m → IsInParts (settings_of m) k ps m.bits → IsInParts (settings_of s) k (part t required c ps) s.bits
+further k {ps = ps} {v = v} {m = m} a h = later v a.took (subst (λ z. IsInParts z k ps m.bits) (ap settings_of a.same) h)
+
+in_later : (k : DecodeErrorKind) (t : TagTree) (ps : Parts) {c : Schema} {v : Value} {s m : State} → Spells c s v m → OfParts k ps m → OfParts k (part t required c ps) s
+in_later AlreadyFailed t ps a h = ap (λ z. z.failed) (sym a.same) ∙ h
+in_later _ t ps a h = further _ a h
+
+part_stands : (k : DecodeErrorKind) (e : DecodeError) → e.kind ≡ k → {ps : Parts} {i : State} → FaultyParts Fault Spells e ps i → OfParts k ps i
+part_stands k e q (faulty_here {k = t} {c = c} {ps = ps} {s = s} (faulty_required f)) = in_first k t c ps s (subst (λ z. IsOf z c s) q f.stands)
+part_stands k e q (faulty_behind {k = t} {ps = ps} (reads_required a) b) = in_later k t ps a (part_stands k e q b)
+
+part_codec : (e : DecodeError) {ps : Parts} {i : State} → FaultyParts Fault Spells e ps i → e.codec ≡ i.codec
+part_codec e (faulty_here (faulty_required f)) = f.codec
+part_codec e (faulty_behind (reads_required a) b) = part_codec e b ∙ ap (λ z. z.codec) a.same
+
+-- the same decoder inside a record
+moved : {k : DecodeErrorKind} {ps : Parts} {i j : State} → i ≡ j → IsInParts (settings_of i) k ps i.bits → IsInParts (settings_of j) k ps j.bits
+moved {k} {ps} e h = subst (λ z. IsInParts (settings_of z) k ps z.bits) e h
+
+of_record : (k : DecodeErrorKind) (ps : Parts) (s : State) {i : State} {n : ℕ} → i ≡ at_level s n → OfParts k ps i → IsOf k (record_of ps) s
+of_record AlreadyFailed ps s e h = ap (λ z. z.failed) (sym e) ∙ h
+of_record _ ps s {i} {n} e h = inside (moved e h)
+
+fault_of_record : (ps : Parts) (s : State) (o : Scope) (i : State) (e : DecodeError) → Opens (record_of ps) s o i → FaultyParts Fault Spells e ps i → Fault (record_of ps) e s
+fault_of_record ps s o i e a f =
+    record { codec = part_codec e f ∙ ap (λ z. z.codec) a.enters.same; stands = of_record e.kind ps s a.enters.same (part_stands e.kind e refl f) }
 
 bare_read : (ps : Parts) (s i j t : State) (o : Scope) (rs : List (Option Value)) → Opens (record_of ps) s o i → ReadsParts Spells ps i rs j → Closes j o t
     → Spells (record_of ps) s (record_value rs []) t
@@ -160,11 +187,12 @@ bare_back ps s i t o v a b =
       },
     )
 
-pub scopes_well : ScopesWell (λ (s : State). s.failed) (λ (e : DecodeError) (s : State). e ≡ refusal OutOfMemory s) Fault Spells Opens Closes
+pub scopes_well : ScopesWell (λ (s : State). s.failed) (λ (e : DecodeError) (s : State). e ≡ refusal OutOfMemory s) Fault (λ (o : Scope) (e : DecodeError) (s : State). ⊥) Spells Opens Closes
 scopes_well = record {
   inside = λ c s o i a. ap (λ z. z.failed) a.enters.same ∙ a.live;
-  back = λ c s o i e a f. fault_outside s o i e a.enters f;
   room = λ c s o i e a m. m ∙ ap (λ z. refusal OutOfMemory z) a.enters.same;
+  in_part = fault_of_record;
+  at_end = λ ps s i j o rs e a b h. absurd h;
   record_read = bare_read;
   record_back = bare_back;
 }

@@ -7,7 +7,7 @@ ghost use Rattle.per_core.specs.Spellings.{AnyPadding, Field, Then};
 ghost use Rattle.per_core.specs.Basic.{InOctets, bounded_form};
 ghost use Rattle.per_core.specs.Took.{Took};
 ghost use Rattle.per_de.specs.State.{settings};
-ghost use Rattle.per_de.specs.Faults.{Refused};
+ghost use Rattle.per_de.specs.Kinds.{Refused};
 
 use crate::error::DecodeErrorKind;
 use crate::length::{skip_padding, take_number};

@@ -1,19 +1,17 @@
-//! Lengths that have no upper bound below 65536, and the octets that they count (X.691 11.9.3.5 to 11.9.3.8).
+//! Lengths that have no upper bound below 65536 (X.691 11.9.3.5 to 11.9.3.8).
 
-ghost use Rattle.std.specs.Prelude.{◌≡◌, ℕ, ◌*◌, ◌<◌, ◌≤◌, [], ◌∷◌, List, length, OnOk, IfOk, IfErr};
+ghost use Rattle.std.specs.Prelude.{◌≡◌, ◌<◌, ◌≤◌, [], ◌∷◌, length, IfOk, IfErr};
 ghost use Rattle.rasn_types.specs.Bits.{Bits};
 ghost use Rattle.per_core.specs.Spellings.{AnyPadding, Field};
-ghost use Rattle.per_core.specs.Basic.{Octets};
 ghost use Rattle.per_core.specs.Took.{Took};
 ghost use Rattle.per_de.specs.State.{settings};
-ghost use Rattle.per_de.specs.Lengths.{LengthOf, CountOf, TookRow};
-ghost use Rattle.per_de.specs.Faults.{Refused, Stopped};
+ghost use Rattle.per_de.specs.Lengths.{LengthOf, CountOf};
+ghost use Rattle.per_de.specs.Kinds.{Refused};
 ghost use Rattle.per_de.specs.declared.length.Length.{Length};
 
 use crate::error::{DecodeErrorKind, ParserFailCause};
 use per_bits::BitReader;
 use rasn_types::types::Codec;
-use std::alloc::Global;
 
 /// How many items follow a length.
 pub enum Length {
@@ -72,48 +70,10 @@ fn take_count(bits: &mut BitReader<'_>) -> Result<Length, DecodeErrorKind>
 }
 
 /// Takes an unconstrained length, with the padding before it.
-fn take_length(bits: &mut BitReader<'_>, codec: Codec) -> Result<Length, DecodeErrorKind>
+pub fn take_length(bits: &mut BitReader<'_>, codec: Codec) -> Result<Length, DecodeErrorKind>
     ensures ok { IfOk result (λ l. Took (LengthOf (settings codec) l) bits.old bits.new) }
     ensures err { IfErr result (Refused ((l : Length) (t : Bits) → Took (LengthOf (settings codec) l) bits.old t → ⊥)) }
 {
     skip_padding(bits, codec);
     take_count(bits)
-}
-
-/// Takes `count` octets and appends them.
-fn take_row(
-    bits: &mut BitReader<'_>,
-    count: u128,
-    octets: &mut Vec<u8>,
-) -> Result<(), DecodeErrorKind>
-    requires { count ≤ 65536 }
-    ensures ok { OnOk result (TookRow count octets.old.items octets.new.items bits.old bits.new) }
-    ensures err { IfErr result (Stopped (length bits.old < 8 * count)) }
-{
-    let mut row = bits.take(8 * count).map_err(DecodeErrorKind::Incomplete)?;
-    for _ in 0..count {
-        octets.push(take_number(&mut row, 8)? as u8)?;
-    }
-    Ok(())
-}
-
-/// Takes an unconstrained length and the octets that it counts, in any row of fragments.
-pub fn take_octets(
-    bits: &mut BitReader<'_>,
-    codec: Codec,
-    alloc: Global,
-) -> Result<Vec<u8>, DecodeErrorKind>
-    ensures ok { IfOk result (λ octets. Took (Octets (settings codec) octets.items) bits.old bits.new) }
-    ensures err { IfErr result (Stopped ((os : List ℕ) (t : Bits) → Took (Octets (settings codec) os) bits.old t → ⊥)) }
-{
-    let mut octets = Vec::new(alloc);
-    loop {
-        match take_length(bits, codec)? {
-            Length::Last(count) => {
-                take_row(bits, count, &mut octets)?;
-                return Ok(octets);
-            }
-            Length::Fragment(count) => take_row(bits, count, &mut octets)?,
-        }
-    }
 }

@@ -12,21 +12,30 @@ ghost use Rattle.per_de.specs.ScopeLaws.{scopes_well};
 
 mod bounded;
 pub mod error;
+mod items;
 mod length;
 mod natural;
 mod number;
+mod sizes;
+mod strings;
 mod whole;
 
 pub use crate::error::{DecodeError, DecodeErrorKind, ParserFailCause};
+use crate::items::take_octets;
 use crate::length::take_bit;
 use crate::number::take_integer;
+use crate::strings::{take_bit_string, take_characters, take_octet_string, take_utf8};
 use per_bits::{BitList, BitReader};
 use rasn_schema::codec;
 use rasn_schema::constraints::Constraints;
 use rasn_schema::fields::Constructed;
 use rasn_schema::schema::IntegerType;
+use rasn_types::bit_string::BitString;
+use rasn_types::octet_strings::{Any, GeneralString, GraphicString, TeletexString, Utf8String};
+use rasn_types::strings::StaticPermittedAlphabet;
 use rasn_types::types::{Codec, Tag};
 use std::alloc::{Allocator, Global};
+use std::borrow::CowSlice;
 use std::marker::Model;
 
 /// What a decoder is told: the variant of the rules, and how deep values may stand inside one another.
@@ -174,6 +183,8 @@ impl<'input> codec::Decoder for Decoder<'input> {
 
     ghost fault = { Fault };
 
+    ghost unended = { λ _ _ _. ⊥ };
+
     ghost memory = { λ e s. e ≡ refusal OutOfMemory s };
 
     ghost already = { λ e s. e ≡ refusal AlreadyFailed s };
@@ -184,6 +195,14 @@ impl<'input> codec::Decoder for Decoder<'input> {
 
     fn codec(&self) -> Codec {
         Decoder::codec(self)
+    }
+
+    fn alloc(&self) -> Global {
+        self.alloc
+    }
+
+    fn out_of_memory(&mut self) -> DecodeError {
+        self.refuse(DecodeErrorKind::OutOfMemory)
     }
 
     fn decode_bool(&mut self, _tag: Tag) -> Result<bool, DecodeError> {
@@ -208,6 +227,98 @@ impl<'input> codec::Decoder for Decoder<'input> {
 
     fn decode_null(&mut self, _tag: Tag) -> Result<(), DecodeError> {
         self.check_unfailed()
+    }
+
+    fn decode_any(&mut self, _tag: Tag) -> Result<Any, DecodeError> {
+        self.check_unfailed()?;
+        match take_octets(&mut self.bits, self.codec, self.alloc) {
+            Ok(octets) => Ok(Any::new(octets)),
+            Err(kind) => Err(self.refuse(kind)),
+        }
+    }
+
+    fn decode_octet_string(
+        &mut self,
+        _tag: Tag,
+        constraints: &Constraints,
+    ) -> Result<CowSlice<'static, u8>, DecodeError> {
+        self.check_unfailed()?;
+        match take_octet_string(&mut self.bits, self.codec, self.alloc, constraints) {
+            Ok(octets) => Ok(CowSlice::Owned(octets)),
+            Err(kind) => Err(self.refuse(kind)),
+        }
+    }
+
+    fn decode_bit_string(
+        &mut self,
+        _tag: Tag,
+        constraints: &Constraints,
+    ) -> Result<BitString, DecodeError> {
+        self.check_unfailed()?;
+        match take_bit_string(&mut self.bits, self.codec, self.alloc, constraints) {
+            Ok(bits) => Ok(bits),
+            Err(kind) => Err(self.refuse(kind)),
+        }
+    }
+
+    fn decode_known_multiplier_string<S: StaticPermittedAlphabet>(
+        &mut self,
+        _tag: Tag,
+        constraints: &Constraints,
+    ) -> Result<S, DecodeError> {
+        self.check_unfailed()?;
+        match take_characters(&mut self.bits, self.codec, self.alloc, constraints) {
+            Ok(string) => Ok(string),
+            Err(kind) => Err(self.refuse(kind)),
+        }
+    }
+
+    fn decode_utf8_string(
+        &mut self,
+        _tag: Tag,
+        _constraints: &Constraints,
+    ) -> Result<Utf8String, DecodeError> {
+        self.check_unfailed()?;
+        match take_utf8(&mut self.bits, self.codec, self.alloc) {
+            Ok(text) => Ok(text),
+            Err(kind) => Err(self.refuse(kind)),
+        }
+    }
+
+    fn decode_general_string(
+        &mut self,
+        _tag: Tag,
+        _constraints: &Constraints,
+    ) -> Result<GeneralString, DecodeError> {
+        self.check_unfailed()?;
+        match take_octets(&mut self.bits, self.codec, self.alloc) {
+            Ok(octets) => Ok(GeneralString::new(octets)),
+            Err(kind) => Err(self.refuse(kind)),
+        }
+    }
+
+    fn decode_graphic_string(
+        &mut self,
+        _tag: Tag,
+        _constraints: &Constraints,
+    ) -> Result<GraphicString, DecodeError> {
+        self.check_unfailed()?;
+        match take_octets(&mut self.bits, self.codec, self.alloc) {
+            Ok(octets) => Ok(GraphicString::new(octets)),
+            Err(kind) => Err(self.refuse(kind)),
+        }
+    }
+
+    fn decode_teletex_string(
+        &mut self,
+        _tag: Tag,
+        _constraints: &Constraints,
+    ) -> Result<TeletexString, DecodeError> {
+        self.check_unfailed()?;
+        match take_octets(&mut self.bits, self.codec, self.alloc) {
+            Ok(octets) => Ok(TeletexString::new(octets)),
+            Err(kind) => Err(self.refuse(kind)),
+        }
     }
 
     fn open_sequence<C: Constructed>(&mut self, _tag: Tag) -> Result<Scope, DecodeError> {

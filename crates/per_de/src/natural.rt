@@ -1,16 +1,15 @@
 //! Numbers without sign (X.691 11.7).
 
 ghost use Rattle.std.specs.Prelude.{◌≡◌, ℕ, ◌^◌, ◌≤◌, MatchOption, IfOk, IfErr};
-ghost use Rattle.rasn_types.specs.Bits.{Bits};
 ghost use Rattle.rasn_types.specs.Octets.{unsigned};
 ghost use Rattle.per_core.specs.Basic.{InNatural};
 ghost use Rattle.per_core.specs.Took.{Took};
 ghost use Rattle.per_de.specs.State.{settings};
-ghost use Rattle.per_de.specs.Numbers.{TookNatural};
-ghost use Rattle.per_de.specs.Faults.{Faulty};
+ghost use Rattle.per_de.specs.Numbers.{TookNatural, IsOfOctets};
+ghost use Rattle.per_de.specs.Kinds.{Faulty, NoneIn};
 
 use crate::error::DecodeErrorKind;
-use crate::length::take_octets;
+use crate::items::take_octets;
 use per_bits::BitReader;
 use rasn_types::types::Codec;
 use std::alloc::Global;
@@ -34,7 +33,7 @@ pub fn take_natural(
     alloc: Global,
 ) -> Result<Option<u128>, DecodeErrorKind>
     ensures ok { IfOk result (λ number. TookNatural (settings codec) number bits.old bits.new) }
-    ensures err { IfErr result (Faulty (settings codec) bits.old ((n : ℕ) (t : Bits) → Took (InNatural (settings codec) n) bits.old t → ⊥)) }
+    ensures err { IfErr result (Faulty (IsOfOctets (settings codec) bits.old) (NoneIn (InNatural (settings codec)) bits.old)) }
 {
     let octets = take_octets(bits, codec, alloc)?;
     if octets.is_empty() {

@@ -1,17 +1,17 @@
 //! INTEGER (X.691 13).
 
-ghost use Rattle.std.specs.Prelude.{◌≡◌, ℤ, false, IfOk, IfErr};
-ghost use Rattle.rasn_types.specs.Bits.{Bits};
+ghost use Rattle.std.specs.Prelude.{◌≡◌, false, IfOk, IfErr};
 ghost use Rattle.rasn_constraints.specs.Bounds.{unbounded};
 ghost use Rattle.rasn_constraints.specs.Constraints.{bounds_of, bounds_in, is_marked};
 ghost use Rattle.per_core.specs.Basic.{IsNumberOf};
 ghost use Rattle.per_core.specs.Took.{Took};
 ghost use Rattle.per_de.specs.State.{settings};
-ghost use Rattle.per_de.specs.Numbers.{OfEach, IsFit, AreSome};
-ghost use Rattle.per_de.specs.Faults.{Faulty, Misfit};
+ghost use Rattle.per_de.specs.Numbers.{OfEach, IsFit, Misfit, AreSome, IsOfNumber};
+ghost use Rattle.per_de.specs.Kinds.{Faulty, NoneIn};
 
 use crate::error::DecodeErrorKind;
-use crate::length::{take_bit, take_octets};
+use crate::items::take_octets;
+use crate::length::take_bit;
 use crate::whole::{ReadNumber, take_under_bounds};
 use per_bits::BitReader;
 use rasn_schema::constraints::{Bounded, Constraints, Extensible};
@@ -27,7 +27,7 @@ fn take_unbounded<I: IntegerType>(
     alloc: Global,
 ) -> Result<I, DecodeErrorKind>
     ensures ok { IfOk result (λ x. Took (IsNumberOf (settings codec) unbounded false I.range (I.number x)) bits.old bits.new) }
-    ensures err { IfErr result (Faulty (settings codec) bits.old ((z : ℤ) (t : Bits) → Took (IsNumberOf (settings codec) unbounded false I.range z) bits.old t → ⊥)) }
+    ensures err { IfErr result (Faulty (IsOfNumber (settings codec) unbounded false bits.old) (NoneIn (IsNumberOf (settings codec) unbounded false I.range) bits.old)) }
 {
     let octets = take_octets(bits, codec, alloc)?;
     if octets.is_empty() {
@@ -67,7 +67,7 @@ fn take_within<I: IntegerType>(
 ) -> Result<I, DecodeErrorKind>
     requires { AreSome (bounds_of bounds.now) }
     ensures ok { IfOk result (λ x. Took (IsNumberOf (settings codec) (bounds_of bounds.now) false I.range (I.number x)) bits.old bits.new) }
-    ensures err { IfErr result (Faulty (settings codec) bits.old ((z : ℤ) (t : Bits) → Took (IsNumberOf (settings codec) (bounds_of bounds.now) false I.range z) bits.old t → ⊥)) }
+    ensures err { IfErr result (Faulty (IsOfNumber (settings codec) (bounds_of bounds.now) false bits.old) (NoneIn (IsNumberOf (settings codec) (bounds_of bounds.now) false I.range) bits.old)) }
 {
     let (low, high) = bounds.start_and_end();
     let number = take_under_bounds(bits, codec, alloc, low, high)?;
@@ -82,7 +82,7 @@ fn take_root<I: IntegerType>(
     bounds: &Bounded<i128>,
 ) -> Result<I, DecodeErrorKind>
     ensures ok { IfOk result (λ x. Took (IsNumberOf (settings codec) (bounds_of bounds.now) false I.range (I.number x)) bits.old bits.new) }
-    ensures err { IfErr result (Faulty (settings codec) bits.old ((z : ℤ) (t : Bits) → Took (IsNumberOf (settings codec) (bounds_of bounds.now) false I.range z) bits.old t → ⊥)) }
+    ensures err { IfErr result (Faulty (IsOfNumber (settings codec) (bounds_of bounds.now) false bits.old) (NoneIn (IsNumberOf (settings codec) (bounds_of bounds.now) false I.range) bits.old)) }
 {
     match bounds.start_and_end() {
         (None, None) => take_unbounded(bits, codec, alloc),
@@ -99,7 +99,7 @@ fn take_constrained<I: IntegerType>(
     value: Extensible<Bounded<i128>>,
 ) -> Result<I, DecodeErrorKind>
     ensures ok { IfOk result (λ x. Took (IsNumberOf (settings codec) (bounds_of value.constraint) value.extensible I.range (I.number x)) bits.old bits.new) }
-    ensures err { IfErr result (Faulty (settings codec) bits.old ((z : ℤ) (t : Bits) → Took (IsNumberOf (settings codec) (bounds_of value.constraint) value.extensible I.range z) bits.old t → ⊥)) }
+    ensures err { IfErr result (Faulty (IsOfNumber (settings codec) (bounds_of value.constraint) value.extensible bits.old) (NoneIn (IsNumberOf (settings codec) (bounds_of value.constraint) value.extensible I.range) bits.old)) }
 {
     if !value.extensible {
         return take_root(bits, codec, alloc, &value.constraint);
@@ -118,7 +118,7 @@ pub fn take_integer<I: IntegerType>(
     constraints: &Constraints,
 ) -> Result<I, DecodeErrorKind>
     ensures ok { IfOk result (λ x. Took (IsNumberOf (settings codec) (bounds_in constraints.now.value) (is_marked constraints.now.value) I.range (I.number x)) bits.old bits.new) }
-    ensures err { IfErr result (Faulty (settings codec) bits.old ((z : ℤ) (t : Bits) → Took (IsNumberOf (settings codec) (bounds_in constraints.now.value) (is_marked constraints.now.value) I.range z) bits.old t → ⊥)) }
+    ensures err { IfErr result (Faulty (IsOfNumber (settings codec) (bounds_in constraints.now.value) (is_marked constraints.now.value) bits.old) (NoneIn (IsNumberOf (settings codec) (bounds_in constraints.now.value) (is_marked constraints.now.value) I.range) bits.old)) }
 {
     match constraints.value() {
         Some(value) => take_constrained(bits, codec, alloc, value),

@@ -1,17 +1,16 @@
 //! Whole numbers as their bounds have them written, before these bounds are asked (X.691 11.5, 11.7, 11.8, 13.2).
 
-ghost use Rattle.std.specs.Prelude.{◌≡◌, ℕ, ℤ, Some, None, IfOk, IfErr};
-ghost use Rattle.rasn_types.specs.Bits.{Bits};
+ghost use Rattle.std.specs.Prelude.{◌≡◌, Some, None, IfOk, IfErr};
 ghost use Rattle.rasn_types.specs.Octets.{signed};
 ghost use Rattle.rasn_constraints.specs.Bounds.{above};
 ghost use Rattle.per_core.specs.Took.{Took};
 ghost use Rattle.per_de.specs.State.{settings};
-ghost use Rattle.per_de.specs.Numbers.{OfRead, IsAbove, under_bounds};
-ghost use Rattle.per_de.specs.Faults.{Faulty};
+ghost use Rattle.per_de.specs.Numbers.{OfRead, IsAbove, IsOfForm, under_bounds};
+ghost use Rattle.per_de.specs.Kinds.{Faulty, NoneIn};
 
 use crate::bounded::take_bounded;
 use crate::error::DecodeErrorKind;
-use crate::length::take_octets;
+use crate::items::take_octets;
 use crate::natural::take_natural;
 use per_bits::BitReader;
 use rasn_types::integer::whole_of_octets;
@@ -66,7 +65,7 @@ fn take_whole(
     alloc: Global,
 ) -> Result<ReadNumber, DecodeErrorKind>
     ensures ok { IfOk result (λ r. OfRead (λ z. Took (under_bounds (settings codec) None None z) bits.old bits.new) r) }
-    ensures err { IfErr result (Faulty (settings codec) bits.old ((z : ℤ) (t : Bits) → Took (under_bounds (settings codec) None None z) bits.old t → ⊥)) }
+    ensures err { IfErr result (Faulty (IsOfForm (settings codec) None None bits.old) (NoneIn (under_bounds (settings codec) None None) bits.old)) }
 {
     let octets = take_octets(bits, codec, alloc)?;
     if octets.is_empty() {
@@ -83,7 +82,7 @@ fn take_from(
     low: i128,
 ) -> Result<ReadNumber, DecodeErrorKind>
     ensures ok { IfOk result (λ r. OfRead (λ z. Took (under_bounds (settings codec) (Some low) None z) bits.old bits.new) r) }
-    ensures err { IfErr result (Faulty (settings codec) bits.old ((z : ℤ) (t : Bits) → Took (under_bounds (settings codec) (Some low) None z) bits.old t → ⊥)) }
+    ensures err { IfErr result (Faulty (IsOfForm (settings codec) (Some low) None bits.old) (NoneIn (under_bounds (settings codec) (Some low) None) bits.old)) }
 {
     match take_natural(bits, codec, alloc)? {
         Some(offset) => Ok(number_above(low, offset)),
@@ -99,7 +98,7 @@ fn take_between(
     high: i128,
 ) -> Result<ReadNumber, DecodeErrorKind>
     ensures ok { IfOk result (λ r. OfRead (λ z. Took (under_bounds (settings codec) (Some low) (Some high) z) bits.old bits.new) r) }
-    ensures err { IfErr result (Faulty (settings codec) bits.old ((z : ℤ) (t : Bits) → Took (under_bounds (settings codec) (Some low) (Some high) z) bits.old t → ⊥)) }
+    ensures err { IfErr result (Faulty (IsOfForm (settings codec) (Some low) (Some high) bits.old) (NoneIn (under_bounds (settings codec) (Some low) (Some high)) bits.old)) }
 {
     let offset = take_bounded(bits, codec, distance(low, high))?;
     Ok(number_above(low, offset))
@@ -114,7 +113,7 @@ pub fn take_under_bounds(
     high: Option<i128>,
 ) -> Result<ReadNumber, DecodeErrorKind>
     ensures ok { IfOk result (λ r. OfRead (λ z. Took (under_bounds (settings codec) low high z) bits.old bits.new) r) }
-    ensures err { IfErr result (Faulty (settings codec) bits.old ((z : ℤ) (t : Bits) → Took (under_bounds (settings codec) low high z) bits.old t → ⊥)) }
+    ensures err { IfErr result (Faulty (IsOfForm (settings codec) low high bits.old) (NoneIn (under_bounds (settings codec) low high) bits.old)) }
 {
     match (low, high) {
         (None, _) => take_whole(bits, codec, alloc),

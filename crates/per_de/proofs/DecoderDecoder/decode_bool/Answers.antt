@@ -1,6 +1,6 @@
 use Rattle.std.proofs.Common.{inr, refl, ap, ◌∙◌}
 use Rattle.rasn_schema.specs.Schemas.{boolean}
-use Rattle.per_de.proofs.Calls.{refuses, tested_in_bits, reads_truth, no_truth}
+use Rattle.per_de.proofs.Calls.{refuses, reads_truth, no_truth}
 use Rattle.per_de.proofs.DecoderDecoder.decode_bool.Goals as goal
 
 pub returns-in-Ok-clause-law : goal.returns-in-Ok-clause-law
@@ -9,4 +9,4 @@ returns-in-Ok-clause-law c = rw (← c.self.view_is) (record { live = ap (λ z. 
 pub returns-in-Err-clause-law : goal.returns-in-Err-clause-law
 returns-in-Err-clause-law c =
     let h = c.in-Err.ensures.err in
-    rw (← c.self.view_is) (inr (refuses boolean _ c.in-Err.kind _ c.refuse.ensures.error (tested_in_bits _ c.in-Err.kind _ h.0) (no_truth _ _ h.1)))
+    rw (← c.self.view_is) (inr (refuses boolean _ c.in-Err.kind _ c.refuse.ensures.error h.0 (no_truth _ _ h.1)))

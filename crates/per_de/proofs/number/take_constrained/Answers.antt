@@ -2,7 +2,7 @@ use Rattle.std.proofs.Common.{◌∙◌, ap, ◌∷◌}
 use Rattle.std.proofs.lemmas.Result.{IfOk-weaker, IfErr-weaker}
 use Rattle.rasn_constraints.specs.Constraints.{bounds_of}
 use Rattle.per_de.specs.State.{settings}
-use Rattle.per_de.proofs.Marks.{faulty_behind, in_root, past_root, root_back, past_back}
+use Rattle.per_de.proofs.Marks.{in_root, past_root, faulty_root, faulty_past}
 use Rattle.per_de.proofs.number.take_constrained.Goals as goal
 
 pub returns-then-not-value-clause-err : goal.returns-then-not-value-clause-err
@@ -17,7 +17,7 @@ pub returns-then-branch-clause-err : goal.returns-then-branch-clause-err
 returns-then-branch-clause-err g c =
     let e = c.in_ok-take_bit.ensures.ok ∙ ap (λ z. z ∷ c.take_bit.new.bits) c.if-branch.true in
     rw c.if-not-value.false (IfErr-weaker c.take_unbounded.result _ _
-    (λ k. faulty_behind (settings c.args.codec) k _ e (λ none z t b. none z t (past_back (settings c.args.codec) (bounds_of c.args.value.constraint) g.I.IntegerType.range e z t b))) c.take_unbounded.ensures.err)
+    (λ k. faulty_past (settings c.args.codec) (bounds_of c.args.value.constraint) g.I.IntegerType.range k e) c.take_unbounded.ensures.err)
 
 pub returns-clause-ok : goal.returns-clause-ok
 returns-clause-ok g c =
@@ -28,4 +28,4 @@ pub returns-clause-err : goal.returns-clause-err
 returns-clause-err g c =
     let e = c.in_ok-take_bit.ensures.ok ∙ ap (λ z. z ∷ c.take_bit.new.bits) c.if-branch.false in
     rw c.if-not-value.false (IfErr-weaker c.take_root-2.result _ _
-    (λ k. faulty_behind (settings c.args.codec) k _ e (λ none z t b. none z t (root_back (settings c.args.codec) (bounds_of c.args.value.constraint) g.I.IntegerType.range e z t b))) c.take_root-2.ensures.err)
+    (λ k. faulty_root (settings c.args.codec) (bounds_of c.args.value.constraint) g.I.IntegerType.range k e) c.take_root-2.ensures.err)

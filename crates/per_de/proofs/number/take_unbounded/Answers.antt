@@ -4,20 +4,20 @@ use Rattle.std.proofs.lemmas.Bool.Decides.{nat_tests}
 use Rattle.rasn_types.specs.Octets.{signed}
 use Rattle.rasn_constraints.specs.Bounds.{holds}
 use Rattle.per_de.proofs.Rows.{no_more}
-use Rattle.per_de.proofs.Calls.{no_length_no_number, no_octets_no_number, out_of_range_no_number, no_octets, octets_number, stopped_faulty}
+use Rattle.per_de.proofs.Calls.{no_length_no_number, no_octets_no_number, out_of_range_no_number, none_there, octets_number, faulty_map, tested_number}
 use Rattle.per_de.proofs.number.take_unbounded.Goals as goal
 
 pub returns-in_err-octets-clause-err : goal.returns-in_err-octets-clause-err
 returns-in_err-octets-clause-err g c =
     let p = err_from_is_err_and c.from_residual.result c.from_residual.ensures.1 in
-    rw (p.1, p.2) (stopped_faulty _ _ _ (no_length_no_number _ _ _) c.in_err-octets.ensures.err)
+    rw (p.1, p.2) (faulty_map _ (tested_number _ _ _ _ _) (no_length_no_number _ _ _) c.in_err-octets.ensures.err)
 
 pub returns-then-is_empty-clause-err : goal.returns-then-is_empty-clause-err
 returns-then-is_empty-clause-err g c =
     let l : length c.in_ok-octets.octets.items ≡ 0 = grind (arith, nat_tests) in
     let e = no_more c.in_ok-octets.octets.items l in
     let b = c.in_ok-octets.ensures.ok in
-    inr (no_octets _ _ _ _ b e, no_octets_no_number _ _ _ _ _ b e)
+    inr (record { rest = _; took = none_there _ _ _ _ b e }, no_octets_no_number _ _ _ _ _ b e)
 
 pub returns-in-Some-clause-ok : goal.returns-in-Some-clause-ok
 returns-in-Some-clause-ok g c =

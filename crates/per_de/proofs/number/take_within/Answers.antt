@@ -2,14 +2,14 @@ use Rattle.std.proofs.lemmas.Result.{err_from_is_err_and, IfOk-weaker, IfErr-wea
 use Rattle.rasn_constraints.specs.Constraints.{bounds_of}
 use Rattle.per_de.specs.State.{settings}
 use Rattle.per_de.proofs.Calls.{faulty_map}
-use Rattle.per_de.proofs.Fits.{starts, ends, fit_number, misfit_faulty, no_number}
+use Rattle.per_de.proofs.Fits.{starts, ends, fit_number, misfit_faulty, no_number, form_number}
 use Rattle.per_de.proofs.number.take_within.Goals as goal
 
 pub returns-in_err-number-clause-err : goal.returns-in_err-number-clause-err
 returns-in_err-number-clause-err g c =
     let p = err_from_is_err_and c.from_residual.result c.from_residual.ensures.1 in
     let b = c.args.bounds.now in
-    rw (p.1, p.2) (faulty_map _ _ _ (no_number _ (bounds_of b) g.I.IntegerType.range _ (starts b c.start_and_end-low.ensures.start) (ends b c.start_and_end-low.ensures.end)) c.in_err-number.ensures.err)
+    rw (p.1, p.2) (faulty_map _ (form_number _ (bounds_of b) _ (starts b c.start_and_end-low.ensures.start) (ends b c.start_and_end-low.ensures.end) _) (no_number _ (bounds_of b) g.I.IntegerType.range _ (starts b c.start_and_end-low.ensures.start) (ends b c.start_and_end-low.ensures.end)) c.in_err-number.ensures.err)
 
 pub returns-clause-ok : goal.returns-clause-ok
 returns-clause-ok g c =

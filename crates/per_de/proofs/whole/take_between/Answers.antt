@@ -1,7 +1,7 @@
 use Rattle.std.proofs.lemmas.Result.{err_from_is_err_and}
 use Rattle.std.proofs.lemmas.Int.{to_z-of_z}
 use Rattle.per_de.specs.State.{settings}
-use Rattle.per_de.proofs.Calls.{refused_faulty}
+use Rattle.std.proofs.Common.{inr}
 use Rattle.per_de.proofs.Under.{between_took}
 use Rattle.per_de.proofs.whole.take_between.Goals as goal
 
@@ -11,4 +11,4 @@ returns-in_err-offset-clause-err c =
     let f = c.ranges.low in
     let g = c.ranges.high in
     let d = simp to_z-of_z at c.distance.ensures in
-    rw (p.1, p.2) (refused_faulty _ _ _ (λ none z t b. none _ t (between_took (settings c.args.codec) c.args.low c.args.high z d b)) c.in_err-offset.ensures.err)
+    rw (p.1, p.2) (inr (c.in_err-offset.ensures.err.0, λ z t b. c.in_err-offset.ensures.err.1 _ t (between_took (settings c.args.codec) c.args.low c.args.high z d b)))

@@ -2,18 +2,18 @@ use Rattle.std.proofs.Common.{◌≡◌, inr, arith, length}
 use Rattle.std.proofs.lemmas.Result.{err_from_is_err_and}
 use Rattle.std.proofs.lemmas.Bool.Decides.{nat_tests}
 use Rattle.per_de.proofs.Rows.{no_more}
-use Rattle.per_de.proofs.Calls.{no_octets, stopped_faulty}
+use Rattle.per_de.proofs.Calls.{none_there, faulty_map, tested_octets}
 use Rattle.per_de.proofs.Under.{no_length_no_whole, no_octets_no_whole}
 use Rattle.per_de.proofs.whole.take_whole.Goals as goal
 
 pub returns-in_err-octets-clause-err : goal.returns-in_err-octets-clause-err
 returns-in_err-octets-clause-err c =
     let p = err_from_is_err_and c.from_residual.result c.from_residual.ensures.1 in
-    rw (p.1, p.2) (stopped_faulty _ _ _ (no_length_no_whole _ _) c.in_err-octets.ensures.err)
+    rw (p.1, p.2) (faulty_map _ (tested_octets _ _ _) (no_length_no_whole _ _) c.in_err-octets.ensures.err)
 
 pub returns-then-is_empty-clause-err : goal.returns-then-is_empty-clause-err
 returns-then-is_empty-clause-err c =
     let l : length c.in_ok-octets.octets.items ≡ 0 = grind (arith, nat_tests) in
     let e = no_more c.in_ok-octets.octets.items l in
     let b = c.in_ok-octets.ensures.ok in
-    inr (no_octets _ _ _ _ b e, no_octets_no_whole _ _ _ _ b e)
+    inr ((_, none_there _ _ _ _ b e), no_octets_no_whole _ _ _ _ b e)
