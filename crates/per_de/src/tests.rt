@@ -13,6 +13,8 @@ use rasn_types::types::{Class, Identifier};
 use std::process::Abort;
 use std::test::Fail;
 
+mod strings;
+
 const ALIGNED: DecoderOptions = DecoderOptions {
     codec: Codec::Aper,
     levels: 128,
