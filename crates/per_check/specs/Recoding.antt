@@ -1,11 +1,11 @@
 -- From the octets of a value to the canonical octets of the same value.
-use Rattle.std.specs.Prelude.{ℕ, ◌≢◌, List, true, false, pos, negsuc}
+use Rattle.std.specs.Prelude.{ℕ, ◌≢◌, List, [], ◌∷◌, Some, true, false, pos, negsuc}
+use Rattle.rasn_types.specs.Alphabets.{visible, from_to}
 use Rattle.rasn_types.specs.Variants
 use Rattle.rasn_types.specs.Variants.{unaligned}
 use Rattle.rasn_types.specs.Values.{Value}
-use Rattle.rasn_constraints.specs.Bounds.{unbounded, between}
+use Rattle.rasn_constraints.specs.Bounds.{unbounded, between, Size, any_size}
 use Rattle.rasn_schema.specs.Schemas.{Schema, listed}
-use Rattle.rasn_constraints.specs.Ranges.{i128_range}
 use Rattle.rasn_schema.specs.Forms.{always}
 use Rattle.rasn_schema.specs.Records.{record_at, no_additions}
 use Rattle.per_samples_a.specs.Numbers.{at_least, at_most}
@@ -18,7 +18,7 @@ use Rattle.per_de.specs.declared.error.DecodeErrorKind.TheVariants as Decoding
 use Rattle.per_check.specs.declared.arguments.Variant.{Variant}
 use Rattle.per_check.specs.declared.arguments.Variant.TheVariants.{Uper}
 use Rattle.per_check.specs.declared.arguments.TypeName.{TypeName}
-use Rattle.per_check.specs.declared.arguments.TypeName.TheVariants.{Boolean, Null, Integer, UpTo65535, FromMinusOne, Natural, ZeroTo65536, OneToTenExtensible, Four, Seven}
+use Rattle.per_check.specs.declared.arguments.TypeName.TheVariants.{Boolean, Null, Integer, UpTo65535, FromMinusOne, Natural, ZeroTo65536, OneToTenExtensible, Four, Seven, ShortVisible, LettersAToE, BitString, OctetString, OnlyX}
 use Rattle.per_check.specs.declared.fault.Fault.{Fault}
 use Rattle.per_check.specs.declared.fault.Fault.TheVariants as Faults
 
@@ -26,19 +26,29 @@ use Rattle.per_check.specs.declared.fault.Fault.TheVariants as Faults
 abbrev pub rules_of : Variant → Variants.Variant
 rules_of Uper = unaligned
 
--- what the name of a type means: BOOLEAN (X.680 18); NULL (X.680 24); INTEGER (X.680 19) within 128 bits, alone and under value
--- constraints (X.680 51.4); and SEQUENCE (X.680 25) of required components
+-- X.680 51.5: from 1 to u characters
+abbrev pub one_to : ℕ → Size
+one_to u = record { least = Some 1; most = Some u }
+
+-- what the name of a type means: BOOLEAN (X.680 18); NULL (X.680 24); INTEGER (X.680 19), alone and under value constraints
+-- (X.680 51.4); SEQUENCE (X.680 25) of required components; BIT STRING (X.680 22); OCTET STRING (X.680 23); and character strings
+-- (X.680 41) by their characters
 abbrev pub schema_of : TypeName → ℕ → Schema
 schema_of Boolean = always Schema.boolean
 schema_of Null = always Schema.null
-schema_of Integer = always (Schema.number unbounded false i128_range)
-schema_of UpTo65535 = always (Schema.number (at_most (pos 65535)) false i128_range)
-schema_of FromMinusOne = always (Schema.number (at_least (negsuc 0)) false i128_range)
-schema_of Natural = always (Schema.number (at_least (pos 0)) false i128_range)
-schema_of ZeroTo65536 = always (Schema.number (between (pos 0) (pos 65536)) false i128_range)
-schema_of OneToTenExtensible = always (Schema.number (between (pos 1) (pos 10)) true i128_range)
+schema_of Integer = always (Schema.number unbounded false unbounded)
+schema_of UpTo65535 = always (Schema.number (at_most (pos 65535)) false unbounded)
+schema_of FromMinusOne = always (Schema.number (at_least (negsuc 0)) false unbounded)
+schema_of Natural = always (Schema.number (at_least (pos 0)) false unbounded)
+schema_of ZeroTo65536 = always (Schema.number (between (pos 0) (pos 65536)) false unbounded)
+schema_of OneToTenExtensible = always (Schema.number (between (pos 1) (pos 10)) true unbounded)
 schema_of Four = record_at listed four_parts false no_additions
 schema_of Seven = record_at listed seven_parts false no_additions
+schema_of ShortVisible = always (Schema.char_string visible (one_to 3) true)
+schema_of LettersAToE = always (Schema.char_string (from_to 5 65) (one_to 20) false)
+schema_of BitString = always (Schema.bit_string any_size false)
+schema_of OctetString = always (Schema.octet_string any_size false)
+schema_of OnlyX = always (Schema.char_string (120 ∷ []) any_size false)
 
 -- octets are read as one value, whose canonical octets these are
 pub record Recodes (rules : Variants.Variant) (schema : ℕ → Schema) (octets canonical : List ℕ) : Type 0 where

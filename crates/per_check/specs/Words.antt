@@ -3,7 +3,7 @@ use Rattle.std.specs.Prelude.{ℕ, List, [], ◌∷◌, codes}
 use Rattle.per_check.specs.declared.arguments.Variant.{Variant}
 use Rattle.per_check.specs.declared.arguments.Variant.TheVariants.{Uper}
 use Rattle.per_check.specs.declared.arguments.TypeName.{TypeName}
-use Rattle.per_check.specs.declared.arguments.TypeName.TheVariants.{Boolean, Null, Integer, UpTo65535, FromMinusOne, Natural, ZeroTo65536, OneToTenExtensible, Four, Seven}
+use Rattle.per_check.specs.declared.arguments.TypeName.TheVariants.{Boolean, Null, Integer, UpTo65535, FromMinusOne, Natural, ZeroTo65536, OneToTenExtensible, Four, Seven, ShortVisible, LettersAToE, BitString, OctetString, OnlyX}
 use Rattle.per_check.specs.declared.arguments.Arguments.{Arguments}
 
 abbrev pub variant_word : Variant → List ℕ
@@ -20,6 +20,11 @@ type_word ZeroTo65536 = codes "i65536"
 type_word OneToTenExtensible = codes "iext"
 type_word Four = codes "four"
 type_word Seven = codes "seven"
+type_word ShortVisible = codes "vis"
+type_word LettersAToE = codes "five"
+type_word BitString = codes "bits"
+type_word OctetString = codes "octets"
+type_word OnlyX = codes "onlyx"
 
 -- a variant and a type
 abbrev pub words_of : Arguments → List (List ℕ)

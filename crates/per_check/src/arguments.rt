@@ -20,22 +20,32 @@ pub enum TypeName {
     Boolean,
     /// NULL.
     Null,
-    /// INTEGER without constraints, within 128 bits.
+    /// INTEGER.
     Integer,
-    /// INTEGER (..65535), within 128 bits.
+    /// INTEGER (..65535).
     UpTo65535,
-    /// INTEGER (-1..), within 128 bits.
+    /// INTEGER (-1..).
     FromMinusOne,
-    /// INTEGER (0..), within 128 bits.
+    /// INTEGER (0..).
     Natural,
     /// INTEGER (0..65536).
     ZeroTo65536,
-    /// INTEGER (1..10, ...), within 128 bits.
+    /// INTEGER (1..10, ...).
     OneToTenExtensible,
-    /// SEQUENCE { a BOOLEAN, b INTEGER, c BOOLEAN, d INTEGER (-10..400) }, its numbers within 128 bits.
+    /// SEQUENCE { a BOOLEAN, b INTEGER, c BOOLEAN, d INTEGER (-10..400) }.
     Four,
     /// SEQUENCE { a INTEGER (7..7) }.
     Seven,
+    /// VisibleString (SIZE (1..3, ...)).
+    ShortVisible,
+    /// VisibleString (FROM ("A".."E")) (SIZE (1..20)).
+    LettersAToE,
+    /// BIT STRING.
+    BitString,
+    /// OCTET STRING.
+    OctetString,
+    /// IA5String (FROM ("x")).
+    OnlyX,
 }
 
 /// What the program is asked to do.
@@ -77,6 +87,11 @@ impl TypeName {
             "iext" => Some(TypeName::OneToTenExtensible),
             "four" => Some(TypeName::Four),
             "seven" => Some(TypeName::Seven),
+            "vis" => Some(TypeName::ShortVisible),
+            "five" => Some(TypeName::LettersAToE),
+            "bits" => Some(TypeName::BitString),
+            "octets" => Some(TypeName::OctetString),
+            "onlyx" => Some(TypeName::OnlyX),
             _ => None,
         }
     }

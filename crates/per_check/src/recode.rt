@@ -10,11 +10,16 @@ use per_samples_a::bounded::{OneToTenExtensible, ZeroTo65536};
 use per_samples_a::four::Four;
 use per_samples_a::half_bounded::{FromMinusOne, Natural, UpTo65535};
 use per_samples_a::seven::Seven;
+use per_samples_a::strings::{LettersAToE, OnlyX, ShortVisible};
 use rasn_per::uper;
 use rasn_schema::codec::{Decode, Encode};
+use rasn_types::big::Integer;
+use rasn_types::bit_string::BitString;
+use rasn_types::octet_strings::OctetString;
 use std::alloc::Global;
 
 /// The canonical octets of the value that octets spell, of the type and in the variant that the arguments name.
+#[tactic(auto, unfolding(rasn_types::specs::Alphabets::row))]
 pub fn recoded(alloc: Global, arguments: Arguments, octets: &[u8]) -> Result<Vec<u8>, Fault>
     ensures ok { IfOk result (λ canonical. Recodes (rules_of arguments.variant) (schema_of arguments.type_name) octets.now canonical.items) }
     ensures err { IfErr result (λ f. IsRefusal (rules_of arguments.variant) (schema_of arguments.type_name) octets.now f) }
@@ -23,7 +28,7 @@ pub fn recoded(alloc: Global, arguments: Arguments, octets: &[u8]) -> Result<Vec
         Variant::Uper => match arguments.type_name {
             TypeName::Boolean => recoded_as::<bool>(alloc, octets),
             TypeName::Null => recoded_as::<()>(alloc, octets),
-            TypeName::Integer => recoded_as::<i128>(alloc, octets),
+            TypeName::Integer => recoded_as::<Integer>(alloc, octets),
             TypeName::UpTo65535 => recoded_as::<UpTo65535>(alloc, octets),
             TypeName::FromMinusOne => recoded_as::<FromMinusOne>(alloc, octets),
             TypeName::Natural => recoded_as::<Natural>(alloc, octets),
@@ -31,6 +36,11 @@ pub fn recoded(alloc: Global, arguments: Arguments, octets: &[u8]) -> Result<Vec
             TypeName::OneToTenExtensible => recoded_as::<OneToTenExtensible>(alloc, octets),
             TypeName::Four => recoded_as::<Four>(alloc, octets),
             TypeName::Seven => recoded_as::<Seven>(alloc, octets),
+            TypeName::ShortVisible => recoded_as::<ShortVisible>(alloc, octets),
+            TypeName::LettersAToE => recoded_as::<LettersAToE>(alloc, octets),
+            TypeName::BitString => recoded_as::<BitString>(alloc, octets),
+            TypeName::OctetString => recoded_as::<OctetString>(alloc, octets),
+            TypeName::OnlyX => recoded_as::<OnlyX>(alloc, octets),
         },
     }
 }

@@ -9,10 +9,10 @@ use Rattle.rasn_types.specs.Variants.{Variant, aligned, unaligned}
 use Rattle.rasn_types.proofs.Bits.{width_is, width_holds, length-to_bits}
 use Rattle.rasn_types.proofs.Octets.{unpack-pack, length-pack, octets-pack}
 use Rattle.per_core.specs.Writers.{just, ◌▹◌, padding, written_if, in_a_row}
-use Rattle.per_core.specs.Counts.{bounded, counted_octets, determinant, octet_writers}
+use Rattle.per_core.specs.Counts.{bounded, counted_octets, determinant, octet_items, octet_writers}
 use Rattle.per_enc.specs.State.{Appends}
 use Rattle.per_enc.proofs.Writing.{then_same, appends_then, appends_same, appends_bits}
-use Rattle.per_enc.proofs.Fragments.{unsized-few, octets_in_a_row}
+use Rattle.per_enc.proofs.Fragments.{rows_of_few, in_their_rows, octets_in_a_row, length-octet_writers}
 
 -- X.691 11.5.6: the width of the numbers from 0 to m is the length of m
 pub width_of_last : (m : ℕ) → m < 2 ^ 128 → 128 - count_leading_zeros 128 m ≡ width (m + 1)
@@ -97,13 +97,12 @@ are_octets (o ∷ os) h zero = h.0
 are_octets (o ∷ os) h (suc k) = are_octets os h.1 k
 
 -- X.691 11.7: the fewest octets without sign behind their count
-pub appends_natural : (a : Variant) (x y z w : Bits) (o k : ℕ) → k ≡ octets_of_natural o → k ≤ 16 →
-    Appends x (padding a) y → Appends y (just (determinant k)) z → w ≡ z ++ to_bits (8 * k) o → Appends x (counted_octets a (natural_bits o)) w
+pub appends_natural : (a : Variant) (x y z : Bits) (o k : ℕ) → k ≡ octets_of_natural o → k ≤ 16 →
+    Appends x (padding a ▹ just (determinant k)) y → z ≡ y ++ to_bits (8 * k) o → Appends x (counted_octets a (natural_bits o)) z
 unfolding natural_bits counted_octets
-appends_natural a x y z w o k e l p d t =
-    appends_same x w (padding a ▹ just (determinant k) ▹ just (to_bits (8 * k) o)) (counted_octets a (natural_bits o)) same
-    (appends_then x y w (padding a) (just (determinant k) ▹ just (to_bits (8 * k) o)) p
-    (appends_then y z w (just (determinant k)) (just (to_bits (8 * k) o)) d (appends_bits z w _ t)))
+appends_natural a x y z o k e l p t =
+    appends_same x z ((padding a ▹ just (determinant k)) ▹ just (to_bits (8 * k) o)) (counted_octets a (natural_bits o)) same
+    (appends_then x y z (padding a ▹ just (determinant k)) (just (to_bits (8 * k) o)) p (appends_bits y z _ t))
   where
     octets : List ℕ
     octets = pack (length (natural_bits o) / 8) (natural_bits o)
@@ -111,8 +110,8 @@ appends_natural a x y z w o k e l p d t =
     wide : length (natural_bits o) ≡ 8 * k
     wide = length-to_bits (8 * octets_of_natural o) o ∙ ap (λ (n : ℕ). 8 * n) (sym e)
 
-    counted : length octets ≡ k
-    counted = length-pack (length (natural_bits o) / 8) (natural_bits o) ∙ omega (arith, wide)
+    counted : length (octet_writers octets) ≡ k
+    counted = length-octet_writers octets ∙ length-pack (length (natural_bits o) / 8) (natural_bits o) ∙ omega (arith, wide)
 
     bits : unpack octets ≡ to_bits (8 * k) o
     bits = unpack-pack (length (natural_bits o) / 8) (natural_bits o) (omega (arith, wide)) ∙ ap (λ (n : ℕ). to_bits (8 * n) o) (sym e)
@@ -120,7 +119,8 @@ appends_natural a x y z w o k e l p d t =
     in_row : (q : ℕ) → just (to_bits (8 * k) o) q ≡ in_a_row (octet_writers octets) q
     in_row q = ap Some (sym bits) ∙ sym (octets_in_a_row octets (are_octets octets (octets-pack (length (natural_bits o) / 8) (natural_bits o))) q)
 
-    same : (q : ℕ) → (padding a ▹ just (determinant k) ▹ just (to_bits (8 * k) o)) q ≡ counted_octets a (natural_bits o) q
-    same q = then_same (padding a) (padding a) (just (determinant k) ▹ just (to_bits (8 * k) o)) (just (determinant (length octets)) ▹ in_a_row (octet_writers octets)) (λ r. refl)
-        (then_same (just (determinant k)) (just (determinant (length octets))) (just (to_bits (8 * k) o)) (in_a_row (octet_writers octets)) (λ r. ap (λ (n : ℕ). Some (determinant n)) (sym counted)) in_row) q
-        ∙ sym (unsized-few a octets (omega (arith, counted)) q)
+    same : (q : ℕ) → ((padding a ▹ just (determinant k)) ▹ just (to_bits (8 * k) o)) q ≡ counted_octets a (natural_bits o) q
+    same q = then_same (padding a ▹ just (determinant k)) (padding a ▹ just (determinant (length (octet_writers octets)))) (just (to_bits (8 * k) o)) (in_a_row (octet_writers octets))
+        (λ r. ap (λ (n : ℕ). (padding a ▹ just (determinant n)) r) (sym counted)) in_row q
+        ∙ sym (rows_of_few a (octet_writers octets) (omega (arith, counted)) q)
+        ∙ in_their_rows a octet_items (octet_writers octets) (omega (arith, counted)) q

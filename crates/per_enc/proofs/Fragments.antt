@@ -1,16 +1,18 @@
--- Octets behind an unconstrained length, fragment by fragment.
-use Rattle.std.proofs.Common.{◌≡◌, refl, sym, ap, ◌∙◌, ℕ, zero, suc, ◌+◌, ◌-◌, ◌*◌, ◌/◌, ◌%◌, ◌^◌, ◌<◌, ◌≤◌, Bool, true, false, cond, min, ltb, lt-ltb, List, [], ◌∷◌, ◌++◌, length, take, drop, replicate, arith, Option, Some, length-take, length-drop, append_assoc, get_or, pow_pos}
+-- Items behind an unconstrained length, fragment by fragment.
+use Rattle.std.proofs.Common.{◌≡◌, refl, sym, ap, ◌∙◌, ℕ, zero, suc, ◌+◌, ◌-◌, ◌*◌, ◌/◌, ◌%◌, ◌^◌, ◌<◌, ◌≤◌, Bool, true, false, cond, min, ltb, lt-ltb, List, [], ◌∷◌, ◌++◌, length, take, drop, replicate, arith, Some, length-take, length-drop, append_assoc, get_or, pow_pos}
 use Rattle.std.proofs.lemmas.Bool.{le-ltb, lt-leb}
+use Rattle.std.specs.Prelude.{slice_range}
 use Rattle.std.proofs.lemmas.List.{take-map, drop-map}
 use Rattle.std.proofs.Math.Nat.{zero-mod}
 use Rattle.std.proofs.Math.Seq.{take-length}
 use Rattle.rasn_types.specs.Bits.{Bits, to_bits, unpack}
 use Rattle.rasn_types.specs.Variants.{Variant, aligned}
 use Rattle.per_core.specs.Writers.{Writer, just, ◌▹◌, pad, join, go_on, after, in_a_row, padding, written_if}
-use Rattle.per_core.specs.Counts.{rows, unless_zero, in_rows, determinant, octet_writers, octets_unsized}
+use Rattle.per_core.specs.Counts.{rows, unless_zero, in_rows, determinant, octet_writers, Counted, counted_in}
+use Rattle.rasn_constraints.specs.Bounds.{any_size}
 use Rattle.per_enc.specs.Rows.{row}
 use Rattle.per_enc.specs.State.{Appends}
-use Rattle.per_enc.proofs.Writing.{then_same, then_assoc, then_nothing, behind, appends_then, appends_same, appends_bits}
+use Rattle.per_enc.proofs.Writing.{then_assoc, then_nothing}
 
 unless_zero-some : (m : ℕ) → 0 < m → unless_zero m ≡ m ∷ []
 unless_zero-some zero h = absurd (omega arith)
@@ -53,7 +55,7 @@ rows-many n h = go (n / 65536) refl
         ∙ ap (λ (m : ℕ). first_fragment n ∷ m ∷ []) r
         ∙ ap (λ (m : List ℕ). first_fragment n ∷ m) (sym (rows-few (n - first_fragment n) l))
 
-length-octet_writers : (os : List ℕ) → length (octet_writers os) ≡ length os
+pub length-octet_writers : (os : List ℕ) → length (octet_writers os) ≡ length os
 length-octet_writers [] = refl
 length-octet_writers (o ∷ os) = ap suc (length-octet_writers os)
 
@@ -64,43 +66,31 @@ octets_in_a_row (o ∷ os) h p =
     ap (λ (b : Bool). go_on (written_if b (just (to_bits 8 o)) p) (in_a_row (octet_writers os)) p) (lt-ltb o 256 (h 0))
     ∙ ap (join (to_bits 8 o)) (octets_in_a_row os (λ k. h (suc k)) (after p (to_bits 8 o)))
 
--- as many octets as a value may have are written in rows
-in_their_rows : (a : Variant) (os : List ℕ) → length os < 2 ^ 64 → (p : ℕ) → octets_unsized a os p ≡ in_rows a (rows (length os)) (octet_writers os) p
-in_their_rows a os l p =
-    ap (λ (b : Bool). written_if b (in_rows a (rows (length (octet_writers os))) (octet_writers os)) p) (lt-ltb (length (octet_writers os)) (2 ^ 64) (rw (length-octet_writers os) l))
-    ∙ ap (λ (n : ℕ). in_rows a (rows n) (octet_writers os) p) (length-octet_writers os)
+-- as many items as may be counted are written in rows
+pub in_their_rows : (a : Variant) (kind : Counted) (ws : List Writer) → length ws < 2 ^ 64 → (p : ℕ) → in_rows a (rows (length ws)) ws p ≡ counted_in a any_size kind ws p
+in_their_rows a kind ws l p = ap (λ (b : Bool). written_if b (in_rows a (rows (length ws)) ws) p) (sym (lt-ltb (length ws) (2 ^ 64) l))
 
--- many octets are a fragment and the rest
-pub unsized-many : (a : Variant) (os : List ℕ) → 16384 ≤ length os → length os < 2 ^ 64 → (p : ℕ) →
-    octets_unsized a os p ≡ (row a (take (first_fragment (length os)) os) ▹ octets_unsized a (drop (first_fragment (length os)) os)) p
-unsized-many a os h l p = go (first_fragment (length os)) refl
-  where
-    go : (m : ℕ) → m ≡ first_fragment (length os) → octets_unsized a os p ≡ (row a (take m os) ▹ octets_unsized a (drop m os)) p
-    go m e =
-        let d : length (drop m os) ≡ length os - m = length-drop m os in
-        let t : length (take m os) ≡ m = length-take m os ∙ omega (arith, e) in
-        let r : rows (length os) ≡ m ∷ rows (length (drop m os)) = rows-many (length os) h ∙ rw (← e, d) refl in
-        in_their_rows a os l p
-        ∙ ap (λ (ms : List ℕ). in_rows a ms (octet_writers os) p) r
-        ∙ ap (λ (ws : List Writer). (padding a ▹ just (determinant m) ▹ in_a_row ws ▹ in_rows a (rows (length (drop m os))) (drop m (octet_writers os))) p) (take-map _ m os)
-        ∙ ap (λ (ws : List Writer). (padding a ▹ just (determinant m) ▹ in_a_row (octet_writers (take m os)) ▹ in_rows a (rows (length (drop m os))) ws) p) (drop-map _ m os)
-        ∙ ap (λ (n : ℕ). (padding a ▹ just (determinant n) ▹ in_a_row (octet_writers (take m os)) ▹ in_rows a (rows (length (drop m os))) (octet_writers (drop m os))) p) (sym t)
-        ∙ then_same (padding a) (padding a) (just (determinant (length (take m os))) ▹ in_a_row (octet_writers (take m os)) ▹ in_rows a (rows (length (drop m os))) (octet_writers (drop m os))) ((just (determinant (length (take m os))) ▹ in_a_row (octet_writers (take m os))) ▹ octets_unsized a (drop m os)) (λ q. refl)
-        (λ q. then_assoc (just (determinant (length (take m os)))) (in_a_row (octet_writers (take m os))) (in_rows a (rows (length (drop m os))) (octet_writers (drop m os))) q
-        ∙ then_same (just (determinant (length (take m os))) ▹ in_a_row (octet_writers (take m os))) (just (determinant (length (take m os))) ▹ in_a_row (octet_writers (take m os))) (in_rows a (rows (length (drop m os))) (octet_writers (drop m os))) (octets_unsized a (drop m os)) (λ r. refl) (λ r. sym (in_their_rows a (drop m os) (omega (arith, d)) r)) q) p
-        ∙ then_assoc (padding a) (just (determinant (length (take m os))) ▹ in_a_row (octet_writers (take m os))) (octets_unsized a (drop m os)) p
+-- many items are a fragment and the rest
+pub rows_of_many : (a : Variant) (ws : List Writer) (m : ℕ) → 16384 ≤ length ws → m ≡ first_fragment (length ws) → (p : ℕ) →
+    in_rows a (rows (length ws)) ws p ≡ (row a (take m ws) ▹ in_rows a (rows (length (drop m ws))) (drop m ws)) p
+rows_of_many a ws m h e p =
+    let d : length (drop m ws) ≡ length ws - m = length-drop m ws in
+    let t : length (take m ws) ≡ m = length-take m ws ∙ omega (arith, e) in
+    let r : rows (length ws) ≡ m ∷ rows (length (drop m ws)) = rows-many (length ws) h ∙ rw (← e, d) refl in
+    let rest : Writer = in_rows a (rows (length (drop m ws))) (drop m ws) in
+    ap (λ (ms : List ℕ). in_rows a ms ws p) r
+    ∙ ap (λ (n : ℕ). (padding a ▹ just (determinant n) ▹ in_a_row (take m ws) ▹ rest) p) (sym t)
+    ∙ then_assoc (padding a) (just (determinant (length (take m ws)))) (in_a_row (take m ws) ▹ rest) p
+    ∙ then_assoc (padding a ▹ just (determinant (length (take m ws)))) (in_a_row (take m ws)) rest p
 
--- few octets are one row
-pub unsized-few : (a : Variant) (os : List ℕ) → length os < 16384 → (p : ℕ) → octets_unsized a os p ≡ row a os p
-unsized-few a os h p =
-    in_their_rows a os (omega arith) p
-    ∙ ap (λ (ms : List ℕ). in_rows a ms (octet_writers os) p) (rows-few (length os) h)
-    ∙ ap (λ (ws : List Writer). (padding a ▹ just (determinant (length os)) ▹ in_a_row ws ▹ just []) p) (whole (length os) os refl)
-    ∙ then_same (padding a) (padding a) (just (determinant (length os)) ▹ in_a_row (octet_writers os) ▹ just []) (just (determinant (length os)) ▹ in_a_row (octet_writers os)) (λ q. refl)
-    (then_same (just (determinant (length os))) (just (determinant (length os))) (in_a_row (octet_writers os) ▹ just []) (in_a_row (octet_writers os)) (λ q. refl) (then_nothing (in_a_row (octet_writers os)))) p
-  where
-    whole : (n : ℕ) (os : List ℕ) → n ≡ length os → take n (octet_writers os) ≡ octet_writers os
-    whole n os e = take-map _ n os ∙ ap octet_writers (ap (λ (k : ℕ). take k os) e ∙ take-length os)
+-- few items are one row
+pub rows_of_few : (a : Variant) (ws : List Writer) → length ws < 16384 → (p : ℕ) → in_rows a (rows (length ws)) ws p ≡ row a ws p
+rows_of_few a ws h p =
+    ap (λ (ms : List ℕ). in_rows a ms ws p) (rows-few (length ws) h)
+    ∙ ap (λ (vs : List Writer). (padding a ▹ just (determinant (length ws)) ▹ in_a_row vs ▹ just []) p) (take-length ws)
+    ∙ then_assoc (padding a) (just (determinant (length ws))) (in_a_row ws ▹ just []) p
+    ∙ then_assoc (padding a ▹ just (determinant (length ws))) (in_a_row ws) (just []) p
+    ∙ then_nothing (row a ws) p
 
 -- X.691 11.9.3.6: the count of few items in an octet
 pub appends_short : (x y : Bits) (n : ℕ) → n < 128 → y ≡ x ++ to_bits 8 n → Appends x (just (determinant n)) y
@@ -134,27 +124,6 @@ appends_padding a x y n v l e =
     zeros zero = refl
     zeros (suc w) = rw (zero-mod (2 ^ suc w), zeros w) (ap (λ (b : Bool). b ∷ replicate w false) (lt-leb (2 ^ w) 0 (pow_pos w)))
 
--- octets behind one length
-pub appends_row : (a : Variant) (x y z w : Bits) (os : List ℕ) → ((k : ℕ) → get_or os k 0 < 256) →
-    Appends x (padding a) y → Appends y (just (determinant (length os))) z → w ≡ z ++ unpack os → Appends x (row a os) w
-appends_row a x y z w os h p d e =
-    appends_then x y w (padding a) (just (determinant (length os)) ▹ in_a_row (octet_writers os)) p
-    (appends_then y z w (just (determinant (length os))) (in_a_row (octet_writers os)) d
-    (appends_same z w (just (unpack os)) (in_a_row (octet_writers os)) (λ q. sym (octets_in_a_row os h q)) (appends_bits z w (unpack os) e)))
-
--- what is left to write, when the first fragment of it has been written
-pub fragment_written : (a : Variant) (x y : Bits) (os these others : List ℕ) (m : ℕ) (all : Option Bits) → 16384 ≤ length os → length os < 2 ^ 64 →
-    m ≡ first_fragment (length os) → these ≡ take m os → others ≡ drop m os → Appends x (row a these) y →
-    (just x ▹ octets_unsized a os) 0 ≡ all → (just y ▹ octets_unsized a others) 0 ≡ all
-fragment_written a x y os these others m all h l e f g w k =
-    behind x y (row a these) (octets_unsized a others) w
-    ∙ ap (λ (t : List ℕ). (just x ▹ row a t ▹ octets_unsized a others) 0) f
-    ∙ ap (λ (t : List ℕ). (just x ▹ row a (take m os) ▹ octets_unsized a t) 0) g
-    ∙ ap (λ (n : ℕ). (just x ▹ row a (take n os) ▹ octets_unsized a (drop n os)) 0) e
-    ∙ ap (join x) (sym (unsized-many a os h l (after 0 x)))
-    ∙ k
-
--- the last row ends it
-pub last_written : (a : Variant) (x y z : Bits) (os all : List ℕ) → length os < 16384 → (just y ▹ octets_unsized a os) 0 ≡ (just x ▹ octets_unsized a all) 0 →
-    Appends y (row a os) z → Appends x (octets_unsized a all) z
-last_written a x y z os all h k w = w ∙ ap (join y) (sym (unsized-few a os h (after 0 y))) ∙ k
+-- the octets between two places
+pub octets_between : (os : List ℕ) (start end : ℕ) → octet_writers (slice_range os start end) ≡ slice_range (octet_writers os) start end
+octets_between os start end = sym (ap (take (end - start)) (drop-map _ start os) ∙ take-map _ (end - start) (drop start os))

@@ -1,13 +1,15 @@
 -- What the calls of an encoder present.
 use Rattle.std.specs.Prelude.{OnOk, OnErr, IfErr, Result, Ok, Err, Bool}
-use Rattle.std.proofs.Common.{◌≡◌, refl, sym, ap, ◌∙◌, subst, true, false, [], ◌∷◌, Some, append-nil, inl, inr, None, Option}
+use Rattle.std.proofs.Common.{◌≡◌, refl, sym, ap, ◌∙◌, subst, true, false, ℕ, List, [], ◌∷◌, Some, append-nil, inl, inr, None, Option}
 use Rattle.rasn_types.specs.Bits.{Bits}
 use Rattle.rasn_types.specs.Codecs.{variant_of}
-use Rattle.rasn_types.specs.Values.{Value, truth, nothing}
+use Rattle.rasn_types.specs.Values.{Value, truth, nothing, octets}
+use Rattle.rasn_types.specs.Contents.{is_text, other, TextKind}
 use Rattle.rasn_types.specs.Variants.{Variant}
 use Rattle.rasn_schema.specs.Schemas.{Schema}
 use Rattle.rasn_schema.specs.Calls.{Writes, takes_none}
-use Rattle.per_core.specs.Writers.{Writer, join, just, ◌▹◌}
+use Rattle.per_core.specs.Counts.{octets_unsized}
+use Rattle.per_core.specs.Writers.{Writer, join, just, written_if, ◌▹◌}
 use Rattle.per_core.specs.Canon.{canon}
 use Rattle.per_enc.specs.declared.error.EncodeError.{EncodeError}
 use Rattle.per_enc.specs.Faults.{IsMemory, IsAlready, RefusesValue, Stands}
@@ -31,6 +33,32 @@ refuses_again e x s v h f = record {
 pub boolean_bits : (a : Variant) (b : Bool) → just (b ∷ []) ≡ canon a Schema.boolean (truth b)
 unfolding canon
 boolean_bits a b = refl
+
+-- X.691 11.2: octets of a type that isn't known
+any_bits : (a : Variant) (os : List ℕ) → octets_unsized a os ≡ canon a Schema.any (octets os)
+unfolding canon
+any_bits a os = refl
+
+pub any_law : (x y : State) (taken os : List ℕ) (result : Result (Unit {0}) EncodeError) → taken ≡ os →
+    OnOk result (Wrote x (octets_unsized (variant_of x.codec) taken) y) → IfErr result (λ e. IsMemory e x) → Writes IsMemory Presents RefusesValue Schema.any (octets os) x result y
+any_law x y taken os result t w k =
+    writes x y (octets_unsized (variant_of x.codec) taken) Schema.any (octets os) result (ap (octets_unsized (variant_of x.codec)) t ∙ any_bits (variant_of x.codec) os) w k
+
+-- X.691 30.6: octets of a text
+text_bits : (a : Variant) (kind : TextKind) (os : List ℕ) → is_text kind os ≡ true → octets_unsized a os ≡ canon a (Schema.text kind) (octets os)
+unfolding canon
+text_bits a kind os h = ap (λ (b : Bool). written_if b (octets_unsized a os)) (sym h)
+
+pub text_law : (x y : State) (kind : TextKind) (taken os : List ℕ) (result : Result (Unit {0}) EncodeError) → taken ≡ os → is_text kind os ≡ true →
+    OnOk result (Wrote x (octets_unsized (variant_of x.codec) taken) y) → IfErr result (λ e. IsMemory e x) → Writes IsMemory Presents RefusesValue (Schema.text kind) (octets os) x result y
+text_law x y kind taken os result t h w k =
+    writes x y (octets_unsized (variant_of x.codec) taken) (Schema.text kind) (octets os) result (ap (octets_unsized (variant_of x.codec)) t ∙ text_bits (variant_of x.codec) kind os h) w k
+
+-- any octets are a text of the other kinds
+pub other_law : (x y : State) (taken os : List ℕ) (result : Result (Unit {0}) EncodeError) → taken ≡ os →
+    OnOk result (Wrote x (octets_unsized (variant_of x.codec) taken) y) → IfErr result (λ e. IsMemory e x) → Writes IsMemory Presents RefusesValue (Schema.text other) (octets os) x result y
+unfolding is_text
+other_law x y taken os result t w k = text_law x y other taken os result t refl w k
 
 -- X.691 18: a NULL is no bits
 pub presents_null : (x : State) → x.failed ≡ false → Presents x Schema.null nothing x

@@ -19,7 +19,7 @@ use Rattle.per_enc.specs.declared.error.EncodeErrorKind.TheVariants.{SizeConstra
 use Rattle.per_enc.specs.declared.Scope.{Scope}
 use Rattle.per_enc.specs.Faults.{HasPart, part_here, part_behind, in_part, IsMemory, RefusesValue, Stands}
 use Rattle.per_enc.specs.State.{State, Wrote, Presents, Opens}
-use Rattle.per_enc.proofs.Writing.{then_nothing, wrote_then}
+use Rattle.per_enc.proofs.Writing.{none_behind, then_nothing, wrote_then}
 
 join_nothing : (o : Option Bits) → join [] o ≡ o
 join_nothing None = refl
@@ -62,11 +62,6 @@ wrote_bodies (part t q s ps) x y (r ∷ rs) f (presents_next {m = m} (presents_r
 wrote_bodies no_parts x y (r ∷ rs) f k = elim k [ ]
 wrote_bodies (part t q s ps) x y [] f k = elim k [ ]
 
--- no encoding behind anything
-none_behind : (o : Option Bits) (g : Writer) (p : ℕ) → ((q : ℕ) → g q ≡ None) → go_on o g p ≡ None
-none_behind None g p h = refl
-none_behind (Some b) g p h = ap (join b) (h (after p b))
-
 -- a component that is refused, and what the encoder was before it
 record RefusedPart (e : EncodeError) (x : State) (ps : Parts) (rs : List (Option Value)) : Type 0 where
   s : Schema
@@ -102,8 +97,8 @@ stands_in_part : (kind : EncodeErrorKind) (x m : State) (s : Schema) (v : Value)
 stands_in_part (ValueConstraintNotSatisfied value lower upper) x m s v ps rs f h k = in_part h k
 stands_in_part IntegerTypeConversionFailed x m s v ps rs f h k = in_part h k
 stands_in_part AlreadyFailed x m s v ps rs f h k = absurd cc
-stands_in_part (SizeConstraintNotSatisfied length lower upper) x m s v ps rs f h k = absurd k
-stands_in_part AlphabetConstraintNotSatisfied x m s v ps rs f h k = absurd k
+stands_in_part (SizeConstraintNotSatisfied length lower upper) x m s v ps rs f h k = in_part h k
+stands_in_part AlphabetConstraintNotSatisfied x m s v ps rs f h k = in_part h k
 stands_in_part VariantNotInChoice x m s v ps rs f h k = absurd k
 stands_in_part RealNotSupported x m s v ps rs f h k = absurd k
 stands_in_part TooManyAdditions x m s v ps rs f h k = absurd k

@@ -1,8 +1,8 @@
 -- Writers one after another, and what they write behind some bits.
-use Rattle.std.proofs.Common.{◌≡◌, refl, sym, ap, ◌∙◌, ℕ, [], ◌++◌, Some, None, Option, arith, append_assoc, append-nil, length-append}
+use Rattle.std.proofs.Common.{◌≡◌, refl, sym, ap, ◌∙◌, ℕ, false, [], ◌++◌, Some, None, Option, arith, append_assoc, append-nil, length-append}
 use Rattle.rasn_types.specs.Bits.{Bits}
 use Rattle.per_core.specs.Writers.{Writer, just, join, go_on, after, ◌▹◌}
-use Rattle.per_enc.specs.State.{Appends, State, Wrote, view}
+use Rattle.per_enc.specs.State.{Appends, MayBegin, State, Wrote, view}
 
 join_join : (x y : Bits) (o : Option Bits) → join x (join y o) ≡ join (x ++ y) o
 join_join x y None = refl
@@ -37,6 +37,11 @@ then_nothing g p = go (g p)
     go None = refl
     go (Some b) = ap Some (append-nil b)
 
+-- no encoding behind anything
+pub none_behind : (o : Option Bits) (g : Writer) (p : ℕ) → ((q : ℕ) → g q ≡ None) → go_on o g p ≡ None
+none_behind None g p h = refl
+none_behind (Some b) g p h = ap (join b) (h (after p b))
+
 -- what stands behind some bits, and then a further thing
 pub behind : (x y : Bits) (f g : Writer) → Appends x f y → (just y ▹ g) 0 ≡ (just x ▹ f ▹ g) 0
 behind x y f g h = ap (λ o. go_on o g 0) h ∙ sym (then_assoc (just x) f g 0)
@@ -66,4 +71,30 @@ wrote_same x y f g e h = record {
   left = h.left;
   same = h.same;
   written = λ p b. h.written p b ∙ then_same (view x) (view x) f g (λ q. refl) e p;
+}
+
+-- a call wrote the first of what was to be written, and so much remains
+pub record Remains (x : State) (all : Writer) (y : State) (rest : Writer) : Type 0 where
+  pub begun : x.failed ≡ false
+  pub left : y.failed ≡ false
+  pub same : y.codec ≡ x.codec
+  pub written : (p : ℕ) → MayBegin x p → (view y ▹ rest) p ≡ (view x ▹ all) p
+
+pub remains_all : (x : State) (all : Writer) → x.failed ≡ false → Remains x all x all
+remains_all x all f = record { begun = f; left = f; same = refl; written = λ p b. refl }
+
+pub remains_after : (x y z : State) (all rest f next : Writer) → Remains x all y rest → ((p : ℕ) → rest p ≡ (f ▹ next) p) → Wrote y f z → Remains x all z next
+remains_after x y z all rest f next h e k = record {
+  begun = h.begun;
+  left = k.left;
+  same = k.same ∙ h.same;
+  written = λ p b. ap (λ o. go_on o next p) (k.written p b) ∙ sym (then_assoc (view y) f next p) ∙ sym (then_same (view y) (view y) rest (f ▹ next) (λ q. refl) e p) ∙ h.written p b;
+}
+
+pub remains_last : (x y z : State) (all rest f : Writer) → Remains x all y rest → ((p : ℕ) → rest p ≡ f p) → Wrote y f z → Wrote x all z
+remains_last x y z all rest f h e k = record {
+  begun = h.begun;
+  left = k.left;
+  same = k.same ∙ h.same;
+  written = λ p b. k.written p b ∙ sym (then_same (view y) (view y) rest f (λ q. refl) e p) ∙ h.written p b;
 }

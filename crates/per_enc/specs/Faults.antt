@@ -1,8 +1,9 @@
 -- What the errors of an encoder say.
-use Rattle.std.specs.Prelude.{ℕ, ◌≡◌, ◌⊎◌, Bool, true, false, ◌||◌, List, [], ◌∷◌, Option, Some, None, is_some, MatchOption, ℤ}
+use Rattle.std.specs.Prelude.{ℕ, ◌≡◌, ◌<◌, ◌⊎◌, Bool, true, false, ◌||◌, List, [], ◌∷◌, length, get_or, Option, Some, None, is_some, MatchOption, ℤ}
+use Rattle.rasn_types.specs.Alphabets.{index_of}
 use Rattle.rasn_types.specs.Codecs.{variant_of}
-use Rattle.rasn_types.specs.Values.{Value, whole}
-use Rattle.rasn_constraints.specs.Bounds.{holds, fits_i128, Bounds}
+use Rattle.rasn_types.specs.Values.{Value, whole, octets, bits, characters}
+use Rattle.rasn_constraints.specs.Bounds.{allows, holds, fits_i128, Bounds, Size}
 use Rattle.rasn_schema.specs.Records.{record_value}
 use Rattle.rasn_schema.specs.Schemas.{Schema, Parts, part, Presence, TagTree}
 use Rattle.rasn_schema.specs.Scopes.{record_of}
@@ -32,6 +33,13 @@ pub record Outside (bounds : Bounds) (z : ℤ) (value lower upper : Option ℤ) 
   pub lower_is : lower ≡ bounds.low
   pub upper_is : upper ≡ bounds.high
 
+-- a count is outside a size, with the numbers that an error of this tells
+pub record OutsideSize (size : Size) (n : ℕ) (count : ℕ) (lower upper : Option ℕ) : Type 0 where
+  pub out_of_size : allows size n ≡ false
+  pub count_is : count ≡ n
+  pub lower_is : lower ≡ size.least
+  pub upper_is : upper ≡ size.most
+
 -- whether a bound is there
 abbrev pub has_bound : Bounds → Bool
 has_bound b = is_some b.low || is_some b.high
@@ -52,6 +60,24 @@ abbrev pub IsPastBounds : Schema → Value → Type 0
 IsPastBounds (Schema.number bounds mark range) (whole z) = IsPast bounds z
 IsPastBounds _ _ = ⊥
 
+-- X.691 16, 17, 30: the count of a string's items is outside a size that isn't extensible
+abbrev pub IsOutOfSize : ℕ → Option ℕ → Option ℕ → Schema → Value → Type 0
+IsOutOfSize count lower upper (Schema.octet_string size false) (octets os) = OutsideSize size (length os) count lower upper
+IsOutOfSize count lower upper (Schema.bit_string size false) (bits bs) = OutsideSize size (length bs) count lower upper
+IsOutOfSize count lower upper (Schema.char_string alphabet size false) (characters cs) = OutsideSize size (length cs) count lower upper
+IsOutOfSize count lower upper _ _ = ⊥
+
+-- some characters have one outside an alphabet, at an index
+pub record HasForeign (alphabet : List ℕ) (cs : List ℕ) : Type 0 where
+  pub index : ℕ
+  pub within : index < length cs
+  pub foreign : index_of (get_or cs index 0) alphabet ≡ None
+
+-- X.691 30.5: a character isn't permitted, where the size allows the count or is extensible
+abbrev pub IsForeign : Schema → Value → Type 0
+IsForeign (Schema.char_string alphabet size mark) (characters cs) = ((mark || allows size (length cs)) ≡ true) × HasForeign alphabet cs
+IsForeign _ _ = ⊥
+
 -- a component that is there, by its schema
 pub data HasPart (s : Schema) (v : Value) : Parts → List (Option Value) → Type 0 where
   part_here : {t : TagTree} {p : Presence} {ps : Parts} {rs : List (Option Value)} → HasPart s v (part t p s ps) (Some v ∷ rs)
@@ -62,12 +88,12 @@ pub data StandsIn (fault : Schema → Value → Type 0) : Schema → Value → T
   at_once : {s : Schema} {v : Value} → fault s v → StandsIn fault s v
   in_part : {s : Schema} {v : Value} {ps : Parts} {rs : List (Option Value)} → HasPart s v ps rs → StandsIn fault s v → StandsIn fault (record_of ps) (record_value rs [])
 
--- Where a kind's fault stands in a value. No call can answer those of strings, choices and additions yet; the last three are none of a
+-- Where a kind's fault stands in a value. No call can answer those of lists, choices and additions yet; the last three are none of a
 -- value.
 abbrev pub IsInValue : EncodeErrorKind → Schema → Value → Type 0
-IsInValue (SizeConstraintNotSatisfied length lower upper) s v = ⊥
+IsInValue (SizeConstraintNotSatisfied length lower upper) s v = StandsIn (IsOutOfSize length lower upper) s v
 IsInValue (ValueConstraintNotSatisfied value lower upper) s v = StandsIn (IsOutOfBounds value lower upper) s v
-IsInValue AlphabetConstraintNotSatisfied s v = ⊥
+IsInValue AlphabetConstraintNotSatisfied s v = StandsIn IsForeign s v
 IsInValue IntegerTypeConversionFailed s v = StandsIn IsPastBounds s v
 IsInValue VariantNotInChoice s v = ⊥
 IsInValue RealNotSupported s v = ⊥

@@ -1,4 +1,5 @@
 pub mod Faults
+pub mod Items
 pub mod Laws
 pub mod Names
 pub mod Rows

@@ -30,6 +30,7 @@ impl<A: Allocator + Clone> Encoder<A> {
         ensures held { OnOk result (holds I.range (I.number value.now) ≡ true) }
         ensures err { IfErr result (λ e. IsMemory e self.old) }
         ensures fails { OnErr result (self.new.failed ≡ true) }
+        ensures kept { self.new.codec ≡ self.old.codec }
     {
         let octets = number_octets(&self.bits, value);
         let octets = self.unless_out_of_memory(octets)?;
@@ -49,6 +50,7 @@ impl<A: Allocator + Clone> Encoder<A> {
         ensures ok { OnOk result (Wrote self.old (number_under (variant_of self.old.codec) lower upper number) self.new) }
         ensures err { IfErr result (λ e. IsMemory e self.old) }
         ensures fails { OnErr result (self.new.failed ≡ true) }
+        ensures kept { self.new.codec ≡ self.old.codec }
     {
         match lower {
             Some(lower) => {
@@ -72,6 +74,7 @@ impl<A: Allocator + Clone> Encoder<A> {
             OnOk result (Wrote self.old (number_under (variant_of self.old.codec) b.low b.high (I.number value.now)) self.new) }
         ensures err { IfErr result (λ e. IsMemory e self.old ⊎ (IsError IntegerTypeConversionFailed e self.old × IsPast (bounds_of bounds.now) (I.number value.now))) }
         ensures fails { OnErr result (self.new.failed ≡ true) }
+        ensures kept { self.new.codec ≡ self.old.codec }
     {
         let (lower, upper) = bounds.start_and_end();
         if let (None, None) = (lower, upper) {
@@ -93,6 +96,7 @@ impl<A: Allocator + Clone> Encoder<A> {
         requires { self.old.failed ≡ false }
         ensures law { Writes IsMemory Presents RefusesValue (Schema.number (bounds_of stated.constraint) stated.extensible I.range) (whole (I.number value.now)) self.old result self.new }
         ensures fails { OnErr result (self.new.failed ≡ true) }
+        ensures kept { self.new.codec ≡ self.old.codec }
     {
         let bounds = stated.constraint;
         let number = value.to_i128();

@@ -1,48 +1,55 @@
-//! Unconstrained lengths, and the octets that they count (X.691 11.9.3.5 to 11.9.3.8).
+//! Counts in front of items: unconstrained lengths, and counts within bounds (X.691 11.9.3 and 11.9.4).
 
-ghost use Rattle.std.specs.Prelude.{OnOk};
+ghost use Rattle.std.specs.Prelude.{◌+◌, ◌-◌, ◌≤◌, OnOk};
 ghost use Rattle.rasn_types.specs.Codecs.{variant_of};
-ghost use Rattle.per_core.specs.Writers.{just, padding};
-ghost use Rattle.per_core.specs.Counts.{octets_unsized, determinant};
+ghost use Rattle.per_core.specs.Writers.{just, padding, ◌▹◌};
+ghost use Rattle.per_core.specs.Counts.{bounded, determinant, padding_if};
 ghost use Rattle.per_enc.specs.State.{Appends};
-ghost use Rattle.per_enc.specs.Rows.{row};
 
+use crate::numbers::push_bounded;
 use per_bits::BitList;
 use rasn_types::types::Codec;
 use std::alloc::{AllocError, Allocator};
 
 /// How many items the smallest fragment has (X.691 11.9.3.8).
-const FRAGMENT: usize = 16384;
+pub(crate) const FRAGMENT: usize = 16384;
 
-/// Writes octets behind an unconstrained length (X.691 11.9.3.5 to 11.9.3.8): in fragments while there are 16384 or
-/// more, each as large as it may be, and then the rest behind a length of its own, which may be zero.
-pub(crate) fn push_octets_unsized<A: Allocator>(
+/// Writes how many items follow, which begins on an octet in the aligned variant (X.691 11.9.3.5 to 11.9.3.8).
+pub(crate) fn push_count<A: Allocator>(
     bits: &mut BitList<A>,
     codec: Codec,
-    octets: &[u8],
+    count: usize,
 ) -> Result<(), AllocError>
-    ensures { OnOk result (Appends bits.old (octets_unsized (variant_of codec) octets.now) bits.new) }
-{
-    let mut rest = octets;
-    while rest.len() >= FRAGMENT {
-        let (fragment, others) = rest.split_at(rest.len().min(4 * FRAGMENT) / FRAGMENT * FRAGMENT);
-        push_row(bits, codec, fragment)?;
-        rest = others;
-    }
-    push_row(bits, codec, rest)
-}
-
-/// Writes octets behind one length, which begins on an octet in the aligned variant.
-fn push_row<A: Allocator>(
-    bits: &mut BitList<A>,
-    codec: Codec,
-    octets: &[u8],
-) -> Result<(), AllocError>
-    ensures { OnOk result (Appends bits.old (row (variant_of codec) octets.now) bits.new) }
+    ensures { OnOk result (Appends bits.old (padding (variant_of codec) ▹ just (determinant count)) bits.new) }
 {
     push_padding(bits, codec)?;
-    push_determinant(bits, octets.len())?;
-    bits.push_octets(octets)
+    push_determinant(bits, count)
+}
+
+/// Writes how many items follow, as a constrained whole number, and the padding in front of items that begin on an
+/// octet (X.691 11.9.4.1).
+pub(crate) fn push_bounded_count<A: Allocator>(
+    bits: &mut BitList<A>,
+    codec: Codec,
+    lower: usize,
+    upper: usize,
+    count: usize,
+    on_octet: bool,
+) -> Result<(), AllocError>
+    requires lower { lower ≤ count }
+    requires upper { count ≤ upper }
+    ensures { OnOk result (Appends bits.old (bounded (variant_of codec) (upper - lower + 1) (count - lower) ▹ padding_if on_octet (variant_of codec)) bits.new) }
+{
+    push_bounded(
+        bits,
+        codec,
+        (upper - lower) as u128,
+        (count - lower) as u128,
+    )?;
+    if on_octet {
+        push_padding(bits, codec)?;
+    }
+    Ok(())
 }
 
 /// Writes zero bits up to a multiple of eight in the aligned variant.

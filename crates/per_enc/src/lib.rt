@@ -1,30 +1,37 @@
 //! The canonical encoder of the packed encoding rules (ITU-T X.691).
 #![tactic(auto)]
 
-ghost use Rattle.std.specs.Prelude.{◌≡◌, ◌∷◌, [], true, false, Some, OnOk, OnErr, IfOk, IfErr};
+ghost use Rattle.std.specs.Prelude.{◌≡◌, ◌≤◌, ◌∷◌, [], true, false, Some, OnOk, OnErr, IfOk, IfErr};
+ghost use Rattle.rasn_types.specs.Bits.{to_bits};
 ghost use Rattle.rasn_types.specs.Codecs.{variant_of};
 ghost use Rattle.rasn_types.specs.declared.types.Codec.TheVariants.{Uper};
 ghost use Rattle.rasn_schema.specs.Calls.{Writes};
-ghost use Rattle.per_core.specs.Writers.{just, complete};
-ghost use Rattle.per_core.specs.Counts.{octets_unsized};
+ghost use Rattle.per_core.specs.Writers.{just, complete, in_a_row};
+ghost use Rattle.per_core.specs.Counts.{octet_writers, octets_unsized};
 ghost use Rattle.per_core.specs.Canon.{completed};
 ghost use Rattle.per_enc.specs.State.{view, Wrote, Presents};
 ghost use Rattle.per_enc.specs.Faults.{IsError, IsMemory, IsAlready, RefusesValue, RefusesOutput};
 
 pub mod error;
 mod integers;
+mod items;
 mod lengths;
 mod numbers;
+mod sizes;
+mod strings;
 #[cfg(test)]
 mod tests;
 
 pub use error::{EncodeError, EncodeErrorKind};
-use lengths::push_octets_unsized;
+use items::Octets;
 use per_bits::{BitList, BitReader};
 use per_core::per;
 use rasn_schema::codec;
 use rasn_schema::fields::Constructed;
 use rasn_schema::schema::{Constraints, IntegerType};
+use rasn_types::bit_string::BitString;
+use rasn_types::octet_strings::{Any, GeneralString, GraphicString, TeletexString};
+use rasn_types::strings::StaticPermittedAlphabet;
 use rasn_types::types::{Codec, Identifier, Tag};
 use std::alloc::{AllocError, Allocator};
 use std::marker::Model;
@@ -167,8 +174,34 @@ impl<A: Allocator + Clone> Encoder<A> {
         ensures ok { OnOk result (Wrote self.old (just (bit ∷ [])) self.new) }
         ensures err { IfErr result (λ e. IsMemory e self.old) }
         ensures fails { OnErr result (self.new.failed ≡ true) }
+        ensures kept { self.new.codec ≡ self.old.codec }
     {
         let pushed = self.bits.push(bit);
+        self.unless_out_of_memory(pushed)
+    }
+
+    /// Writes the low `width` bits of a number, highest first (X.691 11.3).
+    fn put_bits(&mut self, number: u128, width: u128) -> Result<(), EncodeError>
+        requires begun { self.old.failed ≡ false }
+        requires few { width ≤ 128 }
+        ensures ok { OnOk result (Wrote self.old (just (to_bits width number)) self.new) }
+        ensures err { IfErr result (λ e. IsMemory e self.old) }
+        ensures fails { OnErr result (self.new.failed ≡ true) }
+        ensures kept { self.new.codec ≡ self.old.codec }
+    {
+        let pushed = self.bits.push_bits(number, width);
+        self.unless_out_of_memory(pushed)
+    }
+
+    /// Writes octets with no length.
+    fn put_bare_octets(&mut self, octets: &[u8]) -> Result<(), EncodeError>
+        requires { self.old.failed ≡ false }
+        ensures ok { OnOk result (Wrote self.old (in_a_row (octet_writers octets.now)) self.new) }
+        ensures err { IfErr result (λ e. IsMemory e self.old) }
+        ensures fails { OnErr result (self.new.failed ≡ true) }
+        ensures kept { self.new.codec ≡ self.old.codec }
+    {
+        let pushed = self.bits.push_octets(octets);
         self.unless_out_of_memory(pushed)
     }
 
@@ -178,9 +211,9 @@ impl<A: Allocator + Clone> Encoder<A> {
         ensures ok { OnOk result (Wrote self.old (octets_unsized (variant_of self.old.codec) octets.now) self.new) }
         ensures err { IfErr result (λ e. IsMemory e self.old) }
         ensures fails { OnErr result (self.new.failed ≡ true) }
+        ensures kept { self.new.codec ≡ self.old.codec }
     {
-        let pushed = push_octets_unsized(&mut self.bits, self.codec, octets);
-        self.unless_out_of_memory(pushed)
+        self.put_unsized(&Octets(octets))
     }
 
     /// What was made, unless memory ran out; then the encoder has failed.
@@ -260,6 +293,93 @@ impl<A: Allocator + Clone> codec::Encoder for Encoder<A> {
 
     fn encode_null(&mut self, _tag: Tag, _identifier: Identifier) -> Result<(), EncodeError> {
         self.check_unfailed()
+    }
+
+    fn encode_any(
+        &mut self,
+        _tag: Tag,
+        value: &Any,
+        _identifier: Identifier,
+    ) -> Result<(), EncodeError> {
+        self.check_unfailed()?;
+        self.put_octets(value.as_bytes())
+    }
+
+    fn encode_octet_string(
+        &mut self,
+        _tag: Tag,
+        constraints: &Constraints,
+        value: &[u8],
+        _identifier: Identifier,
+    ) -> Result<(), EncodeError> {
+        self.check_unfailed()?;
+        self.put_octet_string(constraints, value)
+    }
+
+    fn encode_bit_string(
+        &mut self,
+        _tag: Tag,
+        constraints: &Constraints,
+        value: &BitString,
+        _identifier: Identifier,
+    ) -> Result<(), EncodeError> {
+        self.check_unfailed()?;
+        self.put_bit_string(constraints, value)
+    }
+
+    fn encode_known_multiplier_string<S: StaticPermittedAlphabet>(
+        &mut self,
+        _tag: Tag,
+        constraints: &Constraints,
+        value: &S,
+        _identifier: Identifier,
+    ) -> Result<(), EncodeError> {
+        self.check_unfailed()?;
+        self.put_characters(constraints, value)
+    }
+
+    fn encode_utf8_string(
+        &mut self,
+        _tag: Tag,
+        _constraints: &Constraints,
+        value: &str,
+        _identifier: Identifier,
+    ) -> Result<(), EncodeError> {
+        self.check_unfailed()?;
+        self.put_octets(value.as_bytes())
+    }
+
+    fn encode_general_string(
+        &mut self,
+        _tag: Tag,
+        _constraints: &Constraints,
+        value: &GeneralString,
+        _identifier: Identifier,
+    ) -> Result<(), EncodeError> {
+        self.check_unfailed()?;
+        self.put_octets(value.as_bytes())
+    }
+
+    fn encode_graphic_string(
+        &mut self,
+        _tag: Tag,
+        _constraints: &Constraints,
+        value: &GraphicString,
+        _identifier: Identifier,
+    ) -> Result<(), EncodeError> {
+        self.check_unfailed()?;
+        self.put_octets(value.as_bytes())
+    }
+
+    fn encode_teletex_string(
+        &mut self,
+        _tag: Tag,
+        _constraints: &Constraints,
+        value: &TeletexString,
+        _identifier: Identifier,
+    ) -> Result<(), EncodeError> {
+        self.check_unfailed()?;
+        self.put_octets(value.as_bytes())
     }
 
     fn open_sequence<C: Constructed>(

@@ -10,7 +10,7 @@ ghost use Rattle.per_core.specs.Counts.{bounded, counted_octets, number_under};
 ghost use Rattle.rasn_constraints.specs.Bounds.{above, not_above};
 ghost use Rattle.per_enc.specs.State.{Appends};
 
-use crate::lengths::{push_determinant, push_padding};
+use crate::lengths::{push_count, push_padding};
 use per_bits::BitList;
 use rasn_types::types::Codec;
 use rasn_types::width::width_of;
@@ -106,8 +106,7 @@ pub(crate) fn push_natural<A: Allocator>(
     ensures { OnOk result (Appends bits.old (counted_octets (variant_of codec) (natural_bits offset)) bits.new) }
 {
     let octets = octet_count(offset);
-    push_padding(bits, codec)?;
-    push_determinant(bits, octets as usize)?;
+    push_count(bits, codec, octets as usize)?;
     bits.push_bits(offset, 8 * octets)
 }
 

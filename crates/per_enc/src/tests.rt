@@ -3,6 +3,7 @@
 ghost use Rattle.std.specs.Prelude.{◌≡◌, false};
 
 mod flagged;
+mod strings;
 
 use super::*;
 use flagged::Flagged;

@@ -2,6 +2,7 @@
 #![tactic(auto)]
 
 ghost use Rattle.std.specs.Prelude.{◌≡◌, ℕ, List, [], ◌∷◌, ◌++◌, replicate, true, false, Some, None, pos};
+ghost use Rattle.rasn_types.specs.Alphabets.{visible};
 ghost use Rattle.rasn_types.specs.Values.{Value};
 ghost use Rattle.rasn_constraints.specs.Bounds.{any_size, between};
 ghost use Rattle.rasn_schema.specs.Schemas.{Schema};
@@ -60,11 +61,13 @@ pub fn uper_fragment_code_out_of_1_to_4_is_refused()
     ensures greatest { (v : Value) → ¬ (fills uper (octet_string any_size) v (0xff ∷ [])) }
 {}
 
-/// SEQUENCE (SIZE (1..300)) OF NULL: nine bits that tell 301, or two octets; OCTET STRING (SIZE (..4)) of six octets (X.691 17, 20).
+/// SEQUENCE (SIZE (1..300)) OF NULL: nine bits that tell 301, or two octets; OCTET STRING (SIZE (..4)) of six octets;
+/// VisibleString (SIZE (1..10)): four bits that tell 16 (X.691 17, 20, 30.5).
 pub fn count_out_of_its_size_is_refused()
     ensures in_uper { (v : Value) → ¬ (fills uper (list_of Schema.null (sized 1 300)) v (0x96 ∷ 0x00 ∷ [])) }
     ensures in_aper { (v : Value) → ¬ (fills aper (list_of Schema.null (sized 1 300)) v (0x01 ∷ 0x2c ∷ [])) }
     ensures upper_bound_alone { (v : Value) → ¬ (fills uper (octet_string (sized_to 4)) v (0x06 ∷ 0x01 ∷ 0x02 ∷ 0x03 ∷ 0x04 ∷ 0x05 ∷ 0x06 ∷ [])) }
+    ensures characters { (v : Value) → ¬ (fills uper (Schema.char_string visible (sized 1 10) false) v (replicate 20 0xff)) }
 {}
 
 /// UPER VisibleString (FROM ("A".."E")) (SIZE (1..20)): a code that no permitted character has (X.691 30.5).

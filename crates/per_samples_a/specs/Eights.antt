@@ -11,20 +11,20 @@ use Rattle.rasn_schema.specs.Families.{UnfoldsParts, parts_unfold, part_unfolds}
 abbrev pub at : ℕ → TagTree
 at i = leaf (record { class = 2; number = i })
 
--- INTEGER
-abbrev pub integer : Schema
-integer = number_schema no_constraints i128_range
+-- INTEGER, within 128 bits
+abbrev pub i128_integer : Schema
+i128_integer = number_schema no_constraints i128_range
 
 abbrev pub eight_parts : ℕ → Parts
 eight_parts n =
     part (at 0) required Schema.boolean (
-    part (at 1) required integer (
+    part (at 1) required i128_integer (
     part (at 2) required Schema.null (
     part (at 3) required Schema.boolean (
-    part (at 4) required integer (
+    part (at 4) required i128_integer (
     part (at 5) required Schema.boolean (
     part (at 6) required Schema.null (
-    part (at 7) required integer no_parts)))))))
+    part (at 7) required i128_integer no_parts)))))))
 
 abbrev pub eight_contents : Bool → ℤ → Bool → ℤ → Bool → ℤ → List (Option Value)
 eight_contents a b d e f h =
@@ -34,11 +34,11 @@ eight_contents a b d e f h =
 pub booleans : Unfolds (always Schema.boolean)
 booleans = simple_unfolds Schema.boolean tt
 
-pub integers : Unfolds (always integer)
-integers = simple_unfolds integer tt
+pub i128_integers : Unfolds (always i128_integer)
+i128_integers = simple_unfolds i128_integer tt
 
 pub nulls : Unfolds (always Schema.null)
 nulls = simple_unfolds Schema.null tt
 
 pub eight_unfold : UnfoldsParts eight_parts
-eight_unfold = part_unfolds booleans (part_unfolds integers (part_unfolds nulls (part_unfolds booleans (part_unfolds integers (part_unfolds booleans (part_unfolds nulls (part_unfolds integers parts_unfold)))))))
+eight_unfold = part_unfolds booleans (part_unfolds i128_integers (part_unfolds nulls (part_unfolds booleans (part_unfolds i128_integers (part_unfolds booleans (part_unfolds nulls (part_unfolds i128_integers parts_unfold)))))))

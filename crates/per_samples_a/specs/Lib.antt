@@ -5,3 +5,4 @@ pub mod Numbers
 pub mod Pairs
 pub mod Rows
 pub mod Sevens
+pub mod Strings

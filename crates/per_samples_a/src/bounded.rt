@@ -3,8 +3,8 @@
 ghost use Rattle.std.specs.Prelude.{[], ◌∷◌, pos, negsuc};
 ghost use Rattle.rasn_types.specs.Values.{whole};
 ghost use Rattle.rasn_types.specs.Variants.{aligned, unaligned};
-ghost use Rattle.rasn_constraints.specs.Bounds.{between};
-ghost use Rattle.rasn_constraints.specs.Ranges.{within, i128_range, unsigned_range};
+ghost use Rattle.rasn_constraints.specs.Bounds.{between, unbounded};
+ghost use Rattle.rasn_constraints.specs.Ranges.{within, unsigned_range};
 ghost use Rattle.rasn_schema.specs.Forms.{number_schema, always, simple_unfolds};
 ghost use Rattle.per_samples_a.specs.Numbers.{extensible_within};
 ghost use Rattle.per_samples_a.specs.Rows.{IsWrittenAs, IsUnwritten};
@@ -12,11 +12,12 @@ ghost use Rattle.per_samples_a.specs.Rows.{IsWrittenAs, IsUnwritten};
 use rasn_schema::codec::{Decode, Decoder, Encode, Encoder};
 use rasn_schema::constraints::{Bounded, Constraint, Extensible};
 use rasn_schema::schema::{AsnType, Constraints};
+use rasn_types::big::Integer;
 use rasn_types::types::{Identifier, Tag};
 
 /// INTEGER (0..65536)
-#[derive(Clone, Copy, Debug, PartialEq, Eq)]
-pub struct ZeroTo65536(pub i128);
+#[derive(Debug, Drop, PartialEq, Eq)]
+pub struct ZeroTo65536(pub Integer);
 
 const ZERO_TO_65536: &[Constraint] = &[Constraint::Value(Extensible {
     constraint: Bounded::Range {
@@ -35,13 +36,13 @@ impl AsnType for ZeroTo65536 {
 
     const IDENTIFIER: Identifier = Identifier::EMPTY;
 
-    ghost schema = { λ c. always (number_schema c i128_range) };
+    ghost schema = { λ c. always (number_schema c unbounded) };
 
     ghost value = { λ x. whole x.0 };
 
     ghost levels = { λ _. 0 };
 
-    ghost unfolds = { λ c. simple_unfolds (number_schema c i128_range) tt };
+    ghost unfolds = { λ c. simple_unfolds (number_schema c unbounded) tt };
 }
 
 impl Encode for ZeroTo65536 {
@@ -63,7 +64,7 @@ impl Decode for ZeroTo65536 {
         tag: Tag,
         constraints: &Constraints,
     ) -> Result<ZeroTo65536, D::Error> {
-        let number = i128::decode_with_tag_and_constraints(decoder, tag, constraints)?;
+        let number = Integer::decode_with_tag_and_constraints(decoder, tag, constraints)?;
         Ok(ZeroTo65536(number))
     }
 }
@@ -80,8 +81,8 @@ pub fn zero_to_65536_is_written_in_counted_octets()
 {}
 
 /// INTEGER (1..10, ...)
-#[derive(Clone, Copy, Debug, PartialEq, Eq)]
-pub struct OneToTenExtensible(pub i128);
+#[derive(Debug, Drop, PartialEq, Eq)]
+pub struct OneToTenExtensible(pub Integer);
 
 const ONE_TO_TEN_EXTENSIBLE: &[Constraint] = &[Constraint::Value(Extensible {
     constraint: Bounded::Range {
@@ -100,13 +101,13 @@ impl AsnType for OneToTenExtensible {
 
     const IDENTIFIER: Identifier = Identifier::EMPTY;
 
-    ghost schema = { λ c. always (number_schema c i128_range) };
+    ghost schema = { λ c. always (number_schema c unbounded) };
 
     ghost value = { λ x. whole x.0 };
 
     ghost levels = { λ _. 0 };
 
-    ghost unfolds = { λ c. simple_unfolds (number_schema c i128_range) tt };
+    ghost unfolds = { λ c. simple_unfolds (number_schema c unbounded) tt };
 }
 
 impl Encode for OneToTenExtensible {
@@ -128,7 +129,7 @@ impl Decode for OneToTenExtensible {
         tag: Tag,
         constraints: &Constraints,
     ) -> Result<OneToTenExtensible, D::Error> {
-        let number = i128::decode_with_tag_and_constraints(decoder, tag, constraints)?;
+        let number = Integer::decode_with_tag_and_constraints(decoder, tag, constraints)?;
         Ok(OneToTenExtensible(number))
     }
 }

@@ -15,16 +15,17 @@ use rasn_schema::constraints::{Bounded, Constraint, Extensible};
 use rasn_schema::fields::{Constructed, Field, Fields, Presence, TagTree};
 use rasn_schema::record::{End, Required};
 use rasn_schema::schema::{AsnType, Constraints};
+use rasn_types::big::Integer;
 use rasn_types::types::{Class, Identifier, Tag};
 use std::marker::PhantomData;
 
 /// SEQUENCE { a BOOLEAN, b INTEGER, c BOOLEAN, d INTEGER (-10..400) }
-#[derive(Clone, Copy, Debug, PartialEq, Eq)]
+#[derive(Debug, Drop, PartialEq, Eq)]
 pub struct Four {
     pub a: bool,
-    pub b: i128,
+    pub b: Integer,
     pub c: bool,
-    pub d: i128,
+    pub d: Integer,
 }
 
 /// The constraints of `d`.
@@ -173,7 +174,7 @@ impl Decode for Four {
             next: Required {
                 tag: B,
                 constraints: None,
-                value: PhantomData::<i128>,
+                value: PhantomData::<Integer>,
                 next: Required {
                     tag: C,
                     constraints: None,
@@ -181,7 +182,7 @@ impl Decode for Four {
                     next: Required {
                         tag: D,
                         constraints: Some(Constraints(MINUS_10_TO_400)),
-                        value: PhantomData::<i128>,
+                        value: PhantomData::<Integer>,
                         next: End {},
                     },
                 },

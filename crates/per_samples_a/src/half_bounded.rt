@@ -1,9 +1,10 @@
 //! INTEGER with one bound.
 
-ghost use Rattle.std.specs.Prelude.{[], ◌∷◌, pos, negsuc};
+ghost use Rattle.std.specs.Prelude.{◌-◌, ◌^◌, [], ◌∷◌, replicate, pos, negsuc};
 ghost use Rattle.rasn_types.specs.Values.{whole};
 ghost use Rattle.rasn_types.specs.Variants.{unaligned};
-ghost use Rattle.rasn_constraints.specs.Ranges.{within, i128_range};
+ghost use Rattle.rasn_constraints.specs.Bounds.{unbounded};
+ghost use Rattle.rasn_constraints.specs.Ranges.{within};
 ghost use Rattle.rasn_schema.specs.Forms.{number_schema, always, simple_unfolds};
 ghost use Rattle.per_samples_a.specs.Numbers.{at_least, at_most};
 ghost use Rattle.per_samples_a.specs.Rows.{IsWrittenAs, IsUnwritten};
@@ -11,11 +12,12 @@ ghost use Rattle.per_samples_a.specs.Rows.{IsWrittenAs, IsUnwritten};
 use rasn_schema::codec::{Decode, Decoder, Encode, Encoder};
 use rasn_schema::constraints::{Bounded, Constraint, Extensible};
 use rasn_schema::schema::{AsnType, Constraints};
+use rasn_types::big::Integer;
 use rasn_types::types::{Identifier, Tag};
 
 /// INTEGER (..65535)
-#[derive(Clone, Copy, Debug, PartialEq, Eq)]
-pub struct UpTo65535(pub i128);
+#[derive(Debug, Drop, PartialEq, Eq)]
+pub struct UpTo65535(pub Integer);
 
 const UP_TO_65535: &[Constraint] = &[Constraint::Value(Extensible {
     constraint: Bounded::Range {
@@ -34,13 +36,13 @@ impl AsnType for UpTo65535 {
 
     const IDENTIFIER: Identifier = Identifier::EMPTY;
 
-    ghost schema = { λ c. always (number_schema c i128_range) };
+    ghost schema = { λ c. always (number_schema c unbounded) };
 
     ghost value = { λ x. whole x.0 };
 
     ghost levels = { λ _. 0 };
 
-    ghost unfolds = { λ c. simple_unfolds (number_schema c i128_range) tt };
+    ghost unfolds = { λ c. simple_unfolds (number_schema c unbounded) tt };
 }
 
 impl Encode for UpTo65535 {
@@ -62,7 +64,7 @@ impl Decode for UpTo65535 {
         tag: Tag,
         constraints: &Constraints,
     ) -> Result<UpTo65535, D::Error> {
-        let number = i128::decode_with_tag_and_constraints(decoder, tag, constraints)?;
+        let number = Integer::decode_with_tag_and_constraints(decoder, tag, constraints)?;
         Ok(UpTo65535(number))
     }
 }
@@ -76,8 +78,8 @@ pub fn up_to_65535_is_written_as_it_is()
 {}
 
 /// INTEGER (-1..)
-#[derive(Clone, Copy, Debug, PartialEq, Eq)]
-pub struct FromMinusOne(pub i128);
+#[derive(Debug, Drop, PartialEq, Eq)]
+pub struct FromMinusOne(pub Integer);
 
 const FROM_MINUS_ONE: &[Constraint] = &[Constraint::Value(Extensible {
     constraint: Bounded::Range {
@@ -96,13 +98,13 @@ impl AsnType for FromMinusOne {
 
     const IDENTIFIER: Identifier = Identifier::EMPTY;
 
-    ghost schema = { λ c. always (number_schema c i128_range) };
+    ghost schema = { λ c. always (number_schema c unbounded) };
 
     ghost value = { λ x. whole x.0 };
 
     ghost levels = { λ _. 0 };
 
-    ghost unfolds = { λ c. simple_unfolds (number_schema c i128_range) tt };
+    ghost unfolds = { λ c. simple_unfolds (number_schema c unbounded) tt };
 }
 
 impl Encode for FromMinusOne {
@@ -124,22 +126,24 @@ impl Decode for FromMinusOne {
         tag: Tag,
         constraints: &Constraints,
     ) -> Result<FromMinusOne, D::Error> {
-        let number = i128::decode_with_tag_and_constraints(decoder, tag, constraints)?;
+        let number = Integer::decode_with_tag_and_constraints(decoder, tag, constraints)?;
         Ok(FromMinusOne(number))
     }
 }
 
 /// INTEGER (-1..): a count of octets, and how far the number is above -1, without a sign (X.691 13.2.3). A smaller number
-/// has no encoding.
+/// has no encoding, and by this project's limit none that no `i128` holds.
 #[tactic(auto, unfolding(per_core::specs::Canon::bytes, rasn_schema::specs::Normal::normal))]
 pub fn from_minus_one_is_written_from_its_bound()
     ensures number_4096 { let own = ⟦<FromMinusOne as AsnType>⟧ in IsWrittenAs unaligned (own.schema own.CONSTRAINTS) own.levels own.value (record { 0 = pos 4096 }) (0x02 ∷ 0x10 ∷ 0x01 ∷ []) }
+    ensures greatest { let own = ⟦<FromMinusOne as AsnType>⟧ in IsWrittenAs unaligned (own.schema own.CONSTRAINTS) own.levels own.value (record { 0 = pos (2 ^ 127 - 1) }) (0x10 ∷ 0x80 ∷ replicate 15 0x00) }
+    ensures past { let own = ⟦<FromMinusOne as AsnType>⟧ in IsUnwritten unaligned (own.schema own.CONSTRAINTS) own.levels own.value (record { 0 = pos (2 ^ 127) }) }
     ensures smaller { let own = ⟦<FromMinusOne as AsnType>⟧ in IsUnwritten unaligned (own.schema own.CONSTRAINTS) own.levels own.value (record { 0 = negsuc 1 }) }
 {}
 
 /// INTEGER (0..)
-#[derive(Clone, Copy, Debug, PartialEq, Eq)]
-pub struct Natural(pub i128);
+#[derive(Debug, Drop, PartialEq, Eq)]
+pub struct Natural(pub Integer);
 
 const NATURAL: &[Constraint] = &[Constraint::Value(Extensible {
     constraint: Bounded::Range {
@@ -158,13 +162,13 @@ impl AsnType for Natural {
 
     const IDENTIFIER: Identifier = Identifier::EMPTY;
 
-    ghost schema = { λ c. always (number_schema c i128_range) };
+    ghost schema = { λ c. always (number_schema c unbounded) };
 
     ghost value = { λ x. whole x.0 };
 
     ghost levels = { λ _. 0 };
 
-    ghost unfolds = { λ c. simple_unfolds (number_schema c i128_range) tt };
+    ghost unfolds = { λ c. simple_unfolds (number_schema c unbounded) tt };
 }
 
 impl Encode for Natural {
@@ -186,7 +190,7 @@ impl Decode for Natural {
         tag: Tag,
         constraints: &Constraints,
     ) -> Result<Natural, D::Error> {
-        let number = i128::decode_with_tag_and_constraints(decoder, tag, constraints)?;
+        let number = Integer::decode_with_tag_and_constraints(decoder, tag, constraints)?;
         Ok(Natural(number))
     }
 }

@@ -15,13 +15,14 @@ use rasn_schema::constraints::{Bounded, Constraint, Extensible};
 use rasn_schema::fields::{Constructed, Field, Fields, Presence, TagTree};
 use rasn_schema::record::{End, Required};
 use rasn_schema::schema::{AsnType, Constraints};
+use rasn_types::big::Integer;
 use rasn_types::types::{Class, Identifier, Tag};
 use std::marker::PhantomData;
 
 /// SEQUENCE { a INTEGER (7..7) }
-#[derive(Clone, Copy, Debug, PartialEq, Eq)]
+#[derive(Debug, Drop, PartialEq, Eq)]
 pub struct Seven {
-    pub a: i128,
+    pub a: Integer,
 }
 
 /// The constraints of `a`.
@@ -113,7 +114,7 @@ impl Decode for Seven {
         let parts = Required {
             tag: A,
             constraints: Some(Constraints(SEVEN_TO_SEVEN)),
-            value: PhantomData::<i128>,
+            value: PhantomData::<Integer>,
             next: End {},
         };
         let (a, ()) = decoder.decode_record::<Seven, _>(tag, &parts)?;

@@ -41,7 +41,7 @@ module _ (a : Codec) (schema : ℕ → Schema) (octets : List ℕ) where
     pub total_is : total ≡ length b
     pub all : b ≡ unpack octets
 
-  so : (end : Bits → ℕ → Type 0) (t : State) (b : Bits) → Ended end t b → end t.bits (length (unpack octets))
+  pub so : (end : Bits → ℕ → Type 0) (t : State) (b : Bits) → Ended end t b → end t.bits (length (unpack octets))
   so end t b h = subst (λ z. end t.bits z) (h.total_is ∙ ap length h.all) (subst (λ z. end z h.total) h.left_is h.ends)
 
   pub decoded : (v : Value) (s t : State) (b : Bits) → s ≡ fresh a octets → AreOctets octets → Spells (schema s.levels) s v t → Ended Ends t b → AreReadAs (variant_of a) schema v octets

@@ -138,7 +138,7 @@ impl PartialEq for VisibleString {
     ghost laws = { Prim.search (comparing, rules) };
 
     fn eq(&self, other: &VisibleString) -> bool {
-        self.characters.as_slice() == other.characters.as_slice()
+        self.as_iso646_bytes() == other.as_iso646_bytes()
     }
 }
 
@@ -225,7 +225,7 @@ impl PartialEq for Ia5String {
     ghost laws = { Prim.search (comparing, rules) };
 
     fn eq(&self, other: &Ia5String) -> bool {
-        self.characters.as_slice() == other.characters.as_slice()
+        self.as_iso646_bytes() == other.as_iso646_bytes()
     }
 }
 
@@ -338,7 +338,7 @@ impl PartialEq for PrintableString {
     ghost laws = { Prim.search (comparing, rules) };
 
     fn eq(&self, other: &PrintableString) -> bool {
-        self.characters.as_slice() == other.characters.as_slice()
+        self.as_bytes() == other.as_bytes()
     }
 }
 
@@ -431,7 +431,7 @@ impl PartialEq for NumericString {
     ghost laws = { Prim.search (comparing, rules) };
 
     fn eq(&self, other: &NumericString) -> bool {
-        self.characters.as_slice() == other.characters.as_slice()
+        self.as_bytes() == other.as_bytes()
     }
 }
 
@@ -439,10 +439,10 @@ impl Eq for NumericString {
     ghost laws = { Prim.search (comparing, rules) };
 }
 
-/// A BMPString (X.680 41): the characters 0 to 65535, surrogates among them (own).
+/// A BMPString (X.680 41): the characters 0 to 65535, surrogates among them (this project's choice).
 #[derive(Debug, Drop)]
 pub struct BmpString {
-    characters: Vec<u16>,
+    units: Vec<u16>,
 }
 
 impl Model for BmpString {
@@ -451,18 +451,18 @@ impl Model for BmpString {
 
     ghost Value = { List ℕ };
 
-    ghost view = { λ a. a.characters.items };
+    ghost view = { λ a. a.units.items };
 
-    ghost invariant = { λ a. has_all bmp a.characters.items ≡ true };
+    ghost invariant = { λ a. has_all bmp a.units.items ≡ true };
 }
 
 impl BmpString {
-    /// The string of these characters, surrogates among them.
-    pub fn from_units(characters: Vec<u16>) -> Self
-        ensures { result ≡ characters.items }
+    /// The string of these characters.
+    pub fn from_units(units: Vec<u16>) -> Self
+        ensures { result ≡ units.items }
     {
-        all_are_own(&characters);
-        BmpString { characters }
+        all_are_own(&units);
+        BmpString { units }
     }
 
     /// The characters.
@@ -470,7 +470,7 @@ impl BmpString {
         ensures characters { result.now ≡ self.now }
         ensures own { has_all bmp self.now ≡ true }
     {
-        self.characters.as_slice()
+        self.units.as_slice()
     }
 }
 
@@ -490,21 +490,21 @@ impl StaticPermittedAlphabet for BmpString {
 
     fn new(alloc: Global) -> Self {
         BmpString {
-            characters: Vec::new(alloc),
+            units: Vec::new(alloc),
         }
     }
 
     fn push(&mut self, character: u32) -> Result<(), AllocError> {
-        self.characters.push(character as u16)?;
+        self.units.push(character as u16)?;
         Ok(())
     }
 
     fn len(&self) -> usize {
-        self.characters.len()
+        self.units.len()
     }
 
     fn character(&self, index: usize) -> Option<u32> {
-        unit_at(&self.characters, index)
+        unit_at(&self.units, index)
     }
 }
 
@@ -514,7 +514,7 @@ impl PartialEq for BmpString {
     ghost laws = { Prim.search (comparing, rules) };
 
     fn eq(&self, other: &BmpString) -> bool {
-        self.characters.as_slice() == other.characters.as_slice()
+        self.as_units() == other.as_units()
     }
 }
 

@@ -143,6 +143,25 @@ fn prints_the_canonical_encoding(rt: HostRuntime) -> Result<(), Fail> {
         ("uper iext", "808280\n", "20\n"),
         ("uper four", "82851205468f8020\n", "82851205468f8020\n"),
         ("uper seven", "00\n", "00\n"),
+        // 2 to the 127th, which no i128 holds.
+        (
+            "uper integer",
+            "110080000000000000000000000000000000\n",
+            "110080000000000000000000000000000000\n",
+        ),
+        // "abcd", one character more than the size has.
+        ("uper vis", "8261c58f20\n", "8261c58f20\n"),
+        // "AE".
+        ("uper five", "0880\n", "0880\n"),
+        // The bits 1010, and spare bits that are not zero.
+        ("uper bits", "04a0\n", "04a0\n"),
+        ("uper bits", "04af\n", "04a0\n"),
+        ("uper bits", "00\n", "00\n"),
+        // A length in two octets where one does.
+        ("uper octets", "8002aabb\n", "02aabb\n"),
+        ("uper octets", "00\n", "00\n"),
+        // "xxx".
+        ("uper onlyx", "03\n", "03\n"),
     ] {
         assert_ran(
             &rt,
@@ -161,16 +180,17 @@ fn refuses_by_name(rt: HostRuntime) -> Result<(), Fail> {
         ("uper integer", "0210\n", "Incomplete\n"),
         ("uper integer", "00\n", "UnexpectedEmptyInput\n"),
         ("uper integer", "c0\n", "ParserFail\n"),
+        ("uper octets", "c5\n", "ParserFail\n"),
+        ("uper octets", "02aa\n", "Incomplete\n"),
+        ("uper bits", "09ff\n", "Incomplete\n"),
+        // The code 7, of five characters.
+        ("uper five", "0f00\n", "PermittedAlphabet\n"),
+        // "abcd", as a count within the size.
+        ("uper vis", "787163c8\n", "SizeConstraintNotSatisfied\n"),
         ("uper null", "\n", "Incomplete\n"),
         ("uper null", "01\n", "ParserFail\n"),
         ("uper null", "0000\n", "UnexpectedExtraData\n"),
         ("uper boolean", "80aabb\n", "UnexpectedExtraData\n"),
-        // 2 to the 127th.
-        (
-            "uper integer",
-            "110080000000000000000000000000000000\n",
-            "IntegerOverflow\n",
-        ),
         // 65536.
         ("uper upto", "03010000\n", "ValueConstraintNotSatisfied\n"),
         (
@@ -199,6 +219,49 @@ fn refuses_by_name(rt: HostRuntime) -> Result<(), Fail> {
             "",
             faults,
         );
+    }
+    Ok(())
+}
+
+/// A line of texts in a row, each so many times.
+fn line_of(alloc: Global, parts: &[(&str, usize)]) -> Result<String, AllocError> {
+    let mut line = String::new(alloc);
+    for (text, times) in parts {
+        for _ in 0..*times {
+            line.push_str(text)?;
+        }
+    }
+    line.push('\n')?;
+    Ok(line)
+}
+
+#[test]
+fn takes_and_prints_fragments(rt: HostRuntime) -> Result<(), Fail> {
+    for (input, output) in [
+        (
+            [("8080", 1), ("2a", 128)].as_slice(),
+            [("8080", 1), ("2a", 128)].as_slice(),
+        ),
+        (
+            &[("c1", 1), ("2a", 16384), ("01", 1), ("2b", 1)],
+            &[("c1", 1), ("2a", 16384), ("01", 1), ("2b", 1)],
+        ),
+        // Two fragments, where the largest holds both.
+        (
+            &[
+                ("c1", 1),
+                ("2a", 16384),
+                ("c1", 1),
+                ("2b", 16384),
+                ("00", 1),
+            ],
+            &[("c2", 1), ("2a", 16384), ("2b", 16384), ("00", 1)],
+        ),
+    ] {
+        let input = line_of(rt.alloc(), input)?;
+        let output = line_of(rt.alloc(), output)?;
+        let ran = run_on(rt.alloc(), "uper octets", input.as_bytes())?;
+        assert_ran(&rt, &ran, 0, output.as_str(), "");
     }
     Ok(())
 }

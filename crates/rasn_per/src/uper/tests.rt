@@ -1,8 +1,10 @@
 //! What no clause says: that calls succeed where there is memory, that want of it is named so, and which refusal is
 //! named where several would do.
 
+ghost use Rattle.std.specs.Prelude.{pos, negsuc};
 ghost use Rattle.rasn_types.specs.Values.{whole};
-ghost use Rattle.rasn_constraints.specs.Ranges.{i128_range, no_constraints};
+ghost use Rattle.rasn_constraints.specs.Bounds.{between};
+ghost use Rattle.rasn_constraints.specs.Ranges.{i128_range, no_constraints, unsigned_range, within};
 ghost use Rattle.rasn_schema.specs.Forms.{always, number_schema, simple_unfolds};
 
 use super::*;
@@ -159,6 +161,56 @@ fn writes_and_reads_a_type_of_its_own(rt: HostRuntime) -> Result<(), Fail> {
         [0x02, 0xff, 0x7f].as_slice()
     );
     assert_eq!(rt; decode::<Speed>(rt.alloc(), &[0x02, 0xff, 0x7f])?, speed);
+    Ok(())
+}
+
+/// INTEGER (-1..254) in a type that lacks -1.
+#[derive(Clone, Copy, Debug, PartialEq, Eq)]
+struct MinusOneTo254(u8);
+
+const MINUS_ONE_TO_254: &[Constraint] = &[Constraint::Value(Extensible {
+    constraint: Bounded::Range {
+        start: Some(-1),
+        end: Some(254),
+    },
+    extensible: false,
+})];
+
+impl AsnType for MinusOneTo254 {
+    const TAG: Tag = Tag::INTEGER;
+
+    const CONSTRAINTS: Constraints = Constraints(MINUS_ONE_TO_254);
+
+    ghost CONSTRAINTS = { within (between (negsuc 0) (pos 254)) };
+
+    const IDENTIFIER: Identifier = Identifier::EMPTY;
+
+    ghost schema = { λ c. always (number_schema c (unsigned_range 8)) };
+
+    ghost value = { λ x. whole (pos x.0) };
+
+    ghost levels = { λ _. 0 };
+
+    ghost unfolds = { λ c. simple_unfolds (number_schema c (unsigned_range 8)) tt };
+}
+
+impl Decode for MinusOneTo254 {
+    fn decode_with_tag_and_constraints<D: rasn_schema::codec::Decoder>(
+        decoder: &mut D,
+        tag: Tag,
+        constraints: &Constraints,
+    ) -> Result<MinusOneTo254, D::Error> {
+        let number = decoder.decode_integer(tag, constraints)?;
+        Ok(MinusOneTo254(number))
+    }
+}
+
+#[test]
+fn fits_a_number_to_its_type_behind_its_bounds(rt: HostRuntime) -> Result<(), Fail> {
+    let five = decode::<MinusOneTo254>(rt.alloc(), &[0x06])?;
+    assert_eq!(rt; five, MinusOneTo254(5));
+    // -1, which is within the bounds.
+    refused_as::<MinusOneTo254>(&rt, &[0x00], DecodeErrorKind::IntegerOverflow(8));
     Ok(())
 }
 

@@ -2,109 +2,168 @@ use super::*;
 use crate::strings::{BmpString, Ia5String, NumericString, PrintableString, VisibleString};
 use std::process::Abort;
 
-/// Each character and its code.
-fn expect_codes(rt: &impl Abort, alphabet: &CharacterAlphabet, width: u32, codes: &[(u32, u32)]) {
-    assert_eq!(rt; alphabet.width(), width);
-    for (character, code) in codes {
-        assert!(rt; alphabet.contains(*character), "at {character}");
-        assert_eq!(rt; alphabet.encode(*character), Some(*code), "at {character}");
-        assert_eq!(rt; alphabet.decode(*code), Some(*character), "at {code}");
-    }
+/// What is expected of an alphabet: its bits, some characters with their codes, a character that isn't permitted, and
+/// a code that none has.
+#[derive(Drop)]
+struct Expected {
+    width: u32,
+    codes: &'static [(u32, u32)],
+    foreign: u32,
+    unused: u32,
 }
 
-/// No code for a character, and no character for a code.
-fn expect_none(rt: &impl Abort, alphabet: &CharacterAlphabet, character: u32, code: u32) {
-    assert!(rt; !alphabet.contains(character), "at {character}");
-    assert_eq!(rt; alphabet.encode(character), None, "at {character}");
-    assert_eq!(rt; alphabet.decode(code), None, "at {code}");
+fn expect<S: StaticPermittedAlphabet>(
+    rt: &impl Abort,
+    permitted: Option<&'static [u32]>,
+    aligned: bool,
+    expected: Expected,
+) {
+    let alphabet = CharacterAlphabet::new::<S>(permitted, aligned);
+    assert_eq!(rt; alphabet.width(), expected.width);
+    for (character, code) in expected.codes {
+        assert!(rt; alphabet.contains(*character));
+        assert_eq!(rt; alphabet.encode(*character), Some(*code));
+        assert_eq!(rt; alphabet.decode(*code), Some(*character));
+    }
+    assert!(rt; !alphabet.contains(expected.foreign));
+    assert_eq!(rt; alphabet.encode(expected.foreign), None);
+    assert_eq!(rt; alphabet.decode(expected.unused), None);
+}
+
+#[test]
+fn numeric_strings_are_written_by_places(rt: HostRuntime) {
+    for aligned in [false, true] {
+        expect::<NumericString>(
+            &rt,
+            None,
+            aligned,
+            Expected {
+                width: 4,
+                codes: &[(32, 0), (48, 1), (49, 2), (56, 9), (57, 10)],
+                foreign: 33,
+                unused: 11,
+            },
+        );
+    }
 }
 
 const A_TO_E: &[u32] = &[65, 66, 67, 68, 69];
 
 #[test]
-fn numeric_strings_are_written_by_places(rt: HostRuntime) {
-    for aligned in [false, true] {
-        let numeric = CharacterAlphabet::new::<NumericString>(None, aligned);
-        expect_codes(
+fn a_few_permitted_characters_are_written_by_places(rt: HostRuntime) {
+    for (aligned, width) in [(false, 3), (true, 4)] {
+        expect::<VisibleString>(
             &rt,
-            &numeric,
-            4,
-            &[(32, 0), (48, 1), (49, 2), (56, 9), (57, 10)],
+            Some(A_TO_E),
+            aligned,
+            Expected {
+                width,
+                codes: &[(65, 0), (66, 1), (67, 2), (68, 3), (69, 4)],
+                foreign: 70,
+                unused: 5,
+            },
         );
-        expect_none(&rt, &numeric, 33, 11);
     }
 }
 
 #[test]
-fn a_few_permitted_characters_are_written_by_places(rt: HostRuntime) {
-    let uper = CharacterAlphabet::new::<VisibleString>(Some(A_TO_E), false);
-    expect_codes(
-        &rt,
-        &uper,
-        3,
-        &[(65, 0), (66, 1), (67, 2), (68, 3), (69, 4)],
-    );
-    expect_none(&rt, &uper, 70, 5);
-    let aper = CharacterAlphabet::new::<VisibleString>(Some(A_TO_E), true);
-    expect_codes(&rt, &aper, 4, &[(65, 0), (69, 4)]);
-    expect_none(&rt, &aper, 64, 15);
+fn visible_strings_are_written_by_values(rt: HostRuntime) {
+    for (aligned, width) in [(false, 7), (true, 8)] {
+        expect::<VisibleString>(
+            &rt,
+            None,
+            aligned,
+            Expected {
+                width,
+                codes: &[(32, 32), (126, 126)],
+                foreign: 127,
+                unused: 31,
+            },
+        );
+    }
 }
 
 #[test]
 fn wide_alphabets_are_written_by_values(rt: HostRuntime) {
-    let visible = CharacterAlphabet::new::<VisibleString>(None, false);
-    expect_codes(&rt, &visible, 7, &[(32, 32), (126, 126)]);
-    expect_none(&rt, &visible, 127, 31);
-    let aligned = CharacterAlphabet::new::<VisibleString>(None, true);
-    expect_codes(&rt, &aligned, 8, &[(32, 32), (126, 126)]);
-    let printable = CharacterAlphabet::new::<PrintableString>(None, false);
-    expect_codes(&rt, &printable, 7, &[(32, 32), (39, 39), (122, 122)]);
-    expect_none(&rt, &printable, 42, 64);
-    let ia5 = CharacterAlphabet::new::<Ia5String>(None, false);
-    expect_codes(&rt, &ia5, 7, &[(0, 0), (127, 127)]);
-    expect_none(&rt, &ia5, 128, 128);
-    let bmp = CharacterAlphabet::new::<BmpString>(None, true);
-    expect_codes(&rt, &bmp, 16, &[(0, 0), (0x20ac, 0x20ac), (0xffff, 0xffff)]);
-    expect_none(&rt, &bmp, 0x10000, 0x10000);
+    let printable = Expected {
+        width: 7,
+        codes: &[(32, 32), (39, 39), (122, 122)],
+        foreign: 42,
+        unused: 64,
+    };
+    expect::<PrintableString>(&rt, None, false, printable);
+    let ia5 = Expected {
+        width: 7,
+        codes: &[(0, 0), (127, 127)],
+        foreign: 128,
+        unused: 128,
+    };
+    expect::<Ia5String>(&rt, None, false, ia5);
+    let bmp = Expected {
+        width: 16,
+        codes: &[(0, 0), (0x20ac, 0x20ac), (0xffff, 0xffff)],
+        foreign: 0x10000,
+        unused: 0x10000,
+    };
+    expect::<BmpString>(&rt, None, true, bmp);
 }
 
 #[test]
 fn one_character_and_none_take_no_bits(rt: HostRuntime) {
     for aligned in [false, true] {
-        let one = CharacterAlphabet::new::<Ia5String>(Some(&[88]), aligned);
-        expect_codes(&rt, &one, 0, &[(88, 0)]);
-        expect_none(&rt, &one, 89, 1);
-        let none = CharacterAlphabet::new::<Ia5String>(Some(&[]), aligned);
-        expect_codes(&rt, &none, 0, &[]);
-        expect_none(&rt, &none, 88, 0);
+        let one = Expected {
+            width: 0,
+            codes: &[(88, 0)],
+            foreign: 89,
+            unused: 1,
+        };
+        expect::<Ia5String>(&rt, Some(&[88]), aligned, one);
+        let none = Expected {
+            width: 0,
+            codes: &[],
+            foreign: 88,
+            unused: 0,
+        };
+        expect::<Ia5String>(&rt, Some(&[]), aligned, none);
     }
 }
 
-// the euro sign and DEL are no visible characters
+// The euro sign and DEL are no visible characters
 const SHUFFLED: &[u32] = &[69, 0x20ac, 68, 69, 67, 66, 127, 65, 65];
 
 #[test]
 fn permitted_characters_are_a_set_of_the_type(rt: HostRuntime) {
-    let letters = CharacterAlphabet::new::<VisibleString>(Some(SHUFFLED), false);
-    expect_codes(
-        &rt,
-        &letters,
-        3,
-        &[(65, 0), (66, 1), (67, 2), (68, 3), (69, 4)],
-    );
-    expect_none(&rt, &letters, 127, 5);
-    let bmp = CharacterAlphabet::new::<BmpString>(Some(SHUFFLED), true);
-    expect_codes(&rt, &bmp, 4, &[(65, 0), (69, 4), (127, 5), (0x20ac, 6)]);
-    expect_none(&rt, &bmp, 70, 7);
+    let letters = Expected {
+        width: 3,
+        codes: &[(65, 0), (66, 1), (67, 2), (68, 3), (69, 4)],
+        foreign: 127,
+        unused: 5,
+    };
+    expect::<VisibleString>(&rt, Some(SHUFFLED), false, letters);
+    let more = Expected {
+        width: 4,
+        codes: &[(65, 0), (69, 4), (127, 5), (0x20ac, 6)],
+        foreign: 70,
+        unused: 7,
+    };
+    expect::<BmpString>(&rt, Some(SHUFFLED), true, more);
 }
 
 // Three characters take two bits: 3 fits them, and 4 does not
 #[test]
 fn own_values_are_written_where_the_greatest_fits(rt: HostRuntime) {
-    let low = CharacterAlphabet::new::<BmpString>(Some(&[1, 3, 2]), false);
-    expect_codes(&rt, &low, 2, &[(1, 1), (2, 2), (3, 3)]);
-    expect_none(&rt, &low, 0, 0);
-    let high = CharacterAlphabet::new::<BmpString>(Some(&[1, 4, 2]), false);
-    expect_codes(&rt, &high, 2, &[(1, 0), (2, 1), (4, 2)]);
-    expect_none(&rt, &high, 3, 3);
+    let low = Expected {
+        width: 2,
+        codes: &[(1, 1), (2, 2), (3, 3)],
+        foreign: 0,
+        unused: 0,
+    };
+    expect::<BmpString>(&rt, Some(&[1, 3, 2]), false, low);
+    let high = Expected {
+        width: 2,
+        codes: &[(1, 0), (2, 1), (4, 2)],
+        foreign: 3,
+        unused: 3,
+    };
+    expect::<BmpString>(&rt, Some(&[1, 4, 2]), false, high);
 }

@@ -3,11 +3,12 @@ use std::process::Abort;
 use std::test::Fail;
 
 /// Builds a string by its trait, and walks it.
-fn expect_built<S: StaticPermittedAlphabet>(
+fn built<S: StaticPermittedAlphabet>(
     rt: &impl Abort,
-    string: &mut S,
+    alloc: Global,
     characters: &[u32],
-) -> Result<(), AllocError> {
+) -> Result<S, AllocError> {
+    let mut string = S::new(alloc);
     assert!(rt; string.is_empty());
     for character in characters {
         if S::contains_character(*character) {
@@ -16,103 +17,111 @@ fn expect_built<S: StaticPermittedAlphabet>(
     }
     assert_eq!(rt; string.len(), characters.len());
     for (index, character) in characters.iter().enumerate() {
-        assert_eq!(rt; string.character(index), Some(*character), "at {index}");
+        assert_eq!(rt; string.character(index), Some(*character));
     }
     assert_eq!(rt; string.character(characters.len()), None);
+    Ok(string)
+}
+
+#[test]
+fn strings_of_octets_are_built_and_walked(rt: HostRuntime) -> Result<(), AllocError> {
+    let visible = built::<VisibleString>(&rt, rt.alloc(), &[32, 65, 126])?;
+    assert_eq!(rt; visible.as_iso646_bytes(), b" A~".as_slice());
+    let ia5 = built::<Ia5String>(&rt, rt.alloc(), &[0, 10, 127])?;
+    assert_eq!(rt; ia5.as_iso646_bytes(), b"\x00\n\x7f".as_slice());
     Ok(())
 }
 
 #[test]
-fn strings_are_built_and_walked(rt: HostRuntime) -> Result<(), Fail> {
-    let mut visible = VisibleString::new(rt.alloc());
-    expect_built(&rt, &mut visible, &[32, 65, 126])?;
-    assert_eq!(rt; visible.as_iso646_bytes(), b" A~".as_slice());
-    let mut ia5 = Ia5String::new(rt.alloc());
-    expect_built(&rt, &mut ia5, &[0, 10, 127])?;
-    assert_eq!(rt; ia5.as_iso646_bytes(), b"\x00\n\x7f".as_slice());
-    let mut printable = PrintableString::new(rt.alloc());
-    expect_built(&rt, &mut printable, &[65, 39, 122, 63])?;
+fn other_strings_are_built_and_walked(rt: HostRuntime) -> Result<(), AllocError> {
+    let printable = built::<PrintableString>(&rt, rt.alloc(), &[65, 39, 122, 63])?;
     assert_eq!(rt; printable.as_bytes(), b"A'z?".as_slice());
-    let mut numeric = NumericString::new(rt.alloc());
-    expect_built(&rt, &mut numeric, &[32, 48, 57])?;
+    let numeric = built::<NumericString>(&rt, rt.alloc(), &[32, 48, 57])?;
     assert_eq!(rt; numeric.as_bytes(), b" 09".as_slice());
-    let mut bmp = BmpString::new(rt.alloc());
-    expect_built(&rt, &mut bmp, &[0, 0x20ac, 0xd800, 0xffff])?;
+    let bmp = built::<BmpString>(&rt, rt.alloc(), &[0, 0x20ac, 0xd800, 0xffff])?;
     assert_eq!(rt; bmp.as_units(), [0, 0x20ac, 0xd800, 0xffff].as_slice());
     Ok(())
 }
 
-// The characters of PrintableString, as X.680 41.4 lists them
-const PRINTABLES: &[u8] =
-    b"ABCDEFGHIJKLMNOPQRSTUVWXYZabcdefghijklmnopqrstuvwxyz0123456789 '()+,-./:=?";
-
-#[test]
-fn the_types_have_their_characters(rt: HostRuntime) {
-    for character in 0..70000u32 {
-        let octet = u8::try_from(character).ok();
-        let is_printable = octet.is_some_and(|octet| PRINTABLES.contains(&octet));
-        assert_eq!(rt;
-            PrintableString::contains_character(character),
-            is_printable,
-            "printable at {character}"
-        );
-        let is_numeric = character == 32 || (48..58).contains(&character);
-        assert_eq!(rt;
-            NumericString::contains_character(character),
-            is_numeric,
-            "numeric at {character}"
-        );
-        assert_eq!(rt;
-            VisibleString::contains_character(character),
-            (32..127).contains(&character),
-            "visible at {character}"
-        );
-        assert_eq!(rt;
-            Ia5String::contains_character(character),
-            character < 128,
-            "ia5 at {character}"
-        );
-        assert_eq!(rt;
-            BmpString::contains_character(character),
-            character < 65536,
-            "bmp at {character}"
-        );
+/// A type has so many characters, and these are some of them.
+fn expect_characters<S: StaticPermittedAlphabet>(rt: &impl Abort, count: usize, some: &[u8]) {
+    let counted = (0..70000)
+        .filter(|character| S::contains_character(*character))
+        .count();
+    assert_eq!(rt; counted, count);
+    for character in some {
+        assert!(rt; S::contains_character(u32::from(*character)));
     }
 }
 
 #[test]
-fn strings_are_made_of_owned_characters(rt: HostRuntime) -> Result<(), Fail> {
-    let hello = Vec::from_slice(rt.alloc(), b"hello world")?;
-    let visible = VisibleString::from_iso646_bytes(hello).ok_or("visible")?;
-    assert_eq!(rt; visible.as_iso646_bytes(), b"hello world".as_slice());
-    assert_eq!(rt;
-        VisibleString::from_iso646_bytes(Vec::from_slice(rt.alloc(), b"a\x7f")?),
-        None
-    );
-    let lines = Vec::from_slice(rt.alloc(), b"two\nlines\x7f")?;
-    assert_eq!(rt; Ia5String::from_iso646_bytes(lines).ok_or("ia5")?.len(), 10);
-    assert_eq!(rt;
-        Ia5String::from_iso646_bytes(Vec::from_slice(rt.alloc(), b"\x80")?),
-        None
-    );
-    let place = Vec::from_slice(rt.alloc(), b"Geneva (CH)")?;
-    assert_eq!(rt;
-        PrintableString::from_bytes(place).ok_or("printable")?.len(),
-        11
-    );
-    assert_eq!(rt;
-        PrintableString::from_bytes(Vec::from_slice(rt.alloc(), b"a@b")?),
-        None
-    );
-    let number = Vec::from_slice(rt.alloc(), b"01 23")?;
-    assert_eq!(rt;
-        NumericString::from_bytes(number).ok_or("numeric")?.len(),
-        5
-    );
-    assert_eq!(rt;
-        NumericString::from_bytes(Vec::from_slice(rt.alloc(), b"1.5")?),
-        None
-    );
+fn the_types_have_their_characters(rt: HostRuntime) {
+    // as X.680 41 lists them
+    let printable = b"ABCDEFGHIJKLMNOPQRSTUVWXYZabcdefghijklmnopqrstuvwxyz0123456789 '()+,-./:=?";
+    expect_characters::<PrintableString>(&rt, 74, printable);
+    expect_characters::<NumericString>(&rt, 11, b"0123456789 ");
+    expect_characters::<VisibleString>(&rt, 95, b" ~");
+    expect_characters::<Ia5String>(&rt, 128, b"\x00\x7f");
+    expect_characters::<BmpString>(&rt, 65536, b"\x00\xff");
+}
+
+/// A string has so many characters, or there is none.
+fn expect_len<S: StaticPermittedAlphabet>(rt: &impl Abort, string: Option<S>, len: Option<usize>) {
+    let found = match string {
+        Some(string) => Some(string.len()),
+        None => None,
+    };
+    assert_eq!(rt; found, len);
+}
+
+#[test]
+fn visible_and_ia5_strings_are_made_of_their_characters(rt: HostRuntime) -> Result<(), AllocError> {
+    let rows: [(&[u8], Option<usize>, Option<usize>); 3] = [
+        (b"hello world", Some(11), Some(11)),
+        (b"two\nlines\x7f", None, Some(10)),
+        (b"\x80", None, None),
+    ];
+    for (octets, visible, ia5) in rows {
+        expect_len(
+            &rt,
+            VisibleString::from_iso646_bytes(Vec::from_slice(rt.alloc(), octets)?),
+            visible,
+        );
+        expect_len(
+            &rt,
+            Ia5String::from_iso646_bytes(Vec::from_slice(rt.alloc(), octets)?),
+            ia5,
+        );
+    }
+    Ok(())
+}
+
+#[test]
+fn printable_and_numeric_strings_are_made_of_their_characters(
+    rt: HostRuntime,
+) -> Result<(), AllocError> {
+    let rows: [(&[u8], Option<usize>, Option<usize>); 3] = [
+        (b"01 23", Some(5), Some(5)),
+        (b"Geneva (CH)", Some(11), None),
+        (b"a@b", None, None),
+    ];
+    for (octets, printable, numeric) in rows {
+        expect_len(
+            &rt,
+            PrintableString::from_bytes(Vec::from_slice(rt.alloc(), octets)?),
+            printable,
+        );
+        expect_len(
+            &rt,
+            NumericString::from_bytes(Vec::from_slice(rt.alloc(), octets)?),
+            numeric,
+        );
+    }
+    Ok(())
+}
+
+#[test]
+fn bmp_strings_are_made_of_any_16_bits(rt: HostRuntime) -> Result<(), AllocError> {
     let euro = BmpString::from_units(Vec::from_slice(rt.alloc(), &[0x20ac])?);
     assert_eq!(rt; euro.character(0), Some(0x20ac));
     Ok(())
@@ -120,9 +129,9 @@ fn strings_are_made_of_owned_characters(rt: HostRuntime) -> Result<(), Fail> {
 
 #[test]
 fn strings_are_compared_and_printed(rt: HostRuntime) -> Result<(), Fail> {
-    let one = NumericString::from_bytes(Vec::from_slice(rt.alloc(), b"12")?).ok_or("numeric")?;
-    let other = NumericString::from_bytes(Vec::from_slice(rt.alloc(), b"12")?).ok_or("numeric")?;
-    let longer = NumericString::from_bytes(Vec::from_slice(rt.alloc(), b"123")?).ok_or("numeric")?;
+    let one = built::<NumericString>(&rt, rt.alloc(), &[49, 50])?;
+    let other = built::<NumericString>(&rt, rt.alloc(), &[49, 50])?;
+    let longer = built::<NumericString>(&rt, rt.alloc(), &[49, 50, 51])?;
     assert!(rt; one == other);
     assert!(rt; one != longer);
     let text = format!(in rt.alloc(); "{one:?}")?;

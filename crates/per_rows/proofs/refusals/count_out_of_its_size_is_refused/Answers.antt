@@ -1,4 +1,5 @@
-use Rattle.std.proofs.Common.{◌≡◌, refl, subst, lit<, ◌-◌, ◌^◌, leb, ltb, List, ℕ, [], ◌∷◌, length, true, false, arith}
+use Rattle.std.proofs.Common.{◌≡◌, refl, subst, lit<, ◌-◌, ◌^◌, leb, ltb, List, ℕ, [], ◌∷◌, length, replicate, true, false, arith}
+use Rattle.rasn_types.specs.Alphabets.{visible}
 use Rattle.rasn_types.specs.Values.{Value}
 use Rattle.rasn_schema.specs.Schemas.{Schema}
 use Rattle.per_core.specs.Spellings.{Settings, Spelling, Then, Field, AnyPadding, exactly}
@@ -43,3 +44,16 @@ six v = record {
 pub returns-clause-upper_bound_alone : goal.returns-clause-upper_bound_alone
 unfolding canon
 returns-clause-upper_bound_alone c v = not_both uper (6 ∷ 1 ∷ 2 ∷ 3 ∷ 4 ∷ 5 ∷ 6 ∷ []) (six v) (filled uper (octets_within uper (1 ∷ 2 ∷ 3 ∷ 4 ∷ 5 ∷ 6 ∷ [])) 56 (6 ∷ 1 ∷ 2 ∷ 3 ∷ 4 ∷ 5 ∷ 6 ∷ []) refl (lit< tt) (lit< tt) tt)
+
+-- 15 is none of ten counts
+no_characters : (v : Value) → Agree ⊥ (basic uper (Schema.char_string visible (sized 1 10) false) v) (Then (Field 4 15) (exactly (replicate 156 true)))
+unfolding basic_in canon
+no_characters v = record { agree = λ p b c s t x y e. (first (bounded (length x.of - 1))).agree p b c s t x.spelled.spelled y e }
+  where
+    bounded : (n : ℕ) → Agree ⊥ (IsBounded uper 10 n) (Field 4 15)
+    bounded n = record { agree = λ p b c s t x y e. let r = (field_agree 4 n 15).agree p b c s t x.spelled y e in absurd (omega (arith, r.0, x.below)) }
+
+pub returns-clause-characters : goal.returns-clause-characters
+unfolding canon
+returns-clause-characters c v = not_both uper (replicate 20 0xff) (no_characters v)
+    (filled uper (then_within (field_within 4 15 (lit< tt)) (just_within (replicate 156 true))) 160 (replicate 20 0xff) refl (lit< tt) (lit< tt) tt)

@@ -3,6 +3,7 @@ use Rattle.std.proofs.lemmas.Result.{err_from_is_err_and}
 use Rattle.rasn_types.specs.declared.types.Codec.TheVariants.{Uper}
 use Rattle.rasn_types.proofs.Reading.{are_octets}
 use Rattle.rasn_per.proofs.Decoded.{begun, whole_octets, decoded, refused, unended}
+use Rattle.rasn_per.proofs.Named.{named, named_surplus}
 use Rattle.rasn_per.proofs.uper.decode.Goals as goal
 
 pub returns-in_err-value-clause-err : goal.returns-in_err-value-clause-err
@@ -22,3 +23,14 @@ pub returns-clause-err : goal.returns-clause-err
 returns-clause-err g c n =
     unended Uper (g.T.AsnType.schema g.T.AsnType.CONSTRAINTS) _ _ _ _ _ (begun Uper _ _ _ _ c.new-decoder.ensures c.unaligned.ensures c.in-Ok.ensures) c.in_ok-value.ensures.law
     (record { left = c.input.result; total = c.len.result; ends = c.in-Err.ensures.none; left_is = c.input.ensures; total_is = c.len.ensures; all = c.in-Ok.ensures })
+
+pub returns-in_err-value-clause-kind : goal.returns-in_err-value-clause-kind
+returns-in_err-value-clause-kind g c =
+    let p = err_from_is_err_and c.from_residual.result c.from_residual.ensures.1 in
+    named Uper (g.T.AsnType.schema g.T.AsnType.CONSTRAINTS) c.args.octets.now _ _ _ (begun Uper _ _ _ _ c.new-decoder.ensures c.unaligned.ensures c.in-Ok.ensures) (p.1 ∙ ap Err p.2) c.in_err-value.ensures.law
+
+pub returns-clause-kind : goal.returns-clause-kind
+returns-clause-kind g c =
+    rw (c.refusal-in-Err.ensures, c.kind_of_surplus.ensures) (
+    named_surplus Uper (g.T.AsnType.schema g.T.AsnType.CONSTRAINTS) c.args.octets.now c.in-Err.surplus _ _ _ _ (begun Uper _ _ _ _ c.new-decoder.ensures c.unaligned.ensures c.in-Ok.ensures) c.in_ok-value.ensures.law
+    (record { left = c.input.result; total = c.len.result; ends = c.in-Err.ensures.why; left_is = c.input.ensures; total_is = c.len.ensures; all = c.in-Ok.ensures }))

@@ -3,4 +3,4 @@ use Rattle.rasn_types.proofs.Own.{own_get}
 use Rattle.rasn_types.proofs.strings.BmpStringStaticPermittedAlphabet.character.Goals as goal
 
 pub returns-clause-own : goal.returns-clause-own
-returns-clause-own c = rw (c.unit_at.ensures, c.deref.ensures.value) (own_get bmp c.self.inside.characters.items c.args.index c.self.invariant)
+returns-clause-own c = rw (c.unit_at.ensures, c.deref.ensures.value) (own_get bmp c.self.inside.units.items c.args.index c.self.invariant)

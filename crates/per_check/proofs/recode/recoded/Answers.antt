@@ -1,0 +1,16 @@
+use Rattle.std.proofs.Common.{◌≡◌, refl}
+use Rattle.rasn_types.specs.Variants.{unaligned}
+use Rattle.per_check.specs.Recoding.{rules_of}
+use Rattle.per_check.specs.declared.arguments.Variant.{Variant}
+use Rattle.per_check.specs.declared.arguments.Variant.TheVariants.{Uper}
+use Rattle.per_check.proofs.recode.recoded.Goals as goal
+
+-- the program knows one variant
+one_variant : (v : Variant) → rules_of v ≡ unaligned
+one_variant Uper = refl
+
+pub returns-in-Four-clause-err : goal.returns-in-Four-clause-err
+returns-in-Four-clause-err c = rw (c.in-Four.is, one_variant c.args.arguments.variant) c.recoded_as-in-Four.ensures.err
+
+pub returns-in-Seven-clause-err : goal.returns-in-Seven-clause-err
+returns-in-Seven-clause-err c = rw (c.in-Seven.is, one_variant c.args.arguments.variant) c.recoded_as-in-Seven.ensures.err

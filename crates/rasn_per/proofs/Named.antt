@@ -1,0 +1,90 @@
+-- What the kind of a refused reading says of the octets.
+use Rattle.std.proofs.Common.{◌≡◌, refl, sym, ap, subst, ℕ, List, ◌⊎◌, inl, inr, length, Result, Ok, Err}
+use Rattle.std.specs.Prelude.{IfErr}
+use Rattle.rasn_types.specs.Bits.{Bits, unpack}
+use Rattle.rasn_types.specs.Codecs.{variant_of}
+use Rattle.rasn_types.specs.Values.{Value}
+use Rattle.rasn_types.specs.declared.types.Codec.{Codec}
+use Rattle.rasn_schema.specs.Schemas.{Schema, Parts}
+use Rattle.rasn_schema.specs.Calls.{Refuses}
+use Rattle.per_core.specs.Ends.{IsWhy}
+use Rattle.per_core.specs.Spellings.{Settings}
+use Rattle.per_core.specs.declared.ended.Surplus.{Surplus}
+use Rattle.per_core.specs.declared.ended.Surplus.TheVariants.{Missing, NonzeroOctet, ExtraOctets}
+use Rattle.per_core.proofs.Filling.{fills_read}
+use Rattle.per_de.specs.State.{State, Spells}
+use Rattle.per_de.specs.Faults.{IsAt, IsInBits, at_once, inside, IsInParts, here, later, IsOf, Fault, refusal}
+use Rattle.per_de.specs.declared.error.DecodeError.{DecodeError}
+use Rattle.per_de.specs.declared.error.DecodeErrorKind.{DecodeErrorKind}
+use Rattle.per_de.specs.declared.error.DecodeErrorKind.TheVariants.{Incomplete, ParserFail, UnexpectedExtraData, AlreadyFailed, OutOfMemory}
+use Rattle.per_de.specs.declared.error.ParserFailCause.{ParserFailCause}
+use Rattle.per_de.specs.declared.error.ParserFailCause.TheVariants.{NonzeroEmptyValue}
+use Rattle.rasn_per.specs.Whole.{basically}
+use Rattle.rasn_per.specs.Kinds.{IsInOctets, kind_of}
+use Rattle.rasn_per.proofs.Decoded.{fresh, Ended, so}
+
+-- an input that ends early, and one that isn't as it has to be, are shown by tests alone
+pub missing_at : (a : Settings) (c : Schema) (s : Bits) (n : ℕ) → IsAt a c s (Incomplete n)
+missing_at a (Schema.number b m r) s n = tt
+missing_at a (Schema.octet_string z m) s n = tt
+missing_at a (Schema.bit_string z m) s n = tt
+missing_at a (Schema.char_string l z m) s n = tt
+missing_at a (Schema.text k) s n = tt
+missing_at a Schema.cut s n = tt
+missing_at a _ s n = tt
+
+pub failing_at : (a : Settings) (c : Schema) (s : Bits) (cause : ParserFailCause) → IsAt a c s (ParserFail cause)
+failing_at a (Schema.number b m r) s n = tt
+failing_at a (Schema.octet_string z m) s n = tt
+failing_at a (Schema.bit_string z m) s n = tt
+failing_at a (Schema.char_string l z m) s n = tt
+failing_at a (Schema.text k) s n = tt
+failing_at a Schema.cut s n = tt
+failing_at a _ s n = tt
+
+-- no call of a decoder finds octets left over
+extra_nowhere : (a : Settings) (c : Schema) (s : Bits) (n : ℕ) → IsAt a c s (UnexpectedExtraData n) → ⊥
+extra_nowhere a (Schema.number b m r) s n h = h
+extra_nowhere a (Schema.octet_string z m) s n h = h
+extra_nowhere a (Schema.bit_string z m) s n h = h
+extra_nowhere a (Schema.char_string l z m) s n h = h
+extra_nowhere a (Schema.text k) s n h = h
+extra_nowhere a Schema.cut s n h = h
+extra_nowhere a _ s n h = h
+
+mutual
+  no_extra : {a : Settings} {k : DecodeErrorKind} {c : Schema} {s : Bits} → IsInBits a k c s → (n : ℕ) → k ≡ UnexpectedExtraData n → ⊥
+  no_extra {a} {k} {c} {s} (at_once h) n e = extra_nowhere a c s n (subst (IsAt a c s) e h)
+  no_extra (inside h) n e = no_extra_inside h n e
+
+  no_extra_inside : {a : Settings} {k : DecodeErrorKind} {ps : Parts} {s : Bits} → IsInParts a k ps s → (n : ℕ) → k ≡ UnexpectedExtraData n → ⊥
+  no_extra_inside (here h) n e = no_extra h n e
+  no_extra_inside (later v t h) n e = no_extra_inside h n e
+
+module _ (a : Codec) (schema : ℕ → Schema) (octets : List ℕ) where
+  of_fresh : (k : DecodeErrorKind) → IsOf k (schema 128) (fresh a octets) → IsInOctets (variant_of a) schema octets k
+  of_fresh AlreadyFailed h = absurd (cc)
+  of_fresh (UnexpectedExtraData n) h = absurd (no_extra h n refl)
+  of_fresh OutOfMemory h = tt
+  of_fresh _ h = h
+
+  -- the kind of a refusal of the fresh decoder
+  pub named : {T : Type 0} (result : Result T DecodeError) (f : DecodeError) (s : State) → s ≡ fresh a octets → result ≡ Err f
+      → ((f ≡ refusal OutOfMemory s) ⊎ Refuses (Spells (schema s.levels)) (Fault (schema s.levels)) f s) → IfErr result (λ e. IsInOctets (variant_of a) schema octets e.kind)
+  named result f s e g h = rw g (go h)
+    where
+      go : (f ≡ refusal OutOfMemory s) ⊎ Refuses (Spells (schema s.levels)) (Fault (schema s.levels)) f s → IsInOctets (variant_of a) schema octets f.kind
+      go (inl m) = subst (λ (z : DecodeErrorKind). IsInOctets (variant_of a) schema octets z) (sym (ap (λ (z : DecodeError). z.kind) m)) tt
+      go (inr r) = of_fresh f.kind (subst (λ (z : State). IsOf f.kind (schema z.levels) z) e r.stands.stands)
+
+  -- the kind of a reading that doesn't end as it has to
+  pub named_surplus : (surplus : Surplus) (v : Value) (s t : State) (b : Bits) → s ≡ fresh a octets → Spells (schema s.levels) s v t
+      → Ended a schema octets (λ l n. IsWhy l n surplus) t b → IsInOctets (variant_of a) schema octets (kind_of surplus)
+  named_surplus (Missing n) v s t b e h d = at_once (missing_at (basically (variant_of a)) (schema 128) (unpack octets) n)
+  named_surplus NonzeroOctet v s t b e h d = at_once (failing_at (basically (variant_of a)) (schema 128) (unpack octets) NonzeroEmptyValue)
+  named_surplus (ExtraOctets n) v s t b e h d = record {
+    value = v;
+    left = t.bits;
+    read = (subst (λ z. Spells (schema z.levels) z v t) e h).took;
+    are_over = so a schema octets (λ l m. IsWhy l m (ExtraOctets n)) t b d;
+  }
