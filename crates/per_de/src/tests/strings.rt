@@ -55,44 +55,42 @@ const ONLY_X: &[Constraint] = &[Constraint::PermittedAlphabet(Extensible {
     extensible: false,
 })];
 
-/// A codec, and constraints.
-type Setting = (DecoderOptions, &'static [Constraint]);
-
-const PLAIN: Setting = (UNALIGNED, &[]);
-
 /// The octets of the first OCTET STRING in an encoding, or why there is none; and how many bits are left behind it.
 fn octets_of(
     alloc: Global,
-    setting: Setting,
+    options: DecoderOptions,
+    constraints: &'static [Constraint],
     encoding: &[u8],
 ) -> Result<(Result<CowSlice<'static, u8>, DecodeErrorKind>, u128), Fail> {
     let list = BitList::from_octets(alloc, encoding)?;
-    let mut decoder = Decoder::new(alloc, &list, setting.0);
-    let octets = decoder.decode_octet_string(Tag::OCTET_STRING, &Constraints::new(setting.1));
+    let mut decoder = Decoder::new(alloc, &list, options);
+    let octets = decoder.decode_octet_string(Tag::OCTET_STRING, &Constraints::new(constraints));
     Ok((octets.map_err(|error| error.kind), decoder.input().len()))
 }
 
 /// The same of a BIT STRING.
 fn bits_of(
     alloc: Global,
-    setting: Setting,
+    options: DecoderOptions,
+    constraints: &'static [Constraint],
     encoding: &[u8],
 ) -> Result<(Result<BitString, DecodeErrorKind>, u128), Fail> {
     let list = BitList::from_octets(alloc, encoding)?;
-    let mut decoder = Decoder::new(alloc, &list, setting.0);
-    let bits = decoder.decode_bit_string(Tag::BIT_STRING, &Constraints::new(setting.1));
+    let mut decoder = Decoder::new(alloc, &list, options);
+    let bits = decoder.decode_bit_string(Tag::BIT_STRING, &Constraints::new(constraints));
     Ok((bits.map_err(|error| error.kind), decoder.input().len()))
 }
 
 /// The same of a string of characters.
 fn string_of<S: StaticPermittedAlphabet>(
     alloc: Global,
-    setting: Setting,
+    options: DecoderOptions,
+    constraints: &'static [Constraint],
     encoding: &[u8],
 ) -> Result<(Result<S, DecodeErrorKind>, u128), Fail> {
     let list = BitList::from_octets(alloc, encoding)?;
-    let mut decoder = Decoder::new(alloc, &list, setting.0);
-    let constraints = Constraints::new(setting.1);
+    let mut decoder = Decoder::new(alloc, &list, options);
+    let constraints = Constraints::new(constraints);
     let string = decoder.decode_known_multiplier_string::<S>(Tag::VISIBLE_STRING, &constraints);
     Ok((string.map_err(|error| error.kind), decoder.input().len()))
 }
@@ -100,50 +98,59 @@ fn string_of<S: StaticPermittedAlphabet>(
 fn expect_octets(
     rt: &impl Abort,
     alloc: Global,
-    setting: Setting,
+    options: DecoderOptions,
+    constraints: &'static [Constraint],
     encoding: &[u8],
     expected: &[u8],
 ) -> Result<(), Fail> {
-    match octets_of(alloc, setting, encoding)? {
-        (Ok(octets), left) => {
-            assert_eq!(rt; octets.as_slice(), expected, "of {encoding:?}");
-            assert!(rt; left < 8, "of {encoding:?}");
-            Ok(())
-        }
-        (Err(kind), _) => panic!(rt; "{kind} of {encoding:?}"),
+    let (octets, left) = octets_of(alloc, options, constraints, encoding)?;
+    match octets {
+        Ok(octets) => assert_eq!(rt; octets.as_slice(), expected, "of {encoding:?}"),
+        Err(kind) => panic!(rt; "{kind} of {encoding:?}"),
     }
+    assert!(rt; left < 8, "of {encoding:?}");
+    Ok(())
 }
 
 fn expect_no_octets(
     rt: &impl Abort,
     alloc: Global,
-    setting: Setting,
+    options: DecoderOptions,
+    constraints: &'static [Constraint],
     encoding: &[u8],
     kind: DecodeErrorKind,
 ) -> Result<(), Fail> {
-    let (octets, _) = octets_of(alloc, setting, encoding)?;
+    let (octets, _) = octets_of(alloc, options, constraints, encoding)?;
     assert_eq!(rt; octets.err(), Some(kind), "of {encoding:?}");
     Ok(())
 }
 
 #[test]
 fn reads_octet_strings(rt: HostRuntime) -> Result<(), Fail> {
-    expect_octets(&rt, rt.alloc(), PLAIN, &[0x00], &[])?;
-    expect_octets(&rt, rt.alloc(), PLAIN, &[0x02, 0xaa, 0xbb], &[0xaa, 0xbb])?;
+    expect_octets(&rt, rt.alloc(), UNALIGNED, &[], &[0x00], &[])?;
+    expect_octets(
+        &rt,
+        rt.alloc(),
+        UNALIGNED,
+        &[],
+        &[0x02, 0xaa, 0xbb],
+        &[0xaa, 0xbb],
+    )?;
     // a length of two octets
     expect_octets(
         &rt,
         rt.alloc(),
-        PLAIN,
+        UNALIGNED,
+        &[],
         &[0x80, 0x02, 0xaa, 0xbb],
         &[0xaa, 0xbb],
     )?;
     let encoding = repeated(rt.alloc(), 0x80, 0x80, 129)?;
     let expected = repeated(rt.alloc(), 0x80, 0x80, 127)?;
-    expect_octets(&rt, rt.alloc(), PLAIN, &encoding, &expected)?;
+    expect_octets(&rt, rt.alloc(), UNALIGNED, &[], &encoding, &expected)?;
 
     let fragment_code = DecodeErrorKind::ParserFail(ParserFailCause::FragmentCode);
-    expect_no_octets(&rt, rt.alloc(), PLAIN, &[0xc5], fragment_code)
+    expect_no_octets(&rt, rt.alloc(), UNALIGNED, &[], &[0xc5], fragment_code)
 }
 
 #[test]
@@ -155,26 +162,50 @@ fn reads_octet_strings_in_fragments(rt: HostRuntime) -> Result<(), Fail> {
     }
     encoding.push(0x00)?;
     let expected = repeated(rt.alloc(), 0x2a, 0x2a, 32767)?;
-    expect_octets(&rt, rt.alloc(), PLAIN, &encoding, &expected)
+    expect_octets(&rt, rt.alloc(), UNALIGNED, &[], &encoding, &expected)
 }
 
 #[test]
 fn reads_octet_strings_under_sizes(rt: HostRuntime) -> Result<(), Fail> {
-    let just_2 = (ALIGNED, JUST_2);
-    expect_octets(&rt, rt.alloc(), just_2, &[0xaa, 0xbb], &[0xaa, 0xbb])?;
-    let up_to_4 = (UNALIGNED, UP_TO_4);
-    expect_octets(&rt, rt.alloc(), up_to_4, &[0x02, 0x01, 0x02], &[1, 2])?;
-    // a count in 16 bits, and one without bounds
-    let below_65536 = (UNALIGNED, UP_TO_65535_ITEMS);
-    expect_octets(&rt, rt.alloc(), below_65536, &[0x00, 0x01, 0xaa], &[0xaa])?;
-    let up_to_65536 = (UNALIGNED, UP_TO_65536_ITEMS);
-    expect_octets(&rt, rt.alloc(), up_to_65536, &[0x01, 0xaa], &[0xaa])?;
-    // behind bit 1 a count that the size allows
-    let marked = (UNALIGNED, TWO_OR_MORE);
     expect_octets(
         &rt,
         rt.alloc(),
-        marked,
+        ALIGNED,
+        JUST_2,
+        &[0xaa, 0xbb],
+        &[0xaa, 0xbb],
+    )?;
+    expect_octets(
+        &rt,
+        rt.alloc(),
+        UNALIGNED,
+        UP_TO_4,
+        &[0x02, 0x01, 0x02],
+        &[1, 2],
+    )?;
+    // a count in 16 bits, and one without bounds
+    expect_octets(
+        &rt,
+        rt.alloc(),
+        UNALIGNED,
+        UP_TO_65535_ITEMS,
+        &[0x00, 0x01, 0xaa],
+        &[0xaa],
+    )?;
+    expect_octets(
+        &rt,
+        rt.alloc(),
+        UNALIGNED,
+        UP_TO_65536_ITEMS,
+        &[0x01, 0xaa],
+        &[0xaa],
+    )?;
+    // behind bit 1 a count that the size allows
+    expect_octets(
+        &rt,
+        rt.alloc(),
+        UNALIGNED,
+        TWO_OR_MORE,
         &[0x81, 0x00, 0x80, 0x80],
         &[0x01, 0x01],
     )?;
@@ -183,13 +214,21 @@ fn reads_octet_strings_under_sizes(rt: HostRuntime) -> Result<(), Fail> {
     expect_no_octets(
         &rt,
         rt.alloc(),
-        up_to_4,
+        UNALIGNED,
+        UP_TO_4,
         &[0x06, 0x01, 0x02, 0x03, 0x04, 0x05, 0x06],
         too_many,
     )?;
     // the octets are read before their count is checked
     let missing = DecodeErrorKind::Incomplete(8);
-    expect_no_octets(&rt, rt.alloc(), up_to_4, &[0x06, 1, 2, 3, 4, 5], missing)
+    expect_no_octets(
+        &rt,
+        rt.alloc(),
+        UNALIGNED,
+        UP_TO_4,
+        &[0x06, 1, 2, 3, 4, 5],
+        missing,
+    )
 }
 
 #[test]
@@ -197,12 +236,17 @@ fn reads_bit_strings(rt: HostRuntime) -> Result<(), Fail> {
     let mut encoding = repeated(rt.alloc(), 0xc1, 0x55, 2048)?;
     encoding.push(0x00)?;
     let octets = repeated(rt.alloc(), 0x55, 0x55, 2047)?;
-    let (bits, left) = bits_of(rt.alloc(), (ALIGNED, &[]), &encoding)?;
-    let expected = BitString::from_octets(rt.alloc(), &octets, 16384)?;
-    assert_eq!(rt; bits, Ok(expected));
+    let (bits, left) = bits_of(rt.alloc(), ALIGNED, &[], &encoding)?;
+    match bits {
+        Ok(bits) => {
+            assert_eq!(rt; bits.len(), 16384);
+            assert_eq!(rt; bits.as_octets(), octets.as_slice());
+        }
+        Err(kind) => panic!(rt; "{kind}"),
+    }
     assert_eq!(rt; left, 0);
 
-    let (bits, left) = bits_of(rt.alloc(), (UNALIGNED, TWO_OR_MORE), &[0x81, 0xf0])?;
+    let (bits, left) = bits_of(rt.alloc(), UNALIGNED, TWO_OR_MORE, &[0x81, 0xf0])?;
     assert_eq!(rt; bits, Ok(BitString::from_octets(rt.alloc(), &[0xe0], 3)?));
     assert_eq!(rt; left, 4);
     Ok(())
@@ -210,27 +254,34 @@ fn reads_bit_strings(rt: HostRuntime) -> Result<(), Fail> {
 
 #[test]
 fn reads_visible_strings(rt: HostRuntime) -> Result<(), Fail> {
-    let rows: [(Setting, &[u8], &[u8], u128); 6] = [
+    let rows: [(DecoderOptions, &'static [Constraint], &[u8], &[u8], u128); 6] = [
         (
-            (UNALIGNED, FROM_1_TO_3),
+            UNALIGNED,
+            FROM_1_TO_3,
             &[0x82, 0x61, 0xc5, 0x8f, 0x20],
             b"abcd",
             3,
         ),
         (
-            (ALIGNED, FROM_1_TO_3),
+            ALIGNED,
+            FROM_1_TO_3,
             &[0x80, 0x04, 0x61, 0x62, 0x63, 0x64],
             b"abcd",
             0,
         ),
-        ((UNALIGNED, A_TO_E), &[0x08, 0x80], b"AE", 5),
-        ((ALIGNED, A_TO_E), &[0x08, 0x04], b"AE", 0),
-        ((UNALIGNED, ONLY_X), &[0x03], b"xxx", 0),
+        (UNALIGNED, A_TO_E, &[0x08, 0x80], b"AE", 5),
+        (ALIGNED, A_TO_E, &[0x08, 0x04], b"AE", 0),
+        (UNALIGNED, ONLY_X, &[0x03], b"xxx", 0),
         // behind bit 1 a count that the size allows
-        ((UNALIGNED, FROM_1_TO_3), &[0x80, 0xe1], b"a", 0),
+        (UNALIGNED, FROM_1_TO_3, &[0x80, 0xe1], b"a", 0),
     ];
-    for (setting, encoding, expected, left) in rows {
-        let (string, behind) = string_of::<VisibleString>(rt.alloc(), setting, encoding)?;
+    for (options, constraints, encoding, expected, left) in rows {
+        let (string, behind) = string_of::<VisibleString>(
+            rt.alloc(),
+            options,
+            constraints,
+            encoding,
+        )?;
         match string {
             Ok(string) => assert_eq!(rt; string.as_iso646_bytes(), expected, "of {encoding:?}"),
             Err(kind) => panic!(rt; "{kind} of {encoding:?}"),
@@ -242,8 +293,7 @@ fn reads_visible_strings(rt: HostRuntime) -> Result<(), Fail> {
 
 #[test]
 fn reads_characters_of_no_bits_in_fragments(rt: HostRuntime) -> Result<(), Fail> {
-    let setting = (UNALIGNED, ONLY_X);
-    let (string, left) = string_of::<Ia5String>(rt.alloc(), setting, &[0xc4, 0x01])?;
+    let (string, left) = string_of::<Ia5String>(rt.alloc(), UNALIGNED, ONLY_X, &[0xc4, 0x01])?;
     assert_eq!(rt; string.map(|string| string.len()), Ok(65537));
     assert_eq!(rt; left, 0);
     Ok(())
@@ -253,18 +303,17 @@ fn reads_characters_of_no_bits_in_fragments(rt: HostRuntime) -> Result<(), Fail>
 fn refuses_strings_of_characters(rt: HostRuntime) -> Result<(), Fail> {
     // a code past the last
     let ones = repeated(rt.alloc(), 0xff, 0xff, 19)?;
-    let setting = (UNALIGNED, FROM_1_TO_10_ITEMS);
-    let (string, _) = string_of::<VisibleString>(rt.alloc(), setting, &ones)?;
+    let (string, _) = string_of::<VisibleString>(rt.alloc(), UNALIGNED, FROM_1_TO_10_ITEMS, &ones)?;
     let kind = DecodeErrorKind::SizeConstraintNotSatisfied(16, Some(1), Some(10));
     assert_eq!(rt; string.err(), Some(kind));
     // a code without a character, and one in a string that is too long
-    let (string, _) = string_of::<VisibleString>(rt.alloc(), (UNALIGNED, A_TO_E), &[0x0f, 0x00])?;
+    let (string, _) = string_of::<VisibleString>(rt.alloc(), UNALIGNED, A_TO_E, &[0x0f, 0x00])?;
     assert_eq!(rt; string.err(), Some(DecodeErrorKind::PermittedAlphabet));
-    let (string, _) = string_of::<VisibleString>(rt.alloc(), (UNALIGNED, A_TO_E), &ones)?;
+    let (string, _) = string_of::<VisibleString>(rt.alloc(), UNALIGNED, A_TO_E, &ones)?;
     let kind = DecodeErrorKind::SizeConstraintNotSatisfied(32, Some(1), Some(20));
     assert_eq!(rt; string.err(), Some(kind));
     // three characters of seven bits, of which none is there
-    let (string, _) = string_of::<VisibleString>(rt.alloc(), PLAIN, &[0x03])?;
+    let (string, _) = string_of::<VisibleString>(rt.alloc(), UNALIGNED, &[], &[0x03])?;
     assert_eq!(rt; string.err(), Some(DecodeErrorKind::Incomplete(21)));
     Ok(())
 }
