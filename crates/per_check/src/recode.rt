@@ -10,7 +10,7 @@ use per_samples_a::bounded::{OneToTenExtensible, ZeroTo65536};
 use per_samples_a::four::Four;
 use per_samples_a::half_bounded::{FromMinusOne, Natural, UpTo65535};
 use per_samples_a::seven::Seven;
-use per_samples_a::strings::{LettersAToE, OnlyX, ShortVisible};
+use per_samples_b::strings::{LettersAToE, OnlyX, ShortVisible};
 use rasn_per::uper;
 use rasn_schema::codec::{Decode, Encode};
 use rasn_types::big::Integer;

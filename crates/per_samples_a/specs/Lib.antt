@@ -5,4 +5,3 @@ pub mod Numbers
 pub mod Pairs
 pub mod Rows
 pub mod Sevens
-pub mod Strings

@@ -8,4 +8,3 @@ pub mod four;
 pub mod half_bounded;
 pub mod pair;
 pub mod seven;
-pub mod strings;

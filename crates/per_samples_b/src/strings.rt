@@ -5,7 +5,7 @@ ghost use Rattle.rasn_types.specs.Alphabets.{visible, ia5};
 ghost use Rattle.rasn_types.specs.Values.{characters};
 ghost use Rattle.rasn_types.specs.Variants.{aligned, unaligned};
 ghost use Rattle.rasn_schema.specs.Forms.{character_schema, always, simple_unfolds};
-ghost use Rattle.per_samples_a.specs.Strings.{one_to_three_extensible, a_to_e_in_one_to_twenty, only_the_x};
+ghost use Rattle.per_samples_b.specs.Strings.{one_to_three_extensible, a_to_e_in_one_to_twenty, only_the_x};
 ghost use Rattle.per_samples_a.specs.Rows.{IsWrittenAs, IsUnwritten};
 
 use rasn_schema::codec::{Decode, Decoder, Encode, Encoder};
