@@ -1,0 +1,45 @@
+/* Loaded before the C library: answers null at the request for memory that REFUSE_REQUEST names, counting from 1, and
+   writes the number of requests to the file that REFUSE_COUNT names. */
+#include <stddef.h>
+#include <stdio.h>
+#include <stdlib.h>
+
+extern void *__libc_malloc(size_t size);
+extern void *__libc_realloc(void *block, size_t size);
+
+static unsigned long requests;
+static unsigned long refused;
+
+__attribute__((constructor)) static void begin(void)
+{
+    const char *request = getenv("REFUSE_REQUEST");
+    refused = request ? strtoul(request, NULL, 10) : 0;
+    requests = 0;
+}
+
+__attribute__((destructor)) static void end(void)
+{
+    unsigned long all = requests;
+    const char *name = getenv("REFUSE_COUNT");
+    FILE *file = name ? fopen(name, "w") : NULL;
+    if (file) {
+        fprintf(file, "%lu\n", all);
+        fclose(file);
+    }
+}
+
+static int is_refused(void)
+{
+    requests++;
+    return requests == refused;
+}
+
+void *malloc(size_t size)
+{
+    return is_refused() ? NULL : __libc_malloc(size);
+}
+
+void *realloc(void *block, size_t size)
+{
+    return is_refused() ? NULL : __libc_realloc(block, size);
+}
