@@ -1,13 +1,7 @@
-pub mod Ascending
 pub mod Bits
-pub mod Codes
 pub mod Fewest
 pub mod Integers
-pub mod Least
 pub mod Octets
-pub mod Own
 pub mod Packing
 pub mod Reading
-pub mod Rows
 pub mod Texts
-pub mod Walking

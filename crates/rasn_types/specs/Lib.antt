@@ -4,10 +4,7 @@ pub mod Codecs
 pub mod Contents
 pub mod Forms
 pub mod Integers
-pub mod Intervals
 pub mod Octets
 pub mod Packed
-pub mod Prepared
 pub mod Values
 pub mod Variants
-pub mod Walks

@@ -1,13 +1,9 @@
 //! ASN.1's basic types, as far as the packed encoding rules call them.
 #![tactic(auto)]
 
-pub mod alphabet;
 pub mod big;
 pub mod bit_string;
 pub mod integer;
-pub mod intervals;
 pub mod octet_strings;
-mod permitted;
-pub mod strings;
 pub mod types;
 pub mod width;

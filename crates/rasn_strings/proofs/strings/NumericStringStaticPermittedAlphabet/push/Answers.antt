@@ -1,0 +1,10 @@
+use Rattle.std.proofs.Common.{arith}
+use Rattle.rasn_types.specs.Alphabets.{numeric}
+use Rattle.rasn_strings.proofs.Own.{has_below, own_push}
+use Rattle.rasn_strings.proofs.strings.NumericStringStaticPermittedAlphabet.push.Goals as goal
+
+pub overflow_cast-character : goal.overflow_cast-character
+overflow_cast-character c = let h = has_below numeric c.args.character c.requires in omega arith
+
+pub invariant_of-self-2 : goal.invariant_of-self-2
+invariant_of-self-2 c = rw c.in_ok-push.ensures.items (own_push numeric c.self.inside.characters.items c.args.character c.self.invariant c.requires)

@@ -1,0 +1,82 @@
+//! The characters of a type that a list permits, in ascending order, whatever the order of the list. No call takes
+//! memory; the work grows with the list and not with the type's alphabet.
+
+ghost use Rattle.std.specs.Prelude.{◌≡◌, ◌<◌, ◌≤◌, ◌^◌, min, max, true, length, slice_get, IfSome, MatchOption};
+ghost use Rattle.rasn_types.specs.Alphabets.{greatest, index_of, restricted};
+ghost use Rattle.rasn_strings.specs.Intervals.{expand, ascend_from};
+ghost use Rattle.rasn_strings.specs.Walks.{from_on};
+
+use crate::intervals::{self, Interval};
+
+/// The lesser of two characters, where there is a first.
+fn lesser(least: Option<u32>, character: u32) -> u32
+    ensures { MatchOption least (result ≡ character) (λ least. result ≡ min least character) }
+{
+    match least {
+        Some(least) => least.min(character),
+        None => character,
+    }
+}
+
+/// The least permitted character from `at` on, where there is one.
+fn next_from(own: &[Interval], permitted: &[u32], at: u32) -> Option<u32>
+    requires { ascend_from 0 own.now ≡ true }
+    ensures value { result ≡ slice_get (from_on at (restricted (expand own.now) permitted.now)) 0 }
+    ensures small { IfSome result (λ character. character < 2 ^ 16) }
+{
+    let mut next = None;
+    for character in permitted {
+        let character = *character;
+        if at <= character && intervals::contains(own, character) {
+            next = Some(lesser(next, character));
+        }
+    }
+    next
+}
+
+/// How many characters are permitted, and the greatest of them; 0 where there is none.
+pub(crate) fn count_and_greatest(own: &[Interval], permitted: &[u32]) -> (u32, u32)
+    requires { ascend_from 0 own.now ≡ true }
+    ensures count { result.0 ≡ length (restricted (expand own.now) permitted.now) }
+    ensures few { result.0 ≤ 2 ^ 16 }
+    ensures greatest { result.1 ≡ greatest (restricted (expand own.now) permitted.now) }
+{
+    let mut count = 0;
+    let mut greatest = 0;
+    let mut at = 0;
+    while let Some(character) = next_from(own, permitted, at) {
+        count += 1;
+        greatest = character;
+        at = character + 1;
+    }
+    (count, greatest)
+}
+
+/// The place of a character among those permitted, the first at 0; `None` where it isn't permitted.
+pub(crate) fn index_of(own: &[Interval], permitted: &[u32], character: u32) -> Option<u32>
+    requires { ascend_from 0 own.now ≡ true }
+    ensures { result ≡ index_of character (restricted (expand own.now) permitted.now) }
+{
+    let mut index = 0;
+    let mut at = 0;
+    while let Some(next) = next_from(own, permitted, at) {
+        if next == character {
+            return Some(index);
+        }
+        index += 1;
+        at = next + 1;
+    }
+    None
+}
+
+/// The permitted character at an index, the first at 0; `None` from their count on.
+pub(crate) fn get(own: &[Interval], permitted: &[u32], index: u32) -> Option<u32>
+    requires { ascend_from 0 own.now ≡ true }
+    ensures { result ≡ slice_get (restricted (expand own.now) permitted.now) index }
+{
+    let mut at = 0;
+    for _ in 0..index {
+        at = next_from(own, permitted, at)? + 1;
+    }
+    next_from(own, permitted, at)
+}
