@@ -1,4 +1,3 @@
-pub mod Calls
 pub mod Depth
 pub mod Families
 pub mod Fields
@@ -8,4 +7,3 @@ pub mod Normal
 pub mod Orders
 pub mod Records
 pub mod Schemas
-pub mod Scopes

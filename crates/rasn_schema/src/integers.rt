@@ -1,4 +1,4 @@
-//! INTEGER as Rust's own number types, and as one that holds every number.
+//! The schemas of INTEGER as Rust's own number types, and as one that holds every number.
 
 ghost use Rattle.std.specs.Prelude.{pos};
 ghost use Rattle.rasn_types.specs.Values.{whole};
@@ -6,7 +6,6 @@ ghost use Rattle.rasn_constraints.specs.Bounds.{unbounded};
 ghost use Rattle.rasn_constraints.specs.Ranges.{no_constraints, within, i128_range, signed_range, unsigned_range};
 ghost use Rattle.rasn_schema.specs.Forms.{number_schema, always, simple_unfolds};
 
-use crate::codec::{Decode, Decoder, Encode, Encoder};
 use crate::schema::AsnType;
 use rasn_constraints::constraints::{Bounded, Constraint, Constraints, Extensible};
 use rasn_types::big::Integer;
@@ -38,29 +37,6 @@ impl AsnType for i8 {
     ghost unfolds = { λ c. simple_unfolds (number_schema c (signed_range 8)) tt };
 }
 
-impl Encode for i8 {
-    #[tactic(auto, unfolding(crate::specs::Normal::normal))]
-    fn encode_with_tag_and_constraints<E: Encoder>(
-        &self,
-        encoder: &mut E,
-        tag: Tag,
-        constraints: &Constraints,
-        identifier: Identifier,
-    ) -> Result<(), E::Error> {
-        encoder.encode_integer::<i8>(tag, constraints, self, identifier)
-    }
-}
-
-impl Decode for i8 {
-    fn decode_with_tag_and_constraints<D: Decoder>(
-        decoder: &mut D,
-        tag: Tag,
-        constraints: &Constraints,
-    ) -> Result<i8, D::Error> {
-        decoder.decode_integer::<i8>(tag, constraints)
-    }
-}
-
 const I16_RANGE: &[Constraint] = &[Constraint::Value(Extensible {
     constraint: Bounded::Range {
         start: Some(i16::MIN as i128),
@@ -85,29 +61,6 @@ impl AsnType for i16 {
     ghost levels = { λ _. 0 };
 
     ghost unfolds = { λ c. simple_unfolds (number_schema c (signed_range 16)) tt };
-}
-
-impl Encode for i16 {
-    #[tactic(auto, unfolding(crate::specs::Normal::normal))]
-    fn encode_with_tag_and_constraints<E: Encoder>(
-        &self,
-        encoder: &mut E,
-        tag: Tag,
-        constraints: &Constraints,
-        identifier: Identifier,
-    ) -> Result<(), E::Error> {
-        encoder.encode_integer::<i16>(tag, constraints, self, identifier)
-    }
-}
-
-impl Decode for i16 {
-    fn decode_with_tag_and_constraints<D: Decoder>(
-        decoder: &mut D,
-        tag: Tag,
-        constraints: &Constraints,
-    ) -> Result<i16, D::Error> {
-        decoder.decode_integer::<i16>(tag, constraints)
-    }
 }
 
 const I32_RANGE: &[Constraint] = &[Constraint::Value(Extensible {
@@ -136,29 +89,6 @@ impl AsnType for i32 {
     ghost unfolds = { λ c. simple_unfolds (number_schema c (signed_range 32)) tt };
 }
 
-impl Encode for i32 {
-    #[tactic(auto, unfolding(crate::specs::Normal::normal))]
-    fn encode_with_tag_and_constraints<E: Encoder>(
-        &self,
-        encoder: &mut E,
-        tag: Tag,
-        constraints: &Constraints,
-        identifier: Identifier,
-    ) -> Result<(), E::Error> {
-        encoder.encode_integer::<i32>(tag, constraints, self, identifier)
-    }
-}
-
-impl Decode for i32 {
-    fn decode_with_tag_and_constraints<D: Decoder>(
-        decoder: &mut D,
-        tag: Tag,
-        constraints: &Constraints,
-    ) -> Result<i32, D::Error> {
-        decoder.decode_integer::<i32>(tag, constraints)
-    }
-}
-
 const I64_RANGE: &[Constraint] = &[Constraint::Value(Extensible {
     constraint: Bounded::Range {
         start: Some(i64::MIN as i128),
@@ -185,29 +115,6 @@ impl AsnType for i64 {
     ghost unfolds = { λ c. simple_unfolds (number_schema c (signed_range 64)) tt };
 }
 
-impl Encode for i64 {
-    #[tactic(auto, unfolding(crate::specs::Normal::normal))]
-    fn encode_with_tag_and_constraints<E: Encoder>(
-        &self,
-        encoder: &mut E,
-        tag: Tag,
-        constraints: &Constraints,
-        identifier: Identifier,
-    ) -> Result<(), E::Error> {
-        encoder.encode_integer::<i64>(tag, constraints, self, identifier)
-    }
-}
-
-impl Decode for i64 {
-    fn decode_with_tag_and_constraints<D: Decoder>(
-        decoder: &mut D,
-        tag: Tag,
-        constraints: &Constraints,
-    ) -> Result<i64, D::Error> {
-        decoder.decode_integer::<i64>(tag, constraints)
-    }
-}
-
 impl AsnType for i128 {
     const TAG: Tag = Tag::INTEGER;
 
@@ -224,29 +131,6 @@ impl AsnType for i128 {
     ghost levels = { λ _. 0 };
 
     ghost unfolds = { λ c. simple_unfolds (number_schema c i128_range) tt };
-}
-
-impl Encode for i128 {
-    #[tactic(auto, unfolding(crate::specs::Normal::normal))]
-    fn encode_with_tag_and_constraints<E: Encoder>(
-        &self,
-        encoder: &mut E,
-        tag: Tag,
-        constraints: &Constraints,
-        identifier: Identifier,
-    ) -> Result<(), E::Error> {
-        encoder.encode_integer::<i128>(tag, constraints, self, identifier)
-    }
-}
-
-impl Decode for i128 {
-    fn decode_with_tag_and_constraints<D: Decoder>(
-        decoder: &mut D,
-        tag: Tag,
-        constraints: &Constraints,
-    ) -> Result<i128, D::Error> {
-        decoder.decode_integer::<i128>(tag, constraints)
-    }
 }
 
 const U8_RANGE: &[Constraint] = &[Constraint::Value(Extensible {
@@ -275,29 +159,6 @@ impl AsnType for u8 {
     ghost unfolds = { λ c. simple_unfolds (number_schema c (unsigned_range 8)) tt };
 }
 
-impl Encode for u8 {
-    #[tactic(auto, unfolding(crate::specs::Normal::normal))]
-    fn encode_with_tag_and_constraints<E: Encoder>(
-        &self,
-        encoder: &mut E,
-        tag: Tag,
-        constraints: &Constraints,
-        identifier: Identifier,
-    ) -> Result<(), E::Error> {
-        encoder.encode_integer::<u8>(tag, constraints, self, identifier)
-    }
-}
-
-impl Decode for u8 {
-    fn decode_with_tag_and_constraints<D: Decoder>(
-        decoder: &mut D,
-        tag: Tag,
-        constraints: &Constraints,
-    ) -> Result<u8, D::Error> {
-        decoder.decode_integer::<u8>(tag, constraints)
-    }
-}
-
 const U16_RANGE: &[Constraint] = &[Constraint::Value(Extensible {
     constraint: Bounded::Range {
         start: Some(u16::MIN as i128),
@@ -322,29 +183,6 @@ impl AsnType for u16 {
     ghost levels = { λ _. 0 };
 
     ghost unfolds = { λ c. simple_unfolds (number_schema c (unsigned_range 16)) tt };
-}
-
-impl Encode for u16 {
-    #[tactic(auto, unfolding(crate::specs::Normal::normal))]
-    fn encode_with_tag_and_constraints<E: Encoder>(
-        &self,
-        encoder: &mut E,
-        tag: Tag,
-        constraints: &Constraints,
-        identifier: Identifier,
-    ) -> Result<(), E::Error> {
-        encoder.encode_integer::<u16>(tag, constraints, self, identifier)
-    }
-}
-
-impl Decode for u16 {
-    fn decode_with_tag_and_constraints<D: Decoder>(
-        decoder: &mut D,
-        tag: Tag,
-        constraints: &Constraints,
-    ) -> Result<u16, D::Error> {
-        decoder.decode_integer::<u16>(tag, constraints)
-    }
 }
 
 const U32_RANGE: &[Constraint] = &[Constraint::Value(Extensible {
@@ -373,29 +211,6 @@ impl AsnType for u32 {
     ghost unfolds = { λ c. simple_unfolds (number_schema c (unsigned_range 32)) tt };
 }
 
-impl Encode for u32 {
-    #[tactic(auto, unfolding(crate::specs::Normal::normal))]
-    fn encode_with_tag_and_constraints<E: Encoder>(
-        &self,
-        encoder: &mut E,
-        tag: Tag,
-        constraints: &Constraints,
-        identifier: Identifier,
-    ) -> Result<(), E::Error> {
-        encoder.encode_integer::<u32>(tag, constraints, self, identifier)
-    }
-}
-
-impl Decode for u32 {
-    fn decode_with_tag_and_constraints<D: Decoder>(
-        decoder: &mut D,
-        tag: Tag,
-        constraints: &Constraints,
-    ) -> Result<u32, D::Error> {
-        decoder.decode_integer::<u32>(tag, constraints)
-    }
-}
-
 const U64_RANGE: &[Constraint] = &[Constraint::Value(Extensible {
     constraint: Bounded::Range {
         start: Some(u64::MIN as i128),
@@ -422,29 +237,6 @@ impl AsnType for u64 {
     ghost unfolds = { λ c. simple_unfolds (number_schema c (unsigned_range 64)) tt };
 }
 
-impl Encode for u64 {
-    #[tactic(auto, unfolding(crate::specs::Normal::normal))]
-    fn encode_with_tag_and_constraints<E: Encoder>(
-        &self,
-        encoder: &mut E,
-        tag: Tag,
-        constraints: &Constraints,
-        identifier: Identifier,
-    ) -> Result<(), E::Error> {
-        encoder.encode_integer::<u64>(tag, constraints, self, identifier)
-    }
-}
-
-impl Decode for u64 {
-    fn decode_with_tag_and_constraints<D: Decoder>(
-        decoder: &mut D,
-        tag: Tag,
-        constraints: &Constraints,
-    ) -> Result<u64, D::Error> {
-        decoder.decode_integer::<u64>(tag, constraints)
-    }
-}
-
 impl AsnType for Integer {
     const TAG: Tag = Tag::INTEGER;
 
@@ -461,27 +253,4 @@ impl AsnType for Integer {
     ghost levels = { λ _. 0 };
 
     ghost unfolds = { λ c. simple_unfolds (number_schema c unbounded) tt };
-}
-
-impl Encode for Integer {
-    #[tactic(auto, unfolding(crate::specs::Normal::normal))]
-    fn encode_with_tag_and_constraints<E: Encoder>(
-        &self,
-        encoder: &mut E,
-        tag: Tag,
-        constraints: &Constraints,
-        identifier: Identifier,
-    ) -> Result<(), E::Error> {
-        encoder.encode_integer::<Integer>(tag, constraints, self, identifier)
-    }
-}
-
-impl Decode for Integer {
-    fn decode_with_tag_and_constraints<D: Decoder>(
-        decoder: &mut D,
-        tag: Tag,
-        constraints: &Constraints,
-    ) -> Result<Integer, D::Error> {
-        decoder.decode_integer::<Integer>(tag, constraints)
-    }
 }

@@ -1,11 +1,10 @@
-//! Octets and bits: OCTET STRING (X.680 23), BIT STRING (X.680 22), and values whose types aren't known.
+//! The schemas of octets and bits: OCTET STRING (X.680 23), BIT STRING (X.680 22), and values whose types aren't known.
 
 ghost use Rattle.rasn_types.specs.Values.{bits, octets};
 ghost use Rattle.rasn_schema.specs.Schemas.{Schema};
 ghost use Rattle.rasn_constraints.specs.Ranges.{no_constraints};
 ghost use Rattle.rasn_schema.specs.Forms.{octet_schema, bit_schema, always, simple_unfolds};
 
-use crate::codec::{Decode, Decoder, Encode, Encoder};
 use crate::schema::{AsnType, Constraints};
 use rasn_types::bit_string::BitString;
 use rasn_types::octet_strings::{Any, OctetString};
@@ -29,33 +28,6 @@ impl AsnType for OctetString {
     ghost unfolds = { λ c. simple_unfolds (octet_schema c) tt };
 }
 
-impl Encode for OctetString {
-    #[tactic(auto, unfolding(crate::specs::Normal::normal))]
-    fn encode_with_tag_and_constraints<E: Encoder>(
-        &self,
-        encoder: &mut E,
-        tag: Tag,
-        constraints: &Constraints,
-        identifier: Identifier,
-    ) -> Result<(), E::Error> {
-        encoder.encode_octet_string(tag, constraints, self.as_bytes(), identifier)
-    }
-}
-
-impl Decode for OctetString {
-    fn decode_with_tag_and_constraints<D: Decoder>(
-        decoder: &mut D,
-        tag: Tag,
-        constraints: &Constraints,
-    ) -> Result<OctetString, D::Error> {
-        let octets = decoder.decode_octet_string(tag, constraints)?;
-        match octets.into_owned(decoder.alloc()) {
-            Ok(octets) => Ok(OctetString::from(octets)),
-            Err(_) => Err(decoder.out_of_memory()),
-        }
-    }
-}
-
 impl AsnType for BitString {
     const TAG: Tag = Tag::BIT_STRING;
 
@@ -74,29 +46,6 @@ impl AsnType for BitString {
     ghost unfolds = { λ c. simple_unfolds (bit_schema c) tt };
 }
 
-impl Encode for BitString {
-    #[tactic(auto, unfolding(crate::specs::Normal::normal))]
-    fn encode_with_tag_and_constraints<E: Encoder>(
-        &self,
-        encoder: &mut E,
-        tag: Tag,
-        constraints: &Constraints,
-        identifier: Identifier,
-    ) -> Result<(), E::Error> {
-        encoder.encode_bit_string(tag, constraints, self, identifier)
-    }
-}
-
-impl Decode for BitString {
-    fn decode_with_tag_and_constraints<D: Decoder>(
-        decoder: &mut D,
-        tag: Tag,
-        constraints: &Constraints,
-    ) -> Result<BitString, D::Error> {
-        decoder.decode_bit_string(tag, constraints)
-    }
-}
-
 impl AsnType for Any {
     const TAG: Tag = Tag::EOC;
 
@@ -113,29 +62,4 @@ impl AsnType for Any {
     ghost levels = { λ _. 0 };
 
     ghost unfolds = { λ _. simple_unfolds Schema.any tt };
-}
-
-impl Encode for Any {
-    #[tactic(auto, unfolding(crate::specs::Normal::normal))]
-    fn encode_with_tag_and_constraints<E: Encoder>(
-        &self,
-        encoder: &mut E,
-        tag: Tag,
-        constraints: &Constraints,
-        identifier: Identifier,
-    ) -> Result<(), E::Error> {
-        let _ = constraints;
-        encoder.encode_any(tag, self, identifier)
-    }
-}
-
-impl Decode for Any {
-    fn decode_with_tag_and_constraints<D: Decoder>(
-        decoder: &mut D,
-        tag: Tag,
-        constraints: &Constraints,
-    ) -> Result<Any, D::Error> {
-        let _ = constraints;
-        decoder.decode_any(tag)
-    }
 }

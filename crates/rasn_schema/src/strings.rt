@@ -1,4 +1,4 @@
-//! Character strings (X.680 41).
+//! The schemas of character strings (X.680 41).
 
 ghost use Rattle.std.specs.String.{string_bytes};
 ghost use Rattle.rasn_types.specs.Alphabets.{visible, ia5, printable, numeric, bmp};
@@ -8,7 +8,6 @@ ghost use Rattle.rasn_schema.specs.Schemas.{Schema};
 ghost use Rattle.rasn_constraints.specs.Ranges.{no_constraints};
 ghost use Rattle.rasn_schema.specs.Forms.{character_schema, always, simple_unfolds};
 
-use crate::codec::{Decode, Decoder, Encode, Encoder};
 use crate::schema::{AsnType, Constraints};
 use rasn_types::octet_strings::{GeneralString, GraphicString, TeletexString, Utf8String};
 use rasn_types::strings::{BmpString, Ia5String, NumericString, PrintableString, VisibleString};
@@ -32,29 +31,6 @@ impl AsnType for VisibleString {
     ghost unfolds = { λ c. simple_unfolds (character_schema visible c) tt };
 }
 
-impl Encode for VisibleString {
-    #[tactic(auto, unfolding(crate::specs::Normal::normal))]
-    fn encode_with_tag_and_constraints<E: Encoder>(
-        &self,
-        encoder: &mut E,
-        tag: Tag,
-        constraints: &Constraints,
-        identifier: Identifier,
-    ) -> Result<(), E::Error> {
-        encoder.encode_visible_string(tag, constraints, self, identifier)
-    }
-}
-
-impl Decode for VisibleString {
-    fn decode_with_tag_and_constraints<D: Decoder>(
-        decoder: &mut D,
-        tag: Tag,
-        constraints: &Constraints,
-    ) -> Result<VisibleString, D::Error> {
-        decoder.decode_visible_string(tag, constraints)
-    }
-}
-
 impl AsnType for Ia5String {
     const TAG: Tag = Tag::IA5_STRING;
 
@@ -71,29 +47,6 @@ impl AsnType for Ia5String {
     ghost levels = { λ _. 0 };
 
     ghost unfolds = { λ c. simple_unfolds (character_schema ia5 c) tt };
-}
-
-impl Encode for Ia5String {
-    #[tactic(auto, unfolding(crate::specs::Normal::normal))]
-    fn encode_with_tag_and_constraints<E: Encoder>(
-        &self,
-        encoder: &mut E,
-        tag: Tag,
-        constraints: &Constraints,
-        identifier: Identifier,
-    ) -> Result<(), E::Error> {
-        encoder.encode_ia5_string(tag, constraints, self, identifier)
-    }
-}
-
-impl Decode for Ia5String {
-    fn decode_with_tag_and_constraints<D: Decoder>(
-        decoder: &mut D,
-        tag: Tag,
-        constraints: &Constraints,
-    ) -> Result<Ia5String, D::Error> {
-        decoder.decode_ia5_string(tag, constraints)
-    }
 }
 
 impl AsnType for PrintableString {
@@ -114,29 +67,6 @@ impl AsnType for PrintableString {
     ghost unfolds = { λ c. simple_unfolds (character_schema printable c) tt };
 }
 
-impl Encode for PrintableString {
-    #[tactic(auto, unfolding(crate::specs::Normal::normal))]
-    fn encode_with_tag_and_constraints<E: Encoder>(
-        &self,
-        encoder: &mut E,
-        tag: Tag,
-        constraints: &Constraints,
-        identifier: Identifier,
-    ) -> Result<(), E::Error> {
-        encoder.encode_printable_string(tag, constraints, self, identifier)
-    }
-}
-
-impl Decode for PrintableString {
-    fn decode_with_tag_and_constraints<D: Decoder>(
-        decoder: &mut D,
-        tag: Tag,
-        constraints: &Constraints,
-    ) -> Result<PrintableString, D::Error> {
-        decoder.decode_printable_string(tag, constraints)
-    }
-}
-
 impl AsnType for NumericString {
     const TAG: Tag = Tag::NUMERIC_STRING;
 
@@ -153,29 +83,6 @@ impl AsnType for NumericString {
     ghost levels = { λ _. 0 };
 
     ghost unfolds = { λ c. simple_unfolds (character_schema numeric c) tt };
-}
-
-impl Encode for NumericString {
-    #[tactic(auto, unfolding(crate::specs::Normal::normal))]
-    fn encode_with_tag_and_constraints<E: Encoder>(
-        &self,
-        encoder: &mut E,
-        tag: Tag,
-        constraints: &Constraints,
-        identifier: Identifier,
-    ) -> Result<(), E::Error> {
-        encoder.encode_numeric_string(tag, constraints, self, identifier)
-    }
-}
-
-impl Decode for NumericString {
-    fn decode_with_tag_and_constraints<D: Decoder>(
-        decoder: &mut D,
-        tag: Tag,
-        constraints: &Constraints,
-    ) -> Result<NumericString, D::Error> {
-        decoder.decode_numeric_string(tag, constraints)
-    }
 }
 
 impl AsnType for BmpString {
@@ -196,29 +103,6 @@ impl AsnType for BmpString {
     ghost unfolds = { λ c. simple_unfolds (character_schema bmp c) tt };
 }
 
-impl Encode for BmpString {
-    #[tactic(auto, unfolding(crate::specs::Normal::normal))]
-    fn encode_with_tag_and_constraints<E: Encoder>(
-        &self,
-        encoder: &mut E,
-        tag: Tag,
-        constraints: &Constraints,
-        identifier: Identifier,
-    ) -> Result<(), E::Error> {
-        encoder.encode_bmp_string(tag, constraints, self, identifier)
-    }
-}
-
-impl Decode for BmpString {
-    fn decode_with_tag_and_constraints<D: Decoder>(
-        decoder: &mut D,
-        tag: Tag,
-        constraints: &Constraints,
-    ) -> Result<BmpString, D::Error> {
-        decoder.decode_bmp_string(tag, constraints)
-    }
-}
-
 impl AsnType for Utf8String {
     const TAG: Tag = Tag::UTF8_STRING;
 
@@ -235,29 +119,6 @@ impl AsnType for Utf8String {
     ghost levels = { λ _. 0 };
 
     ghost unfolds = { λ _. simple_unfolds (Schema.text utf8) tt };
-}
-
-impl Encode for Utf8String {
-    #[tactic(auto, unfolding(crate::specs::Normal::normal))]
-    fn encode_with_tag_and_constraints<E: Encoder>(
-        &self,
-        encoder: &mut E,
-        tag: Tag,
-        constraints: &Constraints,
-        identifier: Identifier,
-    ) -> Result<(), E::Error> {
-        encoder.encode_utf8_string(tag, constraints, self.as_str(), identifier)
-    }
-}
-
-impl Decode for Utf8String {
-    fn decode_with_tag_and_constraints<D: Decoder>(
-        decoder: &mut D,
-        tag: Tag,
-        constraints: &Constraints,
-    ) -> Result<Utf8String, D::Error> {
-        decoder.decode_utf8_string(tag, constraints)
-    }
 }
 
 impl AsnType for GeneralString {
@@ -278,29 +139,6 @@ impl AsnType for GeneralString {
     ghost unfolds = { λ _. simple_unfolds (Schema.text other) tt };
 }
 
-impl Encode for GeneralString {
-    #[tactic(auto, unfolding(crate::specs::Normal::normal))]
-    fn encode_with_tag_and_constraints<E: Encoder>(
-        &self,
-        encoder: &mut E,
-        tag: Tag,
-        constraints: &Constraints,
-        identifier: Identifier,
-    ) -> Result<(), E::Error> {
-        encoder.encode_general_string(tag, constraints, self, identifier)
-    }
-}
-
-impl Decode for GeneralString {
-    fn decode_with_tag_and_constraints<D: Decoder>(
-        decoder: &mut D,
-        tag: Tag,
-        constraints: &Constraints,
-    ) -> Result<GeneralString, D::Error> {
-        decoder.decode_general_string(tag, constraints)
-    }
-}
-
 impl AsnType for GraphicString {
     const TAG: Tag = Tag::GRAPHIC_STRING;
 
@@ -319,29 +157,6 @@ impl AsnType for GraphicString {
     ghost unfolds = { λ _. simple_unfolds (Schema.text other) tt };
 }
 
-impl Encode for GraphicString {
-    #[tactic(auto, unfolding(crate::specs::Normal::normal))]
-    fn encode_with_tag_and_constraints<E: Encoder>(
-        &self,
-        encoder: &mut E,
-        tag: Tag,
-        constraints: &Constraints,
-        identifier: Identifier,
-    ) -> Result<(), E::Error> {
-        encoder.encode_graphic_string(tag, constraints, self, identifier)
-    }
-}
-
-impl Decode for GraphicString {
-    fn decode_with_tag_and_constraints<D: Decoder>(
-        decoder: &mut D,
-        tag: Tag,
-        constraints: &Constraints,
-    ) -> Result<GraphicString, D::Error> {
-        decoder.decode_graphic_string(tag, constraints)
-    }
-}
-
 impl AsnType for TeletexString {
     const TAG: Tag = Tag::TELETEX_STRING;
 
@@ -358,27 +173,4 @@ impl AsnType for TeletexString {
     ghost levels = { λ _. 0 };
 
     ghost unfolds = { λ _. simple_unfolds (Schema.text other) tt };
-}
-
-impl Encode for TeletexString {
-    #[tactic(auto, unfolding(crate::specs::Normal::normal))]
-    fn encode_with_tag_and_constraints<E: Encoder>(
-        &self,
-        encoder: &mut E,
-        tag: Tag,
-        constraints: &Constraints,
-        identifier: Identifier,
-    ) -> Result<(), E::Error> {
-        encoder.encode_teletex_string(tag, constraints, self, identifier)
-    }
-}
-
-impl Decode for TeletexString {
-    fn decode_with_tag_and_constraints<D: Decoder>(
-        decoder: &mut D,
-        tag: Tag,
-        constraints: &Constraints,
-    ) -> Result<TeletexString, D::Error> {
-        decoder.decode_teletex_string(tag, constraints)
-    }
 }

@@ -1,0 +1,58 @@
+-- How the law of a record follows from those of its components and of its scope, over any encoder.
+use Rattle.std.proofs.Common.{◌≡◌, refl, ap, ℕ, zero, suc, ◌≤◌, ◌⊎◌, inl, inr, Bool, false, Result, Ok, Err, List, [], ◌∷◌, Option, Some, None, arith}
+use Rattle.rasn_types.specs.Values.{Value, slots, as_slots}
+use Rattle.rasn_schema.specs.Schemas.{TagTree, required, listed, Schema, Parts, no_parts, part}
+use Rattle.rasn_schema.specs.Normal.{normal, normals}
+use Rattle.rasn_codec.specs.Calls.{AtDepths, Writes, PresentsWell}
+use Rattle.rasn_schema.specs.Records.{record_at, no_additions, record_value, AtParts}
+use Rattle.rasn_codec.specs.Scopes.{record_of, presents_required, presents_end, presents_next, refuses_required, RefusesParts, refuses_here, refuses_behind, WritesParts, Passes, ClosesWritten}
+
+-- a record takes one level
+pub at_suc : {schema : ℕ → Schema} {k : ℕ} {P : Schema → Type 0} → ((n : ℕ) → k ≤ n → P (schema (suc n))) → AtDepths schema (suc k) P
+at_suc {schema} {k} {P} f = record { at = at_each }
+  where
+    at_each : (n : ℕ) → suc k ≤ n → P (schema n)
+    at_each zero h = absurd (omega arith)
+    at_each (suc n) h = f n (omega arith)
+
+pub slots-as_slots : (rs : List (Option Value)) → slots (as_slots rs) ≡ rs
+slots-as_slots [] = refl
+slots-as_slots (None ∷ rs) = ap (λ (l : List (Option Value)). None ∷ l) (slots-as_slots rs)
+slots-as_slots (Some v ∷ rs) = ap (λ (l : List (Option Value)). Some v ∷ l) (slots-as_slots rs)
+
+-- the normal form of a record has those of its components
+pub normal-record : (ps : Parts) (rs : List (Option Value)) → normal (record_of ps) (record_value rs []) ≡ record_value (normals ps rs) []
+unfolding normal
+normal-record ps rs = rw (slots-as_slots rs) refl
+
+module _ {X E : Type 0} (memory : E → X → Type 0) (presents : X → Schema → Value → X → Type 0) (refuses : E → X → Schema → Value → Type 0) where
+  -- a required component that is refused
+  pub required_refused : {t : TagTree} {s : Schema} {ps : Parts} {x : X} {v : Value} {rs : List (Option Value)} {e : E}
+      → memory e x ⊎ refuses e x s v → memory e x ⊎ RefusesParts presents refuses e (part t required s ps) x (Some v ∷ rs)
+  required_refused (inl m) = inl m
+  required_refused (inr h) = inr (refuses_here (refuses_required h))
+
+  -- a required component that is presented, and what comes of those behind it
+  pub required_written : {failed : X → Bool} → PresentsWell failed memory presents → (t : TagTree) (s : Schema) (ps : Parts) (x m : X) (v : Value) (rs : List (Option Value)) → presents x s v m
+      → (r : Result (Unit {0}) E) (y : X) → WritesParts memory presents refuses ps rs m r y → WritesParts memory presents refuses (part t required s ps) (Some v ∷ rs) x r y
+  required_written L t s ps x m v rs a (Ok u) y w = presents_next (presents_required a) w
+  required_written L t s ps x m v rs a (Err e) y (inl h) = inl (L.room x s v m e a h)
+  required_written L t s ps x m v rs a (Err e) y (inr h) = inr (refuses_behind (presents_required a) h)
+
+  -- the last component, required
+  pub last_written : (t : TagTree) (s : Schema) (x : X) (v : Value) (r : Result (Unit {0}) E) (y : X) → Writes memory presents refuses s v x r y
+      → WritesParts memory presents refuses (part t required s no_parts) (Some v ∷ []) x r y
+  last_written t s x v (Ok u) y w = presents_next (presents_required w) presents_end
+  last_written t s x v (Err e) y w = required_refused w
+
+  -- a record with a component that is refused
+  pub record_refused : (parts : ℕ → Parts) (rs : List (Option Value)) (k : ℕ) (x i j y : X) (e : E) → Passes memory presents refuses x i
+      → AtParts parts k (λ ps. WritesParts memory presents refuses ps (normals ps rs) i (Err e) j)
+      → AtDepths (record_at listed parts false no_additions) (suc k) (λ s. Writes memory presents refuses s (normal s (record_value rs [])) x (Err e) y)
+  record_refused parts rs k x i j y e h w = at_suc (λ n le. rw (normal-record (parts n) rs) (elim (w.at n le) [ inl m ↦ inl (h.room e m) | inr q ↦ inr (h.of_record e (parts n) (normals (parts n) rs) q) ]))
+
+  -- a record whose components were presented
+  pub record_closed : {O : Type 0} (opens : X → O → X → Type 0) (parts : ℕ → Parts) (rs : List (Option Value)) (k : ℕ) (x i j : X) (o : O) (u : Unit {0}) → opens x o i
+      → AtParts parts k (λ ps. WritesParts memory presents refuses ps (normals ps rs) i (Ok u) j) → (r : Result (Unit {0}) E) (y : X) → ClosesWritten memory presents refuses opens parts o j r y
+      → AtDepths (record_at listed parts false no_additions) (suc k) (λ s. Writes memory presents refuses s (normal s (record_value rs [])) x r y)
+  record_closed opens parts rs k x i j o u h w r y f = at_suc (λ n le. rw (normal-record (parts n) rs) (f x i n (normals (parts n) rs) h (w.at n le)))

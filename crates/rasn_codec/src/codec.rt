@@ -1,0 +1,759 @@
+//! The traits of values that can be encoded and decoded, and of encoders and decoders.
+
+ghost use Rattle.std.specs.Prelude.{◌≡◌, ℕ, suc, true, false, Bool, OnErr, IfOk, IsErrAnd, List, [], Option};
+ghost use Rattle.std.specs.Cow.{cow_slice_items, IsOwnedSlice};
+ghost use Rattle.std.specs.Fn.{FnOnceReturnsAtMut};
+ghost use Rattle.std.specs.String.{string_bytes};
+ghost use Rattle.rasn_types.specs.Alphabets.{visible, ia5, printable, numeric, bmp};
+ghost use Rattle.rasn_types.specs.Contents.{utf8, other};
+ghost use Rattle.rasn_types.specs.Values.{Value, truth, nothing, whole, octets, bits, characters};
+ghost use Rattle.rasn_schema.specs.Schemas.{Schema, listed};
+ghost use Rattle.rasn_schema.specs.Normal.{normal};
+ghost use Rattle.rasn_schema.specs.Forms.{number_schema, octet_schema, bit_schema, character_schema};
+ghost use Rattle.rasn_schema.specs.Records.{record_at, no_additions, record_value};
+ghost use Rattle.rasn_codec.specs.Calls.{AtDepths, Writes, Reads, takes_none, PresentsWell, ReadsWell};
+ghost use Rattle.rasn_codec.specs.Scopes.{OpensToWrite, ClosesWritten, WritesScope, OpensToRead, ClosesRead, ReadsScope, ScopesWell, KeepsCodec};
+
+use crate::record::{DecodeParts, EncodeParts};
+use rasn_schema::fields::Constructed;
+use rasn_schema::schema::{AsnType, Constraints, IntegerType};
+use rasn_types::bit_string::BitString;
+use rasn_types::octet_strings::{Any, GeneralString, GraphicString, TeletexString, Utf8String};
+use rasn_types::strings::{
+    BmpString, Ia5String, NumericString, PrintableString, StaticPermittedAlphabet, VisibleString,
+};
+use rasn_types::types::{Codec, Identifier, Tag};
+use std::alloc::Global;
+use std::borrow::CowSlice;
+
+/// What writes values, one after another. Each call presents one value of one schema, or refuses it.
+///
+/// A refused encoder refuses from then on, and says so before anything else.
+pub trait Encoder: Sized {
+    ghost use Rattle.rasn_types.specs.declared.types.Codec.{Codec};
+
+    type Error: Drop;
+
+    /// What waits outside while a record is open.
+    type Scope: Drop;
+
+    // One value is presented: what was written before, and what is written after it.
+    ghost presents: { Self → Schema → Value → Self → Type 0 };
+
+    // An error by which a value is refused: it has no encoding, or the encoder had failed; and the fault that the error names stands in the value.
+    ghost refuses: { Self.Error → Self → Schema → Value → Type 0 };
+
+    // A scope is opened: what was before, what waits outside, and how it is inside.
+    ghost opens: { Self → Self.Scope → Self → Type 0 };
+
+    // An error that says that memory ran out.
+    ghost memory: { Self.Error → Self → Type 0 };
+
+    // An error that says that the encoder had failed before.
+    ghost already: { Self.Error → Self → Type 0 };
+
+    ghost failed: { Self → Bool };
+
+    ghost codec: { Self → Codec };
+
+    /// The variant in use.
+    fn codec(&self) -> Codec
+        ensures { result ≡ codec self.now };
+
+    /// Writes a BOOLEAN, one bit (X.691 12).
+    fn encode_bool(
+        &mut self,
+        tag: Tag,
+        value: bool,
+        identifier: Identifier,
+    ) -> Result<(), Self::Error>
+        ensures law { Writes memory presents refuses Schema.boolean (truth value) self.old result self.new }
+        ensures again { failed self.old ≡ true → IsErrAnd result (λ e. already e self.old) }
+        ensures fails { OnErr result (failed self.new ≡ true) }
+        ensures kept { codec self.new ≡ codec self.old };
+
+    /// Writes an INTEGER under constraints (X.691 13).
+    fn encode_integer<I: IntegerType>(
+        &mut self,
+        tag: Tag,
+        constraints: &Constraints,
+        value: &I,
+        identifier: Identifier,
+    ) -> Result<(), Self::Error>
+        ensures law { Writes memory presents refuses (number_schema constraints.now I.range) (whole (I.number value.now)) self.old result self.new }
+        ensures again { failed self.old ≡ true → IsErrAnd result (λ e. already e self.old) }
+        ensures fails { OnErr result (failed self.new ≡ true) }
+        ensures kept { codec self.new ≡ codec self.old };
+
+    /// Writes a NULL, no bits (X.691 18). Takes no memory.
+    fn encode_null(&mut self, tag: Tag, identifier: Identifier) -> Result<(), Self::Error>
+        ensures law { Writes takes_none presents refuses Schema.null nothing self.old result self.new }
+        ensures again { failed self.old ≡ true → IsErrAnd result (λ e. already e self.old) }
+        ensures fails { OnErr result (failed self.new ≡ true) }
+        ensures kept { codec self.new ≡ codec self.old };
+
+    /// Writes the octets of a value whose type isn't known, behind an unconstrained length in octets (X.691 11.2).
+    fn encode_any(
+        &mut self,
+        tag: Tag,
+        value: &Any,
+        identifier: Identifier,
+    ) -> Result<(), Self::Error>
+        ensures law { Writes memory presents refuses Schema.any (octets value.now) self.old result self.new }
+        ensures again { failed self.old ≡ true → IsErrAnd result (λ e. already e self.old) }
+        ensures fails { OnErr result (failed self.new ≡ true) }
+        ensures kept { codec self.new ≡ codec self.old };
+
+    /// Writes an OCTET STRING under constraints, of which the size counts octets (X.691 17).
+    fn encode_octet_string(
+        &mut self,
+        tag: Tag,
+        constraints: &Constraints,
+        value: &[u8],
+        identifier: Identifier,
+    ) -> Result<(), Self::Error>
+        ensures law { Writes memory presents refuses (octet_schema constraints.now) (octets value.now) self.old result self.new }
+        ensures again { failed self.old ≡ true → IsErrAnd result (λ e. already e self.old) }
+        ensures fails { OnErr result (failed self.new ≡ true) }
+        ensures kept { codec self.new ≡ codec self.old };
+
+    /// Writes a BIT STRING under constraints, of which the size counts bits (X.691 16).
+    fn encode_bit_string(
+        &mut self,
+        tag: Tag,
+        constraints: &Constraints,
+        value: &BitString,
+        identifier: Identifier,
+    ) -> Result<(), Self::Error>
+        ensures law { Writes memory presents refuses (bit_schema constraints.now) (bits value.now) self.old result self.new }
+        ensures again { failed self.old ≡ true → IsErrAnd result (λ e. already e self.old) }
+        ensures fails { OnErr result (failed self.new ≡ true) }
+        ensures kept { codec self.new ≡ codec self.old };
+
+    /// Writes a string of a known-multiplier type under constraints: of each character its code among those that the
+    /// type and its permitted alphabet leave (X.691 30.5). The size counts characters.
+    fn encode_known_multiplier_string<S: StaticPermittedAlphabet>(
+        &mut self,
+        tag: Tag,
+        constraints: &Constraints,
+        value: &S,
+        identifier: Identifier,
+    ) -> Result<(), Self::Error>
+        ensures law { Writes memory presents refuses (character_schema S.alphabet constraints.now) (characters (S.characters value.now)) self.old result self.new }
+        ensures again { failed self.old ≡ true → IsErrAnd result (λ e. already e self.old) }
+        ensures fails { OnErr result (failed self.new ≡ true) }
+        ensures kept { codec self.new ≡ codec self.old };
+
+    /// Writes a UTF8String: its octets behind an unconstrained length. No constraint is visible (X.691 30.6).
+    fn encode_utf8_string(
+        &mut self,
+        tag: Tag,
+        constraints: &Constraints,
+        value: &str,
+        identifier: Identifier,
+    ) -> Result<(), Self::Error>
+        ensures law { Writes memory presents refuses (Schema.text utf8) (octets value.now) self.old result self.new }
+        ensures again { failed self.old ≡ true → IsErrAnd result (λ e. already e self.old) }
+        ensures fails { OnErr result (failed self.new ≡ true) }
+        ensures kept { codec self.new ≡ codec self.old };
+
+    /// Writes a GeneralString: its octets behind an unconstrained length. No constraint is visible (X.691 30.6).
+    fn encode_general_string(
+        &mut self,
+        tag: Tag,
+        constraints: &Constraints,
+        value: &GeneralString,
+        identifier: Identifier,
+    ) -> Result<(), Self::Error>
+        ensures law { Writes memory presents refuses (Schema.text other) (octets value.now) self.old result self.new }
+        ensures again { failed self.old ≡ true → IsErrAnd result (λ e. already e self.old) }
+        ensures fails { OnErr result (failed self.new ≡ true) }
+        ensures kept { codec self.new ≡ codec self.old };
+
+    /// Writes a GraphicString: its octets behind an unconstrained length. No constraint is visible (X.691 30.6).
+    fn encode_graphic_string(
+        &mut self,
+        tag: Tag,
+        constraints: &Constraints,
+        value: &GraphicString,
+        identifier: Identifier,
+    ) -> Result<(), Self::Error>
+        ensures law { Writes memory presents refuses (Schema.text other) (octets value.now) self.old result self.new }
+        ensures again { failed self.old ≡ true → IsErrAnd result (λ e. already e self.old) }
+        ensures fails { OnErr result (failed self.new ≡ true) }
+        ensures kept { codec self.new ≡ codec self.old };
+
+    /// Writes a TeletexString: its octets behind an unconstrained length. No constraint is visible (X.691 30.6).
+    fn encode_teletex_string(
+        &mut self,
+        tag: Tag,
+        constraints: &Constraints,
+        value: &TeletexString,
+        identifier: Identifier,
+    ) -> Result<(), Self::Error>
+        ensures law { Writes memory presents refuses (Schema.text other) (octets value.now) self.old result self.new }
+        ensures again { failed self.old ≡ true → IsErrAnd result (λ e. already e self.old) }
+        ensures fails { OnErr result (failed self.new ≡ true) }
+        ensures kept { codec self.new ≡ codec self.old };
+
+    /// Opens a SEQUENCE (X.691 19): the calls from here to `close_sequence` write its components, in the order of
+    /// `FIELDS`.
+    fn open_sequence<C: Constructed>(
+        &mut self,
+        tag: Tag,
+        identifier: Identifier,
+    ) -> Result<Self::Scope, Self::Error>
+        ensures law { OpensToWrite memory presents refuses opens C.parts self.old result self.new }
+        ensures again { failed self.old ≡ true → IsErrAnd result (λ e. already e self.old) }
+        ensures fails { OnErr result (failed self.new ≡ true) }
+        ensures kept { codec self.new ≡ codec self.old };
+
+    /// Closes a SEQUENCE in which its components were written.
+    fn close_sequence<C: Constructed>(&mut self, scope: Self::Scope) -> Result<(), Self::Error>
+        ensures law { ClosesWritten memory presents refuses opens C.parts scope self.old result self.new }
+        ensures again { failed self.old ≡ true → IsErrAnd result (λ e. already e self.old) }
+        ensures fails { OnErr result (failed self.new ≡ true) }
+        ensures kept { codec self.new ≡ codec self.old };
+
+    /// Refuses from now on.
+    fn fail(&mut self)
+        ensures fails { failed self.new ≡ true }
+        ensures kept { codec self.new ≡ codec self.old };
+
+    /// Writes a VisibleString under constraints (X.691 30.5).
+    final fn encode_visible_string(
+        &mut self,
+        tag: Tag,
+        constraints: &Constraints,
+        value: &VisibleString,
+        identifier: Identifier,
+    ) -> Result<(), Self::Error>
+        ensures law { Writes memory presents refuses (character_schema visible constraints.now) (characters value.now) self.old result self.new }
+        ensures again { failed self.old ≡ true → IsErrAnd result (λ e. already e self.old) }
+        ensures fails { OnErr result (failed self.new ≡ true) }
+        ensures kept { codec self.new ≡ codec self.old }
+    {
+        self.encode_known_multiplier_string(tag, constraints, value, identifier)
+    }
+
+    /// Writes an IA5String under constraints (X.691 30.5).
+    final fn encode_ia5_string(
+        &mut self,
+        tag: Tag,
+        constraints: &Constraints,
+        value: &Ia5String,
+        identifier: Identifier,
+    ) -> Result<(), Self::Error>
+        ensures law { Writes memory presents refuses (character_schema ia5 constraints.now) (characters value.now) self.old result self.new }
+        ensures again { failed self.old ≡ true → IsErrAnd result (λ e. already e self.old) }
+        ensures fails { OnErr result (failed self.new ≡ true) }
+        ensures kept { codec self.new ≡ codec self.old }
+    {
+        self.encode_known_multiplier_string(tag, constraints, value, identifier)
+    }
+
+    /// Writes a PrintableString under constraints (X.691 30.5).
+    final fn encode_printable_string(
+        &mut self,
+        tag: Tag,
+        constraints: &Constraints,
+        value: &PrintableString,
+        identifier: Identifier,
+    ) -> Result<(), Self::Error>
+        ensures law { Writes memory presents refuses (character_schema printable constraints.now) (characters value.now) self.old result self.new }
+        ensures again { failed self.old ≡ true → IsErrAnd result (λ e. already e self.old) }
+        ensures fails { OnErr result (failed self.new ≡ true) }
+        ensures kept { codec self.new ≡ codec self.old }
+    {
+        self.encode_known_multiplier_string(tag, constraints, value, identifier)
+    }
+
+    /// Writes a NumericString under constraints (X.691 30.5).
+    final fn encode_numeric_string(
+        &mut self,
+        tag: Tag,
+        constraints: &Constraints,
+        value: &NumericString,
+        identifier: Identifier,
+    ) -> Result<(), Self::Error>
+        ensures law { Writes memory presents refuses (character_schema numeric constraints.now) (characters value.now) self.old result self.new }
+        ensures again { failed self.old ≡ true → IsErrAnd result (λ e. already e self.old) }
+        ensures fails { OnErr result (failed self.new ≡ true) }
+        ensures kept { codec self.new ≡ codec self.old }
+    {
+        self.encode_known_multiplier_string(tag, constraints, value, identifier)
+    }
+
+    /// Writes a BMPString under constraints (X.691 30.5).
+    final fn encode_bmp_string(
+        &mut self,
+        tag: Tag,
+        constraints: &Constraints,
+        value: &BmpString,
+        identifier: Identifier,
+    ) -> Result<(), Self::Error>
+        ensures law { Writes memory presents refuses (character_schema bmp constraints.now) (characters value.now) self.old result self.new }
+        ensures again { failed self.old ≡ true → IsErrAnd result (λ e. already e self.old) }
+        ensures fails { OnErr result (failed self.new ≡ true) }
+        ensures kept { codec self.new ≡ codec self.old }
+    {
+        self.encode_known_multiplier_string(tag, constraints, value, identifier)
+    }
+
+    /// Writes a SEQUENCE (X.691 19), whose components `scope` writes, in the order of `FIELDS`.
+    final fn encode_sequence<
+        C: Constructed,
+        F: FnOnce(&mut Self) -> Result<(), Self::Error>,
+        I: Into<Identifier>,
+    >(&mut self, tag: Tag, scope: F, identifier: I) -> Result<(), Self::Error>
+        requires { F.IsAlwaysCallable scope }
+        ensures law { (rs : List (Option Value)) (k : ℕ) → WritesScope memory presents refuses C.parts rs k (FnOnceReturnsAtMut F.FnOnce scope)
+            → AtDepths (record_at listed C.parts false no_additions) (suc k) (λ s. Writes memory presents refuses s (normal s (record_value rs [])) self.old result self.new) }
+        ensures again { failed self.old ≡ true → IsErrAnd result (λ e. already e self.old) }
+        ensures fails { OnErr result (failed self.new ≡ true) }
+        ensures kept { KeepsCodec codec (FnOnceReturnsAtMut F.FnOnce scope) → codec self.new ≡ codec self.old }
+    {
+        let outside = self.open_sequence::<C>(tag, identifier.into())?;
+        if let Err(error) = scope(self) {
+            self.fail();
+            return Err(error);
+        }
+        self.close_sequence::<C>(outside)
+    }
+
+    /// Writes a SEQUENCE (X.691 19) by the list of its components, which stand in the order of `FIELDS`.
+    final fn encode_record<C: Constructed, P: EncodeParts, I: Into<Identifier>>(
+        &mut self,
+        tag: Tag,
+        parts: &P,
+        identifier: I,
+    ) -> Result<(), Self::Error>
+        requires { (n : ℕ) → C.parts n ≡ P.parts parts.now n }
+        ensures law { AtDepths (record_at listed C.parts false no_additions) (suc (P.levels parts.now))
+            (λ s. Writes memory presents refuses s (normal s (record_value (P.contents parts.now) [])) self.old result self.new) }
+        ensures again { failed self.old ≡ true → IsErrAnd result (λ e. already e self.old) }
+        ensures fails { OnErr result (failed self.new ≡ true) }
+        ensures kept { codec self.new ≡ codec self.old }
+    {
+        let outside = self.open_sequence::<C>(tag, identifier.into())?;
+        parts.encode_parts(self)?;
+        self.close_sequence::<C>(outside)
+    }
+
+    // What holds of each encoder's relations.
+    ghost lawful: { PresentsWell failed memory presents };
+}
+
+/// What reads values, one after another. Each call takes the front of what is left that spells one value of one
+/// schema, or refuses.
+///
+/// A refused decoder refuses from then on, and says so before anything else.
+pub trait Decoder: Sized {
+    ghost use Rattle.rasn_types.specs.declared.types.Codec.{Codec};
+
+    type Error: Drop;
+
+    /// What waits outside while a record is open.
+    type Scope: Drop;
+
+    // How many levels may still be entered.
+    ghost levels: { Self → ℕ };
+
+    // A front of what is left spells a value, and what is left behind it.
+    ghost spells: { Schema → Self → Value → Self → Type 0 };
+
+    // A scope is opened to read a schema: what was before, what waits outside, and how it is inside.
+    ghost opens: { Schema → Self → Self.Scope → Self → Type 0 };
+
+    // A scope ends: how it is inside, what waited outside, and how it is behind the scope.
+    ghost closes: { Self → Self.Scope → Self → Type 0 };
+
+    // The fault that an error names stands in what is left, as a schema reads it.
+    ghost fault: { Schema → Self.Error → Self → Type 0 };
+
+    // The fault that an error names stands at the end of a scope.
+    ghost unended: { Self.Scope → Self.Error → Self → Type 0 };
+
+    // An error that says that memory ran out.
+    ghost memory: { Self.Error → Self → Type 0 };
+
+    // An error that says that the decoder had failed before.
+    ghost already: { Self.Error → Self → Type 0 };
+
+    ghost failed: { Self → Bool };
+
+    ghost codec: { Self → Codec };
+
+    /// The variant in use.
+    fn codec(&self) -> Codec
+        ensures { result ≡ codec self.now };
+
+    /// Where the memory of what is read comes from.
+    fn alloc(&self) -> Global;
+
+    /// Refuses from now on, and answers that memory ran out: for an implementation whose own growth was refused.
+    fn out_of_memory(&mut self) -> Self::Error
+        ensures memory { memory result self.old }
+        ensures fails { failed self.new ≡ true }
+        ensures kept { codec self.new ≡ codec self.old };
+
+    /// Reads a BOOLEAN (X.691 12). Takes no memory.
+    fn decode_bool(&mut self, tag: Tag) -> Result<bool, Self::Error>
+        ensures law { Reads takes_none fault spells Schema.boolean truth self.old result self.new }
+        ensures again { failed self.old ≡ true → IsErrAnd result (λ e. already e self.old) }
+        ensures fails { OnErr result (failed self.new ≡ true) }
+        ensures kept { codec self.new ≡ codec self.old };
+
+    /// Reads an INTEGER under constraints (X.691 13).
+    fn decode_integer<I: IntegerType>(
+        &mut self,
+        tag: Tag,
+        constraints: &Constraints,
+    ) -> Result<I, Self::Error>
+        ensures law { Reads memory fault spells (number_schema constraints.now I.range) (λ x. whole (I.number x)) self.old result self.new }
+        ensures again { failed self.old ≡ true → IsErrAnd result (λ e. already e self.old) }
+        ensures fails { OnErr result (failed self.new ≡ true) }
+        ensures kept { codec self.new ≡ codec self.old };
+
+    /// Reads a NULL (X.691 18). Takes no memory.
+    fn decode_null(&mut self, tag: Tag) -> Result<(), Self::Error>
+        ensures law { Reads takes_none fault spells Schema.null (λ _. nothing) self.old result self.new }
+        ensures again { failed self.old ≡ true → IsErrAnd result (λ e. already e self.old) }
+        ensures fails { OnErr result (failed self.new ≡ true) }
+        ensures kept { codec self.new ≡ codec self.old };
+
+    /// Reads the octets of a value whose type isn't known (X.691 11.2).
+    fn decode_any(&mut self, tag: Tag) -> Result<Any, Self::Error>
+        ensures law { Reads memory fault spells Schema.any (λ x. octets x) self.old result self.new }
+        ensures again { failed self.old ≡ true → IsErrAnd result (λ e. already e self.old) }
+        ensures fails { OnErr result (failed self.new ≡ true) }
+        ensures kept { codec self.new ≡ codec self.old };
+
+    /// Reads an OCTET STRING under constraints (X.691 17). The octets are `Owned`.
+    fn decode_octet_string(
+        &mut self,
+        tag: Tag,
+        constraints: &Constraints,
+    ) -> Result<CowSlice<'static, u8>, Self::Error>
+        ensures law { Reads memory fault spells (octet_schema constraints.now) (λ x. octets (cow_slice_items x)) self.old result self.new }
+        ensures owned { IfOk result (λ x. IsOwnedSlice x) }
+        ensures again { failed self.old ≡ true → IsErrAnd result (λ e. already e self.old) }
+        ensures fails { OnErr result (failed self.new ≡ true) }
+        ensures kept { codec self.new ≡ codec self.old };
+
+    /// Reads a BIT STRING under constraints (X.691 16).
+    fn decode_bit_string(
+        &mut self,
+        tag: Tag,
+        constraints: &Constraints,
+    ) -> Result<BitString, Self::Error>
+        ensures law { Reads memory fault spells (bit_schema constraints.now) (λ x. bits x) self.old result self.new }
+        ensures again { failed self.old ≡ true → IsErrAnd result (λ e. already e self.old) }
+        ensures fails { OnErr result (failed self.new ≡ true) }
+        ensures kept { codec self.new ≡ codec self.old };
+
+    /// Reads a string of a known-multiplier type under constraints (X.691 30.5).
+    fn decode_known_multiplier_string<S: StaticPermittedAlphabet>(
+        &mut self,
+        tag: Tag,
+        constraints: &Constraints,
+    ) -> Result<S, Self::Error>
+        ensures law { Reads memory fault spells (character_schema S.alphabet constraints.now) (λ x. characters (S.characters x)) self.old result self.new }
+        ensures again { failed self.old ≡ true → IsErrAnd result (λ e. already e self.old) }
+        ensures fails { OnErr result (failed self.new ≡ true) }
+        ensures kept { codec self.new ≡ codec self.old };
+
+    /// Reads a UTF8String (X.691 30.6). No constraint is visible.
+    fn decode_utf8_string(
+        &mut self,
+        tag: Tag,
+        constraints: &Constraints,
+    ) -> Result<Utf8String, Self::Error>
+        ensures law { Reads memory fault spells (Schema.text utf8) (λ x. octets (string_bytes x)) self.old result self.new }
+        ensures again { failed self.old ≡ true → IsErrAnd result (λ e. already e self.old) }
+        ensures fails { OnErr result (failed self.new ≡ true) }
+        ensures kept { codec self.new ≡ codec self.old };
+
+    /// Reads a GeneralString (X.691 30.6). No constraint is visible.
+    fn decode_general_string(
+        &mut self,
+        tag: Tag,
+        constraints: &Constraints,
+    ) -> Result<GeneralString, Self::Error>
+        ensures law { Reads memory fault spells (Schema.text other) (λ x. octets x) self.old result self.new }
+        ensures again { failed self.old ≡ true → IsErrAnd result (λ e. already e self.old) }
+        ensures fails { OnErr result (failed self.new ≡ true) }
+        ensures kept { codec self.new ≡ codec self.old };
+
+    /// Reads a GraphicString (X.691 30.6). No constraint is visible.
+    fn decode_graphic_string(
+        &mut self,
+        tag: Tag,
+        constraints: &Constraints,
+    ) -> Result<GraphicString, Self::Error>
+        ensures law { Reads memory fault spells (Schema.text other) (λ x. octets x) self.old result self.new }
+        ensures again { failed self.old ≡ true → IsErrAnd result (λ e. already e self.old) }
+        ensures fails { OnErr result (failed self.new ≡ true) }
+        ensures kept { codec self.new ≡ codec self.old };
+
+    /// Reads a TeletexString (X.691 30.6). No constraint is visible.
+    fn decode_teletex_string(
+        &mut self,
+        tag: Tag,
+        constraints: &Constraints,
+    ) -> Result<TeletexString, Self::Error>
+        ensures law { Reads memory fault spells (Schema.text other) (λ x. octets x) self.old result self.new }
+        ensures again { failed self.old ≡ true → IsErrAnd result (λ e. already e self.old) }
+        ensures fails { OnErr result (failed self.new ≡ true) }
+        ensures kept { codec self.new ≡ codec self.old };
+
+    /// Opens a SEQUENCE (X.691 19), which takes a level: the calls from here to `close_sequence` read its components,
+    /// in the order of `FIELDS`. At no level left it refuses.
+    fn open_sequence<C: Constructed>(&mut self, tag: Tag) -> Result<Self::Scope, Self::Error>
+        ensures law { OpensToRead levels memory fault spells opens C.parts self.old result self.new }
+        ensures again { failed self.old ≡ true → IsErrAnd result (λ e. already e self.old) }
+        ensures fails { OnErr result (failed self.new ≡ true) }
+        ensures kept { codec self.new ≡ codec self.old };
+
+    /// Closes a SEQUENCE, and gives its level back.
+    fn close_sequence(&mut self, scope: Self::Scope) -> Result<(), Self::Error>
+        ensures law { failed self.old ≡ false → ClosesRead memory unended closes scope self.old result self.new }
+        ensures again { failed self.old ≡ true → IsErrAnd result (λ e. already e self.old) }
+        ensures fails { OnErr result (failed self.new ≡ true) }
+        ensures kept { codec self.new ≡ codec self.old };
+
+    /// Refuses from now on.
+    fn fail(&mut self)
+        ensures fails { failed self.new ≡ true }
+        ensures kept { codec self.new ≡ codec self.old };
+
+    /// Reads a VisibleString under constraints (X.691 30.5).
+    final fn decode_visible_string(
+        &mut self,
+        tag: Tag,
+        constraints: &Constraints,
+    ) -> Result<VisibleString, Self::Error>
+        ensures law { Reads memory fault spells (character_schema visible constraints.now) (λ x. characters x) self.old result self.new }
+        ensures again { failed self.old ≡ true → IsErrAnd result (λ e. already e self.old) }
+        ensures fails { OnErr result (failed self.new ≡ true) }
+        ensures kept { codec self.new ≡ codec self.old }
+    {
+        self.decode_known_multiplier_string::<VisibleString>(tag, constraints)
+    }
+
+    /// Reads an IA5String under constraints (X.691 30.5).
+    final fn decode_ia5_string(
+        &mut self,
+        tag: Tag,
+        constraints: &Constraints,
+    ) -> Result<Ia5String, Self::Error>
+        ensures law { Reads memory fault spells (character_schema ia5 constraints.now) (λ x. characters x) self.old result self.new }
+        ensures again { failed self.old ≡ true → IsErrAnd result (λ e. already e self.old) }
+        ensures fails { OnErr result (failed self.new ≡ true) }
+        ensures kept { codec self.new ≡ codec self.old }
+    {
+        self.decode_known_multiplier_string::<Ia5String>(tag, constraints)
+    }
+
+    /// Reads a PrintableString under constraints (X.691 30.5).
+    final fn decode_printable_string(
+        &mut self,
+        tag: Tag,
+        constraints: &Constraints,
+    ) -> Result<PrintableString, Self::Error>
+        ensures law { Reads memory fault spells (character_schema printable constraints.now) (λ x. characters x) self.old result self.new }
+        ensures again { failed self.old ≡ true → IsErrAnd result (λ e. already e self.old) }
+        ensures fails { OnErr result (failed self.new ≡ true) }
+        ensures kept { codec self.new ≡ codec self.old }
+    {
+        self.decode_known_multiplier_string::<PrintableString>(tag, constraints)
+    }
+
+    /// Reads a NumericString under constraints (X.691 30.5).
+    final fn decode_numeric_string(
+        &mut self,
+        tag: Tag,
+        constraints: &Constraints,
+    ) -> Result<NumericString, Self::Error>
+        ensures law { Reads memory fault spells (character_schema numeric constraints.now) (λ x. characters x) self.old result self.new }
+        ensures again { failed self.old ≡ true → IsErrAnd result (λ e. already e self.old) }
+        ensures fails { OnErr result (failed self.new ≡ true) }
+        ensures kept { codec self.new ≡ codec self.old }
+    {
+        self.decode_known_multiplier_string::<NumericString>(tag, constraints)
+    }
+
+    /// Reads a BMPString under constraints (X.691 30.5).
+    final fn decode_bmp_string(
+        &mut self,
+        tag: Tag,
+        constraints: &Constraints,
+    ) -> Result<BmpString, Self::Error>
+        ensures law { Reads memory fault spells (character_schema bmp constraints.now) (λ x. characters x) self.old result self.new }
+        ensures again { failed self.old ≡ true → IsErrAnd result (λ e. already e self.old) }
+        ensures fails { OnErr result (failed self.new ≡ true) }
+        ensures kept { codec self.new ≡ codec self.old }
+    {
+        self.decode_known_multiplier_string::<BmpString>(tag, constraints)
+    }
+
+    /// Reads a SEQUENCE (X.691 19), whose components `scope` reads, in the order of `FIELDS`.
+    final fn decode_sequence<
+        C: Constructed + Drop,
+        G: FnOnce() -> C,
+        F: FnOnce(&mut Self) -> Result<C, Self::Error>,
+    >(&mut self, tag: Tag, default: Option<G>, scope: F) -> Result<C, Self::Error>
+        requires { (x : _) → suc (levels x.now) ≡ levels self.old → F.pre scope x }
+        ensures law { ReadsScope levels memory fault spells C.parts C.contents (levels self.old) (FnOnceReturnsAtMut F.FnOnce scope)
+            → Reads memory fault spells (record_at listed C.parts false no_additions (levels self.old)) (λ x. record_value (C.contents x) []) self.old result self.new }
+        ensures again { failed self.old ≡ true → IsErrAnd result (λ e. already e self.old) }
+        ensures fails { OnErr result (failed self.new ≡ true) }
+        ensures kept { KeepsCodec codec (FnOnceReturnsAtMut F.FnOnce scope) → codec self.new ≡ codec self.old }
+    {
+        drop(default);
+        let outside = self.open_sequence::<C>(tag)?;
+        match scope(self) {
+            Ok(value) => {
+                self.close_sequence(outside)?;
+                Ok(value)
+            }
+            Err(error) => {
+                self.fail();
+                Err(error)
+            }
+        }
+    }
+
+    /// Reads a SEQUENCE (X.691 19) by the list of its components, which stand in the order of `FIELDS`, and answers
+    /// what they are.
+    final fn decode_record<C: Constructed, P: DecodeParts>(
+        &mut self,
+        tag: Tag,
+        parts: &P,
+    ) -> Result<P::Values, Self::Error>
+        requires { (n : ℕ) → C.parts n ≡ P.parts parts.now n }
+        ensures law { Reads memory fault spells (record_at listed C.parts false no_additions (levels self.old)) (λ values. record_value (P.contents values) []) self.old result self.new }
+        ensures again { failed self.old ≡ true → IsErrAnd result (λ e. already e self.old) }
+        ensures fails { OnErr result (failed self.new ≡ true) }
+        ensures kept { codec self.new ≡ codec self.old }
+    {
+        let outside = self.open_sequence::<C>(tag)?;
+        let values = parts.decode_parts(self)?;
+        self.close_sequence(outside)?;
+        Ok(values)
+    }
+
+    // What holds of each decoder's relations.
+    ghost lawful: { (s : Schema) → ReadsWell levels failed memory (spells s) };
+
+    // What holds of each decoder's scopes.
+    ghost scopes: { ScopesWell failed memory fault unended spells opens closes };
+}
+
+/// A value that can be encoded. A call that answers Ok presents the normal form of the value by its schema, and a
+/// call refuses, memory and earlier refusals aside, exactly where that has no encoding.
+pub trait Encode: AsnType {
+    /// Writes the value under a tag, constraints and a name.
+    fn encode_with_tag_and_constraints<E: Encoder>(
+        &self,
+        encoder: &mut E,
+        tag: Tag,
+        constraints: &Constraints,
+        identifier: Identifier,
+    ) -> Result<(), E::Error>
+        ensures law { AtDepths (Self.schema constraints.now) (Self.levels self.now)
+            (λ s. Writes E.memory E.presents E.refuses s (normal s (Self.value self.now)) encoder.old result encoder.new) }
+        ensures again { E.failed encoder.old ≡ true → IsErrAnd result (λ e. E.already e encoder.old) }
+        ensures fails { OnErr result (E.failed encoder.new ≡ true) }
+        ensures kept { E.codec encoder.new ≡ E.codec encoder.old };
+
+    /// Writes the value under its type's own tag, constraints and name.
+    final fn encode<E: Encoder>(&self, encoder: &mut E) -> Result<(), E::Error>
+        ensures law { AtDepths (Self.schema Self.CONSTRAINTS) (Self.levels self.now)
+            (λ s. Writes E.memory E.presents E.refuses s (normal s (Self.value self.now)) encoder.old result encoder.new) }
+        ensures again { E.failed encoder.old ≡ true → IsErrAnd result (λ e. E.already e encoder.old) }
+        ensures fails { OnErr result (E.failed encoder.new ≡ true) }
+        ensures kept { E.codec encoder.new ≡ E.codec encoder.old }
+    {
+        self.encode_with_tag_and_constraints(
+            encoder,
+            Self::TAG,
+            &Self::CONSTRAINTS,
+            Self::IDENTIFIER,
+        )
+    }
+
+    /// Writes the value under a tag, and its type's own constraints and name.
+    final fn encode_with_tag<E: Encoder>(&self, encoder: &mut E, tag: Tag) -> Result<(), E::Error>
+        ensures law { AtDepths (Self.schema Self.CONSTRAINTS) (Self.levels self.now)
+            (λ s. Writes E.memory E.presents E.refuses s (normal s (Self.value self.now)) encoder.old result encoder.new) }
+        ensures again { E.failed encoder.old ≡ true → IsErrAnd result (λ e. E.already e encoder.old) }
+        ensures fails { OnErr result (E.failed encoder.new ≡ true) }
+        ensures kept { E.codec encoder.new ≡ E.codec encoder.old }
+    {
+        self.encode_with_tag_and_constraints(encoder, tag, &Self::CONSTRAINTS, Self::IDENTIFIER)
+    }
+
+    /// Writes the value under constraints, and its type's own tag and name.
+    final fn encode_with_constraints<E: Encoder>(
+        &self,
+        encoder: &mut E,
+        constraints: &Constraints,
+    ) -> Result<(), E::Error>
+        ensures law { AtDepths (Self.schema constraints.now) (Self.levels self.now)
+            (λ s. Writes E.memory E.presents E.refuses s (normal s (Self.value self.now)) encoder.old result encoder.new) }
+        ensures again { E.failed encoder.old ≡ true → IsErrAnd result (λ e. E.already e encoder.old) }
+        ensures fails { OnErr result (E.failed encoder.new ≡ true) }
+        ensures kept { E.codec encoder.new ≡ E.codec encoder.old }
+    {
+        self.encode_with_tag_and_constraints(encoder, Self::TAG, constraints, Self::IDENTIFIER)
+    }
+}
+
+/// A value that can be decoded. A call that answers Ok has taken what spells the value by its schema, to the levels
+/// left, and a call refuses, memory and earlier refusals aside, exactly where nothing does.
+pub trait Decode: AsnType + Sized + Drop {
+    /// Reads a value under a tag and constraints.
+    fn decode_with_tag_and_constraints<D: Decoder>(
+        decoder: &mut D,
+        tag: Tag,
+        constraints: &Constraints,
+    ) -> Result<Self, D::Error>
+        ensures law { Reads D.memory D.fault D.spells (Self.schema constraints.now (D.levels decoder.old)) Self.value decoder.old result decoder.new }
+        ensures again { D.failed decoder.old ≡ true → IsErrAnd result (λ e. D.already e decoder.old) }
+        ensures fails { OnErr result (D.failed decoder.new ≡ true) }
+        ensures kept { D.codec decoder.new ≡ D.codec decoder.old };
+
+    /// Reads a value under its type's own tag and constraints.
+    final fn decode<D: Decoder>(decoder: &mut D) -> Result<Self, D::Error>
+        ensures law { Reads D.memory D.fault D.spells (Self.schema Self.CONSTRAINTS (D.levels decoder.old)) Self.value decoder.old result decoder.new }
+        ensures again { D.failed decoder.old ≡ true → IsErrAnd result (λ e. D.already e decoder.old) }
+        ensures fails { OnErr result (D.failed decoder.new ≡ true) }
+        ensures kept { D.codec decoder.new ≡ D.codec decoder.old }
+    {
+        Self::decode_with_tag_and_constraints(decoder, Self::TAG, &Self::CONSTRAINTS)
+    }
+
+    /// Reads a value under a tag and its type's own constraints.
+    final fn decode_with_tag<D: Decoder>(decoder: &mut D, tag: Tag) -> Result<Self, D::Error>
+        ensures law { Reads D.memory D.fault D.spells (Self.schema Self.CONSTRAINTS (D.levels decoder.old)) Self.value decoder.old result decoder.new }
+        ensures again { D.failed decoder.old ≡ true → IsErrAnd result (λ e. D.already e decoder.old) }
+        ensures fails { OnErr result (D.failed decoder.new ≡ true) }
+        ensures kept { D.codec decoder.new ≡ D.codec decoder.old }
+    {
+        Self::decode_with_tag_and_constraints(decoder, tag, &Self::CONSTRAINTS)
+    }
+
+    /// Reads a value under its type's own tag and under constraints.
+    final fn decode_with_constraints<D: Decoder>(
+        decoder: &mut D,
+        constraints: &Constraints,
+    ) -> Result<Self, D::Error>
+        ensures law { Reads D.memory D.fault D.spells (Self.schema constraints.now (D.levels decoder.old)) Self.value decoder.old result decoder.new }
+        ensures again { D.failed decoder.old ≡ true → IsErrAnd result (λ e. D.already e decoder.old) }
+        ensures fails { OnErr result (D.failed decoder.new ≡ true) }
+        ensures kept { D.codec decoder.new ≡ D.codec decoder.old }
+    {
+        Self::decode_with_tag_and_constraints(decoder, Self::TAG, constraints)
+    }
+}

@@ -1,0 +1,9 @@
+//! The traits of values and codecs, and how values of the plain types and records are written and read.
+#![tactic(auto)]
+
+pub mod codec;
+pub mod integers;
+pub mod octets;
+pub mod plain;
+pub mod record;
+pub mod strings;

@@ -1,0 +1,82 @@
+//! How OCTET STRING (X.680 23), BIT STRING (X.680 22) and values whose types aren't known are written and read.
+
+use crate::codec::{Decode, Decoder, Encode, Encoder};
+use rasn_schema::schema::Constraints;
+use rasn_types::bit_string::BitString;
+use rasn_types::octet_strings::{Any, OctetString};
+use rasn_types::types::{Identifier, Tag};
+
+impl Encode for OctetString {
+    #[tactic(auto, unfolding(rasn_schema::specs::Normal::normal))]
+    fn encode_with_tag_and_constraints<E: Encoder>(
+        &self,
+        encoder: &mut E,
+        tag: Tag,
+        constraints: &Constraints,
+        identifier: Identifier,
+    ) -> Result<(), E::Error> {
+        encoder.encode_octet_string(tag, constraints, self.as_bytes(), identifier)
+    }
+}
+
+impl Decode for OctetString {
+    fn decode_with_tag_and_constraints<D: Decoder>(
+        decoder: &mut D,
+        tag: Tag,
+        constraints: &Constraints,
+    ) -> Result<OctetString, D::Error> {
+        let octets = decoder.decode_octet_string(tag, constraints)?;
+        match octets.into_owned(decoder.alloc()) {
+            Ok(octets) => Ok(OctetString::from(octets)),
+            Err(_) => Err(decoder.out_of_memory()),
+        }
+    }
+}
+
+impl Encode for BitString {
+    #[tactic(auto, unfolding(rasn_schema::specs::Normal::normal))]
+    fn encode_with_tag_and_constraints<E: Encoder>(
+        &self,
+        encoder: &mut E,
+        tag: Tag,
+        constraints: &Constraints,
+        identifier: Identifier,
+    ) -> Result<(), E::Error> {
+        encoder.encode_bit_string(tag, constraints, self, identifier)
+    }
+}
+
+impl Decode for BitString {
+    fn decode_with_tag_and_constraints<D: Decoder>(
+        decoder: &mut D,
+        tag: Tag,
+        constraints: &Constraints,
+    ) -> Result<BitString, D::Error> {
+        decoder.decode_bit_string(tag, constraints)
+    }
+}
+
+impl Encode for Any {
+    #[tactic(auto, unfolding(rasn_schema::specs::Normal::normal))]
+    fn encode_with_tag_and_constraints<E: Encoder>(
+        &self,
+        encoder: &mut E,
+        tag: Tag,
+        constraints: &Constraints,
+        identifier: Identifier,
+    ) -> Result<(), E::Error> {
+        let _ = constraints;
+        encoder.encode_any(tag, self, identifier)
+    }
+}
+
+impl Decode for Any {
+    fn decode_with_tag_and_constraints<D: Decoder>(
+        decoder: &mut D,
+        tag: Tag,
+        constraints: &Constraints,
+    ) -> Result<Any, D::Error> {
+        let _ = constraints;
+        decoder.decode_any(tag)
+    }
+}

@@ -1,0 +1,214 @@
+//! How character strings are written and read (X.680 41).
+
+use crate::codec::{Decode, Decoder, Encode, Encoder};
+use rasn_schema::schema::Constraints;
+use rasn_types::octet_strings::{GeneralString, GraphicString, TeletexString, Utf8String};
+use rasn_types::strings::{BmpString, Ia5String, NumericString, PrintableString, VisibleString};
+use rasn_types::types::{Identifier, Tag};
+
+impl Encode for VisibleString {
+    #[tactic(auto, unfolding(rasn_schema::specs::Normal::normal))]
+    fn encode_with_tag_and_constraints<E: Encoder>(
+        &self,
+        encoder: &mut E,
+        tag: Tag,
+        constraints: &Constraints,
+        identifier: Identifier,
+    ) -> Result<(), E::Error> {
+        encoder.encode_visible_string(tag, constraints, self, identifier)
+    }
+}
+
+impl Decode for VisibleString {
+    fn decode_with_tag_and_constraints<D: Decoder>(
+        decoder: &mut D,
+        tag: Tag,
+        constraints: &Constraints,
+    ) -> Result<VisibleString, D::Error> {
+        decoder.decode_visible_string(tag, constraints)
+    }
+}
+
+impl Encode for Ia5String {
+    #[tactic(auto, unfolding(rasn_schema::specs::Normal::normal))]
+    fn encode_with_tag_and_constraints<E: Encoder>(
+        &self,
+        encoder: &mut E,
+        tag: Tag,
+        constraints: &Constraints,
+        identifier: Identifier,
+    ) -> Result<(), E::Error> {
+        encoder.encode_ia5_string(tag, constraints, self, identifier)
+    }
+}
+
+impl Decode for Ia5String {
+    fn decode_with_tag_and_constraints<D: Decoder>(
+        decoder: &mut D,
+        tag: Tag,
+        constraints: &Constraints,
+    ) -> Result<Ia5String, D::Error> {
+        decoder.decode_ia5_string(tag, constraints)
+    }
+}
+
+impl Encode for PrintableString {
+    #[tactic(auto, unfolding(rasn_schema::specs::Normal::normal))]
+    fn encode_with_tag_and_constraints<E: Encoder>(
+        &self,
+        encoder: &mut E,
+        tag: Tag,
+        constraints: &Constraints,
+        identifier: Identifier,
+    ) -> Result<(), E::Error> {
+        encoder.encode_printable_string(tag, constraints, self, identifier)
+    }
+}
+
+impl Decode for PrintableString {
+    fn decode_with_tag_and_constraints<D: Decoder>(
+        decoder: &mut D,
+        tag: Tag,
+        constraints: &Constraints,
+    ) -> Result<PrintableString, D::Error> {
+        decoder.decode_printable_string(tag, constraints)
+    }
+}
+
+impl Encode for NumericString {
+    #[tactic(auto, unfolding(rasn_schema::specs::Normal::normal))]
+    fn encode_with_tag_and_constraints<E: Encoder>(
+        &self,
+        encoder: &mut E,
+        tag: Tag,
+        constraints: &Constraints,
+        identifier: Identifier,
+    ) -> Result<(), E::Error> {
+        encoder.encode_numeric_string(tag, constraints, self, identifier)
+    }
+}
+
+impl Decode for NumericString {
+    fn decode_with_tag_and_constraints<D: Decoder>(
+        decoder: &mut D,
+        tag: Tag,
+        constraints: &Constraints,
+    ) -> Result<NumericString, D::Error> {
+        decoder.decode_numeric_string(tag, constraints)
+    }
+}
+
+impl Encode for BmpString {
+    #[tactic(auto, unfolding(rasn_schema::specs::Normal::normal))]
+    fn encode_with_tag_and_constraints<E: Encoder>(
+        &self,
+        encoder: &mut E,
+        tag: Tag,
+        constraints: &Constraints,
+        identifier: Identifier,
+    ) -> Result<(), E::Error> {
+        encoder.encode_bmp_string(tag, constraints, self, identifier)
+    }
+}
+
+impl Decode for BmpString {
+    fn decode_with_tag_and_constraints<D: Decoder>(
+        decoder: &mut D,
+        tag: Tag,
+        constraints: &Constraints,
+    ) -> Result<BmpString, D::Error> {
+        decoder.decode_bmp_string(tag, constraints)
+    }
+}
+
+impl Encode for Utf8String {
+    #[tactic(auto, unfolding(rasn_schema::specs::Normal::normal))]
+    fn encode_with_tag_and_constraints<E: Encoder>(
+        &self,
+        encoder: &mut E,
+        tag: Tag,
+        constraints: &Constraints,
+        identifier: Identifier,
+    ) -> Result<(), E::Error> {
+        encoder.encode_utf8_string(tag, constraints, self.as_str(), identifier)
+    }
+}
+
+impl Decode for Utf8String {
+    fn decode_with_tag_and_constraints<D: Decoder>(
+        decoder: &mut D,
+        tag: Tag,
+        constraints: &Constraints,
+    ) -> Result<Utf8String, D::Error> {
+        decoder.decode_utf8_string(tag, constraints)
+    }
+}
+
+impl Encode for GeneralString {
+    #[tactic(auto, unfolding(rasn_schema::specs::Normal::normal))]
+    fn encode_with_tag_and_constraints<E: Encoder>(
+        &self,
+        encoder: &mut E,
+        tag: Tag,
+        constraints: &Constraints,
+        identifier: Identifier,
+    ) -> Result<(), E::Error> {
+        encoder.encode_general_string(tag, constraints, self, identifier)
+    }
+}
+
+impl Decode for GeneralString {
+    fn decode_with_tag_and_constraints<D: Decoder>(
+        decoder: &mut D,
+        tag: Tag,
+        constraints: &Constraints,
+    ) -> Result<GeneralString, D::Error> {
+        decoder.decode_general_string(tag, constraints)
+    }
+}
+
+impl Encode for GraphicString {
+    #[tactic(auto, unfolding(rasn_schema::specs::Normal::normal))]
+    fn encode_with_tag_and_constraints<E: Encoder>(
+        &self,
+        encoder: &mut E,
+        tag: Tag,
+        constraints: &Constraints,
+        identifier: Identifier,
+    ) -> Result<(), E::Error> {
+        encoder.encode_graphic_string(tag, constraints, self, identifier)
+    }
+}
+
+impl Decode for GraphicString {
+    fn decode_with_tag_and_constraints<D: Decoder>(
+        decoder: &mut D,
+        tag: Tag,
+        constraints: &Constraints,
+    ) -> Result<GraphicString, D::Error> {
+        decoder.decode_graphic_string(tag, constraints)
+    }
+}
+
+impl Encode for TeletexString {
+    #[tactic(auto, unfolding(rasn_schema::specs::Normal::normal))]
+    fn encode_with_tag_and_constraints<E: Encoder>(
+        &self,
+        encoder: &mut E,
+        tag: Tag,
+        constraints: &Constraints,
+        identifier: Identifier,
+    ) -> Result<(), E::Error> {
+        encoder.encode_teletex_string(tag, constraints, self, identifier)
+    }
+}
+
+impl Decode for TeletexString {
+    fn decode_with_tag_and_constraints<D: Decoder>(
+        decoder: &mut D,
+        tag: Tag,
+        constraints: &Constraints,
+    ) -> Result<TeletexString, D::Error> {
+        decoder.decode_teletex_string(tag, constraints)
+    }
+}
