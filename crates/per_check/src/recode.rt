@@ -12,7 +12,7 @@ use per_samples_a::half_bounded::{FromMinusOne, Natural, UpTo65535};
 use per_samples_a::seven::Seven;
 use per_samples_b::strings::{LettersAToE, OnlyX, ShortVisible};
 use rasn_per::uper;
-use rasn_schema::codec::{Decode, Encode};
+use rasn_codec::codec::{Decode, Encode};
 use rasn_types::big::Integer;
 use rasn_types::bit_string::BitString;
 use rasn_types::octet_strings::OctetString;

@@ -12,7 +12,7 @@ use Rattle.rasn_types.specs.Values.{whole}
 use Rattle.rasn_types.specs.Variants.{Variant}
 use Rattle.rasn_types.proofs.Reading.{fits-is_i128}
 use Rattle.rasn_constraints.specs.Bounds.{above, fits_i128, holds, not_above, Bounds, unbounded}
-use Rattle.rasn_schema.specs.Calls.{Writes}
+use Rattle.rasn_codec.specs.Calls.{Writes}
 use Rattle.rasn_constraints.specs.Constraints.{bounds_in, is_marked}
 use Rattle.rasn_schema.specs.Schemas.{Schema}
 use Rattle.rasn_constraints.specs.declared.constraints.Bounded.{Bounded}

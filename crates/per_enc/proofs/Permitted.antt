@@ -3,7 +3,7 @@ use Rattle.std.specs.Borrow.{Bor}
 use Rattle.std.specs.Prelude.{option_map}
 use Rattle.std.proofs.Common.{◌≡◌, sym, ap, ◌∙◌, ℕ, Bool, true, false, cond, List, Option, Some, None}
 use Rattle.rasn_types.specs.Alphabets.{restricted, restricted_to}
-use Rattle.rasn_types.specs.Prepared.{listed}
+use Rattle.rasn_strings.specs.Prepared.{listed}
 use Rattle.rasn_constraints.specs.Constraints.{listed_alphabet, permitted}
 use Rattle.rasn_constraints.specs.declared.constraints.Extensible.{Extensible}
 

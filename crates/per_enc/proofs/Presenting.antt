@@ -7,7 +7,7 @@ use Rattle.rasn_types.specs.Values.{Value, truth, nothing, octets}
 use Rattle.rasn_types.specs.Contents.{is_text, other, TextKind}
 use Rattle.rasn_types.specs.Variants.{Variant}
 use Rattle.rasn_schema.specs.Schemas.{Schema}
-use Rattle.rasn_schema.specs.Calls.{Writes, takes_none}
+use Rattle.rasn_codec.specs.Calls.{Writes, takes_none}
 use Rattle.per_core.specs.Counts.{octets_unsized}
 use Rattle.per_core.specs.Writers.{Writer, join, just, written_if, ◌▹◌}
 use Rattle.per_core.specs.Canon.{canon}

@@ -8,7 +8,7 @@ use Rattle.rasn_types.specs.Codecs.{variant_of}
 use Rattle.rasn_types.specs.Values.{Value, bits, characters, octets}
 use Rattle.rasn_types.specs.Variants.{Variant}
 use Rattle.rasn_constraints.specs.Bounds.{allows, Size, any_size}
-use Rattle.rasn_schema.specs.Calls.{Writes}
+use Rattle.rasn_codec.specs.Calls.{Writes}
 use Rattle.rasn_schema.specs.Schemas.{Schema}
 use Rattle.per_core.specs.Canon.{canon, char_writers}
 use Rattle.per_core.specs.Counts.{bounded, counted, Counted, counted_in, counted_under, determinant, in_rows, is_aligned, marked_form, octet_items, octet_writers, padding_if, rows, bit_items, bit_writers, char_items}

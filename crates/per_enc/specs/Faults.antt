@@ -6,7 +6,7 @@ use Rattle.rasn_types.specs.Values.{Value, whole, octets, bits, characters}
 use Rattle.rasn_constraints.specs.Bounds.{allows, holds, fits_i128, Bounds, Size}
 use Rattle.rasn_schema.specs.Records.{record_value}
 use Rattle.rasn_schema.specs.Schemas.{Schema, Parts, part, Presence, TagTree}
-use Rattle.rasn_schema.specs.Scopes.{record_of}
+use Rattle.rasn_codec.specs.Scopes.{record_of}
 use Rattle.per_core.specs.Canon.{canon}
 use Rattle.per_enc.specs.State.{State}
 use Rattle.per_enc.specs.declared.error.EncodeError.{EncodeError}

@@ -1,6 +1,6 @@
 -- What holds of an encoder's relations.
 use Rattle.std.proofs.Common.{◌∙◌}
-use Rattle.rasn_schema.specs.Calls.{PresentsWell}
+use Rattle.rasn_codec.specs.Calls.{PresentsWell}
 use Rattle.per_enc.specs.Faults.{IsMemory}
 use Rattle.per_enc.specs.State.{State, Presents}
 

@@ -5,7 +5,7 @@ ghost use Rattle.rasn_types.specs.Codecs.{variant_of};
 ghost use Rattle.rasn_types.specs.Octets.{signed, signed_octets, whole_bits};
 ghost use Rattle.rasn_types.specs.Values.{whole};
 ghost use Rattle.rasn_constraints.specs.Bounds.{holds, not_above, not_below};
-ghost use Rattle.rasn_schema.specs.Calls.{Writes};
+ghost use Rattle.rasn_codec.specs.Calls.{Writes};
 ghost use Rattle.rasn_constraints.specs.Constraints.{bounds_of};
 ghost use Rattle.rasn_schema.specs.Schemas.{Schema};
 ghost use Rattle.per_core.specs.Counts.{counted_octets, number_under};

@@ -3,7 +3,7 @@
 ghost use Rattle.std.specs.Prelude.{◌≡◌, true, false, OnErr};
 ghost use Rattle.rasn_types.specs.Codecs.{variant_of};
 ghost use Rattle.rasn_types.specs.Values.{bits, characters, octets};
-ghost use Rattle.rasn_schema.specs.Calls.{Writes};
+ghost use Rattle.rasn_codec.specs.Calls.{Writes};
 ghost use Rattle.rasn_schema.specs.Forms.{alphabet_of, bit_schema, character_schema, octet_schema};
 ghost use Rattle.rasn_schema.specs.Schemas.{Schema};
 ghost use Rattle.per_enc.specs.Faults.{IsMemory, RefusesValue};
@@ -13,9 +13,9 @@ use crate::Encoder;
 use crate::error::EncodeError;
 use crate::items::{Characters, Octets};
 use rasn_schema::schema::Constraints;
-use rasn_types::alphabet::CharacterAlphabet;
+use rasn_strings::alphabet::CharacterAlphabet;
 use rasn_types::bit_string::BitString;
-use rasn_types::strings::StaticPermittedAlphabet;
+use rasn_strings::strings::StaticPermittedAlphabet;
 use rasn_types::types::Codec;
 use std::alloc::Allocator;
 

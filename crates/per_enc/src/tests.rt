@@ -8,7 +8,7 @@ mod strings;
 use super::*;
 use flagged::Flagged;
 use linked_list_allocator::LocalHeap;
-use rasn_schema::codec::{Encode, Encoder as _};
+use rasn_codec::codec::{Encode, Encoder as _};
 use rasn_schema::constraints::{Bounded, Constraint, Extensible};
 use rasn_schema::schema::AsnType;
 use std::alloc::Global;

@@ -8,9 +8,9 @@ ghost use Rattle.rasn_schema.specs.Records.{record_at, no_additions, record_valu
 ghost use Rattle.rasn_schema.specs.Families.{record_unfolds, part_unfolds, parts_unfold};
 ghost use Rattle.per_samples_a.specs.Boths.{both_parts, both_contents};
 
-use rasn_schema::codec::{Decode, Decoder, Encode, Encoder};
+use rasn_codec::codec::{Decode, Decoder, Encode, Encoder};
 use rasn_schema::fields::{Constructed, Field, Fields, Presence, TagTree};
-use rasn_schema::record::{End, Required};
+use rasn_codec::record::{End, Required};
 use rasn_schema::schema::{AsnType, Constraints};
 use rasn_types::types::{Class, Identifier, Tag};
 use std::marker::PhantomData;

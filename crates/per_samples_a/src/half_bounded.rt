@@ -9,7 +9,7 @@ ghost use Rattle.rasn_schema.specs.Forms.{number_schema, always, simple_unfolds}
 ghost use Rattle.per_samples_a.specs.Numbers.{at_least, at_most};
 ghost use Rattle.per_samples_a.specs.Rows.{IsWrittenAs, IsUnwritten};
 
-use rasn_schema::codec::{Decode, Decoder, Encode, Encoder};
+use rasn_codec::codec::{Decode, Decoder, Encode, Encoder};
 use rasn_schema::constraints::{Bounded, Constraint, Extensible};
 use rasn_schema::schema::{AsnType, Constraints};
 use rasn_types::big::Integer;

@@ -7,10 +7,10 @@ ghost use Rattle.rasn_constraints.specs.Ranges.{no_constraints};
 ghost use Rattle.rasn_schema.specs.Fields.{shapes_from};
 ghost use Rattle.rasn_schema.specs.Records.{AtParts, record_at, no_additions, record_value};
 ghost use Rattle.rasn_schema.specs.Families.{record_unfolds, parts_unfold};
-ghost use Rattle.rasn_schema.specs.Scopes.{WritesParts, AnswersParts};
+ghost use Rattle.rasn_codec.specs.Scopes.{WritesParts, AnswersParts};
 ghost use Rattle.per_samples_a.specs.Pairs.{pair_parts, pair_contents, pair_unfolds};
 
-use rasn_schema::codec::{Decode, Decoder, Encode, Encoder};
+use rasn_codec::codec::{Decode, Decoder, Encode, Encoder};
 use rasn_schema::fields::{Constructed, Field, Fields, Presence, TagTree};
 use rasn_schema::schema::{AsnType, Constraints};
 use rasn_types::types::{Class, Identifier, Tag};

@@ -10,10 +10,10 @@ ghost use Rattle.rasn_schema.specs.Families.{record_unfolds, parts_unfold};
 ghost use Rattle.per_samples_a.specs.Sevens.{seven_parts, seven_contents, seven_unfolds};
 ghost use Rattle.per_samples_a.specs.Rows.{IsWrittenAs, IsUnwritten};
 
-use rasn_schema::codec::{Decode, Decoder, Encode, Encoder};
+use rasn_codec::codec::{Decode, Decoder, Encode, Encoder};
 use rasn_schema::constraints::{Bounded, Constraint, Extensible};
 use rasn_schema::fields::{Constructed, Field, Fields, Presence, TagTree};
-use rasn_schema::record::{End, Required};
+use rasn_codec::record::{End, Required};
 use rasn_schema::schema::{AsnType, Constraints};
 use rasn_types::big::Integer;
 use rasn_types::types::{Class, Identifier, Tag};

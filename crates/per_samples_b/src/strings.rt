@@ -8,10 +8,10 @@ ghost use Rattle.rasn_schema.specs.Forms.{character_schema, always, simple_unfol
 ghost use Rattle.per_samples_b.specs.Strings.{one_to_three_extensible, a_to_e_in_one_to_twenty, only_the_x};
 ghost use Rattle.per_samples_a.specs.Rows.{IsWrittenAs, IsUnwritten};
 
-use rasn_schema::codec::{Decode, Decoder, Encode, Encoder};
+use rasn_codec::codec::{Decode, Decoder, Encode, Encoder};
 use rasn_schema::constraints::{Bounded, Constraint, Extensible};
 use rasn_schema::schema::{AsnType, Constraints};
-use rasn_types::strings::{Ia5String, VisibleString};
+use rasn_strings::strings::{Ia5String, VisibleString};
 use rasn_types::types::{Identifier, Tag};
 
 /// VisibleString (SIZE (1..3, ...))

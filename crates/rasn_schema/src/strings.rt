@@ -10,7 +10,7 @@ ghost use Rattle.rasn_schema.specs.Forms.{character_schema, always, simple_unfol
 
 use crate::schema::{AsnType, Constraints};
 use rasn_types::octet_strings::{GeneralString, GraphicString, TeletexString, Utf8String};
-use rasn_types::strings::{BmpString, Ia5String, NumericString, PrintableString, VisibleString};
+use rasn_strings::strings::{BmpString, Ia5String, NumericString, PrintableString, VisibleString};
 use rasn_types::types::{Identifier, Tag};
 
 impl AsnType for VisibleString {

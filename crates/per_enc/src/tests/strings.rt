@@ -2,11 +2,11 @@
 
 use super::{aligned, unaligned};
 use crate::{EncodeError, EncodeErrorKind, Encoder};
-use rasn_schema::codec::Encoder as _;
+use rasn_codec::codec::Encoder as _;
 use rasn_schema::constraints::{Bounded, Constraint, Constraints, Extensible};
 use rasn_types::bit_string::BitString;
 use rasn_types::octet_strings::{Any, GeneralString, GraphicString, TeletexString};
-use rasn_types::strings::{BmpString, Ia5String, VisibleString};
+use rasn_strings::strings::{BmpString, Ia5String, VisibleString};
 use rasn_types::types::{Codec, Identifier, Tag};
 use std::alloc::Global;
 use std::process::Abort;

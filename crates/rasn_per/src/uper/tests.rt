@@ -10,7 +10,7 @@ ghost use Rattle.rasn_schema.specs.Forms.{always, number_schema, simple_unfolds}
 use super::*;
 use linked_list_allocator::LocalHeap;
 use per_enc::EncodeErrorKind;
-use rasn_schema::codec::{Decoder as _, Encoder as _};
+use rasn_codec::codec::{Decoder as _, Encoder as _};
 use rasn_schema::constraints::{Bounded, Constraint, Extensible};
 use rasn_schema::schema::AsnType;
 use rasn_types::types::{Identifier, Tag};
@@ -129,7 +129,7 @@ impl AsnType for Speed {
 
 impl Encode for Speed {
     #[tactic(auto, unfolding(rasn_schema::specs::Normal::normal))]
-    fn encode_with_tag_and_constraints<E: rasn_schema::codec::Encoder>(
+    fn encode_with_tag_and_constraints<E: rasn_codec::codec::Encoder>(
         &self,
         encoder: &mut E,
         tag: Tag,
@@ -141,7 +141,7 @@ impl Encode for Speed {
 }
 
 impl Decode for Speed {
-    fn decode_with_tag_and_constraints<D: rasn_schema::codec::Decoder>(
+    fn decode_with_tag_and_constraints<D: rasn_codec::codec::Decoder>(
         decoder: &mut D,
         tag: Tag,
         constraints: &Constraints,
@@ -195,7 +195,7 @@ impl AsnType for MinusOneTo254 {
 }
 
 impl Decode for MinusOneTo254 {
-    fn decode_with_tag_and_constraints<D: rasn_schema::codec::Decoder>(
+    fn decode_with_tag_and_constraints<D: rasn_codec::codec::Decoder>(
         decoder: &mut D,
         tag: Tag,
         constraints: &Constraints,

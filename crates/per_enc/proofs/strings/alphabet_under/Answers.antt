@@ -1,6 +1,6 @@
 use Rattle.std.proofs.Common.{◌≡◌, ◌∙◌}
 use Rattle.rasn_types.specs.Alphabets.{restricted_to}
-use Rattle.rasn_types.specs.Prepared.{listed}
+use Rattle.rasn_strings.specs.Prepared.{listed}
 use Rattle.rasn_schema.specs.Forms.{alphabet_of}
 use Rattle.per_enc.proofs.Permitted.{alphabet_hidden, alphabet_seen, alphabet_whole}
 use Rattle.per_enc.proofs.strings.alphabet_under.Goals as goal
