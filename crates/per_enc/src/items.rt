@@ -13,8 +13,8 @@ ghost use Rattle.per_enc.specs.declared.error.EncodeErrorKind.{EncodeErrorKind};
 use crate::Encoder;
 use crate::error::{EncodeError, EncodeErrorKind};
 use rasn_strings::alphabet::CharacterAlphabet;
-use rasn_types::bit_string::BitString;
 use rasn_strings::strings::StaticPermittedAlphabet;
+use rasn_types::bit_string::BitString;
 use std::alloc::Allocator;
 
 /// Items that a length counts.

@@ -14,8 +14,8 @@ use crate::error::EncodeError;
 use crate::items::{Characters, Octets};
 use rasn_schema::schema::Constraints;
 use rasn_strings::alphabet::CharacterAlphabet;
-use rasn_types::bit_string::BitString;
 use rasn_strings::strings::StaticPermittedAlphabet;
+use rasn_types::bit_string::BitString;
 use rasn_types::types::Codec;
 use std::alloc::Allocator;
 

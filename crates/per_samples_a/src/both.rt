@@ -9,8 +9,8 @@ ghost use Rattle.rasn_schema.specs.Families.{record_unfolds, part_unfolds, parts
 ghost use Rattle.per_samples_a.specs.Boths.{both_parts, both_contents};
 
 use rasn_codec::codec::{Decode, Decoder, Encode, Encoder};
-use rasn_schema::fields::{Constructed, Field, Fields, Presence, TagTree};
 use rasn_codec::record::{End, Required};
+use rasn_schema::fields::{Constructed, Field, Fields, Presence, TagTree};
 use rasn_schema::schema::{AsnType, Constraints};
 use rasn_types::types::{Class, Identifier, Tag};
 use std::marker::PhantomData;

@@ -9,8 +9,8 @@ ghost use Rattle.rasn_schema.specs.Families.{record_unfolds, parts_unfold};
 ghost use Rattle.per_samples_a.specs.Eights.{eight_parts, eight_contents, eight_unfold};
 
 use rasn_codec::codec::{Decode, Decoder, Encode, Encoder};
-use rasn_schema::fields::{Constructed, Field, Fields, Presence, TagTree};
 use rasn_codec::record::{End, Required};
+use rasn_schema::fields::{Constructed, Field, Fields, Presence, TagTree};
 use rasn_schema::schema::{AsnType, Constraints};
 use rasn_types::types::{Class, Identifier, Tag};
 use std::marker::PhantomData;

@@ -11,9 +11,9 @@ ghost use Rattle.per_samples_a.specs.Sevens.{seven_parts, seven_contents, seven_
 ghost use Rattle.per_samples_a.specs.Rows.{IsWrittenAs, IsUnwritten};
 
 use rasn_codec::codec::{Decode, Decoder, Encode, Encoder};
+use rasn_codec::record::{End, Required};
 use rasn_schema::constraints::{Bounded, Constraint, Extensible};
 use rasn_schema::fields::{Constructed, Field, Fields, Presence, TagTree};
-use rasn_codec::record::{End, Required};
 use rasn_schema::schema::{AsnType, Constraints};
 use rasn_types::big::Integer;
 use rasn_types::types::{Class, Identifier, Tag};

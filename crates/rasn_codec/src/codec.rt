@@ -17,11 +17,11 @@ ghost use Rattle.rasn_codec.specs.Scopes.{OpensToWrite, ClosesWritten, WritesSco
 use crate::record::{DecodeParts, EncodeParts};
 use rasn_schema::fields::Constructed;
 use rasn_schema::schema::{AsnType, Constraints, IntegerType};
-use rasn_types::bit_string::BitString;
-use rasn_types::octet_strings::{Any, GeneralString, GraphicString, TeletexString, Utf8String};
 use rasn_strings::strings::{
     BmpString, Ia5String, NumericString, PrintableString, StaticPermittedAlphabet, VisibleString,
 };
+use rasn_types::bit_string::BitString;
+use rasn_types::octet_strings::{Any, GeneralString, GraphicString, TeletexString, Utf8String};
 use rasn_types::types::{Codec, Identifier, Tag};
 use std::alloc::Global;
 use std::borrow::CowSlice;

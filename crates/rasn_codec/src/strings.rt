@@ -2,8 +2,8 @@
 
 use crate::codec::{Decode, Decoder, Encode, Encoder};
 use rasn_schema::schema::Constraints;
-use rasn_types::octet_strings::{GeneralString, GraphicString, TeletexString, Utf8String};
 use rasn_strings::strings::{BmpString, Ia5String, NumericString, PrintableString, VisibleString};
+use rasn_types::octet_strings::{GeneralString, GraphicString, TeletexString, Utf8String};
 use rasn_types::types::{Identifier, Tag};
 
 impl Encode for VisibleString {

@@ -9,8 +9,8 @@ ghost use Rattle.rasn_constraints.specs.Ranges.{no_constraints};
 ghost use Rattle.rasn_schema.specs.Forms.{character_schema, always, simple_unfolds};
 
 use crate::schema::{AsnType, Constraints};
-use rasn_types::octet_strings::{GeneralString, GraphicString, TeletexString, Utf8String};
 use rasn_strings::strings::{BmpString, Ia5String, NumericString, PrintableString, VisibleString};
+use rasn_types::octet_strings::{GeneralString, GraphicString, TeletexString, Utf8String};
 use rasn_types::types::{Identifier, Tag};
 
 impl AsnType for VisibleString {

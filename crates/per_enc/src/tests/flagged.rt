@@ -11,9 +11,9 @@ ghost use Rattle.rasn_schema.specs.Forms.{number_schema, simple_unfolds};
 ghost use Rattle.rasn_schema.specs.Records.{record_at, no_additions, record_value};
 
 use rasn_codec::codec::{Encode, Encoder};
+use rasn_codec::record::{End, Required};
 use rasn_schema::constraints::{Bounded, Constraint, Extensible};
 use rasn_schema::fields::{Constructed, Field, Fields, Presence, TagTree};
-use rasn_codec::record::{End, Required};
 use rasn_schema::schema::{AsnType, Constraints};
 use rasn_types::types::{Class, Identifier, Tag};
 
