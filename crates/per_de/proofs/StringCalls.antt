@@ -10,14 +10,14 @@ use Rattle.per_core.specs.Counts.{octet_items, bit_items}
 use Rattle.per_core.specs.Spellings.{Settings}
 use Rattle.per_core.specs.Took.{Took}
 use Rattle.per_core.proofs.Took.{took_map}
+use Rattle.per_read.specs.Kinds.{Faulty, NoneIn, Stopped}
+use Rattle.per_read.specs.Sizes.{IsOfItems}
+use Rattle.per_read.specs.Strings.{IsOfString, IsOfText}
+use Rattle.per_read.specs.declared.items.Item.TheVariants.{Octet, Bit}
+use Rattle.per_read.specs.declared.error.DecodeErrorKind.{DecodeErrorKind}
+use Rattle.per_read.proofs.Refusals.{faulty_map}
+use Rattle.per_read.proofs.Texts.{tested_text}
 use Rattle.per_de.specs.Faults.{IsAt}
-use Rattle.per_de.specs.Kinds.{Faulty, NoneIn, Stopped}
-use Rattle.per_de.specs.Sizes.{IsOfItems}
-use Rattle.per_de.specs.Strings.{IsOfString, IsOfText}
-use Rattle.per_de.specs.declared.items.Item.TheVariants.{Octet, Bit}
-use Rattle.per_de.specs.declared.error.DecodeErrorKind.{DecodeErrorKind}
-use Rattle.per_de.proofs.Calls.{faulty_map}
-use Rattle.per_de.proofs.Texts.{tested_text}
 
 module _ (a : Settings) where
   -- octets of a type that isn't known

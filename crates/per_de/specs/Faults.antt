@@ -3,19 +3,19 @@ use Rattle.std.specs.Prelude.{◌≡◌, true}
 use Rattle.rasn_types.specs.Bits.{Bits}
 use Rattle.rasn_types.specs.Values.{Value}
 use Rattle.rasn_schema.specs.Schemas.{TagTree, required, Schema, Parts, part}
-use Rattle.rasn_schema.specs.Scopes.{record_of}
+use Rattle.rasn_codec.specs.Scopes.{record_of}
 use Rattle.per_core.specs.Spellings.{Settings}
 use Rattle.per_core.specs.Basic.{basic}
 use Rattle.per_core.specs.Took.{Took}
-use Rattle.per_de.specs.Kinds.{IsTested}
-use Rattle.per_de.specs.Numbers.{IsOfNumber}
-use Rattle.per_de.specs.Sizes.{IsOfItems}
+use Rattle.per_read.specs.Kinds.{IsTested}
+use Rattle.per_read.specs.Numbers.{IsOfNumber}
+use Rattle.per_read.specs.Sizes.{IsOfItems}
+use Rattle.per_read.specs.Strings.{IsOfString, IsOfText}
+use Rattle.per_read.specs.declared.items.Item.TheVariants.{Octet, Bit}
+use Rattle.per_read.specs.declared.error.DecodeError.{DecodeError}
+use Rattle.per_read.specs.declared.error.DecodeErrorKind.{DecodeErrorKind}
+use Rattle.per_read.specs.declared.error.DecodeErrorKind.TheVariants.{ExceedsMaxParseDepth, AlreadyFailed}
 use Rattle.per_de.specs.State.{State, settings_of}
-use Rattle.per_de.specs.Strings.{IsOfString, IsOfText}
-use Rattle.per_de.specs.declared.items.Item.TheVariants.{Octet, Bit}
-use Rattle.per_de.specs.declared.error.DecodeError.{DecodeError}
-use Rattle.per_de.specs.declared.error.DecodeErrorKind.{DecodeErrorKind}
-use Rattle.per_de.specs.declared.error.DecodeErrorKind.TheVariants.{ExceedsMaxParseDepth, AlreadyFailed}
 
 -- what a kind says where no level is left
 abbrev pub IsOfCut : DecodeErrorKind → Type 0

@@ -2,13 +2,13 @@
 use Rattle.std.proofs.Common.{◌≡◌, sym, ◌∙◌, ap}
 use Rattle.rasn_types.specs.Values.{Value}
 use Rattle.rasn_schema.specs.Schemas.{Schema}
-use Rattle.rasn_schema.specs.Calls.{ReadsWell}
+use Rattle.rasn_codec.specs.Calls.{ReadsWell}
 use Rattle.per_core.proofs.Took.{took_agree}
 use Rattle.per_core.proofs.Whole.{one_reading}
+use Rattle.per_read.specs.declared.error.DecodeError.{DecodeError}
+use Rattle.per_read.specs.declared.error.DecodeErrorKind.TheVariants.{OutOfMemory}
 use Rattle.per_de.specs.State.{State, Spells, settings_of, with_bits}
 use Rattle.per_de.specs.Faults.{refusal}
-use Rattle.per_de.specs.declared.error.DecodeError.{DecodeError}
-use Rattle.per_de.specs.declared.error.DecodeErrorKind.TheVariants.{OutOfMemory}
 
 -- one value, and one state behind it
 one_state : (c : Schema) (s : State) (v w : Value) (t u : State) → Spells c s v t → Spells c s w u → (v ≡ w) × (t ≡ u)

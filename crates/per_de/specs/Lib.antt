@@ -1,12 +1,5 @@
 pub mod Faults
-pub mod Items
-pub mod Kinds
 pub mod Laws
-pub mod Lengths
-pub mod Names
-pub mod Numbers
 pub mod ScopeLaws
 pub mod Scopes
-pub mod Sizes
 pub mod State
-pub mod Strings

@@ -5,18 +5,18 @@ use Rattle.rasn_types.specs.Values.{Value, fields, as_slots}
 use Rattle.rasn_schema.specs.Lawful.{are_required}
 use Rattle.rasn_schema.specs.Schemas.{TagTree, Presence, required, Schema, Parts, no_parts, part}
 use Rattle.rasn_schema.specs.Records.{record_value}
-use Rattle.rasn_schema.specs.Scopes.{record_of, ReadsPart, reads_required, ReadsParts, reads_end, reads_next, FaultyParts, faulty_required, faulty_here, faulty_behind, ScopesWell}
+use Rattle.rasn_codec.specs.Scopes.{record_of, ReadsPart, reads_required, ReadsParts, reads_end, reads_next, FaultyParts, faulty_required, faulty_here, faulty_behind, ScopesWell}
 use Rattle.per_core.specs.Spellings.{Settings, exactly}
 use Rattle.per_core.specs.Basic.{basic, basic_in, rules, rules_in, Flags, Bodies, Root, Fields_in}
 use Rattle.per_core.specs.Took.{place, Took}
 use Rattle.per_core.proofs.Took.{took_then, then_took, took_map, took_nothing, nothing_took}
+use Rattle.per_read.specs.declared.error.DecodeError.{DecodeError}
+use Rattle.per_read.specs.declared.error.DecodeErrorKind.{DecodeErrorKind}
+use Rattle.per_read.specs.declared.error.DecodeErrorKind.TheVariants.{AlreadyFailed, OutOfMemory}
 use Rattle.per_de.specs.State.{State, Spells, settings_of, with_bits}
 use Rattle.per_de.specs.Faults.{Fault, IsOf, IsInParts, here, later, inside, refusal}
 use Rattle.per_de.specs.Scopes.{at_level, Opens, Closes}
 use Rattle.per_de.specs.declared.Scope.{Scope}
-use Rattle.per_de.specs.declared.error.DecodeError.{DecodeError}
-use Rattle.per_de.specs.declared.error.DecodeErrorKind.{DecodeErrorKind}
-use Rattle.per_de.specs.declared.error.DecodeErrorKind.TheVariants.{AlreadyFailed, OutOfMemory}
 
 -- each component is shown
 all_shown : Parts → List Bool

@@ -1,13 +1,13 @@
 -- What a decoder holds, and what its calls read.
 use Rattle.std.specs.Prelude.{◌≡◌, ℕ, Bool, false}
 use Rattle.rasn_types.specs.Bits.{Bits}
-use Rattle.rasn_types.specs.Codecs.{variant_of}
 use Rattle.rasn_types.specs.Values.{Value}
 use Rattle.rasn_types.specs.declared.types.Codec.{Codec}
 use Rattle.rasn_schema.specs.Schemas.{Schema}
 use Rattle.per_core.specs.Spellings.{Settings}
 use Rattle.per_core.specs.Basic.{basic}
 use Rattle.per_core.specs.Took.{Took}
+use Rattle.per_read.specs.Codecs.{settings}
 
 -- What a decoder is told: the codec, and how many levels of values it may enter.
 pub record Options : Type 0 where
@@ -22,10 +22,7 @@ pub record State : Type 0 where
   pub levels : ℕ
   pub codec : Codec
 
--- The variant of the codec. Padding is any bits.
-abbrev pub settings : Codec → Settings
-settings c = record { variant = variant_of c; strict = false }
-
+-- the settings of the codec in use
 abbrev pub settings_of : State → Settings
 settings_of s = settings s.codec
 

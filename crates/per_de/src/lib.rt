@@ -3,36 +3,27 @@
 
 ghost use Rattle.std.specs.Prelude.{◌≡◌, ℕ, true, false, OnOk, OnErr, IfOk, IfErr};
 ghost use Rattle.rasn_types.specs.declared.types.Codec.TheVariants.{Uper};
+ghost use Rattle.per_read.specs.declared.error.DecodeErrorKind.TheVariants.{ExceedsMaxParseDepth, OutOfMemory, AlreadyFailed};
 ghost use Rattle.per_de.specs.State.{State, Options, Spells};
 ghost use Rattle.per_de.specs.Faults.{Fault, refusal};
-ghost use Rattle.per_de.specs.declared.error.DecodeErrorKind.TheVariants.{ExceedsMaxParseDepth, OutOfMemory, AlreadyFailed};
 ghost use Rattle.per_de.specs.Scopes.{Enters, Opens, Closes};
 ghost use Rattle.per_de.specs.Laws.{reads_well};
 ghost use Rattle.per_de.specs.ScopeLaws.{scopes_well};
 
-mod bounded;
-pub mod error;
-mod items;
-mod length;
-mod natural;
-mod number;
-mod sizes;
-mod strings;
-mod whole;
-
-pub use crate::error::{DecodeError, DecodeErrorKind, ParserFailCause};
-use crate::items::take_octets;
-use crate::length::take_bit;
-use crate::number::take_integer;
-use crate::strings::{take_bit_string, take_characters, take_octet_string, take_utf8};
 use per_bits::{BitList, BitReader};
-use rasn_schema::codec;
+pub use per_read::error;
+pub use per_read::error::{DecodeError, DecodeErrorKind, ParserFailCause};
+use per_read::items::take_octets;
+use per_read::length::take_bit;
+use per_read::number::take_integer;
+use per_read::strings::{take_bit_string, take_characters, take_octet_string, take_utf8};
+use rasn_codec::codec;
 use rasn_schema::constraints::Constraints;
 use rasn_schema::fields::Constructed;
 use rasn_schema::schema::IntegerType;
+use rasn_strings::strings::StaticPermittedAlphabet;
 use rasn_types::bit_string::BitString;
 use rasn_types::octet_strings::{Any, GeneralString, GraphicString, TeletexString, Utf8String};
-use rasn_types::strings::StaticPermittedAlphabet;
 use rasn_types::types::{Codec, Tag};
 use std::alloc::{Allocator, Global};
 use std::borrow::CowSlice;

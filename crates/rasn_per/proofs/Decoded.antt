@@ -15,9 +15,9 @@ use Rattle.per_core.proofs.Laws.{one_value, length_unpack}
 use Rattle.per_core.proofs.Filling.{fills_read, fills_back}
 use Rattle.per_de.specs.State.{State, Options, Spells, with_bits}
 use Rattle.per_de.specs.Faults.{Fault, refusal}
-use Rattle.per_de.specs.declared.error.DecodeError.{DecodeError}
-use Rattle.per_de.specs.declared.error.DecodeErrorKind.{DecodeErrorKind}
-use Rattle.per_de.specs.declared.error.DecodeErrorKind.TheVariants.{OutOfMemory}
+use Rattle.per_read.specs.declared.error.DecodeError.{DecodeError}
+use Rattle.per_read.specs.declared.error.DecodeErrorKind.{DecodeErrorKind}
+use Rattle.per_read.specs.declared.error.DecodeErrorKind.TheVariants.{OutOfMemory}
 use Rattle.rasn_per.specs.Whole.{basically, AreReadAs, AreUnread}
 
 -- a decoder that has just begun with octets

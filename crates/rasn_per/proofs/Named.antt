@@ -14,11 +14,11 @@ use Rattle.per_core.specs.declared.ended.Surplus.TheVariants.{Missing, NonzeroOc
 use Rattle.per_core.proofs.Filling.{fills_read}
 use Rattle.per_de.specs.State.{State, Spells}
 use Rattle.per_de.specs.Faults.{IsAt, IsInBits, at_once, inside, IsInParts, here, later, IsOf, Fault, refusal}
-use Rattle.per_de.specs.declared.error.DecodeError.{DecodeError}
-use Rattle.per_de.specs.declared.error.DecodeErrorKind.{DecodeErrorKind}
-use Rattle.per_de.specs.declared.error.DecodeErrorKind.TheVariants.{Incomplete, ParserFail, UnexpectedExtraData, AlreadyFailed, OutOfMemory}
-use Rattle.per_de.specs.declared.error.ParserFailCause.{ParserFailCause}
-use Rattle.per_de.specs.declared.error.ParserFailCause.TheVariants.{NonzeroEmptyValue}
+use Rattle.per_read.specs.declared.error.DecodeError.{DecodeError}
+use Rattle.per_read.specs.declared.error.DecodeErrorKind.{DecodeErrorKind}
+use Rattle.per_read.specs.declared.error.DecodeErrorKind.TheVariants.{Incomplete, ParserFail, UnexpectedExtraData, AlreadyFailed, OutOfMemory}
+use Rattle.per_read.specs.declared.error.ParserFailCause.{ParserFailCause}
+use Rattle.per_read.specs.declared.error.ParserFailCause.TheVariants.{NonzeroEmptyValue}
 use Rattle.rasn_per.specs.Whole.{basically}
 use Rattle.rasn_per.specs.Kinds.{IsInOctets, kind_of}
 use Rattle.rasn_per.proofs.Decoded.{fresh, Ended, so}

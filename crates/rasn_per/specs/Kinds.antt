@@ -10,9 +10,9 @@ use Rattle.per_core.specs.Took.{Took}
 use Rattle.per_core.specs.declared.ended.Surplus.{Surplus}
 use Rattle.per_core.specs.declared.ended.Surplus.TheVariants.{Missing, NonzeroOctet, ExtraOctets}
 use Rattle.per_de.specs.Faults.{IsInBits}
-use Rattle.per_de.specs.declared.error.DecodeErrorKind.{DecodeErrorKind}
-use Rattle.per_de.specs.declared.error.DecodeErrorKind.TheVariants.{Incomplete, ParserFail, UnexpectedExtraData, OutOfMemory}
-use Rattle.per_de.specs.declared.error.ParserFailCause.TheVariants.{NonzeroEmptyValue}
+use Rattle.per_read.specs.declared.error.DecodeErrorKind.{DecodeErrorKind}
+use Rattle.per_read.specs.declared.error.DecodeErrorKind.TheVariants.{Incomplete, ParserFail, UnexpectedExtraData, OutOfMemory}
+use Rattle.per_read.specs.declared.error.ParserFailCause.TheVariants.{NonzeroEmptyValue}
 use Rattle.rasn_per.specs.Whole.{basically}
 
 -- the refusal of octets that are no complete encoding

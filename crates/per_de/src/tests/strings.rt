@@ -1,5 +1,5 @@
 use super::*;
-use rasn_types::strings::{BmpString, Ia5String, NumericString, PrintableString, VisibleString};
+use rasn_strings::strings::{BmpString, Ia5String, NumericString, PrintableString, VisibleString};
 
 const UNALIGNED: DecoderOptions = DecoderOptions {
     codec: Codec::Uper,

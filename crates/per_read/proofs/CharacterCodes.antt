@@ -1,0 +1,118 @@
+-- Characters and their codes (X.691 30.5.4).
+use Rattle.std.proofs.Common.{◌≡◌, ◌∙◌, ℕ, Bool, true, false, List, [], ◌∷◌, ◌++◌, map, refl, sym, ap, subst, Option, Some, None, append_assoc}
+use Rattle.rasn_types.specs.Alphabets.{Alphabet, char_code, char_width}
+use Rattle.rasn_types.specs.Bits.{Bits}
+use Rattle.rasn_types.specs.Variants.{Variant}
+use Rattle.rasn_constraints.specs.Bounds.{Size}
+use Rattle.per_core.specs.Basic.{Char, String}
+use Rattle.per_core.specs.Counts.{char_items}
+use Rattle.per_core.specs.Spellings.{Settings, Field}
+use Rattle.per_core.specs.Took.{Took}
+use Rattle.per_core.proofs.Agree.{Agree, field_agree}
+use Rattle.per_core.proofs.Lengths.{Zip, lengthy_agree}
+use Rattle.per_core.proofs.Took.{took_map, took_agree}
+use Rattle.per_read.specs.Items.{lengthy_items}
+use Rattle.per_read.specs.Kinds.{NoneIn}
+use Rattle.per_read.specs.Sizes.{IsOfItems}
+use Rattle.per_read.specs.Strings.{AreRead, HasUnknown, IsUnpermitted, IsOfString}
+use Rattle.per_read.specs.declared.items.Item.{Item}
+use Rattle.per_read.specs.declared.items.Item.TheVariants.{Character}
+use Rattle.per_read.specs.declared.error.DecodeErrorKind.{DecodeErrorKind}
+use Rattle.per_read.specs.declared.error.DecodeErrorKind.TheVariants.{PermittedAlphabet}
+use Rattle.per_read.proofs.Coded.{lengthy_as, zip_to, zip_equal}
+
+module _ (a : Alphabet) (flag : Bool) (characters xs : List ℕ) (code : ℕ) where
+  -- where one code had no character, a further one changes nothing
+  pub unknown_more : flag ≡ true → AreRead a flag characters xs → AreRead a flag characters (xs ++ code ∷ [])
+  unknown_more e h = subst (λ z. AreRead a z characters (xs ++ code ∷ [])) (sym e) (go (subst (λ z. AreRead a z characters xs) e h))
+    where
+      go : HasUnknown a.variant a.characters xs → HasUnknown a.variant a.characters (xs ++ code ∷ [])
+      go k = record {
+        front = k.front;
+        code = k.code;
+        rest = k.rest ++ code ∷ [];
+        whole = ap (λ z. z ++ code ∷ []) k.whole ∙ append_assoc k.front (k.code ∷ k.rest) (code ∷ []);
+        none = k.none;
+      }
+
+  -- a code that has none
+  pub unknown_now : ((c : ℕ) → char_code a.variant a.characters c ≡ Some code → ⊥) → AreRead a true characters (xs ++ code ∷ [])
+  unknown_now none = record { front = xs; code = code; rest = []; whole = refl; none = none }
+
+-- what was read, where no code had no character, and where one had none
+pub read_known : (a : Alphabet) (flag : Bool) (characters codes : List ℕ) → flag ≡ false → AreRead a flag characters codes → map (char_code a.variant a.characters) characters ≡ map Some codes
+read_known a false characters codes e h = h
+read_known a true characters codes e h = absurd (cc)
+
+pub read_unknown : (a : Alphabet) (flag : Bool) (characters codes : List ℕ) → flag ≡ true → AreRead a flag characters codes → HasUnknown a.variant a.characters codes
+read_unknown a true characters codes e h = h
+read_unknown a false characters codes e h = absurd (cc)
+
+-- one alphabet
+pub same_alphabet : (al : Alphabet) (v : Variant) (cs : List ℕ) → al.variant ≡ v → al.characters ≡ cs → al ≡ record { variant = v; characters = cs }
+same_alphabet al v cs e i = ap (λ z. record { variant = z; characters = al.characters }) e ∙ ap (λ z. record { variant = v; characters = z }) i
+
+module _ (a : Settings) (alphabet : List ℕ) (size : Size) (mark : Bool) where
+  abbrev pub CharacterItem : Item
+  CharacterItem = Character (char_width a.variant alphabet)
+
+  abbrev IsCode : ℕ → ℕ → Type 0
+  IsCode n c = char_code a.variant alphabet c ≡ Some n
+
+  -- characters where their codes are
+  pub characters_took : (characters codes : List ℕ) {s t : Bits} → map (char_code a.variant alphabet) characters ≡ map Some codes → Took (lengthy_items a size mark CharacterItem codes) s t
+      → Took (String a alphabet size mark characters) s t
+  characters_took characters codes e b =
+      took_map (λ p c h. lengthy_as IsCode (Field (char_width a.variant alphabet)) (Char a alphabet) (λ n c p b i f. record { index = n; is = i; spelled = f }) a size mark
+      (char_items (char_width a.variant alphabet)) codes characters p c (zip_turned characters codes (zip_equal (char_code a.variant alphabet) Some characters codes e)) h) b
+    where
+      zip_turned : (cs ns : List ℕ) → Zip (λ c n. char_code a.variant alphabet c ≡ Some n) cs ns → Zip IsCode ns cs
+      zip_turned [] [] z = tt
+      zip_turned [] (n ∷ ns) z = absurd z
+      zip_turned (c ∷ cs) [] z = absurd z
+      zip_turned (c ∷ cs) (n ∷ ns) z = (z.0, zip_turned cs ns z.1)
+
+  -- and codes where there are characters
+  code_in : Option ℕ → ℕ
+  code_in None = 0
+  code_in (Some n) = n
+
+  code_of : ℕ → ℕ
+  code_of c = code_in (char_code a.variant alphabet c)
+
+  as_code : (c n p : ℕ) (b : Bits) → code_of c ≡ n → Char a alphabet c p b → Field (char_width a.variant alphabet) n p b
+  unfolding code_of code_in
+  as_code c n p b e h = subst (λ z. Field (char_width a.variant alphabet) z p b) (sym (ap code_in h.is) ∙ e) h.spelled
+
+  pub none_of_characters : {s : Bits} → NoneIn (lengthy_items a size mark CharacterItem) s → NoneIn (String a alphabet size mark) s
+  none_of_characters none cs t b =
+      none (map code_of cs) t
+      (took_map (λ p c h. lengthy_as (λ (x n : ℕ). code_of x ≡ n) (Char a alphabet) (Field (char_width a.variant alphabet)) as_code a size mark (char_items (char_width a.variant alphabet)) cs
+      (map code_of cs) p c (zip_to code_of cs) h) b)
+
+  pub string_kind : (s : Bits) (k : DecodeErrorKind) → IsOfItems a size mark CharacterItem s k → IsOfString a alphabet size mark s k
+  string_kind s PermittedAlphabet h = absurd h
+  string_kind s _ h = h
+
+  -- a code that no character has leaves no string
+  one_reading : (n c : ℕ) → Agree (IsCode n c) (Field (char_width a.variant alphabet) n) (Char a alphabet c)
+  one_reading n c = record {
+    agree = λ p b d s t x y e.
+        let r = (field_agree (char_width a.variant alphabet) n y.index).agree p b d s t x y.spelled e in
+        (y.is ∙ ap Some (sym r.0), r.1);
+  }
+
+  pub unpermitted : (codes : List ℕ) {s t : Bits} → HasUnknown a.variant alphabet codes → Took (lengthy_items a size mark CharacterItem codes) s t
+      → IsUnpermitted a alphabet size mark s × NoneIn (String a alphabet size mark) s
+  unpermitted codes {s} {t} u b = (
+    record { codes = codes; rest = t; took = b; unknown = u },
+    λ cs v c.
+        let z = (took_agree (lengthy_agree IsCode (Field (char_width a.variant alphabet)) (Char a alphabet) one_reading a size mark (char_items (char_width a.variant alphabet)) codes cs) b c).0 in
+        go u.front u.rest cs (subst (λ x. Zip IsCode x cs) u.whole z),
+  )
+    where
+      go : (front rest cs : List ℕ) → Zip IsCode (front ++ u.code ∷ rest) cs → ⊥
+      go [] rest [] z = z
+      go [] rest (c ∷ cs) z = u.none c z.0
+      go (n ∷ front) rest [] z = z
+      go (n ∷ front) rest (c ∷ cs) z = go front rest cs z.1

@@ -1,0 +1,106 @@
+-- Items under a size constraint, and why there are none (X.691 11.9, 16.6, 17.3, 30.4).
+use Rattle.std.proofs.Common.{◌≡◌, ◌∙◌, ◌<◌, inr, ℕ, ◌^◌, ◌&&◌, ltb, Bool, true, false, List, [], ◌∷◌, length, sym, ap, arith, Option}
+use Rattle.std.proofs.lemmas.Bool.{lt-ltb, ltb-true}
+use Rattle.rasn_types.specs.Bits.{Bits}
+use Rattle.rasn_constraints.specs.Bounds.{allows, at_least, at_most, Size, any_size}
+use Rattle.per_core.specs.Counts.{Counted}
+use Rattle.per_core.specs.Spellings.{Settings, Spelling, never}
+use Rattle.per_core.specs.Took.{Took}
+use Rattle.per_core.proofs.Lengths.{and_right}
+use Rattle.per_core.proofs.Took.{took_map}
+use Rattle.per_read.specs.Items.{TookItems, bits_of, counted_of, coded, unsized_items, sized_items, lengthy_items}
+use Rattle.per_read.specs.Kinds.{Faulty, IsTested, NoneIn, Refused, Stopped}
+use Rattle.per_read.specs.Sizes.{IsOfSize, IsOfItems, items_under}
+use Rattle.per_read.specs.declared.items.Item.{Item}
+use Rattle.per_read.specs.declared.error.DecodeErrorKind.{DecodeErrorKind}
+use Rattle.per_read.specs.declared.error.DecodeErrorKind.TheVariants.{SizeConstraintNotSatisfied}
+use Rattle.per_read.proofs.Refusals.{faulty_map}
+use Rattle.per_read.proofs.Marked.{mark_in, mark_past, in_mark, past_mark, no_mark}
+use Rattle.per_read.proofs.SizeForms.{sized_of, of_sized, one_size}
+
+-- a kind that tests show may come with items
+pub tested_size : {X : Type 0} (a : Settings) (size : Size) (mark : Bool) (kind : Counted) (item : X → Spelling) (s : Bits) (k : DecodeErrorKind) → IsTested k → IsOfSize a size mark kind item s k
+tested_size a size mark kind item s (SizeConstraintNotSatisfied n least most) h = absurd h
+tested_size a size mark kind item s _ h = h
+
+-- what a size allows can be counted
+countable : (size : Size) (n : ℕ) → allows size n ≡ true → n < 2 ^ 64
+countable size n h = ltb-true n (2 ^ 64) (and_right (at_most size.most n) (ltb n (2 ^ 64)) (and_right (at_least size.least n) (at_most size.most n && ltb n (2 ^ 64)) h))
+
+module _ (a : Settings) (i : Item) where
+  -- items without a size
+  any_sized : (xs : List ℕ) {s t : Bits} → length xs < 2 ^ 64 → Took (unsized_items a i xs) s t → Took (sized_items a any_size i xs) s t
+  any_sized xs l b = took_map (λ p c x. record { allowed = lt-ltb (length xs) (2 ^ 64) l; spelled = x }) b
+
+  pub unsized_ok : {C : Type 0} {holds : C → C → List ℕ → Type 0} {n : ℕ} {before after : C} {s t : Bits} → n < 2 ^ 64 → TookItems holds (unsized_items a i) n before after s t
+      → TookItems holds (sized_items a any_size i) n before after s t
+  unsized_ok l b = record { codes = b.codes; count = b.count; added = b.added; took = any_sized b.codes (omega (arith, b.count)) b.took }
+
+  pub none_unsized : {s : Bits} → ((xs : List ℕ) (t : Bits) → length xs < 2 ^ 64 → Took (unsized_items a i xs) s t → ⊥) → NoneIn (sized_items a any_size i) s
+  none_unsized none xs t b = none xs t (countable any_size (length xs) b.spelled.allowed) (took_map (λ p c x. x.spelled) b)
+
+  module _ (size : Size) where
+    -- items whose count the size allows
+    pub sized_ok : {C : Type 0} {holds : C → C → List ℕ → Type 0} {n : ℕ} {before after : C} {s t : Bits} → allows size n ≡ true → TookItems holds (items_under a size i) n before after s t
+        → TookItems holds (sized_items a size i) n before after s t
+    sized_ok h b = record {
+      codes = b.codes;
+      count = b.count;
+      added = b.added;
+      took = sized_of a (counted_of i) (coded i) b.codes size (ap (allows size) b.count ∙ h) b.took;
+    }
+
+    pub none_sized : {s : Bits} → ((xs : List ℕ) (t : Bits) → length xs < 2 ^ 64 → Took (items_under a size i xs) s t → ⊥) → NoneIn (sized_items a size i) s
+    none_sized none xs t b = none xs t (countable size (length xs) b.spelled.allowed) (of_sized a (counted_of i) (coded i) xs size b)
+
+    -- and items whose count it doesn't
+    pub miscounted : {C : Type 0} {holds : C → C → List ℕ → Type 0} {n : ℕ} {before after : C} {s t : Bits} {least most : Option ℕ} → allows size n ≡ false → least ≡ size.least → most ≡ size.most
+        → TookItems holds (items_under a size i) n before after s t → IsOfItems a size false i s (SizeConstraintNotSatisfied n least most) × NoneIn (sized_items a size i) s
+    miscounted {n = n} {s = s} {t = t} h l u b = (
+      record { items = b.codes; rest = t; count = b.count; is_least = l; is_most = u; refused = h; took = b.took },
+      λ xs v c.
+          let e : length xs ≡ length b.codes = one_size a size.least size.most (counted_of i) (bits_of i) xs b.codes s v t (of_sized a (counted_of i) (coded i) xs size c) b.took in
+          let g : true ≡ false = sym c.spelled.allowed ∙ ap (allows size) (e ∙ b.count) ∙ h in cc,
+    )
+
+    pub none_faulty : {s : Bits} (k : DecodeErrorKind) → Stopped ((xs : List ℕ) (t : Bits) → length xs < 2 ^ 64 → Took (items_under a size i xs) s t → ⊥) k
+        → Faulty (IsOfItems a size false i s) (NoneIn (sized_items a size i) s) k
+    none_faulty {s} k = faulty_map k (tested_size a size false (counted_of i) (coded i) s k) none_sized
+
+    -- behind an extension bit
+    module _ {s m : Bits} where
+      pub in_size : {C : Type 0} {holds : C → C → List ℕ → Type 0} {n : ℕ} {before after : C} {t : Bits} → s ≡ false ∷ m → TookItems holds (sized_items a size i) n before after m t
+          → TookItems holds (lengthy_items a size true i) n before after s t
+      in_size {t = t} e b = record { codes = b.codes; count = b.count; added = b.added; took = mark_in (sized_items a size i) (sized_items a any_size i) e b.codes t b.took }
+
+      pub past_size : {C : Type 0} {holds : C → C → List ℕ → Type 0} {n : ℕ} {before after : C} {t : Bits} → s ≡ true ∷ m → n < 2 ^ 64 → TookItems holds (unsized_items a i) n before after m t
+          → TookItems holds (lengthy_items a size true i) n before after s t
+      past_size {t = t} e l b = record {
+        codes = b.codes;
+        count = b.count;
+        added = b.added;
+        took = mark_past (sized_items a size i) (sized_items a any_size i) e b.codes t (any_sized b.codes (omega (arith, b.count)) b.took);
+      }
+
+      in_kind : (k : DecodeErrorKind) → s ≡ false ∷ m → IsOfItems a size false i m k → IsOfItems a size true i s k
+      in_kind (SizeConstraintNotSatisfied n least most) e h = record {
+        items = h.items;
+        rest = h.rest;
+        count = h.count;
+        is_least = h.is_least;
+        is_most = h.is_most;
+        refused = h.refused;
+        took = mark_in (items_under a size i) (λ xs. never) e h.items h.rest h.took;
+      }
+      in_kind _ e h = h
+
+      pub faulty_in : (k : DecodeErrorKind) → s ≡ false ∷ m → Faulty (IsOfItems a size false i m) (NoneIn (sized_items a size i) m) k → Faulty (IsOfItems a size true i s) (NoneIn (lengthy_items a size true i) s) k
+      faulty_in k e = faulty_map k (in_kind k e) (λ none xs t b. none xs t (in_mark (sized_items a size i) (sized_items a any_size i) e xs t b))
+
+      pub faulty_past : (k : DecodeErrorKind) → s ≡ true ∷ m → Stopped ((xs : List ℕ) (t : Bits) → length xs < 2 ^ 64 → Took (unsized_items a i xs) m t → ⊥) k
+          → Faulty (IsOfItems a size true i s) (NoneIn (lengthy_items a size true i) s) k
+      faulty_past k e =
+          faulty_map k (tested_size a size true (counted_of i) (coded i) s k) (λ none xs t b. none_unsized none xs t (past_mark (sized_items a size i) (sized_items a any_size i) e xs t b))
+
+    pub no_bit : {s : Bits} (k : DecodeErrorKind) → Refused (s ≡ []) k → Faulty (IsOfItems a size true i s) (NoneIn (lengthy_items a size true i) s) k
+    no_bit {s} k h = inr (tested_size a size true (counted_of i) (coded i) s k h.0, no_mark (sized_items a size i) (sized_items a any_size i) h.1)

@@ -1,0 +1,94 @@
+-- Rows of items of as many bits each, read one after the other.
+use Rattle.std.proofs.Common.{◌≡◌, ◌<◌, ◌≤◌, ℕ, suc, ◌+◌, ◌*◌, List, [], ◌∷◌, ◌++◌, length, refl, sym, ◌∙◌, ap, subst, arith, append_assoc, length-append}
+use Rattle.std.proofs.Math.Nat.{mul-suc, mul-le-mul_left}
+use Rattle.std.proofs.lemmas.List.{append-nil}
+use Rattle.rasn_types.specs.Bits.{Bits}
+use Rattle.per_core.specs.Writers.{after}
+use Rattle.per_core.specs.Spellings.{Field}
+use Rattle.per_core.specs.Basic.{Row}
+use Rattle.per_core.specs.Took.{place, Took}
+use Rattle.per_core.proofs.Took.{took_then, then_took, took_nothing, nothing_took}
+use Rattle.per_read.specs.Items.{Adds, TookItems}
+
+module _ (w : ℕ) where
+  -- items are spelled alike from every position
+  row_anywhere : (xs : List ℕ) (p q : ℕ) (b : Bits) → Row (Field w) xs p b → Row (Field w) xs q b
+  row_anywhere [] p q b h = h
+  row_anywhere (x ∷ xs) p q b h = record {
+    front = h.front;
+    rest = h.rest;
+    is_front = record { wide = h.is_front.wide; means = h.is_front.means };
+    is_rest = row_anywhere xs (after p h.front) (after q h.front) h.rest h.is_rest;
+    whole = h.whole;
+  }
+
+  pub row_wide : (xs : List ℕ) {s t : Bits} → Took (Row (Field w) xs) s t → w * length xs ≤ length s
+  row_wide [] a = omega arith
+  row_wide (x ∷ xs) {s} {t} a =
+      let q = then_took a in
+      let l : length s ≡ length q.1.front + length q.0 = ap length q.1.whole ∙ length-append q.1.front q.0 in
+      omega (arith, q.1.spelled.wide, row_wide xs q.2, mul-suc w (length xs))
+
+  row_more : (xs : List ℕ) (x : ℕ) {s m t : Bits} → Took (Row (Field w) xs) s m → Took (Field w x) m t → Took (Row (Field w) (xs ++ x ∷ [])) s t
+  row_more [] x {s} {m} {t} a b = subst (λ z. Took (Row (Field w) (x ∷ [])) z t) (sym (nothing_took a)) (took_then b (took_nothing t))
+  row_more (y ∷ xs) x a b = let q = then_took a in took_then q.1 (row_more xs x q.2 b)
+
+-- items that were appended one after the other
+pub adds_none : {C : Type 0} (holds : C → C → List ℕ → Type 0) (items : C) → Adds holds items [] items
+adds_none holds items = record { behind = λ start xs h. subst (λ z. holds start items z) (sym (append-nil xs)) h }
+
+pub adds_more : {C : Type 0} {holds : C → C → List ℕ → Type 0} {first second third : C} {xs ys : List ℕ} → Adds holds first xs second → Adds holds second ys third → Adds holds first (xs ++ ys) third
+adds_more {holds = holds} {third = third} {xs = xs} {ys = ys} a b = record { behind = λ start zs h. subst (λ z. holds start third z) (append_assoc zs xs ys) (b.behind start (zs ++ xs) (a.behind start zs h)) }
+
+-- the first `i` of `count` items
+pub record RowSoFar {C : Type 0} (holds : C → C → List ℕ → Type 0) (w : ℕ) (front row : Bits) (before items : C) (i count : ℕ) : Type 0 where
+  pub these : List ℕ
+  pub many : length these ≡ i
+  pub within : i ≤ count
+  pub added : Adds holds before these items
+  pub left : length row + w * i ≡ w * count
+  pub took : Took (Row (Field w) these) front row
+
+-- before the first
+pub row_begins : {C : Type 0} (holds : C → C → List ℕ → Type 0) (w : ℕ) (front : Bits) (items : C) (count : ℕ) → length front ≡ w * count → RowSoFar holds w front front items items 0 count
+row_begins holds w front items count l = record {
+  these = [];
+  many = refl;
+  within = omega arith;
+  added = adds_none holds items;
+  left = omega arith;
+  took = took_nothing front;
+}
+
+-- with one more
+pub row_goes_on : {C : Type 0} {holds : C → C → List ℕ → Type 0} {w : ℕ} {front row rest : Bits} {before items more : C} {i count : ℕ} (x : ℕ) → RowSoFar holds w front row before items i count → i < count
+    → Took (Field w x) row rest → Adds holds items (x ∷ []) more → RowSoFar holds w front rest before more (i + 1) count
+row_goes_on {w = w} {row = row} {rest} {i = i} x h k a b = record {
+  these = h.these ++ x ∷ [];
+  many = omega (arith, h.many, length-append h.these (x ∷ []));
+  within = omega arith;
+  added = adds_more h.added b;
+  left = omega (arith, h.left, a.spelled.wide, ap length a.whole, length-append a.front rest, mul-suc w i);
+  took = row_more w h.these x h.took a;
+}
+
+-- there is a further one
+pub one_more_left : {C : Type 0} {holds : C → C → List ℕ → Type 0} {w : ℕ} {front row : Bits} {before items : C} {i count : ℕ} → RowSoFar holds w front row before items i count → i < count → w ≤ length row
+one_more_left {w = w} {i = i} h k = omega (arith, h.left, mul-suc w i, mul-le-mul_left {m = suc i} w k)
+
+-- with all of them
+pub no_more : {A : Type 0} (xs : List A) → length xs ≡ 0 → xs ≡ []
+no_more [] l = refl
+no_more (x ∷ xs) l = absurd (omega arith)
+
+pub row_ends : {C : Type 0} {holds : C → C → List ℕ → Type 0} {w : ℕ} {front row s t : Bits} {before items : C} {i count : ℕ} → RowSoFar holds w front row before items i count → count ≤ i → s ≡ front ++ t
+    → TookItems holds (Row (Field w)) count before items s t
+row_ends {w = w} {front} {row} {s} {t} {i = i} h l e =
+    let n : row ≡ [] = no_more row (omega (arith, h.left, mul-le-mul_left w l)) in
+    let f : front ≡ h.took.front = h.took.whole ∙ ap (λ z. h.took.front ++ z) n ∙ append-nil h.took.front in
+    record {
+      codes = h.these;
+      count = omega (arith, h.many, h.within);
+      added = h.added;
+      took = record { front = h.took.front; whole = e ∙ ap (λ z. z ++ t) f; spelled = row_anywhere w h.these (place front) (place s) h.took.front h.took.spelled };
+    }

@@ -1,0 +1,209 @@
+-- Items as a size has them written, seen from the bits that are left (X.691 11.9).
+use Rattle.std.proofs.Common.{◌≡◌, ◌∙◌, ◌<◌, ◌≤◌, ◌⊎◌, inl, inr, ℕ, ◌+◌, ◌-◌, ◌*◌, ◌^◌, ◌&&◌, ltb, leb, eqb, Bool, true, false, cond, List, length, refl, sym, ap, subst, arith, Option, Some, None, le-leb, le-ltb, leb-true, pos, pow_mono}
+use Rattle.std.specs.Prelude.{option_map}
+use Rattle.std.proofs.lemmas.Bool.{cases_lt, lt-ltb}
+use Rattle.rasn_types.specs.Bits.{Bits, width}
+use Rattle.rasn_types.specs.Variants.{Variant, aligned, unaligned}
+use Rattle.rasn_types.proofs.Bits.{width_least}
+use Rattle.rasn_constraints.specs.Bounds.{allows, holds, Size}
+use Rattle.per_core.specs.Basic.{Row, Unsized, PaddingIf, Sized, InOctets, IsBounded, length_form, bounded_by, bounded_form}
+use Rattle.per_core.specs.Counts.{Counted, is_aligned}
+use Rattle.per_core.specs.Spellings.{Settings, Spelling, Then, AnyPadding, Field}
+use Rattle.per_core.specs.Took.{Took}
+use Rattle.per_core.proofs.Agree.{padding_agree, field_agree}
+use Rattle.per_core.proofs.Lengths.{Zip-same, bounded_form_agree, unsized_agree, and_left, and_right}
+use Rattle.per_core.proofs.Took.{took_then, then_took, took_map, took_agree, nothing_took}
+use Rattle.per_read.specs.Kinds.{NoneIn}
+use Rattle.per_read.specs.Items.{TookItems}
+use Rattle.per_read.specs.Sizes.{Between, under_size}
+use Rattle.per_read.proofs.Fields.{when_took, field_below}
+use Rattle.per_read.proofs.Rows.{row_wide}
+
+-- one of two spellings
+pub cond_took : (b : Bool) {f g : Spelling} {s t : Bits} → Took (cond b f g) s t → ((b ≡ true) × Took f s t) ⊎ ((b ≡ false) × Took g s t)
+cond_took true c = inl (refl, c)
+cond_took false c = inr (refl, c)
+
+-- a code among 65536 numbers is below 65536
+module _ (a : Settings) (o : ℕ) {s t : Bits} where
+  in_field : (w v : ℕ) → w ≤ v → Took (Field w o) s t → o < 2 ^ v
+  in_field w v l c = omega (arith, field_below c, pow_mono {i = w} {j = v} l)
+
+  in_padded : (w v : ℕ) → w ≤ v → Took (Then (AnyPadding a) (Field w o)) s t → o < 2 ^ v
+  in_padded w v l c = let q = then_took c in omega (arith, field_below q.2, pow_mono {i = w} {j = v} l)
+
+  pub few_codes : (n : ℕ) → n ≤ 65536 → Took (bounded_form a n o) s t → o < 65536
+  few_codes n h b = go a.variant b
+    where
+      narrow : width n ≤ 16
+      narrow = width_least n 16 h
+
+      two : ((leb n 65536 ≡ true) × Took (Then (AnyPadding a) (Field 16 o)) s t) ⊎ ((leb n 65536 ≡ false) × Took (InOctets a n o) s t) → o < 65536
+      two (inl c) = in_padded 16 16 (omega arith) c.1
+      two (inr c) = let e : true ≡ false = sym (le-leb n 65536 h) ∙ c.0 in absurd (cc)
+
+      one : ((eqb n 256 ≡ true) × Took (Then (AnyPadding a) (Field 8 o)) s t) ⊎ ((eqb n 256 ≡ false) × Took (cond (leb n 65536) (Then (AnyPadding a) (Field 16 o)) (InOctets a n o)) s t) → o < 65536
+      one (inl c) = in_padded 8 16 (omega arith) c.1
+      one (inr c) = two (cond_took (leb n 65536) c.1)
+
+      none : ((leb n 255 ≡ true) × Took (Field (width n) o) s t)
+          ⊎ ((leb n 255 ≡ false) × Took (cond (eqb n 256) (Then (AnyPadding a) (Field 8 o)) (cond (leb n 65536) (Then (AnyPadding a) (Field 16 o)) (InOctets a n o))) s t) → o < 65536
+      none (inl c) = in_field (width n) 16 narrow c.1
+      none (inr c) = one (cond_took (eqb n 256) c.1)
+
+      go : (v : Variant) → Took (bounded_by v a n o) s t → o < 65536
+      go unaligned c = in_field (width n) 16 narrow c
+      go aligned c = none (cond_took (leb n 255) c)
+
+  pub one_code : Took (bounded_form a 1 o) s t → o ≡ 0
+  one_code b = go a.variant b
+    where
+      in_none : Took (Field (width 1) o) s t → o ≡ 0
+      in_none c = let h : o < 1 = in_field (width 1) 0 (width_least 1 0 (omega arith)) c in omega arith
+
+      go : (v : Variant) → Took (bounded_by v a 1 o) s t → o ≡ 0
+      go unaligned c = in_none c
+      go aligned c = in_none c
+
+-- among as many numbers
+pub recoded : (a : Settings) (o : ℕ) {m n : ℕ} {s t : Bits} → m ≡ n → Took (bounded_form a (m + 1) o) s t → Took (bounded_form a (n + 1) o) s t
+recoded a o {s = s} {t} e b = subst (λ (z : ℕ). Took (bounded_form a (z + 1) o) s t) e b
+
+-- so a count under a size is small
+pub few_counted : (a : Settings) (lb ub o : ℕ) {s t : Bits} → ub < 65536 → lb < 2 ^ 64 → Took (bounded_form a (ub - lb + 1) o) s t → lb + o < 2 ^ 64
+few_counted a lb ub o {s} {t} h l b = go (cases_lt ub lb)
+  where
+    go : (ub < lb) ⊎ (lb ≤ ub) → lb + o < 2 ^ 64
+    go (inl k) =
+        let e : ub - lb + 1 ≡ 1 = omega arith in
+        let z = one_code a o (subst (λ (n : ℕ). Took (bounded_form a n o) s t) e b) in omega arith
+    go (inr k) = let z = few_codes a o (ub - lb + 1) (omega arith) b in omega arith
+
+-- items behind a count from lb to ub
+padding_once : (a : Settings) (b : Bool) {s t u : Bits} → Took (PaddingIf b a) s t → Took (PaddingIf b a) s u → t ≡ u
+padding_once a true c d = (took_agree (padding_agree a) c d).1
+padding_once a false c d = sym (nothing_took c) ∙ nothing_took d
+
+module _ (a : Settings) (lb ub : ℕ) (kind : Counted) (w o n : ℕ) {s m : Bits} (b : Took (bounded_form a (ub - lb + 1) o) s m) (e : n ≡ lb + o) where
+  pub between_took : {C : Type 0} {holds : C → C → List ℕ → Type 0} {before after : C} {l t : Bits} {test : Bool} → test ≡ (ltb 0 n && is_aligned kind lb ub) → Took (PaddingIf test a) m l
+      → TookItems holds (Row (Field w)) n before after l t → TookItems holds (Between a lb ub kind (Field w)) n before after s t
+  between_took {l = l} {t = t} i p r = record {
+    codes = r.codes;
+    count = r.count;
+    added = r.added;
+    took =
+        let f : o ≡ length r.codes - lb = omega (arith, r.count, e) in
+        let c : Took (bounded_form a (ub - lb + 1) (length r.codes - lb)) s m = subst (λ (z : ℕ). Took (bounded_form a (ub - lb + 1) z) s m) f b in
+        let q : Took (PaddingIf (ltb 0 (length r.codes) && is_aligned kind lb ub) a) m l = subst (λ z. Took (PaddingIf z a) m l) (i ∙ ap (λ (z : ℕ). ltb 0 z && is_aligned kind lb ub) (sym r.count)) p in
+        took_map (λ p x y. (omega (arith, r.count, e), y)) (took_then c (took_then q r.took));
+  }
+
+  -- the count of what is spelled there
+  pub count_between : (xs : List ℕ) (u : Bits) → Took (Between a lb ub kind (Field w) xs) s u → length xs ≡ n
+  count_between xs u c =
+      let q = when_took c in
+      let r = then_took q.1 in
+      let z = (took_agree (bounded_form_agree a (ub - lb + 1) (length xs - lb) o) r.1 b).0 in
+      omega (arith, q.0, e, z)
+
+  pub short_between : {l : Bits} {test : Bool} → test ≡ (ltb 0 n && is_aligned kind lb ub) → Took (PaddingIf test a) m l → length l < w * n → NoneIn (Between a lb ub kind (Field w)) s
+  short_between {l} {test} i p k xs u c =
+      let q = when_took c in
+      let r = then_took q.1 in
+      let v = then_took r.2 in
+      let z = took_agree (bounded_form_agree a (ub - lb + 1) (length xs - lb) o) r.1 b in
+      let f : length xs ≡ n = count_between xs u c in
+      let j : (ltb 0 (length xs) && is_aligned kind lb ub) ≡ test = ap (λ (z : ℕ). ltb 0 z && is_aligned kind lb ub) f ∙ sym i in
+      let d : Took (PaddingIf test a) m v.0 = subst (λ z. Took (PaddingIf test a) z v.0) z.1 (subst (λ z. Took (PaddingIf z a) r.0 v.0) j v.1) in
+      let g : length v.0 ≡ length l = ap length (padding_once a test d p) in
+      let y : w * length xs ≡ w * n = ap (λ (z : ℕ). w * z) f in
+      omega (arith, row_wide w xs v.2, g, y, k)
+
+pub no_code_between : (a : Settings) (lb ub : ℕ) (kind : Counted) (item : ℕ → Spelling) {s : Bits} → NoneIn (bounded_form a (ub - lb + 1)) s → NoneIn (Between a lb ub kind item) s
+no_code_between a lb ub kind item none xs u c = let r = then_took (when_took c).1 in none (length xs - lb) r.0 r.1
+
+-- the forms under a size
+module _ {X : Type 0} (a : Settings) (kind : Counted) (item : X → Spelling) (xs : List X) where
+  pub under_between : (lb ub : ℕ) → ub < 65536 → under_size a (Some lb) (Some ub) kind item xs ≡ Between a lb ub kind item xs
+  under_between lb ub h = ap (λ z. cond z (Between a lb ub kind item xs) (Unsized a item xs)) (lt-ltb ub 65536 h)
+
+  pub under_unsized : (lb ub : ℕ) → 65536 ≤ ub → under_size a (Some lb) (Some ub) kind item xs ≡ Unsized a item xs
+  under_unsized lb ub h = ap (λ z. cond z (Between a lb ub kind item xs) (Unsized a item xs)) (le-ltb ub 65536 h)
+
+  abbrev bounded_items : ℕ → ℕ → Spelling
+  bounded_items lb ub = Then (IsBounded a (ub - lb + 1) (length xs - lb)) (Then (PaddingIf (ltb 0 (length xs) && is_aligned kind lb ub) a) (Row item xs))
+
+  to_bounded : (lb ub : ℕ) (p : ℕ) (b : Bits) → allows (record { least = Some lb; most = Some ub }) (length xs) ≡ true → Between a lb ub kind item xs p b
+      → bounded_items lb ub p b
+  to_bounded lb ub p b h x =
+      let l : lb ≤ length xs = x.0 in
+      let u : length xs ≤ ub = leb-true (length xs) ub (and_left (leb (length xs) ub) (ltb (length xs) (2 ^ 64)) (and_right (leb lb (length xs)) (leb (length xs) ub && ltb (length xs) (2 ^ 64)) h)) in
+      let y = x.1 in
+      record { front = y.front; rest = y.rest; is_front = record { below = omega arith; spelled = y.is_front }; is_rest = y.is_rest; whole = y.whole }
+
+  from_bounded : (lb ub : ℕ) (p : ℕ) (b : Bits) → allows (record { least = Some lb; most = Some ub }) (length xs) ≡ true
+      → bounded_items lb ub p b → Between a lb ub kind item xs p b
+  from_bounded lb ub p b h y = (
+    leb-true lb (length xs) (and_left (leb lb (length xs)) (leb (length xs) ub && ltb (length xs) (2 ^ 64)) h),
+    record { front = y.front; rest = y.rest; is_front = y.is_front.spelled; is_rest = y.is_rest; whole = y.whole },
+  )
+
+  if_map : (c : Bool) (f g h : Spelling) (p : ℕ) (b : Bits) → (f p b → g p b) → cond c f h p b → cond c g h p b
+  if_map true f g h p b k x = k x
+  if_map false f g h p b k x = x
+
+  pub sized_of : (size : Size) {s t : Bits} → allows size (length xs) ≡ true → Took (under_size a size.least size.most kind item xs) s t → Took (Sized a size kind item xs) s t
+  sized_of size h b = took_map (λ p c x. record { allowed = h; spelled = go size.least size.most h p c x }) b
+    where
+      go : (l u : Option ℕ) → allows (record { least = l; most = u }) (length xs) ≡ true → (p : ℕ) (c : Bits) → under_size a l u kind item xs p c → length_form a l u kind item xs p c
+      go None u h p c x = x
+      go (Some l) None h p c x = x
+      go (Some l) (Some u) h p c x = if_map (ltb u 65536) (Between a l u kind item xs) (bounded_items l u) (Unsized a item xs) p c (to_bounded l u p c h) x
+
+  pub of_sized : (size : Size) {s t : Bits} → Took (Sized a size kind item xs) s t → Took (under_size a size.least size.most kind item xs) s t
+  of_sized size b = took_map (λ p c x. go size.least size.most x.allowed p c x.spelled) b
+    where
+      go : (l u : Option ℕ) → allows (record { least = l; most = u }) (length xs) ≡ true → (p : ℕ) (c : Bits) → length_form a l u kind item xs p c → under_size a l u kind item xs p c
+      go None u h p c x = x
+      go (Some l) None h p c x = x
+      go (Some l) (Some u) h p c x = if_map (ltb u 65536) (bounded_items l u) (Between a l u kind item xs) (Unsized a item xs) p c (from_bounded l u p c h) x
+
+-- there is one count under a size
+pub one_size : (a : Settings) (l u : Option ℕ) (kind : Counted) (w : ℕ) (xs ys : List ℕ) (s t v : Bits) → Took (under_size a l u kind (Field w) xs) s t → Took (under_size a l u kind (Field w) ys) s v → length xs ≡ length ys
+one_size a l u kind w xs ys s t v b c = go l u b c
+  where
+    plain : Took (Unsized a (Field w) xs) s t → Took (Unsized a (Field w) ys) s v → length xs ≡ length ys
+    plain b c = ap length (Zip-same xs ys (took_agree (unsized_agree (λ x y. x ≡ y) (Field w) (Field w) (field_agree w) a xs ys) b c).0)
+
+    both : (lb ub : ℕ) (z : Bool) → Took (cond z (Between a lb ub kind (Field w) xs) (Unsized a (Field w) xs)) s t → Took (cond z (Between a lb ub kind (Field w) ys) (Unsized a (Field w) ys)) s v → length xs ≡ length ys
+    both lb ub true b c =
+        let q = when_took c in
+        let r = then_took q.1 in
+        count_between a lb ub kind w (length ys - lb) (length ys) r.1 (omega (arith, q.0)) xs t b
+    both lb ub false b c = plain b c
+
+    go : (l u : Option ℕ) → Took (under_size a l u kind (Field w) xs) s t → Took (under_size a l u kind (Field w) ys) s v → length xs ≡ length ys
+    go None u b c = plain b c
+    go (Some l) None b c = plain b c
+    go (Some l) (Some u) b c = both l u (ltb u 65536) b c
+
+-- whether bounds hold a count, and whether a size allows it
+pub counts_held : (l u : Option ℕ) (n : ℕ) → n < 2 ^ 64 → holds (record { low = option_map pos l; high = option_map pos u }) (pos n) ≡ allows (record { least = l; most = u }) n
+counts_held l u n h = short l u
+  where
+    e : ltb n (2 ^ 64) ≡ true
+    e = lt-ltb n (2 ^ 64) h
+
+    always : (b : Bool) → b ≡ (b && ltb n (2 ^ 64))
+    always true = sym e
+    always false = refl
+
+    short : (l u : Option ℕ) → holds (record { low = option_map pos l; high = option_map pos u }) (pos n) ≡ allows (record { least = l; most = u }) n
+    short None None = sym e
+    short None (Some u) = always (leb n u)
+    short (Some l) None = ap (λ z. leb l n && z) (sym e)
+    short (Some l) (Some u) = ap (λ z. leb l n && z) (always (leb n u))
+
+-- items in equal forms
+pub as_form : {C : Type 0} {holds : C → C → List ℕ → Type 0} {f h : List ℕ → Spelling} {n : ℕ} {before after : C} {s t : Bits} → ((xs : List ℕ) → f xs ≡ h xs) → TookItems holds f n before after s t → TookItems holds h n before after s t
+as_form {s = s} {t} e b = record { codes = b.codes; count = b.count; added = b.added; took = subst (λ z. Took z s t) (e b.codes) b.took }

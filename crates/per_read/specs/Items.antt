@@ -1,0 +1,59 @@
+-- Counted items of as many bits each: octets, bits and characters (X.691 11.9, 16, 17, 30.5). An item's code is the number that its bits mean.
+use Rattle.std.specs.Prelude.{◌≡◌, ℕ, Bool, cond, List, ◌++◌, length}
+use Rattle.rasn_types.specs.Bits.{Bits}
+use Rattle.rasn_constraints.specs.Bounds.{Size}
+use Rattle.per_core.specs.Basic.{Unsized, Sized, Lengthy}
+use Rattle.per_core.specs.Counts.{Counted, octet_items, bit_items, char_items}
+use Rattle.per_core.specs.Spellings.{Settings, Spelling, Field}
+use Rattle.per_core.specs.Took.{Took}
+use Rattle.per_read.specs.declared.items.Item.{Item}
+use Rattle.per_read.specs.declared.items.Item.TheVariants.{Octet, Bit, Character}
+
+-- what is counted
+abbrev pub counted_of : Item → Counted
+counted_of Octet = octet_items
+counted_of Bit = bit_items
+counted_of (Character w) = char_items w
+
+-- how many bits an item has
+abbrev pub bits_of : Item → ℕ
+bits_of Octet = 8
+bits_of Bit = 1
+bits_of (Character w) = w
+
+-- an item, by its code
+abbrev pub coded : Item → ℕ → Spelling
+coded i = Field (bits_of i)
+
+-- X.691 11.9.3.5 to 11.9.3.8: items behind an unconstrained length
+abbrev pub unsized_items : Settings → Item → List ℕ → Spelling
+unsized_items a i = Unsized a (coded i)
+
+-- items whose count the size allows
+abbrev pub sized_items : Settings → Size → Item → List ℕ → Spelling
+sized_items a size i = Sized a size (counted_of i) (coded i)
+
+-- X.691 16, 17, 30.5: items under a size constraint
+abbrev pub lengthy_items : Settings → Size → Bool → Item → List ℕ → Spelling
+lengthy_items a size mark i = Lengthy a size mark (counted_of i) (coded i)
+
+-- items were appended: what was held before, since any start, is held with these behind it
+pub record Adds {C : Type 0} (holds : C → C → List ℕ → Type 0) (before : C) (codes : List ℕ) (after : C) : Type 0 where
+  pub behind : (start : C) (xs : List ℕ) → holds start before xs → holds start after (xs ++ codes)
+
+-- n items were read, in some form, and appended
+pub record TookItems {C : Type 0} (holds : C → C → List ℕ → Type 0) (form : List ℕ → Spelling) (n : ℕ) (before after : C) (s t : Bits) : Type 0 where
+  pub codes : List ℕ
+  pub count : length codes ≡ n
+  pub added : Adds holds before codes after
+  pub took : Took (form codes) s t
+
+-- all items were read, in some form, and a fact holds of their codes
+pub record Gathered (P : List ℕ → Type 0) (form : List ℕ → Spelling) (s t : Bits) : Type 0 where
+  pub codes : List ℕ
+  pub held : P codes
+  pub took : Took (form codes) s t
+
+-- a bit's code
+abbrev pub bit_code : Bool → ℕ
+bit_code b = cond b 1 0

@@ -1,0 +1,35 @@
+-- Refusals by their kinds.
+use Rattle.std.specs.Prelude.{◌≡◌, ◌⊎◌}
+use Rattle.rasn_types.specs.Bits.{Bits}
+use Rattle.per_core.specs.Spellings.{Spelling}
+use Rattle.per_core.specs.Took.{Took}
+use Rattle.per_read.specs.declared.error.DecodeErrorKind.{DecodeErrorKind}
+use Rattle.per_read.specs.declared.error.DecodeErrorKind.TheVariants.{Incomplete, ParserFail, MissingTag, TypeNotExtensible, ExceedsMaxLength, IntegerOverflow, ChoiceIndexExceedsPlatformWidth, Below, OutOfMemory}
+
+-- nothing stands in some form at the front of bits
+abbrev pub NoneIn : {X : Type 0} → (X → Spelling) → Bits → Type 0
+NoneIn {X} form s = (x : X) (t : Bits) → Took (form x) s t → ⊥
+
+-- Kinds of which nothing is stated: that they come where they should is tested.
+abbrev pub IsTested : DecodeErrorKind → Type 0
+IsTested (Incomplete missing) = Unit {0}
+IsTested (ParserFail cause) = Unit {0}
+IsTested MissingTag = Unit {0}
+IsTested TypeNotExtensible = Unit {0}
+IsTested ExceedsMaxLength = Unit {0}
+IsTested (IntegerOverflow width) = Unit {0}
+IsTested ChoiceIndexExceedsPlatformWidth = Unit {0}
+IsTested Below = Unit {0}
+IsTested _ = ⊥
+
+-- want of memory, or a kind of which P holds, where a fact does
+abbrev pub Faulty : (DecodeErrorKind → Type 0) → Type 0 → DecodeErrorKind → Type 0
+Faulty P A k = (k ≡ OutOfMemory) ⊎ (P k × A)
+
+-- a refusal of a kind that tests show, where a fact holds
+abbrev pub Refused : Type 0 → DecodeErrorKind → Type 0
+Refused A k = IsTested k × A
+
+-- want of memory, or such a refusal
+abbrev pub Stopped : Type 0 → DecodeErrorKind → Type 0
+Stopped A = Faulty IsTested A

@@ -1,0 +1,15 @@
+-- The lengths of X.691 11.9.3.5 to 11.9.3.8.
+use Rattle.per_core.specs.Spellings.{Settings, Spelling, Then, AnyPadding}
+use Rattle.per_core.specs.Basic
+use Rattle.per_core.specs.Basic.{LastCount}
+use Rattle.per_read.specs.declared.length.Length.{Length}
+use Rattle.per_read.specs.declared.length.Length.TheVariants.{Last, Fragment}
+
+-- the count of a length
+abbrev pub CountOf : Length → Spelling
+CountOf (Last n) = LastCount n
+CountOf (Fragment n) = Basic.Fragment n
+
+-- padding and a length
+abbrev pub LengthOf : Settings → Length → Spelling
+LengthOf a l = Then (AnyPadding a) (CountOf l)

@@ -1,0 +1,102 @@
+-- Numbers as they are read.
+use lib.Signed.{le_z}
+use Rattle.std.specs.Prelude.{◌≡◌, ℕ, ◌+◌, ◌^◌, ◌≤◌, Bool, true, false, cond, [], Option, Some, None, ℤ, pos, negsuc}
+use Rattle.rasn_types.specs.Bits.{Bits}
+use Rattle.rasn_constraints.specs.Bounds.{above, holds, fits_i128, Bounds, unbounded}
+use Rattle.per_core.specs.Spellings.{Settings, Spelling, When, never}
+use Rattle.per_core.specs.Basic.{InNatural, InWhole, Octets, Marked, bounded_form}
+use Rattle.per_core.specs.Took.{Took}
+use Rattle.per_read.specs.Kinds.{IsTested}
+use Rattle.per_read.specs.declared.error.DecodeErrorKind.{DecodeErrorKind}
+use Rattle.per_read.specs.declared.error.DecodeErrorKind.TheVariants.{ValueConstraintNotSatisfied, IntegerOverflow, UnexpectedEmptyInput}
+use Rattle.per_read.specs.declared.whole.ReadNumber.{ReadNumber}
+use Rattle.per_read.specs.declared.whole.ReadNumber.TheVariants.{Held, Below, Above}
+
+-- X.691 11.7: a number without sign was read; none stands for one that no `u128` holds
+abbrev pub TookNatural : Settings → Option ℕ → Bits → Bits → Type 0
+TookNatural a (Some n) s t = Took (InNatural a n) s t
+TookNatural a None s t = (n : ℕ) × (2 ^ 128 ≤ n) × Took (InNatural a n) s t
+
+-- a fact about the number that was read
+abbrev pub OfRead : (ℤ → Type 0) → ReadNumber → Type 0
+OfRead P (Held z) = P z
+OfRead P Below = (n : ℕ) × (2 ^ 127 ≤ n) × P (negsuc n)
+OfRead P Above = (n : ℕ) × (2 ^ 127 ≤ n) × P (pos n)
+
+-- a fact about each number that it may be
+abbrev pub OfEach : (ℤ → Type 0) → ReadNumber → Type 0
+OfEach P (Held z) = P z
+OfEach P Below = (n : ℕ) → 2 ^ 127 ≤ n → P (negsuc n)
+OfEach P Above = (n : ℕ) → 2 ^ 127 ≤ n → P (pos n)
+
+-- a number stands o above l
+abbrev pub IsAbove : ℤ → ℕ → ℤ → Type 0
+IsAbove l o z = (le_z l z ≡ true) × (above l z ≡ o)
+
+-- X.691 11.5, 11.7, 11.8: a number as bounds have it written, whether it stands within them or not
+abbrev pub under_bounds : Settings → Option ℤ → Option ℤ → ℤ → Spelling
+under_bounds a None high z = InWhole a z
+under_bounds a (Some l) None z = When (le_z l z ≡ true) (InNatural a (above l z))
+under_bounds a (Some l) (Some u) z = When (le_z l z ≡ true) (bounded_form a (above l u + 1) (above l z))
+
+-- a number, where an i128 holds it
+abbrev pub in_i128 : ℤ → Option ℤ
+in_i128 z = cond (fits_i128 z) (Some z) None
+
+-- X.691 13.2: a number behind no extension bit 1 stands outside its bounds, which are named; it is named where an i128 holds it
+pub record IsOutside (a : Settings) (bounds : Bounds) (mark : Bool) (named low high : Option ℤ) (s : Bits) : Type 0 where
+  pub number : ℤ
+  pub rest : Bits
+  pub outside : holds bounds number ≡ false
+  pub is_named : named ≡ in_i128 number
+  pub is_low : low ≡ bounds.low
+  pub is_high : high ≡ bounds.high
+  pub took : Took (Marked mark (under_bounds a bounds.low bounds.high) (λ z. never) number) s rest
+
+-- X.691 11.7, 11.8: no octets, where bounds have a number written in octets
+abbrev pub no_octets : Settings → Bounds → Spelling
+no_octets a bounds = elim bounds.low [ None ↦ Octets a [] | Some l ↦ elim bounds.high [ None ↦ Octets a [] | Some u ↦ never ] ]
+
+-- a number of no octets stands there, under its bounds or behind an extension bit 1
+pub record IsEmpty (a : Settings) (bounds : Bounds) (mark : Bool) (s : Bits) : Type 0 where
+  pub rest : Bits
+  pub took : Took (Marked mark (no_octets a) (λ b. no_octets a unbounded) bounds) s rest
+
+-- what a kind says of octets that are to be a number
+abbrev pub IsOfOctets : Settings → Bits → DecodeErrorKind → Type 0
+IsOfOctets a s UnexpectedEmptyInput = (t : Bits) × Took (Octets a []) s t
+IsOfOctets a s k = IsTested k
+
+-- what a kind says of a number as its bounds have it written
+abbrev pub IsOfForm : Settings → Option ℤ → Option ℤ → Bits → DecodeErrorKind → Type 0
+IsOfForm a None high s k = IsOfOctets a s k
+IsOfForm a (Some l) None s k = IsOfOctets a s k
+IsOfForm a (Some l) (Some u) s k = IsTested k
+
+-- what a kind says of a number under bounds
+abbrev pub IsOfNumber : Settings → Bounds → Bool → Bits → DecodeErrorKind → Type 0
+IsOfNumber a bounds mark s UnexpectedEmptyInput = IsEmpty a bounds mark s
+IsOfNumber a bounds mark s (ValueConstraintNotSatisfied named low high) = IsOutside a bounds mark named low high s
+IsOfNumber a bounds mark s k = IsTested k
+
+-- What a kind says of a number that is no value of a type of a width: it stands outside its bounds, or within these but not in the type.
+abbrev pub IsMissed : Bounds → ℕ → DecodeErrorKind → ℤ → Type 0
+IsMissed bounds width (ValueConstraintNotSatisfied named low high) z = (holds bounds z ≡ false) × (named ≡ in_i128 z) × (low ≡ bounds.low) × (high ≡ bounds.high)
+IsMissed bounds width (IntegerOverflow w) z = (holds bounds z ≡ true) × (w ≡ width)
+IsMissed bounds width _ z = ⊥
+
+-- A number that was read is no value, and a kind that says why.
+pub record Misfit (bounds range : Bounds) (width : ℕ) (k : DecodeErrorKind) (z : ℤ) : Type 0 where
+  pub missed : IsMissed bounds width k z
+  pub none : fits_i128 z ≡ true → holds bounds z ≡ true → holds range z ≡ true → ⊥
+
+-- a number that was read is a value: an i128 holds it, it is within its bounds, and its type holds it
+pub record IsFit (bounds range : Bounds) (r : ReadNumber) (z : ℤ) : Type 0 where
+  pub held : r ≡ Held z
+  pub fits : fits_i128 z ≡ true
+  pub within : holds bounds z ≡ true
+  pub in_range : holds range z ≡ true
+
+-- a bound is there
+abbrev pub AreSome : Bounds → Type 0
+AreSome b = b.low ≡ None → b.high ≡ None → ⊥
