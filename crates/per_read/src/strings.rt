@@ -3,7 +3,6 @@
 ghost use Rattle.std.specs.Prelude.{◌≡◌, ℕ, length, map, true, IfOk, IfErr};
 ghost use Rattle.std.specs.String.{string_bytes};
 ghost use Rattle.rasn_types.specs.Alphabets.{has, char_width};
-ghost use Rattle.rasn_types.specs.Codecs.{variant_of};
 ghost use Rattle.rasn_types.specs.Contents.{utf8, is_text};
 ghost use Rattle.rasn_schema.specs.Forms.{size_of, is_size_marked, alphabet_of};
 ghost use Rattle.per_core.specs.Basic.{Octets, Lengthy, String, Proper, octet, bit};
@@ -21,6 +20,7 @@ use crate::items::{Collector, Item, take_octets};
 use crate::sizes::take_items;
 use per_bits::BitReader;
 use rasn_schema::constraints::Constraints;
+use rasn_schema::strings::alphabet_under;
 use rasn_strings::alphabet::CharacterAlphabet;
 use rasn_strings::strings::StaticPermittedAlphabet;
 use rasn_types::bit_string::BitString;
@@ -109,22 +109,6 @@ impl<S: StaticPermittedAlphabet> Collector for Characters<S> {
     }
 }
 
-/// The alphabet of a string type under the first permitted alphabet. An extensible one isn't visible (X.691 30.4).
-fn alphabet_under<S: StaticPermittedAlphabet>(
-    codec: Codec,
-    constraints: &Constraints,
-) -> CharacterAlphabet
-    ensures variant { result.variant ≡ variant_of codec }
-    ensures characters { result.characters ≡ alphabet_of S.alphabet constraints.now }
-    ensures own { (character : ℕ) → has result.characters character ≡ true → has S.alphabet character ≡ true }
-{
-    let permitted = match constraints.permitted_alphabet() {
-        Some(permitted) if !permitted.extensible => Some(permitted.constraint),
-        _ => None,
-    };
-    CharacterAlphabet::new::<S>(permitted, codec == Codec::Aper)
-}
-
 /// Takes a known-multiplier string under the first size constraint and the first permitted alphabet (X.691 30.5). A
 /// code without a character is refused behind all characters and their count.
 pub fn take_characters<S: StaticPermittedAlphabet>(
@@ -138,7 +122,7 @@ pub fn take_characters<S: StaticPermittedAlphabet>(
         (NoneIn (String (settings codec) (alphabet_of S.alphabet constraints.now) (size_of constraints.now) (is_size_marked constraints.now)) bits.old)) }
 {
     let mut characters = Characters {
-        alphabet: alphabet_under::<S>(codec, constraints),
+        alphabet: alphabet_under::<S>(constraints, codec),
         string: S::new(alloc),
         has_unknown: false,
     };

@@ -1,17 +1,39 @@
 //! The schemas of character strings (X.680 41).
 
+ghost use Rattle.std.specs.Prelude.{◌≡◌, ℕ, true};
 ghost use Rattle.std.specs.String.{string_bytes};
-ghost use Rattle.rasn_types.specs.Alphabets.{visible, ia5, printable, numeric, bmp};
+ghost use Rattle.rasn_types.specs.Alphabets.{has, visible, ia5, printable, numeric, bmp};
+ghost use Rattle.rasn_types.specs.Codecs.{variant_of};
 ghost use Rattle.rasn_types.specs.Contents.{utf8, other};
 ghost use Rattle.rasn_types.specs.Values.{characters, octets};
 ghost use Rattle.rasn_schema.specs.Schemas.{Schema};
 ghost use Rattle.rasn_constraints.specs.Ranges.{no_constraints};
-ghost use Rattle.rasn_schema.specs.Forms.{character_schema, always, simple_unfolds};
+ghost use Rattle.rasn_schema.specs.Forms.{alphabet_of, character_schema, always, simple_unfolds};
 
 use crate::schema::{AsnType, Constraints};
-use rasn_strings::strings::{BmpString, Ia5String, NumericString, PrintableString, VisibleString};
+use rasn_strings::alphabet::CharacterAlphabet;
+use rasn_strings::strings::{
+    BmpString, Ia5String, NumericString, PrintableString, StaticPermittedAlphabet, VisibleString,
+};
 use rasn_types::octet_strings::{GeneralString, GraphicString, TeletexString, Utf8String};
-use rasn_types::types::{Identifier, Tag};
+use rasn_types::types::{Codec, Identifier, Tag};
+
+/// The alphabet of a string type under the first permitted alphabet of constraints: those of its characters that are
+/// permitted, with their codes. An extensible one isn't visible (X.691 30.4).
+pub fn alphabet_under<S: StaticPermittedAlphabet>(
+    constraints: &Constraints,
+    codec: Codec,
+) -> CharacterAlphabet
+    ensures variant { result.variant ≡ variant_of codec }
+    ensures characters { result.characters ≡ alphabet_of S.alphabet constraints.now }
+    ensures own { (character : ℕ) → has result.characters character ≡ true → has S.alphabet character ≡ true }
+{
+    let permitted = match constraints.permitted_alphabet() {
+        Some(permitted) if !permitted.extensible => Some(permitted.constraint),
+        _ => None,
+    };
+    CharacterAlphabet::new::<S>(permitted, codec == Codec::Aper)
+}
 
 impl AsnType for VisibleString {
     const TAG: Tag = Tag::VISIBLE_STRING;
