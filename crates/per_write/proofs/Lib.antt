@@ -1,0 +1,8 @@
+pub mod Bounded
+pub mod Constrained
+pub mod Counting
+pub mod Fragments
+pub mod Permitted
+pub mod Refusing
+pub mod Steps
+pub mod Writing
