@@ -1,7 +1,7 @@
 -- What the program says of a fault, and the status that it ends with.
 use Rattle.std.specs.Prelude.{ℕ, List, codes}
 use Rattle.per_read.specs.Names.{name_of as decode_name}
-use Rattle.per_enc.specs.Names.{name_of as encode_name}
+use Rattle.per_write.specs.Names.{name_of as encode_name}
 use Rattle.std.specs.declared.io.ErrorKind.{ErrorKind}
 use Rattle.std.specs.declared.io.ErrorKind.TheVariants as Kinds
 use Rattle.hex.specs.declared.error.FromHexError.{FromHexError}

@@ -13,7 +13,7 @@ use Rattle.per_samples_a.specs.Fours.{four_parts}
 use Rattle.per_samples_a.specs.Sevens.{seven_parts}
 use Rattle.rasn_per.specs.Whole.{AreBytes, HasNoBytes, AreReadAs, AreUnread}
 use Rattle.rasn_per.specs.Kinds.{IsInOctets}
-use Rattle.per_enc.specs.declared.error.EncodeErrorKind.TheVariants as Encoding
+use Rattle.per_write.specs.declared.error.EncodeErrorKind.TheVariants as Encoding
 use Rattle.per_read.specs.declared.error.DecodeErrorKind.TheVariants as Decoding
 use Rattle.per_check.specs.declared.arguments.Variant.{Variant}
 use Rattle.per_check.specs.declared.arguments.Variant.TheVariants.{Uper}

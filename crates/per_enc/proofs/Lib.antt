@@ -1,10 +1,2 @@
-pub mod Bounded
-pub mod Constrained
-pub mod Counting
-pub mod Fragments
-pub mod Permitted
 pub mod Presenting
 pub mod Records
-pub mod Refusing
-pub mod Steps
-pub mod Writing

@@ -1,19 +1,26 @@
 -- What the calls of an encoder present.
 use Rattle.std.specs.Prelude.{OnOk, OnErr, IfErr, Result, Ok, Err, Bool}
-use Rattle.std.proofs.Common.{◌≡◌, refl, sym, ap, ◌∙◌, subst, true, false, ℕ, List, [], ◌∷◌, Some, append-nil, inl, inr, None, Option}
+use Rattle.std.proofs.Common.{◌≡◌, refl, sym, ap, ◌∙◌, subst, true, false, ℕ, List, [], ◌∷◌, Some, append-nil, inl, inr, None, Option, ℤ}
 use Rattle.rasn_types.specs.Bits.{Bits}
 use Rattle.rasn_types.specs.Codecs.{variant_of}
-use Rattle.rasn_types.specs.Values.{Value, truth, nothing, octets}
+use Rattle.rasn_types.specs.Octets.{whole_bits}
+use Rattle.rasn_types.specs.Values.{Value, truth, nothing, octets, whole}
 use Rattle.rasn_types.specs.Contents.{is_text, other, TextKind}
 use Rattle.rasn_types.specs.Variants.{Variant}
+use Rattle.rasn_constraints.specs.Bounds.{holds, Bounds, unbounded}
+use Rattle.rasn_constraints.specs.Constraints.{bounds_in, is_marked}
+use Rattle.rasn_constraints.specs.declared.constraints.Bounded.{Bounded}
+use Rattle.rasn_constraints.specs.declared.constraints.Extensible.{Extensible}
 use Rattle.rasn_schema.specs.Schemas.{Schema}
 use Rattle.rasn_codec.specs.Calls.{Writes, takes_none}
-use Rattle.per_core.specs.Counts.{octets_unsized}
+use Rattle.per_core.specs.Counts.{counted_octets, octets_unsized}
 use Rattle.per_core.specs.Writers.{Writer, join, just, written_if, ◌▹◌}
 use Rattle.per_core.specs.Canon.{canon}
-use Rattle.per_enc.specs.declared.error.EncodeError.{EncodeError}
-use Rattle.per_enc.specs.Faults.{IsMemory, IsAlready, RefusesValue, Stands}
-use Rattle.per_enc.specs.State.{State, Wrote, Presents, view}
+use Rattle.per_write.specs.declared.error.EncodeError.{EncodeError}
+use Rattle.per_write.specs.Faults.{IsMemory, IsAlready, RefusesValue, Stands}
+use Rattle.per_write.specs.State.{State, Wrote, Presents, view}
+use Rattle.per_write.proofs.Constrained.{presents_within, under_none}
+use Rattle.per_write.proofs.Writing.{wrote_same}
 
 -- a call that wrote a value's canonical bits, or found no memory
 pub writes : (x y : State) (w : Writer) (s : Schema) (v : Value) (result : Result (Unit {0}) EncodeError) → w ≡ canon (variant_of x.codec) s v →
@@ -33,6 +40,14 @@ refuses_again e x s v h f = record {
 pub boolean_bits : (a : Variant) (b : Bool) → just (b ∷ []) ≡ canon a Schema.boolean (truth b)
 unfolding canon
 boolean_bits a b = refl
+
+-- X.691 13.2.4: without a constraint
+pub unbounded_law : (x y : State) (value : Option (Extensible (Bounded ℤ))) (range : Bounds) (z : ℤ) (result : Result (Unit {0}) EncodeError) → value ≡ None →
+    OnOk result (Wrote x (counted_octets (variant_of x.codec) (whole_bits z)) y) → OnOk result (holds range z ≡ true) → IfErr result (λ e. IsMemory e x) →
+    Writes IsMemory Presents RefusesValue (Schema.number (bounds_in value) (is_marked value) range) (whole z) x result y
+unbounded_law x y value range z (Ok u) n w h i =
+    rw n (presents_within x y unbounded range z h refl (wrote_same x y (counted_octets (variant_of x.codec) (whole_bits z)) _ (under_none (variant_of x.codec) None z (inl refl)) w))
+unbounded_law x y value range z (Err e) n w h i = inl i
 
 -- X.691 11.2: octets of a type that isn't known
 any_bits : (a : Variant) (os : List ℕ) → octets_unsized a os ≡ canon a Schema.any (octets os)

@@ -13,13 +13,14 @@ use Rattle.rasn_codec.specs.Scopes.{record_of, presents_required, PresentsParts,
 use Rattle.rasn_codec.proofs.Writing.{slots-as_slots}
 use Rattle.per_core.specs.Canon.{canon, members, flags_of, bodies_of, bitmap_of, shown, record_of as record_writer}
 use Rattle.per_core.specs.Writers.{Writer, just, ◌▹◌, join, go_on, after}
-use Rattle.per_enc.specs.declared.error.EncodeError.{EncodeError}
-use Rattle.per_enc.specs.declared.error.EncodeErrorKind.{EncodeErrorKind}
-use Rattle.per_enc.specs.declared.error.EncodeErrorKind.TheVariants.{SizeConstraintNotSatisfied, ValueConstraintNotSatisfied, AlphabetConstraintNotSatisfied, IntegerTypeConversionFailed, VariantNotInChoice, RealNotSupported, TooManyAdditions, Below, AlreadyFailed, OutOfMemory, OutOfTurn}
+use Rattle.per_write.specs.declared.error.EncodeError.{EncodeError}
+use Rattle.per_write.specs.declared.error.EncodeErrorKind.{EncodeErrorKind}
+use Rattle.per_write.specs.declared.error.EncodeErrorKind.TheVariants.{SizeConstraintNotSatisfied, ValueConstraintNotSatisfied, AlphabetConstraintNotSatisfied, IntegerTypeConversionFailed, VariantNotInChoice, RealNotSupported, TooManyAdditions, Below, AlreadyFailed, OutOfMemory, OutOfTurn}
 use Rattle.per_enc.specs.declared.Scope.{Scope}
-use Rattle.per_enc.specs.Faults.{HasPart, part_here, part_behind, in_part, IsMemory, RefusesValue, Stands}
-use Rattle.per_enc.specs.State.{State, Wrote, Presents, Opens}
-use Rattle.per_enc.proofs.Writing.{none_behind, then_nothing, wrote_then}
+use Rattle.per_write.specs.Faults.{HasPart, part_here, part_behind, in_part, IsMemory, RefusesValue, Stands}
+use Rattle.per_write.specs.State.{State, Wrote, Presents}
+use Rattle.per_enc.specs.Opens.{Opens}
+use Rattle.per_write.proofs.Writing.{none_behind, then_nothing, wrote_then}
 
 join_nothing : (o : Option Bits) → join [] o ≡ o
 join_nothing None = refl

@@ -1,8 +1,8 @@
 -- What holds of an encoder's relations.
 use Rattle.std.proofs.Common.{◌∙◌}
 use Rattle.rasn_codec.specs.Calls.{PresentsWell}
-use Rattle.per_enc.specs.Faults.{IsMemory}
-use Rattle.per_enc.specs.State.{State, Presents}
+use Rattle.per_write.specs.Faults.{IsMemory}
+use Rattle.per_write.specs.State.{State, Presents}
 
 pub presents_well : PresentsWell (λ (x : State). x.failed) IsMemory Presents
 presents_well = record {

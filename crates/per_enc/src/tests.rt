@@ -183,8 +183,12 @@ fn refuses_numbers_out_of_bounds(rt: HostRuntime) -> Result<(), Fail> {
 fn writes_octets_behind_a_bit(rt: HostRuntime) -> Result<(), Fail> {
     let mut encoder = unaligned(rt.alloc());
     encoder.encode_bool(Tag::BOOL, true, Identifier::EMPTY)?;
-    assert!(rt; !encoder.failed);
-    encoder.put_octets(&[0xaa, 0xbb, 0xcc])?;
+    encoder.encode_octet_string(
+        Tag::OCTET_STRING,
+        &Constraints::NONE,
+        &[0xaa, 0xbb, 0xcc],
+        Identifier::EMPTY,
+    )?;
     assert_eq!(rt;
         encoder.output()?.as_slice(),
         [0x81, 0xd5, 0x5d, 0xe6, 0x00].as_slice()
@@ -192,8 +196,12 @@ fn writes_octets_behind_a_bit(rt: HostRuntime) -> Result<(), Fail> {
 
     let mut encoder = aligned(rt.alloc());
     encoder.encode_bool(Tag::BOOL, true, Identifier::EMPTY)?;
-    assert!(rt; !encoder.failed);
-    encoder.put_octets(&[0x11, 0x22, 0x33])?;
+    encoder.encode_octet_string(
+        Tag::OCTET_STRING,
+        &Constraints::NONE,
+        &[0x11, 0x22, 0x33],
+        Identifier::EMPTY,
+    )?;
     assert_eq!(rt;
         encoder.output()?.as_slice(),
         [0x80, 0x03, 0x11, 0x22, 0x33].as_slice()
@@ -220,7 +228,12 @@ fn expect_lengths(
     }
 
     let mut encoder = unaligned(alloc);
-    encoder.put_octets(&zeros)?;
+    encoder.encode_octet_string(
+        Tag::OCTET_STRING,
+        &Constraints::NONE,
+        &zeros,
+        Identifier::EMPTY,
+    )?;
     let octets = encoder.output()?;
     assert!(rt; octets.as_slice() == expected.as_slice(), "{count} octets");
     Ok(())

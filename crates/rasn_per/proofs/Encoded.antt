@@ -10,10 +10,10 @@ use Rattle.rasn_schema.specs.Normal.{normal}
 use Rattle.rasn_codec.specs.Calls.{AtDepths}
 use Rattle.per_core.specs.Writers.{join, just, ◌▹◌}
 use Rattle.per_core.specs.Canon.{canon, bytes, completed}
-use Rattle.per_enc.specs.State.{State, view, Presents}
-use Rattle.per_enc.specs.Faults.{IsMemory, RefusesValue}
-use Rattle.per_enc.specs.declared.error.EncodeError.{EncodeError}
-use Rattle.per_enc.specs.declared.error.EncodeErrorKind.TheVariants.{OutOfMemory}
+use Rattle.per_write.specs.State.{State, view, Presents}
+use Rattle.per_write.specs.Faults.{IsMemory, RefusesValue}
+use Rattle.per_write.specs.declared.error.EncodeError.{EncodeError}
+use Rattle.per_write.specs.declared.error.EncodeErrorKind.TheVariants.{OutOfMemory}
 use Rattle.rasn_per.specs.Whole.{AreBytes, HasNoBytes}
 
 join-nil : (o : Option Bits) → join [] o ≡ o

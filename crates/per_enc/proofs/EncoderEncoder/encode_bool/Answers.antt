@@ -4,4 +4,4 @@ use Rattle.per_enc.proofs.EncoderEncoder.encode_bool.Goals as goal
 
 pub returns-clause-law : goal.returns-clause-law
 returns-clause-law g c =
-    writes c.args.self.now _ _ _ _ c.put_bit.result (boolean_bits (variant_of c.args.self.now.codec) c.args.value) c.put_bit.ensures.ok c.put_bit.ensures.err
+    rw (← c.self.view_is) (writes c.self.inside.writer _ _ _ _ c.put_bit.result (boolean_bits (variant_of c.self.inside.writer.codec) c.args.value) c.put_bit.ensures.ok c.put_bit.ensures.err)

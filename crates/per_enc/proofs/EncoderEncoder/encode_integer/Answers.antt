@@ -1,8 +1,9 @@
 use Rattle.std.proofs.Common.{sym, ◌∙◌}
-use Rattle.per_enc.proofs.Constrained.{unbounded_law}
+use Rattle.per_enc.proofs.Presenting.{unbounded_law}
 use Rattle.per_enc.proofs.EncoderEncoder.encode_integer.Goals as goal
 
 pub returns-in-None-clause-law : goal.returns-in-None-clause-law
 returns-in-None-clause-law g c =
-    unbounded_law c.args.self.now _ c.args.constraints.now.value g.I.IntegerType.range (g.I.IntegerType.number c.args.value.now) c.put_whole.result (sym c.value.ensures ∙ c.in-None.is)
-    c.put_whole.ensures.ok c.put_whole.ensures.held c.put_whole.ensures.err
+    rw (← c.self.view_is)
+    (unbounded_law c.self.inside.writer _ c.args.constraints.now.value g.I.IntegerType.range (g.I.IntegerType.number c.args.value.now) c.put_whole.result (sym c.value.ensures ∙ c.in-None.is)
+    c.put_whole.ensures.ok c.put_whole.ensures.held c.put_whole.ensures.err)

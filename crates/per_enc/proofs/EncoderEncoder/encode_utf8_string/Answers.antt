@@ -5,4 +5,5 @@ use Rattle.per_enc.proofs.EncoderEncoder.encode_utf8_string.Goals as goal
 
 pub returns-clause-law : goal.returns-clause-law
 returns-clause-law g c =
-    text_law c.args.self.now c.put_octets.new.self utf8 _ c.args.value.now c.put_octets.result c.as_bytes.ensures.value (is_text-IsUtf8 c.args.value.now c.utf8.value) c.put_octets.ensures.ok c.put_octets.ensures.err
+    rw (← c.self.view_is)
+    (text_law c.self.inside.writer c.put_octets.new.self utf8 _ c.args.value.now c.put_octets.result c.as_bytes.ensures.value (is_text-IsUtf8 c.args.value.now c.utf8.value) c.put_octets.ensures.ok c.put_octets.ensures.err)

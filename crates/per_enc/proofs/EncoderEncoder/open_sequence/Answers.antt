@@ -4,4 +4,4 @@ use Rattle.per_enc.proofs.EncoderEncoder.open_sequence.Goals as goal
 
 pub returns-clause-law : goal.returns-clause-law
 returns-clause-law g c =
-    (record { begun = c.in_ok-check_unfailed.ensures.ok; same = refl }, passes_here c.args.self.now c.in_ok-check_unfailed.ensures.ok)
+    rw (← c.self.view_is) (record { begun = c.in_ok-check_unfailed.ensures.ok; same = refl }, passes_here c.self.inside.writer c.in_ok-check_unfailed.ensures.ok)

@@ -3,7 +3,7 @@ use Rattle.std.proofs.Common.{◌≡◌, ◌∙◌, ap, Err}
 use Rattle.rasn_types.specs.declared.types.Codec.{Codec}
 use Rattle.rasn_types.specs.declared.types.Codec.TheVariants.{Uper}
 use Rattle.std.specs.Prelude.{false, []}
-use Rattle.per_enc.specs.State.{State}
+use Rattle.per_write.specs.State.{State}
 use Rattle.rasn_per.proofs.Encoded.{encoded, refused}
 use Rattle.rasn_per.proofs.uper.encode.Goals as goal
 

@@ -1,6 +1,0 @@
-use Rattle.per_enc.proofs.Refusing.{octet_string_law}
-use Rattle.per_enc.proofs.Encoder.put_octet_string.Goals as goal
-
-pub returns-clause-law : goal.returns-clause-law
-returns-clause-law g c =
-    rw c.size.ensures at (octet_string_law c.args.self.now c.put_counted.new.self _ _ c.args.value.now c.put_counted.result c.put_counted.ensures.ok c.put_counted.ensures.err)

@@ -1,9 +1,0 @@
-use Rattle.std.proofs.Common.{ap}
-use Rattle.std.proofs.lemmas.Result.{on_ok_weaker}
-use Rattle.rasn_types.specs.Codecs.{variant_of}
-use Rattle.per_enc.proofs.Fragments.{appends_padding}
-use Rattle.per_enc.proofs.lengths.push_padding.Goals as goal
-
-pub returns-in-Aper : goal.returns-in-Aper
-returns-in-Aper g c =
-    on_ok_weaker _ (appends_padding (variant_of c.args.codec) _ _ c.len.result (ap variant_of c.in-Aper.is) c.len.ensures) c.push_bits.ensures.ok

@@ -1,0 +1,187 @@
+-- Items under a size constraint, as they are written and refused.
+use Rattle.std.specs.Prelude.{option_map, slice_range}
+use Rattle.std.specs.Option.{unwrap_or}
+use Rattle.std.proofs.Common.{◌≡◌, refl, sym, ap, ap₂, ◌∙◌, subst, ℕ, ◌+◌, ◌-◌, ◌^◌, ◌<◌, ◌≤◌, Bool, true, false, ◌&&◌, cond, ltb, leb, lt-ltb, leb-true, List, [], ◌∷◌, length, drop, drop-drop, take_all, length-take, length-drop, arith, Option, Some, None, pos}
+use Rattle.std.proofs.lemmas.Bool.{le-ltb}
+use Rattle.std.proofs.Math.Bool.{and-true}
+use Rattle.rasn_types.specs.Codecs.{variant_of}
+use Rattle.rasn_types.specs.Variants.{Variant}
+use Rattle.rasn_types.specs.declared.types.Codec.{Codec}
+use Rattle.rasn_constraints.specs.Bounds.{allows, holds, Size, any_size}
+use Rattle.rasn_constraints.specs.Constraints.{bounds_by, end_of, is_marked, size_between, size_in, start_of}
+use Rattle.rasn_constraints.specs.declared.constraints.Bounded.{Bounded}
+use Rattle.rasn_constraints.specs.declared.constraints.Bounded.TheVariants as Variants
+use Rattle.rasn_constraints.specs.declared.constraints.Extensible.{Extensible}
+use Rattle.per_core.specs.Counts.{bounded, counted, Counted, marked_form, counted_in, counted_under, determinant, in_rows, is_aligned, padding_if, rows}
+use Rattle.per_core.specs.Writers.{Writer, just, ◌▹◌, in_a_row, padding, written_if}
+use Rattle.per_write.specs.declared.error.EncodeError.{EncodeError}
+use Rattle.per_write.specs.declared.error.EncodeErrorKind.{EncodeErrorKind}
+use Rattle.per_write.specs.declared.error.EncodeErrorKind.TheVariants.{SizeConstraintNotSatisfied}
+use Rattle.per_write.specs.Faults.{IsError}
+use Rattle.per_write.specs.Items.{RefusesCounted, wrong_count}
+use Rattle.per_write.specs.Rows.{row}
+use Rattle.per_write.specs.State.{State, Wrote}
+use Rattle.per_core.proofs.Lengths.{and_left, and_right}
+use Rattle.per_write.proofs.Fragments.{first_fragment, in_their_rows, rows_of_few, rows_of_many}
+use Rattle.per_write.proofs.Writing.{Remains, remains_after, remains_last, then_assoc, wrote_same, wrote_then}
+
+-- items between two places
+length-slice : (ws : List Writer) (start end : ℕ) → start ≤ end → end ≤ length ws → length (slice_range ws start end) ≡ end - start
+length-slice ws start end h l = length-take (end - start) (drop start ws) ∙ omega (arith, length-drop start ws)
+
+-- items behind their count
+pub wrote_row : (writers : Variant → List Writer) (x m y : State) (start end : ℕ) → start ≤ end → end ≤ length (writers (variant_of x.codec)) →
+    Wrote x (padding (variant_of x.codec) ▹ just (determinant (end - start))) m → Wrote m (in_a_row (slice_range (writers (variant_of m.codec)) start end)) y →
+    Wrote x (row (variant_of x.codec) (slice_range (writers (variant_of x.codec)) start end)) y
+wrote_row writers x m y start end h l v w =
+    subst (λ (n : ℕ). Wrote x ((padding (variant_of x.codec) ▹ just (determinant n)) ▹ in_a_row (slice_range (writers (variant_of x.codec)) start end)) y)
+    (sym (length-slice (writers (variant_of x.codec)) start end h l))
+    (wrote_then x m y _ _ v (subst (λ (c : Codec). Wrote m (in_a_row (slice_range (writers (variant_of c)) start end)) y) v.same w))
+
+-- one fragment more
+pub fragment_written : (writers : Variant → List Writer) (x y z : State) (start end n : ℕ) →
+    let all = writers (variant_of x.codec) in
+    n ≡ length all → 16384 ≤ n - start → end ≡ start + first_fragment (n - start) →
+    Remains x (in_rows (variant_of x.codec) (rows (length all)) all) y (in_rows (variant_of x.codec) (rows (length (drop start all))) (drop start all)) →
+    Wrote y (row (variant_of y.codec) (slice_range (writers (variant_of y.codec)) start end)) z →
+    Remains x (in_rows (variant_of x.codec) (rows (length all)) all) z (in_rows (variant_of x.codec) (rows (length (drop end all))) (drop end all))
+fragment_written writers x y z start end n e h d r w =
+    let a = variant_of x.codec in
+    let all = writers a in
+    let left : length (drop start all) ≡ n - start = length-drop start all ∙ omega arith in
+    let size : end - start ≡ first_fragment (n - start) = omega arith in
+    let m : end - start ≡ first_fragment (length (drop start all)) = size ∙ ap first_fragment (sym left) in
+    let place : start + (end - start) ≡ end = omega arith in
+    let behind : drop (end - start) (drop start all) ≡ drop end all = drop-drop (end - start) start all ∙ ap (λ (k : ℕ). drop k all) place in
+    let many : 16384 ≤ length (drop start all) = omega arith in
+    remains_after x y z _ _ (row a (slice_range all start end)) _ r
+    (λ p. rows_of_many a (drop start all) (end - start) many m p ∙ ap (λ (ws : List Writer). (row a (slice_range all start end) ▹ in_rows a (rows (length ws)) ws) p) behind)
+    (subst (λ (c : Codec). Wrote y (row (variant_of c) (slice_range (writers (variant_of c)) start end)) z) r.same w)
+
+-- the last row
+pub last_written : (writers : Variant → List Writer) (kind : Counted) (x y z : State) (start n : ℕ) →
+    let all = writers (variant_of x.codec) in
+    n ≡ length all → n < 2 ^ 64 → start ≤ n → n - start < 16384 →
+    Remains x (in_rows (variant_of x.codec) (rows (length all)) all) y (in_rows (variant_of x.codec) (rows (length (drop start all))) (drop start all)) →
+    Wrote y (row (variant_of y.codec) (slice_range (writers (variant_of y.codec)) start n)) z →
+    Wrote x (counted_in (variant_of x.codec) any_size kind all) z
+last_written writers kind x y z start n e l h d r w =
+    let a = variant_of x.codec in
+    let all = writers a in
+    let left : length (drop start all) ≡ n - start = length-drop start all ∙ omega arith in
+    let whole : slice_range all start n ≡ drop start all = take_all (n - start) (drop start all) (omega arith) in
+    let few : length (drop start all) < 16384 = omega arith in
+    wrote_same x z _ _ (in_their_rows a kind all (omega arith))
+    (remains_last x y z _ _ (row a (slice_range all start n)) r
+    (λ p. rows_of_few a (drop start all) few p ∙ ap (λ (ws : List Writer). row a ws p) (sym whole))
+    (subst (λ (c : Codec). Wrote y (row (variant_of c) (slice_range (writers (variant_of c)) start n)) z) r.same w))
+
+-- a count that a size allows is within its bounds
+bounds_there : (least most : Option ℕ) (l u k : ℕ) → least ≡ Some l → most ≡ Some u → allows (record { least = least; most = most }) k ≡ true →
+    allows (record { least = Some l; most = Some u }) k ≡ true
+bounds_there least most l u k e f h = subst (λ (o : Option ℕ). allows (record { least = o; most = Some u }) k ≡ true) e (subst (λ (o : Option ℕ). allows (record { least = least; most = o }) k ≡ true) f h)
+
+pub allowed_least : (least most : Option ℕ) (l u n k : ℕ) → least ≡ Some l → most ≡ Some u → n ≡ k → allows (record { least = least; most = most }) k ≡ true → l ≤ n
+allowed_least least most l u n k e f d h =
+    subst (λ (q : ℕ). l ≤ q) (sym d) (leb-true l k (and_left (leb l k) (leb k u && ltb k (2 ^ 64)) (bounds_there least most l u k e f h)))
+
+pub allowed_most : (least most : Option ℕ) (l u n k : ℕ) → least ≡ Some l → most ≡ Some u → n ≡ k → allows (record { least = least; most = most }) k ≡ true → n ≤ u
+allowed_most least most l u n k e f d h =
+    subst (λ (q : ℕ). q ≤ u) (sym d) (leb-true k u (and_left (leb k u) (ltb k (2 ^ 64)) (and_right (leb l k) (leb k u && ltb k (2 ^ 64)) (bounds_there least most l u k e f h))))
+
+-- items behind a count within bounds
+pub wrote_bounded : (writers : Variant → List Writer) (kind : Counted) (x m y : State) (least most : Option ℕ) (l u n : ℕ) (on_octet : Bool) →
+    let all = writers (variant_of x.codec) in
+    least ≡ Some l → most ≡ Some u → n ≡ length all → u < 65536 → allows (record { least = least; most = most }) (length all) ≡ true → on_octet ≡ (ltb 0 n && is_aligned kind l u) →
+    Wrote x (bounded (variant_of x.codec) (u - l + 1) (n - l) ▹ padding_if on_octet (variant_of x.codec)) m →
+    Wrote m (in_a_row (slice_range (writers (variant_of m.codec)) 0 n)) y →
+    Wrote x (counted_in (variant_of x.codec) (record { least = least; most = most }) kind all) y
+wrote_bounded writers kind x m y least most l u n on_octet f g e b h o v w =
+    let a = variant_of x.codec in
+    let all = writers a in
+    let whole : slice_range all 0 n ≡ all = take_all (n - 0) all (omega arith) in
+    wrote_same x y ((bounded a (u - l + 1) (n - l) ▹ padding_if on_octet a) ▹ in_a_row all) (counted_in a (record { least = least; most = most }) kind all)
+    (λ p. sym (then_assoc (bounded a (u - l + 1) (n - l)) (padding_if on_octet a) (in_a_row all) p)
+    ∙ ap (λ (t : Bool). (bounded a (u - l + 1) (n - l) ▹ padding_if t a ▹ in_a_row all) p) o
+    ∙ ap (λ (k : ℕ). (bounded a (u - l + 1) (k - l) ▹ padding_if (ltb 0 k && is_aligned kind l u) a ▹ in_a_row all) p) e
+    ∙ ap (λ (t : Bool). cond t (bounded a (u - l + 1) (length all - l) ▹ padding_if (ltb 0 (length all) && is_aligned kind l u) a ▹ in_a_row all) (in_rows a (rows (length all)) all) p) (sym (lt-ltb u 65536 b))
+    ∙ ap (λ (q : Option ℕ). counted_under a (Some l) q kind (length all) all p) (sym g)
+    ∙ ap (λ (q : Option ℕ). counted_under a q most kind (length all) all p) (sym f)
+    ∙ ap (λ (t : Bool). written_if t (counted_under a least most kind (length all) all) p) (sym h))
+    (wrote_then x m y _ _ v
+    (subst (λ (ws : List Writer). Wrote m (in_a_row ws) y) whole (subst (λ (c : Codec). Wrote m (in_a_row (slice_range (writers (variant_of c)) 0 n)) y) v.same w)))
+
+-- whether padding stands in front of items
+pub pads_some : (n : ℕ) (o t : Bool) → 0 < n → o ≡ t → o ≡ (ltb 0 n && t)
+pads_some n o t h e = e ∙ ap (λ (b : Bool). b && t) (sym (lt-ltb 0 n h))
+
+pub pads_none : (n : ℕ) (o t : Bool) → n ≤ 0 → o ≡ ltb 0 n → o ≡ (ltb 0 n && t)
+pads_none n o t h e = let z : ltb 0 n ≡ false = le-ltb 0 n h in e ∙ z ∙ ap (λ (b : Bool). b && t) (sym z)
+
+-- the size that a constraint states, and no size where there is none
+size_from : (b : Bounded ℕ) (lower upper : Option ℕ) → lower ≡ start_of b → upper ≡ end_of b → size_between b ≡ record { least = lower; most = upper }
+size_from b lower upper l u = sym (ap₂ {C = Size} (λ (p q : Option ℕ). record { least = p; most = q }) l u)
+
+pub stated_size : (size : Option (Extensible (Bounded ℕ))) (default stated : Extensible (Bounded ℕ)) (lower upper : Option ℕ) → default.constraint ≡ Variants.None → stated ≡ unwrap_or size default →
+    lower ≡ start_of stated.constraint → upper ≡ end_of stated.constraint → size_in size ≡ record { least = lower; most = upper }
+stated_size None default stated lower upper d e l u =
+    let b : stated.constraint ≡ Variants.None = ap (λ (s : Extensible (Bounded ℕ)). s.constraint) e ∙ d in
+    size_from Variants.None lower upper (l ∙ ap start_of b) (u ∙ ap end_of b)
+stated_size (Some s) default stated lower upper d e l u =
+    size_from s.constraint lower upper (l ∙ ap (λ (s : Extensible (Bounded ℕ)). start_of s.constraint) e) (u ∙ ap (λ (s : Extensible (Bounded ℕ)). end_of s.constraint) e)
+
+pub stated_mark : (size : Option (Extensible (Bounded ℕ))) (default stated : Extensible (Bounded ℕ)) → default.extensible ≡ false → stated ≡ unwrap_or size default → is_marked size ≡ stated.extensible
+stated_mark None default stated d e = sym (ap (λ (s : Extensible (Bounded ℕ)). s.extensible) e ∙ d)
+stated_mark (Some s) default stated d e = sym (ap (λ (s : Extensible (Bounded ℕ)). s.extensible) e)
+
+-- a count of a `usize` is within bounds where the size allows it
+allowed_within : (l u : Option ℕ) (n : ℕ) → n < 2 ^ 64 → holds (record { low = option_map pos l; high = option_map pos u }) (pos n) ≡ allows (record { least = l; most = u }) n
+allowed_within None None n h = sym (lt-ltb n (2 ^ 64) h)
+allowed_within (Some l) None n h = sym (ap (λ (b : Bool). leb l n && b) (lt-ltb n (2 ^ 64) h))
+allowed_within None (Some u) n h = sym (ap (λ (b : Bool). leb n u && b) (lt-ltb n (2 ^ 64) h) ∙ and-true (leb n u))
+allowed_within (Some l) (Some u) n h = sym (ap (λ (b : Bool). leb l n && (leb n u && b)) (lt-ltb n (2 ^ 64) h) ∙ ap (λ (b : Bool). leb l n && b) (and-true (leb n u)))
+
+pub allowed_is : (b : Bounded ℕ) (lower upper : Option ℕ) (n k : ℕ) (t : Bool) → lower ≡ start_of b → upper ≡ end_of b → n ≡ k → n < 2 ^ 64 → t ≡ holds (bounds_by pos b) (pos n) →
+    allows (record { least = lower; most = upper }) k ≡ t
+allowed_is b lower upper n k t l u e h w =
+    ap (allows (record { least = lower; most = upper })) (sym e)
+    ∙ ap (λ (s : Size). allows s n) (sym (size_from b lower upper l u))
+    ∙ sym (allowed_within (start_of b) (end_of b) n h)
+    ∙ sym w
+
+-- a size's extension bit, and the items
+pub wrote_inside : (writers : Variant → List Writer) (kind : Counted) (size under : Size) (mark : Bool) (x m y : State) → mark ≡ true → size ≡ under →
+    allows under (length (writers (variant_of x.codec))) ≡ true → Wrote x (just (false ∷ [])) m → Wrote m (counted_in (variant_of m.codec) under kind (writers (variant_of m.codec))) y →
+    Wrote x (counted (variant_of x.codec) size mark kind (writers (variant_of x.codec))) y
+wrote_inside writers kind size under mark x m y e d h v w =
+    let a = variant_of x.codec in
+    let all = writers a in
+    subst (λ (s : Size). Wrote x (counted a s mark kind all) y) (sym d)
+    (subst (λ (b : Bool). Wrote x (counted a under b kind all) y) (sym e)
+    (wrote_same x y (just (false ∷ []) ▹ counted_in a under kind all) (counted a under true kind all)
+    (λ p. ap (λ (b : Bool). marked_form true b (counted_in a under kind all) (counted_in a any_size kind all) p) (sym h))
+    (wrote_then x m y _ _ v (subst (λ (c : Codec). Wrote m (counted_in (variant_of c) under kind (writers (variant_of c))) y) v.same w))))
+
+pub wrote_outside : (writers : Variant → List Writer) (kind : Counted) (size under : Size) (mark : Bool) (x m y : State) → mark ≡ true → size ≡ under →
+    allows under (length (writers (variant_of x.codec))) ≡ false → Wrote x (just (true ∷ [])) m → Wrote m (counted_in (variant_of m.codec) any_size kind (writers (variant_of m.codec))) y →
+    Wrote x (counted (variant_of x.codec) size mark kind (writers (variant_of x.codec))) y
+wrote_outside writers kind size under mark x m y e d h v w =
+    let a = variant_of x.codec in
+    let all = writers a in
+    subst (λ (s : Size). Wrote x (counted a s mark kind all) y) (sym d)
+    (subst (λ (b : Bool). Wrote x (counted a under b kind all) y) (sym e)
+    (wrote_same x y (just (true ∷ []) ▹ counted_in a any_size kind all) (counted a under true kind all)
+    (λ p. ap (λ (b : Bool). marked_form true b (counted_in a under kind all) (counted_in a any_size kind all) p) (sym h))
+    (wrote_then x m y _ _ v (subst (λ (c : Codec). Wrote m (counted_in (variant_of c) any_size kind (writers (variant_of c))) y) v.same w))))
+
+-- a count that is refused
+pub refuses_count : (size : Size) (mark : Bool) (fault : EncodeErrorKind → Type 0) (items : List Writer) (e : EncodeError) (x : State) (lower upper : Option ℕ) (n : ℕ) →
+    n ≡ length items → mark ≡ false → size ≡ record { least = lower; most = upper } → allows (record { least = lower; most = upper }) (length items) ≡ false →
+    IsError (SizeConstraintNotSatisfied n lower upper) e x → RefusesCounted size mark fault items e x
+refuses_count size mark fault items e x lower upper n d m s h i =
+    wrong_count m (record {
+      out_of_size = ap (λ (t : Size). allows t (length items)) s ∙ h;
+      count_is = refl;
+      lower_is = sym (ap (λ (t : Size). t.least) s);
+      upper_is = sym (ap (λ (t : Size). t.most) s);
+    }) (subst (λ (k : ℕ). IsError (SizeConstraintNotSatisfied k lower upper) e x) d i)

@@ -1,0 +1,129 @@
+-- Items behind an unconstrained length, fragment by fragment.
+use Rattle.std.proofs.Common.{◌≡◌, refl, sym, ap, ◌∙◌, ℕ, zero, suc, ◌+◌, ◌-◌, ◌*◌, ◌/◌, ◌%◌, ◌^◌, ◌<◌, ◌≤◌, Bool, true, false, cond, min, ltb, lt-ltb, List, [], ◌∷◌, ◌++◌, length, take, drop, replicate, arith, Some, length-take, length-drop, append_assoc, get_or, pow_pos}
+use Rattle.std.proofs.lemmas.Bool.{le-ltb, lt-leb}
+use Rattle.std.specs.Prelude.{slice_range}
+use Rattle.std.proofs.lemmas.List.{take-map, drop-map}
+use Rattle.std.proofs.Math.Nat.{zero-mod}
+use Rattle.std.proofs.Math.Seq.{take-length}
+use Rattle.rasn_types.specs.Bits.{Bits, to_bits, unpack}
+use Rattle.rasn_types.specs.Variants.{Variant, aligned}
+use Rattle.per_core.specs.Writers.{Writer, just, ◌▹◌, pad, join, go_on, after, in_a_row, padding, written_if}
+use Rattle.per_core.specs.Counts.{rows, unless_zero, in_rows, determinant, octet_writers, Counted, counted_in}
+use Rattle.rasn_constraints.specs.Bounds.{any_size}
+use Rattle.per_write.specs.Rows.{row}
+use Rattle.per_write.specs.State.{Appends}
+use Rattle.per_write.proofs.Writing.{then_assoc, then_nothing}
+
+unless_zero-some : (m : ℕ) → 0 < m → unless_zero m ≡ m ∷ []
+unless_zero-some zero h = absurd (omega arith)
+unless_zero-some (suc m) h = refl
+
+-- the rows of few items are one row
+pub rows-few : (n : ℕ) → n < 16384 → rows n ≡ n ∷ []
+rows-few n h =
+    let e : n / 65536 ≡ 0 = omega (arith, h) in
+    let f : n % 65536 / 16384 * 16384 ≡ 0 = omega (arith, h) in
+    let g : n % 16384 ≡ n = omega (arith, h) in
+    ap (λ (m : ℕ). replicate m 65536 ++ (unless_zero (n % 65536 / 16384 * 16384) ++ n % 16384 ∷ [])) e ∙ (ap (λ (m : ℕ). unless_zero m ++ n % 16384 ∷ []) f ∙ ap (λ (m : ℕ). m ∷ []) g)
+
+-- the size of the first fragment of n items
+abbrev pub first_fragment : ℕ → ℕ
+first_fragment n = min n 65536 / 16384 * 16384
+
+-- the rows of many items begin with the largest fragment
+pub rows-many : (n : ℕ) → 16384 ≤ n → rows n ≡ first_fragment n ∷ rows (n - first_fragment n)
+rows-many n h = go (n / 65536) refl
+  where
+    go : (q : ℕ) → n / 65536 ≡ q → rows n ≡ first_fragment n ∷ rows (n - first_fragment n)
+    go (suc q) e =
+        let f : first_fragment n ≡ 65536 = omega (arith, e) in
+        let d : (n - 65536) / 65536 ≡ q = omega (arith, e) in
+        let r : (n - 65536) % 65536 ≡ n % 65536 = omega (arith, e) in
+        let s : (n - 65536) % 16384 ≡ n % 16384 = omega (arith, e) in
+        ap (λ (m : ℕ). replicate m 65536 ++ (unless_zero (n % 65536 / 16384 * 16384) ++ n % 16384 ∷ [])) e
+        ∙ sym (ap (λ (m : ℕ). m ∷ rows (n - m)) f
+        ∙ ap (λ (m : ℕ). 65536 ∷ (replicate m 65536 ++ (unless_zero ((n - 65536) % 65536 / 16384 * 16384) ++ (n - 65536) % 16384 ∷ []))) d
+        ∙ ap (λ (m : ℕ). 65536 ∷ (replicate q 65536 ++ (unless_zero (m / 16384 * 16384) ++ (n - 65536) % 16384 ∷ []))) r
+        ∙ ap (λ (m : ℕ). 65536 ∷ (replicate q 65536 ++ (unless_zero (n % 65536 / 16384 * 16384) ++ m ∷ []))) s)
+    go zero e =
+        let f : n % 65536 / 16384 * 16384 ≡ first_fragment n = omega (arith, e) in
+        let r : n % 16384 ≡ n - first_fragment n = omega (arith, e) in
+        let l : n - first_fragment n < 16384 = omega (arith, e) in
+        ap (λ (m : ℕ). replicate m 65536 ++ (unless_zero (n % 65536 / 16384 * 16384) ++ n % 16384 ∷ [])) e
+        ∙ ap (λ (m : ℕ). unless_zero m ++ n % 16384 ∷ []) f
+        ∙ ap (λ (m : List ℕ). m ++ n % 16384 ∷ []) (unless_zero-some (first_fragment n) (omega (arith, e, h)))
+        ∙ ap (λ (m : ℕ). first_fragment n ∷ m ∷ []) r
+        ∙ ap (λ (m : List ℕ). first_fragment n ∷ m) (sym (rows-few (n - first_fragment n) l))
+
+pub length-octet_writers : (os : List ℕ) → length (octet_writers os) ≡ length os
+length-octet_writers [] = refl
+length-octet_writers (o ∷ os) = ap suc (length-octet_writers os)
+
+-- octets in a row are their bits
+pub octets_in_a_row : (os : List ℕ) → ((k : ℕ) → get_or os k 0 < 256) → (p : ℕ) → in_a_row (octet_writers os) p ≡ Some (unpack os)
+octets_in_a_row [] h p = refl
+octets_in_a_row (o ∷ os) h p =
+    ap (λ (b : Bool). go_on (written_if b (just (to_bits 8 o)) p) (in_a_row (octet_writers os)) p) (lt-ltb o 256 (h 0))
+    ∙ ap (join (to_bits 8 o)) (octets_in_a_row os (λ k. h (suc k)) (after p (to_bits 8 o)))
+
+-- as many items as may be counted are written in rows
+pub in_their_rows : (a : Variant) (kind : Counted) (ws : List Writer) → length ws < 2 ^ 64 → (p : ℕ) → in_rows a (rows (length ws)) ws p ≡ counted_in a any_size kind ws p
+in_their_rows a kind ws l p = ap (λ (b : Bool). written_if b (in_rows a (rows (length ws)) ws) p) (sym (lt-ltb (length ws) (2 ^ 64) l))
+
+-- many items are a fragment and the rest
+pub rows_of_many : (a : Variant) (ws : List Writer) (m : ℕ) → 16384 ≤ length ws → m ≡ first_fragment (length ws) → (p : ℕ) →
+    in_rows a (rows (length ws)) ws p ≡ (row a (take m ws) ▹ in_rows a (rows (length (drop m ws))) (drop m ws)) p
+rows_of_many a ws m h e p =
+    let d : length (drop m ws) ≡ length ws - m = length-drop m ws in
+    let t : length (take m ws) ≡ m = length-take m ws ∙ omega (arith, e) in
+    let r : rows (length ws) ≡ m ∷ rows (length (drop m ws)) = rows-many (length ws) h ∙ rw (← e, d) refl in
+    let rest : Writer = in_rows a (rows (length (drop m ws))) (drop m ws) in
+    ap (λ (ms : List ℕ). in_rows a ms ws p) r
+    ∙ ap (λ (n : ℕ). (padding a ▹ just (determinant n) ▹ in_a_row (take m ws) ▹ rest) p) (sym t)
+    ∙ then_assoc (padding a) (just (determinant (length (take m ws)))) (in_a_row (take m ws) ▹ rest) p
+    ∙ then_assoc (padding a ▹ just (determinant (length (take m ws)))) (in_a_row (take m ws)) rest p
+
+-- few items are one row
+pub rows_of_few : (a : Variant) (ws : List Writer) → length ws < 16384 → (p : ℕ) → in_rows a (rows (length ws)) ws p ≡ row a ws p
+rows_of_few a ws h p =
+    ap (λ (ms : List ℕ). in_rows a ms ws p) (rows-few (length ws) h)
+    ∙ ap (λ (vs : List Writer). (padding a ▹ just (determinant (length ws)) ▹ in_a_row vs ▹ just []) p) (take-length ws)
+    ∙ then_assoc (padding a) (just (determinant (length ws))) (in_a_row ws ▹ just []) p
+    ∙ then_assoc (padding a ▹ just (determinant (length ws))) (in_a_row ws) (just []) p
+    ∙ then_nothing (row a ws) p
+
+-- X.691 11.9.3.6: the count of few items in an octet
+pub appends_short : (x y : Bits) (n : ℕ) → n < 128 → y ≡ x ++ to_bits 8 n → Appends x (just (determinant n)) y
+unfolding determinant
+appends_short x y n h e = ap Some (e ∙ ap (λ (b : Bool). x ++ cond b (to_bits 8 n) (cond (ltb n 16384) (true ∷ false ∷ to_bits 14 n) (to_bits 8 (192 + n / 16384)))) (sym (lt-ltb n 128 h)))
+
+-- X.691 11.9.3.7: the bits 10 and the count in 14 bits
+pub appends_long : (x y z : Bits) (n : ℕ) → 128 ≤ n → n < 16384 → y ≡ x ++ true ∷ false ∷ [] → z ≡ y ++ to_bits 14 n → Appends x (just (determinant n)) z
+unfolding determinant
+appends_long x y z n l h d e =
+    let t : z ≡ x ++ true ∷ false ∷ to_bits 14 n = e ∙ ap (λ (b : Bits). b ++ to_bits 14 n) d ∙ append_assoc x (true ∷ false ∷ []) (to_bits 14 n) in
+    ap Some (t
+    ∙ ap (λ (b : Bool). x ++ cond b (true ∷ false ∷ to_bits 14 n) (to_bits 8 (192 + n / 16384))) (sym (lt-ltb n 16384 h))
+    ∙ ap (λ (b : Bool). x ++ cond b (to_bits 8 n) (cond (ltb n 16384) (true ∷ false ∷ to_bits 14 n) (to_bits 8 (192 + n / 16384)))) (sym (le-ltb n 128 l)))
+
+-- X.691 11.9.3.8: the bits 11 and how many times 16384, in six bits
+pub appends_fragment : (x y : Bits) (n : ℕ) → 16384 ≤ n → y ≡ x ++ to_bits 8 (192 + n / 16384) → Appends x (just (determinant n)) y
+unfolding determinant
+appends_fragment x y n l e =
+    ap Some (e
+    ∙ ap (λ (b : Bool). x ++ cond b (true ∷ false ∷ to_bits 14 n) (to_bits 8 (192 + n / 16384))) (sym (le-ltb n 16384 l))
+    ∙ ap (λ (b : Bool). x ++ cond b (to_bits 8 n) (cond (ltb n 16384) (true ∷ false ∷ to_bits 14 n) (to_bits 8 (192 + n / 16384)))) (sym (le-ltb n 128 (omega arith))))
+
+-- Zero bits up to an octet in the aligned variant
+pub appends_padding : (a : Variant) (x y : Bits) (n : ℕ) → a ≡ aligned → n ≡ length x → y ≡ x ++ to_bits ((8 - n % 8) % 8) 0 → Appends x (padding a) y
+appends_padding a x y n v l e =
+    let m : (8 - n % 8) % 8 ≡ pad aligned (after 0 x) = omega arith in
+    ap Some (e ∙ ap (λ (b : Bits). x ++ b) (zeros ((8 - n % 8) % 8) ∙ ap (λ (k : ℕ). replicate k false) m ∙ ap (λ (b : Variant). replicate (pad b (after 0 x)) false) (sym v)))
+  where
+    zeros : (w : ℕ) → to_bits w 0 ≡ replicate w false
+    zeros zero = refl
+    zeros (suc w) = rw (zero-mod (2 ^ suc w), zeros w) (ap (λ (b : Bool). b ∷ replicate w false) (lt-leb (2 ^ w) 0 (pow_pos w)))
+
+-- the octets between two places
+pub octets_between : (os : List ℕ) (start end : ℕ) → octet_writers (slice_range os start end) ≡ slice_range (octet_writers os) start end
+octets_between os start end = sym (ap (take (end - start)) (drop-map _ start os) ∙ take-map _ (end - start) (drop start os))

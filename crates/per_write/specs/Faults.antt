@@ -1,0 +1,120 @@
+-- What the errors of an encoder say.
+use Rattle.std.specs.Prelude.{ℕ, ◌≡◌, ◌<◌, ◌⊎◌, Bool, true, false, ◌||◌, List, [], ◌∷◌, length, get_or, Option, Some, None, is_some, MatchOption, ℤ}
+use Rattle.rasn_types.specs.Alphabets.{index_of}
+use Rattle.rasn_types.specs.Codecs.{variant_of}
+use Rattle.rasn_types.specs.Values.{Value, whole, octets, bits, characters}
+use Rattle.rasn_constraints.specs.Bounds.{allows, holds, fits_i128, Bounds, Size}
+use Rattle.rasn_schema.specs.Records.{record_value}
+use Rattle.rasn_schema.specs.Schemas.{Schema, Parts, part, Presence, TagTree}
+use Rattle.rasn_codec.specs.Scopes.{record_of}
+use Rattle.per_core.specs.Canon.{canon}
+use Rattle.per_write.specs.State.{State}
+use Rattle.per_write.specs.declared.error.EncodeError.{EncodeError}
+use Rattle.per_write.specs.declared.error.EncodeErrorKind.{EncodeErrorKind}
+use Rattle.per_write.specs.declared.error.EncodeErrorKind.TheVariants.{SizeConstraintNotSatisfied, ValueConstraintNotSatisfied, AlphabetConstraintNotSatisfied, IntegerTypeConversionFailed, VariantNotInChoice, RealNotSupported, TooManyAdditions, Below, AlreadyFailed, OutOfMemory, OutOfTurn}
+
+-- an error of a kind, under the variant in use
+pub record IsError (kind : EncodeErrorKind) (e : EncodeError) (x : State) : Type 0 where
+  pub kind_is : e.kind ≡ kind
+  pub codec_is : e.codec ≡ x.codec
+
+-- memory ran out
+abbrev pub IsMemory : EncodeError → State → Type 0
+IsMemory = IsError OutOfMemory
+
+-- the encoder had been refused before
+abbrev pub IsAlready : EncodeError → State → Type 0
+IsAlready = IsError AlreadyFailed
+
+-- a number is out of bounds, with the numbers that an error of this tells
+pub record Outside (bounds : Bounds) (z : ℤ) (value lower upper : Option ℤ) : Type 0 where
+  pub out_of_bounds : holds bounds z ≡ false
+  pub value_is : MatchOption value (fits_i128 z ≡ false) (λ n. n ≡ z)
+  pub lower_is : lower ≡ bounds.low
+  pub upper_is : upper ≡ bounds.high
+
+-- a count is outside a size, with the numbers that an error of this tells
+pub record OutsideSize (size : Size) (n : ℕ) (count : ℕ) (lower upper : Option ℕ) : Type 0 where
+  pub out_of_size : allows size n ≡ false
+  pub count_is : count ≡ n
+  pub lower_is : lower ≡ size.least
+  pub upper_is : upper ≡ size.most
+
+-- whether a bound is there
+abbrev pub has_bound : Bounds → Bool
+has_bound b = is_some b.low || is_some b.high
+
+-- a number is within bounds, of which one is there, but past an i128 (this project's choice)
+pub record IsPast (bounds : Bounds) (z : ℤ) : Type 0 where
+  pub in_bounds : holds bounds z ≡ true
+  pub bound : has_bound bounds ≡ true
+  pub past : fits_i128 z ≡ false
+
+-- X.691 13: an INTEGER whose constraint isn't extensible is out of its bounds
+abbrev pub IsOutOfBounds : Option ℤ → Option ℤ → Option ℤ → Schema → Value → Type 0
+IsOutOfBounds value lower upper (Schema.number bounds false range) (whole z) = Outside bounds z value lower upper
+IsOutOfBounds value lower upper _ _ = ⊥
+
+-- X.691 13: an INTEGER is within its bounds but past an i128
+abbrev pub IsPastBounds : Schema → Value → Type 0
+IsPastBounds (Schema.number bounds mark range) (whole z) = IsPast bounds z
+IsPastBounds _ _ = ⊥
+
+-- X.691 16, 17, 30: the count of a string's items is outside a size that isn't extensible
+abbrev pub IsOutOfSize : ℕ → Option ℕ → Option ℕ → Schema → Value → Type 0
+IsOutOfSize count lower upper (Schema.octet_string size false) (octets os) = OutsideSize size (length os) count lower upper
+IsOutOfSize count lower upper (Schema.bit_string size false) (bits bs) = OutsideSize size (length bs) count lower upper
+IsOutOfSize count lower upper (Schema.char_string alphabet size false) (characters cs) = OutsideSize size (length cs) count lower upper
+IsOutOfSize count lower upper _ _ = ⊥
+
+-- some characters have one outside an alphabet, at an index
+pub record HasForeign (alphabet : List ℕ) (cs : List ℕ) : Type 0 where
+  pub index : ℕ
+  pub within : index < length cs
+  pub foreign : index_of (get_or cs index 0) alphabet ≡ None
+
+-- X.691 30.5: a character isn't permitted, where the size allows the count or is extensible
+abbrev pub IsForeign : Schema → Value → Type 0
+IsForeign (Schema.char_string alphabet size mark) (characters cs) = ((mark || allows size (length cs)) ≡ true) × HasForeign alphabet cs
+IsForeign _ _ = ⊥
+
+-- a component that is there, by its schema
+pub data HasPart (s : Schema) (v : Value) : Parts → List (Option Value) → Type 0 where
+  part_here : {t : TagTree} {p : Presence} {ps : Parts} {rs : List (Option Value)} → HasPart s v (part t p s ps) (Some v ∷ rs)
+  part_behind : {t : TagTree} {p : Presence} {c : Schema} {r : Option Value} {ps : Parts} {rs : List (Option Value)} → HasPart s v ps rs → HasPart s v (part t p c ps) (r ∷ rs)
+
+-- a fault stands in a value: at once, or in a component of it
+pub data StandsIn (fault : Schema → Value → Type 0) : Schema → Value → Type 0 where
+  at_once : {s : Schema} {v : Value} → fault s v → StandsIn fault s v
+  in_part : {s : Schema} {v : Value} {ps : Parts} {rs : List (Option Value)} → HasPart s v ps rs → StandsIn fault s v → StandsIn fault (record_of ps) (record_value rs [])
+
+-- Where a kind's fault stands in a value. No call can answer those of lists, choices and additions yet; the last three are none of a
+-- value.
+abbrev pub IsInValue : EncodeErrorKind → Schema → Value → Type 0
+IsInValue (SizeConstraintNotSatisfied length lower upper) s v = StandsIn (IsOutOfSize length lower upper) s v
+IsInValue (ValueConstraintNotSatisfied value lower upper) s v = StandsIn (IsOutOfBounds value lower upper) s v
+IsInValue AlphabetConstraintNotSatisfied s v = StandsIn IsForeign s v
+IsInValue IntegerTypeConversionFailed s v = StandsIn IsPastBounds s v
+IsInValue VariantNotInChoice s v = ⊥
+IsInValue RealNotSupported s v = ⊥
+IsInValue TooManyAdditions s v = ⊥
+IsInValue Below s v = ⊥
+IsInValue AlreadyFailed s v = ⊥
+IsInValue OutOfMemory s v = ⊥
+IsInValue OutOfTurn s v = ⊥
+
+-- where a kind's fault stands: in the value, or in what the encoder was before
+abbrev pub Stands : EncodeErrorKind → State → Schema → Value → Type 0
+Stands AlreadyFailed x s v = x.failed ≡ true
+Stands k x s v = IsInValue k s v
+
+-- A value is refused: from no position has it an encoding, unless the encoder had been refused before; and the error's
+-- fault stands in it.
+pub record RefusesValue (e : EncodeError) (x : State) (s : Schema) (v : Value) : Type 0 where
+  pub none : x.failed ≡ false → (p : ℕ) → canon (variant_of x.codec) s v p ≡ None
+  pub stands : Stands e.kind x s v
+  pub codec_is : e.codec ≡ x.codec
+
+-- Nothing is put out: memory ran out, or, exactly where the encoder had been refused before, the error says that.
+abbrev pub RefusesOutput : EncodeError → State → Type 0
+RefusesOutput e x = (IsMemory e x × (x.failed ≡ false)) ⊎ (IsAlready e x × (x.failed ≡ true))

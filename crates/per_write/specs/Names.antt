@@ -1,0 +1,17 @@
+-- The names of the kinds of errors, as a program prints them.
+use Rattle.std.specs.Prelude.{ℕ, List, codes}
+use Rattle.per_write.specs.declared.error.EncodeErrorKind.{EncodeErrorKind}
+use Rattle.per_write.specs.declared.error.EncodeErrorKind.TheVariants.{SizeConstraintNotSatisfied, ValueConstraintNotSatisfied, AlphabetConstraintNotSatisfied, IntegerTypeConversionFailed, VariantNotInChoice, RealNotSupported, TooManyAdditions, Below, AlreadyFailed, OutOfMemory, OutOfTurn}
+
+abbrev pub name_of : EncodeErrorKind → List ℕ
+name_of (SizeConstraintNotSatisfied length lower upper) = codes "SizeConstraintNotSatisfied"
+name_of (ValueConstraintNotSatisfied value lower upper) = codes "ValueConstraintNotSatisfied"
+name_of AlphabetConstraintNotSatisfied = codes "AlphabetConstraintNotSatisfied"
+name_of IntegerTypeConversionFailed = codes "IntegerTypeConversionFailed"
+name_of VariantNotInChoice = codes "VariantNotInChoice"
+name_of RealNotSupported = codes "RealNotSupported"
+name_of TooManyAdditions = codes "TooManyAdditions"
+name_of Below = codes "Below"
+name_of AlreadyFailed = codes "AlreadyFailed"
+name_of OutOfMemory = codes "OutOfMemory"
+name_of OutOfTurn = codes "OutOfTurn"

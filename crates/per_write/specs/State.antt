@@ -1,0 +1,38 @@
+-- What contracts see of a writer and of an encoder around it, and what their calls do to it.
+use Rattle.std.specs.Prelude.{ℕ, ◌≡◌, Bool, false, Some}
+use Rattle.rasn_types.specs.Bits.{Bits}
+use Rattle.rasn_types.specs.Codecs.{variant_of}
+use Rattle.rasn_types.specs.Values.{Value}
+use Rattle.rasn_types.specs.declared.types.Codec.{Codec}
+use Rattle.rasn_schema.specs.Schemas.{Schema}
+use Rattle.per_core.specs.Writers.{Writer, just, ◌▹◌}
+use Rattle.per_core.specs.Canon.{canon}
+
+-- the bits written, whether a call was refused, and the variant in use
+pub record State : Type 0 where
+  pub bits : Bits
+  pub failed : Bool
+  pub codec : Codec
+
+-- what the open scope holds, as written from a position on
+abbrev pub view : State → Writer
+view x = just x.bits
+
+-- the positions that the open scope may begin at: with nothing open, the start
+abbrev pub MayBegin : State → ℕ → Type 0
+MayBegin x p = p ≡ 0
+
+-- some bits were written behind those that stood there from the start
+abbrev pub Appends : Bits → Writer → Bits → Type 0
+Appends before more behind = Some behind ≡ (just before ▹ more) 0
+
+-- a call wrote one thing more
+pub record Wrote (x : State) (more : Writer) (y : State) : Type 0 where
+  pub begun : x.failed ≡ false
+  pub left : y.failed ≡ false
+  pub same : y.codec ≡ x.codec
+  pub written : (p : ℕ) → MayBegin x p → view y p ≡ (view x ▹ more) p
+
+-- one value more, in its canonical bits
+abbrev pub Presents : State → Schema → Value → State → Type 0
+Presents x s v y = Wrote x (canon (variant_of x.codec) s v) y

@@ -1,0 +1,160 @@
+//! INTEGER (X.691 13).
+
+ghost use Rattle.std.specs.Prelude.{◌≡◌, ◌⊎◌, ◌<ℤ◌, ◌↔◌, IsTrue, pos, true, false, OnOk, OnErr, IfOk, IfErr};
+ghost use Rattle.rasn_types.specs.Codecs.{variant_of};
+ghost use Rattle.rasn_types.specs.Octets.{signed, signed_octets, whole_bits};
+ghost use Rattle.rasn_types.specs.Values.{whole};
+ghost use Rattle.rasn_constraints.specs.Bounds.{holds, not_above, not_below};
+ghost use Rattle.rasn_codec.specs.Calls.{Writes};
+ghost use Rattle.rasn_constraints.specs.Constraints.{bounds_of};
+ghost use Rattle.rasn_schema.specs.Schemas.{Schema};
+ghost use Rattle.per_core.specs.Counts.{counted_octets, number_under};
+ghost use Rattle.per_write.specs.Faults.{IsError, IsMemory, IsPast, RefusesValue};
+ghost use Rattle.per_write.specs.State.{Wrote, Presents};
+ghost use Rattle.per_write.specs.declared.error.EncodeErrorKind.TheVariants.{IntegerTypeConversionFailed};
+
+use crate::Writer;
+use crate::error::{EncodeError, EncodeErrorKind};
+use crate::numbers::push_above;
+use per_bits::BitList;
+use rasn_schema::constraints::{Bounded, Extensible};
+use rasn_schema::schema::IntegerType;
+use std::alloc::{AllocError, Allocator};
+
+impl<A: Allocator + Clone> Writer<A> {
+    /// Writes an INTEGER as if it had no constraint: its fewest octets in two's complement behind an unconstrained length
+    /// (X.691 13.2.4).
+    pub fn put_whole<I: IntegerType>(&mut self, value: &I) -> Result<(), EncodeError>
+        requires { self.old.failed ≡ false }
+        ensures ok { OnOk result (Wrote self.old (counted_octets (variant_of self.old.codec) (whole_bits (I.number value.now))) self.new) }
+        ensures held { OnOk result (holds I.range (I.number value.now) ≡ true) }
+        ensures err { IfErr result (λ e. IsMemory e self.old) }
+        ensures fails { OnErr result (self.new.failed ≡ true) }
+        ensures kept { self.new.codec ≡ self.old.codec }
+    {
+        let octets = number_octets(&self.bits, value);
+        let octets = self.unless_out_of_memory(octets)?;
+        self.put_octets(&octets)
+    }
+
+    /// Writes a number of an `i128` that is within bounds (X.691 13.2).
+    fn put_number(
+        &mut self,
+        lower: Option<i128>,
+        upper: Option<i128>,
+        number: i128,
+    ) -> Result<(), EncodeError>
+        requires begun { self.old.failed ≡ false }
+        requires lower { not_below lower number ≡ true }
+        requires upper { not_above upper number ≡ true }
+        ensures ok { OnOk result (Wrote self.old (number_under (variant_of self.old.codec) lower upper number) self.new) }
+        ensures err { IfErr result (λ e. IsMemory e self.old) }
+        ensures fails { OnErr result (self.new.failed ≡ true) }
+        ensures kept { self.new.codec ≡ self.old.codec }
+    {
+        match lower {
+            Some(lower) => {
+                let pushed = push_above(&mut self.bits, self.codec, lower, upper, number);
+                self.unless_out_of_memory(pushed)
+            }
+            None => self.put_whole(&number),
+        }
+    }
+
+    /// Writes an INTEGER that is within bounds, in the form that these give it (X.691 13.2). Where there is a bound, an
+    /// error can say that the number is past an `i128`.
+    fn put_within<I: IntegerType>(
+        &mut self,
+        bounds: &Bounded<i128>,
+        value: &I,
+    ) -> Result<(), EncodeError>
+        requires begun { self.old.failed ≡ false }
+        requires within { holds (bounds_of bounds.now) (I.number value.now) ≡ true }
+        ensures ok { let b = bounds_of bounds.now in
+            OnOk result (Wrote self.old (number_under (variant_of self.old.codec) b.low b.high (I.number value.now)) self.new) }
+        ensures err { IfErr result (λ e. IsMemory e self.old ⊎ (IsError IntegerTypeConversionFailed e self.old × IsPast (bounds_of bounds.now) (I.number value.now))) }
+        ensures fails { OnErr result (self.new.failed ≡ true) }
+        ensures kept { self.new.codec ≡ self.old.codec }
+    {
+        let (lower, upper) = bounds.start_and_end();
+        if let (None, None) = (lower, upper) {
+            return self.put_whole(value);
+        }
+        let Some(number) = value.to_i128() else {
+            return Err(self.refuse(EncodeErrorKind::IntegerTypeConversionFailed));
+        };
+        self.put_number(lower, upper, number)
+    }
+
+    /// Writes an INTEGER under a value constraint (X.691 13): where the constraint is extensible, behind a bit that says
+    /// whether the number is outside.
+    pub fn put_constrained<I: IntegerType>(
+        &mut self,
+        stated: Extensible<Bounded<i128>>,
+        value: &I,
+    ) -> Result<(), EncodeError>
+        requires { self.old.failed ≡ false }
+        ensures law { Writes IsMemory Presents RefusesValue (Schema.number (bounds_of stated.constraint) stated.extensible I.range) (whole (I.number value.now)) self.old result self.new }
+        ensures fails { OnErr result (self.new.failed ≡ true) }
+        ensures kept { self.new.codec ≡ self.old.codec }
+    {
+        let bounds = stated.constraint;
+        let number = value.to_i128();
+        let within = is_within(&self.bits, &bounds, value);
+        let within = self.unless_out_of_memory(within)?;
+        match (within, stated.extensible) {
+            (true, false) => self.put_within(&bounds, value),
+            (true, true) => {
+                self.put_bit(false)?;
+                self.put_within(&bounds, value)
+            }
+            (false, true) => {
+                self.put_bit(true)?;
+                self.put_whole(value)
+            }
+            (false, false) => {
+                let (lower, upper) = bounds.start_and_end();
+                Err(self.refuse(EncodeErrorKind::ValueConstraintNotSatisfied(number, lower, upper)))
+            }
+        }
+    }
+}
+
+/// Whether a number is within bounds. Memory, from where that of the bits is, is taken only where an `i128` doesn't
+/// hold the number.
+fn is_within<A: Allocator + Clone, I: IntegerType>(
+    bits: &BitList<A>,
+    bounds: &Bounded<i128>,
+    number: &I,
+) -> Result<bool, AllocError>
+    ensures { IfOk result (λ within. within ≡ holds (bounds_of bounds.now) (I.number number.now)) }
+{
+    if let Some(number) = number.to_i128() {
+        return Ok(bounds.contains(&number));
+    }
+    let octets = number_octets(bits, number)?;
+    let (lower, upper) = bounds.start_and_end();
+    Ok(if is_negative(&octets) {
+        lower.is_none()
+    } else {
+        upper.is_none()
+    })
+}
+
+/// The fewest octets of a number in two's complement, in memory of the bits' allocator.
+fn number_octets<A: Allocator + Clone, I: IntegerType>(
+    bits: &BitList<A>,
+    number: &I,
+) -> Result<Vec<u8, A>, AllocError>
+    ensures octets { IfOk result (λ octets. octets.items ≡ signed_octets (I.number number.now)) }
+    ensures held { OnOk result (holds I.range (I.number number.now) ≡ true) }
+{
+    number.to_signed_bytes_be(bits.allocator().clone()?)
+}
+
+/// Whether octets in two's complement mean a number below 0 (X.690 8.3.3).
+fn is_negative(octets: &[u8]) -> bool
+    ensures { IsTrue result ↔ (signed octets.now <ℤ pos 0) }
+{
+    octets.first().is_some_and(|first| *first >= 128)
+}

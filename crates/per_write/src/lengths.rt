@@ -1,0 +1,84 @@
+//! Counts in front of items: unconstrained lengths, and counts within bounds (X.691 11.9.3 and 11.9.4).
+
+ghost use Rattle.std.specs.Prelude.{◌+◌, ◌-◌, ◌≤◌, OnOk};
+ghost use Rattle.rasn_types.specs.Codecs.{variant_of};
+ghost use Rattle.per_core.specs.Writers.{just, padding, ◌▹◌};
+ghost use Rattle.per_core.specs.Counts.{bounded, determinant, padding_if};
+ghost use Rattle.per_write.specs.State.{Appends};
+
+use crate::numbers::push_bounded;
+use per_bits::BitList;
+use rasn_types::types::Codec;
+use std::alloc::{AllocError, Allocator};
+
+/// How many items the smallest fragment has (X.691 11.9.3.8).
+pub(crate) const FRAGMENT: usize = 16384;
+
+/// Writes how many items follow, which begins on an octet in the aligned variant (X.691 11.9.3.5 to 11.9.3.8).
+pub(crate) fn push_count<A: Allocator>(
+    bits: &mut BitList<A>,
+    codec: Codec,
+    count: usize,
+) -> Result<(), AllocError>
+    ensures { OnOk result (Appends bits.old (padding (variant_of codec) ▹ just (determinant count)) bits.new) }
+{
+    push_padding(bits, codec)?;
+    push_determinant(bits, count)
+}
+
+/// Writes how many items follow, as a constrained whole number, and the padding in front of items that begin on an
+/// octet (X.691 11.9.4.1).
+pub(crate) fn push_bounded_count<A: Allocator>(
+    bits: &mut BitList<A>,
+    codec: Codec,
+    lower: usize,
+    upper: usize,
+    count: usize,
+    on_octet: bool,
+) -> Result<(), AllocError>
+    requires lower { lower ≤ count }
+    requires upper { count ≤ upper }
+    ensures { OnOk result (Appends bits.old (bounded (variant_of codec) (upper - lower + 1) (count - lower) ▹ padding_if on_octet (variant_of codec)) bits.new) }
+{
+    push_bounded(
+        bits,
+        codec,
+        (upper - lower) as u128,
+        (count - lower) as u128,
+    )?;
+    if on_octet {
+        push_padding(bits, codec)?;
+    }
+    Ok(())
+}
+
+/// Writes zero bits up to a multiple of eight in the aligned variant.
+pub(crate) fn push_padding<A: Allocator>(
+    bits: &mut BitList<A>,
+    codec: Codec,
+) -> Result<(), AllocError>
+    ensures { OnOk result (Appends bits.old (padding (variant_of codec)) bits.new) }
+{
+    match codec {
+        Codec::Aper => bits.push_bits(0, (8 - bits.len() % 8) % 8),
+        Codec::Uper => Ok(()),
+    }
+}
+
+/// Writes how many items follow: to 127 in one octet, below 16384 in two, and else how many times 16384 (X.691
+/// 11.9.3.6 to 11.9.3.8).
+pub(crate) fn push_determinant<A: Allocator>(
+    bits: &mut BitList<A>,
+    count: usize,
+) -> Result<(), AllocError>
+    ensures { OnOk result (Appends bits.old (just (determinant count)) bits.new) }
+{
+    if count < 128 {
+        bits.push_bits(count as u128, 8)
+    } else if count < FRAGMENT {
+        bits.push_bits(0b10, 2)?;
+        bits.push_bits(count as u128, 14)
+    } else {
+        bits.push_bits(0b1100_0000 + (count / FRAGMENT) as u128, 8)
+    }
+}

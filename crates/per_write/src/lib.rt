@@ -1,0 +1,195 @@
+//! What the packed encoding rules write, bit by bit (ITU-T X.691): whole numbers, lengths, and counted strings in their
+//! canonical form, behind what was written before.
+#![tactic(auto)]
+
+ghost use Rattle.std.specs.Prelude.{◌≡◌, ◌≤◌, ◌∷◌, [], true, false, Some, OnOk, OnErr, IfOk, IfErr};
+ghost use Rattle.rasn_types.specs.Bits.{to_bits};
+ghost use Rattle.rasn_types.specs.Codecs.{variant_of};
+ghost use Rattle.per_core.specs.Writers.{just, complete, in_a_row};
+ghost use Rattle.per_core.specs.Counts.{octet_writers, octets_unsized};
+ghost use Rattle.per_core.specs.Canon.{completed};
+ghost use Rattle.per_write.specs.State.{view, Wrote};
+ghost use Rattle.per_write.specs.Faults.{IsError, IsMemory, IsAlready, RefusesOutput};
+
+pub mod error;
+mod integers;
+mod items;
+mod lengths;
+mod numbers;
+mod sizes;
+mod strings;
+
+use error::{EncodeError, EncodeErrorKind};
+use items::Octets;
+use per_bits::{BitList, BitReader};
+use per_core::per;
+use rasn_types::types::Codec;
+use std::alloc::{AllocError, Allocator};
+use std::marker::Model;
+
+/// Writes numbers, lengths and strings, one after another, in their canonical bits. An error leaves it failed, and
+/// nothing more is written then.
+#[derive(Drop)]
+pub struct Writer<A: Allocator + Clone> {
+    bits: BitList<A>,
+    failed: bool,
+    codec: Codec,
+}
+
+impl<A: Allocator + Clone> Model for Writer<A> {
+    ghost use Rattle.per_write.specs.State.{State};
+
+    ghost Value = { State };
+
+    ghost view = { λ a. record { bits = a.bits; failed = a.failed; codec = a.codec } };
+}
+
+impl<A: Allocator + Clone> Writer<A> {
+    /// A writer that has written nothing. It takes no memory yet; what it writes and puts out is kept in memory of
+    /// `alloc`.
+    pub fn new(alloc: A, codec: Codec) -> Self
+        ensures { result ≡ record { bits = []; failed = false; codec = codec } }
+    {
+        Writer {
+            bits: BitList::new(alloc),
+            failed: false,
+            codec,
+        }
+    }
+
+    /// The variant in use.
+    pub fn codec(&self) -> Codec
+        ensures { result ≡ self.now.codec }
+    {
+        self.codec
+    }
+
+    /// The complete encoding of what was written so far (X.691 11.1), which is then taken out: the next value is
+    /// written at the start again.
+    ///
+    /// An error says that memory ran out, or that the writer had failed before. The writer has failed then.
+    pub fn output(&mut self) -> Result<Vec<u8, A>, EncodeError>
+        ensures octets { IfOk result (λ octets. completed (view self.old 0) ≡ Some octets.items) }
+        ensures taken { OnOk result (self.new ≡ record self.old { bits = [] }) }
+        ensures begun { OnOk result (self.old.failed ≡ false) }
+        ensures err { IfErr result (λ e. RefusesOutput e self.old) }
+        ensures fails { OnErr result (self.new.failed ≡ true) }
+        ensures kept { self.new.codec ≡ self.old.codec }
+    {
+        self.check_unfailed()?;
+        let octets = complete_octets(&self.bits);
+        let octets = self.unless_out_of_memory(octets)?;
+        self.bits.clear();
+        Ok(octets)
+    }
+
+    /// An error of a kind, under the variant in use.
+    fn error(&self, kind: EncodeErrorKind) -> EncodeError
+        ensures { IsError kind result self.now }
+    {
+        EncodeError {
+            kind,
+            codec: self.codec,
+        }
+    }
+
+    /// An error of a kind, by which the writer has failed.
+    fn refuse(&mut self, kind: EncodeErrorKind) -> EncodeError
+        ensures error { IsError kind result self.old }
+        ensures failed { self.new ≡ record self.old { failed = true } }
+    {
+        self.failed = true;
+        self.error(kind)
+    }
+
+    /// Fails from now on.
+    pub fn fail(&mut self)
+        ensures { self.new ≡ record self.old { failed = true } }
+    {
+        self.failed = true;
+    }
+
+    /// Refuses where a call was refused before.
+    pub fn check_unfailed(&self) -> Result<(), EncodeError>
+        ensures ok { OnOk result (self.now.failed ≡ false) }
+        ensures err { IfErr result (λ e. IsAlready e self.now) }
+        ensures failed { OnErr result (self.now.failed ≡ true) }
+    {
+        if self.failed {
+            return Err(self.error(EncodeErrorKind::AlreadyFailed));
+        }
+        Ok(())
+    }
+
+    /// Writes a bit.
+    pub fn put_bit(&mut self, bit: bool) -> Result<(), EncodeError>
+        requires { self.old.failed ≡ false }
+        ensures ok { OnOk result (Wrote self.old (just (bit ∷ [])) self.new) }
+        ensures err { IfErr result (λ e. IsMemory e self.old) }
+        ensures fails { OnErr result (self.new.failed ≡ true) }
+        ensures kept { self.new.codec ≡ self.old.codec }
+    {
+        let pushed = self.bits.push(bit);
+        self.unless_out_of_memory(pushed)
+    }
+
+    /// Writes the low `width` bits of a number, highest first (X.691 11.3).
+    fn put_bits(&mut self, number: u128, width: u128) -> Result<(), EncodeError>
+        requires begun { self.old.failed ≡ false }
+        requires few { width ≤ 128 }
+        ensures ok { OnOk result (Wrote self.old (just (to_bits width number)) self.new) }
+        ensures err { IfErr result (λ e. IsMemory e self.old) }
+        ensures fails { OnErr result (self.new.failed ≡ true) }
+        ensures kept { self.new.codec ≡ self.old.codec }
+    {
+        let pushed = self.bits.push_bits(number, width);
+        self.unless_out_of_memory(pushed)
+    }
+
+    /// Writes octets with no length.
+    fn put_bare_octets(&mut self, octets: &[u8]) -> Result<(), EncodeError>
+        requires { self.old.failed ≡ false }
+        ensures ok { OnOk result (Wrote self.old (in_a_row (octet_writers octets.now)) self.new) }
+        ensures err { IfErr result (λ e. IsMemory e self.old) }
+        ensures fails { OnErr result (self.new.failed ≡ true) }
+        ensures kept { self.new.codec ≡ self.old.codec }
+    {
+        let pushed = self.bits.push_octets(octets);
+        self.unless_out_of_memory(pushed)
+    }
+
+    /// Writes octets behind an unconstrained length (X.691 11.9.3.5 to 11.9.3.8).
+    pub fn put_octets(&mut self, octets: &[u8]) -> Result<(), EncodeError>
+        requires { self.old.failed ≡ false }
+        ensures ok { OnOk result (Wrote self.old (octets_unsized (variant_of self.old.codec) octets.now) self.new) }
+        ensures err { IfErr result (λ e. IsMemory e self.old) }
+        ensures fails { OnErr result (self.new.failed ≡ true) }
+        ensures kept { self.new.codec ≡ self.old.codec }
+    {
+        self.put_unsized(&Octets(octets))
+    }
+
+    /// What was made, unless memory ran out; then the writer has failed.
+    fn unless_out_of_memory<T: Drop>(
+        &mut self,
+        made: Result<T, AllocError>,
+    ) -> Result<T, EncodeError>
+        ensures ok { IfOk result (λ value. made ≡ Ok value) }
+        ensures kept { OnOk result (self.new ≡ self.old) }
+        ensures err { IfErr result (λ e. IsMemory e self.old) }
+        ensures fails { OnErr result (self.new ≡ record self.old { failed = true }) }
+    {
+        match made {
+            Ok(value) => Ok(value),
+            Err(_) => Err(self.refuse(EncodeErrorKind::OutOfMemory)),
+        }
+    }
+}
+
+/// The complete encoding of some bits, in memory of their own allocator.
+fn complete_octets<A: Allocator + Clone>(bits: &BitList<A>) -> Result<Vec<u8, A>, AllocError>
+    ensures { IfOk result (λ octets. octets.items ≡ complete bits.now) }
+{
+    let alloc = bits.allocator().clone()?;
+    per::complete(alloc, BitReader::new(bits))
+}

@@ -1,0 +1,128 @@
+//! Whole numbers under bounds (X.691 11.5, 11.7 and 13.2).
+
+ghost use Rattle.std.specs.Prelude.{◌≡◌, ◌+◌, ◌<◌, ◌≤◌, ◌≤ℤ◌, ℤ, true, Some, OnOk};
+ghost use Rattle.rasn_types.specs.Bits.{to_bits, width};
+ghost use Rattle.rasn_types.specs.Codecs.{variant_of};
+ghost use Rattle.rasn_types.specs.Octets.{natural_bits, octets_of_natural};
+ghost use Rattle.rasn_types.specs.Variants.{aligned};
+ghost use Rattle.per_core.specs.Writers.{just, padding, ◌▹◌};
+ghost use Rattle.per_core.specs.Counts.{bounded, counted_octets, number_under};
+ghost use Rattle.rasn_constraints.specs.Bounds.{above, not_above};
+ghost use Rattle.per_write.specs.State.{Appends};
+
+use crate::lengths::{push_count, push_padding};
+use per_bits::BitList;
+use rasn_types::types::Codec;
+use rasn_types::width::width_of;
+use std::alloc::{AllocError, Allocator};
+
+/// Writes a number within bounds of which the lower one is there (X.691 13.2.2, 13.2.3).
+pub(crate) fn push_above<A: Allocator>(
+    bits: &mut BitList<A>,
+    codec: Codec,
+    lower: i128,
+    upper: Option<i128>,
+    number: i128,
+) -> Result<(), AllocError>
+    requires lower { lower ≤ℤ number }
+    requires upper { not_above upper number ≡ true }
+    ensures { OnOk result (Appends bits.old (number_under (variant_of codec) (Some lower) upper number) bits.new) }
+{
+    let offset = distance_above(lower, number);
+    match upper {
+        Some(upper) => push_bounded(bits, codec, distance_above(lower, upper), offset),
+        None => push_natural(bits, codec, offset),
+    }
+}
+
+/// How far a number is above another, which is no greater (X.691 11.5.3, 11.7.3).
+fn distance_above(lower: i128, number: i128) -> u128
+    requires { lower ≤ℤ number }
+    ensures { result ≡ above lower number }
+{
+    number.abs_diff(lower)
+}
+
+/// Writes one of the numbers from 0 to `greatest`, a constrained whole number above its lower bound (X.691 11.5): in
+/// the unaligned variant in the fewest bits that tell these numbers apart.
+pub(crate) fn push_bounded<A: Allocator>(
+    bits: &mut BitList<A>,
+    codec: Codec,
+    greatest: u128,
+    offset: u128,
+) -> Result<(), AllocError>
+    requires { offset ≤ greatest }
+    ensures { OnOk result (Appends bits.old (bounded (variant_of codec) (greatest + 1) offset) bits.new) }
+{
+    match codec {
+        Codec::Aper => push_bounded_aligned(bits, greatest, offset),
+        Codec::Uper => bits.push_bits(offset, width_to(greatest)),
+    }
+}
+
+/// Writes one of the numbers from 0 to `greatest` in the aligned variant (X.691 11.5.7): of 255 numbers or fewer in
+/// bits, of 256 in an octet, of 65536 or fewer in two, and of more in its fewest octets, which their count precedes.
+fn push_bounded_aligned<A: Allocator>(
+    bits: &mut BitList<A>,
+    greatest: u128,
+    offset: u128,
+) -> Result<(), AllocError>
+    requires { offset ≤ greatest }
+    ensures { OnOk result (Appends bits.old (bounded aligned (greatest + 1) offset) bits.new) }
+{
+    if greatest < 255 {
+        bits.push_bits(offset, width_to(greatest))
+    } else if greatest == 255 {
+        push_on_octet(bits, offset, 8)
+    } else if greatest < 65536 {
+        push_on_octet(bits, offset, 16)
+    } else {
+        let octets = octet_count(offset);
+        bits.push_bits(octets - 1, u128::from(width_of(octet_count(greatest))))?;
+        push_on_octet(bits, offset, 8 * octets)
+    }
+}
+
+/// Writes the low `width` bits of a number from the next octet on, in the aligned variant.
+fn push_on_octet<A: Allocator>(
+    bits: &mut BitList<A>,
+    number: u128,
+    width: u128,
+) -> Result<(), AllocError>
+    requires { width ≤ 128 }
+    ensures { OnOk result (Appends bits.old (padding aligned ▹ just (to_bits width number)) bits.new) }
+{
+    push_padding(bits, Codec::Aper)?;
+    bits.push_bits(number, width)
+}
+
+/// Writes a number that has a lower bound alone, by how far it is above that (X.691 11.7): its fewest octets without
+/// sign, behind an unconstrained length.
+pub(crate) fn push_natural<A: Allocator>(
+    bits: &mut BitList<A>,
+    codec: Codec,
+    offset: u128,
+) -> Result<(), AllocError>
+    ensures { OnOk result (Appends bits.old (counted_octets (variant_of codec) (natural_bits offset)) bits.new) }
+{
+    let octets = octet_count(offset);
+    push_count(bits, codec, octets as usize)?;
+    bits.push_bits(offset, 8 * octets)
+}
+
+/// The bits that tell the numbers from 0 to `greatest` apart (X.691 11.5.6), at most 128.
+fn width_to(greatest: u128) -> u128
+    ensures width { result ≡ width (greatest + 1) }
+    ensures few { result ≤ 128 }
+{
+    128 - u128::from(greatest.leading_zeros())
+}
+
+/// How many octets are the fewest for a number without sign (X.691 11.3.6), from 1 to 16.
+fn octet_count(number: u128) -> u128
+    ensures count { result ≡ octets_of_natural number }
+    ensures some { 0 < result }
+    ensures few { result ≤ 16 }
+{
+    width_to(number).div_ceil(8).max(1)
+}

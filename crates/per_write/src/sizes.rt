@@ -1,0 +1,153 @@
+//! Items under a size constraint (X.691 11.9.3.3, 11.9.4, 16, 17, 20 and 30.5).
+
+ghost use Rattle.std.specs.Prelude.{◌≡◌, ◌⊎◌, ◌+◌, ◌-◌, ◌≤◌, length, slice_range, true, false, OnOk, OnErr, IfErr};
+ghost use Rattle.rasn_types.specs.Codecs.{variant_of};
+ghost use Rattle.rasn_types.specs.Variants.{Variant};
+ghost use Rattle.rasn_constraints.specs.Bounds.{allows, any_size};
+ghost use Rattle.rasn_constraints.specs.Constraints.{is_marked, size_in};
+ghost use Rattle.per_core.specs.Counts.{bounded, counted, counted_in, determinant, padding_if};
+ghost use Rattle.per_core.specs.Writers.{just, padding, ◌▹◌};
+ghost use Rattle.per_write.specs.Faults.{IsMemory};
+ghost use Rattle.per_write.specs.Items.{RefusesCounted, RefusesItem};
+ghost use Rattle.per_write.specs.Rows.{row};
+ghost use Rattle.per_write.specs.State.{Wrote};
+
+use crate::Writer;
+use crate::error::{EncodeError, EncodeErrorKind};
+use crate::items::Items;
+use crate::lengths::{FRAGMENT, push_bounded_count, push_count};
+use rasn_schema::constraints::{Bounded, Extensible};
+use std::alloc::Allocator;
+
+impl<A: Allocator + Clone> Writer<A> {
+    /// Writes items under a size constraint: where the constraint is extensible, behind a bit that says whether their
+    /// count is outside (X.691 16.6, 17.3, 20.4, 30.4).
+    pub(crate) fn put_counted<I: Items>(
+        &mut self,
+        size: Option<Extensible<Bounded<usize>>>,
+        items: &I,
+    ) -> Result<(), EncodeError>
+        requires { self.old.failed ≡ false }
+        ensures ok { let a = variant_of self.old.codec in
+            OnOk result (Wrote self.old (counted a (size_in size) (is_marked size) (I.kind items.now) (I.writers a items.now)) self.new) }
+        ensures err { let a = variant_of self.old.codec in
+            IfErr result (λ e. RefusesCounted (size_in size) (is_marked size) (λ k. I.fault k items.now) (I.writers a items.now) e self.old) }
+        ensures fails { OnErr result (self.new.failed ≡ true) }
+        ensures kept { self.new.codec ≡ self.old.codec }
+    {
+        let stated = size.unwrap_or(Extensible::new(Bounded::None));
+        let (lower, upper) = stated.constraint.start_and_end();
+        let count = items.len();
+        match (stated.constraint.contains(&count), stated.extensible) {
+            (true, false) => self.put_sized(lower, upper, items),
+            (true, true) => {
+                self.put_bit(false)?;
+                self.put_sized(lower, upper, items)
+            }
+            (false, true) => {
+                self.put_bit(true)?;
+                self.put_unsized(items)
+            }
+            (false, false) => {
+                let kind = EncodeErrorKind::SizeConstraintNotSatisfied(count, lower, upper);
+                Err(self.refuse(kind))
+            }
+        }
+    }
+
+    /// Writes items whose count is within bounds, in the form that these give it (X.691 11.9.3.3, 11.9.4.1): where both
+    /// are there and the upper is below 65536 as a constrained whole number, and else as an unconstrained length.
+    fn put_sized<I: Items>(
+        &mut self,
+        lower: Option<usize>,
+        upper: Option<usize>,
+        items: &I,
+    ) -> Result<(), EncodeError>
+        requires begun { self.old.failed ≡ false }
+        requires within { (a : Variant) → allows (record { least = lower; most = upper }) (length (I.writers a items.now)) ≡ true }
+        ensures ok { let a = variant_of self.old.codec in
+            OnOk result (Wrote self.old (counted_in a (record { least = lower; most = upper }) (I.kind items.now) (I.writers a items.now)) self.new) }
+        ensures err { IfErr result (λ e. IsMemory e self.old ⊎ RefusesItem (λ k. I.fault k items.now) (I.writers (variant_of self.old.codec) items.now) e self.old) }
+        ensures fails { OnErr result (self.new.failed ≡ true) }
+        ensures kept { self.new.codec ≡ self.old.codec }
+    {
+        match (lower, upper) {
+            (Some(lower), Some(upper)) if upper < 65536 => {
+                let count = items.len();
+                let on_octet = count > 0 && items.is_aligned(lower, upper);
+                self.put_bounded_count(lower, upper, count, on_octet)?;
+                items.put(self, 0, count)
+            }
+            _ => self.put_unsized(items),
+        }
+    }
+
+    /// Writes items behind an unconstrained length (X.691 11.9.3.5 to 11.9.3.8): in fragments while there are 16384 or
+    /// more, each as large as it may be, and then the rest behind a length of its own, which may be zero.
+    pub(crate) fn put_unsized<I: Items>(&mut self, items: &I) -> Result<(), EncodeError>
+        requires { self.old.failed ≡ false }
+        ensures ok { let a = variant_of self.old.codec in
+            OnOk result (Wrote self.old (counted_in a any_size (I.kind items.now) (I.writers a items.now)) self.new) }
+        ensures err { IfErr result (λ e. IsMemory e self.old ⊎ RefusesItem (λ k. I.fault k items.now) (I.writers (variant_of self.old.codec) items.now) e self.old) }
+        ensures fails { OnErr result (self.new.failed ≡ true) }
+        ensures kept { self.new.codec ≡ self.old.codec }
+    {
+        let count = items.len();
+        let mut start = 0;
+        while count - start >= FRAGMENT {
+            let end = start + (count - start).min(4 * FRAGMENT) / FRAGMENT * FRAGMENT;
+            self.put_row(items, start, end)?;
+            start = end;
+        }
+        self.put_row(items, start, count)
+    }
+
+    /// Writes the items from an index on and before another, behind one length.
+    fn put_row<I: Items>(&mut self, items: &I, start: usize, end: usize) -> Result<(), EncodeError>
+        requires begun { self.old.failed ≡ false }
+        requires ordered { start ≤ end }
+        requires within { (a : Variant) → end ≤ length (I.writers a items.now) }
+        ensures ok { let a = variant_of self.old.codec in
+            OnOk result (Wrote self.old (row a (slice_range (I.writers a items.now) start end)) self.new) }
+        ensures err { IfErr result (λ e. IsMemory e self.old ⊎ RefusesItem (λ k. I.fault k items.now) (I.writers (variant_of self.old.codec) items.now) e self.old) }
+        ensures fails { OnErr result (self.new.failed ≡ true) }
+        ensures kept { self.new.codec ≡ self.old.codec }
+    {
+        self.put_count(end - start)?;
+        items.put(self, start, end)
+    }
+
+    /// Writes how many items follow, which begins on an octet in the aligned variant (X.691 11.9.3.5 to 11.9.3.8).
+    fn put_count(&mut self, count: usize) -> Result<(), EncodeError>
+        requires { self.old.failed ≡ false }
+        ensures ok { OnOk result (Wrote self.old (padding (variant_of self.old.codec) ▹ just (determinant count)) self.new) }
+        ensures err { IfErr result (λ e. IsMemory e self.old) }
+        ensures fails { OnErr result (self.new.failed ≡ true) }
+        ensures kept { self.new.codec ≡ self.old.codec }
+    {
+        let pushed = push_count(&mut self.bits, self.codec, count);
+        self.unless_out_of_memory(pushed)
+    }
+
+    /// Writes how many items follow, as a constrained whole number, and the padding in front of items that begin on an
+    /// octet (X.691 11.9.4.1).
+    fn put_bounded_count(
+        &mut self,
+        lower: usize,
+        upper: usize,
+        count: usize,
+        on_octet: bool,
+    ) -> Result<(), EncodeError>
+        requires begun { self.old.failed ≡ false }
+        requires lower { lower ≤ count }
+        requires upper { count ≤ upper }
+        ensures ok { let a = variant_of self.old.codec in
+            OnOk result (Wrote self.old (bounded a (upper - lower + 1) (count - lower) ▹ padding_if on_octet a) self.new) }
+        ensures err { IfErr result (λ e. IsMemory e self.old) }
+        ensures fails { OnErr result (self.new.failed ≡ true) }
+        ensures kept { self.new.codec ≡ self.old.codec }
+    {
+        let pushed = push_bounded_count(&mut self.bits, self.codec, lower, upper, count, on_octet);
+        self.unless_out_of_memory(pushed)
+    }
+}

@@ -1,0 +1,66 @@
+//! Strings (X.691 16, 17 and 30).
+
+ghost use Rattle.std.specs.Prelude.{◌≡◌, true, false, OnErr};
+ghost use Rattle.rasn_types.specs.Values.{bits, characters, octets};
+ghost use Rattle.rasn_codec.specs.Calls.{Writes};
+ghost use Rattle.rasn_schema.specs.Forms.{bit_schema, character_schema, octet_schema};
+ghost use Rattle.rasn_schema.specs.Schemas.{Schema};
+ghost use Rattle.per_write.specs.Faults.{IsMemory, RefusesValue};
+ghost use Rattle.per_write.specs.State.{Presents};
+
+use crate::Writer;
+use crate::error::EncodeError;
+use crate::items::{Characters, Octets};
+use rasn_schema::schema::Constraints;
+use rasn_schema::strings::alphabet_under;
+use rasn_strings::strings::StaticPermittedAlphabet;
+use rasn_types::bit_string::BitString;
+use std::alloc::Allocator;
+
+impl<A: Allocator + Clone> Writer<A> {
+    /// Writes an OCTET STRING under constraints (X.691 17).
+    pub fn put_octet_string(
+        &mut self,
+        constraints: &Constraints,
+        value: &[u8],
+    ) -> Result<(), EncodeError>
+        requires { self.old.failed ≡ false }
+        ensures law { Writes IsMemory Presents RefusesValue (octet_schema constraints.now) (octets value.now) self.old result self.new }
+        ensures fails { OnErr result (self.new.failed ≡ true) }
+        ensures kept { self.new.codec ≡ self.old.codec }
+    {
+        self.put_counted(constraints.size(), &Octets(value))
+    }
+
+    /// Writes a BIT STRING under constraints (X.691 16).
+    pub fn put_bit_string(
+        &mut self,
+        constraints: &Constraints,
+        value: &BitString,
+    ) -> Result<(), EncodeError>
+        requires { self.old.failed ≡ false }
+        ensures law { Writes IsMemory Presents RefusesValue (bit_schema constraints.now) (bits value.now) self.old result self.new }
+        ensures fails { OnErr result (self.new.failed ≡ true) }
+        ensures kept { self.new.codec ≡ self.old.codec }
+    {
+        self.put_counted(constraints.size(), value)
+    }
+
+    /// Writes a string of a known-multiplier type under constraints (X.691 30.5).
+    pub fn put_characters<S: StaticPermittedAlphabet>(
+        &mut self,
+        constraints: &Constraints,
+        value: &S,
+    ) -> Result<(), EncodeError>
+        requires { self.old.failed ≡ false }
+        ensures law { Writes IsMemory Presents RefusesValue (character_schema S.alphabet constraints.now) (characters (S.characters value.now)) self.old result self.new }
+        ensures fails { OnErr result (self.new.failed ≡ true) }
+        ensures kept { self.new.codec ≡ self.old.codec }
+    {
+        let characters = Characters {
+            string: value,
+            alphabet: alphabet_under::<S>(constraints, self.codec),
+        };
+        self.put_counted(constraints.size(), &characters)
+    }
+}
