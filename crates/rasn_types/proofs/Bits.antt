@@ -1,10 +1,10 @@
 -- Numbers and their bits.
-use Rattle.std.proofs.Common.{◌≡◌, refl, sym, ap, ◌∙◌, subst, ℕ, zero, suc, ◌+◌, ◌-◌, ◌*◌, ◌/◌, ◌%◌, ◌^◌, ◌<◌, ◌≤◌, Bool, true, false, cond, leb, [], ◌∷◌, ◌++◌, length, arith, inl, inr, leb-true, pow-suc, mod-lt, mod-eq_of_lt, pow_pos, leb-false, one-add, mul_comm, pow_mono, le_of_lt, le_antisymm, le-leb, add_comm, pow-add}
+use Rattle.std.proofs.Common.{◌≡◌, refl, sym, ap, ◌∙◌, subst, ℕ, zero, suc, ◌+◌, ◌-◌, ◌*◌, ◌/◌, ◌%◌, ◌^◌, ◌<◌, ◌≤◌, Bool, true, false, cond, leb, List, [], ◌∷◌, ◌++◌, length, length-append, append_assoc, arith, inl, inr, leb-true, pow-suc, mod-lt, mod-eq_of_lt, pow_pos, leb-false, one-add, mul_comm, pow_mono, le_of_lt, le_antisymm, le-leb, add_comm, pow-add}
 use Rattle.std.proofs.lemmas.Bool.{cases_lt, lt-leb}
 use Rattle.std.proofs.lemmas.Nat.{le-div, div_below, field_of}
 use Rattle.std.proofs.Math.Pow.{mod-mod-pow}
 use Rattle.std.proofs.Math.Nat.{mod-one, add-mod_right}
-use Rattle.rasn_types.specs.Bits.{Bits, to_bits, number_of, width, width_from}
+use Rattle.rasn_types.specs.Bits.{Bits, to_bits, number_of, unpack, width, width_from}
 
 -- ---- the bits of a number
 
@@ -12,6 +12,16 @@ pub length-to_bits : (w n : ℕ) → length (to_bits w n) ≡ w
 length-to_bits zero n = refl
 length-to_bits (suc w) n = ap suc (length-to_bits w n)
 
+-- octets have eight bits each
+pub length-unpack : (os : List ℕ) → length (unpack os) ≡ 8 * length os
+length-unpack [] = refl
+length-unpack (o ∷ os) = length-append (to_bits 8 o) (unpack os) ∙ omega (arith, length-unpack os)
+
+pub unpack-append : (os qs : List ℕ) → unpack (os ++ qs) ≡ unpack os ++ unpack qs
+unpack-append [] qs = refl
+unpack-append (o ∷ os) qs = ap (λ bs. to_bits 8 o ++ bs) (unpack-append os qs) ∙ sym (append_assoc (to_bits 8 o) (unpack os) (unpack qs))
+
+-- what n bits mean is below 2 ^ n
 pub number_below : (bs : Bits) → number_of bs < 2 ^ length bs
 number_below [] = omega arith
 number_below (true ∷ bs) = omega (arith, number_below bs, pow-suc 2 (length bs))
