@@ -4,8 +4,9 @@ use Rattle.std.proofs.Math.Seq.{take-length, take-append-add}
 use Rattle.std.proofs.lemmas.List.{length-replicate, take-append-le, take-replicate}
 use Rattle.std.proofs.lemmas.Bool.{leb-true, leb-false}
 use Rattle.rasn_types.specs.Bits.{Bits, number_of, pack}
+use Rattle.rasn_types.proofs.Bits.{number_below}
+use Rattle.rasn_types.proofs.Reading.{number_of-append}
 use Rattle.per_core.specs.Writers.{complete}
-use Rattle.per_bits.proofs.Numbers.{number_of-append, number_below}
 
 zeros : (n : ℕ) → number_of (replicate n false) ≡ 0
 zeros zero = refl

@@ -2,6 +2,7 @@
 use Rattle.std.proofs.Common.{◌≡◌, refl, sym, ap, ◌∙◌, subst, ℕ, zero, suc, ◌+◌, ◌-◌, ◌*◌, ◌/◌, ◌^◌, ◌<◌, ◌≤◌, Bool, true, false, cond, ◌&&◌, leb, ltb, eqb, List, [], ◌∷◌, ◌++◌, length, arith, inl, inr, Option, Some, None, pow-suc, leb-true}
 use Rattle.rasn_types.specs.Bits.{Bits, width, number_of}
 use Rattle.rasn_types.specs.Variants.{Variant, aligned, unaligned}
+use Rattle.rasn_types.proofs.Bits.{number_below}
 use Rattle.rasn_constraints.specs.Bounds.{allows, Size, any_size}
 use Rattle.per_core.specs.Basic.{Row, InOctets, bounded_form, bounded_by, IsBounded, LastCount, Fragment, InFragments, Unsized, PaddingIf, length_form, Sized, Lengthy, octet, Octets}
 use Rattle.per_core.specs.Counts.{Counted, octet_items, is_aligned}
@@ -40,11 +41,6 @@ module _ {X Y : Type 0} (R : X → Y → Type 0) (f : X → Spelling) (g : Y →
   row_agree [] (y ∷ ys) l = absurd (omega arith)
   row_agree (x ∷ xs) [] l = absurd (omega arith)
   row_agree (x ∷ xs) (y ∷ ys) l = then_agree (each x y) (λ r. row_agree xs ys (omega arith))
-
-pub number_below : (b : Bits) → number_of b < 2 ^ length b
-number_below [] = omega arith
-number_below (true ∷ b) = omega (arith, number_below b, pow-suc 2 (length b))
-number_below (false ∷ b) = omega (arith, number_below b, pow-suc 2 (length b))
 
 pub in_octets_agree : (a : Settings) (n o o' : ℕ) → Agree (o ≡ o') (InOctets a n o) (InOctets a n o')
 in_octets_agree a n o o' = record {

@@ -6,6 +6,7 @@ use Rattle.rasn_types.specs.Bits.{width}
 use Rattle.rasn_types.specs.Contents.{is_date}
 use Rattle.rasn_types.specs.Values.{day}
 use Rattle.rasn_types.specs.Variants.{Variant, aligned, unaligned}
+use Rattle.rasn_types.proofs.Bits.{width_holds}
 use Rattle.rasn_constraints.specs.Bounds.{Size}
 use Rattle.per_core.specs.Basic.{Char, String, IsBounded, YearIn, year_form, Year, IsDay, As}
 use Rattle.per_core.specs.Canon.{char_writers, coded, date_of, year_writer, in_range, year_of}
@@ -15,7 +16,7 @@ use Rattle.per_core.specs.Writers.{Writer, ◌▹◌}
 use Rattle.per_core.proofs.Counting.{counted_within}
 use Rattle.per_core.proofs.Lengths.{and_left, and_right}
 use Rattle.per_core.proofs.Numbers.{whole_in_octets}
-use Rattle.per_core.proofs.Within.{Within, refused_within, then_within, if_within, relax, field_within, bounded_within, width_holds}
+use Rattle.per_core.proofs.Within.{Within, refused_within, then_within, if_within, relax, field_within, bounded_within}
 
 index_below : (ds : List ℕ) (c i : ℕ) → index_of c ds ≡ Some i → (i < length ds) × (c ≤ greatest ds)
 index_below [] c i e = absurd (cc)
