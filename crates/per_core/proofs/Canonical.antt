@@ -3,7 +3,8 @@ use Rattle.std.proofs.Common.{◌≡◌, refl, sym, ap, ◌∙◌, subst, ℕ, z
 use Rattle.rasn_types.specs.Alphabets.{char_width, visible}
 use Rattle.rasn_types.specs.Bits.{Bits, to_bits}
 use Rattle.rasn_types.specs.Contents.{is_text, is_time, is_identifier}
-use Rattle.rasn_types.specs.Values.{Value, whole, truth, nothing, characters, elements, bag, bag_of, fields, alternative, day, Side, root, added, Values, no_values, value, Slots, no_slots, there, absent, values, as_values, slots, as_slots, same, before}
+use Rattle.rasn_types.specs.Values.{Value, whole, truth, nothing, characters, elements, bag, bag_of, fields, alternative, day, Side, root, added, Values, values, as_values, slots, as_slots, same, before}
+use Rattle.rasn_types.proofs.Values.{as_values-values, as_slots-slots}
 use Rattle.rasn_constraints.specs.Bounds.{holds, Bounds, Size, any_size}
 use Rattle.rasn_schema.specs.Orders.{ordered, by_tags, insert_at, how_many_less}
 use Rattle.rasn_schema.specs.Schemas.{tags, Order, listed, by_tag, Tag, Schema, Parts, no_parts, part}
@@ -23,18 +24,8 @@ use Rattle.per_core.proofs.Strings.{string_within, day_within}
 use Rattle.per_core.proofs.Whole.{one_reading}
 use Rattle.per_core.proofs.Within.{Within, just_within, refused_within, then_within, if_within, relax, field_within, bounded_within}
 
-as_within : {X : Type 0} (make : X → Value) (spells : X → Spelling) (x : X) (v : Value) → v ≡ make x → {w : Writer} → Within w (spells x) → Within w (As make spells v)
+pub as_within : {X : Type 0} (make : X → Value) (spells : X → Spelling) (x : X) (v : Value) → v ≡ make x → {w : Writer} → Within w (spells x) → Within w (As make spells v)
 as_within make spells x v e h = relax (λ p b s. record { of = x; is = e; spelled = s }) h
-
--- values and lists
-as_values-values : (vs : Values) → as_values (values vs) ≡ vs
-as_values-values no_values = refl
-as_values-values (value v vs) = ap (value v) (as_values-values vs)
-
-as_slots-slots : (ss : Slots) → as_slots (slots ss) ≡ ss
-as_slots-slots no_slots = refl
-as_slots-slots (absent ss) = ap absent (as_slots-slots ss)
-as_slots-slots (there v ss) = ap (there v) (as_slots-slots ss)
 
 -- the order of a Set on members and rules alike
 insert-pairs : (n : ℕ) (m : Member) (r : Rule) (ms : List Member) (rs : List Rule) → Pair m r → Pairs ms rs → Pairs (insert_at n m ms) (insert_at n r rs)
@@ -44,7 +35,7 @@ insert-pairs (suc n) m r (q ∷ ms) (s ∷ rs) k ks = (ks.0, insert-pairs n m r 
 insert-pairs (suc n) m r [] (s ∷ rs) k ks = absurd ks
 insert-pairs (suc n) m r (q ∷ ms) [] k ks = absurd ks
 
-ordered-pairs : (o : Order) (ts : List Tag) (ms : List Member) (rs : List Rule) → Pairs ms rs → Pairs (ordered o ts ms) (ordered o ts rs)
+pub ordered-pairs : (o : Order) (ts : List Tag) (ms : List Member) (rs : List Rule) → Pairs ms rs → Pairs (ordered o ts ms) (ordered o ts rs)
 ordered-pairs listed ts ms rs k = k
 ordered-pairs by_tag ts [] [] k = tt
 ordered-pairs by_tag [] (m ∷ ms) (r ∷ rs) k = k
@@ -65,7 +56,7 @@ pairs-length (m ∷ ms) (r ∷ rs) k = ap suc (pairs-length ms rs k.1)
 pairs-length [] (r ∷ rs) k = absurd k
 pairs-length (m ∷ ms) [] k = absurd k
 
-bit_within : (ext b : Bool) {w : Writer} {f : Spelling} → Within w f → Within (extension_bit ext b ▹ w) (Then (ExtensionBit ext b) f)
+pub bit_within : (ext b : Bool) {w : Writer} {f : Spelling} → Within w f → Within (extension_bit ext b ▹ w) (Then (ExtensionBit ext b) f)
 bit_within true b h = then_within (just_within (b ∷ [])) h
 bit_within false false h = then_within (just_within []) h
 bit_within false true h = record { within = λ p b e. absurd (cc) }

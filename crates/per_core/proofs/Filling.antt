@@ -1,12 +1,12 @@
 -- A complete encoding is what is read and how it ends.
-use Rattle.std.proofs.Common.{◌≡◌, ◌<◌, ◌⊎◌, inl, inr, refl, sym, ap, ◌∙◌, subst, ℕ, ◌+◌, ◌*◌, ◌/◌, false, List, [], ◌∷◌, ◌++◌, length, replicate, length-append, append-nil, ◌%◌, ◌^◌, arith}
+use Rattle.std.proofs.Common.{◌≡◌, ◌<◌, inl, inr, refl, sym, ap, ◌∙◌, subst, ℕ, false, List, [], ◌∷◌, ◌++◌, length, replicate, length-append, append-nil, arith}
 use Rattle.rasn_types.specs.Bits.{Bits, AreOctets, to_bits, number_of, unpack}
 use Rattle.rasn_types.specs.Variants.{Variant}
 use Rattle.rasn_types.specs.Values.{Value}
 use Rattle.rasn_types.proofs.Bits.{length-unpack, number-to_bits}
 use Rattle.rasn_schema.specs.Schemas.{Schema}
-use Rattle.per_core.specs.Spellings.{Settings, Spelling}
-use Rattle.per_core.specs.Basic.{basic, fills, Fills}
+use Rattle.per_core.specs.Spellings.{Settings}
+use Rattle.per_core.specs.Basic.{basic, fills}
 use Rattle.per_core.specs.Took.{Took, place}
 use Rattle.per_core.specs.Ends.{Ends}
 

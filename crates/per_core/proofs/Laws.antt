@@ -1,6 +1,6 @@
 -- The laws of whole encodings.
-use Rattle.std.proofs.Common.{◌≡◌, ◌↔◌, refl, sym, ap, ◌∙◌, subst, ℕ, true, false, List, [], ◌∷◌, arith, inl, inr, Option, Some, None, zero, suc, ◌+◌, ◌*◌, ◌<◌, ◌≤◌, ◌++◌, length, append_assoc, length-append, max, take, drop, replicate, length-take, ◌/◌, ◌^◌}
-use Rattle.rasn_types.specs.Bits.{Bits, to_bits, number_of, pack, unpack, AreOctets}
+use Rattle.std.proofs.Common.{◌≡◌, ◌↔◌, refl, sym, ap, ◌∙◌, subst, ℕ, true, false, List, [], ◌∷◌, arith, inl, inr, Option, Some, None, ◌+◌, ◌*◌, ◌<◌, ◌++◌, length, append_assoc, length-append, max, ◌/◌}
+use Rattle.rasn_types.specs.Bits.{Bits, unpack, AreOctets}
 use Rattle.rasn_types.specs.Values.{Value}
 use Rattle.rasn_types.specs.Variants.{Variant}
 use Rattle.rasn_types.proofs.Bits.{length-unpack, unpack-append}
@@ -18,6 +18,7 @@ use Rattle.per_core.proofs.Presenting.{unpack-complete}
 use Rattle.per_core.proofs.Unique.{fills_agree}
 use Rattle.per_core.proofs.Whole.{one_reading}
 use Rattle.per_core.proofs.Within.{zero_if}
+use Rattle.per_core.proofs.Codes.{split_at_length}
 
 -- octets are a complete encoding of at most one value
 pub one_value : (a : Settings) (s : Schema) (v w : Value) (os : List ℕ) → fills a s v os → fills a s w os → v ≡ w
@@ -59,15 +60,6 @@ whole_octets a s v os e = go (canon a.variant s v 0) e
     go None e = absurd (cc)
     go (Some bs) e = let h : complete bs ≡ os = cc in subst (λ z. (0 < length z) × AreOctets z) h (omega (arith, length-pack (max 1 ((length bs + 7) / 8)) bs), octets-pack (max 1 ((length bs + 7) / 8)) bs)
 
-pub cut_even : (xs ys us vs : List ℕ) → length xs ≡ length ys → xs ++ us ≡ ys ++ vs → (xs ≡ ys) × (us ≡ vs)
-cut_even [] [] us vs l e = (refl, e)
-cut_even [] (y ∷ ys) us vs l e = absurd (omega arith)
-cut_even (x ∷ xs) [] us vs l e = absurd (omega arith)
-cut_even (x ∷ xs) (y ∷ ys) us vs l e =
-    let h : x ≡ y = cc in let e' : xs ++ us ≡ ys ++ vs = cc in
-    let r = cut_even xs ys us vs (omega arith) e' in
-    let i : xs ≡ ys = r.0 in (cc, r.1)
-
 -- the bits of a front and all that follows
 in_front : {f : Spelling} (a : Settings) (os rest : List ℕ) (x : Fronts a f os) → unpack (os ++ rest) ≡ x.front ++ (x.spare ++ unpack rest)
 in_front a os rest x = unpack-append os rest ∙ ap (λ z. z ++ unpack rest) x.all ∙ append_assoc x.front x.spare (unpack rest)
@@ -80,7 +72,7 @@ fronts_agree a os rest os' rest' w (inl x) (inl y) e =
     let ly : 8 * length os' ≡ length y.front + length y.spare = sym (length-unpack os') ∙ ap length y.all ∙ length-append y.front y.spare in
     let lf : length x.front ≡ length y.front = ap length r.1 in
     let sx = x.short in let sy = y.short in
-    let q = cut_even os os' rest rest' (omega arith) e in
+    let q = split_at_length os os' rest rest' (omega arith) e in
     (r.0, q.0, q.1)
 fronts_agree a os rest os' rest' w (inl x) (inr y) e =
     let r = w.agree 0 x.front [] (x.spare ++ unpack rest) (unpack (os' ++ rest')) x.spelled y.0 (sym (in_front a os rest x) ∙ ap unpack e) in
@@ -92,7 +84,7 @@ fronts_agree a os rest os' rest' w (inr x) (inl y) e =
     let s = y.some in absurd (omega arith)
 fronts_agree a os rest os' rest' w (inr x) (inr y) e =
     let r = w.agree 0 [] [] [] [] x.0 y.0 refl in
-    let q = cut_even os os' rest rest' (ap length (x.1 ∙ sym y.1)) e in
+    let q = split_at_length os os' rest rest' (ap length (x.1 ∙ sym y.1)) e in
     (r.0, q.0, q.1)
 
 -- what is read of a front is one value, and one rest

@@ -1,6 +1,6 @@
 -- What canon writes of records, choices and open types has a spelling.
-use Rattle.std.proofs.Common.{◌≡◌, refl, sym, ap, ◌∙◌, subst, ℕ, zero, suc, ◌+◌, ◌-◌, ◌*◌, ◌/◌, ◌%◌, ◌^◌, ◌<◌, ◌≤◌, max, Bool, true, false, cond, not, leb, ltb, List, [], ◌∷◌, ◌++◌, length, take, drop, replicate, append_assoc, length-append, arith, inl, inr, Option, Some, None, leb-true, ltb-true, one-add, mod-eq_of_lt, le-leb, add_comm, suc-add, ap₂, length-take, length-drop, drop_of_length-le, take-append-drop}
-use Rattle.std.proofs.lemmas.Bool.{cases_lt, lt-leb}
+use Rattle.std.proofs.Common.{◌≡◌, refl, sym, ap, ◌∙◌, subst, ℕ, zero, suc, ◌+◌, ◌-◌, ◌*◌, ◌/◌, ◌%◌, ◌<◌, ◌≤◌, max, Bool, true, false, cond, not, leb, ltb, List, [], ◌∷◌, ◌++◌, length, take, drop, replicate, append_assoc, length-append, arith, inl, inr, Option, Some, None, leb-true, ltb-true, suc-add, ap₂, length-take, length-drop, drop_of_length-le, take-append-drop}
+use Rattle.std.proofs.lemmas.Bool.{cases_lt}
 use Rattle.std.proofs.lemmas.List.{length-replicate, take-append-le}
 use Rattle.rasn_types.specs.Bits.{Bits, to_bits, number_of, pack, unpack}
 use Rattle.rasn_types.specs.Values.{Value, same}
@@ -146,7 +146,8 @@ open_within a w f h = go (w 0) refl
     go (Some bs) e = relax (λ p b x. record { octets = complete bs; are = full bs (h.within 0 bs e); spelled = x }) (octets_within a (complete bs))
 
 -- additions
-some_both : (o : Option Bool) (q : Option Bits) (bs : Bits) → also_bit o q ≡ Some bs → (b : Bool) × (cs : Bits) × (o ≡ Some b) × (q ≡ Some cs) × (bs ≡ b ∷ cs)
+-- what `also_bit` was made of
+pub some_both : (o : Option Bool) (q : Option Bits) (bs : Bits) → also_bit o q ≡ Some bs → (b : Bool) × (cs : Bits) × (o ≡ Some b) × (q ≡ Some cs) × (bs ≡ b ∷ cs)
 some_both None q bs e = absurd (cc)
 some_both (Some b) None bs e = absurd (cc)
 some_both (Some b) (Some cs) bs e = (b, cs, refl, refl, cc)

@@ -1,5 +1,5 @@
 -- What a writer writes has a spelling.
-use Rattle.std.proofs.Common.{◌≡◌, refl, sym, ap, ◌∙◌, subst, ℕ, zero, suc, ◌+◌, ◌-◌, ◌*◌, ◌/◌, ◌%◌, ◌^◌, ◌<◌, ◌≤◌, max, Bool, true, false, cond, leb, ltb, eqb, length, replicate, arith, inl, inr, Option, Some, None, eqb-true, ltb-true, leb-true, pow-suc, mod-lt, mod-eq_of_lt, pow_pos, leb-false, one-add, mul_comm, pow_mono, le_of_lt, le_trans}
+use Rattle.std.proofs.Common.{◌≡◌, refl, sym, ap, ◌∙◌, subst, ℕ, suc, ◌+◌, ◌-◌, ◌*◌, ◌/◌, ◌^◌, ◌<◌, ◌≤◌, max, Bool, true, false, cond, leb, ltb, eqb, length, replicate, arith, inl, inr, Option, Some, None, eqb-true, ltb-true, leb-true, mod-eq_of_lt, leb-false, pow_mono, le_trans}
 use Rattle.std.proofs.lemmas.Bool.{cases_lt}
 use Rattle.std.proofs.lemmas.List.{length-replicate}
 use Rattle.rasn_types.specs.Bits.{Bits, number_of, to_bits, width}

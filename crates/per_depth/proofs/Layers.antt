@@ -2,22 +2,24 @@
 use Rattle.per_core.specs.Basic
 use Rattle.per_core.specs.Canon
 use Rattle.std.proofs.Common.{◌≡◌, refl, sym, ap, ◌∙◌, subst, ℕ, zero, suc, Bool, true, false, List, [], ◌∷◌, length, Option, Some}
-use Rattle.rasn_types.specs.Values.{Value, same, before, elements, bag, bag_of, fields, alternative, Side, root, added, Values, no_values, value, values, as_values, Slots, no_slots, absent, there, slots, as_slots}
+use Rattle.rasn_types.specs.Values.{Value, same, before, elements, bag, bag_of, fields, alternative, Side, root, added, values, as_values, slots, as_slots}
 use Rattle.rasn_types.specs.Variants.{Variant}
+use Rattle.rasn_types.proofs.Values.{as_values-values, as_slots-slots}
 use Rattle.rasn_constraints.specs.Bounds.{Size}
-use Rattle.rasn_schema.specs.Schemas.{Order, listed, by_tag, Tag, tags, Schema, Parts, no_parts, part}
-use Rattle.rasn_schema.specs.Orders.{ordered, by_tags, insert_at, how_many_less}
-use Rattle.per_core.specs.Spellings.{Settings, Spelling, Then}
-use Rattle.per_core.specs.Writers.{Writer, ◌▹◌, written_if}
+use Rattle.rasn_schema.specs.Schemas.{Order, Tag, tags, Schema, Parts, no_parts, part}
+use Rattle.rasn_schema.specs.Orders.{ordered}
+use Rattle.per_core.specs.Spellings.{Settings, Spelling}
+use Rattle.per_core.specs.Writers.{Writer, written_if}
 use Rattle.per_core.specs.Counts.{counted, list_items, bounded}
-use Rattle.per_core.specs.Canon.{canon, members, Member, shown, record_of, chosen, choice_of, extension_bit}
-use Rattle.per_core.specs.Basic.{As, Lengthy, Rule, IsBounded, Fields_in, Chosen, ExtensionBit}
+use Rattle.per_core.specs.Canon.{canon, members, Member, shown, record_of, chosen, choice_of}
+use Rattle.per_core.specs.Basic.{As, Lengthy, Rule, IsBounded, Fields_in, Chosen}
 use Rattle.per_core.proofs.Codes.{same_true}
 use Rattle.per_core.proofs.Bags.{bag_rearranged}
-use Rattle.per_core.proofs.Within.{Within, just_within, refused_within, then_within, if_within, relax, bounded_within}
+use Rattle.per_core.proofs.Within.{Within, refused_within, then_within, if_within, bounded_within}
 use Rattle.per_core.proofs.Numbers.{small_within}
 use Rattle.per_core.proofs.Counting.{counted_within}
-use Rattle.per_core.proofs.Presenting.{Pair, Pairs, open_within, record_within}
+use Rattle.per_core.proofs.Presenting.{Pairs, open_within, record_within}
+use Rattle.per_core.proofs.Canonical.{as_within, ordered-pairs, bit_within}
 use Rattle.per_laws.proofs.Carry.{Carry}
 use Rattle.per_depth.specs.Written.{is_written}
 use Rattle.per_depth.proofs.Same.{Fits, ordered_root, record_same, written_shown}
@@ -31,18 +33,6 @@ written_so a t v = record { within = λ p b e. e }
 
 carried : {f : Writer} {g : Spelling} → Within f g → Carry (λ p b. f p ≡ Some b) g
 carried h = record { carry = λ p b e. h.within p b e }
-
-as_values-values : (vs : Values) → as_values (values vs) ≡ vs
-as_values-values no_values = refl
-as_values-values (value v vs) = ap (value v) (as_values-values vs)
-
-as_slots-slots : (ss : Slots) → as_slots (slots ss) ≡ ss
-as_slots-slots no_slots = refl
-as_slots-slots (absent ss) = ap absent (as_slots-slots ss)
-as_slots-slots (there v ss) = ap (there v) (as_slots-slots ss)
-
-as_within : {X : Type 0} (make : X → Value) (spells : X → Spelling) (x : X) (v : Value) → v ≡ make x → {w : Writer} → Within w (spells x) → Within w (As make spells v)
-as_within make spells x v e h = relax (λ p b s. record { of = x; is = e; spelled = s }) h
 
 -- lists
 list_within : (a : Settings) (t : Schema) (size : Size) (mark : Bool) (v : Value) → Within (canon a.variant (Schema.list t size mark) v) (As (λ vs. elements (as_values vs)) (Lengthy a size mark list_items (Writes a t)) v)
@@ -94,21 +84,6 @@ unfolding guarded
 guarded-pairs a no_parts = tt
 guarded-pairs a (part t p s ps) = (record { alike = refl; each = λ v. if_within (is_written p v) (λ h. record { within = λ q b e. (h, e) }) }, guarded-pairs a ps)
 
-insert-pairs : (n : ℕ) (m : Member) (r : Rule) (ms : List Member) (rs : List Rule) → Pair m r → Pairs ms rs → Pairs (insert_at n m ms) (insert_at n r rs)
-insert-pairs zero m r ms rs k ks = (k, ks)
-insert-pairs (suc n) m r [] [] k ks = (k, tt)
-insert-pairs (suc n) m r (q ∷ ms) (s ∷ rs) k ks = (ks.0, insert-pairs n m r ms rs k ks.1)
-insert-pairs (suc n) m r [] (s ∷ rs) k ks = absurd ks
-insert-pairs (suc n) m r (q ∷ ms) [] k ks = absurd ks
-
-ordered-pairs : (o : Order) (ts : List Tag) (ms : List Member) (rs : List Rule) → Pairs ms rs → Pairs (ordered o ts ms) (ordered o ts rs)
-ordered-pairs listed ts ms rs k = k
-ordered-pairs by_tag ts [] [] k = tt
-ordered-pairs by_tag [] (m ∷ ms) (r ∷ rs) k = k
-ordered-pairs by_tag (t ∷ ts) (m ∷ ms) (r ∷ rs) k = insert-pairs (how_many_less t ts) m r (by_tags ts ms) (by_tags ts rs) k.0 (ordered-pairs by_tag ts ms rs k.1)
-ordered-pairs by_tag ts [] (r ∷ rs) k = absurd k
-ordered-pairs by_tag ts (m ∷ ms) [] k = absurd k
-
 record_written : (a : Settings) (u : Bool) (o : Order) (ts : List Tag) (ext : Bool) (ps adds : Parts) (r x : List (Option Value)) →
     Within (record_of a.variant ext (ordered o ts (members a.variant ps)) (members a.variant adds) (ordered o ts r) x) (Fields_in a u ext (ordered o ts (written_rules a ps)) (written_rules a adds) (ordered o ts r) x)
 record_written a u o ts ext ps adds r x =
@@ -146,11 +121,6 @@ chosen-length : (a : Settings) (ps : Parts) → length (members a.variant ps) �
 unfolding members
 chosen-length a no_parts = refl
 chosen-length a (part t p s ps) = ap suc (chosen-length a ps)
-
-bit_within : (ext b : Bool) {w : Writer} {f : Spelling} → Within w f → Within (extension_bit ext b ▹ w) (Then (ExtensionBit ext b) f)
-bit_within true b h = then_within (just_within (b ∷ [])) h
-bit_within false false h = then_within (just_within []) h
-bit_within false true h = record { within = λ p b e. absurd (cc) }
 
 alternative_within : (a : Settings) (ext : Bool) (ps adds : Parts) (d : Side) (i : ℕ) (v : Value) →
     Within (choice_of a.variant ext (members a.variant ps) (members a.variant adds) d i v) (Basic.Alternative a ext (chosen_rules a ps) (chosen_rules a adds) d i v)

@@ -1,7 +1,7 @@
 -- A long list of bytes, without computing with its bits.
-use Rattle.std.proofs.Common.{◌≡◌, refl, sym, ap, ◌∙◌, ℕ, zero, suc, ◌+◌, ◌*◌, ◌/◌, ◌%◌, ◌<◌, ◌^◌, true, false, ltb, List, [], ◌∷◌, ◌++◌, append_assoc, length, length-append, replicate, drop, map, Some, cond, arith, mod-eq_of_lt, lit<}
+use Rattle.std.proofs.Common.{◌≡◌, refl, sym, ap, ◌∙◌, ℕ, zero, suc, ◌+◌, ◌/◌, ◌%◌, ◌<◌, ◌^◌, true, false, ltb, List, [], ◌∷◌, ◌++◌, length, replicate, drop, map, Some, cond, arith, lit<}
 use Rattle.std.proofs.lemmas.List.{length-replicate, take-replicate, drop-replicate}
-use Rattle.rasn_types.specs.Bits.{Bits, to_bits, number_of, unpack, pack, AreOctets}
+use Rattle.rasn_types.specs.Bits.{Bits, unpack, pack, AreOctets}
 use Rattle.rasn_types.proofs.Bits.{length-unpack, unpack-append}
 use Rattle.rasn_types.proofs.Fewest.{pack-unpack}
 use Rattle.rasn_types.specs.Variants.{unaligned}

@@ -116,7 +116,7 @@ unfolding octets_of_whole
 octets_enough (pos m) v n h l = let w = width_least (m + 1) v (omega arith) in omega arith
 octets_enough (negsuc m) v n h l = let w = width_least (m + 1) v (omega arith) in omega arith
 
-octets_of_signed : (os : List ℕ) → 0 < length os → octets_of_whole (signed os) ≤ length os
+pub octets_of_signed : (os : List ℕ) → 0 < length os → octets_of_whole (signed os) ≤ length os
 octets_of_signed [] h = absurd (omega arith)
 octets_of_signed (o ∷ os) h = octets_enough (signed (o ∷ os)) (length rest) (suc (length os)) (mag_below (leb 128 (o % 256)) rest) (le_of_eq (length-unpack (o ∷ os)))
   where

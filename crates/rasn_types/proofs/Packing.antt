@@ -32,7 +32,7 @@ octet bs = number_of (take 8 (bs ++ replicate 8 false))
 
 -- ---- octets, and bits behind them
 
-number-zeros : (n : ℕ) → number_of (replicate n false) ≡ 0
+pub number-zeros : (n : ℕ) → number_of (replicate n false) ≡ 0
 number-zeros zero = refl
 number-zeros (suc n) = omega (arith, number-zeros n)
 
