@@ -1,6 +1,6 @@
 -- A lawful type is a newer version of itself: its defaults are values of their schemas, and a value stays what it is.
 use Rattle.std.proofs.Common.{◌≡◌, refl, sym, ap, ◌∙◌, ap₂, ℕ, zero, suc, ◌+◌, Bool, true, false, cond, ◌&&◌, List, [], ◌∷◌, Option, Some, None, arith}
-use Rattle.rasn_types.specs.Values.{Value, no_values, value, no_slots, there, item, elements, bag, bag_of, same, fields, alternative, root, added, as_values, as_slots, values, slots}
+use Rattle.rasn_types.specs.Values.{Value, no_values, value, no_slots, item, elements, bag, bag_of, same, fields, alternative, root, added, as_values, as_slots, values, slots}
 use Rattle.rasn_types.proofs.Values.{slots-as_slots, as_values-values, as_slots-slots}
 use Rattle.rasn_constraints.specs.Bounds.{Size}
 use Rattle.rasn_schema.specs.Schemas.{Presence, required, optional, group, default, Order, TagTree, Schema, Parts, no_parts, part}
