@@ -3,7 +3,9 @@ use Rattle.std.proofs.Common.{◌≡◌, sym, ap, ◌∙◌, ℕ, zero, suc, ◌
 use Rattle.std.proofs.lemmas.List.{take_more}
 use Rattle.std.specs.Prelude.{bit_and}
 use Rattle.rasn_types.specs.Bits.{Bits, to_bits, number_of, unpack}
-use Rattle.per_bits.proofs.Numbers.{unpack-append, number_of-push, top_bit}
+use Rattle.rasn_types.proofs.Bits.{unpack-append}
+use Rattle.rasn_types.proofs.Packing.{top_bit}
+use Rattle.per_bits.proofs.Numbers.{number_of-push}
 
 -- a bit written, of those still to come
 pub written_bit : (bits : Bits) (w n : ℕ) (x : Bool) → 0 < w → x ≡ eqb (bit_and (n / 2 ^ (w - 1)) 1) 1 → (bits ++ x ∷ []) ++ to_bits (w - 1) n ≡ bits ++ to_bits w n

@@ -4,19 +4,17 @@ use Rattle.rasn_types.specs.Values.{Value, before, put, sorted, code, bag, as_va
 use Rattle.rasn_schema.specs.Depth.{any_of}
 use Rattle.per_core.specs.Versions.{all_of, joined}
 use Rattle.per_core.proofs.Codes.{code_same}
+use Rattle.per_core.proofs.Lengths.{or_left, or_right}
 
-joined_both : {A : Type 0} (o : Option A) (q : Option (List A)) (us : List A) → joined o q ≡ Some us → (u : A) × (us1 : List A) × (o ≡ Some u) × (q ≡ Some us1) × (us ≡ u ∷ us1)
-joined_both None q us e = absurd (cc)
-joined_both (Some u) None us e = absurd (cc)
-joined_both (Some u) (Some us1) us e = (u, us1, refl, refl, cc)
+-- what `joined` was made of
+pub joined_of : {A : Type 0} (o : Option A) (q : Option (List A)) (us : List A) → joined o q ≡ Some us → (u : A) × (us1 : List A) × (o ≡ Some u) × (q ≡ Some us1) × (us ≡ u ∷ us1)
+joined_of None q us e = absurd (cc)
+joined_of (Some u) None us e = absurd (cc)
+joined_of (Some u) (Some us1) us e = (u, us1, refl, refl, cc)
 
-none_left : (a b : Bool) → (a || b) ≡ false → a ≡ false
-none_left false b e = refl
-none_left true b e = e
-
-none_right : (a b : Bool) → (a || b) ≡ false → b ≡ false
-none_right false b e = e
-none_right true b e = absurd (cc)
+-- the elements of a bag, as its value keeps them
+unfoldable pub sort : List Value → List Value
+sort vs = sorted (λ v w. before (code v) (code w)) vs
 
 module _ {A : Type 0} (less : A → A → Bool) (asym : (x y : A) → less x y ≡ true → less y x ≡ false)
     (co : (x y z : A) → less z y ≡ true → less z x ≡ false → less x y ≡ true) (tie : (x y : A) → less x y ≡ false → less y x ≡ false → x ≡ y) where
@@ -65,7 +63,7 @@ module _ {A : Type 0} (less : A → A → Bool) (asym : (x y : A) → less x y �
   -- the same of what each element becomes
   pub put_project : (f : A → Option A) (v w : A) (xs us : List A) → f v ≡ Some w → all_of f xs ≡ Some us → (us' : List A) × (all_of f (put less v xs) ≡ Some us') × (sorted less us' ≡ put less w (sorted less us))
   put_project f v w [] us e h = let u : [] ≡ us = cc in (w ∷ [], ap (λ o. joined o (Some [])) e, ap (λ l. put less w (sorted less l)) u)
-  put_project f v w (x ∷ xs) us e h = let q = joined_both (f x) (all_of f xs) us h in go (less x v) refl q (put_project f v w xs q.1 e q.3)
+  put_project f v w (x ∷ xs) us e h = let q = joined_of (f x) (all_of f xs) us h in go (less x v) refl q (put_project f v w xs q.1 e q.3)
     where
       go : (t : Bool) → less x v ≡ t → (q : (u : A) × (us1 : List A) × (f x ≡ Some u) × (all_of f xs ≡ Some us1) × (us ≡ u ∷ us1)) →
           ((us' : List A) × (all_of f (put less v xs) ≡ Some us') × (sorted less us' ≡ put less w (sorted less q.1))) →
@@ -80,24 +78,24 @@ module _ {A : Type 0} (less : A → A → Bool) (asym : (x y : A) → less x y �
   pub sort_project : (f : A → Option A) (xs us : List A) → all_of f xs ≡ Some us → (us' : List A) × (all_of f (sorted less xs) ≡ Some us') × (sorted less us' ≡ sorted less us)
   sort_project f [] us h = let u : [] ≡ us = cc in ([], refl, ap (sorted less) u)
   sort_project f (x ∷ xs) us h =
-      let q = joined_both (f x) (all_of f xs) us h in
+      let q = joined_of (f x) (all_of f xs) us h in
       let r = sort_project f xs q.1 q.3 in
       let t = put_project f x q.0 (sorted less xs) r.0 q.2 r.1 in
       (t.0, t.1, t.2 ∙ ap (put less q.0) r.2 ∙ ap (sorted less) (sym q.4))
 
   -- what all of the sorted list becomes, all of the list becomes
   put_some : (f : A → Option A) (v : A) (xs us : List A) → all_of f (put less v xs) ≡ Some us → (w : A) × (us1 : List A) × (f v ≡ Some w) × (all_of f xs ≡ Some us1)
-  put_some f v [] us e = let q = joined_both (f v) (Some []) us e in (q.0, [], q.2, refl)
+  put_some f v [] us e = let q = joined_of (f v) (Some []) us e in (q.0, [], q.2, refl)
   put_some f v (x ∷ xs) us e = go (less x v) refl (put_some f v xs)
     where
       go : (t : Bool) → less x v ≡ t → ((us : List A) → all_of f (put less v xs) ≡ Some us → (w : A) × (us1 : List A) × (f v ≡ Some w) × (all_of f xs ≡ Some us1)) →
           (w : A) × (us1 : List A) × (f v ≡ Some w) × (all_of f (x ∷ xs) ≡ Some us1)
       go true t ih =
-          let q = joined_both (f x) (all_of f (put less v xs)) us (ap (all_of f) (sym (later v x xs t)) ∙ e) in
+          let q = joined_of (f x) (all_of f (put less v xs)) us (ap (all_of f) (sym (later v x xs t)) ∙ e) in
           let r = ih q.1 q.3 in
           (r.0, q.0 ∷ r.1, r.2, ap (λ o. joined o (all_of f xs)) q.2 ∙ ap (λ o. joined (Some q.0) o) r.3)
       go false t ih =
-          let q = joined_both (f v) (all_of f (x ∷ xs)) us (ap (all_of f) (sym (here v x xs t)) ∙ e) in
+          let q = joined_of (f v) (all_of f (x ∷ xs)) us (ap (all_of f) (sym (here v x xs t)) ∙ e) in
           (q.0, q.1, q.2, q.3)
 
   pub sorted_some : (f : A → Option A) (xs us : List A) → all_of f (sorted less xs) ≡ Some us → (ws : List A) × (all_of f xs ≡ Some ws)
@@ -109,15 +107,15 @@ module _ {A : Type 0} (less : A → A → Bool) (asym : (x y : A) → less x y �
 
   -- what holds of no element of the sorted list holds of none
   any_put : (K : A → Bool) (v : A) (xs : List A) → any_of K (put less v xs) ≡ false → (K v ≡ false) × (any_of K xs ≡ false)
-  any_put K v [] e = (none_left (K v) false e, refl)
+  any_put K v [] e = (or_left (K v) false e, refl)
   any_put K v (x ∷ xs) e = go (less x v) refl (any_put K v xs)
     where
       go : (t : Bool) → less x v ≡ t → (any_of K (put less v xs) ≡ false → (K v ≡ false) × (any_of K xs ≡ false)) → (K v ≡ false) × (any_of K (x ∷ xs) ≡ false)
       go true t ih = let h : (K x || any_of K (put less v xs)) ≡ false = sym (ap (any_of K) (later v x xs t)) ∙ e in
-          let r = ih (none_right (K x) (any_of K (put less v xs)) h) in
-          (r.0, ap (λ c. c || any_of K xs) (none_left (K x) (any_of K (put less v xs)) h) ∙ r.1)
+          let r = ih (or_right (K x) (any_of K (put less v xs)) h) in
+          (r.0, ap (λ c. c || any_of K xs) (or_left (K x) (any_of K (put less v xs)) h) ∙ r.1)
       go false t ih = let h : (K v || any_of K (x ∷ xs)) ≡ false = sym (ap (any_of K) (here v x xs t)) ∙ e in
-          (none_left (K v) (any_of K (x ∷ xs)) h, none_right (K v) (any_of K (x ∷ xs)) h)
+          (or_left (K v) (any_of K (x ∷ xs)) h, or_right (K v) (any_of K (x ∷ xs)) h)
 
   pub any_sorted : (K : A → Bool) (xs : List A) → any_of K (sorted less xs) ≡ false → any_of K xs ≡ false
   any_sorted K [] e = refl
@@ -195,7 +193,7 @@ bag_becomes f vs ws e =
 pub any_in_bag : (K : Value → Bool) (vs : List Value) → any_of K (sorted (λ v w. before (code v) (code w)) vs) ≡ false → any_of K vs ≡ false
 any_in_bag K vs e = any_sorted (λ v w. before (code v) (code w)) (λ x y. before_asym (code x) (code y)) (λ x y z. before_co (code x) (code y) (code z)) code_tie K vs e
 
-some_list : (us ws : List Value) → ◌≡◌ {A = Option (List Value)} (Some us) (Some ws) → us ≡ ws
+pub some_list : (us ws : List Value) → ◌≡◌ {A = Option (List Value)} (Some us) (Some ws) → us ≡ ws
 some_list us ws e = cc
 
 -- what a bag's sorted elements become, its elements become

@@ -3,7 +3,8 @@ use Rattle.std.proofs.Common.{◌≡◌, refl, sym, ap, ◌∙◌, subst, ℕ, z
 use Rattle.rasn_types.specs.Alphabets.{char_width, visible}
 use Rattle.rasn_types.specs.Bits.{Bits, to_bits}
 use Rattle.rasn_types.specs.Contents.{is_text, is_time, is_identifier}
-use Rattle.rasn_types.specs.Values.{Value, whole, truth, nothing, characters, elements, bag, bag_of, fields, alternative, day, Side, root, added, Values, no_values, value, Slots, no_slots, there, absent, values, as_values, slots, as_slots, same, before}
+use Rattle.rasn_types.specs.Values.{Value, whole, truth, nothing, characters, elements, bag, bag_of, fields, alternative, day, Side, root, added, Values, values, as_values, slots, as_slots, same, before}
+use Rattle.rasn_types.proofs.Values.{as_values-values, as_slots-slots}
 use Rattle.rasn_constraints.specs.Bounds.{holds, Bounds, Size, any_size}
 use Rattle.rasn_schema.specs.Orders.{ordered, by_tags, insert_at, how_many_less}
 use Rattle.rasn_schema.specs.Schemas.{tags, Order, listed, by_tag, Tag, Schema, Parts, no_parts, part}
@@ -23,18 +24,8 @@ use Rattle.per_core.proofs.Strings.{string_within, day_within}
 use Rattle.per_core.proofs.Whole.{one_reading}
 use Rattle.per_core.proofs.Within.{Within, just_within, refused_within, then_within, if_within, relax, field_within, bounded_within}
 
-as_within : {X : Type 0} (make : X → Value) (spells : X → Spelling) (x : X) (v : Value) → v ≡ make x → {w : Writer} → Within w (spells x) → Within w (As make spells v)
+pub as_within : {X : Type 0} (make : X → Value) (spells : X → Spelling) (x : X) (v : Value) → v ≡ make x → {w : Writer} → Within w (spells x) → Within w (As make spells v)
 as_within make spells x v e h = relax (λ p b s. record { of = x; is = e; spelled = s }) h
-
--- values and lists
-as_values-values : (vs : Values) → as_values (values vs) ≡ vs
-as_values-values no_values = refl
-as_values-values (value v vs) = ap (value v) (as_values-values vs)
-
-as_slots-slots : (ss : Slots) → as_slots (slots ss) ≡ ss
-as_slots-slots no_slots = refl
-as_slots-slots (absent ss) = ap absent (as_slots-slots ss)
-as_slots-slots (there v ss) = ap (there v) (as_slots-slots ss)
 
 -- the order of a Set on members and rules alike
 insert-pairs : (n : ℕ) (m : Member) (r : Rule) (ms : List Member) (rs : List Rule) → Pair m r → Pairs ms rs → Pairs (insert_at n m ms) (insert_at n r rs)
@@ -44,7 +35,7 @@ insert-pairs (suc n) m r (q ∷ ms) (s ∷ rs) k ks = (ks.0, insert-pairs n m r 
 insert-pairs (suc n) m r [] (s ∷ rs) k ks = absurd ks
 insert-pairs (suc n) m r (q ∷ ms) [] k ks = absurd ks
 
-ordered-pairs : (o : Order) (ts : List Tag) (ms : List Member) (rs : List Rule) → Pairs ms rs → Pairs (ordered o ts ms) (ordered o ts rs)
+pub ordered-pairs : (o : Order) (ts : List Tag) (ms : List Member) (rs : List Rule) → Pairs ms rs → Pairs (ordered o ts ms) (ordered o ts rs)
 ordered-pairs listed ts ms rs k = k
 ordered-pairs by_tag ts [] [] k = tt
 ordered-pairs by_tag [] (m ∷ ms) (r ∷ rs) k = k
@@ -70,13 +61,13 @@ bit_within true b h = then_within (just_within (b ∷ [])) h
 bit_within false false h = then_within (just_within []) h
 bit_within false true h = record { within = λ p b e. absurd (cc) }
 
-bag_within : (a : Settings) (u : Bool) (e : Schema) (size : Size) (mark : Bool) (vs : Values) → ((v : Value) → Within (canon a.variant e v) (basic_in a u e v)) →
-    Within (written_if (same (bag_of (values vs)) (bag vs)) (counted a.variant size mark list_items (Canon.ascending (map (canon a.variant e) (values vs))))) (As bag_of (Lengthy a size mark list_items (basic_in a u e)) (bag vs))
-bag_within a u e size mark vs h = if_within (same (bag_of (values vs)) (bag vs)) (λ t.
+bag_within : (a : Settings) (e : Schema) (spells : Value → Spelling) (size : Size) (mark : Bool) (vs : Values) → ((v : Value) → Within (canon a.variant e v) (spells v)) →
+    Within (written_if (same (bag_of (values vs)) (bag vs)) (counted a.variant size mark list_items (Canon.ascending (map (canon a.variant e) (values vs))))) (As bag_of (Lengthy a size mark list_items spells) (bag vs))
+bag_within a e spells size mark vs h = if_within (same (bag_of (values vs)) (bag vs)) (λ t.
     let r = bag_rearranged (canon a.variant e) (λ f g. before (Canon.octet_key (f 0)) (Canon.octet_key (g 0))) (values vs) in
-    subst (λ l. Within (counted a.variant size mark list_items l) (As bag_of (Lengthy a size mark list_items (basic_in a u e)) (bag vs))) r.1
-    (as_within bag_of (Lengthy a size mark list_items (basic_in a u e)) r.0 (bag vs) (sym (same_true (bag_of (values vs)) (bag vs) t) ∙ sym r.2)
-    (counted_within (canon a.variant e) (basic_in a u e) h a size mark list_items r.0)))
+    subst (λ l. Within (counted a.variant size mark list_items l) (As bag_of (Lengthy a size mark list_items spells) (bag vs))) r.1
+    (as_within bag_of (Lengthy a size mark list_items spells) r.0 (bag vs) (sym (same_true (bag_of (values vs)) (bag vs) t) ∙ sym r.2)
+    (counted_within (canon a.variant e) spells h a size mark list_items r.0)))
 
 alternative_within : (a : Settings) (ext : Bool) (ms adds : List Member) (rs ads : List Rule) → Pairs ms rs → Pairs adds ads → (d : Side) (i : ℕ) (v : Value) →
     Within (choice_of a.variant ext ms adds d i v) (Basic.Alternative a ext rs ads d i v)
@@ -100,11 +91,11 @@ sized_octets : (a : Settings) (size : Size) (mark : Bool) (v : Value) → Within
 sized_octets a size mark (Value.octets os) = as_within Value.octets (Lengthy a size mark octet_items octet) os (Value.octets os) refl (counted_within (λ o. written_if (ltb o 256) (just (to_bits 8 o))) octet octet_each a size mark octet_items os)
 sized_octets a size mark _ = refused_within
 
-list_within : (a : Settings) (u : Bool) (e : Schema) (size : Size) (mark : Bool) → ((v : Value) → Within (canon a.variant e v) (basic_in a u e v)) → (v : Value) →
-    Within (on_elements (λ vs. counted a.variant size mark list_items (map (canon a.variant e) vs)) v) (As (λ vs. elements (as_values vs)) (Lengthy a size mark list_items (basic_in a u e)) v)
-list_within a u e size mark h (elements vs) = as_within (λ vs. elements (as_values vs)) (Lengthy a size mark list_items (basic_in a u e)) (values vs) (elements vs) (ap elements (sym (as_values-values vs)))
-    (counted_within (canon a.variant e) (basic_in a u e) h a size mark list_items (values vs))
-list_within a u e size mark h _ = refused_within
+pub list_within : (a : Settings) (e : Schema) (spells : Value → Spelling) (size : Size) (mark : Bool) → ((v : Value) → Within (canon a.variant e v) (spells v)) → (v : Value) →
+    Within (on_elements (λ vs. counted a.variant size mark list_items (map (canon a.variant e) vs)) v) (As (λ vs. elements (as_values vs)) (Lengthy a size mark list_items spells) v)
+list_within a e spells size mark h (elements vs) = as_within (λ vs. elements (as_values vs)) (Lengthy a size mark list_items spells) (values vs) (elements vs) (ap elements (sym (as_values-values vs)))
+    (counted_within (canon a.variant e) spells h a size mark list_items (values vs))
+list_within a e spells size mark h _ = refused_within
 
 fields_within : (a : Settings) (u : Bool) (o : Order) (ts : List Tag) (ext : Bool) (ms adds : List Member) (rs ads : List Rule) → Pairs ms rs → Pairs adds ads → (v : Value) →
     Within (on_fields (λ r x. record_of a.variant ext (ordered o ts ms) adds (ordered o ts r) x) v)
@@ -153,16 +144,16 @@ dates_within : (a : Settings) (v : Value) → Within (on_day (date_of a.variant)
 dates_within a (day y m d) = day_within a y m d
 dates_within a _ = refused_within
 
-choices_within : (a : Settings) (ext : Bool) (ms adds : List Member) (rs ads : List Rule) → Pairs ms rs → Pairs adds ads → (v : Value) →
+pub choices_within : (a : Settings) (ext : Bool) (ms adds : List Member) (rs ads : List Rule) → Pairs ms rs → Pairs adds ads → (v : Value) →
     Within (on_alternative (choice_of a.variant ext ms adds) v) (As (λ (x : Side × ℕ × Value). alternative x.0 x.1 x.2) (λ x. Basic.Alternative a ext rs ads x.0 x.1 x.2) v)
 choices_within a ext ms adds rs ads k k' (alternative d i v) = as_within (λ (x : Side × ℕ × Value). alternative x.0 x.1 x.2) (λ x. Basic.Alternative a ext rs ads x.0 x.1 x.2) (d, i, v) (alternative d i v) refl
     (alternative_within a ext ms adds rs ads k k' d i v)
 choices_within a ext ms adds rs ads k k' _ = refused_within
 
-bags_within : (a : Settings) (u : Bool) (e : Schema) (size : Size) (mark : Bool) → ((v : Value) → Within (canon a.variant e v) (basic_in a u e v)) → (v : Value) →
-    Within (on_bag (λ vs. counted a.variant size mark list_items (Canon.ascending (map (canon a.variant e) vs))) v) (As bag_of (Lengthy a size mark list_items (basic_in a u e)) v)
-bags_within a u e size mark h (bag vs) = bag_within a u e size mark vs h
-bags_within a u e size mark h _ = refused_within
+pub bags_within : (a : Settings) (e : Schema) (spells : Value → Spelling) (size : Size) (mark : Bool) → ((v : Value) → Within (canon a.variant e v) (spells v)) → (v : Value) →
+    Within (on_bag (λ vs. counted a.variant size mark list_items (Canon.ascending (map (canon a.variant e) vs))) v) (As bag_of (Lengthy a size mark list_items spells) v)
+bags_within a e spells size mark h (bag vs) = bag_within a e spells size mark vs h
+bags_within a e spells size mark h _ = refused_within
 
 mutual
   unfolding canon basic_in
@@ -182,8 +173,8 @@ mutual
   canonical a u (Schema.octet_string size mark) v = sized_octets a size mark v
   canonical a u (Schema.bit_string size mark) v = bits_within a size mark v
   canonical a u (Schema.char_string alphabet size mark) v = strings_within a alphabet size mark v
-  canonical a u (Schema.list e size mark) v = list_within a u e size mark (canonical a u e) v
-  canonical a u (Schema.set_of e size mark) v = bags_within a u e size mark (canonical a u e) v
+  canonical a u (Schema.list e size mark) v = list_within a e (basic_in a u e) size mark (canonical a u e) v
+  canonical a u (Schema.set_of e size mark) v = bags_within a e (basic_in a u e) size mark (canonical a u e) v
   canonical a u (Schema.sequence o ps ext adds) v = fields_within a u o (tags ps) ext (members a.variant ps) (members a.variant adds) (rules_in a u ps) (rules_in a u adds) (paired a u ps) (paired a u adds) v
   canonical a u (Schema.choice ps adds ext) v = choices_within a ext (members a.variant ps) (members a.variant adds) (rules_in a u ps) (rules_in a u adds) (paired a u ps) (paired a u adds) v
 

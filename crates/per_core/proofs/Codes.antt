@@ -12,7 +12,7 @@ equal_lists_same (x ∷ xs) (y ∷ ys) e = go (eqb x y) refl e (equal_lists_same
     go true h e r = let u : x ≡ y = eqb-true x y h in let v : xs ≡ ys = r e in cc
     go false h e r = absurd (cc)
 
-split_at_length : (xs ys s t : List ℕ) → length xs ≡ length ys → xs ++ s ≡ ys ++ t → (xs ≡ ys) × (s ≡ t)
+pub split_at_length : (xs ys s t : List ℕ) → length xs ≡ length ys → xs ++ s ≡ ys ++ t → (xs ≡ ys) × (s ≡ t)
 split_at_length [] [] s t l e = (refl, e)
 split_at_length [] (y ∷ ys) s t l e = absurd (omega arith)
 split_at_length (x ∷ xs) [] s t l e = absurd (omega arith)

@@ -1,15 +1,13 @@
 -- The octets of a complete encoding, one after another.
-use Rattle.std.proofs.Common.{◌≡◌, refl, sym, ap, ◌∙◌, ℕ, zero, suc, ◌+◌, ◌-◌, ◌*◌, ◌/◌, ◌%◌, ◌^◌, ◌<◌, ◌≤◌, false, max, min, Bool, true, leb, List, [], ◌∷◌, ◌++◌, length, take, drop, replicate, arith, length-append, length-take, length-drop, append_assoc, append-nil, add-zero, subst}
+use Rattle.std.proofs.Common.{◌≡◌, refl, sym, ap, ◌∙◌, ℕ, suc, ◌+◌, ◌-◌, ◌*◌, ◌/◌, ◌%◌, ◌^◌, ◌<◌, ◌≤◌, false, max, min, Bool, true, leb, List, [], ◌∷◌, ◌++◌, length, take, drop, replicate, arith, length-append, length-take, length-drop, append_assoc, append-nil, add-zero, subst}
 use Rattle.std.proofs.Math.Seq.{take-length, take-append-add}
 use Rattle.std.proofs.lemmas.List.{length-replicate, take-append-le, take-replicate}
 use Rattle.std.proofs.lemmas.Bool.{leb-true, leb-false}
 use Rattle.rasn_types.specs.Bits.{Bits, number_of, pack}
+use Rattle.rasn_types.proofs.Bits.{number_below}
+use Rattle.rasn_types.proofs.Reading.{number_of-append}
+use Rattle.rasn_types.proofs.Packing.{number-zeros}
 use Rattle.per_core.specs.Writers.{complete}
-use Rattle.per_bits.proofs.Numbers.{number_of-append, number_below}
-
-zeros : (n : ℕ) → number_of (replicate n false) ≡ 0
-zeros zero = refl
-zeros (suc n) = omega (arith, zeros n)
 
 -- the first octet of some bits, with zero bits where they are few
 padded : (bits : Bits) (count : ℕ) → count ≡ min (length bits) 8 → take 8 (bits ++ replicate 8 false) ≡ take count bits ++ replicate (8 - count) false
@@ -31,7 +29,7 @@ padded bits count e = go (leb 8 (length bits)) refl
 
 -- zero bits behind a number double it each
 number_of-zeros : (b : Bits) (n : ℕ) → number_of (b ++ replicate n false) ≡ number_of b * 2 ^ n
-number_of-zeros b n = number_of-append b (replicate n false) ∙ ap (λ (k : ℕ). number_of b * 2 ^ length (replicate n false) + k) (zeros n) ∙ add-zero (number_of b * 2 ^ length (replicate n false)) ∙ ap (λ (k : ℕ). number_of b * 2 ^ k) (length-replicate n false)
+number_of-zeros b n = number_of-append b (replicate n false) ∙ ap (λ (k : ℕ). number_of b * 2 ^ length (replicate n false) + k) (number-zeros n) ∙ add-zero (number_of b * 2 ^ length (replicate n false)) ∙ ap (λ (k : ℕ). number_of b * 2 ^ k) (length-replicate n false)
 
 -- the octet that a number of the first bits makes when it is moved up
 octet : (bits : Bits) (count : ℕ) → count ≡ min (length bits) 8 → number_of (take count bits) * 2 ^ (8 - count) ≡ number_of (take 8 (bits ++ replicate 8 false))

@@ -1,25 +1,24 @@
 -- A complete encoding is what is read and how it ends.
-use Rattle.std.proofs.Common.{◌≡◌, ◌<◌, ◌⊎◌, inl, inr, refl, sym, ap, ◌∙◌, subst, ℕ, ◌+◌, ◌*◌, ◌/◌, false, List, [], ◌∷◌, ◌++◌, length, replicate, length-append, append-nil, ◌%◌, ◌^◌, arith}
+use Rattle.std.proofs.Common.{◌≡◌, ◌<◌, inl, inr, refl, sym, ap, ◌∙◌, subst, ℕ, false, List, [], ◌∷◌, ◌++◌, length, replicate, length-append, append-nil, arith}
 use Rattle.rasn_types.specs.Bits.{Bits, AreOctets, to_bits, number_of, unpack}
 use Rattle.rasn_types.specs.Variants.{Variant}
 use Rattle.rasn_types.specs.Values.{Value}
+use Rattle.rasn_types.proofs.Bits.{length-unpack, number-to_bits}
 use Rattle.rasn_schema.specs.Schemas.{Schema}
-use Rattle.per_core.specs.Spellings.{Settings, Spelling}
-use Rattle.per_core.specs.Basic.{basic, fills, Fills}
+use Rattle.per_core.specs.Spellings.{Settings}
+use Rattle.per_core.specs.Basic.{basic, fills}
 use Rattle.per_core.specs.Took.{Took, place}
 use Rattle.per_core.specs.Ends.{Ends}
-use Rattle.per_core.proofs.Within.{number-to_bits}
-use Rattle.per_core.proofs.Laws.{length_unpack}
 
 abbrev pub loose : Variant → Settings
 loose a = record { variant = a; strict = false }
 
 pub place-unpack : (os : List ℕ) → place (unpack os) ≡ 0
-place-unpack os = omega (arith, length_unpack os)
+place-unpack os = omega (arith, length-unpack os)
 
 -- one octet of eight zero bits is zero
 pub zero_octet : (os : List ℕ) → AreOctets os → unpack os ≡ replicate 8 false → os ≡ 0 ∷ []
-zero_octet os h e = go os h e (omega (arith, length_unpack os, ap length e))
+zero_octet os h e = go os h e (omega (arith, length-unpack os, ap length e))
   where
     go : (os : List ℕ) → AreOctets os → unpack os ≡ replicate 8 false → length os ≡ 1 → os ≡ 0 ∷ []
     go [] h e l = absurd (omega arith)

@@ -1,9 +1,10 @@
 -- The laws of whole encodings.
-use Rattle.std.proofs.Common.{◌≡◌, ◌↔◌, refl, sym, ap, ◌∙◌, subst, ℕ, true, false, List, [], ◌∷◌, arith, inl, inr, Option, Some, None, zero, suc, ◌+◌, ◌*◌, ◌<◌, ◌≤◌, ◌++◌, length, append_assoc, length-append, max, take, drop, replicate, length-take, ◌/◌, ◌^◌}
-use Rattle.std.proofs.Math.Nat.{pow-le-pow_right}
-use Rattle.rasn_types.specs.Bits.{Bits, to_bits, number_of, pack, unpack, AreOctets}
+use Rattle.std.proofs.Common.{◌≡◌, ◌↔◌, refl, sym, ap, ◌∙◌, subst, ℕ, true, false, List, [], ◌∷◌, arith, inl, inr, Option, Some, None, ◌+◌, ◌*◌, ◌<◌, ◌++◌, length, append_assoc, length-append, max, ◌/◌}
+use Rattle.rasn_types.specs.Bits.{Bits, unpack, AreOctets}
 use Rattle.rasn_types.specs.Values.{Value}
 use Rattle.rasn_types.specs.Variants.{Variant}
+use Rattle.rasn_types.proofs.Bits.{length-unpack, unpack-append}
+use Rattle.rasn_types.proofs.Octets.{length-pack, octets-pack}
 use Rattle.rasn_schema.specs.Normal.{normal}
 use Rattle.rasn_schema.specs.Schemas.{Schema}
 use Rattle.per_core.specs.Basic.{basic, fills, Fills, Fronts, front}
@@ -12,12 +13,12 @@ use Rattle.per_core.specs.Spellings.{Settings, Spelling}
 use Rattle.per_core.specs.Writers.{complete}
 use Rattle.per_core.proofs.Agree.{Agree}
 use Rattle.per_core.proofs.Canonical.{canonical}
-use Rattle.per_core.proofs.Lengths.{number_below}
 use Rattle.per_core.proofs.Positions.{canon_p}
 use Rattle.per_core.proofs.Presenting.{unpack-complete}
 use Rattle.per_core.proofs.Unique.{fills_agree}
 use Rattle.per_core.proofs.Whole.{one_reading}
 use Rattle.per_core.proofs.Within.{zero_if}
+use Rattle.per_core.proofs.Codes.{split_at_length}
 
 -- octets are a complete encoding of at most one value
 pub one_value : (a : Settings) (s : Schema) (v w : Value) (os : List ℕ) → fills a s v os → fills a s w os → v ≡ w
@@ -51,55 +52,27 @@ same_normal_bytes a s v w b c e f =
     bytes_at h = cc
 
 -- whole octets, at least one
-octets_packed : (n : ℕ) (b : Bits) → AreOctets (pack n b)
-octets_packed zero b = tt
-octets_packed (suc n) b = (small (take 8 (b ++ replicate 8 false)) (omega (arith, length-take 8 (b ++ replicate 8 false))), octets_packed n (drop 8 b))
-  where
-    small : (t : Bits) → length t ≤ 8 → number_of t < 256
-    small t l = let h = number_below t in let k : 2 ^ length t ≤ 2 ^ 8 = pow-le-pow_right (omega arith) l in omega arith
-
-length_pack : (n : ℕ) (b : Bits) → length (pack n b) ≡ n
-length_pack zero b = refl
-length_pack (suc n) b = ap suc (length_pack n (drop 8 b))
-
 pub whole_octets : (a : Settings) (s : Schema) (v : Value) (os : List ℕ) → bytes a.variant s v ≡ Some os → (0 < length os) × AreOctets os
 unfolding bytes
 whole_octets a s v os e = go (canon a.variant s v 0) e
   where
     go : (o : Option Bits) → completed o ≡ Some os → (0 < length os) × AreOctets os
     go None e = absurd (cc)
-    go (Some bs) e = let h : complete bs ≡ os = cc in subst (λ z. (0 < length z) × AreOctets z) h (omega (arith, length_pack (max 1 ((length bs + 7) / 8)) bs), octets_packed (max 1 ((length bs + 7) / 8)) bs)
-
-pub length_unpack : (os : List ℕ) → length (unpack os) ≡ 8 * length os
-length_unpack [] = refl
-length_unpack (o ∷ os) = length-append (to_bits 8 o) (unpack os) ∙ ap (λ (k : ℕ). 8 + k) (length_unpack os) ∙ (omega arith)
-
-unpack_append : (os ps : List ℕ) → unpack (os ++ ps) ≡ unpack os ++ unpack ps
-unpack_append [] ps = refl
-unpack_append (o ∷ os) ps = ap (λ z. to_bits 8 o ++ z) (unpack_append os ps) ∙ sym (append_assoc (to_bits 8 o) (unpack os) (unpack ps))
-
-pub cut_even : (xs ys us vs : List ℕ) → length xs ≡ length ys → xs ++ us ≡ ys ++ vs → (xs ≡ ys) × (us ≡ vs)
-cut_even [] [] us vs l e = (refl, e)
-cut_even [] (y ∷ ys) us vs l e = absurd (omega arith)
-cut_even (x ∷ xs) [] us vs l e = absurd (omega arith)
-cut_even (x ∷ xs) (y ∷ ys) us vs l e =
-    let h : x ≡ y = cc in let e' : xs ++ us ≡ ys ++ vs = cc in
-    let r = cut_even xs ys us vs (omega arith) e' in
-    let i : xs ≡ ys = r.0 in (cc, r.1)
+    go (Some bs) e = let h : complete bs ≡ os = cc in subst (λ z. (0 < length z) × AreOctets z) h (omega (arith, length-pack (max 1 ((length bs + 7) / 8)) bs), octets-pack (max 1 ((length bs + 7) / 8)) bs)
 
 -- the bits of a front and all that follows
 in_front : {f : Spelling} (a : Settings) (os rest : List ℕ) (x : Fronts a f os) → unpack (os ++ rest) ≡ x.front ++ (x.spare ++ unpack rest)
-in_front a os rest x = unpack_append os rest ∙ ap (λ z. z ++ unpack rest) x.all ∙ append_assoc x.front x.spare (unpack rest)
+in_front a os rest x = unpack-append os rest ∙ ap (λ z. z ++ unpack rest) x.all ∙ append_assoc x.front x.spare (unpack rest)
 
 -- two readings of fronts of the same octets take the same octets
 pub fronts_agree : {P : Type 0} {f g : Spelling} (a : Settings) (os rest os' rest' : List ℕ) → Agree P f g → Fills a f os → Fills a g os' → os ++ rest ≡ os' ++ rest' → P × (os ≡ os') × (rest ≡ rest')
 fronts_agree a os rest os' rest' w (inl x) (inl y) e =
     let r = w.agree 0 x.front y.front (x.spare ++ unpack rest) (y.spare ++ unpack rest') x.spelled y.spelled (sym (in_front a os rest x) ∙ ap unpack e ∙ in_front a os' rest' y) in
-    let lx : 8 * length os ≡ length x.front + length x.spare = sym (length_unpack os) ∙ ap length x.all ∙ length-append x.front x.spare in
-    let ly : 8 * length os' ≡ length y.front + length y.spare = sym (length_unpack os') ∙ ap length y.all ∙ length-append y.front y.spare in
+    let lx : 8 * length os ≡ length x.front + length x.spare = sym (length-unpack os) ∙ ap length x.all ∙ length-append x.front x.spare in
+    let ly : 8 * length os' ≡ length y.front + length y.spare = sym (length-unpack os') ∙ ap length y.all ∙ length-append y.front y.spare in
     let lf : length x.front ≡ length y.front = ap length r.1 in
     let sx = x.short in let sy = y.short in
-    let q = cut_even os os' rest rest' (omega arith) e in
+    let q = split_at_length os os' rest rest' (omega arith) e in
     (r.0, q.0, q.1)
 fronts_agree a os rest os' rest' w (inl x) (inr y) e =
     let r = w.agree 0 x.front [] (x.spare ++ unpack rest) (unpack (os' ++ rest')) x.spelled y.0 (sym (in_front a os rest x) ∙ ap unpack e) in
@@ -111,7 +84,7 @@ fronts_agree a os rest os' rest' w (inr x) (inl y) e =
     let s = y.some in absurd (omega arith)
 fronts_agree a os rest os' rest' w (inr x) (inr y) e =
     let r = w.agree 0 [] [] [] [] x.0 y.0 refl in
-    let q = cut_even os os' rest rest' (ap length (x.1 ∙ sym y.1)) e in
+    let q = split_at_length os os' rest rest' (ap length (x.1 ∙ sym y.1)) e in
     (r.0, q.0, q.1)
 
 -- what is read of a front is one value, and one rest

@@ -1,7 +1,8 @@
 -- Counts, rows and numbers: what two readings of the same bits have in common.
-use Rattle.std.proofs.Common.{◌≡◌, refl, sym, ap, ◌∙◌, subst, ℕ, zero, suc, ◌+◌, ◌-◌, ◌*◌, ◌/◌, ◌^◌, ◌<◌, ◌≤◌, Bool, true, false, cond, ◌&&◌, leb, ltb, eqb, List, [], ◌∷◌, ◌++◌, length, arith, inl, inr, Option, Some, None, pow-suc, leb-true}
+use Rattle.std.proofs.Common.{◌≡◌, refl, sym, ap, ◌∙◌, subst, ℕ, zero, suc, ◌+◌, ◌-◌, ◌*◌, ◌/◌, ◌^◌, ◌<◌, ◌≤◌, Bool, true, false, cond, ◌&&◌, ◌||◌, leb, ltb, eqb, List, [], ◌∷◌, ◌++◌, length, arith, inl, inr, Option, Some, None, leb-true}
 use Rattle.rasn_types.specs.Bits.{Bits, width, number_of}
 use Rattle.rasn_types.specs.Variants.{Variant, aligned, unaligned}
+use Rattle.rasn_types.proofs.Bits.{number_below}
 use Rattle.rasn_constraints.specs.Bounds.{allows, Size, any_size}
 use Rattle.per_core.specs.Basic.{Row, InOctets, bounded_form, bounded_by, IsBounded, LastCount, Fragment, InFragments, Unsized, PaddingIf, length_form, Sized, Lengthy, octet, Octets}
 use Rattle.per_core.specs.Counts.{Counted, octet_items, is_aligned}
@@ -15,6 +16,18 @@ and_left false b e = e
 pub and_right : (a b : Bool) → (a && b) ≡ true → b ≡ true
 and_right true b e = e
 and_right false b e = absurd (cc)
+
+pub and_no : (a b : Bool) → b ≡ false → (a && b) ≡ false
+and_no true b e = e
+and_no false b e = refl
+
+pub or_left : (a b : Bool) → (a || b) ≡ false → a ≡ false
+or_left false b e = refl
+or_left true b e = e
+
+pub or_right : (a b : Bool) → (a || b) ≡ false → b ≡ false
+or_right false b e = e
+or_right true b e = absurd (cc)
 
 -- two lists whose members are related
 abbrev pub Zip : {X Y : Type 0} → (X → Y → Type 0) → List X → List Y → Type 0
@@ -40,11 +53,6 @@ module _ {X Y : Type 0} (R : X → Y → Type 0) (f : X → Spelling) (g : Y →
   row_agree [] (y ∷ ys) l = absurd (omega arith)
   row_agree (x ∷ xs) [] l = absurd (omega arith)
   row_agree (x ∷ xs) (y ∷ ys) l = then_agree (each x y) (λ r. row_agree xs ys (omega arith))
-
-pub number_below : (b : Bits) → number_of b < 2 ^ length b
-number_below [] = omega arith
-number_below (true ∷ b) = omega (arith, number_below b, pow-suc 2 (length b))
-number_below (false ∷ b) = omega (arith, number_below b, pow-suc 2 (length b))
 
 pub in_octets_agree : (a : Settings) (n o o' : ℕ) → Agree (o ≡ o') (InOctets a n o) (InOctets a n o')
 in_octets_agree a n o o' = record {

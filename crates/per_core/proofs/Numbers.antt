@@ -1,26 +1,19 @@
 -- Numbers as they are written mean themselves.
-use Rattle.std.proofs.Common.{◌≡◌, refl, sym, ap, ◌∙◌, subst, ℕ, zero, suc, ◌+◌, ◌-◌, ◌*◌, ◌/◌, ◌%◌, ◌^◌, ◌<◌, ◌≤◌, Bool, true, false, cond, ◌&&◌, leb, ltb, [], ◌∷◌, ◌++◌, length, replicate, arith, Option, Some, None, ℤ, pos, negsuc, ltb-true, append-nil, mod-eq_of_lt, pow-suc, pow_mono, le-leb}
-use Rattle.std.proofs.lemmas.Bool.{lt-leb}
-use Rattle.std.proofs.Math.Nat.{add-mod_right}
-use Rattle.rasn_types.specs.Bits.{Bits, to_bits, number_of, pack, unpack, width}
-use Rattle.rasn_types.specs.Octets.{natural_bits, whole_bits, octets_of_natural, octets_of_whole, twos_complement, unsigned, signed, signed_bits}
+use Rattle.std.proofs.Common.{◌≡◌, refl, sym, ap, ◌∙◌, subst, ℕ, ◌+◌, ◌*◌, ◌/◌, ◌%◌, ◌<◌, Bool, true, false, cond, ◌&&◌, ltb, [], ◌∷◌, length, arith, Option, Some, None, ℤ, pos, ltb-true, mod-eq_of_lt, le-leb}
+use Rattle.rasn_types.specs.Bits.{Bits, to_bits, number_of, pack, unpack}
+use Rattle.rasn_types.specs.Octets.{natural_bits, whole_bits, octets_of_natural, octets_of_whole, unsigned, signed, signed_bits}
+use Rattle.rasn_types.proofs.Bits.{length-to_bits, number-to_bits}
+use Rattle.rasn_types.proofs.Octets.{length-pack, unpack-pack, length-whole_bits, octets_of_whole_some, signed_bits-whole_bits}
 use Rattle.rasn_constraints.specs.Bounds.{holds, fits_i128, above, Bounds, unbounded}
 use Rattle.per_core.specs.Basic.{InNatural, InWhole, number_spelling, IsNumber, IsNumberOf, Marked, Small}
 use Rattle.per_core.specs.Counts.{counted_octets, number_under, number_form, marked_form, small}
 use Rattle.per_core.specs.Spellings.{Settings, exactly, Then, Field}
 use Rattle.per_core.specs.Writers.{just, ◌▹◌, written_if}
-use Rattle.per_core.proofs.Presenting.{unpack-pack, octets_within}
-use Rattle.per_core.proofs.Within.{Within, just_within, then_within, if_within, relax, left_within, right_within, when_within, field_within, bounded_within, number-to_bits, length-to_bits, natural_fits, width_holds}
-
-length-pack : (n : ℕ) (b : Bits) → length (pack n b) ≡ n
-length-pack zero b = refl
-length-pack (suc n) b = ap suc (length-pack n _)
+use Rattle.per_core.proofs.Presenting.{octets_within}
+use Rattle.per_core.proofs.Within.{Within, just_within, then_within, if_within, relax, left_within, right_within, when_within, field_within, bounded_within, natural_fits}
 
 whole_octets : (k : ℕ) (b : Bits) → length b ≡ 8 * k → unpack (pack (length b / 8) b) ≡ b
-whole_octets k b l = unpack-pack (length b / 8) b (omega arith) ∙ ap (λ (n : ℕ). b ++ replicate n false) none ∙ append-nil b
-  where
-    none : 8 * (length b / 8) - length b ≡ 0
-    none = omega arith
+whole_octets k b l = unpack-pack (length b / 8) b (omega arith)
 
 natural_octets : (a : Settings) (n : ℕ) → Within (counted_octets a.variant (natural_bits n)) (InNatural a n)
 unfolding counted_octets natural_bits octets_of_natural
@@ -41,70 +34,15 @@ natural_octets a n = relax (λ p b x. record { octets = pack (length bits / 8) b
     means : unsigned (pack (length bits / 8) bits) ≡ n
     means = ap number_of (whole_octets (octets_of_natural n) bits wide) ∙ number-to_bits (8 * octets_of_natural n) n ∙ mod-eq_of_lt (natural_fits n)
 
-signed_pos : (w n : ℕ) → n < 2 ^ w → signed_bits (to_bits (suc w) n) ≡ pos n
-signed_pos w n h = ap (λ b. signed_bits (b ∷ to_bits w n)) top ∙ ap pos (number-to_bits w n ∙ mod-eq_of_lt h)
-  where
-    top : leb (2 ^ w) (n % 2 ^ suc w) ≡ false
-    top = ap (λ (k : ℕ). leb (2 ^ w) k) (mod-eq_of_lt (omega (arith, pow-suc 2 w))) ∙ lt-leb (2 ^ w) n h
-
-signed_neg : (w n : ℕ) → n < 2 ^ w → signed_bits (to_bits (suc w) (2 ^ suc w - (n + 1))) ≡ negsuc n
-signed_neg w n h = ap (λ b. signed_bits (b ∷ to_bits w (2 ^ suc w - (n + 1)))) top ∙ ap negsuc value
-  where
-    twice : 2 ^ suc w ≡ 2 ^ w + 2 ^ w
-    twice = pow-suc 2 w ∙ omega arith
-
-    m : ℕ
-    m = 2 ^ suc w - (n + 1)
-
-    is : m ≡ (2 ^ w - (n + 1)) + 2 ^ w
-    is = let t = twice in omega arith
-
-    top : leb (2 ^ w) (m % 2 ^ suc w) ≡ true
-    top = ap (λ (k : ℕ). leb (2 ^ w) k) (mod-eq_of_lt (let t = twice in let i = is in omega arith)) ∙ le-leb (2 ^ w) m (let i = is in omega arith)
-
-    rest : number_of (to_bits w m) ≡ 2 ^ w - (n + 1)
-    rest = number-to_bits w m ∙ ap (λ (k : ℕ). k % 2 ^ w) is ∙ add-mod_right (2 ^ w - (n + 1)) (2 ^ w) ∙ mod-eq_of_lt (omega arith)
-
-    value : 2 ^ length (to_bits w m) - 1 - number_of (to_bits w m) ≡ n
-    value = ap (λ (k : ℕ). 2 ^ k - 1 - number_of (to_bits w m)) (length-to_bits w m) ∙ ap (λ (k : ℕ). 2 ^ w - 1 - k) rest ∙ omega arith
-
-signed_value : (z : ℤ) → signed_bits (whole_bits z) ≡ z
-unfolding whole_bits octets_of_whole
-signed_value (pos n) = ap (λ (k : ℕ). signed_bits (to_bits k n)) (at n) ∙ signed_pos (8 * (width (n + 1) / 8) + 7) n (small n)
-  where
-    at : (n : ℕ) → 8 * (width (n + 1) / 8 + 1) ≡ suc (8 * (width (n + 1) / 8) + 7)
-    at n = omega arith
-
-    small : (n : ℕ) → n < 2 ^ (8 * (width (n + 1) / 8) + 7)
-    small n = let h = width_holds (n + 1) in let k : width (n + 1) ≤ 8 * (width (n + 1) / 8) + 7 = omega arith in
-        let l = pow_mono {i = width (n + 1)} {j = 8 * (width (n + 1) / 8) + 7} k in omega arith
-signed_value (negsuc n) = ap (λ (k : ℕ). signed_bits (to_bits k (2 ^ k - (n + 1)))) (at n) ∙ signed_neg (8 * (width (n + 1) / 8) + 7) n (small n)
-  where
-    at : (n : ℕ) → 8 * (width (n + 1) / 8 + 1) ≡ suc (8 * (width (n + 1) / 8) + 7)
-    at n = omega arith
-
-    small : (n : ℕ) → n < 2 ^ (8 * (width (n + 1) / 8) + 7)
-    small n = let h = width_holds (n + 1) in let k : width (n + 1) ≤ 8 * (width (n + 1) / 8) + 7 = omega arith in
-        let l = pow_mono {i = width (n + 1)} {j = 8 * (width (n + 1) / 8) + 7} k in omega arith
-
-length-whole : (z : ℤ) → length (whole_bits z) ≡ 8 * octets_of_whole z
-unfolding whole_bits
-length-whole z = length-to_bits (8 * octets_of_whole z) (twos_complement (8 * octets_of_whole z) z)
-
-whole_some : (z : ℤ) → 0 < octets_of_whole z
-unfolding octets_of_whole
-whole_some (pos n) = omega arith
-whole_some (negsuc n) = omega arith
-
 pub whole_in_octets : (a : Settings) (z : ℤ) → Within (counted_octets a.variant (whole_bits z)) (InWhole a z)
 unfolding counted_octets
 whole_in_octets a z = relax (λ p b x. record { octets = pack (length (whole_bits z) / 8) (whole_bits z); some = some; means = means; spelled = x }) (octets_within a (pack (length (whole_bits z) / 8) (whole_bits z)))
   where
     some : 0 < length (pack (length (whole_bits z) / 8) (whole_bits z))
-    some = subst (λ (k : ℕ). 0 < k) (sym (length-pack (length (whole_bits z) / 8) (whole_bits z))) (omega (arith, length-whole z, whole_some z))
+    some = subst (λ (k : ℕ). 0 < k) (sym (length-pack (length (whole_bits z) / 8) (whole_bits z))) (omega (arith, length-whole_bits z, octets_of_whole_some z))
 
     means : signed (pack (length (whole_bits z) / 8) (whole_bits z)) ≡ z
-    means = ap signed_bits (whole_octets (octets_of_whole z) (whole_bits z) (length-whole z)) ∙ signed_value z
+    means = ap signed_bits (whole_octets (octets_of_whole z) (whole_bits z) (length-whole_bits z)) ∙ signed_bits-whole_bits z
 
 under_within : (a : Settings) (l u : Option ℤ) (z : ℤ) → Within (number_under a.variant l u z) (number_spelling a l u z)
 unfolding number_under

@@ -1,11 +1,10 @@
 -- What canon writes of records, choices and open types has a spelling.
-use Rattle.std.proofs.Common.{◌≡◌, refl, sym, ap, ◌∙◌, subst, ℕ, zero, suc, ◌+◌, ◌-◌, ◌*◌, ◌/◌, ◌%◌, ◌^◌, ◌<◌, ◌≤◌, max, Bool, true, false, cond, not, leb, ltb, List, [], ◌∷◌, ◌++◌, length, take, drop, replicate, append_assoc, length-append, arith, inl, inr, Option, Some, None, leb-true, ltb-true, one-add, mod-eq_of_lt, le-leb, add_comm, suc-add, ap₂, length-take, length-drop, drop_of_length-le, take-append-drop}
-use Rattle.std.proofs.lemmas.Bool.{cases_lt, lt-leb}
-use Rattle.std.proofs.lemmas.List.{take-append-le}
-use Rattle.std.proofs.Math.Nat.{add-mod_right}
-use Rattle.std.proofs.Math.Pow.{mod-mod-pow}
+use Rattle.std.proofs.Common.{◌≡◌, refl, sym, ap, ◌∙◌, subst, ℕ, zero, suc, ◌+◌, ◌-◌, ◌*◌, ◌/◌, ◌%◌, ◌<◌, ◌≤◌, max, Bool, true, false, cond, not, leb, ltb, List, [], ◌∷◌, ◌++◌, length, take, drop, replicate, append_assoc, length-append, arith, inl, inr, Option, Some, None, leb-true, ltb-true, suc-add, ap₂, length-take, length-drop, drop_of_length-le, take-append-drop}
+use Rattle.std.proofs.lemmas.Bool.{cases_lt}
+use Rattle.std.proofs.lemmas.List.{length-replicate, take-append-le}
 use Rattle.rasn_types.specs.Bits.{Bits, to_bits, number_of, pack, unpack}
 use Rattle.rasn_types.specs.Values.{Value, same}
+use Rattle.rasn_types.proofs.Octets.{octet_again}
 use Rattle.rasn_constraints.specs.Bounds.{any_size}
 use Rattle.rasn_schema.specs.Schemas.{Presence, required, optional, group, default}
 use Rattle.per_core.specs.Basic.{Sized, octet, bit, Octets, Fills, Open, Rule, FlagOf, Flags, IsLeftOut, Body, Bodies, Root, Additions_in, IsBitmap, Fields_in}
@@ -15,7 +14,6 @@ use Rattle.per_core.specs.Spellings.{Settings, Spelling, exactly, Then, Either, 
 use Rattle.per_core.specs.Writers.{complete, Writer, just, ◌▹◌, join, written_if}
 use Rattle.per_core.proofs.Codes.{same_true}
 use Rattle.per_core.proofs.Counting.{counted_within}
-use Rattle.per_core.proofs.Lengths.{number_below}
 use Rattle.per_core.proofs.Positions.{Periodic, then_p, flags_p}
 use Rattle.per_core.proofs.Within.{zero_if, Within, just_within, refused_within, then_within, if_within, relax, left_within, right_within, when_within, field_within}
 
@@ -92,41 +90,9 @@ pub root_within : (ms : List Member) (rs : List Rule) → Pairs ms rs → (ss : 
 root_within ms rs k ss = relax (λ p b x. record { shown = bools ms ss; spelled = x }) (then_within (flags_within ms rs k ss) (bodies_within ms rs k ss))
 
 -- octets
-to_bits-same : (w n m : ℕ) → n % 2 ^ w ≡ m % 2 ^ w → to_bits w n ≡ to_bits w m
-to_bits-same zero n m e = refl
-to_bits-same (suc w) n m e =
-    let h : n % 2 ^ w ≡ m % 2 ^ w = sym (shorter n) ∙ ap (λ (k : ℕ). k % 2 ^ w) e ∙ shorter m in
-    let r : to_bits w n ≡ to_bits w m = to_bits-same w n m h in cc
-  where
-    shorter : (n : ℕ) → n % 2 ^ suc w % 2 ^ w ≡ n % 2 ^ w
-    shorter n = ap (λ (z : ℕ). n % 2 ^ z % 2 ^ w) (sym (one-add w)) ∙ mod-mod-pow n 1 w
-
-pub to_bits-number : (b : Bits) → to_bits (length b) (number_of b) ≡ b
-to_bits-number [] = refl
-to_bits-number (x ∷ b) =
-    let l = number_below (x ∷ b) in
-    let m : number_of (x ∷ b) % 2 ^ suc (length b) ≡ number_of (x ∷ b) = mod-eq_of_lt l in
-    let t : leb (2 ^ length b) (number_of (x ∷ b) % 2 ^ suc (length b)) ≡ x = ap (λ (k : ℕ). leb (2 ^ length b) k) m ∙ top x in
-    let r : to_bits (length b) (number_of (x ∷ b)) ≡ b = to_bits-same (length b) (number_of (x ∷ b)) (number_of b) (low x) ∙ to_bits-number b in cc
-  where
-    top : (x : Bool) → leb (2 ^ length b) (number_of (x ∷ b)) ≡ x
-    top true = le-leb (2 ^ length b) (2 ^ length b + number_of b) (omega arith)
-    top false = lt-leb (2 ^ length b) (0 + number_of b) (omega (arith, number_below b))
-
-    low : (x : Bool) → number_of (x ∷ b) % 2 ^ length b ≡ number_of b % 2 ^ length b
-    low true = ap (λ (k : ℕ). k % 2 ^ length b) (add_comm (2 ^ length b) (number_of b)) ∙ add-mod_right (number_of b) (2 ^ length b)
-    low false = ap (λ (k : ℕ). k % 2 ^ length b) (omega arith)
-
-octet_again : (t : Bits) → length t ≡ 8 → to_bits 8 (number_of t) ≡ t
-octet_again t l = ap (λ (k : ℕ). to_bits k (number_of t)) (sym l) ∙ to_bits-number t
-
 zeros-add : (n m : ℕ) → replicate n false ++ replicate m false ≡ replicate (n + m) false
 zeros-add zero m = ap (λ (k : ℕ). replicate k false) (omega arith)
 zeros-add (suc n) m = ap (λ z. false ∷ z) (zeros-add n m) ∙ ap (λ (k : ℕ). replicate k false) (sym (suc-add n m))
-
-length-zeros : (n : ℕ) → length (replicate n false) ≡ n
-length-zeros zero = refl
-length-zeros (suc n) = ap suc (length-zeros n)
 
 take-short : (k n : ℕ) (b : Bits) → length b + k ≡ n → (m : ℕ) → k ≤ m → take n (b ++ replicate m false) ≡ b ++ replicate k false
 take-short zero zero [] e m h = refl
@@ -144,7 +110,7 @@ unpack-pack (suc n) b h = elim (cases_lt (length b) 8) [
   | inl l ↦
       (let t : take 8 (b ++ replicate 8 false) ≡ b ++ replicate (8 - length b) false = take-short (8 - length b) 8 b (omega arith) 8 (omega arith) in
       let u : to_bits 8 (number_of (take 8 (b ++ replicate 8 false))) ≡ b ++ replicate (8 - length b) false
-      = ap (λ z. to_bits 8 (number_of z)) t ∙ octet_again (b ++ replicate (8 - length b) false) (length-append b (replicate (8 - length b) false) ∙ ap (λ (k : ℕ). length b + k) (length-zeros (8 - length b)) ∙ omega arith) in
+      = ap (λ z. to_bits 8 (number_of z)) t ∙ octet_again (b ++ replicate (8 - length b) false) (length-append b (replicate (8 - length b) false) ∙ ap (λ (k : ℕ). length b + k) (length-replicate (8 - length b) false) ∙ omega arith) in
       let l8 : length b ≤ 8 = omega arith in let d : drop 8 b ≡ [] = drop_of_length-le b l8 in
       let r : unpack (pack n (drop 8 b)) ≡ replicate (8 * n) false = ap (λ z. unpack (pack n z)) d ∙ unpack-pack n [] (omega arith) ∙ ap (λ (k : ℕ). replicate k false) (omega arith) in
       ap₂ (λ x y. x ++ y) u r ∙ append_assoc b (replicate (8 - length b) false) (replicate (8 * n) false) ∙ ap (λ z. b ++ z) (zeros-add (8 - length b) (8 * n) ∙ ap (λ (k : ℕ). replicate k false) (omega arith)))
@@ -160,8 +126,8 @@ pub unpack-complete : (b : Bits) → 0 < length b → (spare : Bits) × (unpack 
 unpack-complete b h = (
   replicate (8 * max 1 ((length b + 7) / 8) - length b) false,
   unpack-pack (max 1 ((length b + 7) / 8)) b (omega arith),
-  subst (λ (k : ℕ). k < 8) (sym (length-zeros (8 * max 1 ((length b + 7) / 8) - length b))) (omega arith),
-  ap (λ (k : ℕ). replicate k false) (sym (length-zeros (8 * max 1 ((length b + 7) / 8) - length b))),
+  subst (λ (k : ℕ). k < 8) (sym (length-replicate (8 * max 1 ((length b + 7) / 8) - length b) false)) (omega arith),
+  ap (λ (k : ℕ). replicate k false) (sym (length-replicate (8 * max 1 ((length b + 7) / 8) - length b) false)),
 )
 
 pub octets_within : (a : Settings) (os : List ℕ) → Within (octets_unsized a.variant os) (Octets a os)
@@ -180,7 +146,8 @@ open_within a w f h = go (w 0) refl
     go (Some bs) e = relax (λ p b x. record { octets = complete bs; are = full bs (h.within 0 bs e); spelled = x }) (octets_within a (complete bs))
 
 -- additions
-some_both : (o : Option Bool) (q : Option Bits) (bs : Bits) → also_bit o q ≡ Some bs → (b : Bool) × (cs : Bits) × (o ≡ Some b) × (q ≡ Some cs) × (bs ≡ b ∷ cs)
+-- what `also_bit` was made of
+pub some_both : (o : Option Bool) (q : Option Bits) (bs : Bits) → also_bit o q ≡ Some bs → (b : Bool) × (cs : Bits) × (o ≡ Some b) × (q ≡ Some cs) × (bs ≡ b ∷ cs)
 some_both None q bs e = absurd (cc)
 some_both (Some b) None bs e = absurd (cc)
 some_both (Some b) (Some cs) bs e = (b, cs, refl, refl, cc)

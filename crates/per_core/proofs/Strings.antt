@@ -1,11 +1,12 @@
 -- Characters and dates as they are written.
-use Rattle.std.proofs.Common.{◌≡◌, refl, ap, subst, ℕ, zero, suc, ◌+◌, ◌-◌, ◌^◌, ◌<◌, ◌≤◌, max, Bool, true, false, cond, leb, ltb, eqb, List, [], ◌∷◌, length, arith, Option, Some, None, ℤ, pos, negsuc, ltb-true, leb-true, eqb-true, pow_mono, le_trans}
+use Rattle.std.proofs.Common.{◌≡◌, refl, ap, subst, ℕ, zero, suc, ◌+◌, ◌-◌, ◌^◌, ◌<◌, ◌≤◌, max, Bool, true, false, cond, leb, ltb, eqb, List, [], ◌∷◌, length, arith, Option, Some, None, ℤ, pos, negsuc, ltb-true, leb-true, eqb-true}
 use lib.Signed.{le_z}
 use Rattle.rasn_types.specs.Alphabets.{char_width, char_code, keep_own, index_of, more, greatest}
 use Rattle.rasn_types.specs.Bits.{width}
 use Rattle.rasn_types.specs.Contents.{is_date}
 use Rattle.rasn_types.specs.Values.{day}
 use Rattle.rasn_types.specs.Variants.{Variant, aligned, unaligned}
+use Rattle.rasn_types.proofs.Bits.{wide_enough}
 use Rattle.rasn_constraints.specs.Bounds.{Size}
 use Rattle.per_core.specs.Basic.{Char, String, IsBounded, YearIn, year_form, Year, IsDay, As}
 use Rattle.per_core.specs.Canon.{char_writers, coded, date_of, year_writer, in_range, year_of}
@@ -15,7 +16,7 @@ use Rattle.per_core.specs.Writers.{Writer, ◌▹◌}
 use Rattle.per_core.proofs.Counting.{counted_within}
 use Rattle.per_core.proofs.Lengths.{and_left, and_right}
 use Rattle.per_core.proofs.Numbers.{whole_in_octets}
-use Rattle.per_core.proofs.Within.{Within, refused_within, then_within, if_within, relax, field_within, bounded_within, width_holds}
+use Rattle.per_core.proofs.Within.{Within, refused_within, then_within, if_within, relax, field_within, bounded_within}
 
 index_below : (ds : List ℕ) (c i : ℕ) → index_of c ds ≡ Some i → (i < length ds) × (c ≤ greatest ds)
 index_below [] c i e = absurd (cc)
@@ -28,14 +29,6 @@ index_below (d ∷ ds) c i e = go (eqb c d) refl e (index_below ds c)
     go : (b : Bool) → eqb c d ≡ b → cond b (Some 0) (more (index_of c ds)) ≡ Some i → ((j : ℕ) → index_of c ds ≡ Some j → (j < length ds) × (c ≤ greatest ds)) → (i < suc (length ds)) × (c ≤ max d (greatest ds))
     go true h e r = let u : 0 ≡ i = cc in let v : c ≡ d = eqb-true c d h in (omega arith, omega arith)
     go false h e r = later (index_of c ds) e r
-
-wide_enough : (a : Variant) (alphabet : List ℕ) → length alphabet ≤ 2 ^ char_width a alphabet
-wide_enough unaligned alphabet = width_holds (length alphabet)
-wide_enough aligned alphabet = go (leb (length alphabet) 1) refl
-  where
-    go : (b : Bool) → leb (length alphabet) 1 ≡ b → length alphabet ≤ 2 ^ (cond b 0 (2 ^ width (width (length alphabet))))
-    go true e = leb-true (length alphabet) 1 e
-    go false e = le_trans (width_holds (length alphabet)) (pow_mono {i = width (length alphabet)} {j = 2 ^ width (width (length alphabet))} (width_holds (width (length alphabet))))
 
 code_below : (a : Settings) (alphabet : List ℕ) (c k : ℕ) → char_code a.variant alphabet c ≡ Some k → k < 2 ^ char_width a.variant alphabet
 unfolding char_code

@@ -20,7 +20,7 @@ above_same (negsuc l) (pos z) (negsuc z') h h' e = absurd (omega (arith, leb-tru
 above_same (negsuc l) (negsuc z) (pos z') h h' e = absurd (omega (arith, leb-true z l h))
 above_same (negsuc l) (negsuc z) (negsuc z') h h' e = ap negsuc (omega (arith, leb-true z l h, leb-true z' l h'))
 
-in_natural_agree : (a : Settings) (n m : ℕ) → Agree (n ≡ m) (InNatural a n) (InNatural a m)
+pub in_natural_agree : (a : Settings) (n m : ℕ) → Agree (n ≡ m) (InNatural a n) (InNatural a m)
 in_natural_agree a n m = record {
   agree = λ p b c s t x y e.
       let r = (same_octets a x.octets y.octets).agree p b c s t x.spelled y.spelled e in

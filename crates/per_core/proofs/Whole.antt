@@ -272,10 +272,10 @@ length-rules a ps = length-rules-in a true ps
 abbrev SameValue : Value → Value → Type 0
 SameValue v w = v ≡ w
 
-some_same : {v w : Value} → v ≡ w → ◌≡◌ {A = Option Value} (Some v) (Some w)
+pub some_same : {v w : Value} → v ≡ w → ◌≡◌ {A = Option Value} (Some v) (Some w)
 some_same e = cc
 
-same_bits : (x y : Bool) → Agree (x ≡ y) (bit x) (bit y)
+pub same_bits : (x y : Bool) → Agree (x ≡ y) (bit x) (bit y)
 same_bits x y = weaken (λ e. let e' : x ∷ [] ≡ y ∷ [] = e in cc) (exactly_agree (x ∷ []) (y ∷ []) refl)
 
 octets_value : (a : Settings) (v w : Value) → Agree (v ≡ w) (As Value.octets (Octets a) v) (As Value.octets (Octets a) w)

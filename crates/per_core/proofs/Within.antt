@@ -1,11 +1,11 @@
 -- What a writer writes has a spelling.
-use Rattle.std.proofs.Common.{◌≡◌, refl, sym, ap, ◌∙◌, subst, ℕ, zero, suc, ◌+◌, ◌-◌, ◌*◌, ◌/◌, ◌%◌, ◌^◌, ◌<◌, ◌≤◌, max, Bool, true, false, cond, leb, ltb, eqb, length, replicate, arith, inl, inr, Option, Some, None, eqb-true, ltb-true, leb-true, pow-suc, mod-lt, mod-eq_of_lt, pow_pos, leb-false, one-add, mul_comm, pow_mono, le_of_lt, le_trans}
+use Rattle.std.proofs.Common.{◌≡◌, refl, sym, ap, ◌∙◌, subst, ℕ, suc, ◌+◌, ◌-◌, ◌*◌, ◌/◌, ◌^◌, ◌<◌, ◌≤◌, max, Bool, true, false, cond, leb, ltb, eqb, length, replicate, arith, inl, inr, Option, Some, None, eqb-true, ltb-true, leb-true, mod-eq_of_lt, leb-false, pow_mono, le_trans}
 use Rattle.std.proofs.lemmas.Bool.{cases_lt}
-use Rattle.std.proofs.Math.Nat.{mod-one, add-mod_right}
-use Rattle.std.proofs.Math.Pow.{mod-mod-pow}
-use Rattle.rasn_types.specs.Bits.{Bits, number_of, to_bits, width, width_from}
+use Rattle.std.proofs.lemmas.List.{length-replicate}
+use Rattle.rasn_types.specs.Bits.{Bits, number_of, to_bits, width}
 use Rattle.rasn_types.specs.Octets.{natural_bits, octets_of_natural}
 use Rattle.rasn_types.specs.Variants.{Variant, aligned, unaligned}
+use Rattle.rasn_types.proofs.Bits.{length-to_bits, number-to_bits, width_holds, width_least}
 use Rattle.per_core.specs.Basic.{InOctets, IsBounded}
 use Rattle.per_core.specs.Counts.{bounded}
 use Rattle.per_core.specs.Spellings.{Settings, ZeroIf, Spelling, exactly, Then, Either, When, AnyPadding, Field}
@@ -52,31 +52,6 @@ pub when_within : {A : Type 0} {w : Writer} {f : Spelling} → A → Within w f 
 when_within x h = record { within = λ p b e. (x, h.within p b e) }
 
 -- numbers and bits
-pub length-to_bits : (w n : ℕ) → length (to_bits w n) ≡ w
-length-to_bits zero n = refl
-length-to_bits (suc w) n = ap suc (length-to_bits w n)
-
-halved : (m x : ℕ) → x < 2 * m → x ≡ cond (leb m x) m 0 + x % m
-halved m x h = go (leb m x) refl
-  where
-    go : (b : Bool) → leb m x ≡ b → x ≡ cond b m 0 + x % m
-    go true e = let l : m ≤ x = leb-true m x e in
-        let q : x ≡ (x - m) + m = omega arith in
-        let u : x % m ≡ x - m = ap (λ (k : ℕ). k % m) q ∙ add-mod_right (x - m) m ∙ mod-eq_of_lt (omega arith) in omega arith
-    go false e = let l : x < m = leb-false m x e in let u : x % m ≡ x = mod-eq_of_lt l in omega arith
-
-bit_value : (w n : ℕ) → n % 2 ^ suc w ≡ cond (leb (2 ^ w) (n % 2 ^ suc w)) (2 ^ w) 0 + n % 2 ^ w
-bit_value w n =
-    let h : n % 2 ^ suc w < 2 ^ suc w = mod-lt n (pow_pos (suc w)) in
-    let k : 2 ^ suc w ≡ 2 * 2 ^ w = pow-suc 2 w ∙ mul_comm (2 ^ w) 2 in
-    let r : n % 2 ^ suc w % 2 ^ w ≡ n % 2 ^ w = ap (λ (z : ℕ). n % 2 ^ z % 2 ^ w) (sym (one-add w)) ∙ mod-mod-pow n 1 w in
-    halved (2 ^ w) (n % 2 ^ suc w) (omega arith) ∙ ap (λ (z : ℕ). cond (leb (2 ^ w) (n % 2 ^ suc w)) (2 ^ w) 0 + z) r
-
-pub number-to_bits : (w n : ℕ) → number_of (to_bits w n) ≡ n % 2 ^ w
-number-to_bits zero n = sym (mod-one n)
-number-to_bits (suc w) n = ap (λ (k : ℕ). cond (leb (2 ^ w) (n % 2 ^ suc w)) (2 ^ k) 0 + number_of (to_bits w n)) (length-to_bits w n)
-    ∙ ap (λ (k : ℕ). cond (leb (2 ^ w) (n % 2 ^ suc w)) (2 ^ w) 0 + k) (number-to_bits w n) ∙ sym (bit_value w n)
-
 pub field_within : (w n : ℕ) → n < 2 ^ w → Within (just (to_bits w n)) (Field w n)
 field_within w n h = record {
   within = λ p b e.
@@ -84,50 +59,16 @@ field_within w n h = record {
       record { wide = ap length (sym e') ∙ length-to_bits w n; means = ap number_of (sym e') ∙ number-to_bits w n ∙ mod-eq_of_lt h };
 }
 
-length-zeros : (n : ℕ) → length (replicate n false) ≡ n
-length-zeros zero = refl
-length-zeros (suc n) = ap suc (length-zeros n)
-
 pub zero_if : (z : Bool) (b : Bits) → b ≡ replicate (length b) false → ZeroIf z b
 zero_if true b e = e
 zero_if false b e = tt
 
 pub padding_within : (a : Settings) → Within (padding a.variant) (AnyPadding a)
-padding_within a = record { within = λ p b e. let e' : replicate (pad a.variant p) false ≡ b = cc in record { fits = ap length (sym e') ∙ length-zeros (pad a.variant p); zeros = zero_if a.strict b (sym e' ∙ ap (λ (k : ℕ). replicate k false) (sym (ap length (sym e') ∙ length-zeros (pad a.variant p)))) } }
+padding_within a = record { within = λ p b e. let e' : replicate (pad a.variant p) false ≡ b = cc in record { fits = ap length (sym e') ∙ length-replicate (pad a.variant p) false; zeros = zero_if a.strict b (sym e' ∙ ap (λ (k : ℕ). replicate k false) (sym (ap length (sym e') ∙ length-replicate (pad a.variant p) false))) } }
 
 -- width
-below_power : (n : ℕ) → n < 2 ^ n
-below_power zero = omega arith
-below_power (suc n) = omega (arith, below_power n, pow-suc 2 n)
-
-width_enough : (fuel w r : ℕ) → r ≤ 2 ^ (fuel + w) → r ≤ 2 ^ width_from fuel w r
-unfolding width_from
-width_enough zero w r h = subst (λ (k : ℕ). r ≤ 2 ^ k) (omega arith) h
-width_enough (suc fuel) w r h = go (width_enough fuel (suc w) r (subst (λ (k : ℕ). r ≤ 2 ^ k) (omega arith) h)) (leb r (2 ^ w)) refl
-  where
-    go : r ≤ 2 ^ width_from fuel (suc w) r → (b : Bool) → leb r (2 ^ w) ≡ b → r ≤ 2 ^ (elim b [ true ↦ w | false ↦ width_from fuel (suc w) r ])
-    go ih true e = leb-true r (2 ^ w) e
-    go ih false e = ih
-
-width_least : (fuel w r v : ℕ) → r ≤ 2 ^ v → w ≤ v → width_from fuel w r ≤ v
-unfolding width_from
-width_least zero w r v h l = l
-width_least (suc fuel) w r v h l = go (λ k. width_least fuel (suc w) r v h k) (leb r (2 ^ w)) refl
-  where
-    further : 2 ^ w < r → suc w ≤ v
-    further k = elim (cases_lt w v) [ inl m ↦ m | inr m ↦ absurd (omega (arith, pow_mono {i = v} {j = w} m)) ]
-
-    go : (suc w ≤ v → width_from fuel (suc w) r ≤ v) → (b : Bool) → leb r (2 ^ w) ≡ b → (elim b [ true ↦ w | false ↦ width_from fuel (suc w) r ]) ≤ v
-    go ih true e = l
-    go ih false e = ih (further (leb-false r (2 ^ w) e))
-
-pub width_holds : (r : ℕ) → r ≤ 2 ^ width r
-unfolding width
-width_holds r = width_enough r 0 r (subst (λ (k : ℕ). r ≤ 2 ^ k) (omega arith) (le_of_lt (below_power r)))
-
 pub width-mono : (r n : ℕ) → r ≤ n → width r ≤ width n
-unfolding width
-width-mono r n h = width_least r 0 r (width n) (le_trans h (width_holds n)) (omega arith)
+width-mono r n h = width_least r (width n) (le_trans h (width_holds n))
 
 -- bounded numbers
 pub natural_fits : (o : ℕ) → o < 2 ^ (8 * octets_of_natural o)

@@ -1,31 +1,28 @@
 -- What a newer writer writes, an older reader reads as the projection, where nothing that is written and not dropped stands at a Cut of the reader's tree.
 use Rattle.per_core.specs.Basic
-use Rattle.std.proofs.Common.{◌≡◌, refl, sym, ap, ◌∙◌, subst, ℕ, zero, suc, ◌+◌, Bool, true, false, List, [], ◌∷◌, length, arith, Option, Some, None}
+use Rattle.std.proofs.Common.{◌≡◌, refl, sym, ap, ◌∙◌, subst, ℕ, zero, suc, Bool, true, false, List, [], ◌∷◌, length, arith, Option, Some, None}
 use Rattle.rasn_types.specs.Values.{sorted, before, code, Value, elements, bag_of, fields, alternative, Side, root, added, as_values, as_slots, values, slots}
+use Rattle.rasn_types.proofs.Values.{slots-as_slots, values-as_values}
 use Rattle.rasn_constraints.specs.Bounds.{Size}
 use Rattle.rasn_schema.specs.Schemas.{tags, count, Presence, required, optional, group, default, Order, Schema, Parts, no_parts, part}
 use Rattle.rasn_schema.specs.Orders.{ordered}
 use Rattle.rasn_schema.specs.Depth.{meets_cut, slots_meet_cut, meets_cut_at, any_of, CutOf, CutParts, cut_here, alike, cut_list, cut_set_of, cut_sequence, cut_choice, no_cut, cut_part}
-use Rattle.per_core.specs.Spellings.{Settings, Spelling}
+use Rattle.per_core.specs.Spellings.{Settings}
 use Rattle.per_core.specs.Basic.{IsLeftOut, As, Additions_in, Chosen, Rule, basic, basic_in, rules}
 use Rattle.per_core.specs.Versions.{project, project_slots, project_at, slot_through, all_of, NewerPresence, Newer, NewerParts, unchanged, newer_list, newer_set_of, newer_sequence, newer_choice, no_more, more_parts, also}
-use Rattle.per_core.proofs.Lengths.{Zip}
+use Rattle.per_core.proofs.Lengths.{Zip, or_left, or_right}
 use Rattle.per_core.proofs.Records.{SlotRel, Along}
 use Rattle.per_core.proofs.Whole.{length-rules}
-use Rattle.per_core.proofs.Bags.{bag_source, any_in_bag}
+use Rattle.per_core.proofs.Bags.{bag_source, any_in_bag, joined_of}
 use Rattle.per_core.proofs.Canonical.{canonical}
-use Rattle.per_laws.proofs.Older.{slots-as_slots, values-as_values, made_of, made_both_of, joined_of, slot_some, or_left, or_right, slot_meets, slot_back, same_tags}
-use Rattle.per_laws.proofs.Carry.{Carry, kept, Leads, AllLead, skipped_carry}
+use Rattle.per_laws.proofs.Older.{made_of, made_both_of, slot_some, slot_meets, slot_back, same_tags}
+use Rattle.per_laws.proofs.Carry.{Carry, kept, Leads, AllLead, skipped_carry, carries}
 use Rattle.per_laws.proofs.Carrying.{lengthy_as, additions_step, record_as, choice_as, rules_on}
-use Rattle.per_laws.proofs.Deeper.{same_cut_tags}
+use Rattle.per_laws.proofs.Deeper.{same_cut_tags, cut_count}
 use Rattle.per_laws.proofs.Takes.{some_slot_is, none_through, flags_newer_carry, slot_meets_not, zip_first, same_count, older_takes}
 use Rattle.per_depth.specs.Written.{is_written, writes_cut, slots_write_cut, writes_cut_at}
 use Rattle.per_depth.proofs.Same.{and_false, slot_written_cut, slot_cut_not}
 use Rattle.per_depth.proofs.Layers.{Writes, written_rules, chosen_rules, list_layer, bag_layer, record_layer, choice_layer}
-
--- one spelling after another
-pub carries : {f g h : Spelling} → Carry f g → Carry g h → Carry f h
-carries x y = record { carry = λ p b e. y.carry p b (x.carry p b e) }
 
 -- of a slot of the writer t and one of the reader, whose tree s is the older o cut off
 abbrev Drops : Presence → Schema → Schema → Schema → SlotRel
@@ -155,10 +152,6 @@ record_drops a r ext tds ods sds {ts} {os} {ss} n c k k' v w h = carries (record
     ))))
 
 -- choices
-pub cut_count : {ps qs : Parts} → CutParts ps qs → count ps ≡ count qs
-cut_count no_cut = refl
-cut_count (cut_part c cs) = ap (λ k. 1 + k) (cut_count cs)
-
 choice_drops : (a : Settings) (ext : Bool) (tds ods sds : Parts) {ts os ss : Parts} → NewerParts false ts os → CutParts ss os →
     ((i : ℕ) (v w : Value) → meets_cut_at ts i v ≡ false → project_at ts os i v ≡ Some w → writes_cut_at ss ts i v ≡ false → Carry (Chosen (chosen_rules a ts) i v) (Chosen (rules a ss) i w)) →
     ((i : ℕ) (v w : Value) → meets_cut_at tds i v ≡ false → project_at tds ods i v ≡ Some w → writes_cut_at sds tds i v ≡ false → Carry (Chosen (chosen_rules a tds) i v) (Chosen (rules a sds) i w)) →

@@ -2,6 +2,7 @@
 use Rattle.per_core.specs.Basic
 use Rattle.std.proofs.Common.{◌≡◌, refl, sym, ap, subst, ℕ, zero, suc, ◌<◌, ◌≤◌, Bool, true, false, ◌&&◌, ltb, le-ltb, List, [], ◌∷◌, length, arith, Option, Some, None}
 use Rattle.rasn_types.specs.Values.{Value, code, sorted, before, elements, bag_of, fields, alternative, Side, root, added, as_values, as_slots, slots}
+use Rattle.rasn_types.proofs.Values.{slots-as_slots, values-as_values}
 use Rattle.rasn_constraints.specs.Bounds.{Size}
 use Rattle.rasn_schema.specs.Schemas.{Presence, Order, tags, Schema, Parts, no_parts, part}
 use Rattle.rasn_schema.specs.Orders.{ordered}
@@ -10,17 +11,16 @@ use Rattle.per_core.specs.Spellings.{Settings}
 use Rattle.per_core.specs.Counts.{list_items}
 use Rattle.per_core.specs.Basic.{IsLeftOut, Fields, Lengthy, Rule, IsBounded, Chosen, Open, Fills, basic, basic_in, rules}
 use Rattle.per_core.proofs.Agree.{Agree, weaken, then_agree, never_agree, turned}
-use Rattle.per_core.proofs.Lengths.{Zip, bounded_agree, lengthy_agree}
+use Rattle.per_core.proofs.Lengths.{Zip, bounded_agree, lengthy_agree, or_left, or_right, and_no}
 use Rattle.per_core.proofs.Unique.{as_agree, small_agree, open_agree, fills_agree}
 use Rattle.per_core.proofs.Records.{SlotRel, Kin, AllKin, Along, fields_agree}
 use Rattle.per_core.proofs.Bags.{any_in_bag}
 use Rattle.per_core.proofs.Whole.{one_reading, ordered-kin, along-listed, same_flags, same_bit, root_added}
-use Rattle.per_laws.proofs.Older.{slots-as_slots, values-as_values, or_left, or_right}
 use Rattle.per_laws.proofs.Transitive.{or_both}
 use Rattle.per_depth.specs.Levels.{levels_of, levels_of_values, levels_of_slots, TakesLevel, TakesNone, ToLevels, PartsToLevels, to_leaf, to_date, no_date, still_cut, no_level, to_list, to_set_of, to_sequence, to_choice, to_no_parts, to_part}
 use Rattle.per_depth.specs.Written.{is_written, writes_cut, slots_write_cut, writes_cut_at}
 use Rattle.per_depth.proofs.Same.{slot_written_cut}
-use Rattle.per_depth.proofs.Reading.{and_no, left_out_kept, leaf_kept, any_sorted}
+use Rattle.per_depth.proofs.Reading.{left_out_kept, leaf_kept, any_sorted}
 use Rattle.per_depth.proofs.Depths.{same_kind}
 
 abbrev pub Few : ℕ → Schema → Value → Type 0

@@ -1,34 +1,21 @@
 -- Values of at most 128 levels, between versions of a type: depth plays no part.
 use Rattle.std.proofs.Common.{◌≡◌, refl, ℕ, zero, suc, ◌+◌, ◌≤◌, Bool, true, false, ◌&&◌, List, [], ◌∷◌, arith, Option, Some, None}
-use Rattle.rasn_types.specs.Values.{Value, elements, bag, fields, alternative, root, added, values, slots}
+use Rattle.rasn_types.specs.Values.{Value}
 use Rattle.rasn_schema.specs.Schemas.{Schema, Parts}
-use Rattle.rasn_schema.specs.Depth.{meets_cut, in_elements, in_fields, in_alternative}
+use Rattle.rasn_schema.specs.Depth.{meets_cut}
 use Rattle.per_core.specs.Spellings.{Settings}
 use Rattle.per_core.specs.Canon.{bytes}
 use Rattle.per_core.specs.Basic.{read}
 use Rattle.per_core.specs.Versions.{project, widen, Newer, NewerParts, unchanged, more_items, newer_list, newer_set_of, newer_sequence, newer_choice, no_more, more_parts, also, NewerType}
-use Rattle.per_laws.proofs.Older.{or_left, or_right}
+use Rattle.per_core.proofs.Lengths.{or_left, or_right}
 use Rattle.per_laws.proofs.Transitive.{or_both}
+use Rattle.per_laws.proofs.Types.{elements_less, fields_less, alternative_less}
 use Rattle.per_depth.specs.Levels.{levels_of, Levelled}
 use Rattle.per_depth.specs.Written.{is_written, writes_cut, slots_write_cut, writes_cut_at}
 use Rattle.per_depth.proofs.Deeply.{meets_none}
 use Rattle.per_depth.proofs.Depths.{bytes_whole}
 use Rattle.per_depth.proofs.Levelled.{levels_deep, levelled_type_unfolds, few_levels_suffice}
-use Rattle.per_depth.proofs.Peers.{no_less, older_type_reads, newer_type_reads}
-
-elements_less : (K L : Value → Bool) → ((v : Value) → K v ≡ false → L v ≡ false) → (v : Value) → in_elements K v ≡ false → in_elements L v ≡ false
-elements_less K L h (elements vs) m = no_less K L h (values vs) m
-elements_less K L h (bag vs) m = no_less K L h (values vs) m
-elements_less K L h _ m = refl
-
-fields_less : (K L K' L' : List (Option Value) → Bool) → ((x : List (Option Value)) → K x ≡ false → L x ≡ false) → ((x : List (Option Value)) → K' x ≡ false → L' x ≡ false) → (v : Value) → in_fields K K' v ≡ false → in_fields L L' v ≡ false
-fields_less K L K' L' h h' (fields r x) m = or_both (L (slots r)) (L' (slots x)) (h (slots r) (or_left (K (slots r)) (K' (slots x)) m)) (h' (slots x) (or_right (K (slots r)) (K' (slots x)) m))
-fields_less K L K' L' h h' _ m = refl
-
-alternative_less : (K L K' L' : ℕ → Value → Bool) → ((i : ℕ) (v : Value) → K i v ≡ false → L i v ≡ false) → ((i : ℕ) (v : Value) → K' i v ≡ false → L' i v ≡ false) → (v : Value) → in_alternative K K' v ≡ false → in_alternative L L' v ≡ false
-alternative_less K L K' L' h h' (alternative root i v) m = h i v m
-alternative_less K L K' L' h h' (alternative added i v) m = h' i v m
-alternative_less K L K' L' h h' _ m = refl
+use Rattle.per_depth.proofs.Peers.{older_type_reads, newer_type_reads}
 
 and_less : (a b c : Bool) → (b ≡ false → c ≡ false) → (a && b) ≡ false → (a && c) ≡ false
 and_less true b c h m = h m

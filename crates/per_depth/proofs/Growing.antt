@@ -1,29 +1,30 @@
 -- What an older writer writes, a newer reader reads as the widening, where nothing that is written stands at a Cut of the reader's tree.
 use Rattle.per_core.specs.Basic
-use Rattle.std.proofs.Common.{◌≡◌, sym, ap, ◌∙◌, subst, ℕ, zero, suc, Bool, true, false, ◌||◌, List, [], ◌∷◌, length, arith, Option, Some, None}
+use Rattle.std.proofs.Common.{◌≡◌, sym, ap, ◌∙◌, subst, ℕ, zero, suc, Bool, true, false, List, [], ◌∷◌, length, arith, Option, Some, None}
 use Rattle.rasn_types.specs.Values.{sorted, before, code, Value, elements, bag_of, fields, alternative, Side, root, added, as_values, as_slots, values, slots}
+use Rattle.rasn_types.proofs.Values.{slots-as_slots, values-as_values}
 use Rattle.rasn_constraints.specs.Bounds.{Size}
 use Rattle.rasn_schema.specs.Schemas.{tags, count, Presence, required, optional, group, default, Order, Schema, Parts, part}
 use Rattle.rasn_schema.specs.Orders.{ordered}
 use Rattle.rasn_schema.specs.Depth.{meets_cut, slots_meet_cut, meets_cut_at, in_slots, any_of, CutOf, CutParts, cut_here, alike, cut_list, cut_set_of, cut_sequence, cut_choice, no_cut, cut_part}
 use Rattle.per_core.specs.Spellings.{Settings}
-use Rattle.per_core.specs.Basic.{FlagOf, IsLeftOut, As, Unknown_in, Additions_in, Chosen, basic_in, rules_in}
+use Rattle.per_core.specs.Basic.{IsLeftOut, As, Unknown_in, Additions_in, Chosen, basic_in, rules_in}
 use Rattle.per_core.specs.Versions.{widen, widen_slots, widen_at, filled_in, all_filled_in, slot_through, all_of, NewerPresence, Newer, NewerParts, unchanged, newer_list, newer_set_of, newer_sequence, newer_choice, no_more, more_parts, also}
-use Rattle.per_core.proofs.Lengths.{Zip}
+use Rattle.per_core.proofs.Lengths.{or_left, or_right}
 use Rattle.per_core.proofs.Records.{SlotRel, Along}
 use Rattle.per_core.proofs.Whole.{length-rules-in}
-use Rattle.per_core.proofs.Bags.{bag_source, any_in_bag}
+use Rattle.per_core.proofs.Bags.{bag_source, any_in_bag, joined_of}
 use Rattle.per_core.proofs.Canonical.{canonical}
-use Rattle.per_laws.proofs.Older.{slots-as_slots, values-as_values, made_of, made_both_of, joined_of, slot_some, or_left, or_right, slot_meets, same_tags}
-use Rattle.per_laws.proofs.Carry.{Carry, kept, Leads, AllLead}
+use Rattle.per_laws.proofs.Older.{made_of, made_both_of, slot_some, slot_meets, same_tags}
+use Rattle.per_laws.proofs.Carry.{Carry, kept, Leads, AllLead, carries}
 use Rattle.per_laws.proofs.Carrying.{lengthy_as, additions_step, record_as, choice_as, rules_on}
-use Rattle.per_laws.proofs.Deeper.{same_cut_tags}
-use Rattle.per_laws.proofs.Takes.{some_slot_is, none_through, slot_meets_not, same_count}
-use Rattle.per_laws.proofs.Widens.{newer_takes}
+use Rattle.per_laws.proofs.Deeper.{same_cut_tags, cut_count}
+use Rattle.per_laws.proofs.Takes.{none_through, slot_meets_not, same_count}
+use Rattle.per_laws.proofs.Widens.{newer_takes, flags_older_carry, zip_second, filled_left}
 use Rattle.per_depth.specs.Written.{is_written, writes_cut, slots_write_cut, writes_cut_at}
 use Rattle.per_depth.proofs.Same.{and_false, slot_written_cut, slot_cut_not}
 use Rattle.per_depth.proofs.Layers.{Writes, written_rules, chosen_rules, list_layer, bag_layer, record_layer, choice_layer}
-use Rattle.per_depth.proofs.Dropping.{carries, zip_also, length_written, length_chosen, cut_count}
+use Rattle.per_depth.proofs.Dropping.{zip_also, length_written, length_chosen}
 
 -- of a slot of the writer t and one of the reader, whose tree s is the newer o cut off
 abbrev Grows : Presence → Schema → Schema → Schema → SlotRel
@@ -35,13 +36,6 @@ grows _ _ _ = []
 
 abbrev pub GrowsValue : Schema → Schema → Schema → Value → Value → Type 0
 GrowsValue t o s v w = (meets_cut o w ≡ false) × (widen o t v ≡ Some w) × (writes_cut s t v ≡ false)
-
-flags_older : (o t : Schema) (p' p : Presence) → NewerPresence o t p' p → (b : Bool) → Carry (FlagOf p b) (FlagOf p' b)
-flags_older o t required required k b = kept
-flags_older o t optional optional k b = kept
-flags_older o t group group k b = kept
-flags_older o t (default d') (default d) k b = kept
-flags_older o t _ _ k b = absurd k
 
 left_out_grows : (o t : Schema) (p' p : Presence) → NewerPresence o t p' p → (x y : Option Value) → slot_meets o y ≡ false → slot_through (widen o t) x ≡ Some y → IsLeftOut p x → IsLeftOut p' y
 left_out_grows o t required required k x y m h e = e
@@ -59,7 +53,7 @@ left_out_grows o t _ _ k x y m h e = absurd k
 part_grows : (a : Settings) (t o s : Schema) (p' p : Presence) → NewerPresence o t p' p → ((v w : Value) → GrowsValue t o s v w → Carry (Writes a t v) (basic_in a false s w)) →
     Leads (Grows p t o s) (record { presence = p; spells = λ v q b. (is_written p v ≡ true) × Writes a t v q b }) (record { presence = p'; spells = basic_in a false s })
 part_grows a t o s p' p k each = record {
-  flags = flags_older o t p' p k;
+  flags = flags_older_carry o t p' p k;
   left_out = λ x y h e. left_out_grows o t p' p k x y h.0 h.1 e;
   held = λ v y h.
       let q = slot_some (widen o t) v y h.1 in
@@ -68,15 +62,6 @@ part_grows a t o s p' p k each = record {
 }
 
 -- lists
-zip_second : (f : Value → Option Value) (K : Value → Bool) (vs ws : List Value) → all_of f vs ≡ Some ws → any_of K ws ≡ false → Zip (λ v w. (K w ≡ false) × (f v ≡ Some w)) vs ws
-zip_second f K [] [] e m = tt
-zip_second f K [] (w ∷ ws) e m = absurd (cc)
-zip_second f K (v ∷ vs) ws e m =
-    let q = joined_of (f v) (all_of f vs) ws e in
-    let m' : (K q.0 || any_of K q.1) ≡ false = subst (λ l. any_of K l ≡ false) q.4 m in
-    subst (λ l. Zip (λ v w. (K w ≡ false) × (f v ≡ Some w)) (v ∷ vs) l) (sym q.4)
-    ((or_left (K q.0) (any_of K q.1) m', q.2), zip_second f K vs q.1 q.3 (or_right (K q.0) (any_of K q.1) m'))
-
 abbrev Each : Schema → Schema → Schema → Value → Value → Type 0
 Each t o s v w = ((meets_cut o w ≡ false) × (widen o t v ≡ Some w)) × (writes_cut s t v ≡ false)
 
@@ -118,12 +103,6 @@ bag_grows a t o s size mark each v w h = carries (bag_layer a t size mark v)
     )))
 
 -- additions that only the newer reader knows are left out
-filled_left : (p : Presence) (y : Option Value) → filled_in p ≡ Some y → IsLeftOut p y
-filled_left required y e = absurd (cc)
-filled_left optional y e = sym (some_slot_is None y e)
-filled_left group y e = sym (some_slot_is None y e)
-filled_left (default d) y e = sym (some_slot_is (Some d) y e)
-
 filled_carry : (a : Settings) {ss os : Parts} → CutParts ss os → (ys : List (Option Value)) → all_filled_in os ≡ Some ys → (bs : List Bool) → Carry (Unknown_in a false bs) (Additions_in a false (rules_in a false ss) ys bs)
 unfolding rules_in
 filled_carry a no_cut [] e bs = kept

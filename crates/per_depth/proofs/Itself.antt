@@ -1,29 +1,20 @@
 -- A lawful type is a newer version of itself: its defaults are values of their schemas, and a value stays what it is.
 use Rattle.std.proofs.Common.{◌≡◌, refl, sym, ap, ◌∙◌, ap₂, ℕ, zero, suc, ◌+◌, Bool, true, false, cond, ◌&&◌, List, [], ◌∷◌, Option, Some, None, arith}
-use Rattle.rasn_types.specs.Values.{Value, Values, no_values, value, Slots, no_slots, absent, there, item, elements, bag, bag_of, same, fields, alternative, root, added, as_values, as_slots, values, slots}
+use Rattle.rasn_types.specs.Values.{Value, no_values, value, no_slots, item, elements, bag, bag_of, same, fields, alternative, root, added, as_values, as_slots, values, slots}
+use Rattle.rasn_types.proofs.Values.{slots-as_slots, as_values-values, as_slots-slots}
 use Rattle.rasn_constraints.specs.Bounds.{Size}
 use Rattle.rasn_schema.specs.Schemas.{Presence, required, optional, group, default, Order, TagTree, Schema, Parts, no_parts, part}
 use Rattle.rasn_schema.specs.Depth.{IsLeaf, CutOf, CutParts, cut_here, alike, cut_list, cut_set_of, cut_sequence, cut_choice, no_cut, cut_part, meets_cut, slots_meet_cut, meets_cut_at}
 use Rattle.rasn_schema.specs.Lawful.{IsLawful, AreLawful, IsLawfulPresence, IsLawfulType, all_pass, is_countable, if_elements, if_bag, if_fields, if_alternative, slot_passes, slots_pass, none_left, is_value, are_values, is_value_at}
 use Rattle.per_core.specs.Versions.{all_of, joined, made, made_both, through_elements, through_bag, through_fields, through_alternative, through_item, slot_through, slots_through, project, project_slots, project_at, widen, widen_slots, widen_at, IsWidened, NewerPresence, Newer, NewerParts, NewerType, unchanged, more_items, newer_list, newer_set_of, newer_sequence, newer_choice, no_more, also}
 use Rattle.per_core.proofs.Codes.{same_true}
-use Rattle.per_core.proofs.Lengths.{and_left, and_right}
-use Rattle.per_laws.proofs.Older.{or_left, or_right, slots-as_slots}
+use Rattle.per_core.proofs.Lengths.{and_left, and_right, or_left, or_right}
 use Rattle.per_laws.proofs.Takes.{some_is}
 use Rattle.per_laws.proofs.Types.{up_to, less_cut}
 
 -- what passes a test stays what it is
 abbrev Keeps : {X : Type 0} → (X → Bool) → (X → Option X) → Type 0
 Keeps {X} f g = (v : X) → f v ≡ true → g v ≡ Some v
-
-as_values-values : (vs : Values) → as_values (values vs) ≡ vs
-as_values-values no_values = refl
-as_values-values (value v vs) = ap (value v) (as_values-values vs)
-
-as_slots-slots : (ss : Slots) → as_slots (slots ss) ≡ ss
-as_slots-slots no_slots = refl
-as_slots-slots (absent ss) = ap absent (as_slots-slots ss)
-as_slots-slots (there v ss) = ap (there v) (as_slots-slots ss)
 
 all_keep : (f : Value → Bool) (g : Value → Option Value) → Keeps f g → Keeps (all_pass f) (all_of g)
 all_keep f g h [] e = refl

@@ -1,23 +1,20 @@
 -- What canon writes of a kind, as a spelling by what it writes of the members: of a part that is written it's known that it isn't at its default.
 use Rattle.per_core.specs.Basic
-use Rattle.per_core.specs.Canon
-use Rattle.std.proofs.Common.{◌≡◌, refl, sym, ap, ◌∙◌, subst, ℕ, zero, suc, Bool, true, false, List, [], ◌∷◌, length, Option, Some}
-use Rattle.rasn_types.specs.Values.{Value, same, before, elements, bag, bag_of, fields, alternative, Side, root, added, Values, no_values, value, values, as_values, Slots, no_slots, absent, there, slots, as_slots}
+use Rattle.std.proofs.Common.{◌≡◌, refl, sym, ap, ◌∙◌, subst, ℕ, suc, Bool, true, List, [], ◌∷◌, length, Option, Some}
+use Rattle.rasn_types.specs.Values.{Value, elements, bag_of, fields, alternative, Side, as_values, slots, as_slots}
 use Rattle.rasn_types.specs.Variants.{Variant}
+use Rattle.rasn_types.proofs.Values.{as_slots-slots}
 use Rattle.rasn_constraints.specs.Bounds.{Size}
-use Rattle.rasn_schema.specs.Schemas.{Order, listed, by_tag, Tag, tags, Schema, Parts, no_parts, part}
-use Rattle.rasn_schema.specs.Orders.{ordered, by_tags, insert_at, how_many_less}
-use Rattle.per_core.specs.Spellings.{Settings, Spelling, Then}
-use Rattle.per_core.specs.Writers.{Writer, ◌▹◌, written_if}
-use Rattle.per_core.specs.Counts.{counted, list_items, bounded}
-use Rattle.per_core.specs.Canon.{canon, members, Member, shown, record_of, chosen, choice_of, extension_bit}
-use Rattle.per_core.specs.Basic.{As, Lengthy, Rule, IsBounded, Fields_in, Chosen, ExtensionBit}
-use Rattle.per_core.proofs.Codes.{same_true}
-use Rattle.per_core.proofs.Bags.{bag_rearranged}
-use Rattle.per_core.proofs.Within.{Within, just_within, refused_within, then_within, if_within, relax, bounded_within}
-use Rattle.per_core.proofs.Numbers.{small_within}
-use Rattle.per_core.proofs.Counting.{counted_within}
-use Rattle.per_core.proofs.Presenting.{Pair, Pairs, open_within, record_within}
+use Rattle.rasn_schema.specs.Schemas.{Order, Tag, tags, Schema, Parts, no_parts, part}
+use Rattle.rasn_schema.specs.Orders.{ordered}
+use Rattle.per_core.specs.Spellings.{Settings, Spelling}
+use Rattle.per_core.specs.Writers.{Writer, written_if}
+use Rattle.per_core.specs.Counts.{list_items}
+use Rattle.per_core.specs.Canon.{canon, members, Member, shown, record_of}
+use Rattle.per_core.specs.Basic.{As, Lengthy, Rule, Fields_in}
+use Rattle.per_core.proofs.Within.{Within, refused_within, if_within}
+use Rattle.per_core.proofs.Presenting.{Pairs, record_within}
+use Rattle.per_core.proofs.Canonical.{as_within, ordered-pairs, list_within, bags_within, choices_within}
 use Rattle.per_laws.proofs.Carry.{Carry}
 use Rattle.per_depth.specs.Written.{is_written}
 use Rattle.per_depth.proofs.Same.{Fits, ordered_root, record_same, written_shown}
@@ -32,39 +29,14 @@ written_so a t v = record { within = λ p b e. e }
 carried : {f : Writer} {g : Spelling} → Within f g → Carry (λ p b. f p ≡ Some b) g
 carried h = record { carry = λ p b e. h.within p b e }
 
-as_values-values : (vs : Values) → as_values (values vs) ≡ vs
-as_values-values no_values = refl
-as_values-values (value v vs) = ap (value v) (as_values-values vs)
-
-as_slots-slots : (ss : Slots) → as_slots (slots ss) ≡ ss
-as_slots-slots no_slots = refl
-as_slots-slots (absent ss) = ap absent (as_slots-slots ss)
-as_slots-slots (there v ss) = ap (there v) (as_slots-slots ss)
-
-as_within : {X : Type 0} (make : X → Value) (spells : X → Spelling) (x : X) (v : Value) → v ≡ make x → {w : Writer} → Within w (spells x) → Within w (As make spells v)
-as_within make spells x v e h = relax (λ p b s. record { of = x; is = e; spelled = s }) h
-
 -- lists
-list_within : (a : Settings) (t : Schema) (size : Size) (mark : Bool) (v : Value) → Within (canon a.variant (Schema.list t size mark) v) (As (λ vs. elements (as_values vs)) (Lengthy a size mark list_items (Writes a t)) v)
-unfolding canon
-list_within a t size mark (elements vs) = as_within (λ vs. elements (as_values vs)) (Lengthy a size mark list_items (Writes a t)) (values vs) (elements vs) (ap elements (sym (as_values-values vs)))
-    (counted_within (canon a.variant t) (Writes a t) (written_so a t) a size mark list_items (values vs))
-list_within a t size mark _ = refused_within
-
 pub list_layer : (a : Settings) (t : Schema) (size : Size) (mark : Bool) (v : Value) → Carry (Writes a (Schema.list t size mark) v) (As (λ vs. elements (as_values vs)) (Lengthy a size mark list_items (Writes a t)) v)
-list_layer a t size mark v = carried (list_within a t size mark v)
-
-bag_within : (a : Settings) (t : Schema) (size : Size) (mark : Bool) (v : Value) → Within (canon a.variant (Schema.set_of t size mark) v) (As bag_of (Lengthy a size mark list_items (Writes a t)) v)
 unfolding canon
-bag_within a t size mark (bag vs) = if_within (same (bag_of (values vs)) (bag vs)) (λ e.
-    let r = bag_rearranged (canon a.variant t) (λ f g. before (Canon.octet_key (f 0)) (Canon.octet_key (g 0))) (values vs) in
-    subst (λ l. Within (counted a.variant size mark list_items l) (As bag_of (Lengthy a size mark list_items (Writes a t)) (bag vs))) r.1
-    (as_within bag_of (Lengthy a size mark list_items (Writes a t)) r.0 (bag vs) (sym (same_true (bag_of (values vs)) (bag vs) e) ∙ sym r.2)
-    (counted_within (canon a.variant t) (Writes a t) (written_so a t) a size mark list_items r.0)))
-bag_within a t size mark _ = refused_within
+list_layer a t size mark v = carried (list_within a t (Writes a t) size mark (written_so a t) v)
 
 pub bag_layer : (a : Settings) (t : Schema) (size : Size) (mark : Bool) (v : Value) → Carry (Writes a (Schema.set_of t size mark) v) (As bag_of (Lengthy a size mark list_items (Writes a t)) v)
-bag_layer a t size mark v = carried (bag_within a t size mark v)
+unfolding canon
+bag_layer a t size mark v = carried (bags_within a t (Writes a t) size mark (written_so a t) v)
 
 -- records
 guarded : Variant → Parts → List Member
@@ -94,21 +66,6 @@ unfolding guarded
 guarded-pairs a no_parts = tt
 guarded-pairs a (part t p s ps) = (record { alike = refl; each = λ v. if_within (is_written p v) (λ h. record { within = λ q b e. (h, e) }) }, guarded-pairs a ps)
 
-insert-pairs : (n : ℕ) (m : Member) (r : Rule) (ms : List Member) (rs : List Rule) → Pair m r → Pairs ms rs → Pairs (insert_at n m ms) (insert_at n r rs)
-insert-pairs zero m r ms rs k ks = (k, ks)
-insert-pairs (suc n) m r [] [] k ks = (k, tt)
-insert-pairs (suc n) m r (q ∷ ms) (s ∷ rs) k ks = (ks.0, insert-pairs n m r ms rs k ks.1)
-insert-pairs (suc n) m r [] (s ∷ rs) k ks = absurd ks
-insert-pairs (suc n) m r (q ∷ ms) [] k ks = absurd ks
-
-ordered-pairs : (o : Order) (ts : List Tag) (ms : List Member) (rs : List Rule) → Pairs ms rs → Pairs (ordered o ts ms) (ordered o ts rs)
-ordered-pairs listed ts ms rs k = k
-ordered-pairs by_tag ts [] [] k = tt
-ordered-pairs by_tag [] (m ∷ ms) (r ∷ rs) k = k
-ordered-pairs by_tag (t ∷ ts) (m ∷ ms) (r ∷ rs) k = insert-pairs (how_many_less t ts) m r (by_tags ts ms) (by_tags ts rs) k.0 (ordered-pairs by_tag ts ms rs k.1)
-ordered-pairs by_tag ts [] (r ∷ rs) k = absurd k
-ordered-pairs by_tag ts (m ∷ ms) [] k = absurd k
-
 record_written : (a : Settings) (u : Bool) (o : Order) (ts : List Tag) (ext : Bool) (ps adds : Parts) (r x : List (Option Value)) →
     Within (record_of a.variant ext (ordered o ts (members a.variant ps)) (members a.variant adds) (ordered o ts r) x) (Fields_in a u ext (ordered o ts (written_rules a ps)) (written_rules a adds) (ordered o ts r) x)
 record_written a u o ts ext ps adds r x =
@@ -136,36 +93,12 @@ abbrev pub chosen_rules : Settings → Parts → List Rule
 chosen_rules a no_parts = []
 chosen_rules a (part t p s ps) = record { presence = p; spells = Writes a s } ∷ chosen_rules a ps
 
-chosen_within : (a : Settings) (ps : Parts) (i : ℕ) (v : Value) → Within (chosen (members a.variant ps) i v) (Chosen (chosen_rules a ps) i v)
+chosen-pairs : (a : Settings) (ps : Parts) → Pairs (members a.variant ps) (chosen_rules a ps)
 unfolding members
-chosen_within a no_parts i v = refused_within
-chosen_within a (part t p s ps) zero v = written_so a s v
-chosen_within a (part t p s ps) (suc i) v = chosen_within a ps i v
-
-chosen-length : (a : Settings) (ps : Parts) → length (members a.variant ps) ≡ length (chosen_rules a ps)
-unfolding members
-chosen-length a no_parts = refl
-chosen-length a (part t p s ps) = ap suc (chosen-length a ps)
-
-bit_within : (ext b : Bool) {w : Writer} {f : Spelling} → Within w f → Within (extension_bit ext b ▹ w) (Then (ExtensionBit ext b) f)
-bit_within true b h = then_within (just_within (b ∷ [])) h
-bit_within false false h = then_within (just_within []) h
-bit_within false true h = record { within = λ p b e. absurd (cc) }
-
-alternative_within : (a : Settings) (ext : Bool) (ps adds : Parts) (d : Side) (i : ℕ) (v : Value) →
-    Within (choice_of a.variant ext (members a.variant ps) (members a.variant adds) d i v) (Basic.Alternative a ext (chosen_rules a ps) (chosen_rules a adds) d i v)
-unfolding choice_of
-alternative_within a ext ps adds root i v = bit_within ext false (then_within
-    (subst (λ n. Within (bounded a.variant (length (members a.variant ps)) i) (IsBounded a n i)) (chosen-length a ps) (bounded_within a (length (members a.variant ps)) i)) (chosen_within a ps i v))
-alternative_within a ext ps adds added i v = bit_within ext true (then_within (small_within a i) (open_within a (chosen (members a.variant adds) i v) (Chosen (chosen_rules a adds) i v) (chosen_within a adds i v)))
-
-choice_within : (a : Settings) (ext : Bool) (ps adds : Parts) (v : Value) → Within (canon a.variant (Schema.choice ps adds ext) v)
-    (As (λ (x : Side × ℕ × Value). alternative x.0 x.1 x.2) (λ x. Basic.Alternative a ext (chosen_rules a ps) (chosen_rules a adds) x.0 x.1 x.2) v)
-unfolding canon
-choice_within a ext ps adds (alternative d i v) = as_within (λ (x : Side × ℕ × Value). alternative x.0 x.1 x.2) (λ x. Basic.Alternative a ext (chosen_rules a ps) (chosen_rules a adds) x.0 x.1 x.2)
-    (d, i, v) (alternative d i v) refl (alternative_within a ext ps adds d i v)
-choice_within a ext ps adds _ = refused_within
+chosen-pairs a no_parts = tt
+chosen-pairs a (part t p s ps) = (record { alike = refl; each = written_so a s }, chosen-pairs a ps)
 
 pub choice_layer : (a : Settings) (ext : Bool) (ps adds : Parts) (v : Value) → Carry (Writes a (Schema.choice ps adds ext) v)
     (As (λ (x : Side × ℕ × Value). alternative x.0 x.1 x.2) (λ x. Basic.Alternative a ext (chosen_rules a ps) (chosen_rules a adds) x.0 x.1 x.2) v)
-choice_layer a ext ps adds v = carried (choice_within a ext ps adds v)
+unfolding canon
+choice_layer a ext ps adds v = carried (choices_within a ext (members a.variant ps) (members a.variant adds) (chosen_rules a ps) (chosen_rules a adds) (chosen-pairs a ps) (chosen-pairs a adds) v)

@@ -4,7 +4,7 @@ use Rattle.std.proofs.Math.Path.{fun_ext}
 use Rattle.rasn_types.specs.Values.{Value, elements, bag, fields, alternative, root, added, values, slots}
 use Rattle.rasn_types.specs.Bits.{Bits}
 use Rattle.rasn_schema.specs.Schemas.{Presence, required, optional, group, default, Schema, Parts, no_parts, part}
-use Rattle.rasn_schema.specs.Depth.{meets_cut, slots_meet_cut, meets_cut_at, in_elements, in_fields, in_alternative, in_slots, any_of, CutOf, CutParts, cut_here, alike, cut_list, cut_set_of, cut_sequence, cut_choice, no_cut, cut_part, Unfolds}
+use Rattle.rasn_schema.specs.Depth.{meets_cut, slots_meet_cut, meets_cut_at, in_elements, in_fields, in_alternative, in_slots, CutOf, CutParts, cut_here, alike, cut_list, cut_set_of, cut_sequence, cut_choice, no_cut, cut_part, Unfolds}
 use Rattle.per_core.specs.Spellings.{Settings}
 use Rattle.per_core.specs.Writers.{complete}
 use Rattle.per_core.specs.Canon.{canon, bytes, completed}
@@ -16,12 +16,12 @@ use Rattle.per_core.proofs.Unique.{fills_agree}
 use Rattle.per_core.proofs.Within.{zero_if}
 use Rattle.per_core.proofs.Agree.{Agree}
 use Rattle.per_core.proofs.Laws.{written_is_read, fronts_agree}
-use Rattle.per_laws.proofs.Older.{or_left, or_right}
+use Rattle.per_core.proofs.Lengths.{or_left, or_right, and_no}
 use Rattle.per_laws.proofs.Transitive.{or_both}
 use Rattle.per_laws.proofs.Carry.{fills_carry}
 use Rattle.per_laws.proofs.Deeper.{looser, uncut}
 use Rattle.per_laws.proofs.Readers.{written_is_known}
-use Rattle.per_laws.proofs.Types.{up_to, older_type_answers, newer_type_answers}
+use Rattle.per_laws.proofs.Types.{up_to, older_type_answers, newer_type_answers, any_less}
 use Rattle.per_depth.specs.Written.{is_written, writes_cut, slots_write_cut, writes_cut_at}
 use Rattle.per_depth.proofs.Depths.{cut_reads, encodes_deeper}
 use Rattle.per_depth.proofs.Layers.{Writes}
@@ -175,24 +175,16 @@ newer_type_reads a T' T u' u k v os m n l l' e w c =
     )
 
 -- what meets no Cut writes none
-pub no_less : (K L : Value → Bool) → ((v : Value) → K v ≡ false → L v ≡ false) → (vs : List Value) → any_of K vs ≡ false → any_of L vs ≡ false
-no_less K L h [] m = refl
-no_less K L h (v ∷ vs) m = or_both (L v) (any_of L vs) (h v (or_left (K v) (any_of K vs) m)) (no_less K L h vs (or_right (K v) (any_of K vs) m))
-
-and_no : (a b : Bool) → b ≡ false → (a && b) ≡ false
-and_no true b e = e
-and_no false b e = refl
-
 mutual
   unfolding meets_cut writes_cut
 
   pub whole_writes : (s t : Schema) (v : Value) → meets_cut s v ≡ false → writes_cut s t v ≡ false
   whole_writes Schema.cut t v m = m
-  whole_writes (Schema.list e size mark) t (elements vs) m = no_less (meets_cut e) (writes_cut e (element_of t)) (whole_writes e (element_of t)) (values vs) m
-  whole_writes (Schema.list e size mark) t (bag vs) m = no_less (meets_cut e) (writes_cut e (element_of t)) (whole_writes e (element_of t)) (values vs) m
+  whole_writes (Schema.list e size mark) t (elements vs) m = any_less (meets_cut e) (writes_cut e (element_of t)) (whole_writes e (element_of t)) (values vs) m
+  whole_writes (Schema.list e size mark) t (bag vs) m = any_less (meets_cut e) (writes_cut e (element_of t)) (whole_writes e (element_of t)) (values vs) m
   whole_writes (Schema.list e size mark) t _ m = refl
-  whole_writes (Schema.set_of e size mark) t (elements vs) m = no_less (meets_cut e) (writes_cut e (element_of t)) (whole_writes e (element_of t)) (values vs) m
-  whole_writes (Schema.set_of e size mark) t (bag vs) m = no_less (meets_cut e) (writes_cut e (element_of t)) (whole_writes e (element_of t)) (values vs) m
+  whole_writes (Schema.set_of e size mark) t (elements vs) m = any_less (meets_cut e) (writes_cut e (element_of t)) (whole_writes e (element_of t)) (values vs) m
+  whole_writes (Schema.set_of e size mark) t (bag vs) m = any_less (meets_cut e) (writes_cut e (element_of t)) (whole_writes e (element_of t)) (values vs) m
   whole_writes (Schema.set_of e size mark) t _ m = refl
   whole_writes (Schema.sequence o ps ext adds) t (fields r x) m =
       or_both (slots_write_cut ps (root_of t) (slots r)) (slots_write_cut adds (additions_of t) (slots x))

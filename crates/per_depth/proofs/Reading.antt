@@ -3,6 +3,7 @@ use Rattle.per_core.specs.Basic
 use Rattle.rasn_schema.specs.Schemas
 use Rattle.std.proofs.Common.{◌≡◌, refl, sym, ap, ◌∙◌, subst, ℕ, zero, suc, ◌+◌, Bool, true, false, cond, not, ◌&&◌, List, [], ◌∷◌, length, eq-eqb, Option, Some, None}
 use Rattle.rasn_types.specs.Values.{Value, same, code, equal_lists, put, sorted, before, elements, bag_of, fields, alternative, Side, root, added, as_values, as_slots, slots}
+use Rattle.rasn_types.proofs.Values.{slots-as_slots, values-as_values}
 use Rattle.rasn_constraints.specs.Bounds.{Size}
 use Rattle.rasn_schema.specs.Schemas.{Presence, required, optional, group, default, Order, TagTree, tags, count, Schema, Parts, no_parts, part}
 use Rattle.rasn_schema.specs.Orders.{ordered}
@@ -11,11 +12,10 @@ use Rattle.per_core.specs.Spellings.{Settings}
 use Rattle.per_core.specs.Counts.{list_items}
 use Rattle.per_core.specs.Basic.{FlagOf, IsLeftOut, Fields, Lengthy, Rule, IsBounded, Chosen, Open, Fills, basic, basic_in, rules}
 use Rattle.per_core.proofs.Agree.{Agree, weaken, then_agree, agree_never, never_agree, turned}
-use Rattle.per_core.proofs.Lengths.{Zip, bounded_agree, lengthy_agree}
+use Rattle.per_core.proofs.Lengths.{Zip, bounded_agree, lengthy_agree, or_left, or_right, and_no}
 use Rattle.per_core.proofs.Unique.{as_agree, small_agree, open_agree, fills_agree}
 use Rattle.per_core.proofs.Records.{SlotRel, Kin, AllKin, Along, fields_agree}
 use Rattle.per_core.proofs.Whole.{one_reading, item_agree, ordered-kin, along-listed, length-rules, same_flags, same_bit, root_added}
-use Rattle.per_laws.proofs.Older.{slots-as_slots, values-as_values, or_left, or_right}
 use Rattle.per_laws.proofs.Transitive.{or_both}
 use Rattle.per_depth.specs.Written.{is_written, writes_cut, slots_write_cut, writes_cut_at}
 use Rattle.per_depth.proofs.Same.{slot_written_cut}
@@ -60,10 +60,6 @@ unfolding same
 same_self v = equal_self (code v)
 
 -- one part
-pub and_no : (a b : Bool) → b ≡ false → (a && b) ≡ false
-and_no true b e = e
-and_no false b e = refl
-
 Kept : Presence → Schema → Schema → SlotRel
 Kept p s t x y = slot_written_cut p s t x ≡ false
 

@@ -12,7 +12,8 @@ use Rattle.per_core.specs.Writers.{Writer, just, refused, ◌▹◌, go_on, writ
 use Rattle.per_core.specs.Counts.{counted, list_items, open_bits, bounded, small}
 use Rattle.per_core.specs.Canon.{canon, members, Member, shown, flagged, if_shown, flags_of, bodies_of, also_bit, bitmap_of, bitmap, any_set, opens_of, with_additions, record_of, chosen, extension_bit, ascending}
 use Rattle.per_core.proofs.Whole.{length-by_tags}
-use Rattle.per_laws.proofs.Older.{or_left, or_right}
+use Rattle.per_core.proofs.Lengths.{or_left, or_right}
+use Rattle.per_core.proofs.Presenting.{some_both}
 use Rattle.per_laws.proofs.Deeper.{same_cut_tags}
 use Rattle.per_laws.proofs.Takes.{some_is}
 use Rattle.per_depth.specs.Written.{is_written, writes_cut, slots_write_cut, writes_cut_at}
@@ -111,17 +112,12 @@ bitmap_same (m' ∷ ms') (m ∷ ms) (x ∷ xs) k = ap₂ (λ o q. also_bit o q) 
 bitmap_same [] (m ∷ ms) xs k = absurd k
 bitmap_same (m' ∷ ms') [] xs k = absurd k
 
-bit_of : (o : Option Bool) (q : Option Bits) (bs : Bits) → also_bit o q ≡ Some bs → (b : Bool) × (cs : Bits) × (o ≡ Some b) × (q ≡ Some cs) × (bs ≡ b ∷ cs)
-bit_of None q bs e = absurd (cc)
-bit_of (Some b) None bs e = absurd (cc)
-bit_of (Some b) (Some cs) bs e = (b, cs, refl, refl, cc)
-
 opens_same : (a : Variant) (ms' ms : List Member) (xs : List (Option Value)) → Fits ms' ms xs → (bs : Bits) → bitmap_of ms xs ≡ Some bs → opens_of a ms' xs bs ≡ opens_of a ms xs bs
 unfolding bitmap_of
 opens_same a [] [] xs k bs e = refl
 opens_same a (m' ∷ ms') (m ∷ ms) [] k bs e = refl
 opens_same a (m' ∷ ms') (m ∷ ms) (x ∷ xs) k bs e =
-    let q = bit_of (shown m.presence x) (bitmap_of ms xs) bs e in
+    let q = some_both (shown m.presence x) (bitmap_of ms xs) bs e in
     subst (λ z. opens_of a (m' ∷ ms') (x ∷ xs) z ≡ opens_of a (m ∷ ms) (x ∷ xs) z) (sym q.4) (go x q.0 q.1 q.2 k.0.each (opens_same a ms' ms xs k.1 q.1 q.3))
   where
     go : (x : Option Value) (b : Bool) (cs : Bits) → shown m.presence x ≡ Some b → ((v : Value) → x ≡ Some v → shown m.presence x ≡ Some true → m'.writes v ≡ m.writes v) →

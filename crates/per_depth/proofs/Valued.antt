@@ -1,14 +1,14 @@
 -- The normal form of a schema's value is a value of that schema.
 use Rattle.std.proofs.Common.{◌≡◌, refl, sym, ap, ◌∙◌, ap₂, ℕ, zero, suc, ◌^◌, Bool, true, false, cond, ltb, ◌&&◌, List, [], ◌∷◌, map, length, Option, Some, None}
 use Rattle.rasn_types.specs.Values.{Value, code, before, put, sorted, same, elements, bag, bag_of, fields, alternative, root, added, as_values, values, slots}
+use Rattle.rasn_types.proofs.Values.{slots-as_slots, values-as_values}
 use Rattle.rasn_schema.specs.Schemas.{Presence, required, optional, group, default, Schema, Parts, no_parts, part}
 use Rattle.rasn_schema.specs.Normal.{is_vacant, settle, each_slot, over_elements, over_bag, over_fields, over_alternative, normal, normals, normal_at}
 use Rattle.rasn_schema.specs.Lawful.{all_pass, is_countable, if_elements, if_bag, if_fields, if_alternative, slot_passes, slots_pass, is_value, are_values, is_value_at}
 use Rattle.per_core.specs.Versions.{all_of, joined}
-use Rattle.per_core.proofs.Bags.{bag_becomes}
+use Rattle.per_core.proofs.Bags.{bag_becomes, sort, some_list}
 use Rattle.per_core.proofs.Counting.{length-map'}
 use Rattle.per_core.proofs.Lengths.{and_left, and_right}
-use Rattle.per_laws.proofs.Older.{slots-as_slots, values-as_values}
 use Rattle.per_depth.proofs.Reading.{same_self}
 
 -- what passes a test passes it still
@@ -29,9 +29,6 @@ elements_stay f g h (elements vs) e =
 elements_stay f g h _ e = absurd (cc)
 
 -- sorting keeps the elements
-sort : List Value → List Value
-sort vs = sorted (λ v w. before (code v) (code w)) vs
-
 put_passes : (f : Value → Bool) (less : Value → Value → Bool) (v : Value) (vs : List Value) → f v ≡ true → all_pass f vs ≡ true → all_pass f (put less v vs) ≡ true
 put_passes f less v [] e h = ap (λ a. a && true) e
 put_passes f less v (w ∷ ws) e h = go (less w v) (put_passes f less v ws e (and_right (f w) (all_pass f ws) h))
@@ -59,9 +56,6 @@ length_sorted less (v ∷ vs) = length_put less v (sorted less vs) ∙ ap suc (l
 all_some : (vs : List Value) → all_of (λ v. Some v) vs ≡ Some vs
 all_some [] = refl
 all_some (v ∷ vs) = ap (joined (Some v)) (all_some vs)
-
-some_list : (us ws : List Value) → ◌≡◌ {A = Option (List Value)} (Some us) (Some ws) → us ≡ ws
-some_list us ws e = cc
 
 bag_of_sorted : (vs : List Value) → bag_of (sort vs) ≡ bag_of vs
 unfolding sort

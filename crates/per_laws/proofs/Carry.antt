@@ -16,6 +16,10 @@ pub record Carry (f g : Spelling) : Type 0 where
 pub kept : {f : Spelling} → Carry f f
 kept = record { carry = λ p b x. x }
 
+-- one spelling after another
+pub carries : {f g h : Spelling} → Carry f g → Carry g h → Carry f h
+carries x y = record { carry = λ p b e. y.carry p b (x.carry p b e) }
+
 pub then_carry : {f f' g g' : Spelling} → Carry f f' → Carry g g' → Carry (Then f g) (Then f' g')
 then_carry h k = record { carry = λ p b x. record { front = x.front; rest = x.rest; is_front = h.carry p x.front x.is_front; is_rest = k.carry (after p x.front) x.rest x.is_rest; whole = x.whole } }
 

@@ -1,10 +1,11 @@
 -- Chains of versions: projecting in two steps is projecting at once.
 use Rattle.std.proofs.Common.{◌≡◌, refl, sym, ap, ◌∙◌, ℕ, zero, suc, Bool, true, false, cond, ltb, List, [], ◌∷◌, Option, Some, None}
-use Rattle.rasn_types.specs.Values.{sorted, before, code, Value, elements, bag, bag_of, fields, alternative, root, added, as_values, as_slots, values, slots}
+use Rattle.rasn_types.specs.Values.{Value, elements, bag, bag_of, fields, alternative, root, added, as_values, as_slots, values, slots}
+use Rattle.rasn_types.proofs.Values.{slots-as_slots, values-as_values}
 use Rattle.rasn_schema.specs.Schemas.{Schema, Parts}
 use Rattle.per_core.specs.Versions.{project, project_slots, project_at, slot_through, slots_through, through_elements, through_bag, through_fields, through_alternative, through_item, made, made_both, joined, all_of, IsPlain, Newer, NewerParts, unchanged, more_items, newer_list, newer_set_of, newer_sequence, newer_choice, no_more, more_parts, also}
-use Rattle.per_core.proofs.Bags.{bag_source, bag_becomes}
-use Rattle.per_laws.proofs.Older.{slots-as_slots, values-as_values, made_of, made_both_of, joined_of, slot_some}
+use Rattle.per_core.proofs.Bags.{bag_source, bag_becomes, joined_of, sort}
+use Rattle.per_laws.proofs.Older.{made_of, made_both_of, slot_some}
 use Rattle.per_laws.proofs.Takes.{some_is}
 
 pub Steps : (f g h : Value → Option Value) → Type 0
@@ -29,9 +30,6 @@ elements_steps f g h r (elements vs) w e =
     let q = made_of (λ ws. elements (as_values ws)) (all_of f (values vs)) w e in
     ap (through_elements g) q.2 ∙ ap (λ l. made (λ us. elements (as_values us)) (all_of g l)) (values-as_values q.0) ∙ ap (made (λ us. elements (as_values us))) (all_steps f g h r (values vs) q.0 q.1)
 elements_steps f g h r _ w e = absurd (cc)
-
-sort : List Value → List Value
-sort vs = sorted (λ v w. before (code v) (code w)) vs
 
 pub bag_through : (g : Value → Option Value) (us : List Value) → through_bag g (bag_of us) ≡ made bag_of (all_of g us)
 unfolding bag_of sort

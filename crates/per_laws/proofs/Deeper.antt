@@ -1,6 +1,7 @@
 -- Depth: what is spelled in a tree is spelled in a deeper one, and back where no Cut is met. Also: what is spelled without unknown additions is spelled.
 use Rattle.std.proofs.Common.{◌≡◌, refl, sym, ap, ◌∙◌, subst, ℕ, zero, suc, ◌+◌, Bool, true, false, List, [], ◌∷◌, length, arith, Option}
 use Rattle.rasn_types.specs.Values.{sorted, before, code, Value, elements, bag, bag_of, fields, alternative, Side, root, added, as_values, as_slots, values, slots}
+use Rattle.rasn_types.proofs.Values.{slots-as_slots, values-as_values}
 use Rattle.rasn_schema.specs.Depth.{meets_cut, slots_meet_cut, meets_cut_at, in_elements, any_of, IsLeaf, CutOf, CutParts, cut_here, alike, cut_list, cut_set_of, cut_sequence, cut_choice, no_cut, cut_part}
 use Rattle.rasn_schema.specs.Orders.{ordered}
 use Rattle.rasn_schema.specs.Schemas
@@ -10,12 +11,12 @@ use Rattle.per_core.specs.Basic.{IsLeftOut, As, Lengthy, Unknown_in, Additions_i
 use Rattle.per_core.specs.Counts.{list_items}
 use Rattle.per_core.specs.Spellings.{Settings, Spelling}
 use Rattle.per_core.proofs.Bags.{any_in_bag}
-use Rattle.per_core.proofs.Lengths.{Zip}
+use Rattle.per_core.proofs.Lengths.{Zip, or_left, or_right}
 use Rattle.per_core.proofs.Records.{SlotRel, Along}
 use Rattle.per_core.proofs.Whole.{length-rules-in}
 use Rattle.per_laws.proofs.Carry.{Carry, kept, Leads, AllLead}
 use Rattle.per_laws.proofs.Carrying.{lengthy_as, additions_step, record_as, choice_as, rules_on}
-use Rattle.per_laws.proofs.Older.{slots-as_slots, values-as_values, or_left, or_right, slot_meets}
+use Rattle.per_laws.proofs.Older.{slot_meets}
 use Rattle.per_laws.proofs.Takes.{slot_meets_not}
 
 -- unknown additions may come in, and do not go out
@@ -74,7 +75,7 @@ pub same_cut_tags : {ps qs : Parts} → CutParts ps qs → tags ps ≡ tags qs
 same_cut_tags no_cut = refl
 same_cut_tags (cut_part {t = t} c cs) = ap (λ l. Schemas.smallest t ∷ l) (same_cut_tags cs)
 
-cut_count : {ps qs : Parts} → CutParts ps qs → count ps ≡ count qs
+pub cut_count : {ps qs : Parts} → CutParts ps qs → count ps ≡ count qs
 cut_count no_cut = refl
 cut_count (cut_part c cs) = ap (λ k. 1 + k) (cut_count cs)
 

@@ -13,15 +13,12 @@ use Rattle.per_core.specs.Counts.{Counted, list_items, octet_items, bit_items, c
 use Rattle.per_core.specs.Spellings.{Settings, Spelling, exactly, Then, AnyPadding, Field}
 use Rattle.per_core.proofs.Lengths.{Zip}
 use Rattle.per_core.proofs.Whole.{length-rules-in}
-use Rattle.per_laws.proofs.Carry.{Carry, kept, then_carry, either_carry, when_carry, fills_carry, lengthy_carry, AllLead}
+use Rattle.per_laws.proofs.Carry.{Carry, kept, then_carry, either_carry, when_carry, fills_carry, lengthy_carry, AllLead, carries}
 use Rattle.per_laws.proofs.Carrying.{as_carry, additions_step, record_as, choice_as, rules_on}
 use Rattle.per_laws.proofs.Deeper.{Equal, equals, part_equal, along_equal, list_kept, bag_kept, Nothing, none_in, on_either}
 
 abbrev pub loose : Settings → Settings
 loose a = record { variant = a.variant; strict = false }
-
-both : {f g h : Spelling} → Carry f g → Carry g h → Carry f h
-both x y = record { carry = λ p b z. y.carry p b (x.carry p b z) }
 
 made_carry : {X : Type 0} (make : X → Value) (f g : X → Spelling) → ((x : X) → Carry (f x) (g x)) → (v : Value) → Carry (As make f v) (As make g v)
 made_carry make f g h v = as_carry make make f g v v (λ x p b e s. (x, e, (h x).carry p b s))
@@ -153,7 +150,7 @@ lengthy_same {X} f g h a size mark kind xs = lengthy_carry (λ (x y : X). x ≡ 
 
 -- characters and dates
 strings : (a : Settings) (alphabet : List ℕ) (size : Size) (mark : Bool) (cs : List ℕ) → Carry (String a alphabet size mark cs) (String (loose a) alphabet size mark cs)
-strings a alphabet size mark cs = both (lengthies (Char a alphabet) a size mark (char_items (char_width a.variant alphabet)) cs)
+strings a alphabet size mark cs = carries (lengthies (Char a alphabet) a size mark (char_items (char_width a.variant alphabet)) cs)
     (lengthy_same (Char a alphabet) (Char (loose a) alphabet) (λ c. record { carry = λ p b x. record { index = x.index; is = x.is; spelled = x.spelled } }) (loose a) size mark (char_items (char_width a.variant alphabet)) cs)
 
 years_in : (a : Settings) (low n : ℕ) (y : ℤ) → Carry (YearIn a low n y) (YearIn (loose a) low n y)
@@ -193,20 +190,20 @@ mutual
   loosen a u (Schema.octet_string size mark) v = made_carry Value.octets (Lengthy a size mark octet_items octet) (Lengthy (loose a) size mark octet_items octet) (lengthies octet a size mark octet_items) v
   loosen a u (Schema.bit_string size mark) v = made_carry Value.bits (Lengthy a size mark bit_items bit) (Lengthy (loose a) size mark bit_items bit) (lengthies bit a size mark bit_items) v
   loosen a u (Schema.char_string alphabet size mark) v = made_carry characters (String a alphabet size mark) (String (loose a) alphabet size mark) (strings a alphabet size mark) v
-  loosen a u (Schema.list e size mark) v = both
+  loosen a u (Schema.list e size mark) v = carries
       (list_kept Nothing (basic_in a u e) (basic_in (loose a) u e) (λ w m. loosen a u e w) a size mark v (none_in v))
       (made_carry (λ vs. elements (as_values vs)) (Lengthy a size mark list_items (basic_in (loose a) u e)) (Lengthy (loose a) size mark list_items (basic_in (loose a) u e)) (lengthies (basic_in (loose a) u e) a size mark list_items) v)
-  loosen a u (Schema.set_of e size mark) v = both
+  loosen a u (Schema.set_of e size mark) v = carries
       (bag_kept Nothing (basic_in a u e) (basic_in (loose a) u e) (λ w m. loosen a u e w) a size mark v (none_in v))
       (made_carry bag_of (Lengthy a size mark list_items (basic_in (loose a) u e)) (Lengthy (loose a) size mark list_items (basic_in (loose a) u e)) (lengthies (basic_in (loose a) u e) a size mark list_items) v)
-  loosen a u (Schema.sequence o ps ext adds) v = both
+  loosen a u (Schema.sequence o ps ext adds) v = carries
       (record_as a u u o (tags ps) ext (equals ps) (rules_in a u ps) (rules_in (loose a) u ps) (rules_in a u adds) (rules_in (loose a) u adds) (loosen_leads a u ps) v v
       (λ x i m n. (x, i, along_equal ps x.0 (m ∙ length-rules-in a u ps), loosen_additions a u adds x.1)))
       (made_carry (λ (x : List (Option Value) × List (Option Value)). fields (as_slots x.0) (as_slots x.1))
       (λ x. Fields_in a u ext (ordered o (tags ps) (rules_in (loose a) u ps)) (rules_in (loose a) u adds) (ordered o (tags ps) x.0) x.1)
       (λ x. Fields_in (loose a) u ext (ordered o (tags ps) (rules_in (loose a) u ps)) (rules_in (loose a) u adds) (ordered o (tags ps) x.0) x.1)
       (λ x. fields_loose a u ext (ordered o (tags ps) (rules_in (loose a) u ps)) (rules_in (loose a) u adds) (ordered o (tags ps) x.0) x.1) v)
-  loosen a u (Schema.choice ps adds ext) v = both
+  loosen a u (Schema.choice ps adds ext) v = carries
       (choice_as a ext (rules_in a u ps) (rules_in (loose a) u ps) (rules_in a u adds) (rules_in (loose a) u adds) (length-rules-in a u ps ∙ sym (length-rules-in (loose a) u ps)) v v
       (λ d i x h. (x, h, on_either (λ side. Carry (Chosen (rules_on side (rules_in a u ps) (rules_in a u adds)) i x) (Chosen (rules_on side (rules_in (loose a) u ps) (rules_in (loose a) u adds)) i x)) (loosen_chosen a u ps i x) (loosen_chosen a u adds i x) d)))
       (made_carry (λ (x : Side × ℕ × Value). alternative x.0 x.1 x.2) (λ x. Basic.Alternative a ext (rules_in (loose a) u ps) (rules_in (loose a) u adds) x.0 x.1 x.2)

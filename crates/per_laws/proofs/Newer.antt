@@ -1,6 +1,7 @@
 -- Where a newer reader and an older one read the same bits, the newer one's value is the widening of the older one's, unless unknown additions are present.
 use Rattle.std.proofs.Common.{◌≡◌, refl, sym, ap, ◌∙◌, subst, ℕ, zero, suc, ◌<◌, Bool, true, false, List, [], ◌∷◌, arith, Option, Some, None}
 use Rattle.rasn_types.specs.Values.{sorted, before, code, Value, elements, bag_of, fields, alternative, root, added, as_values, slots, as_slots}
+use Rattle.rasn_types.proofs.Values.{values-as_values, slots-as_slots}
 use Rattle.rasn_schema.specs.Depth.{meets_cut, slots_meet_cut, meets_cut_at, in_elements, in_fields, any_of}
 use Rattle.rasn_schema.specs.Orders.{ordered}
 use Rattle.rasn_constraints.specs.Bounds.{Size}
@@ -12,11 +13,11 @@ use Rattle.per_core.specs.Spellings.{Settings, Then}
 use Rattle.per_core.specs.Versions.{widen, widen_slots, widen_at, filled_in, all_filled_in, slot_through, through_elements, through_fields, made, made_both, joined, all_of, IsPlain, NewerPresence, Newer, NewerParts, unchanged, more_items, newer_list, newer_set_of, newer_sequence, newer_choice, no_more, more_parts, also}
 use Rattle.per_core.proofs.Agree.{Agree, weaken, then_agree, either_agree, when_agree, never_agree, agree_never, empty_agree, no_yes, yes_no, behind}
 use Rattle.per_core.proofs.Bags.{bag_becomes, any_in_bag}
-use Rattle.per_core.proofs.Lengths.{Zip, lengthy_agree}
+use Rattle.per_core.proofs.Lengths.{Zip, lengthy_agree, or_left, or_right}
 use Rattle.per_core.proofs.Records.{SlotRel, AllKin, Along, holds_agree, root_agree, bitmap_agree}
 use Rattle.per_core.proofs.Unique.{as_agree, fills_agree, open_agree}
-use Rattle.per_core.proofs.Whole.{one_reading, item_agree, alternative_agree, ordered-kin, along-listed, rel_at, length-rules-in}
-use Rattle.per_laws.proofs.Older.{slot_meets, or_left, or_right, values-as_values, slots-as_slots, flags_newer, same_tags, some_value}
+use Rattle.per_core.proofs.Whole.{one_reading, item_agree, alternative_agree, ordered-kin, along-listed, rel_at, length-rules-in, some_same}
+use Rattle.per_laws.proofs.Older.{slot_meets, flags_newer, same_tags}
 
 -- additions: those that the newer reader knows alone are left out
 abbrev LeftOuts : List Rule → List (Option Value) → Type 0
@@ -129,7 +130,7 @@ bag_widen s' s size mark vs ws z m =
     let sort : List Value → List Value = sorted (λ v w. before (code v) (code w)) in
     let h : any_of (meets_cut s') (sort vs) ≡ false = subst (λ l. any_of (meets_cut s') l ≡ false) (values-as_values (sort vs)) m in
     let q = bag_becomes (widen s' s) ws vs (all_widen s' s vs ws z (any_in_bag (meets_cut s') vs h)) in
-    ap (λ l. made bag_of (all_of (widen s' s) l)) (values-as_values (sort ws)) ∙ ap (made bag_of) q.1 ∙ some_value q.2
+    ap (λ l. made bag_of (all_of (widen s' s) l)) (values-as_values (sort ws)) ∙ ap (made bag_of) q.1 ∙ some_same q.2
 
 left_filled : (p : Presence) (y : Option Value) → IsLeftOut p y → filled_in p ≡ Some y
 left_filled required y e = absurd e
@@ -217,7 +218,7 @@ items_widen a r e' e ext v' v = as_agree (WidensValue (Schema.items r e' ext) (S
       agree = λ p b c s t h k u.
           let q = (item_agree a r e' e ext x.0 x.1 y.0 y.1).agree p b c s t h k u in
           let j : Value.item x.0 x.1 ≡ Value.item y.0 y.1 = ap (λ d. Value.item d x.1) q.0.0 ∙ ap (λ i. Value.item y.0 i) q.0.1 in
-          ((λ m. some_value (sym j)), q.1);
+          ((λ m. some_same (sym j)), q.1);
     })
 
 plain_widens : (a : Settings) (s : Schema) → IsPlain s → (v' v : Value) → Agree (WidensValue s s v' v) (basic a s v') (basic_in a false s v)
@@ -227,7 +228,7 @@ plain_widens a (Schema.list e size mark) h v' v = absurd h
 plain_widens a (Schema.set_of e size mark) h v' v = absurd h
 plain_widens a (Schema.sequence o ps ext adds) h v' v = absurd h
 plain_widens a (Schema.choice ps adds ext) h v' v = absurd h
-plain_widens a s h v' v = weaken (λ e m. let e' : v ≡ v' = sym e in some_value e') (one_reading a s v' v)
+plain_widens a s h v' v = weaken (λ e m. let e' : v ≡ v' = sym e in some_same e') (one_reading a s v' v)
 
 list_reads : (a : Settings) (s' s : Schema) (size : Size) (mark : Bool) → ((v' v : Value) → Agree (WidensValue s' s v' v) (basic a s' v') (basic_in a false s v)) → (v' v : Value) →
     Agree (WidensValue (Schema.list s' size mark) (Schema.list s size mark) v' v) (basic a (Schema.list s' size mark) v') (basic_in a false (Schema.list s size mark) v)

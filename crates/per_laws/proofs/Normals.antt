@@ -1,11 +1,11 @@
 -- The normal form of a normal form is itself.
 use Rattle.std.proofs.Common.{◌≡◌, refl, sym, ap, ◌∙◌, ℕ, zero, suc, Bool, true, false, cond, List, [], ◌∷◌, map, Option, Some, None}
-use Rattle.rasn_types.specs.Values.{sorted, before, code, Value, elements, bag, bag_of, fields, alternative, root, added, as_values, as_slots, values, slots}
+use Rattle.rasn_types.specs.Values.{Value, elements, bag, bag_of, fields, alternative, root, added, as_values, as_slots, values, slots}
+use Rattle.rasn_types.proofs.Values.{slots-as_slots, values-as_values}
 use Rattle.rasn_schema.specs.Normal.{is_vacant, settle, each_slot, over_elements, over_bag, over_fields, over_alternative, normal, normals, normal_at}
 use Rattle.rasn_schema.specs.Schemas.{Presence, required, optional, group, default, Schema, Parts, no_parts, part}
 use Rattle.per_core.specs.Versions.{all_of, joined}
-use Rattle.per_core.proofs.Bags.{bag_becomes}
-use Rattle.per_laws.proofs.Older.{slots-as_slots, values-as_values}
+use Rattle.per_core.proofs.Bags.{bag_becomes, sort, some_list}
 
 abbrev Still : {X : Type 0} → (X → X) → Type 0
 Still {X} f = (v : X) → f (f v) ≡ f v
@@ -18,16 +18,10 @@ elements_still : (f : Value → Value) → Still f → Still (over_elements f)
 elements_still f h (elements vs) = ap (λ l. elements (as_values (map f l))) (values-as_values (map f (values vs))) ∙ ap (λ l. elements (as_values l)) (map_still f h (values vs))
 elements_still f h _ = refl
 
-sort : List Value → List Value
-sort vs = sorted (λ v w. before (code v) (code w)) vs
-
 -- the bag of what the elements of a bag become
 all_map : (f : Value → Value) (vs : List Value) → all_of (λ v. Some (f v)) vs ≡ Some (map f vs)
 all_map f [] = refl
 all_map f (v ∷ vs) = ap (joined (Some (f v))) (all_map f vs)
-
-some_list : (us ws : List Value) → ◌≡◌ {A = Option (List Value)} (Some us) (Some ws) → us ≡ ws
-some_list us ws e = cc
 
 bag_map : (f : Value → Value) (vs : List Value) → bag_of (map f (sort vs)) ≡ bag_of (map f vs)
 unfolding sort

@@ -1,7 +1,8 @@
 -- Where a newer and an older reader read the same bits, the older one's value is the projection of the newer one's.
-use Rattle.std.proofs.Common.{◌≡◌, refl, sym, ap, ◌∙◌, subst, ℕ, zero, suc, ◌<◌, Bool, true, false, cond, ◌||◌, List, [], ◌∷◌, arith, Option, Some, None, lt-ltb}
+use Rattle.std.proofs.Common.{◌≡◌, refl, sym, ap, ◌∙◌, subst, ℕ, zero, suc, ◌<◌, Bool, true, false, cond, List, [], ◌∷◌, arith, Option, Some, None, lt-ltb}
 use Rattle.rasn_types.specs.Bits.{Bits}
 use Rattle.rasn_types.specs.Values.{sorted, before, code, Value, elements, bag_of, fields, alternative, Side, root, added, bag, values, as_values, slots, as_slots}
+use Rattle.rasn_types.proofs.Values.{values-as_values, slots-as_slots}
 use Rattle.rasn_schema.specs.Depth.{meets_cut, slots_meet_cut, meets_cut_at, in_elements, in_fields, any_of}
 use Rattle.rasn_schema.specs.Orders.{ordered}
 use Rattle.rasn_schema.specs.Schemas
@@ -13,11 +14,11 @@ use Rattle.per_core.specs.Counts.{list_items}
 use Rattle.per_core.specs.Spellings.{Settings}
 use Rattle.per_core.specs.Versions.{project, project_slots, project_at, widen, widen_slots, widen_at, slot_through, slots_through, through_elements, through_bag, through_fields, through_alternative, through_item, made, made_both, joined, all_of, IsPlain, NewerPresence, Newer, NewerParts, unchanged, more_items, newer_list, newer_set_of, newer_sequence, newer_choice, no_more, more_parts, also}
 use Rattle.per_core.proofs.Agree.{Agree, weaken}
-use Rattle.per_core.proofs.Bags.{bag_becomes, any_in_bag}
-use Rattle.per_core.proofs.Lengths.{Zip, lengthy_agree}
+use Rattle.per_core.proofs.Bags.{bag_becomes, any_in_bag, joined_of}
+use Rattle.per_core.proofs.Lengths.{Zip, lengthy_agree, or_left, or_right}
 use Rattle.per_core.proofs.Records.{SlotRel, AllKin, Along, fields_agree}
 use Rattle.per_core.proofs.Unique.{as_agree}
-use Rattle.per_core.proofs.Whole.{one_reading, item_agree, alternative_agree, ordered-kin, along-listed, rel_at, length-rules, same_flags}
+use Rattle.per_core.proofs.Whole.{one_reading, item_agree, alternative_agree, ordered-kin, along-listed, rel_at, length-rules, same_flags, some_same}
 
 -- what a slot of the newer reader and one of the older have in common, where no default is cut off
 abbrev pub slot_meets : Schema → Option Value → Bool
@@ -35,24 +36,6 @@ rels (part t p s ps) (part t' p' s' ps') = Projects s s' ∷ rels ps ps'
 abbrev pub ProjectsValue : Schema → Schema → Value → Value → Type 0
 ProjectsValue s' s v' v = meets_cut s' v' ≡ false → project s' s v' ≡ Some v
 
-pub or_left : (a b : Bool) → (a || b) ≡ false → a ≡ false
-or_left false b e = refl
-or_left true b e = e
-
-pub or_right : (a b : Bool) → (a || b) ≡ false → b ≡ false
-or_right false b e = e
-or_right true b e = absurd (cc)
-
--- lists as values and back
-pub values-as_values : (vs : List Value) → values (as_values vs) ≡ vs
-values-as_values [] = refl
-values-as_values (v ∷ vs) = let r : values (as_values vs) ≡ vs = values-as_values vs in cc
-
-pub slots-as_slots : (ss : List (Option Value)) → slots (as_slots ss) ≡ ss
-slots-as_slots [] = refl
-slots-as_slots (None ∷ ss) = let r : slots (as_slots ss) ≡ ss = slots-as_slots ss in cc
-slots-as_slots (Some v ∷ ss) = let r : slots (as_slots ss) ≡ ss = slots-as_slots ss in cc
-
 -- what `made` was made of
 pub made_of : {A : Type 0} (f : A → Value) (o : Option A) (v : Value) → made f o ≡ Some v → (x : A) × (o ≡ Some x) × (v ≡ f x)
 made_of f None v e = absurd (cc)
@@ -62,11 +45,6 @@ pub made_both_of : (o q : Option (List (Option Value))) (v : Value) → made_bot
 made_both_of None q v e = absurd (cc)
 made_both_of (Some r) None v e = absurd (cc)
 made_both_of (Some r) (Some x) v e = (r, x, refl, refl, cc)
-
-pub joined_of : {A : Type 0} (o : Option A) (q : Option (List A)) (us : List A) → joined o q ≡ Some us → (u : A) × (us1 : List A) × (o ≡ Some u) × (q ≡ Some us1) × (us ≡ u ∷ us1)
-joined_of None q us e = absurd (cc)
-joined_of (Some u) None us e = absurd (cc)
-joined_of (Some u) (Some us1) us e = (u, us1, refl, refl, cc)
 
 -- f goes up, g stays, h comes back
 Returns : (f g h : Value → Option Value) → Type 0
@@ -325,9 +303,6 @@ plain_reads a (Schema.choice ps adds ext) h v' v = absurd h
 plain_reads a s h v' v = weaken (λ e m. let e' : v' ≡ v = e in cc) (one_reading a s v' v)
 
 -- the elements of two bags, in any order
-pub some_value : {v w : Value} → v ≡ w → ◌≡◌ {A = Option Value} (Some v) (Some w)
-some_value e = cc
-
 bag_project : (s' s : Schema) (size : Size) (mark : Bool) (vs ws : List Value) → Zip (ProjectsValue s' s) vs ws → meets_cut (Schema.set_of s' size mark) (bag_of vs) ≡ false →
     project (Schema.set_of s' size mark) (Schema.set_of s size mark) (bag_of vs) ≡ Some (bag_of ws)
 unfolding project meets_cut bag_of
@@ -335,7 +310,7 @@ bag_project s' s size mark vs ws z m =
     let sort : List Value = sorted (λ v w. before (code v) (code w)) vs in
     let h : any_of (meets_cut s') sort ≡ false = subst (λ l. any_of (meets_cut s') l ≡ false) (values-as_values sort) m in
     let q = bag_becomes (project s' s) vs ws (all_project s' s vs ws z (any_in_bag (meets_cut s') vs h)) in
-    ap (λ l. made bag_of (all_of (project s' s) l)) (values-as_values sort) ∙ ap (made bag_of) q.1 ∙ some_value q.2
+    ap (λ l. made bag_of (all_of (project s' s) l)) (values-as_values sort) ∙ ap (made bag_of) q.1 ∙ some_same q.2
 
 list_reads : (a : Settings) (s' s : Schema) (size : Size) (mark : Bool) → ((v' v : Value) → Agree (ProjectsValue s' s v' v) (basic a s' v') (basic a s v)) → (v' v : Value) →
     Agree (ProjectsValue (Schema.list s' size mark) (Schema.list s size mark) v' v) (basic a (Schema.list s' size mark) v') (basic a (Schema.list s size mark) v)

@@ -1,10 +1,11 @@
 -- A recursive type in two versions: its unfoldings, and that one is newer than the other.
-use Rattle.std.proofs.Common.{◌≡◌, refl, sym, ℕ, zero, suc, Bool, true, false, Option, Some}
+use Rattle.std.proofs.Common.{◌≡◌, refl, sym, ℕ, zero, suc, Bool, true, false}
 use Rattle.rasn_types.specs.Values.{Value, truth, fields, Slots, no_slots, there, absent, slots}
 use Rattle.rasn_schema.specs.Depth.{meets_cut, slots_meet_cut, in_slots, CutOf, cut_here, alike, cut_sequence, cut_part, no_cut, Unfolds}
 use Rattle.rasn_schema.specs.Schemas.{TagTree, leaf, optional, default, Order, Schema, no_parts, part}
 use Rattle.per_core.specs.Versions.{widen, project, NewerPresence, unchanged, newer_sequence, no_more, more_parts, also, NewerType}
 use Rattle.per_laws.proofs.Transitive.{or_both}
+use Rattle.per_laws.proofs.Takes.{some_is}
 
 abbrev here : TagTree
 here = leaf (record { class = 2; number = 0 })
@@ -57,6 +58,3 @@ fuller = Schema.sequence Order.listed no_parts true (part here (default (truth t
 default_widened : NewerPresence fuller empty (default (fields no_slots (there (truth true) no_slots))) (default (fields no_slots no_slots))
 unfolding widen project meets_cut
 default_widened = record { there = λ m. refl; same = λ x e m. some_is x (fields no_slots (there (truth true) no_slots)) (sym e); valid = refl }
-  where
-    some_is : (x y : Value) → ◌≡◌ {A = Option Value} (Some x) (Some y) → x ≡ y
-    some_is x y e = cc

@@ -2,6 +2,7 @@
 use Rattle.std.proofs.Common.{◌≡◌, refl, sym, ap, ◌∙◌, subst, ℕ, zero, suc, ◌+◌, ◌<◌, Bool, true, false, cond, ltb, List, [], ◌∷◌, length, arith, Option, Some, None, ltb-true}
 use Rattle.rasn_types.specs.Bits.{Bits}
 use Rattle.rasn_types.specs.Values.{sorted, before, code, Value, elements, bag_of, fields, alternative, Side, root, added, as_values, as_slots, values, slots}
+use Rattle.rasn_types.proofs.Values.{slots-as_slots, values-as_values}
 use Rattle.rasn_schema.specs.Depth.{meets_cut, slots_meet_cut, meets_cut_at, in_slots, any_of}
 use Rattle.rasn_schema.specs.Orders.{ordered}
 use Rattle.rasn_constraints.specs.Bounds.{Size}
@@ -10,13 +11,13 @@ use Rattle.per_core.specs.Basic
 use Rattle.per_core.specs.Basic.{FlagOf, IsLeftOut, As, Additions_in, Chosen, basic, basic_in, rules}
 use Rattle.per_core.specs.Spellings.{Settings}
 use Rattle.per_core.specs.Versions.{project, project_slots, project_at, slot_through, through_item, all_of, IsPlain, NewerPresence, Newer, NewerParts, unchanged, more_items, newer_list, newer_set_of, newer_sequence, newer_choice, no_more, more_parts, also}
-use Rattle.per_core.proofs.Bags.{bag_source, any_in_bag}
-use Rattle.per_core.proofs.Lengths.{Zip}
+use Rattle.per_core.proofs.Bags.{bag_source, any_in_bag, joined_of}
+use Rattle.per_core.proofs.Lengths.{Zip, or_left, or_right}
 use Rattle.per_core.proofs.Records.{SlotRel, Along}
 use Rattle.per_core.proofs.Whole.{length-rules}
 use Rattle.per_laws.proofs.Carry.{Carry, kept, Leads, AllLead, skipped_carry}
 use Rattle.per_laws.proofs.Carrying.{as_carry, lengthy_as, additions_step, record_as, choice_as, rules_on}
-use Rattle.per_laws.proofs.Older.{slots-as_slots, values-as_values, made_of, made_both_of, joined_of, slot_some, or_left, or_right, slot_meets, slot_back, same_tags}
+use Rattle.per_laws.proofs.Older.{made_of, made_both_of, slot_some, slot_meets, slot_back, same_tags}
 
 -- of a slot and the older reader's
 abbrev pub Drops : Schema → Schema → SlotRel

@@ -1,20 +1,20 @@
 -- Chains of versions: widening in two steps is widening at once, where no Cut is met; so newer is transitive.
 use Rattle.std.proofs.Common.{◌≡◌, refl, sym, ap, ◌∙◌, subst, ℕ, zero, suc, Bool, true, false, ◌||◌, List, [], ◌∷◌, arith, Option, Some, None}
-use Rattle.rasn_types.specs.Values.{sorted, before, code, Value, elements, bag, bag_of, fields, alternative, root, added, as_values, as_slots, values, slots}
+use Rattle.rasn_types.specs.Values.{Value, elements, bag, bag_of, fields, alternative, root, added, as_values, as_slots, values, slots}
+use Rattle.rasn_types.proofs.Values.{slots-as_slots, values-as_values}
 use Rattle.rasn_schema.specs.Depth.{meets_cut, slots_meet_cut, meets_cut_at, in_slots, in_elements, in_fields, in_alternative, any_of}
 use Rattle.rasn_schema.specs.Schemas.{Presence, required, optional, group, default, Schema, Parts}
 use Rattle.per_core.specs.Versions.{widen, widen_slots, widen_at, filled_in, all_filled_in, slot_through, slots_through, through_elements, through_bag, through_fields, through_alternative, made, made_both, joined, all_of, NewerPresence, Newer, NewerParts, unchanged, more_items, newer_list, newer_set_of, newer_sequence, newer_choice, no_more, more_parts, also}
-use Rattle.per_core.proofs.Bags.{any_in_bag}
+use Rattle.per_core.proofs.Bags.{any_in_bag, joined_of, sort}
+use Rattle.per_core.proofs.Lengths.{or_left, or_right}
+use Rattle.per_core.proofs.Whole.{some_same}
 use Rattle.per_laws.proofs.Chains.{bag_through}
-use Rattle.per_laws.proofs.Older.{slots-as_slots, values-as_values, made_of, made_both_of, joined_of, slot_some, or_left, or_right, plain_widen}
+use Rattle.per_laws.proofs.Older.{made_of, made_both_of, slot_some, plain_widen}
 use Rattle.per_laws.proofs.Takes.{some_is, some_slot_is}
 
 pub or_both : (a b : Bool) → a ≡ false → b ≡ false → (a || b) ≡ false
 or_both true b e f = absurd (cc)
 or_both false b e f = f
-
-sort : List Value → List Value
-sort vs = sorted (λ v w. before (code v) (code w)) vs
 
 in_bag : (K : Value → Bool) (us : List Value) → in_elements K (bag_of us) ≡ false → any_of K us ≡ false
 unfolding bag_of sort
@@ -128,9 +128,6 @@ all_down f g h K r (v ∷ vs) us e m =
     some_l : List Value → Option (List Value)
     some_l l = Some l
 
-some_v : {v w : Value} → v ≡ w → ◌≡◌ {A = Option Value} (Some v) (Some w)
-some_v e = cc
-
 abbrev of_list : List Value → Value
 of_list ws = elements (as_values ws)
 
@@ -145,7 +142,7 @@ elements_joins f g h K r = record { up = λ v v1 v2 e k m. go v v1 v2 e k m; dow
         let q = made_of of_list (all_of f (values vs)) v1 e in
         let t = made_of of_list (all_of g q.0) v2 (sym (through g q.0) ∙ ap (through_elements g) (sym q.2) ∙ k) in
         let m' = subst (λ l. any_of K l ≡ false) (values-as_values t.0) (subst (λ z. in_elements K z ≡ false) t.2 m) in
-        ap (made of_list) (all_up f g h K r (values vs) q.0 t.0 q.1 t.1 m') ∙ some_v (sym t.2)
+        ap (made of_list) (all_up f g h K r (values vs) q.0 t.0 q.1 t.1 m') ∙ some_same (sym t.2)
     go _ v1 v2 e k m = absurd (cc)
 
     back : (v v2 : Value) → through_elements h v ≡ Some v2 → in_elements K v2 ≡ false → (v1 : Value) × (through_elements f v ≡ Some v1) × (through_elements g v1 ≡ Some v2)
@@ -153,7 +150,7 @@ elements_joins f g h K r = record { up = λ v v1 v2 e k m. go v v1 v2 e k m; dow
         let t = made_of of_list (all_of h (values vs)) v2 e in
         let m' = subst (λ l. any_of K l ≡ false) (values-as_values t.0) (subst (λ z. in_elements K z ≡ false) t.2 m) in
         let q = all_down f g h K r (values vs) t.0 t.1 m' in
-        (of_list q.0, ap (made of_list) q.1, through g q.0 ∙ ap (made of_list) q.2 ∙ some_v (sym t.2))
+        (of_list q.0, ap (made of_list) q.1, through g q.0 ∙ ap (made of_list) q.2 ∙ some_same (sym t.2))
     back _ v2 e m = absurd (cc)
 
 bags_joins : (f g h : Value → Option Value) (K : Value → Bool) → Joins f g h K → Joins (through_bag f) (through_bag g) (through_bag h) (in_elements K)
@@ -164,7 +161,7 @@ bags_joins f g h K r = record { up = λ v v1 v2 e k m. go v v1 v2 e k m; down = 
         let q = made_of bag_of (all_of f (values vs)) v1 e in
         let t = made_of bag_of (all_of g q.0) v2 (sym (bag_through g q.0) ∙ ap (through_bag g) (sym q.2) ∙ k) in
         let m' = in_bag K t.0 (subst (λ z. in_elements K z ≡ false) t.2 m) in
-        ap (made bag_of) (all_up f g h K r (values vs) q.0 t.0 q.1 t.1 m') ∙ some_v (sym t.2)
+        ap (made bag_of) (all_up f g h K r (values vs) q.0 t.0 q.1 t.1 m') ∙ some_same (sym t.2)
     go _ v1 v2 e k m = absurd (cc)
 
     back : (v v2 : Value) → through_bag h v ≡ Some v2 → in_elements K v2 ≡ false → (v1 : Value) × (through_bag f v ≡ Some v1) × (through_bag g v1 ≡ Some v2)
@@ -172,7 +169,7 @@ bags_joins f g h K r = record { up = λ v v1 v2 e k m. go v v1 v2 e k m; down = 
         let t = made_of bag_of (all_of h (values vs)) v2 e in
         let m' = in_bag K t.0 (subst (λ z. in_elements K z ≡ false) t.2 m) in
         let q = all_down f g h K r (values vs) t.0 t.1 m' in
-        (bag_of q.0, ap (made bag_of) q.1, bag_through g q.0 ∙ ap (made bag_of) q.2 ∙ some_v (sym t.2))
+        (bag_of q.0, ap (made bag_of) q.1, bag_through g q.0 ∙ ap (made bag_of) q.2 ∙ some_same (sym t.2))
     back _ v2 e m = absurd (cc)
 
 -- records
@@ -196,7 +193,7 @@ fields_joins F G H K F' G' H' L r r' = record { up = λ v v1 v2 e k m. go v v1 v
         let q = made_both_of (F (slots a)) (F' (slots b)) v1 e in
         let t = made_both_of (G q.0) (G' q.1) v2 (sym (through G G' q.0 q.1) ∙ ap (through_fields G G') (sym q.4) ∙ k) in
         let c = apart t.0 t.1 v2 t.4 m in
-        ap (λ o. made_both o (H' (slots b))) (r.up (slots a) q.0 t.0 q.2 t.2 c.0) ∙ ap (made_both (Some t.0)) (r'.up (slots b) q.1 t.1 q.3 t.3 c.1) ∙ some_v (sym t.4)
+        ap (λ o. made_both o (H' (slots b))) (r.up (slots a) q.0 t.0 q.2 t.2 c.0) ∙ ap (made_both (Some t.0)) (r'.up (slots b) q.1 t.1 q.3 t.3 c.1) ∙ some_same (sym t.4)
     go _ v1 v2 e k m = absurd (cc)
 
     back : (v v2 : Value) → through_fields H H' v ≡ Some v2 → in_fields K L v2 ≡ false → (v1 : Value) × (through_fields F F' v ≡ Some v1) × (through_fields G G' v1 ≡ Some v2)
@@ -206,7 +203,7 @@ fields_joins F G H K F' G' H' L r r' = record { up = λ v v1 v2 e k m. go v v1 v
         let x = r.down (slots a) t.0 t.2 c.0 in let y = r'.down (slots b) t.1 t.3 c.1 in (
           fields (as_slots x.0) (as_slots y.0),
           ap (λ o. made_both o (F' (slots b))) x.1 ∙ ap (made_both (Some x.0)) y.1,
-          through G G' x.0 y.0 ∙ ap (λ o. made_both o (G' y.0)) x.2 ∙ ap (made_both (Some t.0)) y.2 ∙ some_v (sym t.4),
+          through G G' x.0 y.0 ∙ ap (λ o. made_both o (G' y.0)) x.2 ∙ ap (made_both (Some t.0)) y.2 ∙ some_same (sym t.4),
         )
     back _ v2 e m = absurd (cc)
 
@@ -218,22 +215,22 @@ alternative_joins F G H K F' G' H' L r r' = record { up = λ v v1 v2 e k m. go v
     go (alternative root i v) v1 v2 e k m =
         let q = made_of (alternative root i) (F i v) v1 e in
         let t = made_of (alternative root i) (G i q.0) v2 (ap (through_alternative G G') (sym q.2) ∙ k) in
-        ap (made (alternative root i)) ((r i).up v q.0 t.0 q.1 t.1 (subst (λ z. in_alternative K L z ≡ false) t.2 m)) ∙ some_v (sym t.2)
+        ap (made (alternative root i)) ((r i).up v q.0 t.0 q.1 t.1 (subst (λ z. in_alternative K L z ≡ false) t.2 m)) ∙ some_same (sym t.2)
     go (alternative added i v) v1 v2 e k m =
         let q = made_of (alternative added i) (F' i v) v1 e in
         let t = made_of (alternative added i) (G' i q.0) v2 (ap (through_alternative G G') (sym q.2) ∙ k) in
-        ap (made (alternative added i)) ((r' i).up v q.0 t.0 q.1 t.1 (subst (λ z. in_alternative K L z ≡ false) t.2 m)) ∙ some_v (sym t.2)
+        ap (made (alternative added i)) ((r' i).up v q.0 t.0 q.1 t.1 (subst (λ z. in_alternative K L z ≡ false) t.2 m)) ∙ some_same (sym t.2)
     go _ v1 v2 e k m = absurd (cc)
 
     back : (v v2 : Value) → through_alternative H H' v ≡ Some v2 → in_alternative K L v2 ≡ false → (v1 : Value) × (through_alternative F F' v ≡ Some v1) × (through_alternative G G' v1 ≡ Some v2)
     back (alternative root i v) v2 e m =
         let t = made_of (alternative root i) (H i v) v2 e in
         let x = (r i).down v t.0 t.1 (subst (λ z. in_alternative K L z ≡ false) t.2 m) in
-        (alternative root i x.0, ap (made (alternative root i)) x.1, ap (made (alternative root i)) x.2 ∙ some_v (sym t.2))
+        (alternative root i x.0, ap (made (alternative root i)) x.1, ap (made (alternative root i)) x.2 ∙ some_same (sym t.2))
     back (alternative added i v) v2 e m =
         let t = made_of (alternative added i) (H' i v) v2 e in
         let x = (r' i).down v t.0 t.1 (subst (λ z. in_alternative K L z ≡ false) t.2 m) in
-        (alternative added i x.0, ap (made (alternative added i)) x.1, ap (made (alternative added i)) x.2 ∙ some_v (sym t.2))
+        (alternative added i x.0, ap (made (alternative added i)) x.1, ap (made (alternative added i)) x.2 ∙ some_same (sym t.2))
     back _ v2 e m = absurd (cc)
 
 -- one slot more
@@ -297,7 +294,7 @@ filled_up s'' s' (default d'') (default d') n x1 x2 e k m =
     let i : x1 ≡ Some d' = sym (some_slot_is (Some d') x1 e) in
     let t = slot_some (widen s'' s') d' x2 (subst (λ z. slot_through (widen s'' s') z ≡ Some x2) i k) in
     let j : t.0 ≡ d'' = n.same t.0 t.1 (subst (λ z. slot_test (meets_cut s'') z ≡ false) t.2 m) in
-    some_o (some_v (sym j) ∙ sym t.2)
+    some_o (some_same (sym j) ∙ sym t.2)
 filled_up s'' s' _ _ n x1 x2 e k m = absurd n
 
 filled_down : (s'' s' : Schema) (p'' p' : Presence) → NewerPresence s'' s' p'' p' → (x2 : Option Value) → filled_in p'' ≡ Some x2 → slot_test (meets_cut s'') x2 ≡ false → (x1 : Option Value) × (filled_in p' ≡ Some x1) × (slot_through (widen s'' s') x1 ≡ Some x2)

@@ -6,9 +6,9 @@ use Rattle.rasn_schema.specs.Schemas.{Schema, Parts}
 use Rattle.per_core.specs.Basic.{fills, fills_known, read}
 use Rattle.per_core.specs.Spellings.{Settings}
 use Rattle.per_core.specs.Versions.{project, widen, NewerType}
+use Rattle.per_core.proofs.Lengths.{or_left, or_right}
 use Rattle.per_laws.proofs.Carry.{fills_carry}
 use Rattle.per_laws.proofs.Deeper.{deeper, uncut}
-use Rattle.per_laws.proofs.Older.{or_left, or_right}
 use Rattle.per_laws.proofs.Readers.{older_answers, newer_answers, deeper_reads, shallower_reads}
 use Rattle.per_laws.proofs.Transitive.{or_both}
 
@@ -31,21 +31,21 @@ mutual
   through_parts (cut_part c cs) (cut_part d ds) = cut_part (through_cut c d) (through_parts cs ds)
 
 -- a deeper tree meets no Cut where the other meets none
-any_less : (K L : Value → Bool) → ((v : Value) → K v ≡ false → L v ≡ false) → (vs : List Value) → any_of K vs ≡ false → any_of L vs ≡ false
+pub any_less : (K L : Value → Bool) → ((v : Value) → K v ≡ false → L v ≡ false) → (vs : List Value) → any_of K vs ≡ false → any_of L vs ≡ false
 any_less K L h [] m = refl
 any_less K L h (v ∷ vs) m = or_both (L v) (any_of L vs) (h v (or_left (K v) (any_of K vs) m)) (any_less K L h vs (or_right (K v) (any_of K vs) m))
 
-elements_less : (K L : Value → Bool) → ((v : Value) → K v ≡ false → L v ≡ false) → (v : Value) → in_elements K v ≡ false → in_elements L v ≡ false
+pub elements_less : (K L : Value → Bool) → ((v : Value) → K v ≡ false → L v ≡ false) → (v : Value) → in_elements K v ≡ false → in_elements L v ≡ false
 elements_less K L h (elements vs) m = any_less K L h (values vs) m
 elements_less K L h (bag vs) m = any_less K L h (values vs) m
 elements_less K L h _ m = refl
 
-fields_less : (K L K' L' : List (Option Value) → Bool) → ((x : List (Option Value)) → K x ≡ false → L x ≡ false) → ((x : List (Option Value)) → K' x ≡ false → L' x ≡ false) →
+pub fields_less : (K L K' L' : List (Option Value) → Bool) → ((x : List (Option Value)) → K x ≡ false → L x ≡ false) → ((x : List (Option Value)) → K' x ≡ false → L' x ≡ false) →
     (v : Value) → in_fields K K' v ≡ false → in_fields L L' v ≡ false
 fields_less K L K' L' h h' (fields r x) m = or_both (L (slots r)) (L' (slots x)) (h (slots r) (or_left (K (slots r)) (K' (slots x)) m)) (h' (slots x) (or_right (K (slots r)) (K' (slots x)) m))
 fields_less K L K' L' h h' _ m = refl
 
-alternative_less : (K L K' L' : ℕ → Value → Bool) → ((i : ℕ) (v : Value) → K i v ≡ false → L i v ≡ false) → ((i : ℕ) (v : Value) → K' i v ≡ false → L' i v ≡ false) →
+pub alternative_less : (K L K' L' : ℕ → Value → Bool) → ((i : ℕ) (v : Value) → K i v ≡ false → L i v ≡ false) → ((i : ℕ) (v : Value) → K' i v ≡ false → L' i v ≡ false) →
     (v : Value) → in_alternative K K' v ≡ false → in_alternative L L' v ≡ false
 alternative_less K L K' L' h h' (alternative root i v) m = h i v m
 alternative_less K L K' L' h h' (alternative added i v) m = h' i v m

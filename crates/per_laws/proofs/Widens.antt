@@ -2,6 +2,7 @@
 use Rattle.std.proofs.Common.{◌≡◌, sym, ap, ◌∙◌, subst, ℕ, zero, suc, ◌≤◌, Bool, true, false, ◌||◌, List, [], ◌∷◌, length, arith, Option, Some, None}
 use Rattle.rasn_types.specs.Bits.{Bits}
 use Rattle.rasn_types.specs.Values.{sorted, before, code, Value, elements, bag_of, fields, alternative, Side, root, added, as_values, as_slots, values, slots}
+use Rattle.rasn_types.proofs.Values.{slots-as_slots, values-as_values}
 use Rattle.rasn_schema.specs.Depth.{meets_cut, slots_meet_cut, meets_cut_at, in_slots, any_of}
 use Rattle.rasn_schema.specs.Orders.{ordered}
 use Rattle.rasn_constraints.specs.Bounds.{Size}
@@ -10,13 +11,13 @@ use Rattle.per_core.specs.Basic
 use Rattle.per_core.specs.Basic.{FlagOf, IsLeftOut, As, Unknown_in, Additions_in, Chosen, basic_in, rules_in}
 use Rattle.per_core.specs.Spellings.{Settings}
 use Rattle.per_core.specs.Versions.{widen, widen_slots, widen_at, filled_in, all_filled_in, slot_through, all_of, NewerPresence, Newer, NewerParts, unchanged, more_items, newer_list, newer_set_of, newer_sequence, newer_choice, no_more, more_parts, also}
-use Rattle.per_core.proofs.Bags.{bag_source, any_in_bag}
-use Rattle.per_core.proofs.Lengths.{Zip}
+use Rattle.per_core.proofs.Bags.{bag_source, any_in_bag, joined_of}
+use Rattle.per_core.proofs.Lengths.{Zip, or_left, or_right}
 use Rattle.per_core.proofs.Records.{SlotRel, Along}
 use Rattle.per_core.proofs.Whole.{length-rules-in}
 use Rattle.per_laws.proofs.Carry.{Carry, kept, Leads, AllLead}
 use Rattle.per_laws.proofs.Carrying.{as_carry, lengthy_as, additions_step, record_as, choice_as, rules_on}
-use Rattle.per_laws.proofs.Older.{slots-as_slots, values-as_values, made_of, made_both_of, joined_of, slot_some, or_left, or_right, slot_meets, same_tags, plain_widen}
+use Rattle.per_laws.proofs.Older.{made_of, made_both_of, slot_some, slot_meets, same_tags, plain_widen}
 use Rattle.per_laws.proofs.Takes.{some_slot_is, some_is, none_through, slot_meets_not, same_count}
 
 abbrev Grows : Schema → Schema → SlotRel
@@ -30,7 +31,7 @@ grows (part t p s ps) (part t' p' s' ps') = Grows s s' ∷ grows ps ps'
 abbrev GrowsValue : Schema → Schema → Value → Value → Type 0
 GrowsValue s' s v v' = (meets_cut s' v' ≡ false) × (widen s' s v ≡ Some v')
 
-flags_older_carry : (s' s : Schema) (p' p : Presence) → NewerPresence s' s p' p → (b : Bool) → Carry (FlagOf p b) (FlagOf p' b)
+pub flags_older_carry : (s' s : Schema) (p' p : Presence) → NewerPresence s' s p' p → (b : Bool) → Carry (FlagOf p b) (FlagOf p' b)
 flags_older_carry s' s required required k b = kept
 flags_older_carry s' s optional optional k b = kept
 flags_older_carry s' s group group k b = kept
@@ -60,7 +61,7 @@ part_grows a s' s p' p k each = record {
       (q.0, q.2, each v q.0 (subst (λ z. slot_meets s' z ≡ false) q.2 h.0) q.1);
 }
 
-zip_second : (f : Value → Option Value) (K : Value → Bool) (vs ws : List Value) → all_of f vs ≡ Some ws → any_of K ws ≡ false → Zip (λ v w. (K w ≡ false) × (f v ≡ Some w)) vs ws
+pub zip_second : (f : Value → Option Value) (K : Value → Bool) (vs ws : List Value) → all_of f vs ≡ Some ws → any_of K ws ≡ false → Zip (λ v w. (K w ≡ false) × (f v ≡ Some w)) vs ws
 zip_second f K [] [] e m = tt
 zip_second f K [] (w ∷ ws) e m = absurd (cc)
 zip_second f K (v ∷ vs) ws e m =
@@ -113,7 +114,7 @@ along_grows (also {s = s} {s' = s'} {ps = ps} {ps' = ps'} p n ns) (x ∷ xs) ys 
     subst (λ l. Along false (Grows s' s ∷ grows ps' ps) (x ∷ xs) l) (sym q.4) ((k.0, q.2), along_grows ns xs q.1 (omega arith) k.1 q.3)
 
 -- additions that only the newer reader knows are left out
-filled_left : (p : Presence) (y : Option Value) → filled_in p ≡ Some y → IsLeftOut p y
+pub filled_left : (p : Presence) (y : Option Value) → filled_in p ≡ Some y → IsLeftOut p y
 filled_left required y e = absurd (cc)
 filled_left optional y e = sym (some_slot_is None y e)
 filled_left group y e = sym (some_slot_is None y e)

@@ -1,14 +1,15 @@
 -- A long list of bytes, without computing with its bits.
-use Rattle.std.proofs.Common.{◌≡◌, refl, sym, ap, ◌∙◌, ℕ, zero, suc, ◌+◌, ◌*◌, ◌/◌, ◌%◌, ◌<◌, ◌^◌, true, false, ltb, List, [], ◌∷◌, ◌++◌, append_assoc, length, length-append, replicate, drop, map, Some, cond, arith, mod-eq_of_lt, lit<}
+use Rattle.std.proofs.Common.{◌≡◌, refl, sym, ap, ◌∙◌, ℕ, zero, suc, ◌+◌, ◌/◌, ◌%◌, ◌<◌, ◌^◌, true, false, ltb, List, [], ◌∷◌, ◌++◌, length, replicate, drop, map, Some, cond, arith, lit<}
 use Rattle.std.proofs.lemmas.List.{length-replicate, take-replicate, drop-replicate}
-use Rattle.rasn_types.specs.Bits.{Bits, to_bits, number_of, unpack, pack, AreOctets}
+use Rattle.rasn_types.specs.Bits.{Bits, unpack, pack, AreOctets}
+use Rattle.rasn_types.proofs.Bits.{length-unpack, unpack-append}
+use Rattle.rasn_types.proofs.Fewest.{pack-unpack}
 use Rattle.rasn_types.specs.Variants.{unaligned}
 use Rattle.rasn_types.specs.Values.{Value, truth, values, as_values}
 use Rattle.rasn_constraints.specs.Bounds.{any_size}
 use Rattle.per_core.specs.Writers.{Writer, just, padding, go_on, join, complete, after, written_if, ◌▹◌, in_a_row}
 use Rattle.per_core.specs.Counts.{determinant, rows, in_rows, counted, list_items}
 use Rattle.per_core.specs.Canon.{bytes, canon, completed}
-use Rattle.per_core.proofs.Within.{number-to_bits}
 use Rattle.per_rows.specs.Build.{record_of, list_of, list}
 use Rattle.per_rows.specs.Samples.{byte}
 
@@ -17,10 +18,6 @@ zero_byte = record_of (replicate 8 (truth false))
 
 abbrev written : Writer
 written = canon unaligned byte zero_byte
-
-unpack-append : (os ps : List ℕ) → unpack (os ++ ps) ≡ unpack os ++ unpack ps
-unpack-append [] ps = refl
-unpack-append (o ∷ os) ps = ap (λ z. to_bits 8 o ++ z) (unpack-append os ps) ∙ sym (append_assoc (to_bits 8 o) (unpack os) (unpack ps))
 
 -- n bytes in a row
 run : (n p : ℕ) → in_a_row (replicate n written) p ≡ Some (unpack (replicate n 0))
@@ -71,18 +68,8 @@ rows_written (m ∷ ms) k p =
     ∙ ap (λ z. Some z) (sym (unpack-append (count_octets m) (replicate m 0 ++ row_octets ms)))
 
 -- whole octets are complete
-length-unpack : (os : List ℕ) → length (unpack os) ≡ 8 * length os
-length-unpack [] = refl
-length-unpack (o ∷ os) = length-append (to_bits 8 o) (unpack os) ∙ ap (λ (k : ℕ). 8 + k) (length-unpack os) ∙ (omega arith)
-
-packed : (os : List ℕ) → AreOctets os → pack (length os) (unpack os) ≡ os
-packed [] h = refl
-packed (o ∷ os) h =
-    let r : number_of (to_bits 8 o) ≡ o = number-to_bits 8 o ∙ mod-eq_of_lt h.0 in
-    ap (λ z. z ∷ pack (length os) (unpack os)) r ∙ ap (λ z. o ∷ z) (packed os h.1)
-
 complete_octets : (os : List ℕ) → 0 < length os → AreOctets os → complete (unpack os) ≡ os
-complete_octets os l h = ap (λ (n : ℕ). pack n (unpack os)) (omega (arith, length-unpack os)) ∙ packed os h
+complete_octets os l h = ap (λ (n : ℕ). pack n (unpack os)) (omega (arith, length-unpack os)) ∙ pack-unpack os h
 
 -- the same elements one by one
 each : (n : ℕ) → map (canon unaligned byte) (values (as_values (replicate n zero_byte))) ≡ replicate n written

@@ -1,6 +1,7 @@
 -- How the law of a record follows from those of its components and of its scope, over any encoder.
-use Rattle.std.proofs.Common.{◌≡◌, refl, ap, ℕ, zero, suc, ◌≤◌, ◌⊎◌, inl, inr, Bool, false, Result, Ok, Err, List, [], ◌∷◌, Option, Some, None, arith}
-use Rattle.rasn_types.specs.Values.{Value, slots, as_slots}
+use Rattle.std.proofs.Common.{◌≡◌, refl, ℕ, zero, suc, ◌≤◌, ◌⊎◌, inl, inr, Bool, false, Result, Ok, Err, List, [], ◌∷◌, Option, Some, arith}
+use Rattle.rasn_types.specs.Values.{Value}
+use Rattle.rasn_types.proofs.Values.{slots-as_slots}
 use Rattle.rasn_schema.specs.Schemas.{TagTree, required, listed, Schema, Parts, no_parts, part}
 use Rattle.rasn_schema.specs.Normal.{normal, normals}
 use Rattle.rasn_codec.specs.Calls.{AtDepths, Writes, PresentsWell}
@@ -14,11 +15,6 @@ at_suc {schema} {k} {P} f = record { at = at_each }
     at_each : (n : ℕ) → suc k ≤ n → P (schema n)
     at_each zero h = absurd (omega arith)
     at_each (suc n) h = f n (omega arith)
-
-pub slots-as_slots : (rs : List (Option Value)) → slots (as_slots rs) ≡ rs
-slots-as_slots [] = refl
-slots-as_slots (None ∷ rs) = ap (λ (l : List (Option Value)). None ∷ l) (slots-as_slots rs)
-slots-as_slots (Some v ∷ rs) = ap (λ (l : List (Option Value)). Some v ∷ l) (slots-as_slots rs)
 
 -- the normal form of a record has those of its components
 pub normal-record : (ps : Parts) (rs : List (Option Value)) → normal (record_of ps) (record_value rs []) ≡ record_value (normals ps rs) []

@@ -1,15 +1,15 @@
 -- The numbers that permitted characters are written as.
-use Rattle.std.proofs.Common.{◌≡◌, refl, sym, ap, ◌∙◌, subst, ℕ, zero, suc, ◌+◌, ◌*◌, ◌%◌, ◌^◌, ◌<◌, ◌≤◌, ◌⊎◌, max, Bool, true, false, cond, ◌&&◌, ◌||◌, leb, ltb, eqb, nat_eq, List, [], ◌∷◌, length, Option, Some, None, slice_get, IsSome, IfSome, ◌↔◌, arith, pow_mono, le_trans, mod-eq_of_lt, inl, inr}
+use Rattle.std.proofs.Common.{◌≡◌, refl, sym, ap, ◌∙◌, subst, ℕ, zero, suc, ◌+◌, ◌*◌, ◌%◌, ◌^◌, ◌<◌, ◌≤◌, ◌⊎◌, max, Bool, true, false, ◌&&◌, ◌||◌, leb, ltb, eqb, nat_eq, List, [], ◌∷◌, length, Option, Some, None, slice_get, IsSome, IfSome, ◌↔◌, arith, pow_mono, mod-eq_of_lt, inl, inr}
 use Rattle.std.specs.List.{list_any}
-use Rattle.std.proofs.lemmas.Bool.{cases_Bool, leb-true, ltb-true, lt-leb, eqb-true, eqb-false, eq-eqb, ne_eqb, cond-true, cond-false, or_left, or_right, or_from, and_parts, both_ways}
+use Rattle.std.proofs.lemmas.Bool.{cases_Bool, ltb-true, lt-leb, eqb-true, eqb-false, eq-eqb, ne_eqb, cond-true, cond-false, or_left, or_right, or_from, and_parts, both_ways}
 use Rattle.rasn_types.specs.Alphabets.{Alphabet, char_width, char_code, keep_own, has, index_of, more, greatest, restricted_to}
 use Rattle.rasn_types.specs.Bits.{width}
 use Rattle.rasn_strings.specs.Intervals.{expand}
 use Rattle.rasn_strings.specs.Prepared.{IsPrepared, alphabet_of}
-use Rattle.rasn_types.specs.Variants.{Variant, aligned, unaligned}
+use Rattle.rasn_types.specs.Variants.{Variant, aligned}
 use Rattle.rasn_strings.specs.declared.intervals.Interval.{Interval}
 use Rattle.rasn_strings.proofs.Ascending.{Up, up-expand, up-restricted, has-restricted}
-use Rattle.rasn_types.proofs.Bits.{width_holds, width_least}
+use Rattle.rasn_types.proofs.Bits.{width_least, wide_enough}
 use Rattle.rasn_strings.proofs.Rows.{index_of_none}
 
 -- ---- the bits of a character
@@ -28,14 +28,6 @@ width_shifted n h = let s = few_aligned n h in let e : 1 * 2 ^ n ≡ 2 ^ n = ome
 
 pub width_aligned : (alphabet : List ℕ) → 1 < length alphabet → char_width aligned alphabet ≡ 2 ^ width (width (length alphabet))
 width_aligned alphabet h = cond-false (leb (length alphabet) 1) 0 _ (lt-leb (length alphabet) 1 h)
-
-wide_enough : (v : Variant) (alphabet : List ℕ) → length alphabet ≤ 2 ^ char_width v alphabet
-wide_enough unaligned alphabet = width_holds (length alphabet)
-wide_enough aligned alphabet = go (leb (length alphabet) 1) refl
-  where
-    go : (b : Bool) → leb (length alphabet) 1 ≡ b → length alphabet ≤ 2 ^ (cond b 0 (2 ^ width (width (length alphabet))))
-    go true e = leb-true (length alphabet) 1 e
-    go false e = le_trans (width_holds (length alphabet)) (pow_mono {i = width (length alphabet)} {j = 2 ^ width (width (length alphabet))} (width_holds (width (length alphabet))))
 
 -- ---- places
 

@@ -1,10 +1,12 @@
 -- Numbers and their bits.
-use Rattle.std.proofs.Common.{◌≡◌, refl, sym, ap, ◌∙◌, subst, ℕ, zero, suc, ◌+◌, ◌-◌, ◌*◌, ◌/◌, ◌%◌, ◌^◌, ◌<◌, ◌≤◌, Bool, true, false, cond, leb, [], ◌∷◌, ◌++◌, length, arith, inl, inr, leb-true, pow-suc, mod-lt, mod-eq_of_lt, pow_pos, leb-false, one-add, mul_comm, pow_mono, le_of_lt, le_antisymm, le-leb, add_comm, pow-add}
+use Rattle.std.proofs.Common.{◌≡◌, refl, sym, ap, ◌∙◌, subst, ℕ, zero, suc, ◌+◌, ◌-◌, ◌*◌, ◌/◌, ◌%◌, ◌^◌, ◌<◌, ◌≤◌, Bool, true, false, cond, leb, List, [], ◌∷◌, ◌++◌, length, length-append, append_assoc, arith, inl, inr, leb-true, pow-suc, mod-lt, mod-eq_of_lt, pow_pos, leb-false, one-add, mul_comm, pow_mono, le_of_lt, le_trans, le_antisymm, le-leb, add_comm, pow-add}
 use Rattle.std.proofs.lemmas.Bool.{cases_lt, lt-leb}
 use Rattle.std.proofs.lemmas.Nat.{le-div, div_below, field_of}
 use Rattle.std.proofs.Math.Pow.{mod-mod-pow}
 use Rattle.std.proofs.Math.Nat.{mod-one, add-mod_right}
-use Rattle.rasn_types.specs.Bits.{Bits, to_bits, number_of, width, width_from}
+use Rattle.rasn_types.specs.Alphabets.{char_width}
+use Rattle.rasn_types.specs.Bits.{Bits, to_bits, number_of, unpack, width, width_from}
+use Rattle.rasn_types.specs.Variants.{Variant, aligned, unaligned}
 
 -- ---- the bits of a number
 
@@ -12,6 +14,16 @@ pub length-to_bits : (w n : ℕ) → length (to_bits w n) ≡ w
 length-to_bits zero n = refl
 length-to_bits (suc w) n = ap suc (length-to_bits w n)
 
+-- octets have eight bits each
+pub length-unpack : (os : List ℕ) → length (unpack os) ≡ 8 * length os
+length-unpack [] = refl
+length-unpack (o ∷ os) = length-append (to_bits 8 o) (unpack os) ∙ omega (arith, length-unpack os)
+
+pub unpack-append : (os qs : List ℕ) → unpack (os ++ qs) ≡ unpack os ++ unpack qs
+unpack-append [] qs = refl
+unpack-append (o ∷ os) qs = ap (λ bs. to_bits 8 o ++ bs) (unpack-append os qs) ∙ sym (append_assoc (to_bits 8 o) (unpack os) (unpack qs))
+
+-- what n bits mean is below 2 ^ n
 pub number_below : (bs : Bits) → number_of bs < 2 ^ length bs
 number_below [] = omega arith
 number_below (true ∷ bs) = omega (arith, number_below bs, pow-suc 2 (length bs))
@@ -83,6 +95,13 @@ to_bits-split (suc w) v n = ap (λ (k : ℕ). to_bits k n) longer ∙ both (to_b
     both : to_bits (w + v) n ≡ to_bits w (n / 2 ^ v) ++ to_bits v n → to_bits (suc (w + v)) n ≡ to_bits (suc w) (n / 2 ^ v) ++ to_bits v n
     both r = let t = top in cc
 
+pub octet_power : (k : ℕ) → 256 ^ k ≡ 2 ^ (8 * k)
+octet_power zero = refl
+octet_power (suc k) = pow-suc 256 k ∙ ap (λ (m : ℕ). m * 256) (octet_power k) ∙ sym (pow-add 2 (8 * k) 8) ∙ ap (λ (m : ℕ). 2 ^ m) next
+  where
+    next : 8 * k + 8 ≡ 8 * suc k
+    next = omega arith
+
 -- ---- how wide a number is
 
 below_power : (n : ℕ) → n < 2 ^ n
@@ -130,3 +149,12 @@ width_is n m h k = le_antisymm (width_least (n + 1) m (omega arith)) least
           absurd (omega (arith, width_holds (n + 1), pow-suc 2 (width (n + 1)))))
       | inr l ↦ l
     ]
+
+-- a character's bits are enough for each place of its alphabet
+pub wide_enough : (v : Variant) (alphabet : List ℕ) → length alphabet ≤ 2 ^ char_width v alphabet
+wide_enough unaligned alphabet = width_holds (length alphabet)
+wide_enough aligned alphabet = go (leb (length alphabet) 1) refl
+  where
+    go : (b : Bool) → leb (length alphabet) 1 ≡ b → length alphabet ≤ 2 ^ (cond b 0 (2 ^ width (width (length alphabet))))
+    go true e = leb-true (length alphabet) 1 e
+    go false e = le_trans (width_holds (length alphabet)) (pow_mono {i = width (length alphabet)} {j = 2 ^ width (width (length alphabet))} (width_holds (width (length alphabet))))

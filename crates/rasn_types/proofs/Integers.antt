@@ -1,5 +1,5 @@
 -- Numbers of an `i128`, as octets.
-use Rattle.std.proofs.Common.{◌≡◌, refl, sym, ap, ap₂, ◌∙◌, ℕ, zero, suc, ◌+◌, ◌-◌, ◌*◌, ◌/◌, ◌%◌, ◌^◌, ◌<◌, ◌≤◌, true, false, List, ◌∷◌, take, drop, arith, ℤ, pos, negsuc, FitsSigned, ltb-true, pow-suc, mod-eq_of_lt, div-one, pow-add, pow_pos, suc-mul, le_of_eq}
+use Rattle.std.proofs.Common.{◌≡◌, refl, sym, ap, ap₂, ◌∙◌, ℕ, zero, suc, ◌+◌, ◌-◌, ◌*◌, ◌/◌, ◌%◌, ◌^◌, ◌<◌, ◌≤◌, true, false, List, ◌∷◌, take, drop, arith, ℤ, pos, negsuc, FitsSigned, ltb-true, mod-eq_of_lt, div-one, pow-add, pow_pos, suc-mul, le_of_eq}
 use Rattle.std.proofs.lemmas.Nat.{leading_length, mod_low}
 use Rattle.std.specs.Int.{byte_at, to_be_bytes, w128, cast_unsigned, leading_zeros, leading_ones, bytes_high_first}
 use Rattle.std.proofs.lemmas.List.{take_all}
@@ -7,7 +7,7 @@ use lib.Count.{count_leading_zeros}
 use lib.Signed.{mag, lt_z}
 use Rattle.rasn_types.specs.Bits.{to_bits, pack, width}
 use Rattle.rasn_types.specs.Octets.{octets_of_whole, twos_complement, whole_bits, signed_octets}
-use Rattle.rasn_types.proofs.Bits.{width_is, width_least, to_bits-same, to_bits-split, number-to_bits}
+use Rattle.rasn_types.proofs.Bits.{width_is, width_least, to_bits-same, to_bits-split, number-to_bits, octet_power}
 use Rattle.rasn_types.proofs.Octets.{mag_fits, length-signed_octets}
 
 -- ---- how many octets
@@ -39,13 +39,6 @@ octets_of_i128 (pos n) f = let h : n < 2 ^ 127 = f.sfits in let l : width (n + 1
 octets_of_i128 (negsuc n) f = let h : n < 2 ^ 127 = f.sfits in let l : width (n + 1) ≤ 127 = width_least (n + 1) 127 (omega arith) in omega arith
 
 -- ---- which octets
-
-octet_power : (k : ℕ) → 256 ^ k ≡ 2 ^ (8 * k)
-octet_power zero = refl
-octet_power (suc k) = pow-suc 256 k ∙ ap (λ (m : ℕ). m * 256) (octet_power k) ∙ sym (pow-add 2 (8 * k) 8) ∙ ap (λ (m : ℕ). 2 ^ m) next
-  where
-    next : 8 * k + 8 ≡ 8 * suc k
-    next = omega arith
 
 -- octet k of a number, where octet 0 is the lowest
 octet_at : (k n : ℕ) → n / 2 ^ (8 * k) % 256 ≡ byte_at k n

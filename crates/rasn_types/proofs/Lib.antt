@@ -5,3 +5,4 @@ pub mod Octets
 pub mod Packing
 pub mod Reading
 pub mod Texts
+pub mod Values

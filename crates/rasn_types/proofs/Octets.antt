@@ -7,7 +7,7 @@ use lib.Signed.{mag}
 use Rattle.rasn_types.specs.Bits.{Bits, to_bits, number_of, pack, unpack, width, AreOctets}
 use Rattle.rasn_types.specs.Integers.{AreFewest}
 use Rattle.rasn_types.specs.Octets.{octets_of_whole, twos_complement, whole_bits, signed, signed_bits, signed_octets}
-use Rattle.rasn_types.proofs.Bits.{length-to_bits, number-to_bits, to_bits-number, number_below, width_holds, width_least}
+use Rattle.rasn_types.proofs.Bits.{length-to_bits, length-unpack, number-to_bits, to_bits-number, number_below, width_holds, width_least}
 
 -- ---- bits in octets
 
@@ -15,7 +15,7 @@ pub length-pack : (n : ℕ) (bs : Bits) → length (pack n bs) ≡ n
 length-pack zero bs = refl
 length-pack (suc n) bs = ap suc (length-pack n _)
 
-octet_again : (bs : Bits) → length bs ≡ 8 → to_bits 8 (number_of bs) ≡ bs
+pub octet_again : (bs : Bits) → length bs ≡ 8 → to_bits 8 (number_of bs) ≡ bs
 octet_again bs l = ap (λ (k : ℕ). to_bits k (number_of bs)) (sym l) ∙ to_bits-number bs
 
 -- bits that fill n octets are the bits of those octets
@@ -107,10 +107,6 @@ signed-signed_octets z = ap signed_bits (unpack-signed_octets z) ∙ signed_bits
 
 -- ---- no fewer octets mean a number
 
-length-unpack : (os : List ℕ) → length (unpack os) ≡ 8 * length os
-length-unpack [] = refl
-length-unpack (o ∷ os) = length-append (to_bits 8 o) (unpack os) ∙ omega (arith, length-unpack os)
-
 mag_below : (b : Bool) (bs : Bits) → mag (signed_bits (b ∷ bs)) < 2 ^ length bs
 mag_below true bs = omega (arith, pow_pos (length bs))
 mag_below false bs = number_below bs
@@ -120,7 +116,7 @@ unfolding octets_of_whole
 octets_enough (pos m) v n h l = let w = width_least (m + 1) v (omega arith) in omega arith
 octets_enough (negsuc m) v n h l = let w = width_least (m + 1) v (omega arith) in omega arith
 
-octets_of_signed : (os : List ℕ) → 0 < length os → octets_of_whole (signed os) ≤ length os
+pub octets_of_signed : (os : List ℕ) → 0 < length os → octets_of_whole (signed os) ≤ length os
 octets_of_signed [] h = absurd (omega arith)
 octets_of_signed (o ∷ os) h = octets_enough (signed (o ∷ os)) (length rest) (suc (length os)) (mag_below (leb 128 (o % 256)) rest) (le_of_eq (length-unpack (o ∷ os)))
   where

@@ -18,7 +18,7 @@ use Rattle.std.specs.Prelude.{bit_and, bit_or}
 use mir.Val.{bool_byte}
 use Rattle.rasn_types.specs.Bits.{Bits, to_bits, number_of, pack, unpack, AreOctets}
 use Rattle.rasn_types.specs.Packed.{packed, ArePacked}
-use Rattle.rasn_types.proofs.Bits.{length-to_bits, number-to_bits, to_bits-split}
+use Rattle.rasn_types.proofs.Bits.{length-to_bits, length-unpack, number-to_bits, to_bits-split}
 use Rattle.rasn_types.proofs.Octets.{length-pack, unpack-pack}
 use Rattle.rasn_types.proofs.Fewest.{pack-unpack}
 use Rattle.rasn_types.proofs.Reading.{number_of-append}
@@ -32,7 +32,7 @@ octet bs = number_of (take 8 (bs ++ replicate 8 false))
 
 -- ---- octets, and bits behind them
 
-number-zeros : (n : ℕ) → number_of (replicate n false) ≡ 0
+pub number-zeros : (n : ℕ) → number_of (replicate n false) ≡ 0
 number-zeros zero = refl
 number-zeros (suc n) = omega (arith, number-zeros n)
 
@@ -207,10 +207,6 @@ kept n os bs l e = subst (λ (m : ℕ). ArePacked m os) l (subst (λ qs. ArePack
 pub viewed : (n : ℕ) (os : List ℕ) (bs : Bits) → length bs ≡ n → os ≡ packed bs → take n (unpack os) ≡ bs
 viewed n os bs l e = ap₂ (λ (m : ℕ) qs. take m (unpack qs)) (sym l) e ∙ unpack-packed bs
 
-length-unpack : (os : List ℕ) → length (unpack os) ≡ 8 * length os
-length-unpack [] = refl
-length-unpack (o ∷ os) = omega (arith, length-unpack os)
-
 pub view_length : (n : ℕ) (os : List ℕ) → n ≤ 8 * length os → length (take n (unpack os)) ≡ n
 view_length n os h = length-take n (unpack os) ∙ omega (arith, length-unpack os)
 
@@ -252,7 +248,8 @@ one_longer n os b h = length-append (take n (unpack os)) (b ∷ []) ∙ ap (λ (
 
 -- ---- one bit
 
-top_bit : (w n : ℕ) → leb (2 ^ w) (n % 2 ^ suc w) ≡ eqb (bit_and (n / 2 ^ w) 1) 1
+-- the highest of the lowest w + 1 bits is bit w, as a program tests it
+pub top_bit : (w n : ℕ) → leb (2 ^ w) (n % 2 ^ suc w) ≡ eqb (bit_and (n / 2 ^ w) 1) 1
 top_bit w n = go (n / 2 ^ w % 2) (mod-lt (n / 2 ^ w) (omega arith)) refl ∙ ap (λ (k : ℕ). eqb k 1) (sym (shr_and_one n w))
   where
     at : (b : ℕ) → n / 2 ^ w % 2 ≡ b → n % 2 ^ suc w ≡ b * 2 ^ w + n % 2 ^ w

@@ -7,11 +7,11 @@ use Rattle.per_core.specs.Writers.{just}
 use Rattle.per_core.specs.Counts.{bit_items}
 use Rattle.per_core.specs.Basic.{Rule, Root, IsBitmap, Fields_in, Sized, bit, basic, basic_in, rules}
 use Rattle.per_core.specs.Canon.{canon}
-use Rattle.per_core.proofs.Agree.{Agree, weaken, then_agree, exactly_agree, behind, no_yes}
+use Rattle.per_core.proofs.Agree.{Agree, weaken, then_agree, behind, no_yes}
 use Rattle.per_core.proofs.Counting.{counted_within}
 use Rattle.per_core.proofs.Lengths.{sized_agree, Zip-same}
 use Rattle.per_core.proofs.Records.{root_agree}
-use Rattle.per_core.proofs.Whole.{sames, same_kin}
+use Rattle.per_core.proofs.Whole.{sames, same_kin, same_bits}
 use Rattle.per_core.proofs.Within.{just_within, then_within, when_within}
 use Rattle.per_rows.specs.Build.{uper, aper, numbered, all_required}
 use Rattle.per_rows.specs.Samples.{with_group}
@@ -31,9 +31,6 @@ no_bitmap a bs = record {
       let r = (either_one (no_yes _ _) (behind (true ∷ []) (weaken (Zip-same bs []) (sized_agree (λ x y. x ≡ y) bit bit same_bits a any_size bit_items bs [])))).agree p b c s t x.spelled y e in
       absurd (omega (arith, x.some, ap length r.0));
 }
-  where
-    same_bits : (x y : Bool) → Agree (x ≡ y) (bit x) (bit y)
-    same_bits x y = weaken (λ e. let i : x ∷ [] ≡ y ∷ [] = e in cc) (exactly_agree (x ∷ []) (y ∷ []) refl)
 
 abbrev Front : Settings → Spelling
 Front a = Then (exactly (true ∷ [])) (Then (Root (rules a parts) (Some (truth true) ∷ [])) (Then (Empty a) (exactly [])))

@@ -1,11 +1,11 @@
 use Rattle.std.proofs.Common.{◌≡◌, refl, sym, ap, ◌∙◌, lit<, ℕ, zero, suc, ◌+◌, ◌<◌, List, [], ◌∷◌, ◌++◌, length, true, false, arith, inl, inr}
 use Rattle.rasn_types.specs.Bits.{Bits, to_bits, number_of}
 use Rattle.rasn_types.specs.Values.{Value}
+use Rattle.rasn_types.proofs.Bits.{to_bits-number}
 use Rattle.rasn_constraints.specs.Bounds.{any_size}
 use Rattle.per_core.specs.Spellings.{Then, Field, AnyPadding, exactly}
 use Rattle.per_core.specs.Basic.{Fills, fills, basic, basic_in, LastCount, Fragment, InFragments, octet}
 use Rattle.per_core.proofs.Agree.{Agree, weaken, then_agree, padding_agree, field_agree}
-use Rattle.per_core.proofs.Presenting.{to_bits-number}
 use Rattle.per_core.proofs.Within.{just_within, then_within, field_within, padding_within}
 use Rattle.per_rows.specs.Build.{uper, octet_string}
 use Rattle.per_rows.proofs.Reading.{filled, not_both, begins, first}
