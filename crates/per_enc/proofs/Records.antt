@@ -6,11 +6,11 @@ use Rattle.rasn_types.specs.Codecs.{variant_of}
 use Rattle.rasn_types.specs.Values.{Value}
 use Rattle.rasn_types.specs.Variants.{Variant}
 use Rattle.rasn_types.specs.declared.types.Codec.{Codec}
+use Rattle.rasn_types.proofs.Values.{slots-as_slots}
 use Rattle.rasn_codec.specs.Calls.{Writes}
 use Rattle.rasn_schema.specs.Records.{record_value}
 use Rattle.rasn_schema.specs.Schemas.{Schema, Parts, no_parts, part}
 use Rattle.rasn_codec.specs.Scopes.{record_of, presents_required, PresentsParts, presents_end, presents_next, refuses_required, RefusesParts, refuses_here, refuses_behind, Passes}
-use Rattle.rasn_codec.proofs.Writing.{slots-as_slots}
 use Rattle.per_core.specs.Canon.{canon, members, flags_of, bodies_of, bitmap_of, shown, record_of as record_writer}
 use Rattle.per_core.specs.Writers.{Writer, just, ◌▹◌, join, go_on, after}
 use Rattle.per_write.specs.declared.error.EncodeError.{EncodeError}

@@ -5,9 +5,8 @@ use Rattle.std.proofs.lemmas.List.{take_more, take-append-drop}
 use Rattle.std.specs.Prelude.{MatchOption}
 use Rattle.rasn_types.specs.Bits.{Bits, number_of, to_bits, unpack}
 use Rattle.rasn_types.specs.Octets.{unsigned}
-use Rattle.rasn_types.proofs.Bits.{number-to_bits}
+use Rattle.rasn_types.proofs.Bits.{number-to_bits, unpack-append}
 use Rattle.rasn_types.proofs.Reading.{number_of-append}
-use Rattle.per_bits.proofs.Numbers.{unpack-append}
 use Rattle.per_core.specs.Spellings.{Settings}
 use Rattle.per_core.specs.Basic.{Octets, InNatural}
 use Rattle.per_core.specs.Took.{Took}

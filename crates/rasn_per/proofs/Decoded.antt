@@ -5,13 +5,14 @@ use Rattle.rasn_types.specs.Bits.{Bits, AreOctets, unpack}
 use Rattle.rasn_types.specs.Codecs.{variant_of}
 use Rattle.rasn_types.specs.declared.types.Codec.{Codec}
 use Rattle.rasn_types.specs.Values.{Value}
+use Rattle.rasn_types.proofs.Bits.{length-unpack}
 use Rattle.rasn_schema.specs.Schemas.{Schema}
 use Rattle.rasn_codec.specs.Calls.{Refuses}
 use Rattle.per_core.specs.Basic.{fills}
 use Rattle.per_core.specs.Ends.{Ends}
 use Rattle.per_core.proofs.Whole.{one_reading}
 use Rattle.per_core.proofs.Took.{took_agree}
-use Rattle.per_core.proofs.Laws.{one_value, length_unpack}
+use Rattle.per_core.proofs.Laws.{one_value}
 use Rattle.per_core.proofs.Filling.{fills_read, fills_back}
 use Rattle.per_de.specs.State.{State, Options, Spells, with_bits}
 use Rattle.per_de.specs.Faults.{Fault, refusal}
@@ -29,7 +30,7 @@ begun a octets b o s e f g = e ∙ ap (λ (z : Options). record { bits = b; fail
 
 pub whole_octets : (octets : List ℕ) (b : Bits) (n : ℕ) → b ≡ unpack octets → n ≡ length b → n % 8 ≡ 0
 whole_octets octets b n e f =
-    let l : n ≡ 8 * length octets = f ∙ ap length e ∙ length_unpack octets in omega arith
+    let l : n ≡ 8 * length octets = f ∙ ap length e ∙ length-unpack octets in omega arith
 
 module _ (a : Codec) (schema : ℕ → Schema) (octets : List ℕ) where
   -- how the reading of all octets ended, as its calls say it
