@@ -4,22 +4,22 @@ use Rattle.std.proofs.Common.{◌≡◌, refl, sym, ap, ◌∙◌, subst, ℕ, z
 use Rattle.rasn_types.specs.Values.{sorted, before, code, Value, elements, bag_of, fields, alternative, Side, root, added, as_values, as_slots, values, slots}
 use Rattle.rasn_types.proofs.Values.{slots-as_slots, values-as_values}
 use Rattle.rasn_constraints.specs.Bounds.{Size}
-use Rattle.rasn_schema.specs.Schemas.{tags, count, Presence, required, optional, group, default, Order, Schema, Parts, no_parts, part}
+use Rattle.rasn_schema.specs.Schemas.{tags, count, Presence, Order, Schema, Parts, no_parts, part}
 use Rattle.rasn_schema.specs.Orders.{ordered}
 use Rattle.rasn_schema.specs.Depth.{meets_cut, slots_meet_cut, meets_cut_at, any_of, CutOf, CutParts, cut_here, alike, cut_list, cut_set_of, cut_sequence, cut_choice, no_cut, cut_part}
 use Rattle.per_core.specs.Spellings.{Settings}
-use Rattle.per_core.specs.Basic.{IsLeftOut, As, Additions_in, Chosen, Rule, basic, basic_in, rules}
+use Rattle.per_core.specs.Basic.{As, Additions_in, Chosen, Rule, basic, basic_in, rules}
 use Rattle.per_core.specs.Versions.{project, project_slots, project_at, slot_through, all_of, NewerPresence, Newer, NewerParts, unchanged, newer_list, newer_set_of, newer_sequence, newer_choice, no_more, more_parts, also}
 use Rattle.per_core.proofs.Lengths.{Zip, or_left, or_right}
 use Rattle.per_core.proofs.Records.{SlotRel, Along}
 use Rattle.per_core.proofs.Whole.{length-rules}
 use Rattle.per_core.proofs.Bags.{bag_source, any_in_bag, joined_of}
 use Rattle.per_core.proofs.Canonical.{canonical}
-use Rattle.per_laws.proofs.Older.{made_of, made_both_of, slot_some, slot_meets, slot_back, same_tags}
+use Rattle.per_laws.proofs.Older.{made_of, made_both_of, slot_some, slot_meets, same_tags}
 use Rattle.per_laws.proofs.Carry.{Carry, kept, Leads, AllLead, skipped_carry, carries}
 use Rattle.per_laws.proofs.Carrying.{lengthy_as, additions_step, record_as, choice_as, rules_on}
 use Rattle.per_laws.proofs.Deeper.{same_cut_tags, cut_count}
-use Rattle.per_laws.proofs.Takes.{some_slot_is, none_through, flags_newer_carry, slot_meets_not, zip_first, same_count, older_takes}
+use Rattle.per_laws.proofs.Takes.{flags_newer_carry, slot_meets_not, zip_first, same_count, older_takes, left_out_drops}
 use Rattle.per_depth.specs.Written.{is_written, writes_cut, slots_write_cut, writes_cut_at}
 use Rattle.per_depth.proofs.Same.{and_false, slot_written_cut, slot_cut_not}
 use Rattle.per_depth.proofs.Layers.{Writes, written_rules, chosen_rules, list_layer, bag_layer, record_layer, choice_layer}
@@ -36,21 +36,11 @@ drops _ _ _ = []
 abbrev pub DropsValue : Schema → Schema → Schema → Value → Value → Type 0
 DropsValue t o s v w = (meets_cut t v ≡ false) × (project t o v ≡ Some w) × (writes_cut s t v ≡ false)
 
-left_out_drops : {t o : Schema} → Newer t o → (p' p : Presence) → NewerPresence t o p' p → (x y : Option Value) → slot_meets t x ≡ false → slot_through (project t o) x ≡ Some y → IsLeftOut p' x → IsLeftOut p y
-left_out_drops n required required k x y m h e = e
-left_out_drops {t} {o} n optional optional k x y m h e = none_through (project t o) x y e h
-left_out_drops {t} {o} n group group k x y m h e = none_through (project t o) x y e h
-left_out_drops {t} {o} n (default d') (default d) k x y m h e =
-    let m' : meets_cut t d' ≡ false = subst (λ z. slot_meets t z ≡ false) e m in
-    let q : slot_through (project t o) (Some d') ≡ Some y = subst (λ z. slot_through (project t o) z ≡ Some y) e h in
-    some_slot_is y (Some d) (sym q ∙ slot_back n d d' k m')
-left_out_drops n _ _ k x y m h e = absurd k
-
 part_drops : (a : Settings) {t o : Schema} (s : Schema) → Newer t o → (p' p : Presence) → NewerPresence t o p' p → ((v w : Value) → DropsValue t o s v w → Carry (Writes a t v) (basic a s w)) →
     Leads (Drops p' t o s) (record { presence = p'; spells = λ v q b. (is_written p' v ≡ true) × Writes a t v q b }) (record { presence = p; spells = basic a s })
 part_drops a {t} {o} s n p' p k each = record {
   flags = flags_newer_carry t o p' p k;
-  left_out = λ x y h e. left_out_drops n p' p k x y h.0 h.1 e;
+  left_out = λ x y h e. left_out_drops n p' p k x y (h.0, h.1) e;
   held = λ v y h.
       let q = slot_some (project t o) v y h.1 in
       (q.0, q.2, record { carry = λ pos b e. (each v q.0 (h.0, q.1, and_false (is_written p' v) (writes_cut s t v) h.2 e.0)).carry pos b e.1 });

@@ -4,7 +4,7 @@ use Rattle.std.proofs.Common.{◌≡◌, sym, ap, ◌∙◌, subst, ℕ, zero, s
 use Rattle.rasn_types.specs.Values.{sorted, before, code, Value, elements, bag_of, fields, alternative, Side, root, added, as_values, as_slots, values, slots}
 use Rattle.rasn_types.proofs.Values.{slots-as_slots, values-as_values}
 use Rattle.rasn_constraints.specs.Bounds.{Size}
-use Rattle.rasn_schema.specs.Schemas.{tags, count, Presence, required, optional, group, default, Order, Schema, Parts, part}
+use Rattle.rasn_schema.specs.Schemas.{tags, count, Presence, Order, Schema, Parts, part}
 use Rattle.rasn_schema.specs.Orders.{ordered}
 use Rattle.rasn_schema.specs.Depth.{meets_cut, slots_meet_cut, meets_cut_at, in_slots, any_of, CutOf, CutParts, cut_here, alike, cut_list, cut_set_of, cut_sequence, cut_choice, no_cut, cut_part}
 use Rattle.per_core.specs.Spellings.{Settings}
@@ -19,8 +19,8 @@ use Rattle.per_laws.proofs.Older.{made_of, made_both_of, slot_some, slot_meets, 
 use Rattle.per_laws.proofs.Carry.{Carry, kept, Leads, AllLead, carries}
 use Rattle.per_laws.proofs.Carrying.{lengthy_as, additions_step, record_as, choice_as, rules_on}
 use Rattle.per_laws.proofs.Deeper.{same_cut_tags, cut_count}
-use Rattle.per_laws.proofs.Takes.{none_through, slot_meets_not, same_count}
-use Rattle.per_laws.proofs.Widens.{newer_takes, flags_older_carry, zip_second, filled_left}
+use Rattle.per_laws.proofs.Takes.{slot_meets_not, same_count}
+use Rattle.per_laws.proofs.Widens.{newer_takes, flags_older_carry, zip_second, filled_left, left_out_grows}
 use Rattle.per_depth.specs.Written.{is_written, writes_cut, slots_write_cut, writes_cut_at}
 use Rattle.per_depth.proofs.Same.{and_false, slot_written_cut, slot_cut_not}
 use Rattle.per_depth.proofs.Layers.{Writes, written_rules, chosen_rules, list_layer, bag_layer, record_layer, choice_layer}
@@ -37,24 +37,11 @@ grows _ _ _ = []
 abbrev pub GrowsValue : Schema → Schema → Schema → Value → Value → Type 0
 GrowsValue t o s v w = (meets_cut o w ≡ false) × (widen o t v ≡ Some w) × (writes_cut s t v ≡ false)
 
-left_out_grows : (o t : Schema) (p' p : Presence) → NewerPresence o t p' p → (x y : Option Value) → slot_meets o y ≡ false → slot_through (widen o t) x ≡ Some y → IsLeftOut p x → IsLeftOut p' y
-left_out_grows o t required required k x y m h e = e
-left_out_grows o t optional optional k x y m h e = none_through (widen o t) x y e h
-left_out_grows o t group group k x y m h e = none_through (widen o t) x y e h
-left_out_grows o t (default d') (default d) k x y m h e =
-    let q = slot_some (widen o t) d y (subst (λ z. slot_through (widen o t) z ≡ Some y) e h) in
-    let n : meets_cut o q.0 ≡ false = subst (λ z. slot_meets o z ≡ false) q.2 m in
-    q.2 ∙ ap some_value (k.same q.0 q.1 n)
-  where
-    some_value : Value → Option Value
-    some_value v = Some v
-left_out_grows o t _ _ k x y m h e = absurd k
-
 part_grows : (a : Settings) (t o s : Schema) (p' p : Presence) → NewerPresence o t p' p → ((v w : Value) → GrowsValue t o s v w → Carry (Writes a t v) (basic_in a false s w)) →
     Leads (Grows p t o s) (record { presence = p; spells = λ v q b. (is_written p v ≡ true) × Writes a t v q b }) (record { presence = p'; spells = basic_in a false s })
 part_grows a t o s p' p k each = record {
   flags = flags_older_carry o t p' p k;
-  left_out = λ x y h e. left_out_grows o t p' p k x y h.0 h.1 e;
+  left_out = λ x y h e. left_out_grows o t p' p k x y (h.0, h.1) e;
   held = λ v y h.
       let q = slot_some (widen o t) v y h.1 in
       let m = subst (λ z. slot_meets o z ≡ false) q.2 h.0 in

@@ -1,7 +1,5 @@
 -- An alternative is found by its tag: of a lawful choice no tag is that of two alternatives.
-use Rattle.std.proofs.Common.{◌≡◌, refl, sym, ap, ◌∙◌, ap₂, ℕ, zero, suc, Bool, true, false, not, eqb, ◌&&◌, ◌||◌, List, [], ◌∷◌, ◌++◌}
-use Rattle.std.proofs.lemmas.Bool.Decides.{nat_tests}
-use Rattle.std.proofs.Common.{arith}
+use Rattle.std.proofs.Common.{eqb-true, ◌≡◌, refl, sym, ap, ◌∙◌, ap₂, ℕ, zero, suc, Bool, true, false, not, eqb, ◌&&◌, ◌||◌, List, [], ◌∷◌, ◌++◌}
 use Rattle.rasn_types.specs.Values.{Side, root, added}
 use Rattle.rasn_schema.specs.Depth.{any_of}
 use Rattle.rasn_schema.specs.Lawful.{IsLawful, leaves, same_tag, is_new, are_distinct, are_required, tags_below}
@@ -10,13 +8,10 @@ use Rattle.per_core.proofs.Lengths.{and_left, and_right}
 use Rattle.per_depth.specs.Listings.{tags_at, has_tag}
 
 -- tags that pass the test are one
-eqb_true : (m n : ℕ) → eqb m n ≡ true → m ≡ n
-eqb_true m n e = grind (arith, nat_tests)
-
 pub one_tag : (t u : Tag) → same_tag t u ≡ true → t ≡ u
 one_tag t u e =
-    let c : t.class ≡ u.class = eqb_true t.class u.class (and_left (eqb t.class u.class) (eqb t.number u.number) e) in
-    let n : t.number ≡ u.number = eqb_true t.number u.number (and_right (eqb t.class u.class) (eqb t.number u.number) e) in
+    let c : t.class ≡ u.class = eqb-true t.class u.class (and_left (eqb t.class u.class) (eqb t.number u.number) e) in
+    let n : t.number ≡ u.number = eqb-true t.number u.number (and_right (eqb t.class u.class) (eqb t.number u.number) e) in
     ap₂ (λ (c : ℕ) (n : ℕ). let x : Tag = record { class = c; number = n } in x) c n
 
 -- what is new in a list isn't in it

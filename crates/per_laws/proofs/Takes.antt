@@ -47,7 +47,7 @@ flags_newer_carry s' s _ _ k b = absurd k
 pub none_through : (f : Value → Option Value) (x y : Option Value) → x ≡ None → slot_through f x ≡ Some y → y ≡ None
 none_through f x y e h = sym (some_slot_is None y (ap (slot_through f) (sym e) ∙ h))
 
-left_out_drops : {s' s : Schema} → Newer s' s → (p' p : Presence) → NewerPresence s' s p' p → (x y : Option Value) → Drops s' s x y → IsLeftOut p' x → IsLeftOut p y
+pub left_out_drops : {s' s : Schema} → Newer s' s → (p' p : Presence) → NewerPresence s' s p' p → (x y : Option Value) → Drops s' s x y → IsLeftOut p' x → IsLeftOut p y
 left_out_drops n required required k x y h e = e
 left_out_drops {s'} {s} n optional optional k x y h e = none_through (project s' s) x y e h.1
 left_out_drops {s'} {s} n group group k x y h e = none_through (project s' s) x y e h.1

@@ -20,7 +20,7 @@ use Rattle.per_laws.proofs.Carrying.{as_carry, lengthy_as, additions_step, recor
 use Rattle.per_laws.proofs.Older.{made_of, made_both_of, slot_some, slot_meets, same_tags, plain_widen}
 use Rattle.per_laws.proofs.Takes.{some_slot_is, some_is, none_through, slot_meets_not, same_count}
 
-abbrev Grows : Schema → Schema → SlotRel
+abbrev pub Grows : Schema → Schema → SlotRel
 Grows s' s x y = (slot_meets s' y ≡ false) × (slot_through (widen s' s) x ≡ Some y)
 
 abbrev grows : Parts → Parts → List SlotRel
@@ -38,7 +38,7 @@ flags_older_carry s' s group group k b = kept
 flags_older_carry s' s (default d') (default d) k b = kept
 flags_older_carry s' s _ _ k b = absurd k
 
-left_out_grows : (s' s : Schema) (p' p : Presence) → NewerPresence s' s p' p → (x y : Option Value) → Grows s' s x y → IsLeftOut p x → IsLeftOut p' y
+pub left_out_grows : (s' s : Schema) (p' p : Presence) → NewerPresence s' s p' p → (x y : Option Value) → Grows s' s x y → IsLeftOut p x → IsLeftOut p' y
 left_out_grows s' s required required k x y h e = e
 left_out_grows s' s optional optional k x y h e = none_through (widen s' s) x y e h.1
 left_out_grows s' s group group k x y h e = none_through (widen s' s) x y e h.1
