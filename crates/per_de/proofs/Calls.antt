@@ -23,6 +23,8 @@ use Rattle.per_de.specs.Faults.{Fault, IsAt, IsOf, at_once, refusal}
 
 -- a refusal
 not_failed : (c : Schema) (a : Settings) (s : Bits) → IsAt a c s AlreadyFailed → ⊥
+not_failed Schema.boolean a s h = h
+not_failed Schema.null a s h = h
 not_failed (Schema.number bounds mark range) a s h = h
 not_failed (Schema.octet_string size mark) a s h = h
 not_failed (Schema.bit_string size mark) a s h = h

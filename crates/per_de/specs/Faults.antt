@@ -7,7 +7,7 @@ use Rattle.rasn_codec.specs.Scopes.{record_of}
 use Rattle.per_core.specs.Spellings.{Settings}
 use Rattle.per_core.specs.Basic.{basic}
 use Rattle.per_core.specs.Took.{Took}
-use Rattle.per_read.specs.Kinds.{IsTested}
+use Rattle.per_read.specs.Kinds.{IsShort, IsTested}
 use Rattle.per_read.specs.Numbers.{IsOfNumber}
 use Rattle.per_read.specs.Sizes.{IsOfItems}
 use Rattle.per_read.specs.Strings.{IsOfString, IsOfText}
@@ -24,6 +24,8 @@ IsOfCut k = IsTested k
 
 -- What a kind says of the first of bits, as a schema reads them. Kinds that no call answers yet say what never holds.
 abbrev pub IsAt : Settings → Schema → Bits → DecodeErrorKind → Type 0
+IsAt a Schema.boolean s k = IsShort k
+IsAt a Schema.null s k = ⊥
 IsAt a (Schema.number bounds mark range) s k = IsOfNumber a bounds mark s k
 IsAt a (Schema.octet_string size mark) s k = IsOfItems a size mark Octet s k
 IsAt a (Schema.bit_string size mark) s k = IsOfItems a size mark Bit s k

@@ -4,7 +4,7 @@ use Rattle.rasn_types.specs.Bits.{Bits}
 use Rattle.per_core.specs.Spellings.{Spelling}
 use Rattle.per_core.specs.Took.{Took}
 use Rattle.per_read.specs.declared.error.DecodeErrorKind.{DecodeErrorKind}
-use Rattle.per_read.specs.declared.error.DecodeErrorKind.TheVariants.{Incomplete, ParserFail, MissingTag, TypeNotExtensible, ExceedsMaxLength, IntegerOverflow, ChoiceIndexExceedsPlatformWidth, Below, OutOfMemory}
+use Rattle.per_read.specs.declared.error.DecodeErrorKind.TheVariants.{Incomplete, ParserFail, ExceedsMaxLength, IntegerOverflow, OutOfMemory}
 
 -- nothing stands in some form at the front of bits
 abbrev pub NoneIn : {X : Type 0} → (X → Spelling) → Bits → Type 0
@@ -14,13 +14,14 @@ NoneIn {X} form s = (x : X) (t : Bits) → Took (form x) s t → ⊥
 abbrev pub IsTested : DecodeErrorKind → Type 0
 IsTested (Incomplete missing) = Unit {0}
 IsTested (ParserFail cause) = Unit {0}
-IsTested MissingTag = Unit {0}
-IsTested TypeNotExtensible = Unit {0}
 IsTested ExceedsMaxLength = Unit {0}
 IsTested (IntegerOverflow width) = Unit {0}
-IsTested ChoiceIndexExceedsPlatformWidth = Unit {0}
-IsTested Below = Unit {0}
 IsTested _ = ⊥
+
+-- Too few bits are left. That the number missing is right is tested.
+abbrev pub IsShort : DecodeErrorKind → Type 0
+IsShort (Incomplete missing) = Unit {0}
+IsShort _ = ⊥
 
 -- want of memory, or a kind of which P holds, where a fact does
 abbrev pub Faulty : (DecodeErrorKind → Type 0) → Type 0 → DecodeErrorKind → Type 0

@@ -6,7 +6,7 @@ ghost use Rattle.per_core.specs.Spellings.{AnyPadding, Field};
 ghost use Rattle.per_core.specs.Took.{Took};
 ghost use Rattle.per_read.specs.Codecs.{settings};
 ghost use Rattle.per_read.specs.Lengths.{LengthOf, CountOf};
-ghost use Rattle.per_read.specs.Kinds.{Refused};
+ghost use Rattle.per_read.specs.Kinds.{IsShort, Refused};
 ghost use Rattle.per_read.specs.declared.length.Length.{Length};
 
 use crate::error::{DecodeErrorKind, ParserFailCause};
@@ -25,6 +25,7 @@ pub enum Length {
 pub fn take_bit(bits: &mut BitReader<'_>) -> Result<bool, DecodeErrorKind>
     ensures ok { IfOk result (λ bit. bits.old ≡ bit ∷ bits.new) }
     ensures err { IfErr result (Refused (bits.old ≡ [])) }
+    ensures short { IfErr result IsShort }
 {
     Ok(take_number(bits, 1)? == 1)
 }
@@ -34,6 +35,7 @@ pub fn take_number(bits: &mut BitReader<'_>, width: u128) -> Result<u128, Decode
     requires { width ≤ 128 }
     ensures ok { IfOk result (λ n. Took (Field width n) bits.old bits.new) }
     ensures err { IfErr result (Refused (length bits.old < width)) }
+    ensures short { IfErr result IsShort }
 {
     let front = bits.take(width).map_err(DecodeErrorKind::Incomplete)?;
     Ok(front.first_bits(width))

@@ -1,7 +1,7 @@
 -- What the kind of a refused reading says of the octets.
 use Rattle.std.proofs.Common.{◌≡◌, refl, sym, ap, subst, ℕ, List, ◌⊎◌, inl, inr, length, Result, Ok, Err}
 use Rattle.std.specs.Prelude.{IfErr}
-use Rattle.rasn_types.specs.Bits.{Bits, unpack}
+use Rattle.rasn_types.specs.Bits.{Bits}
 use Rattle.rasn_types.specs.Codecs.{variant_of}
 use Rattle.rasn_types.specs.Values.{Value}
 use Rattle.rasn_types.specs.declared.types.Codec.{Codec}
@@ -17,33 +17,13 @@ use Rattle.per_de.specs.Faults.{IsAt, IsInBits, at_once, inside, IsInParts, here
 use Rattle.per_read.specs.declared.error.DecodeError.{DecodeError}
 use Rattle.per_read.specs.declared.error.DecodeErrorKind.{DecodeErrorKind}
 use Rattle.per_read.specs.declared.error.DecodeErrorKind.TheVariants.{Incomplete, ParserFail, UnexpectedExtraData, AlreadyFailed, OutOfMemory}
-use Rattle.per_read.specs.declared.error.ParserFailCause.{ParserFailCause}
-use Rattle.per_read.specs.declared.error.ParserFailCause.TheVariants.{NonzeroEmptyValue}
-use Rattle.rasn_per.specs.Whole.{basically}
 use Rattle.rasn_per.specs.Kinds.{IsInOctets, kind_of}
 use Rattle.rasn_per.proofs.Decoded.{fresh, Ended, so}
 
--- an input that ends early, and one that isn't as it has to be, are shown by tests alone
-pub missing_at : (a : Settings) (c : Schema) (s : Bits) (n : ℕ) → IsAt a c s (Incomplete n)
-missing_at a (Schema.number b m r) s n = tt
-missing_at a (Schema.octet_string z m) s n = tt
-missing_at a (Schema.bit_string z m) s n = tt
-missing_at a (Schema.char_string l z m) s n = tt
-missing_at a (Schema.text k) s n = tt
-missing_at a Schema.cut s n = tt
-missing_at a _ s n = tt
-
-pub failing_at : (a : Settings) (c : Schema) (s : Bits) (cause : ParserFailCause) → IsAt a c s (ParserFail cause)
-failing_at a (Schema.number b m r) s n = tt
-failing_at a (Schema.octet_string z m) s n = tt
-failing_at a (Schema.bit_string z m) s n = tt
-failing_at a (Schema.char_string l z m) s n = tt
-failing_at a (Schema.text k) s n = tt
-failing_at a Schema.cut s n = tt
-failing_at a _ s n = tt
-
 -- no call of a decoder finds octets left over
 extra_nowhere : (a : Settings) (c : Schema) (s : Bits) (n : ℕ) → IsAt a c s (UnexpectedExtraData n) → ⊥
+extra_nowhere a Schema.boolean s n h = h
+extra_nowhere a Schema.null s n h = h
 extra_nowhere a (Schema.number b m r) s n h = h
 extra_nowhere a (Schema.octet_string z m) s n h = h
 extra_nowhere a (Schema.bit_string z m) s n h = h
@@ -65,6 +45,8 @@ module _ (a : Codec) (schema : ℕ → Schema) (octets : List ℕ) where
   of_fresh : (k : DecodeErrorKind) → IsOf k (schema 128) (fresh a octets) → IsInOctets (variant_of a) schema octets k
   of_fresh AlreadyFailed h = absurd (cc)
   of_fresh (UnexpectedExtraData n) h = absurd (no_extra h n refl)
+  of_fresh (Incomplete n) h = tt
+  of_fresh (ParserFail cause) h = tt
   of_fresh OutOfMemory h = tt
   of_fresh _ h = h
 
@@ -80,8 +62,8 @@ module _ (a : Codec) (schema : ℕ → Schema) (octets : List ℕ) where
   -- the kind of a reading that doesn't end as it has to
   pub named_surplus : (surplus : Surplus) (v : Value) (s t : State) (b : Bits) → s ≡ fresh a octets → Spells (schema s.levels) s v t
       → Ended a schema octets (λ l n. IsWhy l n surplus) t b → IsInOctets (variant_of a) schema octets (kind_of surplus)
-  named_surplus (Missing n) v s t b e h d = at_once (missing_at (basically (variant_of a)) (schema 128) (unpack octets) n)
-  named_surplus NonzeroOctet v s t b e h d = at_once (failing_at (basically (variant_of a)) (schema 128) (unpack octets) NonzeroEmptyValue)
+  named_surplus (Missing n) v s t b e h d = tt
+  named_surplus NonzeroOctet v s t b e h d = tt
   named_surplus (ExtraOctets n) v s t b e h d = record {
     value = v;
     left = t.bits;

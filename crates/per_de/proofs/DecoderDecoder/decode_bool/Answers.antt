@@ -9,4 +9,4 @@ returns-in-Ok-clause-law c = rw (← c.self.view_is) (record { live = ap (λ z. 
 pub returns-in-Err-clause-law : goal.returns-in-Err-clause-law
 returns-in-Err-clause-law c =
     let h = c.in-Err.ensures.err in
-    rw (← c.self.view_is) (inr (refuses boolean _ c.in-Err.kind _ c.refuse.ensures.error h.0 (no_truth _ _ h.1)))
+    rw (← c.self.view_is) (inr (refuses boolean _ c.in-Err.kind _ c.refuse.ensures.error c.in-Err.ensures.short (no_truth _ _ h.1)))
