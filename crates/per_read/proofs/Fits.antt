@@ -65,8 +65,10 @@ form_number a bounds s {u = u} el eu k h = go bounds.low bounds.high k (subst (�
     go : (l u : Option ℤ) (k : DecodeErrorKind) → IsOfForm a l u s k → IsOfNumber a (record { low = l; high = u }) false s k
     go None u UnexpectedEmptyInput h = record { rest = h.0; took = h.1 }
     go None u (ValueConstraintNotSatisfied named low high) h = absurd h
+    go None u (IntegerOverflow width) h = absurd h
     go None u _ h = h
     go (Some l) None UnexpectedEmptyInput h = record { rest = h.0; took = h.1 }
     go (Some l) None (ValueConstraintNotSatisfied named low high) h = absurd h
+    go (Some l) None (IntegerOverflow width) h = absurd h
     go (Some l) None _ h = h
     go (Some l) (Some u) k h = tested_number a (record { low = Some l; high = Some u }) false s k h

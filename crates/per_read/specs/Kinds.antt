@@ -4,7 +4,7 @@ use Rattle.rasn_types.specs.Bits.{Bits}
 use Rattle.per_core.specs.Spellings.{Spelling}
 use Rattle.per_core.specs.Took.{Took}
 use Rattle.per_read.specs.declared.error.DecodeErrorKind.{DecodeErrorKind}
-use Rattle.per_read.specs.declared.error.DecodeErrorKind.TheVariants.{Incomplete, ParserFail, ExceedsMaxLength, IntegerOverflow, OutOfMemory}
+use Rattle.per_read.specs.declared.error.DecodeErrorKind.TheVariants.{Incomplete, ParserFail, ExceedsMaxLength, OutOfMemory}
 
 -- nothing stands in some form at the front of bits
 abbrev pub NoneIn : {X : Type 0} → (X → Spelling) → Bits → Type 0
@@ -15,7 +15,6 @@ abbrev pub IsTested : DecodeErrorKind → Type 0
 IsTested (Incomplete missing) = Unit {0}
 IsTested (ParserFail cause) = Unit {0}
 IsTested ExceedsMaxLength = Unit {0}
-IsTested (IntegerOverflow width) = Unit {0}
 IsTested _ = ⊥
 
 -- Too few bits are left. That the number missing is right is tested.

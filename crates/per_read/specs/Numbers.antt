@@ -73,10 +73,11 @@ IsOfForm a None high s k = IsOfOctets a s k
 IsOfForm a (Some l) None s k = IsOfOctets a s k
 IsOfForm a (Some l) (Some u) s k = IsTested k
 
--- what a kind says of a number under bounds
+-- What a kind says of a number under bounds. That one which its type doesn't hold is named so is tested.
 abbrev pub IsOfNumber : Settings → Bounds → Bool → Bits → DecodeErrorKind → Type 0
 IsOfNumber a bounds mark s UnexpectedEmptyInput = IsEmpty a bounds mark s
 IsOfNumber a bounds mark s (ValueConstraintNotSatisfied named low high) = IsOutside a bounds mark named low high s
+IsOfNumber a bounds mark s (IntegerOverflow width) = Unit {0}
 IsOfNumber a bounds mark s k = IsTested k
 
 -- What a kind says of a number that is no value of a type of a width: it stands outside its bounds, or within these but not in the type.
