@@ -1,2 +1,6 @@
+pub mod Joins
+pub mod Loops
 pub mod Numbers
-mod Steps
+pub mod Packs
+pub mod Readers
+pub mod Words

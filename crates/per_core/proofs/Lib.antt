@@ -2,7 +2,6 @@ pub mod Agree
 pub mod Bags
 pub mod Canonical
 pub mod Codes
-pub mod Complete
 pub mod Counting
 pub mod Laws
 pub mod Lengths

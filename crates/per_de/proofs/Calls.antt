@@ -7,7 +7,7 @@ use Rattle.rasn_constraints.specs.Bounds.{Bounds}
 use Rattle.rasn_schema.specs.Schemas
 use Rattle.rasn_schema.specs.Schemas.{Schema, Parts, listed}
 use Rattle.rasn_schema.specs.Records.{record_at, no_additions}
-use Rattle.rasn_codec.specs.Calls.{Reads, Refuses, takes_none}
+use Rattle.rasn_codec.specs.Calls.{Answers, Reads, Refuses, takes_none}
 use Rattle.per_core.specs.Spellings.{Settings}
 use Rattle.per_core.specs.Basic.{basic, basic_in, IsNumberOf}
 use Rattle.per_core.specs.Took.{Took}
@@ -18,8 +18,9 @@ use Rattle.per_read.specs.declared.error.DecodeError.{DecodeError}
 use Rattle.per_read.specs.declared.error.DecodeErrorKind.{DecodeErrorKind}
 use Rattle.per_read.specs.declared.error.DecodeErrorKind.TheVariants.{AlreadyFailed, ExceedsMaxParseDepth, OutOfMemory}
 use Rattle.per_read.proofs.Refusals.{faulty_map}
-use Rattle.per_de.specs.State.{State, Spells, settings_of}
+use Rattle.per_de.specs.State.{State, Spells, settings_of, with_bits}
 use Rattle.per_de.specs.Faults.{Fault, IsAt, IsOf, at_once, refusal}
+use Rattle.per_de.specs.Rules.{decoder_rules}
 
 -- a refusal
 not_failed : (c : Schema) (a : Settings) (s : Bits) → IsAt a c s AlreadyFailed → ⊥
@@ -86,7 +87,7 @@ failed_refuses c s e i f = record {
 }
 
 pub null_answers : (s : State) (r : Result (Unit {0}) DecodeError) → OnOk r (s.failed ≡ false) → IfErr r (λ e. e ≡ refusal AlreadyFailed s) → OnErr r (s.failed ≡ true)
-    → Reads takes_none Fault Spells Schemas.null (λ u. nothing) s r s
+    → Answers takes_none (Fault Schemas.null) (Spells Schemas.null) (λ u. nothing) s r s
 null_answers s (Ok u) ok err failed = record { live = ok; took = reads_nothing (settings_of s) s.bits; same = refl }
 null_answers s (Err e) ok err failed = inr (failed_refuses Schemas.null s e err failed)
 
@@ -96,3 +97,13 @@ pub too_deep : (s : State) (e : DecodeError) (parts : ℕ → Parts) (n : ℕ) �
 unfolding basic_in
 too_deep s e parts zero h i = inr (refuses Schemas.cut s ExceedsMaxParseDepth e i tt (λ v t b. b.spelled))
 too_deep s e parts (suc n) h i = absurd (omega arith)
+
+-- a call that took the front that spells a value
+pub took_value : {T : Type 0} (c : Schema) (value : T → Value) (s : State) (v : T) (t : State) → s.failed ≡ false → Took (basic (settings_of s) c (value v)) s.bits t.bits → t ≡ with_bits s t.bits
+    → Reads decoder_rules c value s (Ok v) t
+took_value c value s v t f k e = record { law = record { live = f; took = k; same = e }; behaves = record { again = λ h. absurd cc; fails = tt; kept = ap (λ z. z.codec) e } }
+
+-- a call that refused, after which the decoder has failed
+pub refused : {T : Type 0} (c : Schema) (value : T → Value) (s : State) (b : Bits) (n : ℕ) (e : DecodeError) (t : State) → s.failed ≡ false → t ≡ record { bits = b; failed = true; levels = n; codec = s.codec }
+    → (e ≡ refusal OutOfMemory s) ⊎ Refuses (Spells c) (Fault c) e s → Reads decoder_rules c value s (Err e) t
+refused c value s b n e t f h w = record { law = w; behaves = record { again = λ g. absurd cc; fails = ap (λ z. z.failed) h; kept = ap (λ z. z.codec) h } }

@@ -5,10 +5,10 @@ use Rattle.rasn_schema.specs.Schemas.{Schema}
 use Rattle.rasn_codec.specs.Calls.{ReadsWell}
 use Rattle.per_core.proofs.Took.{took_agree}
 use Rattle.per_core.proofs.Whole.{one_reading}
-use Rattle.per_read.specs.declared.error.DecodeError.{DecodeError}
 use Rattle.per_read.specs.declared.error.DecodeErrorKind.TheVariants.{OutOfMemory}
 use Rattle.per_de.specs.State.{State, Spells, settings_of, with_bits}
 use Rattle.per_de.specs.Faults.{refusal}
+use Rattle.per_de.specs.Rules.{decoder_rules}
 
 -- one value, and one state behind it
 one_state : (c : Schema) (s : State) (v w : Value) (t u : State) → Spells c s v t → Spells c s w u → (v ≡ w) × (t ≡ u)
@@ -16,7 +16,7 @@ one_state c s v w t u a b =
     let r = took_agree (one_reading (settings_of s) c v w) a.took b.took in
     (r.0, a.same ∙ ap (λ z. with_bits s z) r.1 ∙ sym b.same)
 
-pub reads_well : (c : Schema) → ReadsWell (λ (s : State). s.levels) (λ (s : State). s.failed) (λ (e : DecodeError) (s : State). e ≡ refusal OutOfMemory s) (Spells c)
+pub reads_well : (c : Schema) → ReadsWell decoder_rules (Spells c)
 reads_well c = record {
   one = one_state c;
   level = λ s v t a. ap (λ z. z.levels) a.same;

@@ -1,5 +1,6 @@
 pub mod Faults
 pub mod Laws
+pub mod Rules
 pub mod ScopeLaws
 pub mod Scopes
 pub mod State

@@ -15,6 +15,7 @@ use Rattle.per_read.specs.declared.error.DecodeErrorKind.{DecodeErrorKind}
 use Rattle.per_read.specs.declared.error.DecodeErrorKind.TheVariants.{AlreadyFailed, OutOfMemory}
 use Rattle.per_de.specs.State.{State, Spells, settings_of, with_bits}
 use Rattle.per_de.specs.Faults.{Fault, IsOf, IsInParts, here, later, inside, refusal}
+use Rattle.per_de.specs.Rules.{decoder_rules}
 use Rattle.per_de.specs.Scopes.{at_level, Opens, Closes}
 use Rattle.per_de.specs.declared.Scope.{Scope}
 
@@ -187,7 +188,7 @@ bare_back ps s i t o v a b =
       },
     )
 
-pub scopes_well : ScopesWell (λ (s : State). s.failed) (λ (e : DecodeError) (s : State). e ≡ refusal OutOfMemory s) Fault (λ (o : Scope) (e : DecodeError) (s : State). ⊥) Spells Opens Closes
+pub scopes_well : ScopesWell decoder_rules (λ (o : Scope) (e : DecodeError) (s : State). ⊥) Opens Closes
 scopes_well = record {
   inside = λ c s o i a. ap (λ z. z.failed) a.enters.same ∙ a.live;
   room = λ c s o i e a m. m ∙ ap (λ z. refusal OutOfMemory z) a.enters.same;

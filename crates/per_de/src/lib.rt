@@ -3,9 +3,10 @@
 
 ghost use Rattle.std.specs.Prelude.{◌≡◌, ℕ, true, false, OnOk, OnErr, IfOk, IfErr};
 ghost use Rattle.rasn_types.specs.declared.types.Codec.TheVariants.{Uper};
-ghost use Rattle.per_read.specs.declared.error.DecodeErrorKind.TheVariants.{ExceedsMaxParseDepth, OutOfMemory, AlreadyFailed};
-ghost use Rattle.per_de.specs.State.{State, Options, Spells};
-ghost use Rattle.per_de.specs.Faults.{Fault, refusal};
+ghost use Rattle.per_read.specs.declared.error.DecodeErrorKind.TheVariants.{ExceedsMaxParseDepth, AlreadyFailed};
+ghost use Rattle.per_de.specs.State.{State, Options};
+ghost use Rattle.per_de.specs.Faults.{refusal};
+ghost use Rattle.per_de.specs.Rules.{decoder_rules};
 ghost use Rattle.per_de.specs.Scopes.{Enters, Opens, Closes};
 ghost use Rattle.per_de.specs.Laws.{reads_well};
 ghost use Rattle.per_de.specs.ScopeLaws.{scopes_well};
@@ -81,9 +82,20 @@ impl<'input> Decoder<'input> {
     ) -> Self
         ensures { result ≡ record { bits = input.now; failed = false; levels = options.levels; codec = options.codec } }
     {
+        Decoder::from_reader(alloc, BitReader::new(input), options)
+    }
+
+    /// A decoder of the bits that a reader has left. What its values own is taken from `alloc`.
+    pub fn from_reader(
+        alloc: Global,
+        input: BitReader<'input>,
+        options: DecoderOptions,
+    ) -> Self
+        ensures { result ≡ record { bits = input.entry; failed = false; levels = options.levels; codec = options.codec } }
+    {
         Decoder {
             alloc,
-            bits: BitReader::new(input),
+            bits: input,
             codec: options.codec,
             levels: options.levels,
             failed: false,
@@ -164,25 +176,13 @@ impl<'input> codec::Decoder for Decoder<'input> {
 
     type Scope = Scope;
 
-    ghost levels = { λ s. s.levels };
-
-    ghost spells = { Spells };
+    ghost rules = { decoder_rules };
 
     ghost opens = { Opens };
 
     ghost closes = { Closes };
 
-    ghost fault = { Fault };
-
     ghost unended = { λ _ _ _. ⊥ };
-
-    ghost memory = { λ e s. e ≡ refusal OutOfMemory s };
-
-    ghost already = { λ e s. e ≡ refusal AlreadyFailed s };
-
-    ghost failed = { λ s. s.failed };
-
-    ghost codec = { λ s. s.codec };
 
     fn codec(&self) -> Codec {
         Decoder::codec(self)

@@ -327,8 +327,6 @@ impl AsnType for Empty {
 
     ghost CONSTRAINTS = { no_constraints };
 
-    const IDENTIFIER: Identifier = Identifier::EMPTY;
-
     ghost schema = { λ _. record_at listed no_additions false no_additions };
 
     ghost value = { λ _. record_value [] [] };

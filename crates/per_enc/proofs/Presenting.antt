@@ -1,6 +1,6 @@
 -- What the calls of an encoder present.
 use Rattle.std.specs.Prelude.{OnOk, OnErr, IfErr, Result, Ok, Err, Bool}
-use Rattle.std.proofs.Common.{◌≡◌, refl, sym, ap, ◌∙◌, subst, true, false, ℕ, List, [], ◌∷◌, Some, append-nil, inl, inr, None, Option, ℤ}
+use Rattle.std.proofs.Common.{◌≡◌, refl, sym, ap, ◌∙◌, subst, true, false, ℕ, List, [], ◌∷◌, Some, append-nil, inl, inr, None, Option, ℤ, rules}
 use Rattle.rasn_types.specs.Bits.{Bits}
 use Rattle.rasn_types.specs.Codecs.{variant_of}
 use Rattle.rasn_types.specs.Octets.{whole_bits}
@@ -12,21 +12,30 @@ use Rattle.rasn_constraints.specs.Constraints.{bounds_in, is_marked}
 use Rattle.rasn_constraints.specs.declared.constraints.Bounded.{Bounded}
 use Rattle.rasn_constraints.specs.declared.constraints.Extensible.{Extensible}
 use Rattle.rasn_schema.specs.Schemas.{Schema}
-use Rattle.rasn_codec.specs.Calls.{Writes, takes_none}
+use Rattle.rasn_codec.specs.Calls.{Behaves, Written, Writes, freely}
 use Rattle.per_core.specs.Counts.{counted_octets, octets_unsized}
 use Rattle.per_core.specs.Writers.{Writer, join, just, written_if, ◌▹◌}
 use Rattle.per_core.specs.Canon.{canon}
 use Rattle.per_write.specs.declared.error.EncodeError.{EncodeError}
 use Rattle.per_write.specs.Faults.{IsMemory, IsAlready, RefusesValue, Stands}
-use Rattle.per_write.specs.State.{State, Wrote, Presents, view}
+use Rattle.per_write.specs.Rules.{encoder_rules}
+use Rattle.per_write.specs.State.{State, Wrote, Puts, Presents, view}
 use Rattle.per_write.proofs.Constrained.{presents_within, under_none}
 use Rattle.per_write.proofs.Writing.{wrote_same}
 
--- a call that wrote a value's canonical bits, or found no memory
-pub writes : (x y : State) (w : Writer) (s : Schema) (v : Value) (result : Result (Unit {0}) EncodeError) → w ≡ canon (variant_of x.codec) s v →
-    OnOk result (Wrote x w y) → IfErr result (λ e. IsMemory e x) → Writes IsMemory Presents RefusesValue s v x result y
-writes x y w s v (Ok u) c h k = subst (λ (g : Writer). Wrote x g y) c h
-writes x y w s v (Err e) c h k = inl k
+-- how a call behaves that an unfailed encoder makes
+pub behaves : (x y : State) (result : Result (Unit {0}) EncodeError) → x.failed ≡ false → OnErr result (y.failed ≡ true) → y.codec ≡ x.codec →
+    Behaves IsAlready (λ (z : State). z.failed) (λ (z : State). z.codec) x result y
+behaves x y result f e k = record { again = λ h. absurd cc; fails = e; kept = k }
+
+written : (x y : State) (w : Writer) (s : Schema) (v : Value) (result : Result (Unit {0}) EncodeError) → w ≡ canon (variant_of x.codec) s v → Puts IsMemory w x result y → Written encoder_rules s v x result y
+written x y w s v (Ok u) c p = subst (λ (g : Writer). Wrote x g y) c p.ok
+written x y w s v (Err e) c p = inl p.err
+
+-- a call that put a value's canonical bits, or found no memory
+pub writes : (x y : State) (w : Writer) (s : Schema) (v : Value) (result : Result (Unit {0}) EncodeError) → w ≡ canon (variant_of x.codec) s v → x.failed ≡ false → Puts IsMemory w x result y →
+    Writes encoder_rules s v x result y
+writes x y w s v result c f p = record { law = written x y w s v result c p; behaves = behaves x y result f p.fails p.kept }
 
 -- an encoder that had been refused refuses again
 pub refuses_again : (e : EncodeError) (x : State) (s : Schema) (v : Value) → IsAlready e x → x.failed ≡ true → RefusesValue e x s v
@@ -42,12 +51,17 @@ unfolding canon
 boolean_bits a b = refl
 
 -- X.691 13.2.4: without a constraint
-pub unbounded_law : (x y : State) (value : Option (Extensible (Bounded ℤ))) (range : Bounds) (z : ℤ) (result : Result (Unit {0}) EncodeError) → value ≡ None →
-    OnOk result (Wrote x (counted_octets (variant_of x.codec) (whole_bits z)) y) → OnOk result (holds range z ≡ true) → IfErr result (λ e. IsMemory e x) →
-    Writes IsMemory Presents RefusesValue (Schema.number (bounds_in value) (is_marked value) range) (whole z) x result y
-unbounded_law x y value range z (Ok u) n w h i =
-    rw n (presents_within x y unbounded range z h refl (wrote_same x y (counted_octets (variant_of x.codec) (whole_bits z)) _ (under_none (variant_of x.codec) None z (inl refl)) w))
-unbounded_law x y value range z (Err e) n w h i = inl i
+unbounded_written : (x y : State) (value : Option (Extensible (Bounded ℤ))) (range : Bounds) (z : ℤ) (result : Result (Unit {0}) EncodeError) → value ≡ None →
+    OnOk result (holds range z ≡ true) → Puts IsMemory (counted_octets (variant_of x.codec) (whole_bits z)) x result y →
+    Written encoder_rules (Schema.number (bounds_in value) (is_marked value) range) (whole z) x result y
+unbounded_written x y value range z (Ok u) n h p =
+    rw n (presents_within x y unbounded range z h refl (wrote_same x y (counted_octets (variant_of x.codec) (whole_bits z)) _ (under_none (variant_of x.codec) None z (inl refl)) p.ok))
+unbounded_written x y value range z (Err e) n h p = inl p.err
+
+pub unbounded_law : (x y : State) (value : Option (Extensible (Bounded ℤ))) (range : Bounds) (z : ℤ) (result : Result (Unit {0}) EncodeError) → value ≡ None → x.failed ≡ false →
+    OnOk result (holds range z ≡ true) → Puts IsMemory (counted_octets (variant_of x.codec) (whole_bits z)) x result y →
+    Writes encoder_rules (Schema.number (bounds_in value) (is_marked value) range) (whole z) x result y
+unbounded_law x y value range z result n f h p = record { law = unbounded_written x y value range z result n h p; behaves = behaves x y result f p.fails p.kept }
 
 -- X.691 11.2: octets of a type that isn't known
 any_bits : (a : Variant) (os : List ℕ) → octets_unsized a os ≡ canon a Schema.any (octets os)
@@ -55,9 +69,9 @@ unfolding canon
 any_bits a os = refl
 
 pub any_law : (x y : State) (taken os : List ℕ) (result : Result (Unit {0}) EncodeError) → taken ≡ os →
-    OnOk result (Wrote x (octets_unsized (variant_of x.codec) taken) y) → IfErr result (λ e. IsMemory e x) → Writes IsMemory Presents RefusesValue Schema.any (octets os) x result y
-any_law x y taken os result t w k =
-    writes x y (octets_unsized (variant_of x.codec) taken) Schema.any (octets os) result (ap (octets_unsized (variant_of x.codec)) t ∙ any_bits (variant_of x.codec) os) w k
+    x.failed ≡ false → Puts IsMemory (octets_unsized (variant_of x.codec) taken) x result y → Writes encoder_rules Schema.any (octets os) x result y
+any_law x y taken os result t f p =
+    writes x y (octets_unsized (variant_of x.codec) taken) Schema.any (octets os) result (ap (octets_unsized (variant_of x.codec)) t ∙ any_bits (variant_of x.codec) os) f p
 
 -- X.691 30.6: octets of a text
 text_bits : (a : Variant) (kind : TextKind) (os : List ℕ) → is_text kind os ≡ true → octets_unsized a os ≡ canon a (Schema.text kind) (octets os)
@@ -65,15 +79,15 @@ unfolding canon
 text_bits a kind os h = ap (λ (b : Bool). written_if b (octets_unsized a os)) (sym h)
 
 pub text_law : (x y : State) (kind : TextKind) (taken os : List ℕ) (result : Result (Unit {0}) EncodeError) → taken ≡ os → is_text kind os ≡ true →
-    OnOk result (Wrote x (octets_unsized (variant_of x.codec) taken) y) → IfErr result (λ e. IsMemory e x) → Writes IsMemory Presents RefusesValue (Schema.text kind) (octets os) x result y
-text_law x y kind taken os result t h w k =
-    writes x y (octets_unsized (variant_of x.codec) taken) (Schema.text kind) (octets os) result (ap (octets_unsized (variant_of x.codec)) t ∙ text_bits (variant_of x.codec) kind os h) w k
+    x.failed ≡ false → Puts IsMemory (octets_unsized (variant_of x.codec) taken) x result y → Writes encoder_rules (Schema.text kind) (octets os) x result y
+text_law x y kind taken os result t h f p =
+    writes x y (octets_unsized (variant_of x.codec) taken) (Schema.text kind) (octets os) result (ap (octets_unsized (variant_of x.codec)) t ∙ text_bits (variant_of x.codec) kind os h) f p
 
 -- any octets are a text of the other kinds
 pub other_law : (x y : State) (taken os : List ℕ) (result : Result (Unit {0}) EncodeError) → taken ≡ os →
-    OnOk result (Wrote x (octets_unsized (variant_of x.codec) taken) y) → IfErr result (λ e. IsMemory e x) → Writes IsMemory Presents RefusesValue (Schema.text other) (octets os) x result y
+    x.failed ≡ false → Puts IsMemory (octets_unsized (variant_of x.codec) taken) x result y → Writes encoder_rules (Schema.text other) (octets os) x result y
 unfolding is_text
-other_law x y taken os result t w k = text_law x y other taken os result t refl w k
+other_law x y taken os result t f p = text_law x y other taken os result t refl f p
 
 -- X.691 18: a NULL is no bits
 pub presents_null : (x : State) → x.failed ≡ false → Presents x Schema.null nothing x
@@ -81,10 +95,14 @@ unfolding canon
 presents_null x f = record { begun = f; left = f; same = refl; written = λ p b. ap Some (sym (append-nil x.bits)) }
 
 -- X.691 18: a NULL, where the encoder had not been refused
+null_written : (x : State) (result : Result (Unit {0}) EncodeError) → OnOk result (x.failed ≡ false) → IfErr result (λ e. IsAlready e x) → OnErr result (x.failed ≡ true) →
+    Written (freely encoder_rules) Schema.null nothing x result x
+null_written x (Ok u) h k f = presents_null x h
+null_written x (Err e) h k f = inr (refuses_again e x Schema.null nothing k f)
+
 pub null_law : (x : State) (result : Result (Unit {0}) EncodeError) → OnOk result (x.failed ≡ false) → IfErr result (λ e. IsAlready e x) → OnErr result (x.failed ≡ true) →
-    Writes takes_none Presents RefusesValue Schema.null nothing x result x
-null_law x (Ok u) h k f = presents_null x h
-null_law x (Err e) h k f = inr (refuses_again e x Schema.null nothing k f)
+    Writes (freely encoder_rules) Schema.null nothing x result x
+null_law x result h k f = record { law = null_written x result h k f; behaves = search rules }
 
 -- the first value of an encoder stands alone
 pub presents_first : (x y : State) (s : Schema) (v : Value) → x.bits ≡ [] → Presents x s v y → view y 0 ≡ canon (variant_of x.codec) s v 0

@@ -7,7 +7,7 @@ use Rattle.rasn_types.specs.Values.{Value}
 use Rattle.rasn_types.specs.Variants.{Variant}
 use Rattle.rasn_types.specs.declared.types.Codec.{Codec}
 use Rattle.rasn_types.proofs.Values.{slots-as_slots}
-use Rattle.rasn_codec.specs.Calls.{Writes}
+use Rattle.rasn_codec.specs.Calls.{Written}
 use Rattle.rasn_schema.specs.Records.{record_value}
 use Rattle.rasn_schema.specs.Schemas.{Schema, Parts, no_parts, part}
 use Rattle.rasn_codec.specs.Scopes.{record_of, presents_required, PresentsParts, presents_end, presents_next, refuses_required, RefusesParts, refuses_here, refuses_behind, Passes}
@@ -17,7 +17,8 @@ use Rattle.per_write.specs.declared.error.EncodeError.{EncodeError}
 use Rattle.per_write.specs.declared.error.EncodeErrorKind.{EncodeErrorKind}
 use Rattle.per_write.specs.declared.error.EncodeErrorKind.TheVariants.{SizeConstraintNotSatisfied, ValueConstraintNotSatisfied, AlphabetConstraintNotSatisfied, IntegerTypeConversionFailed, VariantNotInChoice, RealNotSupported, TooManyAdditions, Below, AlreadyFailed, OutOfMemory, OutOfTurn}
 use Rattle.per_enc.specs.declared.Scope.{Scope}
-use Rattle.per_write.specs.Faults.{HasPart, part_here, part_behind, in_part, IsMemory, RefusesValue, Stands}
+use Rattle.per_write.specs.Faults.{HasPart, part_here, part_behind, in_part, RefusesValue, Stands}
+use Rattle.per_write.specs.Rules.{encoder_rules}
 use Rattle.per_write.specs.State.{State, Wrote, Presents}
 use Rattle.per_enc.specs.Opens.{Opens}
 use Rattle.per_write.proofs.Writing.{none_behind, then_nothing, wrote_then}
@@ -117,7 +118,7 @@ refuses_record e x ps rs f k = let d = refused_part e ps x rs f k in record {
 }
 
 -- what passes out of a record that begins here
-pub passes_here : (x : State) → x.failed ≡ false → Passes IsMemory Presents RefusesValue x x
+pub passes_here : (x : State) → x.failed ≡ false → Passes encoder_rules x x
 passes_here x f = record { room = λ e m. m; of_record = λ e ps rs r. refuses_record e x ps rs f r }
 
 -- a record whose components were presented
@@ -135,6 +136,6 @@ presents_record x y ps rs f k = wrote_placed x y (bodies_of (members (variant_of
         ∙ sym (at_start ((flags ▹ bodies) ▹ just []) p h) ∙ record_form (variant_of x.codec) ps rs p
 
 pub closes_record : (ps : Parts) (x i y : State) (rs : List (Option Value)) (o : Scope) (result : Result (Unit {0}) EncodeError) → OnErr result (y.failed ≡ true) → Opens x o i → PresentsParts Presents ps i rs y →
-    Writes IsMemory Presents RefusesValue (record_of ps) (record_value rs []) x result y
+    Written encoder_rules (record_of ps) (record_value rs []) x result y
 closes_record ps x i y rs o (Ok u) e h k = subst (λ s. Presents s (record_of ps) (record_value rs []) y) h.same (presents_record i y ps rs (ap (λ (s : State). s.failed) h.same ∙ h.begun) k)
 closes_record ps x i y rs o (Err d) e h k = let w = wrote_bodies ps i y rs (ap (λ (s : State). s.failed) h.same ∙ h.begun) k in let l : y.failed ≡ false = w.left in absurd cc

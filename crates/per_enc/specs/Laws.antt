@@ -1,10 +1,9 @@
 -- What holds of an encoder's relations.
 use Rattle.std.proofs.Common.{◌∙◌}
 use Rattle.rasn_codec.specs.Calls.{PresentsWell}
-use Rattle.per_write.specs.Faults.{IsMemory}
-use Rattle.per_write.specs.State.{State, Presents}
+use Rattle.per_write.specs.Rules.{encoder_rules}
 
-pub presents_well : PresentsWell (λ (x : State). x.failed) IsMemory Presents
+pub presents_well : PresentsWell encoder_rules
 presents_well = record {
   begun = λ x s v y w. w.begun;
   left = λ x s v y w. w.left;

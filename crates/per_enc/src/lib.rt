@@ -4,8 +4,9 @@
 ghost use Rattle.std.specs.Prelude.{◌≡◌, [], true, false, Some, OnOk, OnErr, IfOk, IfErr};
 ghost use Rattle.rasn_types.specs.declared.types.Codec.TheVariants.{Uper};
 ghost use Rattle.per_core.specs.Canon.{completed};
-ghost use Rattle.per_write.specs.Faults.{IsMemory, IsAlready, RefusesValue, RefusesOutput};
-ghost use Rattle.per_write.specs.State.{view, Presents};
+ghost use Rattle.per_write.specs.Faults.{RefusesOutput};
+ghost use Rattle.per_write.specs.Rules.{encoder_rules};
+ghost use Rattle.per_write.specs.State.{view};
 
 #[cfg(test)]
 mod tests;
@@ -125,19 +126,9 @@ impl<A: Allocator + Clone> codec::Encoder for Encoder<A> {
 
     type Scope = Scope;
 
-    ghost presents = { Presents };
-
-    ghost refuses = { RefusesValue };
+    ghost rules = { encoder_rules };
 
     ghost opens = { Opens };
-
-    ghost memory = { IsMemory };
-
-    ghost already = { IsAlready };
-
-    ghost failed = { λ x. x.failed };
-
-    ghost codec = { λ x. x.codec };
 
     fn codec(&self) -> Codec {
         Encoder::codec(self)

@@ -1,8 +1,10 @@
 -- Rows of items of as many bits each, read one after the other.
-use Rattle.std.proofs.Common.{◌≡◌, ◌<◌, ◌≤◌, ℕ, suc, ◌+◌, ◌*◌, List, [], ◌∷◌, ◌++◌, length, refl, sym, ◌∙◌, ap, subst, arith, append_assoc, length-append}
+use Rattle.std.proofs.Common.{zero, ◌/◌, ap₂, take, drop, replicate, false, length-take, length-drop, Vec, Global, ◌≡◌, ◌<◌, ◌≤◌, ℕ, suc, ◌+◌, ◌*◌, List, [], ◌∷◌, ◌++◌, length, refl, sym, ◌∙◌, ap, subst, arith, append_assoc, length-append}
 use Rattle.std.proofs.Math.Nat.{mul-suc, mul-le-mul_left}
-use Rattle.std.proofs.lemmas.List.{append-nil}
-use Rattle.rasn_types.specs.Bits.{Bits}
+use Rattle.std.proofs.lemmas.List.{take_all, take-append-drop, take-append-le, append-nil}
+use Rattle.rasn_types.specs.Bits.{Bits, number_of, pack}
+use Rattle.rasn_types.specs.Packed.{packed}
+use Rattle.rasn_types.proofs.Octets.{length-pack}
 use Rattle.per_core.specs.Writers.{after}
 use Rattle.per_core.specs.Spellings.{Field}
 use Rattle.per_core.specs.Basic.{Row}
@@ -92,3 +94,40 @@ row_ends {w = w} {front} {row} {s} {t} {i = i} h l e =
       added = h.added;
       took = record { front = h.took.front; whole = e ∙ ap (λ z. z ++ t) f; spelled = row_anywhere w h.these (place front) (place s) h.took.front h.took.spelled };
     }
+
+-- with what stands behind the row
+pub row_within : {C : Type 0} {holds : C → C → List ℕ → Type 0} {w : ℕ} {front s t : Bits} {before items : C} {count : ℕ} → TookItems holds (Row (Field w)) count before items front [] → s ≡ front ++ t → TookItems holds (Row (Field w)) count before items s t
+row_within {w = w} {front} {s} {t} h e = record {
+  codes = h.codes;
+  count = h.count;
+  added = h.added;
+  took = record { front = h.took.front; whole = e ∙ ap (λ z. z ++ t) (h.took.whole ∙ append-nil h.took.front); spelled = row_anywhere w h.codes (place front) (place s) h.took.front h.took.spelled };
+}
+
+-- an item that was taken
+pub field_taken : (w x : ℕ) (s item t : Bits) → s ≡ item ++ t → length item ≡ w → x ≡ number_of (take w item) → Took (Field w x) s t
+field_taken w x s item t e l n = record {
+  front = item;
+  whole = e;
+  spelled = record { wide = l; means = sym (n ∙ ap number_of (take_all w item (omega arith))) };
+}
+
+-- octets in a row
+pub row_of_octets : (n : ℕ) (front : Bits) → length front ≡ 8 * n → Took (Row (Field 8) (pack n front)) front []
+row_of_octets zero front l = subst (λ z. Took (Row (Field 8) []) z []) (sym (no_more front (omega arith))) (took_nothing [])
+row_of_octets (suc n) front l = took_then {f = Field 8 (number_of (take 8 (front ++ replicate 8 false)))} {g = Row (Field 8) (pack n (drop 8 front))} {s = front} {m = drop 8 front} {t = []} (record {
+  front = take 8 front;
+  whole = sym (take-append-drop 8 front);
+  spelled = record {
+    wide = length-take 8 front ∙ omega arith;
+    means = ap number_of (sym (take-append-le 8 front (replicate 8 false) (omega arith)));
+  };
+}) (row_of_octets n (drop 8 front) (length-drop 8 front ∙ omega arith))
+
+pub octets_gathered : (before items : Vec ℕ Global) (n : ℕ) (row : Bits) → length row ≡ 8 * n → items.items ≡ before.items ++ packed row → TookItems (λ _ octets codes. octets.items ≡ codes) (Row (Field 8)) n before items row []
+octets_gathered before items n row l e = record {
+  codes = pack n row;
+  count = length-pack n row;
+  added = record { behind = λ start xs h. e ∙ ap₂ (λ os qs. os ++ qs) h (ap (λ (m : ℕ). pack m row) (let i : (length row + 7) / 8 ≡ n = omega arith in i)) };
+  took = row_of_octets n row l;
+}

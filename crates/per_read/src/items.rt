@@ -11,7 +11,7 @@ ghost use Rattle.per_read.specs.Kinds.{Stopped, NoneIn};
 ghost use Rattle.per_read.specs.declared.items.Item.TheVariants.{Octet};
 
 use crate::error::DecodeErrorKind;
-use crate::length::{Length, take_length, take_number};
+use crate::length::{Length, take_length};
 use per_bits::BitReader;
 use rasn_types::types::Codec;
 use std::alloc::{AllocError, Global};
@@ -81,6 +81,23 @@ pub trait Collector {
         ensures ok { OnOk result (Adds holds self.old (code ∷ []) self.new) }
         ensures item { OnOk result (item self.new ≡ item self.old) }
         ensures count { OnOk result (count self.new ≤ count self.old + 1) };
+
+    /// Appends the items of a row, `many` of them, behind which it has no bits.
+    fn push_row(&mut self, row: BitReader<'_>, many: usize) -> Result<(), AllocError>
+        requires bits { length row ≡ bits_of (item self.old) * many }
+        requires room { count self.old + many ≤ usize.MAX }
+        ensures ok { OnOk result (TookItems holds (Row (coded (item self.old))) many self.old self.new row.entry []) }
+        ensures item { OnOk result (item self.new ≡ item self.old) }
+        ensures count { OnOk result (count self.new ≤ count self.old + many) }
+    {
+        let width = self.item().width();
+        let mut left = row;
+        for _ in 0..many {
+            let item = left.take(width).unwrap();
+            self.push(item.first_bits(width) as u32)?;
+        }
+        Ok(())
+    }
 }
 
 impl Collector for Vec<u8> {
@@ -98,6 +115,11 @@ impl Collector for Vec<u8> {
         Vec::push(self, code as u8)?;
         Ok(())
     }
+
+    fn push_row(&mut self, row: BitReader<'_>, _many: usize) -> Result<(), AllocError> {
+        row.append_octets(self)?;
+        Ok(())
+    }
 }
 
 /// Takes `count` items and appends them.
@@ -113,12 +135,10 @@ pub fn take_row<C: Collector>(
     ensures err { IfErr result (Stopped (length bits.old < bits_of (C.item items.old) * count)) }
 {
     let width = items.item().width();
-    let mut row = bits
+    let row = bits
         .take(width * count as u128)
         .map_err(DecodeErrorKind::Incomplete)?;
-    for _ in 0..count {
-        items.push(take_number(&mut row, width)? as u32)?;
-    }
+    items.push_row(row, count)?;
     Ok(())
 }
 

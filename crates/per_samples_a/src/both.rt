@@ -32,8 +32,6 @@ impl<A: AsnType, B: AsnType> AsnType for Both<A, B> {
 
     ghost CONSTRAINTS = { no_constraints };
 
-    const IDENTIFIER: Identifier = Identifier::EMPTY;
-
     ghost schema = { λ _. record_at listed (both_parts (A.schema A.CONSTRAINTS) (B.schema B.CONSTRAINTS)) false no_additions };
 
     ghost value = { λ x. record_value (both_contents (A.value x.a) (B.value x.b)) [] };

@@ -34,13 +34,9 @@ impl AsnType for ZeroTo65536 {
 
     ghost CONSTRAINTS = { within (between (pos 0) (pos 65536)) };
 
-    const IDENTIFIER: Identifier = Identifier::EMPTY;
-
     ghost schema = { λ c. always (number_schema c unbounded) };
 
     ghost value = { λ x. whole x.0 };
-
-    ghost levels = { λ _. 0 };
 
     ghost unfolds = { λ c. simple_unfolds (number_schema c unbounded) tt };
 }
@@ -99,13 +95,9 @@ impl AsnType for OneToTenExtensible {
 
     ghost CONSTRAINTS = { extensible_within (between (pos 1) (pos 10)) };
 
-    const IDENTIFIER: Identifier = Identifier::EMPTY;
-
     ghost schema = { λ c. always (number_schema c unbounded) };
 
     ghost value = { λ x. whole x.0 };
-
-    ghost levels = { λ _. 0 };
 
     ghost unfolds = { λ c. simple_unfolds (number_schema c unbounded) tt };
 }
@@ -163,13 +155,9 @@ impl AsnType for MinusOneTo254 {
 
     ghost CONSTRAINTS = { within (between (negsuc 0) (pos 254)) };
 
-    const IDENTIFIER: Identifier = Identifier::EMPTY;
-
     ghost schema = { λ c. always (number_schema c (unsigned_range 8)) };
 
     ghost value = { λ x. whole (pos x.0) };
-
-    ghost levels = { λ _. 0 };
 
     ghost unfolds = { λ c. simple_unfolds (number_schema c (unsigned_range 8)) tt };
 }

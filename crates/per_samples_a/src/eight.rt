@@ -38,8 +38,6 @@ impl AsnType for Eight {
 
     ghost CONSTRAINTS = { no_constraints };
 
-    const IDENTIFIER: Identifier = Identifier::EMPTY;
-
     ghost schema = { λ _. record_at listed eight_parts false no_additions };
 
     ghost value = { λ x. record_value (eight_contents x.a x.b x.d x.e x.f x.h) [] };

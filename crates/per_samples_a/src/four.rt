@@ -47,8 +47,6 @@ impl AsnType for Four {
 
     ghost CONSTRAINTS = { no_constraints };
 
-    const IDENTIFIER: Identifier = Identifier::EMPTY;
-
     ghost schema = { λ _. record_at listed four_parts false no_additions };
 
     ghost value = { λ x. record_value (four_contents x.a x.b x.c x.d) [] };

@@ -34,13 +34,9 @@ impl AsnType for UpTo65535 {
 
     ghost CONSTRAINTS = { within (at_most (pos 65535)) };
 
-    const IDENTIFIER: Identifier = Identifier::EMPTY;
-
     ghost schema = { λ c. always (number_schema c unbounded) };
 
     ghost value = { λ x. whole x.0 };
-
-    ghost levels = { λ _. 0 };
 
     ghost unfolds = { λ c. simple_unfolds (number_schema c unbounded) tt };
 }
@@ -96,13 +92,9 @@ impl AsnType for FromMinusOne {
 
     ghost CONSTRAINTS = { within (at_least (negsuc 0)) };
 
-    const IDENTIFIER: Identifier = Identifier::EMPTY;
-
     ghost schema = { λ c. always (number_schema c unbounded) };
 
     ghost value = { λ x. whole x.0 };
-
-    ghost levels = { λ _. 0 };
 
     ghost unfolds = { λ c. simple_unfolds (number_schema c unbounded) tt };
 }
@@ -160,13 +152,9 @@ impl AsnType for Natural {
 
     ghost CONSTRAINTS = { within (at_least (pos 0)) };
 
-    const IDENTIFIER: Identifier = Identifier::EMPTY;
-
     ghost schema = { λ c. always (number_schema c unbounded) };
 
     ghost value = { λ x. whole x.0 };
-
-    ghost levels = { λ _. 0 };
 
     ghost unfolds = { λ c. simple_unfolds (number_schema c unbounded) tt };
 }

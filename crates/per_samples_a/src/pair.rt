@@ -7,7 +7,7 @@ ghost use Rattle.rasn_constraints.specs.Ranges.{no_constraints};
 ghost use Rattle.rasn_schema.specs.Fields.{shapes_from};
 ghost use Rattle.rasn_schema.specs.Records.{AtParts, record_at, no_additions, record_value};
 ghost use Rattle.rasn_schema.specs.Families.{record_unfolds, parts_unfold};
-ghost use Rattle.rasn_codec.specs.Scopes.{WritesParts, AnswersParts};
+ghost use Rattle.rasn_codec.specs.Scopes.{WrittenParts, AnswersParts};
 ghost use Rattle.per_samples_a.specs.Pairs.{pair_parts, pair_contents, pair_unfolds};
 
 use rasn_codec::codec::{Decode, Decoder, Encode, Encoder};
@@ -31,8 +31,6 @@ impl AsnType for Pair {
     const CONSTRAINTS: Constraints = Constraints::NONE;
 
     ghost CONSTRAINTS = { no_constraints };
-
-    const IDENTIFIER: Identifier = Identifier::EMPTY;
 
     ghost schema = { λ _. record_at listed pair_parts false no_additions };
 
@@ -99,8 +97,8 @@ impl Encode for Pair {
         encoder.encode_sequence::<Pair, _, _>(
             tag,
             |e: &mut E| -> Result<(), E::Error>
-                ensures law { AtParts pair_parts 0 (λ ps. WritesParts E.memory E.presents E.refuses ps (normals ps (pair_contents self.entry.now.a self.entry.now.b)) e.old result e.new) }
-                ensures kept { E.codec e.new ≡ E.codec e.old }
+                ensures law { AtParts pair_parts 0 (λ ps. WrittenParts E.rules ps (normals ps (pair_contents self.entry.now.a self.entry.now.b)) e.old result e.new) }
+                ensures kept { E.rules.codec e.new ≡ E.rules.codec e.old }
             {
                 self.a.encode_with_tag(e, A)?;
                 self.b.encode_with_tag(e, B)
@@ -121,8 +119,8 @@ impl Decode for Pair {
             tag,
             None::<fn() -> Pair>,
             |d|
-                ensures law { AnswersParts D.memory D.fault D.spells (pair_parts (D.levels d.old)) (λ x. pair_contents x.a x.b) d.old result d.new }
-                ensures kept { D.codec d.new ≡ D.codec d.old }
+                ensures law { AnswersParts D.rules (pair_parts (D.rules.levels d.old)) (λ x. pair_contents x.a x.b) d.old result d.new }
+                ensures kept { D.rules.codec d.new ≡ D.rules.codec d.old }
             {
                 let a = bool::decode_with_tag(d, A)?;
                 let b = i128::decode_with_tag(d, B)?;

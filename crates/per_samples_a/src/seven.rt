@@ -44,8 +44,6 @@ impl AsnType for Seven {
 
     ghost CONSTRAINTS = { no_constraints };
 
-    const IDENTIFIER: Identifier = Identifier::EMPTY;
-
     ghost schema = { λ _. record_at listed seven_parts false no_additions };
 
     ghost value = { λ x. record_value (seven_contents x.a) [] };

@@ -33,13 +33,9 @@ impl AsnType for ShortVisible {
 
     ghost CONSTRAINTS = { one_to_three_extensible };
 
-    const IDENTIFIER: Identifier = Identifier::EMPTY;
-
     ghost schema = { λ c. always (character_schema visible c) };
 
     ghost value = { λ x. characters x.0 };
-
-    ghost levels = { λ _. 0 };
 
     ghost unfolds = { λ c. simple_unfolds (character_schema visible c) tt };
 }
@@ -103,13 +99,9 @@ impl AsnType for LettersAToE {
 
     ghost CONSTRAINTS = { a_to_e_in_one_to_twenty };
 
-    const IDENTIFIER: Identifier = Identifier::EMPTY;
-
     ghost schema = { λ c. always (character_schema visible c) };
 
     ghost value = { λ x. characters x.0 };
-
-    ghost levels = { λ _. 0 };
 
     ghost unfolds = { λ c. simple_unfolds (character_schema visible c) tt };
 }
@@ -166,13 +158,9 @@ impl AsnType for OnlyX {
 
     ghost CONSTRAINTS = { only_the_x };
 
-    const IDENTIFIER: Identifier = Identifier::EMPTY;
-
     ghost schema = { λ c. always (character_schema ia5 c) };
 
     ghost value = { λ x. characters x.0 };
-
-    ghost levels = { λ _. 0 };
 
     ghost unfolds = { λ c. simple_unfolds (character_schema ia5 c) tt };
 }

@@ -12,7 +12,8 @@ use Rattle.rasn_types.specs.Values.{whole}
 use Rattle.rasn_types.specs.Variants.{Variant}
 use Rattle.rasn_types.proofs.Reading.{fits-is_i128}
 use Rattle.rasn_constraints.specs.Bounds.{above, fits_i128, holds, not_above, Bounds}
-use Rattle.rasn_codec.specs.Calls.{Writes}
+use Rattle.rasn_codec.specs.Calls.{Written}
+use Rattle.per_write.specs.Rules.{encoder_rules}
 use Rattle.rasn_schema.specs.Schemas.{Schema}
 use Rattle.per_core.specs.Canon.{canon}
 use Rattle.per_core.specs.Counts.{bounded, counted_octets, marked_form, number_form, number_under, octets_unsized}
@@ -144,7 +145,7 @@ refuses_outside e x b range z value lower upper h i k = record {
 -- within bounds, or past an i128 or memory
 pub within_law : (x m y : State) (b : Bounds) (mark : Bool) (range : Bounds) (z : ℤ) (result : Result (Unit {0}) EncodeError) → m.codec ≡ x.codec → holds range z ≡ true →
     OnOk result (Presents x (Schema.number b mark range) (whole z) y) → IfErr result (λ e. IsMemory e m ⊎ (IsError IntegerTypeConversionFailed e m × IsPast b z)) →
-    Writes IsMemory Presents RefusesValue (Schema.number b mark range) (whole z) x result y
+    Written encoder_rules (Schema.number b mark range) (whole z) x result y
 within_law x m y b mark range z (Ok u) c h w k = w
 within_law x m y b mark range z (Err e) c h w (inl i) = inl (record { kind_is = i.kind_is; codec_is = i.codec_is ∙ c })
 within_law x m y b mark range z (Err e) c h w (inr i) = inr (refuses_past e x m b mark range z c h i.0 i.1)
@@ -152,6 +153,6 @@ within_law x m y b mark range z (Err e) c h w (inr i) = inr (refuses_past e x m 
 -- outside, or memory
 pub outside_law : (x m y : State) (b : Bounds) (mark : Bool) (range : Bounds) (z : ℤ) (result : Result (Unit {0}) EncodeError) → m.codec ≡ x.codec →
     OnOk result (Presents x (Schema.number b mark range) (whole z) y) → IfErr result (λ e. IsMemory e m) →
-    Writes IsMemory Presents RefusesValue (Schema.number b mark range) (whole z) x result y
+    Written encoder_rules (Schema.number b mark range) (whole z) x result y
 outside_law x m y b mark range z (Ok u) c w k = w
 outside_law x m y b mark range z (Err e) c w i = inl (record { kind_is = i.kind_is; codec_is = i.codec_is ∙ c })

@@ -8,7 +8,8 @@ use Rattle.rasn_types.specs.Codecs.{variant_of}
 use Rattle.rasn_types.specs.Values.{Value, bits, characters, octets}
 use Rattle.rasn_types.specs.Variants.{Variant}
 use Rattle.rasn_constraints.specs.Bounds.{allows, Size, any_size}
-use Rattle.rasn_codec.specs.Calls.{Writes}
+use Rattle.rasn_codec.specs.Calls.{Written}
+use Rattle.per_write.specs.Rules.{encoder_rules}
 use Rattle.rasn_schema.specs.Schemas.{Schema}
 use Rattle.per_core.specs.Canon.{canon, char_writers}
 use Rattle.per_core.specs.Counts.{bounded, counted, Counted, counted_in, counted_under, determinant, in_rows, is_aligned, marked_form, octet_items, octet_writers, padding_if, rows, bit_items, bit_writers, char_items}
@@ -19,7 +20,7 @@ use Rattle.per_write.specs.declared.error.EncodeErrorKind.TheVariants.{AlphabetC
 use Rattle.per_write.specs.Faults.{at_once, IsMemory, OutsideSize, RefusesValue, Stands, HasForeign}
 use Rattle.per_write.specs.Items.{HasRefused, refused_behind, refused_here, RefusesCounted, no_memory, wrong_count, wrong_item}
 use Rattle.per_write.specs.Rows.{row}
-use Rattle.per_write.specs.State.{Presents, State, Wrote}
+use Rattle.per_write.specs.State.{State, Wrote}
 use Rattle.per_write.proofs.Fragments.{first_fragment, length-octet_writers, rows_of_few, rows_of_many}
 use Rattle.per_write.proofs.Steps.{length-bit_writers, length-char_writers}
 use Rattle.per_write.proofs.Writing.{none_behind, wrote_same}
@@ -111,7 +112,7 @@ module _ (x y : State) (s : Schema) (v : Value) (size : Size) (mark : Bool) (kin
   })
 
   pub counted_law : (result : Result (Unit {0}) EncodeError) → OnOk result (Wrote x (counted (variant_of x.codec) size mark kind ws) y) → IfErr result (λ e. RefusesCounted size mark fault ws e x) →
-      Writes IsMemory Presents RefusesValue s v x result y
+      Written encoder_rules s v x result y
   counted_law (Ok u) w h = wrote_same x y (counted (variant_of x.codec) size mark kind ws) (canon (variant_of x.codec) s v) same w
   counted_law (Err e) w h = refuses_counted e h
 
@@ -127,7 +128,7 @@ octet_count x size false os lower upper m o = at_once (subst (λ (n : ℕ). Outs
 
 pub octet_string_law : (x y : State) (size : Size) (mark : Bool) (os : List ℕ) (result : Result (Unit {0}) EncodeError) →
     OnOk result (Wrote x (counted (variant_of x.codec) size mark octet_items (octet_writers os)) y) → IfErr result (λ e. RefusesCounted size mark (λ k. ⊥) (octet_writers os) e x) →
-    Writes IsMemory Presents RefusesValue (Schema.octet_string size mark) (octets os) x result y
+    Written encoder_rules (Schema.octet_string size mark) (octets os) x result y
 octet_string_law x y size mark os =
     counted_law x y (Schema.octet_string size mark) (octets os) size mark octet_items (λ k. ⊥) (octet_writers os) (octet_string_form (variant_of x.codec) size mark os) (octet_count x size mark os) (λ k m h. absurd h)
 
@@ -143,7 +144,7 @@ bit_count x size false bs lower upper m o = at_once (subst (λ (n : ℕ). Outsid
 
 pub bit_string_law : (x y : State) (size : Size) (mark : Bool) (bs : Bits) (result : Result (Unit {0}) EncodeError) →
     OnOk result (Wrote x (counted (variant_of x.codec) size mark bit_items (bit_writers bs)) y) → IfErr result (λ e. RefusesCounted size mark (λ k. ⊥) (bit_writers bs) e x) →
-    Writes IsMemory Presents RefusesValue (Schema.bit_string size mark) (bits bs) x result y
+    Written encoder_rules (Schema.bit_string size mark) (bits bs) x result y
 bit_string_law x y size mark bs =
     counted_law x y (Schema.bit_string size mark) (bits bs) size mark bit_items (λ k. ⊥) (bit_writers bs) (bit_string_form (variant_of x.codec) size mark bs) (bit_count x size mark bs) (λ k m h. absurd h)
 
@@ -168,11 +169,11 @@ char_foreign x a alphabet size mark cs k m h =
 pub char_string_law : (x y : State) (alphabet : Alphabet) (own : List ℕ) (size : Size) (mark : Bool) (cs : List ℕ) (result : Result (Unit {0}) EncodeError) → alphabet.variant ≡ variant_of x.codec → alphabet.characters ≡ own →
     OnOk result (Wrote x (counted (variant_of x.codec) size mark (char_items (char_width alphabet.variant alphabet.characters)) (char_writers alphabet.variant alphabet.characters cs)) y) →
     IfErr result (λ e. RefusesCounted size mark (λ k. (k ≡ AlphabetConstraintNotSatisfied) × HasForeign alphabet.characters cs) (char_writers alphabet.variant alphabet.characters cs) e x) →
-    Writes IsMemory Presents RefusesValue (Schema.char_string own size mark) (characters cs) x result y
+    Written encoder_rules (Schema.char_string own size mark) (characters cs) x result y
 char_string_law x y alphabet own size mark cs result v c w h =
     let a = alphabet.variant in
     let ds = alphabet.characters in
-    subst (λ (os : List ℕ). Writes IsMemory Presents RefusesValue (Schema.char_string os size mark) (characters cs) x result y) c
+    subst (λ (os : List ℕ). Written encoder_rules (Schema.char_string os size mark) (characters cs) x result y) c
     (counted_law x y (Schema.char_string ds size mark) (characters cs) size mark (char_items (char_width a ds)) (λ k. (k ≡ AlphabetConstraintNotSatisfied) × HasForeign ds cs) (char_writers a ds cs)
     (λ p. subst (λ (b : Variant). counted (variant_of x.codec) size mark (char_items (char_width b ds)) (char_writers b ds cs) p ≡ canon (variant_of x.codec) (Schema.char_string ds size mark) (characters cs) p) (sym v) (char_string_form (variant_of x.codec) ds size mark cs p))
     (char_count x a ds size mark cs) (char_foreign x a ds size mark cs) result w h)

@@ -1,5 +1,5 @@
 -- Items that are counted and written one after another, and why they are refused (ITU-T X.691, 11.9).
-use Rattle.std.specs.Prelude.{ℕ, ◌≡◌, Bool, true, false, ◌||◌, List, ◌∷◌, length, Option, None}
+use Rattle.std.specs.Prelude.{ℕ, ◌≡◌, ◌⊎◌, Bool, true, false, ◌||◌, List, ◌∷◌, length, Option, None}
 use Rattle.rasn_constraints.specs.Bounds.{allows, Size}
 use Rattle.per_core.specs.Writers.{Writer}
 use Rattle.per_write.specs.declared.error.EncodeError.{EncodeError}
@@ -18,6 +18,10 @@ pub record RefusesItem (fault : EncodeErrorKind → Type 0) (items : List Writer
   pub refused : HasRefused items
   pub stands : fault e.kind
   pub codec_is : e.codec ≡ x.codec
+
+-- memory ran out, or an item is refused
+abbrev pub IsMemoryOrItem : (EncodeErrorKind → Type 0) → List Writer → EncodeError → State → Type 0
+IsMemoryOrItem fault items e x = IsMemory e x ⊎ RefusesItem fault items e x
 
 -- why items under a size constraint are not written: want of memory; their count, where the constraint isn't extensible; or, where
 -- the count is allowed or the constraint is extensible, one of them

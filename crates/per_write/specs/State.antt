@@ -1,5 +1,5 @@
 -- What contracts see of a writer and of an encoder around it, and what their calls do to it.
-use Rattle.std.specs.Prelude.{ℕ, ◌≡◌, Bool, false, Some}
+use Rattle.std.specs.Prelude.{ℕ, ◌≡◌, Bool, true, false, Some, Result, OnOk, OnErr, IfErr}
 use Rattle.rasn_types.specs.Bits.{Bits}
 use Rattle.rasn_types.specs.Codecs.{variant_of}
 use Rattle.rasn_types.specs.Values.{Value}
@@ -36,3 +36,10 @@ pub record Wrote (x : State) (more : Writer) (y : State) : Type 0 where
 -- one value more, in its canonical bits
 abbrev pub Presents : State → Schema → Value → State → Type 0
 Presents x s v y = Wrote x (canon (variant_of x.codec) s v) y
+
+-- A call that writes one thing more: an error is one of some, and leaves the writer failed; and the variant stays.
+pub record Puts {E : Type 0} (errors : E → State → Type 0) (more : Writer) (x : State) (result : Result (Unit {0}) E) (y : State) : Type 0 where
+  pub ok : OnOk result (Wrote x more y)
+  pub err : IfErr result (λ e. errors e x)
+  pub fails : OnErr result (y.failed ≡ true)
+  pub kept : y.codec ≡ x.codec

@@ -1,6 +1,6 @@
 //! INTEGER (X.691 13).
 
-ghost use Rattle.std.specs.Prelude.{◌≡◌, ◌⊎◌, ◌<ℤ◌, ◌↔◌, IsTrue, pos, true, false, OnOk, OnErr, IfOk, IfErr};
+ghost use Rattle.std.specs.Prelude.{◌≡◌, ◌⊎◌, ◌<ℤ◌, ◌↔◌, IsTrue, pos, true, false, OnOk, IfOk};
 ghost use Rattle.rasn_types.specs.Codecs.{variant_of};
 ghost use Rattle.rasn_types.specs.Octets.{signed, signed_octets, whole_bits};
 ghost use Rattle.rasn_types.specs.Values.{whole};
@@ -9,8 +9,9 @@ ghost use Rattle.rasn_codec.specs.Calls.{Writes};
 ghost use Rattle.rasn_constraints.specs.Constraints.{bounds_of};
 ghost use Rattle.rasn_schema.specs.Schemas.{Schema};
 ghost use Rattle.per_core.specs.Counts.{counted_octets, number_under};
-ghost use Rattle.per_write.specs.Faults.{IsError, IsMemory, IsPast, RefusesValue};
-ghost use Rattle.per_write.specs.State.{Wrote, Presents};
+ghost use Rattle.per_write.specs.Faults.{IsError, IsMemory, IsPast};
+ghost use Rattle.per_write.specs.Rules.{encoder_rules};
+ghost use Rattle.per_write.specs.State.{Puts};
 ghost use Rattle.per_write.specs.declared.error.EncodeErrorKind.TheVariants.{IntegerTypeConversionFailed};
 
 use crate::Writer;
@@ -26,11 +27,8 @@ impl<A: Allocator + Clone> Writer<A> {
     /// (X.691 13.2.4).
     pub fn put_whole<I: IntegerType>(&mut self, value: &I) -> Result<(), EncodeError>
         requires { self.old.failed ≡ false }
-        ensures ok { OnOk result (Wrote self.old (counted_octets (variant_of self.old.codec) (whole_bits (I.number value.now))) self.new) }
+        ensures written { Puts IsMemory (counted_octets (variant_of self.old.codec) (whole_bits (I.number value.now))) self.old result self.new }
         ensures held { OnOk result (holds I.range (I.number value.now) ≡ true) }
-        ensures err { IfErr result (λ e. IsMemory e self.old) }
-        ensures fails { OnErr result (self.new.failed ≡ true) }
-        ensures kept { self.new.codec ≡ self.old.codec }
     {
         let octets = number_octets(&self.bits, value);
         let octets = self.unless_out_of_memory(octets)?;
@@ -47,10 +45,7 @@ impl<A: Allocator + Clone> Writer<A> {
         requires begun { self.old.failed ≡ false }
         requires lower { not_below lower number ≡ true }
         requires upper { not_above upper number ≡ true }
-        ensures ok { OnOk result (Wrote self.old (number_under (variant_of self.old.codec) lower upper number) self.new) }
-        ensures err { IfErr result (λ e. IsMemory e self.old) }
-        ensures fails { OnErr result (self.new.failed ≡ true) }
-        ensures kept { self.new.codec ≡ self.old.codec }
+        ensures { Puts IsMemory (number_under (variant_of self.old.codec) lower upper number) self.old result self.new }
     {
         match lower {
             Some(lower) => {
@@ -70,11 +65,8 @@ impl<A: Allocator + Clone> Writer<A> {
     ) -> Result<(), EncodeError>
         requires begun { self.old.failed ≡ false }
         requires within { holds (bounds_of bounds.now) (I.number value.now) ≡ true }
-        ensures ok { let b = bounds_of bounds.now in
-            OnOk result (Wrote self.old (number_under (variant_of self.old.codec) b.low b.high (I.number value.now)) self.new) }
-        ensures err { IfErr result (λ e. IsMemory e self.old ⊎ (IsError IntegerTypeConversionFailed e self.old × IsPast (bounds_of bounds.now) (I.number value.now))) }
-        ensures fails { OnErr result (self.new.failed ≡ true) }
-        ensures kept { self.new.codec ≡ self.old.codec }
+        ensures { let b = bounds_of bounds.now in
+            Puts (λ e x. IsMemory e x ⊎ (IsError IntegerTypeConversionFailed e x × IsPast (bounds_of bounds.now) (I.number value.now))) (number_under (variant_of self.old.codec) b.low b.high (I.number value.now)) self.old result self.new }
     {
         let (lower, upper) = bounds.start_and_end();
         if let (None, None) = (lower, upper) {
@@ -94,9 +86,7 @@ impl<A: Allocator + Clone> Writer<A> {
         value: &I,
     ) -> Result<(), EncodeError>
         requires { self.old.failed ≡ false }
-        ensures law { Writes IsMemory Presents RefusesValue (Schema.number (bounds_of stated.constraint) stated.extensible I.range) (whole (I.number value.now)) self.old result self.new }
-        ensures fails { OnErr result (self.new.failed ≡ true) }
-        ensures kept { self.new.codec ≡ self.old.codec }
+        ensures { Writes encoder_rules (Schema.number (bounds_of stated.constraint) stated.extensible I.range) (whole (I.number value.now)) self.old result self.new }
     {
         let bounds = stated.constraint;
         let number = value.to_i128();

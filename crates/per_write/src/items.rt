@@ -1,13 +1,12 @@
 //! What is counted in strings and lists: items that are written one after another (X.691 11.9).
 
-ghost use Rattle.std.specs.Prelude.{◌≡◌, ◌⊎◌, ◌<◌, ◌≤◌, List, true, false, length, slice_range, OnOk, OnErr, IfErr};
+ghost use Rattle.std.specs.Prelude.{◌≡◌, ◌<◌, ◌≤◌, List, false, length, slice_range};
 ghost use Rattle.rasn_types.specs.Codecs.{variant_of};
 ghost use Rattle.rasn_types.specs.Variants.{Variant};
 ghost use Rattle.per_core.specs.Counts.{Counted, is_aligned, octet_items, octet_writers};
 ghost use Rattle.per_core.specs.Writers.{in_a_row, Writer as ItemWriter};
-ghost use Rattle.per_write.specs.Faults.{IsMemory};
-ghost use Rattle.per_write.specs.Items.{RefusesItem};
-ghost use Rattle.per_write.specs.State.{Wrote};
+ghost use Rattle.per_write.specs.Items.{IsMemoryOrItem};
+ghost use Rattle.per_write.specs.State.{Puts};
 ghost use Rattle.per_write.specs.declared.error.EncodeErrorKind.{EncodeErrorKind};
 
 use crate::Writer;
@@ -49,10 +48,7 @@ pub(crate) trait Items {
         requires begun { writer.old.failed ≡ false }
         requires ordered { start ≤ end }
         requires within { (a : Variant) → end ≤ length (writers a self.now) }
-        ensures ok { OnOk result (Wrote writer.old (in_a_row (slice_range (writers (variant_of writer.old.codec) self.now) start end)) writer.new) }
-        ensures err { IfErr result (λ e. IsMemory e writer.old ⊎ RefusesItem (λ k. fault k self.now) (writers (variant_of writer.old.codec) self.now) e writer.old) }
-        ensures fails { OnErr result (writer.new.failed ≡ true) }
-        ensures kept { writer.new.codec ≡ writer.old.codec };
+        ensures { Puts (IsMemoryOrItem (λ k. fault k self.now) (writers (variant_of writer.old.codec) self.now)) (in_a_row (slice_range (writers (variant_of writer.old.codec) self.now) start end)) writer.old result writer.new };
 }
 
 /// Octets (X.691 17).

@@ -8,7 +8,7 @@ ghost use Rattle.rasn_types.specs.Codecs.{variant_of};
 ghost use Rattle.per_core.specs.Writers.{just, complete, in_a_row};
 ghost use Rattle.per_core.specs.Counts.{octet_writers, octets_unsized};
 ghost use Rattle.per_core.specs.Canon.{completed};
-ghost use Rattle.per_write.specs.State.{view, Wrote};
+ghost use Rattle.per_write.specs.State.{view, Puts};
 ghost use Rattle.per_write.specs.Faults.{IsError, IsMemory, IsAlready, RefusesOutput};
 
 pub mod error;
@@ -21,11 +21,11 @@ mod strings;
 
 use error::{EncodeError, EncodeErrorKind};
 use items::Octets;
-use per_bits::{BitList, BitReader};
-use per_core::per;
+use per_bits::BitList;
 use rasn_types::types::Codec;
 use std::alloc::{AllocError, Allocator};
 use std::marker::Model;
+use std::mem;
 
 /// Writes numbers, lengths and strings, one after another, in their canonical bits. An error leaves it failed, and
 /// nothing more is written then.
@@ -77,10 +77,10 @@ impl<A: Allocator + Clone> Writer<A> {
         ensures kept { self.new.codec ≡ self.old.codec }
     {
         self.check_unfailed()?;
-        let octets = complete_octets(&self.bits);
-        let octets = self.unless_out_of_memory(octets)?;
-        self.bits.clear();
-        Ok(octets)
+        let empty = no_bits(&self.bits);
+        let empty = self.unless_out_of_memory(empty)?;
+        let octets = complete_octets(mem::replace(&mut self.bits, empty));
+        self.unless_out_of_memory(octets)
     }
 
     /// An error of a kind, under the variant in use.
@@ -124,10 +124,7 @@ impl<A: Allocator + Clone> Writer<A> {
     /// Writes a bit.
     pub fn put_bit(&mut self, bit: bool) -> Result<(), EncodeError>
         requires { self.old.failed ≡ false }
-        ensures ok { OnOk result (Wrote self.old (just (bit ∷ [])) self.new) }
-        ensures err { IfErr result (λ e. IsMemory e self.old) }
-        ensures fails { OnErr result (self.new.failed ≡ true) }
-        ensures kept { self.new.codec ≡ self.old.codec }
+        ensures { Puts IsMemory (just (bit ∷ [])) self.old result self.new }
     {
         let pushed = self.bits.push(bit);
         self.unless_out_of_memory(pushed)
@@ -137,10 +134,7 @@ impl<A: Allocator + Clone> Writer<A> {
     fn put_bits(&mut self, number: u128, width: u128) -> Result<(), EncodeError>
         requires begun { self.old.failed ≡ false }
         requires few { width ≤ 128 }
-        ensures ok { OnOk result (Wrote self.old (just (to_bits width number)) self.new) }
-        ensures err { IfErr result (λ e. IsMemory e self.old) }
-        ensures fails { OnErr result (self.new.failed ≡ true) }
-        ensures kept { self.new.codec ≡ self.old.codec }
+        ensures { Puts IsMemory (just (to_bits width number)) self.old result self.new }
     {
         let pushed = self.bits.push_bits(number, width);
         self.unless_out_of_memory(pushed)
@@ -149,10 +143,7 @@ impl<A: Allocator + Clone> Writer<A> {
     /// Writes octets with no length.
     fn put_bare_octets(&mut self, octets: &[u8]) -> Result<(), EncodeError>
         requires { self.old.failed ≡ false }
-        ensures ok { OnOk result (Wrote self.old (in_a_row (octet_writers octets.now)) self.new) }
-        ensures err { IfErr result (λ e. IsMemory e self.old) }
-        ensures fails { OnErr result (self.new.failed ≡ true) }
-        ensures kept { self.new.codec ≡ self.old.codec }
+        ensures { Puts IsMemory (in_a_row (octet_writers octets.now)) self.old result self.new }
     {
         let pushed = self.bits.push_octets(octets);
         self.unless_out_of_memory(pushed)
@@ -161,10 +152,7 @@ impl<A: Allocator + Clone> Writer<A> {
     /// Writes octets behind an unconstrained length (X.691 11.9.3.5 to 11.9.3.8).
     pub fn put_octets(&mut self, octets: &[u8]) -> Result<(), EncodeError>
         requires { self.old.failed ≡ false }
-        ensures ok { OnOk result (Wrote self.old (octets_unsized (variant_of self.old.codec) octets.now) self.new) }
-        ensures err { IfErr result (λ e. IsMemory e self.old) }
-        ensures fails { OnErr result (self.new.failed ≡ true) }
-        ensures kept { self.new.codec ≡ self.old.codec }
+        ensures { Puts IsMemory (octets_unsized (variant_of self.old.codec) octets.now) self.old result self.new }
     {
         self.put_unsized(&Octets(octets))
     }
@@ -186,10 +174,20 @@ impl<A: Allocator + Clone> Writer<A> {
     }
 }
 
-/// The complete encoding of some bits, in memory of their own allocator.
-fn complete_octets<A: Allocator + Clone>(bits: &BitList<A>) -> Result<Vec<u8, A>, AllocError>
-    ensures { IfOk result (λ octets. octets.items ≡ complete bits.now) }
+/// No bits, in memory of the allocator of others.
+fn no_bits<A: Allocator + Clone>(bits: &BitList<A>) -> Result<BitList<A>, AllocError>
+    ensures { IfOk result (λ none. none ≡ []) }
 {
-    let alloc = bits.allocator().clone()?;
-    per::complete(alloc, BitReader::new(bits))
+    Ok(BitList::new(bits.allocator().clone()?))
+}
+
+/// The complete encoding of some bits, in their own memory.
+fn complete_octets<A: Allocator>(bits: BitList<A>) -> Result<Vec<u8, A>, AllocError>
+    ensures { IfOk result (λ octets. octets.items ≡ complete bits) }
+{
+    let mut octets = bits.into_octets();
+    if octets.is_empty() {
+        octets.push(0)?;
+    }
+    Ok(octets)
 }

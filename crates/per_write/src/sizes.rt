@@ -1,6 +1,6 @@
 //! Items under a size constraint (X.691 11.9.3.3, 11.9.4, 16, 17, 20 and 30.5).
 
-ghost use Rattle.std.specs.Prelude.{◌≡◌, ◌⊎◌, ◌+◌, ◌-◌, ◌≤◌, length, slice_range, true, false, OnOk, OnErr, IfErr};
+ghost use Rattle.std.specs.Prelude.{◌≡◌, ◌+◌, ◌-◌, ◌≤◌, length, slice_range, true, false};
 ghost use Rattle.rasn_types.specs.Codecs.{variant_of};
 ghost use Rattle.rasn_types.specs.Variants.{Variant};
 ghost use Rattle.rasn_constraints.specs.Bounds.{allows, any_size};
@@ -8,9 +8,9 @@ ghost use Rattle.rasn_constraints.specs.Constraints.{is_marked, size_in};
 ghost use Rattle.per_core.specs.Counts.{bounded, counted, counted_in, determinant, padding_if};
 ghost use Rattle.per_core.specs.Writers.{just, padding, ◌▹◌};
 ghost use Rattle.per_write.specs.Faults.{IsMemory};
-ghost use Rattle.per_write.specs.Items.{RefusesCounted, RefusesItem};
+ghost use Rattle.per_write.specs.Items.{IsMemoryOrItem, RefusesCounted};
 ghost use Rattle.per_write.specs.Rows.{row};
-ghost use Rattle.per_write.specs.State.{Wrote};
+ghost use Rattle.per_write.specs.State.{Puts};
 
 use crate::Writer;
 use crate::error::{EncodeError, EncodeErrorKind};
@@ -28,12 +28,8 @@ impl<A: Allocator + Clone> Writer<A> {
         items: &I,
     ) -> Result<(), EncodeError>
         requires { self.old.failed ≡ false }
-        ensures ok { let a = variant_of self.old.codec in
-            OnOk result (Wrote self.old (counted a (size_in size) (is_marked size) (I.kind items.now) (I.writers a items.now)) self.new) }
-        ensures err { let a = variant_of self.old.codec in
-            IfErr result (λ e. RefusesCounted (size_in size) (is_marked size) (λ k. I.fault k items.now) (I.writers a items.now) e self.old) }
-        ensures fails { OnErr result (self.new.failed ≡ true) }
-        ensures kept { self.new.codec ≡ self.old.codec }
+        ensures { let a = variant_of self.old.codec in
+            Puts (RefusesCounted (size_in size) (is_marked size) (λ k. I.fault k items.now) (I.writers a items.now)) (counted a (size_in size) (is_marked size) (I.kind items.now) (I.writers a items.now)) self.old result self.new }
     {
         let stated = size.unwrap_or(Extensible::new(Bounded::None));
         let (lower, upper) = stated.constraint.start_and_end();
@@ -65,11 +61,8 @@ impl<A: Allocator + Clone> Writer<A> {
     ) -> Result<(), EncodeError>
         requires begun { self.old.failed ≡ false }
         requires within { (a : Variant) → allows (record { least = lower; most = upper }) (length (I.writers a items.now)) ≡ true }
-        ensures ok { let a = variant_of self.old.codec in
-            OnOk result (Wrote self.old (counted_in a (record { least = lower; most = upper }) (I.kind items.now) (I.writers a items.now)) self.new) }
-        ensures err { IfErr result (λ e. IsMemory e self.old ⊎ RefusesItem (λ k. I.fault k items.now) (I.writers (variant_of self.old.codec) items.now) e self.old) }
-        ensures fails { OnErr result (self.new.failed ≡ true) }
-        ensures kept { self.new.codec ≡ self.old.codec }
+        ensures { let a = variant_of self.old.codec in
+            Puts (IsMemoryOrItem (λ k. I.fault k items.now) (I.writers a items.now)) (counted_in a (record { least = lower; most = upper }) (I.kind items.now) (I.writers a items.now)) self.old result self.new }
     {
         match (lower, upper) {
             (Some(lower), Some(upper)) if upper < 65536 => {
@@ -86,11 +79,8 @@ impl<A: Allocator + Clone> Writer<A> {
     /// more, each as large as it may be, and then the rest behind a length of its own, which may be zero.
     pub(crate) fn put_unsized<I: Items>(&mut self, items: &I) -> Result<(), EncodeError>
         requires { self.old.failed ≡ false }
-        ensures ok { let a = variant_of self.old.codec in
-            OnOk result (Wrote self.old (counted_in a any_size (I.kind items.now) (I.writers a items.now)) self.new) }
-        ensures err { IfErr result (λ e. IsMemory e self.old ⊎ RefusesItem (λ k. I.fault k items.now) (I.writers (variant_of self.old.codec) items.now) e self.old) }
-        ensures fails { OnErr result (self.new.failed ≡ true) }
-        ensures kept { self.new.codec ≡ self.old.codec }
+        ensures { let a = variant_of self.old.codec in
+            Puts (IsMemoryOrItem (λ k. I.fault k items.now) (I.writers a items.now)) (counted_in a any_size (I.kind items.now) (I.writers a items.now)) self.old result self.new }
     {
         let count = items.len();
         let mut start = 0;
@@ -107,11 +97,8 @@ impl<A: Allocator + Clone> Writer<A> {
         requires begun { self.old.failed ≡ false }
         requires ordered { start ≤ end }
         requires within { (a : Variant) → end ≤ length (I.writers a items.now) }
-        ensures ok { let a = variant_of self.old.codec in
-            OnOk result (Wrote self.old (row a (slice_range (I.writers a items.now) start end)) self.new) }
-        ensures err { IfErr result (λ e. IsMemory e self.old ⊎ RefusesItem (λ k. I.fault k items.now) (I.writers (variant_of self.old.codec) items.now) e self.old) }
-        ensures fails { OnErr result (self.new.failed ≡ true) }
-        ensures kept { self.new.codec ≡ self.old.codec }
+        ensures { let a = variant_of self.old.codec in
+            Puts (IsMemoryOrItem (λ k. I.fault k items.now) (I.writers a items.now)) (row a (slice_range (I.writers a items.now) start end)) self.old result self.new }
     {
         self.put_count(end - start)?;
         items.put(self, start, end)
@@ -120,10 +107,7 @@ impl<A: Allocator + Clone> Writer<A> {
     /// Writes how many items follow, which begins on an octet in the aligned variant (X.691 11.9.3.5 to 11.9.3.8).
     fn put_count(&mut self, count: usize) -> Result<(), EncodeError>
         requires { self.old.failed ≡ false }
-        ensures ok { OnOk result (Wrote self.old (padding (variant_of self.old.codec) ▹ just (determinant count)) self.new) }
-        ensures err { IfErr result (λ e. IsMemory e self.old) }
-        ensures fails { OnErr result (self.new.failed ≡ true) }
-        ensures kept { self.new.codec ≡ self.old.codec }
+        ensures { Puts IsMemory (padding (variant_of self.old.codec) ▹ just (determinant count)) self.old result self.new }
     {
         let pushed = push_count(&mut self.bits, self.codec, count);
         self.unless_out_of_memory(pushed)
@@ -141,11 +125,8 @@ impl<A: Allocator + Clone> Writer<A> {
         requires begun { self.old.failed ≡ false }
         requires lower { lower ≤ count }
         requires upper { count ≤ upper }
-        ensures ok { let a = variant_of self.old.codec in
-            OnOk result (Wrote self.old (bounded a (upper - lower + 1) (count - lower) ▹ padding_if on_octet a) self.new) }
-        ensures err { IfErr result (λ e. IsMemory e self.old) }
-        ensures fails { OnErr result (self.new.failed ≡ true) }
-        ensures kept { self.new.codec ≡ self.old.codec }
+        ensures { let a = variant_of self.old.codec in
+            Puts IsMemory (bounded a (upper - lower + 1) (count - lower) ▹ padding_if on_octet a) self.old result self.new }
     {
         let pushed = push_bounded_count(&mut self.bits, self.codec, lower, upper, count, on_octet);
         self.unless_out_of_memory(pushed)

@@ -1,12 +1,11 @@
 //! Strings (X.691 16, 17 and 30).
 
-ghost use Rattle.std.specs.Prelude.{◌≡◌, true, false, OnErr};
+ghost use Rattle.std.specs.Prelude.{◌≡◌, false};
 ghost use Rattle.rasn_types.specs.Values.{bits, characters, octets};
 ghost use Rattle.rasn_codec.specs.Calls.{Writes};
 ghost use Rattle.rasn_schema.specs.Forms.{bit_schema, character_schema, octet_schema};
 ghost use Rattle.rasn_schema.specs.Schemas.{Schema};
-ghost use Rattle.per_write.specs.Faults.{IsMemory, RefusesValue};
-ghost use Rattle.per_write.specs.State.{Presents};
+ghost use Rattle.per_write.specs.Rules.{encoder_rules};
 
 use crate::Writer;
 use crate::error::EncodeError;
@@ -25,9 +24,7 @@ impl<A: Allocator + Clone> Writer<A> {
         value: &[u8],
     ) -> Result<(), EncodeError>
         requires { self.old.failed ≡ false }
-        ensures law { Writes IsMemory Presents RefusesValue (octet_schema constraints.now) (octets value.now) self.old result self.new }
-        ensures fails { OnErr result (self.new.failed ≡ true) }
-        ensures kept { self.new.codec ≡ self.old.codec }
+        ensures { Writes encoder_rules (octet_schema constraints.now) (octets value.now) self.old result self.new }
     {
         self.put_counted(constraints.size(), &Octets(value))
     }
@@ -39,9 +36,7 @@ impl<A: Allocator + Clone> Writer<A> {
         value: &BitString,
     ) -> Result<(), EncodeError>
         requires { self.old.failed ≡ false }
-        ensures law { Writes IsMemory Presents RefusesValue (bit_schema constraints.now) (bits value.now) self.old result self.new }
-        ensures fails { OnErr result (self.new.failed ≡ true) }
-        ensures kept { self.new.codec ≡ self.old.codec }
+        ensures { Writes encoder_rules (bit_schema constraints.now) (bits value.now) self.old result self.new }
     {
         self.put_counted(constraints.size(), value)
     }
@@ -53,9 +48,7 @@ impl<A: Allocator + Clone> Writer<A> {
         value: &S,
     ) -> Result<(), EncodeError>
         requires { self.old.failed ≡ false }
-        ensures law { Writes IsMemory Presents RefusesValue (character_schema S.alphabet constraints.now) (characters (S.characters value.now)) self.old result self.new }
-        ensures fails { OnErr result (self.new.failed ≡ true) }
-        ensures kept { self.new.codec ≡ self.old.codec }
+        ensures { Writes encoder_rules (character_schema S.alphabet constraints.now) (characters (S.characters value.now)) self.old result self.new }
     {
         let characters = Characters {
             string: value,

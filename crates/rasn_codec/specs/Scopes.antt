@@ -1,9 +1,9 @@
 -- What stands in a scope, component after component, and what opening and closing one owe, stated over any codec's relations.
-use Rattle.std.specs.Prelude.{◌≡◌, ℕ, suc, ◌⊎◌, Bool, false, Result, Ok, Err, List, [], ◌∷◌, Option, Some}
+use Rattle.std.specs.Prelude.{◌≡◌, ℕ, suc, ◌⊎◌, true, false, Result, Ok, Err, OnErr, IsErrAnd, List, [], ◌∷◌, Option, Some}
 use Rattle.rasn_types.specs.Values.{Value}
 use Rattle.rasn_schema.specs.Schemas.{TagTree, Presence, required, listed, Schema, Parts, no_parts, part}
-use Rattle.rasn_schema.specs.Normal.{normals}
-use Rattle.rasn_codec.specs.Calls.{Writes, Refuses, Answers}
+use Rattle.rasn_schema.specs.Normal.{normal, normals}
+use Rattle.rasn_codec.specs.Calls.{AtDepths, Behaves, EncoderRules, Written, DecoderRules, Refuses, Answers}
 use Rattle.rasn_schema.specs.Records.{record_at, no_additions, record_value, AtParts}
 
 -- a record of these root components, without an extension marker
@@ -31,38 +31,53 @@ pub data RefusesParts {X E : Type 0} (presents : X → Schema → Value → X �
   refuses_behind : {t : TagTree} {p : Presence} {s : Schema} {ps : Parts} {x m : X} {r : Option Value} {rs : List (Option Value)}
       → PresentsPart presents p s x r m → RefusesParts presents refuses e ps m rs → RefusesParts presents refuses e (part t p s ps) x (r ∷ rs)
 
--- The law of what writes components: Ok presents them in turn, and Err, memory aside, comes only where one of them is refused.
-abbrev pub WritesParts : {E X : Type 0} → (E → X → Type 0) → (X → Schema → Value → X → Type 0) → (E → X → Schema → Value → Type 0)
-    → Parts → List (Option Value) → X → Result (Unit {0}) E → X → Type 0
-WritesParts memory presents refuses ps rs x (Ok u) y = PresentsParts presents ps x rs y
-WritesParts memory presents refuses ps rs x (Err e) y = memory e x ⊎ RefusesParts presents refuses e ps x rs
+-- Ok presents components in turn, and Err, memory aside, comes only where one of them is refused.
+abbrev pub WrittenParts : {E X : Type 0} → EncoderRules E X → Parts → List (Option Value) → X → Result (Unit {0}) E → X → Type 0
+WrittenParts rules ps rs x (Ok u) y = PresentsParts rules.presents ps x rs y
+WrittenParts rules ps rs x (Err e) y = rules.memory e x ⊎ RefusesParts rules.presents rules.refuses e ps x rs
+
+-- A call that writes components, at each depth that holds them: an error leaves the encoder failed, and the variant stays.
+pub record WritesParts {E X : Type 0} (rules : EncoderRules E X) (parts : ℕ → Parts) (k : ℕ) (rs : List (Option Value)) (x : X) (result : Result (Unit {0}) E) (y : X) : Type 0 where
+  pub law : AtParts parts k (λ ps. WrittenParts rules ps (normals ps rs) x result y)
+  pub fails : OnErr result (rules.failed y ≡ true)
+  pub kept : rules.codec y ≡ rules.codec x
 
 -- What passes out of a scope, which was opened at x and begins at i: want of memory, and the refusal of a component, which is one of the record.
-pub record Passes {E X : Type 0} (memory : E → X → Type 0) (presents : X → Schema → Value → X → Type 0) (refuses : E → X → Schema → Value → Type 0) (x i : X) : Type 0 where
-  pub room : (e : E) → memory e i → memory e x
-  pub of_record : (e : E) (ps : Parts) (rs : List (Option Value)) → RefusesParts presents refuses e ps i rs → refuses e x (record_of ps) (record_value rs [])
+pub record Passes {E X : Type 0} (rules : EncoderRules E X) (x i : X) : Type 0 where
+  pub room : (e : E) → rules.memory e i → rules.memory e x
+  pub of_record : (e : E) (ps : Parts) (rs : List (Option Value)) → RefusesParts rules.presents rules.refuses e ps i rs → rules.refuses e x (record_of ps) (record_value rs [])
 
--- The law of opening a record to write: Ok is inside, and Err, memory aside, refuses every record of these components.
-abbrev pub OpensToWrite : {E X O : Type 0} → (E → X → Type 0) → (X → Schema → Value → X → Type 0) → (E → X → Schema → Value → Type 0) → (X → O → X → Type 0)
-    → (ℕ → Parts) → X → Result O E → X → Type 0
-OpensToWrite memory presents refuses opens parts x (Ok o) i = opens x o i × Passes memory presents refuses x i
-OpensToWrite memory presents refuses opens parts x (Err e) i = memory e x ⊎ ((n : ℕ) (v : Value) → refuses e x (record_of (parts n)) v)
+-- Ok is inside a record, and Err, memory aside, refuses every record of these components.
+abbrev pub OpenedToWrite : {E X O : Type 0} → EncoderRules E X → (X → O → X → Type 0) → (ℕ → Parts) → X → Result O E → X → Type 0
+OpenedToWrite rules opens parts x (Ok o) i = opens x o i × Passes rules x i
+OpenedToWrite rules opens parts x (Err e) i = rules.memory e x ⊎ ((n : ℕ) (v : Value) → rules.refuses e x (record_of (parts n)) v)
 
--- The law of closing one, in which its components were presented: it answers as one call that writes the whole record.
-abbrev pub ClosesWritten : {E X O : Type 0} → (E → X → Type 0) → (X → Schema → Value → X → Type 0) → (E → X → Schema → Value → Type 0) → (X → O → X → Type 0)
-    → (ℕ → Parts) → O → X → Result (Unit {0}) E → X → Type 0
-ClosesWritten {E} {X} memory presents refuses opens parts o j r y =
-    (x i : X) (n : ℕ) (rs : List (Option Value)) → opens x o i → PresentsParts presents (parts n) i rs j
-    → Writes memory presents refuses (record_of (parts n)) (record_value rs []) x r y
+-- A call that opens a record to write.
+pub record OpensToWrite {E X O : Type 0} (rules : EncoderRules E X) (opens : X → O → X → Type 0) (parts : ℕ → Parts) (x : X) (result : Result O E) (y : X) : Type 0 where
+  pub law : OpenedToWrite rules opens parts x result y
+  pub behaves : Behaves rules.already rules.failed rules.codec x result y
+
+-- A call that closes one, in which its components were presented: it answers as one call that writes the whole record.
+pub record ClosesWritten {E X O : Type 0} (rules : EncoderRules E X) (opens : X → O → X → Type 0) (parts : ℕ → Parts) (o : O) (j : X) (result : Result (Unit {0}) E) (y : X) : Type 0 where
+  pub law : (x i : X) (n : ℕ) (rs : List (Option Value)) → opens x o i → PresentsParts rules.presents (parts n) i rs j
+      → Written rules (record_of (parts n)) (record_value rs []) x result y
+  pub behaves : Behaves rules.already rules.failed rules.codec j result y
 
 -- What a function owes that is lent a codec: the variant stays.
 pub record KeepsCodec {X R C : Type 0} (codec : X → C) (returns : X → R → X → Type 0) : Type 0 where
   pub stays : (x : X) (r : R) (y : X) → returns x r y → codec y ≡ codec x
 
 -- What a function owes that is lent an encoder to write the components rs of at most k levels.
-pub record WritesScope {E X : Type 0} (memory : E → X → Type 0) (presents : X → Schema → Value → X → Type 0) (refuses : E → X → Schema → Value → Type 0)
-    (parts : ℕ → Parts) (rs : List (Option Value)) (k : ℕ) (returns : X → Result (Unit {0}) E → X → Type 0) : Type 0 where
-  pub keeps : (x : X) (r : Result (Unit {0}) E) (y : X) → returns x r y → AtParts parts k (λ ps. WritesParts memory presents refuses ps (normals ps rs) x r y)
+pub record WritesScope {E X : Type 0} (rules : EncoderRules E X) (parts : ℕ → Parts) (rs : List (Option Value)) (k : ℕ) (returns : X → Result (Unit {0}) E → X → Type 0) : Type 0 where
+  pub keeps : (x : X) (r : Result (Unit {0}) E) (y : X) → returns x r y → AtParts parts k (λ ps. WrittenParts rules ps (normals ps rs) x r y)
+
+-- A call that writes a record by a function that is lent the encoder.
+pub record WritesAround {E X : Type 0} (rules : EncoderRules E X) (parts : ℕ → Parts) (returns : X → Result (Unit {0}) E → X → Type 0) (x : X) (result : Result (Unit {0}) E) (y : X) : Type 0 where
+  pub law : (rs : List (Option Value)) (k : ℕ) → WritesScope rules parts rs k returns
+      → AtDepths (record_at listed parts false no_additions) (suc k) (λ s. Written rules s (normal s (record_value rs [])) x result y)
+  pub again : rules.failed x ≡ true → IsErrAnd result (λ e. rules.already e x)
+  pub fails : OnErr result (rules.failed y ≡ true)
+  pub kept : KeepsCodec rules.codec returns → rules.codec y ≡ rules.codec x
 
 -- One component is read: a required one as its value (X.691 19.5).
 pub data ReadsPart {S : Type 0} (spells : Schema → S → Value → S → Type 0) : Presence → Schema → S → Option Value → S → Type 0 where
@@ -84,36 +99,57 @@ pub data FaultyParts {S E : Type 0} (fault : Schema → E → S → Type 0) (spe
   faulty_behind : {k : TagTree} {p : Presence} {c : Schema} {ps : Parts} {s m : S} {r : Option Value}
       → ReadsPart spells p c s r m → FaultyParts fault spells e ps m → FaultyParts fault spells e (part k p c ps) s
 
--- The law of what reads components.
-abbrev pub AnswersParts : {S T E : Type 0} → (E → S → Type 0) → (Schema → E → S → Type 0) → (Schema → S → Value → S → Type 0) → Parts → (T → List (Option Value)) → S → Result T E → S → Type 0
-AnswersParts memory fault spells ps = Answers memory (λ e. FaultyParts fault spells e ps) (ReadsParts spells ps)
+-- Ok answers components that are read in turn, and Err, memory aside, comes only where they aren't.
+abbrev pub AnswersParts : {S T E : Type 0} → DecoderRules E S → Parts → (T → List (Option Value)) → S → Result T E → S → Type 0
+AnswersParts rules ps = Answers rules.memory (λ e. FaultyParts rules.fault rules.spells e ps) (ReadsParts rules.spells ps)
 
--- The law of opening a record to read: Ok is inside, one level deeper, and Err, memory aside, comes only where no such record is read.
-abbrev pub OpensToRead : {E S O : Type 0} → (S → ℕ) → (E → S → Type 0) → (Schema → E → S → Type 0) → (Schema → S → Value → S → Type 0) → (Schema → S → O → S → Type 0)
-    → (ℕ → Parts) → S → Result O E → S → Type 0
-OpensToRead levels memory fault spells opens parts s (Ok o) i = (levels s ≡ suc (levels i)) × opens (record_of (parts (levels i))) s o i
-OpensToRead levels memory fault spells opens parts s (Err e) i =
-    let c = record_at listed parts false no_additions (levels s) in memory e s ⊎ Refuses (spells c) (fault c) e s
+-- A call that reads components, to the levels left: an error leaves the decoder failed, and the variant stays.
+pub record TakesParts {S T E : Type 0} (rules : DecoderRules E S) (parts : ℕ → Parts) (contents : T → List (Option Value)) (s : S) (result : Result T E) (t : S) : Type 0 where
+  pub law : AnswersParts rules (parts (rules.levels s)) contents s result t
+  pub fails : OnErr result (rules.failed t ≡ true)
+  pub kept : rules.codec t ≡ rules.codec s
 
--- The law of closing one: Err, memory aside, comes only where the record can't end here.
-abbrev pub ClosesRead : {E S O : Type 0} → (E → S → Type 0) → (O → E → S → Type 0) → (S → O → S → Type 0) → O → S → Result (Unit {0}) E → S → Type 0
-ClosesRead memory unended closes o s (Ok u) t = closes s o t
-ClosesRead {S = S} memory unended closes o s (Err e) t = memory e s ⊎ (((u : S) → closes s o u → ⊥) × unended o e s)
+-- Ok is inside a record, one level deeper, and Err, memory aside, comes only where no such record is read.
+abbrev pub OpenedToRead : {E S O : Type 0} → DecoderRules E S → (Schema → S → O → S → Type 0) → (ℕ → Parts) → S → Result O E → S → Type 0
+OpenedToRead rules opens parts s (Ok o) i = (rules.levels s ≡ suc (rules.levels i)) × opens (record_of (parts (rules.levels i))) s o i
+OpenedToRead rules opens parts s (Err e) i =
+    let c = record_at listed parts false no_additions (rules.levels s) in rules.memory e s ⊎ Refuses (rules.spells c) (rules.fault c) e s
+
+-- A call that opens a record to read.
+pub record OpensToRead {E S O : Type 0} (rules : DecoderRules E S) (opens : Schema → S → O → S → Type 0) (parts : ℕ → Parts) (s : S) (result : Result O E) (t : S) : Type 0 where
+  pub law : OpenedToRead rules opens parts s result t
+  pub behaves : Behaves rules.already rules.failed rules.codec s result t
+
+-- Ok is behind a scope, and Err, memory aside, comes only where the record can't end here.
+abbrev pub ClosedRead : {E S O : Type 0} → DecoderRules E S → (O → E → S → Type 0) → (S → O → S → Type 0) → O → S → Result (Unit {0}) E → S → Type 0
+ClosedRead rules unended closes o s (Ok u) t = closes s o t
+ClosedRead {S = S} rules unended closes o s (Err e) t = rules.memory e s ⊎ (((u : S) → closes s o u → ⊥) × unended o e s)
+
+-- A call that closes one.
+pub record ClosesRead {E S O : Type 0} (rules : DecoderRules E S) (unended : O → E → S → Type 0) (closes : S → O → S → Type 0) (o : O) (s : S) (result : Result (Unit {0}) E) (t : S) : Type 0 where
+  pub law : rules.failed s ≡ false → ClosedRead rules unended closes o s result t
+  pub behaves : Behaves rules.already rules.failed rules.codec s result t
 
 -- What a function owes that is lent a decoder, with `outer` levels before the scope, to read components.
-pub record ReadsScope {E S T : Type 0} (levels : S → ℕ) (memory : E → S → Type 0) (fault : Schema → E → S → Type 0) (spells : Schema → S → Value → S → Type 0)
-    (parts : ℕ → Parts) (contents : T → List (Option Value)) (outer : ℕ) (returns : S → Result T E → S → Type 0) : Type 0 where
-  pub keeps : (s : S) (r : Result T E) (t : S) → suc (levels s) ≡ outer → returns s r t → AnswersParts memory fault spells (parts (levels s)) contents s r t
+pub record ReadsScope {E S T : Type 0} (rules : DecoderRules E S) (parts : ℕ → Parts) (contents : T → List (Option Value)) (outer : ℕ) (returns : S → Result T E → S → Type 0) : Type 0 where
+  pub keeps : (s : S) (r : Result T E) (t : S) → suc (rules.levels s) ≡ outer → returns s r t → AnswersParts rules (parts (rules.levels s)) contents s r t
+
+-- A call that reads a record by a function that is lent the decoder.
+pub record ReadsAround {E S T : Type 0} (rules : DecoderRules E S) (parts : ℕ → Parts) (contents : T → List (Option Value)) (returns : S → Result T E → S → Type 0) (s : S) (result : Result T E) (t : S) : Type 0 where
+  pub law : ReadsScope rules parts contents (rules.levels s) returns
+      → (let c = record_at listed parts false no_additions (rules.levels s) in Answers rules.memory (rules.fault c) (rules.spells c) (λ x. record_value (contents x) []) s result t)
+  pub again : rules.failed s ≡ true → IsErrAnd result (λ e. rules.already e s)
+  pub fails : OnErr result (rules.failed t ≡ true)
+  pub kept : KeepsCodec rules.codec returns → rules.codec t ≡ rules.codec s
 
 -- What holds of a decoder's scopes. A record is what stands in its scope, up to its end: what is read there is the record, no record is read in another way, and
 -- a fault in a component, or at the end, is one of the record.
-pub record ScopesWell {E S O : Type 0} (failed : S → Bool) (memory : E → S → Type 0) (fault : Schema → E → S → Type 0) (unended : O → E → S → Type 0)
-    (spells : Schema → S → Value → S → Type 0) (opens : Schema → S → O → S → Type 0) (closes : S → O → S → Type 0) : Type 0 where
-  pub inside : (c : Schema) (s : S) (o : O) (i : S) → opens c s o i → failed i ≡ false
-  pub room : (c : Schema) (s : S) (o : O) (i : S) (e : E) → opens c s o i → memory e i → memory e s
-  pub in_part : (ps : Parts) (s : S) (o : O) (i : S) (e : E) → opens (record_of ps) s o i → FaultyParts fault spells e ps i → fault (record_of ps) e s
-  pub at_end : (ps : Parts) (s i j : S) (o : O) (rs : List (Option Value)) (e : E) → opens (record_of ps) s o i → ReadsParts spells ps i rs j → unended o e j → fault (record_of ps) e s
+pub record ScopesWell {E S O : Type 0} (rules : DecoderRules E S) (unended : O → E → S → Type 0) (opens : Schema → S → O → S → Type 0) (closes : S → O → S → Type 0) : Type 0 where
+  pub inside : (c : Schema) (s : S) (o : O) (i : S) → opens c s o i → rules.failed i ≡ false
+  pub room : (c : Schema) (s : S) (o : O) (i : S) (e : E) → opens c s o i → rules.memory e i → rules.memory e s
+  pub in_part : (ps : Parts) (s : S) (o : O) (i : S) (e : E) → opens (record_of ps) s o i → FaultyParts rules.fault rules.spells e ps i → rules.fault (record_of ps) e s
+  pub at_end : (ps : Parts) (s i j : S) (o : O) (rs : List (Option Value)) (e : E) → opens (record_of ps) s o i → ReadsParts rules.spells ps i rs j → unended o e j → rules.fault (record_of ps) e s
   pub record_read : (ps : Parts) (s i j t : S) (o : O) (rs : List (Option Value)) → opens (record_of ps) s o i
-      → ReadsParts spells ps i rs j → closes j o t → spells (record_of ps) s (record_value rs []) t
-  pub record_back : (ps : Parts) (s i t : S) (o : O) (v : Value) → opens (record_of ps) s o i → spells (record_of ps) s v t
-      → (rs : List (Option Value)) × (j : S) × ReadsParts spells ps i rs j × closes j o t
+      → ReadsParts rules.spells ps i rs j → closes j o t → rules.spells (record_of ps) s (record_value rs []) t
+  pub record_back : (ps : Parts) (s i t : S) (o : O) (v : Value) → opens (record_of ps) s o i → rules.spells (record_of ps) s v t
+      → (rs : List (Option Value)) × (j : S) × ReadsParts rules.spells ps i rs j × closes j o t

@@ -1,6 +1,6 @@
 //! The traits of values that can be encoded and decoded, and of encoders and decoders.
 
-ghost use Rattle.std.specs.Prelude.{◌≡◌, ℕ, suc, true, false, Bool, OnErr, IfOk, IsErrAnd, List, [], Option};
+ghost use Rattle.std.specs.Prelude.{◌≡◌, ℕ, suc, true, false, IfOk, []};
 ghost use Rattle.std.specs.Cow.{cow_slice_items, IsOwnedSlice};
 ghost use Rattle.std.specs.Fn.{FnOnceReturnsAtMut};
 ghost use Rattle.std.specs.String.{string_bytes};
@@ -8,11 +8,10 @@ ghost use Rattle.rasn_types.specs.Alphabets.{visible, ia5, printable, numeric, b
 ghost use Rattle.rasn_types.specs.Contents.{utf8, other};
 ghost use Rattle.rasn_types.specs.Values.{Value, truth, nothing, whole, octets, bits, characters};
 ghost use Rattle.rasn_schema.specs.Schemas.{Schema, listed};
-ghost use Rattle.rasn_schema.specs.Normal.{normal};
 ghost use Rattle.rasn_schema.specs.Forms.{number_schema, octet_schema, bit_schema, character_schema};
 ghost use Rattle.rasn_schema.specs.Records.{record_at, no_additions, record_value};
-ghost use Rattle.rasn_codec.specs.Calls.{AtDepths, Writes, Reads, takes_none, PresentsWell, ReadsWell};
-ghost use Rattle.rasn_codec.specs.Scopes.{OpensToWrite, ClosesWritten, WritesScope, OpensToRead, ClosesRead, ReadsScope, ScopesWell, KeepsCodec};
+ghost use Rattle.rasn_codec.specs.Calls.{EncoderRules, freely, Writes, Encodes, PresentsWell, DecoderRules, freely_read, Reads, ReadsWell};
+ghost use Rattle.rasn_codec.specs.Scopes.{OpensToWrite, ClosesWritten, WritesAround, OpensToRead, ClosesRead, ReadsAround, ScopesWell};
 
 use crate::record::{DecodeParts, EncodeParts};
 use rasn_schema::fields::Constructed;
@@ -30,35 +29,20 @@ use std::borrow::CowSlice;
 ///
 /// A refused encoder refuses from then on, and says so before anything else.
 pub trait Encoder: Sized {
-    ghost use Rattle.rasn_types.specs.declared.types.Codec.{Codec};
-
     type Error: Drop;
 
     /// What waits outside while a record is open.
     type Scope: Drop;
 
-    // One value is presented: what was written before, and what is written after it.
-    ghost presents: { Self → Schema → Value → Self → Type 0 };
-
-    // An error by which a value is refused: it has no encoding, or the encoder had failed; and the fault that the error names stands in the value.
-    ghost refuses: { Self.Error → Self → Schema → Value → Type 0 };
+    // What is presented and refused, and what states and errors say.
+    ghost rules: { EncoderRules Self.Error Self };
 
     // A scope is opened: what was before, what waits outside, and how it is inside.
     ghost opens: { Self → Self.Scope → Self → Type 0 };
 
-    // An error that says that memory ran out.
-    ghost memory: { Self.Error → Self → Type 0 };
-
-    // An error that says that the encoder had failed before.
-    ghost already: { Self.Error → Self → Type 0 };
-
-    ghost failed: { Self → Bool };
-
-    ghost codec: { Self → Codec };
-
     /// The variant in use.
     fn codec(&self) -> Codec
-        ensures { result ≡ codec self.now };
+        ensures { result ≡ rules.codec self.now };
 
     /// Writes a BOOLEAN, one bit (X.691 12).
     fn encode_bool(
@@ -67,10 +51,7 @@ pub trait Encoder: Sized {
         value: bool,
         identifier: Identifier,
     ) -> Result<(), Self::Error>
-        ensures law { Writes memory presents refuses Schema.boolean (truth value) self.old result self.new }
-        ensures again { failed self.old ≡ true → IsErrAnd result (λ e. already e self.old) }
-        ensures fails { OnErr result (failed self.new ≡ true) }
-        ensures kept { codec self.new ≡ codec self.old };
+        ensures { Writes rules Schema.boolean (truth value) self.old result self.new };
 
     /// Writes an INTEGER under constraints (X.691 13).
     fn encode_integer<I: IntegerType>(
@@ -80,17 +61,11 @@ pub trait Encoder: Sized {
         value: &I,
         identifier: Identifier,
     ) -> Result<(), Self::Error>
-        ensures law { Writes memory presents refuses (number_schema constraints.now I.range) (whole (I.number value.now)) self.old result self.new }
-        ensures again { failed self.old ≡ true → IsErrAnd result (λ e. already e self.old) }
-        ensures fails { OnErr result (failed self.new ≡ true) }
-        ensures kept { codec self.new ≡ codec self.old };
+        ensures { Writes rules (number_schema constraints.now I.range) (whole (I.number value.now)) self.old result self.new };
 
     /// Writes a NULL, no bits (X.691 18). Takes no memory.
     fn encode_null(&mut self, tag: Tag, identifier: Identifier) -> Result<(), Self::Error>
-        ensures law { Writes takes_none presents refuses Schema.null nothing self.old result self.new }
-        ensures again { failed self.old ≡ true → IsErrAnd result (λ e. already e self.old) }
-        ensures fails { OnErr result (failed self.new ≡ true) }
-        ensures kept { codec self.new ≡ codec self.old };
+        ensures { Writes (freely rules) Schema.null nothing self.old result self.new };
 
     /// Writes the octets of a value whose type isn't known, behind an unconstrained length in octets (X.691 11.2).
     fn encode_any(
@@ -99,10 +74,7 @@ pub trait Encoder: Sized {
         value: &Any,
         identifier: Identifier,
     ) -> Result<(), Self::Error>
-        ensures law { Writes memory presents refuses Schema.any (octets value.now) self.old result self.new }
-        ensures again { failed self.old ≡ true → IsErrAnd result (λ e. already e self.old) }
-        ensures fails { OnErr result (failed self.new ≡ true) }
-        ensures kept { codec self.new ≡ codec self.old };
+        ensures { Writes rules Schema.any (octets value.now) self.old result self.new };
 
     /// Writes an OCTET STRING under constraints, of which the size counts octets (X.691 17).
     fn encode_octet_string(
@@ -112,10 +84,7 @@ pub trait Encoder: Sized {
         value: &[u8],
         identifier: Identifier,
     ) -> Result<(), Self::Error>
-        ensures law { Writes memory presents refuses (octet_schema constraints.now) (octets value.now) self.old result self.new }
-        ensures again { failed self.old ≡ true → IsErrAnd result (λ e. already e self.old) }
-        ensures fails { OnErr result (failed self.new ≡ true) }
-        ensures kept { codec self.new ≡ codec self.old };
+        ensures { Writes rules (octet_schema constraints.now) (octets value.now) self.old result self.new };
 
     /// Writes a BIT STRING under constraints, of which the size counts bits (X.691 16).
     fn encode_bit_string(
@@ -125,10 +94,7 @@ pub trait Encoder: Sized {
         value: &BitString,
         identifier: Identifier,
     ) -> Result<(), Self::Error>
-        ensures law { Writes memory presents refuses (bit_schema constraints.now) (bits value.now) self.old result self.new }
-        ensures again { failed self.old ≡ true → IsErrAnd result (λ e. already e self.old) }
-        ensures fails { OnErr result (failed self.new ≡ true) }
-        ensures kept { codec self.new ≡ codec self.old };
+        ensures { Writes rules (bit_schema constraints.now) (bits value.now) self.old result self.new };
 
     /// Writes a string of a known-multiplier type under constraints: of each character its code among those that the
     /// type and its permitted alphabet leave (X.691 30.5). The size counts characters.
@@ -139,10 +105,7 @@ pub trait Encoder: Sized {
         value: &S,
         identifier: Identifier,
     ) -> Result<(), Self::Error>
-        ensures law { Writes memory presents refuses (character_schema S.alphabet constraints.now) (characters (S.characters value.now)) self.old result self.new }
-        ensures again { failed self.old ≡ true → IsErrAnd result (λ e. already e self.old) }
-        ensures fails { OnErr result (failed self.new ≡ true) }
-        ensures kept { codec self.new ≡ codec self.old };
+        ensures { Writes rules (character_schema S.alphabet constraints.now) (characters (S.characters value.now)) self.old result self.new };
 
     /// Writes a UTF8String: its octets behind an unconstrained length. No constraint is visible (X.691 30.6).
     fn encode_utf8_string(
@@ -152,10 +115,7 @@ pub trait Encoder: Sized {
         value: &str,
         identifier: Identifier,
     ) -> Result<(), Self::Error>
-        ensures law { Writes memory presents refuses (Schema.text utf8) (octets value.now) self.old result self.new }
-        ensures again { failed self.old ≡ true → IsErrAnd result (λ e. already e self.old) }
-        ensures fails { OnErr result (failed self.new ≡ true) }
-        ensures kept { codec self.new ≡ codec self.old };
+        ensures { Writes rules (Schema.text utf8) (octets value.now) self.old result self.new };
 
     /// Writes a GeneralString: its octets behind an unconstrained length. No constraint is visible (X.691 30.6).
     fn encode_general_string(
@@ -165,10 +125,7 @@ pub trait Encoder: Sized {
         value: &GeneralString,
         identifier: Identifier,
     ) -> Result<(), Self::Error>
-        ensures law { Writes memory presents refuses (Schema.text other) (octets value.now) self.old result self.new }
-        ensures again { failed self.old ≡ true → IsErrAnd result (λ e. already e self.old) }
-        ensures fails { OnErr result (failed self.new ≡ true) }
-        ensures kept { codec self.new ≡ codec self.old };
+        ensures { Writes rules (Schema.text other) (octets value.now) self.old result self.new };
 
     /// Writes a GraphicString: its octets behind an unconstrained length. No constraint is visible (X.691 30.6).
     fn encode_graphic_string(
@@ -178,10 +135,7 @@ pub trait Encoder: Sized {
         value: &GraphicString,
         identifier: Identifier,
     ) -> Result<(), Self::Error>
-        ensures law { Writes memory presents refuses (Schema.text other) (octets value.now) self.old result self.new }
-        ensures again { failed self.old ≡ true → IsErrAnd result (λ e. already e self.old) }
-        ensures fails { OnErr result (failed self.new ≡ true) }
-        ensures kept { codec self.new ≡ codec self.old };
+        ensures { Writes rules (Schema.text other) (octets value.now) self.old result self.new };
 
     /// Writes a TeletexString: its octets behind an unconstrained length. No constraint is visible (X.691 30.6).
     fn encode_teletex_string(
@@ -191,10 +145,7 @@ pub trait Encoder: Sized {
         value: &TeletexString,
         identifier: Identifier,
     ) -> Result<(), Self::Error>
-        ensures law { Writes memory presents refuses (Schema.text other) (octets value.now) self.old result self.new }
-        ensures again { failed self.old ≡ true → IsErrAnd result (λ e. already e self.old) }
-        ensures fails { OnErr result (failed self.new ≡ true) }
-        ensures kept { codec self.new ≡ codec self.old };
+        ensures { Writes rules (Schema.text other) (octets value.now) self.old result self.new };
 
     /// Opens a SEQUENCE (X.691 19): the calls from here to `close_sequence` write its components, in the order of
     /// `FIELDS`.
@@ -203,22 +154,16 @@ pub trait Encoder: Sized {
         tag: Tag,
         identifier: Identifier,
     ) -> Result<Self::Scope, Self::Error>
-        ensures law { OpensToWrite memory presents refuses opens C.parts self.old result self.new }
-        ensures again { failed self.old ≡ true → IsErrAnd result (λ e. already e self.old) }
-        ensures fails { OnErr result (failed self.new ≡ true) }
-        ensures kept { codec self.new ≡ codec self.old };
+        ensures { OpensToWrite rules opens C.parts self.old result self.new };
 
     /// Closes a SEQUENCE in which its components were written.
     fn close_sequence<C: Constructed>(&mut self, scope: Self::Scope) -> Result<(), Self::Error>
-        ensures law { ClosesWritten memory presents refuses opens C.parts scope self.old result self.new }
-        ensures again { failed self.old ≡ true → IsErrAnd result (λ e. already e self.old) }
-        ensures fails { OnErr result (failed self.new ≡ true) }
-        ensures kept { codec self.new ≡ codec self.old };
+        ensures { ClosesWritten rules opens C.parts scope self.old result self.new };
 
     /// Refuses from now on.
     fn fail(&mut self)
-        ensures fails { failed self.new ≡ true }
-        ensures kept { codec self.new ≡ codec self.old };
+        ensures fails { rules.failed self.new ≡ true }
+        ensures kept { rules.codec self.new ≡ rules.codec self.old };
 
     /// Writes a VisibleString under constraints (X.691 30.5).
     final fn encode_visible_string(
@@ -228,10 +173,7 @@ pub trait Encoder: Sized {
         value: &VisibleString,
         identifier: Identifier,
     ) -> Result<(), Self::Error>
-        ensures law { Writes memory presents refuses (character_schema visible constraints.now) (characters value.now) self.old result self.new }
-        ensures again { failed self.old ≡ true → IsErrAnd result (λ e. already e self.old) }
-        ensures fails { OnErr result (failed self.new ≡ true) }
-        ensures kept { codec self.new ≡ codec self.old }
+        ensures { Writes rules (character_schema visible constraints.now) (characters value.now) self.old result self.new }
     {
         self.encode_known_multiplier_string(tag, constraints, value, identifier)
     }
@@ -244,10 +186,7 @@ pub trait Encoder: Sized {
         value: &Ia5String,
         identifier: Identifier,
     ) -> Result<(), Self::Error>
-        ensures law { Writes memory presents refuses (character_schema ia5 constraints.now) (characters value.now) self.old result self.new }
-        ensures again { failed self.old ≡ true → IsErrAnd result (λ e. already e self.old) }
-        ensures fails { OnErr result (failed self.new ≡ true) }
-        ensures kept { codec self.new ≡ codec self.old }
+        ensures { Writes rules (character_schema ia5 constraints.now) (characters value.now) self.old result self.new }
     {
         self.encode_known_multiplier_string(tag, constraints, value, identifier)
     }
@@ -260,10 +199,7 @@ pub trait Encoder: Sized {
         value: &PrintableString,
         identifier: Identifier,
     ) -> Result<(), Self::Error>
-        ensures law { Writes memory presents refuses (character_schema printable constraints.now) (characters value.now) self.old result self.new }
-        ensures again { failed self.old ≡ true → IsErrAnd result (λ e. already e self.old) }
-        ensures fails { OnErr result (failed self.new ≡ true) }
-        ensures kept { codec self.new ≡ codec self.old }
+        ensures { Writes rules (character_schema printable constraints.now) (characters value.now) self.old result self.new }
     {
         self.encode_known_multiplier_string(tag, constraints, value, identifier)
     }
@@ -276,10 +212,7 @@ pub trait Encoder: Sized {
         value: &NumericString,
         identifier: Identifier,
     ) -> Result<(), Self::Error>
-        ensures law { Writes memory presents refuses (character_schema numeric constraints.now) (characters value.now) self.old result self.new }
-        ensures again { failed self.old ≡ true → IsErrAnd result (λ e. already e self.old) }
-        ensures fails { OnErr result (failed self.new ≡ true) }
-        ensures kept { codec self.new ≡ codec self.old }
+        ensures { Writes rules (character_schema numeric constraints.now) (characters value.now) self.old result self.new }
     {
         self.encode_known_multiplier_string(tag, constraints, value, identifier)
     }
@@ -292,10 +225,7 @@ pub trait Encoder: Sized {
         value: &BmpString,
         identifier: Identifier,
     ) -> Result<(), Self::Error>
-        ensures law { Writes memory presents refuses (character_schema bmp constraints.now) (characters value.now) self.old result self.new }
-        ensures again { failed self.old ≡ true → IsErrAnd result (λ e. already e self.old) }
-        ensures fails { OnErr result (failed self.new ≡ true) }
-        ensures kept { codec self.new ≡ codec self.old }
+        ensures { Writes rules (character_schema bmp constraints.now) (characters value.now) self.old result self.new }
     {
         self.encode_known_multiplier_string(tag, constraints, value, identifier)
     }
@@ -307,11 +237,7 @@ pub trait Encoder: Sized {
         I: Into<Identifier>,
     >(&mut self, tag: Tag, scope: F, identifier: I) -> Result<(), Self::Error>
         requires { F.IsAlwaysCallable scope }
-        ensures law { (rs : List (Option Value)) (k : ℕ) → WritesScope memory presents refuses C.parts rs k (FnOnceReturnsAtMut F.FnOnce scope)
-            → AtDepths (record_at listed C.parts false no_additions) (suc k) (λ s. Writes memory presents refuses s (normal s (record_value rs [])) self.old result self.new) }
-        ensures again { failed self.old ≡ true → IsErrAnd result (λ e. already e self.old) }
-        ensures fails { OnErr result (failed self.new ≡ true) }
-        ensures kept { KeepsCodec codec (FnOnceReturnsAtMut F.FnOnce scope) → codec self.new ≡ codec self.old }
+        ensures { WritesAround rules C.parts (FnOnceReturnsAtMut F.FnOnce scope) self.old result self.new }
     {
         let outside = self.open_sequence::<C>(tag, identifier.into())?;
         if let Err(error) = scope(self) {
@@ -329,11 +255,7 @@ pub trait Encoder: Sized {
         identifier: I,
     ) -> Result<(), Self::Error>
         requires { (n : ℕ) → C.parts n ≡ P.parts parts.now n }
-        ensures law { AtDepths (record_at listed C.parts false no_additions) (suc (P.levels parts.now))
-            (λ s. Writes memory presents refuses s (normal s (record_value (P.contents parts.now) [])) self.old result self.new) }
-        ensures again { failed self.old ≡ true → IsErrAnd result (λ e. already e self.old) }
-        ensures fails { OnErr result (failed self.new ≡ true) }
-        ensures kept { codec self.new ≡ codec self.old }
+        ensures { Encodes rules (record_at listed C.parts false no_additions) (suc (P.levels parts.now)) (record_value (P.contents parts.now) []) self.old result self.new }
     {
         let outside = self.open_sequence::<C>(tag, identifier.into())?;
         parts.encode_parts(self)?;
@@ -341,7 +263,7 @@ pub trait Encoder: Sized {
     }
 
     // What holds of each encoder's relations.
-    ghost lawful: { PresentsWell failed memory presents };
+    ghost lawful: { PresentsWell rules };
 }
 
 /// What reads values, one after another. Each call takes the front of what is left that spells one value of one
@@ -349,18 +271,13 @@ pub trait Encoder: Sized {
 ///
 /// A refused decoder refuses from then on, and says so before anything else.
 pub trait Decoder: Sized {
-    ghost use Rattle.rasn_types.specs.declared.types.Codec.{Codec};
-
     type Error: Drop;
 
     /// What waits outside while a record is open.
     type Scope: Drop;
 
-    // How many levels may still be entered.
-    ghost levels: { Self → ℕ };
-
-    // A front of what is left spells a value, and what is left behind it.
-    ghost spells: { Schema → Self → Value → Self → Type 0 };
+    // What is read, and what states and errors say.
+    ghost rules: { DecoderRules Self.Error Self };
 
     // A scope is opened to read a schema: what was before, what waits outside, and how it is inside.
     ghost opens: { Schema → Self → Self.Scope → Self → Type 0 };
@@ -368,41 +285,25 @@ pub trait Decoder: Sized {
     // A scope ends: how it is inside, what waited outside, and how it is behind the scope.
     ghost closes: { Self → Self.Scope → Self → Type 0 };
 
-    // The fault that an error names stands in what is left, as a schema reads it.
-    ghost fault: { Schema → Self.Error → Self → Type 0 };
-
     // The fault that an error names stands at the end of a scope.
     ghost unended: { Self.Scope → Self.Error → Self → Type 0 };
 
-    // An error that says that memory ran out.
-    ghost memory: { Self.Error → Self → Type 0 };
-
-    // An error that says that the decoder had failed before.
-    ghost already: { Self.Error → Self → Type 0 };
-
-    ghost failed: { Self → Bool };
-
-    ghost codec: { Self → Codec };
-
     /// The variant in use.
     fn codec(&self) -> Codec
-        ensures { result ≡ codec self.now };
+        ensures { result ≡ rules.codec self.now };
 
     /// Where the memory of what is read comes from.
     fn alloc(&self) -> Global;
 
     /// Refuses from now on, and answers that memory ran out: for an implementation whose own growth was refused.
     fn out_of_memory(&mut self) -> Self::Error
-        ensures memory { memory result self.old }
-        ensures fails { failed self.new ≡ true }
-        ensures kept { codec self.new ≡ codec self.old };
+        ensures memory { rules.memory result self.old }
+        ensures fails { rules.failed self.new ≡ true }
+        ensures kept { rules.codec self.new ≡ rules.codec self.old };
 
     /// Reads a BOOLEAN (X.691 12). Takes no memory.
     fn decode_bool(&mut self, tag: Tag) -> Result<bool, Self::Error>
-        ensures law { Reads takes_none fault spells Schema.boolean truth self.old result self.new }
-        ensures again { failed self.old ≡ true → IsErrAnd result (λ e. already e self.old) }
-        ensures fails { OnErr result (failed self.new ≡ true) }
-        ensures kept { codec self.new ≡ codec self.old };
+        ensures { Reads (freely_read rules) Schema.boolean truth self.old result self.new };
 
     /// Reads an INTEGER under constraints (X.691 13).
     fn decode_integer<I: IntegerType>(
@@ -410,24 +311,15 @@ pub trait Decoder: Sized {
         tag: Tag,
         constraints: &Constraints,
     ) -> Result<I, Self::Error>
-        ensures law { Reads memory fault spells (number_schema constraints.now I.range) (λ x. whole (I.number x)) self.old result self.new }
-        ensures again { failed self.old ≡ true → IsErrAnd result (λ e. already e self.old) }
-        ensures fails { OnErr result (failed self.new ≡ true) }
-        ensures kept { codec self.new ≡ codec self.old };
+        ensures { Reads rules (number_schema constraints.now I.range) (λ x. whole (I.number x)) self.old result self.new };
 
     /// Reads a NULL (X.691 18). Takes no memory.
     fn decode_null(&mut self, tag: Tag) -> Result<(), Self::Error>
-        ensures law { Reads takes_none fault spells Schema.null (λ _. nothing) self.old result self.new }
-        ensures again { failed self.old ≡ true → IsErrAnd result (λ e. already e self.old) }
-        ensures fails { OnErr result (failed self.new ≡ true) }
-        ensures kept { codec self.new ≡ codec self.old };
+        ensures { Reads (freely_read rules) Schema.null (λ _. nothing) self.old result self.new };
 
     /// Reads the octets of a value whose type isn't known (X.691 11.2).
     fn decode_any(&mut self, tag: Tag) -> Result<Any, Self::Error>
-        ensures law { Reads memory fault spells Schema.any (λ x. octets x) self.old result self.new }
-        ensures again { failed self.old ≡ true → IsErrAnd result (λ e. already e self.old) }
-        ensures fails { OnErr result (failed self.new ≡ true) }
-        ensures kept { codec self.new ≡ codec self.old };
+        ensures { Reads rules Schema.any (λ x. octets x) self.old result self.new };
 
     /// Reads an OCTET STRING under constraints (X.691 17). The octets are `Owned`.
     fn decode_octet_string(
@@ -435,11 +327,8 @@ pub trait Decoder: Sized {
         tag: Tag,
         constraints: &Constraints,
     ) -> Result<CowSlice<'static, u8>, Self::Error>
-        ensures law { Reads memory fault spells (octet_schema constraints.now) (λ x. octets (cow_slice_items x)) self.old result self.new }
-        ensures owned { IfOk result (λ x. IsOwnedSlice x) }
-        ensures again { failed self.old ≡ true → IsErrAnd result (λ e. already e self.old) }
-        ensures fails { OnErr result (failed self.new ≡ true) }
-        ensures kept { codec self.new ≡ codec self.old };
+        ensures read { Reads rules (octet_schema constraints.now) (λ x. octets (cow_slice_items x)) self.old result self.new }
+        ensures owned { IfOk result (λ x. IsOwnedSlice x) };
 
     /// Reads a BIT STRING under constraints (X.691 16).
     fn decode_bit_string(
@@ -447,10 +336,7 @@ pub trait Decoder: Sized {
         tag: Tag,
         constraints: &Constraints,
     ) -> Result<BitString, Self::Error>
-        ensures law { Reads memory fault spells (bit_schema constraints.now) (λ x. bits x) self.old result self.new }
-        ensures again { failed self.old ≡ true → IsErrAnd result (λ e. already e self.old) }
-        ensures fails { OnErr result (failed self.new ≡ true) }
-        ensures kept { codec self.new ≡ codec self.old };
+        ensures { Reads rules (bit_schema constraints.now) (λ x. bits x) self.old result self.new };
 
     /// Reads a string of a known-multiplier type under constraints (X.691 30.5).
     fn decode_known_multiplier_string<S: StaticPermittedAlphabet>(
@@ -458,10 +344,7 @@ pub trait Decoder: Sized {
         tag: Tag,
         constraints: &Constraints,
     ) -> Result<S, Self::Error>
-        ensures law { Reads memory fault spells (character_schema S.alphabet constraints.now) (λ x. characters (S.characters x)) self.old result self.new }
-        ensures again { failed self.old ≡ true → IsErrAnd result (λ e. already e self.old) }
-        ensures fails { OnErr result (failed self.new ≡ true) }
-        ensures kept { codec self.new ≡ codec self.old };
+        ensures { Reads rules (character_schema S.alphabet constraints.now) (λ x. characters (S.characters x)) self.old result self.new };
 
     /// Reads a UTF8String (X.691 30.6). No constraint is visible.
     fn decode_utf8_string(
@@ -469,10 +352,7 @@ pub trait Decoder: Sized {
         tag: Tag,
         constraints: &Constraints,
     ) -> Result<Utf8String, Self::Error>
-        ensures law { Reads memory fault spells (Schema.text utf8) (λ x. octets (string_bytes x)) self.old result self.new }
-        ensures again { failed self.old ≡ true → IsErrAnd result (λ e. already e self.old) }
-        ensures fails { OnErr result (failed self.new ≡ true) }
-        ensures kept { codec self.new ≡ codec self.old };
+        ensures { Reads rules (Schema.text utf8) (λ x. octets (string_bytes x)) self.old result self.new };
 
     /// Reads a GeneralString (X.691 30.6). No constraint is visible.
     fn decode_general_string(
@@ -480,10 +360,7 @@ pub trait Decoder: Sized {
         tag: Tag,
         constraints: &Constraints,
     ) -> Result<GeneralString, Self::Error>
-        ensures law { Reads memory fault spells (Schema.text other) (λ x. octets x) self.old result self.new }
-        ensures again { failed self.old ≡ true → IsErrAnd result (λ e. already e self.old) }
-        ensures fails { OnErr result (failed self.new ≡ true) }
-        ensures kept { codec self.new ≡ codec self.old };
+        ensures { Reads rules (Schema.text other) (λ x. octets x) self.old result self.new };
 
     /// Reads a GraphicString (X.691 30.6). No constraint is visible.
     fn decode_graphic_string(
@@ -491,10 +368,7 @@ pub trait Decoder: Sized {
         tag: Tag,
         constraints: &Constraints,
     ) -> Result<GraphicString, Self::Error>
-        ensures law { Reads memory fault spells (Schema.text other) (λ x. octets x) self.old result self.new }
-        ensures again { failed self.old ≡ true → IsErrAnd result (λ e. already e self.old) }
-        ensures fails { OnErr result (failed self.new ≡ true) }
-        ensures kept { codec self.new ≡ codec self.old };
+        ensures { Reads rules (Schema.text other) (λ x. octets x) self.old result self.new };
 
     /// Reads a TeletexString (X.691 30.6). No constraint is visible.
     fn decode_teletex_string(
@@ -502,30 +376,21 @@ pub trait Decoder: Sized {
         tag: Tag,
         constraints: &Constraints,
     ) -> Result<TeletexString, Self::Error>
-        ensures law { Reads memory fault spells (Schema.text other) (λ x. octets x) self.old result self.new }
-        ensures again { failed self.old ≡ true → IsErrAnd result (λ e. already e self.old) }
-        ensures fails { OnErr result (failed self.new ≡ true) }
-        ensures kept { codec self.new ≡ codec self.old };
+        ensures { Reads rules (Schema.text other) (λ x. octets x) self.old result self.new };
 
     /// Opens a SEQUENCE (X.691 19), which takes a level: the calls from here to `close_sequence` read its components,
     /// in the order of `FIELDS`. At no level left it refuses.
     fn open_sequence<C: Constructed>(&mut self, tag: Tag) -> Result<Self::Scope, Self::Error>
-        ensures law { OpensToRead levels memory fault spells opens C.parts self.old result self.new }
-        ensures again { failed self.old ≡ true → IsErrAnd result (λ e. already e self.old) }
-        ensures fails { OnErr result (failed self.new ≡ true) }
-        ensures kept { codec self.new ≡ codec self.old };
+        ensures { OpensToRead rules opens C.parts self.old result self.new };
 
     /// Closes a SEQUENCE, and gives its level back.
     fn close_sequence(&mut self, scope: Self::Scope) -> Result<(), Self::Error>
-        ensures law { failed self.old ≡ false → ClosesRead memory unended closes scope self.old result self.new }
-        ensures again { failed self.old ≡ true → IsErrAnd result (λ e. already e self.old) }
-        ensures fails { OnErr result (failed self.new ≡ true) }
-        ensures kept { codec self.new ≡ codec self.old };
+        ensures { ClosesRead rules unended closes scope self.old result self.new };
 
     /// Refuses from now on.
     fn fail(&mut self)
-        ensures fails { failed self.new ≡ true }
-        ensures kept { codec self.new ≡ codec self.old };
+        ensures fails { rules.failed self.new ≡ true }
+        ensures kept { rules.codec self.new ≡ rules.codec self.old };
 
     /// Reads a VisibleString under constraints (X.691 30.5).
     final fn decode_visible_string(
@@ -533,10 +398,7 @@ pub trait Decoder: Sized {
         tag: Tag,
         constraints: &Constraints,
     ) -> Result<VisibleString, Self::Error>
-        ensures law { Reads memory fault spells (character_schema visible constraints.now) (λ x. characters x) self.old result self.new }
-        ensures again { failed self.old ≡ true → IsErrAnd result (λ e. already e self.old) }
-        ensures fails { OnErr result (failed self.new ≡ true) }
-        ensures kept { codec self.new ≡ codec self.old }
+        ensures { Reads rules (character_schema visible constraints.now) (λ x. characters x) self.old result self.new }
     {
         self.decode_known_multiplier_string::<VisibleString>(tag, constraints)
     }
@@ -547,10 +409,7 @@ pub trait Decoder: Sized {
         tag: Tag,
         constraints: &Constraints,
     ) -> Result<Ia5String, Self::Error>
-        ensures law { Reads memory fault spells (character_schema ia5 constraints.now) (λ x. characters x) self.old result self.new }
-        ensures again { failed self.old ≡ true → IsErrAnd result (λ e. already e self.old) }
-        ensures fails { OnErr result (failed self.new ≡ true) }
-        ensures kept { codec self.new ≡ codec self.old }
+        ensures { Reads rules (character_schema ia5 constraints.now) (λ x. characters x) self.old result self.new }
     {
         self.decode_known_multiplier_string::<Ia5String>(tag, constraints)
     }
@@ -561,10 +420,7 @@ pub trait Decoder: Sized {
         tag: Tag,
         constraints: &Constraints,
     ) -> Result<PrintableString, Self::Error>
-        ensures law { Reads memory fault spells (character_schema printable constraints.now) (λ x. characters x) self.old result self.new }
-        ensures again { failed self.old ≡ true → IsErrAnd result (λ e. already e self.old) }
-        ensures fails { OnErr result (failed self.new ≡ true) }
-        ensures kept { codec self.new ≡ codec self.old }
+        ensures { Reads rules (character_schema printable constraints.now) (λ x. characters x) self.old result self.new }
     {
         self.decode_known_multiplier_string::<PrintableString>(tag, constraints)
     }
@@ -575,10 +431,7 @@ pub trait Decoder: Sized {
         tag: Tag,
         constraints: &Constraints,
     ) -> Result<NumericString, Self::Error>
-        ensures law { Reads memory fault spells (character_schema numeric constraints.now) (λ x. characters x) self.old result self.new }
-        ensures again { failed self.old ≡ true → IsErrAnd result (λ e. already e self.old) }
-        ensures fails { OnErr result (failed self.new ≡ true) }
-        ensures kept { codec self.new ≡ codec self.old }
+        ensures { Reads rules (character_schema numeric constraints.now) (λ x. characters x) self.old result self.new }
     {
         self.decode_known_multiplier_string::<NumericString>(tag, constraints)
     }
@@ -589,10 +442,7 @@ pub trait Decoder: Sized {
         tag: Tag,
         constraints: &Constraints,
     ) -> Result<BmpString, Self::Error>
-        ensures law { Reads memory fault spells (character_schema bmp constraints.now) (λ x. characters x) self.old result self.new }
-        ensures again { failed self.old ≡ true → IsErrAnd result (λ e. already e self.old) }
-        ensures fails { OnErr result (failed self.new ≡ true) }
-        ensures kept { codec self.new ≡ codec self.old }
+        ensures { Reads rules (character_schema bmp constraints.now) (λ x. characters x) self.old result self.new }
     {
         self.decode_known_multiplier_string::<BmpString>(tag, constraints)
     }
@@ -603,12 +453,8 @@ pub trait Decoder: Sized {
         G: FnOnce() -> C,
         F: FnOnce(&mut Self) -> Result<C, Self::Error>,
     >(&mut self, tag: Tag, default: Option<G>, scope: F) -> Result<C, Self::Error>
-        requires { (x : _) → suc (levels x.now) ≡ levels self.old → F.pre scope x }
-        ensures law { ReadsScope levels memory fault spells C.parts C.contents (levels self.old) (FnOnceReturnsAtMut F.FnOnce scope)
-            → Reads memory fault spells (record_at listed C.parts false no_additions (levels self.old)) (λ x. record_value (C.contents x) []) self.old result self.new }
-        ensures again { failed self.old ≡ true → IsErrAnd result (λ e. already e self.old) }
-        ensures fails { OnErr result (failed self.new ≡ true) }
-        ensures kept { KeepsCodec codec (FnOnceReturnsAtMut F.FnOnce scope) → codec self.new ≡ codec self.old }
+        requires { (x : _) → suc (rules.levels x.now) ≡ rules.levels self.old → F.pre scope x }
+        ensures { ReadsAround rules C.parts C.contents (FnOnceReturnsAtMut F.FnOnce scope) self.old result self.new }
     {
         drop(default);
         let outside = self.open_sequence::<C>(tag)?;
@@ -632,10 +478,7 @@ pub trait Decoder: Sized {
         parts: &P,
     ) -> Result<P::Values, Self::Error>
         requires { (n : ℕ) → C.parts n ≡ P.parts parts.now n }
-        ensures law { Reads memory fault spells (record_at listed C.parts false no_additions (levels self.old)) (λ values. record_value (P.contents values) []) self.old result self.new }
-        ensures again { failed self.old ≡ true → IsErrAnd result (λ e. already e self.old) }
-        ensures fails { OnErr result (failed self.new ≡ true) }
-        ensures kept { codec self.new ≡ codec self.old }
+        ensures { Reads rules (record_at listed C.parts false no_additions (rules.levels self.old)) (λ values. record_value (P.contents values) []) self.old result self.new }
     {
         let outside = self.open_sequence::<C>(tag)?;
         let values = parts.decode_parts(self)?;
@@ -644,10 +487,10 @@ pub trait Decoder: Sized {
     }
 
     // What holds of each decoder's relations.
-    ghost lawful: { (s : Schema) → ReadsWell levels failed memory (spells s) };
+    ghost lawful: { (s : Schema) → ReadsWell rules (rules.spells s) };
 
     // What holds of each decoder's scopes.
-    ghost scopes: { ScopesWell failed memory fault unended spells opens closes };
+    ghost scopes: { ScopesWell rules unended opens closes };
 }
 
 /// A value that can be encoded. A call that answers Ok presents the normal form of the value by its schema, and a
@@ -661,19 +504,11 @@ pub trait Encode: AsnType {
         constraints: &Constraints,
         identifier: Identifier,
     ) -> Result<(), E::Error>
-        ensures law { AtDepths (Self.schema constraints.now) (Self.levels self.now)
-            (λ s. Writes E.memory E.presents E.refuses s (normal s (Self.value self.now)) encoder.old result encoder.new) }
-        ensures again { E.failed encoder.old ≡ true → IsErrAnd result (λ e. E.already e encoder.old) }
-        ensures fails { OnErr result (E.failed encoder.new ≡ true) }
-        ensures kept { E.codec encoder.new ≡ E.codec encoder.old };
+        ensures { Encodes E.rules (Self.schema constraints.now) (Self.levels self.now) (Self.value self.now) encoder.old result encoder.new };
 
     /// Writes the value under its type's own tag, constraints and name.
     final fn encode<E: Encoder>(&self, encoder: &mut E) -> Result<(), E::Error>
-        ensures law { AtDepths (Self.schema Self.CONSTRAINTS) (Self.levels self.now)
-            (λ s. Writes E.memory E.presents E.refuses s (normal s (Self.value self.now)) encoder.old result encoder.new) }
-        ensures again { E.failed encoder.old ≡ true → IsErrAnd result (λ e. E.already e encoder.old) }
-        ensures fails { OnErr result (E.failed encoder.new ≡ true) }
-        ensures kept { E.codec encoder.new ≡ E.codec encoder.old }
+        ensures { Encodes E.rules (Self.schema Self.CONSTRAINTS) (Self.levels self.now) (Self.value self.now) encoder.old result encoder.new }
     {
         self.encode_with_tag_and_constraints(
             encoder,
@@ -685,11 +520,7 @@ pub trait Encode: AsnType {
 
     /// Writes the value under a tag, and its type's own constraints and name.
     final fn encode_with_tag<E: Encoder>(&self, encoder: &mut E, tag: Tag) -> Result<(), E::Error>
-        ensures law { AtDepths (Self.schema Self.CONSTRAINTS) (Self.levels self.now)
-            (λ s. Writes E.memory E.presents E.refuses s (normal s (Self.value self.now)) encoder.old result encoder.new) }
-        ensures again { E.failed encoder.old ≡ true → IsErrAnd result (λ e. E.already e encoder.old) }
-        ensures fails { OnErr result (E.failed encoder.new ≡ true) }
-        ensures kept { E.codec encoder.new ≡ E.codec encoder.old }
+        ensures { Encodes E.rules (Self.schema Self.CONSTRAINTS) (Self.levels self.now) (Self.value self.now) encoder.old result encoder.new }
     {
         self.encode_with_tag_and_constraints(encoder, tag, &Self::CONSTRAINTS, Self::IDENTIFIER)
     }
@@ -700,11 +531,7 @@ pub trait Encode: AsnType {
         encoder: &mut E,
         constraints: &Constraints,
     ) -> Result<(), E::Error>
-        ensures law { AtDepths (Self.schema constraints.now) (Self.levels self.now)
-            (λ s. Writes E.memory E.presents E.refuses s (normal s (Self.value self.now)) encoder.old result encoder.new) }
-        ensures again { E.failed encoder.old ≡ true → IsErrAnd result (λ e. E.already e encoder.old) }
-        ensures fails { OnErr result (E.failed encoder.new ≡ true) }
-        ensures kept { E.codec encoder.new ≡ E.codec encoder.old }
+        ensures { Encodes E.rules (Self.schema constraints.now) (Self.levels self.now) (Self.value self.now) encoder.old result encoder.new }
     {
         self.encode_with_tag_and_constraints(encoder, Self::TAG, constraints, Self::IDENTIFIER)
     }
@@ -719,27 +546,18 @@ pub trait Decode: AsnType + Sized + Drop {
         tag: Tag,
         constraints: &Constraints,
     ) -> Result<Self, D::Error>
-        ensures law { Reads D.memory D.fault D.spells (Self.schema constraints.now (D.levels decoder.old)) Self.value decoder.old result decoder.new }
-        ensures again { D.failed decoder.old ≡ true → IsErrAnd result (λ e. D.already e decoder.old) }
-        ensures fails { OnErr result (D.failed decoder.new ≡ true) }
-        ensures kept { D.codec decoder.new ≡ D.codec decoder.old };
+        ensures { Reads D.rules (Self.schema constraints.now (D.rules.levels decoder.old)) Self.value decoder.old result decoder.new };
 
     /// Reads a value under its type's own tag and constraints.
     final fn decode<D: Decoder>(decoder: &mut D) -> Result<Self, D::Error>
-        ensures law { Reads D.memory D.fault D.spells (Self.schema Self.CONSTRAINTS (D.levels decoder.old)) Self.value decoder.old result decoder.new }
-        ensures again { D.failed decoder.old ≡ true → IsErrAnd result (λ e. D.already e decoder.old) }
-        ensures fails { OnErr result (D.failed decoder.new ≡ true) }
-        ensures kept { D.codec decoder.new ≡ D.codec decoder.old }
+        ensures { Reads D.rules (Self.schema Self.CONSTRAINTS (D.rules.levels decoder.old)) Self.value decoder.old result decoder.new }
     {
         Self::decode_with_tag_and_constraints(decoder, Self::TAG, &Self::CONSTRAINTS)
     }
 
     /// Reads a value under a tag and its type's own constraints.
     final fn decode_with_tag<D: Decoder>(decoder: &mut D, tag: Tag) -> Result<Self, D::Error>
-        ensures law { Reads D.memory D.fault D.spells (Self.schema Self.CONSTRAINTS (D.levels decoder.old)) Self.value decoder.old result decoder.new }
-        ensures again { D.failed decoder.old ≡ true → IsErrAnd result (λ e. D.already e decoder.old) }
-        ensures fails { OnErr result (D.failed decoder.new ≡ true) }
-        ensures kept { D.codec decoder.new ≡ D.codec decoder.old }
+        ensures { Reads D.rules (Self.schema Self.CONSTRAINTS (D.rules.levels decoder.old)) Self.value decoder.old result decoder.new }
     {
         Self::decode_with_tag_and_constraints(decoder, tag, &Self::CONSTRAINTS)
     }
@@ -749,10 +567,7 @@ pub trait Decode: AsnType + Sized + Drop {
         decoder: &mut D,
         constraints: &Constraints,
     ) -> Result<Self, D::Error>
-        ensures law { Reads D.memory D.fault D.spells (Self.schema constraints.now (D.levels decoder.old)) Self.value decoder.old result decoder.new }
-        ensures again { D.failed decoder.old ≡ true → IsErrAnd result (λ e. D.already e decoder.old) }
-        ensures fails { OnErr result (D.failed decoder.new ≡ true) }
-        ensures kept { D.codec decoder.new ≡ D.codec decoder.old }
+        ensures { Reads D.rules (Self.schema constraints.now (D.rules.levels decoder.old)) Self.value decoder.old result decoder.new }
     {
         Self::decode_with_tag_and_constraints(decoder, Self::TAG, constraints)
     }

@@ -1,12 +1,12 @@
 //! Records by the lists of their components.
 
-ghost use Rattle.std.specs.Prelude.{◌≡◌, ℕ, suc, true, max, OnErr, IsErrAnd, List, [], ◌∷◌, Option, Some};
+ghost use Rattle.std.specs.Prelude.{◌≡◌, ℕ, suc, max, List, [], ◌∷◌, Option, Some, refl};
 ghost use Rattle.rasn_types.specs.Values.{Value};
-ghost use Rattle.rasn_schema.specs.Schemas.{Parts, no_parts, part, required};
-ghost use Rattle.rasn_schema.specs.Normal.{normals};
-ghost use Rattle.rasn_schema.specs.Records.{AtParts, own_or};
+ghost use Rattle.rasn_schema.specs.Schemas.{TagTree, Presence, Schema, Parts, no_parts, part, required};
+ghost use Rattle.rasn_schema.specs.Records.{own_or};
 ghost use Rattle.rasn_schema.specs.Fields.{tagged};
-ghost use Rattle.rasn_codec.specs.Scopes.{WritesParts, AnswersParts};
+ghost use Rattle.rasn_codec.specs.Scopes.{WritesParts, TakesParts};
+ghost use Rattle.rasn_codec.specs.Rests.{ToWrite, ToRead};
 
 use crate::codec::{Decode, Decoder, Encode, Encoder};
 use rasn_schema::schema::Constraints;
@@ -24,12 +24,12 @@ pub trait EncodeParts {
     // How many levels they take.
     ghost levels: { Self → ℕ };
 
+    // How many they are.
+    ghost count: { ℕ };
+
     /// Writes the components in turn.
     fn encode_parts<E: Encoder>(&self, encoder: &mut E) -> Result<(), E::Error>
-        ensures law { AtParts (Self.parts self.now) (Self.levels self.now)
-            (λ ps. WritesParts E.memory E.presents E.refuses ps (normals ps (Self.contents self.now)) encoder.old result encoder.new) }
-        ensures fails { OnErr result (E.failed encoder.new ≡ true) }
-        ensures kept { E.codec encoder.new ≡ E.codec encoder.old };
+        ensures { WritesParts E.rules (Self.parts self.now) (Self.levels self.now) (Self.contents self.now) encoder.old result encoder.new };
 }
 
 /// Components of a record that are still to be read, in their order.
@@ -43,11 +43,56 @@ pub trait DecodeParts {
     // What values of them are.
     ghost contents: { Self.Values → List (Option Value) };
 
+    // How many they are.
+    ghost count: { ℕ };
+
     /// Reads the components in turn.
     fn decode_parts<D: Decoder>(&self, decoder: &mut D) -> Result<Self::Values, D::Error>
-        ensures law { AnswersParts D.memory D.fault D.spells (Self.parts self.now (D.levels decoder.old)) Self.contents decoder.old result decoder.new }
-        ensures fails { OnErr result (D.failed decoder.new ≡ true) }
-        ensures kept { D.codec decoder.new ≡ D.codec decoder.old };
+        ensures { TakesParts D.rules (Self.parts self.now) Self.contents decoder.old result decoder.new };
+}
+
+/// Components of a record that are still to be written, of which there is a first.
+pub trait EncodeFirst: EncodeParts {
+    // The first: its tags, whether it may be absent, its schema to a number of levels, what it is, and how many levels it takes.
+    ghost tags: { Self → TagTree };
+
+    ghost presence: { Presence };
+
+    ghost schema: { Self → ℕ → Schema };
+
+    ghost content: { Self → Option Value };
+
+    ghost depth: { Self → ℕ };
+
+    // Those behind it.
+    ghost behind: { Self → ToWrite };
+
+    // These are all.
+    ghost all_parts: { (p : Self) → (n : ℕ) → Self.parts p n ≡ part (tags p) presence (schema p n) ((behind p).parts n) };
+
+    ghost all_contents: { (p : Self) → Self.contents p ≡ content p ∷ (behind p).contents };
+
+    ghost all_levels: { (p : Self) → Self.levels p ≡ max (depth p) ((behind p).levels) };
+
+    ghost all_count: { (p : Self) → Self.count ≡ suc ((behind p).count) };
+}
+
+/// Components of a record that are still to be read, of which there is a first.
+pub trait DecodeFirst: DecodeParts {
+    // The first: its tags, whether it may be absent, and its schema to a number of levels.
+    ghost tags: { Self → TagTree };
+
+    ghost presence: { Presence };
+
+    ghost schema: { Self → ℕ → Schema };
+
+    // Those behind it.
+    ghost behind: { Self → ToRead };
+
+    // These are all.
+    ghost all_parts: { (p : Self) → (n : ℕ) → Self.parts p n ≡ part (tags p) presence (schema p n) ((behind p).parts n) };
+
+    ghost all_count: { (p : Self) → Self.count ≡ suc ((behind p).count) };
 }
 
 /// The end of the components.
@@ -86,6 +131,8 @@ impl EncodeParts for End {
 
     ghost levels = { λ p. 0 };
 
+    ghost count = { 0 };
+
     #[tactic(auto, unfolding(rasn_schema::specs::Normal::normal))]
     fn encode_parts<E: Encoder>(&self, encoder: &mut E) -> Result<(), E::Error> {
         let _ = encoder;
@@ -100,6 +147,8 @@ impl<'a, H: Encode, N: EncodeParts> EncodeParts for Required<&'a H, N> {
 
     ghost levels = { λ p. max (H.levels p.value.now) (N.levels p.next) };
 
+    ghost count = { suc N.count };
+
     fn encode_parts<E: Encoder>(&self, encoder: &mut E) -> Result<(), E::Error> {
         let own = H::CONSTRAINTS;
         let constraints = given_or_own(&self.constraints, &own);
@@ -109,12 +158,36 @@ impl<'a, H: Encode, N: EncodeParts> EncodeParts for Required<&'a H, N> {
     }
 }
 
+impl<'a, H: Encode, N: EncodeParts> EncodeFirst for Required<&'a H, N> {
+    ghost tags = { λ p. tagged p.tag };
+
+    ghost presence = { required };
+
+    ghost schema = { λ p. H.schema (own_or H.CONSTRAINTS p.constraints) };
+
+    ghost content = { λ p. Some (H.value p.value.now) };
+
+    ghost depth = { λ p. H.levels p.value.now };
+
+    ghost behind = { λ p. record { parts = N.parts p.next; contents = N.contents p.next; levels = N.levels p.next; count = N.count } };
+
+    ghost all_parts = { λ p n. refl };
+
+    ghost all_contents = { λ p. refl };
+
+    ghost all_levels = { λ p. refl };
+
+    ghost all_count = { λ p. refl };
+}
+
 impl DecodeParts for End {
     type Values = ();
 
     ghost parts = { λ p n. no_parts };
 
     ghost contents = { λ values. [] };
+
+    ghost count = { 0 };
 
     fn decode_parts<D: Decoder>(&self, decoder: &mut D) -> Result<(), D::Error> {
         let _ = decoder;
@@ -129,6 +202,8 @@ impl<H: Decode, N: DecodeParts> DecodeParts for Required<PhantomData<H>, N> {
 
     ghost contents = { λ values. Some (H.value values.0) ∷ N.contents values.1 };
 
+    ghost count = { suc N.count };
+
     fn decode_parts<D: Decoder>(&self, decoder: &mut D) -> Result<(H, N::Values), D::Error> {
         let own = H::CONSTRAINTS;
         let constraints = given_or_own(&self.constraints, &own);
@@ -136,4 +211,18 @@ impl<H: Decode, N: DecodeParts> DecodeParts for Required<PhantomData<H>, N> {
         let next = self.next.decode_parts(decoder)?;
         Ok((value, next))
     }
+}
+
+impl<H: Decode, N: DecodeParts> DecodeFirst for Required<PhantomData<H>, N> {
+    ghost tags = { λ p. tagged p.tag };
+
+    ghost presence = { required };
+
+    ghost schema = { λ p. H.schema (own_or H.CONSTRAINTS p.constraints) };
+
+    ghost behind = { λ p. record { parts = N.parts p.next; count = N.count } };
+
+    ghost all_parts = { λ p n. refl };
+
+    ghost all_count = { λ p. refl };
 }

@@ -1,5 +1,5 @@
 -- What a fresh decoder reads, and how the reading ends, is what octets are read as.
-use Rattle.std.proofs.Common.{◌≡◌, ◌≢◌, refl, sym, ap, ◌∙◌, subst, ℕ, false, List, ◌⊎◌, inl, inr, ◌%◌, ◌*◌, length, arith, Result, Ok, Err}
+use Rattle.std.proofs.Common.{◌≡◌, ◌≢◌, refl, sym, ap, ◌∙◌, subst, ℕ, false, List, ◌⊎◌, inl, inr, ◌%◌, ◌*◌, length, arith, Result, Err}
 use Rattle.std.specs.Prelude.{IfErr}
 use Rattle.rasn_types.specs.Bits.{Bits, AreOctets, unpack}
 use Rattle.rasn_types.specs.Codecs.{variant_of}
@@ -17,7 +17,6 @@ use Rattle.per_core.proofs.Filling.{fills_read, fills_back}
 use Rattle.per_de.specs.State.{State, Options, Spells, with_bits}
 use Rattle.per_de.specs.Faults.{Fault, refusal}
 use Rattle.per_read.specs.declared.error.DecodeError.{DecodeError}
-use Rattle.per_read.specs.declared.error.DecodeErrorKind.{DecodeErrorKind}
 use Rattle.per_read.specs.declared.error.DecodeErrorKind.TheVariants.{OutOfMemory}
 use Rattle.rasn_per.specs.Whole.{basically, AreReadAs, AreUnread}
 

@@ -1,5 +1,5 @@
 -- What the kind of a refused reading says of the octets.
-use Rattle.std.proofs.Common.{◌≡◌, refl, sym, ap, subst, ℕ, List, ◌⊎◌, inl, inr, length, Result, Ok, Err}
+use Rattle.std.proofs.Common.{◌≡◌, refl, sym, ap, subst, ℕ, List, ◌⊎◌, inl, inr, Result, Err}
 use Rattle.std.specs.Prelude.{IfErr}
 use Rattle.rasn_types.specs.Bits.{Bits}
 use Rattle.rasn_types.specs.Codecs.{variant_of}
@@ -11,7 +11,6 @@ use Rattle.per_core.specs.Ends.{IsWhy}
 use Rattle.per_core.specs.Spellings.{Settings}
 use Rattle.per_core.specs.declared.ended.Surplus.{Surplus}
 use Rattle.per_core.specs.declared.ended.Surplus.TheVariants.{Missing, NonzeroOctet, ExtraOctets}
-use Rattle.per_core.proofs.Filling.{fills_read}
 use Rattle.per_de.specs.State.{State, Spells}
 use Rattle.per_de.specs.Faults.{IsAt, IsInBits, at_once, inside, IsInParts, here, later, IsOf, Fault, refusal}
 use Rattle.per_read.specs.declared.error.DecodeError.{DecodeError}

@@ -12,7 +12,7 @@ ghost use Rattle.per_write.specs.Faults.{IsInValue};
 ghost use Rattle.rasn_per.specs.Whole.{AreBytes, HasNoBytes, AreReadAs, AreUnread};
 ghost use Rattle.rasn_per.specs.Kinds.{IsInOctets, kind_of};
 
-use per_bits::BitList;
+use per_bits::BitReader;
 use per_core::ended::{Surplus, ended};
 use per_de::error::{DecodeError, DecodeErrorKind, ParserFailCause};
 use per_de::{Decoder, DecoderOptions};
@@ -49,12 +49,11 @@ pub fn decode<T: Decode>(alloc: Global, octets: &[u8]) -> Result<T, DecodeError>
     ensures kind { IfErr result (λ e. IsInOctets unaligned (T.schema T.CONSTRAINTS) octets.now e.kind) }
     ensures variant { IfErr result (λ e. e.codec ≡ Uper) }
 {
-    let Ok(bits) = BitList::from_octets(alloc, octets) else {
-        return Err(refusal(DecodeErrorKind::OutOfMemory));
-    };
-    let mut decoder = Decoder::new(alloc, &bits, DecoderOptions::unaligned());
+    let bits = BitReader::from_octets(octets);
+    let total = bits.len();
+    let mut decoder = Decoder::from_reader(alloc, bits, DecoderOptions::unaligned());
     let value = T::decode(&mut decoder)?;
-    match ended(&decoder.input(), bits.len()) {
+    match ended(&decoder.input(), total) {
         Ok(()) => Ok(value),
         Err(surplus) => Err(refusal(kind_of_surplus(surplus))),
     }

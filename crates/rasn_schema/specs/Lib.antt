@@ -1,3 +1,4 @@
+pub mod Components
 pub mod Depth
 pub mod Families
 pub mod Fields

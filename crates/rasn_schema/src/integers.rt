@@ -9,7 +9,7 @@ ghost use Rattle.rasn_schema.specs.Forms.{number_schema, always, simple_unfolds}
 use crate::schema::AsnType;
 use rasn_constraints::constraints::{Bounded, Constraint, Constraints, Extensible};
 use rasn_types::big::Integer;
-use rasn_types::types::{Identifier, Tag};
+use rasn_types::types::Tag;
 
 const I8_RANGE: &[Constraint] = &[Constraint::Value(Extensible {
     constraint: Bounded::Range {
@@ -26,13 +26,9 @@ impl AsnType for i8 {
 
     ghost CONSTRAINTS = { within (signed_range 8) };
 
-    const IDENTIFIER: Identifier = Identifier::EMPTY;
-
     ghost schema = { λ c. always (number_schema c (signed_range 8)) };
 
     ghost value = { whole };
-
-    ghost levels = { λ _. 0 };
 
     ghost unfolds = { λ c. simple_unfolds (number_schema c (signed_range 8)) tt };
 }
@@ -52,13 +48,9 @@ impl AsnType for i16 {
 
     ghost CONSTRAINTS = { within (signed_range 16) };
 
-    const IDENTIFIER: Identifier = Identifier::EMPTY;
-
     ghost schema = { λ c. always (number_schema c (signed_range 16)) };
 
     ghost value = { whole };
-
-    ghost levels = { λ _. 0 };
 
     ghost unfolds = { λ c. simple_unfolds (number_schema c (signed_range 16)) tt };
 }
@@ -78,13 +70,9 @@ impl AsnType for i32 {
 
     ghost CONSTRAINTS = { within (signed_range 32) };
 
-    const IDENTIFIER: Identifier = Identifier::EMPTY;
-
     ghost schema = { λ c. always (number_schema c (signed_range 32)) };
 
     ghost value = { whole };
-
-    ghost levels = { λ _. 0 };
 
     ghost unfolds = { λ c. simple_unfolds (number_schema c (signed_range 32)) tt };
 }
@@ -104,13 +92,9 @@ impl AsnType for i64 {
 
     ghost CONSTRAINTS = { within (signed_range 64) };
 
-    const IDENTIFIER: Identifier = Identifier::EMPTY;
-
     ghost schema = { λ c. always (number_schema c (signed_range 64)) };
 
     ghost value = { whole };
-
-    ghost levels = { λ _. 0 };
 
     ghost unfolds = { λ c. simple_unfolds (number_schema c (signed_range 64)) tt };
 }
@@ -122,13 +106,9 @@ impl AsnType for i128 {
 
     ghost CONSTRAINTS = { no_constraints };
 
-    const IDENTIFIER: Identifier = Identifier::EMPTY;
-
     ghost schema = { λ c. always (number_schema c i128_range) };
 
     ghost value = { whole };
-
-    ghost levels = { λ _. 0 };
 
     ghost unfolds = { λ c. simple_unfolds (number_schema c i128_range) tt };
 }
@@ -148,13 +128,9 @@ impl AsnType for u8 {
 
     ghost CONSTRAINTS = { within (unsigned_range 8) };
 
-    const IDENTIFIER: Identifier = Identifier::EMPTY;
-
     ghost schema = { λ c. always (number_schema c (unsigned_range 8)) };
 
     ghost value = { λ n. whole (pos n) };
-
-    ghost levels = { λ _. 0 };
 
     ghost unfolds = { λ c. simple_unfolds (number_schema c (unsigned_range 8)) tt };
 }
@@ -174,13 +150,9 @@ impl AsnType for u16 {
 
     ghost CONSTRAINTS = { within (unsigned_range 16) };
 
-    const IDENTIFIER: Identifier = Identifier::EMPTY;
-
     ghost schema = { λ c. always (number_schema c (unsigned_range 16)) };
 
     ghost value = { λ n. whole (pos n) };
-
-    ghost levels = { λ _. 0 };
 
     ghost unfolds = { λ c. simple_unfolds (number_schema c (unsigned_range 16)) tt };
 }
@@ -200,13 +172,9 @@ impl AsnType for u32 {
 
     ghost CONSTRAINTS = { within (unsigned_range 32) };
 
-    const IDENTIFIER: Identifier = Identifier::EMPTY;
-
     ghost schema = { λ c. always (number_schema c (unsigned_range 32)) };
 
     ghost value = { λ n. whole (pos n) };
-
-    ghost levels = { λ _. 0 };
 
     ghost unfolds = { λ c. simple_unfolds (number_schema c (unsigned_range 32)) tt };
 }
@@ -226,13 +194,9 @@ impl AsnType for u64 {
 
     ghost CONSTRAINTS = { within (unsigned_range 64) };
 
-    const IDENTIFIER: Identifier = Identifier::EMPTY;
-
     ghost schema = { λ c. always (number_schema c (unsigned_range 64)) };
 
     ghost value = { λ n. whole (pos n) };
-
-    ghost levels = { λ _. 0 };
 
     ghost unfolds = { λ c. simple_unfolds (number_schema c (unsigned_range 64)) tt };
 }
@@ -244,13 +208,9 @@ impl AsnType for Integer {
 
     ghost CONSTRAINTS = { no_constraints };
 
-    const IDENTIFIER: Identifier = Identifier::EMPTY;
-
     ghost schema = { λ c. always (number_schema c unbounded) };
 
     ghost value = { whole };
-
-    ghost levels = { λ _. 0 };
 
     ghost unfolds = { λ c. simple_unfolds (number_schema c unbounded) tt };
 }

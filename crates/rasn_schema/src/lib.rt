@@ -1,11 +1,14 @@
 //! How types state their schemas.
 #![tactic(auto)]
 
+pub mod components;
 pub mod fields;
 pub mod integers;
+mod macros;
 pub mod octets;
 pub mod plain;
 pub mod schema;
 pub mod strings;
 
 pub use rasn_constraints::{constraints, limits};
+pub use rasn_types::types;

@@ -8,7 +8,7 @@ ghost use Rattle.rasn_schema.specs.Forms.{octet_schema, bit_schema, always, simp
 use crate::schema::{AsnType, Constraints};
 use rasn_types::bit_string::BitString;
 use rasn_types::octet_strings::{Any, OctetString};
-use rasn_types::types::{Identifier, Tag};
+use rasn_types::types::Tag;
 
 impl AsnType for OctetString {
     const TAG: Tag = Tag::OCTET_STRING;
@@ -17,13 +17,9 @@ impl AsnType for OctetString {
 
     ghost CONSTRAINTS = { no_constraints };
 
-    const IDENTIFIER: Identifier = Identifier::EMPTY;
-
     ghost schema = { λ c. always (octet_schema c) };
 
     ghost value = { octets };
-
-    ghost levels = { λ _. 0 };
 
     ghost unfolds = { λ c. simple_unfolds (octet_schema c) tt };
 }
@@ -35,13 +31,9 @@ impl AsnType for BitString {
 
     ghost CONSTRAINTS = { no_constraints };
 
-    const IDENTIFIER: Identifier = Identifier::EMPTY;
-
     ghost schema = { λ c. always (bit_schema c) };
 
     ghost value = { bits };
-
-    ghost levels = { λ _. 0 };
 
     ghost unfolds = { λ c. simple_unfolds (bit_schema c) tt };
 }
@@ -53,13 +45,9 @@ impl AsnType for Any {
 
     ghost CONSTRAINTS = { no_constraints };
 
-    const IDENTIFIER: Identifier = Identifier::EMPTY;
-
     ghost schema = { λ _. always Schema.any };
 
     ghost value = { octets };
-
-    ghost levels = { λ _. 0 };
 
     ghost unfolds = { λ _. simple_unfolds Schema.any tt };
 }

@@ -6,7 +6,7 @@ ghost use Rattle.rasn_constraints.specs.Ranges.{no_constraints};
 ghost use Rattle.rasn_schema.specs.Forms.{always, simple_unfolds};
 
 use crate::schema::{AsnType, Constraints};
-use rasn_types::types::{Identifier, Tag};
+use rasn_types::types::Tag;
 
 impl AsnType for bool {
     const TAG: Tag = Tag::BOOL;
@@ -15,13 +15,9 @@ impl AsnType for bool {
 
     ghost CONSTRAINTS = { no_constraints };
 
-    const IDENTIFIER: Identifier = Identifier::EMPTY;
-
     ghost schema = { λ _. always Schema.boolean };
 
     ghost value = { truth };
-
-    ghost levels = { λ _. 0 };
 
     ghost unfolds = { λ _. simple_unfolds Schema.boolean tt };
 }
@@ -33,13 +29,9 @@ impl AsnType for () {
 
     ghost CONSTRAINTS = { no_constraints };
 
-    const IDENTIFIER: Identifier = Identifier::EMPTY;
-
     ghost schema = { λ _. always Schema.null };
 
     ghost value = { λ _. nothing };
-
-    ghost levels = { λ _. 0 };
 
     ghost unfolds = { λ _. simple_unfolds Schema.null tt };
 }

@@ -21,8 +21,8 @@ pub trait AsnType {
 
     ghost CONSTRAINTS: { Constraints };
 
-    /// The name of the type, where it has one.
-    const IDENTIFIER: Identifier;
+    /// The name of the type, where it has one: none, if the type says nothing.
+    const IDENTIFIER: Identifier = Identifier::EMPTY;
 
     // The schema under constraints, to a number of levels.
     ghost schema: { Constraints → ℕ → Schema };
@@ -30,8 +30,8 @@ pub trait AsnType {
     // The value that a value of the type is.
     ghost value: { Self → Value };
 
-    // How many levels a value takes: at each unfolding that is as deep, none of it is cut off.
-    ghost levels: { Self → ℕ };
+    // How many levels a value takes: at each unfolding that is as deep, none of it is cut off. A type with no parts takes none.
+    ghost levels: { Self → ℕ } = { λ _. 0 };
 
     // Each unfolding is the next one cut off, and every value is held by some unfolding.
     ghost unfolds: { (c : Constraints) → Unfolds (schema c) };

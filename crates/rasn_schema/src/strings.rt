@@ -16,7 +16,7 @@ use rasn_strings::strings::{
     BmpString, Ia5String, NumericString, PrintableString, StaticPermittedAlphabet, VisibleString,
 };
 use rasn_types::octet_strings::{GeneralString, GraphicString, TeletexString, Utf8String};
-use rasn_types::types::{Codec, Identifier, Tag};
+use rasn_types::types::{Codec, Tag};
 
 /// The alphabet of a string type under the first permitted alphabet of constraints: those of its characters that are
 /// permitted, with their codes. An extensible one isn't visible (X.691 30.4).
@@ -42,13 +42,9 @@ impl AsnType for VisibleString {
 
     ghost CONSTRAINTS = { no_constraints };
 
-    const IDENTIFIER: Identifier = Identifier::EMPTY;
-
     ghost schema = { λ c. always (character_schema visible c) };
 
     ghost value = { characters };
-
-    ghost levels = { λ _. 0 };
 
     ghost unfolds = { λ c. simple_unfolds (character_schema visible c) tt };
 }
@@ -60,13 +56,9 @@ impl AsnType for Ia5String {
 
     ghost CONSTRAINTS = { no_constraints };
 
-    const IDENTIFIER: Identifier = Identifier::EMPTY;
-
     ghost schema = { λ c. always (character_schema ia5 c) };
 
     ghost value = { characters };
-
-    ghost levels = { λ _. 0 };
 
     ghost unfolds = { λ c. simple_unfolds (character_schema ia5 c) tt };
 }
@@ -78,13 +70,9 @@ impl AsnType for PrintableString {
 
     ghost CONSTRAINTS = { no_constraints };
 
-    const IDENTIFIER: Identifier = Identifier::EMPTY;
-
     ghost schema = { λ c. always (character_schema printable c) };
 
     ghost value = { characters };
-
-    ghost levels = { λ _. 0 };
 
     ghost unfolds = { λ c. simple_unfolds (character_schema printable c) tt };
 }
@@ -96,13 +84,9 @@ impl AsnType for NumericString {
 
     ghost CONSTRAINTS = { no_constraints };
 
-    const IDENTIFIER: Identifier = Identifier::EMPTY;
-
     ghost schema = { λ c. always (character_schema numeric c) };
 
     ghost value = { characters };
-
-    ghost levels = { λ _. 0 };
 
     ghost unfolds = { λ c. simple_unfolds (character_schema numeric c) tt };
 }
@@ -114,13 +98,9 @@ impl AsnType for BmpString {
 
     ghost CONSTRAINTS = { no_constraints };
 
-    const IDENTIFIER: Identifier = Identifier::EMPTY;
-
     ghost schema = { λ c. always (character_schema bmp c) };
 
     ghost value = { characters };
-
-    ghost levels = { λ _. 0 };
 
     ghost unfolds = { λ c. simple_unfolds (character_schema bmp c) tt };
 }
@@ -132,13 +112,9 @@ impl AsnType for Utf8String {
 
     ghost CONSTRAINTS = { no_constraints };
 
-    const IDENTIFIER: Identifier = Identifier::EMPTY;
-
     ghost schema = { λ _. always (Schema.text utf8) };
 
     ghost value = { λ s. octets (string_bytes s) };
-
-    ghost levels = { λ _. 0 };
 
     ghost unfolds = { λ _. simple_unfolds (Schema.text utf8) tt };
 }
@@ -150,13 +126,9 @@ impl AsnType for GeneralString {
 
     ghost CONSTRAINTS = { no_constraints };
 
-    const IDENTIFIER: Identifier = Identifier::EMPTY;
-
     ghost schema = { λ _. always (Schema.text other) };
 
     ghost value = { octets };
-
-    ghost levels = { λ _. 0 };
 
     ghost unfolds = { λ _. simple_unfolds (Schema.text other) tt };
 }
@@ -168,13 +140,9 @@ impl AsnType for GraphicString {
 
     ghost CONSTRAINTS = { no_constraints };
 
-    const IDENTIFIER: Identifier = Identifier::EMPTY;
-
     ghost schema = { λ _. always (Schema.text other) };
 
     ghost value = { octets };
-
-    ghost levels = { λ _. 0 };
 
     ghost unfolds = { λ _. simple_unfolds (Schema.text other) tt };
 }
@@ -186,13 +154,9 @@ impl AsnType for TeletexString {
 
     ghost CONSTRAINTS = { no_constraints };
 
-    const IDENTIFIER: Identifier = Identifier::EMPTY;
-
     ghost schema = { λ _. always (Schema.text other) };
 
     ghost value = { octets };
-
-    ghost levels = { λ _. 0 };
 
     ghost unfolds = { λ _. simple_unfolds (Schema.text other) tt };
 }

@@ -42,8 +42,6 @@ impl AsnType for Flagged {
 
     ghost CONSTRAINTS = { no_constraints };
 
-    const IDENTIFIER: Identifier = Identifier::EMPTY;
-
     ghost schema = { λ _. record_at listed (λ n. part (leaf (record { class = 2; number = 0 })) required Schema.boolean (part (leaf (record { class = 2; number = 1 })) required (number_schema (within (between (pos 0) (pos 256))) i128_range) no_parts)) false no_additions };
 
     ghost value = { λ x. record_value (Some (truth x.flag) ∷ Some (whole x.number) ∷ []) [] };

@@ -84,7 +84,7 @@ fn names_its_refusals(rt: HostRuntime) {
 fn names_want_of_memory(rt: HostRuntime) -> Result<(), Fail> {
     let mut refused = 0;
     let mut written = 0;
-    for size in 4..64_usize {
+    for size in 1..64_usize {
         let heap = LocalHeap::new(rt.alloc(), 16 * size)?;
         match encode(&heap, &4096_i128) {
             Ok(octets) => {
@@ -116,13 +116,9 @@ impl AsnType for Speed {
 
     ghost CONSTRAINTS = { no_constraints };
 
-    const IDENTIFIER: Identifier = Identifier::EMPTY;
-
     ghost schema = { λ c. always (number_schema c i128_range) };
 
     ghost value = { λ s. whole s.metres_a_second };
-
-    ghost levels = { λ _. 0 };
 
     ghost unfolds = { λ c. simple_unfolds (number_schema c i128_range) tt };
 }
@@ -183,13 +179,9 @@ impl AsnType for MinusOneTo254 {
 
     ghost CONSTRAINTS = { within (between (negsuc 0) (pos 254)) };
 
-    const IDENTIFIER: Identifier = Identifier::EMPTY;
-
     ghost schema = { λ c. always (number_schema c (unsigned_range 8)) };
 
     ghost value = { λ x. whole (pos x.0) };
-
-    ghost levels = { λ _. 0 };
 
     ghost unfolds = { λ c. simple_unfolds (number_schema c (unsigned_range 8)) tt };
 }

@@ -1,11 +1,12 @@
 use Rattle.std.proofs.Common.{refl, ap, ◌∙◌}
-use Rattle.per_de.proofs.Calls.{faulty}
+use Rattle.per_de.proofs.Calls.{took_value, refused, faulty}
 use Rattle.per_de.proofs.StringCalls.{reads_other, faulty_other}
 use Rattle.per_de.proofs.DecoderDecoder.decode_graphic_string.Goals as goal
 
-pub returns-in-Ok-clause-law : goal.returns-in-Ok-clause-law
-returns-in-Ok-clause-law c =
-    rw (c.new.ensures, ← c.self.view_is) (record { live = ap (λ z. z.failed) c.self.view_is ∙ c.in_ok-check_unfailed.ensures.ok; took = reads_other _ _ c.in-Ok.ensures.ok; same = refl })
+pub returns-in-Ok : goal.returns-in-Ok
+returns-in-Ok c =
+    rw (c.new.ensures, ← c.self.view_is) (took_value _ _ _ _ _ (ap (λ z. z.failed) c.self.view_is ∙ c.in_ok-check_unfailed.ensures.ok) (reads_other _ _ c.in-Ok.ensures.ok) refl)
 
-pub returns-in-Err-clause-law : goal.returns-in-Err-clause-law
-returns-in-Err-clause-law c = rw (← c.self.view_is) (faulty _ _ c.in-Err.kind _ c.refuse.ensures.error (faulty_other _ _ c.in-Err.kind c.in-Err.ensures.err))
+pub returns-in-Err : goal.returns-in-Err
+returns-in-Err c =
+    rw (← c.self.view_is) (refused _ _ _ _ _ _ _ (ap (λ z. z.failed) c.self.view_is ∙ c.in_ok-check_unfailed.ensures.ok) c.refuse.ensures.state (faulty _ _ c.in-Err.kind _ c.refuse.ensures.error (faulty_other _ _ c.in-Err.kind c.in-Err.ensures.err)))

@@ -9,10 +9,15 @@ use Rattle.per_write.proofs.Fragments.{octets_in_a_row}
 use Rattle.per_write.proofs.Writing.{wrote_same}
 use Rattle.per_write.proofs.Writer.put_bare_octets.Goals as goal
 
-pub returns-clause-ok : goal.returns-clause-ok
-returns-clause-ok g c =
+pub returns : goal.returns
+returns g c =
     let x = c.args.self.now in
     let y = c.unless_out_of_memory.new.self in
     let os = c.args.octets.now in
     let written : OnOk c.unless_out_of_memory.result (Wrote x (just (unpack os)) y) = search rules in
-    on_ok_weaker _ (wrote_same x y (just (unpack os)) (in_a_row (octet_writers os)) (λ p. sym (octets_in_a_row os (λ k. (c.type_inv.octets k).fits) p))) written
+    record {
+      ok = on_ok_weaker _ (wrote_same x y (just (unpack os)) (in_a_row (octet_writers os)) (λ p. sym (octets_in_a_row os (λ k. (c.type_inv.octets k).fits) p))) written;
+      err = search rules;
+      fails = search rules;
+      kept = search rules;
+    }

@@ -1,4 +1,4 @@
-use Rattle.std.proofs.Common.{◌≡◌, ◌∙◌, ◌&&◌, ltb}
+use Rattle.std.proofs.Common.{◌≡◌, ◌∙◌, ◌&&◌, ltb, rules}
 use Rattle.std.proofs.lemmas.Result.{on_ok_weaker}
 use Rattle.rasn_types.specs.Codecs.{variant_of}
 use Rattle.rasn_types.specs.Variants.{Variant}
@@ -19,9 +19,9 @@ put_bounded_count-requires-clause-upper g c =
     let a = variant_of c.args.self.now.codec in
     allowed_most c.args.lower c.args.upper c.in-Some-Some.lower _ _ _ c.in-Some-Some.is-0 c.in-Some-Some.is-1 (c.len-count.ensures a) (c.requires.within a)
 
-pub returns-in_ok-put_bounded_count-in-Some-Some-clause-ok :
-    goal.returns-in_ok-put_bounded_count-in-Some-Some-clause-ok
-returns-in_ok-put_bounded_count-in-Some-Some-clause-ok g c =
+pub returns-in_ok-put_bounded_count-in-Some-Some :
+    goal.returns-in_ok-put_bounded_count-in-Some-Some
+returns-in_ok-put_bounded_count-in-Some-Some g c =
     let x = c.args.self.now in
     let a = variant_of x.codec in
     let on_octet = is_aligned (g.I.Items.kind c.args.items.now) c.in-Some-Some.lower c.in-Some-Some.upper in
@@ -30,6 +30,11 @@ returns-in_ok-put_bounded_count-in-Some-Some-clause-ok g c =
       | then-count-gt0 w ↦ pads_some c.len-count.result c.if-count-gt0.on_octet on_octet w.if-count-gt0.true (w.on_octet-is ∙ w.is_aligned-on_octet.ensures)
       | else-count-gt0 w ↦ pads_none c.len-count.result c.if-count-gt0.on_octet on_octet w.if-count-gt0.false w.on_octet-is
     ] in
-    on_ok_weaker _ (wrote_bounded (λ (b : Variant). g.I.Items.writers b c.args.items.now) (g.I.Items.kind c.args.items.now) x c.put_bounded_count.new.self c.put.new.writer c.args.lower c.args.upper
-    c.in-Some-Some.lower c.in-Some-Some.upper c.len-count.result c.if-count-gt0.on_octet c.in-Some-Some.is-0 c.in-Some-Some.is-1 (c.len-count.ensures a) c.if-upper-lt65536.true (c.requires.within a) pads c.in_ok-put_bounded_count-in-Some-Some.ensures.ok)
-    c.put.ensures.ok
+    record {
+      ok = on_ok_weaker _ (wrote_bounded (λ (b : Variant). g.I.Items.writers b c.args.items.now) (g.I.Items.kind c.args.items.now) x c.put_bounded_count.new.self c.put.new.writer c.args.lower c.args.upper
+          c.in-Some-Some.lower c.in-Some-Some.upper c.len-count.result c.if-count-gt0.on_octet c.in-Some-Some.is-0 c.in-Some-Some.is-1 (c.len-count.ensures a) c.if-upper-lt65536.true (c.requires.within a) pads c.in_ok-put_bounded_count-in-Some-Some.ensures.ok)
+          c.put.ensures.ok;
+      err = search rules;
+      fails = search rules;
+      kept = search rules;
+    }

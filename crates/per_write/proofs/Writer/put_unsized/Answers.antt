@@ -1,4 +1,4 @@
-use Rattle.std.proofs.Common.{◌≡◌, ◌+◌, ◌-◌, ◌*◌, ◌/◌, arith}
+use Rattle.std.proofs.Common.{◌≡◌, ◌+◌, ◌-◌, ◌*◌, ◌/◌, arith, rules}
 use Rattle.std.proofs.lemmas.Result.{on_ok_weaker}
 use Rattle.rasn_types.specs.Codecs.{variant_of}
 use Rattle.rasn_types.specs.Variants.{Variant}
@@ -21,9 +21,14 @@ loop-start-preserved g c =
 pub loop-start-smaller : goal.loop-start-smaller
 loop-start-smaller g c = omega arith
 
-pub returns-clause-ok : goal.returns-clause-ok
-returns-clause-ok g c =
+pub returns : goal.returns
+returns g c =
     let x = c.args.self.now in
-    on_ok_weaker _ (last_written (λ (a : Variant). g.I.Items.writers a c.args.items.now) (g.I.Items.kind c.args.items.now) x c.loop-start.self c.put_row-2.new.self c.loop-start.start c.len-count.result
-    (c.len-count.ensures (variant_of x.codec)) (omega arith) c.loop-start.invariant.within (omega arith) c.loop-start.invariant.written)
-    c.put_row-2.ensures.ok
+    record {
+      ok = on_ok_weaker _ (last_written (λ (a : Variant). g.I.Items.writers a c.args.items.now) (g.I.Items.kind c.args.items.now) x c.loop-start.self c.put_row-2.new.self c.loop-start.start c.len-count.result
+          (c.len-count.ensures (variant_of x.codec)) (omega arith) c.loop-start.invariant.within (omega arith) c.loop-start.invariant.written)
+          c.put_row-2.ensures.ok;
+      err = search rules;
+      fails = search rules;
+      kept = search rules;
+    }

@@ -1,11 +1,16 @@
-use Rattle.std.proofs.Common.{refl, inl}
+use Rattle.std.proofs.Common.{refl, inl, rules}
 use Rattle.std.proofs.lemmas.Result.{on_ok_weaker}
 use Rattle.rasn_types.specs.Codecs.{variant_of}
 use Rattle.per_write.proofs.Constrained.{under_none}
 use Rattle.per_write.proofs.Writing.{wrote_same}
 use Rattle.per_write.proofs.Writer.put_within.Goals as goal
 
-pub returns-in-None-None-clause-ok : goal.returns-in-None-None-clause-ok
-returns-in-None-None-clause-ok g c =
-    rw (← c.start_and_end-lower.ensures.start, ← c.start_and_end-lower.ensures.end, c.in-None-None.is-0, c.in-None-None.is-1)
-    (on_ok_weaker _ (wrote_same c.args.self.now _ _ _ (under_none (variant_of c.args.self.now.codec) _ (g.I.IntegerType.number c.args.value.now) (inl refl))) c.put_whole.ensures.ok)
+pub returns-in-None-None : goal.returns-in-None-None
+returns-in-None-None g c =
+    record {
+      ok = rw (← c.start_and_end-lower.ensures.start, ← c.start_and_end-lower.ensures.end, c.in-None-None.is-0, c.in-None-None.is-1)
+          (on_ok_weaker _ (wrote_same c.args.self.now _ _ _ (under_none (variant_of c.args.self.now.codec) _ (g.I.IntegerType.number c.args.value.now) (inl refl))) c.put_whole.ensures.written.ok);
+      err = search rules;
+      fails = search rules;
+      kept = search rules;
+    }

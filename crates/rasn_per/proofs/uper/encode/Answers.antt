@@ -1,9 +1,8 @@
 use Rattle.std.proofs.lemmas.Result.{err_from_is_err_and}
-use Rattle.std.proofs.Common.{◌≡◌, ◌∙◌, ap, Err}
+use Rattle.std.proofs.Common.{◌∙◌, ap, Err}
 use Rattle.rasn_types.specs.declared.types.Codec.{Codec}
 use Rattle.rasn_types.specs.declared.types.Codec.TheVariants.{Uper}
 use Rattle.std.specs.Prelude.{false, []}
-use Rattle.per_write.specs.State.{State}
 use Rattle.rasn_per.proofs.Encoded.{encoded, refused}
 use Rattle.rasn_per.proofs.uper.encode.Goals as goal
 

@@ -1,4 +1,4 @@
-use Rattle.std.proofs.Common.{◌≡◌, ◌∙◌, sym, inr, ◌<◌, length, arith, ℕ, Some, None, subst}
+use Rattle.std.proofs.Common.{◌≡◌, ◌∙◌, sym, inr, ◌<◌, length, arith, ℕ, Some, None, subst, rules}
 use Rattle.std.specs.Prelude.{slice_get}
 use Rattle.rasn_types.specs.Alphabets.{char_code, char_width}
 use Rattle.rasn_types.specs.Bits.{to_bits}
@@ -28,15 +28,20 @@ loop-index-preserved g c =
     (subst (λ (n : ℕ). Wrote c.loop-index.writer (just (to_bits (char_width a.variant a.characters) n)) c.put_bits.new.self) c.from.ensures
     (subst (λ (w : ℕ). Wrote c.loop-index.writer (just (to_bits w c.from.result)) c.put_bits.new.self) width c.in_ok-put_bits.ensures.ok))
 
-pub returns-in_default-clause-err : goal.returns-in_default-clause-err
-returns-in_default-clause-err g c =
+pub returns-in_default : goal.returns-in_default
+returns-in_default g c =
     let a = c.args.self.now.alphabet in
     let cs = g.S.StaticPermittedAlphabet.characters c.args.self.now.string.now in
     let i = c.loop-index.index in
     let place : slice_get cs i ≡ Some c.unwrap-character.result = sym c.character.ensures.value ∙ c.unwrap-character.ensures in
     let code : char_code a.variant a.characters c.unwrap-character.result ≡ None = sym c.encode.ensures.code ∙ c.in_default.is in
-    inr (record {
-      refused = character_refused a cs i c.unwrap-character.result place code;
-      stands = (c.refuse.ensures.error.kind_is, character_foreign a cs i c.unwrap-character.result place code);
-      codec_is = c.refuse.ensures.error.codec_is ∙ c.loop-index.invariant.same;
-    })
+    record {
+      ok = search rules;
+      err = inr (record {
+        refused = character_refused a cs i c.unwrap-character.result place code;
+        stands = (c.refuse.ensures.error.kind_is, character_foreign a cs i c.unwrap-character.result place code);
+        codec_is = c.refuse.ensures.error.codec_is ∙ c.loop-index.invariant.same;
+      });
+      fails = search rules;
+      kept = search rules;
+    }

@@ -1,5 +1,5 @@
 use Rattle.std.specs.Prelude.{OnOk}
-use Rattle.std.proofs.Common.{◌≤◌, length, subst, List, arith}
+use Rattle.std.proofs.Common.{◌≤◌, length, subst, List, arith, rules}
 use Rattle.rasn_types.specs.Variants.{unaligned}
 use Rattle.per_core.specs.Writers.{Writer, in_a_row}
 use Rattle.per_write.specs.State.{Wrote}
@@ -13,6 +13,11 @@ slice_bounds-put_bare_octets-end g c =
     let bound : c.args.end ≤ length c.args.self.now.0.now = omega arith in
     bound
 
-pub returns-clause-ok : goal.returns-clause-ok
-returns-clause-ok g c =
-    subst (λ (ws : List Writer). OnOk c.put_bare_octets.result (Wrote c.args.writer.now (in_a_row ws) c.put_bare_octets.new.self)) (octets_between c.args.self.now.0.now c.args.start c.args.end) c.put_bare_octets.ensures.ok
+pub returns : goal.returns
+returns g c =
+    record {
+      ok = subst (λ (ws : List Writer). OnOk c.put_bare_octets.result (Wrote c.args.writer.now (in_a_row ws) c.put_bare_octets.new.self)) (octets_between c.args.self.now.0.now c.args.start c.args.end) c.put_bare_octets.ensures.ok;
+      err = search rules;
+      fails = search rules;
+      kept = search rules;
+    }

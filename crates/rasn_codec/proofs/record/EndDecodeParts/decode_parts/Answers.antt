@@ -1,5 +1,6 @@
+use Rattle.std.proofs.Common.{rules}
 use Rattle.rasn_codec.specs.Scopes.{reads_end}
 use Rattle.rasn_codec.proofs.record.EndDecodeParts.decode_parts.Goals as goal
 
-pub returns-clause-law : goal.returns-clause-law
-returns-clause-law g c = reads_end
+pub returns : goal.returns
+returns g c = record { law = reads_end; fails = search rules; kept = search rules }

@@ -10,14 +10,14 @@ use Rattle.per_samples_a.proofs.pair.fn.PairDecode.decode_with_tag_and_constrain
 pub returns-in_err-a : goal.returns-in_err-a
 returns-in_err-a g c =
     let p = err_from_is_err_and c.from_residual.result c.from_residual.ensures.1 in
-    record { law = rw (p.1, p.2) (fails_required g.met.D.Decoder.lawful c.in_err-a.ensures.law); kept = c.in_err-a.ensures.kept }
+    record { law = rw (p.1, p.2) (fails_required g.met.D.Decoder.lawful c.in_err-a.ensures.law); kept = c.in_err-a.ensures.behaves.kept }
 
 pub returns-in_err-b : goal.returns-in_err-b
 returns-in_err-b g c =
     let p = err_from_is_err_and c.from_residual-in_err-b.result c.from_residual-in_err-b.ensures.1 in
     record {
       law = rw (p.1, p.2) (fails_behind g.met.D.Decoder.lawful (reads_required c.in_ok-a.ensures.law) (fails_required g.met.D.Decoder.lawful c.in_err-b.ensures.law));
-      kept = c.in_err-b.ensures.kept ∙ c.in_ok-a.ensures.kept;
+      kept = c.in_err-b.ensures.behaves.kept ∙ c.in_ok-a.ensures.behaves.kept;
     }
 
 pub returns : goal.returns
@@ -25,5 +25,5 @@ returns g c =
     let in_range : SFits w128 c.in_ok-b.b = search rules in
     record {
       law = rw (to_z-of_z w128 c.in_ok-b.b in_range) (required_read _ c.in_ok-a.ensures.law (required_read _ c.in_ok-b.ensures.law reads_end));
-      kept = c.in_ok-b.ensures.kept ∙ c.in_ok-a.ensures.kept;
+      kept = c.in_ok-b.ensures.behaves.kept ∙ c.in_ok-a.ensures.behaves.kept;
     }

@@ -1,0 +1,54 @@
+ghost use Rattle.rasn_types.specs.Values.{whole};
+ghost use Rattle.rasn_constraints.specs.Ranges.{i128_range, no_constraints};
+ghost use Rattle.rasn_schema.specs.Forms.{always, number_schema, simple_unfolds};
+
+use rasn_codec::codec::{Decode, Decoder, Encode, Encoder};
+use rasn_schema::schema::{AsnType, Constraints};
+use rasn_types::types::{Identifier, Tag};
+
+#[derive(Clone, Copy)]
+pub struct Speed {
+    pub metres_a_second: i128,
+}
+
+impl AsnType for Speed {
+    const TAG: Tag = Tag::INTEGER;
+
+    const CONSTRAINTS: Constraints = Constraints::NONE;
+
+    ghost CONSTRAINTS = { no_constraints };
+
+    const IDENTIFIER: Identifier = Identifier::EMPTY;
+
+    ghost schema = { λ c. always (number_schema c i128_range) };
+
+    ghost value = { λ s. whole s.metres_a_second };
+
+    ghost levels = { λ _. 0 };
+
+    ghost unfolds = { λ c. simple_unfolds (number_schema c i128_range) tt };
+}
+
+impl Encode for Speed {
+    #[tactic(auto, unfolding(rasn_schema::specs::Normal::normal))]
+    fn encode_with_tag_and_constraints<E: Encoder>(
+        &self,
+        encoder: &mut E,
+        tag: Tag,
+        constraints: &Constraints,
+        identifier: Identifier,
+    ) -> Result<(), E::Error> {
+        encoder.encode_integer(tag, constraints, &self.metres_a_second, identifier)
+    }
+}
+
+impl Decode for Speed {
+    fn decode_with_tag_and_constraints<D: Decoder>(
+        decoder: &mut D,
+        tag: Tag,
+        constraints: &Constraints,
+    ) -> Result<Speed, D::Error> {
+        let metres_a_second = decoder.decode_integer(tag, constraints)?;
+        Ok(Speed { metres_a_second })
+    }
+}

@@ -1,0 +1,187 @@
+-- What one octet more, or one number more, makes of a word and of octets.
+use Rattle.std.proofs.Common.{zero, suc, ◌≡◌, sym, ap, ap₂, ◌∙◌, subst, ℕ, ◌+◌, ◌-◌, ◌*◌, ◌/◌, ◌%◌, ◌^◌, ◌<◌, ◌≤◌, false, List, [], ◌∷◌, ◌++◌, length, take, drop, replicate, get_or, arith, pow_pos, pow-add, mod-eq_of_lt, mod-lt, append_assoc, append-nil, length-append, bit_or, mul_assoc}
+use Rattle.std.proofs.lemmas.List.{set_split, drop_all, take_at, take-replicate, take_more, take_all}
+use Rattle.std.proofs.lemmas.Nat.{mul-le, shl_whole, or_shifted, shl_below, shr_below, shr-shr}
+use Rattle.std.proofs.Math.Seq.{take-append-add}
+use Rattle.std.proofs.Math.Nat.{add-mul}
+use Rattle.std.specs.Int.{w64, to_be_bytes}
+use Rattle.std.proofs.Math.ListN.{set}
+use Rattle.rasn_types.specs.Bits.{AreOctets, Bits, to_bits, unpack}
+use Rattle.rasn_types.proofs.Bits.{length-to_bits, length-unpack, unpack-append, to_bits-same, to_bits-split}
+use Rattle.per_bits.specs.Octets.{word_size, first_word, filled}
+use Rattle.per_bits.proofs.Readers.{filled_all}
+use Rattle.per_bits.proofs.Words.{word_size-is, to_bits-join, to_bits-zeros, unpack-bytes, unpack-take, first_word-part, part_bits}
+
+-- ---- a number below a power, and another behind it
+
+pub behind : (x y i k : ℕ) → x < 2 ^ i → y < 2 ^ k → x * 2 ^ k + y < 2 ^ (i + k)
+behind x y i k h l = let m : (x + 1) * 2 ^ k ≤ 2 ^ i * 2 ^ k = mul-le (x + 1) (2 ^ k) (2 ^ i) (2 ^ k) (omega arith) (omega arith) in
+    let a : (x + 1) * 2 ^ k ≡ x * 2 ^ k + 1 * 2 ^ k = add-mul x 1 (2 ^ k) in omega (arith, pow-add 2 i k)
+
+pub put_behind : (w x y i k : ℕ) → x < 2 ^ i → y < 2 ^ k → i + k ≤ w → bit_or (x * 2 ^ k % 2 ^ w) y ≡ x * 2 ^ k + y
+put_behind w x y i k h l e = ap (λ (m : ℕ). bit_or m y) (shl_whole x i k w h e) ∙ or_shifted x k y l
+
+-- ---- fewer octets than a word has
+
+pub octet_more : (os : List ℕ) (i w o : ℕ) → i < length os → o ≡ get_or os i 0 → w < 2 ^ (8 * i) → o < 2 ^ 8 → to_bits (8 * i) w ≡ unpack (take i os) →
+    (to_bits (8 * (i + 1)) (w * 2 ^ 8 + o) ≡ unpack (take (i + 1) os)) × (w * 2 ^ 8 + o < 2 ^ (8 * (i + 1)))
+octet_more os i w o h e l s b = (bits, subst (λ (n : ℕ). w * 2 ^ 8 + o < 2 ^ n) further (behind w o (8 * i) 8 l s))
+  where
+    further : 8 * i + 8 ≡ 8 * (i + 1)
+    further = omega arith
+
+    bits : to_bits (8 * (i + 1)) (w * 2 ^ 8 + o) ≡ unpack (take (i + 1) os)
+    bits = ap (λ (n : ℕ). to_bits n (w * 2 ^ 8 + o)) (sym further) ∙ to_bits-join (8 * i) 8 w o s ∙ ap₂ (λ bs (m : ℕ). bs ++ to_bits 8 m) b e
+        ∙ ap (λ bs. unpack (take i os) ++ bs) (sym (append-nil (to_bits 8 (get_or os i 0)))) ∙ sym (unpack-append (take i os) (get_or os i 0 ∷ [])) ∙ ap unpack (sym (take_more os i 0 h))
+
+pub octets_all : (os : List ℕ) (n w : ℕ) → n ≡ length os → n < 8 → w < 2 ^ (8 * n) → to_bits (8 * n) w ≡ unpack (take n os) → to_bits word_size (w * 2 ^ 8 % 2 ^ 64 * 2 ^ (56 - 8 * n) % 2 ^ 64) ≡ first_word os
+octets_all os n w e h l b = ap (λ (m : ℕ). to_bits word_size (m * 2 ^ (56 - 8 * n) % 2 ^ 64)) (shl_whole w (8 * n) 8 64 l (omega arith))
+    ∙ ap (to_bits word_size) (shl_whole (w * 2 ^ 8) (8 * n + 8) (56 - 8 * n) 64 (shl_below w (8 * n) 8 l) (omega arith) ∙ moved)
+    ∙ ap (λ (m : ℕ). to_bits m (w * 2 ^ (64 - 8 * n) + 0)) (let i : word_size ≡ 8 * n + (64 - 8 * n) = omega (arith, word_size-is) in i)
+    ∙ to_bits-join (8 * n) (64 - 8 * n) w 0 (pow_pos (64 - 8 * n)) ∙ ap₂ (λ bs cs. bs ++ cs) (b ∙ ap unpack (take_all n os (omega arith))) (to_bits-zeros (64 - 8 * n) ∙ ap (λ (m : ℕ). replicate (64 - 8 * m) false) e)
+    ∙ sym (first_word-part os (omega arith))
+  where
+    moved : w * 2 ^ 8 * 2 ^ (56 - 8 * n) ≡ w * 2 ^ (64 - 8 * n) + 0
+    moved = mul_assoc w (2 ^ 8) (2 ^ (56 - 8 * n)) ∙ ap (λ (m : ℕ). w * m) (sym (pow-add 2 8 (56 - 8 * n)) ∙ ap (λ (m : ℕ). 2 ^ m) (let i : 8 + (56 - 8 * n) ≡ 64 - 8 * n = omega arith in i)) ∙ omega arith
+
+-- ---- what `part` answers
+
+pub part_is : (s c w r : ℕ) (os : List ℕ) → s < 8 → c ≤ 56 → s + c ≤ 8 * length os → to_bits word_size w ≡ first_word os → r ≡ w / 2 / 2 ^ (63 - s - c) % 2 ^ c → to_bits c r ≡ take c (drop s (unpack os))
+part_is s c w r os h f l e i = to_bits-same c r (w / 2 ^ (64 - s - c)) (ap (λ (m : ℕ). m % 2 ^ c) i ∙ mod-eq_of_lt (mod-lt (w / 2 / 2 ^ (63 - s - c)) (pow_pos c)) ∙ ap (λ (m : ℕ). m % 2 ^ c) (shr-shr w 1 (63 - s - c) ∙ ap (λ (m : ℕ). w / 2 ^ m) (omega arith))) ∙ part_bits s c w os (omega arith) l e
+
+-- ---- one number more
+
+-- the last octet has the last of the bits
+pub last_filled : (spare : ℕ) (ps : List ℕ) (last : ℕ) → spare < 8 → filled spare (ps ++ last ∷ []) ≡ unpack ps ++ to_bits (8 - spare) (last / 2 ^ spare)
+last_filled spare ps last h = ap₂ (λ (n : ℕ) bs. take n bs) (let e : 8 * length (ps ++ last ∷ []) - spare ≡ length (unpack ps) + (8 - spare) = omega (arith, length-append ps (last ∷ []), length-unpack ps) in e) (unpack-append ps (last ∷ []))
+    ∙ take-append-add (unpack ps) (unpack (last ∷ [])) (8 - spare) ∙ ap (λ bs. unpack ps ++ bs) high
+  where
+    high : take (8 - spare) (to_bits 8 last ++ []) ≡ to_bits (8 - spare) (last / 2 ^ spare)
+    high = ap (λ bs. take (8 - spare) bs) (append-nil (to_bits 8 last) ∙ ap (λ (n : ℕ). to_bits n last) (let e : 8 ≡ (8 - spare) + spare = omega arith in e) ∙ to_bits-split (8 - spare) spare last)
+        ∙ take_at (to_bits (8 - spare) (last / 2 ^ spare)) (to_bits spare last) (8 - spare) (length-to_bits (8 - spare) (last / 2 ^ spare))
+
+-- the word of some bits, a number behind them, and zeros
+word_bits : (used width value bits low word : ℕ) → used < 8 → width ≤ 56 → bits < 2 ^ used → low ≡ value % 2 ^ width →
+    word ≡ bit_or (bits * 2 ^ width % 2 ^ 64) low * 2 % 2 ^ 64 * 2 ^ (63 - (used + width)) % 2 ^ 64 →
+    to_bits word_size word ≡ (to_bits used bits ++ to_bits width value) ++ replicate (64 - (used + width)) false
+word_bits used width value bits low word h f l e w = ap (to_bits word_size) (w ∙ ap (λ (m : ℕ). m * 2 % 2 ^ 64 * 2 ^ (63 - all) % 2 ^ 64) (put_behind 64 bits low used width l small (omega arith))
+    ∙ ap (λ (m : ℕ). m * 2 ^ (63 - all) % 2 ^ 64) (shl_whole both all 1 64 below (omega arith)) ∙ shl_whole (both * 2) (all + 1) (63 - all) 64 (shl_below both all 1 below) (omega arith) ∙ moved)
+    ∙ ap (λ (m : ℕ). to_bits m (both * 2 ^ (64 - all) + 0)) (let i : word_size ≡ all + (64 - all) = omega (arith, word_size-is) in i)
+    ∙ to_bits-join all (64 - all) both 0 (pow_pos (64 - all)) ∙ ap₂ (λ bs cs. bs ++ cs) (to_bits-join used width bits low small ∙ ap (λ bs. to_bits used bits ++ bs) low_bits) (to_bits-zeros (64 - all))
+  where
+    all : ℕ
+    all = used + width
+
+    both : ℕ
+    both = bits * 2 ^ width + low
+
+    small : low < 2 ^ width
+    small = let m = mod-lt value (pow_pos width) in omega arith
+
+    below : both < 2 ^ all
+    below = behind bits low used width l small
+
+    low_bits : to_bits width low ≡ to_bits width value
+    low_bits = to_bits-same width low value (ap (λ (m : ℕ). m % 2 ^ width) e ∙ mod-eq_of_lt (mod-lt value (pow_pos width)))
+
+    moved : both * 2 * 2 ^ (63 - all) ≡ both * 2 ^ (64 - all) + 0
+    moved = mul_assoc both 2 (2 ^ (63 - all)) ∙ ap (λ (m : ℕ). both * m) (sym (pow-add 2 1 (63 - all)) ∙ ap (λ (m : ℕ). 2 ^ m) (let i : 1 + (63 - all) ≡ 64 - all = omega arith in i)) ∙ omega arith
+
+pub appended : (ps qs bytes : List ℕ) (used width value bits low word whole n : ℕ) → used < 8 → width ≤ 56 → bits < 2 ^ used → low ≡ value % 2 ^ width →
+    word ≡ bit_or (bits * 2 ^ width % 2 ^ 64) low * 2 % 2 ^ 64 * 2 ^ (63 - (used + width)) % 2 ^ 64 → bytes ≡ to_be_bytes w64 word →
+    used + width ≤ 8 * whole → whole ≤ 8 → n ≡ length ps → qs ≡ take (n + whole) (ps ++ bytes) →
+    unpack qs ≡ (unpack ps ++ to_bits used bits ++ to_bits width value) ++ replicate (8 * whole - (used + width)) false
+appended ps qs bytes used width value bits low word whole n h f l e w b a z k t = ap unpack (t ∙ ap (λ (m : ℕ). take (m + whole) (ps ++ bytes)) k ∙ take-append-add ps bytes whole) ∙ unpack-append ps (take whole bytes)
+    ∙ ap (λ bs. unpack ps ++ bs) (sym (unpack-take whole bytes) ∙ ap (λ bs. take (8 * whole) bs) (ap unpack b ∙ unpack-bytes 8 word ∙ ap (λ (m : ℕ). to_bits m word) (sym word_size-is) ∙ word_bits used width value bits low word h f l e w)
+    ∙ ap (λ (m : ℕ). take m (mine ++ replicate (64 - all) false)) (let i : 8 * whole ≡ length mine + (8 * whole - all) = omega (arith, mine_length) in i)
+    ∙ take-append-add mine (replicate (64 - all) false) (8 * whole - all) ∙ ap (λ bs. mine ++ bs) (take-replicate (8 * whole - all) (64 - all) false (omega arith)))
+    ∙ sym (append_assoc (unpack ps) mine (replicate (8 * whole - all) false)) ∙ ap (λ bs. bs ++ replicate (8 * whole - all) false) (sym (append_assoc (unpack ps) (to_bits used bits) (to_bits width value)))
+  where
+    all : ℕ
+    all = used + width
+
+    mine : Bits
+    mine = to_bits used bits ++ to_bits width value
+
+    mine_length : length mine ≡ all
+    mine_length = length-append (to_bits used bits) (to_bits width value) ∙ ap₂ (λ (i j : ℕ). i + j) (length-to_bits used bits) (length-to_bits width value)
+
+-- octets and a word's first bits, which are what octets are filled with
+pub record AreFront (spare used bits : ℕ) (ps os : List ℕ) : Type 0 where
+  pub same : unpack ps ++ to_bits used bits ≡ filled spare os
+  pub few : used < 8
+  pub below : bits < 2 ^ used
+
+pub front_popped : (spare used bits last : ℕ) (ps os : List ℕ) → 0 < spare → spare < 8 → last < 2 ^ 8 → os ≡ ps ++ last ∷ [] → used ≡ 8 - spare → bits ≡ last / 2 ^ spare → AreFront spare used bits ps os
+front_popped spare used bits last ps os h l f e u b = record {
+  same = ap₂ (λ (m n : ℕ). unpack ps ++ to_bits m n) u b ∙ sym (ap (filled spare) e ∙ last_filled spare ps last l);
+  few = omega arith;
+  below = subst (λ (n : ℕ). bits < 2 ^ n) (sym u) (subst (λ (n : ℕ). n < 2 ^ (8 - spare)) (sym b) (shr_below last (8 - spare) spare (subst (λ (n : ℕ). last < 2 ^ n) (let i : 8 ≡ 8 - spare + spare = omega arith in i) f)));
+}
+
+pub front_whole : (spare used bits : ℕ) (ps os : List ℕ) → spare ≡ 0 → used ≡ 0 → bits ≡ 0 → ps ≡ os → AreFront spare used bits ps os
+front_whole spare used bits ps os h u b e = record {
+  same = ap₂ (λ (m n : ℕ). unpack ps ++ to_bits m n) u b ∙ append-nil (unpack ps) ∙ ap unpack e ∙ sym (ap (λ (n : ℕ). filled n os) h ∙ filled_all os);
+  few = omega arith;
+  below = subst (λ (n : ℕ). bits < 2 ^ n) (sym u) (omega arith);
+}
+
+-- ---- a number put into the last octet
+
+last_is : (os : List ℕ) (n : ℕ) → length os ≡ n + 1 → os ≡ take n os ++ get_or os n 0 ∷ []
+last_is os n e = sym (sym (take_more os n 0 (omega arith)) ∙ take_all (n + 1) os (omega arith))
+
+set_last : (os : List ℕ) (n v : ℕ) → length os ≡ n + 1 → set os n v ≡ take n os ++ v ∷ []
+set_last os n v e = set_split os n v (omega arith) ∙ ap (λ qs. take n os ++ v ∷ qs) (drop_all (suc n) os (omega arith))
+
+pub record Put (spare width value v n : ℕ) (os : List ℕ) : Type 0 where
+  pub fits : v < 2 ^ 8
+  pub bits : unpack (set os n v) ≡ (filled spare os ++ to_bits width value) ++ replicate (spare - width) false
+
+pub put_last : (spare width value used low v n : ℕ) (os : List ℕ) → spare < 8 → width ≤ spare → length os ≡ n + 1 → get_or os n 0 < 2 ^ 8 → used ≡ get_or os n 0 / 2 ^ spare → low ≡ value % 2 ^ width →
+    v ≡ bit_or (used * 2 ^ width % 2 ^ 64) low * 2 ^ (spare - width) % 2 ^ 64 → Put spare width value v n os
+put_last spare width value used low v n os h f l s u e w = record {
+  fits = subst (λ (m : ℕ). m < 2 ^ 8) (sym is) (subst (λ (m : ℕ). both * 2 ^ rest < 2 ^ m) whole (shl_below both (mine + width) rest below));
+  bits = ap unpack (set_last os n v l) ∙ unpack-append (take n os) (v ∷ []) ∙ ap (λ bs. unpack (take n os) ++ bs) (append-nil (to_bits 8 v) ∙ octet)
+      ∙ sym (append_assoc (unpack (take n os)) (to_bits mine used ++ to_bits width value) (replicate rest false))
+      ∙ ap (λ bs. bs ++ replicate rest false) (sym (append_assoc (unpack (take n os)) (to_bits mine used) (to_bits width value)) ∙ ap (λ bs. bs ++ to_bits width value) front);
+}
+  where
+    mine : ℕ
+    mine = 8 - spare
+
+    rest : ℕ
+    rest = spare - width
+
+    both : ℕ
+    both = used * 2 ^ width + low
+
+    whole : mine + width + rest ≡ 8
+    whole = omega arith
+
+    used_below : used < 2 ^ mine
+    used_below = subst (λ (m : ℕ). m < 2 ^ mine) (sym u) (shr_below (get_or os n 0) mine spare (subst (λ (m : ℕ). get_or os n 0 < 2 ^ m) (let i : 8 ≡ mine + spare = omega arith in i) s))
+
+    small : low < 2 ^ width
+    small = let m = mod-lt value (pow_pos width) in omega arith
+
+    below : both < 2 ^ (mine + width)
+    below = behind used low mine width used_below small
+
+    is : v ≡ both * 2 ^ rest
+    is = w ∙ ap (λ (m : ℕ). m * 2 ^ rest % 2 ^ 64) (put_behind 64 used low mine width used_below small (omega arith)) ∙ shl_whole both (mine + width) rest 64 below (omega arith)
+
+    low_same : to_bits width low ≡ to_bits width value
+    low_same = to_bits-same width low value (ap (λ (m : ℕ). m % 2 ^ width) e ∙ mod-eq_of_lt (mod-lt value (pow_pos width)))
+
+    octet : to_bits 8 v ≡ (to_bits mine used ++ to_bits width value) ++ replicate rest false
+    octet = ap₂ to_bits (sym whole) (is ∙ (let i : both * 2 ^ rest ≡ both * 2 ^ rest + 0 = omega arith in i)) ∙ to_bits-join (mine + width) rest both 0 (pow_pos rest)
+        ∙ ap₂ (λ bs cs. bs ++ cs) (to_bits-join mine width used low small ∙ ap (λ bs. to_bits mine used ++ bs) low_same) (to_bits-zeros rest)
+
+    front : unpack (take n os) ++ to_bits mine used ≡ filled spare os
+    front = ap (λ (m : ℕ). unpack (take n os) ++ to_bits mine m) u ∙ sym (ap (filled spare) (last_is os n l) ∙ last_filled spare (take n os) (get_or os n 0) h)
+
+pub octet_below : (os : List ℕ) (i : ℕ) → AreOctets os → i < length os → get_or os i 0 < 2 ^ 8
+octet_below [] i h l = absurd (omega arith)
+octet_below (o ∷ os) zero h l = h.0
+octet_below (o ∷ os) (suc i) h l = octet_below os i h.1 (omega arith)

@@ -1,0 +1,25 @@
+-- Bits kept in octets, the highest bit of each first.
+use Rattle.std.specs.Prelude.{◌≡◌, ℕ, ◌+◌, ◌-◌, ◌*◌, ◌<◌, ◌≤◌, List, ◌++◌, length, take, replicate, false}
+use Rattle.rasn_types.specs.Bits.{Bits, unpack}
+
+-- how many bits a word has; no numeral, so that no proof lists them
+unfoldable pub word_size : ℕ
+word_size = 64
+
+-- the first bits of octets, as many as a word has, zeros behind them where there are fewer
+abbrev pub first_word : List ℕ → Bits
+first_word octets = take word_size (unpack octets ++ replicate word_size false)
+
+-- the bits of octets but for the last `spare` ones
+abbrev pub filled : ℕ → List ℕ → Bits
+filled spare octets = take (8 * length octets - spare) (unpack octets)
+
+-- fewer than eight bits are spare, and they are zeros
+pub record ArePadded (spare : ℕ) (octets : List ℕ) : Type 0 where
+  pub few : spare < 8
+  pub zeros : unpack octets ≡ filled spare octets ++ replicate spare false
+
+-- `count` bits stand in octets behind `skip` others
+pub record AreWithin (skip count : ℕ) (octets : List ℕ) : Type 0 where
+  pub few : skip < 8
+  pub enough : skip + count ≤ 8 * length octets

@@ -1,0 +1,15 @@
+-- The rules of an encoder that puts a value's canonical bits behind those that were written before.
+use Rattle.rasn_codec.specs.Calls.{EncoderRules}
+use Rattle.per_write.specs.declared.error.EncodeError.{EncodeError}
+use Rattle.per_write.specs.Faults.{IsMemory, IsAlready, RefusesValue}
+use Rattle.per_write.specs.State.{State, Presents}
+
+abbrev pub encoder_rules : EncoderRules EncodeError State
+encoder_rules = record {
+  presents = Presents;
+  refuses = RefusesValue;
+  memory = IsMemory;
+  already = IsAlready;
+  failed = λ x. x.failed;
+  codec = λ x. x.codec;
+}

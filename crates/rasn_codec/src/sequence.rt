@@ -1,0 +1,81 @@
+//! Records that are stated by one list of their components.
+
+ghost use Rattle.std.specs.Prelude.{length};
+ghost use Rattle.rasn_schema.specs.Components.{parts_of};
+ghost use Rattle.rasn_codec.specs.Scopes.{WritesParts, TakesParts};
+
+use crate::codec::{Decode, Decoder, Encode, Encoder};
+use crate::record::{DecodeParts, EncodeParts};
+use rasn_schema::components::Components;
+use rasn_schema::schema::Constraints;
+use rasn_types::types::{Identifier, Tag};
+use std::marker::PhantomData;
+
+/// The components of a SEQUENCE that can be encoded and decoded.
+pub trait Record: Components + Sized + Drop {
+    /// Writes the components in turn.
+    fn encode_components<E: Encoder>(&self, encoder: &mut E) -> Result<(), E::Error>
+        ensures { WritesParts E.rules (parts_of Self.components) (Self.depth self.now) (Self.Components.contents self.now) encoder.old result encoder.new };
+
+    /// Reads the components in turn.
+    fn decode_components<D: Decoder>(decoder: &mut D) -> Result<Self, D::Error>
+        ensures { TakesParts D.rules (parts_of Self.components) Self.Components.contents decoder.old result decoder.new };
+}
+
+/// The components of a record, to write them.
+#[derive(Drop)]
+struct Written<'a, T>(&'a T);
+
+impl<'a, T: Record> EncodeParts for Written<'a, T> {
+    ghost parts = { λ p. parts_of T.components };
+
+    ghost contents = { λ p. T.Components.contents p.0.now };
+
+    ghost levels = { λ p. T.depth p.0.now };
+
+    ghost count = { length T.components };
+
+    fn encode_parts<E: Encoder>(&self, encoder: &mut E) -> Result<(), E::Error> {
+        self.0.encode_components(encoder)
+    }
+}
+
+/// The components of a record, to read them.
+#[derive(Drop)]
+struct Read<T>(PhantomData<T>);
+
+impl<T: Record> DecodeParts for Read<T> {
+    type Values = T;
+
+    ghost parts = { λ p. parts_of T.components };
+
+    ghost contents = { T.Components.contents };
+
+    ghost count = { length T.components };
+
+    fn decode_parts<D: Decoder>(&self, decoder: &mut D) -> Result<T, D::Error> {
+        T::decode_components(decoder)
+    }
+}
+
+impl<T: Record> Encode for T {
+    fn encode_with_tag_and_constraints<E: Encoder>(
+        &self,
+        encoder: &mut E,
+        tag: Tag,
+        _: &Constraints,
+        identifier: Identifier,
+    ) -> Result<(), E::Error> {
+        encoder.encode_record::<T, _, _>(tag, &Written(self), identifier)
+    }
+}
+
+impl<T: Record> Decode for T {
+    fn decode_with_tag_and_constraints<D: Decoder>(
+        decoder: &mut D,
+        tag: Tag,
+        _: &Constraints,
+    ) -> Result<T, D::Error> {
+        decoder.decode_record::<T, _>(tag, &Read(PhantomData::<T>))
+    }
+}

@@ -1,0 +1,72 @@
+//! Records that are stated by one list of their components.
+
+ghost use Rattle.std.specs.Prelude.{◌≡◌, ℕ, suc, true, List, Option, refl};
+ghost use Rattle.std.proofs.Common.{◌∙◌};
+ghost use Rattle.rasn_constraints.specs.Ranges.{no_constraints};
+ghost use Rattle.rasn_types.specs.Values.{Value};
+ghost use Rattle.rasn_schema.specs.Fields.{Shape};
+ghost use Rattle.rasn_schema.specs.Components.{Component, parts_of, sequence_of, sequence_value, sequence_unfolds, fields_of, fields_described, all_present, parts_required};
+
+use crate::fields::{Constructed, Fields};
+use crate::schema::{AsnType, Constraints};
+use rasn_types::types::{Class, Identifier, Tag};
+
+/// The components of a SEQUENCE (X.680 25).
+pub trait Components {
+    /// The components, in their order.
+    const COMPONENTS: Fields;
+
+    ghost COMPONENTS: { List Shape };
+
+    // The components.
+    ghost components: { List Component };
+
+    // What the components of a value are, each absent or there.
+    ghost contents: { Self → List (Option Value) };
+
+    // How many levels the deepest component takes.
+    ghost depth: { Self → ℕ } = { λ _. 0 };
+
+    // The fields are those of the components.
+    ghost described: { COMPONENTS ≡ fields_of components };
+
+    // No component may be absent yet.
+    ghost all_required: { all_present components ≡ true };
+}
+
+impl<T: Components> AsnType for T {
+    const TAG: Tag = Tag {
+        class: Class::Universal,
+        value: 16,
+    };
+
+    const CONSTRAINTS: Constraints = Constraints::NONE;
+
+    ghost CONSTRAINTS = { no_constraints };
+
+    const IDENTIFIER: Identifier = Identifier::EMPTY;
+
+    ghost schema = { λ _. sequence_of T.components };
+
+    ghost value = { λ x. sequence_value (T.contents x) };
+
+    ghost levels = { λ x. suc (T.depth x) };
+
+    ghost unfolds = { λ _. sequence_unfolds T.components };
+}
+
+impl<T: Components> Constructed for T {
+    const FIELDS: Fields = T::COMPONENTS;
+
+    ghost FIELDS = { T.COMPONENTS };
+
+    ghost parts = { parts_of T.components };
+
+    ghost contents = { T.contents };
+
+    ghost described = { λ n. T.described ∙ fields_described T.components n };
+
+    ghost all_required = { λ n. parts_required T.components T.all_required n };
+
+    ghost is_record = { λ _. refl };
+}
