@@ -27,7 +27,7 @@ pub record InOctets (a : Settings) (n o p : ℕ) (bits : Bits) : Type 0 where
 -- X.691 11.5.6, 11.5.7: the o-th of n numbers, by the variant
 abbrev pub constrained_by : Variant → Settings → ℕ → ℕ → Spelling
 constrained_by unaligned a n o = Field (width n) o
-constrained_by aligned a n o = cond (nat_le n 255) (Field (width n) o) (cond (eqb n 256) (Then (AnyPadding a) (Field 8 o))
+constrained_by aligned a n o = cond (nat_le n 255) (Field (width n) o) (cond (n == 256) (Then (AnyPadding a) (Field 8 o))
     (cond (nat_le n 65536) (Then (AnyPadding a) (Field 16 o)) (InOctets a n o)))
 
 -- X.691 11.5.6, 11.5.7: the o-th of n numbers, by the settings
