@@ -73,12 +73,12 @@ inner-front s c n xs h = ap (λ (m : ℕ). take c (drop s (take m xs))) (let e :
 pub inner-append : (s c : ℕ) (xs ys : Bits) → s + c ≤ length xs → take c (drop s (xs ++ ys)) ≡ take c (drop s xs)
 inner-append s c xs ys h = ap (λ bs. take c bs) (drop-append-le s xs ys (omega arith)) ∙ take-append-le c (drop s xs) ys (omega (arith, length-drop s xs))
 
-pub first_word-whole : (os qs : List ℕ) → 8 ≤ length os → qs ≡ take 8 os → first_word os ≡ unpack qs
-first_word-whole os qs h e = ap (λ (n : ℕ). take n (unpack os ++ replicate word_size false)) word_size-is
+pub first_word-long : (os qs : List ℕ) → 8 ≤ length os → qs ≡ take 8 os → first_word os ≡ unpack qs
+first_word-long os qs h e = ap (λ (n : ℕ). take n (unpack os ++ replicate word_size false)) word_size-is
     ∙ take-append-le (8 * 8) (unpack os) (replicate word_size false) (omega (arith, length-unpack os)) ∙ unpack-take 8 os ∙ ap unpack (sym e)
 
-pub first_word-part : (os : List ℕ) → length os ≤ 8 → first_word os ≡ unpack os ++ replicate (64 - 8 * length os) false
-first_word-part os h = ap (λ (n : ℕ). take n (unpack os ++ replicate word_size false)) (let e : word_size ≡ length (unpack os) + (64 - 8 * length os) = omega (arith, word_size-is, length-unpack os) in e)
+pub first_word-short : (os : List ℕ) → length os ≤ 8 → first_word os ≡ unpack os ++ replicate (64 - 8 * length os) false
+first_word-short os h = ap (λ (n : ℕ). take n (unpack os ++ replicate word_size false)) (let e : word_size ≡ length (unpack os) + (64 - 8 * length os) = omega (arith, word_size-is, length-unpack os) in e)
     ∙ take-append-add (unpack os) (replicate word_size false) (64 - 8 * length os)
     ∙ ap (λ bs. unpack os ++ bs) (take-replicate (64 - 8 * length os) word_size false (omega (arith, word_size-is)))
 
