@@ -11,7 +11,7 @@ use Rattle.rasn_schema.specs.Records.{record_at, no_additions}
 use Rattle.per_samples_a.specs.Numbers.{at_least, at_most}
 use Rattle.per_samples_a.specs.Fours.{four_parts}
 use Rattle.per_samples_a.specs.Sevens.{seven_parts}
-use Rattle.rasn_per.specs.Whole.{AreBytes, HasNoBytes, AreReadAs, AreUnread}
+use Rattle.rasn_per.specs.Complete.{AreBytes, HasNoBytes, AreReadAs, AreUnread}
 use Rattle.rasn_per.specs.Kinds.{IsInOctets}
 use Rattle.per_write.specs.declared.error.EncodeErrorKind.TheVariants as Encoding
 use Rattle.per_read.specs.declared.error.DecodeErrorKind.TheVariants as Decoding

@@ -19,7 +19,7 @@ use rasn_types::octet_strings::OctetString;
 use std::alloc::Global;
 
 /// The canonical octets of the value that octets spell, of the type and in the variant that the arguments name.
-#[tactic(auto, unfolding(rasn_types::specs::Alphabets::row))]
+#[tactic(auto, unfolding(rasn_types::specs::Alphabets::interval_of))]
 pub fn recoded(alloc: Global, arguments: Arguments, octets: &[u8]) -> Result<Vec<u8>, Fault>
     ensures ok { IfOk result (λ canonical. Recodes (rules_of arguments.variant) (schema_of arguments.type_name) octets.now canonical.items) }
     ensures err { IfErr result (λ f. IsRefusal (rules_of arguments.variant) (schema_of arguments.type_name) octets.now f) }

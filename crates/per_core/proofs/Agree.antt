@@ -29,13 +29,13 @@ then_agree {P} {Q} {f} {f'} {g} {g'} w v = record { agree = λ p b c s t x y e. 
   where
     go : (p : ℕ) (b c s t : Bits) → Then f g p b → Then f' g' p c → b ++ s ≡ c ++ t → (P × Q) × (b ≡ c)
     go p b c s t x y e =
-        let e1 : x.front ++ (x.rest ++ s) ≡ y.front ++ (y.rest ++ t) = sym (append_assoc x.front x.rest s) ∙ ap (λ z. z ++ s) (sym x.whole) ∙ e ∙ ap (λ z. z ++ t) y.whole ∙ append_assoc y.front y.rest t in
+        let e1 : x.front ++ (x.rest ++ s) ≡ y.front ++ (y.rest ++ t) = sym (append_assoc x.front x.rest s) ∙ ap (λ z. z ++ s) (sym x.joins) ∙ e ∙ ap (λ z. z ++ t) y.joins ∙ append_assoc y.front y.rest t in
         let r = w.agree p x.front y.front (x.rest ++ s) (y.rest ++ t) x.is_front y.is_front e1 in
         let e2 : x.front ++ (x.rest ++ s) ≡ x.front ++ (y.rest ++ t) = e1 ∙ ap (λ z. z ++ (y.rest ++ t)) (sym r.1) in
         let e3 : x.rest ++ s ≡ y.rest ++ t = cancel x.front (x.rest ++ s) (y.rest ++ t) e2 in
         let y' : g' (after p x.front) y.rest = subst (λ z. g' (after p z) y.rest) (sym r.1) y.is_rest in
         let q = (v r.0).agree (after p x.front) x.rest y.rest s t x.is_rest y' e3 in
-        let e4 : b ≡ c = x.whole ∙ ap (λ z. z ++ x.rest) r.1 ∙ ap (λ z. y.front ++ z) q.1 ∙ sym y.whole in
+        let e4 : b ≡ c = x.joins ∙ ap (λ z. z ++ x.rest) r.1 ∙ ap (λ z. y.front ++ z) q.1 ∙ sym y.joins in
         ((r.0, q.0), e4)
 
 pub either_agree : {P : Type 0} {f f' g g' : Spelling} → Agree P f f' → Agree P f g' → Agree P g f' → Agree P g g' → Agree P (Either f g) (Either f' g')

@@ -9,10 +9,10 @@ use Rattle.rasn_constraints.specs.Bounds.{holds, Bounds, Size, any_size}
 use Rattle.rasn_schema.specs.Orders.{ordered, by_tags, insert_at, how_many_less}
 use Rattle.rasn_schema.specs.Schemas.{tags, Order, listed, by_tag, Tag, Schema, Parts, no_parts, part}
 use Rattle.per_core.specs.Basic
-use Rattle.per_core.specs.Basic.{Proper, As, Lengthy, octet, bit, Octets, Rule, Fields_in, Chosen, ExtensionBit, IsBounded, IsNumberOf, String, IsDay, basic, basic_in, rules_in}
+use Rattle.per_core.specs.Basic.{Proper, As, Lengthy, octet, bit, Octets, Rule, Fields_in, Chosen, ExtensionBit, IsConstrainedWhole, IsNumberOf, String, IsDay, basic, basic_in, rules_in}
 use Rattle.per_core.specs.Canon
 use Rattle.per_core.specs.Canon.{canon, members, Member, char_writers, chosen, choice_of, item_of, extension_bit, date_of, record_of, on_truth, on_nothing, on_octets, on_bits, on_whole, on_characters, on_elements, on_bag, on_fields, on_alternative, on_day, on_item}
-use Rattle.per_core.specs.Counts.{Counted, list_items, octet_items, bit_items, counted, octet_writers, bit_writers, octets_unsized, number_form, bounded}
+use Rattle.per_core.specs.Counts.{Counted, list_items, octet_items, bit_items, counted, octet_writers, bit_writers, unconstrained_octets, number_form, constrained_whole}
 use Rattle.per_core.specs.Spellings.{Settings, Spelling, exactly, Then}
 use Rattle.per_core.specs.Writers.{Writer, just, ◌▹◌, written_if}
 use Rattle.per_core.proofs.Bags.{bag_rearranged}
@@ -21,7 +21,7 @@ use Rattle.per_core.proofs.Counting.{counted_within}
 use Rattle.per_core.proofs.Numbers.{number_within, small_within}
 use Rattle.per_core.proofs.Presenting.{Pair, Pairs, record_within, open_within, octets_within}
 use Rattle.per_core.proofs.Strings.{string_within, day_within}
-use Rattle.per_core.proofs.Whole.{one_reading}
+use Rattle.per_core.proofs.Readings.{one_reading}
 use Rattle.per_core.proofs.Within.{Within, just_within, refused_within, then_within, if_within, relax, field_within, bounded_within}
 
 pub as_within : {X : Type 0} (make : X → Value) (spells : X → Spelling) (x : X) (v : Value) → v ≡ make x → {w : Writer} → Within w (spells x) → Within w (As make spells v)
@@ -72,7 +72,7 @@ bag_within a e spells size mark vs h = if_within (same (bag_of (values vs)) (bag
 alternative_within : (a : Settings) (ext : Bool) (ms adds : List Member) (rs ads : List Rule) → Pairs ms rs → Pairs adds ads → (d : Side) (i : ℕ) (v : Value) →
     Within (choice_of a.variant ext ms adds d i v) (Basic.Alternative a ext rs ads d i v)
 unfolding choice_of
-alternative_within a ext ms adds rs ads k k' root i v = bit_within ext false (then_within (subst (λ n. Within (bounded a.variant (length ms) i) (IsBounded a n i)) (pairs-length ms rs k) (bounded_within a (length ms) i)) (chosen_within ms rs k i v))
+alternative_within a ext ms adds rs ads k k' root i v = bit_within ext false (then_within (subst (λ n. Within (constrained_whole a.variant (length ms) i) (IsConstrainedWhole a n i)) (pairs-length ms rs k) (bounded_within a (length ms) i)) (chosen_within ms rs k i v))
 alternative_within a ext ms adds rs ads k k' added i v = bit_within ext true (then_within (small_within a i) (open_within a (chosen adds i v) (Chosen ads i v) (chosen_within adds ads k' i v)))
 
 item_within : (a : Settings) (r e : ℕ) (ext : Bool) (d : Side) (i : ℕ) → Within (item_of a.variant r e ext d i) (Basic.Item a r e ext d i)
@@ -83,7 +83,7 @@ item_within a r e ext added i = bit_within ext true (if_within (ltb i e) (λ h. 
 octet_each : (o : ℕ) → Within (written_if (ltb o 256) (just (to_bits 8 o))) (octet o)
 octet_each o = if_within (ltb o 256) (λ e. field_within 8 o (ltb-true o 256 e))
 
-octets_value : (a : Settings) (v : Value) → Within (on_octets (octets_unsized a.variant) v) (As Value.octets (Octets a) v)
+octets_value : (a : Settings) (v : Value) → Within (on_octets (unconstrained_octets a.variant) v) (As Value.octets (Octets a) v)
 octets_value a (Value.octets os) = as_within Value.octets (Octets a) os (Value.octets os) refl (octets_within a os)
 octets_value a _ = refused_within
 
@@ -122,7 +122,7 @@ strings_within : (a : Settings) (alphabet : List ℕ) (size : Size) (mark : Bool
 strings_within a alphabet size mark (characters cs) = as_within characters (String a alphabet size mark) cs (characters cs) refl (string_within a alphabet size mark cs)
 strings_within a alphabet size mark _ = refused_within
 
-proper_octets : (a : Settings) (ok : List ℕ → Bool) (v : Value) → Within (on_octets (λ os. written_if (ok os) (octets_unsized a.variant os)) v) (As Value.octets (Proper ok (Octets a)) v)
+proper_octets : (a : Settings) (ok : List ℕ → Bool) (v : Value) → Within (on_octets (λ os. written_if (ok os) (unconstrained_octets a.variant os)) v) (As Value.octets (Proper ok (Octets a)) v)
 proper_octets a ok (Value.octets os) = as_within Value.octets (Proper ok (Octets a)) os (Value.octets os) refl (if_within (ok os) (λ h. relax (λ p b x. (h, x)) (octets_within a os)))
 proper_octets a ok _ = refused_within
 

@@ -2,10 +2,10 @@
 use Rattle.std.proofs.Common.{◌≡◌, refl, sym, ap, ◌∙◌, subst, ℕ, zero, suc, ◌+◌, ◌-◌, ◌*◌, ◌/◌, ◌%◌, ◌<◌, ◌≤◌, Bool, true, false, cond, ◌&&◌, ltb, List, [], ◌∷◌, ◌++◌, map, length, take, drop, replicate, arith, Option, Some, None, ltb-true, append-nil, length-take, length-drop, take-append-drop, take_all, lt-ltb, le-ltb}
 use Rattle.rasn_types.specs.Bits.{Bits, to_bits}
 use Rattle.rasn_constraints.specs.Bounds.{allows, Size, any_size}
-use Rattle.per_core.specs.Basic.{Row, LastCount, Fragment, Unsized, PaddingIf, length_form, Sized, Lengthy}
-use Rattle.per_core.specs.Counts.{rows, unless_zero, determinant, in_rows, Counted, is_aligned, padding_if, counted_under, counted_in, marked_form, counted}
+use Rattle.per_core.specs.Basic.{OneByOne, LastCount, Fragment, UnconstrainedLength, PaddingIf, length_form, Sized, Lengthy}
+use Rattle.per_core.specs.Counts.{fragment_sizes, unless_zero, determinant, in_fragments, Counted, is_aligned, padding_if, counted_under, counted_in, marked_form, counted}
 use Rattle.per_core.specs.Spellings.{Settings, Spelling, exactly, Then, AnyPadding, Field}
-use Rattle.per_core.specs.Writers.{after, Writer, just, ◌▹◌, in_a_row, padding, written_if}
+use Rattle.per_core.specs.Writers.{after, Writer, just, ◌▹◌, one_by_one, padding, written_if}
 use Rattle.per_core.proofs.Within.{Within, just_within, then_within, if_within, cond_within, relax, left_within, right_within, when_within, field_within, padding_within, bounded_within}
 
 pub length-map' : {X Y : Type 0} (f : X → Y) (xs : List X) → length (map f xs) ≡ length xs
@@ -22,7 +22,7 @@ drop-map' f zero xs = refl
 drop-map' f (suc n) [] = refl
 drop-map' f (suc n) (x ∷ xs) = drop-map' f n xs
 
--- rows: fragments, and a last count below 16384
+-- fragment_sizes: fragments, and a last count below 16384
 abbrev Plan : List ℕ → ℕ → Type 0
 Plan [] n = ⊥
 Plan (m ∷ []) n = (m ≡ n) × (m < 16384)
@@ -39,7 +39,7 @@ last_count m h = cond_cases (ltb m 128) refl
         two : Within (just (to_bits 14 m)) (Field 14 m) → Within (just (true ∷ false ∷ to_bits 14 m)) (Then (exactly (true ∷ false ∷ [])) (Field 14 m))
         two w = record {
           within = λ p b e. let e' : true ∷ false ∷ to_bits 14 m ≡ b = cc in
-              record { front = true ∷ false ∷ []; rest = to_bits 14 m; is_front = refl; is_rest = w.within ((p + 2) % 8) (to_bits 14 m) refl; whole = sym e' };
+              record { front = true ∷ false ∷ []; rest = to_bits 14 m; is_front = refl; is_rest = w.within ((p + 2) % 8) (to_bits 14 m) refl; joins = sym e' };
         }
 
 fragment_count : (m j : ℕ) → 0 < j → j < 5 → m ≡ 16384 * j → Within (just (determinant m)) (Fragment m)
@@ -74,39 +74,39 @@ full_plan' : (k r : ℕ) (l : List ℕ) → Plan l r → Plan (replicate k 65536
 full_plan' k r [] h = absurd h
 full_plan' k r (m ∷ ms) h = full_plan k r m ms h
 
-planned : (n : ℕ) → Plan (rows n) n
-planned n = subst (λ k. Plan (rows n) k) (omega arith)
+planned : (n : ℕ) → Plan (fragment_sizes n) n
+planned n = subst (λ k. Plan (fragment_sizes n) k) (omega arith)
     (full_plan' (n / 65536) (n % 65536 / 16384 * 16384 + n % 16384) (unless_zero (n % 65536 / 16384 * 16384) ++ n % 16384 ∷ [])
     (last_plan (n % 65536 / 16384) (n % 16384) (omega arith) (omega arith)))
 
 then_nothing : {v : Writer} {f : Spelling} → Within v f → Within (v ▹ just []) f
 then_nothing {v} {f} h = record {
   within = λ p b e. let x = (then_within h (just_within [])).within p b e in
-      subst (f p) (sym (x.whole ∙ ap (λ z. x.front ++ z) x.is_rest ∙ append-nil x.front)) x.is_front;
+      subst (f p) (sym (x.joins ∙ ap (λ z. x.front ++ z) x.is_rest ∙ append-nil x.front)) x.is_front;
 }
 
 length-taken : {X : Type 0} (m : ℕ) (xs : List X) → m ≤ length xs → length (take m xs) ≡ m
 length-taken m xs h = simp length-take (omega arith)
 
 module _ {X : Type 0} (w : X → Writer) (f : X → Spelling) (each : (x : X) → Within (w x) (f x)) where
-  pub row_within : (xs : List X) → Within (in_a_row (map w xs)) (Row f xs)
+  pub row_within : (xs : List X) → Within (one_by_one (map w xs)) (OneByOne f xs)
   row_within [] = just_within []
   row_within (x ∷ xs) = then_within (each x) (row_within xs)
 
-  pub in_rows_within : (a : Settings) (ms : List ℕ) (xs : List X) → Plan ms (length xs) → Within (in_rows a.variant ms (map w xs)) (Unsized a f xs)
-  in_rows_within a [] xs h = absurd h
-  in_rows_within a (m ∷ []) xs h =
+  pub in_fragments_within : (a : Settings) (ms : List ℕ) (xs : List X) → Plan ms (length xs) → Within (in_fragments a.variant ms (map w xs)) (UnconstrainedLength a f xs)
+  in_fragments_within a [] xs h = absurd h
+  in_fragments_within a (m ∷ []) xs h =
       let e : take m (map w xs) ≡ map w xs = take_all m (map w xs) (omega (arith, length-map' w xs, h.0)) in
       rw e (relax (λ p b x. record { fragments = zero; spelled = x })
       (then_within (padding_within a) (then_within (subst (λ n. Within (just (determinant m)) (LastCount n)) h.0 (last_count m h.1)) (then_nothing (row_within xs)))))
-  in_rows_within a (m ∷ k ∷ ms) xs h =
-      subst (λ l. Within (padding a.variant ▹ just (determinant m) ▹ in_a_row l ▹ in_rows a.variant (k ∷ ms) (drop m (map w xs))) (Unsized a f xs)) (sym (take-map' w m xs))
-      (subst (λ l. Within (padding a.variant ▹ just (determinant m) ▹ in_a_row (map w (take m xs)) ▹ in_rows a.variant (k ∷ ms) l) (Unsized a f xs)) (sym (drop-map' w m xs))
+  in_fragments_within a (m ∷ k ∷ ms) xs h =
+      subst (λ l. Within (padding a.variant ▹ just (determinant m) ▹ one_by_one l ▹ in_fragments a.variant (k ∷ ms) (drop m (map w xs))) (UnconstrainedLength a f xs)) (sym (take-map' w m xs))
+      (subst (λ l. Within (padding a.variant ▹ just (determinant m) ▹ one_by_one (map w (take m xs)) ▹ in_fragments a.variant (k ∷ ms) l) (UnconstrainedLength a f xs)) (sym (drop-map' w m xs))
       (relax (again (length-taken m xs h.4))
       (then_within (padding_within a) (then_within (fragment_count m h.0 h.1 h.2 h.3) (then_within (row_within (take m xs))
-      (in_rows_within a (k ∷ ms) (drop m xs) (subst (λ n. Plan (k ∷ ms) n) (sym (length-drop m xs)) h.5)))))))
+      (in_fragments_within a (k ∷ ms) (drop m xs) (subst (λ n. Plan (k ∷ ms) n) (sym (length-drop m xs)) h.5)))))))
     where
-      again : length (take m xs) ≡ m → (p : ℕ) (b : Bits) → Then (AnyPadding a) (Then (Fragment m) (Then (Row f (take m xs)) (Unsized a f (drop m xs)))) p b → Unsized a f xs p b
+      again : length (take m xs) ≡ m → (p : ℕ) (b : Bits) → Then (AnyPadding a) (Then (Fragment m) (Then (OneByOne f (take m xs)) (UnconstrainedLength a f (drop m xs)))) p b → UnconstrainedLength a f xs p b
       again l p b x = record {
         fragments = suc x.is_rest.is_rest.is_rest.fragments;
         spelled = record {
@@ -117,17 +117,17 @@ module _ {X : Type 0} (w : X → Writer) (f : X → Spelling) (each : (x : X) �
             front = x.front;
             rest = x.rest;
             is_front = x.is_front;
-            whole = x.whole;
+            joins = x.joins;
             is_rest = record {
               front = x.is_rest.front;
               rest = x.is_rest.rest;
-              whole = x.is_rest.whole;
+              joins = x.is_rest.joins;
               is_front = subst (λ n. Fragment n (after p x.front) x.is_rest.front) (sym l) x.is_rest.is_front;
               is_rest = record {
                 front = x.is_rest.is_rest.front;
                 rest = x.is_rest.is_rest.rest;
                 is_front = x.is_rest.is_rest.is_front;
-                whole = x.is_rest.is_rest.whole;
+                joins = x.is_rest.is_rest.joins;
                 is_rest = x.is_rest.is_rest.is_rest.spelled;
               };
             };
@@ -135,9 +135,9 @@ module _ {X : Type 0} (w : X → Writer) (f : X → Spelling) (each : (x : X) �
         };
       }
 
-  -- the rows that are written
-  pub unsized_within : (a : Settings) (xs : List X) → Within (in_rows a.variant (rows (length xs)) (map w xs)) (Unsized a f xs)
-  unsized_within a xs = in_rows_within a (rows (length xs)) xs (planned (length xs))
+  -- the fragment_sizes that are written
+  pub unsized_within : (a : Settings) (xs : List X) → Within (in_fragments a.variant (fragment_sizes (length xs)) (map w xs)) (UnconstrainedLength a f xs)
+  unsized_within a xs = in_fragments_within a (fragment_sizes (length xs)) xs (planned (length xs))
 
   padding_if_within : (a : Settings) (b : Bool) → Within (padding_if b a.variant) (PaddingIf b a)
   padding_if_within a true = padding_within a

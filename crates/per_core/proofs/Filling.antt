@@ -31,7 +31,7 @@ zero_octet os h e = go os h e (omega (arith, length-unpack os, ap length e))
 
 -- what is read of some octets and ends so fills them
 pub fills_read : (a : Variant) (s : Schema) (v : Value) (os : List ℕ) (t : Bits) → AreOctets os → Took (basic (loose a) s v) (unpack os) t → Ends t (length (unpack os)) → fills (loose a) s v os
-fills_read a s v os t h k e = go k.front k.whole (subst (λ p. basic (loose a) s v p k.front) (place-unpack os) k.spelled) e
+fills_read a s v os t h k e = go k.front k.joins (subst (λ p. basic (loose a) s v p k.front) (place-unpack os) k.spelled) e
   where
     go : (f : Bits) → unpack os ≡ f ++ t → basic (loose a) s v 0 f → Ends t (length (unpack os)) → fills (loose a) s v os
     go f w x (inl y) = inl (record { front = f; spare = t; spelled = x; all = w; some = omega (arith, ap length w, length-append f t, y.1); short = y.0; zeros = tt })
@@ -42,11 +42,11 @@ fills_read a s v os t h k e = go k.front k.whole (subst (λ p. basic (loose a) s
 pub fills_back : (a : Variant) (s : Schema) (v : Value) (os : List ℕ) → fills (loose a) s v os → (t : Bits) × Took (basic (loose a) s v) (unpack os) t × Ends t (length (unpack os))
 fills_back a s v os (inl x) = (
   x.spare,
-  record { front = x.front; whole = x.all; spelled = subst (λ p. basic (loose a) s v p x.front) (sym (place-unpack os)) x.spelled },
+  record { front = x.front; joins = x.all; spelled = subst (λ p. basic (loose a) s v p x.front) (sym (place-unpack os)) x.spelled },
   inl (x.short, omega (arith, ap length x.all, length-append x.front x.spare, x.some)),
 )
 fills_back a s v os (inr x) = (
   unpack os,
-  record { front = []; whole = refl; spelled = subst (λ p. basic (loose a) s v p []) (sym (place-unpack os)) x.0 },
+  record { front = []; joins = refl; spelled = subst (λ p. basic (loose a) s v p []) (sym (place-unpack os)) x.0 },
   inr (refl, ap unpack x.1),
 )

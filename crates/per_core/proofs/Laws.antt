@@ -16,7 +16,7 @@ use Rattle.per_core.proofs.Canonical.{canonical}
 use Rattle.per_core.proofs.Positions.{canon_p}
 use Rattle.per_core.proofs.Presenting.{unpack-complete}
 use Rattle.per_core.proofs.Unique.{fills_agree}
-use Rattle.per_core.proofs.Whole.{one_reading}
+use Rattle.per_core.proofs.Readings.{one_reading}
 use Rattle.per_core.proofs.Within.{zero_if}
 use Rattle.per_core.proofs.Codes.{split_at_length}
 
@@ -52,9 +52,9 @@ same_normal_bytes a s v w b c e f =
     bytes_at h = cc
 
 -- whole octets, at least one
-pub whole_octets : (a : Settings) (s : Schema) (v : Value) (os : List ℕ) → bytes a.variant s v ≡ Some os → (0 < length os) × AreOctets os
+pub full_octets : (a : Settings) (s : Schema) (v : Value) (os : List ℕ) → bytes a.variant s v ≡ Some os → (0 < length os) × AreOctets os
 unfolding bytes
-whole_octets a s v os e = go (canon a.variant s v 0) e
+full_octets a s v os e = go (canon a.variant s v 0) e
   where
     go : (o : Option Bits) → completed o ≡ Some os → (0 < length os) × AreOctets os
     go None e = absurd (cc)

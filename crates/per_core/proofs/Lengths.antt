@@ -1,10 +1,10 @@
--- Counts, rows and numbers: what two readings of the same bits have in common.
+-- Counts, fragment_sizes and numbers: what two readings of the same bits have in common.
 use Rattle.std.proofs.Common.{◌≡◌, refl, sym, ap, ◌∙◌, subst, ℕ, zero, suc, ◌+◌, ◌-◌, ◌*◌, ◌/◌, ◌^◌, ◌<◌, ◌≤◌, Bool, true, false, cond, ◌&&◌, ◌||◌, leb, ltb, eqb, List, [], ◌∷◌, ◌++◌, length, arith, inl, inr, Option, Some, None, leb-true}
 use Rattle.rasn_types.specs.Bits.{Bits, width, number_of}
 use Rattle.rasn_types.specs.Variants.{Variant, aligned, unaligned}
 use Rattle.rasn_types.proofs.Bits.{number_below}
 use Rattle.rasn_constraints.specs.Bounds.{allows, Size, any_size}
-use Rattle.per_core.specs.Basic.{Row, InOctets, bounded_form, bounded_by, IsBounded, LastCount, Fragment, InFragments, Unsized, PaddingIf, length_form, Sized, Lengthy, octet, Octets}
+use Rattle.per_core.specs.Basic.{OneByOne, InOctets, constrained_form, constrained_by, IsConstrainedWhole, LastCount, Fragment, InFragments, UnconstrainedLength, PaddingIf, length_form, Sized, Lengthy, octet, Octets}
 use Rattle.per_core.specs.Counts.{Counted, octet_items, is_aligned}
 use Rattle.per_core.specs.Spellings.{Settings, Spelling, exactly, Then, AnyPadding, Field}
 use Rattle.per_core.proofs.Agree.{Agree, weaken, then_agree, either_agree, when_agree, exactly_agree, empty_agree, field_agree, padding_agree, no_yes, yes_no, behind, turned}
@@ -48,7 +48,7 @@ Zip-append R (x ∷ xs) xs' [] ys' z w = absurd z
 Zip-append R (x ∷ xs) xs' (y ∷ ys) ys' z w = (z.0, Zip-append R xs xs' ys ys' z.1 w)
 
 module _ {X Y : Type 0} (R : X → Y → Type 0) (f : X → Spelling) (g : Y → Spelling) (each : (x : X) (y : Y) → Agree (R x y) (f x) (g y)) where
-  pub row_agree : (xs : List X) (ys : List Y) → length xs ≡ length ys → Agree (Zip R xs ys) (Row f xs) (Row g ys)
+  pub row_agree : (xs : List X) (ys : List Y) → length xs ≡ length ys → Agree (Zip R xs ys) (OneByOne f xs) (OneByOne g ys)
   row_agree [] [] l = empty_agree
   row_agree [] (y ∷ ys) l = absurd (omega arith)
   row_agree (x ∷ xs) [] l = absurd (omega arith)
@@ -70,20 +70,20 @@ pub cond_agree : {P : Type 0} {f f' g g' : Spelling} (b : Bool) → Agree P f f'
 cond_agree true w v = w
 cond_agree false w v = v
 
-pub bounded_form_agree : (a : Settings) (n o o' : ℕ) → Agree (o ≡ o') (bounded_form a n o) (bounded_form a n o')
+pub bounded_form_agree : (a : Settings) (n o o' : ℕ) → Agree (o ≡ o') (constrained_form a n o) (constrained_form a n o')
 bounded_form_agree a n o o' = go a.variant
   where
-    go : (v : Variant) → Agree (o ≡ o') (bounded_by v a n o) (bounded_by v a n o')
+    go : (v : Variant) → Agree (o ≡ o') (constrained_by v a n o) (constrained_by v a n o')
     go unaligned = field_agree (width n) o o'
     go aligned = cond_agree (leb n 255) (field_agree (width n) o o') (cond_agree (eqb n 256) (padded_field_agree a 8 o o')
         (cond_agree (leb n 65536) (padded_field_agree a 16 o o') (in_octets_agree a n o o')))
 
-pub bounded_agree : (a : Settings) (n o o' : ℕ) → Agree (o ≡ o') (IsBounded a n o) (IsBounded a n o')
+pub bounded_agree : (a : Settings) (n o o' : ℕ) → Agree (o ≡ o') (IsConstrainedWhole a n o) (IsConstrainedWhole a n o')
 bounded_agree a n o o' = record { agree = λ p b c s t x y e. (bounded_form_agree a n o o').agree p b c s t x.spelled y.spelled e }
 
 -- counts in an octet or two
 field_two : (n m w : ℕ) → n < 128 → Agree (n ≡ m) (Field 8 n) (Then (exactly (true ∷ false ∷ [])) (Field w m))
-field_two n m w h = record { agree = λ p b c s t x y e. absurd (go b c s t x.wide x.means y.front y.rest y.is_front y.whole e) }
+field_two n m w h = record { agree = λ p b c s t x y e. absurd (go b c s t x.wide x.means y.front y.rest y.is_front y.joins e) }
   where
     go : (b c s t : Bits) → length b ≡ 8 → number_of b ≡ n → (f r : Bits) → f ≡ true ∷ false ∷ [] → c ≡ f ++ r → b ++ s ≡ c ++ t → ⊥
     go [] c s t l v f r e1 e2 e = omega arith
@@ -101,7 +101,7 @@ last_agree n m = either_agree
 
 -- a fragment's count is no last count
 two_no_field : {P : Type 0} (n m : ℕ) → 191 < n → Agree P (Field 8 n) (Then (exactly (true ∷ false ∷ [])) (Field 14 m))
-two_no_field n m h = record { agree = λ p b c s t x y e. absurd (go b c s t x.wide x.means y.front y.rest y.is_front y.whole e) }
+two_no_field n m h = record { agree = λ p b c s t x y e. absurd (go b c s t x.wide x.means y.front y.rest y.is_front y.joins e) }
   where
     go : (b c s t : Bits) → length b ≡ 8 → number_of b ≡ n → (f r : Bits) → f ≡ true ∷ false ∷ [] → c ≡ f ++ r → b ++ s ≡ c ++ t → ⊥
     go [] c s t l v f r e1 e2 e = omega arith
@@ -137,13 +137,13 @@ module _ {X Y : Type 0} (R : X → Y → Type 0) (f : X → Spelling) (g : Y →
   fragments_agree a zero zero xs ys = last_row_agree a xs ys
   fragments_agree a zero (suc j) xs ys = record {
     agree = λ p b c s t x y e.
-        let w : Agree (Unit {0} × (⊥ × ⊥)) (InFragments a f zero xs) (Then (AnyPadding a) (Then (Fragment (length y.these)) (Then (Row g y.these) (InFragments a g j y.others))))
+        let w : Agree (Unit {0} × (⊥ × ⊥)) (InFragments a f zero xs) (Then (AnyPadding a) (Then (Fragment (length y.these)) (Then (OneByOne g y.these) (InFragments a g j y.others))))
         = then_agree (padding_agree a) (λ u. then_agree (turned (λ (e : ⊥). e) (fragment_last (length y.these) (length xs))) (λ l. absurd l)) in
         let r = w.agree p b c s t x y.spelled e in absurd r.0.1.0;
   }
   fragments_agree a (suc k) zero xs ys = record {
     agree = λ p b c s t x y e.
-        let w : Agree (Unit {0} × (⊥ × ⊥)) (Then (AnyPadding a) (Then (Fragment (length x.these)) (Then (Row f x.these) (InFragments a f k x.others)))) (InFragments a g zero ys)
+        let w : Agree (Unit {0} × (⊥ × ⊥)) (Then (AnyPadding a) (Then (Fragment (length x.these)) (Then (OneByOne f x.these) (InFragments a f k x.others)))) (InFragments a g zero ys)
         = then_agree (padding_agree a) (λ u. then_agree (fragment_last (length x.these) (length ys)) (λ l. absurd l)) in
         let r = w.agree p b c s t x.spelled y e in absurd r.0.1.0;
   }
@@ -156,7 +156,7 @@ module _ {X Y : Type 0} (R : X → Y → Type 0) (f : X → Spelling) (g : Y →
         (subst (λ v. Zip R v ys) (sym x.all) (subst (λ v. Zip R (x.these ++ x.others) v) (sym y.all) z), r.1);
   }
 
-  pub unsized_agree : (a : Settings) (xs : List X) (ys : List Y) → Agree (Zip R xs ys) (Unsized a f xs) (Unsized a g ys)
+  pub unsized_agree : (a : Settings) (xs : List X) (ys : List Y) → Agree (Zip R xs ys) (UnconstrainedLength a f xs) (UnconstrainedLength a g ys)
   unsized_agree a xs ys = record {
     agree = λ p b c s t x y e.
         (fragments_agree a x.fragments y.fragments xs ys).agree p b c s t x.spelled y.spelled e;
@@ -167,8 +167,8 @@ module _ {X Y : Type 0} (R : X → Y → Type 0) (f : X → Spelling) (g : Y →
   padding_if_agree a false = empty_agree
 
   bounded_row_agree : (a : Settings) (lb ub : ℕ) (kind : Counted) (xs : List X) (ys : List Y) → lb ≤ length xs → lb ≤ length ys →
-      Agree (Zip R xs ys) (Then (IsBounded a (ub - lb + 1) (length xs - lb)) (Then (PaddingIf (ltb 0 (length xs) && is_aligned kind lb ub) a) (Row f xs)))
-      (Then (IsBounded a (ub - lb + 1) (length ys - lb)) (Then (PaddingIf (ltb 0 (length ys) && is_aligned kind lb ub) a) (Row g ys)))
+      Agree (Zip R xs ys) (Then (IsConstrainedWhole a (ub - lb + 1) (length xs - lb)) (Then (PaddingIf (ltb 0 (length xs) && is_aligned kind lb ub) a) (OneByOne f xs)))
+      (Then (IsConstrainedWhole a (ub - lb + 1) (length ys - lb)) (Then (PaddingIf (ltb 0 (length ys) && is_aligned kind lb ub) a) (OneByOne g ys)))
   bounded_row_agree a lb ub kind xs ys h h' = weaken (λ r. r.1.1) (then_agree (bounded_agree a (ub - lb + 1) (length xs - lb) (length ys - lb)) (λ l.
       let same : length xs ≡ length ys = omega arith in
       then_agree (subst (λ n. Agree (Unit {0}) (PaddingIf (ltb 0 (length xs) && is_aligned kind lb ub) a) (PaddingIf (ltb 0 n && is_aligned kind lb ub) a)) same

@@ -12,6 +12,6 @@ pub mod Records
 pub mod Strings
 pub mod Took
 pub mod Unique
-pub mod Whole
+pub mod Readings
 pub mod Within
 pub mod Filling

@@ -5,17 +5,17 @@ use Rattle.rasn_types.specs.Octets.{natural_bits, whole_bits, octets_of_natural,
 use Rattle.rasn_types.proofs.Bits.{length-to_bits, number-to_bits}
 use Rattle.rasn_types.proofs.Octets.{length-pack, unpack-pack, length-whole_bits, octets_of_whole_some, signed_bits-whole_bits}
 use Rattle.rasn_constraints.specs.Bounds.{holds, fits_i128, above, Bounds, unbounded}
-use Rattle.per_core.specs.Basic.{InNatural, InWhole, number_spelling, IsNumber, IsNumberOf, Marked, Small}
+use Rattle.per_core.specs.Basic.{IsSemiConstrainedWhole, IsUnconstrainedWhole, number_spelling, IsNumber, IsNumberOf, Marked, Small}
 use Rattle.per_core.specs.Counts.{counted_octets, number_under, number_form, marked_form, small}
 use Rattle.per_core.specs.Spellings.{Settings, exactly, Then, Field}
 use Rattle.per_core.specs.Writers.{just, ◌▹◌, written_if}
 use Rattle.per_core.proofs.Presenting.{octets_within}
 use Rattle.per_core.proofs.Within.{Within, just_within, then_within, if_within, relax, left_within, right_within, when_within, field_within, bounded_within, natural_fits}
 
-whole_octets : (k : ℕ) (b : Bits) → length b ≡ 8 * k → unpack (pack (length b / 8) b) ≡ b
-whole_octets k b l = unpack-pack (length b / 8) b (omega arith)
+full_octets : (k : ℕ) (b : Bits) → length b ≡ 8 * k → unpack (pack (length b / 8) b) ≡ b
+full_octets k b l = unpack-pack (length b / 8) b (omega arith)
 
-natural_octets : (a : Settings) (n : ℕ) → Within (counted_octets a.variant (natural_bits n)) (InNatural a n)
+natural_octets : (a : Settings) (n : ℕ) → Within (counted_octets a.variant (natural_bits n)) (IsSemiConstrainedWhole a n)
 unfolding counted_octets natural_bits octets_of_natural
 natural_octets a n = relax (λ p b x. record { octets = pack (length bits / 8) bits; some = some; means = means; spelled = x }) (octets_within a (pack (length bits / 8) bits))
   where
@@ -32,9 +32,9 @@ natural_octets a n = relax (λ p b x. record { octets = pack (length bits / 8) b
     some = subst (λ (k : ℕ). 0 < k) (sym (length-pack (length bits / 8) bits)) (let w = wide in let q = positive in omega arith)
 
     means : unsigned (pack (length bits / 8) bits) ≡ n
-    means = ap number_of (whole_octets (octets_of_natural n) bits wide) ∙ number-to_bits (8 * octets_of_natural n) n ∙ mod-eq_of_lt (natural_fits n)
+    means = ap number_of (full_octets (octets_of_natural n) bits wide) ∙ number-to_bits (8 * octets_of_natural n) n ∙ mod-eq_of_lt (natural_fits n)
 
-pub whole_in_octets : (a : Settings) (z : ℤ) → Within (counted_octets a.variant (whole_bits z)) (InWhole a z)
+pub whole_in_octets : (a : Settings) (z : ℤ) → Within (counted_octets a.variant (whole_bits z)) (IsUnconstrainedWhole a z)
 unfolding counted_octets
 whole_in_octets a z = relax (λ p b x. record { octets = pack (length (whole_bits z) / 8) (whole_bits z); some = some; means = means; spelled = x }) (octets_within a (pack (length (whole_bits z) / 8) (whole_bits z)))
   where
@@ -42,7 +42,7 @@ whole_in_octets a z = relax (λ p b x. record { octets = pack (length (whole_bit
     some = subst (λ (k : ℕ). 0 < k) (sym (length-pack (length (whole_bits z) / 8) (whole_bits z))) (omega (arith, length-whole_bits z, octets_of_whole_some z))
 
     means : signed (pack (length (whole_bits z) / 8) (whole_bits z)) ≡ z
-    means = ap signed_bits (whole_octets (octets_of_whole z) (whole_bits z) (length-whole_bits z)) ∙ signed_bits-whole_bits z
+    means = ap signed_bits (full_octets (octets_of_whole z) (whole_bits z) (length-whole_bits z)) ∙ signed_bits-whole_bits z
 
 under_within : (a : Settings) (l u : Option ℤ) (z : ℤ) → Within (number_under a.variant l u z) (number_spelling a l u z)
 unfolding number_under
@@ -74,7 +74,7 @@ small_within a i = go (ltb i 64) refl
     small_form : i < 64 → Within (just (false ∷ to_bits 6 i)) (Then (exactly (false ∷ [])) (Field 6 i))
     small_form h = record {
       within = λ p b e. let w = field_within 6 i h in let e' : false ∷ to_bits 6 i ≡ b = cc in
-          record { front = false ∷ []; rest = to_bits 6 i; is_front = refl; is_rest = w.within ((p + 1) % 8) (to_bits 6 i) refl; whole = sym e' };
+          record { front = false ∷ []; rest = to_bits 6 i; is_front = refl; is_rest = w.within ((p + 1) % 8) (to_bits 6 i) refl; joins = sym e' };
     }
 
     go : (t : Bool) → ltb i 64 ≡ t → Within (cond t (just (false ∷ to_bits 6 i)) (just (true ∷ []) ▹ number_under a.variant (Some (pos 0)) None (pos i))) (Small a i)

@@ -10,8 +10,8 @@ use Rattle.rasn_constraints.specs.Bounds.{allows, fits_i128, holds, above, Bound
 use Rattle.rasn_schema.specs.Orders.{ordered}
 use Rattle.rasn_schema.specs.Schemas.{tags, Schema, Presence}
 use Rattle.per_core.specs.Canon.{canon, members, Member, shown, flag, flagged, flags_of, bodies_of, bitmap_of, any_set, bitmap, opens_of, extension_bit, with_additions, record_of, chosen, choice_of, item_of, date_of, year_writer, in_range, year_of, char_writers, ascending, on_truth, on_nothing, on_whole, on_octets, on_bits, on_characters, on_item, on_day, on_elements, on_bag, on_fields, on_alternative}
-use Rattle.per_core.specs.Counts.{Counted, bounded, in_rows, determinant, rows, counted_under, counted_in, counted, marked_form, padding_if, is_aligned, octet_writers, bit_writers, octets_unsized, counted_octets, number_under, number_form, open_bits, small, list_items, octet_items, bit_items}
-use Rattle.per_core.specs.Writers.{Writer, just, refused, ◌▹◌, go_on, join, in_a_row, padding, written_if}
+use Rattle.per_core.specs.Counts.{Counted, constrained_whole, in_fragments, determinant, fragment_sizes, counted_under, counted_in, counted, marked_form, padding_if, is_aligned, octet_writers, bit_writers, unconstrained_octets, counted_octets, number_under, number_form, open_bits, small, list_items, octet_items, bit_items}
+use Rattle.per_core.specs.Writers.{Writer, just, refused, ◌▹◌, go_on, join, one_by_one, padding, written_if}
 
 pub record Periodic (w : Writer) : Type 0 where
   pub same : (p q : ℕ) → p % 8 ≡ q % 8 → w p ≡ w q
@@ -45,20 +45,20 @@ pub cond_p : {w v : Writer} (b : Bool) → Periodic w → Periodic v → Periodi
 cond_p true h k = h
 cond_p false h k = k
 
-in_rows_p : (a : Variant) (ms : List ℕ) (ws : List Writer) → Periodic (in_rows a ms ws)
-in_rows_p a [] ws = just_p []
-in_rows_p a (m ∷ ms) ws = then_p (just (determinant m) ▹ in_a_row (take m ws) ▹ in_rows a ms (drop m ws)) (padding_p a)
+in_fragments_p : (a : Variant) (ms : List ℕ) (ws : List Writer) → Periodic (in_fragments a ms ws)
+in_fragments_p a [] ws = just_p []
+in_fragments_p a (m ∷ ms) ws = then_p (just (determinant m) ▹ one_by_one (take m ws) ▹ in_fragments a ms (drop m ws)) (padding_p a)
 
-pub bounded_p : (a : Variant) (n o : ℕ) → Periodic (bounded a n o)
-unfolding bounded
+pub bounded_p : (a : Variant) (n o : ℕ) → Periodic (constrained_whole a n o)
+unfolding constrained_whole
 bounded_p unaligned n o = if_p (ltb o n) (just_p (to_bits (width n) o))
 bounded_p aligned n o = if_p (ltb o n) (cond_p (leb n 255) (just_p (to_bits (width n) o)) (cond_p (eqb n 256) (then_p (just (to_bits 8 o)) (padding_p aligned))
     (cond_p (leb n 65536) (then_p (just (to_bits 16 o)) (padding_p aligned)) (then_p (padding aligned ▹ just (natural_bits o)) (just_p (to_bits (width ((width n + 7) / 8)) (octets_of_natural o - 1)))))))
 
 under_p : (a : Variant) (l u : Option ℕ) (kind : Counted) (n : ℕ) (ws : List Writer) → Periodic (counted_under a l u kind n ws)
-under_p a None u kind n ws = in_rows_p a (rows n) ws
-under_p a (Some lb) None kind n ws = in_rows_p a (rows n) ws
-under_p a (Some lb) (Some ub) kind n ws = cond_p (ltb ub 65536) (then_p (padding_if (ltb 0 n && is_aligned kind lb ub) a ▹ in_a_row ws) (bounded_p a (ub - lb + 1) (n - lb))) (in_rows_p a (rows n) ws)
+under_p a None u kind n ws = in_fragments_p a (fragment_sizes n) ws
+under_p a (Some lb) None kind n ws = in_fragments_p a (fragment_sizes n) ws
+under_p a (Some lb) (Some ub) kind n ws = cond_p (ltb ub 65536) (then_p (padding_if (ltb 0 n && is_aligned kind lb ub) a ▹ one_by_one ws) (bounded_p a (ub - lb + 1) (n - lb))) (in_fragments_p a (fragment_sizes n) ws)
 
 marked_p : {f : Writer} (g : Writer) (mark inside : Bool) → Periodic f → Periodic (marked_form mark inside f g)
 marked_p g false inside h = h
@@ -68,7 +68,7 @@ marked_p g true false h = then_p g (just_p (true ∷ []))
 pub counted_p : (a : Variant) (size : Size) (mark : Bool) (kind : Counted) (ws : List Writer) → Periodic (counted a size mark kind ws)
 counted_p a size mark kind ws = marked_p (counted_in a any_size kind ws) mark (allows size (length ws)) (if_p (allows size (length ws)) (under_p a size.least size.most kind (length ws) ws))
 
-pub octets_p : (a : Variant) (os : List ℕ) → Periodic (octets_unsized a os)
+pub octets_p : (a : Variant) (os : List ℕ) → Periodic (unconstrained_octets a os)
 octets_p a os = counted_p a any_size false octet_items (octet_writers os)
 
 bits_octets_p : (a : Variant) (b : Bits) → Periodic (counted_octets a b)
@@ -111,22 +111,22 @@ record_p a ext ms adds ss xs = additions_p a ext adds xs (flags_of ms ss ▹ bod
 
 choice_p : (a : Variant) (ext : Bool) (ms adds : List Member) (d : Side) (i : ℕ) (v : Value) → Periodic (choice_of a ext ms adds d i v)
 unfolding choice_of
-choice_p a ext ms adds root i v = then_p (bounded a (length ms) i ▹ chosen ms i v) (extension_p ext false)
+choice_p a ext ms adds root i v = then_p (constrained_whole a (length ms) i ▹ chosen ms i v) (extension_p ext false)
 choice_p a ext ms adds added i v = then_p (small a i ▹ open_bits a (chosen adds i v 0)) (extension_p ext true)
 
 item_p : (a : Variant) (r e : ℕ) (ext : Bool) (d : Side) (i : ℕ) → Periodic (item_of a r e ext d i)
 unfolding item_of
-item_p a r e ext root i = then_p (bounded a r i) (extension_p ext false)
+item_p a r e ext root i = then_p (constrained_whole a r i) (extension_p ext false)
 item_p a r e ext added i = then_p (written_if (ltb i e) (small a i)) (extension_p ext true)
 
 year_p : (a : Variant) (y : ℤ) → Periodic (year_writer a y)
 unfolding year_writer
-year_p a y = cond_p (in_range 2005 2020 y) (then_p (bounded a 16 (year_of y - 2005)) (bounded_p a 4 0)) (cond_p (in_range 2021 2276 y) (then_p (bounded a 256 (year_of y - 2021)) (bounded_p a 4 1))
-    (cond_p (in_range 1749 2004 y) (then_p (bounded a 256 (year_of y - 1749)) (bounded_p a 4 2)) (then_p (number_under a None None y) (bounded_p a 4 3))))
+year_p a y = cond_p (in_range 2005 2020 y) (then_p (constrained_whole a 16 (year_of y - 2005)) (bounded_p a 4 0)) (cond_p (in_range 2021 2276 y) (then_p (constrained_whole a 256 (year_of y - 2021)) (bounded_p a 4 1))
+    (cond_p (in_range 1749 2004 y) (then_p (constrained_whole a 256 (year_of y - 1749)) (bounded_p a 4 2)) (then_p (number_under a None None y) (bounded_p a 4 3))))
 
 date_p : (a : Variant) (y : ℤ) (m d : ℕ) → Periodic (date_of a y m d)
 unfolding date_of
-date_p a y m d = if_p (is_date y m d) (then_p (bounded a 12 (m - 1) ▹ bounded a 31 (d - 1)) (year_p a y))
+date_p a y m d = if_p (is_date y m d) (then_p (constrained_whole a 12 (m - 1) ▹ constrained_whole a 31 (d - 1)) (year_p a y))
 
 -- each kind, at a value of any kind
 truth_p : (v : Value) → Periodic (on_truth (λ b. just (b ∷ [])) v)
@@ -186,7 +186,7 @@ canon_p a Schema.boolean v = truth_p v
 canon_p a Schema.null v = nothing_p v
 canon_p a Schema.real v = refused_p
 canon_p a Schema.cut v = refused_p
-canon_p a Schema.any v = on_octets_p (octets_unsized a) (octets_p a) v
+canon_p a Schema.any v = on_octets_p (unconstrained_octets a) (octets_p a) v
 canon_p a (Schema.text kind) v = on_octets_p _ (λ os. if_p (is_text kind os) (octets_p a os)) v
 canon_p a Schema.identifier v = on_octets_p _ (λ os. if_p (is_identifier os) (octets_p a os)) v
 canon_p a (Schema.time kind) v = on_characters_p _ (λ cs. if_p (is_time kind cs) (string_p a visible any_size false cs)) v

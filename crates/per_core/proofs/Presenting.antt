@@ -9,7 +9,7 @@ use Rattle.rasn_constraints.specs.Bounds.{any_size}
 use Rattle.rasn_schema.specs.Schemas.{Presence, required, optional, group, default}
 use Rattle.per_core.specs.Basic.{Sized, octet, bit, Octets, Fills, Open, Rule, FlagOf, Flags, IsLeftOut, Body, Bodies, Root, Additions_in, IsBitmap, Fields_in}
 use Rattle.per_core.specs.Canon.{Member, shown, flagged, if_shown, flags_of, bodies_of, also_bit, bitmap_of, any_set, bitmap, opens_of, extension_bit, with_additions, record_of}
-use Rattle.per_core.specs.Counts.{counted, octet_items, bit_items, bit_writers, octets_unsized, open_bits}
+use Rattle.per_core.specs.Counts.{counted, octet_items, bit_items, bit_writers, unconstrained_octets, open_bits}
 use Rattle.per_core.specs.Spellings.{Settings, Spelling, exactly, Then, Either, Field}
 use Rattle.per_core.specs.Writers.{complete, Writer, just, ◌▹◌, join, written_if}
 use Rattle.per_core.proofs.Codes.{same_true}
@@ -130,7 +130,7 @@ unpack-complete b h = (
   ap (λ (k : ℕ). replicate k false) (sym (length-replicate (8 * max 1 ((length b + 7) / 8) - length b) false)),
 )
 
-pub octets_within : (a : Settings) (os : List ℕ) → Within (octets_unsized a.variant os) (Octets a os)
+pub octets_within : (a : Settings) (os : List ℕ) → Within (unconstrained_octets a.variant os) (Octets a os)
 octets_within a os = counted_within (λ o. written_if (ltb o 256) (just (to_bits 8 o))) octet (λ o. if_within (ltb o 256) (λ e. field_within 8 o (ltb-true o 256 e))) a any_size false octet_items os
 
 pub open_within : (a : Settings) (w : Writer) (f : Spelling) → Within w f → Within (open_bits a.variant (w 0)) (Open a (Fills a f))
@@ -210,8 +210,8 @@ bitmap_within a bs h = relax (λ p b x. record { some = h; spelled = x }) (go (l
             front = false ∷ [];
             rest = to_bits 6 (length bs - 1) ++ bs;
             is_front = refl;
-            whole = sym e';
-            is_rest = record { front = to_bits 6 (length bs - 1); rest = bs; is_front = w.within ((p + 1) % 8) (to_bits 6 (length bs - 1)) refl; is_rest = refl; whole = refl };
+            joins = sym e';
+            is_rest = record { front = to_bits 6 (length bs - 1); rest = bs; is_front = w.within ((p + 1) % 8) (to_bits 6 (length bs - 1)) refl; is_rest = refl; joins = refl };
           };
     }
 

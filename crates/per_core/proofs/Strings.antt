@@ -8,9 +8,9 @@ use Rattle.rasn_types.specs.Values.{day}
 use Rattle.rasn_types.specs.Variants.{Variant, aligned, unaligned}
 use Rattle.rasn_types.proofs.Bits.{wide_enough}
 use Rattle.rasn_constraints.specs.Bounds.{Size}
-use Rattle.per_core.specs.Basic.{Char, String, IsBounded, YearIn, year_form, Year, IsDay, As}
+use Rattle.per_core.specs.Basic.{Char, String, IsConstrainedWhole, YearIn, year_form, Year, IsDay, As}
 use Rattle.per_core.specs.Canon.{char_writers, coded, date_of, year_writer, in_range, year_of}
-use Rattle.per_core.specs.Counts.{char_items, counted, bounded, number_under}
+use Rattle.per_core.specs.Counts.{char_items, counted, constrained_whole, number_under}
 use Rattle.per_core.specs.Spellings.{Settings, Field}
 use Rattle.per_core.specs.Writers.{Writer, ◌▹◌}
 use Rattle.per_core.proofs.Counting.{counted_within}
@@ -53,15 +53,15 @@ unfolding char_writers
 string_within a alphabet size mark cs = counted_within (λ c. coded (char_width a.variant alphabet) (char_code a.variant alphabet c)) (Char a alphabet) (char_within a alphabet) a size mark (char_items (char_width a.variant alphabet)) cs
 
 -- dates
-index_within : (a : Settings) (k : ℕ) → Within (bounded a.variant 4 k) (Field 2 k)
+index_within : (a : Settings) (k : ℕ) → Within (constrained_whole a.variant 4 k) (Field 2 k)
 unfolding width
 index_within a k = go a.variant a.strict
   where
-    go : (v : Variant) (z : Bool) → Within (bounded v 4 k) (Field 2 k)
+    go : (v : Variant) (z : Bool) → Within (constrained_whole v 4 k) (Field 2 k)
     go unaligned z = relax (λ p b x. x.spelled) (bounded_within (record { variant = unaligned; strict = z }) 4 k)
     go aligned z = relax (λ p b x. x.spelled) (bounded_within (record { variant = aligned; strict = z }) 4 k)
 
-year_in : (a : Settings) (low n : ℕ) (y : ℤ) → le_z (pos low) y ≡ true → Within (bounded a.variant n (year_of y - low)) (YearIn a low n y)
+year_in : (a : Settings) (low n : ℕ) (y : ℤ) → le_z (pos low) y ≡ true → Within (constrained_whole a.variant n (year_of y - low)) (YearIn a low n y)
 year_in a low n (pos y) h = relax (λ p b x. record { past = y - low; is = ap pos (let l = leb-true low y h in omega arith); spelled = x }) (bounded_within a n (y - low))
 year_in a low n (negsuc y) h = absurd (cc)
 
@@ -69,18 +69,18 @@ year_within : (a : Settings) (y : ℤ) → Within (year_writer a.variant y) (Yea
 unfolding year_writer number_under
 year_within a y = first (in_range 2005 2020 y) refl
   where
-    by : (k : ℕ) {w : Writer} → Within w (year_form a k y) → Within (bounded a.variant 4 k ▹ w) (Year a y)
+    by : (k : ℕ) {w : Writer} → Within w (year_form a k y) → Within (constrained_whole a.variant 4 k ▹ w) (Year a y)
     by k h = relax (λ p b x. record { range = k; spelled = x }) (then_within (index_within a k) h)
 
-    third : (t : Bool) → in_range 1749 2004 y ≡ t → Within (cond t (bounded a.variant 4 2 ▹ bounded a.variant 256 (year_of y - 1749)) (bounded a.variant 4 3 ▹ number_under a.variant None None y)) (Year a y)
+    third : (t : Bool) → in_range 1749 2004 y ≡ t → Within (cond t (constrained_whole a.variant 4 2 ▹ constrained_whole a.variant 256 (year_of y - 1749)) (constrained_whole a.variant 4 3 ▹ number_under a.variant None None y)) (Year a y)
     third true e = by 2 (year_in a 1749 256 y (and_left (le_z (pos 1749) y) (le_z y (pos 2004)) e))
     third false e = by 3 (whole_in_octets a y)
 
-    second : (t : Bool) → in_range 2021 2276 y ≡ t → Within (cond t (bounded a.variant 4 1 ▹ bounded a.variant 256 (year_of y - 2021)) (cond (in_range 1749 2004 y) (bounded a.variant 4 2 ▹ bounded a.variant 256 (year_of y - 1749)) (bounded a.variant 4 3 ▹ number_under a.variant None None y))) (Year a y)
+    second : (t : Bool) → in_range 2021 2276 y ≡ t → Within (cond t (constrained_whole a.variant 4 1 ▹ constrained_whole a.variant 256 (year_of y - 2021)) (cond (in_range 1749 2004 y) (constrained_whole a.variant 4 2 ▹ constrained_whole a.variant 256 (year_of y - 1749)) (constrained_whole a.variant 4 3 ▹ number_under a.variant None None y))) (Year a y)
     second true e = by 1 (year_in a 2021 256 y (and_left (le_z (pos 2021) y) (le_z y (pos 2276)) e))
     second false e = third (in_range 1749 2004 y) refl
 
-    first : (t : Bool) → in_range 2005 2020 y ≡ t → Within (cond t (bounded a.variant 4 0 ▹ bounded a.variant 16 (year_of y - 2005)) (cond (in_range 2021 2276 y) (bounded a.variant 4 1 ▹ bounded a.variant 256 (year_of y - 2021)) (cond (in_range 1749 2004 y) (bounded a.variant 4 2 ▹ bounded a.variant 256 (year_of y - 1749)) (bounded a.variant 4 3 ▹ number_under a.variant None None y)))) (Year a y)
+    first : (t : Bool) → in_range 2005 2020 y ≡ t → Within (cond t (constrained_whole a.variant 4 0 ▹ constrained_whole a.variant 16 (year_of y - 2005)) (cond (in_range 2021 2276 y) (constrained_whole a.variant 4 1 ▹ constrained_whole a.variant 256 (year_of y - 2021)) (cond (in_range 1749 2004 y) (constrained_whole a.variant 4 2 ▹ constrained_whole a.variant 256 (year_of y - 1749)) (constrained_whole a.variant 4 3 ▹ number_under a.variant None None y)))) (Year a y)
     first true e = by 0 (year_in a 2005 16 y (and_left (le_z (pos 2005) y) (le_z y (pos 2020)) e))
     first false e = second (in_range 2021 2276 y) refl
 
@@ -89,4 +89,4 @@ unfolding date_of
 day_within a y zero d = refused_within
 day_within a y (suc m) zero = if_within (is_date y (suc m) 0) (λ e. absurd (let f : false ≡ true = and_right (leb 1 (suc m)) false e in cc))
 day_within a y (suc m) (suc d) = if_within (is_date y (suc m) (suc d)) (λ e. relax (λ p b x. record { of = (y, m, d); is = refl; spelled = record { is_day = e; spelled = x } })
-    (then_within (year_within a y) (then_within (subst (λ (n : ℕ). Within (bounded a.variant 12 n) (IsBounded a 12 m)) (omega arith) (bounded_within a 12 m)) (subst (λ (n : ℕ). Within (bounded a.variant 31 n) (IsBounded a 31 d)) (omega arith) (bounded_within a 31 d)))))
+    (then_within (year_within a y) (then_within (subst (λ (n : ℕ). Within (constrained_whole a.variant 12 n) (IsConstrainedWhole a 12 m)) (omega arith) (bounded_within a 12 m)) (subst (λ (n : ℕ). Within (constrained_whole a.variant 31 n) (IsConstrainedWhole a 31 d)) (omega arith) (bounded_within a 31 d)))))

@@ -5,7 +5,7 @@ use Rattle.rasn_types.specs.Bits.{unpack}
 use Rattle.rasn_types.specs.Octets.{unsigned, signed}
 use Rattle.rasn_types.specs.Values.{Value}
 use Rattle.rasn_constraints.specs.Bounds.{holds, above, Bounds, unbounded}
-use Rattle.per_core.specs.Basic.{Marked, InNatural, InWhole, number_spelling, IsNumber, IsNumberOf, at_least_zero, Small, Fills, Open, As}
+use Rattle.per_core.specs.Basic.{Marked, IsSemiConstrainedWhole, IsUnconstrainedWhole, number_spelling, IsNumber, IsNumberOf, at_least_zero, Small, Fills, Open, As}
 use Rattle.per_core.specs.Spellings.{Settings, Spelling, Field}
 use Rattle.per_core.proofs.Agree.{Agree, weaken, either_agree, when_agree, field_agree, no_yes, yes_no, behind}
 use Rattle.per_core.proofs.Lengths.{and_left, same_octets, bounded_agree}
@@ -20,14 +20,14 @@ above_same (negsuc l) (pos z) (negsuc z') h h' e = absurd (omega (arith, leb-tru
 above_same (negsuc l) (negsuc z) (pos z') h h' e = absurd (omega (arith, leb-true z l h))
 above_same (negsuc l) (negsuc z) (negsuc z') h h' e = ap negsuc (omega (arith, leb-true z l h, leb-true z' l h'))
 
-pub in_natural_agree : (a : Settings) (n m : ℕ) → Agree (n ≡ m) (InNatural a n) (InNatural a m)
+pub in_natural_agree : (a : Settings) (n m : ℕ) → Agree (n ≡ m) (IsSemiConstrainedWhole a n) (IsSemiConstrainedWhole a m)
 in_natural_agree a n m = record {
   agree = λ p b c s t x y e.
       let r = (same_octets a x.octets y.octets).agree p b c s t x.spelled y.spelled e in
       (sym x.means ∙ ap unsigned r.0 ∙ y.means, r.1);
 }
 
-pub in_whole_agree : (a : Settings) (n m : ℤ) → Agree (n ≡ m) (InWhole a n) (InWhole a m)
+pub in_whole_agree : (a : Settings) (n m : ℤ) → Agree (n ≡ m) (IsUnconstrainedWhole a n) (IsUnconstrainedWhole a m)
 in_whole_agree a n m = record {
   agree = λ p b c s t x y e.
       let r = (same_octets a x.octets y.octets).agree p b c s t x.spelled y.spelled e in

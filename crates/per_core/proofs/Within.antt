@@ -6,8 +6,8 @@ use Rattle.rasn_types.specs.Bits.{Bits, number_of, to_bits, width}
 use Rattle.rasn_types.specs.Octets.{natural_bits, octets_of_natural}
 use Rattle.rasn_types.specs.Variants.{Variant, aligned, unaligned}
 use Rattle.rasn_types.proofs.Bits.{length-to_bits, number-to_bits, width_holds, width_least}
-use Rattle.per_core.specs.Basic.{InOctets, IsBounded}
-use Rattle.per_core.specs.Counts.{bounded}
+use Rattle.per_core.specs.Basic.{InOctets, IsConstrainedWhole}
+use Rattle.per_core.specs.Counts.{constrained_whole}
 use Rattle.per_core.specs.Spellings.{Settings, ZeroIf, Spelling, exactly, Then, Either, When, AnyPadding, Field}
 use Rattle.per_core.specs.Writers.{after, pad, Writer, just, refused, ◌▹◌, go_on, join, padding, written_if}
 
@@ -25,7 +25,7 @@ then_within {w} {v} {f} {g} h k = record { within = λ p b e. go p b (w p) refl 
   where
     behind : (p : ℕ) (b x : Bits) (o : Option Bits) → w p ≡ Some x → v (after p x) ≡ o → join x o ≡ Some b → Then f g p b
     behind p b x None i j e = absurd (cc)
-    behind p b x (Some y) i j e = record { front = x; rest = y; is_front = h.within p x i; is_rest = k.within (after p x) y j; whole = cc }
+    behind p b x (Some y) i j e = record { front = x; rest = y; is_front = h.within p x i; is_rest = k.within (after p x) y j; joins = cc }
 
     go : (p : ℕ) (b : Bits) (o : Option Bits) → w p ≡ o → go_on o v p ≡ Some b → Then f g p b
     go p b None i e = absurd (cc)
@@ -99,8 +99,8 @@ in_octets_within a n o h l = relax (λ p b x. record { more = octets_of_natural 
         let q : (width n + 7) / 8 ≤ 2 ^ width ((width n + 7) / 8) = width_holds ((width n + 7) / 8) in
         let w = wide in omega arith
 
-bounded_by_within : (v : Variant) (z : Bool) (n o : ℕ) → Within (bounded v n o) (IsBounded (record { variant = v; strict = z }) n o)
-unfolding bounded
+bounded_by_within : (v : Variant) (z : Bool) (n o : ℕ) → Within (constrained_whole v n o) (IsConstrainedWhole (record { variant = v; strict = z }) n o)
+unfolding constrained_whole
 bounded_by_within unaligned z n o = if_within (ltb o n) (λ e. let h : o < n = ltb-true o n e in
     relax (λ p b x. record { below = h; spelled = x }) (field_within (width n) o (omega (arith, width_holds n))))
 bounded_by_within aligned z n o = if_within (ltb o n) (λ e. let h : o < n = ltb-true o n e in
@@ -110,5 +110,5 @@ bounded_by_within aligned z n o = if_within (ltb o n) (λ e. let h : o < n = ltb
     (λ m. cond_within (leb n 65536) (λ q. let k : n ≤ 65536 = leb-true n 65536 q in then_within (padding_within (record { variant = aligned; strict = z })) (field_within 16 o (omega arith)))
     (λ q. in_octets_within (record { variant = aligned; strict = z }) n o h (leb-false n 65536 q))))))
 
-pub bounded_within : (a : Settings) (n o : ℕ) → Within (bounded a.variant n o) (IsBounded a n o)
+pub bounded_within : (a : Settings) (n o : ℕ) → Within (constrained_whole a.variant n o) (IsConstrainedWhole a n o)
 bounded_within a n o = bounded_by_within a.variant a.strict n o

@@ -1,6 +1,6 @@
 -- All encodings that a basic decoder takes (ITU-T X.691, 12 to 24, 30 and 32). Where it takes more than X.691 allows a sender, that is
 -- this project's choice: any padding, superfluous octets and large forms, and additions that it doesn't know.
-use Rattle.std.specs.Prelude.{ℕ, zero, suc, ◌+◌, ◌-◌, ◌*◌, ◌/◌, ◌<◌, ◌≡◌, ◌⊎◌, Bool, true, false, cond, ◌&&◌, leb, ltb, eqb, List, [], ◌∷◌, ◌++◌, length, Option, Some, None, ℤ, pos}
+use Rattle.std.specs.Prelude.{ℕ, zero, suc, ◌+◌, ◌-◌, ◌*◌, ◌/◌, ◌<◌, ◌≡◌, ◌⊎◌, Bool, true, false, cond, if◌then◌else◌, ◌&&◌, nat_le, nat_lt, ◌==◌, List, [], ◌∷◌, ◌++◌, length, Option, Some, None, ℤ, pos}
 use Rattle.rasn_types.specs.Alphabets.{char_width, char_code, visible}
 use Rattle.rasn_types.specs.Bits.{Bits, width, unpack}
 use Rattle.rasn_types.specs.Contents.{is_text, is_time, is_identifier, is_date}
@@ -15,9 +15,9 @@ use Rattle.per_core.specs.Counts.{Counted, list_items, octet_items, bit_items, c
 use Rattle.per_core.specs.Spellings.{Settings, ZeroIf, Spelling, exactly, Then, Either, When, never, AnyPadding, Field}
 
 -- items one after the other
-abbrev pub Row : {X : Type 0} → (X → Spelling) → List X → Spelling
-Row item [] = exactly []
-Row item (x ∷ xs) = Then (item x) (Row item xs)
+abbrev pub OneByOne : {X : Type 0} → (X → Spelling) → List X → Spelling
+OneByOne item [] = exactly []
+OneByOne item (x ∷ xs) = Then (item x) (OneByOne item xs)
 
 -- X.691 11.5.7.4: the o-th of n numbers in counted octets; the count is any code of its field (this project's choice)
 pub record InOctets (a : Settings) (n o p : ℕ) (bits : Bits) : Type 0 where
@@ -25,19 +25,19 @@ pub record InOctets (a : Settings) (n o p : ℕ) (bits : Bits) : Type 0 where
   pub spelled : Then (Field (width ((width n + 7) / 8)) more) (Then (AnyPadding a) (Field (8 * suc more) o)) p bits
 
 -- X.691 11.5.6, 11.5.7: the o-th of n numbers, by the variant
-abbrev pub bounded_by : Variant → Settings → ℕ → ℕ → Spelling
-bounded_by unaligned a n o = Field (width n) o
-bounded_by aligned a n o = cond (leb n 255) (Field (width n) o) (cond (eqb n 256) (Then (AnyPadding a) (Field 8 o))
-    (cond (leb n 65536) (Then (AnyPadding a) (Field 16 o)) (InOctets a n o)))
+abbrev pub constrained_by : Variant → Settings → ℕ → ℕ → Spelling
+constrained_by unaligned a n o = Field (width n) o
+constrained_by aligned a n o = cond (nat_le n 255) (Field (width n) o) (cond (n == 256) (Then (AnyPadding a) (Field 8 o))
+    (cond (nat_le n 65536) (Then (AnyPadding a) (Field 16 o)) (InOctets a n o)))
 
 -- X.691 11.5.6, 11.5.7: the o-th of n numbers, by the settings
-abbrev pub bounded_form : Settings → ℕ → ℕ → Spelling
-bounded_form a n o = bounded_by a.variant a n o
+abbrev pub constrained_form : Settings → ℕ → ℕ → Spelling
+constrained_form a n o = constrained_by a.variant a n o
 
 -- X.691 11.5: a constrained whole number; a code past the last number has no meaning
-pub record IsBounded (a : Settings) (n o p : ℕ) (bits : Bits) : Type 0 where
+pub record IsConstrainedWhole (a : Settings) (n o p : ℕ) (bits : Bits) : Type 0 where
   pub below : o < n
-  pub spelled : bounded_form a n o p bits
+  pub spelled : constrained_form a n o p bits
 
 -- X.691 11.9.3.6, 11.9.3.7: a count below 16384, in one octet or two; two may also stand below 128 (this project's choice)
 abbrev pub LastCount : ℕ → Spelling
@@ -56,15 +56,15 @@ pub record Fragmented {X : Type 0} (a : Settings) (item : X → Spelling) (rest 
   pub these : List X
   pub others : List X
   pub all : xs ≡ these ++ others
-  pub spelled : Then (AnyPadding a) (Then (Fragment (length these)) (Then (Row item these) (rest others))) p bits
+  pub spelled : Then (AnyPadding a) (Then (Fragment (length these)) (Then (OneByOne item these) (rest others))) p bits
 
 -- items in k fragments, of any of the four counts (this project's choice), and a last row
 abbrev pub InFragments : {X : Type 0} → Settings → (X → Spelling) → ℕ → List X → Spelling
-InFragments a item zero xs = Then (AnyPadding a) (Then (LastCount (length xs)) (Row item xs))
+InFragments a item zero xs = Then (AnyPadding a) (Then (LastCount (length xs)) (OneByOne item xs))
 InFragments a item (suc k) xs = Fragmented a item (InFragments a item k) xs
 
 -- X.691 11.9.3.5 to 11.9.3.8: items after an unconstrained length
-pub record Unsized {X : Type 0} (a : Settings) (item : X → Spelling) (xs : List X) (p : ℕ) (bits : Bits) : Type 0 where
+pub record UnconstrainedLength {X : Type 0} (a : Settings) (item : X → Spelling) (xs : List X) (p : ℕ) (bits : Bits) : Type 0 where
   pub fragments : ℕ
   pub spelled : InFragments a item fragments xs p bits
 
@@ -76,11 +76,11 @@ PaddingIf false a = exactly []
 -- X.691 11.9.3.3, 11.9.4.1: items whose count is a constrained whole number where both bounds are there and the upper one is below
 -- 65536, and else unconstrained
 abbrev pub length_form : {X : Type 0} → Settings → Option ℕ → Option ℕ → Counted → (X → Spelling) → List X → Spelling
-length_form a None most kind item xs = Unsized a item xs
-length_form a (Some lb) None kind item xs = Unsized a item xs
-length_form a (Some lb) (Some ub) kind item xs = cond (ltb ub 65536)
-    (Then (IsBounded a (ub - lb + 1) (length xs - lb)) (Then (PaddingIf (ltb 0 (length xs) && is_aligned kind lb ub) a) (Row item xs)))
-    (Unsized a item xs)
+length_form a None most kind item xs = UnconstrainedLength a item xs
+length_form a (Some lb) None kind item xs = UnconstrainedLength a item xs
+length_form a (Some lb) (Some ub) kind item xs = cond (nat_lt ub 65536)
+    (Then (IsConstrainedWhole a (ub - lb + 1) (length xs - lb)) (Then (PaddingIf (nat_lt 0 (length xs) && is_aligned kind lb ub) a) (OneByOne item xs)))
+    (UnconstrainedLength a item xs)
 
 -- items whose count the size allows
 pub record Sized {X : Type 0} (a : Settings) (size : Size) (kind : Counted) (item : X → Spelling) (xs : List X) (p : ℕ) (bits : Bits) : Type 0 where
@@ -110,14 +110,14 @@ abbrev pub Octets : Settings → List ℕ → Spelling
 Octets a = Sized a any_size octet_items octet
 
 -- X.691 11.7: a number without sign in one octet or more; superfluous ones may lead (this project's choice)
-pub record InNatural (a : Settings) (n p : ℕ) (bits : Bits) : Type 0 where
+pub record IsSemiConstrainedWhole (a : Settings) (n p : ℕ) (bits : Bits) : Type 0 where
   pub octets : List ℕ
   pub some : 0 < length octets
   pub means : unsigned octets ≡ n
   pub spelled : Octets a octets p bits
 
 -- X.691 11.8: a number in two's complement in one octet or more; superfluous ones may lead (this project's choice)
-pub record InWhole (a : Settings) (z : ℤ) (p : ℕ) (bits : Bits) : Type 0 where
+pub record IsUnconstrainedWhole (a : Settings) (z : ℤ) (p : ℕ) (bits : Bits) : Type 0 where
   pub octets : List ℕ
   pub some : 0 < length octets
   pub means : signed octets ≡ z
@@ -125,10 +125,10 @@ pub record InWhole (a : Settings) (z : ℤ) (p : ℕ) (bits : Bits) : Type 0 whe
 
 -- X.691 11.5, 11.7, 11.8: a number as its bounds say; under bounds it fits i128 (this project's choice)
 abbrev pub number_spelling : Settings → Option ℤ → Option ℤ → ℤ → Spelling
-number_spelling a None None z = InWhole a z
-number_spelling a None (Some u) z = When (fits_i128 z ≡ true) (InWhole a z)
-number_spelling a (Some l) None z = When (fits_i128 z ≡ true) (InNatural a (above l z))
-number_spelling a (Some l) (Some u) z = When (fits_i128 z ≡ true) (IsBounded a (above l u + 1) (above l z))
+number_spelling a None None z = IsUnconstrainedWhole a z
+number_spelling a None (Some u) z = When (fits_i128 z ≡ true) (IsUnconstrainedWhole a z)
+number_spelling a (Some l) None z = When (fits_i128 z ≡ true) (IsSemiConstrainedWhole a (above l z))
+number_spelling a (Some l) (Some u) z = When (fits_i128 z ≡ true) (IsConstrainedWhole a (above l u + 1) (above l z))
 
 -- X.691 13.2: a number within bounds
 pub record IsNumber (a : Settings) (bounds : Bounds) (z : ℤ) (p : ℕ) (bits : Bits) : Type 0 where
@@ -276,7 +276,7 @@ ExtensionBit false true = never
 
 -- X.691 23: an alternative of the root in place, or an addition in an open type; only those of the schema
 abbrev pub Alternative : Settings → Bool → List Rule → List Rule → Side → ℕ → Value → Spelling
-Alternative a ext rs adds root i v = Then (ExtensionBit ext false) (Then (IsBounded a (length rs) i) (Chosen rs i v))
+Alternative a ext rs adds root i v = Then (ExtensionBit ext false) (Then (IsConstrainedWhole a (length rs) i) (Chosen rs i v))
 Alternative a ext rs adds added i v = Then (ExtensionBit ext true) (Then (Small a i) (Open a (Fills a (Chosen adds i v))))
 
 -- X.691 14.3: an item behind the extension marker; only those of the schema
@@ -286,7 +286,7 @@ pub record AddedItem (a : Settings) (addeds i p : ℕ) (bits : Bits) : Type 0 wh
 
 -- X.691 14: an item of an ENUMERATED
 abbrev pub Item : Settings → ℕ → ℕ → Bool → Side → ℕ → Spelling
-Item a roots addeds ext root i = Then (ExtensionBit ext false) (IsBounded a roots i)
+Item a roots addeds ext root i = Then (ExtensionBit ext false) (IsConstrainedWhole a roots i)
 Item a roots addeds ext added i = Then (ExtensionBit ext true) (AddedItem a addeds i)
 
 -- X.691 30.5.4: a permitted character, by its code
@@ -303,14 +303,14 @@ String a alphabet size mark = Lengthy a size mark (char_items (char_width a.vari
 pub record YearIn (a : Settings) (low n : ℕ) (y : ℤ) (p : ℕ) (bits : Bits) : Type 0 where
   pub past : ℕ
   pub is : y ≡ pos (low + past)
-  pub spelled : IsBounded a n past p bits
+  pub spelled : IsConstrainedWhole a n past p bits
 
 -- a year: one of three ranges, or any number (this project's profile of X.691 32)
 abbrev pub year_form : Settings → ℕ → ℤ → Spelling
 year_form a zero = YearIn a 2005 16
 year_form a (suc zero) = YearIn a 2021 256
 year_form a (suc (suc zero)) = YearIn a 1749 256
-year_form a (suc (suc (suc zero))) = InWhole a
+year_form a (suc (suc (suc zero))) = IsUnconstrainedWhole a
 year_form a (suc (suc (suc (suc n)))) = λ y. never
 
 -- a year; any may stand as number
@@ -321,7 +321,7 @@ pub record Year (a : Settings) (y : ℤ) (p : ℕ) (bits : Bits) : Type 0 where
 -- X.691 32: a day of the calendar; month and day are counted from 0
 pub record IsDay (a : Settings) (x : ℤ × ℕ × ℕ) (p : ℕ) (bits : Bits) : Type 0 where
   pub is_day : is_date x.0 (suc x.1) (suc x.2) ≡ true
-  pub spelled : Then (Year a x.0) (Then (IsBounded a 12 x.1) (IsBounded a 31 x.2)) p bits
+  pub spelled : Then (Year a x.0) (Then (IsConstrainedWhole a 12 x.1) (IsConstrainedWhole a 31 x.2)) p bits
 
 -- X.691 13: a number of the type's range under a value constraint
 pub record IsNumberOf (a : Settings) (bounds : Bounds) (mark : Bool) (range : Bounds) (z : ℤ) (p : ℕ) (bits : Bits) : Type 0 where

@@ -1,5 +1,5 @@
 -- The canonical encoding of a value in normal form (ITU-T X.691, 12 to 24, 30 and 32).
-use Rattle.std.specs.Prelude.{ℕ, zero, suc, ◌-◌, Bool, true, false, cond, not, ◌&&◌, ◌||◌, leb, ltb, List, [], ◌∷◌, map, length, Option, Some, None, ℤ, pos, negsuc}
+use Rattle.std.specs.Prelude.{ℕ, zero, suc, ◌-◌, Bool, true, false, if◌then◌else◌, not, ◌&&◌, ◌||◌, nat_le, nat_lt, List, [], ◌∷◌, map, length, Option, Some, None, ℤ, pos, negsuc}
 use lib.Signed.{le_z}
 use Rattle.rasn_types.specs.Alphabets.{char_width, char_code, visible}
 use Rattle.rasn_types.specs.Bits.{Bits, to_bits}
@@ -10,7 +10,7 @@ use Rattle.rasn_constraints.specs.Bounds.{holds, any_size}
 use Rattle.rasn_schema.specs.Orders.{ordered}
 use Rattle.rasn_schema.specs.Schemas
 use Rattle.rasn_schema.specs.Schemas.{tags, Presence, required, optional, group, default, Schema, Parts, no_parts, part}
-use Rattle.per_core.specs.Counts.{list_items, octet_items, bit_items, char_items, counted, octet_writers, bit_writers, octets_unsized, number_form, number_under, open_bits, small, bounded, determinant}
+use Rattle.per_core.specs.Counts.{list_items, octet_items, bit_items, char_items, counted, octet_writers, bit_writers, unconstrained_octets, number_form, number_under, open_bits, small, constrained_whole, determinant}
 use Rattle.per_core.specs.Writers.{Writer, just, refused, ◌▹◌, written_if, complete}
 
 -- a code in w bits, where there is one
@@ -95,10 +95,10 @@ any_set (b ∷ bs) = b || any_set bs
 
 -- X.691 19.7, 19.8, 11.9.3.4: the number of presence bits, normally small, and these bits
 unfoldable pub bitmap : Variant → Bits → Writer
-unfolding determinant bounded
-bitmap a flags = cond (leb (length flags) 64)
-    (just (false ∷ to_bits 6 (length flags - 1)) ▹ just flags)
-    (just (true ∷ []) ▹ counted a any_size false bit_items (bit_writers flags))
+unfolding determinant constrained_whole
+bitmap a flags = if nat_le (length flags) 64 then
+    just (false ∷ to_bits 6 (length flags - 1)) ▹ just flags
+    else just (true ∷ []) ▹ counted a any_size false bit_items (bit_writers flags)
 
 -- X.691 19.9: each addition that is written, in an open type
 abbrev pub opens_of : Variant → List Member → List (Option Value) → Bits → Writer
@@ -116,7 +116,7 @@ extension_bit true b = just (b ∷ [])
 abbrev pub with_additions : Variant → Bool → List Member → List (Option Value) → Writer → Option Bits → Writer
 with_additions a ext ms ss inner None = refused
 with_additions a ext ms ss inner (Some bs) =
-    extension_bit ext (any_set bs) ▹ inner ▹ cond (any_set bs) (bitmap a bs ▹ opens_of a ms ss bs) (just [])
+    extension_bit ext (any_set bs) ▹ inner ▹ (if any_set bs then bitmap a bs ▹ opens_of a ms ss bs else just [])
 
 -- X.691 19, 21: the parts of a SEQUENCE or SET, in the order in which they are written, and its additions
 unfoldable pub record_of : Variant → Bool → List Member → List Member → List (Option Value) → List (Option Value) → Writer
@@ -133,15 +133,15 @@ chosen (m ∷ ms) (suc i) v = chosen ms i v
 -- X.691 23: an alternative: of the root by a constrained whole number and in place, an addition by a normally small number and in an
 -- open type
 unfoldable pub choice_of : Variant → Bool → List Member → List Member → Side → ℕ → Value → Writer
-unfolding bounded small open_bits
-choice_of a ext ms adds root i v = extension_bit ext false ▹ bounded a (length ms) i ▹ chosen ms i v
+unfolding constrained_whole small open_bits
+choice_of a ext ms adds root i v = extension_bit ext false ▹ constrained_whole a (length ms) i ▹ chosen ms i v
 choice_of a ext ms adds added i v = extension_bit ext true ▹ small a i ▹ open_bits a (chosen adds i v 0)
 
 -- X.691 14: an item of an ENUMERATED: of the root by a constrained whole number, an addition by a normally small number
 unfoldable pub item_of : Variant → ℕ → ℕ → Bool → Side → ℕ → Writer
-unfolding bounded small
-item_of a roots addeds ext root i = extension_bit ext false ▹ bounded a roots i
-item_of a roots addeds ext added i = extension_bit ext true ▹ written_if (ltb i addeds) (small a i)
+unfolding constrained_whole small
+item_of a roots addeds ext root i = extension_bit ext false ▹ constrained_whole a roots i
+item_of a roots addeds ext added i = extension_bit ext true ▹ written_if (nat_lt i addeds) (small a i)
 
 -- X.691 22: what an element of a SET OF is sorted by: its complete encoding from position 0
 abbrev pub octet_key : Option Bits → List ℕ
@@ -163,17 +163,17 @@ year_of (negsuc n) = 0
 
 -- a year: the first of three ranges that holds it, or any number (this project's profile of X.691 32)
 unfoldable pub year_writer : Variant → ℤ → Writer
-unfolding bounded number_under
+unfolding constrained_whole number_under
 year_writer a y =
-    cond (in_range 2005 2020 y) (bounded a 4 0 ▹ bounded a 16 (year_of y - 2005))
-    (cond (in_range 2021 2276 y) (bounded a 4 1 ▹ bounded a 256 (year_of y - 2021))
-    (cond (in_range 1749 2004 y) (bounded a 4 2 ▹ bounded a 256 (year_of y - 1749))
-    (bounded a 4 3 ▹ number_under a None None y)))
+    if in_range 2005 2020 y then constrained_whole a 4 0 ▹ constrained_whole a 16 (year_of y - 2005)
+    else if in_range 2021 2276 y then constrained_whole a 4 1 ▹ constrained_whole a 256 (year_of y - 2021)
+    else if in_range 1749 2004 y then constrained_whole a 4 2 ▹ constrained_whole a 256 (year_of y - 1749)
+    else constrained_whole a 4 3 ▹ number_under a None None y
 
 -- X.691 32: a day of the calendar: year, month and day
 unfoldable pub date_of : Variant → ℤ → ℕ → ℕ → Writer
 unfolding year_writer
-date_of a y m d = written_if (is_date y m d) (year_writer a y ▹ bounded a 12 (m - 1) ▹ bounded a 31 (d - 1))
+date_of a y m d = written_if (is_date y m d) (year_writer a y ▹ constrained_whole a 12 (m - 1) ▹ constrained_whole a 31 (d - 1))
 
 -- a writer of a whole number, for a value of this kind alone
 abbrev pub on_whole : (ℤ → Writer) → Value → Writer
@@ -244,9 +244,9 @@ unfoldable mutual
   canon a Schema.null = on_nothing (just [])
   canon a Schema.real = λ v. refused
   canon a Schema.cut = λ v. refused
-  canon a Schema.any = on_octets (octets_unsized a)
-  canon a (Schema.text kind) = on_octets (λ os. written_if (is_text kind os) (octets_unsized a os))
-  canon a Schema.identifier = on_octets (λ os. written_if (is_identifier os) (octets_unsized a os))
+  canon a Schema.any = on_octets (unconstrained_octets a)
+  canon a (Schema.text kind) = on_octets (λ os. written_if (is_text kind os) (unconstrained_octets a os))
+  canon a Schema.identifier = on_octets (λ os. written_if (is_identifier os) (unconstrained_octets a os))
   canon a (Schema.time kind) =
       on_characters (λ cs. written_if (is_time kind cs) (counted a any_size false (char_items (char_width a visible)) (char_writers a visible cs)))
   canon a Schema.date = on_day (date_of a)

@@ -1,20 +1,20 @@
 -- Constrained whole numbers, lengths, numbers, and open types as they are written (ITU-T X.691, 11.2 and 11.5 to 11.9).
-use Rattle.std.specs.Prelude.{ℕ, zero, suc, ◌+◌, ◌-◌, ◌*◌, ◌/◌, ◌%◌, Bool, true, false, cond, not, ◌&&◌, leb, ltb, eqb, List, [], ◌∷◌, ◌++◌, map, length, take, drop, replicate, Option, Some, None, ℤ, pos}
+use Rattle.std.specs.Prelude.{ℕ, zero, suc, ◌+◌, ◌-◌, ◌*◌, ◌/◌, ◌%◌, Bool, true, false, if◌then◌else◌, not, ◌&&◌, nat_le, nat_lt, ◌==◌, List, [], ◌∷◌, ◌++◌, map, length, take, drop, replicate, Option, Some, None, ℤ, pos}
 use Rattle.rasn_types.specs.Bits.{Bits, width, to_bits, pack}
 use Rattle.rasn_types.specs.Octets.{octets_of_natural, natural_bits, whole_bits}
 use Rattle.rasn_types.specs.Variants.{Variant, aligned, unaligned}
 use Rattle.rasn_constraints.specs.Bounds.{allows, holds, fits_i128, above, Bounds, Size, any_size}
-use Rattle.per_core.specs.Writers.{Writer, just, refused, ◌▹◌, in_a_row, padding, written_if, complete}
+use Rattle.per_core.specs.Writers.{Writer, just, refused, ◌▹◌, one_by_one, padding, written_if, complete}
 
 -- X.691 11.5: a constrained whole number: the o-th of n numbers, counted from 0
-unfoldable pub bounded : Variant → ℕ → ℕ → Writer
+unfoldable pub constrained_whole : Variant → ℕ → ℕ → Writer
 unfolding width octets_of_natural natural_bits
-bounded unaligned n o = written_if (ltb o n) (just (to_bits (width n) o))
-bounded aligned n o = written_if (ltb o n)
-    (cond (leb n 255) (just (to_bits (width n) o))
-    (cond (eqb n 256) (padding aligned ▹ just (to_bits 8 o))
-    (cond (leb n 65536) (padding aligned ▹ just (to_bits 16 o))
-    (just (to_bits (width ((width n + 7) / 8)) (octets_of_natural o - 1)) ▹ padding aligned ▹ just (natural_bits o)))))
+constrained_whole unaligned n o = written_if (nat_lt o n) (just (to_bits (width n) o))
+constrained_whole aligned n o = written_if (nat_lt o n)
+    (if nat_le n 255 then just (to_bits (width n) o)
+    else if n == 256 then padding aligned ▹ just (to_bits 8 o)
+    else if nat_le n 65536 then padding aligned ▹ just (to_bits 16 o)
+    else just (to_bits (width ((width n + 7) / 8)) (octets_of_natural o - 1)) ▹ padding aligned ▹ just (natural_bits o))
 
 -- a row of n items, unless it is empty
 abbrev pub unless_zero : ℕ → List ℕ
@@ -23,17 +23,17 @@ unless_zero (suc n) = suc n ∷ []
 
 -- X.691 11.9.3.8: how many items stand in each row: 65536 as often as it fits, then 49152, 32768 or 16384 where one fits, and
 -- then the rest below 16384, which is always there
-abbrev pub rows : ℕ → List ℕ
-rows n = replicate (n / 65536) 65536 ++ (unless_zero (n % 65536 / 16384 * 16384) ++ n % 16384 ∷ [])
+abbrev pub fragment_sizes : ℕ → List ℕ
+fragment_sizes n = replicate (n / 65536) 65536 ++ (unless_zero (n % 65536 / 16384 * 16384) ++ n % 16384 ∷ [])
 
 -- X.691 11.9.3.6 to 11.9.3.8: the length determinant of a row
 unfoldable pub determinant : ℕ → Bits
-determinant m = cond (ltb m 128) (to_bits 8 m) (cond (ltb m 16384) (true ∷ false ∷ to_bits 14 m) (to_bits 8 (192 + m / 16384)))
+determinant m = if nat_lt m 128 then to_bits 8 m else if nat_lt m 16384 then true ∷ false ∷ to_bits 14 m else to_bits 8 (192 + m / 16384)
 
--- X.691 11.9.3.5 to 11.9.3.8: the items in rows, each row after padding and its determinant
-abbrev pub in_rows : Variant → List ℕ → List Writer → Writer
-in_rows a [] items = just []
-in_rows a (m ∷ ms) items = padding a ▹ just (determinant m) ▹ in_a_row (take m items) ▹ in_rows a ms (drop m items)
+-- X.691 11.9.3.5 to 11.9.3.8: the items in fragment_sizes, each row after padding and its determinant
+abbrev pub in_fragments : Variant → List ℕ → List Writer → Writer
+in_fragments a [] items = just []
+in_fragments a (m ∷ ms) items = padding a ▹ just (determinant m) ▹ one_by_one (take m items) ▹ in_fragments a ms (drop m items)
 
 -- what is counted: elements, octets, bits, or characters of some width
 pub data Counted : Type 0 where
@@ -43,9 +43,9 @@ pub data Counted : Type 0 where
 -- X.691 16.9 to 16.11, 17.6 to 17.8, 20.6, 30.5.6, 30.5.7: whether items begin on an octet, after a bounded length above 0
 abbrev pub is_aligned : Counted → ℕ → ℕ → Bool
 is_aligned list_items lb ub = false
-is_aligned octet_items lb ub = not (eqb lb ub && leb ub 2)
-is_aligned bit_items lb ub = not (eqb lb ub && leb ub 16)
-is_aligned (char_items w) lb ub = cond (eqb lb ub) (ltb 16 (ub * w)) (leb 16 (ub * w))
+is_aligned octet_items lb ub = not (lb == ub && nat_le ub 2)
+is_aligned bit_items lb ub = not (lb == ub && nat_le ub 16)
+is_aligned (char_items w) lb ub = if lb == ub then nat_lt 16 (ub * w) else nat_le 16 (ub * w)
 
 -- padding, where a test passes
 abbrev pub padding_if : Bool → Variant → Writer
@@ -53,13 +53,13 @@ padding_if true a = padding a
 padding_if false a = just []
 
 -- X.691 11.9.3.3, 11.9.4.1: items whose count is written as a constrained whole number where both bounds are there and the upper one
--- is below 65536, and else in rows
+-- is below 65536, and else in fragment_sizes
 abbrev pub counted_under : Variant → Option ℕ → Option ℕ → Counted → ℕ → List Writer → Writer
-counted_under a (Some lb) (Some ub) kind n items = cond (ltb ub 65536)
-    (bounded a (ub - lb + 1) (n - lb) ▹ padding_if (ltb 0 n && is_aligned kind lb ub) a ▹ in_a_row items)
-    (in_rows a (rows n) items)
-counted_under a None most kind n items = in_rows a (rows n) items
-counted_under a (Some lb) None kind n items = in_rows a (rows n) items
+counted_under a (Some lb) (Some ub) kind n items = if nat_lt ub 65536 then
+    constrained_whole a (ub - lb + 1) (n - lb) ▹ padding_if (nat_lt 0 n && is_aligned kind lb ub) a ▹ one_by_one items
+    else in_fragments a (fragment_sizes n) items
+counted_under a None most kind n items = in_fragments a (fragment_sizes n) items
+counted_under a (Some lb) None kind n items = in_fragments a (fragment_sizes n) items
 
 -- items, where the size allows their count
 abbrev pub counted_in : Variant → Size → Counted → List Writer → Writer
@@ -79,26 +79,26 @@ counted a size mark kind items =
 
 -- octets, of eight bits each
 abbrev pub octet_writers : List ℕ → List Writer
-octet_writers os = map (λ o. written_if (ltb o 256) (just (to_bits 8 o))) os
+octet_writers os = map (λ o. written_if (nat_lt o 256) (just (to_bits 8 o))) os
 
 -- bits, of one each
 abbrev pub bit_writers : Bits → List Writer
 bit_writers bs = map (λ b. just (b ∷ [])) bs
 
 -- X.691 11.9.3.5: octets after an unconstrained length
-abbrev pub octets_unsized : Variant → List ℕ → Writer
-octets_unsized a os = counted a any_size false octet_items (octet_writers os)
+abbrev pub unconstrained_octets : Variant → List ℕ → Writer
+unconstrained_octets a os = counted a any_size false octet_items (octet_writers os)
 
 -- whole octets, given as bits, after an unconstrained length
 unfoldable pub counted_octets : Variant → Bits → Writer
-unfolding width octets_of_natural natural_bits bounded determinant
-counted_octets a bits = octets_unsized a (pack (length bits / 8) bits)
+unfolding width octets_of_natural natural_bits constrained_whole determinant
+counted_octets a bits = unconstrained_octets a (pack (length bits / 8) bits)
 
 -- X.691 11.5, 11.7, 11.8, 13.2: a number as its bounds say; an upper bound alone leaves it unconstrained. Under bounds it fits i128
 -- (this project's choice)
 unfoldable pub number_under : Variant → Option ℤ → Option ℤ → ℤ → Writer
-unfolding natural_bits whole_bits counted_octets bounded
-number_under a (Some l) (Some u) v = written_if (fits_i128 v) (bounded a (above l u + 1) (above l v))
+unfolding natural_bits whole_bits counted_octets constrained_whole
+number_under a (Some l) (Some u) v = written_if (fits_i128 v) (constrained_whole a (above l u + 1) (above l v))
 number_under a (Some l) None v = written_if (fits_i128 v) (counted_octets a (natural_bits (above l v)))
 number_under a None (Some u) v = written_if (fits_i128 v) (counted_octets a (whole_bits v))
 number_under a None None v = counted_octets a (whole_bits v)
@@ -111,11 +111,11 @@ number_form a bounds mark v =
 
 -- X.691 11.2: an open type: the complete encoding of its contents, which begins at position 0, after an unconstrained length in octets
 unfoldable pub open_bits : Variant → Option Bits → Writer
-unfolding determinant bounded
+unfolding determinant constrained_whole
 open_bits a None = refused
-open_bits a (Some bits) = octets_unsized a (complete bits)
+open_bits a (Some bits) = unconstrained_octets a (complete bits)
 
 -- X.691 11.6: a normally small number: a bit 0 and six bits up to 63, else a bit 1 and a number with lower bound 0
 unfoldable pub small : Variant → ℕ → Writer
 unfolding number_under
-small a i = cond (ltb i 64) (just (false ∷ to_bits 6 i)) (just (true ∷ []) ▹ number_under a (Some (pos 0)) None (pos i))
+small a i = if nat_lt i 64 then just (false ∷ to_bits 6 i) else just (true ∷ []) ▹ number_under a (Some (pos 0)) None (pos i)

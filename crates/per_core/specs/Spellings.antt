@@ -18,7 +18,7 @@ pub record Then (f g : Spelling) (p : ℕ) (bits : Bits) : Type 0 where
   pub rest : Bits
   pub is_front : f p front
   pub is_rest : g (after p front) rest
-  pub whole : bits ≡ front ++ rest
+  pub joins : bits ≡ front ++ rest
 
 -- bits of one of two spellings
 abbrev pub Either : Spelling → Spelling → Spelling

@@ -10,5 +10,5 @@ place b = (8 - length b % 8) % 8
 -- a front of the bits s has the spelling, and the bits t are left
 pub record Took (f : Spelling) (s t : Bits) : Type 0 where
   pub front : Bits
-  pub whole : s ≡ front ++ t
+  pub joins : s ≡ front ++ t
   pub spelled : f (place s) front

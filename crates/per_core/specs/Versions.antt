@@ -1,5 +1,5 @@
 -- Versions of a schema behind extension markers (ITU-T X.680, 52): which is newer, and what a value of one is in the other.
-use Rattle.std.specs.Prelude.{ℕ, zero, suc, ◌≤◌, ◌≡◌, Bool, true, false, cond, ltb, List, [], ◌∷◌, Option, Some, None}
+use Rattle.std.specs.Prelude.{ℕ, zero, suc, ◌≤◌, ◌≡◌, Bool, true, false, if◌then◌else◌, nat_lt, List, [], ◌∷◌, Option, Some, None}
 use Rattle.rasn_types.specs.Values.{Value, item, elements, bag, bag_of, fields, alternative, root, added, values, as_values, slots, as_slots}
 use Rattle.rasn_schema.specs.Depth.{meets_cut}
 use Rattle.rasn_schema.specs.Normal.{root_of, additions_of}
@@ -73,7 +73,7 @@ through_alternative f g _ = None
 -- a root item, or one of the first n added ones; none of a value of another kind
 abbrev pub through_item : ℕ → Value → Option Value
 through_item n (item root i) = Some (item root i)
-through_item n (item added i) = cond (ltb i n) (Some (item added i)) None
+through_item n (item added i) = if nat_lt i n then Some (item added i) else None
 through_item n _ = None
 
 -- what becomes of a part, which may be absent

@@ -40,9 +40,9 @@ abbrev pub ◌▹◌ : Writer → Writer → Writer
 (f ▹ g) p = go_on (f p) g p
 
 -- writers one after the other
-abbrev pub in_a_row : List Writer → Writer
-in_a_row [] = just []
-in_a_row (f ∷ fs) = f ▹ in_a_row fs
+abbrev pub one_by_one : List Writer → Writer
+one_by_one [] = just []
+one_by_one (f ∷ fs) = f ▹ one_by_one fs
 
 -- X.691 11.1: zero bits up to the next octet, in ALIGNED alone
 abbrev pub padding : Variant → Writer

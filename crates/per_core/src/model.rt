@@ -49,7 +49,7 @@ pub fn canonical_bytes_are_decoded_with_remainder()
 {}
 
 /// A complete encoding is whole octets, at least one (X.691, 11.1).
-pub fn complete_encoding_is_whole_octets()
+pub fn complete_encoding_is_octets()
     ensures { (a : Settings) (s : Schema) (v : Value) (octets : List ℕ) →
         bytes a.variant s v ≡ Some octets → (0 < length octets) × AreOctets octets }
 {}

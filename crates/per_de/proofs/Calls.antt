@@ -52,17 +52,17 @@ faulty c s k e i (inr h) = inr (refuses c s k e i h.0 h.1)
 -- BOOLEAN
 pub reads_truth : (a : Settings) (b : Bool) (s t : Bits) → s ≡ b ∷ t → Took (basic a Schemas.boolean (truth b)) s t
 unfolding basic_in
-reads_truth a b s t e = record { front = b ∷ []; whole = e; spelled = record { of = b; is = refl; spelled = refl } }
+reads_truth a b s t e = record { front = b ∷ []; joins = e; spelled = record { of = b; is = refl; spelled = refl } }
 
 pub no_truth : (a : Settings) (s : Bits) → s ≡ [] → (v : Value) (t : Bits) → Took (basic a Schemas.boolean v) s t → ⊥
 unfolding basic_in
 no_truth a s e v t h =
-    let i : [] ≡ h.spelled.of ∷ t = sym e ∙ h.whole ∙ ap (λ z. z ++ t) h.spelled.spelled in cc
+    let i : [] ≡ h.spelled.of ∷ t = sym e ∙ h.joins ∙ ap (λ z. z ++ t) h.spelled.spelled in cc
 
 -- NULL
 pub reads_nothing : (a : Settings) (s : Bits) → Took (basic a Schemas.null nothing) s s
 unfolding basic_in
-reads_nothing a s = record { front = []; whole = refl; spelled = record { of = tt; is = refl; spelled = refl } }
+reads_nothing a s = record { front = []; joins = refl; spelled = record { of = tt; is = refl; spelled = refl } }
 
 -- INTEGER
 pub reads_whole : (a : Settings) (bounds : Bounds) (mark : Bool) (range : Bounds) (z : ℤ) (s t : Bits) → Took (IsNumberOf a bounds mark range z) s t
@@ -73,7 +73,7 @@ reads_whole a bounds mark range z s t h = took_map (λ p b i. record { of = z; i
 whole_read : (a : Settings) (bounds : Bounds) (mark : Bool) (range : Bounds) (v : Value) (s t : Bits) → Took (basic a (Schemas.number bounds mark range) v) s t
     → (z : ℤ) × Took (IsNumberOf a bounds mark range z) s t
 unfolding basic_in
-whole_read a bounds mark range v s t h = (h.spelled.of, record { front = h.front; whole = h.whole; spelled = h.spelled.spelled })
+whole_read a bounds mark range v s t h = (h.spelled.of, record { front = h.front; joins = h.joins; spelled = h.spelled.spelled })
 
 pub faulty_whole : (a : Settings) (bounds : Bounds) (mark : Bool) (range : Bounds) (s : Bits) (k : DecodeErrorKind) → Faulty (IsOfNumber a bounds mark s) (NoneIn (IsNumberOf a bounds mark range) s) k
     → Faulty (IsAt a (Schemas.number bounds mark range) s) (NoneIn (basic a (Schemas.number bounds mark range)) s) k

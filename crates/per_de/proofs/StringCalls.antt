@@ -27,7 +27,7 @@ module _ (a : Settings) where
 
   pub faulty_any : (s : Bits) (k : DecodeErrorKind) → Stopped (NoneIn (Octets a) s) k → Faulty (IsAt a Schemas.any s) (NoneIn (basic a Schemas.any) s) k
   unfolding basic_in
-  faulty_any s k = faulty_map k (λ h. h) (λ none v t b. none b.spelled.of t (record { front = b.front; whole = b.whole; spelled = b.spelled.spelled }))
+  faulty_any s k = faulty_map k (λ h. h) (λ none v t b. none b.spelled.of t (record { front = b.front; joins = b.joins; spelled = b.spelled.spelled }))
 
   -- GeneralString, GraphicString, TeletexString
   pub reads_other : (os : List ℕ) {s t : Bits} → Took (Octets a os) s t → Took (basic a (Schemas.text other) (octets os)) s t
@@ -36,7 +36,7 @@ module _ (a : Settings) where
 
   pub faulty_other : (s : Bits) (k : DecodeErrorKind) → Stopped (NoneIn (Octets a) s) k → Faulty (IsAt a (Schemas.text other) s) (NoneIn (basic a (Schemas.text other)) s) k
   unfolding basic_in
-  faulty_other s k = faulty_map k (tested_text a other s k) (λ none v t b. none b.spelled.of t (record { front = b.front; whole = b.whole; spelled = b.spelled.spelled.1 }))
+  faulty_other s k = faulty_map k (tested_text a other s k) (λ none v t b. none b.spelled.of t (record { front = b.front; joins = b.joins; spelled = b.spelled.spelled.1 }))
 
   -- UTF8String
   pub reads_utf8 : (os : List ℕ) {s t : Bits} → Took (Proper (is_text utf8) (Octets a) os) s t → Took (basic a (Schemas.text utf8) (octets os)) s t
@@ -45,7 +45,7 @@ module _ (a : Settings) where
 
   pub faulty_utf8 : (s : Bits) (k : DecodeErrorKind) → Faulty (IsOfText a utf8 s) (NoneIn (Proper (is_text utf8) (Octets a)) s) k → Faulty (IsAt a (Schemas.text utf8) s) (NoneIn (basic a (Schemas.text utf8)) s) k
   unfolding basic_in
-  faulty_utf8 s k = faulty_map k (λ h. h) (λ none v t b. none b.spelled.of t (record { front = b.front; whole = b.whole; spelled = b.spelled.spelled }))
+  faulty_utf8 s k = faulty_map k (λ h. h) (λ none v t b. none b.spelled.of t (record { front = b.front; joins = b.joins; spelled = b.spelled.spelled }))
 
   module _ (size : Size) (mark : Bool) where
     -- OCTET STRING
@@ -56,7 +56,7 @@ module _ (a : Settings) where
     pub faulty_octets : (s : Bits) (k : DecodeErrorKind) → Faulty (IsOfItems a size mark Octet s) (NoneIn (Lengthy a size mark octet_items octet) s) k
         → Faulty (IsAt a (Schemas.octet_string size mark) s) (NoneIn (basic a (Schemas.octet_string size mark)) s) k
     unfolding basic_in
-    faulty_octets s k = faulty_map k (λ h. h) (λ none v t b. none b.spelled.of t (record { front = b.front; whole = b.whole; spelled = b.spelled.spelled }))
+    faulty_octets s k = faulty_map k (λ h. h) (λ none v t b. none b.spelled.of t (record { front = b.front; joins = b.joins; spelled = b.spelled.spelled }))
 
     -- BIT STRING
     pub reads_bits : (bs : Bits) {s t : Bits} → Took (Lengthy a size mark bit_items bit bs) s t → Took (basic a (Schemas.bit_string size mark) (bits bs)) s t
@@ -66,7 +66,7 @@ module _ (a : Settings) where
     pub faulty_bits : (s : Bits) (k : DecodeErrorKind) → Faulty (IsOfItems a size mark Bit s) (NoneIn (Lengthy a size mark bit_items bit) s) k
         → Faulty (IsAt a (Schemas.bit_string size mark) s) (NoneIn (basic a (Schemas.bit_string size mark)) s) k
     unfolding basic_in
-    faulty_bits s k = faulty_map k (λ h. h) (λ none v t b. none b.spelled.of t (record { front = b.front; whole = b.whole; spelled = b.spelled.spelled }))
+    faulty_bits s k = faulty_map k (λ h. h) (λ none v t b. none b.spelled.of t (record { front = b.front; joins = b.joins; spelled = b.spelled.spelled }))
 
     -- the strings of known multiplier
     module _ (alphabet : List ℕ) where
@@ -77,4 +77,4 @@ module _ (a : Settings) where
       pub faulty_characters : (s : Bits) (k : DecodeErrorKind) → Faulty (IsOfString a alphabet size mark s) (NoneIn (String a alphabet size mark) s) k
           → Faulty (IsAt a (Schemas.char_string alphabet size mark) s) (NoneIn (basic a (Schemas.char_string alphabet size mark)) s) k
       unfolding basic_in
-      faulty_characters s k = faulty_map k (λ h. h) (λ none v t b. none b.spelled.of t (record { front = b.front; whole = b.whole; spelled = b.spelled.spelled }))
+      faulty_characters s k = faulty_map k (λ h. h) (λ none v t b. none b.spelled.of t (record { front = b.front; joins = b.joins; spelled = b.spelled.spelled }))

@@ -4,7 +4,7 @@ use Rattle.rasn_types.specs.Values.{Value}
 use Rattle.rasn_schema.specs.Schemas.{Schema}
 use Rattle.rasn_codec.specs.Calls.{ReadsWell}
 use Rattle.per_core.proofs.Took.{took_agree}
-use Rattle.per_core.proofs.Whole.{one_reading}
+use Rattle.per_core.proofs.Readings.{one_reading}
 use Rattle.per_read.specs.declared.error.DecodeErrorKind.TheVariants.{OutOfMemory}
 use Rattle.per_de.specs.State.{State, Spells, settings_of, with_bits}
 use Rattle.per_de.specs.Faults.{refusal}

@@ -90,7 +90,7 @@ bodies_back a (part k required c ps) h i [] t e f b = absurd b.spelled
 bodies_back a (part k required c ps) h i (x ∷ rs) t e f b =
     let q = then_took b in
     let y = q.1.spelled in
-    let w : Took (basic a c y.held) i.bits q.0 = record { front = q.1.front; whole = q.1.whole; spelled = y.spelled } in
+    let w : Took (basic a c y.held) i.bits q.0 = record { front = q.1.front; joins = q.1.joins; spelled = y.spelled } in
     let v : Spells c i y.held (with_bits i q.0) = record { live = f; took = subst (λ z. Took (basic z c y.held) i.bits q.0) (sym e) w; same = refl } in
     subst (λ z. ReadsParts Spells (part k required c ps) i (z ∷ rs) (with_bits i t)) (sym y.is) (reads_next (reads_required v) (bodies_back a ps h (with_bits i q.0) rs t e f q.2))
 bodies_back a (part k p c ps) h i rs t e f b = absurd (cc)
@@ -110,14 +110,14 @@ took_record a ps h v s t b = go b.spelled.of.0 b.spelled.of.1 b.spelled.is b.spe
   where
     root_of : (rs : List (Option Value)) (t : Bits) → Took (Root (rules a ps) rs) s t → Took (Bodies (rules a ps) (all_shown ps) rs) s t
     root_of rs t c =
-        let q = then_took (record { front = c.front; whole = c.whole; spelled = c.spelled.spelled }) in
+        let q = then_took (record { front = c.front; joins = c.joins; spelled = c.spelled.spelled }) in
         let r = flags_none a ps h c.spelled.shown s q.0 q.1 in
         subst (λ z. Took (Bodies (rules a ps) z rs) s t) r.0 (subst (λ z. Took (Bodies (rules a ps) c.spelled.shown rs) z t) (sym r.1) q.2)
 
     go : (rs xs : List (Option Value)) → v ≡ fields (as_slots rs) (as_slots xs) → Fields_in a true false (rules a ps) [] rs xs (place s) b.front
         → (rs : List (Option Value)) × (v ≡ record_value rs []) × Took (Bodies (rules a ps) (all_shown ps) rs) s t
     go rs [] e y =
-        let q = then_took (record { front = b.front; whole = b.whole; spelled = y }) in
+        let q = then_took (record { front = b.front; joins = b.joins; spelled = y }) in
         (rs, e, root_of rs t (subst (λ z. Took (Root (rules a ps) rs) s z) (nothing_took q.2) q.1))
     go rs (x ∷ xs) e y = absurd y.is_rest
 

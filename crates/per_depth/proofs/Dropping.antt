@@ -12,7 +12,7 @@ use Rattle.per_core.specs.Basic.{As, Additions_in, Chosen, Rule, basic, basic_in
 use Rattle.per_core.specs.Versions.{project, project_slots, project_at, slot_through, all_of, NewerPresence, Newer, NewerParts, unchanged, newer_list, newer_set_of, newer_sequence, newer_choice, no_more, more_parts, also}
 use Rattle.per_core.proofs.Lengths.{Zip, or_left, or_right}
 use Rattle.per_core.proofs.Records.{SlotRel, Along}
-use Rattle.per_core.proofs.Whole.{length-rules}
+use Rattle.per_core.proofs.Readings.{length-rules}
 use Rattle.per_core.proofs.Bags.{bag_source, any_in_bag, joined_of}
 use Rattle.per_core.proofs.Canonical.{canonical}
 use Rattle.per_laws.proofs.Older.{made_of, made_both_of, slot_some, slot_meets, same_tags}

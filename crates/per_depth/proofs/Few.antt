@@ -9,13 +9,13 @@ use Rattle.rasn_schema.specs.Orders.{ordered}
 use Rattle.rasn_schema.specs.Depth.{any_of, IsLeaf}
 use Rattle.per_core.specs.Spellings.{Settings}
 use Rattle.per_core.specs.Counts.{list_items}
-use Rattle.per_core.specs.Basic.{IsLeftOut, Fields, Lengthy, Rule, IsBounded, Chosen, Open, Fills, basic, basic_in, rules}
+use Rattle.per_core.specs.Basic.{IsLeftOut, Fields, Lengthy, Rule, IsConstrainedWhole, Chosen, Open, Fills, basic, basic_in, rules}
 use Rattle.per_core.proofs.Agree.{Agree, weaken, then_agree, never_agree, turned}
 use Rattle.per_core.proofs.Lengths.{Zip, bounded_agree, lengthy_agree, or_left, or_right, and_no}
 use Rattle.per_core.proofs.Unique.{as_agree, small_agree, open_agree, fills_agree}
 use Rattle.per_core.proofs.Records.{SlotRel, Kin, AllKin, Along, fields_agree}
 use Rattle.per_core.proofs.Bags.{any_in_bag}
-use Rattle.per_core.proofs.Whole.{one_reading, ordered-kin, along-listed, same_flags, same_bit, root_added}
+use Rattle.per_core.proofs.Readings.{one_reading, ordered-kin, along-listed, same_flags, same_bit, root_added}
 use Rattle.per_laws.proofs.Transitive.{or_both}
 use Rattle.per_depth.specs.Levels.{levels_of, levels_of_values, levels_of_slots, TakesLevel, TakesNone, ToLevels, PartsToLevels, to_leaf, to_date, no_date, still_cut, no_level, to_list, to_set_of, to_sequence, to_choice, to_no_parts, to_part}
 use Rattle.per_depth.specs.Written.{is_written, writes_cut, slots_write_cut, writes_cut_at}

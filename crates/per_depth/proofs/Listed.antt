@@ -9,7 +9,7 @@ use Rattle.rasn_schema.specs.Orders.{insert_at, how_many_less, by_tags}
 use Rattle.rasn_schema.specs.Schemas.{Tag, TagTree, TagTrees, leaf, one_of, no_trees, tree, tag_less, smallest, least_of, tags, required, optional, group, default, by_tag, Schema, Parts, no_parts, part}
 use Rattle.per_core.specs.Canon.{canon, members, record_of}
 use Rattle.per_core.proofs.Lengths.{and_left, and_right}
-use Rattle.per_core.proofs.Whole.{length-by_tags}
+use Rattle.per_core.proofs.Readings.{length-by_tags}
 use Rattle.per_depth.specs.Listings.{Relisted, nothing_listed, kept, exchanged, in_turn}
 use Rattle.per_depth.proofs.Tagged.{one_tag, apart, found_left, found_right, distinct_left, distinct_right}
 

@@ -178,23 +178,23 @@ newer_type_reads a T' T u' u k v os m n l l' e w c =
 mutual
   unfolding meets_cut writes_cut
 
-  pub whole_writes : (s t : Schema) (v : Value) → meets_cut s v ≡ false → writes_cut s t v ≡ false
-  whole_writes Schema.cut t v m = m
-  whole_writes (Schema.list e size mark) t (elements vs) m = any_less (meets_cut e) (writes_cut e (element_of t)) (whole_writes e (element_of t)) (values vs) m
-  whole_writes (Schema.list e size mark) t (bag vs) m = any_less (meets_cut e) (writes_cut e (element_of t)) (whole_writes e (element_of t)) (values vs) m
-  whole_writes (Schema.list e size mark) t _ m = refl
-  whole_writes (Schema.set_of e size mark) t (elements vs) m = any_less (meets_cut e) (writes_cut e (element_of t)) (whole_writes e (element_of t)) (values vs) m
-  whole_writes (Schema.set_of e size mark) t (bag vs) m = any_less (meets_cut e) (writes_cut e (element_of t)) (whole_writes e (element_of t)) (values vs) m
-  whole_writes (Schema.set_of e size mark) t _ m = refl
-  whole_writes (Schema.sequence o ps ext adds) t (fields r x) m =
+  pub uncut_writes : (s t : Schema) (v : Value) → meets_cut s v ≡ false → writes_cut s t v ≡ false
+  uncut_writes Schema.cut t v m = m
+  uncut_writes (Schema.list e size mark) t (elements vs) m = any_less (meets_cut e) (writes_cut e (element_of t)) (uncut_writes e (element_of t)) (values vs) m
+  uncut_writes (Schema.list e size mark) t (bag vs) m = any_less (meets_cut e) (writes_cut e (element_of t)) (uncut_writes e (element_of t)) (values vs) m
+  uncut_writes (Schema.list e size mark) t _ m = refl
+  uncut_writes (Schema.set_of e size mark) t (elements vs) m = any_less (meets_cut e) (writes_cut e (element_of t)) (uncut_writes e (element_of t)) (values vs) m
+  uncut_writes (Schema.set_of e size mark) t (bag vs) m = any_less (meets_cut e) (writes_cut e (element_of t)) (uncut_writes e (element_of t)) (values vs) m
+  uncut_writes (Schema.set_of e size mark) t _ m = refl
+  uncut_writes (Schema.sequence o ps ext adds) t (fields r x) m =
       or_both (slots_write_cut ps (root_of t) (slots r)) (slots_write_cut adds (additions_of t) (slots x))
       (whole_slots ps (root_of t) (slots r) (or_left (slots_meet_cut ps (slots r)) (slots_meet_cut adds (slots x)) m))
       (whole_slots adds (additions_of t) (slots x) (or_right (slots_meet_cut ps (slots r)) (slots_meet_cut adds (slots x)) m))
-  whole_writes (Schema.sequence o ps ext adds) t _ m = refl
-  whole_writes (Schema.choice ps adds ext) t (alternative root i v) m = whole_at ps (alternatives_of t) i v m
-  whole_writes (Schema.choice ps adds ext) t (alternative added i v) m = whole_at adds (added_of t) i v m
-  whole_writes (Schema.choice ps adds ext) t _ m = refl
-  whole_writes _ t v m = refl
+  uncut_writes (Schema.sequence o ps ext adds) t _ m = refl
+  uncut_writes (Schema.choice ps adds ext) t (alternative root i v) m = whole_at ps (alternatives_of t) i v m
+  uncut_writes (Schema.choice ps adds ext) t (alternative added i v) m = whole_at adds (added_of t) i v m
+  uncut_writes (Schema.choice ps adds ext) t _ m = refl
+  uncut_writes _ t v m = refl
 
   whole_slots : (ps qs : Parts) (xs : List (Option Value)) → slots_meet_cut ps xs ≡ false → slots_write_cut ps qs xs ≡ false
   whole_slots no_parts qs xs m = refl
@@ -203,12 +203,12 @@ mutual
   whole_slots (part t p s ps) (part t' p' s' ps') (None ∷ xs) m = whole_slots ps ps' xs m
   whole_slots (part t p s ps) (part t' p' s' ps') (Some v ∷ xs) m =
       or_both (is_written p' v && writes_cut s s' v) (slots_write_cut ps ps' xs)
-      (and_no (is_written p' v) (writes_cut s s' v) (whole_writes s s' v (or_left (meets_cut s v) (slots_meet_cut ps xs) m))) (whole_slots ps ps' xs (or_right (meets_cut s v) (slots_meet_cut ps xs) m))
+      (and_no (is_written p' v) (writes_cut s s' v) (uncut_writes s s' v (or_left (meets_cut s v) (slots_meet_cut ps xs) m))) (whole_slots ps ps' xs (or_right (meets_cut s v) (slots_meet_cut ps xs) m))
 
   whole_at : (ps qs : Parts) (i : ℕ) (v : Value) → meets_cut_at ps i v ≡ false → writes_cut_at ps qs i v ≡ false
   whole_at no_parts qs i v m = refl
   whole_at (part t p s ps) no_parts i v m = refl
-  whole_at (part t p s ps) (part t' p' s' ps') zero v m = whole_writes s s' v m
+  whole_at (part t p s ps) (part t' p' s' ps') zero v m = uncut_writes s s' v m
   whole_at (part t p s ps) (part t' p' s' ps') (suc i) v m = whole_at ps ps' i v m
 
 -- of octets that begin with canonical bytes nothing else is read than of the bytes alone

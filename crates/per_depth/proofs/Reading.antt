@@ -10,12 +10,12 @@ use Rattle.rasn_schema.specs.Orders.{ordered}
 use Rattle.rasn_schema.specs.Depth.{any_of, IsLeaf}
 use Rattle.per_core.specs.Spellings.{Settings}
 use Rattle.per_core.specs.Counts.{list_items}
-use Rattle.per_core.specs.Basic.{FlagOf, IsLeftOut, Fields, Lengthy, Rule, IsBounded, Chosen, Open, Fills, basic, basic_in, rules}
+use Rattle.per_core.specs.Basic.{FlagOf, IsLeftOut, Fields, Lengthy, Rule, IsConstrainedWhole, Chosen, Open, Fills, basic, basic_in, rules}
 use Rattle.per_core.proofs.Agree.{Agree, weaken, then_agree, agree_never, never_agree, turned}
 use Rattle.per_core.proofs.Lengths.{Zip, bounded_agree, lengthy_agree, or_left, or_right, and_no}
 use Rattle.per_core.proofs.Unique.{as_agree, small_agree, open_agree, fills_agree}
 use Rattle.per_core.proofs.Records.{SlotRel, Kin, AllKin, Along, fields_agree}
-use Rattle.per_core.proofs.Whole.{one_reading, item_agree, ordered-kin, along-listed, length-rules, same_flags, same_bit, root_added}
+use Rattle.per_core.proofs.Readings.{one_reading, item_agree, ordered-kin, along-listed, length-rules, same_flags, same_bit, root_added}
 use Rattle.per_laws.proofs.Transitive.{or_both}
 use Rattle.per_depth.specs.Written.{is_written, writes_cut, slots_write_cut, writes_cut_at}
 use Rattle.per_depth.proofs.Same.{slot_written_cut}
@@ -211,8 +211,8 @@ choice_kept a ext adds bdds {ps} {qs} n h h' v w = as_agree (λ v w. writes_cut 
     (λ x. Basic.Alternative a ext (rules a qs) (rules a bdds) x.0 x.1 x.2) (λ x. Basic.Alternative a ext (rules a ps) (rules a adds) x.0 x.1 x.2) v w
     (λ x y. go x.0 x.1 x.2 y.0 y.1 y.2)
   where
-    place : (i j : ℕ) → Agree (i ≡ j) (IsBounded a (length (rules a qs)) i) (IsBounded a (length (rules a ps)) j)
-    place i j = subst (λ k. Agree (i ≡ j) (IsBounded a (length (rules a qs)) i) (IsBounded a k j)) (length-rules a qs ∙ same_read_count n ∙ sym (length-rules a ps)) (bounded_agree a (length (rules a qs)) i j)
+    place : (i j : ℕ) → Agree (i ≡ j) (IsConstrainedWhole a (length (rules a qs)) i) (IsConstrainedWhole a (length (rules a ps)) j)
+    place i j = subst (λ k. Agree (i ≡ j) (IsConstrainedWhole a (length (rules a qs)) i) (IsConstrainedWhole a k j)) (length-rules a qs ∙ same_read_count n ∙ sym (length-rules a ps)) (bounded_agree a (length (rules a qs)) i j)
 
     go : (d : Side) (i : ℕ) (v : Value) (e : Side) (j : ℕ) (w : Value) → Agree (writes_cut (Schema.choice ps adds ext) (Schema.choice qs bdds ext) (alternative d i v) ≡ false)
         (Basic.Alternative a ext (rules a qs) (rules a bdds) d i v) (Basic.Alternative a ext (rules a ps) (rules a adds) e j w)

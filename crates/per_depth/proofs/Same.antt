@@ -9,9 +9,9 @@ use Rattle.rasn_schema.specs.Schemas.{Presence, required, optional, group, defau
 use Rattle.rasn_schema.specs.Orders.{ordered, by_tags, insert_at, how_many_less}
 use Rattle.rasn_schema.specs.Depth.{in_slots, any_of, CutOf, CutParts, cut_here, alike, cut_list, cut_set_of, cut_sequence, cut_choice, no_cut, cut_part}
 use Rattle.per_core.specs.Writers.{Writer, just, refused, ◌▹◌, go_on, written_if}
-use Rattle.per_core.specs.Counts.{counted, list_items, open_bits, bounded, small}
+use Rattle.per_core.specs.Counts.{counted, list_items, open_bits, constrained_whole, small}
 use Rattle.per_core.specs.Canon.{canon, members, Member, shown, flagged, if_shown, flags_of, bodies_of, also_bit, bitmap_of, bitmap, any_set, opens_of, with_additions, record_of, chosen, extension_bit, ascending}
-use Rattle.per_core.proofs.Whole.{length-by_tags}
+use Rattle.per_core.proofs.Readings.{length-by_tags}
 use Rattle.per_core.proofs.Lengths.{or_left, or_right}
 use Rattle.per_core.proofs.Presenting.{some_both}
 use Rattle.per_laws.proofs.Deeper.{same_cut_tags}
@@ -217,7 +217,7 @@ mutual
       (ordered_root o (tags qs) (members a ps) (members a qs) (same_length a c) (slots r) (fitting a c (slots r) m0)) (fitting a d (slots x) m1)
   same_writer a (cut_sequence c d) _ m = refl
   same_writer a (cut_choice {ext = ext} {ps = ps} {qs = qs} {adds = adds} {bdds = bdds} c d) (alternative root i v) m =
-      ap₂ (λ n w. extension_bit ext false ▹ bounded a n i ▹ w) (same_length a c) (same_chosen a c i v m)
+      ap₂ (λ n w. extension_bit ext false ▹ constrained_whole a n i ▹ w) (same_length a c) (same_chosen a c i v m)
   same_writer a (cut_choice {ext = ext} {ps = ps} {qs = qs} {adds = adds} {bdds = bdds} c d) (alternative added i v) m =
       ap (λ w. extension_bit ext true ▹ small a i ▹ open_bits a (w 0)) (same_chosen a d i v m)
   same_writer a (cut_choice c d) _ m = refl

@@ -104,7 +104,7 @@ pub fn type_reads()
 {}
 
 /// A value that meets no Cut of a reader's tree has no component there that is written and cut off, whoever writes it.
-pub fn whole_writes()
+pub fn uncut_writes()
     ensures { (reader writer : Schema) (v : Value) → meets_cut reader v ≡ false → writes_cut reader writer v ≡ false }
 {}
 

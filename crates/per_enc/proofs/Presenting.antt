@@ -13,7 +13,7 @@ use Rattle.rasn_constraints.specs.declared.constraints.Bounded.{Bounded}
 use Rattle.rasn_constraints.specs.declared.constraints.Extensible.{Extensible}
 use Rattle.rasn_schema.specs.Schemas.{Schema}
 use Rattle.rasn_codec.specs.Calls.{Behaves, Written, Writes, freely}
-use Rattle.per_core.specs.Counts.{counted_octets, octets_unsized}
+use Rattle.per_core.specs.Counts.{counted_octets, unconstrained_octets}
 use Rattle.per_core.specs.Writers.{Writer, join, just, written_if, ◌▹◌}
 use Rattle.per_core.specs.Canon.{canon}
 use Rattle.per_write.specs.declared.error.EncodeError.{EncodeError}
@@ -64,28 +64,28 @@ pub unbounded_law : (x y : State) (value : Option (Extensible (Bounded ℤ))) (r
 unbounded_law x y value range z result n f h p = record { law = unbounded_written x y value range z result n h p; behaves = behaves x y result f p.fails p.kept }
 
 -- X.691 11.2: octets of a type that isn't known
-any_bits : (a : Variant) (os : List ℕ) → octets_unsized a os ≡ canon a Schema.any (octets os)
+any_bits : (a : Variant) (os : List ℕ) → unconstrained_octets a os ≡ canon a Schema.any (octets os)
 unfolding canon
 any_bits a os = refl
 
 pub any_law : (x y : State) (taken os : List ℕ) (result : Result (Unit {0}) EncodeError) → taken ≡ os →
-    x.failed ≡ false → Puts IsMemory (octets_unsized (variant_of x.codec) taken) x result y → Writes encoder_rules Schema.any (octets os) x result y
+    x.failed ≡ false → Puts IsMemory (unconstrained_octets (variant_of x.codec) taken) x result y → Writes encoder_rules Schema.any (octets os) x result y
 any_law x y taken os result t f p =
-    writes x y (octets_unsized (variant_of x.codec) taken) Schema.any (octets os) result (ap (octets_unsized (variant_of x.codec)) t ∙ any_bits (variant_of x.codec) os) f p
+    writes x y (unconstrained_octets (variant_of x.codec) taken) Schema.any (octets os) result (ap (unconstrained_octets (variant_of x.codec)) t ∙ any_bits (variant_of x.codec) os) f p
 
 -- X.691 30.6: octets of a text
-text_bits : (a : Variant) (kind : TextKind) (os : List ℕ) → is_text kind os ≡ true → octets_unsized a os ≡ canon a (Schema.text kind) (octets os)
+text_bits : (a : Variant) (kind : TextKind) (os : List ℕ) → is_text kind os ≡ true → unconstrained_octets a os ≡ canon a (Schema.text kind) (octets os)
 unfolding canon
-text_bits a kind os h = ap (λ (b : Bool). written_if b (octets_unsized a os)) (sym h)
+text_bits a kind os h = ap (λ (b : Bool). written_if b (unconstrained_octets a os)) (sym h)
 
 pub text_law : (x y : State) (kind : TextKind) (taken os : List ℕ) (result : Result (Unit {0}) EncodeError) → taken ≡ os → is_text kind os ≡ true →
-    x.failed ≡ false → Puts IsMemory (octets_unsized (variant_of x.codec) taken) x result y → Writes encoder_rules (Schema.text kind) (octets os) x result y
+    x.failed ≡ false → Puts IsMemory (unconstrained_octets (variant_of x.codec) taken) x result y → Writes encoder_rules (Schema.text kind) (octets os) x result y
 text_law x y kind taken os result t h f p =
-    writes x y (octets_unsized (variant_of x.codec) taken) (Schema.text kind) (octets os) result (ap (octets_unsized (variant_of x.codec)) t ∙ text_bits (variant_of x.codec) kind os h) f p
+    writes x y (unconstrained_octets (variant_of x.codec) taken) (Schema.text kind) (octets os) result (ap (unconstrained_octets (variant_of x.codec)) t ∙ text_bits (variant_of x.codec) kind os h) f p
 
 -- any octets are a text of the other kinds
 pub other_law : (x y : State) (taken os : List ℕ) (result : Result (Unit {0}) EncodeError) → taken ≡ os →
-    x.failed ≡ false → Puts IsMemory (octets_unsized (variant_of x.codec) taken) x result y → Writes encoder_rules (Schema.text other) (octets os) x result y
+    x.failed ≡ false → Puts IsMemory (unconstrained_octets (variant_of x.codec) taken) x result y → Writes encoder_rules (Schema.text other) (octets os) x result y
 unfolding is_text
 other_law x y taken os result t f p = text_law x y other taken os result t refl f p
 

@@ -153,8 +153,8 @@ impl<A: Allocator + Clone> codec::Encoder for Encoder<A> {
     ) -> Result<(), EncodeError> {
         self.writer.check_unfailed()?;
         match constraints.value() {
-            Some(stated) => self.writer.put_constrained(stated, value),
-            None => self.writer.put_whole(value),
+            Some(stated) => self.writer.put_integer(stated, value),
+            None => self.writer.put_unconstrained_whole(value),
         }
     }
 

@@ -3,7 +3,7 @@ use Rattle.std.proofs.Common.{◌≡◌, refl, ap, subst, ℕ, zero, suc, ◌+�
 use Rattle.rasn_types.specs.Bits.{Bits}
 use Rattle.rasn_types.specs.Values.{Value}
 use Rattle.rasn_constraints.specs.Bounds.{allows, Size, any_size}
-use Rattle.per_core.specs.Basic.{Row, IsBounded, LastCount, Fragment, InFragments, Unsized, PaddingIf, length_form, Sized, Lengthy, Fills, Open, Rule, FlagOf, Flags, IsLeftOut, Holds, Body, Bodies, Root, Unknown, OpenOf, Additions, Fields}
+use Rattle.per_core.specs.Basic.{OneByOne, IsConstrainedWhole, LastCount, Fragment, InFragments, UnconstrainedLength, PaddingIf, length_form, Sized, Lengthy, Fills, Open, Rule, FlagOf, Flags, IsLeftOut, Holds, Body, Bodies, Root, Unknown, OpenOf, Additions, Fields}
 use Rattle.per_core.specs.Counts.{Counted, is_aligned}
 use Rattle.per_core.specs.Spellings.{Settings, Spelling, Then, Either, When, AnyPadding}
 use Rattle.per_core.specs.Writers.{after}
@@ -21,7 +21,7 @@ pub carries : {f g h : Spelling} → Carry f g → Carry g h → Carry f h
 carries x y = record { carry = λ p b e. y.carry p b (x.carry p b e) }
 
 pub then_carry : {f f' g g' : Spelling} → Carry f f' → Carry g g' → Carry (Then f g) (Then f' g')
-then_carry h k = record { carry = λ p b x. record { front = x.front; rest = x.rest; is_front = h.carry p x.front x.is_front; is_rest = k.carry (after p x.front) x.rest x.is_rest; whole = x.whole } }
+then_carry h k = record { carry = λ p b x. record { front = x.front; rest = x.rest; is_front = h.carry p x.front x.is_front; is_rest = k.carry (after p x.front) x.rest x.is_rest; joins = x.joins } }
 
 pub either_carry : {f f' g g' : Spelling} → Carry f f' → Carry g g' → Carry (Either f g) (Either f' g')
 either_carry {f} {f'} {g} {g'} h k = record { carry = λ p b x. go p b x }
@@ -48,7 +48,7 @@ module _ {X Y : Type 0} (R : X → Y → Type 0) (f : X → Spelling) (g : Y →
   zip-length [] (y ∷ ys) z = absurd z
   zip-length (x ∷ xs) [] z = absurd z
 
-  row_carry : (xs : List X) (ys : List Y) → Zip R xs ys → Carry (Row f xs) (Row g ys)
+  row_carry : (xs : List X) (ys : List Y) → Zip R xs ys → Carry (OneByOne f xs) (OneByOne g ys)
   row_carry [] [] z = kept
   row_carry (x ∷ xs) (y ∷ ys) z = then_carry (each x y z.0) (row_carry xs ys z.1)
   row_carry [] (y ∷ ys) z = absurd z
@@ -60,7 +60,7 @@ module _ {X Y : Type 0} (R : X → Y → Type 0) (f : X → Spelling) (g : Y →
   divided (x ∷ xs) xs' (y ∷ ys) z = let r = divided xs xs' ys z.1 in (y ∷ r.0, r.1, ap (λ l. y ∷ l) r.2, (z.0, r.3), r.4)
 
   fragments_carry : (a : Settings) (k : ℕ) (xs : List X) (ys : List Y) → Zip R xs ys → Carry (InFragments a f k xs) (InFragments a g k ys)
-  fragments_carry a zero xs ys z = subst (λ n. Carry (InFragments a f zero xs) (Then (AnyPadding a) (Then (LastCount n) (Row g ys)))) (zip-length xs ys z)
+  fragments_carry a zero xs ys z = subst (λ n. Carry (InFragments a f zero xs) (Then (AnyPadding a) (Then (LastCount n) (OneByOne g ys)))) (zip-length xs ys z)
       (then_carry kept (then_carry kept (row_carry xs ys z)))
   fragments_carry a (suc k) xs ys z = record {
     carry = λ p b x.
@@ -74,7 +74,7 @@ module _ {X Y : Type 0} (R : X → Y → Type 0) (f : X → Spelling) (g : Y →
         };
   }
 
-  unsized_carry : (a : Settings) (xs : List X) (ys : List Y) → Zip R xs ys → Carry (Unsized a f xs) (Unsized a g ys)
+  unsized_carry : (a : Settings) (xs : List X) (ys : List Y) → Zip R xs ys → Carry (UnconstrainedLength a f xs) (UnconstrainedLength a g ys)
   unsized_carry a xs ys z = record { carry = λ p b x. record { fragments = x.fragments; spelled = (fragments_carry a x.fragments xs ys z).carry p b x.spelled } }
 
   form_carry : (a : Settings) (l u : Option ℕ) (kind : Counted) (xs : List X) (ys : List Y) → Zip R xs ys → Carry (length_form a l u kind f xs) (length_form a l u kind g ys)
@@ -82,14 +82,14 @@ module _ {X Y : Type 0} (R : X → Y → Type 0) (f : X → Spelling) (g : Y →
   form_carry a (Some lb) None kind xs ys z = unsized_carry a xs ys z
   form_carry a (Some lb) (Some ub) kind xs ys z = choose (ltb ub 65536)
     where
-      bounded_row : Carry (Then (IsBounded a (ub - lb + 1) (length xs - lb)) (Then (PaddingIf (ltb 0 (length xs) && is_aligned kind lb ub) a) (Row f xs)))
-          (Then (IsBounded a (ub - lb + 1) (length ys - lb)) (Then (PaddingIf (ltb 0 (length ys) && is_aligned kind lb ub) a) (Row g ys)))
-      bounded_row = subst (λ n. Carry (Then (IsBounded a (ub - lb + 1) (length xs - lb)) (Then (PaddingIf (ltb 0 (length xs) && is_aligned kind lb ub) a) (Row f xs)))
-          (Then (IsBounded a (ub - lb + 1) (n - lb)) (Then (PaddingIf (ltb 0 n && is_aligned kind lb ub) a) (Row g ys)))) (zip-length xs ys z)
+      bounded_row : Carry (Then (IsConstrainedWhole a (ub - lb + 1) (length xs - lb)) (Then (PaddingIf (ltb 0 (length xs) && is_aligned kind lb ub) a) (OneByOne f xs)))
+          (Then (IsConstrainedWhole a (ub - lb + 1) (length ys - lb)) (Then (PaddingIf (ltb 0 (length ys) && is_aligned kind lb ub) a) (OneByOne g ys)))
+      bounded_row = subst (λ n. Carry (Then (IsConstrainedWhole a (ub - lb + 1) (length xs - lb)) (Then (PaddingIf (ltb 0 (length xs) && is_aligned kind lb ub) a) (OneByOne f xs)))
+          (Then (IsConstrainedWhole a (ub - lb + 1) (n - lb)) (Then (PaddingIf (ltb 0 n && is_aligned kind lb ub) a) (OneByOne g ys)))) (zip-length xs ys z)
           (then_carry kept (then_carry kept (row_carry xs ys z)))
 
-      choose : (t : Bool) → Carry (cond t (Then (IsBounded a (ub - lb + 1) (length xs - lb)) (Then (PaddingIf (ltb 0 (length xs) && is_aligned kind lb ub) a) (Row f xs))) (Unsized a f xs))
-          (cond t (Then (IsBounded a (ub - lb + 1) (length ys - lb)) (Then (PaddingIf (ltb 0 (length ys) && is_aligned kind lb ub) a) (Row g ys))) (Unsized a g ys))
+      choose : (t : Bool) → Carry (cond t (Then (IsConstrainedWhole a (ub - lb + 1) (length xs - lb)) (Then (PaddingIf (ltb 0 (length xs) && is_aligned kind lb ub) a) (OneByOne f xs))) (UnconstrainedLength a f xs))
+          (cond t (Then (IsConstrainedWhole a (ub - lb + 1) (length ys - lb)) (Then (PaddingIf (ltb 0 (length ys) && is_aligned kind lb ub) a) (OneByOne g ys))) (UnconstrainedLength a g ys))
       choose true = bounded_row
       choose false = unsized_carry a xs ys z
 

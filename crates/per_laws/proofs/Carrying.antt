@@ -6,13 +6,13 @@ use Rattle.rasn_schema.specs.Orders.{ordered, by_tags, insert_at, how_many_less}
 use Rattle.rasn_constraints.specs.Bounds.{Size}
 use Rattle.rasn_schema.specs.Schemas.{Order, listed, by_tag, Tag}
 use Rattle.per_core.specs.Basic
-use Rattle.per_core.specs.Basic.{As, Lengthy, IsBounded, Rule, Bodies, Root, OpenOf, Additions_in, Fields_in, Chosen}
+use Rattle.per_core.specs.Basic.{As, Lengthy, IsConstrainedWhole, Rule, Bodies, Root, OpenOf, Additions_in, Fields_in, Chosen}
 use Rattle.per_core.specs.Counts.{list_items}
 use Rattle.per_core.specs.Spellings.{Settings, Spelling}
 use Rattle.per_core.specs.Writers.{after}
 use Rattle.per_core.proofs.Lengths.{Zip}
 use Rattle.per_core.proofs.Records.{SlotRel, Along}
-use Rattle.per_core.proofs.Whole.{length-by_tags}
+use Rattle.per_core.proofs.Readings.{length-by_tags}
 use Rattle.per_laws.proofs.Carry.{Carry, kept, then_carry, either_carry, when_carry, fills_carry, open_carry, lengthy_carry, Leads, AllLead, held_carry, root_carry}
 
 pub as_carry : {X Y : Type 0} (make : X → Value) (make' : Y → Value) (f : X → Spelling) (g : Y → Spelling) (v w : Value) →
@@ -152,7 +152,7 @@ choice_as a ext rs' rs adds' adds l v w h = as_carry (λ (x : Side × ℕ × Val
     (λ x p b e s. let r = h x.0 x.1 x.2 e in ((x.0, x.1, r.0), r.1, (go x.0 x.1 x.2 r.0 r.2).carry p b s))
   where
     go : (d : Side) (i : ℕ) (x y : Value) → Carry (Chosen (rules_on d rs' adds') i x) (Chosen (rules_on d rs adds) i y) → Carry (Basic.Alternative a ext rs' adds' d i x) (Basic.Alternative a ext rs adds d i y)
-    go root i x y c = then_carry kept (then_carry (subst (λ n. Carry (IsBounded a (length rs') i) (IsBounded a n i)) l kept) c)
+    go root i x y c = then_carry kept (then_carry (subst (λ n. Carry (IsConstrainedWhole a (length rs') i) (IsConstrainedWhole a n i)) l kept) c)
     go added i x y c = then_carry kept (then_carry kept (open_carry a (λ os z. fills_carry a os c z)))
 
 -- lists of values, element by element

@@ -13,7 +13,7 @@ use Rattle.per_core.specs.Spellings.{Settings, Spelling}
 use Rattle.per_core.proofs.Bags.{any_in_bag}
 use Rattle.per_core.proofs.Lengths.{Zip, or_left, or_right}
 use Rattle.per_core.proofs.Records.{SlotRel, Along}
-use Rattle.per_core.proofs.Whole.{length-rules-in}
+use Rattle.per_core.proofs.Readings.{length-rules-in}
 use Rattle.per_laws.proofs.Carry.{Carry, kept, Leads, AllLead}
 use Rattle.per_laws.proofs.Carrying.{lengthy_as, additions_step, record_as, choice_as, rules_on}
 use Rattle.per_laws.proofs.Older.{slot_meets}

@@ -8,11 +8,11 @@ use Rattle.rasn_constraints.specs.Bounds.{above, Bounds, Size, any_size, unbound
 use Rattle.rasn_schema.specs.Orders.{ordered}
 use Rattle.rasn_schema.specs.Schemas.{tags, Schema, Parts, no_parts, part}
 use Rattle.per_core.specs.Basic
-use Rattle.per_core.specs.Basic.{bounded_by, IsBounded, InOctets, InFragments, Unsized, PaddingIf, length_form, Sized, Marked, Lengthy, octet, bit, Octets, InNatural, InWhole, number_spelling, IsNumber, IsNumberOf, at_least_zero, Small, Fills, Open, Rule, Unknown_in, Additions_in, IsBitmap, Fields_in, Chosen, Char, String, YearIn, year_form, IsDay, As, Proper, basic_in, rules_in, fills}
+use Rattle.per_core.specs.Basic.{constrained_by, IsConstrainedWhole, InOctets, InFragments, UnconstrainedLength, PaddingIf, length_form, Sized, Marked, Lengthy, octet, bit, Octets, IsSemiConstrainedWhole, IsUnconstrainedWhole, number_spelling, IsNumber, IsNumberOf, at_least_zero, Small, Fills, Open, Rule, Unknown_in, Additions_in, IsBitmap, Fields_in, Chosen, Char, String, YearIn, year_form, IsDay, As, Proper, basic_in, rules_in, fills}
 use Rattle.per_core.specs.Counts.{Counted, list_items, octet_items, bit_items, char_items, is_aligned}
 use Rattle.per_core.specs.Spellings.{Settings, Spelling, exactly, Then, AnyPadding, Field}
 use Rattle.per_core.proofs.Lengths.{Zip}
-use Rattle.per_core.proofs.Whole.{length-rules-in}
+use Rattle.per_core.proofs.Readings.{length-rules-in}
 use Rattle.per_laws.proofs.Carry.{Carry, kept, then_carry, either_carry, when_carry, fills_carry, lengthy_carry, AllLead, carries}
 use Rattle.per_laws.proofs.Carrying.{as_carry, additions_step, record_as, choice_as, rules_on}
 use Rattle.per_laws.proofs.Deeper.{Equal, equals, part_equal, along_equal, list_kept, bag_kept, Nothing, none_in, on_either}
@@ -33,11 +33,11 @@ cond_carry : {f f' g g' : Spelling} (t : Bool) → Carry f f' → Carry g g' →
 cond_carry true h k = h
 cond_carry false h k = k
 
-by_variant : (v : Variant) (a : Settings) (n o : ℕ) → Carry (bounded_by v a n o) (bounded_by v (loose a) n o)
+by_variant : (v : Variant) (a : Settings) (n o : ℕ) → Carry (constrained_by v a n o) (constrained_by v (loose a) n o)
 by_variant unaligned a n o = kept
 by_variant aligned a n o = cond_carry (leb n 255) kept (cond_carry (eqb n 256) (then_carry (pads a) kept) (cond_carry (leb n 65536) (then_carry (pads a) kept) (octets_in a n o)))
 
-boundeds : (a : Settings) (n o : ℕ) → Carry (IsBounded a n o) (IsBounded (loose a) n o)
+boundeds : (a : Settings) (n o : ℕ) → Carry (IsConstrainedWhole a n o) (IsConstrainedWhole (loose a) n o)
 boundeds a n o = record { carry = λ p b x. record { below = x.below; spelled = (by_variant a.variant a n o).carry p b x.spelled } }
 
 -- counted items
@@ -46,7 +46,7 @@ module _ {X : Type 0} (f : X → Spelling) (a : Settings) where
   fragments zero xs = then_carry (pads a) kept
   fragments (suc k) xs = record { carry = λ p b x. record { these = x.these; others = x.others; all = x.all; spelled = (then_carry (pads a) (then_carry kept (then_carry kept (fragments k x.others)))).carry p b x.spelled } }
 
-  unsizeds : (xs : List X) → Carry (Unsized a f xs) (Unsized (loose a) f xs)
+  unsizeds : (xs : List X) → Carry (UnconstrainedLength a f xs) (UnconstrainedLength (loose a) f xs)
   unsizeds xs = record { carry = λ p b x. record { fragments = x.fragments; spelled = (fragments x.fragments xs).carry p b x.spelled } }
 
   pads_if : (t : Bool) → Carry (PaddingIf t a) (PaddingIf t (loose a))
@@ -73,10 +73,10 @@ octetses : (a : Settings) (os : List ℕ) → Carry (Octets a os) (Octets (loose
 octetses a os = sizeds octet a any_size octet_items os
 
 -- numbers
-naturals : (a : Settings) (n : ℕ) → Carry (InNatural a n) (InNatural (loose a) n)
+naturals : (a : Settings) (n : ℕ) → Carry (IsSemiConstrainedWhole a n) (IsSemiConstrainedWhole (loose a) n)
 naturals a n = record { carry = λ p b x. record { octets = x.octets; some = x.some; means = x.means; spelled = (octetses a x.octets).carry p b x.spelled } }
 
-wholes : (a : Settings) (z : ℤ) → Carry (InWhole a z) (InWhole (loose a) z)
+wholes : (a : Settings) (z : ℤ) → Carry (IsUnconstrainedWhole a z) (IsUnconstrainedWhole (loose a) z)
 wholes a z = record { carry = λ p b x. record { octets = x.octets; some = x.some; means = x.means; spelled = (octetses a x.octets).carry p b x.spelled } }
 
 number_loose : (a : Settings) (l u : Option ℤ) (z : ℤ) → Carry (number_spelling a l u z) (number_spelling (loose a) l u z)

@@ -16,7 +16,7 @@ use Rattle.per_core.proofs.Bags.{bag_becomes, any_in_bag}
 use Rattle.per_core.proofs.Lengths.{Zip, lengthy_agree, or_left, or_right}
 use Rattle.per_core.proofs.Records.{SlotRel, AllKin, Along, holds_agree, root_agree, bitmap_agree}
 use Rattle.per_core.proofs.Unique.{as_agree, fills_agree, open_agree}
-use Rattle.per_core.proofs.Whole.{one_reading, item_agree, alternative_agree, ordered-kin, along-listed, rel_at, length-rules-in, some_same}
+use Rattle.per_core.proofs.Readings.{one_reading, item_agree, alternative_agree, ordered-kin, along-listed, rel_at, length-rules-in, some_same}
 use Rattle.per_laws.proofs.Older.{slot_meets, flags_newer, same_tags}
 
 -- additions: those that the newer reader knows alone are left out

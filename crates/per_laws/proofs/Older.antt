@@ -18,7 +18,7 @@ use Rattle.per_core.proofs.Bags.{bag_becomes, any_in_bag, joined_of}
 use Rattle.per_core.proofs.Lengths.{Zip, lengthy_agree, or_left, or_right}
 use Rattle.per_core.proofs.Records.{SlotRel, AllKin, Along, fields_agree}
 use Rattle.per_core.proofs.Unique.{as_agree}
-use Rattle.per_core.proofs.Whole.{one_reading, item_agree, alternative_agree, ordered-kin, along-listed, rel_at, length-rules, same_flags, some_same}
+use Rattle.per_core.proofs.Readings.{one_reading, item_agree, alternative_agree, ordered-kin, along-listed, rel_at, length-rules, same_flags, some_same}
 
 -- what a slot of the newer reader and one of the older have in common, where no default is cut off
 abbrev pub slot_meets : Schema → Option Value → Bool

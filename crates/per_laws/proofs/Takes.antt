@@ -14,7 +14,7 @@ use Rattle.per_core.specs.Versions.{project, project_slots, project_at, slot_thr
 use Rattle.per_core.proofs.Bags.{bag_source, any_in_bag, joined_of}
 use Rattle.per_core.proofs.Lengths.{Zip, or_left, or_right}
 use Rattle.per_core.proofs.Records.{SlotRel, Along}
-use Rattle.per_core.proofs.Whole.{length-rules}
+use Rattle.per_core.proofs.Readings.{length-rules}
 use Rattle.per_laws.proofs.Carry.{Carry, kept, Leads, AllLead, skipped_carry}
 use Rattle.per_laws.proofs.Carrying.{as_carry, lengthy_as, additions_step, record_as, choice_as, rules_on}
 use Rattle.per_laws.proofs.Older.{made_of, made_both_of, slot_some, slot_meets, slot_back, same_tags}
@@ -112,7 +112,7 @@ item_takes a r e' e ext v' v h = as_carry (λ (x : Side × ℕ). Value.item x.0 
     go root i p b k s = (sym (some_is (Value.item root i) v k), s)
     go added i p b k s =
         let q = known i (ltb i e) refl k in
-        (q.0, record { front = s.front; rest = s.rest; is_front = s.is_front; is_rest = record { known = q.1; spelled = s.is_rest.spelled }; whole = s.whole })
+        (q.0, record { front = s.front; rest = s.rest; is_front = s.is_front; is_rest = record { known = q.1; spelled = s.is_rest.spelled }; joins = s.joins })
 
 plain_takes : (a : Settings) (s : Schema) → IsPlain s → (v' v : Value) → project s s v' ≡ Some v → Carry (basic a s v') (basic a s v)
 unfolding project

@@ -14,7 +14,7 @@ use Rattle.per_core.specs.Versions.{widen, widen_slots, widen_at, filled_in, all
 use Rattle.per_core.proofs.Bags.{bag_source, any_in_bag, joined_of}
 use Rattle.per_core.proofs.Lengths.{Zip, or_left, or_right}
 use Rattle.per_core.proofs.Records.{SlotRel, Along}
-use Rattle.per_core.proofs.Whole.{length-rules-in}
+use Rattle.per_core.proofs.Readings.{length-rules-in}
 use Rattle.per_laws.proofs.Carry.{Carry, kept, Leads, AllLead}
 use Rattle.per_laws.proofs.Carrying.{as_carry, lengthy_as, additions_step, record_as, choice_as, rules_on}
 use Rattle.per_laws.proofs.Older.{made_of, made_both_of, slot_some, slot_meets, same_tags, plain_widen}
@@ -100,7 +100,7 @@ item_grows a r e' e ext l v = as_carry (λ (x : Side × ℕ). Value.item x.0 x.1
   where
     go : (d : Side) (i p : ℕ) (b : Bits) → Basic.Item a r e ext d i p b → Basic.Item a r e' ext d i p b
     go root i p b s = s
-    go added i p b s = let known = s.is_rest.known in record { front = s.front; rest = s.rest; is_front = s.is_front; is_rest = record { known = omega arith; spelled = s.is_rest.spelled }; whole = s.whole }
+    go added i p b s = let known = s.is_rest.known in record { front = s.front; rest = s.rest; is_front = s.is_front; is_rest = record { known = omega arith; spelled = s.is_rest.spelled }; joins = s.joins }
 
 along_grows : {ps' ps : Parts} → NewerParts false ps' ps → (xs ys : List (Option Value)) → length xs ≡ count ps → slots_meet_cut ps' ys ≡ false → widen_slots ps' ps xs ≡ Some ys → Along false (grows ps' ps) xs ys
 unfolding widen meets_cut

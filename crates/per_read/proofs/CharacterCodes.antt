@@ -31,13 +31,13 @@ module _ (a : Alphabet) (flag : Bool) (characters xs : List ℕ) (code : ℕ) wh
         front = k.front;
         code = k.code;
         rest = k.rest ++ code ∷ [];
-        whole = ap (λ z. z ++ code ∷ []) k.whole ∙ append_assoc k.front (k.code ∷ k.rest) (code ∷ []);
+        joins = ap (λ z. z ++ code ∷ []) k.joins ∙ append_assoc k.front (k.code ∷ k.rest) (code ∷ []);
         none = k.none;
       }
 
   -- a code that has none
   pub unknown_now : ((c : ℕ) → char_code a.variant a.characters c ≡ Some code → ⊥) → AreRead a true characters (xs ++ code ∷ [])
-  unknown_now none = record { front = xs; code = code; rest = []; whole = refl; none = none }
+  unknown_now none = record { front = xs; code = code; rest = []; joins = refl; none = none }
 
 -- what was read, where no code had no character, and where one had none
 pub read_known : (a : Alphabet) (flag : Bool) (characters codes : List ℕ) → flag ≡ false → AreRead a flag characters codes → map (char_code a.variant a.characters) characters ≡ map Some codes
@@ -108,7 +108,7 @@ module _ (a : Settings) (alphabet : List ℕ) (size : Size) (mark : Bool) where
     record { codes = codes; rest = t; took = b; unknown = u },
     λ cs v c.
         let z = (took_agree (lengthy_agree IsCode (Field (char_width a.variant alphabet)) (Char a alphabet) one_reading a size mark (char_items (char_width a.variant alphabet)) codes cs) b c).0 in
-        go u.front u.rest cs (subst (λ x. Zip IsCode x cs) u.whole z),
+        go u.front u.rest cs (subst (λ x. Zip IsCode x cs) u.joins z),
   )
     where
       go : (front rest cs : List ℕ) → Zip IsCode (front ++ u.code ∷ rest) cs → ⊥

@@ -2,7 +2,7 @@
 use Rattle.std.proofs.Common.{◌≡◌, ◌∙◌, ℕ, zero, suc, ◌+◌, ◌-◌, ◌&&◌, ltb, Bool, true, false, cond, List, [], ◌∷◌, ◌++◌, length, map, refl, sym, ap, subst, arith, Option, Some, None, inl, inr}
 use Rattle.rasn_types.specs.Bits.{Bits, number_of}
 use Rattle.rasn_constraints.specs.Bounds.{Size, any_size, allows}
-use Rattle.per_core.specs.Basic.{Row, LastCount, Fragment, InFragments, Unsized, PaddingIf, IsBounded, length_form, Sized, Lengthy, bit}
+use Rattle.per_core.specs.Basic.{OneByOne, LastCount, Fragment, InFragments, UnconstrainedLength, PaddingIf, IsConstrainedWhole, length_form, Sized, Lengthy, bit}
 use Rattle.per_core.specs.Counts.{Counted, bit_items, is_aligned}
 use Rattle.per_core.specs.Spellings.{Settings, Spelling, Then, Field}
 use Rattle.per_core.specs.Took.{Took}
@@ -25,7 +25,7 @@ module _ {X Y : Type 0} (R : X → Y → Type 0) (f : X → Spelling) (g : Y →
   zip_split (u ∷ us) vs [] z = absurd z
   zip_split (u ∷ us) vs (y ∷ ys) z = let r = zip_split us vs ys z.1 in (y ∷ r.0, r.1, ap (λ z. y ∷ z) r.2, (z.0, r.3), r.4)
 
-  row_as : (xs : List X) (ys : List Y) (p : ℕ) (b : Bits) → Zip R xs ys → Row f xs p b → Row g ys p b
+  row_as : (xs : List X) (ys : List Y) (p : ℕ) (b : Bits) → Zip R xs ys → OneByOne f xs p b → OneByOne g ys p b
   row_as [] [] p b z h = h
   row_as [] (y ∷ ys) p b z h = absurd z
   row_as (x ∷ xs) [] p b z h = absurd z
@@ -34,7 +34,7 @@ module _ {X Y : Type 0} (R : X → Y → Type 0) (f : X → Spelling) (g : Y →
     rest = h.rest;
     is_front = each x y p h.front z.0 h.is_front;
     is_rest = row_as xs ys (after p h.front) h.rest z.1 h.is_rest;
-    whole = h.whole;
+    joins = h.joins;
   }
 
   fragments_as : (a : Settings) (k : ℕ) (xs : List X) (ys : List Y) (p : ℕ) (b : Bits) → Zip R xs ys → InFragments a f k xs p b → InFragments a g k ys p b
@@ -50,9 +50,9 @@ module _ {X Y : Type 0} (R : X → Y → Type 0) (f : X → Spelling) (g : Y →
           rest = r.rest;
           is_front = subst (λ (n : ℕ). LastCount n q r.front) (zip_length xs ys z) r.is_front;
           is_rest = row_as xs ys (after q r.front) r.rest z r.is_rest;
-          whole = r.whole;
+          joins = r.joins;
         };
-        whole = h.whole;
+        joins = h.joins;
       }
   fragments_as a (suc k) xs ys p b z h =
       let s = zip_split h.these h.others ys (subst (λ v. Zip R v ys) h.all z) in
@@ -77,15 +77,15 @@ module _ {X Y : Type 0} (R : X → Y → Type 0) (f : X → Spelling) (g : Y →
               rest = w.rest;
               is_front = row_as h.these s.0 (after q r.front) w.front s.3 w.is_front;
               is_rest = fragments_as a k h.others s.1 (after (after q r.front) w.front) w.rest s.4 w.is_rest;
-              whole = w.whole;
+              joins = w.joins;
             };
-            whole = r.whole;
+            joins = r.joins;
           };
-          whole = u.whole;
+          joins = u.joins;
         };
       }
 
-  unsized_as : (a : Settings) (xs : List X) (ys : List Y) (p : ℕ) (b : Bits) → Zip R xs ys → Unsized a f xs p b → Unsized a g ys p b
+  unsized_as : (a : Settings) (xs : List X) (ys : List Y) (p : ℕ) (b : Bits) → Zip R xs ys → UnconstrainedLength a f xs p b → UnconstrainedLength a g ys p b
   unsized_as a xs ys p b z h = record { fragments = h.fragments; spelled = fragments_as a h.fragments xs ys p b z h.spelled }
 
   form_as : (a : Settings) (l u : Option ℕ) (kind : Counted) (xs : List X) (ys : List Y) (p : ℕ) (b : Bits) → Zip R xs ys → length_form a l u kind f xs p b → length_form a l u kind g ys p b
@@ -93,8 +93,8 @@ module _ {X Y : Type 0} (R : X → Y → Type 0) (f : X → Spelling) (g : Y →
   form_as a (Some l) None kind xs ys p b z h = unsized_as a xs ys p b z h
   form_as a (Some l) (Some u) kind xs ys p b z h = go (ltb u 65536) h
     where
-      go : (c : Bool) → cond c (Then (IsBounded a (u - l + 1) (length xs - l)) (Then (PaddingIf (ltb 0 (length xs) && is_aligned kind l u) a) (Row f xs))) (Unsized a f xs) p b
-          → cond c (Then (IsBounded a (u - l + 1) (length ys - l)) (Then (PaddingIf (ltb 0 (length ys) && is_aligned kind l u) a) (Row g ys))) (Unsized a g ys) p b
+      go : (c : Bool) → cond c (Then (IsConstrainedWhole a (u - l + 1) (length xs - l)) (Then (PaddingIf (ltb 0 (length xs) && is_aligned kind l u) a) (OneByOne f xs))) (UnconstrainedLength a f xs) p b
+          → cond c (Then (IsConstrainedWhole a (u - l + 1) (length ys - l)) (Then (PaddingIf (ltb 0 (length ys) && is_aligned kind l u) a) (OneByOne g ys))) (UnconstrainedLength a g ys) p b
       go false h = unsized_as a xs ys p b z h
       go true h =
           let r = h.is_rest in
@@ -103,15 +103,15 @@ module _ {X Y : Type 0} (R : X → Y → Type 0) (f : X → Spelling) (g : Y →
           record {
             front = h.front;
             rest = h.rest;
-            is_front = subst (λ (n : ℕ). IsBounded a (u - l + 1) (n - l) p h.front) e h.is_front;
+            is_front = subst (λ (n : ℕ). IsConstrainedWhole a (u - l + 1) (n - l) p h.front) e h.is_front;
             is_rest = record {
               front = r.front;
               rest = r.rest;
               is_front = subst (λ (n : ℕ). PaddingIf (ltb 0 n && is_aligned kind l u) a q r.front) e r.is_front;
               is_rest = row_as xs ys (after q r.front) r.rest z r.is_rest;
-              whole = r.whole;
+              joins = r.joins;
             };
-            whole = h.whole;
+            joins = h.joins;
           }
 
   sized_as : (a : Settings) (size : Size) (kind : Counted) (xs : List X) (ys : List Y) (p : ℕ) (b : Bits) → Zip R xs ys → Sized a size kind f xs p b → Sized a size kind g ys p b
@@ -121,9 +121,9 @@ module _ {X Y : Type 0} (R : X → Y → Type 0) (f : X → Spelling) (g : Y →
   pub lengthy_as : (a : Settings) (size : Size) (mark : Bool) (kind : Counted) (xs : List X) (ys : List Y) (p : ℕ) (b : Bits) → Zip R xs ys → Lengthy a size mark kind f xs p b → Lengthy a size mark kind g ys p b
   lengthy_as a size false kind xs ys p b z h = sized_as a size kind xs ys p b z h
   lengthy_as a size true kind xs ys p b z (inl h) =
-      inl (record { front = h.front; rest = h.rest; is_front = h.is_front; is_rest = sized_as a size kind xs ys (after p h.front) h.rest z h.is_rest; whole = h.whole })
+      inl (record { front = h.front; rest = h.rest; is_front = h.is_front; is_rest = sized_as a size kind xs ys (after p h.front) h.rest z h.is_rest; joins = h.joins })
   lengthy_as a size true kind xs ys p b z (inr h) =
-      inr (record { front = h.front; rest = h.rest; is_front = h.is_front; is_rest = sized_as a any_size kind xs ys (after p h.front) h.rest z h.is_rest; whole = h.whole })
+      inr (record { front = h.front; rest = h.rest; is_front = h.is_front; is_rest = sized_as a any_size kind xs ys (after p h.front) h.rest z h.is_rest; joins = h.joins })
 
 -- pairs by a function
 pub zip_to : {X Y : Type 0} (h : X → Y) (xs : List X) → Zip (λ x y. h x ≡ y) xs (map h xs)

@@ -21,17 +21,17 @@ pub data Begins (l : Length) (s t : Bits) : Type 0 where
 pub short_count : {n : ℕ} {s t : Bits} → Took (Field 7 n) s t → Took (LastCount n) (false ∷ s) t
 short_count {n} {s} {t} a =
     let b : Took (Field 8 n) (false ∷ s) t = subst (λ z. Took (Field 8 z) (false ∷ s) t) (omega arith) (took_more false a) in
-    record { front = b.front; whole = b.whole; spelled = inl (field_below a, b.spelled) }
+    record { front = b.front; joins = b.joins; spelled = inl (field_below a, b.spelled) }
 
 pub long_count : {n : ℕ} {s t : Bits} → Took (Field 14 n) s t → Took (LastCount n) (true ∷ false ∷ s) t
 long_count {n} {s} {t} a =
     let b = took_then (took_exactly (true ∷ false ∷ []) s) a in
-    record { front = b.front; whole = b.whole; spelled = inr b.spelled }
+    record { front = b.front; joins = b.joins; spelled = inr b.spelled }
 
 pub fragment_count : {k : ℕ} {s t : Bits} → 0 < k → k < 5 → Took (Field 6 k) s t → Took (Basic.Fragment (16384 * k)) (true ∷ true ∷ s) t
 fragment_count {k} {s} {t} h i a =
     let b : Took (Field 8 (192 + k)) (true ∷ true ∷ s) t = subst (λ z. Took (Field 8 z) (true ∷ true ∷ s) t) (omega arith) (took_more true (took_more true a)) in
-    record { front = b.front; whole = b.whole; spelled = record { times = k; some = h; few = i; is = refl; spelled = b.spelled } }
+    record { front = b.front; joins = b.joins; spelled = record { times = k; some = h; few = i; is = refl; spelled = b.spelled } }
 
 -- the first bits of a field of eight
 small_begins : (n : ℕ) (s t : Bits) → n < 128 → Took (Field 8 n) s t → (m : Bits) × (s ≡ false ∷ m) × Took (Field 7 n) m t
@@ -54,7 +54,7 @@ count_begins (Last n) s t a = go (either_took a)
     go (inr b) = let r = then_took b in long n r.0 (exactly_took r.1) refl r.2
 count_begins (Fragment n) s t a =
     let f = a.spelled in
-    let r = great_begins f.times s t (record { front = a.front; whole = a.whole; spelled = f.spelled }) in
+    let r = great_begins f.times s t (record { front = a.front; joins = a.joins; spelled = f.spelled }) in
     fragment f.times r.0 r.1 (ap Fragment f.is) f.some f.few r.2
 
 -- no length begins so

@@ -29,11 +29,11 @@ pub ends : (b : Bounded ℤ) {u : Option ℤ} → u ≡ end_of b → u ≡ (boun
 ends b e = e ∙ same_option (end_of b)
 
 module _ (a : Settings) (bounds range : Bounds) (s t : Bits) {l u : Option ℤ} (el : l ≡ bounds.low) (eu : u ≡ bounds.high) where
-  bounded : (z : ℤ) → Took (under_bounds a l u z) s t → Took (under_bounds a bounds.low bounds.high z) s t
-  bounded z b = subst (λ y. Took (under_bounds a bounds.low y z) s t) eu (subst (λ y. Took (under_bounds a y u z) s t) el b)
+  constrained_whole : (z : ℤ) → Took (under_bounds a l u z) s t → Took (under_bounds a bounds.low bounds.high z) s t
+  constrained_whole z b = subst (λ y. Took (under_bounds a bounds.low y z) s t) eu (subst (λ y. Took (under_bounds a y u z) s t) el b)
 
   pub fit_number : (r : ReadNumber) → OfRead (λ z. Took (under_bounds a l u z) s t) r → (z : ℤ) → IsFit bounds range r z → Took (IsNumberOf a bounds false range z) s t
-  fit_number r b z f = number_within a bounds range z (bounded z (subst (λ y. OfRead (λ z. Took (under_bounds a l u z) s t) y) f.held b)) f.fits f.within f.in_range
+  fit_number r b z f = number_within a bounds range z (constrained_whole z (subst (λ y. OfRead (λ z. Took (under_bounds a l u z) s t) y) f.held b)) f.fits f.within f.in_range
 
   missed_in_bits : (w : ℕ) (k : DecodeErrorKind) (z : ℤ) → IsMissed bounds w k z → Took (under_bounds a bounds.low bounds.high z) s t → IsOfNumber a bounds false s k
   missed_in_bits w (ValueConstraintNotSatisfied named low high) z h b = record { number = z; rest = t; outside = h.0; is_named = h.1; is_low = h.2; is_high = h.3; took = b }
@@ -45,7 +45,7 @@ module _ (a : Settings) (bounds range : Bounds) (s t : Bits) {l u : Option ℤ} 
   misfit_faulty some w k r b m = go r b m
     where
       one : (z : ℤ) → Took (under_bounds a l u z) s t → Misfit bounds range w k z → Faulty (IsOfNumber a bounds false s) (NoneIn (IsNumberOf a bounds false range) s) k
-      one z b m = let c = bounded z b in inr (missed_in_bits w k z m.missed c, no_other a bounds range some z c m.none)
+      one z b m = let c = constrained_whole z b in inr (missed_in_bits w k z m.missed c, no_other a bounds range some z c m.none)
 
       go : (r : ReadNumber) → OfRead (λ z. Took (under_bounds a l u z) s t) r → OfEach (Misfit bounds range w k) r → Faulty (IsOfNumber a bounds false s) (NoneIn (IsNumberOf a bounds false range) s) k
       go (Held z) b m = one z b m

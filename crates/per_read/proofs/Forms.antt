@@ -5,7 +5,7 @@ use Rattle.rasn_types.specs.Bits.{Bits, width}
 use Rattle.rasn_types.specs.Variants.{aligned}
 use Rattle.rasn_types.proofs.Bits.{width_is, width_least}
 use Rattle.per_core.specs.Spellings.{Settings, Spelling, Then, AnyPadding, Field}
-use Rattle.per_core.specs.Basic.{InOctets, bounded_by}
+use Rattle.per_core.specs.Basic.{InOctets, constrained_by}
 use Rattle.per_core.specs.Took.{Took}
 use Rattle.per_core.proofs.Agree.{field_agree, padding_agree}
 use Rattle.per_core.proofs.Took.{took_then, then_took, took_map, took_agree}
@@ -34,7 +34,7 @@ few_octets w k h b =
 
 pub no_count : (a : Settings) (n : ℕ) {s : Bits} → length s < count_width n → (o : ℕ) (t : Bits) → Took (InOctets a n o) s t → ⊥
 no_count a n h o t b =
-    let q = then_took (record { front = b.front; whole = b.whole; spelled = b.spelled.spelled }) in
+    let q = then_took (record { front = b.front; joins = b.joins; spelled = b.spelled.spelled }) in
     omega (arith, field_wide q.1)
 
 module _ (a : Settings) (n : ℕ) {s m : Bits} where
@@ -47,7 +47,7 @@ module _ (a : Settings) (n : ℕ) {s m : Bits} where
       → (o : ℕ) (t : Bits) → Took (InOctets a n o) s t → ⊥
   no_counted k b none o t c =
       let more = c.spelled.more in
-      let q = then_took (record { front = c.front; whole = c.whole; spelled = c.spelled.spelled }) in
+      let q = then_took (record { front = c.front; joins = c.joins; spelled = c.spelled.spelled }) in
       let r = took_agree (field_agree (count_width n) more k) q.1 b in
       let e : more ≡ k = r.0 in
       none o t (subst (λ z. Took (Then (AnyPadding a) (Field (8 * (k + 1)) o)) z t) r.1
@@ -62,16 +62,16 @@ differs m n d = go (eqb m n) refl
     go true e = absurd (d (eqb-true m n e))
 
 module _ (a : Settings) (n o : ℕ) where
-  pub in_bits : n ≤ 255 → bounded_by aligned a n o ≡ Field (width n) o
+  pub in_bits : n ≤ 255 → constrained_by aligned a n o ≡ Field (width n) o
   in_bits h = rw (le-leb n 255 h) refl
 
-  pub in_one_octet : n ≡ 256 → bounded_by aligned a n o ≡ Then (AnyPadding a) (Field 8 o)
-  in_one_octet e = ap (λ (k : ℕ). bounded_by aligned a k o) e
+  pub in_one_octet : n ≡ 256 → constrained_by aligned a n o ≡ Then (AnyPadding a) (Field 8 o)
+  in_one_octet e = ap (λ (k : ℕ). constrained_by aligned a k o) e
 
-  pub in_two_octets : 256 < n → n ≤ 65536 → bounded_by aligned a n o ≡ Then (AnyPadding a) (Field 16 o)
+  pub in_two_octets : 256 < n → n ≤ 65536 → constrained_by aligned a n o ≡ Then (AnyPadding a) (Field 16 o)
   in_two_octets g h = rw (lt-leb n 255 (omega arith), differs n 256 (λ e. omega arith), le-leb n 65536 h) refl
 
-  pub in_octets : 65536 < n → bounded_by aligned a n o ≡ InOctets a n o
+  pub in_octets : 65536 < n → constrained_by aligned a n o ≡ InOctets a n o
   in_octets g = rw (lt-leb n 255 (omega arith), differs n 256 (λ e. omega arith), lt-leb n 65536 g) refl
 
 -- what has no spelling of one form has none of an equal one

@@ -3,7 +3,7 @@ pub mod Counts
 pub mod Fields
 pub mod Forms
 pub mod Naturals
-pub mod Rows
+pub mod OneByOne
 pub mod Parts
 pub mod Under
 pub mod Within

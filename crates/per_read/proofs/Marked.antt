@@ -20,10 +20,10 @@ bit_behind {f} {s} {m} b d e t c =
 
 module _ {X : Type 0} (f g : X → Spelling) {s m : Bits} where
   pub mark_in : s ≡ false ∷ m → (x : X) (t : Bits) → Took (f x) m t → Took (Marked true f g x) s t
-  mark_in e x t c = let v = behind_bit false e t c in record { front = v.front; whole = v.whole; spelled = inl v.spelled }
+  mark_in e x t c = let v = behind_bit false e t c in record { front = v.front; joins = v.joins; spelled = inl v.spelled }
 
   pub mark_past : s ≡ true ∷ m → (x : X) (t : Bits) → Took (g x) m t → Took (Marked true f g x) s t
-  mark_past e x t c = let v = behind_bit true e t c in record { front = v.front; whole = v.whole; spelled = inr v.spelled }
+  mark_past e x t c = let v = behind_bit true e t c in record { front = v.front; joins = v.joins; spelled = inr v.spelled }
 
   pub in_mark : s ≡ false ∷ m → (x : X) (t : Bits) → Took (Marked true f g x) s t → Took (f x) m t
   in_mark e x t c = go (either_took c)

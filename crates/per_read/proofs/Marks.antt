@@ -29,12 +29,12 @@ module _ (a : Settings) (bounds range : Bounds) {s m : Bits} where
   root_back : s ≡ false ∷ m → (z : ℤ) (t : Bits) → Took (IsNumberOf a bounds true range z) s t → Took (IsNumberOf a bounds false range z) m t
   root_back e z t b =
       took_map (λ p c x. record { in_range = b.spelled.in_range; spelled = x })
-      (in_mark (IsNumber a bounds) (IsNumber a unbounded) e z t (record { front = b.front; whole = b.whole; spelled = b.spelled.spelled }))
+      (in_mark (IsNumber a bounds) (IsNumber a unbounded) e z t (record { front = b.front; joins = b.joins; spelled = b.spelled.spelled }))
 
   past_back : s ≡ true ∷ m → (z : ℤ) (t : Bits) → Took (IsNumberOf a bounds true range z) s t → Took (IsNumberOf a unbounded false range z) m t
   past_back e z t b =
       took_map (λ p c x. record { in_range = b.spelled.in_range; spelled = x })
-      (past_mark (IsNumber a bounds) (IsNumber a unbounded) e z t (record { front = b.front; whole = b.whole; spelled = b.spelled.spelled }))
+      (past_mark (IsNumber a bounds) (IsNumber a unbounded) e z t (record { front = b.front; joins = b.joins; spelled = b.spelled.spelled }))
 
   -- a fault behind the bit is one of the whole
   root_kind : (k : DecodeErrorKind) → s ≡ false ∷ m → IsOfNumber a bounds false m k → IsOfNumber a bounds true s k
@@ -67,5 +67,5 @@ module _ (a : Settings) (bounds range : Bounds) {s m : Bits} where
 pub no_bit : (a : Settings) (bounds range : Bounds) {s : Bits} (k : DecodeErrorKind) → Refused (s ≡ []) k → Faulty (IsOfNumber a bounds true s) (NoneIn (IsNumberOf a bounds true range) s) k
 no_bit a bounds range {s} k h = inr (
   tested_number a bounds true s k h.0,
-  λ z t b. no_mark (IsNumber a bounds) (IsNumber a unbounded) h.1 z t (record { front = b.front; whole = b.whole; spelled = b.spelled.spelled }),
+  λ z t b. no_mark (IsNumber a bounds) (IsNumber a unbounded) h.1 z t (record { front = b.front; joins = b.joins; spelled = b.spelled.spelled }),
 )

@@ -8,7 +8,7 @@ use Rattle.per_core.specs.Spellings.{Settings, Spelling, never}
 use Rattle.per_core.specs.Took.{Took}
 use Rattle.per_core.proofs.Lengths.{and_right}
 use Rattle.per_core.proofs.Took.{took_map}
-use Rattle.per_read.specs.Items.{TookItems, bits_of, counted_of, coded, unsized_items, sized_items, lengthy_items}
+use Rattle.per_read.specs.Items.{TookItems, bits_of, counted_of, coded, unconstrained_items, sized_items, lengthy_items}
 use Rattle.per_read.specs.Kinds.{Faulty, IsTested, NoneIn, Refused, Stopped}
 use Rattle.per_read.specs.Sizes.{IsOfSize, IsOfItems, items_under}
 use Rattle.per_read.specs.declared.items.Item.{Item}
@@ -29,14 +29,14 @@ countable size n h = ltb-true n (2 ^ 64) (and_right (at_most size.most n) (ltb n
 
 module _ (a : Settings) (i : Item) where
   -- items without a size
-  any_sized : (xs : List ℕ) {s t : Bits} → length xs < 2 ^ 64 → Took (unsized_items a i xs) s t → Took (sized_items a any_size i xs) s t
+  any_sized : (xs : List ℕ) {s t : Bits} → length xs < 2 ^ 64 → Took (unconstrained_items a i xs) s t → Took (sized_items a any_size i xs) s t
   any_sized xs l b = took_map (λ p c x. record { allowed = lt-ltb (length xs) (2 ^ 64) l; spelled = x }) b
 
-  pub unsized_ok : {C : Type 0} {holds : C → C → List ℕ → Type 0} {n : ℕ} {before after : C} {s t : Bits} → n < 2 ^ 64 → TookItems holds (unsized_items a i) n before after s t
+  pub unsized_ok : {C : Type 0} {holds : C → C → List ℕ → Type 0} {n : ℕ} {before after : C} {s t : Bits} → n < 2 ^ 64 → TookItems holds (unconstrained_items a i) n before after s t
       → TookItems holds (sized_items a any_size i) n before after s t
   unsized_ok l b = record { codes = b.codes; count = b.count; added = b.added; took = any_sized b.codes (omega (arith, b.count)) b.took }
 
-  pub none_unsized : {s : Bits} → ((xs : List ℕ) (t : Bits) → length xs < 2 ^ 64 → Took (unsized_items a i xs) s t → ⊥) → NoneIn (sized_items a any_size i) s
+  pub none_unsized : {s : Bits} → ((xs : List ℕ) (t : Bits) → length xs < 2 ^ 64 → Took (unconstrained_items a i xs) s t → ⊥) → NoneIn (sized_items a any_size i) s
   none_unsized none xs t b = none xs t (countable any_size (length xs) b.spelled.allowed) (took_map (λ p c x. x.spelled) b)
 
   module _ (size : Size) where
@@ -73,7 +73,7 @@ module _ (a : Settings) (i : Item) where
           → TookItems holds (lengthy_items a size true i) n before after s t
       in_size {t = t} e b = record { codes = b.codes; count = b.count; added = b.added; took = mark_in (sized_items a size i) (sized_items a any_size i) e b.codes t b.took }
 
-      pub past_size : {C : Type 0} {holds : C → C → List ℕ → Type 0} {n : ℕ} {before after : C} {t : Bits} → s ≡ true ∷ m → n < 2 ^ 64 → TookItems holds (unsized_items a i) n before after m t
+      pub past_size : {C : Type 0} {holds : C → C → List ℕ → Type 0} {n : ℕ} {before after : C} {t : Bits} → s ≡ true ∷ m → n < 2 ^ 64 → TookItems holds (unconstrained_items a i) n before after m t
           → TookItems holds (lengthy_items a size true i) n before after s t
       past_size {t = t} e l b = record {
         codes = b.codes;
@@ -97,7 +97,7 @@ module _ (a : Settings) (i : Item) where
       pub faulty_in : (k : DecodeErrorKind) → s ≡ false ∷ m → Faulty (IsOfItems a size false i m) (NoneIn (sized_items a size i) m) k → Faulty (IsOfItems a size true i s) (NoneIn (lengthy_items a size true i) s) k
       faulty_in k e = faulty_map k (in_kind k e) (λ none xs t b. none xs t (in_mark (sized_items a size i) (sized_items a any_size i) e xs t b))
 
-      pub faulty_past : (k : DecodeErrorKind) → s ≡ true ∷ m → Stopped ((xs : List ℕ) (t : Bits) → length xs < 2 ^ 64 → Took (unsized_items a i xs) m t → ⊥) k
+      pub faulty_past : (k : DecodeErrorKind) → s ≡ true ∷ m → Stopped ((xs : List ℕ) (t : Bits) → length xs < 2 ^ 64 → Took (unconstrained_items a i xs) m t → ⊥) k
           → Faulty (IsOfItems a size true i s) (NoneIn (lengthy_items a size true i) s) k
       faulty_past k e =
           faulty_map k (tested_size a size true (counted_of i) (coded i) s k) (λ none xs t b. none_unsized none xs t (past_mark (sized_items a size i) (sized_items a any_size i) e xs t b))

@@ -8,11 +8,11 @@ use Rattle.rasn_types.specs.Octets.{unsigned}
 use Rattle.rasn_types.proofs.Bits.{number-to_bits, unpack-append}
 use Rattle.rasn_types.proofs.Reading.{number_of-append}
 use Rattle.per_core.specs.Spellings.{Settings}
-use Rattle.per_core.specs.Basic.{Octets, InNatural}
+use Rattle.per_core.specs.Basic.{Octets, IsSemiConstrainedWhole}
 use Rattle.per_core.specs.Took.{Took}
 use Rattle.per_core.proofs.Lengths.{same_octets}
 use Rattle.per_core.proofs.Took.{took_agree, took_map}
-use Rattle.per_read.specs.Numbers.{TookNatural}
+use Rattle.per_read.specs.Numbers.{TookSemiConstrained}
 
 -- one octet more
 unsigned_more : (os : List ℕ) (o : ℕ) → o < 256 → unsigned (os ++ o ∷ []) ≡ unsigned os * 256 + o
@@ -39,10 +39,10 @@ too_great os i n l h e g =
 -- octets as a number
 module _ (a : Settings) (s : Bits) where
   abbrev pub NoNatural : Type 0
-  NoNatural = (n : ℕ) (t : Bits) → Took (InNatural a n) s t → ⊥
+  NoNatural = (n : ℕ) (t : Bits) → Took (IsSemiConstrainedWhole a n) s t → ⊥
 
-  octets_of : (n : ℕ) (t : Bits) → Took (InNatural a n) s t → (os : List ℕ) × (0 < length os) × (unsigned os ≡ n) × Took (Octets a os) s t
-  octets_of n t b = let i = b.spelled in (i.octets, i.some, i.means, record { front = b.front; whole = b.whole; spelled = i.spelled })
+  octets_of : (n : ℕ) (t : Bits) → Took (IsSemiConstrainedWhole a n) s t → (os : List ℕ) × (0 < length os) × (unsigned os ≡ n) × Took (Octets a os) s t
+  octets_of n t b = let i = b.spelled in (i.octets, i.some, i.means, record { front = b.front; joins = b.joins; spelled = i.spelled })
 
   pub no_length_no_natural : ((os : List ℕ) (t : Bits) → Took (Octets a os) s t → ⊥) → NoNatural
   no_length_no_natural none n t b = let q = octets_of n t b in none q.0 t q.3
@@ -54,9 +54,9 @@ module _ (a : Settings) (s : Bits) where
       omega (arith, q.1, ap length (i ∙ e))
 
   -- octets that mean a number, and octets whose number was read where a `u128` holds it
-  octets_natural : (os : List ℕ) (n : ℕ) (t : Bits) → Took (Octets a os) s t → 0 < length os → unsigned os ≡ n → Took (InNatural a n) s t
+  octets_natural : (os : List ℕ) (n : ℕ) (t : Bits) → Took (Octets a os) s t → 0 < length os → unsigned os ≡ n → Took (IsSemiConstrainedWhole a n) s t
   octets_natural os n t b some means = took_map (λ p c i. record { octets = os; some = some; means = means; spelled = i }) b
 
-  pub natural_of : (os : List ℕ) (r : Option ℕ) (t : Bits) → Took (Octets a os) s t → 0 < length os → MatchOption r (2 ^ 128 ≤ unsigned os) (λ n. n ≡ unsigned os) → TookNatural a r s t
+  pub natural_of : (os : List ℕ) (r : Option ℕ) (t : Bits) → Took (Octets a os) s t → 0 < length os → MatchOption r (2 ^ 128 ≤ unsigned os) (λ n. n ≡ unsigned os) → TookSemiConstrained a r s t
   natural_of os (Some n) t b some e = octets_natural os n t b some (sym e)
   natural_of os None t b some g = (unsigned os, g, octets_natural os (unsigned os) t b some refl)

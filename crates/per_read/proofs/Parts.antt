@@ -6,7 +6,7 @@ use Rattle.std.proofs.lemmas.Bool.{lt-ltb, ltb-true}
 use Rattle.rasn_types.specs.Bits.{Bits}
 use Rattle.per_core.specs.Spellings.{Settings, Spelling, Field}
 use Rattle.per_core.specs.Basic
-use Rattle.per_core.specs.Basic.{Row, Octets, Unsized, InFragments, LastCount}
+use Rattle.per_core.specs.Basic.{OneByOne, Octets, UnconstrainedLength, InFragments, LastCount}
 use Rattle.per_core.specs.Took.{place, Took}
 use Rattle.per_core.proofs.Agree.{field_agree, weaken}
 use Rattle.per_core.proofs.Lengths.{row_agree, Zip-same}
@@ -19,7 +19,7 @@ use Rattle.per_read.specs.Lengths.{CountOf, LengthOf}
 use Rattle.per_read.specs.Kinds.{Stopped}
 use Rattle.per_read.proofs.Fields.{field_below}
 use Rattle.per_read.proofs.Counts.{Begins, short, long, fragment, count_begins, one_count, unpadded}
-use Rattle.per_read.proofs.Rows.{row_wide, adds_none, adds_more}
+use Rattle.per_read.proofs.OneByOne.{row_wide, adds_none, adds_more}
 
 abbrev pub count_of : Length → ℕ
 count_of (Last n) = n
@@ -30,27 +30,27 @@ small_count : (l : Length) (s t : Bits) → Took (CountOf l) s t → (count_of l
 small_count l s t a = go (count_begins l s t a)
   where
     go : Begins l s t → (count_of l ≤ 65536) × (length t < length s)
-    go (short n m e i f) = (omega (arith, ap count_of i, field_below f), omega (arith, ap length e, ap length f.whole, length-append f.front t))
-    go (long n m e i f) = (omega (arith, ap count_of i, field_below f), omega (arith, ap length e, ap length f.whole, length-append f.front t))
-    go (fragment k m e i x y f) = (omega (arith, ap count_of i), omega (arith, ap length e, ap length f.whole, length-append f.front t))
+    go (short n m e i f) = (omega (arith, ap count_of i, field_below f), omega (arith, ap length e, ap length f.joins, length-append f.front t))
+    go (long n m e i f) = (omega (arith, ap count_of i, field_below f), omega (arith, ap length e, ap length f.joins, length-append f.front t))
+    go (fragment k m e i x y f) = (omega (arith, ap count_of i), omega (arith, ap length e, ap length f.joins, length-append f.front t))
 
 pub small_length : {a : Settings} (l : Length) {s t : Bits} → Took (LengthOf a l) s t → (count_of l ≤ 65536) × (length t < length s)
 small_length l {s} {t} b =
     let q = then_took b in
     let r = small_count l q.0 t q.2 in
-    (r.0, omega (arith, r.1, ap length q.1.whole, length-append q.1.front q.0))
+    (r.0, omega (arith, r.1, ap length q.1.joins, length-append q.1.front q.0))
 
 one_length : (a : Settings) (l m : Length) (s t u : Bits) → Took (LengthOf a l) s t → Took (LengthOf a m) s u → (l ≡ m) × (t ≡ u)
 one_length a l m s t u b c = let q = then_took b in one_count l m q.0 t u q.2 (unpadded q.1 m u c)
 
 module _ (w : ℕ) where
-  one_row : (xs ys : List ℕ) (s t u : Bits) → length xs ≡ length ys → Took (Row (Field w) xs) s t → Took (Row (Field w) ys) s u → (xs ≡ ys) × (t ≡ u)
+  one_row : (xs ys : List ℕ) (s t u : Bits) → length xs ≡ length ys → Took (OneByOne (Field w) xs) s t → Took (OneByOne (Field w) ys) s u → (xs ≡ ys) × (t ≡ u)
   one_row xs ys s t u l b c = took_agree (weaken (Zip-same xs ys) (row_agree (λ x y. x ≡ y) (Field w) (Field w) (field_agree w) xs ys l)) b c
 
   -- what is behind a row
   abbrev pub Tail : Settings → Length → List ℕ → Bits → Bits → Type 0
   Tail a (Last n) others s t = (others ≡ []) × (s ≡ t)
-  Tail a (Fragment n) others s t = Took (Unsized a (Field w) others) s t
+  Tail a (Fragment n) others s t = Took (UnconstrainedLength a (Field w) others) s t
 
   -- items as a first length, its row and what is behind it
   pub record Part (a : Settings) (xs : List ℕ) (s t : Bits) : Type 0 where
@@ -61,16 +61,16 @@ module _ (w : ℕ) where
     pub rest : Bits
     pub is_length : Took (LengthOf a head) s behind
     pub many : length row ≡ count_of head
-    pub is_row : Took (Row (Field w) row) behind rest
+    pub is_row : Took (OneByOne (Field w) row) behind rest
     pub all : xs ≡ row ++ others
     pub tail : Tail a head others rest t
 
-  pub first_part : (a : Settings) (xs : List ℕ) (s t : Bits) → Took (Unsized a (Field w) xs) s t → Part a xs s t
+  pub first_part : (a : Settings) (xs : List ℕ) (s t : Bits) → Took (UnconstrainedLength a (Field w) xs) s t → Part a xs s t
   first_part a xs s t b = go b.spelled.fragments b.spelled.spelled
     where
       go : (k : ℕ) → InFragments a (Field w) k xs (place s) b.front → Part a xs s t
       go zero h =
-          let q = then_took (record { front = b.front; whole = b.whole; spelled = h }) in
+          let q = then_took (record { front = b.front; joins = b.joins; spelled = h }) in
           let r = then_took q.2 in
           record {
             head = Last (length xs);
@@ -85,7 +85,7 @@ module _ (w : ℕ) where
             tail = (refl, refl);
           }
       go (suc k) h =
-          let q = then_took (record { front = b.front; whole = b.whole; spelled = h.spelled }) in
+          let q = then_took (record { front = b.front; joins = b.joins; spelled = h.spelled }) in
           let r = then_took q.2 in
           let v = then_took r.2 in
           record {
@@ -101,19 +101,19 @@ module _ (w : ℕ) where
             tail = took_map (λ p c i. record { fragments = k; spelled = i }) v.2;
           }
 
-  pub last_part : {a : Settings} {xs : List ℕ} {n : ℕ} {s m t : Bits} → Took (LengthOf a (Last n)) s m → length xs ≡ n → Took (Row (Field w) xs) m t → Took (Unsized a (Field w) xs) s t
+  pub last_part : {a : Settings} {xs : List ℕ} {n : ℕ} {s m t : Bits} → Took (LengthOf a (Last n)) s m → length xs ≡ n → Took (OneByOne (Field w) xs) m t → Took (UnconstrainedLength a (Field w) xs) s t
   last_part {a} {xs} {n} {s} {m} {t} b e c =
       let q = then_took b in
       let h : Took (LastCount (length xs)) q.0 m = subst (λ z. Took (LastCount z) q.0 m) (sym e) q.2 in
       took_map (λ p x i. record { fragments = 0; spelled = i }) (took_then q.1 (took_then h c))
 
-  pub more_parts : {a : Settings} (these : List ℕ) {others : List ℕ} {n : ℕ} {s m l t : Bits} → Took (LengthOf a (Fragment n)) s m → length these ≡ n → Took (Row (Field w) these) m l
-      → Took (Unsized a (Field w) others) l t → Took (Unsized a (Field w) (these ++ others)) s t
+  pub more_parts : {a : Settings} (these : List ℕ) {others : List ℕ} {n : ℕ} {s m l t : Bits} → Took (LengthOf a (Fragment n)) s m → length these ≡ n → Took (OneByOne (Field w) these) m l
+      → Took (UnconstrainedLength a (Field w) others) l t → Took (UnconstrainedLength a (Field w) (these ++ others)) s t
   more_parts {a} these {others} {n} {s} {m} {l} {t} b e c d =
       let q = then_took b in
       let h : Took (Basic.Fragment (length these)) q.0 m = subst (λ z. Took (Basic.Fragment z) q.0 m) (sym e) q.2 in
       let k = d.spelled.fragments in
-      let i : Took (InFragments a (Field w) k others) l t = record { front = d.front; whole = d.whole; spelled = d.spelled.spelled } in
+      let i : Took (InFragments a (Field w) k others) l t = record { front = d.front; joins = d.joins; spelled = d.spelled.spelled } in
       took_map (λ p x j. record { fragments = suc k; spelled = record { these = these; others = others; all = refl; spelled = j } }) (took_then q.1 (took_then h (took_then c i)))
 
 -- Items from a start are those that were read so far and then those from here.
@@ -121,36 +121,36 @@ pub record ItemsSoFar {C : Type 0} (holds : C → C → List ℕ → Type 0) (a 
   pub codes : List ℕ
   pub count : length codes ≡ n
   pub added : Adds holds before codes items
-  pub on : (xs : List ℕ) (t : Bits) → Took (Unsized a (Field w) xs) here t → Took (Unsized a (Field w) (codes ++ xs)) start t
-  pub back : (xs : List ℕ) (t : Bits) → Took (Unsized a (Field w) xs) start t → (others : List ℕ) × (xs ≡ codes ++ others) × Took (Unsized a (Field w) others) here t
+  pub on : (xs : List ℕ) (t : Bits) → Took (UnconstrainedLength a (Field w) xs) here t → Took (UnconstrainedLength a (Field w) (codes ++ xs)) start t
+  pub back : (xs : List ℕ) (t : Bits) → Took (UnconstrainedLength a (Field w) xs) start t → (others : List ℕ) × (xs ≡ codes ++ others) × Took (UnconstrainedLength a (Field w) others) here t
 
 pub items_begin : {C : Type 0} (holds : C → C → List ℕ → Type 0) (a : Settings) (w : ℕ) (s : Bits) (items : C) → ItemsSoFar holds a w s s items items 0
 items_begin holds a w s items = record { codes = []; count = refl; added = adds_none holds items; on = λ xs t b. b; back = λ xs t b. (xs, refl, b) }
 
 module _ {C : Type 0} {holds : C → C → List ℕ → Type 0} {a : Settings} {w : ℕ} {start here : Bits} {before items : C} {n : ℕ} (h : ItemsSoFar holds a w start here before items n) where
-  pub items_go_on : {k : ℕ} {m l : Bits} {more : C} → Took (LengthOf a (Fragment k)) here m → TookItems holds (Row (Field w)) k items more m l → ItemsSoFar holds a w start l before more (n + k)
+  pub items_go_on : {k : ℕ} {m l : Bits} {more : C} → Took (LengthOf a (Fragment k)) here m → TookItems holds (OneByOne (Field w)) k items more m l → ItemsSoFar holds a w start l before more (n + k)
   items_go_on {k} {m} {l} b c = record {
     codes = h.codes ++ c.codes;
     count = omega (arith, h.count, c.count, length-append h.codes c.codes);
     added = adds_more h.added c.added;
     on = λ xs t d.
-        subst (λ z. Took (Unsized a (Field w) z) start t) (sym (append_assoc h.codes c.codes xs)) (h.on (c.codes ++ xs) t (more_parts w c.codes b c.count c.took d));
+        subst (λ z. Took (UnconstrainedLength a (Field w) z) start t) (sym (append_assoc h.codes c.codes xs)) (h.on (c.codes ++ xs) t (more_parts w c.codes b c.count c.took d));
     back = λ xs t d. let q = h.back xs t d in go xs t q.0 q.1 (first_part w a q.0 here t q.2);
   }
     where
       go : (xs : List ℕ) (t : Bits) (others : List ℕ) → xs ≡ h.codes ++ others → Part w a others here t
-          → (others : List ℕ) × (xs ≡ (h.codes ++ c.codes) ++ others) × Took (Unsized a (Field w) others) l t
+          → (others : List ℕ) × (xs ≡ (h.codes ++ c.codes) ++ others) × Took (UnconstrainedLength a (Field w) others) l t
       go xs t others e p =
           let x = one_length a p.head (Fragment k) here p.behind m p.is_length b in
           let many : length p.row ≡ length c.codes = p.many ∙ ap count_of x.0 ∙ sym c.count in
-          let y = one_row w p.row c.codes p.behind p.rest l many p.is_row (subst (λ z. Took (Row (Field w) c.codes) z l) (sym x.1) c.took) in (
+          let y = one_row w p.row c.codes p.behind p.rest l many p.is_row (subst (λ z. Took (OneByOne (Field w) c.codes) z l) (sym x.1) c.took) in (
             p.others,
             e ∙ ap (λ z. h.codes ++ z) (p.all ∙ ap (λ z. z ++ p.others) y.0) ∙ sym (append_assoc h.codes c.codes p.others),
-            subst (λ z. Took (Unsized a (Field w) p.others) z t) y.1 (subst (λ z. Tail w a z p.others p.rest t) x.0 p.tail),
+            subst (λ z. Took (UnconstrainedLength a (Field w) p.others) z t) y.1 (subst (λ z. Tail w a z p.others p.rest t) x.0 p.tail),
           )
 
-  pub items_end : {k : ℕ} {m t : Bits} {all : C} → Took (LengthOf a (Last k)) here m → TookItems holds (Row (Field w)) k items all m t
-      → TookItems holds (Unsized a (Field w)) (n + k) before all start t
+  pub items_end : {k : ℕ} {m t : Bits} {all : C} → Took (LengthOf a (Last k)) here m → TookItems holds (OneByOne (Field w)) k items all m t
+      → TookItems holds (UnconstrainedLength a (Field w)) (n + k) before all start t
   items_end b c = record {
     codes = h.codes ++ c.codes;
     count = omega (arith, h.count, c.count, length-append h.codes c.codes);
@@ -160,7 +160,7 @@ module _ {C : Type 0} {holds : C → C → List ℕ → Type 0} {a : Settings} {
 
   -- nothing is spelled where there is no length, where its row ends early, or where there are more items than can be counted
   abbrev pub NoItems : Type 0
-  NoItems = (xs : List ℕ) (t : Bits) → length xs < 2 ^ 64 → Took (Unsized a (Field w) xs) start t → ⊥
+  NoItems = (xs : List ℕ) (t : Bits) → length xs < 2 ^ 64 → Took (UnconstrainedLength a (Field w) xs) start t → ⊥
 
   pub no_items_length : ((l : Length) (t : Bits) → Took (LengthOf a l) here t → ⊥) → NoItems
   no_items_length none xs t i b =
@@ -184,7 +184,7 @@ pub are_gathered : {C : Type 0} {holds : C → C → List ℕ → Type 0} {form 
 are_gathered {before = before} b h = record { codes = b.codes; held = b.added.behind before [] h; took = b.took }
 
 -- octets are items
-pub are_octets : {C : Type 0} {holds : C → C → List ℕ → Type 0} {a : Settings} {n : ℕ} {before after : C} {s t : Bits} → TookItems holds (Unsized a (Field 8)) n before after s t → holds before before [] → n < 2 ^ 64
+pub are_octets : {C : Type 0} {holds : C → C → List ℕ → Type 0} {a : Settings} {n : ℕ} {before after : C} {s t : Bits} → TookItems holds (UnconstrainedLength a (Field 8)) n before after s t → holds before before [] → n < 2 ^ 64
     → Gathered (holds before after) (Octets a) s t
 are_octets {before = before} b h l = record {
   codes = b.codes;
@@ -192,7 +192,7 @@ are_octets {before = before} b h l = record {
   took = took_map (λ p x i. record { allowed = lt-ltb (length b.codes) (2 ^ 64) (omega (arith, b.count)); spelled = i }) b.took;
 }
 
-pub no_octets_there : {a : Settings} {s : Bits} → ((xs : List ℕ) (t : Bits) → length xs < 2 ^ 64 → Took (Unsized a (Field 8) xs) s t → ⊥) → (os : List ℕ) (t : Bits) → Took (Octets a os) s t → ⊥
+pub no_octets_there : {a : Settings} {s : Bits} → ((xs : List ℕ) (t : Bits) → length xs < 2 ^ 64 → Took (UnconstrainedLength a (Field 8) xs) s t → ⊥) → (os : List ℕ) (t : Bits) → Took (Octets a os) s t → ⊥
 no_octets_there none os t b = none os t (ltb-true (length os) (2 ^ 64) b.spelled.allowed) (took_map (λ p x i. i.spelled) b)
 
 -- where a fact follows from another

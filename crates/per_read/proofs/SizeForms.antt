@@ -6,7 +6,7 @@ use Rattle.rasn_types.specs.Bits.{Bits, width}
 use Rattle.rasn_types.specs.Variants.{Variant, aligned, unaligned}
 use Rattle.rasn_types.proofs.Bits.{width_least}
 use Rattle.rasn_constraints.specs.Bounds.{allows, holds, Size}
-use Rattle.per_core.specs.Basic.{Row, Unsized, PaddingIf, Sized, InOctets, IsBounded, length_form, bounded_by, bounded_form}
+use Rattle.per_core.specs.Basic.{OneByOne, UnconstrainedLength, PaddingIf, Sized, InOctets, IsConstrainedWhole, length_form, constrained_by, constrained_form}
 use Rattle.per_core.specs.Counts.{Counted, is_aligned}
 use Rattle.per_core.specs.Spellings.{Settings, Spelling, Then, AnyPadding, Field}
 use Rattle.per_core.specs.Took.{Took}
@@ -17,7 +17,7 @@ use Rattle.per_read.specs.Kinds.{NoneIn}
 use Rattle.per_read.specs.Items.{TookItems}
 use Rattle.per_read.specs.Sizes.{Between, under_size}
 use Rattle.per_read.proofs.Fields.{when_took, field_below}
-use Rattle.per_read.proofs.Rows.{row_wide}
+use Rattle.per_read.proofs.OneByOne.{row_wide}
 
 -- one of two spellings
 pub cond_took : (b : Bool) {f g : Spelling} {s t : Bits} → Took (cond b f g) s t → ((b ≡ true) × Took f s t) ⊎ ((b ≡ false) × Took g s t)
@@ -32,7 +32,7 @@ module _ (a : Settings) (o : ℕ) {s t : Bits} where
   in_padded : (w v : ℕ) → w ≤ v → Took (Then (AnyPadding a) (Field w o)) s t → o < 2 ^ v
   in_padded w v l c = let q = then_took c in omega (arith, field_below q.2, pow_mono {i = w} {j = v} l)
 
-  pub few_codes : (n : ℕ) → n ≤ 65536 → Took (bounded_form a n o) s t → o < 65536
+  pub few_codes : (n : ℕ) → n ≤ 65536 → Took (constrained_form a n o) s t → o < 65536
   few_codes n h b = go a.variant b
     where
       narrow : width n ≤ 16
@@ -51,32 +51,32 @@ module _ (a : Settings) (o : ℕ) {s t : Bits} where
       none (inl c) = in_field (width n) 16 narrow c.1
       none (inr c) = one (cond_took (eqb n 256) c.1)
 
-      go : (v : Variant) → Took (bounded_by v a n o) s t → o < 65536
+      go : (v : Variant) → Took (constrained_by v a n o) s t → o < 65536
       go unaligned c = in_field (width n) 16 narrow c
       go aligned c = none (cond_took (leb n 255) c)
 
-  pub one_code : Took (bounded_form a 1 o) s t → o ≡ 0
+  pub one_code : Took (constrained_form a 1 o) s t → o ≡ 0
   one_code b = go a.variant b
     where
       in_none : Took (Field (width 1) o) s t → o ≡ 0
       in_none c = let h : o < 1 = in_field (width 1) 0 (width_least 1 0 (omega arith)) c in omega arith
 
-      go : (v : Variant) → Took (bounded_by v a 1 o) s t → o ≡ 0
+      go : (v : Variant) → Took (constrained_by v a 1 o) s t → o ≡ 0
       go unaligned c = in_none c
       go aligned c = in_none c
 
 -- among as many numbers
-pub recoded : (a : Settings) (o : ℕ) {m n : ℕ} {s t : Bits} → m ≡ n → Took (bounded_form a (m + 1) o) s t → Took (bounded_form a (n + 1) o) s t
-recoded a o {s = s} {t} e b = subst (λ (z : ℕ). Took (bounded_form a (z + 1) o) s t) e b
+pub recoded : (a : Settings) (o : ℕ) {m n : ℕ} {s t : Bits} → m ≡ n → Took (constrained_form a (m + 1) o) s t → Took (constrained_form a (n + 1) o) s t
+recoded a o {s = s} {t} e b = subst (λ (z : ℕ). Took (constrained_form a (z + 1) o) s t) e b
 
 -- so a count under a size is small
-pub few_counted : (a : Settings) (lb ub o : ℕ) {s t : Bits} → ub < 65536 → lb < 2 ^ 64 → Took (bounded_form a (ub - lb + 1) o) s t → lb + o < 2 ^ 64
+pub few_counted : (a : Settings) (lb ub o : ℕ) {s t : Bits} → ub < 65536 → lb < 2 ^ 64 → Took (constrained_form a (ub - lb + 1) o) s t → lb + o < 2 ^ 64
 few_counted a lb ub o {s} {t} h l b = go (cases_lt ub lb)
   where
     go : (ub < lb) ⊎ (lb ≤ ub) → lb + o < 2 ^ 64
     go (inl k) =
         let e : ub - lb + 1 ≡ 1 = omega arith in
-        let z = one_code a o (subst (λ (n : ℕ). Took (bounded_form a n o) s t) e b) in omega arith
+        let z = one_code a o (subst (λ (n : ℕ). Took (constrained_form a n o) s t) e b) in omega arith
     go (inr k) = let z = few_codes a o (ub - lb + 1) (omega arith) b in omega arith
 
 -- items behind a count from lb to ub
@@ -84,16 +84,16 @@ padding_once : (a : Settings) (b : Bool) {s t u : Bits} → Took (PaddingIf b a)
 padding_once a true c d = (took_agree (padding_agree a) c d).1
 padding_once a false c d = sym (nothing_took c) ∙ nothing_took d
 
-module _ (a : Settings) (lb ub : ℕ) (kind : Counted) (w o n : ℕ) {s m : Bits} (b : Took (bounded_form a (ub - lb + 1) o) s m) (e : n ≡ lb + o) where
+module _ (a : Settings) (lb ub : ℕ) (kind : Counted) (w o n : ℕ) {s m : Bits} (b : Took (constrained_form a (ub - lb + 1) o) s m) (e : n ≡ lb + o) where
   pub between_took : {C : Type 0} {holds : C → C → List ℕ → Type 0} {before after : C} {l t : Bits} {test : Bool} → test ≡ (ltb 0 n && is_aligned kind lb ub) → Took (PaddingIf test a) m l
-      → TookItems holds (Row (Field w)) n before after l t → TookItems holds (Between a lb ub kind (Field w)) n before after s t
+      → TookItems holds (OneByOne (Field w)) n before after l t → TookItems holds (Between a lb ub kind (Field w)) n before after s t
   between_took {l = l} {t = t} i p r = record {
     codes = r.codes;
     count = r.count;
     added = r.added;
     took =
         let f : o ≡ length r.codes - lb = omega (arith, r.count, e) in
-        let c : Took (bounded_form a (ub - lb + 1) (length r.codes - lb)) s m = subst (λ (z : ℕ). Took (bounded_form a (ub - lb + 1) z) s m) f b in
+        let c : Took (constrained_form a (ub - lb + 1) (length r.codes - lb)) s m = subst (λ (z : ℕ). Took (constrained_form a (ub - lb + 1) z) s m) f b in
         let q : Took (PaddingIf (ltb 0 (length r.codes) && is_aligned kind lb ub) a) m l = subst (λ z. Took (PaddingIf z a) m l) (i ∙ ap (λ (z : ℕ). ltb 0 z && is_aligned kind lb ub) (sym r.count)) p in
         took_map (λ p x y. (omega (arith, r.count, e), y)) (took_then c (took_then q r.took));
   }
@@ -119,19 +119,19 @@ module _ (a : Settings) (lb ub : ℕ) (kind : Counted) (w o n : ℕ) {s m : Bits
       let y : w * length xs ≡ w * n = ap (λ (z : ℕ). w * z) f in
       omega (arith, row_wide w xs v.2, g, y, k)
 
-pub no_code_between : (a : Settings) (lb ub : ℕ) (kind : Counted) (item : ℕ → Spelling) {s : Bits} → NoneIn (bounded_form a (ub - lb + 1)) s → NoneIn (Between a lb ub kind item) s
+pub no_code_between : (a : Settings) (lb ub : ℕ) (kind : Counted) (item : ℕ → Spelling) {s : Bits} → NoneIn (constrained_form a (ub - lb + 1)) s → NoneIn (Between a lb ub kind item) s
 no_code_between a lb ub kind item none xs u c = let r = then_took (when_took c).1 in none (length xs - lb) r.0 r.1
 
 -- the forms under a size
 module _ {X : Type 0} (a : Settings) (kind : Counted) (item : X → Spelling) (xs : List X) where
   pub under_between : (lb ub : ℕ) → ub < 65536 → under_size a (Some lb) (Some ub) kind item xs ≡ Between a lb ub kind item xs
-  under_between lb ub h = ap (λ z. cond z (Between a lb ub kind item xs) (Unsized a item xs)) (lt-ltb ub 65536 h)
+  under_between lb ub h = ap (λ z. cond z (Between a lb ub kind item xs) (UnconstrainedLength a item xs)) (lt-ltb ub 65536 h)
 
-  pub under_unsized : (lb ub : ℕ) → 65536 ≤ ub → under_size a (Some lb) (Some ub) kind item xs ≡ Unsized a item xs
-  under_unsized lb ub h = ap (λ z. cond z (Between a lb ub kind item xs) (Unsized a item xs)) (le-ltb ub 65536 h)
+  pub under_unsized : (lb ub : ℕ) → 65536 ≤ ub → under_size a (Some lb) (Some ub) kind item xs ≡ UnconstrainedLength a item xs
+  under_unsized lb ub h = ap (λ z. cond z (Between a lb ub kind item xs) (UnconstrainedLength a item xs)) (le-ltb ub 65536 h)
 
   abbrev bounded_items : ℕ → ℕ → Spelling
-  bounded_items lb ub = Then (IsBounded a (ub - lb + 1) (length xs - lb)) (Then (PaddingIf (ltb 0 (length xs) && is_aligned kind lb ub) a) (Row item xs))
+  bounded_items lb ub = Then (IsConstrainedWhole a (ub - lb + 1) (length xs - lb)) (Then (PaddingIf (ltb 0 (length xs) && is_aligned kind lb ub) a) (OneByOne item xs))
 
   to_bounded : (lb ub : ℕ) (p : ℕ) (b : Bits) → allows (record { least = Some lb; most = Some ub }) (length xs) ≡ true → Between a lb ub kind item xs p b
       → bounded_items lb ub p b
@@ -139,13 +139,13 @@ module _ {X : Type 0} (a : Settings) (kind : Counted) (item : X → Spelling) (x
       let l : lb ≤ length xs = x.0 in
       let u : length xs ≤ ub = leb-true (length xs) ub (and_left (leb (length xs) ub) (ltb (length xs) (2 ^ 64)) (and_right (leb lb (length xs)) (leb (length xs) ub && ltb (length xs) (2 ^ 64)) h)) in
       let y = x.1 in
-      record { front = y.front; rest = y.rest; is_front = record { below = omega arith; spelled = y.is_front }; is_rest = y.is_rest; whole = y.whole }
+      record { front = y.front; rest = y.rest; is_front = record { below = omega arith; spelled = y.is_front }; is_rest = y.is_rest; joins = y.joins }
 
   from_bounded : (lb ub : ℕ) (p : ℕ) (b : Bits) → allows (record { least = Some lb; most = Some ub }) (length xs) ≡ true
       → bounded_items lb ub p b → Between a lb ub kind item xs p b
   from_bounded lb ub p b h y = (
     leb-true lb (length xs) (and_left (leb lb (length xs)) (leb (length xs) ub && ltb (length xs) (2 ^ 64)) h),
-    record { front = y.front; rest = y.rest; is_front = y.is_front.spelled; is_rest = y.is_rest; whole = y.whole },
+    record { front = y.front; rest = y.rest; is_front = y.is_front.spelled; is_rest = y.is_rest; joins = y.joins },
   )
 
   if_map : (c : Bool) (f g h : Spelling) (p : ℕ) (b : Bits) → (f p b → g p b) → cond c f h p b → cond c g h p b
@@ -158,7 +158,7 @@ module _ {X : Type 0} (a : Settings) (kind : Counted) (item : X → Spelling) (x
       go : (l u : Option ℕ) → allows (record { least = l; most = u }) (length xs) ≡ true → (p : ℕ) (c : Bits) → under_size a l u kind item xs p c → length_form a l u kind item xs p c
       go None u h p c x = x
       go (Some l) None h p c x = x
-      go (Some l) (Some u) h p c x = if_map (ltb u 65536) (Between a l u kind item xs) (bounded_items l u) (Unsized a item xs) p c (to_bounded l u p c h) x
+      go (Some l) (Some u) h p c x = if_map (ltb u 65536) (Between a l u kind item xs) (bounded_items l u) (UnconstrainedLength a item xs) p c (to_bounded l u p c h) x
 
   pub of_sized : (size : Size) {s t : Bits} → Took (Sized a size kind item xs) s t → Took (under_size a size.least size.most kind item xs) s t
   of_sized size b = took_map (λ p c x. go size.least size.most x.allowed p c x.spelled) b
@@ -166,16 +166,16 @@ module _ {X : Type 0} (a : Settings) (kind : Counted) (item : X → Spelling) (x
       go : (l u : Option ℕ) → allows (record { least = l; most = u }) (length xs) ≡ true → (p : ℕ) (c : Bits) → length_form a l u kind item xs p c → under_size a l u kind item xs p c
       go None u h p c x = x
       go (Some l) None h p c x = x
-      go (Some l) (Some u) h p c x = if_map (ltb u 65536) (bounded_items l u) (Between a l u kind item xs) (Unsized a item xs) p c (from_bounded l u p c h) x
+      go (Some l) (Some u) h p c x = if_map (ltb u 65536) (bounded_items l u) (Between a l u kind item xs) (UnconstrainedLength a item xs) p c (from_bounded l u p c h) x
 
 -- there is one count under a size
 pub one_size : (a : Settings) (l u : Option ℕ) (kind : Counted) (w : ℕ) (xs ys : List ℕ) (s t v : Bits) → Took (under_size a l u kind (Field w) xs) s t → Took (under_size a l u kind (Field w) ys) s v → length xs ≡ length ys
 one_size a l u kind w xs ys s t v b c = go l u b c
   where
-    plain : Took (Unsized a (Field w) xs) s t → Took (Unsized a (Field w) ys) s v → length xs ≡ length ys
+    plain : Took (UnconstrainedLength a (Field w) xs) s t → Took (UnconstrainedLength a (Field w) ys) s v → length xs ≡ length ys
     plain b c = ap length (Zip-same xs ys (took_agree (unsized_agree (λ x y. x ≡ y) (Field w) (Field w) (field_agree w) a xs ys) b c).0)
 
-    both : (lb ub : ℕ) (z : Bool) → Took (cond z (Between a lb ub kind (Field w) xs) (Unsized a (Field w) xs)) s t → Took (cond z (Between a lb ub kind (Field w) ys) (Unsized a (Field w) ys)) s v → length xs ≡ length ys
+    both : (lb ub : ℕ) (z : Bool) → Took (cond z (Between a lb ub kind (Field w) xs) (UnconstrainedLength a (Field w) xs)) s t → Took (cond z (Between a lb ub kind (Field w) ys) (UnconstrainedLength a (Field w) ys)) s v → length xs ≡ length ys
     both lb ub true b c =
         let q = when_took c in
         let r = then_took q.1 in

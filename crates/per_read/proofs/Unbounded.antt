@@ -20,7 +20,7 @@ pub record NumberOctets (a : Settings) (range : Bounds) (z : ℤ) (s t : Bits) :
 pub number_octets : (a : Settings) (range : Bounds) (z : ℤ) (s t : Bits) → Took (IsNumberOf a unbounded false range z) s t → NumberOctets a range z s t
 number_octets a range z s t h =
     let w = h.spelled.spelled.spelled in
-    record { octets = w.octets; some = w.some; means = w.means; in_range = h.spelled.in_range; took = record { front = h.front; whole = h.whole; spelled = w.spelled } }
+    record { octets = w.octets; some = w.some; means = w.means; in_range = h.spelled.in_range; took = record { front = h.front; joins = h.joins; spelled = w.spelled } }
 
 pub octets_number : (a : Settings) (range : Bounds) (z : ℤ) (os : List ℕ) (s t : Bits) → Took (Octets a os) s t → 0 < length os → signed os ≡ z → holds range z ≡ true
     → Took (IsNumberOf a unbounded false range z) s t

@@ -5,7 +5,7 @@ use Rattle.rasn_constraints.specs.Bounds.{holds, fits_i128, above, Bounds}
 use Rattle.rasn_types.specs.Bits.{Bits}
 use Rattle.rasn_types.specs.Octets.{unsigned}
 use Rattle.per_core.specs.Spellings.{Settings}
-use Rattle.per_core.specs.Basic.{InNatural, IsNumberOf, number_spelling}
+use Rattle.per_core.specs.Basic.{IsSemiConstrainedWhole, IsNumberOf, number_spelling}
 use Rattle.per_core.specs.Took.{Took}
 use Rattle.per_core.proofs.Agree.{Agree, weaken, when_agree}
 use Rattle.per_core.proofs.Lengths.{and_left, and_right, same_octets, bounded_form_agree}
@@ -14,7 +14,7 @@ use Rattle.per_core.proofs.Unique.{above_same, in_whole_agree}
 use Rattle.per_read.specs.Numbers.{under_bounds, AreSome}
 
 -- bits stand for one number
-natural_agree : (a : Settings) (n m : ℕ) → Agree (n ≡ m) (InNatural a n) (InNatural a m)
+natural_agree : (a : Settings) (n m : ℕ) → Agree (n ≡ m) (IsSemiConstrainedWhole a n) (IsSemiConstrainedWhole a m)
 natural_agree a n m = record {
   agree = λ p b c s t x y e. let r = (same_octets a x.octets y.octets).agree p b c s t x.spelled y.spelled e in (sym x.means ∙ ap unsigned r.0 ∙ y.means, r.1);
 }

@@ -1,8 +1,8 @@
 -- Counted items of as many bits each: octets, bits and characters (X.691 11.9, 16, 17, 30.5). An item's code is the number that its bits mean.
-use Rattle.std.specs.Prelude.{◌≡◌, ℕ, Bool, cond, List, ◌++◌, length}
+use Rattle.std.specs.Prelude.{◌≡◌, ℕ, Bool, if◌then◌else◌, List, ◌++◌, length}
 use Rattle.rasn_types.specs.Bits.{Bits}
 use Rattle.rasn_constraints.specs.Bounds.{Size}
-use Rattle.per_core.specs.Basic.{Unsized, Sized, Lengthy}
+use Rattle.per_core.specs.Basic.{UnconstrainedLength, Sized, Lengthy}
 use Rattle.per_core.specs.Counts.{Counted, octet_items, bit_items, char_items}
 use Rattle.per_core.specs.Spellings.{Settings, Spelling, Field}
 use Rattle.per_core.specs.Took.{Took}
@@ -26,8 +26,8 @@ abbrev pub coded : Item → ℕ → Spelling
 coded i = Field (bits_of i)
 
 -- X.691 11.9.3.5 to 11.9.3.8: items behind an unconstrained length
-abbrev pub unsized_items : Settings → Item → List ℕ → Spelling
-unsized_items a i = Unsized a (coded i)
+abbrev pub unconstrained_items : Settings → Item → List ℕ → Spelling
+unconstrained_items a i = UnconstrainedLength a (coded i)
 
 -- items whose count the size allows
 abbrev pub sized_items : Settings → Size → Item → List ℕ → Spelling
@@ -56,4 +56,4 @@ pub record Gathered (P : List ℕ → Type 0) (form : List ℕ → Spelling) (s 
 
 -- a bit's code
 abbrev pub bit_code : Bool → ℕ
-bit_code b = cond b 1 0
+bit_code b = if b then 1 else 0

@@ -1,10 +1,10 @@
 -- Numbers as they are read.
 use lib.Signed.{le_z}
-use Rattle.std.specs.Prelude.{◌≡◌, ℕ, ◌+◌, ◌^◌, ◌≤◌, Bool, true, false, cond, [], Option, Some, None, ℤ, pos, negsuc}
+use Rattle.std.specs.Prelude.{◌≡◌, ℕ, ◌+◌, ◌^◌, ◌≤◌, Bool, true, false, if◌then◌else◌, [], Option, Some, None, ℤ, pos, negsuc}
 use Rattle.rasn_types.specs.Bits.{Bits}
 use Rattle.rasn_constraints.specs.Bounds.{above, holds, fits_i128, Bounds, unbounded}
 use Rattle.per_core.specs.Spellings.{Settings, Spelling, When, never}
-use Rattle.per_core.specs.Basic.{InNatural, InWhole, Octets, Marked, bounded_form}
+use Rattle.per_core.specs.Basic.{IsSemiConstrainedWhole, IsUnconstrainedWhole, Octets, Marked, constrained_form}
 use Rattle.per_core.specs.Took.{Took}
 use Rattle.per_read.specs.Kinds.{IsTested}
 use Rattle.per_read.specs.declared.error.DecodeErrorKind.{DecodeErrorKind}
@@ -13,9 +13,9 @@ use Rattle.per_read.specs.declared.whole.ReadNumber.{ReadNumber}
 use Rattle.per_read.specs.declared.whole.ReadNumber.TheVariants.{Held, Below, Above}
 
 -- X.691 11.7: a number without sign was read; none stands for one that no `u128` holds
-abbrev pub TookNatural : Settings → Option ℕ → Bits → Bits → Type 0
-TookNatural a (Some n) s t = Took (InNatural a n) s t
-TookNatural a None s t = (n : ℕ) × (2 ^ 128 ≤ n) × Took (InNatural a n) s t
+abbrev pub TookSemiConstrained : Settings → Option ℕ → Bits → Bits → Type 0
+TookSemiConstrained a (Some n) s t = Took (IsSemiConstrainedWhole a n) s t
+TookSemiConstrained a None s t = (n : ℕ) × (2 ^ 128 ≤ n) × Took (IsSemiConstrainedWhole a n) s t
 
 -- a fact about the number that was read
 abbrev pub OfRead : (ℤ → Type 0) → ReadNumber → Type 0
@@ -35,13 +35,13 @@ IsAbove l o z = (le_z l z ≡ true) × (above l z ≡ o)
 
 -- X.691 11.5, 11.7, 11.8: a number as bounds have it written, whether it stands within them or not
 abbrev pub under_bounds : Settings → Option ℤ → Option ℤ → ℤ → Spelling
-under_bounds a None high z = InWhole a z
-under_bounds a (Some l) None z = When (le_z l z ≡ true) (InNatural a (above l z))
-under_bounds a (Some l) (Some u) z = When (le_z l z ≡ true) (bounded_form a (above l u + 1) (above l z))
+under_bounds a None high z = IsUnconstrainedWhole a z
+under_bounds a (Some l) None z = When (le_z l z ≡ true) (IsSemiConstrainedWhole a (above l z))
+under_bounds a (Some l) (Some u) z = When (le_z l z ≡ true) (constrained_form a (above l u + 1) (above l z))
 
 -- a number, where an i128 holds it
 abbrev pub in_i128 : ℤ → Option ℤ
-in_i128 z = cond (fits_i128 z) (Some z) None
+in_i128 z = if fits_i128 z then Some z else None
 
 -- X.691 13.2: a number behind no extension bit 1 stands outside its bounds, which are named; it is named where an i128 holds it
 pub record IsOutside (a : Settings) (bounds : Bounds) (mark : Bool) (named low high : Option ℤ) (s : Bits) : Type 0 where

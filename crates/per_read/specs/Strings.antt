@@ -20,7 +20,7 @@ pub record HasUnknown (variant : Variant) (alphabet codes : List ℕ) : Type 0 w
   pub front : List ℕ
   pub code : ℕ
   pub rest : List ℕ
-  pub whole : codes ≡ front ++ code ∷ rest
+  pub joins : codes ≡ front ++ code ∷ rest
   pub none : (c : ℕ) → char_code variant alphabet c ≡ Some code → ⊥
 
 -- codes are those of characters, or one of them has none

@@ -4,7 +4,7 @@ ghost use Rattle.std.specs.Prelude.{◌≡◌, ℕ, ◌+◌, ◌/◌, ◌<◌, �
 ghost use Rattle.rasn_types.specs.Bits.{Bits, width};
 ghost use Rattle.rasn_types.specs.declared.types.Codec.TheVariants.{Aper};
 ghost use Rattle.per_core.specs.Spellings.{AnyPadding, Field, Then};
-ghost use Rattle.per_core.specs.Basic.{InOctets, bounded_form};
+ghost use Rattle.per_core.specs.Basic.{InOctets, constrained_form};
 ghost use Rattle.per_core.specs.Took.{Took};
 ghost use Rattle.per_read.specs.Codecs.{settings};
 ghost use Rattle.per_read.specs.Kinds.{Refused};
@@ -62,8 +62,8 @@ fn take_in_octets(
 
 /// Takes one of the numbers from 0 to `last` by the ALIGNED variant (X.691 11.5.7).
 fn take_aligned(bits: &mut BitReader<'_>, last: u128) -> Result<u128, DecodeErrorKind>
-    ensures ok { IfOk result (λ o. Took (bounded_form (settings Aper) (last + 1) o) bits.old bits.new) }
-    ensures err { IfErr result (Refused ((o : ℕ) (t : Bits) → Took (bounded_form (settings Aper) (last + 1) o) bits.old t → ⊥)) }
+    ensures ok { IfOk result (λ o. Took (constrained_form (settings Aper) (last + 1) o) bits.old bits.new) }
+    ensures err { IfErr result (Refused ((o : ℕ) (t : Bits) → Took (constrained_form (settings Aper) (last + 1) o) bits.old t → ⊥)) }
 {
     match last {
         0..=254 => take_number(bits, width_to(last)),
@@ -75,13 +75,13 @@ fn take_aligned(bits: &mut BitReader<'_>, last: u128) -> Result<u128, DecodeErro
 
 /// Takes one of the numbers from 0 to `last` (X.691 11.5). A code past `last` has no meaning: it is answered as it
 /// stands, since its caller names what it would be.
-pub fn take_bounded(
+pub fn take_constrained_whole(
     bits: &mut BitReader<'_>,
     codec: Codec,
     last: u128,
 ) -> Result<u128, DecodeErrorKind>
-    ensures ok { IfOk result (λ o. Took (bounded_form (settings codec) (last + 1) o) bits.old bits.new) }
-    ensures err { IfErr result (Refused ((o : ℕ) (t : Bits) → Took (bounded_form (settings codec) (last + 1) o) bits.old t → ⊥)) }
+    ensures ok { IfOk result (λ o. Took (constrained_form (settings codec) (last + 1) o) bits.old bits.new) }
+    ensures err { IfErr result (Refused ((o : ℕ) (t : Bits) → Took (constrained_form (settings codec) (last + 1) o) bits.old t → ⊥)) }
 {
     match codec {
         Codec::Aper => take_aligned(bits, last),

@@ -3,15 +3,15 @@
 ghost use Rattle.std.specs.Prelude.{◌≡◌, ℕ, ◌+◌, ◌*◌, ◌^◌, ◌<◌, ◌≤◌, [], ◌∷◌, List, length, OnOk, IfOk, IfErr};
 ghost use Rattle.rasn_types.specs.Bits.{Bits};
 ghost use Rattle.per_core.specs.Counts.{is_aligned};
-ghost use Rattle.per_core.specs.Basic.{Row, Octets};
+ghost use Rattle.per_core.specs.Basic.{OneByOne, Octets};
 ghost use Rattle.per_core.specs.Took.{Took};
 ghost use Rattle.per_read.specs.Codecs.{settings};
-ghost use Rattle.per_read.specs.Items.{counted_of, bits_of, coded, unsized_items, Adds, TookItems};
+ghost use Rattle.per_read.specs.Items.{counted_of, bits_of, coded, unconstrained_items, Adds, TookItems};
 ghost use Rattle.per_read.specs.Kinds.{Stopped, NoneIn};
 ghost use Rattle.per_read.specs.declared.items.Item.TheVariants.{Octet};
 
 use crate::error::DecodeErrorKind;
-use crate::length::{Length, take_length};
+use crate::length::{Length, take_unconstrained_length};
 use per_bits::BitReader;
 use rasn_types::types::Codec;
 use std::alloc::{AllocError, Global};
@@ -83,10 +83,10 @@ pub trait Collector {
         ensures count { OnOk result (count self.new ≤ count self.old + 1) };
 
     /// Appends the items of a row, `many` of them, behind which it has no bits.
-    fn push_row(&mut self, row: BitReader<'_>, many: usize) -> Result<(), AllocError>
+    fn push_items(&mut self, row: BitReader<'_>, many: usize) -> Result<(), AllocError>
         requires bits { length row ≡ bits_of (item self.old) * many }
         requires room { count self.old + many ≤ usize.MAX }
-        ensures ok { OnOk result (TookItems holds (Row (coded (item self.old))) many self.old self.new row.entry []) }
+        ensures ok { OnOk result (TookItems holds (OneByOne (coded (item self.old))) many self.old self.new row.entry []) }
         ensures item { OnOk result (item self.new ≡ item self.old) }
         ensures count { OnOk result (count self.new ≤ count self.old + many) }
     {
@@ -116,20 +116,20 @@ impl Collector for Vec<u8> {
         Ok(())
     }
 
-    fn push_row(&mut self, row: BitReader<'_>, _many: usize) -> Result<(), AllocError> {
+    fn push_items(&mut self, row: BitReader<'_>, _many: usize) -> Result<(), AllocError> {
         row.append_octets(self)?;
         Ok(())
     }
 }
 
 /// Takes `count` items and appends them.
-pub fn take_row<C: Collector>(
+pub fn take_bare_items<C: Collector>(
     bits: &mut BitReader<'_>,
     count: usize,
     items: &mut C,
 ) -> Result<(), DecodeErrorKind>
     requires { C.count items.old + count ≤ usize.MAX }
-    ensures ok { OnOk result (TookItems C.holds (Row (coded (C.item items.old))) count items.old items.new bits.old bits.new) }
+    ensures ok { OnOk result (TookItems C.holds (OneByOne (coded (C.item items.old))) count items.old items.new bits.old bits.new) }
     ensures item { OnOk result (C.item items.new ≡ C.item items.old) }
     ensures count { OnOk result (C.count items.new ≤ C.count items.old + count) }
     ensures err { IfErr result (Stopped (length bits.old < bits_of (C.item items.old) * count)) }
@@ -138,7 +138,7 @@ pub fn take_row<C: Collector>(
     let row = bits
         .take(width * count as u128)
         .map_err(DecodeErrorKind::Incomplete)?;
-    items.push_row(row, count)?;
+    items.push_items(row, count)?;
     Ok(())
 }
 
@@ -153,32 +153,32 @@ fn take_more<C: Collector>(
     requires count { C.count items.old ≤ count }
     ensures ok { IfOk result (λ all. all ≡ count + more) }
     ensures count { IfOk result (λ all. C.count items.new ≤ all) }
-    ensures took { OnOk result (TookItems C.holds (Row (coded (C.item items.old))) more items.old items.new bits.old bits.new) }
+    ensures took { OnOk result (TookItems C.holds (OneByOne (coded (C.item items.old))) more items.old items.new bits.old bits.new) }
     ensures item { OnOk result (C.item items.new ≡ C.item items.old) }
     ensures err { IfErr result (Stopped (count + more < 2 ^ 64 → length bits.old < bits_of (C.item items.old) * more)) }
 {
     let all = count
         .checked_add(more as usize)
         .ok_or(DecodeErrorKind::ExceedsMaxLength)?;
-    take_row(bits, more as usize, items)?;
+    take_bare_items(bits, more as usize, items)?;
     Ok(all)
 }
 
 /// Takes an unconstrained length and the items that it counts, in any row of fragments (X.691 11.9.3.5 to 11.9.3.8).
 /// Answers how many there were.
-pub fn take_unsized<C: Collector>(
+pub fn take_unconstrained_items<C: Collector>(
     bits: &mut BitReader<'_>,
     codec: Codec,
     items: &mut C,
 ) -> Result<usize, DecodeErrorKind>
     requires { C.count items.old ≡ 0 }
-    ensures ok { IfOk result (λ n. TookItems C.holds (unsized_items (settings codec) (C.item items.old)) n items.old items.new bits.old bits.new) }
+    ensures ok { IfOk result (λ n. TookItems C.holds (unconstrained_items (settings codec) (C.item items.old)) n items.old items.new bits.old bits.new) }
     ensures few { IfOk result (λ n. n < 2 ^ 64) }
-    ensures err { IfErr result (Stopped ((xs : List ℕ) (t : Bits) → length xs < 2 ^ 64 → Took (unsized_items (settings codec) (C.item items.old) xs) bits.old t → ⊥)) }
+    ensures err { IfErr result (Stopped ((xs : List ℕ) (t : Bits) → length xs < 2 ^ 64 → Took (unconstrained_items (settings codec) (C.item items.old) xs) bits.old t → ⊥)) }
 {
     let mut count = 0;
     loop {
-        match take_length(bits, codec)? {
+        match take_unconstrained_length(bits, codec)? {
             Length::Last(more) => return take_more(bits, count, more, items),
             Length::Fragment(more) => count = take_more(bits, count, more, items)?,
         }
@@ -195,6 +195,6 @@ pub fn take_octets(
     ensures err { IfErr result (Stopped (NoneIn (Octets (settings codec)) bits.old)) }
 {
     let mut octets = Vec::new(alloc);
-    take_unsized(bits, codec, &mut octets)?;
+    take_unconstrained_items(bits, codec, &mut octets)?;
     Ok(octets)
 }

@@ -21,7 +21,7 @@ use std::alloc::Global;
 
 /// Takes a number without bounds: an unconstrained length and the octets of the number in two's complement
 /// (X.691 11.8, 13). Superfluous leading octets are taken.
-fn take_unbounded<I: IntegerType>(
+fn take_unconstrained<I: IntegerType>(
     bits: &mut BitReader<'_>,
     codec: Codec,
     alloc: Global,
@@ -85,14 +85,14 @@ fn take_root<I: IntegerType>(
     ensures err { IfErr result (Faulty (IsOfNumber (settings codec) (bounds_of bounds.now) false bits.old) (NoneIn (IsNumberOf (settings codec) (bounds_of bounds.now) false I.range) bits.old)) }
 {
     match bounds.start_and_end() {
-        (None, None) => take_unbounded(bits, codec, alloc),
+        (None, None) => take_unconstrained(bits, codec, alloc),
         _ => take_within(bits, codec, alloc, bounds),
     }
 }
 
 /// Takes a number under a value constraint. Where that has an extension marker, one bit comes first: 0 and the number
 /// under the bounds, or 1 and the number without, which may be within the bounds too (X.691 13.1).
-fn take_constrained<I: IntegerType>(
+fn take_extensible<I: IntegerType>(
     bits: &mut BitReader<'_>,
     codec: Codec,
     alloc: Global,
@@ -105,7 +105,7 @@ fn take_constrained<I: IntegerType>(
         return take_root(bits, codec, alloc, &value.constraint);
     }
     if take_bit(bits)? {
-        return take_unbounded(bits, codec, alloc);
+        return take_unconstrained(bits, codec, alloc);
     }
     take_root(bits, codec, alloc, &value.constraint)
 }
@@ -121,7 +121,7 @@ pub fn take_integer<I: IntegerType>(
     ensures err { IfErr result (Faulty (IsOfNumber (settings codec) (bounds_in constraints.now.value) (is_marked constraints.now.value) bits.old) (NoneIn (IsNumberOf (settings codec) (bounds_in constraints.now.value) (is_marked constraints.now.value) I.range) bits.old)) }
 {
     match constraints.value() {
-        Some(value) => take_constrained(bits, codec, alloc, value),
-        None => take_unbounded(bits, codec, alloc),
+        Some(value) => take_extensible(bits, codec, alloc, value),
+        None => take_unconstrained(bits, codec, alloc),
     }
 }

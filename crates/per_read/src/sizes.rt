@@ -13,9 +13,9 @@ ghost use Rattle.per_read.specs.Sizes.{items_between, items_under, IsOfItems};
 ghost use Rattle.per_read.specs.Kinds.{Stopped, NoneIn, Faulty};
 ghost use Rattle.per_read.specs.declared.error.DecodeErrorKind.TheVariants.{SizeConstraintNotSatisfied};
 
-use crate::bounded::take_bounded;
+use crate::bounded::take_constrained_whole;
 use crate::error::DecodeErrorKind;
-use crate::items::{Collector, Item, take_row, take_unsized};
+use crate::items::{Collector, Item, take_bare_items, take_unconstrained_items};
 use crate::length::{skip_padding, take_bit};
 use per_bits::BitReader;
 use rasn_schema::constraints::{Bounded, Extensible};
@@ -52,10 +52,10 @@ fn take_between<C: Collector>(
     ensures ok { IfOk result (λ n. TookItems C.holds (items_between (settings codec) least most (C.item items.old)) n items.old items.new bits.old bits.new) }
     ensures err { IfErr result (Stopped (NoneIn (items_between (settings codec) least most (C.item items.old)) bits.old)) }
 {
-    let code = take_bounded(bits, codec, most.saturating_sub(least) as u128)?;
+    let code = take_constrained_whole(bits, codec, most.saturating_sub(least) as u128)?;
     let count = least + code as usize;
     skip_padding_between(bits, codec, count, items.item(), least, most);
-    take_row(bits, count, items)?;
+    take_bare_items(bits, count, items)?;
     Ok(count)
 }
 
@@ -76,11 +76,11 @@ fn take_under_size<C: Collector>(
             if most < 65536 {
                 take_between(bits, codec, least, most, items)
             } else {
-                take_unsized(bits, codec, items)
+                take_unconstrained_items(bits, codec, items)
             }
         }
-        (Some(_), None) => take_unsized(bits, codec, items),
-        (None, _) => take_unsized(bits, codec, items),
+        (Some(_), None) => take_unconstrained_items(bits, codec, items),
+        (None, _) => take_unconstrained_items(bits, codec, items),
     }
 }
 
@@ -117,7 +117,7 @@ fn take_sized<C: Collector>(
 /// Takes items under a size constraint. Where that has an extension marker, one bit comes first: 0 and the items under
 /// the size, or 1 and the items without, whose count the size may allow too (X.691 16.6, 17.3, 30.4). Answers how many
 /// there were.
-fn take_constrained<C: Collector>(
+fn take_extensible<C: Collector>(
     bits: &mut BitReader<'_>,
     codec: Codec,
     size: Extensible<Bounded<usize>>,
@@ -131,7 +131,7 @@ fn take_constrained<C: Collector>(
         return take_sized(bits, codec, &size.constraint, items);
     }
     if take_bit(bits)? {
-        return take_unsized(bits, codec, items);
+        return take_unconstrained_items(bits, codec, items);
     }
     take_sized(bits, codec, &size.constraint, items)
 }
@@ -148,7 +148,7 @@ pub fn take_items<C: Collector>(
     ensures err { IfErr result (Faulty (IsOfItems (settings codec) (size_in size) (is_marked size) (C.item items.old) bits.old) (NoneIn (lengthy_items (settings codec) (size_in size) (is_marked size) (C.item items.old)) bits.old)) }
 {
     match size {
-        Some(size) => take_constrained(bits, codec, size, items),
-        None => take_unsized(bits, codec, items),
+        Some(size) => take_extensible(bits, codec, size, items),
+        None => take_unconstrained_items(bits, codec, items),
     }
 }

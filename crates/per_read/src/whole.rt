@@ -8,10 +8,10 @@ ghost use Rattle.per_read.specs.Codecs.{settings};
 ghost use Rattle.per_read.specs.Numbers.{OfRead, IsAbove, IsOfForm, under_bounds};
 ghost use Rattle.per_read.specs.Kinds.{Faulty, NoneIn};
 
-use crate::bounded::take_bounded;
+use crate::bounded::take_constrained_whole;
 use crate::error::DecodeErrorKind;
 use crate::items::take_octets;
-use crate::natural::take_natural;
+use crate::natural::take_semi_constrained_whole;
 use per_bits::BitReader;
 use rasn_types::integer::whole_of_octets;
 use rasn_types::types::Codec;
@@ -59,7 +59,7 @@ fn distance(low: i128, high: i128) -> u128
 }
 
 /// Takes a number without a lower bound: an unconstrained length and octets in two's complement (X.691 11.8).
-fn take_whole(
+fn take_unconstrained_whole(
     bits: &mut BitReader<'_>,
     codec: Codec,
     alloc: Global,
@@ -84,7 +84,7 @@ fn take_from(
     ensures ok { IfOk result (λ r. OfRead (λ z. Took (under_bounds (settings codec) (Some low) None z) bits.old bits.new) r) }
     ensures err { IfErr result (Faulty (IsOfForm (settings codec) (Some low) None bits.old) (NoneIn (under_bounds (settings codec) (Some low) None) bits.old)) }
 {
-    match take_natural(bits, codec, alloc)? {
+    match take_semi_constrained_whole(bits, codec, alloc)? {
         Some(offset) => Ok(number_above(low, offset)),
         None => Ok(ReadNumber::Above),
     }
@@ -100,7 +100,7 @@ fn take_between(
     ensures ok { IfOk result (λ r. OfRead (λ z. Took (under_bounds (settings codec) (Some low) (Some high) z) bits.old bits.new) r) }
     ensures err { IfErr result (Faulty (IsOfForm (settings codec) (Some low) (Some high) bits.old) (NoneIn (under_bounds (settings codec) (Some low) (Some high)) bits.old)) }
 {
-    let offset = take_bounded(bits, codec, distance(low, high))?;
+    let offset = take_constrained_whole(bits, codec, distance(low, high))?;
     Ok(number_above(low, offset))
 }
 
@@ -116,7 +116,7 @@ pub fn take_under_bounds(
     ensures err { IfErr result (Faulty (IsOfForm (settings codec) low high bits.old) (NoneIn (under_bounds (settings codec) low high) bits.old)) }
 {
     match (low, high) {
-        (None, _) => take_whole(bits, codec, alloc),
+        (None, _) => take_unconstrained_whole(bits, codec, alloc),
         (Some(low), None) => take_from(bits, codec, alloc, low),
         (Some(low), Some(high)) => take_between(bits, codec, low, high),
     }

@@ -6,8 +6,8 @@ use Rattle.rasn_types.specs.Bits.{Bits, unpack, to_bits}
 use Rattle.rasn_types.specs.Values.{Value, truth, fields, as_slots}
 use Rattle.rasn_constraints.specs.Bounds.{any_size, allows}
 use Rattle.rasn_schema.specs.Schemas.{Schema, Parts, listed}
-use Rattle.per_core.specs.Writers.{Writer, pad, just, ◌▹◌, padding, in_a_row, written_if}
-use Rattle.per_core.specs.Counts.{counted, bit_items, bit_writers, octet_writers, octets_unsized, open_bits}
+use Rattle.per_core.specs.Writers.{Writer, pad, just, ◌▹◌, padding, one_by_one, written_if}
+use Rattle.per_core.specs.Counts.{counted, bit_items, bit_writers, octet_writers, unconstrained_octets, open_bits}
 use Rattle.rasn_types.specs.Variants.{Variant}
 use Rattle.per_rows.specs.Build.{numbered, all_required}
 use Rattle.per_core.specs.Spellings.{Settings, ZeroIf, Spelling, AnyPadding, Then, Either, exactly}
@@ -49,7 +49,7 @@ no_less a s v w os o rest e x =
 
 -- what writes octets with a count in two octets
 pub in_two_octets : (a : Settings) (os : List ℕ) → allows any_size (length os) ≡ true → length os < 2 ^ 14 →
-    Within (padding a.variant ▹ ((just (true ∷ false ∷ []) ▹ just (to_bits 14 (length os))) ▹ in_a_row (octet_writers os))) (Octets a os)
+    Within (padding a.variant ▹ ((just (true ∷ false ∷ []) ▹ just (to_bits 14 (length os))) ▹ one_by_one (octet_writers os))) (Octets a os)
 in_two_octets a os h l = relax (λ p b x. record { allowed = h; spelled = record { fragments = 0; spelled = x } })
     (then_within (padding_within a) (then_within (right_within (then_within (just_within (true ∷ false ∷ [])) (field_within 14 (length os) l)))
     (row_within (λ o. written_if (ltb o 256) (just (to_bits 8 o))) octet (λ o. if_within (ltb o 256) (λ e. field_within 8 o (ltb-true o 256 e))) os)))
@@ -95,7 +95,7 @@ two_booleans a v w = as_root _ (Some (truth v) ∷ Some (truth w) ∷ []) (true 
     (then_within (when_within refl (just_within [])) (then_within (when_within refl (just_within [])) (just_within [])))
     (then_within (in_place a Schema.boolean (truth v)) (then_within (in_place a Schema.boolean (truth w)) (just_within [])))
 
-pub any_octets : (a : Settings) (os : List ℕ) → Within (octets_unsized a.variant os) (Open a (λ xs. Unit {0}))
+pub any_octets : (a : Settings) (os : List ℕ) → Within (unconstrained_octets a.variant os) (Open a (λ xs. Unit {0}))
 any_octets a os = relax (λ p b x. record { octets = os; are = tt; spelled = x }) (octets_within a os)
 
 -- octets that are read as something else
@@ -104,7 +104,7 @@ not_both a os w y x = fills_agree a os w x y
 
 -- what begins with some bits
 pub begins : {g : Spelling} {p : ℕ} {bs front bits : Bits} (spare : Bits) → Then (exactly bs) g p front → bits ≡ front ++ spare → (rest : Bits) × (bits ≡ bs ++ rest)
-begins {bs = bs} spare x e = (x.rest ++ spare, e ∙ ap (λ z. z ++ spare) (x.whole ∙ ap (λ z. z ++ x.rest) x.is_front) ∙ append_assoc bs x.rest spare)
+begins {bs = bs} spare x e = (x.rest ++ spare, e ∙ ap (λ z. z ++ spare) (x.joins ∙ ap (λ z. z ++ x.rest) x.is_front) ∙ append_assoc bs x.rest spare)
 
 -- nothing stands behind what cannot stand
 pub first : {f g h k : Spelling} → Agree ⊥ f g → Agree ⊥ (Then f h) (Then g k)

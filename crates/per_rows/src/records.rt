@@ -13,7 +13,7 @@ ghost use Rattle.per_rows.specs.Build.{integer_in, octet_string, bit_string, lis
 ghost use Rattle.per_rows.specs.Samples.{four, empty_middle, with_item, with_default, nest, nested, deep, dated, dated_value};
 
 /// SEQUENCE of required parts: one after the other; in APER the length of b and the two octets of d on octet boundaries (X.691 19).
-pub fn sequence_is_its_parts_in_a_row()
+pub fn sequence_is_its_parts_one_by_one()
     ensures uper { bytes unaligned four (record_of (truth true ∷ whole (pos 43554344223) ∷ truth false ∷ whole (minus 9) ∷ []))
         ≡ Some (0x82 ∷ 0x85 ∷ 0x12 ∷ 0x05 ∷ 0x46 ∷ 0x8f ∷ 0x80 ∷ 0x20 ∷ []) }
     ensures aper { bytes aligned four (record_of (truth true ∷ whole (pos 43554344223) ∷ truth false ∷ whole (minus 9) ∷ []))

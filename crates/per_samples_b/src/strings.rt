@@ -190,7 +190,7 @@ impl Decode for OnlyX {
 }
 
 /// IA5String (FROM ("x")): a character takes no bits, so its count is all (X.691 30.5.2).
-#[tactic(auto, unfolding(per_core::specs::Canon::bytes, rasn_schema::specs::Normal::normal, rasn_types::specs::Alphabets::row))]
+#[tactic(auto, unfolding(per_core::specs::Canon::bytes, rasn_schema::specs::Normal::normal, rasn_types::specs::Alphabets::interval_of))]
 pub fn only_x_is_written_as_its_count()
     ensures uper { let own = ⟦<OnlyX as AsnType>⟧ in IsWrittenAs unaligned (own.schema own.CONSTRAINTS) own.levels own.value (record { 0 = codes "xxx" }) (0x03 ∷ []) }
     ensures aper { let own = ⟦<OnlyX as AsnType>⟧ in IsWrittenAs aligned (own.schema own.CONSTRAINTS) own.levels own.value (record { 0 = codes "xxx" }) (0x03 ∷ []) }

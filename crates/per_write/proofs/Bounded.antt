@@ -8,11 +8,11 @@ use Rattle.rasn_types.specs.Octets.{natural_bits, octets_of_natural}
 use Rattle.rasn_types.specs.Variants.{Variant, aligned, unaligned}
 use Rattle.rasn_types.proofs.Bits.{width_is, width_holds, length-to_bits}
 use Rattle.rasn_types.proofs.Octets.{unpack-pack, length-pack, octets-pack}
-use Rattle.per_core.specs.Writers.{just, ◌▹◌, padding, written_if, in_a_row}
-use Rattle.per_core.specs.Counts.{bounded, counted_octets, determinant, octet_items, octet_writers}
+use Rattle.per_core.specs.Writers.{just, ◌▹◌, padding, written_if, one_by_one}
+use Rattle.per_core.specs.Counts.{constrained_whole, counted_octets, determinant, octet_items, octet_writers}
 use Rattle.per_write.specs.State.{Appends}
 use Rattle.per_write.proofs.Writing.{then_same, appends_then, appends_same, appends_bits}
-use Rattle.per_write.proofs.Fragments.{rows_of_few, in_their_rows, octets_in_a_row, length-octet_writers}
+use Rattle.per_write.proofs.Fragments.{fragments_of_few, in_their_fragments, octets_one_by_one, length-octet_writers}
 
 -- X.691 11.5.6: the width of the numbers from 0 to m is the length of m
 pub width_of_last : (m : ℕ) → m < 2 ^ 128 → 128 - count_leading_zeros 128 m ≡ width (m + 1)
@@ -29,12 +29,12 @@ unfolding octets_of_natural
 octets_by_width n w k e d = d ∙ (omega arith) ∙ ap (λ (v : ℕ). max 1 ((v + 7) / 8)) e
 
 -- X.691 11.5.6: the unaligned variant
-pub appends_unaligned : (a : Variant) (x y : Bits) (m o w : ℕ) → a ≡ unaligned → w ≡ width (m + 1) → o ≤ m → y ≡ x ++ to_bits w o → Appends x (bounded a (m + 1) o) y
-unfolding bounded
+pub appends_unaligned : (a : Variant) (x y : Bits) (m o w : ℕ) → a ≡ unaligned → w ≡ width (m + 1) → o ≤ m → y ≡ x ++ to_bits w o → Appends x (constrained_whole a (m + 1) o) y
+unfolding constrained_whole
 appends_unaligned a x y m o w v i h e =
-    subst (λ (b : Variant). Appends x (bounded b (m + 1) o) y) (sym v)
+    subst (λ (b : Variant). Appends x (constrained_whole b (m + 1) o) y) (sym v)
     (
-    appends_same x y (just (to_bits (width (m + 1)) o)) (bounded unaligned (m + 1) o)
+    appends_same x y (just (to_bits (width (m + 1)) o)) (constrained_whole unaligned (m + 1) o)
     (λ p. ap (λ (b : Bool). written_if b (just (to_bits (width (m + 1)) o)) p) (sym (lt-ltb o (m + 1) (omega arith))))
     (appends_bits x y _ (e ∙ ap (λ (k : ℕ). x ++ to_bits k o) i)))
 
@@ -43,21 +43,21 @@ by_tests : (n o : ℕ) (few octet two : Bool) → o < n → leb n 255 ≡ few �
     cond few (just (to_bits (width n) o))
     (cond octet (padding aligned ▹ just (to_bits 8 o))
     (cond two (padding aligned ▹ just (to_bits 16 o))
-    (just (to_bits (width ((width n + 7) / 8)) (octets_of_natural o - 1)) ▹ padding aligned ▹ just (natural_bits o)))) p ≡ bounded aligned n o p
-unfolding bounded
+    (just (to_bits (width ((width n + 7) / 8)) (octets_of_natural o - 1)) ▹ padding aligned ▹ just (natural_bits o)))) p ≡ constrained_whole aligned n o p
+unfolding constrained_whole
 by_tests n o few octet two h e f g p = sym (rw (lt-ltb o n h, e, f, g) refl)
 
 -- X.691 11.5.7.1: of 255 numbers or fewer
-pub appends_few : (x y : Bits) (m o w : ℕ) → w ≡ width (m + 1) → o ≤ m → m < 255 → y ≡ x ++ to_bits w o → Appends x (bounded aligned (m + 1) o) y
+pub appends_few : (x y : Bits) (m o w : ℕ) → w ≡ width (m + 1) → o ≤ m → m < 255 → y ≡ x ++ to_bits w o → Appends x (constrained_whole aligned (m + 1) o) y
 appends_few x y m o w i h l e =
-    appends_same x y (just (to_bits (width (m + 1)) o)) (bounded aligned (m + 1) o)
+    appends_same x y (just (to_bits (width (m + 1)) o)) (constrained_whole aligned (m + 1) o)
     (by_tests (m + 1) o true (eqb (m + 1) 256) (leb (m + 1) 65536) (omega arith) (le-leb (m + 1) 255 (omega arith)) refl refl)
     (appends_bits x y _ (e ∙ ap (λ (k : ℕ). x ++ to_bits k o) i))
 
 -- X.691 11.5.7.2: of 256 numbers
-pub appends_octet : (x y : Bits) (m o : ℕ) → o ≤ m → m ≡ 255 → Appends x (padding aligned ▹ just (to_bits 8 o)) y → Appends x (bounded aligned (m + 1) o) y
+pub appends_octet : (x y : Bits) (m o : ℕ) → o ≤ m → m ≡ 255 → Appends x (padding aligned ▹ just (to_bits 8 o)) y → Appends x (constrained_whole aligned (m + 1) o) y
 appends_octet x y m o h l k =
-    appends_same x y (padding aligned ▹ just (to_bits 8 o)) (bounded aligned (m + 1) o)
+    appends_same x y (padding aligned ▹ just (to_bits 8 o)) (constrained_whole aligned (m + 1) o)
     (by_tests (m + 1) o false true (leb (m + 1) 65536) (omega arith) (lt-leb (m + 1) 255 (omega arith)) (ap (λ (n : ℕ). eqb (n + 1) 256) l) refl)
     k
 
@@ -65,9 +65,9 @@ not_256 : (n : ℕ) → 256 < n → eqb n 256 ≡ false
 not_256 n h = ne_eqb n 256 (λ e. absurd (omega arith))
 
 -- X.691 11.5.7.3: of 65536 numbers or fewer
-pub appends_two : (x y : Bits) (m o : ℕ) → o ≤ m → 255 < m → m < 65536 → Appends x (padding aligned ▹ just (to_bits 16 o)) y → Appends x (bounded aligned (m + 1) o) y
+pub appends_two : (x y : Bits) (m o : ℕ) → o ≤ m → 255 < m → m < 65536 → Appends x (padding aligned ▹ just (to_bits 16 o)) y → Appends x (constrained_whole aligned (m + 1) o) y
 appends_two x y m o h l u k =
-    appends_same x y (padding aligned ▹ just (to_bits 16 o)) (bounded aligned (m + 1) o)
+    appends_same x y (padding aligned ▹ just (to_bits 16 o)) (constrained_whole aligned (m + 1) o)
     (by_tests (m + 1) o false false true (omega arith) (lt-leb (m + 1) 255 (omega arith)) (not_256 (m + 1) (omega arith)) (le-leb (m + 1) 65536 (omega arith)))
     k
 
@@ -82,10 +82,10 @@ octets_of_last m h = go (width (m + 1)) refl (width_holds (m + 1))
 
 -- X.691 11.5.7.4: of more, in the fewest octets behind their count
 pub appends_many : (x y z : Bits) (m o w n : ℕ) → n ≡ octets_of_natural o → w ≡ width (octets_of_natural m) → o ≤ m → 65536 ≤ m → y ≡ x ++ to_bits w (n - 1) →
-    Appends y (padding aligned ▹ just (to_bits (8 * n) o)) z → Appends x (bounded aligned (m + 1) o) z
+    Appends y (padding aligned ▹ just (to_bits (8 * n) o)) z → Appends x (constrained_whole aligned (m + 1) o) z
 unfolding natural_bits
 appends_many x y z m o w n i e h l d k =
-    appends_same x z (just (to_bits (width ((width (m + 1) + 7) / 8)) (octets_of_natural o - 1)) ▹ padding aligned ▹ just (natural_bits o)) (bounded aligned (m + 1) o)
+    appends_same x z (just (to_bits (width ((width (m + 1) + 7) / 8)) (octets_of_natural o - 1)) ▹ padding aligned ▹ just (natural_bits o)) (constrained_whole aligned (m + 1) o)
     (by_tests (m + 1) o false false false (omega arith) (lt-leb (m + 1) 255 (omega arith)) (not_256 (m + 1) (omega arith)) (lt-leb (m + 1) 65536 (omega arith)))
     (appends_then x y z (just (to_bits (width ((width (m + 1) + 7) / 8)) (octets_of_natural o - 1))) (padding aligned ▹ just (natural_bits o))
     (appends_bits x y _ (d ∙ ap (λ (q : ℕ). x ++ to_bits w (q - 1)) i ∙ ap (λ (v : ℕ). x ++ to_bits v (octets_of_natural o - 1)) (e ∙ ap width (octets_of_last m (omega arith)))))
@@ -116,11 +116,11 @@ appends_natural a x y z o k e l p t =
     bits : unpack octets ≡ to_bits (8 * k) o
     bits = unpack-pack (length (natural_bits o) / 8) (natural_bits o) (omega (arith, wide)) ∙ ap (λ (n : ℕ). to_bits (8 * n) o) (sym e)
 
-    in_row : (q : ℕ) → just (to_bits (8 * k) o) q ≡ in_a_row (octet_writers octets) q
-    in_row q = ap Some (sym bits) ∙ sym (octets_in_a_row octets (are_octets octets (octets-pack (length (natural_bits o) / 8) (natural_bits o))) q)
+    in_row : (q : ℕ) → just (to_bits (8 * k) o) q ≡ one_by_one (octet_writers octets) q
+    in_row q = ap Some (sym bits) ∙ sym (octets_one_by_one octets (are_octets octets (octets-pack (length (natural_bits o) / 8) (natural_bits o))) q)
 
     same : (q : ℕ) → ((padding a ▹ just (determinant k)) ▹ just (to_bits (8 * k) o)) q ≡ counted_octets a (natural_bits o) q
-    same q = then_same (padding a ▹ just (determinant k)) (padding a ▹ just (determinant (length (octet_writers octets)))) (just (to_bits (8 * k) o)) (in_a_row (octet_writers octets))
+    same q = then_same (padding a ▹ just (determinant k)) (padding a ▹ just (determinant (length (octet_writers octets)))) (just (to_bits (8 * k) o)) (one_by_one (octet_writers octets))
         (λ r. ap (λ (n : ℕ). (padding a ▹ just (determinant n)) r) (sym counted)) in_row q
-        ∙ sym (rows_of_few a (octet_writers octets) (omega (arith, counted)) q)
-        ∙ in_their_rows a octet_items (octet_writers octets) (omega (arith, counted)) q
+        ∙ sym (fragments_of_few a (octet_writers octets) (omega (arith, counted)) q)
+        ∙ in_their_fragments a octet_items (octet_writers octets) (omega (arith, counted)) q

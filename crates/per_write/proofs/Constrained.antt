@@ -16,7 +16,7 @@ use Rattle.rasn_codec.specs.Calls.{Written}
 use Rattle.per_write.specs.Rules.{encoder_rules}
 use Rattle.rasn_schema.specs.Schemas.{Schema}
 use Rattle.per_core.specs.Canon.{canon}
-use Rattle.per_core.specs.Counts.{bounded, counted_octets, marked_form, number_form, number_under, octets_unsized}
+use Rattle.per_core.specs.Counts.{constrained_whole, counted_octets, marked_form, number_form, number_under, unconstrained_octets}
 use Rattle.per_core.specs.Writers.{Writer, just, join, after, written_if}
 use Rattle.rasn_types.specs.Bits.{Bits, pack}
 use Rattle.rasn_types.specs.Octets.{natural_bits}
@@ -28,11 +28,11 @@ use Rattle.per_write.proofs.Writing.{appends_same, wrote_then, wrote_same}
 
 -- X.691 13.2.2: both bounds
 pub appends_between : (a : Variant) (x y : Bits) (l u v : ℤ) (m o : ℕ) → m ≡ above l u → o ≡ above l v → FitsSigned w128 v →
-    Appends x (bounded a (m + 1) o) y → Appends x (number_under a (Some l) (Some u) v) y
+    Appends x (constrained_whole a (m + 1) o) y → Appends x (number_under a (Some l) (Some u) v) y
 unfolding number_under
 appends_between a x y l u v m o e d f h =
-    appends_same x y (bounded a (m + 1) o) (number_under a (Some l) (Some u) v)
-    (λ p. ap (λ (k : ℕ). bounded a (k + 1) o p) e ∙ ap (λ (k : ℕ). bounded a (above l u + 1) k p) d ∙ ap (λ (b : Bool). written_if b (bounded a (above l u + 1) (above l v)) p) (sym (fits-is_i128 v f))) h
+    appends_same x y (constrained_whole a (m + 1) o) (number_under a (Some l) (Some u) v)
+    (λ p. ap (λ (k : ℕ). constrained_whole a (k + 1) o p) e ∙ ap (λ (k : ℕ). constrained_whole a (above l u + 1) k p) d ∙ ap (λ (b : Bool). written_if b (constrained_whole a (above l u + 1) (above l v)) p) (sym (fits-is_i128 v f))) h
 
 -- X.691 13.2.3: a lower bound alone
 pub appends_from : (a : Variant) (x y : Bits) (l v : ℤ) (o : ℕ) → o ≡ above l v → FitsSigned w128 v →
@@ -50,20 +50,20 @@ under_none a (Some u) v (inl e) p = absurd cc
 under_none a (Some u) v (inr f) p = ap (λ (b : Bool). written_if b (counted_octets a (whole_bits v)) p) (sym (fits-is_i128 v f))
 
 -- X.691 13.2.4: the fewest octets of a number behind their count
-whole_counted : (a : Variant) (z : ℤ) → octets_unsized a (signed_octets z) ≡ counted_octets a (whole_bits z)
+whole_counted : (a : Variant) (z : ℤ) → unconstrained_octets a (signed_octets z) ≡ counted_octets a (whole_bits z)
 unfolding counted_octets signed_octets
-whole_counted a z = let n : octets_of_whole z ≡ length (whole_bits z) / 8 = omega (arith, length-whole_bits z) in ap (λ (k : ℕ). octets_unsized a (pack k (whole_bits z))) n
+whole_counted a z = let n : octets_of_whole z ≡ length (whole_bits z) / 8 = omega (arith, length-whole_bits z) in ap (λ (k : ℕ). unconstrained_octets a (pack k (whole_bits z))) n
 
 pub wrote_whole : (x m y : State) (z : ℤ) (octets : List ℕ) (result : Result (Unit {0}) EncodeError) → m ≡ x → octets ≡ signed_octets z →
-    OnOk result (Wrote m (octets_unsized (variant_of m.codec) octets) y) → OnOk result (Wrote x (counted_octets (variant_of x.codec) (whole_bits z)) y)
+    OnOk result (Wrote m (unconstrained_octets (variant_of m.codec) octets) y) → OnOk result (Wrote x (counted_octets (variant_of x.codec) (whole_bits z)) y)
 wrote_whole x m y z octets result k o w =
-    subst (λ (f : Writer). OnOk result (Wrote x f y)) (ap (octets_unsized (variant_of x.codec)) o ∙ whole_counted (variant_of x.codec) z)
-    (subst (λ (s : State). OnOk result (Wrote s (octets_unsized (variant_of s.codec) octets) y)) k w)
+    subst (λ (f : Writer). OnOk result (Wrote x f y)) (ap (unconstrained_octets (variant_of x.codec)) o ∙ whole_counted (variant_of x.codec) z)
+    (subst (λ (s : State). OnOk result (Wrote s (unconstrained_octets (variant_of s.codec) octets) y)) k w)
 
 -- a number past an i128 has no form under a bound
 under_past : (a : Variant) (l u : Option ℤ) (v : ℤ) → has_bound (record { low = l; high = u }) ≡ true → fits_i128 v ≡ false → (p : ℕ) → number_under a l u v p ≡ None
 unfolding number_under
-under_past a (Some l) (Some u) v h e p = ap (λ (b : Bool). written_if b (bounded a (above l u + 1) (above l v)) p) e
+under_past a (Some l) (Some u) v h e p = ap (λ (b : Bool). written_if b (constrained_whole a (above l u + 1) (above l v)) p) e
 under_past a (Some l) None v h e p = ap (λ (b : Bool). written_if b (counted_octets a (natural_bits (above l v))) p) e
 under_past a None (Some u) v h e p = ap (λ (b : Bool). written_if b (counted_octets a (whole_bits v)) p) e
 under_past a None None v h e p = absurd cc

@@ -12,17 +12,17 @@ use Rattle.rasn_constraints.specs.Constraints.{bounds_by, end_of, is_marked, siz
 use Rattle.rasn_constraints.specs.declared.constraints.Bounded.{Bounded}
 use Rattle.rasn_constraints.specs.declared.constraints.Bounded.TheVariants as Variants
 use Rattle.rasn_constraints.specs.declared.constraints.Extensible.{Extensible}
-use Rattle.per_core.specs.Counts.{bounded, counted, Counted, marked_form, counted_in, counted_under, determinant, in_rows, is_aligned, padding_if, rows}
-use Rattle.per_core.specs.Writers.{Writer, just, ◌▹◌, in_a_row, padding, written_if}
+use Rattle.per_core.specs.Counts.{constrained_whole, counted, Counted, marked_form, counted_in, counted_under, determinant, in_fragments, is_aligned, padding_if, fragment_sizes}
+use Rattle.per_core.specs.Writers.{Writer, just, ◌▹◌, one_by_one, padding, written_if}
 use Rattle.per_write.specs.declared.error.EncodeError.{EncodeError}
 use Rattle.per_write.specs.declared.error.EncodeErrorKind.{EncodeErrorKind}
 use Rattle.per_write.specs.declared.error.EncodeErrorKind.TheVariants.{SizeConstraintNotSatisfied}
 use Rattle.per_write.specs.Faults.{IsError}
 use Rattle.per_write.specs.Items.{RefusesCounted, wrong_count}
-use Rattle.per_write.specs.Rows.{row}
+use Rattle.per_write.specs.Fragments.{one_fragment}
 use Rattle.per_write.specs.State.{State, Wrote}
 use Rattle.per_core.proofs.Lengths.{and_left, and_right}
-use Rattle.per_write.proofs.Fragments.{first_fragment, in_their_rows, rows_of_few, rows_of_many}
+use Rattle.per_write.proofs.Fragments.{first_fragment, in_their_fragments, fragments_of_few, fragments_of_many}
 use Rattle.per_write.proofs.Writing.{Remains, remains_after, remains_last, then_assoc, wrote_same, wrote_then}
 
 -- items between two places
@@ -31,20 +31,20 @@ length-slice ws start end h l = length-take (end - start) (drop start ws) ∙ om
 
 -- items behind their count
 pub wrote_row : (writers : Variant → List Writer) (x m y : State) (start end : ℕ) → start ≤ end → end ≤ length (writers (variant_of x.codec)) →
-    Wrote x (padding (variant_of x.codec) ▹ just (determinant (end - start))) m → Wrote m (in_a_row (slice_range (writers (variant_of m.codec)) start end)) y →
-    Wrote x (row (variant_of x.codec) (slice_range (writers (variant_of x.codec)) start end)) y
+    Wrote x (padding (variant_of x.codec) ▹ just (determinant (end - start))) m → Wrote m (one_by_one (slice_range (writers (variant_of m.codec)) start end)) y →
+    Wrote x (one_fragment (variant_of x.codec) (slice_range (writers (variant_of x.codec)) start end)) y
 wrote_row writers x m y start end h l v w =
-    subst (λ (n : ℕ). Wrote x ((padding (variant_of x.codec) ▹ just (determinant n)) ▹ in_a_row (slice_range (writers (variant_of x.codec)) start end)) y)
+    subst (λ (n : ℕ). Wrote x ((padding (variant_of x.codec) ▹ just (determinant n)) ▹ one_by_one (slice_range (writers (variant_of x.codec)) start end)) y)
     (sym (length-slice (writers (variant_of x.codec)) start end h l))
-    (wrote_then x m y _ _ v (subst (λ (c : Codec). Wrote m (in_a_row (slice_range (writers (variant_of c)) start end)) y) v.same w))
+    (wrote_then x m y _ _ v (subst (λ (c : Codec). Wrote m (one_by_one (slice_range (writers (variant_of c)) start end)) y) v.same w))
 
 -- one fragment more
 pub fragment_written : (writers : Variant → List Writer) (x y z : State) (start end n : ℕ) →
     let all = writers (variant_of x.codec) in
     n ≡ length all → 16384 ≤ n - start → end ≡ start + first_fragment (n - start) →
-    Remains x (in_rows (variant_of x.codec) (rows (length all)) all) y (in_rows (variant_of x.codec) (rows (length (drop start all))) (drop start all)) →
-    Wrote y (row (variant_of y.codec) (slice_range (writers (variant_of y.codec)) start end)) z →
-    Remains x (in_rows (variant_of x.codec) (rows (length all)) all) z (in_rows (variant_of x.codec) (rows (length (drop end all))) (drop end all))
+    Remains x (in_fragments (variant_of x.codec) (fragment_sizes (length all)) all) y (in_fragments (variant_of x.codec) (fragment_sizes (length (drop start all))) (drop start all)) →
+    Wrote y (one_fragment (variant_of y.codec) (slice_range (writers (variant_of y.codec)) start end)) z →
+    Remains x (in_fragments (variant_of x.codec) (fragment_sizes (length all)) all) z (in_fragments (variant_of x.codec) (fragment_sizes (length (drop end all))) (drop end all))
 fragment_written writers x y z start end n e h d r w =
     let a = variant_of x.codec in
     let all = writers a in
@@ -54,16 +54,16 @@ fragment_written writers x y z start end n e h d r w =
     let place : start + (end - start) ≡ end = omega arith in
     let behind : drop (end - start) (drop start all) ≡ drop end all = drop-drop (end - start) start all ∙ ap (λ (k : ℕ). drop k all) place in
     let many : 16384 ≤ length (drop start all) = omega arith in
-    remains_after x y z _ _ (row a (slice_range all start end)) _ r
-    (λ p. rows_of_many a (drop start all) (end - start) many m p ∙ ap (λ (ws : List Writer). (row a (slice_range all start end) ▹ in_rows a (rows (length ws)) ws) p) behind)
-    (subst (λ (c : Codec). Wrote y (row (variant_of c) (slice_range (writers (variant_of c)) start end)) z) r.same w)
+    remains_after x y z _ _ (one_fragment a (slice_range all start end)) _ r
+    (λ p. fragments_of_many a (drop start all) (end - start) many m p ∙ ap (λ (ws : List Writer). (one_fragment a (slice_range all start end) ▹ in_fragments a (fragment_sizes (length ws)) ws) p) behind)
+    (subst (λ (c : Codec). Wrote y (one_fragment (variant_of c) (slice_range (writers (variant_of c)) start end)) z) r.same w)
 
--- the last row
+-- the last one_fragment
 pub last_written : (writers : Variant → List Writer) (kind : Counted) (x y z : State) (start n : ℕ) →
     let all = writers (variant_of x.codec) in
     n ≡ length all → n < 2 ^ 64 → start ≤ n → n - start < 16384 →
-    Remains x (in_rows (variant_of x.codec) (rows (length all)) all) y (in_rows (variant_of x.codec) (rows (length (drop start all))) (drop start all)) →
-    Wrote y (row (variant_of y.codec) (slice_range (writers (variant_of y.codec)) start n)) z →
+    Remains x (in_fragments (variant_of x.codec) (fragment_sizes (length all)) all) y (in_fragments (variant_of x.codec) (fragment_sizes (length (drop start all))) (drop start all)) →
+    Wrote y (one_fragment (variant_of y.codec) (slice_range (writers (variant_of y.codec)) start n)) z →
     Wrote x (counted_in (variant_of x.codec) any_size kind all) z
 last_written writers kind x y z start n e l h d r w =
     let a = variant_of x.codec in
@@ -71,10 +71,10 @@ last_written writers kind x y z start n e l h d r w =
     let left : length (drop start all) ≡ n - start = length-drop start all ∙ omega arith in
     let whole : slice_range all start n ≡ drop start all = take_all (n - start) (drop start all) (omega arith) in
     let few : length (drop start all) < 16384 = omega arith in
-    wrote_same x z _ _ (in_their_rows a kind all (omega arith))
-    (remains_last x y z _ _ (row a (slice_range all start n)) r
-    (λ p. rows_of_few a (drop start all) few p ∙ ap (λ (ws : List Writer). row a ws p) (sym whole))
-    (subst (λ (c : Codec). Wrote y (row (variant_of c) (slice_range (writers (variant_of c)) start n)) z) r.same w))
+    wrote_same x z _ _ (in_their_fragments a kind all (omega arith))
+    (remains_last x y z _ _ (one_fragment a (slice_range all start n)) r
+    (λ p. fragments_of_few a (drop start all) few p ∙ ap (λ (ws : List Writer). one_fragment a ws p) (sym whole))
+    (subst (λ (c : Codec). Wrote y (one_fragment (variant_of c) (slice_range (writers (variant_of c)) start n)) z) r.same w))
 
 -- a count that a size allows is within its bounds
 bounds_there : (least most : Option ℕ) (l u k : ℕ) → least ≡ Some l → most ≡ Some u → allows (record { least = least; most = most }) k ≡ true →
@@ -93,23 +93,23 @@ allowed_most least most l u n k e f d h =
 pub wrote_bounded : (writers : Variant → List Writer) (kind : Counted) (x m y : State) (least most : Option ℕ) (l u n : ℕ) (on_octet : Bool) →
     let all = writers (variant_of x.codec) in
     least ≡ Some l → most ≡ Some u → n ≡ length all → u < 65536 → allows (record { least = least; most = most }) (length all) ≡ true → on_octet ≡ (ltb 0 n && is_aligned kind l u) →
-    Wrote x (bounded (variant_of x.codec) (u - l + 1) (n - l) ▹ padding_if on_octet (variant_of x.codec)) m →
-    Wrote m (in_a_row (slice_range (writers (variant_of m.codec)) 0 n)) y →
+    Wrote x (constrained_whole (variant_of x.codec) (u - l + 1) (n - l) ▹ padding_if on_octet (variant_of x.codec)) m →
+    Wrote m (one_by_one (slice_range (writers (variant_of m.codec)) 0 n)) y →
     Wrote x (counted_in (variant_of x.codec) (record { least = least; most = most }) kind all) y
 wrote_bounded writers kind x m y least most l u n on_octet f g e b h o v w =
     let a = variant_of x.codec in
     let all = writers a in
     let whole : slice_range all 0 n ≡ all = take_all (n - 0) all (omega arith) in
-    wrote_same x y ((bounded a (u - l + 1) (n - l) ▹ padding_if on_octet a) ▹ in_a_row all) (counted_in a (record { least = least; most = most }) kind all)
-    (λ p. sym (then_assoc (bounded a (u - l + 1) (n - l)) (padding_if on_octet a) (in_a_row all) p)
-    ∙ ap (λ (t : Bool). (bounded a (u - l + 1) (n - l) ▹ padding_if t a ▹ in_a_row all) p) o
-    ∙ ap (λ (k : ℕ). (bounded a (u - l + 1) (k - l) ▹ padding_if (ltb 0 k && is_aligned kind l u) a ▹ in_a_row all) p) e
-    ∙ ap (λ (t : Bool). cond t (bounded a (u - l + 1) (length all - l) ▹ padding_if (ltb 0 (length all) && is_aligned kind l u) a ▹ in_a_row all) (in_rows a (rows (length all)) all) p) (sym (lt-ltb u 65536 b))
+    wrote_same x y ((constrained_whole a (u - l + 1) (n - l) ▹ padding_if on_octet a) ▹ one_by_one all) (counted_in a (record { least = least; most = most }) kind all)
+    (λ p. sym (then_assoc (constrained_whole a (u - l + 1) (n - l)) (padding_if on_octet a) (one_by_one all) p)
+    ∙ ap (λ (t : Bool). (constrained_whole a (u - l + 1) (n - l) ▹ padding_if t a ▹ one_by_one all) p) o
+    ∙ ap (λ (k : ℕ). (constrained_whole a (u - l + 1) (k - l) ▹ padding_if (ltb 0 k && is_aligned kind l u) a ▹ one_by_one all) p) e
+    ∙ ap (λ (t : Bool). cond t (constrained_whole a (u - l + 1) (length all - l) ▹ padding_if (ltb 0 (length all) && is_aligned kind l u) a ▹ one_by_one all) (in_fragments a (fragment_sizes (length all)) all) p) (sym (lt-ltb u 65536 b))
     ∙ ap (λ (q : Option ℕ). counted_under a (Some l) q kind (length all) all p) (sym g)
     ∙ ap (λ (q : Option ℕ). counted_under a q most kind (length all) all p) (sym f)
     ∙ ap (λ (t : Bool). written_if t (counted_under a least most kind (length all) all) p) (sym h))
     (wrote_then x m y _ _ v
-    (subst (λ (ws : List Writer). Wrote m (in_a_row ws) y) whole (subst (λ (c : Codec). Wrote m (in_a_row (slice_range (writers (variant_of c)) 0 n)) y) v.same w)))
+    (subst (λ (ws : List Writer). Wrote m (one_by_one ws) y) whole (subst (λ (c : Codec). Wrote m (one_by_one (slice_range (writers (variant_of c)) 0 n)) y) v.same w)))
 
 -- whether padding stands in front of items
 pub pads_some : (n : ℕ) (o t : Bool) → 0 < n → o ≡ t → o ≡ (ltb 0 n && t)

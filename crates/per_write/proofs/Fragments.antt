@@ -7,10 +7,10 @@ use Rattle.std.proofs.Math.Nat.{zero-mod}
 use Rattle.std.proofs.Math.Seq.{take-length}
 use Rattle.rasn_types.specs.Bits.{Bits, to_bits, unpack}
 use Rattle.rasn_types.specs.Variants.{Variant, aligned}
-use Rattle.per_core.specs.Writers.{Writer, just, ◌▹◌, pad, join, go_on, after, in_a_row, padding, written_if}
-use Rattle.per_core.specs.Counts.{rows, unless_zero, in_rows, determinant, octet_writers, Counted, counted_in}
+use Rattle.per_core.specs.Writers.{Writer, just, ◌▹◌, pad, join, go_on, after, one_by_one, padding, written_if}
+use Rattle.per_core.specs.Counts.{fragment_sizes, unless_zero, in_fragments, determinant, octet_writers, Counted, counted_in}
 use Rattle.rasn_constraints.specs.Bounds.{any_size}
-use Rattle.per_write.specs.Rows.{row}
+use Rattle.per_write.specs.Fragments.{one_fragment}
 use Rattle.per_write.specs.State.{Appends}
 use Rattle.per_write.proofs.Writing.{then_assoc, then_nothing}
 
@@ -18,9 +18,9 @@ unless_zero-some : (m : ℕ) → 0 < m → unless_zero m ≡ m ∷ []
 unless_zero-some zero h = absurd (omega arith)
 unless_zero-some (suc m) h = refl
 
--- the rows of few items are one row
-pub rows-few : (n : ℕ) → n < 16384 → rows n ≡ n ∷ []
-rows-few n h =
+-- the fragment_sizes of few items are one one_fragment
+pub fragment_sizes-few : (n : ℕ) → n < 16384 → fragment_sizes n ≡ n ∷ []
+fragment_sizes-few n h =
     let e : n / 65536 ≡ 0 = omega (arith, h) in
     let f : n % 65536 / 16384 * 16384 ≡ 0 = omega (arith, h) in
     let g : n % 16384 ≡ n = omega (arith, h) in
@@ -30,18 +30,18 @@ rows-few n h =
 abbrev pub first_fragment : ℕ → ℕ
 first_fragment n = min n 65536 / 16384 * 16384
 
--- the rows of many items begin with the largest fragment
-pub rows-many : (n : ℕ) → 16384 ≤ n → rows n ≡ first_fragment n ∷ rows (n - first_fragment n)
-rows-many n h = go (n / 65536) refl
+-- the fragment_sizes of many items begin with the largest fragment
+pub fragment_sizes-many : (n : ℕ) → 16384 ≤ n → fragment_sizes n ≡ first_fragment n ∷ fragment_sizes (n - first_fragment n)
+fragment_sizes-many n h = go (n / 65536) refl
   where
-    go : (q : ℕ) → n / 65536 ≡ q → rows n ≡ first_fragment n ∷ rows (n - first_fragment n)
+    go : (q : ℕ) → n / 65536 ≡ q → fragment_sizes n ≡ first_fragment n ∷ fragment_sizes (n - first_fragment n)
     go (suc q) e =
         let f : first_fragment n ≡ 65536 = omega (arith, e) in
         let d : (n - 65536) / 65536 ≡ q = omega (arith, e) in
         let r : (n - 65536) % 65536 ≡ n % 65536 = omega (arith, e) in
         let s : (n - 65536) % 16384 ≡ n % 16384 = omega (arith, e) in
         ap (λ (m : ℕ). replicate m 65536 ++ (unless_zero (n % 65536 / 16384 * 16384) ++ n % 16384 ∷ [])) e
-        ∙ sym (ap (λ (m : ℕ). m ∷ rows (n - m)) f
+        ∙ sym (ap (λ (m : ℕ). m ∷ fragment_sizes (n - m)) f
         ∙ ap (λ (m : ℕ). 65536 ∷ (replicate m 65536 ++ (unless_zero ((n - 65536) % 65536 / 16384 * 16384) ++ (n - 65536) % 16384 ∷ []))) d
         ∙ ap (λ (m : ℕ). 65536 ∷ (replicate q 65536 ++ (unless_zero (m / 16384 * 16384) ++ (n - 65536) % 16384 ∷ []))) r
         ∙ ap (λ (m : ℕ). 65536 ∷ (replicate q 65536 ++ (unless_zero (n % 65536 / 16384 * 16384) ++ m ∷ []))) s)
@@ -53,44 +53,44 @@ rows-many n h = go (n / 65536) refl
         ∙ ap (λ (m : ℕ). unless_zero m ++ n % 16384 ∷ []) f
         ∙ ap (λ (m : List ℕ). m ++ n % 16384 ∷ []) (unless_zero-some (first_fragment n) (omega (arith, e, h)))
         ∙ ap (λ (m : ℕ). first_fragment n ∷ m ∷ []) r
-        ∙ ap (λ (m : List ℕ). first_fragment n ∷ m) (sym (rows-few (n - first_fragment n) l))
+        ∙ ap (λ (m : List ℕ). first_fragment n ∷ m) (sym (fragment_sizes-few (n - first_fragment n) l))
 
 pub length-octet_writers : (os : List ℕ) → length (octet_writers os) ≡ length os
 length-octet_writers [] = refl
 length-octet_writers (o ∷ os) = ap suc (length-octet_writers os)
 
--- octets in a row are their bits
-pub octets_in_a_row : (os : List ℕ) → ((k : ℕ) → get_or os k 0 < 256) → (p : ℕ) → in_a_row (octet_writers os) p ≡ Some (unpack os)
-octets_in_a_row [] h p = refl
-octets_in_a_row (o ∷ os) h p =
-    ap (λ (b : Bool). go_on (written_if b (just (to_bits 8 o)) p) (in_a_row (octet_writers os)) p) (lt-ltb o 256 (h 0))
-    ∙ ap (join (to_bits 8 o)) (octets_in_a_row os (λ k. h (suc k)) (after p (to_bits 8 o)))
+-- octets in a one_fragment are their bits
+pub octets_one_by_one : (os : List ℕ) → ((k : ℕ) → get_or os k 0 < 256) → (p : ℕ) → one_by_one (octet_writers os) p ≡ Some (unpack os)
+octets_one_by_one [] h p = refl
+octets_one_by_one (o ∷ os) h p =
+    ap (λ (b : Bool). go_on (written_if b (just (to_bits 8 o)) p) (one_by_one (octet_writers os)) p) (lt-ltb o 256 (h 0))
+    ∙ ap (join (to_bits 8 o)) (octets_one_by_one os (λ k. h (suc k)) (after p (to_bits 8 o)))
 
--- as many items as may be counted are written in rows
-pub in_their_rows : (a : Variant) (kind : Counted) (ws : List Writer) → length ws < 2 ^ 64 → (p : ℕ) → in_rows a (rows (length ws)) ws p ≡ counted_in a any_size kind ws p
-in_their_rows a kind ws l p = ap (λ (b : Bool). written_if b (in_rows a (rows (length ws)) ws) p) (sym (lt-ltb (length ws) (2 ^ 64) l))
+-- as many items as may be counted are written in fragment_sizes
+pub in_their_fragments : (a : Variant) (kind : Counted) (ws : List Writer) → length ws < 2 ^ 64 → (p : ℕ) → in_fragments a (fragment_sizes (length ws)) ws p ≡ counted_in a any_size kind ws p
+in_their_fragments a kind ws l p = ap (λ (b : Bool). written_if b (in_fragments a (fragment_sizes (length ws)) ws) p) (sym (lt-ltb (length ws) (2 ^ 64) l))
 
 -- many items are a fragment and the rest
-pub rows_of_many : (a : Variant) (ws : List Writer) (m : ℕ) → 16384 ≤ length ws → m ≡ first_fragment (length ws) → (p : ℕ) →
-    in_rows a (rows (length ws)) ws p ≡ (row a (take m ws) ▹ in_rows a (rows (length (drop m ws))) (drop m ws)) p
-rows_of_many a ws m h e p =
+pub fragments_of_many : (a : Variant) (ws : List Writer) (m : ℕ) → 16384 ≤ length ws → m ≡ first_fragment (length ws) → (p : ℕ) →
+    in_fragments a (fragment_sizes (length ws)) ws p ≡ (one_fragment a (take m ws) ▹ in_fragments a (fragment_sizes (length (drop m ws))) (drop m ws)) p
+fragments_of_many a ws m h e p =
     let d : length (drop m ws) ≡ length ws - m = length-drop m ws in
     let t : length (take m ws) ≡ m = length-take m ws ∙ omega (arith, e) in
-    let r : rows (length ws) ≡ m ∷ rows (length (drop m ws)) = rows-many (length ws) h ∙ rw (← e, d) refl in
-    let rest : Writer = in_rows a (rows (length (drop m ws))) (drop m ws) in
-    ap (λ (ms : List ℕ). in_rows a ms ws p) r
-    ∙ ap (λ (n : ℕ). (padding a ▹ just (determinant n) ▹ in_a_row (take m ws) ▹ rest) p) (sym t)
-    ∙ then_assoc (padding a) (just (determinant (length (take m ws)))) (in_a_row (take m ws) ▹ rest) p
-    ∙ then_assoc (padding a ▹ just (determinant (length (take m ws)))) (in_a_row (take m ws)) rest p
+    let r : fragment_sizes (length ws) ≡ m ∷ fragment_sizes (length (drop m ws)) = fragment_sizes-many (length ws) h ∙ rw (← e, d) refl in
+    let rest : Writer = in_fragments a (fragment_sizes (length (drop m ws))) (drop m ws) in
+    ap (λ (ms : List ℕ). in_fragments a ms ws p) r
+    ∙ ap (λ (n : ℕ). (padding a ▹ just (determinant n) ▹ one_by_one (take m ws) ▹ rest) p) (sym t)
+    ∙ then_assoc (padding a) (just (determinant (length (take m ws)))) (one_by_one (take m ws) ▹ rest) p
+    ∙ then_assoc (padding a ▹ just (determinant (length (take m ws)))) (one_by_one (take m ws)) rest p
 
--- few items are one row
-pub rows_of_few : (a : Variant) (ws : List Writer) → length ws < 16384 → (p : ℕ) → in_rows a (rows (length ws)) ws p ≡ row a ws p
-rows_of_few a ws h p =
-    ap (λ (ms : List ℕ). in_rows a ms ws p) (rows-few (length ws) h)
-    ∙ ap (λ (vs : List Writer). (padding a ▹ just (determinant (length ws)) ▹ in_a_row vs ▹ just []) p) (take-length ws)
-    ∙ then_assoc (padding a) (just (determinant (length ws))) (in_a_row ws ▹ just []) p
-    ∙ then_assoc (padding a ▹ just (determinant (length ws))) (in_a_row ws) (just []) p
-    ∙ then_nothing (row a ws) p
+-- few items are one one_fragment
+pub fragments_of_few : (a : Variant) (ws : List Writer) → length ws < 16384 → (p : ℕ) → in_fragments a (fragment_sizes (length ws)) ws p ≡ one_fragment a ws p
+fragments_of_few a ws h p =
+    ap (λ (ms : List ℕ). in_fragments a ms ws p) (fragment_sizes-few (length ws) h)
+    ∙ ap (λ (vs : List Writer). (padding a ▹ just (determinant (length ws)) ▹ one_by_one vs ▹ just []) p) (take-length ws)
+    ∙ then_assoc (padding a) (just (determinant (length ws))) (one_by_one ws ▹ just []) p
+    ∙ then_assoc (padding a ▹ just (determinant (length ws))) (one_by_one ws) (just []) p
+    ∙ then_nothing (one_fragment a ws) p
 
 -- X.691 11.9.3.6: the count of few items in an octet
 pub appends_short : (x y : Bits) (n : ℕ) → n < 128 → y ≡ x ++ to_bits 8 n → Appends x (just (determinant n)) y

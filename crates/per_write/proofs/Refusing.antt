@@ -12,26 +12,26 @@ use Rattle.rasn_codec.specs.Calls.{Written}
 use Rattle.per_write.specs.Rules.{encoder_rules}
 use Rattle.rasn_schema.specs.Schemas.{Schema}
 use Rattle.per_core.specs.Canon.{canon, char_writers}
-use Rattle.per_core.specs.Counts.{bounded, counted, Counted, counted_in, counted_under, determinant, in_rows, is_aligned, marked_form, octet_items, octet_writers, padding_if, rows, bit_items, bit_writers, char_items}
-use Rattle.per_core.specs.Writers.{Writer, go_on, in_a_row, just, padding, written_if, ◌▹◌}
+use Rattle.per_core.specs.Counts.{constrained_whole, counted, Counted, counted_in, counted_under, determinant, in_fragments, is_aligned, marked_form, octet_items, octet_writers, padding_if, fragment_sizes, bit_items, bit_writers, char_items}
+use Rattle.per_core.specs.Writers.{Writer, go_on, one_by_one, just, padding, written_if, ◌▹◌}
 use Rattle.per_write.specs.declared.error.EncodeError.{EncodeError}
 use Rattle.per_write.specs.declared.error.EncodeErrorKind.{EncodeErrorKind}
 use Rattle.per_write.specs.declared.error.EncodeErrorKind.TheVariants.{AlphabetConstraintNotSatisfied, SizeConstraintNotSatisfied}
 use Rattle.per_write.specs.Faults.{at_once, IsMemory, OutsideSize, RefusesValue, Stands, HasForeign}
 use Rattle.per_write.specs.Items.{HasRefused, refused_behind, refused_here, RefusesCounted, no_memory, wrong_count, wrong_item}
-use Rattle.per_write.specs.Rows.{row}
+use Rattle.per_write.specs.Fragments.{one_fragment}
 use Rattle.per_write.specs.State.{State, Wrote}
-use Rattle.per_write.proofs.Fragments.{first_fragment, length-octet_writers, rows_of_few, rows_of_many}
+use Rattle.per_write.proofs.Fragments.{first_fragment, length-octet_writers, fragments_of_few, fragments_of_many}
 use Rattle.per_write.proofs.Steps.{length-bit_writers, length-char_writers}
 use Rattle.per_write.proofs.Writing.{none_behind, wrote_same}
 
-none_in_a_row : (ws : List Writer) → HasRefused ws → (p : ℕ) → in_a_row ws p ≡ None
-none_in_a_row [] h p = elim h [ ]
-none_in_a_row (w ∷ ws) (refused_here h) p = ap (λ o. go_on o (in_a_row ws) p) (h p)
-none_in_a_row (w ∷ ws) (refused_behind h) p = none_behind (w p) (in_a_row ws) p (λ q. none_in_a_row ws h q)
+none_one_by_one : (ws : List Writer) → HasRefused ws → (p : ℕ) → one_by_one ws p ≡ None
+none_one_by_one [] h p = elim h [ ]
+none_one_by_one (w ∷ ws) (refused_here h) p = ap (λ o. go_on o (one_by_one ws) p) (h p)
+none_one_by_one (w ∷ ws) (refused_behind h) p = none_behind (w p) (one_by_one ws) p (λ q. none_one_by_one ws h q)
 
-none_in_row : (a : Variant) (ws : List Writer) → HasRefused ws → (p : ℕ) → row a ws p ≡ None
-none_in_row a ws h p = none_behind ((padding a ▹ just (determinant (length ws))) p) (in_a_row ws) p (λ q. none_in_a_row ws h q)
+none_in_row : (a : Variant) (ws : List Writer) → HasRefused ws → (p : ℕ) → one_fragment a ws p ≡ None
+none_in_row a ws h p = none_behind ((padding a ▹ just (determinant (length ws))) p) (one_by_one ws) p (λ q. none_one_by_one ws h q)
 
 in_part : (m : ℕ) (ws : List Writer) → HasRefused ws → HasRefused (take m ws) ⊎ HasRefused (drop m ws)
 in_part zero ws h = inr h
@@ -39,39 +39,39 @@ in_part (suc m) [] h = elim h [ ]
 in_part (suc m) (w ∷ ws) (refused_here h) = inl (refused_here h)
 in_part (suc m) (w ∷ ws) (refused_behind h) = elim (in_part m ws h) [ inl i ↦ inl (refused_behind i) | inr i ↦ inr i ]
 
-none_in_rows : (k : ℕ) (a : Variant) (ws : List Writer) → length ws ≤ k → HasRefused ws → (p : ℕ) → in_rows a (rows (length ws)) ws p ≡ None
-none_in_rows zero a ws l h p = rows_of_few a ws (omega arith) p ∙ none_in_row a ws h p
-none_in_rows (suc k) a ws l h p = go (ltb (length ws) 16384) refl (λ vs. none_in_rows k a vs)
+none_in_fragments : (k : ℕ) (a : Variant) (ws : List Writer) → length ws ≤ k → HasRefused ws → (p : ℕ) → in_fragments a (fragment_sizes (length ws)) ws p ≡ None
+none_in_fragments zero a ws l h p = fragments_of_few a ws (omega arith) p ∙ none_in_row a ws h p
+none_in_fragments (suc k) a ws l h p = go (ltb (length ws) 16384) refl (λ vs. none_in_fragments k a vs)
   where
     m : ℕ
     m = first_fragment (length ws)
 
-    go : (few : Bool) → ltb (length ws) 16384 ≡ few → ((vs : List Writer) → length vs ≤ k → HasRefused vs → (q : ℕ) → in_rows a (rows (length vs)) vs q ≡ None) → in_rows a (rows (length ws)) ws p ≡ None
-    go true e rest = rows_of_few a ws (ltb-true (length ws) 16384 e) p ∙ none_in_row a ws h p
+    go : (few : Bool) → ltb (length ws) 16384 ≡ few → ((vs : List Writer) → length vs ≤ k → HasRefused vs → (q : ℕ) → in_fragments a (fragment_sizes (length vs)) vs q ≡ None) → in_fragments a (fragment_sizes (length ws)) ws p ≡ None
+    go true e rest = fragments_of_few a ws (ltb-true (length ws) 16384 e) p ∙ none_in_row a ws h p
     go false e rest =
         let many : 16384 ≤ length ws = ltb-false (length ws) 16384 e in
         let d : length (drop m ws) ≡ length ws - m = length-drop m ws in
-        rows_of_many a ws m many refl p
+        fragments_of_many a ws m many refl p
         ∙ elim (in_part m ws h) [
-          | inl i ↦ ap (λ o. go_on o (in_rows a (rows (length (drop m ws))) (drop m ws)) p) (none_in_row a (take m ws) i p)
-          | inr i ↦ none_behind (row a (take m ws) p) (in_rows a (rows (length (drop m ws))) (drop m ws)) p (λ q. rest (drop m ws) (omega arith) i q)
+          | inl i ↦ ap (λ o. go_on o (in_fragments a (fragment_sizes (length (drop m ws))) (drop m ws)) p) (none_in_row a (take m ws) i p)
+          | inr i ↦ none_behind (one_fragment a (take m ws) p) (in_fragments a (fragment_sizes (length (drop m ws))) (drop m ws)) p (λ q. rest (drop m ws) (omega arith) i q)
         ]
 
 -- where an item is refused, nothing is written of all
 none_counted_under : (a : Variant) (least most : Option ℕ) (kind : Counted) (ws : List Writer) → HasRefused ws → (p : ℕ) → counted_under a least most kind (length ws) ws p ≡ None
-none_counted_under a None most kind ws h p = none_in_rows (length ws) a ws (omega arith) h p
-none_counted_under a (Some l) None kind ws h p = none_in_rows (length ws) a ws (omega arith) h p
+none_counted_under a None most kind ws h p = none_in_fragments (length ws) a ws (omega arith) h p
+none_counted_under a (Some l) None kind ws h p = none_in_fragments (length ws) a ws (omega arith) h p
 none_counted_under a (Some l) (Some u) kind ws h p = go (ltb u 65536)
   where
     begin : Writer
-    begin = bounded a (u - l + 1) (length ws - l)
+    begin = constrained_whole a (u - l + 1) (length ws - l)
 
     pads : Writer
     pads = padding_if (ltb 0 (length ws) && is_aligned kind l u) a
 
-    go : (b : Bool) → cond b (begin ▹ pads ▹ in_a_row ws) (in_rows a (rows (length ws)) ws) p ≡ None
-    go true = none_behind (begin p) (pads ▹ in_a_row ws) p (λ q. none_behind (pads q) (in_a_row ws) q (λ r. none_in_a_row ws h r))
-    go false = none_in_rows (length ws) a ws (omega arith) h p
+    go : (b : Bool) → cond b (begin ▹ pads ▹ one_by_one ws) (in_fragments a (fragment_sizes (length ws)) ws) p ≡ None
+    go true = none_behind (begin p) (pads ▹ one_by_one ws) p (λ q. none_behind (pads q) (one_by_one ws) q (λ r. none_one_by_one ws h r))
+    go false = none_in_fragments (length ws) a ws (omega arith) h p
 
 none_written_if : (b : Bool) (w : Writer) (p : ℕ) → w p ≡ None → written_if b w p ≡ None
 none_written_if true w p h = h

@@ -9,7 +9,7 @@ use Rattle.rasn_types.specs.Bits.{Bits, to_bits}
 use Rattle.rasn_types.specs.Variants.{Variant}
 use Rattle.per_core.specs.Canon.{char_writers, coded}
 use Rattle.per_core.specs.Counts.{bit_writers}
-use Rattle.per_core.specs.Writers.{Writer, in_a_row, just}
+use Rattle.per_core.specs.Writers.{Writer, one_by_one, just}
 use Rattle.per_write.specs.Faults.{HasForeign}
 use Rattle.per_write.specs.Items.{HasRefused, refused_behind, refused_here}
 use Rattle.per_write.specs.State.{State, Wrote}
@@ -33,13 +33,13 @@ next_between f xs i e x h g =
 
 -- one item more
 pub wrote_next : {A : Type 0} (f : A → Writer) (xs : List A) (i e : ℕ) (o : A) (all : Writer) (x y z : State) → i < e → slice_get xs i ≡ Some o →
-    Remains x all y (in_a_row (slice_range (map f xs) i e)) → Wrote y (f o) z → Remains x all z (in_a_row (slice_range (map f xs) (i + 1) e))
-wrote_next f xs i e o all x y z h g r w = remains_after x y z all _ (f o) _ r (λ p. ap (λ (ws : List Writer). in_a_row ws p) (next_between f xs i e o h g)) w
+    Remains x all y (one_by_one (slice_range (map f xs) i e)) → Wrote y (f o) z → Remains x all z (one_by_one (slice_range (map f xs) (i + 1) e))
+wrote_next f xs i e o all x y z h g r w = remains_after x y z all _ (f o) _ r (λ p. ap (λ (ws : List Writer). one_by_one ws p) (next_between f xs i e o h g)) w
 
 -- one character more
 pub wrote_character : (a : Alphabet) (cs : List ℕ) (i e c code : ℕ) (all : Writer) (x y z : State) → i < e → slice_get cs i ≡ Some c → char_code a.variant a.characters c ≡ Some code →
-    Remains x all y (in_a_row (slice_range (char_writers a.variant a.characters cs) i e)) → Wrote y (just (to_bits (char_width a.variant a.characters) code)) z →
-    Remains x all z (in_a_row (slice_range (char_writers a.variant a.characters cs) (i + 1) e))
+    Remains x all y (one_by_one (slice_range (char_writers a.variant a.characters cs) i e)) → Wrote y (just (to_bits (char_width a.variant a.characters) code)) z →
+    Remains x all z (one_by_one (slice_range (char_writers a.variant a.characters cs) (i + 1) e))
 unfolding char_writers
 wrote_character a cs i e c code all x y z h g k r w =
     wrote_next (λ d. coded (char_width a.variant a.characters) (char_code a.variant a.characters d)) cs i e c all x y z h g r

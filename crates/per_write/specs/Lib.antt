@@ -1,6 +1,6 @@
 pub mod Faults
 pub mod Items
 pub mod Names
-pub mod Rows
+pub mod Fragments
 pub mod Rules
 pub mod State

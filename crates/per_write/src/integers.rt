@@ -25,7 +25,7 @@ use std::alloc::{AllocError, Allocator};
 impl<A: Allocator + Clone> Writer<A> {
     /// Writes an INTEGER as if it had no constraint: its fewest octets in two's complement behind an unconstrained length
     /// (X.691 13.2.4).
-    pub fn put_whole<I: IntegerType>(&mut self, value: &I) -> Result<(), EncodeError>
+    pub fn put_unconstrained_whole<I: IntegerType>(&mut self, value: &I) -> Result<(), EncodeError>
         requires { self.old.failed ≡ false }
         ensures written { Puts IsMemory (counted_octets (variant_of self.old.codec) (whole_bits (I.number value.now))) self.old result self.new }
         ensures held { OnOk result (holds I.range (I.number value.now) ≡ true) }
@@ -52,7 +52,7 @@ impl<A: Allocator + Clone> Writer<A> {
                 let pushed = push_above(&mut self.bits, self.codec, lower, upper, number);
                 self.unless_out_of_memory(pushed)
             }
-            None => self.put_whole(&number),
+            None => self.put_unconstrained_whole(&number),
         }
     }
 
@@ -70,7 +70,7 @@ impl<A: Allocator + Clone> Writer<A> {
     {
         let (lower, upper) = bounds.start_and_end();
         if let (None, None) = (lower, upper) {
-            return self.put_whole(value);
+            return self.put_unconstrained_whole(value);
         }
         let Some(number) = value.to_i128() else {
             return Err(self.refuse(EncodeErrorKind::IntegerTypeConversionFailed));
@@ -80,7 +80,7 @@ impl<A: Allocator + Clone> Writer<A> {
 
     /// Writes an INTEGER under a value constraint (X.691 13): where the constraint is extensible, behind a bit that says
     /// whether the number is outside.
-    pub fn put_constrained<I: IntegerType>(
+    pub fn put_integer<I: IntegerType>(
         &mut self,
         stated: Extensible<Bounded<i128>>,
         value: &I,
@@ -100,7 +100,7 @@ impl<A: Allocator + Clone> Writer<A> {
             }
             (false, true) => {
                 self.put_bit(true)?;
-                self.put_whole(value)
+                self.put_unconstrained_whole(value)
             }
             (false, false) => {
                 let (lower, upper) = bounds.start_and_end();

@@ -4,7 +4,7 @@ ghost use Rattle.std.specs.Prelude.{◌≡◌, ◌<◌, ◌≤◌, List, false, 
 ghost use Rattle.rasn_types.specs.Codecs.{variant_of};
 ghost use Rattle.rasn_types.specs.Variants.{Variant};
 ghost use Rattle.per_core.specs.Counts.{Counted, is_aligned, octet_items, octet_writers};
-ghost use Rattle.per_core.specs.Writers.{in_a_row, Writer as ItemWriter};
+ghost use Rattle.per_core.specs.Writers.{one_by_one, Writer as ItemWriter};
 ghost use Rattle.per_write.specs.Items.{IsMemoryOrItem};
 ghost use Rattle.per_write.specs.State.{Puts};
 ghost use Rattle.per_write.specs.declared.error.EncodeErrorKind.{EncodeErrorKind};
@@ -48,7 +48,7 @@ pub(crate) trait Items {
         requires begun { writer.old.failed ≡ false }
         requires ordered { start ≤ end }
         requires within { (a : Variant) → end ≤ length (writers a self.now) }
-        ensures { Puts (IsMemoryOrItem (λ k. fault k self.now) (writers (variant_of writer.old.codec) self.now)) (in_a_row (slice_range (writers (variant_of writer.old.codec) self.now) start end)) writer.old result writer.new };
+        ensures { Puts (IsMemoryOrItem (λ k. fault k self.now) (writers (variant_of writer.old.codec) self.now)) (one_by_one (slice_range (writers (variant_of writer.old.codec) self.now) start end)) writer.old result writer.new };
 }
 
 /// Octets (X.691 17).

@@ -3,10 +3,10 @@
 ghost use Rattle.std.specs.Prelude.{◌+◌, ◌-◌, ◌≤◌, OnOk};
 ghost use Rattle.rasn_types.specs.Codecs.{variant_of};
 ghost use Rattle.per_core.specs.Writers.{just, padding, ◌▹◌};
-ghost use Rattle.per_core.specs.Counts.{bounded, determinant, padding_if};
+ghost use Rattle.per_core.specs.Counts.{constrained_whole, determinant, padding_if};
 ghost use Rattle.per_write.specs.State.{Appends};
 
-use crate::numbers::push_bounded;
+use crate::numbers::push_constrained_whole;
 use per_bits::BitList;
 use rasn_types::types::Codec;
 use std::alloc::{AllocError, Allocator};
@@ -15,7 +15,7 @@ use std::alloc::{AllocError, Allocator};
 pub(crate) const FRAGMENT: usize = 16384;
 
 /// Writes how many items follow, which begins on an octet in the aligned variant (X.691 11.9.3.5 to 11.9.3.8).
-pub(crate) fn push_count<A: Allocator>(
+pub(crate) fn push_unconstrained_length<A: Allocator>(
     bits: &mut BitList<A>,
     codec: Codec,
     count: usize,
@@ -28,7 +28,7 @@ pub(crate) fn push_count<A: Allocator>(
 
 /// Writes how many items follow, as a constrained whole number, and the padding in front of items that begin on an
 /// octet (X.691 11.9.4.1).
-pub(crate) fn push_bounded_count<A: Allocator>(
+pub(crate) fn push_constrained_length<A: Allocator>(
     bits: &mut BitList<A>,
     codec: Codec,
     lower: usize,
@@ -38,9 +38,9 @@ pub(crate) fn push_bounded_count<A: Allocator>(
 ) -> Result<(), AllocError>
     requires lower { lower ≤ count }
     requires upper { count ≤ upper }
-    ensures { OnOk result (Appends bits.old (bounded (variant_of codec) (upper - lower + 1) (count - lower) ▹ padding_if on_octet (variant_of codec)) bits.new) }
+    ensures { OnOk result (Appends bits.old (constrained_whole (variant_of codec) (upper - lower + 1) (count - lower) ▹ padding_if on_octet (variant_of codec)) bits.new) }
 {
-    push_bounded(
+    push_constrained_whole(
         bits,
         codec,
         (upper - lower) as u128,

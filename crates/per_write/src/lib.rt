@@ -5,8 +5,8 @@
 ghost use Rattle.std.specs.Prelude.{◌≡◌, ◌≤◌, ◌∷◌, [], true, false, Some, OnOk, OnErr, IfOk, IfErr};
 ghost use Rattle.rasn_types.specs.Bits.{to_bits};
 ghost use Rattle.rasn_types.specs.Codecs.{variant_of};
-ghost use Rattle.per_core.specs.Writers.{just, complete, in_a_row};
-ghost use Rattle.per_core.specs.Counts.{octet_writers, octets_unsized};
+ghost use Rattle.per_core.specs.Writers.{just, complete, one_by_one};
+ghost use Rattle.per_core.specs.Counts.{octet_writers, unconstrained_octets};
 ghost use Rattle.per_core.specs.Canon.{completed};
 ghost use Rattle.per_write.specs.State.{view, Puts};
 ghost use Rattle.per_write.specs.Faults.{IsError, IsMemory, IsAlready, RefusesOutput};
@@ -143,7 +143,7 @@ impl<A: Allocator + Clone> Writer<A> {
     /// Writes octets with no length.
     fn put_bare_octets(&mut self, octets: &[u8]) -> Result<(), EncodeError>
         requires { self.old.failed ≡ false }
-        ensures { Puts IsMemory (in_a_row (octet_writers octets.now)) self.old result self.new }
+        ensures { Puts IsMemory (one_by_one (octet_writers octets.now)) self.old result self.new }
     {
         let pushed = self.bits.push_octets(octets);
         self.unless_out_of_memory(pushed)
@@ -152,9 +152,9 @@ impl<A: Allocator + Clone> Writer<A> {
     /// Writes octets behind an unconstrained length (X.691 11.9.3.5 to 11.9.3.8).
     pub fn put_octets(&mut self, octets: &[u8]) -> Result<(), EncodeError>
         requires { self.old.failed ≡ false }
-        ensures { Puts IsMemory (octets_unsized (variant_of self.old.codec) octets.now) self.old result self.new }
+        ensures { Puts IsMemory (unconstrained_octets (variant_of self.old.codec) octets.now) self.old result self.new }
     {
-        self.put_unsized(&Octets(octets))
+        self.put_unconstrained_items(&Octets(octets))
     }
 
     /// What was made, unless memory ran out; then the writer has failed.

@@ -6,11 +6,11 @@ ghost use Rattle.rasn_types.specs.Codecs.{variant_of};
 ghost use Rattle.rasn_types.specs.Octets.{natural_bits, octets_of_natural};
 ghost use Rattle.rasn_types.specs.Variants.{aligned};
 ghost use Rattle.per_core.specs.Writers.{just, padding, ◌▹◌};
-ghost use Rattle.per_core.specs.Counts.{bounded, counted_octets, number_under};
+ghost use Rattle.per_core.specs.Counts.{constrained_whole, counted_octets, number_under};
 ghost use Rattle.rasn_constraints.specs.Bounds.{above, not_above};
 ghost use Rattle.per_write.specs.State.{Appends};
 
-use crate::lengths::{push_count, push_padding};
+use crate::lengths::{push_unconstrained_length, push_padding};
 use per_bits::BitList;
 use rasn_types::types::Codec;
 use rasn_types::width::width_of;
@@ -30,8 +30,8 @@ pub(crate) fn push_above<A: Allocator>(
 {
     let offset = distance_above(lower, number);
     match upper {
-        Some(upper) => push_bounded(bits, codec, distance_above(lower, upper), offset),
-        None => push_natural(bits, codec, offset),
+        Some(upper) => push_constrained_whole(bits, codec, distance_above(lower, upper), offset),
+        None => push_semi_constrained_whole(bits, codec, offset),
     }
 }
 
@@ -45,30 +45,30 @@ fn distance_above(lower: i128, number: i128) -> u128
 
 /// Writes one of the numbers from 0 to `greatest`, a constrained whole number above its lower bound (X.691 11.5): in
 /// the unaligned variant in the fewest bits that tell these numbers apart.
-pub(crate) fn push_bounded<A: Allocator>(
+pub(crate) fn push_constrained_whole<A: Allocator>(
     bits: &mut BitList<A>,
     codec: Codec,
     greatest: u128,
     offset: u128,
 ) -> Result<(), AllocError>
     requires { offset ≤ greatest }
-    ensures { OnOk result (Appends bits.old (bounded (variant_of codec) (greatest + 1) offset) bits.new) }
+    ensures { OnOk result (Appends bits.old (constrained_whole (variant_of codec) (greatest + 1) offset) bits.new) }
 {
     match codec {
-        Codec::Aper => push_bounded_aligned(bits, greatest, offset),
+        Codec::Aper => push_constrained_whole_aligned(bits, greatest, offset),
         Codec::Uper => bits.push_bits(offset, width_to(greatest)),
     }
 }
 
 /// Writes one of the numbers from 0 to `greatest` in the aligned variant (X.691 11.5.7): of 255 numbers or fewer in
 /// bits, of 256 in an octet, of 65536 or fewer in two, and of more in its fewest octets, which their count precedes.
-fn push_bounded_aligned<A: Allocator>(
+fn push_constrained_whole_aligned<A: Allocator>(
     bits: &mut BitList<A>,
     greatest: u128,
     offset: u128,
 ) -> Result<(), AllocError>
     requires { offset ≤ greatest }
-    ensures { OnOk result (Appends bits.old (bounded aligned (greatest + 1) offset) bits.new) }
+    ensures { OnOk result (Appends bits.old (constrained_whole aligned (greatest + 1) offset) bits.new) }
 {
     if greatest < 255 {
         bits.push_bits(offset, width_to(greatest))
@@ -98,7 +98,7 @@ fn push_on_octet<A: Allocator>(
 
 /// Writes a number that has a lower bound alone, by how far it is above that (X.691 11.7): its fewest octets without
 /// sign, behind an unconstrained length.
-pub(crate) fn push_natural<A: Allocator>(
+pub(crate) fn push_semi_constrained_whole<A: Allocator>(
     bits: &mut BitList<A>,
     codec: Codec,
     offset: u128,
@@ -106,7 +106,7 @@ pub(crate) fn push_natural<A: Allocator>(
     ensures { OnOk result (Appends bits.old (counted_octets (variant_of codec) (natural_bits offset)) bits.new) }
 {
     let octets = octet_count(offset);
-    push_count(bits, codec, octets as usize)?;
+    push_unconstrained_length(bits, codec, octets as usize)?;
     bits.push_bits(offset, 8 * octets)
 }
 

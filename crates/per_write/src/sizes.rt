@@ -5,17 +5,17 @@ ghost use Rattle.rasn_types.specs.Codecs.{variant_of};
 ghost use Rattle.rasn_types.specs.Variants.{Variant};
 ghost use Rattle.rasn_constraints.specs.Bounds.{allows, any_size};
 ghost use Rattle.rasn_constraints.specs.Constraints.{is_marked, size_in};
-ghost use Rattle.per_core.specs.Counts.{bounded, counted, counted_in, determinant, padding_if};
+ghost use Rattle.per_core.specs.Counts.{constrained_whole, counted, counted_in, determinant, padding_if};
 ghost use Rattle.per_core.specs.Writers.{just, padding, ◌▹◌};
 ghost use Rattle.per_write.specs.Faults.{IsMemory};
 ghost use Rattle.per_write.specs.Items.{IsMemoryOrItem, RefusesCounted};
-ghost use Rattle.per_write.specs.Rows.{row};
+ghost use Rattle.per_write.specs.Rows.{one_fragment};
 ghost use Rattle.per_write.specs.State.{Puts};
 
 use crate::Writer;
 use crate::error::{EncodeError, EncodeErrorKind};
 use crate::items::Items;
-use crate::lengths::{FRAGMENT, push_bounded_count, push_count};
+use crate::lengths::{FRAGMENT, push_constrained_length, push_unconstrained_length};
 use rasn_schema::constraints::{Bounded, Extensible};
 use std::alloc::Allocator;
 
@@ -42,7 +42,7 @@ impl<A: Allocator + Clone> Writer<A> {
             }
             (false, true) => {
                 self.put_bit(true)?;
-                self.put_unsized(items)
+                self.put_unconstrained_items(items)
             }
             (false, false) => {
                 let kind = EncodeErrorKind::SizeConstraintNotSatisfied(count, lower, upper);
@@ -68,16 +68,16 @@ impl<A: Allocator + Clone> Writer<A> {
             (Some(lower), Some(upper)) if upper < 65536 => {
                 let count = items.len();
                 let on_octet = count > 0 && items.is_aligned(lower, upper);
-                self.put_bounded_count(lower, upper, count, on_octet)?;
+                self.put_constrained_length(lower, upper, count, on_octet)?;
                 items.put(self, 0, count)
             }
-            _ => self.put_unsized(items),
+            _ => self.put_unconstrained_items(items),
         }
     }
 
     /// Writes items behind an unconstrained length (X.691 11.9.3.5 to 11.9.3.8): in fragments while there are 16384 or
     /// more, each as large as it may be, and then the rest behind a length of its own, which may be zero.
-    pub(crate) fn put_unsized<I: Items>(&mut self, items: &I) -> Result<(), EncodeError>
+    pub(crate) fn put_unconstrained_items<I: Items>(&mut self, items: &I) -> Result<(), EncodeError>
         requires { self.old.failed ≡ false }
         ensures { let a = variant_of self.old.codec in
             Puts (IsMemoryOrItem (λ k. I.fault k items.now) (I.writers a items.now)) (counted_in a any_size (I.kind items.now) (I.writers a items.now)) self.old result self.new }
@@ -86,36 +86,36 @@ impl<A: Allocator + Clone> Writer<A> {
         let mut start = 0;
         while count - start >= FRAGMENT {
             let end = start + (count - start).min(4 * FRAGMENT) / FRAGMENT * FRAGMENT;
-            self.put_row(items, start, end)?;
+            self.put_fragment(items, start, end)?;
             start = end;
         }
-        self.put_row(items, start, count)
+        self.put_fragment(items, start, count)
     }
 
     /// Writes the items from an index on and before another, behind one length.
-    fn put_row<I: Items>(&mut self, items: &I, start: usize, end: usize) -> Result<(), EncodeError>
+    fn put_fragment<I: Items>(&mut self, items: &I, start: usize, end: usize) -> Result<(), EncodeError>
         requires begun { self.old.failed ≡ false }
         requires ordered { start ≤ end }
         requires within { (a : Variant) → end ≤ length (I.writers a items.now) }
         ensures { let a = variant_of self.old.codec in
-            Puts (IsMemoryOrItem (λ k. I.fault k items.now) (I.writers a items.now)) (row a (slice_range (I.writers a items.now) start end)) self.old result self.new }
+            Puts (IsMemoryOrItem (λ k. I.fault k items.now) (I.writers a items.now)) (one_fragment a (slice_range (I.writers a items.now) start end)) self.old result self.new }
     {
-        self.put_count(end - start)?;
+        self.put_unconstrained_length(end - start)?;
         items.put(self, start, end)
     }
 
     /// Writes how many items follow, which begins on an octet in the aligned variant (X.691 11.9.3.5 to 11.9.3.8).
-    fn put_count(&mut self, count: usize) -> Result<(), EncodeError>
+    fn put_unconstrained_length(&mut self, count: usize) -> Result<(), EncodeError>
         requires { self.old.failed ≡ false }
         ensures { Puts IsMemory (padding (variant_of self.old.codec) ▹ just (determinant count)) self.old result self.new }
     {
-        let pushed = push_count(&mut self.bits, self.codec, count);
+        let pushed = push_unconstrained_length(&mut self.bits, self.codec, count);
         self.unless_out_of_memory(pushed)
     }
 
     /// Writes how many items follow, as a constrained whole number, and the padding in front of items that begin on an
     /// octet (X.691 11.9.4.1).
-    fn put_bounded_count(
+    fn put_constrained_length(
         &mut self,
         lower: usize,
         upper: usize,
@@ -126,9 +126,9 @@ impl<A: Allocator + Clone> Writer<A> {
         requires lower { lower ≤ count }
         requires upper { count ≤ upper }
         ensures { let a = variant_of self.old.codec in
-            Puts IsMemory (bounded a (upper - lower + 1) (count - lower) ▹ padding_if on_octet a) self.old result self.new }
+            Puts IsMemory (constrained_whole a (upper - lower + 1) (count - lower) ▹ padding_if on_octet a) self.old result self.new }
     {
-        let pushed = push_bounded_count(&mut self.bits, self.codec, lower, upper, count, on_octet);
+        let pushed = push_constrained_length(&mut self.bits, self.codec, lower, upper, count, on_octet);
         self.unless_out_of_memory(pushed)
     }
 }

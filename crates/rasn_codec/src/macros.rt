@@ -12,7 +12,7 @@ macro_rules! at_places {
 #[macro_export]
 macro_rules! encode_components {
     ([$of:ident $encoder:ident] $($list:tt)*) => {
-        $crate::write::whole($of, &$crate::at_places!(cells_to_write whole $of $($list)*), $encoder)
+        $crate::write::all($of, &$crate::at_places!(cells_to_write all $of $($list)*), $encoder)
     };
 }
 
@@ -49,7 +49,7 @@ macro_rules! cells_to_write {
 /// Cells to write, of which the first is stated.
 #[macro_export]
 macro_rules! stated_to_write {
-    (whole $of:ident $field:ident $cells:expr) => { $cells };
+    (all $of:ident $field:ident $cells:expr) => { $cells };
     (each $of:ident $field:ident $cells:expr) => {{
         let $field = $crate::write::component($of, $cells);
         $field
@@ -68,8 +68,8 @@ macro_rules! cell {
 #[macro_export]
 macro_rules! decode_components {
     ([$decoder:ident] $($presence:ident $tag:literal $name:literal $field:ident: $type:ty [$($bounds:tt)*];)*) => {{
-        let cells = $crate::at_places!(cells_to_read whole $($presence $tag $field: $type [$($bounds)*];)*);
-        let $crate::pairs!($($field)*) = $crate::read::whole::<Self, _, _>(&cells, $decoder)?;
+        let cells = $crate::at_places!(cells_to_read all $($presence $tag $field: $type [$($bounds)*];)*);
+        let $crate::pairs!($($field)*) = $crate::read::all::<Self, _, _>(&cells, $decoder)?;
         Ok(Self { $($field),* })
     }};
 }
@@ -102,7 +102,7 @@ macro_rules! cells_to_read {
 /// Cells to read, of which the first is stated.
 #[macro_export]
 macro_rules! stated_to_read {
-    (whole $field:ident $cells:expr) => { $cells };
+    (all $field:ident $cells:expr) => { $cells };
     (each $field:ident $cells:expr) => {{
         let $field = $crate::read::component::<Self, _>($cells);
         $field

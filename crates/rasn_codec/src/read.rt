@@ -33,8 +33,8 @@ pub fn components<T: Components, P: DecodeParts, D: Decoder>(
     cells.decode_parts(decoder)
 }
 
-/// Reads all components of a record in turn, stated as a whole: `component` states each, and takes longer to check.
-pub fn whole<T: Components, P: DecodeParts, D: Decoder>(
+/// Reads all components of a record in turn, all at once: `component` states each, and takes longer to check.
+pub fn all<T: Components, P: DecodeParts, D: Decoder>(
     cells: &P,
     decoder: &mut D,
 ) -> Result<P::Values, D::Error>

@@ -38,8 +38,8 @@ pub fn components<T: Components, P: EncodeParts, E: Encoder>(
     cells.encode_parts(encoder)
 }
 
-/// Writes all components of a record in turn, stated as a whole: `component` states each, and takes longer to check.
-pub fn whole<T: Components, P: EncodeParts, E: Encoder>(
+/// Writes all components of a record in turn, all at once: `component` states each, and takes longer to check.
+pub fn all<T: Components, P: EncodeParts, E: Encoder>(
     of: &T,
     cells: &P,
     encoder: &mut E,

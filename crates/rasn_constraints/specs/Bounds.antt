@@ -1,5 +1,5 @@
 -- Bounds of numbers and of counts: which numbers stand within bounds, and which counts a size allows (ITU-T X.680, 51).
-use Rattle.std.specs.Prelude.{ℕ, suc, ◌+◌, ◌-◌, ◌^◌, Bool, true, ◌&&◌, leb, ltb, Option, Some, None, ℤ, pos, negsuc}
+use Rattle.std.specs.Prelude.{ℕ, suc, ◌+◌, ◌-◌, ◌^◌, Bool, true, ◌&&◌, nat_le, nat_lt, Option, Some, None, ℤ, pos, negsuc}
 use lib.Signed.{le_z}
 
 -- X.680 51.4: the least and the greatest number of a value constraint, each where there is one
@@ -27,16 +27,16 @@ between a b = record { low = Some a; high = Some b }
 -- whether a count is at least the lower bound, where there is one
 abbrev pub at_least : Option ℕ → ℕ → Bool
 at_least None n = true
-at_least (Some l) n = leb l n
+at_least (Some l) n = nat_le l n
 
 -- whether a count is at most the upper bound, where there is one
 abbrev pub at_most : Option ℕ → ℕ → Bool
 at_most None n = true
-at_most (Some u) n = leb n u
+at_most (Some u) n = nat_le n u
 
 -- X.680 51.5: whether a size allows a count; no string or list has more members than `usize::MAX` (this project's choice)
 abbrev pub allows : Size → ℕ → Bool
-allows size n = at_least size.least n && (at_most size.most n && ltb n (2 ^ 64))
+allows size n = at_least size.least n && (at_most size.most n && nat_lt n (2 ^ 64))
 
 -- whether a number is at least the lower bound, where there is one
 abbrev pub not_below : Option ℤ → ℤ → Bool

@@ -1,6 +1,6 @@
 -- What constraints say: the bounds that a `Bounded` has, and the first constraint of each kind (ITU-T X.680, 49 to 52).
 use lib.Signed.{le_z}
-use Rattle.std.specs.Prelude.{ℕ, ◌+◌, ◌^◌, ℤ, Bool, false, cond, ltb, eqb, ◌&&◌, ◌||◌, List, [], ◌∷◌, Option, Some, None, option_map, filter}
+use Rattle.std.specs.Prelude.{ℕ, ◌+◌, ◌^◌, ℤ, Bool, false, if◌then◌else◌, nat_lt, ◌==◌, ◌&&◌, ◌||◌, List, [], ◌∷◌, Option, Some, None, option_map, filter}
 use Rattle.std.specs.Option.{option_or}
 use Rattle.std.specs.Borrow.{Bor}
 use Rattle.rasn_types.specs.Alphabets.{restricted}
@@ -31,7 +31,7 @@ bounds_by f b = record { low = option_map f (start_of b); high = option_map f (e
 abbrev pub how_many_from : Option ℤ → Option ℤ → Option ℕ
 how_many_from None high = None
 how_many_from (Some l) None = None
-how_many_from (Some l) (Some u) = cond (le_z l u && ltb (above l u + 1) (2 ^ 128)) (Some (above l u + 1)) None
+how_many_from (Some l) (Some u) = if le_z l u && nat_lt (above l u + 1) (2 ^ 128) then Some (above l u + 1) else None
 
 -- how many whole numbers are within bounds, where both are there and in order, and a u128 holds the number
 abbrev pub how_many : Bounds → Option ℕ
@@ -97,4 +97,4 @@ size_in (Some e) = size_between e.constraint
 -- the characters of a type that a permitted alphabet in use leaves
 abbrev pub permitted : List ℕ → Option (Extensible (List ℕ)) → List ℕ
 permitted own None = own
-permitted own (Some e) = cond e.extensible own (restricted own e.constraint)
+permitted own (Some e) = if e.extensible then own else restricted own e.constraint

@@ -1,5 +1,5 @@
 -- Which constraints a lawful type may have.
-use Rattle.std.specs.Prelude.{ℕ, ◌+◌, ◌^◌, Bool, true, ◌&&◌, leb, ltb, Option, Some, None, ℤ}
+use Rattle.std.specs.Prelude.{ℕ, ◌+◌, ◌^◌, Bool, true, ◌&&◌, nat_le, nat_lt, Option, Some, None, ℤ}
 use lib.Signed.{le_z}
 use Rattle.rasn_constraints.specs.Bounds.{above}
 use Rattle.rasn_constraints.specs.Constraints.{bounds_in, size_in}
@@ -9,13 +9,13 @@ use Rattle.rasn_constraints.specs.declared.constraints.Constraints.{Constraints}
 abbrev pub are_lawful_bounds : Option ℤ → Option ℤ → Bool
 are_lawful_bounds None high = true
 are_lawful_bounds (Some l) None = true
-are_lawful_bounds (Some l) (Some u) = le_z l u && ltb (above l u + 1) (2 ^ 127)
+are_lawful_bounds (Some l) (Some u) = le_z l u && nat_lt (above l u + 1) (2 ^ 127)
 
 -- X.680 51.5: whether the bounds of a size are in order
 abbrev pub is_lawful_size : Option ℕ → Option ℕ → Bool
 is_lawful_size None most = true
 is_lawful_size (Some l) None = true
-is_lawful_size (Some l) (Some u) = leb l u
+is_lawful_size (Some l) (Some u) = nat_le l u
 
 -- whether the bounds and the size in use are lawful
 abbrev pub are_lawful : Constraints → Bool

@@ -10,7 +10,7 @@ use Rattle.rasn_schema.specs.Schemas.{Schema}
 use Rattle.rasn_codec.specs.Calls.{Refuses}
 use Rattle.per_core.specs.Basic.{fills}
 use Rattle.per_core.specs.Ends.{Ends}
-use Rattle.per_core.proofs.Whole.{one_reading}
+use Rattle.per_core.proofs.Readings.{one_reading}
 use Rattle.per_core.proofs.Took.{took_agree}
 use Rattle.per_core.proofs.Laws.{one_value}
 use Rattle.per_core.proofs.Filling.{fills_read, fills_back}
@@ -18,7 +18,7 @@ use Rattle.per_de.specs.State.{State, Options, Spells, with_bits}
 use Rattle.per_de.specs.Faults.{Fault, refusal}
 use Rattle.per_read.specs.declared.error.DecodeError.{DecodeError}
 use Rattle.per_read.specs.declared.error.DecodeErrorKind.TheVariants.{OutOfMemory}
-use Rattle.rasn_per.specs.Whole.{basically, AreReadAs, AreUnread}
+use Rattle.rasn_per.specs.Complete.{basically, AreReadAs, AreUnread}
 
 -- a decoder that has just begun with octets
 abbrev pub fresh : Codec → List ℕ → State
@@ -27,8 +27,8 @@ fresh a octets = record { bits = unpack octets; failed = false; levels = 128; co
 pub begun : (a : Codec) (octets : List ℕ) (b : Bits) (o : Options) (s : State) → s ≡ record { bits = b; failed = false; levels = o.levels; codec = o.codec } → o ≡ record { codec = a; levels = 128 } → b ≡ unpack octets → s ≡ fresh a octets
 begun a octets b o s e f g = e ∙ ap (λ (z : Options). record { bits = b; failed = false; levels = z.levels; codec = z.codec }) f ∙ ap (λ (z : Bits). record { bits = z; failed = false; levels = 128; codec = a }) g
 
-pub whole_octets : (octets : List ℕ) (b : Bits) (n : ℕ) → b ≡ unpack octets → n ≡ length b → n % 8 ≡ 0
-whole_octets octets b n e f =
+pub full_octets : (octets : List ℕ) (b : Bits) (n : ℕ) → b ≡ unpack octets → n ≡ length b → n % 8 ≡ 0
+full_octets octets b n e f =
     let l : n ≡ 8 * length octets = f ∙ ap length e ∙ length-unpack octets in omega arith
 
 module _ (a : Codec) (schema : ℕ → Schema) (octets : List ℕ) where

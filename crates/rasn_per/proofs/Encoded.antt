@@ -14,7 +14,7 @@ use Rattle.per_write.specs.State.{State, view, Presents}
 use Rattle.per_write.specs.Faults.{IsMemory, RefusesValue}
 use Rattle.per_write.specs.declared.error.EncodeError.{EncodeError}
 use Rattle.per_write.specs.declared.error.EncodeErrorKind.TheVariants.{OutOfMemory}
-use Rattle.rasn_per.specs.Whole.{AreBytes, HasNoBytes}
+use Rattle.rasn_per.specs.Complete.{AreBytes, HasNoBytes}
 
 join-nil : (o : Option Bits) → join [] o ≡ o
 join-nil None = refl

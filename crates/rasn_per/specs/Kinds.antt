@@ -13,7 +13,7 @@ use Rattle.per_de.specs.Faults.{IsInBits}
 use Rattle.per_read.specs.declared.error.DecodeErrorKind.{DecodeErrorKind}
 use Rattle.per_read.specs.declared.error.DecodeErrorKind.TheVariants.{Incomplete, ParserFail, UnexpectedExtraData, OutOfMemory}
 use Rattle.per_read.specs.declared.error.ParserFailCause.TheVariants.{NonzeroEmptyValue}
-use Rattle.rasn_per.specs.Whole.{basically}
+use Rattle.rasn_per.specs.Complete.{basically}
 
 -- the refusal of octets that are no complete encoding
 abbrev pub kind_of : Surplus → DecodeErrorKind

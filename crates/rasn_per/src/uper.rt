@@ -9,7 +9,7 @@ ghost use Rattle.rasn_codec.specs.Calls.{AtDepths};
 ghost use Rattle.rasn_constraints.specs.LawfulConstraints.{are_lawful};
 ghost use Rattle.rasn_schema.specs.Normal.{normal};
 ghost use Rattle.per_write.specs.Faults.{IsInValue};
-ghost use Rattle.rasn_per.specs.Whole.{AreBytes, HasNoBytes, AreReadAs, AreUnread};
+ghost use Rattle.rasn_per.specs.Complete.{AreBytes, HasNoBytes, AreReadAs, AreUnread};
 ghost use Rattle.rasn_per.specs.Kinds.{IsInOctets, kind_of};
 
 use per_bits::BitReader;

@@ -50,26 +50,26 @@ simple_leaf : (s : Schema) → IsSimple s → IsLeaf s
 simple_leaf Schemas.cut h = absurd h
 simple_leaf _ h = h
 
-pub simple_whole : (s : Schema) → IsSimple s → (v : Value) → meets_cut s v ≡ false
+pub simple_uncut : (s : Schema) → IsSimple s → (v : Value) → meets_cut s v ≡ false
 unfolding meets_cut
-simple_whole Schemas.boolean h v = refl
-simple_whole Schemas.null h v = refl
-simple_whole Schemas.real h v = refl
-simple_whole Schemas.any h v = refl
-simple_whole Schemas.identifier h v = refl
-simple_whole Schemas.date h v = refl
-simple_whole (Schemas.text k) h v = refl
-simple_whole (Schemas.time k) h v = refl
-simple_whole (Schemas.number b m r) h v = refl
-simple_whole (Schemas.items r e x) h v = refl
-simple_whole (Schemas.octet_string z m) h v = refl
-simple_whole (Schemas.bit_string z m) h v = refl
-simple_whole (Schemas.char_string a z m) h v = refl
-simple_whole Schemas.cut h v = absurd h
-simple_whole (Schemas.list e z m) h v = absurd h
-simple_whole (Schemas.set_of e z m) h v = absurd h
-simple_whole (Schemas.sequence o p x a) h v = absurd h
-simple_whole (Schemas.choice p a x) h v = absurd h
+simple_uncut Schemas.boolean h v = refl
+simple_uncut Schemas.null h v = refl
+simple_uncut Schemas.real h v = refl
+simple_uncut Schemas.any h v = refl
+simple_uncut Schemas.identifier h v = refl
+simple_uncut Schemas.date h v = refl
+simple_uncut (Schemas.text k) h v = refl
+simple_uncut (Schemas.time k) h v = refl
+simple_uncut (Schemas.number b m r) h v = refl
+simple_uncut (Schemas.items r e x) h v = refl
+simple_uncut (Schemas.octet_string z m) h v = refl
+simple_uncut (Schemas.bit_string z m) h v = refl
+simple_uncut (Schemas.char_string a z m) h v = refl
+simple_uncut Schemas.cut h v = absurd h
+simple_uncut (Schemas.list e z m) h v = absurd h
+simple_uncut (Schemas.set_of e z m) h v = absurd h
+simple_uncut (Schemas.sequence o p x a) h v = absurd h
+simple_uncut (Schemas.choice p a x) h v = absurd h
 
 pub simple_normal : (s : Schema) → IsSimple s → (v : Value) → normal s v ≡ v
 unfolding normal
@@ -94,4 +94,4 @@ simple_normal (Schemas.choice p a x) h v = absurd h
 
 -- what such a family owes
 pub simple_unfolds : (s : Schema) → IsSimple s → Unfolds (always s)
-simple_unfolds s h = record { grows = λ n. CutOf.alike (simple_leaf s h); holds = λ v. (0, simple_whole s h v) }
+simple_unfolds s h = record { grows = λ n. CutOf.alike (simple_leaf s h); holds = λ v. (0, simple_uncut s h v) }

@@ -1,5 +1,5 @@
 -- What a lawful schema is: what ITU-T X.680 asks of a type, and the limits of this project.
-use Rattle.std.specs.Prelude.{ℕ, zero, suc, ◌+◌, ◌^◌, ◌≡◌, Bool, true, false, not, ◌&&◌, ltb, eqb, List, [], ◌∷◌, ◌++◌, length, Option, Some, None}
+use Rattle.std.specs.Prelude.{ℕ, zero, suc, ◌+◌, ◌^◌, ◌≡◌, Bool, true, false, not, ◌&&◌, nat_lt, ◌==◌, List, [], ◌∷◌, ◌++◌, length, Option, Some, None}
 use Rattle.rasn_types.specs.Contents.{is_text, is_time, is_identifier, is_date}
 use Rattle.rasn_types.specs.Values.{Value, whole, truth, nothing, item, octets, bits, characters, elements, bag, fields, alternative, day, root, added, values, slots, same, bag_of}
 use Rattle.rasn_constraints.specs.Bounds.{holds, Bounds}
@@ -27,7 +27,7 @@ tags_below (part t p s ps) = leaves t ++ tags_below ps
 
 -- whether two tags are one
 abbrev pub same_tag : Tag → Tag → Bool
-same_tag t u = eqb t.class u.class && eqb t.number u.number
+same_tag t u = t.class == u.class && t.number == u.number
 
 -- whether a tag isn't in a list
 abbrev pub is_new : Tag → List Tag → Bool
@@ -81,11 +81,11 @@ all_pass f (x ∷ xs) = f x && all_pass f xs
 
 -- whether numbers are octets
 abbrev pub are_octets : List ℕ → Bool
-are_octets os = all_pass (λ o. ltb o 256) os
+are_octets os = all_pass (λ o. nat_lt o 256) os
 
 -- whether a list has no more members than `usize::MAX` (this project's limit)
 abbrev pub is_countable : {A : Type 0} → List A → Bool
-is_countable xs = ltb (length xs) (2 ^ 64)
+is_countable xs = nat_lt (length xs) (2 ^ 64)
 
 -- whether octets that pass a test are the value
 abbrev pub if_octets : (List ℕ → Bool) → Value → Bool
@@ -119,8 +119,8 @@ if_whole range _ = false
 
 -- whether a known item is the value
 abbrev pub if_item : ℕ → ℕ → Value → Bool
-if_item r e (item root i) = ltb i r
-if_item r e (item added i) = ltb i e
+if_item r e (item root i) = nat_lt i r
+if_item r e (item added i) = nat_lt i e
 if_item r e _ = false
 
 -- whether bits are the value
@@ -217,7 +217,7 @@ IsLawfulPresence s (default d) = IsLawfulDefault s d
 -- project's limit), and lawful tags
 pub record IsLawfulRecord (o : Order) (ps adds : Parts) : Type 0 where
   pub root_groups : no_groups ps ≡ true
-  pub few_bits : ltb (presence_bits ps) 65536 ≡ true
+  pub few_bits : nat_lt (presence_bits ps) 65536 ≡ true
   pub lawful_tags : are_lawful_tags o ps adds ≡ true
 
 -- X.680 29.3: a CHOICE, alternatives aside: each is required, and their tags differ

@@ -1,5 +1,5 @@
 -- The normal form of a value: no addition group that holds nothing (ITU-T X.691, 19.9), and the same at every depth.
-use Rattle.std.specs.Prelude.{ℕ, zero, suc, Bool, true, false, cond, ◌&&◌, List, [], ◌∷◌, map, Option, Some, None}
+use Rattle.std.specs.Prelude.{ℕ, zero, suc, Bool, true, false, if◌then◌else◌, ◌&&◌, List, [], ◌∷◌, map, Option, Some, None}
 use Rattle.rasn_types.specs.Values.{Value, elements, bag, fields, alternative, root, added, values, as_values, slots, as_slots, same, bag_of}
 use Rattle.rasn_schema.specs.Schemas.{Presence, required, optional, group, default, Schema, Parts, no_parts, part}
 
@@ -41,7 +41,7 @@ is_vacant s _ = false
 -- X.691 19.9: a group that holds nothing is absent
 unfoldable pub settle : Presence → Schema → Value → Option Value
 unfolding is_vacant
-settle group s v = cond (is_vacant s v) None (Some v)
+settle group s v = if is_vacant s v then None else Some v
 settle _ s v = Some v
 
 -- what becomes of the first part, where it is there, and of the others

@@ -1,5 +1,5 @@
 -- The order in which a record's root parts are written (ITU-T X.691, 21.1; X.680, 8.6).
-use Rattle.std.specs.Prelude.{ℕ, zero, suc, ◌+◌, cond, List, [], ◌∷◌}
+use Rattle.std.specs.Prelude.{ℕ, zero, suc, ◌+◌, if◌then◌else◌, List, [], ◌∷◌}
 use Rattle.rasn_schema.specs.Schemas.{Tag, tag_less, Order, listed, by_tag}
 
 -- x put into a list at a place, or at its end
@@ -11,7 +11,7 @@ insert_at (suc n) x (y ∷ ys) = y ∷ insert_at n x ys
 -- how many tags of a list are less than t
 abbrev pub how_many_less : Tag → List Tag → ℕ
 how_many_less t [] = 0
-how_many_less t (u ∷ us) = cond (tag_less u t) 1 0 + how_many_less t us
+how_many_less t (u ∷ us) = (if tag_less u t then 1 else 0) + how_many_less t us
 
 -- X.680 8.6: what hangs on each tag, in ascending order of the tags
 abbrev pub by_tags {ℓ} : {A : Type ℓ} → List Tag → List A → List A

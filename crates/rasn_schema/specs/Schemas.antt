@@ -1,5 +1,5 @@
 -- The types of ITU-T X.680 as the packed encoding rules see them (X.691, 10.3): a finite tree of kinds.
-use Rattle.std.specs.Prelude.{ℕ, ◌+◌, Bool, true, false, cond, ltb, List, [], ◌∷◌}
+use Rattle.std.specs.Prelude.{ℕ, ◌+◌, Bool, true, false, if◌then◌else◌, nat_lt, List, [], ◌∷◌}
 use Rattle.rasn_types.specs.Contents.{TextKind, TimeKind}
 use Rattle.rasn_types.specs.Values.{Value}
 use Rattle.rasn_constraints.specs.Bounds.{Bounds, Size}
@@ -23,11 +23,11 @@ mutual
 
 -- X.680 8.6: the order of tags: by class, then by number
 abbrev pub tag_less : Tag → Tag → Bool
-tag_less s t = cond (ltb s.class t.class) true (cond (ltb t.class s.class) false (ltb s.number t.number))
+tag_less s t = if nat_lt s.class t.class then true else if nat_lt t.class s.class then false else nat_lt s.number t.number
 
 -- the lesser of two tags
 abbrev pub lesser : Tag → Tag → Tag
-lesser s t = cond (tag_less t s) t s
+lesser s t = if tag_less t s then t else s
 
 -- X.691 21.1: an untagged CHOICE counts with the smallest tag of its root alternatives, nested untagged ones included
 unfoldable mutual

@@ -1,11 +1,11 @@
 -- Ascending numbers: walks over them, and the places that they stand at.
 use Rattle.std.proofs.Common.{◌≡◌, refl, sym, ap, ◌∙◌, subst, ℕ, zero, suc, ◌+◌, ◌-◌, ◌^◌, ◌<◌, ◌≤◌, ◌⊎◌, Bool, true, false, cond, ◌&&◌, ◌||◌, ltb, eqb, List, [], ◌∷◌, ◌++◌, length, filter, arith, inl, inr}
 use Rattle.std.proofs.lemmas.Bool.{cases_Bool, ltb-true, ltb-false, lt-ltb, le-ltb, eqb-true, eq-eqb, and_from, and_right, or_cases, or_left, or_right, cond-true, cond-false}
-use Rattle.rasn_types.specs.Alphabets.{has, restricted, row, from_to}
+use Rattle.rasn_types.specs.Alphabets.{has, restricted, interval_of, from_to}
 use Rattle.rasn_strings.specs.Intervals.{expand, ascend_from, characters_of}
 use Rattle.rasn_strings.specs.Walks.{from_on}
 use Rattle.rasn_strings.specs.declared.intervals.Interval.{Interval}
-use Rattle.rasn_strings.proofs.Rows.{step_first, has-append, has-characters_of, within_interval, length-expand}
+use Rattle.rasn_strings.proofs.IntervalsOf.{step_first, has-append, has-characters_of, within_interval, length-expand}
 
 -- numbers that ascend from n on
 abbrev pub Up : ℕ → List ℕ → Type 0
@@ -20,8 +20,8 @@ up_append : (m n f : ℕ) (ys : List ℕ) → m ≤ f → Up (f + n) ys → Up m
 up_append m zero f ys h u = up_sooner m (f + 0) ys (omega arith) u
 up_append m (suc n) f ys h u = (h, up_append (suc f) n (suc f) ys (omega arith) (subst (λ k. Up k ys) (let e : f + suc n ≡ suc f + n = omega arith in e) u))
 
-up_row : (m n f : ℕ) (ys : List ℕ) → m ≤ f → Up (f + n) ys → Up m (row n f ++ ys)
-unfolding row
+up_row : (m n f : ℕ) (ys : List ℕ) → m ≤ f → Up (f + n) ys → Up m (interval_of n f ++ ys)
+unfolding interval_of
 up_row m n f ys h u = up_append m n f ys h u
 
 -- the characters of ascending intervals ascend

@@ -10,7 +10,7 @@ use Rattle.rasn_types.specs.Variants.{Variant, aligned}
 use Rattle.rasn_strings.specs.declared.intervals.Interval.{Interval}
 use Rattle.rasn_strings.proofs.Ascending.{Up, up-expand, up-restricted, has-restricted}
 use Rattle.rasn_types.proofs.Bits.{width_least, wide_enough}
-use Rattle.rasn_strings.proofs.Rows.{index_of_none}
+use Rattle.rasn_strings.proofs.IntervalsOf.{index_of_none}
 
 -- ---- the bits of a character
 

@@ -6,7 +6,7 @@ use Rattle.rasn_strings.specs.Intervals.{expand, ascend_from}
 use Rattle.rasn_strings.specs.Walks.{from_on}
 use Rattle.rasn_strings.specs.declared.intervals.Interval.{Interval}
 use Rattle.rasn_strings.proofs.Ascending.{Up, from_on-first, from_on-least, has-restricted, up-restricted, small}
-use Rattle.rasn_strings.proofs.Rows.{has-append}
+use Rattle.rasn_strings.proofs.IntervalsOf.{has-append}
 
 -- a number of both lists, not below n
 pub record Fit (own : List ℕ) (n : ℕ) (seen : List ℕ) (c : ℕ) : Type 0 where

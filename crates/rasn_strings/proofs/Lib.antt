@@ -2,5 +2,5 @@ pub mod Ascending
 pub mod Codes
 pub mod Least
 pub mod Own
-pub mod Rows
+pub mod IntervalsOf
 pub mod Walking

@@ -1,25 +1,25 @@
 -- Strings of a type's own characters.
 use Rattle.std.proofs.Common.{◌≡◌, refl, sym, ◌∙◌, ℕ, zero, suc, ◌+◌, ◌<◌, ◌≤◌, true, eqb, List, [], ◌∷◌, ◌++◌, get_or, slice_get, IfSome, Fits, w16, arith, inl, inr}
 use Rattle.std.proofs.lemmas.Bool.{eqb-true, and_parts, and_from, or_cases, le-leb, lt-ltb, ltb-true}
-use Rattle.rasn_types.specs.Alphabets.{has, has_all, row, greatest, visible, ia5, printable, numeric, bmp}
+use Rattle.rasn_types.specs.Alphabets.{has, has_all, interval_of, greatest, visible, ia5, printable, numeric, bmp}
 use Rattle.rasn_strings.specs.Intervals.{expand}
-use Rattle.rasn_strings.proofs.Rows.{has-row}
+use Rattle.rasn_strings.proofs.IntervalsOf.{has-interval_of}
 
 -- the intervals of each type have its characters
 pub expand-visible : expand (record { first = 32; last = 126 } ∷ []) ≡ visible
-unfolding row
+unfolding interval_of
 expand-visible = refl
 
 pub expand-ia5 : expand (record { first = 0; last = 127 } ∷ []) ≡ ia5
-unfolding row
+unfolding interval_of
 expand-ia5 = refl
 
 pub expand-printable : expand (record { first = 32; last = 32 } ∷ record { first = 39; last = 41 } ∷ record { first = 43; last = 58 } ∷ record { first = 61; last = 61 } ∷ record { first = 63; last = 63 } ∷ record { first = 65; last = 90 } ∷ record { first = 97; last = 122 } ∷ []) ≡ printable
-unfolding row
+unfolding interval_of
 expand-printable = refl
 
 pub expand-numeric : expand (record { first = 32; last = 32 } ∷ record { first = 48; last = 57 } ∷ []) ≡ numeric
-unfolding row
+unfolding interval_of
 expand-numeric = refl
 
 -- a character of a list is at most its greatest
@@ -30,8 +30,8 @@ has_below (x ∷ xs) c e = elim (or_cases (eqb x c) (has xs c) e) [
   | inr h ↦ let s = has_below xs c h in omega arith
 ]
 
-pub row_below : (n f c : ℕ) → has (row n f) c ≡ true → c < f + n
-row_below n f c e = let p = and_parts _ _ (sym (has-row n f c) ∙ e) in ltb-true c (f + n) p.1
+pub row_below : (n f c : ℕ) → has (interval_of n f) c ≡ true → c < f + n
+row_below n f c e = let p = and_parts _ _ (sym (has-interval_of n f c) ∙ e) in ltb-true c (f + n) p.1
 
 -- one character more
 pub own_push : (own cs : List ℕ) (c : ℕ) → has_all own cs ≡ true → has own c ≡ true → has_all own (cs ++ c ∷ []) ≡ true
@@ -47,4 +47,4 @@ own_get own (d ∷ cs) (suc i) h = own_get own cs i (and_parts (has own d) (has_
 -- each number of 16 bits is a character of BMPString
 pub own_units : (us : List ℕ) → ((i : ℕ) → Fits w16 (get_or us i 0)) → has_all bmp us ≡ true
 own_units [] h = refl
-own_units (u ∷ us) h = and_from (has bmp u) _ (has-row 65536 0 u ∙ and_from _ _ (le-leb 0 u (omega arith)) (lt-ltb u 65536 (h 0).fits)) (own_units us (λ i. h (suc i)))
+own_units (u ∷ us) h = and_from (has bmp u) _ (has-interval_of 65536 0 u ∙ and_from _ _ (le-leb 0 u (omega arith)) (lt-ltb u 65536 (h 0).fits)) (own_units us (λ i. h (suc i)))

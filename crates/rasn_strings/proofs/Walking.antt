@@ -6,7 +6,7 @@ use Rattle.rasn_strings.specs.Intervals.{expand, ascend_from}
 use Rattle.rasn_strings.specs.Walks.{from_on}
 use Rattle.rasn_strings.specs.declared.intervals.Interval.{Interval}
 use Rattle.rasn_strings.proofs.Ascending.{up-restricted, from_on-all, from_on-next, from_on-first}
-use Rattle.rasn_strings.proofs.Rows.{later}
+use Rattle.rasn_strings.proofs.IntervalsOf.{later}
 
 -- at the start all are left
 pub begins : (is : List Interval) (some : List ℕ) → ascend_from 0 is ≡ true → from_on 0 (restricted (expand is) some) ≡ restricted (expand is) some

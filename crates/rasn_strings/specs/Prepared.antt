@@ -1,5 +1,5 @@
 -- What a `CharacterAlphabet` keeps, and the alphabet that it stands for.
-use Rattle.std.specs.Prelude.{ℕ, ◌≡◌, ◌≤◌, ◌^◌, Bool, true, ltb, List, Option, option_map}
+use Rattle.std.specs.Prelude.{ℕ, ◌≡◌, ◌≤◌, ◌^◌, Bool, true, nat_lt, List, Option, option_map}
 use Rattle.std.specs.Borrow.{Bor}
 use Rattle.rasn_types.specs.Alphabets.{Alphabet, char_width, greatest, restricted_to}
 use Rattle.rasn_strings.specs.Intervals.{expand, ascend_from}
@@ -19,4 +19,4 @@ pub record IsPrepared (own : List Interval) (alphabet : Alphabet) (width : ℕ) 
   pub ascends : ascend_from 0 own ≡ true
   pub width_is : width ≡ char_width alphabet.variant alphabet.characters
   pub few : width ≤ 16
-  pub own_values_are : own_values ≡ ltb (greatest alphabet.characters) (2 ^ width)
+  pub own_values_are : own_values ≡ nat_lt (greatest alphabet.characters) (2 ^ width)

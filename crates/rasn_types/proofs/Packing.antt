@@ -169,7 +169,7 @@ unpack-packed bs = elim (cases_lt 0 (length bs % 8)) [ inl h ↦ part h | inr h 
 
     part : 0 < length bs % 8 → take (length bs) (unpack (packed bs)) ≡ bs
     part h = ap (λ os. take (length bs) (unpack os)) (packed_part k bs (omega arith) (omega arith) ∙ longer)
-        ∙ ap (λ cs. take (length bs) cs) (unpack-pack (k + 1) (xs ++ (ys ++ zs)) whole_octets ∙ sym (append_assoc xs ys zs) ∙ ap (λ cs. cs ++ zs) split)
+        ∙ ap (λ cs. take (length bs) cs) (unpack-pack (k + 1) (xs ++ (ys ++ zs)) full_octets ∙ sym (append_assoc xs ys zs) ∙ ap (λ cs. cs ++ zs) split)
         ∙ take-append_seam bs zs
       where
         k : ℕ
@@ -194,8 +194,8 @@ unpack-packed bs = elim (cases_lt 0 (length bs % 8)) [ inl h ↦ part h | inr h 
         longer = ap (λ cs. pack (k + 1) cs) (sym split) ∙ pack-last k xs ys (front_length bs) ∙ ap (λ (o : ℕ). pack k xs ++ o ∷ []) (sym (octet-zeros ys short))
             ∙ sym (pack-last k xs (ys ++ zs) (front_length bs))
 
-        whole_octets : length (xs ++ (ys ++ zs)) ≡ 8 * (k + 1)
-        whole_octets = length-append xs (ys ++ zs) ∙ ap₂ (λ (n m : ℕ). n + m) (front_length bs) (length-append ys zs ∙ ap (λ (n : ℕ). length ys + n) (length-replicate (8 - length ys) false)) ∙ omega (arith, short)
+        full_octets : length (xs ++ (ys ++ zs)) ≡ 8 * (k + 1)
+        full_octets = length-append xs (ys ++ zs) ∙ ap₂ (λ (n m : ℕ). n + m) (front_length bs) (length-append ys zs ∙ ap (λ (n : ℕ). length ys + n) (length-replicate (8 - length ys) false)) ∙ omega (arith, short)
 
 -- octets that are some bits, packed
 pub kept : (n : ℕ) (os : List ℕ) (bs : Bits) → length bs ≡ n → os ≡ packed bs → ArePacked n os

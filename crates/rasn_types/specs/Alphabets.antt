@@ -1,13 +1,13 @@
 -- The known-multiplier character strings: how wide a character is, and its code (ITU-T X.691, 30.5).
 -- An alphabet is its characters' values in ascending order, each once.
-use Rattle.std.specs.Prelude.{ℕ, zero, suc, ◌+◌, ◌^◌, max, Bool, true, false, cond, leb, ltb, eqb, ◌&&◌, ◌||◌, List, [], ◌∷◌, ◌++◌, length, filter, Option, Some, None}
+use Rattle.std.specs.Prelude.{ℕ, zero, suc, ◌+◌, ◌^◌, max, Bool, true, false, if◌then◌else◌, nat_le, nat_lt, ◌==◌, ◌&&◌, ◌||◌, List, [], ◌∷◌, ◌++◌, length, filter, Option, Some, None}
 use Rattle.rasn_types.specs.Bits.{width}
 use Rattle.rasn_types.specs.Variants.{Variant, aligned, unaligned}
 
 -- X.691 30.5.2, 30.5.3: the bits of one character; ALIGNED rounds them up to a power of two, and none stays none
 abbrev pub char_width : Variant → List ℕ → ℕ
 char_width unaligned alphabet = width (length alphabet)
-char_width aligned alphabet = cond (leb (length alphabet) 1) 0 (2 ^ width (width (length alphabet)))
+char_width aligned alphabet = if nat_le (length alphabet) 1 then 0 else 2 ^ width (width (length alphabet))
 
 -- the greatest of some characters' values; 0 where there is none
 abbrev pub greatest : List ℕ → ℕ
@@ -22,19 +22,19 @@ more (Some n) = Some (1 + n)
 -- the place of a character in an alphabet, counted from 0; none where it isn't permitted
 abbrev pub index_of : ℕ → List ℕ → Option ℕ
 index_of c [] = None
-index_of c (d ∷ ds) = cond (eqb c d) (Some 0) (more (index_of c ds))
+index_of c (d ∷ ds) = if c == d then Some 0 else more (index_of c ds)
 
 -- a character's own value where `own` says so, else its place; none where it has none
 abbrev pub keep_own : Bool → ℕ → Option ℕ → Option ℕ
 keep_own own c None = None
-keep_own own c (Some i) = Some (cond own c i)
+keep_own own c (Some i) = Some (if own then c else i)
 
 -- X.691 30.5.4: the number that a character is written as: its own value where each permitted one fits its bits, else its place
 unfoldable pub char_code : Variant → List ℕ → ℕ → Option ℕ
 unfolding width
-char_code a alphabet c = keep_own (ltb (greatest alphabet) (2 ^ char_width a alphabet)) c (index_of c alphabet)
+char_code a alphabet c = keep_own (nat_lt (greatest alphabet) (2 ^ char_width a alphabet)) c (index_of c alphabet)
 
--- so many numbers in a row from the second on
+-- so many numbers in a interval_of from the second on
 abbrev pub from_to : ℕ → ℕ → List ℕ
 from_to zero c = []
 from_to (suc n) c = c ∷ from_to n (suc c)
@@ -51,22 +51,22 @@ printable = 32 ∷ (from_to 3 39 ++ from_to 16 43 ++ 61 ∷ 63 ∷ (from_to 26 6
 abbrev pub numeric : List ℕ
 numeric = 32 ∷ from_to 10 48
 
--- so many numbers in a row, as a word that is not written out unasked
-unfoldable pub row : ℕ → ℕ → List ℕ
-row n c = from_to n c
+-- so many numbers in a interval_of, as a word that is not written out unasked
+unfoldable pub interval_of : ℕ → ℕ → List ℕ
+interval_of n c = from_to n c
 
 -- X.680 41: the alphabet of IA5String, the characters 0 to 127
 abbrev pub ia5 : List ℕ
-ia5 = row 128 0
+ia5 = interval_of 128 0
 
 -- X.680 41: the alphabet of BMPString, 0 to 65535, with the surrogates (this project's choice)
 abbrev pub bmp : List ℕ
-bmp = row 65536 0
+bmp = interval_of 65536 0
 
 -- whether a list has a number
 abbrev pub has : List ℕ → ℕ → Bool
 has [] n = false
-has (x ∷ xs) n = eqb x n || has xs n
+has (x ∷ xs) n = x == n || has xs n
 
 -- whether a list has each of some numbers
 abbrev pub has_all : List ℕ → List ℕ → Bool

@@ -1,5 +1,5 @@
 -- Which contents a text, an identifier, a date and a time may have (ITU-T X.680, 32, 41, 46, 47; X.690, 8.19, 11.7, 11.8).
-use Rattle.std.specs.Prelude.{ℕ, zero, suc, ◌+◌, ◌-◌, ◌*◌, ◌%◌, ◌^◌, Bool, true, false, cond, not, ◌&&◌, ◌||◌, leb, ltb, eqb, List, [], ◌∷◌, length, take, drop, Option, Some, None, ℤ, pos, negsuc}
+use Rattle.std.specs.Prelude.{ℕ, zero, suc, ◌+◌, ◌-◌, ◌*◌, ◌%◌, ◌^◌, Bool, true, false, if◌then◌else◌, not, ◌&&◌, ◌||◌, nat_le, nat_lt, ◌==◌, List, [], ◌∷◌, length, take, drop, Option, Some, None, ℤ, pos, negsuc}
 use lib.Signed.{le_z}
 
 -- X.680 41: a UTF8String; or a GeneralString, GraphicString or TeletexString, which is any octets (this project's choice)
@@ -23,24 +23,24 @@ awaiting n l h = Some (record { more = n; low = l; high = h })
 -- what follows the first octet of a character: no overlong form, no surrogate, nothing past 10FFFF
 abbrev pub first_octet : ℕ → Option Awaited
 first_octet o =
-    cond (ltb o 128) (awaiting 0 0 0)
-    (cond (ltb o 194) None
-    (cond (ltb o 224) (awaiting 1 128 191)
-    (cond (eqb o 224) (awaiting 2 160 191)
-    (cond (eqb o 237) (awaiting 2 128 159)
-    (cond (ltb o 240) (awaiting 2 128 191)
-    (cond (eqb o 240) (awaiting 3 144 191)
-    (cond (ltb o 244) (awaiting 3 128 191)
-    (cond (eqb o 244) (awaiting 3 128 143) None))))))))
+    if nat_lt o 128 then awaiting 0 0 0
+    else if nat_lt o 194 then None
+    else if nat_lt o 224 then awaiting 1 128 191
+    else if o == 224 then awaiting 2 160 191
+    else if o == 237 then awaiting 2 128 159
+    else if nat_lt o 240 then awaiting 2 128 191
+    else if o == 240 then awaiting 3 144 191
+    else if nat_lt o 244 then awaiting 3 128 191
+    else if o == 244 then awaiting 3 128 143 else None
 
 -- what follows one more octet; none where it may not stand there
 abbrev pub next_octet : Awaited → ℕ → Option Awaited
-next_octet w o = cond (eqb w.more 0) (first_octet o) (cond (leb w.low o && leb o w.high) (awaiting (w.more - 1) 128 191) None)
+next_octet w o = if w.more == 0 then first_octet o else if nat_le w.low o && nat_le o w.high then awaiting (w.more - 1) 128 191 else None
 
 -- whether octets end whole where this is awaited before them
 abbrev pub utf8_after : Option Awaited → List ℕ → Bool
 utf8_after None os = false
-utf8_after (Some w) [] = eqb w.more 0
+utf8_after (Some w) [] = w.more == 0
 utf8_after (Some w) (o ∷ os) = utf8_after (next_octet w o) os
 
 -- X.680 41: whether octets are a text of the kind: UTF-8 for a UTF8String, any octets for the others
@@ -58,9 +58,10 @@ pub record Arc : Type 0 where
 -- Arcs are below 2 ^ 32 (this project's choice).
 abbrev pub next_arc : Arc → ℕ → Option Arc
 next_arc c o =
-    cond (ltb o 256 && (ltb (128 * c.value + o % 128) c.bound && (c.begun || not (eqb o 128))))
-    (cond (ltb o 128) (Some (record { begun = false; value = 0; bound = 2 ^ 32 })) (Some (record { begun = true; value = 128 * c.value + o % 128; bound = c.bound })))
-    None
+    if nat_lt o 256 && (nat_lt (128 * c.value + o % 128) c.bound && (c.begun || not (o == 128))) then
+    (if nat_lt o 128 then Some (record { begun = false; value = 0; bound = 2 ^ 32 })
+    else Some (record { begun = true; value = 128 * c.value + o % 128; bound = c.bound }))
+    else None
 
 -- whether octets end whole where a subidentifier stands so before them
 abbrev pub arcs_after : Option Arc → List ℕ → Bool
@@ -76,7 +77,7 @@ is_identifier (o ∷ os) = arcs_after (Some (record { begun = false; value = 0; 
 
 -- whether the year with this size is a leap year of the proleptic Gregorian calendar
 abbrev pub leap : ℕ → Bool
-leap n = eqb (n % 4) 0 && (not (eqb (n % 100) 0) || eqb (n % 400) 0)
+leap n = n % 4 == 0 && (not (n % 100 == 0) || n % 400 == 0)
 
 -- the size of a year's number, without its sign
 abbrev pub year_size : ℤ → ℕ
@@ -85,16 +86,16 @@ year_size (negsuc n) = n + 1
 
 -- the days of a month of a year
 abbrev pub days_in : ℤ → ℕ → ℕ
-days_in y m = cond (eqb m 2) (cond (leap (year_size y)) 29 28) (cond (eqb m 4 || eqb m 6 || eqb m 9 || eqb m 11) 30 31)
+days_in y m = if m == 2 then (if leap (year_size y) then 29 else 28) else if m == 4 || m == 6 || m == 9 || m == 11 then 30 else 31
 
 -- X.680 38.4: whether year, month and day are a day of the calendar; years -9999 to 9999 (this project's choice)
 abbrev pub is_date : ℤ → ℕ → ℕ → Bool
-is_date y m d = leb 1 m && (leb 1 d && (leb m 12 && (leb d (days_in y m) && (le_z (negsuc 9998) y && le_z y (pos 9999)))))
+is_date y m d = nat_le 1 m && (nat_le 1 d && (nat_le m 12 && (nat_le d (days_in y m) && (le_z (negsuc 9998) y && le_z y (pos 9999)))))
 
 -- whether all characters are decimal digits
 abbrev pub are_digits : List ℕ → Bool
 are_digits [] = true
-are_digits (c ∷ cs) = leb 48 c && (leb c 57 && are_digits cs)
+are_digits (c ∷ cs) = nat_le 48 c && (nat_le c 57 && are_digits cs)
 
 -- the number whose digits are those of n and then these
 abbrev pub decimal_from : ℕ → List ℕ → ℕ
@@ -107,27 +108,27 @@ two i cs = decimal_from 0 (take 2 (drop i cs))
 
 -- whether the characters MMDDhhmmss, and what follows them, begin with a moment of year y; seconds of 60 are none
 abbrev pub is_moment : ℕ → List ℕ → Bool
-is_moment y cs = is_date (pos y) (two 0 cs) (two 2 cs) && (ltb (two 4 cs) 24 && (ltb (two 6 cs) 60 && ltb (two 8 cs) 60))
+is_moment y cs = is_date (pos y) (two 0 cs) (two 2 cs) && (nat_lt (two 4 cs) 24 && (nat_lt (two 6 cs) 60 && nat_lt (two 8 cs) 60))
 
 -- whether the characters are Z alone
 abbrev pub is_z : List ℕ → Bool
 is_z [] = false
-is_z (c ∷ []) = eqb c 90
+is_z (c ∷ []) = c == 90
 is_z (c ∷ d ∷ cs) = false
 
 -- X.690 11.7.2, 11.7.3: up to n digits, at least one and the last of them not 0, and then Z
 abbrev pub ends_well : ℕ → List ℕ → Bool
 ends_well n [] = false
 ends_well zero (c ∷ cs) = false
-ends_well (suc n) (c ∷ cs) = leb 48 c && (leb c 57 && ((not (eqb c 48) && is_z cs) || ends_well n cs))
+ends_well (suc n) (c ∷ cs) = nat_le 48 c && (nat_le c 57 && ((not (c == 48) && is_z cs) || ends_well n cs))
 
 -- X.690 11.7: Z alone, or a full stop, a fraction of up to nine digits that doesn't end in 0, and Z
 abbrev pub is_fraction : List ℕ → Bool
 is_fraction [] = false
-is_fraction (c ∷ cs) = (eqb c 90 && is_z (c ∷ cs)) || (eqb c 46 && ends_well 9 cs)
+is_fraction (c ∷ cs) = (c == 90 && is_z (c ∷ cs)) || (c == 46 && ends_well 9 cs)
 
 -- X.690 11.7, 11.8: whether characters are the one text of a time. UTCTime is YYMMDDhhmmssZ, 00 to 49 meaning 20xx and
 -- 50 to 99 meaning 19xx; GeneralizedTime is YYYYMMDDhhmmss, a fraction if there is one, and Z (this project's choice).
 unfoldable pub is_time : TimeKind → List ℕ → Bool
-is_time TimeKind.utc cs = leb 12 (length cs) && (are_digits (take 12 cs) && (is_z (drop 12 cs) && is_moment (cond (ltb (two 0 cs) 50) 2000 1900 + two 0 cs) (drop 2 cs)))
-is_time TimeKind.generalized cs = leb 14 (length cs) && (are_digits (take 14 cs) && (is_fraction (drop 14 cs) && is_moment (decimal_from 0 (take 4 cs)) (drop 4 cs)))
+is_time TimeKind.utc cs = nat_le 12 (length cs) && (are_digits (take 12 cs) && (is_z (drop 12 cs) && is_moment ((if nat_lt (two 0 cs) 50 then 2000 else 1900) + two 0 cs) (drop 2 cs)))
+is_time TimeKind.generalized cs = nat_le 14 (length cs) && (are_digits (take 14 cs) && (is_fraction (drop 14 cs) && is_moment (decimal_from 0 (take 4 cs)) (drop 4 cs)))

@@ -1,5 +1,5 @@
 -- The values of the types of ITU-T X.680, without their types.
-use Rattle.std.specs.Prelude.{ℕ, Bool, true, false, cond, ltb, eqb, List, [], ◌∷◌, ◌++◌, map, length, Option, Some, None, ℤ, pos, negsuc}
+use Rattle.std.specs.Prelude.{ℕ, Bool, true, false, cond, if◌then◌else◌, nat_lt, ◌==◌, List, [], ◌∷◌, ◌++◌, map, length, Option, Some, None, ℤ, pos, negsuc}
 
 -- X.680 52: which of two lists an item or an alternative stands in: that before the extension marker, or that after it
 pub data Side : Type 0 where
@@ -78,7 +78,7 @@ whole_code (negsuc n) = 1 ∷ n ∷ []
 
 -- a truth value as 0 or 1
 abbrev pub bool_code : Bool → ℕ
-bool_code b = cond b 1 0
+bool_code b = if b then 1 else 0
 
 -- each value as one list of numbers, which no other value has and none begins: so values can be told apart and sorted
 unfoldable mutual
@@ -113,14 +113,14 @@ abbrev pub before : List ℕ → List ℕ → Bool
 before [] [] = false
 before [] (y ∷ ys) = true
 before (x ∷ xs) [] = false
-before (x ∷ xs) (y ∷ ys) = cond (ltb x y) true (cond (eqb x y) (before xs ys) false)
+before (x ∷ xs) (y ∷ ys) = if nat_lt x y then true else if x == y then before xs ys else false
 
 -- whether two lists are one
 abbrev pub equal_lists : List ℕ → List ℕ → Bool
 equal_lists [] [] = true
 equal_lists [] (y ∷ ys) = false
 equal_lists (x ∷ xs) [] = false
-equal_lists (x ∷ xs) (y ∷ ys) = cond (eqb x y) (equal_lists xs ys) false
+equal_lists (x ∷ xs) (y ∷ ys) = if x == y then equal_lists xs ys else false
 
 -- whether two values are one
 unfoldable pub same : Value → Value → Bool

@@ -223,7 +223,7 @@ fn refuses_by_name(rt: HostRuntime) -> Result<(), Fail> {
     Ok(())
 }
 
-/// A line of texts in a row, each so many times.
+/// A line of texts in a interval_of, each so many times.
 fn line_of(alloc: Global, parts: &[(&str, usize)]) -> Result<String, AllocError> {
     let mut line = String::new(alloc);
     for (text, times) in parts {

@@ -24,22 +24,22 @@ overflow_cast-count g c = omega (arith, few_codes (settings c.args.codec) c.in_o
 pub overflow_add-count : goal.overflow_add-count
 overflow_add-count g c = let l = c.ranges.least.fits in omega (arith, few_counted (settings c.args.codec) c.args.least c.args.most c.in_ok-code.code c.requires.few l (recoded (settings c.args.codec) c.in_ok-code.code c.saturating_sub.ensures c.in_ok-code.ensures.ok))
 
-pub take_row-requires : goal.take_row-requires
-take_row-requires g c =
+pub take_bare_items-requires : goal.take_bare_items-requires
+take_bare_items-requires g c =
     let l = c.ranges.least.fits in
     omega (arith, c.requires.empty, few_counted (settings c.args.codec) c.args.least c.args.most c.in_ok-code.code c.requires.few l (recoded (settings c.args.codec) c.in_ok-code.code c.saturating_sub.ensures c.in_ok-code.ensures.ok))
 
-pub returns-in_err-take_row-clause-err : goal.returns-in_err-take_row-clause-err
-returns-in_err-take_row-clause-err g c =
-    let p = err_from_is_err_and c.from_residual-in_err-take_row.result c.from_residual-in_err-take_row.ensures.1 in
+pub returns-in_err-take_bare_items-clause-err : goal.returns-in_err-take_bare_items-clause-err
+returns-in_err-take_bare_items-clause-err g c =
+    let p = err_from_is_err_and c.from_residual-in_err-take_bare_items.result c.from_residual-in_err-take_bare_items.ensures.1 in
     let item = g.C.Collector.item c.args.items.now in
     let n = c.args.least + c.in_ok-code.code in
     rw (p.1, p.2) (stopped _ (short_between (settings c.args.codec) c.args.least c.args.most (counted_of item) (bits_of item) c.in_ok-code.code n (recoded (settings c.args.codec) c.in_ok-code.code c.saturating_sub.ensures c.in_ok-code.ensures.ok) refl
-    (ap (λ z. ltb 0 n && is_aligned (counted_of z) c.args.least c.args.most) c.item.ensures.item) c.skip_padding_between.ensures) c.in_err-take_row.ensures.err)
+    (ap (λ z. ltb 0 n && is_aligned (counted_of z) c.args.least c.args.most) c.item.ensures.item) c.skip_padding_between.ensures) c.in_err-take_bare_items.ensures.err)
 
 pub returns-clause-ok : goal.returns-clause-ok
 returns-clause-ok g c =
     let item = g.C.Collector.item c.args.items.now in
     let n = c.args.least + c.in_ok-code.code in
     between_took (settings c.args.codec) c.args.least c.args.most (counted_of item) (bits_of item) c.in_ok-code.code n (recoded (settings c.args.codec) c.in_ok-code.code c.saturating_sub.ensures c.in_ok-code.ensures.ok) refl
-    (ap (λ z. ltb 0 n && is_aligned (counted_of z) c.args.least c.args.most) c.item.ensures.item) c.skip_padding_between.ensures c.in_ok-take_row.ensures.ok
+    (ap (λ z. ltb 0 n && is_aligned (counted_of z) c.args.least c.args.most) c.item.ensures.item) c.skip_padding_between.ensures c.in_ok-take_bare_items.ensures.ok

@@ -1,8 +1,8 @@
 use Rattle.std.proofs.Common.{refl, lit<, ℕ, List, [], ◌∷◌, ◌++◌, ltb, ltb-true, replicate}
 use Rattle.rasn_types.specs.Bits.{to_bits}
-use Rattle.per_core.specs.Writers.{just, in_a_row, written_if}
+use Rattle.per_core.specs.Writers.{just, one_by_one, written_if}
 use Rattle.per_core.specs.Counts.{octet_writers}
-use Rattle.per_core.specs.Basic.{basic_in, octet, Row, Fragment}
+use Rattle.per_core.specs.Basic.{basic_in, octet, OneByOne, Fragment}
 use Rattle.per_core.specs.Canon.{canon}
 use Rattle.per_core.proofs.Counting.{row_within}
 use Rattle.per_core.proofs.Within.{Within, relax, then_within, left_within, when_within, if_within, field_within, padding_within}
@@ -15,7 +15,7 @@ unfolding basic_in canon
 returns-clause-two_octets c = filled uper (relax (λ p b x. record { of = 0xaa ∷ 0xbb ∷ []; is = refl; spelled = x }) (in_two_octets uper (0xaa ∷ 0xbb ∷ []) refl (lit< tt)))
     32 (0x80 ∷ 0x02 ∷ 0xaa ∷ 0xbb ∷ []) refl (lit< tt) (lit< tt) tt
 
-octet_row : (os : List ℕ) → Within (in_a_row (octet_writers os)) (Row octet os)
+octet_row : (os : List ℕ) → Within (one_by_one (octet_writers os)) (OneByOne octet os)
 octet_row os = row_within (λ o. written_if (ltb o 256) (just (to_bits 8 o))) octet (λ o. if_within (ltb o 256) (λ e. field_within 8 o (ltb-true o 256 e))) os
 
 fragment : Within (just (to_bits 8 0xc1)) (Fragment 16384)

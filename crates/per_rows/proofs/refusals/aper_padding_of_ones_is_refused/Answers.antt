@@ -16,10 +16,10 @@ unfolding canon
 padded o front spare rest x e =
     let y = x.spelled in
     let z = y.is_rest in
-    let e1 : y.front ++ (y.rest ++ spare) ≡ (false ∷ false ∷ []) ++ (replicate 6 true ++ rest) = sym (append_assoc y.front y.rest spare) ∙ ap (λ k. k ++ spare) (sym y.whole) ∙ e in
+    let e1 : y.front ++ (y.rest ++ spare) ≡ (false ∷ false ∷ []) ++ (replicate 6 true ++ rest) = sym (append_assoc y.front y.rest spare) ∙ ap (λ k. k ++ spare) (sym y.joins) ∙ e in
     let two : y.front ≡ false ∷ false ∷ [] = fronts y.front (false ∷ false ∷ []) (y.rest ++ spare) (replicate 6 true ++ rest) y.is_front.wide e1 in
     let e2 : y.rest ++ spare ≡ replicate 6 true ++ rest = cancel (false ∷ false ∷ []) (y.rest ++ spare) (replicate 6 true ++ rest) (ap (λ k. k ++ (y.rest ++ spare)) (sym two) ∙ e1) in
-    let e3 : z.front ++ (z.rest ++ spare) ≡ replicate 6 true ++ rest = sym (append_assoc z.front z.rest spare) ∙ ap (λ k. k ++ spare) (sym z.whole) ∙ e2 in
+    let e3 : z.front ++ (z.rest ++ spare) ≡ replicate 6 true ++ rest = sym (append_assoc z.front z.rest spare) ∙ ap (λ k. k ++ spare) (sym z.joins) ∙ e2 in
     let six : z.front ≡ replicate 6 true = fronts z.front (replicate 6 true) (z.rest ++ spare) rest (z.is_front.fits ∙ ap (λ (k : ℕ). pad aligned ((0 + k) % 8)) y.is_front.wide) e3 in
     let zeros : replicate 6 true ≡ replicate 6 false = subst (λ (k : Bits). k ≡ replicate (length k) false) six z.is_front.zeros in cc
 

@@ -3,7 +3,7 @@ use Rattle.rasn_types.specs.Alphabets.{visible}
 use Rattle.rasn_types.specs.Values.{Value}
 use Rattle.rasn_schema.specs.Schemas.{Schema}
 use Rattle.per_core.specs.Spellings.{Settings, Spelling, Then, Field, AnyPadding, exactly}
-use Rattle.per_core.specs.Basic.{basic, basic_in, bounded_form, IsBounded, Octets}
+use Rattle.per_core.specs.Basic.{basic, basic_in, constrained_form, IsConstrainedWhole, Octets}
 use Rattle.per_core.specs.Canon.{canon}
 use Rattle.per_core.proofs.Agree.{Agree, field_agree}
 use Rattle.per_core.proofs.Lengths.{and_left, and_right, padded_field_agree, same_octets}
@@ -14,12 +14,12 @@ use Rattle.per_rows.proofs.Reading.{filled, not_both, first}
 use Rattle.per_rows.proofs.refusals.count_out_of_its_size_is_refused.Goals as goal
 
 -- the code of 300 is none of 300 counts
-no_count : (a : Settings) (g : Spelling) → ((n : ℕ) → Agree (n ≡ 300) (bounded_form a 300 n) g) → (v : Value) → Agree ⊥ (basic a (list_of Schema.null (sized 1 300)) v) (Then g (exactly []))
+no_count : (a : Settings) (g : Spelling) → ((n : ℕ) → Agree (n ≡ 300) (constrained_form a 300 n) g) → (v : Value) → Agree ⊥ (basic a (list_of Schema.null (sized 1 300)) v) (Then g (exactly []))
 unfolding basic_in
-no_count a g h v = record { agree = λ p b c s t x y e. (first (bounded (length x.of - 1))).agree p b c s t x.spelled.spelled y e }
+no_count a g h v = record { agree = λ p b c s t x y e. (first (constrained_whole (length x.of - 1))).agree p b c s t x.spelled.spelled y e }
   where
-    bounded : (n : ℕ) → Agree ⊥ (IsBounded a 300 n) g
-    bounded n = record { agree = λ p b c s t x y e. let r = (h n).agree p b c s t x.spelled y e in absurd (omega (arith, r.0, x.below)) }
+    constrained_whole : (n : ℕ) → Agree ⊥ (IsConstrainedWhole a 300 n) g
+    constrained_whole n = record { agree = λ p b c s t x y e. let r = (h n).agree p b c s t x.spelled y e in absurd (omega (arith, r.0, x.below)) }
 
 pub returns-clause-in_uper : goal.returns-clause-in_uper
 unfolding canon
@@ -48,10 +48,10 @@ returns-clause-upper_bound_alone c v = not_both uper (6 ∷ 1 ∷ 2 ∷ 3 ∷ 4 
 -- 15 is none of ten counts
 no_characters : (v : Value) → Agree ⊥ (basic uper (Schema.char_string visible (sized 1 10) false) v) (Then (Field 4 15) (exactly (replicate 156 true)))
 unfolding basic_in canon
-no_characters v = record { agree = λ p b c s t x y e. (first (bounded (length x.of - 1))).agree p b c s t x.spelled.spelled y e }
+no_characters v = record { agree = λ p b c s t x y e. (first (constrained_whole (length x.of - 1))).agree p b c s t x.spelled.spelled y e }
   where
-    bounded : (n : ℕ) → Agree ⊥ (IsBounded uper 10 n) (Field 4 15)
-    bounded n = record { agree = λ p b c s t x y e. let r = (field_agree 4 n 15).agree p b c s t x.spelled y e in absurd (omega (arith, r.0, x.below)) }
+    constrained_whole : (n : ℕ) → Agree ⊥ (IsConstrainedWhole uper 10 n) (Field 4 15)
+    constrained_whole n = record { agree = λ p b c s t x y e. let r = (field_agree 4 n 15).agree p b c s t x.spelled y e in absurd (omega (arith, r.0, x.below)) }
 
 pub returns-clause-characters : goal.returns-clause-characters
 unfolding canon

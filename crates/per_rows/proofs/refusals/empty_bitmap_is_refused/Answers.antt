@@ -11,7 +11,7 @@ use Rattle.per_core.proofs.Agree.{Agree, weaken, then_agree, behind, no_yes}
 use Rattle.per_core.proofs.Counting.{counted_within}
 use Rattle.per_core.proofs.Lengths.{sized_agree, Zip-same}
 use Rattle.per_core.proofs.Records.{root_agree}
-use Rattle.per_core.proofs.Whole.{sames, same_kin, same_bits}
+use Rattle.per_core.proofs.Readings.{sames, same_kin, same_bits}
 use Rattle.per_core.proofs.Within.{just_within, then_within, when_within}
 use Rattle.per_rows.specs.Build.{uper, aper, numbered, all_required}
 use Rattle.per_rows.specs.Samples.{with_group}

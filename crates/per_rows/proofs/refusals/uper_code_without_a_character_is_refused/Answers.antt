@@ -2,7 +2,7 @@ use Rattle.std.proofs.Common.{◌≡◌, refl, sym, ◌∙◌, lit<, ◌-◌, �
 use Rattle.rasn_types.specs.Alphabets.{index_of, keep_own, more, from_to}
 use Rattle.rasn_types.specs.Values.{Value}
 use Rattle.per_core.specs.Spellings.{Then, Field, exactly}
-use Rattle.per_core.specs.Basic.{basic, basic_in, IsBounded, Char, Row, PaddingIf, length_form}
+use Rattle.per_core.specs.Basic.{basic, basic_in, IsConstrainedWhole, Char, OneByOne, PaddingIf, length_form}
 use Rattle.per_core.specs.Counts.{char_items}
 use Rattle.per_core.specs.Canon.{canon}
 use Rattle.per_core.proofs.Agree.{Agree, weaken, then_agree, field_agree, exactly_agree, fronts}
@@ -34,7 +34,7 @@ no_char c = record {
       let r = (field_agree 3 x.index 7).agree p b d s t x.spelled y e in absurd (no_code c (index_of c (from_to 5 65)) (index_below c (from_to 5 65)) x.index x.is r.0);
 }
 
-no_row : (cs : List ℕ) → length cs - 1 ≡ 1 → Agree ⊥ (Row (Char uper (from_to 5 65)) cs) (Then (Field 3 7) (exactly (replicate 3 false)))
+no_row : (cs : List ℕ) → length cs - 1 ≡ 1 → Agree ⊥ (OneByOne (Char uper (from_to 5 65)) cs) (Then (Field 3 7) (exactly (replicate 3 false)))
 no_row [] l = absurd (omega (arith, l))
 no_row (c ∷ cs) l = first (no_char c)
 
@@ -47,7 +47,7 @@ no_string : (v : Value) → Agree ⊥ (basic uper a_to_e v) (Then (Field 5 1) (T
 unfolding basic_in canon
 no_string v = record { agree = λ p b c s t x y e. (row x.of).agree p b c s t x.spelled.spelled y e }
   where
-    counted : (n : ℕ) → Agree (n ≡ 1) (IsBounded uper 20 n) (Field 5 1)
+    counted : (n : ℕ) → Agree (n ≡ 1) (IsConstrainedWhole uper 20 n) (Field 5 1)
     counted n = record { agree = λ p b c s t x y e. (field_agree 5 n 1).agree p b c s t x.spelled y e }
 
     row : (cs : List ℕ) → Agree ⊥ (length_form uper (Some 1) (Some 20) (char_items 3) (Char uper (from_to 5 65)) cs) (Then (Field 5 1) (Then (exactly []) (Then (Field 3 7) (exactly (replicate 3 false)))))

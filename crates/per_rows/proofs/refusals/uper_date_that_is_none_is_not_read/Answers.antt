@@ -3,7 +3,7 @@ use Rattle.rasn_types.specs.Contents.{is_date}
 use Rattle.rasn_types.specs.Values.{Value}
 use Rattle.rasn_schema.specs.Schemas.{Schema}
 use Rattle.per_core.specs.Spellings.{Then, Field}
-use Rattle.per_core.specs.Basic.{basic, basic_in, IsBounded, Year, YearIn, year_form}
+use Rattle.per_core.specs.Basic.{basic, basic_in, IsConstrainedWhole, Year, YearIn, year_form}
 use Rattle.per_core.specs.Canon.{canon}
 use Rattle.per_core.proofs.Agree.{Agree, weaken, then_agree, field_agree}
 use Rattle.per_core.proofs.Within.{then_within, field_within}
@@ -24,7 +24,7 @@ year y n = record {
       (weaken (λ r. r.1) (then_agree (field_agree 2 x.range 0) (λ i. subst (λ k. Agree (y ≡ pos (2005 + n)) (year_form uper k y) (Field 4 n)) (sym i) (in_first y n)))).agree p b c s t x.spelled z e;
 }
 
-day_of : (x : ℤ × ℕ × ℕ) (n m d : ℕ) → Agree ((x.0 ≡ pos (2005 + n)) × (x.1 ≡ m) × (x.2 ≡ d)) (Then (Year uper x.0) (Then (IsBounded uper 12 x.1) (IsBounded uper 31 x.2))) (Then (Then (Field 2 0) (Field 4 n)) (Then (Field 4 m) (Field 5 d)))
+day_of : (x : ℤ × ℕ × ℕ) (n m d : ℕ) → Agree ((x.0 ≡ pos (2005 + n)) × (x.1 ≡ m) × (x.2 ≡ d)) (Then (Year uper x.0) (Then (IsConstrainedWhole uper 12 x.1) (IsConstrainedWhole uper 31 x.2))) (Then (Then (Field 2 0) (Field 4 n)) (Then (Field 4 m) (Field 5 d)))
 unfolding canon
 day_of x n m d = weaken (λ r. (r.0, r.1.0, r.1.1)) (then_agree (year x.0 n) (λ u. then_agree
     (record { agree = λ p b c s t x y e. (field_agree 4 _ m).agree p b c s t x.spelled y e }) (λ u. record { agree = λ p b c s t x y e. (field_agree 5 _ d).agree p b c s t x.spelled y e })))

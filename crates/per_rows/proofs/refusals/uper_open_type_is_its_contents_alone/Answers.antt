@@ -8,7 +8,7 @@ use Rattle.per_core.specs.Canon.{bytes, canon}
 use Rattle.per_core.proofs.Agree.{Agree, weaken, then_agree, behind, cancel, no_yes}
 use Rattle.per_core.proofs.Lengths.{same_octets}
 use Rattle.per_core.proofs.Records.{root_agree, bitmap_agree}
-use Rattle.per_core.proofs.Whole.{sames, same_kin, one_reading}
+use Rattle.per_core.proofs.Readings.{sames, same_kin, one_reading}
 use Rattle.per_core.proofs.Canonical.{canonical}
 use Rattle.per_core.proofs.Presenting.{octets_within}
 use Rattle.per_core.proofs.Within.{just_within, then_within, when_within}

@@ -3,9 +3,9 @@ use Rattle.std.proofs.Common.{sym, rules}
 use Rattle.std.proofs.lemmas.Result.{on_ok_weaker}
 use Rattle.rasn_types.specs.Bits.{unpack}
 use Rattle.per_core.specs.Counts.{octet_writers}
-use Rattle.per_core.specs.Writers.{in_a_row, just}
+use Rattle.per_core.specs.Writers.{one_by_one, just}
 use Rattle.per_write.specs.State.{Wrote}
-use Rattle.per_write.proofs.Fragments.{octets_in_a_row}
+use Rattle.per_write.proofs.Fragments.{octets_one_by_one}
 use Rattle.per_write.proofs.Writing.{wrote_same}
 use Rattle.per_write.proofs.Writer.put_bare_octets.Goals as goal
 
@@ -16,7 +16,7 @@ returns g c =
     let os = c.args.octets.now in
     let written : OnOk c.unless_out_of_memory.result (Wrote x (just (unpack os)) y) = search rules in
     record {
-      ok = on_ok_weaker _ (wrote_same x y (just (unpack os)) (in_a_row (octet_writers os)) (λ p. sym (octets_in_a_row os (λ k. (c.type_inv.octets k).fits) p))) written;
+      ok = on_ok_weaker _ (wrote_same x y (just (unpack os)) (one_by_one (octet_writers os)) (λ p. sym (octets_one_by_one os (λ k. (c.type_inv.octets k).fits) p))) written;
       err = search rules;
       fails = search rules;
       kept = search rules;

@@ -10,7 +10,7 @@ pub returns-in-None : goal.returns-in-None
 returns-in-None g c =
     let number : FitsSigned w128 c.args.number = c.ranges.number in
     record {
-      ok = rw c.in-None.is (on_ok_weaker _ (wrote_same c.args.self.now _ _ _ (under_none (variant_of c.args.self.now.codec) c.args.upper c.args.number (inr number))) (simp to_z-of_z at c.put_whole.ensures.written.ok));
+      ok = rw c.in-None.is (on_ok_weaker _ (wrote_same c.args.self.now _ _ _ (under_none (variant_of c.args.self.now.codec) c.args.upper c.args.number (inr number))) (simp to_z-of_z at c.put_unconstrained_whole.ensures.written.ok));
       err = search rules;
       fails = search rules;
       kept = search rules;

@@ -7,21 +7,21 @@ use Rattle.per_write.proofs.Counting.{allowed_least, allowed_most, pads_none, pa
 use Rattle.per_write.proofs.Writer.put_sized.Goals as goal
 use Rattle.per_write.proofs.Writer.put_sized.Goals.{then-count-gt0, else-count-gt0}
 
-pub put_bounded_count-requires-clause-lower :
-    goal.put_bounded_count-requires-clause-lower
-put_bounded_count-requires-clause-lower g c =
+pub put_constrained_length-requires-clause-lower :
+    goal.put_constrained_length-requires-clause-lower
+put_constrained_length-requires-clause-lower g c =
     let a = variant_of c.args.self.now.codec in
     allowed_least c.args.lower c.args.upper _ _ _ _ c.in-Some-Some.is-0 c.in-Some-Some.is-1 (c.len-count.ensures a) (c.requires.within a)
 
-pub put_bounded_count-requires-clause-upper :
-    goal.put_bounded_count-requires-clause-upper
-put_bounded_count-requires-clause-upper g c =
+pub put_constrained_length-requires-clause-upper :
+    goal.put_constrained_length-requires-clause-upper
+put_constrained_length-requires-clause-upper g c =
     let a = variant_of c.args.self.now.codec in
     allowed_most c.args.lower c.args.upper c.in-Some-Some.lower _ _ _ c.in-Some-Some.is-0 c.in-Some-Some.is-1 (c.len-count.ensures a) (c.requires.within a)
 
-pub returns-in_ok-put_bounded_count-in-Some-Some :
-    goal.returns-in_ok-put_bounded_count-in-Some-Some
-returns-in_ok-put_bounded_count-in-Some-Some g c =
+pub returns-in_ok-put_constrained_length-in-Some-Some :
+    goal.returns-in_ok-put_constrained_length-in-Some-Some
+returns-in_ok-put_constrained_length-in-Some-Some g c =
     let x = c.args.self.now in
     let a = variant_of x.codec in
     let on_octet = is_aligned (g.I.Items.kind c.args.items.now) c.in-Some-Some.lower c.in-Some-Some.upper in
@@ -31,8 +31,8 @@ returns-in_ok-put_bounded_count-in-Some-Some g c =
       | else-count-gt0 w ↦ pads_none c.len-count.result c.if-count-gt0.on_octet on_octet w.if-count-gt0.false w.on_octet-is
     ] in
     record {
-      ok = on_ok_weaker _ (wrote_bounded (λ (b : Variant). g.I.Items.writers b c.args.items.now) (g.I.Items.kind c.args.items.now) x c.put_bounded_count.new.self c.put.new.writer c.args.lower c.args.upper
-          c.in-Some-Some.lower c.in-Some-Some.upper c.len-count.result c.if-count-gt0.on_octet c.in-Some-Some.is-0 c.in-Some-Some.is-1 (c.len-count.ensures a) c.if-upper-lt65536.true (c.requires.within a) pads c.in_ok-put_bounded_count-in-Some-Some.ensures.ok)
+      ok = on_ok_weaker _ (wrote_bounded (λ (b : Variant). g.I.Items.writers b c.args.items.now) (g.I.Items.kind c.args.items.now) x c.put_constrained_length.new.self c.put.new.writer c.args.lower c.args.upper
+          c.in-Some-Some.lower c.in-Some-Some.upper c.len-count.result c.if-count-gt0.on_octet c.in-Some-Some.is-0 c.in-Some-Some.is-1 (c.len-count.ensures a) c.if-upper-lt65536.true (c.requires.within a) pads c.in_ok-put_constrained_length-in-Some-Some.ensures.ok)
           c.put.ensures.ok;
       err = search rules;
       fails = search rules;

@@ -2,7 +2,7 @@ use Rattle.std.proofs.Common.{◌∙◌, ap, Err}
 use Rattle.std.proofs.lemmas.Result.{err_from_is_err_and}
 use Rattle.rasn_types.specs.declared.types.Codec.TheVariants.{Uper}
 use Rattle.rasn_types.proofs.Reading.{are_octets}
-use Rattle.rasn_per.proofs.Decoded.{begun, whole_octets, decoded, refused, unended}
+use Rattle.rasn_per.proofs.Decoded.{begun, full_octets, decoded, refused, unended}
 use Rattle.rasn_per.proofs.Named.{named, named_surplus}
 use Rattle.rasn_per.proofs.uper.decode.Goals as goal
 
@@ -12,7 +12,7 @@ returns-in_err-value-clause-err g c =
     refused Uper (g.T.AsnType.schema g.T.AsnType.CONSTRAINTS) _ _ _ _ (begun Uper _ _ _ _ c.from_reader-decoder.ensures c.unaligned.ensures c.from_octets-bits.ensures) (p.1 ∙ ap Err p.2) c.in_err-value.ensures.law
 
 pub ended-requires-clause-octets : goal.ended-requires-clause-octets
-ended-requires-clause-octets g c = whole_octets _ _ _ c.from_octets-bits.ensures c.len-total.ensures
+ended-requires-clause-octets g c = full_octets _ _ _ c.from_octets-bits.ensures c.len-total.ensures
 
 pub returns-in-Ok-clause-ok : goal.returns-in-Ok-clause-ok
 returns-in-Ok-clause-ok g c =

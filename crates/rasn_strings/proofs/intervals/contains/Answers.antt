@@ -1,5 +1,5 @@
 use Rattle.std.proofs.Common.{sym, ◌∙◌}
-use Rattle.rasn_strings.proofs.Rows.{has_here, has_further}
+use Rattle.rasn_strings.proofs.IntervalsOf.{has_here, has_further}
 use Rattle.rasn_strings.proofs.intervals.contains.Goals as goal
 
 pub returns-then-contains : goal.returns-then-contains

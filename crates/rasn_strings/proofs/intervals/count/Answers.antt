@@ -1,5 +1,5 @@
 use Rattle.std.proofs.Common.{arith}
-use Rattle.rasn_strings.proofs.Rows.{step_at, length_next, length-expand}
+use Rattle.rasn_strings.proofs.IntervalsOf.{step_at, length_next, length-expand}
 use Rattle.rasn_strings.proofs.intervals.count.Goals as goal
 
 pub overflow_add-count : goal.overflow_add-count

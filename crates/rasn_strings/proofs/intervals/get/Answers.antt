@@ -1,6 +1,6 @@
 use Rattle.std.proofs.Common.{◌∙◌, sym, ap, ◌+◌, ◌-◌, drop, arith, slice_get}
 use Rattle.rasn_strings.specs.Intervals.{expand}
-use Rattle.rasn_strings.proofs.Rows.{step_at, get_here, get_further}
+use Rattle.rasn_strings.proofs.IntervalsOf.{step_at, get_here, get_further}
 use Rattle.rasn_strings.proofs.intervals.get.Goals as goal
 
 pub returns-then-left-count : goal.returns-then-left-count

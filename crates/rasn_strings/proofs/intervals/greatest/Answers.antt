@@ -1,5 +1,5 @@
 use Rattle.std.proofs.Common.{arith}
-use Rattle.rasn_strings.proofs.Rows.{step_at, greatest_next}
+use Rattle.rasn_strings.proofs.IntervalsOf.{step_at, greatest_next}
 use Rattle.rasn_strings.proofs.intervals.greatest.Goals as goal
 
 pub loop-interval-preserved : goal.loop-interval-preserved

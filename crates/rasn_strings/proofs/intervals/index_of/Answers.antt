@@ -1,7 +1,7 @@
 use Rattle.std.proofs.Common.{◌∙◌, sym, ap, ◌+◌, get_or, drop, arith}
 use Rattle.rasn_types.specs.Alphabets.{index_of}
 use Rattle.rasn_strings.specs.Intervals.{expand}
-use Rattle.rasn_strings.proofs.Rows.{step_at, length_next, length-expand, none, within_interval, index_here, index_further, later, later-later}
+use Rattle.rasn_strings.proofs.IntervalsOf.{step_at, length_next, length-expand, none, within_interval, index_here, index_further, later, later-later}
 use Rattle.rasn_strings.proofs.intervals.index_of.Goals as goal
 
 pub overflow_add-result : goal.overflow_add-result

@@ -1,7 +1,7 @@
 use Rattle.std.proofs.Common.{◌≡◌, ◌+◌, true, length, drop}
 use Rattle.rasn_strings.specs.Intervals.{expand, ascend_from}
 use Rattle.rasn_types.specs.Alphabets.{index_of}
-use Rattle.rasn_strings.proofs.Rows.{later}
+use Rattle.rasn_strings.proofs.IntervalsOf.{later}
 use Rattle.rasn_strings.proofs.intervals.index_of.Given as goal
 
 abbrev pub invariant-loop-interval : goal.invariant-loop-interval

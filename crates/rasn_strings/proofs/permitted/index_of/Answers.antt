@@ -3,7 +3,7 @@ use Rattle.rasn_types.specs.Alphabets.{index_of, restricted}
 use Rattle.rasn_strings.specs.Intervals.{expand}
 use Rattle.rasn_strings.specs.Walks.{from_on}
 use Rattle.rasn_strings.proofs.Ascending.{length-restricted}
-use Rattle.rasn_strings.proofs.Rows.{later, later-zero}
+use Rattle.rasn_strings.proofs.IntervalsOf.{later, later-zero}
 use Rattle.rasn_strings.proofs.Walking.{begins, next_some, next_none, place_here, place_behind}
 use Rattle.rasn_strings.proofs.permitted.index_of.Goals as goal
 

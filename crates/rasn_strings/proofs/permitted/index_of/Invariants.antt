@@ -2,7 +2,7 @@ use Rattle.std.proofs.Common.{◌≡◌, ◌+◌, length}
 use Rattle.rasn_types.specs.Alphabets.{index_of, restricted}
 use Rattle.rasn_strings.specs.Intervals.{expand}
 use Rattle.rasn_strings.specs.Walks.{from_on}
-use Rattle.rasn_strings.proofs.Rows.{later}
+use Rattle.rasn_strings.proofs.IntervalsOf.{later}
 use Rattle.rasn_strings.proofs.permitted.index_of.Given as goal
 
 -- the place among those that are left, so many places on, is the place among all

@@ -1,5 +1,0 @@
-use Rattle.per_core.proofs.model.complete_encoding_is_whole_octets.Goals as goal
-use Rattle.per_core.proofs.Laws
-
-pub returns : goal.returns
-returns c = Laws.whole_octets
