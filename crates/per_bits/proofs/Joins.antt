@@ -8,9 +8,10 @@ use Rattle.std.specs.Int.{w64, to_be_bytes}
 use Rattle.std.proofs.Math.ListN.{set}
 use Rattle.rasn_types.specs.Bits.{AreOctets, Bits, to_bits, unpack}
 use Rattle.rasn_types.proofs.Bits.{length-to_bits, length-unpack, unpack-append, to_bits-same, to_bits-split}
+use Rattle.rasn_types.proofs.Packing.{unpack-take}
 use Rattle.per_bits.specs.Octets.{word_size, first_word, filled, AreFilledBy}
 use Rattle.per_bits.proofs.Readers.{filled_all}
-use Rattle.per_bits.proofs.Words.{word_size-is, to_bits-join, to_bits-zeros, unpack-bytes, unpack-take, first_word-short, part_bits}
+use Rattle.per_bits.proofs.Words.{word_size-is, to_bits-join, to_bits-zeros, unpack-bytes, first_word-short, part_bits}
 
 -- ---- a number below a power, and another behind it
 

@@ -1,12 +1,13 @@
 -- The bits that a reader has left, and the bits that octets are filled with.
-use Rattle.std.proofs.Common.{append_assoc, ◌≡◌, sym, ap, ap₂, ◌∙◌, ℕ, ◌+◌, ◌-◌, ◌*◌, ◌/◌, ◌%◌, ◌<◌, ◌≤◌, false, IsTrue, nat_eq, eqb-true, eq-eqb, List, [], ◌++◌, length, take, drop, replicate, arith, length-append, length-take, length-drop}
+use Rattle.std.proofs.Common.{append_assoc, ◌≡◌, sym, ap, ap₂, ◌∙◌, ℕ, ◌+◌, ◌-◌, ◌*◌, ◌/◌, ◌%◌, ◌≤◌, false, IsTrue, nat_eq, eqb-true, eq-eqb, List, [], ◌++◌, length, take, drop, replicate, arith, length-append, length-take, length-drop}
 use Rattle.std.proofs.lemmas.List.{append-nil, take-take, drop-take, drop-drop, take-append-drop, nil_from_length, take_all, take_at, length-replicate}
 use Rattle.std.proofs.lemmas.Slice.{between_to_end}
 use Rattle.std.specs.List.{between}
 use Rattle.rasn_types.specs.Bits.{Bits, unpack}
 use Rattle.rasn_types.proofs.Bits.{length-unpack, unpack-append}
+use Rattle.rasn_types.proofs.Packing.{unpack-take}
 use Rattle.per_bits.specs.Octets.{filled, AreFilledBy, ArePadded, AreWithin}
-use Rattle.per_bits.proofs.Words.{unpack-drop, unpack-take}
+use Rattle.per_bits.proofs.Words.{unpack-drop}
 
 -- ---- readers
 

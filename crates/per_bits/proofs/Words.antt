@@ -7,6 +7,7 @@ use Rattle.std.proofs.lemmas.Nat.{shr_high, mod_low, be_bytes_8}
 use Rattle.std.proofs.Math.Seq.{take-append-add}
 use Rattle.std.specs.Int.{w64, from_be_bytes, bytes_high_first, byte_at}
 use Rattle.rasn_types.specs.Bits.{Bits, to_bits, unpack}
+use Rattle.rasn_types.proofs.Packing.{unpack-take}
 use Rattle.rasn_types.proofs.Bits.{length-to_bits, length-unpack, to_bits-same, to_bits-split, octet_power}
 use Rattle.per_bits.specs.Octets.{word_size, first_word}
 
@@ -44,12 +45,6 @@ unpack-bytes (suc k) n = ap₂ (λ bs cs. bs ++ cs) (byte_bits k n) (unpack-byte
 
 pub unpack-word : (os : List ℕ) (n : ℕ) → length os ≡ 8 → ((i : ℕ) → get_or os i 0 < 256) → n ≡ from_be_bytes w64 os → to_bits word_size n ≡ unpack os
 unpack-word os n l small e = ap (λ (w : ℕ). to_bits w n) word_size-is ∙ sym (unpack-bytes 8 n) ∙ ap unpack (be_bytes_8 os n l small e)
-
-pub unpack-take : (k : ℕ) (os : List ℕ) → take (8 * k) (unpack os) ≡ unpack (take k os)
-unpack-take zero os = refl
-unpack-take (suc k) [] = ap (λ (n : ℕ). take n (unpack [])) (let e : 8 * suc k ≡ suc (8 * k + 7) = omega arith in e)
-unpack-take (suc k) (o ∷ os) = ap (λ (n : ℕ). take n (unpack (o ∷ os))) (let e : 8 * suc k ≡ 8 + 8 * k = omega arith in e)
-    ∙ take-append-add (to_bits 8 o) (unpack os) (8 * k) ∙ ap (λ bs. to_bits 8 o ++ bs) (unpack-take k os)
 
 pub unpack-drop : (k : ℕ) (os : List ℕ) → drop (8 * k) (unpack os) ≡ unpack (drop k os)
 unpack-drop zero os = refl

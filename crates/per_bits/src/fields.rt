@@ -5,9 +5,10 @@
 //! of what is kept. Each function that writes answers how many bits are spare then.
 
 ghost use Rattle.std.specs.Prelude.{◌≡◌, ◌+◌, ◌*◌, ◌%◌, ◌^◌, ◌<◌, ◌≤◌, ◌++◌, length, take, drop, vec_len, vec_capacity};
-ghost use Rattle.rasn_types.specs.Bits.{AreOctets, to_bits, number_of, unpack};
+ghost use Rattle.rasn_types.specs.Bits.{to_bits, number_of, unpack};
 ghost use Rattle.per_bits.specs.Octets.{word_size, first_word, filled, AreFilledBy, ArePadded, AreWithin};
 
+use rasn_types::bit_string::note_octets;
 use std::alloc::Allocator;
 
 /// The most bits of a field: those of a word less an octet, since up to seven other bits stand in its first octet.
@@ -79,13 +80,6 @@ pub(crate) fn read_wide_field(octets: &[u8], skip: u32, count: u32) -> u128
         left -= width;
     }
     value
-}
-
-/// Does nothing: a `u8` is below 256.
-pub(crate) fn note_octets(octets: &[u8])
-    ensures { AreOctets octets.now }
-{
-    let _ = octets;
 }
 
 /// Appends the low `width` bits of `value` to octets of which the last `spare` bits are spare, and answers how many are

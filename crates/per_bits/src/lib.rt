@@ -10,9 +10,10 @@ ghost use Rattle.rasn_types.specs.Packed.{packed};
 ghost use Rattle.per_bits.specs.Octets.{filled, AreFilledBy, ArePadded};
 
 use crate::fields::{
-    FIELD_BITS, append_field, append_wide_field, fill_last_octet, low_field, note_octets,
-    read_field, read_wide_field,
+    FIELD_BITS, append_field, append_wide_field, fill_last_octet, low_field, read_field,
+    read_wide_field,
 };
+use rasn_types::bit_string::note_octets;
 use std::alloc::{AllocError, Allocator};
 use std::marker::Model;
 

@@ -1,4 +1,4 @@
-use Rattle.std.proofs.Common.{◌≡◌, ◌∙◌, ◌*◌, sym, ap, length, arith}
+use Rattle.std.proofs.Common.{◌≡◌, ◌∙◌, ◌*◌, length, arith}
 use Rattle.std.proofs.lemmas.List.{take_all}
 use Rattle.per_bits.proofs.Readers.{left_is}
 use Rattle.per_bits.proofs.BitReader.aligned_octets.Goals as goal

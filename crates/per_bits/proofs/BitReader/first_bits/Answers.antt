@@ -1,4 +1,4 @@
-use Rattle.std.proofs.Common.{◌∙◌, ap, drop, sym, take, length, arith}
+use Rattle.std.proofs.Common.{◌∙◌, ap, drop, sym, take, arith}
 use Rattle.std.proofs.lemmas.List.{take-take}
 use Rattle.rasn_types.specs.Bits.{number_of, unpack}
 use Rattle.per_bits.proofs.Loops.{number_is}

@@ -1,4 +1,4 @@
-use Rattle.std.proofs.Common.{◌∙◌, ◌/◌, sym, ap, length, take, refl, arith}
+use Rattle.std.proofs.Common.{◌∙◌, ◌/◌, sym, ap, take, refl, arith}
 use Rattle.per_bits.proofs.Readers.{aligned, left_is}
 use Rattle.per_bits.proofs.BitReader.front_octets.Goals as goal
 

@@ -1,4 +1,3 @@
-use Rattle.std.proofs.Common.{◌∙◌, sym, ap, length}
 use Rattle.per_bits.proofs.Readers.{left_is, empty_iff}
 use Rattle.per_bits.proofs.BitReader.is_empty.Goals as goal
 

@@ -1,4 +1,4 @@
-use Rattle.std.proofs.Common.{◌∙◌, sym, ap, length}
+use Rattle.std.proofs.Common.{sym}
 use Rattle.per_bits.proofs.Readers.{left_is}
 use Rattle.per_bits.proofs.BitReader.len.Goals as goal
 

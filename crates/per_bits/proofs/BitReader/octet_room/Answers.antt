@@ -1,4 +1,4 @@
-use Rattle.std.proofs.Common.{◌∙◌, ◌≡◌, sym, ap, length, arith}
+use Rattle.std.proofs.Common.{◌≡◌, length, arith}
 use Rattle.per_bits.proofs.Readers.{left_is}
 use Rattle.per_bits.proofs.BitReader.octet_room.Goals as goal
 

@@ -1,4 +1,4 @@
-use Rattle.std.proofs.Common.{◌∙◌, sym, ap, length, ◌-◌, ◌+◌, ℕ, arith}
+use Rattle.std.proofs.Common.{◌∙◌, sym, ap, ◌-◌, ◌+◌, ℕ, arith}
 use Rattle.per_bits.proofs.Readers.{left_is, left_length, taken}
 use Rattle.per_bits.proofs.BitReader.take.Goals as goal
 
