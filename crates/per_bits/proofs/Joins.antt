@@ -8,9 +8,10 @@ use Rattle.std.specs.Int.{w64, to_be_bytes}
 use Rattle.std.proofs.Math.ListN.{set}
 use Rattle.rasn_types.specs.Bits.{AreOctets, Bits, to_bits, unpack}
 use Rattle.rasn_types.proofs.Bits.{length-to_bits, length-unpack, unpack-append, to_bits-same, to_bits-split}
-use Rattle.per_bits.specs.Octets.{word_size, first_word, filled}
+use Rattle.rasn_types.proofs.Packing.{unpack-take}
+use Rattle.per_bits.specs.Octets.{word_size, first_word, filled, AreFilledBy}
 use Rattle.per_bits.proofs.Readers.{filled_all}
-use Rattle.per_bits.proofs.Words.{word_size-is, to_bits-join, to_bits-zeros, unpack-bytes, unpack-take, first_word-part, part_bits}
+use Rattle.per_bits.proofs.Words.{word_size-is, to_bits-join, to_bits-zeros, unpack-bytes, first_word-short, part_bits}
 
 -- ---- a number below a power, and another behind it
 
@@ -39,7 +40,7 @@ octets_all os n w e h l b = ap (λ (m : ℕ). to_bits word_size (m * 2 ^ (56 - 8
     ∙ ap (to_bits word_size) (shl_whole (w * 2 ^ 8) (8 * n + 8) (56 - 8 * n) 64 (shl_below w (8 * n) 8 l) (omega arith) ∙ moved)
     ∙ ap (λ (m : ℕ). to_bits m (w * 2 ^ (64 - 8 * n) + 0)) (let i : word_size ≡ 8 * n + (64 - 8 * n) = omega (arith, word_size-is) in i)
     ∙ to_bits-join (8 * n) (64 - 8 * n) w 0 (pow_pos (64 - 8 * n)) ∙ ap₂ (λ bs cs. bs ++ cs) (b ∙ ap unpack (take_all n os (omega arith))) (to_bits-zeros (64 - 8 * n) ∙ ap (λ (m : ℕ). replicate (64 - 8 * m) false) e)
-    ∙ sym (first_word-part os (omega arith))
+    ∙ sym (first_word-short os (omega arith))
   where
     moved : w * 2 ^ 8 * 2 ^ (56 - 8 * n) ≡ w * 2 ^ (64 - 8 * n) + 0
     moved = mul_assoc w (2 ^ 8) (2 ^ (56 - 8 * n)) ∙ ap (λ (m : ℕ). w * m) (sym (pow-add 2 8 (56 - 8 * n)) ∙ ap (λ (m : ℕ). 2 ^ m) (let i : 8 + (56 - 8 * n) ≡ 64 - 8 * n = omega arith in i)) ∙ omega arith
@@ -87,15 +88,16 @@ word_bits used width value bits low word h f l e w = ap (to_bits word_size) (w �
     moved : both * 2 * 2 ^ (63 - all) ≡ both * 2 ^ (64 - all) + 0
     moved = mul_assoc both 2 (2 ^ (63 - all)) ∙ ap (λ (m : ℕ). both * m) (sym (pow-add 2 1 (63 - all)) ∙ ap (λ (m : ℕ). 2 ^ m) (let i : 1 + (63 - all) ≡ 64 - all = omega arith in i)) ∙ omega arith
 
-pub appended : (ps qs bytes : List ℕ) (used width value bits low word whole n : ℕ) → used < 8 → width ≤ 56 → bits < 2 ^ used → low ≡ value % 2 ^ width →
+-- the octets ps, behind which the octets of a word were written and cut back to those in use
+pub appended : (ps qs bytes : List ℕ) (used width value bits low word count n : ℕ) → used < 8 → width ≤ 56 → bits < 2 ^ used → low ≡ value % 2 ^ width →
     word ≡ bit_or (bits * 2 ^ width % 2 ^ 64) low * 2 % 2 ^ 64 * 2 ^ (63 - (used + width)) % 2 ^ 64 → bytes ≡ to_be_bytes w64 word →
-    used + width ≤ 8 * whole → whole ≤ 8 → n ≡ length ps → qs ≡ take (n + whole) (ps ++ bytes) →
-    unpack qs ≡ (unpack ps ++ to_bits used bits ++ to_bits width value) ++ replicate (8 * whole - (used + width)) false
-appended ps qs bytes used width value bits low word whole n h f l e w b a z k t = ap unpack (t ∙ ap (λ (m : ℕ). take (m + whole) (ps ++ bytes)) k ∙ take-append-add ps bytes whole) ∙ unpack-append ps (take whole bytes)
-    ∙ ap (λ bs. unpack ps ++ bs) (sym (unpack-take whole bytes) ∙ ap (λ bs. take (8 * whole) bs) (ap unpack b ∙ unpack-bytes 8 word ∙ ap (λ (m : ℕ). to_bits m word) (sym word_size-is) ∙ word_bits used width value bits low word h f l e w)
-    ∙ ap (λ (m : ℕ). take m (mine ++ replicate (64 - all) false)) (let i : 8 * whole ≡ length mine + (8 * whole - all) = omega (arith, mine_length) in i)
-    ∙ take-append-add mine (replicate (64 - all) false) (8 * whole - all) ∙ ap (λ bs. mine ++ bs) (take-replicate (8 * whole - all) (64 - all) false (omega arith)))
-    ∙ sym (append_assoc (unpack ps) mine (replicate (8 * whole - all) false)) ∙ ap (λ bs. bs ++ replicate (8 * whole - all) false) (sym (append_assoc (unpack ps) (to_bits used bits) (to_bits width value)))
+    used + width ≤ 8 * count → count ≤ 8 → n ≡ length ps → qs ≡ take (n + count) (ps ++ bytes) →
+    unpack qs ≡ (unpack ps ++ to_bits used bits ++ to_bits width value) ++ replicate (8 * count - (used + width)) false
+appended ps qs bytes used width value bits low word count n h f l e w b a z k t = ap unpack (t ∙ ap (λ (m : ℕ). take (m + count) (ps ++ bytes)) k ∙ take-append-add ps bytes count) ∙ unpack-append ps (take count bytes)
+    ∙ ap (λ bs. unpack ps ++ bs) (sym (unpack-take count bytes) ∙ ap (λ bs. take (8 * count) bs) (ap unpack b ∙ unpack-bytes 8 word ∙ ap (λ (m : ℕ). to_bits m word) (sym word_size-is) ∙ word_bits used width value bits low word h f l e w)
+    ∙ ap (λ (m : ℕ). take m (mine ++ replicate (64 - all) false)) (let i : 8 * count ≡ length mine + (8 * count - all) = omega (arith, mine_length) in i)
+    ∙ take-append-add mine (replicate (64 - all) false) (8 * count - all) ∙ ap (λ bs. mine ++ bs) (take-replicate (8 * count - all) (64 - all) false (omega arith)))
+    ∙ sym (append_assoc (unpack ps) mine (replicate (8 * count - all) false)) ∙ ap (λ bs. bs ++ replicate (8 * count - all) false) (sym (append_assoc (unpack ps) (to_bits used bits) (to_bits width value)))
   where
     all : ℕ
     all = used + width
@@ -106,7 +108,7 @@ appended ps qs bytes used width value bits low word whole n h f l e w b a z k t 
     mine_length : length mine ≡ all
     mine_length = length-append (to_bits used bits) (to_bits width value) ∙ ap₂ (λ (i j : ℕ). i + j) (length-to_bits used bits) (length-to_bits width value)
 
--- octets and a word's first bits, which are what octets are filled with
+-- full octets and a word's first bits are what octets are filled with
 pub record AreFront (spare used bits : ℕ) (ps os : List ℕ) : Type 0 where
   pub same : unpack ps ++ to_bits used bits ≡ filled spare os
   pub few : used < 8
@@ -119,8 +121,8 @@ front_popped spare used bits last ps os h l f e u b = record {
   below = subst (λ (n : ℕ). bits < 2 ^ n) (sym u) (subst (λ (n : ℕ). n < 2 ^ (8 - spare)) (sym b) (shr_below last (8 - spare) spare (subst (λ (n : ℕ). last < 2 ^ n) (let i : 8 ≡ 8 - spare + spare = omega arith in i) f)));
 }
 
-pub front_whole : (spare used bits : ℕ) (ps os : List ℕ) → spare ≡ 0 → used ≡ 0 → bits ≡ 0 → ps ≡ os → AreFront spare used bits ps os
-front_whole spare used bits ps os h u b e = record {
+pub front_full : (spare used bits : ℕ) (ps os : List ℕ) → spare ≡ 0 → used ≡ 0 → bits ≡ 0 → ps ≡ os → AreFront spare used bits ps os
+front_full spare used bits ps os h u b e = record {
   same = ap₂ (λ (m n : ℕ). unpack ps ++ to_bits m n) u b ∙ append-nil (unpack ps) ∙ ap unpack e ∙ sym (ap (λ (n : ℕ). filled n os) h ∙ filled_all os);
   few = omega arith;
   below = subst (λ (n : ℕ). bits < 2 ^ n) (sym u) (omega arith);
@@ -136,15 +138,18 @@ set_last os n v e = set_split os n v (omega arith) ∙ ap (λ qs. take n os ++ v
 
 pub record Put (spare width value v n : ℕ) (os : List ℕ) : Type 0 where
   pub fits : v < 2 ^ 8
-  pub bits : unpack (set os n v) ≡ (filled spare os ++ to_bits width value) ++ replicate (spare - width) false
+  pub bits : AreFilledBy (filled spare os ++ to_bits width value) (spare - width) (set os n v)
 
 pub put_last : (spare width value used low v n : ℕ) (os : List ℕ) → spare < 8 → width ≤ spare → length os ≡ n + 1 → get_or os n 0 < 2 ^ 8 → used ≡ get_or os n 0 / 2 ^ spare → low ≡ value % 2 ^ width →
     v ≡ bit_or (used * 2 ^ width % 2 ^ 64) low * 2 ^ (spare - width) % 2 ^ 64 → Put spare width value v n os
 put_last spare width value used low v n os h f l s u e w = record {
-  fits = subst (λ (m : ℕ). m < 2 ^ 8) (sym is) (subst (λ (m : ℕ). both * 2 ^ rest < 2 ^ m) whole (shl_below both (mine + width) rest below));
-  bits = ap unpack (set_last os n v l) ∙ unpack-append (take n os) (v ∷ []) ∙ ap (λ bs. unpack (take n os) ++ bs) (append-nil (to_bits 8 v) ∙ octet)
-      ∙ sym (append_assoc (unpack (take n os)) (to_bits mine used ++ to_bits width value) (replicate rest false))
-      ∙ ap (λ bs. bs ++ replicate rest false) (sym (append_assoc (unpack (take n os)) (to_bits mine used) (to_bits width value)) ∙ ap (λ bs. bs ++ to_bits width value) front);
+  fits = subst (λ (m : ℕ). m < 2 ^ 8) (sym is) (subst (λ (m : ℕ). both * 2 ^ rest < 2 ^ m) eight (shl_below both (mine + width) rest below));
+  bits = record {
+    few = omega arith;
+    zeros = ap unpack (set_last os n v l) ∙ unpack-append (take n os) (v ∷ []) ∙ ap (λ bs. unpack (take n os) ++ bs) (append-nil (to_bits 8 v) ∙ octet)
+        ∙ sym (append_assoc (unpack (take n os)) (to_bits mine used ++ to_bits width value) (replicate rest false))
+        ∙ ap (λ bs. bs ++ replicate rest false) (sym (append_assoc (unpack (take n os)) (to_bits mine used) (to_bits width value)) ∙ ap (λ bs. bs ++ to_bits width value) front);
+  };
 }
   where
     mine : ℕ
@@ -156,8 +161,8 @@ put_last spare width value used low v n os h f l s u e w = record {
     both : ℕ
     both = used * 2 ^ width + low
 
-    whole : mine + width + rest ≡ 8
-    whole = omega arith
+    eight : mine + width + rest ≡ 8
+    eight = omega arith
 
     used_below : used < 2 ^ mine
     used_below = subst (λ (m : ℕ). m < 2 ^ mine) (sym u) (shr_below (get_or os n 0) mine spare (subst (λ (m : ℕ). get_or os n 0 < 2 ^ m) (let i : 8 ≡ mine + spare = omega arith in i) s))
@@ -175,7 +180,7 @@ put_last spare width value used low v n os h f l s u e w = record {
     low_same = to_bits-same width low value (ap (λ (m : ℕ). m % 2 ^ width) e ∙ mod-eq_of_lt (mod-lt value (pow_pos width)))
 
     octet : to_bits 8 v ≡ (to_bits mine used ++ to_bits width value) ++ replicate rest false
-    octet = ap₂ to_bits (sym whole) (is ∙ (let i : both * 2 ^ rest ≡ both * 2 ^ rest + 0 = omega arith in i)) ∙ to_bits-join (mine + width) rest both 0 (pow_pos rest)
+    octet = ap₂ to_bits (sym eight) (is ∙ (let i : both * 2 ^ rest ≡ both * 2 ^ rest + 0 = omega arith in i)) ∙ to_bits-join (mine + width) rest both 0 (pow_pos rest)
         ∙ ap₂ (λ bs cs. bs ++ cs) (to_bits-join mine width used low small ∙ ap (λ bs. to_bits mine used ++ bs) low_same) (to_bits-zeros rest)
 
     front : unpack (take n os) ++ to_bits mine used ≡ filled spare os

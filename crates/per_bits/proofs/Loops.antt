@@ -6,7 +6,7 @@ use Rattle.std.proofs.Math.Pow.{mod-mod-pow}
 use Rattle.std.specs.List.{between}
 use Rattle.rasn_types.specs.Bits.{Bits, to_bits, number_of, unpack}
 use Rattle.rasn_types.proofs.Bits.{length-unpack, number-to_bits, to_bits-number, to_bits-same, to_bits-split}
-use Rattle.per_bits.specs.Octets.{filled, ArePadded, AreWithin}
+use Rattle.per_bits.specs.Octets.{filled, AreFilledBy, ArePadded, AreWithin}
 use Rattle.per_bits.proofs.Joins.{behind, put_behind}
 use Rattle.per_bits.proofs.Readers.{split_at, from_place, filled_by, filled_length, spare_there}
 use Rattle.per_bits.proofs.Words.{to_bits-join}
@@ -54,11 +54,11 @@ pub front_written : (k n v : ℕ) (front : Bits) → k ≤ 56 → length front �
 front_written k n v front h l i e = low_bits k n v h e ∙ ap₂ to_bits (sym l) (i ∙ ap number_of (ap (λ (m : ℕ). take m front) (sym l) ∙ (ap (λ bs. take (length front) bs) (sym (append-nil front)) ∙ take_at front [] (length front) refl))) ∙ to_bits-number front
 
 -- how long octets are behind which bits were put
-pub filled_more : (spare unused : ℕ) (os qs : List ℕ) (bs : Bits) → ArePadded spare os → unpack qs ≡ (filled spare os ++ bs) ++ replicate unused false → 8 * length qs + spare ≡ 8 * length os + length bs + unused
-filled_more spare unused os qs bs h e =
-    let l : 8 * length qs ≡ length (filled spare os ++ bs) + unused = sym (length-unpack qs) ∙ ap length e ∙ length-append (filled spare os ++ bs) (replicate unused false) ∙ ap (λ (n : ℕ). length (filled spare os ++ bs) + n) (length-replicate unused false) in
+pub filled_more : (spare unused : ℕ) (os qs : List ℕ) (bs : Bits) → ArePadded spare os → AreFilledBy (filled spare os ++ bs) unused qs → 8 * length qs + spare ≡ 8 * length os + length bs + unused
+filled_more spare unused os qs bs h f =
+    let l : 8 * length qs ≡ length (filled spare os ++ bs) + unused = sym (length-unpack qs) ∙ ap length f.zeros ∙ length-append (filled spare os ++ bs) (replicate unused false) ∙ ap (λ (n : ℕ). length (filled spare os ++ bs) + n) (length-replicate unused false) in
     omega (arith, length-append (filled spare os) bs, filled_length spare os, spare_there spare os h)
 
 -- what follows the bits that were put, and those
-pub put_before : (spare unused : ℕ) (os qs : List ℕ) (front rest all whole : Bits) → unpack qs ≡ (filled spare os ++ front) ++ replicate unused false → front ++ rest ≡ all → filled spare os ++ all ≡ whole → filled unused qs ++ rest ≡ whole
-put_before spare unused os qs front rest all whole e f i = ap (λ bs. bs ++ rest) (filled_by unused qs (filled spare os ++ front) e) ∙ append_assoc (filled spare os) front rest ∙ ap (λ bs. filled spare os ++ bs) f ∙ i
+pub put_before : (spare unused : ℕ) (os qs : List ℕ) (front rest all total : Bits) → AreFilledBy (filled spare os ++ front) unused qs → front ++ rest ≡ all → filled spare os ++ all ≡ total → filled unused qs ++ rest ≡ total
+put_before spare unused os qs front rest all total h f i = ap (λ bs. bs ++ rest) (filled_by h) ∙ append_assoc (filled spare os) front rest ∙ ap (λ bs. filled spare os ++ bs) f ∙ i

@@ -9,7 +9,7 @@ use Rattle.rasn_types.proofs.Bits.{length-unpack}
 use Rattle.rasn_types.proofs.Fewest.{pack-unpack}
 use Rattle.rasn_types.proofs.Reading.{are_octets}
 use Rattle.rasn_types.proofs.Packing.{pack-append}
-use Rattle.per_bits.specs.Octets.{filled, ArePadded}
+use Rattle.per_bits.specs.Octets.{filled, AreFilledBy, ArePadded}
 use Rattle.per_bits.proofs.Readers.{filled_by, filled_length, padded_by, spare_there}
 
 front_same : (s : ℕ) (bs : Bits) → take 8 ((bs ++ replicate s false) ++ replicate 8 false) ≡ take 8 (bs ++ replicate 8 false)
@@ -41,9 +41,9 @@ packed_by spare os h a = sym (ap (λ (n : ℕ). pack n bs) fewest ∙ sym (pack-
     fewest : (length bs + 7) / 8 ≡ length os
     fewest = omega (arith, filled_length spare os, spare_there spare os h, h.few)
 
--- octets behind which bits were put, up to a whole octet
-pub octets_grown : (spare : ℕ) (os qs : List ℕ) (bs : Bits) → AreOctets os → AreOctets qs → spare < 8 → unpack qs ≡ (unpack os ++ bs) ++ replicate spare false → qs ≡ os ++ packed bs
-octets_grown spare os qs bs a b h e = packed_by spare qs (padded_by spare qs (unpack os ++ bs) h e) b ∙ ap packed (filled_by spare qs (unpack os ++ bs) e)
+-- octets behind which bits were put, and zeros up to the end of an octet
+pub octets_grown : (spare : ℕ) (os qs : List ℕ) (bs : Bits) → AreOctets os → AreOctets qs → AreFilledBy (unpack os ++ bs) spare qs → qs ≡ os ++ packed bs
+octets_grown spare os qs bs a b h = packed_by spare qs (padded_by h) b ∙ ap packed (filled_by h)
     ∙ ap (λ (n : ℕ). pack n (unpack os ++ bs)) (let l : (length (unpack os ++ bs) + 7) / 8 ≡ length os + (length bs + 7) / 8 = omega (arith, length-append (unpack os) bs, length-unpack os) in l)
     ∙ pack-append (length os) ((length bs + 7) / 8) (unpack os) bs (length-unpack os) ∙ ap (λ ps. ps ++ packed bs) (pack-unpack os a)
 

@@ -1,17 +1,22 @@
 -- The bits that a reader has left, and the bits that octets are filled with.
-use Rattle.std.proofs.Common.{append_assoc, ◌≡◌, sym, ap, ap₂, ◌∙◌, ℕ, ◌+◌, ◌-◌, ◌*◌, ◌/◌, ◌%◌, ◌<◌, ◌≤◌, false, IsTrue, nat_eq, eqb-true, eq-eqb, List, [], ◌++◌, length, take, drop, replicate, arith, length-append, length-take, length-drop}
+use Rattle.std.proofs.Common.{append_assoc, ◌≡◌, sym, ap, ap₂, ◌∙◌, ℕ, ◌+◌, ◌-◌, ◌*◌, ◌/◌, ◌%◌, ◌≤◌, false, IsTrue, nat_eq, eqb-true, eq-eqb, List, [], ◌++◌, length, take, drop, replicate, arith, length-append, length-take, length-drop}
 use Rattle.std.proofs.lemmas.List.{append-nil, take-take, drop-take, drop-drop, take-append-drop, nil_from_length, take_all, take_at, length-replicate}
 use Rattle.std.proofs.lemmas.Slice.{between_to_end}
 use Rattle.std.specs.List.{between}
 use Rattle.rasn_types.specs.Bits.{Bits, unpack}
 use Rattle.rasn_types.proofs.Bits.{length-unpack, unpack-append}
-use Rattle.per_bits.specs.Octets.{filled, ArePadded}
-use Rattle.per_bits.proofs.Words.{unpack-drop, unpack-take}
+use Rattle.rasn_types.proofs.Packing.{unpack-take}
+use Rattle.per_bits.specs.Octets.{filled, AreFilledBy, ArePadded, AreWithin}
+use Rattle.per_bits.proofs.Words.{unpack-drop}
 
 -- ---- readers
 
 pub left_length : (s n : ℕ) (os : List ℕ) → s + n ≤ 8 * length os → length (take n (drop s (unpack os))) ≡ n
 left_length s n os h = length-take n (drop s (unpack os)) ∙ omega (arith, length-drop s (unpack os), length-unpack os)
+
+-- how many bits a reader has
+pub left_is : (s n : ℕ) (os : List ℕ) (now : Bits) → take n (drop s (unpack os)) ≡ now → AreWithin s n os → length now ≡ n
+left_is s n os now e h = ap length (sym e) ∙ left_length s n os h.enough
 
 pub all_left : (os : List ℕ) → take (8 * length os) (unpack os) ≡ unpack os
 all_left os = take_all (8 * length os) (unpack os) (omega (arith, length-unpack os))
@@ -40,11 +45,11 @@ pub filled_all : (os : List ℕ) → filled 0 os ≡ unpack os
 filled_all os = take_all (8 * length os - 0) (unpack os) (omega (arith, length-unpack os))
 
 -- octets that some bits and the spare ones fill
-pub filled_by : (spare : ℕ) (os : List ℕ) (bs : Bits) → unpack os ≡ bs ++ replicate spare false → filled spare os ≡ bs
-filled_by spare os bs e = ap (λ cs. take (8 * length os - spare) cs) e ∙ take_at bs (replicate spare false) (8 * length os - spare) (let l : 8 * length os ≡ length bs + spare = sym (length-unpack os) ∙ ap length e ∙ length-append bs (replicate spare false) ∙ ap (λ (n : ℕ). length bs + n) (length-replicate spare false) in omega arith)
+pub filled_by : {spare : ℕ} {os : List ℕ} {bs : Bits} → AreFilledBy bs spare os → filled spare os ≡ bs
+filled_by {spare} {os} {bs} h = ap (λ cs. take (8 * length os - spare) cs) h.zeros ∙ take_at bs (replicate spare false) (8 * length os - spare) (let l : 8 * length os ≡ length bs + spare = sym (length-unpack os) ∙ ap length h.zeros ∙ length-append bs (replicate spare false) ∙ ap (λ (n : ℕ). length bs + n) (length-replicate spare false) in omega arith)
 
-pub padded_by : (spare : ℕ) (os : List ℕ) (bs : Bits) → spare < 8 → unpack os ≡ bs ++ replicate spare false → ArePadded spare os
-padded_by spare os bs h e = record { few = h; zeros = e ∙ ap (λ cs. cs ++ replicate spare false) (sym (filled_by spare os bs e)) }
+pub padded_by : {spare : ℕ} {os : List ℕ} {bs : Bits} → AreFilledBy bs spare os → ArePadded spare os
+padded_by {spare} h = record { few = h.few; zeros = h.zeros ∙ ap (λ cs. cs ++ replicate spare false) (sym (filled_by h)) }
 
 pub spare_there : (spare : ℕ) (os : List ℕ) → ArePadded spare os → spare ≤ 8 * length os
 spare_there spare os h = let l : 8 * length os ≡ length (filled spare os) + spare = sym (length-unpack os) ∙ ap length h.zeros ∙ length-append (filled spare os) (replicate spare false) ∙ ap (λ (n : ℕ). length (filled spare os) + n) (length-replicate spare false) in omega arith
@@ -52,7 +57,7 @@ spare_there spare os h = let l : 8 * length os ≡ length (filled spare os) + sp
 pub empty_octets : (spare n : ℕ) (os : List ℕ) → length os ≡ n → ArePadded spare os → (IsTrue (nat_eq n 0) → filled spare os ≡ []) × (filled spare os ≡ [] → IsTrue (nat_eq n 0))
 empty_octets spare n os e h = (λ t. nil_from_length (filled spare os) (let i = eqb-true n 0 t in omega (arith, filled_length spare os)), λ t. eq-eqb n 0 (let i : length (filled spare os) ≡ 0 = ap length t in omega (arith, h.few, spare_there spare os h, filled_length spare os)))
 
--- ---- whole octets
+-- ---- octets in one piece
 
 -- the octets of bits that begin an octet
 pub aligned : (s n : ℕ) (os qs : List ℕ) (now : Bits) → s ≡ 0 → s + n ≤ 8 * length os → take n (drop s (unpack os)) ≡ now → qs ≡ take (n / 8) os →
@@ -69,15 +74,17 @@ aligned s n os qs now z h e q = (
     l : length qs ≡ n / 8
     l = ap length same ∙ length-take (n / 8) os ∙ omega arith
 
-pub whole_moved : (os qs whole : List ℕ) (old front new : Bits) → qs ≡ os ++ whole → unpack whole ≡ take (8 * length whole) old → old ≡ front ++ new → length front ≡ 8 * length whole → unpack qs ++ new ≡ unpack os ++ old
-whole_moved os qs whole old front new e w f l = ap (λ ps. unpack ps ++ new) e ∙ ap (λ bs. bs ++ new) (unpack-append os whole ∙ ap (λ bs. unpack os ++ bs) (w ∙ ap (λ bs. take (8 * length whole) bs) f ∙ take_at front new (8 * length whole) l))
+-- the octets ms, which are the front of the bits `old`, moved behind the octets os
+pub octets_moved : (os qs ms : List ℕ) (old front new : Bits) → qs ≡ os ++ ms → unpack ms ≡ take (8 * length ms) old → old ≡ front ++ new → length front ≡ 8 * length ms → unpack qs ++ new ≡ unpack os ++ old
+octets_moved os qs ms old front new e w f l = ap (λ ps. unpack ps ++ new) e ∙ ap (λ bs. bs ++ new) (unpack-append os ms ∙ ap (λ bs. unpack os ++ bs) (w ∙ ap (λ bs. take (8 * length ms) bs) f ∙ take_at front new (8 * length ms) l))
     ∙ append_assoc (unpack os) front new ∙ ap (λ bs. unpack os ++ bs) (sym f)
 
-pub padded_whole : (spare : ℕ) (os : List ℕ) → spare ≡ 0 → ArePadded spare os
-padded_whole spare os z = padded_by spare os (unpack os) (omega arith) (sym (append-nil (unpack os)) ∙ ap (λ (n : ℕ). unpack os ++ replicate n false) (sym z))
+-- where no bit is spare
+pub padded_full : (spare : ℕ) (os : List ℕ) → spare ≡ 0 → ArePadded spare os
+padded_full spare os z = padded_by {bs = unpack os} (record { few = omega arith; zeros = sym (append-nil (unpack os)) ∙ ap (λ (n : ℕ). unpack os ++ replicate n false) (sym z) })
 
-pub filled_whole : (spare : ℕ) (os : List ℕ) → spare ≡ 0 → filled spare os ≡ unpack os
-filled_whole spare os z = ap (λ (n : ℕ). filled n os) z ∙ filled_all os
+pub filled_full : (spare : ℕ) (os : List ℕ) → spare ≡ 0 → filled spare os ≡ unpack os
+filled_full spare os z = ap (λ (n : ℕ). filled n os) z ∙ filled_all os
 
 pub moved_length : (os qs : List ℕ) (left reader : Bits) → unpack qs ++ left ≡ unpack os ++ reader → 8 * length qs + length left ≡ 8 * length os + length reader
 moved_length os qs left reader e = let l : length (unpack qs ++ left) ≡ length (unpack os ++ reader) = ap length e in omega (arith, length-append (unpack qs) left, length-append (unpack os) reader, length-unpack os, length-unpack qs)

@@ -7,6 +7,7 @@ use Rattle.std.proofs.lemmas.Nat.{shr_high, mod_low, be_bytes_8}
 use Rattle.std.proofs.Math.Seq.{take-append-add}
 use Rattle.std.specs.Int.{w64, from_be_bytes, bytes_high_first, byte_at}
 use Rattle.rasn_types.specs.Bits.{Bits, to_bits, unpack}
+use Rattle.rasn_types.proofs.Packing.{unpack-take}
 use Rattle.rasn_types.proofs.Bits.{length-to_bits, length-unpack, to_bits-same, to_bits-split, octet_power}
 use Rattle.per_bits.specs.Octets.{word_size, first_word}
 
@@ -45,12 +46,6 @@ unpack-bytes (suc k) n = ap₂ (λ bs cs. bs ++ cs) (byte_bits k n) (unpack-byte
 pub unpack-word : (os : List ℕ) (n : ℕ) → length os ≡ 8 → ((i : ℕ) → get_or os i 0 < 256) → n ≡ from_be_bytes w64 os → to_bits word_size n ≡ unpack os
 unpack-word os n l small e = ap (λ (w : ℕ). to_bits w n) word_size-is ∙ sym (unpack-bytes 8 n) ∙ ap unpack (be_bytes_8 os n l small e)
 
-pub unpack-take : (k : ℕ) (os : List ℕ) → take (8 * k) (unpack os) ≡ unpack (take k os)
-unpack-take zero os = refl
-unpack-take (suc k) [] = ap (λ (n : ℕ). take n (unpack [])) (let e : 8 * suc k ≡ suc (8 * k + 7) = omega arith in e)
-unpack-take (suc k) (o ∷ os) = ap (λ (n : ℕ). take n (unpack (o ∷ os))) (let e : 8 * suc k ≡ 8 + 8 * k = omega arith in e)
-    ∙ take-append-add (to_bits 8 o) (unpack os) (8 * k) ∙ ap (λ bs. to_bits 8 o ++ bs) (unpack-take k os)
-
 pub unpack-drop : (k : ℕ) (os : List ℕ) → drop (8 * k) (unpack os) ≡ unpack (drop k os)
 unpack-drop zero os = refl
 unpack-drop (suc k) [] = ap (λ (n : ℕ). drop n (unpack [])) (let e : 8 * suc k ≡ suc (8 * k + 7) = omega arith in e)
@@ -73,12 +68,12 @@ inner-front s c n xs h = ap (λ (m : ℕ). take c (drop s (take m xs))) (let e :
 pub inner-append : (s c : ℕ) (xs ys : Bits) → s + c ≤ length xs → take c (drop s (xs ++ ys)) ≡ take c (drop s xs)
 inner-append s c xs ys h = ap (λ bs. take c bs) (drop-append-le s xs ys (omega arith)) ∙ take-append-le c (drop s xs) ys (omega (arith, length-drop s xs))
 
-pub first_word-whole : (os qs : List ℕ) → 8 ≤ length os → qs ≡ take 8 os → first_word os ≡ unpack qs
-first_word-whole os qs h e = ap (λ (n : ℕ). take n (unpack os ++ replicate word_size false)) word_size-is
+pub first_word-long : (os qs : List ℕ) → 8 ≤ length os → qs ≡ take 8 os → first_word os ≡ unpack qs
+first_word-long os qs h e = ap (λ (n : ℕ). take n (unpack os ++ replicate word_size false)) word_size-is
     ∙ take-append-le (8 * 8) (unpack os) (replicate word_size false) (omega (arith, length-unpack os)) ∙ unpack-take 8 os ∙ ap unpack (sym e)
 
-pub first_word-part : (os : List ℕ) → length os ≤ 8 → first_word os ≡ unpack os ++ replicate (64 - 8 * length os) false
-first_word-part os h = ap (λ (n : ℕ). take n (unpack os ++ replicate word_size false)) (let e : word_size ≡ length (unpack os) + (64 - 8 * length os) = omega (arith, word_size-is, length-unpack os) in e)
+pub first_word-short : (os : List ℕ) → length os ≤ 8 → first_word os ≡ unpack os ++ replicate (64 - 8 * length os) false
+first_word-short os h = ap (λ (n : ℕ). take n (unpack os ++ replicate word_size false)) (let e : word_size ≡ length (unpack os) + (64 - 8 * length os) = omega (arith, word_size-is, length-unpack os) in e)
     ∙ take-append-add (unpack os) (replicate word_size false) (64 - 8 * length os)
     ∙ ap (λ bs. unpack os ++ bs) (take-replicate (64 - 8 * length os) word_size false (omega (arith, word_size-is)))
 

@@ -14,10 +14,14 @@ first_word octets = take word_size (unpack octets ++ replicate word_size false)
 abbrev pub filled : ℕ → List ℕ → Bits
 filled spare octets = take (8 * length octets - spare) (unpack octets)
 
--- fewer than eight bits are spare, and they are zeros
-pub record ArePadded (spare : ℕ) (octets : List ℕ) : Type 0 where
+-- octets that are these bits, and behind them spare ones, fewer than eight zeros
+pub record AreFilledBy (bits : Bits) (spare : ℕ) (octets : List ℕ) : Type 0 where
   pub few : spare < 8
-  pub zeros : unpack octets ≡ filled spare octets ++ replicate spare false
+  pub zeros : unpack octets ≡ bits ++ replicate spare false
+
+-- fewer than eight bits are spare, and they are zeros
+abbrev pub ArePadded : ℕ → List ℕ → Type 0
+ArePadded spare octets = AreFilledBy (filled spare octets) spare octets
 
 -- `count` bits stand in octets behind `skip` others
 pub record AreWithin (skip count : ℕ) (octets : List ℕ) : Type 0 where

@@ -1,15 +1,23 @@
 //! Bits as the packed encoding rules write and read them (ITU-T X.691, section 11): a list that grows at its end,
-//! and a reader that takes from the front. Every count, width and index is in bits. A contract speaks of the bits
-//! alone, as a list of truth values, and not of how they are kept: eight to an octet, the first highest.
+//! and a reader that takes from the front. Every count, width and index is in bits, but for the length of a slice or
+//! `Vec` of octets. A contract speaks of the bits alone, as a list of truth values, and not of how they are kept: eight
+//! to an octet, the first highest.
 #![tactic(auto)]
 
-ghost use Rattle.std.specs.Prelude.{◌≡◌, ◌+◌, ◌-◌, ◌*◌, ◌/◌, ◌%◌, ◌^◌, ◌<◌, ◌≤◌, List, [], ◌∷◌, ◌++◌, Bool, false, length, take, drop, replicate, slice_get, vec_len, vec_capacity, OnOk, OnErr, IfOk, IfErr, IfSome, IsTrue, ◌↔◌, ⊤};
-ghost use Rattle.rasn_types.specs.Bits.{AreOctets, to_bits, number_of, unpack};
+ghost use Rattle.std.specs.Prelude.{◌≡◌, ◌+◌, ◌-◌, ◌*◌, ◌/◌, ◌^◌, ◌<◌, ◌≤◌, List, [], ◌∷◌, ◌++◌, Bool, length, take, slice_get, vec_len, vec_capacity, OnOk, OnErr, IfOk, IfErr, IfSome, IsTrue, ◌↔◌, ⊤};
+ghost use Rattle.rasn_types.specs.Bits.{to_bits, number_of, unpack};
 ghost use Rattle.rasn_types.specs.Packed.{packed};
-ghost use Rattle.per_bits.specs.Octets.{word_size, first_word, filled, ArePadded, AreWithin};
+ghost use Rattle.per_bits.specs.Octets.{filled, AreFilledBy, ArePadded};
 
+use crate::fields::{
+    FIELD_BITS, append_field, append_wide_field, fill_last_octet, low_field, read_field,
+    read_wide_field,
+};
+use rasn_types::bit_string::note_octets;
 use std::alloc::{AllocError, Allocator};
 use std::marker::Model;
+
+mod fields;
 
 /// Bits in the order in which they are written.
 #[derive(Drop)]
@@ -115,13 +123,20 @@ impl<A: Allocator> BitList<A> {
         ensures err { OnErr result (self.new ≡ self.old) }
     {
         if self.spare > 0 && width <= u128::from(self.spare) {
-            self.spare = put(&mut self.octets, self.spare, low_word(value), width as u32);
-        } else if width <= 56 {
+            self.spare = fill_last_octet(
+                &mut self.octets,
+                self.spare,
+                low_field(value),
+                width as u32,
+            );
+        } else if width <= u128::from(FIELD_BITS) {
+            // the word that is written before it is cut back
             self.octets.reserve(8)?;
-            self.spare = append(&mut self.octets, self.spare, low_word(value), width as u32);
+            self.spare = append_field(&mut self.octets, self.spare, low_field(value), width as u32);
         } else {
+            // 128 bits behind spare ones begin at most 17 octets, and the last word has eight
             self.octets.reserve(25)?;
-            self.spare = append_wide(&mut self.octets, self.spare, value, width as u32);
+            self.spare = append_wide_field(&mut self.octets, self.spare, value, width as u32);
         }
         Ok(())
     }
@@ -140,8 +155,8 @@ impl<A: Allocator> BitList<A> {
         ensures ok { OnOk result (self.new ≡ self.old ++ reader.now) }
         ensures err { OnErr result (self.new ≡ self.old) }
     {
-        self.octets.reserve(reader.octet_count() + 10)?;
-        self.spare = append_all(&mut self.octets, self.spare, reader.clone().unwrap());
+        self.octets.reserve(reader.octet_room())?;
+        self.spare = append_reader(&mut self.octets, self.spare, reader.clone().unwrap());
         Ok(())
     }
 
@@ -154,7 +169,7 @@ impl<A: Allocator> BitList<A> {
     }
 }
 
-/// The bits of a list or of octets that are left to read. No call takes memory.
+/// The bits of a list or of octets that are left to read. No call takes memory but `append_octets`.
 #[derive(Drop)]
 pub struct BitReader<'input> {
     /// The octet that the first bit stands in, and those behind it.
@@ -244,25 +259,22 @@ impl<'input> BitReader<'input> {
         requires left { count ≤ length self.now }
         ensures { result ≡ number_of (take count self.now) }
     {
-        if count <= 56 {
-            u128::from(part(self.octets, self.skip, count as u32))
+        if count <= u128::from(FIELD_BITS) {
+            u128::from(read_field(self.octets, self.skip, count as u32))
         } else {
-            wide(self.octets, self.skip, count as u32)
+            read_wide_field(self.octets, self.skip, count as u32)
         }
     }
-}
 
-impl<'input> BitReader<'input> {
-    /// The octets of the bits that are left, but for the last ones, fewer than eight; `None` where the first bit does
-    /// not begin an octet of what is read.
+    /// The octets of the bits that are left, where these begin and end on octets of what is read; else `None`.
     pub fn aligned_octets(&self) -> Option<&'input [u8]>
-        ensures octets { IfSome result (λ octets. unpack octets.now ≡ take (8 * length octets.now) self.now) }
-        ensures count { IfSome result (λ octets. length octets.now ≡ length self.now / 8) }
+        ensures { IfSome result (λ octets. unpack octets.now ≡ self.now) }
     {
-        if self.skip > 0 {
+        let octets = self.front_octets()?;
+        if self.len % 8 > 0 {
             return None;
         }
-        Some(&self.octets[..(self.len / 8) as usize])
+        Some(octets)
     }
 
     /// Appends the bits that are left to octets: the fewest octets, the first bit highest, and zero bits behind the
@@ -272,17 +284,29 @@ impl<'input> BitReader<'input> {
         ensures err { OnErr result (octets.new.items ≡ octets.old.items) }
     {
         note_octets(octets.as_slice());
-        octets.reserve(self.octet_count() + 10)?;
-        append_all(octets, 0, self.clone().unwrap());
+        octets.reserve(self.octet_room())?;
+        append_reader(octets, 0, self.clone().unwrap());
         Ok(())
     }
 
-    /// How many octets the bits that are left fill.
-    fn octet_count(&self) -> usize
-        ensures count { result ≡ length self.now / 8 }
-        ensures few { result < 2 ^ 63 }
+    /// The octets of the bits that are left, but for the last bits, fewer than eight; `None` where the first bit does
+    /// not begin an octet of what is read.
+    fn front_octets(&self) -> Option<&'input [u8]>
+        ensures octets { IfSome result (λ octets. unpack octets.now ≡ take (8 * length octets.now) self.now) }
+        ensures count { IfSome result (λ octets. length octets.now ≡ length self.now / 8) }
     {
-        (self.len / 8) as usize
+        if self.skip > 0 {
+            return None;
+        }
+        Some(&self.octets[..(self.len / 8) as usize])
+    }
+
+    /// How many octets of room `append_reader` wants for the bits that are left: what they fill, one that they begin,
+    /// one for bits that stood there, and the word that is written before it is cut back.
+    fn octet_room(&self) -> usize
+        ensures { result ≡ length self.now / 8 + 10 }
+    {
+        (self.len / 8) as usize + 10
     }
 }
 
@@ -301,353 +325,37 @@ impl<'input> Clone for BitReader<'input> {
     }
 }
 
-/// The first bits of the octets, as many as a word has, the first the highest; zeros behind them where there are fewer.
-fn load(octets: &[u8]) -> u64
-    ensures { to_bits word_size result ≡ first_word octets.now }
-{
-    match octets.first_chunk::<8>() {
-        Some(chunk) => u64::from_be_bytes(*chunk),
-        None => load_few(octets),
-    }
-}
-
-/// The bits of fewer octets than a word has, the first the highest, zeros behind them.
-fn load_few(octets: &[u8]) -> u64
-    requires { length octets.now < 8 }
-    ensures { to_bits word_size result ≡ first_word octets.now }
-{
-    let mut word: u64 = 0;
-    for octet in octets {
-        word = word << 8 | u64::from(*octet);
-    }
-    word << 8 << (56 - 8 * octets.len())
-}
-
-/// The low `width` bits of a word.
-fn low(word: u64, width: u32) -> u64
-    requires { width < 64 }
-    ensures { result ≡ word % 2 ^ width }
-{
-    word & ((1 << width) - 1)
-}
-
-/// The low 56 bits of a number.
-fn low_word(value: u128) -> u64
-    ensures { result ≡ value % 2 ^ 56 }
-{
-    (value & 0xff_ffff_ffff_ffff) as u64
-}
-
-/// The number that `count` bits of the octets mean, behind `skip` others.
-fn part(octets: &[u8], skip: u32, count: u32) -> u64
-    requires within { AreWithin skip count octets.now }
-    requires few { count ≤ 56 }
-    ensures bits { to_bits count result ≡ take count (drop skip (unpack octets.now)) }
-    ensures below { result < 2 ^ count }
-{
-    low(load(octets) >> 1 >> (63 - skip - count), count)
-}
-
-/// The number that `count` bits of the octets mean, behind `skip` others, more than a word may hold.
-fn wide(octets: &[u8], skip: u32, count: u32) -> u128
-    requires within { AreWithin skip count octets.now }
-    requires few { count ≤ 128 }
-    ensures { result ≡ number_of (take count (drop skip (unpack octets.now))) }
-{
-    let mut rest = octets;
-    let mut gone = skip;
-    let mut left = count;
-    let mut value: u128 = 0;
-    while left > 0 {
-        let width = left.min(56);
-        value = value << width | u128::from(part(rest, gone, width));
-        let place = gone + width;
-        rest = &rest[(place / 8) as usize..];
-        gone = place % 8;
-        left -= width;
-    }
-    value
-}
-
-/// Does nothing: a `u8` is below 256.
-fn note_octets(octets: &[u8])
-    ensures { AreOctets octets.now }
-{
-    let _ = octets;
-}
-
-/// Appends the low `width` bits of `value` to octets of which the last `spare` bits are not used, and answers how many
-/// are not used then.
-#[inline(never)]
-fn append<A: Allocator>(octets: &mut Vec<u8, A>, spare: u32, value: u64, width: u32) -> u32
-    requires spare { spare < 8 }
-    requires there { spare ≤ 8 * length octets.old.items }
-    requires few { width ≤ 56 }
-    requires room { vec_len octets.old + 8 ≤ vec_capacity octets.old }
-    ensures bits { unpack octets.new.items ≡ (filled spare octets.old.items ++ to_bits width value) ++ replicate result false }
-    ensures spare { result < 8 }
-    ensures room { vec_capacity octets.old ≤ vec_capacity octets.new }
-{
-    let mut used = 0;
-    let mut bits = 0;
-    if spare > 0 {
-        if let Some(last) = octets.pop() {
-            used = 8 - spare;
-            bits = u64::from(last >> spare);
-        }
-    }
-    let all = used + width;
-    let word = (bits << width | low(value, width)) << 1 << (63 - all);
-    let whole = all.div_ceil(8);
-    let len = octets.len() + whole as usize;
-    octets.extend_from_slice(&word.to_be_bytes()).unwrap();
-    octets.truncate(len);
-    8 * whole - all
-}
-
-/// Puts the low `width` bits of `value` into the last octet, of which the last `spare` bits are not used, and answers
-/// how many are not used then.
-fn put<A: Allocator>(octets: &mut Vec<u8, A>, spare: u32, value: u64, width: u32) -> u32
-    requires some { 0 < spare }
-    requires spare { spare < 8 }
-    requires there { 0 < length octets.old.items }
-    requires few { width ≤ spare }
-    ensures bits { unpack octets.new.items ≡ (filled spare octets.old.items ++ to_bits width value) ++ replicate result false }
-    ensures spare { result < 8 }
-{
-    note_octets(octets.as_slice());
-    let place = octets.len() - 1;
-    let used = u64::from(octets[place] >> spare);
-    let left = spare - width;
-    octets[place] = ((used << width | low(value, width)) << left) as u8;
-    left
-}
-
-/// Appends as `append` does, of a number that may be wider.
-fn append_wide<A: Allocator>(octets: &mut Vec<u8, A>, spare: u32, value: u128, width: u32) -> u32
-    requires padded { ArePadded spare octets.old.items }
-    requires few { width ≤ 128 }
-    requires room { vec_len octets.old + 25 ≤ vec_capacity octets.old }
-    ensures bits { unpack octets.new.items ≡ (filled spare octets.old.items ++ to_bits width value) ++ replicate result false }
-    ensures spare { result < 8 }
-{
-    let mut unused = spare;
-    let mut left = width;
-    while left > 0 {
-        let count = left.min(56);
-        left -= count;
-        unused = append(octets, unused, low_word(value >> left), count);
-    }
-    unused
-}
-
-/// Appends all bits of a reader to octets of which the last `spare` bits are not used, and answers how many are not
-/// used then.
-fn append_all<A: Allocator>(octets: &mut Vec<u8, A>, spare: u32, reader: BitReader<'_>) -> u32
+/// Appends all bits of a reader to octets of which the last `spare` bits are spare, and answers how many are spare then.
+fn append_reader<A: Allocator>(octets: &mut Vec<u8, A>, spare: u32, reader: BitReader<'_>) -> u32
     requires padded { ArePadded spare octets.old.items }
     requires room { 8 * vec_len octets.old + length reader + 72 ≤ 8 * vec_capacity octets.old }
-    ensures bits { unpack octets.new.items ≡ (filled spare octets.old.items ++ reader.entry) ++ replicate result false }
-    ensures spare { result < 8 }
+    ensures { AreFilledBy (filled spare octets.old.items ++ reader.entry) result octets.new.items }
 {
     let mut left = reader;
     let mut unused = spare;
     if unused == 0 {
-        append_whole(octets, &mut left);
+        append_front_octets(octets, &mut left);
     }
     while !left.is_empty() {
-        let width = left.len().min(56);
+        let width = left.len().min(u128::from(FIELD_BITS));
         let front = left.take(width).unwrap();
         let number = front.first_bits(width);
-        unused = append(octets, unused, low_word(number), width as u32);
+        unused = append_field(octets, unused, low_field(number), width as u32);
     }
     unused
 }
 
-/// Appends the octets of a reader's bits, which are no longer left there, where the first bit begins an octet.
-fn append_whole<A: Allocator>(octets: &mut Vec<u8, A>, reader: &mut BitReader<'_>)
+/// Appends the octets that a reader's bits fill, which are then no longer left there, where the first bit begins an octet.
+fn append_front_octets<A: Allocator>(octets: &mut Vec<u8, A>, reader: &mut BitReader<'_>)
     requires room { 8 * vec_len octets.old + length reader.old ≤ 8 * vec_capacity octets.old }
     ensures bits { unpack octets.new.items ++ reader.new ≡ unpack octets.old.items ++ reader.old }
     ensures room { vec_capacity octets.old ≤ vec_capacity octets.new }
 {
-    if let Some(whole) = reader.aligned_octets() {
-        octets.extend_from_slice(whole).unwrap();
-        reader.take(8 * whole.len() as u128).unwrap();
+    if let Some(front) = reader.front_octets() {
+        octets.extend_from_slice(front).unwrap();
+        reader.take(8 * front.len() as u128).unwrap();
     }
 }
 
 #[cfg(test)]
-mod tests {
-    use super::*;
-    use std::process::Abort;
-    use std::test::Fail;
-
-    fn expect_bits<A: Allocator>(rt: &impl Abort, list: &BitList<A>, bits: &[bool]) {
-        assert_eq!(rt; list.len(), bits.len() as u128);
-        for (index, bit) in bits.iter().enumerate() {
-            assert_eq!(rt; list.get(index as u128), Some(*bit), "at {index}");
-        }
-        assert_eq!(rt; list.get(list.len()), None);
-    }
-
-    #[test]
-    fn appends_and_clears(rt: HostRuntime) -> Result<(), Fail> {
-        let mut list = BitList::new(rt.alloc());
-        assert!(rt; list.is_empty());
-        list.push(true)?;
-        list.push_bits(0b1101, 3)?;
-        list.push_octets(&[0x80, 0x01])?;
-
-        // 1, 101, 10000000, 00000001
-        let bits = [
-            true, true, false, true, true, false, false, false, false, false, false, false, false,
-            false, false, false, false, false, false, true,
-        ];
-        expect_bits(&rt, &list, &bits);
-        list.clear();
-        expect_bits(&rt, &list, &[]);
-        Ok(())
-    }
-
-    #[test]
-    fn appends_numbers_of_each_width(rt: HostRuntime) -> Result<(), Fail> {
-        let value = 0x8000_0000_0000_0000_0000_0000_0000_0001;
-        let mut bits = [false; 128];
-        bits[0] = true;
-        bits[127] = true;
-
-        for (width, expected) in [
-            (0, &bits[..0]),
-            (1, &bits[127..]),
-            (127, &bits[1..]),
-            (128, &bits[..]),
-        ] {
-            let mut list = BitList::new(rt.alloc());
-            assert!(rt; width <= 128);
-            list.push_bits(value, width)?;
-            expect_bits(&rt, &list, expected);
-        }
-        Ok(())
-    }
-
-    #[test]
-    fn reads_numbers_of_each_width(rt: HostRuntime) -> Result<(), Fail> {
-        let octets = [0x80, 0, 0, 0, 0, 0, 0, 0, 0, 0, 0, 0, 0, 0, 0, 0x01];
-        let list = BitList::from_octets(rt.alloc(), &octets)?;
-        let reader = BitReader::new(&list);
-        assert!(rt; reader.len() == 128);
-
-        assert_eq!(rt; reader.first_bits(0), 0);
-        assert_eq!(rt; reader.first_bits(1), 1);
-        assert_eq!(rt;
-            reader.first_bits(127),
-            0x4000_0000_0000_0000_0000_0000_0000_0000
-        );
-        assert_eq!(rt;
-            reader.first_bits(128),
-            0x8000_0000_0000_0000_0000_0000_0000_0001
-        );
-        Ok(())
-    }
-
-    #[test]
-    fn takes_from_the_front(rt: HostRuntime) -> Result<(), Fail> {
-        let list = BitList::from_octets(rt.alloc(), &[0b1010_0101])?;
-        let mut reader = BitReader::new(&list);
-        let Ok(front) = reader.take(3) else {
-            panic!(rt; "three of eight bits are there");
-        };
-        assert!(rt; front.len() == 3);
-        assert_eq!(rt; front.first_bits(3), 0b101);
-
-        let mut second = reader.clone()?;
-        assert!(rt; second.len() == 5);
-        assert_eq!(rt; second.first_bits(5), 0b00101);
-        assert_eq!(rt; second.take(9).err(), Some(4));
-        assert_eq!(rt; second.len(), 5);
-        assert!(rt; second.take(5).is_ok());
-        assert!(rt; second.is_empty());
-        assert!(rt; !reader.is_empty());
-        Ok(())
-    }
-
-    #[test]
-    fn appends_behind_each_number_of_bits(rt: HostRuntime) -> Result<(), Fail> {
-        let octets = [
-            0x01, 0x23, 0x45, 0x67, 0x89, 0xab, 0xcd, 0xef, 0xfe, 0xdc, 0xba, 0x98, 0x76,
-        ];
-        let whole = BitList::from_octets(rt.alloc(), &octets)?;
-        for bits in 0..9usize {
-            let front = bits as u128;
-            let mut list = BitList::new(rt.alloc());
-            for _ in 0..bits {
-                list.push(true)?;
-            }
-            list.push_octets(&octets)?;
-            assert_eq!(rt; list.len(), front + 104);
-
-            let mut reader = BitReader::new(&list);
-            assert!(rt; reader.take(front).is_ok());
-            assert_eq!(rt; reader.aligned_octets().is_some(), front % 8 == 0);
-            let mut back = Vec::new(rt.alloc());
-            reader.append_octets(&mut back)?;
-            assert_eq!(rt; back.as_slice(), &octets[..]);
-
-            let mut again = BitList::new(rt.alloc());
-            again.push_reader(&reader)?;
-            assert_eq!(rt; again.as_octets(), whole.as_octets());
-        }
-        Ok(())
-    }
-
-    #[test]
-    fn fills_the_last_octet_with_zeros(rt: HostRuntime) -> Result<(), Fail> {
-        let mut list = BitList::new(rt.alloc());
-        assert_eq!(rt; list.as_octets(), &[][..]);
-        list.push_bits(u128::MAX, 3)?;
-        assert_eq!(rt; list.as_octets(), &[0b1110_0000][..]);
-        list.push_bits(0b01, 2)?;
-        assert_eq!(rt; list.as_octets(), &[0b1110_1000][..]);
-        list.push_bits(0x8000_0000_0000_0001, 64)?;
-        assert_eq!(rt;
-            list.as_octets(),
-            &[0b1110_1100, 0, 0, 0, 0, 0, 0, 0, 0b0000_1000][..]
-        );
-        assert_eq!(rt; list.len(), 69);
-
-        let mut octets = Vec::new(rt.alloc());
-        octets.push(0xff)?;
-        let mut reader = BitReader::new(&list);
-        assert!(rt; reader.take(1).is_ok());
-        reader.append_octets(&mut octets)?;
-        assert_eq!(rt;
-            octets.as_slice(),
-            &[0xff, 0b1101_1000, 0, 0, 0, 0, 0, 0, 0, 0b0001_0000][..]
-        );
-        Ok(())
-    }
-
-    #[test]
-    fn reads_numbers_behind_each_number_of_bits(rt: HostRuntime) -> Result<(), Fail> {
-        for bits in 0..9usize {
-            let front = bits as u128;
-            let mut list = BitList::new(rt.alloc());
-            assert!(rt; front <= 128);
-            list.push_bits(0, front)?;
-            list.push_bits(0x8123_4567_89ab_cdef_fedc_ba98_7654_3211, 128)?;
-            let mut reader = BitReader::new(&list);
-            assert!(rt; reader.take(front).is_ok());
-            assert!(rt; reader.len() == 128);
-            assert_eq!(rt;
-                reader.first_bits(128),
-                0x8123_4567_89ab_cdef_fedc_ba98_7654_3211
-            );
-            assert_eq!(rt; reader.first_bits(64), 0x8123_4567_89ab_cdef);
-            assert_eq!(rt; reader.first_bits(57), 0x8123_4567_89ab_cdef >> 7);
-            assert_eq!(rt; reader.first_bits(56), 0x81_2345_6789_abcd);
-            assert!(rt; reader.take(120).is_ok());
-            assert!(rt; reader.len() == 8);
-            assert_eq!(rt; reader.first_bits(8), 0x11);
-        }
-        Ok(())
-    }
-}
+mod tests;

@@ -1,7 +1,7 @@
 -- Bits kept in octets: one more bit, one bit of them, and the first of them.
 use Rattle.std.proofs.Common.{◌≡◌, refl, sym, ap, ap₂, ◌∙◌, subst, ℕ, zero, suc, ◌+◌, ◌-◌, ◌*◌, ◌/◌, ◌%◌, ◌^◌, ◌<◌, ◌≤◌, Bool, true, false, cond, leb, eqb, List, [], ◌∷◌, ◌++◌, length, take, drop, replicate, get_or, arith, inl, inr, pow-suc, pow-add, mod-lt, mod-eq_of_lt, one-add, pow_pos, length-append, length-take, length-drop, append_assoc, append-nil, ◌≢◌, Some, None, slice_get, get_or-take, nat_eq, take-append-drop, le-leb, mul_comm, mul_assoc, pow_mono}
 use Rattle.std.proofs.lemmas.Bool.{cases_lt, lt-leb}
-use Rattle.std.proofs.lemmas.List.{take-append-le, drop-append-le, length-replicate, take-replicate, take_all, take_more}
+use Rattle.std.proofs.lemmas.List.{take-take, take-append-le, drop-append-le, length-replicate, take-replicate, take_all, take_more}
 use Rattle.std.proofs.Math.Seq.{take-append-add, take-append_seam, set-append_seam, get_or-append_seam, get_or-append_right}
 use Rattle.std.proofs.Math.ListN.{get_or-append, set}
 use Rattle.std.proofs.Math.Nat.{add-mul, mul-div_cancel, one-mul, zero-mul, mul-one, div-mul-le_self}
@@ -306,17 +306,22 @@ first_bits_are o n l k = mod-eq_of_lt (omega (arith, div-mul-le_self o (2 ^ (8 -
     high : o / 2 ^ (8 - n) ≡ number_of (take n (to_bits 8 o))
     high = sym (ap number_of front ∙ number-to_bits n (o / 2 ^ (8 - n)) ∙ mod-eq_of_lt (div_below o (2 ^ (8 - n)) (2 ^ n) (pow_pos (8 - n)) (omega (arith, whole))))
 
-unpack-take : (k : ℕ) (os : List ℕ) → k ≤ length os → take (8 * k) (unpack os) ≡ unpack (take k os)
-unpack-take zero os h = refl
-unpack-take (suc k) [] h = absurd (omega arith)
-unpack-take (suc k) (o ∷ os) h = ap (λ (n : ℕ). take n (unpack (o ∷ os))) (let e : 8 * suc k ≡ 8 + 8 * k = omega arith in e)
-    ∙ take-append-add (to_bits 8 o) (unpack os) (8 * k) ∙ ap (λ bs. to_bits 8 o ++ bs) (unpack-take k os (omega arith))
+-- the bits of the first octets
+pub unpack-take : (k : ℕ) (os : List ℕ) → take (8 * k) (unpack os) ≡ unpack (take k os)
+unpack-take zero os = refl
+unpack-take (suc k) [] = ap (λ (n : ℕ). take n (unpack [])) (let e : 8 * suc k ≡ suc (8 * k + 7) = omega arith in e)
+unpack-take (suc k) (o ∷ os) = ap (λ (n : ℕ). take n (unpack (o ∷ os))) (let e : 8 * suc k ≡ 8 + 8 * k = omega arith in e)
+    ∙ take-append-add (to_bits 8 o) (unpack os) (8 * k) ∙ ap (λ bs. to_bits 8 o ++ bs) (unpack-take k os)
 
 unpack-take-part : (k p : ℕ) (os : List ℕ) → k < length os → p ≤ 8 → take (8 * k + p) (unpack os) ≡ unpack (take k os) ++ take p (to_bits 8 (get_or os k 0))
 unpack-take-part k p [] h l = absurd (omega arith)
 unpack-take-part zero p (o ∷ os) h l = ap (λ (n : ℕ). take n (unpack (o ∷ os))) (let e : 8 * 0 + p ≡ p = omega arith in e) ∙ take-append-le p (to_bits 8 o) (unpack os) l
 unpack-take-part (suc k) p (o ∷ os) h l = ap (λ (n : ℕ). take n (unpack (o ∷ os))) (let e : 8 * suc k + p ≡ 8 + (8 * k + p) = omega arith in e)
     ∙ take-append-add (to_bits 8 o) (unpack os) (8 * k + p) ∙ ap (λ bs. to_bits 8 o ++ bs) (unpack-take-part k p os (omega arith) l)
+
+-- the first bits, of as few octets as hold them
+pub front_kept : (n : ℕ) (os : List ℕ) → take n (unpack (take (div_ceil n 8) os)) ≡ take n (unpack os)
+front_kept n os = ap (λ bs. take n bs) (sym (unpack-take (div_ceil n 8) os)) ∙ take-take n (8 * div_ceil n 8) (unpack os) (omega arith)
 
 octets_taken : (n : ℕ) (os : List ℕ) → AreOctets os → AreOctets (take n os)
 octets_taken zero os h = tt
@@ -334,7 +339,7 @@ whole_kept n os h l z = ap (λ (m : ℕ). take m os) (let e : div_ceil n 8 ≡ k
     k = n / 8
 
     front : take n (unpack os) ≡ unpack (take k os)
-    front = ap (λ (m : ℕ). take m (unpack os)) (let e : n ≡ 8 * k = omega arith in e) ∙ unpack-take k os (omega arith)
+    front = ap (λ (m : ℕ). take m (unpack os)) (let e : n ≡ 8 * k = omega arith in e) ∙ unpack-take k os
 
 pub part_kept : (n : ℕ) (os : List ℕ) (v : ℕ) → AreOctets os → n ≤ 8 * length os → 0 < n % 8 → v ≡ number_of (take (n % 8) (to_bits 8 (get_or os (n / 8) 0)) ++ replicate (8 - n % 8) false) →
     set (take (div_ceil n 8) os) (n / 8) v ≡ packed (take n (unpack os))

@@ -4,7 +4,7 @@ ghost use Rattle.std.specs.Prelude.{◌≡◌, ◌+◌, ◌-◌, ◌*◌, ◌^�
 ghost use Rattle.std.specs.Bool.{beq};
 ghost use Rattle.std.specs.Cmp.{bool_eq_equiv, partial_equiv_from_equiv};
 ghost use Rattle.std.specs.Cmp.Lexicographic.{lists_equiv, pointwise};
-ghost use Rattle.rasn_types.specs.Bits.{number_of, to_bits, unpack};
+ghost use Rattle.rasn_types.specs.Bits.{AreOctets, number_of, to_bits, unpack};
 ghost use Rattle.rasn_types.specs.Packed.{packed, ArePacked};
 
 use std::alloc::{AllocError, Global};
@@ -46,11 +46,22 @@ impl BitString {
         requires { len ≤ 8 * length octets.now }
         ensures { IfOk result (λ bits. bits ≡ take len (unpack octets.now)) }
     {
-        let mut kept = Vec::from_slice(alloc, &octets[..len.div_ceil(8)])?;
+        let kept = Vec::from_slice(alloc, &octets[..len.div_ceil(8)])?;
+        Ok(BitString::from_vec(kept, len))
+    }
+
+    /// The first `len` bits of the octets, the highest of each octet first, in the octets' own memory.
+    pub fn from_vec(octets: Vec<u8>, len: usize) -> BitString
+        requires { len ≤ 8 * length octets.items }
+        ensures { result ≡ take len (unpack octets.items) }
+    {
+        note_octets(octets.as_slice());
+        let mut kept = octets;
+        kept.truncate(len.div_ceil(8));
         if len % 8 > 0 {
-            kept[len / 8] = first_bits(octets[len / 8], len % 8);
+            kept[len / 8] = first_bits(kept[len / 8], len % 8);
         }
-        Ok(BitString { octets: kept, len })
+        BitString { octets: kept, len }
     }
 
     /// How many bits there are.
@@ -137,6 +148,13 @@ fn append_bit(octets: &mut Vec<u8>, len: usize, bit: bool) -> Result<(), AllocEr
     Ok(())
 }
 
+/// Does nothing: a `u8` is below 256.
+pub fn note_octets(octets: &[u8])
+    ensures { AreOctets octets.now }
+{
+    let _ = octets;
+}
+
 /// The first `count` bits of an octet, the others zero.
 fn first_bits(octet: u8, count: usize) -> u8
     requires some { 0 < count }
@@ -183,19 +201,19 @@ mod tests {
 
     #[test]
     fn pushes_bits(rt: HostRuntime) -> Result<(), Fail> {
-        let whole = BitString::from_octets(rt.alloc(), &OCTETS, 44)?;
+        let all = BitString::from_octets(rt.alloc(), &OCTETS, 44)?;
         let mut bits = BitString::new(rt.alloc());
         assert!(rt; bits.is_empty());
         for index in 0..44 {
             assert_eq!(rt; bits.get(index), None);
-            let Some(bit) = whole.get(index) else {
+            let Some(bit) = all.get(index) else {
                 panic!(rt; "44 bits are there");
             };
             assert!(rt; bits.len() < usize::MAX);
             bits.push(bit)?;
         }
         assert!(rt; !bits.is_empty());
-        assert_eq!(rt; bits, whole);
+        assert_eq!(rt; bits, all);
         Ok(())
     }
 

@@ -4,10 +4,10 @@ use Rattle.per_bits.proofs.Readers.{filled_by, padded_by}
 use Rattle.per_bits.proofs.BitList.push_reader.Goals as goal
 
 pub invariant_of-self-2 : goal.invariant_of-self-2
-invariant_of-self-2 g c = padded_by c.append_all-self-inside.result c.append_all-self-inside.new.octets.items _ c.append_all-self-inside.ensures.spare c.append_all-self-inside.ensures.bits
+invariant_of-self-2 g c = padded_by c.append_reader-self-inside.ensures
 
 pub returns-clause-ok : goal.returns-clause-ok
 returns-clause-ok g c =
     let same = rw c.unwrap.ensures at c.clone.ensures.cases in
-    filled_by c.append_all-self-inside.result c.append_all-self-inside.new.octets.items _ c.append_all-self-inside.ensures.bits
+    filled_by c.append_reader-self-inside.ensures
     ∙ ap₂ (λ bs cs. bs ++ cs) (ap (λ os. filled c.self.inside.spare os) c.reserve.ensures.items ∙ c.self.view_is) same

@@ -1,10 +1,9 @@
-use Rattle.std.proofs.Common.{◌∙◌, ◌/◌, sym, ap, length, take, refl, arith}
-use Rattle.per_bits.proofs.Readers.{aligned, left_length}
+use Rattle.std.proofs.Common.{◌≡◌, ◌∙◌, ◌*◌, length, arith}
+use Rattle.std.proofs.lemmas.List.{take_all}
+use Rattle.per_bits.proofs.Readers.{left_is}
 use Rattle.per_bits.proofs.BitReader.aligned_octets.Goals as goal
 
-pub returns-clause-octets : goal.returns-clause-octets
-returns-clause-octets c = (aligned c.self.inside.skip c.self.inside.len c.self.inside.octets.now (take (c.self.inside.len / 8) c.self.inside.octets.now) c.args.self.now (omega arith) c.self.invariant.enough c.self.view_is refl).0
-
-pub returns-clause-count : goal.returns-clause-count
-returns-clause-count c = (aligned c.self.inside.skip c.self.inside.len c.self.inside.octets.now (take (c.self.inside.len / 8) c.self.inside.octets.now) c.args.self.now (omega arith) c.self.invariant.enough c.self.view_is refl).1
-    ∙ ap (λ n. n / 8) (sym (ap length (sym c.self.view_is) ∙ left_length c.self.inside.skip c.self.inside.len c.self.inside.octets.now c.self.invariant.enough))
+pub returns : goal.returns
+returns c =
+    let left : length c.args.self.now ≡ c.self.inside.len = left_is c.self.inside.skip c.self.inside.len c.self.inside.octets.now c.args.self.now c.self.view_is c.self.invariant in
+    c.in_ok-octets.ensures.octets ∙ take_all (8 * length c.in_ok-octets.octets.now) c.args.self.now (omega (arith, c.in_ok-octets.ensures.count))

@@ -1,5 +1,0 @@
-use Rattle.per_bits.proofs.Joins.{part_is}
-use Rattle.per_bits.proofs.part.Goals as goal
-
-pub returns-clause-bits : goal.returns-clause-bits
-returns-clause-bits c = part_is c.args.skip c.args.count c.load.result c.low.result c.args.octets.now c.requires.within.few c.requires.few c.requires.within.enough c.load.ensures c.low.ensures

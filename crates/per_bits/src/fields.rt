@@ -1,0 +1,160 @@
+//! Fields of bits in octets. A field is a number of bits that one word reads or writes, at whichever bit of an octet it
+//! begins; a wide field has up to 128 bits, and moves as several fields.
+//!
+//! Octets that are written to have spare bits: fewer than eight at the end of the last octet, which are zeros and no bits
+//! of what is kept. Each function that writes answers how many bits are spare then.
+
+ghost use Rattle.std.specs.Prelude.{◌≡◌, ◌+◌, ◌*◌, ◌%◌, ◌^◌, ◌<◌, ◌≤◌, ◌++◌, length, take, drop, vec_len, vec_capacity};
+ghost use Rattle.rasn_types.specs.Bits.{to_bits, number_of, unpack};
+ghost use Rattle.per_bits.specs.Octets.{word_size, first_word, filled, AreFilledBy, ArePadded, AreWithin};
+
+use rasn_types::bit_string::note_octets;
+use std::alloc::Allocator;
+
+/// The most bits of a field: those of a word less an octet, since up to seven other bits stand in its first octet.
+pub(crate) const FIELD_BITS: u32 = 56;
+
+/// The first 64 bits of the octets, the first the highest; zeros behind them where there are fewer.
+fn load_word(octets: &[u8]) -> u64
+    ensures { to_bits word_size result ≡ first_word octets.now }
+{
+    match octets.first_chunk::<8>() {
+        Some(chunk) => u64::from_be_bytes(*chunk),
+        None => load_short_word(octets),
+    }
+}
+
+/// The bits of fewer than eight octets, the first the highest, zeros behind them.
+fn load_short_word(octets: &[u8]) -> u64
+    requires { length octets.now < 8 }
+    ensures { to_bits word_size result ≡ first_word octets.now }
+{
+    let mut word: u64 = 0;
+    for octet in octets {
+        word = word << 8 | u64::from(*octet);
+    }
+    word << 8 << (56 - 8 * octets.len())
+}
+
+/// The low `width` bits of a word.
+fn low_bits(word: u64, width: u32) -> u64
+    requires { width < 64 }
+    ensures { result ≡ word % 2 ^ width }
+{
+    word & ((1 << width) - 1)
+}
+
+/// As many low bits of a number as a field has at most.
+pub(crate) fn low_field(value: u128) -> u64
+    ensures { result ≡ value % 2 ^ FIELD_BITS }
+{
+    (value & ((1 << FIELD_BITS) - 1)) as u64
+}
+
+/// The number that `count` bits of the octets mean, behind `skip` others.
+pub(crate) fn read_field(octets: &[u8], skip: u32, count: u32) -> u64
+    requires within { AreWithin skip count octets.now }
+    requires few { count ≤ FIELD_BITS }
+    ensures bits { to_bits count result ≡ take count (drop skip (unpack octets.now)) }
+    ensures below { result < 2 ^ count }
+{
+    low_bits(load_word(octets) >> 1 >> (63 - skip - count), count)
+}
+
+/// The number that `count` bits of the octets mean, behind `skip` others, more of them than a field may have.
+pub(crate) fn read_wide_field(octets: &[u8], skip: u32, count: u32) -> u128
+    requires within { AreWithin skip count octets.now }
+    requires few { count ≤ 128 }
+    ensures { result ≡ number_of (take count (drop skip (unpack octets.now))) }
+{
+    let mut rest = octets;
+    let mut gone = skip;
+    let mut left = count;
+    let mut value: u128 = 0;
+    while left > 0 {
+        let width = left.min(FIELD_BITS);
+        value = value << width | u128::from(read_field(rest, gone, width));
+        let place = gone + width;
+        rest = &rest[(place / 8) as usize..];
+        gone = place % 8;
+        left -= width;
+    }
+    value
+}
+
+/// Appends the low `width` bits of `value` to octets of which the last `spare` bits are spare, and answers how many are
+/// spare then. A word of eight octets is written behind the last full octet, and cut back to those in use.
+#[inline(never)]
+pub(crate) fn append_field<A: Allocator>(
+    octets: &mut Vec<u8, A>,
+    spare: u32,
+    value: u64,
+    width: u32,
+) -> u32
+    requires spare { spare < 8 }
+    requires there { spare ≤ 8 * length octets.old.items }
+    requires few { width ≤ FIELD_BITS }
+    requires room { vec_len octets.old + 8 ≤ vec_capacity octets.old }
+    ensures bits { AreFilledBy (filled spare octets.old.items ++ to_bits width value) result octets.new.items }
+    ensures room { vec_capacity octets.old ≤ vec_capacity octets.new }
+{
+    let mut used = 0;
+    let mut bits = 0;
+    if spare > 0 {
+        if let Some(last) = octets.pop() {
+            used = 8 - spare;
+            bits = u64::from(last >> spare);
+        }
+    }
+    let all = used + width;
+    let word = (bits << width | low_bits(value, width)) << 1 << (63 - all);
+    let count = all.div_ceil(8);
+    let len = octets.len() + count as usize;
+    octets.extend_from_slice(&word.to_be_bytes()).unwrap();
+    octets.truncate(len);
+    8 * count - all
+}
+
+/// Puts the low `width` bits of `value` into the last octet, of which the last `spare` bits are spare, and answers how
+/// many are spare then.
+pub(crate) fn fill_last_octet<A: Allocator>(
+    octets: &mut Vec<u8, A>,
+    spare: u32,
+    value: u64,
+    width: u32,
+) -> u32
+    requires some { 0 < spare }
+    requires spare { spare < 8 }
+    requires there { 0 < length octets.old.items }
+    requires few { width ≤ spare }
+    ensures { AreFilledBy (filled spare octets.old.items ++ to_bits width value) result octets.new.items }
+{
+    note_octets(octets.as_slice());
+    let place = octets.len() - 1;
+    let used = u64::from(octets[place] >> spare);
+    let left = spare - width;
+    octets[place] = ((used << width | low_bits(value, width)) << left) as u8;
+    left
+}
+
+/// Appends as `append_field` does, of a number that may be wider.
+pub(crate) fn append_wide_field<A: Allocator>(
+    octets: &mut Vec<u8, A>,
+    spare: u32,
+    value: u128,
+    width: u32,
+) -> u32
+    requires padded { ArePadded spare octets.old.items }
+    requires few { width ≤ 128 }
+    requires room { vec_len octets.old + 25 ≤ vec_capacity octets.old }
+    ensures { AreFilledBy (filled spare octets.old.items ++ to_bits width value) result octets.new.items }
+{
+    let mut unused = spare;
+    let mut left = width;
+    while left > 0 {
+        let count = left.min(FIELD_BITS);
+        left -= count;
+        unused = append_field(octets, unused, low_field(value >> left), count);
+    }
+    unused
+}
