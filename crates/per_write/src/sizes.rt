@@ -9,7 +9,7 @@ ghost use Rattle.per_core.specs.Counts.{constrained_whole, counted, counted_in, 
 ghost use Rattle.per_core.specs.Writers.{just, padding, ◌▹◌};
 ghost use Rattle.per_write.specs.Faults.{IsMemory};
 ghost use Rattle.per_write.specs.Items.{IsMemoryOrItem, RefusesCounted};
-ghost use Rattle.per_write.specs.Rows.{one_fragment};
+ghost use Rattle.per_write.specs.Fragments.{one_fragment};
 ghost use Rattle.per_write.specs.State.{Puts};
 
 use crate::Writer;
