@@ -5,9 +5,9 @@ use Rattle.rasn_types.specs.Variants
 use Rattle.rasn_types.specs.Variants.{unaligned}
 use Rattle.rasn_types.specs.Values.{Value}
 use Rattle.rasn_constraints.specs.Bounds.{unbounded, between, Size, any_size}
-use Rattle.rasn_schema.specs.Schemas.{Schema, listed}
+use Rattle.rasn_schema.specs.Schemas.{Schema}
 use Rattle.rasn_schema.specs.Forms.{always}
-use Rattle.rasn_schema.specs.Records.{record_at, no_additions}
+use Rattle.rasn_schema.specs.Components.{lower_bound, upper_bound, sequence_of}
 use Rattle.per_samples_a.specs.Fours.{four}
 use Rattle.per_samples_a.specs.Sevens.{seven}
 use Rattle.rasn_per.specs.Complete.{AreBytes, HasNoBytes, AreReadAs, AreUnread}
