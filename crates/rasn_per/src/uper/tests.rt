@@ -1,15 +1,15 @@
 //! What no clause says: that calls succeed where there is memory, that want of it is named so, and which refusal is
 //! named where several would do.
 
-ghost use Rattle.std.specs.Prelude.{pos, negsuc};
+ghost use Rattle.std.specs.Prelude.{refl, pos, negsuc};
 ghost use Rattle.rasn_types.specs.Values.{whole};
+ghost use Rattle.rasn_types.specs.declared.types.TheConstants.Tag.{INTEGER};
 ghost use Rattle.rasn_constraints.specs.Bounds.{between};
 ghost use Rattle.rasn_constraints.specs.Ranges.{i128_range, no_constraints, unsigned_range, within};
 ghost use Rattle.rasn_schema.specs.Forms.{always, number_schema, simple_unfolds};
 
 use super::*;
 use linked_list_allocator::LocalHeap;
-use per_enc::EncodeErrorKind;
 use rasn_codec::codec::{Decoder as _, Encoder as _};
 use rasn_schema::constraints::{Bounded, Constraint, Extensible};
 use rasn_schema::schema::AsnType;
@@ -112,6 +112,8 @@ struct Speed {
 impl AsnType for Speed {
     const TAG: Tag = Tag::INTEGER;
 
+    ghost TAG = { INTEGER };
+
     const CONSTRAINTS: Constraints = Constraints::NONE;
 
     ghost CONSTRAINTS = { no_constraints };
@@ -121,6 +123,8 @@ impl AsnType for Speed {
     ghost value = { λ s. whole s.metres_a_second };
 
     ghost unfolds = { λ c. simple_unfolds (number_schema c i128_range) tt };
+
+    ghost tag_fits = { λ _ _. refl };
 }
 
 impl Encode for Speed {
@@ -175,6 +179,8 @@ const MINUS_ONE_TO_254: &[Constraint] = &[Constraint::Value(Extensible {
 impl AsnType for MinusOneTo254 {
     const TAG: Tag = Tag::INTEGER;
 
+    ghost TAG = { INTEGER };
+
     const CONSTRAINTS: Constraints = Constraints(MINUS_ONE_TO_254);
 
     ghost CONSTRAINTS = { within (between (negsuc 0) (pos 254)) };
@@ -184,6 +190,8 @@ impl AsnType for MinusOneTo254 {
     ghost value = { λ x. whole (pos x.0) };
 
     ghost unfolds = { λ c. simple_unfolds (number_schema c (unsigned_range 8)) tt };
+
+    ghost tag_fits = { λ _ _. refl };
 }
 
 impl Decode for MinusOneTo254 {
