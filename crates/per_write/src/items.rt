@@ -11,6 +11,7 @@ ghost use Rattle.per_write.specs.declared.error.EncodeErrorKind.{EncodeErrorKind
 
 use crate::Writer;
 use crate::error::{EncodeError, EncodeErrorKind};
+use per_bits::BitReader;
 use rasn_strings::alphabet::CharacterAlphabet;
 use rasn_strings::strings::StaticPermittedAlphabet;
 use rasn_types::bit_string::BitString;
@@ -103,10 +104,10 @@ impl Items for BitString {
         start: usize,
         end: usize,
     ) -> Result<(), EncodeError> {
-        for index in start..end {
-            writer.put_bit(self.get(index).unwrap())?;
-        }
-        Ok(())
+        let mut rest = BitReader::from_octets(self.as_octets());
+        rest.take(start as u128).unwrap();
+        let bits = rest.take((end - start) as u128).unwrap();
+        writer.put_reader(&bits)
     }
 }
 

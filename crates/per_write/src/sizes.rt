@@ -9,7 +9,7 @@ ghost use Rattle.per_core.specs.Counts.{constrained_whole, counted, counted_in, 
 ghost use Rattle.per_core.specs.Writers.{just, padding, ◌▹◌};
 ghost use Rattle.per_write.specs.Faults.{IsMemory};
 ghost use Rattle.per_write.specs.Items.{IsMemoryOrItem, RefusesCounted};
-ghost use Rattle.per_write.specs.Rows.{one_fragment};
+ghost use Rattle.per_write.specs.Fragments.{one_fragment};
 ghost use Rattle.per_write.specs.State.{Puts};
 
 use crate::Writer;
@@ -93,7 +93,12 @@ impl<A: Allocator + Clone> Writer<A> {
     }
 
     /// Writes the items from an index on and before another, behind one length.
-    fn put_fragment<I: Items>(&mut self, items: &I, start: usize, end: usize) -> Result<(), EncodeError>
+    fn put_fragment<I: Items>(
+        &mut self,
+        items: &I,
+        start: usize,
+        end: usize,
+    ) -> Result<(), EncodeError>
         requires begun { self.old.failed ≡ false }
         requires ordered { start ≤ end }
         requires within { (a : Variant) → end ≤ length (I.writers a items.now) }
@@ -128,7 +133,14 @@ impl<A: Allocator + Clone> Writer<A> {
         ensures { let a = variant_of self.old.codec in
             Puts IsMemory (constrained_whole a (upper - lower + 1) (count - lower) ▹ padding_if on_octet a) self.old result self.new }
     {
-        let pushed = push_constrained_length(&mut self.bits, self.codec, lower, upper, count, on_octet);
+        let pushed = push_constrained_length(
+            &mut self.bits,
+            self.codec,
+            lower,
+            upper,
+            count,
+            on_octet,
+        );
         self.unless_out_of_memory(pushed)
     }
 }
