@@ -1,16 +1,16 @@
 -- Rows of items of as many bits each, read one after the other.
-use Rattle.std.proofs.Common.{zero, ◌/◌, ap₂, take, drop, replicate, false, length-take, length-drop, Vec, Global, ◌≡◌, ◌<◌, ◌≤◌, ℕ, suc, ◌+◌, ◌*◌, List, [], ◌∷◌, ◌++◌, length, refl, sym, ◌∙◌, ap, subst, arith, append_assoc, length-append}
+use Rattle.std.proofs.Common.{Bool, true, false, map, zero, ◌/◌, ap₂, take, drop, replicate, length-take, length-drop, Vec, Global, ◌≡◌, ◌<◌, ◌≤◌, ℕ, suc, ◌+◌, ◌*◌, List, [], ◌∷◌, ◌++◌, length, refl, sym, ◌∙◌, ap, subst, arith, append_assoc, length-append}
 use Rattle.std.proofs.Math.Nat.{mul-suc, mul-le-mul_left}
-use Rattle.std.proofs.lemmas.List.{take_all, take-append-drop, take-append-le, append-nil}
+use Rattle.std.proofs.lemmas.List.{take_all, take-append-drop, take-append-le, append-nil, length-map, map-append}
 use Rattle.rasn_types.specs.Bits.{Bits, number_of, pack}
 use Rattle.rasn_types.specs.Packed.{packed}
 use Rattle.rasn_types.proofs.Octets.{length-pack}
 use Rattle.per_core.specs.Writers.{after}
-use Rattle.per_core.specs.Spellings.{Field}
+use Rattle.per_core.specs.Spellings.{Field, Spelling}
 use Rattle.per_core.specs.Basic.{OneByOne}
 use Rattle.per_core.specs.Took.{place, Took}
 use Rattle.per_core.proofs.Took.{took_then, then_took, took_nothing, nothing_took}
-use Rattle.per_read.specs.Items.{Adds, TookItems}
+use Rattle.per_read.specs.Items.{Adds, TookItems, bit_code}
 
 module _ (w : ℕ) where
   -- items are spelled alike from every position
@@ -131,3 +131,28 @@ octets_gathered before items n row l e = record {
   added = record { behind = λ start xs h. e ∙ ap₂ (λ os qs. os ++ qs) h (ap (λ (m : ℕ). pack m row) (let i : (length row + 7) / 8 ≡ n = omega arith in i)) };
   took = row_of_octets n row l;
 }
+
+-- bits in a row
+bit_means : (b : Bool) → number_of (b ∷ []) ≡ bit_code b
+bit_means true = refl
+bit_means false = refl
+
+pub row_of_bits : (row : Bits) → Took (OneByOne (Field 1) (map bit_code row)) row []
+row_of_bits [] = took_nothing []
+row_of_bits (b ∷ bs) = took_then {f = Field 1 (bit_code b)} {g = OneByOne (Field 1) (map bit_code bs)} {s = b ∷ bs} {m = bs} {t = []} (record {
+  front = b ∷ [];
+  joins = refl;
+  spelled = record { wide = refl; means = bit_means b };
+}) (row_of_bits bs)
+
+pub bits_gathered : (before items : Bits) (n : ℕ) (row : Bits) → length row ≡ 1 * n → items ≡ before ++ row → TookItems (λ _ bits codes. map bit_code bits ≡ codes) (OneByOne (Field 1)) n before items row []
+bits_gathered before items n row l e = record {
+  codes = map bit_code row;
+  count = length-map row bit_code ∙ omega arith;
+  added = record { behind = λ start xs h. ap (map bit_code) e ∙ map-append bit_code before row ∙ ap (λ cs. cs ++ map bit_code row) h };
+  took = row_of_bits row;
+}
+
+-- bits that were appended to none are as many as were counted
+pub bits_counted : {form : List ℕ → Spelling} {n : ℕ} {before after s t : Bits} → TookItems (λ _ bits codes. map bit_code bits ≡ codes) form n before after s t → before ≡ [] → length after ≡ n
+bits_counted {after = after} h e = sym (length-map after bit_code) ∙ ap length (h.added.behind [] [] (ap (map bit_code) e)) ∙ h.count

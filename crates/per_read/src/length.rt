@@ -72,7 +72,10 @@ fn take_count(bits: &mut BitReader<'_>) -> Result<Length, DecodeErrorKind>
 }
 
 /// Takes an unconstrained length, with the padding before it.
-pub fn take_unconstrained_length(bits: &mut BitReader<'_>, codec: Codec) -> Result<Length, DecodeErrorKind>
+pub fn take_unconstrained_length(
+    bits: &mut BitReader<'_>,
+    codec: Codec,
+) -> Result<Length, DecodeErrorKind>
     ensures ok { IfOk result (λ l. Took (LengthOf (settings codec) l) bits.old bits.new) }
     ensures err { IfErr result (Refused ((l : Length) (t : Bits) → Took (LengthOf (settings codec) l) bits.old t → ⊥)) }
 {

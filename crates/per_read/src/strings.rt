@@ -1,6 +1,6 @@
 //! OCTET STRING, BIT STRING and the character strings (X.691 16, 17, 30).
 
-ghost use Rattle.std.specs.Prelude.{◌≡◌, ℕ, length, map, true, IfOk, IfErr};
+ghost use Rattle.std.specs.Prelude.{◌≡◌, ℕ, map, true, IfOk, IfErr};
 ghost use Rattle.std.specs.String.{string_bytes};
 ghost use Rattle.rasn_types.specs.Alphabets.{has, char_width};
 ghost use Rattle.rasn_types.specs.Contents.{utf8, is_text};
@@ -18,7 +18,7 @@ ghost use Rattle.per_core.specs.declared.items.Item.TheVariants.{Octet, Bit, Cha
 use crate::error::DecodeErrorKind;
 use crate::items::{Collector, take_octets};
 use crate::sizes::take_items;
-use per_bits::BitReader;
+use per_bits::{BitList, BitReader};
 use per_core::items::Item;
 use rasn_schema::constraints::Constraints;
 use rasn_schema::strings::alphabet_under;
@@ -45,19 +45,24 @@ pub fn take_octet_string(
     Ok(octets)
 }
 
-impl Collector for BitString {
+impl Collector for BitList<Global> {
     ghost holds = { λ _ bits codes. map bit_code bits ≡ codes };
 
     ghost item = { λ _. Bit };
 
-    ghost count = { length };
+    ghost count = { λ _. 0 };
 
     fn item(&self) -> Item {
         Item::Bit
     }
 
     fn push(&mut self, code: u32) -> Result<(), AllocError> {
-        BitString::push(self, code == 1)
+        BitList::push(self, code == 1)
+    }
+
+    fn push_items(&mut self, row: BitReader<'_>, _many: usize) -> Result<(), AllocError> {
+        self.push_reader(&row)?;
+        Ok(())
     }
 }
 
@@ -72,9 +77,9 @@ pub fn take_bit_string(
     ensures err { IfErr result (Faulty (IsOfItems (settings codec) (size_of constraints.now) (is_size_marked constraints.now) Bit bits.old)
         (NoneIn (Lengthy (settings codec) (size_of constraints.now) (is_size_marked constraints.now) bit_items bit) bits.old)) }
 {
-    let mut string = BitString::new(alloc);
-    take_items(bits, codec, constraints.size(), &mut string)?;
-    Ok(string)
+    let mut list = BitList::new(alloc);
+    let count = take_items(bits, codec, constraints.size(), &mut list)?;
+    Ok(BitString::from_vec(list.into_octets(), count))
 }
 
 /// Characters as they are read.

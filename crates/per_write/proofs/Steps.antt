@@ -1,7 +1,7 @@
 -- Items that are written one by one.
-use Rattle.std.specs.Prelude.{IsSome, slice_get, slice_range}
-use Rattle.std.proofs.Common.{◌≡◌, refl, sym, ap, ap₂, ◌∙◌, subst, Bool, ℕ, zero, suc, ◌+◌, ◌-◌, ◌<◌, List, [], ◌∷◌, length, map, take, drop, arith, Option, Some, None}
-use Rattle.std.proofs.lemmas.List.{drop-map}
+use Rattle.std.specs.Prelude.{Result, Ok, Err, IsOk, OnErr, IsSome, slice_get, slice_range}
+use Rattle.std.proofs.Common.{◌≡◌, refl, sym, ap, ap₂, ◌∙◌, subst, Bool, ℕ, zero, suc, ◌+◌, ◌-◌, ◌<◌, ◌≤◌, List, [], ◌∷◌, ◌++◌, length, length-take, map, take, drop, arith, Option, Some, None}
+use Rattle.std.proofs.lemmas.List.{drop-map, take-map, take_at, drop_at, drop-take, take-take}
 use Rattle.std.proofs.lemmas.Option.{get_or_from_slice_get, slice_get_within}
 use Rattle.std.proofs.Math.Seq.{drop-cons}
 use Rattle.rasn_types.specs.Alphabets.{Alphabet, char_code, char_width, index_of, keep_own}
@@ -9,7 +9,7 @@ use Rattle.rasn_types.specs.Bits.{Bits, to_bits}
 use Rattle.rasn_types.specs.Variants.{Variant}
 use Rattle.per_core.specs.Canon.{char_writers, coded}
 use Rattle.per_core.specs.Counts.{bit_writers}
-use Rattle.per_core.specs.Writers.{Writer, one_by_one, just}
+use Rattle.per_core.specs.Writers.{Writer, after, join, one_by_one, just}
 use Rattle.per_write.specs.Faults.{HasForeign}
 use Rattle.per_write.specs.Items.{HasRefused, refused_behind, refused_here}
 use Rattle.per_write.specs.State.{State, Wrote}
@@ -77,3 +77,29 @@ length-char_writers v alphabet (c ∷ cs) = ap suc (length-char_writers v alphab
 pub length-bit_writers : (bs : Bits) → length (bit_writers bs) ≡ length bs
 length-bit_writers [] = refl
 length-bit_writers (b ∷ bs) = ap suc (length-bit_writers bs)
+
+-- bits one by one
+pub bits_one_by_one : (bs : Bits) (p : ℕ) → one_by_one (bit_writers bs) p ≡ Some bs
+bits_one_by_one [] p = refl
+bits_one_by_one (b ∷ bs) p = ap (join (b ∷ [])) (bits_one_by_one bs (after p (b ∷ [])))
+
+-- the bits between two places
+pub bits_between : (bs : Bits) (start end : ℕ) → slice_range (bit_writers bs) start end ≡ bit_writers (slice_range bs start end)
+bits_between bs start end = ap (take (end - start)) (drop-map _ start bs) ∙ take-map _ (end - start) (drop start bs)
+
+-- what is taken of octets behind `start` bits is what stands there of the bits that the octets hold
+pub taken_between : (bs all front rest these others : Bits) (start end : ℕ) → take (length bs) all ≡ bs → end ≤ length bs → start ≤ end → all ≡ front ++ rest → length front ≡ start →
+    rest ≡ these ++ others → length these ≡ end - start → these ≡ slice_range bs start end
+taken_between bs all front rest these others start end h l o e f i k =
+    sym (take_at these others (end - start) k) ∙ ap (take (end - start)) (sym i ∙ sym (ap (drop start) e ∙ drop_at front rest start f))
+    ∙ sym (ap (λ cs. take (end - start) (drop start cs)) (sym h) ∙ ap (take (end - start)) (ap (λ (n : ℕ). drop start (take n all)) (let n : length bs ≡ start + (length bs - start) = omega arith in n) ∙ drop-take start (length bs - start) all)
+    ∙ take-take (end - start) (length bs - start) (drop start all) (omega arith))
+
+-- a list is as long as its front
+pub longer : (bs all : Bits) → take (length bs) all ≡ bs → length bs ≤ length all
+longer bs all h = let l = sym (ap length h) ∙ length-take (length bs) all in omega arith
+
+-- a call is Ok where the reason to refuse isn't there
+pub ok_unless : {A E P : Type 0} (r : Result A E) → OnErr r P → ¬ P → IsOk r
+ok_unless (Ok x) h n = refl
+ok_unless (Err e) h n = absurd (n h)

@@ -7,6 +7,7 @@ ghost use Rattle.per_write.specs.Items.{CountedItems, PutsItems, items_between};
 
 use crate::Writer;
 use crate::error::{EncodeError, EncodeErrorKind};
+use per_bits::BitReader;
 use per_core::items::Item;
 use rasn_strings::alphabet::CharacterAlphabet;
 use rasn_strings::strings::StaticPermittedAlphabet;
@@ -86,10 +87,10 @@ impl Items for BitString {
         start: usize,
         end: usize,
     ) -> Result<(), EncodeError> {
-        for index in start..end {
-            writer.put_bit(self.get(index).unwrap())?;
-        }
-        Ok(())
+        let mut rest = BitReader::from_octets(self.as_octets());
+        rest.take(start as u128).unwrap();
+        let bits = rest.take((end - start) as u128).unwrap();
+        writer.put_reader(&bits)
     }
 }
 

@@ -21,7 +21,7 @@ mod strings;
 
 use error::{EncodeError, EncodeErrorKind};
 use items::Octets;
-use per_bits::BitList;
+use per_bits::{BitList, BitReader};
 use rasn_types::types::Codec;
 use std::alloc::{AllocError, Allocator};
 use std::marker::Model;
@@ -137,6 +137,15 @@ impl<A: Allocator + Clone> Writer<A> {
         ensures { Puts IsMemory (just (to_bits width number)) self.old result self.new }
     {
         let pushed = self.bits.push_bits(number, width);
+        self.unless_out_of_memory(pushed)
+    }
+
+    /// Writes the bits that a reader has left.
+    fn put_reader(&mut self, reader: &BitReader<'_>) -> Result<(), EncodeError>
+        requires { self.old.failed ≡ false }
+        ensures { Puts IsMemory (just reader.now) self.old result self.new }
+    {
+        let pushed = self.bits.push_reader(reader);
         self.unless_out_of_memory(pushed)
     }
 
