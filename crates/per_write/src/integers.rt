@@ -82,7 +82,8 @@ impl<A: Allocator + Clone> Writer<A> {
         value: &I,
     ) -> Result<(), EncodeError>
         requires { self.old.failed ≡ false }
-        ensures { Writes encoder_rules (stated_number stated I.range) (whole (I.number value.now)) self.old result self.new }
+        ensures { Writes encoder_rules (stated_number stated I.range)
+            (whole (I.number value.now)) self.old result self.new }
     {
         let bounds = stated.constraint;
         let number = value.to_i128();

@@ -39,7 +39,8 @@ pub(crate) fn push_constrained_length<A: Allocator>(
 ) -> Result<(), AllocError>
     requires lower { lower ≤ count }
     requires upper { count ≤ upper }
-    ensures { OnOk result (Appends bits.old (constrained_length (variant_of codec) lower upper count on_octet) bits.new) }
+    ensures { let a = variant_of codec in
+        OnOk result (Appends bits.old (constrained_length a lower upper count on_octet) bits.new) }
 {
     push_constrained_whole(
         bits,

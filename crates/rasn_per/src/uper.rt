@@ -31,9 +31,13 @@ pub fn encode<T: Encode, A: Allocator + Clone>(
     alloc: A,
     value: &T,
 ) -> Result<Vec<u8, A>, EncodeError>
-    ensures ok { IfOk result (λ octets. AreBytes unaligned (T.schema T.CONSTRAINTS) (T.levels value.now) (T.value value.now) octets.items) }
-    ensures err { IfErr result (λ e. e.kind ≢ no_room_to_write → HasNoBytes unaligned (T.schema T.CONSTRAINTS) (T.levels value.now) (T.value value.now)) }
-    ensures kind { IfErr result (λ e. e.kind ≢ no_room_to_write → AtDepths (T.schema T.CONSTRAINTS) (T.levels value.now) (λ s. IsInValue e.kind s (normal s (T.value value.now)))) }
+    ensures ok { IfOk result (λ octets.
+        AreBytes unaligned (T.schema T.CONSTRAINTS) (T.levels value.now) (T.value value.now) octets.items) }
+    ensures err { IfErr result (λ e. e.kind ≢ no_room_to_write →
+        HasNoBytes unaligned (T.schema T.CONSTRAINTS) (T.levels value.now) (T.value value.now)) }
+    ensures kind { IfErr result (λ e. e.kind ≢ no_room_to_write →
+        AtDepths (T.schema T.CONSTRAINTS) (T.levels value.now) (λ s.
+            IsInValue e.kind s (normal s (T.value value.now)))) }
     ensures variant { IfErr result (λ e. e.codec ≡ Uper) }
 {
     let mut encoder = Encoder::new(alloc, EncoderOptions::unaligned());
@@ -46,7 +50,8 @@ pub fn encode<T: Encode, A: Allocator + Clone>(
 /// Refuses with `OutOfMemory` where memory ran out, and else only octets that spell no value of the type.
 pub fn decode<T: Decode>(alloc: Global, octets: &[u8]) -> Result<T, DecodeError>
     ensures ok { IfOk result (λ value. AreReadAs unaligned (T.schema T.CONSTRAINTS) (T.value value) octets.now) }
-    ensures err { IfErr result (λ e. e.kind ≢ no_room_to_read → AreUnread unaligned (T.schema T.CONSTRAINTS) octets.now) }
+    ensures err { IfErr result (λ e. e.kind ≢ no_room_to_read →
+        AreUnread unaligned (T.schema T.CONSTRAINTS) octets.now) }
     ensures kind { IfErr result (λ e. IsInOctets unaligned (T.schema T.CONSTRAINTS) octets.now e.kind) }
     ensures variant { IfErr result (λ e. e.codec ≡ Uper) }
 {
@@ -60,9 +65,9 @@ pub fn decode<T: Decode>(alloc: Global, octets: &[u8]) -> Result<T, DecodeError>
     }
 }
 
-/// Whether constraints are lawful, for those that are made at run time: the bounds of the first value constraint and of the
-/// first size constraint are in order, and the former hold at most `i128::MAX` numbers where both are there. `encode` and
-/// `decode` take any constraints, with the encodings that their contracts name.
+/// Whether constraints are lawful, for those that are made at run time: the bounds of the first value constraint and of
+/// the first size constraint are in order, and the former hold at most `i128::MAX` numbers where both are there.
+/// `encode` and `decode` take any constraints, with the encodings that their contracts name.
 pub fn lawful(constraints: &Constraints) -> bool
     ensures { result ≡ are_lawful constraints.now }
 {
