@@ -33,15 +33,19 @@ impl<A: AsnType, B: AsnType> AsnType for Both<A, B> {
 
     ghost CONSTRAINTS = { no_constraints };
 
-    ghost schema = { λ _. record_at listed (both_parts (A.schema A.CONSTRAINTS) (B.schema B.CONSTRAINTS)) false no_additions };
+    ghost schema = { λ _.
+        record_at listed (both_parts (A.schema A.CONSTRAINTS) (B.schema B.CONSTRAINTS)) false no_additions };
 
     ghost value = { λ x. record_value (both_contents (A.value x.a) (B.value x.b)) [] };
 
     ghost levels = { λ x. suc (max (A.levels x.a) (max (B.levels x.b) 0)) };
 
-    ghost unfolds = { λ _. record_unfolds (part_unfolds (A.unfolds A.CONSTRAINTS) (part_unfolds (B.unfolds B.CONSTRAINTS) parts_unfold)) parts_unfold };
+    ghost unfolds = { λ _.
+        record_unfolds (part_unfolds (A.unfolds A.CONSTRAINTS) (part_unfolds (B.unfolds B.CONSTRAINTS) parts_unfold))
+        parts_unfold };
 
-    ghost tag_fits = { λ _. sequence_tag (both_parts (A.schema A.CONSTRAINTS) (B.schema B.CONSTRAINTS)) false no_additions };
+    ghost tag_fits = { λ _.
+        sequence_tag (both_parts (A.schema A.CONSTRAINTS) (B.schema B.CONSTRAINTS)) false no_additions };
 }
 
 /// The tags of the components (AUTOMATIC TAGS).

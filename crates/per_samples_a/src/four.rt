@@ -61,11 +61,19 @@ impl Record for Four {
     }
 }
 
-/// The components in turn: a bit, a number behind its count of octets, a bit, and in nine bits how far a number is above its
-/// bound; in APER the count, and the nine bits in two octets, stand on a boundary (X.691 11.5.7.3, 19.4).
+/// The components in turn: a bit, a number behind its count of octets, a bit, and in nine bits how far a number is above
+/// its bound; in APER the count, and the nine bits in two octets, stand on a boundary (X.691 11.5.7.3, 19.4).
 #[tactic(auto, unfolding(per_core::specs::Canon::bytes, rasn_schema::specs::Normal::normal))]
 pub fn four_is_its_components_in_turn()
-    ensures uper { let own = ⟦<Four as AsnType>⟧ in IsWrittenAs unaligned (own.schema own.CONSTRAINTS) own.levels own.value (record { a = true; b = pos 43554344223; c = false; d = negsuc 8 }) (0x82 ∷ 0x85 ∷ 0x12 ∷ 0x05 ∷ 0x46 ∷ 0x8f ∷ 0x80 ∷ 0x20 ∷ []) }
-    ensures aper { let own = ⟦<Four as AsnType>⟧ in IsWrittenAs aligned (own.schema own.CONSTRAINTS) own.levels own.value (record { a = true; b = pos 43554344223; c = false; d = negsuc 8 }) (0x80 ∷ 0x05 ∷ 0x0a ∷ 0x24 ∷ 0x0a ∷ 0x8d ∷ 0x1f ∷ 0x00 ∷ 0x00 ∷ 0x01 ∷ []) }
-    ensures greater { let own = ⟦<Four as AsnType>⟧ in IsUnwritten unaligned (own.schema own.CONSTRAINTS) own.levels own.value (record { a = true; b = pos 43554344223; c = false; d = pos 401 }) }
+    ensures uper { let own = ⟦<Four as AsnType>⟧ in
+        IsWrittenAs unaligned (own.schema own.CONSTRAINTS) own.levels own.value
+        (record { a = true; b = pos 43554344223; c = false; d = negsuc 8 })
+        (0x82 ∷ 0x85 ∷ 0x12 ∷ 0x05 ∷ 0x46 ∷ 0x8f ∷ 0x80 ∷ 0x20 ∷ []) }
+    ensures aper { let own = ⟦<Four as AsnType>⟧ in
+        IsWrittenAs aligned (own.schema own.CONSTRAINTS) own.levels own.value
+        (record { a = true; b = pos 43554344223; c = false; d = negsuc 8 })
+        (0x80 ∷ 0x05 ∷ 0x0a ∷ 0x24 ∷ 0x0a ∷ 0x8d ∷ 0x1f ∷ 0x00 ∷ 0x00 ∷ 0x01 ∷ []) }
+    ensures greater { let own = ⟦<Four as AsnType>⟧ in
+        IsUnwritten unaligned (own.schema own.CONSTRAINTS) own.levels own.value
+        (record { a = true; b = pos 43554344223; c = false; d = pos 401 }) }
 {}

@@ -100,7 +100,8 @@ impl Encode for Pair {
         encoder.encode_sequence::<Pair, _, _>(
             tag,
             |e: &mut E| -> Result<(), E::Error>
-                ensures law { AtParts pair_parts 0 (λ ps. WrittenParts E.rules ps (normals ps (pair_contents self.entry.now.a self.entry.now.b)) e.old result e.new) }
+                ensures law { AtParts pair_parts 0 (λ ps.
+                    WrittenParts E.rules ps (normals ps (pair_contents self.entry.now.a self.entry.now.b)) e.old result e.new) }
                 ensures kept { E.rules.codec e.new ≡ E.rules.codec e.old }
             {
                 self.a.encode_with_tag(e, A)?;
@@ -122,7 +123,8 @@ impl Decode for Pair {
             tag,
             None::<fn() -> Pair>,
             |d|
-                ensures law { AnswersParts D.rules (pair_parts (D.rules.levels d.old)) (λ x. pair_contents x.a x.b) d.old result d.new }
+                ensures law { AnswersParts D.rules (pair_parts (D.rules.levels d.old)) (λ x. pair_contents x.a x.b)
+                    d.old result d.new }
                 ensures kept { D.rules.codec d.new ≡ D.rules.codec d.old }
             {
                 let a = bool::decode_with_tag(d, A)?;

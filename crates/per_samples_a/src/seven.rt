@@ -55,10 +55,17 @@ impl Record for Seven {
     }
 }
 
-/// A number of one value takes no bits (X.691 11.5.4), and a complete encoding of no bits is a zero octet (X.691 11.1.3).
+/// A number of one value takes no bits (X.691 11.5.4), and a complete encoding of no bits is a zero octet
+/// (X.691 11.1.3).
 #[tactic(auto, unfolding(per_core::specs::Canon::bytes, rasn_schema::specs::Normal::normal))]
 pub fn seven_is_a_zero_octet()
-    ensures uper { let own = ⟦<Seven as AsnType>⟧ in IsWrittenAs unaligned (own.schema own.CONSTRAINTS) own.levels own.value (record { a = pos 7 }) (0x00 ∷ []) }
-    ensures aper { let own = ⟦<Seven as AsnType>⟧ in IsWrittenAs aligned (own.schema own.CONSTRAINTS) own.levels own.value (record { a = pos 7 }) (0x00 ∷ []) }
-    ensures greater { let own = ⟦<Seven as AsnType>⟧ in IsUnwritten unaligned (own.schema own.CONSTRAINTS) own.levels own.value (record { a = pos 8 }) }
+    ensures uper { let own = ⟦<Seven as AsnType>⟧ in
+        IsWrittenAs unaligned (own.schema own.CONSTRAINTS) own.levels own.value
+        (record { a = pos 7 }) (0x00 ∷ []) }
+    ensures aper { let own = ⟦<Seven as AsnType>⟧ in
+        IsWrittenAs aligned (own.schema own.CONSTRAINTS) own.levels own.value
+        (record { a = pos 7 }) (0x00 ∷ []) }
+    ensures greater { let own = ⟦<Seven as AsnType>⟧ in
+        IsUnwritten unaligned (own.schema own.CONSTRAINTS) own.levels own.value
+        (record { a = pos 8 }) }
 {}

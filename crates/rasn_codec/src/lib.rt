@@ -2,6 +2,7 @@
 #![tactic(auto)]
 
 pub mod codec;
+pub mod constrained;
 pub mod integers;
 pub mod octets;
 pub mod parts;

@@ -10,6 +10,7 @@ pub mod write;
 pub use rasn_codec::codec::{Decoder, Encoder};
 pub use rasn_codec::record::Record;
 pub use rasn_schema::components::Components;
+pub use rasn_schema::constrained::{Constrained, Limits};
 pub use rasn_schema::constraints::{Bounded, Constraint, Extensible};
 pub use rasn_schema::fields::{Field, Fields, Presence, TagTree};
 pub use rasn_schema::schema::{AsnType, Constraints};

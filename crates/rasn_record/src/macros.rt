@@ -16,8 +16,9 @@
 //! }
 //! ```
 //!
-//! `fields`, `bounds`, `encode_components` and `decode_components` are for authors, and so are `encode_each_component`
-//! and `decode_each_component`, by which a mistake is found. What the others write is part of these.
+//! `fields`, `bounds`, `constraints`, `encode_components` and `decode_components` are for authors, and so are
+//! `encode_each_component` and `decode_each_component`, by which a mistake is found. What the others write is part of
+//! these.
 
 /// The fields of a list of components, as `Fields`.
 #[macro_export]
@@ -34,12 +35,27 @@ macro_rules! bounds {
 }
 
 /// The constraints in brackets, as `&[Constraint]`: none; the bounds of a value (X.680 51.4); SIZE and the bounds of a
-/// size (X.680 51.5).
+/// size (X.680 51.5); FROM and a constant of characters (X.680 51.7), alone or before a size.
 #[macro_export]
 macro_rules! constraints {
     () => { &[] };
+    (FROM $alphabet:ident) => { &[$crate::permitted!($alphabet)] };
+    (FROM $alphabet:ident, SIZE $($bounds:tt)+) => {
+        &[$crate::permitted!($alphabet), $crate::Constraint::Size($crate::bounded!($($bounds)+))]
+    };
     (SIZE $($bounds:tt)+) => { &[$crate::Constraint::Size($crate::bounded!($($bounds)+))] };
     ($($bounds:tt)+) => { &[$crate::Constraint::Value($crate::bounded!($($bounds)+))] };
+}
+
+/// The permitted alphabet of a constant of characters, `&[u32]` in ascending order.
+#[macro_export]
+macro_rules! permitted {
+    ($alphabet:ident) => {
+        $crate::Constraint::PermittedAlphabet($crate::Extensible {
+            constraint: $alphabet,
+            extensible: false,
+        })
+    };
 }
 
 /// Bounds: `low..=high`, `low..` or `..=high`, each with `, ...` where they are extensible (X.680 52).

@@ -2,6 +2,7 @@
 #![tactic(auto)]
 
 pub mod components;
+pub mod constrained;
 pub mod fields;
 pub mod integers;
 pub mod octets;
