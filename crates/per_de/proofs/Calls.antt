@@ -1,15 +1,16 @@
 -- What each call reads, and why it refuses.
-use Rattle.std.proofs.Common.{◌≡◌, ◌⊎◌, inl, inr, ℕ, zero, suc, Bool, true, false, [], ◌∷◌, ◌++◌, refl, sym, ◌∙◌, ap, subst, arith, ℤ}
-use Rattle.std.specs.Prelude.{Result, Ok, Err, OnOk, OnErr, IfErr}
+use Rattle.std.proofs.Common.{◌≡◌, ◌⊎◌, inl, inr, ℕ, zero, suc, Bool, true, false, [], refl, sym, ◌∙◌, ap, subst, arith, ℤ}
+use Rattle.std.specs.Prelude.{Result, Ok, Err, OnOk, OnErr, IfOk, IfErr, IsErrAnd}
+use Rattle.std.proofs.lemmas.Result.{IfOk-weaker, IfErr-weaker}
 use Rattle.rasn_types.specs.Bits.{Bits}
 use Rattle.rasn_types.specs.Values.{Value, truth, nothing, whole}
 use Rattle.rasn_constraints.specs.Bounds.{Bounds}
 use Rattle.rasn_schema.specs.Schemas
 use Rattle.rasn_schema.specs.Schemas.{Schema, Parts, listed}
 use Rattle.rasn_schema.specs.Records.{record_at, no_additions}
-use Rattle.rasn_codec.specs.Calls.{Answers, Reads, Refuses, takes_none}
-use Rattle.per_core.specs.Spellings.{Settings}
-use Rattle.per_core.specs.Basic.{basic, basic_in, IsNumberOf}
+use Rattle.rasn_codec.specs.Calls.{Answers, Behaves, Reads, Refuses, freely_read, takes_none}
+use Rattle.per_core.specs.Spellings.{Settings, Spelling}
+use Rattle.per_core.specs.Basic.{basic, basic_in, bit, IsNumberOf}
 use Rattle.per_core.specs.Took.{Took}
 use Rattle.per_core.proofs.Took.{took_map}
 use Rattle.per_read.specs.Kinds.{Faulty, NoneIn}
@@ -17,9 +18,12 @@ use Rattle.per_read.specs.Numbers.{IsOfNumber}
 use Rattle.per_read.specs.declared.error.DecodeError.{DecodeError}
 use Rattle.per_read.specs.declared.error.DecodeErrorKind.{DecodeErrorKind}
 use Rattle.per_read.specs.declared.error.DecodeErrorKind.TheVariants.{AlreadyFailed, ExceedsMaxParseDepth, OutOfMemory}
+use Rattle.per_read.specs.Codecs.{settings}
+use Rattle.per_read.specs.State.{State as Taking}
+use Rattle.per_read.specs.Takes.{Reason, Takes}
 use Rattle.per_read.proofs.Refusals.{faulty_map}
-use Rattle.per_de.specs.State.{State, Spells, settings_of, with_bits}
-use Rattle.per_de.specs.Faults.{Fault, IsAt, IsOf, at_once, refusal}
+use Rattle.per_de.specs.State.{State, Spells, settings_of}
+use Rattle.per_de.specs.Faults.{Answered, Fault, IsAt, IsOf, at_once, refusal}
 use Rattle.per_de.specs.Rules.{decoder_rules}
 
 -- a refusal
@@ -50,14 +54,13 @@ faulty c s k e i (inl m) = inl (i ∙ ap (λ z. refusal z s) m)
 faulty c s k e i (inr h) = inr (refuses c s k e i h.0 h.1)
 
 -- BOOLEAN
-pub reads_truth : (a : Settings) (b : Bool) (s t : Bits) → s ≡ b ∷ t → Took (basic a Schemas.boolean (truth b)) s t
+pub reads_truth : (a : Settings) (b : Bool) {s t : Bits} → Took (bit b) s t → Took (basic a Schemas.boolean (truth b)) s t
 unfolding basic_in
-reads_truth a b s t e = record { front = b ∷ []; joins = e; spelled = record { of = b; is = refl; spelled = refl } }
+reads_truth a b h = took_map (λ p c i. record { of = b; is = refl; spelled = i }) h
 
-pub no_truth : (a : Settings) (s : Bits) → s ≡ [] → (v : Value) (t : Bits) → Took (basic a Schemas.boolean v) s t → ⊥
+pub no_truth : (a : Settings) {s : Bits} → NoneIn bit s → NoneIn (basic a Schemas.boolean) s
 unfolding basic_in
-no_truth a s e v t h =
-    let i : [] ≡ h.spelled.of ∷ t = sym e ∙ h.joins ∙ ap (λ z. z ++ t) h.spelled.spelled in cc
+no_truth a none v t h = none h.spelled.of t (record { front = h.front; joins = h.joins; spelled = h.spelled.spelled })
 
 -- NULL
 pub reads_nothing : (a : Settings) (s : Bits) → Took (basic a Schemas.null nothing) s s
@@ -98,12 +101,56 @@ unfolding basic_in
 too_deep s e parts zero h i = inr (refuses Schemas.cut s ExceedsMaxParseDepth e i tt (λ v t b. b.spelled))
 too_deep s e parts (suc n) h i = absurd (omega arith)
 
--- a call that took the front that spells a value
-pub took_value : {T : Type 0} (c : Schema) (value : T → Value) (s : State) (v : T) (t : State) → s.failed ≡ false → Took (basic (settings_of s) c (value v)) s.bits t.bits → t ≡ with_bits s t.bits
-    → Reads decoder_rules c value s (Ok v) t
-took_value c value s v t f k e = record { law = record { live = f; took = k; same = e }; behaves = record { again = λ h. absurd cc; fails = tt; kept = ap (λ z. z.codec) e } }
+-- a decoder around what it takes from
+abbrev pub around : Taking → Bool → ℕ → State
+around x f n = record { bits = x.bits; failed = f; levels = n; codec = x.codec }
 
--- a call that refused, after which the decoder has failed
-pub refused : {T : Type 0} (c : Schema) (value : T → Value) (s : State) (b : Bits) (n : ℕ) (e : DecodeError) (t : State) → s.failed ≡ false → t ≡ record { bits = b; failed = true; levels = n; codec = s.codec }
-    → (e ≡ refusal OutOfMemory s) ⊎ Refuses (Spells c) (Fault c) e s → Reads decoder_rules c value s (Err e) t
-refused c value s b n e t f h w = record { law = w; behaves = record { again = λ g. absurd cc; fails = ap (λ z. z.failed) h; kept = ap (λ z. z.codec) h } }
+went : {T : Type 0} (x y : Taking) (f : Bool) (n : ℕ) (t : State) → f ≡ false → y.codec ≡ x.codec → (taken : Result T DecodeErrorKind) (result : Result T DecodeError) → Answered taken (around y f n) result t
+    → Behaves (λ e s. e ≡ refusal AlreadyFailed s) (λ s. s.failed) (λ s. s.codec) (around x f n) result t
+went x y f n t live e (Ok v) result a = record { again = λ h. absurd cc; fails = subst (λ r. OnErr r (t.failed ≡ true)) (sym a.0) tt; kept = ap (λ s. s.codec) a.1 ∙ e }
+went x y f n t live e (Err k) result a = record { again = λ h. absurd cc; fails = subst (λ r. OnErr r (t.failed ≡ true)) (sym a.0) (ap (λ s. s.failed) a.1); kept = ap (λ s. s.codec) a.1 ∙ e }
+
+-- the law of such a call, where want of memory is told as it may be
+answered : {T : Type 0} (memory : DecodeError → State → Type 0) (c : Schema) (value : T → Value) (x y : Taking) (f : Bool) (n : ℕ) (t : State) → f ≡ false → y.codec ≡ x.codec
+    → (taken : Result T DecodeErrorKind) (result : Result T DecodeError) → Answered taken (around y f n) result t
+    → IfOk taken (λ v. Took (basic (settings x.codec) c (value v)) x.bits y.bits) → IfErr taken (λ k. memory (refusal k (around x f n)) (around x f n) ⊎ Refuses (Spells c) (Fault c) (refusal k (around x f n)) (around x f n))
+    → Answers memory (Fault c) (Spells c) value (around x f n) result t
+answered memory c value x y f n t live e (Ok v) result a ok err =
+    subst (λ r. Answers memory (Fault c) (Spells c) value (around x f n) r t) (sym a.0)
+    (subst (λ s. Spells c (around x f n) (value v) s) (sym a.1) (record { live = live; took = ok; same = ap (λ k. record { bits = y.bits; failed = f; levels = n; codec = k }) e }))
+answered memory c value x y f n t live e (Err k) result a ok err =
+    subst (λ r. Answers memory (Fault c) (Spells c) value (around x f n) r t) (sym a.0)
+    (subst (λ z. memory z (around x f n) ⊎ Refuses (Spells c) (Fault c) z (around x f n)) (sym (ap (λ z. record { kind = k; codec = z }) e)) err)
+
+-- A call that takes what a form spells, and its answer: where the form is that of a schema, and each kind says something of it, the call
+-- reads the schema.
+pub reads : {T X : Type 0} {why : Reason} {form : Settings → X → Spelling} {of : (X → Type 0) → T → Type 0} {x y : Taking} {f : Bool} {n : ℕ} {t : State} {taken : Result T DecodeErrorKind} {result : Result T DecodeError}
+    (c : Schema) (value : T → Value) → f ≡ false → ((v : T) → of (λ w. Took (form (settings x.codec) w) x.bits y.bits) v → Took (basic (settings x.codec) c (value v)) x.bits y.bits)
+    → Takes why form of x taken y → Answered taken (around y f n) result t
+    → ((k : DecodeErrorKind) → why (settings x.codec) x.bits (NoneIn (form (settings x.codec)) x.bits) k → Faulty (IsAt (settings x.codec) c x.bits) (NoneIn (basic (settings x.codec) c) x.bits) k)
+    → Reads decoder_rules c value (around x f n) result t
+reads {x = x} {y} {f} {n} {t} {taken} {result} c value live ok h a err = record {
+  law = answered (λ e s. e ≡ refusal OutOfMemory s) c value x y f n t live h.kept taken result a (IfOk-weaker taken _ _ ok h.ok) (IfErr-weaker taken _ _ (λ k i. faulty c (around x f n) k (refusal k (around x f n)) refl (err k i)) h.err);
+  behaves = went x y f n t live h.kept taken result a;
+}
+
+-- the same of a call that takes no memory
+pub reads_freely : {T X : Type 0} {why : Reason} {form : Settings → X → Spelling} {of : (X → Type 0) → T → Type 0} {x y : Taking} {f : Bool} {n : ℕ} {t : State} {taken : Result T DecodeErrorKind} {result : Result T DecodeError}
+    (c : Schema) (value : T → Value) → f ≡ false → ((v : T) → of (λ w. Took (form (settings x.codec) w) x.bits y.bits) v → Took (basic (settings x.codec) c (value v)) x.bits y.bits)
+    → Takes why form of x taken y → Answered taken (around y f n) result t
+    → ((k : DecodeErrorKind) → why (settings x.codec) x.bits (NoneIn (form (settings x.codec)) x.bits) k → IsAt (settings x.codec) c x.bits k × NoneIn (basic (settings x.codec) c) x.bits)
+    → Reads (freely_read decoder_rules) c value (around x f n) result t
+reads_freely {x = x} {y} {f} {n} {t} {taken} {result} c value live ok h a err = record {
+  law = answered takes_none c value x y f n t live h.kept taken result a (IfOk-weaker taken _ _ ok h.ok)
+      (IfErr-weaker taken _ _ (λ k i. let q = err k i in inr (refuses c (around x f n) k (refusal k (around x f n)) refl q.0 q.1)) h.err);
+  behaves = went x y f n t live h.kept taken result a;
+}
+
+-- an answer that is made of another, and an error that is handed on
+pub reads_ok : {T U : Type 0} {c : Schema} {value : T → Value} {made : U → Value} {s t : State} (v : T) (u : U) → made u ≡ value v → Reads decoder_rules c value s (Ok v) t → Reads decoder_rules c made s (Ok u) t
+reads_ok {c = c} {s = s} {t = t} v u e a = record { law = subst (λ z. Spells c s z t) (sym e) a.law; behaves = record { again = a.behaves.again; fails = tt; kept = a.behaves.kept } }
+
+pub reads_err : {T U : Type 0} {c : Schema} {value : T → Value} {made : U → Value} {s t : State} (e : DecodeError) (r : Result U DecodeError) → IsErrAnd r (λ f. f ≡ e) → Reads decoder_rules c value s (Err e) t → Reads decoder_rules c made s r t
+reads_err e (Ok v) h a = absurd h
+reads_err {c = c} {made = made} {s = s} {t = t} e (Err f) h a =
+    subst (λ z. Reads decoder_rules c made s (Err z) t) (sym h) (record { law = a.law; behaves = record { again = a.behaves.again; fails = a.behaves.fails; kept = a.behaves.kept } })

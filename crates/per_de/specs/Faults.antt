@@ -1,5 +1,5 @@
 -- The fault that a refusal names, where it stands.
-use Rattle.std.specs.Prelude.{◌≡◌, true}
+use Rattle.std.specs.Prelude.{◌≡◌, true, Result, Ok, Err}
 use Rattle.rasn_types.specs.Bits.{Bits}
 use Rattle.rasn_types.specs.Values.{Value}
 use Rattle.rasn_schema.specs.Schemas.{TagTree, required, Schema, Parts, part}
@@ -58,3 +58,8 @@ pub record Fault (c : Schema) (e : DecodeError) (s : State) : Type 0 where
 -- the refusal of a kind
 abbrev pub refusal : DecodeErrorKind → State → DecodeError
 refusal k s = record { kind = k; codec = s.codec }
+
+-- A decoder's answer to what was taken: the value; or the refusal of its kind, after which the decoder has failed.
+abbrev pub Answered : {T : Type 0} → Result T DecodeErrorKind → State → Result T DecodeError → State → Type 0
+Answered (Ok v) s result t = (result ≡ Ok v) × (t ≡ s)
+Answered (Err k) s result t = (result ≡ Err (refusal k s)) × (t ≡ record s { failed = true })

@@ -20,6 +20,11 @@ pub record Enters (s : State) (o : Scope) (i : State) : Type 0 where
   pub outside : o.levels ≡ s.levels
   pub same : i ≡ at_level s i.levels
 
+-- No level is left, and all is as before.
+pub record NoLevel (s t : State) : Type 0 where
+  pub none : s.levels ≡ 0
+  pub same : t ≡ s
+
 -- Inside a record that has no bits of its own a level is entered.
 pub record Opens (c : Schema) (s : State) (o : Scope) (i : State) : Type 0 where
   pub bare : IsBare c

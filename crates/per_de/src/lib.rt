@@ -1,23 +1,20 @@
 //! The decoder of the packed encoding rules: it reads every basic encoding.
 #![tactic(auto)]
 
-ghost use Rattle.std.specs.Prelude.{◌≡◌, ℕ, true, false, OnOk, OnErr, IfOk, IfErr};
+ghost use Rattle.std.specs.Prelude.{◌≡◌, true, false, MatchOption, OnOk, OnErr, IfErr};
 ghost use Rattle.rasn_types.specs.declared.types.Codec.TheVariants.{Uper};
-ghost use Rattle.per_read.specs.declared.error.DecodeErrorKind.TheVariants.{ExceedsMaxParseDepth, AlreadyFailed};
+ghost use Rattle.per_read.specs.declared.error.DecodeErrorKind.TheVariants.{AlreadyFailed};
 ghost use Rattle.per_de.specs.State.{State, Options};
-ghost use Rattle.per_de.specs.Faults.{refusal};
+ghost use Rattle.per_de.specs.Faults.{refusal, Answered};
 ghost use Rattle.per_de.specs.Rules.{decoder_rules};
-ghost use Rattle.per_de.specs.Scopes.{Enters, Opens, Closes};
+ghost use Rattle.per_de.specs.Scopes.{Enters, NoLevel, Opens, Closes};
 ghost use Rattle.per_de.specs.Laws.{reads_well};
 ghost use Rattle.per_de.specs.ScopeLaws.{scopes_well};
 
 use per_bits::{BitList, BitReader};
+use per_read::Reader;
 pub use per_read::error;
 pub use per_read::error::{DecodeError, DecodeErrorKind, ParserFailCause};
-use per_read::items::take_octets;
-use per_read::length::take_bit;
-use per_read::number::take_integer;
-use per_read::strings::{take_bit_string, take_characters, take_octet_string, take_utf8};
 use rasn_codec::codec;
 use rasn_schema::constraints::Constraints;
 use rasn_schema::fields::Constructed;
@@ -60,9 +57,7 @@ impl DecoderOptions {
 /// A reader of values from the front of bits. Every basic encoding is read, canonical or not.
 #[derive(Drop)]
 pub struct Decoder<'input> {
-    alloc: Global,
-    bits: BitReader<'input>,
-    codec: Codec,
+    reader: Reader<'input>,
     levels: u32,
     failed: bool,
 }
@@ -70,7 +65,7 @@ pub struct Decoder<'input> {
 impl<'input> Model for Decoder<'input> {
     ghost Value = { State };
 
-    ghost view = { λ d. record { bits = d.bits; failed = d.failed; levels = d.levels; codec = d.codec } };
+    ghost view = { λ d. record { bits = d.reader.bits; failed = d.failed; levels = d.levels; codec = d.reader.codec } };
 }
 
 impl<'input> Decoder<'input> {
@@ -86,17 +81,11 @@ impl<'input> Decoder<'input> {
     }
 
     /// A decoder of the bits that a reader has left. What its values own is taken from `alloc`.
-    pub fn from_reader(
-        alloc: Global,
-        input: BitReader<'input>,
-        options: DecoderOptions,
-    ) -> Self
+    pub fn from_reader(alloc: Global, input: BitReader<'input>, options: DecoderOptions) -> Self
         ensures { result ≡ record { bits = input.entry; failed = false; levels = options.levels; codec = options.codec } }
     {
         Decoder {
-            alloc,
-            bits: input,
-            codec: options.codec,
+            reader: Reader::new(alloc, input, options.codec),
             levels: options.levels,
             failed: false,
         }
@@ -106,14 +95,14 @@ impl<'input> Decoder<'input> {
     pub fn input(&self) -> BitReader<'input>
         ensures { result ≡ self.now.bits }
     {
-        self.bits.clone().unwrap()
+        self.reader.bits()
     }
 
     /// The variant in use.
     pub fn codec(&self) -> Codec
         ensures { result ≡ self.now.codec }
     {
-        self.codec
+        self.reader.codec()
     }
 
     /// An error of a kind, with the variant in use.
@@ -122,7 +111,7 @@ impl<'input> Decoder<'input> {
     {
         DecodeError {
             kind,
-            codec: self.codec,
+            codec: self.reader.codec(),
         }
     }
 
@@ -147,21 +136,23 @@ impl<'input> Decoder<'input> {
         self.error(kind)
     }
 
+    /// What was taken, unless it was refused; then the decoder has failed.
+    fn answer<T: Drop>(&mut self, taken: Result<T, DecodeErrorKind>) -> Result<T, DecodeError>
+        ensures { Answered taken self.old result self.new }
+    {
+        match taken {
+            Ok(value) => Ok(value),
+            Err(kind) => Err(self.refuse(kind)),
+        }
+    }
+
     /// Enters a level, where one is left.
-    fn enter(&mut self) -> Result<Scope, DecodeErrorKind>
-        ensures ok { IfOk result (λ scope. Enters self.old scope self.new) }
-        ensures err { IfErr result (λ kind. kind ≡ ExceedsMaxParseDepth) }
-        ensures none { OnErr result (self.old.levels ≡ 0) }
-        ensures same { OnErr result (self.new ≡ self.old) }
+    fn enter(&mut self) -> Option<Scope>
+        ensures { MatchOption result (NoLevel self.old self.new) (λ scope. Enters self.old scope self.new) }
     {
         let outside = self.levels;
-        match outside.checked_sub(1) {
-            Some(inside) => {
-                self.levels = inside;
-                Ok(Scope { levels: outside })
-            }
-            None => Err(DecodeErrorKind::ExceedsMaxParseDepth),
-        }
+        self.levels = outside.checked_sub(1)?;
+        Some(Scope { levels: outside })
     }
 }
 
@@ -189,7 +180,7 @@ impl<'input> codec::Decoder for Decoder<'input> {
     }
 
     fn alloc(&self) -> Global {
-        self.alloc
+        self.reader.alloc()
     }
 
     fn out_of_memory(&mut self) -> DecodeError {
@@ -198,10 +189,8 @@ impl<'input> codec::Decoder for Decoder<'input> {
 
     fn decode_bool(&mut self, _tag: Tag) -> Result<bool, DecodeError> {
         self.check_unfailed()?;
-        match take_bit(&mut self.bits) {
-            Ok(bit) => Ok(bit),
-            Err(kind) => Err(self.refuse(kind)),
-        }
+        let taken = self.reader.take_bit();
+        self.answer(taken)
     }
 
     fn decode_integer<I: IntegerType>(
@@ -210,10 +199,8 @@ impl<'input> codec::Decoder for Decoder<'input> {
         constraints: &Constraints,
     ) -> Result<I, DecodeError> {
         self.check_unfailed()?;
-        match take_integer(&mut self.bits, self.codec, self.alloc, constraints) {
-            Ok(number) => Ok(number),
-            Err(kind) => Err(self.refuse(kind)),
-        }
+        let taken = self.reader.take_integer(constraints);
+        self.answer(taken)
     }
 
     fn decode_null(&mut self, _tag: Tag) -> Result<(), DecodeError> {
@@ -222,10 +209,9 @@ impl<'input> codec::Decoder for Decoder<'input> {
 
     fn decode_any(&mut self, _tag: Tag) -> Result<Any, DecodeError> {
         self.check_unfailed()?;
-        match take_octets(&mut self.bits, self.codec, self.alloc) {
-            Ok(octets) => Ok(Any::new(octets)),
-            Err(kind) => Err(self.refuse(kind)),
-        }
+        let taken = self.reader.take_octets();
+        let octets = self.answer(taken)?;
+        Ok(Any::new(octets))
     }
 
     fn decode_octet_string(
@@ -234,10 +220,9 @@ impl<'input> codec::Decoder for Decoder<'input> {
         constraints: &Constraints,
     ) -> Result<CowSlice<'static, u8>, DecodeError> {
         self.check_unfailed()?;
-        match take_octet_string(&mut self.bits, self.codec, self.alloc, constraints) {
-            Ok(octets) => Ok(CowSlice::Owned(octets)),
-            Err(kind) => Err(self.refuse(kind)),
-        }
+        let taken = self.reader.take_octet_string(constraints);
+        let octets = self.answer(taken)?;
+        Ok(CowSlice::Owned(octets))
     }
 
     fn decode_bit_string(
@@ -246,10 +231,8 @@ impl<'input> codec::Decoder for Decoder<'input> {
         constraints: &Constraints,
     ) -> Result<BitString, DecodeError> {
         self.check_unfailed()?;
-        match take_bit_string(&mut self.bits, self.codec, self.alloc, constraints) {
-            Ok(bits) => Ok(bits),
-            Err(kind) => Err(self.refuse(kind)),
-        }
+        let taken = self.reader.take_bit_string(constraints);
+        self.answer(taken)
     }
 
     fn decode_known_multiplier_string<S: StaticPermittedAlphabet>(
@@ -258,10 +241,8 @@ impl<'input> codec::Decoder for Decoder<'input> {
         constraints: &Constraints,
     ) -> Result<S, DecodeError> {
         self.check_unfailed()?;
-        match take_characters(&mut self.bits, self.codec, self.alloc, constraints) {
-            Ok(string) => Ok(string),
-            Err(kind) => Err(self.refuse(kind)),
-        }
+        let taken = self.reader.take_characters(constraints);
+        self.answer(taken)
     }
 
     fn decode_utf8_string(
@@ -270,10 +251,8 @@ impl<'input> codec::Decoder for Decoder<'input> {
         _constraints: &Constraints,
     ) -> Result<Utf8String, DecodeError> {
         self.check_unfailed()?;
-        match take_utf8(&mut self.bits, self.codec, self.alloc) {
-            Ok(text) => Ok(text),
-            Err(kind) => Err(self.refuse(kind)),
-        }
+        let taken = self.reader.take_utf8();
+        self.answer(taken)
     }
 
     fn decode_general_string(
@@ -282,10 +261,9 @@ impl<'input> codec::Decoder for Decoder<'input> {
         _constraints: &Constraints,
     ) -> Result<GeneralString, DecodeError> {
         self.check_unfailed()?;
-        match take_octets(&mut self.bits, self.codec, self.alloc) {
-            Ok(octets) => Ok(GeneralString::new(octets)),
-            Err(kind) => Err(self.refuse(kind)),
-        }
+        let taken = self.reader.take_octets();
+        let octets = self.answer(taken)?;
+        Ok(GeneralString::new(octets))
     }
 
     fn decode_graphic_string(
@@ -294,10 +272,9 @@ impl<'input> codec::Decoder for Decoder<'input> {
         _constraints: &Constraints,
     ) -> Result<GraphicString, DecodeError> {
         self.check_unfailed()?;
-        match take_octets(&mut self.bits, self.codec, self.alloc) {
-            Ok(octets) => Ok(GraphicString::new(octets)),
-            Err(kind) => Err(self.refuse(kind)),
-        }
+        let taken = self.reader.take_octets();
+        let octets = self.answer(taken)?;
+        Ok(GraphicString::new(octets))
     }
 
     fn decode_teletex_string(
@@ -306,17 +283,16 @@ impl<'input> codec::Decoder for Decoder<'input> {
         _constraints: &Constraints,
     ) -> Result<TeletexString, DecodeError> {
         self.check_unfailed()?;
-        match take_octets(&mut self.bits, self.codec, self.alloc) {
-            Ok(octets) => Ok(TeletexString::new(octets)),
-            Err(kind) => Err(self.refuse(kind)),
-        }
+        let taken = self.reader.take_octets();
+        let octets = self.answer(taken)?;
+        Ok(TeletexString::new(octets))
     }
 
     fn open_sequence<C: Constructed>(&mut self, _tag: Tag) -> Result<Scope, DecodeError> {
         self.check_unfailed()?;
         match self.enter() {
-            Ok(scope) => Ok(scope),
-            Err(kind) => Err(self.refuse(kind)),
+            Some(scope) => Ok(scope),
+            None => Err(self.refuse(DecodeErrorKind::ExceedsMaxParseDepth)),
         }
     }
 

@@ -7,8 +7,8 @@ use Rattle.per_core.specs.Basic
 use Rattle.per_core.specs.Took.{Took}
 use Rattle.per_core.proofs.Took.{took_then, then_took, took_agree}
 use Rattle.per_core.proofs.Agree.{field_agree, padding_agree}
-use Rattle.per_read.specs.declared.length.Length.{Length}
-use Rattle.per_read.specs.declared.length.Length.TheVariants.{Last, Fragment}
+use Rattle.per_read.specs.declared.lengths.Length.{Length}
+use Rattle.per_read.specs.declared.lengths.Length.TheVariants.{Last, Fragment}
 use Rattle.per_read.specs.Lengths.{CountOf, LengthOf}
 use Rattle.per_read.proofs.Fields.{either_took, when_took, exactly_took, took_exactly, field_wide, field_below, took_more, more_took}
 

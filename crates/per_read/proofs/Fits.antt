@@ -12,8 +12,8 @@ use Rattle.per_read.specs.Kinds.{Faulty, NoneIn}
 use Rattle.per_read.specs.Numbers.{OfRead, OfEach, IsFit, IsMissed, Misfit, AreSome, IsOfNumber, IsOfForm, under_bounds}
 use Rattle.per_read.specs.declared.error.DecodeErrorKind.{DecodeErrorKind}
 use Rattle.per_read.specs.declared.error.DecodeErrorKind.TheVariants.{ValueConstraintNotSatisfied, IntegerOverflow, UnexpectedEmptyInput}
-use Rattle.per_read.specs.declared.whole.ReadNumber.{ReadNumber}
-use Rattle.per_read.specs.declared.whole.ReadNumber.TheVariants.{Held, Below, Above}
+use Rattle.per_read.specs.declared.numbers.ReadNumber.{ReadNumber}
+use Rattle.per_read.specs.declared.numbers.ReadNumber.TheVariants.{Held, Below, Above}
 use Rattle.per_read.proofs.Refusals.{tested_number}
 use Rattle.per_read.proofs.Within.{number_within, within_under, no_other}
 

@@ -1,5 +1,5 @@
 -- The forms of constrained whole numbers (X.691 11.5.6, 11.5.7), and counted octets, seen from the bits that are left.
-use Rattle.std.proofs.Common.{◌≡◌, ◌<◌, ◌≤◌, ℕ, suc, ◌+◌, ◌*◌, ◌/◌, Bool, true, false, eqb, eqb-true, refl, ap, subst, arith, length, le-leb, pow_mono}
+use Rattle.std.proofs.Common.{◌≡◌, ◌<◌, ◌≤◌, ℕ, suc, ◌+◌, ◌*◌, Bool, true, false, eqb, eqb-true, refl, sym, ap, subst, arith, length, le-leb, pow_mono}
 use Rattle.std.proofs.lemmas.Bool.{lt-leb}
 use Rattle.rasn_types.specs.Bits.{Bits, width}
 use Rattle.rasn_types.specs.Variants.{aligned}
@@ -9,6 +9,7 @@ use Rattle.per_core.specs.Basic.{InOctets, constrained_by}
 use Rattle.per_core.specs.Took.{Took}
 use Rattle.per_core.proofs.Agree.{field_agree, padding_agree}
 use Rattle.per_core.proofs.Took.{took_then, then_took, took_map, took_agree}
+use Rattle.per_read.specs.Numbers.{count_width}
 use Rattle.per_read.proofs.Fields.{field_wide, field_below}
 
 -- a number behind padding that isn't there
@@ -19,9 +20,6 @@ no_padded {a} {s} {m} w p h n t b =
     omega (arith, field_wide q.2)
 
 -- counted octets
-abbrev pub count_width : ℕ → ℕ
-count_width n = width ((width n + 7) / 8)
-
 -- there are at most 16
 pub few_octets : (w k : ℕ) {s t : Bits} → w ≤ 16 → Took (Field (width w) k) s t → k < 16
 few_octets w k h b =
@@ -73,6 +71,9 @@ module _ (a : Settings) (n o : ℕ) where
 -- what has no spelling of one form has none of an equal one
 pub no_form : {f g : ℕ → Spelling} {s : Bits} → ((o : ℕ) → f o ≡ g o) → ((o : ℕ) (t : Bits) → Took (g o) s t → ⊥) → (o : ℕ) (t : Bits) → Took (f o) s t → ⊥
 no_form {s = s} e none o t b = none o t (subst (λ h. Took h s t) (e o) b)
+
+pub as_form : {f g : ℕ → Spelling} {s t : Bits} → ((o : ℕ) → f o ≡ g o) → (o : ℕ) → Took (g o) s t → Took (f o) s t
+as_form {s = s} {t = t} e o b = subst (λ h. Took h s t) (sym (e o)) b
 
 pub no_field : {w v : ℕ} {s : Bits} → w ≡ v → length s < w → (o : ℕ) (t : Bits) → Took (Field v o) s t → ⊥
 no_field e h o t b = omega (arith, field_wide b)

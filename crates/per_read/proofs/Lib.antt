@@ -1,3 +1,4 @@
+pub mod Calls
 pub mod Above
 pub mod Counts
 pub mod Fields

@@ -1,13 +1,9 @@
 -- Items under a size constraint, and why there are none (X.691 11.9, 16.6, 17.3, 30.4).
-use Rattle.std.proofs.Common.{◌≡◌, ◌∙◌, ◌<◌, inr, ℕ, ◌^◌, ◌&&◌, ltb, Bool, true, false, List, [], ◌∷◌, length, sym, ap, arith, Option}
-use Rattle.std.proofs.lemmas.Bool.{lt-ltb, ltb-true}
+use Rattle.std.proofs.Common.{◌≡◌, ◌∙◌, inr, ℕ, Bool, true, false, List, [], ◌∷◌, length, sym, ap, Option}
 use Rattle.rasn_types.specs.Bits.{Bits}
-use Rattle.rasn_constraints.specs.Bounds.{allows, at_least, at_most, Size, any_size}
+use Rattle.rasn_constraints.specs.Bounds.{allows, Size, any_size}
 use Rattle.per_core.specs.Counts.{Counted}
 use Rattle.per_core.specs.Spellings.{Settings, Spelling, never}
-use Rattle.per_core.specs.Took.{Took}
-use Rattle.per_core.proofs.Lengths.{and_right}
-use Rattle.per_core.proofs.Took.{took_map}
 use Rattle.per_core.specs.Items.{bits_of, counted_of}
 use Rattle.per_read.specs.Items.{TookItems, coded, unconstrained_items, sized_items, lengthy_items}
 use Rattle.per_read.specs.Kinds.{Faulty, IsTested, NoneIn, Refused, Stopped}
@@ -24,22 +20,7 @@ pub tested_size : {X : Type 0} (a : Settings) (size : Size) (mark : Bool) (kind 
 tested_size a size mark kind item s (SizeConstraintNotSatisfied n least most) h = absurd h
 tested_size a size mark kind item s _ h = h
 
--- what a size allows can be counted
-countable : (size : Size) (n : ℕ) → allows size n ≡ true → n < 2 ^ 64
-countable size n h = ltb-true n (2 ^ 64) (and_right (at_most size.most n) (ltb n (2 ^ 64)) (and_right (at_least size.least n) (at_most size.most n && ltb n (2 ^ 64)) h))
-
 module _ (a : Settings) (i : Item) where
-  -- items without a size
-  any_sized : (xs : List ℕ) {s t : Bits} → length xs < 2 ^ 64 → Took (unconstrained_items a i xs) s t → Took (sized_items a any_size i xs) s t
-  any_sized xs l b = took_map (λ p c x. record { allowed = lt-ltb (length xs) (2 ^ 64) l; spelled = x }) b
-
-  pub unsized_ok : {C : Type 0} {holds : C → C → List ℕ → Type 0} {n : ℕ} {before after : C} {s t : Bits} → n < 2 ^ 64 → TookItems holds (unconstrained_items a i) n before after s t
-      → TookItems holds (sized_items a any_size i) n before after s t
-  unsized_ok l b = record { codes = b.codes; count = b.count; added = b.added; took = any_sized b.codes (omega (arith, b.count)) b.took }
-
-  pub none_unsized : {s : Bits} → ((xs : List ℕ) (t : Bits) → length xs < 2 ^ 64 → Took (unconstrained_items a i xs) s t → ⊥) → NoneIn (sized_items a any_size i) s
-  none_unsized none xs t b = none xs t (countable any_size (length xs) b.spelled.allowed) (took_map (λ p c x. x.spelled) b)
-
   module _ (size : Size) where
     -- items whose count the size allows
     pub sized_ok : {C : Type 0} {holds : C → C → List ℕ → Type 0} {n : ℕ} {before after : C} {s t : Bits} → allows size n ≡ true → TookItems holds (items_under a size i) n before after s t
@@ -51,8 +32,8 @@ module _ (a : Settings) (i : Item) where
       took = sized_of a (counted_of i) (coded i) b.codes size (ap (allows size) b.count ∙ h) b.took;
     }
 
-    pub none_sized : {s : Bits} → ((xs : List ℕ) (t : Bits) → length xs < 2 ^ 64 → Took (items_under a size i xs) s t → ⊥) → NoneIn (sized_items a size i) s
-    none_sized none xs t b = none xs t (countable size (length xs) b.spelled.allowed) (of_sized a (counted_of i) (coded i) xs size b)
+    pub none_sized : {s : Bits} → NoneIn (items_under a size i) s → NoneIn (sized_items a size i) s
+    none_sized none xs t b = none xs t (of_sized a (counted_of i) (coded i) xs size b)
 
     -- and items whose count it doesn't
     pub miscounted : {C : Type 0} {holds : C → C → List ℕ → Type 0} {n : ℕ} {before after : C} {s t : Bits} {least most : Option ℕ} → allows size n ≡ false → least ≡ size.least → most ≡ size.most
@@ -64,7 +45,7 @@ module _ (a : Settings) (i : Item) where
           let g : true ≡ false = sym c.spelled.allowed ∙ ap (allows size) (e ∙ b.count) ∙ h in cc,
     )
 
-    pub none_faulty : {s : Bits} (k : DecodeErrorKind) → Stopped ((xs : List ℕ) (t : Bits) → length xs < 2 ^ 64 → Took (items_under a size i xs) s t → ⊥) k
+    pub none_faulty : {s : Bits} (k : DecodeErrorKind) → Stopped (NoneIn (items_under a size i) s) k
         → Faulty (IsOfItems a size false i s) (NoneIn (sized_items a size i) s) k
     none_faulty {s} k = faulty_map k (tested_size a size false (counted_of i) (coded i) s k) none_sized
 
@@ -74,13 +55,13 @@ module _ (a : Settings) (i : Item) where
           → TookItems holds (lengthy_items a size true i) n before after s t
       in_size {t = t} e b = record { codes = b.codes; count = b.count; added = b.added; took = mark_in (sized_items a size i) (sized_items a any_size i) e b.codes t b.took }
 
-      pub past_size : {C : Type 0} {holds : C → C → List ℕ → Type 0} {n : ℕ} {before after : C} {t : Bits} → s ≡ true ∷ m → n < 2 ^ 64 → TookItems holds (unconstrained_items a i) n before after m t
+      pub past_size : {C : Type 0} {holds : C → C → List ℕ → Type 0} {n : ℕ} {before after : C} {t : Bits} → s ≡ true ∷ m → TookItems holds (unconstrained_items a i) n before after m t
           → TookItems holds (lengthy_items a size true i) n before after s t
-      past_size {t = t} e l b = record {
+      past_size {t = t} e b = record {
         codes = b.codes;
         count = b.count;
         added = b.added;
-        took = mark_past (sized_items a size i) (sized_items a any_size i) e b.codes t (any_sized b.codes (omega (arith, b.count)) b.took);
+        took = mark_past (sized_items a size i) (sized_items a any_size i) e b.codes t b.took;
       }
 
       in_kind : (k : DecodeErrorKind) → s ≡ false ∷ m → IsOfItems a size false i m k → IsOfItems a size true i s k
@@ -98,10 +79,10 @@ module _ (a : Settings) (i : Item) where
       pub faulty_in : (k : DecodeErrorKind) → s ≡ false ∷ m → Faulty (IsOfItems a size false i m) (NoneIn (sized_items a size i) m) k → Faulty (IsOfItems a size true i s) (NoneIn (lengthy_items a size true i) s) k
       faulty_in k e = faulty_map k (in_kind k e) (λ none xs t b. none xs t (in_mark (sized_items a size i) (sized_items a any_size i) e xs t b))
 
-      pub faulty_past : (k : DecodeErrorKind) → s ≡ true ∷ m → Stopped ((xs : List ℕ) (t : Bits) → length xs < 2 ^ 64 → Took (unconstrained_items a i xs) m t → ⊥) k
+      pub faulty_past : (k : DecodeErrorKind) → s ≡ true ∷ m → Stopped (NoneIn (unconstrained_items a i) m) k
           → Faulty (IsOfItems a size true i s) (NoneIn (lengthy_items a size true i) s) k
       faulty_past k e =
-          faulty_map k (tested_size a size true (counted_of i) (coded i) s k) (λ none xs t b. none_unsized none xs t (past_mark (sized_items a size i) (sized_items a any_size i) e xs t b))
+          faulty_map k (tested_size a size true (counted_of i) (coded i) s k) (λ none xs t b. none xs t (past_mark (sized_items a size i) (sized_items a any_size i) e xs t b))
 
     pub no_bit : {s : Bits} (k : DecodeErrorKind) → Refused (s ≡ []) k → Faulty (IsOfItems a size true i s) (NoneIn (lengthy_items a size true i) s) k
     no_bit {s} k h = inr (tested_size a size true (counted_of i) (coded i) s k h.0, no_mark (sized_items a size i) (sized_items a any_size i) h.1)

@@ -12,7 +12,7 @@ use Rattle.per_core.specs.Basic.{Octets, IsSemiConstrainedWhole}
 use Rattle.per_core.specs.Took.{Took}
 use Rattle.per_core.proofs.Lengths.{same_octets}
 use Rattle.per_core.proofs.Took.{took_agree, took_map}
-use Rattle.per_read.specs.Numbers.{TookSemiConstrained}
+use Rattle.per_read.specs.Numbers.{OfNatural}
 
 -- one octet more
 unsigned_more : (os : List ℕ) (o : ℕ) → o < 256 → unsigned (os ++ o ∷ []) ≡ unsigned os * 256 + o
@@ -57,6 +57,6 @@ module _ (a : Settings) (s : Bits) where
   octets_natural : (os : List ℕ) (n : ℕ) (t : Bits) → Took (Octets a os) s t → 0 < length os → unsigned os ≡ n → Took (IsSemiConstrainedWhole a n) s t
   octets_natural os n t b some means = took_map (λ p c i. record { octets = os; some = some; means = means; spelled = i }) b
 
-  pub natural_of : (os : List ℕ) (r : Option ℕ) (t : Bits) → Took (Octets a os) s t → 0 < length os → MatchOption r (2 ^ 128 ≤ unsigned os) (λ n. n ≡ unsigned os) → TookSemiConstrained a r s t
+  pub natural_of : (os : List ℕ) (r : Option ℕ) (t : Bits) → Took (Octets a os) s t → 0 < length os → MatchOption r (2 ^ 128 ≤ unsigned os) (λ n. n ≡ unsigned os) → OfNatural (λ n. Took (IsSemiConstrainedWhole a n) s t) r
   natural_of os (Some n) t b some e = octets_natural os n t b some (sym e)
   natural_of os None t b some g = (unsigned os, g, octets_natural os (unsigned os) t b some refl)

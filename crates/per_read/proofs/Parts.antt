@@ -1,29 +1,26 @@
 -- Items of as many bits each in any row of fragments, from the first length on (X.691 11.9.3.8).
-use Rattle.std.proofs.Common.{◌≡◌, ◌<◌, ◌≤◌, inl, inr, ℕ, zero, suc, ◌+◌, ◌*◌, ◌^◌, List, [], ◌++◌, length, refl, sym, ◌∙◌, ap, subst, arith, append_assoc, length-append}
-use Rattle.std.specs.Prelude.{Result, Ok, Err, IfOk, OnOk}
+use Rattle.std.proofs.Common.{◌≡◌, ◌<◌, ◌≤◌, inl, inr, ℕ, zero, suc, true, ◌+◌, ◌*◌, ◌^◌, List, [], ◌++◌, length, refl, sym, ◌∙◌, ap, subst, arith, append_assoc, length-append}
 use Rattle.std.proofs.lemmas.List.{append-nil}
 use Rattle.std.proofs.lemmas.Bool.{lt-ltb, ltb-true}
 use Rattle.rasn_types.specs.Bits.{Bits}
+use Rattle.rasn_constraints.specs.Bounds.{allows, any_size}
+use Rattle.per_core.specs.Counts.{Counted}
 use Rattle.per_core.specs.Spellings.{Settings, Spelling, Field}
 use Rattle.per_core.specs.Basic
-use Rattle.per_core.specs.Basic.{OneByOne, Octets, UnconstrainedLength, InFragments, LastCount}
+use Rattle.per_core.specs.Basic.{OneByOne, Sized, UnconstrainedLength, InFragments, LastCount}
 use Rattle.per_core.specs.Took.{place, Took}
 use Rattle.per_core.proofs.Agree.{field_agree, weaken}
 use Rattle.per_core.proofs.Lengths.{row_agree, Zip-same}
 use Rattle.per_core.proofs.Took.{took_then, then_took, took_map, took_agree}
-use Rattle.per_read.specs.declared.length.Length.{Length}
-use Rattle.per_read.specs.declared.length.Length.TheVariants.{Last, Fragment}
+use Rattle.per_read.specs.declared.lengths.Length.{Length}
+use Rattle.per_read.specs.declared.lengths.Length.TheVariants.{Last, Fragment}
 use Rattle.per_read.specs.declared.error.DecodeErrorKind.{DecodeErrorKind}
 use Rattle.per_read.specs.Items.{Adds, TookItems, Gathered}
-use Rattle.per_read.specs.Lengths.{CountOf, LengthOf}
-use Rattle.per_read.specs.Kinds.{Stopped}
+use Rattle.per_read.specs.Lengths.{CountOf, LengthOf, count_of}
+use Rattle.per_read.specs.Kinds.{NoneIn, Stopped}
 use Rattle.per_read.proofs.Fields.{field_below}
 use Rattle.per_read.proofs.Counts.{Begins, short, long, fragment, count_begins, one_count, unpadded}
 use Rattle.per_read.proofs.OneByOne.{row_wide, adds_none, adds_more}
-
-abbrev pub count_of : Length → ℕ
-count_of (Last n) = n
-count_of (Fragment n) = n
 
 -- what a length says of its count and of the bits that it takes
 small_count : (l : Length) (s t : Bits) → Took (CountOf l) s t → (count_of l ≤ 65536) × (length t < length s)
@@ -128,83 +125,70 @@ pub items_begin : {C : Type 0} (holds : C → C → List ℕ → Type 0) (a : Se
 items_begin holds a w s items = record { codes = []; count = refl; added = adds_none holds items; on = λ xs t b. b; back = λ xs t b. (xs, refl, b) }
 
 module _ {C : Type 0} {holds : C → C → List ℕ → Type 0} {a : Settings} {w : ℕ} {start here : Bits} {before items : C} {n : ℕ} (h : ItemsSoFar holds a w start here before items n) where
-  pub items_go_on : {k : ℕ} {m l : Bits} {more : C} → Took (LengthOf a (Fragment k)) here m → TookItems holds (OneByOne (Field w)) k items more m l → ItemsSoFar holds a w start l before more (n + k)
-  items_go_on {k} {m} {l} b c = record {
+  pub items_go_on : {l : Length} {k j : ℕ} {m r : Bits} {more : C} → Took (LengthOf a l) here m → l ≡ Fragment k → j ≡ count_of l → TookItems holds (OneByOne (Field w)) j items more m r
+      → ItemsSoFar holds a w start r before more (n + j)
+  items_go_on {l} {k} {j} {m} {r} b e i c = record {
     codes = h.codes ++ c.codes;
     count = omega (arith, h.count, c.count, length-append h.codes c.codes);
     added = adds_more h.added c.added;
     on = λ xs t d.
-        subst (λ z. Took (UnconstrainedLength a (Field w) z) start t) (sym (append_assoc h.codes c.codes xs)) (h.on (c.codes ++ xs) t (more_parts w c.codes b c.count c.took d));
+        subst (λ z. Took (UnconstrainedLength a (Field w) z) start t) (sym (append_assoc h.codes c.codes xs)) (h.on (c.codes ++ xs) t (more_parts w c.codes fragment (c.count ∙ i ∙ ap count_of e) c.took d));
     back = λ xs t d. let q = h.back xs t d in go xs t q.0 q.1 (first_part w a q.0 here t q.2);
   }
     where
+      fragment : Took (LengthOf a (Fragment k)) here m
+      fragment = subst (λ z. Took (LengthOf a z) here m) e b
+
       go : (xs : List ℕ) (t : Bits) (others : List ℕ) → xs ≡ h.codes ++ others → Part w a others here t
-          → (others : List ℕ) × (xs ≡ (h.codes ++ c.codes) ++ others) × Took (UnconstrainedLength a (Field w) others) l t
-      go xs t others e p =
-          let x = one_length a p.head (Fragment k) here p.behind m p.is_length b in
-          let many : length p.row ≡ length c.codes = p.many ∙ ap count_of x.0 ∙ sym c.count in
-          let y = one_row w p.row c.codes p.behind p.rest l many p.is_row (subst (λ z. Took (OneByOne (Field w) c.codes) z l) (sym x.1) c.took) in (
+          → (others : List ℕ) × (xs ≡ (h.codes ++ c.codes) ++ others) × Took (UnconstrainedLength a (Field w) others) r t
+      go xs t others f p =
+          let x = one_length a p.head l here p.behind m p.is_length b in
+          let many : length p.row ≡ length c.codes = p.many ∙ ap count_of x.0 ∙ sym i ∙ sym c.count in
+          let y = one_row w p.row c.codes p.behind p.rest r many p.is_row (subst (λ z. Took (OneByOne (Field w) c.codes) z r) (sym x.1) c.took) in (
             p.others,
-            e ∙ ap (λ z. h.codes ++ z) (p.all ∙ ap (λ z. z ++ p.others) y.0) ∙ sym (append_assoc h.codes c.codes p.others),
-            subst (λ z. Took (UnconstrainedLength a (Field w) p.others) z t) y.1 (subst (λ z. Tail w a z p.others p.rest t) x.0 p.tail),
+            f ∙ ap (λ z. h.codes ++ z) (p.all ∙ ap (λ z. z ++ p.others) y.0) ∙ sym (append_assoc h.codes c.codes p.others),
+            subst (λ z. Took (UnconstrainedLength a (Field w) p.others) z t) y.1 (subst (λ z. Tail w a z p.others p.rest t) (x.0 ∙ e) p.tail),
           )
 
-  pub items_end : {k : ℕ} {m t : Bits} {all : C} → Took (LengthOf a (Last k)) here m → TookItems holds (OneByOne (Field w)) k items all m t
-      → TookItems holds (UnconstrainedLength a (Field w)) (n + k) before all start t
-  items_end b c = record {
-    codes = h.codes ++ c.codes;
-    count = omega (arith, h.count, c.count, length-append h.codes c.codes);
-    added = adds_more h.added c.added;
-    took = h.on c.codes _ (last_part w b c.count c.took);
-  }
+  pub items_end : (kind : Counted) (count : ℕ) {l : Length} {k j : ℕ} {m t : Bits} {all : C} → Took (LengthOf a l) here m → l ≡ Last k → j ≡ count_of l → count ≡ n + j → count < 2 ^ 64
+      → TookItems holds (OneByOne (Field w)) j items all m t → TookItems holds (Sized a any_size kind (Field w)) count before all start t
+  items_end kind count {l} {k} {j} {m} {t} b e i f few c =
+      let is : length (h.codes ++ c.codes) ≡ count = omega (arith, h.count, c.count, f, length-append h.codes c.codes) in
+      record {
+        codes = h.codes ++ c.codes;
+        count = is;
+        added = adds_more h.added c.added;
+        took =
+            let last : Took (LengthOf a (Last k)) here m = subst (λ z. Took (LengthOf a z) here m) e b in
+            let allowed : allows any_size (length (h.codes ++ c.codes)) ≡ true = lt-ltb (length (h.codes ++ c.codes)) (2 ^ 64) (omega arith) in
+            took_map (λ p x y. record { allowed = allowed; spelled = y }) (h.on c.codes t (last_part w last (c.count ∙ i ∙ ap count_of e) c.took));
+      }
 
-  -- nothing is spelled where there is no length, where its row ends early, or where there are more items than can be counted
-  abbrev pub NoItems : Type 0
-  NoItems = (xs : List ℕ) (t : Bits) → length xs < 2 ^ 64 → Took (UnconstrainedLength a (Field w) xs) start t → ⊥
+  -- nothing is spelled where there is no length, where its items end early, or where there are more items than can be counted
+  module _ (kind : Counted) where
+    pub no_items_length : NoneIn (LengthOf a) here → NoneIn (Sized a any_size kind (Field w)) start
+    no_items_length none xs t b =
+        let q = h.back xs t (took_map (λ p c x. x.spelled) b) in
+        let p = first_part w a q.0 here t q.2 in none p.head p.behind p.is_length
 
-  pub no_items_length : ((l : Length) (t : Bits) → Took (LengthOf a l) here t → ⊥) → NoItems
-  no_items_length none xs t i b =
-      let q = h.back xs t b in
-      let p = first_part w a q.0 here t q.2 in none p.head p.behind p.is_length
-
-  pub no_items_row : (l : Length) (m : Bits) → Took (LengthOf a l) here m → (n + count_of l < 2 ^ 64 → length m < w * count_of l) → NoItems
-  no_items_row l m b k xs t i d =
-      let q = h.back xs t d in
-      let p = first_part w a q.0 here t q.2 in
-      let x = one_length a p.head l here p.behind m p.is_length b in
-      let v = row_wide w p.row p.is_row in
-      let y : length p.behind ≡ length m = ap length x.1 in
-      let z : length p.row ≡ count_of l = p.many ∙ ap count_of x.0 in
-      let u : w * length p.row ≡ w * count_of l = ap (λ (z : ℕ). w * z) z in
-      let g = k (omega (arith, h.count, i, ap length q.1, length-append h.codes q.0, ap length p.all, length-append p.row p.others, z)) in
-      omega (arith, v, y, u, g)
+    pub no_items_row : (l : Length) (m : Bits) → Took (LengthOf a l) here m → (n + count_of l < 2 ^ 64 → length m < w * count_of l) → NoneIn (Sized a any_size kind (Field w)) start
+    no_items_row l m b k xs t d =
+        let i : length xs < 2 ^ 64 = ltb-true (length xs) (2 ^ 64) d.spelled.allowed in
+        let q = h.back xs t (took_map (λ p c x. x.spelled) d) in
+        let p = first_part w a q.0 here t q.2 in
+        let x = one_length a p.head l here p.behind m p.is_length b in
+        let v = row_wide w p.row p.is_row in
+        let y : length p.behind ≡ length m = ap length x.1 in
+        let z : length p.row ≡ count_of l = p.many ∙ ap count_of x.0 in
+        let u : w * length p.row ≡ w * count_of l = ap (λ (z : ℕ). w * z) z in
+        let g = k (omega (arith, h.count, i, ap length q.1, length-append h.codes q.0, ap length p.all, length-append p.row p.others, z)) in
+        omega (arith, v, y, u, g)
 
 -- all items are those that were appended to none
 pub are_gathered : {C : Type 0} {holds : C → C → List ℕ → Type 0} {form : List ℕ → Spelling} {n : ℕ} {before after : C} {s t : Bits} → TookItems holds form n before after s t → holds before before [] → Gathered (holds before after) form s t
 are_gathered {before = before} b h = record { codes = b.codes; held = b.added.behind before [] h; took = b.took }
 
--- octets are items
-pub are_octets : {C : Type 0} {holds : C → C → List ℕ → Type 0} {a : Settings} {n : ℕ} {before after : C} {s t : Bits} → TookItems holds (UnconstrainedLength a (Field 8)) n before after s t → holds before before [] → n < 2 ^ 64
-    → Gathered (holds before after) (Octets a) s t
-are_octets {before = before} b h l = record {
-  codes = b.codes;
-  held = b.added.behind before [] h;
-  took = took_map (λ p x i. record { allowed = lt-ltb (length b.codes) (2 ^ 64) (omega (arith, b.count)); spelled = i }) b.took;
-}
-
-pub no_octets_there : {a : Settings} {s : Bits} → ((xs : List ℕ) (t : Bits) → length xs < 2 ^ 64 → Took (UnconstrainedLength a (Field 8) xs) s t → ⊥) → (os : List ℕ) (t : Bits) → Took (Octets a os) s t → ⊥
-no_octets_there none os t b = none os t (ltb-true (length os) (2 ^ 64) b.spelled.allowed) (took_map (λ p x i. i.spelled) b)
-
 -- where a fact follows from another
 pub stopped : {A B : Type 0} (k : DecodeErrorKind) → (A → B) → Stopped A k → Stopped B k
 stopped k f (inl e) = inl e
 stopped k f (inr h) = inr (h.0, f h.1)
-
--- two facts about a result
-pub if_both : {A E : Type 0} {P Q R : A → Type 0} (r : Result A E) → ((x : A) → P x → Q x → R x) → IfOk r P → IfOk r Q → IfOk r R
-if_both (Ok x) f p q = f x p q
-if_both (Err e) f p q = tt
-
-pub both_ok : {A E B : Type 0} {P Q : A → Type 0} (r : Result A E) → ((x : A) → P x → B → Q x) → IfOk r P → OnOk r B → IfOk r Q
-both_ok (Ok x) f p b = f x p b
-both_ok (Err e) f p b = tt

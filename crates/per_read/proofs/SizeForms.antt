@@ -5,7 +5,7 @@ use Rattle.std.proofs.lemmas.Bool.{cases_lt, lt-ltb}
 use Rattle.rasn_types.specs.Bits.{Bits, width}
 use Rattle.rasn_types.specs.Variants.{Variant, aligned, unaligned}
 use Rattle.rasn_types.proofs.Bits.{width_least}
-use Rattle.rasn_constraints.specs.Bounds.{allows, holds, Size}
+use Rattle.rasn_constraints.specs.Bounds.{allows, any_size, at_least, at_most, holds, Size}
 use Rattle.per_core.specs.Basic.{OneByOne, UnconstrainedLength, PaddingIf, Sized, InOctets, IsConstrainedWhole, length_form, constrained_by, constrained_form}
 use Rattle.per_core.specs.Counts.{Counted, is_aligned}
 use Rattle.per_core.specs.Spellings.{Settings, Spelling, Then, AnyPadding, Field}
@@ -125,10 +125,10 @@ no_code_between a lb ub kind item none xs u c = let r = then_took (when_took c).
 -- the forms under a size
 module _ {X : Type 0} (a : Settings) (kind : Counted) (item : X → Spelling) (xs : List X) where
   pub under_between : (lb ub : ℕ) → ub < 65536 → under_size a (Some lb) (Some ub) kind item xs ≡ Between a lb ub kind item xs
-  under_between lb ub h = ap (λ z. cond z (Between a lb ub kind item xs) (UnconstrainedLength a item xs)) (lt-ltb ub 65536 h)
+  under_between lb ub h = ap (λ z. cond z (Between a lb ub kind item xs) (Sized a any_size kind item xs)) (lt-ltb ub 65536 h)
 
-  pub under_unsized : (lb ub : ℕ) → 65536 ≤ ub → under_size a (Some lb) (Some ub) kind item xs ≡ UnconstrainedLength a item xs
-  under_unsized lb ub h = ap (λ z. cond z (Between a lb ub kind item xs) (UnconstrainedLength a item xs)) (le-ltb ub 65536 h)
+  pub under_unsized : (lb ub : ℕ) → 65536 ≤ ub → under_size a (Some lb) (Some ub) kind item xs ≡ Sized a any_size kind item xs
+  under_unsized lb ub h = ap (λ z. cond z (Between a lb ub kind item xs) (Sized a any_size kind item xs)) (le-ltb ub 65536 h)
 
   abbrev bounded_items : ℕ → ℕ → Spelling
   bounded_items lb ub = Then (IsConstrainedWhole a (ub - lb + 1) (length xs - lb)) (Then (PaddingIf (ltb 0 (length xs) && is_aligned kind lb ub) a) (OneByOne item xs))
@@ -148,34 +148,41 @@ module _ {X : Type 0} (a : Settings) (kind : Counted) (item : X → Spelling) (x
     record { front = y.front; rest = y.rest; is_front = y.is_front.spelled; is_rest = y.is_rest; joins = y.joins },
   )
 
-  if_map : (c : Bool) (f g h : Spelling) (p : ℕ) (b : Bits) → (f p b → g p b) → cond c f h p b → cond c g h p b
-  if_map true f g h p b k x = k x
-  if_map false f g h p b k x = x
+  if_map : (c : Bool) (f g h k : Spelling) (p : ℕ) (b : Bits) → (f p b → g p b) → (h p b → k p b) → cond c f h p b → cond c g k p b
+  if_map true f g h k p b i j x = i x
+  if_map false f g h k p b i j x = j x
+
+  -- what a size allows can be counted
+  countable : (l u : Option ℕ) → allows (record { least = l; most = u }) (length xs) ≡ true → ltb (length xs) (2 ^ 64) ≡ true
+  countable l u h = and_right (at_most u (length xs)) (ltb (length xs) (2 ^ 64)) (and_right (at_least l (length xs)) (at_most u (length xs) && ltb (length xs) (2 ^ 64)) h)
 
   pub sized_of : (size : Size) {s t : Bits} → allows size (length xs) ≡ true → Took (under_size a size.least size.most kind item xs) s t → Took (Sized a size kind item xs) s t
   sized_of size h b = took_map (λ p c x. record { allowed = h; spelled = go size.least size.most h p c x }) b
     where
       go : (l u : Option ℕ) → allows (record { least = l; most = u }) (length xs) ≡ true → (p : ℕ) (c : Bits) → under_size a l u kind item xs p c → length_form a l u kind item xs p c
-      go None u h p c x = x
-      go (Some l) None h p c x = x
-      go (Some l) (Some u) h p c x = if_map (ltb u 65536) (Between a l u kind item xs) (bounded_items l u) (UnconstrainedLength a item xs) p c (to_bounded l u p c h) x
+      go None u h p c x = x.spelled
+      go (Some l) None h p c x = x.spelled
+      go (Some l) (Some u) h p c x = if_map (ltb u 65536) (Between a l u kind item xs) (bounded_items l u) (Sized a any_size kind item xs) (UnconstrainedLength a item xs) p c (to_bounded l u p c h) (λ y. y.spelled) x
 
   pub of_sized : (size : Size) {s t : Bits} → Took (Sized a size kind item xs) s t → Took (under_size a size.least size.most kind item xs) s t
   of_sized size b = took_map (λ p c x. go size.least size.most x.allowed p c x.spelled) b
     where
       go : (l u : Option ℕ) → allows (record { least = l; most = u }) (length xs) ≡ true → (p : ℕ) (c : Bits) → length_form a l u kind item xs p c → under_size a l u kind item xs p c
-      go None u h p c x = x
-      go (Some l) None h p c x = x
-      go (Some l) (Some u) h p c x = if_map (ltb u 65536) (bounded_items l u) (Between a l u kind item xs) (UnconstrainedLength a item xs) p c (from_bounded l u p c h) x
+      go None u h p c x = record { allowed = countable None u h; spelled = x }
+      go (Some l) None h p c x = record { allowed = countable (Some l) None h; spelled = x }
+      go (Some l) (Some u) h p c x =
+          if_map (ltb u 65536) (bounded_items l u) (Between a l u kind item xs) (UnconstrainedLength a item xs) (Sized a any_size kind item xs) p c (from_bounded l u p c h)
+          (λ y. record { allowed = countable (Some l) (Some u) h; spelled = y }) x
 
 -- there is one count under a size
 pub one_size : (a : Settings) (l u : Option ℕ) (kind : Counted) (w : ℕ) (xs ys : List ℕ) (s t v : Bits) → Took (under_size a l u kind (Field w) xs) s t → Took (under_size a l u kind (Field w) ys) s v → length xs ≡ length ys
 one_size a l u kind w xs ys s t v b c = go l u b c
   where
-    plain : Took (UnconstrainedLength a (Field w) xs) s t → Took (UnconstrainedLength a (Field w) ys) s v → length xs ≡ length ys
-    plain b c = ap length (Zip-same xs ys (took_agree (unsized_agree (λ x y. x ≡ y) (Field w) (Field w) (field_agree w) a xs ys) b c).0)
+    plain : Took (Sized a any_size kind (Field w) xs) s t → Took (Sized a any_size kind (Field w) ys) s v → length xs ≡ length ys
+    plain b c =
+        ap length (Zip-same xs ys (took_agree (unsized_agree (λ x y. x ≡ y) (Field w) (Field w) (field_agree w) a xs ys) (took_map (λ p d x. x.spelled) b) (took_map (λ p d x. x.spelled) c)).0)
 
-    both : (lb ub : ℕ) (z : Bool) → Took (cond z (Between a lb ub kind (Field w) xs) (UnconstrainedLength a (Field w) xs)) s t → Took (cond z (Between a lb ub kind (Field w) ys) (UnconstrainedLength a (Field w) ys)) s v → length xs ≡ length ys
+    both : (lb ub : ℕ) (z : Bool) → Took (cond z (Between a lb ub kind (Field w) xs) (Sized a any_size kind (Field w) xs)) s t → Took (cond z (Between a lb ub kind (Field w) ys) (Sized a any_size kind (Field w) ys)) s v → length xs ≡ length ys
     both lb ub true b c =
         let q = when_took c in
         let r = then_took q.1 in
@@ -205,5 +212,8 @@ counts_held l u n h = short l u
     short (Some l) (Some u) = ap (λ z. leb l n && z) (always (leb n u))
 
 -- items in equal forms
-pub as_form : {C : Type 0} {holds : C → C → List ℕ → Type 0} {f h : List ℕ → Spelling} {n : ℕ} {before after : C} {s t : Bits} → ((xs : List ℕ) → f xs ≡ h xs) → TookItems holds f n before after s t → TookItems holds h n before after s t
-as_form {s = s} {t} e b = record { codes = b.codes; count = b.count; added = b.added; took = subst (λ z. Took z s t) (e b.codes) b.took }
+pub as_form : {C : Type 0} {holds : C → C → List ℕ → Type 0} {f h : List ℕ → Spelling} {n : ℕ} {before after : C} {s t : Bits} → ((xs : List ℕ) → f xs ≡ h xs) → TookItems holds h n before after s t → TookItems holds f n before after s t
+as_form {s = s} {t} e b = record { codes = b.codes; count = b.count; added = b.added; took = subst (λ z. Took z s t) (sym (e b.codes)) b.took }
+
+pub none_as : {X : Type 0} {f h : X → Spelling} {s : Bits} → ((x : X) → f x ≡ h x) → NoneIn h s → NoneIn f s
+none_as {s = s} e none x t b = none x t (subst (λ z. Took z s t) (e x) b)

@@ -1,10 +1,14 @@
 -- Counted items of as many bits each: octets, bits and characters (X.691 11.9, 16, 17, 30.5). An item's code is the number that its bits mean.
-use Rattle.std.specs.Prelude.{◌≡◌, ℕ, Bool, if◌then◌else◌, List, ◌++◌, length}
+use Rattle.std.specs.Prelude.{◌≡◌, ◌<◌, ◌≤◌, ◌+◌, ◌*◌, ℕ, Bool, if◌then◌else◌, List, ◌++◌, length, Result, IfOk, OnOk, IfErr}
 use Rattle.rasn_types.specs.Bits.{Bits}
-use Rattle.rasn_constraints.specs.Bounds.{Size}
-use Rattle.per_core.specs.Basic.{UnconstrainedLength, Sized, Lengthy}
+use Rattle.rasn_constraints.specs.Bounds.{Size, any_size}
+use Rattle.per_core.specs.Basic.{OneByOne, Sized, Lengthy}
 use Rattle.per_core.specs.Spellings.{Settings, Spelling, Field}
 use Rattle.per_core.specs.Took.{Took}
+use Rattle.per_read.specs.Kinds.{NoneIn, Stopped}
+use Rattle.per_read.specs.State.{State, settings_of}
+use Rattle.per_read.specs.Takes.{Reason}
+use Rattle.per_read.specs.declared.error.DecodeErrorKind.{DecodeErrorKind}
 use Rattle.per_core.specs.declared.items.Item.{Item}
 use Rattle.per_core.specs.Items.{counted_of, bits_of}
 
@@ -12,9 +16,9 @@ use Rattle.per_core.specs.Items.{counted_of, bits_of}
 abbrev pub coded : Item → ℕ → Spelling
 coded i = Field (bits_of i)
 
--- X.691 11.9.3.5 to 11.9.3.8: items behind an unconstrained length
+-- X.691 11.9.3.5 to 11.9.3.8: items behind an unconstrained length, as many as can be counted
 abbrev pub unconstrained_items : Settings → Item → List ℕ → Spelling
-unconstrained_items a i = UnconstrainedLength a (coded i)
+unconstrained_items a i = Sized a any_size (counted_of i) (coded i)
 
 -- items whose count the size allows
 abbrev pub sized_items : Settings → Size → Item → List ℕ → Spelling
@@ -34,6 +38,22 @@ pub record TookItems {C : Type 0} (holds : C → C → List ℕ → Type 0) (for
   pub count : length codes ≡ n
   pub added : Adds holds before codes after
   pub took : Took (form codes) s t
+
+-- A call that takes items of a form, and answers how many there were.
+pub record TakesItems {C : Type 0} (holds : C → C → List ℕ → Type 0) (why : Reason) (form : Settings → List ℕ → Spelling) (before : C) (x : State)
+    (result : Result ℕ DecodeErrorKind) (after : C) (y : State) : Type 0 where
+  pub ok : IfOk result (λ n. TookItems holds (form (settings_of x)) n before after x.bits y.bits)
+  pub err : IfErr result (why (settings_of x) x.bits (NoneIn (form (settings_of x)) x.bits))
+  pub kept : y.codec ≡ x.codec
+
+-- A call that takes n items with no length. They stay what they are.
+pub record Collects {C : Type 0} (holds : C → C → List ℕ → Type 0) (item : C → Item) (count : C → ℕ) (n : ℕ) (before : C) (x : State)
+    (result : Result (Unit {0}) DecodeErrorKind) (after : C) (y : State) : Type 0 where
+  pub ok : OnOk result (TookItems holds (OneByOne (coded (item before))) n before after x.bits y.bits)
+  pub same : OnOk result (item after ≡ item before)
+  pub few : OnOk result (count after ≤ count before + n)
+  pub err : IfErr result (Stopped (length x.bits < bits_of (item before) * n))
+  pub kept : y.codec ≡ x.codec
 
 -- all items were read, in some form, and a fact holds of their codes
 pub record Gathered (P : List ℕ → Type 0) (form : List ℕ → Spelling) (s t : Bits) : Type 0 where

@@ -1,9 +1,15 @@
 -- The lengths of X.691 11.9.3.5 to 11.9.3.8.
+use Rattle.std.specs.Prelude.{ℕ}
 use Rattle.per_core.specs.Spellings.{Settings, Spelling, Then, AnyPadding}
 use Rattle.per_core.specs.Basic
 use Rattle.per_core.specs.Basic.{LastCount}
-use Rattle.per_read.specs.declared.length.Length.{Length}
-use Rattle.per_read.specs.declared.length.Length.TheVariants.{Last, Fragment}
+use Rattle.per_read.specs.declared.lengths.Length.{Length}
+use Rattle.per_read.specs.declared.lengths.Length.TheVariants.{Last, Fragment}
+
+-- how many items follow a length
+abbrev pub count_of : Length → ℕ
+count_of (Last n) = n
+count_of (Fragment n) = n
 
 -- the count of a length
 abbrev pub CountOf : Length → Spelling

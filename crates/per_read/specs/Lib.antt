@@ -5,4 +5,6 @@ pub mod Lengths
 pub mod Names
 pub mod Numbers
 pub mod Sizes
+pub mod State
 pub mod Strings
+pub mod Takes

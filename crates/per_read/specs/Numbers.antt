@@ -1,21 +1,31 @@
 -- Numbers as they are read.
 use lib.Signed.{le_z}
-use Rattle.std.specs.Prelude.{◌≡◌, ℕ, ◌+◌, ◌^◌, ◌≤◌, Bool, true, false, if◌then◌else◌, [], Option, Some, None, ℤ, pos, negsuc}
-use Rattle.rasn_types.specs.Bits.{Bits}
+use Rattle.std.specs.Prelude.{◌≡◌, ℕ, ◌+◌, ◌/◌, ◌^◌, ◌≤◌, Bool, true, false, if◌then◌else◌, [], Option, Some, None, Result, ℤ, pos, negsuc}
+use Rattle.rasn_types.specs.Bits.{Bits, width}
 use Rattle.rasn_constraints.specs.Bounds.{above, holds, fits_i128, Bounds, unbounded}
-use Rattle.per_core.specs.Spellings.{Settings, Spelling, When, never}
-use Rattle.per_core.specs.Basic.{IsSemiConstrainedWhole, IsUnconstrainedWhole, Octets, Marked, constrained_form}
+use Rattle.per_core.specs.Spellings.{Settings, Spelling, Then, When, never, AnyPadding, Field}
+use Rattle.per_core.specs.Basic.{IsSemiConstrainedWhole, IsUnconstrainedWhole, IsNumberOf, Octets, Marked, constrained_form}
 use Rattle.per_core.specs.Took.{Took}
 use Rattle.per_read.specs.Kinds.{IsTested}
+use Rattle.per_read.specs.State.{State}
+use Rattle.per_read.specs.Takes.{Takes, memory_or}
 use Rattle.per_read.specs.declared.error.DecodeErrorKind.{DecodeErrorKind}
 use Rattle.per_read.specs.declared.error.DecodeErrorKind.TheVariants.{ValueConstraintNotSatisfied, IntegerOverflow, UnexpectedEmptyInput}
-use Rattle.per_read.specs.declared.whole.ReadNumber.{ReadNumber}
-use Rattle.per_read.specs.declared.whole.ReadNumber.TheVariants.{Held, Below, Above}
+use Rattle.per_read.specs.declared.numbers.ReadNumber.{ReadNumber}
+use Rattle.per_read.specs.declared.numbers.ReadNumber.TheVariants.{Held, Below, Above}
 
--- X.691 11.7: a number without sign was read; none stands for one that no `u128` holds
-abbrev pub TookSemiConstrained : Settings → Option ℕ → Bits → Bits → Type 0
-TookSemiConstrained a (Some n) s t = Took (IsSemiConstrainedWhole a n) s t
-TookSemiConstrained a None s t = (n : ℕ) × (2 ^ 128 ≤ n) × Took (IsSemiConstrainedWhole a n) s t
+-- X.691 11.5.7: a number of some bits, behind padding
+abbrev pub padded_field : Settings → ℕ → ℕ → Spelling
+padded_field a w o = Then (AnyPadding a) (Field w o)
+
+-- X.691 11.5.7.4: how wide the count is of the octets of one of n numbers
+abbrev pub count_width : ℕ → ℕ
+count_width n = width ((width n + 7) / 8)
+
+-- a fact about the number without sign that was read; none stands for one that no `u128` holds
+abbrev pub OfNatural : (ℕ → Type 0) → Option ℕ → Type 0
+OfNatural P (Some n) = P n
+OfNatural P None = (n : ℕ) × (2 ^ 128 ≤ n) × P n
 
 -- a fact about the number that was read
 abbrev pub OfRead : (ℤ → Type 0) → ReadNumber → Type 0
@@ -101,3 +111,8 @@ pub record IsFit (bounds range : Bounds) (r : ReadNumber) (z : ℤ) : Type 0 whe
 -- a bound is there
 abbrev pub AreSome : Bounds → Type 0
 AreSome b = b.low ≡ None → b.high ≡ None → ⊥
+
+-- X.691 13: a call that takes an INTEGER of a type's range, under bounds and behind an extension bit where there is a mark
+abbrev pub TakesInteger : {I : Type 0} → Bounds → Bool → Bounds → (I → ℤ) → State → Result I DecodeErrorKind → State → Type 0
+TakesInteger bounds mark range number =
+    Takes (memory_or (λ a. IsOfNumber a bounds mark)) (λ a. IsNumberOf a bounds mark range) (λ P i. P (number i))

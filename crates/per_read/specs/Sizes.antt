@@ -1,8 +1,8 @@
 -- Items as a size has them written, and counts that it doesn't allow (X.691 11.9).
 use Rattle.std.specs.Prelude.{◌≡◌, ◌≤◌, ℕ, ◌+◌, ◌-◌, ◌&&◌, nat_lt, Bool, false, cond, List, length, Option, Some, None}
 use Rattle.rasn_types.specs.Bits.{Bits}
-use Rattle.rasn_constraints.specs.Bounds.{allows, Size}
-use Rattle.per_core.specs.Basic.{OneByOne, UnconstrainedLength, PaddingIf, Marked, constrained_form}
+use Rattle.rasn_constraints.specs.Bounds.{allows, any_size, Size}
+use Rattle.per_core.specs.Basic.{OneByOne, Sized, PaddingIf, Marked, constrained_form}
 use Rattle.per_core.specs.Counts.{Counted, is_aligned}
 use Rattle.per_core.specs.Spellings.{Settings, Spelling, Then, When, never}
 use Rattle.per_core.specs.Took.{Took}
@@ -20,9 +20,9 @@ Between a lb ub kind item xs = When (lb ≤ length xs)
 
 -- X.691 11.9.3.3, 11.9.4.1: items behind their count, as a size has it written, whether it allows the count or not
 abbrev pub under_size : {X : Type 0} → Settings → Option ℕ → Option ℕ → Counted → (X → Spelling) → List X → Spelling
-under_size a None most kind item xs = UnconstrainedLength a item xs
-under_size a (Some lb) None kind item xs = UnconstrainedLength a item xs
-under_size a (Some lb) (Some ub) kind item xs = cond (nat_lt ub 65536) (Between a lb ub kind item xs) (UnconstrainedLength a item xs)
+under_size a None most kind item xs = Sized a any_size kind item xs
+under_size a (Some lb) None kind item xs = Sized a any_size kind item xs
+under_size a (Some lb) (Some ub) kind item xs = cond (nat_lt ub 65536) (Between a lb ub kind item xs) (Sized a any_size kind item xs)
 
 -- the same of items of as many bits each
 abbrev pub items_between : Settings → ℕ → ℕ → Item → List ℕ → Spelling

@@ -1,24 +1,25 @@
-//! Items that are counted: octets, bits and characters, each of as many bits (X.691 11.9, 16, 17, 30.5).
+//! What is counted in strings, and what gathers it: octets, bits and characters, each of as many bits (X.691 11.9, 16,
+//! 17, 30.5).
 
-ghost use Rattle.std.specs.Prelude.{◌≡◌, ℕ, ◌+◌, ◌*◌, ◌^◌, ◌<◌, ◌≤◌, [], ◌∷◌, List, length, OnOk, IfOk, IfErr};
-ghost use Rattle.rasn_types.specs.Bits.{Bits};
-ghost use Rattle.per_core.specs.Basic.{OneByOne, Octets};
-ghost use Rattle.per_core.specs.Took.{Took};
-ghost use Rattle.per_read.specs.Codecs.{settings};
+ghost use Rattle.std.specs.Prelude.{◌≡◌, ℕ, ◌+◌, ◌*◌, ◌^◌, ◌<◌, ◌≤◌, [], ◌∷◌, List, length, map, true, OnOk};
+ghost use Rattle.rasn_types.specs.Alphabets.{has, char_width};
+ghost use Rattle.per_core.specs.Basic.{OneByOne};
 ghost use Rattle.per_core.specs.Items.{bits_of};
-ghost use Rattle.per_read.specs.Items.{coded, unconstrained_items, Adds, TookItems};
-ghost use Rattle.per_read.specs.Kinds.{Stopped, NoneIn};
-ghost use Rattle.per_core.specs.declared.items.Item.TheVariants.{Octet};
+ghost use Rattle.per_core.specs.declared.items.Item.TheVariants.{Octet, Bit, Character};
+ghost use Rattle.per_read.specs.Items.{coded, bit_code, Adds, TookItems, Collects};
+ghost use Rattle.per_read.specs.Strings.{AreRead};
 
+use crate::Reader;
 use crate::error::DecodeErrorKind;
-use crate::length::{Length, take_unconstrained_length};
 use per_bits::BitReader;
 use per_core::items::Item;
-use rasn_types::types::Codec;
-use std::alloc::{AllocError, Global};
+use rasn_strings::alphabet::CharacterAlphabet;
+use rasn_strings::strings::StaticPermittedAlphabet;
+use rasn_types::bit_string::BitString;
+use std::alloc::AllocError;
 
 /// What gathers items as they are read.
-pub trait Collector {
+pub(crate) trait Collector {
     ghost use Rattle.per_core.specs.declared.items.Item.{Item};
 
     // The items that are held since a start, by their codes.
@@ -43,16 +44,16 @@ pub trait Collector {
         ensures item { OnOk result (item self.new ≡ item self.old) }
         ensures count { OnOk result (count self.new ≤ count self.old + 1) };
 
-    /// Appends the items of a row, `many` of them, behind which it has no bits.
-    fn push_items(&mut self, row: BitReader<'_>, many: usize) -> Result<(), AllocError>
-        requires bits { length row ≡ bits_of (item self.old) * many }
+    /// Appends the items that some bits are, `many` of them.
+    fn push_items(&mut self, bits: BitReader<'_>, many: usize) -> Result<(), AllocError>
+        requires bits { length bits ≡ bits_of (item self.old) * many }
         requires room { count self.old + many ≤ usize.MAX }
-        ensures ok { OnOk result (TookItems holds (OneByOne (coded (item self.old))) many self.old self.new row.entry []) }
+        ensures ok { OnOk result (TookItems holds (OneByOne (coded (item self.old))) many self.old self.new bits.entry []) }
         ensures item { OnOk result (item self.new ≡ item self.old) }
         ensures count { OnOk result (count self.new ≤ count self.old + many) }
     {
         let width = self.item().width();
-        let mut left = row;
+        let mut left = bits;
         for _ in 0..many {
             let item = left.take(width).unwrap();
             self.push(item.first_bits(width) as u32)?;
@@ -77,85 +78,77 @@ impl Collector for Vec<u8> {
         Ok(())
     }
 
-    fn push_items(&mut self, row: BitReader<'_>, _many: usize) -> Result<(), AllocError> {
-        row.append_octets(self)?;
+    fn push_items(&mut self, bits: BitReader<'_>, _many: usize) -> Result<(), AllocError> {
+        bits.append_octets(self)?;
         Ok(())
     }
 }
 
-/// Takes `count` items and appends them.
-pub fn take_bare_items<C: Collector>(
-    bits: &mut BitReader<'_>,
-    count: usize,
-    items: &mut C,
-) -> Result<(), DecodeErrorKind>
-    requires { C.count items.old + count ≤ usize.MAX }
-    ensures ok { OnOk result (TookItems C.holds (OneByOne (coded (C.item items.old))) count items.old items.new bits.old bits.new) }
-    ensures item { OnOk result (C.item items.new ≡ C.item items.old) }
-    ensures count { OnOk result (C.count items.new ≤ C.count items.old + count) }
-    ensures err { IfErr result (Stopped (length bits.old < bits_of (C.item items.old) * count)) }
-{
-    let width = items.item().width();
-    let row = bits
-        .take(width * count as u128)
-        .map_err(DecodeErrorKind::Incomplete)?;
-    items.push_items(row, count)?;
-    Ok(())
-}
+impl Collector for BitString {
+    ghost holds = { λ _ bits codes. map bit_code bits ≡ codes };
 
-/// Takes `more` items, and answers how many there are with the `count` before them.
-fn take_more<C: Collector>(
-    bits: &mut BitReader<'_>,
-    count: usize,
-    more: u128,
-    items: &mut C,
-) -> Result<usize, DecodeErrorKind>
-    requires few { more ≤ 65536 }
-    requires count { C.count items.old ≤ count }
-    ensures ok { IfOk result (λ all. all ≡ count + more) }
-    ensures count { IfOk result (λ all. C.count items.new ≤ all) }
-    ensures took { OnOk result (TookItems C.holds (OneByOne (coded (C.item items.old))) more items.old items.new bits.old bits.new) }
-    ensures item { OnOk result (C.item items.new ≡ C.item items.old) }
-    ensures err { IfErr result (Stopped (count + more < 2 ^ 64 → length bits.old < bits_of (C.item items.old) * more)) }
-{
-    let all = count
-        .checked_add(more as usize)
-        .ok_or(DecodeErrorKind::ExceedsMaxLength)?;
-    take_bare_items(bits, more as usize, items)?;
-    Ok(all)
-}
+    ghost item = { λ _. Bit };
 
-/// Takes an unconstrained length and the items that it counts, in any row of fragments (X.691 11.9.3.5 to 11.9.3.8).
-/// Answers how many there were.
-pub fn take_unconstrained_items<C: Collector>(
-    bits: &mut BitReader<'_>,
-    codec: Codec,
-    items: &mut C,
-) -> Result<usize, DecodeErrorKind>
-    requires { C.count items.old ≡ 0 }
-    ensures ok { IfOk result (λ n. TookItems C.holds (unconstrained_items (settings codec) (C.item items.old)) n items.old items.new bits.old bits.new) }
-    ensures few { IfOk result (λ n. n < 2 ^ 64) }
-    ensures err { IfErr result (Stopped ((xs : List ℕ) (t : Bits) → length xs < 2 ^ 64 → Took (unconstrained_items (settings codec) (C.item items.old) xs) bits.old t → ⊥)) }
-{
-    let mut count = 0;
-    loop {
-        match take_unconstrained_length(bits, codec)? {
-            Length::Last(more) => return take_more(bits, count, more, items),
-            Length::Fragment(more) => count = take_more(bits, count, more, items)?,
-        }
+    ghost count = { length };
+
+    fn item(&self) -> Item {
+        Item::Bit
+    }
+
+    fn push(&mut self, code: u32) -> Result<(), AllocError> {
+        BitString::push(self, code == 1)
     }
 }
 
-/// Takes an unconstrained length and the octets that it counts, in any row of fragments.
-pub fn take_octets(
-    bits: &mut BitReader<'_>,
-    codec: Codec,
-    alloc: Global,
-) -> Result<Vec<u8>, DecodeErrorKind>
-    ensures ok { IfOk result (λ octets. Took (Octets (settings codec) octets.items) bits.old bits.new) }
-    ensures err { IfErr result (Stopped (NoneIn (Octets (settings codec)) bits.old)) }
-{
-    let mut octets = Vec::new(alloc);
-    take_unconstrained_items(bits, codec, &mut octets)?;
-    Ok(octets)
+/// Characters as they are read.
+#[derive(Drop)]
+pub(crate) struct Characters<S: StaticPermittedAlphabet> {
+    pub(crate) alphabet: CharacterAlphabet,
+    pub(crate) string: S,
+    /// Whether a code had no character. The characters before it stand in the string.
+    pub(crate) has_unknown: bool,
+    ghost own: { (character : ℕ) → has alphabet.characters character ≡ true → has S.alphabet character ≡ true },
+}
+
+impl<S: StaticPermittedAlphabet> Collector for Characters<S> {
+    ghost holds = { λ start c codes. (c.alphabet ≡ start.alphabet) × AreRead start.alphabet c.has_unknown (S.characters c.string) codes };
+
+    ghost item = { λ c. Character (char_width c.alphabet.variant c.alphabet.characters) };
+
+    ghost count = { λ _. 0 };
+
+    fn item(&self) -> Item {
+        Item::Character(self.alphabet.width())
+    }
+
+    fn push(&mut self, code: u32) -> Result<(), AllocError> {
+        if self.has_unknown {
+            return Ok(());
+        }
+        match self.alphabet.decode(code) {
+            Some(character) => self.string.push(character)?,
+            None => self.has_unknown = true,
+        }
+        Ok(())
+    }
+}
+
+impl Reader<'_> {
+    /// Takes `count` items with no length, and appends them.
+    pub(crate) fn take_bare_items<C: Collector>(
+        &mut self,
+        count: usize,
+        items: &mut C,
+    ) -> Result<(), DecodeErrorKind>
+        requires { C.count items.old + count ≤ usize.MAX }
+        ensures { Collects C.holds C.item C.count count items.old self.old result items.new self.new }
+    {
+        let width = items.item().width();
+        let bits = self
+            .bits
+            .take(width * count as u128)
+            .map_err(DecodeErrorKind::Incomplete)?;
+        items.push_items(bits, count)?;
+        Ok(())
+    }
 }

@@ -1,13 +1,92 @@
-//! What the decoder of the packed encoding rules reads out of bits: lengths, numbers, counted items and strings. Each
-//! function takes the front of the bits left, or refuses.
+//! What the packed encoding rules read, bit by bit (ITU-T X.691): whole numbers, lengths, and counted strings in every
+//! form that a basic decoder takes, off the front of the bits left.
 #![tactic(auto)]
 
-pub mod bounded;
+ghost use Rattle.std.specs.Prelude.{◌≡◌, ◌≤◌};
+ghost use Rattle.per_core.specs.Basic.{Octets, bit};
+ghost use Rattle.per_core.specs.Spellings.{Field};
+ghost use Rattle.per_read.specs.Takes.{Takes, short, stopped, itself};
+
 pub mod error;
-pub mod items;
-pub mod length;
-pub mod natural;
-pub mod number;
-pub mod sizes;
-pub mod strings;
-pub mod whole;
+mod integers;
+mod items;
+mod lengths;
+mod numbers;
+mod sizes;
+mod strings;
+
+use error::DecodeErrorKind;
+use per_bits::BitReader;
+use rasn_types::types::Codec;
+use std::alloc::Global;
+use std::marker::Model;
+
+/// Takes numbers, lengths and strings, one after another, off the front of bits. After an error it has taken some of
+/// them, and is of no further use.
+#[derive(Drop)]
+pub struct Reader<'input> {
+    bits: BitReader<'input>,
+    codec: Codec,
+    alloc: Global,
+}
+
+impl<'input> Model for Reader<'input> {
+    ghost use Rattle.per_read.specs.State.{State};
+
+    ghost Value = { State };
+
+    ghost view = { λ r. record { bits = r.bits; codec = r.codec } };
+}
+
+impl<'input> Reader<'input> {
+    /// A reader of bits. What it answers is kept in memory of `alloc`.
+    pub fn new(alloc: Global, bits: BitReader<'input>, codec: Codec) -> Self
+        ensures { result ≡ record { bits = bits.entry; codec = codec } }
+    {
+        Reader { bits, codec, alloc }
+    }
+
+    /// The bits that are left.
+    pub fn bits(&self) -> BitReader<'input>
+        ensures { result ≡ self.now.bits }
+    {
+        self.bits.clone().unwrap()
+    }
+
+    /// The variant in use.
+    pub fn codec(&self) -> Codec
+        ensures { result ≡ self.now.codec }
+    {
+        self.codec
+    }
+
+    /// Where the memory of its answers is from.
+    pub fn alloc(&self) -> Global {
+        self.alloc
+    }
+
+    /// Takes a bit.
+    pub fn take_bit(&mut self) -> Result<bool, DecodeErrorKind>
+        ensures { Takes short (λ a. bit) itself self.old result self.new }
+    {
+        Ok(self.take_bits(1)? == 1)
+    }
+
+    /// Takes the next `width` bits, highest first: the number that they mean (X.691 11.3).
+    fn take_bits(&mut self, width: u128) -> Result<u128, DecodeErrorKind>
+        requires { width ≤ 128 }
+        ensures { Takes short (λ a. Field width) itself self.old result self.new }
+    {
+        let front = self.bits.take(width).map_err(DecodeErrorKind::Incomplete)?;
+        Ok(front.first_bits(width))
+    }
+
+    /// Takes octets behind an unconstrained length (X.691 11.9.3.5 to 11.9.3.8).
+    pub fn take_octets(&mut self) -> Result<Vec<u8>, DecodeErrorKind>
+        ensures { Takes stopped Octets (λ P octets. P octets.items) self.old result self.new }
+    {
+        let mut octets = Vec::new(self.alloc);
+        self.take_unconstrained_items(&mut octets)?;
+        Ok(octets)
+    }
+}

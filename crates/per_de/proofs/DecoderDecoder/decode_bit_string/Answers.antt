@@ -1,12 +1,8 @@
-use Rattle.std.proofs.Common.{refl, ap, ◌∙◌}
-use Rattle.per_de.proofs.Calls.{took_value, refused, faulty}
+use Rattle.std.proofs.Common.{ap, ◌∙◌}
+use Rattle.per_de.proofs.Calls.{reads}
 use Rattle.per_de.proofs.StringCalls.{reads_bits, faulty_bits}
 use Rattle.per_de.proofs.DecoderDecoder.decode_bit_string.Goals as goal
 
-pub returns-in-Ok : goal.returns-in-Ok
-returns-in-Ok c =
-    rw (← c.self.view_is) (took_value _ _ _ _ _ (ap (λ z. z.failed) c.self.view_is ∙ c.in_ok-check_unfailed.ensures.ok) (reads_bits _ _ _ _ c.in-Ok.ensures.ok) refl)
-
-pub returns-in-Err : goal.returns-in-Err
-returns-in-Err c =
-    rw (← c.self.view_is) (refused _ _ _ _ _ _ _ (ap (λ z. z.failed) c.self.view_is ∙ c.in_ok-check_unfailed.ensures.ok) c.refuse.ensures.state (faulty _ _ c.in-Err.kind _ c.refuse.ensures.error (faulty_bits _ _ _ _ c.in-Err.kind c.in-Err.ensures.err)))
+pub returns : goal.returns
+returns c =
+    rw (← c.self.view_is) (reads _ _ (ap (λ z. z.failed) c.self.view_is ∙ c.in_ok-check_unfailed.ensures.ok) (λ v. reads_bits _ _ _ _) c.take_bit_string-taken.ensures c.answer.ensures (λ k. faulty_bits _ _ _ _ k))

@@ -1,12 +1,13 @@
-use Rattle.std.proofs.Common.{refl, ap, ◌∙◌}
-use Rattle.per_de.proofs.Calls.{took_value, refused, faulty}
+use Rattle.std.proofs.Common.{ap, ◌∙◌}
+use Rattle.rasn_types.specs.Values.{octets}
+use Rattle.per_de.proofs.Calls.{reads, reads_ok, reads_err}
 use Rattle.per_de.proofs.StringCalls.{reads_other, faulty_other}
 use Rattle.per_de.proofs.DecoderDecoder.decode_graphic_string.Goals as goal
 
-pub returns-in-Ok : goal.returns-in-Ok
-returns-in-Ok c =
-    rw (c.new.ensures, ← c.self.view_is) (took_value _ _ _ _ _ (ap (λ z. z.failed) c.self.view_is ∙ c.in_ok-check_unfailed.ensures.ok) (reads_other _ _ c.in-Ok.ensures.ok) refl)
+pub returns-in_err-octets : goal.returns-in_err-octets
+returns-in_err-octets c =
+    rw (← c.self.view_is) (reads_err _ _ c.from_residual-in_err-octets.ensures.1 (reads _ (λ os. octets os.items) (ap (λ z. z.failed) c.self.view_is ∙ c.in_ok-check_unfailed.ensures.ok) (λ v. reads_other _ _) c.take_octets-taken.ensures c.in_err-octets.ensures (λ k. faulty_other _ _ k)))
 
-pub returns-in-Err : goal.returns-in-Err
-returns-in-Err c =
-    rw (← c.self.view_is) (refused _ _ _ _ _ _ _ (ap (λ z. z.failed) c.self.view_is ∙ c.in_ok-check_unfailed.ensures.ok) c.refuse.ensures.state (faulty _ _ c.in-Err.kind _ c.refuse.ensures.error (faulty_other _ _ c.in-Err.kind c.in-Err.ensures.err)))
+pub returns : goal.returns
+returns c =
+    rw (← c.self.view_is) (reads_ok _ _ (ap octets c.new.ensures) (reads _ (λ os. octets os.items) (ap (λ z. z.failed) c.self.view_is ∙ c.in_ok-check_unfailed.ensures.ok) (λ v. reads_other _ _) c.take_octets-taken.ensures c.in_ok-octets.ensures (λ k. faulty_other _ _ k)))

@@ -1,11 +1,8 @@
-use Rattle.std.proofs.Common.{refl, ap, ◌∙◌}
-use Rattle.per_de.proofs.Calls.{took_value, refused, faulty, faulty_whole, reads_whole}
+use Rattle.std.proofs.Common.{ap, ◌∙◌}
+use Rattle.per_de.proofs.Calls.{reads}
+use Rattle.per_de.proofs.Calls.{faulty_whole, reads_whole}
 use Rattle.per_de.proofs.DecoderDecoder.decode_integer.Goals as goal
 
-pub returns-in-Ok : goal.returns-in-Ok
-returns-in-Ok g c =
-    rw (← c.self.view_is) (took_value _ _ _ _ _ (ap (λ z. z.failed) c.self.view_is ∙ c.in_ok-check_unfailed.ensures.ok) (reads_whole _ _ _ _ _ _ _ c.in-Ok.ensures.ok) refl)
-
-pub returns-in-Err : goal.returns-in-Err
-returns-in-Err g c =
-    rw (← c.self.view_is) (refused _ _ _ _ _ _ _ (ap (λ z. z.failed) c.self.view_is ∙ c.in_ok-check_unfailed.ensures.ok) c.refuse.ensures.state (faulty _ _ c.in-Err.kind _ c.refuse.ensures.error (faulty_whole _ _ _ _ _ c.in-Err.kind c.in-Err.ensures.err)))
+pub returns : goal.returns
+returns g c =
+    rw (← c.self.view_is) (reads _ _ (ap (λ z. z.failed) c.self.view_is ∙ c.in_ok-check_unfailed.ensures.ok) (λ v. reads_whole _ _ _ _ _ _ _) c.take_integer-taken.ensures c.answer.ensures (λ k. faulty_whole _ _ _ _ _ k))

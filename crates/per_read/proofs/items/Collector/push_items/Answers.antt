@@ -11,7 +11,7 @@ use Rattle.per_read.proofs.items.Collector.push_items.Goals as goal
 pub loop-init : goal.loop-init
 loop-init g c =
     let e : c.width-width.result ≡ bits_of (g.Self.Collector.item c.args.self.now) = c.width-width.ensures ∙ ap bits_of c.item.ensures.item in
-    (row_begins g.Self.Collector.holds c.width-width.result c.args.row c.args.self.now c.args.many (subst (λ (w : ℕ). length c.args.row ≡ w * c.args.many) (sym e) c.requires.bits), refl, omega arith)
+    (row_begins g.Self.Collector.holds c.width-width.result c.args.bits c.args.self.now c.args.many (subst (λ (w : ℕ). length c.args.bits ≡ w * c.args.many) (sym e) c.requires.bits), refl, omega arith)
 
 pub unwrap-item-requires : goal.unwrap-item-requires
 unwrap-item-requires g c = let l = one_more_left c.loop.invariant.0 c.loop-test.true in search rules
@@ -42,8 +42,8 @@ loop-preserved g c =
 pub returns-clause-ok : goal.returns-clause-ok
 returns-clause-ok g c =
     let e : c.width-width.result ≡ bits_of (g.Self.Collector.item c.args.self.now) = c.width-width.ensures ∙ ap bits_of c.item.ensures.item in
-    subst (λ (w : ℕ). TookItems g.Self.Collector.holds (OneByOne (Field w)) c.args.many c.args.self.now c.loop.self c.args.row []) e
-    (row_ends c.loop.invariant.0 c.loop-test.false (sym (append-nil c.args.row)))
+    subst (λ (w : ℕ). TookItems g.Self.Collector.holds (OneByOne (Field w)) c.args.many c.args.self.now c.loop.self c.args.bits []) e
+    (row_ends c.loop.invariant.0 c.loop-test.false (sym (append-nil c.args.bits)))
 
 pub returns-clause-count : goal.returns-clause-count
 returns-clause-count g c = omega (arith, c.loop.invariant.2, c.loop.auto.counter-end)

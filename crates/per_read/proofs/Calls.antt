@@ -1,0 +1,92 @@
+-- What a call takes, by what the calls that it is made of took.
+use Rattle.std.proofs.Common.{◌≡◌, ◌∙◌, ◌<◌, ◌≤◌, ◌⊎◌, inl, inr, sym, ap, subst, refl, ℕ, Bool, nat_eq, List, [], ◌∷◌, ◌++◌, length, take, drop, length-take, arith}
+use Rattle.std.specs.Prelude.{Result, Ok, Err, IsErrAnd}
+use Rattle.std.proofs.lemmas.Bool.{cases_lt}
+use Rattle.std.proofs.lemmas.List.{take-append-drop}
+use Rattle.std.proofs.lemmas.Result.{IfOk-weaker, IfErr-weaker}
+use Rattle.rasn_types.specs.Bits.{Bits, number_of}
+use Rattle.per_core.specs.Basic.{bit}
+use Rattle.per_core.specs.Spellings.{Settings, Spelling, Field}
+use Rattle.per_core.specs.Took.{Took}
+use Rattle.per_core.proofs.Took.{took_bit}
+use Rattle.per_read.specs.Items.{TookItems, TakesItems}
+use Rattle.per_read.specs.Kinds.{IsShort, IsTested, NoneIn}
+use Rattle.per_read.specs.State.{State, settings_of}
+use Rattle.per_read.specs.Takes.{Reason, Takes}
+use Rattle.per_read.specs.declared.error.DecodeErrorKind.{DecodeErrorKind}
+use Rattle.per_read.specs.declared.error.DecodeErrorKind.TheVariants.{Incomplete}
+use Rattle.per_read.proofs.Fields.{field_wide, field_one}
+
+module _ {T X : Type 0} {why : Reason} {form : Settings → X → Spelling} {of : (X → Type 0) → T → Type 0} {x y : State} where
+  -- an answer
+  pub answers : (v : T) → y.codec ≡ x.codec → of (λ w. Took (form (settings_of x) w) x.bits y.bits) v → Takes why form of x (Ok v) y
+  answers v e h = record { ok = h; err = tt; kept = e }
+
+  -- a refusal
+  pub refuses : (k : DecodeErrorKind) → y.codec ≡ x.codec → why (settings_of x) x.bits (NoneIn (form (settings_of x)) x.bits) k → Takes why form of x (Err k) y
+  refuses k e h = record { ok = tt; err = h; kept = e }
+
+  -- a refusal that is handed on
+  pub passes_on : (r : Result T DecodeErrorKind) (k : DecodeErrorKind) → IsErrAnd r (λ e. e ≡ k) → y.codec ≡ x.codec → why (settings_of x) x.bits (NoneIn (form (settings_of x)) x.bits) k → Takes why form of x r y
+  passes_on (Ok v) k h e i = absurd h
+  passes_on (Err f) k h e i = record { ok = tt; err = subst (λ z. why (settings_of x) x.bits (NoneIn (form (settings_of x)) x.bits) z) (sym h) i; kept = e }
+
+  -- what the last call answers, behind what the others took
+  module _ {Z : Type 0} {because : Reason} {last : Settings → Z → Spelling} {is : (Z → Type 0) → T → Type 0} {m : State} where
+    pub takes_last : {r : Result T DecodeErrorKind} → Takes because last is m r y → m.codec ≡ x.codec
+        → ((v : T) → is (λ w. Took (last (settings_of m) w) m.bits y.bits) v → of (λ w. Took (form (settings_of x) w) x.bits y.bits) v)
+        → ((k : DecodeErrorKind) → because (settings_of m) m.bits (NoneIn (last (settings_of m)) m.bits) k → why (settings_of x) x.bits (NoneIn (form (settings_of x)) x.bits) k)
+        → Takes why form of x r y
+    takes_last {r} a e f g = record { ok = IfOk-weaker r _ _ f a.ok; err = IfErr-weaker r _ _ g a.err; kept = a.kept ∙ e }
+
+module _ {C : Type 0} {holds : C → C → List ℕ → Type 0} {why : Reason} {form : Settings → List ℕ → Spelling} {before after : C} {x y : State} where
+  pub answers_items : (n : ℕ) → y.codec ≡ x.codec → TookItems holds (form (settings_of x)) n before after x.bits y.bits → TakesItems holds why form before x (Ok n) after y
+  answers_items n e h = record { ok = h; err = tt; kept = e }
+
+  pub passes_on_items : (r : Result ℕ DecodeErrorKind) (k : DecodeErrorKind) → IsErrAnd r (λ e. e ≡ k) → y.codec ≡ x.codec → why (settings_of x) x.bits (NoneIn (form (settings_of x)) x.bits) k
+      → TakesItems holds why form before x r after y
+  passes_on_items (Ok v) k h e i = absurd h
+  passes_on_items (Err f) k h e i = record { ok = tt; err = subst (λ z. why (settings_of x) x.bits (NoneIn (form (settings_of x)) x.bits) z) (sym h) i; kept = e }
+
+  pub takes_last_items : {because : Reason} {last : Settings → List ℕ → Spelling} {m : State} {r : Result ℕ DecodeErrorKind} → TakesItems holds because last before m r after y → m.codec ≡ x.codec
+      → ((n : ℕ) → TookItems holds (last (settings_of m)) n before after m.bits y.bits → TookItems holds (form (settings_of x)) n before after x.bits y.bits)
+      → ((k : DecodeErrorKind) → because (settings_of m) m.bits (NoneIn (last (settings_of m)) m.bits) k → why (settings_of x) x.bits (NoneIn (form (settings_of x)) x.bits) k)
+      → TakesItems holds why form before x r after y
+  takes_last_items {r = r} a e f g = record { ok = IfOk-weaker r _ _ f a.ok; err = IfErr-weaker r _ _ g a.err; kept = a.kept ∙ e }
+
+-- too few bits, which tests show
+pub of_short : (k : DecodeErrorKind) → IsShort k → IsTested k
+of_short (Incomplete missing) h = tt
+of_short _ h = absurd h
+
+-- fields that aren't there
+pub no_field_in : {w : ℕ} {s : Bits} → length s < w → NoneIn (Field w) s
+no_field_in h n t b = omega (arith, field_wide b)
+
+pub too_short : {w : ℕ} {s : Bits} → NoneIn (Field w) s → length s < w
+too_short {w} {s} none = go (cases_lt (length s) w)
+  where
+    go : (length s < w) ⊎ (w ≤ length s) → length s < w
+    go (inl h) = h
+    go (inr h) = absurd (none (number_of (take w s)) (drop w s) (record {
+      front = take w s;
+      joins = sym (take-append-drop w s);
+      spelled = record { wide = length-take w s ∙ omega arith; means = refl };
+    }))
+
+-- a bit as a field
+pub field_bit : {n : ℕ} {s t : Bits} → Took (Field 1 n) s t → Took (bit (nat_eq n 1)) s t
+field_bit {n} {s} {t} a = subst (λ z. Took (bit (nat_eq n 1)) z t) (sym (field_one a)) (took_bit (nat_eq n 1) t)
+
+pub no_bit_in : {s : Bits} → NoneIn (Field 1) s → NoneIn bit s
+no_bit_in none b t h = none (number_of h.front) t (record { front = h.front; joins = h.joins; spelled = record { wide = ap length h.spelled; means = refl } })
+
+pub ended : {s : Bits} → NoneIn bit s → s ≡ []
+ended {s} = go s
+  where
+    go : (s : Bits) → NoneIn bit s → s ≡ []
+    go [] none = refl
+    go (b ∷ t) none = absurd (none b t (took_bit b t))
+
+pub begins : {b d : Bool} {s t : Bits} → Took (bit b) s t → b ≡ d → s ≡ d ∷ t
+begins {t = t} h e = h.joins ∙ ap (λ z. z ++ t) h.spelled ∙ ap (λ z. z ∷ t) e

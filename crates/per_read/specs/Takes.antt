@@ -1,0 +1,45 @@
+-- What a reading call takes off the front of the bits left, and why it refuses.
+use Rattle.std.specs.Prelude.{◌≡◌, Result, IfOk, IfErr}
+use Rattle.rasn_types.specs.Bits.{Bits}
+use Rattle.per_core.specs.Spellings.{Settings, Spelling}
+use Rattle.per_core.specs.Took.{Took}
+use Rattle.per_read.specs.Kinds.{IsTested, IsShort, NoneIn, Refused, Faulty}
+use Rattle.per_read.specs.State.{State, settings_of}
+use Rattle.per_read.specs.declared.error.DecodeErrorKind.{DecodeErrorKind}
+
+-- why a call refuses, where a fact holds of the bits left
+abbrev pub Reason : Type 1
+Reason = Settings → Bits → Type 0 → DecodeErrorKind → Type 0
+
+-- too few bits are left
+abbrev pub short : Reason
+short a s A k = IsShort k × A
+
+-- a kind that tests show
+abbrev pub tested : Reason
+tested a s = Refused
+
+-- want of memory, or a kind that says something of the bits
+abbrev pub memory_or : (Settings → Bits → DecodeErrorKind → Type 0) → Reason
+memory_or says a s = Faulty (says a s)
+
+-- want of memory, or a kind that tests show
+abbrev pub stopped : Reason
+stopped = memory_or (λ a s. IsTested)
+
+-- a fact of what is answered
+abbrev pub itself : {X : Type 0} → (X → Type 0) → X → Type 0
+itself P v = P v
+
+-- A call that takes what a form spells: Ok answers what a front of the bits left spells, and the bits behind it are left; Err comes only
+-- where no front spells anything, for a reason; and the variant stays. `of` says what of the form an answer is.
+pub record Takes {T X : Type 0} (why : Reason) (form : Settings → X → Spelling) (of : (X → Type 0) → T → Type 0) (x : State)
+    (result : Result T DecodeErrorKind) (y : State) : Type 0 where
+  pub ok : IfOk result (of (λ v. Took (form (settings_of x) v) x.bits y.bits))
+  pub err : IfErr result (why (settings_of x) x.bits (NoneIn (form (settings_of x)) x.bits))
+  pub kept : y.codec ≡ x.codec
+
+-- a call that takes what has a form, and never refuses
+pub record Skips (form : Settings → Spelling) (x y : State) : Type 0 where
+  pub took : Took (form (settings_of x)) x.bits y.bits
+  pub kept : y.codec ≡ x.codec

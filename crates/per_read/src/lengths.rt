@@ -1,0 +1,71 @@
+//! Counts in front of items: unconstrained lengths and the padding before them (X.691 11.9.3.5 to 11.9.3.8).
+
+ghost use Rattle.std.specs.Prelude.{◌≡◌};
+ghost use Rattle.per_core.specs.Spellings.{AnyPadding};
+ghost use Rattle.per_read.specs.Lengths.{LengthOf, CountOf, count_of};
+ghost use Rattle.per_read.specs.Takes.{Takes, Skips, tested, itself};
+
+use crate::Reader;
+use crate::error::{DecodeErrorKind, ParserFailCause};
+use rasn_types::types::Codec;
+
+/// How many items follow a length.
+#[derive(Clone, Copy)]
+pub(crate) enum Length {
+    /// The last items.
+    Last(u128),
+    /// 16384, 32768, 49152 or 65536 items, which a further length follows.
+    Fragment(u128),
+}
+
+impl Length {
+    /// How many items follow.
+    pub(crate) fn count(self) -> u128
+        ensures { result ≡ count_of self }
+    {
+        match self {
+            Length::Last(count) | Length::Fragment(count) => count,
+        }
+    }
+}
+
+impl Reader<'_> {
+    /// Takes the padding before what begins on an octet in the aligned variant: the bits that are left beyond whole
+    /// octets.
+    pub(crate) fn skip_padding(&mut self)
+        ensures { Skips AnyPadding self.old self.new }
+    {
+        match self.codec {
+            Codec::Aper => {
+                let odd = self.bits.len() % 8;
+                let _ = self.bits.take(odd).unwrap();
+            }
+            Codec::Uper => {}
+        }
+    }
+
+    /// Takes how many items follow, which begins on an octet in the aligned variant (X.691 11.9.3.5 to 11.9.3.8).
+    pub(crate) fn take_unconstrained_length(&mut self) -> Result<Length, DecodeErrorKind>
+        ensures { Takes tested LengthOf itself self.old result self.new }
+    {
+        self.skip_padding();
+        self.take_determinant()
+    }
+
+    /// Takes how many items follow: a count below 128 in one octet, one below 16384 in two, or how many times 16384
+    /// (X.691 11.9.3.6 to 11.9.3.8).
+    fn take_determinant(&mut self) -> Result<Length, DecodeErrorKind>
+        ensures { Takes tested (λ a. CountOf) itself self.old result self.new }
+    {
+        if !self.take_bit()? {
+            return Ok(Length::Last(self.take_bits(7)?));
+        }
+        if !self.take_bit()? {
+            return Ok(Length::Last(self.take_bits(14)?));
+        }
+        match self.take_bits(6)? {
+            times @ 1..=4 => Ok(Length::Fragment(16384 * times)),
+            _ => Err(DecodeErrorKind::ParserFail(ParserFailCause::FragmentCode)),
+        }
+    }
+}
