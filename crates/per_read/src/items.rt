@@ -11,12 +11,11 @@ ghost use Rattle.per_read.specs.Strings.{AreRead};
 
 use crate::Reader;
 use crate::error::DecodeErrorKind;
-use per_bits::BitReader;
+use per_bits::{BitList, BitReader};
 use per_core::items::Item;
 use rasn_strings::alphabet::CharacterAlphabet;
 use rasn_strings::strings::StaticPermittedAlphabet;
-use rasn_types::bit_string::BitString;
-use std::alloc::AllocError;
+use std::alloc::{AllocError, Global};
 
 /// What gathers items as they are read.
 pub(crate) trait Collector {
@@ -84,19 +83,24 @@ impl Collector for Vec<u8> {
     }
 }
 
-impl Collector for BitString {
+impl Collector for BitList<Global> {
     ghost holds = { λ _ bits codes. map bit_code bits ≡ codes };
 
     ghost item = { λ _. Bit };
 
-    ghost count = { length };
+    ghost count = { λ _. 0 };
 
     fn item(&self) -> Item {
         Item::Bit
     }
 
     fn push(&mut self, code: u32) -> Result<(), AllocError> {
-        BitString::push(self, code == 1)
+        BitList::push(self, code == 1)
+    }
+
+    fn push_items(&mut self, bits: BitReader<'_>, _many: usize) -> Result<(), AllocError> {
+        self.push_reader(&bits)?;
+        Ok(())
     }
 }
 

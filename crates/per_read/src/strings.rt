@@ -15,6 +15,7 @@ ghost use Rattle.per_read.specs.Takes.{Takes, memory_or, itself};
 use crate::Reader;
 use crate::error::DecodeErrorKind;
 use crate::items::Characters;
+use per_bits::BitList;
 use rasn_schema::constraints::Constraints;
 use rasn_schema::strings::alphabet_under;
 use rasn_strings::strings::StaticPermittedAlphabet;
@@ -47,9 +48,9 @@ impl Reader<'_> {
             let form = λ (a : Settings). Lengthy a size mark bit_items bit in
             Takes (memory_or why) form itself self.old result self.new }
     {
-        let mut string = BitString::new(self.alloc);
-        self.take_items(constraints.size(), &mut string)?;
-        Ok(string)
+        let mut list = BitList::new(self.alloc);
+        let count = self.take_items(constraints.size(), &mut list)?;
+        Ok(BitString::from_vec(list.into_octets(), count))
     }
 
     /// Takes a known-multiplier string under the first size constraint and the first permitted alphabet (X.691 30.5). A
