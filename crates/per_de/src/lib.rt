@@ -82,7 +82,8 @@ impl<'input> Decoder<'input> {
 
     /// A decoder of the bits that a reader has left. What its values own is taken from `alloc`.
     pub fn from_reader(alloc: Global, input: BitReader<'input>, options: DecoderOptions) -> Self
-        ensures { result ≡ record { bits = input.entry; failed = false; levels = options.levels; codec = options.codec } }
+        ensures { let bits = input.entry in
+            result ≡ record { bits = bits; failed = false; levels = options.levels; codec = options.codec } }
     {
         Decoder {
             reader: Reader::new(alloc, input, options.codec),

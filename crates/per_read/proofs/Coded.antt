@@ -25,15 +25,15 @@ module _ {X Y : Type 0} (R : X → Y → Type 0) (f : X → Spelling) (g : Y →
   zip_split (u ∷ us) vs [] z = absurd z
   zip_split (u ∷ us) vs (y ∷ ys) z = let r = zip_split us vs ys z.1 in (y ∷ r.0, r.1, ap (λ z. y ∷ z) r.2, (z.0, r.3), r.4)
 
-  row_as : (xs : List X) (ys : List Y) (p : ℕ) (b : Bits) → Zip R xs ys → OneByOne f xs p b → OneByOne g ys p b
-  row_as [] [] p b z h = h
-  row_as [] (y ∷ ys) p b z h = absurd z
-  row_as (x ∷ xs) [] p b z h = absurd z
-  row_as (x ∷ xs) (y ∷ ys) p b z h = record {
+  one_by_one_as : (xs : List X) (ys : List Y) (p : ℕ) (b : Bits) → Zip R xs ys → OneByOne f xs p b → OneByOne g ys p b
+  one_by_one_as [] [] p b z h = h
+  one_by_one_as [] (y ∷ ys) p b z h = absurd z
+  one_by_one_as (x ∷ xs) [] p b z h = absurd z
+  one_by_one_as (x ∷ xs) (y ∷ ys) p b z h = record {
     front = h.front;
     rest = h.rest;
     is_front = each x y p h.front z.0 h.is_front;
-    is_rest = row_as xs ys (after p h.front) h.rest z.1 h.is_rest;
+    is_rest = one_by_one_as xs ys (after p h.front) h.rest z.1 h.is_rest;
     joins = h.joins;
   }
 
@@ -49,7 +49,7 @@ module _ {X Y : Type 0} (R : X → Y → Type 0) (f : X → Spelling) (g : Y →
           front = r.front;
           rest = r.rest;
           is_front = subst (λ (n : ℕ). LastCount n q r.front) (zip_length xs ys z) r.is_front;
-          is_rest = row_as xs ys (after q r.front) r.rest z r.is_rest;
+          is_rest = one_by_one_as xs ys (after q r.front) r.rest z r.is_rest;
           joins = r.joins;
         };
         joins = h.joins;
@@ -75,7 +75,7 @@ module _ {X Y : Type 0} (R : X → Y → Type 0) (f : X → Spelling) (g : Y →
             is_rest = record {
               front = w.front;
               rest = w.rest;
-              is_front = row_as h.these s.0 (after q r.front) w.front s.3 w.is_front;
+              is_front = one_by_one_as h.these s.0 (after q r.front) w.front s.3 w.is_front;
               is_rest = fragments_as a k h.others s.1 (after (after q r.front) w.front) w.rest s.4 w.is_rest;
               joins = w.joins;
             };
@@ -108,7 +108,7 @@ module _ {X Y : Type 0} (R : X → Y → Type 0) (f : X → Spelling) (g : Y →
               front = r.front;
               rest = r.rest;
               is_front = subst (λ (n : ℕ). PaddingIf (ltb 0 n && is_aligned kind l u) a q r.front) e r.is_front;
-              is_rest = row_as xs ys (after q r.front) r.rest z r.is_rest;
+              is_rest = one_by_one_as xs ys (after q r.front) r.rest z r.is_rest;
               joins = r.joins;
             };
             joins = h.joins;

@@ -1,4 +1,4 @@
--- Rows of items of as many bits each, read one after the other.
+-- Items of as many bits each, read one after the other.
 use Rattle.std.proofs.Common.{Bool, true, false, map, zero, ◌/◌, ap₂, take, drop, replicate, length-take, length-drop, Vec, Global, ◌≡◌, ◌<◌, ◌≤◌, ℕ, suc, ◌+◌, ◌*◌, List, [], ◌∷◌, ◌++◌, length, refl, sym, ◌∙◌, ap, subst, arith, append_assoc, length-append}
 use Rattle.std.proofs.Math.Nat.{mul-suc, mul-le-mul_left}
 use Rattle.std.proofs.lemmas.List.{take_all, take-append-drop, take-append-le, append-nil, length-map, map-append}
@@ -14,26 +14,26 @@ use Rattle.per_read.specs.Items.{Adds, TookItems, bit_code}
 
 module _ (w : ℕ) where
   -- items are spelled alike from every position
-  row_anywhere : (xs : List ℕ) (p q : ℕ) (b : Bits) → OneByOne (Field w) xs p b → OneByOne (Field w) xs q b
-  row_anywhere [] p q b h = h
-  row_anywhere (x ∷ xs) p q b h = record {
+  items_anywhere : (xs : List ℕ) (p q : ℕ) (b : Bits) → OneByOne (Field w) xs p b → OneByOne (Field w) xs q b
+  items_anywhere [] p q b h = h
+  items_anywhere (x ∷ xs) p q b h = record {
     front = h.front;
     rest = h.rest;
     is_front = record { wide = h.is_front.wide; means = h.is_front.means };
-    is_rest = row_anywhere xs (after p h.front) (after q h.front) h.rest h.is_rest;
+    is_rest = items_anywhere xs (after p h.front) (after q h.front) h.rest h.is_rest;
     joins = h.joins;
   }
 
-  pub row_wide : (xs : List ℕ) {s t : Bits} → Took (OneByOne (Field w) xs) s t → w * length xs ≤ length s
-  row_wide [] a = omega arith
-  row_wide (x ∷ xs) {s} {t} a =
+  pub items_wide : (xs : List ℕ) {s t : Bits} → Took (OneByOne (Field w) xs) s t → w * length xs ≤ length s
+  items_wide [] a = omega arith
+  items_wide (x ∷ xs) {s} {t} a =
       let q = then_took a in
       let l : length s ≡ length q.1.front + length q.0 = ap length q.1.joins ∙ length-append q.1.front q.0 in
-      omega (arith, q.1.spelled.wide, row_wide xs q.2, mul-suc w (length xs))
+      omega (arith, q.1.spelled.wide, items_wide xs q.2, mul-suc w (length xs))
 
-  row_more : (xs : List ℕ) (x : ℕ) {s m t : Bits} → Took (OneByOne (Field w) xs) s m → Took (Field w x) m t → Took (OneByOne (Field w) (xs ++ x ∷ [])) s t
-  row_more [] x {s} {m} {t} a b = subst (λ z. Took (OneByOne (Field w) (x ∷ [])) z t) (sym (nothing_took a)) (took_then b (took_nothing t))
-  row_more (y ∷ xs) x a b = let q = then_took a in took_then q.1 (row_more xs x q.2 b)
+  items_more : (xs : List ℕ) (x : ℕ) {s m t : Bits} → Took (OneByOne (Field w) xs) s m → Took (Field w x) m t → Took (OneByOne (Field w) (xs ++ x ∷ [])) s t
+  items_more [] x {s} {m} {t} a b = subst (λ z. Took (OneByOne (Field w) (x ∷ [])) z t) (sym (nothing_took a)) (took_then b (took_nothing t))
+  items_more (y ∷ xs) x a b = let q = then_took a in took_then q.1 (items_more xs x q.2 b)
 
 -- items that were appended one after the other
 pub adds_none : {C : Type 0} (holds : C → C → List ℕ → Type 0) (items : C) → Adds holds items [] items
@@ -43,17 +43,17 @@ pub adds_more : {C : Type 0} {holds : C → C → List ℕ → Type 0} {first se
 adds_more {holds = holds} {third = third} {xs = xs} {ys = ys} a b = record { behind = λ start zs h. subst (λ z. holds start third z) (append_assoc zs xs ys) (b.behind start (zs ++ xs) (a.behind start zs h)) }
 
 -- the first `i` of `count` items
-pub record RowSoFar {C : Type 0} (holds : C → C → List ℕ → Type 0) (w : ℕ) (front row : Bits) (before items : C) (i count : ℕ) : Type 0 where
+pub record FirstItems {C : Type 0} (holds : C → C → List ℕ → Type 0) (w : ℕ) (front here : Bits) (before items : C) (i count : ℕ) : Type 0 where
   pub these : List ℕ
   pub many : length these ≡ i
   pub within : i ≤ count
   pub added : Adds holds before these items
-  pub left : length row + w * i ≡ w * count
-  pub took : Took (OneByOne (Field w) these) front row
+  pub left : length here + w * i ≡ w * count
+  pub took : Took (OneByOne (Field w) these) front here
 
 -- before the first
-pub row_begins : {C : Type 0} (holds : C → C → List ℕ → Type 0) (w : ℕ) (front : Bits) (items : C) (count : ℕ) → length front ≡ w * count → RowSoFar holds w front front items items 0 count
-row_begins holds w front items count l = record {
+pub first_begin : {C : Type 0} (holds : C → C → List ℕ → Type 0) (w : ℕ) (front : Bits) (items : C) (count : ℕ) → length front ≡ w * count → FirstItems holds w front front items items 0 count
+first_begin holds w front items count l = record {
   these = [];
   many = refl;
   within = omega arith;
@@ -63,19 +63,19 @@ row_begins holds w front items count l = record {
 }
 
 -- with one more
-pub row_goes_on : {C : Type 0} {holds : C → C → List ℕ → Type 0} {w : ℕ} {front row rest : Bits} {before items more : C} {i count : ℕ} (x : ℕ) → RowSoFar holds w front row before items i count → i < count
-    → Took (Field w x) row rest → Adds holds items (x ∷ []) more → RowSoFar holds w front rest before more (i + 1) count
-row_goes_on {w = w} {row = row} {rest} {i = i} x h k a b = record {
+pub first_go_on : {C : Type 0} {holds : C → C → List ℕ → Type 0} {w : ℕ} {front here rest : Bits} {before items more : C} {i count : ℕ} (x : ℕ) → FirstItems holds w front here before items i count → i < count
+    → Took (Field w x) here rest → Adds holds items (x ∷ []) more → FirstItems holds w front rest before more (i + 1) count
+first_go_on {w = w} {here = here} {rest} {i = i} x h k a b = record {
   these = h.these ++ x ∷ [];
   many = omega (arith, h.many, length-append h.these (x ∷ []));
   within = omega arith;
   added = adds_more h.added b;
   left = omega (arith, h.left, a.spelled.wide, ap length a.joins, length-append a.front rest, mul-suc w i);
-  took = row_more w h.these x h.took a;
+  took = items_more w h.these x h.took a;
 }
 
 -- there is a further one
-pub one_more_left : {C : Type 0} {holds : C → C → List ℕ → Type 0} {w : ℕ} {front row : Bits} {before items : C} {i count : ℕ} → RowSoFar holds w front row before items i count → i < count → w ≤ length row
+pub one_more_left : {C : Type 0} {holds : C → C → List ℕ → Type 0} {w : ℕ} {front here : Bits} {before items : C} {i count : ℕ} → FirstItems holds w front here before items i count → i < count → w ≤ length here
 one_more_left {w = w} {i = i} h k = omega (arith, h.left, mul-suc w i, mul-le-mul_left {m = suc i} w k)
 
 -- with all of them
@@ -83,25 +83,25 @@ pub no_more : {A : Type 0} (xs : List A) → length xs ≡ 0 → xs ≡ []
 no_more [] l = refl
 no_more (x ∷ xs) l = absurd (omega arith)
 
-pub row_ends : {C : Type 0} {holds : C → C → List ℕ → Type 0} {w : ℕ} {front row s t : Bits} {before items : C} {i count : ℕ} → RowSoFar holds w front row before items i count → count ≤ i → s ≡ front ++ t
+pub first_end : {C : Type 0} {holds : C → C → List ℕ → Type 0} {w : ℕ} {front here s t : Bits} {before items : C} {i count : ℕ} → FirstItems holds w front here before items i count → count ≤ i → s ≡ front ++ t
     → TookItems holds (OneByOne (Field w)) count before items s t
-row_ends {w = w} {front} {row} {s} {t} {i = i} h l e =
-    let n : row ≡ [] = no_more row (omega (arith, h.left, mul-le-mul_left w l)) in
+first_end {w = w} {front} {here} {s} {t} {i = i} h l e =
+    let n : here ≡ [] = no_more here (omega (arith, h.left, mul-le-mul_left w l)) in
     let f : front ≡ h.took.front = h.took.joins ∙ ap (λ z. h.took.front ++ z) n ∙ append-nil h.took.front in
     record {
       codes = h.these;
       count = omega (arith, h.many, h.within);
       added = h.added;
-      took = record { front = h.took.front; joins = e ∙ ap (λ z. z ++ t) f; spelled = row_anywhere w h.these (place front) (place s) h.took.front h.took.spelled };
+      took = record { front = h.took.front; joins = e ∙ ap (λ z. z ++ t) f; spelled = items_anywhere w h.these (place front) (place s) h.took.front h.took.spelled };
     }
 
--- with what stands behind the row
-pub row_within : {C : Type 0} {holds : C → C → List ℕ → Type 0} {w : ℕ} {front s t : Bits} {before items : C} {count : ℕ} → TookItems holds (OneByOne (Field w)) count before items front [] → s ≡ front ++ t → TookItems holds (OneByOne (Field w)) count before items s t
-row_within {w = w} {front} {s} {t} h e = record {
+-- with what stands behind the items
+pub items_within : {C : Type 0} {holds : C → C → List ℕ → Type 0} {w : ℕ} {front s t : Bits} {before items : C} {count : ℕ} → TookItems holds (OneByOne (Field w)) count before items front [] → s ≡ front ++ t → TookItems holds (OneByOne (Field w)) count before items s t
+items_within {w = w} {front} {s} {t} h e = record {
   codes = h.codes;
   count = h.count;
   added = h.added;
-  took = record { front = h.took.front; joins = e ∙ ap (λ z. z ++ t) (h.took.joins ∙ append-nil h.took.front); spelled = row_anywhere w h.codes (place front) (place s) h.took.front h.took.spelled };
+  took = record { front = h.took.front; joins = e ∙ ap (λ z. z ++ t) (h.took.joins ∙ append-nil h.took.front); spelled = items_anywhere w h.codes (place front) (place s) h.took.front h.took.spelled };
 }
 
 -- an item that was taken
@@ -112,45 +112,45 @@ field_taken w x s item t e l n = record {
   spelled = record { wide = l; means = sym (n ∙ ap number_of (take_all w item (omega arith))) };
 }
 
--- octets in a row
-pub row_of_octets : (n : ℕ) (front : Bits) → length front ≡ 8 * n → Took (OneByOne (Field 8) (pack n front)) front []
-row_of_octets zero front l = subst (λ z. Took (OneByOne (Field 8) []) z []) (sym (no_more front (omega arith))) (took_nothing [])
-row_of_octets (suc n) front l = took_then {f = Field 8 (number_of (take 8 (front ++ replicate 8 false)))} {g = OneByOne (Field 8) (pack n (drop 8 front))} {s = front} {m = drop 8 front} {t = []} (record {
+-- octets one by one
+pub octets_one_by_one : (n : ℕ) (front : Bits) → length front ≡ 8 * n → Took (OneByOne (Field 8) (pack n front)) front []
+octets_one_by_one zero front l = subst (λ z. Took (OneByOne (Field 8) []) z []) (sym (no_more front (omega arith))) (took_nothing [])
+octets_one_by_one (suc n) front l = took_then {f = Field 8 (number_of (take 8 (front ++ replicate 8 false)))} {g = OneByOne (Field 8) (pack n (drop 8 front))} {s = front} {m = drop 8 front} {t = []} (record {
   front = take 8 front;
   joins = sym (take-append-drop 8 front);
   spelled = record {
     wide = length-take 8 front ∙ omega arith;
     means = ap number_of (sym (take-append-le 8 front (replicate 8 false) (omega arith)));
   };
-}) (row_of_octets n (drop 8 front) (length-drop 8 front ∙ omega arith))
+}) (octets_one_by_one n (drop 8 front) (length-drop 8 front ∙ omega arith))
 
-pub octets_gathered : (before items : Vec ℕ Global) (n : ℕ) (row : Bits) → length row ≡ 8 * n → items.items ≡ before.items ++ packed row → TookItems (λ _ octets codes. octets.items ≡ codes) (OneByOne (Field 8)) n before items row []
-octets_gathered before items n row l e = record {
-  codes = pack n row;
-  count = length-pack n row;
-  added = record { behind = λ start xs h. e ∙ ap₂ (λ os qs. os ++ qs) h (ap (λ (m : ℕ). pack m row) (let i : (length row + 7) / 8 ≡ n = omega arith in i)) };
-  took = row_of_octets n row l;
+pub octets_gathered : (before items : Vec ℕ Global) (n : ℕ) (here : Bits) → length here ≡ 8 * n → items.items ≡ before.items ++ packed here → TookItems (λ _ octets codes. octets.items ≡ codes) (OneByOne (Field 8)) n before items here []
+octets_gathered before items n here l e = record {
+  codes = pack n here;
+  count = length-pack n here;
+  added = record { behind = λ start xs h. e ∙ ap₂ (λ os qs. os ++ qs) h (ap (λ (m : ℕ). pack m here) (let i : (length here + 7) / 8 ≡ n = omega arith in i)) };
+  took = octets_one_by_one n here l;
 }
 
--- bits in a row
+-- bits one after another
 bit_means : (b : Bool) → number_of (b ∷ []) ≡ bit_code b
 bit_means true = refl
 bit_means false = refl
 
-pub row_of_bits : (row : Bits) → Took (OneByOne (Field 1) (map bit_code row)) row []
-row_of_bits [] = took_nothing []
-row_of_bits (b ∷ bs) = took_then {f = Field 1 (bit_code b)} {g = OneByOne (Field 1) (map bit_code bs)} {s = b ∷ bs} {m = bs} {t = []} (record {
+pub bits_one_by_one : (here : Bits) → Took (OneByOne (Field 1) (map bit_code here)) here []
+bits_one_by_one [] = took_nothing []
+bits_one_by_one (b ∷ bs) = took_then {f = Field 1 (bit_code b)} {g = OneByOne (Field 1) (map bit_code bs)} {s = b ∷ bs} {m = bs} {t = []} (record {
   front = b ∷ [];
   joins = refl;
   spelled = record { wide = refl; means = bit_means b };
-}) (row_of_bits bs)
+}) (bits_one_by_one bs)
 
-pub bits_gathered : (before items : Bits) (n : ℕ) (row : Bits) → length row ≡ 1 * n → items ≡ before ++ row → TookItems (λ _ bits codes. map bit_code bits ≡ codes) (OneByOne (Field 1)) n before items row []
-bits_gathered before items n row l e = record {
-  codes = map bit_code row;
-  count = length-map row bit_code ∙ omega arith;
-  added = record { behind = λ start xs h. ap (map bit_code) e ∙ map-append bit_code before row ∙ ap (λ cs. cs ++ map bit_code row) h };
-  took = row_of_bits row;
+pub bits_gathered : (before items : Bits) (n : ℕ) (here : Bits) → length here ≡ 1 * n → items ≡ before ++ here → TookItems (λ _ bits codes. map bit_code bits ≡ codes) (OneByOne (Field 1)) n before items here []
+bits_gathered before items n here l e = record {
+  codes = map bit_code here;
+  count = length-map here bit_code ∙ omega arith;
+  added = record { behind = λ start xs h. ap (map bit_code) e ∙ map-append bit_code before here ∙ ap (λ cs. cs ++ map bit_code here) h };
+  took = bits_one_by_one here;
 }
 
 -- bits that were appended to none are as many as were counted

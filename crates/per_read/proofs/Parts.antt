@@ -1,4 +1,4 @@
--- Items of as many bits each in any row of fragments, from the first length on (X.691 11.9.3.8).
+-- Items of as many bits each in fragments, from the first length on (X.691 11.9.3.8).
 use Rattle.std.proofs.Common.{◌≡◌, ◌<◌, ◌≤◌, inl, inr, ℕ, zero, suc, true, ◌+◌, ◌*◌, ◌^◌, List, [], ◌++◌, length, refl, sym, ◌∙◌, ap, subst, arith, append_assoc, length-append}
 use Rattle.std.proofs.lemmas.List.{append-nil}
 use Rattle.std.proofs.lemmas.Bool.{lt-ltb, ltb-true}
@@ -20,7 +20,7 @@ use Rattle.per_read.specs.Lengths.{CountOf, LengthOf, count_of}
 use Rattle.per_read.specs.Kinds.{NoneIn, Stopped}
 use Rattle.per_read.proofs.Fields.{field_below}
 use Rattle.per_read.proofs.Counts.{Begins, short, long, fragment, count_begins, one_count, unpadded}
-use Rattle.per_read.proofs.OneByOne.{row_wide, adds_none, adds_more}
+use Rattle.per_read.proofs.OneByOne.{items_wide, adds_none, adds_more}
 
 -- what a length says of its count and of the bits that it takes
 small_count : (l : Length) (s t : Bits) → Took (CountOf l) s t → (count_of l ≤ 65536) × (length t < length s)
@@ -41,25 +41,25 @@ one_length : (a : Settings) (l m : Length) (s t u : Bits) → Took (LengthOf a l
 one_length a l m s t u b c = let q = then_took b in one_count l m q.0 t u q.2 (unpadded q.1 m u c)
 
 module _ (w : ℕ) where
-  one_row : (xs ys : List ℕ) (s t u : Bits) → length xs ≡ length ys → Took (OneByOne (Field w) xs) s t → Took (OneByOne (Field w) ys) s u → (xs ≡ ys) × (t ≡ u)
-  one_row xs ys s t u l b c = took_agree (weaken (Zip-same xs ys) (row_agree (λ x y. x ≡ y) (Field w) (Field w) (field_agree w) xs ys l)) b c
+  same_items : (xs ys : List ℕ) (s t u : Bits) → length xs ≡ length ys → Took (OneByOne (Field w) xs) s t → Took (OneByOne (Field w) ys) s u → (xs ≡ ys) × (t ≡ u)
+  same_items xs ys s t u l b c = took_agree (weaken (Zip-same xs ys) (row_agree (λ x y. x ≡ y) (Field w) (Field w) (field_agree w) xs ys l)) b c
 
-  -- what is behind a row
+  -- what is behind the items of a length
   abbrev pub Tail : Settings → Length → List ℕ → Bits → Bits → Type 0
   Tail a (Last n) others s t = (others ≡ []) × (s ≡ t)
   Tail a (Fragment n) others s t = Took (UnconstrainedLength a (Field w) others) s t
 
-  -- items as a first length, its row and what is behind it
+  -- items as a first length, the items that it counts and what is behind them
   pub record Part (a : Settings) (xs : List ℕ) (s t : Bits) : Type 0 where
     pub head : Length
-    pub row : List ℕ
+    pub these : List ℕ
     pub others : List ℕ
     pub behind : Bits
     pub rest : Bits
     pub is_length : Took (LengthOf a head) s behind
-    pub many : length row ≡ count_of head
-    pub is_row : Took (OneByOne (Field w) row) behind rest
-    pub all : xs ≡ row ++ others
+    pub many : length these ≡ count_of head
+    pub are_these : Took (OneByOne (Field w) these) behind rest
+    pub all : xs ≡ these ++ others
     pub tail : Tail a head others rest t
 
   pub first_part : (a : Settings) (xs : List ℕ) (s t : Bits) → Took (UnconstrainedLength a (Field w) xs) s t → Part a xs s t
@@ -71,13 +71,13 @@ module _ (w : ℕ) where
           let r = then_took q.2 in
           record {
             head = Last (length xs);
-            row = xs;
+            these = xs;
             others = [];
             behind = r.0;
             rest = t;
             is_length = took_then q.1 r.1;
             many = refl;
-            is_row = r.2;
+            are_these = r.2;
             all = sym (append-nil xs);
             tail = (refl, refl);
           }
@@ -87,13 +87,13 @@ module _ (w : ℕ) where
           let v = then_took r.2 in
           record {
             head = Fragment (length h.these);
-            row = h.these;
+            these = h.these;
             others = h.others;
             behind = r.0;
             rest = v.0;
             is_length = took_then q.1 r.1;
             many = refl;
-            is_row = v.1;
+            are_these = v.1;
             all = h.all;
             tail = took_map (λ p c i. record { fragments = k; spelled = i }) v.2;
           }
@@ -143,8 +143,8 @@ module _ {C : Type 0} {holds : C → C → List ℕ → Type 0} {a : Settings} {
           → (others : List ℕ) × (xs ≡ (h.codes ++ c.codes) ++ others) × Took (UnconstrainedLength a (Field w) others) r t
       go xs t others f p =
           let x = one_length a p.head l here p.behind m p.is_length b in
-          let many : length p.row ≡ length c.codes = p.many ∙ ap count_of x.0 ∙ sym i ∙ sym c.count in
-          let y = one_row w p.row c.codes p.behind p.rest r many p.is_row (subst (λ z. Took (OneByOne (Field w) c.codes) z r) (sym x.1) c.took) in (
+          let many : length p.these ≡ length c.codes = p.many ∙ ap count_of x.0 ∙ sym i ∙ sym c.count in
+          let y = same_items w p.these c.codes p.behind p.rest r many p.are_these (subst (λ z. Took (OneByOne (Field w) c.codes) z r) (sym x.1) c.took) in (
             p.others,
             f ∙ ap (λ z. h.codes ++ z) (p.all ∙ ap (λ z. z ++ p.others) y.0) ∙ sym (append_assoc h.codes c.codes p.others),
             subst (λ z. Took (UnconstrainedLength a (Field w) p.others) z t) y.1 (subst (λ z. Tail w a z p.others p.rest t) (x.0 ∙ e) p.tail),
@@ -171,17 +171,17 @@ module _ {C : Type 0} {holds : C → C → List ℕ → Type 0} {a : Settings} {
         let q = h.back xs t (took_map (λ p c x. x.spelled) b) in
         let p = first_part w a q.0 here t q.2 in none p.head p.behind p.is_length
 
-    pub no_items_row : (l : Length) (m : Bits) → Took (LengthOf a l) here m → (n + count_of l < 2 ^ 64 → length m < w * count_of l) → NoneIn (Sized a any_size kind (Field w)) start
-    no_items_row l m b k xs t d =
+    pub no_items_short : (l : Length) (m : Bits) → Took (LengthOf a l) here m → (n + count_of l < 2 ^ 64 → length m < w * count_of l) → NoneIn (Sized a any_size kind (Field w)) start
+    no_items_short l m b k xs t d =
         let i : length xs < 2 ^ 64 = ltb-true (length xs) (2 ^ 64) d.spelled.allowed in
         let q = h.back xs t (took_map (λ p c x. x.spelled) d) in
         let p = first_part w a q.0 here t q.2 in
         let x = one_length a p.head l here p.behind m p.is_length b in
-        let v = row_wide w p.row p.is_row in
+        let v = items_wide w p.these p.are_these in
         let y : length p.behind ≡ length m = ap length x.1 in
-        let z : length p.row ≡ count_of l = p.many ∙ ap count_of x.0 in
-        let u : w * length p.row ≡ w * count_of l = ap (λ (z : ℕ). w * z) z in
-        let g = k (omega (arith, h.count, i, ap length q.1, length-append h.codes q.0, ap length p.all, length-append p.row p.others, z)) in
+        let z : length p.these ≡ count_of l = p.many ∙ ap count_of x.0 in
+        let u : w * length p.these ≡ w * count_of l = ap (λ (z : ℕ). w * z) z in
+        let g = k (omega (arith, h.count, i, ap length q.1, length-append h.codes q.0, ap length p.all, length-append p.these p.others, z)) in
         omega (arith, v, y, u, g)
 
 -- all items are those that were appended to none

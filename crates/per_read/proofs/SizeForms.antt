@@ -17,7 +17,7 @@ use Rattle.per_read.specs.Kinds.{NoneIn}
 use Rattle.per_read.specs.Items.{TookItems}
 use Rattle.per_read.specs.Sizes.{Between, under_size}
 use Rattle.per_read.proofs.Fields.{when_took, field_below}
-use Rattle.per_read.proofs.OneByOne.{row_wide}
+use Rattle.per_read.proofs.OneByOne.{items_wide}
 
 -- one of two spellings
 pub cond_took : (b : Bool) {f g : Spelling} {s t : Bits} → Took (cond b f g) s t → ((b ≡ true) × Took f s t) ⊎ ((b ≡ false) × Took g s t)
@@ -117,7 +117,7 @@ module _ (a : Settings) (lb ub : ℕ) (kind : Counted) (w o n : ℕ) {s m : Bits
       let d : Took (PaddingIf test a) m v.0 = subst (λ z. Took (PaddingIf test a) z v.0) z.1 (subst (λ z. Took (PaddingIf z a) r.0 v.0) j v.1) in
       let g : length v.0 ≡ length l = ap length (padding_once a test d p) in
       let y : w * length xs ≡ w * n = ap (λ (z : ℕ). w * z) f in
-      omega (arith, row_wide w xs v.2, g, y, k)
+      omega (arith, items_wide w xs v.2, g, y, k)
 
 pub no_code_between : (a : Settings) (lb ub : ℕ) (kind : Counted) (item : ℕ → Spelling) {s : Bits} → NoneIn (constrained_form a (ub - lb + 1)) s → NoneIn (Between a lb ub kind item) s
 no_code_between a lb ub kind item none xs u c = let r = then_took (when_took c).1 in none (length xs - lb) r.0 r.1

@@ -47,7 +47,8 @@ pub(crate) trait Collector {
     fn push_items(&mut self, bits: BitReader<'_>, many: usize) -> Result<(), AllocError>
         requires bits { length bits ≡ bits_of (item self.old) * many }
         requires room { count self.old + many ≤ usize.MAX }
-        ensures ok { OnOk result (TookItems holds (OneByOne (coded (item self.old))) many self.old self.new bits.entry []) }
+        ensures ok { let form = OneByOne (coded (item self.old)) in
+            OnOk result (TookItems holds form many self.old self.new bits.entry []) }
         ensures item { OnOk result (item self.new ≡ item self.old) }
         ensures count { OnOk result (count self.new ≤ count self.old + many) }
     {

@@ -47,8 +47,9 @@ impl Reader<'_> {
         items: &mut C,
     ) -> Result<usize, DecodeErrorKind>
         requires { C.count items.old ≡ 0 }
-        ensures { let why = λ (a : Settings). IsOfItems a (size_between size.constraint) size.extensible (C.item items.old) in
-            let form = λ (a : Settings). lengthy_items a (size_between size.constraint) size.extensible (C.item items.old) in
+        ensures { let bounds = size_between size.constraint in
+            let why = λ (a : Settings). IsOfItems a bounds size.extensible (C.item items.old) in
+            let form = λ (a : Settings). lengthy_items a bounds size.extensible (C.item items.old) in
             TakesItems C.holds (memory_or why) form items.old self.old result items.new self.new }
     {
         if !size.extensible {

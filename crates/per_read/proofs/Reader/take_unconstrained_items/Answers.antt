@@ -4,7 +4,7 @@ use Rattle.per_core.specs.Items.{bits_of, counted_of}
 use Rattle.per_core.specs.Spellings.{Field}
 use Rattle.per_read.specs.Items.{TookItems}
 use Rattle.per_read.proofs.Calls.{answers_items, passes_on_items}
-use Rattle.per_read.proofs.Parts.{small_length, items_go_on, items_end, no_items_length, no_items_row, stopped}
+use Rattle.per_read.proofs.Parts.{small_length, items_go_on, items_end, no_items_length, no_items_short, stopped}
 use Rattle.per_read.proofs.Reader.take_unconstrained_items.Goals as goal
 
 pub returns-in_err-length : goal.returns-in_err-length
@@ -22,7 +22,7 @@ returns-in-None g c =
     let t = c.in_ok-length.ensures in
     record {
       ok = tt;
-      err = inr (tt, no_items_row h.0 (counted_of (g.C.Collector.item c.args.items.now)) c.in_ok-length.length _ (rw h.1 at t.ok) (λ few. absurd (omega (arith, few, c.in-None.ensures, c.count-more.ensures))));
+      err = inr (tt, no_items_short h.0 (counted_of (g.C.Collector.item c.args.items.now)) c.in_ok-length.length _ (rw h.1 at t.ok) (λ few. absurd (omega (arith, few, c.in-None.ensures, c.count-more.ensures))));
       kept = t.kept ∙ h.1;
     }
 
@@ -33,7 +33,7 @@ returns-in_err-take_bare_items g c =
     let b = c.in_err-take_bare_items.ensures in
     let m = c.take_unconstrained_length.new.self.bits in
     passes_on_items _ _ c.from_residual-in_err-take_bare_items.ensures.1 (b.kept ∙ t.kept ∙ h.1)
-    (stopped _ (λ short. no_items_row h.0 (counted_of (g.C.Collector.item c.args.items.now)) c.in_ok-length.length _ (rw h.1 at t.ok)
+    (stopped _ (λ short. no_items_short h.0 (counted_of (g.C.Collector.item c.args.items.now)) c.in_ok-length.length _ (rw h.1 at t.ok)
     (λ few. subst (λ (n : ℕ). length m < bits_of (g.C.Collector.item c.args.items.now) * n) c.count-more.ensures (subst (λ z. length m < bits_of z * c.count-more.result) h.2 short))) b.err)
 
 pub returns-in-Last : goal.returns-in-Last
