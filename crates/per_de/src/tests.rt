@@ -17,22 +17,56 @@ use std::test::Fail;
 
 mod strings;
 
+const UNALIGNED: DecoderOptions = DecoderOptions {
+    codec: Codec::Uper,
+    levels: 128,
+};
+
 const ALIGNED: DecoderOptions = DecoderOptions {
     codec: Codec::Aper,
     levels: 128,
 };
+
+const NO_CONSTRAINT: &[Constraint] = &[];
+
+fn options_of(codec: Codec) -> DecoderOptions {
+    DecoderOptions { codec, levels: 128 }
+}
+
+fn take_bool(decoder: &mut Decoder<'_>) -> Result<bool, Fail> {
+    Ok(decoder.decode_bool(Tag::BOOL)?)
+}
+
+fn take_number(decoder: &mut Decoder<'_>) -> Result<i128, Fail> {
+    Ok(decoder.decode_integer(Tag::INTEGER, &Constraints::NONE)?)
+}
 
 /// What the first INTEGER in the octets is, and how many bits are left behind it.
 fn read<I: IntegerType>(
     alloc: Global,
     octets: &[u8],
     options: DecoderOptions,
-    constraints: &Constraints,
+    constraints: &'static [Constraint],
 ) -> Result<(Result<I, DecodeError>, u128), Fail> {
     let list = BitList::from_octets(alloc, octets)?;
     let mut decoder = Decoder::new(alloc, &list, options);
-    let number = decoder.decode_integer(Tag::INTEGER, constraints);
+    let number = decoder.decode_integer(Tag::INTEGER, &Constraints::new(constraints));
     Ok((number, decoder.input().len()))
+}
+
+fn expect_under(
+    rt: &impl Abort,
+    alloc: Global,
+    options: DecoderOptions,
+    constraints: &'static [Constraint],
+    octets: &[u8],
+    expected: i128,
+    expected_left: u128,
+) -> Result<(), Fail> {
+    let (number, left) = read::<i128>(alloc, octets, options, constraints)?;
+    assert_eq!(rt; number, Ok(expected), "of {octets:?}");
+    assert_eq!(rt; left, expected_left, "of {octets:?}");
+    Ok(())
 }
 
 fn expect_number(
@@ -41,10 +75,20 @@ fn expect_number(
     octets: &[u8],
     expected: i128,
 ) -> Result<(), Fail> {
-    let unaligned = DecoderOptions::unaligned();
-    let (number, left) = read::<i128>(alloc, octets, unaligned, &Constraints::NONE)?;
-    assert_eq!(rt; number, Ok(expected), "of {octets:?}");
-    assert_eq!(rt; left, 0, "of {octets:?}");
+    expect_under(rt, alloc, UNALIGNED, NO_CONSTRAINT, octets, expected, 0)
+}
+
+fn expect_none_under(
+    rt: &impl Abort,
+    alloc: Global,
+    options: DecoderOptions,
+    constraints: &'static [Constraint],
+    octets: &[u8],
+    kind: DecodeErrorKind,
+) -> Result<(), Fail> {
+    let (number, _) = read::<i128>(alloc, octets, options, constraints)?;
+    let codec = options.codec;
+    assert_eq!(rt; number, Err(DecodeError { kind, codec }), "of {octets:?}");
     Ok(())
 }
 
@@ -54,11 +98,7 @@ fn expect_refusal(
     octets: &[u8],
     kind: DecodeErrorKind,
 ) -> Result<(), Fail> {
-    let unaligned = DecoderOptions::unaligned();
-    let (number, _) = read::<i128>(alloc, octets, unaligned, &Constraints::NONE)?;
-    let codec = Codec::Uper;
-    assert_eq!(rt; number, Err(DecodeError { kind, codec }), "of {octets:?}");
-    Ok(())
+    expect_none_under(rt, alloc, UNALIGNED, NO_CONSTRAINT, octets, kind)
 }
 
 #[test]
@@ -66,16 +106,20 @@ fn reads_each_value(rt: HostRuntime) -> Result<(), Fail> {
     let list = BitList::from_octets(rt.alloc(), &[0x80, 0x82, 0x80])?;
     let mut decoder = Decoder::new(rt.alloc(), &list, DecoderOptions::unaligned());
     assert_eq!(rt; decoder.codec(), Codec::Uper);
-    assert!(rt; decoder.decode_bool(Tag::BOOL)?);
+    assert!(rt; take_bool(&mut decoder)?);
     assert_eq!(rt; decoder.input().len(), 23);
-    decoder.decode_null(Tag::NULL)?;
-    assert_eq!(rt; decoder.input().len(), 23);
-    assert_eq!(rt;
-        decoder.decode_integer::<i128>(Tag::INTEGER, &Constraints::NONE)?,
-        5
-    );
+    assert_eq!(rt; take_number(&mut decoder)?, 5);
     assert_eq!(rt; decoder.input().len(), 7);
-    assert!(rt; !decoder.decode_bool(Tag::BOOL)?);
+    assert!(rt; !take_bool(&mut decoder)?);
+    Ok(())
+}
+
+#[test]
+fn reads_null_of_no_bits(rt: HostRuntime) -> Result<(), Fail> {
+    let list = BitList::from_octets(rt.alloc(), &[0x80])?;
+    let mut decoder = Decoder::new(rt.alloc(), &list, DecoderOptions::unaligned());
+    decoder.decode_null(Tag::NULL)?;
+    assert_eq!(rt; decoder.input().len(), 8);
     Ok(())
 }
 
@@ -95,11 +139,7 @@ fn reads_what_is_not_canonical(rt: HostRuntime) -> Result<(), Fail> {
 
 #[test]
 fn reads_fragments(rt: HostRuntime) -> Result<(), Fail> {
-    let mut octets = Vec::new(rt.alloc());
-    octets.push(0xc1)?;
-    for _ in 0..16384 {
-        octets.push(0x00)?;
-    }
+    let mut octets = repeated(rt.alloc(), 0xc1, 0x00, 16384)?;
     octets.push(0x01)?;
     octets.push(0x05)?;
     expect_number(&rt, rt.alloc(), &octets, 5)
@@ -111,53 +151,37 @@ fn reads_behind_padding(rt: HostRuntime) -> Result<(), Fail> {
     let list = BitList::from_octets(rt.alloc(), &[0x80, 0x05, 0x0a, 0x24, 0x0a, 0x8d, 0x1f])?;
     let mut decoder = Decoder::new(rt.alloc(), &list, ALIGNED);
     assert_eq!(rt; decoder.codec(), Codec::Aper);
-    assert!(rt; decoder.decode_bool(Tag::BOOL)?);
-    let number: i128 = decoder.decode_integer(Tag::INTEGER, &Constraints::NONE)?;
-    assert_eq!(rt; number, 43_554_344_223);
+    assert!(rt; take_bool(&mut decoder)?);
+    assert_eq!(rt; take_number(&mut decoder)?, 43_554_344_223);
     assert!(rt; decoder.input().is_empty());
     Ok(())
 }
 
+const FRAGMENT_CODE: DecodeErrorKind = DecodeErrorKind::ParserFail(ParserFailCause::FragmentCode);
+
+const REFUSALS: &[(&[u8], DecodeErrorKind)] = &[
+    (&[0x00], DecodeErrorKind::UnexpectedEmptyInput),
+    (&[0x02, 0x10], DecodeErrorKind::Incomplete(8)),
+    (&[0x80], DecodeErrorKind::Incomplete(8)),
+    (&[0xc0], FRAGMENT_CODE),
+    (&[0xc5], FRAGMENT_CODE),
+    (&[0xff], FRAGMENT_CODE),
+    // a fragment of 16384 octets, of which one is there
+    (&[0xc1, 0x00], DecodeErrorKind::Incomplete(131_064)),
+];
+
 #[test]
 fn refuses_by_kind(rt: HostRuntime) -> Result<(), Fail> {
-    let fragment_code = DecodeErrorKind::ParserFail(ParserFailCause::FragmentCode);
-    expect_refusal(
-        &rt,
-        rt.alloc(),
-        &[0x00],
-        DecodeErrorKind::UnexpectedEmptyInput,
-    )?;
-    expect_refusal(
-        &rt,
-        rt.alloc(),
-        &[0x02, 0x10],
-        DecodeErrorKind::Incomplete(8),
-    )?;
-    expect_refusal(&rt, rt.alloc(), &[0x80], DecodeErrorKind::Incomplete(8))?;
-    expect_refusal(&rt, rt.alloc(), &[0xc0], fragment_code)?;
-    expect_refusal(&rt, rt.alloc(), &[0xc5], fragment_code)?;
-    expect_refusal(&rt, rt.alloc(), &[0xff], fragment_code)?;
-    // a fragment of 16384 octets, of which one is there
-    expect_refusal(
-        &rt,
-        rt.alloc(),
-        &[0xc1, 0x00],
-        DecodeErrorKind::Incomplete(131_064),
-    )
+    for (octets, kind) in REFUSALS {
+        expect_refusal(&rt, rt.alloc(), octets, *kind)?;
+    }
+    Ok(())
 }
 
 #[test]
 fn refuses_what_the_type_does_not_hold(rt: HostRuntime) -> Result<(), Fail> {
-    // 17 octets of 2 to the power 127
-    let mut octets = [0; 18];
-    octets[0] = 0x11;
-    octets[2] = 0x80;
-    expect_refusal(
-        &rt,
-        rt.alloc(),
-        &octets,
-        DecodeErrorKind::IntegerOverflow(128),
-    )
+    let kind = DecodeErrorKind::IntegerOverflow(128);
+    expect_refusal(&rt, rt.alloc(), TWO_TO_127, kind)
 }
 
 // (..65535)
@@ -229,88 +253,79 @@ fn repeated(alloc: Global, first: u8, then: u8, count: usize) -> Result<Vec<u8>,
     Ok(octets)
 }
 
+const NUMBERS: &[(Codec, &[Constraint], &[u8], i128, u128)] = &[
+    (Codec::Uper, UP_TO_65535, &[0x01, 0x80], -128, 0),
+    (Codec::Uper, FROM_MINUS_1, &[0x02, 0x10, 0x01], 4096, 0),
+    (Codec::Uper, FROM_1_TO_10, &[0x80, 0x88, 0x00], 16, 7),
+    (Codec::Uper, FROM_1_TO_10, &[0x20], 5, 3),
+    (Codec::Uper, FROM_1_TO_10, &[0x80, 0x82, 0x80], 5, 7),
+    (Codec::Uper, FROM_MINUS_1_TO_254, &[0x00], -1, 0),
+    (Codec::Uper, SEVEN, &[], 7, 0),
+    (Codec::Aper, FROM_0_TO_65536, &[0x00, 0xfd], 253, 0),
+    (Codec::Aper, FROM_0_TO_65536, &[0x40, 0x01, 0x00], 256, 0),
+    (
+        Codec::Aper,
+        FROM_0_TO_65536,
+        &[0x80, 0x01, 0x00, 0x00],
+        65536,
+        0,
+    ),
+    // a count of four octets, which is more than 65536 takes
+    (
+        Codec::Aper,
+        FROM_0_TO_65536,
+        &[0xc0, 0x00, 0x00, 0x00, 0x05],
+        5,
+        0,
+    ),
+    (Codec::Aper, FROM_MINUS_1_TO_254, &[0x06], 5, 0),
+];
+
 #[test]
 fn reads_numbers_under_bounds(rt: HostRuntime) -> Result<(), Fail> {
-    let unaligned = DecoderOptions::unaligned();
-    let rows: [(DecoderOptions, &'static [Constraint], &[u8], i128, u128); 12] = [
-        (unaligned, UP_TO_65535, &[0x01, 0x80], -128, 0),
-        (unaligned, FROM_MINUS_1, &[0x02, 0x10, 0x01], 4096, 0),
-        (unaligned, FROM_1_TO_10, &[0x80, 0x88, 0x00], 16, 7),
-        (unaligned, FROM_1_TO_10, &[0x20], 5, 3),
-        (unaligned, FROM_1_TO_10, &[0x80, 0x82, 0x80], 5, 7),
-        (unaligned, FROM_MINUS_1_TO_254, &[0x00], -1, 0),
-        (unaligned, SEVEN, &[], 7, 0),
-        (ALIGNED, FROM_0_TO_65536, &[0x00, 0xfd], 253, 0),
-        (ALIGNED, FROM_0_TO_65536, &[0x40, 0x01, 0x00], 256, 0),
-        (
-            ALIGNED,
-            FROM_0_TO_65536,
-            &[0x80, 0x01, 0x00, 0x00],
-            65536,
-            0,
-        ),
-        // a count of four octets, which is more than 65536 takes
-        (
-            ALIGNED,
-            FROM_0_TO_65536,
-            &[0xc0, 0x00, 0x00, 0x00, 0x05],
-            5,
-            0,
-        ),
-        (ALIGNED, FROM_MINUS_1_TO_254, &[0x06], 5, 0),
-    ];
-    for (options, constraints, octets, expected, left) in rows {
-        let constraints = Constraints::new(constraints);
-        let (number, behind) = read::<i128>(rt.alloc(), octets, options, &constraints)?;
-        assert_eq!(rt; number, Ok(expected), "of {octets:?}");
-        assert_eq!(rt; behind, left, "of {octets:?}");
+    for (codec, constraints, octets, expected, left) in NUMBERS {
+        expect_under(
+            &rt,
+            rt.alloc(),
+            options_of(*codec),
+            constraints,
+            octets,
+            *expected,
+            *left,
+        )?;
     }
     Ok(())
 }
 
+// 17 octets of 2 to the power 127
+const TWO_TO_127: &[u8] = &[0x11, 0, 0x80, 0, 0, 0, 0, 0, 0, 0, 0, 0, 0, 0, 0, 0, 0, 0];
+
 #[test]
 fn refuses_numbers_outside_bounds(rt: HostRuntime) -> Result<(), Fail> {
-    let unaligned = DecoderOptions::unaligned();
-    let constraints = Constraints::new(FROM_1_TO_10);
-    let (number, _) = read::<i128>(rt.alloc(), &[0x78], unaligned, &constraints)?;
     let kind = DecodeErrorKind::ValueConstraintNotSatisfied(Some(16), Some(1), Some(10));
-    let codec = Codec::Uper;
-    assert_eq!(rt; number, Err(DecodeError { kind, codec }));
-
-    // 2 to the power 127 is named by its absence
-    let mut octets = [0; 18];
-    octets[0] = 0x11;
-    octets[2] = 0x80;
-    let constraints = Constraints::new(UP_TO_65535);
-    let (number, _) = read::<i128>(rt.alloc(), &octets, unaligned, &constraints)?;
-    let kind = DecodeErrorKind::ValueConstraintNotSatisfied(None, None, Some(65535));
-    assert_eq!(rt; number, Err(DecodeError { kind, codec }));
-
-    let constraints = Constraints::new(FROM_0_TO_65536);
-    let octets = [0x80, 0x01, 0x00, 0x01];
-    let (number, _) = read::<i128>(rt.alloc(), &octets, ALIGNED, &constraints)?;
+    expect_none_under(&rt, rt.alloc(), UNALIGNED, FROM_1_TO_10, &[0x78], kind)?;
     let kind = DecodeErrorKind::ValueConstraintNotSatisfied(Some(65537), Some(0), Some(65536));
-    let codec = Codec::Aper;
-    assert_eq!(rt; number, Err(DecodeError { kind, codec }));
-    Ok(())
+    let octets = &[0x80, 0x01, 0x00, 0x01];
+    expect_none_under(&rt, rt.alloc(), ALIGNED, FROM_0_TO_65536, octets, kind)?;
+    // 2 to the power 127 is named by its absence
+    let kind = DecodeErrorKind::ValueConstraintNotSatisfied(None, None, Some(65535));
+    expect_none_under(&rt, rt.alloc(), UNALIGNED, UP_TO_65535, TWO_TO_127, kind)
 }
 
 #[test]
 fn refuses_numbers_that_do_not_fit(rt: HostRuntime) -> Result<(), Fail> {
-    let unaligned = DecoderOptions::unaligned();
-    let codec = Codec::Uper;
     let octets = repeated(rt.alloc(), 0x10, 0xff, 16)?;
-    let constraints = Constraints::new(FROM_0);
-    let (number, _) = read::<i128>(rt.alloc(), &octets, unaligned, &constraints)?;
     let kind = DecodeErrorKind::IntegerOverflow(128);
-    assert_eq!(rt; number, Err(DecodeError { kind, codec }));
+    expect_none_under(&rt, rt.alloc(), UNALIGNED, FROM_0, &octets, kind)
+}
 
-    // a lower bound that doesn't fit the type refuses nothing by itself
-    let constraints = Constraints::new(FROM_MINUS_1_TO_254);
-    let (number, _) = read::<u8>(rt.alloc(), &[0x06], unaligned, &constraints)?;
+// a lower bound that doesn't fit the type refuses nothing by itself
+#[test]
+fn fits_a_number_behind_its_bounds(rt: HostRuntime) -> Result<(), Fail> {
+    let (number, _) = read::<u8>(rt.alloc(), &[0x06], UNALIGNED, FROM_MINUS_1_TO_254)?;
     assert_eq!(rt; number, Ok(5));
-    let (number, _) = read::<u8>(rt.alloc(), &[0x00], unaligned, &constraints)?;
-    let kind = DecodeErrorKind::IntegerOverflow(8);
+    let (number, _) = read::<u8>(rt.alloc(), &[0x00], UNALIGNED, FROM_MINUS_1_TO_254)?;
+    let (kind, codec) = (DecodeErrorKind::IntegerOverflow(8), Codec::Uper);
     assert_eq!(rt; number, Err(DecodeError { kind, codec }));
     Ok(())
 }
@@ -355,31 +370,48 @@ impl Constructed for Empty {
     ghost is_record = { λ _. refl };
 }
 
+/// Opens so many records, and answers the innermost of them.
+fn open_many(decoder: &mut Decoder<'_>, count: u32) -> Result<Option<Scope>, Fail> {
+    let mut innermost = None;
+    for _ in 0..count {
+        innermost = Some(decoder.open_sequence::<Empty>(Empty::TAG)?);
+    }
+    Ok(innermost)
+}
+
 #[test]
 fn takes_a_level_for_each_record(rt: HostRuntime) -> Result<(), Fail> {
     let list = BitList::from_octets(rt.alloc(), &[0xa0])?;
     let mut decoder = Decoder::new(rt.alloc(), &list, DecoderOptions::unaligned());
-    let mut scopes = Vec::new(rt.alloc());
-    for _ in 0..128 {
-        scopes.push(decoder.open_sequence::<Empty>(Empty::TAG)?)?;
-    }
-    // the level of a record that is closed may be entered again
-    let Some(innermost) = scopes.pop() else {
+    let Some(innermost) = open_many(&mut decoder, 128)? else {
         panic!(rt; "a scope was opened");
     };
-    assert!(rt; decoder.decode_bool(Tag::BOOL)?);
-    decoder.close_sequence(innermost)?;
-    assert!(rt; !decoder.decode_bool(Tag::BOOL)?);
-    let again = decoder.open_sequence::<Empty>(Empty::TAG)?;
-    assert_eq!(rt; decoder.input().len(), 6);
-
     let codec = Codec::Uper;
     let kind = DecodeErrorKind::ExceedsMaxParseDepth;
     let deeper = decoder.open_sequence::<Empty>(Empty::TAG);
     assert_eq!(rt; deeper.err(), Some(DecodeError { kind, codec }));
     let kind = DecodeErrorKind::AlreadyFailed;
-    let closed = decoder.close_sequence(again);
+    let closed = decoder.close_sequence(innermost);
     assert_eq!(rt; closed, Err(DecodeError { kind, codec }));
+    Ok(())
+}
+
+// the level of a record that is closed may be entered again
+#[test]
+fn gives_a_level_back(rt: HostRuntime) -> Result<(), Fail> {
+    let list = BitList::from_octets(rt.alloc(), &[0xa0])?;
+    let mut decoder = Decoder::new(rt.alloc(), &list, DecoderOptions::unaligned());
+    let Some(innermost) = open_many(&mut decoder, 128)? else {
+        panic!(rt; "a scope was opened");
+    };
+    assert!(rt; take_bool(&mut decoder)?);
+    decoder.close_sequence(innermost)?;
+    assert!(rt; !take_bool(&mut decoder)?);
+    assert!(rt; open_many(&mut decoder, 1)?.is_some());
+    assert_eq!(rt; decoder.input().len(), 6);
+    let kind = DecodeErrorKind::ExceedsMaxParseDepth;
+    let deeper = decoder.open_sequence::<Empty>(Empty::TAG);
+    assert_eq!(rt; deeper.err().map(|error| error.kind), Some(kind));
     Ok(())
 }
 

@@ -1,11 +1,6 @@
 use super::*;
 use rasn_strings::strings::{BmpString, Ia5String, NumericString, PrintableString, VisibleString};
 
-const UNALIGNED: DecoderOptions = DecoderOptions {
-    codec: Codec::Uper,
-    levels: 128,
-};
-
 /// A size constraint from a least to a greatest count.
 macro_rules! size {
     ($start:expr, $end:expr, $extensible:expr) => {
@@ -125,32 +120,47 @@ fn expect_no_octets(
     Ok(())
 }
 
+type Row = (Codec, &'static [Constraint], &'static [u8], &'static [u8]);
+
+const OCTETS: &[Row] = &[
+    (Codec::Uper, &[], &[0x00], &[]),
+    (Codec::Uper, &[], &[0x02, 0xaa, 0xbb], &[0xaa, 0xbb]),
+    // a length of two octets
+    (Codec::Uper, &[], &[0x80, 0x02, 0xaa, 0xbb], &[0xaa, 0xbb]),
+    (Codec::Aper, JUST_2, &[0xaa, 0xbb], &[0xaa, 0xbb]),
+    (Codec::Uper, UP_TO_4, &[0x02, 0x01, 0x02], &[1, 2]),
+    // a count in 16 bits, and one without bounds
+    (Codec::Uper, UP_TO_65535_ITEMS, &[0x00, 0x01, 0xaa], &[0xaa]),
+    (Codec::Uper, UP_TO_65536_ITEMS, &[0x01, 0xaa], &[0xaa]),
+    // behind bit 1 a count that the size allows
+    (
+        Codec::Uper,
+        TWO_OR_MORE,
+        &[0x81, 0x00, 0x80, 0x80],
+        &[0x01, 0x01],
+    ),
+];
+
 #[test]
 fn reads_octet_strings(rt: HostRuntime) -> Result<(), Fail> {
-    expect_octets(&rt, rt.alloc(), UNALIGNED, &[], &[0x00], &[])?;
-    expect_octets(
-        &rt,
-        rt.alloc(),
-        UNALIGNED,
-        &[],
-        &[0x02, 0xaa, 0xbb],
-        &[0xaa, 0xbb],
-    )?;
-    // a length of two octets
-    expect_octets(
-        &rt,
-        rt.alloc(),
-        UNALIGNED,
-        &[],
-        &[0x80, 0x02, 0xaa, 0xbb],
-        &[0xaa, 0xbb],
-    )?;
+    for (codec, constraints, encoding, expected) in OCTETS {
+        expect_octets(
+            &rt,
+            rt.alloc(),
+            options_of(*codec),
+            constraints,
+            encoding,
+            expected,
+        )?;
+    }
+    Ok(())
+}
+
+#[test]
+fn reads_octet_strings_behind_two_octets(rt: HostRuntime) -> Result<(), Fail> {
     let encoding = repeated(rt.alloc(), 0x80, 0x80, 129)?;
     let expected = repeated(rt.alloc(), 0x80, 0x80, 127)?;
-    expect_octets(&rt, rt.alloc(), UNALIGNED, &[], &encoding, &expected)?;
-
-    let fragment_code = DecodeErrorKind::ParserFail(ParserFailCause::FragmentCode);
-    expect_no_octets(&rt, rt.alloc(), UNALIGNED, &[], &[0xc5], fragment_code)
+    expect_octets(&rt, rt.alloc(), UNALIGNED, &[], &encoding, &expected)
 }
 
 #[test]
@@ -166,127 +176,119 @@ fn reads_octet_strings_in_fragments(rt: HostRuntime) -> Result<(), Fail> {
 }
 
 #[test]
-fn reads_octet_strings_under_sizes(rt: HostRuntime) -> Result<(), Fail> {
-    expect_octets(
-        &rt,
-        rt.alloc(),
-        ALIGNED,
-        JUST_2,
-        &[0xaa, 0xbb],
-        &[0xaa, 0xbb],
-    )?;
-    expect_octets(
-        &rt,
-        rt.alloc(),
-        UNALIGNED,
-        UP_TO_4,
-        &[0x02, 0x01, 0x02],
-        &[1, 2],
-    )?;
-    // a count in 16 bits, and one without bounds
-    expect_octets(
-        &rt,
-        rt.alloc(),
-        UNALIGNED,
-        UP_TO_65535_ITEMS,
-        &[0x00, 0x01, 0xaa],
-        &[0xaa],
-    )?;
-    expect_octets(
-        &rt,
-        rt.alloc(),
-        UNALIGNED,
-        UP_TO_65536_ITEMS,
-        &[0x01, 0xaa],
-        &[0xaa],
-    )?;
-    // behind bit 1 a count that the size allows
-    expect_octets(
-        &rt,
-        rt.alloc(),
-        UNALIGNED,
-        TWO_OR_MORE,
-        &[0x81, 0x00, 0x80, 0x80],
-        &[0x01, 0x01],
-    )?;
-
-    let too_many = DecodeErrorKind::SizeConstraintNotSatisfied(6, None, Some(4));
-    expect_no_octets(
-        &rt,
-        rt.alloc(),
-        UNALIGNED,
-        UP_TO_4,
-        &[0x06, 0x01, 0x02, 0x03, 0x04, 0x05, 0x06],
-        too_many,
-    )?;
+fn refuses_octet_strings(rt: HostRuntime) -> Result<(), Fail> {
+    expect_no_octets(&rt, rt.alloc(), UNALIGNED, &[], &[0xc5], FRAGMENT_CODE)?;
+    let kind = DecodeErrorKind::SizeConstraintNotSatisfied(6, None, Some(4));
+    let encoding = &[0x06, 0x01, 0x02, 0x03, 0x04, 0x05, 0x06];
+    expect_no_octets(&rt, rt.alloc(), UNALIGNED, UP_TO_4, encoding, kind)?;
     // the octets are read before their count is checked
-    let missing = DecodeErrorKind::Incomplete(8);
-    expect_no_octets(
-        &rt,
-        rt.alloc(),
-        UNALIGNED,
-        UP_TO_4,
-        &[0x06, 1, 2, 3, 4, 5],
-        missing,
-    )
+    let kind = DecodeErrorKind::Incomplete(8);
+    let encoding = &[0x06, 1, 2, 3, 4, 5];
+    expect_no_octets(&rt, rt.alloc(), UNALIGNED, UP_TO_4, encoding, kind)
+}
+
+fn expect_bits(
+    rt: &impl Abort,
+    alloc: Global,
+    options: DecoderOptions,
+    constraints: &'static [Constraint],
+    encoding: &[u8],
+    expected: &BitString,
+    expected_left: u128,
+) -> Result<(), Fail> {
+    let (bits, left) = bits_of(alloc, options, constraints, encoding)?;
+    match bits {
+        Ok(bits) => assert!(rt; bits == *expected),
+        Err(kind) => panic!(rt; "{kind}"),
+    }
+    assert_eq!(rt; left, expected_left);
+    Ok(())
 }
 
 #[test]
 fn reads_bit_strings(rt: HostRuntime) -> Result<(), Fail> {
+    let expected = BitString::from_octets(rt.alloc(), &[0xe0], 3)?;
+    let encoding = &[0x81, 0xf0];
+    expect_bits(
+        &rt,
+        rt.alloc(),
+        UNALIGNED,
+        TWO_OR_MORE,
+        encoding,
+        &expected,
+        4,
+    )
+}
+
+#[test]
+fn reads_bit_strings_in_fragments(rt: HostRuntime) -> Result<(), Fail> {
     let mut encoding = repeated(rt.alloc(), 0xc1, 0x55, 2048)?;
     encoding.push(0x00)?;
-    let octets = repeated(rt.alloc(), 0x55, 0x55, 2047)?;
-    let (bits, left) = bits_of(rt.alloc(), ALIGNED, &[], &encoding)?;
-    match bits {
-        Ok(bits) => {
-            assert_eq!(rt; bits.len(), 16384);
-            assert_eq!(rt; bits.as_octets(), octets.as_slice());
-        }
-        Err(kind) => panic!(rt; "{kind}"),
-    }
-    assert_eq!(rt; left, 0);
+    let octets = vec![in rt.alloc(); 0x55u8; 2048]?;
+    let expected = BitString::from_octets(rt.alloc(), &octets, 16384)?;
+    expect_bits(&rt, rt.alloc(), ALIGNED, &[], &encoding, &expected, 0)
+}
 
-    let (bits, left) = bits_of(rt.alloc(), UNALIGNED, TWO_OR_MORE, &[0x81, 0xf0])?;
-    assert_eq!(rt; bits, Ok(BitString::from_octets(rt.alloc(), &[0xe0], 3)?));
-    assert_eq!(rt; left, 4);
+type VisibleRow = (
+    Codec,
+    &'static [Constraint],
+    &'static [u8],
+    &'static [u8],
+    u128,
+);
+
+const VISIBLE: &[VisibleRow] = &[
+    (
+        Codec::Uper,
+        FROM_1_TO_3,
+        &[0x82, 0x61, 0xc5, 0x8f, 0x20],
+        b"abcd",
+        3,
+    ),
+    (
+        Codec::Aper,
+        FROM_1_TO_3,
+        &[0x80, 0x04, 0x61, 0x62, 0x63, 0x64],
+        b"abcd",
+        0,
+    ),
+    (Codec::Uper, A_TO_E, &[0x08, 0x80], b"AE", 5),
+    (Codec::Aper, A_TO_E, &[0x08, 0x04], b"AE", 0),
+    (Codec::Uper, ONLY_X, &[0x03], b"xxx", 0),
+    // behind bit 1 a count that the size allows
+    (Codec::Uper, FROM_1_TO_3, &[0x80, 0xe1], b"a", 0),
+];
+
+fn expect_visible(
+    rt: &impl Abort,
+    alloc: Global,
+    options: DecoderOptions,
+    constraints: &'static [Constraint],
+    encoding: &[u8],
+    expected: &[u8],
+    expected_left: u128,
+) -> Result<(), Fail> {
+    let (string, left) = string_of::<VisibleString>(alloc, options, constraints, encoding)?;
+    match string {
+        Ok(string) => assert_eq!(rt; string.as_iso646_bytes(), expected, "of {encoding:?}"),
+        Err(kind) => panic!(rt; "{kind} of {encoding:?}"),
+    }
+    assert_eq!(rt; left, expected_left, "of {encoding:?}");
     Ok(())
 }
 
 #[test]
 fn reads_visible_strings(rt: HostRuntime) -> Result<(), Fail> {
-    let rows: [(DecoderOptions, &'static [Constraint], &[u8], &[u8], u128); 6] = [
-        (
-            UNALIGNED,
-            FROM_1_TO_3,
-            &[0x82, 0x61, 0xc5, 0x8f, 0x20],
-            b"abcd",
-            3,
-        ),
-        (
-            ALIGNED,
-            FROM_1_TO_3,
-            &[0x80, 0x04, 0x61, 0x62, 0x63, 0x64],
-            b"abcd",
-            0,
-        ),
-        (UNALIGNED, A_TO_E, &[0x08, 0x80], b"AE", 5),
-        (ALIGNED, A_TO_E, &[0x08, 0x04], b"AE", 0),
-        (UNALIGNED, ONLY_X, &[0x03], b"xxx", 0),
-        // behind bit 1 a count that the size allows
-        (UNALIGNED, FROM_1_TO_3, &[0x80, 0xe1], b"a", 0),
-    ];
-    for (options, constraints, encoding, expected, left) in rows {
-        let (string, behind) = string_of::<VisibleString>(
+    for (codec, constraints, encoding, expected, left) in VISIBLE {
+        expect_visible(
+            &rt,
             rt.alloc(),
-            options,
+            options_of(*codec),
             constraints,
             encoding,
+            expected,
+            *left,
         )?;
-        match string {
-            Ok(string) => assert_eq!(rt; string.as_iso646_bytes(), expected, "of {encoding:?}"),
-            Err(kind) => panic!(rt; "{kind} of {encoding:?}"),
-        }
-        assert_eq!(rt; behind, left, "of {encoding:?}");
     }
     Ok(())
 }
@@ -299,78 +301,152 @@ fn reads_characters_of_no_bits_in_fragments(rt: HostRuntime) -> Result<(), Fail>
     Ok(())
 }
 
-#[test]
-fn refuses_strings_of_characters(rt: HostRuntime) -> Result<(), Fail> {
-    // a code past the last
-    let ones = repeated(rt.alloc(), 0xff, 0xff, 19)?;
-    let (string, _) = string_of::<VisibleString>(rt.alloc(), UNALIGNED, FROM_1_TO_10_ITEMS, &ones)?;
-    let kind = DecodeErrorKind::SizeConstraintNotSatisfied(16, Some(1), Some(10));
-    assert_eq!(rt; string.err(), Some(kind));
-    // a code without a character, and one in a string that is too long
-    let (string, _) = string_of::<VisibleString>(rt.alloc(), UNALIGNED, A_TO_E, &[0x0f, 0x00])?;
-    assert_eq!(rt; string.err(), Some(DecodeErrorKind::PermittedAlphabet));
-    let (string, _) = string_of::<VisibleString>(rt.alloc(), UNALIGNED, A_TO_E, &ones)?;
-    let kind = DecodeErrorKind::SizeConstraintNotSatisfied(32, Some(1), Some(20));
-    assert_eq!(rt; string.err(), Some(kind));
-    // three characters of seven bits, of which none is there
-    let (string, _) = string_of::<VisibleString>(rt.alloc(), UNALIGNED, &[], &[0x03])?;
-    assert_eq!(rt; string.err(), Some(DecodeErrorKind::Incomplete(21)));
+fn expect_no_visible(
+    rt: &impl Abort,
+    alloc: Global,
+    constraints: &'static [Constraint],
+    encoding: &[u8],
+    kind: DecodeErrorKind,
+) -> Result<(), Fail> {
+    let (string, _) = string_of::<VisibleString>(alloc, UNALIGNED, constraints, encoding)?;
+    assert_eq!(rt; string.err(), Some(kind), "of {encoding:?}");
     Ok(())
 }
 
 #[test]
-fn reads_each_type_of_string(rt: HostRuntime) -> Result<(), Fail> {
-    let list = BitList::from_octets(
-        rt.alloc(),
-        &[
-            0x02, 0xc3, 0xa9, 0x01, 0xff, 0x01, 0xfe, 0x01, 0xfd, 0x01, 0xfc,
-        ],
-    )?;
-    let mut decoder = Decoder::new(rt.alloc(), &list, UNALIGNED);
-    let none = Constraints::NONE;
-    let text = decoder.decode_utf8_string(Tag::UTF8_STRING, &none)?;
-    assert_eq!(rt; text.as_str(), "\u{e9}");
-    let general = decoder.decode_general_string(Tag::GENERAL_STRING, &none)?;
-    assert_eq!(rt; general.as_bytes(), [0xff].as_slice());
-    let graphic = decoder.decode_graphic_string(Tag::GRAPHIC_STRING, &none)?;
-    assert_eq!(rt; graphic.as_bytes(), [0xfe].as_slice());
-    let teletex = decoder.decode_teletex_string(Tag::TELETEX_STRING, &none)?;
-    assert_eq!(rt; teletex.as_bytes(), [0xfd].as_slice());
-    let any = decoder.decode_any(Tag::OCTET_STRING)?;
-    assert_eq!(rt; any.as_bytes(), [0xfc].as_slice());
-    assert!(rt; decoder.input().is_empty());
+fn refuses_counts_of_characters(rt: HostRuntime) -> Result<(), Fail> {
+    let ones = repeated(rt.alloc(), 0xff, 0xff, 19)?;
+    // a code past the last
+    let kind = DecodeErrorKind::SizeConstraintNotSatisfied(16, Some(1), Some(10));
+    expect_no_visible(&rt, rt.alloc(), FROM_1_TO_10_ITEMS, &ones, kind)?;
+    // a code without a character in a string that is too long
+    let kind = DecodeErrorKind::SizeConstraintNotSatisfied(32, Some(1), Some(20));
+    expect_no_visible(&rt, rt.alloc(), A_TO_E, &ones, kind)
+}
 
-    // no UTF-8
+#[test]
+fn refuses_strings_of_characters(rt: HostRuntime) -> Result<(), Fail> {
+    // a code without a character
+    let kind = DecodeErrorKind::PermittedAlphabet;
+    expect_no_visible(&rt, rt.alloc(), A_TO_E, &[0x0f, 0x00], kind)?;
+    // three characters of seven bits, of which none is there
+    let kind = DecodeErrorKind::Incomplete(21);
+    expect_no_visible(&rt, rt.alloc(), &[], &[0x03], kind)
+}
+
+#[test]
+fn reads_a_text(rt: HostRuntime) -> Result<(), Fail> {
+    let list = BitList::from_octets(rt.alloc(), &[0x02, 0xc3, 0xa9])?;
+    let mut decoder = Decoder::new(rt.alloc(), &list, UNALIGNED);
+    let text = decoder.decode_utf8_string(Tag::UTF8_STRING, &Constraints::NONE)?;
+    assert_eq!(rt; text.as_str(), "\u{e9}");
+    assert!(rt; decoder.input().is_empty());
+    Ok(())
+}
+
+#[test]
+fn refuses_octets_that_are_no_text(rt: HostRuntime) -> Result<(), Fail> {
     let list = BitList::from_octets(rt.alloc(), &[0x02, 0xc3, 0x28])?;
     let mut decoder = Decoder::new(rt.alloc(), &list, UNALIGNED);
-    let text = decoder.decode_utf8_string(Tag::UTF8_STRING, &none);
+    let text = decoder.decode_utf8_string(Tag::UTF8_STRING, &Constraints::NONE);
     let kind = DecodeErrorKind::StringConversionFailed;
     assert_eq!(rt; text.err().map(|error| error.kind), Some(kind));
     Ok(())
 }
 
 #[test]
-fn reads_each_alphabet(rt: HostRuntime) -> Result<(), Fail> {
-    // in ALIGNED a character has four, eight or sixteen bits
-    let list = BitList::from_octets(
-        rt.alloc(),
-        &[
-            0x01, 0x41, 0x01, 0x0a, 0x01, 0x3f, 0x02, 0x1a, 0x01, 0x20, 0xac,
-        ],
-    )?;
-    let mut decoder = Decoder::new(rt.alloc(), &list, ALIGNED);
-    let none = Constraints::NONE;
-    let visible: VisibleString = decoder.decode_visible_string(Tag::VISIBLE_STRING, &none)?;
-    assert_eq!(rt; visible.as_iso646_bytes(), b"A".as_slice());
-    let ia5: Ia5String = decoder.decode_ia5_string(Tag::IA5_STRING, &none)?;
-    assert_eq!(rt; ia5.as_iso646_bytes(), b"\n".as_slice());
-    let printable: PrintableString = decoder.decode_printable_string(Tag::PRINTABLE_STRING, &none)?;
-    assert_eq!(rt; printable.as_bytes(), b"?".as_slice());
-    let numeric: NumericString = decoder.decode_numeric_string(Tag::NUMERIC_STRING, &none)?;
-    assert_eq!(rt; numeric.as_bytes(), b"09".as_slice());
-    let bmp: BmpString = decoder.decode_bmp_string(Tag::BMP_STRING, &none)?;
-    assert_eq!(rt; bmp.as_units(), [0x20ac].as_slice());
+fn reads_a_general_string(rt: HostRuntime) -> Result<(), Fail> {
+    let list = BitList::from_octets(rt.alloc(), &[0x01, 0xff])?;
+    let mut decoder = Decoder::new(rt.alloc(), &list, UNALIGNED);
+    let string = decoder.decode_general_string(Tag::GENERAL_STRING, &Constraints::NONE)?;
+    assert_eq!(rt; string.as_bytes(), [0xff].as_slice());
     assert!(rt; decoder.input().is_empty());
+    Ok(())
+}
+
+#[test]
+fn reads_a_graphic_string(rt: HostRuntime) -> Result<(), Fail> {
+    let list = BitList::from_octets(rt.alloc(), &[0x01, 0xfe])?;
+    let mut decoder = Decoder::new(rt.alloc(), &list, UNALIGNED);
+    let string = decoder.decode_graphic_string(Tag::GRAPHIC_STRING, &Constraints::NONE)?;
+    assert_eq!(rt; string.as_bytes(), [0xfe].as_slice());
+    assert!(rt; decoder.input().is_empty());
+    Ok(())
+}
+
+#[test]
+fn reads_a_teletex_string(rt: HostRuntime) -> Result<(), Fail> {
+    let list = BitList::from_octets(rt.alloc(), &[0x01, 0xfd])?;
+    let mut decoder = Decoder::new(rt.alloc(), &list, UNALIGNED);
+    let string = decoder.decode_teletex_string(Tag::TELETEX_STRING, &Constraints::NONE)?;
+    assert_eq!(rt; string.as_bytes(), [0xfd].as_slice());
+    assert!(rt; decoder.input().is_empty());
+    Ok(())
+}
+
+#[test]
+fn reads_octets_of_another_encoding(rt: HostRuntime) -> Result<(), Fail> {
+    let list = BitList::from_octets(rt.alloc(), &[0x01, 0xfc])?;
+    let mut decoder = Decoder::new(rt.alloc(), &list, UNALIGNED);
+    let octets = decoder.decode_any(Tag::OCTET_STRING)?;
+    assert_eq!(rt; octets.as_bytes(), [0xfc].as_slice());
+    assert!(rt; decoder.input().is_empty());
+    Ok(())
+}
+
+// in the aligned variant a character has four, eight or sixteen bits
+
+#[test]
+fn reads_a_visible_string(rt: HostRuntime) -> Result<(), Fail> {
+    let list = BitList::from_octets(rt.alloc(), &[0x01, 0x41])?;
+    let mut decoder = Decoder::new(rt.alloc(), &list, ALIGNED);
+    let string: VisibleString = decoder.decode_visible_string(
+        Tag::VISIBLE_STRING,
+        &Constraints::NONE,
+    )?;
+    assert_eq!(rt; string.as_iso646_bytes(), b"A".as_slice());
+    Ok(())
+}
+
+#[test]
+fn reads_an_ia5_string(rt: HostRuntime) -> Result<(), Fail> {
+    let list = BitList::from_octets(rt.alloc(), &[0x01, 0x0a])?;
+    let mut decoder = Decoder::new(rt.alloc(), &list, ALIGNED);
+    let string: Ia5String = decoder.decode_ia5_string(Tag::IA5_STRING, &Constraints::NONE)?;
+    assert_eq!(rt; string.as_iso646_bytes(), b"\n".as_slice());
+    Ok(())
+}
+
+#[test]
+fn reads_a_printable_string(rt: HostRuntime) -> Result<(), Fail> {
+    let list = BitList::from_octets(rt.alloc(), &[0x01, 0x3f])?;
+    let mut decoder = Decoder::new(rt.alloc(), &list, ALIGNED);
+    let string: PrintableString = decoder.decode_printable_string(
+        Tag::PRINTABLE_STRING,
+        &Constraints::NONE,
+    )?;
+    assert_eq!(rt; string.as_bytes(), b"?".as_slice());
+    Ok(())
+}
+
+#[test]
+fn reads_a_numeric_string(rt: HostRuntime) -> Result<(), Fail> {
+    let list = BitList::from_octets(rt.alloc(), &[0x02, 0x1a])?;
+    let mut decoder = Decoder::new(rt.alloc(), &list, ALIGNED);
+    let string: NumericString = decoder.decode_numeric_string(
+        Tag::NUMERIC_STRING,
+        &Constraints::NONE,
+    )?;
+    assert_eq!(rt; string.as_bytes(), b"09".as_slice());
+    Ok(())
+}
+
+#[test]
+fn reads_a_bmp_string(rt: HostRuntime) -> Result<(), Fail> {
+    let list = BitList::from_octets(rt.alloc(), &[0x01, 0x20, 0xac])?;
+    let mut decoder = Decoder::new(rt.alloc(), &list, ALIGNED);
+    let string: BmpString = decoder.decode_bmp_string(Tag::BMP_STRING, &Constraints::NONE)?;
+    assert_eq!(rt; string.as_units(), [0x20ac].as_slice());
     Ok(())
 }
 
