@@ -7,3 +7,4 @@ pub mod position;
 pub mod speed;
 #[cfg(test)]
 mod tests;
+pub mod vehicle;

@@ -1,4 +1,8 @@
+//! A speed: an INTEGER by hand, with the calls of an encoder and a decoder.
+
+ghost use Rattle.std.specs.Prelude.{refl};
 ghost use Rattle.rasn_types.specs.Values.{whole};
+ghost use Rattle.rasn_types.specs.declared.types.TheConstants.Tag.{INTEGER};
 ghost use Rattle.rasn_constraints.specs.Ranges.{i128_range, no_constraints};
 ghost use Rattle.rasn_schema.specs.Forms.{always, number_schema, simple_unfolds};
 
@@ -6,6 +10,7 @@ use rasn_codec::codec::{Decode, Decoder, Encode, Encoder};
 use rasn_schema::schema::{AsnType, Constraints};
 use rasn_types::types::{Identifier, Tag};
 
+/// Speed ::= INTEGER
 #[derive(Clone, Copy)]
 pub struct Speed {
     pub metres_a_second: i128,
@@ -14,19 +19,19 @@ pub struct Speed {
 impl AsnType for Speed {
     const TAG: Tag = Tag::INTEGER;
 
+    ghost TAG = { INTEGER };
+
     const CONSTRAINTS: Constraints = Constraints::NONE;
 
     ghost CONSTRAINTS = { no_constraints };
-
-    const IDENTIFIER: Identifier = Identifier::EMPTY;
 
     ghost schema = { λ c. always (number_schema c i128_range) };
 
     ghost value = { λ s. whole s.metres_a_second };
 
-    ghost levels = { λ _. 0 };
-
     ghost unfolds = { λ c. simple_unfolds (number_schema c i128_range) tt };
+
+    ghost tag_fits = { λ _ _. refl };
 }
 
 impl Encode for Speed {

@@ -5,12 +5,11 @@ use Rattle.rasn_types.specs.Variants
 use Rattle.rasn_types.specs.Variants.{unaligned}
 use Rattle.rasn_types.specs.Values.{Value}
 use Rattle.rasn_constraints.specs.Bounds.{unbounded, between, Size, any_size}
-use Rattle.rasn_schema.specs.Schemas.{Schema, listed}
+use Rattle.rasn_schema.specs.Schemas.{Schema}
 use Rattle.rasn_schema.specs.Forms.{always}
-use Rattle.rasn_schema.specs.Records.{record_at, no_additions}
-use Rattle.per_samples_a.specs.Numbers.{at_least, at_most}
-use Rattle.per_samples_a.specs.Fours.{four_parts}
-use Rattle.per_samples_a.specs.Sevens.{seven_parts}
+use Rattle.rasn_schema.specs.Components.{lower_bound, upper_bound, sequence_of}
+use Rattle.per_samples_a.specs.Fours.{four}
+use Rattle.per_samples_a.specs.Sevens.{seven}
 use Rattle.rasn_per.specs.Complete.{AreBytes, HasNoBytes, AreReadAs, AreUnread}
 use Rattle.rasn_per.specs.Kinds.{IsInOctets}
 use Rattle.per_write.specs.declared.error.EncodeErrorKind.TheVariants as Encoding
@@ -37,13 +36,13 @@ abbrev pub schema_of : TypeName → ℕ → Schema
 schema_of Boolean = always Schema.boolean
 schema_of Null = always Schema.null
 schema_of Integer = always (Schema.number unbounded false unbounded)
-schema_of UpTo65535 = always (Schema.number (at_most (pos 65535)) false unbounded)
-schema_of FromMinusOne = always (Schema.number (at_least (negsuc 0)) false unbounded)
-schema_of Natural = always (Schema.number (at_least (pos 0)) false unbounded)
+schema_of UpTo65535 = always (Schema.number (upper_bound (pos 65535)) false unbounded)
+schema_of FromMinusOne = always (Schema.number (lower_bound (negsuc 0)) false unbounded)
+schema_of Natural = always (Schema.number (lower_bound (pos 0)) false unbounded)
 schema_of ZeroTo65536 = always (Schema.number (between (pos 0) (pos 65536)) false unbounded)
 schema_of OneToTenExtensible = always (Schema.number (between (pos 1) (pos 10)) true unbounded)
-schema_of Four = record_at listed four_parts false no_additions
-schema_of Seven = record_at listed seven_parts false no_additions
+schema_of Four = sequence_of four
+schema_of Seven = sequence_of seven
 schema_of ShortVisible = always (Schema.char_string visible (one_to 3) true)
 schema_of LettersAToE = always (Schema.char_string (from_to 5 65) (one_to 20) false)
 schema_of BitString = always (Schema.bit_string any_size false)

@@ -2,6 +2,7 @@ pub mod Basic
 pub mod Canon
 pub mod Counts
 pub mod Ends
+pub mod Items
 pub mod Spellings
 pub mod Took
 pub mod Versions

@@ -28,7 +28,8 @@ pub fn basic_encodings_are_prefix_free()
         basic a s v p b → basic a s w p c → b ++ t ≡ c ++ r → (v ≡ w) × (b ≡ c) }
 {}
 
-/// A canonical encoding is a basic encoding of the same value, from every position, whether padding must be zero or not.
+/// A canonical encoding is a basic encoding of the same value, from every position, whether padding must be zero or
+/// not.
 pub fn canonical_encoding_is_basic()
     ensures { (a : Settings) (s : Schema) (v : Value) (p : ℕ) (b : Bits) →
         canon a.variant s v p ≡ Some b → basic a s v p b }
@@ -40,7 +41,8 @@ pub fn canonical_bytes_are_decoded()
         bytes a.variant s v ≡ Some octets → fills a s v octets }
 {}
 
-/// The canonical bytes of a value, with any octets behind them, are read as that value and those octets, and as nothing else.
+/// The canonical bytes of a value, with any octets behind them, are read as that value and those octets, and as
+/// nothing else.
 pub fn canonical_bytes_are_decoded_with_remainder()
     ensures { (a : Settings) (s : Schema) (v : Value) (octets rest : List ℕ) →
         bytes a.variant s v ≡ Some octets →
@@ -67,7 +69,8 @@ pub fn equal_bytes_exactly_where_normal_forms_are_equal()
         (b ≡ c) ↔ (normal s v ≡ normal s w) }
 {}
 
-/// What is written depends on its position modulo 8 alone: so the bits for eight positions are the bits for all (X.691, 11.1).
+/// What is written depends on its position modulo 8 alone: so the bits for eight positions are the bits for all
+/// (X.691, 11.1).
 pub fn encoding_depends_on_position_modulo_eight()
     ensures { (a : Variant) (s : Schema) (v : Value) (p : ℕ) →
         canon a s v (p + 8) ≡ canon a s v p }

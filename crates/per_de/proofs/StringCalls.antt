@@ -13,7 +13,7 @@ use Rattle.per_core.proofs.Took.{took_map}
 use Rattle.per_read.specs.Kinds.{Faulty, NoneIn, Stopped}
 use Rattle.per_read.specs.Sizes.{IsOfItems}
 use Rattle.per_read.specs.Strings.{IsOfString, IsOfText}
-use Rattle.per_read.specs.declared.items.Item.TheVariants.{Octet, Bit}
+use Rattle.per_core.specs.declared.items.Item.TheVariants.{Octet, Bit}
 use Rattle.per_read.specs.declared.error.DecodeErrorKind.{DecodeErrorKind}
 use Rattle.per_read.proofs.Refusals.{faulty_map}
 use Rattle.per_read.proofs.Texts.{tested_text}

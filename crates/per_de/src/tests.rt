@@ -1,15 +1,17 @@
 ghost use Rattle.std.specs.Prelude.{[], refl, false};
+ghost use Rattle.rasn_types.specs.declared.types.TheConstants.Tag.{SEQUENCE};
 ghost use Rattle.rasn_schema.specs.Schemas.{listed};
 ghost use Rattle.rasn_constraints.specs.Ranges.{no_constraints};
 ghost use Rattle.rasn_schema.specs.Families.{record_unfolds, parts_unfold};
 ghost use Rattle.rasn_schema.specs.Records.{record_at, no_additions, record_value};
+ghost use Rattle.rasn_schema.specs.Tags.{sequence_tag};
 
 use super::*;
 use rasn_codec::codec::Decoder as _;
 use rasn_schema::constraints::{Bounded, Constraint, Extensible};
 use rasn_schema::fields::Fields;
 use rasn_schema::schema::AsnType;
-use rasn_types::types::{Class, Identifier};
+use rasn_types::types::Identifier;
 use std::process::Abort;
 use std::test::Fail;
 
@@ -318,10 +320,9 @@ fn refuses_numbers_that_do_not_fit(rt: HostRuntime) -> Result<(), Fail> {
 struct Empty {}
 
 impl AsnType for Empty {
-    const TAG: Tag = Tag {
-        class: Class::Universal,
-        value: 16,
-    };
+    const TAG: Tag = Tag::SEQUENCE;
+
+    ghost TAG = { SEQUENCE };
 
     const CONSTRAINTS: Constraints = Constraints::NONE;
 
@@ -334,6 +335,8 @@ impl AsnType for Empty {
     ghost levels = { λ _. 1 };
 
     ghost unfolds = { λ _. record_unfolds parts_unfold parts_unfold };
+
+    ghost tag_fits = { λ _. sequence_tag no_additions false no_additions };
 }
 
 impl Constructed for Empty {

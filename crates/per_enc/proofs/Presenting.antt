@@ -3,25 +3,23 @@ use Rattle.std.specs.Prelude.{OnOk, OnErr, IfErr, Result, Ok, Err, Bool}
 use Rattle.std.proofs.Common.{◌≡◌, refl, sym, ap, ◌∙◌, subst, true, false, ℕ, List, [], ◌∷◌, Some, append-nil, inl, inr, None, Option, ℤ, rules}
 use Rattle.rasn_types.specs.Bits.{Bits}
 use Rattle.rasn_types.specs.Codecs.{variant_of}
-use Rattle.rasn_types.specs.Octets.{whole_bits}
 use Rattle.rasn_types.specs.Values.{Value, truth, nothing, octets, whole}
 use Rattle.rasn_types.specs.Contents.{is_text, other, TextKind}
 use Rattle.rasn_types.specs.Variants.{Variant}
-use Rattle.rasn_constraints.specs.Bounds.{holds, Bounds, unbounded}
+use Rattle.rasn_constraints.specs.Bounds.{Bounds, unbounded}
 use Rattle.rasn_constraints.specs.Constraints.{bounds_in, is_marked}
 use Rattle.rasn_constraints.specs.declared.constraints.Bounded.{Bounded}
 use Rattle.rasn_constraints.specs.declared.constraints.Extensible.{Extensible}
 use Rattle.rasn_schema.specs.Schemas.{Schema}
 use Rattle.rasn_codec.specs.Calls.{Behaves, Written, Writes, freely}
-use Rattle.per_core.specs.Counts.{counted_octets, unconstrained_octets}
+use Rattle.per_core.specs.Counts.{number_form, number_under, unconstrained_octets}
 use Rattle.per_core.specs.Writers.{Writer, join, just, written_if, ◌▹◌}
 use Rattle.per_core.specs.Canon.{canon}
 use Rattle.per_write.specs.declared.error.EncodeError.{EncodeError}
 use Rattle.per_write.specs.Faults.{IsMemory, IsAlready, RefusesValue, Stands}
+use Rattle.per_write.specs.Numbers.{unconstrained_whole}
 use Rattle.per_write.specs.Rules.{encoder_rules}
 use Rattle.per_write.specs.State.{State, Wrote, Puts, Presents, view}
-use Rattle.per_write.proofs.Constrained.{presents_within, under_none}
-use Rattle.per_write.proofs.Writing.{wrote_same}
 
 -- how a call behaves that an unfailed encoder makes
 pub behaves : (x y : State) (result : Result (Unit {0}) EncodeError) → x.failed ≡ false → OnErr result (y.failed ≡ true) → y.codec ≡ x.codec →
@@ -51,17 +49,15 @@ unfolding canon
 boolean_bits a b = refl
 
 -- X.691 13.2.4: without a constraint
-unbounded_written : (x y : State) (value : Option (Extensible (Bounded ℤ))) (range : Bounds) (z : ℤ) (result : Result (Unit {0}) EncodeError) → value ≡ None →
-    OnOk result (holds range z ≡ true) → Puts IsMemory (counted_octets (variant_of x.codec) (whole_bits z)) x result y →
-    Written encoder_rules (Schema.number (bounds_in value) (is_marked value) range) (whole z) x result y
-unbounded_written x y value range z (Ok u) n h p =
-    rw n (presents_within x y unbounded range z h refl (wrote_same x y (counted_octets (variant_of x.codec) (whole_bits z)) _ (under_none (variant_of x.codec) None z (inl refl)) p.ok))
-unbounded_written x y value range z (Err e) n h p = inl p.err
+unbounded_bits : (a : Variant) (range : Bounds) (z : ℤ) → unconstrained_whole a range z ≡ canon a (Schema.number unbounded false range) (whole z)
+unfolding canon number_form number_under
+unbounded_bits a range z = refl
 
 pub unbounded_law : (x y : State) (value : Option (Extensible (Bounded ℤ))) (range : Bounds) (z : ℤ) (result : Result (Unit {0}) EncodeError) → value ≡ None → x.failed ≡ false →
-    OnOk result (holds range z ≡ true) → Puts IsMemory (counted_octets (variant_of x.codec) (whole_bits z)) x result y →
+    Puts IsMemory (unconstrained_whole (variant_of x.codec) range z) x result y →
     Writes encoder_rules (Schema.number (bounds_in value) (is_marked value) range) (whole z) x result y
-unbounded_law x y value range z result n f h p = record { law = unbounded_written x y value range z result n h p; behaves = behaves x y result f p.fails p.kept }
+unbounded_law x y value range z result n f p =
+    rw n (writes x y (unconstrained_whole (variant_of x.codec) range z) (Schema.number unbounded false range) (whole z) result (unbounded_bits (variant_of x.codec) range z) f p)
 
 -- X.691 11.2: octets of a type that isn't known
 any_bits : (a : Variant) (os : List ℕ) → unconstrained_octets a os ≡ canon a Schema.any (octets os)

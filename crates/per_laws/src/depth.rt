@@ -13,7 +13,8 @@ pub fn deeper_tree_reads_the_same()
         (v : Value) (octets : List ℕ) → fills a s v octets → fills a t v octets }
 {}
 
-/// What is read by a tree is read, as the same value, by each cut of it along which the value meets no branch that is cut off.
+/// What is read by a tree is read, as the same value, by each cut of it along which the value meets no branch that is
+/// cut off.
 pub fn shallower_tree_reads_what_it_holds()
     ensures { (a : Settings) (s t : Schema) → CutOf s t →
         (v : Value) (octets : List ℕ) → meets_cut s v ≡ false →

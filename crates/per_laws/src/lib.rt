@@ -1,5 +1,5 @@
-//! The laws of schema versions and of depth, over the grammar of the packed encoding rules. Each law is the contract of a
-//! function that does nothing.
+//! The laws of schema versions and of depth, over the grammar of the packed encoding rules. Each law is the contract
+//! of a function that does nothing.
 #![tactic(auto)]
 
 pub mod depth;

@@ -21,15 +21,17 @@ pub fn encoding_without_unknown_additions_is_decoded()
         fills_known a s v octets → fills a s v octets }
 {}
 
-/// Where a newer and an older version read the same octets, the older one reads the projection of what the newer one reads (X.680, 52).
+/// Where a newer and an older version read the same octets, the older one reads the projection of what the newer one
+/// reads (X.680, 52).
 pub fn two_versions_read_the_projection()
     ensures { (a : Settings) (newer older : Schema) → Newer newer older →
         (v w : Value) (octets : List ℕ) → meets_cut newer v ≡ false →
         fills a newer v octets → fills a older w octets → project newer older v ≡ Some w }
 {}
 
-/// Of any octets that a newer version reads, canonical or not, an older one reads the projection, wherever there is one; and of
-/// these octets with others behind them it reads nothing else, and leaves just the others (X.680, 52; X.691, 19.9, 23.8).
+/// Of any octets that a newer version reads, canonical or not, an older one reads the projection, wherever there is
+/// one; and of these octets with others behind them it reads nothing else, and leaves just the others (X.680, 52;
+/// X.691, 19.9, 23.8).
 pub fn older_version_reads_the_projection()
     ensures { (a : Settings) (newer older : Schema) → Newer newer older →
         (v w : Value) (octets rest after : List ℕ) →
@@ -38,7 +40,8 @@ pub fn older_version_reads_the_projection()
         × (project newer older v ≡ Some w → fills a older w octets) }
 {}
 
-/// Where what a newer version reads has no projection, an older version reads no front of these octets, whatever follows them.
+/// Where what a newer version reads has no projection, an older version reads no front of these octets, whatever
+/// follows them.
 pub fn older_version_refuses_without_projection()
     ensures { (a : Settings) (newer older : Schema) → Newer newer older →
         (v w : Value) (octets rest after : List ℕ) →
@@ -46,8 +49,9 @@ pub fn older_version_refuses_without_projection()
         project newer older v ≡ None → front a older w (octets ++ rest) after → ⊥ }
 {}
 
-/// Of any octets that an older version reads, no unknown additions being present, a newer one reads the widening, wherever there is
-/// one; and of these octets with others behind them it reads nothing else, and leaves just the others (X.680, 52; X.691, 19.5, 19.8).
+/// Of any octets that an older version reads, no unknown additions being present, a newer one reads the widening,
+/// wherever there is one; and of these octets with others behind them it reads nothing else, and leaves just the
+/// others (X.680, 52; X.691, 19.5, 19.8).
 pub fn newer_version_reads_the_widening()
     ensures { (a : Settings) (newer older : Schema) → Newer newer older →
         (w v : Value) (octets rest after : List ℕ) →
@@ -56,7 +60,8 @@ pub fn newer_version_reads_the_widening()
         × (widen newer older w ≡ Some v → fills_known a newer v octets) }
 {}
 
-/// Where what an older version reads has no widening, a newer version reads no front of these octets, whatever follows them.
+/// Where what an older version reads has no widening, a newer version reads no front of these octets, whatever follows
+/// them.
 pub fn newer_version_refuses_without_widening()
     ensures { (a : Settings) (newer older : Schema) → Newer newer older →
         (w v : Value) (octets rest after : List ℕ) →
@@ -70,23 +75,24 @@ pub fn newer_is_transitive()
         Newer newest newer → Newer newer older → Newer newest older }
 {}
 
-/// Where a value is projected to the middle one of three versions, projecting on gives what projecting at once gives, or both give none.
+/// Where a value is projected to the middle one of three versions, projecting on gives what projecting at once gives,
+/// or both give none.
 pub fn projecting_in_steps_is_projecting_at_once()
     ensures { (newest newer older : Schema) → Newer newest newer → Newer newer older →
         (v w : Value) → project newest newer v ≡ Some w →
         project newer older w ≡ project newest older v }
 {}
 
-/// Where a value is widened to the middle one of three versions and on to the newest, it is widened so at once, where no branch is
-/// cut off that it meets.
+/// Where a value is widened to the middle one of three versions and on to the newest, it is widened so at once, where
+/// no branch is cut off that it meets.
 pub fn widening_in_steps_is_widening_at_once()
     ensures { (newest newer older : Schema) → Newer newest newer → Newer newer older →
         (v w x : Value) → widen newer older v ≡ Some w → widen newest newer w ≡ Some x →
         meets_cut newest x ≡ false → widen newest older v ≡ Some x }
 {}
 
-/// Of types of any depth: of any octets that a newer type reads within some levels, an older type reads, within 128 levels, the
-/// projection and nothing else, and does read it where it meets no branch that is cut off there.
+/// Of types of any depth: of any octets that a newer type reads within some levels, an older type reads, within 128
+/// levels, the projection and nothing else, and does read it where it meets no branch that is cut off there.
 pub fn older_type_reads_the_projection()
     ensures { (a : Settings) (newer older : ℕ → Schema) →
         Unfolds newer → Unfolds older → NewerType newer older →
@@ -96,8 +102,9 @@ pub fn older_type_reads_the_projection()
         × (project (newer n) (older n) v ≡ Some w → meets_cut (older 128) w ≡ false → read a older w octets) }
 {}
 
-/// Of types of any depth: of any octets that an older type reads within some levels, no unknown additions being present, a newer
-/// type reads, within 128 levels, the widening and nothing else, and does read it where it meets no branch that is cut off there.
+/// Of types of any depth: of any octets that an older type reads within some levels, no unknown additions being
+/// present, a newer type reads, within 128 levels, the widening and nothing else, and does read it where it meets no
+/// branch that is cut off there.
 pub fn newer_type_reads_the_widening()
     ensures { (a : Settings) (newer older : ℕ → Schema) →
         Unfolds newer → Unfolds older → NewerType newer older →

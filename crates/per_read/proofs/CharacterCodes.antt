@@ -15,8 +15,8 @@ use Rattle.per_read.specs.Items.{lengthy_items}
 use Rattle.per_read.specs.Kinds.{NoneIn}
 use Rattle.per_read.specs.Sizes.{IsOfItems}
 use Rattle.per_read.specs.Strings.{AreRead, HasUnknown, IsUnpermitted, IsOfString}
-use Rattle.per_read.specs.declared.items.Item.{Item}
-use Rattle.per_read.specs.declared.items.Item.TheVariants.{Character}
+use Rattle.per_core.specs.declared.items.Item.{Item}
+use Rattle.per_core.specs.declared.items.Item.TheVariants.{Character}
 use Rattle.per_read.specs.declared.error.DecodeErrorKind.{DecodeErrorKind}
 use Rattle.per_read.specs.declared.error.DecodeErrorKind.TheVariants.{PermittedAlphabet}
 use Rattle.per_read.proofs.Coded.{lengthy_as, zip_to, zip_equal}

@@ -11,7 +11,7 @@ use Rattle.per_core.proofs.Lengths.{Zip}
 use Rattle.per_core.proofs.Took.{took_map}
 use Rattle.per_read.specs.Items.{bit_code, lengthy_items}
 use Rattle.per_read.specs.Kinds.{NoneIn}
-use Rattle.per_read.specs.declared.items.Item.TheVariants.{Bit}
+use Rattle.per_core.specs.declared.items.Item.TheVariants.{Bit}
 
 module _ {X Y : Type 0} (R : X → Y → Type 0) (f : X → Spelling) (g : Y → Spelling) (each : (x : X) (y : Y) (p : ℕ) (b : Bits) → R x y → f x p b → g y p b) where
   zip_length : (xs : List X) (ys : List Y) → Zip R xs ys → length xs ≡ length ys

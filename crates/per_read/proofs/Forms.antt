@@ -1,19 +1,15 @@
 -- The forms of constrained whole numbers (X.691 11.5.6, 11.5.7), and counted octets, seen from the bits that are left.
-use Rattle.std.proofs.Common.{◌≡◌, ◌<◌, ◌≤◌, ℕ, suc, ◌+◌, ◌*◌, ◌/◌, ◌^◌, Bool, true, false, eqb, eqb-true, refl, sym, ap, subst, arith, length, le-leb, pow_mono}
+use Rattle.std.proofs.Common.{◌≡◌, ◌<◌, ◌≤◌, ℕ, suc, ◌+◌, ◌*◌, ◌/◌, Bool, true, false, eqb, eqb-true, refl, ap, subst, arith, length, le-leb, pow_mono}
 use Rattle.std.proofs.lemmas.Bool.{lt-leb}
 use Rattle.rasn_types.specs.Bits.{Bits, width}
 use Rattle.rasn_types.specs.Variants.{aligned}
-use Rattle.rasn_types.proofs.Bits.{width_is, width_least}
+use Rattle.rasn_types.proofs.Bits.{width_least}
 use Rattle.per_core.specs.Spellings.{Settings, Spelling, Then, AnyPadding, Field}
 use Rattle.per_core.specs.Basic.{InOctets, constrained_by}
 use Rattle.per_core.specs.Took.{Took}
 use Rattle.per_core.proofs.Agree.{field_agree, padding_agree}
 use Rattle.per_core.proofs.Took.{took_then, then_took, took_map, took_agree}
 use Rattle.per_read.proofs.Fields.{field_wide, field_below}
-
--- the width of 2 ^ 128 numbers
-pub widest : (last : ℕ) → last + 1 ≡ 2 ^ 128 → 128 ≡ width (last + 1)
-widest last e = sym (width_is last 128 (omega arith) (omega arith))
 
 -- a number behind padding that isn't there
 pub no_padded : {a : Settings} {s m : Bits} (w : ℕ) → Took (AnyPadding a) s m → length m < w → (n : ℕ) (t : Bits) → Took (Then (AnyPadding a) (Field w n)) s t → ⊥

@@ -8,10 +8,11 @@ use Rattle.per_core.specs.Spellings.{Settings, Spelling, never}
 use Rattle.per_core.specs.Took.{Took}
 use Rattle.per_core.proofs.Lengths.{and_right}
 use Rattle.per_core.proofs.Took.{took_map}
-use Rattle.per_read.specs.Items.{TookItems, bits_of, counted_of, coded, unconstrained_items, sized_items, lengthy_items}
+use Rattle.per_core.specs.Items.{bits_of, counted_of}
+use Rattle.per_read.specs.Items.{TookItems, coded, unconstrained_items, sized_items, lengthy_items}
 use Rattle.per_read.specs.Kinds.{Faulty, IsTested, NoneIn, Refused, Stopped}
 use Rattle.per_read.specs.Sizes.{IsOfSize, IsOfItems, items_under}
-use Rattle.per_read.specs.declared.items.Item.{Item}
+use Rattle.per_core.specs.declared.items.Item.{Item}
 use Rattle.per_read.specs.declared.error.DecodeErrorKind.{DecodeErrorKind}
 use Rattle.per_read.specs.declared.error.DecodeErrorKind.TheVariants.{SizeConstraintNotSatisfied}
 use Rattle.per_read.proofs.Refusals.{faulty_map}

@@ -3,23 +3,10 @@ use Rattle.std.specs.Prelude.{◌≡◌, ℕ, Bool, if◌then◌else◌, List, �
 use Rattle.rasn_types.specs.Bits.{Bits}
 use Rattle.rasn_constraints.specs.Bounds.{Size}
 use Rattle.per_core.specs.Basic.{UnconstrainedLength, Sized, Lengthy}
-use Rattle.per_core.specs.Counts.{Counted, octet_items, bit_items, char_items}
 use Rattle.per_core.specs.Spellings.{Settings, Spelling, Field}
 use Rattle.per_core.specs.Took.{Took}
-use Rattle.per_read.specs.declared.items.Item.{Item}
-use Rattle.per_read.specs.declared.items.Item.TheVariants.{Octet, Bit, Character}
-
--- what is counted
-abbrev pub counted_of : Item → Counted
-counted_of Octet = octet_items
-counted_of Bit = bit_items
-counted_of (Character w) = char_items w
-
--- how many bits an item has
-abbrev pub bits_of : Item → ℕ
-bits_of Octet = 8
-bits_of Bit = 1
-bits_of (Character w) = w
+use Rattle.per_core.specs.declared.items.Item.{Item}
+use Rattle.per_core.specs.Items.{counted_of, bits_of}
 
 -- an item, by its code
 abbrev pub coded : Item → ℕ → Spelling

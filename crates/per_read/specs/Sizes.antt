@@ -1,15 +1,16 @@
 -- Items as a size has them written, and counts that it doesn't allow (X.691 11.9).
-use Rattle.std.specs.Prelude.{◌≡◌, ◌≤◌, ℕ, ◌+◌, ◌-◌, ◌&&◌, nat_lt, Bool, false, cond, if◌then◌else◌, List, length, Option, Some, None}
+use Rattle.std.specs.Prelude.{◌≡◌, ◌≤◌, ℕ, ◌+◌, ◌-◌, ◌&&◌, nat_lt, Bool, false, cond, List, length, Option, Some, None}
 use Rattle.rasn_types.specs.Bits.{Bits}
 use Rattle.rasn_constraints.specs.Bounds.{allows, Size}
 use Rattle.per_core.specs.Basic.{OneByOne, UnconstrainedLength, PaddingIf, Marked, constrained_form}
 use Rattle.per_core.specs.Counts.{Counted, is_aligned}
 use Rattle.per_core.specs.Spellings.{Settings, Spelling, Then, When, never}
 use Rattle.per_core.specs.Took.{Took}
-use Rattle.per_read.specs.Items.{counted_of, coded}
+use Rattle.per_core.specs.Items.{counted_of}
+use Rattle.per_read.specs.Items.{coded}
 use Rattle.per_read.specs.Kinds.{IsTested}
 use Rattle.per_read.specs.declared.error.DecodeErrorKind.{DecodeErrorKind}
-use Rattle.per_read.specs.declared.items.Item.{Item}
+use Rattle.per_core.specs.declared.items.Item.{Item}
 use Rattle.per_read.specs.declared.error.DecodeErrorKind.TheVariants.{SizeConstraintNotSatisfied}
 
 -- X.691 11.9.3.3: items behind a count from lb on, as a constrained whole number of lb to ub; the count may be past ub

@@ -11,7 +11,7 @@ use Rattle.per_core.specs.Took.{Took}
 use Rattle.per_read.specs.Items.{lengthy_items}
 use Rattle.per_read.specs.Kinds.{IsTested}
 use Rattle.per_read.specs.Sizes.{IsOfItems}
-use Rattle.per_read.specs.declared.items.Item.TheVariants.{Character}
+use Rattle.per_core.specs.declared.items.Item.TheVariants.{Character}
 use Rattle.per_read.specs.declared.error.DecodeErrorKind.{DecodeErrorKind}
 use Rattle.per_read.specs.declared.error.DecodeErrorKind.TheVariants.{PermittedAlphabet, StringConversionFailed}
 

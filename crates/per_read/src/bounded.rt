@@ -1,6 +1,6 @@
 //! Constrained whole numbers (X.691 11.5).
 
-ghost use Rattle.std.specs.Prelude.{◌≡◌, ℕ, ◌+◌, ◌/◌, ◌<◌, ◌≤◌, length, IfOk, IfErr};
+ghost use Rattle.std.specs.Prelude.{ℕ, ◌+◌, ◌/◌, ◌<◌, ◌≤◌, length, IfOk, IfErr};
 ghost use Rattle.rasn_types.specs.Bits.{Bits, width};
 ghost use Rattle.rasn_types.specs.declared.types.Codec.TheVariants.{Aper};
 ghost use Rattle.per_core.specs.Spellings.{AnyPadding, Field, Then};
@@ -13,18 +13,7 @@ use crate::error::DecodeErrorKind;
 use crate::length::{skip_padding, take_number};
 use per_bits::BitReader;
 use rasn_types::types::Codec;
-use rasn_types::width::width_of;
-
-/// How many bits tell the numbers from 0 to `last` apart (X.691 11.5.6).
-fn width_to(last: u128) -> u128
-    ensures width { result ≡ width (last + 1) }
-    ensures few { result ≤ 128 }
-{
-    match last.checked_add(1) {
-        Some(count) => u128::from(width_of(count)),
-        None => 128,
-    }
-}
+use rasn_types::width::{width_of, width_to};
 
 /// Takes `width` bits behind padding.
 fn take_padded(bits: &mut BitReader<'_>, codec: Codec, width: u128) -> Result<u128, DecodeErrorKind>

@@ -2,63 +2,24 @@
 
 ghost use Rattle.std.specs.Prelude.{◌≡◌, ℕ, ◌+◌, ◌*◌, ◌^◌, ◌<◌, ◌≤◌, [], ◌∷◌, List, length, OnOk, IfOk, IfErr};
 ghost use Rattle.rasn_types.specs.Bits.{Bits};
-ghost use Rattle.per_core.specs.Counts.{is_aligned};
 ghost use Rattle.per_core.specs.Basic.{OneByOne, Octets};
 ghost use Rattle.per_core.specs.Took.{Took};
 ghost use Rattle.per_read.specs.Codecs.{settings};
-ghost use Rattle.per_read.specs.Items.{counted_of, bits_of, coded, unconstrained_items, Adds, TookItems};
+ghost use Rattle.per_core.specs.Items.{bits_of};
+ghost use Rattle.per_read.specs.Items.{coded, unconstrained_items, Adds, TookItems};
 ghost use Rattle.per_read.specs.Kinds.{Stopped, NoneIn};
-ghost use Rattle.per_read.specs.declared.items.Item.TheVariants.{Octet};
+ghost use Rattle.per_core.specs.declared.items.Item.TheVariants.{Octet};
 
 use crate::error::DecodeErrorKind;
 use crate::length::{Length, take_unconstrained_length};
 use per_bits::BitReader;
+use per_core::items::Item;
 use rasn_types::types::Codec;
 use std::alloc::{AllocError, Global};
 
-/// What is counted.
-#[derive(Clone, Copy)]
-pub enum Item {
-    /// Octets.
-    Octet,
-    /// Bits.
-    Bit,
-    /// Characters of so many bits each.
-    Character(u32),
-}
-
-impl Item {
-    /// How many bits an item has.
-    pub fn width(self) -> u128
-        ensures { result ≡ bits_of self }
-    {
-        match self {
-            Item::Octet => 8,
-            Item::Bit => 1,
-            Item::Character(width) => u128::from(width),
-        }
-    }
-
-    /// Whether items begin on an octet in ALIGNED, behind a count above 0 from `least` to `most` (X.691 16.9 to 16.11,
-    /// 17.6 to 17.8, 30.5.6, 30.5.7).
-    pub fn is_aligned(self, least: usize, most: usize) -> bool
-        ensures { result ≡ is_aligned (counted_of self) least most }
-    {
-        let is_fixed = least == most;
-        match self {
-            Item::Octet => !(is_fixed && most <= 2),
-            Item::Bit => !(is_fixed && most <= 16),
-            Item::Character(width) => {
-                let bits = most as u128 * u128::from(width);
-                if is_fixed { 16 < bits } else { 16 <= bits }
-            }
-        }
-    }
-}
-
 /// What gathers items as they are read.
 pub trait Collector {
-    ghost use Rattle.per_read.specs.declared.items.Item.{Item};
+    ghost use Rattle.per_core.specs.declared.items.Item.{Item};
 
     // The items that are held since a start, by their codes.
     ghost holds: { Self → Self → List ℕ → Type 0 };

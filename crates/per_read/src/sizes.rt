@@ -8,16 +8,18 @@ ghost use Rattle.per_core.specs.Basic.{PaddingIf};
 ghost use Rattle.per_core.specs.Counts.{is_aligned};
 ghost use Rattle.per_core.specs.Took.{Took};
 ghost use Rattle.per_read.specs.Codecs.{settings};
-ghost use Rattle.per_read.specs.Items.{counted_of, sized_items, lengthy_items, TookItems};
+ghost use Rattle.per_core.specs.Items.{counted_of};
+ghost use Rattle.per_read.specs.Items.{sized_items, lengthy_items, TookItems};
 ghost use Rattle.per_read.specs.Sizes.{items_between, items_under, IsOfItems};
 ghost use Rattle.per_read.specs.Kinds.{Stopped, NoneIn, Faulty};
 ghost use Rattle.per_read.specs.declared.error.DecodeErrorKind.TheVariants.{SizeConstraintNotSatisfied};
 
 use crate::bounded::take_constrained_whole;
 use crate::error::DecodeErrorKind;
-use crate::items::{Collector, Item, take_bare_items, take_unconstrained_items};
+use crate::items::{Collector, take_bare_items, take_unconstrained_items};
 use crate::length::{skip_padding, take_bit};
 use per_bits::BitReader;
+use per_core::items::Item;
 use rasn_schema::constraints::{Bounded, Extensible};
 use rasn_types::types::Codec;
 

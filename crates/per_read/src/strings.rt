@@ -13,12 +13,13 @@ ghost use Rattle.per_read.specs.Items.{bit_code};
 ghost use Rattle.per_read.specs.Kinds.{Faulty, NoneIn};
 ghost use Rattle.per_read.specs.Sizes.{IsOfItems};
 ghost use Rattle.per_read.specs.Strings.{AreRead, IsOfString, IsOfText};
-ghost use Rattle.per_read.specs.declared.items.Item.TheVariants.{Octet, Bit, Character};
+ghost use Rattle.per_core.specs.declared.items.Item.TheVariants.{Octet, Bit, Character};
 
 use crate::error::DecodeErrorKind;
-use crate::items::{Collector, Item, take_octets};
+use crate::items::{Collector, take_octets};
 use crate::sizes::take_items;
 use per_bits::{BitList, BitReader};
+use per_core::items::Item;
 use rasn_schema::constraints::Constraints;
 use rasn_schema::strings::alphabet_under;
 use rasn_strings::alphabet::CharacterAlphabet;

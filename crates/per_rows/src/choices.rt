@@ -8,25 +8,30 @@ ghost use Rattle.per_core.specs.Canon.{bytes};
 ghost use Rattle.per_rows.specs.Build.{record_of};
 ghost use Rattle.per_rows.specs.Samples.{x_y_or_z, alternatives, one_alternative, two_alternatives};
 
-/// CHOICE without a marker: the index in the fewest bits, then the value; an untagged choice is one alternative (X.691 23).
+/// CHOICE without a marker: the index in the fewest bits, then the value; an untagged choice is one alternative (X.691
+/// 23).
 pub fn uper_choice_is_its_index_and_its_value()
     ensures first { bytes unaligned x_y_or_z (alternative root 0 (truth true)) ≡ Some (0x20 ∷ []) }
-    ensures second_first { bytes unaligned x_y_or_z (alternative root 1 (alternative root 0 (truth true))) ≡ Some (0x50 ∷ []) }
-    ensures second_second { bytes unaligned x_y_or_z (alternative root 1 (alternative root 1 nothing)) ≡ Some (0x60 ∷ []) }
+    ensures second_first { bytes unaligned x_y_or_z (alternative root 1 (alternative root 0 (truth true)))
+        ≡ Some (0x50 ∷ []) }
+    ensures second_second { bytes unaligned x_y_or_z (alternative root 1 (alternative root 1 nothing))
+        ≡ Some (0x60 ∷ []) }
     ensures third { bytes unaligned x_y_or_z (alternative root 2 nothing) ≡ Some (0x80 ∷ []) }
     ensures fourth { bytes unaligned x_y_or_z (alternative root 3 nothing) ≡ None }
 {}
 
-/// CHOICE { a BOOLEAN, ..., b BOOLEAN }: the extension bit; an alternative after the marker is a normally small index and an
-/// open type (X.691 23.5, 23.8).
+/// CHOICE { a BOOLEAN, ..., b BOOLEAN }: the extension bit; an alternative after the marker is a normally small index
+/// and an open type (X.691 23.5, 23.8).
 pub fn uper_choice_addition_is_an_open_type()
     ensures root_alternative { bytes unaligned two_alternatives (alternative root 0 (truth true)) ≡ Some (0x40 ∷ []) }
-    ensures addition { bytes unaligned two_alternatives (alternative added 0 (truth true)) ≡ Some (0x80 ∷ 0x01 ∷ 0x80 ∷ []) }
+    ensures addition { bytes unaligned two_alternatives (alternative added 0 (truth true))
+        ≡ Some (0x80 ∷ 0x01 ∷ 0x80 ∷ []) }
     ensures older_root { bytes unaligned one_alternative (alternative root 0 (truth true)) ≡ Some (0x40 ∷ []) }
     ensures unknown { bytes unaligned one_alternative (alternative added 0 (truth true)) ≡ None }
 {}
 
-/// APER: a record in the root of a choice and the same as an addition, between a BOOLEAN and an INTEGER (0..255) (X.691 11.2, 23).
+/// APER: a record in the root of a choice and the same as an addition, between a BOOLEAN and an INTEGER (0..255)
+/// (X.691 11.2, 23).
 pub fn aper_choice_aligns_its_open_type()
     ensures { bytes aligned alternatives (record_of (
         truth true

@@ -39,8 +39,10 @@ pub fn uper_upper_bound_alone_is_unconstrained()
 
 /// UPER INTEGER (-1..): the offset from the lower bound, unsigned (X.691 11.7).
 pub fn uper_lower_bound_alone_writes_the_offset()
-    ensures offset { bytes unaligned (integer_in (at_least (minus 1))) (whole (pos 4096)) ≡ Some (0x02 ∷ 0x10 ∷ 0x01 ∷ []) }
-    ensures greatest { bytes unaligned (integer_in (at_least (minus 1))) (whole (pos (2 ^ 127 - 1))) ≡ Some (0x10 ∷ 0x80 ∷ replicate 15 0x00) }
+    ensures offset { bytes unaligned (integer_in (at_least (minus 1))) (whole (pos 4096))
+        ≡ Some (0x02 ∷ 0x10 ∷ 0x01 ∷ []) }
+    ensures greatest { bytes unaligned (integer_in (at_least (minus 1))) (whole (pos (2 ^ 127 - 1)))
+        ≡ Some (0x10 ∷ 0x80 ∷ replicate 15 0x00) }
     ensures refused { bytes unaligned (integer_in (at_least (minus 1))) (whole (pos (2 ^ 127))) ≡ None }
 {}
 
@@ -53,24 +55,32 @@ pub fn uper_two_bounds_write_the_offset_in_bits()
 
 /// APER INTEGER (0..65536): the count of octets in two bits, padding, and the fewest octets (X.691 11.5.7.4).
 pub fn aper_wide_range_counts_its_octets()
-    ensures one_octet { bytes aligned (integer_in (between (pos 0) (pos 65536))) (whole (pos 253)) ≡ Some (0x00 ∷ 0xfd ∷ []) }
-    ensures two_octets { bytes aligned (integer_in (between (pos 0) (pos 65536))) (whole (pos 256)) ≡ Some (0x40 ∷ 0x01 ∷ 0x00 ∷ []) }
-    ensures three_octets { bytes aligned (integer_in (between (pos 0) (pos 65536))) (whole (pos 65536)) ≡ Some (0x80 ∷ 0x01 ∷ 0x00 ∷ 0x00 ∷ []) }
+    ensures one_octet { bytes aligned (integer_in (between (pos 0) (pos 65536))) (whole (pos 253))
+        ≡ Some (0x00 ∷ 0xfd ∷ []) }
+    ensures two_octets { bytes aligned (integer_in (between (pos 0) (pos 65536))) (whole (pos 256))
+        ≡ Some (0x40 ∷ 0x01 ∷ 0x00 ∷ []) }
+    ensures three_octets { bytes aligned (integer_in (between (pos 0) (pos 65536))) (whole (pos 65536))
+        ≡ Some (0x80 ∷ 0x01 ∷ 0x00 ∷ 0x00 ∷ []) }
 {}
 
 /// UPER INTEGER (1..10, ...): bit 0 and four bits in the root, else bit 1 and an unconstrained number (X.691 13.1).
 pub fn uper_extensible_integer_has_its_bit_first()
-    ensures inside { bytes unaligned (extensible_integer (between (pos 1) (pos 10))) (whole (pos 5)) ≡ Some (0x20 ∷ []) }
-    ensures outside { bytes unaligned (extensible_integer (between (pos 1) (pos 10))) (whole (pos 16)) ≡ Some (0x80 ∷ 0x88 ∷ 0x00 ∷ []) }
+    ensures inside { bytes unaligned (extensible_integer (between (pos 1) (pos 10))) (whole (pos 5))
+        ≡ Some (0x20 ∷ []) }
+    ensures outside { bytes unaligned (extensible_integer (between (pos 1) (pos 10))) (whole (pos 16))
+        ≡ Some (0x80 ∷ 0x88 ∷ 0x00 ∷ []) }
 {}
 
 /// The range of the number's type is a bound on its values, and takes no part in the encoding (own to this profile).
 pub fn uper_number_type_bounds_the_value()
-    ensures fits { bytes unaligned (Schema.number unbounded false (between (pos 0) (pos 255))) (whole (pos 255)) ≡ Some (0x02 ∷ 0x00 ∷ 0xff ∷ []) }
-    ensures past { bytes unaligned (Schema.number unbounded false (between (pos 0) (pos 255))) (whole (pos 256)) ≡ None }
+    ensures fits { bytes unaligned (Schema.number unbounded false (between (pos 0) (pos 255))) (whole (pos 255))
+        ≡ Some (0x02 ∷ 0x00 ∷ 0xff ∷ []) }
+    ensures past { bytes unaligned (Schema.number unbounded false (between (pos 0) (pos 255))) (whole (pos 256))
+        ≡ None }
 {}
 
-/// UPER ENUMERATED { a, ..., b }: the extension bit, then the index in no bits, or as a normally small number (X.691 14).
+/// UPER ENUMERATED { a, ..., b }: the extension bit, then the index in no bits, or as a normally small number (X.691
+/// 14).
 pub fn uper_enumerated_addition_is_normally_small()
     ensures root_item { bytes unaligned two_colors (item root 0) ≡ Some (0x00 ∷ []) }
     ensures added_item { bytes unaligned two_colors (item added 0) ≡ Some (0x80 ∷ []) }

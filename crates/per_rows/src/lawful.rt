@@ -35,32 +35,51 @@ pub fn bounds_are_in_order()
 pub fn tags_of_a_set_differ()
     ensures distinct { IsLawful b_before_a }
     ensures with_a_choice { IsLawful untagged_member }
-    ensures twice { ¬ (IsLawful (set ((context 0, required, Schema.boolean) ∷ (context 0, required, Schema.boolean) ∷ []))) }
-    ensures in_a_sequence { IsLawful (Schema.sequence listed (members ((context 0, required, Schema.boolean) ∷ (context 0, required, Schema.boolean) ∷ [])) false no_parts) }
+    ensures twice { ¬ (IsLawful (set ((context 0, required, Schema.boolean) ∷ (context 0, required, Schema.boolean)
+        ∷ []))) }
+    ensures in_a_sequence { IsLawful (Schema.sequence listed (members ((context 0, required, Schema.boolean)
+        ∷ (context 0, required, Schema.boolean) ∷ [])) false no_parts) }
 {}
 
 /// The tags of alternatives differ, with each one of an untagged choice: not CHOICE { x [0] BOOLEAN, y CHOICE { p [1]
 /// BOOLEAN, q [0] NULL } }; and no alternative is optional (X.680, 29.1, 29.3).
 pub fn tags_of_alternatives_differ()
     ensures distinct { IsLawful x_y_or_z }
-    ensures twice { ¬ (IsLawful (Schema.choice (members ((context 0, required, Schema.boolean) ∷ (one_of (context 1) (tree (context 0) no_trees), required, Schema.boolean) ∷ [])) no_parts false)) }
-    ensures an_optional_one { ¬ (IsLawful (Schema.choice (members ((context 0, optional, Schema.boolean) ∷ [])) no_parts false)) }
+    ensures twice { ¬ (IsLawful (Schema.choice (members ((context 0, required, Schema.boolean)
+        ∷ (one_of (context 1) (tree (context 0) no_trees), required, Schema.boolean) ∷ [])) no_parts false)) }
+    ensures an_optional_one { ¬ (IsLawful (Schema.choice (members ((context 0, optional, Schema.boolean) ∷ []))
+        no_parts false)) }
 {}
 
-/// A default is a value of its part's kind and number type, whatever its constraints: INTEGER (0..7) DEFAULT 3 and DEFAULT
-/// 9, but neither BOOLEAN DEFAULT 3 nor 300 of a number type of eight bits (X.680, 25.9).
+/// A default is a value of its part's kind and number type, whatever its constraints: INTEGER (0..7) DEFAULT 3 and
+/// DEFAULT 9, but neither BOOLEAN DEFAULT 3 nor 300 of a number type of eight bits (X.680, 25.9).
 pub fn default_is_a_value()
     ensures within { IsLawful with_default }
-    ensures past_the_constraint { IsLawful (sequence_with ((default (whole (pos 9)), integer_in (between (pos 0) (pos 7))) ∷ [])) }
+    ensures past_the_constraint { IsLawful (sequence_with ((
+      default (whole (pos 9)),
+      integer_in
+          (between (pos 0) (pos 7)),
+    ) ∷ [])) }
     ensures of_another_kind { ¬ (IsLawful (sequence_with ((default (whole (pos 3)), Schema.boolean) ∷ []))) }
-    ensures past_its_type { ¬ (IsLawful (sequence_with ((default (whole (pos 300)), Schema.number (between (pos 0) (pos 7)) false (unsigned_range 8)) ∷ []))) }
+    ensures past_its_type { ¬ (IsLawful (sequence_with ((
+      default (whole (pos 300)),
+      Schema.number
+          (between (pos 0) (pos 7)) false (unsigned_range 8),
+    ) ∷ []))) }
 {}
 
-/// And it is in normal form: not the value in which the group of SEQUENCE { first BOOLEAN, ..., [[ x BOOLEAN OPTIONAL ]] }
-/// is there with x absent (X.691, 19.9).
+/// And it is in normal form: not the value in which the group of SEQUENCE { first BOOLEAN, ..., [[ x BOOLEAN OPTIONAL
+/// ]] } is there with x absent (X.691, 19.9).
 pub fn default_is_in_normal_form()
-    ensures absent_group { IsLawful (sequence_with ((default (extended_with (Some (truth true) ∷ []) (None ∷ [])), with_group) ∷ [])) }
-    ensures empty_group { ¬ (IsLawful (sequence_with ((default (extended_with (Some (truth true) ∷ []) (Some (record_with (None ∷ [])) ∷ [])), with_group) ∷ []))) }
+    ensures absent_group { IsLawful (sequence_with ((
+      default (extended_with (Some (truth true) ∷ []) (None ∷ [])),
+      with_group,
+    ) ∷ [])) }
+    ensures empty_group { ¬ (IsLawful (sequence_with ((
+      default
+          (extended_with (Some (truth true) ∷ []) (Some (record_with (None ∷ [])) ∷ [])),
+      with_group,
+    ) ∷ []))) }
 {}
 
 /// An addition group is a SEQUENCE, and stands among the additions (X.680, 25.1).
@@ -70,8 +89,8 @@ pub fn groups_are_sequences_among_additions()
     ensures no_sequence { ¬ (IsLawful (extensible_sequence [] ((group, Schema.boolean) ∷ []))) }
 {}
 
-/// Lawful types of any depth: BOOLEAN, Nest ::= SEQUENCE { inner Nest OPTIONAL }, and SEQUENCE { d Nest DEFAULT a value of
-/// 200 levels }.
+/// Lawful types of any depth: BOOLEAN, Nest ::= SEQUENCE { inner Nest OPTIONAL }, and SEQUENCE { d Nest DEFAULT a
+/// value of 200 levels }.
 pub fn types_of_any_depth_are_lawful()
     ensures one_kind { IsLawfulType (always Schema.boolean) }
     ensures recursive { IsLawfulType nest }

@@ -1,7 +1,6 @@
 pub mod Boths
 pub mod Eights
 pub mod Fours
-pub mod Numbers
 pub mod Pairs
 pub mod Rows
 pub mod Sevens

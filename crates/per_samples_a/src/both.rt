@@ -1,15 +1,17 @@
-//! A SEQUENCE of two required components of any types, by the list of them.
+//! A SEQUENCE of two required components of any types, by the cells of them.
 
 ghost use Rattle.std.specs.Prelude.{refl, [], false, suc, max};
+ghost use Rattle.rasn_types.specs.declared.types.TheConstants.Tag.{SEQUENCE};
 ghost use Rattle.rasn_schema.specs.Schemas.{listed};
 ghost use Rattle.rasn_constraints.specs.Ranges.{no_constraints};
 ghost use Rattle.rasn_schema.specs.Fields.{shapes_from};
 ghost use Rattle.rasn_schema.specs.Records.{record_at, no_additions, record_value};
 ghost use Rattle.rasn_schema.specs.Families.{record_unfolds, part_unfolds, parts_unfold};
+ghost use Rattle.rasn_schema.specs.Tags.{sequence_tag};
 ghost use Rattle.per_samples_a.specs.Boths.{both_parts, both_contents};
 
 use rasn_codec::codec::{Decode, Decoder, Encode, Encoder};
-use rasn_codec::record::{End, Required};
+use rasn_record::cells::{End, Required};
 use rasn_schema::fields::{Constructed, Field, Fields, Presence, TagTree};
 use rasn_schema::schema::{AsnType, Constraints};
 use rasn_types::types::{Class, Identifier, Tag};
@@ -23,10 +25,9 @@ pub struct Both<A, B> {
 }
 
 impl<A: AsnType, B: AsnType> AsnType for Both<A, B> {
-    const TAG: Tag = Tag {
-        class: Class::Universal,
-        value: 16,
-    };
+    const TAG: Tag = Tag::SEQUENCE;
+
+    ghost TAG = { SEQUENCE };
 
     const CONSTRAINTS: Constraints = Constraints::NONE;
 
@@ -39,6 +40,8 @@ impl<A: AsnType, B: AsnType> AsnType for Both<A, B> {
     ghost levels = { λ x. suc (max (A.levels x.a) (max (B.levels x.b) 0)) };
 
     ghost unfolds = { λ _. record_unfolds (part_unfolds (A.unfolds A.CONSTRAINTS) (part_unfolds (B.unfolds B.CONSTRAINTS) parts_unfold)) parts_unfold };
+
+    ghost tag_fits = { λ _. sequence_tag (both_parts (A.schema A.CONSTRAINTS) (B.schema B.CONSTRAINTS)) false no_additions };
 }
 
 /// The tags of the components (AUTOMATIC TAGS).

@@ -1,12 +1,11 @@
 //! INTEGER with both bounds.
 
-ghost use Rattle.std.specs.Prelude.{[], ◌∷◌, pos, negsuc};
+ghost use Rattle.std.specs.Prelude.{refl, [], ◌∷◌, pos, negsuc};
 ghost use Rattle.rasn_types.specs.Values.{whole};
+ghost use Rattle.rasn_types.specs.declared.types.TheConstants.Tag.{INTEGER};
 ghost use Rattle.rasn_types.specs.Variants.{aligned, unaligned};
-ghost use Rattle.rasn_constraints.specs.Bounds.{between, unbounded};
-ghost use Rattle.rasn_constraints.specs.Ranges.{within, unsigned_range};
+ghost use Rattle.rasn_schema.specs.Components.{big, u8, ◌to◌, minus◌to◌, extensible};
 ghost use Rattle.rasn_schema.specs.Forms.{number_schema, always, simple_unfolds};
-ghost use Rattle.per_samples_a.specs.Numbers.{extensible_within};
 ghost use Rattle.per_samples_a.specs.Rows.{IsWrittenAs, IsUnwritten};
 
 use rasn_codec::codec::{Decode, Decoder, Encode, Encoder};
@@ -30,15 +29,19 @@ const ZERO_TO_65536: &[Constraint] = &[Constraint::Value(Extensible {
 impl AsnType for ZeroTo65536 {
     const TAG: Tag = Tag::INTEGER;
 
+    ghost TAG = { INTEGER };
+
     const CONSTRAINTS: Constraints = Constraints(ZERO_TO_65536);
 
-    ghost CONSTRAINTS = { within (between (pos 0) (pos 65536)) };
+    ghost CONSTRAINTS = { 0 to 65536 };
 
-    ghost schema = { λ c. always (number_schema c unbounded) };
+    ghost schema = { λ c. always (number_schema c big) };
 
     ghost value = { λ x. whole x.0 };
 
-    ghost unfolds = { λ c. simple_unfolds (number_schema c unbounded) tt };
+    ghost unfolds = { λ c. simple_unfolds (number_schema c big) tt };
+
+    ghost tag_fits = { λ _ _. refl };
 }
 
 impl Encode for ZeroTo65536 {
@@ -91,15 +94,19 @@ const ONE_TO_TEN_EXTENSIBLE: &[Constraint] = &[Constraint::Value(Extensible {
 impl AsnType for OneToTenExtensible {
     const TAG: Tag = Tag::INTEGER;
 
+    ghost TAG = { INTEGER };
+
     const CONSTRAINTS: Constraints = Constraints(ONE_TO_TEN_EXTENSIBLE);
 
-    ghost CONSTRAINTS = { extensible_within (between (pos 1) (pos 10)) };
+    ghost CONSTRAINTS = { extensible (1 to 10) };
 
-    ghost schema = { λ c. always (number_schema c unbounded) };
+    ghost schema = { λ c. always (number_schema c big) };
 
     ghost value = { λ x. whole x.0 };
 
-    ghost unfolds = { λ c. simple_unfolds (number_schema c unbounded) tt };
+    ghost unfolds = { λ c. simple_unfolds (number_schema c big) tt };
+
+    ghost tag_fits = { λ _ _. refl };
 }
 
 impl Encode for OneToTenExtensible {
@@ -151,15 +158,19 @@ const MINUS_ONE_TO_254: &[Constraint] = &[Constraint::Value(Extensible {
 impl AsnType for MinusOneTo254 {
     const TAG: Tag = Tag::INTEGER;
 
+    ghost TAG = { INTEGER };
+
     const CONSTRAINTS: Constraints = Constraints(MINUS_ONE_TO_254);
 
-    ghost CONSTRAINTS = { within (between (negsuc 0) (pos 254)) };
+    ghost CONSTRAINTS = { minus 1 to 254 };
 
-    ghost schema = { λ c. always (number_schema c (unsigned_range 8)) };
+    ghost schema = { λ c. always (number_schema c u8) };
 
     ghost value = { λ x. whole (pos x.0) };
 
-    ghost unfolds = { λ c. simple_unfolds (number_schema c (unsigned_range 8)) tt };
+    ghost unfolds = { λ c. simple_unfolds (number_schema c u8) tt };
+
+    ghost tag_fits = { λ _ _. refl };
 }
 
 impl Encode for MinusOneTo254 {

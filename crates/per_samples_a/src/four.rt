@@ -1,23 +1,17 @@
 //! A SEQUENCE of which one component is bounded.
 
-ghost use Rattle.std.specs.Prelude.{refl, [], ◌∷◌, true, false, pos, negsuc};
+ghost use Rattle.std.specs.Prelude.{refl, [], ◌∷◌, Some, true, false, pos, negsuc};
+ghost use Rattle.rasn_types.specs.Values.{truth, whole};
 ghost use Rattle.rasn_types.specs.Variants.{aligned, unaligned};
-ghost use Rattle.rasn_schema.specs.Schemas.{listed};
-ghost use Rattle.rasn_constraints.specs.Ranges.{no_constraints};
-ghost use Rattle.rasn_schema.specs.Fields.{shapes_from};
-ghost use Rattle.rasn_schema.specs.Records.{record_at, no_additions, record_value};
-ghost use Rattle.rasn_schema.specs.Families.{record_unfolds, parts_unfold};
-ghost use Rattle.per_samples_a.specs.Fours.{four_parts, four_contents, four_unfolds};
+ghost use Rattle.rasn_schema.specs.Components.{fields_of};
+ghost use Rattle.per_samples_a.specs.Fours.{four};
 ghost use Rattle.per_samples_a.specs.Rows.{IsWrittenAs, IsUnwritten};
 
-use rasn_codec::codec::{Decode, Decoder, Encode, Encoder};
-use rasn_codec::record::{End, Required};
-use rasn_schema::constraints::{Bounded, Constraint, Extensible};
-use rasn_schema::fields::{Constructed, Field, Fields, Presence, TagTree};
-use rasn_schema::schema::{AsnType, Constraints};
+use rasn_record::{
+    AsnType, Components, Constraint, Decoder, Encoder, Fields, Record, bounds, decode_components,
+    encode_components, fields,
+};
 use rasn_types::big::Integer;
-use rasn_types::types::{Class, Identifier, Tag};
-use std::marker::PhantomData;
 
 /// SEQUENCE { a BOOLEAN, b INTEGER, c BOOLEAN, d INTEGER (-10..400) }
 #[derive(Debug, Drop, PartialEq, Eq)]
@@ -28,166 +22,42 @@ pub struct Four {
     pub d: Integer,
 }
 
-/// The constraints of `d`.
-const MINUS_10_TO_400: &[Constraint] = &[Constraint::Value(Extensible {
-    constraint: Bounded::Range {
-        start: Some(-10),
-        end: Some(400),
-    },
-    extensible: false,
-})];
-
-impl AsnType for Four {
-    const TAG: Tag = Tag {
-        class: Class::Universal,
-        value: 16,
+macro_rules! components {
+    ($to:ident $($with:ident)*) => {
+        $to! { [$($with)*]
+            required 0 "a" a: bool [];
+            required 1 "b" b: Integer [];
+            required 2 "c" c: bool [];
+            required 3 "d" d: Integer [-10..=400];
+        }
     };
-
-    const CONSTRAINTS: Constraints = Constraints::NONE;
-
-    ghost CONSTRAINTS = { no_constraints };
-
-    ghost schema = { λ _. record_at listed four_parts false no_additions };
-
-    ghost value = { λ x. record_value (four_contents x.a x.b x.c x.d) [] };
-
-    ghost levels = { λ _. 1 };
-
-    ghost unfolds = { λ _. record_unfolds four_unfolds parts_unfold };
 }
 
-/// The tags of the components (AUTOMATIC TAGS).
-const A: Tag = Tag {
-    class: Class::Context,
-    value: 0,
-};
+const FIELDS: Fields = components!(fields);
 
-const B: Tag = Tag {
-    class: Class::Context,
-    value: 1,
-};
+const BOUNDS: &[&[Constraint]] = components!(bounds);
 
-const C: Tag = Tag {
-    class: Class::Context,
-    value: 2,
-};
+impl Components for Four {
+    const COMPONENTS: Fields = FIELDS;
 
-const D: Tag = Tag {
-    class: Class::Context,
-    value: 3,
-};
+    ghost COMPONENTS = { fields_of four };
 
-const FIELDS: &[Field] = &[
-    Field {
-        index: 0,
-        tag: A,
-        tag_tree: TagTree::Leaf(A),
-        presence: Presence::Required,
-        name: "a",
-    },
-    Field {
-        index: 1,
-        tag: B,
-        tag_tree: TagTree::Leaf(B),
-        presence: Presence::Required,
-        name: "b",
-    },
-    Field {
-        index: 2,
-        tag: C,
-        tag_tree: TagTree::Leaf(C),
-        presence: Presence::Required,
-        name: "c",
-    },
-    Field {
-        index: 3,
-        tag: D,
-        tag_tree: TagTree::Leaf(D),
-        presence: Presence::Required,
-        name: "d",
-    },
-];
+    ghost components = { four };
 
-impl Constructed for Four {
-    const FIELDS: Fields = Fields { list: FIELDS };
+    ghost contents = { λ x. Some (truth x.a) ∷ Some (whole x.b) ∷ Some (truth x.c) ∷ Some (whole x.d) ∷ [] };
 
-    ghost FIELDS = { shapes_from 0 (four_parts 0) };
+    ghost described = { refl };
 
-    ghost parts = { four_parts };
-
-    ghost contents = { λ x. four_contents x.a x.b x.c x.d };
-
-    ghost described = { λ _. refl };
-
-    ghost all_required = { λ _. refl };
-
-    ghost is_record = { λ _. refl };
+    ghost all_required = { refl };
 }
 
-impl Encode for Four {
-    fn encode_with_tag_and_constraints<E: Encoder>(
-        &self,
-        encoder: &mut E,
-        tag: Tag,
-        constraints: &Constraints,
-        identifier: Identifier,
-    ) -> Result<(), E::Error> {
-        let _ = constraints;
-        let parts = Required {
-            tag: A,
-            constraints: None,
-            value: &self.a,
-            next: Required {
-                tag: B,
-                constraints: None,
-                value: &self.b,
-                next: Required {
-                    tag: C,
-                    constraints: None,
-                    value: &self.c,
-                    next: Required {
-                        tag: D,
-                        constraints: Some(Constraints(MINUS_10_TO_400)),
-                        value: &self.d,
-                        next: End {},
-                    },
-                },
-            },
-        };
-        encoder.encode_record::<Four, _, _>(tag, &parts, identifier)
+impl Record for Four {
+    fn encode_components<E: Encoder>(&self, encoder: &mut E) -> Result<(), E::Error> {
+        components!(encode_components self encoder)
     }
-}
 
-impl Decode for Four {
-    fn decode_with_tag_and_constraints<D: Decoder>(
-        decoder: &mut D,
-        tag: Tag,
-        constraints: &Constraints,
-    ) -> Result<Four, D::Error> {
-        let _ = constraints;
-        let parts = Required {
-            tag: A,
-            constraints: None,
-            value: PhantomData::<bool>,
-            next: Required {
-                tag: B,
-                constraints: None,
-                value: PhantomData::<Integer>,
-                next: Required {
-                    tag: C,
-                    constraints: None,
-                    value: PhantomData::<bool>,
-                    next: Required {
-                        tag: D,
-                        constraints: Some(Constraints(MINUS_10_TO_400)),
-                        value: PhantomData::<Integer>,
-                        next: End {},
-                    },
-                },
-            },
-        };
-        let (a, (b, (c, (d, ())))) = decoder.decode_record::<Four, _>(tag, &parts)?;
-        Ok(Four { a, b, c, d })
+    fn decode_components<D: Decoder>(decoder: &mut D) -> Result<Self, D::Error> {
+        components!(decode_components decoder)
     }
 }
 

@@ -1,12 +1,11 @@
 //! INTEGER with one bound.
 
-ghost use Rattle.std.specs.Prelude.{◌-◌, ◌^◌, [], ◌∷◌, replicate, pos, negsuc};
+ghost use Rattle.std.specs.Prelude.{refl, ◌-◌, ◌^◌, [], ◌∷◌, replicate, pos, negsuc};
 ghost use Rattle.rasn_types.specs.Values.{whole};
+ghost use Rattle.rasn_types.specs.declared.types.TheConstants.Tag.{INTEGER};
 ghost use Rattle.rasn_types.specs.Variants.{unaligned};
-ghost use Rattle.rasn_constraints.specs.Bounds.{unbounded};
-ghost use Rattle.rasn_constraints.specs.Ranges.{within};
+ghost use Rattle.rasn_schema.specs.Components.{big, up_to, from_minus, from};
 ghost use Rattle.rasn_schema.specs.Forms.{number_schema, always, simple_unfolds};
-ghost use Rattle.per_samples_a.specs.Numbers.{at_least, at_most};
 ghost use Rattle.per_samples_a.specs.Rows.{IsWrittenAs, IsUnwritten};
 
 use rasn_codec::codec::{Decode, Decoder, Encode, Encoder};
@@ -30,15 +29,19 @@ const UP_TO_65535: &[Constraint] = &[Constraint::Value(Extensible {
 impl AsnType for UpTo65535 {
     const TAG: Tag = Tag::INTEGER;
 
+    ghost TAG = { INTEGER };
+
     const CONSTRAINTS: Constraints = Constraints(UP_TO_65535);
 
-    ghost CONSTRAINTS = { within (at_most (pos 65535)) };
+    ghost CONSTRAINTS = { up_to 65535 };
 
-    ghost schema = { λ c. always (number_schema c unbounded) };
+    ghost schema = { λ c. always (number_schema c big) };
 
     ghost value = { λ x. whole x.0 };
 
-    ghost unfolds = { λ c. simple_unfolds (number_schema c unbounded) tt };
+    ghost unfolds = { λ c. simple_unfolds (number_schema c big) tt };
+
+    ghost tag_fits = { λ _ _. refl };
 }
 
 impl Encode for UpTo65535 {
@@ -88,15 +91,19 @@ const FROM_MINUS_ONE: &[Constraint] = &[Constraint::Value(Extensible {
 impl AsnType for FromMinusOne {
     const TAG: Tag = Tag::INTEGER;
 
+    ghost TAG = { INTEGER };
+
     const CONSTRAINTS: Constraints = Constraints(FROM_MINUS_ONE);
 
-    ghost CONSTRAINTS = { within (at_least (negsuc 0)) };
+    ghost CONSTRAINTS = { from_minus 1 };
 
-    ghost schema = { λ c. always (number_schema c unbounded) };
+    ghost schema = { λ c. always (number_schema c big) };
 
     ghost value = { λ x. whole x.0 };
 
-    ghost unfolds = { λ c. simple_unfolds (number_schema c unbounded) tt };
+    ghost unfolds = { λ c. simple_unfolds (number_schema c big) tt };
+
+    ghost tag_fits = { λ _ _. refl };
 }
 
 impl Encode for FromMinusOne {
@@ -148,15 +155,19 @@ const NATURAL: &[Constraint] = &[Constraint::Value(Extensible {
 impl AsnType for Natural {
     const TAG: Tag = Tag::INTEGER;
 
+    ghost TAG = { INTEGER };
+
     const CONSTRAINTS: Constraints = Constraints(NATURAL);
 
-    ghost CONSTRAINTS = { within (at_least (pos 0)) };
+    ghost CONSTRAINTS = { from 0 };
 
-    ghost schema = { λ c. always (number_schema c unbounded) };
+    ghost schema = { λ c. always (number_schema c big) };
 
     ghost value = { λ x. whole x.0 };
 
-    ghost unfolds = { λ c. simple_unfolds (number_schema c unbounded) tt };
+    ghost unfolds = { λ c. simple_unfolds (number_schema c big) tt };
+
+    ghost tag_fits = { λ _ _. refl };
 }
 
 impl Encode for Natural {

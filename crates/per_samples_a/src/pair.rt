@@ -1,14 +1,16 @@
 //! A SEQUENCE of two required components, by a scope that writes or reads them.
 
 ghost use Rattle.std.specs.Prelude.{refl, true, [], ◌∷◌, false, ◌≡◌, IsErrAnd, OnErr};
+ghost use Rattle.rasn_types.specs.declared.types.TheConstants.Tag.{SEQUENCE};
 ghost use Rattle.rasn_schema.specs.Schemas.{listed};
 ghost use Rattle.rasn_schema.specs.Normal.{normals};
 ghost use Rattle.rasn_constraints.specs.Ranges.{no_constraints};
 ghost use Rattle.rasn_schema.specs.Fields.{shapes_from};
 ghost use Rattle.rasn_schema.specs.Records.{AtParts, record_at, no_additions, record_value};
-ghost use Rattle.rasn_schema.specs.Families.{record_unfolds, parts_unfold};
+ghost use Rattle.rasn_schema.specs.Components.{sequence_unfolds};
+ghost use Rattle.rasn_schema.specs.Tags.{sequence_tag};
 ghost use Rattle.rasn_codec.specs.Scopes.{WrittenParts, AnswersParts};
-ghost use Rattle.per_samples_a.specs.Pairs.{pair_parts, pair_contents, pair_unfolds};
+ghost use Rattle.per_samples_a.specs.Pairs.{pair, pair_parts, pair_contents};
 
 use rasn_codec::codec::{Decode, Decoder, Encode, Encoder};
 use rasn_schema::fields::{Constructed, Field, Fields, Presence, TagTree};
@@ -23,10 +25,9 @@ pub struct Pair {
 }
 
 impl AsnType for Pair {
-    const TAG: Tag = Tag {
-        class: Class::Universal,
-        value: 16,
-    };
+    const TAG: Tag = Tag::SEQUENCE;
+
+    ghost TAG = { SEQUENCE };
 
     const CONSTRAINTS: Constraints = Constraints::NONE;
 
@@ -38,7 +39,9 @@ impl AsnType for Pair {
 
     ghost levels = { λ _. 1 };
 
-    ghost unfolds = { λ _. record_unfolds pair_unfolds parts_unfold };
+    ghost unfolds = { λ _. sequence_unfolds pair };
+
+    ghost tag_fits = { λ _. sequence_tag pair_parts false no_additions };
 }
 
 /// The tags of the components (AUTOMATIC TAGS).

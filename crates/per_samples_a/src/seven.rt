@@ -1,23 +1,17 @@
 //! A SEQUENCE of which each value takes no bits.
 
-ghost use Rattle.std.specs.Prelude.{refl, [], ◌∷◌, false, pos};
+ghost use Rattle.std.specs.Prelude.{refl, [], ◌∷◌, Some, pos};
+ghost use Rattle.rasn_types.specs.Values.{whole};
 ghost use Rattle.rasn_types.specs.Variants.{aligned, unaligned};
-ghost use Rattle.rasn_schema.specs.Schemas.{listed};
-ghost use Rattle.rasn_constraints.specs.Ranges.{no_constraints};
-ghost use Rattle.rasn_schema.specs.Fields.{shapes_from};
-ghost use Rattle.rasn_schema.specs.Records.{record_at, no_additions, record_value};
-ghost use Rattle.rasn_schema.specs.Families.{record_unfolds, parts_unfold};
-ghost use Rattle.per_samples_a.specs.Sevens.{seven_parts, seven_contents, seven_unfolds};
+ghost use Rattle.rasn_schema.specs.Components.{fields_of};
+ghost use Rattle.per_samples_a.specs.Sevens.{seven};
 ghost use Rattle.per_samples_a.specs.Rows.{IsWrittenAs, IsUnwritten};
 
-use rasn_codec::codec::{Decode, Decoder, Encode, Encoder};
-use rasn_codec::record::{End, Required};
-use rasn_schema::constraints::{Bounded, Constraint, Extensible};
-use rasn_schema::fields::{Constructed, Field, Fields, Presence, TagTree};
-use rasn_schema::schema::{AsnType, Constraints};
+use rasn_record::{
+    AsnType, Components, Constraint, Decoder, Encoder, Fields, Record, bounds, decode_components,
+    encode_components, fields,
+};
 use rasn_types::big::Integer;
-use rasn_types::types::{Class, Identifier, Tag};
-use std::marker::PhantomData;
 
 /// SEQUENCE { a INTEGER (7..7) }
 #[derive(Debug, Drop, PartialEq, Eq)]
@@ -25,98 +19,39 @@ pub struct Seven {
     pub a: Integer,
 }
 
-/// The constraints of `a`.
-const SEVEN_TO_SEVEN: &[Constraint] = &[Constraint::Value(Extensible {
-    constraint: Bounded::Range {
-        start: Some(7),
-        end: Some(7),
-    },
-    extensible: false,
-})];
-
-impl AsnType for Seven {
-    const TAG: Tag = Tag {
-        class: Class::Universal,
-        value: 16,
+macro_rules! components {
+    ($to:ident $($with:ident)*) => {
+        $to! { [$($with)*]
+            required 0 "a" a: Integer [7..=7];
+        }
     };
-
-    const CONSTRAINTS: Constraints = Constraints::NONE;
-
-    ghost CONSTRAINTS = { no_constraints };
-
-    ghost schema = { λ _. record_at listed seven_parts false no_additions };
-
-    ghost value = { λ x. record_value (seven_contents x.a) [] };
-
-    ghost levels = { λ _. 1 };
-
-    ghost unfolds = { λ _. record_unfolds seven_unfolds parts_unfold };
 }
 
-/// The tags of the components (AUTOMATIC TAGS).
-const A: Tag = Tag {
-    class: Class::Context,
-    value: 0,
-};
+const FIELDS: Fields = components!(fields);
 
-const FIELDS: &[Field] = &[Field {
-    index: 0,
-    tag: A,
-    tag_tree: TagTree::Leaf(A),
-    presence: Presence::Required,
-    name: "a",
-}];
+const BOUNDS: &[&[Constraint]] = components!(bounds);
 
-impl Constructed for Seven {
-    const FIELDS: Fields = Fields { list: FIELDS };
+impl Components for Seven {
+    const COMPONENTS: Fields = FIELDS;
 
-    ghost FIELDS = { shapes_from 0 (seven_parts 0) };
+    ghost COMPONENTS = { fields_of seven };
 
-    ghost parts = { seven_parts };
+    ghost components = { seven };
 
-    ghost contents = { λ x. seven_contents x.a };
+    ghost contents = { λ x. Some (whole x.a) ∷ [] };
 
-    ghost described = { λ _. refl };
+    ghost described = { refl };
 
-    ghost all_required = { λ _. refl };
-
-    ghost is_record = { λ _. refl };
+    ghost all_required = { refl };
 }
 
-impl Encode for Seven {
-    fn encode_with_tag_and_constraints<E: Encoder>(
-        &self,
-        encoder: &mut E,
-        tag: Tag,
-        constraints: &Constraints,
-        identifier: Identifier,
-    ) -> Result<(), E::Error> {
-        let _ = constraints;
-        let parts = Required {
-            tag: A,
-            constraints: Some(Constraints(SEVEN_TO_SEVEN)),
-            value: &self.a,
-            next: End {},
-        };
-        encoder.encode_record::<Seven, _, _>(tag, &parts, identifier)
+impl Record for Seven {
+    fn encode_components<E: Encoder>(&self, encoder: &mut E) -> Result<(), E::Error> {
+        components!(encode_components self encoder)
     }
-}
 
-impl Decode for Seven {
-    fn decode_with_tag_and_constraints<D: Decoder>(
-        decoder: &mut D,
-        tag: Tag,
-        constraints: &Constraints,
-    ) -> Result<Seven, D::Error> {
-        let _ = constraints;
-        let parts = Required {
-            tag: A,
-            constraints: Some(Constraints(SEVEN_TO_SEVEN)),
-            value: PhantomData::<Integer>,
-            next: End {},
-        };
-        let (a, ()) = decoder.decode_record::<Seven, _>(tag, &parts)?;
-        Ok(Seven { a })
+    fn decode_components<D: Decoder>(decoder: &mut D) -> Result<Self, D::Error> {
+        components!(decode_components decoder)
     }
 }
 

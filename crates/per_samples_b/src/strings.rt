@@ -1,8 +1,9 @@
 //! Character strings with a size, or with a permitted alphabet.
 
-ghost use Rattle.std.specs.Prelude.{[], ◌∷◌, codes};
+ghost use Rattle.std.specs.Prelude.{refl, [], ◌∷◌, codes};
 ghost use Rattle.rasn_types.specs.Alphabets.{visible, ia5};
 ghost use Rattle.rasn_types.specs.Values.{characters};
+ghost use Rattle.rasn_types.specs.declared.types.TheConstants.Tag.{IA5_STRING, VISIBLE_STRING};
 ghost use Rattle.rasn_types.specs.Variants.{aligned, unaligned};
 ghost use Rattle.rasn_schema.specs.Forms.{character_schema, always, simple_unfolds};
 ghost use Rattle.per_samples_b.specs.Strings.{one_to_three_extensible, a_to_e_in_one_to_twenty, only_the_x};
@@ -29,6 +30,8 @@ const ONE_TO_THREE_EXTENSIBLE: &[Constraint] = &[Constraint::Size(Extensible {
 impl AsnType for ShortVisible {
     const TAG: Tag = Tag::VISIBLE_STRING;
 
+    ghost TAG = { VISIBLE_STRING };
+
     const CONSTRAINTS: Constraints = Constraints(ONE_TO_THREE_EXTENSIBLE);
 
     ghost CONSTRAINTS = { one_to_three_extensible };
@@ -38,6 +41,8 @@ impl AsnType for ShortVisible {
     ghost value = { λ x. characters x.0 };
 
     ghost unfolds = { λ c. simple_unfolds (character_schema visible c) tt };
+
+    ghost tag_fits = { λ _ _. refl };
 }
 
 impl Encode for ShortVisible {
@@ -95,6 +100,8 @@ const LETTERS_A_TO_E: &[Constraint] = &[
 impl AsnType for LettersAToE {
     const TAG: Tag = Tag::VISIBLE_STRING;
 
+    ghost TAG = { VISIBLE_STRING };
+
     const CONSTRAINTS: Constraints = Constraints(LETTERS_A_TO_E);
 
     ghost CONSTRAINTS = { a_to_e_in_one_to_twenty };
@@ -104,6 +111,8 @@ impl AsnType for LettersAToE {
     ghost value = { λ x. characters x.0 };
 
     ghost unfolds = { λ c. simple_unfolds (character_schema visible c) tt };
+
+    ghost tag_fits = { λ _ _. refl };
 }
 
 impl Encode for LettersAToE {
@@ -154,6 +163,8 @@ const ONLY_X: &[Constraint] = &[Constraint::PermittedAlphabet(Extensible {
 impl AsnType for OnlyX {
     const TAG: Tag = Tag::IA5_STRING;
 
+    ghost TAG = { IA5_STRING };
+
     const CONSTRAINTS: Constraints = Constraints(ONLY_X);
 
     ghost CONSTRAINTS = { only_the_x };
@@ -163,6 +174,8 @@ impl AsnType for OnlyX {
     ghost value = { λ x. characters x.0 };
 
     ghost unfolds = { λ c. simple_unfolds (character_schema ia5 c) tt };
+
+    ghost tag_fits = { λ _ _. refl };
 }
 
 impl Encode for OnlyX {

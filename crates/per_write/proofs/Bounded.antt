@@ -1,27 +1,16 @@
 -- Whole numbers under bounds, as they are written.
 use Rattle.std.proofs.Common.{◌≡◌, refl, sym, ap, ◌∙◌, subst, ℕ, zero, suc, ◌+◌, ◌-◌, ◌*◌, ◌/◌, ◌^◌, ◌<◌, ◌≤◌, Bool, true, false, cond, max, min, ◌%◌, eqb, leb, lt-ltb, le-leb, List, [], ◌∷◌, ◌++◌, length, get_or, arith, Some}
 use Rattle.std.proofs.lemmas.Bool.{lt-leb, ne_eqb}
-use Rattle.std.proofs.lemmas.Nat.{leading_length}
-use lib.Count.{count_leading_zeros}
 use Rattle.rasn_types.specs.Bits.{Bits, to_bits, width, unpack, pack, AreOctets}
 use Rattle.rasn_types.specs.Octets.{natural_bits, octets_of_natural}
 use Rattle.rasn_types.specs.Variants.{Variant, aligned, unaligned}
-use Rattle.rasn_types.proofs.Bits.{width_is, width_holds, length-to_bits}
+use Rattle.rasn_types.proofs.Bits.{width_holds, length-to_bits}
 use Rattle.rasn_types.proofs.Octets.{unpack-pack, length-pack, octets-pack}
 use Rattle.per_core.specs.Writers.{just, ◌▹◌, padding, written_if, one_by_one}
 use Rattle.per_core.specs.Counts.{constrained_whole, counted_octets, determinant, octet_items, octet_writers}
 use Rattle.per_write.specs.State.{Appends}
 use Rattle.per_write.proofs.Writing.{then_same, appends_then, appends_same, appends_bits}
 use Rattle.per_write.proofs.Fragments.{fragments_of_few, in_their_fragments, octets_one_by_one, length-octet_writers}
-
--- X.691 11.5.6: the width of the numbers from 0 to m is the length of m
-pub width_of_last : (m : ℕ) → m < 2 ^ 128 → 128 - count_leading_zeros 128 m ≡ width (m + 1)
-width_of_last m h =
-    let d = leading_length 128 m h in
-    let w : width (m + 1) ≡ d.0 = width_is m d.0 d.2 d.3 in
-    let l : count_leading_zeros 128 m + d.0 ≡ 128 = d.1 in
-    let e : 128 - count_leading_zeros 128 m ≡ d.0 = omega arith in
-    e ∙ sym w
 
 -- X.691 11.3.6: the octets of a number by its width
 pub octets_by_width : (n w k : ℕ) → w ≡ width (n + 1) → k ≡ max (w / 8 + min 1 (w % 8)) 1 → k ≡ octets_of_natural n
@@ -116,11 +105,11 @@ appends_natural a x y z o k e l p t =
     bits : unpack octets ≡ to_bits (8 * k) o
     bits = unpack-pack (length (natural_bits o) / 8) (natural_bits o) (omega (arith, wide)) ∙ ap (λ (n : ℕ). to_bits (8 * n) o) (sym e)
 
-    in_row : (q : ℕ) → just (to_bits (8 * k) o) q ≡ one_by_one (octet_writers octets) q
-    in_row q = ap Some (sym bits) ∙ sym (octets_one_by_one octets (are_octets octets (octets-pack (length (natural_bits o) / 8) (natural_bits o))) q)
+    of_octets : (q : ℕ) → just (to_bits (8 * k) o) q ≡ one_by_one (octet_writers octets) q
+    of_octets q = ap Some (sym bits) ∙ sym (octets_one_by_one octets (are_octets octets (octets-pack (length (natural_bits o) / 8) (natural_bits o))) q)
 
     same : (q : ℕ) → ((padding a ▹ just (determinant k)) ▹ just (to_bits (8 * k) o)) q ≡ counted_octets a (natural_bits o) q
     same q = then_same (padding a ▹ just (determinant k)) (padding a ▹ just (determinant (length (octet_writers octets)))) (just (to_bits (8 * k) o)) (one_by_one (octet_writers octets))
-        (λ r. ap (λ (n : ℕ). (padding a ▹ just (determinant n)) r) (sym counted)) in_row q
+        (λ r. ap (λ (n : ℕ). (padding a ▹ just (determinant n)) r) (sym counted)) of_octets q
         ∙ sym (fragments_of_few a (octet_writers octets) (omega (arith, counted)) q)
         ∙ in_their_fragments a octet_items (octet_writers octets) (omega (arith, counted)) q

@@ -23,6 +23,7 @@ use Rattle.rasn_types.specs.Octets.{natural_bits}
 use Rattle.per_write.specs.declared.error.EncodeError.{EncodeError}
 use Rattle.per_write.specs.declared.error.EncodeErrorKind.TheVariants.{ValueConstraintNotSatisfied, IntegerTypeConversionFailed}
 use Rattle.per_write.specs.Faults.{at_once, has_bound, IsError, IsMemory, IsPast, Outside, RefusesValue, Stands}
+use Rattle.per_write.specs.Numbers.{unconstrained_whole}
 use Rattle.per_write.specs.State.{Appends, State, Wrote, Presents}
 use Rattle.per_write.proofs.Writing.{appends_same, wrote_then, wrote_same}
 
@@ -54,11 +55,22 @@ whole_counted : (a : Variant) (z : ℤ) → unconstrained_octets a (signed_octet
 unfolding counted_octets signed_octets
 whole_counted a z = let n : octets_of_whole z ≡ length (whole_bits z) / 8 = omega (arith, length-whole_bits z) in ap (λ (k : ℕ). unconstrained_octets a (pack k (whole_bits z))) n
 
-pub wrote_whole : (x m y : State) (z : ℤ) (octets : List ℕ) (result : Result (Unit {0}) EncodeError) → m ≡ x → octets ≡ signed_octets z →
-    OnOk result (Wrote m (unconstrained_octets (variant_of m.codec) octets) y) → OnOk result (Wrote x (counted_octets (variant_of x.codec) (whole_bits z)) y)
-wrote_whole x m y z octets result k o w =
-    subst (λ (f : Writer). OnOk result (Wrote x f y)) (ap (unconstrained_octets (variant_of x.codec)) o ∙ whole_counted (variant_of x.codec) z)
-    (subst (λ (s : State). OnOk result (Wrote s (unconstrained_octets (variant_of s.codec) octets) y)) k w)
+pub wrote_whole : (x m y : State) (range : Bounds) (z : ℤ) (octets : List ℕ) (result : Result (Unit {0}) EncodeError) → m ≡ x → holds range z ≡ true → octets ≡ signed_octets z →
+    OnOk result (Wrote m (unconstrained_octets (variant_of m.codec) octets) y) → OnOk result (Wrote x (unconstrained_whole (variant_of x.codec) range z) y)
+wrote_whole x m y range z octets result k h o w =
+    subst (λ (b : Bool). OnOk result (Wrote x (written_if b (counted_octets (variant_of x.codec) (whole_bits z))) y)) (sym h)
+    (subst (λ (f : Writer). OnOk result (Wrote x f y)) (ap (unconstrained_octets (variant_of x.codec)) o ∙ whole_counted (variant_of x.codec) z)
+    (subst (λ (s : State). OnOk result (Wrote s (unconstrained_octets (variant_of s.codec) octets) y)) k w))
+
+-- what was written where a test passes, was written
+wrote_tested : (b : Bool) (more : Writer) (x y : State) → Wrote x (written_if b more) y → Wrote x more y
+wrote_tested true more x y w = w
+wrote_tested false more x y w = absurd (let e : Some y.bits ≡ None = w.written 0 refl in cc)
+
+pub whole_written : (x y : State) (range : Bounds) (z : ℤ) (result : Result (Unit {0}) EncodeError) →
+    OnOk result (Wrote x (unconstrained_whole (variant_of x.codec) range z) y) → OnOk result (Wrote x (counted_octets (variant_of x.codec) (whole_bits z)) y)
+whole_written x y range z (Ok u) w = wrote_tested (holds range z) _ x y w
+whole_written x y range z (Err e) w = w
 
 -- a number past an i128 has no form under a bound
 under_past : (a : Variant) (l u : Option ℤ) (v : ℤ) → has_bound (record { low = l; high = u }) ≡ true → fits_i128 v ≡ false → (p : ℕ) → number_under a l u v p ≡ None

@@ -30,10 +30,10 @@ length-slice : (ws : List Writer) (start end : ℕ) → start ≤ end → end �
 length-slice ws start end h l = length-take (end - start) (drop start ws) ∙ omega (arith, length-drop start ws)
 
 -- items behind their count
-pub wrote_row : (writers : Variant → List Writer) (x m y : State) (start end : ℕ) → start ≤ end → end ≤ length (writers (variant_of x.codec)) →
+pub wrote_fragment : (writers : Variant → List Writer) (x m y : State) (start end : ℕ) → start ≤ end → end ≤ length (writers (variant_of x.codec)) →
     Wrote x (padding (variant_of x.codec) ▹ just (determinant (end - start))) m → Wrote m (one_by_one (slice_range (writers (variant_of m.codec)) start end)) y →
     Wrote x (one_fragment (variant_of x.codec) (slice_range (writers (variant_of x.codec)) start end)) y
-wrote_row writers x m y start end h l v w =
+wrote_fragment writers x m y start end h l v w =
     subst (λ (n : ℕ). Wrote x ((padding (variant_of x.codec) ▹ just (determinant n)) ▹ one_by_one (slice_range (writers (variant_of x.codec)) start end)) y)
     (sym (length-slice (writers (variant_of x.codec)) start end h l))
     (wrote_then x m y _ _ v (subst (λ (c : Codec). Wrote m (one_by_one (slice_range (writers (variant_of c)) start end)) y) v.same w))

@@ -30,8 +30,8 @@ none_one_by_one [] h p = elim h [ ]
 none_one_by_one (w ∷ ws) (refused_here h) p = ap (λ o. go_on o (one_by_one ws) p) (h p)
 none_one_by_one (w ∷ ws) (refused_behind h) p = none_behind (w p) (one_by_one ws) p (λ q. none_one_by_one ws h q)
 
-none_in_row : (a : Variant) (ws : List Writer) → HasRefused ws → (p : ℕ) → one_fragment a ws p ≡ None
-none_in_row a ws h p = none_behind ((padding a ▹ just (determinant (length ws))) p) (one_by_one ws) p (λ q. none_one_by_one ws h q)
+none_in_fragment : (a : Variant) (ws : List Writer) → HasRefused ws → (p : ℕ) → one_fragment a ws p ≡ None
+none_in_fragment a ws h p = none_behind ((padding a ▹ just (determinant (length ws))) p) (one_by_one ws) p (λ q. none_one_by_one ws h q)
 
 in_part : (m : ℕ) (ws : List Writer) → HasRefused ws → HasRefused (take m ws) ⊎ HasRefused (drop m ws)
 in_part zero ws h = inr h
@@ -40,20 +40,20 @@ in_part (suc m) (w ∷ ws) (refused_here h) = inl (refused_here h)
 in_part (suc m) (w ∷ ws) (refused_behind h) = elim (in_part m ws h) [ inl i ↦ inl (refused_behind i) | inr i ↦ inr i ]
 
 none_in_fragments : (k : ℕ) (a : Variant) (ws : List Writer) → length ws ≤ k → HasRefused ws → (p : ℕ) → in_fragments a (fragment_sizes (length ws)) ws p ≡ None
-none_in_fragments zero a ws l h p = fragments_of_few a ws (omega arith) p ∙ none_in_row a ws h p
+none_in_fragments zero a ws l h p = fragments_of_few a ws (omega arith) p ∙ none_in_fragment a ws h p
 none_in_fragments (suc k) a ws l h p = go (ltb (length ws) 16384) refl (λ vs. none_in_fragments k a vs)
   where
     m : ℕ
     m = first_fragment (length ws)
 
     go : (few : Bool) → ltb (length ws) 16384 ≡ few → ((vs : List Writer) → length vs ≤ k → HasRefused vs → (q : ℕ) → in_fragments a (fragment_sizes (length vs)) vs q ≡ None) → in_fragments a (fragment_sizes (length ws)) ws p ≡ None
-    go true e rest = fragments_of_few a ws (ltb-true (length ws) 16384 e) p ∙ none_in_row a ws h p
+    go true e rest = fragments_of_few a ws (ltb-true (length ws) 16384 e) p ∙ none_in_fragment a ws h p
     go false e rest =
         let many : 16384 ≤ length ws = ltb-false (length ws) 16384 e in
         let d : length (drop m ws) ≡ length ws - m = length-drop m ws in
         fragments_of_many a ws m many refl p
         ∙ elim (in_part m ws h) [
-          | inl i ↦ ap (λ o. go_on o (in_fragments a (fragment_sizes (length (drop m ws))) (drop m ws)) p) (none_in_row a (take m ws) i p)
+          | inl i ↦ ap (λ o. go_on o (in_fragments a (fragment_sizes (length (drop m ws))) (drop m ws)) p) (none_in_fragment a (take m ws) i p)
           | inr i ↦ none_behind (one_fragment a (take m ws) p) (in_fragments a (fragment_sizes (length (drop m ws))) (drop m ws)) p (λ q. rest (drop m ws) (omega arith) i q)
         ]
 

@@ -3,6 +3,7 @@ use Rattle.std.specs.Prelude.{ℕ, ◌≡◌, Bool, true, false, Some, Result, O
 use Rattle.rasn_types.specs.Bits.{Bits}
 use Rattle.rasn_types.specs.Codecs.{variant_of}
 use Rattle.rasn_types.specs.Values.{Value}
+use Rattle.rasn_types.specs.Variants.{Variant}
 use Rattle.rasn_types.specs.declared.types.Codec.{Codec}
 use Rattle.rasn_schema.specs.Schemas.{Schema}
 use Rattle.per_core.specs.Writers.{Writer, just, ◌▹◌}
@@ -43,3 +44,7 @@ pub record Puts {E : Type 0} (errors : E → State → Type 0) (more : Writer) (
   pub err : IfErr result (λ e. errors e x)
   pub fails : OnErr result (y.failed ≡ true)
   pub kept : y.codec ≡ x.codec
+
+-- the same of what is written in the variant in use
+abbrev pub PutsIn : {E : Type 0} → (E → State → Type 0) → (Variant → Writer) → State → Result (Unit {0}) E → State → Type 0
+PutsIn errors more x result y = Puts errors (more (variant_of x.codec)) x result y

@@ -1,18 +1,16 @@
 //! INTEGER (X.691 13).
 
-ghost use Rattle.std.specs.Prelude.{◌≡◌, ◌⊎◌, ◌<ℤ◌, ◌↔◌, IsTrue, pos, true, false, OnOk, IfOk};
-ghost use Rattle.rasn_types.specs.Codecs.{variant_of};
-ghost use Rattle.rasn_types.specs.Octets.{signed, signed_octets, whole_bits};
+ghost use Rattle.std.specs.Prelude.{◌≡◌, ◌<ℤ◌, ◌↔◌, IsTrue, pos, true, false, OnOk, IfOk};
+ghost use Rattle.rasn_types.specs.Octets.{signed, signed_octets};
 ghost use Rattle.rasn_types.specs.Values.{whole};
 ghost use Rattle.rasn_constraints.specs.Bounds.{holds, not_above, not_below};
 ghost use Rattle.rasn_codec.specs.Calls.{Writes};
 ghost use Rattle.rasn_constraints.specs.Constraints.{bounds_of};
-ghost use Rattle.rasn_schema.specs.Schemas.{Schema};
-ghost use Rattle.per_core.specs.Counts.{counted_octets, number_under};
-ghost use Rattle.per_write.specs.Faults.{IsError, IsMemory, IsPast};
+ghost use Rattle.per_core.specs.Counts.{number_under};
+ghost use Rattle.per_write.specs.Faults.{IsMemory};
+ghost use Rattle.per_write.specs.Numbers.{PutsWithin, stated_number, unconstrained_whole};
 ghost use Rattle.per_write.specs.Rules.{encoder_rules};
-ghost use Rattle.per_write.specs.State.{Puts};
-ghost use Rattle.per_write.specs.declared.error.EncodeErrorKind.TheVariants.{IntegerTypeConversionFailed};
+ghost use Rattle.per_write.specs.State.{PutsIn};
 
 use crate::Writer;
 use crate::error::{EncodeError, EncodeErrorKind};
@@ -23,12 +21,11 @@ use rasn_schema::schema::IntegerType;
 use std::alloc::{AllocError, Allocator};
 
 impl<A: Allocator + Clone> Writer<A> {
-    /// Writes an INTEGER as if it had no constraint: its fewest octets in two's complement behind an unconstrained length
-    /// (X.691 13.2.4).
+    /// Writes an INTEGER as if it had no constraint: its fewest octets in two's complement behind an unconstrained
+    /// length (X.691 13.2.4).
     pub fn put_unconstrained_whole<I: IntegerType>(&mut self, value: &I) -> Result<(), EncodeError>
         requires { self.old.failed ≡ false }
-        ensures written { Puts IsMemory (counted_octets (variant_of self.old.codec) (whole_bits (I.number value.now))) self.old result self.new }
-        ensures held { OnOk result (holds I.range (I.number value.now) ≡ true) }
+        ensures { PutsIn IsMemory (λ a. unconstrained_whole a I.range (I.number value.now)) self.old result self.new }
     {
         let octets = number_octets(&self.bits, value);
         let octets = self.unless_out_of_memory(octets)?;
@@ -45,7 +42,7 @@ impl<A: Allocator + Clone> Writer<A> {
         requires begun { self.old.failed ≡ false }
         requires lower { not_below lower number ≡ true }
         requires upper { not_above upper number ≡ true }
-        ensures { Puts IsMemory (number_under (variant_of self.old.codec) lower upper number) self.old result self.new }
+        ensures { PutsIn IsMemory (λ a. number_under a lower upper number) self.old result self.new }
     {
         match lower {
             Some(lower) => {
@@ -65,8 +62,7 @@ impl<A: Allocator + Clone> Writer<A> {
     ) -> Result<(), EncodeError>
         requires begun { self.old.failed ≡ false }
         requires within { holds (bounds_of bounds.now) (I.number value.now) ≡ true }
-        ensures { let b = bounds_of bounds.now in
-            Puts (λ e x. IsMemory e x ⊎ (IsError IntegerTypeConversionFailed e x × IsPast (bounds_of bounds.now) (I.number value.now))) (number_under (variant_of self.old.codec) b.low b.high (I.number value.now)) self.old result self.new }
+        ensures { PutsWithin (bounds_of bounds.now) (I.number value.now) self.old result self.new }
     {
         let (lower, upper) = bounds.start_and_end();
         if let (None, None) = (lower, upper) {
@@ -78,15 +74,15 @@ impl<A: Allocator + Clone> Writer<A> {
         self.put_number(lower, upper, number)
     }
 
-    /// Writes an INTEGER under a value constraint (X.691 13): where the constraint is extensible, behind a bit that says
-    /// whether the number is outside.
+    /// Writes an INTEGER under a value constraint (X.691 13): where the constraint is extensible, behind a bit that
+    /// says whether the number is outside.
     pub fn put_integer<I: IntegerType>(
         &mut self,
         stated: Extensible<Bounded<i128>>,
         value: &I,
     ) -> Result<(), EncodeError>
         requires { self.old.failed ≡ false }
-        ensures { Writes encoder_rules (Schema.number (bounds_of stated.constraint) stated.extensible I.range) (whole (I.number value.now)) self.old result self.new }
+        ensures { Writes encoder_rules (stated_number stated I.range) (whole (I.number value.now)) self.old result self.new }
     {
         let bounds = stated.constraint;
         let number = value.to_i128();

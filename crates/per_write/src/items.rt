@@ -1,17 +1,14 @@
 //! What is counted in strings and lists: items that are written one after another (X.691 11.9).
 
-ghost use Rattle.std.specs.Prelude.{◌≡◌, ◌<◌, ◌≤◌, List, false, length, slice_range};
-ghost use Rattle.rasn_types.specs.Codecs.{variant_of};
+ghost use Rattle.std.specs.Prelude.{◌≡◌, ◌≤◌, false, length};
 ghost use Rattle.rasn_types.specs.Variants.{Variant};
-ghost use Rattle.per_core.specs.Counts.{Counted, is_aligned, octet_items, octet_writers};
-ghost use Rattle.per_core.specs.Writers.{one_by_one, Writer as ItemWriter};
-ghost use Rattle.per_write.specs.Items.{IsMemoryOrItem};
-ghost use Rattle.per_write.specs.State.{Puts};
-ghost use Rattle.per_write.specs.declared.error.EncodeErrorKind.{EncodeErrorKind};
+ghost use Rattle.per_core.specs.Items.{counted_of};
+ghost use Rattle.per_write.specs.Items.{CountedItems, PutsItems, items_between};
 
 use crate::Writer;
 use crate::error::{EncodeError, EncodeErrorKind};
 use per_bits::BitReader;
+use per_core::items::Item;
 use rasn_strings::alphabet::CharacterAlphabet;
 use rasn_strings::strings::StaticPermittedAlphabet;
 use rasn_types::bit_string::BitString;
@@ -19,24 +16,16 @@ use std::alloc::Allocator;
 
 /// Items that a length counts.
 pub(crate) trait Items {
-    // What is counted.
-    ghost kind: { Self → Counted };
-
-    // How each item is written.
-    ghost writers: { Variant → Self → List ItemWriter };
-
-    // The fault that a kind of error names stands in the items.
-    ghost fault: { EncodeErrorKind → Self → Type 0 };
+    // What is counted, how each item is written, and the fault that an error names in them.
+    ghost counted: { Self → CountedItems };
 
     /// How many items there are.
     fn len(&self) -> usize
-        ensures { (a : Variant) → result ≡ length (writers a self.now) };
+        ensures { (a : Variant) → result ≡ length ((counted self.now).writers a) };
 
-    /// Whether items begin on an octet in the aligned variant, where bounds of their count are written (X.691 16.9 to
-    /// 16.11, 17.6 to 17.8, 20.6, 30.5.6, 30.5.7).
-    fn is_aligned(&self, lower: usize, upper: usize) -> bool
-        requires { upper < 65536 }
-        ensures { result ≡ is_aligned (kind self.now) lower upper };
+    /// What is counted.
+    fn item(&self) -> Item
+        ensures { counted_of result ≡ (counted self.now).kind };
 
     /// Writes the items from an index on and before another. An error says that memory ran out, or that an item has no
     /// encoding.
@@ -48,8 +37,8 @@ pub(crate) trait Items {
     ) -> Result<(), EncodeError>
         requires begun { writer.old.failed ≡ false }
         requires ordered { start ≤ end }
-        requires within { (a : Variant) → end ≤ length (writers a self.now) }
-        ensures { Puts (IsMemoryOrItem (λ k. fault k self.now) (writers (variant_of writer.old.codec) self.now)) (one_by_one (slice_range (writers (variant_of writer.old.codec) self.now) start end)) writer.old result writer.new };
+        requires within { (a : Variant) → end ≤ length ((counted self.now).writers a) }
+        ensures { PutsItems (counted self.now) (items_between start end) writer.old result writer.new };
 }
 
 /// Octets (X.691 17).
@@ -57,18 +46,16 @@ pub(crate) trait Items {
 pub(crate) struct Octets<'a>(pub(crate) &'a [u8]);
 
 impl Items for Octets<'_> {
-    ghost kind = { λ x. octet_items };
+    ghost use Rattle.per_core.specs.Counts.{octet_items, octet_writers};
 
-    ghost writers = { λ a x. octet_writers x.0.now };
-
-    ghost fault = { λ k x. ⊥ };
+    ghost counted = { λ x. record { kind = octet_items; writers = λ a. octet_writers x.0.now; fault = λ k. ⊥ } };
 
     fn len(&self) -> usize {
         self.0.len()
     }
 
-    fn is_aligned(&self, lower: usize, upper: usize) -> bool {
-        lower != upper || upper > 2
+    fn item(&self) -> Item {
+        Item::Octet
     }
 
     fn put<A: Allocator + Clone>(
@@ -84,18 +71,14 @@ impl Items for Octets<'_> {
 impl Items for BitString {
     ghost use Rattle.per_core.specs.Counts.{bit_items, bit_writers};
 
-    ghost kind = { λ x. bit_items };
-
-    ghost writers = { λ a x. bit_writers x };
-
-    ghost fault = { λ k x. ⊥ };
+    ghost counted = { λ x. record { kind = bit_items; writers = λ a. bit_writers x; fault = λ k. ⊥ } };
 
     fn len(&self) -> usize {
         BitString::len(self)
     }
 
-    fn is_aligned(&self, lower: usize, upper: usize) -> bool {
-        lower != upper || upper > 16
+    fn item(&self) -> Item {
+        Item::Bit
     }
 
     fn put<A: Allocator + Clone>(
@@ -119,30 +102,16 @@ pub(crate) struct Characters<'a, S> {
 }
 
 impl<S: StaticPermittedAlphabet> Items for Characters<'_, S> {
-    ghost use Rattle.std.specs.Prelude.{◌≡◌};
-    ghost use Rattle.rasn_types.specs.Alphabets.{char_width};
-    ghost use Rattle.per_core.specs.Canon.{char_writers};
-    ghost use Rattle.per_core.specs.Counts.{char_items};
-    ghost use Rattle.per_write.specs.Faults.{HasForeign};
-    ghost use Rattle.per_write.specs.declared.error.EncodeErrorKind.TheVariants.{AlphabetConstraintNotSatisfied};
+    ghost use Rattle.per_write.specs.Characters.{counted_characters};
 
-    ghost kind = { λ x. char_items (char_width x.alphabet.variant x.alphabet.characters) };
-
-    ghost writers = { λ a x. char_writers x.alphabet.variant x.alphabet.characters (S.characters x.string.now) };
-
-    ghost fault = { λ k x. (k ≡ AlphabetConstraintNotSatisfied) × HasForeign x.alphabet.characters (S.characters x.string.now) };
+    ghost counted = { λ x. counted_characters x.alphabet (S.characters x.string.now) };
 
     fn len(&self) -> usize {
         self.string.len()
     }
 
-    fn is_aligned(&self, lower: usize, upper: usize) -> bool {
-        let bits = upper * self.alphabet.width() as usize;
-        if lower == upper {
-            bits > 16
-        } else {
-            bits >= 16
-        }
+    fn item(&self) -> Item {
+        Item::Character(self.alphabet.width())
     }
 
     fn put<A: Allocator + Clone>(

@@ -1,9 +1,10 @@
 //! Counts in front of items: unconstrained lengths, and counts within bounds (X.691 11.9.3 and 11.9.4).
 
-ghost use Rattle.std.specs.Prelude.{◌+◌, ◌-◌, ◌≤◌, OnOk};
+ghost use Rattle.std.specs.Prelude.{◌≤◌, OnOk};
 ghost use Rattle.rasn_types.specs.Codecs.{variant_of};
-ghost use Rattle.per_core.specs.Writers.{just, padding, ◌▹◌};
-ghost use Rattle.per_core.specs.Counts.{constrained_whole, determinant, padding_if};
+ghost use Rattle.per_core.specs.Writers.{just, padding};
+ghost use Rattle.per_core.specs.Counts.{determinant};
+ghost use Rattle.per_write.specs.Fragments.{constrained_length, unconstrained_length};
 ghost use Rattle.per_write.specs.State.{Appends};
 
 use crate::numbers::push_constrained_whole;
@@ -20,7 +21,7 @@ pub(crate) fn push_unconstrained_length<A: Allocator>(
     codec: Codec,
     count: usize,
 ) -> Result<(), AllocError>
-    ensures { OnOk result (Appends bits.old (padding (variant_of codec) ▹ just (determinant count)) bits.new) }
+    ensures { OnOk result (Appends bits.old (unconstrained_length (variant_of codec) count) bits.new) }
 {
     push_padding(bits, codec)?;
     push_determinant(bits, count)
@@ -38,7 +39,7 @@ pub(crate) fn push_constrained_length<A: Allocator>(
 ) -> Result<(), AllocError>
     requires lower { lower ≤ count }
     requires upper { count ≤ upper }
-    ensures { OnOk result (Appends bits.old (constrained_whole (variant_of codec) (upper - lower + 1) (count - lower) ▹ padding_if on_octet (variant_of codec)) bits.new) }
+    ensures { OnOk result (Appends bits.old (constrained_length (variant_of codec) lower upper count on_octet) bits.new) }
 {
     push_constrained_whole(
         bits,

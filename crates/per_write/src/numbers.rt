@@ -1,7 +1,7 @@
 //! Whole numbers under bounds (X.691 11.5, 11.7 and 13.2).
 
 ghost use Rattle.std.specs.Prelude.{◌≡◌, ◌+◌, ◌<◌, ◌≤◌, ◌≤ℤ◌, ℤ, true, Some, OnOk};
-ghost use Rattle.rasn_types.specs.Bits.{to_bits, width};
+ghost use Rattle.rasn_types.specs.Bits.{to_bits};
 ghost use Rattle.rasn_types.specs.Codecs.{variant_of};
 ghost use Rattle.rasn_types.specs.Octets.{natural_bits, octets_of_natural};
 ghost use Rattle.rasn_types.specs.Variants.{aligned};
@@ -13,7 +13,7 @@ ghost use Rattle.per_write.specs.State.{Appends};
 use crate::lengths::{push_padding, push_unconstrained_length};
 use per_bits::BitList;
 use rasn_types::types::Codec;
-use rasn_types::width::width_of;
+use rasn_types::width::{width_of, width_to};
 use std::alloc::{AllocError, Allocator};
 
 /// Writes a number within bounds of which the lower one is there (X.691 13.2.2, 13.2.3).
@@ -108,14 +108,6 @@ pub(crate) fn push_semi_constrained_whole<A: Allocator>(
     let octets = octet_count(offset);
     push_unconstrained_length(bits, codec, octets as usize)?;
     bits.push_bits(offset, 8 * octets)
-}
-
-/// The bits that tell the numbers from 0 to `greatest` apart (X.691 11.5.6), at most 128.
-fn width_to(greatest: u128) -> u128
-    ensures width { result ≡ width (greatest + 1) }
-    ensures few { result ≤ 128 }
-{
-    128 - u128::from(greatest.leading_zeros())
 }
 
 /// How many octets are the fewest for a number without sign (X.691 11.3.6), from 1 to 16.

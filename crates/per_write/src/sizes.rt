@@ -1,16 +1,11 @@
 //! Items under a size constraint (X.691 11.9.3.3, 11.9.4, 16, 17, 20 and 30.5).
 
-ghost use Rattle.std.specs.Prelude.{◌≡◌, ◌+◌, ◌-◌, ◌≤◌, length, slice_range, true, false};
-ghost use Rattle.rasn_types.specs.Codecs.{variant_of};
+ghost use Rattle.std.specs.Prelude.{◌≡◌, ◌≤◌, length, false};
 ghost use Rattle.rasn_types.specs.Variants.{Variant};
-ghost use Rattle.rasn_constraints.specs.Bounds.{allows, any_size};
-ghost use Rattle.rasn_constraints.specs.Constraints.{is_marked, size_in};
-ghost use Rattle.per_core.specs.Counts.{constrained_whole, counted, counted_in, determinant, padding_if};
-ghost use Rattle.per_core.specs.Writers.{just, padding, ◌▹◌};
 ghost use Rattle.per_write.specs.Faults.{IsMemory};
-ghost use Rattle.per_write.specs.Items.{IsMemoryOrItem, RefusesCounted};
-ghost use Rattle.per_write.specs.Fragments.{one_fragment};
-ghost use Rattle.per_write.specs.State.{Puts};
+ghost use Rattle.per_write.specs.Fragments.{constrained_length, unconstrained_length};
+ghost use Rattle.per_write.specs.Items.{AllowsItems, PutsCounted, PutsItems, fragment_between, sized_items, unconstrained_items};
+ghost use Rattle.per_write.specs.State.{PutsIn};
 
 use crate::Writer;
 use crate::error::{EncodeError, EncodeErrorKind};
@@ -28,8 +23,7 @@ impl<A: Allocator + Clone> Writer<A> {
         items: &I,
     ) -> Result<(), EncodeError>
         requires { self.old.failed ≡ false }
-        ensures { let a = variant_of self.old.codec in
-            Puts (RefusesCounted (size_in size) (is_marked size) (λ k. I.fault k items.now) (I.writers a items.now)) (counted a (size_in size) (is_marked size) (I.kind items.now) (I.writers a items.now)) self.old result self.new }
+        ensures { PutsCounted size (I.counted items.now) self.old result self.new }
     {
         let stated = size.unwrap_or(Extensible::new(Bounded::None));
         let (lower, upper) = stated.constraint.start_and_end();
@@ -60,14 +54,13 @@ impl<A: Allocator + Clone> Writer<A> {
         items: &I,
     ) -> Result<(), EncodeError>
         requires begun { self.old.failed ≡ false }
-        requires within { (a : Variant) → allows (record { least = lower; most = upper }) (length (I.writers a items.now)) ≡ true }
-        ensures { let a = variant_of self.old.codec in
-            Puts (IsMemoryOrItem (λ k. I.fault k items.now) (I.writers a items.now)) (counted_in a (record { least = lower; most = upper }) (I.kind items.now) (I.writers a items.now)) self.old result self.new }
+        requires within { AllowsItems lower upper (I.counted items.now) }
+        ensures { PutsItems (I.counted items.now) (sized_items lower upper) self.old result self.new }
     {
         match (lower, upper) {
             (Some(lower), Some(upper)) if upper < 65536 => {
                 let count = items.len();
-                let on_octet = count > 0 && items.is_aligned(lower, upper);
+                let on_octet = count > 0 && items.item().is_aligned(lower, upper);
                 self.put_constrained_length(lower, upper, count, on_octet)?;
                 items.put(self, 0, count)
             }
@@ -79,8 +72,7 @@ impl<A: Allocator + Clone> Writer<A> {
     /// more, each as large as it may be, and then the rest behind a length of its own, which may be zero.
     pub(crate) fn put_unconstrained_items<I: Items>(&mut self, items: &I) -> Result<(), EncodeError>
         requires { self.old.failed ≡ false }
-        ensures { let a = variant_of self.old.codec in
-            Puts (IsMemoryOrItem (λ k. I.fault k items.now) (I.writers a items.now)) (counted_in a any_size (I.kind items.now) (I.writers a items.now)) self.old result self.new }
+        ensures { PutsItems (I.counted items.now) unconstrained_items self.old result self.new }
     {
         let count = items.len();
         let mut start = 0;
@@ -93,17 +85,11 @@ impl<A: Allocator + Clone> Writer<A> {
     }
 
     /// Writes the items from an index on and before another, behind one length.
-    fn put_fragment<I: Items>(
-        &mut self,
-        items: &I,
-        start: usize,
-        end: usize,
-    ) -> Result<(), EncodeError>
+    fn put_fragment<I: Items>(&mut self, items: &I, start: usize, end: usize) -> Result<(), EncodeError>
         requires begun { self.old.failed ≡ false }
         requires ordered { start ≤ end }
-        requires within { (a : Variant) → end ≤ length (I.writers a items.now) }
-        ensures { let a = variant_of self.old.codec in
-            Puts (IsMemoryOrItem (λ k. I.fault k items.now) (I.writers a items.now)) (one_fragment a (slice_range (I.writers a items.now) start end)) self.old result self.new }
+        requires within { (a : Variant) → end ≤ length ((I.counted items.now).writers a) }
+        ensures { PutsItems (I.counted items.now) (fragment_between start end) self.old result self.new }
     {
         self.put_unconstrained_length(end - start)?;
         items.put(self, start, end)
@@ -112,7 +98,7 @@ impl<A: Allocator + Clone> Writer<A> {
     /// Writes how many items follow, which begins on an octet in the aligned variant (X.691 11.9.3.5 to 11.9.3.8).
     fn put_unconstrained_length(&mut self, count: usize) -> Result<(), EncodeError>
         requires { self.old.failed ≡ false }
-        ensures { Puts IsMemory (padding (variant_of self.old.codec) ▹ just (determinant count)) self.old result self.new }
+        ensures { PutsIn IsMemory (λ a. unconstrained_length a count) self.old result self.new }
     {
         let pushed = push_unconstrained_length(&mut self.bits, self.codec, count);
         self.unless_out_of_memory(pushed)
@@ -130,17 +116,9 @@ impl<A: Allocator + Clone> Writer<A> {
         requires begun { self.old.failed ≡ false }
         requires lower { lower ≤ count }
         requires upper { count ≤ upper }
-        ensures { let a = variant_of self.old.codec in
-            Puts IsMemory (constrained_whole a (upper - lower + 1) (count - lower) ▹ padding_if on_octet a) self.old result self.new }
+        ensures { PutsIn IsMemory (λ a. constrained_length a lower upper count on_octet) self.old result self.new }
     {
-        let pushed = push_constrained_length(
-            &mut self.bits,
-            self.codec,
-            lower,
-            upper,
-            count,
-            on_octet,
-        );
+        let pushed = push_constrained_length(&mut self.bits, self.codec, lower, upper, count, on_octet);
         self.unless_out_of_memory(pushed)
     }
 }

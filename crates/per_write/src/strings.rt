@@ -48,7 +48,8 @@ impl<A: Allocator + Clone> Writer<A> {
         value: &S,
     ) -> Result<(), EncodeError>
         requires { self.old.failed ≡ false }
-        ensures { Writes encoder_rules (character_schema S.alphabet constraints.now) (characters (S.characters value.now)) self.old result self.new }
+        ensures { Writes encoder_rules (character_schema S.alphabet constraints.now)
+            (characters (S.characters value.now)) self.old result self.new }
     {
         let characters = Characters {
             string: value,

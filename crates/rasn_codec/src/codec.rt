@@ -13,7 +13,7 @@ ghost use Rattle.rasn_schema.specs.Records.{record_at, no_additions, record_valu
 ghost use Rattle.rasn_codec.specs.Calls.{EncoderRules, freely, Writes, Encodes, PresentsWell, DecoderRules, freely_read, Reads, ReadsWell};
 ghost use Rattle.rasn_codec.specs.Scopes.{OpensToWrite, ClosesWritten, WritesAround, OpensToRead, ClosesRead, ReadsAround, ScopesWell};
 
-use crate::record::{DecodeParts, EncodeParts};
+use crate::parts::{DecodeParts, EncodeParts};
 use rasn_schema::fields::Constructed;
 use rasn_schema::schema::{AsnType, Constraints, IntegerType};
 use rasn_strings::strings::{
@@ -61,7 +61,8 @@ pub trait Encoder: Sized {
         value: &I,
         identifier: Identifier,
     ) -> Result<(), Self::Error>
-        ensures { Writes rules (number_schema constraints.now I.range) (whole (I.number value.now)) self.old result self.new };
+        ensures { Writes rules (number_schema constraints.now I.range) (whole (I.number value.now))
+            self.old result self.new };
 
     /// Writes a NULL, no bits (X.691 18). Takes no memory.
     fn encode_null(&mut self, tag: Tag, identifier: Identifier) -> Result<(), Self::Error>
@@ -105,7 +106,8 @@ pub trait Encoder: Sized {
         value: &S,
         identifier: Identifier,
     ) -> Result<(), Self::Error>
-        ensures { Writes rules (character_schema S.alphabet constraints.now) (characters (S.characters value.now)) self.old result self.new };
+        ensures { Writes rules (character_schema S.alphabet constraints.now) (characters (S.characters value.now))
+            self.old result self.new };
 
     /// Writes a UTF8String: its octets behind an unconstrained length. No constraint is visible (X.691 30.6).
     fn encode_utf8_string(
@@ -173,7 +175,8 @@ pub trait Encoder: Sized {
         value: &VisibleString,
         identifier: Identifier,
     ) -> Result<(), Self::Error>
-        ensures { Writes rules (character_schema visible constraints.now) (characters value.now) self.old result self.new }
+        ensures { Writes rules (character_schema visible constraints.now) (characters value.now)
+            self.old result self.new }
     {
         self.encode_known_multiplier_string(tag, constraints, value, identifier)
     }
@@ -199,7 +202,8 @@ pub trait Encoder: Sized {
         value: &PrintableString,
         identifier: Identifier,
     ) -> Result<(), Self::Error>
-        ensures { Writes rules (character_schema printable constraints.now) (characters value.now) self.old result self.new }
+        ensures { Writes rules (character_schema printable constraints.now) (characters value.now)
+            self.old result self.new }
     {
         self.encode_known_multiplier_string(tag, constraints, value, identifier)
     }
@@ -212,7 +216,8 @@ pub trait Encoder: Sized {
         value: &NumericString,
         identifier: Identifier,
     ) -> Result<(), Self::Error>
-        ensures { Writes rules (character_schema numeric constraints.now) (characters value.now) self.old result self.new }
+        ensures { Writes rules (character_schema numeric constraints.now) (characters value.now)
+            self.old result self.new }
     {
         self.encode_known_multiplier_string(tag, constraints, value, identifier)
     }
@@ -255,7 +260,8 @@ pub trait Encoder: Sized {
         identifier: I,
     ) -> Result<(), Self::Error>
         requires { (n : ℕ) → C.parts n ≡ P.parts parts.now n }
-        ensures { Encodes rules (record_at listed C.parts false no_additions) (suc (P.levels parts.now)) (record_value (P.contents parts.now) []) self.old result self.new }
+        ensures { Encodes rules (record_at listed C.parts false no_additions) (suc (P.levels parts.now))
+            (record_value (P.contents parts.now) []) self.old result self.new }
     {
         let outside = self.open_sequence::<C>(tag, identifier.into())?;
         parts.encode_parts(self)?;
@@ -311,7 +317,8 @@ pub trait Decoder: Sized {
         tag: Tag,
         constraints: &Constraints,
     ) -> Result<I, Self::Error>
-        ensures { Reads rules (number_schema constraints.now I.range) (λ x. whole (I.number x)) self.old result self.new };
+        ensures { Reads rules (number_schema constraints.now I.range) (λ x. whole (I.number x))
+            self.old result self.new };
 
     /// Reads a NULL (X.691 18). Takes no memory.
     fn decode_null(&mut self, tag: Tag) -> Result<(), Self::Error>
@@ -327,7 +334,8 @@ pub trait Decoder: Sized {
         tag: Tag,
         constraints: &Constraints,
     ) -> Result<CowSlice<'static, u8>, Self::Error>
-        ensures read { Reads rules (octet_schema constraints.now) (λ x. octets (cow_slice_items x)) self.old result self.new }
+        ensures read { Reads rules (octet_schema constraints.now) (λ x. octets (cow_slice_items x))
+            self.old result self.new }
         ensures owned { IfOk result (λ x. IsOwnedSlice x) };
 
     /// Reads a BIT STRING under constraints (X.691 16).
@@ -344,7 +352,8 @@ pub trait Decoder: Sized {
         tag: Tag,
         constraints: &Constraints,
     ) -> Result<S, Self::Error>
-        ensures { Reads rules (character_schema S.alphabet constraints.now) (λ x. characters (S.characters x)) self.old result self.new };
+        ensures { Reads rules (character_schema S.alphabet constraints.now) (λ x. characters (S.characters x))
+            self.old result self.new };
 
     /// Reads a UTF8String (X.691 30.6). No constraint is visible.
     fn decode_utf8_string(
@@ -420,7 +429,8 @@ pub trait Decoder: Sized {
         tag: Tag,
         constraints: &Constraints,
     ) -> Result<PrintableString, Self::Error>
-        ensures { Reads rules (character_schema printable constraints.now) (λ x. characters x) self.old result self.new }
+        ensures { Reads rules (character_schema printable constraints.now) (λ x. characters x)
+            self.old result self.new }
     {
         self.decode_known_multiplier_string::<PrintableString>(tag, constraints)
     }
@@ -478,7 +488,8 @@ pub trait Decoder: Sized {
         parts: &P,
     ) -> Result<P::Values, Self::Error>
         requires { (n : ℕ) → C.parts n ≡ P.parts parts.now n }
-        ensures { Reads rules (record_at listed C.parts false no_additions (rules.levels self.old)) (λ values. record_value (P.contents values) []) self.old result self.new }
+        ensures { Reads rules (record_at listed C.parts false no_additions (rules.levels self.old))
+            (λ values. record_value (P.contents values) []) self.old result self.new }
     {
         let outside = self.open_sequence::<C>(tag)?;
         let values = parts.decode_parts(self)?;
@@ -504,11 +515,13 @@ pub trait Encode: AsnType {
         constraints: &Constraints,
         identifier: Identifier,
     ) -> Result<(), E::Error>
-        ensures { Encodes E.rules (Self.schema constraints.now) (Self.levels self.now) (Self.value self.now) encoder.old result encoder.new };
+        ensures { Encodes E.rules (Self.schema constraints.now) (Self.levels self.now) (Self.value self.now)
+            encoder.old result encoder.new };
 
     /// Writes the value under its type's own tag, constraints and name.
     final fn encode<E: Encoder>(&self, encoder: &mut E) -> Result<(), E::Error>
-        ensures { Encodes E.rules (Self.schema Self.CONSTRAINTS) (Self.levels self.now) (Self.value self.now) encoder.old result encoder.new }
+        ensures { Encodes E.rules (Self.schema Self.CONSTRAINTS) (Self.levels self.now) (Self.value self.now)
+            encoder.old result encoder.new }
     {
         self.encode_with_tag_and_constraints(
             encoder,
@@ -520,7 +533,8 @@ pub trait Encode: AsnType {
 
     /// Writes the value under a tag, and its type's own constraints and name.
     final fn encode_with_tag<E: Encoder>(&self, encoder: &mut E, tag: Tag) -> Result<(), E::Error>
-        ensures { Encodes E.rules (Self.schema Self.CONSTRAINTS) (Self.levels self.now) (Self.value self.now) encoder.old result encoder.new }
+        ensures { Encodes E.rules (Self.schema Self.CONSTRAINTS) (Self.levels self.now) (Self.value self.now)
+            encoder.old result encoder.new }
     {
         self.encode_with_tag_and_constraints(encoder, tag, &Self::CONSTRAINTS, Self::IDENTIFIER)
     }
@@ -531,7 +545,8 @@ pub trait Encode: AsnType {
         encoder: &mut E,
         constraints: &Constraints,
     ) -> Result<(), E::Error>
-        ensures { Encodes E.rules (Self.schema constraints.now) (Self.levels self.now) (Self.value self.now) encoder.old result encoder.new }
+        ensures { Encodes E.rules (Self.schema constraints.now) (Self.levels self.now) (Self.value self.now)
+            encoder.old result encoder.new }
     {
         self.encode_with_tag_and_constraints(encoder, Self::TAG, constraints, Self::IDENTIFIER)
     }
@@ -546,18 +561,21 @@ pub trait Decode: AsnType + Sized + Drop {
         tag: Tag,
         constraints: &Constraints,
     ) -> Result<Self, D::Error>
-        ensures { Reads D.rules (Self.schema constraints.now (D.rules.levels decoder.old)) Self.value decoder.old result decoder.new };
+        ensures { Reads D.rules (Self.schema constraints.now (D.rules.levels decoder.old)) Self.value
+            decoder.old result decoder.new };
 
     /// Reads a value under its type's own tag and constraints.
     final fn decode<D: Decoder>(decoder: &mut D) -> Result<Self, D::Error>
-        ensures { Reads D.rules (Self.schema Self.CONSTRAINTS (D.rules.levels decoder.old)) Self.value decoder.old result decoder.new }
+        ensures { Reads D.rules (Self.schema Self.CONSTRAINTS (D.rules.levels decoder.old)) Self.value
+            decoder.old result decoder.new }
     {
         Self::decode_with_tag_and_constraints(decoder, Self::TAG, &Self::CONSTRAINTS)
     }
 
     /// Reads a value under a tag and its type's own constraints.
     final fn decode_with_tag<D: Decoder>(decoder: &mut D, tag: Tag) -> Result<Self, D::Error>
-        ensures { Reads D.rules (Self.schema Self.CONSTRAINTS (D.rules.levels decoder.old)) Self.value decoder.old result decoder.new }
+        ensures { Reads D.rules (Self.schema Self.CONSTRAINTS (D.rules.levels decoder.old)) Self.value
+            decoder.old result decoder.new }
     {
         Self::decode_with_tag_and_constraints(decoder, tag, &Self::CONSTRAINTS)
     }
@@ -567,7 +585,8 @@ pub trait Decode: AsnType + Sized + Drop {
         decoder: &mut D,
         constraints: &Constraints,
     ) -> Result<Self, D::Error>
-        ensures { Reads D.rules (Self.schema constraints.now (D.rules.levels decoder.old)) Self.value decoder.old result decoder.new }
+        ensures { Reads D.rules (Self.schema constraints.now (D.rules.levels decoder.old)) Self.value
+            decoder.old result decoder.new }
     {
         Self::decode_with_tag_and_constraints(decoder, Self::TAG, constraints)
     }

@@ -3,13 +3,8 @@
 
 pub mod codec;
 pub mod integers;
-mod macros;
 pub mod octets;
+pub mod parts;
 pub mod plain;
-pub mod read;
 pub mod record;
-pub mod sequence;
 pub mod strings;
-pub mod write;
-
-pub use rasn_schema;

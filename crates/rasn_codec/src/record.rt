@@ -1,228 +1,83 @@
-//! Records by the lists of their components.
+//! Records that are stated by one list of their components: they are written and read by it.
 
-ghost use Rattle.std.specs.Prelude.{◌≡◌, ℕ, suc, max, List, [], ◌∷◌, Option, Some, refl};
-ghost use Rattle.rasn_types.specs.Values.{Value};
-ghost use Rattle.rasn_schema.specs.Schemas.{TagTree, Presence, Schema, Parts, no_parts, part, required};
-ghost use Rattle.rasn_schema.specs.Records.{own_or};
-ghost use Rattle.rasn_schema.specs.Fields.{tagged};
+ghost use Rattle.std.specs.Prelude.{length};
+ghost use Rattle.rasn_schema.specs.Components.{parts_of};
 ghost use Rattle.rasn_codec.specs.Scopes.{WritesParts, TakesParts};
-ghost use Rattle.rasn_codec.specs.Rests.{ToWrite, ToRead};
 
 use crate::codec::{Decode, Decoder, Encode, Encoder};
+use crate::parts::{DecodeParts, EncodeParts};
+use rasn_schema::components::Components;
 use rasn_schema::schema::Constraints;
-use rasn_types::types::Tag;
+use rasn_types::types::{Identifier, Tag};
 use std::marker::PhantomData;
 
-/// Components of a record that are still to be written, in their order.
-pub trait EncodeParts {
-    // The components, to a number of levels.
-    ghost parts: { Self → ℕ → Parts };
-
-    // What they are.
-    ghost contents: { Self → List (Option Value) };
-
-    // How many levels they take.
-    ghost levels: { Self → ℕ };
-
-    // How many they are.
-    ghost count: { ℕ };
-
+/// The components of a SEQUENCE that can be encoded and decoded.
+pub trait Record: Components + Sized + Drop {
     /// Writes the components in turn.
-    fn encode_parts<E: Encoder>(&self, encoder: &mut E) -> Result<(), E::Error>
-        ensures { WritesParts E.rules (Self.parts self.now) (Self.levels self.now) (Self.contents self.now) encoder.old result encoder.new };
-}
-
-/// Components of a record that are still to be read, in their order.
-pub trait DecodeParts {
-    /// What they are: a pair of the first and of those behind it, and `()` at the end.
-    type Values: Drop;
-
-    // The components, to a number of levels.
-    ghost parts: { Self → ℕ → Parts };
-
-    // What values of them are.
-    ghost contents: { Self.Values → List (Option Value) };
-
-    // How many they are.
-    ghost count: { ℕ };
+    fn encode_components<E: Encoder>(&self, encoder: &mut E) -> Result<(), E::Error>
+        ensures { WritesParts E.rules (parts_of Self.components) (Self.depth self.now)
+            (Self.Components.contents self.now) encoder.old result encoder.new };
 
     /// Reads the components in turn.
-    fn decode_parts<D: Decoder>(&self, decoder: &mut D) -> Result<Self::Values, D::Error>
-        ensures { TakesParts D.rules (Self.parts self.now) Self.contents decoder.old result decoder.new };
+    fn decode_components<D: Decoder>(decoder: &mut D) -> Result<Self, D::Error>
+        ensures { TakesParts D.rules (parts_of Self.components) Self.Components.contents
+            decoder.old result decoder.new };
 }
 
-/// Components of a record that are still to be written, of which there is a first.
-pub trait EncodeFirst: EncodeParts {
-    // The first: its tags, whether it may be absent, its schema to a number of levels, what it is, and how many levels it takes.
-    ghost tags: { Self → TagTree };
-
-    ghost presence: { Presence };
-
-    ghost schema: { Self → ℕ → Schema };
-
-    ghost content: { Self → Option Value };
-
-    ghost depth: { Self → ℕ };
-
-    // Those behind it.
-    ghost behind: { Self → ToWrite };
-
-    // These are all.
-    ghost all_parts: { (p : Self) → (n : ℕ) → Self.parts p n ≡ part (tags p) presence (schema p n) ((behind p).parts n) };
-
-    ghost all_contents: { (p : Self) → Self.contents p ≡ content p ∷ (behind p).contents };
-
-    ghost all_levels: { (p : Self) → Self.levels p ≡ max (depth p) ((behind p).levels) };
-
-    ghost all_count: { (p : Self) → Self.count ≡ suc ((behind p).count) };
-}
-
-/// Components of a record that are still to be read, of which there is a first.
-pub trait DecodeFirst: DecodeParts {
-    // The first: its tags, whether it may be absent, and its schema to a number of levels.
-    ghost tags: { Self → TagTree };
-
-    ghost presence: { Presence };
-
-    ghost schema: { Self → ℕ → Schema };
-
-    // Those behind it.
-    ghost behind: { Self → ToRead };
-
-    // These are all.
-    ghost all_parts: { (p : Self) → (n : ℕ) → Self.parts p n ≡ part (tags p) presence (schema p n) ((behind p).parts n) };
-
-    ghost all_count: { (p : Self) → Self.count ≡ suc ((behind p).count) };
-}
-
-/// The end of the components.
-#[derive(Clone, Copy)]
-pub struct End {}
-
-/// A required component, and those behind it.
-///
-/// To write, `value` is a reference to what the component is; to read, it is `PhantomData` of its type.
+/// The components of a record, to write them.
 #[derive(Drop)]
-pub struct Required<V, N> {
-    /// The tag of the component.
-    pub tag: Tag,
-    /// The constraints on the component, where they are not its type's own.
-    pub constraints: Option<Constraints>,
-    /// What the component is, or its type.
-    pub value: V,
-    /// The components behind it.
-    pub next: N,
-}
+struct Written<'a, T>(&'a T);
 
-/// The constraints that are given, or else a type's own.
-fn given_or_own<'a>(given: &'a Option<Constraints>, own: &'a Constraints) -> &'a Constraints
-    ensures { result.now ≡ own_or own.now given.now }
-{
-    match given {
-        Some(constraints) => constraints,
-        None => own,
-    }
-}
+impl<'a, T: Record> EncodeParts for Written<'a, T> {
+    ghost parts = { λ p. parts_of T.components };
 
-impl EncodeParts for End {
-    ghost parts = { λ p n. no_parts };
+    ghost contents = { λ p. T.Components.contents p.0.now };
 
-    ghost contents = { λ p. [] };
+    ghost levels = { λ p. T.depth p.0.now };
 
-    ghost levels = { λ p. 0 };
-
-    ghost count = { 0 };
-
-    #[tactic(auto, unfolding(rasn_schema::specs::Normal::normal))]
-    fn encode_parts<E: Encoder>(&self, encoder: &mut E) -> Result<(), E::Error> {
-        let _ = encoder;
-        Ok(())
-    }
-}
-
-impl<'a, H: Encode, N: EncodeParts> EncodeParts for Required<&'a H, N> {
-    ghost parts = { λ p n. part (tagged p.tag) required (H.schema (own_or H.CONSTRAINTS p.constraints) n) (N.parts p.next n) };
-
-    ghost contents = { λ p. Some (H.value p.value.now) ∷ N.contents p.next };
-
-    ghost levels = { λ p. max (H.levels p.value.now) (N.levels p.next) };
-
-    ghost count = { suc N.count };
+    ghost count = { length T.components };
 
     fn encode_parts<E: Encoder>(&self, encoder: &mut E) -> Result<(), E::Error> {
-        let own = H::CONSTRAINTS;
-        let constraints = given_or_own(&self.constraints, &own);
-        self.value
-            .encode_with_tag_and_constraints(encoder, self.tag, constraints, H::IDENTIFIER)?;
-        self.next.encode_parts(encoder)
+        self.0.encode_components(encoder)
     }
 }
 
-impl<'a, H: Encode, N: EncodeParts> EncodeFirst for Required<&'a H, N> {
-    ghost tags = { λ p. tagged p.tag };
+/// The components of a record, to read them.
+#[derive(Drop)]
+struct Read<T>(PhantomData<T>);
 
-    ghost presence = { required };
+impl<T: Record> DecodeParts for Read<T> {
+    type Values = T;
 
-    ghost schema = { λ p. H.schema (own_or H.CONSTRAINTS p.constraints) };
+    ghost parts = { λ p. parts_of T.components };
 
-    ghost content = { λ p. Some (H.value p.value.now) };
+    ghost contents = { T.Components.contents };
 
-    ghost depth = { λ p. H.levels p.value.now };
+    ghost count = { length T.components };
 
-    ghost behind = { λ p. record { parts = N.parts p.next; contents = N.contents p.next; levels = N.levels p.next; count = N.count } };
-
-    ghost all_parts = { λ p n. refl };
-
-    ghost all_contents = { λ p. refl };
-
-    ghost all_levels = { λ p. refl };
-
-    ghost all_count = { λ p. refl };
-}
-
-impl DecodeParts for End {
-    type Values = ();
-
-    ghost parts = { λ p n. no_parts };
-
-    ghost contents = { λ values. [] };
-
-    ghost count = { 0 };
-
-    fn decode_parts<D: Decoder>(&self, decoder: &mut D) -> Result<(), D::Error> {
-        let _ = decoder;
-        Ok(())
+    fn decode_parts<D: Decoder>(&self, decoder: &mut D) -> Result<T, D::Error> {
+        T::decode_components(decoder)
     }
 }
 
-impl<H: Decode, N: DecodeParts> DecodeParts for Required<PhantomData<H>, N> {
-    type Values = (H, N::Values);
-
-    ghost parts = { λ p n. part (tagged p.tag) required (H.schema (own_or H.CONSTRAINTS p.constraints) n) (N.parts p.next n) };
-
-    ghost contents = { λ values. Some (H.value values.0) ∷ N.contents values.1 };
-
-    ghost count = { suc N.count };
-
-    fn decode_parts<D: Decoder>(&self, decoder: &mut D) -> Result<(H, N::Values), D::Error> {
-        let own = H::CONSTRAINTS;
-        let constraints = given_or_own(&self.constraints, &own);
-        let value = H::decode_with_tag_and_constraints(decoder, self.tag, constraints)?;
-        let next = self.next.decode_parts(decoder)?;
-        Ok((value, next))
+impl<T: Record> Encode for T {
+    fn encode_with_tag_and_constraints<E: Encoder>(
+        &self,
+        encoder: &mut E,
+        tag: Tag,
+        _: &Constraints,
+        identifier: Identifier,
+    ) -> Result<(), E::Error> {
+        encoder.encode_record::<T, _, _>(tag, &Written(self), identifier)
     }
 }
 
-impl<H: Decode, N: DecodeParts> DecodeFirst for Required<PhantomData<H>, N> {
-    ghost tags = { λ p. tagged p.tag };
-
-    ghost presence = { required };
-
-    ghost schema = { λ p. H.schema (own_or H.CONSTRAINTS p.constraints) };
-
-    ghost behind = { λ p. record { parts = N.parts p.next; count = N.count } };
-
-    ghost all_parts = { λ p n. refl };
-
-    ghost all_count = { λ p. refl };
+impl<T: Record> Decode for T {
+    fn decode_with_tag_and_constraints<D: Decoder>(
+        decoder: &mut D,
+        tag: Tag,
+        _: &Constraints,
+    ) -> Result<T, D::Error> {
+        decoder.decode_record::<T, _>(tag, &Read(PhantomData::<T>))
+    }
 }

@@ -29,7 +29,8 @@ pub trait IntegerType: Sized + Drop {
 
     /// The value that a number is, where the type holds it.
     fn try_from_i128(value: i128) -> Option<Self>
-        ensures { MatchOption result (holds range value ≡ false) (λ x. (number x ≡ value) × (holds range (number x) ≡ true)) };
+        ensures { MatchOption result (holds range value ≡ false)
+            (λ x. (number x ≡ value) × (holds range (number x) ≡ true)) };
 
     /// The fewest octets of the number in two's complement, highest first (X.690 8.3.2).
     fn to_signed_bytes_be<A: Allocator>(&self, alloc: A) -> Result<Vec<u8, A>, AllocError>
@@ -39,7 +40,8 @@ pub trait IntegerType: Sized + Drop {
     /// The number that octets mean in two's complement, highest first, where the type holds it. Superfluous leading
     /// octets are taken. Memory is taken only for a type that keeps octets.
     fn try_from_signed_bytes(alloc: Global, octets: &[u8]) -> Result<Option<Self>, AllocError>
-        ensures { IfOk result (λ number_read. MatchOption number_read (holds range (signed octets.now) ≡ false) (λ x. (number x ≡ signed octets.now) × (holds range (number x) ≡ true))) };
+        ensures { IfOk result (λ number_read. MatchOption number_read (holds range (signed octets.now) ≡ false)
+            (λ x. (number x ≡ signed octets.now) × (holds range (number x) ≡ true))) };
 }
 
 impl IntegerType for i8 {

@@ -14,9 +14,10 @@ ghost use Rattle.rasn_per.specs.Kinds.{IsInOctets, kind_of};
 
 use per_bits::BitReader;
 use per_core::ended::{Surplus, ended};
-use per_de::error::{DecodeError, DecodeErrorKind, ParserFailCause};
+pub use per_de::error::{DecodeError, DecodeErrorKind, ParserFailCause};
 use per_de::{Decoder, DecoderOptions};
-use per_enc::{EncodeError, Encoder, EncoderOptions};
+pub use per_enc::{EncodeError, EncodeErrorKind};
+use per_enc::{Encoder, EncoderOptions};
 use rasn_codec::codec::{Decode, Encode};
 use rasn_schema::constraints::Constraints;
 use rasn_schema::limits::is_lawful;

@@ -1,17 +1,20 @@
--- The components of a record in the words of a schema's author: `automatic (integer u8 (0 to 255) ∷ ia5_string (1 to 16) ∷ [])`.
-use Rattle.std.specs.Prelude.{◌≡◌, ℕ, zero, suc, pos, neg_ℤ, Bool, true, false, ◌&&◌, List, [], ◌∷◌, drop, Option, Some, None, refl}
+-- The components of a record, and the words in which a schema's author lists them:
+-- `automatic (integer u8 (0 to 255) ∷ ia5_string (size 1 to 16) ∷ [])`.
+use Rattle.std.specs.Prelude.{◌≡◌, ℕ, zero, suc, ℤ, pos, neg_ℤ, Bool, true, false, ◌&&◌, List, [], ◌∷◌, drop, Option, Some, None, refl}
 use Rattle.std.proofs.Common.{ap}
-use Rattle.rasn_types.specs.Alphabets.{ia5}
+use Rattle.rasn_types.specs.Alphabets.{visible, ia5, printable, numeric, bmp}
+use Rattle.rasn_types.specs.Contents.{utf8}
 use Rattle.rasn_types.specs.Values.{Value}
-use Rattle.rasn_constraints.specs.Bounds.{Bounds, between}
-use Rattle.rasn_constraints.specs.Ranges.{no_constraints, within, signed_range, unsigned_range}
+use Rattle.rasn_constraints.specs.Bounds.{Bounds, between, unbounded}
+use Rattle.rasn_constraints.specs.Ranges.{no_constraints, within, signed_range, unsigned_range, i128_range}
 use Rattle.rasn_constraints.specs.declared.constraints.Bounded.TheVariants.{Range}
 use Rattle.rasn_constraints.specs.declared.constraints.Constraints.{Constraints}
+use Rattle.rasn_constraints.specs.declared.constraints.Extensible.{Extensible}
 use Rattle.rasn_schema.specs.Schemas
 use Rattle.rasn_schema.specs.Schemas.{Schema, TagTree, leaf, Presence, Parts, no_parts, part, listed}
 use Rattle.rasn_schema.specs.Depth.{Unfolds}
 use Rattle.rasn_schema.specs.Fields.{Shape, field_tag, presence_of, shapes_from}
-use Rattle.rasn_schema.specs.Forms.{number_schema, octet_schema, character_schema, always, IsSimple, simple_unfolds}
+use Rattle.rasn_schema.specs.Forms.{number_schema, octet_schema, bit_schema, character_schema, always, IsSimple, simple_unfolds}
 use Rattle.rasn_schema.specs.Lawful.{are_required}
 use Rattle.rasn_schema.specs.Families.{UnfoldsParts, parts_unfold, part_unfolds, record_unfolds}
 use Rattle.rasn_schema.specs.Records.{record_at, no_additions, record_value}
@@ -120,6 +123,25 @@ contents_from [] i r e = absurd (cc)
 contents_from (x ∷ rs) zero r e = ap (λ y. y ∷ rs) (some_is x r e)
 contents_from (x ∷ rs) (suc i) r e = contents_from rs i r e
 
+-- What the words stand for.
+
+-- a lower bound alone
+abbrev pub lower_bound : ℤ → Bounds
+lower_bound l = record { low = Some l; high = None }
+
+-- an upper bound alone
+abbrev pub upper_bound : ℤ → Bounds
+upper_bound u = record { low = None; high = Some u }
+
+-- a size alone
+abbrev pub sized : Option ℕ → Option ℕ → Constraints
+sized l u = record { value = None; size = Some (record { constraint = Range l u; extensible = false }); alphabet = None }
+
+-- a constraint with an extension marker, where there is one
+abbrev pub marked : {A : Type 0} → Option (Extensible A) → Option (Extensible A)
+marked None = None
+marked (Some c) = Some (record { constraint = c.constraint; extensible = true })
+
 -- The words.
 
 -- the number types
@@ -147,66 +169,138 @@ i32 = signed_range 32
 abbrev pub i64 : Bounds
 i64 = signed_range 64
 
-infix 45 ◌to◌ minus◌to◌ minus◌to_minus◌ size◌to◌
--- (a..b)
-abbrev pub ◌to◌ : ℕ → ℕ → Bounds
-a to b = between (pos a) (pos b)
+abbrev pub i128 : Bounds
+i128 = i128_range
 
--- (-a..b)
-abbrev pub minus◌to◌ : ℕ → ℕ → Bounds
-minus a to b = between (neg_ℤ (pos a)) (pos b)
-
--- (-a..-b)
-abbrev pub minus◌to_minus◌ : ℕ → ℕ → Bounds
-minus a to_minus b = between (neg_ℤ (pos a)) (neg_ℤ (pos b))
-
--- (SIZE (l..u))
-abbrev pub size◌to◌ : ℕ → ℕ → Constraints
-size l to u = record { value = None; size = Some (record { constraint = Range (Some l) (Some u); extensible = false }); alphabet = None }
+-- every number, as `Integer` holds it
+abbrev pub big : Bounds
+big = unbounded
 
 -- no constraint
 abbrev pub any : Constraints
 any = no_constraints
+
+infix 45 ◌to◌ minus◌to◌ minus◌to_minus◌ size◌to◌
+-- (a..b)
+abbrev pub ◌to◌ : ℕ → ℕ → Constraints
+a to b = within (between (pos a) (pos b))
+
+-- (-a..b)
+abbrev pub minus◌to◌ : ℕ → ℕ → Constraints
+minus a to b = within (between (neg_ℤ (pos a)) (pos b))
+
+-- (-a..-b)
+abbrev pub minus◌to_minus◌ : ℕ → ℕ → Constraints
+minus a to_minus b = within (between (neg_ℤ (pos a)) (neg_ℤ (pos b)))
+
+-- (a..MAX)
+abbrev pub from : ℕ → Constraints
+from a = within (lower_bound (pos a))
+
+-- (-a..MAX)
+abbrev pub from_minus : ℕ → Constraints
+from_minus a = within (lower_bound (neg_ℤ (pos a)))
+
+-- (MIN..b)
+abbrev pub up_to : ℕ → Constraints
+up_to b = within (upper_bound (pos b))
+
+-- (MIN..-b)
+abbrev pub up_to_minus : ℕ → Constraints
+up_to_minus b = within (upper_bound (neg_ℤ (pos b)))
+
+-- (SIZE (l..u))
+abbrev pub size◌to◌ : ℕ → ℕ → Constraints
+size l to u = sized (Some l) (Some u)
+
+-- (SIZE (l..MAX))
+abbrev pub size_from : ℕ → Constraints
+size_from l = sized (Some l) None
+
+-- (SIZE (0..u)), written as (SIZE (MIN..u))
+abbrev pub size_up_to : ℕ → Constraints
+size_up_to u = sized None (Some u)
+
+-- the bounds, or the size, with an extension marker (X.680 52): `extensible (1 to 10)` is (1..10, ...)
+abbrev pub extensible : Constraints → Constraints
+extensible c = record { value = marked c.value; size = marked c.size; alphabet = c.alphabet }
+
+-- further constraints, and a permitted alphabet (X.680 51.7): `of_characters cs (size 1 to 20)` is (FROM (..)) (SIZE (1..20))
+abbrev pub of_characters : List ℕ → Constraints → Constraints
+of_characters cs c = record { value = c.value; size = c.size; alphabet = Some (record { constraint = cs; extensible = false }) }
 
 -- the tag of a type of its own
 abbrev pub universal : ℕ → TagTree
 universal i = leaf (record { class = 0; number = i })
 
 -- a component of a kind in which no other stands
-abbrev pub simple : TagTree → (s : Schema) → IsSimple s → Component
-simple t s h = record { tags = t; presence = Schemas.required; schema = always s; unfolds = simple_unfolds s h }
-
--- INTEGER within bounds, held by a number type
-abbrev pub integer : Bounds → Bounds → Component
-integer type bounds = simple (universal 2) (number_schema (within bounds) type) tt
+abbrev pub simple : ℕ → (s : Schema) → IsSimple s → Component
+simple i s h = record { tags = universal i; presence = Schemas.required; schema = always s; unfolds = simple_unfolds s h }
 
 -- BOOLEAN
 abbrev pub boolean : Component
-boolean = simple (universal 1) Schemas.boolean tt
+boolean = simple 1 Schemas.boolean tt
+
+-- INTEGER under constraints, held by a number type
+abbrev pub integer : Bounds → Constraints → Component
+integer type c = simple 2 (number_schema c type) tt
+
+-- BIT STRING
+abbrev pub bit_string : Constraints → Component
+bit_string c = simple 3 (bit_schema c) tt
 
 -- OCTET STRING
 abbrev pub octet_string : Constraints → Component
-octet_string c = simple (universal 4) (octet_schema c) tt
+octet_string c = simple 4 (octet_schema c) tt
+
+-- NULL
+abbrev pub null : Component
+null = simple 5 Schemas.null tt
+
+-- UTF8String, of which no constraint is visible (X.691 30.6)
+abbrev pub utf8_string : Component
+utf8_string = simple 12 (Schema.text utf8) tt
+
+-- NumericString
+abbrev pub numeric_string : Constraints → Component
+numeric_string c = simple 18 (character_schema numeric c) tt
+
+-- PrintableString
+abbrev pub printable_string : Constraints → Component
+printable_string c = simple 19 (character_schema printable c) tt
 
 -- IA5String
 abbrev pub ia5_string : Constraints → Component
-ia5_string c = simple (universal 22) (character_schema ia5 c) tt
+ia5_string c = simple 22 (character_schema ia5 c) tt
+
+-- VisibleString
+abbrev pub visible_string : Constraints → Component
+visible_string c = simple 26 (character_schema visible c) tt
+
+-- BMPString
+abbrev pub bmp_string : Constraints → Component
+bmp_string c = simple 30 (character_schema bmp c) tt
 
 -- SEQUENCE
 abbrev pub sequence : List Component → Component
-sequence cs = record { tags = universal 16; presence = Schemas.required; schema = sequence_of cs; unfolds = sequence_unfolds cs }
-
--- OPTIONAL
-abbrev pub optional : Component → Component
-optional c = record { tags = c.tags; presence = Schemas.optional; schema = c.schema; unfolds = c.unfolds }
+sequence cs = record {
+  tags = universal 16;
+  presence = Schemas.required;
+  schema = sequence_of cs;
+  unfolds = sequence_unfolds cs;
+}
 
 -- the tag of a component by its place
 abbrev pub at : ℕ → TagTree
 at i = leaf (record { class = 2; number = i })
 
+-- a component under another tag
+abbrev pub under : TagTree → Component → Component
+under t c = record { tags = t; presence = c.presence; schema = c.schema; unfolds = c.unfolds }
+
 abbrev pub automatic_from : ℕ → List Component → List Component
 automatic_from i [] = []
-automatic_from i (c ∷ cs) = record { tags = at i; presence = c.presence; schema = c.schema; unfolds = c.unfolds } ∷ automatic_from (suc i) cs
+automatic_from i (c ∷ cs) = under (at i) c ∷ automatic_from (suc i) cs
 
 -- AUTOMATIC TAGS (X.680 25.7)
 abbrev pub automatic : List Component → List Component

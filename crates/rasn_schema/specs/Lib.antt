@@ -8,3 +8,4 @@ pub mod Normal
 pub mod Orders
 pub mod Records
 pub mod Schemas
+pub mod Tags

@@ -1,15 +1,18 @@
 //! Records that are stated by one list of their components.
 
-ghost use Rattle.std.specs.Prelude.{◌≡◌, ℕ, suc, true, List, Option, refl};
+ghost use Rattle.std.specs.Prelude.{◌≡◌, ℕ, suc, true, false, List, Option, refl};
 ghost use Rattle.std.proofs.Common.{◌∙◌};
 ghost use Rattle.rasn_constraints.specs.Ranges.{no_constraints};
 ghost use Rattle.rasn_types.specs.Values.{Value};
+ghost use Rattle.rasn_types.specs.declared.types.TheConstants.Tag.{SEQUENCE};
 ghost use Rattle.rasn_schema.specs.Fields.{Shape};
+ghost use Rattle.rasn_schema.specs.Records.{no_additions};
+ghost use Rattle.rasn_schema.specs.Tags.{sequence_tag};
 ghost use Rattle.rasn_schema.specs.Components.{Component, parts_of, sequence_of, sequence_value, sequence_unfolds, fields_of, fields_described, all_present, parts_required};
 
 use crate::fields::{Constructed, Fields};
 use crate::schema::{AsnType, Constraints};
-use rasn_types::types::{Class, Identifier, Tag};
+use rasn_types::types::{Identifier, Tag};
 
 /// The components of a SEQUENCE (X.680 25).
 pub trait Components {
@@ -35,10 +38,9 @@ pub trait Components {
 }
 
 impl<T: Components> AsnType for T {
-    const TAG: Tag = Tag {
-        class: Class::Universal,
-        value: 16,
-    };
+    const TAG: Tag = Tag::SEQUENCE;
+
+    ghost TAG = { SEQUENCE };
 
     const CONSTRAINTS: Constraints = Constraints::NONE;
 
@@ -53,6 +55,8 @@ impl<T: Components> AsnType for T {
     ghost levels = { λ x. suc (T.depth x) };
 
     ghost unfolds = { λ _. sequence_unfolds T.components };
+
+    ghost tag_fits = { λ _. sequence_tag (parts_of T.components) false no_additions };
 }
 
 impl<T: Components> Constructed for T {

@@ -1,7 +1,8 @@
 //! The schemas of INTEGER as Rust's own number types, and as one that holds every number.
 
-ghost use Rattle.std.specs.Prelude.{pos};
+ghost use Rattle.std.specs.Prelude.{pos, refl};
 ghost use Rattle.rasn_types.specs.Values.{whole};
+ghost use Rattle.rasn_types.specs.declared.types.TheConstants.Tag.{INTEGER};
 ghost use Rattle.rasn_constraints.specs.Bounds.{unbounded};
 ghost use Rattle.rasn_constraints.specs.Ranges.{no_constraints, within, i128_range, signed_range, unsigned_range};
 ghost use Rattle.rasn_schema.specs.Forms.{number_schema, always, simple_unfolds};
@@ -22,6 +23,8 @@ const I8_RANGE: &[Constraint] = &[Constraint::Value(Extensible {
 impl AsnType for i8 {
     const TAG: Tag = Tag::INTEGER;
 
+    ghost TAG = { INTEGER };
+
     const CONSTRAINTS: Constraints = Constraints(I8_RANGE);
 
     ghost CONSTRAINTS = { within (signed_range 8) };
@@ -31,6 +34,8 @@ impl AsnType for i8 {
     ghost value = { whole };
 
     ghost unfolds = { λ c. simple_unfolds (number_schema c (signed_range 8)) tt };
+
+    ghost tag_fits = { λ _ _. refl };
 }
 
 const I16_RANGE: &[Constraint] = &[Constraint::Value(Extensible {
@@ -44,6 +49,8 @@ const I16_RANGE: &[Constraint] = &[Constraint::Value(Extensible {
 impl AsnType for i16 {
     const TAG: Tag = Tag::INTEGER;
 
+    ghost TAG = { INTEGER };
+
     const CONSTRAINTS: Constraints = Constraints(I16_RANGE);
 
     ghost CONSTRAINTS = { within (signed_range 16) };
@@ -53,6 +60,8 @@ impl AsnType for i16 {
     ghost value = { whole };
 
     ghost unfolds = { λ c. simple_unfolds (number_schema c (signed_range 16)) tt };
+
+    ghost tag_fits = { λ _ _. refl };
 }
 
 const I32_RANGE: &[Constraint] = &[Constraint::Value(Extensible {
@@ -66,6 +75,8 @@ const I32_RANGE: &[Constraint] = &[Constraint::Value(Extensible {
 impl AsnType for i32 {
     const TAG: Tag = Tag::INTEGER;
 
+    ghost TAG = { INTEGER };
+
     const CONSTRAINTS: Constraints = Constraints(I32_RANGE);
 
     ghost CONSTRAINTS = { within (signed_range 32) };
@@ -75,6 +86,8 @@ impl AsnType for i32 {
     ghost value = { whole };
 
     ghost unfolds = { λ c. simple_unfolds (number_schema c (signed_range 32)) tt };
+
+    ghost tag_fits = { λ _ _. refl };
 }
 
 const I64_RANGE: &[Constraint] = &[Constraint::Value(Extensible {
@@ -88,6 +101,8 @@ const I64_RANGE: &[Constraint] = &[Constraint::Value(Extensible {
 impl AsnType for i64 {
     const TAG: Tag = Tag::INTEGER;
 
+    ghost TAG = { INTEGER };
+
     const CONSTRAINTS: Constraints = Constraints(I64_RANGE);
 
     ghost CONSTRAINTS = { within (signed_range 64) };
@@ -97,10 +112,14 @@ impl AsnType for i64 {
     ghost value = { whole };
 
     ghost unfolds = { λ c. simple_unfolds (number_schema c (signed_range 64)) tt };
+
+    ghost tag_fits = { λ _ _. refl };
 }
 
 impl AsnType for i128 {
     const TAG: Tag = Tag::INTEGER;
+
+    ghost TAG = { INTEGER };
 
     const CONSTRAINTS: Constraints = Constraints::NONE;
 
@@ -111,6 +130,8 @@ impl AsnType for i128 {
     ghost value = { whole };
 
     ghost unfolds = { λ c. simple_unfolds (number_schema c i128_range) tt };
+
+    ghost tag_fits = { λ _ _. refl };
 }
 
 const U8_RANGE: &[Constraint] = &[Constraint::Value(Extensible {
@@ -124,6 +145,8 @@ const U8_RANGE: &[Constraint] = &[Constraint::Value(Extensible {
 impl AsnType for u8 {
     const TAG: Tag = Tag::INTEGER;
 
+    ghost TAG = { INTEGER };
+
     const CONSTRAINTS: Constraints = Constraints(U8_RANGE);
 
     ghost CONSTRAINTS = { within (unsigned_range 8) };
@@ -133,6 +156,8 @@ impl AsnType for u8 {
     ghost value = { λ n. whole (pos n) };
 
     ghost unfolds = { λ c. simple_unfolds (number_schema c (unsigned_range 8)) tt };
+
+    ghost tag_fits = { λ _ _. refl };
 }
 
 const U16_RANGE: &[Constraint] = &[Constraint::Value(Extensible {
@@ -146,6 +171,8 @@ const U16_RANGE: &[Constraint] = &[Constraint::Value(Extensible {
 impl AsnType for u16 {
     const TAG: Tag = Tag::INTEGER;
 
+    ghost TAG = { INTEGER };
+
     const CONSTRAINTS: Constraints = Constraints(U16_RANGE);
 
     ghost CONSTRAINTS = { within (unsigned_range 16) };
@@ -155,6 +182,8 @@ impl AsnType for u16 {
     ghost value = { λ n. whole (pos n) };
 
     ghost unfolds = { λ c. simple_unfolds (number_schema c (unsigned_range 16)) tt };
+
+    ghost tag_fits = { λ _ _. refl };
 }
 
 const U32_RANGE: &[Constraint] = &[Constraint::Value(Extensible {
@@ -168,6 +197,8 @@ const U32_RANGE: &[Constraint] = &[Constraint::Value(Extensible {
 impl AsnType for u32 {
     const TAG: Tag = Tag::INTEGER;
 
+    ghost TAG = { INTEGER };
+
     const CONSTRAINTS: Constraints = Constraints(U32_RANGE);
 
     ghost CONSTRAINTS = { within (unsigned_range 32) };
@@ -177,6 +208,8 @@ impl AsnType for u32 {
     ghost value = { λ n. whole (pos n) };
 
     ghost unfolds = { λ c. simple_unfolds (number_schema c (unsigned_range 32)) tt };
+
+    ghost tag_fits = { λ _ _. refl };
 }
 
 const U64_RANGE: &[Constraint] = &[Constraint::Value(Extensible {
@@ -190,6 +223,8 @@ const U64_RANGE: &[Constraint] = &[Constraint::Value(Extensible {
 impl AsnType for u64 {
     const TAG: Tag = Tag::INTEGER;
 
+    ghost TAG = { INTEGER };
+
     const CONSTRAINTS: Constraints = Constraints(U64_RANGE);
 
     ghost CONSTRAINTS = { within (unsigned_range 64) };
@@ -199,10 +234,14 @@ impl AsnType for u64 {
     ghost value = { λ n. whole (pos n) };
 
     ghost unfolds = { λ c. simple_unfolds (number_schema c (unsigned_range 64)) tt };
+
+    ghost tag_fits = { λ _ _. refl };
 }
 
 impl AsnType for Integer {
     const TAG: Tag = Tag::INTEGER;
+
+    ghost TAG = { INTEGER };
 
     const CONSTRAINTS: Constraints = Constraints::NONE;
 
@@ -213,4 +252,6 @@ impl AsnType for Integer {
     ghost value = { whole };
 
     ghost unfolds = { λ c. simple_unfolds (number_schema c unbounded) tt };
+
+    ghost tag_fits = { λ _ _. refl };
 }

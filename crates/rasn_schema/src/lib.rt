@@ -4,7 +4,6 @@
 pub mod components;
 pub mod fields;
 pub mod integers;
-mod macros;
 pub mod octets;
 pub mod plain;
 pub mod schema;

@@ -1,6 +1,8 @@
 //! The schemas of octets and bits: OCTET STRING (X.680 23), BIT STRING (X.680 22), and values whose types aren't known.
 
+ghost use Rattle.std.specs.Prelude.{refl};
 ghost use Rattle.rasn_types.specs.Values.{bits, octets};
+ghost use Rattle.rasn_types.specs.declared.types.TheConstants.Tag.{BIT_STRING, EOC, OCTET_STRING};
 ghost use Rattle.rasn_schema.specs.Schemas.{Schema};
 ghost use Rattle.rasn_constraints.specs.Ranges.{no_constraints};
 ghost use Rattle.rasn_schema.specs.Forms.{octet_schema, bit_schema, always, simple_unfolds};
@@ -13,6 +15,8 @@ use rasn_types::types::Tag;
 impl AsnType for OctetString {
     const TAG: Tag = Tag::OCTET_STRING;
 
+    ghost TAG = { OCTET_STRING };
+
     const CONSTRAINTS: Constraints = Constraints::NONE;
 
     ghost CONSTRAINTS = { no_constraints };
@@ -22,10 +26,14 @@ impl AsnType for OctetString {
     ghost value = { octets };
 
     ghost unfolds = { λ c. simple_unfolds (octet_schema c) tt };
+
+    ghost tag_fits = { λ _ _. refl };
 }
 
 impl AsnType for BitString {
     const TAG: Tag = Tag::BIT_STRING;
+
+    ghost TAG = { BIT_STRING };
 
     const CONSTRAINTS: Constraints = Constraints::NONE;
 
@@ -36,10 +44,14 @@ impl AsnType for BitString {
     ghost value = { bits };
 
     ghost unfolds = { λ c. simple_unfolds (bit_schema c) tt };
+
+    ghost tag_fits = { λ _ _. refl };
 }
 
 impl AsnType for Any {
     const TAG: Tag = Tag::EOC;
+
+    ghost TAG = { EOC };
 
     const CONSTRAINTS: Constraints = Constraints::NONE;
 
@@ -50,4 +62,6 @@ impl AsnType for Any {
     ghost value = { octets };
 
     ghost unfolds = { λ _. simple_unfolds Schema.any tt };
+
+    ghost tag_fits = { λ _ _. refl };
 }

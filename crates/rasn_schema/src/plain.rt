@@ -1,6 +1,8 @@
 //! The schemas of the plain types: BOOLEAN and NULL as Rust's own types.
 
+ghost use Rattle.std.specs.Prelude.{refl};
 ghost use Rattle.rasn_types.specs.Values.{truth, nothing};
+ghost use Rattle.rasn_types.specs.declared.types.TheConstants.Tag.{BOOL, NULL};
 ghost use Rattle.rasn_schema.specs.Schemas.{Schema};
 ghost use Rattle.rasn_constraints.specs.Ranges.{no_constraints};
 ghost use Rattle.rasn_schema.specs.Forms.{always, simple_unfolds};
@@ -11,6 +13,8 @@ use rasn_types::types::Tag;
 impl AsnType for bool {
     const TAG: Tag = Tag::BOOL;
 
+    ghost TAG = { BOOL };
+
     const CONSTRAINTS: Constraints = Constraints::NONE;
 
     ghost CONSTRAINTS = { no_constraints };
@@ -20,10 +24,14 @@ impl AsnType for bool {
     ghost value = { truth };
 
     ghost unfolds = { λ _. simple_unfolds Schema.boolean tt };
+
+    ghost tag_fits = { λ _ _. refl };
 }
 
 impl AsnType for () {
     const TAG: Tag = Tag::NULL;
+
+    ghost TAG = { NULL };
 
     const CONSTRAINTS: Constraints = Constraints::NONE;
 
@@ -34,4 +42,6 @@ impl AsnType for () {
     ghost value = { λ _. nothing };
 
     ghost unfolds = { λ _. simple_unfolds Schema.null tt };
+
+    ghost tag_fits = { λ _ _. refl };
 }

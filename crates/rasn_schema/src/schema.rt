@@ -4,6 +4,7 @@ ghost use Rattle.std.specs.Prelude.{ℕ};
 ghost use Rattle.rasn_types.specs.Values.{Value};
 ghost use Rattle.rasn_schema.specs.Schemas.{Schema};
 ghost use Rattle.rasn_schema.specs.Depth.{Unfolds};
+ghost use Rattle.rasn_schema.specs.Tags.{IsTagOf};
 
 pub use rasn_constraints::constraints::Constraints;
 pub use rasn_constraints::integer_type::IntegerType;
@@ -11,10 +12,13 @@ use rasn_types::types::{Identifier, Tag};
 
 /// A type of ASN.1: its tag, its constraints and its schema.
 pub trait AsnType {
+    ghost use Rattle.rasn_types.specs.declared.types.Tag.{Tag};
     ghost use Rattle.rasn_constraints.specs.declared.constraints.Constraints.{Constraints};
 
-    /// The tag of the type.
+    /// The tag of the type: where its class is universal, the one of its kind (X.680 8.4).
     const TAG: Tag;
+
+    ghost TAG: { Tag };
 
     /// The constraints of the type.
     const CONSTRAINTS: Constraints;
@@ -30,9 +34,13 @@ pub trait AsnType {
     // The value that a value of the type is.
     ghost value: { Self → Value };
 
-    // How many levels a value takes: at each unfolding that is as deep, none of it is cut off. A type with no parts takes none.
+    // How many levels a value takes: at each unfolding that is as deep, none of it is cut off. A type with no parts
+    // takes none.
     ghost levels: { Self → ℕ } = { λ _. 0 };
 
     // Each unfolding is the next one cut off, and every value is held by some unfolding.
     ghost unfolds: { (c : Constraints) → Unfolds (schema c) };
+
+    // A universal tag is one of the schema's kind.
+    ghost tag_fits: { (c : Constraints) → IsTagOf TAG (schema c) };
 }

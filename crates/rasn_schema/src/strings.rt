@@ -1,11 +1,12 @@
 //! The schemas of character strings (X.680 41).
 
-ghost use Rattle.std.specs.Prelude.{◌≡◌, ℕ, true};
+ghost use Rattle.std.specs.Prelude.{◌≡◌, ℕ, true, refl};
 ghost use Rattle.std.specs.String.{string_bytes};
 ghost use Rattle.rasn_types.specs.Alphabets.{has, visible, ia5, printable, numeric, bmp};
 ghost use Rattle.rasn_types.specs.Codecs.{variant_of};
 ghost use Rattle.rasn_types.specs.Contents.{utf8, other};
 ghost use Rattle.rasn_types.specs.Values.{characters, octets};
+ghost use Rattle.rasn_types.specs.declared.types.TheConstants.Tag.{BMP_STRING, GENERAL_STRING, GRAPHIC_STRING, IA5_STRING, NUMERIC_STRING, PRINTABLE_STRING, TELETEX_STRING, UTF8_STRING, VISIBLE_STRING};
 ghost use Rattle.rasn_schema.specs.Schemas.{Schema};
 ghost use Rattle.rasn_constraints.specs.Ranges.{no_constraints};
 ghost use Rattle.rasn_schema.specs.Forms.{alphabet_of, character_schema, always, simple_unfolds};
@@ -38,6 +39,8 @@ pub fn alphabet_under<S: StaticPermittedAlphabet>(
 impl AsnType for VisibleString {
     const TAG: Tag = Tag::VISIBLE_STRING;
 
+    ghost TAG = { VISIBLE_STRING };
+
     const CONSTRAINTS: Constraints = Constraints::NONE;
 
     ghost CONSTRAINTS = { no_constraints };
@@ -47,10 +50,14 @@ impl AsnType for VisibleString {
     ghost value = { characters };
 
     ghost unfolds = { λ c. simple_unfolds (character_schema visible c) tt };
+
+    ghost tag_fits = { λ _ _. refl };
 }
 
 impl AsnType for Ia5String {
     const TAG: Tag = Tag::IA5_STRING;
+
+    ghost TAG = { IA5_STRING };
 
     const CONSTRAINTS: Constraints = Constraints::NONE;
 
@@ -61,10 +68,14 @@ impl AsnType for Ia5String {
     ghost value = { characters };
 
     ghost unfolds = { λ c. simple_unfolds (character_schema ia5 c) tt };
+
+    ghost tag_fits = { λ _ _. refl };
 }
 
 impl AsnType for PrintableString {
     const TAG: Tag = Tag::PRINTABLE_STRING;
+
+    ghost TAG = { PRINTABLE_STRING };
 
     const CONSTRAINTS: Constraints = Constraints::NONE;
 
@@ -75,10 +86,14 @@ impl AsnType for PrintableString {
     ghost value = { characters };
 
     ghost unfolds = { λ c. simple_unfolds (character_schema printable c) tt };
+
+    ghost tag_fits = { λ _ _. refl };
 }
 
 impl AsnType for NumericString {
     const TAG: Tag = Tag::NUMERIC_STRING;
+
+    ghost TAG = { NUMERIC_STRING };
 
     const CONSTRAINTS: Constraints = Constraints::NONE;
 
@@ -89,10 +104,14 @@ impl AsnType for NumericString {
     ghost value = { characters };
 
     ghost unfolds = { λ c. simple_unfolds (character_schema numeric c) tt };
+
+    ghost tag_fits = { λ _ _. refl };
 }
 
 impl AsnType for BmpString {
     const TAG: Tag = Tag::BMP_STRING;
+
+    ghost TAG = { BMP_STRING };
 
     const CONSTRAINTS: Constraints = Constraints::NONE;
 
@@ -103,10 +122,14 @@ impl AsnType for BmpString {
     ghost value = { characters };
 
     ghost unfolds = { λ c. simple_unfolds (character_schema bmp c) tt };
+
+    ghost tag_fits = { λ _ _. refl };
 }
 
 impl AsnType for Utf8String {
     const TAG: Tag = Tag::UTF8_STRING;
+
+    ghost TAG = { UTF8_STRING };
 
     const CONSTRAINTS: Constraints = Constraints::NONE;
 
@@ -117,11 +140,15 @@ impl AsnType for Utf8String {
     ghost value = { λ s. octets (string_bytes s) };
 
     ghost unfolds = { λ _. simple_unfolds (Schema.text utf8) tt };
+
+    ghost tag_fits = { λ _ _. refl };
 }
 
 impl AsnType for GeneralString {
     const TAG: Tag = Tag::GENERAL_STRING;
 
+    ghost TAG = { GENERAL_STRING };
+
     const CONSTRAINTS: Constraints = Constraints::NONE;
 
     ghost CONSTRAINTS = { no_constraints };
@@ -131,11 +158,15 @@ impl AsnType for GeneralString {
     ghost value = { octets };
 
     ghost unfolds = { λ _. simple_unfolds (Schema.text other) tt };
+
+    ghost tag_fits = { λ _ _. refl };
 }
 
 impl AsnType for GraphicString {
     const TAG: Tag = Tag::GRAPHIC_STRING;
 
+    ghost TAG = { GRAPHIC_STRING };
+
     const CONSTRAINTS: Constraints = Constraints::NONE;
 
     ghost CONSTRAINTS = { no_constraints };
@@ -145,11 +176,15 @@ impl AsnType for GraphicString {
     ghost value = { octets };
 
     ghost unfolds = { λ _. simple_unfolds (Schema.text other) tt };
+
+    ghost tag_fits = { λ _ _. refl };
 }
 
 impl AsnType for TeletexString {
     const TAG: Tag = Tag::TELETEX_STRING;
 
+    ghost TAG = { TELETEX_STRING };
+
     const CONSTRAINTS: Constraints = Constraints::NONE;
 
     ghost CONSTRAINTS = { no_constraints };
@@ -159,4 +194,6 @@ impl AsnType for TeletexString {
     ghost value = { octets };
 
     ghost unfolds = { λ _. simple_unfolds (Schema.text other) tt };
+
+    ghost tag_fits = { λ _ _. refl };
 }

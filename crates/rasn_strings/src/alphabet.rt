@@ -29,7 +29,8 @@ impl Model for CharacterAlphabet {
 
     ghost view = { λ a. alphabet_of a.own.now (listed a.permitted) a.aligned };
 
-    ghost invariant = { λ a. IsPrepared a.own.now (alphabet_of a.own.now (listed a.permitted) a.aligned) a.width a.own_values };
+    ghost invariant = { λ a. IsPrepared a.own.now (alphabet_of a.own.now (listed a.permitted) a.aligned)
+        a.width a.own_values };
 }
 
 impl CharacterAlphabet {
@@ -82,9 +83,11 @@ impl CharacterAlphabet {
 
     /// The character that is written as a number; `None` where there is none.
     pub fn decode(&self, code: u32) -> Option<u32>
-        ensures some { IfSome result (λ character. char_code self.now.variant self.now.characters character ≡ Some code) }
+        ensures some { IfSome result (λ character.
+            char_code self.now.variant self.now.characters character ≡ Some code) }
         ensures permitted { IfSome result (λ character. has self.now.characters character ≡ true) }
-        ensures every { (character : ℕ) → char_code self.now.variant self.now.characters character ≡ Some code → result ≡ Some character }
+        ensures every { (character : ℕ) → char_code self.now.variant self.now.characters character ≡ Some code
+            → result ≡ Some character }
     {
         if !self.own_values {
             self.character_at(code)
@@ -130,7 +133,8 @@ impl CharacterAlphabet {
 /// The bits of a character of an alphabet of so many (X.691 30.5.2, 30.5.3).
 fn width_of_characters(count: u32, aligned: bool) -> u32
     requires { count ≤ 2 ^ 16 }
-    ensures width { (alphabet : List ℕ) → length alphabet ≡ count → result ≡ char_width (variant_when aligned) alphabet }
+    ensures width { (alphabet : List ℕ) → length alphabet ≡ count
+        → result ≡ char_width (variant_when aligned) alphabet }
     ensures few { result ≤ 16 }
 {
     let width = width_of(u128::from(count));

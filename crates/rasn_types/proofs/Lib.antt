@@ -6,3 +6,4 @@ pub mod Packing
 pub mod Reading
 pub mod Texts
 pub mod Values
+pub mod Widths

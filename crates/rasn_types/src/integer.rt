@@ -16,7 +16,8 @@ pub fn signed_octets_of<A: Allocator>(alloc: A, value: i128) -> Result<Vec<u8, A
     Vec::from_slice(alloc, &octets[skipped..])
 }
 
-/// How many octets are the fewest for a number, from 1 to 16: the bits at its front that equal the sign take no room, but for one.
+/// How many octets are the fewest for a number, from 1 to 16: the bits at its front that equal the sign take no room,
+/// but for one.
 fn octet_count(value: i128) -> usize
     ensures value { result ≡ octets_of_whole value }
     ensures few { result ≤ 16 }
@@ -29,8 +30,8 @@ fn octet_count(value: i128) -> usize
     (128 - sign_bits as usize) / 8 + 1
 }
 
-/// The number that two's complement octets mean, highest first (X.690 8.3.3), where an `i128` holds it, and else `None`.
-/// Octets at the front that only repeat the sign are taken. No octets mean 0.
+/// The number that two's complement octets mean, highest first (X.690 8.3.3), where an `i128` holds it, and else
+/// `None`. Octets at the front that only repeat the sign are taken. No octets mean 0.
 pub fn whole_of_octets(octets: &[u8]) -> Option<i128>
     ensures some { IfSome result (λ number. number ≡ signed octets.now) }
     ensures none { IfNone result (is_i128 (signed octets.now) ≡ false) }
@@ -49,7 +50,8 @@ pub fn whole_of_octets(octets: &[u8]) -> Option<i128>
 mod tests {
     use super::*;
 
-    // Two's complement by X.690 8.3: the ends of what one octet, two octets and an `i128` hold, and numbers next to them
+    // Two's complement by X.690 8.3: the ends of what one octet, two octets and an `i128` hold, and numbers next to
+    // them
     const NUMBERS: [(i128, &[u8]); 12] = [
         (0, &[0x00]),
         (1, &[0x01]),

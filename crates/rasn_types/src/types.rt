@@ -26,7 +26,7 @@ pub enum Class {
     Private,
 }
 
-/// A tag (X.680 8.1). Tags are ordered by class, then by value (X.680 8.6).
+/// A tag (X.680 8.1). Tags are ordered by class, then by value (X.680 8.6). The constants are universal tags (X.680 8.4).
 #[derive(Clone, Copy, Debug, PartialEq, Eq, PartialOrd, Ord)]
 pub struct Tag {
     /// The class.
@@ -72,10 +72,40 @@ impl Tag {
         value: 5,
     };
 
+    /// The tag of OBJECT IDENTIFIER.
+    pub const OBJECT_IDENTIFIER: Tag = Tag {
+        class: Class::Universal,
+        value: 6,
+    };
+
+    /// The tag of REAL.
+    pub const REAL: Tag = Tag {
+        class: Class::Universal,
+        value: 9,
+    };
+
+    /// The tag of ENUMERATED.
+    pub const ENUMERATED: Tag = Tag {
+        class: Class::Universal,
+        value: 10,
+    };
+
     /// The tag of UTF8String.
     pub const UTF8_STRING: Tag = Tag {
         class: Class::Universal,
         value: 12,
+    };
+
+    /// The tag of SEQUENCE and SEQUENCE OF.
+    pub const SEQUENCE: Tag = Tag {
+        class: Class::Universal,
+        value: 16,
+    };
+
+    /// The tag of SET and SET OF.
+    pub const SET: Tag = Tag {
+        class: Class::Universal,
+        value: 17,
     };
 
     /// The tag of NumericString.
@@ -102,6 +132,18 @@ impl Tag {
         value: 22,
     };
 
+    /// The tag of UTCTime.
+    pub const UTC_TIME: Tag = Tag {
+        class: Class::Universal,
+        value: 23,
+    };
+
+    /// The tag of GeneralizedTime.
+    pub const GENERALIZED_TIME: Tag = Tag {
+        class: Class::Universal,
+        value: 24,
+    };
+
     /// The tag of GraphicString.
     pub const GRAPHIC_STRING: Tag = Tag {
         class: Class::Universal,
@@ -124,6 +166,12 @@ impl Tag {
     pub const BMP_STRING: Tag = Tag {
         class: Class::Universal,
         value: 30,
+    };
+
+    /// The tag of DATE.
+    pub const DATE: Tag = Tag {
+        class: Class::Universal,
+        value: 31,
     };
 
     /// A tag of a class with a value.

@@ -1,18 +1,19 @@
 //! What no clause says: that calls succeed where there is memory, that want of it is named so, and which refusal is
 //! named where several would do.
 
-ghost use Rattle.std.specs.Prelude.{pos, negsuc};
+ghost use Rattle.std.specs.Prelude.{refl, pos, negsuc};
 ghost use Rattle.rasn_types.specs.Values.{whole};
+ghost use Rattle.rasn_types.specs.declared.types.TheConstants.Tag.{INTEGER};
 ghost use Rattle.rasn_constraints.specs.Bounds.{between};
 ghost use Rattle.rasn_constraints.specs.Ranges.{i128_range, no_constraints, unsigned_range, within};
 ghost use Rattle.rasn_schema.specs.Forms.{always, number_schema, simple_unfolds};
 
 use super::*;
 use linked_list_allocator::LocalHeap;
-use per_enc::EncodeErrorKind;
 use rasn_codec::codec::{Decoder as _, Encoder as _};
 use rasn_schema::constraints::{Bounded, Constraint, Extensible};
 use rasn_schema::schema::AsnType;
+use rasn_types::octet_strings::OctetString;
 use rasn_types::types::{Identifier, Tag};
 use std::process::Abort;
 use std::test::Fail;
@@ -112,6 +113,8 @@ struct Speed {
 impl AsnType for Speed {
     const TAG: Tag = Tag::INTEGER;
 
+    ghost TAG = { INTEGER };
+
     const CONSTRAINTS: Constraints = Constraints::NONE;
 
     ghost CONSTRAINTS = { no_constraints };
@@ -121,6 +124,8 @@ impl AsnType for Speed {
     ghost value = { λ s. whole s.metres_a_second };
 
     ghost unfolds = { λ c. simple_unfolds (number_schema c i128_range) tt };
+
+    ghost tag_fits = { λ _ _. refl };
 }
 
 impl Encode for Speed {
@@ -175,6 +180,8 @@ const MINUS_ONE_TO_254: &[Constraint] = &[Constraint::Value(Extensible {
 impl AsnType for MinusOneTo254 {
     const TAG: Tag = Tag::INTEGER;
 
+    ghost TAG = { INTEGER };
+
     const CONSTRAINTS: Constraints = Constraints(MINUS_ONE_TO_254);
 
     ghost CONSTRAINTS = { within (between (negsuc 0) (pos 254)) };
@@ -184,6 +191,8 @@ impl AsnType for MinusOneTo254 {
     ghost value = { λ x. whole (pos x.0) };
 
     ghost unfolds = { λ c. simple_unfolds (number_schema c (unsigned_range 8)) tt };
+
+    ghost tag_fits = { λ _ _. refl };
 }
 
 impl Decode for MinusOneTo254 {
@@ -261,4 +270,21 @@ fn tells_lawful_constraints(rt: HostRuntime) {
             "of {constraints:?}"
         );
     }
+}
+
+// `tools/refuse_memory` runs this test with its first request for memory refused, and it passes there too.
+#[test]
+fn reads_plain_values_without_memory(rt: HostRuntime) -> Result<(), Fail> {
+    assert!(rt; decode::<bool>(rt.alloc(), &[0x80])?);
+    assert!(rt; !decode::<bool>(rt.alloc(), &[0x00])?);
+    decode::<()>(rt.alloc(), &[0x00])?;
+    Ok(())
+}
+
+// And this one, which fails there.
+#[test]
+fn reads_octets_into_memory(rt: HostRuntime) -> Result<(), Fail> {
+    let octets: OctetString = decode(rt.alloc(), &[0x01, 0xaa])?;
+    assert_eq!(rt; octets.as_bytes(), &[0xaa][..]);
+    Ok(())
 }

@@ -2,7 +2,8 @@ use Rattle.std.proofs.Common.{◌∙◌, ◌*◌, ◌<◌, arith, inr, length, l
 use Rattle.std.proofs.lemmas.Result.{err_from_is_err_and, IfErr-weaker}
 use Rattle.per_core.specs.Basic.{OneByOne}
 use Rattle.per_core.specs.Spellings.{Field}
-use Rattle.per_read.specs.Items.{bits_of, TookItems}
+use Rattle.per_core.specs.Items.{bits_of}
+use Rattle.per_read.specs.Items.{TookItems}
 use Rattle.per_read.specs.declared.length.Length.TheVariants.{Last, Fragment}
 use Rattle.per_read.proofs.Parts.{small_length, items_go_on, items_end, no_items_length, no_items_row, stopped, both_ok}
 use Rattle.per_read.proofs.items.take_unconstrained_items.Goals as goal

@@ -1,7 +1,8 @@
 use Rattle.std.proofs.Common.{◌+◌, ◌-◌, ◌&&◌, ltb, arith, inr, ap, sym, refl}
 use Rattle.std.proofs.lemmas.Result.{err_from_is_err_and}
 use Rattle.per_core.specs.Counts.{is_aligned}
-use Rattle.per_read.specs.Items.{bits_of, coded, counted_of}
+use Rattle.per_core.specs.Items.{bits_of, counted_of}
+use Rattle.per_read.specs.Items.{coded}
 use Rattle.per_read.specs.Codecs.{settings}
 use Rattle.per_read.proofs.Parts.{stopped}
 use Rattle.per_read.proofs.SizeForms.{few_codes, few_counted, between_took, short_between, no_code_between, recoded}

@@ -1,6 +1,7 @@
 use Rattle.std.proofs.Common.{false}
 use Rattle.std.proofs.lemmas.Result.{IfErr-weaker}
-use Rattle.per_read.specs.Items.{counted_of, coded}
+use Rattle.per_core.specs.Items.{counted_of}
+use Rattle.per_read.specs.Items.{coded}
 use Rattle.rasn_constraints.specs.Bounds.{any_size}
 use Rattle.per_read.specs.Codecs.{settings}
 use Rattle.per_read.proofs.Refusals.{faulty_map}

@@ -1,7 +1,8 @@
 use Rattle.std.proofs.Common.{◌∙◌, sym, subst}
 use Rattle.std.proofs.lemmas.Result.{IfOk-weaker, IfErr-weaker}
 use Rattle.per_core.specs.Took.{Took}
-use Rattle.per_read.specs.Items.{counted_of, coded}
+use Rattle.per_core.specs.Items.{counted_of}
+use Rattle.per_read.specs.Items.{coded}
 use Rattle.per_read.specs.Codecs.{settings}
 use Rattle.per_read.proofs.Parts.{stopped}
 use Rattle.per_read.proofs.SizeForms.{under_between, under_unsized, as_form}

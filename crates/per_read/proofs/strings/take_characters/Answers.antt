@@ -9,7 +9,7 @@ use Rattle.per_read.specs.Kinds.{Faulty, NoneIn}
 use Rattle.per_read.specs.Sizes.{IsOfItems}
 use Rattle.per_read.specs.Codecs.{settings}
 use Rattle.per_read.specs.Strings.{HasUnknown}
-use Rattle.per_read.specs.declared.items.Item.TheVariants.{Character}
+use Rattle.per_core.specs.declared.items.Item.TheVariants.{Character}
 use Rattle.per_read.proofs.Refusals.{faulty_map}
 use Rattle.per_read.proofs.CharacterCodes.{same_alphabet, characters_took, none_of_characters, string_kind, unpermitted, read_known, read_unknown}
 use Rattle.per_read.proofs.Parts.{are_gathered}

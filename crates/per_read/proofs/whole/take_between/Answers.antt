@@ -3,7 +3,7 @@ use Rattle.std.proofs.lemmas.Int.{to_z-of_z}
 use Rattle.per_read.specs.Codecs.{settings}
 use Rattle.std.proofs.Common.{inr}
 use Rattle.per_read.proofs.Under.{between_took}
-use Rattle.per_read.proofs.joins.take_between.Goals as goal
+use Rattle.per_read.proofs.whole.take_between.Goals as goal
 
 pub returns-in_err-offset-clause-err : goal.returns-in_err-offset-clause-err
 returns-in_err-offset-clause-err c =

@@ -2,7 +2,7 @@ use Rattle.std.proofs.lemmas.Result.{err_from_is_err_and}
 use Rattle.per_read.proofs.Refusals.{faulty_map}
 use Rattle.per_read.proofs.Fields.{when_took}
 use Rattle.per_read.proofs.Under.{far_from}
-use Rattle.per_read.proofs.joins.take_from.Goals as goal
+use Rattle.per_read.proofs.whole.take_from.Goals as goal
 
 pub returns-in_err-offset-clause-err : goal.returns-in_err-offset-clause-err
 returns-in_err-offset-clause-err c =

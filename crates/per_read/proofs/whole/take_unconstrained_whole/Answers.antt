@@ -5,7 +5,7 @@ use Rattle.per_read.proofs.OneByOne.{no_more}
 use Rattle.per_read.proofs.Refusals.{faulty_map, tested_octets}
 use Rattle.per_read.proofs.Unbounded.{none_there}
 use Rattle.per_read.proofs.Under.{no_length_no_whole, no_octets_no_whole}
-use Rattle.per_read.proofs.joins.take_unconstrained_whole.Goals as goal
+use Rattle.per_read.proofs.whole.take_unconstrained_whole.Goals as goal
 
 pub returns-in_err-octets-clause-err : goal.returns-in_err-octets-clause-err
 returns-in_err-octets-clause-err c =

@@ -1,7 +1,7 @@
 use Rattle.std.proofs.Common.{FitsSigned, rules}
 use Rattle.std.specs.Int.{w128}
 use Rattle.std.proofs.lemmas.Int.{to_z-of_z}
-use Rattle.per_read.proofs.joins.take_under_bounds.Goals as goal
+use Rattle.per_read.proofs.whole.take_under_bounds.Goals as goal
 
 pub returns-in-None-default-clause-err : goal.returns-in-None-default-clause-err
 returns-in-None-default-clause-err c = rw c.in-None-default.is-0 c.take_unconstrained_whole.ensures.err

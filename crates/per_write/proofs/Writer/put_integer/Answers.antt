@@ -2,7 +2,7 @@ use Rattle.std.proofs.Common.{◌∙◌, sym, refl, inr, rules}
 use Rattle.std.proofs.lemmas.Iterator.Adapters.{option_map_id}
 use Rattle.std.proofs.lemmas.Result.{on_ok_weaker, IfOk-at_ok}
 use Rattle.rasn_constraints.specs.Constraints.{bounds_of}
-use Rattle.per_write.proofs.Constrained.{presents_within, presents_marked, presents_outside, within_law, outside_law, refuses_outside}
+use Rattle.per_write.proofs.Constrained.{presents_within, presents_marked, presents_outside, within_law, outside_law, refuses_outside, whole_written}
 use Rattle.per_write.proofs.Writer.put_integer.Goals as goal
 
 pub returns-in_ok-put_bit-in-true-true : goal.returns-in_ok-put_bit-in-true-true
@@ -38,8 +38,8 @@ returns-in_ok-put_bit-in-false-true g c =
     record {
       law = rw (← c.in_ok-within.ensures.kept, c.in-false-true.is-1)
           (outside_law x m c.put_unconstrained_whole.new.self b _ g.I.IntegerType.range (g.I.IntegerType.number c.args.value.now) c.put_unconstrained_whole.result c.in_ok-put_bit-in-false-true.ensures.ok.same
-          (on_ok_weaker _ (presents_outside x m _ b g.I.IntegerType.range _ c.to_i128-number.ensures.held (sym (IfOk-at_ok _ c.in_ok-within.ensures.ok c.is_within-within.ensures) ∙ c.in-false-true.is-0) c.in_ok-put_bit-in-false-true.ensures.ok) c.put_unconstrained_whole.ensures.written.ok)
-          c.put_unconstrained_whole.ensures.written.err);
+          (on_ok_weaker _ (presents_outside x m _ b g.I.IntegerType.range _ c.to_i128-number.ensures.held (sym (IfOk-at_ok _ c.in_ok-within.ensures.ok c.is_within-within.ensures) ∙ c.in-false-true.is-0) c.in_ok-put_bit-in-false-true.ensures.ok) (whole_written _ _ _ _ _ c.put_unconstrained_whole.ensures.ok))
+          c.put_unconstrained_whole.ensures.err);
       behaves = search rules;
     }
 

@@ -1,6 +1,7 @@
-use Rattle.std.proofs.Common.{◌≡◌, ◌∙◌, ◌*◌, ◌^◌, ◌<◌, ◌++◌, [], length, arith, ap, refl, sym, subst, ℕ, rules, pow_mono}
+use Rattle.std.proofs.Common.{◌≡◌, ◌∙◌, ◌*◌, ◌^◌, ◌<◌, [], length, arith, ap, refl, sym, subst, ℕ, rules, pow_mono}
 use Rattle.std.proofs.lemmas.List.{append-nil}
-use Rattle.per_read.specs.Items.{TookItems, bits_of}
+use Rattle.per_core.specs.Items.{bits_of}
+use Rattle.per_read.specs.Items.{TookItems}
 use Rattle.per_core.specs.Basic.{OneByOne}
 use Rattle.per_core.specs.Spellings.{Field}
 use Rattle.per_read.proofs.Fields.{field_below}

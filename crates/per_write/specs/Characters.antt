@@ -1,0 +1,16 @@
+-- Characters that a length counts, in an alphabet that may permit some of those of their type (ITU-T X.691, 30.5).
+use Rattle.std.specs.Prelude.{ℕ, ◌≡◌, List}
+use Rattle.rasn_types.specs.Alphabets.{Alphabet, char_width}
+use Rattle.per_core.specs.Canon.{char_writers}
+use Rattle.per_core.specs.Counts.{char_items}
+use Rattle.per_write.specs.declared.error.EncodeErrorKind.TheVariants.{AlphabetConstraintNotSatisfied}
+use Rattle.per_write.specs.Faults.{HasForeign}
+use Rattle.per_write.specs.Items.{CountedItems}
+
+-- each by its code, and refused where it has none
+abbrev pub counted_characters : Alphabet → List ℕ → CountedItems
+counted_characters alphabet cs = record {
+  kind = char_items (char_width alphabet.variant alphabet.characters);
+  writers = λ a. char_writers alphabet.variant alphabet.characters cs;
+  fault = λ k. (k ≡ AlphabetConstraintNotSatisfied) × HasForeign alphabet.characters cs;
+}

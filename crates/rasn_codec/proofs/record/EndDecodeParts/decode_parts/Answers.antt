@@ -1,6 +1,0 @@
-use Rattle.std.proofs.Common.{rules}
-use Rattle.rasn_codec.specs.Scopes.{reads_end}
-use Rattle.rasn_codec.proofs.record.EndDecodeParts.decode_parts.Goals as goal
-
-pub returns : goal.returns
-returns g c = record { law = reads_end; fails = search rules; kept = search rules }

@@ -1,8 +1,0 @@
-use Rattle.std.proofs.Common.{rules}
-use Rattle.rasn_schema.specs.Normal.{normals}
-use Rattle.rasn_codec.specs.Scopes.{presents_end}
-use Rattle.rasn_codec.proofs.record.EndEncodeParts.encode_parts.Goals as goal
-
-pub returns : goal.returns
-unfolding normals
-returns g c = record { law = record { at = λ n le. presents_end }; fails = search rules; kept = search rules }

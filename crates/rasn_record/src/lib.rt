@@ -1,0 +1,16 @@
+//! Records by the lists of their components: as cells, and in the words of a schema's author, who finds here all that
+//! a type of his own names.
+#![tactic(auto)]
+
+pub mod cells;
+mod macros;
+pub mod read;
+pub mod write;
+
+pub use rasn_codec::codec::{Decoder, Encoder};
+pub use rasn_codec::record::Record;
+pub use rasn_schema::components::Components;
+pub use rasn_schema::constraints::{Bounded, Constraint, Extensible};
+pub use rasn_schema::fields::{Field, Fields, Presence, TagTree};
+pub use rasn_schema::schema::{AsnType, Constraints};
+pub use rasn_schema::types::{Class, Tag};

@@ -1,0 +1,231 @@
+//! What an author's list of components is handed to.
+//!
+//! The list is a macro of the author's file, which hands itself on. It has a line for each component, at most 48:
+//! whether it may be absent, its context-specific tag, its name, its field and the field's type, and its constraints in
+//! brackets.
+//!
+//! ```text
+//! macro_rules! components {
+//!     ($to:ident $($with:ident)*) => {
+//!         $to! { [$($with)*]
+//!             required 0 "protocolVersion" protocol_version: u8 [0..=255];
+//!             required 1 "name" name: Ia5String [SIZE 1..=16];
+//!             required 2 "payload" payload: OctetString [];
+//!         }
+//!     };
+//! }
+//! ```
+//!
+//! `fields`, `bounds`, `encode_components` and `decode_components` are for authors, and so are `encode_each_component`
+//! and `decode_each_component`, by which a mistake is found. What the others write is part of these.
+
+/// The fields of a list of components, as `Fields`.
+#[macro_export]
+macro_rules! fields {
+    ([] $($list:tt)*) => { $crate::with_places!(placed_fields []; $($list)*) };
+}
+
+/// The constraints of a list of components, as `&[&[Constraint]]`.
+#[macro_export]
+macro_rules! bounds {
+    ([] $($presence:ident $tag:literal $name:literal $field:ident: $type:ty [$($bounds:tt)*];)*) => {
+        &[$($crate::constraints!($($bounds)*)),*]
+    };
+}
+
+/// The constraints in brackets, as `&[Constraint]`: none; the bounds of a value (X.680 51.4); SIZE and the bounds of a
+/// size (X.680 51.5).
+#[macro_export]
+macro_rules! constraints {
+    () => { &[] };
+    (SIZE $($bounds:tt)+) => { &[$crate::Constraint::Size($crate::bounded!($($bounds)+))] };
+    ($($bounds:tt)+) => { &[$crate::Constraint::Value($crate::bounded!($($bounds)+))] };
+}
+
+/// Bounds: `low..=high`, `low..` or `..=high`, each with `, ...` where they are extensible (X.680 52).
+#[macro_export]
+macro_rules! bounded {
+    ($low:literal ..= $high:literal $(, $mark:tt)?) => {
+        $crate::bounded!(@ Some($low), Some($high), $($mark)?)
+    };
+    ($low:literal .. $(, $mark:tt)?) => { $crate::bounded!(@ Some($low), None, $($mark)?) };
+    (..= $high:literal $(, $mark:tt)?) => { $crate::bounded!(@ None, Some($high), $($mark)?) };
+    (@ $low:expr, $high:expr, $($mark:tt)?) => {
+        $crate::Extensible {
+            constraint: $crate::Bounded::Range { start: $low, end: $high },
+            extensible: $crate::is_marked!($($mark)?),
+        }
+    };
+}
+
+/// Whether there is a mark.
+#[macro_export]
+macro_rules! is_marked {
+    () => { false };
+    (...) => { true };
+}
+
+/// Writes the components of a list in turn. Their constraints are in the constant `BOUNDS`.
+#[macro_export]
+macro_rules! encode_components {
+    ([$of:ident $encoder:ident] $($list:tt)*) => {
+        $crate::write::all($of, &$crate::with_places!(cells_to_write all $of $($list)*), $encoder)
+    };
+}
+
+/// The same, each component stated by itself: put it in the other's place where the check refuses that.
+#[macro_export]
+macro_rules! encode_each_component {
+    ([$of:ident $encoder:ident] $($list:tt)*) => {
+        $crate::write::components($of, &$crate::with_places!(cells_to_write each $of $($list)*), $encoder)
+    };
+}
+
+/// Reads the components of a list in turn. Their constraints are in the constant `BOUNDS`.
+#[macro_export]
+macro_rules! decode_components {
+    ([$decoder:ident] $($presence:ident $tag:literal $name:literal $field:ident: $type:ty [$($bounds:tt)*];)*) => {{
+        let cells = $crate::with_places!(cells_to_read all $($presence $tag $field: $type [$($bounds)*];)*);
+        let $crate::pairs!($($field)*) = $crate::read::all::<Self, _, _>(&cells, $decoder)?;
+        Ok(Self { $($field),* })
+    }};
+}
+
+/// The same, each component stated by itself: put it in the other's place where the check refuses that.
+#[macro_export]
+macro_rules! decode_each_component {
+    ([$decoder:ident] $($presence:ident $tag:literal $name:literal $field:ident: $type:ty [$($bounds:tt)*];)*) => {{
+        let cells = $crate::with_places!(cells_to_read each $($presence $tag $field: $type [$($bounds)*];)*);
+        let $crate::pairs!($($field)*) = $crate::read::components::<Self, _, _>(&cells, $decoder)?;
+        Ok(Self { $($field),* })
+    }};
+}
+
+/// A callback's call with the places from 0 in brackets before its arguments.
+#[macro_export]
+macro_rules! with_places {
+    ($name:ident $($arguments:tt)*) => {
+        $crate::$name!([
+            0 1 2 3 4 5 6 7 8 9 10 11 12 13 14 15 16 17 18 19 20 21 22 23
+            24 25 26 27 28 29 30 31 32 33 34 35 36 37 38 39 40 41 42 43 44 45 46 47
+        ] $($arguments)*)
+    };
+}
+
+/// The context-specific tag of a number (X.680 25.7, AUTOMATIC TAGS).
+#[macro_export]
+macro_rules! context_tag {
+    ($number:expr) => {
+        $crate::Tag {
+            class: $crate::Class::Context,
+            value: $number,
+        }
+    };
+}
+
+/// Whether a component may be absent.
+#[macro_export]
+macro_rules! presence {
+    (required) => { $crate::Presence::Required };
+}
+
+/// The fields of a list of components at their places, behind those that are done.
+#[macro_export]
+macro_rules! placed_fields {
+    ($places:tt [$($done:tt)*];) => { $crate::Fields { list: &[$($done)*] } };
+    ([$place:literal $($places:tt)*] [$($done:tt)*];
+        $presence:ident $tag:literal $name:literal $field:ident: $type:ty [$($bounds:tt)*]; $($rest:tt)*
+    ) => {
+        $crate::placed_fields!([$($places)*] [
+            $($done)*
+            $crate::Field {
+                index: $place,
+                tag: $crate::context_tag!($tag),
+                tag_tree: $crate::TagTree::Leaf($crate::context_tag!($tag)),
+                presence: $crate::presence!($presence),
+                name: $name,
+            },
+        ]; $($rest)*)
+    };
+}
+
+/// The constraints that a component is given.
+#[macro_export]
+macro_rules! given {
+    ($place:literal) => { None };
+    ($place:literal $($bounds:tt)+) => { Some($crate::Constraints(BOUNDS[$place])) };
+}
+
+/// A cell in front of others.
+#[macro_export]
+macro_rules! cell {
+    (required, $tag:literal, $constraints:expr, $value:expr, $next:expr) => {
+        $crate::cells::Required {
+            tag: $crate::context_tag!($tag),
+            constraints: $constraints,
+            value: $value,
+            next: $next,
+        }
+    };
+}
+
+/// The components of a list at their places, as cells to write.
+#[macro_export]
+macro_rules! cells_to_write {
+    ($places:tt $mode:ident $of:ident) => { $crate::cells::End {} };
+    ([$place:literal $($places:tt)*] $mode:ident $of:ident
+        $presence:ident $tag:literal $name:literal $field:ident: $type:ty [$($bounds:tt)*]; $($rest:tt)*
+    ) => {
+        $crate::stated_to_write!($mode $of $field $crate::cell!(
+            $presence,
+            $tag,
+            $crate::given!($place $($bounds)*),
+            &$of.$field,
+            $crate::cells_to_write!([$($places)*] $mode $of $($rest)*)
+        ))
+    };
+}
+
+/// Cells to write, of which the first is stated.
+#[macro_export]
+macro_rules! stated_to_write {
+    (all $of:ident $field:ident $cells:expr) => { $cells };
+    (each $of:ident $field:ident $cells:expr) => {{
+        let $field = $crate::write::component($of, $cells);
+        $field
+    }};
+}
+
+/// The components of a list at their places, as cells to read.
+#[macro_export]
+macro_rules! cells_to_read {
+    ($places:tt $mode:ident) => { $crate::cells::End {} };
+    ([$place:literal $($places:tt)*] $mode:ident
+        $presence:ident $tag:literal $field:ident: $type:ty [$($bounds:tt)*]; $($rest:tt)*
+    ) => {
+        $crate::stated_to_read!($mode $field $crate::cell!(
+            $presence,
+            $tag,
+            $crate::given!($place $($bounds)*),
+            std::marker::PhantomData::<$type>,
+            $crate::cells_to_read!([$($places)*] $mode $($rest)*)
+        ))
+    };
+}
+
+/// Cells to read, of which the first is stated.
+#[macro_export]
+macro_rules! stated_to_read {
+    (all $field:ident $cells:expr) => { $cells };
+    (each $field:ident $cells:expr) => {{
+        let $field = $crate::read::component::<Self, _>($cells);
+        $field
+    }};
+}
+
+/// The fields of a record as pairs of the first and of those behind it.
+#[macro_export]
+macro_rules! pairs {
+    () => { () };
+    ($first:ident $($rest:ident)*) => { ($first, $crate::pairs!($($rest)*)) };
+}
