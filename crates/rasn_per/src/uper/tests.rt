@@ -13,6 +13,7 @@ use linked_list_allocator::LocalHeap;
 use rasn_codec::codec::{Decoder as _, Encoder as _};
 use rasn_schema::constraints::{Bounded, Constraint, Extensible};
 use rasn_schema::schema::AsnType;
+use rasn_types::octet_strings::OctetString;
 use rasn_types::types::{Identifier, Tag};
 use std::process::Abort;
 use std::test::Fail;
@@ -269,4 +270,21 @@ fn tells_lawful_constraints(rt: HostRuntime) {
             "of {constraints:?}"
         );
     }
+}
+
+// `tools/refuse_memory` runs this test with its first request for memory refused, and it passes there too.
+#[test]
+fn reads_plain_values_without_memory(rt: HostRuntime) -> Result<(), Fail> {
+    assert!(rt; decode::<bool>(rt.alloc(), &[0x80])?);
+    assert!(rt; !decode::<bool>(rt.alloc(), &[0x00])?);
+    decode::<()>(rt.alloc(), &[0x00])?;
+    Ok(())
+}
+
+// And this one, which fails there.
+#[test]
+fn reads_octets_into_memory(rt: HostRuntime) -> Result<(), Fail> {
+    let octets: OctetString = decode(rt.alloc(), &[0x01, 0xaa])?;
+    assert_eq!(rt; octets.as_bytes(), &[0xaa][..]);
+    Ok(())
 }
