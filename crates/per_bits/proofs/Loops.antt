@@ -1,11 +1,11 @@
 -- What one turn of each loop keeps.
-use Rattle.std.proofs.Common.{◌≡◌, refl, sym, ap, ap₂, ◌∙◌, subst, ℕ, ◌+◌, ◌-◌, ◌*◌, ◌/◌, ◌%◌, ◌^◌, ◌<◌, ◌≤◌, false, List, [], ◌++◌, length, take, drop, replicate, arith, mod-eq_of_lt, append_assoc, append-nil, length-append, length-drop, bit_or}
-use Rattle.std.proofs.lemmas.List.{take_at, length-replicate}
+use Rattle.std.proofs.Common.{◌≡◌, sym, ap, ap₂, ◌∙◌, subst, ℕ, ◌+◌, ◌-◌, ◌*◌, ◌/◌, ◌%◌, ◌^◌, ◌<◌, ◌≤◌, false, List, ◌++◌, length, take, drop, replicate, arith, mod-eq_of_lt, append_assoc, append-nil, length-append, length-drop, bit_or}
+use Rattle.std.proofs.lemmas.List.{length-replicate}
 use Rattle.std.proofs.lemmas.Slice.{between_to_end}
 use Rattle.std.proofs.Math.Pow.{mod-mod-pow}
 use Rattle.std.specs.List.{between}
 use Rattle.rasn_types.specs.Bits.{Bits, to_bits, number_of, unpack}
-use Rattle.rasn_types.proofs.Bits.{length-unpack, number-to_bits, to_bits-number, to_bits-same, to_bits-split}
+use Rattle.rasn_types.proofs.Bits.{length-unpack, number-to_bits, to_bits-same, to_bits-split}
 use Rattle.per_bits.specs.Octets.{filled, AreFilledBy, ArePadded, AreWithin}
 use Rattle.per_bits.proofs.Joins.{behind, put_behind}
 use Rattle.per_bits.proofs.Readers.{split_at, from_place, filled_by, filled_length, spare_there}
@@ -49,9 +49,6 @@ low_bits k value v h e = to_bits-same k v value (ap (λ (n : ℕ). n % 2 ^ k) e 
 
 pub part_written : (k left value v : ℕ) → k ≤ left → k ≤ 56 → v ≡ value / 2 ^ (left - k) % 2 ^ 56 → to_bits k v ++ to_bits (left - k) value ≡ to_bits left value
 part_written k left value v h l e = ap (λ bs. bs ++ to_bits (left - k) value) (low_bits k (value / 2 ^ (left - k)) v l e) ∙ sym (to_bits-split k (left - k) value) ∙ ap (λ (n : ℕ). to_bits n value) (omega arith)
-
-pub front_written : (k n v : ℕ) (front : Bits) → k ≤ 56 → length front ≡ k → n ≡ number_of (take k front) → v ≡ n % 2 ^ 56 → to_bits k v ≡ front
-front_written k n v front h l i e = low_bits k n v h e ∙ ap₂ to_bits (sym l) (i ∙ ap number_of (ap (λ (m : ℕ). take m front) (sym l) ∙ (ap (λ bs. take (length front) bs) (sym (append-nil front)) ∙ take_at front [] (length front) refl))) ∙ to_bits-number front
 
 -- how long octets are behind which bits were put
 pub filled_more : (spare unused : ℕ) (os qs : List ℕ) (bs : Bits) → ArePadded spare os → AreFilledBy (filled spare os ++ bs) unused qs → 8 * length qs + spare ≡ 8 * length os + length bs + unused

@@ -1,10 +1,11 @@
 -- The bits that a reader has left, and the bits that octets are filled with.
-use Rattle.std.proofs.Common.{append_assoc, ◌≡◌, sym, ap, ap₂, ◌∙◌, ℕ, ◌+◌, ◌-◌, ◌*◌, ◌/◌, ◌%◌, ◌≤◌, false, IsTrue, nat_eq, eqb-true, eq-eqb, List, [], ◌++◌, length, take, drop, replicate, arith, length-append, length-take, length-drop}
+use Rattle.std.proofs.Common.{◌≡◌, refl, sym, ap, ap₂, ◌∙◌, ℕ, ◌+◌, ◌-◌, ◌*◌, ◌/◌, ◌%◌, ◌≤◌, false, IsTrue, nat_eq, eqb-true, eq-eqb, List, [], ◌++◌, length, take, drop, replicate, arith, length-append, length-take, length-drop}
+use Rattle.std.specs.Prelude.{Result, Ok, Err, IsOk, OnErr}
 use Rattle.std.proofs.lemmas.List.{append-nil, take-take, drop-take, drop-drop, take-append-drop, nil_from_length, take_all, take_at, length-replicate}
 use Rattle.std.proofs.lemmas.Slice.{between_to_end}
 use Rattle.std.specs.List.{between}
 use Rattle.rasn_types.specs.Bits.{Bits, unpack}
-use Rattle.rasn_types.proofs.Bits.{length-unpack, unpack-append}
+use Rattle.rasn_types.proofs.Bits.{length-unpack}
 use Rattle.rasn_types.proofs.Packing.{unpack-take}
 use Rattle.per_bits.specs.Octets.{filled, AreFilledBy, ArePadded, AreWithin}
 use Rattle.per_bits.proofs.Words.{unpack-drop}
@@ -74,11 +75,6 @@ aligned s n os qs now z h e q = (
     l : length qs ≡ n / 8
     l = ap length same ∙ length-take (n / 8) os ∙ omega arith
 
--- the octets ms, which are the front of the bits `old`, moved behind the octets os
-pub octets_moved : (os qs ms : List ℕ) (old front new : Bits) → qs ≡ os ++ ms → unpack ms ≡ take (8 * length ms) old → old ≡ front ++ new → length front ≡ 8 * length ms → unpack qs ++ new ≡ unpack os ++ old
-octets_moved os qs ms old front new e w f l = ap (λ ps. unpack ps ++ new) e ∙ ap (λ bs. bs ++ new) (unpack-append os ms ∙ ap (λ bs. unpack os ++ bs) (w ∙ ap (λ bs. take (8 * length ms) bs) f ∙ take_at front new (8 * length ms) l))
-    ∙ append_assoc (unpack os) front new ∙ ap (λ bs. unpack os ++ bs) (sym f)
-
 -- where no bit is spare
 pub padded_full : (spare : ℕ) (os : List ℕ) → spare ≡ 0 → ArePadded spare os
 padded_full spare os z = padded_by {bs = unpack os} (record { few = omega arith; zeros = sym (append-nil (unpack os)) ∙ ap (λ (n : ℕ). unpack os ++ replicate n false) (sym z) })
@@ -88,3 +84,8 @@ filled_full spare os z = ap (λ (n : ℕ). filled n os) z ∙ filled_all os
 
 pub moved_length : (os qs : List ℕ) (left reader : Bits) → unpack qs ++ left ≡ unpack os ++ reader → 8 * length qs + length left ≡ 8 * length os + length reader
 moved_length os qs left reader e = let l : length (unpack qs ++ left) ≡ length (unpack os ++ reader) = ap length e in omega (arith, length-append (unpack qs) left, length-append (unpack os) reader, length-unpack os, length-unpack qs)
+
+-- a call is Ok where the reason to refuse isn't there
+pub ok_unless : {A E P : Type 0} (r : Result A E) → OnErr r P → ¬ P → IsOk r
+ok_unless (Ok x) h n = refl
+ok_unless (Err e) h n = absurd (n h)

@@ -6,7 +6,7 @@
 
 ghost use Rattle.std.specs.Prelude.{◌≡◌, ◌+◌, ◌*◌, ◌%◌, ◌^◌, ◌<◌, ◌≤◌, ◌++◌, length, take, drop, vec_len, vec_capacity};
 ghost use Rattle.rasn_types.specs.Bits.{to_bits, number_of, unpack};
-ghost use Rattle.per_bits.specs.Octets.{word_size, first_word, filled, AreFilledBy, ArePadded, AreWithin};
+ghost use Rattle.per_bits.specs.Octets.{word_size, first_word, filled, AreFilledBy, ArePadded, AreWithin, IsShifted};
 
 use rasn_types::bit_string::note_octets;
 use std::alloc::Allocator;
@@ -127,7 +127,8 @@ pub(crate) fn fill_last_octet<A: Allocator>(
     requires spare { spare < 8 }
     requires there { 0 < length octets.old.items }
     requires few { width ≤ spare }
-    ensures { AreFilledBy (filled spare octets.old.items ++ to_bits width value) result octets.new.items }
+    ensures bits { AreFilledBy (filled spare octets.old.items ++ to_bits width value) result octets.new.items }
+    ensures room { vec_capacity octets.old ≤ vec_capacity octets.new }
 {
     note_octets(octets.as_slice());
     let place = octets.len() - 1;
@@ -157,4 +158,37 @@ pub(crate) fn append_wide_field<A: Allocator>(
         unused = append_field(octets, unused, low_field(value >> left), count);
     }
     unused
+}
+
+/// Appends `count` octets of the bits of others, from the bit behind the first `skip` on.
+pub(crate) fn append_octets_behind<A: Allocator>(
+    octets: &mut Vec<u8, A>,
+    from: &[u8],
+    skip: u32,
+    count: usize,
+)
+    requires within { AreWithin skip (8 * count) from.now }
+    requires room { vec_len octets.old + count ≤ vec_capacity octets.old }
+    ensures bits { unpack octets.new.items ≡ unpack octets.old.items ++ take (8 * count) (drop skip (unpack from.now)) }
+    ensures room { vec_capacity octets.old ≤ vec_capacity octets.new }
+{
+    let start = octets.len();
+    octets.extend_from_slice(&from[..count]).unwrap();
+    if skip > 0 {
+        shift_octets(octets, start, from, skip);
+    }
+}
+
+/// Fills the octets from `start` on with the bits of others, from the bit behind the first `skip` on.
+fn shift_octets<A: Allocator>(octets: &mut Vec<u8, A>, start: usize, from: &[u8], skip: u32)
+    requires start { start ≤ length octets.old.items }
+    requires few { skip < 8 }
+    requires enough { length octets.old.items < start + length from.now }
+    ensures bits { IsShifted start skip octets.old.items from.now octets.new.items }
+    ensures room { vec_capacity octets.old ≤ vec_capacity octets.new }
+{
+    for index in 0..octets.len() - start {
+        let pair = u32::from(from[index]) << 8 | u32::from(from[index + 1]);
+        octets[start + index] = ((pair >> (8 - skip)) % 256) as u8;
+    }
 }

@@ -10,8 +10,8 @@ ghost use Rattle.rasn_types.specs.Packed.{packed};
 ghost use Rattle.per_bits.specs.Octets.{filled, AreFilledBy, ArePadded};
 
 use crate::fields::{
-    FIELD_BITS, append_field, append_wide_field, fill_last_octet, low_field, read_field,
-    read_wide_field,
+    FIELD_BITS, append_field, append_octets_behind, append_wide_field, fill_last_octet, low_field,
+    read_field, read_wide_field,
 };
 use rasn_types::bit_string::note_octets;
 use std::alloc::{AllocError, Allocator};
@@ -270,11 +270,10 @@ impl<'input> BitReader<'input> {
     pub fn aligned_octets(&self) -> Option<&'input [u8]>
         ensures { IfSome result (λ octets. unpack octets.now ≡ self.now) }
     {
-        let octets = self.front_octets()?;
-        if self.len % 8 > 0 {
+        if self.skip > 0 || self.len % 8 > 0 {
             return None;
         }
-        Some(octets)
+        Some(&self.octets[..(self.len / 8) as usize])
     }
 
     /// Appends the bits that are left to octets: the fewest octets, the first bit highest, and zero bits behind the
@@ -289,16 +288,27 @@ impl<'input> BitReader<'input> {
         Ok(())
     }
 
-    /// The octets of the bits that are left, but for the last bits, fewer than eight; `None` where the first bit does
-    /// not begin an octet of what is read.
-    fn front_octets(&self) -> Option<&'input [u8]>
-        ensures octets { IfSome result (λ octets. unpack octets.now ≡ take (8 * length octets.now) self.now) }
-        ensures count { IfSome result (λ octets. length octets.now ≡ length self.now / 8) }
+    /// The number that the first `width` bits mean, which are then no longer left.
+    fn take_field(&mut self, width: u32) -> u64
+        requires few { width ≤ FIELD_BITS }
+        requires left { width ≤ length self.old }
+        ensures { self.old ≡ to_bits width result ++ self.new }
     {
-        if self.skip > 0 {
-            return None;
-        }
-        Some(&self.octets[..(self.len / 8) as usize])
+        let number = read_field(self.octets, self.skip, width);
+        self.take(u128::from(width)).unwrap();
+        number
+    }
+
+    /// Appends the octets that the bits fill, which are then no longer left.
+    fn move_octets<A: Allocator>(&mut self, octets: &mut Vec<u8, A>)
+        requires room { 8 * vec_len octets.old + length self.old ≤ 8 * vec_capacity octets.old }
+        ensures bits { unpack octets.new.items ++ self.new ≡ unpack octets.old.items ++ self.old }
+        ensures few { length self.new < 8 }
+        ensures room { vec_capacity octets.old ≤ vec_capacity octets.new }
+    {
+        let count = (self.len / 8) as usize;
+        append_octets_behind(octets, self.octets, self.skip, count);
+        self.take(8 * count as u128).unwrap();
     }
 
     /// How many octets of room `append_reader` wants for the bits that are left: what they fill, one that they begin,
@@ -331,30 +341,29 @@ fn append_reader<A: Allocator>(octets: &mut Vec<u8, A>, spare: u32, reader: BitR
     requires room { 8 * vec_len octets.old + length reader + 72 ≤ 8 * vec_capacity octets.old }
     ensures { AreFilledBy (filled spare octets.old.items ++ reader.entry) result octets.new.items }
 {
+    if spare == 0 {
+        return append_from_octet(octets, reader);
+    }
     let mut left = reader;
-    let mut unused = spare;
-    if unused == 0 {
-        append_front_octets(octets, &mut left);
+    let width = left.len().min(u128::from(spare)) as u32;
+    let number = left.take_field(width);
+    let unused = fill_last_octet(octets, spare, number, width);
+    if unused > 0 {
+        return unused;
     }
-    while !left.is_empty() {
-        let width = left.len().min(u128::from(FIELD_BITS));
-        let front = left.take(width).unwrap();
-        let number = front.first_bits(width);
-        unused = append_field(octets, unused, low_field(number), width as u32);
-    }
-    unused
+    append_from_octet(octets, left)
 }
 
-/// Appends the octets that a reader's bits fill, which are then no longer left there, where the first bit begins an octet.
-fn append_front_octets<A: Allocator>(octets: &mut Vec<u8, A>, reader: &mut BitReader<'_>)
-    requires room { 8 * vec_len octets.old + length reader.old ≤ 8 * vec_capacity octets.old }
-    ensures bits { unpack octets.new.items ++ reader.new ≡ unpack octets.old.items ++ reader.old }
-    ensures room { vec_capacity octets.old ≤ vec_capacity octets.new }
+/// Appends all bits of a reader to octets of which no bit is spare, and answers how many are spare then.
+fn append_from_octet<A: Allocator>(octets: &mut Vec<u8, A>, reader: BitReader<'_>) -> u32
+    requires { 8 * vec_len octets.old + length reader + 64 ≤ 8 * vec_capacity octets.old }
+    ensures { AreFilledBy (unpack octets.old.items ++ reader.entry) result octets.new.items }
 {
-    if let Some(front) = reader.front_octets() {
-        octets.extend_from_slice(front).unwrap();
-        reader.take(8 * front.len() as u128).unwrap();
-    }
+    let mut left = reader;
+    left.move_octets(octets);
+    let width = left.len() as u32;
+    let number = left.take_field(width);
+    append_field(octets, 0, number, width)
 }
 
 #[cfg(test)]

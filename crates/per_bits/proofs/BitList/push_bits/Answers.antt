@@ -20,8 +20,8 @@ returns-in_ok-reserve-2-clause-ok g c = filled_by c.append_wide_field-self-insid
     ∙ ap (λ bs. bs ++ to_bits c.args.width c.args.value) (ap (λ os. filled c.self.inside.spare os) c.reserve-else-width-from-2.ensures.items ∙ c.self.view_is)
 
 pub invariant_of-self : goal.invariant_of-self
-invariant_of-self g c = padded_by c.fill_last_octet-self-inside.ensures
+invariant_of-self g c = padded_by c.fill_last_octet-self-inside.ensures.bits
 
 pub returns-then-width-from-clause-ok : goal.returns-then-width-from-clause-ok
-returns-then-width-from-clause-ok g c = filled_by c.fill_last_octet-self-inside.ensures
+returns-then-width-from-clause-ok g c = filled_by c.fill_last_octet-self-inside.ensures.bits
     ∙ ap₂ (λ bs cs. bs ++ cs) c.self.view_is (low_bits c.args.width c.args.value c.low_field.result (omega arith) c.low_field.ensures)

@@ -1,0 +1,12 @@
+use Rattle.std.proofs.Common.{◌≡◌, ◌∙◌, ◌*◌, ◌++◌, ℕ, sym, ap, drop, take, arith}
+use Rattle.rasn_types.specs.Bits.{unpack}
+use Rattle.rasn_types.proofs.Bits.{unpack-append}
+use Rattle.rasn_types.proofs.Packing.{unpack-take}
+use Rattle.per_bits.proofs.fields.append_octets_behind.Goals as goal
+
+pub returns-else-skip-gt0-clause-bits : goal.returns-else-skip-gt0-clause-bits
+returns-else-skip-gt0-clause-bits g c =
+    let from = c.args.from.now in
+    let none : c.args.skip ≡ 0 = omega arith in
+    ap unpack (rw c.unwrap.ensures at c.extend_from_slice.ensures.items) ∙ unpack-append c.args.octets.now.items (take c.args.count from)
+    ∙ ap (λ bs. unpack c.args.octets.now.items ++ bs) (sym (unpack-take c.args.count from) ∙ ap (λ (n : ℕ). take (8 * c.args.count) (drop n (unpack from))) (sym none))
