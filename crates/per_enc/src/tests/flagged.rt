@@ -42,13 +42,18 @@ impl AsnType for Flagged {
 
     ghost CONSTRAINTS = { no_constraints };
 
-    ghost schema = { λ _. record_at listed (λ n. part (leaf (record { class = 2; number = 0 })) required Schema.boolean (part (leaf (record { class = 2; number = 1 })) required (number_schema (within (between (pos 0) (pos 256))) i128_range) no_parts)) false no_additions };
+    ghost schema = { λ _. record_at listed (λ n.
+        part (leaf (record { class = 2; number = 0 })) required Schema.boolean
+        (part (leaf (record { class = 2; number = 1 })) required
+        (number_schema (within (between (pos 0) (pos 256))) i128_range) no_parts)) false no_additions };
 
     ghost value = { λ x. record_value (Some (truth x.flag) ∷ Some (whole x.number) ∷ []) [] };
 
     ghost levels = { λ _. 1 };
 
-    ghost unfolds = { λ _. record_unfolds (part_unfolds (simple_unfolds Schema.boolean tt) (part_unfolds (simple_unfolds (number_schema (within (between (pos 0) (pos 256))) i128_range) tt) parts_unfold)) parts_unfold };
+    ghost unfolds = { λ _. record_unfolds (part_unfolds (simple_unfolds Schema.boolean tt)
+        (part_unfolds (simple_unfolds (number_schema (within (between (pos 0) (pos 256))) i128_range) tt)
+        parts_unfold)) parts_unfold };
 }
 
 /// The tags of the components (AUTOMATIC TAGS).
@@ -82,9 +87,15 @@ const FIELDS: &[Field] = &[
 impl Constructed for Flagged {
     const FIELDS: Fields = Fields { list: FIELDS };
 
-    ghost FIELDS = { shapes_from 0 (part (leaf (record { class = 2; number = 0 })) required Schema.boolean (part (leaf (record { class = 2; number = 1 })) required (number_schema (within (between (pos 0) (pos 256))) i128_range) no_parts)) };
+    ghost FIELDS = { shapes_from 0 (
+        part (leaf (record { class = 2; number = 0 })) required Schema.boolean
+        (part (leaf (record { class = 2; number = 1 })) required
+        (number_schema (within (between (pos 0) (pos 256))) i128_range) no_parts)) };
 
-    ghost parts = { λ n. part (leaf (record { class = 2; number = 0 })) required Schema.boolean (part (leaf (record { class = 2; number = 1 })) required (number_schema (within (between (pos 0) (pos 256))) i128_range) no_parts) };
+    ghost parts = { λ n.
+        part (leaf (record { class = 2; number = 0 })) required Schema.boolean
+        (part (leaf (record { class = 2; number = 1 })) required
+        (number_schema (within (between (pos 0) (pos 256))) i128_range) no_parts) };
 
     ghost contents = { λ x. Some (truth x.flag) ∷ Some (whole x.number) ∷ [] };
 
