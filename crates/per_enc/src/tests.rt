@@ -115,21 +115,22 @@ fn expect_number(
     Ok(())
 }
 
+const NUMBERS: &[(&[Constraint], i128, &[u8])] = &[
+    (NO_CONSTRAINT, 4096, &[0x02, 0x10, 0x00]),
+    (NO_CONSTRAINT, 128, &[0x02, 0x00, 0x80]),
+    (NO_CONSTRAINT, -129, &[0x02, 0xff, 0x7f]),
+    (NO_CONSTRAINT, 5, &[0x01, 0x05]),
+    (UP_TO_65535, -128, &[0x01, 0x80]),
+    (FROM_MINUS_1, 4096, &[0x02, 0x10, 0x01]),
+    (FROM_1_TO_10_MARKED, 5, &[0x20]),
+    (FROM_1_TO_10_MARKED, 16, &[0x80, 0x88, 0x00]),
+    (JUST_7, 7, &[0x00]),
+];
+
 #[test]
 fn writes_numbers(rt: HostRuntime) -> Result<(), Fail> {
-    let rows: [(&'static [Constraint], i128, &[u8]); 9] = [
-        (NO_CONSTRAINT, 4096, &[0x02, 0x10, 0x00]),
-        (NO_CONSTRAINT, 128, &[0x02, 0x00, 0x80]),
-        (NO_CONSTRAINT, -129, &[0x02, 0xff, 0x7f]),
-        (NO_CONSTRAINT, 5, &[0x01, 0x05]),
-        (UP_TO_65535, -128, &[0x01, 0x80]),
-        (FROM_MINUS_1, 4096, &[0x02, 0x10, 0x01]),
-        (FROM_1_TO_10_MARKED, 5, &[0x20]),
-        (FROM_1_TO_10_MARKED, 16, &[0x80, 0x88, 0x00]),
-        (JUST_7, 7, &[0x00]),
-    ];
-    for (constraints, number, octets) in rows {
-        expect_number(&rt, unaligned(rt.alloc()), constraints, number, octets)?;
+    for (constraints, number, octets) in NUMBERS {
+        expect_number(&rt, unaligned(rt.alloc()), constraints, *number, octets)?;
     }
     Ok(())
 }
@@ -207,6 +208,16 @@ fn refuses_numbers_out_of_bounds(rt: HostRuntime) -> Result<(), Fail> {
     Ok(())
 }
 
+fn put_octets(
+    encoder: &mut Encoder<Global>,
+    constraints: &'static [Constraint],
+    value: &[u8],
+) -> Result<(), Fail> {
+    let constraints = Constraints::new(constraints);
+    encoder.encode_octet_string(Tag::OCTET_STRING, &constraints, value, Identifier::EMPTY)?;
+    Ok(())
+}
+
 /// These octets, for a truth value and octets.
 fn expect_behind_a_bit(
     rt: &impl Abort,
@@ -214,9 +225,8 @@ fn expect_behind_a_bit(
     value: &[u8],
     octets: &[u8],
 ) -> Result<(), Fail> {
-    let none = Constraints::NONE;
     put_bool(&mut encoder, true)?;
-    encoder.encode_octet_string(Tag::OCTET_STRING, &none, value, Identifier::EMPTY)?;
+    put_octets(&mut encoder, NO_CONSTRAINT, value)?;
     expect_output(rt, &mut encoder, octets)
 }
 
@@ -261,9 +271,8 @@ fn expect_lengths(
 ) -> Result<(), Fail> {
     let zeros = zeros_between(alloc, count, &[])?;
     let expected = zeros_between(alloc, total, lengths)?;
-    let none = Constraints::NONE;
     let mut encoder = unaligned(alloc);
-    encoder.encode_octet_string(Tag::OCTET_STRING, &none, &zeros, Identifier::EMPTY)?;
+    put_octets(&mut encoder, NO_CONSTRAINT, &zeros)?;
     let octets = encoder.output()?;
     assert!(rt; octets.as_slice() == expected.as_slice(), "{count} octets");
     Ok(())

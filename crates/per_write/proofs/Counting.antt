@@ -58,7 +58,7 @@ fragment_written writers x y z start end n e h d r w =
     (λ p. fragments_of_many a (drop start all) (end - start) many m p ∙ ap (λ (ws : List Writer). (one_fragment a (slice_range all start end) ▹ in_fragments a (fragment_sizes (length ws)) ws) p) behind)
     (subst (λ (c : Codec). Wrote y (one_fragment (variant_of c) (slice_range (writers (variant_of c)) start end)) z) r.same w)
 
--- the last one_fragment
+-- the last fragment
 pub last_written : (writers : Variant → List Writer) (kind : Counted) (x y z : State) (start n : ℕ) →
     let all = writers (variant_of x.codec) in
     n ≡ length all → n < 2 ^ 64 → start ≤ n → n - start < 16384 →
@@ -69,11 +69,11 @@ last_written writers kind x y z start n e l h d r w =
     let a = variant_of x.codec in
     let all = writers a in
     let left : length (drop start all) ≡ n - start = length-drop start all ∙ omega arith in
-    let whole : slice_range all start n ≡ drop start all = take_all (n - start) (drop start all) (omega arith) in
+    let all_of_it : slice_range all start n ≡ drop start all = take_all (n - start) (drop start all) (omega arith) in
     let few : length (drop start all) < 16384 = omega arith in
     wrote_same x z _ _ (in_their_fragments a kind all (omega arith))
     (remains_last x y z _ _ (one_fragment a (slice_range all start n)) r
-    (λ p. fragments_of_few a (drop start all) few p ∙ ap (λ (ws : List Writer). one_fragment a ws p) (sym whole))
+    (λ p. fragments_of_few a (drop start all) few p ∙ ap (λ (ws : List Writer). one_fragment a ws p) (sym all_of_it))
     (subst (λ (c : Codec). Wrote y (one_fragment (variant_of c) (slice_range (writers (variant_of c)) start n)) z) r.same w))
 
 -- a count that a size allows is within its bounds
@@ -99,7 +99,7 @@ pub wrote_bounded : (writers : Variant → List Writer) (kind : Counted) (x m y 
 wrote_bounded writers kind x m y least most l u n on_octet f g e b h o v w =
     let a = variant_of x.codec in
     let all = writers a in
-    let whole : slice_range all 0 n ≡ all = take_all (n - 0) all (omega arith) in
+    let all_of_it : slice_range all 0 n ≡ all = take_all (n - 0) all (omega arith) in
     wrote_same x y ((constrained_whole a (u - l + 1) (n - l) ▹ padding_if on_octet a) ▹ one_by_one all) (counted_in a (record { least = least; most = most }) kind all)
     (λ p. sym (then_assoc (constrained_whole a (u - l + 1) (n - l)) (padding_if on_octet a) (one_by_one all) p)
     ∙ ap (λ (t : Bool). (constrained_whole a (u - l + 1) (n - l) ▹ padding_if t a ▹ one_by_one all) p) o
@@ -109,7 +109,7 @@ wrote_bounded writers kind x m y least most l u n on_octet f g e b h o v w =
     ∙ ap (λ (q : Option ℕ). counted_under a q most kind (length all) all p) (sym f)
     ∙ ap (λ (t : Bool). written_if t (counted_under a least most kind (length all) all) p) (sym h))
     (wrote_then x m y _ _ v
-    (subst (λ (ws : List Writer). Wrote m (one_by_one ws) y) whole (subst (λ (c : Codec). Wrote m (one_by_one (slice_range (writers (variant_of c)) 0 n)) y) v.same w)))
+    (subst (λ (ws : List Writer). Wrote m (one_by_one ws) y) all_of_it (subst (λ (c : Codec). Wrote m (one_by_one (slice_range (writers (variant_of c)) 0 n)) y) v.same w)))
 
 -- whether padding stands in front of items
 pub pads_some : (n : ℕ) (o t : Bool) → 0 < n → o ≡ t → o ≡ (ltb 0 n && t)

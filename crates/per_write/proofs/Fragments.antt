@@ -18,7 +18,7 @@ unless_zero-some : (m : ℕ) → 0 < m → unless_zero m ≡ m ∷ []
 unless_zero-some zero h = absurd (omega arith)
 unless_zero-some (suc m) h = refl
 
--- the fragment_sizes of few items are one one_fragment
+-- few items are one fragment, by their sizes
 pub fragment_sizes-few : (n : ℕ) → n < 16384 → fragment_sizes n ≡ n ∷ []
 fragment_sizes-few n h =
     let e : n / 65536 ≡ 0 = omega (arith, h) in
@@ -59,7 +59,7 @@ pub length-octet_writers : (os : List ℕ) → length (octet_writers os) ≡ len
 length-octet_writers [] = refl
 length-octet_writers (o ∷ os) = ap suc (length-octet_writers os)
 
--- octets in a one_fragment are their bits
+-- octets in one fragment are their bits
 pub octets_one_by_one : (os : List ℕ) → ((k : ℕ) → get_or os k 0 < 256) → (p : ℕ) → one_by_one (octet_writers os) p ≡ Some (unpack os)
 octets_one_by_one [] h p = refl
 octets_one_by_one (o ∷ os) h p =
@@ -83,7 +83,7 @@ fragments_of_many a ws m h e p =
     ∙ then_assoc (padding a) (just (determinant (length (take m ws)))) (one_by_one (take m ws) ▹ rest) p
     ∙ then_assoc (padding a ▹ just (determinant (length (take m ws)))) (one_by_one (take m ws)) rest p
 
--- few items are one one_fragment
+-- few items are one fragment
 pub fragments_of_few : (a : Variant) (ws : List Writer) → length ws < 16384 → (p : ℕ) → in_fragments a (fragment_sizes (length ws)) ws p ≡ one_fragment a ws p
 fragments_of_few a ws h p =
     ap (λ (ms : List ℕ). in_fragments a ms ws p) (fragment_sizes-few (length ws) h)

@@ -1,6 +1,6 @@
 //! Strings in octets, bits and characters.
 
-use super::{aligned, expect_output, put_bool, refusal, unaligned};
+use super::{aligned, expect_output, put_bool, put_octets, refusal, unaligned};
 use crate::{EncodeError, EncodeErrorKind, Encoder};
 use rasn_codec::codec::Encoder as _;
 use rasn_schema::constraints::{Bounded, Constraint, Constraints, Extensible};
@@ -75,8 +75,7 @@ fn expect_octets(
     value: &[u8],
     octets: &[u8],
 ) -> Result<(), Fail> {
-    let constraints = Constraints::new(constraints);
-    encoder.encode_octet_string(Tag::OCTET_STRING, &constraints, value, Identifier::EMPTY)?;
+    put_octets(&mut encoder, constraints, value)?;
     expect_output(rt, &mut encoder, octets)
 }
 
@@ -105,9 +104,8 @@ fn expect_between(
     octets: &[u8],
 ) -> Result<(), Fail> {
     let mut encoder = aligned(alloc);
-    let constraints = Constraints::new(constraints);
     put_bool(&mut encoder, true)?;
-    encoder.encode_octet_string(Tag::OCTET_STRING, &constraints, value, Identifier::EMPTY)?;
+    put_octets(&mut encoder, constraints, value)?;
     put_bool(&mut encoder, true)?;
     expect_output(rt, &mut encoder, octets)
 }
