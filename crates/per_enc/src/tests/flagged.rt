@@ -4,8 +4,10 @@ ghost use Rattle.std.specs.Prelude.{refl, [], ◌∷◌, Some};
 ghost use Rattle.rasn_types.specs.Values.{truth, whole};
 ghost use Rattle.rasn_schema.specs.Components.{automatic, boolean, fields_of, i128, integer, ◌to◌};
 
-use rasn_record::{Components, Constraint, Decoder, Encoder, Fields, Record};
-use rasn_record::{bounds, decode_components, encode_components, fields};
+use rasn_record::{
+    Components, Constraint, Decoder, Encoder, Fields, Record, bounds, decode_components,
+    encode_components, fields,
+};
 
 /// SEQUENCE { flag BOOLEAN, number INTEGER (0..256) }
 #[derive(Clone, Copy)]
