@@ -10,7 +10,7 @@ ghost use Rattle.per_core.specs.Counts.{constrained_whole, counted_octets, numbe
 ghost use Rattle.rasn_constraints.specs.Bounds.{above, not_above};
 ghost use Rattle.per_write.specs.State.{Appends};
 
-use crate::lengths::{push_unconstrained_length, push_padding};
+use crate::lengths::{push_padding, push_unconstrained_length};
 use per_bits::BitList;
 use rasn_types::types::Codec;
 use rasn_types::width::{width_of, width_to};

@@ -85,7 +85,12 @@ impl<A: Allocator + Clone> Writer<A> {
     }
 
     /// Writes the items from an index on and before another, behind one length.
-    fn put_fragment<I: Items>(&mut self, items: &I, start: usize, end: usize) -> Result<(), EncodeError>
+    fn put_fragment<I: Items>(
+        &mut self,
+        items: &I,
+        start: usize,
+        end: usize,
+    ) -> Result<(), EncodeError>
         requires begun { self.old.failed ≡ false }
         requires ordered { start ≤ end }
         requires within { (a : Variant) → end ≤ length ((I.counted items.now).writers a) }
@@ -118,7 +123,14 @@ impl<A: Allocator + Clone> Writer<A> {
         requires upper { count ≤ upper }
         ensures { PutsIn IsMemory (λ a. constrained_length a lower upper count on_octet) self.old result self.new }
     {
-        let pushed = push_constrained_length(&mut self.bits, self.codec, lower, upper, count, on_octet);
+        let pushed = push_constrained_length(
+            &mut self.bits,
+            self.codec,
+            lower,
+            upper,
+            count,
+            on_octet,
+        );
         self.unless_out_of_memory(pushed)
     }
 }

@@ -36,7 +36,7 @@ pub fn encode<T: Encode, A: Allocator + Clone>(
         HasNoBytes unaligned (T.schema T.CONSTRAINTS) (T.levels value.now) (T.value value.now)) }
     ensures kind { IfErr result (λ e. e.kind ≢ no_room_to_write →
         AtDepths (T.schema T.CONSTRAINTS) (T.levels value.now) (λ s.
-            IsInValue e.kind s (normal s (T.value value.now)))) }
+        IsInValue e.kind s (normal s (T.value value.now)))) }
     ensures variant { IfErr result (λ e. e.codec ≡ Uper) }
 {
     let mut encoder = Encoder::new(alloc, EncoderOptions::unaligned());
