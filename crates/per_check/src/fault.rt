@@ -71,8 +71,8 @@ impl Fault {
         }
     }
 
-    /// Says the fault on a line of `faults`. Answers the status that the program ends with, also where that line can't be
-    /// written.
+    /// Says the fault on a line of `faults`. Answers the status that the program ends with, also where that line can't
+    /// be written.
     pub fn report<F: Write>(self, faults: &mut F) -> u8
         ensures { result ≡ status_of self }
     {

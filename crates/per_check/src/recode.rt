@@ -21,8 +21,10 @@ use std::alloc::Global;
 /// The canonical octets of the value that octets spell, of the type and in the variant that the arguments name.
 #[tactic(auto, unfolding(rasn_types::specs::Alphabets::interval_of))]
 pub fn recoded(alloc: Global, arguments: Arguments, octets: &[u8]) -> Result<Vec<u8>, Fault>
-    ensures ok { IfOk result (λ canonical. Recodes (rules_of arguments.variant) (schema_of arguments.type_name) octets.now canonical.items) }
-    ensures err { IfErr result (λ f. IsRefusal (rules_of arguments.variant) (schema_of arguments.type_name) octets.now f) }
+    ensures ok { IfOk result (λ canonical.
+        Recodes (rules_of arguments.variant) (schema_of arguments.type_name) octets.now canonical.items) }
+    ensures err { IfErr result (λ f.
+        IsRefusal (rules_of arguments.variant) (schema_of arguments.type_name) octets.now f) }
 {
     match arguments.variant {
         Variant::Uper => match arguments.type_name {
@@ -47,8 +49,10 @@ pub fn recoded(alloc: Global, arguments: Arguments, octets: &[u8]) -> Result<Vec
 
 /// The canonical octets of the value of a type that octets spell, both in the UNALIGNED variant.
 fn recoded_as<T: Encode + Decode>(alloc: Global, octets: &[u8]) -> Result<Vec<u8>, Fault>
-    ensures ok { IfOk result (λ canonical. Recodes unaligned (T.schema T.CONSTRAINTS) octets.now canonical.items) }
-    ensures err { IfErr result (λ f. IsRefusal unaligned (T.schema T.CONSTRAINTS) octets.now f) }
+    ensures ok { IfOk result (λ canonical.
+        Recodes unaligned (T.schema T.CONSTRAINTS) octets.now canonical.items) }
+    ensures err { IfErr result (λ f.
+        IsRefusal unaligned (T.schema T.CONSTRAINTS) octets.now f) }
 {
     let value: T = uper::decode(alloc, octets)?;
     let canonical = uper::encode(alloc, &value)?;

@@ -1,9 +1,10 @@
 //! The work of the program, over any reader and writers.
 
-ghost use Rattle.std.specs.Prelude.{◌≡◌, ◌≢◌, ◌≤◌, ◌⊎◌, IfOk, IfErr, OnOk, OnErr, map, string_bytes};
+ghost use Rattle.std.specs.Prelude.{◌≡◌, ◌≢◌, ◌≤◌, ◌⊎◌, IfOk, IfErr, OnOk, OnErr, string_bytes};
 ghost use Rattle.std.specs.Io.KnownBytes.{Appends, Keeps};
 ghost use Rattle.per_check.specs.Answers.{Answers, HasAnswer, Prints, Stands, AreUnknown};
 ghost use Rattle.per_check.specs.Faults.{status_of};
+ghost use Rattle.per_check.specs.Words.{words};
 ghost use Rattle.per_check.specs.declared.fault.Fault.{Fault as the_fault};
 ghost use Rattle.per_check.specs.declared.fault.Fault.TheVariants.{WrongArguments};
 
@@ -21,9 +22,9 @@ use std::io::{BufRead, Write};
 /// Reads a line of hexadecimal from `input`, and writes the canonical encoding of the value that its octets spell to
 /// `output`, in lower case and with a line feed. `arguments` are the words after the program's name.
 ///
-/// Answers the status that the program ends with: 0, or 1 where the octets are refused or memory ran out, or 2 where the
-/// arguments are wrong, the line is no hexadecimal, or reading or writing fails. A fault is told on a line of `faults`;
-/// that this line can't be written changes nothing.
+/// Answers the status that the program ends with: 0, or 1 where the octets are refused or memory ran out, or 2 where
+/// the arguments are wrong, the line is no hexadecimal, or reading or writing fails. A fault is told on a line of
+/// `faults`; that this line can't be written changes nothing.
 pub fn run<R: BufRead, W: Write, F: Write>(
     alloc: Global,
     arguments: &[String],
@@ -34,15 +35,20 @@ pub fn run<R: BufRead, W: Write, F: Write>(
     ensures status { result ≤ 2 }
 
     // Status 0: the one answer is printed, and nothing is told on `faults`.
-    ensures printed { result ≡ 0 → Prints (map string_bytes arguments.now) (R.remaining input.old) (W.contents output.old) (W.contents output.new) }
+    ensures printed { result ≡ 0 →
+        Prints (words arguments.now) (R.remaining input.old) (W.contents output.old) (W.contents output.new) }
     ensures silent { result ≡ 0 → Keeps (F.contents faults.old) (F.contents faults.new) }
 
     // Another status is that of a fault that stands, and nothing is printed, unless an answer can't be written whole.
-    ensures faulty { result ≢ 0 → (fault : the_fault) × (result ≡ status_of fault) × Stands (map string_bytes arguments.now) (R.remaining input.old) fault }
-    ensures unprinted { result ≢ 0 → Keeps (W.contents output.old) (W.contents output.new) ⊎ HasAnswer (map string_bytes arguments.now) (R.remaining input.old) }
+    ensures faulty { result ≢ 0 →
+        (fault : the_fault) × (result ≡ status_of fault) × Stands (words arguments.now) (R.remaining input.old) fault }
+    ensures unprinted { result ≢ 0 →
+        Keeps (W.contents output.old) (W.contents output.new)
+        ⊎ HasAnswer (words arguments.now) (R.remaining input.old) }
 
     // Wrong arguments are found before anything is read.
-    ensures usage { AreUnknown (map string_bytes arguments.now) → (result ≡ 2) × Keeps (R.remaining input.old) (R.remaining input.new) }
+    ensures usage { AreUnknown (words arguments.now) →
+        (result ≡ 2) × Keeps (R.remaining input.old) (R.remaining input.new) }
 {
     match answered(alloc, arguments, input, output) {
         Ok(()) => 0,
@@ -58,10 +64,14 @@ fn answered<R: BufRead, W: Write>(
     input: &mut R,
     output: &mut W,
 ) -> Result<(), Fault>
-    ensures ok { OnOk result (Prints (map string_bytes arguments.now) (R.remaining input.old) (W.contents output.old) (W.contents output.new)) }
-    ensures err { IfErr result (Stands (map string_bytes arguments.now) (R.remaining input.old)) }
-    ensures unprinted { OnErr result (Keeps (W.contents output.old) (W.contents output.new) ⊎ HasAnswer (map string_bytes arguments.now) (R.remaining input.old)) }
-    ensures usage { AreUnknown (map string_bytes arguments.now) → IfErr result (λ f. f ≡ WrongArguments) × Keeps (R.remaining input.old) (R.remaining input.new) }
+    ensures ok { OnOk result (
+        Prints (words arguments.now) (R.remaining input.old) (W.contents output.old) (W.contents output.new)) }
+    ensures err { IfErr result (Stands (words arguments.now) (R.remaining input.old)) }
+    ensures unprinted { OnErr result (
+        Keeps (W.contents output.old) (W.contents output.new)
+        ⊎ HasAnswer (words arguments.now) (R.remaining input.old)) }
+    ensures usage { AreUnknown (words arguments.now) →
+        IfErr result (λ f. f ≡ WrongArguments) × Keeps (R.remaining input.old) (R.remaining input.new) }
 {
     let text = answer(alloc, arguments, input)?;
     match write(text.as_str(), output) {
@@ -76,9 +86,10 @@ pub fn answer<R: BufRead>(
     arguments: &[String],
     input: &mut R,
 ) -> Result<String, Fault>
-    ensures ok { IfOk result (λ text. Answers (map string_bytes arguments.now) (R.remaining input.old) (string_bytes text)) }
-    ensures err { IfErr result (Stands (map string_bytes arguments.now) (R.remaining input.old)) }
-    ensures usage { AreUnknown (map string_bytes arguments.now) → IfErr result (λ f. f ≡ WrongArguments) × Keeps (R.remaining input.old) (R.remaining input.new) }
+    ensures ok { IfOk result (λ text. Answers (words arguments.now) (R.remaining input.old) (string_bytes text)) }
+    ensures err { IfErr result (Stands (words arguments.now) (R.remaining input.old)) }
+    ensures usage { AreUnknown (words arguments.now) →
+        IfErr result (λ f. f ≡ WrongArguments) × Keeps (R.remaining input.old) (R.remaining input.new) }
 {
     let arguments = Arguments::of_words(arguments).ok_or(Fault::WrongArguments)?;
     let line = read_line(alloc, input).map_err(|error| Fault::of_io(&error, Fault::CannotRead))?;
