@@ -94,6 +94,7 @@ pub fn answer<R: BufRead>(
     let arguments = Arguments::of_words(arguments).ok_or(Fault::WrongArguments)?;
     let line = read_line(alloc, input).map_err(|error| Fault::of_io(&error, Fault::CannotRead))?;
     let octets = hex::decode(alloc, line.as_slice())?;
+    drop(line);
     let canonical = recoded(alloc, arguments, octets.as_slice())?;
     let mut text = hex::encode(alloc, canonical.as_slice())?;
     text.push('\n')?;
