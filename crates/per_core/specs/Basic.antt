@@ -58,7 +58,7 @@ pub record Fragmented {X : Type 0} (a : Settings) (item : X → Spelling) (rest 
   pub all : xs ≡ these ++ others
   pub spelled : Then (AnyPadding a) (Then (Fragment (length these)) (Then (OneByOne item these) (rest others))) p bits
 
--- items in k fragments, of any of the four counts (this project's choice), and a last row
+-- items in k fragments, of any of the four counts (this project's choice), and a last one
 abbrev pub InFragments : {X : Type 0} → Settings → (X → Spelling) → ℕ → List X → Spelling
 InFragments a item zero xs = Then (AnyPadding a) (Then (LastCount (length xs)) (OneByOne item xs))
 InFragments a item (suc k) xs = Fragmented a item (InFragments a item k) xs

@@ -16,21 +16,21 @@ constrained_whole aligned n o = written_if (nat_lt o n)
     else if nat_le n 65536 then padding aligned ▹ just (to_bits 16 o)
     else just (to_bits (width ((width n + 7) / 8)) (octets_of_natural o - 1)) ▹ padding aligned ▹ just (natural_bits o))
 
--- a row of n items, unless it is empty
+-- a fragment of n items, unless it is empty
 abbrev pub unless_zero : ℕ → List ℕ
 unless_zero zero = []
 unless_zero (suc n) = suc n ∷ []
 
--- X.691 11.9.3.8: how many items stand in each row: 65536 as often as it fits, then 49152, 32768 or 16384 where one fits, and
+-- X.691 11.9.3.8: how many items stand in each fragment: 65536 as often as it fits, then 49152, 32768 or 16384 where one fits, and
 -- then the rest below 16384, which is always there
 abbrev pub fragment_sizes : ℕ → List ℕ
 fragment_sizes n = replicate (n / 65536) 65536 ++ (unless_zero (n % 65536 / 16384 * 16384) ++ n % 16384 ∷ [])
 
--- X.691 11.9.3.6 to 11.9.3.8: the length determinant of a row
+-- X.691 11.9.3.6 to 11.9.3.8: the length determinant of a fragment
 unfoldable pub determinant : ℕ → Bits
 determinant m = if nat_lt m 128 then to_bits 8 m else if nat_lt m 16384 then true ∷ false ∷ to_bits 14 m else to_bits 8 (192 + m / 16384)
 
--- X.691 11.9.3.5 to 11.9.3.8: the items in fragment_sizes, each row after padding and its determinant
+-- X.691 11.9.3.5 to 11.9.3.8: the items in fragments, each after padding and its determinant
 abbrev pub in_fragments : Variant → List ℕ → List Writer → Writer
 in_fragments a [] items = just []
 in_fragments a (m ∷ ms) items = padding a ▹ just (determinant m) ▹ one_by_one (take m items) ▹ in_fragments a ms (drop m items)
