@@ -1,8 +1,8 @@
-//! Fields of bits in octets. A field is a number of bits that one word reads or writes, at whichever bit of an octet it
-//! begins; a wide field has up to 128 bits, and moves as several fields.
+//! Fields of bits in octets. A field is a number of bits that one word reads or writes, at whichever bit of an octet
+//! it begins; a wide field has up to 128 bits, and moves as several fields.
 //!
-//! Octets that are written to have spare bits: fewer than eight at the end of the last octet, which are zeros and no bits
-//! of what is kept. Each function that writes answers how many bits are spare then.
+//! Octets that are written to have spare bits: fewer than eight at the end of the last octet, which are zeros and no
+//! bits of what is kept. Each function that writes answers how many bits are spare then.
 
 ghost use Rattle.std.specs.Prelude.{◌≡◌, ◌+◌, ◌*◌, ◌%◌, ◌^◌, ◌<◌, ◌≤◌, ◌++◌, length, take, drop, vec_len, vec_capacity};
 ghost use Rattle.rasn_types.specs.Bits.{to_bits, number_of, unpack};

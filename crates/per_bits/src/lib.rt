@@ -335,7 +335,8 @@ impl<'input> Clone for BitReader<'input> {
     }
 }
 
-/// Appends all bits of a reader to octets of which the last `spare` bits are spare, and answers how many are spare then.
+/// Appends all bits of a reader to octets of which the last `spare` bits are spare, and answers how many are spare
+/// then.
 fn append_reader<A: Allocator>(octets: &mut Vec<u8, A>, spare: u32, reader: BitReader<'_>) -> u32
     requires padded { ArePadded spare octets.old.items }
     requires room { 8 * vec_len octets.old + length reader + 72 ≤ 8 * vec_capacity octets.old }

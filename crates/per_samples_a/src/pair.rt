@@ -100,8 +100,8 @@ impl Encode for Pair {
         encoder.encode_sequence::<Pair, _, _>(
             tag,
             |e: &mut E| -> Result<(), E::Error>
-                ensures law { AtParts pair_parts 0 (λ ps.
-                    WrittenParts E.rules ps (normals ps (pair_contents self.entry.now.a self.entry.now.b)) e.old result e.new) }
+                ensures law { AtParts pair_parts 0 (λ ps. WrittenParts E.rules ps
+                    (normals ps (pair_contents self.entry.now.a self.entry.now.b)) e.old result e.new) }
                 ensures kept { E.rules.codec e.new ≡ E.rules.codec e.old }
             {
                 self.a.encode_with_tag(e, A)?;

@@ -26,7 +26,8 @@ pub enum Class {
     Private,
 }
 
-/// A tag (X.680 8.1). Tags are ordered by class, then by value (X.680 8.6). The constants are universal tags (X.680 8.4).
+/// A tag (X.680 8.1). Tags are ordered by class, then by value (X.680 8.6). The constants are universal tags (X.680
+/// 8.4).
 #[derive(Clone, Copy, Debug, PartialEq, Eq, PartialOrd, Ord)]
 pub struct Tag {
     /// The class.
