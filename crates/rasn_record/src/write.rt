@@ -18,7 +18,8 @@ pub fn component<T: Components, P: EncodeFirst>(of: &T, cells: P) -> P
     requires presence { presence_at T.components (before T.components (P.behind cells).count) ≡ Some P.presence }
     requires schema { (n : ℕ) →
         schema_at T.components (before T.components (P.behind cells).count) n ≡ Some (P.schema cells n) }
-    requires value { content_at (T.contents of.now) (before (T.contents of.now) (P.behind cells).count) ≡ Some (P.content cells) }
+    requires value { content_at (T.contents of.now) (before (T.contents of.now) (P.behind cells).count)
+        ≡ Some (P.content cells) }
     requires levels { P.depth cells ≤ T.depth of.now }
     requires behind { AreLast (P.behind cells) T.components (T.contents of.now) (T.depth of.now) }
     ensures { AreLast (to_write (P.parts result) (P.contents result) (P.levels result) P.count)
