@@ -60,21 +60,6 @@ empty_octets spare n os e h = (λ t. nil_from_length (filled spare os) (let i = 
 
 -- ---- octets in one piece
 
--- the octets of bits that begin an octet
-pub aligned : (s n : ℕ) (os qs : List ℕ) (now : Bits) → s ≡ 0 → s + n ≤ 8 * length os → take n (drop s (unpack os)) ≡ now → qs ≡ take (n / 8) os →
-    (unpack qs ≡ take (8 * length qs) now) × (length qs ≡ n / 8)
-aligned s n os qs now z h e q = (
-  ap unpack same ∙ sym (unpack-take (n / 8) os) ∙ sym (take-take (8 * (n / 8)) n (unpack os) (omega arith))
-      ∙ ap₂ (λ (m k : ℕ). take (8 * m) (take n (drop k (unpack os)))) (sym l) (sym z) ∙ ap (λ bs. take (8 * length qs) bs) e,
-  l,
-)
-  where
-    same : qs ≡ take (n / 8) os
-    same = q
-
-    l : length qs ≡ n / 8
-    l = ap length same ∙ length-take (n / 8) os ∙ omega arith
-
 -- where no bit is spare
 pub padded_full : (spare : ℕ) (os : List ℕ) → spare ≡ 0 → ArePadded spare os
 padded_full spare os z = padded_by {bs = unpack os} (record { few = omega arith; zeros = sym (append-nil (unpack os)) ∙ ap (λ (n : ℕ). unpack os ++ replicate n false) (sym z) })

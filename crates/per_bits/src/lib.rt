@@ -4,7 +4,7 @@
 //! to an octet, the first highest.
 #![tactic(auto)]
 
-ghost use Rattle.std.specs.Prelude.{◌≡◌, ◌+◌, ◌-◌, ◌*◌, ◌/◌, ◌^◌, ◌<◌, ◌≤◌, List, [], ◌∷◌, ◌++◌, Bool, length, take, slice_get, vec_len, vec_capacity, OnOk, OnErr, IfOk, IfErr, IfSome, IsTrue, ◌↔◌, ⊤};
+ghost use Rattle.std.specs.Prelude.{◌≡◌, ◌+◌, ◌-◌, ◌*◌, ◌/◌, ◌^◌, ◌<◌, ◌≤◌, List, [], ◌∷◌, ◌++◌, Bool, length, take, slice_get, vec_len, vec_capacity, OnOk, OnErr, IfOk, IfErr, IsTrue, ◌↔◌, ⊤};
 ghost use Rattle.rasn_types.specs.Bits.{to_bits, number_of, unpack};
 ghost use Rattle.rasn_types.specs.Packed.{packed};
 ghost use Rattle.per_bits.specs.Octets.{filled, AreFilledBy, ArePadded};
@@ -264,16 +264,6 @@ impl<'input> BitReader<'input> {
         } else {
             read_wide_field(self.octets, self.skip, count as u32)
         }
-    }
-
-    /// The octets of the bits that are left, where these begin and end on octets of what is read; else `None`.
-    pub fn aligned_octets(&self) -> Option<&'input [u8]>
-        ensures { IfSome result (λ octets. unpack octets.now ≡ self.now) }
-    {
-        if self.skip > 0 || self.len % 8 > 0 {
-            return None;
-        }
-        Some(&self.octets[..(self.len / 8) as usize])
     }
 
     /// Appends the bits that are left to octets: the fewest octets, the first bit highest, and zero bits behind the

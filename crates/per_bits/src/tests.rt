@@ -206,11 +206,6 @@ fn pushes_octets_at_each_place(rt: HostRuntime) -> Result<(), Fail> {
             // and from a reader that stands at any bit
             let mut reader = BitReader::new(&list);
             assert!(rt; reader.take(start as u128).is_ok());
-            assert_eq!(rt;
-                reader.aligned_octets().is_some(),
-                start % 8 == 0,
-                "behind {start}"
-            );
             let mut second = ones(rt.alloc(), count % 8)?;
             second.push_reader(&reader)?;
             expect_octets(&rt, &second, count % 8, octets);
@@ -249,20 +244,4 @@ fn appends_bits_as_octets_from_each_place(rt: HostRuntime) -> Result<(), Fail> {
         }
     }
     Ok(())
-}
-
-#[test]
-fn knows_octets_that_begin_and_end_on_octets(rt: HostRuntime) {
-    let mut reader = BitReader::from_octets(&OCTETS);
-    assert_eq!(rt; reader.aligned_octets(), Some(&OCTETS[..]));
-    let Ok(front) = reader.take(16) else {
-        panic!(rt; "160 bits are there");
-    };
-    assert_eq!(rt; front.aligned_octets(), Some(&OCTETS[..2]));
-    assert_eq!(rt; reader.aligned_octets(), Some(&OCTETS[2..]));
-    let Ok(front) = reader.take(15) else {
-        panic!(rt; "144 bits are there");
-    };
-    assert_eq!(rt; front.aligned_octets(), None);
-    assert_eq!(rt; reader.aligned_octets(), None);
 }

@@ -1,5 +1,5 @@
 -- Items that are written one by one.
-use Rattle.std.specs.Prelude.{Result, Ok, Err, IsOk, OnErr, IsSome, slice_get, slice_range}
+use Rattle.std.specs.Prelude.{IsSome, slice_get, slice_range}
 use Rattle.std.proofs.Common.{◌≡◌, refl, sym, ap, ap₂, ◌∙◌, subst, Bool, ℕ, zero, suc, ◌+◌, ◌-◌, ◌<◌, ◌≤◌, List, [], ◌∷◌, ◌++◌, length, length-take, map, take, drop, arith, Option, Some, None}
 use Rattle.std.proofs.lemmas.List.{drop-map, take-map, take_at, drop_at, drop-take, take-take}
 use Rattle.std.proofs.lemmas.Option.{get_or_from_slice_get, slice_get_within}
@@ -98,8 +98,3 @@ taken_between bs all front rest these others start end h l o e f i k =
 -- a list is as long as its front
 pub longer : (bs all : Bits) → take (length bs) all ≡ bs → length bs ≤ length all
 longer bs all h = let l = sym (ap length h) ∙ length-take (length bs) all in omega arith
-
--- a call is Ok where the reason to refuse isn't there
-pub ok_unless : {A E P : Type 0} (r : Result A E) → OnErr r P → ¬ P → IsOk r
-ok_unless (Ok x) h n = refl
-ok_unless (Err e) h n = absurd (n h)

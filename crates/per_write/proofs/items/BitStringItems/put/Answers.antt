@@ -4,7 +4,8 @@ use Rattle.std.proofs.lemmas.Result.{on_ok_weaker}
 use Rattle.rasn_types.specs.Variants.{unaligned}
 use Rattle.per_core.specs.Counts.{bit_writers}
 use Rattle.per_core.specs.Writers.{just, one_by_one}
-use Rattle.per_write.proofs.Steps.{bits_between, bits_one_by_one, length-bit_writers, longer, ok_unless, taken_between}
+use Rattle.per_bits.proofs.Readers.{ok_unless}
+use Rattle.per_write.proofs.Steps.{bits_between, bits_one_by_one, length-bit_writers, longer, taken_between}
 use Rattle.per_write.proofs.Writing.{wrote_same}
 use Rattle.per_write.proofs.items.BitStringItems.put.Goals as goal
 
