@@ -116,7 +116,8 @@ pub(crate) struct Characters<S: StaticPermittedAlphabet> {
 }
 
 impl<S: StaticPermittedAlphabet> Collector for Characters<S> {
-    ghost holds = { λ start c codes. (c.alphabet ≡ start.alphabet) × AreRead start.alphabet c.has_unknown (S.characters c.string) codes };
+    ghost holds = { λ start c codes.
+        (c.alphabet ≡ start.alphabet) × AreRead start.alphabet c.has_unknown (S.characters c.string) codes };
 
     ghost item = { λ c. Character (char_width c.alphabet.variant c.alphabet.characters) };
 

@@ -1,6 +1,6 @@
 //! Intervals of characters, of which the alphabets of the character string types are made.
 
-ghost use Rattle.std.specs.Prelude.{◌≡◌, ◌+◌, ◌-◌, ◌^◌, ◌<◌, ◌≤◌, true, leb, ◌&&◌, length, slice_get};
+ghost use Rattle.std.specs.Prelude.{◌≡◌, ◌+◌, ◌-◌, ◌^◌, ◌<◌, ◌≤◌, true, nat_le, ◌&&◌, length, slice_get};
 ghost use Rattle.rasn_types.specs.Alphabets.{has, greatest, index_of};
 ghost use Rattle.rasn_strings.specs.Intervals.{expand, ascend_from};
 
@@ -16,7 +16,7 @@ pub struct Interval {
 impl Interval {
     /// Whether a character is within the interval.
     pub fn contains(self, character: u32) -> bool
-        ensures { result ≡ (leb self.first character && leb character self.last) }
+        ensures { result ≡ (nat_le self.first character && nat_le character self.last) }
     {
         self.first <= character && character <= self.last
     }
