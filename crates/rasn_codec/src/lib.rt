@@ -1,6 +1,7 @@
 //! The traits of values and codecs, and how values of the plain types and records are written and read.
 #![tactic(auto)]
 
+pub mod boxed;
 pub mod codec;
 pub mod constrained;
 pub mod integers;

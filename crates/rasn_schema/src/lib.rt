@@ -1,6 +1,7 @@
 //! How types state their schemas.
 #![tactic(auto)]
 
+pub mod boxed;
 pub mod components;
 pub mod constrained;
 pub mod fields;
