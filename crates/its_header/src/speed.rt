@@ -4,7 +4,8 @@ ghost use Rattle.std.specs.Prelude.{refl};
 ghost use Rattle.rasn_types.specs.Values.{whole};
 ghost use Rattle.rasn_types.specs.declared.types.TheConstants.Tag.{INTEGER};
 ghost use Rattle.rasn_constraints.specs.Ranges.{i128_range, no_constraints};
-ghost use Rattle.rasn_schema.specs.Forms.{always, number_schema, simple_unfolds};
+ghost use Rattle.rasn_schema.specs.Forms.{always, number_schema};
+ghost use Rattle.rasn_schema.specs.Levels.{simple_levelled};
 
 use rasn_codec::codec::{Decode, Decoder, Encode, Encoder};
 use rasn_schema::schema::{AsnType, Constraints};
@@ -29,7 +30,7 @@ impl AsnType for Speed {
 
     ghost value = { λ s. whole s.metres_a_second };
 
-    ghost unfolds = { λ c. simple_unfolds (number_schema c i128_range) tt };
+    ghost levelled = { λ c. simple_levelled (number_schema c i128_range) tt };
 
     ghost tag_fits = { λ _ _. refl };
 }

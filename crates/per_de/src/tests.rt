@@ -2,7 +2,7 @@ ghost use Rattle.std.specs.Prelude.{[], refl, false};
 ghost use Rattle.rasn_types.specs.declared.types.TheConstants.Tag.{SEQUENCE};
 ghost use Rattle.rasn_schema.specs.Schemas.{listed};
 ghost use Rattle.rasn_constraints.specs.Ranges.{no_constraints};
-ghost use Rattle.rasn_schema.specs.Families.{record_unfolds, parts_unfold};
+ghost use Rattle.rasn_schema.specs.Levels.{record_levelled, parts_levelled};
 ghost use Rattle.rasn_schema.specs.Records.{record_at, no_additions, record_value};
 ghost use Rattle.rasn_schema.specs.Tags.{sequence_tag};
 
@@ -349,7 +349,7 @@ impl AsnType for Empty {
 
     ghost levels = { λ _. 1 };
 
-    ghost unfolds = { λ _. record_unfolds parts_unfold parts_unfold };
+    ghost levelled = { λ _. record_levelled parts_levelled parts_levelled };
 
     ghost tag_fits = { λ _. sequence_tag no_additions false no_additions };
 }

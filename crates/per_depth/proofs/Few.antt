@@ -17,7 +17,8 @@ use Rattle.per_core.proofs.Records.{SlotRel, Kin, AllKin, Along, fields_agree}
 use Rattle.per_core.proofs.Bags.{any_in_bag}
 use Rattle.per_core.proofs.Readings.{one_reading, ordered-kin, along-listed, same_flags, same_bit, root_added}
 use Rattle.per_laws.proofs.Transitive.{or_both}
-use Rattle.per_depth.specs.Levels.{levels_of, levels_of_values, levels_of_slots, TakesLevel, TakesNone, ToLevels, PartsToLevels, to_leaf, to_date, no_date, still_cut, no_level, to_list, to_set_of, to_sequence, to_choice, to_no_parts, to_part}
+use Rattle.rasn_schema.specs.Levels.{TakesLevel, TakesNone, ToLevels, PartsToLevels, to_leaf, to_date, no_date, still_cut, no_level, to_list, to_set_of, to_sequence, to_choice, to_no_parts, to_part}
+use Rattle.per_depth.specs.Levels.{levels_of, levels_of_values, levels_of_slots}
 use Rattle.per_depth.specs.Written.{is_written, writes_cut, slots_write_cut, writes_cut_at}
 use Rattle.per_depth.proofs.Same.{slot_written_cut}
 use Rattle.per_depth.proofs.Reading.{left_out_kept, leaf_kept, any_sorted}

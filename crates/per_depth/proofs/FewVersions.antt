@@ -10,7 +10,8 @@ use Rattle.per_core.specs.Versions.{project, widen, Newer, NewerParts, unchanged
 use Rattle.per_core.proofs.Lengths.{or_left, or_right}
 use Rattle.per_laws.proofs.Transitive.{or_both}
 use Rattle.per_laws.proofs.Types.{elements_less, fields_less, alternative_less}
-use Rattle.per_depth.specs.Levels.{levels_of, Levelled}
+use Rattle.rasn_schema.specs.Levels.{Levelled}
+use Rattle.per_depth.specs.Levels.{levels_of}
 use Rattle.per_depth.specs.Written.{is_written, writes_cut, slots_write_cut, writes_cut_at}
 use Rattle.per_depth.proofs.Deeply.{meets_none}
 use Rattle.per_depth.proofs.Depths.{bytes_whole}

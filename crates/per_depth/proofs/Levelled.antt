@@ -11,7 +11,8 @@ use Rattle.per_core.specs.Basic.{read}
 use Rattle.per_core.proofs.Laws.{written_is_read}
 use Rattle.per_core.proofs.Unique.{fills_agree}
 use Rattle.per_laws.proofs.Types.{up_to}
-use Rattle.per_depth.specs.Levels.{levels_of, Deep, DeepParts, TakesNone, ToLevels, PartsToLevels, to_leaf, to_date, no_date, still_cut, no_level, to_list, to_set_of, to_sequence, to_choice, to_no_parts, to_part, Levelled}
+use Rattle.rasn_schema.specs.Levels.{TakesNone, ToLevels, PartsToLevels, to_leaf, to_date, no_date, still_cut, no_level, to_list, to_set_of, to_sequence, to_choice, to_no_parts, to_part, Levelled}
+use Rattle.per_depth.specs.Levels.{levels_of, Deep, DeepParts}
 use Rattle.per_depth.specs.Written.{writes_cut}
 use Rattle.per_depth.proofs.Deeply.{deep_family_unfolds}
 use Rattle.per_depth.proofs.Depths.{writes_at_less, encodes_deeper}

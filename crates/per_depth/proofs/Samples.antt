@@ -8,7 +8,7 @@ use Rattle.rasn_schema.specs.Normal.{normal}
 use Rattle.per_core.specs.Canon.{bytes}
 use Rattle.per_depth.specs.Written.{writes_cut}
 use Rattle.rasn_schema.specs.Depth.{meets_cut, CutOf, cut_here, cut_sequence, cut_part, no_cut}
-use Rattle.per_depth.specs.Levels.{Levelled, to_date, no_date, still_cut, no_level, to_list, to_sequence, to_no_parts, to_part}
+use Rattle.rasn_schema.specs.Levels.{Levelled, to_date, no_date, still_cut, no_level, to_list, to_sequence, to_no_parts, to_part}
 
 abbrev here : TagTree
 here = leaf (record { class = 2; number = 0 })

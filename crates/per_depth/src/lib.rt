@@ -17,7 +17,8 @@ ghost use Rattle.per_core.specs.Spellings.{Settings};
 ghost use Rattle.per_core.specs.Basic.{fills, front, read};
 ghost use Rattle.per_core.specs.Canon.{canon, bytes};
 ghost use Rattle.per_core.specs.Versions.{NewerType, project, widen};
-ghost use Rattle.per_depth.specs.Levels.{levels_of, Deep, Levelled};
+ghost use Rattle.rasn_schema.specs.Levels.{Levelled};
+ghost use Rattle.per_depth.specs.Levels.{levels_of, Deep};
 ghost use Rattle.per_depth.specs.Written.{writes_cut};
 
 /// A value of fewer levels than every Cut of a tree is deep meets none of them.

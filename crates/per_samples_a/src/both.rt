@@ -6,7 +6,7 @@ ghost use Rattle.rasn_schema.specs.Schemas.{listed};
 ghost use Rattle.rasn_constraints.specs.Ranges.{no_constraints};
 ghost use Rattle.rasn_schema.specs.Fields.{shapes_from};
 ghost use Rattle.rasn_schema.specs.Records.{record_at, no_additions, record_value};
-ghost use Rattle.rasn_schema.specs.Families.{record_unfolds, part_unfolds, parts_unfold};
+ghost use Rattle.rasn_schema.specs.Levels.{record_levelled, part_levelled, parts_levelled};
 ghost use Rattle.rasn_schema.specs.Tags.{sequence_tag};
 ghost use Rattle.per_samples_a.specs.Boths.{both_parts, both_contents};
 
@@ -40,9 +40,9 @@ impl<A: AsnType, B: AsnType> AsnType for Both<A, B> {
 
     ghost levels = { λ x. suc (max (A.levels x.a) (max (B.levels x.b) 0)) };
 
-    ghost unfolds = { λ _.
-        record_unfolds (part_unfolds (A.unfolds A.CONSTRAINTS) (part_unfolds (B.unfolds B.CONSTRAINTS) parts_unfold))
-        parts_unfold };
+    ghost levelled = { λ _.
+        record_levelled (part_levelled (A.levelled A.CONSTRAINTS) (part_levelled (B.levelled B.CONSTRAINTS) parts_levelled))
+        parts_levelled };
 
     ghost tag_fits = { λ _.
         sequence_tag (both_parts (A.schema A.CONSTRAINTS) (B.schema B.CONSTRAINTS)) false no_additions };

@@ -7,7 +7,7 @@ ghost use Rattle.rasn_schema.specs.Normal.{normals};
 ghost use Rattle.rasn_constraints.specs.Ranges.{no_constraints};
 ghost use Rattle.rasn_schema.specs.Fields.{shapes_from};
 ghost use Rattle.rasn_schema.specs.Records.{AtParts, record_at, no_additions, record_value};
-ghost use Rattle.rasn_schema.specs.Components.{sequence_unfolds};
+ghost use Rattle.rasn_schema.specs.Components.{sequence_levelled};
 ghost use Rattle.rasn_schema.specs.Tags.{sequence_tag};
 ghost use Rattle.rasn_codec.specs.Scopes.{WrittenParts, AnswersParts};
 ghost use Rattle.per_samples_a.specs.Pairs.{pair, pair_parts, pair_contents};
@@ -39,7 +39,7 @@ impl AsnType for Pair {
 
     ghost levels = { λ _. 1 };
 
-    ghost unfolds = { λ _. sequence_unfolds pair };
+    ghost levelled = { λ _. sequence_levelled pair };
 
     ghost tag_fits = { λ _. sequence_tag pair_parts false no_additions };
 }

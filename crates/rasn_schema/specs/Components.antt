@@ -12,11 +12,10 @@ use Rattle.rasn_constraints.specs.declared.constraints.Constraints.{Constraints}
 use Rattle.rasn_constraints.specs.declared.constraints.Extensible.{Extensible}
 use Rattle.rasn_schema.specs.Schemas
 use Rattle.rasn_schema.specs.Schemas.{Schema, TagTree, leaf, Presence, Parts, no_parts, part, listed}
-use Rattle.rasn_schema.specs.Depth.{Unfolds}
 use Rattle.rasn_schema.specs.Fields.{Shape, field_tag, presence_of, shapes_from}
-use Rattle.rasn_schema.specs.Forms.{number_schema, octet_schema, bit_schema, character_schema, always, IsSimple, simple_unfolds}
+use Rattle.rasn_schema.specs.Forms.{number_schema, octet_schema, bit_schema, character_schema, always}
 use Rattle.rasn_schema.specs.Lawful.{are_required}
-use Rattle.rasn_schema.specs.Families.{UnfoldsParts, parts_unfold, part_unfolds, record_unfolds}
+use Rattle.rasn_schema.specs.Levels.{TakesNone, Levelled, LevelledParts, simple_levelled, parts_levelled, part_levelled, record_levelled}
 use Rattle.rasn_schema.specs.Records.{record_at, no_additions, record_value}
 
 -- a component of a record: its tags, whether it may be absent, and its schema to each number of levels
@@ -24,7 +23,7 @@ pub record Component : Type 0 where
   pub tags : TagTree
   pub presence : Presence
   pub schema : ℕ → Schema
-  pub unfolds : Unfolds schema
+  pub levelled : Levelled schema
 
 -- the components of a record, to a number of levels
 abbrev pub parts_of : List Component → ℕ → Parts
@@ -39,12 +38,12 @@ sequence_of cs = record_at listed (parts_of cs) false no_additions
 abbrev pub sequence_value : List (Option Value) → Value
 sequence_value rs = record_value rs []
 
-pub components_unfold : (cs : List Component) → UnfoldsParts (parts_of cs)
-components_unfold [] = parts_unfold
-components_unfold (c ∷ cs) = part_unfolds c.unfolds (components_unfold cs)
+pub components_levelled : (cs : List Component) → LevelledParts (parts_of cs)
+components_levelled [] = parts_levelled
+components_levelled (c ∷ cs) = part_levelled c.levelled (components_levelled cs)
 
-pub sequence_unfolds : (cs : List Component) → Unfolds (sequence_of cs)
-sequence_unfolds cs = record_unfolds (components_unfold cs) parts_unfold
+pub sequence_levelled : (cs : List Component) → Levelled (sequence_of cs)
+sequence_levelled cs = record_levelled (components_levelled cs) parts_levelled
 
 -- the fields of components, in order, counted from a number
 abbrev pub fields_from : ℕ → List Component → List Shape
@@ -233,9 +232,9 @@ of_characters cs c = record { value = c.value; size = c.size; alphabet = Some (r
 abbrev pub universal : ℕ → TagTree
 universal i = leaf (record { class = 0; number = i })
 
--- a component of a kind in which no other stands
-abbrev pub simple : ℕ → (s : Schema) → IsSimple s → Component
-simple i s h = record { tags = universal i; presence = Schemas.required; schema = always s; unfolds = simple_unfolds s h }
+-- a component of a kind that takes no level
+abbrev pub simple : ℕ → (s : Schema) → TakesNone s → Component
+simple i s h = record { tags = universal i; presence = Schemas.required; schema = always s; levelled = simple_levelled s h }
 
 -- BOOLEAN
 abbrev pub boolean : Component
@@ -287,7 +286,7 @@ sequence cs = record {
   tags = universal 16;
   presence = Schemas.required;
   schema = sequence_of cs;
-  unfolds = sequence_unfolds cs;
+  levelled = sequence_levelled cs;
 }
 
 -- the tag of a component by its place
@@ -296,7 +295,7 @@ at i = leaf (record { class = 2; number = i })
 
 -- a component under another tag
 abbrev pub under : TagTree → Component → Component
-under t c = record { tags = t; presence = c.presence; schema = c.schema; unfolds = c.unfolds }
+under t c = record { tags = t; presence = c.presence; schema = c.schema; levelled = c.levelled }
 
 abbrev pub automatic_from : ℕ → List Component → List Component
 automatic_from i [] = []

@@ -1,9 +1,9 @@
 pub mod Components
 pub mod Depth
-pub mod Families
 pub mod Fields
 pub mod Forms
 pub mod Lawful
+pub mod Levels
 pub mod Normal
 pub mod Orders
 pub mod Records

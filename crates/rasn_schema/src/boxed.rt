@@ -20,7 +20,7 @@ impl<T: AsnType> AsnType for Box<T> {
 
     ghost levels = { λ x. T.levels x.value };
 
-    ghost unfolds = { T.unfolds };
+    ghost levelled = { T.levelled };
 
     ghost tag_fits = { T.tag_fits };
 }

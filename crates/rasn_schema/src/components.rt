@@ -8,7 +8,7 @@ ghost use Rattle.rasn_types.specs.declared.types.TheConstants.Tag.{SEQUENCE};
 ghost use Rattle.rasn_schema.specs.Fields.{Shape};
 ghost use Rattle.rasn_schema.specs.Records.{no_additions};
 ghost use Rattle.rasn_schema.specs.Tags.{sequence_tag};
-ghost use Rattle.rasn_schema.specs.Components.{Component, parts_of, sequence_of, sequence_value, sequence_unfolds, fields_of, fields_described, all_present, parts_required};
+ghost use Rattle.rasn_schema.specs.Components.{Component, parts_of, sequence_of, sequence_value, sequence_levelled, fields_of, fields_described, all_present, parts_required};
 
 use crate::fields::{Constructed, Fields};
 use crate::schema::{AsnType, Constraints};
@@ -54,7 +54,7 @@ impl<T: Components> AsnType for T {
 
     ghost levels = { λ x. suc (T.depth x) };
 
-    ghost unfolds = { λ _. sequence_unfolds T.components };
+    ghost levelled = { λ _. sequence_levelled T.components };
 
     ghost tag_fits = { λ _. sequence_tag (parts_of T.components) false no_additions };
 }

@@ -53,7 +53,7 @@ impl<T: AsnType, L: Limits> AsnType for Constrained<T, L> {
 
     ghost levels = { λ x. T.levels x.value };
 
-    ghost unfolds = { T.unfolds };
+    ghost levelled = { T.levelled };
 
     ghost tag_fits = { T.tag_fits };
 }

@@ -5,7 +5,8 @@ ghost use Rattle.rasn_types.specs.Values.{whole};
 ghost use Rattle.rasn_types.specs.declared.types.TheConstants.Tag.{INTEGER};
 ghost use Rattle.rasn_constraints.specs.Bounds.{unbounded};
 ghost use Rattle.rasn_constraints.specs.Ranges.{no_constraints, within, i128_range, signed_range, unsigned_range};
-ghost use Rattle.rasn_schema.specs.Forms.{number_schema, always, simple_unfolds};
+ghost use Rattle.rasn_schema.specs.Forms.{number_schema, always};
+ghost use Rattle.rasn_schema.specs.Levels.{simple_levelled};
 
 use crate::schema::AsnType;
 use rasn_constraints::constraints::{Bounded, Constraint, Constraints, Extensible};
@@ -33,7 +34,7 @@ impl AsnType for i8 {
 
     ghost value = { whole };
 
-    ghost unfolds = { λ c. simple_unfolds (number_schema c (signed_range 8)) tt };
+    ghost levelled = { λ c. simple_levelled (number_schema c (signed_range 8)) tt };
 
     ghost tag_fits = { λ _ _. refl };
 }
@@ -59,7 +60,7 @@ impl AsnType for i16 {
 
     ghost value = { whole };
 
-    ghost unfolds = { λ c. simple_unfolds (number_schema c (signed_range 16)) tt };
+    ghost levelled = { λ c. simple_levelled (number_schema c (signed_range 16)) tt };
 
     ghost tag_fits = { λ _ _. refl };
 }
@@ -85,7 +86,7 @@ impl AsnType for i32 {
 
     ghost value = { whole };
 
-    ghost unfolds = { λ c. simple_unfolds (number_schema c (signed_range 32)) tt };
+    ghost levelled = { λ c. simple_levelled (number_schema c (signed_range 32)) tt };
 
     ghost tag_fits = { λ _ _. refl };
 }
@@ -111,7 +112,7 @@ impl AsnType for i64 {
 
     ghost value = { whole };
 
-    ghost unfolds = { λ c. simple_unfolds (number_schema c (signed_range 64)) tt };
+    ghost levelled = { λ c. simple_levelled (number_schema c (signed_range 64)) tt };
 
     ghost tag_fits = { λ _ _. refl };
 }
@@ -129,7 +130,7 @@ impl AsnType for i128 {
 
     ghost value = { whole };
 
-    ghost unfolds = { λ c. simple_unfolds (number_schema c i128_range) tt };
+    ghost levelled = { λ c. simple_levelled (number_schema c i128_range) tt };
 
     ghost tag_fits = { λ _ _. refl };
 }
@@ -155,7 +156,7 @@ impl AsnType for u8 {
 
     ghost value = { λ n. whole (pos n) };
 
-    ghost unfolds = { λ c. simple_unfolds (number_schema c (unsigned_range 8)) tt };
+    ghost levelled = { λ c. simple_levelled (number_schema c (unsigned_range 8)) tt };
 
     ghost tag_fits = { λ _ _. refl };
 }
@@ -181,7 +182,7 @@ impl AsnType for u16 {
 
     ghost value = { λ n. whole (pos n) };
 
-    ghost unfolds = { λ c. simple_unfolds (number_schema c (unsigned_range 16)) tt };
+    ghost levelled = { λ c. simple_levelled (number_schema c (unsigned_range 16)) tt };
 
     ghost tag_fits = { λ _ _. refl };
 }
@@ -207,7 +208,7 @@ impl AsnType for u32 {
 
     ghost value = { λ n. whole (pos n) };
 
-    ghost unfolds = { λ c. simple_unfolds (number_schema c (unsigned_range 32)) tt };
+    ghost levelled = { λ c. simple_levelled (number_schema c (unsigned_range 32)) tt };
 
     ghost tag_fits = { λ _ _. refl };
 }
@@ -233,7 +234,7 @@ impl AsnType for u64 {
 
     ghost value = { λ n. whole (pos n) };
 
-    ghost unfolds = { λ c. simple_unfolds (number_schema c (unsigned_range 64)) tt };
+    ghost levelled = { λ c. simple_levelled (number_schema c (unsigned_range 64)) tt };
 
     ghost tag_fits = { λ _ _. refl };
 }
@@ -251,7 +252,7 @@ impl AsnType for Integer {
 
     ghost value = { whole };
 
-    ghost unfolds = { λ c. simple_unfolds (number_schema c unbounded) tt };
+    ghost levelled = { λ c. simple_levelled (number_schema c unbounded) tt };
 
     ghost tag_fits = { λ _ _. refl };
 }

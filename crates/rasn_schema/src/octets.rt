@@ -5,7 +5,8 @@ ghost use Rattle.rasn_types.specs.Values.{bits, octets};
 ghost use Rattle.rasn_types.specs.declared.types.TheConstants.Tag.{BIT_STRING, EOC, OCTET_STRING};
 ghost use Rattle.rasn_schema.specs.Schemas.{Schema};
 ghost use Rattle.rasn_constraints.specs.Ranges.{no_constraints};
-ghost use Rattle.rasn_schema.specs.Forms.{octet_schema, bit_schema, always, simple_unfolds};
+ghost use Rattle.rasn_schema.specs.Forms.{octet_schema, bit_schema, always};
+ghost use Rattle.rasn_schema.specs.Levels.{simple_levelled};
 
 use crate::schema::{AsnType, Constraints};
 use rasn_types::bit_string::BitString;
@@ -25,7 +26,7 @@ impl AsnType for OctetString {
 
     ghost value = { octets };
 
-    ghost unfolds = { λ c. simple_unfolds (octet_schema c) tt };
+    ghost levelled = { λ c. simple_levelled (octet_schema c) tt };
 
     ghost tag_fits = { λ _ _. refl };
 }
@@ -43,7 +44,7 @@ impl AsnType for BitString {
 
     ghost value = { bits };
 
-    ghost unfolds = { λ c. simple_unfolds (bit_schema c) tt };
+    ghost levelled = { λ c. simple_levelled (bit_schema c) tt };
 
     ghost tag_fits = { λ _ _. refl };
 }
@@ -61,7 +62,7 @@ impl AsnType for Any {
 
     ghost value = { octets };
 
-    ghost unfolds = { λ _. simple_unfolds Schema.any tt };
+    ghost levelled = { λ _. simple_levelled Schema.any tt };
 
     ghost tag_fits = { λ _ _. refl };
 }

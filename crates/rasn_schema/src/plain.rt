@@ -5,7 +5,8 @@ ghost use Rattle.rasn_types.specs.Values.{truth, nothing};
 ghost use Rattle.rasn_types.specs.declared.types.TheConstants.Tag.{BOOL, NULL};
 ghost use Rattle.rasn_schema.specs.Schemas.{Schema};
 ghost use Rattle.rasn_constraints.specs.Ranges.{no_constraints};
-ghost use Rattle.rasn_schema.specs.Forms.{always, simple_unfolds};
+ghost use Rattle.rasn_schema.specs.Forms.{always};
+ghost use Rattle.rasn_schema.specs.Levels.{simple_levelled};
 
 use crate::schema::{AsnType, Constraints};
 use rasn_types::types::Tag;
@@ -23,7 +24,7 @@ impl AsnType for bool {
 
     ghost value = { truth };
 
-    ghost unfolds = { λ _. simple_unfolds Schema.boolean tt };
+    ghost levelled = { λ _. simple_levelled Schema.boolean tt };
 
     ghost tag_fits = { λ _ _. refl };
 }
@@ -41,7 +42,7 @@ impl AsnType for () {
 
     ghost value = { λ _. nothing };
 
-    ghost unfolds = { λ _. simple_unfolds Schema.null tt };
+    ghost levelled = { λ _. simple_levelled Schema.null tt };
 
     ghost tag_fits = { λ _ _. refl };
 }

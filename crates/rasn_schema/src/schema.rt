@@ -3,7 +3,7 @@
 ghost use Rattle.std.specs.Prelude.{ℕ};
 ghost use Rattle.rasn_types.specs.Values.{Value};
 ghost use Rattle.rasn_schema.specs.Schemas.{Schema};
-ghost use Rattle.rasn_schema.specs.Depth.{Unfolds};
+ghost use Rattle.rasn_schema.specs.Levels.{Levelled};
 ghost use Rattle.rasn_schema.specs.Tags.{IsTagOf};
 
 pub use rasn_constraints::constraints::Constraints;
@@ -38,8 +38,9 @@ pub trait AsnType {
     // takes none.
     ghost levels: { Self → ℕ } = { λ _. 0 };
 
-    // Each unfolding is the next one cut off, and every value is held by some unfolding.
-    ghost unfolds: { (c : Constraints) → Unfolds (schema c) };
+    // Each unfolding is the next one to its number of levels: a list, a record and a choice take one each. So every
+    // value is held by some unfolding.
+    ghost levelled: { (c : Constraints) → Levelled (schema c) };
 
     // A universal tag is one of the schema's kind.
     ghost tag_fits: { (c : Constraints) → IsTagOf TAG (schema c) };

@@ -9,7 +9,8 @@ ghost use Rattle.rasn_types.specs.Values.{characters, octets};
 ghost use Rattle.rasn_types.specs.declared.types.TheConstants.Tag.{BMP_STRING, GENERAL_STRING, GRAPHIC_STRING, IA5_STRING, NUMERIC_STRING, PRINTABLE_STRING, TELETEX_STRING, UTF8_STRING, VISIBLE_STRING};
 ghost use Rattle.rasn_schema.specs.Schemas.{Schema};
 ghost use Rattle.rasn_constraints.specs.Ranges.{no_constraints};
-ghost use Rattle.rasn_schema.specs.Forms.{alphabet_of, character_schema, always, simple_unfolds};
+ghost use Rattle.rasn_schema.specs.Forms.{alphabet_of, character_schema, always};
+ghost use Rattle.rasn_schema.specs.Levels.{simple_levelled};
 
 use crate::schema::{AsnType, Constraints};
 use rasn_strings::alphabet::CharacterAlphabet;
@@ -49,7 +50,7 @@ impl AsnType for VisibleString {
 
     ghost value = { characters };
 
-    ghost unfolds = { λ c. simple_unfolds (character_schema visible c) tt };
+    ghost levelled = { λ c. simple_levelled (character_schema visible c) tt };
 
     ghost tag_fits = { λ _ _. refl };
 }
@@ -67,7 +68,7 @@ impl AsnType for Ia5String {
 
     ghost value = { characters };
 
-    ghost unfolds = { λ c. simple_unfolds (character_schema ia5 c) tt };
+    ghost levelled = { λ c. simple_levelled (character_schema ia5 c) tt };
 
     ghost tag_fits = { λ _ _. refl };
 }
@@ -85,7 +86,7 @@ impl AsnType for PrintableString {
 
     ghost value = { characters };
 
-    ghost unfolds = { λ c. simple_unfolds (character_schema printable c) tt };
+    ghost levelled = { λ c. simple_levelled (character_schema printable c) tt };
 
     ghost tag_fits = { λ _ _. refl };
 }
@@ -103,7 +104,7 @@ impl AsnType for NumericString {
 
     ghost value = { characters };
 
-    ghost unfolds = { λ c. simple_unfolds (character_schema numeric c) tt };
+    ghost levelled = { λ c. simple_levelled (character_schema numeric c) tt };
 
     ghost tag_fits = { λ _ _. refl };
 }
@@ -121,7 +122,7 @@ impl AsnType for BmpString {
 
     ghost value = { characters };
 
-    ghost unfolds = { λ c. simple_unfolds (character_schema bmp c) tt };
+    ghost levelled = { λ c. simple_levelled (character_schema bmp c) tt };
 
     ghost tag_fits = { λ _ _. refl };
 }
@@ -139,7 +140,7 @@ impl AsnType for Utf8String {
 
     ghost value = { λ s. octets (string_bytes s) };
 
-    ghost unfolds = { λ _. simple_unfolds (Schema.text utf8) tt };
+    ghost levelled = { λ _. simple_levelled (Schema.text utf8) tt };
 
     ghost tag_fits = { λ _ _. refl };
 }
@@ -157,7 +158,7 @@ impl AsnType for GeneralString {
 
     ghost value = { octets };
 
-    ghost unfolds = { λ _. simple_unfolds (Schema.text other) tt };
+    ghost levelled = { λ _. simple_levelled (Schema.text other) tt };
 
     ghost tag_fits = { λ _ _. refl };
 }
@@ -175,7 +176,7 @@ impl AsnType for GraphicString {
 
     ghost value = { octets };
 
-    ghost unfolds = { λ _. simple_unfolds (Schema.text other) tt };
+    ghost levelled = { λ _. simple_levelled (Schema.text other) tt };
 
     ghost tag_fits = { λ _ _. refl };
 }
@@ -193,7 +194,7 @@ impl AsnType for TeletexString {
 
     ghost value = { octets };
 
-    ghost unfolds = { λ _. simple_unfolds (Schema.text other) tt };
+    ghost levelled = { λ _. simple_levelled (Schema.text other) tt };
 
     ghost tag_fits = { λ _ _. refl };
 }

@@ -6,7 +6,8 @@ ghost use Rattle.rasn_types.specs.Values.{whole};
 ghost use Rattle.rasn_types.specs.declared.types.TheConstants.Tag.{INTEGER};
 ghost use Rattle.rasn_constraints.specs.Bounds.{between};
 ghost use Rattle.rasn_constraints.specs.Ranges.{i128_range, no_constraints, unsigned_range, within};
-ghost use Rattle.rasn_schema.specs.Forms.{always, number_schema, simple_unfolds};
+ghost use Rattle.rasn_schema.specs.Forms.{always, number_schema};
+ghost use Rattle.rasn_schema.specs.Levels.{simple_levelled};
 
 use super::*;
 use linked_list_allocator::LocalHeap;
@@ -123,7 +124,7 @@ impl AsnType for Speed {
 
     ghost value = { λ s. whole s.metres_a_second };
 
-    ghost unfolds = { λ c. simple_unfolds (number_schema c i128_range) tt };
+    ghost levelled = { λ c. simple_levelled (number_schema c i128_range) tt };
 
     ghost tag_fits = { λ _ _. refl };
 }
@@ -190,7 +191,7 @@ impl AsnType for MinusOneTo254 {
 
     ghost value = { λ x. whole (pos x.0) };
 
-    ghost unfolds = { λ c. simple_unfolds (number_schema c (unsigned_range 8)) tt };
+    ghost levelled = { λ c. simple_levelled (number_schema c (unsigned_range 8)) tt };
 
     ghost tag_fits = { λ _ _. refl };
 }
