@@ -3,6 +3,7 @@
 
 pub mod components;
 pub mod constrained;
+pub mod enumerated;
 pub mod fields;
 pub mod integers;
 pub mod octets;
