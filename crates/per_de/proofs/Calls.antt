@@ -31,6 +31,7 @@ not_failed : (c : Schema) (a : Settings) (s : Bits) → IsAt a c s AlreadyFailed
 not_failed Schema.boolean a s h = h
 not_failed Schema.null a s h = h
 not_failed (Schema.number bounds mark range) a s h = h
+not_failed (Schema.items r e ext) a s h = h
 not_failed (Schema.octet_string size mark) a s h = h
 not_failed (Schema.bit_string size mark) a s h = h
 not_failed (Schema.char_string alphabet size mark) a s h = h

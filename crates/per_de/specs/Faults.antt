@@ -7,6 +7,7 @@ use Rattle.rasn_codec.specs.Scopes.{record_of}
 use Rattle.per_core.specs.Spellings.{Settings}
 use Rattle.per_core.specs.Basic.{basic}
 use Rattle.per_core.specs.Took.{Took}
+use Rattle.per_read.specs.Enumerations.{IsOfItem}
 use Rattle.per_read.specs.Kinds.{IsShort, IsTested}
 use Rattle.per_read.specs.Numbers.{IsOfNumber}
 use Rattle.per_read.specs.Sizes.{IsOfItems}
@@ -27,6 +28,7 @@ abbrev pub IsAt : Settings → Schema → Bits → DecodeErrorKind → Type 0
 IsAt a Schema.boolean s k = IsShort k
 IsAt a Schema.null s k = ⊥
 IsAt a (Schema.number bounds mark range) s k = IsOfNumber a bounds mark s k
+IsAt a (Schema.items r e ext) s k = IsOfItem a r e ext s k
 IsAt a (Schema.octet_string size mark) s k = IsOfItems a size mark Octet s k
 IsAt a (Schema.bit_string size mark) s k = IsOfItems a size mark Bit s k
 IsAt a (Schema.char_string alphabet size mark) s k = IsOfString a alphabet size mark s k

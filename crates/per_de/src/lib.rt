@@ -17,6 +17,7 @@ pub use per_read::error;
 pub use per_read::error::{DecodeError, DecodeErrorKind, ParserFailCause};
 use rasn_codec::codec;
 use rasn_schema::constraints::Constraints;
+use rasn_schema::enumerated::Enumerated;
 use rasn_schema::fields::Constructed;
 use rasn_schema::schema::IntegerType;
 use rasn_strings::strings::StaticPermittedAlphabet;
@@ -206,6 +207,12 @@ impl<'input> codec::Decoder for Decoder<'input> {
 
     fn decode_null(&mut self, _tag: Tag) -> Result<(), DecodeError> {
         self.check_unfailed()
+    }
+
+    fn decode_enumerated<E: Enumerated>(&mut self, _tag: Tag) -> Result<E, DecodeError> {
+        self.check_unfailed()?;
+        let taken = self.reader.take_enumerated();
+        self.answer(taken)
     }
 
     fn decode_any(&mut self, _tag: Tag) -> Result<Any, DecodeError> {

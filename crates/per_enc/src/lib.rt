@@ -15,6 +15,7 @@ use per_write::Writer;
 pub use per_write::error;
 pub use per_write::error::{EncodeError, EncodeErrorKind};
 use rasn_codec::codec;
+use rasn_schema::enumerated::Enumerated;
 use rasn_schema::fields::Constructed;
 use rasn_schema::schema::{Constraints, IntegerType};
 use rasn_strings::strings::StaticPermittedAlphabet;
@@ -160,6 +161,16 @@ impl<A: Allocator + Clone> codec::Encoder for Encoder<A> {
 
     fn encode_null(&mut self, _tag: Tag, _identifier: Identifier) -> Result<(), EncodeError> {
         self.writer.check_unfailed()
+    }
+
+    fn encode_enumerated<E: Enumerated>(
+        &mut self,
+        _tag: Tag,
+        value: &E,
+        _identifier: Identifier,
+    ) -> Result<(), EncodeError> {
+        self.writer.check_unfailed()?;
+        self.writer.put_enumerated(value)
     }
 
     fn encode_any(

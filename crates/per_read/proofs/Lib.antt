@@ -10,6 +10,8 @@ pub mod Under
 pub mod Within
 pub mod Fits
 pub mod Marks
+pub mod InPlace
+pub mod Enumerations
 pub mod Refusals
 pub mod Unbounded
 pub mod Marked

@@ -8,10 +8,10 @@ use Rattle.per_core.proofs.Took.{took_then, then_took, took_bit}
 use Rattle.per_read.specs.Kinds.{NoneIn}
 use Rattle.per_read.proofs.Fields.{exactly_took, either_took}
 
-behind_bit : {f : Spelling} {s m : Bits} (b : Bool) → s ≡ b ∷ m → (t : Bits) → Took f m t → Took (Then (exactly (b ∷ [])) f) s t
+pub behind_bit : {f : Spelling} {s m : Bits} (b : Bool) → s ≡ b ∷ m → (t : Bits) → Took f m t → Took (Then (exactly (b ∷ [])) f) s t
 behind_bit {f} {s} {m} b e t c = took_then (subst (λ y. Took (exactly (b ∷ [])) y m) (sym e) (took_bit b m)) c
 
-bit_behind : {f : Spelling} {s m : Bits} (b d : Bool) → s ≡ b ∷ m → (t : Bits) → Took (Then (exactly (d ∷ [])) f) s t → (b ≡ d) × Took f m t
+pub bit_behind : {f : Spelling} {s m : Bits} (b d : Bool) → s ≡ b ∷ m → (t : Bits) → Took (Then (exactly (d ∷ [])) f) s t → (b ≡ d) × Took f m t
 bit_behind {f} {s} {m} b d e t c =
     let q = then_took c in
     let i : b ∷ m ≡ d ∷ q.0 = sym e ∙ exactly_took q.1 in

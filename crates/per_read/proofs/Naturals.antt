@@ -15,7 +15,7 @@ use Rattle.per_core.proofs.Took.{took_agree, took_map}
 use Rattle.per_read.specs.Numbers.{OfNatural}
 
 -- one octet more
-unsigned_more : (os : List ℕ) (o : ℕ) → o < 256 → unsigned (os ++ o ∷ []) ≡ unsigned os * 256 + o
+pub unsigned_more : (os : List ℕ) (o : ℕ) → o < 256 → unsigned (os ++ o ∷ []) ≡ unsigned os * 256 + o
 unsigned_more os o h =
     ap number_of (unpack-append os (o ∷ [])) ∙ number_of-append (unpack os) (unpack (o ∷ []))
     ∙ ap (λ (n : ℕ). unsigned os * 256 + n) (ap number_of (append-nil (to_bits 8 o)) ∙ number-to_bits 8 o ∙ mod-eq_of_lt h)
@@ -54,7 +54,7 @@ module _ (a : Settings) (s : Bits) where
       omega (arith, q.1, ap length (i ∙ e))
 
   -- octets that mean a number, and octets whose number was read where a `u128` holds it
-  octets_natural : (os : List ℕ) (n : ℕ) (t : Bits) → Took (Octets a os) s t → 0 < length os → unsigned os ≡ n → Took (IsSemiConstrainedWhole a n) s t
+  pub octets_natural : (os : List ℕ) (n : ℕ) (t : Bits) → Took (Octets a os) s t → 0 < length os → unsigned os ≡ n → Took (IsSemiConstrainedWhole a n) s t
   octets_natural os n t b some means = took_map (λ p c i. record { octets = os; some = some; means = means; spelled = i }) b
 
   pub natural_of : (os : List ℕ) (r : Option ℕ) (t : Bits) → Took (Octets a os) s t → 0 < length os → MatchOption r (2 ^ 128 ≤ unsigned os) (λ n. n ≡ unsigned os) → OfNatural (λ n. Took (IsSemiConstrainedWhole a n) s t) r

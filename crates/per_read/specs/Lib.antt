@@ -1,10 +1,12 @@
 pub mod Codecs
+pub mod Enumerations
 pub mod Items
 pub mod Kinds
 pub mod Lengths
 pub mod Names
 pub mod Numbers
 pub mod Sizes
+pub mod SmallNumbers
 pub mod State
 pub mod Strings
 pub mod Takes

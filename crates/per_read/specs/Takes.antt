@@ -19,6 +19,10 @@ short a s A k = IsShort k × A
 abbrev pub tested : Reason
 tested a s = Refused
 
+-- a kind that says something of the bits
+abbrev pub telling : (Settings → Bits → DecodeErrorKind → Type 0) → Reason
+telling says a s A k = says a s k × A
+
 -- want of memory, or a kind that says something of the bits
 abbrev pub memory_or : (Settings → Bits → DecodeErrorKind → Type 0) → Reason
 memory_or says a s = Faulty (says a s)

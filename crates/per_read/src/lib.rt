@@ -7,12 +7,15 @@ ghost use Rattle.per_core.specs.Basic.{Octets, bit};
 ghost use Rattle.per_core.specs.Spellings.{Field};
 ghost use Rattle.per_read.specs.Takes.{Takes, short, stopped, itself};
 
+mod enumerated;
 pub mod error;
+mod in_place;
 mod integers;
 mod items;
 mod lengths;
 mod numbers;
 mod sizes;
+mod small;
 mod strings;
 
 use error::DecodeErrorKind;

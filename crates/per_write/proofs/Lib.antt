@@ -1,7 +1,9 @@
 pub mod Bounded
 pub mod Constrained
 pub mod Counting
+pub mod Enumerations
 pub mod Fragments
 pub mod Refusing
+pub mod SmallNumbers
 pub mod Steps
 pub mod Writing

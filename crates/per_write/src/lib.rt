@@ -11,12 +11,14 @@ ghost use Rattle.per_core.specs.Canon.{completed};
 ghost use Rattle.per_write.specs.State.{view, Puts};
 ghost use Rattle.per_write.specs.Faults.{IsError, IsMemory, IsAlready, RefusesOutput};
 
+mod enumerated;
 pub mod error;
 mod integers;
 mod items;
 mod lengths;
 mod numbers;
 mod sizes;
+mod small;
 mod strings;
 
 use error::{EncodeError, EncodeErrorKind};

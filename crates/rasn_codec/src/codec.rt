@@ -14,6 +14,7 @@ ghost use Rattle.rasn_codec.specs.Calls.{EncoderRules, freely, Writes, Encodes, 
 ghost use Rattle.rasn_codec.specs.Scopes.{OpensToWrite, ClosesWritten, WritesAround, OpensToRead, ClosesRead, ReadsAround, ScopesWell};
 
 use crate::parts::{DecodeParts, EncodeParts};
+use rasn_schema::enumerated::Enumerated;
 use rasn_schema::fields::Constructed;
 use rasn_schema::schema::{AsnType, Constraints, IntegerType};
 use rasn_strings::strings::{
@@ -67,6 +68,16 @@ pub trait Encoder: Sized {
     /// Writes a NULL, no bits (X.691 18). Takes no memory.
     fn encode_null(&mut self, tag: Tag, identifier: Identifier) -> Result<(), Self::Error>
         ensures { Writes (freely rules) Schema.null nothing self.old result self.new };
+
+    /// Writes an item of an ENUMERATED (X.691 14).
+    fn encode_enumerated<E: Enumerated>(
+        &mut self,
+        tag: Tag,
+        value: &E,
+        identifier: Identifier,
+    ) -> Result<(), Self::Error>
+        ensures { Writes rules (Schema.items E.roots E.addeds E.EXTENSIBLE) (E.value value.now)
+            self.old result self.new };
 
     /// Writes the octets of a value whose type isn't known, behind an unconstrained length in octets (X.691 11.2).
     fn encode_any(
@@ -323,6 +334,11 @@ pub trait Decoder: Sized {
     /// Reads a NULL (X.691 18). Takes no memory.
     fn decode_null(&mut self, tag: Tag) -> Result<(), Self::Error>
         ensures { Reads (freely_read rules) Schema.null (λ _. nothing) self.old result self.new };
+
+    /// Reads an item of an ENUMERATED (X.691 14). Takes no memory.
+    fn decode_enumerated<E: Enumerated>(&mut self, tag: Tag) -> Result<E, Self::Error>
+        ensures { Reads (freely_read rules) (Schema.items E.roots E.addeds E.EXTENSIBLE) E.value
+            self.old result self.new };
 
     /// Reads the octets of a value whose type isn't known (X.691 11.2).
     fn decode_any(&mut self, tag: Tag) -> Result<Any, Self::Error>

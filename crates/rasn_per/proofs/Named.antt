@@ -24,6 +24,7 @@ extra_nowhere : (a : Settings) (c : Schema) (s : Bits) (n : ℕ) → IsAt a c s 
 extra_nowhere a Schema.boolean s n h = h
 extra_nowhere a Schema.null s n h = h
 extra_nowhere a (Schema.number b m r) s n h = h
+extra_nowhere a (Schema.items r e x) s n h = h
 extra_nowhere a (Schema.octet_string z m) s n h = h
 extra_nowhere a (Schema.bit_string z m) s n h = h
 extra_nowhere a (Schema.char_string l z m) s n h = h

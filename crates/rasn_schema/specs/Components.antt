@@ -256,6 +256,14 @@ octet_string c = simple 4 (octet_schema c) tt
 abbrev pub null : Component
 null = simple 5 Schemas.null tt
 
+-- ENUMERATED of so many items
+abbrev pub enumerated : ℕ → Component
+enumerated roots = simple 10 (Schema.items roots 0 false) tt
+
+-- ENUMERATED of so many items before an extension marker and after it
+abbrev pub extensible_enumerated : ℕ → ℕ → Component
+extensible_enumerated roots addeds = simple 10 (Schema.items roots addeds true) tt
+
 -- UTF8String, of which no constraint is visible (X.691 30.6)
 abbrev pub utf8_string : Component
 utf8_string = simple 12 (Schema.text utf8) tt

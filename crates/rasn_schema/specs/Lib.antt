@@ -1,5 +1,6 @@
 pub mod Components
 pub mod Depth
+pub mod Enumerations
 pub mod Fields
 pub mod Forms
 pub mod Lawful

@@ -4,6 +4,7 @@
 pub mod boxed;
 pub mod components;
 pub mod constrained;
+pub mod enumerated;
 pub mod fields;
 pub mod integers;
 pub mod octets;

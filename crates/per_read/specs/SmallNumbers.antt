@@ -1,0 +1,45 @@
+-- Numbers without sign that are read octet by octet, and normally small numbers (X.691 11.6, 11.7).
+use Rattle.std.specs.Prelude.{◌≡◌, ◌<◌, ◌≤◌, ◌*◌, ◌^◌, ℕ, true, [], ◌∷◌, List, Option, Some, None, length, Result, OnOk, IfErr}
+use Rattle.rasn_types.specs.Bits.{Bits}
+use Rattle.rasn_types.specs.Octets.{unsigned}
+use Rattle.per_core.specs.Basic.{IsSemiConstrainedWhole, Marked, Octets, OneByOne, octet}
+use Rattle.per_core.specs.Spellings.{Settings, Spelling, Then, Field, exactly}
+use Rattle.per_core.specs.Took.{Took}
+use Rattle.per_read.specs.Items.{TookItems}
+use Rattle.per_read.specs.Kinds.{IsTested, Refused}
+use Rattle.per_read.specs.State.{State}
+use Rattle.per_read.specs.declared.error.DecodeErrorKind.{DecodeErrorKind}
+use Rattle.per_read.specs.declared.error.DecodeErrorKind.TheVariants.{UnexpectedEmptyInput}
+
+-- X.691 11.3: a number is what octets mean without sign; none stands for one past 64 bits
+abbrev pub Means : Option ℕ → List ℕ → Type 0
+Means None octets = 2 ^ 64 ≤ unsigned octets
+Means (Some n) octets = n ≡ unsigned octets
+
+-- the same, whatever number it began with
+abbrev pub MeansSince : Option ℕ → Option ℕ → List ℕ → Type 0
+MeansSince start number octets = Means number octets
+
+-- A call that takes n octets with no length, and appends them to a number. It takes no memory.
+pub record AppendsOctets (n : ℕ) (before : Option ℕ) (x : State) (result : Result (Unit {0}) DecodeErrorKind) (after : Option ℕ) (y : State) : Type 0 where
+  pub ok : OnOk result (TookItems MeansSince (OneByOne octet) n before after x.bits y.bits)
+  pub err : IfErr result (Refused (length x.bits < 8 * n))
+  pub kept : y.codec ≡ x.codec
+
+-- a fact about the number that was read; none stands for one past 64 bits
+abbrev pub OfIndex : (ℕ → Type 0) → Option ℕ → Type 0
+OfIndex P (Some n) = P n
+OfIndex P None = (n : ℕ) × (2 ^ 64 ≤ n) × P n
+
+-- X.691 11.6: a normally small number in either form, also where an i128 doesn't hold it
+abbrev pub small_form : Settings → ℕ → Spelling
+small_form a = Marked true (Field 6) (IsSemiConstrainedWhole a)
+
+-- X.691 11.6: the large form of no octets
+abbrev pub empty_form : Settings → Spelling
+empty_form a = Then (exactly (true ∷ [])) (Octets a [])
+
+-- what a kind says of a normally small number
+abbrev pub IsOfSmall : Settings → Bits → DecodeErrorKind → Type 0
+IsOfSmall a s UnexpectedEmptyInput = (t : Bits) × Took (empty_form a) s t
+IsOfSmall a s k = IsTested k

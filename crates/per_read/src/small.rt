@@ -1,0 +1,21 @@
+//! Normally small non-negative whole numbers (X.691 11.6).
+
+ghost use Rattle.per_read.specs.SmallNumbers.{IsOfSmall, OfIndex, small_form};
+ghost use Rattle.per_read.specs.Takes.{Takes, telling};
+
+use crate::Reader;
+use crate::error::DecodeErrorKind;
+
+impl Reader<'_> {
+    /// Takes a normally small number: behind a bit 0 six bits, behind a bit 1 a number with the lower bound 0, which
+    /// may be below 64 too. `None` is a number that no `usize` holds.
+    pub(crate) fn take_small(&mut self) -> Result<Option<usize>, DecodeErrorKind>
+        ensures { Takes (telling IsOfSmall) small_form OfIndex self.old result self.new }
+    {
+        if self.take_bit()? {
+            return self.take_index();
+        }
+        let number = self.take_bits(6)?;
+        Ok(Some(number as usize))
+    }
+}
