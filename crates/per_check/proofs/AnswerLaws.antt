@@ -15,7 +15,7 @@ use Rattle.per_core.specs.Canon.{bytes}
 use Rattle.per_check.specs.declared.arguments.Variant.{Variant}
 use Rattle.per_check.specs.declared.arguments.Variant.TheVariants.{Uper}
 use Rattle.per_check.specs.declared.arguments.TypeName.{TypeName}
-use Rattle.per_check.specs.declared.arguments.TypeName.TheVariants.{Boolean, Null, Integer, UpTo65535, FromMinusOne, Natural, ZeroTo65536, OneToTenExtensible, Four, Seven, ShortVisible, LettersAToE, BitString, OctetString, OnlyX}
+use Rattle.per_check.specs.declared.arguments.TypeName.TheVariants.{Boolean, Null, Integer, UpTo65535, FromMinusOne, Natural, ZeroTo65536, OneToTenExtensible, Four, Seven, ShortVisible, LettersAToE, BitString, OctetString, OnlyX, Items}
 use Rattle.per_check.specs.declared.arguments.Arguments.{Arguments}
 use Rattle.per_check.specs.declared.fault.Fault.TheVariants.{CannotWrite}
 use Rattle.per_check.specs.Words.{variant_word, type_word, words_of}
@@ -26,7 +26,7 @@ use Rattle.per_check.specs.Answers.{Answers, Prints, Stands}
 -- the types that the program knows
 abbrev all_types : List TypeName
 all_types = Boolean ∷ Null ∷ Integer ∷ UpTo65535 ∷ FromMinusOne ∷ Natural ∷ ZeroTo65536 ∷ OneToTenExtensible ∷ Four ∷ Seven
-    ∷ ShortVisible ∷ LettersAToE ∷ BitString ∷ OctetString ∷ OnlyX ∷ []
+    ∷ ShortVisible ∷ LettersAToE ∷ BitString ∷ OctetString ∷ OnlyX ∷ Items ∷ []
 
 -- the first of some types that a word names
 abbrev named : List ℕ → List TypeName → Option TypeName
@@ -53,6 +53,7 @@ type_of-words v LettersAToE = refl
 type_of-words v BitString = refl
 type_of-words v OctetString = refl
 type_of-words v OnlyX = refl
+type_of-words v Items = refl
 
 same_type : (a b : Arguments) → words_of a ≡ words_of b → a.type_name ≡ b.type_name
 same_type a b e =

@@ -10,6 +10,7 @@ use Rattle.rasn_schema.specs.Forms.{always}
 use Rattle.rasn_schema.specs.Components.{lower_bound, upper_bound, sequence_of}
 use Rattle.per_samples_a.specs.Fours.{four}
 use Rattle.per_samples_a.specs.Sevens.{seven}
+use Rattle.per_samples_c.specs.Items.{with_item}
 use Rattle.rasn_per.specs.Complete.{AreBytes, HasNoBytes, AreReadAs, AreUnread}
 use Rattle.rasn_per.specs.Kinds.{IsInOctets}
 use Rattle.per_write.specs.declared.error.EncodeErrorKind.TheVariants as Encoding
@@ -17,7 +18,7 @@ use Rattle.per_read.specs.declared.error.DecodeErrorKind.TheVariants as Decoding
 use Rattle.per_check.specs.declared.arguments.Variant.{Variant}
 use Rattle.per_check.specs.declared.arguments.Variant.TheVariants.{Uper}
 use Rattle.per_check.specs.declared.arguments.TypeName.{TypeName}
-use Rattle.per_check.specs.declared.arguments.TypeName.TheVariants.{Boolean, Null, Integer, UpTo65535, FromMinusOne, Natural, ZeroTo65536, OneToTenExtensible, Four, Seven, ShortVisible, LettersAToE, BitString, OctetString, OnlyX}
+use Rattle.per_check.specs.declared.arguments.TypeName.TheVariants.{Boolean, Null, Integer, UpTo65535, FromMinusOne, Natural, ZeroTo65536, OneToTenExtensible, Four, Seven, ShortVisible, LettersAToE, BitString, OctetString, OnlyX, Items}
 use Rattle.per_check.specs.declared.fault.Fault.{Fault}
 use Rattle.per_check.specs.declared.fault.Fault.TheVariants as Faults
 
@@ -30,7 +31,7 @@ abbrev pub one_to : ℕ → Size
 one_to u = record { least = Some 1; most = Some u }
 
 -- what the name of a type means: BOOLEAN (X.680 18); NULL (X.680 24); INTEGER (X.680 19), alone and under value constraints
--- (X.680 51.4); SEQUENCE (X.680 25) of required components; BIT STRING (X.680 22); OCTET STRING (X.680 23); and character strings
+-- (X.680 51.4); SEQUENCE (X.680 25) of required components, ENUMERATED (X.680 20) among them; BIT STRING (X.680 22); OCTET STRING (X.680 23); and character strings
 -- (X.680 41) by their characters
 abbrev pub schema_of : TypeName → ℕ → Schema
 schema_of Boolean = always Schema.boolean
@@ -48,6 +49,7 @@ schema_of LettersAToE = always (Schema.char_string (from_to 5 65) (one_to 20) fa
 schema_of BitString = always (Schema.bit_string any_size false)
 schema_of OctetString = always (Schema.octet_string any_size false)
 schema_of OnlyX = always (Schema.char_string (120 ∷ []) any_size false)
+schema_of Items = sequence_of with_item
 
 -- octets are read as one value, whose canonical octets these are
 pub record Recodes (rules : Variants.Variant) (schema : ℕ → Schema) (octets canonical : List ℕ) : Type 0 where

@@ -46,6 +46,8 @@ pub enum TypeName {
     OctetString,
     /// IA5String (FROM ("x")).
     OnlyX,
+    /// SEQUENCE { a BOOLEAN, e ENUMERATED of 256 items }.
+    Items,
 }
 
 /// What the program is asked to do.
@@ -92,6 +94,7 @@ impl TypeName {
             "bits" => Some(TypeName::BitString),
             "octets" => Some(TypeName::OctetString),
             "onlyx" => Some(TypeName::OnlyX),
+            "items" => Some(TypeName::Items),
             _ => None,
         }
     }

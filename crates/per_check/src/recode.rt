@@ -11,6 +11,7 @@ use per_samples_a::four::Four;
 use per_samples_a::half_bounded::{FromMinusOne, Natural, UpTo65535};
 use per_samples_a::seven::Seven;
 use per_samples_b::strings::{LettersAToE, OnlyX, ShortVisible};
+use per_samples_c::items::WithItem;
 use rasn_codec::codec::{Decode, Encode};
 use rasn_per::uper;
 use rasn_types::big::Integer;
@@ -43,6 +44,7 @@ pub fn recoded(alloc: Global, arguments: Arguments, octets: &[u8]) -> Result<Vec
             TypeName::BitString => recoded_as::<BitString>(alloc, octets),
             TypeName::OctetString => recoded_as::<OctetString>(alloc, octets),
             TypeName::OnlyX => recoded_as::<OnlyX>(alloc, octets),
+            TypeName::Items => recoded_as::<WithItem>(alloc, octets),
         },
     }
 }

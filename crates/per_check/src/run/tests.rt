@@ -162,6 +162,9 @@ fn prints_the_canonical_encoding(rt: HostRuntime) -> Result<(), Fail> {
         ("uper octets", "00\n", "00\n"),
         // "xxx".
         ("uper onlyx", "03\n", "03\n"),
+        // The last item, and the first one behind bits that are spare.
+        ("uper items", "ff80\n", "ff80\n"),
+        ("uper items", "007f\n", "0000\n"),
     ] {
         assert_ran(
             &rt,

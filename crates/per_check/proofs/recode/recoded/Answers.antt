@@ -12,5 +12,8 @@ one_variant Uper = refl
 pub returns-in-Four-clause-err : goal.returns-in-Four-clause-err
 returns-in-Four-clause-err c = rw (c.in-Four.is, one_variant c.args.arguments.variant) c.recoded_as-in-Four.ensures.err
 
+pub returns-in-Items-clause-err : goal.returns-in-Items-clause-err
+returns-in-Items-clause-err c = rw (c.in-Items.is, one_variant c.args.arguments.variant) c.recoded_as-in-Items.ensures.err
+
 pub returns-in-Seven-clause-err : goal.returns-in-Seven-clause-err
 returns-in-Seven-clause-err c = rw (c.in-Seven.is, one_variant c.args.arguments.variant) c.recoded_as-in-Seven.ensures.err
