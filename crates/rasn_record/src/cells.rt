@@ -165,9 +165,9 @@ impl<'a, H: Encode, N: EncodeCells> EncodeCells for Required<&'a H, N> {
         encoder: &mut E,
     ) -> Result<(), E::Error> {
         let tag = first_tag(fields, H::TAG);
-        let own_or_given = given_or_own(constraints, H::CONSTRAINTS);
+        let in_use = given_or_own(constraints, H::CONSTRAINTS);
         self.value
-            .encode_with_tag_and_constraints(encoder, tag, &own_or_given, H::IDENTIFIER)?;
+            .encode_with_tag_and_constraints(encoder, tag, &in_use, H::IDENTIFIER)?;
         self.next
             .encode_cells(behind(fields), behind(constraints), encoder)
     }
@@ -223,8 +223,8 @@ impl<H: Decode, N: DecodeCells> DecodeCells for Required<H, N> {
         decoder: &mut D,
     ) -> Result<(H, N::Values), D::Error> {
         let tag = first_tag(fields, H::TAG);
-        let own_or_given = given_or_own(constraints, H::CONSTRAINTS);
-        let value = H::decode_with_tag_and_constraints(decoder, tag, &own_or_given)?;
+        let in_use = given_or_own(constraints, H::CONSTRAINTS);
+        let value = H::decode_with_tag_and_constraints(decoder, tag, &in_use)?;
         let next = N::decode_cells(behind(fields), behind(constraints), decoder)?;
         Ok((value, next))
     }

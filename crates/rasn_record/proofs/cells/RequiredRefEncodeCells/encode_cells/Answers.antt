@@ -10,7 +10,7 @@ pub returns-in_err-encode_with_tag_and_constraints : goal.returns-in_err-encode_
 unfolding normal settle
 returns-in_err-encode_with_tag_and_constraints g c =
     let p = err_from_is_err_and c.from_residual.result c.from_residual.ensures.1 in
-    let w = rw (c.given_or_own-own_or_given.ensures, c.CONSTRAINTS.ensures) at c.in_err-encode_with_tag_and_constraints.ensures.law in
+    let w = rw (c.given_or_own-in_use.ensures, c.CONSTRAINTS.ensures) at c.in_err-encode_with_tag_and_constraints.ensures.law in
     record {
       law = rw (p.1, p.2) (record { at = λ n le. required_refused g.E.Encoder.rules (w.at n (omega arith)) });
       fails = search rules;
@@ -20,7 +20,7 @@ returns-in_err-encode_with_tag_and_constraints g c =
 pub returns : goal.returns
 unfolding normal settle
 returns g c =
-    let w = rw (c.given_or_own-own_or_given.ensures, c.CONSTRAINTS.ensures) at c.in_ok-encode_with_tag_and_constraints.ensures.law in
+    let w = rw (c.given_or_own-in_use.ensures, c.CONSTRAINTS.ensures) at c.in_ok-encode_with_tag_and_constraints.ensures.law in
     let v = rw (c.behind.ensures, c.behind-2.ensures, ← behind-map shape_of c.args.fields.now) at c.encode_cells.ensures.law in
     record {
       law = record { at = λ n le. required_written g.E.Encoder.rules g.met.E.Encoder.lawful _ _ _ _ _ _ _ (w.at n (omega arith)) _ _ (v.at n (omega arith)) };
