@@ -17,8 +17,8 @@
 //! ```
 //!
 //! `fields`, `bounds`, `constraints`, `encode_components` and `decode_components` are for authors, and so are
-//! `encode_each_component`, `decode_each_component` and `state_each_component`, by which a mistake is found. What the
-//! others write is part of these.
+//! `encode_each_component` and `decode_each_component`, by which a mistake is found. What the others write is part of
+//! these.
 
 /// The fields of a list of components, as `Fields`.
 #[macro_export]
@@ -115,16 +115,9 @@ macro_rules! decode_each_component {
         $crate::with_places!(stated_to_read []; $($list)*);
         let read: Result<Self, D::Error> = $crate::decode_components!([$decoder] $($list)*);
         let read = read?;
-        $crate::state_each_component!([read] $($list)*);
+        $crate::with_places!(stated_as_read [read]; $($list)*);
         Ok(read)
     }};
-}
-
-/// States of a record, a local variable, that each field is what `contents` says at its place: put it in front of the
-/// answer where a record that was read is made by hand, and the check refuses that.
-#[macro_export]
-macro_rules! state_each_component {
-    ([$of:ident] $($list:tt)*) => { $crate::with_places!(stated_as_read [$of]; $($list)*) };
 }
 
 /// A callback's call with the places from 0 in brackets before its arguments.
