@@ -11,7 +11,7 @@ ghost use Rattle.rasn_schema.specs.Tags.{sequence_tag};
 ghost use Rattle.per_samples_a.specs.Boths.{both_parts, both_contents};
 
 use rasn_codec::codec::{Decode, Decoder, Encode, Encoder};
-use rasn_record::cells::{End, Required};
+use rasn_record::cells::{End, Listed, Required};
 use rasn_schema::fields::{Constructed, Field, Fields, Presence, TagTree};
 use rasn_schema::schema::{AsnType, Constraints};
 use rasn_types::types::{Class, Identifier, Tag};
@@ -101,15 +101,15 @@ impl<A: Encode, B: Encode> Encode for Both<A, B> {
         identifier: Identifier,
     ) -> Result<(), E::Error> {
         let _ = constraints;
-        let parts = Required {
-            tag: A_TAG,
-            constraints: None,
-            value: &self.a,
-            next: Required {
-                tag: B_TAG,
-                constraints: None,
-                value: &self.b,
-                next: End {},
+        let parts = Listed {
+            fields: FIELDS,
+            constraints: &[],
+            cells: Required {
+                value: &self.a,
+                next: Required {
+                    value: &self.b,
+                    next: End {},
+                },
             },
         };
         encoder.encode_record::<Both<A, B>, _, _>(tag, &parts, identifier)
@@ -123,16 +123,10 @@ impl<A: Decode, B: Decode> Decode for Both<A, B> {
         constraints: &Constraints,
     ) -> Result<Both<A, B>, D::Error> {
         let _ = constraints;
-        let parts = Required {
-            tag: A_TAG,
-            constraints: None,
-            value: PhantomData::<A>,
-            next: Required {
-                tag: B_TAG,
-                constraints: None,
-                value: PhantomData::<B>,
-                next: End {},
-            },
+        let parts = Listed {
+            fields: FIELDS,
+            constraints: &[],
+            cells: PhantomData::<Required<A, Required<B, End>>>,
         };
         let (a, (b, ())) = decoder.decode_record::<Both<A, B>, _>(tag, &parts)?;
         Ok(Both { a, b })

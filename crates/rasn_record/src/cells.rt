@@ -1,62 +1,70 @@
-//! Cells, of which the list of a record's components is made.
+//! Cells, of which the list of a record's components is made. Their tags and constraints stand in lists beside them.
 
-ghost use Rattle.std.specs.Prelude.{◌≡◌, ℕ, suc, max, List, [], ◌∷◌, Option, Some, refl};
+ghost use Rattle.std.specs.Prelude.{◌≡◌, ℕ, suc, max, List, [], ◌∷◌, Option, Some, map};
+ghost use Rattle.std.specs.Borrow.{Bor};
 ghost use Rattle.rasn_types.specs.Values.{Value};
-ghost use Rattle.rasn_schema.specs.Schemas.{TagTree, Presence, Schema, Parts, no_parts, part, required};
+ghost use Rattle.rasn_constraints.specs.declared.constraints.Constraint.{Constraint};
+ghost use Rattle.rasn_schema.specs.Schemas.{leaf, Parts, no_parts, part, required};
 ghost use Rattle.rasn_schema.specs.Records.{own_or};
-ghost use Rattle.rasn_schema.specs.Fields.{tagged};
+ghost use Rattle.rasn_schema.specs.Fields.{Shape, shape_of, tag_of};
 ghost use Rattle.rasn_codec.specs.Scopes.{WritesParts, TakesParts};
-ghost use Rattle.rasn_record.specs.Rests.{ToWrite, to_write, ToRead, to_read};
+ghost use Rattle.rasn_record.specs.Lists.{behind, first_tag, first_given};
 
 use rasn_codec::codec::{Decode, Decoder, Encode, Encoder};
 use rasn_codec::parts::{DecodeParts, EncodeParts};
+use rasn_schema::constraints::Constraint;
+use rasn_schema::fields::Field;
 use rasn_schema::schema::Constraints;
 use rasn_types::types::Tag;
 use std::marker::PhantomData;
 
-/// Components of a record that are still to be written, of which there is a first.
-pub trait EncodeFirst: EncodeParts {
-    // The first: its tags, whether it may be absent, its schema to a number of levels, what it is, and how many levels
-    // it takes.
-    ghost tags: { Self → TagTree };
+/// Components of a record that are still to be written, of which lists state the tags and the constraints.
+pub trait EncodeCells {
+    // The components, by what the lists state of them, to a number of levels.
+    ghost parts: { Self → List Shape → List (Bor (List Constraint)) → ℕ → Parts };
 
-    ghost presence: { Presence };
+    // What they are.
+    ghost contents: { Self → List (Option Value) };
 
-    ghost schema: { Self → ℕ → Schema };
+    // How many levels they take.
+    ghost levels: { Self → ℕ };
 
-    ghost content: { Self → Option Value };
+    // How many they are.
+    ghost count: { ℕ };
 
-    ghost depth: { Self → ℕ };
-
-    // Those behind it.
-    ghost behind: { Self → ToWrite };
-
-    // These are all.
-    ghost all_parts: { (p : Self) (n : ℕ) → Self.parts p n ≡ part (tags p) presence (schema p n) ((behind p).parts n) };
-
-    ghost all_contents: { (p : Self) → Self.contents p ≡ content p ∷ (behind p).contents };
-
-    ghost all_levels: { (p : Self) → Self.levels p ≡ max (depth p) ((behind p).levels) };
-
-    ghost all_count: { (p : Self) → Self.count ≡ suc ((behind p).count) };
+    /// Writes the components in turn.
+    fn encode_cells<E: Encoder>(
+        &self,
+        fields: &[Field],
+        constraints: &[&'static [Constraint]],
+        encoder: &mut E,
+    ) -> Result<(), E::Error>
+        ensures { WritesParts E.rules (Self.parts self.now (map shape_of fields.now) constraints.now)
+            (Self.levels self.now) (Self.contents self.now) encoder.old result encoder.new };
 }
 
-/// Components of a record that are still to be read, of which there is a first.
-pub trait DecodeFirst: DecodeParts {
-    // The first: its tags, whether it may be absent, and its schema to a number of levels.
-    ghost tags: { Self → TagTree };
+/// Components of a record that are still to be read, of which lists state the tags and the constraints.
+pub trait DecodeCells {
+    /// What they are: a pair of the first and of those behind it, and `()` at the end.
+    type Values: Drop;
 
-    ghost presence: { Presence };
+    // The components, by what the lists state of them, to a number of levels.
+    ghost parts: { List Shape → List (Bor (List Constraint)) → ℕ → Parts };
 
-    ghost schema: { Self → ℕ → Schema };
+    // What values of them are.
+    ghost contents: { Self.Values → List (Option Value) };
 
-    // Those behind it.
-    ghost behind: { Self → ToRead };
+    // How many they are.
+    ghost count: { ℕ };
 
-    // These are all.
-    ghost all_parts: { (p : Self) (n : ℕ) → Self.parts p n ≡ part (tags p) presence (schema p n) ((behind p).parts n) };
-
-    ghost all_count: { (p : Self) → Self.count ≡ suc ((behind p).count) };
+    /// Reads the components in turn.
+    fn decode_cells<D: Decoder>(
+        fields: &[Field],
+        constraints: &[&'static [Constraint]],
+        decoder: &mut D,
+    ) -> Result<Self::Values, D::Error>
+        ensures { TakesParts D.rules (Self.parts (map shape_of fields.now) constraints.now) Self.contents
+            decoder.old result decoder.new };
 }
 
 /// The end of the components.
@@ -65,31 +73,62 @@ pub struct End {}
 
 /// A required component, and those behind it.
 ///
-/// To write, `value` is a reference to what the component is; to read, it is `PhantomData` of its type.
-#[derive(Drop)]
+/// To write, `value` is a reference to what the component is; to read, it is of the component's type, and only the
+/// type of the cell is in use.
+#[derive(Clone, Copy)]
 pub struct Required<V, N> {
-    /// The tag of the component.
-    pub tag: Tag,
-    /// The constraints on the component, where they are not its type's own.
-    pub constraints: Option<Constraints>,
-    /// What the component is, or its type.
+    /// What the component is.
     pub value: V,
     /// The components behind it.
     pub next: N,
 }
 
-/// The constraints that are given, or else a type's own.
-fn given_or_own<'a>(given: &'a Option<Constraints>, own: &'a Constraints) -> &'a Constraints
-    ensures { result.now ≡ own_or own.now given.now }
+/// Components of a record, and the lists that state their tags and constraints. A component that isn't in a list has
+/// its type's own tag; one that isn't in a list, or has none there, has its type's own constraints.
+///
+/// To write, `cells` are the components; to read, they are `PhantomData` of them.
+#[derive(Clone, Copy)]
+pub struct Listed<P> {
+    /// The fields of the components, in their order.
+    pub fields: &'static [Field],
+    /// The constraints of the components, in their order.
+    pub constraints: &'static [&'static [Constraint]],
+    /// The components.
+    pub cells: P,
+}
+
+/// The tag of the first field, or else a type's own.
+fn first_tag(fields: &[Field], own: Tag) -> Tag
+    ensures { tag_of result ≡ first_tag (tag_of own) (map shape_of fields.now) }
 {
-    match given {
-        Some(constraints) => constraints,
-        None => own,
+    match fields {
+        [first, ..] => first.tag,
+        [] => own,
     }
 }
 
-impl EncodeParts for End {
-    ghost parts = { λ p n. no_parts };
+/// The constraints that the first component is given, or else a type's own.
+fn given_or_own(constraints: &[&'static [Constraint]], own: Constraints) -> Constraints
+    ensures { result ≡ own_or own (first_given constraints.now) }
+{
+    match constraints {
+        [] | [[], ..] => own,
+        [first, ..] => Constraints(first),
+    }
+}
+
+/// Those behind the first of a list.
+fn behind<T>(list: &[T]) -> &[T]
+    ensures { result.now ≡ behind list.now }
+{
+    match list {
+        [_, behind @ ..] => behind,
+        [] => list,
+    }
+}
+
+impl EncodeCells for End {
+    ghost parts = { λ p fs cs n. no_parts };
 
     ghost contents = { λ p. [] };
 
@@ -98,15 +137,20 @@ impl EncodeParts for End {
     ghost count = { 0 };
 
     #[tactic(auto, unfolding(rasn_schema::specs::Normal::normal))]
-    fn encode_parts<E: Encoder>(&self, encoder: &mut E) -> Result<(), E::Error> {
+    fn encode_cells<E: Encoder>(
+        &self,
+        _: &[Field],
+        _: &[&'static [Constraint]],
+        encoder: &mut E,
+    ) -> Result<(), E::Error> {
         let _ = encoder;
         Ok(())
     }
 }
 
-impl<'a, H: Encode, N: EncodeParts> EncodeParts for Required<&'a H, N> {
-    ghost parts = { λ p n. part (tagged p.tag) required (H.schema (own_or H.CONSTRAINTS p.constraints) n)
-        (N.parts p.next n) };
+impl<'a, H: Encode, N: EncodeCells> EncodeCells for Required<&'a H, N> {
+    ghost parts = { λ p fs cs n. part (leaf (first_tag (tag_of H.TAG) fs)) required
+        (H.schema (own_or H.CONSTRAINTS (first_given cs)) n) (N.parts p.next (behind fs) (behind cs) n) };
 
     ghost contents = { λ p. Some (H.value p.value.now) ∷ N.contents p.next };
 
@@ -114,81 +158,88 @@ impl<'a, H: Encode, N: EncodeParts> EncodeParts for Required<&'a H, N> {
 
     ghost count = { suc N.count };
 
-    fn encode_parts<E: Encoder>(&self, encoder: &mut E) -> Result<(), E::Error> {
-        let own = H::CONSTRAINTS;
-        let constraints = given_or_own(&self.constraints, &own);
+    fn encode_cells<E: Encoder>(
+        &self,
+        fields: &[Field],
+        constraints: &[&'static [Constraint]],
+        encoder: &mut E,
+    ) -> Result<(), E::Error> {
+        let tag = first_tag(fields, H::TAG);
+        let in_use = given_or_own(constraints, H::CONSTRAINTS);
         self.value
-            .encode_with_tag_and_constraints(encoder, self.tag, constraints, H::IDENTIFIER)?;
-        self.next.encode_parts(encoder)
+            .encode_with_tag_and_constraints(encoder, tag, &in_use, H::IDENTIFIER)?;
+        self.next
+            .encode_cells(behind(fields), behind(constraints), encoder)
     }
 }
 
-impl<'a, H: Encode, N: EncodeParts> EncodeFirst for Required<&'a H, N> {
-    ghost tags = { λ p. tagged p.tag };
+impl<P: EncodeCells> EncodeParts for Listed<P> {
+    ghost parts = { λ p. P.parts p.cells (map shape_of p.fields.now) p.constraints.now };
 
-    ghost presence = { required };
+    ghost contents = { λ p. P.contents p.cells };
 
-    ghost schema = { λ p. H.schema (own_or H.CONSTRAINTS p.constraints) };
+    ghost levels = { λ p. P.levels p.cells };
 
-    ghost content = { λ p. Some (H.value p.value.now) };
+    ghost count = { P.count };
 
-    ghost depth = { λ p. H.levels p.value.now };
-
-    ghost behind = { λ p. to_write (N.parts p.next) (N.contents p.next) (N.levels p.next) N.count };
-
-    ghost all_parts = { λ p n. refl };
-
-    ghost all_contents = { λ p. refl };
-
-    ghost all_levels = { λ p. refl };
-
-    ghost all_count = { λ p. refl };
+    fn encode_parts<E: Encoder>(&self, encoder: &mut E) -> Result<(), E::Error> {
+        self.cells
+            .encode_cells(self.fields, self.constraints, encoder)
+    }
 }
 
-impl DecodeParts for End {
+impl DecodeCells for End {
     type Values = ();
 
-    ghost parts = { λ p n. no_parts };
+    ghost parts = { λ fs cs n. no_parts };
 
     ghost contents = { λ values. [] };
 
     ghost count = { 0 };
 
-    fn decode_parts<D: Decoder>(&self, decoder: &mut D) -> Result<(), D::Error> {
+    fn decode_cells<D: Decoder>(
+        _: &[Field],
+        _: &[&'static [Constraint]],
+        decoder: &mut D,
+    ) -> Result<(), D::Error> {
         let _ = decoder;
         Ok(())
     }
 }
 
-impl<H: Decode, N: DecodeParts> DecodeParts for Required<PhantomData<H>, N> {
+impl<H: Decode, N: DecodeCells> DecodeCells for Required<H, N> {
     type Values = (H, N::Values);
 
-    ghost parts = { λ p n. part (tagged p.tag) required (H.schema (own_or H.CONSTRAINTS p.constraints) n)
-        (N.parts p.next n) };
+    ghost parts = { λ fs cs n. part (leaf (first_tag (tag_of H.TAG) fs)) required
+        (H.schema (own_or H.CONSTRAINTS (first_given cs)) n) (N.parts (behind fs) (behind cs) n) };
 
     ghost contents = { λ values. Some (H.value values.0) ∷ N.contents values.1 };
 
     ghost count = { suc N.count };
 
-    fn decode_parts<D: Decoder>(&self, decoder: &mut D) -> Result<(H, N::Values), D::Error> {
-        let own = H::CONSTRAINTS;
-        let constraints = given_or_own(&self.constraints, &own);
-        let value = H::decode_with_tag_and_constraints(decoder, self.tag, constraints)?;
-        let next = self.next.decode_parts(decoder)?;
+    fn decode_cells<D: Decoder>(
+        fields: &[Field],
+        constraints: &[&'static [Constraint]],
+        decoder: &mut D,
+    ) -> Result<(H, N::Values), D::Error> {
+        let tag = first_tag(fields, H::TAG);
+        let in_use = given_or_own(constraints, H::CONSTRAINTS);
+        let value = H::decode_with_tag_and_constraints(decoder, tag, &in_use)?;
+        let next = N::decode_cells(behind(fields), behind(constraints), decoder)?;
         Ok((value, next))
     }
 }
 
-impl<H: Decode, N: DecodeParts> DecodeFirst for Required<PhantomData<H>, N> {
-    ghost tags = { λ p. tagged p.tag };
+impl<P: DecodeCells> DecodeParts for Listed<PhantomData<P>> {
+    type Values = P::Values;
 
-    ghost presence = { required };
+    ghost parts = { λ p. P.parts (map shape_of p.fields.now) p.constraints.now };
 
-    ghost schema = { λ p. H.schema (own_or H.CONSTRAINTS p.constraints) };
+    ghost contents = { P.contents };
 
-    ghost behind = { λ p. to_read (N.parts p.next) N.count };
+    ghost count = { P.count };
 
-    ghost all_parts = { λ p n. refl };
-
-    ghost all_count = { λ p. refl };
+    fn decode_parts<D: Decoder>(&self, decoder: &mut D) -> Result<P::Values, D::Error> {
+        P::decode_cells(self.fields, self.constraints, decoder)
+    }
 }

@@ -81,39 +81,42 @@ macro_rules! is_marked {
     (...) => { true };
 }
 
-/// Writes the components of a list in turn. Their constraints are in the constant `BOUNDS`.
+/// Writes the components of a list in turn. Their fields are in the constant `FIELDS`, their constraints in `BOUNDS`.
 #[macro_export]
 macro_rules! encode_components {
     ([$of:ident $encoder:ident] $($list:tt)*) => {
-        $crate::write::all($of, &$crate::with_places!(cells_to_write all $of $($list)*), $encoder)
+        $crate::write::all($of, &$crate::listed!($crate::cells_to_write!($of $($list)*)), $encoder)
     };
 }
 
-/// The same, each component stated by itself: put it in the other's place where the check refuses that.
+/// The same, each component also stated by itself: put it in the other's place where the check refuses that.
 #[macro_export]
 macro_rules! encode_each_component {
-    ([$of:ident $encoder:ident] $($list:tt)*) => {
-        $crate::write::components($of, &$crate::with_places!(cells_to_write each $of $($list)*), $encoder)
-    };
+    ([$of:ident $encoder:ident] $($list:tt)*) => {{
+        $crate::with_places!(stated_to_write [$of]; $($list)*);
+        $crate::encode_components!([$of $encoder] $($list)*)
+    }};
 }
 
-/// Reads the components of a list in turn. Their constraints are in the constant `BOUNDS`.
+/// Reads the components of a list in turn. Their fields are in the constant `FIELDS`, their constraints in `BOUNDS`.
 #[macro_export]
 macro_rules! decode_components {
     ([$decoder:ident] $($presence:ident $tag:literal $name:literal $field:ident: $type:ty [$($bounds:tt)*];)*) => {{
-        let cells = $crate::with_places!(cells_to_read all $($presence $tag $field: $type [$($bounds)*];)*);
+        let cells = $crate::listed!(std::marker::PhantomData::<$crate::cells_to_read!($($presence $type;)*)>);
         let $crate::pairs!($($field)*) = $crate::read::all::<Self, _, _>(&cells, $decoder)?;
         Ok(Self { $($field),* })
     }};
 }
 
-/// The same, each component stated by itself: put it in the other's place where the check refuses that.
+/// The same, each component also stated by itself: put it in the other's place where the check refuses that.
 #[macro_export]
 macro_rules! decode_each_component {
-    ([$decoder:ident] $($presence:ident $tag:literal $name:literal $field:ident: $type:ty [$($bounds:tt)*];)*) => {{
-        let cells = $crate::with_places!(cells_to_read each $($presence $tag $field: $type [$($bounds)*];)*);
-        let $crate::pairs!($($field)*) = $crate::read::components::<Self, _, _>(&cells, $decoder)?;
-        Ok(Self { $($field),* })
+    ([$decoder:ident] $($list:tt)*) => {{
+        $crate::with_places!(stated_to_read []; $($list)*);
+        let read: Result<Self, D::Error> = $crate::decode_components!([$decoder] $($list)*);
+        let read = read?;
+        $crate::with_places!(stated_as_read [read]; $($list)*);
+        Ok(read)
     }};
 }
 
@@ -165,77 +168,73 @@ macro_rules! placed_fields {
     };
 }
 
-/// The constraints that a component is given.
+/// Cells with the lists that state them.
 #[macro_export]
-macro_rules! given {
-    ($place:literal) => { None };
-    ($place:literal $($bounds:tt)+) => { Some($crate::Constraints(BOUNDS[$place])) };
-}
-
-/// A cell in front of others.
-#[macro_export]
-macro_rules! cell {
-    (required, $tag:literal, $constraints:expr, $value:expr, $next:expr) => {
-        $crate::cells::Required {
-            tag: $crate::context_tag!($tag),
-            constraints: $constraints,
-            value: $value,
-            next: $next,
+macro_rules! listed {
+    ($cells:expr) => {
+        $crate::cells::Listed {
+            fields: FIELDS.list,
+            constraints: BOUNDS,
+            cells: $cells,
         }
     };
 }
 
-/// The components of a list at their places, as cells to write.
+/// The components of a list as cells to write.
 #[macro_export]
 macro_rules! cells_to_write {
-    ($places:tt $mode:ident $of:ident) => { $crate::cells::End {} };
-    ([$place:literal $($places:tt)*] $mode:ident $of:ident
-        $presence:ident $tag:literal $name:literal $field:ident: $type:ty [$($bounds:tt)*]; $($rest:tt)*
-    ) => {
-        $crate::stated_to_write!($mode $of $field $crate::cell!(
-            $presence,
-            $tag,
-            $crate::given!($place $($bounds)*),
-            &$of.$field,
-            $crate::cells_to_write!([$($places)*] $mode $of $($rest)*)
-        ))
+    ($of:ident) => { $crate::cells::End {} };
+    ($of:ident required $tag:literal $name:literal $field:ident: $type:ty [$($bounds:tt)*]; $($rest:tt)*) => {
+        $crate::cells::Required {
+            value: &$of.$field,
+            next: $crate::cells_to_write!($of $($rest)*),
+        }
     };
 }
 
-/// Cells to write, of which the first is stated.
+/// The type of the cells to read of a list.
+#[macro_export]
+macro_rules! cells_to_read {
+    () => { $crate::cells::End };
+    (required $type:ty; $($rest:tt)*) => { $crate::cells::Required<$type, $crate::cells_to_read!($($rest)*)> };
+}
+
+/// The components of a list to write, each stated at its place.
 #[macro_export]
 macro_rules! stated_to_write {
-    (all $of:ident $field:ident $cells:expr) => { $cells };
-    (each $of:ident $field:ident $cells:expr) => {{
-        let $field = $crate::write::component($of, $cells);
-        $field
+    ($places:tt [$of:ident];) => { () };
+    ([$place:literal $($places:tt)*] [$of:ident];
+        $presence:ident $tag:literal $name:literal $field:ident: $type:ty [$($bounds:tt)*]; $($rest:tt)*
+    ) => {{
+        let $field: &$type = $crate::write::component($of, $place, $tag, BOUNDS, &$of.$field);
+        let _ = $field;
+        $crate::stated_to_write!([$($places)*] [$of]; $($rest)*)
     }};
 }
 
-/// The components of a list at their places, as cells to read.
-#[macro_export]
-macro_rules! cells_to_read {
-    ($places:tt $mode:ident) => { $crate::cells::End {} };
-    ([$place:literal $($places:tt)*] $mode:ident
-        $presence:ident $tag:literal $field:ident: $type:ty [$($bounds:tt)*]; $($rest:tt)*
-    ) => {
-        $crate::stated_to_read!($mode $field $crate::cell!(
-            $presence,
-            $tag,
-            $crate::given!($place $($bounds)*),
-            std::marker::PhantomData::<$type>,
-            $crate::cells_to_read!([$($places)*] $mode $($rest)*)
-        ))
-    };
-}
-
-/// Cells to read, of which the first is stated.
+/// The components of a list to read, each stated at its place.
 #[macro_export]
 macro_rules! stated_to_read {
-    (all $field:ident $cells:expr) => { $cells };
-    (each $field:ident $cells:expr) => {{
-        let $field = $crate::read::component::<Self, _>($cells);
-        $field
+    ($places:tt [];) => { () };
+    ([$place:literal $($places:tt)*] [];
+        $presence:ident $tag:literal $name:literal $field:ident: $type:ty [$($bounds:tt)*]; $($rest:tt)*
+    ) => {{
+        let $field = $crate::read::component::<Self, $type>($place, $tag, BOUNDS);
+        let _ = $field;
+        $crate::stated_to_read!([$($places)*] []; $($rest)*)
+    }};
+}
+
+/// The components of a list that were read, each stated at its place.
+#[macro_export]
+macro_rules! stated_as_read {
+    ($places:tt [$of:ident];) => { () };
+    ([$place:literal $($places:tt)*] [$of:ident];
+        $presence:ident $tag:literal $name:literal $field:ident: $type:ty [$($bounds:tt)*]; $($rest:tt)*
+    ) => {{
+        let $field = $crate::read::value::<Self, $type>(&$of, $place, &$of.$field);
+        let _ = $field;
+        $crate::stated_as_read!([$($places)*] [$of]; $($rest)*)
     }};
 }
 

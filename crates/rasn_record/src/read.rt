@@ -1,41 +1,44 @@
-//! The components of a record as cells to read, each stated at its place.
+//! The components of a record as cells to read, and each stated at its place.
 
-ghost use Rattle.std.specs.Prelude.{◌≡◌, ◌<◌, ℕ, length, Some};
-ghost use Rattle.rasn_schema.specs.Components.{parts_of, tags_at, presence_at, schema_at};
+ghost use Rattle.std.specs.Prelude.{◌≡◌, ℕ, Some, drop};
+ghost use Rattle.rasn_schema.specs.Schemas.{required};
+ghost use Rattle.rasn_schema.specs.Records.{own_or};
+ghost use Rattle.rasn_schema.specs.Components.{parts_of, tags_at, presence_at, schema_at, content_at, at};
 ghost use Rattle.rasn_codec.specs.Scopes.{TakesParts};
-ghost use Rattle.rasn_record.specs.Rests.{before, to_read, AreLastTypes};
+ghost use Rattle.rasn_record.specs.Lists.{first_given};
 
-use crate::cells::DecodeFirst;
 use rasn_codec::codec::Decoder;
 use rasn_codec::parts::DecodeParts;
 use rasn_schema::components::Components;
+use rasn_schema::constraints::Constraint;
+use rasn_schema::schema::AsnType;
 
-/// A component of a record, which stands at its place in front of those behind it.
-pub fn component<T: Components, P: DecodeFirst>(cells: P) -> P
-    requires room { (P.behind cells).count < length T.components }
-    requires tag { tags_at T.components (before T.components (P.behind cells).count) ≡ Some (P.tags cells) }
-    requires presence { presence_at T.components (before T.components (P.behind cells).count) ≡ Some P.presence }
-    requires schema { (n : ℕ) →
-        schema_at T.components (before T.components (P.behind cells).count) n ≡ Some (P.schema cells n) }
-    requires behind { AreLastTypes (P.behind cells) T.components }
-    ensures { AreLastTypes (to_read (P.parts result) P.count) T.components }
+/// A required component of a record, as a list states it at its place.
+pub fn component<T: Components, H: AsnType>(
+    place: usize,
+    tag: u32,
+    constraints: &[&'static [Constraint]],
+)
+    requires tag { tags_at T.components place ≡ Some (at tag) }
+    requires presence { presence_at T.components place ≡ Some required }
+    requires schema { (n : ℕ) → schema_at T.components place n
+        ≡ Some (H.schema (own_or H.CONSTRAINTS (first_given (drop place constraints.now))) n) }
 {
-    cells
+    let _ = place;
+    let _ = tag;
+    let _ = constraints;
+}
+
+/// A required component of a record that was read, as a list states it at its place.
+pub fn value<T: Components, H: AsnType>(of: &T, place: usize, value: &H)
+    requires value { content_at (T.contents of.now) place ≡ Some (Some (H.value value.now)) }
+{
+    let _ = of;
+    let _ = place;
+    let _ = value;
 }
 
 /// Reads all components of a record in turn.
-pub fn components<T: Components, P: DecodeParts, D: Decoder>(
-    cells: &P,
-    decoder: &mut D,
-) -> Result<P::Values, D::Error>
-    requires all { P.count ≡ length T.components }
-    requires stated { AreLastTypes (to_read (P.parts cells.now) P.count) T.components }
-    ensures { TakesParts D.rules (parts_of T.components) P.contents decoder.old result decoder.new }
-{
-    cells.decode_parts(decoder)
-}
-
-/// Reads all components of a record in turn, all at once: `component` states each, and takes longer to check.
 pub fn all<T: Components, P: DecodeParts, D: Decoder>(
     cells: &P,
     decoder: &mut D,

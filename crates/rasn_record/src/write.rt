@@ -1,51 +1,42 @@
-//! The components of a record as cells to write, each stated at its place.
+//! The components of a record as cells to write, and each stated at its place.
 
-ghost use Rattle.std.specs.Prelude.{◌≡◌, ◌≤◌, ◌<◌, ℕ, length, Some};
-ghost use Rattle.rasn_schema.specs.Components.{parts_of, tags_at, presence_at, schema_at, content_at};
+ghost use Rattle.std.specs.Prelude.{◌≡◌, ◌≤◌, ℕ, Some, drop};
+ghost use Rattle.rasn_schema.specs.Schemas.{required};
+ghost use Rattle.rasn_schema.specs.Records.{own_or};
+ghost use Rattle.rasn_schema.specs.Components.{parts_of, tags_at, presence_at, schema_at, content_at, at};
 ghost use Rattle.rasn_codec.specs.Scopes.{WritesParts};
-ghost use Rattle.rasn_record.specs.Rests.{before, to_write, AreLast};
+ghost use Rattle.rasn_record.specs.Lists.{first_given};
 
-use crate::cells::EncodeFirst;
 use rasn_codec::codec::Encoder;
 use rasn_codec::parts::EncodeParts;
 use rasn_schema::components::Components;
+use rasn_schema::constraints::Constraint;
+use rasn_schema::schema::AsnType;
 
-/// A component of a record, which stands at its place in front of those behind it.
-pub fn component<T: Components, P: EncodeFirst>(of: &T, cells: P) -> P
-    requires room { (P.behind cells).count < length T.components }
-    requires held { (P.behind cells).count < length (T.contents of.now) }
-    requires tag { tags_at T.components (before T.components (P.behind cells).count) ≡ Some (P.tags cells) }
-    requires presence { presence_at T.components (before T.components (P.behind cells).count) ≡ Some P.presence }
-    requires schema { (n : ℕ) →
-        schema_at T.components (before T.components (P.behind cells).count) n ≡ Some (P.schema cells n) }
-    requires value { content_at (T.contents of.now) (before (T.contents of.now) (P.behind cells).count)
-        ≡ Some (P.content cells) }
-    requires levels { P.depth cells ≤ T.depth of.now }
-    requires behind { AreLast (P.behind cells) T.components (T.contents of.now) (T.depth of.now) }
-    ensures { AreLast (to_write (P.parts result) (P.contents result) (P.levels result) P.count)
-        T.components (T.contents of.now) (T.depth of.now) }
+/// A required component of a record, as a list states it at its place.
+pub fn component<'a, T: Components, H: AsnType>(
+    of: &T,
+    place: usize,
+    tag: u32,
+    constraints: &[&'static [Constraint]],
+    value: &'a H,
+) -> &'a H
+    requires tag { tags_at T.components place ≡ Some (at tag) }
+    requires presence { presence_at T.components place ≡ Some required }
+    requires schema { (n : ℕ) → schema_at T.components place n
+        ≡ Some (H.schema (own_or H.CONSTRAINTS (first_given (drop place constraints.now))) n) }
+    requires value { content_at (T.contents of.now) place ≡ Some (Some (H.value value.now)) }
+    requires levels { H.levels value.now ≤ T.depth of.now }
+    ensures { result.now ≡ value.now }
 {
     let _ = of;
-    cells
+    let _ = place;
+    let _ = tag;
+    let _ = constraints;
+    value
 }
 
 /// Writes all components of a record in turn.
-pub fn components<T: Components, P: EncodeParts, E: Encoder>(
-    of: &T,
-    cells: &P,
-    encoder: &mut E,
-) -> Result<(), E::Error>
-    requires all { (P.count ≡ length T.components) × (P.count ≡ length (T.contents of.now)) }
-    requires stated { AreLast (to_write (P.parts cells.now) (P.contents cells.now) (P.levels cells.now) P.count)
-        T.components (T.contents of.now) (T.depth of.now) }
-    ensures { WritesParts E.rules (parts_of T.components) (T.depth of.now) (T.contents of.now)
-        encoder.old result encoder.new }
-{
-    let _ = of;
-    cells.encode_parts(encoder)
-}
-
-/// Writes all components of a record in turn, all at once: `component` states each, and takes longer to check.
 pub fn all<T: Components, P: EncodeParts, E: Encoder>(
     of: &T,
     cells: &P,

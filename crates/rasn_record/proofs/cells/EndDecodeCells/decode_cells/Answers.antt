@@ -1,6 +1,6 @@
 use Rattle.std.proofs.Common.{rules}
 use Rattle.rasn_codec.specs.Scopes.{reads_end}
-use Rattle.rasn_record.proofs.cells.EndDecodeParts.decode_parts.Goals as goal
+use Rattle.rasn_record.proofs.cells.EndDecodeCells.decode_cells.Goals as goal
 
 pub returns : goal.returns
 returns g c = record { law = reads_end; fails = search rules; kept = search rules }

@@ -1,7 +1,7 @@
 use Rattle.std.proofs.Common.{rules}
 use Rattle.rasn_schema.specs.Normal.{normals}
 use Rattle.rasn_codec.specs.Scopes.{presents_end}
-use Rattle.rasn_record.proofs.cells.EndEncodeParts.encode_parts.Goals as goal
+use Rattle.rasn_record.proofs.cells.EndEncodeCells.encode_cells.Goals as goal
 
 pub returns : goal.returns
 unfolding normals

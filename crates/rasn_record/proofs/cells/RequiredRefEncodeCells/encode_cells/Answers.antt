@@ -1,14 +1,16 @@
 use Rattle.std.proofs.Common.{arith, rules}
 use Rattle.std.proofs.lemmas.Result.{err_from_is_err_and}
+use Rattle.rasn_schema.specs.Fields.{shape_of}
 use Rattle.rasn_schema.specs.Normal.{normal, settle}
 use Rattle.rasn_codec.proofs.Writing.{required_refused, required_written}
-use Rattle.rasn_record.proofs.cells.RequiredRefEncodeParts.encode_parts.Goals as goal
+use Rattle.rasn_record.proofs.Behind.{behind-map}
+use Rattle.rasn_record.proofs.cells.RequiredRefEncodeCells.encode_cells.Goals as goal
 
 pub returns-in_err-encode_with_tag_and_constraints : goal.returns-in_err-encode_with_tag_and_constraints
 unfolding normal settle
 returns-in_err-encode_with_tag_and_constraints g c =
     let p = err_from_is_err_and c.from_residual.result c.from_residual.ensures.1 in
-    let w = rw (c.given_or_own-constraints.ensures, c.CONSTRAINTS-own.ensures) at c.in_err-encode_with_tag_and_constraints.ensures.law in
+    let w = rw (c.given_or_own-in_use.ensures, c.CONSTRAINTS.ensures) at c.in_err-encode_with_tag_and_constraints.ensures.law in
     record {
       law = rw (p.1, p.2) (record { at = λ n le. required_refused g.E.Encoder.rules (w.at n (omega arith)) });
       fails = search rules;
@@ -18,9 +20,10 @@ returns-in_err-encode_with_tag_and_constraints g c =
 pub returns : goal.returns
 unfolding normal settle
 returns g c =
-    let w = rw (c.given_or_own-constraints.ensures, c.CONSTRAINTS-own.ensures) at c.in_ok-encode_with_tag_and_constraints.ensures.law in
+    let w = rw (c.given_or_own-in_use.ensures, c.CONSTRAINTS.ensures) at c.in_ok-encode_with_tag_and_constraints.ensures.law in
+    let v = rw (c.behind.ensures, c.behind-2.ensures, ← behind-map shape_of c.args.fields.now) at c.encode_cells.ensures.law in
     record {
-      law = record { at = λ n le. required_written g.E.Encoder.rules g.met.E.Encoder.lawful _ _ _ _ _ _ _ (w.at n (omega arith)) _ _ (c.encode_parts.ensures.law.at n (omega arith)) };
+      law = record { at = λ n le. required_written g.E.Encoder.rules g.met.E.Encoder.lawful _ _ _ _ _ _ _ (w.at n (omega arith)) _ _ (v.at n (omega arith)) };
       fails = search rules;
       kept = search rules;
     }

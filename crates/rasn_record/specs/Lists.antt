@@ -1,0 +1,27 @@
+-- What the lists of a record's fields and constraints state of its components, from one of these on.
+use Rattle.std.specs.Prelude.{List, [], ◌∷◌, Option, Some, None}
+use Rattle.std.specs.Borrow.{Bor}
+use Rattle.rasn_constraints.specs.Constraints.{Effective, effective}
+use Rattle.rasn_constraints.specs.declared.constraints.Constraint.{Constraint}
+use Rattle.rasn_schema.specs.Schemas.{Tag}
+use Rattle.rasn_schema.specs.Fields.{Shape}
+
+-- those behind the first
+abbrev pub behind : {A : Type 0} → List A → List A
+behind [] = []
+behind (x ∷ xs) = xs
+
+-- the tag of the first field; where there is none, that of a type
+abbrev pub first_tag : Tag → List Shape → Tag
+first_tag own [] = own
+first_tag own (f ∷ fs) = f.tag
+
+-- constraints that stand in the place of a type's own: those of a list, where it has some
+abbrev pub given : List Constraint → Option Effective
+given [] = None
+given (c ∷ cs) = Some (effective (c ∷ cs))
+
+-- those that the first component is given
+abbrev pub first_given : List (Bor (List Constraint)) → Option Effective
+first_given [] = None
+first_given (b ∷ bs) = given b.now
