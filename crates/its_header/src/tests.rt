@@ -1,6 +1,7 @@
 use crate::header::ItsPduHeader;
 use crate::message::Message;
 use crate::position::ReferencePositionLite;
+use crate::speed::Speed;
 use rasn_per::uper::{decode, encode};
 use rasn_strings::strings::Ia5String;
 use rasn_types::octet_strings::OctetString;
@@ -59,5 +60,17 @@ fn message_is_194_bits(rt: HostRuntime) -> Result<(), Fail> {
     assert_eq!(rt; encode(rt.alloc(), &message)?.as_slice(), octets.as_slice());
     assert_eq!(rt; decode::<Message>(rt.alloc(), &octets)?, message);
     assert!(rt; decode::<Message>(rt.alloc(), &octets[..24]).is_err());
+    Ok(())
+}
+
+#[test]
+fn speed_is_two_octets_behind_their_count(rt: HostRuntime) -> Result<(), Fail> {
+    let speed = Speed {
+        metres_a_second: -129,
+    };
+    let octets = [0x02, 0xff, 0x7f];
+    assert_eq!(rt; encode(rt.alloc(), &speed)?.as_slice(), octets.as_slice());
+    let read: Speed = decode(rt.alloc(), &octets)?;
+    assert_eq!(rt; read.metres_a_second, -129);
     Ok(())
 }

@@ -206,7 +206,7 @@ macro_rules! stated_to_write {
     ([$place:literal $($places:tt)*] [$of:ident];
         $presence:ident $tag:literal $name:literal $field:ident: $type:ty [$($bounds:tt)*]; $($rest:tt)*
     ) => {{
-        let $field: &$type = $crate::write::component($of, $place, $tag, BOUNDS, &$of.$field);
+        let $field = $crate::write::component::<Self, $type>($of, $place, $tag, BOUNDS, &$of.$field);
         let _ = $field;
         $crate::stated_to_write!([$($places)*] [$of]; $($rest)*)
     }};

@@ -14,26 +14,25 @@ use rasn_schema::constraints::Constraint;
 use rasn_schema::schema::AsnType;
 
 /// A required component of a record, as a list states it at its place.
-pub fn component<'a, T: Components, H: AsnType>(
+pub fn component<T: Components, H: AsnType>(
     of: &T,
     place: usize,
     tag: u32,
     constraints: &[&'static [Constraint]],
-    value: &'a H,
-) -> &'a H
+    value: &H,
+)
     requires tag { tags_at T.components place ≡ Some (at tag) }
     requires presence { presence_at T.components place ≡ Some required }
     requires schema { (n : ℕ) → schema_at T.components place n
         ≡ Some (H.schema (own_or H.CONSTRAINTS (first_given (drop place constraints.now))) n) }
     requires value { content_at (T.contents of.now) place ≡ Some (Some (H.value value.now)) }
     requires levels { H.levels value.now ≤ T.depth of.now }
-    ensures { result.now ≡ value.now }
 {
     let _ = of;
     let _ = place;
     let _ = tag;
     let _ = constraints;
-    value
+    let _ = value;
 }
 
 /// Writes all components of a record in turn.
