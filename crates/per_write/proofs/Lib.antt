@@ -5,3 +5,4 @@ pub mod Fragments
 pub mod Refusing
 pub mod Steps
 pub mod Writing
+pub mod Zeros
