@@ -60,7 +60,7 @@ moved b c w g e = then_assoc (just b) w g 0 ∙ ap (λ o. go_on (join b o) g 0) 
 pub record Ready (x : State) (codec : Codec) (a b : Bits) (n : ℕ) : Type 0 where
   pub unfailed : x.failed ≡ false
   pub same : x.codec ≡ codec
-  pub bits : x.bits ≡ a ++ replicate n false ++ b
+  pub bits : x.bits ≡ a ++ (replicate n false ++ b)
   pub place : x.presences.place ≡ length a
   pub left : x.presences.left ≡ n
 
@@ -77,11 +77,11 @@ record Step (x m : State) (codec : Codec) (q : Presence) (s : Schema) (r : Optio
   ready : Ready m codec (a ++ flags) (b ++ body) n
 
 -- the next bit is given
-given : {x y : State} {codec : Codec} {a b : Bits} {n : ℕ} (bit : Bool) → Ready x codec a b (1 + n) → Marks x bit y → Ready y codec (a ++ bit ∷ []) b n
+given : {x y : State} {codec : Codec} {a b : Bits} {n : ℕ} (bit : Bool) → Ready x codec a b (suc n) → Marks x bit y → Ready y codec (a ++ bit ∷ []) b n
 given {x} {y} {codec} {a} {b} {n} bit h m = record {
   unfailed = ap (λ z. z.failed) m.same ∙ h.unfailed;
   same = ap (λ z. z.codec) m.same ∙ h.same;
-  bits = ap (λ z. z.bits) m.same ∙ ap₂ (λ bs i. set bs i bit) (h.bits ∙ ap (λ i. a ++ replicate i false ++ b) (let e : 1 + n ≡ suc n = omega arith in e)) h.place
+  bits = ap (λ z. z.bits) m.same ∙ ap₂ (λ bs i. set bs i bit) h.bits h.place
       ∙ set-append_seam a false (replicate n false ++ b) bit ∙ sym (append_assoc a (bit ∷ []) (replicate n false ++ b));
   place = ap (λ z. z.presences.place) m.same ∙ omega (arith, h.place, length-append a (bit ∷ []));
   left = let l = m.some in let k = h.left in omega arith;
@@ -122,7 +122,7 @@ step {x} {m} {codec} {q} {s} {r} {a} {b} {n} h (presents_required {v = v} w) =
     }
 step {x} {m} {codec} {q} {s} {r} {a} {b} {n} h (presents_there {m = y} {v = v} e t w) =
     let i = there_shown q v e in
-    let k = put_behind s v (given true (ready_for (ap (λ (l : ℕ). l + n) i.2) h) t) w in
+    let k = put_behind s v (given true (ready_for (let l = i.2 in let d : has_bit q + n ≡ suc n = omega arith in d) h) t) w in
     record {
       flags = true ∷ [];
       body = k.0;
@@ -139,7 +139,7 @@ step {x} {m} {codec} {q} {s} {r} {a} {b} {n} h (presents_left_out e t) =
       is_flagged = λ p. rw (i.0, i.1) refl;
       count = sym i.2;
       is_body = rw i.0 refl;
-      ready = subst (λ bs. Ready m codec (a ++ false ∷ []) bs n) (sym (append-nil b)) (given false (ready_for (ap (λ (l : ℕ). l + n) i.2) h) t);
+      ready = subst (λ bs. Ready m codec (a ++ false ∷ []) bs n) (sym (append-nil b)) (given false (ready_for (let l = i.2 in let d : has_bit q + n ≡ suc n = omega arith in d) h) t);
     }
 
 -- all components: their presence bits are given, and their values stand behind one another
@@ -147,16 +147,23 @@ pub record Laid (y : State) (codec : Codec) (ps : Parts) (rs : List (Option Valu
   pub flags : Bits
   pub are_flags : (p : ℕ) → flags_of (members (variant_of codec) ps) rs p ≡ Some flags
   pub count : length flags ≡ presence_bits ps
-  pub written : Some y.bits ≡ (just (a ++ flags ++ replicate k false ++ b) ▹ bodies_of (members (variant_of codec) ps) rs) 0
+  pub written : Some y.bits ≡ (just (a ++ (flags ++ (replicate k false ++ b))) ▹ bodies_of (members (variant_of codec) ps) rs) 0
   pub left : y.presences.left ≡ k
   pub unfailed : y.failed ≡ false
   pub same : y.codec ≡ codec
 
 -- four pieces, of which two are cut in two
-regrouped : (a f g z b c : Bits) → (a ++ (f ++ g) ++ z ++ b) ++ c ≡ (a ++ f) ++ g ++ z ++ (b ++ c)
-regrouped a f g z b c = append_assoc a ((f ++ g) ++ z ++ b) c
-    ∙ ap (λ bs. a ++ bs) (append_assoc (f ++ g) (z ++ b) c ∙ append_assoc f g ((z ++ b) ++ c) ∙ ap (λ bs. f ++ g ++ bs) (append_assoc z b c))
-    ∙ sym (append_assoc a f (g ++ z ++ (b ++ c)))
+regrouped : (a f g z b c : Bits) → (a ++ ((f ++ g) ++ (z ++ b))) ++ c ≡ (a ++ f) ++ (g ++ (z ++ (b ++ c)))
+regrouped a f g z b c = append_assoc a ((f ++ g) ++ (z ++ b)) c
+    ∙ ap (λ bs. a ++ bs) (append_assoc (f ++ g) (z ++ b) c ∙ append_assoc f g ((z ++ b) ++ c) ∙ ap (λ bs. f ++ (g ++ bs)) (append_assoc z b c))
+    ∙ sym (append_assoc a f (g ++ (z ++ (b ++ c))))
+
+-- how long they are
+long : (a f z b : Bits) → length (a ++ (f ++ (z ++ b))) ≡ length a + (length f + (length z + length b))
+long a f z b = length-append a (f ++ (z ++ b)) ∙ ap (λ (n : ℕ). length a + n) (length-append f (z ++ b) ∙ ap (λ (n : ℕ). length f + n) (length-append z b))
+
+ready_length : {x : State} {codec : Codec} {a b : Bits} {n : ℕ} → Ready x codec a b n → length x.bits ≡ length a + (n + length b)
+ready_length {a = a} {b = b} {n = n} h = ap length h.bits ∙ length-append a (replicate n false ++ b) ∙ ap (λ (i : ℕ). length a + i) (length-append (replicate n false) b ∙ ap (λ (i : ℕ). i + length b) (length-replicate n false))
 
 pub laid : (ps : Parts) (x y : State) (codec : Codec) (rs : List (Option Value)) (a b : Bits) (k : ℕ) → Ready x codec a b (presence_bits ps + k) → PresentsParts encoder_rules ps x rs y → Laid y codec ps rs a b k
 unfolding canon shown
@@ -166,7 +173,7 @@ laid no_parts x y codec rs a b k h presents_end =
       flags = [];
       are_flags = λ p. refl;
       count = refl;
-      written = ap Some (r.bits ∙ sym (append-nil (a ++ replicate k false ++ b)));
+      written = ap Some (r.bits ∙ sym (append-nil (a ++ (replicate k false ++ b))));
       left = r.left;
       unfailed = r.unfailed;
       same = r.same;
@@ -175,8 +182,8 @@ laid (part t q s ps) x y codec (r ∷ rs) a b k h (presents_next {m = m} c d) =
     let i = step (ready_for (let e : has_bit q + presence_bits ps + k ≡ has_bit q + (presence_bits ps + k) = omega arith in e) h) c in
     let l = laid ps m y codec rs (a ++ i.flags) (b ++ i.body) k i.ready d in
     let z = replicate k false in
-    let all = a ++ (i.flags ++ l.flags) ++ z ++ b in
-    let same_length : length all ≡ length x.bits = ? in
+    let all = a ++ ((i.flags ++ l.flags) ++ (z ++ b)) in
+    let same_length : length all ≡ length x.bits = omega (arith, long a (i.flags ++ l.flags) z b, length-append i.flags l.flags, length-replicate k false, ready_length h, i.count, l.count) in
     record {
       flags = i.flags ++ l.flags;
       are_flags = λ p. ap (λ o. go_on o (flags_of (members (variant_of codec) ps) rs) p) (i.is_flagged p) ∙ ap (join i.flags) (l.are_flags (after p i.flags));
@@ -188,7 +195,6 @@ laid (part t q s ps) x y codec (r ∷ rs) a b k h (presents_next {m = m} c d) =
       unfailed = l.unfailed;
       same = l.same;
     }
-laid no_parts x y codec (r ∷ rs) a b k h c = elim c [ ]
 laid (part t q s ps) x y codec [] a b k h c = elim c [ ]
 
 -- a component that is refused, and what the encoder was before it; those with it have no encoding
@@ -203,11 +209,9 @@ pub record RefusedPart (e : EncodeError) (codec : Codec) (ps : Parts) (rs : List
   pub none : (p : ℕ) → bodies_of (members (variant_of codec) ps) rs p ≡ None
 
 -- a presence bit that is still to be given isn't refused
-not_refused : {e : EncodeError} {x : State} {codec : Codec} {a b : Bits} {n : ℕ} → Ready x codec a b (1 + n) → IsUnmarked e x → ⊥
-not_refused {a = a} {b = b} {n = n} h (inl (k, inl z)) = let l = h.left in absurd (omega arith)
-not_refused {x = x} {a = a} {b = b} {n = n} h (inl (k, inr z)) =
-    let l : length x.bits ≡ length a + (1 + n + length b) = ap length h.bits ∙ length-append a (replicate (1 + n) false ++ b) ∙ ap (λ (i : ℕ). length a + i) (length-append (replicate (1 + n) false) b ∙ ap (λ (i : ℕ). i + length b) (length-replicate (1 + n) false)) in
-    let p = h.place in absurd (omega arith)
+not_refused : {e : EncodeError} {x : State} {codec : Codec} {a b : Bits} {n : ℕ} → Ready x codec a b (suc n) → IsUnmarked e x → ⊥
+not_refused h (inl (k, inl z)) = let l = h.left in absurd (omega arith)
+not_refused h (inl (k, inr z)) = let l = ready_length h in let p = h.place in absurd (omega arith)
 not_refused h (inr (k, f)) = let g = h.unfailed in absurd cc
 
 pub refused_part : (e : EncodeError) (ps : Parts) (x : State) (codec : Codec) (rs : List (Option Value)) (a b : Bits) (k : ℕ) → Ready x codec a b (presence_bits ps + k) → RefusesParts encoder_rules e ps x rs → RefusedPart e codec ps rs
@@ -225,7 +229,7 @@ refused_part e (part t q s ps) x codec (r ∷ rs) a b k h (refuses_here (refuses
     }
 refused_part e (part t q s ps) x codec (r ∷ rs) a b k h (refuses_here (refuses_bit {b = bit} i u)) =
     let one = some_bit q r bit i in
-    absurd (not_refused (ready_for (let l : has_bit q + presence_bits ps + k ≡ 1 + (presence_bits ps + k) = omega arith in l) h) u)
+    absurd (not_refused (ready_for (let l : has_bit q + presence_bits ps + k ≡ suc (presence_bits ps + k) = omega arith in l) h) u)
 refused_part e (part t q s ps) x codec (r ∷ rs) a b k h (refuses_behind {m = m} c w) =
     let i = step (ready_for (let l : has_bit q + presence_bits ps + k ≡ has_bit q + (presence_bits ps + k) = omega arith in l) h) c in
     let d = refused_part e ps m codec rs (a ++ i.flags) (b ++ i.body) k i.ready w in
