@@ -1,5 +1,5 @@
 -- The fault that a refusal names, where it stands.
-use Rattle.std.specs.Prelude.{◌≡◌, true, Result, Ok, Err}
+use Rattle.std.specs.Prelude.{◌≡◌, ◌⊎◌, true, Result, Ok, Err}
 use Rattle.rasn_types.specs.Bits.{Bits}
 use Rattle.rasn_types.specs.Values.{Value}
 use Rattle.rasn_schema.specs.Schemas.{TagTree, required, Schema, Parts, part}
@@ -14,7 +14,7 @@ use Rattle.per_read.specs.Strings.{IsOfString, IsOfText}
 use Rattle.per_core.specs.declared.items.Item.TheVariants.{Octet, Bit}
 use Rattle.per_read.specs.declared.error.DecodeError.{DecodeError}
 use Rattle.per_read.specs.declared.error.DecodeErrorKind.{DecodeErrorKind}
-use Rattle.per_read.specs.declared.error.DecodeErrorKind.TheVariants.{ExceedsMaxParseDepth, AlreadyFailed}
+use Rattle.per_read.specs.declared.error.DecodeErrorKind.TheVariants.{ExceedsMaxParseDepth, AlreadyFailed, MissingTag}
 use Rattle.per_de.specs.State.{State, settings_of}
 
 -- what a kind says where no level is left
@@ -63,3 +63,7 @@ refusal k s = record { kind = k; codec = s.codec }
 abbrev pub Answered : {T : Type 0} → Result T DecodeErrorKind → State → Result T DecodeError → State → Type 0
 Answered (Ok v) s result t = (result ≡ Ok v) × (t ≡ s)
 Answered (Err k) s result t = (result ≡ Err (refusal k s)) × (t ≡ record s { failed = true })
+
+-- an error by which a presence bit is refused: none is left, or the decoder had failed
+abbrev pub IsUnmarked : DecodeError → State → Type 0
+IsUnmarked e s = (e ≡ refusal MissingTag s) ⊎ (e ≡ refusal AlreadyFailed s)

@@ -2,7 +2,7 @@
 use Rattle.std.proofs.Common.{◌≡◌, sym, ◌∙◌, ap}
 use Rattle.rasn_types.specs.Values.{Value}
 use Rattle.rasn_schema.specs.Schemas.{Schema}
-use Rattle.rasn_codec.specs.Calls.{ReadsWell}
+use Rattle.rasn_codec.specs.Calls.{DecodesWell, ReadsWell}
 use Rattle.per_core.proofs.Took.{took_agree}
 use Rattle.per_core.proofs.Readings.{one_reading}
 use Rattle.per_read.specs.declared.error.DecodeErrorKind.TheVariants.{OutOfMemory}
@@ -23,4 +23,11 @@ reads_well c = record {
   begun = λ s v t a. a.live;
   left = λ s v t a. ap (λ z. z.failed) a.same ∙ a.live;
   room = λ s v t e a m. m ∙ ap (λ z. refusal OutOfMemory z) a.same;
+}
+
+-- no presence bit is read yet
+pub decodes_well : DecodesWell decoder_rules
+decodes_well = record {
+  spelled = reads_well;
+  marked = record { one = λ s v w t u a b. absurd a; level = λ s v t a. absurd a; begun = λ s v t a. absurd a; left = λ s v t a. absurd a; room = λ s v t e a m. absurd a };
 }

@@ -5,7 +5,7 @@ use Rattle.rasn_types.specs.Values.{Value, fields, as_slots}
 use Rattle.rasn_schema.specs.Lawful.{are_required}
 use Rattle.rasn_schema.specs.Schemas.{TagTree, Presence, required, Schema, Parts, no_parts, part}
 use Rattle.rasn_schema.specs.Records.{record_value}
-use Rattle.rasn_codec.specs.Scopes.{record_of, ReadsPart, reads_required, ReadsParts, reads_end, reads_next, FaultyParts, faulty_required, faulty_here, faulty_behind, ScopesWell}
+use Rattle.rasn_codec.specs.Scopes.{record_of, ReadsPart, reads_required, reads_there, reads_left_out, ReadsParts, reads_end, reads_next, FaultyParts, faulty_required, faulty_there, faulty_bit, faulty_here, faulty_behind, ScopesWell}
 use Rattle.per_core.specs.Spellings.{Settings, exactly}
 use Rattle.per_core.specs.Basic.{basic, basic_in, rules, rules_in, Flags, Bodies, Root, Fields_in}
 use Rattle.per_core.specs.Took.{place, Took}
@@ -45,18 +45,20 @@ flags_none a (part k required c ps) h (x ∷ xs) s t b =
 flags_none a (part k p c ps) h shown s t b = absurd (cc)
 
 -- a component, and those behind it
-end_of : {i j : State} {rs : List (Option Value)} → ReadsParts Spells no_parts i rs j → (rs ≡ []) × (i ≡ j)
+end_of : {i j : State} {rs : List (Option Value)} → ReadsParts decoder_rules no_parts i rs j → (rs ≡ []) × (i ≡ j)
 end_of reads_end = (refl, refl)
 
-required_of : {c : Schema} {i j : State} {x : Option Value} → ReadsPart Spells required c i x j → (v : Value) × (x ≡ Some v) × Spells c i v j
+required_of : {c : Schema} {i j : State} {x : Option Value} → ReadsPart decoder_rules required c i x j → (v : Value) × (x ≡ Some v) × Spells c i v j
 required_of (reads_required {v = v} h) = (v, refl, h)
+required_of (reads_there e m h) = absurd m
+required_of (reads_left_out e m) = absurd m
 
-next_of : {k : TagTree} {p : Presence} {c : Schema} {ps : Parts} {i j : State} {rs : List (Option Value)} → ReadsParts Spells (part k p c ps) i rs j
-    → (y : Option Value) × (ys : List (Option Value)) × (m : State) × (rs ≡ y ∷ ys) × ReadsPart Spells p c i y m × ReadsParts Spells ps m ys j
+next_of : {k : TagTree} {p : Presence} {c : Schema} {ps : Parts} {i j : State} {rs : List (Option Value)} → ReadsParts decoder_rules (part k p c ps) i rs j
+    → (y : Option Value) × (ys : List (Option Value)) × (m : State) × (rs ≡ y ∷ ys) × ReadsPart decoder_rules p c i y m × ReadsParts decoder_rules ps m ys j
 next_of (reads_next {m = m} {r = y} {rs = ys} a b) = (y, ys, m, refl, a, b)
 
 -- components one after another change the bits alone
-parts_same : (ps : Parts) → are_required ps ≡ true → (i j : State) (rs : List (Option Value)) → ReadsParts Spells ps i rs j → j ≡ with_bits i j.bits
+parts_same : (ps : Parts) → are_required ps ≡ true → (i j : State) (rs : List (Option Value)) → ReadsParts decoder_rules ps i rs j → j ≡ with_bits i j.bits
 parts_same no_parts h i j rs b = let e = (end_of b).1 in sym e ∙ ap (λ z. with_bits i z.bits) e
 parts_same (part k required c ps) h i j rs b =
     let q = next_of b in
@@ -65,7 +67,7 @@ parts_same (part k required c ps) h i j rs b =
 parts_same (part k p c ps) h i j rs b = absurd (cc)
 
 -- components one after another, as the calls read them, are those that the record spells
-bodies_read : (a : Settings) (ps : Parts) → are_required ps ≡ true → (i j : State) (rs : List (Option Value)) → settings_of i ≡ a → ReadsParts Spells ps i rs j
+bodies_read : (a : Settings) (ps : Parts) → are_required ps ≡ true → (i j : State) (rs : List (Option Value)) → settings_of i ≡ a → ReadsParts decoder_rules ps i rs j
     → Took (Bodies (rules a ps) (all_shown ps) rs) i.bits j.bits
 unfolding rules_in all_shown
 bodies_read a no_parts h i j rs e b =
@@ -82,9 +84,9 @@ bodies_read a (part k required c ps) h i j rs e b =
 bodies_read a (part k p c ps) h i j rs e b = absurd (cc)
 
 bodies_back : (a : Settings) (ps : Parts) → are_required ps ≡ true → (i : State) (rs : List (Option Value)) (t : Bits) → settings_of i ≡ a → i.failed ≡ false
-    → Took (Bodies (rules a ps) (all_shown ps) rs) i.bits t → ReadsParts Spells ps i rs (with_bits i t)
+    → Took (Bodies (rules a ps) (all_shown ps) rs) i.bits t → ReadsParts decoder_rules ps i rs (with_bits i t)
 unfolding rules_in all_shown
-bodies_back a no_parts h i [] t e f b = subst (λ z. ReadsParts Spells no_parts i [] (with_bits i z)) (nothing_took b) reads_end
+bodies_back a no_parts h i [] t e f b = subst (λ z. ReadsParts decoder_rules no_parts i [] (with_bits i z)) (nothing_took b) reads_end
 bodies_back a no_parts h i (x ∷ rs) t e f b = absurd b.spelled
 bodies_back a (part k required c ps) h i [] t e f b = absurd b.spelled
 bodies_back a (part k required c ps) h i (x ∷ rs) t e f b =
@@ -92,7 +94,7 @@ bodies_back a (part k required c ps) h i (x ∷ rs) t e f b =
     let y = q.1.spelled in
     let w : Took (basic a c y.held) i.bits q.0 = record { front = q.1.front; joins = q.1.joins; spelled = y.spelled } in
     let v : Spells c i y.held (with_bits i q.0) = record { live = f; took = subst (λ z. Took (basic z c y.held) i.bits q.0) (sym e) w; same = refl } in
-    subst (λ z. ReadsParts Spells (part k required c ps) i (z ∷ rs) (with_bits i t)) (sym y.is) (reads_next (reads_required v) (bodies_back a ps h (with_bits i q.0) rs t e f q.2))
+    subst (λ z. ReadsParts decoder_rules (part k required c ps) i (z ∷ rs) (with_bits i t)) (sym y.is) (reads_next (reads_required v) (bodies_back a ps h (with_bits i q.0) rs t e f q.2))
 bodies_back a (part k p c ps) h i rs t e f b = absurd (cc)
 
 -- a record as its components
@@ -137,13 +139,25 @@ in_later : (k : DecodeErrorKind) (t : TagTree) (ps : Parts) {c : Schema} {v : Va
 in_later AlreadyFailed t ps a h = ap (λ z. z.failed) (sym a.same) ∙ h
 in_later _ t ps a h = further _ a h
 
-part_stands : (k : DecodeErrorKind) (e : DecodeError) → e.kind ≡ k → {ps : Parts} {i : State} → FaultyParts Fault Spells e ps i → OfParts k ps i
-part_stands k e q (faulty_here {k = t} {c = c} {ps = ps} {s = s} (faulty_required f)) = in_first k t c ps s (subst (λ z. IsOf z c s) q f.stands)
-part_stands k e q (faulty_behind {k = t} {ps = ps} (reads_required a) b) = in_later k t ps a (part_stands k e q b)
+part_stands : (ps : Parts) → are_required ps ≡ true → (k : DecodeErrorKind) (e : DecodeError) → e.kind ≡ k → {i : State} → FaultyParts decoder_rules e ps i → OfParts k ps i
+part_stands (part t required c ps) h k e q {i} (faulty_here (faulty_required f)) = in_first k t c ps i (subst (λ z. IsOf z c i) q f.stands)
+part_stands (part t required c ps) h k e q (faulty_here (faulty_there j m f)) = absurd m
+part_stands (part t required c ps) h k e q (faulty_here (faulty_bit j u)) = absurd cc
+part_stands (part t required c ps) h k e q (faulty_behind (reads_required a) b) = in_later k t ps a (part_stands ps h k e q b)
+part_stands (part t required c ps) h k e q (faulty_behind (reads_there j m a) b) = absurd m
+part_stands (part t required c ps) h k e q (faulty_behind (reads_left_out j m) b) = absurd m
+part_stands (part t p c ps) h k e q f = absurd cc
+part_stands no_parts h k e q f = elim f [ ]
 
-part_codec : (e : DecodeError) {ps : Parts} {i : State} → FaultyParts Fault Spells e ps i → e.codec ≡ i.codec
-part_codec e (faulty_here (faulty_required f)) = f.codec
-part_codec e (faulty_behind (reads_required a) b) = part_codec e b ∙ ap (λ z. z.codec) a.same
+part_codec : (ps : Parts) → are_required ps ≡ true → (e : DecodeError) {i : State} → FaultyParts decoder_rules e ps i → e.codec ≡ i.codec
+part_codec (part t required c ps) h e (faulty_here (faulty_required f)) = f.codec
+part_codec (part t required c ps) h e (faulty_here (faulty_there j m f)) = absurd m
+part_codec (part t required c ps) h e (faulty_here (faulty_bit j u)) = absurd cc
+part_codec (part t required c ps) h e (faulty_behind (reads_required a) b) = part_codec ps h e b ∙ ap (λ z. z.codec) a.same
+part_codec (part t required c ps) h e (faulty_behind (reads_there j m a) b) = absurd m
+part_codec (part t required c ps) h e (faulty_behind (reads_left_out j m) b) = absurd m
+part_codec (part t p c ps) h e f = absurd cc
+part_codec no_parts h e f = elim f [ ]
 
 -- the same decoder inside a record
 moved : {k : DecodeErrorKind} {ps : Parts} {i j : State} → i ≡ j → IsInParts (settings_of i) k ps i.bits → IsInParts (settings_of j) k ps j.bits
@@ -153,11 +167,11 @@ of_record : (k : DecodeErrorKind) (ps : Parts) (s : State) {i : State} {n : ℕ}
 of_record AlreadyFailed ps s e h = ap (λ z. z.failed) (sym e) ∙ h
 of_record _ ps s {i} {n} e h = inside (moved e h)
 
-fault_of_record : (ps : Parts) (s : State) (o : Scope) (i : State) (e : DecodeError) → Opens (record_of ps) s o i → FaultyParts Fault Spells e ps i → Fault (record_of ps) e s
+fault_of_record : (ps : Parts) (s : State) (o : Scope) (i : State) (e : DecodeError) → Opens (record_of ps) s o i → FaultyParts decoder_rules e ps i → Fault (record_of ps) e s
 fault_of_record ps s o i e a f =
-    record { codec = part_codec e f ∙ ap (λ z. z.codec) a.enters.same; stands = of_record e.kind ps s a.enters.same (part_stands e.kind e refl f) }
+    record { codec = part_codec ps a.bare e f ∙ ap (λ z. z.codec) a.enters.same; stands = of_record e.kind ps s a.enters.same (part_stands ps a.bare e.kind e refl f) }
 
-bare_read : (ps : Parts) (s i j t : State) (o : Scope) (rs : List (Option Value)) → Opens (record_of ps) s o i → ReadsParts Spells ps i rs j → Closes j o t
+bare_read : (ps : Parts) (s i j t : State) (o : Scope) (rs : List (Option Value)) → Opens (record_of ps) s o i → ReadsParts decoder_rules ps i rs j → Closes j o t
     → Spells (record_of ps) s (record_value rs []) t
 bare_read ps s i j t o rs a b c =
     let into : i ≡ at_level s i.levels = a.enters.same in
@@ -173,7 +187,7 @@ bare_read ps s i j t o rs a b c =
     }
 
 bare_back : (ps : Parts) (s i t : State) (o : Scope) (v : Value) → Opens (record_of ps) s o i → Spells (record_of ps) s v t
-    → (rs : List (Option Value)) × (j : State) × ReadsParts Spells ps i rs j × Closes j o t
+    → (rs : List (Option Value)) × (j : State) × ReadsParts decoder_rules ps i rs j × Closes j o t
 bare_back ps s i t o v a b =
     let q = took_record (settings_of s) ps a.bare v s.bits t.bits b.took in
     let into : i ≡ at_level s i.levels = a.enters.same in

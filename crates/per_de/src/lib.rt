@@ -8,7 +8,7 @@ ghost use Rattle.per_de.specs.State.{State, Options};
 ghost use Rattle.per_de.specs.Faults.{refusal, Answered};
 ghost use Rattle.per_de.specs.Rules.{decoder_rules};
 ghost use Rattle.per_de.specs.Scopes.{Enters, NoLevel, Opens, Closes};
-ghost use Rattle.per_de.specs.Laws.{reads_well};
+ghost use Rattle.per_de.specs.Laws.{decodes_well};
 ghost use Rattle.per_de.specs.ScopeLaws.{scopes_well};
 
 use per_bits::{BitList, BitReader};
@@ -303,11 +303,16 @@ impl<'input> codec::Decoder for Decoder<'input> {
         Ok(())
     }
 
+    fn next_presence(&mut self) -> Result<bool, DecodeError> {
+        self.check_unfailed()?;
+        Err(self.refuse(DecodeErrorKind::MissingTag))
+    }
+
     fn fail(&mut self) {
         self.failed = true;
     }
 
-    ghost lawful = { reads_well };
+    ghost lawful = { decodes_well };
 
     ghost scopes = { scopes_well };
 }
