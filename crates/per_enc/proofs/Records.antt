@@ -58,7 +58,6 @@ stands_in_part Below x m s v ps rs f h k = absurd k
 stands_in_part OutOfMemory x m s v ps rs f h k = absurd k
 stands_in_part OutOfTurn x m s v ps rs f h k = absurd k
 
-
 -- inside a record that is opened, its presence bits are still to be given
 opened : (ps : Parts) {x i : State} {o : Presences} → Opens (record_of ps) x o i → Ready i x.codec x.bits [] (presence_bits ps + 0)
 opened ps {x} {i} h = record {

@@ -11,9 +11,9 @@ ghost use Rattle.per_write.specs.State.{fresh, view};
 #[cfg(test)]
 mod tests;
 
-use per_write::{Presences, Writer};
 pub use per_write::error;
 pub use per_write::error::{EncodeError, EncodeErrorKind};
+use per_write::{Presences, Writer};
 use rasn_codec::codec;
 use rasn_schema::fields::Constructed;
 use rasn_schema::schema::{Constraints, IntegerType};

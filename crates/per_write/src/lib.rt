@@ -44,8 +44,7 @@ impl<A: Allocator + Clone> Model for Writer<A> {
 
     ghost Value = { State };
 
-    ghost view = {
-        λ a. record { bits = a.bits; failed = a.failed; codec = a.codec; presences = a.presences } };
+    ghost view = { λ a. record { bits = a.bits; failed = a.failed; codec = a.codec; presences = a.presences } };
 }
 
 impl<A: Allocator + Clone> Writer<A> {

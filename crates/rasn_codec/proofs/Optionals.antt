@@ -62,8 +62,9 @@ module _ {E S : Type 0} {rules : DecoderRules E S} where
   value_unread L {s = s} {m} {e} i a (inl h) = inl (L.marked.room s true m e a h)
   value_unread L {c = c} {s = s} {m} i a (inr r) = inr (record {
     nothing = λ x t b. elim (optional_of i b) [
-      there {m = n} v f k h ↦ r.nothing v t (subst (λ z. rules.spells c z v t) (L.marked.one s true true n m k a).1 h)
-    | missing f k ↦ (let q = (L.marked.one s false true t m k a).0 in absurd cc) ];
+      | there {m = n} v f k h ↦ r.nothing v t (subst (λ z. rules.spells c z v t) (L.marked.one s true true n m k a).1 h)
+      | missing f k ↦ (let q = (L.marked.one s false true t m k a).0 in absurd cc)
+    ];
     stands = faulty_there i a r.stands;
   })
 
