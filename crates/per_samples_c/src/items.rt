@@ -139,8 +139,6 @@ impl Components for WithItem {
     ghost contents = { λ x. Some (truth x.a) ∷ Some (item root x.e.index) ∷ [] };
 
     ghost described = { refl };
-
-    ghost all_required = { refl };
 }
 
 impl Record for WithItem {

@@ -19,7 +19,7 @@ pub returns-in_err-next : goal.returns-in_err-next
 returns-in_err-next g c =
     let p = err_from_is_err_and c.from_residual-in_err-next.result c.from_residual-in_err-next.ensures.1 in
     let a = rw (c.given_or_own-in_use.ensures, c.CONSTRAINTS.ensures) at c.in_ok-value.ensures.law in
-    let l = (g.met.D.Decoder.lawful _).level _ _ _ a in
+    let l = (g.met.D.Decoder.lawful.spelled _).level _ _ _ a in
     let b = rw (c.behind.ensures, c.behind-2.ensures, ← behind-map shape_of c.args.fields.now) at c.in_err-next.ensures.law in
     record {
       law = rw (p.1, p.2) (fails_behind g.met.D.Decoder.lawful (reads_required a) (rw l at b));
@@ -30,6 +30,6 @@ returns-in_err-next g c =
 pub returns : goal.returns
 returns g c =
     let a = rw (c.given_or_own-in_use.ensures, c.CONSTRAINTS.ensures) at c.in_ok-value.ensures.law in
-    let l = (g.met.D.Decoder.lawful _).level _ _ _ a in
+    let l = (g.met.D.Decoder.lawful.spelled _).level _ _ _ a in
     let b = rw (c.behind.ensures, c.behind-2.ensures, ← behind-map shape_of c.args.fields.now) at c.in_ok-next.ensures.law in
     record { law = required_read _ a (rw l at b); fails = search rules; kept = search rules }
