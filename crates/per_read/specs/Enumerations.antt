@@ -39,15 +39,19 @@ abbrev pub IsOfPlace : Settings → Bool → Bits → DecodeErrorKind → Type 0
 IsOfPlace a false s k = IsTested k
 IsOfPlace a true s k = IsOfSmall a s k
 
--- what a kind says of an item: at a place that is read no item stands, a place is past 64 bits, or a large form has no octets
+-- what a kind says of an item: at a place that is read no item stands, a place is past 64 bits, or a large form has no
+-- octets
 abbrev pub IsOfItem : Settings → (roots addeds : ℕ) → (extensible : Bool) → Bits → DecodeErrorKind → Type 0
-IsOfItem a r e ext s (EnumerationIndexNotFound i extended) = (count_of r e extended ≤ i) × IsPlace a (count_of r e extended) ext extended i s
-IsOfItem a r e ext s (IntegerOverflow width) = (width ≡ 64) × ((extended : Bool) × (i : ℕ) × (2 ^ 64 ≤ i) × IsPlace a (count_of r e extended) ext extended i s)
+IsOfItem a r e ext s (EnumerationIndexNotFound i extended) =
+    (count_of r e extended ≤ i) × IsPlace a (count_of r e extended) ext extended i s
+IsOfItem a r e ext s (IntegerOverflow width) =
+    (width ≡ 64) × ((extended : Bool) × (i : ℕ) × (2 ^ 64 ≤ i) × IsPlace a (count_of r e extended) ext extended i s)
 IsOfItem a r e ext s UnexpectedEmptyInput = (t : Bits) × Took (Then (ExtensionBit ext true) (empty_form a)) s t
 IsOfItem a r e ext s k = IsTested k
 
 -- an item stands at a place that was read
-pub record IsThere {E : Type 0} (value : E → Value) (count : ℕ) (extended : Bool) (place : Option ℕ) (x : E) : Type 0 where
+pub record IsThere {E : Type 0} (value : E → Value) (count : ℕ) (extended : Bool) (place : Option ℕ)
+    (x : E) : Type 0 where
   pub index : ℕ
   pub is_place : place ≡ Some index
   pub below : index < count

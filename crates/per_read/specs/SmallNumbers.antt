@@ -21,7 +21,8 @@ abbrev pub MeansSince : Option ℕ → Option ℕ → List ℕ → Type 0
 MeansSince start number octets = Means number octets
 
 -- A call that takes n octets with no length, and appends them to a number. It takes no memory.
-pub record AppendsOctets (n : ℕ) (before : Option ℕ) (x : State) (result : Result (Unit {0}) DecodeErrorKind) (after : Option ℕ) (y : State) : Type 0 where
+pub record AppendsOctets (n : ℕ) (before : Option ℕ) (x : State) (result : Result (Unit {0}) DecodeErrorKind)
+    (after : Option ℕ) (y : State) : Type 0 where
   pub ok : OnOk result (TookItems MeansSince (OneByOne octet) n before after x.bits y.bits)
   pub err : IfErr result (Refused (length x.bits < 8 * n))
   pub kept : y.codec ≡ x.codec

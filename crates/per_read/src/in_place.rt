@@ -13,8 +13,8 @@ use crate::lengths::Length;
 use per_bits::BitReader;
 
 impl Reader<'_> {
-    /// Takes a number above 0: an unconstrained length and the octets of the number without sign, one or more (X.691
-    /// 11.7). Superfluous leading octets are taken. `None` is a number that no `usize` holds.
+    /// Takes a number with the lower bound 0: an unconstrained length and the octets of the number without sign, one or
+    /// more (X.691 11.7). Superfluous leading octets are taken. `None` is a number that no `usize` holds.
     pub(crate) fn take_index(&mut self) -> Result<Option<usize>, DecodeErrorKind>
         ensures { Takes (telling IsOfOctets) IsSemiConstrainedWhole OfIndex self.old result self.new }
     {
@@ -63,7 +63,7 @@ impl Reader<'_> {
     }
 }
 
-/// A number with `count` octets behind it, which some bits are.
+/// A number with `count` octets behind it, which some bits are. `None` is a number that no `usize` holds.
 fn with_octets(number: Option<usize>, octets: BitReader<'_>, count: usize) -> Option<usize>
     requires { length octets ≡ 8 * count }
     ensures { TookItems MeansSince (OneByOne an_octet) count number result octets.entry [] }
@@ -77,7 +77,7 @@ fn with_octets(number: Option<usize>, octets: BitReader<'_>, count: usize) -> Op
     number
 }
 
-/// A number with an octet behind it, where it and a `usize` hold it.
+/// A number with an octet behind it. `None` is a number that no `usize` holds.
 fn with_octet(number: Option<usize>, octet: usize) -> Option<usize>
     requires { octet < 256 }
     ensures { Adds MeansSince number (octet ∷ []) result }

@@ -1,4 +1,5 @@
--- Items of an ENUMERATED (X.680 20), each by its list, that before the extension marker or that after it, and its place there.
+-- Items of an ENUMERATED (X.680 20), each by its list, that before the extension marker or that after it, and its place
+-- there.
 use Rattle.std.specs.Prelude.{ℕ, ◌<◌, ◌≤◌, ◌≡◌, Bool, true, false, Option, Some, None}
 use Rattle.rasn_types.specs.Values.{Value, item, Side, root, added}
 
