@@ -79,7 +79,10 @@ pub struct Required<V, N> {
 }
 
 /// The constraints that are given, or else a type's own.
-fn given_or_own<'a>(given: &'a Option<Constraints>, own: &'a Constraints) -> &'a Constraints
+pub(crate) fn given_or_own<'a>(
+    given: &'a Option<Constraints>,
+    own: &'a Constraints,
+) -> &'a Constraints
     ensures { result.now ≡ own_or own.now given.now }
 {
     match given {

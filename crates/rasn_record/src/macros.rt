@@ -11,6 +11,8 @@
 //!             required 0 "protocolVersion" protocol_version: u8 [0..=255];
 //!             required 1 "name" name: Ia5String [SIZE 1..=16];
 //!             required 2 "payload" payload: OctetString [];
+//!             optional 3 "lane" lane: Option<u8> [0..=7];
+//!             default 4 "speed" speed: u8 [0..=200 DEFAULT 50_u8];
 //!         }
 //!     };
 //! }
@@ -44,7 +46,22 @@ macro_rules! constraints {
         &[$crate::permitted!($alphabet), $crate::Constraint::Size($crate::bounded!($($bounds)+))]
     };
     (SIZE $($bounds:tt)+) => { &[$crate::Constraint::Size($crate::bounded!($($bounds)+))] };
+    (DEFAULT $default:expr) => { &[] };
+    ($low:literal ..= $high:literal $(, $mark:tt)? DEFAULT $default:expr) => {
+        $crate::constraints!($low ..= $high $(, $mark)?)
+    };
+    ($low:literal .. $(, $mark:tt)? DEFAULT $default:expr) => { $crate::constraints!($low .. $(, $mark)?) };
+    (..= $high:literal $(, $mark:tt)? DEFAULT $default:expr) => { $crate::constraints!(..= $high $(, $mark)?) };
     ($($bounds:tt)+) => { &[$crate::Constraint::Value($crate::bounded!($($bounds)+))] };
+}
+
+/// The default behind the bounds of a component.
+#[macro_export]
+macro_rules! default_of {
+    (DEFAULT $default:expr) => { $default };
+    ($low:literal ..= $high:literal $(, $mark:tt)? DEFAULT $default:expr) => { $default };
+    ($low:literal .. $(, $mark:tt)? DEFAULT $default:expr) => { $default };
+    (..= $high:literal $(, $mark:tt)? DEFAULT $default:expr) => { $default };
 }
 
 /// The permitted alphabet of a constant of characters, `&[u32]` in ascending order.
@@ -143,6 +160,8 @@ macro_rules! context_tag {
 #[macro_export]
 macro_rules! presence {
     (required) => { $crate::Presence::Required };
+    (optional) => { $crate::Presence::Optional };
+    (default) => { $crate::Presence::Default };
 }
 
 /// The fields of a list of components at their places, behind those that are done.
@@ -169,6 +188,7 @@ macro_rules! placed_fields {
 #[macro_export]
 macro_rules! given {
     ($place:literal) => { None };
+    ($place:literal DEFAULT $default:expr) => { None };
     ($place:literal $($bounds:tt)+) => { Some($crate::Constraints(BOUNDS[$place])) };
 }
 
@@ -183,12 +203,40 @@ macro_rules! cell {
             next: $next,
         }
     };
+    (optional, $tag:literal, $constraints:expr, $value:expr, $next:expr) => {
+        $crate::optionals::Optional {
+            tag: $crate::context_tag!($tag),
+            constraints: $constraints,
+            value: $value,
+            next: $next,
+        }
+    };
+    (default $default:expr, $tag:literal, $constraints:expr, $value:expr, $next:expr) => {
+        $crate::optionals::Default {
+            tag: $crate::context_tag!($tag),
+            constraints: $constraints,
+            value: $value,
+            default: $default,
+            next: $next,
+        }
+    };
 }
 
 /// The components of a list at their places, as cells to write.
 #[macro_export]
 macro_rules! cells_to_write {
     ($places:tt $mode:ident $of:ident) => { $crate::cells::End {} };
+    ([$place:literal $($places:tt)*] $mode:ident $of:ident
+        default $tag:literal $name:literal $field:ident: $type:ty [$($bounds:tt)*]; $($rest:tt)*
+    ) => {
+        $crate::cell!(
+            default $crate::default_of!($($bounds)*),
+            $tag,
+            $crate::given!($place $($bounds)*),
+            &$of.$field,
+            $crate::cells_to_write!([$($places)*] $mode $of $($rest)*)
+        )
+    };
     ([$place:literal $($places:tt)*] $mode:ident $of:ident
         $presence:ident $tag:literal $name:literal $field:ident: $type:ty [$($bounds:tt)*]; $($rest:tt)*
     ) => {
@@ -216,6 +264,17 @@ macro_rules! stated_to_write {
 #[macro_export]
 macro_rules! cells_to_read {
     ($places:tt $mode:ident) => { $crate::cells::End {} };
+    ([$place:literal $($places:tt)*] $mode:ident
+        default $tag:literal $field:ident: $type:ty [$($bounds:tt)*]; $($rest:tt)*
+    ) => {
+        $crate::cell!(
+            default $crate::default_of!($($bounds)*),
+            $tag,
+            $crate::given!($place $($bounds)*),
+            std::marker::PhantomData::<$type>,
+            $crate::cells_to_read!([$($places)*] $mode $($rest)*)
+        )
+    };
     ([$place:literal $($places:tt)*] $mode:ident
         $presence:ident $tag:literal $field:ident: $type:ty [$($bounds:tt)*]; $($rest:tt)*
     ) => {
