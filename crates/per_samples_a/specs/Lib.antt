@@ -1,3 +1,4 @@
+pub mod Absents
 pub mod Boths
 pub mod Eights
 pub mod Fours

@@ -124,7 +124,13 @@ impl<A: Decode, B: Decode> Decode for Both<A, B> {
         let parts = Listed {
             fields: FIELDS,
             constraints: &[],
-            cells: PhantomData::<Required<A, Required<B, End>>>,
+            cells: Required {
+                value: PhantomData::<A>,
+                next: Required {
+                    value: PhantomData::<B>,
+                    next: End {},
+                },
+            },
         };
         let (a, (b, ())) = decoder.decode_record::<Both<A, B>, _>(tag, &parts)?;
         Ok(Both { a, b })

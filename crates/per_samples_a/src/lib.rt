@@ -1,6 +1,7 @@
 //! Types whose encodings are known, written by hand over the traits of types and codecs.
 #![tactic(auto)]
 
+pub mod absent;
 pub mod both;
 pub mod bounded;
 pub mod eight;

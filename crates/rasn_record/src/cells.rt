@@ -49,7 +49,7 @@ pub trait DecodeCells {
     type Values: Drop;
 
     // The components, by what the lists state of them, to a number of levels.
-    ghost parts: { List Shape → List (Bor (List Constraint)) → ℕ → Parts };
+    ghost parts: { Self → List Shape → List (Bor (List Constraint)) → ℕ → Parts };
 
     // What values of them are.
     ghost contents: { Self.Values → List (Option Value) };
@@ -59,11 +59,12 @@ pub trait DecodeCells {
 
     /// Reads the components in turn.
     fn decode_cells<D: Decoder>(
+        &self,
         fields: &[Field],
         constraints: &[&'static [Constraint]],
         decoder: &mut D,
     ) -> Result<Self::Values, D::Error>
-        ensures { TakesParts D.rules (Self.parts (map shape_of fields.now) constraints.now) Self.contents
+        ensures { TakesParts D.rules (Self.parts self.now (map shape_of fields.now) constraints.now) Self.contents
             decoder.old result decoder.new };
 }
 
@@ -73,8 +74,7 @@ pub struct End {}
 
 /// A required component, and those behind it.
 ///
-/// To write, `value` is a reference to what the component is; to read, it is of the component's type, and only the
-/// type of the cell is in use.
+/// To write, `value` is a reference to what the component is; to read, it is `PhantomData` of its type.
 #[derive(Clone, Copy)]
 pub struct Required<V, N> {
     /// What the component is.
@@ -85,8 +85,6 @@ pub struct Required<V, N> {
 
 /// Components of a record, and the lists that state their tags and constraints. A component that isn't in a list has
 /// its type's own tag; one that isn't in a list, or has none there, has its type's own constraints.
-///
-/// To write, `cells` are the components; to read, they are `PhantomData` of them.
 #[derive(Clone, Copy)]
 pub struct Listed<P> {
     /// The fields of the components, in their order.
@@ -98,7 +96,7 @@ pub struct Listed<P> {
 }
 
 /// The tag of the first field, or else a type's own.
-fn first_tag(fields: &[Field], own: Tag) -> Tag
+pub(crate) fn first_tag(fields: &[Field], own: Tag) -> Tag
     ensures { tag_of result ≡ first_tag (tag_of own) (map shape_of fields.now) }
 {
     match fields {
@@ -108,7 +106,7 @@ fn first_tag(fields: &[Field], own: Tag) -> Tag
 }
 
 /// The constraints that the first component is given, or else a type's own.
-fn given_or_own(constraints: &[&'static [Constraint]], own: Constraints) -> Constraints
+pub(crate) fn given_or_own(constraints: &[&'static [Constraint]], own: Constraints) -> Constraints
     ensures { result ≡ own_or own (first_given constraints.now) }
 {
     match constraints {
@@ -118,7 +116,7 @@ fn given_or_own(constraints: &[&'static [Constraint]], own: Constraints) -> Cons
 }
 
 /// Those behind the first of a list.
-fn behind<T>(list: &[T]) -> &[T]
+pub(crate) fn behind<T>(list: &[T]) -> &[T]
     ensures { result.now ≡ behind list.now }
 {
     match list {
@@ -191,13 +189,14 @@ impl<P: EncodeCells> EncodeParts for Listed<P> {
 impl DecodeCells for End {
     type Values = ();
 
-    ghost parts = { λ fs cs n. no_parts };
+    ghost parts = { λ p fs cs n. no_parts };
 
     ghost contents = { λ values. [] };
 
     ghost count = { 0 };
 
     fn decode_cells<D: Decoder>(
+        &self,
         _: &[Field],
         _: &[&'static [Constraint]],
         decoder: &mut D,
@@ -207,17 +206,18 @@ impl DecodeCells for End {
     }
 }
 
-impl<H: Decode, N: DecodeCells> DecodeCells for Required<H, N> {
+impl<H: Decode, N: DecodeCells> DecodeCells for Required<PhantomData<H>, N> {
     type Values = (H, N::Values);
 
-    ghost parts = { λ fs cs n. part (leaf (first_tag (tag_of H.TAG) fs)) required
-        (H.schema (own_or H.CONSTRAINTS (first_given cs)) n) (N.parts (behind fs) (behind cs) n) };
+    ghost parts = { λ p fs cs n. part (leaf (first_tag (tag_of H.TAG) fs)) required
+        (H.schema (own_or H.CONSTRAINTS (first_given cs)) n) (N.parts p.next (behind fs) (behind cs) n) };
 
     ghost contents = { λ values. Some (H.value values.0) ∷ N.contents values.1 };
 
     ghost count = { suc N.count };
 
     fn decode_cells<D: Decoder>(
+        &self,
         fields: &[Field],
         constraints: &[&'static [Constraint]],
         decoder: &mut D,
@@ -225,21 +225,24 @@ impl<H: Decode, N: DecodeCells> DecodeCells for Required<H, N> {
         let tag = first_tag(fields, H::TAG);
         let in_use = given_or_own(constraints, H::CONSTRAINTS);
         let value = H::decode_with_tag_and_constraints(decoder, tag, &in_use)?;
-        let next = N::decode_cells(behind(fields), behind(constraints), decoder)?;
+        let next = self
+            .next
+            .decode_cells(behind(fields), behind(constraints), decoder)?;
         Ok((value, next))
     }
 }
 
-impl<P: DecodeCells> DecodeParts for Listed<PhantomData<P>> {
+impl<P: DecodeCells> DecodeParts for Listed<P> {
     type Values = P::Values;
 
-    ghost parts = { λ p. P.parts (map shape_of p.fields.now) p.constraints.now };
+    ghost parts = { λ p. P.parts p.cells (map shape_of p.fields.now) p.constraints.now };
 
     ghost contents = { P.contents };
 
     ghost count = { P.count };
 
     fn decode_parts<D: Decoder>(&self, decoder: &mut D) -> Result<P::Values, D::Error> {
-        P::decode_cells(self.fields, self.constraints, decoder)
+        self.cells
+            .decode_cells(self.fields, self.constraints, decoder)
     }
 }

@@ -4,6 +4,7 @@
 
 pub mod cells;
 mod macros;
+pub mod optionals;
 pub mod read;
 pub mod write;
 

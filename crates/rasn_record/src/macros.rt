@@ -11,6 +11,8 @@
 //!             required 0 "protocolVersion" protocol_version: u8 [0..=255];
 //!             required 1 "name" name: Ia5String [SIZE 1..=16];
 //!             required 2 "payload" payload: OctetString [];
+//!             optional 3 "lane" lane: Option<u8> [0..=7];
+//!             default 4 "speed" speed: u8 [0..=200 DEFAULT 50_u8];
 //!         }
 //!     };
 //! }
@@ -44,7 +46,22 @@ macro_rules! constraints {
         &[$crate::permitted!($alphabet), $crate::Constraint::Size($crate::bounded!($($bounds)+))]
     };
     (SIZE $($bounds:tt)+) => { &[$crate::Constraint::Size($crate::bounded!($($bounds)+))] };
+    (DEFAULT $default:expr) => { &[] };
+    ($low:literal ..= $high:literal $(, $mark:tt)? DEFAULT $default:expr) => {
+        $crate::constraints!($low ..= $high $(, $mark)?)
+    };
+    ($low:literal .. $(, $mark:tt)? DEFAULT $default:expr) => { $crate::constraints!($low .. $(, $mark)?) };
+    (..= $high:literal $(, $mark:tt)? DEFAULT $default:expr) => { $crate::constraints!(..= $high $(, $mark)?) };
     ($($bounds:tt)+) => { &[$crate::Constraint::Value($crate::bounded!($($bounds)+))] };
+}
+
+/// The default behind the bounds of a component.
+#[macro_export]
+macro_rules! default_of {
+    (DEFAULT $default:expr) => { $default };
+    ($low:literal ..= $high:literal $(, $mark:tt)? DEFAULT $default:expr) => { $default };
+    ($low:literal .. $(, $mark:tt)? DEFAULT $default:expr) => { $default };
+    (..= $high:literal $(, $mark:tt)? DEFAULT $default:expr) => { $default };
 }
 
 /// The permitted alphabet of a constant of characters, `&[u32]` in ascending order.
@@ -102,7 +119,7 @@ macro_rules! encode_each_component {
 #[macro_export]
 macro_rules! decode_components {
     ([$decoder:ident] $($presence:ident $tag:literal $name:literal $field:ident: $type:ty [$($bounds:tt)*];)*) => {{
-        let cells = $crate::listed!(std::marker::PhantomData::<$crate::cells_to_read!($($presence $type;)*)>);
+        let cells = $crate::listed!($crate::cells_to_read!($($presence $type [$($bounds)*];)*));
         let $crate::pairs!($($field)*) = $crate::read::all::<Self, _, _>(&cells, $decoder)?;
         Ok(Self { $($field),* })
     }};
@@ -146,6 +163,8 @@ macro_rules! context_tag {
 #[macro_export]
 macro_rules! presence {
     (required) => { $crate::Presence::Required };
+    (optional) => { $crate::Presence::Optional };
+    (default) => { $crate::Presence::Default };
 }
 
 /// The fields of a list of components at their places, behind those that are done.
@@ -184,25 +203,58 @@ macro_rules! listed {
 #[macro_export]
 macro_rules! cells_to_write {
     ($of:ident) => { $crate::cells::End {} };
-    ($of:ident required $tag:literal $name:literal $field:ident: $type:ty [$($bounds:tt)*]; $($rest:tt)*) => {
-        $crate::cells::Required {
-            value: &$of.$field,
-            next: $crate::cells_to_write!($of $($rest)*),
+    ($of:ident
+        $presence:ident $tag:literal $name:literal $field:ident: $type:ty [$($bounds:tt)*]; $($rest:tt)*
+    ) => {
+        $crate::cell!(
+            $presence [$($bounds)*],
+            &$of.$field,
+            $crate::cells_to_write!($of $($rest)*)
+        )
+    };
+}
+
+/// The components of a list as cells to read.
+#[macro_export]
+macro_rules! cells_to_read {
+    () => { $crate::cells::End {} };
+    ($presence:ident $type:ty [$($bounds:tt)*]; $($rest:tt)*) => {
+        $crate::cell!(
+            $presence [$($bounds)*],
+            std::marker::PhantomData::<$type>,
+            $crate::cells_to_read!($($rest)*)
+        )
+    };
+}
+
+/// A cell in front of others.
+#[macro_export]
+macro_rules! cell {
+    (required [$($bounds:tt)*], $value:expr, $next:expr) => {
+        $crate::cells::Required { value: $value, next: $next }
+    };
+    (optional [$($bounds:tt)*], $value:expr, $next:expr) => {
+        $crate::optionals::Optional { value: $value, next: $next }
+    };
+    (default [$($bounds:tt)*], $value:expr, $next:expr) => {
+        $crate::optionals::Default {
+            value: $value,
+            default: $crate::default_of!($($bounds)*),
+            next: $next,
         }
     };
 }
 
-/// The type of the cells to read of a list.
-#[macro_export]
-macro_rules! cells_to_read {
-    () => { $crate::cells::End };
-    (required $type:ty; $($rest:tt)*) => { $crate::cells::Required<$type, $crate::cells_to_read!($($rest)*)> };
-}
-
-/// The components of a list to write, each stated at its place.
+/// The components of a list to write, each that is required stated at its place.
 #[macro_export]
 macro_rules! stated_to_write {
     ($places:tt [$of:ident];) => { () };
+    ([$place:literal $($places:tt)*] [$of:ident];
+        optional $tag:literal $name:literal $field:ident: $type:ty [$($bounds:tt)*]; $($rest:tt)*
+    ) => { $crate::stated_to_write!([$($places)*] [$of]; $($rest)*) };
+    ([$place:literal $($places:tt)*] [$of:ident];
+        default $tag:literal $name:literal $field:ident: $type:ty [$($bounds:tt)*]; $($rest:tt)*
+    ) => { $crate::stated_to_write!([$($places)*] [$of]; $($rest)*) };
     ([$place:literal $($places:tt)*] [$of:ident];
         $presence:ident $tag:literal $name:literal $field:ident: $type:ty [$($bounds:tt)*]; $($rest:tt)*
     ) => {{
@@ -212,10 +264,16 @@ macro_rules! stated_to_write {
     }};
 }
 
-/// The components of a list to read, each stated at its place.
+/// The components of a list to read, each that is required stated at its place.
 #[macro_export]
 macro_rules! stated_to_read {
     ($places:tt [];) => { () };
+    ([$place:literal $($places:tt)*] [];
+        optional $tag:literal $name:literal $field:ident: $type:ty [$($bounds:tt)*]; $($rest:tt)*
+    ) => { $crate::stated_to_read!([$($places)*] []; $($rest)*) };
+    ([$place:literal $($places:tt)*] [];
+        default $tag:literal $name:literal $field:ident: $type:ty [$($bounds:tt)*]; $($rest:tt)*
+    ) => { $crate::stated_to_read!([$($places)*] []; $($rest)*) };
     ([$place:literal $($places:tt)*] [];
         $presence:ident $tag:literal $name:literal $field:ident: $type:ty [$($bounds:tt)*]; $($rest:tt)*
     ) => {{
@@ -225,10 +283,16 @@ macro_rules! stated_to_read {
     }};
 }
 
-/// The components of a list that were read, each stated at its place.
+/// The components of a list that were read, each that is required stated at its place.
 #[macro_export]
 macro_rules! stated_as_read {
     ($places:tt [$of:ident];) => { () };
+    ([$place:literal $($places:tt)*] [$of:ident];
+        optional $tag:literal $name:literal $field:ident: $type:ty [$($bounds:tt)*]; $($rest:tt)*
+    ) => { $crate::stated_as_read!([$($places)*] [$of]; $($rest)*) };
+    ([$place:literal $($places:tt)*] [$of:ident];
+        default $tag:literal $name:literal $field:ident: $type:ty [$($bounds:tt)*]; $($rest:tt)*
+    ) => { $crate::stated_as_read!([$($places)*] [$of]; $($rest)*) };
     ([$place:literal $($places:tt)*] [$of:ident];
         $presence:ident $tag:literal $name:literal $field:ident: $type:ty [$($bounds:tt)*]; $($rest:tt)*
     ) => {{

@@ -1,0 +1,67 @@
+//! A SEQUENCE of a component with a default.
+
+ghost use Rattle.std.specs.Prelude.{refl, [], ◌∷◌, Some, pos};
+ghost use Rattle.rasn_types.specs.Values.{whole};
+ghost use Rattle.rasn_types.specs.Variants.{unaligned};
+ghost use Rattle.rasn_schema.specs.Components.{fields_of};
+ghost use Rattle.per_samples_a.specs.Absents.{one_default};
+ghost use Rattle.per_samples_a.specs.Rows.{IsWrittenAs, IsUnwritten};
+
+use rasn_record::{
+    AsnType, Components, Constraint, Decoder, Encoder, Fields, Record, bounds, decode_components,
+    encode_components, fields,
+};
+
+/// SEQUENCE { a INTEGER (0..7) DEFAULT 3 }
+#[derive(Clone, Copy, Debug, PartialEq)]
+pub struct OneDefault {
+    pub a: u8,
+}
+
+macro_rules! components {
+    ($to:ident $($with:ident)*) => {
+        $to! { [$($with)*]
+            default 0 "a" a: u8 [0..=7 DEFAULT 3_u8];
+        }
+    };
+}
+
+const FIELDS: Fields = components!(fields);
+
+const BOUNDS: &[&[Constraint]] = components!(bounds);
+
+impl Components for OneDefault {
+    const COMPONENTS: Fields = FIELDS;
+
+    ghost COMPONENTS = { fields_of one_default };
+
+    ghost components = { one_default };
+
+    ghost contents = { λ x. Some (whole (pos x.a)) ∷ [] };
+
+    ghost described = { refl };
+}
+
+impl Record for OneDefault {
+    fn encode_components<E: Encoder>(&self, encoder: &mut E) -> Result<(), E::Error> {
+        components!(encode_components self encoder)
+    }
+
+    fn decode_components<D: Decoder>(decoder: &mut D) -> Result<Self, D::Error> {
+        components!(decode_components decoder)
+    }
+}
+
+/// A component at its default is left out: its presence bit is 0 (X.691 19.2, 19.5).
+#[tactic(auto, unfolding(per_core::specs::Canon::bytes, rasn_schema::specs::Normal::normal))]
+pub fn a_default_is_left_out()
+    ensures default { let own = ⟦<OneDefault as AsnType>⟧ in
+        IsWrittenAs unaligned (own.schema own.CONSTRAINTS) own.levels own.value
+        (record { a = 3 }) (0x00 ∷ []) }
+    ensures other { let own = ⟦<OneDefault as AsnType>⟧ in
+        IsWrittenAs unaligned (own.schema own.CONSTRAINTS) own.levels own.value
+        (record { a = 5 }) (0xd0 ∷ []) }
+    ensures greater { let own = ⟦<OneDefault as AsnType>⟧ in
+        IsUnwritten unaligned (own.schema own.CONSTRAINTS) own.levels own.value
+        (record { a = 8 }) }
+{}

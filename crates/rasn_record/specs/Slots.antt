@@ -1,0 +1,26 @@
+-- One component of a record, as a cell writes it.
+use Rattle.std.specs.Prelude.{◌≡◌, ℕ, Bool, Result, Option, Some, None}
+use Rattle.rasn_types.specs.Values.{Value, same}
+use Rattle.rasn_schema.specs.Schemas.{Presence, Schema}
+use Rattle.rasn_schema.specs.Normal.{normal}
+use Rattle.rasn_codec.specs.Calls.{AtDepths, Behaves, EncoderRules}
+use Rattle.rasn_codec.specs.Scopes.{WrittenPart}
+
+-- how many levels a value takes that may be there
+abbrev pub slot_levels : {T : Type 0} → (T → ℕ) → Option T → ℕ
+slot_levels levels None = 0
+slot_levels levels (Some x) = levels x
+
+-- the normal form of a component that isn't an addition group
+abbrev pub normal_slot : Schema → Option Value → Option Value
+normal_slot s None = None
+normal_slot s (Some v) = Some (normal s v)
+
+-- A call that writes a component, absent or there, at each depth that holds it.
+pub record WritesComponent {E X : Type 0} (rules : EncoderRules E X) (p : Presence) (schema : ℕ → Schema) (k : ℕ) (r : Option Value) (x : X) (result : Result (Unit {0}) E) (y : X) : Type 0 where
+  pub law : AtDepths schema k (λ s. WrittenPart rules p s (normal_slot s r) x result y)
+  pub behaves : Behaves rules.already rules.failed rules.codec x result y
+
+-- a test of whether two values are one: at each depth that holds the first, its normal form is the second
+pub record TellsSame {C : Type 0} (schema : C → ℕ → Schema) (k : ℕ) (v d : Value) (b : Bool) : Type 0 where
+  pub at : (c : C) → AtDepths (schema c) k (λ s. b ≡ same (normal s v) d)
