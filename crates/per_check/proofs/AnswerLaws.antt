@@ -15,7 +15,7 @@ use Rattle.per_core.specs.Canon.{bytes}
 use Rattle.per_check.specs.declared.arguments.Variant.{Variant}
 use Rattle.per_check.specs.declared.arguments.Variant.TheVariants.{Uper}
 use Rattle.per_check.specs.declared.arguments.TypeName.{TypeName}
-use Rattle.per_check.specs.declared.arguments.TypeName.TheVariants.{Boolean, Null, Integer, UpTo65535, FromMinusOne, Natural, ZeroTo65536, OneToTenExtensible, Four, Seven, ShortVisible, LettersAToE, BitString, OctetString, OnlyX, Items}
+use Rattle.per_check.specs.declared.arguments.TypeName.TheVariants.{Boolean, Null, Integer, UpTo65535, FromMinusOne, Natural, ZeroTo65536, OneToTenExtensible, Four, Seven, OneDefault, ShortVisible, LettersAToE, BitString, OctetString, OnlyX, Items}
 use Rattle.per_check.specs.declared.arguments.Arguments.{Arguments}
 use Rattle.per_check.specs.declared.fault.Fault.TheVariants.{CannotWrite}
 use Rattle.per_check.specs.Words.{variant_word, type_word, words_of}
@@ -25,7 +25,7 @@ use Rattle.per_check.specs.Answers.{Answers, Prints, Stands}
 
 -- the types that the program knows
 abbrev all_types : List TypeName
-all_types = Boolean ∷ Null ∷ Integer ∷ UpTo65535 ∷ FromMinusOne ∷ Natural ∷ ZeroTo65536 ∷ OneToTenExtensible ∷ Four ∷ Seven
+all_types = Boolean ∷ Null ∷ Integer ∷ UpTo65535 ∷ FromMinusOne ∷ Natural ∷ ZeroTo65536 ∷ OneToTenExtensible ∷ Four ∷ Seven ∷ OneDefault
     ∷ ShortVisible ∷ LettersAToE ∷ BitString ∷ OctetString ∷ OnlyX ∷ Items ∷ []
 
 -- the first of some types that a word names
@@ -48,6 +48,7 @@ type_of-words v ZeroTo65536 = refl
 type_of-words v OneToTenExtensible = refl
 type_of-words v Four = refl
 type_of-words v Seven = refl
+type_of-words v OneDefault = refl
 type_of-words v ShortVisible = refl
 type_of-words v LettersAToE = refl
 type_of-words v BitString = refl

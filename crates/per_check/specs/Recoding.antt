@@ -8,6 +8,7 @@ use Rattle.rasn_constraints.specs.Bounds.{unbounded, between, Size, any_size}
 use Rattle.rasn_schema.specs.Schemas.{Schema}
 use Rattle.rasn_schema.specs.Forms.{always}
 use Rattle.rasn_schema.specs.Components.{lower_bound, upper_bound, sequence_of}
+use Rattle.per_samples_a.specs.Absents.{one_default}
 use Rattle.per_samples_a.specs.Fours.{four}
 use Rattle.per_samples_a.specs.Sevens.{seven}
 use Rattle.per_samples_c.specs.Items.{with_item}
@@ -18,7 +19,7 @@ use Rattle.per_read.specs.declared.error.DecodeErrorKind.TheVariants as Decoding
 use Rattle.per_check.specs.declared.arguments.Variant.{Variant}
 use Rattle.per_check.specs.declared.arguments.Variant.TheVariants.{Uper}
 use Rattle.per_check.specs.declared.arguments.TypeName.{TypeName}
-use Rattle.per_check.specs.declared.arguments.TypeName.TheVariants.{Boolean, Null, Integer, UpTo65535, FromMinusOne, Natural, ZeroTo65536, OneToTenExtensible, Four, Seven, ShortVisible, LettersAToE, BitString, OctetString, OnlyX, Items}
+use Rattle.per_check.specs.declared.arguments.TypeName.TheVariants.{Boolean, Null, Integer, UpTo65535, FromMinusOne, Natural, ZeroTo65536, OneToTenExtensible, Four, Seven, OneDefault, ShortVisible, LettersAToE, BitString, OctetString, OnlyX, Items}
 use Rattle.per_check.specs.declared.fault.Fault.{Fault}
 use Rattle.per_check.specs.declared.fault.Fault.TheVariants as Faults
 
@@ -31,7 +32,7 @@ abbrev pub one_to : ℕ → Size
 one_to u = record { least = Some 1; most = Some u }
 
 -- what the name of a type means: BOOLEAN (X.680 18); NULL (X.680 24); INTEGER (X.680 19), alone and under value constraints
--- (X.680 51.4); SEQUENCE (X.680 25) of required components, ENUMERATED (X.680 20) among them; BIT STRING (X.680 22); OCTET STRING (X.680 23); and character strings
+-- (X.680 51.4); SEQUENCE (X.680 25), with a default or an ENUMERATED (X.680 20) in it; BIT STRING (X.680 22); OCTET STRING (X.680 23); and character strings
 -- (X.680 41) by their characters
 abbrev pub schema_of : TypeName → ℕ → Schema
 schema_of Boolean = always Schema.boolean
@@ -44,6 +45,7 @@ schema_of ZeroTo65536 = always (Schema.number (between (pos 0) (pos 65536)) fals
 schema_of OneToTenExtensible = always (Schema.number (between (pos 1) (pos 10)) true unbounded)
 schema_of Four = sequence_of four
 schema_of Seven = sequence_of seven
+schema_of OneDefault = sequence_of one_default
 schema_of ShortVisible = always (Schema.char_string visible (one_to 3) true)
 schema_of LettersAToE = always (Schema.char_string (from_to 5 65) (one_to 20) false)
 schema_of BitString = always (Schema.bit_string any_size false)

@@ -3,7 +3,7 @@ use Rattle.std.specs.Prelude.{ℕ, List, [], ◌∷◌, String, codes, map, stri
 use Rattle.per_check.specs.declared.arguments.Variant.{Variant}
 use Rattle.per_check.specs.declared.arguments.Variant.TheVariants.{Uper}
 use Rattle.per_check.specs.declared.arguments.TypeName.{TypeName}
-use Rattle.per_check.specs.declared.arguments.TypeName.TheVariants.{Boolean, Null, Integer, UpTo65535, FromMinusOne, Natural, ZeroTo65536, OneToTenExtensible, Four, Seven, ShortVisible, LettersAToE, BitString, OctetString, OnlyX, Items}
+use Rattle.per_check.specs.declared.arguments.TypeName.TheVariants.{Boolean, Null, Integer, UpTo65535, FromMinusOne, Natural, ZeroTo65536, OneToTenExtensible, Four, Seven, OneDefault, ShortVisible, LettersAToE, BitString, OctetString, OnlyX, Items}
 use Rattle.per_check.specs.declared.arguments.Arguments.{Arguments}
 
 -- words by their octets
@@ -24,6 +24,7 @@ type_word ZeroTo65536 = codes "i65536"
 type_word OneToTenExtensible = codes "iext"
 type_word Four = codes "four"
 type_word Seven = codes "seven"
+type_word OneDefault = codes "default"
 type_word ShortVisible = codes "vis"
 type_word LettersAToE = codes "five"
 type_word BitString = codes "bits"

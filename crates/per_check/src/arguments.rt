@@ -36,6 +36,8 @@ pub enum TypeName {
     Four,
     /// SEQUENCE { a INTEGER (7..7) }.
     Seven,
+    /// SEQUENCE { a INTEGER (0..7) DEFAULT 3 }.
+    OneDefault,
     /// VisibleString (SIZE (1..3, ...)).
     ShortVisible,
     /// VisibleString (FROM ("A".."E")) (SIZE (1..20)).
@@ -89,6 +91,7 @@ impl TypeName {
             "iext" => Some(TypeName::OneToTenExtensible),
             "four" => Some(TypeName::Four),
             "seven" => Some(TypeName::Seven),
+            "default" => Some(TypeName::OneDefault),
             "vis" => Some(TypeName::ShortVisible),
             "five" => Some(TypeName::LettersAToE),
             "bits" => Some(TypeName::BitString),

@@ -6,6 +6,7 @@ ghost use Rattle.per_check.specs.Recoding.{Recodes, IsRefusal, rules_of, schema_
 
 use crate::arguments::{Arguments, TypeName, Variant};
 use crate::fault::Fault;
+use per_samples_a::absent::OneDefault;
 use per_samples_a::bounded::{OneToTenExtensible, ZeroTo65536};
 use per_samples_a::four::Four;
 use per_samples_a::half_bounded::{FromMinusOne, Natural, UpTo65535};
@@ -39,6 +40,7 @@ pub fn recoded(alloc: Global, arguments: Arguments, octets: &[u8]) -> Result<Vec
             TypeName::OneToTenExtensible => recoded_as::<OneToTenExtensible>(alloc, octets),
             TypeName::Four => recoded_as::<Four>(alloc, octets),
             TypeName::Seven => recoded_as::<Seven>(alloc, octets),
+            TypeName::OneDefault => recoded_as::<OneDefault>(alloc, octets),
             TypeName::ShortVisible => recoded_as::<ShortVisible>(alloc, octets),
             TypeName::LettersAToE => recoded_as::<LettersAToE>(alloc, octets),
             TypeName::BitString => recoded_as::<BitString>(alloc, octets),

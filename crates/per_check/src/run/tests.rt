@@ -143,6 +143,9 @@ fn prints_the_canonical_encoding(rt: HostRuntime) -> Result<(), Fail> {
         ("uper iext", "808280\n", "20\n"),
         ("uper four", "82851205468f8020\n", "82851205468f8020\n"),
         ("uper seven", "00\n", "00\n"),
+        ("uper default", "00\n", "00\n"),
+        ("uper default", "d0\n", "d0\n"),
+        ("uper default", "b0\n", "00\n"),
         // 2 to the 127th, which no i128 holds.
         (
             "uper integer",

@@ -17,3 +17,6 @@ returns-in-Items-clause-err c = rw (c.in-Items.is, one_variant c.args.arguments.
 
 pub returns-in-Seven-clause-err : goal.returns-in-Seven-clause-err
 returns-in-Seven-clause-err c = rw (c.in-Seven.is, one_variant c.args.arguments.variant) c.recoded_as-in-Seven.ensures.err
+
+pub returns-in-OneDefault-clause-err : goal.returns-in-OneDefault-clause-err
+returns-in-OneDefault-clause-err c = rw (c.in-OneDefault.is, one_variant c.args.arguments.variant) c.recoded_as-in-OneDefault.ensures.err
