@@ -311,6 +311,3 @@ impl<'input> codec::Decoder for Decoder<'input> {
 
     ghost scopes = { scopes_well };
 }
-
-#[cfg(test)]
-mod tests;

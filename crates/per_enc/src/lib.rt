@@ -8,9 +8,6 @@ ghost use Rattle.per_write.specs.Faults.{RefusesOutput};
 ghost use Rattle.per_write.specs.Rules.{encoder_rules};
 ghost use Rattle.per_write.specs.State.{view};
 
-#[cfg(test)]
-mod tests;
-
 use per_write::Writer;
 pub use per_write::error;
 pub use per_write::error::{EncodeError, EncodeErrorKind};
