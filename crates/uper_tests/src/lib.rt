@@ -5,6 +5,8 @@
 #[cfg(test)]
 mod header;
 #[cfg(test)]
+mod lines;
+#[cfg(test)]
 mod memory;
 #[cfg(test)]
 mod refusals;

@@ -3,8 +3,8 @@
 ghost use Rattle.std.specs.Prelude.{◌≡◌, ◌∷◌, [], ◌++◌, OnOk};
 ghost use Rattle.std.specs.IoError.{error_kind};
 ghost use Rattle.std.specs.Io.KnownBytes.{Appends};
-ghost use Rattle.per_check.specs.Faults.{text_of, status_of, io_fault, hexadecimal_fault};
-ghost use Rattle.per_check.specs.declared.fault.Fault.TheVariants.{OutOfMemory, Encode as encode_fault, Decode as decode_fault};
+ghost use Rattle.per_lines.specs.Faults.{text_of, status_of, io_fault, hexadecimal_fault};
+ghost use Rattle.per_lines.specs.declared.fault.Fault.TheVariants.{OutOfMemory, Encode as encode_fault, Decode as decode_fault};
 
 use hex::FromHexError;
 use per_de::{DecodeError, DecodeErrorKind};

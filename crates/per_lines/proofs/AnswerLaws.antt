@@ -12,16 +12,16 @@ use Rattle.rasn_types.specs.Variants
 use Rattle.rasn_schema.specs.Schemas.{Schema}
 use Rattle.rasn_schema.specs.Normal.{normal}
 use Rattle.per_core.specs.Canon.{bytes}
-use Rattle.per_check.specs.declared.arguments.Variant.{Variant}
-use Rattle.per_check.specs.declared.arguments.Variant.TheVariants.{Uper}
-use Rattle.per_check.specs.declared.arguments.TypeName.{TypeName}
-use Rattle.per_check.specs.declared.arguments.TypeName.TheVariants.{Boolean, Null, Integer, UpTo65535, FromMinusOne, Natural, ZeroTo65536, OneToTenExtensible, Four, Seven, ShortVisible, LettersAToE, BitString, OctetString, OnlyX}
-use Rattle.per_check.specs.declared.arguments.Arguments.{Arguments}
-use Rattle.per_check.specs.declared.fault.Fault.TheVariants.{CannotWrite}
-use Rattle.per_check.specs.Words.{variant_word, type_word, words_of}
-use Rattle.per_check.specs.Faults.{io_fault}
-use Rattle.per_check.specs.Recoding.{rules_of, schema_of, Recodes}
-use Rattle.per_check.specs.Answers.{Answers, Prints, Stands}
+use Rattle.per_lines.specs.declared.arguments.Variant.{Variant}
+use Rattle.per_lines.specs.declared.arguments.Variant.TheVariants.{Uper}
+use Rattle.per_lines.specs.declared.arguments.TypeName.{TypeName}
+use Rattle.per_lines.specs.declared.arguments.TypeName.TheVariants.{Boolean, Null, Integer, UpTo65535, FromMinusOne, Natural, ZeroTo65536, OneToTenExtensible, Four, Seven, ShortVisible, LettersAToE, BitString, OctetString, OnlyX}
+use Rattle.per_lines.specs.declared.arguments.Arguments.{Arguments}
+use Rattle.per_lines.specs.declared.fault.Fault.TheVariants.{CannotWrite}
+use Rattle.per_lines.specs.Words.{variant_word, type_word, words_of}
+use Rattle.per_lines.specs.Faults.{io_fault}
+use Rattle.per_lines.specs.Recoding.{rules_of, schema_of, Recodes}
+use Rattle.per_lines.specs.Answers.{Answers, Prints, Stands}
 
 -- the types that the program knows
 abbrev all_types : List TypeName

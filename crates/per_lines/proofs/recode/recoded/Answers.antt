@@ -1,9 +1,9 @@
 use Rattle.std.proofs.Common.{◌≡◌, refl}
 use Rattle.rasn_types.specs.Variants.{unaligned}
-use Rattle.per_check.specs.Recoding.{rules_of}
-use Rattle.per_check.specs.declared.arguments.Variant.{Variant}
-use Rattle.per_check.specs.declared.arguments.Variant.TheVariants.{Uper}
-use Rattle.per_check.proofs.recode.recoded.Goals as goal
+use Rattle.per_lines.specs.Recoding.{rules_of}
+use Rattle.per_lines.specs.declared.arguments.Variant.{Variant}
+use Rattle.per_lines.specs.declared.arguments.Variant.TheVariants.{Uper}
+use Rattle.per_lines.proofs.recode.recoded.Goals as goal
 
 -- the program knows one variant
 one_variant : (v : Variant) → rules_of v ≡ unaligned

@@ -2,7 +2,7 @@
 
 ghost use Rattle.std.specs.Prelude.{◌≡◌, IfOk, IfSome, OnOk};
 ghost use Rattle.std.specs.Io.BufRead.{strip_last, DropsThrough};
-ghost use Rattle.per_check.specs.Answers.{line_of};
+ghost use Rattle.per_lines.specs.Answers.{line_of};
 
 use std::alloc::Global;
 use std::io;

@@ -14,12 +14,12 @@ use Rattle.rasn_per.specs.Complete.{AreBytes, HasNoBytes, AreReadAs, AreUnread}
 use Rattle.rasn_per.specs.Kinds.{IsInOctets}
 use Rattle.per_write.specs.declared.error.EncodeErrorKind.TheVariants as Encoding
 use Rattle.per_read.specs.declared.error.DecodeErrorKind.TheVariants as Decoding
-use Rattle.per_check.specs.declared.arguments.Variant.{Variant}
-use Rattle.per_check.specs.declared.arguments.Variant.TheVariants.{Uper}
-use Rattle.per_check.specs.declared.arguments.TypeName.{TypeName}
-use Rattle.per_check.specs.declared.arguments.TypeName.TheVariants.{Boolean, Null, Integer, UpTo65535, FromMinusOne, Natural, ZeroTo65536, OneToTenExtensible, Four, Seven, ShortVisible, LettersAToE, BitString, OctetString, OnlyX}
-use Rattle.per_check.specs.declared.fault.Fault.{Fault}
-use Rattle.per_check.specs.declared.fault.Fault.TheVariants as Faults
+use Rattle.per_lines.specs.declared.arguments.Variant.{Variant}
+use Rattle.per_lines.specs.declared.arguments.Variant.TheVariants.{Uper}
+use Rattle.per_lines.specs.declared.arguments.TypeName.{TypeName}
+use Rattle.per_lines.specs.declared.arguments.TypeName.TheVariants.{Boolean, Null, Integer, UpTo65535, FromMinusOne, Natural, ZeroTo65536, OneToTenExtensible, Four, Seven, ShortVisible, LettersAToE, BitString, OctetString, OnlyX}
+use Rattle.per_lines.specs.declared.fault.Fault.{Fault}
+use Rattle.per_lines.specs.declared.fault.Fault.TheVariants as Faults
 
 -- the variant that is meant (X.691 7)
 abbrev pub rules_of : Variant → Variants.Variant

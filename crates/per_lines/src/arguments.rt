@@ -1,10 +1,10 @@
 //! What the program is asked to do.
 
 ghost use Rattle.std.specs.Prelude.{◌≡◌, ◌≢◌, IfSome, IfNone, map, string_bytes};
-ghost use Rattle.per_check.specs.Words.{variant_word, type_word, words_of};
-ghost use Rattle.per_check.specs.declared.arguments.Variant.{Variant as a_variant};
-ghost use Rattle.per_check.specs.declared.arguments.TypeName.{TypeName as a_name};
-ghost use Rattle.per_check.specs.declared.arguments.Arguments.{Arguments as the_arguments};
+ghost use Rattle.per_lines.specs.Words.{variant_word, type_word, words_of};
+ghost use Rattle.per_lines.specs.declared.arguments.Variant.{Variant as a_variant};
+ghost use Rattle.per_lines.specs.declared.arguments.TypeName.{TypeName as a_name};
+ghost use Rattle.per_lines.specs.declared.arguments.Arguments.{Arguments as the_arguments};
 
 /// A variant of the packed encoding rules (X.691 7) that the program knows.
 #[derive(Clone, Copy, Debug, PartialEq, Eq)]

@@ -3,11 +3,11 @@ use Rattle.std.specs.Prelude.{ℕ, ◌≡◌, ◌≢◌, List, [], ◌∷◌, �
 use Rattle.std.specs.Io.BufRead.{first_piece, strip_last}
 use Rattle.std.specs.Io.KnownBytes.{Appends}
 use Rattle.hex.specs.Hex.{decode_of, encode_lower}
-use Rattle.per_check.specs.declared.arguments.Arguments.{Arguments}
-use Rattle.per_check.specs.declared.fault.Fault.{Fault}
-use Rattle.per_check.specs.declared.fault.Fault.TheVariants.{WrongArguments, CannotRead, BadHexadecimal, Decode, Encode, CannotWrite, OutOfMemory}
-use Rattle.per_check.specs.Words.{words_of}
-use Rattle.per_check.specs.Recoding.{rules_of, schema_of, Recodes, IsRefusal}
+use Rattle.per_lines.specs.declared.arguments.Arguments.{Arguments}
+use Rattle.per_lines.specs.declared.fault.Fault.{Fault}
+use Rattle.per_lines.specs.declared.fault.Fault.TheVariants.{WrongArguments, CannotRead, BadHexadecimal, Decode, Encode, CannotWrite, OutOfMemory}
+use Rattle.per_lines.specs.Words.{words_of}
+use Rattle.per_lines.specs.Recoding.{rules_of, schema_of, Recodes, IsRefusal}
 
 -- the octets before the first line feed, or all, without a carriage return at their end
 abbrev pub line_of : List ℕ → List ℕ

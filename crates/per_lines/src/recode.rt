@@ -2,7 +2,7 @@
 
 ghost use Rattle.std.specs.Prelude.{◌≡◌, IfOk, IfErr};
 ghost use Rattle.rasn_types.specs.Variants.{unaligned};
-ghost use Rattle.per_check.specs.Recoding.{Recodes, IsRefusal, rules_of, schema_of};
+ghost use Rattle.per_lines.specs.Recoding.{Recodes, IsRefusal, rules_of, schema_of};
 
 use crate::arguments::{Arguments, TypeName, Variant};
 use crate::fault::Fault;

@@ -2,14 +2,11 @@
 
 ghost use Rattle.std.specs.Prelude.{◌≡◌, ◌≢◌, ◌≤◌, ◌⊎◌, IfOk, IfErr, OnOk, OnErr, string_bytes};
 ghost use Rattle.std.specs.Io.KnownBytes.{Appends, Keeps};
-ghost use Rattle.per_check.specs.Answers.{Answers, HasAnswer, Prints, Stands, AreUnknown};
-ghost use Rattle.per_check.specs.Faults.{status_of};
-ghost use Rattle.per_check.specs.Words.{words};
-ghost use Rattle.per_check.specs.declared.fault.Fault.{Fault as the_fault};
-ghost use Rattle.per_check.specs.declared.fault.Fault.TheVariants.{WrongArguments};
-
-#[cfg(test)]
-mod tests;
+ghost use Rattle.per_lines.specs.Answers.{Answers, HasAnswer, Prints, Stands, AreUnknown};
+ghost use Rattle.per_lines.specs.Faults.{status_of};
+ghost use Rattle.per_lines.specs.Words.{words};
+ghost use Rattle.per_lines.specs.declared.fault.Fault.{Fault as the_fault};
+ghost use Rattle.per_lines.specs.declared.fault.Fault.TheVariants.{WrongArguments};
 
 use crate::arguments::Arguments;
 use crate::fault::Fault;

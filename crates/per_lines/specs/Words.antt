@@ -1,10 +1,10 @@
 -- The words after the program's name.
 use Rattle.std.specs.Prelude.{ℕ, List, [], ◌∷◌, String, codes, map, string_bytes}
-use Rattle.per_check.specs.declared.arguments.Variant.{Variant}
-use Rattle.per_check.specs.declared.arguments.Variant.TheVariants.{Uper}
-use Rattle.per_check.specs.declared.arguments.TypeName.{TypeName}
-use Rattle.per_check.specs.declared.arguments.TypeName.TheVariants.{Boolean, Null, Integer, UpTo65535, FromMinusOne, Natural, ZeroTo65536, OneToTenExtensible, Four, Seven, ShortVisible, LettersAToE, BitString, OctetString, OnlyX}
-use Rattle.per_check.specs.declared.arguments.Arguments.{Arguments}
+use Rattle.per_lines.specs.declared.arguments.Variant.{Variant}
+use Rattle.per_lines.specs.declared.arguments.Variant.TheVariants.{Uper}
+use Rattle.per_lines.specs.declared.arguments.TypeName.{TypeName}
+use Rattle.per_lines.specs.declared.arguments.TypeName.TheVariants.{Boolean, Null, Integer, UpTo65535, FromMinusOne, Natural, ZeroTo65536, OneToTenExtensible, Four, Seven, ShortVisible, LettersAToE, BitString, OctetString, OnlyX}
+use Rattle.per_lines.specs.declared.arguments.Arguments.{Arguments}
 
 -- words by their octets
 abbrev pub words : {Z : Type 0} → List (String Z) → List (List ℕ)
