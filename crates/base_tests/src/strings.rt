@@ -85,8 +85,8 @@ fn the_types_have_their_characters(rt: HostRuntime) {
     expect_characters::<BmpString>(&rt, 65536, b"\x00\xff");
 }
 
-/// How many characters the strings of some octets have, where there are such strings: of a VisibleString, an IA5String, a
-/// PrintableString and a NumericString.
+/// How many characters the strings of some octets have, where there are such strings: of a VisibleString, an
+/// IA5String, a PrintableString and a NumericString.
 type Lengths = [Option<usize>; 4];
 
 const MADE: &[(&[u8], Lengths)] = &[

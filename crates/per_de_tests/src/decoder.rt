@@ -1,5 +1,5 @@
-//! What a `Decoder` does from call to call: that it reads values behind one another, how deep records may stand, and that
-//! it refuses every call once it has failed.
+//! What a `Decoder` does from call to call: that it reads values behind one another, how deep records may stand, and
+//! that it refuses every call once it has failed.
 
 use per_bits::{BitList, BitReader};
 use per_de::{Decoder, DecoderOptions, Scope};

@@ -1,5 +1,5 @@
-//! What an `Encoder` does from call to call: that it empties itself, writes the parts of a record one after another, and
-//! refuses every call once it has failed.
+//! What an `Encoder` does from call to call: that it empties itself, writes the parts of a record one after another,
+//! and refuses every call once it has failed.
 
 use linked_list_allocator::LocalHeap;
 use per_enc::{EncodeError, EncodeErrorKind, Encoder, EncoderOptions};
