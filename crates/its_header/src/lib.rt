@@ -5,6 +5,4 @@ pub mod header;
 pub mod message;
 pub mod position;
 pub mod speed;
-#[cfg(test)]
-mod tests;
 pub mod vehicle;

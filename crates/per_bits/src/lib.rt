@@ -367,6 +367,3 @@ fn append_from_octet<A: Allocator>(octets: &mut Vec<u8, A>, reader: BitReader<'_
     let number = left.take_field(width);
     append_field(octets, 0, number, width)
 }
-
-#[cfg(test)]
-mod tests;

@@ -6,15 +6,10 @@
 #![tactic(auto)]
 
 ghost use Rattle.std.specs.Prelude.{◌≡◌, ◌⊎◌, IfErr};
-ghost use Rattle.per_check.specs.declared.fault.Fault.TheVariants.{OutOfMemory, WrongArguments};
+ghost use Rattle.per_lines.specs.declared.fault.Fault.TheVariants.{OutOfMemory, WrongArguments};
 
-mod arguments;
-mod fault;
-mod line;
-mod recode;
-mod run;
-
-use crate::fault::Fault;
+use per_lines::fault::Fault;
+use per_lines::run::run;
 use std::alloc::AllocError;
 use std::env;
 use std::env::Env;
@@ -24,7 +19,7 @@ use std::process::ExitCode;
 fn main(rt: HostRuntime) -> ExitCode {
     let mut faults = rt.stderr();
     let status = match words(&rt) {
-        Ok(words) => run::run(
+        Ok(words) => run(
             rt.alloc(),
             words.as_slice(),
             &mut rt.reader(),

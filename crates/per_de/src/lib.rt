@@ -345,6 +345,3 @@ impl<'input> codec::Decoder for Decoder<'input> {
 
     ghost scopes = { scopes_well };
 }
-
-#[cfg(test)]
-mod tests;

@@ -8,9 +8,6 @@ ghost use Rattle.per_write.specs.Faults.{RefusesOutput};
 ghost use Rattle.per_write.specs.Rules.{encoder_rules};
 ghost use Rattle.per_write.specs.State.{fresh, view};
 
-#[cfg(test)]
-mod tests;
-
 pub use per_write::error;
 pub use per_write::error::{EncodeError, EncodeErrorKind};
 use per_write::{Presences, Writer};

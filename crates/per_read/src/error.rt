@@ -173,6 +173,3 @@ impl<T: Drop> From<AllocFailed<T>> for DecodeErrorKind {
         DecodeErrorKind::OutOfMemory
     }
 }
-
-#[cfg(test)]
-mod tests;

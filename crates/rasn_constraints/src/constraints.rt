@@ -276,6 +276,3 @@ impl Constraints {
         None
     }
 }
-
-#[cfg(test)]
-mod tests;

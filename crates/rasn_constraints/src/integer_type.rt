@@ -287,55 +287,6 @@ impl IntegerType for u64 {
     }
 }
 
-#[cfg(test)]
-mod tests {
-    use super::*;
-
-    fn holds<I: IntegerType>(number: i128) -> bool {
-        I::try_from_i128(number).and_then(|value| value.to_i128()) == Some(number)
-    }
-
-    #[test]
-    fn ends_of_the_types(rt: HostRuntime) {
-        assert!(rt;
-            holds::<i8>(-128) && holds::<i8>(127) && !holds::<i8>(-129) && !holds::<i8>(128)
-        );
-        assert!(rt; holds::<i16>(-32768) && !holds::<i16>(32768));
-        assert!(rt; holds::<i32>(2147483647) && !holds::<i32>(-2147483649));
-        assert!(rt; holds::<i64>(-9223372036854775808) && !holds::<i64>(9223372036854775808));
-        assert!(rt; holds::<i128>(i128::MIN) && holds::<i128>(i128::MAX));
-        assert!(rt; holds::<u8>(0) && holds::<u8>(255) && !holds::<u8>(-1) && !holds::<u8>(256));
-        assert!(rt; holds::<u16>(65535) && !holds::<u16>(65536));
-        assert!(rt; holds::<u32>(4294967295) && !holds::<u32>(4294967296));
-        assert!(rt; holds::<u64>(18446744073709551615) && !holds::<u64>(18446744073709551616));
-    }
-
-    fn from_octets<I: IntegerType>(
-        rt: &HostRuntime,
-        octets: &[u8],
-    ) -> Result<Option<I>, AllocError> {
-        I::try_from_signed_bytes(rt.alloc(), octets)
-    }
-
-    // X.690 8.3: two's complement, highest first
-    #[test]
-    fn octets_of_the_types(rt: HostRuntime) -> Result<(), AllocError> {
-        assert_eq!(rt; from_octets::<u8>(&rt, &[0x00, 0xff])?, Some(255));
-        assert_eq!(rt; from_octets::<u8>(&rt, &[0xff])?, None);
-        assert_eq!(rt; from_octets::<i8>(&rt, &[0xff])?, Some(-1));
-        assert_eq!(rt; from_octets::<i8>(&rt, &[0x00, 0x80])?, None);
-        assert_eq!(rt;
-            255u8.to_signed_bytes_be(rt.alloc())?.as_slice(),
-            &[0x00, 0xff][..]
-        );
-        assert_eq!(rt;
-            (-129i64).to_signed_bytes_be(rt.alloc())?.as_slice(),
-            &[0xff, 0x7f][..]
-        );
-        Ok(())
-    }
-}
-
 /// Every whole number. The width stands for what is read under bounds, which is within an `i128`.
 impl IntegerType for Integer {
     const WIDTH: u32 = 128;

@@ -94,6 +94,3 @@ fn kind_of_surplus(surplus: Surplus) -> DecodeErrorKind
         Surplus::ExtraOctets(octets) => DecodeErrorKind::UnexpectedExtraData(octets),
     }
 }
-
-#[cfg(test)]
-mod tests;

@@ -146,6 +146,3 @@ fn width_of_characters(count: u32, aligned: bool) -> u32
         1 << width_of(u128::from(width))
     }
 }
-
-#[cfg(test)]
-mod tests;

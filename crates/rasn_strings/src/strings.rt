@@ -553,6 +553,3 @@ fn unit_at(units: &[u16], index: usize) -> Option<u32>
 {
     units.get(index).map(|unit| u32::from(*unit))
 }
-
-#[cfg(test)]
-mod tests;

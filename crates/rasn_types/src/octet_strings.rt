@@ -378,34 +378,3 @@ impl PartialEq for Any {
 impl Eq for Any {
     ghost laws = { nat_list_eq_equiv };
 }
-
-#[cfg(test)]
-mod tests {
-    use super::*;
-    use std::alloc::AllocError;
-
-    #[test]
-    fn holds_octets(rt: HostRuntime) -> Result<(), AllocError> {
-        let octets = OctetString::new(vec![in rt.alloc(); 0x00, 0xff]?);
-        assert_eq!(rt; octets.as_bytes(), &[0x00, 0xff][..]);
-        assert_eq!(rt; octets.len(), 2);
-        assert!(rt; !octets.is_empty());
-        assert!(rt; octets != OctetString::from(vec![in rt.alloc(); 0x00]?));
-        let printed = format!(in rt.alloc(); "{octets:?}")?;
-        assert_eq!(rt; printed.as_str(), "OctetString { octets: [0, 255] }");
-        let list = octets.into_vec();
-        assert_eq!(rt; list.as_slice(), &[0x00, 0xff][..]);
-        Ok(())
-    }
-
-    #[test]
-    fn holds_any_octets(rt: HostRuntime) -> Result<(), AllocError> {
-        let octets = vec![in rt.alloc(); 0x80]?;
-        let octets = GeneralString::from(octets).into_vec();
-        let octets = GraphicString::from(octets).into_vec();
-        let octets = TeletexString::from(octets).into_vec();
-        let octets = Any::from(octets);
-        assert_eq!(rt; octets.as_bytes(), &[0x80][..]);
-        Ok(())
-    }
-}

@@ -1,0 +1,16 @@
+//! Tests of what no clause says of the crates below the packed encoding rules (`rasn_types`, `rasn_strings`,
+//! `rasn_constraints`) and of bits (`per_bits`): outside vectors, printed text, and that calls succeed.
+#![tactic(auto)]
+
+#[cfg(test)]
+mod alphabets;
+#[cfg(test)]
+mod bits;
+#[cfg(test)]
+mod constraints;
+#[cfg(test)]
+mod numbers;
+#[cfg(test)]
+mod octets;
+#[cfg(test)]
+mod strings;

@@ -1,0 +1,77 @@
+//! Lengths of octets and bits, in fragments from 16384 on.
+
+use per_write::Writer;
+use per_write::error::EncodeError;
+use rasn_record::Constraints;
+use rasn_types::bit_string::BitString;
+use rasn_types::types::Codec;
+use std::alloc::{AllocError, Global};
+use std::process::Abort;
+use std::test::Fail;
+
+/// Octets at a place.
+type Length = (usize, &'static [u8]);
+
+/// So many octets 55, the octets of their encoding, and the lengths in it.
+const ROWS: &[(usize, usize, &[Length])] = &[
+    (127, 128, &[(0, &[0x7f])]),
+    (128, 130, &[(0, &[0x80, 0x80])]),
+    (16384, 16386, &[(0, &[0xc1]), (16385, &[0x00])]),
+    (16385, 16387, &[(0, &[0xc1]), (16385, &[0x01])]),
+    (32768, 32770, &[(0, &[0xc2]), (32769, &[0x00])]),
+    (
+        99000,
+        99004,
+        &[(0, &[0xc4]), (65537, &[0xc2]), (98306, &[0x82, 0xb8])],
+    ),
+];
+
+/// So many octets 55, but for these lengths.
+fn octets_between(alloc: Global, total: usize, lengths: &[Length]) -> Result<Vec<u8>, AllocError> {
+    let mut octets = vec![in alloc; 0x55u8; total]?;
+    for (place, length) in lengths {
+        for (index, octet) in length.iter().enumerate() {
+            if let Some(at) = octets.get_mut(place.saturating_add(index)) {
+                *at = *octet;
+            }
+        }
+    }
+    Ok(octets)
+}
+
+fn encoding_of(alloc: Global, octets: &[u8]) -> Result<Vec<u8>, EncodeError> {
+    let mut writer = Writer::new(alloc, Codec::Uper);
+    writer.put_octets(octets)?;
+    writer.output()
+}
+
+#[test]
+fn writes_lengths(rt: HostRuntime) -> Result<(), Fail> {
+    for (count, total, lengths) in ROWS {
+        let octets = octets_between(rt.alloc(), *count, &[])?;
+        let expected = octets_between(rt.alloc(), *total, lengths)?;
+        let encoding = encoding_of(rt.alloc(), &octets)?;
+        assert!(rt;
+            encoding.as_slice() == expected.as_slice(),
+            "{count} octets"
+        );
+    }
+    Ok(())
+}
+
+fn encoding_of_bits(rt: &impl Abort, alloc: Global, octets: &[u8]) -> Result<Vec<u8>, Fail> {
+    assert_eq!(rt; octets.len(), 2048);
+    let bits = BitString::from_octets(alloc, octets, 16384)?;
+    let mut writer = Writer::new(alloc, Codec::Aper);
+    writer.put_bit_string(&Constraints::NONE, &bits)?;
+    Ok(writer.output()?)
+}
+
+#[test]
+fn writes_bits_in_a_fragment(rt: HostRuntime) -> Result<(), Fail> {
+    let octets = octets_between(rt.alloc(), 2048, &[])?;
+    let expected = octets_between(rt.alloc(), 2050, &[(0, &[0xc1]), (2049, &[0x00])])?;
+    let encoding = encoding_of_bits(&rt, rt.alloc(), &octets)?;
+    assert!(rt; encoding.as_slice() == expected.as_slice());
+    Ok(())
+}

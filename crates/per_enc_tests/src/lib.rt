@@ -1,0 +1,12 @@
+//! Tests of what no clause of `per_write` and `per_enc` says: worked encodings in both variants, that calls succeed
+//! where there is memory, which of two refusals is named, and the texts of errors.
+#![tactic(auto)]
+
+#[cfg(test)]
+mod encoder;
+#[cfg(test)]
+mod errors;
+#[cfg(test)]
+mod lengths;
+#[cfg(test)]
+mod values;

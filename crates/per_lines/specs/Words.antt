@@ -1,0 +1,37 @@
+-- The words after the program's name.
+use Rattle.std.specs.Prelude.{ℕ, List, [], ◌∷◌, String, codes, map, string_bytes}
+use Rattle.per_lines.specs.declared.arguments.Variant.{Variant}
+use Rattle.per_lines.specs.declared.arguments.Variant.TheVariants.{Uper}
+use Rattle.per_lines.specs.declared.arguments.TypeName.{TypeName}
+use Rattle.per_lines.specs.declared.arguments.TypeName.TheVariants.{Boolean, Null, Integer, UpTo65535, FromMinusOne, Natural, ZeroTo65536, OneToTenExtensible, Four, Seven, OneDefault, ShortVisible, LettersAToE, BitString, OctetString, OnlyX, Items}
+use Rattle.per_lines.specs.declared.arguments.Arguments.{Arguments}
+
+-- words by their octets
+abbrev pub words : {Z : Type 0} → List (String Z) → List (List ℕ)
+words arguments = map string_bytes arguments
+
+abbrev pub variant_word : Variant → List ℕ
+variant_word Uper = codes "uper"
+
+abbrev pub type_word : TypeName → List ℕ
+type_word Boolean = codes "boolean"
+type_word Null = codes "null"
+type_word Integer = codes "integer"
+type_word UpTo65535 = codes "upto"
+type_word FromMinusOne = codes "from"
+type_word Natural = codes "natural"
+type_word ZeroTo65536 = codes "i65536"
+type_word OneToTenExtensible = codes "iext"
+type_word Four = codes "four"
+type_word Seven = codes "seven"
+type_word OneDefault = codes "default"
+type_word ShortVisible = codes "vis"
+type_word LettersAToE = codes "five"
+type_word BitString = codes "bits"
+type_word OctetString = codes "octets"
+type_word OnlyX = codes "onlyx"
+type_word Items = codes "items"
+
+-- a variant and a type
+abbrev pub words_of : Arguments → List (List ℕ)
+words_of a = variant_word a.variant ∷ type_word a.type_name ∷ []

@@ -1,0 +1,120 @@
+//! What the program is asked to do.
+
+ghost use Rattle.std.specs.Prelude.{◌≡◌, ◌≢◌, IfSome, IfNone, map, string_bytes};
+ghost use Rattle.per_lines.specs.Words.{variant_word, type_word, words_of};
+ghost use Rattle.per_lines.specs.declared.arguments.Variant.{Variant as a_variant};
+ghost use Rattle.per_lines.specs.declared.arguments.TypeName.{TypeName as a_name};
+ghost use Rattle.per_lines.specs.declared.arguments.Arguments.{Arguments as the_arguments};
+
+/// A variant of the packed encoding rules (X.691 7) that the program knows.
+#[derive(Clone, Copy, Debug, PartialEq, Eq)]
+pub enum Variant {
+    /// The UNALIGNED variant.
+    Uper,
+}
+
+/// A type that the program knows.
+#[derive(Clone, Copy, Debug, PartialEq, Eq)]
+pub enum TypeName {
+    /// BOOLEAN.
+    Boolean,
+    /// NULL.
+    Null,
+    /// INTEGER.
+    Integer,
+    /// INTEGER (..65535).
+    UpTo65535,
+    /// INTEGER (-1..).
+    FromMinusOne,
+    /// INTEGER (0..).
+    Natural,
+    /// INTEGER (0..65536).
+    ZeroTo65536,
+    /// INTEGER (1..10, ...).
+    OneToTenExtensible,
+    /// SEQUENCE { a BOOLEAN, b INTEGER, c BOOLEAN, d INTEGER (-10..400) }.
+    Four,
+    /// SEQUENCE { a INTEGER (7..7) }.
+    Seven,
+    /// SEQUENCE { a INTEGER (0..7) DEFAULT 3 }.
+    OneDefault,
+    /// VisibleString (SIZE (1..3, ...)).
+    ShortVisible,
+    /// VisibleString (FROM ("A".."E")) (SIZE (1..20)).
+    LettersAToE,
+    /// BIT STRING.
+    BitString,
+    /// OCTET STRING.
+    OctetString,
+    /// IA5String (FROM ("x")).
+    OnlyX,
+    /// SEQUENCE { a BOOLEAN, e ENUMERATED of 256 items }.
+    Items,
+}
+
+/// What the program is asked to do.
+#[derive(Clone, Copy, Debug, PartialEq, Eq)]
+pub struct Arguments {
+    /// The variant to read and to write.
+    pub variant: Variant,
+    /// The type of the value.
+    pub type_name: TypeName,
+}
+
+impl Variant {
+    /// The variant that a word names.
+    fn of_word(word: &str) -> Option<Variant>
+        ensures named { IfSome result (λ v. word.now ≡ variant_word v) }
+        ensures unknown { IfNone result ((v : a_variant) → word.now ≢ variant_word v) }
+    {
+        match word {
+            "uper" => Some(Variant::Uper),
+            _ => None,
+        }
+    }
+}
+
+impl TypeName {
+    /// The type that a word names.
+    fn of_word(word: &str) -> Option<TypeName>
+        ensures named { IfSome result (λ t. word.now ≡ type_word t) }
+        ensures unknown { IfNone result ((t : a_name) → word.now ≢ type_word t) }
+    {
+        match word {
+            "boolean" => Some(TypeName::Boolean),
+            "null" => Some(TypeName::Null),
+            "integer" => Some(TypeName::Integer),
+            "upto" => Some(TypeName::UpTo65535),
+            "from" => Some(TypeName::FromMinusOne),
+            "natural" => Some(TypeName::Natural),
+            "i65536" => Some(TypeName::ZeroTo65536),
+            "iext" => Some(TypeName::OneToTenExtensible),
+            "four" => Some(TypeName::Four),
+            "seven" => Some(TypeName::Seven),
+            "default" => Some(TypeName::OneDefault),
+            "vis" => Some(TypeName::ShortVisible),
+            "five" => Some(TypeName::LettersAToE),
+            "bits" => Some(TypeName::BitString),
+            "octets" => Some(TypeName::OctetString),
+            "onlyx" => Some(TypeName::OnlyX),
+            "items" => Some(TypeName::Items),
+            _ => None,
+        }
+    }
+}
+
+impl Arguments {
+    /// The arguments that the words after the program's name spell: a variant and a type.
+    pub fn of_words(words: &[String]) -> Option<Arguments>
+        ensures spelled { IfSome result (λ a. map string_bytes words.now ≡ words_of a) }
+        ensures unknown { IfNone result ((a : the_arguments) → map string_bytes words.now ≢ words_of a) }
+    {
+        let [variant, type_name] = words else {
+            return None;
+        };
+        Some(Arguments {
+            variant: Variant::of_word(variant.as_str())?,
+            type_name: TypeName::of_word(type_name.as_str())?,
+        })
+    }
+}

@@ -1,0 +1,8 @@
+//! Lines in, answers out: a value of a type is read in hexadecimal, and its canonical encoding (X.691) is printed.
+#![tactic(auto)]
+
+pub mod arguments;
+pub mod fault;
+mod line;
+mod recode;
+pub mod run;

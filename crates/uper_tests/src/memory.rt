@@ -1,0 +1,51 @@
+//! That want of memory is named so, and which calls take none.
+
+use linked_list_allocator::LocalHeap;
+use rasn_per::uper::{EncodeError, EncodeErrorKind, decode, encode};
+use rasn_types::octet_strings::OctetString;
+use rasn_types::types::Codec;
+use std::alloc::{AllocError, Global};
+use std::test::Fail;
+
+const NO_MEMORY: EncodeError = EncodeError {
+    kind: EncodeErrorKind::OutOfMemory,
+    codec: Codec::Uper,
+};
+
+/// Why an INTEGER is not written into a heap of so many octets, or none where it is.
+fn refusal_within(alloc: Global, size: usize) -> Result<Option<EncodeError>, AllocError> {
+    let heap = LocalHeap::new(alloc, size)?;
+    Ok(encode(&heap, &4096_i128).err())
+}
+
+#[test]
+fn names_want_of_memory(rt: HostRuntime) -> Result<(), Fail> {
+    let (mut refused, mut written) = (0, 0);
+    for size in 1..64_usize {
+        let error = refusal_within(rt.alloc(), 16 * size)?;
+        if error.is_none() {
+            written = size;
+        } else {
+            assert_eq!(rt; error, Some(NO_MEMORY));
+            refused = size;
+        }
+    }
+    assert!(rt; 0 < refused && refused < written);
+    Ok(())
+}
+
+// `tools/refuse_memory` runs this test with its first request for memory refused, and it passes there too.
+#[test]
+fn reads_plain_values_without_memory(rt: HostRuntime) {
+    assert_eq!(rt; decode::<bool>(rt.alloc(), &[0x80]), Ok(true));
+    assert_eq!(rt; decode::<bool>(rt.alloc(), &[0x00]), Ok(false));
+    assert_eq!(rt; decode::<()>(rt.alloc(), &[0x00]), Ok(()));
+}
+
+// And this one, which fails there.
+#[test]
+fn reads_octets_into_memory(rt: HostRuntime) -> Result<(), Fail> {
+    let octets: OctetString = decode(rt.alloc(), &[0x01, 0xaa])?;
+    assert_eq!(rt; octets.as_bytes(), [0xaa].as_slice());
+    Ok(())
+}
