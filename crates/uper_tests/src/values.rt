@@ -1,5 +1,6 @@
 //! Values of each type, and the octets of their complete encodings.
 
+use its_header::speed::Speed;
 use per_samples_a::pair::Pair;
 use rasn_codec::codec::{Decode, Encode};
 use rasn_per::uper::{decode, encode};
@@ -93,4 +94,10 @@ fn writes_and_reads_characters(rt: HostRuntime) -> Result<(), Fail> {
     expect_value::<PrintableString>(&rt, rt.alloc(), &[0x01, 0x7e])?;
     expect_value::<NumericString>(&rt, rt.alloc(), &[0x02, 0x1a])?;
     expect_value::<BmpString>(&rt, rt.alloc(), &[0x01, 0x04, 0x16])
+}
+
+#[test]
+fn writes_and_reads_types_by_hand(rt: HostRuntime) -> Result<(), Fail> {
+    expect_value::<Speed>(&rt, rt.alloc(), &[0x02, 0xff, 0x7f])?;
+    expect_value::<Box<i128>>(&rt, rt.alloc(), &[0x02, 0xff, 0x7f])
 }
