@@ -9,3 +9,4 @@ pub mod four;
 pub mod half_bounded;
 pub mod pair;
 pub mod seven;
+pub mod some_absent;

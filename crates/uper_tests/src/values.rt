@@ -2,6 +2,7 @@
 
 use its_header::speed::Speed;
 use per_samples_a::pair::Pair;
+use per_samples_a::some_absent::SomeAbsent;
 use rasn_codec::codec::{Decode, Encode};
 use rasn_per::uper::{decode, encode};
 use rasn_strings::strings::{BmpString, Ia5String, NumericString, PrintableString, VisibleString};
@@ -70,6 +71,23 @@ fn writes_and_reads_truth_values_and_null(rt: HostRuntime) -> Result<(), Fail> {
 fn writes_and_reads_a_record(rt: HostRuntime) -> Result<(), Fail> {
     let pair = Pair { a: true, b: 5 };
     expect_both(&rt, rt.alloc(), &pair, &[0x80, 0x82, 0x80])
+}
+
+const SOME_ABSENT: &[(SomeAbsent, [u8; 1])] = &[
+    (some_absent(Some(5), 3), [0xb4]),
+    (some_absent(None, 4), [0x70]),
+];
+
+const fn some_absent(b: Option<u8>, c: u8) -> SomeAbsent {
+    SomeAbsent { a: true, b, c }
+}
+
+#[test]
+fn writes_and_reads_components_that_may_be_absent(rt: HostRuntime) -> Result<(), Fail> {
+    for (value, octets) in SOME_ABSENT {
+        expect_both(&rt, rt.alloc(), value, octets)?;
+    }
+    Ok(())
 }
 
 #[test]
