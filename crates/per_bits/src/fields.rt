@@ -4,7 +4,7 @@
 //! Octets that are written to have spare bits: fewer than eight at the end of the last octet, which are zeros and no
 //! bits of what is kept. Each function that writes answers how many bits are spare then.
 
-ghost use Rattle.std.specs.Prelude.{◌≡◌, ◌+◌, ◌*◌, ◌%◌, ◌^◌, ◌<◌, ◌≤◌, ◌++◌, length, take, drop, vec_len, vec_capacity};
+ghost use Rattle.std.specs.Prelude.{◌≡◌, ◌+◌, ◌*◌, ◌%◌, ◌^◌, ◌<◌, ◌≤◌, ◌++◌, length, take, drop, set, vec_len, vec_capacity};
 ghost use Rattle.rasn_types.specs.Bits.{to_bits, number_of, unpack};
 ghost use Rattle.per_bits.specs.Octets.{word_size, first_word, filled, AreFilledBy, ArePadded, AreWithin, IsShifted};
 
@@ -136,6 +136,17 @@ pub(crate) fn fill_last_octet<A: Allocator>(
     let left = spare - width;
     octets[place] = ((used << width | low_bits(value, width)) << left) as u8;
     left
+}
+
+/// The octet with another bit at a place, the first at 0.
+pub(crate) fn with_bit(octet: u8, place: u32, bit: bool) -> u8
+    requires { place < 8 }
+    ensures { to_bits 8 result ≡ set (to_bits 8 octet) place bit }
+{
+    let below = 7 - place;
+    let word = u64::from(octet);
+    let front = word >> below >> 1 << 1 | u64::from(bit);
+    (front << below | low_bits(word, below)) as u8
 }
 
 /// Appends as `append_field` does, of a number that may be wider.

@@ -4,14 +4,14 @@
 //! to an octet, the first highest.
 #![tactic(auto)]
 
-ghost use Rattle.std.specs.Prelude.{◌≡◌, ◌+◌, ◌-◌, ◌*◌, ◌/◌, ◌^◌, ◌<◌, ◌≤◌, List, [], ◌∷◌, ◌++◌, Bool, length, take, slice_get, vec_len, vec_capacity, OnOk, OnErr, IfOk, IfErr, IsTrue, ◌↔◌, ⊤};
+ghost use Rattle.std.specs.Prelude.{◌≡◌, ◌+◌, ◌-◌, ◌*◌, ◌/◌, ◌^◌, ◌<◌, ◌≤◌, List, [], ◌∷◌, ◌++◌, Bool, length, take, set, slice_get, vec_len, vec_capacity, OnOk, OnErr, IfOk, IfErr, IsTrue, ◌↔◌, ⊤};
 ghost use Rattle.rasn_types.specs.Bits.{to_bits, number_of, unpack};
 ghost use Rattle.rasn_types.specs.Packed.{packed};
 ghost use Rattle.per_bits.specs.Octets.{filled, AreFilledBy, ArePadded};
 
 use crate::fields::{
     FIELD_BITS, append_field, append_octets_behind, append_wide_field, fill_last_octet, low_field,
-    read_field, read_wide_field,
+    read_field, read_wide_field, with_bit,
 };
 use rasn_types::bit_string::note_octets;
 use std::alloc::{AllocError, Allocator};
@@ -104,6 +104,17 @@ impl<A: Allocator> BitList<A> {
             Some(octet >> (7 - index % 8) & 1 == 1)
         } else {
             None
+        }
+    }
+
+    /// Sets the bit at an index, the first at 0; from the list's length on there is none. Every other bit stays, and no
+    /// memory is taken.
+    pub fn set(&mut self, index: u128, bit: bool)
+        ensures { self.new ≡ set self.old index bit }
+    {
+        if index < self.len() {
+            let octet = (index / 8) as usize;
+            self.octets[octet] = with_bit(self.octets[octet], (index % 8) as u32, bit);
         }
     }
 

@@ -88,7 +88,7 @@ other_law x y taken os result t f p = text_law x y other taken os result t refl 
 -- X.691 18: a NULL is no bits
 pub presents_null : (x : State) → x.failed ≡ false → Presents x Schema.null nothing x
 unfolding canon
-presents_null x f = record { begun = f; left = f; same = refl; written = λ p b. ap Some (sym (append-nil x.bits)) }
+presents_null x f = record { begun = f; left = f; same = refl; beside = refl; written = λ p b. ap Some (sym (append-nil x.bits)) }
 
 -- X.691 18: a NULL, where the encoder had not been refused
 null_written : (x : State) (result : Result (Unit {0}) EncodeError) → OnOk result (x.failed ≡ false) → IfErr result (λ e. IsAlready e x) → OnErr result (x.failed ≡ true) →

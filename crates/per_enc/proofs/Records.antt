@@ -1,6 +1,7 @@
 -- What the scope of a record presents, and how it refuses.
-use Rattle.std.specs.Prelude.{OnErr, Result, Ok, Err}
-use Rattle.std.proofs.Common.{◌≡◌, refl, sym, ap, ◌∙◌, subst, ℕ, false, true, List, [], ◌∷◌, length, Option, Some, None, arith, append-nil, ◌+◌, ◌%◌, ◌<◌}
+use Rattle.std.specs.List.{fold}
+use Rattle.std.specs.Prelude.{Result, Ok, Err, cond, count_by}
+use Rattle.std.proofs.Common.{◌≡◌, refl, sym, ap, ap₂, ◌∙◌, subst, inl, ℕ, suc, false, true, List, [], ◌++◌, length, replicate, Option, Some, None, arith, append-nil, ◌+◌, ◌%◌, ◌<◌}
 use Rattle.rasn_types.specs.Bits.{Bits}
 use Rattle.rasn_types.specs.Codecs.{variant_of}
 use Rattle.rasn_types.specs.Values.{Value}
@@ -8,20 +9,25 @@ use Rattle.rasn_types.specs.Variants.{Variant}
 use Rattle.rasn_types.specs.declared.types.Codec.{Codec}
 use Rattle.rasn_types.proofs.Values.{slots-as_slots}
 use Rattle.rasn_codec.specs.Calls.{Written}
+use Rattle.rasn_schema.specs.Fields.{is_not_required, may_be_absent, presence_of, shapes_from}
+use Rattle.rasn_schema.specs.Lawful.{has_bit, presence_bits}
 use Rattle.rasn_schema.specs.Records.{record_value}
-use Rattle.rasn_schema.specs.Schemas.{Schema, Parts, no_parts, part}
-use Rattle.rasn_codec.specs.Scopes.{record_of, presents_required, PresentsParts, presents_end, presents_next, refuses_required, RefusesParts, refuses_here, refuses_behind, Passes}
-use Rattle.per_core.specs.Canon.{canon, members, flags_of, bodies_of, bitmap_of, shown, record_of as record_writer}
+use Rattle.rasn_schema.specs.Schemas
+use Rattle.rasn_schema.specs.Schemas.{Schema, Parts, no_parts, part, required, optional, group, default}
+use Rattle.rasn_codec.specs.Scopes.{record_of, PresentsParts, RefusesParts, Passes, OpenedToWrite}
+use Rattle.per_core.specs.Canon.{canon, members, flags_of, bodies_of, bitmap_of, record_of as record_writer}
 use Rattle.per_core.specs.Writers.{Writer, just, ◌▹◌, join, go_on, after}
 use Rattle.per_write.specs.declared.error.EncodeError.{EncodeError}
 use Rattle.per_write.specs.declared.error.EncodeErrorKind.{EncodeErrorKind}
 use Rattle.per_write.specs.declared.error.EncodeErrorKind.TheVariants.{SizeConstraintNotSatisfied, ValueConstraintNotSatisfied, AlphabetConstraintNotSatisfied, IntegerTypeConversionFailed, VariantNotInChoice, RealNotSupported, TooManyAdditions, Below, AlreadyFailed, OutOfMemory, OutOfTurn}
-use Rattle.per_enc.specs.declared.Scope.{Scope}
-use Rattle.per_write.specs.Faults.{HasPart, part_here, part_behind, in_part, RefusesValue, Stands}
+use Rattle.per_write.specs.declared.presences.Presences.{Presences}
+use Rattle.per_write.specs.Faults.{HasPart, in_part, RefusesValue, Stands}
+use Rattle.per_write.specs.Presences.{ClosesOrNot, OpensOrNot, Opens as OpensBits}
 use Rattle.per_write.specs.Rules.{encoder_rules}
-use Rattle.per_write.specs.State.{State, Wrote, Presents}
+use Rattle.per_write.specs.State.{State, Presents}
 use Rattle.per_enc.specs.Opens.{Opens}
-use Rattle.per_write.proofs.Writing.{none_behind, then_nothing, wrote_then}
+use Rattle.per_enc.proofs.Chain.{Laid, Ready, laid, moved, refused_part}
+use Rattle.per_write.proofs.Writing.{none_behind, then_nothing}
 
 join_nothing : (o : Option Bits) → join [] o ≡ o
 join_nothing None = refl
@@ -31,67 +37,11 @@ join_nothing (Some b) = refl
 at_start : (g : Writer) (p : ℕ) → p < 8 → (just [] ▹ g) p ≡ g p
 at_start g p h = let e : after p [] ≡ p = omega arith in ap (λ q. join [] (g q)) e ∙ join_nothing (g p)
 
--- the same from each position that bits may end at
-wrote_placed : (x y : State) (f g : Writer) → ((p : ℕ) → p < 8 → f p ≡ g p) → Wrote x f y → Wrote x g y
-wrote_placed x y f g e h = record {
-  begun = h.begun;
-  left = h.left;
-  same = h.same;
-  written = λ p b. h.written p b ∙ ap (join x.bits) (e (after p x.bits) (let l : (p + length x.bits) % 8 < 8 = omega arith in l));
-}
-
 -- X.691 19: a record without an extension marker: its presence bits, and its components
 record_form : (a : Variant) (ps : Parts) (rs : List (Option Value)) (p : ℕ) →
     (just [] ▹ (flags_of (members a ps) rs ▹ bodies_of (members a ps) rs) ▹ just []) p ≡ canon a (record_of ps) (record_value rs []) p
 unfolding canon record_writer bitmap_of
 record_form a ps rs p = rw (slots-as_slots rs) refl
-
--- X.691 19.2: required components have no presence bits
-no_flags : (a : Variant) (ps : Parts) (x y : State) (rs : List (Option Value)) → PresentsParts Presents ps x rs y → (p : ℕ) → flags_of (members a ps) rs p ≡ Some []
-unfolding canon shown
-no_flags a no_parts x y [] presents_end p = refl
-no_flags a (part t q s ps) x y (r ∷ rs) (presents_next (presents_required h) k) p = ap (join []) (no_flags a ps _ y rs k (after p []))
-no_flags a no_parts x y (r ∷ rs) k p = elim k [ ]
-no_flags a (part t q s ps) x y [] k p = elim k [ ]
-
--- X.691 19.4: the components, each behind the one before
-wrote_bodies : (ps : Parts) (x y : State) (rs : List (Option Value)) → x.failed ≡ false → PresentsParts Presents ps x rs y → Wrote x (bodies_of (members (variant_of x.codec) ps) rs) y
-unfolding canon shown
-wrote_bodies no_parts x y [] f presents_end = record { begun = f; left = f; same = refl; written = λ p b. ap Some (sym (append-nil x.bits)) }
-wrote_bodies (part t q s ps) x y (r ∷ rs) f (presents_next {m = m} (presents_required {v = v} h) k) =
-    wrote_then x m y (canon (variant_of x.codec) s v) (bodies_of (members (variant_of x.codec) ps) rs) h
-    (subst (λ (c : Codec). Wrote m (bodies_of (members (variant_of c) ps) rs) y) h.same (wrote_bodies ps m y rs h.left k))
-wrote_bodies no_parts x y (r ∷ rs) f k = elim k [ ]
-wrote_bodies (part t q s ps) x y [] f k = elim k [ ]
-
--- a component that is refused, and what the encoder was before it
-record RefusedPart (e : EncodeError) (x : State) (ps : Parts) (rs : List (Option Value)) : Type 0 where
-  s : Schema
-  v : Value
-  m : State
-  has : HasPart s v ps rs
-  refused : RefusesValue e m s v
-  unfailed : m.failed ≡ false
-  same : m.codec ≡ x.codec
-
-refused_part : (e : EncodeError) (ps : Parts) (x : State) (rs : List (Option Value)) → x.failed ≡ false → RefusesParts Presents RefusesValue e ps x rs → RefusedPart e x ps rs
-refused_part e (part t q s ps) x (r ∷ rs) f (refuses_here (refuses_required h)) = record { s = _; v = _; m = x; has = part_here; refused = h; unfailed = f; same = refl }
-refused_part e (part t q s ps) x (r ∷ rs) f (refuses_behind (presents_required h) k) =
-    let d = refused_part e ps _ rs h.left k in
-    record { s = d.s; v = d.v; m = d.m; has = part_behind d.has; refused = d.refused; unfailed = d.unfailed; same = d.same ∙ h.same }
-refused_part e no_parts x rs f k = elim k [ ]
-refused_part e (part t q s ps) x [] f k = elim k [ ]
-
--- such a component has no encoding, nor have those with it
-refused_none : (e : EncodeError) (ps : Parts) (x : State) (rs : List (Option Value)) → x.failed ≡ false → RefusesParts Presents RefusesValue e ps x rs → (p : ℕ) →
-    bodies_of (members (variant_of x.codec) ps) rs p ≡ None
-unfolding canon shown
-refused_none e (part t q s ps) x (r ∷ rs) f (refuses_here (refuses_required h)) p = ap (λ o. go_on o (bodies_of (members (variant_of x.codec) ps) rs) p) (h.none f p)
-refused_none e (part t q s ps) x (r ∷ rs) f (refuses_behind {m = m} (presents_required {v = v} h) k) p =
-    none_behind (canon (variant_of x.codec) s v p) (bodies_of (members (variant_of x.codec) ps) rs) p
-    (λ n. subst (λ (c : Codec). bodies_of (members (variant_of c) ps) rs n ≡ None) h.same (refused_none e ps m rs h.left k n))
-refused_none e no_parts x rs f k p = elim k [ ]
-refused_none e (part t q s ps) x [] f k p = elim k [ ]
 
 -- its fault is one of the record
 stands_in_part : (kind : EncodeErrorKind) (x m : State) (s : Schema) (v : Value) (ps : Parts) (rs : List (Option Value)) → m.failed ≡ false → HasPart s v ps rs → Stands kind m s v →
@@ -108,34 +58,86 @@ stands_in_part Below x m s v ps rs f h k = absurd k
 stands_in_part OutOfMemory x m s v ps rs f h k = absurd k
 stands_in_part OutOfTurn x m s v ps rs f h k = absurd k
 
-refuses_record : (e : EncodeError) (x : State) (ps : Parts) (rs : List (Option Value)) → x.failed ≡ false → RefusesParts Presents RefusesValue e ps x rs → RefusesValue e x (record_of ps) (record_value rs [])
-refuses_record e x ps rs f k = let d = refused_part e ps x rs f k in record {
-  none = λ f p. sym (record_form (variant_of x.codec) ps rs p)
-      ∙ ap (λ o. join [] (go_on o (just []) (after p [])))
-      (none_behind (flags_of (members (variant_of x.codec) ps) rs (after p [])) (bodies_of (members (variant_of x.codec) ps) rs) (after p []) (refused_none e ps x rs f k));
-  stands = stands_in_part e.kind x d.m d.s d.v ps rs d.unfailed d.has d.refused.stands;
-  codec_is = d.refused.codec_is ∙ d.same;
+
+-- inside a record that is opened, its presence bits are still to be given
+opened : (ps : Parts) {x i : State} {o : Presences} → Opens (record_of ps) x o i → Ready i x.codec x.bits [] (presence_bits ps + 0)
+opened ps {x} {i} h = record {
+  unfailed = ap (λ z. z.failed) h.same ∙ h.begun;
+  same = ap (λ z. z.codec) h.same;
+  bits = ap (λ z. z.bits) h.same ∙ ap (λ bs. x.bits ++ bs) (ap (λ (n : ℕ). replicate n false) (let e : presence_bits ps ≡ presence_bits ps + 0 = omega arith in e) ∙ sym (append-nil (replicate (presence_bits ps + 0) false)));
+  place = ap (λ z. z.presences.place) h.same;
+  left = ap (λ z. z.presences.left) h.same ∙ omega arith;
 }
 
--- what passes out of a record that begins here
-pub passes_here : (x : State) → x.failed ≡ false → Passes encoder_rules x x
-passes_here x f = record { room = λ e m. m; of_record = λ e ps rs r. refuses_record e x ps rs f r }
+refuses_record : (e : EncodeError) (x i : State) (o : Presences) (ps : Parts) (rs : List (Option Value)) → Opens (record_of ps) x o i → RefusesParts encoder_rules e ps i rs → RefusesValue e x (record_of ps) (record_value rs [])
+refuses_record e x i o ps rs h k =
+    let d = refused_part e ps i x.codec rs x.bits [] 0 (opened ps h) k in
+    record {
+      none = λ f p. sym (record_form (variant_of x.codec) ps rs p)
+          ∙ ap (λ o. join [] (go_on o (just []) (after p [])))
+          (none_behind (flags_of (members (variant_of x.codec) ps) rs (after p [])) (bodies_of (members (variant_of x.codec) ps) rs) (after p []) d.none);
+      stands = stands_in_part e.kind x d.m d.s d.v ps rs d.unfailed d.has d.refused.stands;
+      codec_is = d.refused.codec_is ∙ d.same;
+    }
+
+-- what passes out of a record that is opened
+pub passes : (x i : State) (o : Presences) (ps : Parts) → Opens (record_of ps) x o i → Passes encoder_rules ps x i
+passes x i o ps h = record {
+  room = λ e m. record { kind_is = m.kind_is; codec_is = m.codec_is ∙ ap (λ z. z.codec) h.same };
+  of_record = λ e rs r. refuses_record e x i o ps rs h r;
+}
 
 -- a record whose components were presented
-presents_record : (x y : State) (ps : Parts) (rs : List (Option Value)) → x.failed ≡ false → PresentsParts Presents ps x rs y → Presents x (record_of ps) (record_value rs []) y
-presents_record x y ps rs f k = wrote_placed x y (bodies_of (members (variant_of x.codec) ps) rs) (canon (variant_of x.codec) (record_of ps) (record_value rs [])) same (wrote_bodies ps x y rs f k)
+presents_record : (x y : State) (codec : Codec) (ps : Parts) (rs : List (Option Value)) → x.failed ≡ false → x.codec ≡ codec → Laid y codec ps rs x.bits [] 0 → (z : State) → z.bits ≡ y.bits → z.failed ≡ false → z.codec ≡ x.codec → z.presences ≡ x.presences
+    → Presents x (record_of ps) (record_value rs []) z
+presents_record x y codec ps rs f c l z e g d u = record {
+  begun = f;
+  left = g;
+  same = d;
+  beside = u;
+  written = λ p b. rw b (ap Some e ∙ l.written ∙ ap (λ bs. (just (x.bits ++ bs) ▹ bodies) 0) (append-nil l.flags) ∙ sym (moved x.bits l.flags flags bodies (l.are_flags (after 0 x.bits)))
+      ∙ ap (join x.bits) (all (after 0 x.bits) (let m : (0 + length x.bits) % 8 < 8 = omega arith in m)));
+}
   where
     flags : Writer
-    flags = flags_of (members (variant_of x.codec) ps) rs
+    flags = flags_of (members (variant_of codec) ps) rs
 
     bodies : Writer
-    bodies = bodies_of (members (variant_of x.codec) ps) rs
+    bodies = bodies_of (members (variant_of codec) ps) rs
 
-    same : (p : ℕ) → p < 8 → bodies p ≡ canon (variant_of x.codec) (record_of ps) (record_value rs []) p
-    same p h = sym (at_start bodies p h) ∙ sym (ap (λ o. go_on o bodies p) (no_flags (variant_of x.codec) ps x y rs k p)) ∙ sym (then_nothing (flags ▹ bodies) p)
-        ∙ sym (at_start ((flags ▹ bodies) ▹ just []) p h) ∙ record_form (variant_of x.codec) ps rs p
+    all : (p : ℕ) → p < 8 → (flags ▹ bodies) p ≡ canon (variant_of x.codec) (record_of ps) (record_value rs []) p
+    all p h = sym (then_nothing (flags ▹ bodies) p) ∙ sym (at_start ((flags ▹ bodies) ▹ just []) p h) ∙ record_form (variant_of codec) ps rs p ∙ ap (λ k. canon (variant_of k) (record_of ps) (record_value rs []) p) (sym c)
 
-pub closes_record : (ps : Parts) (x i y : State) (rs : List (Option Value)) (o : Scope) (result : Result (Unit {0}) EncodeError) → OnErr result (y.failed ≡ true) → Opens x o i → PresentsParts Presents ps i rs y →
-    Written encoder_rules (record_of ps) (record_value rs []) x result y
-closes_record ps x i y rs o (Ok u) e h k = subst (λ s. Presents s (record_of ps) (record_value rs []) y) h.same (presents_record i y ps rs (ap (λ (s : State). s.failed) h.same ∙ h.begun) k)
-closes_record ps x i y rs o (Err d) e h k = let w = wrote_bodies ps i y rs (ap (λ (s : State). s.failed) h.same ∙ h.begun) k in let l : y.failed ≡ false = w.left in absurd cc
+pub closes_record : (ps : Parts) (x i j y : State) (rs : List (Option Value)) (o : Presences) (result : Result (Unit {0}) EncodeError) → Opens (record_of ps) x o i → PresentsParts encoder_rules ps i rs j → ClosesOrNot o j result y
+    → Written encoder_rules (record_of ps) (record_value rs []) x result y
+closes_record ps x i j y rs o (Ok u) h k c =
+    let l = laid ps i j x.codec rs x.bits [] 0 (opened ps h) k in
+    let s = c.ok.1 in
+    presents_record x j x.codec ps rs h.begun refl l y (ap (λ z. z.bits) s) (ap (λ z. z.failed) s ∙ l.unfailed) (ap (λ z. z.codec) s ∙ l.same) (ap (λ z. z.presences) s ∙ h.waits)
+closes_record ps x i j y rs o (Err d) h k c =
+    let l = laid ps i j x.codec rs x.bits [] 0 (opened ps h) k in
+    let e = c.err in let z = l.left in absurd (omega arith)
+
+-- nor was the encoder refused inside
+pub not_failed_inside : (ps : Parts) (x i j : State) (rs : List (Option Value)) (o : Presences) → Opens (record_of ps) x o i → PresentsParts encoder_rules ps i rs j → j.failed ≡ true → ⊥
+not_failed_inside ps x i j rs o h k f = let l = laid ps i j x.codec rs x.bits [] 0 (opened ps h) k in let g = l.unfailed in absurd cc
+
+-- the fields that may be absent are the components with a presence bit
+bit_counted : (p : Schemas.Presence) → cond (is_not_required (presence_of p)) 1 0 ≡ has_bit p
+bit_counted required = refl
+bit_counted optional = refl
+bit_counted group = refl
+bit_counted (default d) = refl
+
+counted_from : (m i : ℕ) (ps : Parts) → fold (λ (a : ℕ) x. a + cond (may_be_absent x) 1 0) m (shapes_from i ps) ≡ m + presence_bits ps
+counted_from m i no_parts = omega arith
+counted_from m i (part t p s ps) = counted_from (m + cond (is_not_required (presence_of p)) 1 0) (suc i) ps ∙ omega (arith, bit_counted p)
+
+pub bits_counted : (i : ℕ) (ps : Parts) → count_by may_be_absent (shapes_from i ps) ≡ presence_bits ps
+bits_counted i ps = counted_from 0 i ps ∙ omega arith
+
+-- a record that is opened with as many presence bits as its components have
+pub opens_record : (parts : ℕ → Parts) (count : ℕ) (x i : State) (result : Result Presences EncodeError) → ((n : ℕ) → count ≡ presence_bits (parts n)) → OpensOrNot count x result i
+    → OpenedToWrite encoder_rules Opens parts x result i
+opens_record parts count x i (Ok o) e c = λ n. let h = subst (λ k. OpensBits k x o i) (e n) c.ok in (h, passes x i o (parts n) h)
+opens_record parts count x i (Err d) e c = inl c.err

@@ -1,5 +1,5 @@
 -- What holds of an encoder's relations.
-use Rattle.std.proofs.Common.{◌∙◌}
+use Rattle.std.proofs.Common.{◌∙◌, ap}
 use Rattle.rasn_codec.specs.Calls.{PresentsWell}
 use Rattle.per_write.specs.Rules.{encoder_rules}
 
@@ -8,4 +8,5 @@ presents_well = record {
   begun = λ x s v y w. w.begun;
   left = λ x s v y w. w.left;
   room = λ x s v y e w m. record { kind_is = m.kind_is; codec_is = m.codec_is ∙ w.same };
+  mark_room = λ x b y e w m. record { kind_is = m.kind_is; codec_is = m.codec_is ∙ ap (λ z. z.codec) w.same };
 }

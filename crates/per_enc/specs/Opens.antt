@@ -1,9 +1,11 @@
 -- What opening a SEQUENCE does to an encoder.
-use Rattle.std.specs.Prelude.{◌≡◌, false}
+use Rattle.rasn_schema.specs.Lawful.{presence_bits}
+use Rattle.rasn_schema.specs.Normal.{root_of}
+use Rattle.rasn_schema.specs.Schemas.{Schema}
+use Rattle.per_write.specs.Presences.{Opens as OpensBits}
 use Rattle.per_write.specs.State.{State}
-use Rattle.per_enc.specs.declared.Scope.{Scope}
+use Rattle.per_write.specs.declared.presences.Presences.{Presences}
 
--- a SEQUENCE is opened: its components stand in its place (X.691 19)
-pub record Opens (x : State) (o : Scope) (i : State) : Type 0 where
-  pub begun : x.failed ≡ false
-  pub same : i ≡ x
+-- X.691 19.2: zeros stand for its presence bits, and its components behind them
+abbrev pub Opens : Schema → State → Presences → State → Type 0
+Opens s x outside i = OpensBits (presence_bits (root_of s)) x outside i

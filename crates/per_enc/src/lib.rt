@@ -6,12 +6,12 @@ ghost use Rattle.rasn_types.specs.declared.types.Codec.TheVariants.{Uper};
 ghost use Rattle.per_core.specs.Canon.{completed};
 ghost use Rattle.per_write.specs.Faults.{RefusesOutput};
 ghost use Rattle.per_write.specs.Rules.{encoder_rules};
-ghost use Rattle.per_write.specs.State.{view};
+ghost use Rattle.per_write.specs.State.{fresh, view};
 
 #[cfg(test)]
 mod tests;
 
-use per_write::Writer;
+use per_write::{Presences, Writer};
 pub use per_write::error;
 pub use per_write::error::{EncodeError, EncodeErrorKind};
 use rasn_codec::codec;
@@ -72,15 +72,11 @@ impl<A: Allocator + Clone> Model for Encoder<A> {
     ghost view = { λ a. a.writer };
 }
 
-/// What waits outside an open SEQUENCE: nothing, as its components stand in its place.
-#[derive(Drop)]
-pub struct Scope {}
-
 impl<A: Allocator + Clone> Encoder<A> {
     /// An encoder that has written nothing. It takes no memory yet; what it writes and puts out is kept in memory of
     /// `alloc`.
     pub fn new(alloc: A, options: EncoderOptions) -> Self
-        ensures { result ≡ record { bits = []; failed = false; codec = options } }
+        ensures { result ≡ fresh options }
     {
         Encoder {
             writer: Writer::new(alloc, options.codec),
@@ -125,7 +121,7 @@ impl<A: Allocator + Clone> codec::Encoder for Encoder<A> {
 
     type Error = EncodeError;
 
-    type Scope = Scope;
+    type Scope = Presences;
 
     ghost rules = { encoder_rules };
 
@@ -264,13 +260,20 @@ impl<A: Allocator + Clone> codec::Encoder for Encoder<A> {
         &mut self,
         _tag: Tag,
         _identifier: Identifier,
-    ) -> Result<Scope, EncodeError> {
+    ) -> Result<Presences, EncodeError> {
         self.writer.check_unfailed()?;
-        Ok(Scope {})
+        let count = C::FIELDS.number_of_optional_and_default_fields();
+        self.writer.open_presences(count)
     }
 
-    fn close_sequence<C: Constructed>(&mut self, _scope: Scope) -> Result<(), EncodeError> {
-        self.writer.check_unfailed()
+    fn close_sequence<C: Constructed>(&mut self, outside: Presences) -> Result<(), EncodeError> {
+        self.writer.check_unfailed()?;
+        self.writer.close_presences(outside)
+    }
+
+    fn set_presence(&mut self, is_there: bool) -> Result<(), EncodeError> {
+        self.writer.check_unfailed()?;
+        self.writer.set_presence(is_there)
     }
 
     fn fail(&mut self) {

@@ -7,3 +7,4 @@ pub mod Refusing
 pub mod SmallNumbers
 pub mod Steps
 pub mod Writing
+pub mod Zeros

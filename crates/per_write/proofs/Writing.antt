@@ -61,6 +61,7 @@ wrote_then x m y f g h k = record {
   begun = h.begun;
   left = k.left;
   same = k.same ∙ h.same;
+  beside = k.beside ∙ h.beside;
   written = λ p b. k.written p b ∙ ap (λ o. go_on o g p) (h.written p b) ∙ sym (then_assoc (view x) f g p);
 }
 
@@ -70,6 +71,7 @@ wrote_same x y f g e h = record {
   begun = h.begun;
   left = h.left;
   same = h.same;
+  beside = h.beside;
   written = λ p b. h.written p b ∙ then_same (view x) (view x) f g (λ q. refl) e p;
 }
 
@@ -78,16 +80,18 @@ pub record Remains (x : State) (all : Writer) (y : State) (rest : Writer) : Type
   pub begun : x.failed ≡ false
   pub left : y.failed ≡ false
   pub same : y.codec ≡ x.codec
+  pub beside : y.presences ≡ x.presences
   pub written : (p : ℕ) → MayBegin x p → (view y ▹ rest) p ≡ (view x ▹ all) p
 
 pub remains_all : (x : State) (all : Writer) → x.failed ≡ false → Remains x all x all
-remains_all x all f = record { begun = f; left = f; same = refl; written = λ p b. refl }
+remains_all x all f = record { begun = f; left = f; same = refl; beside = refl; written = λ p b. refl }
 
 pub remains_after : (x y z : State) (all rest f next : Writer) → Remains x all y rest → ((p : ℕ) → rest p ≡ (f ▹ next) p) → Wrote y f z → Remains x all z next
 remains_after x y z all rest f next h e k = record {
   begun = h.begun;
   left = k.left;
   same = k.same ∙ h.same;
+  beside = k.beside ∙ h.beside;
   written = λ p b. ap (λ o. go_on o next p) (k.written p b) ∙ sym (then_assoc (view y) f next p) ∙ sym (then_same (view y) (view y) rest (f ▹ next) (λ q. refl) e p) ∙ h.written p b;
 }
 
@@ -96,5 +100,6 @@ remains_last x y z all rest f h e k = record {
   begun = h.begun;
   left = k.left;
   same = k.same ∙ h.same;
+  beside = k.beside ∙ h.beside;
   written = λ p b. k.written p b ∙ sym (then_same (view y) (view y) rest f (λ q. refl) e p) ∙ h.written p b;
 }

@@ -4,5 +4,6 @@ pub mod Items
 pub mod Names
 pub mod Numbers
 pub mod Fragments
+pub mod Presences
 pub mod Rules
 pub mod State

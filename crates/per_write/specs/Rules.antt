@@ -2,12 +2,15 @@
 use Rattle.rasn_codec.specs.Calls.{EncoderRules}
 use Rattle.per_write.specs.declared.error.EncodeError.{EncodeError}
 use Rattle.per_write.specs.Faults.{IsMemory, IsAlready, RefusesValue}
+use Rattle.per_write.specs.Presences.{Marks, IsUnmarked}
 use Rattle.per_write.specs.State.{State, Presents}
 
 abbrev pub encoder_rules : EncoderRules EncodeError State
 encoder_rules = record {
   presents = Presents;
+  marks = Marks;
   refuses = RefusesValue;
+  unmarked = IsUnmarked;
   memory = IsMemory;
   already = IsAlready;
   failed = λ x. x.failed;

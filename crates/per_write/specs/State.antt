@@ -1,5 +1,5 @@
 -- What contracts see of a writer and of an encoder around it, and what their calls do to it.
-use Rattle.std.specs.Prelude.{ℕ, ◌≡◌, Bool, true, false, Some, Result, OnOk, OnErr, IfErr}
+use Rattle.std.specs.Prelude.{ℕ, ◌≡◌, Bool, true, false, [], Some, Result, OnOk, OnErr, IfErr}
 use Rattle.rasn_types.specs.Bits.{Bits}
 use Rattle.rasn_types.specs.Codecs.{variant_of}
 use Rattle.rasn_types.specs.Values.{Value}
@@ -8,12 +8,22 @@ use Rattle.rasn_types.specs.declared.types.Codec.{Codec}
 use Rattle.rasn_schema.specs.Schemas.{Schema}
 use Rattle.per_core.specs.Writers.{Writer, just, ◌▹◌}
 use Rattle.per_core.specs.Canon.{canon}
+use Rattle.per_write.specs.declared.presences.Presences.{Presences}
 
--- the bits written, whether a call was refused, and the variant in use
+-- the bits written, whether a call was refused, the variant in use, and the presence bits of the open SEQUENCE that are still to be given
 pub record State : Type 0 where
   pub bits : Bits
   pub failed : Bool
   pub codec : Codec
+  pub presences : Presences
+
+-- where no SEQUENCE is open
+abbrev pub no_presences : Presences
+no_presences = record { place = 0; left = 0 }
+
+-- what has written nothing
+abbrev pub fresh : Codec → State
+fresh codec = record { bits = []; failed = false; codec = codec; presences = no_presences }
 
 -- what the open scope holds, as written from a position on
 abbrev pub view : State → Writer
@@ -32,6 +42,7 @@ pub record Wrote (x : State) (more : Writer) (y : State) : Type 0 where
   pub begun : x.failed ≡ false
   pub left : y.failed ≡ false
   pub same : y.codec ≡ x.codec
+  pub beside : y.presences ≡ x.presences
   pub written : (p : ℕ) → MayBegin x p → view y p ≡ (view x ▹ more) p
 
 -- one value more, in its canonical bits

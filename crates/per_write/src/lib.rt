@@ -8,7 +8,7 @@ ghost use Rattle.rasn_types.specs.Codecs.{variant_of};
 ghost use Rattle.per_core.specs.Writers.{just, complete, one_by_one};
 ghost use Rattle.per_core.specs.Counts.{octet_writers, unconstrained_octets};
 ghost use Rattle.per_core.specs.Canon.{completed};
-ghost use Rattle.per_write.specs.State.{view, Puts};
+ghost use Rattle.per_write.specs.State.{fresh, view, Puts};
 ghost use Rattle.per_write.specs.Faults.{IsError, IsMemory, IsAlready, RefusesOutput};
 
 mod enumerated;
@@ -17,6 +17,7 @@ mod integers;
 mod items;
 mod lengths;
 mod numbers;
+mod presences;
 mod sizes;
 mod small;
 mod strings;
@@ -24,6 +25,7 @@ mod strings;
 use error::{EncodeError, EncodeErrorKind};
 use items::Octets;
 use per_bits::{BitList, BitReader};
+pub use presences::Presences;
 use rasn_types::types::Codec;
 use std::alloc::{AllocError, Allocator};
 use std::marker::Model;
@@ -36,6 +38,7 @@ pub struct Writer<A: Allocator + Clone> {
     bits: BitList<A>,
     failed: bool,
     codec: Codec,
+    presences: Presences,
 }
 
 impl<A: Allocator + Clone> Model for Writer<A> {
@@ -43,19 +46,21 @@ impl<A: Allocator + Clone> Model for Writer<A> {
 
     ghost Value = { State };
 
-    ghost view = { λ a. record { bits = a.bits; failed = a.failed; codec = a.codec } };
+    ghost view = {
+        λ a. record { bits = a.bits; failed = a.failed; codec = a.codec; presences = a.presences } };
 }
 
 impl<A: Allocator + Clone> Writer<A> {
     /// A writer that has written nothing. It takes no memory yet; what it writes and puts out is kept in memory of
     /// `alloc`.
     pub fn new(alloc: A, codec: Codec) -> Self
-        ensures { result ≡ record { bits = []; failed = false; codec = codec } }
+        ensures { result ≡ fresh codec }
     {
         Writer {
             bits: BitList::new(alloc),
             failed: false,
             codec,
+            presences: Presences { place: 0, left: 0 },
         }
     }
 

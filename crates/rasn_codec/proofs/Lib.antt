@@ -1,2 +1,3 @@
+pub mod Optionals
 pub mod Reading
 pub mod Writing

@@ -24,7 +24,7 @@ normal-record ps rs = rw (slots-as_slots rs) refl
 module _ {E X : Type 0} (rules : EncoderRules E X) where
   -- a required component that is refused
   pub required_refused : {t : TagTree} {s : Schema} {ps : Parts} {x : X} {v : Value} {rs : List (Option Value)} {e : E}
-      → rules.memory e x ⊎ rules.refuses e x s v → rules.memory e x ⊎ RefusesParts rules.presents rules.refuses e (part t required s ps) x (Some v ∷ rs)
+      → rules.memory e x ⊎ rules.refuses e x s v → rules.memory e x ⊎ RefusesParts rules e (part t required s ps) x (Some v ∷ rs)
   required_refused (inl m) = inl m
   required_refused (inr h) = inr (refuses_here (refuses_required h))
 
@@ -42,16 +42,17 @@ module _ {E X : Type 0} (rules : EncoderRules E X) where
   last_written t s x v (Err e) y w = required_refused w
 
   -- a record with a component that is refused
-  pub record_refused : (parts : ℕ → Parts) (rs : List (Option Value)) (k : ℕ) (x i j y : X) (e : E) → Passes rules x i
+  pub record_refused : (parts : ℕ → Parts) (rs : List (Option Value)) (k : ℕ) (x i j y : X) (e : E) → ((n : ℕ) → Passes rules (parts n) x i)
       → AtParts parts k (λ ps. WrittenParts rules ps (normals ps rs) i (Err e) j)
       → AtDepths (record_at listed parts false no_additions) (suc k) (λ s. Written rules s (normal s (record_value rs [])) x (Err e) y)
-  record_refused parts rs k x i j y e h w = at_suc (λ n le. rw (normal-record (parts n) rs) (elim (w.at n le) [ inl m ↦ inl (h.room e m) | inr q ↦ inr (h.of_record e (parts n) (normals (parts n) rs) q) ]))
+  record_refused parts rs k x i j y e h w = at_suc (λ n le. rw (normal-record (parts n) rs) (elim (w.at n le) [ inl m ↦ inl ((h n).room e m) | inr q ↦ inr ((h n).of_record e (normals (parts n) rs) q) ]))
 
   -- a record whose components were presented
-  pub record_closed : {O : Type 0} (opens : X → O → X → Type 0) (parts : ℕ → Parts) (rs : List (Option Value)) (k : ℕ) (x i j : X) (o : O) (u : Unit {0}) → opens x o i
+  pub record_closed : {O : Type 0} (opens : Schema → X → O → X → Type 0) (parts : ℕ → Parts) (rs : List (Option Value)) (k : ℕ) (x i j : X) (o : O) (u : Unit {0})
+      → ((n : ℕ) → opens (record_of (parts n)) x o i)
       → AtParts parts k (λ ps. WrittenParts rules ps (normals ps rs) i (Ok u) j) → (r : Result (Unit {0}) E) (y : X) → ClosesWritten rules opens parts o j r y
       → AtDepths (record_at listed parts false no_additions) (suc k) (λ s. Written rules s (normal s (record_value rs [])) x r y)
-  record_closed opens parts rs k x i j o u h w r y f = at_suc (λ n le. rw (normal-record (parts n) rs) (f.law x i n (normals (parts n) rs) h (w.at n le)))
+  record_closed opens parts rs k x i j o u h w r y f = at_suc (λ n le. rw (normal-record (parts n) rs) (f.law x i n (normals (parts n) rs) (h n) (w.at n le)))
 
 -- a call that wrote a record by a function that keeps to its components and to the variant
 pub written_around : {E X : Type 0} {rules : EncoderRules E X} {parts : ℕ → Parts} {returns : X → Result (Unit {0}) E → X → Type 0} {x y : X} {r : Result (Unit {0}) E} (rs : List (Option Value)) (k : ℕ)

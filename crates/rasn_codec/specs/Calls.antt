@@ -23,8 +23,12 @@ pub record Behaves {E X T C : Type 0} (already : E → X → Type 0) (failed : X
 pub record EncoderRules (E X : Type 0) : Type 1 where
   -- one value is presented: what was written before, and what is written after it
   pub presents : X → Schema → Value → X → Type 0
+  -- the next presence bit is given: what was written before, and how it is then
+  pub marks : X → Bool → X → Type 0
   -- an error by which a value is refused: it has no encoding, or the encoder had failed; and the fault that the error names stands in the value
   pub refuses : E → X → Schema → Value → Type 0
+  -- an error by which a presence bit is refused: none is left, or the encoder had failed
+  pub unmarked : E → X → Type 0
   -- an error that says that memory ran out
   pub memory : E → X → Type 0
   -- an error that says that the encoder had failed before
@@ -56,6 +60,7 @@ pub record PresentsWell {E X : Type 0} (rules : EncoderRules E X) : Type 0 where
   pub begun : (x : X) (s : Schema) (v : Value) (y : X) → rules.presents x s v y → rules.failed x ≡ false
   pub left : (x : X) (s : Schema) (v : Value) (y : X) → rules.presents x s v y → rules.failed y ≡ false
   pub room : (x : X) (s : Schema) (v : Value) (y : X) (e : E) → rules.presents x s v y → rules.memory e y → rules.memory e x
+  pub mark_room : (x : X) (b : Bool) (y : X) (e : E) → rules.marks x b y → rules.memory e y → rules.memory e x
 
 -- A refusal of a decoder: nothing is read at s, and the fault that e names stands in what is left there.
 pub record Refuses {S V E : Type 0} (R : S → V → S → Type 0) (fault : E → S → Type 0) (e : E) (s : S) : Type 0 where
@@ -73,8 +78,12 @@ pub record DecoderRules (E S : Type 0) : Type 1 where
   pub levels : S → ℕ
   -- a front of what is left spells a value, and what is left behind it
   pub spells : Schema → S → Value → S → Type 0
+  -- the next presence bit
+  pub marks : S → Bool → S → Type 0
   -- the fault that an error names stands in what is left, as a schema reads it
   pub fault : Schema → E → S → Type 0
+  -- an error by which a presence bit is refused: none is left, or the decoder had failed
+  pub unmarked : E → S → Type 0
   -- an error that says that memory ran out
   pub memory : E → S → Type 0
   -- an error that says that the decoder had failed before
@@ -98,3 +107,8 @@ pub record ReadsWell {S V E : Type 0} (rules : DecoderRules E S) (R : S → V �
   pub begun : (s : S) (v : V) (t : S) → R s v t → rules.failed s ≡ false
   pub left : (s : S) (v : V) (t : S) → R s v t → rules.failed t ≡ false
   pub room : (s : S) (v : V) (t : S) (e : E) → R s v t → rules.memory e t → rules.memory e s
+
+-- What holds of a decoder's relations: those of values, and that of presence bits.
+pub record DecodesWell {S E : Type 0} (rules : DecoderRules E S) : Type 0 where
+  pub spelled : (c : Schema) → ReadsWell rules (rules.spells c)
+  pub marked : ReadsWell rules rules.marks

@@ -1,2 +1,4 @@
 pub mod Calls
 pub mod Scopes
+pub mod Optionals
+pub mod Presences

@@ -1,40 +1,53 @@
 -- What stands in a scope, component after component, and what opening and closing one owe, stated over any codec's relations.
-use Rattle.std.specs.Prelude.{◌≡◌, ℕ, suc, ◌⊎◌, true, false, Result, Ok, Err, OnErr, IsErrAnd, List, [], ◌∷◌, Option, Some}
+use Rattle.std.specs.Prelude.{◌≡◌, ℕ, suc, ◌⊎◌, Bool, true, false, Result, Ok, Err, OnErr, IsErrAnd, List, [], ◌∷◌, Option, Some}
 use Rattle.rasn_types.specs.Values.{Value}
 use Rattle.rasn_schema.specs.Schemas.{TagTree, Presence, required, listed, Schema, Parts, no_parts, part}
 use Rattle.rasn_schema.specs.Normal.{normal, normals}
 use Rattle.rasn_codec.specs.Calls.{AtDepths, Behaves, EncoderRules, Written, DecoderRules, Refuses, Answers}
+use Rattle.rasn_codec.specs.Presences.{presence_bit, left_out}
 use Rattle.rasn_schema.specs.Records.{record_at, no_additions, record_value, AtParts}
 
 -- a record of these root components, without an extension marker
 abbrev pub record_of : Parts → Schema
 record_of ps = Schema.sequence listed ps false no_parts
 
--- One component is presented: a required one as its value (X.691 19.5).
-pub data PresentsPart {X : Type 0} (presents : X → Schema → Value → X → Type 0) : Presence → Schema → X → Option Value → X → Type 0 where
-  presents_required : {s : Schema} {x y : X} {v : Value} → presents x s v y → PresentsPart presents required s x (Some v) y
+-- One component is presented: a required one as its value; one that may be absent as its presence bit, and behind a bit 1 its value
+-- (X.691 19.2, 19.5).
+pub data PresentsPart {E X : Type 0} (rules : EncoderRules E X) : Presence → Schema → X → Option Value → X → Type 0 where
+  presents_required : {s : Schema} {x y : X} {v : Value} → rules.presents x s v y → PresentsPart rules required s x (Some v) y
+  presents_there : {p : Presence} {s : Schema} {x m y : X} {v : Value}
+      → presence_bit p (Some v) ≡ Some true → rules.marks x true m → rules.presents m s v y → PresentsPart rules p s x (Some v) y
+  presents_left_out : {p : Presence} {s : Schema} {x y : X} {r : Option Value} → presence_bit p r ≡ Some false → rules.marks x false y → PresentsPart rules p s x r y
 
 -- Components are presented in turn.
-pub data PresentsParts {X : Type 0} (presents : X → Schema → Value → X → Type 0) : Parts → X → List (Option Value) → X → Type 0 where
-  presents_end : {x : X} → PresentsParts presents no_parts x [] x
+pub data PresentsParts {E X : Type 0} (rules : EncoderRules E X) : Parts → X → List (Option Value) → X → Type 0 where
+  presents_end : {x : X} → PresentsParts rules no_parts x [] x
   presents_next : {t : TagTree} {p : Presence} {s : Schema} {ps : Parts} {x m y : X} {r : Option Value} {rs : List (Option Value)}
-      → PresentsPart presents p s x r m → PresentsParts presents ps m rs y → PresentsParts presents (part t p s ps) x (r ∷ rs) y
+      → PresentsPart rules p s x r m → PresentsParts rules ps m rs y → PresentsParts rules (part t p s ps) x (r ∷ rs) y
 
--- One component is refused by an error.
-pub data RefusesPart {X E : Type 0} (refuses : E → X → Schema → Value → Type 0) (e : E) : Presence → Schema → X → Option Value → Type 0 where
-  refuses_required : {s : Schema} {x : X} {v : Value} → refuses e x s v → RefusesPart refuses e required s x (Some v)
+-- One component is refused by an error: its value, or its presence bit.
+pub data RefusesPart {E X : Type 0} (rules : EncoderRules E X) (e : E) : Presence → Schema → X → Option Value → Type 0 where
+  refuses_required : {s : Schema} {x : X} {v : Value} → rules.refuses e x s v → RefusesPart rules e required s x (Some v)
+  refuses_there : {p : Presence} {s : Schema} {x m : X} {v : Value}
+      → presence_bit p (Some v) ≡ Some true → rules.marks x true m → rules.refuses e m s v → RefusesPart rules e p s x (Some v)
+  refuses_bit : {p : Presence} {s : Schema} {x : X} {r : Option Value} {b : Bool} → presence_bit p r ≡ Some b → rules.unmarked e x → RefusesPart rules e p s x r
 
 -- One of some components is refused, after those before it were presented.
-pub data RefusesParts {X E : Type 0} (presents : X → Schema → Value → X → Type 0) (refuses : E → X → Schema → Value → Type 0) (e : E) : Parts → X → List (Option Value) → Type 0 where
+pub data RefusesParts {E X : Type 0} (rules : EncoderRules E X) (e : E) : Parts → X → List (Option Value) → Type 0 where
   refuses_here : {t : TagTree} {p : Presence} {s : Schema} {ps : Parts} {x : X} {r : Option Value} {rs : List (Option Value)}
-      → RefusesPart refuses e p s x r → RefusesParts presents refuses e (part t p s ps) x (r ∷ rs)
+      → RefusesPart rules e p s x r → RefusesParts rules e (part t p s ps) x (r ∷ rs)
   refuses_behind : {t : TagTree} {p : Presence} {s : Schema} {ps : Parts} {x m : X} {r : Option Value} {rs : List (Option Value)}
-      → PresentsPart presents p s x r m → RefusesParts presents refuses e ps m rs → RefusesParts presents refuses e (part t p s ps) x (r ∷ rs)
+      → PresentsPart rules p s x r m → RefusesParts rules e ps m rs → RefusesParts rules e (part t p s ps) x (r ∷ rs)
+
+-- Ok presents a component, and Err, memory aside, comes only where it is refused.
+abbrev pub WrittenPart : {E X : Type 0} → EncoderRules E X → Presence → Schema → Option Value → X → Result (Unit {0}) E → X → Type 0
+WrittenPart rules p s r x (Ok u) y = PresentsPart rules p s x r y
+WrittenPart rules p s r x (Err e) y = rules.memory e x ⊎ RefusesPart rules e p s x r
 
 -- Ok presents components in turn, and Err, memory aside, comes only where one of them is refused.
 abbrev pub WrittenParts : {E X : Type 0} → EncoderRules E X → Parts → List (Option Value) → X → Result (Unit {0}) E → X → Type 0
-WrittenParts rules ps rs x (Ok u) y = PresentsParts rules.presents ps x rs y
-WrittenParts rules ps rs x (Err e) y = rules.memory e x ⊎ RefusesParts rules.presents rules.refuses e ps x rs
+WrittenParts rules ps rs x (Ok u) y = PresentsParts rules ps x rs y
+WrittenParts rules ps rs x (Err e) y = rules.memory e x ⊎ RefusesParts rules e ps x rs
 
 -- A call that writes components, at each depth that holds them: an error leaves the encoder failed, and the variant stays.
 pub record WritesParts {E X : Type 0} (rules : EncoderRules E X) (parts : ℕ → Parts) (k : ℕ) (rs : List (Option Value)) (x : X) (result : Result (Unit {0}) E) (y : X) : Type 0 where
@@ -42,24 +55,24 @@ pub record WritesParts {E X : Type 0} (rules : EncoderRules E X) (parts : ℕ �
   pub fails : OnErr result (rules.failed y ≡ true)
   pub kept : rules.codec y ≡ rules.codec x
 
--- What passes out of a scope, which was opened at x and begins at i: want of memory, and the refusal of a component, which is one of the record.
-pub record Passes {E X : Type 0} (rules : EncoderRules E X) (x i : X) : Type 0 where
+-- What passes out of a scope of some components, which was opened at x and begins at i: want of memory, and the refusal of a component, which is one of the record.
+pub record Passes {E X : Type 0} (rules : EncoderRules E X) (ps : Parts) (x i : X) : Type 0 where
   pub room : (e : E) → rules.memory e i → rules.memory e x
-  pub of_record : (e : E) (ps : Parts) (rs : List (Option Value)) → RefusesParts rules.presents rules.refuses e ps i rs → rules.refuses e x (record_of ps) (record_value rs [])
+  pub of_record : (e : E) (rs : List (Option Value)) → RefusesParts rules e ps i rs → rules.refuses e x (record_of ps) (record_value rs [])
 
 -- Ok is inside a record, and Err, memory aside, refuses every record of these components.
-abbrev pub OpenedToWrite : {E X O : Type 0} → EncoderRules E X → (X → O → X → Type 0) → (ℕ → Parts) → X → Result O E → X → Type 0
-OpenedToWrite rules opens parts x (Ok o) i = opens x o i × Passes rules x i
+abbrev pub OpenedToWrite : {E X O : Type 0} → EncoderRules E X → (Schema → X → O → X → Type 0) → (ℕ → Parts) → X → Result O E → X → Type 0
+OpenedToWrite rules opens parts x (Ok o) i = (n : ℕ) → opens (record_of (parts n)) x o i × Passes rules (parts n) x i
 OpenedToWrite rules opens parts x (Err e) i = rules.memory e x ⊎ ((n : ℕ) (v : Value) → rules.refuses e x (record_of (parts n)) v)
 
 -- A call that opens a record to write.
-pub record OpensToWrite {E X O : Type 0} (rules : EncoderRules E X) (opens : X → O → X → Type 0) (parts : ℕ → Parts) (x : X) (result : Result O E) (y : X) : Type 0 where
+pub record OpensToWrite {E X O : Type 0} (rules : EncoderRules E X) (opens : Schema → X → O → X → Type 0) (parts : ℕ → Parts) (x : X) (result : Result O E) (y : X) : Type 0 where
   pub law : OpenedToWrite rules opens parts x result y
   pub behaves : Behaves rules.already rules.failed rules.codec x result y
 
 -- A call that closes one, in which its components were presented: it answers as one call that writes the whole record.
-pub record ClosesWritten {E X O : Type 0} (rules : EncoderRules E X) (opens : X → O → X → Type 0) (parts : ℕ → Parts) (o : O) (j : X) (result : Result (Unit {0}) E) (y : X) : Type 0 where
-  pub law : (x i : X) (n : ℕ) (rs : List (Option Value)) → opens x o i → PresentsParts rules.presents (parts n) i rs j
+pub record ClosesWritten {E X O : Type 0} (rules : EncoderRules E X) (opens : Schema → X → O → X → Type 0) (parts : ℕ → Parts) (o : O) (j : X) (result : Result (Unit {0}) E) (y : X) : Type 0 where
+  pub law : (x i : X) (n : ℕ) (rs : List (Option Value)) → opens (record_of (parts n)) x o i → PresentsParts rules (parts n) i rs j
       → Written rules (record_of (parts n)) (record_value rs []) x result y
   pub behaves : Behaves rules.already rules.failed rules.codec j result y
 
@@ -79,29 +92,35 @@ pub record WritesAround {E X : Type 0} (rules : EncoderRules E X) (parts : ℕ �
   pub fails : OnErr result (rules.failed y ≡ true)
   pub kept : KeepsCodec rules.codec returns → rules.codec y ≡ rules.codec x
 
--- One component is read: a required one as its value (X.691 19.5).
-pub data ReadsPart {S : Type 0} (spells : Schema → S → Value → S → Type 0) : Presence → Schema → S → Option Value → S → Type 0 where
-  reads_required : {c : Schema} {s t : S} {v : Value} → spells c s v t → ReadsPart spells required c s (Some v) t
+-- One component is read: a required one as its value; one that may be absent by its presence bit, and behind a bit 1 as its value
+-- (X.691 19.2, 19.5).
+pub data ReadsPart {E S : Type 0} (rules : DecoderRules E S) : Presence → Schema → S → Option Value → S → Type 0 where
+  reads_required : {c : Schema} {s t : S} {v : Value} → rules.spells c s v t → ReadsPart rules required c s (Some v) t
+  reads_there : {p : Presence} {c : Schema} {s m t : S} {r : Option Value} {v : Value}
+      → left_out p ≡ Some r → rules.marks s true m → rules.spells c m v t → ReadsPart rules p c s (Some v) t
+  reads_left_out : {p : Presence} {c : Schema} {s t : S} {r : Option Value} → left_out p ≡ Some r → rules.marks s false t → ReadsPart rules p c s r t
 
 -- Components are read in turn.
-pub data ReadsParts {S : Type 0} (spells : Schema → S → Value → S → Type 0) : Parts → S → List (Option Value) → S → Type 0 where
-  reads_end : {s : S} → ReadsParts spells no_parts s [] s
+pub data ReadsParts {E S : Type 0} (rules : DecoderRules E S) : Parts → S → List (Option Value) → S → Type 0 where
+  reads_end : {s : S} → ReadsParts rules no_parts s [] s
   reads_next : {k : TagTree} {p : Presence} {c : Schema} {ps : Parts} {s m t : S} {r : Option Value} {rs : List (Option Value)}
-      → ReadsPart spells p c s r m → ReadsParts spells ps m rs t → ReadsParts spells (part k p c ps) s (r ∷ rs) t
+      → ReadsPart rules p c s r m → ReadsParts rules ps m rs t → ReadsParts rules (part k p c ps) s (r ∷ rs) t
 
--- The fault that an error names stands in one component.
-pub data FaultyPart {S E : Type 0} (fault : Schema → E → S → Type 0) (e : E) : Presence → Schema → S → Type 0 where
-  faulty_required : {c : Schema} {s : S} → fault c e s → FaultyPart fault e required c s
+-- The fault that an error names stands in one component: in its value, or at its presence bit.
+pub data FaultyPart {E S : Type 0} (rules : DecoderRules E S) (e : E) : Presence → Schema → S → Type 0 where
+  faulty_required : {c : Schema} {s : S} → rules.fault c e s → FaultyPart rules e required c s
+  faulty_there : {p : Presence} {c : Schema} {s m : S} {r : Option Value} → left_out p ≡ Some r → rules.marks s true m → rules.fault c e m → FaultyPart rules e p c s
+  faulty_bit : {p : Presence} {c : Schema} {s : S} {r : Option Value} → left_out p ≡ Some r → rules.unmarked e s → FaultyPart rules e p c s
 
 -- The fault that an error names stands in one of some components, behind those that are read before it.
-pub data FaultyParts {S E : Type 0} (fault : Schema → E → S → Type 0) (spells : Schema → S → Value → S → Type 0) (e : E) : Parts → S → Type 0 where
-  faulty_here : {k : TagTree} {p : Presence} {c : Schema} {ps : Parts} {s : S} → FaultyPart fault e p c s → FaultyParts fault spells e (part k p c ps) s
+pub data FaultyParts {E S : Type 0} (rules : DecoderRules E S) (e : E) : Parts → S → Type 0 where
+  faulty_here : {k : TagTree} {p : Presence} {c : Schema} {ps : Parts} {s : S} → FaultyPart rules e p c s → FaultyParts rules e (part k p c ps) s
   faulty_behind : {k : TagTree} {p : Presence} {c : Schema} {ps : Parts} {s m : S} {r : Option Value}
-      → ReadsPart spells p c s r m → FaultyParts fault spells e ps m → FaultyParts fault spells e (part k p c ps) s
+      → ReadsPart rules p c s r m → FaultyParts rules e ps m → FaultyParts rules e (part k p c ps) s
 
 -- Ok answers components that are read in turn, and Err, memory aside, comes only where they aren't.
 abbrev pub AnswersParts : {S T E : Type 0} → DecoderRules E S → Parts → (T → List (Option Value)) → S → Result T E → S → Type 0
-AnswersParts rules ps = Answers rules.memory (λ e. FaultyParts rules.fault rules.spells e ps) (ReadsParts rules.spells ps)
+AnswersParts rules ps = Answers rules.memory (λ e. FaultyParts rules e ps) (ReadsParts rules ps)
 
 -- A call that reads components, to the levels left: an error leaves the decoder failed, and the variant stays.
 pub record TakesParts {S T E : Type 0} (rules : DecoderRules E S) (parts : ℕ → Parts) (contents : T → List (Option Value)) (s : S) (result : Result T E) (t : S) : Type 0 where
@@ -147,9 +166,9 @@ pub record ReadsAround {E S T : Type 0} (rules : DecoderRules E S) (parts : ℕ 
 pub record ScopesWell {E S O : Type 0} (rules : DecoderRules E S) (unended : O → E → S → Type 0) (opens : Schema → S → O → S → Type 0) (closes : S → O → S → Type 0) : Type 0 where
   pub inside : (c : Schema) (s : S) (o : O) (i : S) → opens c s o i → rules.failed i ≡ false
   pub room : (c : Schema) (s : S) (o : O) (i : S) (e : E) → opens c s o i → rules.memory e i → rules.memory e s
-  pub in_part : (ps : Parts) (s : S) (o : O) (i : S) (e : E) → opens (record_of ps) s o i → FaultyParts rules.fault rules.spells e ps i → rules.fault (record_of ps) e s
-  pub at_end : (ps : Parts) (s i j : S) (o : O) (rs : List (Option Value)) (e : E) → opens (record_of ps) s o i → ReadsParts rules.spells ps i rs j → unended o e j → rules.fault (record_of ps) e s
+  pub in_part : (ps : Parts) (s : S) (o : O) (i : S) (e : E) → opens (record_of ps) s o i → FaultyParts rules e ps i → rules.fault (record_of ps) e s
+  pub at_end : (ps : Parts) (s i j : S) (o : O) (rs : List (Option Value)) (e : E) → opens (record_of ps) s o i → ReadsParts rules ps i rs j → unended o e j → rules.fault (record_of ps) e s
   pub record_read : (ps : Parts) (s i j t : S) (o : O) (rs : List (Option Value)) → opens (record_of ps) s o i
-      → ReadsParts rules.spells ps i rs j → closes j o t → rules.spells (record_of ps) s (record_value rs []) t
+      → ReadsParts rules ps i rs j → closes j o t → rules.spells (record_of ps) s (record_value rs []) t
   pub record_back : (ps : Parts) (s i t : S) (o : O) (v : Value) → opens (record_of ps) s o i → rules.spells (record_of ps) s v t
-      → (rs : List (Option Value)) × (j : S) × ReadsParts rules.spells ps i rs j × closes j o t
+      → (rs : List (Option Value)) × (j : S) × ReadsParts rules ps i rs j × closes j o t

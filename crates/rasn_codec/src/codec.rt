@@ -2,15 +2,17 @@
 
 ghost use Rattle.std.specs.Prelude.{◌≡◌, ℕ, suc, true, false, IfOk, []};
 ghost use Rattle.std.specs.Cow.{cow_slice_items, IsOwnedSlice};
-ghost use Rattle.std.specs.Fn.{FnOnceReturnsAtMut};
+ghost use Rattle.std.specs.Fn.{FnOnceReturnsAt, FnOnceReturnsAtMut};
 ghost use Rattle.std.specs.String.{string_bytes};
 ghost use Rattle.rasn_types.specs.Alphabets.{visible, ia5, printable, numeric, bmp};
 ghost use Rattle.rasn_types.specs.Contents.{utf8, other};
 ghost use Rattle.rasn_types.specs.Values.{Value, truth, nothing, whole, octets, bits, characters};
-ghost use Rattle.rasn_schema.specs.Schemas.{Schema, listed};
+ghost use Rattle.rasn_schema.specs.Schemas.{Schema, listed, optional};
 ghost use Rattle.rasn_schema.specs.Forms.{number_schema, octet_schema, bit_schema, character_schema};
 ghost use Rattle.rasn_schema.specs.Records.{record_at, no_additions, record_value};
-ghost use Rattle.rasn_codec.specs.Calls.{EncoderRules, freely, Writes, Encodes, PresentsWell, DecoderRules, freely_read, Reads, ReadsWell};
+ghost use Rattle.rasn_codec.specs.Optionals.{EncodesDefault, EncodesNone, EncodesSome, GivesBit, ReadsBit, ReadsComponent, ReadsDefault};
+ghost use Rattle.rasn_codec.specs.Presences.{slot_of};
+ghost use Rattle.rasn_codec.specs.Calls.{EncoderRules, freely, Writes, Encodes, PresentsWell, DecoderRules, freely_read, Reads, DecodesWell};
 ghost use Rattle.rasn_codec.specs.Scopes.{OpensToWrite, ClosesWritten, WritesAround, OpensToRead, ClosesRead, ReadsAround, ScopesWell};
 
 use crate::parts::{DecodeParts, EncodeParts};
@@ -23,7 +25,7 @@ use rasn_strings::strings::{
 use rasn_types::bit_string::BitString;
 use rasn_types::octet_strings::{Any, GeneralString, GraphicString, TeletexString, Utf8String};
 use rasn_types::types::{Codec, Identifier, Tag};
-use std::alloc::Global;
+use std::alloc::{AllocError, Global};
 use std::borrow::CowSlice;
 
 /// What writes values, one after another. Each call presents one value of one schema, or refuses it.
@@ -38,8 +40,8 @@ pub trait Encoder: Sized {
     // What is presented and refused, and what states and errors say.
     ghost rules: { EncoderRules Self.Error Self };
 
-    // A scope is opened: what was before, what waits outside, and how it is inside.
-    ghost opens: { Self → Self.Scope → Self → Type 0 };
+    // A scope is opened to write a schema: what was before, what waits outside, and how it is inside.
+    ghost opens: { Schema → Self → Self.Scope → Self → Type 0 };
 
     /// The variant in use.
     fn codec(&self) -> Codec
@@ -173,6 +175,10 @@ pub trait Encoder: Sized {
     fn close_sequence<C: Constructed>(&mut self, scope: Self::Scope) -> Result<(), Self::Error>
         ensures { ClosesWritten rules opens C.parts scope self.old result self.new };
 
+    /// Gives the presence bit of the next component of the open SEQUENCE that has one (X.691 19.2). Takes no memory.
+    fn set_presence(&mut self, is_there: bool) -> Result<(), Self::Error>
+        ensures { GivesBit rules is_there self.old result self.new };
+
     /// Refuses from now on.
     fn fail(&mut self)
         ensures fails { rules.failed self.new ≡ true }
@@ -244,6 +250,52 @@ pub trait Encoder: Sized {
         ensures { Writes rules (character_schema bmp constraints.now) (characters value.now) self.old result self.new }
     {
         self.encode_known_multiplier_string(tag, constraints, value, identifier)
+    }
+
+    /// Writes an optional component that is there: its presence bit, 1, and its value (X.691 19.2).
+    final fn encode_some_with_tag_and_constraints<T: Encode>(
+        &mut self,
+        tag: Tag,
+        constraints: &Constraints,
+        value: &T,
+        identifier: Identifier,
+    ) -> Result<(), Self::Error>
+        ensures { EncodesSome rules (T.schema constraints.now) (T.levels value.now) (T.value value.now)
+            self.old result self.new }
+    {
+        self.set_presence(true)?;
+        value.encode_with_tag_and_constraints(self, tag, constraints, identifier)
+    }
+
+    /// Writes an optional component that is absent: its presence bit, 0 (X.691 19.2). Takes no memory.
+    final fn encode_none_with_tag(
+        &mut self,
+        _tag: Tag,
+        _identifier: Identifier,
+    ) -> Result<(), Self::Error>
+        ensures { EncodesNone rules self.old result self.new }
+    {
+        self.set_presence(false)
+    }
+
+    /// Writes a component with a default. Where it is at its default, as the test says, only its presence bit is
+    /// written, 0; else it is written as one that is there (X.691 19.5).
+    final fn encode_default_with_tag_and_constraints<T: Encode, F: FnOnce(&T) -> bool>(
+        &mut self,
+        tag: Tag,
+        constraints: &Constraints,
+        value: &T,
+        is_default: F,
+        identifier: Identifier,
+    ) -> Result<(), Self::Error>
+        requires { F.IsAlwaysCallable is_default }
+        ensures { EncodesDefault rules (T.schema constraints.now) (T.levels value.now) (T.value value.now)
+            (FnOnceReturnsAt F.FnOnce is_default value.now) self.old result self.new }
+    {
+        if is_default(value) {
+            return self.set_presence(false);
+        }
+        self.encode_some_with_tag_and_constraints(tag, constraints, value, identifier)
     }
 
     /// Writes a SEQUENCE (X.691 19), whose components `scope` writes, in the order of `FIELDS`.
@@ -412,6 +464,10 @@ pub trait Decoder: Sized {
     fn close_sequence(&mut self, scope: Self::Scope) -> Result<(), Self::Error>
         ensures { ClosesRead rules unended closes scope self.old result self.new };
 
+    /// Reads the presence bit of the next component of the open SEQUENCE that has one (X.691 19.2). Takes no memory.
+    fn next_presence(&mut self) -> Result<bool, Self::Error>
+        ensures { ReadsBit rules self.old result self.new };
+
     /// Refuses from now on.
     fn fail(&mut self)
         ensures fails { rules.failed self.new ≡ true }
@@ -473,6 +529,41 @@ pub trait Decoder: Sized {
         self.decode_known_multiplier_string::<BmpString>(tag, constraints)
     }
 
+    /// Reads an optional component: its presence bit, and behind a bit 1 its value (X.691 19.2).
+    final fn decode_optional_with_tag_and_constraints<T: Decode>(
+        &mut self,
+        tag: Tag,
+        constraints: &Constraints,
+    ) -> Result<Option<T>, Self::Error>
+        ensures { ReadsComponent rules optional (T.schema constraints.now (rules.levels self.old)) (slot_of T.value)
+            self.old result self.new }
+    {
+        if !self.next_presence()? {
+            return Ok(None);
+        }
+        let value = T::decode_with_tag_and_constraints(self, tag, constraints)?;
+        Ok(Some(value))
+    }
+
+    /// Reads a component with a default: its presence bit, and behind a bit 1 its value, else what `default` gives
+    /// (X.691 19.5).
+    final fn decode_default_with_tag_and_constraints<
+        T: Decode,
+        F: FnOnce(Global) -> Result<T, AllocError>,
+    >(&mut self, tag: Tag, default: F, constraints: &Constraints) -> Result<T, Self::Error>
+        requires { F.IsAlwaysCallable default }
+        ensures { ReadsDefault rules (T.schema constraints.now (rules.levels self.old)) T.value
+            (λ made. (alloc : _) × F.post default alloc made) self.old result self.new }
+    {
+        if self.next_presence()? {
+            return T::decode_with_tag_and_constraints(self, tag, constraints);
+        }
+        match default(self.alloc()) {
+            Ok(value) => Ok(value),
+            Err(_) => Err(self.out_of_memory()),
+        }
+    }
+
     /// Reads a SEQUENCE (X.691 19), whose components `scope` reads, in the order of `FIELDS`.
     final fn decode_sequence<
         C: Constructed + Drop,
@@ -514,7 +605,7 @@ pub trait Decoder: Sized {
     }
 
     // What holds of each decoder's relations.
-    ghost lawful: { (s : Schema) → ReadsWell rules (rules.spells s) };
+    ghost lawful: { DecodesWell rules };
 
     // What holds of each decoder's scopes.
     ghost scopes: { ScopesWell rules unended opens closes };

@@ -10,7 +10,7 @@ returns-in-Err g c =
     record {
       law = λ rs k owed.
           let w = rw c.in-Err.is at (owed.keeps c.open_sequence.new.self c.scope.result c.scope.new.arg2 gave) in
-          record_refused g.Self.Encoder.rules g.C.Constructed.parts rs k _ c.open_sequence.new.self c.scope.new.arg2 c.args.self.now _ o.1 w;
+          record_refused g.Self.Encoder.rules g.C.Constructed.parts rs k _ c.open_sequence.new.self c.scope.new.arg2 c.args.self.now _ (λ n. (o n).1) w;
       again = search rules;
       fails = search rules;
       kept = λ owed. c.fail.ensures.kept ∙ owed.stays c.open_sequence.new.self c.scope.result c.scope.new.arg2 gave ∙ c.in_ok-outside.ensures.behaves.kept;
@@ -24,7 +24,7 @@ returns g c =
       law = λ rs k owed.
           let w = rw c.in_default.is at (owed.keeps c.open_sequence.new.self c.scope.result c.scope.new.arg2 gave) in
           record_closed g.Self.Encoder.rules g.Self.Encoder.opens g.C.Constructed.parts rs k
-          c.args.self.now c.open_sequence.new.self c.scope.new.arg2 _ _ o.0 w _ _ c.close_sequence.ensures;
+          c.args.self.now c.open_sequence.new.self c.scope.new.arg2 _ _ (λ n. (o n).0) w _ _ c.close_sequence.ensures;
       again = search rules;
       fails = search rules;
       kept = λ owed. c.close_sequence.ensures.behaves.kept ∙ owed.stays c.open_sequence.new.self c.scope.result c.scope.new.arg2 gave ∙ c.in_ok-outside.ensures.behaves.kept;

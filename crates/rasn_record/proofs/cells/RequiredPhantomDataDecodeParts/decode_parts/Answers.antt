@@ -17,7 +17,7 @@ pub returns-in_err-next : goal.returns-in_err-next
 returns-in_err-next g c =
     let p = err_from_is_err_and c.from_residual-in_err-next.result c.from_residual-in_err-next.ensures.1 in
     let a = rw (c.given_or_own-constraints.ensures, c.CONSTRAINTS-own.ensures) at c.in_ok-value.ensures.law in
-    let l = (g.met.D.Decoder.lawful _).level _ _ _ a in
+    let l = (g.met.D.Decoder.lawful.spelled _).level _ _ _ a in
     record {
       law = rw (p.1, p.2) (fails_behind g.met.D.Decoder.lawful (reads_required a) (rw l at c.in_err-next.ensures.law));
       fails = search rules;
@@ -27,5 +27,5 @@ returns-in_err-next g c =
 pub returns : goal.returns
 returns g c =
     let a = rw (c.given_or_own-constraints.ensures, c.CONSTRAINTS-own.ensures) at c.in_ok-value.ensures.law in
-    let l = (g.met.D.Decoder.lawful _).level _ _ _ a in
+    let l = (g.met.D.Decoder.lawful.spelled _).level _ _ _ a in
     record { law = required_read _ a (rw l at c.in_ok-next.ensures.law); fails = search rules; kept = search rules }

@@ -1,0 +1,91 @@
+-- One bit of octets that is set.
+use mir.Val.{bool_byte}
+use Rattle.std.proofs.Common.{◌≡◌, refl, sym, ap, ap₂, ◌∙◌, subst, ℕ, zero, suc, ◌+◌, ◌-◌, ◌*◌, ◌/◌, ◌%◌, ◌^◌, ◌<◌, ◌≤◌, Bool, true, false, inl, inr, List, [], ◌∷◌, ◌++◌, length, replicate, get_or, nat_le, arith, pow_pos, mod-eq_of_lt, mod-lt, append_assoc, bit_or}
+use Rattle.std.proofs.Math.ListN.{set}
+use Rattle.std.proofs.Math.Seq.{set-append_seam}
+use Rattle.std.proofs.lemmas.Bool.{cases_lt}
+use Rattle.std.proofs.lemmas.List.{set-append_left, set-append_right}
+use Rattle.std.proofs.lemmas.Nat.{shr_below, shr-shr}
+use Rattle.rasn_types.specs.Bits.{Bits, to_bits, unpack}
+use Rattle.rasn_types.proofs.Bits.{length-to_bits, length-unpack, to_bits-same, to_bits-split}
+use Rattle.per_bits.specs.Octets.{filled, AreFilledBy, ArePadded}
+use Rattle.per_bits.proofs.Joins.{behind, put_behind}
+use Rattle.per_bits.proofs.Readers.{filled_length}
+use Rattle.per_bits.proofs.Words.{to_bits-join}
+
+-- a bit as a number
+pub bit_below : {n : ℕ} (b : Bool) → n ≡ bool_byte b → n < 2 ^ 1
+bit_below true e = omega arith
+bit_below false e = omega arith
+
+pub bit_is : {n : ℕ} (b : Bool) → n ≡ bool_byte b → to_bits 1 n ≡ b ∷ []
+bit_is true e = ap (λ (m : ℕ). to_bits 1 m) e
+bit_is false e = ap (λ (m : ℕ). to_bits 1 m) e
+
+-- an octet with another bit: what stands in front, the bit, and what stands behind
+module _ (p s o bit front low v : ℕ) (b : Bool) (e : p + (1 + s) ≡ 8) (below : o < 256) (small : bit < 2 ^ 1) (is_bit : to_bits 1 bit ≡ b ∷ [])
+    (is_front : front ≡ bit_or (o / 2 ^ s / 2 * 2 % 2 ^ 64) bit) (is_low : low ≡ o % 2 ^ s) (is : v ≡ bit_or (front * 2 ^ s % 2 ^ 64) low) where
+  abbrev high : ℕ
+  high = o / 2 ^ s / 2
+
+  high_below : high < 2 ^ p
+  high_below = subst (λ (n : ℕ). n < 2 ^ p) (sym (shr-shr o s 1)) (shr_below o p (s + 1) (subst (λ (n : ℕ). o < 2 ^ n) (let i : 8 ≡ p + (s + 1) = omega arith in i) below))
+
+  front_is : front ≡ high * 2 ^ 1 + bit
+  front_is = is_front ∙ put_behind 64 high bit p 1 high_below small (omega arith)
+
+  front_below : front < 2 ^ (p + 1)
+  front_below = subst (λ (n : ℕ). n < 2 ^ (p + 1)) (sym front_is) (behind high bit p 1 high_below small)
+
+  low_below : low < 2 ^ s
+  low_below = let m = mod-lt o (pow_pos s) in omega arith
+
+  v_is : v ≡ front * 2 ^ s + low
+  v_is = is ∙ put_behind 64 front low (p + 1) s front_below low_below (omega arith)
+
+  pub octet_fits : v < 256
+  octet_fits = subst (λ (n : ℕ). n < 256) (sym v_is) (subst (λ (n : ℕ). front * 2 ^ s + low < 2 ^ n) (let i : p + 1 + s ≡ 8 = omega arith in i) (behind front low (p + 1) s front_below low_below))
+
+  made : to_bits 8 v ≡ to_bits p high ++ b ∷ to_bits s o
+  made = ap₂ (λ (n m : ℕ). to_bits n m) (let i : 8 ≡ p + 1 + s = omega arith in i) v_is ∙ to_bits-join (p + 1) s front low low_below
+      ∙ ap₂ (λ bs cs. bs ++ cs) (ap (λ (n : ℕ). to_bits (p + 1) n) front_is ∙ to_bits-join p 1 high bit small ∙ ap (λ bs. to_bits p high ++ bs) is_bit)
+      (to_bits-same s low o (ap (λ (n : ℕ). n % 2 ^ s) is_low ∙ mod-eq_of_lt (mod-lt o (pow_pos s))))
+      ∙ append_assoc (to_bits p high) (b ∷ []) (to_bits s o)
+
+  was : (x : Bool) → to_bits 1 (o / 2 ^ s) ≡ x ∷ [] → to_bits 8 o ≡ to_bits p high ++ x ∷ to_bits s o
+  was x i = ap (λ (n : ℕ). to_bits n o) (sym e) ∙ to_bits-split p (1 + s) o
+      ∙ ap₂ (λ (n : ℕ) bs. to_bits p n ++ bs) (let j : o / 2 ^ (1 + s) ≡ o / 2 ^ (s + 1) = ap (λ (n : ℕ). o / 2 ^ n) (omega arith) in j ∙ sym (shr-shr o s 1)) (to_bits-split 1 s o ∙ ap (λ bs. bs ++ to_bits s o) i)
+
+  abbrev old : Bool
+  old = nat_le (2 ^ 0) (o / 2 ^ s % 2 ^ 1)
+
+  pub octet_set : to_bits 8 v ≡ set (to_bits 8 o) p b
+  octet_set = made ∙ sym (ap (λ bs. set bs p b) (was old refl)
+      ∙ ap (λ (n : ℕ). set (to_bits p high ++ old ∷ to_bits s o) n b) (sym (length-to_bits p high)) ∙ set-append_seam (to_bits p high) old (to_bits s o) b)
+
+-- the bits of octets, of which one has another bit
+pub unpack-set : (os : List ℕ) (i v : ℕ) (b : Bool) → i < 8 * length os → to_bits 8 v ≡ set (to_bits 8 (get_or os (i / 8) 0)) (i % 8) b → unpack (set os (i / 8) v) ≡ set (unpack os) i b
+unpack-set [] i v b h e = absurd (omega arith)
+unpack-set (o ∷ os) i v b h e = elim (cases_lt i 8) [
+  | inl l ↦ in_first (let z : i / 8 ≡ 0 = omega arith in z) (let z : i % 8 ≡ i = omega arith in z) l
+  | inr l ↦ in_later (unpack-set os (i - 8) v b) (let z : i / 8 ≡ suc ((i - 8) / 8) = omega arith in z) (let z : i % 8 ≡ (i - 8) % 8 = omega arith in z) l
+]
+  where
+    in_first : i / 8 ≡ 0 → i % 8 ≡ i → i < 8 → unpack (set (o ∷ os) (i / 8) v) ≡ set (unpack (o ∷ os)) i b
+    in_first z r l = ap (λ (n : ℕ). unpack (set (o ∷ os) n v)) z
+        ∙ ap (λ bs. bs ++ unpack os) (e ∙ ap₂ (λ (n m : ℕ). set (to_bits 8 (get_or (o ∷ os) n 0)) m b) z r)
+        ∙ sym (set-append_left (to_bits 8 o) (unpack os) i b (subst (λ (n : ℕ). i < n) (sym (length-to_bits 8 o)) l))
+
+    in_later : (i - 8 < 8 * length os → to_bits 8 v ≡ set (to_bits 8 (get_or os ((i - 8) / 8) 0)) ((i - 8) % 8) b → unpack (set os ((i - 8) / 8) v) ≡ set (unpack os) (i - 8) b)
+        → i / 8 ≡ suc ((i - 8) / 8) → i % 8 ≡ (i - 8) % 8 → 8 ≤ i → unpack (set (o ∷ os) (i / 8) v) ≡ set (unpack (o ∷ os)) i b
+    in_later further z r l = ap (λ (n : ℕ). unpack (set (o ∷ os) n v)) z
+        ∙ ap (λ bs. to_bits 8 o ++ bs) (further (omega arith) (e ∙ ap₂ (λ (n m : ℕ). set (to_bits 8 (get_or (o ∷ os) n 0)) m b) z r))
+        ∙ sym (set-append_right (to_bits 8 o) (unpack os) 8 i b (length-to_bits 8 o) l)
+
+-- the same of octets with spare bits
+pub filled_set : (spare : ℕ) (os : List ℕ) (i v : ℕ) (b : Bool) → ArePadded spare os → i < length (filled spare os) → to_bits 8 v ≡ set (to_bits 8 (get_or os (i / 8) 0)) (i % 8) b
+    → AreFilledBy (set (filled spare os) i b) spare (set os (i / 8) v)
+filled_set spare os i v b h l e = record {
+  few = h.few;
+  zeros = unpack-set os i v b (omega (arith, filled_length spare os)) e ∙ ap (λ bs. set bs i b) h.zeros ∙ set-append_left (filled spare os) (replicate spare false) i b l;
+}
