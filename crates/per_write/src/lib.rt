@@ -11,6 +11,7 @@ ghost use Rattle.per_core.specs.Canon.{completed};
 ghost use Rattle.per_write.specs.State.{fresh, view, Puts};
 ghost use Rattle.per_write.specs.Faults.{IsError, IsMemory, IsAlready, RefusesOutput};
 
+mod choices;
 mod enumerated;
 pub mod error;
 mod integers;
@@ -46,8 +47,7 @@ impl<A: Allocator + Clone> Model for Writer<A> {
 
     ghost Value = { State };
 
-    ghost view = {
-        λ a. record { bits = a.bits; failed = a.failed; codec = a.codec; presences = a.presences } };
+    ghost view = { λ a. record { bits = a.bits; failed = a.failed; codec = a.codec; presences = a.presences } };
 }
 
 impl<A: Allocator + Clone> Writer<A> {

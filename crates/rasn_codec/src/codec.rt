@@ -13,9 +13,12 @@ ghost use Rattle.rasn_schema.specs.Records.{record_at, no_additions, record_valu
 ghost use Rattle.rasn_codec.specs.Optionals.{EncodesDefault, EncodesNone, EncodesSome, GivesBit, ReadsBit, ReadsComponent, ReadsDefault};
 ghost use Rattle.rasn_codec.specs.Presences.{slot_of};
 ghost use Rattle.rasn_codec.specs.Calls.{EncoderRules, freely, Writes, Encodes, PresentsWell, DecoderRules, freely_read, Reads, DecodesWell};
+ghost use Rattle.rasn_schema.specs.Fields.{tag_of};
+ghost use Rattle.rasn_codec.specs.Choices.{ClosesChoice, OpensChoice, WritesChoice};
 ghost use Rattle.rasn_codec.specs.Scopes.{OpensToWrite, ClosesWritten, WritesAround, OpensToRead, ClosesRead, ReadsAround, ScopesWell};
 
 use crate::parts::{DecodeParts, EncodeParts};
+use rasn_schema::choices::Choice;
 use rasn_schema::enumerated::Enumerated;
 use rasn_schema::fields::Constructed;
 use rasn_schema::schema::{AsnType, Constraints, IntegerType};
@@ -42,6 +45,9 @@ pub trait Encoder: Sized {
 
     // A scope is opened to write a schema: what was before, what waits outside, and how it is inside.
     ghost opens: { Schema → Self → Self.Scope → Self → Type 0 };
+
+    // A choice is opened to write a schema: what was before, what waits outside, and how it is inside.
+    ghost opens_choice: { Schema → Self → Self.Scope → Self → Type 0 };
 
     /// The variant in use.
     fn codec(&self) -> Codec
@@ -174,6 +180,24 @@ pub trait Encoder: Sized {
     /// Closes a SEQUENCE in which its components were written.
     fn close_sequence<C: Constructed>(&mut self, scope: Self::Scope) -> Result<(), Self::Error>
         ensures { ClosesWritten rules opens C.parts scope self.old result self.new };
+
+    /// Opens a CHOICE (X.691 23): the calls from here to `close_choice` write the value of its alternative.
+    fn open_choice<C: Choice>(
+        &mut self,
+        tag: Tag,
+        identifier: Identifier,
+    ) -> Result<Self::Scope, Self::Error>
+        ensures { OpensChoice rules opens_choice C.alternatives self.old result self.new };
+
+    /// Closes a CHOICE in which the value of an alternative was written, by the tag that this goes by. A tag by which
+    /// none goes is refused.
+    fn close_choice<C: Choice>(
+        &mut self,
+        scope: Self::Scope,
+        chosen: Tag,
+    ) -> Result<(), Self::Error>
+        ensures { ClosesChoice rules opens_choice C.alternatives C.VARIANTS scope (tag_of chosen)
+            self.old result self.new };
 
     /// Gives the presence bit of the next component of the open SEQUENCE that has one (X.691 19.2). Takes no memory.
     fn set_presence(&mut self, is_there: bool) -> Result<(), Self::Error>
@@ -313,6 +337,33 @@ pub trait Encoder: Sized {
             return Err(error);
         }
         self.close_sequence::<C>(outside)
+    }
+
+    /// Writes a CHOICE (X.691 23). `scope` writes the value of an alternative, and answers the tag that this goes by: its
+    /// own, or the smallest of a nested untagged choice.
+    final fn encode_choice<
+        C: Choice,
+        F: FnOnce(&mut Self) -> Result<Tag, Self::Error>,
+        I: Into<Identifier>,
+    >(
+        &mut self,
+        _constraints: &Constraints,
+        tag: Tag,
+        scope: F,
+        identifier: I,
+    ) -> Result<(), Self::Error>
+        requires { F.IsAlwaysCallable scope }
+        ensures { WritesChoice rules C.alternatives C.VARIANTS (FnOnceReturnsAtMut F.FnOnce scope)
+            self.old result self.new }
+    {
+        let outside = self.open_choice::<C>(tag, identifier.into())?;
+        match scope(self) {
+            Ok(chosen) => self.close_choice::<C>(outside, chosen),
+            Err(error) => {
+                self.fail();
+                Err(error)
+            }
+        }
     }
 
     /// Writes a SEQUENCE (X.691 19) by the list of its components, which stand in the order of `FIELDS`.

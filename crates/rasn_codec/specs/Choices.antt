@@ -1,0 +1,55 @@
+-- What a call owes that writes or reads a choice (X.680 29), and what stands in it, stated over any codec's relations.
+use Rattle.std.specs.Prelude.{◌≡◌, ℕ, suc, ◌≤◌, ◌⊎◌, true, Result, Ok, Err, OnOk, OnErr, IsErrAnd, IsSome, List, Option, Some}
+use Rattle.rasn_types.specs.Values.{Value, alternative, root}
+use Rattle.rasn_types.specs.declared.types.Tag.{Tag}
+use Rattle.rasn_schema.specs.Schemas
+use Rattle.rasn_schema.specs.Schemas.{Schema, Parts}
+use Rattle.rasn_schema.specs.Choices.{alternative_at, choice_at, choice_of, place_of}
+use Rattle.rasn_schema.specs.Fields.{tag_of}
+use Rattle.rasn_schema.specs.Normal.{normal}
+use Rattle.rasn_codec.specs.Calls.{AtDepths, Behaves, EncoderRules, Written}
+use Rattle.rasn_codec.specs.Scopes.{KeepsCodec}
+
+-- a fact on the schema of the alternative at a place, at each unfolding that is deep enough for a value of so many levels
+pub record AtAlternative (alternatives : ℕ → Parts) (k depth : ℕ) (P : Schema → Type 0) : Type 0 where
+  pub at : (n : ℕ) → depth ≤ n → (s : Schema) × (alternative_at (alternatives n) k ≡ Some s) × P s
+
+-- What passes out of a choice that was opened at x, and inside which it is i: want of memory, and the refusal of an alternative, which is one of the choice.
+pub record PassesChoice {E X : Type 0} (rules : EncoderRules E X) (ps : Parts) (x i : X) : Type 0 where
+  pub room : (e : E) → rules.memory e i → rules.memory e x
+  pub of_choice : (e : E) (k : ℕ) (s : Schema) (v : Value) → alternative_at ps k ≡ Some s → rules.refuses e i s v → rules.refuses e x (choice_of ps) (alternative root k v)
+
+-- Ok is inside a choice, and Err, memory aside, refuses every choice of these alternatives.
+abbrev pub OpenedChoice : {E X O : Type 0} → EncoderRules E X → (Schema → X → O → X → Type 0) → (ℕ → Parts) → X → Result O E → X → Type 0
+OpenedChoice rules opens alternatives x (Ok o) i = (n : ℕ) → opens (choice_of (alternatives n)) x o i × PassesChoice rules (alternatives n) x i
+OpenedChoice rules opens alternatives x (Err e) i = rules.memory e x ⊎ ((n : ℕ) (v : Value) → rules.refuses e x (choice_of (alternatives n)) v)
+
+-- A call that opens a choice to write: its index isn't known yet.
+pub record OpensChoice {E X O : Type 0} (rules : EncoderRules E X) (opens : Schema → X → O → X → Type 0) (alternatives : ℕ → Parts) (x : X) (result : Result O E) (y : X) : Type 0 where
+  pub law : OpenedChoice rules opens alternatives x result y
+  pub behaves : Behaves rules.already rules.failed rules.codec x result y
+
+-- A call that closes one, in which the alternative was presented that goes by a tag: it answers as one call that writes the whole choice. A tag by which none
+-- goes is refused.
+pub record ClosesChoice {E X O : Type 0} (rules : EncoderRules E X) (opens : Schema → X → O → X → Type 0) (alternatives : ℕ → Parts) (variants : List Schemas.Tag) (o : O) (t : Schemas.Tag) (j : X) (result : Result (Unit {0}) E) (y : X) : Type 0 where
+  pub law : (x i : X) (n k : ℕ) (s : Schema) (v : Value) → opens (choice_of (alternatives n)) x o i → place_of t variants ≡ Some k → alternative_at (alternatives n) k ≡ Some s
+      → rules.presents i s v j → Written rules (choice_of (alternatives n)) (alternative root k v) x result y
+  pub known : OnOk result (IsSome (place_of t variants))
+  pub behaves : Behaves rules.already rules.failed rules.codec j result y
+
+-- Ok answers the tag by which the alternative at a place goes, and presents its value; Err, memory aside, comes only where that is refused.
+abbrev pub AlternativeWritten : {E X : Type 0} → EncoderRules E X → List Schemas.Tag → ℕ → Schema → Value → X → Result Tag E → X → Type 0
+AlternativeWritten rules variants k s v x (Ok t) y = (place_of (tag_of t) variants ≡ Some k) × rules.presents x s v y
+AlternativeWritten rules variants k s v x (Err e) y = rules.memory e x ⊎ rules.refuses e x s v
+
+-- What a function owes that is lent an encoder to write the alternative at a place, a value of so many levels.
+pub record WritesAlternative {E X : Type 0} (rules : EncoderRules E X) (alternatives : ℕ → Parts) (variants : List Schemas.Tag) (k : ℕ) (v : Value) (depth : ℕ) (returns : X → Result Tag E → X → Type 0) : Type 0 where
+  pub keeps : (x : X) (r : Result Tag E) (y : X) → returns x r y → AtAlternative alternatives k depth (λ s. AlternativeWritten rules variants k s (normal s v) x r y)
+
+-- A call that writes a choice by a function that is lent the encoder.
+pub record WritesChoice {E X : Type 0} (rules : EncoderRules E X) (alternatives : ℕ → Parts) (variants : List Schemas.Tag) (returns : X → Result Tag E → X → Type 0) (x : X) (result : Result (Unit {0}) E) (y : X) : Type 0 where
+  pub law : (k : ℕ) (v : Value) (depth : ℕ) → WritesAlternative rules alternatives variants k v depth returns
+      → AtDepths (choice_at alternatives) (suc depth) (λ s. Written rules s (normal s (alternative root k v)) x result y)
+  pub again : rules.failed x ≡ true → IsErrAnd result (λ e. rules.already e x)
+  pub fails : OnErr result (rules.failed y ≡ true)
+  pub kept : KeepsCodec rules.codec returns → rules.codec y ≡ rules.codec x
