@@ -84,8 +84,6 @@ impl Components for VehicleState {
         Some (truth x.braking) ∷ [] };
 
     ghost described = { refl };
-
-    ghost all_required = { refl };
 }
 
 impl Record for VehicleState {

@@ -103,48 +103,48 @@ too_deep s e parts zero h i = inr (refuses Schemas.cut s ExceedsMaxParseDepth e 
 too_deep s e parts (suc n) h i = absurd (omega arith)
 
 -- a decoder around what it takes from
-abbrev pub around : Taking → Bool → ℕ → State
-around x f n = record { bits = x.bits; failed = f; levels = n; codec = x.codec }
+abbrev pub around : Taking → Bool → ℕ → Bits → State
+around x f n q = record { bits = x.bits; failed = f; levels = n; codec = x.codec; presences = q }
 
-went : {T : Type 0} (x y : Taking) (f : Bool) (n : ℕ) (t : State) → f ≡ false → y.codec ≡ x.codec → (taken : Result T DecodeErrorKind) (result : Result T DecodeError) → Answered taken (around y f n) result t
-    → Behaves (λ e s. e ≡ refusal AlreadyFailed s) (λ s. s.failed) (λ s. s.codec) (around x f n) result t
-went x y f n t live e (Ok v) result a = record { again = λ h. absurd cc; fails = subst (λ r. OnErr r (t.failed ≡ true)) (sym a.0) tt; kept = ap (λ s. s.codec) a.1 ∙ e }
-went x y f n t live e (Err k) result a = record { again = λ h. absurd cc; fails = subst (λ r. OnErr r (t.failed ≡ true)) (sym a.0) (ap (λ s. s.failed) a.1); kept = ap (λ s. s.codec) a.1 ∙ e }
+went : {T : Type 0} (x y : Taking) (f : Bool) (n : ℕ) (q : Bits) (t : State) → f ≡ false → y.codec ≡ x.codec → (taken : Result T DecodeErrorKind) (result : Result T DecodeError) → Answered taken (around y f n q) result t
+    → Behaves (λ e s. e ≡ refusal AlreadyFailed s) (λ s. s.failed) (λ s. s.codec) (around x f n q) result t
+went x y f n q t live e (Ok v) result a = record { again = λ h. absurd cc; fails = subst (λ r. OnErr r (t.failed ≡ true)) (sym a.0) tt; kept = ap (λ s. s.codec) a.1 ∙ e }
+went x y f n q t live e (Err k) result a = record { again = λ h. absurd cc; fails = subst (λ r. OnErr r (t.failed ≡ true)) (sym a.0) (ap (λ s. s.failed) a.1); kept = ap (λ s. s.codec) a.1 ∙ e }
 
 -- the law of such a call, where want of memory is told as it may be
-answered : {T : Type 0} (memory : DecodeError → State → Type 0) (c : Schema) (value : T → Value) (x y : Taking) (f : Bool) (n : ℕ) (t : State) → f ≡ false → y.codec ≡ x.codec
-    → (taken : Result T DecodeErrorKind) (result : Result T DecodeError) → Answered taken (around y f n) result t
-    → IfOk taken (λ v. Took (basic (settings x.codec) c (value v)) x.bits y.bits) → IfErr taken (λ k. memory (refusal k (around x f n)) (around x f n) ⊎ Refuses (Spells c) (Fault c) (refusal k (around x f n)) (around x f n))
-    → Answers memory (Fault c) (Spells c) value (around x f n) result t
-answered memory c value x y f n t live e (Ok v) result a ok err =
-    subst (λ r. Answers memory (Fault c) (Spells c) value (around x f n) r t) (sym a.0)
-    (subst (λ s. Spells c (around x f n) (value v) s) (sym a.1) (record { live = live; took = ok; same = ap (λ k. record { bits = y.bits; failed = f; levels = n; codec = k }) e }))
-answered memory c value x y f n t live e (Err k) result a ok err =
-    subst (λ r. Answers memory (Fault c) (Spells c) value (around x f n) r t) (sym a.0)
-    (subst (λ z. memory z (around x f n) ⊎ Refuses (Spells c) (Fault c) z (around x f n)) (sym (ap (λ z. record { kind = k; codec = z }) e)) err)
+answered : {T : Type 0} (memory : DecodeError → State → Type 0) (c : Schema) (value : T → Value) (x y : Taking) (f : Bool) (n : ℕ) (q : Bits) (t : State) → f ≡ false → y.codec ≡ x.codec
+    → (taken : Result T DecodeErrorKind) (result : Result T DecodeError) → Answered taken (around y f n q) result t
+    → IfOk taken (λ v. Took (basic (settings x.codec) c (value v)) x.bits y.bits) → IfErr taken (λ k. memory (refusal k (around x f n q)) (around x f n q) ⊎ Refuses (Spells c) (Fault c) (refusal k (around x f n q)) (around x f n q))
+    → Answers memory (Fault c) (Spells c) value (around x f n q) result t
+answered memory c value x y f n q t live e (Ok v) result a ok err =
+    subst (λ r. Answers memory (Fault c) (Spells c) value (around x f n q) r t) (sym a.0)
+    (subst (λ s. Spells c (around x f n q) (value v) s) (sym a.1) (record { live = live; took = ok; same = ap (λ k. record { bits = y.bits; failed = f; levels = n; codec = k; presences = q }) e }))
+answered memory c value x y f n q t live e (Err k) result a ok err =
+    subst (λ r. Answers memory (Fault c) (Spells c) value (around x f n q) r t) (sym a.0)
+    (subst (λ z. memory z (around x f n q) ⊎ Refuses (Spells c) (Fault c) z (around x f n q)) (sym (ap (λ z. record { kind = k; codec = z }) e)) err)
 
 -- A call that takes what a form spells, and its answer: where the form is that of a schema, and each kind says something of it, the call
 -- reads the schema.
-pub reads : {T X : Type 0} {why : Reason} {form : Settings → X → Spelling} {of : (X → Type 0) → T → Type 0} {x y : Taking} {f : Bool} {n : ℕ} {t : State} {taken : Result T DecodeErrorKind} {result : Result T DecodeError}
+pub reads : {T X : Type 0} {why : Reason} {form : Settings → X → Spelling} {of : (X → Type 0) → T → Type 0} {x y : Taking} {f : Bool} {n : ℕ} {q : Bits} {t : State} {taken : Result T DecodeErrorKind} {result : Result T DecodeError}
     (c : Schema) (value : T → Value) → f ≡ false → ((v : T) → of (λ w. Took (form (settings x.codec) w) x.bits y.bits) v → Took (basic (settings x.codec) c (value v)) x.bits y.bits)
-    → Takes why form of x taken y → Answered taken (around y f n) result t
+    → Takes why form of x taken y → Answered taken (around y f n q) result t
     → ((k : DecodeErrorKind) → why (settings x.codec) x.bits (NoneIn (form (settings x.codec)) x.bits) k → Faulty (IsAt (settings x.codec) c x.bits) (NoneIn (basic (settings x.codec) c) x.bits) k)
-    → Reads decoder_rules c value (around x f n) result t
-reads {x = x} {y} {f} {n} {t} {taken} {result} c value live ok h a err = record {
-  law = answered (λ e s. e ≡ refusal OutOfMemory s) c value x y f n t live h.kept taken result a (IfOk-weaker taken _ _ ok h.ok) (IfErr-weaker taken _ _ (λ k i. faulty c (around x f n) k (refusal k (around x f n)) refl (err k i)) h.err);
-  behaves = went x y f n t live h.kept taken result a;
+    → Reads decoder_rules c value (around x f n q) result t
+reads {x = x} {y} {f} {n} {q} {t} {taken} {result} c value live ok h a err = record {
+  law = answered (λ e s. e ≡ refusal OutOfMemory s) c value x y f n q t live h.kept taken result a (IfOk-weaker taken _ _ ok h.ok) (IfErr-weaker taken _ _ (λ k i. faulty c (around x f n q) k (refusal k (around x f n q)) refl (err k i)) h.err);
+  behaves = went x y f n q t live h.kept taken result a;
 }
 
 -- the same of a call that takes no memory
-pub reads_freely : {T X : Type 0} {why : Reason} {form : Settings → X → Spelling} {of : (X → Type 0) → T → Type 0} {x y : Taking} {f : Bool} {n : ℕ} {t : State} {taken : Result T DecodeErrorKind} {result : Result T DecodeError}
+pub reads_freely : {T X : Type 0} {why : Reason} {form : Settings → X → Spelling} {of : (X → Type 0) → T → Type 0} {x y : Taking} {f : Bool} {n : ℕ} {q : Bits} {t : State} {taken : Result T DecodeErrorKind} {result : Result T DecodeError}
     (c : Schema) (value : T → Value) → f ≡ false → ((v : T) → of (λ w. Took (form (settings x.codec) w) x.bits y.bits) v → Took (basic (settings x.codec) c (value v)) x.bits y.bits)
-    → Takes why form of x taken y → Answered taken (around y f n) result t
+    → Takes why form of x taken y → Answered taken (around y f n q) result t
     → ((k : DecodeErrorKind) → why (settings x.codec) x.bits (NoneIn (form (settings x.codec)) x.bits) k → IsAt (settings x.codec) c x.bits k × NoneIn (basic (settings x.codec) c) x.bits)
-    → Reads (freely_read decoder_rules) c value (around x f n) result t
-reads_freely {x = x} {y} {f} {n} {t} {taken} {result} c value live ok h a err = record {
-  law = answered takes_none c value x y f n t live h.kept taken result a (IfOk-weaker taken _ _ ok h.ok)
-      (IfErr-weaker taken _ _ (λ k i. let q = err k i in inr (refuses c (around x f n) k (refusal k (around x f n)) refl q.0 q.1)) h.err);
-  behaves = went x y f n t live h.kept taken result a;
+    → Reads (freely_read decoder_rules) c value (around x f n q) result t
+reads_freely {x = x} {y} {f} {n} {q} {t} {taken} {result} c value live ok h a err = record {
+  law = answered takes_none c value x y f n q t live h.kept taken result a (IfOk-weaker taken _ _ ok h.ok)
+      (IfErr-weaker taken _ _ (λ k i. let r = err k i in inr (refuses c (around x f n q) k (refusal k (around x f n q)) refl r.0 r.1)) h.err);
+  behaves = went x y f n q t live h.kept taken result a;
 }
 
 -- an answer that is made of another, and an error that is handed on

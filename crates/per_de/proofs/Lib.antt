@@ -1,3 +1,4 @@
 pub mod Calls
 pub mod Enumerations
+pub mod Opening
 pub mod StringCalls

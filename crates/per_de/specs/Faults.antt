@@ -1,11 +1,11 @@
 -- The fault that a refusal names, where it stands.
-use Rattle.std.specs.Prelude.{◌≡◌, true, Result, Ok, Err}
+use Rattle.std.specs.Prelude.{◌≡◌, ◌⊎◌, Bool, true, List, [], ◌∷◌, Option, Result, Ok, Err}
 use Rattle.rasn_types.specs.Bits.{Bits}
 use Rattle.rasn_types.specs.Values.{Value}
-use Rattle.rasn_schema.specs.Schemas.{TagTree, required, Schema, Parts, part}
+use Rattle.rasn_schema.specs.Schemas.{TagTree, Presence, Schema, Parts, part}
 use Rattle.rasn_codec.specs.Scopes.{record_of}
 use Rattle.per_core.specs.Spellings.{Settings}
-use Rattle.per_core.specs.Basic.{basic}
+use Rattle.per_core.specs.Basic.{basic, rules, Body, Flags}
 use Rattle.per_core.specs.Took.{Took}
 use Rattle.per_read.specs.Enumerations.{IsOfItem}
 use Rattle.per_read.specs.Kinds.{IsShort, IsTested}
@@ -15,7 +15,7 @@ use Rattle.per_read.specs.Strings.{IsOfString, IsOfText}
 use Rattle.per_core.specs.declared.items.Item.TheVariants.{Octet, Bit}
 use Rattle.per_read.specs.declared.error.DecodeError.{DecodeError}
 use Rattle.per_read.specs.declared.error.DecodeErrorKind.{DecodeErrorKind}
-use Rattle.per_read.specs.declared.error.DecodeErrorKind.TheVariants.{ExceedsMaxParseDepth, AlreadyFailed}
+use Rattle.per_read.specs.declared.error.DecodeErrorKind.TheVariants.{ExceedsMaxParseDepth, AlreadyFailed, MissingTag}
 use Rattle.per_de.specs.State.{State, settings_of}
 
 -- what a kind says where no level is left
@@ -40,12 +40,13 @@ mutual
   -- The fault that a kind names stands in bits, as a schema reads them: at once, or in a component of a record.
   pub data IsInBits (a : Settings) (k : DecodeErrorKind) : Schema → Bits → Type 0 where
     at_once : {c : Schema} {s : Bits} → IsAt a c s k → IsInBits a k c s
-    inside : {ps : Parts} {s : Bits} → IsInParts a k ps s → IsInBits a k (record_of ps) s
+    inside : {ps : Parts} {s m : Bits} (shown : List Bool) → Took (Flags (rules a ps) shown) s m → IsInParts a k ps shown m → IsInBits a k (record_of ps) s
 
-  -- It stands in a component, behind those before it.
-  pub data IsInParts (a : Settings) (k : DecodeErrorKind) : Parts → Bits → Type 0 where
-    here : {t : TagTree} {c : Schema} {ps : Parts} {s : Bits} → IsInBits a k c s → IsInParts a k (part t required c ps) s
-    later : {t : TagTree} {c : Schema} {ps : Parts} (v : Value) {s m : Bits} → Took (basic a c v) s m → IsInParts a k ps m → IsInParts a k (part t required c ps) s
+  -- It stands in a component that its presence bit shows, behind those before it.
+  pub data IsInParts (a : Settings) (k : DecodeErrorKind) : Parts → List Bool → Bits → Type 0 where
+    here : {t : TagTree} {p : Presence} {c : Schema} {ps : Parts} {s : Bits} {bs : List Bool} → IsInBits a k c s → IsInParts a k (part t p c ps) (true ∷ bs) s
+    later : {t : TagTree} {p : Presence} {c : Schema} {ps : Parts} {b : Bool} {bs : List Bool} (r : Option Value) {s m : Bits}
+        → Took (Body (record { presence = p; spells = basic a c }) b r) s m → IsInParts a k ps bs m → IsInParts a k (part t p c ps) (b ∷ bs) s
 
 -- What a kind says of the decoder.
 abbrev pub IsOf : DecodeErrorKind → Schema → State → Type 0
@@ -65,3 +66,7 @@ refusal k s = record { kind = k; codec = s.codec }
 abbrev pub Answered : {T : Type 0} → Result T DecodeErrorKind → State → Result T DecodeError → State → Type 0
 Answered (Ok v) s result t = (result ≡ Ok v) × (t ≡ s)
 Answered (Err k) s result t = (result ≡ Err (refusal k s)) × (t ≡ record s { failed = true })
+
+-- an error by which a presence bit is refused: none is left, or the decoder had failed
+abbrev pub IsUnmarked : DecodeError → State → Type 0
+IsUnmarked e s = ((e ≡ refusal MissingTag s) × (s.presences ≡ [])) ⊎ ((e ≡ refusal AlreadyFailed s) × (s.failed ≡ true))

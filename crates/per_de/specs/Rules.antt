@@ -3,14 +3,16 @@ use Rattle.std.specs.Prelude.{◌≡◌}
 use Rattle.rasn_codec.specs.Calls.{DecoderRules}
 use Rattle.per_read.specs.declared.error.DecodeError.{DecodeError}
 use Rattle.per_read.specs.declared.error.DecodeErrorKind.TheVariants.{OutOfMemory, AlreadyFailed}
-use Rattle.per_de.specs.State.{State, Spells}
-use Rattle.per_de.specs.Faults.{Fault, refusal}
+use Rattle.per_de.specs.State.{State, Marks, Spells}
+use Rattle.per_de.specs.Faults.{Fault, IsUnmarked, refusal}
 
 abbrev pub decoder_rules : DecoderRules DecodeError State
 decoder_rules = record {
   levels = λ s. s.levels;
   spells = Spells;
+  marks = Marks;
   fault = Fault;
+  unmarked = IsUnmarked;
   memory = λ e s. e ≡ refusal OutOfMemory s;
   already = λ e s. e ≡ refusal AlreadyFailed s;
   failed = λ s. s.failed;

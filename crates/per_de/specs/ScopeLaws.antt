@@ -1,199 +1,396 @@
--- The laws of the decoder's scopes: a record of required components is its components, one after another (X.691 19).
-use Rattle.std.proofs.Common.{◌≡◌, ◌∙◌, refl, sym, ap, subst, ℕ, Bool, true, false, List, [], ◌∷◌, Option, Some}
+-- The laws of the decoder's scopes: a record is its presence bits, and its components one after another (X.691 19).
+use Rattle.std.proofs.Common.{◌≡◌, ◌∙◌, refl, sym, ap, subst, inl, inr, ℕ, suc, ◌+◌, Bool, true, false, List, [], ◌∷◌, ◌++◌, length, Option, Some, None, arith, append_assoc, length-append}
 use Rattle.rasn_types.specs.Bits.{Bits}
 use Rattle.rasn_types.specs.Values.{Value, fields, as_slots}
-use Rattle.rasn_schema.specs.Lawful.{are_required}
-use Rattle.rasn_schema.specs.Schemas.{TagTree, Presence, required, Schema, Parts, no_parts, part}
+use Rattle.rasn_schema.specs.Lawful.{has_bit, presence_bits}
+use Rattle.rasn_schema.specs.Schemas.{TagTree, Presence, required, optional, group, default, Schema, Parts, no_parts, part}
 use Rattle.rasn_schema.specs.Records.{record_value}
-use Rattle.rasn_codec.specs.Scopes.{record_of, ReadsPart, reads_required, ReadsParts, reads_end, reads_next, FaultyParts, faulty_required, faulty_here, faulty_behind, ScopesWell}
-use Rattle.per_core.specs.Spellings.{Settings, exactly}
-use Rattle.per_core.specs.Basic.{basic, basic_in, rules, rules_in, Flags, Bodies, Root, Fields_in}
+use Rattle.rasn_codec.specs.Presences.{left_out}
+use Rattle.rasn_codec.specs.Scopes.{record_of, ReadsPart, reads_required, reads_there, reads_left_out, ReadsParts, reads_end, reads_next, FaultyParts, faulty_required, faulty_there, faulty_bit, faulty_here, faulty_behind, ScopesWell}
+use Rattle.per_core.specs.Spellings.{Settings, Spelling, When, exactly}
+use Rattle.per_core.specs.Basic.{basic, basic_in, rules, rules_in, Body, Flags, FlagOf, Bodies, Holds, IsLeftOut, Root, Fields_in}
 use Rattle.per_core.specs.Took.{place, Took}
-use Rattle.per_core.proofs.Took.{took_then, then_took, took_map, took_nothing, nothing_took}
+use Rattle.per_core.proofs.Took.{took_then, then_took, took_map, took_nothing, nothing_took, took_bit}
 use Rattle.per_read.specs.declared.error.DecodeError.{DecodeError}
 use Rattle.per_read.specs.declared.error.DecodeErrorKind.{DecodeErrorKind}
 use Rattle.per_read.specs.declared.error.DecodeErrorKind.TheVariants.{AlreadyFailed, OutOfMemory}
-use Rattle.per_de.specs.State.{State, Spells, settings_of, with_bits}
-use Rattle.per_de.specs.Faults.{Fault, IsOf, IsInParts, here, later, inside, refusal}
+use Rattle.per_de.specs.State.{State, Marks, Spells, settings_of, with_bits}
+use Rattle.per_de.specs.Faults.{Fault, IsOf, IsInBits, IsInParts, here, later, inside, IsUnmarked, refusal}
 use Rattle.per_de.specs.Rules.{decoder_rules}
-use Rattle.per_de.specs.Scopes.{at_level, Opens, Closes}
+use Rattle.per_de.specs.Scopes.{with_scope, Opens, Closes, Unended}
 use Rattle.per_de.specs.declared.Scope.{Scope}
 
--- each component is shown
-all_shown : Parts → List Bool
-all_shown no_parts = []
-all_shown (part t p s ps) = true ∷ all_shown ps
+-- the same decoder with other bits left and other presence bits still to be read
+abbrev with_rest : State → Bits → Bits → State
+with_rest s b q = record s { bits = b; presences = q }
 
--- required components have no presence bits
-no_flags : (a : Settings) (ps : Parts) → are_required ps ≡ true → (s : Bits) → Took (Flags (rules a ps) (all_shown ps)) s s
-unfolding rules_in all_shown
-no_flags a no_parts h s = took_nothing s
-no_flags a (part t required c ps) h s = took_then (took_map (λ p b e. (refl, e)) (took_nothing s)) (no_flags a ps h s)
-no_flags a (part t p c ps) h s = absurd (cc)
+-- a component, as its presence bit says
+abbrev PartBody : Settings → Presence → Schema → Bool → Option Value → Spelling
+PartBody a p c b r = Body (record { presence = p; spells = basic a c }) b r
 
-flags_none : (a : Settings) (ps : Parts) → are_required ps ≡ true → (shown : List Bool) (s t : Bits) → Took (Flags (rules a ps) shown) s t → (shown ≡ all_shown ps) × (s ≡ t)
-unfolding rules_in all_shown
-flags_none a no_parts h [] s t b = (refl, nothing_took b)
-flags_none a no_parts h (x ∷ xs) s t b = absurd b.spelled
-flags_none a (part k required c ps) h [] s t b = absurd b.spelled
-flags_none a (part k required c ps) h (x ∷ xs) s t b =
-    let q = then_took b in
-    let e : x ≡ true = q.1.spelled.0 in
-    let m : s ≡ q.0 = nothing_took (took_map (λ p c y. y.1) q.1) in
-    let r = flags_none a ps h xs q.0 t q.2 in
-    (ap (λ z. z ∷ xs) e ∙ ap (λ z. true ∷ z) r.0, m ∙ r.1)
-flags_none a (part k p c ps) h shown s t b = absurd (cc)
+-- a presence bit, of a component that has one
+took_flag : (p : Presence) {d : Option Value} → left_out p ≡ Some d → (b : Bool) (t : Bits) → Took (FlagOf p b) (b ∷ t) t
+took_flag required e b t = absurd cc
+took_flag optional e b t = took_bit b t
+took_flag group e b t = took_bit b t
+took_flag (default v) e b t = took_bit b t
 
--- a component, and those behind it
-end_of : {i j : State} {rs : List (Option Value)} → ReadsParts Spells no_parts i rs j → (rs ≡ []) × (i ≡ j)
-end_of reads_end = (refl, refl)
+exact_took : {b : Bool} {s t : Bits} → Took (exactly (b ∷ [])) s t → s ≡ b ∷ t
+exact_took {b} {s} {t} h = h.joins ∙ ap (λ z. z ++ t) h.spelled
 
-required_of : {c : Schema} {i j : State} {x : Option Value} → ReadsPart Spells required c i x j → (v : Value) × (x ≡ Some v) × Spells c i v j
-required_of (reads_required {v = v} h) = (v, refl, h)
+flag_took : (p : Presence) {d : Option Value} → left_out p ≡ Some d → {b : Bool} {s t : Bits} → Took (FlagOf p b) s t → s ≡ b ∷ t
+flag_took required e h = absurd cc
+flag_took optional e h = exact_took h
+flag_took group e h = exact_took h
+flag_took (default v) e h = exact_took h
 
-next_of : {k : TagTree} {p : Presence} {c : Schema} {ps : Parts} {i j : State} {rs : List (Option Value)} → ReadsParts Spells (part k p c ps) i rs j
-    → (y : Option Value) × (ys : List (Option Value)) × (m : State) × (rs ≡ y ∷ ys) × ReadsPart Spells p c i y m × ReadsParts Spells ps m ys j
-next_of (reads_next {m = m} {r = y} {rs = ys} a b) = (y, ys, m, refl, a, b)
+-- what stands for a component that is left out
+is_left_out : (p : Presence) {d : Option Value} → left_out p ≡ Some d → IsLeftOut p d
+is_left_out required e = absurd cc
+is_left_out optional {d = d} e = let i : d ≡ None = cc in i
+is_left_out group {d = d} e = let i : d ≡ None = cc in i
+is_left_out (default v) {d = d} e = let i : d ≡ Some v = cc in i
 
--- components one after another change the bits alone
-parts_same : (ps : Parts) → are_required ps ≡ true → (i j : State) (rs : List (Option Value)) → ReadsParts Spells ps i rs j → j ≡ with_bits i j.bits
-parts_same no_parts h i j rs b = let e = (end_of b).1 in sym e ∙ ap (λ z. with_bits i z.bits) e
-parts_same (part k required c ps) h i j rs b =
-    let q = next_of b in
-    let r = required_of q.4 in
-    parts_same ps h q.2 j q.1 q.5 ∙ ap (λ z. with_bits z j.bits) r.2.same
-parts_same (part k p c ps) h i j rs b = absurd (cc)
+left_out_is : (p : Presence) (r : Option Value) → IsLeftOut p r → left_out p ≡ Some r
+left_out_is required r h = absurd h
+left_out_is optional r h = ap Some (sym h)
+left_out_is group r h = ap Some (sym h)
+left_out_is (default v) r h = ap Some (sym h)
 
--- components one after another, as the calls read them, are those that the record spells
-bodies_read : (a : Settings) (ps : Parts) → are_required ps ≡ true → (i j : State) (rs : List (Option Value)) → settings_of i ≡ a → ReadsParts Spells ps i rs j
-    → Took (Bodies (rules a ps) (all_shown ps) rs) i.bits j.bits
-unfolding rules_in all_shown
-bodies_read a no_parts h i j rs e b =
-    let q = end_of b in
-    subst (λ z. Took (Bodies [] [] z) i.bits j.bits) (sym q.0) (subst (λ z. Took (exactly []) i.bits z) (ap (λ z. z.bits) q.1) (took_nothing i.bits))
-bodies_read a (part k required c ps) h i j rs e b =
-    let q = next_of b in
-    let r = required_of q.4 in
-    let f : settings_of q.2 ≡ a = ap settings_of r.2.same ∙ e in
-    let w = subst (λ z. Took (basic z c r.0) i.bits q.2.bits) e r.2.took in
-    let all : rs ≡ Some r.0 ∷ q.1 = q.3 ∙ ap (λ z. z ∷ q.1) r.1 in
-    subst (λ z. Took (Bodies (rules a (part k required c ps)) (true ∷ all_shown ps) z) i.bits j.bits) (sym all)
-    (took_then (took_map (λ p x y. record { held = r.0; is = refl; spelled = y }) w) (bodies_read a ps h q.2 j q.1 f q.5))
-bodies_read a (part k p c ps) h i j rs e b = absurd (cc)
+-- a component without a presence bit is required
+one_bit : (p : Presence) {d : Option Value} → left_out p ≡ Some d → has_bit p ≡ 1
+one_bit required e = absurd cc
+one_bit optional e = refl
+one_bit group e = refl
+one_bit (default v) e = refl
 
-bodies_back : (a : Settings) (ps : Parts) → are_required ps ≡ true → (i : State) (rs : List (Option Value)) (t : Bits) → settings_of i ≡ a → i.failed ≡ false
-    → Took (Bodies (rules a ps) (all_shown ps) rs) i.bits t → ReadsParts Spells ps i rs (with_bits i t)
-unfolding rules_in all_shown
-bodies_back a no_parts h i [] t e f b = subst (λ z. ReadsParts Spells no_parts i [] (with_bits i z)) (nothing_took b) reads_end
-bodies_back a no_parts h i (x ∷ rs) t e f b = absurd b.spelled
-bodies_back a (part k required c ps) h i [] t e f b = absurd b.spelled
-bodies_back a (part k required c ps) h i (x ∷ rs) t e f b =
-    let q = then_took b in
-    let y = q.1.spelled in
-    let w : Took (basic a c y.held) i.bits q.0 = record { front = q.1.front; joins = q.1.joins; spelled = y.spelled } in
-    let v : Spells c i y.held (with_bits i q.0) = record { live = f; took = subst (λ z. Took (basic z c y.held) i.bits q.0) (sym e) w; same = refl } in
-    subst (λ z. ReadsParts Spells (part k required c ps) i (z ∷ rs) (with_bits i t)) (sym y.is) (reads_next (reads_required v) (bodies_back a ps h (with_bits i q.0) rs t e f q.2))
-bodies_back a (part k p c ps) h i rs t e f b = absurd (cc)
+-- What the calls read of one component: its presence bit, where it has one, off those that are still to be read, and its value.
+record Step (a : Settings) (p : Presence) (c : Schema) (r : Option Value) (i j : State) : Type 0 where
+  shown : Bool
+  flag : (z : Bits) → Took (FlagOf p shown) (i.presences ++ z) (j.presences ++ z)
+  count : length i.presences ≡ has_bit p + length j.presences
+  body : Took (PartBody a p c shown r) i.bits j.bits
+  same : j ≡ with_rest i j.bits j.presences
+  live : i.failed ≡ false
 
--- a record as its components
-record_took : (a : Settings) (ps : Parts) → are_required ps ≡ true → (rs : List (Option Value)) (s t : Bits) → Took (Bodies (rules a ps) (all_shown ps) rs) s t
-    → Took (basic a (record_of ps) (record_value rs [])) s t
-unfolding basic_in rules_in
-record_took a ps h rs s t b =
-    let root : Took (Root (rules a ps) rs) s t = took_map (λ p c y. record { shown = all_shown ps; spelled = y }) (took_then (no_flags a ps h s) b) in
-    took_map (λ p c y. record { of = (rs, []); is = refl; spelled = y }) (took_then root (took_nothing t))
+marked_flag : (p : Presence) {d : Option Value} {b : Bool} {i j : State} → left_out p ≡ Some d → Marks i b j → (z : Bits) → Took (FlagOf p b) (i.presences ++ z) (j.presences ++ z)
+marked_flag p {b = b} {j = j} e m z = subst (λ q. Took (FlagOf p b) (q ++ z) (j.presences ++ z)) (sym m.first) (took_flag p e b (j.presences ++ z))
 
-took_record : (a : Settings) (ps : Parts) → are_required ps ≡ true → (v : Value) (s t : Bits) → Took (basic a (record_of ps) v) s t
-    → (rs : List (Option Value)) × (v ≡ record_value rs []) × Took (Bodies (rules a ps) (all_shown ps) rs) s t
-unfolding basic_in rules_in
-took_record a ps h v s t b = go b.spelled.of.0 b.spelled.of.1 b.spelled.is b.spelled.spelled
-  where
-    root_of : (rs : List (Option Value)) (t : Bits) → Took (Root (rules a ps) rs) s t → Took (Bodies (rules a ps) (all_shown ps) rs) s t
-    root_of rs t c =
-        let q = then_took (record { front = c.front; joins = c.joins; spelled = c.spelled.spelled }) in
-        let r = flags_none a ps h c.spelled.shown s q.0 q.1 in
-        subst (λ z. Took (Bodies (rules a ps) z rs) s t) r.0 (subst (λ z. Took (Bodies (rules a ps) c.spelled.shown rs) z t) (sym r.1) q.2)
-
-    go : (rs xs : List (Option Value)) → v ≡ fields (as_slots rs) (as_slots xs) → Fields_in a true false (rules a ps) [] rs xs (place s) b.front
-        → (rs : List (Option Value)) × (v ≡ record_value rs []) × Took (Bodies (rules a ps) (all_shown ps) rs) s t
-    go rs [] e y =
-        let q = then_took (record { front = b.front; joins = b.joins; spelled = y }) in
-        (rs, e, root_of rs t (subst (λ z. Took (Root (rules a ps) rs) s z) (nothing_took q.2) q.1))
-    go rs (x ∷ xs) e y = absurd y.is_rest
-
--- what a kind says of a decoder that reads components
-abbrev OfParts : DecodeErrorKind → Parts → State → Type 0
-OfParts AlreadyFailed ps s = s.failed ≡ true
-OfParts k ps s = IsInParts (settings_of s) k ps s.bits
-
-in_first : (k : DecodeErrorKind) (t : TagTree) (c : Schema) (ps : Parts) (s : State) → IsOf k c s → OfParts k (part t required c ps) s
-in_first AlreadyFailed t c ps s h = h
-in_first _ t c ps s h = here h
-
-further : (k : DecodeErrorKind) {t : TagTree} {c : Schema} {ps : Parts} {v : Value} {s m : State} → Spells c s v m → IsInParts (settings_of m) k ps m.bits → IsInParts (settings_of s) k (part t required c ps) s.bits
-further k {ps = ps} {v = v} {m = m} a h = later v a.took (subst (λ z. IsInParts z k ps m.bits) (ap settings_of a.same) h)
-
-in_later : (k : DecodeErrorKind) (t : TagTree) (ps : Parts) {c : Schema} {v : Value} {s m : State} → Spells c s v m → OfParts k ps m → OfParts k (part t required c ps) s
-in_later AlreadyFailed t ps a h = ap (λ z. z.failed) (sym a.same) ∙ h
-in_later _ t ps a h = further _ a h
-
-part_stands : (k : DecodeErrorKind) (e : DecodeError) → e.kind ≡ k → {ps : Parts} {i : State} → FaultyParts Fault Spells e ps i → OfParts k ps i
-part_stands k e q (faulty_here {k = t} {c = c} {ps = ps} {s = s} (faulty_required f)) = in_first k t c ps s (subst (λ z. IsOf z c s) q f.stands)
-part_stands k e q (faulty_behind {k = t} {ps = ps} (reads_required a) b) = in_later k t ps a (part_stands k e q b)
-
-part_codec : (e : DecodeError) {ps : Parts} {i : State} → FaultyParts Fault Spells e ps i → e.codec ≡ i.codec
-part_codec e (faulty_here (faulty_required f)) = f.codec
-part_codec e (faulty_behind (reads_required a) b) = part_codec e b ∙ ap (λ z. z.codec) a.same
-
--- the same decoder inside a record
-moved : {k : DecodeErrorKind} {ps : Parts} {i j : State} → i ≡ j → IsInParts (settings_of i) k ps i.bits → IsInParts (settings_of j) k ps j.bits
-moved {k} {ps} e h = subst (λ z. IsInParts (settings_of z) k ps z.bits) e h
-
-of_record : (k : DecodeErrorKind) (ps : Parts) (s : State) {i : State} {n : ℕ} → i ≡ at_level s n → OfParts k ps i → IsOf k (record_of ps) s
-of_record AlreadyFailed ps s e h = ap (λ z. z.failed) (sym e) ∙ h
-of_record _ ps s {i} {n} e h = inside (moved e h)
-
-fault_of_record : (ps : Parts) (s : State) (o : Scope) (i : State) (e : DecodeError) → Opens (record_of ps) s o i → FaultyParts Fault Spells e ps i → Fault (record_of ps) e s
-fault_of_record ps s o i e a f =
-    record { codec = part_codec e f ∙ ap (λ z. z.codec) a.enters.same; stands = of_record e.kind ps s a.enters.same (part_stands e.kind e refl f) }
-
-bare_read : (ps : Parts) (s i j t : State) (o : Scope) (rs : List (Option Value)) → Opens (record_of ps) s o i → ReadsParts Spells ps i rs j → Closes j o t
-    → Spells (record_of ps) s (record_value rs []) t
-bare_read ps s i j t o rs a b c =
-    let into : i ≡ at_level s i.levels = a.enters.same in
-    let inner = bodies_read (settings_of s) ps a.bare i j rs (ap settings_of into) b in
-    let e : i.bits ≡ s.bits = ap (λ z. z.bits) into in
-    let f : j.bits ≡ t.bits = sym (ap (λ z. z.bits) c.same) in
-    let w = subst (λ z. Took (Bodies (rules (settings_of s) ps) (all_shown ps) rs) z t.bits) e (subst (λ z. Took (Bodies (rules (settings_of s) ps) (all_shown ps) rs) i.bits z) f inner) in
+step : (a : Settings) {p : Presence} {c : Schema} {r : Option Value} {i j : State} → settings_of i ≡ a → ReadsPart decoder_rules p c i r j → Step a p c r i j
+step a {c = c} {i = i} {j = j} e (reads_required {v = v} h) =
+    let q : j.presences ≡ i.presences = ap (λ z. z.presences) h.same in
     record {
-      live = a.live;
-      took = record_took (settings_of s) ps a.bare rs s.bits t.bits w;
-      same = c.same ∙ ap (λ z. at_level z o.levels) (parts_same ps a.bare i j rs b ∙ ap (λ z. with_bits z j.bits) into)
-          ∙ ap (λ n. at_level (with_bits s j.bits) n) a.enters.outside ∙ ap (λ z. with_bits s z) f;
+      shown = true;
+      flag = λ z. subst (λ y. Took (FlagOf required true) (i.presences ++ z) (y ++ z)) (sym q) (took_map (λ p b x. (refl, x)) (took_nothing (i.presences ++ z)));
+      count = ap length (sym q) ∙ omega arith;
+      body = took_map (λ p x y. record { held = v; is = refl; spelled = y }) (subst (λ z. Took (basic z c v) i.bits j.bits) e h.took);
+      same = h.same ∙ ap (λ y. with_rest i j.bits y) (sym q);
+      live = h.live;
+    }
+step a {p} {c = c} {i = i} {j = j} e (reads_there {m = m} {v = v} o k h) =
+    let q : j.presences ≡ m.presences = ap (λ z. z.presences) h.same in
+    let f : settings_of m ≡ a = ap settings_of k.same ∙ e in
+    let s : m.bits ≡ i.bits = ap (λ z. z.bits) k.same in
+    record {
+      shown = true;
+      flag = λ z. subst (λ y. Took (FlagOf p true) (i.presences ++ z) (y ++ z)) (sym q) (marked_flag p o k z);
+      count = ap length k.first ∙ omega (arith, one_bit p o, ap length q);
+      body = took_map (λ p x y. record { held = v; is = refl; spelled = y }) (subst (λ z. Took (basic a c v) z j.bits) s (subst (λ z. Took (basic z c v) m.bits j.bits) f h.took));
+      same = h.same ∙ ap (λ z. with_bits z j.bits) k.same ∙ ap (λ y. with_rest i j.bits y) (sym q);
+      live = k.live;
+    }
+step a {p} {c = c} {r = r} {i = i} {j = j} e (reads_left_out o k) =
+    let s : j.bits ≡ i.bits = ap (λ z. z.bits) k.same in
+    record {
+      shown = false;
+      flag = marked_flag p o k;
+      count = ap length k.first ∙ omega (arith, one_bit p o);
+      body = subst (λ z. Took (PartBody a p c false r) i.bits z) (sym s) (took_map (λ n b x. (is_left_out p o, x)) (took_nothing i.bits));
+      same = k.same ∙ ap (λ y. with_rest i y j.presences) (sym s);
+      live = k.live;
     }
 
-bare_back : (ps : Parts) (s i t : State) (o : Scope) (v : Value) → Opens (record_of ps) s o i → Spells (record_of ps) s v t
-    → (rs : List (Option Value)) × (j : State) × ReadsParts Spells ps i rs j × Closes j o t
-bare_back ps s i t o v a b =
-    let q = took_record (settings_of s) ps a.bare v s.bits t.bits b.took in
-    let into : i ≡ at_level s i.levels = a.enters.same in
-    let w = subst (λ z. Took (Bodies (rules (settings_of s) ps) (all_shown ps) q.0) z t.bits) (sym (ap (λ z. z.bits) into)) q.2 in
-    let f : i.failed ≡ false = ap (λ z. z.failed) into ∙ a.live in (
-      q.0,
-      with_bits i t.bits,
-      bodies_back (settings_of s) ps a.bare i q.0 t.bits (ap settings_of into) f w,
-      record {
-        live = f;
-        same = b.same ∙ ap (λ n. at_level (with_bits s t.bits) n) (sym a.enters.outside) ∙ ap (λ z. at_level (with_bits z t.bits) o.levels) (sym into);
-      },
-    )
+-- the same of components in turn
+record Read (a : Settings) (ps : Parts) (rs : List (Option Value)) (i j : State) : Type 0 where
+  shown : List Bool
+  flags : (z : Bits) → Took (Flags (rules a ps) shown) (i.presences ++ z) (j.presences ++ z)
+  count : length i.presences ≡ presence_bits ps + length j.presences
+  bodies : Took (Bodies (rules a ps) shown rs) i.bits j.bits
+  same : j ≡ with_rest i j.bits j.presences
 
-pub scopes_well : ScopesWell decoder_rules (λ (o : Scope) (e : DecodeError) (s : State). ⊥) Opens Closes
+read : (a : Settings) (ps : Parts) (i j : State) (rs : List (Option Value)) → settings_of i ≡ a → ReadsParts decoder_rules ps i rs j → Read a ps rs i j
+unfolding rules_in
+read a no_parts i j rs e reads_end = record { shown = []; flags = λ z. took_nothing (i.presences ++ z); count = omega arith; bodies = took_nothing i.bits; same = refl }
+read a (part k p c ps) i j (r ∷ rs) e (reads_next {m = m} x y) =
+    let s = step a e x in
+    let l = read a ps m j rs (ap settings_of s.same ∙ e) y in
+    record {
+      shown = s.shown ∷ l.shown;
+      flags = λ z. took_then (s.flag z) (l.flags z);
+      count = omega (arith, s.count, l.count);
+      bodies = took_then s.body l.bodies;
+      same = l.same ∙ ap (λ z. with_rest z j.bits j.presences) s.same;
+    }
+read a (part k p c ps) i j [] e x = elim x [ ]
+
+cut_off : (n : ℕ) (q : Bits) → length q ≡ suc n → (b : Bool) × (t : Bits) × (q ≡ b ∷ t) × (length t ≡ n)
+cut_off n [] e = absurd (omega arith)
+cut_off n (b ∷ t) e = (b, t, refl, omega arith)
+
+no_more : (q : Bits) → length q ≡ 0 → q ≡ []
+no_more [] e = refl
+no_more (b ∷ q) e = absurd (omega arith)
+
+same_first : (b c : Bool) (s t : Bits) → b ∷ s ≡ c ∷ t → (b ≡ c) × (s ≡ t)
+same_first b c s t e = (let f : b ≡ c = cc in f, let g : s ≡ t = cc in g)
+
+-- The presence bit of a component, which was taken off so many.
+data Shows (p : Presence) (b : Bool) (q t : Bits) : Type 0 where
+  always : p ≡ required → b ≡ true → q ≡ t → Shows p b q t
+  shows : (d : Option Value) → left_out p ≡ Some d → q ≡ b ∷ t → Shows p b q t
+
+record FlagOff (p : Presence) (b : Bool) (q z m : Bits) (n : ℕ) : Type 0 where
+  rest : Bits
+  joins : m ≡ rest ++ z
+  count : length rest ≡ n
+  shows_it : Shows p b q rest
+
+optional_off : (p : Presence) (d : Option Value) → left_out p ≡ Some d → (b : Bool) (q z m : Bits) (n : ℕ) → length q ≡ has_bit p + n → Took (FlagOf p b) (q ++ z) m → FlagOff p b q z m n
+optional_off p d o b q z m n l x =
+    let u = cut_off n q (omega (arith, one_bit p o)) in
+    let w = same_first u.0 b (u.1 ++ z) m (sym (ap (λ y. y ++ z) u.2) ∙ flag_took p o x) in
+    record { rest = u.1; joins = sym w.1; count = u.3; shows_it = shows d o (u.2 ∙ ap (λ y. y ∷ u.1) w.0) }
+
+flag_off : (p : Presence) (b : Bool) (q z m : Bits) (n : ℕ) → length q ≡ has_bit p + n → Took (FlagOf p b) (q ++ z) m → FlagOff p b q z m n
+flag_off required b q z m n l x = record { rest = q; joins = sym (nothing_took (took_map (λ p c y. y.1) x)); count = l ∙ omega arith; shows_it = always refl x.spelled.0 refl }
+flag_off optional b q z m n l x = optional_off optional None refl b q z m n l x
+flag_off group b q z m n l x = optional_off group None refl b q z m n l x
+flag_off (default d) b q z m n l x = optional_off (default d) (Some d) refl b q z m n l x
+
+flag_row : (p : Presence) (b : Bool) (s t : Bits) → Took (FlagOf p b) s t → (q : Bits) × (s ≡ q ++ t) × (length q ≡ has_bit p)
+flag_row required b s t x = ([], nothing_took (took_map (λ p c y. y.1) x), refl)
+flag_row optional b s t x = (b ∷ [], exact_took x, refl)
+flag_row group b s t x = (b ∷ [], exact_took x, refl)
+flag_row (default d) b s t x = (b ∷ [], exact_took x, refl)
+
+-- presence bits are so many
+flags_off : (a : Settings) (ps : Parts) (shown : List Bool) (q z m : Bits) → length q ≡ presence_bits ps → Took (Flags (rules a ps) shown) (q ++ z) m → m ≡ z
+unfolding rules_in
+flags_off a no_parts [] q z m l x = sym (nothing_took x) ∙ ap (λ p. p ++ z) (no_more q l)
+flags_off a (part k p c ps) (b ∷ bs) q z m l x =
+    let u = then_took x in
+    let f = flag_off p b q z u.0 (presence_bits ps) l u.1 in flags_off a ps bs f.rest z m f.count (subst (λ y. Took (Flags (rules a ps) bs) y m) f.joins u.2)
+flags_off a no_parts (b ∷ bs) q z m l x = absurd x.spelled
+flags_off a (part k p c ps) [] q z m l x = absurd x.spelled
+
+-- and so many were taken
+pub flags_row : (a : Settings) (ps : Parts) (shown : List Bool) (s t : Bits) → Took (Flags (rules a ps) shown) s t → (q : Bits) × (s ≡ q ++ t) × (length q ≡ presence_bits ps)
+unfolding rules_in
+flags_row a no_parts [] s t x = ([], nothing_took x, refl)
+flags_row a (part k p c ps) (b ∷ bs) s t x =
+    let u = then_took x in
+    let r = flags_row a ps bs u.0 t u.2 in
+    let f = flag_row p b s u.0 u.1 in (f.0 ++ r.0, f.1 ∙ ap (λ z. f.0 ++ z) r.1 ∙ sym (append_assoc f.0 r.0 t), length-append f.0 r.0 ∙ omega (arith, f.2, r.2))
+flags_row a no_parts (b ∷ bs) s t x = absurd x.spelled
+flags_row a (part k p c ps) [] s t x = absurd x.spelled
+
+-- any so many are those of some components shown
+flags_there : (a : Settings) (ps : Parts) (q : Bits) → length q ≡ presence_bits ps → (shown : List Bool) × ((z : Bits) → Took (Flags (rules a ps) shown) (q ++ z) z)
+unfolding rules_in
+flags_there a no_parts q l = ([], λ z. subst (λ y. Took (exactly []) (y ++ z) z) (sym (no_more q l)) (took_nothing z))
+flags_there a (part k required c ps) q l =
+    let r = flags_there a ps q (l ∙ omega arith) in (true ∷ r.0, λ z. took_then (took_map (λ p b x. (refl, x)) (took_nothing (q ++ z))) (r.1 z))
+flags_there a (part k optional c ps) q l =
+    let u = cut_off (presence_bits ps) q (omega arith) in
+    let r = flags_there a ps u.1 u.3 in (u.0 ∷ r.0, λ z. subst (λ y. Took (Flags (rules a (part k optional c ps)) (u.0 ∷ r.0)) (y ++ z) z) (sym u.2) (took_then (took_bit u.0 (u.1 ++ z)) (r.1 z)))
+flags_there a (part k group c ps) q l =
+    let u = cut_off (presence_bits ps) q (omega arith) in
+    let r = flags_there a ps u.1 u.3 in (u.0 ∷ r.0, λ z. subst (λ y. Took (Flags (rules a (part k group c ps)) (u.0 ∷ r.0)) (y ++ z) z) (sym u.2) (took_then (took_bit u.0 (u.1 ++ z)) (r.1 z)))
+flags_there a (part k (default d) c ps) q l =
+    let u = cut_off (presence_bits ps) q (omega arith) in
+    let r = flags_there a ps u.1 u.3 in (u.0 ∷ r.0, λ z. subst (λ y. Took (Flags (rules a (part k (default d) c ps)) (u.0 ∷ r.0)) (y ++ z) z) (sym u.2) (took_then (took_bit u.0 (u.1 ++ z)) (r.1 z)))
+
+-- one component that a record spells is read so by the calls
+part_back : (a : Settings) (p : Presence) (c : Schema) (i : State) (b : Bool) (r : Option Value) (q t : Bits) → settings_of i ≡ a → i.failed ≡ false → Shows p b i.presences q → Took (PartBody a p c b r) i.bits t
+    → ReadsPart decoder_rules p c i r (with_rest i t q)
+part_back a p c i true r q t e f (always g h l) y =
+    let v : Spells c i y.spelled.held (with_bits i t) = record { live = f; took = record { front = y.front; joins = y.joins; spelled = subst (λ z. basic z c y.spelled.held (place i.bits) y.front) (sym e) y.spelled.spelled }; same = refl } in
+    rw (g, ← l, y.spelled.is) (reads_required v)
+part_back a p c i false r q t e f (always g h l) y = absurd cc
+part_back a p c i true r q t e f (shows d o l) y =
+    let m : Marks i true (with_rest i i.bits q) = record { live = f; first = l; same = refl } in
+    let v : Spells c (with_rest i i.bits q) y.spelled.held (with_rest i t q) =
+    record { live = f; took = record { front = y.front; joins = y.joins; spelled = subst (λ z. basic z c y.spelled.held (place i.bits) y.front) (sym e) y.spelled.spelled }; same = refl } in
+    rw y.spelled.is (reads_there o m v)
+part_back a p c i false r q t e f (shows d o l) y =
+    let n : i.bits ≡ t = nothing_took (took_map (λ p c w. w.1) y) in
+    let m : Marks i false (with_rest i t q) = record { live = f; first = l; same = ap (λ z. with_rest i z q) (sym n) } in
+    reads_left_out (left_out_is p r y.spelled.0) m
+
+-- all of them
+parts_back : (a : Settings) (ps : Parts) (i : State) (shown : List Bool) (rs : List (Option Value)) (z m t : Bits) → settings_of i ≡ a → i.failed ≡ false → length i.presences ≡ presence_bits ps
+    → Took (Flags (rules a ps) shown) (i.presences ++ z) m → Took (Bodies (rules a ps) shown rs) i.bits t → ReadsParts decoder_rules ps i rs (with_rest i t [])
+unfolding rules_in
+parts_back a no_parts i [] [] z m t e f l x y =
+    subst (λ s. ReadsParts decoder_rules no_parts i [] s) (ap (λ b. with_rest i b i.presences) (nothing_took y) ∙ ap (λ p. with_rest i t p) (no_more i.presences l)) reads_end
+parts_back a (part k p c ps) i (b ∷ bs) (r ∷ rs) z m t e f l x y =
+    let u = then_took x in
+    let w = then_took y in
+    let o = flag_off p b i.presences z u.0 (presence_bits ps) l u.1 in
+    reads_next (part_back a p c i b r o.rest w.0 e f o.shows_it w.1)
+    (parts_back a ps (with_rest i w.0 o.rest) bs rs z m t e f o.count (subst (λ s. Took (Flags (rules a ps) bs) s m) o.joins u.2) w.2)
+parts_back a no_parts i [] (r ∷ rs) z m t e f l x y = absurd y.spelled
+parts_back a no_parts i (b ∷ bs) rs z m t e f l x y = absurd x.spelled
+parts_back a (part k p c ps) i [] rs z m t e f l x y = absurd x.spelled
+parts_back a (part k p c ps) i (b ∷ bs) [] z m t e f l x y = absurd y.spelled
+
+-- a record as its presence bits and its components
+record_took : (a : Settings) (ps : Parts) (shown : List Bool) (rs : List (Option Value)) (s m t : Bits) → Took (Flags (rules a ps) shown) s m → Took (Bodies (rules a ps) shown rs) m t
+    → Took (basic a (record_of ps) (record_value rs [])) s t
+unfolding basic_in rules_in
+record_took a ps shown rs s m t f b =
+    let root : Took (Root (rules a ps) rs) s t = took_map (λ p c y. record { shown = shown; spelled = y }) (took_then f b) in
+    took_map (λ p c y. record { of = (rs, []); is = refl; spelled = y }) (took_then root (took_nothing t))
+
+-- what a record took
+pub record TookRecord (a : Settings) (ps : Parts) (v : Value) (s t : Bits) : Type 0 where
+  rs : List (Option Value)
+  is : v ≡ record_value rs []
+  pub shown : List Bool
+  pub middle : Bits
+  pub flags : Took (Flags (rules a ps) shown) s middle
+  bodies : Took (Bodies (rules a ps) shown rs) middle t
+
+pub took_record : (a : Settings) (ps : Parts) → (v : Value) (s t : Bits) → Took (basic a (record_of ps) v) s t → TookRecord a ps v s t
+unfolding basic_in rules_in
+took_record a ps v s t b = go b.spelled.of.0 b.spelled.of.1 b.spelled.is b.spelled.spelled
+  where
+    go : (rs xs : List (Option Value)) → v ≡ fields (as_slots rs) (as_slots xs) → Fields_in a true false (rules a ps) [] rs xs (place s) b.front → TookRecord a ps v s t
+    go rs [] e y =
+        let q = then_took (record { front = b.front; joins = b.joins; spelled = y }) in
+        let c : Took (Root (rules a ps) rs) s t = subst (λ z. Took (Root (rules a ps) rs) s z) (nothing_took q.2) q.1 in
+        let w = then_took (record { front = c.front; joins = c.joins; spelled = c.spelled.spelled }) in
+        record { rs = rs; is = e; shown = c.spelled.shown; middle = w.0; flags = w.1; bodies = w.2 }
+    go rs (x ∷ xs) e y = absurd y.is_rest
+
+-- a kind that says of the decoder that it had failed
+abbrev IsNew : DecodeErrorKind → Type 0
+IsNew AlreadyFailed = ⊥
+IsNew k = Unit {0}
+
+is_new : (k : DecodeErrorKind) (c : Schema) (s : State) → s.failed ≡ false → IsOf k c s → IsNew k
+is_new AlreadyFailed c s f h = absurd cc
+is_new _ c s f h = tt
+
+in_bits : (k : DecodeErrorKind) (c : Schema) (s : State) → s.failed ≡ false → IsOf k c s → IsInBits (settings_of s) k c s.bits
+in_bits AlreadyFailed c s f h = absurd cc
+in_bits _ c s f h = h
+
+of_bits : (k : DecodeErrorKind) (c : Schema) (s : State) → IsNew k → IsInBits (settings_of s) k c s.bits → IsOf k c s
+of_bits AlreadyFailed c s n h = absurd n
+of_bits _ c s n h = h
+
+-- a fault in a component, behind those before it
+record FaultyIn (a : Settings) (e : DecodeError) (ps : Parts) (i : State) : Type 0 where
+  shown : List Bool
+  flags : (z : Bits) → Took (Flags (rules a ps) shown) (i.presences ++ z) z
+  stands : IsInParts a e.kind ps shown i.bits
+  codec : e.codec ≡ i.codec
+  new : IsNew e.kind
+
+not_unmarked : {e : DecodeError} (i : State) (n : ℕ) → length i.presences ≡ suc n → i.failed ≡ false → IsUnmarked e i → ⊥
+not_unmarked i n l f (inl h) = let k : length i.presences ≡ 0 = ap length h.1 in absurd (omega arith)
+not_unmarked i n l f (inr h) = let k = h.1 in absurd cc
+
+faulty_in : (a : Settings) (e : DecodeError) (ps : Parts) (i : State) → settings_of i ≡ a → i.failed ≡ false → length i.presences ≡ presence_bits ps → FaultyParts decoder_rules e ps i → FaultyIn a e ps i
+unfolding rules_in
+faulty_in a e (part k required c ps) i s f l (faulty_here (faulty_required h)) =
+    let q = flags_there a ps i.presences (l ∙ omega arith) in
+    record {
+      shown = true ∷ q.0;
+      flags = λ z. took_then (took_map (λ p b x. (refl, x)) (took_nothing (i.presences ++ z))) (q.1 z);
+      stands = here (subst (λ x. IsInBits x e.kind c i.bits) s (in_bits e.kind c i f h.stands));
+      codec = h.codec;
+      new = is_new e.kind c i f h.stands;
+    }
+faulty_in a e (part k p c ps) i s f l (faulty_here (faulty_there {m = m} o w h)) =
+    let q = flags_there a ps m.presences (let x = ap length w.first in omega (arith, one_bit p o)) in
+    let g : m.failed ≡ false = ap (λ z. z.failed) w.same ∙ f in
+    let d : settings_of m ≡ a = ap settings_of w.same ∙ s in
+    let b : m.bits ≡ i.bits = ap (λ z. z.bits) w.same in
+    record {
+      shown = true ∷ q.0;
+      flags = λ z. took_then (marked_flag p o w z) (q.1 z);
+      stands = here (subst (λ x. IsInBits a e.kind c x) b (subst (λ x. IsInBits x e.kind c m.bits) d (in_bits e.kind c m g h.stands)));
+      codec = h.codec ∙ ap (λ z. z.codec) w.same;
+      new = is_new e.kind c m g h.stands;
+    }
+faulty_in a e (part k p c ps) i s f l (faulty_here (faulty_bit o u)) = absurd (not_unmarked i (presence_bits ps) (let x : length i.presences ≡ suc (presence_bits ps) = omega (arith, one_bit p o) in x) f u)
+faulty_in a e (part k p c ps) i s f l (faulty_behind {m = m} x y) =
+    let w = step a s x in
+    let d = faulty_in a e ps m (ap settings_of w.same ∙ s) (ap (λ z. z.failed) w.same ∙ f) (let n = w.count in omega arith) y in
+    record {
+      shown = w.shown ∷ d.shown;
+      flags = λ z. took_then (w.flag z) (d.flags z);
+      stands = later _ w.body d.stands;
+      codec = d.codec ∙ ap (λ z. z.codec) w.same;
+      new = d.new;
+    }
+faulty_in a e no_parts i s f l x = elim x [ ]
+
+-- inside a record
+module _ (ps : Parts) {s i : State} {o : Scope} (a : Opens (record_of ps) s o i) where
+  unfailed : i.failed ≡ false
+  unfailed = ap (λ z. z.failed) a.enters.same ∙ a.live
+
+  same_settings : settings_of i ≡ settings_of s
+  same_settings = ap settings_of a.enters.same
+
+  in_part_of : (e : DecodeError) → FaultyParts decoder_rules e ps i → Fault (record_of ps) e s
+  in_part_of e f =
+      let d = faulty_in (settings_of s) e ps i same_settings unfailed a.count f in
+      record {
+        codec = d.codec ∙ ap (λ z. z.codec) a.enters.same;
+        stands = of_bits e.kind (record_of ps) s d.new (inside d.shown (subst (λ z. Took (Flags (rules (settings_of s) ps) d.shown) z i.bits) (sym a.taken) (d.flags i.bits)) d.stands);
+      }
+
+  all_read : (j : State) (rs : List (Option Value)) → ReadsParts decoder_rules ps i rs j → j.presences ≡ []
+  all_read j rs b = let r = read (settings_of s) ps i j rs same_settings b in no_more j.presences (let n = r.count in let c = a.count in omega arith)
+
+  read_of : (j t : State) (rs : List (Option Value)) → ReadsParts decoder_rules ps i rs j → Closes j o t → Spells (record_of ps) s (record_value rs []) t
+  read_of j t rs b c =
+      let r = read (settings_of s) ps i j rs same_settings b in
+      let f : t.bits ≡ j.bits = ap (λ z. z.bits) c.same in
+      let flags = subst (λ z. Took (Flags (rules (settings_of s) ps) r.shown) z i.bits) (sym a.taken) (subst (λ q. Took (Flags (rules (settings_of s) ps) r.shown) (i.presences ++ i.bits) (q ++ i.bits)) c.done (r.flags i.bits)) in
+      record {
+        live = a.live;
+        took = subst (λ z. Took (basic (settings_of s) (record_of ps) (record_value rs [])) s.bits z) (sym f) (record_took (settings_of s) ps r.shown rs s.bits i.bits j.bits flags r.bodies);
+        same = c.same ∙ ap (λ z. with_scope z o.levels o.presences) (r.same ∙ ap (λ z. with_rest z j.bits j.presences) a.enters.same)
+            ∙ ap (λ n. with_scope (with_bits s j.bits) n o.presences) a.enters.outside ∙ ap (λ q. with_scope (with_bits s j.bits) s.levels q) a.enters.waits ∙ ap (λ z. with_bits s z) (sym f);
+      }
+
+  back_of : (t : State) (v : Value) → Spells (record_of ps) s v t → (rs : List (Option Value)) × (j : State) × ReadsParts decoder_rules ps i rs j × Closes j o t
+  back_of t v b =
+      let q = took_record (settings_of s) ps v s.bits t.bits b.took in
+      let flags = subst (λ z. Took (Flags (rules (settings_of s) ps) q.shown) z q.middle) a.taken q.flags in
+      let m : q.middle ≡ i.bits = flags_off (settings_of s) ps q.shown i.presences i.bits q.middle a.count flags in (
+        q.rs,
+        with_rest i t.bits [],
+        parts_back (settings_of s) ps i q.shown q.rs i.bits q.middle t.bits same_settings unfailed a.count flags (subst (λ z. Took (Bodies (rules (settings_of s) ps) q.shown q.rs) z t.bits) m q.bodies),
+        record {
+          live = unfailed;
+          done = refl;
+          same = b.same ∙ sym (ap (λ z. with_scope (with_rest z t.bits []) o.levels o.presences) a.enters.same
+              ∙ ap (λ n. with_scope (with_bits s t.bits) n o.presences) a.enters.outside ∙ ap (λ q. with_scope (with_bits s t.bits) s.levels q) a.enters.waits);
+        },
+      )
+
+pub scopes_well : ScopesWell decoder_rules Unended Opens Closes
 scopes_well = record {
   inside = λ c s o i a. ap (λ z. z.failed) a.enters.same ∙ a.live;
   room = λ c s o i e a m. m ∙ ap (λ z. refusal OutOfMemory z) a.enters.same;
-  in_part = fault_of_record;
-  at_end = λ ps s i j o rs e a b h. absurd h;
-  record_read = bare_read;
-  record_back = bare_back;
+  in_part = λ ps s o i e a f. in_part_of ps a e f;
+  at_end = λ ps s i j o rs e a b h. absurd (h.some (all_read ps a j rs b));
+  record_read = λ ps s i j t o rs a b c. read_of ps a j t rs b c;
+  record_back = λ ps s i t o v a b. back_of ps a t v b;
 }

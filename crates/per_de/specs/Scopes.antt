@@ -1,37 +1,40 @@
 -- What opening and closing a record do to a decoder.
-use Rattle.std.specs.Prelude.{◌≡◌, ℕ, suc, true, false}
-use Rattle.rasn_schema.specs.Lawful.{are_required}
-use Rattle.rasn_schema.specs.Schemas.{Schema, listed, no_parts}
+use Rattle.std.specs.Prelude.{◌≡◌, ℕ, suc, false, [], ◌++◌, length}
+use Rattle.rasn_types.specs.Bits.{Bits}
+use Rattle.rasn_schema.specs.Lawful.{presence_bits}
+use Rattle.rasn_schema.specs.Normal.{root_of}
+use Rattle.rasn_schema.specs.Schemas.{Schema}
+use Rattle.per_read.specs.declared.error.DecodeError.{DecodeError}
+use Rattle.per_read.specs.declared.error.DecodeErrorKind.TheVariants.{MissingTag}
+use Rattle.per_de.specs.Faults.{refusal}
 use Rattle.per_de.specs.State.{State}
 use Rattle.per_de.specs.declared.Scope.{Scope}
 
--- X.691 19: a SEQUENCE of required components, without an extension marker, has no bits of its own
-abbrev pub IsBare : Schema → Type 0
-IsBare (Schema.sequence listed ps false no_parts) = are_required ps ≡ true
-IsBare _ = ⊥
+-- the same with other levels and presence bits
+abbrev pub with_scope : State → ℕ → Bits → State
+with_scope s n q = record s { levels = n; presences = q }
 
--- the same with another number of levels left
-abbrev pub at_level : State → ℕ → State
-at_level s n = record s { levels = n }
-
--- A level is entered: all else is as before.
-pub record Enters (s : State) (o : Scope) (i : State) : Type 0 where
-  pub deeper : s.levels ≡ suc i.levels
+-- A scope is entered with other levels and presence bits: those from before wait outside, and all else is as before.
+pub record Enters (n : ℕ) (q : Bits) (s : State) (o : Scope) (i : State) : Type 0 where
   pub outside : o.levels ≡ s.levels
-  pub same : i ≡ at_level s i.levels
+  pub waits : o.presences ≡ s.presences
+  pub same : i ≡ with_scope s n q
 
--- No level is left, and all is as before.
-pub record NoLevel (s t : State) : Type 0 where
-  pub none : s.levels ≡ 0
-  pub same : t ≡ s
-
--- Inside a record that has no bits of its own a level is entered.
+-- Inside a record without an extension marker a level is entered, and the presence bits are taken off (X.691 19.2).
 pub record Opens (c : Schema) (s : State) (o : Scope) (i : State) : Type 0 where
-  pub bare : IsBare c
   pub live : s.failed ≡ false
-  pub enters : Enters s o i
+  pub deeper : s.levels ≡ suc i.levels
+  pub taken : s.bits ≡ i.presences ++ i.bits
+  pub count : length i.presences ≡ presence_bits (root_of c)
+  pub enters : Enters i.levels i.presences (record s { bits = i.bits }) o i
 
--- Behind it the level is given back.
+-- Behind it, where each presence bit was read, the level is given back, and the presence bits that waited outside.
 pub record Closes (s : State) (o : Scope) (t : State) : Type 0 where
   pub live : s.failed ≡ false
-  pub same : t ≡ at_level s o.levels
+  pub done : s.presences ≡ []
+  pub same : t ≡ with_scope s o.levels o.presences
+
+-- A record can't end where a presence bit wasn't read.
+pub record Unended (o : Scope) (e : DecodeError) (s : State) : Type 0 where
+  pub is : e ≡ refusal MissingTag s
+  pub some : s.presences ≡ [] → ⊥

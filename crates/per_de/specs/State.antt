@@ -1,5 +1,5 @@
 -- What a decoder holds, and what its calls read.
-use Rattle.std.specs.Prelude.{◌≡◌, ℕ, Bool, false}
+use Rattle.std.specs.Prelude.{◌≡◌, ℕ, Bool, false, [], ◌∷◌}
 use Rattle.rasn_types.specs.Bits.{Bits}
 use Rattle.rasn_types.specs.Values.{Value}
 use Rattle.rasn_types.specs.declared.types.Codec.{Codec}
@@ -14,13 +14,18 @@ pub record Options : Type 0 where
   pub codec : Codec
   pub levels : ℕ
 
--- What a decoder holds: the bits that are left, whether a call has refused, how many levels it may still enter, and
--- the codec in use. The position in an octet follows from the number of bits that are left (`place`).
+-- What a decoder holds: the bits that are left, whether a call has refused, how many levels it may still enter, the codec in use, and
+-- the presence bits of the open SEQUENCE that are still to be read. The position in an octet follows from the number of bits that are left (`place`).
 pub record State : Type 0 where
   pub bits : Bits
   pub failed : Bool
   pub levels : ℕ
   pub codec : Codec
+  pub presences : Bits
+
+-- what has read nothing
+abbrev pub fresh : Bits → Options → State
+fresh bits options = record { bits = bits; failed = false; levels = options.levels; codec = options.codec; presences = [] }
 
 -- the settings of the codec in use
 abbrev pub settings_of : State → Settings
@@ -35,3 +40,9 @@ pub record Spells (c : Schema) (s : State) (v : Value) (t : State) : Type 0 wher
   pub live : s.failed ≡ false
   pub took : Took (basic (settings_of s) c v) s.bits t.bits
   pub same : t ≡ with_bits s t.bits
+
+-- The next presence bit of the open SEQUENCE.
+pub record Marks (s : State) (b : Bool) (t : State) : Type 0 where
+  pub live : s.failed ≡ false
+  pub first : s.presences ≡ b ∷ t.presences
+  pub same : t ≡ record s { presences = t.presences }

@@ -4,11 +4,11 @@
 ghost use Rattle.std.specs.Prelude.{◌≡◌, true, false, MatchOption, OnOk, OnErr, IfErr};
 ghost use Rattle.rasn_types.specs.declared.types.Codec.TheVariants.{Uper};
 ghost use Rattle.per_read.specs.declared.error.DecodeErrorKind.TheVariants.{AlreadyFailed};
-ghost use Rattle.per_de.specs.State.{State, Options};
+ghost use Rattle.per_de.specs.State.{State, Options, fresh};
 ghost use Rattle.per_de.specs.Faults.{refusal, Answered};
 ghost use Rattle.per_de.specs.Rules.{decoder_rules};
-ghost use Rattle.per_de.specs.Scopes.{Enters, NoLevel, Opens, Closes};
-ghost use Rattle.per_de.specs.Laws.{reads_well};
+ghost use Rattle.per_de.specs.Scopes.{Enters, Opens, Closes, Unended};
+ghost use Rattle.per_de.specs.Laws.{decodes_well};
 ghost use Rattle.per_de.specs.ScopeLaws.{scopes_well};
 
 use per_bits::{BitList, BitReader};
@@ -27,6 +27,7 @@ use rasn_types::types::{Codec, Tag};
 use std::alloc::{Allocator, Global};
 use std::borrow::CowSlice;
 use std::marker::Model;
+use std::mem;
 
 /// What a decoder is told: the variant of the rules, and how deep values may stand inside one another.
 #[derive(Clone, Copy, Debug)]
@@ -61,12 +62,20 @@ pub struct Decoder<'input> {
     reader: Reader<'input>,
     levels: u32,
     failed: bool,
+    /// The presence bits of the open SEQUENCE that are still to be read.
+    presences: BitReader<'input>,
 }
 
 impl<'input> Model for Decoder<'input> {
     ghost Value = { State };
 
-    ghost view = { λ d. record { bits = d.reader.bits; failed = d.failed; levels = d.levels; codec = d.reader.codec } };
+    ghost view = { λ d. record {
+      bits = d.reader.bits;
+      failed = d.failed;
+      levels = d.levels;
+      codec = d.reader.codec;
+      presences = d.presences;
+    } };
 }
 
 impl<'input> Decoder<'input> {
@@ -76,20 +85,20 @@ impl<'input> Decoder<'input> {
         input: &'input BitList<A>,
         options: DecoderOptions,
     ) -> Self
-        ensures { result ≡ record { bits = input.now; failed = false; levels = options.levels; codec = options.codec } }
+        ensures { result ≡ fresh input.now options }
     {
         Decoder::from_reader(alloc, BitReader::new(input), options)
     }
 
     /// A decoder of the bits that a reader has left. What its values own is taken from `alloc`.
     pub fn from_reader(alloc: Global, input: BitReader<'input>, options: DecoderOptions) -> Self
-        ensures { let bits = input.entry in
-            result ≡ record { bits = bits; failed = false; levels = options.levels; codec = options.codec } }
+        ensures { result ≡ fresh input.entry options }
     {
         Decoder {
             reader: Reader::new(alloc, input, options.codec),
             levels: options.levels,
             failed: false,
+            presences: BitReader::from_octets(&[]),
         }
     }
 
@@ -148,26 +157,29 @@ impl<'input> Decoder<'input> {
         }
     }
 
-    /// Enters a level, where one is left.
-    fn enter(&mut self) -> Option<Scope>
-        ensures { MatchOption result (NoLevel self.old self.new) (λ scope. Enters self.old scope self.new) }
+    /// Enters a scope with so many levels left and these presence bits to read.
+    fn enter(&mut self, levels: u32, presences: BitReader<'input>) -> Scope<'input>
+        ensures { Enters levels presences.entry self.old result self.new }
     {
-        let outside = self.levels;
-        self.levels = outside.checked_sub(1)?;
-        Some(Scope { levels: outside })
+        Scope {
+            levels: mem::replace(&mut self.levels, levels),
+            presences: mem::replace(&mut self.presences, presences),
+        }
     }
 }
 
-/// What waits outside while a record is open: the levels that may be entered there.
+/// What waits outside while a record is open: the levels that may be entered there, and the presence bits that are
+/// still to be read there.
 #[derive(Drop)]
-pub struct Scope {
+pub struct Scope<'input> {
     levels: u32,
+    presences: BitReader<'input>,
 }
 
 impl<'input> codec::Decoder for Decoder<'input> {
     type Error = DecodeError;
 
-    type Scope = Scope;
+    type Scope = Scope<'input>;
 
     ghost rules = { decoder_rules };
 
@@ -175,7 +187,7 @@ impl<'input> codec::Decoder for Decoder<'input> {
 
     ghost closes = { Closes };
 
-    ghost unended = { λ _ _ _. ⊥ };
+    ghost unended = { Unended };
 
     fn codec(&self) -> Codec {
         Decoder::codec(self)
@@ -296,25 +308,40 @@ impl<'input> codec::Decoder for Decoder<'input> {
         Ok(TeletexString::new(octets))
     }
 
-    fn open_sequence<C: Constructed>(&mut self, _tag: Tag) -> Result<Scope, DecodeError> {
+    fn open_sequence<C: Constructed>(&mut self, _tag: Tag) -> Result<Scope<'input>, DecodeError> {
         self.check_unfailed()?;
-        match self.enter() {
-            Some(scope) => Ok(scope),
-            None => Err(self.refuse(DecodeErrorKind::ExceedsMaxParseDepth)),
-        }
+        let Some(levels) = self.levels.checked_sub(1) else {
+            return Err(self.refuse(DecodeErrorKind::ExceedsMaxParseDepth));
+        };
+        let count = C::FIELDS.number_of_optional_and_default_fields();
+        let taken = self.reader.take_row(count as u128);
+        let presences = self.answer(taken)?;
+        Ok(self.enter(levels, presences))
     }
 
-    fn close_sequence(&mut self, scope: Scope) -> Result<(), DecodeError> {
+    fn close_sequence(&mut self, scope: Scope<'input>) -> Result<(), DecodeError> {
         self.check_unfailed()?;
+        if !self.presences.is_empty() {
+            return Err(self.refuse(DecodeErrorKind::MissingTag));
+        }
         self.levels = scope.levels;
+        self.presences = scope.presences;
         Ok(())
+    }
+
+    fn next_presence(&mut self) -> Result<bool, DecodeError> {
+        self.check_unfailed()?;
+        match self.presences.take(1) {
+            Ok(bit) => Ok(bit.first_bits(1) == 1),
+            Err(_) => Err(self.refuse(DecodeErrorKind::MissingTag)),
+        }
     }
 
     fn fail(&mut self) {
         self.failed = true;
     }
 
-    ghost lawful = { reads_well };
+    ghost lawful = { decodes_well };
 
     ghost scopes = { scopes_well };
 }

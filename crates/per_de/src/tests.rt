@@ -365,13 +365,14 @@ impl Constructed for Empty {
 
     ghost described = { λ _. refl };
 
-    ghost all_required = { λ _. refl };
-
     ghost is_record = { λ _. refl };
 }
 
 /// Opens so many records, and answers the innermost of them.
-fn open_many(decoder: &mut Decoder<'_>, count: u32) -> Result<Option<Scope>, Fail> {
+fn open_many<'input>(
+    decoder: &mut Decoder<'input>,
+    count: u32,
+) -> Result<Option<Scope<'input>>, Fail> {
     let mut innermost = None;
     for _ in 0..count {
         innermost = Some(decoder.open_sequence::<Empty>(Empty::TAG)?);

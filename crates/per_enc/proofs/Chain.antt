@@ -99,14 +99,17 @@ none_at {s = s} {v = v} e h f p = ap (λ c. canon (variant_of c) s v p) (sym e) 
 put_behind : {x y : State} {codec : Codec} {a b : Bits} {n : ℕ} (s : Schema) (v : Value) → Ready x codec a b n → Presents x s v y
     → (c : Bits) × (canon (variant_of codec) s v (after 0 x.bits) ≡ Some c) × Ready y codec a (b ++ c) n
 put_behind {x} {y} {codec} {a} {b} {n} s v h w =
-    let q = joined x.bits (canon (variant_of x.codec) s v (after 0 x.bits)) y.bits (w.written 0 refl) in
-    (q.0, ap (λ z. canon (variant_of z) s v (after 0 x.bits)) (sym h.same) ∙ q.1, record {
-      unfailed = w.left;
-      same = w.same ∙ h.same;
-      bits = q.2 ∙ ap (λ bs. bs ++ q.0) h.bits ∙ append_assoc a (replicate n false ++ b) q.0 ∙ ap (λ bs. a ++ bs) (append_assoc (replicate n false) b q.0);
-      place = ap (λ z. z.place) w.beside ∙ h.place;
-      left = ap (λ z. z.left) w.beside ∙ h.left;
-    })
+    let q = joined x.bits (canon (variant_of x.codec) s v (after 0 x.bits)) y.bits (w.written 0 refl) in (
+      q.0,
+      ap (λ z. canon (variant_of z) s v (after 0 x.bits)) (sym h.same) ∙ q.1,
+      record {
+        unfailed = w.left;
+        same = w.same ∙ h.same;
+        bits = q.2 ∙ ap (λ bs. bs ++ q.0) h.bits ∙ append_assoc a (replicate n false ++ b) q.0 ∙ ap (λ bs. a ++ bs) (append_assoc (replicate n false) b q.0);
+        place = ap (λ z. z.place) w.beside ∙ h.place;
+        left = ap (λ z. z.left) w.beside ∙ h.left;
+      },
+    )
 
 step : {x m : State} {codec : Codec} {q : Presence} {s : Schema} {r : Option Value} {a b : Bits} {n : ℕ} → Ready x codec a b (has_bit q + n) → PresentsPart encoder_rules q s x r m → Step x m codec q s r a b n
 unfolding shown
@@ -217,14 +220,26 @@ not_refused h (inr (k, f)) = let g = h.unfailed in absurd cc
 pub refused_part : (e : EncodeError) (ps : Parts) (x : State) (codec : Codec) (rs : List (Option Value)) (a b : Bits) (k : ℕ) → Ready x codec a b (presence_bits ps + k) → RefusesParts encoder_rules e ps x rs → RefusedPart e codec ps rs
 unfolding canon shown
 refused_part e (part t q s ps) x codec (r ∷ rs) a b k h (refuses_here (refuses_required {v = v} w)) = record {
-  s = s; v = v; m = x; has = part_here; refused = w; unfailed = h.unfailed; same = h.same;
+  s = s;
+  v = v;
+  m = x;
+  has = part_here;
+  refused = w;
+  unfailed = h.unfailed;
+  same = h.same;
   none = λ p. ap (λ o. go_on o (bodies_of (members (variant_of codec) ps) rs) p) (none_at h.same w h.unfailed p);
 }
 refused_part e (part t q s ps) x codec (r ∷ rs) a b k h (refuses_here (refuses_there {m = m} {v = v} i c w)) =
     let f : m.failed ≡ false = ap (λ z. z.failed) c.same ∙ h.unfailed in
     let d : m.codec ≡ codec = ap (λ z. z.codec) c.same ∙ h.same in
     record {
-      s = s; v = v; m = m; has = part_here; refused = w; unfailed = f; same = d;
+      s = s;
+      v = v;
+      m = m;
+      has = part_here;
+      refused = w;
+      unfailed = f;
+      same = d;
       none = λ p. rw (there_shown q v i).0 (ap (λ o. go_on o (bodies_of (members (variant_of codec) ps) rs) p) (none_at d w f p));
     }
 refused_part e (part t q s ps) x codec (r ∷ rs) a b k h (refuses_here (refuses_bit {b = bit} i u)) =
@@ -234,7 +249,13 @@ refused_part e (part t q s ps) x codec (r ∷ rs) a b k h (refuses_behind {m = m
     let i = step (ready_for (let l : has_bit q + presence_bits ps + k ≡ has_bit q + (presence_bits ps + k) = omega arith in l) h) c in
     let d = refused_part e ps m codec rs (a ++ i.flags) (b ++ i.body) k i.ready w in
     record {
-      s = d.s; v = d.v; m = d.m; has = part_behind d.has; refused = d.refused; unfailed = d.unfailed; same = d.same;
+      s = d.s;
+      v = d.v;
+      m = d.m;
+      has = part_behind d.has;
+      refused = d.refused;
+      unfailed = d.unfailed;
+      same = d.same;
       none = λ p. none_behind (if_shown (shown q r) r (canon (variant_of codec) s) p) (bodies_of (members (variant_of codec) ps) rs) p d.none;
     }
 refused_part e no_parts x codec rs a b k h c = elim c [ ]

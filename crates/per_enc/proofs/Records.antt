@@ -1,6 +1,5 @@
 -- What the scope of a record presents, and how it refuses.
-use Rattle.std.specs.List.{fold}
-use Rattle.std.specs.Prelude.{Result, Ok, Err, cond, count_by}
+use Rattle.std.specs.Prelude.{Result, Ok, Err}
 use Rattle.std.proofs.Common.{◌≡◌, refl, sym, ap, ap₂, ◌∙◌, subst, inl, ℕ, suc, false, true, List, [], ◌++◌, length, replicate, Option, Some, None, arith, append-nil, ◌+◌, ◌%◌, ◌<◌}
 use Rattle.rasn_types.specs.Bits.{Bits}
 use Rattle.rasn_types.specs.Codecs.{variant_of}
@@ -9,11 +8,9 @@ use Rattle.rasn_types.specs.Variants.{Variant}
 use Rattle.rasn_types.specs.declared.types.Codec.{Codec}
 use Rattle.rasn_types.proofs.Values.{slots-as_slots}
 use Rattle.rasn_codec.specs.Calls.{Written}
-use Rattle.rasn_schema.specs.Fields.{is_not_required, may_be_absent, presence_of, shapes_from}
-use Rattle.rasn_schema.specs.Lawful.{has_bit, presence_bits}
+use Rattle.rasn_schema.specs.Lawful.{presence_bits}
 use Rattle.rasn_schema.specs.Records.{record_value}
-use Rattle.rasn_schema.specs.Schemas
-use Rattle.rasn_schema.specs.Schemas.{Schema, Parts, no_parts, part, required, optional, group, default}
+use Rattle.rasn_schema.specs.Schemas.{Schema, Parts}
 use Rattle.rasn_codec.specs.Scopes.{record_of, PresentsParts, RefusesParts, Passes, OpenedToWrite}
 use Rattle.per_core.specs.Canon.{canon, members, flags_of, bodies_of, bitmap_of, record_of as record_writer}
 use Rattle.per_core.specs.Writers.{Writer, just, ◌▹◌, join, go_on, after}
@@ -57,7 +54,6 @@ stands_in_part TooManyAdditions x m s v ps rs f h k = absurd k
 stands_in_part Below x m s v ps rs f h k = absurd k
 stands_in_part OutOfMemory x m s v ps rs f h k = absurd k
 stands_in_part OutOfTurn x m s v ps rs f h k = absurd k
-
 
 -- inside a record that is opened, its presence bits are still to be given
 opened : (ps : Parts) {x i : State} {o : Presences} → Opens (record_of ps) x o i → Ready i x.codec x.bits [] (presence_bits ps + 0)
@@ -121,20 +117,6 @@ closes_record ps x i j y rs o (Err d) h k c =
 -- nor was the encoder refused inside
 pub not_failed_inside : (ps : Parts) (x i j : State) (rs : List (Option Value)) (o : Presences) → Opens (record_of ps) x o i → PresentsParts encoder_rules ps i rs j → j.failed ≡ true → ⊥
 not_failed_inside ps x i j rs o h k f = let l = laid ps i j x.codec rs x.bits [] 0 (opened ps h) k in let g = l.unfailed in absurd cc
-
--- the fields that may be absent are the components with a presence bit
-bit_counted : (p : Schemas.Presence) → cond (is_not_required (presence_of p)) 1 0 ≡ has_bit p
-bit_counted required = refl
-bit_counted optional = refl
-bit_counted group = refl
-bit_counted (default d) = refl
-
-counted_from : (m i : ℕ) (ps : Parts) → fold (λ (a : ℕ) x. a + cond (may_be_absent x) 1 0) m (shapes_from i ps) ≡ m + presence_bits ps
-counted_from m i no_parts = omega arith
-counted_from m i (part t p s ps) = counted_from (m + cond (is_not_required (presence_of p)) 1 0) (suc i) ps ∙ omega (arith, bit_counted p)
-
-pub bits_counted : (i : ℕ) (ps : Parts) → count_by may_be_absent (shapes_from i ps) ≡ presence_bits ps
-bits_counted i ps = counted_from 0 i ps ∙ omega arith
 
 -- a record that is opened with as many presence bits as its components have
 pub opens_record : (parts : ℕ → Parts) (count : ℕ) (x i : State) (result : Result Presences EncodeError) → ((n : ℕ) → count ≡ presence_bits (parts n)) → OpensOrNot count x result i

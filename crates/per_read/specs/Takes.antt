@@ -1,7 +1,7 @@
 -- What a reading call takes off the front of the bits left, and why it refuses.
-use Rattle.std.specs.Prelude.{◌≡◌, Result, IfOk, IfErr}
+use Rattle.std.specs.Prelude.{◌≡◌, ℕ, length, Result, IfOk, IfErr}
 use Rattle.rasn_types.specs.Bits.{Bits}
-use Rattle.per_core.specs.Spellings.{Settings, Spelling}
+use Rattle.per_core.specs.Spellings.{Settings, Spelling, When, exactly}
 use Rattle.per_core.specs.Took.{Took}
 use Rattle.per_read.specs.Kinds.{IsTested, IsShort, NoneIn, Refused, Faulty}
 use Rattle.per_read.specs.State.{State, settings_of}
@@ -34,6 +34,10 @@ stopped = memory_or (λ a s. IsTested)
 -- a fact of what is answered
 abbrev pub itself : {X : Type 0} → (X → Type 0) → X → Type 0
 itself P v = P v
+
+-- so many bits, whichever they are
+abbrev pub Row : ℕ → Bits → Spelling
+Row n bits = When (length bits ≡ n) (exactly bits)
 
 -- A call that takes what a form spells: Ok answers what a front of the bits left spells, and the bits behind it are left; Err comes only
 -- where no front spells anything, for a reason; and the variant stays. `of` says what of the form an answer is.

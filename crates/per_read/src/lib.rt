@@ -5,7 +5,7 @@
 ghost use Rattle.std.specs.Prelude.{◌≡◌, ◌≤◌};
 ghost use Rattle.per_core.specs.Basic.{Octets, bit};
 ghost use Rattle.per_core.specs.Spellings.{Field};
-ghost use Rattle.per_read.specs.Takes.{Takes, short, stopped, itself};
+ghost use Rattle.per_read.specs.Takes.{Row, Takes, short, stopped, itself};
 
 mod enumerated;
 pub mod error;
@@ -73,6 +73,13 @@ impl<'input> Reader<'input> {
         ensures { Takes short (λ a. bit) itself self.old result self.new }
     {
         Ok(self.take_bits(1)? == 1)
+    }
+
+    /// Takes so many bits, as a reader of their own. Takes no memory.
+    pub fn take_row(&mut self, count: u128) -> Result<BitReader<'input>, DecodeErrorKind>
+        ensures { Takes short (λ a. Row count) itself self.old result self.new }
+    {
+        self.bits.take(count).map_err(DecodeErrorKind::Incomplete)
     }
 
     /// Takes the next `width` bits, highest first: the number that they mean (X.691 11.3).

@@ -87,8 +87,6 @@ impl<A: AsnType, B: AsnType> Constructed for Both<A, B> {
 
     ghost described = { λ _. refl };
 
-    ghost all_required = { λ _. refl };
-
     ghost is_record = { λ _. refl };
 }
 

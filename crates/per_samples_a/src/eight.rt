@@ -54,8 +54,6 @@ impl Components for Eight {
         Some (whole x.e) ∷ Some (truth x.f) ∷ Some nothing ∷ Some (whole x.h) ∷ [] };
 
     ghost described = { refl };
-
-    ghost all_required = { refl };
 }
 
 impl Record for Eight {

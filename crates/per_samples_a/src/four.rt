@@ -47,8 +47,6 @@ impl Components for Four {
     ghost contents = { λ x. Some (truth x.a) ∷ Some (whole x.b) ∷ Some (truth x.c) ∷ Some (whole x.d) ∷ [] };
 
     ghost described = { refl };
-
-    ghost all_required = { refl };
 }
 
 impl Record for Four {

@@ -83,8 +83,6 @@ impl Constructed for Pair {
 
     ghost described = { λ _. refl };
 
-    ghost all_required = { λ _. refl };
-
     ghost is_record = { λ _. refl };
 }
 

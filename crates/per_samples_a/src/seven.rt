@@ -41,8 +41,6 @@ impl Components for Seven {
     ghost contents = { λ x. Some (whole x.a) ∷ [] };
 
     ghost described = { refl };
-
-    ghost all_required = { refl };
 }
 
 impl Record for Seven {

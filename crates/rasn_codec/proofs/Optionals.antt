@@ -1,7 +1,11 @@
 -- How the law of a component that may be absent follows from those of its presence bit and of its value.
-use Rattle.std.proofs.Common.{◌≡◌, refl, sym, ap, subst, ◌∙◌, ◌⊎◌, inl, inr, Bool, true, false, Result, Ok, Err, Option, Some, None}
+use Rattle.std.specs.List.{fold}
+use Rattle.std.specs.Prelude.{cond, count_by}
+use Rattle.std.proofs.Common.{◌≡◌, ℕ, suc, ◌+◌, arith, refl, sym, ap, subst, ◌∙◌, ◌⊎◌, inl, inr, Bool, true, false, Result, Ok, Err, Option, Some, None}
 use Rattle.rasn_types.specs.Values.{Value}
-use Rattle.rasn_schema.specs.Schemas.{Presence, Schema}
+use Rattle.rasn_schema.specs.Fields.{is_not_required, may_be_absent, presence_of, shapes_from}
+use Rattle.rasn_schema.specs.Lawful.{has_bit, presence_bits}
+use Rattle.rasn_schema.specs.Schemas.{Presence, required, optional, group, default, Schema, Parts, no_parts, part}
 use Rattle.rasn_codec.specs.Calls.{EncoderRules, Written, PresentsWell, DecoderRules, DecodesWell, Refuses, Answers}
 use Rattle.rasn_codec.specs.Presences.{presence_bit, left_out}
 use Rattle.rasn_codec.specs.Optionals.{Marked, WrittenFreely}
@@ -62,8 +66,9 @@ module _ {E S : Type 0} {rules : DecoderRules E S} where
   value_unread L {s = s} {m} {e} i a (inl h) = inl (L.marked.room s true m e a h)
   value_unread L {c = c} {s = s} {m} i a (inr r) = inr (record {
     nothing = λ x t b. elim (optional_of i b) [
-      there {m = n} v f k h ↦ r.nothing v t (subst (λ z. rules.spells c z v t) (L.marked.one s true true n m k a).1 h)
-    | missing f k ↦ (let q = (L.marked.one s false true t m k a).0 in absurd cc) ];
+      | there {m = n} v f k h ↦ r.nothing v t (subst (λ z. rules.spells c z v t) (L.marked.one s true true n m k a).1 h)
+      | missing f k ↦ (let q = (L.marked.one s false true t m k a).0 in absurd cc)
+    ];
     stands = faulty_there i a r.stands;
   })
 
@@ -72,3 +77,17 @@ module _ {E S : Type 0} {rules : DecoderRules E S} where
       → Answers rules.memory (rules.fault c) (rules.spells c) value m result t → Answers rules.memory (λ e. FaultyPart rules e p c) (ReadsPart rules p c) (λ x. Some (value x)) s result t
   value_read L value p c s t (Ok v) i a h = reads_there i a h
   value_read L value p c s t (Err e) i a h = value_unread L i a h
+
+-- the fields that may be absent are the components with a presence bit
+bit_counted : (p : Presence) → cond (is_not_required (presence_of p)) 1 0 ≡ has_bit p
+bit_counted required = refl
+bit_counted optional = refl
+bit_counted group = refl
+bit_counted (default d) = refl
+
+counted_from : (m i : ℕ) (ps : Parts) → fold (λ (a : ℕ) x. a + cond (may_be_absent x) 1 0) m (shapes_from i ps) ≡ m + presence_bits ps
+counted_from m i no_parts = omega arith
+counted_from m i (part t p s ps) = counted_from (m + cond (is_not_required (presence_of p)) 1 0) (suc i) ps ∙ omega (arith, bit_counted p)
+
+pub bits_counted : (i : ℕ) (ps : Parts) → count_by may_be_absent (shapes_from i ps) ≡ presence_bits ps
+bits_counted i ps = counted_from 0 i ps ∙ omega arith

@@ -14,7 +14,7 @@ use Rattle.per_core.proofs.Readings.{one_reading}
 use Rattle.per_core.proofs.Took.{took_agree}
 use Rattle.per_core.proofs.Laws.{one_value}
 use Rattle.per_core.proofs.Filling.{fills_read, fills_back}
-use Rattle.per_de.specs.State.{State, Options, Spells, with_bits}
+use Rattle.per_de.specs.State.{State, Options, Spells, fresh as begin, with_bits}
 use Rattle.per_de.specs.Faults.{Fault, refusal}
 use Rattle.per_read.specs.declared.error.DecodeError.{DecodeError}
 use Rattle.per_read.specs.declared.error.DecodeErrorKind.TheVariants.{OutOfMemory}
@@ -22,10 +22,10 @@ use Rattle.rasn_per.specs.Complete.{basically, AreReadAs, AreUnread}
 
 -- a decoder that has just begun with octets
 abbrev pub fresh : Codec → List ℕ → State
-fresh a octets = record { bits = unpack octets; failed = false; levels = 128; codec = a }
+fresh a octets = begin (unpack octets) (record { codec = a; levels = 128 })
 
-pub begun : (a : Codec) (octets : List ℕ) (b : Bits) (o : Options) (s : State) → s ≡ record { bits = b; failed = false; levels = o.levels; codec = o.codec } → o ≡ record { codec = a; levels = 128 } → b ≡ unpack octets → s ≡ fresh a octets
-begun a octets b o s e f g = e ∙ ap (λ (z : Options). record { bits = b; failed = false; levels = z.levels; codec = z.codec }) f ∙ ap (λ (z : Bits). record { bits = z; failed = false; levels = 128; codec = a }) g
+pub begun : (a : Codec) (octets : List ℕ) (b : Bits) (o : Options) (s : State) → s ≡ begin b o → o ≡ record { codec = a; levels = 128 } → b ≡ unpack octets → s ≡ fresh a octets
+begun a octets b o s e f g = e ∙ ap (begin b) f ∙ ap (λ (z : Bits). begin z (record { codec = a; levels = 128 })) g
 
 pub full_octets : (octets : List ℕ) (b : Bits) (n : ℕ) → b ≡ unpack octets → n ≡ length b → n % 8 ≡ 0
 full_octets octets b n e f =

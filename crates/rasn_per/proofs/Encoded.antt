@@ -10,7 +10,7 @@ use Rattle.rasn_schema.specs.Normal.{normal}
 use Rattle.rasn_codec.specs.Calls.{AtDepths}
 use Rattle.per_core.specs.Writers.{join, just, ◌▹◌}
 use Rattle.per_core.specs.Canon.{canon, bytes, completed}
-use Rattle.per_write.specs.State.{State, view, Presents}
+use Rattle.per_write.specs.State.{State, fresh, view, Presents}
 use Rattle.per_write.specs.Faults.{IsMemory, RefusesValue}
 use Rattle.per_write.specs.declared.error.EncodeError.{EncodeError}
 use Rattle.per_write.specs.declared.error.EncodeErrorKind.TheVariants.{OutOfMemory}
@@ -28,14 +28,14 @@ presented x s v y octets e h k =
     ap completed (sym (z ∙ join-nil (canon (variant_of x.codec) s v 0))) ∙ k
 
 -- at each depth that holds the value
-pub encoded : {V E : Type 0} (items : V → List ℕ) (a : Codec) (x : State) (schema : ℕ → Schema) (levels : ℕ) (v : Value) (y : State) (result : Result V E) → x ≡ record { bits = []; failed = false; codec = a }
+pub encoded : {V E : Type 0} (items : V → List ℕ) (a : Codec) (x : State) (schema : ℕ → Schema) (levels : ℕ) (v : Value) (y : State) (result : Result V E) → x ≡ fresh a
     → AtDepths schema levels (λ s. Presents x s (normal s v) y)
     → IfOk result (λ o. completed (view y 0) ≡ Some (items o)) → IfOk result (λ o. AreBytes (variant_of a) schema levels v (items o))
 encoded items a x schema levels v y (Ok o) e h k = record { at = λ n l. subst (λ z. bytes (variant_of z) (schema n) (normal (schema n) v) ≡ Some (items o)) (ap (λ (u : State). u.codec) e) (presented x (schema n) (normal (schema n) v) y (items o) (ap (λ (u : State). u.bits) e) (h.at n l) k) }
 encoded items a x schema levels v y (Err f) e h k = tt
 
 -- where a fresh encoder refuses a value, it has no bytes
-pub refused : {T : Type 0} (a : Codec) (x : State) (schema : ℕ → Schema) (levels : ℕ) (v : Value) (result : Result T EncodeError) (f : EncodeError) → x ≡ record { bits = []; failed = false; codec = a } → result ≡ Err f
+pub refused : {T : Type 0} (a : Codec) (x : State) (schema : ℕ → Schema) (levels : ℕ) (v : Value) (result : Result T EncodeError) (f : EncodeError) → x ≡ fresh a → result ≡ Err f
     → AtDepths schema levels (λ s. IsMemory f x ⊎ RefusesValue f x s (normal s v)) → IfErr result (λ e. e.kind ≢ OutOfMemory → HasNoBytes (variant_of a) schema levels v)
 unfolding bytes
 refused a x schema levels v result f e g h = rw g (λ n. record { at = λ k l. go k n (h.at k l) })

@@ -1,5 +1,5 @@
 -- What the kind of a refused reading says of the octets.
-use Rattle.std.proofs.Common.{◌≡◌, refl, sym, ap, subst, ℕ, List, ◌⊎◌, inl, inr, Result, Err}
+use Rattle.std.proofs.Common.{◌≡◌, refl, sym, ap, subst, ℕ, Bool, List, ◌⊎◌, inl, inr, Result, Err}
 use Rattle.std.specs.Prelude.{IfErr}
 use Rattle.rasn_types.specs.Bits.{Bits}
 use Rattle.rasn_types.specs.Codecs.{variant_of}
@@ -35,11 +35,11 @@ extra_nowhere a _ s n h = h
 mutual
   no_extra : {a : Settings} {k : DecodeErrorKind} {c : Schema} {s : Bits} → IsInBits a k c s → (n : ℕ) → k ≡ UnexpectedExtraData n → ⊥
   no_extra {a} {k} {c} {s} (at_once h) n e = extra_nowhere a c s n (subst (IsAt a c s) e h)
-  no_extra (inside h) n e = no_extra_inside h n e
+  no_extra (inside b t h) n e = no_extra_inside h n e
 
-  no_extra_inside : {a : Settings} {k : DecodeErrorKind} {ps : Parts} {s : Bits} → IsInParts a k ps s → (n : ℕ) → k ≡ UnexpectedExtraData n → ⊥
+  no_extra_inside : {a : Settings} {k : DecodeErrorKind} {ps : Parts} {bs : List Bool} {s : Bits} → IsInParts a k ps bs s → (n : ℕ) → k ≡ UnexpectedExtraData n → ⊥
   no_extra_inside (here h) n e = no_extra h n e
-  no_extra_inside (later v t h) n e = no_extra_inside h n e
+  no_extra_inside (later r t h) n e = no_extra_inside h n e
 
 module _ (a : Codec) (schema : ℕ → Schema) (octets : List ℕ) where
   of_fresh : (k : DecodeErrorKind) → IsOf k (schema 128) (fresh a octets) → IsInOctets (variant_of a) schema octets k

@@ -1,6 +1,6 @@
 -- The components of a record, and the words in which a schema's author lists them:
 -- `automatic (integer u8 (0 to 255) ∷ ia5_string (size 1 to 16) ∷ [])`.
-use Rattle.std.specs.Prelude.{◌≡◌, ℕ, zero, suc, ℤ, pos, neg_ℤ, Bool, true, false, ◌&&◌, List, [], ◌∷◌, drop, Option, Some, None, refl}
+use Rattle.std.specs.Prelude.{◌≡◌, ℕ, zero, suc, ℤ, pos, neg_ℤ, true, false, List, [], ◌∷◌, drop, Option, Some, None, refl}
 use Rattle.std.proofs.Common.{ap}
 use Rattle.rasn_types.specs.Alphabets.{visible, ia5, printable, numeric, bmp}
 use Rattle.rasn_types.specs.Contents.{utf8}
@@ -14,7 +14,6 @@ use Rattle.rasn_schema.specs.Schemas
 use Rattle.rasn_schema.specs.Schemas.{Schema, TagTree, leaf, Presence, Parts, no_parts, part, listed}
 use Rattle.rasn_schema.specs.Fields.{Shape, field_tag, presence_of, shapes_from}
 use Rattle.rasn_schema.specs.Forms.{number_schema, octet_schema, bit_schema, character_schema, always}
-use Rattle.rasn_schema.specs.Lawful.{are_required}
 use Rattle.rasn_schema.specs.Levels.{TakesNone, Levelled, LevelledParts, simple_levelled, parts_levelled, part_levelled, record_levelled}
 use Rattle.rasn_schema.specs.Records.{record_at, no_additions, record_value}
 
@@ -62,18 +61,6 @@ fields_from_parts i (c ∷ cs) n = ap (λ fs. record { index = i; tag = field_ta
 pub fields_described : (cs : List Component) (n : ℕ) → fields_of cs ≡ shapes_from 0 (parts_of cs n)
 fields_described cs n = fields_from_parts 0 cs n
 
--- whether a component is always there
-abbrev pub is_always : Presence → Bool
-is_always Schemas.required = true
-is_always Schemas.optional = false
-is_always Schemas.group = false
-is_always (Schemas.default d) = false
-
--- whether none of the components may be absent
-abbrev pub all_present : List Component → Bool
-all_present [] = true
-all_present (c ∷ cs) = is_always c.presence && all_present cs
-
 -- What stands at a place, from 0.
 abbrev pub tags_at : List Component → ℕ → Option TagTree
 tags_at [] i = None
@@ -97,17 +84,6 @@ content_at (r ∷ rs) (suc i) = content_at rs i
 
 some_is : {A : Type 0} (x y : A) → Some x ≡ Some y → x ≡ y
 some_is x y e = cc
-
-none_absent : (p : Presence) (b : Bool) → (is_always p && b) ≡ true → (p ≡ Schemas.required) × (b ≡ true)
-none_absent Schemas.required b e = (refl, e)
-none_absent Schemas.optional b e = absurd (cc)
-none_absent Schemas.group b e = absurd (cc)
-none_absent (Schemas.default d) b e = absurd (cc)
-
--- where none may be absent, each is required
-pub parts_required : (cs : List Component) → all_present cs ≡ true → (n : ℕ) → are_required (parts_of cs n) ≡ true
-parts_required [] e n = refl
-parts_required (c ∷ cs) e n = let h = none_absent c.presence (all_present cs) e in rw h.0 (parts_required cs h.1 n)
 
 -- the components from a place on are that one and those behind it
 pub parts_from : (cs : List Component) (i : ℕ) (t : TagTree) (p : Presence) (s : Schema) (n : ℕ) → tags_at cs i ≡ Some t → presence_at cs i ≡ Some p → schema_at cs i n ≡ Some s
@@ -296,6 +272,14 @@ sequence cs = record {
   schema = sequence_of cs;
   levelled = sequence_levelled cs;
 }
+
+-- a component that may be absent (X.680 25.6)
+abbrev pub optional : Component → Component
+optional c = record { tags = c.tags; presence = Schemas.optional; schema = c.schema; levelled = c.levelled }
+
+-- a component for which a value stands where it is absent (X.680 25.6)
+abbrev pub default : Value → Component → Component
+default d c = record { tags = c.tags; presence = Schemas.default d; schema = c.schema; levelled = c.levelled }
 
 -- the tag of a component by its place
 abbrev pub at : ℕ → TagTree

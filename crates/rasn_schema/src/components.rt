@@ -1,6 +1,6 @@
 //! Records that are stated by one list of their components.
 
-ghost use Rattle.std.specs.Prelude.{◌≡◌, ℕ, suc, true, false, List, Option, refl};
+ghost use Rattle.std.specs.Prelude.{◌≡◌, ℕ, suc, false, List, Option, refl};
 ghost use Rattle.std.proofs.Common.{◌∙◌};
 ghost use Rattle.rasn_constraints.specs.Ranges.{no_constraints};
 ghost use Rattle.rasn_types.specs.Values.{Value};
@@ -8,7 +8,7 @@ ghost use Rattle.rasn_types.specs.declared.types.TheConstants.Tag.{SEQUENCE};
 ghost use Rattle.rasn_schema.specs.Fields.{Shape};
 ghost use Rattle.rasn_schema.specs.Records.{no_additions};
 ghost use Rattle.rasn_schema.specs.Tags.{sequence_tag};
-ghost use Rattle.rasn_schema.specs.Components.{Component, parts_of, sequence_of, sequence_value, sequence_levelled, fields_of, fields_described, all_present, parts_required};
+ghost use Rattle.rasn_schema.specs.Components.{Component, parts_of, sequence_of, sequence_value, sequence_levelled, fields_of, fields_described};
 
 use crate::fields::{Constructed, Fields};
 use crate::schema::{AsnType, Constraints};
@@ -32,9 +32,6 @@ pub trait Components {
 
     // The fields are those of the components.
     ghost described: { COMPONENTS ≡ fields_of components };
-
-    // No component may be absent yet.
-    ghost all_required: { all_present components ≡ true };
 }
 
 impl<T: Components> AsnType for T {
@@ -69,8 +66,6 @@ impl<T: Components> Constructed for T {
     ghost contents = { T.contents };
 
     ghost described = { λ n. T.described ∙ fields_described T.components n };
-
-    ghost all_required = { λ n. parts_required T.components T.all_required n };
 
     ghost is_record = { λ _. refl };
 }

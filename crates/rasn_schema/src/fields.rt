@@ -1,9 +1,8 @@
 //! What a record states of its components: their tags, in which order they stand, and whether they may be absent.
 
-ghost use Rattle.std.specs.Prelude.{◌≡◌, ℕ, true, false, List, Option, count_by};
+ghost use Rattle.std.specs.Prelude.{◌≡◌, ℕ, false, List, Option, count_by};
 ghost use Rattle.rasn_types.specs.Values.{Value};
 ghost use Rattle.rasn_schema.specs.Schemas.{Parts, Order, listed};
-ghost use Rattle.rasn_schema.specs.Lawful.{are_required};
 ghost use Rattle.rasn_schema.specs.Records.{record_at, no_additions};
 
 use crate::schema::AsnType;
@@ -94,9 +93,6 @@ pub trait Constructed: AsnType {
 
     // The fields are those of the components.
     ghost described: { (n : ℕ) → FIELDS ≡ shapes_from 0 (parts n) };
-
-    // No component may be absent yet.
-    ghost all_required: { (n : ℕ) → are_required (parts n) ≡ true };
 
     // The schema is the record of the components.
     ghost is_record: { (c : Constraints) → Self.schema c ≡ record_at listed parts false no_additions };

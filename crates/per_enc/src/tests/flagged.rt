@@ -39,8 +39,6 @@ impl Components for Flagged {
     ghost contents = { λ x. Some (truth x.flag) ∷ Some (whole x.number) ∷ [] };
 
     ghost described = { refl };
-
-    ghost all_required = { refl };
 }
 
 impl Record for Flagged {
