@@ -1,5 +1,5 @@
 -- How the law of a choice follows from that of its alternative and of its scope.
-use Rattle.std.proofs.Common.{◌≡◌, refl, ap, ◌∙◌, subst, sym, ℕ, zero, suc, ◌≤◌, ◌⊎◌, inl, inr, Result, Ok, Err, List, Some}
+use Rattle.std.proofs.Common.{◌≡◌, refl, ap, ◌∙◌, subst, sym, ℕ, zero, suc, ◌≤◌, ◌⊎◌, inl, inr, false, Result, Ok, Err, List, Some}
 use Rattle.rasn_types.specs.Values.{Value, alternative, root}
 use Rattle.rasn_types.specs.declared.types.Tag.{Tag}
 use Rattle.rasn_schema.specs.Schemas
@@ -7,8 +7,8 @@ use Rattle.rasn_schema.specs.Schemas.{Schema, Parts, no_parts, part}
 use Rattle.rasn_schema.specs.Choices.{alternative_at, choice_at, choice_of}
 use Rattle.rasn_schema.specs.Fields.{tag_of}
 use Rattle.rasn_schema.specs.Normal.{normal, normal_at}
-use Rattle.rasn_codec.specs.Calls.{AtDepths, EncoderRules, Written}
-use Rattle.rasn_codec.specs.Choices.{AtAlternative, AlternativeWritten, PassesChoice, ClosesChoice}
+use Rattle.rasn_codec.specs.Calls.{AtDepths, EncoderRules, Written, DecoderRules, Refuses, Answers, DecodesWell}
+use Rattle.rasn_codec.specs.Choices.{AtAlternative, AlternativeWritten, PassesChoice, ClosesChoice, ChoicesWell, IsChosen, ReadsAlternative}
 use Rattle.rasn_codec.proofs.Writing.{at_suc}
 
 at_place : (ps : Parts) (k : ℕ) (s : Schema) (v : Value) → alternative_at ps k ≡ Some s → normal_at ps k v ≡ normal s v
@@ -39,3 +39,29 @@ module _ {E X : Type 0} (rules : EncoderRules E X) where
   choice_closed opens alternatives variants k v depth x i j o t h w r y f = at_suc (λ n le.
       let a = w.at n le in
       rw (normal-alternative (alternatives n) k a.0 v a.1) (f.law x i n k a.0 (normal a.0 v) (h n) a.2.0 a.1 a.2.1))
+
+-- a choice, as the calls of a decoder read it
+module _ {S O E : Type 0} {rules : DecoderRules E S} {opens : Schema → ℕ → S → O → S → Type 0} {closes : S → O → S → Type 0}
+    (L : DecodesWell rules) (K : ChoicesWell rules opens closes)
+    (alternatives : ℕ → Parts) (variants : List Schemas.Tag) (tag : Schemas.Tag) {s i : S} {o : O} (h : IsChosen rules opens alternatives variants tag s o i) where
+  as_choice : (P : Schema → Type 0) → P (choice_of (alternatives (rules.levels i))) → P (choice_at alternatives (rules.levels s))
+  as_choice P q = subst P (sym (ap (choice_at alternatives) h.deeper)) q
+
+  -- the decoder behind an alternative hasn't failed
+  pub alternative_left : (w : Value) (j : S) → ReadsAlternative rules h.index h.schema i w j → rules.failed j ≡ false
+  alternative_left w j a = (L.spelled h.schema).left i a.0 j a.2
+
+  -- a choice whose alternative was read
+  pub choice_ended : (w : Value) (j t : S) → ReadsAlternative rules h.index h.schema i w j → closes j o t → rules.spells (choice_at alternatives (rules.levels s)) s w t
+  choice_ended w j t a b =
+      as_choice (λ c. rules.spells c s w t)
+      (subst (λ v. rules.spells (choice_of (alternatives (rules.levels i))) s v t) (sym a.1) (K.choice_read (alternatives (rules.levels i)) h.index h.schema s i j t o a.0 h.opened h.there a.2 b))
+
+  -- a choice whose alternative isn't read
+  pub choice_failed : {e : E} → rules.memory e i ⊎ Refuses (ReadsAlternative rules h.index h.schema) (rules.fault h.schema) e i
+      → rules.memory e s ⊎ Refuses (rules.spells (choice_at alternatives (rules.levels s))) (rules.fault (choice_at alternatives (rules.levels s))) e s
+  choice_failed {e} (inl m) = inl (K.room (choice_of (alternatives (rules.levels i))) h.index s o i e h.opened m)
+  choice_failed {e} (inr r) = inr (as_choice (λ c. Refuses (rules.spells c) (rules.fault c) e s) (record {
+    nothing = λ w t q. let b = K.choice_back (alternatives (rules.levels i)) h.index h.schema s i t o w h.opened h.there q in r.nothing w b.0 b.1;
+    stands = K.in_alternative (alternatives (rules.levels i)) h.index h.schema s o i e h.opened h.there r.stands;
+  }))

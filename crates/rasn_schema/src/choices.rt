@@ -1,6 +1,6 @@
 //! What a CHOICE states of its alternatives (X.680 29).
 
-ghost use Rattle.std.specs.Prelude.{◌≡◌, ℕ, length};
+ghost use Rattle.std.specs.Prelude.{◌≡◌, ◌<◌, ℕ, Some, length, slice_get};
 ghost use Rattle.std.specs.List.{position_from};
 ghost use Rattle.rasn_schema.specs.Choices.{AreVariants, choice_at, place_of, tags_of, variant_tag};
 ghost use Rattle.rasn_schema.specs.Fields.{tag_of};
@@ -44,6 +44,14 @@ impl Variants {
         ensures { result ≡ length self.now }
     {
         self.list.len()
+    }
+
+    /// The tag that the alternative at an index goes by.
+    pub fn tag_at(&self, index: usize) -> Tag
+        requires { index < length self.now }
+        ensures { slice_get self.now index ≡ Some (tag_of result) }
+    {
+        self.list[index].tag
     }
 
     /// The index of the alternative that goes by a tag, or none.
