@@ -1,6 +1,6 @@
 //! What a CHOICE states of its alternatives (X.680 29).
 
-ghost use Rattle.std.specs.Prelude.{◌≡◌, ◌<◌, ℕ, Some, length, slice_get};
+ghost use Rattle.std.specs.Prelude.{◌≡◌, ◌<◌, ℕ, Some, length, map, slice_get};
 ghost use Rattle.std.specs.List.{position_from};
 ghost use Rattle.rasn_schema.specs.Choices.{AreVariants, choice_at, place_of, tags_of, variant_tag};
 ghost use Rattle.rasn_schema.specs.Fields.{tag_of};
@@ -51,7 +51,7 @@ impl Variants {
         requires { index < length self.now }
         ensures { slice_get self.now index ≡ Some (tag_of result) }
     {
-        self.list[index].tag
+        tag_in(self.list, index)
     }
 
     /// The index of the alternative that goes by a tag, or none.
@@ -60,6 +60,14 @@ impl Variants {
     {
         index_in(self.list, tag)
     }
+}
+
+/// The tag that the alternative at an index of a list goes by.
+fn tag_in(list: &[Variant], index: usize) -> Tag
+    requires { index < length list.now }
+    ensures { slice_get (map variant_tag list.now) index ≡ Some (tag_of result) }
+{
+    list[index].tag
 }
 
 /// The index of the alternative of a list that goes by a tag, or none.

@@ -1,15 +1,10 @@
-use Rattle.std.proofs.Common.{rules, ◌≡◌, ◌<◌, ℕ, Some, length, slice_get, ◌+◌, ◌-◌, ◌*◌, ◌≤◌, ◌/◌, ◌%◌, Bool, true, false, nat_eq, nat_lt, List, [], ◌∷◌, ◌++◌, slice_index_or, slice_set, bit_and, bit_or, Fits, w8, w32, w64, Bor, MutBor}
-use Rattle.std.specs.List.{position_from}
-use Rattle.rasn_schema.specs.Choices.{AreVariants, choice_at, place_of, tags_of, variant_tag}
-use Rattle.rasn_schema.specs.Fields.{tag_of}
-use Rattle.rasn_schema.specs.Lawful.{same_tag}
-use Rattle.rasn_schema.specs.Schemas.{Parts}
+use Rattle.std.proofs.Common.{◌≡◌, ap, sym, ◌∙◌, length, Some, slice_get, arith}
+use Rattle.std.proofs.lemmas.List.{length-map}
+use Rattle.rasn_schema.specs.Choices.{variant_tag}
 use Rattle.rasn_schema.proofs.choices.Variants.tag_at.Goals as goal
 
--- src/choices.rt:54:9
-pub offset_bounds-self-inside-index : goal.offset_bounds-self-inside-index
-offset_bounds-self-inside-index c = ?
+pub tag_in-requires : goal.tag_in-requires
+tag_in-requires c = omega (arith, c.requires, ap length c.self.view_is, length-map c.self.inside.list.now variant_tag)
 
--- src/choices.rt:50:5
 pub returns : goal.returns
-returns c = ?
+returns c = ap (λ ts. slice_get ts c.args.index) (sym c.self.view_is) ∙ c.tag_in.ensures
