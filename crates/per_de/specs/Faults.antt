@@ -44,7 +44,6 @@ mutual
   pub data IsInBits (a : Settings) (k : DecodeErrorKind) : Schema → Bits → Type 0 where
     at_once : {c : Schema} {s : Bits} → IsAt a c s k → IsInBits a k c s
     inside : {ps : Parts} {s m : Bits} (shown : List Bool) → Took (Flags (rules a ps) shown) s m → IsInParts a k ps shown m → IsInBits a k (record_of ps) s
-
     in_alternative : {ps : Parts} {n : ℕ} {c : Schema} {s m : Bits} → Took (IsConstrainedWhole a (length (tags_of ps)) n) s m → alternative_at ps n ≡ Some c → IsInBits a k c m → IsInBits a k (choice_of ps) s
 
   -- It stands in a component that its presence bit shows, behind those before it.

@@ -28,8 +28,8 @@ returns g c =
     let deeper : c.self.inside.levels ≡ suc c.in-Some.levels = omega arith in
     let alternatives = g.C.Choice.alternatives c.enter-scope.new.self.levels in
     let opened : OpensChoice (choice_of alternatives) c.in_ok-index.index c.args.self.now c.enter-scope.result c.enter-scope.new.self = rw (← c.self.view_is) (
-        opens_index (choice_of alternatives) c.len.result c.in_ok-index.index c.self.inside.reader c.take_choice_index-taken.new.self c.self.inside.failed c.self.inside.levels c.in-Some.levels c.self.inside.presences c.from_octets.result
-            c.take_choice_index-taken.result _ _ _ (ap (λ z. z.failed) c.self.view_is ∙ c.in_ok-check_unfailed.ensures.ok) deeper c.from_octets.ensures (count _) c.take_choice_index-taken.ensures c.in_ok-index.ensures c.enter-scope.ensures) in
+    opens_index (choice_of alternatives) c.len.result c.in_ok-index.index c.self.inside.reader c.take_choice_index-taken.new.self c.self.inside.failed c.self.inside.levels c.in-Some.levels c.self.inside.presences c.from_octets.result
+    c.take_choice_index-taken.result _ _ _ (ap (λ z. z.failed) c.self.view_is ∙ c.in_ok-check_unfailed.ensures.ok) deeper c.from_octets.ensures (count _) c.take_choice_index-taken.ensures c.in_ok-index.ensures c.enter-scope.ensures) in
     let there = alternative_there alternatives c.in_ok-index.index opened.took.spelled.below in
     let named : slice_get g.C.Choice.VARIANTS c.in_ok-index.index ≡ Some (tag_of c.tag_at.result) = ap (λ ts. slice_get ts c.in_ok-index.index) (sym c.VARIANTS-variants.ensures) ∙ c.tag_at.ensures in
     record {
