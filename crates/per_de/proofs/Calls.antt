@@ -32,6 +32,7 @@ not_failed Schema.boolean a s h = h
 not_failed Schema.null a s h = h
 not_failed (Schema.number bounds mark range) a s h = h
 not_failed (Schema.items r e ext) a s h = h
+not_failed (Schema.choice ps adds ext) a s h = h
 not_failed (Schema.octet_string size mark) a s h = h
 not_failed (Schema.bit_string size mark) a s h = h
 not_failed (Schema.char_string alphabet size mark) a s h = h

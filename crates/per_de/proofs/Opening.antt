@@ -28,7 +28,7 @@ pub none_left : (n : ℕ) → (1 ≤ n → ⊥) → n ≡ 0
 none_left zero h = refl
 none_left (suc n) h = absurd (h (omega arith))
 
-answered_ok : {T : Type 0} (taken : Result T DecodeErrorKind) (s : State) (v : T) (t : State) → Answered taken s (Ok v) t → (taken ≡ Ok v) × (t ≡ s)
+pub answered_ok : {T : Type 0} (taken : Result T DecodeErrorKind) (s : State) (v : T) (t : State) → Answered taken s (Ok v) t → (taken ≡ Ok v) × (t ≡ s)
 answered_ok (Ok w) s v t a = let e = a.0 in let f : w ≡ v = cc in (ap Ok f, a.1)
 answered_ok (Err k) s v t a = let e = a.0 in absurd cc
 
@@ -55,7 +55,7 @@ short_tested : (k : DecodeErrorKind) → IsShort k → IsTested k
 short_tested (Incomplete missing) h = tt
 short_tested _ h = absurd h
 
-answered_err : {T : Type 0} (taken : Result T DecodeErrorKind) (s : State) (e : DecodeError) (t : State) → Answered taken s (Err e) t → (k : DecodeErrorKind) × (taken ≡ Err k) × (e ≡ refusal k s)
+pub answered_err : {T : Type 0} (taken : Result T DecodeErrorKind) (s : State) (e : DecodeError) (t : State) → Answered taken s (Err e) t → (k : DecodeErrorKind) × (taken ≡ Err k) × (e ≡ refusal k s)
 answered_err (Ok w) s e t a = let i = a.0 in absurd cc
 answered_err (Err k) s e t a = (k, refl, let i = a.0 in cc)
 

@@ -1,12 +1,14 @@
 -- The fault that a refusal names, where it stands.
-use Rattle.std.specs.Prelude.{◌≡◌, ◌⊎◌, Bool, true, List, [], ◌∷◌, Option, Result, Ok, Err}
+use Rattle.std.specs.Prelude.{◌≡◌, ◌⊎◌, ℕ, Bool, true, List, [], ◌∷◌, length, Option, Some, Result, Ok, Err}
 use Rattle.rasn_types.specs.Bits.{Bits}
 use Rattle.rasn_types.specs.Values.{Value}
 use Rattle.rasn_schema.specs.Schemas.{TagTree, Presence, Schema, Parts, part}
+use Rattle.rasn_schema.specs.Choices.{alternative_at, choice_of, tags_of}
 use Rattle.rasn_codec.specs.Scopes.{record_of}
 use Rattle.per_core.specs.Spellings.{Settings}
-use Rattle.per_core.specs.Basic.{basic, rules, Body, Flags}
+use Rattle.per_core.specs.Basic.{basic, rules, Body, Flags, IsConstrainedWhole}
 use Rattle.per_core.specs.Took.{Took}
+use Rattle.per_read.specs.Choices.{IsOfIndex}
 use Rattle.per_read.specs.Enumerations.{IsOfItem}
 use Rattle.per_read.specs.Kinds.{IsShort, IsTested}
 use Rattle.per_read.specs.Numbers.{IsOfNumber}
@@ -29,6 +31,7 @@ IsAt a Schema.boolean s k = IsShort k
 IsAt a Schema.null s k = ⊥
 IsAt a (Schema.number bounds mark range) s k = IsOfNumber a bounds mark s k
 IsAt a (Schema.items r e ext) s k = IsOfItem a r e ext s k
+IsAt a (Schema.choice ps adds ext) s k = IsOfIndex a (length (tags_of ps)) s k
 IsAt a (Schema.octet_string size mark) s k = IsOfItems a size mark Octet s k
 IsAt a (Schema.bit_string size mark) s k = IsOfItems a size mark Bit s k
 IsAt a (Schema.char_string alphabet size mark) s k = IsOfString a alphabet size mark s k
@@ -37,10 +40,11 @@ IsAt a Schema.cut s k = IsOfCut k
 IsAt a c s k = IsTested k
 
 mutual
-  -- The fault that a kind names stands in bits, as a schema reads them: at once, or in a component of a record.
+  -- The fault that a kind names stands in bits, as a schema reads them: at once, in a component of a record, or in the alternative of a choice.
   pub data IsInBits (a : Settings) (k : DecodeErrorKind) : Schema → Bits → Type 0 where
     at_once : {c : Schema} {s : Bits} → IsAt a c s k → IsInBits a k c s
     inside : {ps : Parts} {s m : Bits} (shown : List Bool) → Took (Flags (rules a ps) shown) s m → IsInParts a k ps shown m → IsInBits a k (record_of ps) s
+    in_alternative : {ps : Parts} {n : ℕ} {c : Schema} {s m : Bits} → Took (IsConstrainedWhole a (length (tags_of ps)) n) s m → alternative_at ps n ≡ Some c → IsInBits a k c m → IsInBits a k (choice_of ps) s
 
   -- It stands in a component that its presence bit shows, behind those before it.
   pub data IsInParts (a : Settings) (k : DecodeErrorKind) : Parts → List Bool → Bits → Type 0 where

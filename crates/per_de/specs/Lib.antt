@@ -1,3 +1,5 @@
+pub mod ChoiceLaws
+pub mod Choices
 pub mod Faults
 pub mod Laws
 pub mod Rules

@@ -5,6 +5,8 @@ ghost use Rattle.std.specs.Prelude.{◌≡◌, true, false, MatchOption, OnOk, O
 ghost use Rattle.rasn_types.specs.declared.types.Codec.TheVariants.{Uper};
 ghost use Rattle.per_read.specs.declared.error.DecodeErrorKind.TheVariants.{AlreadyFailed};
 ghost use Rattle.per_de.specs.State.{State, Options, fresh};
+ghost use Rattle.per_de.specs.ChoiceLaws.{choices_well};
+ghost use Rattle.per_de.specs.Choices.{ClosesChoice, OpensChoice};
 ghost use Rattle.per_de.specs.Faults.{refusal, Answered};
 ghost use Rattle.per_de.specs.Rules.{decoder_rules};
 ghost use Rattle.per_de.specs.Scopes.{Enters, Opens, Closes, Unended};
@@ -16,6 +18,7 @@ use per_read::Reader;
 pub use per_read::error;
 pub use per_read::error::{DecodeError, DecodeErrorKind, ParserFailCause};
 use rasn_codec::codec;
+use rasn_schema::choices::Choice;
 use rasn_schema::constraints::Constraints;
 use rasn_schema::enumerated::Enumerated;
 use rasn_schema::fields::Constructed;
@@ -189,6 +192,10 @@ impl<'input> codec::Decoder for Decoder<'input> {
 
     ghost unended = { Unended };
 
+    ghost opens_choice = { OpensChoice };
+
+    ghost closes_choice = { ClosesChoice };
+
     fn codec(&self) -> Codec {
         Decoder::codec(self)
     }
@@ -329,6 +336,23 @@ impl<'input> codec::Decoder for Decoder<'input> {
         Ok(())
     }
 
+    fn open_choice<C: Choice>(&mut self) -> Result<(Tag, Scope<'input>), DecodeError> {
+        self.check_unfailed()?;
+        let Some(levels) = self.levels.checked_sub(1) else {
+            return Err(self.refuse(DecodeErrorKind::ExceedsMaxParseDepth));
+        };
+        let variants = C::VARIANTS;
+        let taken = self.reader.take_choice_index(variants.len());
+        let index = self.answer(taken)?;
+        let scope = self.enter(levels, BitReader::from_octets(&[]));
+        Ok((variants.tag_at(index), scope))
+    }
+
+    fn close_choice(&mut self, scope: Scope<'input>) {
+        self.levels = scope.levels;
+        self.presences = scope.presences;
+    }
+
     fn next_presence(&mut self) -> Result<bool, DecodeError> {
         self.check_unfailed()?;
         match self.presences.take(1) {
@@ -344,4 +368,6 @@ impl<'input> codec::Decoder for Decoder<'input> {
     ghost lawful = { decodes_well };
 
     ghost scopes = { scopes_well };
+
+    ghost choices = { choices_well };
 }

@@ -1,3 +1,4 @@
+pub mod Alternatives
 pub mod Chain
 pub mod Presenting
 pub mod Records

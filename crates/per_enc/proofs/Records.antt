@@ -31,7 +31,7 @@ join_nothing None = refl
 join_nothing (Some b) = refl
 
 -- nothing in front changes nothing
-at_start : (g : Writer) (p : ℕ) → p < 8 → (just [] ▹ g) p ≡ g p
+pub at_start : (g : Writer) (p : ℕ) → p < 8 → (just [] ▹ g) p ≡ g p
 at_start g p h = let e : after p [] ≡ p = omega arith in ap (λ q. join [] (g q)) e ∙ join_nothing (g p)
 
 -- X.691 19: a record without an extension marker: its presence bits, and its components

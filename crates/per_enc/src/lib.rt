@@ -12,6 +12,7 @@ pub use per_write::error;
 pub use per_write::error::{EncodeError, EncodeErrorKind};
 use per_write::{Presences, Writer};
 use rasn_codec::codec;
+use rasn_schema::choices::Choice;
 use rasn_schema::enumerated::Enumerated;
 use rasn_schema::fields::Constructed;
 use rasn_schema::schema::{Constraints, IntegerType};
@@ -114,6 +115,7 @@ impl<A: Allocator + Clone> Encoder<A> {
 
 impl<A: Allocator + Clone> codec::Encoder for Encoder<A> {
     ghost use Rattle.per_enc.specs.Laws.{presents_well};
+    ghost use Rattle.per_enc.specs.Choices.{OpensChoice};
     ghost use Rattle.per_enc.specs.Opens.{Opens};
 
     type Error = EncodeError;
@@ -123,6 +125,8 @@ impl<A: Allocator + Clone> codec::Encoder for Encoder<A> {
     ghost rules = { encoder_rules };
 
     ghost opens = { Opens };
+
+    ghost opens_choice = { OpensChoice };
 
     fn codec(&self) -> Codec {
         Encoder::codec(self)
@@ -266,6 +270,26 @@ impl<A: Allocator + Clone> codec::Encoder for Encoder<A> {
     fn close_sequence<C: Constructed>(&mut self, outside: Presences) -> Result<(), EncodeError> {
         self.writer.check_unfailed()?;
         self.writer.close_presences(outside)
+    }
+
+    fn open_choice<C: Choice>(
+        &mut self,
+        _tag: Tag,
+        _identifier: Identifier,
+    ) -> Result<Presences, EncodeError> {
+        self.writer.check_unfailed()?;
+        self.writer.open_choice(C::VARIANTS.len())
+    }
+
+    fn close_choice<C: Choice>(
+        &mut self,
+        outside: Presences,
+        chosen: Tag,
+    ) -> Result<(), EncodeError> {
+        self.writer.check_unfailed()?;
+        let variants = C::VARIANTS;
+        let index = self.writer.known_index(variants.index_of(chosen))?;
+        self.writer.close_choice(variants.len(), index, outside)
     }
 
     fn set_presence(&mut self, is_there: bool) -> Result<(), EncodeError> {

@@ -11,6 +11,7 @@ pub mod Within
 pub mod Fits
 pub mod Marks
 pub mod InPlace
+pub mod Indexes
 pub mod Enumerations
 pub mod Refusals
 pub mod Unbounded

@@ -1,3 +1,4 @@
+pub mod Choices
 pub mod Codecs
 pub mod Enumerations
 pub mod Items

@@ -47,7 +47,7 @@ impl Reader<'_> {
 
     /// Takes a place among `count` items before the extension marker (X.691 14.2). A code past the last place is
     /// answered as it stands.
-    fn take_root_place(&mut self, count: usize) -> Result<Option<usize>, DecodeErrorKind>
+    pub(crate) fn take_root_place(&mut self, count: usize) -> Result<Option<usize>, DecodeErrorKind>
         ensures { Takes tested (λ a. constrained_form a count) OfIndex self.old result self.new }
     {
         let code = self.take_constrained_whole(count.saturating_sub(1) as u128)?;

@@ -2,7 +2,9 @@ pub mod Bounded
 pub mod Constrained
 pub mod Counting
 pub mod Enumerations
+pub mod Filling
 pub mod Fragments
+pub mod Indexes
 pub mod Refusing
 pub mod SmallNumbers
 pub mod Steps

@@ -2,8 +2,9 @@
 use Rattle.std.specs.Prelude.{ℕ, ◌≡◌, ◌<◌, ◌⊎◌, Bool, true, false, ◌||◌, List, [], ◌∷◌, length, get_or, Option, Some, None, is_some, MatchOption, ℤ}
 use Rattle.rasn_types.specs.Alphabets.{index_of}
 use Rattle.rasn_types.specs.Codecs.{variant_of}
-use Rattle.rasn_types.specs.Values.{Value, whole, octets, bits, characters}
+use Rattle.rasn_types.specs.Values.{Value, whole, octets, bits, characters, alternative, root}
 use Rattle.rasn_constraints.specs.Bounds.{allows, holds, fits_i128, Bounds, Size}
+use Rattle.rasn_schema.specs.Choices.{alternative_at, choice_of}
 use Rattle.rasn_schema.specs.Records.{record_value}
 use Rattle.rasn_schema.specs.Schemas.{Schema, Parts, part, Presence, TagTree}
 use Rattle.rasn_codec.specs.Scopes.{record_of}
@@ -83,12 +84,14 @@ pub data HasPart (s : Schema) (v : Value) : Parts → List (Option Value) → Ty
   part_here : {t : TagTree} {p : Presence} {ps : Parts} {rs : List (Option Value)} → HasPart s v (part t p s ps) (Some v ∷ rs)
   part_behind : {t : TagTree} {p : Presence} {c : Schema} {r : Option Value} {ps : Parts} {rs : List (Option Value)} → HasPart s v ps rs → HasPart s v (part t p c ps) (r ∷ rs)
 
--- a fault stands in a value: at once, or in a component of it
+-- a fault stands in a value: at once, in a component of it, or in its alternative
 pub data StandsIn (fault : Schema → Value → Type 0) : Schema → Value → Type 0 where
   at_once : {s : Schema} {v : Value} → fault s v → StandsIn fault s v
   in_part : {s : Schema} {v : Value} {ps : Parts} {rs : List (Option Value)} → HasPart s v ps rs → StandsIn fault s v → StandsIn fault (record_of ps) (record_value rs [])
+  in_alternative : {s : Schema} {v : Value} {ps : Parts} {k : ℕ} → alternative_at ps k ≡ Some s → StandsIn fault s v → StandsIn fault (choice_of ps) (alternative root k v)
 
--- Where a kind's fault stands in a value. No call can answer those of lists, choices and additions yet; the last three are none of a
+-- Where a kind's fault stands in a value. No call can answer those of lists and additions yet, and no choice that a lawful type
+-- writes has a tag of none of its alternatives; the last three are none of a
 -- value.
 abbrev pub IsInValue : EncodeErrorKind → Schema → Value → Type 0
 IsInValue (SizeConstraintNotSatisfied length lower upper) s v = StandsIn (IsOutOfSize length lower upper) s v

@@ -1,3 +1,4 @@
+pub mod Choices
 pub mod Characters
 pub mod Faults
 pub mod Items

@@ -11,6 +11,7 @@ ghost use Rattle.per_core.specs.Canon.{completed};
 ghost use Rattle.per_write.specs.State.{fresh, view, Puts};
 ghost use Rattle.per_write.specs.Faults.{IsError, IsMemory, IsAlready, RefusesOutput};
 
+mod choices;
 mod enumerated;
 pub mod error;
 mod integers;

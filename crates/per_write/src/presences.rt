@@ -61,7 +61,7 @@ impl<A: Allocator + Clone> Writer<A> {
     }
 
     /// Writes zero bits.
-    fn put_zeros(&mut self, count: usize) -> Result<(), EncodeError>
+    pub(crate) fn put_zeros(&mut self, count: usize) -> Result<(), EncodeError>
         requires { self.old.failed ≡ false }
         ensures { Puts IsMemory (just (replicate count false)) self.old result self.new }
     {

@@ -13,9 +13,13 @@ ghost use Rattle.rasn_schema.specs.Records.{record_at, no_additions, record_valu
 ghost use Rattle.rasn_codec.specs.Optionals.{EncodesDefault, EncodesNone, EncodesSome, GivesBit, ReadsBit, ReadsComponent, ReadsDefault};
 ghost use Rattle.rasn_codec.specs.Presences.{slot_of};
 ghost use Rattle.rasn_codec.specs.Calls.{EncoderRules, freely, Writes, Encodes, PresentsWell, DecoderRules, freely_read, Reads, DecodesWell};
+ghost use Rattle.rasn_schema.specs.Fields.{tag_of};
+ghost use Rattle.rasn_schema.specs.Choices.{choice_at};
+ghost use Rattle.rasn_codec.specs.Choices.{ChoicesWell, ClosesChoice, EndsChoice, OpensChoice, OpensToChoose, TakesAlternative, WritesChoice};
 ghost use Rattle.rasn_codec.specs.Scopes.{OpensToWrite, ClosesWritten, WritesAround, OpensToRead, ClosesRead, ReadsAround, ScopesWell};
 
 use crate::parts::{DecodeParts, EncodeParts};
+use rasn_schema::choices::Choice;
 use rasn_schema::enumerated::Enumerated;
 use rasn_schema::fields::Constructed;
 use rasn_schema::schema::{AsnType, Constraints, IntegerType};
@@ -42,6 +46,9 @@ pub trait Encoder: Sized {
 
     // A scope is opened to write a schema: what was before, what waits outside, and how it is inside.
     ghost opens: { Schema → Self → Self.Scope → Self → Type 0 };
+
+    // A choice is opened to write a schema: what was before, what waits outside, and how it is inside.
+    ghost opens_choice: { Schema → Self → Self.Scope → Self → Type 0 };
 
     /// The variant in use.
     fn codec(&self) -> Codec
@@ -174,6 +181,24 @@ pub trait Encoder: Sized {
     /// Closes a SEQUENCE in which its components were written.
     fn close_sequence<C: Constructed>(&mut self, scope: Self::Scope) -> Result<(), Self::Error>
         ensures { ClosesWritten rules opens C.parts scope self.old result self.new };
+
+    /// Opens a CHOICE (X.691 23): the calls from here to `close_choice` write the value of its alternative.
+    fn open_choice<C: Choice>(
+        &mut self,
+        tag: Tag,
+        identifier: Identifier,
+    ) -> Result<Self::Scope, Self::Error>
+        ensures { OpensChoice rules opens_choice C.alternatives self.old result self.new };
+
+    /// Closes a CHOICE in which the value of an alternative was written, by the tag that this goes by. A tag by which
+    /// none goes is refused.
+    fn close_choice<C: Choice>(
+        &mut self,
+        scope: Self::Scope,
+        chosen: Tag,
+    ) -> Result<(), Self::Error>
+        ensures { ClosesChoice rules opens_choice C.alternatives C.VARIANTS scope (tag_of chosen)
+            self.old result self.new };
 
     /// Gives the presence bit of the next component of the open SEQUENCE that has one (X.691 19.2). Takes no memory.
     fn set_presence(&mut self, is_there: bool) -> Result<(), Self::Error>
@@ -315,6 +340,33 @@ pub trait Encoder: Sized {
         self.close_sequence::<C>(outside)
     }
 
+    /// Writes a CHOICE (X.691 23). `scope` writes the value of an alternative, and answers the tag that this goes by: its
+    /// own, or the smallest of a nested untagged choice.
+    final fn encode_choice<
+        C: Choice,
+        F: FnOnce(&mut Self) -> Result<Tag, Self::Error>,
+        I: Into<Identifier>,
+    >(
+        &mut self,
+        _constraints: &Constraints,
+        tag: Tag,
+        scope: F,
+        identifier: I,
+    ) -> Result<(), Self::Error>
+        requires { F.IsAlwaysCallable scope }
+        ensures { WritesChoice rules C.alternatives C.VARIANTS (FnOnceReturnsAtMut F.FnOnce scope)
+            self.old result self.new }
+    {
+        let outside = self.open_choice::<C>(tag, identifier.into())?;
+        match scope(self) {
+            Ok(chosen) => self.close_choice::<C>(outside, chosen),
+            Err(error) => {
+                self.fail();
+                Err(error)
+            }
+        }
+    }
+
     /// Writes a SEQUENCE (X.691 19) by the list of its components, which stand in the order of `FIELDS`.
     final fn encode_record<C: Constructed, P: EncodeParts, I: Into<Identifier>>(
         &mut self,
@@ -353,6 +405,12 @@ pub trait Decoder: Sized {
 
     // A scope ends: how it is inside, what waited outside, and how it is behind the scope.
     ghost closes: { Self → Self.Scope → Self → Type 0 };
+
+    // The index of a choice is read: what was before, what waits outside, and how it is behind the index.
+    ghost opens_choice: { Schema → ℕ → Self → Self.Scope → Self → Type 0 };
+
+    // A choice ends: how it is behind its alternative, what waited outside, and how it is behind the choice.
+    ghost closes_choice: { Self → Self.Scope → Self → Type 0 };
 
     // The fault that an error names stands at the end of a scope.
     ghost unended: { Self.Scope → Self.Error → Self → Type 0 };
@@ -463,6 +521,15 @@ pub trait Decoder: Sized {
     /// Closes a SEQUENCE, and gives its level back.
     fn close_sequence(&mut self, scope: Self::Scope) -> Result<(), Self::Error>
         ensures { ClosesRead rules unended closes scope self.old result self.new };
+
+    /// Reads the index of a CHOICE (X.691 23), which takes a level: the calls from here to `close_choice` read the value
+    /// of its alternative, which goes by the tag. At no level left it refuses.
+    fn open_choice<C: Choice>(&mut self) -> Result<(Tag, Self::Scope), Self::Error>
+        ensures { OpensToChoose rules opens_choice C.alternatives C.VARIANTS self.old result self.new };
+
+    /// Closes a CHOICE, and gives its level back.
+    fn close_choice(&mut self, scope: Self::Scope)
+        ensures { EndsChoice rules closes_choice scope self.old self.new };
 
     /// Reads the presence bit of the next component of the open SEQUENCE that has one (X.691 19.2). Takes no memory.
     fn next_presence(&mut self) -> Result<bool, Self::Error>
@@ -604,11 +671,27 @@ pub trait Decoder: Sized {
         Ok(values)
     }
 
+    /// Reads a CHOICE (X.691 23): its index, and the alternative that goes by the tag at its place.
+    final fn decode_choice<C: DecodeChoice>(
+        &mut self,
+        _constraints: &Constraints,
+    ) -> Result<C, Self::Error>
+        ensures { Reads rules (choice_at C.alternatives (rules.levels self.old)) C.value self.old result self.new }
+    {
+        let (tag, outside) = self.open_choice::<C>()?;
+        let value = C::from_tag(self, tag)?;
+        self.close_choice(outside);
+        Ok(value)
+    }
+
     // What holds of each decoder's relations.
     ghost lawful: { DecodesWell rules };
 
     // What holds of each decoder's scopes.
     ghost scopes: { ScopesWell rules unended opens closes };
+
+    // What holds of each decoder's choices.
+    ghost choices: { ChoicesWell rules opens_choice closes_choice };
 }
 
 /// A value that can be encoded. A call that answers Ok presents the normal form of the value by its schema, and a
@@ -697,4 +780,13 @@ pub trait Decode: AsnType + Sized + Drop {
     {
         Self::decode_with_tag_and_constraints(decoder, Self::TAG, constraints)
     }
+}
+
+/// A CHOICE that can be decoded.
+pub trait DecodeChoice: Choice + Decode {
+    /// Reads the alternative that goes by a tag: its own, or the smallest of a nested untagged choice, which is read
+    /// whole. The tag is one of `VARIANTS`.
+    fn from_tag<D: Decoder>(decoder: &mut D, tag: Tag) -> Result<Self, D::Error>
+        ensures { TakesAlternative D.rules Self.alternatives Self.VARIANTS (tag_of tag) Self.value
+            decoder.old result decoder.new };
 }

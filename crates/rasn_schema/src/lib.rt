@@ -2,6 +2,7 @@
 #![tactic(auto)]
 
 pub mod boxed;
+pub mod choices;
 pub mod components;
 pub mod constrained;
 pub mod enumerated;

@@ -73,14 +73,24 @@ fn writes_and_reads_a_record(rt: HostRuntime) -> Result<(), Fail> {
     expect_both(&rt, rt.alloc(), &pair, &[0x80, 0x82, 0x80])
 }
 
-const SOME_ABSENT: &[(SomeAbsent, [u8; 1])] = &[
-    (some_absent(Some(5), 3), [0xb4]),
-    (some_absent(None, 4), [0x70]),
+const SOME_ABSENT: &[(SomeAbsent, &[u8])] = &[
+    (
+        SomeAbsent {
+            a: true,
+            b: Some(5),
+            c: 3,
+        },
+        &[0xb4],
+    ),
+    (
+        SomeAbsent {
+            a: true,
+            b: None,
+            c: 4,
+        },
+        &[0x70],
+    ),
 ];
-
-const fn some_absent(b: Option<u8>, c: u8) -> SomeAbsent {
-    SomeAbsent { a: true, b, c }
-}
 
 #[test]
 fn writes_and_reads_components_that_may_be_absent(rt: HostRuntime) -> Result<(), Fail> {

@@ -1,0 +1,108 @@
+//! The index of a CHOICE (X.691 23.6). It is known behind its alternative alone, so its bits are kept where the CHOICE
+//! is opened.
+
+ghost use Rattle.std.specs.Prelude.{◌≡◌, ◌+◌, ◌^◌, ◌<◌, ◌≤◌, false};
+ghost use Rattle.rasn_types.specs.Codecs.{variant_of};
+ghost use Rattle.per_write.specs.Choices.{FillsIndexOrNot, IsFilled, KnowsIndex, OpensIndexOrNot, index_padding, index_width};
+ghost use Rattle.per_write.specs.Faults.{IsMemory};
+ghost use Rattle.per_write.specs.State.{PutsIn};
+
+use crate::Writer;
+use crate::error::{EncodeError, EncodeErrorKind};
+use crate::lengths::push_padding;
+use crate::presences::Presences;
+use per_bits::BitList;
+use rasn_types::types::Codec;
+use rasn_types::width::width_of;
+use std::alloc::Allocator;
+use std::mem;
+
+impl<A: Allocator + Clone> Writer<A> {
+    /// Opens a CHOICE of so many root alternatives: zeros stand for the index of the one that follows. Answers what
+    /// waits outside until the CHOICE is closed.
+    pub fn open_choice(&mut self, count: usize) -> Result<Presences, EncodeError>
+        requires { self.old.failed ≡ false }
+        ensures { OpensIndexOrNot count self.old result self.new }
+    {
+        self.put_index_padding(count)?;
+        let place = self.bits.len();
+        self.put_zeros(index_width(self.codec, count))?;
+        let index = Presences { place, left: 0 };
+        Ok(mem::replace(&mut self.presences, index))
+    }
+
+    /// Closes a CHOICE of so many root alternatives by the index of the one that was written. What waited outside is
+    /// there again. Where no index is kept it refuses.
+    pub fn close_choice(
+        &mut self,
+        count: usize,
+        index: usize,
+        outside: Presences,
+    ) -> Result<(), EncodeError>
+        requires { self.old.failed ≡ false }
+        ensures { FillsIndexOrNot count index outside self.old result self.new }
+    {
+        let width = index_width(self.codec, count);
+        let place = self.presences.place;
+        let written = self.bits.len();
+        if written < width as u128 || written - (width as u128) < place {
+            return Err(self.refuse(EncodeErrorKind::OutOfTurn));
+        }
+        fill(&mut self.bits, place, width, index);
+        self.presences = outside;
+        Ok(())
+    }
+
+    /// The index of the alternative that goes by a tag, where there is one; else the tag is none of the choice's, and this
+    /// refuses. Takes no memory.
+    pub fn known_index(&mut self, index: Option<usize>) -> Result<usize, EncodeError>
+        requires { self.old.failed ≡ false }
+        ensures { KnowsIndex index self.old result self.new }
+    {
+        match index {
+            Some(index) => Ok(index),
+            None => Err(self.refuse(EncodeErrorKind::VariantNotInChoice)),
+        }
+    }
+
+    /// Writes what stands in front of the index of one of so many root alternatives: in the aligned variant zeros up to
+    /// the next octet, where the index is whole octets (X.691 11.5.7).
+    fn put_index_padding(&mut self, count: usize) -> Result<(), EncodeError>
+        requires { self.old.failed ≡ false }
+        ensures { PutsIn IsMemory (λ a. index_padding a count) self.old result self.new }
+    {
+        if count < 256 {
+            return Ok(());
+        }
+        let pushed = push_padding(&mut self.bits, self.codec);
+        self.unless_out_of_memory(pushed)
+    }
+}
+
+/// How many bits the index of one of so many root alternatives takes (X.691 11.5.6, 11.5.7), of which there are at most
+/// 65536.
+fn index_width(codec: Codec, count: usize) -> usize
+    ensures width { result ≡ index_width (variant_of codec) count }
+    ensures few { result ≤ 64 }
+{
+    if codec == Codec::Aper && count > 256 {
+        return 16;
+    }
+    width_of(count as u128) as usize
+}
+
+/// Writes the low `width` bits of a number, highest first, over the zeros that stand at a place.
+fn fill<A: Allocator>(bits: &mut BitList<A>, place: u128, width: usize, number: usize)
+    requires within { place + width < 2 ^ 128 }
+    requires few { width ≤ 64 }
+    ensures { IsFilled place width number bits.old bits.new }
+{
+    let mut next = place;
+    let mut left = width;
+    while left > 0 {
+        left -= 1;
+        let weight = 2_u128.pow(left as u32);
+        bits.set(next, number as u128 % (2 * weight) >= weight);
+        next += 1;
+    }
+}

@@ -1,0 +1,48 @@
+-- Choices (X.680 29): their alternatives, each by its place in the list before the extension marker, their schemas to a number of
+-- levels, and their values.
+use Rattle.std.specs.Prelude.{ℕ, zero, suc, ◌≡◌, true, false, nat_le, List, [], ◌∷◌, length, Option, Some, None}
+use Rattle.std.specs.List.{position_from}
+use Rattle.rasn_schema.specs.Fields.{field_tag, tag_of}
+use Rattle.rasn_schema.specs.Lawful.{are_distinct, same_tag}
+use Rattle.rasn_schema.specs.Levels.{LevelledParts, Levelled, no_level, to_choice, parts_levelled}
+use Rattle.rasn_schema.specs.Schemas
+use Rattle.rasn_schema.specs.Schemas.{Schema, Parts, no_parts, part}
+use Rattle.rasn_schema.specs.declared.choices.Variant.{Variant}
+
+-- the tag that an alternative goes by: its type's own, or the smallest of a nested untagged choice
+abbrev pub variant_tag : Variant → Schemas.Tag
+variant_tag v = tag_of v.tag
+
+-- X.691 23.5: the tags by which alternatives go, in their order; a nested untagged choice is one alternative
+abbrev pub tags_of : Parts → List Schemas.Tag
+tags_of no_parts = []
+tags_of (part t p s ps) = field_tag t ∷ tags_of ps
+
+-- the place of the alternative that goes by a tag
+abbrev pub place_of : Schemas.Tag → List Schemas.Tag → Option ℕ
+place_of t ts = position_from (same_tag t) 0 ts
+
+-- the schema of the alternative at a place
+abbrev pub alternative_at : Parts → ℕ → Option Schema
+alternative_at no_parts i = None
+alternative_at (part t p s ps) zero = Some s
+alternative_at (part t p s ps) (suc i) = alternative_at ps i
+
+-- X.680 29: a choice of these alternatives, without an extension marker
+abbrev pub choice_of : Parts → Schema
+choice_of ps = Schema.choice ps no_parts false
+
+-- X.680 29: a choice to a number of levels, of which it takes one; with none left it is cut off
+abbrev pub choice_at : (ℕ → Parts) → ℕ → Schema
+choice_at alternatives zero = Schemas.cut
+choice_at alternatives (suc n) = choice_of (alternatives n)
+
+-- X.680 29.3: alternatives that are told apart by their tags, and at most 65536 of them (this project's limit)
+pub record AreVariants (ts : List Schemas.Tag) : Type 0 where
+  pub distinct : are_distinct ts ≡ true
+  pub few : nat_le (length ts) 65536 ≡ true
+
+-- a choice leaves one level less for its alternatives
+pub choice_levelled : {alternatives : ℕ → Parts} → LevelledParts alternatives → Levelled (choice_at alternatives)
+choice_levelled w zero = no_level tt
+choice_levelled w (suc n) = to_choice (w n) (parts_levelled n)

@@ -1,0 +1,110 @@
+//! What a CHOICE states of its alternatives (X.680 29).
+
+ghost use Rattle.std.specs.Prelude.{◌≡◌, ◌<◌, ℕ, Some, length, map, slice_get};
+ghost use Rattle.std.specs.List.{position_from};
+ghost use Rattle.rasn_schema.specs.Choices.{AreVariants, choice_at, place_of, tags_of, variant_tag};
+ghost use Rattle.rasn_schema.specs.Fields.{tag_of};
+ghost use Rattle.rasn_schema.specs.Lawful.{same_tag};
+ghost use Rattle.rasn_schema.specs.Schemas.{Parts};
+
+use crate::fields::TagTree;
+use crate::schema::AsnType;
+use rasn_types::types::Tag;
+use std::marker::Model;
+
+/// An alternative of a CHOICE.
+#[derive(Clone, Copy)]
+pub struct Variant {
+    /// The tag that it goes by: the smallest of its tag tree.
+    pub tag: Tag,
+    /// Its tags.
+    pub tag_tree: TagTree,
+}
+
+/// The alternatives of a CHOICE that stand in one list, in their order. A nested untagged choice is one alternative.
+#[derive(Drop)]
+pub struct Variants {
+    /// The alternatives, each at its index.
+    pub list: &'static [Variant],
+}
+
+impl Model for Variants {
+    ghost use Rattle.std.specs.Prelude.{List, map};
+    ghost use Rattle.rasn_schema.specs.Schemas.{Tag};
+    ghost use Rattle.rasn_schema.specs.Choices.{variant_tag};
+
+    ghost Value = { List Tag };
+
+    ghost view = { λ variants. map variant_tag variants.list.now };
+}
+
+impl Variants {
+    /// How many alternatives there are.
+    pub fn len(&self) -> usize
+        ensures { result ≡ length self.now }
+    {
+        self.list.len()
+    }
+
+    /// The tag that the alternative at an index goes by.
+    pub fn tag_at(&self, index: usize) -> Tag
+        requires { index < length self.now }
+        ensures { slice_get self.now index ≡ Some (tag_of result) }
+    {
+        tag_in(self.list, index)
+    }
+
+    /// The index of the alternative that goes by a tag, or none.
+    pub fn index_of(&self, tag: Tag) -> Option<usize>
+        ensures { result ≡ place_of (tag_of tag) self.now }
+    {
+        index_in(self.list, tag)
+    }
+}
+
+/// The tag that the alternative at an index of a list goes by.
+fn tag_in(list: &[Variant], index: usize) -> Tag
+    requires { index < length list.now }
+    ensures { slice_get (map variant_tag list.now) index ≡ Some (tag_of result) }
+{
+    list[index].tag
+}
+
+/// The index of the alternative of a list that goes by a tag, or none.
+fn index_in(list: &[Variant], tag: Tag) -> Option<usize>
+    ensures { result ≡ position_from (λ v. same_tag (tag_of tag) (variant_tag v)) 0 list.now }
+{
+    list.iter()
+        .position(|variant| is_same_tag(tag, variant.tag))
+}
+
+/// Whether two tags are the same.
+fn is_same_tag(tag: Tag, other: Tag) -> bool
+    ensures { result ≡ same_tag (tag_of tag) (tag_of other) }
+{
+    tag.class as u8 == other.class as u8 && tag.value == other.value
+}
+
+/// A CHOICE (X.680 29), by its root alternatives.
+pub trait Choice: AsnType {
+    ghost use Rattle.std.specs.Prelude.{List};
+    ghost use Rattle.rasn_schema.specs.Schemas.{Tag};
+    ghost use Rattle.rasn_constraints.specs.declared.constraints.Constraints.{Constraints};
+
+    /// The root alternatives, in the order of their indexes (X.691 23.5).
+    const VARIANTS: Variants;
+
+    ghost VARIANTS: { List Tag };
+
+    // The root alternatives, to a number of levels.
+    ghost alternatives: { ℕ → Parts };
+
+    // The variants are those of the alternatives.
+    ghost described: { (n : ℕ) → VARIANTS ≡ tags_of (alternatives n) };
+
+    // No two alternatives go by one tag, and there aren't too many.
+    ghost are_variants: { AreVariants VARIANTS };
+
+    // The schema is the choice of the alternatives.
+    ghost is_choice: { (c : Constraints) → Self.schema c ≡ choice_at alternatives };
+}
