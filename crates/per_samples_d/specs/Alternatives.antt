@@ -22,9 +22,9 @@ pub levelled : Levelled (choice_at parts)
 levelled = choice_levelled (components_levelled alternatives)
 
 -- a choice has no tag of its own
-pub tag : (ps : ℕ → Parts) → IsTagOf EOC (choice_at ps)
-tag ps zero = refl
-tag ps (suc n) = refl
+pub choice_tag : (ps : ℕ → Parts) → IsTagOf EOC (choice_at ps)
+choice_tag ps zero = refl
+choice_tag ps (suc n) = refl
 
 -- the value of the alternative that is chosen
 abbrev pub chosen : Alternative → Value

@@ -7,7 +7,7 @@ ghost use Rattle.rasn_constraints.specs.Ranges.{no_constraints};
 ghost use Rattle.rasn_schema.specs.Choices.{choice_at, tags_of};
 ghost use Rattle.rasn_schema.specs.Components.{◌to◌};
 ghost use Rattle.per_samples_a.specs.Rows.{IsWrittenAs};
-ghost use Rattle.per_samples_d.specs.Alternatives.{alternatives, parts, levelled, tag, chosen};
+ghost use Rattle.per_samples_d.specs.Alternatives.{parts, levelled, choice_tag, chosen};
 ghost use Rattle.per_samples_d.specs.declared.alternative.Alternative.TheVariants.{X, Y};
 
 use crate::choosing::encode_alternative;
@@ -57,16 +57,16 @@ impl AsnType for Alternative {
 
     ghost levelled = { λ _. levelled };
 
-    ghost tag_fits = { λ _. tag parts };
+    ghost tag_fits = { λ _. choice_tag parts };
 }
 
 /// The tags of the alternatives (AUTOMATIC TAGS).
-const TAG_OF_X: Tag = Tag {
+pub(crate) const TAG_OF_X: Tag = Tag {
     class: Class::Context,
     value: 0,
 };
 
-const TAG_OF_Y: Tag = Tag {
+pub(crate) const TAG_OF_Y: Tag = Tag {
     class: Class::Context,
     value: 1,
 };

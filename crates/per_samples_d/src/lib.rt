@@ -3,3 +3,4 @@
 
 pub mod alternative;
 pub mod choosing;
+pub mod nested;
