@@ -783,7 +783,7 @@ pub trait Decode: AsnType + Sized + Drop {
 }
 
 /// A CHOICE that can be decoded.
-pub trait DecodeChoice: Choice + Decode {
+pub trait DecodeChoice: Choice + Sized + Drop {
     /// Reads the alternative that goes by a tag: its own, or the smallest of a nested untagged choice, which is read
     /// whole. The tag is one of `VARIANTS`.
     fn from_tag<D: Decoder>(decoder: &mut D, tag: Tag) -> Result<Self, D::Error>

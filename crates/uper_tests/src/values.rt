@@ -3,6 +3,7 @@
 use its_header::speed::Speed;
 use per_samples_a::pair::Pair;
 use per_samples_a::some_absent::SomeAbsent;
+use per_samples_d::alternative::{Alternative, ZeroTo7};
 use rasn_codec::codec::{Decode, Encode};
 use rasn_per::uper::{decode, encode};
 use rasn_strings::strings::{BmpString, Ia5String, NumericString, PrintableString, VisibleString};
@@ -98,6 +99,13 @@ fn writes_and_reads_components_that_may_be_absent(rt: HostRuntime) -> Result<(),
         expect_both(&rt, rt.alloc(), value, octets)?;
     }
     Ok(())
+}
+
+#[test]
+fn writes_and_reads_a_choice(rt: HostRuntime) -> Result<(), Fail> {
+    expect_both(&rt, rt.alloc(), &Alternative::X(true), &[0x40])?;
+    let second = Alternative::Y(ZeroTo7::new(5));
+    expect_both(&rt, rt.alloc(), &second, &[0xd0])
 }
 
 #[test]

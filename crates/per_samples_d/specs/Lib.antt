@@ -1,0 +1,3 @@
+pub mod Alternatives
+pub mod Choosing
+pub mod Nesteds

@@ -1,0 +1,152 @@
+//! A CHOICE of a SEQUENCE, an untagged CHOICE and NULL.
+
+ghost use Rattle.std.specs.Prelude.{refl, true, [], ◌∷◌, pos};
+ghost use Rattle.rasn_types.specs.declared.types.TheConstants.Tag.{EOC};
+ghost use Rattle.rasn_types.specs.Variants.{aligned, unaligned};
+ghost use Rattle.rasn_constraints.specs.Ranges.{no_constraints};
+ghost use Rattle.rasn_schema.specs.Choices.{choice_at};
+ghost use Rattle.per_samples_a.specs.Rows.{IsWrittenAs};
+ghost use Rattle.per_samples_d.specs.Alternatives.{choice_tag};
+ghost use Rattle.per_samples_d.specs.Nesteds.{nested_parts, nested_levelled, nested_tags, nested_described, nested_chosen, nested_levels};
+ghost use Rattle.per_samples_d.specs.declared.alternative.Alternative.TheVariants.{X, Y};
+ghost use Rattle.per_samples_d.specs.declared.nested.Nested.TheVariants.{Record, Inner, Last};
+
+use crate::alternative::{Alternative, TAG_OF_X, TAG_OF_Y};
+use crate::choosing::encode_alternative;
+use per_samples_a::pair::Pair;
+use rasn_codec::codec::{Decode, DecodeChoice, Decoder, Encode, Encoder};
+use rasn_schema::choices::{Choice, Variant, Variants};
+use rasn_schema::fields::TagTree;
+use rasn_schema::schema::{AsnType, Constraints};
+use rasn_types::types::{Class, Identifier, Tag};
+
+/// CHOICE { record SEQUENCE { a BOOLEAN, b INTEGER }, inner Alternative, last [2] NULL }
+#[derive(Clone, Copy, Debug, PartialEq)]
+pub enum Nested {
+    Record(Pair),
+    Inner(Alternative),
+    Last,
+}
+
+impl AsnType for Nested {
+    const TAG: Tag = Tag::EOC;
+
+    ghost TAG = { EOC };
+
+    const CONSTRAINTS: Constraints = Constraints::NONE;
+
+    ghost CONSTRAINTS = { no_constraints };
+
+    ghost schema = { λ _. choice_at nested_parts };
+
+    ghost value = { nested_chosen };
+
+    ghost levels = { nested_levels };
+
+    ghost levelled = { λ _. nested_levelled };
+
+    ghost tag_fits = { λ _. choice_tag nested_parts };
+}
+
+/// The tag of the last alternative.
+const TAG_OF_LAST: Tag = Tag {
+    class: Class::Context,
+    value: 2,
+};
+
+const VARIANTS: &[Variant] = &[
+    Variant {
+        tag: Tag::SEQUENCE,
+        tag_tree: TagTree::Leaf(Tag::SEQUENCE),
+    },
+    Variant {
+        tag: TAG_OF_X,
+        tag_tree: TagTree::Choice(&[TagTree::Leaf(TAG_OF_X), TagTree::Leaf(TAG_OF_Y)]),
+    },
+    Variant {
+        tag: TAG_OF_LAST,
+        tag_tree: TagTree::Leaf(TAG_OF_LAST),
+    },
+];
+
+impl Choice for Nested {
+    const VARIANTS: Variants = Variants { list: VARIANTS };
+
+    ghost VARIANTS = { nested_tags };
+
+    ghost alternatives = { nested_parts };
+
+    ghost described = { nested_described };
+
+    ghost are_variants = { record { distinct = refl; few = refl } };
+
+    ghost is_choice = { λ _. refl };
+}
+
+impl Encode for Nested {
+    fn encode_with_tag_and_constraints<E: Encoder>(
+        &self,
+        encoder: &mut E,
+        tag: Tag,
+        constraints: &Constraints,
+        identifier: Identifier,
+    ) -> Result<(), E::Error> {
+        let _ = constraints;
+        match self {
+            Nested::Record(record) => {
+                encode_alternative::<Nested, _, _>(encoder, tag, identifier, Tag::SEQUENCE, record)
+            }
+            Nested::Inner(inner) => {
+                encode_alternative::<Nested, _, _>(encoder, tag, identifier, TAG_OF_X, inner)
+            }
+            Nested::Last => {
+                encode_alternative::<Nested, _, _>(encoder, tag, identifier, TAG_OF_LAST, &())
+            }
+        }
+    }
+}
+
+impl Decode for Nested {
+    fn decode_with_tag_and_constraints<D: Decoder>(
+        decoder: &mut D,
+        tag: Tag,
+        constraints: &Constraints,
+    ) -> Result<Nested, D::Error> {
+        let _ = tag;
+        decoder.decode_choice(constraints)
+    }
+}
+
+impl DecodeChoice for Nested {
+    fn from_tag<D: Decoder>(decoder: &mut D, tag: Tag) -> Result<Nested, D::Error> {
+        match Self::VARIANTS.index_of(tag) {
+            Some(0) => {
+                let record = Pair::decode_with_tag(decoder, tag)?;
+                Ok(Nested::Record(record))
+            }
+            Some(1) => {
+                let inner = Alternative::decode_with_tag(decoder, tag)?;
+                Ok(Nested::Inner(inner))
+            }
+            _ => {
+                <()>::decode_with_tag(decoder, tag)?;
+                Ok(Nested::Last)
+            }
+        }
+    }
+}
+
+/// The index in two bits, and behind that of the inner choice its own (X.691 23.6).
+#[tactic(auto, unfolding(per_core::specs::Canon::bytes, rasn_schema::specs::Normal::normal, rasn_schema::specs::Normal::settle))]
+pub fn inner_choice_is_written_behind_the_outer_index()
+    ensures record { let own = ⟦<Nested as AsnType>⟧ in
+        IsWrittenAs unaligned (own.schema own.CONSTRAINTS) own.levels own.value
+        (Record (record { a = true; b = pos 5 })) (0x20 ∷ 0x20 ∷ 0xa0 ∷ []) }
+    ensures inner_first { let own = ⟦<Nested as AsnType>⟧ in
+        IsWrittenAs unaligned (own.schema own.CONSTRAINTS) own.levels own.value (Inner (X true)) (0x50 ∷ []) }
+    ensures inner_second { let own = ⟦<Nested as AsnType>⟧ in
+        IsWrittenAs unaligned (own.schema own.CONSTRAINTS) own.levels own.value
+        (Inner (Y (record { value = 5; limits = record {} }))) (0x74 ∷ []) }
+    ensures last { let own = ⟦<Nested as AsnType>⟧ in
+        IsWrittenAs aligned (own.schema own.CONSTRAINTS) own.levels own.value Last (0x80 ∷ []) }
+{}
