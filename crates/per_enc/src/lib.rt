@@ -14,6 +14,7 @@ mod tests;
 use per_write::Writer;
 pub use per_write::error;
 pub use per_write::error::{EncodeError, EncodeErrorKind};
+use per_write::lists::OpenList;
 use rasn_codec::codec;
 use rasn_schema::enumerated::Enumerated;
 use rasn_schema::fields::Constructed;
@@ -122,14 +123,19 @@ impl<A: Allocator + Clone> Encoder<A> {
 impl<A: Allocator + Clone> codec::Encoder for Encoder<A> {
     ghost use Rattle.per_enc.specs.Laws.{presents_well};
     ghost use Rattle.per_enc.specs.Opens.{Opens};
+    ghost use Rattle.per_write.specs.Lists.{AmidList};
 
     type Error = EncodeError;
 
     type Scope = Scope;
 
+    type List = OpenList;
+
     ghost rules = { encoder_rules };
 
     ghost opens = { Opens };
+
+    ghost amid = { AmidList };
 
     fn codec(&self) -> Codec {
         Encoder::codec(self)
@@ -271,6 +277,27 @@ impl<A: Allocator + Clone> codec::Encoder for Encoder<A> {
 
     fn close_sequence<C: Constructed>(&mut self, _scope: Scope) -> Result<(), EncodeError> {
         self.writer.check_unfailed()
+    }
+
+    fn open_list(
+        &mut self,
+        _tag: Tag,
+        constraints: &Constraints,
+        count: usize,
+        _identifier: Identifier,
+    ) -> Result<OpenList, EncodeError> {
+        self.writer.check_unfailed()?;
+        self.writer.open_list(constraints, count)
+    }
+
+    fn next_element(&mut self, list: &mut OpenList) -> Result<(), EncodeError> {
+        self.writer.check_unfailed()?;
+        self.writer.next_element(list)
+    }
+
+    fn close_list(&mut self, list: OpenList) -> Result<(), EncodeError> {
+        self.writer.check_unfailed()?;
+        self.writer.close_list(list)
     }
 
     fn fail(&mut self) {

@@ -1,8 +1,10 @@
 pub mod Characters
 pub mod Faults
 pub mod Items
+pub mod Lists
 pub mod Names
 pub mod Numbers
 pub mod Fragments
+pub mod Remains
 pub mod Rules
 pub mod State

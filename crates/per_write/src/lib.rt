@@ -16,6 +16,7 @@ pub mod error;
 mod integers;
 mod items;
 mod lengths;
+pub mod lists;
 mod numbers;
 mod sizes;
 mod small;

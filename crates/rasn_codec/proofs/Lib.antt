@@ -1,3 +1,3 @@
-pub mod Lists
+pub mod Elements
 pub mod Reading
 pub mod Writing

@@ -1,6 +1,6 @@
 use Rattle.std.proofs.Common.{refl, ◌∙◌, rules}
 use Rattle.std.proofs.lemmas.Result.{err_from_is_err_and}
-use Rattle.rasn_codec.proofs.Lists.{at_item, element_presented, element_refused, list_closed, list_opened, list_unopened, next_refused}
+use Rattle.rasn_codec.proofs.Elements.{at_item, element_presented, element_refused, list_closed, list_opened, list_unopened, next_refused}
 use Rattle.rasn_codec.proofs.codec.Encoder.encode_sequence_of.Goals as goal
 
 pub returns-in_err-list : goal.returns-in_err-list

@@ -1,6 +1,6 @@
 use Rattle.std.proofs.Common.{drop}
 use Rattle.rasn_schema.specs.Forms.{is_size_marked, size_of}
-use Rattle.rasn_codec.proofs.Lists.{Amidst}
+use Rattle.rasn_codec.proofs.Elements.{Amidst}
 use Rattle.rasn_codec.proofs.codec.Encoder.encode_sequence_of.Given as goal
 
 abbrev pub invariant-loop-value : goal.invariant-loop-value
