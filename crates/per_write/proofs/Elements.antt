@@ -1,10 +1,10 @@
 -- Lists that are written element by element.
-use Rattle.std.specs.Prelude.{OnErr, Result, Ok, Err}
+use Rattle.std.specs.Prelude.{Result, Ok, Err}
 use Rattle.std.specs.Option.{unwrap_or}
-use Rattle.std.proofs.Common.{◌≡◌, ◌⊎◌, refl, sym, ap, ap₂, ◌∙◌, subst, ℕ, zero, suc, ◌+◌, ◌-◌, ◌*◌, ◌/◌, ◌%◌, ◌<◌, ◌≤◌, Bool, true, false, ◌&&◌, cond, ltb, lt-ltb, List, [], ◌∷◌, ◌++◌, map, length, take, drop, length-take, length-drop, replicate, append_assoc, ◌^◌, arith, Option, Some, None, inl, inr}
+use Rattle.std.proofs.Common.{◌≡◌, ◌⊎◌, refl, sym, ap, ap₂, ◌∙◌, subst, ℕ, zero, suc, ◌-◌, ◌%◌, ◌<◌, ◌≤◌, Bool, true, false, List, [], ◌∷◌, ◌++◌, map, length, take, drop, length-take, length-drop, replicate, append_assoc, ◌^◌, arith, Option, Some, None, inl, inr}
 use Rattle.rasn_types.specs.Bits.{Bits}
 use Rattle.rasn_types.specs.Codecs.{variant_of}
-use Rattle.rasn_types.specs.Values.{Value, elements, values, as_values}
+use Rattle.rasn_types.specs.Values.{Value}
 use Rattle.rasn_types.specs.Variants.{Variant, aligned, unaligned}
 use Rattle.rasn_types.specs.declared.types.Codec.{Codec}
 use Rattle.rasn_types.proofs.Values.{values-as_values}
@@ -14,8 +14,8 @@ use Rattle.rasn_schema.specs.Schemas.{Schema}
 use Rattle.rasn_codec.specs.Calls.{Written}
 use Rattle.rasn_codec.specs.Lists.{AwaitsElement, ListForm, ListOpened, schema_of}
 use Rattle.per_core.specs.Canon.{canon}
-use Rattle.per_core.specs.Counts.{constrained_whole, counted, counted_in, counted_under, determinant, fragment_sizes, in_fragments, is_aligned, list_items, marked_form, padding_if}
-use Rattle.per_core.specs.Writers.{Writer, after, go_on, join, just, ◌▹◌, one_by_one, pad, padding, written_if}
+use Rattle.per_core.specs.Counts.{counted, counted_in, determinant, fragment_sizes, in_fragments, list_items, marked_form}
+use Rattle.per_core.specs.Writers.{Writer, after, go_on, join, just, ◌▹◌, one_by_one, pad, padding}
 use Rattle.per_write.specs.declared.error.EncodeError.{EncodeError}
 use Rattle.per_write.specs.declared.error.EncodeErrorKind.{EncodeErrorKind}
 use Rattle.per_write.specs.declared.error.EncodeErrorKind.TheVariants.{SizeConstraintNotSatisfied, ValueConstraintNotSatisfied, AlphabetConstraintNotSatisfied, IntegerTypeConversionFailed, VariantNotInChoice, RealNotSupported, TooManyAdditions, Below, AlreadyFailed, OutOfMemory, OutOfTurn}
@@ -23,13 +23,13 @@ use Rattle.per_write.specs.declared.lists.OpenList.{OpenList}
 use Rattle.per_write.specs.Faults.{at_once, element_behind, element_here, HasElement, in_element, IsError, IsMemory, OutsideSize, RefusesValue, Stands}
 use Rattle.per_write.specs.Fragments.{one_fragment, unconstrained_length}
 use Rattle.per_write.specs.Items.{HasRefused, refused_behind, refused_here}
-use Rattle.per_write.specs.Lists.{AmidList, Begins, BeginsItems, count_behind, count_left, count_memory, count_outside, fragment_and, RefusesCount, still}
+use Rattle.per_write.specs.Lists.{AmidList, Begins, BeginsItems, count_behind, count_memory, count_outside, fragment_and, RefusesCount, still}
 use Rattle.per_write.specs.Remains.{Remains}
 use Rattle.per_write.specs.Rules.{encoder_rules}
 use Rattle.per_write.specs.State.{Puts, State, view, Wrote}
 use Rattle.per_write.proofs.Fragments.{first_fragment, fragments_of_few, fragments_of_many, in_their_fragments}
 use Rattle.per_write.proofs.Refusing.{none_counted, none_outside}
-use Rattle.per_write.proofs.Writing.{remains_after, remains_all, remains_last, then_assoc, then_nothing, then_same, wrote_same, wrote_then}
+use Rattle.per_write.proofs.Writing.{remains_after, remains_all, remains_last, then_assoc, then_nothing, then_same}
 
 join_nothing : (o : Option Bits) → join [] o ≡ o
 join_nothing None = refl

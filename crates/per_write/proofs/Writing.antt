@@ -3,7 +3,7 @@ use Rattle.std.proofs.Common.{◌≡◌, refl, sym, ap, ◌∙◌, ℕ, false, [
 use Rattle.rasn_types.specs.Bits.{Bits}
 use Rattle.per_core.specs.Writers.{Writer, just, join, go_on, after, ◌▹◌}
 use Rattle.per_write.specs.Remains.{Remains}
-use Rattle.per_write.specs.State.{Appends, MayBegin, State, Wrote, view}
+use Rattle.per_write.specs.State.{Appends, State, Wrote, view}
 
 join_join : (x y : Bits) (o : Option Bits) → join x (join y o) ≡ join (x ++ y) o
 join_join x y None = refl

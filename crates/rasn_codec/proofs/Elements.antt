@@ -1,5 +1,5 @@
 -- How the law of a list follows from those of its elements and of the calls around them, over any encoder.
-use Rattle.std.proofs.Common.{◌≡◌, refl, sym, ap, ◌∙◌, ℕ, zero, suc, ◌+◌, ◌<◌, ◌≤◌, ◌⊎◌, inl, inr, Bool, Result, Ok, Err, List, [], ◌∷◌, map, length, max, drop, get_or, arith}
+use Rattle.std.proofs.Common.{◌≡◌, refl, sym, ap, ◌∙◌, ℕ, suc, ◌+◌, ◌<◌, ◌≤◌, ◌⊎◌, inl, inr, Bool, Result, Ok, Err, List, [], ◌∷◌, map, length, drop, get_or, arith}
 use Rattle.std.proofs.lemmas.List.{drop_more, drop_all}
 use Rattle.rasn_types.specs.Values.{Value, elements, as_values}
 use Rattle.rasn_types.proofs.Values.{values-as_values}

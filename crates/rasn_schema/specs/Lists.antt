@@ -1,7 +1,6 @@
 -- SEQUENCE OF: its schemas to a number of levels, and its values (ITU-T X.680, 26).
-use Rattle.std.specs.Prelude.{ℕ, zero, suc, ◌≡◌, max, Bool, true, List, [], ◌∷◌, refl}
+use Rattle.std.specs.Prelude.{ℕ, zero, suc, max, Bool, List, [], ◌∷◌, refl}
 use Rattle.rasn_types.specs.Values.{Value, elements, as_values}
-use Rattle.rasn_types.specs.declared.types.Tag.{Tag}
 use Rattle.rasn_types.specs.declared.types.Class.TheVariants.{Universal}
 use Rattle.rasn_constraints.specs.Bounds.{Size}
 use Rattle.rasn_schema.specs.Schemas
