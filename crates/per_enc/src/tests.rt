@@ -3,6 +3,7 @@
 ghost use Rattle.std.specs.Prelude.{◌≡◌, false};
 
 mod flagged;
+mod lists;
 mod strings;
 
 use super::*;

@@ -214,7 +214,8 @@ pub trait Encoder: Sized {
         constraints: &Constraints,
         identifier: Identifier,
     ) -> Result<(), Self::Error>
-        ensures { Encodes rules (list_at (T.schema T.CONSTRAINTS) (size_of constraints.now) (is_size_marked constraints.now))
+        ensures { let size = size_of constraints.now in
+            Encodes rules (list_at (T.schema T.CONSTRAINTS) size (is_size_marked constraints.now))
             (suc (deepest T.levels values.now)) (list_value (map T.value values.now)) self.old result self.new }
     {
         let mut list = self.open_list(tag, constraints, values.len(), identifier)?;
