@@ -10,6 +10,7 @@ ghost use Rattle.per_write.specs.State.{fresh, view};
 
 pub use per_write::error;
 pub use per_write::error::{EncodeError, EncodeErrorKind};
+use per_write::lists::OpenList;
 use per_write::{Presences, Writer};
 use rasn_codec::codec;
 use rasn_schema::choices::Choice;
@@ -117,16 +118,21 @@ impl<A: Allocator + Clone> codec::Encoder for Encoder<A> {
     ghost use Rattle.per_enc.specs.Laws.{presents_well};
     ghost use Rattle.per_enc.specs.Choices.{OpensChoice};
     ghost use Rattle.per_enc.specs.Opens.{Opens};
+    ghost use Rattle.per_write.specs.Lists.{AmidList};
 
     type Error = EncodeError;
 
     type Scope = Presences;
+
+    type List = OpenList;
 
     ghost rules = { encoder_rules };
 
     ghost opens = { Opens };
 
     ghost opens_choice = { OpensChoice };
+
+    ghost amid = { AmidList };
 
     fn codec(&self) -> Codec {
         Encoder::codec(self)
@@ -295,6 +301,27 @@ impl<A: Allocator + Clone> codec::Encoder for Encoder<A> {
     fn set_presence(&mut self, is_there: bool) -> Result<(), EncodeError> {
         self.writer.check_unfailed()?;
         self.writer.set_presence(is_there)
+    }
+
+    fn open_list(
+        &mut self,
+        _tag: Tag,
+        constraints: &Constraints,
+        count: usize,
+        _identifier: Identifier,
+    ) -> Result<OpenList, EncodeError> {
+        self.writer.check_unfailed()?;
+        self.writer.open_list(constraints, count)
+    }
+
+    fn next_element(&mut self, list: &mut OpenList) -> Result<(), EncodeError> {
+        self.writer.check_unfailed()?;
+        self.writer.next_element(list)
+    }
+
+    fn close_list(&mut self, list: OpenList) -> Result<(), EncodeError> {
+        self.writer.check_unfailed()?;
+        self.writer.close_list(list)
     }
 
     fn fail(&mut self) {

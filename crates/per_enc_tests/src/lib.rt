@@ -9,4 +9,6 @@ mod errors;
 #[cfg(test)]
 mod lengths;
 #[cfg(test)]
+mod lists;
+#[cfg(test)]
 mod values;

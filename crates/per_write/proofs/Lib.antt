@@ -1,6 +1,7 @@
 pub mod Bounded
 pub mod Constrained
 pub mod Counting
+pub mod Elements
 pub mod Enumerations
 pub mod Filling
 pub mod Fragments

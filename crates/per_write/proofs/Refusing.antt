@@ -77,7 +77,7 @@ none_written_if : (b : Bool) (w : Writer) (p : ℕ) → w p ≡ None → written
 none_written_if true w p h = h
 none_written_if false w p h = refl
 
-none_counted : (a : Variant) (size : Size) (mark : Bool) (kind : Counted) (ws : List Writer) → HasRefused ws → (p : ℕ) → counted a size mark kind ws p ≡ None
+pub none_counted : (a : Variant) (size : Size) (mark : Bool) (kind : Counted) (ws : List Writer) → HasRefused ws → (p : ℕ) → counted a size mark kind ws p ≡ None
 none_counted a size mark kind ws h p = go mark (allows size (length ws))
   where
     inside : (s : Size) (q : ℕ) → counted_in a s kind ws q ≡ None
@@ -89,7 +89,7 @@ none_counted a size mark kind ws h p = go mark (allows size (length ws))
     go true false = none_behind (just (true ∷ []) p) (counted_in a any_size kind ws) p (inside any_size)
 
 -- a count outside a size that isn't extensible
-none_outside : (a : Variant) (size : Size) (mark : Bool) (kind : Counted) (ws : List Writer) → mark ≡ false → allows size (length ws) ≡ false → (p : ℕ) → counted a size mark kind ws p ≡ None
+pub none_outside : (a : Variant) (size : Size) (mark : Bool) (kind : Counted) (ws : List Writer) → mark ≡ false → allows size (length ws) ≡ false → (p : ℕ) → counted a size mark kind ws p ≡ None
 none_outside a size true kind ws m h p = absurd cc
 none_outside a size false kind ws m h p = ap (λ (b : Bool). written_if b (counted_under a size.least size.most kind (length ws) ws) p) h
 

@@ -13,7 +13,8 @@ use Rattle.per_core.specs.Writers.{Writer, after, join, one_by_one, just}
 use Rattle.per_write.specs.Faults.{HasForeign}
 use Rattle.per_write.specs.Items.{HasRefused, refused_behind, refused_here}
 use Rattle.per_write.specs.State.{State, Wrote}
-use Rattle.per_write.proofs.Writing.{Remains, remains_after}
+use Rattle.per_write.specs.Remains.{Remains}
+use Rattle.per_write.proofs.Writing.{remains_after}
 
 -- an element within a list is there
 pub some_within : {A : Type 0} (xs : List A) (i : ℕ) (o : Option A) → o ≡ slice_get xs i → i < length xs → IsSome o

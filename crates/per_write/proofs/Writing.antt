@@ -2,7 +2,8 @@
 use Rattle.std.proofs.Common.{◌≡◌, refl, sym, ap, ◌∙◌, ℕ, false, [], ◌++◌, Some, None, Option, arith, append_assoc, append-nil, length-append}
 use Rattle.rasn_types.specs.Bits.{Bits}
 use Rattle.per_core.specs.Writers.{Writer, just, join, go_on, after, ◌▹◌}
-use Rattle.per_write.specs.State.{Appends, MayBegin, State, Wrote, view}
+use Rattle.per_write.specs.Remains.{Remains}
+use Rattle.per_write.specs.State.{Appends, State, Wrote, view}
 
 join_join : (x y : Bits) (o : Option Bits) → join x (join y o) ≡ join (x ++ y) o
 join_join x y None = refl
@@ -74,14 +75,6 @@ wrote_same x y f g e h = record {
   beside = h.beside;
   written = λ p b. h.written p b ∙ then_same (view x) (view x) f g (λ q. refl) e p;
 }
-
--- a call wrote the first of what was to be written, and so much remains
-pub record Remains (x : State) (all : Writer) (y : State) (rest : Writer) : Type 0 where
-  pub begun : x.failed ≡ false
-  pub left : y.failed ≡ false
-  pub same : y.codec ≡ x.codec
-  pub beside : y.presences ≡ x.presences
-  pub written : (p : ℕ) → MayBegin x p → (view y ▹ rest) p ≡ (view x ▹ all) p
 
 pub remains_all : (x : State) (all : Writer) → x.failed ≡ false → Remains x all x all
 remains_all x all f = record { begun = f; left = f; same = refl; beside = refl; written = λ p b. refl }

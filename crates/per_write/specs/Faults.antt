@@ -2,9 +2,10 @@
 use Rattle.std.specs.Prelude.{ℕ, ◌≡◌, ◌<◌, ◌⊎◌, Bool, true, false, ◌||◌, List, [], ◌∷◌, length, get_or, Option, Some, None, is_some, MatchOption, ℤ}
 use Rattle.rasn_types.specs.Alphabets.{index_of}
 use Rattle.rasn_types.specs.Codecs.{variant_of}
-use Rattle.rasn_types.specs.Values.{Value, whole, octets, bits, characters, alternative, root}
+use Rattle.rasn_types.specs.Values.{Value, whole, octets, bits, characters, elements, values, alternative, root}
 use Rattle.rasn_constraints.specs.Bounds.{allows, holds, fits_i128, Bounds, Size}
 use Rattle.rasn_schema.specs.Choices.{alternative_at, choice_of}
+use Rattle.rasn_schema.specs.Lists.{list_value}
 use Rattle.rasn_schema.specs.Records.{record_value}
 use Rattle.rasn_schema.specs.Schemas.{Schema, Parts, part, Presence, TagTree}
 use Rattle.rasn_codec.specs.Scopes.{record_of}
@@ -61,11 +62,12 @@ abbrev pub IsPastBounds : Schema → Value → Type 0
 IsPastBounds (Schema.number bounds mark range) (whole z) = IsPast bounds z
 IsPastBounds _ _ = ⊥
 
--- X.691 16, 17, 30: the count of a string's items is outside a size that isn't extensible
+-- X.691 16, 17, 20, 30: the count of a string's items or of a list's elements is outside a size that isn't extensible
 abbrev pub IsOutOfSize : ℕ → Option ℕ → Option ℕ → Schema → Value → Type 0
 IsOutOfSize count lower upper (Schema.octet_string size false) (octets os) = OutsideSize size (length os) count lower upper
 IsOutOfSize count lower upper (Schema.bit_string size false) (bits bs) = OutsideSize size (length bs) count lower upper
 IsOutOfSize count lower upper (Schema.char_string alphabet size false) (characters cs) = OutsideSize size (length cs) count lower upper
+IsOutOfSize count lower upper (Schema.list e size false) (elements vs) = OutsideSize size (length (values vs)) count lower upper
 IsOutOfSize count lower upper _ _ = ⊥
 
 -- some characters have one outside an alphabet, at an index
@@ -84,15 +86,20 @@ pub data HasPart (s : Schema) (v : Value) : Parts → List (Option Value) → Ty
   part_here : {t : TagTree} {p : Presence} {ps : Parts} {rs : List (Option Value)} → HasPart s v (part t p s ps) (Some v ∷ rs)
   part_behind : {t : TagTree} {p : Presence} {c : Schema} {r : Option Value} {ps : Parts} {rs : List (Option Value)} → HasPart s v ps rs → HasPart s v (part t p c ps) (r ∷ rs)
 
--- a fault stands in a value: at once, in a component of it, or in its alternative
+-- an element of a list
+pub data HasElement (v : Value) : List Value → Type 0 where
+  element_here : {vs : List Value} → HasElement v (v ∷ vs)
+  element_behind : {w : Value} {vs : List Value} → HasElement v vs → HasElement v (w ∷ vs)
+
+-- a fault stands in a value: at once, in a component or an element of it, or in its alternative
 pub data StandsIn (fault : Schema → Value → Type 0) : Schema → Value → Type 0 where
   at_once : {s : Schema} {v : Value} → fault s v → StandsIn fault s v
   in_part : {s : Schema} {v : Value} {ps : Parts} {rs : List (Option Value)} → HasPart s v ps rs → StandsIn fault s v → StandsIn fault (record_of ps) (record_value rs [])
+  in_element : {e : Schema} {size : Size} {mark : Bool} {v : Value} {vs : List Value} → HasElement v vs → StandsIn fault e v → StandsIn fault (Schema.list e size mark) (list_value vs)
   in_alternative : {s : Schema} {v : Value} {ps : Parts} {k : ℕ} → alternative_at ps k ≡ Some s → StandsIn fault s v → StandsIn fault (choice_of ps) (alternative root k v)
 
--- Where a kind's fault stands in a value. No call can answer those of lists and additions yet, and no choice that a lawful type
--- writes has a tag of none of its alternatives; the last three are none of a
--- value.
+-- Where a kind's fault stands in a value. No call can answer those of additions yet, and no choice that a lawful type
+-- writes has a tag of none of its alternatives; the last three are none of a value.
 abbrev pub IsInValue : EncodeErrorKind → Schema → Value → Type 0
 IsInValue (SizeConstraintNotSatisfied length lower upper) s v = StandsIn (IsOutOfSize length lower upper) s v
 IsInValue (ValueConstraintNotSatisfied value lower upper) s v = StandsIn (IsOutOfBounds value lower upper) s v

@@ -2,9 +2,11 @@ pub mod Choices
 pub mod Characters
 pub mod Faults
 pub mod Items
+pub mod Lists
 pub mod Names
 pub mod Numbers
 pub mod Fragments
 pub mod Presences
+pub mod Remains
 pub mod Rules
 pub mod State

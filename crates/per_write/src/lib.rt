@@ -17,6 +17,7 @@ pub mod error;
 mod integers;
 mod items;
 mod lengths;
+pub mod lists;
 mod numbers;
 mod presences;
 mod sizes;

@@ -101,7 +101,7 @@ impl<A: Allocator + Clone> Writer<A> {
     }
 
     /// Writes how many items follow, which begins on an octet in the aligned variant (X.691 11.9.3.5 to 11.9.3.8).
-    fn put_unconstrained_length(&mut self, count: usize) -> Result<(), EncodeError>
+    pub(crate) fn put_unconstrained_length(&mut self, count: usize) -> Result<(), EncodeError>
         requires { self.old.failed ≡ false }
         ensures { PutsIn IsMemory (λ a. unconstrained_length a count) self.old result self.new }
     {
@@ -111,7 +111,7 @@ impl<A: Allocator + Clone> Writer<A> {
 
     /// Writes how many items follow, as a constrained whole number, and the padding in front of items that begin on an
     /// octet (X.691 11.9.4.1).
-    fn put_constrained_length(
+    pub(crate) fn put_constrained_length(
         &mut self,
         lower: usize,
         upper: usize,

@@ -1,4 +1,5 @@
 pub mod Alternatives
+pub mod Elements
 pub mod Optionals
 pub mod Reading
 pub mod Writing

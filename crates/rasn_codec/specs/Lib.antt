@@ -1,5 +1,6 @@
 pub mod Calls
 pub mod Choices
+pub mod Lists
 pub mod Scopes
 pub mod Optionals
 pub mod Presences

@@ -1,6 +1,6 @@
 //! The traits of values that can be encoded and decoded, and of encoders and decoders.
 
-ghost use Rattle.std.specs.Prelude.{◌≡◌, ℕ, suc, true, false, IfOk, []};
+ghost use Rattle.std.specs.Prelude.{◌≡◌, ℕ, suc, true, false, IfOk, [], map};
 ghost use Rattle.std.specs.Cow.{cow_slice_items, IsOwnedSlice};
 ghost use Rattle.std.specs.Fn.{FnOnceReturnsAt, FnOnceReturnsAtMut};
 ghost use Rattle.std.specs.String.{string_bytes};
@@ -8,7 +8,7 @@ ghost use Rattle.rasn_types.specs.Alphabets.{visible, ia5, printable, numeric, b
 ghost use Rattle.rasn_types.specs.Contents.{utf8, other};
 ghost use Rattle.rasn_types.specs.Values.{Value, truth, nothing, whole, octets, bits, characters};
 ghost use Rattle.rasn_schema.specs.Schemas.{Schema, listed, optional};
-ghost use Rattle.rasn_schema.specs.Forms.{number_schema, octet_schema, bit_schema, character_schema};
+ghost use Rattle.rasn_schema.specs.Forms.{number_schema, octet_schema, bit_schema, character_schema, size_of, is_size_marked};
 ghost use Rattle.rasn_schema.specs.Records.{record_at, no_additions, record_value};
 ghost use Rattle.rasn_codec.specs.Optionals.{EncodesDefault, EncodesNone, EncodesSome, GivesBit, ReadsBit, ReadsComponent, ReadsDefault};
 ghost use Rattle.rasn_codec.specs.Presences.{slot_of};
@@ -16,6 +16,8 @@ ghost use Rattle.rasn_codec.specs.Calls.{EncoderRules, freely, Writes, Encodes, 
 ghost use Rattle.rasn_schema.specs.Fields.{tag_of};
 ghost use Rattle.rasn_schema.specs.Choices.{choice_at};
 ghost use Rattle.rasn_codec.specs.Choices.{ChoicesWell, ClosesChoice, EndsChoice, OpensChoice, OpensToChoose, TakesAlternative, WritesChoice};
+ghost use Rattle.rasn_schema.specs.Lists.{deepest, list_at, list_value};
+ghost use Rattle.rasn_codec.specs.Lists.{Amid, OpensList, WritesNext, ClosesList};
 ghost use Rattle.rasn_codec.specs.Scopes.{OpensToWrite, ClosesWritten, WritesAround, OpensToRead, ClosesRead, ReadsAround, ScopesWell};
 
 use crate::parts::{DecodeParts, EncodeParts};
@@ -41,6 +43,9 @@ pub trait Encoder: Sized {
     /// What waits outside while a record is open.
     type Scope: Drop;
 
+    /// What is left of an open list.
+    type List: Drop;
+
     // What is presented and refused, and what states and errors say.
     ghost rules: { EncoderRules Self.Error Self };
 
@@ -49,6 +54,9 @@ pub trait Encoder: Sized {
 
     // A choice is opened to write a schema: what was before, what waits outside, and how it is inside.
     ghost opens_choice: { Schema → Self → Self.Scope → Self → Type 0 };
+
+    // A list is open: which one, what was before it, its elements still to be written, what is left of it, and now.
+    ghost amid: { Amid Self Self.List };
 
     /// The variant in use.
     fn codec(&self) -> Codec
@@ -204,10 +212,50 @@ pub trait Encoder: Sized {
     fn set_presence(&mut self, is_there: bool) -> Result<(), Self::Error>
         ensures { GivesBit rules is_there self.old result self.new };
 
+    /// Opens a SEQUENCE OF under constraints (X.691 20): so many elements follow, each behind a call of `next_element`,
+    /// up to `close_list`. A count outside a size that isn't extensible is refused.
+    fn open_list(
+        &mut self,
+        tag: Tag,
+        constraints: &Constraints,
+        count: usize,
+        identifier: Identifier,
+    ) -> Result<Self::List, Self::Error>
+        ensures { OpensList rules amid (size_of constraints.now) (is_size_marked constraints.now) count
+            self.old result self.new };
+
+    /// Goes on to the next element of an open list: where a fragment begins, its length is written.
+    fn next_element(&mut self, list: &mut Self::List) -> Result<(), Self::Error>
+        ensures { WritesNext rules amid list.old self.old result list.new self.new };
+
+    /// Closes a list of which all elements were written: where a last length is due, it is written.
+    fn close_list(&mut self, list: Self::List) -> Result<(), Self::Error>
+        ensures { ClosesList rules amid list self.old result self.new };
+
     /// Refuses from now on.
     fn fail(&mut self)
         ensures fails { rules.failed self.new ≡ true }
         ensures kept { rules.codec self.new ≡ rules.codec self.old };
+
+    /// Writes a SEQUENCE OF under constraints (X.691 20), of which the size counts elements.
+    final fn encode_sequence_of<T: Encode>(
+        &mut self,
+        tag: Tag,
+        values: &[T],
+        constraints: &Constraints,
+        identifier: Identifier,
+    ) -> Result<(), Self::Error>
+        ensures { let size = size_of constraints.now in
+            Encodes rules (list_at (T.schema T.CONSTRAINTS) size (is_size_marked constraints.now))
+            (suc (deepest T.levels values.now)) (list_value (map T.value values.now)) self.old result self.new }
+    {
+        let mut list = self.open_list(tag, constraints, values.len(), identifier)?;
+        for value in values {
+            self.next_element(&mut list)?;
+            value.encode(self)?;
+        }
+        self.close_list(list)
+    }
 
     /// Writes a VisibleString under constraints (X.691 30.5).
     final fn encode_visible_string(

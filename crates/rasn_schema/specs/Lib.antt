@@ -6,6 +6,7 @@ pub mod Fields
 pub mod Forms
 pub mod Lawful
 pub mod Levels
+pub mod Lists
 pub mod Normal
 pub mod Orders
 pub mod Records

@@ -1,7 +1,7 @@
 use Rattle.std.proofs.Common.{◌-◌, ◌≤◌, length, drop}
 use Rattle.rasn_types.specs.Codecs.{variant_of}
 use Rattle.per_core.specs.Counts.{in_fragments, fragment_sizes}
-use Rattle.per_write.proofs.Writing.{Remains}
+use Rattle.per_write.specs.Remains.{Remains}
 use Rattle.per_write.proofs.Writer.put_unconstrained_items.Given as goal
 
 abbrev pub invariant-loop-start : goal.invariant-loop-start

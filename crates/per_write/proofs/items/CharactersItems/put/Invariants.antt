@@ -1,7 +1,7 @@
 use Rattle.per_core.specs.Canon.{char_writers}
 use Rattle.per_core.specs.Writers.{one_by_one}
 use Rattle.std.specs.Prelude.{slice_range}
-use Rattle.per_write.proofs.Writing.{Remains}
+use Rattle.per_write.specs.Remains.{Remains}
 use Rattle.per_write.proofs.items.CharactersItems.put.Given as goal
 
 abbrev pub invariant-loop-index : goal.invariant-loop-index

@@ -1,0 +1,49 @@
+//! Worked encodings of lists, and a count that is refused.
+
+use per_enc::{EncodeError, EncodeErrorKind, Encoder, EncoderOptions};
+use rasn_codec::codec::Encode;
+use rasn_record::{Constraint, Constraints, constraints};
+use std::alloc::{AllocError, Global};
+use std::test::Fail;
+
+const FROM_1_TO_300: &[Constraint] = constraints!(SIZE 1..=300);
+
+/// A count of NULLs, the size of their list, and the octets of its complete encoding.
+const ROWS: &[(usize, &[Constraint], &[u8])] = &[
+    (300, FROM_1_TO_300, &[0x95, 0x80]),
+    (196_608, constraints!(), &[0xc4, 0xc4, 0xc4, 0x00]),
+];
+
+/// A list of so many NULLs.
+fn nulls(alloc: Global, count: usize) -> Result<Vec<()>, AllocError> {
+    let mut values = Vec::new(alloc);
+    for _ in 0..count {
+        values.push(())?;
+    }
+    Ok(values)
+}
+
+fn encoding_of(alloc: Global, values: &Vec<()>, size: Constraints) -> Result<Vec<u8>, EncodeError> {
+    let mut encoder = Encoder::new(alloc, EncoderOptions::unaligned());
+    values.encode_with_constraints(&mut encoder, &size)?;
+    encoder.output()
+}
+
+#[test]
+fn writes_lists(rt: HostRuntime) -> Result<(), Fail> {
+    for (count, size, expected) in ROWS {
+        let values = nulls(rt.alloc(), *count)?;
+        let encoding = encoding_of(rt.alloc(), &values, Constraints::new(size))?;
+        assert!(rt; encoding.as_slice() == *expected, "{count} NULLs");
+    }
+    Ok(())
+}
+
+#[test]
+fn refuses_a_count_out_of_size(rt: HostRuntime) -> Result<(), Fail> {
+    let values = nulls(rt.alloc(), 301)?;
+    let encoding = encoding_of(rt.alloc(), &values, Constraints::new(FROM_1_TO_300));
+    let kind = EncodeErrorKind::SizeConstraintNotSatisfied(301, Some(1), Some(300));
+    assert_eq!(rt; encoding.err().map(|error| error.kind), Some(kind));
+    Ok(())
+}

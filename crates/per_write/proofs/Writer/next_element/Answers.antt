@@ -1,0 +1,20 @@
+use Rattle.std.proofs.Common.{◌≡◌, suc, List, ◌∷◌, arith, rules}
+use Rattle.rasn_types.specs.Values.{Value}
+use Rattle.rasn_codec.specs.Lists.{ListForm}
+use Rattle.per_write.specs.Lists.{AmidList}
+use Rattle.per_write.specs.State.{State}
+use Rattle.per_write.proofs.Elements.{element_next, fragment_begun_at}
+use Rattle.per_write.proofs.Writer.next_element.Goals as goal
+use Rattle.per_write.proofs.Writer.next_element.Goals.{then-list-eq0+in_ok-list, else-list-eq0}
+
+pub returns-in-Some : goal.returns-in-Some
+returns-in-Some g c =
+    let l = c.args.list.now in
+    let y = c.args.self.now in
+    let goes_on : (f : ListForm) (x : State) (v : Value) (vs : List Value) → AmidList f x (v ∷ vs) l y → AmidList f x (v ∷ vs) c.if-list-eq0.list c.if-list-eq0.self =
+    λ f x v vs h. elim c.if-list-eq0.branch [
+      | then-list-eq0+in_ok-list w ↦ rw (w.self-is, w.list-is) (fragment_begun_at f x y w.begin_fragment.new.self v vs l w.in_ok-list.field-0 w.unwrap_or.result w.if-list-eq0.true w.unwrap_or.ensures w.in_ok-list.ensures.ok h)
+      | else-list-eq0 w ↦ rw (w.self-is, w.list-is) h
+    ] in
+    let left : c.if-list-eq0.list.fragment ≡ suc c.in-Some.left = omega (arith, c.in-Some.ensures) in
+    record { law = λ f x v vs h. element_next f x c.if-list-eq0.self v vs c.if-list-eq0.list c.in-Some.left left (goes_on f x v vs h); behaves = search rules }

@@ -1,0 +1,12 @@
+-- What is still to be written.
+use Rattle.std.specs.Prelude.{ℕ, ◌≡◌, false}
+use Rattle.per_core.specs.Writers.{Writer, ◌▹◌}
+use Rattle.per_write.specs.State.{MayBegin, State, view}
+
+-- calls wrote the first of what was to be written, and so much remains
+pub record Remains (x : State) (all : Writer) (y : State) (rest : Writer) : Type 0 where
+  pub begun : x.failed ≡ false
+  pub left : y.failed ≡ false
+  pub same : y.codec ≡ x.codec
+  pub beside : y.presences ≡ x.presences
+  pub written : (p : ℕ) → MayBegin x p → (view y ▹ rest) p ≡ (view x ▹ all) p
