@@ -6,6 +6,7 @@ pub mod Loosen
 pub mod Newer
 pub mod Normals
 pub mod Older
+pub mod Opens
 pub mod Readers
 pub mod Samples
 pub mod Takes
