@@ -9,6 +9,7 @@ pub mod Older
 pub mod Opens
 pub mod Readers
 pub mod Samples
+pub mod Skipped
 pub mod Takes
 pub mod Transitive
 pub mod Types

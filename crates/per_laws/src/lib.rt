@@ -2,6 +2,7 @@
 //! the contract of a function that does nothing.
 #![tactic(auto)]
 
+pub mod additions;
 pub mod depth;
 pub mod normal_form;
 pub mod open_types;
