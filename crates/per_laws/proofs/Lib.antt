@@ -2,6 +2,7 @@ pub mod Carry
 pub mod Carrying
 pub mod Chains
 pub mod Deeper
+pub mod Held
 pub mod Loosen
 pub mod Newer
 pub mod Normals
