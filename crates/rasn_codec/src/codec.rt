@@ -18,6 +18,7 @@ ghost use Rattle.rasn_schema.specs.Choices.{choice_at};
 ghost use Rattle.rasn_codec.specs.Choices.{ChoicesWell, ClosesChoice, EndsChoice, OpensChoice, OpensToChoose, TakesAlternative, WritesChoice};
 ghost use Rattle.rasn_schema.specs.Lists.{deepest, list_at, list_value};
 ghost use Rattle.rasn_codec.specs.Lists.{Amid, OpensList, WritesNext, ClosesList};
+ghost use Rattle.rasn_codec.specs.Lists.{AmidRead, OpensListToRead, ReadsNext};
 ghost use Rattle.rasn_codec.specs.Scopes.{OpensToWrite, ClosesWritten, WritesAround, OpensToRead, ClosesRead, ReadsAround, ScopesWell};
 
 use crate::parts::{DecodeParts, EncodeParts};
@@ -445,6 +446,9 @@ pub trait Decoder: Sized {
     /// What waits outside while a record is open.
     type Scope: Drop;
 
+    /// What is left of an open list, and what waits outside.
+    type List: Drop;
+
     // What is read, and what states and errors say.
     ghost rules: { DecoderRules Self.Error Self };
 
@@ -459,6 +463,12 @@ pub trait Decoder: Sized {
 
     // A choice ends: how it is behind its alternative, what waited outside, and how it is behind the choice.
     ghost closes_choice: { Self → Self.Scope → Self → Type 0 };
+
+    // A list is open: its elements' schema and its size, what was before it, its elements read, what is left, and now.
+    ghost amid: { AmidRead Self Self.List };
+
+    // How many elements of an open list can follow at most.
+    ghost most: { Self → Self.List → ℕ };
 
     // The fault that an error names stands at the end of a scope.
     ghost unended: { Self.Scope → Self.Error → Self → Type 0 };
@@ -583,10 +593,42 @@ pub trait Decoder: Sized {
     fn next_presence(&mut self) -> Result<bool, Self::Error>
         ensures { ReadsBit rules self.old result self.new };
 
+    /// Opens a SEQUENCE OF under constraints (X.691 20), which takes a level: its elements follow, each behind a call of
+    /// `next_element` that answers true. At no level left it refuses.
+    fn open_list(&mut self, tag: Tag, constraints: &Constraints) -> Result<Self::List, Self::Error>
+        ensures { OpensListToRead rules amid (size_of constraints.now) (is_size_marked constraints.now)
+            self.old result self.new };
+
+    /// Goes on in an open list: answers whether an element follows. Where none does, the list has ended: its size allows
+    /// the count of its elements, and its level is given back. A count that the size doesn't allow is refused.
+    fn next_element(&mut self, list: &mut Self::List) -> Result<bool, Self::Error>
+        ensures { ReadsNext rules amid most list.old self.old result list.new self.new };
+
     /// Refuses from now on.
     fn fail(&mut self)
         ensures fails { rules.failed self.new ≡ true }
         ensures kept { rules.codec self.new ≡ rules.codec self.old };
+
+    /// Reads a SEQUENCE OF under constraints (X.691 20), of which the size counts elements.
+    final fn decode_sequence_of<D: Decode>(
+        &mut self,
+        tag: Tag,
+        constraints: &Constraints,
+    ) -> Result<Vec<D>, Self::Error>
+        ensures { let size = size_of constraints.now in
+            let c = list_at (D.schema D.CONSTRAINTS) size (is_size_marked constraints.now) (rules.levels self.old) in
+            Reads rules c (λ xs. list_value (map D.value xs.items)) self.old result self.new }
+    {
+        let mut list = self.open_list(tag, constraints)?;
+        let mut values = Vec::new(self.alloc());
+        while self.next_element(&mut list)? {
+            let value = D::decode(self)?;
+            if values.push(value).is_err() {
+                return Err(self.out_of_memory());
+            }
+        }
+        Ok(values)
+    }
 
     /// Reads a VisibleString under constraints (X.691 30.5).
     final fn decode_visible_string(
