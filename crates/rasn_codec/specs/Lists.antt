@@ -1,5 +1,5 @@
 -- What stands in an open list, element after element, and what opening, going on and closing one owe, stated over any codec's relations.
-use Rattle.std.specs.Prelude.{ℕ, suc, ◌≡◌, ◌<◌, ◌≤◌, ◌⊎◌, Bool, true, false, List, [], ◌∷◌, ◌++◌, length, Result, Ok, Err, IfOk}
+use Rattle.std.specs.Prelude.{ℕ, suc, ◌≡◌, ◌<◌, ◌⊎◌, Bool, true, false, List, [], ◌∷◌, ◌++◌, length, Result, Ok, Err, IfOk}
 use Rattle.rasn_types.specs.Values.{Value}
 use Rattle.rasn_constraints.specs.Bounds.{Size}
 use Rattle.rasn_schema.specs.Lists.{list_at, list_value}
@@ -73,24 +73,23 @@ pub record OpensListToRead {E S L : Type 0} (rules : DecoderRules E S) (amid : A
   pub law : ListOpenedToRead rules amid size mark s result i
   pub behaves : Behaves rules.already rules.failed rules.codec s result i
 
--- The next element of a list, which began at s, stands at i, one level deeper: where it is read, the others are still to be read, of which there are no more than
--- before; no list is read without it; its fault is one of the list; and want of memory there is want of memory of the whole.
-pub record HasElement {E S L : Type 0} (rules : DecoderRules E S) (amid : AmidRead S L) (most : S → L → ℕ) (e : Schema) (size : Size) (mark : Bool) (s : S) (vs : List Value) (l : L) (i : S) : Type 0 where
+-- The next element of a list, which began at s, stands at i, one level deeper: where it is read, the others are still to be read; where none is, no list is; its fault
+-- is one of the list; and want of memory there is want of memory of the whole.
+pub record HasElement {E S L : Type 0} (rules : DecoderRules E S) (amid : AmidRead S L) (e : Schema) (size : Size) (mark : Bool) (s : S) (vs : List Value) (l : L) (i : S) : Type 0 where
   pub deeper : rules.levels s ≡ suc (rules.levels i)
   pub element_read : (v : Value) (j : S) → rules.spells e i v j → amid e size mark s (vs ++ v ∷ []) l j
-  pub fewer : (v : Value) (j : S) → rules.spells e i v j → most j l ≤ most i l
-  pub element_back : (w : Value) (t : S) → rules.spells (Schema.list e size mark) s w t → (v : Value) × (j : S) × rules.spells e i v j
+  pub none : ((v : Value) (j : S) → rules.spells e i v j → ⊥) → (w : Value) (t : S) → rules.spells (Schema.list e size mark) s w t → ⊥
   pub in_element : (d : E) → rules.fault e d i → rules.fault (Schema.list e size mark) d s
   pub room : (d : E) → rules.memory d i → rules.memory d s
 
 -- Ok says whether a further element stands there, or the list was read, and Err, memory aside, comes only where no list is read.
-abbrev pub ElementFound : {E S L : Type 0} → DecoderRules E S → AmidRead S L → (S → L → ℕ) → Schema → Size → Bool → S → List Value → Result Bool E → L → S → Type 0
-ElementFound rules amid most e size mark s vs (Ok true) l i = HasElement rules amid most e size mark s vs l i
-ElementFound rules amid most e size mark s vs (Ok false) l i = rules.spells (Schema.list e size mark) s (list_value vs) i
-ElementFound rules amid most e size mark s vs (Err d) l i = ListUnread rules (Schema.list e size mark) d s
+abbrev pub ElementFound : {E S L : Type 0} → DecoderRules E S → AmidRead S L → Schema → Size → Bool → S → List Value → Result Bool E → L → S → Type 0
+ElementFound rules amid e size mark s vs (Ok true) l i = HasElement rules amid e size mark s vs l i
+ElementFound rules amid e size mark s vs (Ok false) l i = rules.spells (Schema.list e size mark) s (list_value vs) i
+ElementFound rules amid e size mark s vs (Err d) l i = ListUnread rules (Schema.list e size mark) d s
 
 -- A call before each element of a list, and at its end. Where an element follows, `most` says that fewer can follow than before.
-pub record ReadsNext {E S L : Type 0} (rules : DecoderRules E S) (amid : AmidRead S L) (most : S → L → ℕ) (l : L) (i : S) (result : Result Bool E) (m : L) (j : S) : Type 0 where
-  pub law : (e : Schema) (size : Size) (mark : Bool) (s : S) (vs : List Value) → amid e size mark s vs l i → ElementFound rules amid most e size mark s vs result m j
-  pub falls : IfOk result (λ b. b ≡ true → most j m < most i l)
+pub record ReadsNext {E S L : Type 0} (rules : DecoderRules E S) (amid : AmidRead S L) (most : L → ℕ) (l : L) (i : S) (result : Result Bool E) (m : L) (j : S) : Type 0 where
+  pub law : (e : Schema) (size : Size) (mark : Bool) (s : S) (vs : List Value) → amid e size mark s vs l i → ElementFound rules amid e size mark s vs result m j
+  pub falls : IfOk result (λ follows. follows ≡ true → most m < most l)
   pub behaves : Behaves rules.already rules.failed rules.codec i result j

@@ -468,7 +468,7 @@ pub trait Decoder: Sized {
     ghost amid: { AmidRead Self Self.List };
 
     // How many elements of an open list can follow at most.
-    ghost most: { Self → Self.List → ℕ };
+    ghost most: { Self.List → ℕ };
 
     // The fault that an error names stands at the end of a scope.
     ghost unended: { Self.Scope → Self.Error → Self → Type 0 };

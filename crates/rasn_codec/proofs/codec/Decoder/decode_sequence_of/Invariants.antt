@@ -14,4 +14,4 @@ invariant-loop-values g l =
     }
 
 abbrev pub decreases-loop-values : goal.decreases-loop-values
-decreases-loop-values g l = g.Self.Decoder.most l.self l.list
+decreases-loop-values g l = g.Self.Decoder.most l.list
