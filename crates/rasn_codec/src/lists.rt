@@ -1,6 +1,6 @@
 //! How SEQUENCE OF (X.680 26) is written and read, which is a `Vec` of its elements.
 
-use crate::codec::{Decode, Decoder, Encode, Encoder};
+use crate::codec::{Decode, Decoder, DecoderExt, Encode, Encoder, EncoderExt};
 use rasn_schema::schema::Constraints;
 use rasn_types::types::{Identifier, Tag};
 
