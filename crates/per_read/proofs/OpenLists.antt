@@ -1,7 +1,7 @@
 -- Lists that are open: how they are opened, go on and end (X.691 20).
 use Rattle.std.proofs.Common.{◌≡◌, ◌<◌, ◌≤◌, ◌⊎◌, inl, inr, ℕ, zero, suc, ◌+◌, ◌^◌, Bool, true, false, List, [], ◌∷◌, ◌++◌, length, refl, sym, ◌∙◌, ap, subst, arith, append_assoc, length-append}
 use Rattle.std.proofs.lemmas.List.{append-nil}
-use Rattle.std.proofs.lemmas.Bool.{lt-ltb, ltb-true}
+use Rattle.std.proofs.lemmas.Bool.{ltb-true}
 use Rattle.rasn_types.specs.Bits.{Bits}
 use Rattle.rasn_constraints.specs.Bounds.{allows}
 use Rattle.rasn_constraints.specs.Constraints.{start_of, end_of, size_between}
@@ -16,7 +16,7 @@ use Rattle.per_read.specs.Kinds.{NoneIn}
 use Rattle.per_read.specs.Lengths.{LengthOf, count_of, is_followed}
 use Rattle.per_read.specs.Lists.{AmidItems, AwaitsItem, IsLeft, ListRule, RefusesList, Rest, RestUpTo, list_form}
 use Rattle.per_read.specs.Sizes.{Miscounted}
-use Rattle.per_read.specs.UpTo.{UpTo, UpToCounted, UpToFragment, UpToUnconstrained}
+use Rattle.per_read.specs.UpTo.{UpTo, UpToFragment, UpToUnconstrained}
 use Rattle.per_read.specs.declared.error.DecodeErrorKind.TheVariants.{SizeConstraintNotSatisfied}
 use Rattle.per_read.specs.declared.lengths.Length.{Length}
 use Rattle.per_read.specs.declared.lengths.Length.TheVariants.{Last, Fragment}

@@ -1,11 +1,11 @@
 -- How lists are opened: what stands in front of their first item (X.691 20).
-use Rattle.std.proofs.Common.{◌≡◌, ◌<◌, inl, inr, ℕ, ◌+◌, ◌^◌, ◌&&◌, ltb, Bool, true, false, List, [], ◌∷◌, ◌++◌, length, Option, Some, None, refl, sym, ◌∙◌, ap, subst, arith}
+use Rattle.std.proofs.Common.{◌≡◌, inl, inr, ℕ, ◌^◌, ◌&&◌, ltb, Bool, true, false, List, [], ◌∷◌, ◌++◌, length, Option, Some, None, refl, sym, ◌∙◌, ap, subst}
 use Rattle.std.proofs.lemmas.List.{append-nil}
 use Rattle.std.proofs.lemmas.Bool.{lt-ltb, le-ltb}
 use Rattle.std.proofs.lemmas.Result.{IfOk-weaker, IfErr-weaker}
 use Rattle.std.specs.Prelude.{Result}
 use Rattle.rasn_types.specs.Bits.{Bits}
-use Rattle.rasn_constraints.specs.Bounds.{allows, any_size, Size}
+use Rattle.rasn_constraints.specs.Bounds.{any_size, Size}
 use Rattle.rasn_constraints.specs.Constraints.{start_of, end_of, size_between}
 use Rattle.rasn_constraints.specs.declared.constraints.Bounded.{Bounded}
 use Rattle.rasn_schema.specs.Schemas.{Schema}
@@ -16,7 +16,7 @@ use Rattle.per_core.specs.Took.{Took}
 use Rattle.per_core.proofs.Took.{took_then, then_took, took_map, took_agree, took_nothing, nothing_took}
 use Rattle.per_read.specs.Kinds.{NoneIn}
 use Rattle.per_read.specs.Lists.{AmidItems, ListRule, OpensList, Rest, RestUpTo, list_form, list_rule}
-use Rattle.per_read.specs.Sizes.{Between, CountFrom, constrained_between, under_size}
+use Rattle.per_read.specs.Sizes.{Between, CountFrom, under_size}
 use Rattle.per_read.specs.State.{State, settings_of}
 use Rattle.per_read.specs.UpTo.{UpToBetween, UpToSized, UpToUnconstrained}
 use Rattle.per_read.specs.declared.error.DecodeErrorKind.{DecodeErrorKind}

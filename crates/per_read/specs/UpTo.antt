@@ -1,5 +1,5 @@
 -- What stands in front of an item of a list, behind the items before it (X.691 11.9, 20).
-use Rattle.std.specs.Prelude.{◌<◌, ◌≤◌, ℕ, zero, suc, ◌+◌, ◌-◌, nat_lt, Bool, cond, List, length, Option, Some, None}
+use Rattle.std.specs.Prelude.{◌<◌, ℕ, zero, suc, nat_lt, Bool, cond, List, length, Option, Some, None}
 use Rattle.rasn_types.specs.Bits.{Bits}
 use Rattle.rasn_constraints.specs.Bounds.{Size}
 use Rattle.per_core.specs.Basic.{Fragmented, Marked, OneByOne}

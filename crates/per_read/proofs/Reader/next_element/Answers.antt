@@ -1,11 +1,8 @@
 use Rattle.std.proofs.Common.{◌≡◌, ◌<◌, ◌≤◌, ◌^◌, ◌+◌, suc, arith}
-use Rattle.per_core.specs.Basic.{basic}
-use Rattle.per_core.specs.Counts.{list_items}
 use Rattle.per_core.proofs.Readings.{one_reading}
 use Rattle.per_read.specs.Lists.{list_rule}
 use Rattle.per_read.specs.State.{settings_of}
 use Rattle.per_read.proofs.Calls.{errs}
-use Rattle.per_read.proofs.Miscounts.{tested_size}
 use Rattle.per_read.proofs.OpenLists.{amid_item, list_ends, list_miscounted, none_uncounted}
 use Rattle.per_read.proofs.Reader.next_element.Goals as goal
 

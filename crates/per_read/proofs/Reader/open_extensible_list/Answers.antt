@@ -1,4 +1,3 @@
-use Rattle.std.proofs.Common.{◌≡◌}
 use Rattle.std.proofs.lemmas.Bool.{not-true, not-false}
 use Rattle.rasn_constraints.specs.Constraints.{size_between}
 use Rattle.per_core.specs.Basic.{basic}

@@ -1,4 +1,4 @@
-use Rattle.std.proofs.Common.{◌∙◌, ◌&&◌, ltb, arith, inr, ap}
+use Rattle.std.proofs.Common.{◌∙◌, ◌&&◌, ltb, inr, ap}
 use Rattle.per_core.specs.Counts.{is_aligned}
 use Rattle.per_core.specs.Items.{bits_of, counted_of}
 use Rattle.per_read.specs.Items.{coded}
