@@ -1,7 +1,7 @@
 -- Choices (X.680 29): their alternatives, each by its place in the list before the extension marker, their schemas to a number of
 -- levels, and their values.
 use Rattle.std.specs.Prelude.{ℕ, zero, suc, ◌≡◌, true, false, nat_le, List, [], ◌∷◌, length, map, Option, Some, None, refl}
-use Rattle.std.proofs.Common.{ap}
+use Rattle.std.proofs.Common.{ap, ◌∙◌}
 use Rattle.std.specs.List.{position_from}
 use Rattle.rasn_schema.specs.Fields.{field_tag, tag_of, tree_of}
 use Rattle.rasn_schema.specs.Lawful.{are_distinct, same_tag}
@@ -32,10 +32,13 @@ abbrev pub tags_of : Parts → List Schemas.Tag
 tags_of no_parts = []
 tags_of (part t p s ps) = field_tag t ∷ tags_of ps
 
--- there is a variant for each alternative
-pub length-variants : (ps : Parts) → length (variants_of ps) ≡ length (tags_of ps)
+length-variants : (ps : Parts) → length (variants_of ps) ≡ length (tags_of ps)
 length-variants no_parts = refl
 length-variants (part t p s ps) = ap suc (length-variants ps)
+
+-- there is a variant for each alternative
+pub variants_counted : {vs : List VariantShape} (ps : Parts) → vs ≡ variants_of ps → length vs ≡ length (tags_of ps)
+variants_counted ps e = ap length e ∙ length-variants ps
 
 -- the place of the alternative that goes by a tag
 abbrev pub place_of : Schemas.Tag → List VariantShape → Option ℕ
