@@ -123,3 +123,13 @@ pub fn older_reader_reads_the_projection()
         (v w : Value) (octets : List ℕ) (n : ℕ) → 128 ≤ n → meets_cut (newer n) v ≡ false → read a newer v octets →
         read a older w octets ↔ (project (newer n) (older n) v ≡ Some w) }
 {}
+
+/// Of types of any depth: of any octets that an older type's reader reads, no unknown additions being present, a newer
+/// type's reader reads the widening, taken in trees that hold it, and nothing else; it refuses exactly where there is
+/// none. No depth is asked of what isn't written (X.680, 52).
+pub fn newer_reader_reads_the_widening()
+    ensures { (a : Settings) (newer older : ℕ → Schema) →
+        Unfolds newer → Unfolds older → NewerType newer older →
+        (w v : Value) (octets : List ℕ) (n : ℕ) → 128 ≤ n → meets_cut (newer n) v ≡ false →
+        fills_known a (older 128) w octets → read a newer v octets ↔ (widen (newer n) (older n) w ≡ Some v) }
+{}
