@@ -1,3 +1,4 @@
+pub mod Defaulted
 pub mod Long
 pub mod Reading
 pub mod Unfoldings

@@ -3,6 +3,7 @@
 
 pub mod choices;
 pub mod dates;
+pub mod deep_defaults;
 pub mod extensions;
 pub mod integers;
 pub mod lawful;
