@@ -17,7 +17,7 @@ use Rattle.per_laws.proofs.Takes.{some_is, Drops, drops, slot_meets_not, part_dr
 use Rattle.per_laws.proofs.Widens.{Grows, grows, part_grows, list_grows, bag_grows, item_grows, filled_carry, record_grows, choice_grows}
 
 -- a tree in which nothing may be added is cut off or the other one
-plain_cut : {s t : Schema} → IsPlain s → CutOf s t → (s ≡ Schema.cut) ⊎ (t ≡ s)
+pub plain_cut : {s t : Schema} → IsPlain s → CutOf s t → (s ≡ Schema.cut) ⊎ (t ≡ s)
 plain_cut h cut_here = inl refl
 plain_cut h (alike k) = inr refl
 plain_cut h (cut_list c) = absurd h
@@ -38,7 +38,7 @@ plain_holds a s t' t h c d v' v e = go (plain_cut h c) (plain_cut h d)
     go (inr k) (inr l) = plain_takes a s h v' v (subst (λ z. project z s v' ≡ Some v) k (subst (λ z. project t' z v' ≡ Some v) l e))
 
 -- added parts are filled in alike where the tree is cut off
-same_filled : {ps qs : Parts} → CutParts ps qs → all_filled_in ps ≡ all_filled_in qs
+pub same_filled : {ps qs : Parts} → CutParts ps qs → all_filled_in ps ≡ all_filled_in qs
 same_filled no_cut = refl
 same_filled (cut_part {p = p} c cs) = ap (joined (filled_in p)) (same_filled cs)
 

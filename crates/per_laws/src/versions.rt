@@ -8,6 +8,7 @@ ghost use Rattle.per_core.specs.Basic.{fills, fills_known, front, read};
 ghost use Rattle.per_core.specs.Canon.{bytes};
 ghost use Rattle.per_core.specs.Spellings.{Settings};
 ghost use Rattle.per_core.specs.Versions.{Newer, NewerType, project, widen};
+ghost use Rattle.per_laws.specs.Successors.{SucceedsType};
 
 /// Canonical bytes are read, and no unknown additions are present in them, at any depth (X.691, 19.9).
 pub fn canonical_bytes_have_no_unknown_additions()
@@ -132,4 +133,11 @@ pub fn newer_reader_reads_the_widening()
         Unfolds newer → Unfolds older → NewerType newer older →
         (w v : Value) (octets : List ℕ) (n : ℕ) → 128 ≤ n → meets_cut (newer n) v ≡ false →
         fills_known a (older 128) w octets → read a newer v octets ↔ (widen (newer n) (older n) w ≡ Some v) }
+{}
+
+/// Of types of any depth: a newer version is one that is an extension successor at every number of levels. So versions
+/// owe that a default is the older one widened only in trees that hold it (X.680, 52).
+pub fn newer_types_are_extension_successors()
+    ensures { (newer older : ℕ → Schema) → Unfolds newer → Unfolds older → SucceedsType newer older
+        ↔ NewerType newer older }
 {}
