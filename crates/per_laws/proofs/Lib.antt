@@ -1,3 +1,4 @@
+pub mod AnyDepth
 pub mod Carry
 pub mod Carrying
 pub mod Chains

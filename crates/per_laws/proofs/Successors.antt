@@ -185,7 +185,7 @@ presence_succeeds s' s (default d') (default d) k = record { widened = k.there; 
 presence_succeeds s' s _ _ k = absurd k
 
 mutual
-  newer_succeeds : {s' s : Schema} → Newer s' s → Succeeds s' s
+  pub newer_succeeds : {s' s : Schema} → Newer s' s → Succeeds s' s
   newer_succeeds (unchanged i) = succeeds_itself i
   newer_succeeds (more_items i) = succeeds_items i
   newer_succeeds (newer_list n) = succeeds_list (newer_succeeds n)

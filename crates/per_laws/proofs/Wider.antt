@@ -1,4 +1,4 @@
--- What is widened along trees that are cut off, is so along deeper ones, where the widened value meets no Cut.
+-- What is widened along trees that are cut off is so along deeper ones, and back, where the widened value meets no Cut.
 use Rattle.std.proofs.Common.{◌≡◌, sym, ap, ◌∙◌, subst, ℕ, zero, suc, Bool, false, ◌||◌, ◌⊎◌, inl, inr, List, [], ◌∷◌, Option, Some, None}
 use Rattle.rasn_types.specs.Values.{Value, elements, bag, bag_of, fields, alternative, root, added, as_values, as_slots, values, slots}
 use Rattle.rasn_types.proofs.Values.{slots-as_slots, values-as_values}
@@ -68,16 +68,16 @@ slots_make f g K F G L r rs (x ∷ xs) w e m =
     let c = slot_apart K L q.0 q.1 (subst (λ l. in_slots K L l ≡ false) q.4 m) in
     ap (λ o. joined o (G xs)) (slot_make f g K r x q.0 q.2 c.0) ∙ ap (joined (Some q.0)) (rs xs q.1 q.3 c.1) ∙ some_l (sym q.4)
 
-plain_wider : {s t' t : Schema} → IsPlain s → CutOf s t' → CutOf s t → Makes (widen s s) (widen t' t) (meets_cut s)
+pub cut_meets : (s : Schema) → s ≡ Schema.cut → (v : Value) → meets_cut s v ≡ false → ⊥
 unfolding meets_cut
+cut_meets s e v m = let k : meets_cut Schema.cut v ≡ false = subst (λ z. meets_cut z v ≡ false) e m in cc
+
+plain_wider : {s t' t : Schema} → IsPlain s → CutOf s t' → CutOf s t → Makes (widen s s) (widen t' t) (meets_cut s)
 plain_wider {s} {t'} {t} h c d = λ v w e m. go (plain_cut h c) (plain_cut h d) v w e m
   where
-    cut_meets : s ≡ Schema.cut → (w : Value) → meets_cut s w ≡ false → ⊥
-    cut_meets e w m = let k : meets_cut Schema.cut w ≡ false = subst (λ z. meets_cut z w ≡ false) e m in cc
-
     go : (s ≡ Schema.cut) ⊎ (t' ≡ s) → (s ≡ Schema.cut) ⊎ (t ≡ s) → Makes (widen s s) (widen t' t) (meets_cut s)
-    go (inl k) l v w e m = absurd (cut_meets k w m)
-    go (inr k) (inl l) v w e m = absurd (cut_meets l w m)
+    go (inl k) l v w e m = absurd (cut_meets s k w m)
+    go (inr k) (inl l) v w e m = absurd (cut_meets s l w m)
     go (inr k) (inr l) v w e m = subst (λ z. widen z t v ≡ Some w) (sym k) (subst (λ z. widen s z v ≡ Some w) (sym l) e)
 
 mutual
@@ -112,3 +112,45 @@ mutual
   wider_at added_parts (cut_part c cs) no_cut i = λ v w e m. e
   wider_at (succeeds_part h n ns) (cut_part c cs) (cut_part d ds) zero = wider n c d
   wider_at (succeeds_part h n ns) (cut_part c cs) (cut_part d ds) (suc i) = wider_at ns cs ds i
+
+-- and back
+plain_narrower : {s t' t : Schema} → IsPlain s → CutOf s t' → CutOf s t → Makes (widen t' t) (widen s s) (meets_cut s)
+plain_narrower {s} {t'} {t} h c d = λ v w e m. go (plain_cut h c) (plain_cut h d) v w e m
+  where
+    go : (s ≡ Schema.cut) ⊎ (t' ≡ s) → (s ≡ Schema.cut) ⊎ (t ≡ s) → Makes (widen t' t) (widen s s) (meets_cut s)
+    go (inl k) l v w e m = absurd (cut_meets s k w m)
+    go (inr k) (inl l) v w e m = absurd (cut_meets s l w m)
+    go (inr k) (inr l) v w e m = subst (λ z. widen z s v ≡ Some w) k (subst (λ z. widen t' z v ≡ Some w) l e)
+
+mutual
+  unfolding widen meets_cut
+
+  pub narrower : {s' s t' t : Schema} → Succeeds s' s → CutOf s' t' → CutOf s t → Makes (widen t' t) (widen s' s) (meets_cut s')
+  narrower (succeeds_itself h) c d = plain_narrower h c d
+  narrower (succeeds_items h) (alike i) (alike j) = λ v w e m. e
+  narrower (succeeds_list n) (alike i) d = absurd i
+  narrower (succeeds_list n) (cut_list c) (alike i) = absurd i
+  narrower (succeeds_list {e = e0} {e' = e1} n) (cut_list {t = f1} c) (cut_list {t = f0} d) = elements_make (widen f1 f0) (widen e1 e0) (meets_cut e1) (narrower n c d)
+  narrower (succeeds_set_of n) (alike i) d = absurd i
+  narrower (succeeds_set_of n) (cut_set_of c) (alike i) = absurd i
+  narrower (succeeds_set_of {e = e0} {e' = e1} n) (cut_set_of {t = f1} c) (cut_set_of {t = f0} d) = bags_make (widen f1 f0) (widen e1 e0) (meets_cut e1) (narrower n c d)
+  narrower (succeeds_sequence n ns) (alike i) d = absurd i
+  narrower (succeeds_sequence n ns) (cut_sequence c cs) (alike i) = absurd i
+  narrower (succeeds_sequence {ps = ps} {ps' = ps'} {adds = adds} {adds' = adds'} n ns) (cut_sequence {qs = qs'} {bdds = bdds'} c cs) (cut_sequence {qs = qs} {bdds = bdds} d ds) =
+      fields_make (widen_slots qs' qs) (widen_slots ps' ps) (slots_meet_cut ps') (widen_slots bdds' bdds) (widen_slots adds' adds) (slots_meet_cut adds') (narrower_slots n c d) (narrower_slots ns cs ds)
+  narrower (succeeds_choice n ns) (alike i) d = absurd i
+  narrower (succeeds_choice n ns) (cut_choice c cs) (alike i) = absurd i
+  narrower (succeeds_choice {ps = ps} {ps' = ps'} {adds = adds} {adds' = adds'} n ns) (cut_choice {qs = qs'} {bdds = bdds'} c cs) (cut_choice {qs = qs} {bdds = bdds} d ds) =
+      alternative_make (widen_at qs' qs) (widen_at ps' ps) (meets_cut_at ps') (widen_at bdds' bdds) (widen_at adds' adds) (meets_cut_at adds') (narrower_at n c d) (narrower_at ns cs ds)
+
+  narrower_slots : {may : Bool} {ps' ps qs' qs : Parts} → SucceedsParts may ps' ps → CutParts ps' qs' → CutParts ps qs → Makes (widen_slots qs' qs) (widen_slots ps' ps) (slots_meet_cut ps')
+  narrower_slots none_succeed no_cut no_cut = λ v w e m. e
+  narrower_slots added_parts (cut_part {t = t} {p = p} c cs) no_cut = λ v w e m. same_filled (cut_part {t = t} {p = p} c cs) ∙ e
+  narrower_slots (succeeds_part {s = s} {s' = s'} {ps = ps} {ps' = ps'} h n ns) (cut_part {s' = r'} {ps' = qs'} c cs) (cut_part {s' = r} {ps' = qs} d ds) =
+      slots_make (widen r' r) (widen s' s) (meets_cut s') (widen_slots qs' qs) (widen_slots ps' ps) (slots_meet_cut ps') (narrower n c d) (narrower_slots ns cs ds)
+
+  narrower_at : {may : Bool} {ps' ps qs' qs : Parts} → SucceedsParts may ps' ps → CutParts ps' qs' → CutParts ps qs → (i : ℕ) → Makes (widen_at qs' qs i) (widen_at ps' ps i) (meets_cut_at ps' i)
+  narrower_at none_succeed no_cut no_cut i = λ v w e m. e
+  narrower_at added_parts (cut_part c cs) no_cut i = λ v w e m. e
+  narrower_at (succeeds_part h n ns) (cut_part c cs) (cut_part d ds) zero = narrower n c d
+  narrower_at (succeeds_part h n ns) (cut_part c cs) (cut_part d ds) (suc i) = narrower_at ns cs ds i
