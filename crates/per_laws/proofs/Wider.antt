@@ -72,85 +72,65 @@ pub cut_meets : (s : Schema) → s ≡ Schema.cut → (v : Value) → meets_cut 
 unfolding meets_cut
 cut_meets s e v m = let k : meets_cut Schema.cut v ≡ false = subst (λ z. meets_cut z v ≡ false) e m in cc
 
-plain_wider : {s t' t : Schema} → IsPlain s → CutOf s t' → CutOf s t → Makes (widen s s) (widen t' t) (meets_cut s)
-plain_wider {s} {t'} {t} h c d = λ v w e m. go (plain_cut h c) (plain_cut h d) v w e m
+abbrev Both : (f g : Value → Option Value) → (Value → Bool) → Type 0
+Both f g K = Makes f g K × Makes g f K
+
+plain_both : {s t' t : Schema} → IsPlain s → CutOf s t' → CutOf s t → Both (widen s s) (widen t' t) (meets_cut s)
+plain_both {s} {t'} {t} h c d = go (plain_cut h c) (plain_cut h d)
   where
-    go : (s ≡ Schema.cut) ⊎ (t' ≡ s) → (s ≡ Schema.cut) ⊎ (t ≡ s) → Makes (widen s s) (widen t' t) (meets_cut s)
-    go (inl k) l v w e m = absurd (cut_meets s k w m)
-    go (inr k) (inl l) v w e m = absurd (cut_meets s l w m)
-    go (inr k) (inr l) v w e m = subst (λ z. widen z t v ≡ Some w) (sym k) (subst (λ z. widen s z v ≡ Some w) (sym l) e)
+    go : (s ≡ Schema.cut) ⊎ (t' ≡ s) → (s ≡ Schema.cut) ⊎ (t ≡ s) → Both (widen s s) (widen t' t) (meets_cut s)
+    go (inl k) l = (λ v w e m. absurd (cut_meets s k w m), λ v w e m. absurd (cut_meets s k w m))
+    go (inr k) (inl l) = (λ v w e m. absurd (cut_meets s l w m), λ v w e m. absurd (cut_meets s l w m))
+    go (inr k) (inr l) = subst (λ z. Both (widen s s) (widen z t) (meets_cut s)) (sym k) (subst (λ z. Both (widen s s) (widen s z) (meets_cut s)) (sym l) (λ v w e m. e, λ v w e m. e))
 
 mutual
   unfolding widen meets_cut
 
-  pub wider : {s' s t' t : Schema} → Succeeds s' s → CutOf s' t' → CutOf s t → Makes (widen s' s) (widen t' t) (meets_cut s')
-  wider (succeeds_itself h) c d = plain_wider h c d
-  wider (succeeds_items h) (alike i) (alike j) = λ v w e m. e
-  wider (succeeds_list n) (alike i) d = absurd i
-  wider (succeeds_list n) (cut_list c) (alike i) = absurd i
-  wider (succeeds_list {e = e0} {e' = e1} n) (cut_list {t = f1} c) (cut_list {t = f0} d) = elements_make (widen e1 e0) (widen f1 f0) (meets_cut e1) (wider n c d)
-  wider (succeeds_set_of n) (alike i) d = absurd i
-  wider (succeeds_set_of n) (cut_set_of c) (alike i) = absurd i
-  wider (succeeds_set_of {e = e0} {e' = e1} n) (cut_set_of {t = f1} c) (cut_set_of {t = f0} d) = bags_make (widen e1 e0) (widen f1 f0) (meets_cut e1) (wider n c d)
-  wider (succeeds_sequence n ns) (alike i) d = absurd i
-  wider (succeeds_sequence n ns) (cut_sequence c cs) (alike i) = absurd i
-  wider (succeeds_sequence {ps = ps} {ps' = ps'} {adds = adds} {adds' = adds'} n ns) (cut_sequence {qs = qs'} {bdds = bdds'} c cs) (cut_sequence {qs = qs} {bdds = bdds} d ds) =
-      fields_make (widen_slots ps' ps) (widen_slots qs' qs) (slots_meet_cut ps') (widen_slots adds' adds) (widen_slots bdds' bdds) (slots_meet_cut adds') (wider_slots n c d) (wider_slots ns cs ds)
-  wider (succeeds_choice n ns) (alike i) d = absurd i
-  wider (succeeds_choice n ns) (cut_choice c cs) (alike i) = absurd i
-  wider (succeeds_choice {ps = ps} {ps' = ps'} {adds = adds} {adds' = adds'} n ns) (cut_choice {qs = qs'} {bdds = bdds'} c cs) (cut_choice {qs = qs} {bdds = bdds} d ds) =
-      alternative_make (widen_at ps' ps) (widen_at qs' qs) (meets_cut_at ps') (widen_at adds' adds) (widen_at bdds' bdds) (meets_cut_at adds') (wider_at n c d) (wider_at ns cs ds)
+  widen_both : {s' s t' t : Schema} → Succeeds s' s → CutOf s' t' → CutOf s t → Both (widen s' s) (widen t' t) (meets_cut s')
+  widen_both (succeeds_itself h) c d = plain_both h c d
+  widen_both (succeeds_items h) (alike i) (alike j) = (λ v w e m. e, λ v w e m. e)
+  widen_both (succeeds_list n) (alike i) d = absurd i
+  widen_both (succeeds_list n) (cut_list c) (alike i) = absurd i
+  widen_both (succeeds_list {e = e0} {e' = e1} n) (cut_list {t = f1} c) (cut_list {t = f0} d) =
+      let r = widen_both n c d in (elements_make (widen e1 e0) (widen f1 f0) (meets_cut e1) r.0, elements_make (widen f1 f0) (widen e1 e0) (meets_cut e1) r.1)
+  widen_both (succeeds_set_of n) (alike i) d = absurd i
+  widen_both (succeeds_set_of n) (cut_set_of c) (alike i) = absurd i
+  widen_both (succeeds_set_of {e = e0} {e' = e1} n) (cut_set_of {t = f1} c) (cut_set_of {t = f0} d) =
+      let r = widen_both n c d in (bags_make (widen e1 e0) (widen f1 f0) (meets_cut e1) r.0, bags_make (widen f1 f0) (widen e1 e0) (meets_cut e1) r.1)
+  widen_both (succeeds_sequence n ns) (alike i) d = absurd i
+  widen_both (succeeds_sequence n ns) (cut_sequence c cs) (alike i) = absurd i
+  widen_both (succeeds_sequence {ps = ps} {ps' = ps'} {adds = adds} {adds' = adds'} n ns) (cut_sequence {qs = qs'} {bdds = bdds'} c cs) (cut_sequence {qs = qs} {bdds = bdds} d ds) =
+      let r = slots_both n c d in
+      let q = slots_both ns cs ds in (
+        fields_make (widen_slots ps' ps) (widen_slots qs' qs) (slots_meet_cut ps') (widen_slots adds' adds) (widen_slots bdds' bdds) (slots_meet_cut adds') r.0 q.0,
+        fields_make (widen_slots qs' qs) (widen_slots ps' ps) (slots_meet_cut ps') (widen_slots bdds' bdds) (widen_slots adds' adds) (slots_meet_cut adds') r.1 q.1,
+      )
+  widen_both (succeeds_choice n ns) (alike i) d = absurd i
+  widen_both (succeeds_choice n ns) (cut_choice c cs) (alike i) = absurd i
+  widen_both (succeeds_choice {ps = ps} {ps' = ps'} {adds = adds} {adds' = adds'} n ns) (cut_choice {qs = qs'} {bdds = bdds'} c cs) (cut_choice {qs = qs} {bdds = bdds} d ds) = (
+    alternative_make (widen_at ps' ps) (widen_at qs' qs) (meets_cut_at ps') (widen_at adds' adds) (widen_at bdds' bdds) (meets_cut_at adds') (λ i. (at_both n c d i).0) (λ i. (at_both ns cs ds i).0),
+    alternative_make (widen_at qs' qs) (widen_at ps' ps) (meets_cut_at ps') (widen_at bdds' bdds) (widen_at adds' adds) (meets_cut_at adds') (λ i. (at_both n c d i).1) (λ i. (at_both ns cs ds i).1),
+  )
 
-  wider_slots : {may : Bool} {ps' ps qs' qs : Parts} → SucceedsParts may ps' ps → CutParts ps' qs' → CutParts ps qs → Makes (widen_slots ps' ps) (widen_slots qs' qs) (slots_meet_cut ps')
-  wider_slots none_succeed no_cut no_cut = λ v w e m. e
-  wider_slots added_parts (cut_part {t = t} {p = p} c cs) no_cut = λ v w e m. sym (same_filled (cut_part {t = t} {p = p} c cs)) ∙ e
-  wider_slots (succeeds_part {s = s} {s' = s'} {ps = ps} {ps' = ps'} h n ns) (cut_part {s' = r'} {ps' = qs'} c cs) (cut_part {s' = r} {ps' = qs} d ds) =
-      slots_make (widen s' s) (widen r' r) (meets_cut s') (widen_slots ps' ps) (widen_slots qs' qs) (slots_meet_cut ps') (wider n c d) (wider_slots ns cs ds)
+  slots_both : {may : Bool} {ps' ps qs' qs : Parts} → SucceedsParts may ps' ps → CutParts ps' qs' → CutParts ps qs →
+      Makes (widen_slots ps' ps) (widen_slots qs' qs) (slots_meet_cut ps') × Makes (widen_slots qs' qs) (widen_slots ps' ps) (slots_meet_cut ps')
+  slots_both none_succeed no_cut no_cut = (λ v w e m. e, λ v w e m. e)
+  slots_both added_parts (cut_part {t = t} {p = p} c cs) no_cut = let r = same_filled (cut_part {t = t} {p = p} c cs) in (λ v w e m. sym r ∙ e, λ v w e m. r ∙ e)
+  slots_both (succeeds_part {s = s} {s' = s'} {ps = ps} {ps' = ps'} h n ns) (cut_part {s' = r'} {ps' = qs'} c cs) (cut_part {s' = r} {ps' = qs} d ds) =
+      let i = widen_both n c d in
+      let j = slots_both ns cs ds in (
+        slots_make (widen s' s) (widen r' r) (meets_cut s') (widen_slots ps' ps) (widen_slots qs' qs) (slots_meet_cut ps') i.0 j.0,
+        slots_make (widen r' r) (widen s' s) (meets_cut s') (widen_slots qs' qs) (widen_slots ps' ps) (slots_meet_cut ps') i.1 j.1,
+      )
 
-  wider_at : {may : Bool} {ps' ps qs' qs : Parts} → SucceedsParts may ps' ps → CutParts ps' qs' → CutParts ps qs → (i : ℕ) → Makes (widen_at ps' ps i) (widen_at qs' qs i) (meets_cut_at ps' i)
-  wider_at none_succeed no_cut no_cut i = λ v w e m. e
-  wider_at added_parts (cut_part c cs) no_cut i = λ v w e m. e
-  wider_at (succeeds_part h n ns) (cut_part c cs) (cut_part d ds) zero = wider n c d
-  wider_at (succeeds_part h n ns) (cut_part c cs) (cut_part d ds) (suc i) = wider_at ns cs ds i
+  at_both : {may : Bool} {ps' ps qs' qs : Parts} → SucceedsParts may ps' ps → CutParts ps' qs' → CutParts ps qs → (i : ℕ) → Both (widen_at ps' ps i) (widen_at qs' qs i) (meets_cut_at ps' i)
+  at_both none_succeed no_cut no_cut i = (λ v w e m. e, λ v w e m. e)
+  at_both added_parts (cut_part c cs) no_cut i = (λ v w e m. e, λ v w e m. e)
+  at_both (succeeds_part h n ns) (cut_part c cs) (cut_part d ds) zero = widen_both n c d
+  at_both (succeeds_part h n ns) (cut_part c cs) (cut_part d ds) (suc i) = at_both ns cs ds i
 
--- and back
-plain_narrower : {s t' t : Schema} → IsPlain s → CutOf s t' → CutOf s t → Makes (widen t' t) (widen s s) (meets_cut s)
-plain_narrower {s} {t'} {t} h c d = λ v w e m. go (plain_cut h c) (plain_cut h d) v w e m
-  where
-    go : (s ≡ Schema.cut) ⊎ (t' ≡ s) → (s ≡ Schema.cut) ⊎ (t ≡ s) → Makes (widen t' t) (widen s s) (meets_cut s)
-    go (inl k) l v w e m = absurd (cut_meets s k w m)
-    go (inr k) (inl l) v w e m = absurd (cut_meets s l w m)
-    go (inr k) (inr l) v w e m = subst (λ z. widen z s v ≡ Some w) k (subst (λ z. widen t' z v ≡ Some w) l e)
+pub wider : {s' s t' t : Schema} → Succeeds s' s → CutOf s' t' → CutOf s t → Makes (widen s' s) (widen t' t) (meets_cut s')
+wider n c d = (widen_both n c d).0
 
-mutual
-  unfolding widen meets_cut
-
-  pub narrower : {s' s t' t : Schema} → Succeeds s' s → CutOf s' t' → CutOf s t → Makes (widen t' t) (widen s' s) (meets_cut s')
-  narrower (succeeds_itself h) c d = plain_narrower h c d
-  narrower (succeeds_items h) (alike i) (alike j) = λ v w e m. e
-  narrower (succeeds_list n) (alike i) d = absurd i
-  narrower (succeeds_list n) (cut_list c) (alike i) = absurd i
-  narrower (succeeds_list {e = e0} {e' = e1} n) (cut_list {t = f1} c) (cut_list {t = f0} d) = elements_make (widen f1 f0) (widen e1 e0) (meets_cut e1) (narrower n c d)
-  narrower (succeeds_set_of n) (alike i) d = absurd i
-  narrower (succeeds_set_of n) (cut_set_of c) (alike i) = absurd i
-  narrower (succeeds_set_of {e = e0} {e' = e1} n) (cut_set_of {t = f1} c) (cut_set_of {t = f0} d) = bags_make (widen f1 f0) (widen e1 e0) (meets_cut e1) (narrower n c d)
-  narrower (succeeds_sequence n ns) (alike i) d = absurd i
-  narrower (succeeds_sequence n ns) (cut_sequence c cs) (alike i) = absurd i
-  narrower (succeeds_sequence {ps = ps} {ps' = ps'} {adds = adds} {adds' = adds'} n ns) (cut_sequence {qs = qs'} {bdds = bdds'} c cs) (cut_sequence {qs = qs} {bdds = bdds} d ds) =
-      fields_make (widen_slots qs' qs) (widen_slots ps' ps) (slots_meet_cut ps') (widen_slots bdds' bdds) (widen_slots adds' adds) (slots_meet_cut adds') (narrower_slots n c d) (narrower_slots ns cs ds)
-  narrower (succeeds_choice n ns) (alike i) d = absurd i
-  narrower (succeeds_choice n ns) (cut_choice c cs) (alike i) = absurd i
-  narrower (succeeds_choice {ps = ps} {ps' = ps'} {adds = adds} {adds' = adds'} n ns) (cut_choice {qs = qs'} {bdds = bdds'} c cs) (cut_choice {qs = qs} {bdds = bdds} d ds) =
-      alternative_make (widen_at qs' qs) (widen_at ps' ps) (meets_cut_at ps') (widen_at bdds' bdds) (widen_at adds' adds) (meets_cut_at adds') (narrower_at n c d) (narrower_at ns cs ds)
-
-  narrower_slots : {may : Bool} {ps' ps qs' qs : Parts} → SucceedsParts may ps' ps → CutParts ps' qs' → CutParts ps qs → Makes (widen_slots qs' qs) (widen_slots ps' ps) (slots_meet_cut ps')
-  narrower_slots none_succeed no_cut no_cut = λ v w e m. e
-  narrower_slots added_parts (cut_part {t = t} {p = p} c cs) no_cut = λ v w e m. same_filled (cut_part {t = t} {p = p} c cs) ∙ e
-  narrower_slots (succeeds_part {s = s} {s' = s'} {ps = ps} {ps' = ps'} h n ns) (cut_part {s' = r'} {ps' = qs'} c cs) (cut_part {s' = r} {ps' = qs} d ds) =
-      slots_make (widen r' r) (widen s' s) (meets_cut s') (widen_slots qs' qs) (widen_slots ps' ps) (slots_meet_cut ps') (narrower n c d) (narrower_slots ns cs ds)
-
-  narrower_at : {may : Bool} {ps' ps qs' qs : Parts} → SucceedsParts may ps' ps → CutParts ps' qs' → CutParts ps qs → (i : ℕ) → Makes (widen_at qs' qs i) (widen_at ps' ps i) (meets_cut_at ps' i)
-  narrower_at none_succeed no_cut no_cut i = λ v w e m. e
-  narrower_at added_parts (cut_part c cs) no_cut i = λ v w e m. e
-  narrower_at (succeeds_part h n ns) (cut_part c cs) (cut_part d ds) zero = narrower n c d
-  narrower_at (succeeds_part h n ns) (cut_part c cs) (cut_part d ds) (suc i) = narrower_at ns cs ds i
+pub narrower : {s' s t' t : Schema} → Succeeds s' s → CutOf s' t' → CutOf s t → Makes (widen t' t) (widen s' s) (meets_cut s')
+narrower n c d = (widen_both n c d).1
