@@ -13,4 +13,5 @@ pub mod records;
 pub mod refusals;
 pub mod sets;
 pub mod strings;
+pub mod unknown_additions;
 pub mod versions;
