@@ -95,7 +95,7 @@ mutual
 behind_them : (a : Settings) (s : Schema) (v : Value) (os rest after : List ℕ) → fills a s v os → after ≡ rest → front a s v (os ++ rest) after
 behind_them a s v os rest after x e = (os, ap (λ l. os ++ l) (sym e), x)
 
-older_reader_at : (a : Settings) (T' T : ℕ → Schema) → Unfolds T' → Unfolds T → NewerType T' T → (v' v : Value) (os : List ℕ) (n : ℕ) → meets_cut (T' n) v' ≡ false → read a T' v' os →
+pub older_reader_at : (a : Settings) (T' T : ℕ → Schema) → Unfolds T' → Unfolds T → NewerType T' T → (v' v : Value) (os : List ℕ) (n : ℕ) → meets_cut (T' n) v' ≡ false → read a T' v' os →
     read a T v os ↔ (project (T' n) (T n) v' ≡ Some v)
 older_reader_at a T' T u' u k v' v os n m x =
     let l = up_to T' u' n (n + 128) (omega arith) in
@@ -118,7 +118,7 @@ older_reader_reads a T' T u' u k v' v os rest after n m x = (r, (λ y. in_front 
         let q = (older_answers a (T' (n + 128)) (T (n + 128)) (k (n + 128)) v' v os rest after x' (less_cut l' v' m)).0 (y.0, y.1, deeper_reads a (T 128) (T (n + 128)) (up_to T u 128 (n + 128) (omega arith)) v y.0 y.2) in
         (project_alike (k n) l' l v' m ∙ q.0, q.1)
 
-newer_reader_at : (a : Settings) (T' T : ℕ → Schema) → Unfolds T' → Unfolds T → NewerType T' T → (v v' : Value) (os : List ℕ) (n : ℕ) → meets_cut (T' n) v' ≡ false → fills_known a (T 128) v os →
+pub newer_reader_at : (a : Settings) (T' T : ℕ → Schema) → Unfolds T' → Unfolds T → NewerType T' T → (v v' : Value) (os : List ℕ) (n : ℕ) → meets_cut (T' n) v' ≡ false → fills_known a (T 128) v os →
     read a T' v' os ↔ (widen (T' n) (T n) v ≡ Some v')
 newer_reader_at a T' T u' u k v v' os n m x =
     let s = newer_succeeds (k n) in
