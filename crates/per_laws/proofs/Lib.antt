@@ -1,7 +1,9 @@
+pub mod AnyDepth
 pub mod Carry
 pub mod Carrying
 pub mod Chains
 pub mod Deeper
+pub mod Fixed
 pub mod Held
 pub mod Loosen
 pub mod Newer
@@ -11,7 +13,9 @@ pub mod Opens
 pub mod Readers
 pub mod Samples
 pub mod Skipped
+pub mod Successors
 pub mod Takes
 pub mod Transitive
 pub mod Types
+pub mod Wider
 pub mod Widens

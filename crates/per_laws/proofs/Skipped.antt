@@ -1,14 +1,14 @@
 -- Unknown additions: records that are read with them, whatever their octets are, and where these end.
 use Rattle.std.proofs.Common.{◌≡◌, ◌↔◌, ◌⊎◌, inl, inr, refl, sym, ap, ◌∙◌, subst, ℕ, zero, suc, ◌+◌, ◌*◌, ◌%◌, ◌<◌, Bool, true, false, List, [], ◌∷◌, ◌++◌, length, append_assoc, append-nil, length-append, arith, Option}
-use Rattle.rasn_types.specs.Bits.{Bits}
+use Rattle.rasn_types.specs.Bits.{Bits, unpack}
 use Rattle.rasn_types.specs.Values.{Value, fields, as_slots}
 use Rattle.rasn_types.specs.Variants.{Variant, aligned, unaligned}
 use Rattle.rasn_schema.specs.Orders.{ordered}
 use Rattle.rasn_schema.specs.Schemas.{Order, Parts, Schema, tags, count}
-use Rattle.per_core.specs.Basic.{OneByOne, LastCount, InFragments, octet, Octets, Rule, Root, IsBitmap, Unknown_in, Additions_in, Fields_in, basic, basic_in, rules}
-use Rattle.per_core.specs.Spellings.{Settings, Spelling, exactly, Then, AnyPadding}
+use Rattle.per_core.specs.Basic.{OneByOne, LastCount, InFragments, octet, Octets, Rule, Root, IsBitmap, Unknown_in, Additions_in, Fields_in, basic, basic_in, fills, rules}
+use Rattle.per_core.specs.Spellings.{Settings, ZeroIf, Spelling, exactly, Then, AnyPadding}
 use Rattle.per_core.specs.Writers.{after, pad}
-use Rattle.per_core.proofs.Laws.{one_spelling}
+use Rattle.per_core.proofs.Laws.{one_spelling, one_value}
 use Rattle.per_core.proofs.Readings.{length-rules}
 use Rattle.per_laws.specs.Unknown.{count_set, OpenTypes, BeforeUnknown, WithUnknown}
 
@@ -220,6 +220,21 @@ unknown_changes_nothing a o ps adds more octets v w p b c x n y =
       λ z. (one_spelling a s w v p (b ++ c) (b ++ c) [] [] z r refl).0,
       λ e. subst (λ z. basic a s z p (b ++ c)) (sym e) r,
     )
+
+pub complete_is_read : (a : Settings) (o : Order) (ps adds : Parts) (more : List Bool) (contents : List (List ℕ)) (v w : Value) (b c spare : Bits) (os : List ℕ) → BeforeUnknown a o ps adds more v 0 b → count_set more ≡ length contents →
+    OpenTypes a contents (after 0 b) c → unpack os ≡ b ++ (c ++ spare) → length spare < 8 → ZeroIf a.strict spare → fills a (Schema.sequence o ps true adds) w os ↔ (w ≡ v)
+complete_is_read a o ps adds more contents v w b c spare os x n y e l z =
+    let s = Schema.sequence o ps true adds in
+    let r : fills a s v os = inl (record {
+      front = b ++ c;
+      spare = spare;
+      spelled = read_with a o ps adds more contents v 0 b c x n y;
+      all = e ∙ sym (append_assoc b c spare);
+      some = omega (arith, length-append b c, ap length x.spelled.joins, length-append x.spelled.front x.spelled.rest, ap length x.spelled.is_front);
+      short = l;
+      zeros = z;
+    }) in
+    (λ q. one_value a s w v os q r, λ i. subst (λ q. fills a s q os) (sym i) r)
 
 on_flags : (a : Settings) (o : Order) (ps adds : Parts) (ss xs : List (Option Value)) (shown fs gs : List Bool) (p : ℕ) (b : Bits) → fs ≡ gs →
     Then (exactly (true ∷ [])) (Rooted a o ps adds ss xs fs false shown) p b → Then (exactly (true ∷ [])) (Rooted a o ps adds ss xs gs false shown) p b

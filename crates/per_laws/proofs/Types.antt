@@ -8,8 +8,8 @@ use Rattle.per_core.specs.Spellings.{Settings}
 use Rattle.per_core.specs.Versions.{project, widen, NewerType}
 use Rattle.per_core.proofs.Lengths.{or_left, or_right}
 use Rattle.per_laws.proofs.Carry.{fills_carry}
-use Rattle.per_laws.proofs.Deeper.{deeper, uncut}
-use Rattle.per_laws.proofs.Held.{older_holds}
+use Rattle.per_laws.proofs.Deeper.{deeper, looser, uncut}
+use Rattle.per_laws.proofs.Held.{older_holds, newer_holds}
 use Rattle.per_laws.proofs.Readers.{older_answers, newer_answers, deeper_reads, shallower_reads}
 use Rattle.per_laws.proofs.Transitive.{or_both}
 
@@ -118,4 +118,12 @@ pub older_reader_answers : (a : Settings) (T' T : ℕ → Schema) → Unfolds T'
 older_reader_answers a T' T u' u k v' v os n l c x = (
   (older_type_answers a T' T u' u k v' v os 128 n l l c x).0,
   λ e. fills_carry a os (older_holds a (k 128) (up_to T' u' 128 n l) (up_to T u 128 n l) (k n) v' v c e) x,
+)
+
+-- the same of the newer type's reader and the widening, where no unknown additions are present
+pub newer_reader_answers : (a : Settings) (T' T : ℕ → Schema) → Unfolds T' → Unfolds T → NewerType T' T → (v v' : Value) (os : List ℕ) (n : ℕ) → 128 ≤ n → meets_cut (T' n) v' ≡ false → fills_known a (T 128) v os →
+    read a T' v' os ↔ (widen (T' n) (T n) v ≡ Some v')
+newer_reader_answers a T' T u' u k v v' os n l c x = (
+  (newer_type_answers a T' T u' u k v v' os 128 n l l c x).0,
+  λ e. fills_carry a os (looser a (T' 128) v') (fills_carry a os (newer_holds a (k 128) (up_to T' u' 128 n l) (up_to T u 128 n l) (k n) v v' c e) x),
 )
