@@ -77,6 +77,18 @@ module _ {X : Type 0} (item : X → Spelling) where
         go c (inl d) = inl (omega (arith, d.0), took_then c d.1)
         go c (inr d) = inr (split_more c d)
 
+  -- as many items as were counted
+  module _ (a : Settings) {n : ℕ} (xs : List X) {s t : Bits} where
+    pub of_counted : Took (Rest a item false n xs) s t → (length xs ≡ n) × Took (OneByOne item xs) s t
+    of_counted b =
+        let r = rest_split a false n xs b in
+        let e = nothing_more a r.others r.behind in
+        let f : xs ≡ r.these = r.all ∙ ap (λ z. r.these ++ z) e.0 ∙ append-nil r.these in
+        (ap length f ∙ r.many, subst (λ z. Took (OneByOne item z) s t) (sym f) (subst (λ z. Took (OneByOne item r.these) s z) e.1 r.are_these))
+
+    pub counted : length xs ≡ n → Took (OneByOne item xs) s t → Took (Rest a item false n xs) s t
+    counted l b = subst (λ z. Took (Rest a item false n z) s t) (append-nil xs) (split_rest a false n xs [] l b (took_nothing t))
+
 -- a length that counts nothing is the last
 pub empty_length : {a : Settings} (l : Length) {s t : Bits} → Took (LengthOf a l) s t → count_of l ≡ 0 → is_followed l ≡ false
 empty_length (Last n) b e = refl
@@ -85,11 +97,7 @@ empty_length (Fragment n) b e = let q = then_took b in absurd (omega (arith, e, 
 -- behind a length, what is still to be read is what an unconstrained length and its items are
 module _ {X : Type 0} {a : Settings} {item : X → Spelling} {s m : Bits} where
   pub on_length : (l : Length) → Took (LengthOf a l) s m → (xs : List X) (t : Bits) → Took (Rest a item (is_followed l) (count_of l) xs) m t → Took (UnconstrainedLength a item xs) s t
-  on_length (Last n) b xs t c =
-      let r = rest_split item a false n xs c in
-      let e = nothing_more item a r.others r.behind in
-      let f : xs ≡ r.these = r.all ∙ ap (λ z. r.these ++ z) e.0 ∙ append-nil r.these in
-      subst (λ z. Took (UnconstrainedLength a item z) s t) (sym f) (last_part item b r.many (subst (λ z. Took (OneByOne item r.these) m z) e.1 r.are_these))
+  on_length (Last n) b xs t c = let d = of_counted item a xs c in last_part item b d.0 d.1
   on_length (Fragment n) b xs t c =
       let r = rest_split item a true n xs c in
       subst (λ z. Took (UnconstrainedLength a item z) s t) (sym r.all) (more_parts item r.these b r.many r.are_these r.behind)

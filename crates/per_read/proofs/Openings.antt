@@ -1,6 +1,5 @@
 -- How lists are opened: what stands in front of their first item (X.691 20).
-use Rattle.std.proofs.Common.{◌≡◌, inl, inr, ℕ, ◌^◌, ◌&&◌, ltb, Bool, true, false, List, [], ◌∷◌, ◌++◌, length, Option, Some, None, refl, sym, ◌∙◌, ap, subst}
-use Rattle.std.proofs.lemmas.List.{append-nil}
+use Rattle.std.proofs.Common.{◌≡◌, inl, inr, ℕ, ◌^◌, ◌&&◌, ltb, Bool, true, false, List, [], ◌∷◌, ◌++◌, length, Option, Some, None, refl, sym, ◌∙◌, subst}
 use Rattle.std.proofs.lemmas.Bool.{lt-ltb, le-ltb}
 use Rattle.std.proofs.lemmas.Result.{IfOk-weaker, IfErr-weaker}
 use Rattle.std.specs.Prelude.{Result}
@@ -22,7 +21,7 @@ use Rattle.per_read.specs.UpTo.{UpToBetween, UpToSized, UpToUnconstrained}
 use Rattle.per_read.specs.declared.error.DecodeErrorKind.{DecodeErrorKind}
 use Rattle.per_read.specs.declared.lists.OpenList.{OpenList}
 use Rattle.per_read.proofs.Marked.{mark_in, mark_past, in_mark, past_mark, no_mark}
-use Rattle.per_read.proofs.OpenLists.{nothing_more, rest_split, split_rest, up_to_split}
+use Rattle.per_read.proofs.OpenLists.{counted, of_counted, up_to_split}
 use Rattle.per_read.proofs.SizeForms.{IsConstrained, IsFree, countable, count_agree, no_count_between, of_sized, sized_of, under_constrained, under_free}
 
 module _ {X : Type 0} (a : Settings) (item : X → Spelling) where
@@ -34,17 +33,6 @@ module _ {X : Type 0} (a : Settings) (item : X → Spelling) where
 
   up_to_constrained : {l u : Option ℕ} {lb ub : ℕ} → IsConstrained l u lb ub → (xs : List X) → UpToSized a l u item xs ≡ UpToBetween a lb ub item xs
   up_to_constrained {l} {u} {lb} {ub} h xs = rw (h.lower, h.upper, lt-ltb ub 65536 h.few) refl
-
-  -- as many items as were counted
-  of_counted : {n : ℕ} (xs : List X) {s t : Bits} → Took (Rest a item false n xs) s t → (length xs ≡ n) × Took (OneByOne item xs) s t
-  of_counted {n} xs {s} {t} b =
-      let r = rest_split item a false n xs b in
-      let e = nothing_more item a r.others r.behind in
-      let f : xs ≡ r.these = r.all ∙ ap (λ z. r.these ++ z) e.0 ∙ append-nil r.these in
-      (ap length f ∙ r.many, subst (λ z. Took (OneByOne item z) s t) (sym f) (subst (λ z. Took (OneByOne item r.these) s z) e.1 r.are_these))
-
-  counted : {n : ℕ} (xs : List X) {s t : Bits} → length xs ≡ n → Took (OneByOne item xs) s t → Took (Rest a item false n xs) s t
-  counted {n} xs {s} {t} l b = subst (λ z. Took (Rest a item false n z) s t) (append-nil xs) (split_rest item a false n xs [] l b (took_nothing t))
 
   -- elements of a list begin anywhere
   no_padding : (b : Bool) (s : Bits) → Took (PaddingIf (b && false) a) s s
@@ -103,7 +91,7 @@ module _ {X : Type 0} (a : Settings) (item : X → Spelling) where
         where
           as_under : (xs : List X) (t : Bits) → Took (Rest a item false n xs) m t → Took (under xs) s t
           as_under xs t c =
-              let d = of_counted xs c in
+              let d = of_counted item a xs c in
               let count : Took (CountFrom a lb ub (length xs)) s m = subst (λ (z : ℕ). Took (CountFrom a lb ub z) s m) (sym d.0) b in
               subst (λ z. Took z s t) (sym (is_between xs)) (took_then count (took_then (no_padding (ltb 0 (length xs)) m) d.1))
 
@@ -112,7 +100,7 @@ module _ {X : Type 0} (a : Settings) (item : X → Spelling) where
               let r = then_took (subst (λ z. Took z s t) (is_between xs) c) in
               let v = then_took r.2 in
               let k = took_agree (count_agree a lb ub (length xs) n) r.1 b in
-              counted xs k.0 (subst (λ z. Took (OneByOne item xs) z t) (sym (unpadded (ltb 0 (length xs)) v.1) ∙ k.1) v.2)
+              counted item a xs k.0 (subst (λ z. Took (OneByOne item xs) z t) (sym (unpadded (ltb 0 (length xs)) v.1) ∙ k.1) v.2)
 
           up_to : (xs : List X) (t : Bits) → Took (RestUpTo a item false n xs) m t → Took (UpToBetween a lb ub item xs) s t
           up_to xs t c = elim (up_to_split item a false n xs c) [
