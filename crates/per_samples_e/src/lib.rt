@@ -1,0 +1,4 @@
+//! Recursive types and lists whose encodings are known, written over the traits of types and codecs.
+#![tactic(auto)]
+
+pub mod nest;
