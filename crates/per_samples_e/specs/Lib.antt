@@ -1,1 +1,3 @@
+pub mod Bytes
+pub mod Empties
 pub mod Nests

@@ -1,4 +1,6 @@
 //! Recursive types and lists whose encodings are known, written over the traits of types and codecs.
 #![tactic(auto)]
 
+pub mod byte;
+pub mod empty;
 pub mod nest;
