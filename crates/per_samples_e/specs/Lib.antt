@@ -1,3 +1,4 @@
 pub mod Bytes
+pub mod Choices
 pub mod Empties
 pub mod Nests

@@ -2,5 +2,6 @@
 #![tactic(auto)]
 
 pub mod byte;
+pub mod choice;
 pub mod empty;
 pub mod nest;
