@@ -50,6 +50,14 @@ pub enum TypeName {
     OnlyX,
     /// SEQUENCE { a BOOLEAN, e ENUMERATED of 256 items }.
     Items,
+    /// SEQUENCE of eight BOOLEAN.
+    Byte,
+    /// SEQUENCE { a BOOLEAN, b OCTET STRING (SIZE (0..3)), c BOOLEAN }.
+    MaybeEmpty,
+    /// CHOICE { x [0] BOOLEAN, y CHOICE { p [1] BOOLEAN, q [2] NULL }, z [3] NULL }, y untagged.
+    Nested,
+    /// Nest ::= SEQUENCE { inner Nest OPTIONAL }.
+    Nest,
 }
 
 /// What the program is asked to do.
@@ -98,6 +106,10 @@ impl TypeName {
             "octets" => Some(TypeName::OctetString),
             "onlyx" => Some(TypeName::OnlyX),
             "items" => Some(TypeName::Items),
+            "byte" => Some(TypeName::Byte),
+            "empty" => Some(TypeName::MaybeEmpty),
+            "nested" => Some(TypeName::Nested),
+            "nest" => Some(TypeName::Nest),
             _ => None,
         }
     }

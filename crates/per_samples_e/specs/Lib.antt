@@ -1,4 +1,5 @@
 pub mod Bytes
 pub mod Choices
 pub mod Empties
+pub mod Mutuals
 pub mod Nests

@@ -5,3 +5,5 @@ pub mod byte;
 pub mod choice;
 pub mod empty;
 pub mod nest;
+pub mod ping;
+pub mod pong;
