@@ -14,6 +14,7 @@ mod in_place;
 mod integers;
 mod items;
 mod lengths;
+pub mod lists;
 mod numbers;
 mod sizes;
 mod small;

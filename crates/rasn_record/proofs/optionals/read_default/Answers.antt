@@ -1,4 +1,4 @@
-use Rattle.std.proofs.Common.{◌∙◌, refl, ap, Some, rules}
+use Rattle.std.proofs.Common.{refl, rules}
 use Rattle.std.proofs.lemmas.Result.{err_from_is_err_and}
 use Rattle.rasn_calls.specs.Scopes.{reads_left_out}
 use Rattle.rasn_calls.proofs.Optionals.{bit_refused, value_read}
