@@ -3,7 +3,10 @@
 
 pub mod byte;
 pub mod choice;
+pub mod elements;
 pub mod empty;
+pub mod lists;
 pub mod nest;
 pub mod ping;
 pub mod pong;
+pub mod triple;
