@@ -58,6 +58,15 @@ pub enum TypeName {
     Nested,
     /// Nest ::= SEQUENCE { inner Nest OPTIONAL }.
     Nest,
+    /// SEQUENCE OF byte.
+    Bytes,
+    /// SEQUENCE (SIZE (1..300)) OF NULL.
+    Nulls,
+    /// SEQUENCE OF NULL.
+    NullList,
+    /// SEQUENCE { flag BOOLEAN, fixed SEQUENCE (SIZE (2)) OF E, ranged SEQUENCE (SIZE (1..4)) OF E,
+    /// trailer INTEGER (0..255) }, E being SEQUENCE { octets OCTET STRING (SIZE (3)) }.
+    Elements,
 }
 
 /// What the program is asked to do.
@@ -110,6 +119,10 @@ impl TypeName {
             "empty" => Some(TypeName::MaybeEmpty),
             "nested" => Some(TypeName::Nested),
             "nest" => Some(TypeName::Nest),
+            "bytes" => Some(TypeName::Bytes),
+            "nulls" => Some(TypeName::Nulls),
+            "nulllist" => Some(TypeName::NullList),
+            "elements" => Some(TypeName::Elements),
             _ => None,
         }
     }

@@ -15,7 +15,9 @@ use per_samples_b::strings::{LettersAToE, OnlyX, ShortVisible};
 use per_samples_c::items::WithItem;
 use per_samples_e::byte::Byte;
 use per_samples_e::choice::Outer;
+use per_samples_e::elements::Elements;
 use per_samples_e::empty::MaybeEmpty;
+use per_samples_e::lists::{Bytes, NullList, Nulls};
 use per_samples_e::nest::Nest;
 use rasn_codec::codec::{Decode, Encode};
 use rasn_per::uper;
@@ -55,6 +57,10 @@ pub fn recoded(alloc: Global, arguments: Arguments, octets: &[u8]) -> Result<Vec
             TypeName::MaybeEmpty => recoded_as::<MaybeEmpty>(alloc, octets),
             TypeName::Nested => recoded_as::<Outer>(alloc, octets),
             TypeName::Nest => recoded_as::<Nest>(alloc, octets),
+            TypeName::Bytes => recoded_as::<Bytes>(alloc, octets),
+            TypeName::Nulls => recoded_as::<Nulls>(alloc, octets),
+            TypeName::NullList => recoded_as::<NullList>(alloc, octets),
+            TypeName::Elements => recoded_as::<Elements>(alloc, octets),
         },
     }
 }

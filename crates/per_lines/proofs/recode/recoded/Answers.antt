@@ -32,3 +32,15 @@ returns-in-Nested-clause-err c = rw (c.in-Nested.is, one_variant c.args.argument
 
 pub returns-in-Nest-clause-err : goal.returns-in-Nest-clause-err
 returns-in-Nest-clause-err c = rw (c.in-Nest.is, one_variant c.args.arguments.variant) c.recoded_as-in-Nest.ensures.err
+
+pub returns-in-Bytes-clause-err : goal.returns-in-Bytes-clause-err
+returns-in-Bytes-clause-err c = rw (c.in-Bytes.is, one_variant c.args.arguments.variant) c.recoded_as-in-Bytes.ensures.err
+
+pub returns-in-Nulls-clause-err : goal.returns-in-Nulls-clause-err
+returns-in-Nulls-clause-err c = rw (c.in-Nulls.is, one_variant c.args.arguments.variant) c.recoded_as-in-Nulls.ensures.err
+
+pub returns-in-NullList-clause-err : goal.returns-in-NullList-clause-err
+returns-in-NullList-clause-err c = rw (c.in-NullList.is, one_variant c.args.arguments.variant) c.recoded_as-in-NullList.ensures.err
+
+pub returns-in-Elements-clause-err : goal.returns-in-Elements-clause-err
+returns-in-Elements-clause-err c = rw (c.in-Elements.is, one_variant c.args.arguments.variant) c.recoded_as-in-Elements.ensures.err
