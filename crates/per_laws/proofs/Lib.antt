@@ -2,12 +2,15 @@ pub mod Carry
 pub mod Carrying
 pub mod Chains
 pub mod Deeper
+pub mod Held
 pub mod Loosen
 pub mod Newer
 pub mod Normals
 pub mod Older
+pub mod Opens
 pub mod Readers
 pub mod Samples
+pub mod Skipped
 pub mod Takes
 pub mod Transitive
 pub mod Types

@@ -18,7 +18,7 @@ use Rattle.per_laws.proofs.Carry.{fills_carry}
 use Rattle.per_laws.proofs.Deeper.{deeper, shallower, looser}
 use Rattle.per_laws.proofs.Newer.{newer_reads}
 use Rattle.per_laws.proofs.Older.{older_reads}
-use Rattle.per_laws.proofs.Takes.{older_takes}
+use Rattle.per_laws.proofs.Held.{older_takes}
 use Rattle.per_laws.proofs.Widens.{newer_takes}
 
 -- what an older reader reads of the same octets is the projection

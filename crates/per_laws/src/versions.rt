@@ -1,6 +1,6 @@
 //! The laws of schema versions: what an older and a newer version read of the same octets.
 
-ghost use Rattle.std.specs.Prelude.{◌≡◌, ◌≤◌, ◌++◌, ℕ, List, Some, None, false};
+ghost use Rattle.std.specs.Prelude.{◌≡◌, ◌↔◌, ◌≤◌, ◌++◌, ℕ, List, Some, None, false};
 ghost use Rattle.rasn_types.specs.Values.{Value};
 ghost use Rattle.rasn_schema.specs.Depth.{Unfolds, meets_cut};
 ghost use Rattle.rasn_schema.specs.Schemas.{Schema};
@@ -112,4 +112,14 @@ pub fn newer_type_reads_the_widening()
         meets_cut (newer n) v ≡ false → fills_known a (older m) w octets →
         (read a newer v octets → widen (newer n) (older n) w ≡ Some v)
         × (widen (newer n) (older n) w ≡ Some v → meets_cut (newer 128) v ≡ false → read a newer v octets) }
+{}
+
+/// Of types of any depth: of any octets that a newer type's reader reads, canonical or not, an older type's reader
+/// reads the projection, taken in trees that hold the value, and nothing else; it refuses exactly where there is none.
+/// No depth is asked of what isn't written, such as a default of many levels (X.680, 52).
+pub fn older_reader_reads_the_projection()
+    ensures { (a : Settings) (newer older : ℕ → Schema) →
+        Unfolds newer → Unfolds older → NewerType newer older →
+        (v w : Value) (octets : List ℕ) (n : ℕ) → 128 ≤ n → meets_cut (newer n) v ≡ false → read a newer v octets →
+        read a older w octets ↔ (project (newer n) (older n) v ≡ Some w) }
 {}
