@@ -10,7 +10,6 @@ use Rattle.per_core.specs.declared.ended.Surplus.{Surplus}
 use Rattle.per_de.specs.State.{State, Spells}
 use Rattle.per_de.specs.Faults.{Fault, refusal}
 use Rattle.per_read.specs.declared.error.DecodeError.{DecodeError}
-use Rattle.per_read.specs.declared.error.DecodeErrorKind.{DecodeErrorKind}
 use Rattle.per_read.specs.declared.error.DecodeErrorKind.TheVariants.{OutOfMemory}
 use Rattle.rasn_per.specs.Calls.{Decoded}
 use Rattle.rasn_per.specs.Kinds.{kind_of}
@@ -42,11 +41,11 @@ module _ {T : Type 0} (a : Codec) (schema : ℕ → Schema) (value : T → Value
       of_codec (inr r) = r.stands.codec
 
   -- a value was read, and the octets don't end behind it
-  pub surplus : (why : Surplus) (k : DecodeErrorKind) (e : Codec) (x : T) (t : State) (b : Bits) → k ≡ kind_of why → e ≡ t.codec → Spells (schema s.levels) s (value x) t
-      → Ended a schema octets (λ l n. Ends l n → ⊥) t b → Ended a schema octets (λ l n. IsWhy l n why) t b → Decoded a schema value octets (Err (record { kind = k; codec = e }))
-  surplus why k e x t b i c h d w = record {
+  pub surplus : (why : Surplus) (f : DecodeError) (e : Codec) (x : T) (t : State) (b : Bits) → f ≡ record { kind = kind_of why; codec = e } → e ≡ t.codec → Spells (schema s.levels) s (value x) t
+      → Ended a schema octets (λ l n. Ends l n → ⊥) t b → Ended a schema octets (λ l n. IsWhy l n why) t b → Decoded a schema value octets (Err f)
+  surplus why f e x t b i c h d w = rw i (record {
     ok = tt;
     err = λ n. unended a schema octets (value x) s t b begun h d;
-    kind = rw i (named_surplus a schema octets why (value x) s t b begun h w);
+    kind = named_surplus a schema octets why (value x) s t b begun h w;
     variant = c ∙ ap (λ (z : State). z.codec) h.same ∙ ap (λ (z : State). z.codec) begun;
-  }
+  })

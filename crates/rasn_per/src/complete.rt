@@ -13,6 +13,7 @@ use per_enc::{EncodeError, Encoder, EncoderOptions};
 use rasn_codec::codec::{Decode, Encode};
 use rasn_schema::constraints::Constraints;
 use rasn_schema::limits::is_lawful;
+use rasn_types::types::Codec;
 use std::alloc::{Allocator, Global};
 
 /// `encode` of both modules: the canonical octets of a value, in the variant of the options.
@@ -43,22 +44,20 @@ pub fn decode_in<T: Decode>(
     let value = T::decode(&mut decoder)?;
     match ended(&decoder.input(), total) {
         Ok(()) => Ok(value),
-        Err(surplus) => Err(DecodeError {
-            kind: kind_of_surplus(surplus),
-            codec: decoder.codec(),
-        }),
+        Err(surplus) => Err(refusal(surplus, decoder.codec())),
     }
 }
 
-/// What a surplus is called.
-fn kind_of_surplus(surplus: Surplus) -> DecodeErrorKind
-    ensures { result ≡ kind_of surplus }
+/// The refusal of octets that don't end as a complete encoding does.
+fn refusal(surplus: Surplus, codec: Codec) -> DecodeError
+    ensures { result ≡ record { kind = kind_of surplus; codec = codec } }
 {
-    match surplus {
+    let kind = match surplus {
         Surplus::Missing(bits) => DecodeErrorKind::Incomplete(bits),
         Surplus::NonzeroOctet => DecodeErrorKind::ParserFail(ParserFailCause::NonzeroEmptyValue),
         Surplus::ExtraOctets(octets) => DecodeErrorKind::UnexpectedExtraData(octets),
-    }
+    };
+    DecodeError { kind, codec }
 }
 
 /// Whether constraints are lawful, for those that are made at run time: the bounds of the first value constraint and of

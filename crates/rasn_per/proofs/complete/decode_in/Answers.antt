@@ -23,6 +23,6 @@ returns-in-Ok g c =
 pub returns-in-Err : goal.returns-in-Err
 returns-in-Err g c =
     surplus c.args.options.codec (g.T.AsnType.schema g.T.AsnType.CONSTRAINTS) g.T.AsnType.value c.args.octets.now _
-    (begun c.args.options _ _ _ c.from_reader-decoder.ensures c.requires c.from_octets-bits.ensures) c.in-Err.surplus _ _ _ _ _ c.kind_of_surplus.ensures c.codec.ensures c.in_ok-value.ensures.law
+    (begun c.args.options _ _ _ c.from_reader-decoder.ensures c.requires c.from_octets-bits.ensures) c.in-Err.surplus _ _ _ _ _ c.refusal.ensures c.codec.ensures c.in_ok-value.ensures.law
     (record { left = c.input.result; total = c.len-total.result; ends = c.in-Err.ensures.none; left_is = c.input.ensures; total_is = c.len-total.ensures; all = c.from_octets-bits.ensures })
     (record { left = c.input.result; total = c.len-total.result; ends = c.in-Err.ensures.why; left_is = c.input.ensures; total_is = c.len-total.ensures; all = c.from_octets-bits.ensures })
