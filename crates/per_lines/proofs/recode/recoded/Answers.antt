@@ -1,22 +1,13 @@
-use Rattle.std.proofs.Common.{◌≡◌, refl}
-use Rattle.rasn_types.specs.Variants.{unaligned}
-use Rattle.per_lines.specs.Recoding.{rules_of}
-use Rattle.per_lines.specs.declared.arguments.Variant.{Variant}
-use Rattle.per_lines.specs.declared.arguments.Variant.TheVariants.{Uper}
 use Rattle.per_lines.proofs.recode.recoded.Goals as goal
 
--- the program knows one variant
-one_variant : (v : Variant) → rules_of v ≡ unaligned
-one_variant Uper = refl
-
 pub returns-in-Four-clause-err : goal.returns-in-Four-clause-err
-returns-in-Four-clause-err c = rw (c.in-Four.is, one_variant c.args.arguments.variant) c.recoded_as-in-Four.ensures.err
+returns-in-Four-clause-err c = rw c.in-Four.is c.recoded_as-in-Four.ensures.err
 
 pub returns-in-Items-clause-err : goal.returns-in-Items-clause-err
-returns-in-Items-clause-err c = rw (c.in-Items.is, one_variant c.args.arguments.variant) c.recoded_as-in-Items.ensures.err
+returns-in-Items-clause-err c = rw c.in-Items.is c.recoded_as-in-Items.ensures.err
 
 pub returns-in-Seven-clause-err : goal.returns-in-Seven-clause-err
-returns-in-Seven-clause-err c = rw (c.in-Seven.is, one_variant c.args.arguments.variant) c.recoded_as-in-Seven.ensures.err
+returns-in-Seven-clause-err c = rw c.in-Seven.is c.recoded_as-in-Seven.ensures.err
 
 pub returns-in-OneDefault-clause-err : goal.returns-in-OneDefault-clause-err
-returns-in-OneDefault-clause-err c = rw (c.in-OneDefault.is, one_variant c.args.arguments.variant) c.recoded_as-in-OneDefault.ensures.err
+returns-in-OneDefault-clause-err c = rw c.in-OneDefault.is c.recoded_as-in-OneDefault.ensures.err
