@@ -4,7 +4,7 @@ use Rattle.rasn_types.specs.Bits.{Bits, AreOctets}
 use Rattle.rasn_types.specs.Values.{Value}
 use Rattle.rasn_types.specs.declared.types.Codec.{Codec}
 use Rattle.rasn_schema.specs.Schemas.{Schema}
-use Rattle.rasn_codec.specs.Calls.{Refuses}
+use Rattle.rasn_calls.specs.Calls.{Refuses}
 use Rattle.per_core.specs.Ends.{Ends, IsWhy}
 use Rattle.per_core.specs.declared.ended.Surplus.{Surplus}
 use Rattle.per_de.specs.State.{State, Spells}
