@@ -2,7 +2,7 @@
 #![tactic(auto)]
 
 ghost use Rattle.std.specs.Prelude.{◌≡◌, true, false, MatchOption, OnOk, OnErr, IfErr};
-ghost use Rattle.rasn_types.specs.declared.types.Codec.TheVariants.{Uper};
+ghost use Rattle.rasn_types.specs.declared.types.Codec.TheVariants.{Aper, Uper};
 ghost use Rattle.per_read.specs.declared.error.DecodeErrorKind.TheVariants.{AlreadyFailed};
 ghost use Rattle.per_read.specs.Lists.{most};
 ghost use Rattle.per_de.specs.State.{State, Options, fresh};
@@ -51,14 +51,25 @@ impl Model for DecoderOptions {
 }
 
 impl DecoderOptions {
+    /// The ALIGNED variant (X.691 7), and 128 levels.
+    pub const fn aligned() -> Self
+        ensures { result ≡ record { codec = Aper; levels = 128 } }
+    {
+        DecoderOptions::of_codec(Codec::Aper)
+    }
+
     /// The UNALIGNED variant (X.691 7), and 128 levels.
     pub const fn unaligned() -> Self
         ensures { result ≡ record { codec = Uper; levels = 128 } }
     {
-        DecoderOptions {
-            codec: Codec::Uper,
-            levels: 128,
-        }
+        DecoderOptions::of_codec(Codec::Uper)
+    }
+
+    /// The variant of a codec, and 128 levels.
+    const fn of_codec(codec: Codec) -> Self
+        ensures { result ≡ record { codec = codec; levels = 128 } }
+    {
+        DecoderOptions { codec, levels: 128 }
     }
 }
 

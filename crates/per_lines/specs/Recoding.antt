@@ -1,8 +1,7 @@
 -- From the octets of a value to the canonical octets of the same value.
 use Rattle.std.specs.Prelude.{ℕ, ◌≢◌, List, [], ◌∷◌, Some, true, false, pos, negsuc}
 use Rattle.rasn_types.specs.Alphabets.{visible, from_to}
-use Rattle.rasn_types.specs.Variants
-use Rattle.rasn_types.specs.Variants.{unaligned}
+use Rattle.rasn_types.specs.Variants.{Variant}
 use Rattle.rasn_types.specs.Values.{Value}
 use Rattle.rasn_constraints.specs.Bounds.{unbounded, between, Size, any_size}
 use Rattle.rasn_schema.specs.Schemas.{Schema}
@@ -23,16 +22,10 @@ use Rattle.rasn_per.specs.Complete.{AreBytes, HasNoBytes, AreReadAs, AreUnread}
 use Rattle.rasn_per.specs.Kinds.{IsInOctets}
 use Rattle.per_write.specs.declared.error.EncodeErrorKind.TheVariants as Encoding
 use Rattle.per_read.specs.declared.error.DecodeErrorKind.TheVariants as Decoding
-use Rattle.per_lines.specs.declared.arguments.Variant.{Variant}
-use Rattle.per_lines.specs.declared.arguments.Variant.TheVariants.{Uper}
 use Rattle.per_lines.specs.declared.arguments.TypeName.{TypeName}
 use Rattle.per_lines.specs.declared.arguments.TypeName.TheVariants.{Boolean, Null, Integer, UpTo65535, FromMinusOne, Natural, ZeroTo65536, OneToTenExtensible, Four, Seven, OneDefault, ShortVisible, LettersAToE, BitString, OctetString, OnlyX, Items, Byte, MaybeEmpty, Nested, Nest, Bytes, Nulls, NullList, Elements}
 use Rattle.per_lines.specs.declared.fault.Fault.{Fault}
 use Rattle.per_lines.specs.declared.fault.Fault.TheVariants as Faults
-
--- the variant that is meant (X.691 7)
-abbrev pub rules_of : Variant → Variants.Variant
-rules_of Uper = unaligned
 
 -- X.680 51.5: from 1 to u characters or elements
 abbrev pub one_to : ℕ → Size
@@ -69,23 +62,23 @@ schema_of NullList = list_at (always Schema.null) any_size false
 schema_of Elements = sequence_of elements
 
 -- octets are read as one value, whose canonical octets these are
-pub record Recodes (rules : Variants.Variant) (schema : ℕ → Schema) (octets canonical : List ℕ) : Type 0 where
+pub record Recodes (a : Variant) (schema : ℕ → Schema) (octets canonical : List ℕ) : Type 0 where
   pub value : Value
   pub levels : ℕ
-  pub is_read : AreReadAs rules schema value octets
-  pub is_written : AreBytes rules schema levels value canonical
+  pub is_read : AreReadAs a schema value octets
+  pub is_written : AreBytes a schema levels value canonical
 
 -- octets are read as one value, which has no canonical octets
-pub record IsUnwritable (rules : Variants.Variant) (schema : ℕ → Schema) (octets : List ℕ) : Type 0 where
+pub record IsUnwritable (a : Variant) (schema : ℕ → Schema) (octets : List ℕ) : Type 0 where
   pub value : Value
   pub levels : ℕ
-  pub is_read : AreReadAs rules schema value octets
-  pub is_unwritten : HasNoBytes rules schema levels value
+  pub is_read : AreReadAs a schema value octets
+  pub is_unwritten : HasNoBytes a schema levels value
 
 -- Why octets are refused: they are read as no value, and what the kind says is in them; or as one without canonical
 -- octets; or memory ran out.
-abbrev pub IsRefusal : Variants.Variant → (ℕ → Schema) → List ℕ → Fault → Type 0
-IsRefusal rules schema octets (Faults.Decode kind) =
-    (kind ≢ Decoding.OutOfMemory → AreUnread rules schema octets) × IsInOctets rules schema octets kind
-IsRefusal rules schema octets (Faults.Encode kind) = kind ≢ Encoding.OutOfMemory → IsUnwritable rules schema octets
-IsRefusal rules schema octets _ = ⊥
+abbrev pub IsRefusal : Variant → (ℕ → Schema) → List ℕ → Fault → Type 0
+IsRefusal a schema octets (Faults.Decode kind) =
+    (kind ≢ Decoding.OutOfMemory → AreUnread a schema octets) × IsInOctets a schema octets kind
+IsRefusal a schema octets (Faults.Encode kind) = kind ≢ Encoding.OutOfMemory → IsUnwritable a schema octets
+IsRefusal a schema octets _ = ⊥
