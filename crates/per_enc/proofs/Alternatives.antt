@@ -158,7 +158,7 @@ closes_choice x i j m y o ps count index k s v (Ok u) e few d h a w q c =
 closes_choice x i j m y o ps count index k s v (Err d) e few f h a w q c =
     absurd (room_left x i j o ps s v h w
     (subst (λ (n : ℕ). length j.bits < j.presences.place + index_width (variant_of j.codec) n) e
-    (subst (λ (z : State). length z.bits < z.presences.place + index_width (variant_of z.codec) count) q c.err)))
+    (subst (λ (z : State). length z.bits < z.presences.place + index_width (variant_of z.codec) count) q c.short)))
 
 pub known_index : (result : Result (Unit {0}) EncodeError) (found : Option ℕ) (index : ℕ) → found ≡ Some index → OnOk result (IsSome found)
 known_index (Ok u) found index e = subst (λ (o : Option ℕ). IsSome o) (sym e) refl
