@@ -23,7 +23,7 @@ use Rattle.per_de.specs.State.{State, settings_of}
 -- what a kind says where no level is left
 abbrev pub IsOfCut : DecodeErrorKind → Type 0
 IsOfCut ExceedsMaxParseDepth = Unit {0}
-IsOfCut k = IsTested k
+IsOfCut k = ⊥
 
 -- What a kind says of the first of bits, as a schema reads them. Kinds that no call answers yet say what never holds.
 abbrev pub IsAt : Settings → Schema → Bits → DecodeErrorKind → Type 0
