@@ -26,7 +26,7 @@ use Rattle.per_de.specs.State.{State, settings_of}
 -- what a kind says where no level is left
 abbrev pub IsOfCut : DecodeErrorKind → Type 0
 IsOfCut ExceedsMaxParseDepth = Unit {0}
-IsOfCut k = IsTested k
+IsOfCut k = ⊥
 
 -- what a kind says of a REAL (X.691 15), which isn't supported
 abbrev pub IsOfReal : DecodeErrorKind → Type 0

@@ -158,7 +158,7 @@ closes_choice x i j m y o ps count index k s v (Ok u) e few d h a w q c =
 closes_choice x i j m y o ps count index k s v (Err d) e few f h a w q c =
     absurd (room_left x i j o ps s v h w
     (subst (λ (n : ℕ). length j.bits < j.presences.place + index_width (variant_of j.codec) n) e
-    (subst (λ (z : State). length z.bits < z.presences.place + index_width (variant_of z.codec) count) q c.err)))
+    (subst (λ (z : State). length z.bits < z.presences.place + index_width (variant_of z.codec) count) q c.short)))
 
 pub same_index : {found : Option ℕ} {i k : ℕ} → found ≡ Some i → found ≡ Some k → i ≡ k
 same_index e d = cc
