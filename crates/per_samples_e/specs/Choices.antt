@@ -1,10 +1,9 @@
 -- CHOICE { x [0] BOOLEAN, y CHOICE { p [1] BOOLEAN, q [2] NULL }, z [3] NULL }, y untagged
-use Rattle.std.specs.Prelude.{◌≡◌, ℕ, List, [], ◌∷◌, refl}
+use Rattle.std.specs.Prelude.{◌≡◌, ℕ, List, [], ◌∷◌, Some, refl}
 use Rattle.rasn_types.specs.Values.{Value, alternative, root, nothing, truth}
-use Rattle.rasn_schema.specs.Choices.{choice_at, choice_levelled, tags_of}
+use Rattle.rasn_schema.specs.Choices.{VariantShape, choice_at, choice_levelled, variants_of}
 use Rattle.rasn_schema.specs.Components.{Component, parts_of, components_levelled, boolean, null, under, at}
 use Rattle.rasn_schema.specs.Levels.{Levelled}
-use Rattle.rasn_schema.specs.Schemas
 use Rattle.rasn_schema.specs.Schemas.{Parts, one_of, tree, no_trees, required, smallest}
 use Rattle.per_samples_e.specs.declared.choice.Inner.{Inner}
 use Rattle.per_samples_e.specs.declared.choice.Inner.TheVariants.{P, Q}
@@ -40,11 +39,14 @@ outer_parts = parts_of outer
 pub outer_levelled : Levelled (choice_at outer_parts)
 outer_levelled = choice_levelled (components_levelled outer)
 
--- the tags by which the alternatives go
-abbrev pub outer_tags : List Schemas.Tag
-outer_tags = record { class = 2; number = 0 } ∷ record { class = 2; number = 1 } ∷ record { class = 2; number = 3 } ∷ []
+-- the variants: the inner choice goes by the smallest of its tags
+abbrev pub outer_variants : List VariantShape
+outer_variants =
+    record { tag = record { class = 2; number = 0 }; tree = Some (at 0) } ∷
+    record { tag = record { class = 2; number = 1 }; tree = Some untagged.tags } ∷
+    record { tag = record { class = 2; number = 3 }; tree = Some (at 3) } ∷ []
 
-pub outer_described : (n : ℕ) → outer_tags ≡ tags_of (outer_parts n)
+pub outer_described : (n : ℕ) → outer_variants ≡ variants_of (outer_parts n)
 unfolding smallest
 outer_described n = refl
 

@@ -4,15 +4,14 @@ ghost use Rattle.std.specs.Prelude.{refl, true, [], ◌∷◌};
 ghost use Rattle.rasn_types.specs.declared.types.TheConstants.Tag.{EOC};
 ghost use Rattle.rasn_types.specs.Variants.{unaligned};
 ghost use Rattle.rasn_constraints.specs.Ranges.{no_constraints};
-ghost use Rattle.rasn_schema.specs.Choices.{choice_at, tags_of};
+ghost use Rattle.rasn_schema.specs.Choices.{choice_at, variants_of};
+ghost use Rattle.rasn_schema.specs.Tags.{choice_tag};
 ghost use Rattle.per_samples_a.specs.Rows.{IsWrittenAs};
-ghost use Rattle.per_samples_d.specs.Alternatives.{choice_tag};
-ghost use Rattle.per_samples_e.specs.Choices.{inner_parts, inner_levelled, inner_chosen, outer_parts, outer_levelled, outer_tags, outer_described, outer_chosen, outer_levels};
+ghost use Rattle.per_samples_e.specs.Choices.{inner_parts, inner_levelled, inner_chosen, outer_parts, outer_levelled, outer_variants, outer_described, outer_chosen, outer_levels};
 ghost use Rattle.per_samples_e.specs.declared.choice.Inner.TheVariants.{P, Q};
 ghost use Rattle.per_samples_e.specs.declared.choice.Outer.TheVariants.{X, Y, Z};
 
-use per_samples_d::choosing::encode_alternative;
-use rasn_codec::codec::{Decode, DecodeChoice, Decoder, DecoderExt, Encode, Encoder};
+use rasn_codec::codec::{Decode, DecodeChoice, Decoder, DecoderExt, Encode, Encoder, EncoderExt};
 use rasn_record::context_tag;
 use rasn_schema::choices::{Choice, Variant, Variants};
 use rasn_schema::fields::TagTree;
@@ -76,7 +75,7 @@ const INNER: &[Variant] = &[
 impl Choice for Inner {
     const VARIANTS: Variants = Variants { list: INNER };
 
-    ghost VARIANTS = { tags_of (inner_parts 0) };
+    ghost VARIANTS = { variants_of (inner_parts 0) };
 
     ghost alternatives = { inner_parts };
 
@@ -96,8 +95,8 @@ impl Encode for Inner {
         identifier: Identifier,
     ) -> Result<(), E::Error> {
         match self {
-            Inner::P(p) => encode_alternative::<Inner, _, _>(encoder, tag, identifier, TAG_OF_P, p),
-            Inner::Q => encode_alternative::<Inner, _, _>(encoder, tag, identifier, TAG_OF_Q, &()),
+            Inner::P(p) => encoder.encode_alternative::<Inner, _>(tag, TAG_OF_P, p, identifier),
+            Inner::Q => encoder.encode_alternative::<Inner, _>(tag, TAG_OF_Q, &(), identifier),
         }
     }
 }
@@ -165,7 +164,7 @@ const OUTER: &[Variant] = &[
 impl Choice for Outer {
     const VARIANTS: Variants = Variants { list: OUTER };
 
-    ghost VARIANTS = { outer_tags };
+    ghost VARIANTS = { outer_variants };
 
     ghost alternatives = { outer_parts };
 
@@ -185,9 +184,9 @@ impl Encode for Outer {
         identifier: Identifier,
     ) -> Result<(), E::Error> {
         match self {
-            Outer::X(x) => encode_alternative::<Outer, _, _>(encoder, tag, identifier, TAG_OF_X, x),
-            Outer::Y(y) => encode_alternative::<Outer, _, _>(encoder, tag, identifier, TAG_OF_P, y),
-            Outer::Z => encode_alternative::<Outer, _, _>(encoder, tag, identifier, TAG_OF_Z, &()),
+            Outer::X(x) => encoder.encode_alternative::<Outer, _>(tag, TAG_OF_X, x, identifier),
+            Outer::Y(y) => encoder.encode_alternative::<Outer, _>(tag, TAG_OF_P, y, identifier),
+            Outer::Z => encoder.encode_alternative::<Outer, _>(tag, TAG_OF_Z, &(), identifier),
         }
     }
 }
