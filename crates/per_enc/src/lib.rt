@@ -2,7 +2,7 @@
 #![tactic(auto)]
 
 ghost use Rattle.std.specs.Prelude.{◌≡◌, [], true, false, Some, OnOk, OnErr, IfOk, IfErr};
-ghost use Rattle.rasn_types.specs.declared.types.Codec.TheVariants.{Uper};
+ghost use Rattle.rasn_types.specs.declared.types.Codec.TheVariants.{Aper, Uper};
 ghost use Rattle.per_core.specs.Canon.{completed};
 ghost use Rattle.per_write.specs.Faults.{RefusesOutput};
 ghost use Rattle.per_write.specs.Rules.{encoder_rules};
@@ -41,6 +41,13 @@ impl Model for EncoderOptions {
 }
 
 impl EncoderOptions {
+    /// The ALIGNED variant (X.691 7).
+    pub const fn aligned() -> Self
+        ensures { result ≡ Aper }
+    {
+        EncoderOptions { codec: Codec::Aper }
+    }
+
     /// The UNALIGNED variant (X.691 7).
     pub const fn unaligned() -> Self
         ensures { result ≡ Uper }
@@ -160,6 +167,16 @@ impl<A: Allocator + Clone> encoder::Encoder for Encoder<A> {
             Some(stated) => self.writer.put_integer(stated, value),
             None => self.writer.put_unconstrained_whole(value),
         }
+    }
+
+    fn encode_real(
+        &mut self,
+        _tag: Tag,
+        _constraints: &Constraints,
+        _identifier: Identifier,
+    ) -> Result<(), EncodeError> {
+        self.writer.check_unfailed()?;
+        self.writer.refuse_real()
     }
 
     fn encode_null(&mut self, _tag: Tag, _identifier: Identifier) -> Result<(), EncodeError> {
