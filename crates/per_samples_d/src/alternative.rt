@@ -4,7 +4,7 @@ ghost use Rattle.std.specs.Prelude.{refl, true, [], ◌∷◌};
 ghost use Rattle.rasn_types.specs.declared.types.TheConstants.Tag.{EOC};
 ghost use Rattle.rasn_types.specs.Variants.{aligned, unaligned};
 ghost use Rattle.rasn_constraints.specs.Ranges.{no_constraints};
-ghost use Rattle.rasn_schema.specs.Choices.{choice_at, tags_of};
+ghost use Rattle.rasn_schema.specs.Choices.{choice_at, variants_of};
 ghost use Rattle.rasn_schema.specs.Components.{◌to◌};
 ghost use Rattle.rasn_schema.specs.Tags.{choice_tag};
 ghost use Rattle.per_samples_a.specs.Rows.{IsWrittenAs};
@@ -85,7 +85,7 @@ const VARIANTS: &[Variant] = &[
 impl Choice for Alternative {
     const VARIANTS: Variants = Variants { list: VARIANTS };
 
-    ghost VARIANTS = { tags_of (parts 0) };
+    ghost VARIANTS = { variants_of (parts 0) };
 
     ghost alternatives = { parts };
 

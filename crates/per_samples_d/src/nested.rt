@@ -7,7 +7,7 @@ ghost use Rattle.rasn_constraints.specs.Ranges.{no_constraints};
 ghost use Rattle.rasn_schema.specs.Choices.{choice_at};
 ghost use Rattle.rasn_schema.specs.Tags.{choice_tag};
 ghost use Rattle.per_samples_a.specs.Rows.{IsWrittenAs};
-ghost use Rattle.per_samples_d.specs.Nesteds.{nested_parts, nested_levelled, nested_tags, nested_described, nested_chosen, nested_levels};
+ghost use Rattle.per_samples_d.specs.Nesteds.{nested_parts, nested_levelled, nested_variants, nested_described, nested_chosen, nested_levels};
 ghost use Rattle.per_samples_d.specs.declared.alternative.Alternative.TheVariants.{X, Y};
 ghost use Rattle.per_samples_d.specs.declared.nested.Nested.TheVariants.{Record, Inner, Last};
 
@@ -71,7 +71,7 @@ const VARIANTS: &[Variant] = &[
 impl Choice for Nested {
     const VARIANTS: Variants = Variants { list: VARIANTS };
 
-    ghost VARIANTS = { nested_tags };
+    ghost VARIANTS = { nested_variants };
 
     ghost alternatives = { nested_parts };
 

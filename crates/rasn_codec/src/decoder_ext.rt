@@ -1,5 +1,8 @@
 //! The calls of every decoder that read values of a type of its own.
 
+ghost use Rattle.std.specs.Prelude.{map};
+ghost use Rattle.rasn_schema.specs.Forms.{is_size_marked, size_of};
+ghost use Rattle.rasn_schema.specs.Lists.{list_at, list_value};
 ghost use Rattle.rasn_schema.specs.Schemas.{optional};
 ghost use Rattle.rasn_calls.specs.Optionals.{ReadsComponent, ReadsDefault};
 ghost use Rattle.rasn_calls.specs.Presences.{slot_of};
@@ -69,8 +72,8 @@ pub trait DecoderExt: Decoder {
         tag: Tag,
         constraints: &Constraints,
     ) -> Result<Option<T>, Self::Error>
-        ensures { ReadsComponent Self.rules optional (T.schema constraints.now (Self.rules.levels self.old)) (slot_of T.value)
-            self.old result self.new }
+        ensures { ReadsComponent Self.rules optional (T.schema constraints.now (Self.rules.levels self.old))
+            (slot_of T.value) self.old result self.new }
     {
         if !self.next_presence()? {
             return Ok(None);
@@ -141,12 +144,34 @@ pub trait DecoderExt: Decoder {
         &mut self,
         _constraints: &Constraints,
     ) -> Result<C, Self::Error>
-        ensures { Reads Self.rules (choice_at C.alternatives (Self.rules.levels self.old)) C.value self.old result self.new }
+        ensures { Reads Self.rules (choice_at C.alternatives (Self.rules.levels self.old)) C.value
+            self.old result self.new }
     {
         let (tag, outside) = self.open_choice::<C>()?;
         let value = C::from_tag(self, tag)?;
         self.close_choice(outside);
         Ok(value)
+    }
+
+    /// Reads a SEQUENCE OF under constraints (X.691 20), of which the size counts elements.
+    final fn decode_sequence_of<D: Decode>(
+        &mut self,
+        tag: Tag,
+        constraints: &Constraints,
+    ) -> Result<Vec<D>, Self::Error>
+        ensures { let size = size_of constraints.now in let mark = is_size_marked constraints.now in
+            let c = list_at (D.schema D.CONSTRAINTS) size mark (Self.rules.levels self.old) in
+            Reads Self.rules c (λ xs. list_value (map D.value xs.items)) self.old result self.new }
+    {
+        let mut list = self.open_list(tag, constraints)?;
+        let mut values = Vec::new(self.alloc());
+        while self.next_element(&mut list)? {
+            let value = D::decode(self)?;
+            if values.push(value).is_err() {
+                return Err(self.out_of_memory());
+            }
+        }
+        Ok(values)
     }
 }
 
