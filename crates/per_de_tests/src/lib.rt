@@ -3,6 +3,8 @@
 #![tactic(auto)]
 
 #[cfg(test)]
+mod absences;
+#[cfg(test)]
 mod characters;
 #[cfg(test)]
 mod decoder;

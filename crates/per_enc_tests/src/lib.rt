@@ -3,6 +3,8 @@
 #![tactic(auto)]
 
 #[cfg(test)]
+mod absences;
+#[cfg(test)]
 mod encoder;
 #[cfg(test)]
 mod errors;

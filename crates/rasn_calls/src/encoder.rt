@@ -6,7 +6,8 @@ ghost use Rattle.rasn_types.specs.Alphabets.{visible, ia5, printable, numeric, b
 ghost use Rattle.rasn_types.specs.Contents.{utf8, other};
 ghost use Rattle.rasn_types.specs.Values.{truth, nothing, whole, octets, bits, characters};
 ghost use Rattle.rasn_schema.specs.Schemas.{Schema, listed};
-ghost use Rattle.rasn_schema.specs.Forms.{number_schema, octet_schema, bit_schema, character_schema, size_of, is_size_marked};
+ghost use Rattle.rasn_schema.specs.Forms.{number_schema, octet_schema, bit_schema, character_schema};
+ghost use Rattle.rasn_schema.specs.Forms.{size_of, is_size_marked};
 ghost use Rattle.rasn_schema.specs.Records.{record_at, no_additions, record_value};
 ghost use Rattle.rasn_calls.specs.Optionals.{GivesBit};
 ghost use Rattle.rasn_calls.specs.Calls.{EncoderRules, freely, Writes, Encodes, PresentsWell};
@@ -325,8 +326,8 @@ pub trait Encoder: Sized {
         self.close_sequence::<C>(outside)
     }
 
-    /// Writes a CHOICE (X.691 23). `scope` writes the value of an alternative, and answers the tag that this goes by: its
-    /// own, or the smallest of a nested untagged choice.
+    /// Writes a CHOICE (X.691 23). `scope` writes the value of an alternative, and answers the tag that this goes by:
+    /// its own, or the smallest of a nested untagged choice.
     final fn encode_choice<
         C: Choice,
         F: FnOnce(&mut Self) -> Result<Tag, Self::Error>,

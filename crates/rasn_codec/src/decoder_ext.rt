@@ -72,8 +72,8 @@ pub trait DecoderExt: Decoder {
         tag: Tag,
         constraints: &Constraints,
     ) -> Result<Option<T>, Self::Error>
-        ensures { ReadsComponent Self.rules optional (T.schema constraints.now (Self.rules.levels self.old)) (slot_of T.value)
-            self.old result self.new }
+        ensures { ReadsComponent Self.rules optional (T.schema constraints.now (Self.rules.levels self.old))
+            (slot_of T.value) self.old result self.new }
     {
         if !self.next_presence()? {
             return Ok(None);
@@ -144,7 +144,8 @@ pub trait DecoderExt: Decoder {
         &mut self,
         _constraints: &Constraints,
     ) -> Result<C, Self::Error>
-        ensures { Reads Self.rules (choice_at C.alternatives (Self.rules.levels self.old)) C.value self.old result self.new }
+        ensures { Reads Self.rules (choice_at C.alternatives (Self.rules.levels self.old)) C.value
+            self.old result self.new }
     {
         let (tag, outside) = self.open_choice::<C>()?;
         let value = C::from_tag(self, tag)?;
@@ -158,8 +159,8 @@ pub trait DecoderExt: Decoder {
         tag: Tag,
         constraints: &Constraints,
     ) -> Result<Vec<D>, Self::Error>
-        ensures { let size = size_of constraints.now in
-            let c = list_at (D.schema D.CONSTRAINTS) size (is_size_marked constraints.now) (Self.rules.levels self.old) in
+        ensures { let size = size_of constraints.now in let mark = is_size_marked constraints.now in
+            let c = list_at (D.schema D.CONSTRAINTS) size mark (Self.rules.levels self.old) in
             Reads Self.rules c (λ xs. list_value (map D.value xs.items)) self.old result self.new }
     {
         let mut list = self.open_list(tag, constraints)?;
