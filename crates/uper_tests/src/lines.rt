@@ -169,6 +169,33 @@ const PRINTED: &[(&str, &str, &str)] = &[
     // The last item, and the first one behind bits that are spare.
     ("uper items", "ff80\n", "ff80\n"),
     ("uper items", "007f\n", "0000\n"),
+    ("uper byte", "a1\n", "a1\n"),
+    ("uper empty", "90\n", "90\n"),
+    ("uper empty", "a0f0\n", "a0f0\n"),
+    // The alternatives x, y of p, y of q and z.
+    ("uper nested", "20\n", "20\n"),
+    ("uper nested", "50\n", "50\n"),
+    ("uper nested", "60\n", "60\n"),
+    ("uper nested", "80\n", "80\n"),
+    // One level, and 128.
+    ("uper nest", "00\n", "00\n"),
+    (
+        "uper nest",
+        "fffffffffffffffffffffffffffffffe\n",
+        "fffffffffffffffffffffffffffffffe\n",
+    ),
+    ("uper bytes", "0102\n", "0102\n"),
+    ("uper bytes", "8001ff\n", "01ff\n"),
+    // 300 items, whose count is within the size.
+    ("uper nulls", "9580\n", "9580\n"),
+    ("uper nulllist", "c4c4c400\n", "c4c4c400\n"),
+    // A fragment of 16384 items and another, where the largest holds both.
+    ("uper nulllist", "c1c100\n", "c200\n"),
+    (
+        "uper elements",
+        "80810182028300e1013560\n",
+        "80810182028300e1013560\n",
+    ),
 ];
 
 /// Arguments, a line that is refused, and what is said.
@@ -207,6 +234,20 @@ const REFUSED: &[(&str, &str, &str)] = &[
     ("uper seven", "\n", "Incomplete\n"),
     ("uper seven", "01\n", "ParserFail\n"),
     ("uper seven", "0000\n", "UnexpectedExtraData\n"),
+    ("uper byte", "\n", "Incomplete\n"),
+    // The index 3, where there are three alternatives.
+    ("uper nested", "c0\n", "ChoiceIndexNotFound\n"),
+    ("uper nested", "\n", "Incomplete\n"),
+    // 129 levels.
+    (
+        "uper nest",
+        "ffffffffffffffffffffffffffffffff00\n",
+        "ExceedsMaxParseDepth\n",
+    ),
+    ("uper bytes", "02ff\n", "Incomplete\n"),
+    // 301 items, where there are at most 300.
+    ("uper nulls", "9600\n", "SizeConstraintNotSatisfied\n"),
+    ("uper nulllist", "c5\n", "ParserFail\n"),
 ];
 
 #[test]
@@ -267,6 +308,24 @@ fn takes_and_prints_fragments(rt: HostRuntime) -> Result<(), Fail> {
         let ran = run_on(rt.alloc(), "uper octets", input.as_bytes())?;
         assert_ran(&rt, &ran, 0, output.as_str(), "");
     }
+    Ok(())
+}
+
+/// 99000 records of eight bits each: a fragment of 65536 elements, one of 32768, and the rest.
+const RECORDS: &[(&str, usize)] = &[
+    ("c4", 1),
+    ("00", 65536),
+    ("c2", 1),
+    ("00", 32768),
+    ("82b8", 1),
+    ("00", 696),
+];
+
+#[test]
+fn takes_and_prints_many_records(rt: HostRuntime) -> Result<(), Fail> {
+    let line = line_of(rt.alloc(), RECORDS)?;
+    let ran = run_on(rt.alloc(), "uper bytes", line.as_bytes())?;
+    assert_ran(&rt, &ran, 0, line.as_str(), "");
     Ok(())
 }
 
