@@ -1,6 +1,6 @@
 -- What the scope of a choice presents, and how it refuses.
-use Rattle.std.specs.Prelude.{Result, Ok, Err, OnOk, IsSome}
-use Rattle.std.proofs.Common.{◌≡◌, refl, sym, ap, ◌∙◌, subst, inl, ℕ, zero, suc, true, false, [], ◌∷◌, ◌++◌, length, replicate, Option, Some, None, arith, append_assoc, length-append, ◌+◌, ◌%◌, ◌<◌, ◌≤◌, le-leb, leb-true}
+use Rattle.std.specs.Prelude.{Result, Ok, Err}
+use Rattle.std.proofs.Common.{◌≡◌, refl, sym, ap, ◌∙◌, subst, inl, ℕ, zero, suc, false, [], ◌++◌, length, replicate, Option, Some, None, arith, append_assoc, length-append, ◌+◌, ◌%◌, ◌<◌, ◌≤◌}
 use Rattle.std.proofs.lemmas.List.{length-replicate}
 use Rattle.rasn_types.specs.Bits.{Bits, to_bits}
 use Rattle.rasn_types.proofs.Bits.{length-to_bits}
@@ -13,7 +13,7 @@ use Rattle.rasn_calls.specs.Calls.{Written}
 use Rattle.rasn_calls.specs.Choices.{PassesChoice, OpenedChoice}
 use Rattle.per_core.specs.Canon.{canon, members, chosen, choice_of as choice_writer}
 use Rattle.per_core.specs.Counts.{constrained_whole}
-use Rattle.per_core.specs.Writers.{Writer, just, ◌▹◌, join, go_on, after}
+use Rattle.per_core.specs.Writers.{just, ◌▹◌, join, go_on, after}
 use Rattle.per_write.specs.Choices.{FillsIndexOrNot, IsFilled, OpensIndex, OpensIndexOrNot, index_width}
 use Rattle.per_write.specs.declared.error.EncodeError.{EncodeError}
 use Rattle.per_write.specs.declared.error.EncodeErrorKind.{EncodeErrorKind}
@@ -57,7 +57,7 @@ stands_in_alternative AlreadyFailed x m ps k s v f h t = absurd cc
 stands_in_alternative (SizeConstraintNotSatisfied length lower upper) x m ps k s v f h t = in_alternative h t
 stands_in_alternative AlphabetConstraintNotSatisfied x m ps k s v f h t = in_alternative h t
 stands_in_alternative VariantNotInChoice x m ps k s v f h t = absurd t
-stands_in_alternative RealNotSupported x m ps k s v f h t = absurd t
+stands_in_alternative RealNotSupported x m ps k s v f h t = in_alternative h t
 stands_in_alternative TooManyAdditions x m ps k s v f h t = absurd t
 stands_in_alternative Below x m ps k s v f h t = absurd t
 stands_in_alternative OutOfMemory x m ps k s v f h t = absurd t
@@ -159,10 +159,6 @@ closes_choice x i j m y o ps count index k s v (Err d) e few f h a w q c =
     absurd (room_left x i j o ps s v h w
     (subst (λ (n : ℕ). length j.bits < j.presences.place + index_width (variant_of j.codec) n) e
     (subst (λ (z : State). length z.bits < z.presences.place + index_width (variant_of z.codec) count) q c.err)))
-
-pub known_index : (result : Result (Unit {0}) EncodeError) (found : Option ℕ) (index : ℕ) → found ≡ Some index → OnOk result (IsSome found)
-known_index (Ok u) found index e = subst (λ (o : Option ℕ). IsSome o) (sym e) refl
-known_index (Err d) found index e = tt
 
 pub same_index : {found : Option ℕ} {i k : ℕ} → found ≡ Some i → found ≡ Some k → i ≡ k
 same_index e d = cc

@@ -1,6 +1,6 @@
 -- What the scope of a record presents, and how it refuses.
 use Rattle.std.specs.Prelude.{Result, Ok, Err}
-use Rattle.std.proofs.Common.{◌≡◌, refl, sym, ap, ap₂, ◌∙◌, subst, inl, ℕ, suc, false, true, List, [], ◌++◌, length, replicate, Option, Some, None, arith, append-nil, ◌+◌, ◌%◌, ◌<◌}
+use Rattle.std.proofs.Common.{◌≡◌, refl, sym, ap, ◌∙◌, subst, inl, ℕ, false, true, List, [], ◌++◌, length, replicate, Option, Some, None, arith, append-nil, ◌+◌, ◌%◌, ◌<◌}
 use Rattle.rasn_types.specs.Bits.{Bits}
 use Rattle.rasn_types.specs.Codecs.{variant_of}
 use Rattle.rasn_types.specs.Values.{Value}
@@ -49,7 +49,7 @@ stands_in_part AlreadyFailed x m s v ps rs f h k = absurd cc
 stands_in_part (SizeConstraintNotSatisfied length lower upper) x m s v ps rs f h k = in_part h k
 stands_in_part AlphabetConstraintNotSatisfied x m s v ps rs f h k = in_part h k
 stands_in_part VariantNotInChoice x m s v ps rs f h k = absurd k
-stands_in_part RealNotSupported x m s v ps rs f h k = absurd k
+stands_in_part RealNotSupported x m s v ps rs f h k = in_part h k
 stands_in_part TooManyAdditions x m s v ps rs f h k = absurd k
 stands_in_part Below x m s v ps rs f h k = absurd k
 stands_in_part OutOfMemory x m s v ps rs f h k = absurd k

@@ -3,6 +3,7 @@
 
 pub mod choices;
 pub mod dates;
+pub mod deep_defaults;
 pub mod extensions;
 pub mod integers;
 pub mod lawful;
@@ -12,4 +13,5 @@ pub mod records;
 pub mod refusals;
 pub mod sets;
 pub mod strings;
+pub mod unknown_additions;
 pub mod versions;

@@ -1,10 +1,9 @@
 -- CHOICE { record SEQUENCE { a BOOLEAN, b INTEGER }, inner CHOICE { x [0] BOOLEAN, y [1] INTEGER (0..7) }, last [2] NULL }
-use Rattle.std.specs.Prelude.{◌≡◌, ℕ, List, [], ◌∷◌, refl}
+use Rattle.std.specs.Prelude.{◌≡◌, ℕ, List, [], ◌∷◌, Some, refl}
 use Rattle.rasn_types.specs.Values.{Value, alternative, root, nothing}
-use Rattle.rasn_schema.specs.Choices.{choice_at, choice_levelled, tags_of}
+use Rattle.rasn_schema.specs.Choices.{VariantShape, choice_at, choice_levelled, variants_of}
 use Rattle.rasn_schema.specs.Components.{Component, parts_of, components_levelled, sequence, sequence_value, null, under, at}
 use Rattle.rasn_schema.specs.Levels.{Levelled}
-use Rattle.rasn_schema.specs.Schemas
 use Rattle.rasn_schema.specs.Schemas.{Parts, leaf, one_of, tree, no_trees, required, smallest}
 use Rattle.per_samples_a.specs.Pairs.{pair, pair_contents}
 use Rattle.per_samples_d.specs.Alternatives
@@ -32,11 +31,14 @@ nested_parts = parts_of nested
 pub nested_levelled : Levelled (choice_at nested_parts)
 nested_levelled = choice_levelled (components_levelled nested)
 
--- the tags by which the alternatives go: the inner choice by the smallest of its own
-abbrev pub nested_tags : List Schemas.Tag
-nested_tags = record { class = 0; number = 16 } ∷ record { class = 2; number = 0 } ∷ record { class = 2; number = 2 } ∷ []
+-- the variants: the inner choice goes by the smallest of its tags
+abbrev pub nested_variants : List VariantShape
+nested_variants =
+    record { tag = record { class = 0; number = 16 }; tree = Some (leaf (record { class = 0; number = 16 })) } ∷
+    record { tag = record { class = 2; number = 0 }; tree = Some inner.tags } ∷
+    record { tag = record { class = 2; number = 2 }; tree = Some (at 2) } ∷ []
 
-pub nested_described : (n : ℕ) → nested_tags ≡ tags_of (nested_parts n)
+pub nested_described : (n : ℕ) → nested_variants ≡ variants_of (nested_parts n)
 unfolding smallest
 nested_described n = refl
 

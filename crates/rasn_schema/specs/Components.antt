@@ -47,7 +47,7 @@ sequence_levelled cs = record_levelled (components_levelled cs) parts_levelled
 -- the fields of components, in order, counted from a number
 abbrev pub fields_from : ℕ → List Component → List Shape
 fields_from i [] = []
-fields_from i (c ∷ cs) = record { index = i; tag = field_tag c.tags; presence = presence_of c.presence } ∷ fields_from (suc i) cs
+fields_from i (c ∷ cs) = record { index = i; tag = field_tag c.tags; tree = Some c.tags; presence = presence_of c.presence } ∷ fields_from (suc i) cs
 
 -- the fields of components, in order
 abbrev pub fields_of : List Component → List Shape
@@ -55,7 +55,7 @@ fields_of cs = fields_from 0 cs
 
 fields_from_parts : (i : ℕ) (cs : List Component) (n : ℕ) → fields_from i cs ≡ shapes_from i (parts_of cs n)
 fields_from_parts i [] n = refl
-fields_from_parts i (c ∷ cs) n = ap (λ fs. record { index = i; tag = field_tag c.tags; presence = presence_of c.presence } ∷ fs) (fields_from_parts (suc i) cs n)
+fields_from_parts i (c ∷ cs) n = ap (λ fs. record { index = i; tag = field_tag c.tags; tree = Some c.tags; presence = presence_of c.presence } ∷ fs) (fields_from_parts (suc i) cs n)
 
 -- the fields are those of the components at each number of levels
 pub fields_described : (cs : List Component) (n : ℕ) → fields_of cs ≡ shapes_from 0 (parts_of cs n)

@@ -1,6 +1,6 @@
 use Rattle.std.proofs.Common.{◌≡◌, ℕ, suc, refl, rules, ap, sym, ◌∙◌, length, slice_get, Some}
 use Rattle.std.proofs.lemmas.Result.{err_from_is_err_and}
-use Rattle.rasn_schema.specs.Choices.{choice_at, choice_of, tags_of}
+use Rattle.rasn_schema.specs.Choices.{choice_at, choice_of, go_by, tags_of, variants_counted}
 use Rattle.rasn_schema.specs.Fields.{tag_of}
 use Rattle.per_de.specs.Choices.{OpensChoice}
 use Rattle.per_de.proofs.Calls.{too_deep}
@@ -16,7 +16,7 @@ returns-in_err-levels g c =
 pub returns-in_err-index : goal.returns-in_err-index
 returns-in_err-index g c =
     let p = err_from_is_err_and c.from_residual-in_err-index.result c.from_residual-in_err-index.ensures.1 in
-    let count : (n : ℕ) → c.len.result ≡ length (tags_of (g.C.Choice.alternatives n)) = λ n. c.len.ensures ∙ ap length (c.VARIANTS-variants.ensures ∙ g.C.Choice.described n) in
+    let count : (n : ℕ) → c.len.result ≡ length (tags_of (g.C.Choice.alternatives n)) = λ n. c.len.ensures ∙ variants_counted (g.C.Choice.alternatives n) (c.VARIANTS-variants.ensures ∙ g.C.Choice.described n) in
     let o = c.in_ok-levels.ensures in
     let same = c.self.view_is ∙ o.1 in
     let deeper : c.self.inside.levels ≡ suc c.in_ok-levels.levels = ap (λ z. z.levels) same ∙ o.0 in
@@ -28,7 +28,7 @@ returns-in_err-index g c =
 
 pub returns : goal.returns
 returns g c =
-    let count : (n : ℕ) → c.len.result ≡ length (tags_of (g.C.Choice.alternatives n)) = λ n. c.len.ensures ∙ ap length (c.VARIANTS-variants.ensures ∙ g.C.Choice.described n) in
+    let count : (n : ℕ) → c.len.result ≡ length (tags_of (g.C.Choice.alternatives n)) = λ n. c.len.ensures ∙ variants_counted (g.C.Choice.alternatives n) (c.VARIANTS-variants.ensures ∙ g.C.Choice.described n) in
     let o = c.in_ok-levels.ensures in
     let same = c.self.view_is ∙ o.1 in
     let deeper : c.self.inside.levels ≡ suc c.in_ok-levels.levels = ap (λ z. z.levels) same ∙ o.0 in
@@ -37,7 +37,7 @@ returns g c =
     opens_index (choice_of alternatives) c.len.result c.in_ok-index.index c.self.inside.reader c.take_choice_index-taken.new.self c.self.inside.failed c.self.inside.levels c.in_ok-levels.levels c.self.inside.presences c.from_octets.result
     c.take_choice_index-taken.result _ _ _ (ap (λ z. z.failed) same ∙ c.in_ok-check_unfailed.ensures.ok) deeper c.from_octets.ensures (count _) c.take_choice_index-taken.ensures c.in_ok-index.ensures c.enter-scope.ensures) in
     let there = alternative_there alternatives c.in_ok-index.index opened.took.spelled.below in
-    let named : slice_get g.C.Choice.VARIANTS c.in_ok-index.index ≡ Some (tag_of c.tag_at.result) = ap (λ ts. slice_get ts c.in_ok-index.index) (sym c.VARIANTS-variants.ensures) ∙ c.tag_at.ensures in
+    let named : slice_get (go_by g.C.Choice.VARIANTS) c.in_ok-index.index ≡ Some (tag_of c.tag_at.result) = ap (λ vs. slice_get (go_by vs) c.in_ok-index.index) (sym c.VARIANTS-variants.ensures) ∙ c.tag_at.ensures in
     record {
       law = record {
         deeper = opened.deeper;
