@@ -15,7 +15,7 @@ use Rattle.per_core.specs.Canon.{bytes}
 use Rattle.per_lines.specs.declared.arguments.Variant.{Variant}
 use Rattle.per_lines.specs.declared.arguments.Variant.TheVariants.{Uper}
 use Rattle.per_lines.specs.declared.arguments.TypeName.{TypeName}
-use Rattle.per_lines.specs.declared.arguments.TypeName.TheVariants.{Boolean, Null, Integer, UpTo65535, FromMinusOne, Natural, ZeroTo65536, OneToTenExtensible, Four, Seven, OneDefault, ShortVisible, LettersAToE, BitString, OctetString, OnlyX, Items}
+use Rattle.per_lines.specs.declared.arguments.TypeName.TheVariants.{Boolean, Null, Integer, UpTo65535, FromMinusOne, Natural, ZeroTo65536, OneToTenExtensible, Four, Seven, OneDefault, ShortVisible, LettersAToE, BitString, OctetString, OnlyX, Items, Byte, MaybeEmpty, Nested, Nest, Bytes, Nulls, NullList, Elements}
 use Rattle.per_lines.specs.declared.arguments.Arguments.{Arguments}
 use Rattle.per_lines.specs.declared.fault.Fault.TheVariants.{CannotWrite}
 use Rattle.per_lines.specs.Words.{variant_word, type_word, words_of}
@@ -26,7 +26,8 @@ use Rattle.per_lines.specs.Answers.{Answers, Prints, Stands}
 -- the types that the program knows
 abbrev all_types : List TypeName
 all_types = Boolean ∷ Null ∷ Integer ∷ UpTo65535 ∷ FromMinusOne ∷ Natural ∷ ZeroTo65536 ∷ OneToTenExtensible ∷ Four ∷ Seven ∷ OneDefault
-    ∷ ShortVisible ∷ LettersAToE ∷ BitString ∷ OctetString ∷ OnlyX ∷ Items ∷ []
+    ∷ ShortVisible ∷ LettersAToE ∷ BitString ∷ OctetString ∷ OnlyX ∷ Items
+    ∷ Byte ∷ MaybeEmpty ∷ Nested ∷ Nest ∷ Bytes ∷ Nulls ∷ NullList ∷ Elements ∷ []
 
 -- the first of some types that a word names
 abbrev named : List ℕ → List TypeName → Option TypeName
@@ -55,6 +56,14 @@ type_of-words v BitString = refl
 type_of-words v OctetString = refl
 type_of-words v OnlyX = refl
 type_of-words v Items = refl
+type_of-words v Byte = refl
+type_of-words v MaybeEmpty = refl
+type_of-words v Nested = refl
+type_of-words v Nest = refl
+type_of-words v Bytes = refl
+type_of-words v Nulls = refl
+type_of-words v NullList = refl
+type_of-words v Elements = refl
 
 same_type : (a b : Arguments) → words_of a ≡ words_of b → a.type_name ≡ b.type_name
 same_type a b e =

@@ -6,12 +6,19 @@ use Rattle.rasn_types.specs.Variants.{unaligned}
 use Rattle.rasn_types.specs.Values.{Value}
 use Rattle.rasn_constraints.specs.Bounds.{unbounded, between, Size, any_size}
 use Rattle.rasn_schema.specs.Schemas.{Schema}
+use Rattle.rasn_schema.specs.Choices.{choice_at}
 use Rattle.rasn_schema.specs.Forms.{always}
+use Rattle.rasn_schema.specs.Lists.{list_at}
 use Rattle.rasn_schema.specs.Components.{lower_bound, upper_bound, sequence_of}
 use Rattle.per_samples_a.specs.Absents.{one_default}
 use Rattle.per_samples_a.specs.Fours.{four}
 use Rattle.per_samples_a.specs.Sevens.{seven}
 use Rattle.per_samples_c.specs.Items.{with_item}
+use Rattle.per_samples_e.specs.Bytes.{byte}
+use Rattle.per_samples_e.specs.Choices.{outer_parts}
+use Rattle.per_samples_e.specs.Elements.{elements}
+use Rattle.per_samples_e.specs.Empties.{maybe_empty}
+use Rattle.per_samples_e.specs.Nests.{nest}
 use Rattle.rasn_per.specs.Complete.{AreBytes, HasNoBytes, AreReadAs, AreUnread}
 use Rattle.rasn_per.specs.Kinds.{IsInOctets}
 use Rattle.per_write.specs.declared.error.EncodeErrorKind.TheVariants as Encoding
@@ -19,7 +26,7 @@ use Rattle.per_read.specs.declared.error.DecodeErrorKind.TheVariants as Decoding
 use Rattle.per_lines.specs.declared.arguments.Variant.{Variant}
 use Rattle.per_lines.specs.declared.arguments.Variant.TheVariants.{Uper}
 use Rattle.per_lines.specs.declared.arguments.TypeName.{TypeName}
-use Rattle.per_lines.specs.declared.arguments.TypeName.TheVariants.{Boolean, Null, Integer, UpTo65535, FromMinusOne, Natural, ZeroTo65536, OneToTenExtensible, Four, Seven, OneDefault, ShortVisible, LettersAToE, BitString, OctetString, OnlyX, Items}
+use Rattle.per_lines.specs.declared.arguments.TypeName.TheVariants.{Boolean, Null, Integer, UpTo65535, FromMinusOne, Natural, ZeroTo65536, OneToTenExtensible, Four, Seven, OneDefault, ShortVisible, LettersAToE, BitString, OctetString, OnlyX, Items, Byte, MaybeEmpty, Nested, Nest, Bytes, Nulls, NullList, Elements}
 use Rattle.per_lines.specs.declared.fault.Fault.{Fault}
 use Rattle.per_lines.specs.declared.fault.Fault.TheVariants as Faults
 
@@ -27,12 +34,12 @@ use Rattle.per_lines.specs.declared.fault.Fault.TheVariants as Faults
 abbrev pub rules_of : Variant → Variants.Variant
 rules_of Uper = unaligned
 
--- X.680 51.5: from 1 to u characters
+-- X.680 51.5: from 1 to u characters or elements
 abbrev pub one_to : ℕ → Size
 one_to u = record { least = Some 1; most = Some u }
 
 -- what the name of a type means: BOOLEAN (X.680 18); NULL (X.680 24); INTEGER (X.680 19), alone and under value constraints
--- (X.680 51.4); SEQUENCE (X.680 25), with a default or an ENUMERATED (X.680 20) in it; BIT STRING (X.680 22); OCTET STRING (X.680 23); and character strings
+-- (X.680 51.4); SEQUENCE (X.680 25), with a default, an ENUMERATED (X.680 20) or itself in it; SEQUENCE OF (X.680 26); CHOICE (X.680 29); BIT STRING (X.680 22); OCTET STRING (X.680 23); and character strings
 -- (X.680 41) by their characters
 abbrev pub schema_of : TypeName → ℕ → Schema
 schema_of Boolean = always Schema.boolean
@@ -52,6 +59,14 @@ schema_of BitString = always (Schema.bit_string any_size false)
 schema_of OctetString = always (Schema.octet_string any_size false)
 schema_of OnlyX = always (Schema.char_string (120 ∷ []) any_size false)
 schema_of Items = sequence_of with_item
+schema_of Byte = sequence_of byte
+schema_of MaybeEmpty = sequence_of maybe_empty
+schema_of Nested = choice_at outer_parts
+schema_of Nest = sequence_of nest
+schema_of Bytes = list_at (sequence_of byte) any_size false
+schema_of Nulls = list_at (always Schema.null) (one_to 300) false
+schema_of NullList = list_at (always Schema.null) any_size false
+schema_of Elements = sequence_of elements
 
 -- octets are read as one value, whose canonical octets these are
 pub record Recodes (rules : Variants.Variant) (schema : ℕ → Schema) (octets canonical : List ℕ) : Type 0 where

@@ -3,7 +3,7 @@ use Rattle.std.specs.Prelude.{ℕ, List, [], ◌∷◌, String, codes, map, stri
 use Rattle.per_lines.specs.declared.arguments.Variant.{Variant}
 use Rattle.per_lines.specs.declared.arguments.Variant.TheVariants.{Uper}
 use Rattle.per_lines.specs.declared.arguments.TypeName.{TypeName}
-use Rattle.per_lines.specs.declared.arguments.TypeName.TheVariants.{Boolean, Null, Integer, UpTo65535, FromMinusOne, Natural, ZeroTo65536, OneToTenExtensible, Four, Seven, OneDefault, ShortVisible, LettersAToE, BitString, OctetString, OnlyX, Items}
+use Rattle.per_lines.specs.declared.arguments.TypeName.TheVariants.{Boolean, Null, Integer, UpTo65535, FromMinusOne, Natural, ZeroTo65536, OneToTenExtensible, Four, Seven, OneDefault, ShortVisible, LettersAToE, BitString, OctetString, OnlyX, Items, Byte, MaybeEmpty, Nested, Nest, Bytes, Nulls, NullList, Elements}
 use Rattle.per_lines.specs.declared.arguments.Arguments.{Arguments}
 
 -- words by their octets
@@ -31,6 +31,14 @@ type_word BitString = codes "bits"
 type_word OctetString = codes "octets"
 type_word OnlyX = codes "onlyx"
 type_word Items = codes "items"
+type_word Byte = codes "byte"
+type_word MaybeEmpty = codes "empty"
+type_word Nested = codes "nested"
+type_word Nest = codes "nest"
+type_word Bytes = codes "bytes"
+type_word Nulls = codes "nulls"
+type_word NullList = codes "nulllist"
+type_word Elements = codes "elements"
 
 -- a variant and a type
 abbrev pub words_of : Arguments → List (List ℕ)

@@ -50,6 +50,23 @@ pub enum TypeName {
     OnlyX,
     /// SEQUENCE { a BOOLEAN, e ENUMERATED of 256 items }.
     Items,
+    /// SEQUENCE of eight BOOLEAN.
+    Byte,
+    /// SEQUENCE { a BOOLEAN, b OCTET STRING (SIZE (0..3)), c BOOLEAN }.
+    MaybeEmpty,
+    /// CHOICE { x [0] BOOLEAN, y CHOICE { p [1] BOOLEAN, q [2] NULL }, z [3] NULL }, y untagged.
+    Nested,
+    /// Nest ::= SEQUENCE { inner Nest OPTIONAL }.
+    Nest,
+    /// SEQUENCE OF byte.
+    Bytes,
+    /// SEQUENCE (SIZE (1..300)) OF NULL.
+    Nulls,
+    /// SEQUENCE OF NULL.
+    NullList,
+    /// SEQUENCE { flag BOOLEAN, fixed SEQUENCE (SIZE (2)) OF E, ranged SEQUENCE (SIZE (1..4)) OF E,
+    /// trailer INTEGER (0..255) }, E being SEQUENCE { octets OCTET STRING (SIZE (3)) }.
+    Elements,
 }
 
 /// What the program is asked to do.
@@ -98,6 +115,14 @@ impl TypeName {
             "octets" => Some(TypeName::OctetString),
             "onlyx" => Some(TypeName::OnlyX),
             "items" => Some(TypeName::Items),
+            "byte" => Some(TypeName::Byte),
+            "empty" => Some(TypeName::MaybeEmpty),
+            "nested" => Some(TypeName::Nested),
+            "nest" => Some(TypeName::Nest),
+            "bytes" => Some(TypeName::Bytes),
+            "nulls" => Some(TypeName::Nulls),
+            "nulllist" => Some(TypeName::NullList),
+            "elements" => Some(TypeName::Elements),
             _ => None,
         }
     }

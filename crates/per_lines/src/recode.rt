@@ -13,6 +13,12 @@ use per_samples_a::half_bounded::{FromMinusOne, Natural, UpTo65535};
 use per_samples_a::seven::Seven;
 use per_samples_b::strings::{LettersAToE, OnlyX, ShortVisible};
 use per_samples_c::items::WithItem;
+use per_samples_e::byte::Byte;
+use per_samples_e::choice::Outer;
+use per_samples_e::elements::Elements;
+use per_samples_e::empty::MaybeEmpty;
+use per_samples_e::lists::{Bytes, NullList, Nulls};
+use per_samples_e::nest::Nest;
 use rasn_codec::codec::{Decode, Encode};
 use rasn_per::uper;
 use rasn_types::big::Integer;
@@ -47,6 +53,14 @@ pub fn recoded(alloc: Global, arguments: Arguments, octets: &[u8]) -> Result<Vec
             TypeName::OctetString => recoded_as::<OctetString>(alloc, octets),
             TypeName::OnlyX => recoded_as::<OnlyX>(alloc, octets),
             TypeName::Items => recoded_as::<WithItem>(alloc, octets),
+            TypeName::Byte => recoded_as::<Byte>(alloc, octets),
+            TypeName::MaybeEmpty => recoded_as::<MaybeEmpty>(alloc, octets),
+            TypeName::Nested => recoded_as::<Outer>(alloc, octets),
+            TypeName::Nest => recoded_as::<Nest>(alloc, octets),
+            TypeName::Bytes => recoded_as::<Bytes>(alloc, octets),
+            TypeName::Nulls => recoded_as::<Nulls>(alloc, octets),
+            TypeName::NullList => recoded_as::<NullList>(alloc, octets),
+            TypeName::Elements => recoded_as::<Elements>(alloc, octets),
         },
     }
 }

@@ -13,5 +13,6 @@ pub mod records;
 pub mod refusals;
 pub mod sets;
 pub mod strings;
+pub mod structures;
 pub mod unknown_additions;
 pub mod versions;

@@ -41,7 +41,7 @@ pub trait DecoderExt: Decoder {
         ensures { ReadsComponent Self.rules optional (T.schema T.CONSTRAINTS (Self.rules.levels self.old))
             (slot_of T.value) self.old result self.new }
     {
-        self.decode_optional_with_tag_and_constraints(T::TAG, &T::CONSTRAINTS)
+        self.decode_optional_with_tag(T::TAG)
     }
 
     /// Reads an optional component under a tag and its type's own constraints.
@@ -91,7 +91,7 @@ pub trait DecoderExt: Decoder {
         ensures { ReadsDefault Self.rules (T.schema T.CONSTRAINTS (Self.rules.levels self.old)) T.value
             (λ made. (alloc : _) × F.post default alloc made) self.old result self.new }
     {
-        self.decode_default_with_tag_and_constraints(T::TAG, default, &T::CONSTRAINTS)
+        self.decode_default_with_tag(T::TAG, default)
     }
 
     /// Reads a component with a default, under a tag and its type's own constraints.

@@ -77,7 +77,7 @@ pub trait EncoderExt: Encoder {
         ensures { EncodesSome Self.rules (T.schema T.CONSTRAINTS) (T.levels value.now) (T.value value.now)
             self.old result self.new }
     {
-        self.encode_some_with_tag_and_constraints(T::TAG, &T::CONSTRAINTS, value, identifier)
+        self.encode_some_with_tag(T::TAG, value, identifier)
     }
 
     /// Writes an optional component that is there, under a tag and its type's own constraints.
@@ -150,13 +150,7 @@ pub trait EncoderExt: Encoder {
         ensures { EncodesDefault Self.rules (T.schema T.CONSTRAINTS) (T.levels value.now) (T.value value.now)
             (FnOnceReturnsAt F.FnOnce is_default value.now) self.old result self.new }
     {
-        self.encode_default_with_tag_and_constraints(
-            T::TAG,
-            &T::CONSTRAINTS,
-            value,
-            is_default,
-            identifier,
-        )
+        self.encode_default_with_tag(T::TAG, value, is_default, identifier)
     }
 
     /// Writes a component with a default, under a tag and its type's own constraints.

@@ -20,3 +20,27 @@ returns-in-Seven-clause-err c = rw (c.in-Seven.is, one_variant c.args.arguments.
 
 pub returns-in-OneDefault-clause-err : goal.returns-in-OneDefault-clause-err
 returns-in-OneDefault-clause-err c = rw (c.in-OneDefault.is, one_variant c.args.arguments.variant) c.recoded_as-in-OneDefault.ensures.err
+
+pub returns-in-Byte-clause-err : goal.returns-in-Byte-clause-err
+returns-in-Byte-clause-err c = rw (c.in-Byte.is, one_variant c.args.arguments.variant) c.recoded_as-in-Byte.ensures.err
+
+pub returns-in-MaybeEmpty-clause-err : goal.returns-in-MaybeEmpty-clause-err
+returns-in-MaybeEmpty-clause-err c = rw (c.in-MaybeEmpty.is, one_variant c.args.arguments.variant) c.recoded_as-in-MaybeEmpty.ensures.err
+
+pub returns-in-Nested-clause-err : goal.returns-in-Nested-clause-err
+returns-in-Nested-clause-err c = rw (c.in-Nested.is, one_variant c.args.arguments.variant) c.recoded_as-in-Nested.ensures.err
+
+pub returns-in-Nest-clause-err : goal.returns-in-Nest-clause-err
+returns-in-Nest-clause-err c = rw (c.in-Nest.is, one_variant c.args.arguments.variant) c.recoded_as-in-Nest.ensures.err
+
+pub returns-in-Bytes-clause-err : goal.returns-in-Bytes-clause-err
+returns-in-Bytes-clause-err c = rw (c.in-Bytes.is, one_variant c.args.arguments.variant) c.recoded_as-in-Bytes.ensures.err
+
+pub returns-in-Nulls-clause-err : goal.returns-in-Nulls-clause-err
+returns-in-Nulls-clause-err c = rw (c.in-Nulls.is, one_variant c.args.arguments.variant) c.recoded_as-in-Nulls.ensures.err
+
+pub returns-in-NullList-clause-err : goal.returns-in-NullList-clause-err
+returns-in-NullList-clause-err c = rw (c.in-NullList.is, one_variant c.args.arguments.variant) c.recoded_as-in-NullList.ensures.err
+
+pub returns-in-Elements-clause-err : goal.returns-in-Elements-clause-err
+returns-in-Elements-clause-err c = rw (c.in-Elements.is, one_variant c.args.arguments.variant) c.recoded_as-in-Elements.ensures.err
