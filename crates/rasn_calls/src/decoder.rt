@@ -8,7 +8,8 @@ ghost use Rattle.rasn_types.specs.Alphabets.{visible, ia5, printable, numeric, b
 ghost use Rattle.rasn_types.specs.Contents.{utf8, other};
 ghost use Rattle.rasn_types.specs.Values.{truth, nothing, whole, octets, bits, characters};
 ghost use Rattle.rasn_schema.specs.Schemas.{Schema, listed};
-ghost use Rattle.rasn_schema.specs.Forms.{number_schema, octet_schema, bit_schema, character_schema, size_of, is_size_marked};
+ghost use Rattle.rasn_schema.specs.Forms.{number_schema, octet_schema, bit_schema, character_schema};
+ghost use Rattle.rasn_schema.specs.Forms.{is_size_marked, size_of};
 ghost use Rattle.rasn_schema.specs.Records.{record_at, no_additions, record_value};
 ghost use Rattle.rasn_calls.specs.Optionals.{ReadsBit};
 ghost use Rattle.rasn_calls.specs.Calls.{DecoderRules, freely_read, Reads, DecodesWell};
@@ -179,8 +180,8 @@ pub trait Decoder: Sized {
     fn close_sequence(&mut self, scope: Self::Scope) -> Result<(), Self::Error>
         ensures { ClosesRead rules unended closes scope self.old result self.new };
 
-    /// Reads the index of a CHOICE (X.691 23), which takes a level: the calls from here to `close_choice` read the value
-    /// of its alternative, which goes by the tag. At no level left it refuses.
+    /// Reads the index of a CHOICE (X.691 23), which takes a level: the calls from here to `close_choice` read the
+    /// value of its alternative, which goes by the tag. At no level left it refuses.
     fn open_choice<C: Choice>(&mut self) -> Result<(Tag, Self::Scope), Self::Error>
         ensures { OpensToChoose rules opens_choice C.alternatives C.VARIANTS self.old result self.new };
 
@@ -192,14 +193,14 @@ pub trait Decoder: Sized {
     fn next_presence(&mut self) -> Result<bool, Self::Error>
         ensures { ReadsBit rules self.old result self.new };
 
-    /// Opens a SEQUENCE OF under constraints (X.691 20), which takes a level: its elements follow, each behind a call of
-    /// `next_element` that answers true. At no level left it refuses.
+    /// Opens a SEQUENCE OF under constraints (X.691 20), which takes a level: its elements follow, each behind a call
+    /// of `next_element` that answers true. At no level left it refuses.
     fn open_list(&mut self, tag: Tag, constraints: &Constraints) -> Result<Self::List, Self::Error>
         ensures { OpensListToRead rules amid (size_of constraints.now) (is_size_marked constraints.now)
             self.old result self.new };
 
-    /// Goes on in an open list: answers whether an element follows. Where none does, the list has ended: its size allows
-    /// the count of its elements, and its level is given back. A count that the size doesn't allow is refused.
+    /// Goes on in an open list: answers whether an element follows. Where none does, the list has ended: its size
+    /// allows the count of its elements, and its level is given back. A count that the size doesn't allow is refused.
     fn next_element(&mut self, list: &mut Self::List) -> Result<bool, Self::Error>
         ensures { ReadsNext rules amid most list.old self.old result list.new self.new };
 

@@ -72,8 +72,8 @@ pub trait DecoderExt: Decoder {
         tag: Tag,
         constraints: &Constraints,
     ) -> Result<Option<T>, Self::Error>
-        ensures { ReadsComponent Self.rules optional (T.schema constraints.now (Self.rules.levels self.old)) (slot_of T.value)
-            self.old result self.new }
+        ensures { let c = T.schema constraints.now (Self.rules.levels self.old) in
+            ReadsComponent Self.rules optional c (slot_of T.value) self.old result self.new }
     {
         if !self.next_presence()? {
             return Ok(None);
@@ -144,7 +144,8 @@ pub trait DecoderExt: Decoder {
         &mut self,
         _constraints: &Constraints,
     ) -> Result<C, Self::Error>
-        ensures { Reads Self.rules (choice_at C.alternatives (Self.rules.levels self.old)) C.value self.old result self.new }
+        ensures { Reads Self.rules (choice_at C.alternatives (Self.rules.levels self.old)) C.value
+            self.old result self.new }
     {
         let (tag, outside) = self.open_choice::<C>()?;
         let value = C::from_tag(self, tag)?;
@@ -159,8 +160,9 @@ pub trait DecoderExt: Decoder {
         constraints: &Constraints,
     ) -> Result<Vec<D>, Self::Error>
         ensures { let size = size_of constraints.now in
-            let c = list_at (D.schema D.CONSTRAINTS) size (is_size_marked constraints.now) (Self.rules.levels self.old) in
-            Reads Self.rules c (λ xs. list_value (map D.value xs.items)) self.old result self.new }
+            let schema = list_at (D.schema D.CONSTRAINTS) size (is_size_marked constraints.now) in
+            Reads Self.rules (schema (Self.rules.levels self.old)) (λ xs. list_value (map D.value xs.items))
+            self.old result self.new }
     {
         let mut list = self.open_list(tag, constraints)?;
         let mut values = Vec::new(self.alloc());
