@@ -7,7 +7,7 @@ use Rattle.rasn_types.specs.Values.{Value}
 use Rattle.rasn_constraints.specs.Bounds.{unbounded, between, Size, any_size}
 use Rattle.rasn_schema.specs.Schemas.{Schema}
 use Rattle.rasn_schema.specs.Forms.{always}
-use Rattle.rasn_schema.specs.Components.{lower_bound, upper_bound, sequence_of}
+use Rattle.rasn_schema.specs.Components.{lower_bound, upper_bound, sequence_at}
 use Rattle.per_samples_a.specs.Absents.{one_default}
 use Rattle.per_samples_a.specs.Fours.{four}
 use Rattle.per_samples_a.specs.Sevens.{seven}
@@ -43,15 +43,15 @@ schema_of FromMinusOne = always (Schema.number (lower_bound (negsuc 0)) false un
 schema_of Natural = always (Schema.number (lower_bound (pos 0)) false unbounded)
 schema_of ZeroTo65536 = always (Schema.number (between (pos 0) (pos 65536)) false unbounded)
 schema_of OneToTenExtensible = always (Schema.number (between (pos 1) (pos 10)) true unbounded)
-schema_of Four = sequence_of four
-schema_of Seven = sequence_of seven
-schema_of OneDefault = sequence_of one_default
+schema_of Four = sequence_at four
+schema_of Seven = sequence_at seven
+schema_of OneDefault = sequence_at one_default
 schema_of ShortVisible = always (Schema.char_string visible (one_to 3) true)
 schema_of LettersAToE = always (Schema.char_string (from_to 5 65) (one_to 20) false)
 schema_of BitString = always (Schema.bit_string any_size false)
 schema_of OctetString = always (Schema.octet_string any_size false)
 schema_of OnlyX = always (Schema.char_string (120 ∷ []) any_size false)
-schema_of Items = sequence_of with_item
+schema_of Items = sequence_at with_item
 
 -- octets are read as one value, whose canonical octets these are
 pub record Recodes (rules : Variants.Variant) (schema : ℕ → Schema) (octets canonical : List ℕ) : Type 0 where

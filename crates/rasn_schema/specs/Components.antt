@@ -11,10 +11,12 @@ use Rattle.rasn_constraints.specs.declared.constraints.Bounded.TheVariants.{Rang
 use Rattle.rasn_constraints.specs.declared.constraints.Constraints.{Constraints}
 use Rattle.rasn_constraints.specs.declared.constraints.Extensible.{Extensible}
 use Rattle.rasn_schema.specs.Schemas
-use Rattle.rasn_schema.specs.Schemas.{Schema, TagTree, leaf, Presence, Parts, no_parts, part, listed}
+use Rattle.rasn_schema.specs.Schemas.{Schema, TagTree, TagTrees, leaf, one_of, no_trees, tree, Presence, Parts, no_parts, part, listed}
+use Rattle.rasn_schema.specs.Choices.{choice_at, choice_levelled}
 use Rattle.rasn_schema.specs.Fields.{Shape, field_tag, presence_of, shapes_from}
-use Rattle.rasn_schema.specs.Forms.{number_schema, octet_schema, bit_schema, character_schema, always}
+use Rattle.rasn_schema.specs.Forms.{number_schema, octet_schema, bit_schema, character_schema, size_of, is_size_marked, always}
 use Rattle.rasn_schema.specs.Levels.{TakesNone, Levelled, LevelledParts, simple_levelled, parts_levelled, part_levelled, record_levelled}
+use Rattle.rasn_schema.specs.Lists.{list_at, list_levelled}
 use Rattle.rasn_schema.specs.Records.{record_at, no_additions, record_value}
 
 -- a component of a record: its tags, whether it may be absent, and its schema to each number of levels
@@ -30,8 +32,8 @@ parts_of [] n = no_parts
 parts_of (c ∷ cs) n = part c.tags c.presence (c.schema n) (parts_of cs n)
 
 -- a SEQUENCE of these components, to a number of levels
-abbrev pub sequence_of : List Component → ℕ → Schema
-sequence_of cs = record_at listed (parts_of cs) false no_additions
+abbrev pub sequence_at : List Component → ℕ → Schema
+sequence_at cs = record_at listed (parts_of cs) false no_additions
 
 -- what such a SEQUENCE is, of what its components are
 abbrev pub sequence_value : List (Option Value) → Value
@@ -41,7 +43,7 @@ pub components_levelled : (cs : List Component) → LevelledParts (parts_of cs)
 components_levelled [] = parts_levelled
 components_levelled (c ∷ cs) = part_levelled c.levelled (components_levelled cs)
 
-pub sequence_levelled : (cs : List Component) → Levelled (sequence_of cs)
+pub sequence_levelled : (cs : List Component) → Levelled (sequence_at cs)
 sequence_levelled cs = record_levelled (components_levelled cs) parts_levelled
 
 -- the fields of components, in order, counted from a number
@@ -269,8 +271,35 @@ abbrev pub sequence : List Component → Component
 sequence cs = record {
   tags = universal 16;
   presence = Schemas.required;
-  schema = sequence_of cs;
+  schema = sequence_at cs;
   levelled = sequence_levelled cs;
+}
+
+-- SEQUENCE OF under a size, or none: `sequence_of (size 1 to 4) boolean` is SEQUENCE (SIZE (1..4)) OF BOOLEAN
+abbrev pub sequence_of : Constraints → Component → Component
+sequence_of c element = record {
+  tags = universal 16;
+  presence = Schemas.required;
+  schema = list_at element.schema (size_of c) (is_size_marked c);
+  levelled = list_levelled (size_of c) (is_size_marked c) element.levelled;
+}
+
+abbrev pub trees_of : List Component → TagTrees
+trees_of [] = no_trees
+trees_of (c ∷ cs) = tree c.tags (trees_of cs)
+
+-- X.691 21.1: the tags of an untagged CHOICE, which has an alternative (X.680 29); where there is none, 0 stands for a tag
+abbrev pub tree_of : List Component → TagTree
+tree_of [] = universal 0
+tree_of (c ∷ cs) = one_of c.tags (trees_of cs)
+
+-- CHOICE, untagged
+abbrev pub choice : List Component → Component
+choice cs = record {
+  tags = tree_of cs;
+  presence = Schemas.required;
+  schema = choice_at (parts_of cs);
+  levelled = choice_levelled (components_levelled cs);
 }
 
 -- a component that may be absent (X.680 25.6)

@@ -8,7 +8,7 @@ ghost use Rattle.rasn_types.specs.declared.types.TheConstants.Tag.{SEQUENCE};
 ghost use Rattle.rasn_schema.specs.Fields.{Shape};
 ghost use Rattle.rasn_schema.specs.Records.{no_additions};
 ghost use Rattle.rasn_schema.specs.Tags.{sequence_tag};
-ghost use Rattle.rasn_schema.specs.Components.{Component, parts_of, sequence_of, sequence_value, sequence_levelled, fields_of, fields_described};
+ghost use Rattle.rasn_schema.specs.Components.{Component, parts_of, sequence_at, sequence_value, sequence_levelled, fields_of, fields_described};
 
 use crate::fields::{Constructed, Fields};
 use crate::schema::{AsnType, Constraints};
@@ -45,7 +45,7 @@ impl<T: Components> AsnType for T {
 
     const IDENTIFIER: Identifier = Identifier::EMPTY;
 
-    ghost schema = { λ _. sequence_of T.components };
+    ghost schema = { λ _. sequence_at T.components };
 
     ghost value = { λ x. sequence_value (T.contents x) };
 
