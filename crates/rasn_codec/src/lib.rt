@@ -5,6 +5,7 @@ pub mod boxed;
 pub mod codec;
 pub mod constrained;
 pub mod integers;
+pub mod kinds;
 pub mod lists;
 pub mod octets;
 pub mod parts;
