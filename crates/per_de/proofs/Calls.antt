@@ -8,7 +8,7 @@ use Rattle.rasn_constraints.specs.Bounds.{Bounds}
 use Rattle.rasn_schema.specs.Schemas
 use Rattle.rasn_schema.specs.Schemas.{Schema, Parts, listed}
 use Rattle.rasn_schema.specs.Records.{record_at, no_additions}
-use Rattle.rasn_codec.specs.Calls.{Answers, Behaves, Reads, Refuses, freely_read, takes_none}
+use Rattle.rasn_calls.specs.Calls.{Answers, Behaves, Reads, Refuses, freely_read, takes_none}
 use Rattle.per_core.specs.Spellings.{Settings, Spelling}
 use Rattle.per_core.specs.Basic.{basic, basic_in, bit, IsNumberOf}
 use Rattle.per_core.specs.Took.{Took}

@@ -6,7 +6,7 @@ use Rattle.rasn_schema.specs.Choices.{alternative_at, choice_at, choice_of, plac
 use Rattle.rasn_schema.specs.Schemas
 use Rattle.rasn_schema.specs.Schemas.{Schema, Parts, no_parts, part}
 use Rattle.rasn_schema.proofs.Places.{found_at}
-use Rattle.rasn_codec.specs.Calls.{Refuses}
+use Rattle.rasn_calls.specs.Calls.{Refuses}
 use Rattle.per_core.specs.Basic.{IsConstrainedWhole, basic_in}
 use Rattle.per_core.specs.Took.{Took}
 use Rattle.per_core.specs.Versions.{alternatives_of}

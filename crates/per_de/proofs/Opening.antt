@@ -6,8 +6,8 @@ use Rattle.rasn_schema.specs.Lawful.{presence_bits}
 use Rattle.rasn_schema.specs.Normal.{root_of}
 use Rattle.rasn_schema.specs.Schemas.{Schema, Parts, listed}
 use Rattle.rasn_schema.specs.Records.{record_at, no_additions}
-use Rattle.rasn_codec.specs.Calls.{Refuses}
-use Rattle.rasn_codec.specs.Scopes.{record_of}
+use Rattle.rasn_calls.specs.Calls.{Refuses}
+use Rattle.rasn_calls.specs.Scopes.{record_of}
 use Rattle.per_core.specs.Took.{Took}
 use Rattle.per_read.specs.Codecs.{settings}
 use Rattle.per_read.specs.Kinds.{IsShort, IsTested}

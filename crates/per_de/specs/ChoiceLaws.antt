@@ -4,7 +4,7 @@ use Rattle.rasn_types.specs.Bits.{Bits}
 use Rattle.rasn_types.specs.Values.{Value, alternative, Side, root, added}
 use Rattle.rasn_schema.specs.Choices.{alternative_at, choice_of, tags_of}
 use Rattle.rasn_schema.specs.Schemas.{Schema, Parts, no_parts, part}
-use Rattle.rasn_codec.specs.Choices.{ChoicesWell, ReadsAlternative}
+use Rattle.rasn_calls.specs.Choices.{ChoicesWell, ReadsAlternative}
 use Rattle.per_core.specs.Spellings.{Settings, Then, exactly}
 use Rattle.per_core.specs.Basic.{basic, basic_in, rules, rules_in, Chosen, Alternative, IsConstrainedWhole}
 use Rattle.per_core.specs.Took.{Took}

@@ -4,7 +4,7 @@ use Rattle.rasn_types.specs.Bits.{Bits}
 use Rattle.rasn_types.specs.Values.{Value}
 use Rattle.rasn_schema.specs.Schemas.{TagTree, Presence, Schema, Parts, part}
 use Rattle.rasn_schema.specs.Choices.{alternative_at, choice_of, tags_of}
-use Rattle.rasn_codec.specs.Scopes.{record_of}
+use Rattle.rasn_calls.specs.Scopes.{record_of}
 use Rattle.per_core.specs.Spellings.{Settings}
 use Rattle.per_core.specs.Basic.{basic, rules, Body, Flags, IsConstrainedWhole}
 use Rattle.per_core.specs.Took.{Took}

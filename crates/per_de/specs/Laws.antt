@@ -2,7 +2,7 @@
 use Rattle.std.proofs.Common.{◌≡◌, sym, ◌∙◌, ap, Bool, ◌∷◌}
 use Rattle.rasn_types.specs.Values.{Value}
 use Rattle.rasn_schema.specs.Schemas.{Schema}
-use Rattle.rasn_codec.specs.Calls.{DecodesWell, ReadsWell}
+use Rattle.rasn_calls.specs.Calls.{DecodesWell, ReadsWell}
 use Rattle.per_core.proofs.Took.{took_agree}
 use Rattle.per_core.proofs.Readings.{one_reading}
 use Rattle.per_read.specs.declared.error.DecodeErrorKind.TheVariants.{OutOfMemory}

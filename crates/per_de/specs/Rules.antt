@@ -1,6 +1,6 @@
 -- The rules of a decoder that takes what spells a value off the front of the bits left.
 use Rattle.std.specs.Prelude.{◌≡◌}
-use Rattle.rasn_codec.specs.Calls.{DecoderRules}
+use Rattle.rasn_calls.specs.Calls.{DecoderRules}
 use Rattle.per_read.specs.declared.error.DecodeError.{DecodeError}
 use Rattle.per_read.specs.declared.error.DecodeErrorKind.TheVariants.{OutOfMemory, AlreadyFailed}
 use Rattle.per_de.specs.State.{State, Marks, Spells}

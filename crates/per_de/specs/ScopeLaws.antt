@@ -5,8 +5,8 @@ use Rattle.rasn_types.specs.Values.{Value, fields, as_slots}
 use Rattle.rasn_schema.specs.Lawful.{has_bit, presence_bits}
 use Rattle.rasn_schema.specs.Schemas.{TagTree, Presence, required, optional, group, default, Schema, Parts, no_parts, part}
 use Rattle.rasn_schema.specs.Records.{record_value}
-use Rattle.rasn_codec.specs.Presences.{left_out}
-use Rattle.rasn_codec.specs.Scopes.{record_of, ReadsPart, reads_required, reads_there, reads_left_out, ReadsParts, reads_end, reads_next, FaultyParts, faulty_required, faulty_there, faulty_bit, faulty_here, faulty_behind, ScopesWell}
+use Rattle.rasn_calls.specs.Presences.{left_out}
+use Rattle.rasn_calls.specs.Scopes.{record_of, ReadsPart, reads_required, reads_there, reads_left_out, ReadsParts, reads_end, reads_next, FaultyParts, faulty_required, faulty_there, faulty_bit, faulty_here, faulty_behind, ScopesWell}
 use Rattle.per_core.specs.Spellings.{Settings, Spelling, When, exactly}
 use Rattle.per_core.specs.Basic.{basic, basic_in, rules, rules_in, Body, Flags, FlagOf, Bodies, Holds, IsLeftOut, Root, Fields_in}
 use Rattle.per_core.specs.Took.{place, Took}

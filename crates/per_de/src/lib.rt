@@ -17,7 +17,7 @@ use per_bits::{BitList, BitReader};
 use per_read::Reader;
 pub use per_read::error;
 pub use per_read::error::{DecodeError, DecodeErrorKind, ParserFailCause};
-use rasn_codec::codec;
+use rasn_calls::decoder;
 use rasn_schema::choices::Choice;
 use rasn_schema::constraints::Constraints;
 use rasn_schema::enumerated::Enumerated;
@@ -179,7 +179,7 @@ pub struct Scope<'input> {
     presences: BitReader<'input>,
 }
 
-impl<'input> codec::Decoder for Decoder<'input> {
+impl<'input> decoder::Decoder for Decoder<'input> {
     type Error = DecodeError;
 
     type Scope = Scope<'input>;

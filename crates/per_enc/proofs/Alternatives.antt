@@ -9,8 +9,8 @@ use Rattle.rasn_types.specs.Values.{Value, alternative, root}
 use Rattle.rasn_types.specs.Variants.{Variant}
 use Rattle.rasn_schema.specs.Choices.{alternative_at, choice_of, tags_of}
 use Rattle.rasn_schema.specs.Schemas.{Schema, Parts, no_parts, part}
-use Rattle.rasn_codec.specs.Calls.{Written}
-use Rattle.rasn_codec.specs.Choices.{PassesChoice, OpenedChoice}
+use Rattle.rasn_calls.specs.Calls.{Written}
+use Rattle.rasn_calls.specs.Choices.{PassesChoice, OpenedChoice}
 use Rattle.per_core.specs.Canon.{canon, members, chosen, choice_of as choice_writer}
 use Rattle.per_core.specs.Counts.{constrained_whole}
 use Rattle.per_core.specs.Writers.{Writer, just, ◌▹◌, join, go_on, after}

@@ -7,11 +7,11 @@ use Rattle.rasn_types.specs.Values.{Value}
 use Rattle.rasn_types.specs.Variants.{Variant}
 use Rattle.rasn_types.specs.declared.types.Codec.{Codec}
 use Rattle.rasn_types.proofs.Values.{slots-as_slots}
-use Rattle.rasn_codec.specs.Calls.{Written}
+use Rattle.rasn_calls.specs.Calls.{Written}
 use Rattle.rasn_schema.specs.Lawful.{presence_bits}
 use Rattle.rasn_schema.specs.Records.{record_value}
 use Rattle.rasn_schema.specs.Schemas.{Schema, Parts}
-use Rattle.rasn_codec.specs.Scopes.{record_of, PresentsParts, RefusesParts, Passes, OpenedToWrite}
+use Rattle.rasn_calls.specs.Scopes.{record_of, PresentsParts, RefusesParts, Passes, OpenedToWrite}
 use Rattle.per_core.specs.Canon.{canon, members, flags_of, bodies_of, bitmap_of, record_of as record_writer}
 use Rattle.per_core.specs.Writers.{Writer, just, ◌▹◌, join, go_on, after}
 use Rattle.per_write.specs.declared.error.EncodeError.{EncodeError}

@@ -1,6 +1,6 @@
 -- What holds of an encoder's relations.
 use Rattle.std.proofs.Common.{◌∙◌, ap}
-use Rattle.rasn_codec.specs.Calls.{PresentsWell}
+use Rattle.rasn_calls.specs.Calls.{PresentsWell}
 use Rattle.per_write.specs.Rules.{encoder_rules}
 
 pub presents_well : PresentsWell encoder_rules

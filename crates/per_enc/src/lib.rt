@@ -12,7 +12,7 @@ pub use per_write::error;
 pub use per_write::error::{EncodeError, EncodeErrorKind};
 use per_write::lists::OpenList;
 use per_write::{Presences, Writer};
-use rasn_codec::codec;
+use rasn_calls::encoder;
 use rasn_schema::choices::Choice;
 use rasn_schema::enumerated::Enumerated;
 use rasn_schema::fields::Constructed;
@@ -114,7 +114,7 @@ impl<A: Allocator + Clone> Encoder<A> {
     }
 }
 
-impl<A: Allocator + Clone> codec::Encoder for Encoder<A> {
+impl<A: Allocator + Clone> encoder::Encoder for Encoder<A> {
     ghost use Rattle.per_enc.specs.Laws.{presents_well};
     ghost use Rattle.per_enc.specs.Choices.{OpensChoice};
     ghost use Rattle.per_enc.specs.Opens.{Opens};

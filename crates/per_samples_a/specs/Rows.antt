@@ -4,7 +4,7 @@ use Rattle.rasn_types.specs.Variants.{Variant}
 use Rattle.rasn_types.specs.Values.{Value}
 use Rattle.rasn_schema.specs.Schemas.{Schema}
 use Rattle.rasn_schema.specs.Normal.{normal}
-use Rattle.rasn_codec.specs.Calls.{AtDepths}
+use Rattle.rasn_calls.specs.Calls.{AtDepths}
 use Rattle.per_core.specs.Canon.{bytes}
 
 -- X.691 11.1: the canonical octets of x, by the schema of its type at each number of levels that holds x

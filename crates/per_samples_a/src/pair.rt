@@ -9,7 +9,7 @@ ghost use Rattle.rasn_schema.specs.Fields.{shapes_from};
 ghost use Rattle.rasn_schema.specs.Records.{AtParts, record_at, no_additions, record_value};
 ghost use Rattle.rasn_schema.specs.Components.{sequence_levelled};
 ghost use Rattle.rasn_schema.specs.Tags.{sequence_tag};
-ghost use Rattle.rasn_codec.specs.Scopes.{WrittenParts, AnswersParts};
+ghost use Rattle.rasn_calls.specs.Scopes.{WrittenParts, AnswersParts};
 ghost use Rattle.per_samples_a.specs.Pairs.{pair, pair_parts, pair_contents};
 
 use rasn_codec::codec::{Decode, Decoder, Encode, Encoder};

@@ -4,7 +4,7 @@ ghost use Rattle.std.specs.Prelude.{refl, true, [], ◌∷◌, Some, None, pos};
 ghost use Rattle.rasn_types.specs.Values.{truth, whole};
 ghost use Rattle.rasn_types.specs.Variants.{unaligned};
 ghost use Rattle.rasn_schema.specs.Components.{fields_of};
-ghost use Rattle.rasn_codec.specs.Presences.{slot_of};
+ghost use Rattle.rasn_calls.specs.Presences.{slot_of};
 ghost use Rattle.per_samples_a.specs.Absents.{some_absent};
 ghost use Rattle.per_samples_a.specs.Rows.{IsWrittenAs};
 

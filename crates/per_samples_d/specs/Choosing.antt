@@ -3,7 +3,7 @@ use Rattle.std.specs.Prelude.{◌≡◌, ℕ, suc, Result, Option, Some, IfSome}
 use Rattle.rasn_types.specs.Values.{Value, alternative, root}
 use Rattle.rasn_schema.specs.Choices.{alternative_at, choice_at}
 use Rattle.rasn_schema.specs.Schemas.{Schema, Parts}
-use Rattle.rasn_codec.specs.Calls.{EncoderRules, Encodes}
+use Rattle.rasn_calls.specs.Calls.{EncoderRules, Encodes}
 
 -- Where the alternative that goes by a tag has the value's schema, the choice of the value is written, or refused.
 abbrev pub WritesOne : {E X : Type 0} → EncoderRules E X → (ℕ → Parts) → Option ℕ → (ℕ → Schema) → ℕ → Value → X → Result (Unit {0}) E → X → Type 0

@@ -11,7 +11,7 @@ ghost use Rattle.per_samples_d.specs.Alternatives.{parts, levelled, choice_tag, 
 ghost use Rattle.per_samples_d.specs.declared.alternative.Alternative.TheVariants.{X, Y};
 
 use crate::choosing::encode_alternative;
-use rasn_codec::codec::{Decode, DecodeChoice, Decoder, Encode, Encoder};
+use rasn_codec::codec::{Decode, DecodeChoice, Decoder, DecoderExt, Encode, Encoder};
 use rasn_record::{Constrained, Constraint, Limits, constraints};
 use rasn_schema::choices::{Choice, Variant, Variants};
 use rasn_schema::fields::TagTree;

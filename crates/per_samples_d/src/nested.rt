@@ -14,7 +14,7 @@ ghost use Rattle.per_samples_d.specs.declared.nested.Nested.TheVariants.{Record,
 use crate::alternative::{Alternative, TAG_OF_X, TAG_OF_Y};
 use crate::choosing::encode_alternative;
 use per_samples_a::pair::Pair;
-use rasn_codec::codec::{Decode, DecodeChoice, Decoder, Encode, Encoder};
+use rasn_codec::codec::{Decode, DecodeChoice, Decoder, DecoderExt, Encode, Encoder};
 use rasn_schema::choices::{Choice, Variant, Variants};
 use rasn_schema::fields::TagTree;
 use rasn_schema::schema::{AsnType, Constraints};

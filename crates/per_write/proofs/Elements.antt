@@ -11,8 +11,8 @@ use Rattle.rasn_types.proofs.Values.{values-as_values}
 use Rattle.rasn_constraints.specs.Bounds.{allows, Size, any_size}
 use Rattle.rasn_schema.specs.Lists.{list_value}
 use Rattle.rasn_schema.specs.Schemas.{Schema}
-use Rattle.rasn_codec.specs.Calls.{Written}
-use Rattle.rasn_codec.specs.Lists.{AwaitsElement, ListForm, ListOpened, schema_of}
+use Rattle.rasn_calls.specs.Calls.{Written}
+use Rattle.rasn_calls.specs.Lists.{AwaitsElement, ListForm, ListOpened, schema_of}
 use Rattle.per_core.specs.Canon.{canon}
 use Rattle.per_core.specs.Counts.{counted, counted_in, determinant, fragment_sizes, in_fragments, list_items, marked_form}
 use Rattle.per_core.specs.Writers.{Writer, after, go_on, join, just, ◌▹◌, one_by_one, pad, padding}

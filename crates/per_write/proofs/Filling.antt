@@ -1,5 +1,5 @@
 -- Bits that are given one after another in the place of zeros.
-use Rattle.std.proofs.Common.{◌≡◌, refl, sym, ap, ap₂, ◌∙◌, subst, ℕ, zero, suc, ◌+◌, ◌-◌, ◌*◌, ◌<◌, ◌%◌, ◌^◌, Bool, false, [], ◌∷◌, ◌++◌, length, replicate, set, nat_le, arith, append-nil, append_assoc, length-append}
+use Rattle.std.proofs.Common.{◌≡◌, refl, sym, ap, ap₂, ◌∙◌, subst, ℕ, zero, suc, ◌+◌, ◌-◌, ◌*◌, ◌<◌, ◌%◌, ◌^◌, false, [], ◌∷◌, ◌++◌, length, replicate, set, nat_le, arith, append-nil, append_assoc, length-append}
 use native.Mathlib.Numerals.{unary_clauses}
 use Rattle.std.proofs.Math.Seq.{set-append_seam}
 use Rattle.rasn_types.specs.Bits.{Bits, to_bits}

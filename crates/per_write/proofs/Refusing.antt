@@ -8,7 +8,7 @@ use Rattle.rasn_types.specs.Codecs.{variant_of}
 use Rattle.rasn_types.specs.Values.{Value, bits, characters, octets}
 use Rattle.rasn_types.specs.Variants.{Variant}
 use Rattle.rasn_constraints.specs.Bounds.{allows, Size, any_size}
-use Rattle.rasn_codec.specs.Calls.{Written}
+use Rattle.rasn_calls.specs.Calls.{Written}
 use Rattle.per_write.specs.Rules.{encoder_rules}
 use Rattle.rasn_schema.specs.Schemas.{Schema}
 use Rattle.per_core.specs.Canon.{canon, char_writers}

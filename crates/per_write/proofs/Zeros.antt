@@ -1,8 +1,8 @@
 -- Zeros that stand for presence bits.
-use Rattle.std.proofs.Common.{◌≡◌, refl, sym, ap, ap₂, ◌∙◌, ℕ, zero, suc, ◌+◌, ◌-◌, ◌≤◌, ◌<◌, Bool, true, false, [], ◌∷◌, ◌++◌, length, replicate, Some, arith, append-nil, pow_pos, ◌^◌, ◌%◌, mod-eq_of_lt}
+use Rattle.std.proofs.Common.{◌≡◌, refl, sym, ap, ap₂, ◌∙◌, ℕ, zero, suc, ◌+◌, ◌-◌, ◌≤◌, false, [], ◌∷◌, ◌++◌, replicate, Some, arith, append-nil, pow_pos, ◌^◌, ◌%◌, mod-eq_of_lt}
 use Rattle.std.proofs.lemmas.Bool.{lt-leb}
 use Rattle.std.proofs.lemmas.List.{replicate-append-replicate}
-use Rattle.rasn_types.specs.Bits.{Bits, to_bits}
+use Rattle.rasn_types.specs.Bits.{to_bits}
 use Rattle.per_core.specs.Writers.{just}
 use Rattle.per_write.specs.State.{State, Wrote}
 use Rattle.per_write.proofs.Writing.{wrote_then, wrote_same}

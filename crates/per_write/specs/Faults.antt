@@ -8,7 +8,7 @@ use Rattle.rasn_schema.specs.Choices.{alternative_at, choice_of}
 use Rattle.rasn_schema.specs.Lists.{list_value}
 use Rattle.rasn_schema.specs.Records.{record_value}
 use Rattle.rasn_schema.specs.Schemas.{Schema, Parts, part, Presence, TagTree}
-use Rattle.rasn_codec.specs.Scopes.{record_of}
+use Rattle.rasn_calls.specs.Scopes.{record_of}
 use Rattle.per_core.specs.Canon.{canon}
 use Rattle.per_write.specs.State.{State}
 use Rattle.per_write.specs.declared.error.EncodeError.{EncodeError}

@@ -5,7 +5,7 @@ use Rattle.rasn_types.specs.Values.{Value}
 use Rattle.rasn_types.specs.Variants.{Variant}
 use Rattle.rasn_constraints.specs.Bounds.{Size}
 use Rattle.rasn_schema.specs.Lists.{list_value}
-use Rattle.rasn_codec.specs.Lists.{ListForm, schema_of}
+use Rattle.rasn_calls.specs.Lists.{ListForm, schema_of}
 use Rattle.per_core.specs.Canon.{canon}
 use Rattle.per_core.specs.Counts.{fragment_sizes, in_fragments}
 use Rattle.per_core.specs.Writers.{Writer, refused, ◌▹◌, one_by_one}

@@ -1,5 +1,5 @@
 -- The presence bits of a SEQUENCE: zeros that are kept for them where it is opened, and given one after another (ITU-T X.691, 19.2).
-use Rattle.std.specs.Prelude.{ℕ, suc, ◌+◌, ◌≡◌, ◌<◌, ◌≤◌, ◌⊎◌, Bool, true, false, ◌++◌, length, replicate, set, Result, Ok, Err, IfOk, IfErr, OnOk, OnErr}
+use Rattle.std.specs.Prelude.{ℕ, suc, ◌+◌, ◌≡◌, ◌<◌, ◌≤◌, ◌⊎◌, Bool, true, false, ◌++◌, length, replicate, set, Result, IfOk, IfErr, OnOk, OnErr}
 use Rattle.per_write.specs.declared.error.EncodeError.{EncodeError}
 use Rattle.per_write.specs.declared.error.EncodeErrorKind.TheVariants.{OutOfTurn}
 use Rattle.per_write.specs.declared.presences.Presences.{Presences}

@@ -4,7 +4,7 @@ ghost use Rattle.std.specs.Prelude.{◌≡◌, ◌<ℤ◌, ◌↔◌, IsTrue, po
 ghost use Rattle.rasn_types.specs.Octets.{signed, signed_octets};
 ghost use Rattle.rasn_types.specs.Values.{whole};
 ghost use Rattle.rasn_constraints.specs.Bounds.{holds, not_above, not_below};
-ghost use Rattle.rasn_codec.specs.Calls.{Writes};
+ghost use Rattle.rasn_calls.specs.Calls.{Writes};
 ghost use Rattle.rasn_constraints.specs.Constraints.{bounds_of};
 ghost use Rattle.per_core.specs.Counts.{number_under};
 ghost use Rattle.per_write.specs.Faults.{IsMemory};

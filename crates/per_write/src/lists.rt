@@ -4,7 +4,7 @@ ghost use Rattle.std.specs.Prelude.{◌≡◌, true, false};
 ghost use Rattle.rasn_constraints.specs.Bounds.{allows, any_size};
 ghost use Rattle.rasn_constraints.specs.Constraints.{is_marked, size_in};
 ghost use Rattle.rasn_schema.specs.Forms.{is_size_marked, size_of};
-ghost use Rattle.rasn_codec.specs.Lists.{ClosesList, OpensList, WritesNext};
+ghost use Rattle.rasn_calls.specs.Lists.{ClosesList, OpensList, WritesNext};
 ghost use Rattle.per_core.specs.Counts.{counted, counted_in, fragment_sizes, in_fragments, list_items};
 ghost use Rattle.per_write.specs.Faults.{IsMemory};
 ghost use Rattle.per_write.specs.Lists.{AmidList, BeginsItems, RefusesCount};

@@ -1,5 +1,1 @@
-pub mod Alternatives
 pub mod Elements
-pub mod Optionals
-pub mod Reading
-pub mod Writing

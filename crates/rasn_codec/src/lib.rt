@@ -1,14 +1,15 @@
-//! The traits of values and codecs, and how values of the plain types and records are written and read.
+//! The traits of values that can be encoded and decoded, and how values of the plain types and records are.
 #![tactic(auto)]
 
 pub mod boxed;
 pub mod codec;
 pub mod constrained;
+pub mod decoder_ext;
+pub mod encoder_ext;
 pub mod integers;
 pub mod kinds;
 pub mod lists;
 pub mod octets;
-pub mod parts;
 pub mod plain;
 pub mod record;
 pub mod strings;

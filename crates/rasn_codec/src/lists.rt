@@ -1,6 +1,6 @@
 //! How SEQUENCE OF (X.680 26) is written, which is a `Vec` of its elements.
 
-use crate::codec::{Encode, Encoder};
+use crate::codec::{Encode, Encoder, EncoderExt};
 use rasn_schema::schema::Constraints;
 use rasn_types::types::{Identifier, Tag};
 

@@ -1,12 +1,11 @@
 //! Records that are stated by one list of their components: they are written and read by it.
 
-ghost use Rattle.std.specs.Prelude.{length};
 ghost use Rattle.rasn_schema.specs.Components.{parts_of};
-ghost use Rattle.rasn_codec.specs.Scopes.{WritesParts, TakesParts};
+ghost use Rattle.rasn_calls.specs.Scopes.{WritesParts, TakesParts};
 
 use crate::codec::{Decoder, Encoder};
 use crate::kinds::{DecodeKind, EncodeKind};
-use crate::parts::{DecodeParts, EncodeParts};
+use rasn_calls::parts::{DecodeParts, EncodeParts};
 use rasn_schema::components::{Components, SequenceKind};
 use rasn_types::types::{Identifier, Tag};
 use std::marker::PhantomData;
@@ -35,8 +34,6 @@ impl<'a, T: Record> EncodeParts for Written<'a, T> {
 
     ghost levels = { λ p. T.depth p.0.now };
 
-    ghost count = { length T.components };
-
     fn encode_parts<E: Encoder>(&self, encoder: &mut E) -> Result<(), E::Error> {
         self.0.encode_components(encoder)
     }
@@ -52,8 +49,6 @@ impl<T: Record> DecodeParts for Read<T> {
     ghost parts = { λ p. parts_of T.components };
 
     ghost contents = { T.Components.contents };
-
-    ghost count = { length T.components };
 
     fn decode_parts<D: Decoder>(&self, decoder: &mut D) -> Result<T, D::Error> {
         T::decode_components(decoder)

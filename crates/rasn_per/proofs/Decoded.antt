@@ -7,7 +7,7 @@ use Rattle.rasn_types.specs.declared.types.Codec.{Codec}
 use Rattle.rasn_types.specs.Values.{Value}
 use Rattle.rasn_types.proofs.Bits.{length-unpack}
 use Rattle.rasn_schema.specs.Schemas.{Schema}
-use Rattle.rasn_codec.specs.Calls.{Refuses}
+use Rattle.rasn_calls.specs.Calls.{Refuses}
 use Rattle.per_core.specs.Basic.{fills}
 use Rattle.per_core.specs.Ends.{Ends}
 use Rattle.per_core.proofs.Readings.{one_reading}

@@ -6,7 +6,7 @@ use Rattle.rasn_types.specs.Codecs.{variant_of}
 use Rattle.rasn_types.specs.Values.{Value}
 use Rattle.rasn_types.specs.declared.types.Codec.{Codec}
 use Rattle.rasn_schema.specs.Schemas.{Schema, Parts}
-use Rattle.rasn_codec.specs.Calls.{Refuses}
+use Rattle.rasn_calls.specs.Calls.{Refuses}
 use Rattle.per_core.specs.Ends.{IsWhy}
 use Rattle.per_core.specs.Spellings.{Settings}
 use Rattle.per_core.specs.declared.ended.Surplus.{Surplus}

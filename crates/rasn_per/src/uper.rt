@@ -5,7 +5,7 @@ ghost use Rattle.rasn_types.specs.Variants.{unaligned};
 ghost use Rattle.rasn_types.specs.declared.types.Codec.TheVariants.{Uper};
 ghost use Rattle.per_write.specs.declared.error.EncodeErrorKind.TheVariants.{OutOfMemory as no_room_to_write};
 ghost use Rattle.per_read.specs.declared.error.DecodeErrorKind.TheVariants.{OutOfMemory as no_room_to_read};
-ghost use Rattle.rasn_codec.specs.Calls.{AtDepths};
+ghost use Rattle.rasn_calls.specs.Calls.{AtDepths};
 ghost use Rattle.rasn_constraints.specs.LawfulConstraints.{are_lawful};
 ghost use Rattle.rasn_schema.specs.Normal.{normal};
 ghost use Rattle.per_write.specs.Faults.{IsInValue};

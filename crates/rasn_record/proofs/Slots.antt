@@ -1,13 +1,12 @@
 -- One component in front of those behind it.
-use Rattle.std.proofs.Common.{◌≡◌, refl, inl, inr, ℕ, Bool, true, false, nat_eq, if◌then◌else◌, Result, Ok, Err, List, [], ◌∷◌, Option, Some, None}
+use Rattle.std.proofs.Common.{◌≡◌, refl, inl, inr, ℕ, Bool, true, false, nat_eq, if◌then◌else◌, Result, Ok, Err, List, ◌∷◌, Option, Some, None}
 use Rattle.std.specs.Prelude.{pos}
 use mathlib.Core.Bool.{beq}
 use Rattle.rasn_types.specs.Values.{Value, truth, whole, same, code}
 use Rattle.rasn_schema.specs.Schemas.{TagTree, Presence, optional, default, Schema, Parts, part}
 use Rattle.rasn_schema.specs.Normal.{normal, normals, settle}
-use Rattle.rasn_codec.specs.Calls.{AtDepths, EncoderRules, PresentsWell, DecoderRules, DecodesWell, Answers}
-use Rattle.rasn_codec.specs.Scopes.{PresentsPart, presents_required, presents_there, presents_left_out, presents_next, refuses_here, refuses_behind, WrittenPart, WrittenParts, FaultyPart, FaultyParts, ReadsPart, ReadsParts, reads_next}
-use Rattle.rasn_codec.proofs.Optionals.{of_freely}
+use Rattle.rasn_calls.specs.Calls.{EncoderRules, PresentsWell}
+use Rattle.rasn_calls.specs.Scopes.{PresentsPart, presents_required, presents_there, presents_left_out, presents_next, refuses_here, refuses_behind, WrittenPart, WrittenParts}
 use Rattle.rasn_record.specs.Slots.{normal_slot}
 
 module _ {E X : Type 0} (rules : EncoderRules E X) where

@@ -3,8 +3,8 @@ use Rattle.std.specs.Prelude.{◌≡◌, ℕ, Bool, Result, Option, Some, None}
 use Rattle.rasn_types.specs.Values.{Value, same}
 use Rattle.rasn_schema.specs.Schemas.{Presence, Schema}
 use Rattle.rasn_schema.specs.Normal.{normal}
-use Rattle.rasn_codec.specs.Calls.{AtDepths, Behaves, EncoderRules}
-use Rattle.rasn_codec.specs.Scopes.{WrittenPart}
+use Rattle.rasn_calls.specs.Calls.{AtDepths, Behaves, EncoderRules}
+use Rattle.rasn_calls.specs.Scopes.{WrittenPart}
 
 -- how many levels a value takes that may be there
 abbrev pub slot_levels : {T : Type 0} → (T → ℕ) → Option T → ℕ

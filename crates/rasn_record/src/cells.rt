@@ -1,17 +1,17 @@
 //! Cells, of which the list of a record's components is made. Their tags and constraints stand in lists beside them.
 
-ghost use Rattle.std.specs.Prelude.{◌≡◌, ℕ, suc, max, List, [], ◌∷◌, Option, Some, map};
+ghost use Rattle.std.specs.Prelude.{◌≡◌, ℕ, max, List, [], ◌∷◌, Option, Some, map};
 ghost use Rattle.std.specs.Borrow.{Bor};
 ghost use Rattle.rasn_types.specs.Values.{Value};
 ghost use Rattle.rasn_constraints.specs.declared.constraints.Constraint.{Constraint};
 ghost use Rattle.rasn_schema.specs.Schemas.{leaf, Parts, no_parts, part, required};
 ghost use Rattle.rasn_schema.specs.Records.{own_or};
 ghost use Rattle.rasn_schema.specs.Fields.{Shape, shape_of, tag_of};
-ghost use Rattle.rasn_codec.specs.Scopes.{WritesParts, TakesParts};
+ghost use Rattle.rasn_calls.specs.Scopes.{WritesParts, TakesParts};
 ghost use Rattle.rasn_record.specs.Lists.{behind, first_tag, first_given};
 
+use rasn_calls::parts::{DecodeParts, EncodeParts};
 use rasn_codec::codec::{Decode, Decoder, Encode, Encoder};
-use rasn_codec::parts::{DecodeParts, EncodeParts};
 use rasn_schema::constraints::Constraint;
 use rasn_schema::fields::Field;
 use rasn_schema::schema::Constraints;
@@ -28,9 +28,6 @@ pub trait EncodeCells {
 
     // How many levels they take.
     ghost levels: { Self → ℕ };
-
-    // How many they are.
-    ghost count: { ℕ };
 
     /// Writes the components in turn.
     fn encode_cells<E: Encoder>(
@@ -53,9 +50,6 @@ pub trait DecodeCells {
 
     // What values of them are.
     ghost contents: { Self.Values → List (Option Value) };
-
-    // How many they are.
-    ghost count: { ℕ };
 
     /// Reads the components in turn.
     fn decode_cells<D: Decoder>(
@@ -132,8 +126,6 @@ impl EncodeCells for End {
 
     ghost levels = { λ p. 0 };
 
-    ghost count = { 0 };
-
     #[tactic(auto, unfolding(rasn_schema::specs::Normal::normal))]
     fn encode_cells<E: Encoder>(
         &self,
@@ -153,8 +145,6 @@ impl<'a, H: Encode, N: EncodeCells> EncodeCells for Required<&'a H, N> {
     ghost contents = { λ p. Some (H.value p.value.now) ∷ N.contents p.next };
 
     ghost levels = { λ p. max (H.levels p.value.now) (N.levels p.next) };
-
-    ghost count = { suc N.count };
 
     fn encode_cells<E: Encoder>(
         &self,
@@ -178,8 +168,6 @@ impl<P: EncodeCells> EncodeParts for Listed<P> {
 
     ghost levels = { λ p. P.levels p.cells };
 
-    ghost count = { P.count };
-
     fn encode_parts<E: Encoder>(&self, encoder: &mut E) -> Result<(), E::Error> {
         self.cells
             .encode_cells(self.fields, self.constraints, encoder)
@@ -192,8 +180,6 @@ impl DecodeCells for End {
     ghost parts = { λ p fs cs n. no_parts };
 
     ghost contents = { λ values. [] };
-
-    ghost count = { 0 };
 
     fn decode_cells<D: Decoder>(
         &self,
@@ -213,8 +199,6 @@ impl<H: Decode, N: DecodeCells> DecodeCells for Required<PhantomData<H>, N> {
         (H.schema (own_or H.CONSTRAINTS (first_given cs)) n) (N.parts p.next (behind fs) (behind cs) n) };
 
     ghost contents = { λ values. Some (H.value values.0) ∷ N.contents values.1 };
-
-    ghost count = { suc N.count };
 
     fn decode_cells<D: Decoder>(
         &self,
@@ -238,8 +222,6 @@ impl<P: DecodeCells> DecodeParts for Listed<P> {
     ghost parts = { λ p. P.parts p.cells (map shape_of p.fields.now) p.constraints.now };
 
     ghost contents = { P.contents };
-
-    ghost count = { P.count };
 
     fn decode_parts<D: Decoder>(&self, decoder: &mut D) -> Result<P::Values, D::Error> {
         self.cells

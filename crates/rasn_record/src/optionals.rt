@@ -1,16 +1,16 @@
 //! Cells of components that may be absent.
 
-ghost use Rattle.std.specs.Prelude.{◌≡◌, suc, max, ◌∷◌, Some, IfOk, map};
+ghost use Rattle.std.specs.Prelude.{◌≡◌, max, ◌∷◌, Some, IfOk, map};
 ghost use Rattle.rasn_schema.specs.Fields.{shape_of, tag_of};
 ghost use Rattle.rasn_schema.specs.Records.{own_or};
 ghost use Rattle.rasn_schema.specs.Schemas.{Presence, leaf, part, optional};
-ghost use Rattle.rasn_codec.specs.Optionals.{ReadsComponent};
-ghost use Rattle.rasn_codec.specs.Presences.{slot_of};
+ghost use Rattle.rasn_calls.specs.Optionals.{ReadsComponent};
+ghost use Rattle.rasn_calls.specs.Presences.{slot_of};
 ghost use Rattle.rasn_record.specs.Lists.{behind, first_tag, first_given};
 ghost use Rattle.rasn_record.specs.Slots.{TellsSame, WritesComponent, slot_levels};
 
 use crate::cells::{DecodeCells, EncodeCells, behind, first_tag, given_or_own};
-use rasn_codec::codec::{Decode, Decoder, Encode, Encoder};
+use rasn_codec::codec::{Decode, Decoder, DecoderExt, Encode, Encoder, EncoderExt};
 use rasn_schema::constraints::Constraint;
 use rasn_schema::fields::Field;
 use rasn_schema::schema::{AsnType, Constraints};
@@ -118,8 +118,6 @@ impl<'a, H: Encode, N: EncodeCells> EncodeCells for Optional<&'a Option<H>, N> {
 
     ghost levels = { λ p. max (slot_levels H.levels p.value.now) (N.levels p.next) };
 
-    ghost count = { suc N.count };
-
     fn encode_cells<E: Encoder>(
         &self,
         fields: &[Field],
@@ -141,8 +139,6 @@ impl<H: Decode, N: DecodeCells> DecodeCells for Optional<PhantomData<Option<H>>,
         (H.schema (own_or H.CONSTRAINTS (first_given cs)) n) (N.parts p.next (behind fs) (behind cs) n) };
 
     ghost contents = { λ values. slot_of H.value values.0 ∷ N.contents values.1 };
-
-    ghost count = { suc N.count };
 
     fn decode_cells<D: Decoder>(
         &self,
@@ -168,8 +164,6 @@ impl<'a, H: Encode + Defaulted, N: EncodeCells> EncodeCells for Default<&'a H, H
 
     ghost levels = { λ p. max (H.levels p.value.now) (N.levels p.next) };
 
-    ghost count = { suc N.count };
-
     fn encode_cells<E: Encoder>(
         &self,
         fields: &[Field],
@@ -191,8 +185,6 @@ impl<H: Decode + Defaulted, N: DecodeCells> DecodeCells for Default<PhantomData<
         (H.schema (own_or H.CONSTRAINTS (first_given cs)) n) (N.parts p.next (behind fs) (behind cs) n) };
 
     ghost contents = { λ values. Some (H.value values.0) ∷ N.contents values.1 };
-
-    ghost count = { suc N.count };
 
     fn decode_cells<D: Decoder>(
         &self,

@@ -4,11 +4,11 @@ ghost use Rattle.std.specs.Prelude.{◌≡◌, ℕ, Some, drop};
 ghost use Rattle.rasn_schema.specs.Schemas.{required};
 ghost use Rattle.rasn_schema.specs.Records.{own_or};
 ghost use Rattle.rasn_schema.specs.Components.{parts_of, tags_at, presence_at, schema_at, content_at, at};
-ghost use Rattle.rasn_codec.specs.Scopes.{TakesParts};
+ghost use Rattle.rasn_calls.specs.Scopes.{TakesParts};
 ghost use Rattle.rasn_record.specs.Lists.{first_given};
 
+use rasn_calls::parts::DecodeParts;
 use rasn_codec::codec::Decoder;
-use rasn_codec::parts::DecodeParts;
 use rasn_schema::components::Components;
 use rasn_schema::constraints::Constraint;
 use rasn_schema::schema::AsnType;

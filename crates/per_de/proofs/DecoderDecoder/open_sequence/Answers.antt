@@ -2,7 +2,7 @@ use Rattle.std.proofs.Common.{◌≡◌, ℕ, suc, rules, ap, sym, ◌∙◌, ar
 use Rattle.std.specs.Prelude.{count_by}
 use Rattle.std.proofs.lemmas.Result.{err_from_is_err_and}
 use Rattle.rasn_schema.specs.Fields.{may_be_absent}
-use Rattle.rasn_codec.proofs.Optionals.{bits_counted}
+use Rattle.rasn_calls.proofs.Optionals.{bits_counted}
 use Rattle.rasn_schema.specs.Lawful.{presence_bits}
 use Rattle.per_de.proofs.Calls.{too_deep}
 use Rattle.per_de.proofs.Opening.{opens_row, no_row, none_left}

@@ -1,7 +1,7 @@
 use Rattle.std.proofs.Common.{ap, ◌∙◌, rules}
 use Rattle.std.specs.Prelude.{count_by}
 use Rattle.rasn_schema.specs.Fields.{may_be_absent}
-use Rattle.rasn_codec.proofs.Optionals.{bits_counted}
+use Rattle.rasn_calls.proofs.Optionals.{bits_counted}
 use Rattle.per_enc.proofs.Records.{opens_record}
 use Rattle.per_enc.proofs.EncoderEncoder.open_sequence.Goals as goal
 

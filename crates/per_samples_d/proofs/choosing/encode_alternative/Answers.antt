@@ -3,10 +3,10 @@ use Rattle.rasn_types.specs.Values.{Value, alternative, root}
 use Rattle.rasn_schema.specs.Choices.{alternative_at, choice_at, place_of}
 use Rattle.rasn_schema.specs.Fields.{tag_of}
 use Rattle.rasn_schema.specs.Schemas.{Schema, Parts}
-use Rattle.rasn_codec.specs.Calls.{EncoderRules, Encodes}
+use Rattle.rasn_calls.specs.Calls.{EncoderRules, Encodes}
 use Rattle.per_samples_d.specs.Choosing.{WritesOne}
 use Rattle.std.proofs.lemmas.Result.{err_from_is_err_and}
-use Rattle.rasn_codec.proofs.Alternatives.{choice_refused, choice_closed}
+use Rattle.rasn_calls.proofs.Alternatives.{choice_refused, choice_closed}
 use Rattle.per_samples_d.proofs.choosing.encode_alternative.Goals as goal
 
 -- what is owed where a tag has a place is shown for each place

@@ -1,6 +1,6 @@
 use Rattle.std.proofs.Common.{◌≡◌, suc, List, ◌∷◌, arith, rules}
 use Rattle.rasn_types.specs.Values.{Value}
-use Rattle.rasn_codec.specs.Lists.{ListForm}
+use Rattle.rasn_calls.specs.Lists.{ListForm}
 use Rattle.per_write.specs.Lists.{AmidList}
 use Rattle.per_write.specs.State.{State}
 use Rattle.per_write.proofs.Elements.{element_next, fragment_begun_at}

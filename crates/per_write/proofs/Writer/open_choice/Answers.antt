@@ -1,4 +1,4 @@
-use Rattle.std.proofs.Common.{ap, ap₂, refl, sym, ◌∙◌, length, rules}
+use Rattle.std.proofs.Common.{ap, ap₂, ◌∙◌, length, rules}
 use Rattle.rasn_types.specs.Codecs.{variant_of}
 use Rattle.per_write.specs.Choices.{index_width}
 use Rattle.per_write.specs.State.{State}

@@ -1,7 +1,7 @@
-use Rattle.std.proofs.Common.{◌∙◌, refl, ap, Some, rules}
+use Rattle.std.proofs.Common.{refl, rules}
 use Rattle.std.proofs.lemmas.Result.{err_from_is_err_and}
-use Rattle.rasn_codec.specs.Scopes.{reads_left_out}
-use Rattle.rasn_codec.proofs.Optionals.{bit_refused, value_read}
+use Rattle.rasn_calls.specs.Scopes.{reads_left_out}
+use Rattle.rasn_calls.proofs.Optionals.{bit_refused, value_read}
 use Rattle.rasn_record.proofs.optionals.read_default.Goals as goal
 
 pub returns-in_err-next_presence : goal.returns-in_err-next_presence

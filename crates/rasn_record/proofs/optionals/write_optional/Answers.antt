@@ -1,6 +1,6 @@
 use Rattle.std.proofs.Common.{None}
 use Rattle.rasn_schema.specs.Schemas.{optional}
-use Rattle.rasn_codec.proofs.Optionals.{of_freely}
+use Rattle.rasn_calls.proofs.Optionals.{of_freely}
 use Rattle.rasn_record.proofs.optionals.write_optional.Goals as goal
 
 pub returns-in-None : goal.returns-in-None

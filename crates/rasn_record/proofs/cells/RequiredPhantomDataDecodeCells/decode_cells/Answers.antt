@@ -1,8 +1,8 @@
 use Rattle.std.proofs.Common.{rules}
 use Rattle.std.proofs.lemmas.Result.{err_from_is_err_and}
 use Rattle.rasn_schema.specs.Fields.{shape_of}
-use Rattle.rasn_codec.specs.Scopes.{reads_required}
-use Rattle.rasn_codec.proofs.Reading.{fails_required, fails_behind, required_read}
+use Rattle.rasn_calls.specs.Scopes.{reads_required}
+use Rattle.rasn_calls.proofs.Reading.{fails_required, fails_behind, required_read}
 use Rattle.rasn_record.proofs.Behind.{behind-map}
 use Rattle.rasn_record.proofs.cells.RequiredPhantomDataDecodeCells.decode_cells.Goals as goal
 

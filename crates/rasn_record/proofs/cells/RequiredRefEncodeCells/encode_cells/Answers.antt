@@ -2,7 +2,7 @@ use Rattle.std.proofs.Common.{arith, rules}
 use Rattle.std.proofs.lemmas.Result.{err_from_is_err_and}
 use Rattle.rasn_schema.specs.Fields.{shape_of}
 use Rattle.rasn_schema.specs.Normal.{normal, settle}
-use Rattle.rasn_codec.proofs.Writing.{required_refused, required_written}
+use Rattle.rasn_calls.proofs.Writing.{required_refused, required_written}
 use Rattle.rasn_record.proofs.Behind.{behind-map}
 use Rattle.rasn_record.proofs.cells.RequiredRefEncodeCells.encode_cells.Goals as goal
 

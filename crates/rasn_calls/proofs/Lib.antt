@@ -1,0 +1,4 @@
+pub mod Alternatives
+pub mod Optionals
+pub mod Reading
+pub mod Writing

@@ -1,0 +1,363 @@
+//! The trait of encoders.
+
+ghost use Rattle.std.specs.Prelude.{◌≡◌, ℕ, suc, true, false, []};
+ghost use Rattle.std.specs.Fn.{FnOnceReturnsAtMut};
+ghost use Rattle.rasn_types.specs.Alphabets.{visible, ia5, printable, numeric, bmp};
+ghost use Rattle.rasn_types.specs.Contents.{utf8, other};
+ghost use Rattle.rasn_types.specs.Values.{truth, nothing, whole, octets, bits, characters};
+ghost use Rattle.rasn_schema.specs.Schemas.{Schema, listed};
+ghost use Rattle.rasn_schema.specs.Forms.{number_schema, octet_schema, bit_schema, character_schema, size_of, is_size_marked};
+ghost use Rattle.rasn_schema.specs.Records.{record_at, no_additions, record_value};
+ghost use Rattle.rasn_calls.specs.Optionals.{GivesBit};
+ghost use Rattle.rasn_calls.specs.Calls.{EncoderRules, freely, Writes, Encodes, PresentsWell};
+ghost use Rattle.rasn_schema.specs.Fields.{tag_of};
+ghost use Rattle.rasn_calls.specs.Choices.{ClosesChoice, OpensChoice, WritesChoice};
+ghost use Rattle.rasn_calls.specs.Lists.{Amid, OpensList, WritesNext, ClosesList};
+ghost use Rattle.rasn_calls.specs.Scopes.{OpensToWrite, ClosesWritten, WritesAround};
+
+use crate::parts::EncodeParts;
+use rasn_schema::choices::Choice;
+use rasn_schema::enumerated::Enumerated;
+use rasn_schema::fields::Constructed;
+use rasn_schema::schema::{Constraints, IntegerType};
+use rasn_strings::strings::{
+    BmpString, Ia5String, NumericString, PrintableString, StaticPermittedAlphabet, VisibleString,
+};
+use rasn_types::bit_string::BitString;
+use rasn_types::octet_strings::{Any, GeneralString, GraphicString, TeletexString};
+use rasn_types::types::{Codec, Identifier, Tag};
+
+/// What writes values, one after another. Each call presents one value of one schema, or refuses it.
+///
+/// A refused encoder refuses from then on, and says so before anything else.
+pub trait Encoder: Sized {
+    type Error: Drop;
+
+    /// What waits outside while a record is open.
+    type Scope: Drop;
+
+    /// What is left of an open list.
+    type List: Drop;
+
+    // What is presented and refused, and what states and errors say.
+    ghost rules: { EncoderRules Self.Error Self };
+
+    // A scope is opened to write a schema: what was before, what waits outside, and how it is inside.
+    ghost opens: { Schema → Self → Self.Scope → Self → Type 0 };
+
+    // A choice is opened to write a schema: what was before, what waits outside, and how it is inside.
+    ghost opens_choice: { Schema → Self → Self.Scope → Self → Type 0 };
+
+    // A list is open: which one, what was before it, its elements still to be written, what is left of it, and now.
+    ghost amid: { Amid Self Self.List };
+
+    /// The variant in use.
+    fn codec(&self) -> Codec
+        ensures { result ≡ rules.codec self.now };
+
+    /// Writes a BOOLEAN, one bit (X.691 12).
+    fn encode_bool(
+        &mut self,
+        tag: Tag,
+        value: bool,
+        identifier: Identifier,
+    ) -> Result<(), Self::Error>
+        ensures { Writes rules Schema.boolean (truth value) self.old result self.new };
+
+    /// Writes an INTEGER under constraints (X.691 13).
+    fn encode_integer<I: IntegerType>(
+        &mut self,
+        tag: Tag,
+        constraints: &Constraints,
+        value: &I,
+        identifier: Identifier,
+    ) -> Result<(), Self::Error>
+        ensures { Writes rules (number_schema constraints.now I.range) (whole (I.number value.now))
+            self.old result self.new };
+
+    /// Writes a NULL, no bits (X.691 18). Takes no memory.
+    fn encode_null(&mut self, tag: Tag, identifier: Identifier) -> Result<(), Self::Error>
+        ensures { Writes (freely rules) Schema.null nothing self.old result self.new };
+
+    /// Writes an item of an ENUMERATED (X.691 14).
+    fn encode_enumerated<E: Enumerated>(
+        &mut self,
+        tag: Tag,
+        value: &E,
+        identifier: Identifier,
+    ) -> Result<(), Self::Error>
+        ensures { Writes rules (Schema.items E.roots E.addeds E.EXTENSIBLE) (E.value value.now)
+            self.old result self.new };
+
+    /// Writes the octets of a value whose type isn't known, behind an unconstrained length in octets (X.691 11.2).
+    fn encode_any(
+        &mut self,
+        tag: Tag,
+        value: &Any,
+        identifier: Identifier,
+    ) -> Result<(), Self::Error>
+        ensures { Writes rules Schema.any (octets value.now) self.old result self.new };
+
+    /// Writes an OCTET STRING under constraints, of which the size counts octets (X.691 17).
+    fn encode_octet_string(
+        &mut self,
+        tag: Tag,
+        constraints: &Constraints,
+        value: &[u8],
+        identifier: Identifier,
+    ) -> Result<(), Self::Error>
+        ensures { Writes rules (octet_schema constraints.now) (octets value.now) self.old result self.new };
+
+    /// Writes a BIT STRING under constraints, of which the size counts bits (X.691 16).
+    fn encode_bit_string(
+        &mut self,
+        tag: Tag,
+        constraints: &Constraints,
+        value: &BitString,
+        identifier: Identifier,
+    ) -> Result<(), Self::Error>
+        ensures { Writes rules (bit_schema constraints.now) (bits value.now) self.old result self.new };
+
+    /// Writes a string of a known-multiplier type under constraints: of each character its code among those that the
+    /// type and its permitted alphabet leave (X.691 30.5). The size counts characters.
+    fn encode_known_multiplier_string<S: StaticPermittedAlphabet>(
+        &mut self,
+        tag: Tag,
+        constraints: &Constraints,
+        value: &S,
+        identifier: Identifier,
+    ) -> Result<(), Self::Error>
+        ensures { Writes rules (character_schema S.alphabet constraints.now) (characters (S.characters value.now))
+            self.old result self.new };
+
+    /// Writes a UTF8String: its octets behind an unconstrained length. No constraint is visible (X.691 30.6).
+    fn encode_utf8_string(
+        &mut self,
+        tag: Tag,
+        constraints: &Constraints,
+        value: &str,
+        identifier: Identifier,
+    ) -> Result<(), Self::Error>
+        ensures { Writes rules (Schema.text utf8) (octets value.now) self.old result self.new };
+
+    /// Writes a GeneralString: its octets behind an unconstrained length. No constraint is visible (X.691 30.6).
+    fn encode_general_string(
+        &mut self,
+        tag: Tag,
+        constraints: &Constraints,
+        value: &GeneralString,
+        identifier: Identifier,
+    ) -> Result<(), Self::Error>
+        ensures { Writes rules (Schema.text other) (octets value.now) self.old result self.new };
+
+    /// Writes a GraphicString: its octets behind an unconstrained length. No constraint is visible (X.691 30.6).
+    fn encode_graphic_string(
+        &mut self,
+        tag: Tag,
+        constraints: &Constraints,
+        value: &GraphicString,
+        identifier: Identifier,
+    ) -> Result<(), Self::Error>
+        ensures { Writes rules (Schema.text other) (octets value.now) self.old result self.new };
+
+    /// Writes a TeletexString: its octets behind an unconstrained length. No constraint is visible (X.691 30.6).
+    fn encode_teletex_string(
+        &mut self,
+        tag: Tag,
+        constraints: &Constraints,
+        value: &TeletexString,
+        identifier: Identifier,
+    ) -> Result<(), Self::Error>
+        ensures { Writes rules (Schema.text other) (octets value.now) self.old result self.new };
+
+    /// Opens a SEQUENCE (X.691 19): the calls from here to `close_sequence` write its components, in the order of
+    /// `FIELDS`.
+    fn open_sequence<C: Constructed>(
+        &mut self,
+        tag: Tag,
+        identifier: Identifier,
+    ) -> Result<Self::Scope, Self::Error>
+        ensures { OpensToWrite rules opens C.parts self.old result self.new };
+
+    /// Closes a SEQUENCE in which its components were written.
+    fn close_sequence<C: Constructed>(&mut self, scope: Self::Scope) -> Result<(), Self::Error>
+        ensures { ClosesWritten rules opens C.parts scope self.old result self.new };
+
+    /// Opens a CHOICE (X.691 23): the calls from here to `close_choice` write the value of its alternative.
+    fn open_choice<C: Choice>(
+        &mut self,
+        tag: Tag,
+        identifier: Identifier,
+    ) -> Result<Self::Scope, Self::Error>
+        ensures { OpensChoice rules opens_choice C.alternatives self.old result self.new };
+
+    /// Closes a CHOICE in which the value of an alternative was written, by the tag that this goes by. A tag by which
+    /// none goes is refused.
+    fn close_choice<C: Choice>(
+        &mut self,
+        scope: Self::Scope,
+        chosen: Tag,
+    ) -> Result<(), Self::Error>
+        ensures { ClosesChoice rules opens_choice C.alternatives C.VARIANTS scope (tag_of chosen)
+            self.old result self.new };
+
+    /// Gives the presence bit of the next component of the open SEQUENCE that has one (X.691 19.2). Takes no memory.
+    fn set_presence(&mut self, is_there: bool) -> Result<(), Self::Error>
+        ensures { GivesBit rules is_there self.old result self.new };
+
+    /// Opens a SEQUENCE OF under constraints (X.691 20): so many elements follow, each behind a call of `next_element`,
+    /// up to `close_list`. A count outside a size that isn't extensible is refused.
+    fn open_list(
+        &mut self,
+        tag: Tag,
+        constraints: &Constraints,
+        count: usize,
+        identifier: Identifier,
+    ) -> Result<Self::List, Self::Error>
+        ensures { OpensList rules amid (size_of constraints.now) (is_size_marked constraints.now) count
+            self.old result self.new };
+
+    /// Goes on to the next element of an open list: where a fragment begins, its length is written.
+    fn next_element(&mut self, list: &mut Self::List) -> Result<(), Self::Error>
+        ensures { WritesNext rules amid list.old self.old result list.new self.new };
+
+    /// Closes a list of which all elements were written: where a last length is due, it is written.
+    fn close_list(&mut self, list: Self::List) -> Result<(), Self::Error>
+        ensures { ClosesList rules amid list self.old result self.new };
+
+    /// Refuses from now on.
+    fn fail(&mut self)
+        ensures fails { rules.failed self.new ≡ true }
+        ensures kept { rules.codec self.new ≡ rules.codec self.old };
+
+    /// Writes a VisibleString under constraints (X.691 30.5).
+    final fn encode_visible_string(
+        &mut self,
+        tag: Tag,
+        constraints: &Constraints,
+        value: &VisibleString,
+        identifier: Identifier,
+    ) -> Result<(), Self::Error>
+        ensures { Writes rules (character_schema visible constraints.now) (characters value.now)
+            self.old result self.new }
+    {
+        self.encode_known_multiplier_string(tag, constraints, value, identifier)
+    }
+
+    /// Writes an IA5String under constraints (X.691 30.5).
+    final fn encode_ia5_string(
+        &mut self,
+        tag: Tag,
+        constraints: &Constraints,
+        value: &Ia5String,
+        identifier: Identifier,
+    ) -> Result<(), Self::Error>
+        ensures { Writes rules (character_schema ia5 constraints.now) (characters value.now) self.old result self.new }
+    {
+        self.encode_known_multiplier_string(tag, constraints, value, identifier)
+    }
+
+    /// Writes a PrintableString under constraints (X.691 30.5).
+    final fn encode_printable_string(
+        &mut self,
+        tag: Tag,
+        constraints: &Constraints,
+        value: &PrintableString,
+        identifier: Identifier,
+    ) -> Result<(), Self::Error>
+        ensures { Writes rules (character_schema printable constraints.now) (characters value.now)
+            self.old result self.new }
+    {
+        self.encode_known_multiplier_string(tag, constraints, value, identifier)
+    }
+
+    /// Writes a NumericString under constraints (X.691 30.5).
+    final fn encode_numeric_string(
+        &mut self,
+        tag: Tag,
+        constraints: &Constraints,
+        value: &NumericString,
+        identifier: Identifier,
+    ) -> Result<(), Self::Error>
+        ensures { Writes rules (character_schema numeric constraints.now) (characters value.now)
+            self.old result self.new }
+    {
+        self.encode_known_multiplier_string(tag, constraints, value, identifier)
+    }
+
+    /// Writes a BMPString under constraints (X.691 30.5).
+    final fn encode_bmp_string(
+        &mut self,
+        tag: Tag,
+        constraints: &Constraints,
+        value: &BmpString,
+        identifier: Identifier,
+    ) -> Result<(), Self::Error>
+        ensures { Writes rules (character_schema bmp constraints.now) (characters value.now) self.old result self.new }
+    {
+        self.encode_known_multiplier_string(tag, constraints, value, identifier)
+    }
+
+    /// Writes a SEQUENCE (X.691 19), whose components `scope` writes, in the order of `FIELDS`.
+    final fn encode_sequence<
+        C: Constructed,
+        F: FnOnce(&mut Self) -> Result<(), Self::Error>,
+        I: Into<Identifier>,
+    >(&mut self, tag: Tag, scope: F, identifier: I) -> Result<(), Self::Error>
+        requires { F.IsAlwaysCallable scope }
+        ensures { WritesAround rules C.parts (FnOnceReturnsAtMut F.FnOnce scope) self.old result self.new }
+    {
+        let outside = self.open_sequence::<C>(tag, identifier.into())?;
+        if let Err(error) = scope(self) {
+            self.fail();
+            return Err(error);
+        }
+        self.close_sequence::<C>(outside)
+    }
+
+    /// Writes a CHOICE (X.691 23). `scope` writes the value of an alternative, and answers the tag that this goes by: its
+    /// own, or the smallest of a nested untagged choice.
+    final fn encode_choice<
+        C: Choice,
+        F: FnOnce(&mut Self) -> Result<Tag, Self::Error>,
+        I: Into<Identifier>,
+    >(
+        &mut self,
+        _constraints: &Constraints,
+        tag: Tag,
+        scope: F,
+        identifier: I,
+    ) -> Result<(), Self::Error>
+        requires { F.IsAlwaysCallable scope }
+        ensures { WritesChoice rules C.alternatives C.VARIANTS (FnOnceReturnsAtMut F.FnOnce scope)
+            self.old result self.new }
+    {
+        let outside = self.open_choice::<C>(tag, identifier.into())?;
+        match scope(self) {
+            Ok(chosen) => self.close_choice::<C>(outside, chosen),
+            Err(error) => {
+                self.fail();
+                Err(error)
+            }
+        }
+    }
+
+    /// Writes a SEQUENCE (X.691 19) by the list of its components, which stand in the order of `FIELDS`.
+    final fn encode_record<C: Constructed, P: EncodeParts, I: Into<Identifier>>(
+        &mut self,
+        tag: Tag,
+        parts: &P,
+        identifier: I,
+    ) -> Result<(), Self::Error>
+        requires { (n : ℕ) → C.parts n ≡ P.parts parts.now n }
+        ensures { Encodes rules (record_at listed C.parts false no_additions) (suc (P.levels parts.now))
+            (record_value (P.contents parts.now) []) self.old result self.new }
+    {
+        let outside = self.open_sequence::<C>(tag, identifier.into())?;
+        parts.encode_parts(self)?;
+        self.close_sequence::<C>(outside)
+    }
+
+    // What holds of each encoder's relations.
+    ghost lawful: { PresentsWell rules };
+}

@@ -1,0 +1,6 @@
+//! The calls of encoders and decoders, as traits, and the components of records, as these calls write and read them.
+#![tactic(auto)]
+
+pub mod decoder;
+pub mod encoder;
+pub mod parts;

@@ -1,0 +1,84 @@
+//! The calls of every encoder that write values of a type of its own.
+
+ghost use Rattle.std.specs.Prelude.{suc, map};
+ghost use Rattle.std.specs.Fn.{FnOnceReturnsAt};
+ghost use Rattle.rasn_schema.specs.Forms.{size_of, is_size_marked};
+ghost use Rattle.rasn_calls.specs.Optionals.{EncodesDefault, EncodesNone, EncodesSome};
+ghost use Rattle.rasn_calls.specs.Calls.{Encodes};
+ghost use Rattle.rasn_schema.specs.Lists.{deepest, list_at, list_value};
+
+use crate::codec::Encode;
+use rasn_calls::encoder::Encoder;
+use rasn_schema::schema::Constraints;
+use rasn_types::types::{Identifier, Tag};
+
+/// What every encoder writes by the type of a value.
+pub trait EncoderExt: Encoder {
+    /// Writes a SEQUENCE OF under constraints (X.691 20), of which the size counts elements.
+    final fn encode_sequence_of<T: Encode>(
+        &mut self,
+        tag: Tag,
+        values: &[T],
+        constraints: &Constraints,
+        identifier: Identifier,
+    ) -> Result<(), Self::Error>
+        ensures { let size = size_of constraints.now in
+            Encodes Self.rules (list_at (T.schema T.CONSTRAINTS) size (is_size_marked constraints.now))
+            (suc (deepest T.levels values.now)) (list_value (map T.value values.now)) self.old result self.new }
+    {
+        let mut list = self.open_list(tag, constraints, values.len(), identifier)?;
+        for value in values {
+            self.next_element(&mut list)?;
+            value.encode(self)?;
+        }
+        self.close_list(list)
+    }
+
+    /// Writes an optional component that is there: its presence bit, 1, and its value (X.691 19.2).
+    final fn encode_some_with_tag_and_constraints<T: Encode>(
+        &mut self,
+        tag: Tag,
+        constraints: &Constraints,
+        value: &T,
+        identifier: Identifier,
+    ) -> Result<(), Self::Error>
+        ensures { EncodesSome Self.rules (T.schema constraints.now) (T.levels value.now) (T.value value.now)
+            self.old result self.new }
+    {
+        self.set_presence(true)?;
+        value.encode_with_tag_and_constraints(self, tag, constraints, identifier)
+    }
+
+    /// Writes an optional component that is absent: its presence bit, 0 (X.691 19.2). Takes no memory.
+    final fn encode_none_with_tag(
+        &mut self,
+        _tag: Tag,
+        _identifier: Identifier,
+    ) -> Result<(), Self::Error>
+        ensures { EncodesNone Self.rules self.old result self.new }
+    {
+        self.set_presence(false)
+    }
+
+    /// Writes a component with a default. Where it is at its default, as the test says, only its presence bit is
+    /// written, 0; else it is written as one that is there (X.691 19.5).
+    final fn encode_default_with_tag_and_constraints<T: Encode, F: FnOnce(&T) -> bool>(
+        &mut self,
+        tag: Tag,
+        constraints: &Constraints,
+        value: &T,
+        is_default: F,
+        identifier: Identifier,
+    ) -> Result<(), Self::Error>
+        requires { F.IsAlwaysCallable is_default }
+        ensures { EncodesDefault Self.rules (T.schema constraints.now) (T.levels value.now) (T.value value.now)
+            (FnOnceReturnsAt F.FnOnce is_default value.now) self.old result self.new }
+    {
+        if is_default(value) {
+            return self.set_presence(false);
+        }
+        self.encode_some_with_tag_and_constraints(tag, constraints, value, identifier)
+    }
+}
+
+impl<E: Encoder> EncoderExt for E {}
