@@ -6,6 +6,7 @@ pub mod codec;
 pub mod constrained;
 pub mod decoder_ext;
 pub mod encoder_ext;
+pub mod enumerated;
 pub mod integers;
 pub mod kinds;
 pub mod lists;

@@ -8,6 +8,7 @@ pub mod constrained;
 pub mod enumerated;
 pub mod fields;
 pub mod integers;
+pub mod items;
 pub mod kinds;
 pub mod lists;
 pub mod octets;
