@@ -17,7 +17,7 @@ use Rattle.per_read.specs.Kinds.{Faulty, NoneIn}
 use Rattle.per_read.specs.Numbers.{IsOfNumber}
 use Rattle.per_read.specs.declared.error.DecodeError.{DecodeError}
 use Rattle.per_read.specs.declared.error.DecodeErrorKind.{DecodeErrorKind}
-use Rattle.per_read.specs.declared.error.DecodeErrorKind.TheVariants.{AlreadyFailed, ExceedsMaxParseDepth, OutOfMemory}
+use Rattle.per_read.specs.declared.error.DecodeErrorKind.TheVariants.{AlreadyFailed, ExceedsMaxParseDepth, OutOfMemory, RealNotSupported}
 use Rattle.per_read.specs.Codecs.{settings}
 use Rattle.per_read.specs.State.{State as Taking}
 use Rattle.per_read.specs.Takes.{Reason, Takes}
@@ -37,6 +37,7 @@ not_failed (Schema.octet_string size mark) a s h = h
 not_failed (Schema.bit_string size mark) a s h = h
 not_failed (Schema.char_string alphabet size mark) a s h = h
 not_failed (Schema.text kind) a s h = h
+not_failed Schema.real a s h = h
 not_failed Schema.cut a s h = h
 not_failed _ a s h = h
 
@@ -95,6 +96,11 @@ pub null_answers : (s : State) (r : Result (Unit {0}) DecodeError) → OnOk r (s
     → Answers takes_none (Fault Schemas.null) (Spells Schemas.null) (λ u. nothing) s r s
 null_answers s (Ok u) ok err failed = record { live = ok; took = reads_nothing (settings_of s) s.bits; same = refl }
 null_answers s (Err e) ok err failed = inr (failed_refuses Schemas.null s e err failed)
+
+-- REAL
+pub real_refused : (s : State) (e : DecodeError) → e ≡ refusal RealNotSupported s → Refuses (Spells Schemas.real) (Fault Schemas.real) e s
+unfolding basic_in
+real_refused s e i = refuses Schemas.real s RealNotSupported e i tt (λ v t b. b.spelled)
 
 -- at no level left no record is entered
 pub too_deep : (s : State) (e : DecodeError) (parts : ℕ → Parts) (n : ℕ) → n ≡ 0 → e ≡ refusal ExceedsMaxParseDepth s

@@ -17,13 +17,18 @@ use Rattle.per_read.specs.Strings.{IsOfString, IsOfText}
 use Rattle.per_core.specs.declared.items.Item.TheVariants.{Octet, Bit}
 use Rattle.per_read.specs.declared.error.DecodeError.{DecodeError}
 use Rattle.per_read.specs.declared.error.DecodeErrorKind.{DecodeErrorKind}
-use Rattle.per_read.specs.declared.error.DecodeErrorKind.TheVariants.{ExceedsMaxParseDepth, AlreadyFailed, MissingTag}
+use Rattle.per_read.specs.declared.error.DecodeErrorKind.TheVariants.{ExceedsMaxParseDepth, AlreadyFailed, MissingTag, RealNotSupported}
 use Rattle.per_de.specs.State.{State, settings_of}
 
 -- what a kind says where no level is left
 abbrev pub IsOfCut : DecodeErrorKind → Type 0
 IsOfCut ExceedsMaxParseDepth = Unit {0}
 IsOfCut k = IsTested k
+
+-- what a kind says of a REAL (X.691 15), which isn't supported
+abbrev pub IsOfReal : DecodeErrorKind → Type 0
+IsOfReal RealNotSupported = Unit {0}
+IsOfReal k = ⊥
 
 -- What a kind says of the first of bits, as a schema reads them. Kinds that no call answers yet say what never holds.
 abbrev pub IsAt : Settings → Schema → Bits → DecodeErrorKind → Type 0
@@ -36,6 +41,7 @@ IsAt a (Schema.octet_string size mark) s k = IsOfItems a size mark Octet s k
 IsAt a (Schema.bit_string size mark) s k = IsOfItems a size mark Bit s k
 IsAt a (Schema.char_string alphabet size mark) s k = IsOfString a alphabet size mark s k
 IsAt a (Schema.text kind) s k = IsOfText a kind s k
+IsAt a Schema.real s k = IsOfReal k
 IsAt a Schema.cut s k = IsOfCut k
 IsAt a c s k = IsTested k
 

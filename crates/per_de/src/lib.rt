@@ -224,6 +224,11 @@ impl<'input> decoder::Decoder for Decoder<'input> {
         self.answer(taken)
     }
 
+    fn decode_real(&mut self, _tag: Tag, _constraints: &Constraints) -> Result<(), DecodeError> {
+        self.check_unfailed()?;
+        Err(self.refuse(DecodeErrorKind::RealNotSupported))
+    }
+
     fn decode_null(&mut self, _tag: Tag) -> Result<(), DecodeError> {
         self.check_unfailed()
     }

@@ -162,6 +162,16 @@ impl<A: Allocator + Clone> encoder::Encoder for Encoder<A> {
         }
     }
 
+    fn encode_real(
+        &mut self,
+        _tag: Tag,
+        _constraints: &Constraints,
+        _identifier: Identifier,
+    ) -> Result<(), EncodeError> {
+        self.writer.check_unfailed()?;
+        self.writer.refuse_real()
+    }
+
     fn encode_null(&mut self, _tag: Tag, _identifier: Identifier) -> Result<(), EncodeError> {
         self.writer.check_unfailed()
     }

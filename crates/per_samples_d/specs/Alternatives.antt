@@ -1,12 +1,10 @@
 -- CHOICE { x BOOLEAN, y INTEGER (0..7) }
-use Rattle.std.specs.Prelude.{ℕ, zero, suc, pos, List, [], ◌∷◌, refl}
+use Rattle.std.specs.Prelude.{ℕ, pos, List, [], ◌∷◌}
 use Rattle.rasn_types.specs.Values.{Value, truth, whole, alternative, root}
-use Rattle.rasn_types.specs.declared.types.TheConstants.Tag.{EOC}
 use Rattle.rasn_schema.specs.Choices.{choice_at, choice_levelled}
 use Rattle.rasn_schema.specs.Components.{Component, parts_of, components_levelled, automatic, boolean, integer, u8, ◌to◌}
 use Rattle.rasn_schema.specs.Levels.{Levelled}
 use Rattle.rasn_schema.specs.Schemas.{Parts}
-use Rattle.rasn_schema.specs.Tags.{IsTagOf}
 use Rattle.per_samples_d.specs.declared.alternative.Alternative.{Alternative}
 use Rattle.per_samples_d.specs.declared.alternative.Alternative.TheVariants.{X, Y}
 
@@ -20,11 +18,6 @@ parts = parts_of alternatives
 
 pub levelled : Levelled (choice_at parts)
 levelled = choice_levelled (components_levelled alternatives)
-
--- a choice has no tag of its own
-pub choice_tag : (ps : ℕ → Parts) → IsTagOf EOC (choice_at ps)
-choice_tag ps zero = refl
-choice_tag ps (suc n) = refl
 
 -- the value of the alternative that is chosen
 abbrev pub chosen : Alternative → Value

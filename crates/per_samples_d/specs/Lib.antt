@@ -1,3 +1,2 @@
 pub mod Alternatives
-pub mod Choosing
 pub mod Nesteds

@@ -6,12 +6,12 @@ ghost use Rattle.rasn_types.specs.Variants.{aligned, unaligned};
 ghost use Rattle.rasn_constraints.specs.Ranges.{no_constraints};
 ghost use Rattle.rasn_schema.specs.Choices.{choice_at, tags_of};
 ghost use Rattle.rasn_schema.specs.Components.{◌to◌};
+ghost use Rattle.rasn_schema.specs.Tags.{choice_tag};
 ghost use Rattle.per_samples_a.specs.Rows.{IsWrittenAs};
-ghost use Rattle.per_samples_d.specs.Alternatives.{parts, levelled, choice_tag, chosen};
+ghost use Rattle.per_samples_d.specs.Alternatives.{parts, levelled, chosen};
 ghost use Rattle.per_samples_d.specs.declared.alternative.Alternative.TheVariants.{X, Y};
 
-use crate::choosing::encode_alternative;
-use rasn_codec::codec::{Decode, DecodeChoice, Decoder, DecoderExt, Encode, Encoder};
+use rasn_codec::codec::{Decode, DecodeChoice, Decoder, DecoderExt, Encode, Encoder, EncoderExt};
 use rasn_record::{Constrained, Constraint, Limits, constraints};
 use rasn_schema::choices::{Choice, Variant, Variants};
 use rasn_schema::fields::TagTree;
@@ -107,10 +107,10 @@ impl Encode for Alternative {
         let _ = constraints;
         match self {
             Alternative::X(x) => {
-                encode_alternative::<Alternative, _, _>(encoder, tag, identifier, TAG_OF_X, x)
+                encoder.encode_alternative::<Alternative, _>(tag, TAG_OF_X, x, identifier)
             }
             Alternative::Y(y) => {
-                encode_alternative::<Alternative, _, _>(encoder, tag, identifier, TAG_OF_Y, y)
+                encoder.encode_alternative::<Alternative, _>(tag, TAG_OF_Y, y, identifier)
             }
         }
     }

@@ -2,5 +2,4 @@
 #![tactic(auto)]
 
 pub mod alternative;
-pub mod choosing;
 pub mod nested;

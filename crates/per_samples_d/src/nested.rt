@@ -5,16 +5,15 @@ ghost use Rattle.rasn_types.specs.declared.types.TheConstants.Tag.{EOC};
 ghost use Rattle.rasn_types.specs.Variants.{aligned, unaligned};
 ghost use Rattle.rasn_constraints.specs.Ranges.{no_constraints};
 ghost use Rattle.rasn_schema.specs.Choices.{choice_at};
+ghost use Rattle.rasn_schema.specs.Tags.{choice_tag};
 ghost use Rattle.per_samples_a.specs.Rows.{IsWrittenAs};
-ghost use Rattle.per_samples_d.specs.Alternatives.{choice_tag};
 ghost use Rattle.per_samples_d.specs.Nesteds.{nested_parts, nested_levelled, nested_tags, nested_described, nested_chosen, nested_levels};
 ghost use Rattle.per_samples_d.specs.declared.alternative.Alternative.TheVariants.{X, Y};
 ghost use Rattle.per_samples_d.specs.declared.nested.Nested.TheVariants.{Record, Inner, Last};
 
 use crate::alternative::{Alternative, TAG_OF_X, TAG_OF_Y};
-use crate::choosing::encode_alternative;
 use per_samples_a::pair::Pair;
-use rasn_codec::codec::{Decode, DecodeChoice, Decoder, DecoderExt, Encode, Encoder};
+use rasn_codec::codec::{Decode, DecodeChoice, Decoder, DecoderExt, Encode, Encoder, EncoderExt};
 use rasn_schema::choices::{Choice, Variant, Variants};
 use rasn_schema::fields::TagTree;
 use rasn_schema::schema::{AsnType, Constraints};
@@ -94,13 +93,13 @@ impl Encode for Nested {
         let _ = constraints;
         match self {
             Nested::Record(record) => {
-                encode_alternative::<Nested, _, _>(encoder, tag, identifier, Tag::SEQUENCE, record)
+                encoder.encode_alternative::<Nested, _>(tag, Tag::SEQUENCE, record, identifier)
             }
             Nested::Inner(inner) => {
-                encode_alternative::<Nested, _, _>(encoder, tag, identifier, TAG_OF_X, inner)
+                encoder.encode_alternative::<Nested, _>(tag, TAG_OF_X, inner, identifier)
             }
             Nested::Last => {
-                encode_alternative::<Nested, _, _>(encoder, tag, identifier, TAG_OF_LAST, &())
+                encoder.encode_alternative::<Nested, _>(tag, TAG_OF_LAST, &(), identifier)
             }
         }
     }

@@ -16,8 +16,8 @@ use Rattle.per_core.specs.Counts.{constrained_whole, counted, Counted, counted_i
 use Rattle.per_core.specs.Writers.{Writer, go_on, one_by_one, just, padding, written_if, ◌▹◌}
 use Rattle.per_write.specs.declared.error.EncodeError.{EncodeError}
 use Rattle.per_write.specs.declared.error.EncodeErrorKind.{EncodeErrorKind}
-use Rattle.per_write.specs.declared.error.EncodeErrorKind.TheVariants.{AlphabetConstraintNotSatisfied, SizeConstraintNotSatisfied}
-use Rattle.per_write.specs.Faults.{at_once, IsMemory, OutsideSize, RefusesValue, Stands, HasForeign}
+use Rattle.per_write.specs.declared.error.EncodeErrorKind.TheVariants.{AlphabetConstraintNotSatisfied, RealNotSupported, SizeConstraintNotSatisfied}
+use Rattle.per_write.specs.Faults.{at_once, IsError, IsMemory, OutsideSize, RefusesValue, Stands, HasForeign}
 use Rattle.per_write.specs.Items.{HasRefused, refused_behind, refused_here, RefusesCounted, no_memory, wrong_count, wrong_item}
 use Rattle.per_write.specs.Fragments.{one_fragment}
 use Rattle.per_write.specs.State.{State, Wrote}
@@ -177,3 +177,12 @@ char_string_law x y alphabet own size mark cs result v c w h =
     (counted_law x y (Schema.char_string ds size mark) (characters cs) size mark (char_items (char_width a ds)) (λ k. (k ≡ AlphabetConstraintNotSatisfied) × HasForeign ds cs) (char_writers a ds cs)
     (λ p. subst (λ (b : Variant). counted (variant_of x.codec) size mark (char_items (char_width b ds)) (char_writers b ds cs) p ≡ canon (variant_of x.codec) (Schema.char_string ds size mark) (characters cs) p) (sym v) (char_string_form (variant_of x.codec) ds size mark cs p))
     (char_count x a ds size mark cs) (char_foreign x a ds size mark cs) result w h)
+
+-- X.691 15: a REAL
+pub real_refused : (e : EncodeError) (x : State) → IsError RealNotSupported e x → (v : Value) → RefusesValue e x Schema.real v
+unfolding canon
+real_refused e x h v = record {
+  none = λ f p. refl;
+  stands = subst (λ k. Stands k x Schema.real v) (sym h.kind_is) (at_once tt);
+  codec_is = h.codec_is;
+}

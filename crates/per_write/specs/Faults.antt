@@ -81,6 +81,11 @@ abbrev pub IsForeign : Schema → Value → Type 0
 IsForeign (Schema.char_string alphabet size mark) (characters cs) = ((mark || allows size (length cs)) ≡ true) × HasForeign alphabet cs
 IsForeign _ _ = ⊥
 
+-- X.691 15: REAL isn't supported
+abbrev pub IsReal : Schema → Value → Type 0
+IsReal Schema.real v = Unit {0}
+IsReal _ _ = ⊥
+
 -- a component that is there, by its schema
 pub data HasPart (s : Schema) (v : Value) : Parts → List (Option Value) → Type 0 where
   part_here : {t : TagTree} {p : Presence} {ps : Parts} {rs : List (Option Value)} → HasPart s v (part t p s ps) (Some v ∷ rs)
@@ -106,7 +111,7 @@ IsInValue (ValueConstraintNotSatisfied value lower upper) s v = StandsIn (IsOutO
 IsInValue AlphabetConstraintNotSatisfied s v = StandsIn IsForeign s v
 IsInValue IntegerTypeConversionFailed s v = StandsIn IsPastBounds s v
 IsInValue VariantNotInChoice s v = ⊥
-IsInValue RealNotSupported s v = ⊥
+IsInValue RealNotSupported s v = StandsIn IsReal s v
 IsInValue TooManyAdditions s v = ⊥
 IsInValue Below s v = ⊥
 IsInValue AlreadyFailed s v = ⊥

@@ -5,10 +5,12 @@
 ghost use Rattle.std.specs.Prelude.{◌≡◌, ◌≤◌, ◌∷◌, [], true, false, Some, OnOk, OnErr, IfOk, IfErr};
 ghost use Rattle.rasn_types.specs.Bits.{to_bits};
 ghost use Rattle.rasn_types.specs.Codecs.{variant_of};
+ghost use Rattle.rasn_calls.specs.Reals.{WritesNoReal};
 ghost use Rattle.per_core.specs.Writers.{just, complete, one_by_one};
 ghost use Rattle.per_core.specs.Counts.{octet_writers, unconstrained_octets};
 ghost use Rattle.per_core.specs.Canon.{completed};
 ghost use Rattle.per_write.specs.State.{fresh, view, Puts};
+ghost use Rattle.per_write.specs.Rules.{encoder_rules};
 ghost use Rattle.per_write.specs.Faults.{IsError, IsMemory, IsAlready, RefusesOutput};
 
 mod choices;
@@ -115,6 +117,14 @@ impl<A: Allocator + Clone> Writer<A> {
         ensures { self.new ≡ record self.old { failed = true } }
     {
         self.failed = true;
+    }
+
+    /// Refuses a REAL (X.691 15): it isn't supported. Takes no memory.
+    pub fn refuse_real(&mut self) -> Result<(), EncodeError>
+        requires { self.old.failed ≡ false }
+        ensures { WritesNoReal encoder_rules self.old result self.new }
+    {
+        Err(self.refuse(EncodeErrorKind::RealNotSupported))
     }
 
     /// Refuses where a call was refused before.

@@ -1,5 +1,5 @@
 -- What a call owes that writes or reads a choice (X.680 29), and what stands in it, stated over any codec's relations.
-use Rattle.std.specs.Prelude.{◌≡◌, ℕ, suc, ◌≤◌, ◌⊎◌, true, false, Result, Ok, Err, OnOk, OnErr, IsErrAnd, IsSome, List, Some}
+use Rattle.std.specs.Prelude.{◌≡◌, ℕ, suc, ◌≤◌, ◌⊎◌, true, false, Result, Ok, Err, OnOk, OnErr, IsErrAnd, IfSome, IsSome, List, Option, Some}
 use Rattle.rasn_types.specs.Values.{Value, alternative, root}
 use Rattle.rasn_types.specs.declared.types.Tag.{Tag}
 use Rattle.rasn_schema.specs.Schemas
@@ -7,7 +7,7 @@ use Rattle.rasn_schema.specs.Schemas.{Schema, Parts}
 use Rattle.rasn_schema.specs.Choices.{alternative_at, choice_at, choice_of, place_of}
 use Rattle.rasn_schema.specs.Fields.{tag_of}
 use Rattle.rasn_schema.specs.Normal.{normal}
-use Rattle.rasn_calls.specs.Calls.{AtDepths, Behaves, EncoderRules, Written, DecoderRules, Refuses, Answers}
+use Rattle.rasn_calls.specs.Calls.{AtDepths, Behaves, EncoderRules, Encodes, Written, DecoderRules, Refuses, Answers}
 use Rattle.rasn_calls.specs.Scopes.{KeepsCodec}
 
 -- a fact on the schema of the alternative at a place, at each unfolding that is deep enough for a value of so many levels
@@ -53,6 +53,12 @@ pub record WritesChoice {E X : Type 0} (rules : EncoderRules E X) (alternatives 
   pub again : rules.failed x ≡ true → IsErrAnd result (λ e. rules.already e x)
   pub fails : OnErr result (rules.failed y ≡ true)
   pub kept : KeepsCodec rules.codec returns → rules.codec y ≡ rules.codec x
+
+-- A call that writes a choice by the value of one alternative. Where the alternative at the place has the value's schema, the choice of the value is written, or
+-- refused.
+abbrev pub EncodesAlternative : {E X : Type 0} → EncoderRules E X → (ℕ → Parts) → Option ℕ → (ℕ → Schema) → ℕ → Value → X → Result (Unit {0}) E → X → Type 0
+EncodesAlternative rules alternatives place schema depth v x result y =
+    IfSome place (λ k. ((n : ℕ) → alternative_at (alternatives n) k ≡ Some (schema n)) → Encodes rules (choice_at alternatives) (suc depth) (alternative root k v) x result y)
 
 -- The alternative at a place is read: the choice of its value.
 abbrev pub ReadsAlternative : {E S : Type 0} → DecoderRules E S → ℕ → Schema → S → Value → S → Type 0

@@ -4,3 +4,4 @@ pub mod Lists
 pub mod Scopes
 pub mod Optionals
 pub mod Presences
+pub mod Reals

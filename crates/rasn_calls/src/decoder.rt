@@ -13,6 +13,7 @@ ghost use Rattle.rasn_schema.specs.Records.{record_at, no_additions, record_valu
 ghost use Rattle.rasn_calls.specs.Optionals.{ReadsBit};
 ghost use Rattle.rasn_calls.specs.Calls.{DecoderRules, freely_read, Reads, DecodesWell};
 ghost use Rattle.rasn_calls.specs.Choices.{ChoicesWell, EndsChoice, OpensToChoose};
+ghost use Rattle.rasn_calls.specs.Reals.{ReadsNoReal};
 ghost use Rattle.rasn_calls.specs.Scopes.{OpensToRead, ClosesRead, ReadsAround, ScopesWell};
 
 use crate::parts::DecodeParts;
@@ -82,6 +83,10 @@ pub trait Decoder: Sized {
     ) -> Result<I, Self::Error>
         ensures { Reads rules (number_schema constraints.now I.range) (λ x. whole (I.number x))
             self.old result self.new };
+
+    /// Refuses to read a REAL (X.691 15): it isn't supported. Takes no memory.
+    fn decode_real(&mut self, tag: Tag, constraints: &Constraints) -> Result<(), Self::Error>
+        ensures { ReadsNoReal rules self.old result self.new };
 
     /// Reads a NULL (X.691 18). Takes no memory.
     fn decode_null(&mut self, tag: Tag) -> Result<(), Self::Error>

@@ -13,6 +13,7 @@ ghost use Rattle.rasn_calls.specs.Calls.{EncoderRules, freely, Writes, Encodes, 
 ghost use Rattle.rasn_schema.specs.Fields.{tag_of};
 ghost use Rattle.rasn_calls.specs.Choices.{ClosesChoice, OpensChoice, WritesChoice};
 ghost use Rattle.rasn_calls.specs.Lists.{Amid, OpensList, WritesNext, ClosesList};
+ghost use Rattle.rasn_calls.specs.Reals.{WritesNoReal};
 ghost use Rattle.rasn_calls.specs.Scopes.{OpensToWrite, ClosesWritten, WritesAround};
 
 use crate::parts::EncodeParts;
@@ -74,6 +75,15 @@ pub trait Encoder: Sized {
     ) -> Result<(), Self::Error>
         ensures { Writes rules (number_schema constraints.now I.range) (whole (I.number value.now))
             self.old result self.new };
+
+    /// Refuses a REAL (X.691 15): it isn't supported. Takes no memory.
+    fn encode_real(
+        &mut self,
+        tag: Tag,
+        constraints: &Constraints,
+        identifier: Identifier,
+    ) -> Result<(), Self::Error>
+        ensures { WritesNoReal rules self.old result self.new };
 
     /// Writes a NULL, no bits (X.691 18). Takes no memory.
     fn encode_null(&mut self, tag: Tag, identifier: Identifier) -> Result<(), Self::Error>

@@ -1,5 +1,6 @@
 //! The traits of values that can be encoded and decoded, and those of encoders and decoders.
 
+ghost use Rattle.std.specs.Prelude.{◌≡◌, true};
 ghost use Rattle.rasn_calls.specs.Calls.{Encodes, Reads};
 ghost use Rattle.rasn_schema.specs.Fields.{tag_of};
 ghost use Rattle.rasn_calls.specs.Choices.{TakesAlternative};
@@ -25,6 +26,13 @@ pub trait Encode: AsnType {
     ) -> Result<(), E::Error>
         ensures { Encodes E.rules (Self.schema constraints.now) (Self.levels self.now) (Self.value self.now)
             encoder.old result encoder.new };
+
+    /// Whether there is a value to write, as there is of each of these types.
+    final fn is_present(&self) -> bool
+        ensures { result ≡ true }
+    {
+        true
+    }
 
     /// Writes the value under its type's own tag, constraints and name.
     final fn encode<E: Encoder>(&self, encoder: &mut E) -> Result<(), E::Error>

@@ -14,6 +14,55 @@ use std::alloc::{AllocError, Global};
 
 /// What every decoder reads by the type of a value.
 pub trait DecoderExt: Decoder {
+    /// Reads a value whose type has an explicit tag (X.680 31): no tag is written in PER, so the value stands alone.
+    final fn decode_explicit_prefix<T: Decode>(&mut self, _tag: Tag) -> Result<T, Self::Error>
+        ensures { Reads Self.rules (T.schema T.CONSTRAINTS (Self.rules.levels self.old)) T.value
+            self.old result self.new }
+    {
+        T::decode(self)
+    }
+
+    /// Reads an optional component whose type has an explicit tag (X.680 31), which isn't written in PER.
+    final fn decode_optional_with_explicit_prefix<T: Decode>(
+        &mut self,
+        _tag: Tag,
+    ) -> Result<Option<T>, Self::Error>
+        ensures { ReadsComponent Self.rules optional (T.schema T.CONSTRAINTS (Self.rules.levels self.old))
+            (slot_of T.value) self.old result self.new }
+    {
+        self.decode_optional()
+    }
+
+    /// Reads an optional component under its type's own tag and constraints.
+    final fn decode_optional<T: Decode>(&mut self) -> Result<Option<T>, Self::Error>
+        ensures { ReadsComponent Self.rules optional (T.schema T.CONSTRAINTS (Self.rules.levels self.old))
+            (slot_of T.value) self.old result self.new }
+    {
+        self.decode_optional_with_tag(T::TAG)
+    }
+
+    /// Reads an optional component under a tag and its type's own constraints.
+    final fn decode_optional_with_tag<T: Decode>(
+        &mut self,
+        tag: Tag,
+    ) -> Result<Option<T>, Self::Error>
+        ensures { ReadsComponent Self.rules optional (T.schema T.CONSTRAINTS (Self.rules.levels self.old))
+            (slot_of T.value) self.old result self.new }
+    {
+        self.decode_optional_with_tag_and_constraints(tag, &T::CONSTRAINTS)
+    }
+
+    /// Reads an optional component under its type's own tag and under constraints.
+    final fn decode_optional_with_constraints<T: Decode>(
+        &mut self,
+        constraints: &Constraints,
+    ) -> Result<Option<T>, Self::Error>
+        ensures { ReadsComponent Self.rules optional (T.schema constraints.now (Self.rules.levels self.old))
+            (slot_of T.value) self.old result self.new }
+    {
+        self.decode_optional_with_tag_and_constraints(T::TAG, constraints)
+    }
+
     /// Reads an optional component: its presence bit, and behind a bit 1 its value (X.691 19.2).
     final fn decode_optional_with_tag_and_constraints<T: Decode>(
         &mut self,
@@ -28,6 +77,44 @@ pub trait DecoderExt: Decoder {
         }
         let value = T::decode_with_tag_and_constraints(self, tag, constraints)?;
         Ok(Some(value))
+    }
+
+    /// Reads a component with a default, under its type's own tag and constraints.
+    final fn decode_default<T: Decode, F: FnOnce(Global) -> Result<T, AllocError>>(
+        &mut self,
+        default: F,
+    ) -> Result<T, Self::Error>
+        requires { F.IsAlwaysCallable default }
+        ensures { ReadsDefault Self.rules (T.schema T.CONSTRAINTS (Self.rules.levels self.old)) T.value
+            (λ made. (alloc : _) × F.post default alloc made) self.old result self.new }
+    {
+        self.decode_default_with_tag(T::TAG, default)
+    }
+
+    /// Reads a component with a default, under a tag and its type's own constraints.
+    final fn decode_default_with_tag<T: Decode, F: FnOnce(Global) -> Result<T, AllocError>>(
+        &mut self,
+        tag: Tag,
+        default: F,
+    ) -> Result<T, Self::Error>
+        requires { F.IsAlwaysCallable default }
+        ensures { ReadsDefault Self.rules (T.schema T.CONSTRAINTS (Self.rules.levels self.old)) T.value
+            (λ made. (alloc : _) × F.post default alloc made) self.old result self.new }
+    {
+        self.decode_default_with_tag_and_constraints(tag, default, &T::CONSTRAINTS)
+    }
+
+    /// Reads a component with a default, under its type's own tag and under constraints.
+    final fn decode_default_with_constraints<T: Decode, F: FnOnce(Global) -> Result<T, AllocError>>(
+        &mut self,
+        default: F,
+        constraints: &Constraints,
+    ) -> Result<T, Self::Error>
+        requires { F.IsAlwaysCallable default }
+        ensures { ReadsDefault Self.rules (T.schema constraints.now (Self.rules.levels self.old)) T.value
+            (λ made. (alloc : _) × F.post default alloc made) self.old result self.new }
+    {
+        self.decode_default_with_tag_and_constraints(T::TAG, default, constraints)
     }
 
     /// Reads a component with a default: its presence bit, and behind a bit 1 its value, else what `default` gives

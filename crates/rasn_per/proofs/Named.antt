@@ -30,6 +30,7 @@ extra_nowhere a (Schema.octet_string z m) s n h = h
 extra_nowhere a (Schema.bit_string z m) s n h = h
 extra_nowhere a (Schema.char_string l z m) s n h = h
 extra_nowhere a (Schema.text k) s n h = h
+extra_nowhere a Schema.real s n h = h
 extra_nowhere a Schema.cut s n h = h
 extra_nowhere a _ s n h = h
 

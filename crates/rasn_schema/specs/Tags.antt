@@ -4,6 +4,8 @@ use Rattle.rasn_types.specs.Contents.{utf8, other, utc, generalized}
 use Rattle.rasn_types.specs.declared.types.Tag.{Tag}
 use Rattle.rasn_types.specs.declared.types.Class.{Class}
 use Rattle.rasn_types.specs.declared.types.Class.TheVariants.{Universal, Application, Context, Private}
+use Rattle.rasn_types.specs.declared.types.TheConstants.Tag.{EOC}
+use Rattle.rasn_schema.specs.Choices.{choice_at}
 use Rattle.rasn_schema.specs.Schemas
 use Rattle.rasn_schema.specs.Schemas.{Schema, Parts, Order, listed, by_tag}
 use Rattle.rasn_schema.specs.Records.{record_at}
@@ -59,3 +61,8 @@ pub sequence_tag : (root : ℕ → Parts) (extensible : Bool) (additions : ℕ �
     → IsTagOf (record { class = Universal; value = 16 }) (record_at listed root extensible additions)
 sequence_tag root extensible additions zero = refl
 sequence_tag root extensible additions (suc n) = refl
+
+-- a CHOICE has no tag of its own
+pub choice_tag : (alternatives : ℕ → Parts) → IsTagOf EOC (choice_at alternatives)
+choice_tag alternatives zero = refl
+choice_tag alternatives (suc n) = refl
