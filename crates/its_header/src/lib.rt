@@ -1,6 +1,7 @@
 //! The header of an intelligent transport message.
 #![tactic(auto)]
 
+pub mod area;
 pub mod direction;
 pub mod header;
 pub mod message;

@@ -8,7 +8,8 @@ ghost use Rattle.per_samples_c.specs.Colors.{color};
 ghost use Rattle.per_samples_c.specs.declared.colors.TwoColors.TheVariants.{A, B};
 
 use rasn_record::{
-    AsnType, ByKind, EnumeratedKind, ItemCounts, Items, OfKind, Place, item_at, item_counts, place_of_item,
+    AsnType, ByKind, EnumeratedKind, ItemCounts, Items, OfKind, Place, item_at, item_counts,
+    place_of_item,
 };
 
 /// ENUMERATED { a, ..., b }

@@ -1,6 +1,7 @@
 //! The traits of values that can be encoded and decoded, and how values of the plain types and records are.
 #![tactic(auto)]
 
+pub mod alternatives;
 pub mod boxed;
 pub mod codec;
 pub mod constrained;

@@ -8,7 +8,7 @@ ghost use Rattle.rasn_schema.specs.Schemas.{leaf, Parts, no_parts, part, require
 ghost use Rattle.rasn_schema.specs.Records.{own_or};
 ghost use Rattle.rasn_schema.specs.Fields.{Shape, shape_of, tag_of};
 ghost use Rattle.rasn_calls.specs.Scopes.{WritesParts, TakesParts};
-ghost use Rattle.rasn_record.specs.Lists.{behind, first_tag, first_given};
+ghost use Rattle.rasn_record.specs.Lists.{behind, first_tag, first_given, given};
 
 use rasn_calls::parts::{DecodeParts, EncodeParts};
 use rasn_codec::codec::{Decode, Decoder, Encode, Encoder};
@@ -96,6 +96,16 @@ pub(crate) fn first_tag(fields: &[Field], own: Tag) -> Tag
     match fields {
         [first, ..] => first.tag,
         [] => own,
+    }
+}
+
+/// Constraints that are given, or else a type's own.
+pub(crate) fn given(constraints: &'static [Constraint], own: Constraints) -> Constraints
+    ensures { result ≡ own_or own (given constraints.now) }
+{
+    match constraints {
+        [] => own,
+        _ => Constraints(constraints),
     }
 }
 

@@ -2,16 +2,21 @@
 //! a type of his own names.
 #![tactic(auto)]
 
+pub mod alternatives;
 pub mod cells;
+mod choices;
 mod items;
 mod macros;
 pub mod optionals;
 pub mod read;
 pub mod write;
 
+pub use rasn_codec::alternatives::CodedAlternatives;
 pub use rasn_codec::codec::{Decoder, Encoder};
 pub use rasn_codec::kinds::ByKind;
 pub use rasn_codec::record::Record;
+pub use rasn_schema::alternatives::{Alternatives, ChoiceKind};
+pub use rasn_schema::choices::{Variant, Variants};
 pub use rasn_schema::components::Components;
 pub use rasn_schema::constrained::{Constrained, Limits};
 pub use rasn_schema::constraints::{Bounded, Constraint, Extensible};

@@ -4,7 +4,7 @@ use Rattle.std.specs.Prelude.{◌≡◌, ℕ, zero, suc, ℤ, pos, neg_ℤ, true
 use Rattle.std.proofs.Common.{ap}
 use Rattle.rasn_types.specs.Alphabets.{visible, ia5, printable, numeric, bmp}
 use Rattle.rasn_types.specs.Contents.{utf8}
-use Rattle.rasn_types.specs.Values.{Value}
+use Rattle.rasn_types.specs.Values.{Value, alternative, root}
 use Rattle.rasn_constraints.specs.Bounds.{Bounds, between, unbounded}
 use Rattle.rasn_constraints.specs.Ranges.{no_constraints, within, signed_range, unsigned_range, i128_range}
 use Rattle.rasn_constraints.specs.declared.constraints.Bounded.TheVariants.{Range}
@@ -12,7 +12,7 @@ use Rattle.rasn_constraints.specs.declared.constraints.Constraints.{Constraints}
 use Rattle.rasn_constraints.specs.declared.constraints.Extensible.{Extensible}
 use Rattle.rasn_schema.specs.Schemas
 use Rattle.rasn_schema.specs.Schemas.{Schema, TagTree, TagTrees, leaf, one_of, no_trees, tree, Presence, Parts, no_parts, part, listed}
-use Rattle.rasn_schema.specs.Choices.{choice_at, choice_levelled}
+use Rattle.rasn_schema.specs.Choices.{choice_at, choice_levelled, tags_of}
 use Rattle.rasn_schema.specs.Fields.{Shape, field_tag, presence_of, shapes_from}
 use Rattle.rasn_schema.specs.Forms.{number_schema, octet_schema, bit_schema, character_schema, size_of, is_size_marked, always}
 use Rattle.rasn_schema.specs.Levels.{TakesNone, Levelled, LevelledParts, simple_levelled, parts_levelled, part_levelled, record_levelled}
@@ -83,6 +83,29 @@ abbrev pub content_at : List (Option Value) → ℕ → Option (Option Value)
 content_at [] i = None
 content_at (r ∷ rs) zero = Some r
 content_at (r ∷ rs) (suc i) = content_at rs i
+
+-- the tags by which alternatives go, in their order
+abbrev pub tags_in : List Component → List Schemas.Tag
+tags_in [] = []
+tags_in (c ∷ cs) = field_tag c.tags ∷ tags_in cs
+
+-- the tags are those of the alternatives at each number of levels
+pub tags_described : (cs : List Component) (n : ℕ) → tags_in cs ≡ tags_of (parts_of cs n)
+tags_described [] n = refl
+tags_described (c ∷ cs) n = ap (λ ts. field_tag c.tags ∷ ts) (tags_described cs n)
+
+-- X.680 29: the alternative that a choice's value is, by its place, and its own value
+pub record Chosen : Type 0 where
+  pub place : ℕ
+  pub value : Value
+
+-- the alternative at a place
+abbrev pub chosen : ℕ → Value → Chosen
+chosen i v = record { place = i; value = v }
+
+-- the value of a choice
+abbrev pub chosen_value : Chosen → Value
+chosen_value c = alternative root c.place c.value
 
 some_is : {A : Type 0} (x y : A) → Some x ≡ Some y → x ≡ y
 some_is x y e = cc

@@ -1,6 +1,7 @@
 //! How types state their schemas.
 #![tactic(auto)]
 
+pub mod alternatives;
 pub mod boxed;
 pub mod choices;
 pub mod components;
