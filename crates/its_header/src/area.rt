@@ -2,14 +2,15 @@
 
 ghost use Rattle.std.specs.Prelude.{pos, refl};
 ghost use Rattle.rasn_types.specs.Values.{whole, nothing};
-ghost use Rattle.rasn_schema.specs.Components.{chosen, tags_in};
+ghost use Rattle.rasn_schema.specs.Components.{chosen, variants_in};
 ghost use Rattle.its_header.specs.Areas.{area};
 ghost use Rattle.its_header.specs.declared.area.ActionArea.TheVariants.{Radius, Corner, Everywhere};
 
 use crate::position::ReferencePositionLite;
 use rasn_record::{
     Alternatives, AsnType, ByKind, ChoiceKind, CodedAlternatives, Constraint, Decoder, Encoder,
-    OfKind, Tag, Variants, alternative_bounds, decode_alternative, encode_alternative, variants,
+    OfKind, Tag, TagTree, Variants, alternative_bounds, decode_alternative, encode_alternative,
+    tags_of_choice, variants,
 };
 
 /// ActionArea ::= CHOICE { radius INTEGER (1..1000), corner ReferencePositionLite, everywhere NULL }
@@ -34,6 +35,9 @@ const VARIANTS: Variants = alternatives!(variants);
 
 const BOUNDS: &[&[Constraint]] = alternatives!(alternative_bounds);
 
+/// The tags of an untagged `ActionArea`.
+pub(crate) const AREA_TAGS: TagTree = alternatives!(tags_of_choice);
+
 impl OfKind for ActionArea {
     type Kind = ChoiceKind;
 }
@@ -41,7 +45,7 @@ impl OfKind for ActionArea {
 impl Alternatives for ActionArea {
     const ALTERNATIVES: Variants = VARIANTS;
 
-    ghost ALTERNATIVES = { tags_in area };
+    ghost ALTERNATIVES = { variants_in area };
 
     ghost alternatives = { area };
 

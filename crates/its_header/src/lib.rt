@@ -7,4 +7,6 @@ pub mod header;
 pub mod message;
 pub mod position;
 pub mod speed;
+pub mod spot;
 pub mod vehicle;
+pub mod warning;

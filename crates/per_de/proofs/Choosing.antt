@@ -2,7 +2,7 @@
 use Rattle.std.proofs.Common.{◌≡◌, ◌⊎◌, inr, refl, sym, ◌∙◌, ap, subst, arith, ℕ, zero, suc, ◌+◌, ◌<◌, Bool, false, [], length, List, Some, slice_get}
 use Rattle.std.specs.Prelude.{Result, Ok, Err}
 use Rattle.rasn_types.specs.Bits.{Bits}
-use Rattle.rasn_schema.specs.Choices.{alternative_at, choice_at, choice_of, place_of, tags_of, AreVariants}
+use Rattle.rasn_schema.specs.Choices.{VariantShape, alternative_at, choice_at, choice_of, go_by, place_of, tags_of, AreVariants}
 use Rattle.rasn_schema.specs.Schemas
 use Rattle.rasn_schema.specs.Schemas.{Schema, Parts, no_parts, part}
 use Rattle.rasn_schema.proofs.Places.{found_at}
@@ -70,5 +70,5 @@ alternative_there no_parts i h = absurd (omega arith)
 alternative_there (part t p s ps) zero h = (s, refl)
 alternative_there (part t p s ps) (suc i) h = alternative_there ps i (omega arith)
 
-pub place_found : (ts : List Schemas.Tag) (i : ℕ) (t : Schemas.Tag) → AreVariants ts → slice_get ts i ≡ Some t → place_of t ts ≡ Some i
-place_found ts i t v e = found_at ts i 0 t v.distinct e ∙ ap Some (let n : 0 + i ≡ i = omega arith in n)
+pub place_found : (vs : List VariantShape) (i : ℕ) (t : Schemas.Tag) → AreVariants vs → slice_get (go_by vs) i ≡ Some t → place_of t vs ≡ Some i
+place_found vs i t v e = found_at (go_by vs) i 0 t v.distinct e ∙ ap Some (let n : 0 + i ≡ i = omega arith in n)

@@ -1,6 +1,6 @@
 -- What the scope of a choice presents, and how it refuses.
 use Rattle.std.specs.Prelude.{Result, Ok, Err, OnOk, IsSome}
-use Rattle.std.proofs.Common.{◌≡◌, refl, sym, ap, ◌∙◌, subst, inl, ℕ, zero, suc, true, false, [], ◌∷◌, ◌++◌, length, replicate, Option, Some, None, arith, append_assoc, length-append, ◌+◌, ◌%◌, ◌<◌, ◌≤◌, le-leb, leb-true}
+use Rattle.std.proofs.Common.{◌≡◌, refl, sym, ap, ◌∙◌, subst, inl, ℕ, zero, suc, false, [], ◌++◌, length, replicate, Option, Some, None, arith, append_assoc, length-append, ◌+◌, ◌%◌, ◌<◌, ◌≤◌}
 use Rattle.std.proofs.lemmas.List.{length-replicate}
 use Rattle.rasn_types.specs.Bits.{Bits, to_bits}
 use Rattle.rasn_types.proofs.Bits.{length-to_bits}
@@ -13,7 +13,7 @@ use Rattle.rasn_calls.specs.Calls.{Written}
 use Rattle.rasn_calls.specs.Choices.{PassesChoice, OpenedChoice}
 use Rattle.per_core.specs.Canon.{canon, members, chosen, choice_of as choice_writer}
 use Rattle.per_core.specs.Counts.{constrained_whole}
-use Rattle.per_core.specs.Writers.{Writer, just, ◌▹◌, join, go_on, after}
+use Rattle.per_core.specs.Writers.{just, ◌▹◌, join, go_on, after}
 use Rattle.per_write.specs.Choices.{FillsIndexOrNot, IsFilled, OpensIndex, OpensIndexOrNot, index_width}
 use Rattle.per_write.specs.declared.error.EncodeError.{EncodeError}
 use Rattle.per_write.specs.declared.error.EncodeErrorKind.{EncodeErrorKind}

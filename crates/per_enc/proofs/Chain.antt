@@ -1,5 +1,5 @@
 -- What components write, one after another, in the scope of a record (ITU-T X.691, 19.2 to 19.5).
-use Rattle.std.proofs.Common.{◌≡◌, refl, sym, ap, ap₂, ◌∙◌, subst, ℕ, zero, suc, Bool, false, true, inl, inr, List, [], ◌∷◌, ◌++◌, length, replicate, set, Option, Some, None, arith, append-nil, append_assoc, length-append, ◌+◌, ◌%◌}
+use Rattle.std.proofs.Common.{◌≡◌, refl, sym, ap, ap₂, ◌∙◌, subst, ℕ, suc, Bool, false, true, inl, inr, List, [], ◌∷◌, ◌++◌, length, replicate, set, Option, Some, None, arith, append-nil, append_assoc, length-append, ◌+◌, ◌%◌}
 use Rattle.std.proofs.Math.Seq.{set-append_seam}
 use Rattle.std.proofs.lemmas.List.{length-replicate, length-set}
 use Rattle.rasn_types.specs.Bits.{Bits}

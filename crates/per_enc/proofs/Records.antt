@@ -1,6 +1,6 @@
 -- What the scope of a record presents, and how it refuses.
 use Rattle.std.specs.Prelude.{Result, Ok, Err}
-use Rattle.std.proofs.Common.{◌≡◌, refl, sym, ap, ap₂, ◌∙◌, subst, inl, ℕ, suc, false, true, List, [], ◌++◌, length, replicate, Option, Some, None, arith, append-nil, ◌+◌, ◌%◌, ◌<◌}
+use Rattle.std.proofs.Common.{◌≡◌, refl, sym, ap, ◌∙◌, subst, inl, ℕ, false, true, List, [], ◌++◌, length, replicate, Option, Some, None, arith, append-nil, ◌+◌, ◌%◌, ◌<◌}
 use Rattle.rasn_types.specs.Bits.{Bits}
 use Rattle.rasn_types.specs.Codecs.{variant_of}
 use Rattle.rasn_types.specs.Values.{Value}

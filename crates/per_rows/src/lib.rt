@@ -12,4 +12,5 @@ pub mod records;
 pub mod refusals;
 pub mod sets;
 pub mod strings;
+pub mod structures;
 pub mod versions;

@@ -53,8 +53,8 @@ impl<A: Allocator + Clone> Writer<A> {
         Ok(())
     }
 
-    /// The index of the alternative that goes by a tag, where there is one; else the tag is none of the choice's, and this
-    /// refuses. Takes no memory.
+    /// The index of the alternative that goes by a tag, where there is one; else the tag is none of the choice's, and
+    /// this refuses. Takes no memory.
     pub fn known_index(&mut self, index: Option<usize>) -> Result<usize, EncodeError>
         requires { self.old.failed ≡ false }
         ensures { KnowsIndex index self.old result self.new }

@@ -4,7 +4,7 @@ use Rattle.rasn_types.specs.Values.{Value, alternative, root}
 use Rattle.rasn_types.specs.declared.types.Tag.{Tag}
 use Rattle.rasn_schema.specs.Schemas
 use Rattle.rasn_schema.specs.Schemas.{Schema, Parts, no_parts, part}
-use Rattle.rasn_schema.specs.Choices.{alternative_at, choice_at, choice_of}
+use Rattle.rasn_schema.specs.Choices.{VariantShape, alternative_at, choice_at, choice_of}
 use Rattle.rasn_schema.specs.Fields.{tag_of}
 use Rattle.rasn_schema.specs.Normal.{normal, normal_at}
 use Rattle.rasn_calls.specs.Calls.{AtDepths, EncoderRules, Written, DecoderRules, Refuses, DecodesWell}
@@ -24,7 +24,7 @@ normal-alternative ps k s v e = ap (alternative root k) (at_place ps k s v e)
 
 module _ {E X : Type 0} (rules : EncoderRules E X) where
   -- a choice with an alternative that is refused
-  pub choice_refused : (alternatives : ℕ → Parts) (variants : List Schemas.Tag) (k : ℕ) (v : Value) (depth : ℕ) (x i j y : X) (e : E) → ((n : ℕ) → PassesChoice rules (alternatives n) x i)
+  pub choice_refused : (alternatives : ℕ → Parts) (variants : List VariantShape) (k : ℕ) (v : Value) (depth : ℕ) (x i j y : X) (e : E) → ((n : ℕ) → PassesChoice rules (alternatives n) x i)
       → AtAlternative alternatives k depth (λ s. AlternativeWritten rules variants k s (normal s v) i (Err e) j)
       → AtDepths (choice_at alternatives) (suc depth) (λ s. Written rules s (normal s (alternative root k v)) x (Err e) y)
   choice_refused alternatives variants k v depth x i j y e h w = at_suc (λ n le.
@@ -32,7 +32,7 @@ module _ {E X : Type 0} (rules : EncoderRules E X) where
       rw (normal-alternative (alternatives n) k a.0 v a.1) (elim a.2 [ inl m ↦ inl ((h n).room e m) | inr q ↦ inr ((h n).of_choice e k a.0 (normal a.0 v) a.1 q) ]))
 
   -- a choice whose alternative was presented
-  pub choice_closed : {O : Type 0} (opens : Schema → X → O → X → Type 0) (alternatives : ℕ → Parts) (variants : List Schemas.Tag) (k : ℕ) (v : Value) (depth : ℕ) (x i j : X) (o : O) (t : Tag)
+  pub choice_closed : {O : Type 0} (opens : Schema → X → O → X → Type 0) (alternatives : ℕ → Parts) (variants : List VariantShape) (k : ℕ) (v : Value) (depth : ℕ) (x i j : X) (o : O) (t : Tag)
       → ((n : ℕ) → opens (choice_of (alternatives n)) x o i) → AtAlternative alternatives k depth (λ s. AlternativeWritten rules variants k s (normal s v) i (Ok t) j)
       → (r : Result (Unit {0}) E) (y : X) → ClosesChoice rules opens alternatives variants o (tag_of t) j r y
       → AtDepths (choice_at alternatives) (suc depth) (λ s. Written rules s (normal s (alternative root k v)) x r y)
@@ -43,7 +43,7 @@ module _ {E X : Type 0} (rules : EncoderRules E X) where
 -- a choice, as the calls of a decoder read it
 module _ {S O E : Type 0} {rules : DecoderRules E S} {opens : Schema → ℕ → S → O → S → Type 0} {closes : S → O → S → Type 0}
     (L : DecodesWell rules) (K : ChoicesWell rules opens closes)
-    (alternatives : ℕ → Parts) (variants : List Schemas.Tag) (tag : Schemas.Tag) {s i : S} {o : O} (h : IsChosen rules opens alternatives variants tag s o i) where
+    (alternatives : ℕ → Parts) (variants : List VariantShape) (tag : Schemas.Tag) {s i : S} {o : O} (h : IsChosen rules opens alternatives variants tag s o i) where
   as_choice : (P : Schema → Type 0) → P (choice_of (alternatives (rules.levels i))) → P (choice_at alternatives (rules.levels s))
   as_choice P q = subst P (sym (ap (choice_at alternatives) h.deeper)) q
 

@@ -4,7 +4,7 @@ use Rattle.rasn_types.specs.Values.{Value, alternative, root}
 use Rattle.rasn_types.specs.declared.types.Tag.{Tag}
 use Rattle.rasn_schema.specs.Schemas
 use Rattle.rasn_schema.specs.Schemas.{Schema, Parts}
-use Rattle.rasn_schema.specs.Choices.{alternative_at, choice_at, choice_of, place_of}
+use Rattle.rasn_schema.specs.Choices.{VariantShape, alternative_at, choice_at, choice_of, place_of}
 use Rattle.rasn_schema.specs.Components.{Chosen}
 use Rattle.rasn_schema.specs.Fields.{tag_of}
 use Rattle.rasn_schema.specs.Normal.{normal}
@@ -32,28 +32,28 @@ pub record OpensChoice {E X O : Type 0} (rules : EncoderRules E X) (opens : Sche
 
 -- A call that closes one, in which the alternative was presented that goes by a tag: it answers as one call that writes the whole choice. A tag by which none
 -- goes is refused.
-pub record ClosesChoice {E X O : Type 0} (rules : EncoderRules E X) (opens : Schema → X → O → X → Type 0) (alternatives : ℕ → Parts) (variants : List Schemas.Tag) (o : O) (t : Schemas.Tag) (j : X) (result : Result (Unit {0}) E) (y : X) : Type 0 where
+pub record ClosesChoice {E X O : Type 0} (rules : EncoderRules E X) (opens : Schema → X → O → X → Type 0) (alternatives : ℕ → Parts) (variants : List VariantShape) (o : O) (t : Schemas.Tag) (j : X) (result : Result (Unit {0}) E) (y : X) : Type 0 where
   pub law : (x i : X) (n k : ℕ) (s : Schema) (v : Value) → opens (choice_of (alternatives n)) x o i → place_of t variants ≡ Some k → alternative_at (alternatives n) k ≡ Some s
       → rules.presents i s v j → Written rules (choice_of (alternatives n)) (alternative root k v) x result y
   pub known : OnOk result (IsSome (place_of t variants))
   pub behaves : Behaves rules.already rules.failed rules.codec j result y
 
 -- Ok answers the tag by which the alternative at a place goes, and presents its value; Err, memory aside, comes only where that is refused.
-abbrev pub AlternativeWritten : {E X : Type 0} → EncoderRules E X → List Schemas.Tag → ℕ → Schema → Value → X → Result Tag E → X → Type 0
+abbrev pub AlternativeWritten : {E X : Type 0} → EncoderRules E X → List VariantShape → ℕ → Schema → Value → X → Result Tag E → X → Type 0
 AlternativeWritten rules variants k s v x (Ok t) y = (place_of (tag_of t) variants ≡ Some k) × rules.presents x s v y
 AlternativeWritten rules variants k s v x (Err e) y = rules.memory e x ⊎ rules.refuses e x s v
 
 -- A call that writes the value of the alternative that is chosen, of so many levels, and answers the tag by which it goes.
-pub record WritesChosen {E X : Type 0} (rules : EncoderRules E X) (alternatives : ℕ → Parts) (variants : List Schemas.Tag) (c : Chosen) (depth : ℕ) (x : X) (result : Result Tag E) (y : X) : Type 0 where
+pub record WritesChosen {E X : Type 0} (rules : EncoderRules E X) (alternatives : ℕ → Parts) (variants : List VariantShape) (c : Chosen) (depth : ℕ) (x : X) (result : Result Tag E) (y : X) : Type 0 where
   pub law : AtAlternative alternatives c.place depth (λ s. AlternativeWritten rules variants c.place s (normal s c.value) x result y)
   pub behaves : Behaves rules.already rules.failed rules.codec x result y
 
 -- What a function owes that is lent an encoder to write the alternative at a place, a value of so many levels.
-pub record WritesAlternative {E X : Type 0} (rules : EncoderRules E X) (alternatives : ℕ → Parts) (variants : List Schemas.Tag) (k : ℕ) (v : Value) (depth : ℕ) (returns : X → Result Tag E → X → Type 0) : Type 0 where
+pub record WritesAlternative {E X : Type 0} (rules : EncoderRules E X) (alternatives : ℕ → Parts) (variants : List VariantShape) (k : ℕ) (v : Value) (depth : ℕ) (returns : X → Result Tag E → X → Type 0) : Type 0 where
   pub keeps : (x : X) (r : Result Tag E) (y : X) → returns x r y → AtAlternative alternatives k depth (λ s. AlternativeWritten rules variants k s (normal s v) x r y)
 
 -- A call that writes a choice by a function that is lent the encoder.
-pub record WritesChoice {E X : Type 0} (rules : EncoderRules E X) (alternatives : ℕ → Parts) (variants : List Schemas.Tag) (returns : X → Result Tag E → X → Type 0) (x : X) (result : Result (Unit {0}) E) (y : X) : Type 0 where
+pub record WritesChoice {E X : Type 0} (rules : EncoderRules E X) (alternatives : ℕ → Parts) (variants : List VariantShape) (returns : X → Result Tag E → X → Type 0) (x : X) (result : Result (Unit {0}) E) (y : X) : Type 0 where
   pub law : (k : ℕ) (v : Value) (depth : ℕ) → WritesAlternative rules alternatives variants k v depth returns
       → AtDepths (choice_at alternatives) (suc depth) (λ s. Written rules s (normal s (alternative root k v)) x result y)
   pub again : rules.failed x ≡ true → IsErrAnd result (λ e. rules.already e x)
@@ -71,13 +71,13 @@ abbrev pub ReadsAlternative : {E S : Type 0} → DecoderRules E S → ℕ → Sc
 ReadsAlternative rules k c s w t = (v : Value) × (w ≡ alternative root k v) × rules.spells c s v t
 
 -- A call that reads the alternative that goes by a tag, to the levels left.
-pub record TakesAlternative {E S T : Type 0} (rules : DecoderRules E S) (alternatives : ℕ → Parts) (variants : List Schemas.Tag) (tag : Schemas.Tag) (value : T → Value) (s : S) (result : Result T E) (t : S) : Type 0 where
+pub record TakesAlternative {E S T : Type 0} (rules : DecoderRules E S) (alternatives : ℕ → Parts) (variants : List VariantShape) (tag : Schemas.Tag) (value : T → Value) (s : S) (result : Result T E) (t : S) : Type 0 where
   pub law : (k : ℕ) (c : Schema) → place_of tag variants ≡ Some k → alternative_at (alternatives (rules.levels s)) k ≡ Some c
       → Answers rules.memory (rules.fault c) (ReadsAlternative rules k c) value s result t
   pub behaves : Behaves rules.already rules.failed rules.codec s result t
 
 -- Behind the index of a choice stands the alternative at its place, one level deeper.
-pub record IsChosen {E S O : Type 0} (rules : DecoderRules E S) (opens : Schema → ℕ → S → O → S → Type 0) (alternatives : ℕ → Parts) (variants : List Schemas.Tag) (tag : Schemas.Tag) (s : S) (o : O) (i : S) : Type 0 where
+pub record IsChosen {E S O : Type 0} (rules : DecoderRules E S) (opens : Schema → ℕ → S → O → S → Type 0) (alternatives : ℕ → Parts) (variants : List VariantShape) (tag : Schemas.Tag) (s : S) (o : O) (i : S) : Type 0 where
   pub deeper : rules.levels s ≡ suc (rules.levels i)
   pub index : ℕ
   pub place : place_of tag variants ≡ Some index
@@ -86,13 +86,13 @@ pub record IsChosen {E S O : Type 0} (rules : DecoderRules E S) (opens : Schema 
   pub opened : opens (choice_of (alternatives (rules.levels i))) index s o i
 
 -- Ok is behind an index, with the tag by which its alternative goes, and Err, memory aside, comes only where no choice is read.
-abbrev pub OpenedToChoose : {E S O : Type 0} → DecoderRules E S → (Schema → ℕ → S → O → S → Type 0) → (ℕ → Parts) → List Schemas.Tag → S → Result (Tag × O) E → S → Type 0
+abbrev pub OpenedToChoose : {E S O : Type 0} → DecoderRules E S → (Schema → ℕ → S → O → S → Type 0) → (ℕ → Parts) → List VariantShape → S → Result (Tag × O) E → S → Type 0
 OpenedToChoose rules opens alternatives variants s (Ok r) i = IsChosen rules opens alternatives variants (tag_of r.0) s r.1 i
 OpenedToChoose rules opens alternatives variants s (Err e) i =
     let c = choice_at alternatives (rules.levels s) in rules.memory e s ⊎ Refuses (rules.spells c) (rules.fault c) e s
 
 -- A call that reads the index of a choice.
-pub record OpensToChoose {E S O : Type 0} (rules : DecoderRules E S) (opens : Schema → ℕ → S → O → S → Type 0) (alternatives : ℕ → Parts) (variants : List Schemas.Tag) (s : S) (result : Result (Tag × O) E) (t : S) : Type 0 where
+pub record OpensToChoose {E S O : Type 0} (rules : DecoderRules E S) (opens : Schema → ℕ → S → O → S → Type 0) (alternatives : ℕ → Parts) (variants : List VariantShape) (s : S) (result : Result (Tag × O) E) (t : S) : Type 0 where
   pub law : OpenedToChoose rules opens alternatives variants s result t
   pub behaves : Behaves rules.already rules.failed rules.codec s result t
 

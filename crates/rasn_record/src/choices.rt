@@ -16,8 +16,8 @@
 //! }
 //! ```
 //!
-//! `variants`, `alternative_bounds`, `encode_alternative` and `decode_alternative` are for authors. What the others
-//! write is part of these.
+//! `variants`, `tags_of_choice`, `alternative_bounds`, `encode_alternative` and `decode_alternative` are for authors.
+//! What the others write is part of these.
 
 /// The tags of a list of alternatives, as `Variants`.
 #[macro_export]
@@ -29,6 +29,14 @@ macro_rules! variants {
                 tag_tree: $crate::TagTree::Leaf($crate::context_tag!($tag)),
             }),*],
         }
+    };
+}
+
+/// The tags of a list of alternatives, as the `TagTree` of an untagged choice.
+#[macro_export]
+macro_rules! tags_of_choice {
+    ([] $($tag:literal $name:literal $variant:ident $(: $type:ty [$($bounds:tt)*])?;)*) => {
+        $crate::TagTree::Choice(&[$($crate::TagTree::Leaf($crate::context_tag!($tag))),*])
     };
 }
 

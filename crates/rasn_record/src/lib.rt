@@ -5,9 +5,9 @@
 pub mod alternatives;
 pub mod cells;
 mod choices;
+pub mod components;
 mod items;
 mod macros;
-pub mod optionals;
 pub mod read;
 pub mod write;
 

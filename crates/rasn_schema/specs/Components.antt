@@ -12,7 +12,7 @@ use Rattle.rasn_constraints.specs.declared.constraints.Constraints.{Constraints}
 use Rattle.rasn_constraints.specs.declared.constraints.Extensible.{Extensible}
 use Rattle.rasn_schema.specs.Schemas
 use Rattle.rasn_schema.specs.Schemas.{Schema, TagTree, TagTrees, leaf, one_of, no_trees, tree, Presence, Parts, no_parts, part, listed}
-use Rattle.rasn_schema.specs.Choices.{choice_at, choice_levelled, tags_of}
+use Rattle.rasn_schema.specs.Choices.{VariantShape, choice_at, choice_levelled, variants_of}
 use Rattle.rasn_schema.specs.Fields.{Shape, field_tag, presence_of, shapes_from}
 use Rattle.rasn_schema.specs.Forms.{number_schema, octet_schema, bit_schema, character_schema, size_of, is_size_marked, always}
 use Rattle.rasn_schema.specs.Levels.{TakesNone, Levelled, LevelledParts, simple_levelled, parts_levelled, part_levelled, record_levelled}
@@ -49,7 +49,7 @@ sequence_levelled cs = record_levelled (components_levelled cs) parts_levelled
 -- the fields of components, in order, counted from a number
 abbrev pub fields_from : ℕ → List Component → List Shape
 fields_from i [] = []
-fields_from i (c ∷ cs) = record { index = i; tag = field_tag c.tags; presence = presence_of c.presence } ∷ fields_from (suc i) cs
+fields_from i (c ∷ cs) = record { index = i; tag = field_tag c.tags; tree = Some c.tags; presence = presence_of c.presence } ∷ fields_from (suc i) cs
 
 -- the fields of components, in order
 abbrev pub fields_of : List Component → List Shape
@@ -57,7 +57,7 @@ fields_of cs = fields_from 0 cs
 
 fields_from_parts : (i : ℕ) (cs : List Component) (n : ℕ) → fields_from i cs ≡ shapes_from i (parts_of cs n)
 fields_from_parts i [] n = refl
-fields_from_parts i (c ∷ cs) n = ap (λ fs. record { index = i; tag = field_tag c.tags; presence = presence_of c.presence } ∷ fs) (fields_from_parts (suc i) cs n)
+fields_from_parts i (c ∷ cs) n = ap (λ fs. record { index = i; tag = field_tag c.tags; tree = Some c.tags; presence = presence_of c.presence } ∷ fs) (fields_from_parts (suc i) cs n)
 
 -- the fields are those of the components at each number of levels
 pub fields_described : (cs : List Component) (n : ℕ) → fields_of cs ≡ shapes_from 0 (parts_of cs n)
@@ -84,15 +84,15 @@ content_at [] i = None
 content_at (r ∷ rs) zero = Some r
 content_at (r ∷ rs) (suc i) = content_at rs i
 
--- the tags by which alternatives go, in their order
-abbrev pub tags_in : List Component → List Schemas.Tag
-tags_in [] = []
-tags_in (c ∷ cs) = field_tag c.tags ∷ tags_in cs
+-- the variants of alternatives, in their order
+abbrev pub variants_in : List Component → List VariantShape
+variants_in [] = []
+variants_in (c ∷ cs) = record { tag = field_tag c.tags; tree = Some c.tags } ∷ variants_in cs
 
--- the tags are those of the alternatives at each number of levels
-pub tags_described : (cs : List Component) (n : ℕ) → tags_in cs ≡ tags_of (parts_of cs n)
-tags_described [] n = refl
-tags_described (c ∷ cs) n = ap (λ ts. field_tag c.tags ∷ ts) (tags_described cs n)
+-- the variants are those of the alternatives at each number of levels
+pub variants_described : (cs : List Component) (n : ℕ) → variants_in cs ≡ variants_of (parts_of cs n)
+variants_described [] n = refl
+variants_described (c ∷ cs) n = ap (λ vs. record { tag = field_tag c.tags; tree = Some c.tags } ∷ vs) (variants_described cs n)
 
 -- X.680 29: the alternative that a choice's value is, by its place, and its own value
 pub record Chosen : Type 0 where
@@ -307,19 +307,19 @@ sequence_of c element = record {
   levelled = list_levelled (size_of c) (is_size_marked c) element.levelled;
 }
 
-abbrev pub trees_of : List Component → TagTrees
-trees_of [] = no_trees
-trees_of (c ∷ cs) = tree c.tags (trees_of cs)
+abbrev pub alternative_tags : List Component → TagTrees
+alternative_tags [] = no_trees
+alternative_tags (c ∷ cs) = tree c.tags (alternative_tags cs)
 
 -- X.691 21.1: the tags of an untagged CHOICE, which has an alternative (X.680 29); where there is none, 0 stands for a tag
-abbrev pub tree_of : List Component → TagTree
-tree_of [] = universal 0
-tree_of (c ∷ cs) = one_of c.tags (trees_of cs)
+abbrev pub choice_tags : List Component → TagTree
+choice_tags [] = universal 0
+choice_tags (c ∷ cs) = one_of c.tags (alternative_tags cs)
 
 -- CHOICE, untagged
 abbrev pub choice : List Component → Component
 choice cs = record {
-  tags = tree_of cs;
+  tags = choice_tags cs;
   presence = Schemas.required;
   schema = choice_at (parts_of cs);
   levelled = choice_levelled (components_levelled cs);

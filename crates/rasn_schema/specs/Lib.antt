@@ -11,4 +11,5 @@ pub mod Normal
 pub mod Orders
 pub mod Records
 pub mod Schemas
+pub mod TagCodes
 pub mod Tags

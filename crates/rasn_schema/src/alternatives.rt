@@ -3,9 +3,8 @@
 ghost use Rattle.std.specs.Prelude.{◌≡◌, ℕ, suc, List, refl};
 ghost use Rattle.std.proofs.Common.{◌∙◌};
 ghost use Rattle.rasn_types.specs.declared.types.TheConstants.Tag.{EOC};
-ghost use Rattle.rasn_schema.specs.Choices.{AreVariants, choice_at, choice_levelled};
-ghost use Rattle.rasn_schema.specs.Components.{Component, Chosen, chosen_value, parts_of, components_levelled, tags_in, tags_described};
-ghost use Rattle.rasn_schema.specs.Schemas.{Tag};
+ghost use Rattle.rasn_schema.specs.Choices.{AreVariants, VariantShape, choice_at, choice_levelled};
+ghost use Rattle.rasn_schema.specs.Components.{Component, Chosen, chosen_value, parts_of, components_levelled, variants_in, variants_described};
 ghost use Rattle.rasn_schema.specs.Tags.{choice_tag};
 
 use crate::choices::{Choice, Variants};
@@ -14,12 +13,10 @@ use rasn_types::types::Tag;
 
 /// The alternatives of a CHOICE (X.680 29).
 pub trait Alternatives {
-    ghost use Rattle.rasn_schema.specs.Schemas.{Tag};
-
     /// The alternatives, in the order of their indexes (X.691 23.5).
     const ALTERNATIVES: Variants;
 
-    ghost ALTERNATIVES: { List Tag };
+    ghost ALTERNATIVES: { List VariantShape };
 
     // The alternatives, each as a component.
     ghost alternatives: { List Component };
@@ -31,7 +28,7 @@ pub trait Alternatives {
     ghost depth: { Self → ℕ } = { λ _. 0 };
 
     // The variants are those of the alternatives.
-    ghost described: { ALTERNATIVES ≡ tags_in alternatives };
+    ghost described: { ALTERNATIVES ≡ variants_in alternatives };
 
     // No two alternatives go by one tag, and there aren't too many.
     ghost are_variants: { AreVariants ALTERNATIVES };
@@ -63,7 +60,7 @@ impl<T: Alternatives + OfKind<Kind = ChoiceKind>> Choice for T {
 
     ghost alternatives = { parts_of T.alternatives };
 
-    ghost described = { λ n. T.described ∙ tags_described T.alternatives n };
+    ghost described = { λ n. T.described ∙ variants_described T.alternatives n };
 
     ghost are_variants = { T.are_variants };
 

@@ -2,7 +2,7 @@
 
 ghost use Rattle.std.specs.Prelude.{◌≡◌, ◌<◌, ℕ, Some, length, map, slice_get};
 ghost use Rattle.std.specs.List.{position_from};
-ghost use Rattle.rasn_schema.specs.Choices.{AreVariants, choice_at, place_of, tags_of, variant_tag};
+ghost use Rattle.rasn_schema.specs.Choices.{AreVariants, VariantShape, choice_at, go_by, place_of, variant_shape, variants_of};
 ghost use Rattle.rasn_schema.specs.Fields.{tag_of};
 ghost use Rattle.rasn_schema.specs.Lawful.{same_tag};
 ghost use Rattle.rasn_schema.specs.Schemas.{Parts};
@@ -30,12 +30,15 @@ pub struct Variants {
 
 impl Model for Variants {
     ghost use Rattle.std.specs.Prelude.{List, map};
-    ghost use Rattle.rasn_schema.specs.Schemas.{Tag};
-    ghost use Rattle.rasn_schema.specs.Choices.{variant_tag};
+    ghost use Rattle.std.specs.Coded.{codes};
+    ghost use Rattle.rasn_schema.specs.Choices.{VariantShape, variant_shape};
+    ghost use Rattle.rasn_schema.specs.TagCodes.{tree_code};
 
-    ghost Value = { List Tag };
+    ghost Value = { List VariantShape };
 
-    ghost view = { λ variants. map variant_tag variants.list.now };
+    ghost coded = { Prim.hlevel (codes, tree_code) };
+
+    ghost view = { λ variants. map variant_shape variants.list.now };
 }
 
 impl Variants {
@@ -49,7 +52,7 @@ impl Variants {
     /// The tag that the alternative at an index goes by.
     pub fn tag_at(&self, index: usize) -> Tag
         requires { index < length self.now }
-        ensures { slice_get self.now index ≡ Some (tag_of result) }
+        ensures { slice_get (go_by self.now) index ≡ Some (tag_of result) }
     {
         tag_in(self.list, index)
     }
@@ -65,14 +68,14 @@ impl Variants {
 /// The tag that the alternative at an index of a list goes by.
 fn tag_in(list: &[Variant], index: usize) -> Tag
     requires { index < length list.now }
-    ensures { slice_get (map variant_tag list.now) index ≡ Some (tag_of result) }
+    ensures { slice_get (go_by (map variant_shape list.now)) index ≡ Some (tag_of result) }
 {
     list[index].tag
 }
 
 /// The index of the alternative of a list that goes by a tag, or none.
 fn index_in(list: &[Variant], tag: Tag) -> Option<usize>
-    ensures { result ≡ position_from (λ v. same_tag (tag_of tag) (variant_tag v)) 0 list.now }
+    ensures { result ≡ position_from (λ v. same_tag (tag_of tag) (tag_of v.tag)) 0 list.now }
 {
     list.iter()
         .position(|variant| is_same_tag(tag, variant.tag))
@@ -88,19 +91,18 @@ fn is_same_tag(tag: Tag, other: Tag) -> bool
 /// A CHOICE (X.680 29), by its root alternatives.
 pub trait Choice: AsnType {
     ghost use Rattle.std.specs.Prelude.{List};
-    ghost use Rattle.rasn_schema.specs.Schemas.{Tag};
     ghost use Rattle.rasn_constraints.specs.declared.constraints.Constraints.{Constraints};
 
     /// The root alternatives, in the order of their indexes (X.691 23.5).
     const VARIANTS: Variants;
 
-    ghost VARIANTS: { List Tag };
+    ghost VARIANTS: { List VariantShape };
 
     // The root alternatives, to a number of levels.
     ghost alternatives: { ℕ → Parts };
 
     // The variants are those of the alternatives.
-    ghost described: { (n : ℕ) → VARIANTS ≡ tags_of (alternatives n) };
+    ghost described: { (n : ℕ) → VARIANTS ≡ variants_of (alternatives n) };
 
     // No two alternatives go by one tag, and there aren't too many.
     ghost are_variants: { AreVariants VARIANTS };

@@ -53,9 +53,13 @@ pub struct Fields {
 
 impl Model for Fields {
     ghost use Rattle.std.specs.Prelude.{List, map};
+    ghost use Rattle.std.specs.Coded.{codes};
     ghost use Rattle.rasn_schema.specs.Fields.{Shape, shape_of};
+    ghost use Rattle.rasn_schema.specs.TagCodes.{tree_code};
 
     ghost Value = { List Shape };
+
+    ghost coded = { Prim.hlevel (codes, tree_code) };
 
     ghost view = { λ fields. map shape_of fields.list.now };
 }

@@ -1,5 +1,4 @@
 use Rattle.std.proofs.Common.{rules}
-use Rattle.std.proofs.lemmas.Result.{err_from_is_err_and}
 use Rattle.per_enc.proofs.Records.{closes_record, not_failed_inside}
 use Rattle.per_enc.proofs.EncoderEncoder.close_sequence.Goals as goal
 

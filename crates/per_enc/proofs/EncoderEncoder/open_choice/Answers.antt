@@ -1,4 +1,5 @@
-use Rattle.std.proofs.Common.{ap, ◌∙◌, length, rules}
+use Rattle.std.proofs.Common.{◌∙◌, rules}
+use Rattle.rasn_schema.specs.Choices.{variants_counted}
 use Rattle.per_enc.proofs.Alternatives.{opens_choice}
 use Rattle.per_enc.proofs.EncoderEncoder.open_choice.Goals as goal
 
@@ -7,6 +8,6 @@ returns g c =
     let alternatives = g.C.Choice.alternatives in
     record {
       law = rw (← c.self.view_is) (opens_choice alternatives _ c.self.inside.writer _ c.open_choice.result
-          (λ n. c.len.ensures ∙ ap length (c.VARIANTS.ensures ∙ g.C.Choice.described n)) c.open_choice.ensures);
+          (λ n. c.len.ensures ∙ variants_counted (alternatives n) (c.VARIANTS.ensures ∙ g.C.Choice.described n)) c.open_choice.ensures);
       behaves = search rules;
     }
