@@ -8,7 +8,7 @@ use Rattle.rasn_schema.specs.Schemas.{Schema}
 use Rattle.rasn_schema.specs.Choices.{choice_at}
 use Rattle.rasn_schema.specs.Forms.{always}
 use Rattle.rasn_schema.specs.Lists.{list_at}
-use Rattle.rasn_schema.specs.Components.{lower_bound, upper_bound, sequence_of}
+use Rattle.rasn_schema.specs.Components.{lower_bound, upper_bound, sequence_at}
 use Rattle.per_samples_a.specs.Absents.{one_default}
 use Rattle.per_samples_a.specs.Fours.{four}
 use Rattle.per_samples_a.specs.Sevens.{seven}
@@ -43,23 +43,23 @@ schema_of FromMinusOne = always (Schema.number (lower_bound (negsuc 0)) false un
 schema_of Natural = always (Schema.number (lower_bound (pos 0)) false unbounded)
 schema_of ZeroTo65536 = always (Schema.number (between (pos 0) (pos 65536)) false unbounded)
 schema_of OneToTenExtensible = always (Schema.number (between (pos 1) (pos 10)) true unbounded)
-schema_of Four = sequence_of four
-schema_of Seven = sequence_of seven
-schema_of OneDefault = sequence_of one_default
+schema_of Four = sequence_at four
+schema_of Seven = sequence_at seven
+schema_of OneDefault = sequence_at one_default
 schema_of ShortVisible = always (Schema.char_string visible (one_to 3) true)
 schema_of LettersAToE = always (Schema.char_string (from_to 5 65) (one_to 20) false)
 schema_of BitString = always (Schema.bit_string any_size false)
 schema_of OctetString = always (Schema.octet_string any_size false)
 schema_of OnlyX = always (Schema.char_string (120 ∷ []) any_size false)
-schema_of Items = sequence_of with_item
-schema_of Byte = sequence_of byte
-schema_of MaybeEmpty = sequence_of maybe_empty
+schema_of Items = sequence_at with_item
+schema_of Byte = sequence_at byte
+schema_of MaybeEmpty = sequence_at maybe_empty
 schema_of Nested = choice_at outer_parts
-schema_of Nest = sequence_of nest
-schema_of Bytes = list_at (sequence_of byte) any_size false
+schema_of Nest = sequence_at nest
+schema_of Bytes = list_at (sequence_at byte) any_size false
 schema_of Nulls = list_at (always Schema.null) (one_to 300) false
 schema_of NullList = list_at (always Schema.null) any_size false
-schema_of Elements = sequence_of elements
+schema_of Elements = sequence_at elements
 
 -- octets are read as one value, whose canonical octets these are
 pub record Recodes (a : Variant) (schema : ℕ → Schema) (octets canonical : List ℕ) : Type 0 where

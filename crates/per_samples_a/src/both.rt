@@ -11,7 +11,8 @@ ghost use Rattle.rasn_schema.specs.Tags.{sequence_tag};
 ghost use Rattle.per_samples_a.specs.Boths.{both_parts, both_contents};
 
 use rasn_codec::codec::{Decode, Decoder, Encode, Encoder};
-use rasn_record::cells::{End, Listed, Required};
+use rasn_record::cells::{Cell, End, Listed};
+use rasn_record::components::Required;
 use rasn_schema::fields::{Constructed, Field, Fields, Presence, TagTree};
 use rasn_schema::schema::{AsnType, Constraints};
 use rasn_types::types::{Class, Identifier, Tag};
@@ -102,10 +103,10 @@ impl<A: Encode, B: Encode> Encode for Both<A, B> {
         let parts = Listed {
             fields: FIELDS,
             constraints: &[],
-            cells: Required {
-                value: &self.a,
-                next: Required {
-                    value: &self.b,
+            cells: Cell {
+                component: Required(&self.a),
+                next: Cell {
+                    component: Required(&self.b),
                     next: End {},
                 },
             },
@@ -124,10 +125,10 @@ impl<A: Decode, B: Decode> Decode for Both<A, B> {
         let parts = Listed {
             fields: FIELDS,
             constraints: &[],
-            cells: Required {
-                value: PhantomData::<A>,
-                next: Required {
-                    value: PhantomData::<B>,
+            cells: Cell {
+                component: Required(PhantomData::<A>),
+                next: Cell {
+                    component: Required(PhantomData::<B>),
                     next: End {},
                 },
             },

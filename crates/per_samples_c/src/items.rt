@@ -1,24 +1,17 @@
 //! An ENUMERATED of 256 items, and a SEQUENCE with one of them.
 
-ghost use Rattle.std.specs.Prelude.{refl, true, false, [], ◌∷◌, Some};
+ghost use Rattle.std.specs.Prelude.{refl, true, [], ◌∷◌, Some};
 ghost use Rattle.rasn_types.specs.Values.{item, root, truth};
 ghost use Rattle.rasn_types.specs.Variants.{aligned, unaligned};
-ghost use Rattle.rasn_types.specs.declared.types.TheConstants.Tag.{ENUMERATED};
-ghost use Rattle.rasn_constraints.specs.Ranges.{no_constraints};
-ghost use Rattle.rasn_schema.specs.Schemas.{Schema};
 ghost use Rattle.rasn_schema.specs.Components.{fields_of};
-ghost use Rattle.rasn_schema.specs.Forms.{always};
-ghost use Rattle.rasn_schema.specs.Levels.{simple_levelled};
+ghost use Rattle.rasn_schema.specs.Enumerations.{all_items};
 ghost use Rattle.per_samples_a.specs.Rows.{IsWrittenAs};
 ghost use Rattle.per_samples_c.specs.Items.{with_item};
 
-use rasn_codec::codec::{Decode, Decoder, Encode, Encoder};
 use rasn_record::{
-    Components, Constraint, Fields, Record, bounds, decode_components, encode_components, fields,
+    AsnType, ByKind, Components, Constraint, Decoder, Encoder, EnumeratedKind, Fields, ItemCounts,
+    Items, OfKind, Place, Record, bounds, decode_components, encode_components, fields,
 };
-use rasn_schema::enumerated::Enumerated;
-use rasn_schema::schema::{AsnType, Constraints};
-use rasn_types::types::{Identifier, Tag};
 
 /// ENUMERATED of 256 items, none of them after an extension marker
 #[derive(Clone, Copy, Debug, PartialEq, Eq)]
@@ -27,87 +20,34 @@ pub struct ItemOf256 {
     pub index: u8,
 }
 
-impl AsnType for ItemOf256 {
-    const TAG: Tag = Tag::ENUMERATED;
-
-    ghost TAG = { ENUMERATED };
-
-    const CONSTRAINTS: Constraints = Constraints::NONE;
-
-    ghost CONSTRAINTS = { no_constraints };
-
-    ghost schema = { λ _. always (Schema.items 256 0 false) };
-
-    ghost value = { λ x. item root x.index };
-
-    ghost levelled = { λ _. simple_levelled (Schema.items 256 0 false) tt };
-
-    ghost tag_fits = { λ _ _. refl };
+impl OfKind for ItemOf256 {
+    type Kind = EnumeratedKind;
 }
 
-impl Enumerated for ItemOf256 {
-    const EXTENSIBLE: bool = false;
+impl Items for ItemOf256 {
+    const ITEMS: ItemCounts = ItemCounts {
+        roots: 256,
+        addeds: None,
+    };
 
-    ghost EXTENSIBLE = { false };
+    ghost ITEMS = { all_items 256 };
 
-    ghost roots = { 256 };
+    ghost item = { λ x. item root x.index };
 
-    ghost addeds = { 0 };
-
-    fn variance() -> usize {
-        256
+    fn place(&self) -> Place {
+        Place::Root(usize::from(self.index))
     }
 
-    fn extended_variance() -> usize {
-        0
-    }
-
-    fn enumeration_index(&self) -> usize {
-        usize::from(self.index)
-    }
-
-    fn is_extended_variant(&self) -> bool {
-        false
-    }
-
-    fn from_enumeration_index(index: usize) -> Option<ItemOf256> {
+    fn at(place: Place) -> Option<ItemOf256> {
+        let Place::Root(index) = place else {
+            return None;
+        };
         let index = u8::try_from(index).ok()?;
         Some(ItemOf256 { index })
     }
-
-    fn from_extended_enumeration_index(_index: usize) -> Option<ItemOf256> {
-        None
-    }
-
-    ghost marked = { refl };
-
-    ghost is_enumerated = { λ _. refl };
 }
 
-impl Encode for ItemOf256 {
-    #[tactic(auto, unfolding(rasn_schema::specs::Normal::normal))]
-    fn encode_with_tag_and_constraints<E: Encoder>(
-        &self,
-        encoder: &mut E,
-        tag: Tag,
-        constraints: &Constraints,
-        identifier: Identifier,
-    ) -> Result<(), E::Error> {
-        let _ = constraints;
-        encoder.encode_enumerated(tag, self, identifier)
-    }
-}
-
-impl Decode for ItemOf256 {
-    fn decode_with_tag_and_constraints<D: Decoder>(
-        decoder: &mut D,
-        tag: Tag,
-        constraints: &Constraints,
-    ) -> Result<ItemOf256, D::Error> {
-        let _ = constraints;
-        decoder.decode_enumerated(tag)
-    }
-}
+impl ByKind for ItemOf256 {}
 
 /// SEQUENCE { a BOOLEAN, e ENUMERATED of 256 items }
 #[derive(Clone, Copy, Debug, PartialEq, Eq)]

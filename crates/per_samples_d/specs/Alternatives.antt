@@ -1,10 +1,7 @@
 -- CHOICE { x BOOLEAN, y INTEGER (0..7) }
-use Rattle.std.specs.Prelude.{ℕ, pos, List, [], ◌∷◌}
-use Rattle.rasn_types.specs.Values.{Value, truth, whole, alternative, root}
-use Rattle.rasn_schema.specs.Choices.{choice_at, choice_levelled}
-use Rattle.rasn_schema.specs.Components.{Component, parts_of, components_levelled, automatic, boolean, integer, u8, ◌to◌}
-use Rattle.rasn_schema.specs.Levels.{Levelled}
-use Rattle.rasn_schema.specs.Schemas.{Parts}
+use Rattle.std.specs.Prelude.{pos, List, [], ◌∷◌}
+use Rattle.rasn_types.specs.Values.{truth, whole}
+use Rattle.rasn_schema.specs.Components.{Component, Chosen, chosen, automatic, boolean, integer, u8, ◌to◌}
 use Rattle.per_samples_d.specs.declared.alternative.Alternative.{Alternative}
 use Rattle.per_samples_d.specs.declared.alternative.Alternative.TheVariants.{X, Y}
 
@@ -12,14 +9,7 @@ use Rattle.per_samples_d.specs.declared.alternative.Alternative.TheVariants.{X, 
 abbrev pub alternatives : List Component
 alternatives = automatic (boolean ∷ integer u8 (0 to 7) ∷ [])
 
--- the alternatives, to a number of levels
-abbrev pub parts : ℕ → Parts
-parts = parts_of alternatives
-
-pub levelled : Levelled (choice_at parts)
-levelled = choice_levelled (components_levelled alternatives)
-
--- the value of the alternative that is chosen
-abbrev pub chosen : Alternative → Value
-chosen (X x) = alternative root 0 (truth x)
-chosen (Y y) = alternative root 1 (whole (pos y.value))
+-- the alternative that a value is
+abbrev pub alternative_of : Alternative → Chosen
+alternative_of (X x) = chosen 0 (truth x)
+alternative_of (Y y) = chosen 1 (whole (pos y.value))

@@ -2,27 +2,17 @@
 use Rattle.std.specs.Prelude.{◌≡◌, ℕ, List, [], ◌∷◌, Some, refl}
 use Rattle.rasn_types.specs.Values.{Value, alternative, root, nothing}
 use Rattle.rasn_schema.specs.Choices.{VariantShape, choice_at, choice_levelled, variants_of}
-use Rattle.rasn_schema.specs.Components.{Component, parts_of, components_levelled, sequence, sequence_value, null, under, at}
+use Rattle.rasn_schema.specs.Components.{Component, parts_of, components_levelled, choice, chosen_value, sequence, sequence_value, null, under, at}
 use Rattle.rasn_schema.specs.Levels.{Levelled}
-use Rattle.rasn_schema.specs.Schemas.{Parts, leaf, one_of, tree, no_trees, required, smallest}
+use Rattle.rasn_schema.specs.Schemas.{Parts, leaf, one_of, tree, no_trees, smallest}
 use Rattle.per_samples_a.specs.Pairs.{pair, pair_contents}
-use Rattle.per_samples_d.specs.Alternatives
-use Rattle.per_samples_d.specs.Alternatives.{chosen}
+use Rattle.per_samples_d.specs.Alternatives.{alternatives, alternative_of}
 use Rattle.per_samples_d.specs.declared.nested.Nested.{Nested}
 use Rattle.per_samples_d.specs.declared.nested.Nested.TheVariants.{Record, Inner, Last}
 
--- an untagged choice, by the tags of its alternatives
-abbrev pub inner : Component
-inner = record {
-  tags = one_of (at 0) (tree (at 1) no_trees);
-  presence = required;
-  schema = choice_at Alternatives.parts;
-  levelled = Alternatives.levelled;
-}
-
 -- the alternatives, each as a component
 abbrev pub nested : List Component
-nested = sequence pair ∷ inner ∷ under (at 2) null ∷ []
+nested = sequence pair ∷ choice alternatives ∷ under (at 2) null ∷ []
 
 -- the alternatives, to a number of levels
 abbrev pub nested_parts : ℕ → Parts
@@ -35,7 +25,7 @@ nested_levelled = choice_levelled (components_levelled nested)
 abbrev pub nested_variants : List VariantShape
 nested_variants =
     record { tag = record { class = 0; number = 16 }; tree = Some (leaf (record { class = 0; number = 16 })) } ∷
-    record { tag = record { class = 2; number = 0 }; tree = Some inner.tags } ∷
+    record { tag = record { class = 2; number = 0 }; tree = Some (one_of (at 0) (tree (at 1) no_trees)) } ∷
     record { tag = record { class = 2; number = 2 }; tree = Some (at 2) } ∷ []
 
 pub nested_described : (n : ℕ) → nested_variants ≡ variants_of (nested_parts n)
@@ -45,7 +35,7 @@ nested_described n = refl
 -- the value of the alternative that is chosen
 abbrev pub nested_chosen : Nested → Value
 nested_chosen (Record r) = alternative root 0 (sequence_value (pair_contents r.a r.b))
-nested_chosen (Inner c) = alternative root 1 (chosen c)
+nested_chosen (Inner c) = alternative root 1 (chosen_value (alternative_of c))
 nested_chosen Last = alternative root 2 nothing
 
 -- one more than that of the alternative

@@ -11,7 +11,7 @@ ghost use Rattle.per_samples_d.specs.Nesteds.{nested_parts, nested_levelled, nes
 ghost use Rattle.per_samples_d.specs.declared.alternative.Alternative.TheVariants.{X, Y};
 ghost use Rattle.per_samples_d.specs.declared.nested.Nested.TheVariants.{Record, Inner, Last};
 
-use crate::alternative::{Alternative, TAG_OF_X, TAG_OF_Y};
+use crate::alternative::{ALTERNATIVE_TAGS, Alternative};
 use per_samples_a::pair::Pair;
 use rasn_codec::codec::{Decode, DecodeChoice, Decoder, DecoderExt, Encode, Encoder, EncoderExt};
 use rasn_schema::choices::{Choice, Variant, Variants};
@@ -47,6 +47,12 @@ impl AsnType for Nested {
     ghost tag_fits = { λ _. choice_tag nested_parts };
 }
 
+/// The smallest tag of the inner choice.
+const TAG_OF_X: Tag = Tag {
+    class: Class::Context,
+    value: 0,
+};
+
 /// The tag of the last alternative.
 const TAG_OF_LAST: Tag = Tag {
     class: Class::Context,
@@ -60,7 +66,7 @@ const VARIANTS: &[Variant] = &[
     },
     Variant {
         tag: TAG_OF_X,
-        tag_tree: TagTree::Choice(&[TagTree::Leaf(TAG_OF_X), TagTree::Leaf(TAG_OF_Y)]),
+        tag_tree: ALTERNATIVE_TAGS,
     },
     Variant {
         tag: TAG_OF_LAST,

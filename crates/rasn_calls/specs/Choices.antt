@@ -5,6 +5,7 @@ use Rattle.rasn_types.specs.declared.types.Tag.{Tag}
 use Rattle.rasn_schema.specs.Schemas
 use Rattle.rasn_schema.specs.Schemas.{Schema, Parts}
 use Rattle.rasn_schema.specs.Choices.{VariantShape, alternative_at, choice_at, choice_of, place_of}
+use Rattle.rasn_schema.specs.Components.{Chosen}
 use Rattle.rasn_schema.specs.Fields.{tag_of}
 use Rattle.rasn_schema.specs.Normal.{normal}
 use Rattle.rasn_calls.specs.Calls.{AtDepths, Behaves, EncoderRules, Encodes, Written, DecoderRules, Refuses, Answers}
@@ -41,6 +42,11 @@ pub record ClosesChoice {E X O : Type 0} (rules : EncoderRules E X) (opens : Sch
 abbrev pub AlternativeWritten : {E X : Type 0} → EncoderRules E X → List VariantShape → ℕ → Schema → Value → X → Result Tag E → X → Type 0
 AlternativeWritten rules variants k s v x (Ok t) y = (place_of (tag_of t) variants ≡ Some k) × rules.presents x s v y
 AlternativeWritten rules variants k s v x (Err e) y = rules.memory e x ⊎ rules.refuses e x s v
+
+-- A call that writes the value of the alternative that is chosen, of so many levels, and answers the tag by which it goes.
+pub record WritesChosen {E X : Type 0} (rules : EncoderRules E X) (alternatives : ℕ → Parts) (variants : List VariantShape) (c : Chosen) (depth : ℕ) (x : X) (result : Result Tag E) (y : X) : Type 0 where
+  pub law : AtAlternative alternatives c.place depth (λ s. AlternativeWritten rules variants c.place s (normal s c.value) x result y)
+  pub behaves : Behaves rules.already rules.failed rules.codec x result y
 
 -- What a function owes that is lent an encoder to write the alternative at a place, a value of so many levels.
 pub record WritesAlternative {E X : Type 0} (rules : EncoderRules E X) (alternatives : ℕ → Parts) (variants : List VariantShape) (k : ℕ) (v : Value) (depth : ℕ) (returns : X → Result Tag E → X → Type 0) : Type 0 where

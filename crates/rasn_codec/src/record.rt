@@ -3,10 +3,10 @@
 ghost use Rattle.rasn_schema.specs.Components.{parts_of};
 ghost use Rattle.rasn_calls.specs.Scopes.{WritesParts, TakesParts};
 
-use crate::codec::{Decode, Decoder, Encode, Encoder};
+use crate::codec::{Decoder, Encoder};
+use crate::kinds::{DecodeKind, EncodeKind};
 use rasn_calls::parts::{DecodeParts, EncodeParts};
-use rasn_schema::components::Components;
-use rasn_schema::schema::Constraints;
+use rasn_schema::components::{Components, SequenceKind};
 use rasn_types::types::{Identifier, Tag};
 use std::marker::PhantomData;
 
@@ -55,24 +55,19 @@ impl<T: Record> DecodeParts for Read<T> {
     }
 }
 
-impl<T: Record> Encode for T {
-    fn encode_with_tag_and_constraints<E: Encoder>(
-        &self,
+impl<T: Record> EncodeKind<T> for SequenceKind {
+    fn encode_value<E: Encoder>(
+        value: &T,
         encoder: &mut E,
         tag: Tag,
-        _: &Constraints,
         identifier: Identifier,
     ) -> Result<(), E::Error> {
-        encoder.encode_record::<T, _, _>(tag, &Written(self), identifier)
+        encoder.encode_record::<T, _, _>(tag, &Written(value), identifier)
     }
 }
 
-impl<T: Record> Decode for T {
-    fn decode_with_tag_and_constraints<D: Decoder>(
-        decoder: &mut D,
-        tag: Tag,
-        _: &Constraints,
-    ) -> Result<T, D::Error> {
+impl<T: Record> DecodeKind<T> for SequenceKind {
+    fn decode_value<D: Decoder>(decoder: &mut D, tag: Tag) -> Result<T, D::Error> {
         decoder.decode_record::<T, _>(tag, &Read(PhantomData::<T>))
     }
 }

@@ -3,11 +3,11 @@ use Rattle.std.proofs.Common.{◌≡◌, refl, inl, inr, ℕ, Bool, true, false,
 use Rattle.std.specs.Prelude.{pos}
 use mathlib.Core.Bool.{beq}
 use Rattle.rasn_types.specs.Values.{Value, truth, whole, same, code}
-use Rattle.rasn_schema.specs.Schemas.{TagTree, Presence, optional, default, Schema, Parts, part}
+use Rattle.rasn_schema.specs.Schemas.{TagTree, Presence, required, optional, group, default, Schema, Parts, part}
 use Rattle.rasn_schema.specs.Normal.{normal, normals, settle}
-use Rattle.rasn_calls.specs.Calls.{EncoderRules, PresentsWell}
-use Rattle.rasn_calls.specs.Scopes.{PresentsPart, presents_required, presents_there, presents_left_out, presents_next, refuses_here, refuses_behind, WrittenPart, WrittenParts}
-use Rattle.rasn_record.specs.Slots.{normal_slot}
+use Rattle.rasn_calls.specs.Calls.{EncoderRules, Written, PresentsWell, DecoderRules, Answers}
+use Rattle.rasn_calls.specs.Scopes.{PresentsPart, presents_required, presents_there, presents_left_out, presents_next, refuses_here, refuses_behind, refuses_required, WrittenPart, WrittenParts, FaultyPart, faulty_required, ReadsPart, reads_required, reads_there, reads_left_out}
+use Rattle.rasn_record.specs.Slots.{IsComponent, normal_slot}
 
 module _ {E X : Type 0} (rules : EncoderRules E X) where
   -- want of memory behind a component is want of memory of the whole
@@ -30,14 +30,33 @@ module _ {E X : Type 0} (rules : EncoderRules E X) where
   part_refused t p s ps x y r rs e (inr h) = inr (refuses_here h)
 
 -- the normal form of the first component
-pub optional_normal : (t : TagTree) (s : Schema) (ps : Parts) (r : Option Value) (rs : List (Option Value)) → normals (part t optional s ps) (r ∷ rs) ≡ normal_slot s r ∷ normals ps rs
+pub part_normal : (t : TagTree) (p : Presence) (s : Schema) (ps : Parts) (r : Option Value) (rs : List (Option Value)) → IsComponent p → normals (part t p s ps) (r ∷ rs) ≡ normal_slot s r ∷ normals ps rs
 unfolding normal settle
-optional_normal t s ps None rs = refl
-optional_normal t s ps (Some v) rs = refl
+part_normal t required s ps None rs h = refl
+part_normal t required s ps (Some v) rs h = refl
+part_normal t optional s ps None rs h = refl
+part_normal t optional s ps (Some v) rs h = refl
+part_normal t group s ps r rs h = absurd h
+part_normal t (default d) s ps None rs h = refl
+part_normal t (default d) s ps (Some v) rs h = refl
 
-pub default_normal : (d : Value) (t : TagTree) (s : Schema) (ps : Parts) (v : Value) (rs : List (Option Value)) → normals (part t (default d) s ps) (Some v ∷ rs) ≡ Some (normal s v) ∷ normals ps rs
-unfolding normal settle
-default_normal d t s ps v rs = refl
+-- a required component is written as its value
+pub value_written : {E X : Type 0} (rules : EncoderRules E X) (s : Schema) (v : Value) (x : X) (result : Result (Unit {0}) E) (y : X) → Written rules s v x result y → WrittenPart rules required s (Some v) x result y
+value_written rules s v x (Ok u) y h = presents_required h
+value_written rules s v x (Err e) y (inl m) = inl m
+value_written rules s v x (Err e) y (inr h) = inr (refuses_required h)
+
+-- and read as it
+required_of : {E S : Type 0} {rules : DecoderRules E S} {c : Schema} {s t : S} {r : Option Value} → ReadsPart rules required c s r t → (v : Value) × rules.spells c s v t
+required_of (reads_required {v = v} h) = (v, h)
+required_of (reads_there e m h) = absurd cc
+required_of (reads_left_out e m) = absurd cc
+
+pub value_taken : {E S T : Type 0} (rules : DecoderRules E S) (c : Schema) (value : T → Value) (s : S) (result : Result T E) (t : S) → Answers rules.memory (rules.fault c) (rules.spells c) value s result t
+    → Answers rules.memory (λ e. FaultyPart rules e required c) (ReadsPart rules required c) (λ x. Some (value x)) s result t
+value_taken rules c value s (Ok x) t h = reads_required h
+value_taken rules c value s (Err e) t (inl m) = inl m
+value_taken rules c value s (Err e) t (inr r) = inr (record { nothing = λ w u a. let q = required_of a in r.nothing q.0 u q.1; stands = faulty_required r.stands })
 
 -- whether two values are one, of truth values and of numbers
 pub same_truth : (a b : Bool) → beq a b ≡ same (truth a) (truth b)

@@ -3,7 +3,7 @@ use Rattle.std.specs.Prelude.{List, [], ◌∷◌, Option, Some, None}
 use Rattle.std.specs.Borrow.{Bor}
 use Rattle.rasn_constraints.specs.Constraints.{Effective, effective}
 use Rattle.rasn_constraints.specs.declared.constraints.Constraint.{Constraint}
-use Rattle.rasn_schema.specs.Schemas.{Tag}
+use Rattle.rasn_schema.specs.Schemas.{Tag, TagTree}
 use Rattle.rasn_schema.specs.Fields.{Shape}
 
 -- those behind the first
@@ -15,6 +15,16 @@ behind (x ∷ xs) = xs
 abbrev pub first_tag : Tag → List Shape → Tag
 first_tag own [] = own
 first_tag own (f ∷ fs) = f.tag
+
+-- the tags of a field, or else those of a type
+abbrev pub tree_or : TagTree → Option TagTree → TagTree
+tree_or own None = own
+tree_or own (Some t) = t
+
+-- the tags of the first field; where there is none, those of a type
+abbrev pub first_tree : TagTree → List Shape → TagTree
+first_tree own [] = own
+first_tree own (f ∷ fs) = tree_or own f.tree
 
 -- constraints that stand in the place of a type's own: those of a list, where it has some
 abbrev pub given : List Constraint → Option Effective

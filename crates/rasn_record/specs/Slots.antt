@@ -1,7 +1,7 @@
 -- One component of a record, as a cell writes it.
 use Rattle.std.specs.Prelude.{◌≡◌, ℕ, Bool, Result, Option, Some, None}
 use Rattle.rasn_types.specs.Values.{Value, same}
-use Rattle.rasn_schema.specs.Schemas.{Presence, Schema}
+use Rattle.rasn_schema.specs.Schemas.{Presence, group, Schema}
 use Rattle.rasn_schema.specs.Normal.{normal}
 use Rattle.rasn_calls.specs.Calls.{AtDepths, Behaves, EncoderRules}
 use Rattle.rasn_calls.specs.Scopes.{WrittenPart}
@@ -10,6 +10,11 @@ use Rattle.rasn_calls.specs.Scopes.{WrittenPart}
 abbrev pub slot_levels : {T : Type 0} → (T → ℕ) → Option T → ℕ
 slot_levels levels None = 0
 slot_levels levels (Some x) = levels x
+
+-- a presence other than an addition group's
+abbrev pub IsComponent : Presence → Type 0
+IsComponent group = ⊥
+IsComponent _ = Unit {0}
 
 -- the normal form of a component that isn't an addition group
 abbrev pub normal_slot : Schema → Option Value → Option Value

@@ -1,22 +1,22 @@
 //! Cells, of which the list of a record's components is made. Their tags and constraints stand in lists beside them.
 
-ghost use Rattle.std.specs.Prelude.{◌≡◌, ℕ, max, List, [], ◌∷◌, Option, Some, map};
+ghost use Rattle.std.specs.Prelude.{◌≡◌, ℕ, max, List, [], ◌∷◌, Option, map};
 ghost use Rattle.std.specs.Borrow.{Bor};
 ghost use Rattle.rasn_types.specs.Values.{Value};
 ghost use Rattle.rasn_constraints.specs.declared.constraints.Constraint.{Constraint};
-ghost use Rattle.rasn_schema.specs.Schemas.{leaf, Parts, no_parts, part, required};
+ghost use Rattle.rasn_schema.specs.Schemas.{Parts, no_parts, part};
 ghost use Rattle.rasn_schema.specs.Records.{own_or};
-ghost use Rattle.rasn_schema.specs.Fields.{Shape, shape_of, tag_of};
+ghost use Rattle.rasn_schema.specs.Fields.{Shape, shape_of, tag_of, tagged};
 ghost use Rattle.rasn_calls.specs.Scopes.{WritesParts, TakesParts};
-ghost use Rattle.rasn_record.specs.Lists.{behind, first_tag, first_given};
+ghost use Rattle.rasn_record.specs.Lists.{behind, first_tag, first_tree, first_given, given};
 
+use crate::components::{DecodeComponent, EncodeComponent};
 use rasn_calls::parts::{DecodeParts, EncodeParts};
-use rasn_codec::codec::{Decode, Decoder, Encode, Encoder};
+use rasn_codec::codec::{Decoder, Encoder};
 use rasn_schema::constraints::Constraint;
 use rasn_schema::fields::Field;
-use rasn_schema::schema::Constraints;
+use rasn_schema::schema::{AsnType, Constraints};
 use rasn_types::types::Tag;
-use std::marker::PhantomData;
 
 /// Components of a record that are still to be written, of which lists state the tags and the constraints.
 pub trait EncodeCells {
@@ -66,13 +66,11 @@ pub trait DecodeCells {
 #[derive(Clone, Copy)]
 pub struct End {}
 
-/// A required component, and those behind it.
-///
-/// To write, `value` is a reference to what the component is; to read, it is `PhantomData` of its type.
+/// A component, and those behind it.
 #[derive(Clone, Copy)]
-pub struct Required<V, N> {
-    /// What the component is.
-    pub value: V,
+pub struct Cell<C, N> {
+    /// The component.
+    pub component: C,
     /// The components behind it.
     pub next: N,
 }
@@ -99,13 +97,23 @@ pub(crate) fn first_tag(fields: &[Field], own: Tag) -> Tag
     }
 }
 
+/// Constraints that are given, or else a type's own.
+pub(crate) fn given(constraints: &'static [Constraint], own: Constraints) -> Constraints
+    ensures { result ≡ own_or own (given constraints.now) }
+{
+    match constraints {
+        [] => own,
+        _ => Constraints(constraints),
+    }
+}
+
 /// The constraints that the first component is given, or else a type's own.
 pub(crate) fn given_or_own(constraints: &[&'static [Constraint]], own: Constraints) -> Constraints
     ensures { result ≡ own_or own (first_given constraints.now) }
 {
     match constraints {
-        [] | [[], ..] => own,
-        [first, ..] => Constraints(first),
+        [] => own,
+        [first, ..] => given(first, own),
     }
 }
 
@@ -138,13 +146,13 @@ impl EncodeCells for End {
     }
 }
 
-impl<'a, H: Encode, N: EncodeCells> EncodeCells for Required<&'a H, N> {
-    ghost parts = { λ p fs cs n. part (leaf (first_tag (tag_of H.TAG) fs)) required
-        (H.schema (own_or H.CONSTRAINTS (first_given cs)) n) (N.parts p.next (behind fs) (behind cs) n) };
+impl<C: EncodeComponent, N: EncodeCells> EncodeCells for Cell<C, N> {
+    ghost parts = { λ p fs cs n. part (first_tree (tagged C.Of.TAG) fs) (C.presence p.component)
+        (C.Of.schema (own_or C.Of.CONSTRAINTS (first_given cs)) n) (N.parts p.next (behind fs) (behind cs) n) };
 
-    ghost contents = { λ p. Some (H.value p.value.now) ∷ N.contents p.next };
+    ghost contents = { λ p. C.slot p.component ∷ N.contents p.next };
 
-    ghost levels = { λ p. max (H.levels p.value.now) (N.levels p.next) };
+    ghost levels = { λ p. max (C.levels p.component) (N.levels p.next) };
 
     fn encode_cells<E: Encoder>(
         &self,
@@ -152,10 +160,9 @@ impl<'a, H: Encode, N: EncodeCells> EncodeCells for Required<&'a H, N> {
         constraints: &[&'static [Constraint]],
         encoder: &mut E,
     ) -> Result<(), E::Error> {
-        let tag = first_tag(fields, H::TAG);
-        let in_use = given_or_own(constraints, H::CONSTRAINTS);
-        self.value
-            .encode_with_tag_and_constraints(encoder, tag, &in_use, H::IDENTIFIER)?;
+        let tag = first_tag(fields, <C::Of as AsnType>::TAG);
+        let in_use = given_or_own(constraints, <C::Of as AsnType>::CONSTRAINTS);
+        self.component.encode_component(encoder, tag, &in_use)?;
         self.next
             .encode_cells(behind(fields), behind(constraints), encoder)
     }
@@ -192,23 +199,23 @@ impl DecodeCells for End {
     }
 }
 
-impl<H: Decode, N: DecodeCells> DecodeCells for Required<PhantomData<H>, N> {
-    type Values = (H, N::Values);
+impl<C: DecodeComponent, N: DecodeCells> DecodeCells for Cell<C, N> {
+    type Values = (C::Value, N::Values);
 
-    ghost parts = { λ p fs cs n. part (leaf (first_tag (tag_of H.TAG) fs)) required
-        (H.schema (own_or H.CONSTRAINTS (first_given cs)) n) (N.parts p.next (behind fs) (behind cs) n) };
+    ghost parts = { λ p fs cs n. part (first_tree (tagged C.Of.TAG) fs) (C.presence p.component)
+        (C.Of.schema (own_or C.Of.CONSTRAINTS (first_given cs)) n) (N.parts p.next (behind fs) (behind cs) n) };
 
-    ghost contents = { λ values. Some (H.value values.0) ∷ N.contents values.1 };
+    ghost contents = { λ values. C.slot values.0 ∷ N.contents values.1 };
 
     fn decode_cells<D: Decoder>(
         &self,
         fields: &[Field],
         constraints: &[&'static [Constraint]],
         decoder: &mut D,
-    ) -> Result<(H, N::Values), D::Error> {
-        let tag = first_tag(fields, H::TAG);
-        let in_use = given_or_own(constraints, H::CONSTRAINTS);
-        let value = H::decode_with_tag_and_constraints(decoder, tag, &in_use)?;
+    ) -> Result<(C::Value, N::Values), D::Error> {
+        let tag = first_tag(fields, <C::Of as AsnType>::TAG);
+        let in_use = given_or_own(constraints, <C::Of as AsnType>::CONSTRAINTS);
+        let value = self.component.decode_component(decoder, tag, &in_use)?;
         let next = self
             .next
             .decode_cells(behind(fields), behind(constraints), decoder)?;

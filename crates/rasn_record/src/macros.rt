@@ -18,6 +18,9 @@
 //! }
 //! ```
 //!
+//! A component that is an untagged choice has the smallest of its tags, and behind `of` a constant of all of them, as
+//! `tags_of_choice` gives it: `required 0 of AREA_TAGS "area" area: ActionArea [];`.
+//!
 //! `fields`, `bounds`, `constraints`, `encode_components` and `decode_components` are for authors, and so are
 //! `encode_each_component` and `decode_each_component`, by which a mistake is found. What the others write is part of
 //! these.
@@ -31,7 +34,10 @@ macro_rules! fields {
 /// The constraints of a list of components, as `&[&[Constraint]]`.
 #[macro_export]
 macro_rules! bounds {
-    ([] $($presence:ident $tag:literal $name:literal $field:ident: $type:ty [$($bounds:tt)*];)*) => {
+    ([] $(
+        $presence:ident $tag:literal $(of $tree:ident)? $name:literal
+        $field:ident: $type:ty [$($bounds:tt)*];
+    )*) => {
         &[$($crate::constraints!($($bounds)*)),*]
     };
 }
@@ -130,7 +136,10 @@ macro_rules! encode_each_component {
 /// Reads the components of a list in turn. Their fields are in the constant `FIELDS`, their constraints in `BOUNDS`.
 #[macro_export]
 macro_rules! decode_components {
-    ([$decoder:ident] $($presence:ident $tag:literal $name:literal $field:ident: $type:ty [$($bounds:tt)*];)*) => {{
+    ([$decoder:ident] $(
+        $presence:ident $tag:literal $(of $tree:ident)? $name:literal
+        $field:ident: $type:ty [$($bounds:tt)*];
+    )*) => {{
         let cells = $crate::listed!($crate::cells_to_read!($($presence $type [$($bounds)*];)*));
         let $crate::pairs!($($field)*) = $crate::read::all::<Self, _, _>(&cells, $decoder)?;
         Ok(Self { $($field),* })
@@ -171,6 +180,13 @@ macro_rules! context_tag {
     };
 }
 
+/// The tags of a component: its context-specific tag, or those of an untagged choice.
+#[macro_export]
+macro_rules! tag_tree {
+    ($tag:literal) => { $crate::TagTree::Leaf($crate::context_tag!($tag)) };
+    ($tag:literal $tree:ident) => { $tree };
+}
+
 /// Whether a component may be absent.
 #[macro_export]
 macro_rules! presence {
@@ -184,14 +200,15 @@ macro_rules! presence {
 macro_rules! placed_fields {
     ($places:tt [$($done:tt)*];) => { $crate::Fields { list: &[$($done)*] } };
     ([$place:literal $($places:tt)*] [$($done:tt)*];
-        $presence:ident $tag:literal $name:literal $field:ident: $type:ty [$($bounds:tt)*]; $($rest:tt)*
+        $presence:ident $tag:literal $(of $tree:ident)? $name:literal
+        $field:ident: $type:ty [$($bounds:tt)*]; $($rest:tt)*
     ) => {
         $crate::placed_fields!([$($places)*] [
             $($done)*
             $crate::Field {
                 index: $place,
                 tag: $crate::context_tag!($tag),
-                tag_tree: $crate::TagTree::Leaf($crate::context_tag!($tag)),
+                tag_tree: $crate::tag_tree!($tag $($tree)?),
                 presence: $crate::presence!($presence),
                 name: $name,
             },
@@ -216,7 +233,8 @@ macro_rules! listed {
 macro_rules! cells_to_write {
     ($of:ident) => { $crate::cells::End {} };
     ($of:ident
-        $presence:ident $tag:literal $name:literal $field:ident: $type:ty [$($bounds:tt)*]; $($rest:tt)*
+        $presence:ident $tag:literal $(of $tree:ident)? $name:literal
+        $field:ident: $type:ty [$($bounds:tt)*]; $($rest:tt)*
     ) => {
         $crate::cell!(
             $presence [$($bounds)*],
@@ -242,17 +260,23 @@ macro_rules! cells_to_read {
 /// A cell in front of others.
 #[macro_export]
 macro_rules! cell {
-    (required [$($bounds:tt)*], $value:expr, $next:expr) => {
-        $crate::cells::Required { value: $value, next: $next }
+    ($presence:ident [$($bounds:tt)*], $value:expr, $next:expr) => {
+        $crate::cells::Cell {
+            component: $crate::component!($presence [$($bounds)*], $value),
+            next: $next,
+        }
     };
-    (optional [$($bounds:tt)*], $value:expr, $next:expr) => {
-        $crate::optionals::Optional { value: $value, next: $next }
-    };
-    (default [$($bounds:tt)*], $value:expr, $next:expr) => {
-        $crate::optionals::Default {
+}
+
+/// One component.
+#[macro_export]
+macro_rules! component {
+    (required [$($bounds:tt)*], $value:expr) => { $crate::components::Required($value) };
+    (optional [$($bounds:tt)*], $value:expr) => { $crate::components::Optional($value) };
+    (default [$($bounds:tt)*], $value:expr) => {
+        $crate::components::Default {
             value: $value,
             default: $crate::default_of!($($bounds)*),
-            next: $next,
         }
     };
 }
@@ -262,13 +286,14 @@ macro_rules! cell {
 macro_rules! stated_to_write {
     ($places:tt [$of:ident];) => { () };
     ([$place:literal $($places:tt)*] [$of:ident];
-        optional $tag:literal $name:literal $field:ident: $type:ty [$($bounds:tt)*]; $($rest:tt)*
+        optional $tag:literal $(of $tree:ident)? $name:literal $field:ident: $type:ty [$($bounds:tt)*]; $($rest:tt)*
     ) => { $crate::stated_to_write!([$($places)*] [$of]; $($rest)*) };
     ([$place:literal $($places:tt)*] [$of:ident];
-        default $tag:literal $name:literal $field:ident: $type:ty [$($bounds:tt)*]; $($rest:tt)*
+        default $tag:literal $(of $tree:ident)? $name:literal $field:ident: $type:ty [$($bounds:tt)*]; $($rest:tt)*
     ) => { $crate::stated_to_write!([$($places)*] [$of]; $($rest)*) };
     ([$place:literal $($places:tt)*] [$of:ident];
-        $presence:ident $tag:literal $name:literal $field:ident: $type:ty [$($bounds:tt)*]; $($rest:tt)*
+        $presence:ident $tag:literal $(of $tree:ident)? $name:literal
+        $field:ident: $type:ty [$($bounds:tt)*]; $($rest:tt)*
     ) => {{
         let $field = $crate::write::component::<Self, $type>($of, $place, $tag, BOUNDS, &$of.$field);
         let _ = $field;
@@ -281,13 +306,14 @@ macro_rules! stated_to_write {
 macro_rules! stated_to_read {
     ($places:tt [];) => { () };
     ([$place:literal $($places:tt)*] [];
-        optional $tag:literal $name:literal $field:ident: $type:ty [$($bounds:tt)*]; $($rest:tt)*
+        optional $tag:literal $(of $tree:ident)? $name:literal $field:ident: $type:ty [$($bounds:tt)*]; $($rest:tt)*
     ) => { $crate::stated_to_read!([$($places)*] []; $($rest)*) };
     ([$place:literal $($places:tt)*] [];
-        default $tag:literal $name:literal $field:ident: $type:ty [$($bounds:tt)*]; $($rest:tt)*
+        default $tag:literal $(of $tree:ident)? $name:literal $field:ident: $type:ty [$($bounds:tt)*]; $($rest:tt)*
     ) => { $crate::stated_to_read!([$($places)*] []; $($rest)*) };
     ([$place:literal $($places:tt)*] [];
-        $presence:ident $tag:literal $name:literal $field:ident: $type:ty [$($bounds:tt)*]; $($rest:tt)*
+        $presence:ident $tag:literal $(of $tree:ident)? $name:literal
+        $field:ident: $type:ty [$($bounds:tt)*]; $($rest:tt)*
     ) => {{
         let $field = $crate::read::component::<Self, $type>($place, $tag, BOUNDS);
         let _ = $field;
@@ -300,13 +326,14 @@ macro_rules! stated_to_read {
 macro_rules! stated_as_read {
     ($places:tt [$of:ident];) => { () };
     ([$place:literal $($places:tt)*] [$of:ident];
-        optional $tag:literal $name:literal $field:ident: $type:ty [$($bounds:tt)*]; $($rest:tt)*
+        optional $tag:literal $(of $tree:ident)? $name:literal $field:ident: $type:ty [$($bounds:tt)*]; $($rest:tt)*
     ) => { $crate::stated_as_read!([$($places)*] [$of]; $($rest)*) };
     ([$place:literal $($places:tt)*] [$of:ident];
-        default $tag:literal $name:literal $field:ident: $type:ty [$($bounds:tt)*]; $($rest:tt)*
+        default $tag:literal $(of $tree:ident)? $name:literal $field:ident: $type:ty [$($bounds:tt)*]; $($rest:tt)*
     ) => { $crate::stated_as_read!([$($places)*] [$of]; $($rest)*) };
     ([$place:literal $($places:tt)*] [$of:ident];
-        $presence:ident $tag:literal $name:literal $field:ident: $type:ty [$($bounds:tt)*]; $($rest:tt)*
+        $presence:ident $tag:literal $(of $tree:ident)? $name:literal
+        $field:ident: $type:ty [$($bounds:tt)*]; $($rest:tt)*
     ) => {{
         let $field = $crate::read::value::<Self, $type>(&$of, $place, &$of.$field);
         let _ = $field;

@@ -4,17 +4,19 @@ use Rattle.std.specs.Prelude.{◌≡◌, ℕ, zero, suc, ℤ, pos, neg_ℤ, true
 use Rattle.std.proofs.Common.{ap}
 use Rattle.rasn_types.specs.Alphabets.{visible, ia5, printable, numeric, bmp}
 use Rattle.rasn_types.specs.Contents.{utf8}
-use Rattle.rasn_types.specs.Values.{Value}
+use Rattle.rasn_types.specs.Values.{Value, alternative, root}
 use Rattle.rasn_constraints.specs.Bounds.{Bounds, between, unbounded}
 use Rattle.rasn_constraints.specs.Ranges.{no_constraints, within, signed_range, unsigned_range, i128_range}
 use Rattle.rasn_constraints.specs.declared.constraints.Bounded.TheVariants.{Range}
 use Rattle.rasn_constraints.specs.declared.constraints.Constraints.{Constraints}
 use Rattle.rasn_constraints.specs.declared.constraints.Extensible.{Extensible}
 use Rattle.rasn_schema.specs.Schemas
-use Rattle.rasn_schema.specs.Schemas.{Schema, TagTree, leaf, Presence, Parts, no_parts, part, listed}
+use Rattle.rasn_schema.specs.Schemas.{Schema, TagTree, TagTrees, leaf, one_of, no_trees, tree, Presence, Parts, no_parts, part, listed}
+use Rattle.rasn_schema.specs.Choices.{VariantShape, choice_at, choice_levelled, variants_of}
 use Rattle.rasn_schema.specs.Fields.{Shape, field_tag, presence_of, shapes_from}
-use Rattle.rasn_schema.specs.Forms.{number_schema, octet_schema, bit_schema, character_schema, always}
+use Rattle.rasn_schema.specs.Forms.{number_schema, octet_schema, bit_schema, character_schema, size_of, is_size_marked, always}
 use Rattle.rasn_schema.specs.Levels.{TakesNone, Levelled, LevelledParts, simple_levelled, parts_levelled, part_levelled, record_levelled}
+use Rattle.rasn_schema.specs.Lists.{list_at, list_levelled}
 use Rattle.rasn_schema.specs.Records.{record_at, no_additions, record_value}
 
 -- a component of a record: its tags, whether it may be absent, and its schema to each number of levels
@@ -30,8 +32,8 @@ parts_of [] n = no_parts
 parts_of (c ∷ cs) n = part c.tags c.presence (c.schema n) (parts_of cs n)
 
 -- a SEQUENCE of these components, to a number of levels
-abbrev pub sequence_of : List Component → ℕ → Schema
-sequence_of cs = record_at listed (parts_of cs) false no_additions
+abbrev pub sequence_at : List Component → ℕ → Schema
+sequence_at cs = record_at listed (parts_of cs) false no_additions
 
 -- what such a SEQUENCE is, of what its components are
 abbrev pub sequence_value : List (Option Value) → Value
@@ -41,7 +43,7 @@ pub components_levelled : (cs : List Component) → LevelledParts (parts_of cs)
 components_levelled [] = parts_levelled
 components_levelled (c ∷ cs) = part_levelled c.levelled (components_levelled cs)
 
-pub sequence_levelled : (cs : List Component) → Levelled (sequence_of cs)
+pub sequence_levelled : (cs : List Component) → Levelled (sequence_at cs)
 sequence_levelled cs = record_levelled (components_levelled cs) parts_levelled
 
 -- the fields of components, in order, counted from a number
@@ -81,6 +83,29 @@ abbrev pub content_at : List (Option Value) → ℕ → Option (Option Value)
 content_at [] i = None
 content_at (r ∷ rs) zero = Some r
 content_at (r ∷ rs) (suc i) = content_at rs i
+
+-- the variants of alternatives, in their order
+abbrev pub variants_in : List Component → List VariantShape
+variants_in [] = []
+variants_in (c ∷ cs) = record { tag = field_tag c.tags; tree = Some c.tags } ∷ variants_in cs
+
+-- the variants are those of the alternatives at each number of levels
+pub variants_described : (cs : List Component) (n : ℕ) → variants_in cs ≡ variants_of (parts_of cs n)
+variants_described [] n = refl
+variants_described (c ∷ cs) n = ap (λ vs. record { tag = field_tag c.tags; tree = Some c.tags } ∷ vs) (variants_described cs n)
+
+-- X.680 29: the alternative that a choice's value is, by its place, and its own value
+pub record Chosen : Type 0 where
+  pub place : ℕ
+  pub value : Value
+
+-- the alternative at a place
+abbrev pub chosen : ℕ → Value → Chosen
+chosen i v = record { place = i; value = v }
+
+-- the value of a choice
+abbrev pub chosen_value : Chosen → Value
+chosen_value c = alternative root c.place c.value
 
 some_is : {A : Type 0} (x y : A) → Some x ≡ Some y → x ≡ y
 some_is x y e = cc
@@ -269,8 +294,35 @@ abbrev pub sequence : List Component → Component
 sequence cs = record {
   tags = universal 16;
   presence = Schemas.required;
-  schema = sequence_of cs;
+  schema = sequence_at cs;
   levelled = sequence_levelled cs;
+}
+
+-- SEQUENCE OF under a size, or none: `sequence_of (size 1 to 4) boolean` is SEQUENCE (SIZE (1..4)) OF BOOLEAN
+abbrev pub sequence_of : Constraints → Component → Component
+sequence_of c element = record {
+  tags = universal 16;
+  presence = Schemas.required;
+  schema = list_at element.schema (size_of c) (is_size_marked c);
+  levelled = list_levelled (size_of c) (is_size_marked c) element.levelled;
+}
+
+abbrev pub alternative_tags : List Component → TagTrees
+alternative_tags [] = no_trees
+alternative_tags (c ∷ cs) = tree c.tags (alternative_tags cs)
+
+-- X.691 21.1: the tags of an untagged CHOICE, which has an alternative (X.680 29); where there is none, 0 stands for a tag
+abbrev pub choice_tags : List Component → TagTree
+choice_tags [] = universal 0
+choice_tags (c ∷ cs) = one_of c.tags (alternative_tags cs)
+
+-- CHOICE, untagged
+abbrev pub choice : List Component → Component
+choice cs = record {
+  tags = choice_tags cs;
+  presence = Schemas.required;
+  schema = choice_at (parts_of cs);
+  levelled = choice_levelled (components_levelled cs);
 }
 
 -- a component that may be absent (X.680 25.6)

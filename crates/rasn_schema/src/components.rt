@@ -2,17 +2,16 @@
 
 ghost use Rattle.std.specs.Prelude.{◌≡◌, ℕ, suc, false, List, Option, refl};
 ghost use Rattle.std.proofs.Common.{◌∙◌};
-ghost use Rattle.rasn_constraints.specs.Ranges.{no_constraints};
 ghost use Rattle.rasn_types.specs.Values.{Value};
 ghost use Rattle.rasn_types.specs.declared.types.TheConstants.Tag.{SEQUENCE};
 ghost use Rattle.rasn_schema.specs.Fields.{Shape};
 ghost use Rattle.rasn_schema.specs.Records.{no_additions};
 ghost use Rattle.rasn_schema.specs.Tags.{sequence_tag};
-ghost use Rattle.rasn_schema.specs.Components.{Component, parts_of, sequence_of, sequence_value, sequence_levelled, fields_of, fields_described};
+ghost use Rattle.rasn_schema.specs.Components.{Component, parts_of, sequence_at, sequence_value, sequence_levelled, fields_of, fields_described};
 
 use crate::fields::{Constructed, Fields};
-use crate::schema::{AsnType, Constraints};
-use rasn_types::types::{Identifier, Tag};
+use crate::kinds::{Kind, OfKind};
+use rasn_types::types::Tag;
 
 /// The components of a SEQUENCE (X.680 25).
 pub trait Components {
@@ -34,26 +33,27 @@ pub trait Components {
     ghost described: { COMPONENTS ≡ fields_of components };
 }
 
-impl<T: Components> AsnType for T {
+/// The kind of a SEQUENCE (X.680 25).
+pub struct SequenceKind {}
+
+impl<T: Components> OfKind for T {
+    type Kind = SequenceKind;
+}
+
+impl<T: Components> Kind<T> for SequenceKind {
     const TAG: Tag = Tag::SEQUENCE;
 
     ghost TAG = { SEQUENCE };
 
-    const CONSTRAINTS: Constraints = Constraints::NONE;
-
-    ghost CONSTRAINTS = { no_constraints };
-
-    const IDENTIFIER: Identifier = Identifier::EMPTY;
-
-    ghost schema = { λ _. sequence_of T.components };
+    ghost schema = { sequence_at T.components };
 
     ghost value = { λ x. sequence_value (T.contents x) };
 
     ghost levels = { λ x. suc (T.depth x) };
 
-    ghost levelled = { λ _. sequence_levelled T.components };
+    ghost levelled = { sequence_levelled T.components };
 
-    ghost tag_fits = { λ _. sequence_tag (parts_of T.components) false no_additions };
+    ghost tag_fits = { sequence_tag (parts_of T.components) false no_additions };
 }
 
 impl<T: Components> Constructed for T {

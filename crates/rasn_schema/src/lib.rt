@@ -1,6 +1,7 @@
 //! How types state their schemas.
 #![tactic(auto)]
 
+pub mod alternatives;
 pub mod boxed;
 pub mod choices;
 pub mod components;
@@ -8,6 +9,8 @@ pub mod constrained;
 pub mod enumerated;
 pub mod fields;
 pub mod integers;
+pub mod items;
+pub mod kinds;
 pub mod lists;
 pub mod octets;
 pub mod plain;

@@ -1,0 +1,57 @@
+//! Spot.
+#![tactic(auto, unfolding(rasn_schema::specs::Schemas::smallest, rasn_schema::specs::Schemas::least_of))]
+
+ghost use Rattle.std.specs.Prelude.{[], ◌∷◌, Some, pos, refl};
+ghost use Rattle.rasn_types.specs.Values.{whole};
+ghost use Rattle.rasn_schema.specs.Components.{fields_of};
+ghost use Rattle.its_header.specs.Spots.{spot};
+
+use crate::area::{AREA_TAGS, ActionArea};
+use rasn_record::{
+    AsnType, Components, Constraint, Decoder, Encoder, Fields, Record, bounds, decode_components,
+    encode_components, fields,
+};
+
+/// Spot ::= SEQUENCE { area ActionArea, lane [3] INTEGER (0..7) }, whose tags are its own
+#[derive(Clone, Copy, Debug, PartialEq, Eq)]
+pub struct Spot {
+    pub area: ActionArea,
+    pub lane: u8,
+}
+
+macro_rules! components {
+    ($to:ident $($with:ident)*) => {
+        $to! { [$($with)*]
+            required 0 of AREA_TAGS "area" area: ActionArea [];
+            required 3 "lane" lane: u8 [0..=7];
+        }
+    };
+}
+
+const FIELDS: Fields = components!(fields);
+
+const BOUNDS: &[&[Constraint]] = components!(bounds);
+
+impl Components for Spot {
+    const COMPONENTS: Fields = FIELDS;
+
+    ghost COMPONENTS = { fields_of spot };
+
+    ghost components = { spot };
+
+    ghost contents = { λ x. Some (⟦<ActionArea as AsnType>⟧.value x.area) ∷ Some (whole (pos x.lane)) ∷ [] };
+
+    ghost depth = { λ _. 2 };
+
+    ghost described = { refl };
+}
+
+impl Record for Spot {
+    fn encode_components<E: Encoder>(&self, encoder: &mut E) -> Result<(), E::Error> {
+        components!(encode_components self encoder)
+    }
+
+    fn decode_components<D: Decoder>(decoder: &mut D) -> Result<Self, D::Error> {
+        components!(decode_components decoder)
+    }
+}

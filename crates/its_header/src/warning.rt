@@ -1,0 +1,64 @@
+//! Warning.
+
+ghost use Rattle.std.specs.Prelude.{[], ◌∷◌, Some, pos, refl};
+ghost use Rattle.rasn_types.specs.Values.{whole};
+ghost use Rattle.rasn_schema.specs.Components.{fields_of};
+ghost use Rattle.rasn_calls.specs.Presences.{slot_of};
+ghost use Rattle.its_header.specs.Directions.{direction};
+ghost use Rattle.its_header.specs.Warnings.{warning};
+
+use crate::area::ActionArea;
+use crate::direction::DriveDirection;
+use rasn_record::{
+    AsnType, Components, Constraint, Decoder, Encoder, Fields, Record, bounds, decode_components,
+    encode_components, fields,
+};
+
+/// Warning ::= SEQUENCE {
+///     direction DriveDirection OPTIONAL, area ActionArea, lane INTEGER (0..7) DEFAULT 1
+/// }
+#[derive(Clone, Copy, Debug, PartialEq, Eq)]
+pub struct Warning {
+    pub direction: Option<DriveDirection>,
+    pub area: ActionArea,
+    pub lane: u8,
+}
+
+macro_rules! components {
+    ($to:ident $($with:ident)*) => {
+        $to! { [$($with)*]
+            optional 0 "direction" direction: Option<DriveDirection> [];
+            required 1 "area" area: ActionArea [];
+            default 2 "lane" lane: u8 [0..=7 DEFAULT 1_u8];
+        }
+    };
+}
+
+const FIELDS: Fields = components!(fields);
+
+const BOUNDS: &[&[Constraint]] = components!(bounds);
+
+impl Components for Warning {
+    const COMPONENTS: Fields = FIELDS;
+
+    ghost COMPONENTS = { fields_of warning };
+
+    ghost components = { warning };
+
+    ghost contents = { λ x. slot_of direction x.direction ∷ Some (⟦<ActionArea as AsnType>⟧.value x.area) ∷
+        Some (whole (pos x.lane)) ∷ [] };
+
+    ghost depth = { λ _. 2 };
+
+    ghost described = { refl };
+}
+
+impl Record for Warning {
+    fn encode_components<E: Encoder>(&self, encoder: &mut E) -> Result<(), E::Error> {
+        components!(encode_components self encoder)
+    }
+
+    fn decode_components<D: Decoder>(decoder: &mut D) -> Result<Self, D::Error> {
+        components!(decode_components decoder)
+    }
+}

@@ -1,0 +1,283 @@
+//! One component of a record: required, optional, or with a default.
+
+ghost use Rattle.std.specs.Prelude.{◌≡◌, ℕ, Option, Some, IfOk};
+ghost use Rattle.rasn_types.specs.Values.{Value};
+ghost use Rattle.rasn_schema.specs.Schemas.{Presence, required, optional};
+ghost use Rattle.rasn_calls.specs.Optionals.{ReadsComponent};
+ghost use Rattle.rasn_calls.specs.Presences.{slot_of};
+ghost use Rattle.rasn_record.specs.Slots.{IsComponent, TellsSame, WritesComponent, slot_levels};
+
+use rasn_codec::codec::{Decode, Decoder, DecoderExt, Encode, Encoder, EncoderExt};
+use rasn_schema::schema::{AsnType, Constraints};
+use rasn_types::types::Tag;
+use std::alloc::{AllocError, Global};
+use std::marker::PhantomData;
+
+/// A component of a record that is still to be written.
+pub trait EncodeComponent {
+    /// The type of the component.
+    type Of: AsnType;
+
+    // Whether it may be absent.
+    ghost presence: { Self → Presence };
+
+    // What it is.
+    ghost slot: { Self → Option Value };
+
+    // How many levels it takes.
+    ghost levels: { Self → ℕ };
+
+    /// Writes the component under a tag and constraints.
+    fn encode_component<E: Encoder>(
+        &self,
+        encoder: &mut E,
+        tag: Tag,
+        constraints: &Constraints,
+    ) -> Result<(), E::Error>
+        ensures { WritesComponent E.rules (presence self.now) (Self.Of.schema constraints.now) (levels self.now)
+            (slot self.now) encoder.old result encoder.new };
+
+    // It is no addition group.
+    ghost is_component: { (c : Self) → IsComponent (presence c) };
+}
+
+/// A component of a record that is still to be read.
+pub trait DecodeComponent {
+    /// The type of the component.
+    type Of: AsnType;
+
+    /// What the component is, absent or there.
+    type Value: Drop;
+
+    // Whether it may be absent.
+    ghost presence: { Self → Presence };
+
+    // What a value of it is.
+    ghost slot: { Self.Value → Option Value };
+
+    /// Reads the component under a tag and constraints.
+    fn decode_component<D: Decoder>(
+        &self,
+        decoder: &mut D,
+        tag: Tag,
+        constraints: &Constraints,
+    ) -> Result<Self::Value, D::Error>
+        ensures { ReadsComponent D.rules (presence self.now)
+            (Self.Of.schema constraints.now (D.rules.levels decoder.old)) slot decoder.old result decoder.new };
+}
+
+/// A required component: to write, a reference to it; to read, `PhantomData` of its type.
+#[derive(Clone, Copy)]
+pub struct Required<V>(pub V);
+
+/// An optional component: to write, a reference to it; to read, `PhantomData` of its type.
+#[derive(Clone, Copy)]
+pub struct Optional<V>(pub V);
+
+/// A component with a default.
+#[derive(Clone, Copy)]
+pub struct Default<V, H> {
+    /// To write, a reference to the component; to read, `PhantomData` of its type.
+    pub value: V,
+    /// What stands for it where it is absent.
+    pub default: H,
+}
+
+/// A type of which a value can be a default: it is compared, and copied.
+pub trait Defaulted: AsnType + Sized {
+    /// Whether a component that is this is at a default.
+    fn is_default(&self, default: &Self) -> bool
+        ensures { TellsSame Self.schema (Self.levels self.now) (Self.value self.now) (Self.value default.now) result };
+
+    /// The same value again, in memory of `alloc`.
+    fn copied(&self, alloc: Global) -> Result<Self, AllocError>
+        ensures { IfOk result (λ x. Self.value x ≡ Self.value self.now) };
+}
+
+impl<'a, H: Encode> EncodeComponent for Required<&'a H> {
+    type Of = H;
+
+    ghost presence = { λ c. required };
+
+    ghost slot = { λ c. Some (H.value c.0.now) };
+
+    ghost levels = { λ c. H.levels c.0.now };
+
+    fn encode_component<E: Encoder>(
+        &self,
+        encoder: &mut E,
+        tag: Tag,
+        constraints: &Constraints,
+    ) -> Result<(), E::Error> {
+        self.0
+            .encode_with_tag_and_constraints(encoder, tag, constraints, H::IDENTIFIER)
+    }
+
+    ghost is_component = { λ c. tt };
+}
+
+impl<'a, H: Encode> EncodeComponent for Optional<&'a Option<H>> {
+    type Of = H;
+
+    ghost presence = { λ c. optional };
+
+    ghost slot = { λ c. slot_of H.value c.0.now };
+
+    ghost levels = { λ c. slot_levels H.levels c.0.now };
+
+    fn encode_component<E: Encoder>(
+        &self,
+        encoder: &mut E,
+        tag: Tag,
+        constraints: &Constraints,
+    ) -> Result<(), E::Error> {
+        match self.0 {
+            Some(value) => encoder.encode_some_with_tag_and_constraints(
+                tag,
+                constraints,
+                value,
+                H::IDENTIFIER,
+            ),
+            None => encoder.encode_none_with_tag(tag, H::IDENTIFIER),
+        }
+    }
+
+    ghost is_component = { λ c. tt };
+}
+
+impl<'a, H: Encode + Defaulted> EncodeComponent for Default<&'a H, H> {
+    type Of = H;
+
+    ghost presence = { λ c. Presence.default (H.value c.default) };
+
+    ghost slot = { λ c. Some (H.value c.value.now) };
+
+    ghost levels = { λ c. H.levels c.value.now };
+
+    fn encode_component<E: Encoder>(
+        &self,
+        encoder: &mut E,
+        tag: Tag,
+        constraints: &Constraints,
+    ) -> Result<(), E::Error> {
+        if self.value.is_default(&self.default) {
+            return encoder.set_presence(false);
+        }
+        encoder.encode_some_with_tag_and_constraints(tag, constraints, self.value, H::IDENTIFIER)
+    }
+
+    ghost is_component = { λ c. tt };
+}
+
+impl<H: Decode> DecodeComponent for Required<PhantomData<H>> {
+    type Of = H;
+
+    type Value = H;
+
+    ghost presence = { λ c. required };
+
+    ghost slot = { λ x. Some (H.value x) };
+
+    fn decode_component<D: Decoder>(
+        &self,
+        decoder: &mut D,
+        tag: Tag,
+        constraints: &Constraints,
+    ) -> Result<H, D::Error> {
+        H::decode_with_tag_and_constraints(decoder, tag, constraints)
+    }
+}
+
+impl<H: Decode> DecodeComponent for Optional<PhantomData<Option<H>>> {
+    type Of = H;
+
+    type Value = Option<H>;
+
+    ghost presence = { λ c. optional };
+
+    ghost slot = { λ x. slot_of H.value x };
+
+    fn decode_component<D: Decoder>(
+        &self,
+        decoder: &mut D,
+        tag: Tag,
+        constraints: &Constraints,
+    ) -> Result<Option<H>, D::Error> {
+        decoder.decode_optional_with_tag_and_constraints(tag, constraints)
+    }
+}
+
+impl<H: Decode + Defaulted> DecodeComponent for Default<PhantomData<H>, H> {
+    type Of = H;
+
+    type Value = H;
+
+    ghost presence = { λ c. Presence.default (H.value c.default) };
+
+    ghost slot = { λ x. Some (H.value x) };
+
+    fn decode_component<D: Decoder>(
+        &self,
+        decoder: &mut D,
+        tag: Tag,
+        constraints: &Constraints,
+    ) -> Result<H, D::Error> {
+        if decoder.next_presence()? {
+            return H::decode_with_tag_and_constraints(decoder, tag, constraints);
+        }
+        match self.default.copied(decoder.alloc()) {
+            Ok(value) => Ok(value),
+            Err(_) => Err(decoder.out_of_memory()),
+        }
+    }
+}
+
+impl Defaulted for bool {
+    fn is_default(&self, default: &bool) -> bool {
+        *self == *default
+    }
+
+    fn copied(&self, _alloc: Global) -> Result<bool, AllocError> {
+        Ok(*self)
+    }
+}
+
+impl Defaulted for u8 {
+    fn is_default(&self, default: &u8) -> bool {
+        *self == *default
+    }
+
+    fn copied(&self, _alloc: Global) -> Result<u8, AllocError> {
+        Ok(*self)
+    }
+}
+
+impl Defaulted for u16 {
+    fn is_default(&self, default: &u16) -> bool {
+        *self == *default
+    }
+
+    fn copied(&self, _alloc: Global) -> Result<u16, AllocError> {
+        Ok(*self)
+    }
+}
+
+impl Defaulted for u32 {
+    fn is_default(&self, default: &u32) -> bool {
+        *self == *default
+    }
+
+    fn copied(&self, _alloc: Global) -> Result<u32, AllocError> {
+        Ok(*self)
+    }
+}
+
+impl Defaulted for u64 {
+    fn is_default(&self, default: &u64) -> bool {
+        *self == *default
+    }
+
+    fn copied(&self, _alloc: Global) -> Result<u64, AllocError> {
+        Ok(*self)
+    }
+}

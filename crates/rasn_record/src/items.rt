@@ -1,0 +1,72 @@
+//! What an author's list of items is handed to.
+//!
+//! The list is a macro of the author's file, which hands itself on. It has the variants of the type in the order of the
+//! items (X.680 20), at most 48: those before the extension marker, and behind `...` those after it.
+//!
+//! ```text
+//! macro_rules! items {
+//!     ($to:ident $($with:ident)*) => { $to! { [$($with)*] Red; Green; ...; Blue; } };
+//! }
+//! ```
+//!
+//! `item_counts`, `place_of_item` and `item_at` are for authors. What the others write is part of these.
+
+/// How many items a list has, as `ItemCounts`.
+#[macro_export]
+macro_rules! item_counts {
+    ([] $($root:ident;)*) => {
+        $crate::ItemCounts { roots: 0 $(+ $crate::one!($root))*, addeds: None }
+    };
+    ([] $($root:ident;)* ...; $($added:ident;)*) => {
+        $crate::ItemCounts {
+            roots: 0 $(+ $crate::one!($root))*,
+            addeds: Some(0 $(+ $crate::one!($added))*),
+        }
+    };
+}
+
+/// 1, for a name.
+#[macro_export]
+macro_rules! one {
+    ($name:ident) => { 1 };
+}
+
+/// Where an item stands in its list, as `Place`.
+#[macro_export]
+macro_rules! place_of_item {
+    ([$of:ident] $($list:tt)*) => { $crate::with_places!(placed_items Root [$of]; $($list)*) };
+}
+
+/// The item at a place in its list, or none.
+#[macro_export]
+macro_rules! item_at {
+    ([$place:ident] $($list:tt)*) => { $crate::with_places!(items_placed Root [$place]; $($list)*) };
+}
+
+/// The places of items, behind those that are done.
+#[macro_export]
+macro_rules! placed_items {
+    ($places:tt $side:ident [$of:ident $($done:tt)*];) => { match $of { $($done)* } };
+    ($places:tt $side:ident $done:tt; ...; $($rest:tt)*) => {
+        $crate::with_places!(placed_items Added $done; $($rest)*)
+    };
+    ([$place:literal $($places:tt)*] $side:ident [$($done:tt)*]; $item:ident; $($rest:tt)*) => {
+        $crate::placed_items!([$($places)*] $side [
+            $($done)* Self::$item => $crate::Place::$side($place),
+        ]; $($rest)*)
+    };
+}
+
+/// The items at places, behind those that are done.
+#[macro_export]
+macro_rules! items_placed {
+    ($places:tt $side:ident [$of:ident $($done:tt)*];) => { match $of { $($done)* _ => None } };
+    ($places:tt $side:ident $done:tt; ...; $($rest:tt)*) => {
+        $crate::with_places!(items_placed Added $done; $($rest)*)
+    };
+    ([$place:literal $($places:tt)*] $side:ident [$($done:tt)*]; $item:ident; $($rest:tt)*) => {
+        $crate::items_placed!([$($places)*] $side [
+            $($done)* $crate::Place::$side($place) => Some(Self::$item),
+        ]; $($rest)*)
+    };
+}
