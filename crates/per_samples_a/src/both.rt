@@ -2,13 +2,11 @@
 
 ghost use Rattle.std.specs.Prelude.{refl, [], false, suc, max};
 ghost use Rattle.rasn_types.specs.declared.types.TheConstants.Tag.{SEQUENCE};
-ghost use Rattle.rasn_schema.specs.Schemas.{listed};
 ghost use Rattle.rasn_constraints.specs.Ranges.{no_constraints};
 ghost use Rattle.rasn_schema.specs.Fields.{shapes_from};
-ghost use Rattle.rasn_schema.specs.Records.{record_at, no_additions, record_value};
-ghost use Rattle.rasn_schema.specs.Levels.{record_levelled, part_levelled, parts_levelled};
+ghost use Rattle.rasn_schema.specs.Records.{no_additions, record_value};
 ghost use Rattle.rasn_schema.specs.Tags.{sequence_tag};
-ghost use Rattle.per_samples_a.specs.Boths.{both_parts, both_contents};
+ghost use Rattle.per_samples_a.specs.Boths.{both_parts, both_schema, both_levelled, both_contents};
 
 use rasn_codec::codec::{Decode, Decoder, Encode, Encoder};
 use rasn_record::cells::{Cell, End, Listed};
@@ -34,16 +32,13 @@ impl<A: AsnType, B: AsnType> AsnType for Both<A, B> {
 
     ghost CONSTRAINTS = { no_constraints };
 
-    ghost schema = { λ _.
-        record_at listed (both_parts (A.schema A.CONSTRAINTS) (B.schema B.CONSTRAINTS)) false no_additions };
+    ghost schema = { λ _. both_schema (A.schema A.CONSTRAINTS) (B.schema B.CONSTRAINTS) };
 
     ghost value = { λ x. record_value (both_contents (A.value x.a) (B.value x.b)) [] };
 
     ghost levels = { λ x. suc (max (A.levels x.a) (max (B.levels x.b) 0)) };
 
-    ghost levelled = { λ _.
-        record_levelled (part_levelled (A.levelled A.CONSTRAINTS) (part_levelled (B.levelled B.CONSTRAINTS) parts_levelled))
-        parts_levelled };
+    ghost levelled = { λ _. both_levelled (A.levelled A.CONSTRAINTS) (B.levelled B.CONSTRAINTS) };
 
     ghost tag_fits = { λ _.
         sequence_tag (both_parts (A.schema A.CONSTRAINTS) (B.schema B.CONSTRAINTS)) false no_additions };
