@@ -4,7 +4,7 @@ use Rattle.rasn_types.specs.Values.{Value}
 use Rattle.rasn_schema.specs.Schemas
 use Rattle.rasn_schema.specs.Schemas.{Schema, listed, no_parts, part}
 use Rattle.rasn_schema.specs.Levels.{Levelled, no_level, to_sequence, to_part, to_no_parts}
-use Rattle.rasn_schema.specs.Components.{Component, sequence_of, sequence_value, at}
+use Rattle.rasn_schema.specs.Components.{Component, sequence_at, sequence_value, at}
 use Rattle.per_samples_e.specs.declared.ping.Ping.{Ping, Ping', Held-Ping-pong, Ping-pong-None', Ping-pong-Some'}
 use Rattle.per_samples_e.specs.declared.pong.Pong.{Pong, Pong', Held-Pong-ping, Pong-ping-None', Pong-ping-Some'}
 
@@ -34,11 +34,11 @@ abbrev pub pong : List Component
 pong = record { tags = at 0; presence = Schemas.optional; schema = ping_schema; levelled = ping_levelled } ∷ []
 
 -- the trees are those of the components
-pub ping_is_sequence : (n : ℕ) → sequence_of ping n ≡ ping_schema n
+pub ping_is_sequence : (n : ℕ) → sequence_at ping n ≡ ping_schema n
 ping_is_sequence zero = refl
 ping_is_sequence (suc n) = refl
 
-pub pong_is_sequence : (n : ℕ) → sequence_of pong n ≡ pong_schema n
+pub pong_is_sequence : (n : ℕ) → sequence_at pong n ≡ pong_schema n
 pong_is_sequence zero = refl
 pong_is_sequence (suc n) = refl
 

@@ -4,7 +4,7 @@ use Rattle.rasn_types.specs.Values.{Value}
 use Rattle.rasn_schema.specs.Schemas
 use Rattle.rasn_schema.specs.Schemas.{Schema, listed, no_parts, part}
 use Rattle.rasn_schema.specs.Levels.{Levelled, no_level, to_sequence, to_part, to_no_parts}
-use Rattle.rasn_schema.specs.Components.{Component, sequence_of, sequence_value, at}
+use Rattle.rasn_schema.specs.Components.{Component, sequence_at, sequence_value, at}
 use Rattle.per_samples_e.specs.declared.nest.Nest.{Nest, Nest', Held-Nest-inner, None', Some'}
 
 -- to a number of levels
@@ -20,7 +20,7 @@ abbrev pub nest : List Component
 nest = record { tags = at 0; presence = Schemas.optional; schema = nest_schema; levelled = nest_levelled } ∷ []
 
 -- the trees are those of its components
-pub nest_is_sequence : (n : ℕ) → sequence_of nest n ≡ nest_schema n
+pub nest_is_sequence : (n : ℕ) → sequence_at nest n ≡ nest_schema n
 nest_is_sequence zero = refl
 nest_is_sequence (suc n) = refl
 

@@ -1,7 +1,7 @@
 use denote.Hole.Carrier.{roll}
 use Rattle.std.proofs.Common.{◌≡◌, Box, Global, Option, Some, None, [], ◌∷◌, refl, rules, subst, sym}
 use Rattle.std.proofs.lemmas.Result.{err_from_is_err_and}
-use Rattle.rasn_schema.specs.Components.{parts_of, sequence_of, sequence_value}
+use Rattle.rasn_schema.specs.Components.{parts_of, sequence_at, sequence_value}
 use Rattle.rasn_calls.specs.Presences.{slot_of}
 use Rattle.rasn_calls.specs.Scopes.{reads_end, reads_left_out, reads_next, reads_there}
 use Rattle.rasn_calls.proofs.Optionals.{bit_refused, value_unread}
@@ -68,7 +68,7 @@ ping::PingDecode::decode_with_tag_and_constraints-returns g t c =
     let o = c.in_ok-outside.ensures.law in
     let w = reads_next c.in_ok-pong.ensures.law reads_end in
     record {
-      law = subst (λ rs. g.D.Decoder.rules.spells (sequence_of ping (g.D.Decoder.rules.levels c.args.decoder.now)) c.args.decoder.now (sequence_value rs) c.close_sequence.new.self)
+      law = subst (λ rs. g.D.Decoder.rules.spells (sequence_at ping (g.D.Decoder.rules.levels c.args.decoder.now)) c.args.decoder.now (sequence_value rs) c.close_sequence.new.self)
           (sym (ping_read c.in_ok-pong.pong)) (record_ended g.met.D.Decoder.lawful g.met.D.Decoder.scopes (parts_of ping) o.0 o.1 _ _ _ w
           (c.in_ok-close_sequence.ensures.law (inside_left g.met.D.Decoder.lawful g.met.D.Decoder.scopes (parts_of ping) o.0 o.1 _ _ w)));
       behaves = search rules;
@@ -130,7 +130,7 @@ pong::PongDecode::decode_with_tag_and_constraints-returns g t c =
     let o = c.in_ok-outside.ensures.law in
     let w = reads_next c.in_ok-ping.ensures.law reads_end in
     record {
-      law = subst (λ rs. g.D.Decoder.rules.spells (sequence_of pong (g.D.Decoder.rules.levels c.args.decoder.now)) c.args.decoder.now (sequence_value rs) c.close_sequence.new.self)
+      law = subst (λ rs. g.D.Decoder.rules.spells (sequence_at pong (g.D.Decoder.rules.levels c.args.decoder.now)) c.args.decoder.now (sequence_value rs) c.close_sequence.new.self)
           (sym (pong_read c.in_ok-ping.ping)) (record_ended g.met.D.Decoder.lawful g.met.D.Decoder.scopes (parts_of pong) o.0 o.1 _ _ _ w
           (c.in_ok-close_sequence.ensures.law (inside_left g.met.D.Decoder.lawful g.met.D.Decoder.scopes (parts_of pong) o.0 o.1 _ _ w)));
       behaves = search rules;
