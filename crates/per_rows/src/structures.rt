@@ -47,7 +47,8 @@ pub fn list_of_null_is_read_of_its_count()
 pub fn uper_list_in_fragments_is_read_to_its_last_length()
     ensures all { fills uper (list_of Schema.null any_size) (list (replicate 196608 nothing))
         (0xc4 ∷ 0xc4 ∷ 0xc4 ∷ 0x00 ∷ []) }
-    ensures no_last_length { (v : Value) → ¬ (fills uper (list_of Schema.null any_size) v (0xc4 ∷ 0xc4 ∷ 0xc4 ∷ [])) }
+    ensures no_last_length { (v : Value)
+        → ¬ (fills uper (list_of Schema.null any_size) v (0xc4 ∷ 0xc4 ∷ 0xc4 ∷ [])) }
 {}
 
 /// UPER SEQUENCE OF SEQUENCE of eight BOOLEAN: 99000 of them are read of fragments of 65536 and 32768 and a last count
