@@ -1,13 +1,12 @@
 -- What each call reads, and why it refuses.
-use Rattle.std.proofs.Common.{◌≡◌, ◌⊎◌, inl, inr, ℕ, zero, suc, Bool, true, false, [], refl, sym, ◌∙◌, ap, subst, arith, ℤ}
+use Rattle.std.proofs.Common.{◌≡◌, ◌⊎◌, inl, inr, ℕ, Bool, true, false, [], refl, sym, ◌∙◌, ap, subst, ℤ}
 use Rattle.std.specs.Prelude.{Result, Ok, Err, OnOk, OnErr, IfOk, IfErr, IsErrAnd}
 use Rattle.std.proofs.lemmas.Result.{IfOk-weaker, IfErr-weaker}
 use Rattle.rasn_types.specs.Bits.{Bits}
 use Rattle.rasn_types.specs.Values.{Value, truth, nothing, whole}
 use Rattle.rasn_constraints.specs.Bounds.{Bounds}
 use Rattle.rasn_schema.specs.Schemas
-use Rattle.rasn_schema.specs.Schemas.{Schema, Parts, listed}
-use Rattle.rasn_schema.specs.Records.{record_at, no_additions}
+use Rattle.rasn_schema.specs.Schemas.{Schema}
 use Rattle.rasn_calls.specs.Calls.{Answers, Behaves, Reads, Refuses, freely_read, takes_none}
 use Rattle.per_core.specs.Spellings.{Settings, Spelling}
 use Rattle.per_core.specs.Basic.{basic, basic_in, bit, IsNumberOf}
@@ -38,6 +37,7 @@ not_failed (Schema.bit_string size mark) a s h = h
 not_failed (Schema.char_string alphabet size mark) a s h = h
 not_failed (Schema.text kind) a s h = h
 not_failed Schema.real a s h = h
+not_failed (Schema.list e size mark) a s h = h
 not_failed Schema.cut a s h = h
 not_failed _ a s h = h
 
@@ -102,12 +102,11 @@ pub real_refused : (s : State) (e : DecodeError) → e ≡ refusal RealNotSuppor
 unfolding basic_in
 real_refused s e i = refuses Schemas.real s RealNotSupported e i tt (λ v t b. b.spelled)
 
--- at no level left no record is entered
-pub too_deep : (s : State) (e : DecodeError) (parts : ℕ → Parts) (n : ℕ) → n ≡ 0 → e ≡ refusal ExceedsMaxParseDepth s
-    → let c = record_at listed parts false no_additions n in (e ≡ refusal OutOfMemory s) ⊎ Refuses (Spells c) (Fault c) e s
+-- at no level left no value of a deeper level is read
+pub too_deep : (family : ℕ → Schema) (s : State) (e : DecodeError) (n : ℕ) → family 0 ≡ Schemas.cut → n ≡ 0 → e ≡ refusal ExceedsMaxParseDepth s
+    → let c = family n in (e ≡ refusal OutOfMemory s) ⊎ Refuses (Spells c) (Fault c) e s
 unfolding basic_in
-too_deep s e parts zero h i = inr (refuses Schemas.cut s ExceedsMaxParseDepth e i tt (λ v t b. b.spelled))
-too_deep s e parts (suc n) h i = absurd (omega arith)
+too_deep family s e n h z i = subst (λ c. (e ≡ refusal OutOfMemory s) ⊎ Refuses (Spells c) (Fault c) e s) (sym (ap family z ∙ h)) (inr (refuses Schemas.cut s ExceedsMaxParseDepth e i tt (λ v t b. b.spelled)))
 
 -- a decoder around what it takes from
 abbrev pub around : Taking → Bool → ℕ → Bits → State

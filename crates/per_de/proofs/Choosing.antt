@@ -7,7 +7,7 @@ use Rattle.rasn_schema.specs.Schemas
 use Rattle.rasn_schema.specs.Schemas.{Schema, Parts, no_parts, part}
 use Rattle.rasn_schema.proofs.Places.{found_at}
 use Rattle.rasn_calls.specs.Calls.{Refuses}
-use Rattle.per_core.specs.Basic.{IsConstrainedWhole, basic_in}
+use Rattle.per_core.specs.Basic.{IsConstrainedWhole}
 use Rattle.per_core.specs.Took.{Took}
 use Rattle.per_core.specs.Versions.{alternatives_of}
 use Rattle.per_read.specs.Choices.{IsOfIndex}
@@ -16,7 +16,7 @@ use Rattle.per_read.specs.State.{State as Taking}
 use Rattle.per_read.specs.Takes.{Takes, telling, itself}
 use Rattle.per_read.specs.declared.error.DecodeError.{DecodeError}
 use Rattle.per_read.specs.declared.error.DecodeErrorKind.{DecodeErrorKind}
-use Rattle.per_read.specs.declared.error.DecodeErrorKind.TheVariants.{ExceedsMaxParseDepth, OutOfMemory}
+use Rattle.per_read.specs.declared.error.DecodeErrorKind.TheVariants.{OutOfMemory}
 use Rattle.per_de.specs.ChoiceLaws.{choice_index}
 use Rattle.per_de.specs.Choices.{OpensChoice}
 use Rattle.per_de.specs.State.{State, Spells}
@@ -25,13 +25,6 @@ use Rattle.per_de.specs.Scopes.{with_scope, Enters}
 use Rattle.per_de.specs.declared.Scope.{Scope}
 use Rattle.per_de.proofs.Calls.{around, refuses}
 use Rattle.per_de.proofs.Opening.{answered_ok, answered_err}
-
--- at no level left no choice is entered
-pub too_deep_choice : (s : State) (e : DecodeError) (alternatives : ℕ → Parts) (n : ℕ) → n ≡ 0 → e ≡ refusal ExceedsMaxParseDepth s
-    → let c = choice_at alternatives n in (e ≡ refusal OutOfMemory s) ⊎ Refuses (Spells c) (Fault c) e s
-unfolding basic_in
-too_deep_choice s e alternatives zero h i = inr (refuses Schemas.cut s ExceedsMaxParseDepth e i tt (λ v t b. b.spelled))
-too_deep_choice s e alternatives (suc n) h i = absurd (omega arith)
 
 -- no index is read
 pub no_index : (alternatives : ℕ → Parts) (count : ℕ) (x y : Taking) (f : Bool) (n m : ℕ) (q : Bits) (taken : Result ℕ DecodeErrorKind) (e : DecodeError) (t : State) → n ≡ suc m → count ≡ length (tags_of (alternatives m))

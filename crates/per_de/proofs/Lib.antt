@@ -1,5 +1,6 @@
 pub mod Calls
 pub mod Choosing
 pub mod Enumerations
+pub mod Listing
 pub mod Opening
 pub mod StringCalls

@@ -1,5 +1,5 @@
 -- What opening a record takes, and why it refuses.
-use Rattle.std.proofs.Common.{◌≡◌, ◌⊎◌, inr, refl, sym, ◌∙◌, ap, subst, arith, ℕ, zero, suc, ◌≤◌, Bool, false, List, length, ◌++◌}
+use Rattle.std.proofs.Common.{◌≡◌, ◌⊎◌, inr, refl, sym, ◌∙◌, ap, subst, ℕ, suc, Bool, false, ◌++◌}
 use Rattle.std.specs.Prelude.{Result, Ok, Err}
 use Rattle.rasn_types.specs.Bits.{Bits}
 use Rattle.rasn_schema.specs.Lawful.{presence_bits}
@@ -22,11 +22,6 @@ use Rattle.per_de.specs.ScopeLaws.{flags_row, took_record}
 use Rattle.per_de.specs.Scopes.{with_scope, Enters, Opens}
 use Rattle.per_de.specs.declared.Scope.{Scope}
 use Rattle.per_de.proofs.Calls.{around, refuses}
-
--- no level is left
-pub none_left : (n : ℕ) → (1 ≤ n → ⊥) → n ≡ 0
-none_left zero h = refl
-none_left (suc n) h = absurd (h (omega arith))
 
 pub answered_ok : {T : Type 0} (taken : Result T DecodeErrorKind) (s : State) (v : T) (t : State) → Answered taken s (Ok v) t → (taken ≡ Ok v) × (t ≡ s)
 answered_ok (Ok w) s v t a = let e = a.0 in let f : w ≡ v = cc in (ap Ok f, a.1)

@@ -1,20 +1,19 @@
 -- The laws of the decoder's choices: a choice without an extension marker is its index, and the alternative at that place (X.691 23).
-use Rattle.std.proofs.Common.{◌≡◌, ◌∙◌, refl, sym, ap, subst, ℕ, zero, suc, false, [], length, Option, Some}
+use Rattle.std.proofs.Common.{◌≡◌, ◌∙◌, refl, sym, ap, subst, ℕ, zero, suc, false, [], length, Some}
 use Rattle.rasn_types.specs.Bits.{Bits}
 use Rattle.rasn_types.specs.Values.{Value, alternative, Side, root, added}
 use Rattle.rasn_schema.specs.Choices.{alternative_at, choice_of, tags_of}
 use Rattle.rasn_schema.specs.Schemas.{Schema, Parts, no_parts, part}
 use Rattle.rasn_calls.specs.Choices.{ChoicesWell, ReadsAlternative}
-use Rattle.per_core.specs.Spellings.{Settings, Then, exactly}
+use Rattle.per_core.specs.Spellings.{Settings}
 use Rattle.per_core.specs.Basic.{basic, basic_in, rules, rules_in, Chosen, Alternative, IsConstrainedWhole}
 use Rattle.per_core.specs.Took.{Took}
 use Rattle.per_core.proofs.Lengths.{bounded_form_agree}
 use Rattle.per_core.proofs.Took.{took_then, then_took, took_map, took_agree, took_nothing, nothing_took}
-use Rattle.per_read.specs.declared.error.DecodeError.{DecodeError}
 use Rattle.per_read.specs.declared.error.DecodeErrorKind.{DecodeErrorKind}
 use Rattle.per_read.specs.declared.error.DecodeErrorKind.TheVariants.{AlreadyFailed, OutOfMemory}
 use Rattle.per_de.specs.Choices.{OpensChoice, ClosesChoice}
-use Rattle.per_de.specs.Faults.{Fault, IsInBits, IsOf, in_alternative, refusal}
+use Rattle.per_de.specs.Faults.{IsInBits, IsOf, in_alternative, refusal}
 use Rattle.per_de.specs.Rules.{decoder_rules}
 use Rattle.per_de.specs.Scopes.{with_scope}
 use Rattle.per_de.specs.State.{State, Spells, settings_of, with_bits}
@@ -62,7 +61,7 @@ took_choice a ps k c w {s} {m} {t} e h b = go (b.spelled.of).0 (b.spelled.of).1 
         let body : Took (Chosen (rules a ps) k v) m t = subst (λ z. Took (Chosen (rules a ps) k v) z t) g.1 (subst (λ (l : ℕ). Took (Chosen (rules a ps) l v) r.0 t) g.0 r.2) in
         record { v = v; is = f ∙ ap (λ (l : ℕ). alternative root l v) g.0; took = subst (λ z. Took z m t) (chosen_at a ps k c v e) body }
 
-moved : {a b : Settings} {k : DecodeErrorKind} {c : Schema} {m : Bits} → a ≡ b → IsInBits a k c m → IsInBits b k c m
+pub moved : {a b : Settings} {k : DecodeErrorKind} {c : Schema} {m : Bits} → a ≡ b → IsInBits a k c m → IsInBits b k c m
 moved {k = k} {c} {m} e h = subst (λ z. IsInBits z k c m) e h
 
 -- an alternative's fault is one of the choice

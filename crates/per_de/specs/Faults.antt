@@ -2,9 +2,11 @@
 use Rattle.std.specs.Prelude.{◌≡◌, ◌⊎◌, ℕ, Bool, true, List, [], ◌∷◌, length, Option, Some, Result, Ok, Err}
 use Rattle.rasn_types.specs.Bits.{Bits}
 use Rattle.rasn_types.specs.Values.{Value}
+use Rattle.rasn_constraints.specs.Bounds.{Size}
 use Rattle.rasn_schema.specs.Schemas.{TagTree, Presence, Schema, Parts, part}
 use Rattle.rasn_schema.specs.Choices.{alternative_at, choice_of, tags_of}
 use Rattle.rasn_calls.specs.Scopes.{record_of}
+use Rattle.per_core.specs.Counts.{list_items}
 use Rattle.per_core.specs.Spellings.{Settings}
 use Rattle.per_core.specs.Basic.{basic, rules, Body, Flags, IsConstrainedWhole}
 use Rattle.per_core.specs.Took.{Took}
@@ -12,8 +14,9 @@ use Rattle.per_read.specs.Choices.{IsOfIndex}
 use Rattle.per_read.specs.Enumerations.{IsOfItem}
 use Rattle.per_read.specs.Kinds.{IsShort, IsTested}
 use Rattle.per_read.specs.Numbers.{IsOfNumber}
-use Rattle.per_read.specs.Sizes.{IsOfItems}
+use Rattle.per_read.specs.Sizes.{IsOfItems, IsOfSize}
 use Rattle.per_read.specs.Strings.{IsOfString, IsOfText}
+use Rattle.per_read.specs.UpTo.{UpTo}
 use Rattle.per_core.specs.declared.items.Item.TheVariants.{Octet, Bit}
 use Rattle.per_read.specs.declared.error.DecodeError.{DecodeError}
 use Rattle.per_read.specs.declared.error.DecodeErrorKind.{DecodeErrorKind}
@@ -23,7 +26,7 @@ use Rattle.per_de.specs.State.{State, settings_of}
 -- what a kind says where no level is left
 abbrev pub IsOfCut : DecodeErrorKind → Type 0
 IsOfCut ExceedsMaxParseDepth = Unit {0}
-IsOfCut k = IsTested k
+IsOfCut k = ⊥
 
 -- what a kind says of a REAL (X.691 15), which isn't supported
 abbrev pub IsOfReal : DecodeErrorKind → Type 0
@@ -42,15 +45,18 @@ IsAt a (Schema.bit_string size mark) s k = IsOfItems a size mark Bit s k
 IsAt a (Schema.char_string alphabet size mark) s k = IsOfString a alphabet size mark s k
 IsAt a (Schema.text kind) s k = IsOfText a kind s k
 IsAt a Schema.real s k = IsOfReal k
+IsAt a (Schema.list e size mark) s k = IsOfSize a size mark list_items (basic a e) s k
 IsAt a Schema.cut s k = IsOfCut k
 IsAt a c s k = IsTested k
 
 mutual
-  -- The fault that a kind names stands in bits, as a schema reads them: at once, in a component of a record, or in the alternative of a choice.
+  -- The fault that a kind names stands in bits, as a schema reads them: at once, in a component of a record, in the alternative of a choice, or
+  -- in an element of a list, behind others.
   pub data IsInBits (a : Settings) (k : DecodeErrorKind) : Schema → Bits → Type 0 where
     at_once : {c : Schema} {s : Bits} → IsAt a c s k → IsInBits a k c s
     inside : {ps : Parts} {s m : Bits} (shown : List Bool) → Took (Flags (rules a ps) shown) s m → IsInParts a k ps shown m → IsInBits a k (record_of ps) s
     in_alternative : {ps : Parts} {n : ℕ} {c : Schema} {s m : Bits} → Took (IsConstrainedWhole a (length (tags_of ps)) n) s m → alternative_at ps n ≡ Some c → IsInBits a k c m → IsInBits a k (choice_of ps) s
+    in_element : {e : Schema} {size : Size} {mark : Bool} {s m : Bits} (vs : List Value) → Took (UpTo a size mark (basic a e) vs) s m → IsInBits a k e m → IsInBits a k (Schema.list e size mark) s
 
   -- It stands in a component that its presence bit shows, behind those before it.
   pub data IsInParts (a : Settings) (k : DecodeErrorKind) : Parts → List Bool → Bits → Type 0 where

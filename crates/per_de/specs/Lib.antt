@@ -2,6 +2,7 @@ pub mod ChoiceLaws
 pub mod Choices
 pub mod Faults
 pub mod Laws
+pub mod Lists
 pub mod Rules
 pub mod ScopeLaws
 pub mod Scopes

@@ -3,12 +3,12 @@ use Rattle.std.proofs.Common.{◌≡◌, ◌∙◌, refl, sym, ap, subst, inl, i
 use Rattle.rasn_types.specs.Bits.{Bits}
 use Rattle.rasn_types.specs.Values.{Value, fields, as_slots}
 use Rattle.rasn_schema.specs.Lawful.{has_bit, presence_bits}
-use Rattle.rasn_schema.specs.Schemas.{TagTree, Presence, required, optional, group, default, Schema, Parts, no_parts, part}
+use Rattle.rasn_schema.specs.Schemas.{Presence, required, optional, group, default, Schema, Parts, no_parts, part}
 use Rattle.rasn_schema.specs.Records.{record_value}
 use Rattle.rasn_calls.specs.Presences.{left_out}
 use Rattle.rasn_calls.specs.Scopes.{record_of, ReadsPart, reads_required, reads_there, reads_left_out, ReadsParts, reads_end, reads_next, FaultyParts, faulty_required, faulty_there, faulty_bit, faulty_here, faulty_behind, ScopesWell}
-use Rattle.per_core.specs.Spellings.{Settings, Spelling, When, exactly}
-use Rattle.per_core.specs.Basic.{basic, basic_in, rules, rules_in, Body, Flags, FlagOf, Bodies, Holds, IsLeftOut, Root, Fields_in}
+use Rattle.per_core.specs.Spellings.{Settings, Spelling, exactly}
+use Rattle.per_core.specs.Basic.{basic, basic_in, rules, rules_in, Body, Flags, FlagOf, Bodies, IsLeftOut, Root, Fields_in}
 use Rattle.per_core.specs.Took.{place, Took}
 use Rattle.per_core.proofs.Took.{took_then, then_took, took_map, took_nothing, nothing_took, took_bit}
 use Rattle.per_read.specs.declared.error.DecodeError.{DecodeError}

@@ -1,11 +1,11 @@
 -- What opening and closing a record do to a decoder.
-use Rattle.std.specs.Prelude.{◌≡◌, ℕ, suc, false, [], ◌++◌, length}
+use Rattle.std.specs.Prelude.{◌≡◌, ℕ, suc, true, false, [], ◌++◌, length, Result, Ok, Err}
 use Rattle.rasn_types.specs.Bits.{Bits}
 use Rattle.rasn_schema.specs.Lawful.{presence_bits}
 use Rattle.rasn_schema.specs.Normal.{root_of}
 use Rattle.rasn_schema.specs.Schemas.{Schema}
 use Rattle.per_read.specs.declared.error.DecodeError.{DecodeError}
-use Rattle.per_read.specs.declared.error.DecodeErrorKind.TheVariants.{MissingTag}
+use Rattle.per_read.specs.declared.error.DecodeErrorKind.TheVariants.{ExceedsMaxParseDepth, MissingTag}
 use Rattle.per_de.specs.Faults.{refusal}
 use Rattle.per_de.specs.State.{State}
 use Rattle.per_de.specs.declared.Scope.{Scope}
@@ -13,6 +13,11 @@ use Rattle.per_de.specs.declared.Scope.{Scope}
 -- the same with other levels and presence bits
 abbrev pub with_scope : State → ℕ → Bits → State
 with_scope s n q = record s { levels = n; presences = q }
+
+-- how many levels may be entered one level deeper; at no level left the decoder refuses
+abbrev pub LevelInside : State → Result ℕ DecodeError → State → Type 0
+LevelInside s (Ok n) t = (s.levels ≡ suc n) × (t ≡ s)
+LevelInside s (Err e) t = (s.levels ≡ 0) × (e ≡ refusal ExceedsMaxParseDepth s) × (t ≡ record s { failed = true })
 
 -- A scope is entered with other levels and presence bits: those from before wait outside, and all else is as before.
 pub record Enters (n : ℕ) (q : Bits) (s : State) (o : Scope) (i : State) : Type 0 where

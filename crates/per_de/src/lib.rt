@@ -2,21 +2,24 @@
 #![tactic(auto)]
 
 ghost use Rattle.std.specs.Prelude.{◌≡◌, true, false, MatchOption, OnOk, OnErr, IfErr};
-ghost use Rattle.rasn_types.specs.declared.types.Codec.TheVariants.{Uper};
+ghost use Rattle.rasn_types.specs.declared.types.Codec.TheVariants.{Aper, Uper};
 ghost use Rattle.per_read.specs.declared.error.DecodeErrorKind.TheVariants.{AlreadyFailed};
+ghost use Rattle.per_read.specs.Lists.{most};
 ghost use Rattle.per_de.specs.State.{State, Options, fresh};
 ghost use Rattle.per_de.specs.ChoiceLaws.{choices_well};
 ghost use Rattle.per_de.specs.Choices.{ClosesChoice, OpensChoice};
 ghost use Rattle.per_de.specs.Faults.{refusal, Answered};
 ghost use Rattle.per_de.specs.Rules.{decoder_rules};
-ghost use Rattle.per_de.specs.Scopes.{Enters, Opens, Closes, Unended};
+ghost use Rattle.per_de.specs.Scopes.{Enters, Opens, Closes, LevelInside, Unended};
 ghost use Rattle.per_de.specs.Laws.{decodes_well};
+ghost use Rattle.per_de.specs.Lists.{AmidList};
 ghost use Rattle.per_de.specs.ScopeLaws.{scopes_well};
 
 use per_bits::{BitList, BitReader};
 use per_read::Reader;
 pub use per_read::error;
 pub use per_read::error::{DecodeError, DecodeErrorKind, ParserFailCause};
+use per_read::lists::OpenList;
 use rasn_calls::decoder;
 use rasn_schema::choices::Choice;
 use rasn_schema::constraints::Constraints;
@@ -48,14 +51,25 @@ impl Model for DecoderOptions {
 }
 
 impl DecoderOptions {
+    /// The ALIGNED variant (X.691 7), and 128 levels.
+    pub const fn aligned() -> Self
+        ensures { result ≡ record { codec = Aper; levels = 128 } }
+    {
+        DecoderOptions::of_codec(Codec::Aper)
+    }
+
     /// The UNALIGNED variant (X.691 7), and 128 levels.
     pub const fn unaligned() -> Self
         ensures { result ≡ record { codec = Uper; levels = 128 } }
     {
-        DecoderOptions {
-            codec: Codec::Uper,
-            levels: 128,
-        }
+        DecoderOptions::of_codec(Codec::Uper)
+    }
+
+    /// The variant of a codec, and 128 levels.
+    const fn of_codec(codec: Codec) -> Self
+        ensures { result ≡ record { codec = codec; levels = 128 } }
+    {
+        DecoderOptions { codec, levels: 128 }
     }
 }
 
@@ -160,6 +174,16 @@ impl<'input> Decoder<'input> {
         }
     }
 
+    /// How many levels may be entered one level deeper. At no level left it refuses.
+    fn level_inside(&mut self) -> Result<u32, DecodeError>
+        ensures { LevelInside self.old result self.new }
+    {
+        match self.levels.checked_sub(1) {
+            Some(levels) => Ok(levels),
+            None => Err(self.refuse(DecodeErrorKind::ExceedsMaxParseDepth)),
+        }
+    }
+
     /// Enters a scope with so many levels left and these presence bits to read.
     fn enter(&mut self, levels: u32, presences: BitReader<'input>) -> Scope<'input>
         ensures { Enters levels presences.entry self.old result self.new }
@@ -179,10 +203,19 @@ pub struct Scope<'input> {
     presences: BitReader<'input>,
 }
 
+/// What is left of an open list, and what waits outside: the levels that may be entered there.
+#[derive(Drop)]
+pub struct ListScope {
+    list: OpenList,
+    levels: u32,
+}
+
 impl<'input> decoder::Decoder for Decoder<'input> {
     type Error = DecodeError;
 
     type Scope = Scope<'input>;
+
+    type List = ListScope;
 
     ghost rules = { decoder_rules };
 
@@ -195,6 +228,10 @@ impl<'input> decoder::Decoder for Decoder<'input> {
     ghost opens_choice = { OpensChoice };
 
     ghost closes_choice = { ClosesChoice };
+
+    ghost amid = { AmidList };
+
+    ghost most = { λ l. most l.list };
 
     fn codec(&self) -> Codec {
         Decoder::codec(self)
@@ -322,9 +359,7 @@ impl<'input> decoder::Decoder for Decoder<'input> {
 
     fn open_sequence<C: Constructed>(&mut self, _tag: Tag) -> Result<Scope<'input>, DecodeError> {
         self.check_unfailed()?;
-        let Some(levels) = self.levels.checked_sub(1) else {
-            return Err(self.refuse(DecodeErrorKind::ExceedsMaxParseDepth));
-        };
+        let levels = self.level_inside()?;
         let count = C::FIELDS.number_of_optional_and_default_fields();
         let taken = self.reader.take_row(count as u128);
         let presences = self.answer(taken)?;
@@ -343,9 +378,7 @@ impl<'input> decoder::Decoder for Decoder<'input> {
 
     fn open_choice<C: Choice>(&mut self) -> Result<(Tag, Scope<'input>), DecodeError> {
         self.check_unfailed()?;
-        let Some(levels) = self.levels.checked_sub(1) else {
-            return Err(self.refuse(DecodeErrorKind::ExceedsMaxParseDepth));
-        };
+        let levels = self.level_inside()?;
         let variants = C::VARIANTS;
         let taken = self.reader.take_choice_index(variants.len());
         let index = self.answer(taken)?;
@@ -356,6 +389,32 @@ impl<'input> decoder::Decoder for Decoder<'input> {
     fn close_choice(&mut self, scope: Scope<'input>) {
         self.levels = scope.levels;
         self.presences = scope.presences;
+    }
+
+    fn open_list(
+        &mut self,
+        _tag: Tag,
+        constraints: &Constraints,
+    ) -> Result<ListScope, DecodeError> {
+        self.check_unfailed()?;
+        let levels = self.level_inside()?;
+        let taken = self.reader.open_list(constraints);
+        let list = self.answer(taken)?;
+        let outside = mem::replace(&mut self.levels, levels);
+        Ok(ListScope {
+            list,
+            levels: outside,
+        })
+    }
+
+    fn next_element(&mut self, scope: &mut ListScope) -> Result<bool, DecodeError> {
+        self.check_unfailed()?;
+        let taken = self.reader.next_element(&mut scope.list);
+        let follows = self.answer(taken)?;
+        if !follows {
+            self.levels = scope.levels;
+        }
+        Ok(follows)
     }
 
     fn next_presence(&mut self) -> Result<bool, DecodeError> {

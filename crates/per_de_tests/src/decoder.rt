@@ -12,7 +12,7 @@ use std::alloc::Global;
 use std::test::Fail;
 
 /// A decoder of octets in the UNALIGNED variant.
-fn unaligned(alloc: Global, octets: &[u8]) -> Decoder<'_> {
+pub fn unaligned(alloc: Global, octets: &[u8]) -> Decoder<'_> {
     let bits = BitReader::from_octets(octets);
     Decoder::from_reader(alloc, bits, DecoderOptions::unaligned())
 }
@@ -40,7 +40,7 @@ fn hands_out_its_allocator(rt: HostRuntime) -> Result<(), Fail> {
 }
 
 /// An error in the UNALIGNED variant.
-fn refusal(kind: DecodeErrorKind) -> DecodeError {
+pub fn refusal(kind: DecodeErrorKind) -> DecodeError {
     DecodeError {
         kind,
         codec: Codec::Uper,
@@ -48,7 +48,7 @@ fn refusal(kind: DecodeErrorKind) -> DecodeError {
 }
 
 /// Opens so many records, and answers the innermost of them.
-fn open_many<'input>(
+pub fn open_many<'input>(
     decoder: &mut Decoder<'input>,
     count: u32,
 ) -> Result<Option<Scope<'input>>, DecodeError> {

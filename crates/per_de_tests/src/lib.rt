@@ -9,6 +9,8 @@ mod decoder;
 #[cfg(test)]
 mod errors;
 #[cfg(test)]
+mod lists;
+#[cfg(test)]
 mod numbers;
 #[cfg(test)]
 mod octets;

@@ -19,7 +19,8 @@ use Rattle.per_laws.proofs.Older.{made_of, made_both_of, slot_some, slot_meets, 
 use Rattle.per_laws.proofs.Carry.{Carry, kept, Leads, AllLead, skipped_carry, carries}
 use Rattle.per_laws.proofs.Carrying.{lengthy_as, additions_step, record_as, choice_as, rules_on}
 use Rattle.per_laws.proofs.Deeper.{same_cut_tags, cut_count}
-use Rattle.per_laws.proofs.Takes.{flags_newer_carry, slot_meets_not, zip_first, same_count, older_takes, left_out_drops}
+use Rattle.per_laws.proofs.Held.{older_takes}
+use Rattle.per_laws.proofs.Takes.{flags_newer_carry, slot_meets_not, zip_first, same_count, left_out_drops}
 use Rattle.per_depth.specs.Written.{is_written, writes_cut, slots_write_cut, writes_cut_at}
 use Rattle.per_depth.proofs.Same.{and_false, slot_written_cut, slot_cut_not}
 use Rattle.per_depth.proofs.Layers.{Writes, written_rules, chosen_rules, list_layer, bag_layer, record_layer, choice_layer}

@@ -8,9 +8,10 @@ use Rattle.rasn_schema.specs.Depth.{meets_cut}
 use Rattle.rasn_schema.specs.Lawful.{IsLawfulType}
 use Rattle.per_core.specs.Spellings.{Settings}
 use Rattle.per_core.specs.Canon.{bytes}
-use Rattle.per_core.specs.Basic.{read}
+use Rattle.per_core.specs.Basic.{fills_known, read}
 use Rattle.per_core.specs.Versions.{NewerType, project, widen}
 use Rattle.per_core.proofs.Laws.{same_normal_bytes}
+use Rattle.per_laws.proofs.AnyDepth
 use Rattle.per_laws.proofs.Normals.{normal_of_normal}
 use Rattle.per_laws.proofs.Types.{up_to, less_cut}
 use Rattle.per_depth.specs.Written.{writes_cut}
@@ -57,3 +58,11 @@ pub newer_reads : (a : Settings) (newer older : ℕ → Schema) → IsLawfulType
 newer_reads a newer older l k x v w os m n i j e h =
     let q = Peers.newer_type_reads a newer older l.unfolds k.unfolds x v os m n i j e w h in
     (q.0, λ z. q.1 z.0 z.1)
+
+pub older_reader_reads : (a : Settings) (newer older : ℕ → Schema) → IsLawfulType newer → IsLawfulType older → NewerType newer older → (v w : Value) (os : List ℕ) (n : ℕ) →
+    meets_cut (newer n) v ≡ false → read a newer v os → read a older w os ↔ (project (newer n) (older n) v ≡ Some w)
+older_reader_reads a newer older l k x v w os n h e = AnyDepth.older_reader_at a newer older l.unfolds k.unfolds x v w os n h e
+
+pub newer_reader_reads : (a : Settings) (newer older : ℕ → Schema) → IsLawfulType newer → IsLawfulType older → NewerType newer older → (v w : Value) (os : List ℕ) (n : ℕ) →
+    meets_cut (newer n) w ≡ false → fills_known a (older 128) v os → read a newer w os ↔ (widen (newer n) (older n) v ≡ Some w)
+newer_reader_reads a newer older l k x v w os n h e = AnyDepth.newer_reader_at a newer older l.unfolds k.unfolds x v w os n h e

@@ -20,7 +20,8 @@ use Rattle.per_laws.proofs.Carry.{Carry, kept, Leads, AllLead, carries}
 use Rattle.per_laws.proofs.Carrying.{lengthy_as, additions_step, record_as, choice_as, rules_on}
 use Rattle.per_laws.proofs.Deeper.{same_cut_tags, cut_count}
 use Rattle.per_laws.proofs.Takes.{slot_meets_not, same_count}
-use Rattle.per_laws.proofs.Widens.{newer_takes, flags_older_carry, zip_second, filled_left, left_out_grows}
+use Rattle.per_laws.proofs.Held.{newer_takes}
+use Rattle.per_laws.proofs.Widens.{flags_older_carry, zip_second, filled_left, left_out_grows}
 use Rattle.per_depth.specs.Written.{is_written, writes_cut, slots_write_cut, writes_cut_at}
 use Rattle.per_depth.proofs.Same.{and_false, slot_written_cut, slot_cut_not}
 use Rattle.per_depth.proofs.Layers.{Writes, written_rules, chosen_rules, list_layer, bag_layer, record_layer, choice_layer}

@@ -9,7 +9,7 @@ ghost use Rattle.rasn_schema.specs.Depth.{Unfolds, meets_cut};
 ghost use Rattle.rasn_schema.specs.Lawful.{IsLawful, IsLawfulType, is_value};
 ghost use Rattle.rasn_schema.specs.Normal.{normal};
 ghost use Rattle.rasn_schema.specs.Schemas.{Tag, default, Order, by_tag, Schema, Parts};
-ghost use Rattle.per_core.specs.Basic.{read};
+ghost use Rattle.per_core.specs.Basic.{fills_known, read};
 ghost use Rattle.per_core.specs.Canon.{canon, bytes};
 ghost use Rattle.per_core.specs.Spellings.{Settings};
 ghost use Rattle.per_core.specs.Versions.{NewerType, project, widen};
@@ -77,6 +77,24 @@ pub fn newer_lawful_type_reads()
         → NewerType newer older → (v w : Value) (os : List ℕ) (m n : ℕ) → m ≤ n → 128 ≤ n →
         bytes a.variant (older m) v ≡ Some os → meets_cut (newer n) w ≡ false →
         read a newer w os ↔ ((widen (newer n) (older n) v ≡ Some w) × (writes_cut (newer 128) (older 128) v ≡ false)) }
+{}
+
+/// Of any octets that a newer lawful type's reader within 128 levels reads, canonical or not, an older one's reads the
+/// projection, taken in trees that hold the value, and nothing else; it refuses them exactly where there is none, and
+/// no depth is asked of what isn't written (X.680, section 52).
+pub fn older_lawful_reader_reads_the_projection()
+    ensures { (a : Settings) (newer older : ℕ → Schema) → IsLawfulType newer → IsLawfulType older
+        → NewerType newer older → (v w : Value) (os : List ℕ) (n : ℕ) → meets_cut (newer n) v ≡ false
+        → read a newer v os → read a older w os ↔ (project (newer n) (older n) v ≡ Some w) }
+{}
+
+/// Of any octets that an older lawful type's reader within 128 levels reads, no unknown additions being present, a
+/// newer one's reads the widening, taken in trees that hold it, and nothing else; it refuses them exactly where there
+/// is none, and no depth is asked of what isn't written (X.680, section 52).
+pub fn newer_lawful_reader_reads_the_widening()
+    ensures { (a : Settings) (newer older : ℕ → Schema) → IsLawfulType newer → IsLawfulType older
+        → NewerType newer older → (v w : Value) (os : List ℕ) (n : ℕ) → meets_cut (newer n) w ≡ false
+        → fills_known a (older 128) v os → read a newer w os ↔ (widen (newer n) (older n) v ≡ Some w) }
 {}
 
 /// A lawful type is a newer version of itself, since its defaults are values of their schemas: so to be newer is an

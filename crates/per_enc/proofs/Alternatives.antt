@@ -1,5 +1,5 @@
 -- What the scope of a choice presents, and how it refuses.
-use Rattle.std.specs.Prelude.{Result, Ok, Err, OnOk, IsSome}
+use Rattle.std.specs.Prelude.{Result, Ok, Err}
 use Rattle.std.proofs.Common.{◌≡◌, refl, sym, ap, ◌∙◌, subst, inl, ℕ, zero, suc, false, [], ◌++◌, length, replicate, Option, Some, None, arith, append_assoc, length-append, ◌+◌, ◌%◌, ◌<◌, ◌≤◌}
 use Rattle.std.proofs.lemmas.List.{length-replicate}
 use Rattle.rasn_types.specs.Bits.{Bits, to_bits}
@@ -158,11 +158,7 @@ closes_choice x i j m y o ps count index k s v (Ok u) e few d h a w q c =
 closes_choice x i j m y o ps count index k s v (Err d) e few f h a w q c =
     absurd (room_left x i j o ps s v h w
     (subst (λ (n : ℕ). length j.bits < j.presences.place + index_width (variant_of j.codec) n) e
-    (subst (λ (z : State). length z.bits < z.presences.place + index_width (variant_of z.codec) count) q c.err)))
-
-pub known_index : (result : Result (Unit {0}) EncodeError) (found : Option ℕ) (index : ℕ) → found ≡ Some index → OnOk result (IsSome found)
-known_index (Ok u) found index e = subst (λ (o : Option ℕ). IsSome o) (sym e) refl
-known_index (Err d) found index e = tt
+    (subst (λ (z : State). length z.bits < z.presences.place + index_width (variant_of z.codec) count) q c.short)))
 
 pub same_index : {found : Option ℕ} {i k : ℕ} → found ≡ Some i → found ≡ Some k → i ≡ k
 same_index e d = cc

@@ -112,7 +112,7 @@ closes_record ps x i j y rs o (Ok u) h k c =
     presents_record x j x.codec ps rs h.begun refl l y (ap (λ z. z.bits) s) (ap (λ z. z.failed) s ∙ l.unfailed) (ap (λ z. z.codec) s ∙ l.same) (ap (λ z. z.presences) s ∙ h.waits)
 closes_record ps x i j y rs o (Err d) h k c =
     let l = laid ps i j x.codec rs x.bits [] 0 (opened ps h) k in
-    let e = c.err in let z = l.left in absurd (omega arith)
+    let e = c.some in let z = l.left in absurd (omega arith)
 
 -- nor was the encoder refused inside
 pub not_failed_inside : (ps : Parts) (x i j : State) (rs : List (Option Value)) (o : Presences) → Opens (record_of ps) x o i → PresentsParts encoder_rules ps i rs j → j.failed ≡ true → ⊥

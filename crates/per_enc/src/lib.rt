@@ -2,7 +2,7 @@
 #![tactic(auto)]
 
 ghost use Rattle.std.specs.Prelude.{◌≡◌, [], true, false, Some, OnOk, OnErr, IfOk, IfErr};
-ghost use Rattle.rasn_types.specs.declared.types.Codec.TheVariants.{Uper};
+ghost use Rattle.rasn_types.specs.declared.types.Codec.TheVariants.{Aper, Uper};
 ghost use Rattle.per_core.specs.Canon.{completed};
 ghost use Rattle.per_write.specs.Faults.{RefusesOutput};
 ghost use Rattle.per_write.specs.Rules.{encoder_rules};
@@ -41,6 +41,13 @@ impl Model for EncoderOptions {
 }
 
 impl EncoderOptions {
+    /// The ALIGNED variant (X.691 7).
+    pub const fn aligned() -> Self
+        ensures { result ≡ Aper }
+    {
+        EncoderOptions { codec: Codec::Aper }
+    }
+
     /// The UNALIGNED variant (X.691 7).
     pub const fn unaligned() -> Self
         ensures { result ≡ Uper }

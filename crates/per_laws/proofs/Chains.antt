@@ -8,23 +8,23 @@ use Rattle.per_core.proofs.Bags.{bag_source, bag_becomes, joined_of, sort}
 use Rattle.per_laws.proofs.Older.{made_of, made_both_of, slot_some}
 use Rattle.per_laws.proofs.Takes.{some_is}
 
-pub Steps : (f g h : Value → Option Value) → Type 0
+unfoldable pub Steps : (f g h : Value → Option Value) → Type 0
 Steps f g h = (v w : Value) → f v ≡ Some w → g w ≡ h v
 
-StepSlots : (F G H : List (Option Value) → Option (List (Option Value))) → Type 0
+unfoldable pub StepSlots : (F G H : List (Option Value) → Option (List (Option Value))) → Type 0
 StepSlots F G H = (xs ys : List (Option Value)) → F xs ≡ Some ys → G ys ≡ H xs
 
-StepAt : (F G H : ℕ → Value → Option Value) → Type 0
+unfoldable pub StepAt : (F G H : ℕ → Value → Option Value) → Type 0
 StepAt F G H = (i : ℕ) (v w : Value) → F i v ≡ Some w → G i w ≡ H i v
 
-all_steps : (f g h : Value → Option Value) → Steps f g h → (vs ws : List Value) → all_of f vs ≡ Some ws → all_of g ws ≡ all_of h vs
+pub all_steps : (f g h : Value → Option Value) → Steps f g h → (vs ws : List Value) → all_of f vs ≡ Some ws → all_of g ws ≡ all_of h vs
 unfolding Steps
 all_steps f g h r [] ws e = let i : [] ≡ ws = cc in ap (all_of g) (sym i)
 all_steps f g h r (v ∷ vs) ws e =
     let q = joined_of (f v) (all_of f vs) ws e in
     ap (all_of g) q.4 ∙ ap (λ o. joined o (all_of g q.1)) (r v q.0 q.2) ∙ ap (joined (h v)) (all_steps f g h r vs q.1 q.3)
 
-elements_steps : (f g h : Value → Option Value) → Steps f g h → Steps (through_elements f) (through_elements g) (through_elements h)
+pub elements_steps : (f g h : Value → Option Value) → Steps f g h → Steps (through_elements f) (through_elements g) (through_elements h)
 unfolding Steps
 elements_steps f g h r (elements vs) w e =
     let q = made_of (λ ws. elements (as_values ws)) (all_of f (values vs)) w e in
@@ -43,14 +43,14 @@ bag_through g us = ap (λ l. made bag_of (all_of g l)) (values-as_values (sort u
         some_v v = Some v
     go None (Some ws) e k = let r = bag_source g us ws k in let i : ◌≡◌ {A = Option (List Value)} None (Some r.0) = sym e ∙ r.1 in absurd (cc)
 
-bags_steps : (f g h : Value → Option Value) → Steps f g h → Steps (through_bag f) (through_bag g) (through_bag h)
+pub bags_steps : (f g h : Value → Option Value) → Steps f g h → Steps (through_bag f) (through_bag g) (through_bag h)
 unfolding Steps
 bags_steps f g h r (bag vs) w e =
     let q = made_of bag_of (all_of f (values vs)) w e in
     ap (through_bag g) q.2 ∙ bag_through g q.0 ∙ ap (made bag_of) (all_steps f g h r (values vs) q.0 q.1)
 bags_steps f g h r _ w e = absurd (cc)
 
-fields_steps : (F G H F' G' H' : List (Option Value) → Option (List (Option Value))) → StepSlots F G H → StepSlots F' G' H' → Steps (through_fields F F') (through_fields G G') (through_fields H H')
+pub fields_steps : (F G H F' G' H' : List (Option Value) → Option (List (Option Value))) → StepSlots F G H → StepSlots F' G' H' → Steps (through_fields F F') (through_fields G G') (through_fields H H')
 unfolding Steps StepSlots
 fields_steps F G H F' G' H' r r' (fields a b) w e =
     let q = made_both_of (F (slots a)) (F' (slots b)) w e in
@@ -58,7 +58,7 @@ fields_steps F G H F' G' H' r r' (fields a b) w e =
     ∙ ap (λ o. made_both o (G' q.1)) (r (slots a) q.0 q.2) ∙ ap (made_both (H (slots a))) (r' (slots b) q.1 q.3)
 fields_steps F G H F' G' H' r r' _ w e = absurd (cc)
 
-alternative_steps : (F G H F' G' H' : ℕ → Value → Option Value) → StepAt F G H → StepAt F' G' H' → Steps (through_alternative F F') (through_alternative G G') (through_alternative H H')
+pub alternative_steps : (F G H F' G' H' : ℕ → Value → Option Value) → StepAt F G H → StepAt F' G' H' → Steps (through_alternative F F') (through_alternative G G') (through_alternative H H')
 unfolding Steps StepAt
 alternative_steps F G H F' G' H' r r' (alternative root i v) w e =
     let q = made_of (alternative root i) (F i v) w e in ap (through_alternative G G') q.2 ∙ ap (made (alternative root i)) (r i v q.0 q.1)
@@ -73,21 +73,21 @@ slot_steps f g h r (Some v) y e =
     let q = slot_some f v y e in
     ap (slot_through g) q.2 ∙ ap (λ o. elim o [ None ↦ None | Some w ↦ Some (Some w) ]) (r v q.0 q.1)
 
-slots_steps : (f g h : Value → Option Value) (F G H : List (Option Value) → Option (List (Option Value))) → Steps f g h → StepSlots F G H → StepSlots (slots_through f F) (slots_through g G) (slots_through h H)
+pub slots_steps : (f g h : Value → Option Value) (F G H : List (Option Value) → Option (List (Option Value))) → Steps f g h → StepSlots F G H → StepSlots (slots_through f F) (slots_through g G) (slots_through h H)
 unfolding StepSlots
 slots_steps f g h F G H r rs [] ys e = absurd (cc)
 slots_steps f g h F G H r rs (x ∷ xs) ys e =
     let q = joined_of (slot_through f x) (F xs) ys e in
     ap (slots_through g G) q.4 ∙ ap (λ o. joined o (G q.1)) (slot_steps f g h r x q.0 q.2) ∙ ap (λ o. joined (slot_through h x) o) (rs xs q.1 q.3)
 
-at_steps : (f g h : Value → Option Value) (F G H : ℕ → Value → Option Value) → Steps f g h → StepAt F G H →
+pub at_steps : (f g h : Value → Option Value) (F G H : ℕ → Value → Option Value) → Steps f g h → StepAt F G H →
     StepAt (elim [ zero ↦ f | suc i ↦ F i ]) (elim [ zero ↦ g | suc i ↦ G i ]) (elim [ zero ↦ h | suc i ↦ H i ])
 unfolding Steps StepAt
 at_steps f g h F G H r rs zero v w e = r v w e
 at_steps f g h F G H r rs (suc i) v w e = rs i v w e
 
 -- an item is projected to itself
-item_same : (n : ℕ) (v w : Value) → through_item n v ≡ Some w → w ≡ v
+pub item_same : (n : ℕ) (v w : Value) → through_item n v ≡ Some w → w ≡ v
 item_same n (Value.item root i) w e = sym (some_is (Value.item root i) w e)
 item_same n (Value.item added i) w e = go (ltb i n) e
   where

@@ -16,7 +16,7 @@ pub or_both : (a b : Bool) → a ≡ false → b ≡ false → (a || b) ≡ fals
 or_both true b e f = absurd (cc)
 or_both false b e f = f
 
-in_bag : (K : Value → Bool) (us : List Value) → in_elements K (bag_of us) ≡ false → any_of K us ≡ false
+pub in_bag : (K : Value → Bool) (us : List Value) → in_elements K (bag_of us) ≡ false → any_of K us ≡ false
 unfolding bag_of sort
 in_bag K us m = any_in_bag K us (subst (λ l. any_of K l ≡ false) (values-as_values (sort us)) m)
 
@@ -173,7 +173,7 @@ bags_joins f g h K r = record { up = λ v v1 v2 e k m. go v v1 v2 e k m; down = 
     back _ v2 e m = absurd (cc)
 
 -- records
-abbrev Slotted : Type 0
+abbrev pub Slotted : Type 0
 Slotted = List (Option Value) → Option (List (Option Value))
 
 fields_joins : (F G H : Slotted) (K : List (Option Value) → Bool) (F' G' H' : Slotted) (L : List (Option Value) → Bool) → Joins F G H K → Joins F' G' H' L →
@@ -234,18 +234,18 @@ alternative_joins F G H K F' G' H' L r r' = record { up = λ v v1 v2 e k m. go v
     back _ v2 e m = absurd (cc)
 
 -- one slot more
-abbrev slot_test : (Value → Bool) → Option Value → Bool
+abbrev pub slot_test : (Value → Bool) → Option Value → Bool
 slot_test K None = false
 slot_test K (Some v) = K v
 
-slot_apart : (K : Value → Bool) (L : List (Option Value) → Bool) (x : Option Value) (xs : List (Option Value)) → in_slots K L (x ∷ xs) ≡ false → (slot_test K x ≡ false) × (L xs ≡ false)
+pub slot_apart : (K : Value → Bool) (L : List (Option Value) → Bool) (x : Option Value) (xs : List (Option Value)) → in_slots K L (x ∷ xs) ≡ false → (slot_test K x ≡ false) × (L xs ≡ false)
 slot_apart K L None xs m = (refl, m)
 slot_apart K L (Some v) xs m = (or_left (K v) (L xs) m, or_right (K v) (L xs) m)
 
-some_o : {x y : Option Value} → x ≡ y → ◌≡◌ {A = Option (Option Value)} (Some x) (Some y)
+pub some_o : {x y : Option Value} → x ≡ y → ◌≡◌ {A = Option (Option Value)} (Some x) (Some y)
 some_o e = cc
 
-into_slot : (g : Value → Option Value) (v w : Value) → g v ≡ Some w → slot_through g (Some v) ≡ Some (Some w)
+pub into_slot : (g : Value → Option Value) (v w : Value) → g v ≡ Some w → slot_through g (Some v) ≡ Some (Some w)
 into_slot g v w e = rw (e, slot_through) refl
 
 slot_up : (f g h : Value → Option Value) (K : Value → Bool) → Joins f g h K → (x x1 x2 : Option Value) → slot_through f x ≡ Some x1 → slot_through g x1 ≡ Some x2 → slot_test K x2 ≡ false → slot_through h x ≡ Some x2
@@ -307,7 +307,7 @@ filled_down s'' s' (default d'') (default d') n x2 e m =
     (Some d', refl, into_slot (widen s'' s') d' d'' (n.there m') ∙ e)
 filled_down s'' s' _ _ n x2 e m = absurd n
 
-some_l : {x y : List (Option Value)} → x ≡ y → ◌≡◌ {A = Option (List (Option Value))} (Some x) (Some y)
+pub some_l : {x y : List (Option Value)} → x ≡ y → ◌≡◌ {A = Option (List (Option Value))} (Some x) (Some y)
 some_l e = cc
 
 all_filled_up : {may : Bool} {ps'' ps' : Parts} → NewerParts may ps'' ps' → (v1 v2 : List (Option Value)) → all_filled_in ps' ≡ Some v1 → widen_slots ps'' ps' v1 ≡ Some v2 → slots_meet_cut ps'' v2 ≡ false → all_filled_in ps'' ≡ Some v2

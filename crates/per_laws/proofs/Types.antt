@@ -1,5 +1,5 @@
 -- Types in two versions: readers at 128 levels, projection and widening at as many levels as the value has.
-use Rattle.std.proofs.Common.{◌≡◌, refl, subst, ℕ, zero, suc, ◌+◌, ◌-◌, ◌≤◌, Bool, true, false, List, [], ◌∷◌, arith, Option, Some, None}
+use Rattle.std.proofs.Common.{◌≡◌, ◌↔◌, refl, subst, ℕ, zero, suc, ◌+◌, ◌-◌, ◌≤◌, Bool, true, false, List, [], ◌∷◌, arith, Option, Some, None}
 use Rattle.rasn_types.specs.Values.{Value, elements, bag, fields, alternative, root, added, values, slots}
 use Rattle.rasn_schema.specs.Depth.{meets_cut, slots_meet_cut, meets_cut_at, in_slots, in_elements, in_fields, in_alternative, any_of, CutOf, CutParts, cut_here, alike, cut_list, cut_set_of, cut_sequence, cut_choice, no_cut, cut_part, Unfolds}
 use Rattle.rasn_schema.specs.Schemas.{Schema, Parts}
@@ -8,7 +8,8 @@ use Rattle.per_core.specs.Spellings.{Settings}
 use Rattle.per_core.specs.Versions.{project, widen, NewerType}
 use Rattle.per_core.proofs.Lengths.{or_left, or_right}
 use Rattle.per_laws.proofs.Carry.{fills_carry}
-use Rattle.per_laws.proofs.Deeper.{deeper, uncut}
+use Rattle.per_laws.proofs.Deeper.{deeper, looser, uncut}
+use Rattle.per_laws.proofs.Held.{older_holds, newer_holds}
 use Rattle.per_laws.proofs.Readers.{older_answers, newer_answers, deeper_reads, shallower_reads}
 use Rattle.per_laws.proofs.Transitive.{or_both}
 
@@ -110,3 +111,19 @@ newer_type_answers a T' T u' u k v v' os m n l l' c x =
       λ y. (r.0 (os, refl, deeper_reads a (T' 128) (T' n) (up_to T' u' 128 n l') v' os y)).0,
       λ e d. shallower_reads a (T' 128) (T' n) (up_to T' u' 128 n l') v' os d (fills_carry a os (deeper a false true tt (uncut (T' n)) v') (r.1 e)),
     )
+
+-- what the newer type's reader reads, the older type's reads as the projection, whatever the depth of what isn't written
+pub older_reader_answers : (a : Settings) (T' T : ℕ → Schema) → Unfolds T' → Unfolds T → NewerType T' T → (v' v : Value) (os : List ℕ) (n : ℕ) → 128 ≤ n → meets_cut (T' n) v' ≡ false → read a T' v' os →
+    read a T v os ↔ (project (T' n) (T n) v' ≡ Some v)
+older_reader_answers a T' T u' u k v' v os n l c x = (
+  (older_type_answers a T' T u' u k v' v os 128 n l l c x).0,
+  λ e. fills_carry a os (older_holds a (k 128) (up_to T' u' 128 n l) (up_to T u 128 n l) (k n) v' v c e) x,
+)
+
+-- the same of the newer type's reader and the widening, where no unknown additions are present
+pub newer_reader_answers : (a : Settings) (T' T : ℕ → Schema) → Unfolds T' → Unfolds T → NewerType T' T → (v v' : Value) (os : List ℕ) (n : ℕ) → 128 ≤ n → meets_cut (T' n) v' ≡ false → fills_known a (T 128) v os →
+    read a T' v' os ↔ (widen (T' n) (T n) v ≡ Some v')
+newer_reader_answers a T' T u' u k v v' os n l c x = (
+  (newer_type_answers a T' T u' u k v v' os 128 n l l c x).0,
+  λ e. fills_carry a os (looser a (T' 128) v') (fills_carry a os (newer_holds a (k 128) (up_to T' u' 128 n l) (up_to T u 128 n l) (k n) v v' c e) x),
+)

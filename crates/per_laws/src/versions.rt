@@ -1,6 +1,6 @@
 //! The laws of schema versions: what an older and a newer version read of the same octets.
 
-ghost use Rattle.std.specs.Prelude.{◌≡◌, ◌≤◌, ◌++◌, ℕ, List, Some, None, false};
+ghost use Rattle.std.specs.Prelude.{◌≡◌, ◌↔◌, ◌≤◌, ◌++◌, ℕ, List, Some, None, false};
 ghost use Rattle.rasn_types.specs.Values.{Value};
 ghost use Rattle.rasn_schema.specs.Depth.{Unfolds, meets_cut};
 ghost use Rattle.rasn_schema.specs.Schemas.{Schema};
@@ -8,6 +8,7 @@ ghost use Rattle.per_core.specs.Basic.{fills, fills_known, front, read};
 ghost use Rattle.per_core.specs.Canon.{bytes};
 ghost use Rattle.per_core.specs.Spellings.{Settings};
 ghost use Rattle.per_core.specs.Versions.{Newer, NewerType, project, widen};
+ghost use Rattle.per_laws.specs.Successors.{SucceedsType};
 
 /// Canonical bytes are read, and no unknown additions are present in them, at any depth (X.691, 19.9).
 pub fn canonical_bytes_have_no_unknown_additions()
@@ -112,4 +113,38 @@ pub fn newer_type_reads_the_widening()
         meets_cut (newer n) v ≡ false → fills_known a (older m) w octets →
         (read a newer v octets → widen (newer n) (older n) w ≡ Some v)
         × (widen (newer n) (older n) w ≡ Some v → meets_cut (newer 128) v ≡ false → read a newer v octets) }
+{}
+
+/// Of types of any depth: of any octets that a newer type's reader reads, canonical or not, an older type's reader
+/// reads the projection, taken in trees that hold the value, wherever there is one, and nothing else; and of these
+/// octets with others behind them the same, leaving just the others. No depth is asked of what isn't written, such as a
+/// default of many levels (X.680, 52).
+pub fn older_reader_reads_the_projection()
+    ensures { (a : Settings) (newer older : ℕ → Schema) →
+        Unfolds newer → Unfolds older → NewerType newer older →
+        (v w : Value) (octets rest after : List ℕ) (n : ℕ) → meets_cut (newer n) v ≡ false → read a newer v octets →
+        (read a older w octets ↔ (project (newer n) (older n) v ≡ Some w))
+        × (front a (older 128) w (octets ++ rest) after
+        ↔ ((project (newer n) (older n) v ≡ Some w) × (after ≡ rest))) }
+{}
+
+/// Of types of any depth: of any octets that an older type's reader reads, no unknown additions being present, a newer
+/// type's reader reads the widening, taken in trees that hold it, wherever there is one, and nothing else; and of these
+/// octets with others behind them the same, leaving just the others. No depth is asked of what isn't written (X.680,
+/// 52).
+pub fn newer_reader_reads_the_widening()
+    ensures { (a : Settings) (newer older : ℕ → Schema) →
+        Unfolds newer → Unfolds older → NewerType newer older →
+        (w v : Value) (octets rest after : List ℕ) (n : ℕ) → meets_cut (newer n) v ≡ false →
+        fills_known a (older 128) w octets →
+        (read a newer v octets ↔ (widen (newer n) (older n) w ≡ Some v))
+        × (front a (newer 128) v (octets ++ rest) after
+        ↔ ((widen (newer n) (older n) w ≡ Some v) × (after ≡ rest))) }
+{}
+
+/// Of types of any depth: a newer version is one that is an extension successor at every number of levels. So versions
+/// owe that a default is the older one widened only in trees that hold it (X.680, 52).
+pub fn newer_types_are_extension_successors()
+    ensures { (newer older : ℕ → Schema) → Unfolds newer → Unfolds older → SucceedsType newer older
+        ↔ NewerType newer older }
 {}

@@ -2,12 +2,13 @@
 use Rattle.std.specs.Prelude.{ℕ, ◌≡◌, ◌≢◌, List, [], ◌∷◌, ◌++◌, Option, IfSome, Ok}
 use Rattle.std.specs.Io.BufRead.{first_piece, strip_last}
 use Rattle.std.specs.Io.KnownBytes.{Appends}
+use Rattle.rasn_types.specs.Codecs.{variant_of}
 use Rattle.hex.specs.Hex.{decode_of, encode_lower}
 use Rattle.per_lines.specs.declared.arguments.Arguments.{Arguments}
 use Rattle.per_lines.specs.declared.fault.Fault.{Fault}
 use Rattle.per_lines.specs.declared.fault.Fault.TheVariants.{WrongArguments, CannotRead, BadHexadecimal, Decode, Encode, CannotWrite, OutOfMemory}
 use Rattle.per_lines.specs.Words.{words_of}
-use Rattle.per_lines.specs.Recoding.{rules_of, schema_of, Recodes, IsRefusal}
+use Rattle.per_lines.specs.Recoding.{schema_of, Recodes, IsRefusal}
 
 -- the octets before the first line feed, or all, without a carriage return at their end
 abbrev pub line_of : List ℕ → List ℕ
@@ -31,7 +32,7 @@ pub record Answers (words : List (List ℕ)) (input : Option (List ℕ)) (text :
   pub asked : words ≡ words_of arguments
   pub is_line : IsLineOf input line
   pub hexadecimal : decode_of line ≡ Ok octets
-  pub recoded : Recodes (rules_of arguments.variant) (schema_of arguments.type_name) octets canonical
+  pub recoded : Recodes (variant_of arguments.codec) (schema_of arguments.type_name) octets canonical
   pub is_text : text ≡ encode_lower canonical ++ 10 ∷ []
 
 -- there is an answer
@@ -61,7 +62,7 @@ pub record AreRefused (words : List (List ℕ)) (input : Option (List ℕ)) (fau
   pub asked : words ≡ words_of arguments
   pub is_line : IsLineOf input line
   pub hexadecimal : decode_of line ≡ Ok octets
-  pub refused : IsRefusal (rules_of arguments.variant) (schema_of arguments.type_name) octets fault
+  pub refused : IsRefusal (variant_of arguments.codec) (schema_of arguments.type_name) octets fault
 
 -- A fault comes only where it stands. Reading may fail at any input, and memory may run out.
 abbrev pub Stands : List (List ℕ) → Option (List ℕ) → Fault → Type 0

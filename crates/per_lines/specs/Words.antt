@@ -1,17 +1,18 @@
 -- The words after the program's name.
 use Rattle.std.specs.Prelude.{ℕ, List, [], ◌∷◌, String, codes, map, string_bytes}
-use Rattle.per_lines.specs.declared.arguments.Variant.{Variant}
-use Rattle.per_lines.specs.declared.arguments.Variant.TheVariants.{Uper}
+use Rattle.rasn_types.specs.declared.types.Codec.{Codec}
+use Rattle.rasn_types.specs.declared.types.Codec.TheVariants.{Aper, Uper}
 use Rattle.per_lines.specs.declared.arguments.TypeName.{TypeName}
-use Rattle.per_lines.specs.declared.arguments.TypeName.TheVariants.{Boolean, Null, Integer, UpTo65535, FromMinusOne, Natural, ZeroTo65536, OneToTenExtensible, Four, Seven, OneDefault, ShortVisible, LettersAToE, BitString, OctetString, OnlyX, Items}
+use Rattle.per_lines.specs.declared.arguments.TypeName.TheVariants.{Boolean, Null, Integer, UpTo65535, FromMinusOne, Natural, ZeroTo65536, OneToTenExtensible, Four, Seven, OneDefault, ShortVisible, LettersAToE, BitString, OctetString, OnlyX, Items, Byte, MaybeEmpty, Nested, Nest, Bytes, Nulls, NullList, Elements}
 use Rattle.per_lines.specs.declared.arguments.Arguments.{Arguments}
 
 -- words by their octets
 abbrev pub words : {Z : Type 0} → List (String Z) → List (List ℕ)
 words arguments = map string_bytes arguments
 
-abbrev pub variant_word : Variant → List ℕ
-variant_word Uper = codes "uper"
+abbrev pub codec_word : Codec → List ℕ
+codec_word Aper = codes "aper"
+codec_word Uper = codes "uper"
 
 abbrev pub type_word : TypeName → List ℕ
 type_word Boolean = codes "boolean"
@@ -31,7 +32,15 @@ type_word BitString = codes "bits"
 type_word OctetString = codes "octets"
 type_word OnlyX = codes "onlyx"
 type_word Items = codes "items"
+type_word Byte = codes "byte"
+type_word MaybeEmpty = codes "empty"
+type_word Nested = codes "nested"
+type_word Nest = codes "nest"
+type_word Bytes = codes "bytes"
+type_word Nulls = codes "nulls"
+type_word NullList = codes "nulllist"
+type_word Elements = codes "elements"
 
--- a variant and a type
+-- a codec and a type
 abbrev pub words_of : Arguments → List (List ℕ)
-words_of a = variant_word a.variant ∷ type_word a.type_name ∷ []
+words_of a = codec_word a.codec ∷ type_word a.type_name ∷ []

@@ -1,17 +1,12 @@
 //! What the program is asked to do.
 
 ghost use Rattle.std.specs.Prelude.{◌≡◌, ◌≢◌, IfSome, IfNone, map, string_bytes};
-ghost use Rattle.per_lines.specs.Words.{variant_word, type_word, words_of};
-ghost use Rattle.per_lines.specs.declared.arguments.Variant.{Variant as a_variant};
+ghost use Rattle.rasn_types.specs.declared.types.Codec.{Codec as a_codec};
+ghost use Rattle.per_lines.specs.Words.{codec_word, type_word, words_of};
 ghost use Rattle.per_lines.specs.declared.arguments.TypeName.{TypeName as a_name};
 ghost use Rattle.per_lines.specs.declared.arguments.Arguments.{Arguments as the_arguments};
 
-/// A variant of the packed encoding rules (X.691 7) that the program knows.
-#[derive(Clone, Copy, Debug, PartialEq, Eq)]
-pub enum Variant {
-    /// The UNALIGNED variant.
-    Uper,
-}
+use rasn_types::types::Codec;
 
 /// A type that the program knows.
 #[derive(Clone, Copy, Debug, PartialEq, Eq)]
@@ -50,27 +45,43 @@ pub enum TypeName {
     OnlyX,
     /// SEQUENCE { a BOOLEAN, e ENUMERATED of 256 items }.
     Items,
+    /// SEQUENCE of eight BOOLEAN.
+    Byte,
+    /// SEQUENCE { a BOOLEAN, b OCTET STRING (SIZE (0..3)), c BOOLEAN }.
+    MaybeEmpty,
+    /// CHOICE { x [0] BOOLEAN, y CHOICE { p [1] BOOLEAN, q [2] NULL }, z [3] NULL }, y untagged.
+    Nested,
+    /// Nest ::= SEQUENCE { inner Nest OPTIONAL }.
+    Nest,
+    /// SEQUENCE OF byte.
+    Bytes,
+    /// SEQUENCE (SIZE (1..300)) OF NULL.
+    Nulls,
+    /// SEQUENCE OF NULL.
+    NullList,
+    /// SEQUENCE { flag BOOLEAN, fixed SEQUENCE (SIZE (2)) OF E, ranged SEQUENCE (SIZE (1..4)) OF E,
+    /// trailer INTEGER (0..255) }, E being SEQUENCE { octets OCTET STRING (SIZE (3)) }.
+    Elements,
 }
 
 /// What the program is asked to do.
 #[derive(Clone, Copy, Debug, PartialEq, Eq)]
 pub struct Arguments {
-    /// The variant to read and to write.
-    pub variant: Variant,
+    /// The variant to read and to write (X.691 7).
+    pub codec: Codec,
     /// The type of the value.
     pub type_name: TypeName,
 }
 
-impl Variant {
-    /// The variant that a word names.
-    fn of_word(word: &str) -> Option<Variant>
-        ensures named { IfSome result (λ v. word.now ≡ variant_word v) }
-        ensures unknown { IfNone result ((v : a_variant) → word.now ≢ variant_word v) }
-    {
-        match word {
-            "uper" => Some(Variant::Uper),
-            _ => None,
-        }
+/// The codec that a word names.
+fn codec_of_word(word: &str) -> Option<Codec>
+    ensures named { IfSome result (λ c. word.now ≡ codec_word c) }
+    ensures unknown { IfNone result ((c : a_codec) → word.now ≢ codec_word c) }
+{
+    match word {
+        "aper" => Some(Codec::Aper),
+        "uper" => Some(Codec::Uper),
+        _ => None,
     }
 }
 
@@ -98,22 +109,30 @@ impl TypeName {
             "octets" => Some(TypeName::OctetString),
             "onlyx" => Some(TypeName::OnlyX),
             "items" => Some(TypeName::Items),
+            "byte" => Some(TypeName::Byte),
+            "empty" => Some(TypeName::MaybeEmpty),
+            "nested" => Some(TypeName::Nested),
+            "nest" => Some(TypeName::Nest),
+            "bytes" => Some(TypeName::Bytes),
+            "nulls" => Some(TypeName::Nulls),
+            "nulllist" => Some(TypeName::NullList),
+            "elements" => Some(TypeName::Elements),
             _ => None,
         }
     }
 }
 
 impl Arguments {
-    /// The arguments that the words after the program's name spell: a variant and a type.
+    /// The arguments that the words after the program's name spell: a codec and a type.
     pub fn of_words(words: &[String]) -> Option<Arguments>
         ensures spelled { IfSome result (λ a. map string_bytes words.now ≡ words_of a) }
         ensures unknown { IfNone result ((a : the_arguments) → map string_bytes words.now ≢ words_of a) }
     {
-        let [variant, type_name] = words else {
+        let [codec, type_name] = words else {
             return None;
         };
         Some(Arguments {
-            variant: Variant::of_word(variant.as_str())?,
+            codec: codec_of_word(codec.as_str())?,
             type_name: TypeName::of_word(type_name.as_str())?,
         })
     }

@@ -54,6 +54,11 @@ module _ {C : Type 0} {holds : C → C → List ℕ → Type 0} {why : Reason} {
       → TakesItems holds why form before x r after y
   takes_last_items {r = r} a e f g = record { ok = IfOk-weaker r _ _ f a.ok; err = IfErr-weaker r _ _ g a.err; kept = a.kept ∙ e }
 
+-- a refusal that is handed on, as itself
+pub errs : {T E : Type 0} (r : Result T E) (k : E) → IsErrAnd r (λ e. e ≡ k) → r ≡ Err k
+errs (Ok v) k h = absurd h
+errs (Err e) k h = ap Err h
+
 -- too few bits, which tests show
 pub of_short : (k : DecodeErrorKind) → IsShort k → IsTested k
 of_short (Incomplete missing) h = tt

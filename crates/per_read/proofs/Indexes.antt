@@ -1,5 +1,5 @@
 -- The index of a CHOICE, seen from the bits that are left (X.691 23.6).
-use Rattle.std.proofs.Common.{◌≡◌, sym, subst, ℕ, ◌^◌, ◌<◌, ◌≤◌, Option, Some, None, arith}
+use Rattle.std.proofs.Common.{◌≡◌, subst, ℕ, ◌^◌, ◌<◌, ◌≤◌, Option, arith}
 use Rattle.rasn_types.specs.Bits.{Bits}
 use Rattle.per_core.specs.Basic.{IsConstrainedWhole, constrained_form}
 use Rattle.per_core.specs.Spellings.{Settings}

@@ -6,6 +6,8 @@ pub mod Forms
 pub mod Naturals
 pub mod OneByOne
 pub mod Parts
+pub mod OpenLists
+pub mod Openings
 pub mod Under
 pub mod Within
 pub mod Fits

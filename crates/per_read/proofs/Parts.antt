@@ -37,35 +37,36 @@ small_length l {s} {t} b =
     let r = small_count l q.0 t q.2 in
     (r.0, omega (arith, r.1, ap length q.1.joins, length-append q.1.front q.0))
 
-one_length : (a : Settings) (l m : Length) (s t u : Bits) → Took (LengthOf a l) s t → Took (LengthOf a m) s u → (l ≡ m) × (t ≡ u)
+pub one_length : (a : Settings) (l m : Length) (s t u : Bits) → Took (LengthOf a l) s t → Took (LengthOf a m) s u → (l ≡ m) × (t ≡ u)
 one_length a l m s t u b c = let q = then_took b in one_count l m q.0 t u q.2 (unpadded q.1 m u c)
 
 module _ (w : ℕ) where
   same_items : (xs ys : List ℕ) (s t u : Bits) → length xs ≡ length ys → Took (OneByOne (Field w) xs) s t → Took (OneByOne (Field w) ys) s u → (xs ≡ ys) × (t ≡ u)
   same_items xs ys s t u l b c = took_agree (weaken (Zip-same xs ys) (row_agree (λ x y. x ≡ y) (Field w) (Field w) (field_agree w) xs ys l)) b c
 
+module _ {X : Type 0} (item : X → Spelling) where
   -- what is behind the items of a length
-  abbrev pub Tail : Settings → Length → List ℕ → Bits → Bits → Type 0
+  abbrev pub Tail : Settings → Length → List X → Bits → Bits → Type 0
   Tail a (Last n) others s t = (others ≡ []) × (s ≡ t)
-  Tail a (Fragment n) others s t = Took (UnconstrainedLength a (Field w) others) s t
+  Tail a (Fragment n) others s t = Took (UnconstrainedLength a item others) s t
 
   -- items as a first length, the items that it counts and what is behind them
-  pub record Part (a : Settings) (xs : List ℕ) (s t : Bits) : Type 0 where
+  pub record Part (a : Settings) (xs : List X) (s t : Bits) : Type 0 where
     pub head : Length
-    pub these : List ℕ
-    pub others : List ℕ
+    pub these : List X
+    pub others : List X
     pub behind : Bits
     pub rest : Bits
     pub is_length : Took (LengthOf a head) s behind
     pub many : length these ≡ count_of head
-    pub are_these : Took (OneByOne (Field w) these) behind rest
+    pub are_these : Took (OneByOne item these) behind rest
     pub all : xs ≡ these ++ others
     pub tail : Tail a head others rest t
 
-  pub first_part : (a : Settings) (xs : List ℕ) (s t : Bits) → Took (UnconstrainedLength a (Field w) xs) s t → Part a xs s t
+  pub first_part : (a : Settings) (xs : List X) (s t : Bits) → Took (UnconstrainedLength a item xs) s t → Part a xs s t
   first_part a xs s t b = go b.spelled.fragments b.spelled.spelled
     where
-      go : (k : ℕ) → InFragments a (Field w) k xs (place s) b.front → Part a xs s t
+      go : (k : ℕ) → InFragments a item k xs (place s) b.front → Part a xs s t
       go zero h =
           let q = then_took (record { front = b.front; joins = b.joins; spelled = h }) in
           let r = then_took q.2 in
@@ -98,19 +99,19 @@ module _ (w : ℕ) where
             tail = took_map (λ p c i. record { fragments = k; spelled = i }) v.2;
           }
 
-  pub last_part : {a : Settings} {xs : List ℕ} {n : ℕ} {s m t : Bits} → Took (LengthOf a (Last n)) s m → length xs ≡ n → Took (OneByOne (Field w) xs) m t → Took (UnconstrainedLength a (Field w) xs) s t
+  pub last_part : {a : Settings} {xs : List X} {n : ℕ} {s m t : Bits} → Took (LengthOf a (Last n)) s m → length xs ≡ n → Took (OneByOne item xs) m t → Took (UnconstrainedLength a item xs) s t
   last_part {a} {xs} {n} {s} {m} {t} b e c =
       let q = then_took b in
       let h : Took (LastCount (length xs)) q.0 m = subst (λ z. Took (LastCount z) q.0 m) (sym e) q.2 in
       took_map (λ p x i. record { fragments = 0; spelled = i }) (took_then q.1 (took_then h c))
 
-  pub more_parts : {a : Settings} (these : List ℕ) {others : List ℕ} {n : ℕ} {s m l t : Bits} → Took (LengthOf a (Fragment n)) s m → length these ≡ n → Took (OneByOne (Field w) these) m l
-      → Took (UnconstrainedLength a (Field w) others) l t → Took (UnconstrainedLength a (Field w) (these ++ others)) s t
+  pub more_parts : {a : Settings} (these : List X) {others : List X} {n : ℕ} {s m l t : Bits} → Took (LengthOf a (Fragment n)) s m → length these ≡ n → Took (OneByOne item these) m l
+      → Took (UnconstrainedLength a item others) l t → Took (UnconstrainedLength a item (these ++ others)) s t
   more_parts {a} these {others} {n} {s} {m} {l} {t} b e c d =
       let q = then_took b in
       let h : Took (Basic.Fragment (length these)) q.0 m = subst (λ z. Took (Basic.Fragment z) q.0 m) (sym e) q.2 in
       let k = d.spelled.fragments in
-      let i : Took (InFragments a (Field w) k others) l t = record { front = d.front; joins = d.joins; spelled = d.spelled.spelled } in
+      let i : Took (InFragments a item k others) l t = record { front = d.front; joins = d.joins; spelled = d.spelled.spelled } in
       took_map (λ p x j. record { fragments = suc k; spelled = record { these = these; others = others; all = refl; spelled = j } }) (took_then q.1 (took_then h (took_then c i)))
 
 -- Items from a start are those that were read so far and then those from here.
@@ -132,14 +133,14 @@ module _ {C : Type 0} {holds : C → C → List ℕ → Type 0} {a : Settings} {
     count = omega (arith, h.count, c.count, length-append h.codes c.codes);
     added = adds_more h.added c.added;
     on = λ xs t d.
-        subst (λ z. Took (UnconstrainedLength a (Field w) z) start t) (sym (append_assoc h.codes c.codes xs)) (h.on (c.codes ++ xs) t (more_parts w c.codes fragment (c.count ∙ i ∙ ap count_of e) c.took d));
-    back = λ xs t d. let q = h.back xs t d in go xs t q.0 q.1 (first_part w a q.0 here t q.2);
+        subst (λ z. Took (UnconstrainedLength a (Field w) z) start t) (sym (append_assoc h.codes c.codes xs)) (h.on (c.codes ++ xs) t (more_parts (Field w) c.codes fragment (c.count ∙ i ∙ ap count_of e) c.took d));
+    back = λ xs t d. let q = h.back xs t d in go xs t q.0 q.1 (first_part (Field w) a q.0 here t q.2);
   }
     where
       fragment : Took (LengthOf a (Fragment k)) here m
       fragment = subst (λ z. Took (LengthOf a z) here m) e b
 
-      go : (xs : List ℕ) (t : Bits) (others : List ℕ) → xs ≡ h.codes ++ others → Part w a others here t
+      go : (xs : List ℕ) (t : Bits) (others : List ℕ) → xs ≡ h.codes ++ others → Part (Field w) a others here t
           → (others : List ℕ) × (xs ≡ (h.codes ++ c.codes) ++ others) × Took (UnconstrainedLength a (Field w) others) r t
       go xs t others f p =
           let x = one_length a p.head l here p.behind m p.is_length b in
@@ -147,7 +148,7 @@ module _ {C : Type 0} {holds : C → C → List ℕ → Type 0} {a : Settings} {
           let y = same_items w p.these c.codes p.behind p.rest r many p.are_these (subst (λ z. Took (OneByOne (Field w) c.codes) z r) (sym x.1) c.took) in (
             p.others,
             f ∙ ap (λ z. h.codes ++ z) (p.all ∙ ap (λ z. z ++ p.others) y.0) ∙ sym (append_assoc h.codes c.codes p.others),
-            subst (λ z. Took (UnconstrainedLength a (Field w) p.others) z t) y.1 (subst (λ z. Tail w a z p.others p.rest t) (x.0 ∙ e) p.tail),
+            subst (λ z. Took (UnconstrainedLength a (Field w) p.others) z t) y.1 (subst (λ z. Tail (Field w) a z p.others p.rest t) (x.0 ∙ e) p.tail),
           )
 
   pub items_end : (kind : Counted) (count : ℕ) {l : Length} {k j : ℕ} {m t : Bits} {all : C} → Took (LengthOf a l) here m → l ≡ Last k → j ≡ count_of l → count ≡ n + j → count < 2 ^ 64
@@ -161,7 +162,7 @@ module _ {C : Type 0} {holds : C → C → List ℕ → Type 0} {a : Settings} {
         took =
             let last : Took (LengthOf a (Last k)) here m = subst (λ z. Took (LengthOf a z) here m) e b in
             let allowed : allows any_size (length (h.codes ++ c.codes)) ≡ true = lt-ltb (length (h.codes ++ c.codes)) (2 ^ 64) (omega arith) in
-            took_map (λ p x y. record { allowed = allowed; spelled = y }) (h.on c.codes t (last_part w last (c.count ∙ i ∙ ap count_of e) c.took));
+            took_map (λ p x y. record { allowed = allowed; spelled = y }) (h.on c.codes t (last_part (Field w) last (c.count ∙ i ∙ ap count_of e) c.took));
       }
 
   -- nothing is spelled where there is no length, where its items end early, or where there are more items than can be counted
@@ -169,13 +170,13 @@ module _ {C : Type 0} {holds : C → C → List ℕ → Type 0} {a : Settings} {
     pub no_items_length : NoneIn (LengthOf a) here → NoneIn (Sized a any_size kind (Field w)) start
     no_items_length none xs t b =
         let q = h.back xs t (took_map (λ p c x. x.spelled) b) in
-        let p = first_part w a q.0 here t q.2 in none p.head p.behind p.is_length
+        let p = first_part (Field w) a q.0 here t q.2 in none p.head p.behind p.is_length
 
     pub no_items_short : (l : Length) (m : Bits) → Took (LengthOf a l) here m → (n + count_of l < 2 ^ 64 → length m < w * count_of l) → NoneIn (Sized a any_size kind (Field w)) start
     no_items_short l m b k xs t d =
         let i : length xs < 2 ^ 64 = ltb-true (length xs) (2 ^ 64) d.spelled.allowed in
         let q = h.back xs t (took_map (λ p c x. x.spelled) d) in
-        let p = first_part w a q.0 here t q.2 in
+        let p = first_part (Field w) a q.0 here t q.2 in
         let x = one_length a p.head l here p.behind m p.is_length b in
         let v = items_wide w p.these p.are_these in
         let y : length p.behind ≡ length m = ap length x.1 in

@@ -1,7 +1,7 @@
 -- Items as a size has them written, seen from the bits that are left (X.691 11.9).
 use Rattle.std.proofs.Common.{◌≡◌, ◌∙◌, ◌<◌, ◌≤◌, ◌⊎◌, inl, inr, ℕ, ◌+◌, ◌-◌, ◌*◌, ◌^◌, ◌&&◌, ltb, leb, eqb, Bool, true, false, cond, List, length, refl, sym, ap, subst, arith, Option, Some, None, le-leb, le-ltb, leb-true, pos, pow_mono}
 use Rattle.std.specs.Prelude.{option_map}
-use Rattle.std.proofs.lemmas.Bool.{cases_lt, lt-ltb}
+use Rattle.std.proofs.lemmas.Bool.{cases_lt, lt-ltb, ltb-true}
 use Rattle.rasn_types.specs.Bits.{Bits, width}
 use Rattle.rasn_types.specs.Variants.{Variant, aligned, unaligned}
 use Rattle.rasn_types.proofs.Bits.{width_least}
@@ -10,12 +10,12 @@ use Rattle.per_core.specs.Basic.{OneByOne, UnconstrainedLength, PaddingIf, Sized
 use Rattle.per_core.specs.Counts.{Counted, is_aligned}
 use Rattle.per_core.specs.Spellings.{Settings, Spelling, Then, AnyPadding, Field}
 use Rattle.per_core.specs.Took.{Took}
-use Rattle.per_core.proofs.Agree.{padding_agree, field_agree}
+use Rattle.per_core.proofs.Agree.{Agree, weaken, when_agree, padding_agree, field_agree}
 use Rattle.per_core.proofs.Lengths.{Zip-same, bounded_form_agree, unsized_agree, and_left, and_right}
 use Rattle.per_core.proofs.Took.{took_then, then_took, took_map, took_agree, nothing_took}
 use Rattle.per_read.specs.Kinds.{NoneIn}
 use Rattle.per_read.specs.Items.{TookItems}
-use Rattle.per_read.specs.Sizes.{Between, under_size}
+use Rattle.per_read.specs.Sizes.{CountFrom, Between, constrained_between, under_size}
 use Rattle.per_read.proofs.Fields.{when_took, field_below}
 use Rattle.per_read.proofs.OneByOne.{items_wide}
 
@@ -84,7 +84,25 @@ padding_once : (a : Settings) (b : Bool) {s t u : Bits} → Took (PaddingIf b a)
 padding_once a true c d = (took_agree (padding_agree a) c d).1
 padding_once a false c d = sym (nothing_took c) ∙ nothing_took d
 
-module _ (a : Settings) (lb ub : ℕ) (kind : Counted) (w o n : ℕ) {s m : Bits} (b : Took (constrained_form a (ub - lb + 1) o) s m) (e : n ≡ lb + o) where
+-- a count from lb on
+pub no_code_from : (a : Settings) (lb ub : ℕ) {s : Bits} → NoneIn (constrained_form a (ub - lb + 1)) s → NoneIn (CountFrom a lb ub) s
+no_code_from a lb ub none n t c = none (n - lb) t (when_took c).1
+
+pub count_from : (a : Settings) (lb ub o : ℕ) {s t : Bits} → Took (constrained_form a (ub - lb + 1) o) s t → Took (CountFrom a lb ub (lb + o)) s t
+count_from a lb ub o {s} {t} b =
+    let e : o ≡ lb + o - lb = omega arith in
+    took_map (λ p x y. (omega arith, y)) (subst (λ (z : ℕ). Took (constrained_form a (ub - lb + 1) z) s t) e b)
+
+-- there is one
+pub count_agree : (a : Settings) (lb ub n m : ℕ) → Agree (n ≡ m) (CountFrom a lb ub n) (CountFrom a lb ub m)
+count_agree a lb ub n m = when_agree (λ h k. weaken (λ e. omega (arith, h, k, e)) (bounded_form_agree a (ub - lb + 1) (n - lb) (m - lb)))
+
+-- the count of what is spelled behind it
+pub count_between : {X : Type 0} (a : Settings) (lb ub : ℕ) (kind : Counted) (item : X → Spelling) (n : ℕ) {s m : Bits} → Took (CountFrom a lb ub n) s m
+    → (xs : List X) (u : Bits) → Took (Between a lb ub kind item xs) s u → length xs ≡ n
+count_between a lb ub kind item n b xs u c = let r = then_took c in (took_agree (count_agree a lb ub (length xs) n) r.1 b).0
+
+module _ (a : Settings) (lb ub : ℕ) (kind : Counted) (w n : ℕ) {s m : Bits} (b : Took (CountFrom a lb ub n) s m) where
   pub between_took : {C : Type 0} {holds : C → C → List ℕ → Type 0} {before after : C} {l t : Bits} {test : Bool} → test ≡ (ltb 0 n && is_aligned kind lb ub) → Took (PaddingIf test a) m l
       → TookItems holds (OneByOne (Field w)) n before after l t → TookItems holds (Between a lb ub kind (Field w)) n before after s t
   between_took {l = l} {t = t} i p r = record {
@@ -92,35 +110,63 @@ module _ (a : Settings) (lb ub : ℕ) (kind : Counted) (w o n : ℕ) {s m : Bits
     count = r.count;
     added = r.added;
     took =
-        let f : o ≡ length r.codes - lb = omega (arith, r.count, e) in
-        let c : Took (constrained_form a (ub - lb + 1) (length r.codes - lb)) s m = subst (λ (z : ℕ). Took (constrained_form a (ub - lb + 1) z) s m) f b in
+        let c : Took (CountFrom a lb ub (length r.codes)) s m = subst (λ (z : ℕ). Took (CountFrom a lb ub z) s m) (sym r.count) b in
         let q : Took (PaddingIf (ltb 0 (length r.codes) && is_aligned kind lb ub) a) m l = subst (λ z. Took (PaddingIf z a) m l) (i ∙ ap (λ (z : ℕ). ltb 0 z && is_aligned kind lb ub) (sym r.count)) p in
-        took_map (λ p x y. (omega (arith, r.count, e), y)) (took_then c (took_then q r.took));
+        took_then c (took_then q r.took);
   }
-
-  -- the count of what is spelled there
-  pub count_between : (xs : List ℕ) (u : Bits) → Took (Between a lb ub kind (Field w) xs) s u → length xs ≡ n
-  count_between xs u c =
-      let q = when_took c in
-      let r = then_took q.1 in
-      let z = (took_agree (bounded_form_agree a (ub - lb + 1) (length xs - lb) o) r.1 b).0 in
-      omega (arith, q.0, e, z)
 
   pub short_between : {l : Bits} {test : Bool} → test ≡ (ltb 0 n && is_aligned kind lb ub) → Took (PaddingIf test a) m l → length l < w * n → NoneIn (Between a lb ub kind (Field w)) s
   short_between {l} {test} i p k xs u c =
-      let q = when_took c in
-      let r = then_took q.1 in
+      let r = then_took c in
       let v = then_took r.2 in
-      let z = took_agree (bounded_form_agree a (ub - lb + 1) (length xs - lb) o) r.1 b in
-      let f : length xs ≡ n = count_between xs u c in
+      let z = took_agree (count_agree a lb ub (length xs) n) r.1 b in
+      let f : length xs ≡ n = z.0 in
       let j : (ltb 0 (length xs) && is_aligned kind lb ub) ≡ test = ap (λ (z : ℕ). ltb 0 z && is_aligned kind lb ub) f ∙ sym i in
       let d : Took (PaddingIf test a) m v.0 = subst (λ z. Took (PaddingIf test a) z v.0) z.1 (subst (λ z. Took (PaddingIf z a) r.0 v.0) j v.1) in
       let g : length v.0 ≡ length l = ap length (padding_once a test d p) in
       let y : w * length xs ≡ w * n = ap (λ (z : ℕ). w * z) f in
       omega (arith, items_wide w xs v.2, g, y, k)
 
-pub no_code_between : (a : Settings) (lb ub : ℕ) (kind : Counted) (item : ℕ → Spelling) {s : Bits} → NoneIn (constrained_form a (ub - lb + 1)) s → NoneIn (Between a lb ub kind item) s
-no_code_between a lb ub kind item none xs u c = let r = then_took (when_took c).1 in none (length xs - lb) r.0 r.1
+pub no_count_between : {X : Type 0} (a : Settings) (lb ub : ℕ) (kind : Counted) (item : X → Spelling) {s : Bits} → NoneIn (CountFrom a lb ub) s → NoneIn (Between a lb ub kind item) s
+no_count_between a lb ub kind item none xs u c = let r = then_took c in none (length xs) r.0 r.1
+
+-- both bounds are there, and the upper one is below 65536
+pub record IsConstrained (l u : Option ℕ) (lb ub : ℕ) : Type 0 where
+  pub lower : l ≡ Some lb
+  pub upper : u ≡ Some ub
+  pub few : ub < 65536
+
+pub constrained_is : (l u : Option ℕ) (lb ub : ℕ) → constrained_between l u ≡ Some (lb, ub) → IsConstrained l u lb ub
+constrained_is None u lb ub e = absurd cc
+constrained_is (Some l) None lb ub e = absurd cc
+constrained_is (Some l) (Some u) lb ub e = go (ltb u 65536) refl e
+  where
+    go : (b : Bool) → ltb u 65536 ≡ b → cond {A = Option (ℕ × ℕ)} b (Some (l, u)) None ≡ Some (lb, ub) → IsConstrained (Some l) (Some u) lb ub
+    go true h i =
+        let bounds : ℕ × ℕ = (l, u) in
+        let j : bounds ≡ (lb, ub) = cc in
+        let k : u ≡ ub = ap (λ (z : ℕ × ℕ). z.1) j in
+        record { lower = ap (λ (z : ℕ × ℕ). Some z.0) j; upper = ap Some k; few = omega (arith, ltb-true u 65536 h, k) }
+    go false h i = absurd cc
+
+-- or they aren't
+abbrev pub IsFree : Option ℕ → Option ℕ → Type 0
+IsFree None u = Unit {0}
+IsFree (Some l) None = Unit {0}
+IsFree (Some l) (Some u) = 65536 ≤ u
+
+pub free_is : (l u : Option ℕ) → constrained_between l u ≡ None → IsFree l u
+free_is None u e = tt
+free_is (Some l) None e = tt
+free_is (Some l) (Some u) e = go (cases_lt u 65536)
+  where
+    go : (u < 65536) ⊎ (65536 ≤ u) → 65536 ≤ u
+    go (inl h) = let i : cond {A = Option (ℕ × ℕ)} true (Some (l, u)) None ≡ None = ap (λ b. cond {A = Option (ℕ × ℕ)} b (Some (l, u)) None) (sym (lt-ltb u 65536 h)) ∙ e in absurd cc
+    go (inr h) = h
+
+-- what a size allows can be counted
+pub countable : (size : Size) (n : ℕ) → allows size n ≡ true → ltb n (2 ^ 64) ≡ true
+countable size n h = and_right (at_most size.most n) (ltb n (2 ^ 64)) (and_right (at_least size.least n) (at_most size.most n && ltb n (2 ^ 64)) h)
 
 -- the forms under a size
 module _ {X : Type 0} (a : Settings) (kind : Counted) (item : X → Spelling) (xs : List X) where
@@ -130,31 +176,38 @@ module _ {X : Type 0} (a : Settings) (kind : Counted) (item : X → Spelling) (x
   pub under_unsized : (lb ub : ℕ) → 65536 ≤ ub → under_size a (Some lb) (Some ub) kind item xs ≡ Sized a any_size kind item xs
   under_unsized lb ub h = ap (λ z. cond z (Between a lb ub kind item xs) (Sized a any_size kind item xs)) (le-ltb ub 65536 h)
 
+  -- and by whether both bounds are there and the upper one is below 65536
+  pub under_free : (l u : Option ℕ) → IsFree l u → under_size a l u kind item xs ≡ Sized a any_size kind item xs
+  under_free None u h = refl
+  under_free (Some lb) None h = refl
+  under_free (Some lb) (Some ub) h = under_unsized lb ub h
+
+  pub under_constrained : {l u : Option ℕ} {lb ub : ℕ} → IsConstrained l u lb ub → under_size a l u kind item xs ≡ Between a lb ub kind item xs
+  under_constrained {l} {u} {lb} {ub} h = rw (h.lower, h.upper) (under_between lb ub h.few)
+
   abbrev bounded_items : ℕ → ℕ → Spelling
   bounded_items lb ub = Then (IsConstrainedWhole a (ub - lb + 1) (length xs - lb)) (Then (PaddingIf (ltb 0 (length xs) && is_aligned kind lb ub) a) (OneByOne item xs))
 
   to_bounded : (lb ub : ℕ) (p : ℕ) (b : Bits) → allows (record { least = Some lb; most = Some ub }) (length xs) ≡ true → Between a lb ub kind item xs p b
       → bounded_items lb ub p b
   to_bounded lb ub p b h x =
-      let l : lb ≤ length xs = x.0 in
+      let l : lb ≤ length xs = x.is_front.0 in
       let u : length xs ≤ ub = leb-true (length xs) ub (and_left (leb (length xs) ub) (ltb (length xs) (2 ^ 64)) (and_right (leb lb (length xs)) (leb (length xs) ub && ltb (length xs) (2 ^ 64)) h)) in
-      let y = x.1 in
-      record { front = y.front; rest = y.rest; is_front = record { below = omega arith; spelled = y.is_front }; is_rest = y.is_rest; joins = y.joins }
+      record { front = x.front; rest = x.rest; is_front = record { below = omega arith; spelled = x.is_front.1 }; is_rest = x.is_rest; joins = x.joins }
 
   from_bounded : (lb ub : ℕ) (p : ℕ) (b : Bits) → allows (record { least = Some lb; most = Some ub }) (length xs) ≡ true
       → bounded_items lb ub p b → Between a lb ub kind item xs p b
-  from_bounded lb ub p b h y = (
-    leb-true lb (length xs) (and_left (leb lb (length xs)) (leb (length xs) ub && ltb (length xs) (2 ^ 64)) h),
-    record { front = y.front; rest = y.rest; is_front = y.is_front.spelled; is_rest = y.is_rest; joins = y.joins },
-  )
+  from_bounded lb ub p b h y = record {
+    front = y.front;
+    rest = y.rest;
+    is_front = (leb-true lb (length xs) (and_left (leb lb (length xs)) (leb (length xs) ub && ltb (length xs) (2 ^ 64)) h), y.is_front.spelled);
+    is_rest = y.is_rest;
+    joins = y.joins;
+  }
 
   if_map : (c : Bool) (f g h k : Spelling) (p : ℕ) (b : Bits) → (f p b → g p b) → (h p b → k p b) → cond c f h p b → cond c g k p b
   if_map true f g h k p b i j x = i x
   if_map false f g h k p b i j x = j x
-
-  -- what a size allows can be counted
-  countable : (l u : Option ℕ) → allows (record { least = l; most = u }) (length xs) ≡ true → ltb (length xs) (2 ^ 64) ≡ true
-  countable l u h = and_right (at_most u (length xs)) (ltb (length xs) (2 ^ 64)) (and_right (at_least l (length xs)) (at_most u (length xs) && ltb (length xs) (2 ^ 64)) h)
 
   pub sized_of : (size : Size) {s t : Bits} → allows size (length xs) ≡ true → Took (under_size a size.least size.most kind item xs) s t → Took (Sized a size kind item xs) s t
   sized_of size h b = took_map (λ p c x. record { allowed = h; spelled = go size.least size.most h p c x }) b
@@ -168,11 +221,11 @@ module _ {X : Type 0} (a : Settings) (kind : Counted) (item : X → Spelling) (x
   of_sized size b = took_map (λ p c x. go size.least size.most x.allowed p c x.spelled) b
     where
       go : (l u : Option ℕ) → allows (record { least = l; most = u }) (length xs) ≡ true → (p : ℕ) (c : Bits) → length_form a l u kind item xs p c → under_size a l u kind item xs p c
-      go None u h p c x = record { allowed = countable None u h; spelled = x }
-      go (Some l) None h p c x = record { allowed = countable (Some l) None h; spelled = x }
+      go None u h p c x = record { allowed = countable (record { least = None; most = u }) (length xs) h; spelled = x }
+      go (Some l) None h p c x = record { allowed = countable (record { least = Some l; most = None }) (length xs) h; spelled = x }
       go (Some l) (Some u) h p c x =
           if_map (ltb u 65536) (bounded_items l u) (Between a l u kind item xs) (UnconstrainedLength a item xs) (Sized a any_size kind item xs) p c (from_bounded l u p c h)
-          (λ y. record { allowed = countable (Some l) (Some u) h; spelled = y }) x
+          (λ y. record { allowed = countable (record { least = Some l; most = Some u }) (length xs) h; spelled = y }) x
 
 -- there is one count under a size
 pub one_size : (a : Settings) (l u : Option ℕ) (kind : Counted) (w : ℕ) (xs ys : List ℕ) (s t v : Bits) → Took (under_size a l u kind (Field w) xs) s t → Took (under_size a l u kind (Field w) ys) s v → length xs ≡ length ys
@@ -183,10 +236,7 @@ one_size a l u kind w xs ys s t v b c = go l u b c
         ap length (Zip-same xs ys (took_agree (unsized_agree (λ x y. x ≡ y) (Field w) (Field w) (field_agree w) a xs ys) (took_map (λ p d x. x.spelled) b) (took_map (λ p d x. x.spelled) c)).0)
 
     both : (lb ub : ℕ) (z : Bool) → Took (cond z (Between a lb ub kind (Field w) xs) (Sized a any_size kind (Field w) xs)) s t → Took (cond z (Between a lb ub kind (Field w) ys) (Sized a any_size kind (Field w) ys)) s v → length xs ≡ length ys
-    both lb ub true b c =
-        let q = when_took c in
-        let r = then_took q.1 in
-        count_between a lb ub kind w (length ys - lb) (length ys) r.1 (omega (arith, q.0)) xs t b
+    both lb ub true b c = let r = then_took c in count_between a lb ub kind (Field w) (length ys) r.1 xs t b
     both lb ub false b c = plain b c
 
     go : (l u : Option ℕ) → Took (under_size a l u kind (Field w) xs) s t → Took (under_size a l u kind (Field w) ys) s v → length xs ≡ length ys

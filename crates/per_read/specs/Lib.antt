@@ -4,6 +4,7 @@ pub mod Enumerations
 pub mod Items
 pub mod Kinds
 pub mod Lengths
+pub mod Lists
 pub mod Names
 pub mod Numbers
 pub mod Sizes
@@ -11,3 +12,4 @@ pub mod SmallNumbers
 pub mod State
 pub mod Strings
 pub mod Takes
+pub mod UpTo

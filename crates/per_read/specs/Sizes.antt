@@ -1,5 +1,5 @@
 -- Items as a size has them written, and counts that it doesn't allow (X.691 11.9).
-use Rattle.std.specs.Prelude.{◌≡◌, ◌≤◌, ℕ, ◌+◌, ◌-◌, ◌&&◌, nat_lt, Bool, false, cond, List, length, Option, Some, None}
+use Rattle.std.specs.Prelude.{◌≡◌, ◌≤◌, ℕ, ◌+◌, ◌-◌, ◌&&◌, nat_lt, Bool, false, cond, if◌then◌else◌, List, length, Option, Some, None}
 use Rattle.rasn_types.specs.Bits.{Bits}
 use Rattle.rasn_constraints.specs.Bounds.{allows, any_size, Size}
 use Rattle.per_core.specs.Basic.{OneByOne, Sized, PaddingIf, Marked, constrained_form}
@@ -13,10 +13,18 @@ use Rattle.per_read.specs.declared.error.DecodeErrorKind.{DecodeErrorKind}
 use Rattle.per_core.specs.declared.items.Item.{Item}
 use Rattle.per_read.specs.declared.error.DecodeErrorKind.TheVariants.{SizeConstraintNotSatisfied}
 
--- X.691 11.9.3.3: items behind a count from lb on, as a constrained whole number of lb to ub; the count may be past ub
+-- X.691 11.9.4.1: the bounds between which a count is written as a constrained whole number: both, where the upper one is below 65536
+abbrev pub constrained_between : Option ℕ → Option ℕ → Option (ℕ × ℕ)
+constrained_between (Some lb) (Some ub) = if nat_lt ub 65536 then Some (lb, ub) else None
+constrained_between least most = None
+
+-- X.691 11.9.3.3: a count from lb on, as a constrained whole number of lb to ub; it may be past ub
+abbrev pub CountFrom : Settings → ℕ → ℕ → ℕ → Spelling
+CountFrom a lb ub n = When (lb ≤ n) (constrained_form a (ub - lb + 1) (n - lb))
+
+-- X.691 11.9.3.3: items behind such a count
 abbrev pub Between : {X : Type 0} → Settings → ℕ → ℕ → Counted → (X → Spelling) → List X → Spelling
-Between a lb ub kind item xs = When (lb ≤ length xs)
-    (Then (constrained_form a (ub - lb + 1) (length xs - lb)) (Then (PaddingIf (nat_lt 0 (length xs) && is_aligned kind lb ub) a) (OneByOne item xs)))
+Between a lb ub kind item xs = Then (CountFrom a lb ub (length xs)) (Then (PaddingIf (nat_lt 0 (length xs) && is_aligned kind lb ub) a) (OneByOne item xs))
 
 -- X.691 11.9.3.3, 11.9.4.1: items behind their count, as a size has it written, whether it allows the count or not
 abbrev pub under_size : {X : Type 0} → Settings → Option ℕ → Option ℕ → Counted → (X → Spelling) → List X → Spelling

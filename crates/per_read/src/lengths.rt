@@ -2,7 +2,7 @@
 
 ghost use Rattle.std.specs.Prelude.{◌≡◌};
 ghost use Rattle.per_core.specs.Spellings.{AnyPadding};
-ghost use Rattle.per_read.specs.Lengths.{LengthOf, CountOf, count_of};
+ghost use Rattle.per_read.specs.Lengths.{LengthOf, CountOf, count_of, is_followed};
 ghost use Rattle.per_read.specs.Takes.{Takes, Skips, tested, itself};
 
 use crate::Reader;
@@ -26,6 +26,13 @@ impl Length {
         match self {
             Length::Last(count) | Length::Fragment(count) => count,
         }
+    }
+
+    /// Whether a further length stands behind them.
+    pub(crate) fn is_followed(self) -> bool
+        ensures { result ≡ is_followed self }
+    {
+        matches!(self, Length::Fragment(_))
     }
 }
 

@@ -1,5 +1,5 @@
-//! What the packed encoding rules read, bit by bit (ITU-T X.691): whole numbers, lengths, and counted strings in every
-//! form that a basic decoder takes, off the front of the bits left.
+//! What the packed encoding rules read, bit by bit (ITU-T X.691): whole numbers, lengths, counted strings, and what
+//! stands between the elements of a list, in every form that a basic decoder takes, off the front of the bits left.
 #![tactic(auto)]
 
 ghost use Rattle.std.specs.Prelude.{◌≡◌, ◌≤◌};
@@ -14,6 +14,7 @@ mod in_place;
 mod integers;
 mod items;
 mod lengths;
+pub mod lists;
 mod numbers;
 mod sizes;
 mod small;

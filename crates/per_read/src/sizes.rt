@@ -8,8 +8,8 @@ ghost use Rattle.per_core.specs.Counts.{is_aligned};
 ghost use Rattle.per_core.specs.Items.{counted_of};
 ghost use Rattle.per_core.specs.Spellings.{Settings};
 ghost use Rattle.per_read.specs.Items.{unconstrained_items, sized_items, lengthy_items, TakesItems};
-ghost use Rattle.per_read.specs.Sizes.{items_between, items_under, IsOfItems};
-ghost use Rattle.per_read.specs.Takes.{Skips, stopped, memory_or};
+ghost use Rattle.per_read.specs.Sizes.{CountFrom, constrained_between, items_between, items_under, IsOfItems};
+ghost use Rattle.per_read.specs.Takes.{Skips, Takes, itself, memory_or, stopped, tested};
 ghost use Rattle.per_read.specs.declared.error.DecodeErrorKind.TheVariants.{SizeConstraintNotSatisfied};
 
 use crate::Reader;
@@ -90,21 +90,14 @@ impl Reader<'_> {
         ensures { let form = λ (a : Settings). items_under a (size_between size.now) (C.item items.old) in
             TakesItems C.holds stopped form items.old self.old result items.new self.new }
     {
-        match size.start_and_end() {
-            (Some(lower), Some(upper)) => {
-                if upper < 65536 {
-                    self.take_constrained_items(lower, upper, items)
-                } else {
-                    self.take_unconstrained_items(items)
-                }
-            }
-            (Some(_), None) => self.take_unconstrained_items(items),
-            (None, _) => self.take_unconstrained_items(items),
+        match constrained_bounds(size) {
+            Some((lower, upper)) => self.take_constrained_items(lower, upper, items),
+            None => self.take_unconstrained_items(items),
         }
     }
 
-    /// Takes a count from `lower` on, as one of the numbers from `lower` to `upper`, and the items that it counts
-    /// (X.691 11.9.3.3). The count may be past `upper`. Answers how many there were.
+    /// Takes items behind a count from `lower` on, as one of the numbers from `lower` to `upper` (X.691 11.9.3.3).
+    /// Answers how many there were.
     fn take_constrained_items<C: Collector>(
         &mut self,
         lower: usize,
@@ -116,11 +109,24 @@ impl Reader<'_> {
         ensures { let form = λ (a : Settings). items_between a lower upper (C.item items.old) in
             TakesItems C.holds stopped form items.old self.old result items.new self.new }
     {
-        let code = self.take_constrained_whole(upper.saturating_sub(lower) as u128)?;
-        let count = lower + code as usize;
+        let count = self.take_constrained_count(lower, upper)?;
         self.skip_padding_between(count, items.item(), lower, upper);
         self.take_bare_items(count, items)?;
         Ok(count)
+    }
+
+    /// Takes a count from `lower` on, as one of the numbers from `lower` to `upper` (X.691 11.9.3.3). It may be past
+    /// `upper`.
+    pub(crate) fn take_constrained_count(
+        &mut self,
+        lower: usize,
+        upper: usize,
+    ) -> Result<usize, DecodeErrorKind>
+        requires { upper < 65536 }
+        ensures { Takes tested (λ a. CountFrom a lower upper) itself self.old result self.new }
+    {
+        let code = self.take_constrained_whole(upper.saturating_sub(lower) as u128)?;
+        Ok(lower + code as usize)
     }
 
     /// Takes the padding between a constrained count and its items, where there is some (X.691 16.9 to 16.11, 17.6 to
@@ -160,8 +166,19 @@ impl Reader<'_> {
     }
 }
 
+/// The least and the greatest count, where a size has a count written as one of the numbers between them: both are
+/// there and the greatest is below 65536 (X.691 11.9.4.1).
+pub(crate) fn constrained_bounds(size: &Bounded<usize>) -> Option<(usize, usize)>
+    ensures { result ≡ constrained_between (start_of size.now) (end_of size.now) }
+{
+    match size.start_and_end() {
+        (Some(lower), Some(upper)) if upper < 65536 => Some((lower, upper)),
+        _ => None,
+    }
+}
+
 /// Refuses a count that a size doesn't allow (X.680 51.5).
-fn check_size(size: &Bounded<usize>, count: usize) -> Result<(), DecodeErrorKind>
+pub(crate) fn check_size(size: &Bounded<usize>, count: usize) -> Result<(), DecodeErrorKind>
     ensures ok { OnOk result (allows (size_between size.now) count ≡ true) }
     ensures err { IfErr result (λ kind. kind ≡ SizeConstraintNotSatisfied count (start_of size.now) (end_of size.now)) }
     ensures not { OnErr result (allows (size_between size.now) count ≡ false) }

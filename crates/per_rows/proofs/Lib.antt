@@ -1,3 +1,5 @@
+pub mod Defaulted
 pub mod Long
 pub mod Reading
+pub mod Skipping
 pub mod Unfoldings

@@ -3,6 +3,7 @@
 
 pub mod choices;
 pub mod dates;
+pub mod deep_defaults;
 pub mod extensions;
 pub mod integers;
 pub mod lawful;
@@ -13,4 +14,5 @@ pub mod refusals;
 pub mod sets;
 pub mod strings;
 pub mod structures;
+pub mod unknown_additions;
 pub mod versions;

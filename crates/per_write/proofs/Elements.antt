@@ -23,7 +23,7 @@ use Rattle.per_write.specs.declared.lists.OpenList.{OpenList}
 use Rattle.per_write.specs.Faults.{at_once, element_behind, element_here, HasElement, in_element, IsError, IsMemory, OutsideSize, RefusesValue, Stands}
 use Rattle.per_write.specs.Fragments.{one_fragment, unconstrained_length}
 use Rattle.per_write.specs.Items.{HasRefused, refused_behind, refused_here}
-use Rattle.per_write.specs.Lists.{AmidList, Begins, BeginsItems, count_behind, count_memory, count_outside, fragment_and, RefusesCount, still}
+use Rattle.per_write.specs.Lists.{count_left, AmidList, Begins, BeginsItems, count_behind, count_memory, count_outside, fragment_and, RefusesCount, still}
 use Rattle.per_write.specs.Remains.{Remains}
 use Rattle.per_write.specs.Rules.{encoder_rules}
 use Rattle.per_write.specs.State.{Puts, State, view, Wrote}
@@ -327,6 +327,10 @@ pub fragment_begun_at : (f : ListForm) (x y z : State) (v : Value) (vs : List Va
     Begins (λ a ws. in_fragments a (fragment_sizes n) ws) n y m z → AmidList f x (v ∷ vs) l y → AmidList f x (v ∷ vs) m z
 fragment_begun_at f x y z v vs l m n e d k h =
     fragment_begun f x y z (v ∷ vs) l m e (omega arith) h (subst (λ (i : ℕ). Begins (λ a ws. in_fragments a (fragment_sizes i) ws) i y m z) (d ∙ unwrapped_behind l.behind) k)
+
+-- nor is one left in a fragment that begins where none is left
+pub none_begun : {form : Variant → List Writer → Writer} (y z : State) (l m : OpenList) (n : ℕ) → n ≡ unwrap_or l.behind 0 → Begins form n y m z → count_left l ≡ 0 → count_left m ≡ 0
+none_begun y z l m n d k e = let b = d ∙ unwrapped_behind l.behind in let c = k.counted in omega (arith, b, c, e)
 
 -- what a call that opens a list owes
 pub list_law : (size : Size) (mark : Bool) (count : ℕ) (x y : State) (result : Result OpenList EncodeError) → BeginsItems (RefusesCount size mark count) (λ a ws. counted a size mark list_items ws) count x result y →

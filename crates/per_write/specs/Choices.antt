@@ -6,7 +6,7 @@ use Rattle.rasn_types.specs.Variants.{Variant, aligned, unaligned}
 use Rattle.per_core.specs.Writers.{Writer, after, just, padding}
 use Rattle.per_write.specs.declared.error.EncodeError.{EncodeError}
 use Rattle.per_write.specs.declared.presences.Presences.{Presences}
-use Rattle.per_write.specs.declared.error.EncodeErrorKind.TheVariants.{VariantNotInChoice}
+use Rattle.per_write.specs.declared.error.EncodeErrorKind.TheVariants.{OutOfTurn, VariantNotInChoice}
 use Rattle.per_write.specs.Faults.{IsError, IsMemory}
 use Rattle.per_write.specs.State.{State}
 
@@ -43,11 +43,12 @@ abbrev pub IsFilled : ℕ → ℕ → ℕ → Bits → Bits → Type 0
 IsFilled place w number before behind =
     (front rest : Bits) → before ≡ front ++ (replicate w false ++ rest) → place ≡ length front → behind ≡ front ++ (to_bits w number ++ rest)
 
--- A call that gives the index i of one of n alternatives: what waited outside comes back.
+-- A call that gives the index i of one of n alternatives, where room is kept for it: what waited outside comes back.
 pub record FillsIndexOrNot (n i : ℕ) (outside : Presences) (x : State) (result : Result (Unit {0}) EncodeError) (y : State) : Type 0 where
   pub ok : OnOk result (IsFilled x.presences.place (index_width (variant_of x.codec) n) i x.bits y.bits)
   pub same : OnOk result (y ≡ record x { bits = y.bits; presences = outside })
-  pub err : OnErr result (length x.bits < x.presences.place + index_width (variant_of x.codec) n)
+  pub short : OnErr result (length x.bits < x.presences.place + index_width (variant_of x.codec) n)
+  pub err : IfErr result (λ e. IsError OutOfTurn e x)
   pub fails : OnErr result (y.failed ≡ true)
   pub kept : y.codec ≡ x.codec
 

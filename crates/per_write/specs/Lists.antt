@@ -1,19 +1,20 @@
 -- SEQUENCE OF, written element by element (ITU-T X.691, 20).
-use Rattle.std.specs.Prelude.{ℕ, zero, suc, ◌+◌, ◌<◌, ◌≡◌, Bool, true, false, List, [], ◌∷◌, ◌++◌, map, length, Option, Some, None, Result, IfOk, IfErr, OnErr}
+use Rattle.std.specs.Prelude.{ℕ, zero, suc, ◌+◌, ◌<◌, ◌≡◌, ◌⊎◌, Bool, true, false, List, [], ◌∷◌, ◌++◌, map, length, Option, Some, None, Result, IfOk, IfErr, IsErrAnd, OnErr}
 use Rattle.rasn_types.specs.Codecs.{variant_of}
 use Rattle.rasn_types.specs.Values.{Value}
 use Rattle.rasn_types.specs.Variants.{Variant}
 use Rattle.rasn_constraints.specs.Bounds.{Size}
 use Rattle.rasn_schema.specs.Lists.{list_value}
-use Rattle.rasn_calls.specs.Lists.{ListForm, schema_of}
+use Rattle.rasn_calls.specs.Lists.{ListForm, WritesNext, schema_of}
 use Rattle.per_core.specs.Canon.{canon}
 use Rattle.per_core.specs.Counts.{fragment_sizes, in_fragments}
 use Rattle.per_core.specs.Writers.{Writer, refused, ◌▹◌, one_by_one}
 use Rattle.per_write.specs.declared.error.EncodeError.{EncodeError}
-use Rattle.per_write.specs.declared.error.EncodeErrorKind.TheVariants.{SizeConstraintNotSatisfied}
+use Rattle.per_write.specs.declared.error.EncodeErrorKind.TheVariants.{OutOfTurn, SizeConstraintNotSatisfied}
 use Rattle.per_write.specs.declared.lists.OpenList.{OpenList}
 use Rattle.per_write.specs.Faults.{IsError, IsMemory, OutsideSize}
 use Rattle.per_write.specs.Remains.{Remains}
+use Rattle.per_write.specs.Rules.{encoder_rules}
 use Rattle.per_write.specs.State.{State}
 
 -- X.691 11.9.3.8: what is left of a fragment of so many items, and then the m items behind it, in fragments of their own
@@ -61,3 +62,8 @@ pub record AmidList (f : ListForm) (x : State) (vs : List Value) (l : OpenList) 
   pub all_is : f.all ≡ front ++ vs
   pub counted : count_left l ≡ length vs
   pub remains : (let a = variant_of x.codec in Remains x (canon a (schema_of f) (list_value f.all)) y (still a l.behind l.fragment (map (canon a f.element) vs)))
+
+-- A call before each element of a list: where none is left it refuses.
+pub record NextElement (l : OpenList) (y : State) (result : Result (Unit {0}) EncodeError) (m : OpenList) (z : State) : Type 0 where
+  pub next : WritesNext encoder_rules AmidList l y result m z
+  pub over : count_left l ≡ 0 → IsErrAnd result (λ e. IsMemory e y ⊎ IsError OutOfTurn e y)

@@ -44,6 +44,7 @@ pub record MarksOrNot (b : Bool) (x : State) (result : Result (Unit {0}) EncodeE
 -- A call that ends a SEQUENCE: all its presence bits are given, and those outside come back.
 pub record ClosesOrNot (outside : Presences) (x : State) (result : Result (Unit {0}) EncodeError) (y : State) : Type 0 where
   pub ok : OnOk result ((x.presences.left ≡ 0) × (y ≡ record x { presences = outside }))
-  pub err : OnErr result (0 < x.presences.left)
+  pub some : OnErr result (0 < x.presences.left)
+  pub err : IfErr result (λ e. IsError OutOfTurn e x)
   pub fails : OnErr result (y.failed ≡ true)
   pub kept : y.codec ≡ x.codec

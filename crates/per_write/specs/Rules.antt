@@ -1,7 +1,8 @@
 -- The rules of an encoder that puts a value's canonical bits behind those that were written before.
 use Rattle.rasn_calls.specs.Calls.{EncoderRules}
 use Rattle.per_write.specs.declared.error.EncodeError.{EncodeError}
-use Rattle.per_write.specs.Faults.{IsMemory, IsAlready, RefusesValue}
+use Rattle.per_write.specs.declared.error.EncodeErrorKind.TheVariants.{VariantNotInChoice}
+use Rattle.per_write.specs.Faults.{IsError, IsMemory, IsAlready, RefusesValue}
 use Rattle.per_write.specs.Presences.{Marks, IsUnmarked}
 use Rattle.per_write.specs.State.{State, Presents}
 
@@ -11,6 +12,7 @@ encoder_rules = record {
   marks = Marks;
   refuses = RefusesValue;
   unmarked = IsUnmarked;
+  unchosen = IsError VariantNotInChoice;
   memory = IsMemory;
   already = IsAlready;
   failed = λ x. x.failed;

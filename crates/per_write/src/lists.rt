@@ -4,10 +4,10 @@ ghost use Rattle.std.specs.Prelude.{◌≡◌, true, false};
 ghost use Rattle.rasn_constraints.specs.Bounds.{allows, any_size};
 ghost use Rattle.rasn_constraints.specs.Constraints.{is_marked, size_in};
 ghost use Rattle.rasn_schema.specs.Forms.{is_size_marked, size_of};
-ghost use Rattle.rasn_calls.specs.Lists.{ClosesList, OpensList, WritesNext};
+ghost use Rattle.rasn_calls.specs.Lists.{ClosesList, OpensList};
 ghost use Rattle.per_core.specs.Counts.{counted, counted_in, fragment_sizes, in_fragments, list_items};
 ghost use Rattle.per_write.specs.Faults.{IsMemory};
-ghost use Rattle.per_write.specs.Lists.{AmidList, BeginsItems, RefusesCount};
+ghost use Rattle.per_write.specs.Lists.{AmidList, BeginsItems, NextElement, RefusesCount};
 ghost use Rattle.per_write.specs.Rules.{encoder_rules};
 
 use crate::Writer;
@@ -44,7 +44,7 @@ impl<A: Allocator + Clone> Writer<A> {
     /// refuses.
     pub fn next_element(&mut self, list: &mut OpenList) -> Result<(), EncodeError>
         requires { self.old.failed ≡ false }
-        ensures { WritesNext encoder_rules AmidList list.old self.old result list.new self.new }
+        ensures { NextElement list.old self.old result list.new self.new }
     {
         if list.fragment == 0 {
             *list = self.begin_fragment(list.behind.unwrap_or(0))?;

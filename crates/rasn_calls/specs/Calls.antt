@@ -29,6 +29,8 @@ pub record EncoderRules (E X : Type 0) : Type 1 where
   pub refuses : E → X → Schema → Value → Type 0
   -- an error by which a presence bit is refused: none is left, or the encoder had failed
   pub unmarked : E → X → Type 0
+  -- an error by which the tag of a choice's alternative is refused: none goes by it
+  pub unchosen : E → X → Type 0
   -- an error that says that memory ran out
   pub memory : E → X → Type 0
   -- an error that says that the encoder had failed before

@@ -1,5 +1,5 @@
 -- What a call owes that writes or reads a choice (X.680 29), and what stands in it, stated over any codec's relations.
-use Rattle.std.specs.Prelude.{◌≡◌, ℕ, suc, ◌≤◌, ◌⊎◌, true, false, Result, Ok, Err, OnOk, OnErr, IsErrAnd, IfSome, IsSome, List, Option, Some}
+use Rattle.std.specs.Prelude.{◌≡◌, ℕ, suc, ◌≤◌, ◌⊎◌, true, false, Result, Ok, Err, OnErr, IsErr, IsErrAnd, IfOk, IfSome, List, Option, Some, None}
 use Rattle.rasn_types.specs.Values.{Value, alternative, root}
 use Rattle.rasn_types.specs.declared.types.Tag.{Tag}
 use Rattle.rasn_schema.specs.Schemas
@@ -35,7 +35,7 @@ pub record OpensChoice {E X O : Type 0} (rules : EncoderRules E X) (opens : Sche
 pub record ClosesChoice {E X O : Type 0} (rules : EncoderRules E X) (opens : Schema → X → O → X → Type 0) (alternatives : ℕ → Parts) (variants : List VariantShape) (o : O) (t : Schemas.Tag) (j : X) (result : Result (Unit {0}) E) (y : X) : Type 0 where
   pub law : (x i : X) (n k : ℕ) (s : Schema) (v : Value) → opens (choice_of (alternatives n)) x o i → place_of t variants ≡ Some k → alternative_at (alternatives n) k ≡ Some s
       → rules.presents i s v j → Written rules (choice_of (alternatives n)) (alternative root k v) x result y
-  pub known : OnOk result (IsSome (place_of t variants))
+  pub unknown : place_of t variants ≡ None → IsErrAnd result (λ e. rules.already e j ⊎ rules.unchosen e j)
   pub behaves : Behaves rules.already rules.failed rules.codec j result y
 
 -- Ok answers the tag by which the alternative at a place goes, and presents its value; Err, memory aside, comes only where that is refused.
@@ -52,10 +52,15 @@ pub record WritesChosen {E X : Type 0} (rules : EncoderRules E X) (alternatives 
 pub record WritesAlternative {E X : Type 0} (rules : EncoderRules E X) (alternatives : ℕ → Parts) (variants : List VariantShape) (k : ℕ) (v : Value) (depth : ℕ) (returns : X → Result Tag E → X → Type 0) : Type 0 where
   pub keeps : (x : X) (r : Result Tag E) (y : X) → returns x r y → AtAlternative alternatives k depth (λ s. AlternativeWritten rules variants k s (normal s v) x r y)
 
+-- A function that is lent an encoder answers no tag by which an alternative goes.
+pub record ChoosesNone {E X : Type 0} (variants : List VariantShape) (returns : X → Result Tag E → X → Type 0) : Type 0 where
+  pub none : (x : X) (r : Result Tag E) (y : X) → returns x r y → IfOk r (λ t. place_of (tag_of t) variants ≡ None)
+
 -- A call that writes a choice by a function that is lent the encoder.
 pub record WritesChoice {E X : Type 0} (rules : EncoderRules E X) (alternatives : ℕ → Parts) (variants : List VariantShape) (returns : X → Result Tag E → X → Type 0) (x : X) (result : Result (Unit {0}) E) (y : X) : Type 0 where
   pub law : (k : ℕ) (v : Value) (depth : ℕ) → WritesAlternative rules alternatives variants k v depth returns
       → AtDepths (choice_at alternatives) (suc depth) (λ s. Written rules s (normal s (alternative root k v)) x result y)
+  pub unknown : ChoosesNone variants returns → IsErr result
   pub again : rules.failed x ≡ true → IsErrAnd result (λ e. rules.already e x)
   pub fails : OnErr result (rules.failed y ≡ true)
   pub kept : KeepsCodec rules.codec returns → rules.codec y ≡ rules.codec x

@@ -1,3 +1,4 @@
+pub mod Boxes
 pub mod Calls
 pub mod Choices
 pub mod Lists

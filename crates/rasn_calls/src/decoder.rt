@@ -8,12 +8,13 @@ ghost use Rattle.rasn_types.specs.Alphabets.{visible, ia5, printable, numeric, b
 ghost use Rattle.rasn_types.specs.Contents.{utf8, other};
 ghost use Rattle.rasn_types.specs.Values.{truth, nothing, whole, octets, bits, characters};
 ghost use Rattle.rasn_schema.specs.Schemas.{Schema, listed};
-ghost use Rattle.rasn_schema.specs.Forms.{number_schema, octet_schema, bit_schema, character_schema};
+ghost use Rattle.rasn_schema.specs.Forms.{number_schema, octet_schema, bit_schema, character_schema, size_of, is_size_marked};
 ghost use Rattle.rasn_schema.specs.Records.{record_at, no_additions, record_value};
 ghost use Rattle.rasn_calls.specs.Optionals.{ReadsBit};
 ghost use Rattle.rasn_calls.specs.Calls.{DecoderRules, freely_read, Reads, DecodesWell};
 ghost use Rattle.rasn_calls.specs.Choices.{ChoicesWell, EndsChoice, OpensToChoose};
 ghost use Rattle.rasn_calls.specs.Reals.{ReadsNoReal};
+ghost use Rattle.rasn_calls.specs.Lists.{AmidRead, OpensListToRead, ReadsNext};
 ghost use Rattle.rasn_calls.specs.Scopes.{OpensToRead, ClosesRead, ReadsAround, ScopesWell};
 
 use crate::parts::DecodeParts;
@@ -40,6 +41,9 @@ pub trait Decoder: Sized {
     /// What waits outside while a record is open.
     type Scope: Drop;
 
+    /// What is left of an open list, and what waits outside.
+    type List: Drop;
+
     // What is read, and what states and errors say.
     ghost rules: { DecoderRules Self.Error Self };
 
@@ -54,6 +58,12 @@ pub trait Decoder: Sized {
 
     // A choice ends: how it is behind its alternative, what waited outside, and how it is behind the choice.
     ghost closes_choice: { Self → Self.Scope → Self → Type 0 };
+
+    // A list is open: its elements' schema and its size, what was before it, its elements read, what is left, and now.
+    ghost amid: { AmidRead Self Self.List };
+
+    // How many elements of an open list can follow at most.
+    ghost most: { Self.List → ℕ };
 
     // The fault that an error names stands at the end of a scope.
     ghost unended: { Self.Scope → Self.Error → Self → Type 0 };
@@ -181,6 +191,17 @@ pub trait Decoder: Sized {
     /// Reads the presence bit of the next component of the open SEQUENCE that has one (X.691 19.2). Takes no memory.
     fn next_presence(&mut self) -> Result<bool, Self::Error>
         ensures { ReadsBit rules self.old result self.new };
+
+    /// Opens a SEQUENCE OF under constraints (X.691 20), which takes a level: its elements follow, each behind a call of
+    /// `next_element` that answers true. At no level left it refuses.
+    fn open_list(&mut self, tag: Tag, constraints: &Constraints) -> Result<Self::List, Self::Error>
+        ensures { OpensListToRead rules amid (size_of constraints.now) (is_size_marked constraints.now)
+            self.old result self.new };
+
+    /// Goes on in an open list: answers whether an element follows. Where none does, the list has ended: its size allows
+    /// the count of its elements, and its level is given back. A count that the size doesn't allow is refused.
+    fn next_element(&mut self, list: &mut Self::List) -> Result<bool, Self::Error>
+        ensures { ReadsNext rules amid most list.old self.old result list.new self.new };
 
     /// Refuses from now on.
     fn fail(&mut self)

@@ -1,5 +1,8 @@
 //! The calls of every decoder that read values of a type of its own.
 
+ghost use Rattle.std.specs.Prelude.{map};
+ghost use Rattle.rasn_schema.specs.Forms.{is_size_marked, size_of};
+ghost use Rattle.rasn_schema.specs.Lists.{list_at, list_value};
 ghost use Rattle.rasn_schema.specs.Schemas.{optional};
 ghost use Rattle.rasn_calls.specs.Optionals.{ReadsComponent, ReadsDefault};
 ghost use Rattle.rasn_calls.specs.Presences.{slot_of};
@@ -147,6 +150,27 @@ pub trait DecoderExt: Decoder {
         let value = C::from_tag(self, tag)?;
         self.close_choice(outside);
         Ok(value)
+    }
+
+    /// Reads a SEQUENCE OF under constraints (X.691 20), of which the size counts elements.
+    final fn decode_sequence_of<D: Decode>(
+        &mut self,
+        tag: Tag,
+        constraints: &Constraints,
+    ) -> Result<Vec<D>, Self::Error>
+        ensures { let size = size_of constraints.now in
+            let c = list_at (D.schema D.CONSTRAINTS) size (is_size_marked constraints.now) (Self.rules.levels self.old) in
+            Reads Self.rules c (λ xs. list_value (map D.value xs.items)) self.old result self.new }
+    {
+        let mut list = self.open_list(tag, constraints)?;
+        let mut values = Vec::new(self.alloc());
+        while self.next_element(&mut list)? {
+            let value = D::decode(self)?;
+            if values.push(value).is_err() {
+                return Err(self.out_of_memory());
+            }
+        }
+        Ok(values)
     }
 }
 

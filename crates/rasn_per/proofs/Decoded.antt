@@ -1,5 +1,5 @@
 -- What a fresh decoder reads, and how the reading ends, is what octets are read as.
-use Rattle.std.proofs.Common.{◌≡◌, ◌≢◌, refl, sym, ap, ◌∙◌, subst, ℕ, false, List, ◌⊎◌, inl, inr, ◌%◌, ◌*◌, length, arith, Result, Err}
+use Rattle.std.proofs.Common.{◌≡◌, ◌≢◌, refl, sym, ap, ◌∙◌, subst, ℕ, List, ◌⊎◌, inl, inr, ◌%◌, ◌*◌, length, arith, Result, Err}
 use Rattle.std.specs.Prelude.{IfErr}
 use Rattle.rasn_types.specs.Bits.{Bits, AreOctets, unpack}
 use Rattle.rasn_types.specs.Codecs.{variant_of}
@@ -24,8 +24,8 @@ use Rattle.rasn_per.specs.Complete.{basically, AreReadAs, AreUnread}
 abbrev pub fresh : Codec → List ℕ → State
 fresh a octets = begin (unpack octets) (record { codec = a; levels = 128 })
 
-pub begun : (a : Codec) (octets : List ℕ) (b : Bits) (o : Options) (s : State) → s ≡ begin b o → o ≡ record { codec = a; levels = 128 } → b ≡ unpack octets → s ≡ fresh a octets
-begun a octets b o s e f g = e ∙ ap (begin b) f ∙ ap (λ (z : Bits). begin z (record { codec = a; levels = 128 })) g
+pub begun : (o : Options) (octets : List ℕ) (b : Bits) (s : State) → s ≡ begin b o → o.levels ≡ 128 → b ≡ unpack octets → s ≡ fresh o.codec octets
+begun o octets b s e f g = e ∙ ap (λ (n : ℕ). begin b (record { codec = o.codec; levels = n })) f ∙ ap (λ (z : Bits). begin z (record { codec = o.codec; levels = 128 })) g
 
 pub full_octets : (octets : List ℕ) (b : Bits) (n : ℕ) → b ≡ unpack octets → n ≡ length b → n % 8 ≡ 0
 full_octets octets b n e f =

@@ -1,6 +1,7 @@
 -- What a fresh encoder puts out is the bytes of what it presented.
-use Rattle.std.proofs.Common.{◌≡◌, ◌≢◌, ◌⊎◌, inl, inr, refl, sym, ap, ◌∙◌, subst, ℕ, false, List, [], Option, Some, None, Result, Ok, Err}
-use Rattle.std.specs.Prelude.{IfOk, IfErr}
+use Rattle.std.proofs.Common.{◌≡◌, ◌≢◌, ◌⊎◌, inl, inr, refl, sym, ap, ◌∙◌, subst, ℕ, true, false, List, [], Option, Some, None, Result, Ok, Err}
+use Rattle.std.proofs.Math.Nat.{le_refl}
+use Rattle.std.specs.Prelude.{IfOk, IfErr, Vec}
 use Rattle.rasn_types.specs.Bits.{Bits}
 use Rattle.rasn_types.specs.Codecs.{variant_of}
 use Rattle.rasn_types.specs.declared.types.Codec.{Codec}
@@ -11,10 +12,11 @@ use Rattle.rasn_calls.specs.Calls.{AtDepths}
 use Rattle.per_core.specs.Writers.{join, just, ◌▹◌}
 use Rattle.per_core.specs.Canon.{canon, bytes, completed}
 use Rattle.per_write.specs.State.{State, fresh, view, Presents}
-use Rattle.per_write.specs.Faults.{IsMemory, RefusesValue}
+use Rattle.per_write.specs.Faults.{IsMemory, IsInValue, RefusesOutput, RefusesValue, Stands}
 use Rattle.per_write.specs.declared.error.EncodeError.{EncodeError}
-use Rattle.per_write.specs.declared.error.EncodeErrorKind.TheVariants.{OutOfMemory}
-use Rattle.rasn_per.specs.Complete.{AreBytes, HasNoBytes}
+use Rattle.per_write.specs.declared.error.EncodeErrorKind.{EncodeErrorKind}
+use Rattle.per_write.specs.declared.error.EncodeErrorKind.TheVariants.{AlreadyFailed, OutOfMemory}
+use Rattle.rasn_per.specs.Calls.{Encoded}
 
 join-nil : (o : Option Bits) → join [] o ≡ o
 join-nil None = refl
@@ -27,21 +29,53 @@ presented x s v y octets e h k =
     let z : view y 0 ≡ join [] (canon (variant_of x.codec) s v 0) = w ∙ ap (λ (u : Bits). (just u ▹ canon (variant_of x.codec) s v) 0) e in
     ap completed (sym (z ∙ join-nil (canon (variant_of x.codec) s v 0))) ∙ k
 
--- at each depth that holds the value
-pub encoded : {V E : Type 0} (items : V → List ℕ) (a : Codec) (x : State) (schema : ℕ → Schema) (levels : ℕ) (v : Value) (y : State) (result : Result V E) → x ≡ fresh a
-    → AtDepths schema levels (λ s. Presents x s (normal s v) y)
-    → IfOk result (λ o. completed (view y 0) ≡ Some (items o)) → IfOk result (λ o. AreBytes (variant_of a) schema levels v (items o))
-encoded items a x schema levels v y (Ok o) e h k = record { at = λ n l. subst (λ z. bytes (variant_of z) (schema n) (normal (schema n) v) ≡ Some (items o)) (ap (λ (u : State). u.codec) e) (presented x (schema n) (normal (schema n) v) y (items o) (ap (λ (u : State). u.bits) e) (h.at n l) k) }
-encoded items a x schema levels v y (Err f) e h k = tt
+unfailed : true ≡ false → ⊥
+unfailed e = absurd (cc)
+
+-- the fault of an encoder that hadn't failed stands in the value
+in_value : (k : EncodeErrorKind) (x : State) (s : Schema) (v : Value) → x.failed ≡ false → Stands k x s v → IsInValue k s v
+in_value AlreadyFailed x s v f h = absurd (unfailed (sym h ∙ f))
+in_value _ x s v f h = h
+
+-- what was put out behind a value
+pub written : {Z : Type 0} (a : Codec) (x : State) (schema : ℕ → Schema) (levels : ℕ) (v : Value) (y : State) (result : Result (Vec ℕ Z) EncodeError) → x ≡ fresh a
+    → AtDepths schema levels (λ s. Presents x s (normal s v) y) → IfOk result (λ o. completed (view y 0) ≡ Some o.items) → IfErr result (λ e. RefusesOutput e y)
+    → Encoded a schema levels v result
+written a x schema levels v y (Ok o) e h k r = record {
+  ok = record { at = λ n l. subst (λ z. bytes (variant_of z) (schema n) (normal (schema n) v) ≡ Some o.items) (ap (λ (u : State). u.codec) e) (presented x (schema n) (normal (schema n) v) y o.items (ap (λ (u : State). u.bits) e) (h.at n l) k) };
+  err = tt;
+  kind = tt;
+  variant = tt;
+}
+written a x schema levels v y (Err f) e h k (inl m) = record {
+  ok = tt;
+  err = λ n. absurd (n m.0.kind_is);
+  kind = λ n. absurd (n m.0.kind_is);
+  variant = m.0.codec_is ∙ (h.at levels (le_refl levels)).same ∙ ap (λ (u : State). u.codec) e;
+}
+written a x schema levels v y (Err f) e h k (inr m) = absurd (unfailed (sym m.1 ∙ (h.at levels (le_refl levels)).left))
 
 -- where a fresh encoder refuses a value, it has no bytes
-pub refused : {T : Type 0} (a : Codec) (x : State) (schema : ℕ → Schema) (levels : ℕ) (v : Value) (result : Result T EncodeError) (f : EncodeError) → x ≡ fresh a → result ≡ Err f
-    → AtDepths schema levels (λ s. IsMemory f x ⊎ RefusesValue f x s (normal s v)) → IfErr result (λ e. e.kind ≢ OutOfMemory → HasNoBytes (variant_of a) schema levels v)
+pub refused : {Z : Type 0} (a : Codec) (x : State) (schema : ℕ → Schema) (levels : ℕ) (v : Value) (result : Result (Vec ℕ Z) EncodeError) (f : EncodeError) → x ≡ fresh a → result ≡ Err f
+    → AtDepths schema levels (λ s. IsMemory f x ⊎ RefusesValue f x s (normal s v)) → Encoded a schema levels v result
 unfolding bytes
-refused a x schema levels v result f e g h = rw g (λ n. record { at = λ k l. go k n (h.at k l) })
+refused a x schema levels v result f e g h = rw g (record {
+  ok = tt;
+  err = λ n. record { at = λ k l. none k n (h.at k l) };
+  kind = λ n. record { at = λ k l. stands k n (h.at k l) };
+  variant = of_codec (h.at levels (le_refl levels)) ∙ ap (λ (u : State). u.codec) e;
+})
   where
-    go : (k : ℕ) → f.kind ≢ OutOfMemory → IsMemory f x ⊎ RefusesValue f x (schema k) (normal (schema k) v) → bytes (variant_of a) (schema k) (normal (schema k) v) ≡ None
-    go k n (inl m) = absurd (n m.kind_is)
-    go k n (inr r) =
+    none : (k : ℕ) → f.kind ≢ OutOfMemory → IsMemory f x ⊎ RefusesValue f x (schema k) (normal (schema k) v) → bytes (variant_of a) (schema k) (normal (schema k) v) ≡ None
+    none k n (inl m) = absurd (n m.kind_is)
+    none k n (inr r) =
         let c : canon (variant_of x.codec) (schema k) (normal (schema k) v) 0 ≡ None = r.none (ap (λ (u : State). u.failed) e) 0 in
         subst (λ z. completed (canon (variant_of z) (schema k) (normal (schema k) v) 0) ≡ None) (ap (λ (u : State). u.codec) e) (ap completed c)
+
+    stands : (k : ℕ) → f.kind ≢ OutOfMemory → IsMemory f x ⊎ RefusesValue f x (schema k) (normal (schema k) v) → IsInValue f.kind (schema k) (normal (schema k) v)
+    stands k n (inl m) = absurd (n m.kind_is)
+    stands k n (inr r) = in_value f.kind x (schema k) (normal (schema k) v) (ap (λ (u : State). u.failed) e) r.stands
+
+    of_codec : IsMemory f x ⊎ RefusesValue f x (schema levels) (normal (schema levels) v) → f.codec ≡ x.codec
+    of_codec (inl m) = m.codec_is
+    of_codec (inr r) = r.codec_is

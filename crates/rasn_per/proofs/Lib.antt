@@ -1,3 +1,4 @@
+pub mod Answered
 pub mod Decoded
 pub mod Encoded
 pub mod Named

@@ -12,7 +12,7 @@ use Rattle.per_core.specs.Spellings.{Settings}
 use Rattle.per_core.specs.declared.ended.Surplus.{Surplus}
 use Rattle.per_core.specs.declared.ended.Surplus.TheVariants.{Missing, NonzeroOctet, ExtraOctets}
 use Rattle.per_de.specs.State.{State, Spells}
-use Rattle.per_de.specs.Faults.{in_alternative, IsAt, IsInBits, at_once, inside, IsInParts, here, later, IsOf, Fault, refusal}
+use Rattle.per_de.specs.Faults.{in_alternative, in_element, IsAt, IsInBits, at_once, inside, IsInParts, here, later, IsOf, Fault, refusal}
 use Rattle.per_read.specs.declared.error.DecodeError.{DecodeError}
 use Rattle.per_read.specs.declared.error.DecodeErrorKind.{DecodeErrorKind}
 use Rattle.per_read.specs.declared.error.DecodeErrorKind.TheVariants.{Incomplete, ParserFail, UnexpectedExtraData, AlreadyFailed, OutOfMemory}
@@ -31,6 +31,7 @@ extra_nowhere a (Schema.bit_string z m) s n h = h
 extra_nowhere a (Schema.char_string l z m) s n h = h
 extra_nowhere a (Schema.text k) s n h = h
 extra_nowhere a Schema.real s n h = h
+extra_nowhere a (Schema.list e z m) s n h = h
 extra_nowhere a Schema.cut s n h = h
 extra_nowhere a _ s n h = h
 
@@ -39,6 +40,7 @@ mutual
   no_extra {a} {k} {c} {s} (at_once h) n e = extra_nowhere a c s n (subst (IsAt a c s) e h)
   no_extra (inside b t h) n e = no_extra_inside h n e
   no_extra (in_alternative t i h) n e = no_extra h n e
+  no_extra (in_element vs t h) n e = no_extra h n e
 
   no_extra_inside : {a : Settings} {k : DecodeErrorKind} {ps : Parts} {bs : List Bool} {s : Bits} → IsInParts a k ps bs s → (n : ℕ) → k ≡ UnexpectedExtraData n → ⊥
   no_extra_inside (here h) n e = no_extra h n e

@@ -1,7 +1,9 @@
-//! The packed encoding rules of ASN.1 (ITU-T X.691), UNALIGNED variant: values to octets and back.
+//! The packed encoding rules of ASN.1 (ITU-T X.691), in both variants: values to octets and back.
 #![tactic(auto)]
 
 pub use per_bits as bits;
 
+pub mod aper;
+mod complete;
 pub mod per;
 pub mod uper;

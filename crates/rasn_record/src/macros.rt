@@ -112,6 +112,18 @@ macro_rules! encode_components {
     };
 }
 
+/// Writes a record of these components, whose type holds itself, under a tag and a name: the body of its `Encode`.
+#[macro_export]
+macro_rules! encode_record {
+    ([$of:ident $encoder:ident $tag:ident $identifier:ident] $($list:tt)*) => {
+        $encoder.encode_record::<Self, _, _>(
+            $tag,
+            &$crate::listed!($crate::cells_to_write!($of $($list)*)),
+            $identifier,
+        )
+    };
+}
+
 /// The same, each component also stated by itself: put it in the other's place where the check refuses that.
 #[macro_export]
 macro_rules! encode_each_component {

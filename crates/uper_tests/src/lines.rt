@@ -313,7 +313,7 @@ const WRONG_ARGUMENTS: &[&str] = &[
     "integer",
     "uper integer integer",
     "integer uper",
-    "aper integer",
+    "per integer",
     "UPER integer",
     "uper Integer",
     "uper real",

@@ -1,35 +1,41 @@
-use Rattle.std.proofs.Common.{◌≡◌, ℕ, suc, rules, ap, sym, ◌∙◌, length, slice_get, Some, arith}
+use Rattle.std.proofs.Common.{◌≡◌, ℕ, suc, refl, rules, ap, sym, ◌∙◌, length, slice_get, Some}
 use Rattle.std.proofs.lemmas.Result.{err_from_is_err_and}
-use Rattle.rasn_schema.specs.Choices.{choice_of, go_by, tags_of, variants_counted}
+use Rattle.rasn_schema.specs.Choices.{choice_at, choice_of, go_by, tags_of, variants_counted}
 use Rattle.rasn_schema.specs.Fields.{tag_of}
 use Rattle.per_de.specs.Choices.{OpensChoice}
-use Rattle.per_de.proofs.Choosing.{alternative_there, no_index, opens_index, place_found, too_deep_choice}
-use Rattle.per_de.proofs.Opening.{none_left}
+use Rattle.per_de.proofs.Calls.{too_deep}
+use Rattle.per_de.proofs.Choosing.{alternative_there, no_index, opens_index, place_found}
 use Rattle.per_de.proofs.DecoderDecoder.open_choice.Goals as goal
 
-pub returns-in_default : goal.returns-in_default
-returns-in_default g c =
-    record { law = too_deep_choice _ _ g.C.Choice.alternatives _ (sym (ap (λ z. z.levels) c.self.view_is) ∙ none_left c.self.inside.levels c.in_default.ensures) (search rules); behaves = search rules }
+pub returns-in_err-levels : goal.returns-in_err-levels
+returns-in_err-levels g c =
+    let p = err_from_is_err_and c.from_residual-in_err-levels.result c.from_residual-in_err-levels.ensures.1 in
+    let o = c.in_err-levels.ensures in
+    record { law = rw (p.1, p.2) (too_deep (choice_at g.C.Choice.alternatives) _ _ _ refl o.0 o.1); behaves = search rules }
 
 pub returns-in_err-index : goal.returns-in_err-index
 returns-in_err-index g c =
     let p = err_from_is_err_and c.from_residual-in_err-index.result c.from_residual-in_err-index.ensures.1 in
     let count : (n : ℕ) → c.len.result ≡ length (tags_of (g.C.Choice.alternatives n)) = λ n. c.len.ensures ∙ variants_counted (g.C.Choice.alternatives n) (c.VARIANTS-variants.ensures ∙ g.C.Choice.described n) in
-    let deeper : c.self.inside.levels ≡ suc c.in-Some.levels = omega arith in
+    let o = c.in_ok-levels.ensures in
+    let same = c.self.view_is ∙ o.1 in
+    let deeper : c.self.inside.levels ≡ suc c.in_ok-levels.levels = ap (λ z. z.levels) same ∙ o.0 in
     record {
-      law = rw (p.1, p.2, ← c.self.view_is) (no_index g.C.Choice.alternatives c.len.result c.self.inside.reader c.take_choice_index-taken.new.self c.self.inside.failed c.self.inside.levels c.in-Some.levels c.self.inside.presences
-          c.take_choice_index-taken.result _ _ deeper (count c.in-Some.levels) c.take_choice_index-taken.ensures c.in_err-index.ensures);
+      law = rw (p.1, p.2, ← same) (no_index g.C.Choice.alternatives c.len.result c.self.inside.reader c.take_choice_index-taken.new.self c.self.inside.failed c.self.inside.levels c.in_ok-levels.levels c.self.inside.presences
+          c.take_choice_index-taken.result _ _ deeper (count c.in_ok-levels.levels) c.take_choice_index-taken.ensures c.in_err-index.ensures);
       behaves = search rules;
     }
 
 pub returns : goal.returns
 returns g c =
     let count : (n : ℕ) → c.len.result ≡ length (tags_of (g.C.Choice.alternatives n)) = λ n. c.len.ensures ∙ variants_counted (g.C.Choice.alternatives n) (c.VARIANTS-variants.ensures ∙ g.C.Choice.described n) in
-    let deeper : c.self.inside.levels ≡ suc c.in-Some.levels = omega arith in
+    let o = c.in_ok-levels.ensures in
+    let same = c.self.view_is ∙ o.1 in
+    let deeper : c.self.inside.levels ≡ suc c.in_ok-levels.levels = ap (λ z. z.levels) same ∙ o.0 in
     let alternatives = g.C.Choice.alternatives c.enter-scope.new.self.levels in
-    let opened : OpensChoice (choice_of alternatives) c.in_ok-index.index c.args.self.now c.enter-scope.result c.enter-scope.new.self = rw (← c.self.view_is) (
-    opens_index (choice_of alternatives) c.len.result c.in_ok-index.index c.self.inside.reader c.take_choice_index-taken.new.self c.self.inside.failed c.self.inside.levels c.in-Some.levels c.self.inside.presences c.from_octets.result
-    c.take_choice_index-taken.result _ _ _ (ap (λ z. z.failed) c.self.view_is ∙ c.in_ok-check_unfailed.ensures.ok) deeper c.from_octets.ensures (count _) c.take_choice_index-taken.ensures c.in_ok-index.ensures c.enter-scope.ensures) in
+    let opened : OpensChoice (choice_of alternatives) c.in_ok-index.index c.args.self.now c.enter-scope.result c.enter-scope.new.self = rw (← same) (
+    opens_index (choice_of alternatives) c.len.result c.in_ok-index.index c.self.inside.reader c.take_choice_index-taken.new.self c.self.inside.failed c.self.inside.levels c.in_ok-levels.levels c.self.inside.presences c.from_octets.result
+    c.take_choice_index-taken.result _ _ _ (ap (λ z. z.failed) same ∙ c.in_ok-check_unfailed.ensures.ok) deeper c.from_octets.ensures (count _) c.take_choice_index-taken.ensures c.in_ok-index.ensures c.enter-scope.ensures) in
     let there = alternative_there alternatives c.in_ok-index.index opened.took.spelled.below in
     let named : slice_get (go_by g.C.Choice.VARIANTS) c.in_ok-index.index ≡ Some (tag_of c.tag_at.result) = ap (λ vs. slice_get (go_by vs) c.in_ok-index.index) (sym c.VARIANTS-variants.ensures) ∙ c.tag_at.ensures in
     record {

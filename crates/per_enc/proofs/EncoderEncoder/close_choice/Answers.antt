@@ -1,8 +1,8 @@
-use Rattle.std.proofs.Common.{◌≡◌, ◌≤◌, ap, sym, ◌∙◌, length, Some, arith, rules}
+use Rattle.std.proofs.Common.{◌≡◌, ◌≤◌, ap, sym, ◌∙◌, length, None, Some, arith, rules}
 use Rattle.std.proofs.lemmas.Bool.{leb-true}
 use Rattle.rasn_schema.specs.Choices.{place_of, variants_counted}
 use Rattle.rasn_schema.specs.Fields.{tag_of}
-use Rattle.per_enc.proofs.Alternatives.{closes_choice, known_index, same_index}
+use Rattle.per_enc.proofs.Alternatives.{closes_choice, same_index}
 use Rattle.per_enc.proofs.EncoderEncoder.close_choice.Goals as goal
 
 pub returns : goal.returns
@@ -16,6 +16,6 @@ returns g c =
       law = rw (← c.self.view_is) (λ x i n k s v h p a w.
           closes_choice x i c.self.inside.writer c.known_index.new.self _ c.args.outside (g.C.Choice.alternatives n) c.len.result c.in_ok-index.index k s v c.close_choice.result
           (counted ∙ variants_counted (g.C.Choice.alternatives n) (g.C.Choice.described n)) few (same_index found p) h a w c.in_ok-index.ensures.stays c.close_choice.ensures);
-      known = known_index c.close_choice.result _ _ found;
+      unknown = λ none. let d : None ≡ Some c.in_ok-index.index = sym none ∙ found in absurd cc;
       behaves = search rules;
     }

@@ -1,22 +1,37 @@
-use Rattle.std.proofs.Common.{◌≡◌, refl}
-use Rattle.rasn_types.specs.Variants.{unaligned}
-use Rattle.per_lines.specs.Recoding.{rules_of}
-use Rattle.per_lines.specs.declared.arguments.Variant.{Variant}
-use Rattle.per_lines.specs.declared.arguments.Variant.TheVariants.{Uper}
 use Rattle.per_lines.proofs.recode.recoded.Goals as goal
 
--- the program knows one variant
-one_variant : (v : Variant) → rules_of v ≡ unaligned
-one_variant Uper = refl
-
 pub returns-in-Four-clause-err : goal.returns-in-Four-clause-err
-returns-in-Four-clause-err c = rw (c.in-Four.is, one_variant c.args.arguments.variant) c.recoded_as-in-Four.ensures.err
+returns-in-Four-clause-err c = rw c.in-Four.is c.recoded_as-in-Four.ensures.err
 
 pub returns-in-Items-clause-err : goal.returns-in-Items-clause-err
-returns-in-Items-clause-err c = rw (c.in-Items.is, one_variant c.args.arguments.variant) c.recoded_as-in-Items.ensures.err
+returns-in-Items-clause-err c = rw c.in-Items.is c.recoded_as-in-Items.ensures.err
 
 pub returns-in-Seven-clause-err : goal.returns-in-Seven-clause-err
-returns-in-Seven-clause-err c = rw (c.in-Seven.is, one_variant c.args.arguments.variant) c.recoded_as-in-Seven.ensures.err
+returns-in-Seven-clause-err c = rw c.in-Seven.is c.recoded_as-in-Seven.ensures.err
 
 pub returns-in-OneDefault-clause-err : goal.returns-in-OneDefault-clause-err
-returns-in-OneDefault-clause-err c = rw (c.in-OneDefault.is, one_variant c.args.arguments.variant) c.recoded_as-in-OneDefault.ensures.err
+returns-in-OneDefault-clause-err c = rw c.in-OneDefault.is c.recoded_as-in-OneDefault.ensures.err
+
+pub returns-in-Byte-clause-err : goal.returns-in-Byte-clause-err
+returns-in-Byte-clause-err c = rw c.in-Byte.is c.recoded_as-in-Byte.ensures.err
+
+pub returns-in-MaybeEmpty-clause-err : goal.returns-in-MaybeEmpty-clause-err
+returns-in-MaybeEmpty-clause-err c = rw c.in-MaybeEmpty.is c.recoded_as-in-MaybeEmpty.ensures.err
+
+pub returns-in-Nested-clause-err : goal.returns-in-Nested-clause-err
+returns-in-Nested-clause-err c = rw c.in-Nested.is c.recoded_as-in-Nested.ensures.err
+
+pub returns-in-Nest-clause-err : goal.returns-in-Nest-clause-err
+returns-in-Nest-clause-err c = rw c.in-Nest.is c.recoded_as-in-Nest.ensures.err
+
+pub returns-in-Bytes-clause-err : goal.returns-in-Bytes-clause-err
+returns-in-Bytes-clause-err c = rw c.in-Bytes.is c.recoded_as-in-Bytes.ensures.err
+
+pub returns-in-Nulls-clause-err : goal.returns-in-Nulls-clause-err
+returns-in-Nulls-clause-err c = rw c.in-Nulls.is c.recoded_as-in-Nulls.ensures.err
+
+pub returns-in-NullList-clause-err : goal.returns-in-NullList-clause-err
+returns-in-NullList-clause-err c = rw c.in-NullList.is c.recoded_as-in-NullList.ensures.err
+
+pub returns-in-Elements-clause-err : goal.returns-in-Elements-clause-err
+returns-in-Elements-clause-err c = rw c.in-Elements.is c.recoded_as-in-Elements.ensures.err

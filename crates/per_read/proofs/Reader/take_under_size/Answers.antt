@@ -1,29 +1,26 @@
-use Rattle.std.proofs.Common.{◌∙◌, refl, sym, List, ℕ}
+use Rattle.std.proofs.Common.{◌∙◌, sym, refl, List, ℕ}
+use Rattle.rasn_constraints.specs.Constraints.{start_of, end_of}
 use Rattle.per_core.specs.Items.{counted_of}
 use Rattle.per_read.specs.Items.{coded}
 use Rattle.per_read.specs.State.{settings_of}
 use Rattle.per_read.proofs.Calls.{takes_last_items}
 use Rattle.per_read.proofs.Parts.{stopped}
-use Rattle.per_read.proofs.SizeForms.{under_between, under_unsized, as_form, none_as}
+use Rattle.per_read.proofs.SizeForms.{constrained_is, free_is, under_constrained, under_free, as_form, none_as}
 use Rattle.per_read.proofs.Reader.take_under_size.Goals as goal
 
-pub returns-then-upper-lt65536 : goal.returns-then-upper-lt65536
-returns-then-upper-lt65536 g c =
+pub take_constrained_items-requires-clause-few : goal.take_constrained_items-requires-clause-few
+take_constrained_items-requires-clause-few g c = (constrained_is (start_of c.args.size.now) (end_of c.args.size.now) _ _ (sym c.constrained_bounds.ensures ∙ c.in-Some.is)).few
+
+pub returns-in-Some : goal.returns-in-Some
+returns-in-Some g c =
     let i = g.C.Collector.item c.args.items.now in
-    let e = λ (xs : List ℕ). under_between (settings_of c.args.self.now) (counted_of i) (coded i) xs c.in-Some-Some.lower c.in-Some-Some.upper c.if-upper-lt65536.true in
-    rw (sym c.start_and_end.ensures.start ∙ c.in-Some-Some.is-0, sym c.start_and_end.ensures.end ∙ c.in-Some-Some.is-1)
-    (takes_last_items c.take_constrained_items.ensures refl (λ n. as_form e) (λ k. stopped k (none_as e)))
+    let b = constrained_is (start_of c.args.size.now) (end_of c.args.size.now) _ _ (sym c.constrained_bounds.ensures ∙ c.in-Some.is) in
+    let e = λ (xs : List ℕ). under_constrained (settings_of c.args.self.now) (counted_of i) (coded i) xs b in
+    takes_last_items c.take_constrained_items.ensures refl (λ n. as_form e) (λ k. stopped k (none_as e))
 
-pub returns-else-upper-lt65536 : goal.returns-else-upper-lt65536
-returns-else-upper-lt65536 g c =
+pub returns-in-None : goal.returns-in-None
+returns-in-None g c =
     let i = g.C.Collector.item c.args.items.now in
-    let e = λ (xs : List ℕ). under_unsized (settings_of c.args.self.now) (counted_of i) (coded i) xs c.in-Some-Some.lower c.in-Some-Some.upper c.if-upper-lt65536.false in
-    rw (sym c.start_and_end.ensures.start ∙ c.in-Some-Some.is-0, sym c.start_and_end.ensures.end ∙ c.in-Some-Some.is-1)
-    (takes_last_items c.take_unconstrained_items.ensures refl (λ n. as_form e) (λ k. stopped k (none_as e)))
-
-pub returns-in-Some-None : goal.returns-in-Some-None
-returns-in-Some-None g c =
-    rw (sym c.start_and_end.ensures.start ∙ c.in-Some-None.is-0, sym c.start_and_end.ensures.end ∙ c.in-Some-None.is-1) c.take_unconstrained_items-in-Some-None.ensures
-
-pub returns-in-None-default : goal.returns-in-None-default
-returns-in-None-default g c = rw (sym c.start_and_end.ensures.start ∙ c.in-None-default.is-0) c.take_unconstrained_items-in-None-default.ensures
+    let b = free_is (start_of c.args.size.now) (end_of c.args.size.now) (sym c.constrained_bounds.ensures ∙ c.in-None.is) in
+    let e = λ (xs : List ℕ). under_free (settings_of c.args.self.now) (counted_of i) (coded i) xs (start_of c.args.size.now) (end_of c.args.size.now) b in
+    takes_last_items c.take_unconstrained_items.ensures refl (λ n. as_form e) (λ k. stopped k (none_as e))

@@ -1,5 +1,6 @@
 use Rattle.std.proofs.Common.{refl, ◌∙◌, rules}
 use Rattle.std.specs.Fn.{FnOnceReturnsAtMut}
+use Rattle.std.proofs.lemmas.Result.{err_from_is_err_and}
 use Rattle.rasn_calls.proofs.Alternatives.{choice_refused, choice_closed}
 use Rattle.rasn_calls.proofs.encoder.Encoder.encode_choice.Goals as goal
 
@@ -11,6 +12,7 @@ returns-in-Err g c =
       law = λ k v depth owed.
           let w = rw c.in-Err.is at (owed.keeps c.open_choice.new.self c.scope.result c.scope.new.arg2 gave) in
           choice_refused g.Self.Encoder.rules g.C.Choice.alternatives g.C.Choice.VARIANTS k v depth _ c.open_choice.new.self c.scope.new.arg2 c.args.self.now _ (λ n. (o n).1) w;
+      unknown = λ _. refl;
       again = search rules;
       fails = search rules;
       kept = λ owed. c.fail.ensures.kept ∙ owed.stays c.open_choice.new.self c.scope.result c.scope.new.arg2 gave ∙ c.in_ok-outside.ensures.behaves.kept;
@@ -25,6 +27,10 @@ returns-in-Ok g c =
           let w = rw c.in-Ok.is at (owed.keeps c.open_choice.new.self c.scope.result c.scope.new.arg2 gave) in
           choice_closed g.Self.Encoder.rules g.Self.Encoder.opens_choice g.C.Choice.alternatives g.C.Choice.VARIANTS k v depth
           c.args.self.now c.open_choice.new.self c.scope.new.arg2 _ _ (λ n. (o n).0) w _ _ c.close_choice.ensures;
+      unknown = λ owed.
+          let none = rw c.in-Ok.is at (owed.none c.open_choice.new.self c.scope.result c.scope.new.arg2 gave) in
+          let refused = err_from_is_err_and c.close_choice.result (c.close_choice.ensures.unknown none) in
+          rw refused.1 refl;
       again = search rules;
       fails = search rules;
       kept = λ owed. c.close_choice.ensures.behaves.kept ∙ owed.stays c.open_choice.new.self c.scope.result c.scope.new.arg2 gave ∙ c.in_ok-outside.ensures.behaves.kept;

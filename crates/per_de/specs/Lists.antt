@@ -1,0 +1,16 @@
+-- A list that is open to read (ITU-T X.691, 20).
+use Rattle.std.specs.Prelude.{◌≡◌, suc, Bool, false, List}
+use Rattle.rasn_types.specs.Values.{Value}
+use Rattle.rasn_constraints.specs.Bounds.{Size}
+use Rattle.rasn_schema.specs.Schemas.{Schema}
+use Rattle.per_read.specs.Lists.{AmidItems, list_rule}
+use Rattle.per_de.specs.State.{State, settings_of}
+use Rattle.per_de.specs.declared.ListScope.{ListScope}
+
+-- A list is open, which began at s: some elements were read, and what is left of it is read from i on, one level deeper.
+pub record AmidList (e : Schema) (size : Size) (mark : Bool) (s : State) (vs : List Value) (l : ListScope) (i : State) : Type 0 where
+  pub live : s.failed ≡ false
+  pub deeper : s.levels ≡ suc i.levels
+  pub outside : l.levels ≡ s.levels
+  pub same : i ≡ record s { bits = i.bits; levels = i.levels }
+  pub items : AmidItems (list_rule (settings_of s) size mark e) s.bits vs l.list i.bits

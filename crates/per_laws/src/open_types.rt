@@ -1,0 +1,24 @@
+//! The laws of open types: their contents are the same octets wherever they stand.
+
+ghost use Rattle.std.specs.Prelude.{◌≡◌, ◌↔◌, ℕ, List, Some};
+ghost use Rattle.rasn_types.specs.Bits.{Bits};
+ghost use Rattle.rasn_types.specs.Values.{Value};
+ghost use Rattle.rasn_schema.specs.Schemas.{Schema};
+ghost use Rattle.per_core.specs.Basic.{Octets, OpenOf, basic, fills};
+ghost use Rattle.per_core.specs.Canon.{canon, bytes};
+ghost use Rattle.per_core.specs.Counts.{open_bits};
+ghost use Rattle.per_core.specs.Spellings.{Settings};
+
+/// Wherever they stand and however their count is written, octets are read as an open type of a value exactly where
+/// they are a complete encoding of it (X.691, 11.2).
+pub fn open_type_is_a_complete_encoding()
+    ensures { (a : Settings) (s : Schema) (v : Value) (octets : List ℕ) (p : ℕ) (bits : Bits)
+        → Octets a octets p bits → OpenOf a (basic a s) v p bits ↔ fills a s v octets }
+{}
+
+/// Wherever an open type is written, its octets are the canonical bytes of its value (X.691, 11.2).
+pub fn open_type_is_written_as_canonical_bytes()
+    ensures { (a : Settings) (s : Schema) (v : Value) (p : ℕ) (bits : Bits)
+        → open_bits a.variant (canon a.variant s v 0) p ≡ Some bits
+        → (octets : List ℕ) × (bytes a.variant s v ≡ Some octets) × Octets a octets p bits }
+{}

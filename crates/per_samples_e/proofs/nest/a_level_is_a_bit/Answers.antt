@@ -1,0 +1,22 @@
+use Rattle.std.proofs.Common.{◌≡◌, ◌≤◌, ℕ, zero, suc, [], ◌∷◌, Option, Some, None, arith, refl}
+use Rattle.rasn_types.specs.Variants.{unaligned}
+use Rattle.rasn_types.specs.Values.{Value}
+use Rattle.rasn_schema.specs.Components.{sequence_at, sequence_value}
+use Rattle.rasn_schema.specs.Normal.{normal, settle}
+use Rattle.per_core.specs.Canon.{bytes}
+use Rattle.per_samples_e.specs.Nests.{nest}
+use Rattle.per_samples_e.proofs.nest.a_level_is_a_bit.Goals as goal
+
+-- a record of one component, absent or there
+abbrev around : Option Value → Value
+around r = sequence_value (r ∷ [])
+
+three_levels : (n : ℕ) → 3 ≤ n → bytes unaligned (sequence_at nest n) (normal (sequence_at nest n) (around (Some (around (Some (around None)))))) ≡ Some (0xc0 ∷ [])
+unfolding bytes normal settle
+three_levels zero h = absurd (omega arith)
+three_levels (suc zero) h = absurd (omega arith)
+three_levels (suc (suc zero)) h = absurd (omega arith)
+three_levels (suc (suc (suc n))) h = refl
+
+pub returns-clause-three : goal.returns-clause-three
+returns-clause-three c a b = record { at = three_levels }

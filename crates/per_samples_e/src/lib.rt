@@ -1,0 +1,12 @@
+//! Recursive types and lists whose encodings are known, written over the traits of types and codecs.
+#![tactic(auto)]
+
+pub mod byte;
+pub mod choice;
+pub mod elements;
+pub mod empty;
+pub mod lists;
+pub mod nest;
+pub mod ping;
+pub mod pong;
+pub mod triple;

@@ -1,0 +1,51 @@
+-- How a fresh decoder's reading of all octets ended is what the octets are read as, or why they are not.
+use Rattle.std.proofs.Common.{◌≡◌, ap, ◌∙◌, ℕ, List, ◌⊎◌, inl, inr, Result, Ok, Err}
+use Rattle.rasn_types.specs.Bits.{Bits, AreOctets}
+use Rattle.rasn_types.specs.Values.{Value}
+use Rattle.rasn_types.specs.declared.types.Codec.{Codec}
+use Rattle.rasn_schema.specs.Schemas.{Schema}
+use Rattle.rasn_calls.specs.Calls.{Refuses}
+use Rattle.per_core.specs.Ends.{Ends, IsWhy}
+use Rattle.per_core.specs.declared.ended.Surplus.{Surplus}
+use Rattle.per_de.specs.State.{State, Spells}
+use Rattle.per_de.specs.Faults.{Fault, refusal}
+use Rattle.per_read.specs.declared.error.DecodeError.{DecodeError}
+use Rattle.per_read.specs.declared.error.DecodeErrorKind.TheVariants.{OutOfMemory}
+use Rattle.rasn_per.specs.Calls.{Decoded}
+use Rattle.rasn_per.specs.Kinds.{kind_of}
+use Rattle.rasn_per.proofs.Decoded.{fresh, Ended, decoded, refused, unended}
+use Rattle.rasn_per.proofs.Named.{named, named_surplus}
+
+module _ {T : Type 0} (a : Codec) (schema : ℕ → Schema) (value : T → Value) (octets : List ℕ) (s : State) (begun : s ≡ fresh a octets) where
+  -- a value was read, and the octets end behind it
+  pub read : (x : T) (t : State) (b : Bits) → AreOctets octets → Spells (schema s.levels) s (value x) t → Ended a schema octets Ends t b → Decoded a schema value octets (Ok x)
+  read x t b o h d = record {
+    ok = decoded a schema octets (value x) s t b begun o h d;
+    err = tt;
+    kind = tt;
+    variant = tt;
+  }
+
+  -- nothing was read
+  pub unread : (result : Result T DecodeError) (f : DecodeError) → result ≡ Err f
+      → ((f ≡ refusal OutOfMemory s) ⊎ Refuses (Spells (schema s.levels)) (Fault (schema s.levels)) f s) → Decoded a schema value octets result
+  unread result f g h = record {
+    ok = rw g tt;
+    err = refused a schema octets result f s begun g h;
+    kind = named a schema octets result f s begun g h;
+    variant = rw g (of_codec h ∙ ap (λ (z : State). z.codec) begun);
+  }
+    where
+      of_codec : (f ≡ refusal OutOfMemory s) ⊎ Refuses (Spells (schema s.levels)) (Fault (schema s.levels)) f s → f.codec ≡ s.codec
+      of_codec (inl m) = ap (λ (z : DecodeError). z.codec) m
+      of_codec (inr r) = r.stands.codec
+
+  -- a value was read, and the octets don't end behind it
+  pub surplus : (why : Surplus) (f : DecodeError) (e : Codec) (x : T) (t : State) (b : Bits) → f ≡ record { kind = kind_of why; codec = e } → e ≡ t.codec → Spells (schema s.levels) s (value x) t
+      → Ended a schema octets (λ l n. Ends l n → ⊥) t b → Ended a schema octets (λ l n. IsWhy l n why) t b → Decoded a schema value octets (Err f)
+  surplus why f e x t b i c h d w = rw i (record {
+    ok = tt;
+    err = λ n. unended a schema octets (value x) s t b begun h d;
+    kind = named_surplus a schema octets why (value x) s t b begun h w;
+    variant = c ∙ ap (λ (z : State). z.codec) h.same ∙ ap (λ (z : State). z.codec) begun;
+  })

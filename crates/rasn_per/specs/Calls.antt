@@ -1,0 +1,31 @@
+-- What the calls answer in either variant: the main theorem.
+use Rattle.std.specs.Prelude.{◌≡◌, ◌≢◌, ℕ, List, Vec, Result, IfOk, IfErr}
+use Rattle.rasn_types.specs.Codecs.{variant_of}
+use Rattle.rasn_types.specs.Values.{Value}
+use Rattle.rasn_types.specs.declared.types.Codec.{Codec}
+use Rattle.rasn_schema.specs.Schemas.{Schema}
+use Rattle.rasn_schema.specs.Normal.{normal}
+use Rattle.rasn_calls.specs.Calls.{AtDepths}
+use Rattle.per_write.specs.Faults.{IsInValue}
+use Rattle.per_write.specs.declared.error.EncodeError.{EncodeError}
+use Rattle.per_write.specs.declared.error.EncodeErrorKind.TheVariants.{OutOfMemory as no_room_to_write}
+use Rattle.per_read.specs.declared.error.DecodeError.{DecodeError}
+use Rattle.per_read.specs.declared.error.DecodeErrorKind.TheVariants.{OutOfMemory as no_room_to_read}
+use Rattle.rasn_per.specs.Complete.{AreBytes, HasNoBytes, AreReadAs, AreUnread}
+use Rattle.rasn_per.specs.Kinds.{IsInOctets}
+
+-- A value is written by the schema of its type: its canonical bytes, or, memory aside, a refusal only where it has none, whose kind
+-- names a fault of the value.
+pub record Encoded {Z : Type 0} (codec : Codec) (schema : ℕ → Schema) (levels : ℕ) (v : Value) (result : Result (Vec ℕ Z) EncodeError) : Type 0 where
+  pub ok : IfOk result (λ octets. AreBytes (variant_of codec) schema levels v octets.items)
+  pub err : IfErr result (λ e. e.kind ≢ no_room_to_write → HasNoBytes (variant_of codec) schema levels v)
+  pub kind : IfErr result (λ e. e.kind ≢ no_room_to_write → AtDepths schema levels (λ s. IsInValue e.kind s (normal s v)))
+  pub variant : IfErr result (λ e. e.codec ≡ codec)
+
+-- Octets are read by the schema of a type: the value that they spell and no other, or, memory aside, a refusal only where they spell
+-- none, whose kind names a fault of the octets.
+pub record Decoded {T : Type 0} (codec : Codec) (schema : ℕ → Schema) (value : T → Value) (octets : List ℕ) (result : Result T DecodeError) : Type 0 where
+  pub ok : IfOk result (λ x. AreReadAs (variant_of codec) schema (value x) octets)
+  pub err : IfErr result (λ e. e.kind ≢ no_room_to_read → AreUnread (variant_of codec) schema octets)
+  pub kind : IfErr result (λ e. IsInOctets (variant_of codec) schema octets e.kind)
+  pub variant : IfErr result (λ e. e.codec ≡ codec)
