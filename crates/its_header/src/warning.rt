@@ -1,6 +1,6 @@
 //! Warning.
 
-ghost use Rattle.std.specs.Prelude.{[], ◌∷◌, Some, pos, refl};
+ghost use Rattle.std.specs.Prelude.{[], ◌∷◌, Some, max, pos, refl};
 ghost use Rattle.rasn_types.specs.Values.{whole};
 ghost use Rattle.rasn_schema.specs.Components.{fields_of};
 ghost use Rattle.rasn_calls.specs.Presences.{slot_of};
@@ -9,18 +9,21 @@ ghost use Rattle.its_header.specs.Warnings.{warning};
 
 use crate::area::ActionArea;
 use crate::direction::DriveDirection;
+use crate::position::ReferencePositionLite;
 use rasn_record::{
     AsnType, Components, Constraint, Decoder, Encoder, Fields, Record, bounds, decode_components,
     encode_components, fields,
 };
 
 /// Warning ::= SEQUENCE {
-///     direction DriveDirection OPTIONAL, area ActionArea, lane INTEGER (0..7) DEFAULT 1
+///     direction DriveDirection OPTIONAL, area ActionArea,
+///     positions SEQUENCE (SIZE (1..4)) OF ReferencePositionLite, lane INTEGER (0..7) DEFAULT 1
 /// }
-#[derive(Clone, Copy, Debug, PartialEq, Eq)]
+#[derive(Debug, Drop, PartialEq)]
 pub struct Warning {
     pub direction: Option<DriveDirection>,
     pub area: ActionArea,
+    pub positions: Vec<ReferencePositionLite>,
     pub lane: u8,
 }
 
@@ -29,7 +32,8 @@ macro_rules! components {
         $to! { [$($with)*]
             optional 0 "direction" direction: Option<DriveDirection> [];
             required 1 "area" area: ActionArea [];
-            default 2 "lane" lane: u8 [0..=7 DEFAULT 1_u8];
+            required 2 "positions" positions: Vec<ReferencePositionLite> [SIZE 1..=4];
+            default 3 "lane" lane: u8 [0..=7 DEFAULT 1_u8];
         }
     };
 }
@@ -46,9 +50,9 @@ impl Components for Warning {
     ghost components = { warning };
 
     ghost contents = { λ x. slot_of direction x.direction ∷ Some (⟦<ActionArea as AsnType>⟧.value x.area) ∷
-        Some (whole (pos x.lane)) ∷ [] };
+        Some (⟦<Vec<ReferencePositionLite> as AsnType>⟧.value x.positions) ∷ Some (whole (pos x.lane)) ∷ [] };
 
-    ghost depth = { λ _. 2 };
+    ghost depth = { λ x. max 2 (⟦<Vec<ReferencePositionLite> as AsnType>⟧.levels x.positions) };
 
     ghost described = { refl };
 }
