@@ -1,6 +1,6 @@
 -- All encodings that a basic decoder takes (ITU-T X.691, 12 to 24, 30 and 32). Where it takes more than X.691 allows a sender, that is
 -- this project's choice: any padding, superfluous octets and large forms, and additions that it doesn't know.
-use Rattle.std.specs.Prelude.{ℕ, zero, suc, ◌+◌, ◌-◌, ◌*◌, ◌/◌, ◌<◌, ◌≡◌, ◌⊎◌, Bool, true, false, cond, if◌then◌else◌, ◌&&◌, nat_le, nat_lt, ◌==◌, List, [], ◌∷◌, ◌++◌, length, Option, Some, None, ℤ, pos}
+use Rattle.std.specs.Prelude.{ℕ, zero, suc, ◌+◌, ◌-◌, ◌*◌, ◌/◌, ◌<◌, ◌≡◌, ◌⊎◌, Bool, true, false, cond, ◌&&◌, nat_le, nat_lt, ◌==◌, List, [], ◌∷◌, ◌++◌, length, Option, Some, None, ℤ, pos}
 use Rattle.rasn_types.specs.Alphabets.{char_width, char_code, visible}
 use Rattle.rasn_types.specs.Bits.{Bits, width, unpack}
 use Rattle.rasn_types.specs.Contents.{is_text, is_time, is_identifier, is_date}

@@ -1,5 +1,5 @@
 -- What a call owes that puts a value of a decoder's into a box.
-use Rattle.std.specs.Prelude.{◌≡◌, Bool, true, Result, Ok, Err, OnErr}
+use Rattle.std.specs.Prelude.{◌≡◌, true, Result, Ok, Err, OnErr}
 use Rattle.rasn_calls.specs.Calls.{DecoderRules}
 
 -- Ok holds the value and changes nothing, and Err says that memory ran out.

@@ -1,4 +1,4 @@
-use Rattle.std.proofs.Common.{refl, lit<, [], ◌∷◌, ◌++◌, replicate, false}
+use Rattle.std.proofs.Common.{refl, lit<, ◌∷◌, ◌++◌, replicate, false}
 use Rattle.rasn_types.specs.Values.{truth}
 use Rattle.rasn_constraints.specs.Bounds.{any_size}
 use Rattle.per_core.specs.Canon.{canon}
