@@ -16,7 +16,7 @@ use Rattle.rasn_schema.specs.Schemas.{Schema}
 use Rattle.rasn_schema.specs.Normal.{normal}
 use Rattle.per_core.specs.Canon.{bytes}
 use Rattle.per_lines.specs.declared.arguments.TypeName.{TypeName}
-use Rattle.per_lines.specs.declared.arguments.TypeName.TheVariants.{Boolean, Null, Integer, UpTo65535, FromMinusOne, Natural, ZeroTo65536, OneToTenExtensible, Four, Seven, OneDefault, ShortVisible, LettersAToE, BitString, OctetString, OnlyX, Items, Byte, MaybeEmpty, Nested, Nest, Bytes, Nulls, NullList, Elements}
+use Rattle.per_lines.specs.declared.arguments.TypeName.TheVariants.{Boolean, Null, Integer, UpTo65535, FromMinusOne, Natural, ZeroTo65536, OneToTenExtensible, Four, Seven, OneDefault, ShortVisible, LettersAToE, BitString, OctetString, OnlyX, Items, Byte, MaybeEmpty, Nested, Nest, Deep, Bytes, Nulls, NullList, Elements}
 use Rattle.per_lines.specs.declared.arguments.Arguments.{Arguments}
 use Rattle.per_lines.specs.declared.fault.Fault.TheVariants.{CannotWrite}
 use Rattle.per_lines.specs.Words.{codec_word, type_word, words_of}
@@ -28,7 +28,7 @@ use Rattle.per_lines.specs.Answers.{Answers, Prints, Stands}
 abbrev all_types : List TypeName
 all_types = Boolean ∷ Null ∷ Integer ∷ UpTo65535 ∷ FromMinusOne ∷ Natural ∷ ZeroTo65536 ∷ OneToTenExtensible ∷ Four ∷ Seven ∷ OneDefault
     ∷ ShortVisible ∷ LettersAToE ∷ BitString ∷ OctetString ∷ OnlyX ∷ Items
-    ∷ Byte ∷ MaybeEmpty ∷ Nested ∷ Nest ∷ Bytes ∷ Nulls ∷ NullList ∷ Elements ∷ []
+    ∷ Byte ∷ MaybeEmpty ∷ Nested ∷ Nest ∷ Deep ∷ Bytes ∷ Nulls ∷ NullList ∷ Elements ∷ []
 
 -- the first of some things that a word names
 abbrev named : {X : Type 0} → (X → List ℕ) → List ℕ → List X → Option X
@@ -69,6 +69,7 @@ type_of-words c Byte = refl
 type_of-words c MaybeEmpty = refl
 type_of-words c Nested = refl
 type_of-words c Nest = refl
+type_of-words c Deep = refl
 type_of-words c Bytes = refl
 type_of-words c Nulls = refl
 type_of-words c NullList = refl

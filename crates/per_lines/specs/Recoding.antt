@@ -15,6 +15,7 @@ use Rattle.per_samples_a.specs.Sevens.{seven}
 use Rattle.per_samples_c.specs.Items.{with_item}
 use Rattle.per_samples_e.specs.Bytes.{byte}
 use Rattle.per_samples_e.specs.Choices.{outer_parts}
+use Rattle.per_samples_e.specs.Deeps.{deep}
 use Rattle.per_samples_e.specs.Elements.{elements}
 use Rattle.per_samples_e.specs.Empties.{maybe_empty}
 use Rattle.per_samples_e.specs.Nests.{nest}
@@ -23,7 +24,7 @@ use Rattle.rasn_per.specs.Kinds.{IsInOctets}
 use Rattle.per_write.specs.declared.error.EncodeErrorKind.TheVariants as Encoding
 use Rattle.per_read.specs.declared.error.DecodeErrorKind.TheVariants as Decoding
 use Rattle.per_lines.specs.declared.arguments.TypeName.{TypeName}
-use Rattle.per_lines.specs.declared.arguments.TypeName.TheVariants.{Boolean, Null, Integer, UpTo65535, FromMinusOne, Natural, ZeroTo65536, OneToTenExtensible, Four, Seven, OneDefault, ShortVisible, LettersAToE, BitString, OctetString, OnlyX, Items, Byte, MaybeEmpty, Nested, Nest, Bytes, Nulls, NullList, Elements}
+use Rattle.per_lines.specs.declared.arguments.TypeName.TheVariants.{Boolean, Null, Integer, UpTo65535, FromMinusOne, Natural, ZeroTo65536, OneToTenExtensible, Four, Seven, OneDefault, ShortVisible, LettersAToE, BitString, OctetString, OnlyX, Items, Byte, MaybeEmpty, Nested, Nest, Deep, Bytes, Nulls, NullList, Elements}
 use Rattle.per_lines.specs.declared.fault.Fault.{Fault}
 use Rattle.per_lines.specs.declared.fault.Fault.TheVariants as Faults
 
@@ -56,6 +57,7 @@ schema_of Byte = sequence_at byte
 schema_of MaybeEmpty = sequence_at maybe_empty
 schema_of Nested = choice_at outer_parts
 schema_of Nest = sequence_at nest
+schema_of Deep = sequence_at deep
 schema_of Bytes = list_at (sequence_at byte) any_size false
 schema_of Nulls = list_at (always Schema.null) (one_to 300) false
 schema_of NullList = list_at (always Schema.null) any_size false

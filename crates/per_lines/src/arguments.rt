@@ -53,6 +53,8 @@ pub enum TypeName {
     Nested,
     /// Nest ::= SEQUENCE { inner Nest OPTIONAL }.
     Nest,
+    /// SEQUENCE { d Nest DEFAULT a value of 200 levels }.
+    Deep,
     /// SEQUENCE OF byte.
     Bytes,
     /// SEQUENCE (SIZE (1..300)) OF NULL.
@@ -113,6 +115,7 @@ impl TypeName {
             "empty" => Some(TypeName::MaybeEmpty),
             "nested" => Some(TypeName::Nested),
             "nest" => Some(TypeName::Nest),
+            "deep" => Some(TypeName::Deep),
             "bytes" => Some(TypeName::Bytes),
             "nulls" => Some(TypeName::Nulls),
             "nulllist" => Some(TypeName::NullList),

@@ -18,6 +18,7 @@ use per_samples_b::strings::{LettersAToE, OnlyX, ShortVisible};
 use per_samples_c::items::WithItem;
 use per_samples_e::byte::Byte;
 use per_samples_e::choice::Outer;
+use per_samples_e::deep::Deep;
 use per_samples_e::elements::Elements;
 use per_samples_e::empty::MaybeEmpty;
 use per_samples_e::lists::{Bytes, NullList, Nulls};
@@ -61,6 +62,7 @@ pub fn recoded(alloc: Global, arguments: Arguments, octets: &[u8]) -> Result<Vec
         TypeName::MaybeEmpty => recoded_as::<MaybeEmpty>(alloc, codec, octets),
         TypeName::Nested => recoded_as::<Outer>(alloc, codec, octets),
         TypeName::Nest => recoded_as::<Nest>(alloc, codec, octets),
+        TypeName::Deep => recoded_as::<Deep>(alloc, codec, octets),
         TypeName::Bytes => recoded_as::<Bytes>(alloc, codec, octets),
         TypeName::Nulls => recoded_as::<Nulls>(alloc, codec, octets),
         TypeName::NullList => recoded_as::<NullList>(alloc, codec, octets),

@@ -1,5 +1,6 @@
 pub mod Bytes
 pub mod Choices
+pub mod Deeps
 pub mod Elements
 pub mod Empties
 pub mod Mutuals

@@ -3,6 +3,7 @@
 
 pub mod byte;
 pub mod choice;
+pub mod deep;
 pub mod elements;
 pub mod empty;
 pub mod lists;

@@ -24,6 +24,9 @@ returns-in-Nested-clause-err c = rw c.in-Nested.is c.recoded_as-in-Nested.ensure
 pub returns-in-Nest-clause-err : goal.returns-in-Nest-clause-err
 returns-in-Nest-clause-err c = rw c.in-Nest.is c.recoded_as-in-Nest.ensures.err
 
+pub returns-in-Deep-clause-err : goal.returns-in-Deep-clause-err
+returns-in-Deep-clause-err c = rw c.in-Deep.is c.recoded_as-in-Deep.ensures.err
+
 pub returns-in-Bytes-clause-err : goal.returns-in-Bytes-clause-err
 returns-in-Bytes-clause-err c = rw c.in-Bytes.is c.recoded_as-in-Bytes.ensures.err
 

@@ -1,21 +1,12 @@
-use denote.Hole.Carrier.{roll}
-use Rattle.std.proofs.Common.{◌≡◌, Box, Global, Option, Some, None, [], ◌∷◌, refl, rules, subst, sym}
+use Rattle.std.proofs.Common.{refl, rules, subst, sym}
 use Rattle.std.proofs.lemmas.Result.{err_from_is_err_and}
 use Rattle.rasn_schema.specs.Components.{parts_of, sequence_at, sequence_value}
-use Rattle.rasn_calls.specs.Presences.{slot_of}
 use Rattle.rasn_calls.specs.Scopes.{reads_end, reads_left_out, reads_next, reads_there}
 use Rattle.rasn_calls.proofs.Optionals.{bit_refused, value_unread}
 use Rattle.rasn_calls.proofs.Reading.{fails_part, inside_left, record_ended, record_endless, record_failed}
-use Rattle.per_samples_e.specs.Nests.{nest, nest_contents, nest_is_sequence}
-use Rattle.per_samples_e.specs.declared.nest.Nest.{Nest}
-use Rattle.per_samples_e.specs.declared.nest.Nest.TheViews.{roll-Nest}
+use Rattle.per_samples_e.specs.Nests.{nest, nest_is_sequence}
+use Rattle.per_samples_e.proofs.Contents.{contents_read}
 use Rattle.per_samples_e.proofs.nest.+nest.Goals as goal
-
--- what is read, of its component
-contents_read : (x : Option (Box Nest Global)) → nest_contents (roll-Nest (record { inner = x })) ≡ slot_of (λ b. sequence_value (nest_contents b.value)) x ∷ []
-unfolding roll-Nest roll
-contents_read None = refl
-contents_read (Some b) = refl
 
 -- the component
 pub Nest::decode_inner-returns-in_err-next_presence : goal.Nest::decode_inner-returns-in_err-next_presence
