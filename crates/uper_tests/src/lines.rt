@@ -184,6 +184,13 @@ const PRINTED: &[(&str, &str, &str)] = &[
         "fffffffffffffffffffffffffffffffe\n",
         "fffffffffffffffffffffffffffffffe\n",
     ),
+    // The default, of 200 levels, and a component of 127 levels.
+    ("uper deep", "00\n", "00\n"),
+    (
+        "uper deep",
+        "fffffffffffffffffffffffffffffffe\n",
+        "fffffffffffffffffffffffffffffffe\n",
+    ),
     ("uper bytes", "0102\n", "0102\n"),
     ("uper bytes", "8001ff\n", "01ff\n"),
     // 300 items, whose count is within the size.
@@ -241,6 +248,12 @@ const REFUSED: &[(&str, &str, &str)] = &[
     // 129 levels.
     (
         "uper nest",
+        "ffffffffffffffffffffffffffffffff00\n",
+        "ExceedsMaxParseDepth\n",
+    ),
+    // A component of 128 levels.
+    (
+        "uper deep",
         "ffffffffffffffffffffffffffffffff00\n",
         "ExceedsMaxParseDepth\n",
     ),
