@@ -1,8 +1,6 @@
 //! Reads a value of a type in hexadecimal and prints its canonical encoding (X.691), in hexadecimal too.
 //!
-//! `per_check (aper|uper) TYPE` reads the first line of its standard input. TYPE is `boolean`, `null`, `integer`,
-//! `upto`, `from`, `natural`, `i65536`, `iext`, `four`, `seven`, `default`, `vis`, `five`, `bits`, `octets`, `onlyx`
-//! or `items`.
+//! `per_check (aper|uper) TYPE` reads the first line of its standard input. `docs/TYPES.md` has the types.
 #![tactic(auto)]
 
 ghost use Rattle.std.specs.Prelude.{◌≡◌, ◌⊎◌, IfErr};

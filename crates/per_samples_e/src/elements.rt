@@ -12,7 +12,8 @@ use rasn_record::{
 };
 
 /// SEQUENCE {
-///     flag BOOLEAN, fixed SEQUENCE (SIZE (2)) OF Triple, ranged SEQUENCE (SIZE (1..4)) OF Triple, trailer INTEGER (0..255)
+///     flag BOOLEAN, fixed SEQUENCE (SIZE (2)) OF Triple, ranged SEQUENCE (SIZE (1..4)) OF Triple,
+///     trailer INTEGER (0..255)
 /// }
 #[derive(Debug, Drop, PartialEq)]
 pub struct Elements {
