@@ -1,8 +1,9 @@
 //! A SEQUENCE of two required components of any types, by the cells of them.
 
-ghost use Rattle.std.specs.Prelude.{refl, [], false, suc, max};
+ghost use Rattle.std.specs.Prelude.{refl, None, [], false, suc, max};
 ghost use Rattle.rasn_types.specs.declared.types.TheConstants.Tag.{SEQUENCE};
 ghost use Rattle.rasn_constraints.specs.Ranges.{no_constraints};
+ghost use Rattle.rasn_schema.specs.Extensions.{unextended};
 ghost use Rattle.rasn_schema.specs.Fields.{shapes_from};
 ghost use Rattle.rasn_schema.specs.Records.{no_additions, record_value};
 ghost use Rattle.rasn_schema.specs.Tags.{sequence_tag};
@@ -77,11 +78,21 @@ impl<A: AsnType, B: AsnType> Constructed for Both<A, B> {
 
     ghost FIELDS = { shapes_from 0 (both_parts (A.schema A.CONSTRAINTS) (B.schema B.CONSTRAINTS) 0) };
 
+    const EXTENDED_FIELDS: Option<Fields> = None;
+
+    ghost EXTENDED_FIELDS = { None };
+
+    const IS_EXTENSIBLE: bool = false;
+
+    ghost IS_EXTENSIBLE = { false };
+
     ghost parts = { both_parts (A.schema A.CONSTRAINTS) (B.schema B.CONSTRAINTS) };
 
     ghost contents = { λ x. both_contents (A.value x.a) (B.value x.b) };
 
     ghost described = { λ _. refl };
+
+    ghost extends = { unextended };
 
     ghost is_record = { λ _. refl };
 }
