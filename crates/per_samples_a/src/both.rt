@@ -9,6 +9,7 @@ ghost use Rattle.rasn_schema.specs.Records.{no_additions, record_value};
 ghost use Rattle.rasn_schema.specs.Tags.{sequence_tag};
 ghost use Rattle.per_samples_a.specs.Boths.{both_parts, both_schema, both_levelled, both_contents};
 
+use rasn_calls::parts::NoAdditions;
 use rasn_codec::codec::{Decode, Decoder, Encode, Encoder};
 use rasn_record::cells::{Cell, End, Listed};
 use rasn_record::components::Required;
@@ -117,7 +118,7 @@ impl<A: Encode, B: Encode> Encode for Both<A, B> {
                 },
             },
         };
-        encoder.encode_record::<Both<A, B>, _, _>(tag, &parts, identifier)
+        encoder.encode_record::<Both<A, B>, _, _, _>(tag, &parts, &NoAdditions, identifier)
     }
 }
 

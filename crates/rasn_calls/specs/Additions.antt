@@ -105,22 +105,23 @@ abbrev pub AdditionWritten : {E X : Type 0} → EncoderRules E X → Schema → 
 AdditionWritten rules s v x (Ok u) y = rules.adds x s v y
 AdditionWritten rules s v x (Err e) y = rules.memory e x ⊎ RefusesAdded rules e x s v
 
--- What stands for an addition, at each depth that holds its value: the value in an open type, or nothing.
-abbrev pub AdditionGiven : {E X : Type 0} → EncoderRules E X → (ℕ → Schema) → ℕ → Option Value → X → Result (Unit {0}) E → X → Type 0
-AdditionGiven rules schema k None x result y = AdditionSkipped rules x result y
-AdditionGiven rules schema k (Some v) x result y = AtDepths schema k (λ s. AdditionWritten rules s (normal s v) x result y)
+-- What stands for an addition: its value in an open type, at each depth that holds it, or nothing.
+abbrev pub AdditionGiven : {E X T : Type 0} → EncoderRules E X → (ℕ → Schema) → (T → ℕ) → (T → Value) → Option T → X → Result (Unit {0}) E → X → Type 0
+AdditionGiven rules schema levels value None x result y = AdditionSkipped rules x result y
+AdditionGiven rules schema levels value (Some t) x result y = AtDepths schema (levels t) (λ s. AdditionWritten rules s (normal s (value t)) x result y)
 
 -- A call that gives an addition: one that is required, or that may be absent, or at its default.
-pub record AddsOption {E X : Type 0} (rules : EncoderRules E X) (schema : ℕ → Schema) (k : ℕ) (r : Option Value) (x : X) (result : Result (Unit {0}) E) (y : X) : Type 0 where
-  pub law : AdditionGiven rules schema k r x result y
+pub record GivesAddition {E X T : Type 0} (rules : EncoderRules E X) (schema : ℕ → Schema) (levels : T → ℕ) (value : T → Value) (r : Option T) (x : X) (result : Result (Unit {0}) E) (y : X) : Type 0 where
+  pub law : AdditionGiven rules schema levels value r x result y
   pub behaves : Behaves rules.already rules.failed rules.codec x result y
 
--- What stands for a group, at each depth that holds it: nothing, also where it holds nothing (X.691 19.9).
-abbrev pub GroupGiven : {E X : Type 0} → EncoderRules E X → (ℕ → Schema) → ℕ → Option Value → X → Result (Unit {0}) E → X → Type 0
-GroupGiven rules schema k None x result y = AdditionSkipped rules x result y
-GroupGiven rules schema k (Some v) x result y = AtDepths schema k (λ s. WrittenAddition rules group s (settle group s (normal s v)) x result y)
+-- What stands for a group: nothing, also where it holds nothing (X.691 19.9).
+abbrev pub GroupGiven : {E X T : Type 0} → EncoderRules E X → (ℕ → Schema) → (T → ℕ) → (T → Value) → Option T → X → Result (Unit {0}) E → X → Type 0
+GroupGiven rules schema levels value None x result y = AdditionSkipped rules x result y
+GroupGiven rules schema levels value (Some t) x result y =
+    AtDepths schema (levels t) (λ s. WrittenAddition rules group s (settle group s (normal s (value t))) x result y)
 
 -- A call that gives a group.
-pub record AddsGroup {E X : Type 0} (rules : EncoderRules E X) (schema : ℕ → Schema) (k : ℕ) (r : Option Value) (x : X) (result : Result (Unit {0}) E) (y : X) : Type 0 where
-  pub law : GroupGiven rules schema k r x result y
+pub record GivesGroup {E X T : Type 0} (rules : EncoderRules E X) (schema : ℕ → Schema) (levels : T → ℕ) (value : T → Value) (r : Option T) (x : X) (result : Result (Unit {0}) E) (y : X) : Type 0 where
+  pub law : GroupGiven rules schema levels value r x result y
   pub behaves : Behaves rules.already rules.failed rules.codec x result y
