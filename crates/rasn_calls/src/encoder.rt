@@ -9,7 +9,7 @@ ghost use Rattle.rasn_schema.specs.Schemas.{Schema, listed};
 ghost use Rattle.rasn_schema.specs.Forms.{number_schema, octet_schema, bit_schema, character_schema};
 ghost use Rattle.rasn_schema.specs.Forms.{size_of, is_size_marked};
 ghost use Rattle.rasn_schema.specs.Records.{record_at, record_value};
-ghost use Rattle.rasn_calls.specs.Additions.{extended, ClosesAddition, ClosesGroup, OpensAddition, SkipsAddition};
+ghost use Rattle.rasn_calls.specs.Additions.{ClosesAddition, ClosesGroup, OpensAddition, SkipsAddition};
 ghost use Rattle.rasn_calls.specs.Optionals.{GivesBit};
 ghost use Rattle.rasn_calls.specs.Calls.{EncoderRules, freely, Writes, Encodes, PresentsWell};
 ghost use Rattle.rasn_schema.specs.Fields.{tag_of};
@@ -239,8 +239,7 @@ pub trait Encoder: Sized {
     /// Closes an open type in which an addition group was written: one that holds nothing is given as absent
     /// (X.691 19.9).
     fn close_group<C: Constructed>(&mut self, addition: Self::Addition) -> Result<(), Self::Error>
-        ensures { ClosesGroup rules opens_addition (λ n. extended (C.parts n) C.IS_EXTENSIBLE (C.additions n))
-            addition self.old result self.new };
+        ensures { ClosesGroup rules opens_addition (C.schema C.CONSTRAINTS) addition self.old result self.new };
 
     /// Opens a SEQUENCE OF under constraints (X.691 20): so many elements follow, each behind a call of `next_element`,
     /// up to `close_list`. A count outside a size that isn't extensible is refused.

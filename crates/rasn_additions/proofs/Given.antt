@@ -1,0 +1,46 @@
+-- How the law of an addition follows from those of its open type and of its value, over any encoder.
+use Rattle.std.proofs.Common.{◌≡◌, refl, ◌⊎◌, inl, inr, Bool, true, false, Result, Ok, Err, Option, Some, None}
+use Rattle.rasn_types.specs.Values.{Value}
+use Rattle.rasn_schema.specs.Normal.{is_vacant, settle}
+use Rattle.rasn_schema.specs.Schemas.{group, Schema}
+use Rattle.rasn_calls.specs.Additions.{AdditionClosed, AdditionWritten, ClosesAddition, presents_added, presents_skipped, refuses_added, refuses_inside, refuses_skipped, refuses_surplus, WrittenAddition}
+use Rattle.rasn_calls.specs.Calls.{EncoderRules, PresentsWell, Written}
+
+module _ {E X : Type 0} (rules : EncoderRules E X) (L : PresentsWell rules) where
+  -- a value that is refused inside its open type
+  pub value_refused : (s : Schema) (v : Value) (x i j y : X) (e : E) → rules.begins x i → Written rules s v i (Err e) j → AdditionWritten rules s v x (Err e) y
+  value_refused s v x i j y e b (inl m) = inl (L.begin_room x i e b m)
+  value_refused s v x i j y e b (inr q) = inr (refuses_inside b q)
+
+  -- a value that was presented inside
+  pub value_closed : {O : Type 0} (opens : X → O → X → Type 0) (s : Schema) (v : Value) (x i j : X) (o : O) → opens x o i → rules.presents i s v j
+      → (r : Result (Unit {0}) E) (y : X) → ClosesAddition rules opens o j r y → AdditionWritten rules s v x r y
+  value_closed opens s v x i j o a w (Ok u) y f = f.law x i s v a w
+  value_closed opens s v x i j o a w (Err e) y f = inl (f.law x i s v a w)
+
+  -- a group that is one addition too many
+  pub group_surplus : (s : Schema) (v : Value) (x y : X) (e : E) → rules.memory e x ⊎ rules.surplus e x → WrittenAddition rules group s (settle group s v) x (Err e) y
+  unfolding settle
+  group_surplus s v x y e (inl m) = inl m
+  group_surplus s v x y e (inr q) = of_vacant (is_vacant s v) refl
+    where
+      of_vacant : (c : Bool) → is_vacant s v ≡ c → WrittenAddition rules group s (settle group s v) x (Err e) y
+      of_vacant true h = rw h (inr (refuses_skipped refl q))
+      of_vacant false h = rw h (inr (refuses_added refl (refuses_surplus q)))
+
+  -- a group that is refused inside its open type: it holds something
+  pub group_refused : (s : Schema) (v : Value) (x i j y : X) (e : E) → rules.begins x i → Written rules s v i (Err e) j → WrittenAddition rules group s (settle group s v) x (Err e) y
+  unfolding settle
+  group_refused s v x i j y e b (inl m) = inl (L.begin_room x i e b m)
+  group_refused s v x i j y e b (inr q) = of_vacant (is_vacant s v) refl
+    where
+      of_vacant : (c : Bool) → is_vacant s v ≡ c → WrittenAddition rules group s (settle group s v) x (Err e) y
+      of_vacant true h = absurd (L.vacant x i s v e b h q)
+      of_vacant false h = rw h (inr (refuses_added refl (refuses_inside b q)))
+
+  -- a group that was given
+  pub group_closed : (s : Schema) (o : Option Value) (x : X) (r : Result (Unit {0}) E) (y : X) → AdditionClosed rules s o x r y → WrittenAddition rules group s o x r y
+  group_closed s (Some v) x (Ok u) y h = presents_added refl h
+  group_closed s None x (Ok u) y h = presents_skipped refl h
+  group_closed s (Some v) x (Err e) y h = inl h
+  group_closed s None x (Err e) y h = inl h
