@@ -106,7 +106,8 @@ impl DecoderOptions {
     }
 }
 
-/// A reader of values from the front of bits. Every basic encoding is read, canonical or not.
+/// A reader of values from the front of bits. Every basic encoding is read, canonical or not; where padding must be
+/// zero, every one whose padding is.
 #[derive(Drop)]
 pub struct Decoder<'input> {
     reader: Reader<'input>,

@@ -17,8 +17,9 @@ pub fn any_padding(codec: Codec) -> ReaderOptions {
     }
 }
 
-const NONZERO_PADDING: DecodeErrorKind =
-    DecodeErrorKind::ParserFail(ParserFailCause::NonzeroPadding);
+const NONZERO_PADDING: DecodeErrorKind = DecodeErrorKind::ParserFail(
+    ParserFailCause::NonzeroPadding,
+);
 
 const ANY: &[Constraint] = constraints!();
 
