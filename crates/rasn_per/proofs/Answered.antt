@@ -1,5 +1,5 @@
 -- How a fresh decoder's reading of all octets ended is what the octets are read as, or why they are not.
-use Rattle.std.proofs.Common.{◌≡◌, ap, ◌∙◌, ℕ, List, ◌⊎◌, inl, inr, Result, Ok, Err}
+use Rattle.std.proofs.Common.{◌≡◌, ap, ◌∙◌, ℕ, false, List, ◌⊎◌, inl, inr, Result, Ok, Err}
 use Rattle.rasn_types.specs.Bits.{Bits, AreOctets}
 use Rattle.rasn_types.specs.Values.{Value}
 use Rattle.rasn_types.specs.declared.types.Codec.{Codec}
@@ -18,7 +18,7 @@ use Rattle.rasn_per.proofs.Named.{named, named_surplus}
 
 module _ {T : Type 0} (a : Codec) (schema : ℕ → Schema) (value : T → Value) (octets : List ℕ) (s : State) (begun : s ≡ fresh a octets) where
   -- a value was read, and the octets end behind it
-  pub read : (x : T) (t : State) (b : Bits) → AreOctets octets → Spells (schema s.levels) s (value x) t → Ended a schema octets Ends t b → Decoded a schema value octets (Ok x)
+  pub read : (x : T) (t : State) (b : Bits) → AreOctets octets → Spells (schema s.levels) s (value x) t → Ended a schema octets (Ends false) t b → Decoded a schema value octets (Ok x)
   read x t b o h d = record {
     ok = decoded a schema octets (value x) s t b begun o h d;
     err = tt;
@@ -42,7 +42,7 @@ module _ {T : Type 0} (a : Codec) (schema : ℕ → Schema) (value : T → Value
 
   -- a value was read, and the octets don't end behind it
   pub surplus : (why : Surplus) (f : DecodeError) (e : Codec) (x : T) (t : State) (b : Bits) → f ≡ record { kind = kind_of why; codec = e } → e ≡ t.codec → Spells (schema s.levels) s (value x) t
-      → Ended a schema octets (λ l n. Ends l n → ⊥) t b → Ended a schema octets (λ l n. IsWhy l n why) t b → Decoded a schema value octets (Err f)
+      → Ended a schema octets (λ l n. Ends false l n → ⊥) t b → Ended a schema octets (λ l n. IsWhy false l n why) t b → Decoded a schema value octets (Err f)
   surplus why f e x t b i c h d w = rw i (record {
     ok = tt;
     err = λ n. unended a schema octets (value x) s t b begun h d;

@@ -1,5 +1,5 @@
 -- What a fresh decoder reads, and how the reading ends, is what octets are read as.
-use Rattle.std.proofs.Common.{◌≡◌, ◌≢◌, refl, sym, ap, ◌∙◌, subst, ℕ, List, ◌⊎◌, inl, inr, ◌%◌, ◌*◌, length, arith, Result, Err}
+use Rattle.std.proofs.Common.{◌≡◌, ◌≢◌, refl, sym, ap, ◌∙◌, subst, ℕ, Bool, false, List, ◌⊎◌, inl, inr, ◌%◌, ◌*◌, length, arith, Result, Err}
 use Rattle.std.specs.Prelude.{IfErr}
 use Rattle.rasn_types.specs.Bits.{Bits, AreOctets, unpack}
 use Rattle.rasn_types.specs.Codecs.{variant_of}
@@ -22,10 +22,12 @@ use Rattle.rasn_per.specs.Complete.{basically, AreReadAs, AreUnread}
 
 -- a decoder that has just begun with octets
 abbrev pub fresh : Codec → List ℕ → State
-fresh a octets = begin (unpack octets) (record { codec = a; levels = 128 })
+fresh a octets = begin (unpack octets) (record { codec = a; levels = 128; zero_padding = false })
 
-pub begun : (o : Options) (octets : List ℕ) (b : Bits) (s : State) → s ≡ begin b o → o.levels ≡ 128 → b ≡ unpack octets → s ≡ fresh o.codec octets
-begun o octets b s e f g = e ∙ ap (λ (n : ℕ). begin b (record { codec = o.codec; levels = n })) f ∙ ap (λ (z : Bits). begin z (record { codec = o.codec; levels = 128 })) g
+pub begun : (o : Options) (octets : List ℕ) (b : Bits) (s : State) → s ≡ begin b o → o.levels ≡ 128 → o.zero_padding ≡ false → b ≡ unpack octets → s ≡ fresh o.codec octets
+begun o octets b s e f h g =
+    e ∙ ap (λ (n : ℕ). begin b (record { codec = o.codec; levels = n; zero_padding = o.zero_padding })) f ∙ ap (λ (p : Bool). begin b (record { codec = o.codec; levels = 128; zero_padding = p })) h
+    ∙ ap (λ (z : Bits). begin z (record { codec = o.codec; levels = 128; zero_padding = false })) g
 
 pub full_octets : (octets : List ℕ) (b : Bits) (n : ℕ) → b ≡ unpack octets → n ≡ length b → n % 8 ≡ 0
 full_octets octets b n e f =
@@ -44,16 +46,16 @@ module _ (a : Codec) (schema : ℕ → Schema) (octets : List ℕ) where
   pub so : (end : Bits → ℕ → Type 0) (t : State) (b : Bits) → Ended end t b → end t.bits (length (unpack octets))
   so end t b h = subst (λ z. end t.bits z) (h.total_is ∙ ap length h.all) (subst (λ z. end z h.total) h.left_is h.ends)
 
-  pub decoded : (v : Value) (s t : State) (b : Bits) → s ≡ fresh a octets → AreOctets octets → Spells (schema s.levels) s v t → Ended Ends t b → AreReadAs (variant_of a) schema v octets
+  pub decoded : (v : Value) (s t : State) (b : Bits) → s ≡ fresh a octets → AreOctets octets → Spells (schema s.levels) s v t → Ended (Ends false) t b → AreReadAs (variant_of a) schema v octets
   decoded v s t b e o h d = record { are_read = r; only = λ w x. one_value (basically (variant_of a)) (schema 128) w v octets x r }
     where
       r : fills (basically (variant_of a)) (schema 128) v octets
-      r = fills_read (variant_of a) (schema 128) v octets t.bits o (subst (λ z. Spells (schema z.levels) z v t) e h).took (so Ends t b d)
+      r = fills_read (basically (variant_of a)) (schema 128) v octets t.bits o (subst (λ z. Spells (schema z.levels) z v t) e h).took (so (Ends false) t b d)
 
   -- where the decoder reads nothing, the octets are read as nothing
   unread : ((v : Value) (t : State) → Spells (schema 128) (fresh a octets) v t → ⊥) → AreUnread (variant_of a) schema octets
   unread none v x =
-      let k = fills_back (variant_of a) (schema 128) v octets x in
+      let k = fills_back (basically (variant_of a)) (schema 128) v octets x in
       none v (with_bits (fresh a octets) k.0) (record { live = refl; took = k.1; same = refl })
 
   pub refused : {T : Type 0} (result : Result T DecodeError) (f : DecodeError) (s : State) → s ≡ fresh a octets → result ≡ Err f
@@ -65,9 +67,9 @@ module _ (a : Codec) (schema : ℕ → Schema) (octets : List ℕ) where
       go n (inr r) = unread (λ v t k. (subst (λ z. (v : Value) (t : State) → Spells (schema z.levels) z v t → ⊥) e r.nothing) v t k)
 
   -- nor are they where what was read doesn't end so
-  pub unended : (v : Value) (s t : State) (b : Bits) → s ≡ fresh a octets → Spells (schema s.levels) s v t → Ended (λ l n. Ends l n → ⊥) t b → AreUnread (variant_of a) schema octets
+  pub unended : (v : Value) (s t : State) (b : Bits) → s ≡ fresh a octets → Spells (schema s.levels) s v t → Ended (λ l n. Ends false l n → ⊥) t b → AreUnread (variant_of a) schema octets
   unended v s t b e h d w x =
-      let k = fills_back (variant_of a) (schema 128) w octets x in
+      let k = fills_back (basically (variant_of a)) (schema 128) w octets x in
       let g = (subst (λ z. Spells (schema z.levels) z v t) e h).took in
       let m = took_agree (one_reading (basically (variant_of a)) (schema 128) v w) g k.1 in
-      so (λ l n. Ends l n → ⊥) t b d (subst (λ z. Ends z (length (unpack octets))) (sym m.1) k.2)
+      so (λ l n. Ends false l n → ⊥) t b d (subst (λ z. Ends false z (length (unpack octets))) (sym m.1) k.2)

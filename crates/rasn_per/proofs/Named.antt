@@ -1,5 +1,5 @@
 -- What the kind of a refused reading says of the octets.
-use Rattle.std.proofs.Common.{◌≡◌, refl, sym, ap, subst, ℕ, Bool, List, ◌⊎◌, inl, inr, Result, Err}
+use Rattle.std.proofs.Common.{◌≡◌, refl, sym, ap, subst, ℕ, Bool, false, List, ◌⊎◌, inl, inr, Result, Err}
 use Rattle.std.specs.Prelude.{IfErr}
 use Rattle.rasn_types.specs.Bits.{Bits}
 use Rattle.rasn_types.specs.Codecs.{variant_of}
@@ -10,7 +10,7 @@ use Rattle.rasn_calls.specs.Calls.{Refuses}
 use Rattle.per_core.specs.Ends.{IsWhy}
 use Rattle.per_core.specs.Spellings.{Settings}
 use Rattle.per_core.specs.declared.ended.Surplus.{Surplus}
-use Rattle.per_core.specs.declared.ended.Surplus.TheVariants.{Missing, NonzeroOctet, ExtraOctets}
+use Rattle.per_core.specs.declared.ended.Surplus.TheVariants.{Missing, NonzeroOctet, NonzeroSpareBits, ExtraOctets}
 use Rattle.per_de.specs.State.{State, Spells}
 use Rattle.per_de.specs.Faults.{in_alternative, in_element, IsAt, IsInBits, at_once, inside, IsInParts, here, later, IsOf, Fault, refusal}
 use Rattle.per_read.specs.declared.error.DecodeError.{DecodeError}
@@ -66,12 +66,13 @@ module _ (a : Codec) (schema : ℕ → Schema) (octets : List ℕ) where
 
   -- the kind of a reading that doesn't end as it has to
   pub named_surplus : (surplus : Surplus) (v : Value) (s t : State) (b : Bits) → s ≡ fresh a octets → Spells (schema s.levels) s v t
-      → Ended a schema octets (λ l n. IsWhy l n surplus) t b → IsInOctets (variant_of a) schema octets (kind_of surplus)
+      → Ended a schema octets (λ l n. IsWhy false l n surplus) t b → IsInOctets (variant_of a) schema octets (kind_of surplus)
   named_surplus (Missing n) v s t b e h d = tt
   named_surplus NonzeroOctet v s t b e h d = tt
+  named_surplus NonzeroSpareBits v s t b e h d = tt
   named_surplus (ExtraOctets n) v s t b e h d = record {
     value = v;
     left = t.bits;
     read = (subst (λ z. Spells (schema z.levels) z v t) e h).took;
-    are_over = so a schema octets (λ l m. IsWhy l m (ExtraOctets n)) t b d;
+    are_over = (so a schema octets (λ l m. IsWhy false l m (ExtraOctets n)) t b d).0;
   }

@@ -8,17 +8,18 @@ use Rattle.per_core.specs.Basic.{basic}
 use Rattle.per_core.specs.Ends.{AreOver}
 use Rattle.per_core.specs.Took.{Took}
 use Rattle.per_core.specs.declared.ended.Surplus.{Surplus}
-use Rattle.per_core.specs.declared.ended.Surplus.TheVariants.{Missing, NonzeroOctet, ExtraOctets}
+use Rattle.per_core.specs.declared.ended.Surplus.TheVariants.{Missing, NonzeroOctet, NonzeroSpareBits, ExtraOctets}
 use Rattle.per_de.specs.Faults.{IsInBits}
 use Rattle.per_read.specs.declared.error.DecodeErrorKind.{DecodeErrorKind}
 use Rattle.per_read.specs.declared.error.DecodeErrorKind.TheVariants.{Incomplete, ParserFail, UnexpectedExtraData, OutOfMemory}
-use Rattle.per_read.specs.declared.error.ParserFailCause.TheVariants.{NonzeroEmptyValue}
+use Rattle.per_read.specs.declared.error.ParserFailCause.TheVariants.{NonzeroEmptyValue, NonzeroPadding}
 use Rattle.rasn_per.specs.Complete.{basically}
 
 -- the refusal of octets that are no complete encoding
 abbrev pub kind_of : Surplus → DecodeErrorKind
 kind_of (Missing bits) = Incomplete bits
 kind_of NonzeroOctet = ParserFail NonzeroEmptyValue
+kind_of NonzeroSpareBits = ParserFail NonzeroPadding
 kind_of (ExtraOctets octets) = UnexpectedExtraData octets
 
 -- X.691 11.1: behind what spells a value, whole octets are left over

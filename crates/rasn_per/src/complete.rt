@@ -1,6 +1,6 @@
 //! Complete encodings (X.691 11.1) in either variant: values to octets and back.
 
-ghost use Rattle.std.specs.Prelude.{◌≡◌};
+ghost use Rattle.std.specs.Prelude.{◌≡◌, false};
 ghost use Rattle.rasn_constraints.specs.LawfulConstraints.{are_lawful};
 ghost use Rattle.rasn_per.specs.Calls.{Encoded, Decoded};
 ghost use Rattle.rasn_per.specs.Kinds.{kind_of};
@@ -35,14 +35,15 @@ pub fn decode_in<T: Decode>(
     options: DecoderOptions,
     octets: &[u8],
 ) -> Result<T, DecodeError>
-    requires { options.levels ≡ 128 }
+    requires levels { options.levels ≡ 128 }
+    requires padding { options.zero_padding ≡ false }
     ensures { Decoded options.codec (T.schema T.CONSTRAINTS) T.value octets.now result }
 {
     let bits = BitReader::from_octets(octets);
     let total = bits.len();
     let mut decoder = Decoder::from_reader(alloc, bits, options);
     let value = T::decode(&mut decoder)?;
-    match ended(&decoder.input(), total) {
+    match ended(&decoder.input(), total, false) {
         Ok(()) => Ok(value),
         Err(surplus) => Err(refusal(surplus, decoder.codec())),
     }
@@ -55,6 +56,7 @@ fn refusal(surplus: Surplus, codec: Codec) -> DecodeError
     let kind = match surplus {
         Surplus::Missing(bits) => DecodeErrorKind::Incomplete(bits),
         Surplus::NonzeroOctet => DecodeErrorKind::ParserFail(ParserFailCause::NonzeroEmptyValue),
+        Surplus::NonzeroSpareBits => DecodeErrorKind::ParserFail(ParserFailCause::NonzeroPadding),
         Surplus::ExtraOctets(octets) => DecodeErrorKind::UnexpectedExtraData(octets),
     };
     DecodeError { kind, codec }
