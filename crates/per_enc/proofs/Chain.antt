@@ -61,8 +61,8 @@ pub record Ready (x : State) (codec : Codec) (a b : Bits) (n : ℕ) : Type 0 whe
   pub unfailed : x.failed ≡ false
   pub same : x.codec ≡ codec
   pub bits : x.bits ≡ a ++ (replicate n false ++ b)
-  pub place : x.presences.place ≡ length a
-  pub left : x.presences.left ≡ n
+  pub place : x.scope.presences.place ≡ length a
+  pub left : x.scope.presences.left ≡ n
 
 ready_for : {x : State} {codec : Codec} {a b : Bits} {n m : ℕ} → n ≡ m → Ready x codec a b n → Ready x codec a b m
 ready_for {x} {codec} {a} {b} e h = subst (λ i. Ready x codec a b i) e h
@@ -83,13 +83,13 @@ given {x} {y} {codec} {a} {b} {n} bit h m = record {
   same = ap (λ z. z.codec) m.same ∙ h.same;
   bits = ap (λ z. z.bits) m.same ∙ ap₂ (λ bs i. set bs i bit) h.bits h.place
       ∙ set-append_seam a false (replicate n false ++ b) bit ∙ sym (append_assoc a (bit ∷ []) (replicate n false ++ b));
-  place = ap (λ z. z.presences.place) m.same ∙ omega (arith, h.place, length-append a (bit ∷ []));
+  place = ap (λ z. z.scope.presences.place) m.same ∙ omega (arith, h.place, length-append a (bit ∷ []));
   left = let l = m.some in let k = h.left in omega arith;
 }
 
 -- it moves nothing
 same_place : {x y : State} {bit : Bool} → Marks x bit y → after 0 y.bits ≡ after 0 x.bits
-same_place {x} {y} {bit} m = ap (λ z. after 0 z.bits) m.same ∙ ap (λ (n : ℕ). (0 + n) % 8) (length-set x.bits x.presences.place bit)
+same_place {x} {y} {bit} m = ap (λ z. after 0 z.bits) m.same ∙ ap (λ (n : ℕ). (0 + n) % 8) (length-set x.bits x.scope.presences.place bit)
 
 -- a value that is refused has no encoding
 none_at : {e : EncodeError} {x : State} {codec : Codec} {s : Schema} {v : Value} → x.codec ≡ codec → RefusesValue e x s v → x.failed ≡ false → (p : ℕ) → canon (variant_of codec) s v p ≡ None
@@ -106,8 +106,8 @@ put_behind {x} {y} {codec} {a} {b} {n} s v h w =
         unfailed = w.left;
         same = w.same ∙ h.same;
         bits = q.2 ∙ ap (λ bs. bs ++ q.0) h.bits ∙ append_assoc a (replicate n false ++ b) q.0 ∙ ap (λ bs. a ++ bs) (append_assoc (replicate n false) b q.0);
-        place = ap (λ z. z.place) w.beside ∙ h.place;
-        left = ap (λ z. z.left) w.beside ∙ h.left;
+        place = ap (λ z. z.presences.place) w.beside ∙ h.place;
+        left = ap (λ z. z.presences.left) w.beside ∙ h.left;
       },
     )
 
@@ -151,7 +151,7 @@ pub record Laid (y : State) (codec : Codec) (ps : Parts) (rs : List (Option Valu
   pub are_flags : (p : ℕ) → flags_of (members (variant_of codec) ps) rs p ≡ Some flags
   pub count : length flags ≡ presence_bits ps
   pub written : Some y.bits ≡ (just (a ++ (flags ++ (replicate k false ++ b))) ▹ bodies_of (members (variant_of codec) ps) rs) 0
-  pub left : y.presences.left ≡ k
+  pub left : y.scope.presences.left ≡ k
   pub unfailed : y.failed ≡ false
   pub same : y.codec ≡ codec
 
@@ -199,6 +199,17 @@ laid (part t q s ps) x y codec (r ∷ rs) a b k h (presents_next {m = m} c d) =
       same = l.same;
     }
 laid (part t q s ps) x y codec [] a b k h c = elim c [ ]
+
+-- the additions are left alone
+part_keeps : {x m : State} {q : Presence} {s : Schema} {r : Option Value} → PresentsPart encoder_rules q s x r m → m.scope.additions ≡ x.scope.additions
+part_keeps (presents_required w) = ap (λ z. z.additions) w.beside
+part_keeps (presents_there e t w) = ap (λ z. z.additions) w.beside ∙ ap (λ z. z.scope.additions) t.same
+part_keeps (presents_left_out e t) = ap (λ z. z.scope.additions) t.same
+
+pub parts_keep : (ps : Parts) (x y : State) (rs : List (Option Value)) → PresentsParts encoder_rules ps x rs y → y.scope.additions ≡ x.scope.additions
+parts_keep no_parts x y rs presents_end = refl
+parts_keep (part t q s ps) x y (r ∷ rs) (presents_next {m = m} c d) = parts_keep ps m y rs d ∙ part_keeps c
+parts_keep (part t q s ps) x y [] c = elim c [ ]
 
 -- a component that is refused, and what the encoder was before it; those with it have no encoding
 pub record RefusedPart (e : EncodeError) (codec : Codec) (ps : Parts) (rs : List (Option Value)) : Type 0 where

@@ -11,7 +11,7 @@ ghost use Rattle.per_write.specs.State.{fresh, view};
 pub use per_write::error;
 pub use per_write::error::{EncodeError, EncodeErrorKind};
 use per_write::lists::OpenList;
-use per_write::{Presences, Writer};
+use per_write::{Scope, Writer};
 use rasn_calls::encoder;
 use rasn_schema::choices::Choice;
 use rasn_schema::enumerated::Enumerated;
@@ -129,7 +129,7 @@ impl<A: Allocator + Clone> encoder::Encoder for Encoder<A> {
 
     type Error = EncodeError;
 
-    type Scope = Presences;
+    type Scope = Scope<A>;
 
     type List = OpenList;
 
@@ -284,29 +284,29 @@ impl<A: Allocator + Clone> encoder::Encoder for Encoder<A> {
         &mut self,
         _tag: Tag,
         _identifier: Identifier,
-    ) -> Result<Presences, EncodeError> {
+    ) -> Result<Scope<A>, EncodeError> {
         self.writer.check_unfailed()?;
         let count = C::FIELDS.number_of_optional_and_default_fields();
-        self.writer.open_presences(count)
+        self.writer.open_record(count, None)
     }
 
-    fn close_sequence<C: Constructed>(&mut self, outside: Presences) -> Result<(), EncodeError> {
+    fn close_sequence<C: Constructed>(&mut self, outside: Scope<A>) -> Result<(), EncodeError> {
         self.writer.check_unfailed()?;
-        self.writer.close_presences(outside)
+        self.writer.close_record(outside)
     }
 
     fn open_choice<C: Choice>(
         &mut self,
         _tag: Tag,
         _identifier: Identifier,
-    ) -> Result<Presences, EncodeError> {
+    ) -> Result<Scope<A>, EncodeError> {
         self.writer.check_unfailed()?;
         self.writer.open_choice(C::VARIANTS.len())
     }
 
     fn close_choice<C: Choice>(
         &mut self,
-        outside: Presences,
+        outside: Scope<A>,
         chosen: Tag,
     ) -> Result<(), EncodeError> {
         self.writer.check_unfailed()?;

@@ -7,8 +7,7 @@ use Rattle.rasn_types.specs.Variants.{Variant, aligned, unaligned}
 use Rattle.per_core.specs.Counts.{constrained_whole}
 use Rattle.per_core.specs.Writers.{just, pad, join, after}
 use Rattle.per_write.specs.Choices.{index_padding, index_width, OpensIndex}
-use Rattle.per_write.specs.State.{State, Wrote}
-use Rattle.per_write.specs.declared.presences.Presences.{Presences}
+use Rattle.per_write.specs.State.{Scope, State, Wrote}
 
 inside : {s t : Bits} → Some s ≡ Some t → s ≡ t
 inside e = cc
@@ -24,9 +23,9 @@ no_padding unaligned n h p = refl
 no_padding aligned n h p = rw (le-leb n 255 (omega arith)) refl
 
 -- room is made behind padding
-pub index_opened : (n w : ℕ) (x m z y : State) (place : ℕ) (outside : Presences) → Wrote x (index_padding (variant_of x.codec) n) m
-    → w ≡ index_width (variant_of m.codec) n → Wrote m (just (replicate w false)) z → place ≡ length m.bits → outside ≡ z.presences
-    → y ≡ record z { presences = record { place = place; left = 0 } } → OpensIndex n x outside y
+pub index_opened : (n w : ℕ) (x m z y : State) (place : ℕ) (outside : Scope) → Wrote x (index_padding (variant_of x.codec) n) m
+    → w ≡ index_width (variant_of m.codec) n → Wrote m (just (replicate w false)) z → place ≡ length m.bits → outside ≡ z.scope
+    → y ≡ record z { scope = record { presences = record { place = place; left = 0 }; additions = None } } → OpensIndex n x outside y
 index_opened n w x m z y place outside h i k l o e =
     let j = joined x.bits (index_padding (variant_of x.codec) n (after 0 x.bits)) m.bits (h.written 0 refl) in
     let b : z.bits ≡ m.bits ++ replicate (index_width (variant_of m.codec) n) false = inside (k.written 0 refl) ∙ ap (λ (v : ℕ). m.bits ++ replicate v false) i in
@@ -38,7 +37,7 @@ index_opened n w x m z y place outside h i k l o e =
       spare = j.0;
       padded = j.1;
       bits = ap (λ s. s.bits) e ∙ b ∙ ap₂ (λ bs c. bs ++ replicate (index_width (variant_of c) n) false) j.2 h.same;
-      place = ap (λ s. s.presences) e ∙ ap (λ (i : ℕ). record { place = i; left = 0 }) (l ∙ ap length j.2);
+      place = ap (λ s. s.scope) e ∙ ap (λ (i : ℕ). record { presences = record { place = i; left = 0 }; additions = None }) (l ∙ ap length j.2);
     }
 
 -- X.691 11.5.7.1: the index of one of 255 alternatives or fewer

@@ -1,3 +1,4 @@
+pub mod Bitmaps
 pub mod Bounded
 pub mod Constrained
 pub mod Counting
@@ -5,9 +6,13 @@ pub mod Elements
 pub mod Enumerations
 pub mod Filling
 pub mod Fragments
+pub mod Gathering
 pub mod Indexes
+pub mod OpenTypes
+pub mod Records
 pub mod Refusing
 pub mod SmallNumbers
 pub mod Steps
+pub mod Vacant
 pub mod Writing
 pub mod Zeros

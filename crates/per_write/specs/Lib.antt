@@ -1,3 +1,4 @@
+pub mod Additions
 pub mod Choices
 pub mod Characters
 pub mod Faults
@@ -7,6 +8,7 @@ pub mod Names
 pub mod Numbers
 pub mod Fragments
 pub mod Presences
+pub mod Records
 pub mod Remains
 pub mod Rules
 pub mod State

@@ -8,5 +8,5 @@ pub record Remains (x : State) (all : Writer) (y : State) (rest : Writer) : Type
   pub begun : x.failed ≡ false
   pub left : y.failed ≡ false
   pub same : y.codec ≡ x.codec
-  pub beside : y.presences ≡ x.presences
+  pub beside : y.scope ≡ x.scope
   pub written : (p : ℕ) → MayBegin x p → (view y ▹ rest) p ≡ (view x ▹ all) p

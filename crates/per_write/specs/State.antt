@@ -1,5 +1,5 @@
 -- What contracts see of a writer and of an encoder around it, and what their calls do to it.
-use Rattle.std.specs.Prelude.{ℕ, ◌≡◌, Bool, true, false, [], Some, Result, OnOk, OnErr, IfErr}
+use Rattle.std.specs.Prelude.{ℕ, ◌≡◌, Bool, true, false, [], Option, Some, None, Result, OnOk, OnErr, IfErr}
 use Rattle.rasn_types.specs.Bits.{Bits}
 use Rattle.rasn_types.specs.Codecs.{variant_of}
 use Rattle.rasn_types.specs.Values.{Value}
@@ -10,20 +10,33 @@ use Rattle.per_core.specs.Writers.{Writer, just, ◌▹◌}
 use Rattle.per_core.specs.Canon.{canon}
 use Rattle.per_write.specs.declared.presences.Presences.{Presences}
 
--- the bits written, whether a call was refused, the variant in use, and the presence bits of the open SEQUENCE that are still to be given
+-- what is kept of the additions of an open SEQUENCE: the place of its extension bit, how many additions its schema has, a bit for each
+-- that was given so far, and their open types, as written from position 0 on
+pub record Additions : Type 0 where
+  pub extension : ℕ
+  pub count : ℕ
+  pub flags : Bits
+  pub opens : Bits
+
+-- what is kept of an open SEQUENCE or CHOICE: its presence bits that are still to be given, and, behind an extension marker, its additions
+pub record Scope : Type 0 where
+  pub presences : Presences
+  pub additions : Option Additions
+
+-- the bits written, whether a call was refused, the variant in use, and what is kept of the open SEQUENCE or CHOICE
 pub record State : Type 0 where
   pub bits : Bits
   pub failed : Bool
   pub codec : Codec
-  pub presences : Presences
+  pub scope : Scope
 
--- where no SEQUENCE is open
-abbrev pub no_presences : Presences
-no_presences = record { place = 0; left = 0 }
+-- where nothing is open
+abbrev pub no_scope : Scope
+no_scope = record { presences = record { place = 0; left = 0 }; additions = None }
 
 -- what has written nothing
 abbrev pub fresh : Codec → State
-fresh codec = record { bits = []; failed = false; codec = codec; presences = no_presences }
+fresh codec = record { bits = []; failed = false; codec = codec; scope = no_scope }
 
 -- what the open scope holds, as written from a position on
 abbrev pub view : State → Writer
@@ -42,7 +55,7 @@ pub record Wrote (x : State) (more : Writer) (y : State) : Type 0 where
   pub begun : x.failed ≡ false
   pub left : y.failed ≡ false
   pub same : y.codec ≡ x.codec
-  pub beside : y.presences ≡ x.presences
+  pub beside : y.scope ≡ x.scope
   pub written : (p : ℕ) → MayBegin x p → view y p ≡ (view x ▹ more) p
 
 -- one value more, in its canonical bits

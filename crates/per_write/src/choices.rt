@@ -10,17 +10,16 @@ ghost use Rattle.per_write.specs.State.{PutsIn};
 use crate::Writer;
 use crate::error::{EncodeError, EncodeErrorKind};
 use crate::lengths::push_padding;
-use crate::presences::Presences;
+use crate::presences::{Presences, Scope};
 use per_bits::BitList;
 use rasn_types::types::Codec;
 use rasn_types::width::width_of;
 use std::alloc::Allocator;
-use std::mem;
 
 impl<A: Allocator + Clone> Writer<A> {
     /// Opens a CHOICE of so many root alternatives: zeros stand for the index of the one that follows. Answers what
     /// waits outside until the CHOICE is closed.
-    pub fn open_choice(&mut self, count: usize) -> Result<Presences, EncodeError>
+    pub fn open_choice(&mut self, count: usize) -> Result<Scope<A>, EncodeError>
         requires { self.old.failed ≡ false }
         ensures { OpensIndexOrNot count self.old result self.new }
     {
@@ -28,7 +27,7 @@ impl<A: Allocator + Clone> Writer<A> {
         let place = self.bits.len();
         self.put_zeros(index_width(self.codec, count))?;
         let index = Presences { place, left: 0 };
-        Ok(mem::replace(&mut self.presences, index))
+        Ok(self.enter(index, None))
     }
 
     /// Closes a CHOICE of so many root alternatives by the index of the one that was written. What waited outside is
@@ -37,7 +36,7 @@ impl<A: Allocator + Clone> Writer<A> {
         &mut self,
         count: usize,
         index: usize,
-        outside: Presences,
+        outside: Scope<A>,
     ) -> Result<(), EncodeError>
         requires { self.old.failed ≡ false }
         ensures { FillsIndexOrNot count index outside self.old result self.new }
@@ -49,7 +48,7 @@ impl<A: Allocator + Clone> Writer<A> {
             return Err(self.refuse(EncodeErrorKind::OutOfTurn));
         }
         fill(&mut self.bits, place, width, index);
-        self.presences = outside;
+        self.leave(outside);
         Ok(())
     }
 

@@ -7,7 +7,7 @@ ghost use Rattle.per_write.specs.Items.{CountedItems, PutsItems, items_between};
 
 use crate::Writer;
 use crate::error::{EncodeError, EncodeErrorKind};
-use per_bits::BitReader;
+use per_bits::{BitList, BitReader};
 use per_core::items::Item;
 use rasn_strings::alphabet::CharacterAlphabet;
 use rasn_strings::strings::StaticPermittedAlphabet;
@@ -88,6 +88,41 @@ impl Items for BitString {
         end: usize,
     ) -> Result<(), EncodeError> {
         let mut rest = BitReader::from_octets(self.as_octets());
+        rest.take(start as u128).unwrap();
+        let bits = rest.take((end - start) as u128).unwrap();
+        writer.put_reader(&bits)
+    }
+}
+
+/// The bits of a bitmap (X.691 19.8).
+#[derive(Drop)]
+pub(crate) struct Flags<'a, B: Allocator> {
+    pub(crate) bits: &'a BitList<B>,
+    /// How many there are.
+    pub(crate) count: usize,
+    ghost counted: { length bits.now ≡ count },
+}
+
+impl<B: Allocator> Items for Flags<'_, B> {
+    ghost use Rattle.per_core.specs.Counts.{bit_items, bit_writers};
+
+    ghost counted = { λ x. record { kind = bit_items; writers = λ a. bit_writers x.bits.now; fault = λ k. ⊥ } };
+
+    fn len(&self) -> usize {
+        self.count
+    }
+
+    fn item(&self) -> Item {
+        Item::Bit
+    }
+
+    fn put<A: Allocator + Clone>(
+        &self,
+        writer: &mut Writer<A>,
+        start: usize,
+        end: usize,
+    ) -> Result<(), EncodeError> {
+        let mut rest = BitReader::new(self.bits);
         rest.take(start as u128).unwrap();
         let bits = rest.take((end - start) as u128).unwrap();
         writer.put_reader(&bits)

@@ -13,6 +13,7 @@ ghost use Rattle.per_write.specs.State.{fresh, view, Puts};
 ghost use Rattle.per_write.specs.Rules.{encoder_rules};
 ghost use Rattle.per_write.specs.Faults.{IsError, IsMemory, IsAlready, RefusesOutput};
 
+mod additions;
 mod choices;
 mod enumerated;
 pub mod error;
@@ -26,10 +27,13 @@ mod sizes;
 mod small;
 mod strings;
 
+use additions::Additions;
+pub use additions::Outside;
 use error::{EncodeError, EncodeErrorKind};
 use items::Octets;
 use per_bits::{BitList, BitReader};
-pub use presences::Presences;
+use presences::Presences;
+pub use presences::Scope;
 use rasn_types::types::Codec;
 use std::alloc::{AllocError, Allocator};
 use std::marker::Model;
@@ -43,6 +47,7 @@ pub struct Writer<A: Allocator + Clone> {
     failed: bool,
     codec: Codec,
     presences: Presences,
+    additions: Option<Additions<A>>,
 }
 
 impl<A: Allocator + Clone> Model for Writer<A> {
@@ -50,7 +55,12 @@ impl<A: Allocator + Clone> Model for Writer<A> {
 
     ghost Value = { State };
 
-    ghost view = { λ a. record { bits = a.bits; failed = a.failed; codec = a.codec; presences = a.presences } };
+    ghost view = { λ a. record {
+      bits = a.bits;
+      failed = a.failed;
+      codec = a.codec;
+      scope = record { presences = a.presences; additions = a.additions };
+    } };
 }
 
 impl<A: Allocator + Clone> Writer<A> {
@@ -64,6 +74,7 @@ impl<A: Allocator + Clone> Writer<A> {
             failed: false,
             codec,
             presences: Presences { place: 0, left: 0 },
+            additions: None,
         }
     }
 

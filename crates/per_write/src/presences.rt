@@ -1,14 +1,16 @@
-//! Presence bits of components that may be absent (X.691 19.2).
+//! Presence bits of components that may be absent (X.691 19.2), and what is kept of the SEQUENCE or CHOICE that is open.
 
-ghost use Rattle.std.specs.Prelude.{◌≡◌, false, replicate};
+ghost use Rattle.std.specs.Prelude.{◌≡◌, Option, false, replicate};
 ghost use Rattle.per_core.specs.Writers.{just};
 ghost use Rattle.per_write.specs.Faults.{IsMemory};
-ghost use Rattle.per_write.specs.Presences.{ClosesOrNot, MarksOrNot, OpensOrNot};
+ghost use Rattle.per_write.specs.Presences.{MarksOrNot};
 ghost use Rattle.per_write.specs.State.{Puts};
 
 use crate::Writer;
+use crate::additions::Additions;
 use crate::error::{EncodeError, EncodeErrorKind};
 use std::alloc::Allocator;
+use std::marker::Model;
 use std::mem;
 
 /// The presence bits of a SEQUENCE that are still to be given. Zeros stand for them among the bits written.
@@ -20,19 +22,23 @@ pub struct Presences {
     pub(crate) left: usize,
 }
 
-impl<A: Allocator + Clone> Writer<A> {
-    /// Opens a SEQUENCE of so many presence bits: their places are kept here, so that giving them takes no memory.
-    /// Answers what waits outside until the SEQUENCE is closed.
-    pub fn open_presences(&mut self, count: usize) -> Result<Presences, EncodeError>
-        requires { self.old.failed ≡ false }
-        ensures { OpensOrNot count self.old result self.new }
-    {
-        let place = self.bits.len();
-        self.put_zeros(count)?;
-        let first = Presences { place, left: count };
-        Ok(mem::replace(&mut self.presences, first))
-    }
+/// What waits outside of a SEQUENCE or CHOICE until it is closed: the presence bits that are still to be given there,
+/// and the additions.
+#[derive(Drop)]
+pub struct Scope<A: Allocator + Clone> {
+    presences: Presences,
+    additions: Option<Additions<A>>,
+}
 
+impl<A: Allocator + Clone> Model for Scope<A> {
+    ghost use Rattle.per_write.specs.State.{Scope};
+
+    ghost Value = { Scope };
+
+    ghost view = { λ a. record { presences = a.presences; additions = a.additions } };
+}
+
+impl<A: Allocator + Clone> Writer<A> {
     /// Gives the next presence bit of the open SEQUENCE; where none is left it refuses.
     pub fn set_presence(&mut self, is_there: bool) -> Result<(), EncodeError>
         requires { self.old.failed ≡ false }
@@ -48,16 +54,31 @@ impl<A: Allocator + Clone> Writer<A> {
         Ok(())
     }
 
-    /// Closes a SEQUENCE of which each presence bit was given, else it refuses. What waited outside is there again.
-    pub fn close_presences(&mut self, outside: Presences) -> Result<(), EncodeError>
-        requires { self.old.failed ≡ false }
-        ensures { ClosesOrNot outside self.old result self.new }
+    /// Goes into a SEQUENCE or CHOICE. Answers what waits outside until it is closed.
+    pub(crate) fn enter(
+        &mut self,
+        presences: Presences,
+        additions: Option<Additions<A>>,
+    ) -> Scope<A>
+        ensures waits { result ≡ self.old.scope }
+        ensures inside { self.new ≡ record self.old { scope = record { presences = presences; additions = additions } } }
     {
-        if self.presences.left > 0 {
-            return Err(self.refuse(EncodeErrorKind::OutOfTurn));
+        Scope {
+            presences: mem::replace(&mut self.presences, presences),
+            additions: mem::replace(&mut self.additions, additions),
         }
-        self.presences = outside;
-        Ok(())
+    }
+
+    /// Goes out of a SEQUENCE or CHOICE: what waited outside is there again.
+    pub(crate) fn leave(&mut self, outside: Scope<A>)
+        ensures { self.new ≡ record self.old { scope = outside } }
+    {
+        let Scope {
+            presences,
+            additions,
+        } = outside;
+        self.presences = presences;
+        self.additions = additions;
     }
 
     /// Writes zero bits.

@@ -8,4 +8,4 @@ returns-in_err-check_unfailed g c =
 
 pub returns : goal.returns
 returns g c =
-    record { law = rw (← c.self.view_is) (λ x i n rs h k. closes_record (g.C.Constructed.parts n) x i c.self.inside.writer _ rs c.args.outside c.close_presences.result h k c.close_presences.ensures); behaves = search rules }
+    record { law = rw (← c.self.view_is) (λ x i n rs h k. closes_record (g.C.Constructed.parts n) x i c.self.inside.writer _ rs c.args.outside c.close_record.result h k c.close_record.ensures); behaves = search rules }

@@ -9,7 +9,7 @@ pub returns : goal.returns
 returns g c =
     let parts = g.C.Constructed.parts in
     record {
-      law = rw (← c.self.view_is) (opens_record parts _ c.self.inside.writer _ c.open_presences.result
-          (λ n. c.number_of_optional_and_default_fields-count.ensures ∙ ap (count_by may_be_absent) (c.FIELDS.ensures ∙ g.C.Constructed.described n) ∙ bits_counted 0 (parts n)) c.open_presences.ensures);
+      law = rw (← c.self.view_is) (opens_record parts _ c.self.inside.writer _ c.open_record.result
+          (λ n. c.number_of_optional_and_default_fields-count.ensures ∙ ap (count_by may_be_absent) (c.FIELDS.ensures ∙ g.C.Constructed.described n) ∙ bits_counted 0 (parts n)) c.open_record.ensures);
       behaves = search rules;
     }

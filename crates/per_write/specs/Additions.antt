@@ -1,0 +1,115 @@
+-- The additions of an open SEQUENCE, given one after another, each that is there in an open type (ITU-T X.691, 11.2, 19.7 to 19.9).
+use Rattle.std.specs.Prelude.{◌≡◌, ◌<◌, ◌≤◌, ◌⊎◌, Bool, true, false, ◌||◌, [], ◌∷◌, ◌++◌, length, Option, Some, None, Result, IfOk, IfErr, OnOk, OnErr}
+use Rattle.rasn_types.specs.Bits.{Bits}
+use Rattle.rasn_types.specs.Codecs.{variant_of}
+use Rattle.rasn_types.specs.Variants.{Variant}
+use Rattle.rasn_schema.specs.Schemas.{Parts, no_parts, part, Presence, required, optional, group, default}
+use Rattle.per_core.specs.Canon.{any_set}
+use Rattle.per_core.specs.Counts.{open_bits}
+use Rattle.per_core.specs.Writers.{Writer, just}
+use Rattle.per_write.specs.declared.error.EncodeError.{EncodeError}
+use Rattle.per_write.specs.declared.error.EncodeErrorKind.TheVariants.{TooManyAdditions}
+use Rattle.per_write.specs.declared.presences.Presences.{Presences}
+use Rattle.per_write.specs.Faults.{IsError, IsMemory}
+use Rattle.per_write.specs.State.{Additions, Appends, State, no_scope}
+
+-- what waits outside of an open type: the bits written before, and what is kept of the open SEQUENCE
+pub record Outside : Type 0 where
+  pub bits : Bits
+  pub presences : Presences
+  pub additions : Additions
+
+-- one addition more was given: its bit, and the open types with its own
+abbrev pub with_next : Additions → Bool → Bits → Additions
+with_next k b opens = record { extension = k.extension; count = k.count; flags = k.flags ++ b ∷ []; opens = opens }
+
+-- X.691 11.2, 19.9: the open type of an addition, where it is there
+abbrev pub open_if : Variant → Bool → Bits → Writer
+open_if a false contents = just []
+open_if a true contents = open_bits a (Some contents)
+
+-- whether a part is required
+abbrev pub is_required : Presence → Bool
+is_required required = true
+is_required optional = false
+is_required group = false
+is_required (default d) = false
+
+-- whether one of some parts is required
+abbrev pub has_required : Parts → Bool
+has_required no_parts = false
+has_required (part t q s ps) = is_required q || has_required ps
+
+-- X.691 19.9: whether an addition group is there, by its bits: where none of its parts is required, one of these is 1
+abbrev pub is_group_there : Bool → Bits → Bool
+is_group_there has_required contents = has_required || any_set contents
+
+-- an addition is still to be given
+pub record Awaits (x : State) (k : Additions) : Type 0 where
+  pub begun : x.failed ≡ false
+  pub some : x.scope.additions ≡ Some k
+  pub left : length k.flags < k.count
+
+-- no addition is left to give
+abbrev pub NoneLeft : Option Additions → Type 0
+NoneLeft None = Unit {0}
+NoneLeft (Some k) = k.count ≤ length k.flags
+
+-- an error by which an addition is refused: memory ran out, or none is left
+abbrev pub RefusesAddition : EncodeError → State → Type 0
+RefusesAddition e x = IsMemory e x ⊎ (IsError TooManyAdditions e x × NoneLeft x.scope.additions)
+
+-- A call that takes the additions of the open SEQUENCE, of which one is still to be given.
+pub record TakesOrNot (x : State) (result : Result Additions EncodeError) (y : State) : Type 0 where
+  pub ok : IfOk result (λ k. Awaits x k)
+  pub same : OnOk result (y ≡ record x { scope = record { presences = x.scope.presences; additions = None } })
+  pub err : IfErr result (λ e. IsError TooManyAdditions e x × NoneLeft x.scope.additions)
+  pub fails : OnErr result (y.failed ≡ true)
+  pub kept : y.codec ≡ x.codec
+
+-- A call that goes on with additions of which one more is given.
+pub record GivesOrNot (b : Bool) (k : Additions) (x : State) (result : Result (Unit {0}) EncodeError) (y : State) : Type 0 where
+  pub ok : OnOk result (y ≡ record x { scope = record { presences = x.scope.presences; additions = Some (with_next k b k.opens) } })
+  pub err : IfErr result (λ e. IsMemory e x)
+  pub fails : OnErr result (y.failed ≡ true)
+  pub kept : y.codec ≡ x.codec
+
+-- the next addition is absent
+pub record Skips (x y : State) : Type 0 where
+  pub before : Additions
+  pub awaits : Awaits x before
+  pub same : y ≡ record x { scope = record { presences = x.scope.presences; additions = Some (with_next before false before.opens) } }
+
+-- A call that gives the next addition as absent.
+pub record SkipsOrNot (x : State) (result : Result (Unit {0}) EncodeError) (y : State) : Type 0 where
+  pub ok : OnOk result (Skips x y)
+  pub err : IfErr result (λ e. RefusesAddition e x)
+  pub fails : OnErr result (y.failed ≡ true)
+  pub kept : y.codec ≡ x.codec
+
+-- an open type begins at position 0, and what was there waits outside
+pub record Opens (x : State) (outside : Outside) (y : State) : Type 0 where
+  pub awaits : Awaits x outside.additions
+  pub waits : outside ≡ record { bits = x.bits; presences = x.scope.presences; additions = outside.additions }
+  pub same : y ≡ record x { bits = []; scope = no_scope }
+
+-- A call that opens the open type of the next addition.
+pub record OpensOrNot (x : State) (result : Result Outside EncodeError) (y : State) : Type 0 where
+  pub ok : IfOk result (λ outside. Opens x outside y)
+  pub err : IfErr result (λ e. RefusesAddition e x)
+  pub fails : OnErr result (y.failed ≡ true)
+  pub kept : y.codec ≡ x.codec
+
+-- an addition was given: where it is there, the bits written are the contents of its open type
+pub record Closes (is_there : Bool) (outside : Outside) (x y : State) : Type 0 where
+  pub begun : x.failed ≡ false
+  pub opens : Bits
+  pub appended : Appends outside.additions.opens (open_if (variant_of x.codec) is_there x.bits) opens
+  pub same : y ≡ record x { bits = outside.bits; scope = record { presences = outside.presences; additions = Some (with_next outside.additions is_there opens) } }
+
+-- A call that closes the open type of an addition.
+pub record ClosesOrNot (is_there : Bool) (outside : Outside) (x : State) (result : Result (Unit {0}) EncodeError) (y : State) : Type 0 where
+  pub ok : OnOk result (Closes is_there outside x y)
+  pub err : IfErr result (λ e. IsMemory e x)
+  pub fails : OnErr result (y.failed ≡ true)
+  pub kept : y.codec ≡ x.codec

@@ -1,0 +1,95 @@
+-- A SEQUENCE: its presence bits and its extension bit are kept where it is opened, and its additions stand behind its root (ITU-T X.691, 19).
+use Rattle.std.specs.Prelude.{ℕ, ◌≡◌, ◌<◌, ◌⊎◌, true, false, if◌then◌else◌, [], ◌∷◌, ◌++◌, length, replicate, set, Option, Some, None, Result, IfOk, IfErr, OnOk, OnErr}
+use Rattle.rasn_types.specs.Bits.{Bits}
+use Rattle.rasn_types.specs.Codecs.{variant_of}
+use Rattle.rasn_types.specs.Variants.{Variant}
+use Rattle.per_core.specs.Canon.{any_set, bitmap}
+use Rattle.per_core.specs.Writers.{Writer, just, ◌▹◌, padding}
+use Rattle.per_write.specs.declared.error.EncodeError.{EncodeError}
+use Rattle.per_write.specs.declared.error.EncodeErrorKind.TheVariants.{OutOfTurn}
+use Rattle.per_write.specs.Faults.{IsError, IsMemory}
+use Rattle.per_write.specs.State.{Additions, Scope, State}
+
+-- X.691 19.1: where there is an extension marker, a zero stands for the extension bit
+abbrev pub extension_room : Option ℕ → Bits
+extension_room None = []
+extension_room (Some n) = false ∷ []
+
+-- n additions of which none is given yet, and the place of the extension bit
+abbrev pub to_be_given : ℕ → ℕ → Additions
+to_be_given place n = record { extension = place; count = n; flags = []; opens = [] }
+
+-- the same, where there is an extension marker
+abbrev pub kept_additions : ℕ → Option ℕ → Option Additions
+kept_additions place None = None
+kept_additions place (Some n) = Some (to_be_given place n)
+
+-- room is made for the extension bit and the presence bits, and what was there waits outside
+pub record Opens (presences : ℕ) (additions : Option ℕ) (x : State) (outside : Scope) (y : State) : Type 0 where
+  pub begun : x.failed ≡ false
+  pub waits : outside ≡ x.scope
+  pub unfailed : y.failed ≡ false
+  pub same : y.codec ≡ x.codec
+  pub bits : y.bits ≡ x.bits ++ (extension_room additions ++ replicate presences false)
+  pub place : y.scope.presences ≡ record { place = length (x.bits ++ extension_room additions); left = presences }
+  pub keeps : y.scope.additions ≡ kept_additions (length x.bits) additions
+
+-- A call that opens a SEQUENCE, or finds no memory.
+pub record OpensOrNot (presences : ℕ) (additions : Option ℕ) (x : State) (result : Result Scope EncodeError) (y : State) : Type 0 where
+  pub ok : IfOk result (λ outside. Opens presences additions x outside y)
+  pub err : IfErr result (λ e. IsMemory e x)
+  pub fails : OnErr result (y.failed ≡ true)
+  pub kept : y.codec ≡ x.codec
+
+-- A call that keeps the place of an extension bit, where there is one, or finds no memory.
+pub record KeepsOrNot (n : Option ℕ) (x : State) (result : Result (Option Additions) EncodeError) (y : State) : Type 0 where
+  pub ok : IfOk result (λ k. k ≡ kept_additions (length x.bits) n)
+  pub same : OnOk result (y ≡ record x { bits = x.bits ++ extension_room n })
+  pub err : IfErr result (λ e. IsMemory e x)
+  pub fails : OnErr result (y.failed ≡ true)
+  pub kept : y.codec ≡ x.codec
+
+-- X.691 19.7 to 19.9: what stands behind the root where an addition is there
+abbrev pub behind_root : Variant → Additions → Writer
+behind_root a k = bitmap a k.flags ▹ padding a ▹ just k.opens
+
+-- X.691 19.1: the bits of a SEQUENCE with its additions, of which one that is there makes its extension bit 1
+abbrev pub with_behind : Variant → Bits → Additions → Option Bits
+with_behind a bs k = if any_set k.flags then (just (set bs k.extension true) ▹ behind_root a k) 0 else Some bs
+
+-- the same, where there is an extension marker
+abbrev pub closed_bits : Variant → Bits → Option Additions → Option Bits
+closed_bits a bs None = Some bs
+closed_bits a bs (Some k) = with_behind a bs k
+
+-- each addition was given
+abbrev pub AreGiven : Option Additions → Type 0
+AreGiven None = Unit {0}
+AreGiven (Some k) = length k.flags ≡ k.count
+
+-- A call that writes the additions behind the root, where each was given.
+pub record PutsAdditions (k : Additions) (x : State) (result : Result (Unit {0}) EncodeError) (y : State) : Type 0 where
+  pub given : OnOk result (length k.flags ≡ k.count)
+  pub bits : OnOk result (Some y.bits ≡ with_behind (variant_of x.codec) x.bits k)
+  pub same : OnOk result (y ≡ record x { bits = y.bits })
+  pub err : IfErr result (λ e. IsMemory e x ⊎ (IsError OutOfTurn e x × (length k.flags ≡ k.count → ⊥)))
+  pub fails : OnErr result (y.failed ≡ true)
+  pub kept : y.codec ≡ x.codec
+
+-- a SEQUENCE is closed: all its presence bits and additions were given, and what waited outside is there again
+pub record Closes (outside : Scope) (x y : State) : Type 0 where
+  pub presences : x.scope.presences.left ≡ 0
+  pub additions : AreGiven x.scope.additions
+  pub bits : Some y.bits ≡ closed_bits (variant_of x.codec) x.bits x.scope.additions
+  pub same : y ≡ record x { bits = y.bits; scope = outside }
+
+-- a presence bit or an addition wasn't given
+abbrev pub IsUngiven : Scope → Type 0
+IsUngiven s = (0 < s.presences.left) ⊎ (AreGiven s.additions → ⊥)
+
+-- A call that ends a SEQUENCE.
+pub record ClosesOrNot (outside : Scope) (x : State) (result : Result (Unit {0}) EncodeError) (y : State) : Type 0 where
+  pub ok : OnOk result (Closes outside x y)
+  pub err : IfErr result (λ e. IsMemory e x ⊎ (IsError OutOfTurn e x × IsUngiven x.scope))
+  pub fails : OnErr result (y.failed ≡ true)
+  pub kept : y.codec ≡ x.codec

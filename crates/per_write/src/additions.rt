@@ -1,0 +1,285 @@
+//! SEQUENCE, and the additions behind its extension marker (X.691 19). They are gathered while its root is open, and
+//! stand behind the root when it is closed.
+
+ghost use Rattle.std.specs.Prelude.{◌≡◌, length, true, false, nat_lt, Some};
+ghost use Rattle.per_core.specs.Canon.{any_set, bitmap};
+ghost use Rattle.per_core.specs.Counts.{open_bits};
+ghost use Rattle.per_core.specs.Writers.{padding};
+ghost use Rattle.per_write.specs.Additions.{ClosesOrNot as ClosesOpenType, GivesOrNot, is_group_there, OpensOrNot as OpensOpenType, SkipsOrNot, TakesOrNot};
+ghost use Rattle.per_write.specs.Faults.{IsMemory};
+ghost use Rattle.per_write.specs.Records.{ClosesOrNot, KeepsOrNot, OpensOrNot, PutsAdditions};
+ghost use Rattle.per_write.specs.State.{PutsIn};
+
+use crate::error::{EncodeError, EncodeErrorKind};
+use crate::items::Flags;
+use crate::lengths::push_padding;
+use crate::presences::{Presences, Scope};
+use crate::{Writer, no_bits};
+use per_bits::{BitList, BitReader};
+use std::alloc::Allocator;
+use std::marker::Model;
+use std::mem;
+
+/// The additions of an open SEQUENCE (X.691 19.7 to 19.9).
+#[derive(Drop)]
+pub struct Additions<A: Allocator + Clone> {
+    /// The place of the extension bit among the bits written, where a zero stands for it.
+    extension: u128,
+    /// How many additions the schema has.
+    count: usize,
+    /// A bit for each that was given so far: whether it is there.
+    flags: BitList<A>,
+    /// The open types of those that are there, one behind another.
+    opens: BitList<A>,
+}
+
+impl<A: Allocator + Clone> Model for Additions<A> {
+    ghost use Rattle.per_write.specs.State.{Additions};
+
+    ghost Value = { Additions };
+
+    ghost view = { λ a. record { extension = a.extension; count = a.count; flags = a.flags; opens = a.opens } };
+}
+
+/// What waits outside of an open type until it is closed: the bits written before, and what was open.
+#[derive(Drop)]
+pub struct Outside<A: Allocator + Clone> {
+    bits: BitList<A>,
+    presences: Presences,
+    additions: Additions<A>,
+}
+
+impl<A: Allocator + Clone> Model for Outside<A> {
+    ghost use Rattle.per_write.specs.Additions.{Outside};
+
+    ghost Value = { Outside };
+
+    ghost view = { λ a. record { bits = a.bits; presences = a.presences; additions = a.additions } };
+}
+
+impl<A: Allocator + Clone> Writer<A> {
+    /// Opens a SEQUENCE of so many presence bits, and, where it has an extension marker, of so many additions. The
+    /// places of its extension bit and presence bits are kept, so that giving them takes no memory. Answers what waits
+    /// outside until the SEQUENCE is closed.
+    pub fn open_record(
+        &mut self,
+        presences: usize,
+        additions: Option<usize>,
+    ) -> Result<Scope<A>, EncodeError>
+        requires { self.old.failed ≡ false }
+        ensures { OpensOrNot presences additions self.old result self.new }
+    {
+        let kept = self.keep_additions(additions)?;
+        let place = self.bits.len();
+        self.put_zeros(presences)?;
+        let first = Presences {
+            place,
+            left: presences,
+        };
+        Ok(self.enter(first, kept))
+    }
+
+    /// Closes a SEQUENCE of which each presence bit and each addition was given, else it refuses. Where an addition is
+    /// there, its extension bit becomes 1, and behind its root stand the bitmap and the open types. What waited outside
+    /// is there again.
+    pub fn close_record(&mut self, outside: Scope<A>) -> Result<(), EncodeError>
+        requires { self.old.failed ≡ false }
+        ensures { ClosesOrNot outside self.old result self.new }
+    {
+        if self.presences.left > 0 {
+            return Err(self.refuse(EncodeErrorKind::OutOfTurn));
+        }
+        if let Some(additions) = self.additions.take() {
+            self.put_additions(additions)?;
+        }
+        self.leave(outside);
+        Ok(())
+    }
+
+    /// Gives the next addition of the open SEQUENCE as absent. Where none is left it refuses.
+    pub fn skip_addition(&mut self) -> Result<(), EncodeError>
+        requires { self.old.failed ≡ false }
+        ensures { SkipsOrNot self.old result self.new }
+    {
+        let additions = self.take_additions()?;
+        self.give_addition(additions, false)
+    }
+
+    /// Opens the open type of the next addition of the open SEQUENCE: its contents are written from position 0 on.
+    /// Where no addition is left it refuses. Answers what waits outside until the open type is closed.
+    pub fn open_addition(&mut self) -> Result<Outside<A>, EncodeError>
+        requires { self.old.failed ≡ false }
+        ensures { OpensOpenType self.old result self.new }
+    {
+        let additions = self.take_additions()?;
+        let empty = no_bits(&self.bits);
+        let empty = self.unless_out_of_memory(empty)?;
+        let nothing = Presences { place: 0, left: 0 };
+        Ok(Outside {
+            bits: mem::replace(&mut self.bits, empty),
+            presences: mem::replace(&mut self.presences, nothing),
+            additions,
+        })
+    }
+
+    /// Closes the open type of an addition (X.691 11.2): what was written in it becomes whole octets, behind their
+    /// count. The bits from before are there again.
+    pub fn close_addition(&mut self, outside: Outside<A>) -> Result<(), EncodeError>
+        requires { self.old.failed ≡ false }
+        ensures { ClosesOpenType true outside self.old result self.new }
+    {
+        let Outside {
+            bits,
+            presences,
+            mut additions,
+        } = outside;
+        mem::swap(&mut self.bits, &mut additions.opens);
+        self.put_open_type(&additions.opens)?;
+        additions.opens = mem::replace(&mut self.bits, bits);
+        self.presences = presences;
+        self.give_addition(additions, true)
+    }
+
+    /// Closes the open type of an addition group. Where none of its parts is required, and all bits that were written
+    /// are zeros, all its parts are absent: then the group is absent (X.691 19.9).
+    pub fn close_group(
+        &mut self,
+        outside: Outside<A>,
+        has_required: bool,
+    ) -> Result<(), EncodeError>
+        requires { self.old.failed ≡ false }
+        ensures { ClosesOpenType (is_group_there has_required self.old.bits) outside self.old result self.new }
+    {
+        if has_required || has_one(&self.bits) {
+            return self.close_addition(outside);
+        }
+        let Outside {
+            bits,
+            presences,
+            additions,
+        } = outside;
+        self.bits = bits;
+        self.presences = presences;
+        self.give_addition(additions, false)
+    }
+
+    /// Where there is an extension marker, writes a zero for the extension bit, and keeps its place for so many
+    /// additions.
+    fn keep_additions(&mut self, count: Option<usize>) -> Result<Option<Additions<A>>, EncodeError>
+        requires { self.old.failed ≡ false }
+        ensures { KeepsOrNot count self.old result self.new }
+    {
+        let Some(count) = count else {
+            return Ok(None);
+        };
+        let extension = self.bits.len();
+        self.put_bit(false)?;
+        let flags = no_bits(&self.bits);
+        let flags = self.unless_out_of_memory(flags)?;
+        let opens = no_bits(&self.bits);
+        let opens = self.unless_out_of_memory(opens)?;
+        Ok(Some(Additions {
+            extension,
+            count,
+            flags,
+            opens,
+        }))
+    }
+
+    /// The additions of the open SEQUENCE, of which one is still to be given; where none is left it refuses.
+    fn take_additions(&mut self) -> Result<Additions<A>, EncodeError>
+        requires { self.old.failed ≡ false }
+        ensures { TakesOrNot self.old result self.new }
+    {
+        match self.additions.take() {
+            Some(additions) if additions.is_left() => Ok(additions),
+            _ => Err(self.refuse(EncodeErrorKind::TooManyAdditions)),
+        }
+    }
+
+    /// Goes on with additions of which one more is given.
+    fn give_addition(&mut self, additions: Additions<A>, is_there: bool) -> Result<(), EncodeError>
+        requires { self.old.failed ≡ false }
+        ensures { GivesOrNot is_there additions self.old result self.new }
+    {
+        let mut additions = additions;
+        let pushed = additions.flags.push(is_there);
+        self.unless_out_of_memory(pushed)?;
+        self.additions = Some(additions);
+        Ok(())
+    }
+
+    /// Writes the additions behind the root of a SEQUENCE (X.691 19.7 to 19.9), unless none is there. Where one wasn't
+    /// given it refuses.
+    fn put_additions(&mut self, additions: Additions<A>) -> Result<(), EncodeError>
+        requires { self.old.failed ≡ false }
+        ensures { PutsAdditions additions self.old result self.new }
+    {
+        if additions.flags.len() != additions.count as u128 {
+            return Err(self.refuse(EncodeErrorKind::OutOfTurn));
+        }
+        if !has_one(&additions.flags) {
+            return Ok(());
+        }
+        self.bits.set(additions.extension, true);
+        self.put_bitmap(&additions.flags, additions.count)?;
+        self.put_padding()?;
+        self.put_reader(&BitReader::new(&additions.opens))
+    }
+
+    /// Writes an open type of some contents (X.691 11.2): their complete encoding, behind the count of its octets.
+    fn put_open_type(&mut self, contents: &BitList<A>) -> Result<(), EncodeError>
+        requires { self.old.failed ≡ false }
+        ensures { PutsIn IsMemory (λ a. open_bits a (Some contents.now)) self.old result self.new }
+    {
+        if contents.is_empty() {
+            return self.put_octets(&[0]);
+        }
+        self.put_octets(contents.as_octets())
+    }
+
+    /// Writes which additions are there, behind their count (X.691 19.7, 19.8, 11.9.3.4).
+    fn put_bitmap(&mut self, flags: &BitList<A>, count: usize) -> Result<(), EncodeError>
+        requires begun { self.old.failed ≡ false }
+        requires counted { length flags.now ≡ count }
+        ensures { PutsIn IsMemory (λ a. bitmap a flags.now) self.old result self.new }
+    {
+        if count > 64 {
+            self.put_bit(true)?;
+            return self.put_unconstrained_items(&Flags { bits: flags, count });
+        }
+        self.put_bit(false)?;
+        self.put_bits(count.saturating_sub(1) as u128, 6)?;
+        self.put_reader(&BitReader::new(flags))
+    }
+
+    /// Writes zero bits up to the next octet in the aligned variant.
+    fn put_padding(&mut self) -> Result<(), EncodeError>
+        requires { self.old.failed ≡ false }
+        ensures { PutsIn IsMemory padding self.old result self.new }
+    {
+        let pushed = push_padding(&mut self.bits, self.codec);
+        self.unless_out_of_memory(pushed)
+    }
+}
+
+impl<A: Allocator + Clone> Additions<A> {
+    /// Whether one is still to be given.
+    fn is_left(&self) -> bool
+        ensures { result ≡ nat_lt (length self.now.flags) self.now.count }
+    {
+        self.flags.len() < self.count as u128
+    }
+}
+
+/// Whether one of the bits is 1.
+fn has_one<A: Allocator>(bits: &BitList<A>) -> bool
+    ensures { result ≡ any_set bits.now }
+{
+    for index in 0..bits.len() {
+        if bits.get(index).unwrap_or(false) {
+            return true;
+        }
+    }
+    false
+}
