@@ -1,5 +1,5 @@
 -- What a fresh decoder reads, and how the reading ends, is what octets are read as.
-use Rattle.std.proofs.Common.{◌≡◌, ◌≢◌, refl, sym, ap, ◌∙◌, subst, ℕ, List, ◌⊎◌, inl, inr, ◌%◌, ◌*◌, length, arith, Result, Err}
+use Rattle.std.proofs.Common.{◌≡◌, ◌≢◌, refl, sym, ap, ◌∙◌, subst, ℕ, List, ◌⊎◌, inl, inr, ◌%◌, ◌*◌, ◌≤◌, length, length-append, arith, Result, Err}
 use Rattle.std.specs.Prelude.{IfErr}
 use Rattle.rasn_types.specs.Bits.{Bits, AreOctets, unpack}
 use Rattle.rasn_types.specs.Codecs.{variant_of}
@@ -8,17 +8,19 @@ use Rattle.rasn_types.specs.Values.{Value}
 use Rattle.rasn_types.proofs.Bits.{length-unpack}
 use Rattle.rasn_schema.specs.Schemas.{Schema}
 use Rattle.rasn_calls.specs.Calls.{Refuses}
-use Rattle.per_core.specs.Basic.{fills}
+use Rattle.per_core.specs.Basic.{fills, front}
 use Rattle.per_core.specs.Ends.{Ends}
 use Rattle.per_core.proofs.Readings.{one_reading}
 use Rattle.per_core.proofs.Took.{took_agree}
-use Rattle.per_core.proofs.Laws.{one_value}
+use Rattle.per_core.proofs.Laws.{one_value, one_front}
 use Rattle.per_core.proofs.Filling.{fills_read, fills_back}
 use Rattle.per_de.specs.State.{State, Options, Spells, fresh as begin, with_bits}
 use Rattle.per_de.specs.Faults.{Fault, refusal}
 use Rattle.per_read.specs.declared.error.DecodeError.{DecodeError}
 use Rattle.per_read.specs.declared.error.DecodeErrorKind.TheVariants.{OutOfMemory}
-use Rattle.rasn_per.specs.Complete.{basically, AreReadAs, AreUnread}
+use Rattle.rasn_per.specs.Complete.{basically, AreReadAs, AreUnread, BeginWith, BeginWithNone}
+use Rattle.rasn_per.specs.Remainders.{IsRemainder}
+use Rattle.rasn_per.proofs.Fronts.{front_read, front_back}
 
 -- a decoder that has just begun with octets
 abbrev pub fresh : Codec → List ℕ → State
@@ -56,13 +58,28 @@ module _ (a : Codec) (schema : ℕ → Schema) (octets : List ℕ) where
       let k = fills_back (variant_of a) (schema 128) v octets x in
       none v (with_bits (fresh a octets) k.0) (record { live = refl; took = k.1; same = refl })
 
+  -- nor do they begin with anything
+  none_begun : ((v : Value) (t : State) → Spells (schema 128) (fresh a octets) v t → ⊥) → BeginWithNone (variant_of a) schema octets
+  none_begun none v rest x =
+      let k = front_back (variant_of a) (schema 128) v octets rest x in
+      none v (with_bits (fresh a octets) k.0) (record { live = refl; took = k.1; same = refl })
+
+  refused_so : {T : Type 0} (X : Type 0) → (((v : Value) (t : State) → Spells (schema 128) (fresh a octets) v t → ⊥) → X) → (result : Result T DecodeError) (f : DecodeError) (s : State)
+      → s ≡ fresh a octets → result ≡ Err f
+      → ((f ≡ refusal OutOfMemory s) ⊎ Refuses (Spells (schema s.levels)) (Fault (schema s.levels)) f s) → IfErr result (λ e. e.kind ≢ OutOfMemory → X)
+  refused_so X so result f s e g h = rw g (λ n. go n h)
+    where
+      go : f.kind ≢ OutOfMemory → ((f ≡ refusal OutOfMemory s) ⊎ Refuses (Spells (schema s.levels)) (Fault (schema s.levels)) f s) → X
+      go n (inl m) = absurd (n (ap (λ (z : DecodeError). z.kind) m))
+      go n (inr r) = so (λ v t k. (subst (λ z. (v : Value) (t : State) → Spells (schema z.levels) z v t → ⊥) e r.nothing) v t k)
+
   pub refused : {T : Type 0} (result : Result T DecodeError) (f : DecodeError) (s : State) → s ≡ fresh a octets → result ≡ Err f
       → ((f ≡ refusal OutOfMemory s) ⊎ Refuses (Spells (schema s.levels)) (Fault (schema s.levels)) f s) → IfErr result (λ e. e.kind ≢ OutOfMemory → AreUnread (variant_of a) schema octets)
-  refused result f s e g h = rw g (λ n. go n h)
-    where
-      go : f.kind ≢ OutOfMemory → ((f ≡ refusal OutOfMemory s) ⊎ Refuses (Spells (schema s.levels)) (Fault (schema s.levels)) f s) → AreUnread (variant_of a) schema octets
-      go n (inl m) = absurd (n (ap (λ (z : DecodeError). z.kind) m))
-      go n (inr r) = unread (λ v t k. (subst (λ z. (v : Value) (t : State) → Spells (schema z.levels) z v t → ⊥) e r.nothing) v t k)
+  refused = refused_so (AreUnread (variant_of a) schema octets) unread
+
+  pub refused_front : {T : Type 0} (result : Result T DecodeError) (f : DecodeError) (s : State) → s ≡ fresh a octets → result ≡ Err f
+      → ((f ≡ refusal OutOfMemory s) ⊎ Refuses (Spells (schema s.levels)) (Fault (schema s.levels)) f s) → IfErr result (λ e. e.kind ≢ OutOfMemory → BeginWithNone (variant_of a) schema octets)
+  refused_front = refused_so (BeginWithNone (variant_of a) schema octets) none_begun
 
   -- nor are they where what was read doesn't end so
   pub unended : (v : Value) (s t : State) (b : Bits) → s ≡ fresh a octets → Spells (schema s.levels) s v t → Ended (λ l n. Ends l n → ⊥) t b → AreUnread (variant_of a) schema octets
@@ -71,3 +88,24 @@ module _ (a : Codec) (schema : ℕ → Schema) (octets : List ℕ) where
       let g = (subst (λ z. Spells (schema z.levels) z v t) e h).took in
       let m = took_agree (one_reading (basically (variant_of a)) (schema 128) v w) g k.1 in
       so (λ l n. Ends l n → ⊥) t b d (subst (λ z. Ends z (length (unpack octets))) (sym m.1) k.2)
+
+  -- what was read, and the octets behind it
+  pub decoded_front : (v : Value) (s t : State) (rest : List ℕ) → s ≡ fresh a octets → Spells (schema s.levels) s v t → IsRemainder (length t.bits) octets rest → BeginWith (variant_of a) schema v octets rest
+  decoded_front v s t rest e h d = record { are_read = r; only = λ w after x. one_front (basically (variant_of a)) (schema 128) w v octets after rest x r }
+    where
+      r : front (basically (variant_of a)) (schema 128) v octets rest
+      r = front_read (variant_of a) (schema 128) v octets rest t.bits (subst (λ z. Spells (schema z.levels) z v t) e h).took d
+
+  -- they begin with nothing where no octets are behind what was read
+  pub unended_front : (v : Value) (s t : State) → s ≡ fresh a octets → Spells (schema s.levels) s v t → ((rest : List ℕ) → IsRemainder (length t.bits) octets rest → ⊥) → BeginWithNone (variant_of a) schema octets
+  unended_front v s t e h none w rest x =
+      let k = front_back (variant_of a) (schema 128) w octets rest x in
+      let g = (subst (λ z. Spells (schema z.levels) z v t) e h).took in
+      let m = took_agree (one_reading (basically (variant_of a)) (schema 128) v w) g k.1 in
+      none rest (subst (λ z. IsRemainder (length z) octets rest) (sym m.1) k.2)
+
+  -- as many bits are left as the octets have, at most
+  pub left_within : (v : Value) (s t : State) → s ≡ fresh a octets → Spells (schema s.levels) s v t → length t.bits ≤ 8 * length octets
+  left_within v s t e h =
+      let g = (subst (λ z. Spells (schema z.levels) z v t) e h).took in
+      omega (arith, ap length g.joins, length-append g.front t.bits, length-unpack octets)

@@ -16,7 +16,8 @@ use Rattle.per_de.specs.Faults.{in_alternative, in_element, IsAt, IsInBits, at_o
 use Rattle.per_read.specs.declared.error.DecodeError.{DecodeError}
 use Rattle.per_read.specs.declared.error.DecodeErrorKind.{DecodeErrorKind}
 use Rattle.per_read.specs.declared.error.DecodeErrorKind.TheVariants.{Incomplete, ParserFail, UnexpectedExtraData, AlreadyFailed, OutOfMemory}
-use Rattle.rasn_per.specs.Kinds.{IsInOctets, kind_of}
+use Rattle.rasn_per.specs.Kinds.{IsInFront, IsInOctets, kind_of}
+use Rattle.rasn_per.specs.Remainders.{IsWhyNone}
 use Rattle.rasn_per.proofs.Decoded.{fresh, Ended, so}
 
 -- no call of a decoder finds octets left over
@@ -55,14 +56,37 @@ module _ (a : Codec) (schema : ℕ → Schema) (octets : List ℕ) where
   of_fresh OutOfMemory h = tt
   of_fresh _ h = h
 
+  of_fresh_front : (k : DecodeErrorKind) → IsOf k (schema 128) (fresh a octets) → IsInFront (variant_of a) schema octets k
+  of_fresh_front AlreadyFailed h = absurd (cc)
+  of_fresh_front (Incomplete n) h = tt
+  of_fresh_front (ParserFail cause) h = tt
+  of_fresh_front OutOfMemory h = tt
+  of_fresh_front _ h = h
+
+  named_so : {T : Type 0} (P : DecodeErrorKind → Type 0) → ((k : DecodeErrorKind) → IsOf k (schema 128) (fresh a octets) → P k) → P OutOfMemory
+      → (result : Result T DecodeError) (f : DecodeError) (s : State) → s ≡ fresh a octets → result ≡ Err f
+      → ((f ≡ refusal OutOfMemory s) ⊎ Refuses (Spells (schema s.levels)) (Fault (schema s.levels)) f s) → IfErr result (λ e. P e.kind)
+  named_so P so room result f s e g h = rw g (go h)
+    where
+      go : (f ≡ refusal OutOfMemory s) ⊎ Refuses (Spells (schema s.levels)) (Fault (schema s.levels)) f s → P f.kind
+      go (inl m) = subst P (sym (ap (λ (z : DecodeError). z.kind) m)) room
+      go (inr r) = so f.kind (subst (λ (z : State). IsOf f.kind (schema z.levels) z) e r.stands.stands)
+
   -- the kind of a refusal of the fresh decoder
   pub named : {T : Type 0} (result : Result T DecodeError) (f : DecodeError) (s : State) → s ≡ fresh a octets → result ≡ Err f
       → ((f ≡ refusal OutOfMemory s) ⊎ Refuses (Spells (schema s.levels)) (Fault (schema s.levels)) f s) → IfErr result (λ e. IsInOctets (variant_of a) schema octets e.kind)
-  named result f s e g h = rw g (go h)
-    where
-      go : (f ≡ refusal OutOfMemory s) ⊎ Refuses (Spells (schema s.levels)) (Fault (schema s.levels)) f s → IsInOctets (variant_of a) schema octets f.kind
-      go (inl m) = subst (λ (z : DecodeErrorKind). IsInOctets (variant_of a) schema octets z) (sym (ap (λ (z : DecodeError). z.kind) m)) tt
-      go (inr r) = of_fresh f.kind (subst (λ (z : State). IsOf f.kind (schema z.levels) z) e r.stands.stands)
+  named = named_so (λ k. IsInOctets (variant_of a) schema octets k) of_fresh tt
+
+  -- and what it says of a front
+  pub named_front : {T : Type 0} (result : Result T DecodeError) (f : DecodeError) (s : State) → s ≡ fresh a octets → result ≡ Err f
+      → ((f ≡ refusal OutOfMemory s) ⊎ Refuses (Spells (schema s.levels)) (Fault (schema s.levels)) f s) → IfErr result (λ e. IsInFront (variant_of a) schema octets e.kind)
+  named_front = named_so (λ k. IsInFront (variant_of a) schema octets k) of_fresh_front tt
+
+  -- the kind where no octets are behind what was read
+  pub named_none : (why : Surplus) (left : ℕ) → IsWhyNone left octets why → IsInFront (variant_of a) schema octets (kind_of why)
+  named_none (Missing n) left w = tt
+  named_none NonzeroOctet left w = tt
+  named_none (ExtraOctets n) left w = absurd w
 
   -- the kind of a reading that doesn't end as it has to
   pub named_surplus : (surplus : Surplus) (v : Value) (s t : State) (b : Bits) → s ≡ fresh a octets → Spells (schema s.levels) s v t

@@ -1,5 +1,6 @@
 -- What the calls answer in either variant: the main theorem.
-use Rattle.std.specs.Prelude.{◌≡◌, ◌≢◌, ℕ, List, Vec, Result, IfOk, IfErr}
+use Rattle.std.specs.Prelude.{◌≡◌, ◌≢◌, ℕ, List, [], Vec, Result, OnOk, OnErr, IfOk, IfErr}
+use Rattle.std.specs.Borrow.{Bor}
 use Rattle.rasn_types.specs.Codecs.{variant_of}
 use Rattle.rasn_types.specs.Values.{Value}
 use Rattle.rasn_types.specs.declared.types.Codec.{Codec}
@@ -11,13 +12,21 @@ use Rattle.per_write.specs.declared.error.EncodeError.{EncodeError}
 use Rattle.per_write.specs.declared.error.EncodeErrorKind.TheVariants.{OutOfMemory as no_room_to_write}
 use Rattle.per_read.specs.declared.error.DecodeError.{DecodeError}
 use Rattle.per_read.specs.declared.error.DecodeErrorKind.TheVariants.{OutOfMemory as no_room_to_read}
-use Rattle.rasn_per.specs.Complete.{AreBytes, HasNoBytes, AreReadAs, AreUnread}
-use Rattle.rasn_per.specs.Kinds.{IsInOctets}
+use Rattle.rasn_per.specs.Complete.{AreBytes, HasNoBytes, AreReadAs, AreUnread, BeginWith, BeginWithNone}
+use Rattle.rasn_per.specs.Kinds.{IsInFront, IsInOctets}
 
 -- A value is written by the schema of its type: its canonical bytes, or, memory aside, a refusal only where it has none, whose kind
 -- names a fault of the value.
 pub record Encoded {Z : Type 0} (codec : Codec) (schema : ℕ → Schema) (levels : ℕ) (v : Value) (result : Result (Vec ℕ Z) EncodeError) : Type 0 where
   pub ok : IfOk result (λ octets. AreBytes (variant_of codec) schema levels v octets.items)
+  pub err : IfErr result (λ e. e.kind ≢ no_room_to_write → HasNoBytes (variant_of codec) schema levels v)
+  pub kind : IfErr result (λ e. e.kind ≢ no_room_to_write → AtDepths schema levels (λ s. IsInValue e.kind s (normal s v)))
+  pub variant : IfErr result (λ e. e.codec ≡ codec)
+
+-- The same where a buffer takes the bytes, in place of what it held. It is empty after a refusal.
+pub record EncodedInto (codec : Codec) (schema : ℕ → Schema) (levels : ℕ) (v : Value) (result : Result (Unit {0}) EncodeError) (buffer : List ℕ) : Type 0 where
+  pub ok : OnOk result (AreBytes (variant_of codec) schema levels v buffer)
+  pub empty : OnErr result (buffer ≡ [])
   pub err : IfErr result (λ e. e.kind ≢ no_room_to_write → HasNoBytes (variant_of codec) schema levels v)
   pub kind : IfErr result (λ e. e.kind ≢ no_room_to_write → AtDepths schema levels (λ s. IsInValue e.kind s (normal s v)))
   pub variant : IfErr result (λ e. e.codec ≡ codec)
@@ -28,4 +37,12 @@ pub record Decoded {T : Type 0} (codec : Codec) (schema : ℕ → Schema) (value
   pub ok : IfOk result (λ x. AreReadAs (variant_of codec) schema (value x) octets)
   pub err : IfErr result (λ e. e.kind ≢ no_room_to_read → AreUnread (variant_of codec) schema octets)
   pub kind : IfErr result (λ e. IsInOctets (variant_of codec) schema octets e.kind)
+  pub variant : IfErr result (λ e. e.codec ≡ codec)
+
+-- The same of octets that may go on behind a value: the value that they begin with, and the rest, and no other; or a refusal only where
+-- they begin with none.
+pub record DecodedFront {T : Type 0} (codec : Codec) (schema : ℕ → Schema) (value : T → Value) (octets : List ℕ) (result : Result (T × Bor (List ℕ)) DecodeError) : Type 0 where
+  pub ok : IfOk result (λ x. BeginWith (variant_of codec) schema (value x.0) octets x.1.now)
+  pub err : IfErr result (λ e. e.kind ≢ no_room_to_read → BeginWithNone (variant_of codec) schema octets)
+  pub kind : IfErr result (λ e. IsInFront (variant_of codec) schema octets e.kind)
   pub variant : IfErr result (λ e. e.codec ≡ codec)

@@ -7,7 +7,7 @@ use Rattle.rasn_schema.specs.Normal.{normal}
 use Rattle.rasn_calls.specs.Calls.{AtDepths}
 use Rattle.per_core.specs.Spellings.{Settings}
 use Rattle.per_core.specs.Canon.{bytes}
-use Rattle.per_core.specs.Basic.{read}
+use Rattle.per_core.specs.Basic.{front, read}
 
 -- X.691 11.1: octets are the canonical bytes of a value's normal form, by the schema of its type at each depth that holds the value
 abbrev pub AreBytes : Variant → (ℕ → Schema) → ℕ → Value → List ℕ → Type 0
@@ -29,3 +29,12 @@ pub record AreReadAs (a : Variant) (schema : ℕ → Schema) (v : Value) (octets
 -- within 128 levels octets are read as no value
 abbrev pub AreUnread : Variant → (ℕ → Schema) → List ℕ → Type 0
 AreUnread a schema octets = (v : Value) → read (basically a) schema v octets → ⊥
+
+-- within 128 levels octets begin with an encoding of a value and leave the rest, and with none of another value or with another rest
+pub record BeginWith (a : Variant) (schema : ℕ → Schema) (v : Value) (octets rest : List ℕ) : Type 0 where
+  pub are_read : front (basically a) (schema 128) v octets rest
+  pub only : (w : Value) (after : List ℕ) → front (basically a) (schema 128) w octets after → (w ≡ v) × (after ≡ rest)
+
+-- within 128 levels octets begin with an encoding of no value
+abbrev pub BeginWithNone : Variant → (ℕ → Schema) → List ℕ → Type 0
+BeginWithNone a schema octets = (v : Value) (rest : List ℕ) → front (basically a) (schema 128) v octets rest → ⊥

@@ -28,10 +28,15 @@ pub record LeaveOver (a : Variant) (schema : ℕ → Schema) (octets : List ℕ)
   pub read : Took (basic (basically a) (schema 128) value) (unpack octets) left
   pub are_over : AreOver left (length (unpack octets)) over
 
--- What a kind says of the octets, as a type's schema reads them within 128 levels. That they end early, or aren't as they have to be, is shown by tests alone.
+-- What a kind says of the octets, or of their front, as a type's schema reads them within 128 levels. That they end early, or aren't as
+-- they have to be, is shown by tests alone.
+abbrev pub IsInFront : Variant → (ℕ → Schema) → List ℕ → DecodeErrorKind → Type 0
+IsInFront a schema octets (Incomplete missing) = Unit {0}
+IsInFront a schema octets (ParserFail cause) = Unit {0}
+IsInFront a schema octets OutOfMemory = Unit {0}
+IsInFront a schema octets k = IsInBits (basically a) k (schema 128) (unpack octets)
+
+-- the same where all octets have to be read
 abbrev pub IsInOctets : Variant → (ℕ → Schema) → List ℕ → DecodeErrorKind → Type 0
 IsInOctets a schema octets (UnexpectedExtraData over) = LeaveOver a schema octets over
-IsInOctets a schema octets (Incomplete missing) = Unit {0}
-IsInOctets a schema octets (ParserFail cause) = Unit {0}
-IsInOctets a schema octets OutOfMemory = Unit {0}
-IsInOctets a schema octets k = IsInBits (basically a) k (schema 128) (unpack octets)
+IsInOctets a schema octets k = IsInFront a schema octets k
