@@ -15,3 +15,5 @@ pub mod Unique
 pub mod Readings
 pub mod Within
 pub mod Filling
+pub mod Zeros
+pub mod Spare

@@ -17,7 +17,7 @@ use Rattle.per_read.specs.Numbers.{IsOfNumber}
 use Rattle.per_read.specs.declared.error.DecodeError.{DecodeError}
 use Rattle.per_read.specs.declared.error.DecodeErrorKind.{DecodeErrorKind}
 use Rattle.per_read.specs.declared.error.DecodeErrorKind.TheVariants.{AlreadyFailed, ExceedsMaxParseDepth, OutOfMemory, RealNotSupported}
-use Rattle.per_read.specs.Codecs.{settings}
+use Rattle.per_read.specs.Options.{settings}
 use Rattle.per_read.specs.State.{State as Taking}
 use Rattle.per_read.specs.Takes.{Reason, Takes}
 use Rattle.per_read.proofs.Refusals.{faulty_map}
@@ -110,31 +110,31 @@ too_deep family s e n h z i = subst (λ c. (e ≡ refusal OutOfMemory s) ⊎ Ref
 
 -- a decoder around what it takes from
 abbrev pub around : Taking → Bool → ℕ → Bits → State
-around x f n q = record { bits = x.bits; failed = f; levels = n; codec = x.codec; presences = q }
+around x f n q = record { bits = x.bits; failed = f; levels = n; codec = x.options.codec; zero_padding = x.options.zero_padding; presences = q }
 
-went : {T : Type 0} (x y : Taking) (f : Bool) (n : ℕ) (q : Bits) (t : State) → f ≡ false → y.codec ≡ x.codec → (taken : Result T DecodeErrorKind) (result : Result T DecodeError) → Answered taken (around y f n q) result t
+went : {T : Type 0} (x y : Taking) (f : Bool) (n : ℕ) (q : Bits) (t : State) → f ≡ false → y.options ≡ x.options → (taken : Result T DecodeErrorKind) (result : Result T DecodeError) → Answered taken (around y f n q) result t
     → Behaves (λ e s. e ≡ refusal AlreadyFailed s) (λ s. s.failed) (λ s. s.codec) (around x f n q) result t
-went x y f n q t live e (Ok v) result a = record { again = λ h. absurd cc; fails = subst (λ r. OnErr r (t.failed ≡ true)) (sym a.0) tt; kept = ap (λ s. s.codec) a.1 ∙ e }
-went x y f n q t live e (Err k) result a = record { again = λ h. absurd cc; fails = subst (λ r. OnErr r (t.failed ≡ true)) (sym a.0) (ap (λ s. s.failed) a.1); kept = ap (λ s. s.codec) a.1 ∙ e }
+went x y f n q t live e (Ok v) result a = record { again = λ h. absurd cc; fails = subst (λ r. OnErr r (t.failed ≡ true)) (sym a.0) tt; kept = ap (λ s. s.codec) a.1 ∙ ap (λ k. k.codec) e }
+went x y f n q t live e (Err k) result a = record { again = λ h. absurd cc; fails = subst (λ r. OnErr r (t.failed ≡ true)) (sym a.0) (ap (λ s. s.failed) a.1); kept = ap (λ s. s.codec) a.1 ∙ ap (λ k. k.codec) e }
 
 -- the law of such a call, where want of memory is told as it may be
-answered : {T : Type 0} (memory : DecodeError → State → Type 0) (c : Schema) (value : T → Value) (x y : Taking) (f : Bool) (n : ℕ) (q : Bits) (t : State) → f ≡ false → y.codec ≡ x.codec
+answered : {T : Type 0} (memory : DecodeError → State → Type 0) (c : Schema) (value : T → Value) (x y : Taking) (f : Bool) (n : ℕ) (q : Bits) (t : State) → f ≡ false → y.options ≡ x.options
     → (taken : Result T DecodeErrorKind) (result : Result T DecodeError) → Answered taken (around y f n q) result t
-    → IfOk taken (λ v. Took (basic (settings x.codec) c (value v)) x.bits y.bits) → IfErr taken (λ k. memory (refusal k (around x f n q)) (around x f n q) ⊎ Refuses (Spells c) (Fault c) (refusal k (around x f n q)) (around x f n q))
+    → IfOk taken (λ v. Took (basic (settings x.options) c (value v)) x.bits y.bits) → IfErr taken (λ k. memory (refusal k (around x f n q)) (around x f n q) ⊎ Refuses (Spells c) (Fault c) (refusal k (around x f n q)) (around x f n q))
     → Answers memory (Fault c) (Spells c) value (around x f n q) result t
 answered memory c value x y f n q t live e (Ok v) result a ok err =
     subst (λ r. Answers memory (Fault c) (Spells c) value (around x f n q) r t) (sym a.0)
-    (subst (λ s. Spells c (around x f n q) (value v) s) (sym a.1) (record { live = live; took = ok; same = ap (λ k. record { bits = y.bits; failed = f; levels = n; codec = k; presences = q }) e }))
+    (subst (λ s. Spells c (around x f n q) (value v) s) (sym a.1) (record { live = live; took = ok; same = ap (λ k. record { bits = y.bits; failed = f; levels = n; codec = k.codec; zero_padding = k.zero_padding; presences = q }) e }))
 answered memory c value x y f n q t live e (Err k) result a ok err =
     subst (λ r. Answers memory (Fault c) (Spells c) value (around x f n q) r t) (sym a.0)
-    (subst (λ z. memory z (around x f n q) ⊎ Refuses (Spells c) (Fault c) z (around x f n q)) (sym (ap (λ z. record { kind = k; codec = z }) e)) err)
+    (subst (λ z. memory z (around x f n q) ⊎ Refuses (Spells c) (Fault c) z (around x f n q)) (sym (ap (λ z. record { kind = k; codec = z.codec }) e)) err)
 
 -- A call that takes what a form spells, and its answer: where the form is that of a schema, and each kind says something of it, the call
 -- reads the schema.
 pub reads : {T X : Type 0} {why : Reason} {form : Settings → X → Spelling} {of : (X → Type 0) → T → Type 0} {x y : Taking} {f : Bool} {n : ℕ} {q : Bits} {t : State} {taken : Result T DecodeErrorKind} {result : Result T DecodeError}
-    (c : Schema) (value : T → Value) → f ≡ false → ((v : T) → of (λ w. Took (form (settings x.codec) w) x.bits y.bits) v → Took (basic (settings x.codec) c (value v)) x.bits y.bits)
+    (c : Schema) (value : T → Value) → f ≡ false → ((v : T) → of (λ w. Took (form (settings x.options) w) x.bits y.bits) v → Took (basic (settings x.options) c (value v)) x.bits y.bits)
     → Takes why form of x taken y → Answered taken (around y f n q) result t
-    → ((k : DecodeErrorKind) → why (settings x.codec) x.bits (NoneIn (form (settings x.codec)) x.bits) k → Faulty (IsAt (settings x.codec) c x.bits) (NoneIn (basic (settings x.codec) c) x.bits) k)
+    → ((k : DecodeErrorKind) → why (settings x.options) x.bits (NoneIn (form (settings x.options)) x.bits) k → Faulty (IsAt (settings x.options) c x.bits) (NoneIn (basic (settings x.options) c) x.bits) k)
     → Reads decoder_rules c value (around x f n q) result t
 reads {x = x} {y} {f} {n} {q} {t} {taken} {result} c value live ok h a err = record {
   law = answered (λ e s. e ≡ refusal OutOfMemory s) c value x y f n q t live h.kept taken result a (IfOk-weaker taken _ _ ok h.ok) (IfErr-weaker taken _ _ (λ k i. faulty c (around x f n q) k (refusal k (around x f n q)) refl (err k i)) h.err);
@@ -143,9 +143,9 @@ reads {x = x} {y} {f} {n} {q} {t} {taken} {result} c value live ok h a err = rec
 
 -- the same of a call that takes no memory
 pub reads_freely : {T X : Type 0} {why : Reason} {form : Settings → X → Spelling} {of : (X → Type 0) → T → Type 0} {x y : Taking} {f : Bool} {n : ℕ} {q : Bits} {t : State} {taken : Result T DecodeErrorKind} {result : Result T DecodeError}
-    (c : Schema) (value : T → Value) → f ≡ false → ((v : T) → of (λ w. Took (form (settings x.codec) w) x.bits y.bits) v → Took (basic (settings x.codec) c (value v)) x.bits y.bits)
+    (c : Schema) (value : T → Value) → f ≡ false → ((v : T) → of (λ w. Took (form (settings x.options) w) x.bits y.bits) v → Took (basic (settings x.options) c (value v)) x.bits y.bits)
     → Takes why form of x taken y → Answered taken (around y f n q) result t
-    → ((k : DecodeErrorKind) → why (settings x.codec) x.bits (NoneIn (form (settings x.codec)) x.bits) k → IsAt (settings x.codec) c x.bits k × NoneIn (basic (settings x.codec) c) x.bits)
+    → ((k : DecodeErrorKind) → why (settings x.options) x.bits (NoneIn (form (settings x.options)) x.bits) k → IsAt (settings x.options) c x.bits k × NoneIn (basic (settings x.options) c) x.bits)
     → Reads (freely_read decoder_rules) c value (around x f n q) result t
 reads_freely {x = x} {y} {f} {n} {q} {t} {taken} {result} c value live ok h a err = record {
   law = answered takes_none c value x y f n q t live h.kept taken result a (IfOk-weaker taken _ _ ok h.ok)

@@ -11,7 +11,7 @@ use Rattle.per_core.specs.Basic.{IsConstrainedWhole}
 use Rattle.per_core.specs.Took.{Took}
 use Rattle.per_core.specs.Versions.{alternatives_of}
 use Rattle.per_read.specs.Choices.{IsOfIndex}
-use Rattle.per_read.specs.Codecs.{settings}
+use Rattle.per_read.specs.Options.{settings}
 use Rattle.per_read.specs.State.{State as Taking}
 use Rattle.per_read.specs.Takes.{Takes, telling, itself}
 use Rattle.per_read.specs.declared.error.DecodeError.{DecodeError}
@@ -35,8 +35,8 @@ no_index alternatives count x y f n m q taken e t deeper i h a =
     let k = rw r.1 at h.err in
     let c = choice_of (alternatives m) in
     inr (subst (λ l. Refuses (Spells (choice_at alternatives l)) (Fault (choice_at alternatives l)) e (around x f n q)) (sym deeper)
-    (refuses c (around x f n q) r.0 e (r.2 ∙ ap (λ z. record { kind = r.0; codec = z }) h.kept) (subst (λ (l : ℕ). IsOfIndex (settings x.codec) l x.bits r.0) i k.0)
-    (λ v u b. let w = choice_index (settings x.codec) (alternatives m) v b in k.1 w.0 w.1 (subst (λ (l : ℕ). Took (IsConstrainedWhole (settings x.codec) l w.0) x.bits w.1) (sym i) w.2))))
+    (refuses c (around x f n q) r.0 e (r.2 ∙ ap (λ z. record { kind = r.0; codec = z.codec }) h.kept) (subst (λ (l : ℕ). IsOfIndex (settings x.options) l x.bits r.0) i k.0)
+    (λ v u b. let w = choice_index (settings x.options) (alternatives m) v b in k.1 w.0 w.1 (subst (λ (l : ℕ). Took (IsConstrainedWhole (settings x.options) l w.0) x.bits w.1) (sym i) w.2))))
 
 -- a level is entered behind an index
 pub opens_index : (c : Schema) (count index : ℕ) (x y : Taking) (f : Bool) (n m : ℕ) (q row : Bits) (taken : Result ℕ DecodeErrorKind) (t : State) (o : Scope) (i : State) → f ≡ false → n ≡ suc m → row ≡ []
@@ -44,16 +44,16 @@ pub opens_index : (c : Schema) (count index : ℕ) (x y : Taking) (f : Bool) (n 
     → OpensChoice c index (around x f n q) o i
 opens_index c count index x y f n m q row taken t o i live deeper none e h a w =
     let r = answered_ok taken (around y f n q) index t a in
-    let k : Took (IsConstrainedWhole (settings x.codec) count index) x.bits y.bits = rw r.0 at h.ok in
+    let k : Took (IsConstrainedWhole (settings x.options) count index) x.bits y.bits = rw r.0 at h.ok in
     let s : i ≡ with_scope (around y f n q) m [] = w.same ∙ ap (λ z. with_scope z m row) r.1 ∙ ap (λ (b : Bits). with_scope (around y f n q) m b) none in
     subst (λ z. OpensChoice c index (around x f n q) o z) (sym s) (record {
       live = live;
       deeper = deeper;
-      took = subst (λ (l : ℕ). Took (IsConstrainedWhole (settings x.codec) l index) x.bits y.bits) e k;
+      took = subst (λ (l : ℕ). Took (IsConstrainedWhole (settings x.options) l index) x.bits y.bits) e k;
       enters = record {
         outside = w.outside ∙ ap (λ z. z.levels) r.1;
         waits = w.waits ∙ ap (λ z. z.presences) r.1;
-        same = ap (λ z. record { bits = y.bits; failed = f; levels = m; codec = z; presences = [] }) h.kept;
+        same = ap (λ z. record { bits = y.bits; failed = f; levels = m; codec = z.codec; zero_padding = z.zero_padding; presences = [] }) h.kept;
       };
     })
 

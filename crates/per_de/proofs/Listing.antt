@@ -13,7 +13,7 @@ use Rattle.per_core.specs.Counts.{list_items}
 use Rattle.per_core.specs.Spellings.{Settings}
 use Rattle.per_core.specs.Took.{Took}
 use Rattle.per_core.proofs.Took.{took_map}
-use Rattle.per_read.specs.Codecs.{settings}
+use Rattle.per_read.specs.Options.{settings}
 use Rattle.per_read.specs.Kinds.{NoneIn}
 use Rattle.per_read.specs.Lists.{AmidItems, AwaitsItem, NextRead, OpensList, ReadsNext, RefusesList, list_form, list_rule}
 use Rattle.per_read.specs.Sizes.{IsOfSize}
@@ -27,7 +27,7 @@ use Rattle.per_de.specs.ChoiceLaws.{moved}
 use Rattle.per_de.specs.Faults.{Answered, IsOf, in_element, refusal}
 use Rattle.per_de.specs.Lists.{AmidList}
 use Rattle.per_de.specs.Rules.{decoder_rules}
-use Rattle.per_de.specs.State.{State, Spells, settings_of, with_bits}
+use Rattle.per_de.specs.State.{State, Spells, options_of, settings_of, with_bits}
 use Rattle.per_de.specs.declared.ListScope.{ListScope}
 use Rattle.per_de.proofs.Calls.{around, refuses}
 use Rattle.per_de.proofs.Opening.{answered_ok, answered_err}
@@ -59,7 +59,7 @@ module _ (size : Size) (mark : Bool) (x y : Taking) (f : Bool) (n m : ℕ) (q : 
           live = live;
           deeper = deeper;
           outside = outside ∙ ap (λ z. z.levels) r.1;
-          same = ap (λ c. record { bits = y.bits; failed = f; levels = m; codec = c; presences = q }) h.kept;
+          same = ap (λ c. record { bits = y.bits; failed = f; levels = m; codec = c.codec; zero_padding = c.zero_padding; presences = q }) h.kept;
           items = items e;
         },
       )
@@ -70,18 +70,21 @@ module _ (size : Size) (mark : Bool) (x y : Taking) (f : Bool) (n m : ℕ) (q : 
       let r = answered_err taken (around y f n q) d t a in
       let k = rw r.1 at h.err in
       subst (λ l. ListUnread decoder_rules (list_at element size mark l) d (around x f n q)) (sym deeper)
-      (unread (element m) size mark (around x f n q) r.0 d (r.2 ∙ ap (λ c. record { kind = r.0; codec = c }) h.kept)
-      (tested_size (settings x.codec) size mark list_items (basic (settings x.codec) (element m)) x.bits r.0 k.0) (k.1 (element m)))
+      (unread (element m) size mark (around x f n q) r.0 d (r.2 ∙ ap (λ c. record { kind = r.0; codec = c.codec }) h.kept)
+      (tested_size (settings x.options) size mark list_items (basic (settings x.options) (element m)) x.bits r.0 k.0) (k.1 (element m)))
 
 -- inside a list
 module _ {e : Schema} {size : Size} {mark : Bool} {s : State} {vs : List Value} {l m : OpenList} {o : ℕ} {x y : Taking} {f : Bool} {n : ℕ} {q : Bits} {taken : Result Bool DecodeErrorKind}
     (a : AmidList e size mark s vs (record { list = l; levels = o }) (around x f n q)) (h : ReadsNext l x taken m y) where
-  same_codec : y.codec ≡ s.codec
-  same_codec = h.kept ∙ ap (λ z. z.codec) a.same
+  same_options : y.options ≡ options_of s
+  same_options = h.kept ∙ ap options_of a.same
+
+  same_codec : y.options.codec ≡ s.codec
+  same_codec = ap (λ z. z.codec) same_options
 
   found : NextRead (list_rule (settings_of s) size mark e) s.bits vs taken m y.bits
   found =
-      let c : settings x.codec ≡ settings_of s = ap settings_of a.same in
+      let c : settings x.options ≡ settings_of s = ap settings_of a.same in
       subst (λ z. NextRead (list_rule z size mark e) s.bits vs taken m y.bits) c
       (h.law size mark e s.bits vs (subst (λ z. AmidItems (list_rule z size mark e) s.bits vs l x.bits) (sym c) a.items))
 
@@ -93,7 +96,7 @@ module _ {e : Schema} {size : Size} {mark : Bool} {s : State} {vs : List Value} 
       subst (λ z. Spells (Schemas.list e size mark) s (list_value vs) z) (sym (same ∙ ap (λ (z : State). record z { levels = o }) r.1)) (record {
         live = a.live;
         took = list_took (settings_of s) e size mark vs w;
-        same = ap (λ c. record { bits = y.bits; failed = f; levels = o; codec = c; presences = q }) h.kept
+        same = ap (λ c. record { bits = y.bits; failed = f; levels = o; codec = c.codec; zero_padding = c.zero_padding; presences = q }) h.kept
             ∙ ap (λ (z : State). record z { bits = y.bits; levels = o }) a.same ∙ ap (λ z. record s { bits = y.bits; levels = z }) a.outside;
       })
 
@@ -107,15 +110,15 @@ module _ {e : Schema} {size : Size} {mark : Bool} {s : State} {vs : List Value} 
   -- an element's fault is one of the list
   of_element : (kind : DecodeErrorKind) → AwaitsItem (list_rule (settings_of s) size mark e) s.bits vs m y.bits → IsOf kind e (around y f n q) → IsOf kind (Schemas.list e size mark) s
   of_element AlreadyFailed w g = ap (λ z. z.failed) (sym a.same) ∙ g
-  of_element _ w g = in_element vs w.behind (moved (ap settings same_codec) g)
+  of_element _ w g = in_element vs w.behind (moved (ap settings same_options) g)
 
   -- a further element stands here
   pub element_follows : (t : State) → Answered taken (around y f n q) (Ok true) t → HasElement decoder_rules AmidList e size mark s vs (record { list = m; levels = o }) t
   element_follows t b =
       let r = answered_ok taken (around y f n q) true t b in
       let w : AwaitsItem (list_rule (settings_of s) size mark e) s.bits vs m y.bits = rw r.0 at found in
-      let g : settings y.codec ≡ settings_of s = ap settings same_codec in
-      let i : around y f n q ≡ record s { bits = y.bits; levels = n } = ap (λ c. record { bits = y.bits; failed = f; levels = n; codec = c; presences = q }) h.kept ∙ ap (λ z. with_bits z y.bits) a.same in
+      let g : settings y.options ≡ settings_of s = ap settings same_options in
+      let i : around y f n q ≡ record s { bits = y.bits; levels = n } = ap (λ c. record { bits = y.bits; failed = f; levels = n; codec = c.codec; zero_padding = c.zero_padding; presences = q }) h.kept ∙ ap (λ z. with_bits z y.bits) a.same in
       let live : f ≡ false = ap (λ z. z.failed) a.same ∙ a.live in
       subst (λ z. HasElement decoder_rules AmidList e size mark s vs (record { list = m; levels = o }) z) (sym r.1) (record {
         deeper = a.deeper;

@@ -9,7 +9,7 @@ use Rattle.rasn_schema.specs.Records.{record_at, no_additions}
 use Rattle.rasn_calls.specs.Calls.{Refuses}
 use Rattle.rasn_calls.specs.Scopes.{record_of}
 use Rattle.per_core.specs.Took.{Took}
-use Rattle.per_read.specs.Codecs.{settings}
+use Rattle.per_read.specs.Options.{settings}
 use Rattle.per_read.specs.Kinds.{IsShort, IsTested}
 use Rattle.per_read.specs.State.{State as Taking}
 use Rattle.per_read.specs.Takes.{Row, Takes, short, itself}
@@ -42,7 +42,7 @@ opens_row c count x y f n m q row taken t o i live deeper e h a w =
       enters = record {
         outside = w.outside ∙ ap (λ z. z.levels) r.1;
         waits = w.waits ∙ ap (λ z. z.presences) r.1;
-        same = ap (λ z. record { bits = y.bits; failed = f; levels = m; codec = z; presences = row }) h.kept;
+        same = ap (λ z. record { bits = y.bits; failed = f; levels = m; codec = z.codec; zero_padding = z.zero_padding; presences = row }) h.kept;
       };
     })
 
@@ -63,7 +63,7 @@ no_row parts count x y f n m q taken e t deeper i h a =
     let k = rw r.1 at h.err in
     let c = record_of (parts m) in
     inr (subst (λ l. Refuses (Spells (record_at listed parts false no_additions l)) (Fault (record_at listed parts false no_additions l)) e (around x f n q)) (sym deeper)
-    (refuses c (around x f n q) r.0 e (r.2 ∙ ap (λ z. record { kind = r.0; codec = z }) h.kept) (short_tested r.0 k.0)
-    (λ v u b. let w = took_record (settings x.codec) (parts m) v x.bits u b in
-    let z = flags_row (settings x.codec) (parts m) w.shown x.bits w.middle w.flags in
+    (refuses c (around x f n q) r.0 e (r.2 ∙ ap (λ z. record { kind = r.0; codec = z.codec }) h.kept) (short_tested r.0 k.0)
+    (λ v u b. let w = took_record (settings x.options) (parts m) v x.bits u b in
+    let z = flags_row (settings x.options) (parts m) w.shown x.bits w.middle w.flags in
     k.1 z.0 w.middle (record { front = z.0; joins = z.1; spelled = (z.2 ∙ sym i, refl) }))))

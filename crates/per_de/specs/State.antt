@@ -7,29 +7,44 @@ use Rattle.rasn_schema.specs.Schemas.{Schema}
 use Rattle.per_core.specs.Spellings.{Settings}
 use Rattle.per_core.specs.Basic.{basic}
 use Rattle.per_core.specs.Took.{Took}
-use Rattle.per_read.specs.Codecs.{settings}
+use Rattle.per_read.specs.Options.{settings}
+use Rattle.per_read.specs.declared.ReaderOptions.{ReaderOptions}
 
--- What a decoder is told: the codec, and how many levels of values it may enter.
+-- What a decoder is told: the codec, how many levels of values it may enter, and whether padding must be zero.
 pub record Options : Type 0 where
   pub codec : Codec
   pub levels : ℕ
+  pub zero_padding : Bool
 
--- What a decoder holds: the bits that are left, whether a call has refused, how many levels it may still enter, the codec in use, and
--- the presence bits of the open SEQUENCE that are still to be read. The position in an octet follows from the number of bits that are left (`place`).
+-- What a decoder holds: the bits that are left, whether a call has refused, how many levels it may still enter, the
+-- codec in use, whether padding must be zero, and the presence bits of the open SEQUENCE that are still to be read.
+-- The position in an octet follows from the number of bits that are left (`place`).
 pub record State : Type 0 where
   pub bits : Bits
   pub failed : Bool
   pub levels : ℕ
   pub codec : Codec
+  pub zero_padding : Bool
   pub presences : Bits
 
 -- what has read nothing
 abbrev pub fresh : Bits → Options → State
-fresh bits options = record { bits = bits; failed = false; levels = options.levels; codec = options.codec; presences = [] }
+fresh bits options = record {
+  bits = bits;
+  failed = false;
+  levels = options.levels;
+  codec = options.codec;
+  zero_padding = options.zero_padding;
+  presences = [];
+}
 
--- the settings of the codec in use
+-- how it reads
+abbrev pub options_of : State → ReaderOptions
+options_of s = record { codec = s.codec; zero_padding = s.zero_padding }
+
+-- the settings in use
 abbrev pub settings_of : State → Settings
-settings_of s = settings s.codec
+settings_of s = settings (options_of s)
 
 -- the same with other bits left
 abbrev pub with_bits : State → Bits → State

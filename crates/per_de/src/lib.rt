@@ -16,10 +16,10 @@ ghost use Rattle.per_de.specs.Lists.{AmidList};
 ghost use Rattle.per_de.specs.ScopeLaws.{scopes_well};
 
 use per_bits::{BitList, BitReader};
-use per_read::Reader;
 pub use per_read::error;
 pub use per_read::error::{DecodeError, DecodeErrorKind, ParserFailCause};
 use per_read::lists::OpenList;
+use per_read::{Reader, ReaderOptions};
 use rasn_calls::decoder;
 use rasn_schema::choices::Choice;
 use rasn_schema::constraints::Constraints;
@@ -35,45 +35,79 @@ use std::borrow::CowSlice;
 use std::marker::Model;
 use std::mem;
 
-/// What a decoder is told: the variant of the rules, and how deep values may stand inside one another.
+/// What a decoder is told: the variant of the rules, how deep values may stand inside one another, and whether padding
+/// must be zero.
 #[derive(Clone, Copy, Debug)]
 pub struct DecoderOptions {
     codec: Codec,
     levels: u32,
+    zero_padding: bool,
 }
 
 impl Model for DecoderOptions {
     ghost Value = { Options };
 
-    ghost view = { λ o. record { codec = o.codec; levels = o.levels } };
+    ghost view = { λ o. record { codec = o.codec; levels = o.levels; zero_padding = o.zero_padding } };
 
-    ghost inverse = { λ v. record { codec = v.codec; levels = v.levels } };
+    ghost inverse = { λ v. record { codec = v.codec; levels = v.levels; zero_padding = v.zero_padding } };
 }
 
 impl DecoderOptions {
-    /// The ALIGNED variant (X.691 7), and 128 levels.
+    /// The ALIGNED variant (X.691 7), 128 levels, and any padding.
     pub const fn aligned() -> Self
-        ensures { result ≡ record { codec = Aper; levels = 128 } }
+        ensures { result ≡ record { codec = Aper; levels = 128; zero_padding = false } }
     {
         DecoderOptions::of_codec(Codec::Aper)
     }
 
-    /// The UNALIGNED variant (X.691 7), and 128 levels.
+    /// The UNALIGNED variant (X.691 7), 128 levels, and any padding.
     pub const fn unaligned() -> Self
-        ensures { result ≡ record { codec = Uper; levels = 128 } }
+        ensures { result ≡ record { codec = Uper; levels = 128; zero_padding = false } }
     {
         DecoderOptions::of_codec(Codec::Uper)
     }
 
-    /// The variant of a codec, and 128 levels.
+    /// The variant of a codec, 128 levels, and any padding.
     const fn of_codec(codec: Codec) -> Self
-        ensures { result ≡ record { codec = codec; levels = 128 } }
+        ensures { result ≡ record { codec = codec; levels = 128; zero_padding = false } }
     {
-        DecoderOptions { codec, levels: 128 }
+        DecoderOptions {
+            codec,
+            levels: 128,
+            zero_padding: false,
+        }
+    }
+
+    /// The same, but padding and spare bits must be zero (X.691 11.1, 11.2), and others are refused with `ParserFail`.
+    pub const fn zero_padding(self) -> Self
+        ensures { result ≡ record self { zero_padding = true } }
+    {
+        DecoderOptions {
+            zero_padding: true,
+            ..self
+        }
+    }
+
+    /// Whether padding and spare bits must be zero.
+    pub const fn needs_zero_padding(self) -> bool
+        ensures { result ≡ self.zero_padding }
+    {
+        self.zero_padding
+    }
+
+    /// What its reader is told.
+    fn reader(self) -> ReaderOptions
+        ensures { result ≡ record { codec = self.codec; zero_padding = self.zero_padding } }
+    {
+        ReaderOptions {
+            codec: self.codec,
+            zero_padding: self.zero_padding,
+        }
     }
 }
 
-/// A reader of values from the front of bits. Every basic encoding is read, canonical or not.
+/// A reader of values from the front of bits. Every basic encoding is read, canonical or not; where padding must be
+/// zero, every one whose padding is.
 #[derive(Drop)]
 pub struct Decoder<'input> {
     reader: Reader<'input>,
@@ -90,7 +124,8 @@ impl<'input> Model for Decoder<'input> {
       bits = d.reader.bits;
       failed = d.failed;
       levels = d.levels;
-      codec = d.reader.codec;
+      codec = d.reader.options.codec;
+      zero_padding = d.reader.options.zero_padding;
       presences = d.presences;
     } };
 }
@@ -112,7 +147,7 @@ impl<'input> Decoder<'input> {
         ensures { result ≡ fresh input.entry options }
     {
         Decoder {
-            reader: Reader::new(alloc, input, options.codec),
+            reader: Reader::new(alloc, input, options.reader()),
             levels: options.levels,
             failed: false,
             presences: BitReader::from_octets(&[]),

@@ -1,5 +1,6 @@
 //! Strings of characters in worked encodings of both variants, by `Reader`.
 
+use crate::padding::any_padding;
 use per_bits::BitReader;
 use per_read::Reader;
 use per_read::error::DecodeErrorKind;
@@ -160,7 +161,7 @@ fn characters_of<S: StaticPermittedAlphabet>(
     constraints: &'static [Constraint],
     encoding: &[u8],
 ) -> Result<(Vec<u32>, u128), DecodeErrorKind> {
-    let mut reader = Reader::new(alloc, BitReader::from_octets(encoding), codec);
+    let mut reader = Reader::new(alloc, BitReader::from_octets(encoding), any_padding(codec));
     let string: S = reader.take_characters(&Constraints::new(constraints))?;
     let mut characters = Vec::new(alloc);
     for index in 0..string.len() {

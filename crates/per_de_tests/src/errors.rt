@@ -23,6 +23,10 @@ const ROWS: &[(DecodeErrorKind, &str)] = &[
         "the bitmap of additions is empty (Uper)",
     ),
     (
+        DecodeErrorKind::ParserFail(ParserFailCause::NonzeroPadding),
+        "padding is not zero (Uper)",
+    ),
+    (
         DecodeErrorKind::UnexpectedExtraData(2),
         "2 octets are left over (Uper)",
     ),
@@ -123,7 +127,8 @@ fn shows_its_errors_and_options(rt: HostRuntime) -> Result<(), Fail> {
     let shown = format!(in rt.alloc(); "{name}: {error:?}, {options:?}")?;
     assert_eq!(rt;
         shown.as_str(),
-        "Incomplete: DecodeError { kind: Incomplete(8), codec: Uper }, DecoderOptions { codec: Uper, levels: 128 }"
+        "Incomplete: DecodeError { kind: Incomplete(8), codec: Uper }, \
+         DecoderOptions { codec: Uper, levels: 128, zero_padding: false }"
     );
     Ok(())
 }

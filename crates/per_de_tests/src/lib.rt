@@ -16,3 +16,5 @@ mod lists;
 mod numbers;
 #[cfg(test)]
 mod octets;
+#[cfg(test)]
+mod padding;

@@ -1,5 +1,6 @@
 //! INTEGER in worked encodings of both variants, by `Reader`.
 
+use crate::padding::any_padding;
 use per_bits::BitReader;
 use per_read::Reader;
 use per_read::error::{DecodeErrorKind, ParserFailCause};
@@ -169,7 +170,7 @@ fn number_of<I: IntegerType>(
     constraints: &'static [Constraint],
     octets: &[u8],
 ) -> Result<(I, u128), DecodeErrorKind> {
-    let mut reader = Reader::new(alloc, BitReader::from_octets(octets), codec);
+    let mut reader = Reader::new(alloc, BitReader::from_octets(octets), any_padding(codec));
     let number = reader.take_integer(&Constraints::new(constraints))?;
     Ok((number, reader.bits().len()))
 }
@@ -208,7 +209,7 @@ fn fits_a_number_behind_its_bounds(rt: HostRuntime) {
 #[test]
 fn reads_behind_padding(rt: HostRuntime) -> Result<(), Fail> {
     let octets = BitReader::from_octets(&[0x80, 0x05, 0x0a, 0x24, 0x0a, 0x8d, 0x1f]);
-    let mut reader = Reader::new(rt.alloc(), octets, Codec::Aper);
+    let mut reader = Reader::new(rt.alloc(), octets, any_padding(Codec::Aper));
     let front = reader.take_bit()?;
     let number: i128 = reader.take_integer(&Constraints::NONE)?;
     assert!(rt; front && number == 43_554_344_223 && reader.bits().is_empty());

@@ -1,5 +1,6 @@
 //! OCTET STRING and BIT STRING in worked encodings of both variants, by `Reader`.
 
+use crate::padding::any_padding;
 use per_bits::BitReader;
 use per_read::Reader;
 use per_read::error::{DecodeErrorKind, ParserFailCause};
@@ -88,7 +89,7 @@ fn octets_of(
     constraints: &'static [Constraint],
     encoding: &[u8],
 ) -> Result<(Vec<u8>, u128), DecodeErrorKind> {
-    let mut reader = Reader::new(alloc, BitReader::from_octets(encoding), codec);
+    let mut reader = Reader::new(alloc, BitReader::from_octets(encoding), any_padding(codec));
     let octets = reader.take_octet_string(&Constraints::new(constraints))?;
     Ok((octets, reader.bits().len()))
 }
@@ -100,7 +101,7 @@ fn bits_of(
     constraints: &'static [Constraint],
     encoding: &[u8],
 ) -> Result<(BitString, u128), DecodeErrorKind> {
-    let mut reader = Reader::new(alloc, BitReader::from_octets(encoding), codec);
+    let mut reader = Reader::new(alloc, BitReader::from_octets(encoding), any_padding(codec));
     let bits = reader.take_bit_string(&Constraints::new(constraints))?;
     Ok((bits, reader.bits().len()))
 }

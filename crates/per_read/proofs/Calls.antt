@@ -19,36 +19,36 @@ use Rattle.per_read.proofs.Fields.{field_wide, field_one}
 
 module _ {T X : Type 0} {why : Reason} {form : Settings → X → Spelling} {of : (X → Type 0) → T → Type 0} {x y : State} where
   -- an answer
-  pub answers : (v : T) → y.codec ≡ x.codec → of (λ w. Took (form (settings_of x) w) x.bits y.bits) v → Takes why form of x (Ok v) y
+  pub answers : (v : T) → y.options ≡ x.options → of (λ w. Took (form (settings_of x) w) x.bits y.bits) v → Takes why form of x (Ok v) y
   answers v e h = record { ok = h; err = tt; kept = e }
 
   -- a refusal
-  pub refuses : (k : DecodeErrorKind) → y.codec ≡ x.codec → why (settings_of x) x.bits (NoneIn (form (settings_of x)) x.bits) k → Takes why form of x (Err k) y
+  pub refuses : (k : DecodeErrorKind) → y.options ≡ x.options → why (settings_of x) x.bits (NoneIn (form (settings_of x)) x.bits) k → Takes why form of x (Err k) y
   refuses k e h = record { ok = tt; err = h; kept = e }
 
   -- a refusal that is handed on
-  pub passes_on : (r : Result T DecodeErrorKind) (k : DecodeErrorKind) → IsErrAnd r (λ e. e ≡ k) → y.codec ≡ x.codec → why (settings_of x) x.bits (NoneIn (form (settings_of x)) x.bits) k → Takes why form of x r y
+  pub passes_on : (r : Result T DecodeErrorKind) (k : DecodeErrorKind) → IsErrAnd r (λ e. e ≡ k) → y.options ≡ x.options → why (settings_of x) x.bits (NoneIn (form (settings_of x)) x.bits) k → Takes why form of x r y
   passes_on (Ok v) k h e i = absurd h
   passes_on (Err f) k h e i = record { ok = tt; err = subst (λ z. why (settings_of x) x.bits (NoneIn (form (settings_of x)) x.bits) z) (sym h) i; kept = e }
 
   -- what the last call answers, behind what the others took
   module _ {Z : Type 0} {because : Reason} {last : Settings → Z → Spelling} {is : (Z → Type 0) → T → Type 0} {m : State} where
-    pub takes_last : {r : Result T DecodeErrorKind} → Takes because last is m r y → m.codec ≡ x.codec
+    pub takes_last : {r : Result T DecodeErrorKind} → Takes because last is m r y → m.options ≡ x.options
         → ((v : T) → is (λ w. Took (last (settings_of m) w) m.bits y.bits) v → of (λ w. Took (form (settings_of x) w) x.bits y.bits) v)
         → ((k : DecodeErrorKind) → because (settings_of m) m.bits (NoneIn (last (settings_of m)) m.bits) k → why (settings_of x) x.bits (NoneIn (form (settings_of x)) x.bits) k)
         → Takes why form of x r y
     takes_last {r} a e f g = record { ok = IfOk-weaker r _ _ f a.ok; err = IfErr-weaker r _ _ g a.err; kept = a.kept ∙ e }
 
 module _ {C : Type 0} {holds : C → C → List ℕ → Type 0} {why : Reason} {form : Settings → List ℕ → Spelling} {before after : C} {x y : State} where
-  pub answers_items : (n : ℕ) → y.codec ≡ x.codec → TookItems holds (form (settings_of x)) n before after x.bits y.bits → TakesItems holds why form before x (Ok n) after y
+  pub answers_items : (n : ℕ) → y.options ≡ x.options → TookItems holds (form (settings_of x)) n before after x.bits y.bits → TakesItems holds why form before x (Ok n) after y
   answers_items n e h = record { ok = h; err = tt; kept = e }
 
-  pub passes_on_items : (r : Result ℕ DecodeErrorKind) (k : DecodeErrorKind) → IsErrAnd r (λ e. e ≡ k) → y.codec ≡ x.codec → why (settings_of x) x.bits (NoneIn (form (settings_of x)) x.bits) k
+  pub passes_on_items : (r : Result ℕ DecodeErrorKind) (k : DecodeErrorKind) → IsErrAnd r (λ e. e ≡ k) → y.options ≡ x.options → why (settings_of x) x.bits (NoneIn (form (settings_of x)) x.bits) k
       → TakesItems holds why form before x r after y
   passes_on_items (Ok v) k h e i = absurd h
   passes_on_items (Err f) k h e i = record { ok = tt; err = subst (λ z. why (settings_of x) x.bits (NoneIn (form (settings_of x)) x.bits) z) (sym h) i; kept = e }
 
-  pub takes_last_items : {because : Reason} {last : Settings → List ℕ → Spelling} {m : State} {r : Result ℕ DecodeErrorKind} → TakesItems holds because last before m r after y → m.codec ≡ x.codec
+  pub takes_last_items : {because : Reason} {last : Settings → List ℕ → Spelling} {m : State} {r : Result ℕ DecodeErrorKind} → TakesItems holds because last before m r after y → m.options ≡ x.options
       → ((n : ℕ) → TookItems holds (last (settings_of m)) n before after m.bits y.bits → TookItems holds (form (settings_of x)) n before after x.bits y.bits)
       → ((k : DecodeErrorKind) → because (settings_of m) m.bits (NoneIn (last (settings_of m)) m.bits) k → why (settings_of x) x.bits (NoneIn (form (settings_of x)) x.bits) k)
       → TakesItems holds why form before x r after y

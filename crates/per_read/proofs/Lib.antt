@@ -23,3 +23,4 @@ pub mod Miscounts
 pub mod Coded
 pub mod CharacterCodes
 pub mod Texts
+pub mod Padding

@@ -157,7 +157,7 @@ module _ {X : Type 0} (a : Settings) (item : X → Spelling) where
       none_outside e none xs t c = none xs t (past_mark inside outside e xs t c)
 
 -- what a call opens behind others that took the bit
-pub opens_behind : {size other : Size} {mark marked : Bool} {x m y : State} {r : Result OpenList DecodeErrorKind} → OpensList other marked m r y → m.codec ≡ x.codec
+pub opens_behind : {size other : Size} {mark marked : Bool} {x m y : State} {r : Result OpenList DecodeErrorKind} → OpensList other marked m r y → m.options ≡ x.options
     → ((l : OpenList) (e : Schema) → AmidItems (list_rule (settings_of x) other marked e) m.bits [] l y.bits → AmidItems (list_rule (settings_of x) size mark e) x.bits [] l y.bits)
     → ((e : Schema) → NoneIn (list_form (list_rule (settings_of x) other marked e)) m.bits → NoneIn (list_form (list_rule (settings_of x) size mark e)) x.bits)
     → OpensList size mark x r y

@@ -15,6 +15,7 @@ use Rattle.per_core.proofs.Lengths.{Zip-same, bounded_form_agree, unsized_agree,
 use Rattle.per_core.proofs.Took.{took_then, then_took, took_map, took_agree, nothing_took}
 use Rattle.per_read.specs.Kinds.{NoneIn}
 use Rattle.per_read.specs.Items.{TookItems}
+use Rattle.per_read.specs.Takes.{alone}
 use Rattle.per_read.specs.Sizes.{CountFrom, Between, constrained_between, under_size}
 use Rattle.per_read.proofs.Fields.{when_took, field_below}
 use Rattle.per_read.proofs.OneByOne.{items_wide}
@@ -126,6 +127,14 @@ module _ (a : Settings) (lb ub : ℕ) (kind : Counted) (w n : ℕ) {s m : Bits} 
       let g : length v.0 ≡ length l = ap length (padding_once a test d p) in
       let y : w * length xs ≡ w * n = ap (λ (z : ℕ). w * z) f in
       omega (arith, items_wide w xs v.2, g, y, k)
+
+  pub no_padding_between : {test : Bool} → test ≡ (ltb 0 n && is_aligned kind lb ub) → NoneIn (alone (PaddingIf test) a) m → NoneIn (Between a lb ub kind (Field w)) s
+  no_padding_between {test} i none xs u c =
+      let r = then_took c in
+      let v = then_took r.2 in
+      let z = took_agree (count_agree a lb ub (length xs) n) r.1 b in
+      let j : (ltb 0 (length xs) && is_aligned kind lb ub) ≡ test = ap (λ (z : ℕ). ltb 0 z && is_aligned kind lb ub) z.0 ∙ sym i in
+      none tt v.0 (subst (λ z. Took (PaddingIf test a) z v.0) z.1 (subst (λ z. Took (PaddingIf z a) r.0 v.0) j v.1))
 
 pub no_count_between : {X : Type 0} (a : Settings) (lb ub : ℕ) (kind : Counted) (item : X → Spelling) {s : Bits} → NoneIn (CountFrom a lb ub) s → NoneIn (Between a lb ub kind item) s
 no_count_between a lb ub kind item none xs u c = let r = then_took c in none (length xs) r.0 r.1

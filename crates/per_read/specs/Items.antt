@@ -44,7 +44,7 @@ pub record TakesItems {C : Type 0} (holds : C → C → List ℕ → Type 0) (wh
     (result : Result ℕ DecodeErrorKind) (after : C) (y : State) : Type 0 where
   pub ok : IfOk result (λ n. TookItems holds (form (settings_of x)) n before after x.bits y.bits)
   pub err : IfErr result (why (settings_of x) x.bits (NoneIn (form (settings_of x)) x.bits))
-  pub kept : y.codec ≡ x.codec
+  pub kept : y.options ≡ x.options
 
 -- A call that takes n items with no length. They stay what they are.
 pub record Collects {C : Type 0} (holds : C → C → List ℕ → Type 0) (item : C → Item) (count : C → ℕ) (n : ℕ) (before : C) (x : State)
@@ -53,7 +53,7 @@ pub record Collects {C : Type 0} (holds : C → C → List ℕ → Type 0) (item
   pub same : OnOk result (item after ≡ item before)
   pub few : OnOk result (count after ≤ count before + n)
   pub err : IfErr result (Stopped (length x.bits < bits_of (item before) * n))
-  pub kept : y.codec ≡ x.codec
+  pub kept : y.options ≡ x.options
 
 -- all items were read, in some form, and a fact holds of their codes
 pub record Gathered (P : List ℕ → Type 0) (form : List ℕ → Spelling) (s t : Bits) : Type 0 where

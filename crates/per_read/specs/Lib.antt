@@ -1,5 +1,5 @@
 pub mod Choices
-pub mod Codecs
+pub mod Options
 pub mod Enumerations
 pub mod Items
 pub mod Kinds

@@ -88,7 +88,7 @@ most l = 2 ^ 64 - l.count
 pub record OpensList (size : Size) (mark : Bool) (x : State) (result : Result OpenList DecodeErrorKind) (y : State) : Type 0 where
   pub ok : IfOk result (λ l. (e : Schema) → AmidItems (list_rule (settings_of x) size mark e) x.bits [] l y.bits)
   pub err : IfErr result (Refused ((e : Schema) → NoneIn (list_form (list_rule (settings_of x) size mark e)) x.bits))
-  pub kept : y.codec ≡ x.codec
+  pub kept : y.options ≡ x.options
 
 -- A call that takes the length of the next fragment of an open list, where one begins here. The list stays open, and where no item is left, it has ended.
 pub record BeginsFragment (l : OpenList) (x : State) (result : Result (Unit {0}) DecodeErrorKind) (m : OpenList) (y : State) : Type 0 where
@@ -96,11 +96,11 @@ pub record BeginsFragment (l : OpenList) (x : State) (result : Result (Unit {0})
       → (let f = list_rule (settings_of x) size mark e in AmidItems f start before l x.bits → MatchResult result (λ u. AmidItems f start before m y.bits) (RefusesList f start))
   pub ended : OnOk result (m.left ≡ 0 → m.more ≡ false)
   pub count : m.count ≡ l.count
-  pub kept : y.codec ≡ x.codec
+  pub kept : y.options ≡ x.options
 
 -- A call before each element of an open list, and behind the last. Each leaves fewer elements that may be read.
 pub record ReadsNext (l : OpenList) (x : State) (result : Result Bool DecodeErrorKind) (m : OpenList) (y : State) : Type 0 where
   pub law : (size : Size) (mark : Bool) (e : Schema) (start : Bits) (before : List Value)
       → (let f = list_rule (settings_of x) size mark e in AmidItems f start before l x.bits → NextRead f start before result m y.bits)
   pub fewer : IfOk result (λ another. another ≡ true → most m < most l)
-  pub kept : y.codec ≡ x.codec
+  pub kept : y.options ≡ x.options

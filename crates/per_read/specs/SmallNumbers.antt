@@ -25,7 +25,7 @@ pub record AppendsOctets (n : ℕ) (before : Option ℕ) (x : State) (result : R
     (after : Option ℕ) (y : State) : Type 0 where
   pub ok : OnOk result (TookItems MeansSince (OneByOne octet) n before after x.bits y.bits)
   pub err : IfErr result (Refused (length x.bits < 8 * n))
-  pub kept : y.codec ≡ x.codec
+  pub kept : y.options ≡ x.options
 
 -- a fact about the number that was read; none stands for one past 64 bits
 abbrev pub OfIndex : (ℕ → Type 0) → Option ℕ → Type 0

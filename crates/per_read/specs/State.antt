@@ -1,14 +1,14 @@
 -- What contracts see of a reader.
 use Rattle.rasn_types.specs.Bits.{Bits}
-use Rattle.rasn_types.specs.declared.types.Codec.{Codec}
 use Rattle.per_core.specs.Spellings.{Settings}
-use Rattle.per_read.specs.Codecs.{settings}
+use Rattle.per_read.specs.Options.{settings}
+use Rattle.per_read.specs.declared.ReaderOptions.{ReaderOptions}
 
--- the bits that are left, and the variant in use
+-- the bits that are left, and how they are read
 pub record State : Type 0 where
   pub bits : Bits
-  pub codec : Codec
+  pub options : ReaderOptions
 
 -- how it reads
 abbrev pub settings_of : State → Settings
-settings_of x = settings x.codec
+settings_of x = settings x.options

@@ -35,19 +35,18 @@ stopped = memory_or (λ a s. IsTested)
 abbrev pub itself : {X : Type 0} → (X → Type 0) → X → Type 0
 itself P v = P v
 
+-- what is told by nothing but that it stands there
+abbrev pub alone : (Settings → Spelling) → Settings → Unit {0} → Spelling
+alone form a u = form a
+
 -- so many bits, whichever they are
 abbrev pub Row : ℕ → Bits → Spelling
 Row n bits = When (length bits ≡ n) (exactly bits)
 
 -- A call that takes what a form spells: Ok answers what a front of the bits left spells, and the bits behind it are left; Err comes only
--- where no front spells anything, for a reason; and the variant stays. `of` says what of the form an answer is.
+-- where no front spells anything, for a reason; and how it reads stays. `of` says what of the form an answer is.
 pub record Takes {T X : Type 0} (why : Reason) (form : Settings → X → Spelling) (of : (X → Type 0) → T → Type 0) (x : State)
     (result : Result T DecodeErrorKind) (y : State) : Type 0 where
   pub ok : IfOk result (of (λ v. Took (form (settings_of x) v) x.bits y.bits))
   pub err : IfErr result (why (settings_of x) x.bits (NoneIn (form (settings_of x)) x.bits))
-  pub kept : y.codec ≡ x.codec
-
--- a call that takes what has a form, and never refuses
-pub record Skips (form : Settings → Spelling) (x y : State) : Type 0 where
-  pub took : Took (form (settings_of x)) x.bits y.bits
-  pub kept : y.codec ≡ x.codec
+  pub kept : y.options ≡ x.options

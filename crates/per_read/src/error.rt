@@ -124,6 +124,10 @@ pub enum ParserFailCause {
     /// A bitmap of additions has no bits (X.691 19).
     #[error("the bitmap of additions is empty")]
     EmptyBitmap,
+
+    /// Padding or a spare bit isn't zero, where it must be (X.691 11.1, 11.2).
+    #[error("padding is not zero")]
+    NonzeroPadding,
 }
 
 impl DecodeErrorKind {

@@ -3,7 +3,7 @@
 ghost use Rattle.std.specs.Prelude.{◌≡◌};
 ghost use Rattle.per_core.specs.Spellings.{AnyPadding};
 ghost use Rattle.per_read.specs.Lengths.{LengthOf, CountOf, count_of, is_followed};
-ghost use Rattle.per_read.specs.Takes.{Takes, Skips, tested, itself};
+ghost use Rattle.per_read.specs.Takes.{Takes, alone, tested, itself};
 
 use crate::Reader;
 use crate::error::{DecodeErrorKind, ParserFailCause};
@@ -38,24 +38,26 @@ impl Length {
 
 impl Reader<'_> {
     /// Takes the padding before what begins on an octet in the aligned variant: the bits that are left beyond whole
-    /// octets.
-    pub(crate) fn skip_padding(&mut self)
-        ensures { Skips AnyPadding self.old self.new }
+    /// octets. Where padding must be zero, other bits are refused.
+    pub(crate) fn take_padding(&mut self) -> Result<(), DecodeErrorKind>
+        ensures { Takes tested (alone AnyPadding) itself self.old result self.new }
     {
-        match self.codec {
-            Codec::Aper => {
-                let odd = self.bits.len() % 8;
-                let _ = self.bits.take(odd).unwrap();
-            }
-            Codec::Uper => {}
+        if let Codec::Uper = self.options.codec {
+            return Ok(());
         }
+        let odd = self.bits.len() % 8;
+        let padding = self.bits.take(odd).unwrap();
+        if self.options.zero_padding && padding.first_bits(odd) != 0 {
+            return Err(DecodeErrorKind::ParserFail(ParserFailCause::NonzeroPadding));
+        }
+        Ok(())
     }
 
     /// Takes how many items follow, which begins on an octet in the aligned variant (X.691 11.9.3.5 to 11.9.3.8).
     pub(crate) fn take_unconstrained_length(&mut self) -> Result<Length, DecodeErrorKind>
         ensures { Takes tested LengthOf itself self.old result self.new }
     {
-        self.skip_padding();
+        self.take_padding()?;
         self.take_determinant()
     }
 

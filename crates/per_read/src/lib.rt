@@ -26,12 +26,21 @@ use rasn_types::types::Codec;
 use std::alloc::Global;
 use std::marker::Model;
 
+/// What a reader is told.
+#[derive(Clone, Copy, Debug)]
+pub struct ReaderOptions {
+    /// The variant of the rules (X.691 7).
+    pub codec: Codec,
+    /// Whether padding must be zero. Else it may be any bits.
+    pub zero_padding: bool,
+}
+
 /// Takes numbers, lengths and strings, one after another, off the front of bits. After an error it has taken some of
 /// them, and is of no further use.
 #[derive(Drop)]
 pub struct Reader<'input> {
     bits: BitReader<'input>,
-    codec: Codec,
+    options: ReaderOptions,
     alloc: Global,
 }
 
@@ -40,15 +49,19 @@ impl<'input> Model for Reader<'input> {
 
     ghost Value = { State };
 
-    ghost view = { λ r. record { bits = r.bits; codec = r.codec } };
+    ghost view = { λ r. record { bits = r.bits; options = r.options } };
 }
 
 impl<'input> Reader<'input> {
     /// A reader of bits. What it answers is kept in memory of `alloc`.
-    pub fn new(alloc: Global, bits: BitReader<'input>, codec: Codec) -> Self
-        ensures { result ≡ record { bits = bits.entry; codec = codec } }
+    pub fn new(alloc: Global, bits: BitReader<'input>, options: ReaderOptions) -> Self
+        ensures { result ≡ record { bits = bits.entry; options = options } }
     {
-        Reader { bits, codec, alloc }
+        Reader {
+            bits,
+            options,
+            alloc,
+        }
     }
 
     /// The bits that are left.
@@ -60,9 +73,9 @@ impl<'input> Reader<'input> {
 
     /// The variant in use.
     pub fn codec(&self) -> Codec
-        ensures { result ≡ self.now.codec }
+        ensures { result ≡ self.now.options.codec }
     {
-        self.codec
+        self.options.codec
     }
 
     /// Where the memory of its answers is from.

@@ -90,7 +90,7 @@ impl Reader<'_> {
     pub(crate) fn take_constrained_whole(&mut self, greatest: u128) -> Result<u128, DecodeErrorKind>
         ensures { Takes tested (λ a. constrained_form a (greatest + 1)) itself self.old result self.new }
     {
-        match self.codec {
+        match self.options.codec {
             Codec::Aper => self.take_constrained_whole_aligned(greatest),
             Codec::Uper => self.take_bits(width_to(greatest)),
         }
@@ -132,7 +132,7 @@ impl Reader<'_> {
         requires { width ≤ 128 }
         ensures { Takes tested (λ a. padded_field a width) itself self.old result self.new }
     {
-        self.skip_padding();
+        self.take_padding()?;
         self.take_bits(width)
     }
 }

@@ -9,7 +9,7 @@ ghost use Rattle.per_core.specs.Items.{counted_of};
 ghost use Rattle.per_core.specs.Spellings.{Settings};
 ghost use Rattle.per_read.specs.Items.{unconstrained_items, sized_items, lengthy_items, TakesItems};
 ghost use Rattle.per_read.specs.Sizes.{CountFrom, constrained_between, items_between, items_under, IsOfItems};
-ghost use Rattle.per_read.specs.Takes.{Skips, Takes, itself, memory_or, stopped, tested};
+ghost use Rattle.per_read.specs.Takes.{Takes, alone, itself, memory_or, stopped, tested};
 ghost use Rattle.per_read.specs.declared.error.DecodeErrorKind.TheVariants.{SizeConstraintNotSatisfied};
 
 use crate::Reader;
@@ -110,7 +110,7 @@ impl Reader<'_> {
             TakesItems C.holds stopped form items.old self.old result items.new self.new }
     {
         let count = self.take_constrained_count(lower, upper)?;
-        self.skip_padding_between(count, items.item(), lower, upper);
+        self.take_padding_between(count, items.item(), lower, upper)?;
         self.take_bare_items(count, items)?;
         Ok(count)
     }
@@ -131,13 +131,20 @@ impl Reader<'_> {
 
     /// Takes the padding between a constrained count and its items, where there is some (X.691 16.9 to 16.11, 17.6 to
     /// 17.8, 30.5.6, 30.5.7).
-    fn skip_padding_between(&mut self, count: usize, item: Item, lower: usize, upper: usize)
+    fn take_padding_between(
+        &mut self,
+        count: usize,
+        item: Item,
+        lower: usize,
+        upper: usize,
+    ) -> Result<(), DecodeErrorKind>
         ensures { let pads = nat_lt 0 count && is_aligned (counted_of item) lower upper in
-            Skips (PaddingIf pads) self.old self.new }
+            Takes tested (alone (PaddingIf pads)) itself self.old result self.new }
     {
-        if 0 < count && item.is_aligned(lower, upper) {
-            self.skip_padding();
+        if count == 0 || !item.is_aligned(lower, upper) {
+            return Ok(());
         }
+        self.take_padding()
     }
 
     /// Takes items behind an unconstrained length (X.691 11.9.3.5 to 11.9.3.8): in fragments, as many as there are, and

@@ -66,7 +66,7 @@ impl Reader<'_> {
             Takes (memory_or why) form (λ P string. P (S.characters string)) self.old result self.new }
     {
         let mut characters = Characters {
-            alphabet: alphabet_under::<S>(constraints, self.codec),
+            alphabet: alphabet_under::<S>(constraints, self.options.codec),
             string: S::new(self.alloc),
             has_unknown: false,
         };

@@ -1,7 +1,7 @@
 -- The octets that follow a complete encoding, seen from the bits that are left behind its value.
 use Rattle.std.specs.Prelude.{◌≡◌, ◌-◌, ◌*◌, ◌/◌, ◌<◌, ◌⊎◌, ◌∷◌, ℕ, List, [], length, drop}
 use Rattle.per_core.specs.declared.ended.Surplus.{Surplus}
-use Rattle.per_core.specs.declared.ended.Surplus.TheVariants.{Missing, NonzeroOctet, ExtraOctets}
+use Rattle.per_core.specs.declared.ended.Surplus.TheVariants.{Missing, NonzeroOctet}
 
 -- X.691 11.1: they are the whole octets of the bits that are left; behind a value of no bits all but one octet, which is zero
 abbrev pub IsRemainder : ℕ → List ℕ → List ℕ → Type 0
@@ -12,4 +12,4 @@ IsRemainder left octets rest =
 abbrev pub IsWhyNone : ℕ → List ℕ → Surplus → Type 0
 IsWhyNone left octets (Missing bits) = (octets ≡ []) × (bits ≡ 8)
 IsWhyNone left octets NonzeroOctet = (left ≡ 8 * length octets) × (0 < length octets)
-IsWhyNone left octets (ExtraOctets over) = ⊥
+IsWhyNone left octets _ = ⊥

@@ -1,7 +1,7 @@
 //! The ALIGNED variant: values to octets and back.
 
 ghost use Rattle.rasn_types.specs.declared.types.Codec.TheVariants.{Aper};
-ghost use Rattle.rasn_per.specs.Calls.{Encoded, EncodedInto, Decoded, DecodedFront};
+ghost use Rattle.rasn_per.specs.Calls.{Encoded, EncodedInto, Decoded, DecodedFront, DecodedZeroPadded};
 
 pub use crate::complete::lawful;
 use crate::complete::{decode_front, decode_in, encode_in, encode_into};
@@ -32,7 +32,8 @@ pub fn encode_buf<T: Encode, A: Allocator + Clone>(
     value: &T,
     buffer: &mut Vec<u8, A>,
 ) -> Result<(), EncodeError>
-    ensures { EncodedInto Aper (T.schema T.CONSTRAINTS) (T.levels value.now) (T.value value.now) result buffer.new.items }
+    ensures { EncodedInto Aper (T.schema T.CONSTRAINTS) (T.levels value.now) (T.value value.now)
+        result buffer.new.items }
 {
     encode_into(Codec::Aper, value, buffer)
 }
@@ -82,4 +83,15 @@ pub fn decode_with_constraints<T: Decode>(
     ensures { Decoded Aper (T.schema constraints.now) T.value octets.now result }
 {
     decode_in(alloc, DecoderOptions::aligned(), constraints, octets)
+}
+
+/// The value that all octets spell, as `decode` gives it, where all padding and spare bits are zero, also within open
+/// types (this project's choice).
+///
+/// Refuses as `decode` does, and with `ParserFail` where one of these bits is one.
+pub fn decode_zero_padded<T: Decode>(alloc: Global, octets: &[u8]) -> Result<T, DecodeError>
+    ensures { DecodedZeroPadded Aper (T.schema T.CONSTRAINTS) T.value octets.now result }
+{
+    let options = DecoderOptions::aligned().zero_padding();
+    decode_in(alloc, options, &T::CONSTRAINTS, octets)
 }

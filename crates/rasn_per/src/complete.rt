@@ -1,9 +1,9 @@
 //! Complete encodings (X.691 11.1) in either variant: values to octets and back.
 
-ghost use Rattle.std.specs.Prelude.{◌≡◌, ◌≤◌, ◌*◌, ℕ, List, length, OnErr, IfOk, IfErr};
+ghost use Rattle.std.specs.Prelude.{◌≡◌, ◌≤◌, ◌*◌, ℕ, false, List, length, OnErr, IfOk, IfErr};
 ghost use Rattle.rasn_constraints.specs.LawfulConstraints.{are_lawful};
 ghost use Rattle.per_write.specs.declared.error.EncodeErrorKind.TheVariants.{OutOfMemory};
-ghost use Rattle.rasn_per.specs.Calls.{Encoded, EncodedInto, Decoded, DecodedFront};
+ghost use Rattle.rasn_per.specs.Calls.{Encoded, EncodedInto, DecodedBy, DecodedFront};
 ghost use Rattle.rasn_per.specs.Kinds.{kind_of};
 ghost use Rattle.rasn_per.specs.Remainders.{IsRemainder, IsWhyNone};
 
@@ -39,7 +39,8 @@ pub fn encode_into<T: Encode, A: Allocator + Clone>(
     value: &T,
     buffer: &mut Vec<u8, A>,
 ) -> Result<(), EncodeError>
-    ensures { EncodedInto codec (T.schema T.CONSTRAINTS) (T.levels value.now) (T.value value.now) result buffer.new.items }
+    ensures { EncodedInto codec (T.schema T.CONSTRAINTS) (T.levels value.now) (T.value value.now)
+        result buffer.new.items }
 {
     buffer.clear();
     let alloc = allocator_of(buffer, codec)?;
@@ -78,13 +79,13 @@ pub fn decode_in<T: Decode>(
     octets: &[u8],
 ) -> Result<T, DecodeError>
     requires { options.levels ≡ 128 }
-    ensures { Decoded options.codec (T.schema constraints.now) T.value octets.now result }
+    ensures { DecodedBy options.zero_padding options.codec (T.schema constraints.now) T.value octets.now result }
 {
     let bits = BitReader::from_octets(octets);
     let total = bits.len();
     let mut decoder = Decoder::from_reader(alloc, bits, options);
     let value = T::decode_with_constraints(&mut decoder, constraints)?;
-    match ended(&decoder.input(), total) {
+    match ended(&decoder.input(), total, options.needs_zero_padding()) {
         Ok(()) => Ok(value),
         Err(surplus) => Err(refusal(surplus, decoder.codec())),
     }
@@ -97,7 +98,8 @@ pub fn decode_front<T: Decode>(
     options: DecoderOptions,
     octets: &[u8],
 ) -> Result<(T, &[u8]), DecodeError>
-    requires { options.levels ≡ 128 }
+    requires levels { options.levels ≡ 128 }
+    requires padding { options.zero_padding ≡ false }
     ensures { DecodedFront options.codec (T.schema T.CONSTRAINTS) T.value octets.now result }
 {
     let mut decoder = Decoder::from_reader(alloc, BitReader::from_octets(octets), options);
@@ -133,6 +135,7 @@ fn refusal(surplus: Surplus, codec: Codec) -> DecodeError
     let kind = match surplus {
         Surplus::Missing(bits) => DecodeErrorKind::Incomplete(bits),
         Surplus::NonzeroOctet => DecodeErrorKind::ParserFail(ParserFailCause::NonzeroEmptyValue),
+        Surplus::NonzeroSpareBits => DecodeErrorKind::ParserFail(ParserFailCause::NonzeroPadding),
         Surplus::ExtraOctets(octets) => DecodeErrorKind::UnexpectedExtraData(octets),
     };
     DecodeError { kind, codec }

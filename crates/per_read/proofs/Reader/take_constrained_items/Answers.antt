@@ -5,7 +5,7 @@ use Rattle.per_read.specs.Items.{coded}
 use Rattle.per_read.specs.State.{settings_of}
 use Rattle.per_read.proofs.Calls.{answers_items, passes_on_items}
 use Rattle.per_read.proofs.Parts.{stopped}
-use Rattle.per_read.proofs.SizeForms.{between_took, short_between, no_count_between}
+use Rattle.per_read.proofs.SizeForms.{between_took, short_between, no_count_between, no_padding_between}
 use Rattle.per_read.proofs.Reader.take_constrained_items.Goals as goal
 
 pub returns-in_err-count : goal.returns-in_err-count
@@ -14,16 +14,30 @@ returns-in_err-count g c =
     let i = g.C.Collector.item c.args.items.now in
     passes_on_items _ _ c.from_residual.ensures.1 h.kept (inr (h.err.0, no_count_between (settings_of c.args.self.now) c.args.lower c.args.upper (counted_of i) (coded i) h.err.1))
 
+pub returns-in_err-take_padding_between : goal.returns-in_err-take_padding_between
+returns-in_err-take_padding_between g c =
+    let a = settings_of c.args.self.now in
+    let item = g.C.Collector.item c.args.items.now in
+    let n = c.in_ok-count.count in
+    let h = c.in_ok-count.ensures in
+    let p = c.in_err-take_padding_between.ensures in
+    passes_on_items _ _ c.from_residual-in_err-take_padding_between.ensures.1 (p.kept ∙ h.kept)
+    (inr (
+      p.err.0,
+      no_padding_between a c.args.lower c.args.upper (counted_of item) (bits_of item) n h.ok
+          (ap (λ z. ltb 0 n && is_aligned (counted_of z) c.args.lower c.args.upper) c.item.ensures.item) (rw h.kept at p.err.1),
+    ))
+
 pub returns-in_err-take_bare_items : goal.returns-in_err-take_bare_items
 returns-in_err-take_bare_items g c =
     let a = settings_of c.args.self.now in
     let item = g.C.Collector.item c.args.items.now in
     let n = c.in_ok-count.count in
     let h = c.in_ok-count.ensures in
-    let s = c.skip_padding_between.ensures in
-    passes_on_items _ _ c.from_residual-in_err-take_bare_items.ensures.1 (c.in_err-take_bare_items.ensures.kept ∙ s.kept ∙ h.kept)
+    let p = c.in_ok-take_padding_between.ensures in
+    passes_on_items _ _ c.from_residual-in_err-take_bare_items.ensures.1 (c.in_err-take_bare_items.ensures.kept ∙ p.kept ∙ h.kept)
     (stopped _ (short_between a c.args.lower c.args.upper (counted_of item) (bits_of item) n h.ok
-    (ap (λ z. ltb 0 n && is_aligned (counted_of z) c.args.lower c.args.upper) c.item.ensures.item) (rw h.kept at s.took)) c.in_err-take_bare_items.ensures.err)
+    (ap (λ z. ltb 0 n && is_aligned (counted_of z) c.args.lower c.args.upper) c.item.ensures.item) (rw h.kept at p.ok)) c.in_err-take_bare_items.ensures.err)
 
 pub returns : goal.returns
 returns g c =
@@ -31,8 +45,8 @@ returns g c =
     let item = g.C.Collector.item c.args.items.now in
     let n = c.in_ok-count.count in
     let h = c.in_ok-count.ensures in
-    let s = c.skip_padding_between.ensures in
+    let p = c.in_ok-take_padding_between.ensures in
     let t = c.in_ok-take_bare_items.ensures in
-    answers_items _ (t.kept ∙ s.kept ∙ h.kept)
+    answers_items _ (t.kept ∙ p.kept ∙ h.kept)
     (between_took a c.args.lower c.args.upper (counted_of item) (bits_of item) n h.ok
-    (ap (λ z. ltb 0 n && is_aligned (counted_of z) c.args.lower c.args.upper) c.item.ensures.item) (rw h.kept at s.took) t.ok)
+    (ap (λ z. ltb 0 n && is_aligned (counted_of z) c.args.lower c.args.upper) c.item.ensures.item) (rw h.kept at p.ok) t.ok)

@@ -11,12 +11,12 @@ pub returns-in-Aper : goal.returns-in-Aper
 returns-in-Aper c =
     let a = settings_of c.args.self.now in
     let n = c.args.greatest + 1 in
-    let e = λ (o : ℕ). ap (λ (k : Codec). constrained_by (variant_of k) a n o) (sym (ap (λ (x : State). x.codec) c.self.view_is) ∙ c.in-Aper.is) in
+    let e = λ (o : ℕ). ap (λ (k : Codec). constrained_by (variant_of k) a n o) (sym (ap (λ (x : State). x.options.codec) c.self.view_is) ∙ c.in-Aper.is) in
     takes_last c.take_constrained_whole_aligned.ensures refl (as_form e) (λ k h. (h.0, no_form e h.1))
 
 pub returns-in-Uper : goal.returns-in-Uper
 returns-in-Uper c =
     let a = settings_of c.args.self.now in
     let n = c.args.greatest + 1 in
-    let e = λ (o : ℕ). ap (λ (k : Codec). constrained_by (variant_of k) a n o) (sym (ap (λ (x : State). x.codec) c.self.view_is) ∙ c.in-Uper.is) in
+    let e = λ (o : ℕ). ap (λ (k : Codec). constrained_by (variant_of k) a n o) (sym (ap (λ (x : State). x.options.codec) c.self.view_is) ∙ c.in-Uper.is) in
     takes_last c.take_bits.ensures refl (λ o b. as_form e o (as_wide c.width_to.ensures.width b)) (λ k h. (of_short k h.0, no_form e (no_field c.width_to.ensures.width (too_short h.1))))

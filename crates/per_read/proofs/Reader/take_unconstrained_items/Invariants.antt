@@ -7,7 +7,7 @@ use Rattle.per_read.proofs.Reader.take_unconstrained_items.Given as goal
 abbrev pub invariant-loop-length : goal.invariant-loop-length
 invariant-loop-length g l =
     ItemsSoFar g.C.Collector.holds (settings_of l.initial.self) (bits_of (g.C.Collector.item l.initial.items)) l.initial.self.bits l.self.bits l.initial.items l.items l.count
-    × (l.self.codec ≡ l.initial.self.codec)
+    × (l.self.options ≡ l.initial.self.options)
     × (g.C.Collector.item l.items ≡ g.C.Collector.item l.initial.items)
     × (g.C.Collector.count l.items ≤ l.count)
 

@@ -1,8 +1,16 @@
 use Rattle.per_core.proofs.Took.{took_then}
-use Rattle.per_read.proofs.Calls.{takes_last}
+use Rattle.per_read.specs.Lengths.{CountOf}
+use Rattle.per_read.proofs.Calls.{passes_on, takes_last}
 use Rattle.per_read.proofs.Counts.{no_length}
+use Rattle.per_read.proofs.Padding.{no_padding}
 use Rattle.per_read.proofs.Reader.take_unconstrained_length.Goals as goal
+
+pub returns-in_err-take_padding : goal.returns-in_err-take_padding
+returns-in_err-take_padding c =
+    let h = c.in_err-take_padding.ensures in
+    passes_on _ _ c.from_residual.ensures.1 h.kept (h.err.0, no_padding CountOf h.err.1)
 
 pub returns : goal.returns
 returns c =
-    takes_last c.take_determinant.ensures c.skip_padding.ensures.kept (λ l a. took_then c.skip_padding.ensures.took a) (λ k h. (h.0, no_length c.skip_padding.ensures.took h.1))
+    let p = c.in_ok-take_padding.ensures in
+    takes_last c.take_determinant.ensures p.kept (λ l a. took_then p.ok a) (λ k h. (h.0, no_length p.ok h.1))
