@@ -1,4 +1,5 @@
 pub mod Answered
 pub mod Decoded
 pub mod Encoded
+pub mod Fronts
 pub mod Named

@@ -1,5 +1,5 @@
 -- What the kind of a refused reading says of the octets.
-use Rattle.std.proofs.Common.{◌≡◌, refl, sym, ap, subst, ℕ, Bool, false, List, ◌⊎◌, inl, inr, Result, Err}
+use Rattle.std.proofs.Common.{◌≡◌, refl, sym, ap, subst, ℕ, Bool, List, ◌⊎◌, inl, inr, Result, Err}
 use Rattle.std.specs.Prelude.{IfErr}
 use Rattle.rasn_types.specs.Bits.{Bits}
 use Rattle.rasn_types.specs.Codecs.{variant_of}
@@ -16,7 +16,9 @@ use Rattle.per_de.specs.Faults.{in_alternative, in_element, IsAt, IsInBits, at_o
 use Rattle.per_read.specs.declared.error.DecodeError.{DecodeError}
 use Rattle.per_read.specs.declared.error.DecodeErrorKind.{DecodeErrorKind}
 use Rattle.per_read.specs.declared.error.DecodeErrorKind.TheVariants.{Incomplete, ParserFail, UnexpectedExtraData, AlreadyFailed, OutOfMemory}
-use Rattle.rasn_per.specs.Kinds.{IsInOctets, kind_of}
+use Rattle.rasn_per.specs.Kinds.{IsInFront, IsInOctetsBy, kind_of}
+use Rattle.rasn_per.specs.Complete.{reading}
+use Rattle.rasn_per.specs.Remainders.{IsWhyNone}
 use Rattle.rasn_per.proofs.Decoded.{fresh, Ended, so}
 
 -- no call of a decoder finds octets left over
@@ -46,8 +48,8 @@ mutual
   no_extra_inside (here h) n e = no_extra h n e
   no_extra_inside (later r t h) n e = no_extra_inside h n e
 
-module _ (a : Codec) (schema : ℕ → Schema) (octets : List ℕ) where
-  of_fresh : (k : DecodeErrorKind) → IsOf k (schema 128) (fresh a octets) → IsInOctets (variant_of a) schema octets k
+module _ (a : Codec) (strict : Bool) (schema : ℕ → Schema) (octets : List ℕ) where
+  of_fresh : (k : DecodeErrorKind) → IsOf k (schema 128) (fresh a strict octets) → IsInOctetsBy (reading strict (variant_of a)) schema octets k
   of_fresh AlreadyFailed h = absurd (cc)
   of_fresh (UnexpectedExtraData n) h = absurd (no_extra h n refl)
   of_fresh (Incomplete n) h = tt
@@ -55,18 +57,42 @@ module _ (a : Codec) (schema : ℕ → Schema) (octets : List ℕ) where
   of_fresh OutOfMemory h = tt
   of_fresh _ h = h
 
-  -- the kind of a refusal of the fresh decoder
-  pub named : {T : Type 0} (result : Result T DecodeError) (f : DecodeError) (s : State) → s ≡ fresh a octets → result ≡ Err f
-      → ((f ≡ refusal OutOfMemory s) ⊎ Refuses (Spells (schema s.levels)) (Fault (schema s.levels)) f s) → IfErr result (λ e. IsInOctets (variant_of a) schema octets e.kind)
-  named result f s e g h = rw g (go h)
+  of_fresh_front : (k : DecodeErrorKind) → IsOf k (schema 128) (fresh a strict octets) → IsInFront (reading strict (variant_of a)) schema octets k
+  of_fresh_front AlreadyFailed h = absurd (cc)
+  of_fresh_front (Incomplete n) h = tt
+  of_fresh_front (ParserFail cause) h = tt
+  of_fresh_front OutOfMemory h = tt
+  of_fresh_front _ h = h
+
+  named_so : {T : Type 0} (P : DecodeErrorKind → Type 0) → ((k : DecodeErrorKind) → IsOf k (schema 128) (fresh a strict octets) → P k) → P OutOfMemory
+      → (result : Result T DecodeError) (f : DecodeError) (s : State) → s ≡ fresh a strict octets → result ≡ Err f
+      → ((f ≡ refusal OutOfMemory s) ⊎ Refuses (Spells (schema s.levels)) (Fault (schema s.levels)) f s) → IfErr result (λ e. P e.kind)
+  named_so P so room result f s e g h = rw g (go h)
     where
-      go : (f ≡ refusal OutOfMemory s) ⊎ Refuses (Spells (schema s.levels)) (Fault (schema s.levels)) f s → IsInOctets (variant_of a) schema octets f.kind
-      go (inl m) = subst (λ (z : DecodeErrorKind). IsInOctets (variant_of a) schema octets z) (sym (ap (λ (z : DecodeError). z.kind) m)) tt
-      go (inr r) = of_fresh f.kind (subst (λ (z : State). IsOf f.kind (schema z.levels) z) e r.stands.stands)
+      go : (f ≡ refusal OutOfMemory s) ⊎ Refuses (Spells (schema s.levels)) (Fault (schema s.levels)) f s → P f.kind
+      go (inl m) = subst P (sym (ap (λ (z : DecodeError). z.kind) m)) room
+      go (inr r) = so f.kind (subst (λ (z : State). IsOf f.kind (schema z.levels) z) e r.stands.stands)
+
+  -- the kind of a refusal of the fresh decoder
+  pub named : {T : Type 0} (result : Result T DecodeError) (f : DecodeError) (s : State) → s ≡ fresh a strict octets → result ≡ Err f
+      → ((f ≡ refusal OutOfMemory s) ⊎ Refuses (Spells (schema s.levels)) (Fault (schema s.levels)) f s) → IfErr result (λ e. IsInOctetsBy (reading strict (variant_of a)) schema octets e.kind)
+  named = named_so (λ k. IsInOctetsBy (reading strict (variant_of a)) schema octets k) of_fresh tt
+
+  -- and what it says of a front
+  pub named_front : {T : Type 0} (result : Result T DecodeError) (f : DecodeError) (s : State) → s ≡ fresh a strict octets → result ≡ Err f
+      → ((f ≡ refusal OutOfMemory s) ⊎ Refuses (Spells (schema s.levels)) (Fault (schema s.levels)) f s) → IfErr result (λ e. IsInFront (reading strict (variant_of a)) schema octets e.kind)
+  named_front = named_so (λ k. IsInFront (reading strict (variant_of a)) schema octets k) of_fresh_front tt
+
+  -- the kind where no octets are behind what was read
+  pub named_none : (why : Surplus) (left : ℕ) → IsWhyNone left octets why → IsInFront (reading strict (variant_of a)) schema octets (kind_of why)
+  named_none (Missing n) left w = tt
+  named_none NonzeroOctet left w = tt
+  named_none NonzeroSpareBits left w = absurd w
+  named_none (ExtraOctets n) left w = absurd w
 
   -- the kind of a reading that doesn't end as it has to
-  pub named_surplus : (surplus : Surplus) (v : Value) (s t : State) (b : Bits) → s ≡ fresh a octets → Spells (schema s.levels) s v t
-      → Ended a schema octets (λ l n. IsWhy false l n surplus) t b → IsInOctets (variant_of a) schema octets (kind_of surplus)
+  pub named_surplus : (surplus : Surplus) (v : Value) (s t : State) (b : Bits) → s ≡ fresh a strict octets → Spells (schema s.levels) s v t
+      → Ended a strict schema octets (λ l n. IsWhy strict l n surplus) t b → IsInOctetsBy (reading strict (variant_of a)) schema octets (kind_of surplus)
   named_surplus (Missing n) v s t b e h d = tt
   named_surplus NonzeroOctet v s t b e h d = tt
   named_surplus NonzeroSpareBits v s t b e h d = tt
@@ -74,5 +100,6 @@ module _ (a : Codec) (schema : ℕ → Schema) (octets : List ℕ) where
     value = v;
     left = t.bits;
     read = (subst (λ z. Spells (schema z.levels) z v t) e h).took;
-    are_over = (so a schema octets (λ l m. IsWhy false l m (ExtraOctets n)) t b d).0;
+    are_over = (so a strict schema octets (λ l m. IsWhy strict l m (ExtraOctets n)) t b d).0;
+    zeros = (so a strict schema octets (λ l m. IsWhy strict l m (ExtraOctets n)) t b d).1;
   }

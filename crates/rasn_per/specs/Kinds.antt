@@ -5,7 +5,8 @@ use Rattle.rasn_types.specs.Variants.{Variant}
 use Rattle.rasn_types.specs.Values.{Value}
 use Rattle.rasn_schema.specs.Schemas.{Schema}
 use Rattle.per_core.specs.Basic.{basic}
-use Rattle.per_core.specs.Ends.{AreOver}
+use Rattle.per_core.specs.Ends.{AreOver, spare}
+use Rattle.per_core.specs.Spellings.{Settings, ZeroIf}
 use Rattle.per_core.specs.Took.{Took}
 use Rattle.per_core.specs.declared.ended.Surplus.{Surplus}
 use Rattle.per_core.specs.declared.ended.Surplus.TheVariants.{Missing, NonzeroOctet, NonzeroSpareBits, ExtraOctets}
@@ -22,17 +23,27 @@ kind_of NonzeroOctet = ParserFail NonzeroEmptyValue
 kind_of NonzeroSpareBits = ParserFail NonzeroPadding
 kind_of (ExtraOctets octets) = UnexpectedExtraData octets
 
--- X.691 11.1: behind what spells a value, whole octets are left over
-pub record LeaveOver (a : Variant) (schema : ℕ → Schema) (octets : List ℕ) (over : ℕ) : Type 0 where
+-- X.691 11.1: behind what spells a value, and spare bits as they have to be, whole octets are left over
+pub record LeaveOver (a : Settings) (schema : ℕ → Schema) (octets : List ℕ) (over : ℕ) : Type 0 where
   pub value : Value
   pub left : Bits
-  pub read : Took (basic (basically a) (schema 128) value) (unpack octets) left
+  pub read : Took (basic a (schema 128) value) (unpack octets) left
   pub are_over : AreOver left (length (unpack octets)) over
+  pub zeros : ZeroIf a.strict (spare left)
 
--- What a kind says of the octets, as a type's schema reads them within 128 levels. That they end early, or aren't as they have to be, is shown by tests alone.
+-- What a kind says of the octets, or of their front, as a type's schema reads them within 128 levels. That they end early, or aren't as
+-- they have to be, is shown by tests alone.
+abbrev pub IsInFront : Settings → (ℕ → Schema) → List ℕ → DecodeErrorKind → Type 0
+IsInFront a schema octets (Incomplete missing) = Unit {0}
+IsInFront a schema octets (ParserFail cause) = Unit {0}
+IsInFront a schema octets OutOfMemory = Unit {0}
+IsInFront a schema octets k = IsInBits a k (schema 128) (unpack octets)
+
+-- the same where all octets have to be read
+abbrev pub IsInOctetsBy : Settings → (ℕ → Schema) → List ℕ → DecodeErrorKind → Type 0
+IsInOctetsBy a schema octets (UnexpectedExtraData over) = LeaveOver a schema octets over
+IsInOctetsBy a schema octets k = IsInFront a schema octets k
+
+-- and where padding has any value
 abbrev pub IsInOctets : Variant → (ℕ → Schema) → List ℕ → DecodeErrorKind → Type 0
-IsInOctets a schema octets (UnexpectedExtraData over) = LeaveOver a schema octets over
-IsInOctets a schema octets (Incomplete missing) = Unit {0}
-IsInOctets a schema octets (ParserFail cause) = Unit {0}
-IsInOctets a schema octets OutOfMemory = Unit {0}
-IsInOctets a schema octets k = IsInBits (basically a) k (schema 128) (unpack octets)
+IsInOctets a = IsInOctetsBy (basically a)

@@ -1,3 +1,4 @@
+pub mod Remainders
 pub mod Kinds
 pub mod Complete
 pub mod Calls

@@ -1,51 +1,130 @@
 //! Complete encodings (X.691 11.1) in either variant: values to octets and back.
 
-ghost use Rattle.std.specs.Prelude.{◌≡◌, false};
+ghost use Rattle.std.specs.Prelude.{◌≡◌, ◌≤◌, ◌*◌, ℕ, false, List, length, OnErr, IfOk, IfErr};
 ghost use Rattle.rasn_constraints.specs.LawfulConstraints.{are_lawful};
-ghost use Rattle.rasn_per.specs.Calls.{Encoded, Decoded};
+ghost use Rattle.per_write.specs.declared.error.EncodeErrorKind.TheVariants.{OutOfMemory};
+ghost use Rattle.rasn_per.specs.Calls.{Encoded, EncodedInto, DecodedBy, DecodedFront};
 ghost use Rattle.rasn_per.specs.Kinds.{kind_of};
+ghost use Rattle.rasn_per.specs.Remainders.{IsRemainder, IsWhyNone};
 
 use per_bits::BitReader;
 use per_core::ended::{Surplus, ended};
 use per_de::error::{DecodeError, DecodeErrorKind, ParserFailCause};
 use per_de::{Decoder, DecoderOptions};
-use per_enc::{EncodeError, Encoder, EncoderOptions};
+use per_enc::{EncodeError, EncodeErrorKind, Encoder, EncoderOptions};
 use rasn_codec::codec::{Decode, Encode};
 use rasn_schema::constraints::Constraints;
 use rasn_schema::limits::is_lawful;
 use rasn_types::types::Codec;
 use std::alloc::{Allocator, Global};
 
-/// `encode` of both modules: the canonical octets of a value, in the variant of the options.
+/// `encode` of both modules, under constraints: the canonical octets of a value, in the variant of a codec.
 pub fn encode_in<T: Encode, A: Allocator + Clone>(
     alloc: A,
-    options: EncoderOptions,
+    codec: Codec,
+    constraints: &Constraints,
     value: &T,
 ) -> Result<Vec<u8, A>, EncodeError>
-    ensures { Encoded options (T.schema T.CONSTRAINTS) (T.levels value.now) (T.value value.now) result }
+    ensures { Encoded codec (T.schema constraints.now) (T.levels value.now) (T.value value.now) result }
 {
-    let mut encoder = Encoder::new(alloc, options);
-    value.encode(&mut encoder)?;
+    let mut encoder = Encoder::new(alloc, encoder_options(codec));
+    value.encode_with_constraints(&mut encoder, constraints)?;
     encoder.output_into_vec()
 }
 
-/// `decode` of both modules: the value that all octets spell, in the variant of the options.
+/// `encode_buf` of both modules: the canonical octets of a value, in place of what the buffer held. After an error it
+/// is empty.
+pub fn encode_into<T: Encode, A: Allocator + Clone>(
+    codec: Codec,
+    value: &T,
+    buffer: &mut Vec<u8, A>,
+) -> Result<(), EncodeError>
+    ensures { EncodedInto codec (T.schema T.CONSTRAINTS) (T.levels value.now) (T.value value.now)
+        result buffer.new.items }
+{
+    buffer.clear();
+    let alloc = allocator_of(buffer, codec)?;
+    *buffer = encode_in(alloc, codec, &T::CONSTRAINTS, value)?;
+    Ok(())
+}
+
+/// How an encoder writes in the variant of a codec.
+fn encoder_options(codec: Codec) -> EncoderOptions
+    ensures { result ≡ codec }
+{
+    match codec {
+        Codec::Aper => EncoderOptions::aligned(),
+        Codec::Uper => EncoderOptions::unaligned(),
+    }
+}
+
+/// The allocator of a buffer. The only error is want of memory.
+fn allocator_of<A: Allocator + Clone>(buffer: &Vec<u8, A>, codec: Codec) -> Result<A, EncodeError>
+    ensures { IfErr result (λ e. e ≡ record { kind = OutOfMemory; codec = codec }) }
+{
+    match buffer.allocator().clone() {
+        Ok(alloc) => Ok(alloc),
+        Err(_) => Err(EncodeError {
+            kind: EncodeErrorKind::OutOfMemory,
+            codec,
+        }),
+    }
+}
+
+/// `decode` of both modules, under constraints: the value that all octets spell, in the variant of the options.
 pub fn decode_in<T: Decode>(
     alloc: Global,
     options: DecoderOptions,
+    constraints: &Constraints,
     octets: &[u8],
 ) -> Result<T, DecodeError>
-    requires levels { options.levels ≡ 128 }
-    requires padding { options.zero_padding ≡ false }
-    ensures { Decoded options.codec (T.schema T.CONSTRAINTS) T.value octets.now result }
+    requires { options.levels ≡ 128 }
+    ensures { DecodedBy options.zero_padding options.codec (T.schema constraints.now) T.value octets.now result }
 {
     let bits = BitReader::from_octets(octets);
     let total = bits.len();
     let mut decoder = Decoder::from_reader(alloc, bits, options);
-    let value = T::decode(&mut decoder)?;
-    match ended(&decoder.input(), total, false) {
+    let value = T::decode_with_constraints(&mut decoder, constraints)?;
+    match ended(&decoder.input(), total, options.needs_zero_padding()) {
         Ok(()) => Ok(value),
         Err(surplus) => Err(refusal(surplus, decoder.codec())),
+    }
+}
+
+/// `decode_with_remainder` of both modules: the value that a front of octets spells, in the variant of the options,
+/// and the octets behind it.
+pub fn decode_front<T: Decode>(
+    alloc: Global,
+    options: DecoderOptions,
+    octets: &[u8],
+) -> Result<(T, &[u8]), DecodeError>
+    requires levels { options.levels ≡ 128 }
+    requires padding { options.zero_padding ≡ false }
+    ensures { DecodedFront options.codec (T.schema T.CONSTRAINTS) T.value octets.now result }
+{
+    let mut decoder = Decoder::from_reader(alloc, BitReader::from_octets(octets), options);
+    let value = T::decode(&mut decoder)?;
+    match remainder(decoder.input().len(), octets) {
+        Ok(rest) => Ok((value, rest)),
+        Err(why) => Err(refusal(why, decoder.codec())),
+    }
+}
+
+/// The octets behind a complete encoding (X.691 11.1), where so many bits are left behind its value: those that it has
+/// no bit of. A value of no bits takes one octet, which is zero.
+fn remainder(left: u128, octets: &[u8]) -> Result<&[u8], Surplus>
+    requires { left ≤ 8 * length octets.now }
+    ensures ok { IfOk result (λ rest. IsRemainder left octets.now rest.now) }
+    ensures none { OnErr result ((rest : List ℕ) → IsRemainder left octets.now rest → ⊥) }
+    ensures why { IfErr result (IsWhyNone left octets.now) }
+{
+    if left < 8 * octets.len() as u128 {
+        return Ok(&octets[octets.len() - (left / 8) as usize..]);
+    }
+    match octets.split_first() {
+        None => Err(Surplus::Missing(8)),
+        Some((&0, rest)) => Ok(rest),
+        Some(_) => Err(Surplus::NonzeroOctet),
     }
 }
 
