@@ -1,0 +1,12 @@
+use Rattle.per_versions.proofs.Laws
+use Rattle.per_versions.proofs.versions.newer_reader_widens_what_the_older_reads.Goals as goal
+use Rattle.rasn_per.specs.Complete.{basically}
+use Rattle.rasn_types.specs.Codecs.{variant_of}
+
+pub returns-clause-answers : goal.returns-clause-answers
+returns-clause-answers g c = λ k codec octets x answer h d. Laws.answered codec (g.New.AsnType.schema g.New.AsnType.CONSTRAINTS) g.New.AsnType.value octets answer _ d
+    (Laws.newer_widens (basically (variant_of codec)) (g.New.AsnType.schema g.New.AsnType.CONSTRAINTS) (g.Old.AsnType.schema g.Old.AsnType.CONSTRAINTS) (g.New.AsnType.levelled g.New.AsnType.CONSTRAINTS) (g.Old.AsnType.levelled g.Old.AsnType.CONSTRAINTS) k (g.Old.AsnType.value x) octets h)
+
+pub returns-clause-known : goal.returns-clause-known
+returns-clause-known g c = λ k codec octets x y h i.
+    Laws.stays_known (basically (variant_of codec)) (g.New.AsnType.schema g.New.AsnType.CONSTRAINTS) (g.Old.AsnType.schema g.Old.AsnType.CONSTRAINTS) (g.New.AsnType.levelled g.New.AsnType.CONSTRAINTS) (g.Old.AsnType.levelled g.Old.AsnType.CONSTRAINTS) k (g.Old.AsnType.value x) (g.New.AsnType.value y) octets h i
