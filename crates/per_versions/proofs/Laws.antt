@@ -25,14 +25,14 @@ use Rattle.per_laws.proofs.Transitive.{newer_transitive}
 use Rattle.per_laws.proofs.Types.{up_to}
 use Rattle.per_depth.specs.Levels.{levels_of}
 use Rattle.per_depth.proofs.Depths
-use Rattle.per_depth.proofs.FewVersions.{levelled_holds}
-use Rattle.per_depth.proofs.Levelled.{levelled_type_unfolds, few_levels_suffice}
+use Rattle.per_depth.proofs.FewVersions.{levelled_holds, few_levels_are_projected, few_levels_are_widened}
+use Rattle.per_depth.proofs.Levelled.{levelled_type_unfolds, few_levels_are_read}
 use Rattle.per_depth.proofs.Peers
 use Rattle.per_read.specs.declared.error.DecodeError.{DecodeError}
 use Rattle.rasn_per.specs.Calls.{Decoded}
 use Rattle.rasn_per.specs.Complete.{AreBytes, HasNoBytes, basically}
 use Rattle.per_versions.specs.Answers.{Answers}
-use Rattle.per_versions.specs.Readings.{depth_of, normal_form, IsInReach, IsProjection, IsWidening, IsReadBack, IsReadByOlder, IsReadByNewer}
+use Rattle.per_versions.specs.Readings.{depth_of, normal_form, IsProjection, IsWidening, IsReadBack, IsReadByOlder, IsReadByNewer}
 use Rattle.per_versions.proofs.Depths.{is_held, normal_at, bytes_at, no_bytes_at, projection_at, widening_at}
 
 -- a reader answers just what the octets are read as
@@ -158,11 +158,45 @@ told_apart a T g k l v w os ps h i = (λ j. same_bytes a (T n) (normal_form T v)
 pub whole_octets : (a : Variant) (T : ℕ → Schema) → Levelled T → (k : ℕ) (v : Value) (os : List ℕ) → AreBytes a T k v os → (0 < length os) × AreOctets os
 whole_octets a T g k v os h = full_octets (basically a) (T (k + depth_of v)) (normal_form T v) os (bytes_at T g a k v os h (k + depth_of v) (omega arith) (omega arith))
 
-pub in_reach : (a : Variant) (T : ℕ → Schema) → Levelled T → (k : ℕ) (v : Value) (os : List ℕ) → AreBytes a T k v os → levels_of (normal_form T v) ≤ 128 → IsInReach T T (normal_form T v)
-in_reach a T g k v os h l =
-    let n = k + depth_of v in
-    let e = bytes_at T g a k v os h n (omega arith) (omega arith) in
-    Depths.bytes_whole a (T 128) (normal_form T v) os (few_levels_suffice a T g (normal_form T v) os n 128 l e)
+-- of values of at most 128 levels
+pub few_read_back : (a : Settings) (T : ℕ → Schema) → Levelled T → (k : ℕ) (v : Value) (os : List ℕ) → AreBytes a.variant T k v os → levels_of (normal_form T v) ≤ 128 →
+    (w : Value) → read a T w os ↔ (w ≡ normal_form T v)
+few_read_back a T g k v os h l w =
+    let e = bytes_at T g a.variant k v os h (k + depth_of v) (omega arith) (omega arith) in
+    let r = few_levels_are_read a T g (normal_form T v) os (k + depth_of v) l e in
+    (λ x. ((own_reads a T g k v os h w).0 x).normal, λ i. subst (λ z. read a T z os) (sym i) r)
+
+pub few_projected : (a : Settings) (T' T : ℕ → Schema) → Levelled T' → Levelled T → NewerType T' T → (k : ℕ) (v : Value) (os : List ℕ) → AreBytes a.variant T' k v os → levels_of (normal_form T' v) ≤ 128 →
+    (w : Value) → read a T w os ↔ IsProjection T' T (normal_form T' v) w
+few_projected a T' T g' g x k v os h l w = (λ y. ((older_reads a T' T g' g x k v os h w).0 y).projection, λ i. few_levels_are_projected a T' T g' g x z w os n n (le_refl n) (omega arith) l e (p.0 i))
+  where
+    z : Value
+    z = normal_form T' v
+
+    n : ℕ
+    n = k + depth_of v + depth_of z + 130
+
+    e : bytes a.variant (T' n) z ≡ Some os
+    e = bytes_at T' g' a.variant k v os h n (omega arith) (omega arith)
+
+    p : IsProjection T' T z w ↔ (project (T' n) (T n) z ≡ Some w)
+    p = projection_at T' T g' g x z w n (levelled_holds T' g' z n (omega arith))
+
+pub few_widened : (a : Settings) (T' T : ℕ → Schema) → Levelled T' → Levelled T → NewerType T' T → (k : ℕ) (v : Value) (os : List ℕ) → AreBytes a.variant T k v os → levels_of (normal_form T v) ≤ 128 →
+    (w : Value) → read a T' w os ↔ IsWidening T' T (normal_form T v) w
+few_widened a T' T g' g x k v os h l w = (λ y. ((newer_reads a T' T g' g x k v os h w).0 y).widening, λ i. few_levels_are_widened a T' T g' g x z w os n n (le_refl n) (omega arith) (omega arith) l e (p.0 i))
+  where
+    z : Value
+    z = normal_form T v
+
+    n : ℕ
+    n = k + depth_of v + depth_of w + 128
+
+    e : bytes a.variant (T n) z ≡ Some os
+    e = bytes_at T g a.variant k v os h n (omega arith) (omega arith)
+
+    p : IsWidening T' T z w ↔ (widen (T' n) (T n) z ≡ Some w)
+    p = widening_at T' T g' g x w z n (levelled_holds T' g' w n (omega arith))
 
 -- the normal form of a normal form is itself
 pub normal_again : (T : ℕ → Schema) → Levelled T → (v : Value) → normal_form T (normal_form T v) ≡ normal_form T v

@@ -53,7 +53,7 @@ pub fn read_by_older<New: Encode, Old: Decode>(
 {
     older_reader_answers_the_projection::<New, Old>();
     let octets = encode(alloc, codec, value)?;
-    let answer = decode(alloc, codec, &octets)?;
+    let answer: Old = decode(alloc, codec, &octets)?;
     Ok(answer)
 }
 
@@ -70,7 +70,7 @@ pub fn read_by_newer<New: Decode, Old: Encode>(
 {
     newer_reader_answers_the_widening::<New, Old>();
     let octets = encode(alloc, codec, value)?;
-    let answer = decode(alloc, codec, &octets)?;
+    let answer: New = decode(alloc, codec, &octets)?;
     Ok(answer)
 }
 

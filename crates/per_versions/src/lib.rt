@@ -3,6 +3,7 @@
 #![tactic(auto)]
 
 pub mod chains;
+pub mod depth;
 pub mod exchange;
 pub mod round_trips;
 pub mod versions;

@@ -1,16 +1,14 @@
 //! What `encode` and `decode` of one type answer to one another.
 
-ghost use Rattle.std.specs.Prelude.{◌≡◌, ◌↔◌, ◌<◌, ◌≤◌, ℕ, List, length, Result, Ok};
+ghost use Rattle.std.specs.Prelude.{◌≡◌, ◌↔◌, ◌<◌, ℕ, List, length, Result, Ok};
 ghost use Rattle.rasn_types.specs.Bits.{AreOctets};
 ghost use Rattle.rasn_types.specs.Codecs.{variant_of};
-ghost use Rattle.rasn_types.specs.Values.{Value};
 ghost use Rattle.rasn_types.specs.declared.types.Codec.{Codec};
-ghost use Rattle.per_depth.specs.Levels.{levels_of};
 ghost use Rattle.per_read.specs.declared.error.DecodeError.{DecodeError};
 ghost use Rattle.rasn_per.specs.Calls.{Decoded};
 ghost use Rattle.rasn_per.specs.Complete.{AreBytes, HasNoBytes};
 ghost use Rattle.per_versions.specs.Answers.{Answers};
-ghost use Rattle.per_versions.specs.Readings.{IsInReach, IsReadBack, normal_form};
+ghost use Rattle.per_versions.specs.Readings.{IsReadBack, normal_form};
 
 use rasn_codec::codec::{Decode, Encode};
 
@@ -22,7 +20,7 @@ pub fn equal_octets_mean_equal_normal_forms<T: Encode>()
         → (octets ≡ others) ↔ (normal_form type (T.value x) ≡ normal_form type (T.value y)) }
 {}
 
-/// The octets that `encode` answers are at least one (X.691, 11.1).
+/// What `encode` answers is octets, and at least one (X.691, 11.1).
 pub fn encoding_is_octets_and_at_least_one<T: Encode>()
     ensures { (codec : Codec) (x : T) (octets : List ℕ)
         → AreBytes (variant_of codec) (T.schema T.CONSTRAINTS) (T.levels x) (T.value x) octets
@@ -36,13 +34,6 @@ pub fn reader_answers_the_normal_form<T: Encode + Decode>()
         (codec : Codec) (x : T) (octets : List ℕ) (answer : Result T DecodeError)
         → AreBytes (variant_of codec) type (T.levels x) (T.value x) octets
         → Decoded codec type T.value octets answer → Answers T.value (IsReadBack type (T.value x)) answer }
-{}
-
-/// Nothing that is written of a value lies deeper than 128 levels where its normal form has no more levels.
-pub fn few_levels_are_in_reach<T: Encode>()
-    ensures { let type = T.schema T.CONSTRAINTS in (codec : Codec) (x : T) (octets : List ℕ)
-        → AreBytes (variant_of codec) type (T.levels x) (T.value x) octets
-        → levels_of (normal_form type (T.value x)) ≤ 128 → IsInReach type type (normal_form type (T.value x)) }
 {}
 
 /// What `decode` answers to the octets that `encode` answered is encoded as these octets again, and refused for want of

@@ -1,6 +1,0 @@
-use Rattle.per_versions.proofs.Laws
-use Rattle.per_versions.proofs.round_trips.few_levels_are_in_reach.Goals as goal
-use Rattle.rasn_types.specs.Codecs.{variant_of}
-
-pub returns : goal.returns
-returns g c = λ codec x. Laws.in_reach (variant_of codec) (g.T.AsnType.schema g.T.AsnType.CONSTRAINTS) (g.T.AsnType.levelled g.T.AsnType.CONSTRAINTS) (g.T.AsnType.levels x) (g.T.AsnType.value x)
