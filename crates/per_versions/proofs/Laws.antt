@@ -8,6 +8,7 @@ use Rattle.rasn_types.specs.Variants.{Variant}
 use Rattle.rasn_types.specs.declared.types.Codec.{Codec}
 use Rattle.rasn_schema.specs.Schemas.{Schema}
 use Rattle.rasn_schema.specs.Depth.{meets_cut}
+use Rattle.rasn_schema.specs.Lawful.{IsLawful}
 use Rattle.rasn_schema.specs.Levels.{Levelled}
 use Rattle.rasn_schema.specs.Normal.{normal}
 use Rattle.per_core.specs.Basic.{fills_known, read}
@@ -34,6 +35,7 @@ use Rattle.rasn_per.specs.Complete.{AreBytes, HasNoBytes, basically}
 use Rattle.per_versions.specs.Answers.{Answers}
 use Rattle.per_versions.specs.Readings.{depth_of, normal_form, IsProjection, IsWidening, IsReadBack, IsReadByOlder, IsReadByNewer}
 use Rattle.per_versions.proofs.Depths.{is_held, normal_at, bytes_at, no_bytes_at, projection_at, widening_at}
+use Rattle.per_versions.proofs.Normalised.{stays_in_reach}
 
 -- a reader answers just what the octets are read as
 pub answered : {T : Type 0} (codec : Codec) (type : ℕ → Schema) (value : T → Value) (octets : List ℕ) (answer : Result T DecodeError) (IsRead : Value → Type 0) →
@@ -222,3 +224,10 @@ module _ (a : Variant) (T : ℕ → Schema) (g : Levelled T) (k l : ℕ) (v w : 
 
       none : ◌≡◌ {A = Option (List ℕ)} None (Some os) → ⊥
       none j = absurd (cc)
+
+-- a value that was read is read again in normal form
+pub read_again : (a : Settings) (T : ℕ → Schema) → Levelled T → ((n : ℕ) → IsLawful (T n)) → (k : ℕ) (v : Value) (os ps : List ℕ) → read a T v os → AreBytes a.variant T k v ps →
+    (w : Value) → read a T w ps ↔ (w ≡ normal_form T v)
+read_again a T g l k v os ps r h w =
+    let q = own_reads a T g k v ps h w in
+    (λ x. (q.0 x).normal, λ i. q.1 (record { normal = i; in_reach = stays_in_reach a T g l v os r }))

@@ -24,8 +24,8 @@ pub fn few_levels_are_read_back<T: Encode + Decode>()
         → Answers T.value (λ (w : Value). w ≡ normal_form type (T.value x)) answer }
 {}
 
-/// An older type's `decode` answers the projection of its normal form, and refuses, memory aside, exactly where there is
-/// none (X.680, 52).
+/// An older type's `decode` answers the projection of its normal form, and refuses, memory aside, exactly where there
+/// is none (X.680, 52).
 pub fn few_levels_are_projected<New: Encode, Old: Decode>()
     ensures { let newer = New.schema New.CONSTRAINTS in let older = Old.schema Old.CONSTRAINTS in
         NewerType newer older → (codec : Codec) (x : New) (octets : List ℕ) (answer : Result Old DecodeError)

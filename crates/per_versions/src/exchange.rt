@@ -4,8 +4,8 @@ ghost use Rattle.std.specs.Prelude.{◌≡◌};
 ghost use Rattle.per_core.specs.Versions.{NewerType};
 ghost use Rattle.rasn_per.specs.Calls.{Decoded, Encoded};
 ghost use Rattle.per_versions.specs.Exchanges.{Exchanges};
-ghost use Rattle.per_versions.specs.Readings.{IsReadBack, IsReadByNewer, IsReadByOlder};
-ghost use Rattle.per_versions.specs.declared.exchange.ExchangeError.TheVariants.{Encode as encode_fault, Decode as decode_fault};
+ghost use Rattle.per_versions.specs.Readings.{IsReadByNewer, IsReadByOlder};
+ghost use Rattle.per_versions.specs.declared.exchange.ExchangeError.TheVariants as Faults;
 
 use crate::versions::{newer_reader_answers_the_widening, older_reader_answers_the_projection};
 use per_de::DecodeError;
@@ -25,7 +25,7 @@ pub enum ExchangeError {
 }
 
 impl From<EncodeError> for ExchangeError {
-    ghost from_gives = { λ e f. f ≡ encode_fault e };
+    ghost from_gives = { λ e f. f ≡ Faults.Encode e };
 
     fn from(error: EncodeError) -> ExchangeError {
         ExchangeError::Encode(error)
@@ -33,7 +33,7 @@ impl From<EncodeError> for ExchangeError {
 }
 
 impl From<DecodeError> for ExchangeError {
-    ghost from_gives = { λ e f. f ≡ decode_fault e };
+    ghost from_gives = { λ e f. f ≡ Faults.Decode e };
 
     fn from(error: DecodeError) -> ExchangeError {
         ExchangeError::Decode(error)

@@ -3,7 +3,9 @@
 ghost use Rattle.std.specs.Prelude.{◌≡◌, ◌↔◌, ◌<◌, ℕ, List, length, Result, Ok};
 ghost use Rattle.rasn_types.specs.Bits.{AreOctets};
 ghost use Rattle.rasn_types.specs.Codecs.{variant_of};
+ghost use Rattle.rasn_types.specs.Values.{Value};
 ghost use Rattle.rasn_types.specs.declared.types.Codec.{Codec};
+ghost use Rattle.rasn_schema.specs.Lawful.{IsLawfulType};
 ghost use Rattle.per_read.specs.declared.error.DecodeError.{DecodeError};
 ghost use Rattle.rasn_per.specs.Calls.{Decoded};
 ghost use Rattle.rasn_per.specs.Complete.{AreBytes, HasNoBytes};
@@ -45,4 +47,14 @@ pub fn what_was_decoded_is_encoded_the_same<T: Encode + Decode>()
     ensures encoded { let type = T.schema T.CONSTRAINTS in (codec : Codec) (x y : T) (octets : List ℕ)
         → AreBytes (variant_of codec) type (T.levels x) (T.value x) octets → Decoded codec type T.value octets (Ok y)
         → HasNoBytes (variant_of codec) type (T.levels y) (T.value y) → ⊥ }
+{}
+
+/// What a lawful type's `decode` answers to any octets, canonical or not, it answers in normal form to the octets as
+/// which `encode` writes that, and refuses these for want of memory alone.
+pub fn what_was_decoded_is_decoded_again<T: Encode + Decode>()
+    ensures { let type = T.schema T.CONSTRAINTS in IsLawfulType type
+        → (codec : Codec) (x : T) (octets others : List ℕ) (answer : Result T DecodeError)
+        → Decoded codec type T.value octets (Ok x)
+        → AreBytes (variant_of codec) type (T.levels x) (T.value x) others → Decoded codec type T.value others answer
+        → Answers T.value (λ (w : Value). w ≡ normal_form type (T.value x)) answer }
 {}
