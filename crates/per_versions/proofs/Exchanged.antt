@@ -13,10 +13,10 @@ use Rattle.per_versions.specs.declared.exchange.ExchangeError.TheVariants.{Decod
 pub arrived : {T : Type 0} (codec : Codec) (writer : ℕ → Schema) (levels : ℕ) (v : Value) (value : T → Value) (IsRead : Value → Type 0) (octets : List ℕ) (x : T) →
     AreBytes (variant_of codec) writer levels v octets → Answers value IsRead (Ok x) → Exchanges codec writer levels v value IsRead (Ok x)
 arrived codec writer levels v value IsRead octets x h a = record {
-  ok = record { octets = octets; are_written = h; is_read = a.ok };
+  ok = ((octets, h), a.ok);
   err = tt;
 }
 
-pub lost : {T : Type 0} (codec : Codec) (writer : ℕ → Schema) (levels : ℕ) (v : Value) (value : T → Value) (IsRead : Value → Type 0) (e : DecodeError) →
-    Answers {T = T} value IsRead (Err e) → Exchanges {T = T} codec writer levels v value IsRead (Err (Decode e))
-lost codec writer levels v value IsRead e a = record { ok = tt; err = a.err }
+pub lost : {T : Type 0} (codec : Codec) (writer : ℕ → Schema) (levels : ℕ) (v : Value) (value : T → Value) (IsRead : Value → Type 0) (octets : List ℕ) (e : DecodeError) →
+    AreBytes (variant_of codec) writer levels v octets → Answers {T = T} value IsRead (Err e) → Exchanges {T = T} codec writer levels v value IsRead (Err (Decode e))
+lost codec writer levels v value IsRead octets e h a = record { ok = tt; err = ((octets, h), a.err) }

@@ -48,7 +48,8 @@ pub fn older_reader_projects_what_the_newer_reads<New: Decode, Old: Decode>()
 
 /// Of any octets, canonical or not, that an older type's `decode` answers with a value, no additions being present that
 /// it doesn't know, a newer type's answers the widening of that value. It refuses, memory aside, exactly where there is
-/// none. Nor are there additions then that the newer type doesn't know.
+/// none. Nor are there additions then that the newer type doesn't know, and the older value is the projection of the
+/// newer one.
 pub fn newer_reader_widens_what_the_older_reads<New: Decode, Old: Decode>()
     ensures answers { let newer = New.schema New.CONSTRAINTS in let older = Old.schema Old.CONSTRAINTS in
         NewerType newer older → (codec : Codec) (octets : List ℕ) (x : Old) (answer : Result New DecodeError)
@@ -58,6 +59,10 @@ pub fn newer_reader_widens_what_the_older_reads<New: Decode, Old: Decode>()
         NewerType newer older → (codec : Codec) (octets : List ℕ) (x : Old) (y : New)
         → AreKnown codec older (Old.value x) octets → IsWidening newer older (Old.value x) (New.value y)
         → AreKnown codec newer (New.value y) octets }
+    ensures projects_back { let newer = New.schema New.CONSTRAINTS in let older = Old.schema Old.CONSTRAINTS in
+        NewerType newer older → (codec : Codec) (octets : List ℕ) (x : Old) (y : New)
+        → AreKnown codec older (Old.value x) octets → Decoded codec newer New.value octets (Ok y)
+        → IsProjection newer older (New.value y) (Old.value x) }
 {}
 
 /// In the octets that `encode` answers no additions are present that the type doesn't know, where they are read within

@@ -14,4 +14,4 @@ returns-in_err-answer g c = λ k.
     let p = err_from_is_err_and c.from_residual-in_err-answer.result c.from_residual-in_err-answer.ensures.1 in
     let d = subst (λ z. Decoded c.args.codec (g.New.AsnType.schema g.New.AsnType.CONSTRAINTS) g.New.AsnType.value z (Err c.in_err-answer.field-0.0)) c.deref.ensures.value c.in_err-answer.ensures in
     rw (p.1 ∙ ap Err p.2)
-    (lost c.args.codec _ _ _ _ _ _ (c.newer_reader_answers_the_widening.ensures k c.args.codec c.args.value.now _ _ c.in_ok-octets.ensures.ok d))
+    (lost c.args.codec _ _ _ _ _ _ _ c.in_ok-octets.ensures.ok (c.newer_reader_answers_the_widening.ensures k c.args.codec c.args.value.now _ _ c.in_ok-octets.ensures.ok d))

@@ -26,7 +26,7 @@ only_a : (codec : Codec) (c : TwoColors) (result : Result OneColor ExchangeError
     Exchanges codec newer 0 (color c) only_color (IsReadByOlder newer older (color c)) result → OnOk result (c ≡ A)
 unfolding project normal
 only_a codec A (Ok x) e = refl
-only_a codec B (Ok x) e = absurd (none e.ok.is_read.projection)
+only_a codec B (Ok x) e = absurd (none e.ok.1.projection)
   where
     none : ◌≡◌ {A = Option Value} None (Some (only_color x)) → ⊥
     none h = absurd (cc)
