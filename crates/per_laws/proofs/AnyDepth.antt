@@ -61,7 +61,7 @@ plain_alike {s} {t'} {t} h c d = λ v m. go (plain_cut h c) (plain_cut h d) v m
 mutual
   unfolding project meets_cut
 
-  project_alike : {s' s t' t : Schema} → Newer s' s → CutOf s' t' → CutOf s t → Alike (project s' s) (project t' t) (meets_cut s')
+  pub project_alike : {s' s t' t : Schema} → Newer s' s → CutOf s' t' → CutOf s t → Alike (project s' s) (project t' t) (meets_cut s')
   project_alike (unchanged h) c d = plain_alike h c d
   project_alike (more_items h) (alike i) (alike j) = λ v m. refl
   project_alike (newer_list n) (alike i) d = absurd i

@@ -1,0 +1,4 @@
+pub mod Depths
+pub mod Exchanged
+pub mod Laws
+pub mod Normalised

@@ -1,0 +1,95 @@
+//! From a value of one type, through its octets, to a value of another version.
+
+ghost use Rattle.std.specs.Prelude.{◌≡◌};
+ghost use Rattle.per_core.specs.Versions.{NewerType};
+ghost use Rattle.rasn_per.specs.Calls.{Decoded, Encoded};
+ghost use Rattle.per_versions.specs.Exchanges.{Exchanges};
+ghost use Rattle.per_versions.specs.Readings.{IsReadByNewer, IsReadByOlder};
+ghost use Rattle.per_versions.specs.declared.exchange.ExchangeError.TheVariants as Faults;
+
+use crate::versions::{newer_reader_answers_the_widening, older_reader_answers_the_projection};
+use per_de::DecodeError;
+use per_enc::EncodeError;
+use rasn_codec::codec::{Decode, Encode};
+use rasn_per::{aper, uper};
+use rasn_types::types::Codec;
+use std::alloc::Global;
+
+/// Why a value that one type writes isn't read by another.
+#[derive(Clone, Copy, Debug, PartialEq)]
+pub enum ExchangeError {
+    /// The value isn't encoded.
+    Encode(EncodeError),
+    /// The octets aren't decoded.
+    Decode(DecodeError),
+}
+
+impl From<EncodeError> for ExchangeError {
+    ghost from_gives = { λ e f. f ≡ Faults.Encode e };
+
+    fn from(error: EncodeError) -> ExchangeError {
+        ExchangeError::Encode(error)
+    }
+}
+
+impl From<DecodeError> for ExchangeError {
+    ghost from_gives = { λ e f. f ≡ Faults.Decode e };
+
+    fn from(error: DecodeError) -> ExchangeError {
+        ExchangeError::Decode(error)
+    }
+}
+
+/// What an older type's reader answers to a value that a newer type's writer writes, in the variant of a codec: the
+/// projection of its normal form (X.680, 52).
+pub fn read_by_older<New: Encode, Old: Decode>(
+    alloc: Global,
+    codec: Codec,
+    value: &New,
+) -> Result<Old, ExchangeError>
+    ensures { let newer = New.schema New.CONSTRAINTS in let older = Old.schema Old.CONSTRAINTS in
+        let v = New.value value.now in NewerType newer older →
+        Exchanges codec newer (New.levels value.now) v Old.value (IsReadByOlder newer older v) result }
+{
+    older_reader_answers_the_projection::<New, Old>();
+    let octets = encode(alloc, codec, value)?;
+    let answer: Old = decode(alloc, codec, &octets)?;
+    Ok(answer)
+}
+
+/// What a newer type's reader answers to a value that an older type's writer writes, in the variant of a codec: the
+/// widening of its normal form (X.680, 52).
+pub fn read_by_newer<New: Decode, Old: Encode>(
+    alloc: Global,
+    codec: Codec,
+    value: &Old,
+) -> Result<New, ExchangeError>
+    ensures { let newer = New.schema New.CONSTRAINTS in let older = Old.schema Old.CONSTRAINTS in
+        let v = Old.value value.now in NewerType newer older →
+        Exchanges codec older (Old.levels value.now) v New.value (IsReadByNewer newer older v) result }
+{
+    newer_reader_answers_the_widening::<New, Old>();
+    let octets = encode(alloc, codec, value)?;
+    let answer: New = decode(alloc, codec, &octets)?;
+    Ok(answer)
+}
+
+/// The canonical octets of a value, in the variant of a codec.
+fn encode<T: Encode>(alloc: Global, codec: Codec, value: &T) -> Result<Vec<u8>, EncodeError>
+    ensures { Encoded codec (T.schema T.CONSTRAINTS) (T.levels value.now) (T.value value.now) result }
+{
+    match codec {
+        Codec::Aper => aper::encode(alloc, value),
+        Codec::Uper => uper::encode(alloc, value),
+    }
+}
+
+/// The value that all octets spell, in the variant of a codec.
+fn decode<T: Decode>(alloc: Global, codec: Codec, octets: &[u8]) -> Result<T, DecodeError>
+    ensures { Decoded codec (T.schema T.CONSTRAINTS) T.value octets.now result }
+{
+    match codec {
+        Codec::Aper => aper::decode(alloc, octets),
+        Codec::Uper => uper::decode(alloc, octets),
+    }
+}
