@@ -1,0 +1,55 @@
+-- The texts of moments (ITU-T X.680, 46 and 47; X.690, 11.7 and 11.8).
+use Rattle.std.specs.Prelude.{◌≡◌, ℕ, ◌+◌, ◌/◌, ◌%◌, Bool, true, if◌then◌else◌, ◌&&◌, nat_le, ◌==◌, List, [], ◌∷◌, ◌++◌, ℤ, pos}
+use lib.Signed.{le_z}
+use Rattle.rasn_types.specs.Contents.{year_size, is_moment, two}
+use Rattle.jiff.specs.Types.{DateTime}
+
+-- the two last decimal digits of a number
+abbrev pub two_digits : ℕ → List ℕ
+two_digits n = (48 + n / 10 % 10) ∷ (48 + n % 10) ∷ []
+
+-- MMDDhhmmss: month, day, hour, minute and second
+abbrev pub month_to_second : DateTime → List ℕ
+month_to_second t = two_digits t.date.month ++ two_digits t.date.day ++ two_digits t.time.hour ++ two_digits t.time.minute ++ two_digits t.time.second
+
+-- X.680 47.3: whether a UTCTime can hold the moment: a whole second, of the years 1950 to 2049 (this project's choice)
+abbrev pub is_utc_moment : DateTime → Bool
+is_utc_moment t = (le_z (pos 1950) t.date.year && le_z t.date.year (pos 2049)) && t.time.subsec_nanosecond == 0
+
+-- YYMMDDhhmmssZ
+abbrev pub utc_characters : DateTime → List ℕ
+utc_characters t = two_digits (year_size t.date.year % 100) ++ month_to_second t ++ 90 ∷ []
+
+-- X.690 11.8: the text of a UTCTime, YYMMDDhhmmssZ; there is none where it can't hold the moment
+unfoldable pub utc_text : DateTime → List ℕ
+utc_text t = if is_utc_moment t then utc_characters t else []
+
+-- two moments are one
+pub record IsSameMoment (t u : DateTime) : Type 0 where
+  pub year_is : t.date.year ≡ u.date.year
+  pub month_is : t.date.month ≡ u.date.month
+  pub day_is : t.date.day ≡ u.date.day
+  pub hour_is : t.time.hour ≡ u.time.hour
+  pub minute_is : t.time.minute ≡ u.time.minute
+  pub second_is : t.time.second ≡ u.time.second
+  pub fraction_is : t.time.subsec_nanosecond ≡ u.time.subsec_nanosecond
+
+-- the moment is of this year, with the month to the second of MMDDhhmmss and this many nanoseconds
+pub record IsMomentOf (year : ℤ) (digits : List ℕ) (nanosecond : ℤ) (t : DateTime) : Type 0 where
+  pub moment : is_moment (year_size year) digits ≡ true
+  pub year_is : t.date.year ≡ year
+  pub month_is : t.date.month ≡ two 0 digits
+  pub day_is : t.date.day ≡ two 2 digits
+  pub hour_is : t.time.hour ≡ two 4 digits
+  pub minute_is : t.time.minute ≡ two 6 digits
+  pub second_is : t.time.second ≡ two 8 digits
+  pub fraction_is : pos t.time.subsec_nanosecond ≡ nanosecond
+
+-- the moment is that of a UTCTime with these digits
+pub record IsUtcMomentOf (digits : List ℕ) (t : DateTime) : Type 0 where
+  pub held : is_utc_moment t ≡ true
+  pub written : utc_text t ≡ digits ++ 90 ∷ []
+
+-- each moment that a UTCTime can hold has a text of its own
+abbrev pub EachUtcTimeHasOneText : Type 0
+EachUtcTimeHasOneText = (t u : DateTime) → is_utc_moment t ≡ true → is_utc_moment u ≡ true → utc_text t ≡ utc_text u → IsSameMoment t u

@@ -1,0 +1,11 @@
+//! The times of ASN.1 and their canonical texts: DATE, UTCTime and GeneralizedTime, as far as the packed encoding rules
+//! call them.
+#![tactic(auto)]
+
+pub mod date;
+pub mod error;
+pub mod laws;
+pub mod moment;
+#[cfg(test)]
+mod tests;
+pub mod utc_time;

@@ -1,0 +1,60 @@
+//! Outside vectors of what the clauses define, and each call once.
+
+use crate::date::{date_from_parts, date_to_parts};
+use crate::error::TimeError;
+use crate::utc_time::{
+    UtcTime, datetime_to_canonical_utc_time_bytes, parse_canonical_utc_time_string,
+};
+use jiff::civil::DateTime;
+use std::test::Fail;
+
+#[test]
+fn makes_dates(rt: HostRuntime) -> Result<(), Fail> {
+    let date = date_from_parts(2024, 2, 29)?;
+    assert_eq!(rt; date_to_parts(date), (2024, 2, 29));
+    assert!(rt; date_from_parts(2010, 2, 30) == Err(TimeError::InvalidDate));
+    assert!(rt; date_from_parts(10000, 1, 1) == Err(TimeError::InvalidDate));
+    Ok(())
+}
+
+/// The parts of moments and the texts of their UTCTime: X.690 11.8.3, and 2018-06-13 11:01:59.
+const ROWS: &[((i16, i8, i8), (i8, i8, i8), &str)] = &[
+    ((1992, 5, 21), (0, 0, 0), "920521000000Z"),
+    ((1992, 6, 22), (12, 34, 21), "920622123421Z"),
+    ((1992, 7, 22), (13, 21, 0), "920722132100Z"),
+    ((2018, 6, 13), (11, 1, 59), "180613110159Z"),
+];
+
+#[test]
+fn writes_and_reads_utc_times(rt: HostRuntime) -> Result<(), Fail> {
+    for ((year, month, day), (hour, minute, second), text) in ROWS {
+        let moment = DateTime::new(*year, *month, *day, *hour, *minute, *second, 0)?;
+        let written = datetime_to_canonical_utc_time_bytes(rt.alloc(), UtcTime::new(moment))?;
+        assert_eq!(rt; written.as_slice(), text.as_bytes());
+        let read = parse_canonical_utc_time_string(text.as_bytes())?;
+        assert!(rt; read.to_datetime() == moment);
+    }
+    Ok(())
+}
+
+/// Texts that are none of a UTCTime: X.690 11.8.3 and 11.8.4, and a second and a day that there aren't.
+const REFUSED: &[&str] = &[
+    "920520240000Z",
+    "9207221321Z",
+    "180613110159",
+    "180613110160Z",
+    "180230110159Z",
+    "",
+];
+
+#[test]
+fn refuses_other_texts(rt: HostRuntime) -> Result<(), Fail> {
+    for text in REFUSED {
+        let read = parse_canonical_utc_time_string(text.as_bytes());
+        assert!(rt; read == Err(TimeError::InvalidText), "{text}");
+    }
+    let moment = DateTime::new(2050, 1, 1, 0, 0, 0, 0)?;
+    let written = datetime_to_canonical_utc_time_bytes(rt.alloc(), UtcTime::new(moment));
+    assert!(rt; written == Err(TimeError::Unrepresentable));
+    Ok(())
+}
