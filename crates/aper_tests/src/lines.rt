@@ -4,19 +4,20 @@ use per_lines::run::run;
 use std::alloc::{AllocError, Global};
 use std::test::Fail;
 
-/// The status of a run on a line, what it printed, and what it said.
+/// The status of a run with these arguments behind the variant, what it printed, and what it said.
 fn run_on(
     alloc: Global,
-    type_name: &str,
-    mut line: &[u8],
+    arguments: &str,
+    mut input: &[u8],
 ) -> Result<(u8, Vec<u8>, Vec<u8>), AllocError> {
     let mut words = Vec::new(alloc);
-    for word in ["aper", type_name] {
+    words.push(String::from_str(alloc, "aper")?)?;
+    for word in arguments.split_ascii_whitespace() {
         words.push(String::from_str(alloc, word)?)?;
     }
     let (mut output, mut faults) = (Vec::new(alloc), Vec::new(alloc));
     let words = words.as_slice();
-    let status = run(alloc, words, &mut line, &mut output, &mut faults);
+    let status = run(alloc, words, &mut input, &mut output, &mut faults);
     Ok((status, output, faults))
 }
 
@@ -53,6 +54,21 @@ const PRINTED: &[(&str, &str, &str)] = &[
     ("onlyx", "03\n", "03\n"),
     // The last item of 256, from a boundary on.
     ("items", "80ff\n", "80ff\n"),
+    // The form `lines`.
+    (
+        "iext lines",
+        "20\n78\n2\n",
+        "20\n! ValueConstraintNotSatisfied\n! bad hexadecimal\n",
+    ),
+    (
+        "octets lines",
+        "c0\nc5\nff",
+        "! ParserFail\n! ParserFail\n! ParserFail\n",
+    ),
+    ("octets lines", "", ""),
+    // The form `as`: padding bits that are not zero are gone where the other type reads.
+    ("i65536 as i65536", "3ffd\n", "00fd\n"),
+    ("boolean as byte", "ff\n", "80\n"),
 ];
 
 /// A type, a line that is refused, and what is said.
@@ -63,6 +79,8 @@ const REFUSED: &[(&str, &str, &str)] = &[
     ("seven", "0000\n", "UnexpectedExtraData\n"),
     // 65537.
     ("i65536", "80010001\n", "ValueConstraintNotSatisfied\n"),
+    // 253 in the octets `00fd`, as a number of no octets.
+    ("i65536 as integer", "3ffd\n", "UnexpectedEmptyInput\n"),
     // The code 7, of five characters.
     ("five", "0807\n", "PermittedAlphabet\n"),
     // "abcd", as a count within the size.

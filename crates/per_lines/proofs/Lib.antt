@@ -1,1 +1,5 @@
+pub mod WordLaws
 pub mod AnswerLaws
+pub mod LineLaws
+pub mod ReplyLaws
+pub mod FormLaws

@@ -1,4 +1,5 @@
 pub mod Words
 pub mod Faults
 pub mod Recoding
+pub mod Lines
 pub mod Answers

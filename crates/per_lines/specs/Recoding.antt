@@ -1,5 +1,5 @@
 -- From the octets of a value to the canonical octets of the same value.
-use Rattle.std.specs.Prelude.{ℕ, ◌≢◌, List, [], ◌∷◌, Some, true, false, pos, negsuc}
+use Rattle.std.specs.Prelude.{ℕ, ◌≢◌, ◌⊎◌, List, [], ◌∷◌, Some, true, false, pos, negsuc}
 use Rattle.rasn_types.specs.Alphabets.{visible, from_to}
 use Rattle.rasn_types.specs.Variants.{Variant}
 use Rattle.rasn_types.specs.Values.{Value}
@@ -25,6 +25,8 @@ use Rattle.per_write.specs.declared.error.EncodeErrorKind.TheVariants as Encodin
 use Rattle.per_read.specs.declared.error.DecodeErrorKind.TheVariants as Decoding
 use Rattle.per_lines.specs.declared.arguments.TypeName.{TypeName}
 use Rattle.per_lines.specs.declared.arguments.TypeName.TheVariants.{Boolean, Null, Integer, UpTo65535, FromMinusOne, Natural, ZeroTo65536, OneToTenExtensible, Four, Seven, OneDefault, ShortVisible, LettersAToE, BitString, OctetString, OnlyX, Items, Byte, MaybeEmpty, Nested, Nest, Deep, Bytes, Nulls, NullList, Elements}
+use Rattle.per_lines.specs.declared.arguments.Form.{Form}
+use Rattle.per_lines.specs.declared.arguments.Form.TheVariants.{OneLine, Lines, As}
 use Rattle.per_lines.specs.declared.fault.Fault.{Fault}
 use Rattle.per_lines.specs.declared.fault.Fault.TheVariants as Faults
 
@@ -84,3 +86,17 @@ IsRefusal a schema octets (Faults.Decode kind) =
     (kind ≢ Decoding.OutOfMemory → AreUnread a schema octets) × IsInOctets a schema octets kind
 IsRefusal a schema octets (Faults.Encode kind) = kind ≢ Encoding.OutOfMemory → IsUnwritable a schema octets
 IsRefusal a schema octets _ = ⊥
+
+-- Octets are read by a type and written. Behind `as`, what was written is read by the other type and written.
+abbrev pub Converts : Variant → TypeName → Form → List ℕ → List ℕ → Type 0
+Converts a t OneLine octets canonical = Recodes a (schema_of t) octets canonical
+Converts a t Lines octets canonical = Recodes a (schema_of t) octets canonical
+Converts a t (As other) octets canonical =
+    (written : List ℕ) × Recodes a (schema_of t) octets written × Recodes a (schema_of other) written canonical
+
+-- why octets are not so converted: they are refused, or behind `as` what was written is
+abbrev pub IsUnconverted : Variant → TypeName → Form → List ℕ → Fault → Type 0
+IsUnconverted a t OneLine octets fault = IsRefusal a (schema_of t) octets fault
+IsUnconverted a t Lines octets fault = IsRefusal a (schema_of t) octets fault
+IsUnconverted a t (As other) octets fault = IsRefusal a (schema_of t) octets fault
+    ⊎ ((written : List ℕ) × Recodes a (schema_of t) octets written × IsRefusal a (schema_of other) written fault)

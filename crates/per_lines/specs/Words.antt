@@ -4,6 +4,8 @@ use Rattle.rasn_types.specs.declared.types.Codec.{Codec}
 use Rattle.rasn_types.specs.declared.types.Codec.TheVariants.{Aper, Uper}
 use Rattle.per_lines.specs.declared.arguments.TypeName.{TypeName}
 use Rattle.per_lines.specs.declared.arguments.TypeName.TheVariants.{Boolean, Null, Integer, UpTo65535, FromMinusOne, Natural, ZeroTo65536, OneToTenExtensible, Four, Seven, OneDefault, ShortVisible, LettersAToE, BitString, OctetString, OnlyX, Items, Byte, MaybeEmpty, Nested, Nest, Deep, Bytes, Nulls, NullList, Elements}
+use Rattle.per_lines.specs.declared.arguments.Form.{Form}
+use Rattle.per_lines.specs.declared.arguments.Form.TheVariants.{OneLine, Lines, As}
 use Rattle.per_lines.specs.declared.arguments.Arguments.{Arguments}
 
 -- words by their octets
@@ -42,6 +44,12 @@ type_word Nulls = codes "nulls"
 type_word NullList = codes "nulllist"
 type_word Elements = codes "elements"
 
--- a codec and a type
+-- nothing, `lines`, or `as` and another type
+abbrev pub form_words : Form → List (List ℕ)
+form_words OneLine = []
+form_words Lines = codes "lines" ∷ []
+form_words (As other) = codes "as" ∷ type_word other ∷ []
+
+-- a codec, a type and a form
 abbrev pub words_of : Arguments → List (List ℕ)
-words_of a = codec_word a.codec ∷ type_word a.type_name ∷ []
+words_of a = codec_word a.codec ∷ type_word a.type_name ∷ form_words a.form

@@ -1,9 +1,10 @@
 //! What the program is asked to do.
 
-ghost use Rattle.std.specs.Prelude.{◌≡◌, ◌≢◌, IfSome, IfNone, map, string_bytes};
+ghost use Rattle.std.specs.Prelude.{◌≡◌, ◌≢◌, [], ◌∷◌, IfSome, IfNone, map, string_bytes};
 ghost use Rattle.rasn_types.specs.declared.types.Codec.{Codec as a_codec};
-ghost use Rattle.per_lines.specs.Words.{codec_word, type_word, words_of};
+ghost use Rattle.per_lines.specs.Words.{codec_word, type_word, form_words, words_of};
 ghost use Rattle.per_lines.specs.declared.arguments.TypeName.{TypeName as a_name};
+ghost use Rattle.per_lines.specs.declared.arguments.Form.{Form as a_form};
 ghost use Rattle.per_lines.specs.declared.arguments.Arguments.{Arguments as the_arguments};
 
 use rasn_types::types::Codec;
@@ -66,6 +67,17 @@ pub enum TypeName {
     Elements,
 }
 
+/// How much is read, and what is printed.
+#[derive(Clone, Copy, Debug, PartialEq, Eq)]
+pub enum Form {
+    /// One line, and its canonical encoding.
+    OneLine,
+    /// `lines`: all lines, and for each its canonical encoding, or why it has none.
+    Lines,
+    /// `as TYPE`: one line, and the canonical encoding of what its own is read as by this other type.
+    As(TypeName),
+}
+
 /// What the program is asked to do.
 #[derive(Clone, Copy, Debug, PartialEq, Eq)]
 pub struct Arguments {
@@ -73,6 +85,8 @@ pub struct Arguments {
     pub codec: Codec,
     /// The type of the value.
     pub type_name: TypeName,
+    /// How much is read, and what is printed.
+    pub form: Form,
 }
 
 /// The codec that a word names.
@@ -125,18 +139,56 @@ impl TypeName {
     }
 }
 
+impl Form {
+    /// The form that the words after the type name.
+    fn of_words(words: &[String]) -> Option<Form>
+        ensures named { IfSome result (λ f. map string_bytes words.now ≡ form_words f) }
+        ensures unknown { IfNone result ((f : a_form) → map string_bytes words.now ≢ form_words f) }
+    {
+        match words {
+            [] => Some(Form::OneLine),
+            [word] => Form::of_word(word.as_str()),
+            [word, other] => Form::of_two_words(word.as_str(), other.as_str()),
+            _ => None,
+        }
+    }
+
+    /// The form that one word names.
+    fn of_word(word: &str) -> Option<Form>
+        ensures named { IfSome result (λ f. word.now ∷ [] ≡ form_words f) }
+        ensures unknown { IfNone result ((f : a_form) → word.now ∷ [] ≢ form_words f) }
+    {
+        match word {
+            "lines" => Some(Form::Lines),
+            _ => None,
+        }
+    }
+
+    /// The form that two words name.
+    fn of_two_words(word: &str, other: &str) -> Option<Form>
+        ensures named { IfSome result (λ f. word.now ∷ other.now ∷ [] ≡ form_words f) }
+        ensures unknown { IfNone result ((f : a_form) → word.now ∷ other.now ∷ [] ≢ form_words f) }
+    {
+        match word {
+            "as" => Some(Form::As(TypeName::of_word(other)?)),
+            _ => None,
+        }
+    }
+}
+
 impl Arguments {
-    /// The arguments that the words after the program's name spell: a codec and a type.
+    /// The arguments that the words after the program's name spell: a codec, a type and a form.
     pub fn of_words(words: &[String]) -> Option<Arguments>
         ensures spelled { IfSome result (λ a. map string_bytes words.now ≡ words_of a) }
         ensures unknown { IfNone result ((a : the_arguments) → map string_bytes words.now ≢ words_of a) }
     {
-        let [codec, type_name] = words else {
+        let [codec, type_name, form @ ..] = words else {
             return None;
         };
         Some(Arguments {
             codec: codec_of_word(codec.as_str())?,
             type_name: TypeName::of_word(type_name.as_str())?,
+            form: Form::of_words(form)?,
         })
     }
 }

@@ -16,7 +16,7 @@ use std::io::{ErrorKind, Write};
 /// Why the program prints no encoding. All but the last come in the order in which they are found.
 #[derive(Clone, Copy, Debug, PartialEq)]
 pub enum Fault {
-    /// The words are not a variant and a type that the program knows.
+    /// The words are not a variant, a type and a form that the program knows.
     WrongArguments,
     /// The input can't be read.
     CannotRead,
@@ -48,7 +48,7 @@ impl Fault {
         ensures { result.now ≡ text_of self.now }
     {
         match self {
-            Fault::WrongArguments => "usage: per_check (aper|uper) TYPE",
+            Fault::WrongArguments => "usage: per_check (aper|uper) TYPE [lines | as TYPE]",
             Fault::CannotRead => "cannot read input",
             Fault::BadHexadecimal => "bad hexadecimal",
             Fault::Decode(kind) => kind.name(),

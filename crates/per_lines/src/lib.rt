@@ -1,8 +1,11 @@
 //! Lines in, answers out: a value of a type is read in hexadecimal, and its canonical encoding (X.691) is printed.
 #![tactic(auto)]
 
+pub mod answer;
 pub mod arguments;
 pub mod fault;
 mod line;
+mod output;
 mod recode;
+pub mod replies;
 pub mod run;

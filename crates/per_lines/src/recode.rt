@@ -3,9 +3,9 @@
 ghost use Rattle.std.specs.Prelude.{◌≡◌, IfOk, IfErr};
 ghost use Rattle.rasn_types.specs.Codecs.{variant_of};
 ghost use Rattle.rasn_per.specs.Calls.{Encoded, Decoded};
-ghost use Rattle.per_lines.specs.Recoding.{Recodes, IsRefusal, schema_of};
+ghost use Rattle.per_lines.specs.Recoding.{Recodes, IsRefusal, Converts, IsUnconverted, schema_of};
 
-use crate::arguments::{Arguments, TypeName};
+use crate::arguments::{Arguments, Form, TypeName};
 use crate::fault::Fault;
 use per_de::DecodeError;
 use per_enc::EncodeError;
@@ -31,16 +31,33 @@ use rasn_types::octet_strings::OctetString;
 use rasn_types::types::Codec;
 use std::alloc::Global;
 
-/// The canonical octets of the value that octets spell, of the type and in the variant that the arguments name.
-#[tactic(auto, unfolding(rasn_types::specs::Alphabets::interval_of))]
-pub fn recoded(alloc: Global, arguments: Arguments, octets: &[u8]) -> Result<Vec<u8>, Fault>
-    ensures ok { IfOk result (λ canonical.
-        Recodes (variant_of arguments.codec) (schema_of arguments.type_name) octets.now canonical.items) }
-    ensures err { IfErr result (λ f.
-        IsRefusal (variant_of arguments.codec) (schema_of arguments.type_name) octets.now f) }
+/// The canonical octets that octets are converted to, as the arguments say.
+pub fn converted(alloc: Global, arguments: Arguments, octets: &[u8]) -> Result<Vec<u8>, Fault>
+    ensures ok { IfOk result (λ canonical. Converts
+        (variant_of arguments.codec) arguments.type_name arguments.form octets.now canonical.items) }
+    ensures err { IfErr result (λ f. IsUnconverted
+        (variant_of arguments.codec) arguments.type_name arguments.form octets.now f) }
 {
-    let codec = arguments.codec;
-    match arguments.type_name {
+    let written = recoded(alloc, arguments.codec, arguments.type_name, octets)?;
+    match arguments.form {
+        Form::OneLine | Form::Lines => Ok(written),
+        Form::As(other) => recoded(alloc, arguments.codec, other, written.as_slice()),
+    }
+}
+
+/// The canonical octets of the value that octets spell, of a type and in the variant of a codec.
+#[tactic(auto, unfolding(rasn_types::specs::Alphabets::interval_of))]
+fn recoded(
+    alloc: Global,
+    codec: Codec,
+    type_name: TypeName,
+    octets: &[u8],
+) -> Result<Vec<u8>, Fault>
+    ensures ok { IfOk result (λ canonical.
+        Recodes (variant_of codec) (schema_of type_name) octets.now canonical.items) }
+    ensures err { IfErr result (λ f. IsRefusal (variant_of codec) (schema_of type_name) octets.now f) }
+{
+    match type_name {
         TypeName::Boolean => recoded_as::<bool>(alloc, codec, octets),
         TypeName::Null => recoded_as::<()>(alloc, codec, octets),
         TypeName::Integer => recoded_as::<Integer>(alloc, codec, octets),

@@ -7,11 +7,11 @@ use std::io::{BufRead, BufReader, ErrorKind, Read};
 use std::process::Abort;
 use std::test::Fail;
 
-const USAGE: &str = "usage: per_check (aper|uper) TYPE\n";
+const USAGE: &str = "usage: per_check (aper|uper) TYPE [lines | as TYPE]\n";
 
 /// What a run answered and wrote.
 #[derive(Drop)]
-struct Ran {
+pub(crate) struct Ran {
     status: u8,
     output: Vec<u8>,
     faults: Vec<u8>,
@@ -19,9 +19,9 @@ struct Ran {
 
 /// Gives the first octets of `text`, and then fails.
 #[derive(Drop)]
-struct BrokenReader {
-    text: &'static [u8],
-    kind: ErrorKind,
+pub(crate) struct BrokenReader {
+    pub(crate) text: &'static [u8],
+    pub(crate) kind: ErrorKind,
 }
 
 impl Read for BrokenReader {
@@ -39,9 +39,9 @@ impl Read for BrokenReader {
 
 /// Takes `room` octets, and then fails.
 #[derive(Drop)]
-struct BrokenWriter {
-    room: usize,
-    kind: ErrorKind,
+pub(crate) struct BrokenWriter {
+    pub(crate) room: usize,
+    pub(crate) kind: ErrorKind,
 }
 
 impl io::Write for BrokenWriter {
@@ -87,7 +87,7 @@ impl io::Write for FullWriter {
     }
 }
 
-fn words(alloc: Global, text: &str) -> Result<Vec<String>, AllocError> {
+pub(crate) fn words(alloc: Global, text: &str) -> Result<Vec<String>, AllocError> {
     let mut words = Vec::new(alloc);
     for word in text.split_ascii_whitespace() {
         words.push(String::from_str(alloc, word)?)?;
@@ -95,7 +95,7 @@ fn words(alloc: Global, text: &str) -> Result<Vec<String>, AllocError> {
     Ok(words)
 }
 
-fn run_on(alloc: Global, arguments: &str, mut input: &[u8]) -> Result<Ran, AllocError> {
+pub(crate) fn run_on(alloc: Global, arguments: &str, mut input: &[u8]) -> Result<Ran, AllocError> {
     let arguments = words(alloc, arguments)?;
     let mut output = Vec::new(alloc);
     let mut faults = Vec::new(alloc);
@@ -113,7 +113,7 @@ fn run_on(alloc: Global, arguments: &str, mut input: &[u8]) -> Result<Ran, Alloc
     })
 }
 
-fn assert_ran(rt: &impl Abort, ran: &Ran, status: u8, output: &str, faults: &str) {
+pub(crate) fn assert_ran(rt: &impl Abort, ran: &Ran, status: u8, output: &str, faults: &str) {
     assert_eq!(rt; ran.output.as_slice(), output.as_bytes());
     assert_eq!(rt; ran.faults.as_slice(), faults.as_bytes());
     assert_eq!(rt; ran.status, status);
@@ -384,6 +384,15 @@ const WRONG_ARGUMENTS: &[&str] = &[
     "uper",
     "integer",
     "uper integer integer",
+    "uper lines",
+    "uper lines integer",
+    "uper integer Lines",
+    "uper integer lines lines",
+    "uper integer lines as integer",
+    "uper integer as",
+    "uper integer as real",
+    "uper integer as lines",
+    "uper integer as integer integer",
     "integer uper",
     "per integer",
     "UPER integer",

@@ -1,0 +1,144 @@
+-- The replies to the lines of an input, one by one.
+use Rattle.std.proofs.Common.{◌≡◌, refl, sym, ap, ◌∙◌, subst, ℕ, ◌+◌, ◌-◌, List, [], ◌∷◌, ◌++◌, length, Option, Some, None, IfSome, Bool, true, false, append_assoc, append-nil, map, arith, rules}
+use Rattle.std.specs.Prelude.{◌≢◌, ◌==◌, ◌⊎◌, IsSomeAnd, slice_index, if◌then◌else◌}
+use Rattle.std.specs.Io.BufRead.{first_piece, strip_last, take_through, drop_through, ends_with_byte}
+use Rattle.std.specs.Io.KnownBytes.{Appends, Keeps, IsAtEnd, prepend_known}
+use Rattle.std.specs.Io.Buffered.{reader_inner, reader_buffer, reader_capacity, reader_remaining}
+use Rattle.std.specs.declared.io.buffered.BufReader.{BufReader}
+use Rattle.per_lines.specs.declared.arguments.Arguments.{Arguments}
+use Rattle.per_lines.specs.declared.fault.Fault.{Fault}
+use Rattle.per_lines.specs.declared.fault.Fault.TheVariants.{WrongArguments, CannotRead, BadHexadecimal, Decode, Encode, CannotWrite, OutOfMemory}
+use Rattle.per_lines.specs.Lines.{lines_of, TakesLine}
+use Rattle.per_lines.proofs.LineLaws.{lines-cons}
+use Rattle.per_lines.specs.Answers.{IsReply, AreReplies, PrintsReplies, PrintsNext, TakesTurn, EndsTurn, EndsReplies}
+
+-- one reply more
+replies-more : (a : Arguments) (lines : List (List ℕ)) (octets line text : List ℕ) →
+    AreReplies a lines octets → IsReply a line text → AreReplies a (lines ++ line ∷ []) (octets ++ text)
+replies-more a [] octets line text e r = (text, [], r, refl, rw e (sym (append-nil text)))
+replies-more a (first ∷ lines) octets line text (t, rest, r0, more, e) r =
+    (t, rest ++ text, r0, replies-more a lines rest line text more r, ap (λ z. z ++ text) e ∙ append_assoc t rest text)
+
+-- the replies to the first lines of an input are printed, and this is left of it
+pub record HasReplied (a : Arguments) (input rest before now : Option (List ℕ)) : Type 0 where
+  pub lines : List (List ℕ)
+  pub texts : List ℕ
+  pub first : IfSome input (λ octets. IsSomeAnd rest (λ left. lines_of octets ≡ lines ++ lines_of left))
+  pub are_replies : AreReplies a lines texts
+  pub printed : Appends before now texts
+
+appends-none : (known : Option (List ℕ)) → Appends known known []
+appends-none None = tt
+appends-none (Some xs) = sym (append-nil xs)
+
+appends-kept : (before now after : Option (List ℕ)) (bs : List ℕ) → Appends before now bs → Keeps now after → Appends before after bs
+appends-kept None now after bs x k = tt
+appends-kept (Some xs) None after bs x k = elim x [ ]
+appends-kept (Some xs) (Some ys) None bs x k = elim k [ ]
+appends-kept (Some xs) (Some ys) (Some zs) bs x k = k ∙ x
+
+appends-more : (before now after : Option (List ℕ)) (bs cs : List ℕ) →
+    Appends before now bs → Appends now after cs → Appends before after (bs ++ cs)
+appends-more None now after bs cs x y = tt
+appends-more (Some xs) None after bs cs x y = elim x [ ]
+appends-more (Some xs) (Some ys) None bs cs x y = elim y [ ]
+appends-more (Some xs) (Some ys) (Some zs) bs cs x y = y ∙ ap (λ u. u ++ cs) x ∙ append_assoc xs bs cs
+
+first-all : (input : Option (List ℕ)) → IfSome input (λ octets. IsSomeAnd input (λ left. lines_of octets ≡ lines_of left))
+first-all None = tt
+first-all (Some octets) = refl
+
+pub replied-none : (a : Arguments) (input before : Option (List ℕ)) → HasReplied a input input before before
+replied-none a input before = record {
+  lines = [];
+  texts = [];
+  first = first-all input;
+  are_replies = refl;
+  printed = appends-none before;
+}
+
+first-more : (input rest left : Option (List ℕ)) (lines : List (List ℕ)) (line : List ℕ) →
+    IfSome input (λ octets. IsSomeAnd rest (λ others. lines_of octets ≡ lines ++ lines_of others)) →
+    TakesLine rest left line →
+    IfSome input (λ octets. IsSomeAnd left (λ others. lines_of octets ≡ (lines ++ line ∷ []) ++ lines_of others))
+first-more None rest left lines line x y = tt
+first-more (Some octets) None left lines line x y = elim x [ ]
+first-more (Some octets) (Some rest) left lines line x y = rw y.left
+    (x ∙ ap (λ u. lines ++ u) (lines-cons rest y.some ∙ ap (λ u. u ∷ lines_of (drop_through 10 rest)) (sym y.is_line))
+    ∙ sym (append_assoc lines (line ∷ []) (lines_of (drop_through 10 rest))))
+
+pub replied-more : (a : Arguments) (input rest left before now after : Option (List ℕ)) →
+    HasReplied a input rest before now → PrintsNext a rest left now after → HasReplied a input left before after
+replied-more a input rest left before now after x y = record {
+  lines = x.lines ++ y.line ∷ [];
+  texts = x.texts ++ y.text;
+  first = first-more input rest left x.lines y.line x.first y.takes;
+  are_replies = replies-more a x.lines x.texts y.line y.text x.are_replies y.is_reply;
+  printed = appends-more before now after x.texts y.text x.printed y.printed;
+}
+
+first-end : (input rest : Option (List ℕ)) (lines : List (List ℕ)) →
+    IfSome input (λ octets. IsSomeAnd rest (λ others. lines_of octets ≡ lines ++ lines_of others)) →
+    IsAtEnd rest → IfSome input (λ octets. lines_of octets ≡ lines ++ [])
+first-end None rest lines x e = tt
+first-end (Some octets) None lines x e = elim x [ ]
+first-end (Some octets) (Some rest) lines x e = x ∙ ap (λ u. lines ++ lines_of u) e
+
+pub replied-all : (a : Arguments) (input rest before now after : Option (List ℕ)) →
+    HasReplied a input rest before now → IsAtEnd rest → Keeps now after → PrintsReplies a input [] before after
+replied-all a input rest before now after x e k = record {
+  lines = x.lines;
+  texts = x.texts;
+  first = first-end input rest x.lines x.first e;
+  are_replies = x.are_replies;
+  printed = appends-kept before now after x.texts x.printed k;
+}
+
+-- the lines that are left
+abbrev pub left_lines : Option (List ℕ) → List (List ℕ)
+left_lines None = []
+left_lines (Some octets) = lines_of octets
+
+first-some : (input rest : Option (List ℕ)) (lines : List (List ℕ)) →
+    IfSome input (λ octets. IsSomeAnd rest (λ others. lines_of octets ≡ lines ++ lines_of others)) →
+    IfSome input (λ octets. lines_of octets ≡ lines ++ left_lines rest)
+first-some None rest lines x = tt
+first-some (Some octets) None lines x = elim x [ ]
+first-some (Some octets) (Some rest) lines x = x
+
+pub replied-some : (a : Arguments) (input rest before now after : Option (List ℕ)) →
+    HasReplied a input rest before now → Keeps now after → PrintsReplies a input (left_lines rest) before after
+replied-some a input rest before now after x k = record {
+  lines = x.lines;
+  texts = x.texts;
+  first = first-some input rest x.lines x.first;
+  are_replies = x.are_replies;
+  printed = appends-kept before now after x.texts x.printed k;
+}
+
+-- a turn that fails ends the replies
+pub ends_turn : (a : Arguments) (input rest before now after : Option (List ℕ)) (fault : Fault) →
+    HasReplied a input rest before now → EndsTurn now after fault → EndsReplies a input before after fault
+ends_turn a input rest before now after WrongArguments x k = elim k [ ]
+ends_turn a input rest before now after BadHexadecimal x k = elim k [ ]
+ends_turn a input rest before now after (Decode _) x k = elim k [ ]
+ends_turn a input rest before now after (Encode _) x k = elim k [ ]
+ends_turn a input rest before now after CannotRead x k = (left_lines rest, replied-some a input rest before now after x k)
+ends_turn a input rest before now after CannotWrite x k = tt
+ends_turn a input rest before now after OutOfMemory x k = tt
+
+-- known octets are as they were
+pub keeps-same : (known : Option (List ℕ)) → Keeps known known
+keeps-same None = tt
+keeps-same (Some xs) = refl
+
+prepend_none : (known : Option (List ℕ)) → prepend_known [] known ≡ known
+prepend_none None = refl
+prepend_none (Some xs) = refl
+
+-- a buffer in front of a reader, with nothing in it
+pub read_from_start : {T A : Type 0} (remaining : T → Option (List ℕ)) (reader : BufReader T A) (inner : T) →
+    reader_inner reader ≡ inner → reader_buffer reader ≡ [] → reader_capacity reader ≡ 8192 →
+    reader_remaining remaining reader ≡ remaining inner
+read_from_start remaining reader inner i b c =
+    rw (c, b) (prepend_none (remaining (reader_inner reader)) ∙ ap remaining i)

@@ -1,0 +1,42 @@
+//! The answer to a line, and the reply to it.
+
+ghost use Rattle.std.specs.Prelude.{◌≡◌, ◌⊎◌, IfOk, IfErr, string_bytes};
+ghost use Rattle.per_lines.specs.Answers.{IsAnswer, IsUnanswered, IsReply, refusal_of};
+ghost use Rattle.per_lines.specs.declared.fault.Fault.TheVariants.{OutOfMemory};
+
+use crate::arguments::Arguments;
+use crate::fault::Fault;
+use crate::recode::converted;
+use std::alloc::{AllocError, Global};
+
+/// The canonical encoding that a line of hexadecimal is converted to, in lower case and with a line feed.
+pub fn answer(alloc: Global, arguments: Arguments, line: Vec<u8>) -> Result<String, Fault>
+    ensures ok { IfOk result (λ text. IsAnswer arguments line.items (string_bytes text)) }
+    ensures err { IfErr result (λ f. IsUnanswered arguments line.items f ⊎ (f ≡ OutOfMemory)) }
+{
+    let octets = hex::decode(alloc, line.as_slice())?;
+    drop(line);
+    let canonical = converted(alloc, arguments, octets.as_slice())?;
+    let mut text = hex::encode(alloc, canonical.as_slice())?;
+    text.push('\n')?;
+    Ok(text)
+}
+
+/// The reply to a line: its answer, or `! ` and why it has none, and a line feed.
+pub fn reply(alloc: Global, arguments: Arguments, line: Vec<u8>) -> Result<String, Fault>
+    ensures ok { IfOk result (λ text. IsReply arguments line.items (string_bytes text)) }
+    ensures err { IfErr result (λ f. f ≡ OutOfMemory) }
+{
+    match answer(alloc, arguments, line) {
+        Ok(text) => Ok(text),
+        Err(Fault::OutOfMemory) => Err(Fault::OutOfMemory),
+        Err(fault) => Ok(refusal(alloc, fault)?),
+    }
+}
+
+/// Why a line has no answer, behind `! ` and with a line feed.
+fn refusal(alloc: Global, fault: Fault) -> Result<String, AllocError>
+    ensures { IfOk result (λ text. string_bytes text ≡ refusal_of fault) }
+{
+    format!(in alloc; "! {}\n", fault.text())
+}
