@@ -18,6 +18,16 @@ def rlib_of(crate):
     return f"{folder_of(crate)}/out/rlib/{crate}.rlib"
 
 
+def functions_in(crate):
+    """Returns the functions of a built library, by the names that the prover prints, or none where its rlib doesn't list them."""
+    file = f"{rlib_of(crate)}/toolchain/checked.json"
+    if not os.path.isfile(file):
+        return []
+    with open(file, encoding="utf-8") as it:
+        found = re.findall(rf'"part/Rattle-{crate}-proofs\.([^"]*)\.Code"', it.read())
+    return [f"{crate}::{it.replace('.', '::')}" for it in found]
+
+
 def read_crates():
     """Returns the crates of crates.txt with the libraries that each names."""
     crates = {}
