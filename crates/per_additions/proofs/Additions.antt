@@ -8,7 +8,7 @@ use Rattle.per_core.specs.Spellings.{Settings, Spelling, When, exactly}
 use Rattle.per_core.specs.Took.{Took}
 use Rattle.per_core.proofs.Took.{nothing_took, then_took, took_map, took_nothing, took_then}
 use Rattle.per_read.proofs.Fields.{when_took}
-use Rattle.per_additions.specs.Additions.{Addition, NextFlag}
+use Rattle.per_additions.specs.Additions.{Addition, FirstAddition, NextFlag}
 
 -- what is left out takes nothing
 left_out : {A : Type 0} {g : Spelling} {b m t : Bits} → Took (When A (exactly [])) b m → Took g m t → Took (When A g) b t
@@ -17,15 +17,6 @@ left_out {A} {g} {t = t} x y =
 
 nothing_there : {A : Type 0} (b : Bits) → A → Took (When A (exactly [])) b b
 nothing_there b h = took_map (λ p c z. (h, z)) (took_nothing b)
-
--- the first addition and those behind it
-pub record FirstAddition (a : Settings) (r : Rule) (rs : List Rule) (xs : List (Option Value)) (flag : Option Bool) (rest : List Bool) (b t : Bits) : Type 0 where
-  pub first : Option Value
-  pub others : List (Option Value)
-  pub middle : Bits
-  pub are : xs ≡ first ∷ others
-  pub here : Took (Addition a r first flag) b middle
-  pub behind : Took (Additions a rs others rest) middle t
 
 module _ (a : Settings) (r : Rule) (rs : List Rule) where
   -- what is read of the first addition, and of the others

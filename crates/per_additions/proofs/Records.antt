@@ -8,15 +8,7 @@ use Rattle.per_core.specs.Took.{Took}
 use Rattle.per_core.proofs.Took.{then_took, took_bit, took_map, took_then}
 use Rattle.per_read.proofs.Fields.{either_took}
 use Rattle.per_read.proofs.Marked.{bit_behind}
-
--- behind an extension bit 1
-pub record IsExtended (a : Settings) (rs adds : List Rule) (ss xs : List (Option Value)) (s t : Bits) : Type 0 where
-  pub flags : List Bool
-  pub middle : Bits
-  pub behind : Bits
-  pub root : Took (Root rs ss) s middle
-  pub bitmap : Took (IsBitmap a flags) middle behind
-  pub additions : Took (Additions a adds xs flags) behind t
+use Rattle.per_additions.specs.Additions.{IsExtended, IsPlain}
 
 module _ (a : Settings) (rs adds : List Rule) (ss xs : List (Option Value)) {s t : Bits} where
   -- behind a bit 0 no addition is present
@@ -29,12 +21,12 @@ module _ (a : Settings) (rs adds : List Rule) (ss xs : List (Option Value)) {s t
   extended_took flags r b x = took_map (λ p c y. inr (record { flags = flags; spelled = y })) (took_then (took_bit true s) (took_then r (took_then b x)))
 
   -- and back
-  pub took_plain : Took (Fields a true rs adds ss xs) (false ∷ s) t → (m : Bits) × Took (Root rs ss) s m × Took (Additions a adds xs []) m t
+  pub took_plain : Took (Fields a true rs adds ss xs) (false ∷ s) t → IsPlain a rs adds ss xs s t
   took_plain b = go (either_took b)
     where
       go : Took (Then (exactly (false ∷ [])) (Then (Root rs ss) (Additions a adds xs []))) (false ∷ s) t ⊎ Took (Extended a rs adds ss xs) (false ∷ s) t
-          → (m : Bits) × Took (Root rs ss) s m × Took (Additions a adds xs []) m t
-      go (inl y) = then_took (bit_behind false false refl t y).1
+          → IsPlain a rs adds ss xs s t
+      go (inl y) = let q = then_took (bit_behind false false refl t y).1 in record { middle = q.0; root = q.1; additions = q.2 }
       go (inr y) =
           let e = (bit_behind false true refl t (record { front = y.front; joins = y.joins; spelled = y.spelled.spelled })).0 in absurd (cc)
 

@@ -1,8 +1,9 @@
 -- How the contents of an open type end (X.691 11.1, 11.2).
-use Rattle.std.specs.Prelude.{◌≡◌, ℕ, Result, OnOk, IfErr}
-use Rattle.rasn_types.specs.Bits.{Bits}
+use Rattle.std.specs.Prelude.{◌≡◌, ℕ, List, length, Result, OnOk, IfErr}
+use Rattle.rasn_types.specs.Bits.{Bits, unpack}
 use Rattle.per_core.specs.Ends.{Ends, IsWhy}
-use Rattle.per_core.specs.Spellings.{Settings, ZeroIf}
+use Rattle.per_core.specs.Spellings.{Settings, Spelling, ZeroIf}
+use Rattle.per_core.specs.Took.{Took}
 use Rattle.per_core.specs.declared.ended.Surplus.{Surplus}
 use Rattle.per_core.specs.declared.ended.Surplus.TheVariants.{Missing, NonzeroOctet, ExtraOctets}
 use Rattle.per_read.specs.State.{State, settings_of}
@@ -14,6 +15,12 @@ use Rattle.per_read.specs.declared.error.ParserFailCause.TheVariants.{NonzeroEmp
 pub record EndsAs (a : Settings) (left : Bits) (n : ℕ) : Type 0 where
   pub ends : Ends left n
   pub zeros : ZeroIf a.strict left
+
+-- X.691 11.1: what has a spelling is read of octets, and what is left of them ends a complete encoding
+pub record IsWhole (a : Settings) (f : Spelling) (octets : List ℕ) : Type 0 where
+  pub left : Bits
+  pub took : Took f (unpack octets) left
+  pub ends : EndsAs a left (length (unpack octets))
 
 -- the kind of a refusal that says why
 abbrev pub kind_of : Surplus → DecodeErrorKind

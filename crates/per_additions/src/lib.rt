@@ -5,6 +5,7 @@
 ghost use Rattle.std.specs.Prelude.{◌≡◌};
 
 pub mod bitmaps;
+pub mod laws;
 pub mod open_types;
 
 use per_read::Reader;
