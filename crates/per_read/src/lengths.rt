@@ -11,7 +11,7 @@ use rasn_types::types::Codec;
 
 /// How many items follow a length.
 #[derive(Clone, Copy)]
-pub(crate) enum Length {
+pub enum Length {
     /// The last items.
     Last(u128),
     /// 16384, 32768, 49152 or 65536 items, which a further length follows.
@@ -20,7 +20,7 @@ pub(crate) enum Length {
 
 impl Length {
     /// How many items follow.
-    pub(crate) fn count(self) -> u128
+    pub fn count(self) -> u128
         ensures { result ≡ count_of self }
     {
         match self {
@@ -29,7 +29,7 @@ impl Length {
     }
 
     /// Whether a further length stands behind them.
-    pub(crate) fn is_followed(self) -> bool
+    pub fn is_followed(self) -> bool
         ensures { result ≡ is_followed self }
     {
         matches!(self, Length::Fragment(_))
@@ -54,7 +54,7 @@ impl Reader<'_> {
     }
 
     /// Takes how many items follow, which begins on an octet in the aligned variant (X.691 11.9.3.5 to 11.9.3.8).
-    pub(crate) fn take_unconstrained_length(&mut self) -> Result<Length, DecodeErrorKind>
+    pub fn take_unconstrained_length(&mut self) -> Result<Length, DecodeErrorKind>
         ensures { Takes tested LengthOf itself self.old result self.new }
     {
         self.take_padding()?;

@@ -13,7 +13,7 @@ pub mod error;
 mod in_place;
 mod integers;
 mod items;
-mod lengths;
+pub mod lengths;
 pub mod lists;
 mod numbers;
 mod sizes;
@@ -37,7 +37,7 @@ pub struct ReaderOptions {
 
 /// Takes numbers, lengths and strings, one after another, off the front of bits. After an error it has taken some of
 /// them, and is of no further use.
-#[derive(Drop)]
+#[derive(Clone, Drop)]
 pub struct Reader<'input> {
     bits: BitReader<'input>,
     options: ReaderOptions,
@@ -98,7 +98,7 @@ impl<'input> Reader<'input> {
     }
 
     /// Takes the next `width` bits, highest first: the number that they mean (X.691 11.3).
-    fn take_bits(&mut self, width: u128) -> Result<u128, DecodeErrorKind>
+    pub fn take_bits(&mut self, width: u128) -> Result<u128, DecodeErrorKind>
         requires { width ≤ 128 }
         ensures { Takes short (λ a. Field width) itself self.old result self.new }
     {

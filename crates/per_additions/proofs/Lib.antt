@@ -1,0 +1,9 @@
+pub mod Additions
+pub mod Filled
+pub mod Opened
+pub mod Records
+pub mod Rows
+pub mod Pieces
+pub mod Maps
+pub mod Skipped
+pub mod Turns

@@ -1,0 +1,55 @@
+-- Octets and bits that are taken as a row of bits.
+use Rattle.std.proofs.Common.{◌≡◌, ◌<◌, ◌≤◌, ◌⊎◌, inl, inr, refl, sym, ap, ◌∙◌, ℕ, zero, suc, ◌*◌, false, [], ◌∷◌, ◌++◌, length, take, drop, replicate, length-take, length-drop, length-append, arith}
+use Rattle.std.proofs.lemmas.Bool.{cases_lt}
+use Rattle.std.proofs.lemmas.List.{take-append-drop, take-append-le}
+use Rattle.rasn_types.specs.Bits.{Bits, number_of, pack}
+use Rattle.per_core.specs.Basic.{OneByOne, bit, octet}
+use Rattle.per_core.specs.Took.{Took, place}
+use Rattle.per_core.specs.Writers.{after}
+use Rattle.per_read.specs.Kinds.{NoneIn}
+use Rattle.per_read.specs.Takes.{Row}
+
+-- a row that was taken
+pub row_took : {n : ℕ} {bits s t : Bits} → Took (Row n bits) s t → (length bits ≡ n) × (s ≡ bits ++ t)
+row_took {t = t} a = (a.spelled.0, a.joins ∙ ap (λ z. z ++ t) a.spelled.1)
+
+-- one that isn't there
+pub no_row : {n : ℕ} {s : Bits} → NoneIn (Row n) s → length s < n
+no_row {n} {s} none = go (cases_lt (length s) n)
+  where
+    go : (length s < n) ⊎ (n ≤ length s) → length s < n
+    go (inl h) = h
+    go (inr h) = absurd (none (take n s) (drop n s) (record {
+      front = take n s;
+      joins = sym (take-append-drop n s);
+      spelled = (length-take n s ∙ omega arith, refl);
+    }))
+
+pub no_row_in : {n : ℕ} {s : Bits} → length s < n → NoneIn (Row n) s
+no_row_in {n} {s} h bits t b = let r = row_took b in omega (arith, r.0, ap length r.1, length-append bits t)
+
+-- whole octets, one after another
+octets_in_row : (n : ℕ) (bits : Bits) → length bits ≡ 8 * n → (p : ℕ) → OneByOne octet (pack n bits) p bits
+octets_in_row zero [] l p = refl
+octets_in_row zero (b ∷ bits) l p = absurd (omega arith)
+octets_in_row (suc n) bits l p = record {
+  front = take 8 bits;
+  rest = drop 8 bits;
+  is_front = record {
+    wide = length-take 8 bits ∙ omega arith;
+    means = ap number_of (sym (take-append-le 8 bits (replicate 8 false) (omega arith)));
+  };
+  is_rest = octets_in_row n (drop 8 bits) (length-drop 8 bits ∙ omega arith) (after p (take 8 bits));
+  joins = sym (take-append-drop 8 bits);
+}
+
+pub octets_took : (n : ℕ) (bits : Bits) {s t : Bits} → Took (Row (8 * n) bits) s t → Took (OneByOne octet (pack n bits)) s t
+octets_took n bits {s} {t} a = let r = row_took a in record { front = bits; joins = r.1; spelled = octets_in_row n bits r.0 (place s) }
+
+-- bits, one after another
+bits_in_row : (bits : Bits) (p : ℕ) → OneByOne bit bits p bits
+bits_in_row [] p = refl
+bits_in_row (b ∷ bits) p = record { front = b ∷ []; rest = bits; is_front = refl; is_rest = bits_in_row bits (after p (b ∷ [])); joins = refl }
+
+pub bits_took : (n : ℕ) (bits : Bits) {s t : Bits} → Took (Row n bits) s t → Took (OneByOne bit bits) s t
+bits_took n bits {s} {t} a = let r = row_took a in record { front = bits; joins = r.1; spelled = bits_in_row bits (place s) }

@@ -1,0 +1,18 @@
+-- Why a call refuses that gathers what stands in fragments.
+use Rattle.std.specs.Prelude.{◌≡◌, ◌⊎◌, ℕ}
+use Rattle.rasn_types.specs.Bits.{Bits}
+use Rattle.per_core.specs.Spellings.{Settings, Spelling}
+use Rattle.per_core.specs.Took.{Took}
+use Rattle.per_read.specs.Kinds.{Refused}
+use Rattle.per_read.specs.Takes.{Reason}
+use Rattle.per_read.specs.declared.error.DecodeErrorKind.TheVariants.{OutOfMemory}
+
+-- the length of a first fragment of so many items is at the front of bits
+pub record IsFragmented (form : ℕ → Spelling) (s : Bits) : Type 0 where
+  pub count : ℕ
+  pub rest : Bits
+  pub took : Took (form count) s rest
+
+-- want of memory, where a fragment is at the front, or a kind that tests show
+abbrev pub gathering : (Settings → ℕ → Spelling) → Reason
+gathering form a s A k = ((k ≡ OutOfMemory) × IsFragmented (form a) s) ⊎ Refused A k

@@ -1,0 +1,103 @@
+//! Open types (X.691 11.2): octets behind an unconstrained length, which are a complete encoding of their own.
+
+ghost use Rattle.std.specs.Prelude.{◌≡◌, ◌%◌, ◌≤◌, length};
+ghost use Rattle.per_core.specs.Basic.{Octets};
+ghost use Rattle.per_read.specs.Takes.{Takes, itself, tested};
+ghost use Rattle.per_additions.specs.OpenTypes.{HasOctets, bits_of, fragments_of, skipped_open};
+ghost use Rattle.per_additions.specs.Ends.{EndsOpen, kind_of};
+ghost use Rattle.per_additions.specs.Reasons.{gathering};
+
+use crate::ahead_of;
+use per_bits::BitReader;
+use per_core::ended::{Surplus, ended};
+use per_read::Reader;
+use per_read::error::{DecodeErrorKind, ParserFailCause};
+use per_read::lengths::Length;
+
+/// The octets of an open type.
+#[derive(Drop)]
+pub enum Contents<'input> {
+    /// Their bits, in the input: they stand behind one length alone.
+    InPlace(BitReader<'input>),
+    /// The octets of its fragments, one after another.
+    Gathered(Vec<u8>),
+}
+
+impl Contents<'_> {
+    /// The bits of the octets, eight of each.
+    pub fn bits(&self) -> BitReader<'_>
+        ensures { result ≡ bits_of self.now }
+    {
+        match self {
+            Contents::InPlace(bits) => copy_of(bits),
+            Contents::Gathered(octets) => BitReader::from_octets(octets.as_slice()),
+        }
+    }
+}
+
+/// A second reader of the same bits.
+fn copy_of<'bits>(bits: &'bits BitReader<'_>) -> BitReader<'bits>
+    ensures { result ≡ bits.now }
+{
+    bits.clone().unwrap()
+}
+
+/// Takes the octets of an open type (X.691 11.2), behind an unconstrained length. Only those in fragments take memory.
+pub fn take_open<'input>(reader: &mut Reader<'input>) -> Result<Contents<'input>, DecodeErrorKind>
+    ensures { Takes (gathering fragments_of) Octets HasOctets reader.old result reader.new }
+{
+    let mut ahead = ahead_of(reader);
+    match ahead.take_unconstrained_length()? {
+        Length::Last(count) => {
+            let bits = ahead.take_row(8 * count)?;
+            *reader = ahead;
+            Ok(Contents::InPlace(bits))
+        }
+        Length::Fragment(_) => Ok(Contents::Gathered(reader.take_octets()?)),
+    }
+}
+
+/// Skips an open type (X.691 11.2) whatever its octets are: an addition that the schema doesn't know (X.691 19.9). It
+/// takes no memory.
+pub fn skip_open(reader: &mut Reader<'_>) -> Result<(), DecodeErrorKind>
+    ensures { Takes tested skipped_open itself reader.old result reader.new }
+{
+    let mut count: usize = 0;
+    loop {
+        let length = reader.take_unconstrained_length()?;
+        let more = length.count() as usize;
+        match count.checked_add(more) {
+            Some(all) => count = all,
+            None => return Err(DecodeErrorKind::ExceedsMaxLength),
+        }
+        reader.take_row(8 * more as u128)?;
+        if let Length::Last(_) = length {
+            return Ok(());
+        }
+    }
+}
+
+/// Whether what a reader of an open type's contents has left ends a complete encoding (X.691 11.1, 11.2), where the
+/// contents have `total` bits: fewer than eight spare bits behind a value of some bits, or one zero octet for a value
+/// of none.
+pub fn end_of_open(reader: &Reader<'_>, total: u128) -> Result<(), DecodeErrorKind>
+    requires fits { length reader.now.bits ≤ total }
+    requires octets { total % 8 ≡ 0 }
+    ensures { EndsOpen reader.now total result }
+{
+    match ended(&reader.bits(), total) {
+        Ok(()) => Ok(()),
+        Err(surplus) => Err(refusal(surplus)),
+    }
+}
+
+/// The kind of a refusal of contents that don't end as a complete encoding does.
+fn refusal(surplus: Surplus) -> DecodeErrorKind
+    ensures { result ≡ kind_of surplus }
+{
+    match surplus {
+        Surplus::Missing(bits) => DecodeErrorKind::Incomplete(bits),
+        Surplus::NonzeroOctet => DecodeErrorKind::ParserFail(ParserFailCause::NonzeroEmptyValue),
+        Surplus::ExtraOctets(octets) => DecodeErrorKind::UnexpectedExtraData(octets),
+    }
+}
