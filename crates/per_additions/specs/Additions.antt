@@ -23,8 +23,8 @@ abbrev pub rule_of : Settings → Presence → Schema → Rule
 rule_of a p c = record { presence = p; spells = basic a c }
 
 -- the first of some additions was taken, and the others behind it
-pub record FirstAddition (a : Settings) (r : Rule) (rs : List Rule) (xs : List (Option Value)) (flag : Option Bool) (rest : List Bool)
-    (s t : Bits) : Type 0 where
+pub record FirstAddition (a : Settings) (r : Rule) (rs : List Rule) (xs : List (Option Value)) (flag : Option Bool)
+    (rest : List Bool) (s t : Bits) : Type 0 where
   pub first : Option Value
   pub others : List (Option Value)
   pub middle : Bits

@@ -11,7 +11,8 @@ use Rattle.per_read.specs.declared.error.DecodeErrorKind.{DecodeErrorKind}
 use Rattle.per_read.specs.declared.error.DecodeErrorKind.TheVariants.{Incomplete, ParserFail, UnexpectedExtraData}
 use Rattle.per_read.specs.declared.error.ParserFailCause.TheVariants.{NonzeroEmptyValue}
 
--- X.691 11.1: what is left of n bits behind a value ends a complete encoding; spare bits are zero where the settings ask for it
+-- X.691 11.1: what is left of n bits behind a value ends a complete encoding, in zero bits where the settings ask for
+-- them
 pub record EndsAs (a : Settings) (left : Bits) (n : ℕ) : Type 0 where
   pub ends : Ends left n
   pub zeros : ZeroIf a.strict left
