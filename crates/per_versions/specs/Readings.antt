@@ -23,7 +23,7 @@ IsProjection newer older v w = project (newer (depth_of v)) (older (depth_of v))
 abbrev pub IsWidening : (ℕ → Schema) → (ℕ → Schema) → Value → Value → Type 0
 IsWidening newer older v w = widen (newer (depth_of w)) (older (depth_of w)) v ≡ Some w
 
--- nothing that is written of a value lies deeper than the 128 levels of a reader (this project's limit), which passes over
+-- nothing that is written of a value lies deeper than a reader's 128 levels (this project's limit); it passes over the
 -- additions that it doesn't know
 abbrev pub IsInReach : (ℕ → Schema) → (ℕ → Schema) → Value → Type 0
 IsInReach reader writer v = writes_cut (reader 128) (writer 128) v ≡ false
