@@ -1,13 +1,12 @@
 -- The fractions of a second.
-use Rattle.std.proofs.Common.{◌≡◌, ◌≢◌, refl, sym, ap, ap₂, ◌∙◌, subst, ℕ, zero, suc, ◌+◌, ◌-◌, ◌*◌, ◌/◌, ◌%◌, ◌^◌, ◌<◌, ◌≤◌, Bool, true, false, cond, ◌&&◌, ◌||◌, not, eqb, leb, List, [], ◌∷◌, ◌++◌, length, drop, take, get_or, ◌⊎◌, inl, inr, arith, true≢false, leb-true, le-leb, pow-suc, append_assoc}
+use Rattle.std.proofs.Common.{◌≡◌, ◌≢◌, refl, sym, ap, ap₂, ◌∙◌, subst, ℕ, zero, suc, ◌+◌, ◌-◌, ◌*◌, ◌/◌, ◌%◌, ◌^◌, ◌<◌, ◌≤◌, Bool, true, false, ◌&&◌, ◌||◌, not, eqb, leb, List, [], ◌∷◌, ◌++◌, length, drop, take, get_or, ◌⊎◌, inl, inr, arith, le-leb, pow-suc, append_assoc}
 use Rattle.std.proofs.lemmas.Bool.{ne_eqb, lt-leb}
 use Rattle.std.proofs.lemmas.List.{take_all}
 use Rattle.std.proofs.lemmas.Nat.{div-mul-add, mod-mul-add}
 use Rattle.std.proofs.Math.Nat.{pow-le-pow_right, one-le-pow, div-lt_iff_lt-mul, mod-lt, mul-le-mul_right}
 use borrow.Author.Tests.{eqb-false}
-use Rattle.rasn_types.specs.Contents.{ends_well, is_z, is_fraction}
-use Rattle.rasn_times.specs.Moments.{fraction_digits, fraction_text, IsFractionOf, IsFractionText}
-use Rattle.rasn_times.proofs.Digits.{both_left, both_right}
+use Rattle.rasn_types.specs.Contents.{ends_well, is_z}
+use Rattle.rasn_times.specs.Moments.{fraction_digits, IsFractionOf}
 
 pub unit_fits : (p : ℕ) → p ≤ 8 → 10 ^ p ≤ 100000000
 unit_fits p h = let k : 10 ^ p ≤ 10 ^ 8 = pow-le-pow_right (omega arith) h in k
