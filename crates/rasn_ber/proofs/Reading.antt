@@ -1,11 +1,11 @@
 -- Contents octets as they are read.
-use Rattle.std.proofs.Common.{◌≡◌, ◌≢◌, refl, sym, ap, ap₂, ◌∙◌, subst, ℕ, zero, suc, ◌+◌, ◌-◌, ◌*◌, ◌/◌, ◌%◌, ◌^◌, ◌<◌, ◌≤◌, ◌⊎◌, inl, inr, Bool, true, false, cond, not, ◌&&◌, ◌||◌, eqb, ltb, List, [], ◌∷◌, ◌++◌, length, take, drop, Option, Some, None, arith, append_assoc, true≢false, lt-ltb}
+use Rattle.std.proofs.Common.{◌≡◌, refl, sym, ap, ◌∙◌, ℕ, zero, suc, ◌+◌, ◌*◌, ◌/◌, ◌%◌, ◌^◌, ◌<◌, ◌≤◌, ◌⊎◌, inl, inr, Bool, true, false, cond, not, ◌&&◌, ◌||◌, eqb, ltb, List, [], ◌∷◌, ◌++◌, Some, None, arith, append_assoc, true≢false, lt-ltb}
 use Rattle.std.proofs.lemmas.Bool.{cases_lt, le-ltb, ne_eqb}
 use Rattle.std.specs.List.{list_all}
-use Rattle.rasn_types.specs.Contents.{Arc, next_arc, arcs_after, is_identifier}
+use Rattle.rasn_types.specs.Contents.{next_arc, arcs_after, is_identifier}
 use Rattle.rasn_ber.specs.Identifiers.{leading_octets, subidentifier, subidentifiers, are_arcs, contents, begun_arc}
 use borrow.Author.Tests.{ltb-true}
-use Rattle.rasn_ber.proofs.Writing.{leading_octets-zero, subidentifier-is}
+use Rattle.rasn_ber.proofs.Writing.{leading_octets-zero}
 
 -- ---- tests
 

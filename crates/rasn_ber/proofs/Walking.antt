@@ -1,13 +1,13 @@
 -- Contents octets read one by one.
-use Rattle.std.proofs.Common.{◌≡◌, ◌≢◌, refl, sym, ap, ap₂, ◌∙◌, subst, ℕ, zero, suc, ◌+◌, ◌-◌, ◌*◌, ◌/◌, ◌%◌, ◌^◌, ◌<◌, ◌≤◌, ◌⊎◌, inl, inr, Bool, true, false, cond, not, ◌&&◌, ◌||◌, eqb, ltb, List, [], ◌∷◌, ◌++◌, length, take, drop, get_or, min, Option, Some, None, arith, append_assoc, true≢false, lt-ltb}
-use Rattle.std.proofs.lemmas.Bool.{cases_lt, le-ltb, ne_eqb}
+use Rattle.std.proofs.Common.{◌≡◌, ◌≢◌, refl, sym, ap, ap₂, ◌∙◌, subst, ℕ, ◌+◌, ◌-◌, ◌*◌, ◌/◌, ◌%◌, ◌^◌, ◌<◌, ◌≤◌, ◌⊎◌, inl, inr, true, false, ◌&&◌, ◌||◌, eqb, ltb, List, [], ◌∷◌, ◌++◌, length, take, drop, get_or, min, Some, None, arith, append_assoc, true≢false, lt-ltb}
+use Rattle.std.proofs.lemmas.Bool.{cases_lt, ne_eqb}
 use Rattle.std.proofs.lemmas.List.{append-nil, drop_more, take_more, take_all, drop_all}
 use Rattle.std.proofs.lemmas.List.Folds.{list_all-append}
 use Rattle.std.specs.List.{list_all}
 use Rattle.rasn_types.specs.Contents.{next_arc, arcs_after, is_identifier}
 use Rattle.rasn_ber.specs.Identifiers.{leading_octets, subidentifier, subidentifiers, are_arcs, are_arcs_so_far, contents, begun_arc, limit_behind, IsReadOn}
 use Rattle.rasn_ber.proofs.Writing.{leading_octets-zero, leading_octets-step, subidentifier-is}
-use Rattle.rasn_ber.proofs.Reading.{both_left, both_right, begun-positive, next_arc-on, next_arc-end, after_there, is_identifier-contents}
+use Rattle.rasn_ber.proofs.Reading.{both_left, both_right, begun-positive, next_arc-on, next_arc-end, after_there}
 
 -- ---- arcs are appended
 

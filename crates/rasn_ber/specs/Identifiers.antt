@@ -41,7 +41,7 @@ pub record IsFirstSubidentifier (arcs : List ℕ) (number : ℕ) : Type 0 where
   pub enough : 2 ≤ length arcs
   pub written : contents arcs ≡ subidentifier number ++ subidentifiers (drop 2 arcs)
 
--- X.690 8.19.2: what stands for a subidentifier that has begun where its number so far isn't 0: its first octet isn't 80
+-- X.690 8.19.2: a subidentifier has begun where its number so far isn't 0, since its first octet isn't 80
 abbrev pub begun_arc : ℕ → ℕ → Arc
 begun_arc number limit = record { begun = nat_lt 0 number; value = number; bound = limit }
 
@@ -63,4 +63,5 @@ are_arcs_so_far (arc ∷ arcs) = are_arcs (arc ∷ arcs)
 
 -- each object has contents octets of its own
 abbrev pub OneContents : Type 0
-OneContents = (arcs others : List ℕ) → are_arcs arcs ≡ true → are_arcs others ≡ true → contents arcs ≡ contents others → arcs ≡ others
+OneContents = (arcs others : List ℕ) → are_arcs arcs ≡ true → are_arcs others ≡ true →
+    contents arcs ≡ contents others → arcs ≡ others

@@ -72,7 +72,8 @@ fn push_subidentifiers<A: Allocator>(
     others: &[u32],
     octets: &mut Vec<u8, A>,
 ) -> Result<(), AllocError>
-    ensures written { OnOk result (octets.new.items ≡ octets.old.items ++ subidentifier first ++ subidentifiers others.now) }
+    ensures written { OnOk result
+        (octets.new.items ≡ octets.old.items ++ subidentifier first ++ subidentifiers others.now) }
     ensures kept { take (length octets.old.items) octets.new.items ≡ octets.old.items }
 {
     push_subidentifier(first, octets)?;
@@ -114,7 +115,8 @@ pub fn object_identifier_from_bytes(
 ) -> Result<ObjectIdentifier, BerError>
     ensures read { IfOk result (λ identifier. contents identifier ≡ octets.now) }
     ensures lawful { OnOk result (is_identifier octets.now ≡ true) }
-    ensures one { (arcs : List ℕ) → are_arcs arcs ≡ true → contents arcs ≡ octets.now → IfOk result (λ read. read ≡ arcs) }
+    ensures one { (arcs : List ℕ) → are_arcs arcs ≡ true → contents arcs ≡ octets.now
+        → IfOk result (λ read. read ≡ arcs) }
     ensures refused { result ≡ Err InvalidObjectIdentifier → is_identifier octets.now ≡ false }
 {
     let mut arcs = Vec::new(alloc);

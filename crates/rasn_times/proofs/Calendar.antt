@@ -1,5 +1,5 @@
 -- Days of the calendar and moments, as jiff has them.
-use Rattle.std.proofs.Common.{◌≡◌, refl, sym, ap, ap₂, ◌∙◌, subst, ℕ, zero, suc, ◌+◌, ◌-◌, ◌*◌, ◌<◌, ◌≤◌, Bool, true, false, cond, ◌&&◌, ◌||◌, eqb, ltb, leb, List, ℤ, pos, negsuc, ◌≤ℤ◌, arith, true≢false, leb-true, le-leb, lt-ltb, T, to_z, of_z, w8, Result, Ok, Err, IsOk, IfOk, IfSome, MatchOption}
+use Rattle.std.proofs.Common.{◌≡◌, refl, sym, ap, ◌∙◌, subst, ℕ, suc, ◌+◌, ◌<◌, ◌≤◌, Bool, true, false, cond, ◌&&◌, ◌||◌, eqb, ltb, leb, List, ℤ, pos, negsuc, ◌≤ℤ◌, arith, true≢false, leb-true, le-leb, lt-ltb, T, to_z, of_z, w8, Result, Ok, Err, IsOk, IfOk, MatchOption}
 use Rattle.std.specs.Result.{result_ok}
 use borrow.Author.Tests.{ltb-true}
 use Rattle.std.proofs.lemmas.Int.{to_z-of_z}

@@ -1,4 +1,5 @@
 pub mod Calendar
 pub mod Digits
+pub mod Fractions
 pub mod Texts
 pub mod UtcTexts

@@ -1,6 +1,6 @@
 -- The characters MMDDhhmmss.
-use Rattle.std.proofs.Common.{◌≡◌, refl, sym, ap, ap₂, ◌∙◌, subst, ℕ, zero, suc, ◌+◌, ◌-◌, ◌*◌, ◌/◌, ◌%◌, ◌<◌, ◌≤◌, Bool, true, false, cond, ◌&&◌, eqb, ltb, leb, List, [], ◌∷◌, ◌++◌, length, take, drop, get_or, ℤ, pos, negsuc, arith, true≢false, leb-true, le-leb}
-use Rattle.rasn_types.specs.Contents.{are_digits, decimal_from, two, is_moment}
+use Rattle.std.proofs.Common.{◌≡◌, refl, ap₂, ℕ, ◌+◌, ◌-◌, ◌*◌, ◌/◌, ◌%◌, ◌<◌, true, ◌&&◌, leb, List, [], ◌∷◌, ◌++◌, length, get_or, ℤ, pos, arith, leb-true, le-leb}
+use Rattle.rasn_types.specs.Contents.{are_digits, decimal_from, is_moment}
 use Rattle.jiff.specs.Types.{DateTime}
 use Rattle.rasn_times.specs.Moments.{two_digits, month_to_second, IsMomentOf}
 use Rattle.rasn_times.proofs.Calendar.{moment_lawful, day_small}

@@ -1,5 +1,5 @@
 -- The texts of UTCTime.
-use Rattle.std.proofs.Common.{◌≡◌, ◌≢◌, refl, sym, ap, ap₂, ◌∙◌, subst, ℕ, zero, suc, ◌+◌, ◌-◌, ◌*◌, ◌/◌, ◌%◌, ◌<◌, ◌≤◌, ◌⊎◌, inl, inr, Bool, true, false, cond, ◌&&◌, eqb, ltb, leb, List, [], ◌∷◌, ◌++◌, length, take, drop, get_or, ℤ, pos, negsuc, ◌+ℤ◌, ◌≤ℤ◌, ◌<ℤ◌, to_z, of_z, w8, arith, true≢false, leb-true, le-leb, lt-ltb, eq-eqb, Option, Some, None, MatchOption}
+use Rattle.std.proofs.Common.{◌≡◌, ◌≢◌, refl, sym, ap, ap₂, ◌∙◌, subst, ℕ, ◌+◌, ◌-◌, ◌/◌, ◌%◌, ◌<◌, ◌≤◌, ◌⊎◌, inl, inr, Bool, true, false, cond, ◌&&◌, ltb, leb, List, [], ◌∷◌, ◌++◌, length, take, drop, get_or, ℤ, pos, negsuc, ◌+ℤ◌, to_z, of_z, w8, arith, true≢false, leb-true, le-leb, lt-ltb, eq-eqb, Option, Some, None, MatchOption}
 use Rattle.std.proofs.lemmas.Bool.{cases_lt, le-ltb}
 use Rattle.std.proofs.lemmas.List.{drop_more, drop_all, length-drop, take_all, take-append-drop}
 use Rattle.std.proofs.lemmas.Int.{to_z-of_z}
@@ -10,7 +10,7 @@ use Rattle.rasn_types.specs.Contents.{TimeKind, are_digits, decimal_from, two, i
 use Rattle.jiff.specs.Types.{DateTime}
 use Rattle.rasn_times.specs.Moments.{two_digits, month_to_second, is_utc_moment, utc_characters, utc_text, IsMomentOf, IsUtcMomentOf, IsSameMoment}
 use Rattle.rasn_times.proofs.Digits.{both_left, both_right}
-use Rattle.rasn_times.proofs.Calendar.{day_small, unpos, back8, is_true}
+use Rattle.rasn_times.proofs.Calendar.{day_small, unpos, back8}
 use Rattle.rasn_times.proofs.Texts.{are_digits-two, number-two, two_digits-number, digits_behind, characters_of, moment_named, number_below, ten}
 
 -- the last character

@@ -1,7 +1,7 @@
 -- The texts of moments (ITU-T X.680, 46 and 47; X.690, 11.7 and 11.8).
-use Rattle.std.specs.Prelude.{◌≡◌, ℕ, ◌+◌, ◌/◌, ◌%◌, Bool, true, if◌then◌else◌, ◌&&◌, nat_le, ◌==◌, List, [], ◌∷◌, ◌++◌, ℤ, pos}
+use Rattle.std.specs.Prelude.{◌≡◌, ◌<◌, ◌^◌, zero, suc, ℕ, ◌+◌, ◌/◌, ◌%◌, Bool, true, if◌then◌else◌, ◌&&◌, ◌==◌, List, [], ◌∷◌, ◌++◌, ℤ, pos}
 use lib.Signed.{le_z}
-use Rattle.rasn_types.specs.Contents.{year_size, is_moment, two}
+use Rattle.rasn_types.specs.Contents.{year_size, is_moment, two, ends_well, is_fraction}
 use Rattle.jiff.specs.Types.{DateTime}
 
 -- the two last decimal digits of a number
@@ -10,7 +10,8 @@ two_digits n = (48 + n / 10 % 10) ∷ (48 + n % 10) ∷ []
 
 -- MMDDhhmmss: month, day, hour, minute and second
 abbrev pub month_to_second : DateTime → List ℕ
-month_to_second t = two_digits t.date.month ++ two_digits t.date.day ++ two_digits t.time.hour ++ two_digits t.time.minute ++ two_digits t.time.second
+month_to_second t = two_digits t.date.month ++ two_digits t.date.day
+    ++ two_digits t.time.hour ++ two_digits t.time.minute ++ two_digits t.time.second
 
 -- X.680 47.3: whether a UTCTime can hold the moment: a whole second, of the years 1950 to 2049 (this project's choice)
 abbrev pub is_utc_moment : DateTime → Bool
@@ -52,4 +53,28 @@ pub record IsUtcMomentOf (digits : List ℕ) (t : DateTime) : Type 0 where
 
 -- each moment that a UTCTime can hold has a text of its own
 abbrev pub EachUtcTimeHasOneText : Type 0
-EachUtcTimeHasOneText = (t u : DateTime) → is_utc_moment t ≡ true → is_utc_moment u ≡ true → utc_text t ≡ utc_text u → IsSameMoment t u
+EachUtcTimeHasOneText = (t u : DateTime) → is_utc_moment t ≡ true → is_utc_moment u ≡ true →
+    utc_text t ≡ utc_text u → IsSameMoment t u
+
+-- X.690 11.7.2, 11.7.3: the digits of a number of so many places, highest first, without trailing zeros
+unfoldable pub fraction_digits : ℕ → ℕ → List ℕ
+fraction_digits zero n = []
+fraction_digits (suc places) n =
+    if n == 0 then [] else (48 + n / 10 ^ places) ∷ fraction_digits places (n % 10 ^ places)
+
+-- X.690 11.7.2, 11.7.3: a full stop and the fraction of a second of so many nanoseconds; nothing of 0
+abbrev pub fraction_text : ℕ → List ℕ
+fraction_text n = if n == 0 then [] else 46 ∷ fraction_digits 9 n
+
+-- the digits and the Z behind them are those of a number
+pub record IsFractionOf (places : ℕ) (text : List ℕ) (number : ℕ) : Type 0 where
+  pub lawful : ends_well places text ≡ true
+  pub some : 0 < number
+  pub below : number < 10 ^ places
+  pub written : fraction_digits places number ++ 90 ∷ [] ≡ text
+
+-- what stands behind the seconds is the fraction of so many nanoseconds
+pub record IsFractionText (text : List ℕ) (number : ℕ) : Type 0 where
+  pub lawful : is_fraction text ≡ true
+  pub below : number < 10 ^ 9
+  pub written : fraction_text number ++ 90 ∷ [] ≡ text

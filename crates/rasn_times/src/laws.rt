@@ -1,4 +1,5 @@
-//! Laws of the canonical texts of times (X.690 11.7 and 11.8). Each law is the contract of a function that does nothing.
+//! Laws of the canonical texts of times (X.690 11.7 and 11.8). Each law is the contract of a function that does
+//! nothing.
 
 ghost use Rattle.std.specs.Prelude.{◌≡◌};
 ghost use Rattle.rasn_types.specs.Contents.{TimeKind, is_time};

@@ -4,6 +4,7 @@
 
 pub mod date;
 pub mod error;
+pub mod fraction;
 pub mod laws;
 pub mod moment;
 #[cfg(test)]

@@ -36,7 +36,8 @@ pub(crate) fn moment_of(year: i16, digits: &[u8], nanosecond: i32) -> Option<Dat
     requires few { length digits.now ≡ 10 }
     requires digits { all_are_digits digits.now ≡ true }
     requires fraction { IsBetween (pos 0) (pos 999_999_999) nanosecond }
-    ensures { MatchOption result (is_moment (year_size year) digits.now ≡ false) (IsMomentOf year digits.now nanosecond) }
+    ensures { MatchOption result (is_moment (year_size year) digits.now ≡ false)
+        (IsMomentOf year digits.now nanosecond) }
 {
     let (month, day) = (two(digits, 0), two(digits, 2));
     let (hour, minute, second) = (two(digits, 4), two(digits, 6), two(digits, 8));

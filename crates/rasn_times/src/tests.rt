@@ -2,6 +2,7 @@
 
 use crate::date::{date_from_parts, date_to_parts};
 use crate::error::TimeError;
+use crate::fraction::{push_fraction, read_fraction};
 use crate::utc_time::{
     UtcTime, datetime_to_canonical_utc_time_bytes, parse_canonical_utc_time_string,
 };
@@ -56,5 +57,33 @@ fn refuses_other_texts(rt: HostRuntime) -> Result<(), Fail> {
     let moment = DateTime::new(2050, 1, 1, 0, 0, 0, 0)?;
     let written = datetime_to_canonical_utc_time_bytes(rt.alloc(), UtcTime::new(moment));
     assert!(rt; written == Err(TimeError::Unrepresentable));
+    Ok(())
+}
+
+/// Nanoseconds and what stands for them in a GeneralizedTime: X.690 11.7.5, and the ends of nine digits.
+const FRACTIONS: &[(u32, &str)] = &[
+    (0, "Z"),
+    (300_000_000, ".3Z"),
+    (1, ".000000001Z"),
+    (999_999_999, ".999999999Z"),
+];
+
+#[test]
+fn writes_and_reads_fractions(rt: HostRuntime) -> Result<(), Fail> {
+    for (nanosecond, text) in FRACTIONS {
+        let mut written = Vec::new(rt.alloc());
+        if *nanosecond < 1_000_000_000 {
+            push_fraction(&mut written, *nanosecond)?;
+        }
+        written.push(b'Z')?;
+        assert_eq!(rt; written.as_slice(), text.as_bytes());
+        assert!(rt; read_fraction(text.as_bytes()) == Some(*nanosecond));
+    }
+    let refused = [".30Z", ".Z", ".0Z", ".1234567891Z", "", ".3"];
+    assert!(rt;
+        refused
+            .iter()
+            .all(|text| read_fraction(text.as_bytes()).is_none())
+    );
     Ok(())
 }

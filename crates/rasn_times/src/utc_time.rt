@@ -75,7 +75,8 @@ fn written<A: Allocator>(alloc: A, moment: DateTime) -> Result<Vec<u8, A>, Alloc
 /// mean years from 1950, 00 to 49 from 2000.
 pub fn parse_canonical_utc_time_string(text: &[u8]) -> Result<UtcTime, TimeError>
     ensures read { IfOk result (λ time. utc_text time ≡ text.now) }
-    ensures one { (time : Plain) → is_utc_moment time ≡ true → utc_text time ≡ text.now → IfOk result (IsSameMoment time) }
+    ensures one { (time : Plain) → is_utc_moment time ≡ true → utc_text time ≡ text.now
+        → IfOk result (IsSameMoment time) }
     ensures refused { (result ≡ Err InvalidText) ↔ (is_time TimeKind.utc text.now ≡ false) }
 {
     if text.len() != 13 || text[12] != b'Z' || !are_digits(&text[..12]) {

@@ -1,6 +1,5 @@
-use Rattle.std.proofs.Common.{sym, refl, ◌∙◌, ap}
+use Rattle.std.proofs.Common.{sym}
 use Rattle.std.proofs.lemmas.List.{append-nil}
-use Rattle.rasn_ber.specs.Identifiers.{leading_octets}
 use Rattle.rasn_ber.proofs.Writing.{leading_octets-zero, written-on}
 use Rattle.rasn_ber.proofs.ber.+push_leading_octets.Goals as goal
 

@@ -1,4 +1,4 @@
-use Rattle.std.proofs.Common.{◌≡◌, refl, sym, ◌∙◌, ap, arith, inl, inr, true, length}
+use Rattle.std.proofs.Common.{◌≡◌, refl, sym, ◌∙◌, ap, arith, inl, inr, true}
 use borrow.Author.Tests.{eqb-true, eqb-false}
 use Rattle.rasn_types.specs.Contents.{is_identifier}
 use Rattle.rasn_ber.specs.Identifiers.{are_arcs, contents, limit_behind}

@@ -1,7 +1,7 @@
 use Rattle.std.proofs.Common.{refl, sym, ◌∙◌, true≢false, w8}
 use Rattle.std.specs.Int.{w16, w128}
 use Rattle.std.proofs.lemmas.Int.{to_z-of_z}
-use Rattle.rasn_times.proofs.Calendar.{back8, date_refused}
+use Rattle.rasn_times.proofs.Calendar.{date_refused}
 use Rattle.rasn_times.proofs.date.date_from_parts.Goals as goal
 
 pub returns-in-Err-clause-refused : goal.returns-in-Err-clause-refused

@@ -1,7 +1,6 @@
 use Rattle.std.proofs.Common.{◌∙◌}
 use Rattle.std.specs.Int.{w16, w32}
 use Rattle.std.proofs.lemmas.Int.{to_z-of_z}
-use Rattle.rasn_types.specs.Contents.{year_size}
 use Rattle.rasn_times.proofs.Calendar.{back8, moment_found_of}
 use Rattle.rasn_times.proofs.moment.moment_of.Goals as goal
 

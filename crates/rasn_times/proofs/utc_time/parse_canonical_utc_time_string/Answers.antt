@@ -1,4 +1,4 @@
-use Rattle.std.proofs.Common.{◌≡◌, ◌∙◌, sym, ap, refl, inl, inr, true≢false}
+use Rattle.std.proofs.Common.{◌∙◌, sym, ap, refl, inl, inr, true≢false}
 use Rattle.rasn_types.specs.Contents.{is_time, TimeKind}
 use Rattle.rasn_times.specs.Moments.{utc_text}
 use Rattle.rasn_times.proofs.UtcTexts.{is_time-utc_text, utc_same, not_utc, with_z}
