@@ -85,7 +85,7 @@ pub fn end_of_open(reader: &Reader<'_>, total: u128) -> Result<(), DecodeErrorKi
     requires octets { total % 8 ≡ 0 }
     ensures { EndsOpen reader.now total result }
 {
-    match ended(&reader.bits(), total) {
+    match ended(&reader.bits(), total, reader.options().zero_padding) {
         Ok(()) => Ok(()),
         Err(surplus) => Err(refusal(surplus)),
     }
@@ -98,6 +98,7 @@ fn refusal(surplus: Surplus) -> DecodeErrorKind
     match surplus {
         Surplus::Missing(bits) => DecodeErrorKind::Incomplete(bits),
         Surplus::NonzeroOctet => DecodeErrorKind::ParserFail(ParserFailCause::NonzeroEmptyValue),
+        Surplus::NonzeroSpareBits => DecodeErrorKind::ParserFail(ParserFailCause::NonzeroPadding),
         Surplus::ExtraOctets(octets) => DecodeErrorKind::UnexpectedExtraData(octets),
     }
 }

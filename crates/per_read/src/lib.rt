@@ -71,6 +71,13 @@ impl<'input> Reader<'input> {
         self.bits.clone().unwrap()
     }
 
+    /// How it reads: the variant in use, and whether padding has to be zero.
+    pub fn options(&self) -> ReaderOptions
+        ensures { result ≡ self.now.options }
+    {
+        self.options
+    }
+
     /// The variant in use.
     pub fn codec(&self) -> Codec
         ensures { result ≡ self.now.options.codec }

@@ -8,4 +8,4 @@ invariant-loop-is_present l =
     (goal.iterator-loop-is_present).can_next l.is_present-iterator
     × (goal.iterator-loop-is_present).is_finite l.is_present-iterator
     × SkippedSoFar (settings_of l.initial.reader) l.initial.is_present-iterator l.is_present-iterator l.initial.reader.bits l.reader.bits
-    × (l.reader.codec ≡ l.initial.reader.codec)
+    × (l.reader.options ≡ l.initial.reader.options)
