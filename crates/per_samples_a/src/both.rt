@@ -1,13 +1,15 @@
 //! A SEQUENCE of two required components of any types, by the cells of them.
 
-ghost use Rattle.std.specs.Prelude.{refl, [], false, suc, max};
+ghost use Rattle.std.specs.Prelude.{refl, None, [], false, suc, max};
 ghost use Rattle.rasn_types.specs.declared.types.TheConstants.Tag.{SEQUENCE};
 ghost use Rattle.rasn_constraints.specs.Ranges.{no_constraints};
+ghost use Rattle.rasn_schema.specs.Extensions.{unextended};
 ghost use Rattle.rasn_schema.specs.Fields.{shapes_from};
 ghost use Rattle.rasn_schema.specs.Records.{no_additions, record_value};
 ghost use Rattle.rasn_schema.specs.Tags.{sequence_tag};
 ghost use Rattle.per_samples_a.specs.Boths.{both_parts, both_schema, both_levelled, both_contents};
 
+use rasn_calls::parts::NoAdditions;
 use rasn_codec::codec::{Decode, Decoder, Encode, Encoder};
 use rasn_record::cells::{Cell, End, Listed};
 use rasn_record::components::Required;
@@ -77,11 +79,21 @@ impl<A: AsnType, B: AsnType> Constructed for Both<A, B> {
 
     ghost FIELDS = { shapes_from 0 (both_parts (A.schema A.CONSTRAINTS) (B.schema B.CONSTRAINTS) 0) };
 
+    const EXTENDED_FIELDS: Option<Fields> = None;
+
+    ghost EXTENDED_FIELDS = { None };
+
+    const IS_EXTENSIBLE: bool = false;
+
+    ghost IS_EXTENSIBLE = { false };
+
     ghost parts = { both_parts (A.schema A.CONSTRAINTS) (B.schema B.CONSTRAINTS) };
 
     ghost contents = { λ x. both_contents (A.value x.a) (B.value x.b) };
 
     ghost described = { λ _. refl };
+
+    ghost extends = { unextended };
 
     ghost is_record = { λ _. refl };
 }
@@ -106,7 +118,7 @@ impl<A: Encode, B: Encode> Encode for Both<A, B> {
                 },
             },
         };
-        encoder.encode_record::<Both<A, B>, _, _>(tag, &parts, identifier)
+        encoder.encode_record::<Both<A, B>, _, _, _>(tag, &parts, &NoAdditions, identifier)
     }
 }
 

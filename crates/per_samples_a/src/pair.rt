@@ -1,10 +1,11 @@
 //! A SEQUENCE of two required components, by a scope that writes or reads them.
 
-ghost use Rattle.std.specs.Prelude.{refl, true, [], ◌∷◌, false, ◌≡◌, IsErrAnd, OnErr};
+ghost use Rattle.std.specs.Prelude.{refl, true, None, [], ◌∷◌, false, ◌≡◌, IsErrAnd, OnErr};
 ghost use Rattle.rasn_types.specs.declared.types.TheConstants.Tag.{SEQUENCE};
 ghost use Rattle.rasn_schema.specs.Schemas.{listed};
 ghost use Rattle.rasn_schema.specs.Normal.{normals};
 ghost use Rattle.rasn_constraints.specs.Ranges.{no_constraints};
+ghost use Rattle.rasn_schema.specs.Extensions.{unextended};
 ghost use Rattle.rasn_schema.specs.Fields.{shapes_from};
 ghost use Rattle.rasn_schema.specs.Records.{AtParts, record_at, no_additions, record_value};
 ghost use Rattle.rasn_schema.specs.Components.{sequence_levelled};
@@ -77,11 +78,21 @@ impl Constructed for Pair {
 
     ghost FIELDS = { shapes_from 0 (pair_parts 0) };
 
+    const EXTENDED_FIELDS: Option<Fields> = None;
+
+    ghost EXTENDED_FIELDS = { None };
+
+    const IS_EXTENSIBLE: bool = false;
+
+    ghost IS_EXTENSIBLE = { false };
+
     ghost parts = { pair_parts };
 
     ghost contents = { λ x. pair_contents x.a x.b };
 
     ghost described = { λ _. refl };
+
+    ghost extends = { unextended };
 
     ghost is_record = { λ _. refl };
 }

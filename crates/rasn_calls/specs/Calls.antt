@@ -3,7 +3,7 @@ use Rattle.std.specs.Prelude.{◌≡◌, ℕ, ◌≤◌, ◌⊎◌, Bool, true, 
 use Rattle.rasn_types.specs.declared.types.Codec.{Codec}
 use Rattle.rasn_types.specs.Values.{Value}
 use Rattle.rasn_schema.specs.Schemas.{Schema}
-use Rattle.rasn_schema.specs.Normal.{normal}
+use Rattle.rasn_schema.specs.Normal.{normal, is_vacant}
 
 -- a fact at each unfolding of a schema that is deep enough for a value of k levels
 pub record AtDepths (schema : ℕ → Schema) (k : ℕ) (P : Schema → Type 0) : Type 0 where
@@ -25,10 +25,18 @@ pub record EncoderRules (E X : Type 0) : Type 1 where
   pub presents : X → Schema → Value → X → Type 0
   -- the next presence bit is given: what was written before, and how it is then
   pub marks : X → Bool → X → Type 0
+  -- the next addition is given as absent: what was written before, and how it is then
+  pub skips : X → X → Type 0
+  -- the contents of the next addition's open type begin: what was written before, and how it is inside
+  pub begins : X → X → Type 0
+  -- the next addition is given as one value in an open type: what was written before, and how it is then
+  pub adds : X → Schema → Value → X → Type 0
   -- an error by which a value is refused: it has no encoding, or the encoder had failed; and the fault that the error names stands in the value
   pub refuses : E → X → Schema → Value → Type 0
   -- an error by which a presence bit is refused: none is left, or the encoder had failed
   pub unmarked : E → X → Type 0
+  -- an error by which an addition is refused: none is left to give, or the encoder had failed
+  pub surplus : E → X → Type 0
   -- an error by which the tag of a choice's alternative is refused: none goes by it
   pub unchosen : E → X → Type 0
   -- an error that says that memory ran out
@@ -57,12 +65,17 @@ pub record Encodes {E X : Type 0} (rules : EncoderRules E X) (schema : ℕ → S
   pub law : AtDepths schema k (λ s. Written rules s (normal s v) x result y)
   pub behaves : Behaves rules.already rules.failed rules.codec x result y
 
--- what holds of an encoder's relations: what is presented was begun and left unfailed, and want of memory behind it is want of memory of the whole
+-- What holds of an encoder's relations: what is presented was begun and left unfailed, and want of memory behind it is want of memory of the whole.
 pub record PresentsWell {E X : Type 0} (rules : EncoderRules E X) : Type 0 where
   pub begun : (x : X) (s : Schema) (v : Value) (y : X) → rules.presents x s v y → rules.failed x ≡ false
   pub left : (x : X) (s : Schema) (v : Value) (y : X) → rules.presents x s v y → rules.failed y ≡ false
   pub room : (x : X) (s : Schema) (v : Value) (y : X) (e : E) → rules.presents x s v y → rules.memory e y → rules.memory e x
   pub mark_room : (x : X) (b : Bool) (y : X) (e : E) → rules.marks x b y → rules.memory e y → rules.memory e x
+  pub skip_room : (x y : X) (e : E) → rules.skips x y → rules.memory e y → rules.memory e x
+  pub begin_room : (x y : X) (e : E) → rules.begins x y → rules.memory e y → rules.memory e x
+  pub add_room : (x : X) (s : Schema) (v : Value) (y : X) (e : E) → rules.adds x s v y → rules.memory e y → rules.memory e x
+  -- a group that holds nothing isn't refused (X.691 19.9)
+  pub vacant : (x i : X) (s : Schema) (v : Value) (e : E) → rules.begins x i → is_vacant s v ≡ true → rules.refuses e i s v → ⊥
 
 -- A refusal of a decoder: nothing is read at s, and the fault that e names stands in what is left there.
 pub record Refuses {S V E : Type 0} (R : S → V → S → Type 0) (fault : E → S → Type 0) (e : E) (s : S) : Type 0 where

@@ -1,3 +1,4 @@
+pub mod Additions
 pub mod Boxes
 pub mod Calls
 pub mod Choices

@@ -1,9 +1,10 @@
 -- What stands in a scope, component after component, and what opening and closing one owe, stated over any codec's relations.
-use Rattle.std.specs.Prelude.{◌≡◌, ℕ, suc, ◌⊎◌, Bool, true, false, Result, Ok, Err, OnErr, IsErrAnd, List, [], ◌∷◌, Option, Some}
+use Rattle.std.specs.Prelude.{◌≡◌, ℕ, zero, suc, max, ◌≤◌, ◌⊎◌, Bool, true, false, Result, Ok, Err, OnErr, IsErrAnd, List, [], ◌∷◌, Option, Some}
 use Rattle.rasn_types.specs.Values.{Value}
 use Rattle.rasn_schema.specs.Schemas.{TagTree, Presence, required, listed, Schema, Parts, no_parts, part}
 use Rattle.rasn_schema.specs.Normal.{normal, normals}
 use Rattle.rasn_calls.specs.Calls.{AtDepths, Behaves, EncoderRules, Written, DecoderRules, Refuses, Answers}
+use Rattle.rasn_calls.specs.Additions.{extended, PresentsAdditions, RefusesAdditions}
 use Rattle.rasn_calls.specs.Presences.{presence_bit, left_out}
 use Rattle.rasn_schema.specs.Records.{record_at, no_additions, record_value, AtParts}
 
@@ -55,39 +56,61 @@ pub record WritesParts {E X : Type 0} (rules : EncoderRules E X) (parts : ℕ �
   pub fails : OnErr result (rules.failed y ≡ true)
   pub kept : rules.codec y ≡ rules.codec x
 
+-- The root components are presented in turn, and then the additions.
+pub data PresentsFields {E X : Type 0} (rules : EncoderRules E X) (ps qs : Parts) (x : X) (rs xs : List (Option Value)) (y : X) : Type 0 where
+  presents_fields : {m : X} → PresentsParts rules ps x rs m → PresentsAdditions rules qs m xs y → PresentsFields rules ps qs x rs xs y
+
+-- One of the components is refused, after those before it were presented.
+pub data RefusesFields {E X : Type 0} (rules : EncoderRules E X) (e : E) (ps qs : Parts) (x : X) (rs xs : List (Option Value)) : Type 0 where
+  refuses_root : RefusesParts rules e ps x rs → RefusesFields rules e ps qs x rs xs
+  refuses_behind_root : {m : X} → PresentsParts rules ps x rs m → RefusesAdditions rules e qs m xs → RefusesFields rules e ps qs x rs xs
+
+-- Ok presents the components, and Err, memory aside, comes only where one of them is refused.
+abbrev pub WrittenFields : {E X : Type 0} → EncoderRules E X → Parts → Parts → List (Option Value) → List (Option Value) → X → Result (Unit {0}) E → X → Type 0
+WrittenFields rules ps qs rs xs x (Ok u) y = PresentsFields rules ps qs x rs xs y
+WrittenFields rules ps qs rs xs x (Err e) y = rules.memory e x ⊎ RefusesFields rules e ps qs x rs xs
+
 -- What passes out of a scope of some components, which was opened at x and begins at i: want of memory, and the refusal of a component, which is one of the record.
-pub record Passes {E X : Type 0} (rules : EncoderRules E X) (ps : Parts) (x i : X) : Type 0 where
+pub record Passes {E X : Type 0} (rules : EncoderRules E X) (ps : Parts) (marker : Bool) (qs : Parts) (x i : X) : Type 0 where
   pub room : (e : E) → rules.memory e i → rules.memory e x
-  pub of_record : (e : E) (rs : List (Option Value)) → RefusesParts rules e ps i rs → rules.refuses e x (record_of ps) (record_value rs [])
+  pub of_record : (e : E) (rs xs : List (Option Value)) → RefusesFields rules e ps qs i rs xs → rules.refuses e x (extended ps marker qs) (record_value rs xs)
 
 -- Ok is inside a record, and Err, memory aside, refuses every record of these components.
-abbrev pub OpenedToWrite : {E X O : Type 0} → EncoderRules E X → (Schema → X → O → X → Type 0) → (ℕ → Parts) → X → Result O E → X → Type 0
-OpenedToWrite rules opens parts x (Ok o) i = (n : ℕ) → opens (record_of (parts n)) x o i × Passes rules (parts n) x i
-OpenedToWrite rules opens parts x (Err e) i = rules.memory e x ⊎ ((n : ℕ) (v : Value) → rules.refuses e x (record_of (parts n)) v)
+abbrev pub OpenedToWrite : {E X O : Type 0} → EncoderRules E X → (Schema → X → O → X → Type 0) → (ℕ → Parts) → Bool → (ℕ → Parts) → X → Result O E → X → Type 0
+OpenedToWrite rules opens parts marker additions x (Ok o) i =
+    (n : ℕ) → opens (extended (parts n) marker (additions n)) x o i × Passes rules (parts n) marker (additions n) x i
+OpenedToWrite rules opens parts marker additions x (Err e) i =
+    rules.memory e x ⊎ ((n : ℕ) (v : Value) → rules.refuses e x (extended (parts n) marker (additions n)) v)
 
 -- A call that opens a record to write.
-pub record OpensToWrite {E X O : Type 0} (rules : EncoderRules E X) (opens : Schema → X → O → X → Type 0) (parts : ℕ → Parts) (x : X) (result : Result O E) (y : X) : Type 0 where
-  pub law : OpenedToWrite rules opens parts x result y
+pub record OpensToWrite {E X O : Type 0} (rules : EncoderRules E X) (opens : Schema → X → O → X → Type 0) (parts : ℕ → Parts) (marker : Bool) (additions : ℕ → Parts) (x : X) (result : Result O E) (y : X) : Type 0 where
+  pub law : OpenedToWrite rules opens parts marker additions x result y
   pub behaves : Behaves rules.already rules.failed rules.codec x result y
 
 -- A call that closes one, in which its components were presented: it answers as one call that writes the whole record.
-pub record ClosesWritten {E X O : Type 0} (rules : EncoderRules E X) (opens : Schema → X → O → X → Type 0) (parts : ℕ → Parts) (o : O) (j : X) (result : Result (Unit {0}) E) (y : X) : Type 0 where
-  pub law : (x i : X) (n : ℕ) (rs : List (Option Value)) → opens (record_of (parts n)) x o i → PresentsParts rules (parts n) i rs j
-      → Written rules (record_of (parts n)) (record_value rs []) x result y
+pub record ClosesWritten {E X O : Type 0} (rules : EncoderRules E X) (opens : Schema → X → O → X → Type 0) (parts : ℕ → Parts) (marker : Bool) (additions : ℕ → Parts) (o : O) (j : X) (result : Result (Unit {0}) E) (y : X) : Type 0 where
+  pub law : (x i : X) (n : ℕ) (rs xs : List (Option Value)) → opens (extended (parts n) marker (additions n)) x o i → PresentsFields rules (parts n) (additions n) i rs xs j
+      → Written rules (extended (parts n) marker (additions n)) (record_value rs xs) x result y
   pub behaves : Behaves rules.already rules.failed rules.codec j result y
 
 -- What a function owes that is lent a codec: the variant stays.
 pub record KeepsCodec {X R C : Type 0} (codec : X → C) (returns : X → R → X → Type 0) : Type 0 where
   pub stays : (x : X) (r : R) (y : X) → returns x r y → codec y ≡ codec x
 
--- What a function owes that is lent an encoder to write the components rs of at most k levels.
-pub record WritesScope {E X : Type 0} (rules : EncoderRules E X) (parts : ℕ → Parts) (rs : List (Option Value)) (k : ℕ) (returns : X → Result (Unit {0}) E → X → Type 0) : Type 0 where
-  pub keeps : (x : X) (r : Result (Unit {0}) E) (y : X) → returns x r y → AtParts parts k (λ ps. WrittenParts rules ps (normals ps rs) x r y)
+-- the levels of root components and of additions, of which there may be none
+abbrev pub deeper_of : ℕ → ℕ → ℕ
+deeper_of k zero = k
+deeper_of k (suc m) = max k (suc m)
+
+-- What a function owes that is lent an encoder to write the components rs and the additions xs, of at most k levels.
+pub record WritesScope {E X : Type 0} (rules : EncoderRules E X) (parts additions : ℕ → Parts) (rs xs : List (Option Value)) (k : ℕ) (returns : X → Result (Unit {0}) E → X → Type 0) : Type 0 where
+  pub keeps : (x : X) (r : Result (Unit {0}) E) (y : X) → returns x r y → (n : ℕ) → k ≤ n
+      → WrittenFields rules (parts n) (additions n) (normals (parts n) rs) (normals (additions n) xs) x r y
 
 -- A call that writes a record by a function that is lent the encoder.
-pub record WritesAround {E X : Type 0} (rules : EncoderRules E X) (parts : ℕ → Parts) (returns : X → Result (Unit {0}) E → X → Type 0) (x : X) (result : Result (Unit {0}) E) (y : X) : Type 0 where
-  pub law : (rs : List (Option Value)) (k : ℕ) → WritesScope rules parts rs k returns
-      → AtDepths (record_at listed parts false no_additions) (suc k) (λ s. Written rules s (normal s (record_value rs [])) x result y)
+pub record WritesAround {E X : Type 0} (rules : EncoderRules E X) (parts : ℕ → Parts) (marker : Bool) (additions : ℕ → Parts) (returns : X → Result (Unit {0}) E → X → Type 0) (x : X) (result : Result (Unit {0}) E) (y : X) : Type 0 where
+  pub law : (rs xs : List (Option Value)) (k : ℕ) → WritesScope rules parts additions rs xs k returns
+      → AtDepths (record_at listed parts marker additions) (suc k) (λ s. Written rules s (normal s (record_value rs xs)) x result y)
   pub again : rules.failed x ≡ true → IsErrAnd result (λ e. rules.already e x)
   pub fails : OnErr result (rules.failed y ≡ true)
   pub kept : KeepsCodec rules.codec returns → rules.codec y ≡ rules.codec x

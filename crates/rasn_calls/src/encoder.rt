@@ -1,6 +1,6 @@
 //! The trait of encoders.
 
-ghost use Rattle.std.specs.Prelude.{◌≡◌, ℕ, suc, true, false, []};
+ghost use Rattle.std.specs.Prelude.{◌≡◌, ℕ, suc, true};
 ghost use Rattle.std.specs.Fn.{FnOnceReturnsAtMut};
 ghost use Rattle.rasn_types.specs.Alphabets.{visible, ia5, printable, numeric, bmp};
 ghost use Rattle.rasn_types.specs.Contents.{utf8, other};
@@ -8,16 +8,17 @@ ghost use Rattle.rasn_types.specs.Values.{truth, nothing, whole, octets, bits, c
 ghost use Rattle.rasn_schema.specs.Schemas.{Schema, listed};
 ghost use Rattle.rasn_schema.specs.Forms.{number_schema, octet_schema, bit_schema, character_schema};
 ghost use Rattle.rasn_schema.specs.Forms.{size_of, is_size_marked};
-ghost use Rattle.rasn_schema.specs.Records.{record_at, no_additions, record_value};
+ghost use Rattle.rasn_schema.specs.Records.{record_at, record_value};
+ghost use Rattle.rasn_calls.specs.Additions.{extended, ClosesAddition, ClosesGroup, OpensAddition, SkipsAddition};
 ghost use Rattle.rasn_calls.specs.Optionals.{GivesBit};
 ghost use Rattle.rasn_calls.specs.Calls.{EncoderRules, freely, Writes, Encodes, PresentsWell};
 ghost use Rattle.rasn_schema.specs.Fields.{tag_of};
 ghost use Rattle.rasn_calls.specs.Choices.{ClosesChoice, OpensChoice, WritesChoice};
 ghost use Rattle.rasn_calls.specs.Lists.{Amid, OpensList, WritesNext, ClosesList};
 ghost use Rattle.rasn_calls.specs.Reals.{WritesNoReal};
-ghost use Rattle.rasn_calls.specs.Scopes.{OpensToWrite, ClosesWritten, WritesAround};
+ghost use Rattle.rasn_calls.specs.Scopes.{OpensToWrite, ClosesWritten, WritesAround, deeper_of};
 
-use crate::parts::EncodeParts;
+use crate::parts::{EncodeAdditions, EncodeParts};
 use rasn_schema::choices::Choice;
 use rasn_schema::enumerated::Enumerated;
 use rasn_schema::fields::Constructed;
@@ -38,6 +39,9 @@ pub trait Encoder: Sized {
     /// What waits outside while a record is open.
     type Scope: Drop;
 
+    /// What waits outside while the open type of an addition is open.
+    type Addition: Drop;
+
     /// What is left of an open list.
     type List: Drop;
 
@@ -46,6 +50,9 @@ pub trait Encoder: Sized {
 
     // A scope is opened to write a schema: what was before, what waits outside, and how it is inside.
     ghost opens: { Schema → Self → Self.Scope → Self → Type 0 };
+
+    // The open type of the next addition is opened: what was before, what waits outside, and how it is inside.
+    ghost opens_addition: { Self → Self.Addition → Self → Type 0 };
 
     // A choice is opened to write a schema: what was before, what waits outside, and how it is inside.
     ghost opens_choice: { Schema → Self → Self.Scope → Self → Type 0 };
@@ -181,18 +188,18 @@ pub trait Encoder: Sized {
     ) -> Result<(), Self::Error>
         ensures { Writes rules (Schema.text other) (octets value.now) self.old result self.new };
 
-    /// Opens a SEQUENCE (X.691 19): the calls from here to `close_sequence` write its components, in the order of
-    /// `FIELDS`.
+    /// Opens a SEQUENCE (X.691 19): the calls from here to `close_sequence` write its root components, in the order of
+    /// `FIELDS`, and then give its additions, in the order of `EXTENDED_FIELDS`.
     fn open_sequence<C: Constructed>(
         &mut self,
         tag: Tag,
         identifier: Identifier,
     ) -> Result<Self::Scope, Self::Error>
-        ensures { OpensToWrite rules opens C.parts self.old result self.new };
+        ensures { OpensToWrite rules opens C.parts C.IS_EXTENSIBLE C.additions self.old result self.new };
 
-    /// Closes a SEQUENCE in which its components were written.
+    /// Closes a SEQUENCE in which its components were written and its additions given.
     fn close_sequence<C: Constructed>(&mut self, scope: Self::Scope) -> Result<(), Self::Error>
-        ensures { ClosesWritten rules opens C.parts scope self.old result self.new };
+        ensures { ClosesWritten rules opens C.parts C.IS_EXTENSIBLE C.additions scope self.old result self.new };
 
     /// Opens a CHOICE (X.691 23): the calls from here to `close_choice` write the value of its alternative.
     fn open_choice<C: Choice>(
@@ -215,6 +222,25 @@ pub trait Encoder: Sized {
     /// Gives the presence bit of the next component of the open SEQUENCE that has one (X.691 19.2). Takes no memory.
     fn set_presence(&mut self, is_there: bool) -> Result<(), Self::Error>
         ensures { GivesBit rules is_there self.old result self.new };
+
+    /// Gives the next addition of the open SEQUENCE as absent, or at its default (X.691 19.9).
+    fn skip_addition(&mut self) -> Result<(), Self::Error>
+        ensures { SkipsAddition rules self.old result self.new };
+
+    /// Opens the open type of the next addition (X.691 11.2, 19.9): the calls from here to `close_addition` or
+    /// `close_group` write its value, by itself.
+    fn open_addition(&mut self) -> Result<Self::Addition, Self::Error>
+        ensures { OpensAddition rules opens_addition self.old result self.new };
+
+    /// Closes an open type in which one value was written.
+    fn close_addition(&mut self, addition: Self::Addition) -> Result<(), Self::Error>
+        ensures { ClosesAddition rules opens_addition addition self.old result self.new };
+
+    /// Closes an open type in which an addition group was written: one that holds nothing is given as absent
+    /// (X.691 19.9).
+    fn close_group<C: Constructed>(&mut self, addition: Self::Addition) -> Result<(), Self::Error>
+        ensures { ClosesGroup rules opens_addition (λ n. extended (C.parts n) C.IS_EXTENSIBLE (C.additions n))
+            addition self.old result self.new };
 
     /// Opens a SEQUENCE OF under constraints (X.691 20): so many elements follow, each behind a call of `next_element`,
     /// up to `close_list`. A count outside a size that isn't extensible is refused.
@@ -309,14 +335,16 @@ pub trait Encoder: Sized {
         self.encode_known_multiplier_string(tag, constraints, value, identifier)
     }
 
-    /// Writes a SEQUENCE (X.691 19), whose components `scope` writes, in the order of `FIELDS`.
+    /// Writes a SEQUENCE (X.691 19). `scope` writes its root components, in the order of `FIELDS`, and then gives its
+    /// additions, in the order of `EXTENDED_FIELDS`.
     final fn encode_sequence<
         C: Constructed,
         F: FnOnce(&mut Self) -> Result<(), Self::Error>,
         I: Into<Identifier>,
     >(&mut self, tag: Tag, scope: F, identifier: I) -> Result<(), Self::Error>
         requires { F.IsAlwaysCallable scope }
-        ensures { WritesAround rules C.parts (FnOnceReturnsAtMut F.FnOnce scope) self.old result self.new }
+        ensures { WritesAround rules C.parts C.IS_EXTENSIBLE C.additions (FnOnceReturnsAtMut F.FnOnce scope)
+            self.old result self.new }
     {
         let outside = self.open_sequence::<C>(tag, identifier.into())?;
         if let Err(error) = scope(self) {
@@ -353,19 +381,23 @@ pub trait Encoder: Sized {
         }
     }
 
-    /// Writes a SEQUENCE (X.691 19) by the list of its components, which stand in the order of `FIELDS`.
-    final fn encode_record<C: Constructed, P: EncodeParts, I: Into<Identifier>>(
-        &mut self,
-        tag: Tag,
-        parts: &P,
-        identifier: I,
-    ) -> Result<(), Self::Error>
-        requires { (n : ℕ) → C.parts n ≡ P.parts parts.now n }
-        ensures { Encodes rules (record_at listed C.parts false no_additions) (suc (P.levels parts.now))
-            (record_value (P.contents parts.now) []) self.old result self.new }
+    /// Writes a SEQUENCE (X.691 19) by the lists of its root components, which stand in the order of `FIELDS`, and of its
+    /// additions, which stand in the order of `EXTENDED_FIELDS`.
+    final fn encode_record<
+        C: Constructed,
+        P: EncodeParts,
+        Q: EncodeAdditions,
+        I: Into<Identifier>,
+    >(&mut self, tag: Tag, parts: &P, additions: &Q, identifier: I) -> Result<(), Self::Error>
+        requires root { (n : ℕ) → C.parts n ≡ P.parts parts.now n }
+        requires behind { (n : ℕ) → C.additions n ≡ Q.additions additions.now n }
+        ensures { Encodes rules (record_at listed C.parts C.IS_EXTENSIBLE C.additions)
+            (suc (deeper_of (P.levels parts.now) (Q.levels additions.now)))
+            (record_value (P.contents parts.now) (Q.contents additions.now)) self.old result self.new }
     {
         let outside = self.open_sequence::<C>(tag, identifier.into())?;
         parts.encode_parts(self)?;
+        additions.encode_additions(self)?;
         self.close_sequence::<C>(outside)
     }
 

@@ -1,8 +1,10 @@
 //! The components of a record, as lists of any form state, write and read them.
 
-ghost use Rattle.std.specs.Prelude.{ℕ, List, Option};
+ghost use Rattle.std.specs.Prelude.{ℕ, List, [], Option};
 ghost use Rattle.rasn_types.specs.Values.{Value};
 ghost use Rattle.rasn_schema.specs.Schemas.{Parts};
+ghost use Rattle.rasn_schema.specs.Records.{no_additions};
+ghost use Rattle.rasn_calls.specs.Additions.{WritesAdditions};
 ghost use Rattle.rasn_calls.specs.Scopes.{WritesParts, TakesParts};
 
 use crate::decoder::Decoder;
@@ -23,6 +25,39 @@ pub trait EncodeParts {
     fn encode_parts<E: Encoder>(&self, encoder: &mut E) -> Result<(), E::Error>
         ensures { WritesParts E.rules (Self.parts self.now) (Self.levels self.now) (Self.contents self.now)
             encoder.old result encoder.new };
+}
+
+/// Additions of a record that are still to be given, in their order.
+pub trait EncodeAdditions {
+    // The additions, to a number of levels.
+    ghost additions: { Self → ℕ → Parts };
+
+    // What they are.
+    ghost contents: { Self → List (Option Value) };
+
+    // How many levels they take.
+    ghost levels: { Self → ℕ };
+
+    /// Gives the additions in turn.
+    fn encode_additions<E: Encoder>(&self, encoder: &mut E) -> Result<(), E::Error>
+        ensures { WritesAdditions E.rules (Self.additions self.now) (Self.levels self.now) (Self.contents self.now)
+            encoder.old result encoder.new };
+}
+
+/// The additions of a record that has none.
+#[derive(Clone, Copy, Debug)]
+pub struct NoAdditions;
+
+impl EncodeAdditions for NoAdditions {
+    ghost additions = { λ _. no_additions };
+
+    ghost contents = { λ _. [] };
+
+    ghost levels = { λ _. 0 };
+
+    fn encode_additions<E: Encoder>(&self, _encoder: &mut E) -> Result<(), E::Error> {
+        Ok(())
+    }
 }
 
 /// Components of a record that are still to be read, in their order.

@@ -5,7 +5,7 @@ ghost use Rattle.rasn_calls.specs.Scopes.{WritesParts, TakesParts};
 
 use crate::codec::{Decoder, Encoder};
 use crate::kinds::{DecodeKind, EncodeKind};
-use rasn_calls::parts::{DecodeParts, EncodeParts};
+use rasn_calls::parts::{DecodeParts, EncodeParts, NoAdditions};
 use rasn_schema::components::{Components, SequenceKind};
 use rasn_types::types::{Identifier, Tag};
 use std::marker::PhantomData;
@@ -62,7 +62,7 @@ impl<T: Record> EncodeKind<T> for SequenceKind {
         tag: Tag,
         identifier: Identifier,
     ) -> Result<(), E::Error> {
-        encoder.encode_record::<T, _, _>(tag, &Written(value), identifier)
+        encoder.encode_record::<T, _, _, _>(tag, &Written(value), &NoAdditions, identifier)
     }
 }
 

@@ -11,6 +11,7 @@ mod macros;
 pub mod read;
 pub mod write;
 
+pub use rasn_calls::parts::NoAdditions;
 pub use rasn_codec::alternatives::CodedAlternatives;
 pub use rasn_codec::codec::{Decoder, Encoder};
 pub use rasn_codec::kinds::ByKind;

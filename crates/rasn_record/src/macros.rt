@@ -116,9 +116,10 @@ macro_rules! encode_components {
 #[macro_export]
 macro_rules! encode_record {
     ([$of:ident $encoder:ident $tag:ident $identifier:ident] $($list:tt)*) => {
-        $encoder.encode_record::<Self, _, _>(
+        $encoder.encode_record::<Self, _, _, _>(
             $tag,
             &$crate::listed!($crate::cells_to_write!($of $($list)*)),
+            &$crate::NoAdditions,
             $identifier,
         )
     };

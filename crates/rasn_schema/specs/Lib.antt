@@ -13,3 +13,4 @@ pub mod Records
 pub mod Schemas
 pub mod TagCodes
 pub mod Tags
+pub mod Extensions

@@ -1,9 +1,10 @@
 //! Records that are stated by one list of their components.
 
-ghost use Rattle.std.specs.Prelude.{◌≡◌, ℕ, suc, false, List, Option, refl};
+ghost use Rattle.std.specs.Prelude.{◌≡◌, ℕ, suc, false, List, Option, None, refl};
 ghost use Rattle.std.proofs.Common.{◌∙◌};
 ghost use Rattle.rasn_types.specs.Values.{Value};
 ghost use Rattle.rasn_types.specs.declared.types.TheConstants.Tag.{SEQUENCE};
+ghost use Rattle.rasn_schema.specs.Extensions.{unextended};
 ghost use Rattle.rasn_schema.specs.Fields.{Shape};
 ghost use Rattle.rasn_schema.specs.Records.{no_additions};
 ghost use Rattle.rasn_schema.specs.Tags.{sequence_tag};
@@ -61,11 +62,21 @@ impl<T: Components> Constructed for T {
 
     ghost FIELDS = { T.COMPONENTS };
 
+    const EXTENDED_FIELDS: Option<Fields> = None;
+
+    ghost EXTENDED_FIELDS = { None };
+
+    const IS_EXTENSIBLE: bool = false;
+
+    ghost IS_EXTENSIBLE = { false };
+
     ghost parts = { parts_of T.components };
 
     ghost contents = { T.contents };
 
     ghost described = { λ n. T.described ∙ fields_described T.components n };
+
+    ghost extends = { unextended };
 
     ghost is_record = { λ _. refl };
 }

@@ -1,6 +1,6 @@
 //! What a record states of its components: their tags, in which order they stand, and whether they may be absent.
 
-ghost use Rattle.std.specs.Prelude.{◌≡◌, ℕ, false, List, Option, count_by};
+ghost use Rattle.std.specs.Prelude.{◌≡◌, ℕ, Bool, List, [], Option, count_by};
 ghost use Rattle.rasn_types.specs.Values.{Value};
 ghost use Rattle.rasn_schema.specs.Schemas.{Parts, Order, listed};
 ghost use Rattle.rasn_schema.specs.Records.{record_at, no_additions};
@@ -81,6 +81,7 @@ impl Fields {
 /// A record: a SEQUENCE, or a SET (X.680 25, 27).
 pub trait Constructed: AsnType {
     ghost use Rattle.rasn_types.specs.declared.types.Tag.{Tag};
+    ghost use Rattle.rasn_schema.specs.Extensions.{Extends};
     ghost use Rattle.rasn_schema.specs.Fields.{Shape, shapes_from};
     ghost use Rattle.rasn_constraints.specs.declared.constraints.Constraints.{Constraints};
 
@@ -89,15 +90,34 @@ pub trait Constructed: AsnType {
 
     ghost FIELDS: { List Shape };
 
+    /// The additions behind the extension marker, in the order of the type: an addition group is one of them.
+    const EXTENDED_FIELDS: Option<Fields>;
+
+    ghost EXTENDED_FIELDS: { Option (List Shape) };
+
+    /// Whether the type has an extension marker (X.680 25.1).
+    const IS_EXTENSIBLE: bool;
+
+    ghost IS_EXTENSIBLE: { Bool };
+
     // The root components, to a number of levels.
     ghost parts: { ℕ → Parts };
+
+    // The additions, to a number of levels.
+    ghost additions: { ℕ → Parts } = { no_additions };
 
     // What the root components of a value are, each absent or there.
     ghost contents: { Self → List (Option Value) };
 
+    // What its additions are, each absent or there.
+    ghost added: { Self → List (Option Value) } = { λ _. [] };
+
     // The fields are those of the components.
     ghost described: { (n : ℕ) → FIELDS ≡ shapes_from 0 (parts n) };
 
+    // And the fields behind the marker those of the additions, which stand behind a marker alone.
+    ghost extends: { Extends IS_EXTENSIBLE EXTENDED_FIELDS additions };
+
     // The schema is the record of the components.
-    ghost is_record: { (c : Constraints) → Self.schema c ≡ record_at listed parts false no_additions };
+    ghost is_record: { (c : Constraints) → Self.schema c ≡ record_at listed parts IS_EXTENSIBLE additions };
 }

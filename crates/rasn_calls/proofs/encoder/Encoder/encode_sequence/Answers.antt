@@ -8,9 +8,9 @@ returns-in-Err g c =
     let o = c.in_ok-outside.ensures.law in
     let gave : FnOnceReturnsAtMut g.F.FnOnce c.args.scope c.open_sequence.new.self c.scope.result c.scope.new.arg2 = record { shown = _; shows = refl; left = _; met = c.scope.ensures; leaves = refl } in
     record {
-      law = λ rs k owed.
-          let w = rw c.in-Err.is at (owed.keeps c.open_sequence.new.self c.scope.result c.scope.new.arg2 gave) in
-          record_refused g.Self.Encoder.rules g.C.Constructed.parts rs k _ c.open_sequence.new.self c.scope.new.arg2 c.args.self.now _ (λ n. (o n).1) w;
+      law = λ rs xs k owed.
+          record_refused g.Self.Encoder.rules g.C.Constructed.parts g.C.Constructed.IS_EXTENSIBLE g.C.Constructed.additions rs xs k _ c.open_sequence.new.self c.scope.new.arg2 c.args.self.now _ (λ n. (o n).1)
+          (rw c.in-Err.is at (owed.keeps c.open_sequence.new.self c.scope.result c.scope.new.arg2 gave));
       again = search rules;
       fails = search rules;
       kept = λ owed. c.fail.ensures.kept ∙ owed.stays c.open_sequence.new.self c.scope.result c.scope.new.arg2 gave ∙ c.in_ok-outside.ensures.behaves.kept;
@@ -21,10 +21,10 @@ returns g c =
     let o = c.in_ok-outside.ensures.law in
     let gave : FnOnceReturnsAtMut g.F.FnOnce c.args.scope c.open_sequence.new.self c.scope.result c.scope.new.arg2 = record { shown = _; shows = refl; left = _; met = c.scope.ensures; leaves = refl } in
     record {
-      law = λ rs k owed.
-          let w = rw c.in_default.is at (owed.keeps c.open_sequence.new.self c.scope.result c.scope.new.arg2 gave) in
-          record_closed g.Self.Encoder.rules g.Self.Encoder.opens g.C.Constructed.parts rs k
-          c.args.self.now c.open_sequence.new.self c.scope.new.arg2 _ _ (λ n. (o n).0) w _ _ c.close_sequence.ensures;
+      law = λ rs xs k owed.
+          record_closed g.Self.Encoder.rules g.Self.Encoder.opens g.C.Constructed.parts g.C.Constructed.IS_EXTENSIBLE g.C.Constructed.additions rs xs k
+          c.args.self.now c.open_sequence.new.self c.scope.new.arg2 _ _ (λ n. (o n).0)
+          (rw c.in_default.is at (owed.keeps c.open_sequence.new.self c.scope.result c.scope.new.arg2 gave)) _ _ c.close_sequence.ensures;
       again = search rules;
       fails = search rules;
       kept = λ owed. c.close_sequence.ensures.behaves.kept ∙ owed.stays c.open_sequence.new.self c.scope.result c.scope.new.arg2 gave ∙ c.in_ok-outside.ensures.behaves.kept;

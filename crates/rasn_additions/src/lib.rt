@@ -1,0 +1,53 @@
+//! The calls of every encoder that give the additions behind an extension marker, by the types of their values.
+#![tactic(auto)]
+
+ghost use Rattle.rasn_calls.specs.Additions.{GivesAddition, GivesGroup};
+
+use rasn_calls::encoder::Encoder;
+use rasn_codec::codec::Encode;
+use rasn_schema::fields::Constructed;
+use rasn_schema::schema::Constraints;
+use rasn_types::types::{Identifier, Tag};
+
+/// What every encoder gives of additions, in the scope of their SEQUENCE and behind its root components, one call for
+/// each addition of the type, in the order of `EXTENDED_FIELDS`.
+pub trait ExtensionEncoder: Encoder {
+    /// Gives the next addition (X.691 19.7 to 19.9): its value in an open type, under a tag and constraints; or `None`,
+    /// where it is absent, or at its default. One that is required is always there. One addition more than the type has
+    /// is refused.
+    final fn encode_extension_addition<T: Encode>(
+        &mut self,
+        tag: Tag,
+        constraints: &Constraints,
+        value: Option<&T>,
+    ) -> Result<(), Self::Error>
+        ensures { GivesAddition Self.rules (T.schema constraints.now) (λ x. T.levels x.now) (λ x. T.value x.now)
+            value.entry self.old result self.new }
+    {
+        let Some(value) = value else {
+            return self.skip_addition();
+        };
+        let outside = self.open_addition()?;
+        value.encode_with_tag_and_constraints(self, tag, constraints, Identifier::EMPTY)?;
+        self.close_addition(outside)
+    }
+
+    /// Gives the next addition, which is a group of additions (X.691 19.9): a SEQUENCE in an open type; or nothing,
+    /// where it is `None`, or holds nothing.
+    final fn encode_extension_addition_group<T: Encode + Constructed>(
+        &mut self,
+        value: Option<&T>,
+    ) -> Result<(), Self::Error>
+        ensures { GivesGroup Self.rules (T.schema T.CONSTRAINTS) (λ x. T.levels x.now) (λ x. T.value x.now)
+            value.entry self.old result self.new }
+    {
+        let Some(group) = value else {
+            return self.skip_addition();
+        };
+        let outside = self.open_addition()?;
+        group.encode(self)?;
+        self.close_group::<T>(outside)
+    }
+}
+
+impl<E: Encoder> ExtensionEncoder for E {}
