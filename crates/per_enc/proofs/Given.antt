@@ -1,22 +1,21 @@
 -- The calls of an encoder that give additions (ITU-T X.691, 11.2, 19.7 to 19.9).
-use Rattle.std.specs.Prelude.{Result, Ok, Err, OnErr, not, nat_lt}
-use Rattle.std.proofs.Common.{◌≡◌, refl, sym, ap, ap₂, ◌∙◌, ◌⊎◌, subst, inl, inr, ℕ, suc, ◌+◌, ◌<◌, ◌≤◌, Bool, true, false, ◌||◌, [], length, Option, Some, None, arith, append-nil, ◌++◌, lt-ltb}
+use Rattle.std.specs.Prelude.{Result, Ok, Err, not, nat_lt}
+use Rattle.std.proofs.Common.{◌≡◌, refl, sym, ap, ap₂, ◌∙◌, subst, inl, inr, ℕ, suc, ◌<◌, ◌≤◌, Bool, true, false, length, Some, None, arith, append-nil, lt-ltb}
 use Rattle.std.proofs.lemmas.Bool.{le-ltb}
 use Rattle.rasn_types.specs.Bits.{Bits}
 use Rattle.rasn_types.specs.Codecs.{variant_of}
-use Rattle.rasn_types.specs.Values.{Value, whole, truth, nothing, item, octets, bits, characters, elements, bag, fields, alternative, day, slots}
+use Rattle.rasn_types.specs.Values.{Value, fields, slots}
 use Rattle.rasn_types.specs.Variants.{Variant}
 use Rattle.rasn_types.specs.declared.types.Codec.{Codec}
 use Rattle.rasn_schema.specs.Fields.{shapes_from}
-use Rattle.rasn_schema.specs.Lawful.{has_bit, presence_bits}
-use Rattle.rasn_schema.specs.Normal.{are_idle, is_vacant, settle}
-use Rattle.rasn_schema.specs.Schemas.{Schema, Parts, no_parts, part, Presence, required, optional, group, default}
+use Rattle.rasn_schema.specs.Lawful.{presence_bits}
+use Rattle.rasn_schema.specs.Normal.{is_vacant, settle}
+use Rattle.rasn_schema.specs.Schemas.{Schema, Parts, no_parts, part, required, optional, group, default}
 use Rattle.rasn_calls.specs.Additions.{AdditionClosed, AdditionOpened, AdditionSkipped, extended}
-use Rattle.per_core.specs.Canon.{canon, record_of}
+use Rattle.per_core.specs.Canon.{canon}
 use Rattle.per_write.specs.declared.error.EncodeError.{EncodeError}
 use Rattle.per_write.specs.declared.presences.Presences.{Presences}
-use Rattle.per_write.specs.Additions.{Adds, ClosesOrNot, has_required, is_group_there, is_required, open_if, Opens, OpensOrNot, Outside, RefusesAddition, Skips, SkipsOrNot, with_next}
-use Rattle.per_write.specs.Faults.{IsAlready}
+use Rattle.per_write.specs.Additions.{ClosesOrNot, has_required, is_group_there, open_if, Opens, OpensOrNot, Outside, SkipsOrNot, with_next}
 use Rattle.per_write.specs.Rules.{encoder_rules}
 use Rattle.per_write.specs.State.{Additions, Appends, State, Presents}
 use Rattle.per_write.proofs.Vacant.{group_there}

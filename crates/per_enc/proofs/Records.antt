@@ -1,20 +1,19 @@
 -- What the scope of a record presents, and how it refuses.
 use Rattle.std.specs.Prelude.{Result, Ok, Err}
-use Rattle.std.proofs.Common.{◌≡◌, refl, sym, ap, ap₂, ◌∙◌, ◌⊎◌, subst, inl, inr, ℕ, suc, Bool, false, true, cond, List, [], ◌∷◌, ◌++◌, length, replicate, Option, Some, None, arith, append-nil, append_assoc, ◌+◌, ◌%◌, ◌<◌}
+use Rattle.std.proofs.Common.{◌≡◌, refl, sym, ap, ap₂, ◌∙◌, ◌⊎◌, subst, inl, inr, ℕ, Bool, false, true, cond, List, [], ◌∷◌, ◌++◌, length, replicate, Option, Some, None, arith, append-nil, append_assoc, ◌+◌, ◌%◌, ◌<◌}
 use Rattle.rasn_types.specs.Bits.{Bits}
 use Rattle.rasn_types.specs.Codecs.{variant_of}
 use Rattle.rasn_types.specs.Values.{Value}
 use Rattle.rasn_types.specs.Variants.{Variant}
 use Rattle.rasn_types.specs.declared.types.Codec.{Codec}
 use Rattle.rasn_types.proofs.Values.{slots-as_slots}
-use Rattle.rasn_calls.specs.Additions.{extended, PresentsAdditions, presents_no_more, RefusesAdditions}
+use Rattle.rasn_calls.specs.Additions.{extended, PresentsAdditions, RefusesAdditions}
 use Rattle.rasn_calls.specs.Calls.{Written}
 use Rattle.rasn_schema.specs.Lawful.{presence_bits}
 use Rattle.rasn_schema.specs.Records.{record_value}
-use Rattle.rasn_schema.specs.Schemas.{Schema, Parts, no_parts, part}
+use Rattle.rasn_schema.specs.Schemas.{Schema, Parts, no_parts}
 use Rattle.rasn_calls.specs.Scopes.{PresentsParts, PresentsFields, presents_fields, RefusesFields, refuses_root, refuses_behind_root, Passes, OpenedToWrite}
-use Rattle.per_core.proofs.Presenting.{some_both}
-use Rattle.per_core.specs.Canon.{canon, members, any_set, bitmap, bitmap_of, extension_bit, flags_of, bodies_of, opens_of, shown, with_additions, record_of as record_writer}
+use Rattle.per_core.specs.Canon.{canon, members, any_set, bitmap, bitmap_of, extension_bit, flags_of, bodies_of, opens_of, with_additions, record_of as record_writer}
 use Rattle.per_core.specs.Writers.{Writer, just, ◌▹◌, join, go_on, after}
 use Rattle.per_write.specs.declared.error.EncodeError.{EncodeError}
 use Rattle.per_write.specs.declared.error.EncodeErrorKind.{EncodeErrorKind}
@@ -23,10 +22,10 @@ use Rattle.per_write.specs.Faults.{HasPart, in_addition, in_part, IsError, IsMem
 use Rattle.per_write.specs.Records.{AreGiven, IsUngiven, ClosesOrNot, closed_bits, OpensOrNot, Opens as OpensRecord, to_be_given, with_behind}
 use Rattle.per_write.specs.Rules.{encoder_rules}
 use Rattle.per_write.specs.State.{Additions, Appends, Scope, State, Presents}
-use Rattle.per_enc.specs.Opens.{addition_count, behind_marker, Opens, part_count}
+use Rattle.per_enc.specs.Opens.{behind_marker, Opens, part_count}
 use Rattle.per_enc.proofs.Chain.{Laid, Ready, laid, moved, parts_keep, refused_part}
 use Rattle.per_enc.proofs.Extending.{GivenAll, Gathering, given_all, given_none, refused_addition}
-use Rattle.per_write.proofs.Gathering.{Gathers, closed_form}
+use Rattle.per_write.proofs.Gathering.{closed_form}
 use Rattle.per_write.proofs.Writing.{none_behind, then_nothing}
 
 inside : {A : Type 0} {s t : A} → Some s ≡ Some t → s ≡ t

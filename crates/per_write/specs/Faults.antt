@@ -1,5 +1,5 @@
 -- What the errors of an encoder say.
-use Rattle.std.specs.Prelude.{ℕ, ◌≡◌, ◌<◌, ◌⊎◌, Bool, true, false, ◌||◌, List, [], ◌∷◌, length, get_or, Option, Some, None, is_some, MatchOption, ℤ}
+use Rattle.std.specs.Prelude.{ℕ, ◌≡◌, ◌<◌, ◌⊎◌, Bool, true, false, ◌||◌, List, ◌∷◌, length, get_or, Option, Some, None, is_some, MatchOption, ℤ}
 use Rattle.rasn_types.specs.Alphabets.{index_of}
 use Rattle.rasn_types.specs.Codecs.{variant_of}
 use Rattle.rasn_types.specs.Values.{Value, whole, octets, bits, characters, elements, values, alternative, root}
