@@ -234,7 +234,7 @@ refused_part e (part t q s ps) x codec (r ∷ rs) a b k h (refuses_here (refuses
   s = s;
   v = v;
   m = x;
-  has = part_here;
+  has = part_here refl;
   refused = w;
   unfailed = h.unfailed;
   same = h.same;
@@ -247,7 +247,7 @@ refused_part e (part t q s ps) x codec (r ∷ rs) a b k h (refuses_here (refuses
       s = s;
       v = v;
       m = m;
-      has = part_here;
+      has = part_here (there_shown q v i).0;
       refused = w;
       unfailed = f;
       same = d;

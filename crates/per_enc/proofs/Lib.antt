@@ -1,4 +1,6 @@
 pub mod Alternatives
 pub mod Chain
+pub mod Extending
+pub mod Given
 pub mod Presenting
 pub mod Records

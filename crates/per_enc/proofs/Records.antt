@@ -1,31 +1,34 @@
 -- What the scope of a record presents, and how it refuses.
 use Rattle.std.specs.Prelude.{Result, Ok, Err}
-use Rattle.std.proofs.Common.{◌≡◌, refl, sym, ap, ◌∙◌, ◌⊎◌, subst, inl, inr, ℕ, false, true, List, [], ◌++◌, length, replicate, Option, Some, None, arith, append-nil, ◌+◌, ◌%◌, ◌<◌}
+use Rattle.std.proofs.Common.{◌≡◌, refl, sym, ap, ap₂, ◌∙◌, ◌⊎◌, subst, inl, inr, ℕ, Bool, false, true, cond, List, [], ◌∷◌, ◌++◌, length, replicate, Option, Some, None, arith, append-nil, append_assoc, ◌+◌, ◌%◌, ◌<◌}
 use Rattle.rasn_types.specs.Bits.{Bits}
 use Rattle.rasn_types.specs.Codecs.{variant_of}
 use Rattle.rasn_types.specs.Values.{Value}
 use Rattle.rasn_types.specs.Variants.{Variant}
 use Rattle.rasn_types.specs.declared.types.Codec.{Codec}
 use Rattle.rasn_types.proofs.Values.{slots-as_slots}
+use Rattle.rasn_calls.specs.Additions.{extended, PresentsAdditions, RefusesAdditions}
 use Rattle.rasn_calls.specs.Calls.{Written}
 use Rattle.rasn_schema.specs.Lawful.{presence_bits}
 use Rattle.rasn_schema.specs.Records.{record_value}
-use Rattle.rasn_schema.specs.Schemas.{Schema, Parts}
-use Rattle.rasn_calls.specs.Scopes.{record_of, PresentsParts, RefusesParts, Passes, OpenedToWrite}
-use Rattle.per_core.specs.Canon.{canon, members, flags_of, bodies_of, bitmap_of, record_of as record_writer}
+use Rattle.rasn_schema.specs.Schemas.{Schema, Parts, no_parts}
+use Rattle.rasn_calls.specs.Scopes.{PresentsParts, PresentsFields, presents_fields, RefusesFields, refuses_root, refuses_behind_root, Passes, OpenedToWrite}
+use Rattle.per_core.specs.Canon.{canon, members, any_set, bitmap, bitmap_of, extension_bit, flags_of, bodies_of, opens_of, with_additions, record_of as record_writer}
 use Rattle.per_core.specs.Writers.{Writer, just, ◌▹◌, join, go_on, after}
 use Rattle.per_write.specs.declared.error.EncodeError.{EncodeError}
 use Rattle.per_write.specs.declared.error.EncodeErrorKind.{EncodeErrorKind}
 use Rattle.per_write.specs.declared.error.EncodeErrorKind.TheVariants.{SizeConstraintNotSatisfied, ValueConstraintNotSatisfied, AlphabetConstraintNotSatisfied, IntegerTypeConversionFailed, VariantNotInChoice, RealNotSupported, TooManyAdditions, Below, AlreadyFailed, OutOfMemory, OutOfTurn}
-use Rattle.per_write.specs.Faults.{HasPart, in_part, IsError, IsMemory, RefusesValue, Stands}
-use Rattle.per_write.specs.Records.{AreGiven, IsUngiven, ClosesOrNot, closed_bits, OpensOrNot, Opens as OpensRecord}
+use Rattle.per_write.specs.Faults.{HasPart, in_addition, in_part, IsError, IsMemory, RefusesValue, Stands}
+use Rattle.per_write.specs.Records.{AreGiven, IsUngiven, ClosesOrNot, closed_bits, OpensOrNot, Opens as OpensRecord, to_be_given, with_behind}
 use Rattle.per_write.specs.Rules.{encoder_rules}
-use Rattle.per_write.specs.State.{Scope, State, Presents}
-use Rattle.per_enc.specs.Opens.{Opens}
+use Rattle.per_write.specs.State.{Additions, Appends, Scope, State, Presents}
+use Rattle.per_enc.specs.Opens.{behind_marker, Opens, part_count}
 use Rattle.per_enc.proofs.Chain.{Laid, Ready, laid, moved, parts_keep, refused_part}
+use Rattle.per_enc.proofs.Extending.{GivenAll, Gathering, given_all, given_none, refused_addition}
+use Rattle.per_write.proofs.Gathering.{closed_form}
 use Rattle.per_write.proofs.Writing.{none_behind, then_nothing}
 
-inside : {s t : Bits} → Some s ≡ Some t → s ≡ t
+inside : {A : Type 0} {s t : A} → Some s ≡ Some t → s ≡ t
 inside e = cc
 
 join_nothing : (o : Option Bits) → join [] o ≡ o
@@ -36,99 +39,223 @@ join_nothing (Some b) = refl
 pub at_start : (g : Writer) (p : ℕ) → p < 8 → (just [] ▹ g) p ≡ g p
 at_start g p h = let e : after p [] ≡ p = omega arith in ap (λ q. join [] (g q)) e ∙ join_nothing (g p)
 
--- X.691 19: a record without an extension marker: its presence bits, and its components
-record_form : (a : Variant) (ps : Parts) (rs : List (Option Value)) (p : ℕ) →
-    (just [] ▹ (flags_of (members a ps) rs ▹ bodies_of (members a ps) rs) ▹ just []) p ≡ canon a (record_of ps) (record_value rs []) p
-unfolding canon record_writer bitmap_of
-record_form a ps rs p = rw (slots-as_slots rs) refl
+-- X.691 19: a record: its presence bits, its components, and its additions
+record_form : (a : Variant) (ps : Parts) (marker : Bool) (qs : Parts) (rs xs : List (Option Value)) (p : ℕ) →
+    with_additions a marker (members a qs) xs (flags_of (members a ps) rs ▹ bodies_of (members a ps) rs) (bitmap_of (members a qs) xs) p ≡ canon a (extended ps marker qs) (record_value rs xs) p
+unfolding canon record_writer
+record_form a ps marker qs rs xs p = rw (slots-as_slots rs, slots-as_slots xs) refl
 
--- its fault is one of the record
-stands_in_part : (kind : EncodeErrorKind) (x m : State) (s : Schema) (v : Value) (ps : Parts) (rs : List (Option Value)) → m.failed ≡ false → HasPart s v ps rs → Stands kind m s v →
-    Stands kind x (record_of ps) (record_value rs [])
-stands_in_part (ValueConstraintNotSatisfied value lower upper) x m s v ps rs f h k = in_part h k
-stands_in_part IntegerTypeConversionFailed x m s v ps rs f h k = in_part h k
-stands_in_part AlreadyFailed x m s v ps rs f h k = absurd cc
-stands_in_part (SizeConstraintNotSatisfied length lower upper) x m s v ps rs f h k = in_part h k
-stands_in_part AlphabetConstraintNotSatisfied x m s v ps rs f h k = in_part h k
-stands_in_part VariantNotInChoice x m s v ps rs f h k = absurd k
-stands_in_part RealNotSupported x m s v ps rs f h k = in_part h k
-stands_in_part TooManyAdditions x m s v ps rs f h k = absurd k
-stands_in_part Below x m s v ps rs f h k = absurd k
-stands_in_part OutOfMemory x m s v ps rs f h k = absurd k
-stands_in_part OutOfTurn x m s v ps rs f h k = absurd k
+-- X.691 19: without an extension marker
+plain_form : (a : Variant) (ps : Parts) (rs : List (Option Value)) (p : ℕ) →
+    (just [] ▹ (flags_of (members a ps) rs ▹ bodies_of (members a ps) rs) ▹ just []) p ≡ canon a (extended ps false no_parts) (record_value rs []) p
+unfolding canon record_writer bitmap_of
+plain_form a ps rs p = rw (slots-as_slots rs) refl
+
+-- a fault of a component is one of the record
+stands_in : (kind : EncodeErrorKind) (x m : State) (s : Schema) (v : Value) (ps : Parts) (marker : Bool) (qs : Parts) (rs xs : List (Option Value)) → m.failed ≡ false → HasPart s v ps rs ⊎ HasPart s v qs xs → Stands kind m s v →
+    Stands kind x (extended ps marker qs) (record_value rs xs)
+stands_in (ValueConstraintNotSatisfied value lower upper) x m s v ps marker qs rs xs f (inl h) k = in_part xs h k
+stands_in IntegerTypeConversionFailed x m s v ps marker qs rs xs f (inl h) k = in_part xs h k
+stands_in (SizeConstraintNotSatisfied length lower upper) x m s v ps marker qs rs xs f (inl h) k = in_part xs h k
+stands_in AlphabetConstraintNotSatisfied x m s v ps marker qs rs xs f (inl h) k = in_part xs h k
+stands_in RealNotSupported x m s v ps marker qs rs xs f (inl h) k = in_part xs h k
+stands_in (ValueConstraintNotSatisfied value lower upper) x m s v ps marker qs rs xs f (inr h) k = in_addition rs h k
+stands_in IntegerTypeConversionFailed x m s v ps marker qs rs xs f (inr h) k = in_addition rs h k
+stands_in (SizeConstraintNotSatisfied length lower upper) x m s v ps marker qs rs xs f (inr h) k = in_addition rs h k
+stands_in AlphabetConstraintNotSatisfied x m s v ps marker qs rs xs f (inr h) k = in_addition rs h k
+stands_in RealNotSupported x m s v ps marker qs rs xs f (inr h) k = in_addition rs h k
+stands_in AlreadyFailed x m s v ps marker qs rs xs f h k = absurd cc
+stands_in VariantNotInChoice x m s v ps marker qs rs xs f h k = absurd k
+stands_in TooManyAdditions x m s v ps marker qs rs xs f h k = absurd k
+stands_in Below x m s v ps marker qs rs xs f h k = absurd k
+stands_in OutOfMemory x m s v ps marker qs rs xs f h k = absurd k
+stands_in OutOfTurn x m s v ps marker qs rs xs f h k = absurd k
+
+-- the bits in front of the presence bits
+abbrev front_of : Bits → Bool → Bits
+front_of bs false = bs
+front_of bs true = bs ++ false ∷ []
 
 -- inside a record that is opened, its presence bits are still to be given
-opened : (ps : Parts) {x i : State} {o : Scope} → Opens (record_of ps) x o i → Ready i x.codec x.bits [] (presence_bits ps + 0)
-opened ps {x} {i} h = record {
+opened : (ps : Parts) (marker : Bool) (qs : Parts) {x i : State} {o : Scope} → Opens (extended ps marker qs) x o i → Ready i x.codec (front_of x.bits marker) [] (presence_bits ps + 0)
+opened ps false qs {x} {i} h = record {
   unfailed = h.unfailed;
   same = h.same;
-  bits = h.bits ∙ ap (λ bs. x.bits ++ bs) (ap (λ (n : ℕ). replicate n false) (let e : presence_bits ps ≡ presence_bits ps + 0 = omega arith in e) ∙ sym (append-nil (replicate (presence_bits ps + 0) false)));
+  bits = h.bits ∙ ap (λ bs. x.bits ++ bs) (zeros (presence_bits ps));
   place = ap (λ z. z.place) h.place ∙ ap length (append-nil x.bits);
   left = ap (λ z. z.left) h.place ∙ omega arith;
 }
+  where
+    zeros : (n : ℕ) → replicate n false ≡ replicate (n + 0) false ++ []
+    zeros n = ap (λ (i : ℕ). replicate i false) (let e : n ≡ n + 0 = omega arith in e) ∙ sym (append-nil (replicate (n + 0) false))
+opened ps true qs {x} {i} h = record {
+  unfailed = h.unfailed;
+  same = h.same;
+  bits = h.bits ∙ sym (append_assoc x.bits (false ∷ []) (replicate (presence_bits ps) false)) ∙ ap (λ bs. (x.bits ++ false ∷ []) ++ bs) (zeros (presence_bits ps));
+  place = ap (λ z. z.place) h.place;
+  left = ap (λ z. z.left) h.place ∙ omega arith;
+}
+  where
+    zeros : (n : ℕ) → replicate n false ≡ replicate (n + 0) false ++ []
+    zeros n = ap (λ (i : ℕ). replicate i false) (let e : n ≡ n + 0 = omega arith in e) ∙ sym (append-nil (replicate (n + 0) false))
 
-refuses_record : (e : EncodeError) (x i : State) (o : Scope) (ps : Parts) (rs : List (Option Value)) → Opens (record_of ps) x o i → RefusesParts encoder_rules e ps i rs → RefusesValue e x (record_of ps) (record_value rs [])
-refuses_record e x i o ps rs h k =
-    let d = refused_part e ps i x.codec rs x.bits [] 0 (opened ps h) k in
+-- behind its root, its additions are still to be given
+gathering : (ps qs : Parts) {x i m : State} {o : Scope} (rs : List (Option Value)) → Opens (extended ps true qs) x o i → PresentsParts encoder_rules ps i rs m → Gathering m x.codec (to_be_given (length x.bits) (part_count qs)) (part_count qs)
+gathering ps qs {x} {i} {m} rs h k =
+    let l = laid ps i m x.codec rs (front_of x.bits true) [] 0 (opened ps true qs h) k in
     record {
-      none = λ f p. sym (record_form (variant_of x.codec) ps rs p)
-          ∙ ap (λ o. join [] (go_on o (just []) (after p [])))
-          (none_behind (flags_of (members (variant_of x.codec) ps) rs (after p [])) (bodies_of (members (variant_of x.codec) ps) rs) (after p []) d.none);
-      stands = stands_in_part e.kind x d.m d.s d.v ps rs d.unfailed d.has d.refused.stands;
-      codec_is = d.refused.codec_is ∙ d.same;
+      unfailed = l.unfailed;
+      same = l.same;
+      keeps = parts_keep ps i m rs k ∙ h.keeps;
+      left = omega arith;
     }
 
--- what passes out of a record that is opened
-pub passes : (x i : State) (o : Scope) (ps : Parts) → Opens (record_of ps) x o i → Passes encoder_rules ps x i
-passes x i o ps h = record {
-  room = λ e m. record { kind_is = m.kind_is; codec_is = m.codec_is ∙ h.same };
-  of_record = λ e rs r. refuses_record e x i o ps rs h r;
-}
-
--- a record whose components were presented
-presents_record : (x y : State) (codec : Codec) (ps : Parts) (rs : List (Option Value)) → x.failed ≡ false → x.codec ≡ codec → Laid y codec ps rs x.bits [] 0 → (z : State) → z.bits ≡ y.bits → z.failed ≡ false → z.codec ≡ x.codec → z.scope ≡ x.scope
-    → Presents x (record_of ps) (record_value rs []) z
-presents_record x y codec ps rs f c l z e g d u = record {
-  begun = f;
-  left = g;
-  same = d;
-  beside = u;
-  written = λ p b. rw b (ap Some e ∙ l.written ∙ ap (λ bs. (just (x.bits ++ bs) ▹ bodies) 0) (append-nil l.flags) ∙ sym (moved x.bits l.flags flags bodies (l.are_flags (after 0 x.bits)))
-      ∙ ap (join x.bits) (all (after 0 x.bits) (let m : (0 + length x.bits) % 8 < 8 = omega arith in m)));
-}
+-- a root without encoding
+root_none : (a : Variant) (ps : Parts) (marker : Bool) (qs : Parts) (rs xs : List (Option Value)) → ((p : ℕ) → bodies_of (members a ps) rs p ≡ None) → (p : ℕ) → canon a (extended ps marker qs) (record_value rs xs) p ≡ None
+root_none a ps marker qs rs xs n p = sym (record_form a ps marker qs rs xs p) ∙ go (bitmap_of (members a qs) xs)
   where
-    flags : Writer
-    flags = flags_of (members (variant_of codec) ps) rs
+    go : (o : Option Bits) → with_additions a marker (members a qs) xs (flags_of (members a ps) rs ▹ bodies_of (members a ps) rs) o p ≡ None
+    go None = refl
+    go (Some bs) = none_behind (extension_bit marker (any_set bs) p) ((flags_of (members a ps) rs ▹ bodies_of (members a ps) rs) ▹ cond (any_set bs) (bitmap a bs ▹ opens_of a (members a qs) xs bs) (just [])) p
+        (λ q. ap (λ o. go_on o (cond (any_set bs) (bitmap a bs ▹ opens_of a (members a qs) xs bs) (just [])) q) (none_behind (flags_of (members a ps) rs q) (bodies_of (members a ps) rs) q n))
 
-    bodies : Writer
-    bodies = bodies_of (members (variant_of codec) ps) rs
+-- an addition without encoding
+addition_none : (a : Variant) (ps : Parts) (marker : Bool) (qs : Parts) (rs xs : List (Option Value)) → ((bs : Bits) → bitmap_of (members a qs) xs ≡ Some bs → any_set bs ≡ true) →
+    ((bs : Bits) → bitmap_of (members a qs) xs ≡ Some bs → (p : ℕ) → opens_of a (members a qs) xs bs p ≡ None) → (p : ℕ) → canon a (extended ps marker qs) (record_value rs xs) p ≡ None
+addition_none a ps marker qs rs xs t n p = sym (record_form a ps marker qs rs xs p) ∙ go (bitmap_of (members a qs) xs) refl
+  where
+    inner : Writer
+    inner = flags_of (members a ps) rs ▹ bodies_of (members a ps) rs
 
-    all : (p : ℕ) → p < 8 → (flags ▹ bodies) p ≡ canon (variant_of x.codec) (record_of ps) (record_value rs []) p
-    all p h = sym (then_nothing (flags ▹ bodies) p) ∙ sym (at_start ((flags ▹ bodies) ▹ just []) p h) ∙ record_form (variant_of codec) ps rs p ∙ ap (λ k. canon (variant_of k) (record_of ps) (record_value rs []) p) (sym c)
+    go : (o : Option Bits) → bitmap_of (members a qs) xs ≡ o → with_additions a marker (members a qs) xs inner o p ≡ None
+    go None e = refl
+    go (Some bs) e = rw (t bs e) (none_behind (extension_bit marker true p) (inner ▹ (bitmap a bs ▹ opens_of a (members a qs) xs bs)) p
+        (λ q. none_behind (inner q) (bitmap a bs ▹ opens_of a (members a qs) xs bs) q (λ r. none_behind (bitmap a bs r) (opens_of a (members a qs) xs bs) r (n bs e))))
 
-pub closes_record : (ps : Parts) (x i j y : State) (rs : List (Option Value)) (o : Scope) (result : Result (Unit {0}) EncodeError) → Opens (record_of ps) x o i → PresentsParts encoder_rules ps i rs j → ClosesOrNot o j result y
-    → Written encoder_rules (record_of ps) (record_value rs []) x result y
-closes_record ps x i j y rs o (Ok u) h k c =
-    let l = laid ps i j x.codec rs x.bits [] 0 (opened ps h) k in
+no_more_refused : {e : EncodeError} {x : State} {xs : List (Option Value)} → RefusesAdditions encoder_rules e no_parts x xs → ⊥
+no_more_refused c = elim c [ ]
+
+refuses_record : (e : EncodeError) (x i : State) (o : Scope) (ps : Parts) (marker : Bool) (qs : Parts) (rs xs : List (Option Value)) → (marker ≡ false → qs ≡ no_parts) → Opens (extended ps marker qs) x o i → RefusesFields encoder_rules e ps qs i rs xs →
+    RefusesValue e x (extended ps marker qs) (record_value rs xs)
+refuses_record e x i o ps marker qs rs xs w h (refuses_root k) =
+    let d = refused_part e ps i x.codec rs (front_of x.bits marker) [] 0 (opened ps marker qs h) k in
+    record {
+      none = λ f p. root_none (variant_of x.codec) ps marker qs rs xs d.none p;
+      stands = stands_in e.kind x d.m d.s d.v ps marker qs rs xs d.unfailed (inl d.has) d.refused.stands;
+      codec_is = d.refused.codec_is ∙ d.same;
+    }
+refuses_record e x i o ps true qs rs xs w h (refuses_behind_root {m = m} c k) =
+    let d = refused_addition e qs m x.codec xs (to_be_given (length x.bits) (part_count qs)) (gathering ps qs rs h c) k in
+    record {
+      none = λ f p. addition_none (variant_of x.codec) ps true qs rs xs d.set d.none p;
+      stands = stands_in e.kind x d.m d.s d.v ps true qs rs xs d.unfailed (inr d.has) d.refused.stands;
+      codec_is = d.refused.codec_is ∙ d.same;
+    }
+refuses_record e x i o ps false qs rs xs w h (refuses_behind_root {m = m} c k) = absurd (no_more_refused (subst (λ (q : Parts). RefusesAdditions encoder_rules e q m xs) (w refl) k))
+
+-- what passes out of a record that is opened
+pub passes : (x i : State) (o : Scope) (ps : Parts) (marker : Bool) (qs : Parts) → (marker ≡ false → qs ≡ no_parts) → Opens (extended ps marker qs) x o i → Passes encoder_rules ps marker qs x i
+passes x i o ps marker qs w h = record {
+  room = λ e m. record { kind_is = m.kind_is; codec_is = m.codec_is ∙ h.same };
+  of_record = λ e rs xs r. refuses_record e x i o ps marker qs rs xs w h r;
+}
+
+-- the root behind what stands in front of it
+root_laid : {a : Variant} {y : State} {codec : Codec} {ps : Parts} {rs : List (Option Value)} {front : Bits} → variant_of codec ≡ a → Laid y codec ps rs front [] 0 → Appends front (flags_of (members a ps) rs ▹ bodies_of (members a ps) rs) y.bits
+root_laid {y = y} {codec} {ps} {rs} {front} e l =
+    let flags = flags_of (members (variant_of codec) ps) rs in
+    let bodies = bodies_of (members (variant_of codec) ps) rs in
+    subst (λ (a : Variant). Appends front (flags_of (members a ps) rs ▹ bodies_of (members a ps) rs) y.bits) e
+    (l.written ∙ ap (λ bs. (just (front ++ bs) ▹ bodies) 0) (append-nil l.flags) ∙ sym (moved front l.flags flags bodies (l.are_flags (after 0 front))))
+
+-- what was written behind the bits from before
+presents_appended : (x z : State) (s : Schema) (v : Value) → x.failed ≡ false → z.failed ≡ false → z.codec ≡ x.codec → z.scope ≡ x.scope → Appends x.bits (canon (variant_of x.codec) s v) z.bits → Presents x s v z
+presents_appended x z s v f g d u w = record { begun = f; left = g; same = d; beside = u; written = λ p b. rw b w }
+
+-- a record without an extension marker whose components were presented
+presents_plain : (x j z : State) (ps : Parts) (rs : List (Option Value)) → x.failed ≡ false → Laid j x.codec ps rs x.bits [] 0 → z.bits ≡ j.bits → z.failed ≡ false → z.codec ≡ x.codec → z.scope ≡ x.scope
+    → Presents x (extended ps false no_parts) (record_value rs []) z
+presents_plain x j z ps rs f l e g d u =
+    presents_appended x z (extended ps false no_parts) (record_value rs []) f g d u
+    (ap Some e ∙ root_laid refl l ∙ ap (join x.bits) (all (after 0 x.bits) (let m : (0 + length x.bits) % 8 < 8 = omega arith in m)))
+  where
+    root : Writer
+    root = flags_of (members (variant_of x.codec) ps) rs ▹ bodies_of (members (variant_of x.codec) ps) rs
+
+    all : (p : ℕ) → p < 8 → root p ≡ canon (variant_of x.codec) (extended ps false no_parts) (record_value rs []) p
+    all p h = sym (then_nothing root p) ∙ sym (at_start (root ▹ just []) p h) ∙ plain_form (variant_of x.codec) ps rs p
+
+closes_plain : (ps : Parts) (x i j y : State) (rs : List (Option Value)) (o : Scope) (result : Result (Unit {0}) EncodeError) → Opens (extended ps false no_parts) x o i → PresentsParts encoder_rules ps i rs j → ClosesOrNot o j result y
+    → Written encoder_rules (extended ps false no_parts) (record_value rs []) x result y
+closes_plain ps x i j y rs o (Ok u) h k c =
+    let l = laid ps i j x.codec rs x.bits [] 0 (opened ps false no_parts h) k in
     let s = c.ok.same in
     let bits : y.bits ≡ j.bits = inside (c.ok.bits ∙ ap (closed_bits (variant_of j.codec) j.bits) (parts_keep ps i j rs k ∙ h.keeps)) in
-    presents_record x j x.codec ps rs h.begun refl l y bits (ap (λ z. z.failed) s ∙ l.unfailed) (ap (λ z. z.codec) s ∙ l.same) (ap (λ z. z.scope) s ∙ h.waits)
-closes_record ps x i j y rs o (Err d) h k c = refused c.err
+    presents_plain x j y ps rs h.begun l bits (ap (λ z. z.failed) s ∙ l.unfailed) (ap (λ z. z.codec) s ∙ l.same) (ap (λ z. z.scope) s ∙ h.waits)
+closes_plain ps x i j y rs o (Err d) h k c = refused c.err
   where
     l : Laid j x.codec ps rs x.bits [] 0
-    l = laid ps i j x.codec rs x.bits [] 0 (opened ps h) k
+    l = laid ps i j x.codec rs x.bits [] 0 (opened ps false no_parts h) k
 
-    refused : IsMemory d j ⊎ (IsError OutOfTurn d j × IsUngiven j.scope) → Written encoder_rules (record_of ps) (record_value rs []) x (Err d) y
+    refused : IsMemory d j ⊎ (IsError OutOfTurn d j × IsUngiven j.scope) → Written encoder_rules (extended ps false no_parts) (record_value rs []) x (Err d) y
     refused (inl m) = inl (record { kind_is = m.kind_is; codec_is = m.codec_is ∙ l.same })
     refused (inr (e, inl s)) = let z = l.left in absurd (omega arith)
     refused (inr (e, inr n)) = absurd (n (subst AreGiven (sym (parts_keep ps i j rs k ∙ h.keeps)) tt))
 
--- nor was the encoder refused inside
-pub not_failed_inside : (ps : Parts) (x i j : State) (rs : List (Option Value)) (o : Scope) → Opens (record_of ps) x o i → PresentsParts encoder_rules ps i rs j → j.failed ≡ true → ⊥
-not_failed_inside ps x i j rs o h k f = let l = laid ps i j x.codec rs x.bits [] 0 (opened ps h) k in let g = l.unfailed in absurd cc
+-- a record with an extension marker
+closes_extended : (ps qs : Parts) (x i m j y : State) (rs xs : List (Option Value)) (o : Scope) (result : Result (Unit {0}) EncodeError) → Opens (extended ps true qs) x o i → PresentsParts encoder_rules ps i rs m →
+    PresentsAdditions encoder_rules qs m xs j → ClosesOrNot o j result y → Written encoder_rules (extended ps true qs) (record_value rs xs) x result y
+closes_extended ps qs x i m j y rs xs o (Ok u) h k b c =
+    let a = variant_of x.codec in
+    let l = laid ps i m x.codec rs (x.bits ++ false ∷ []) [] 0 (opened ps true qs h) k in
+    let g = given_all qs m j x.codec xs (to_be_given (length x.bits) (part_count qs)) (gathering ps qs rs h k) b in
+    let s = c.ok.same in
+    let inner = flags_of (members a ps) rs ▹ bodies_of (members a ps) rs in
+    let closed : Some y.bits ≡ with_behind a m.bits g.kept =
+    c.ok.bits ∙ ap₂ (λ (e : Codec) (q : Option Additions). closed_bits (variant_of e) j.bits q) g.gathering.same g.gathering.keeps ∙ ap (λ (bs : Bits). with_behind a bs g.kept) g.bits in
+    let form : Appends x.bits (with_additions a true (members a qs) xs inner (bitmap_of (members a qs) xs)) y.bits =
+    closed_form a (members a qs) xs x.bits m.bits y.bits (part_count qs) g.kept inner g.gathers (root_laid refl l) closed in
+    presents_appended x y (extended ps true qs) (record_value rs xs) h.begun (ap (λ z. z.failed) s ∙ g.gathering.unfailed) (ap (λ z. z.codec) s ∙ g.gathering.same) (ap (λ z. z.scope) s ∙ h.waits)
+    (form ∙ ap (join x.bits) (record_form a ps true qs rs xs (after 0 x.bits)))
+closes_extended ps qs x i m j y rs xs o (Err d) h k b c = refused c.err
+  where
+    l : Laid m x.codec ps rs (x.bits ++ false ∷ []) [] 0
+    l = laid ps i m x.codec rs (x.bits ++ false ∷ []) [] 0 (opened ps true qs h) k
 
--- a record that is opened with as many presence bits as its components have
-pub opens_record : (parts : ℕ → Parts) (count : ℕ) (x i : State) (result : Result Scope EncodeError) → ((n : ℕ) → count ≡ presence_bits (parts n)) → OpensOrNot count None x result i
-    → OpenedToWrite encoder_rules Opens parts x result i
-opens_record parts count x i (Ok o) e c = λ n. let h = subst (λ k. OpensRecord k None x o i) (e n) c.ok in (h, passes x i o (parts n) h)
-opens_record parts count x i (Err d) e c = inl c.err
+    g : GivenAll m j x.codec qs xs (to_be_given (length x.bits) (part_count qs))
+    g = given_all qs m j x.codec xs (to_be_given (length x.bits) (part_count qs)) (gathering ps qs rs h k) b
+
+    all : length g.kept.flags ≡ g.kept.count
+    all = let e = g.gathering.left in omega arith
+
+    refused : IsMemory d j ⊎ (IsError OutOfTurn d j × IsUngiven j.scope) → Written encoder_rules (extended ps true qs) (record_value rs xs) x (Err d) y
+    refused (inl q) = inl (record { kind_is = q.kind_is; codec_is = q.codec_is ∙ g.gathering.same })
+    refused (inr (e, inl s)) = let z = l.left in let p = ap (λ q. q.left) g.presences in absurd (omega arith)
+    refused (inr (e, inr n)) = absurd (n (subst AreGiven (sym g.gathering.keeps) all))
+
+pub closes_record : (ps : Parts) (marker : Bool) (qs : Parts) (x i j y : State) (rs xs : List (Option Value)) (o : Scope) (result : Result (Unit {0}) EncodeError) → (marker ≡ false → qs ≡ no_parts) → Opens (extended ps marker qs) x o i →
+    PresentsFields encoder_rules ps qs i rs xs j → ClosesOrNot o j result y → Written encoder_rules (extended ps marker qs) (record_value rs xs) x result y
+closes_record ps true qs x i j y rs xs o result w h (presents_fields {m = m} k b) c = closes_extended ps qs x i m j y rs xs o result h k b c
+closes_record ps false qs x i j y rs xs o result w h (presents_fields {m = m} k b) c =
+    let n = given_none qs m j xs (parts_keep ps i m rs k ∙ h.keeps) b in
+    subst (λ (q : Parts). Written encoder_rules (extended ps false q) (record_value rs xs) x result y) (sym (w refl))
+    (subst (λ (zs : List (Option Value)). Written encoder_rules (extended ps false no_parts) (record_value rs zs) x result y) (sym n.0)
+    (closes_plain ps x i j y rs o result h (subst (λ (z : State). PresentsParts encoder_rules ps i rs z) (sym n.1) k) c))
+
+-- nor was the encoder refused inside
+pub not_failed_inside : (ps : Parts) (marker : Bool) (qs : Parts) (x i j : State) (rs xs : List (Option Value)) (o : Scope) → Opens (extended ps marker qs) x o i → PresentsFields encoder_rules ps qs i rs xs j → j.failed ≡ true → ⊥
+not_failed_inside ps true qs x i j rs xs o h (presents_fields {m = m} k b) f =
+    let g = given_all qs m j x.codec xs (to_be_given (length x.bits) (part_count qs)) (gathering ps qs rs h k) b in
+    let u = g.gathering.unfailed in absurd cc
+not_failed_inside ps false qs x i j rs xs o h (presents_fields {m = m} k b) f =
+    let l = laid ps i m x.codec rs x.bits [] 0 (opened ps false qs h) k in
+    let n = given_none qs m j xs (parts_keep ps i m rs k ∙ h.keeps) b in
+    let u = l.unfailed in let e = ap (λ z. z.failed) n.1 in absurd cc
+
+-- a record that is opened with as many presence bits and additions as its components have
+pub opens_record : (parts : ℕ → Parts) (marker : Bool) (additions : ℕ → Parts) (count : ℕ) (behind : Option ℕ) (x i : State) (result : Result Scope EncodeError) → ((n : ℕ) → count ≡ presence_bits (parts n)) →
+    ((n : ℕ) → behind ≡ behind_marker marker (part_count (additions n))) → (marker ≡ false → (n : ℕ) → additions n ≡ no_parts) → OpensOrNot count behind x result i → OpenedToWrite encoder_rules Opens parts marker additions x result i
+opens_record parts marker additions count behind x i (Ok o) e d w c =
+    λ n. let h = subst (λ k. OpensRecord k (behind_marker marker (part_count (additions n))) x o i) (e n) (subst (λ b. OpensRecord count b x o i) (d n) c.ok) in
+    (h, passes x i o (parts n) marker (additions n) (λ m. w m n) h)
+opens_record parts marker additions count behind x i (Err d) e b w c = inl c.err

@@ -4,6 +4,7 @@
 ghost use Rattle.std.specs.Prelude.{◌≡◌, [], true, false, Some, OnOk, OnErr, IfOk, IfErr};
 ghost use Rattle.rasn_types.specs.declared.types.Codec.TheVariants.{Aper, Uper};
 ghost use Rattle.per_core.specs.Canon.{completed};
+ghost use Rattle.per_enc.specs.Opens.{counted_behind};
 ghost use Rattle.per_write.specs.Faults.{RefusesOutput};
 ghost use Rattle.per_write.specs.Rules.{encoder_rules};
 ghost use Rattle.per_write.specs.State.{fresh, view};
@@ -11,7 +12,7 @@ ghost use Rattle.per_write.specs.State.{fresh, view};
 pub use per_write::error;
 pub use per_write::error::{EncodeError, EncodeErrorKind};
 use per_write::lists::OpenList;
-use per_write::{Scope, Writer};
+use per_write::{Outside, Scope, Writer};
 use rasn_calls::encoder;
 use rasn_schema::choices::Choice;
 use rasn_schema::enumerated::Enumerated;
@@ -125,17 +126,22 @@ impl<A: Allocator + Clone> encoder::Encoder for Encoder<A> {
     ghost use Rattle.per_enc.specs.Laws.{presents_well};
     ghost use Rattle.per_enc.specs.Choices.{OpensChoice};
     ghost use Rattle.per_enc.specs.Opens.{Opens};
+    ghost use Rattle.per_write.specs.Additions.{Opens as OpensOpenType};
     ghost use Rattle.per_write.specs.Lists.{AmidList};
 
     type Error = EncodeError;
 
     type Scope = Scope<A>;
 
+    type Addition = Outside<A>;
+
     type List = OpenList;
 
     ghost rules = { encoder_rules };
 
     ghost opens = { Opens };
+
+    ghost opens_addition = { OpensOpenType };
 
     ghost opens_choice = { OpensChoice };
 
@@ -287,7 +293,7 @@ impl<A: Allocator + Clone> encoder::Encoder for Encoder<A> {
     ) -> Result<Scope<A>, EncodeError> {
         self.writer.check_unfailed()?;
         let count = C::FIELDS.number_of_optional_and_default_fields();
-        self.writer.open_record(count, None)
+        self.writer.open_record(count, addition_count::<C>())
     }
 
     fn close_sequence<C: Constructed>(&mut self, outside: Scope<A>) -> Result<(), EncodeError> {
@@ -320,6 +326,28 @@ impl<A: Allocator + Clone> encoder::Encoder for Encoder<A> {
         self.writer.set_presence(is_there)
     }
 
+    fn skip_addition(&mut self) -> Result<(), EncodeError> {
+        self.writer.check_unfailed()?;
+        self.writer.skip_addition()
+    }
+
+    fn open_addition(&mut self) -> Result<Outside<A>, EncodeError> {
+        self.writer.check_unfailed()?;
+        self.writer.open_addition()
+    }
+
+    fn close_addition(&mut self, addition: Outside<A>) -> Result<(), EncodeError> {
+        self.writer.check_unfailed()?;
+        self.writer.close_addition(addition)
+    }
+
+    fn close_group<C: Constructed>(&mut self, addition: Outside<A>) -> Result<(), EncodeError> {
+        self.writer.check_unfailed()?;
+        let fields = C::FIELDS;
+        let has_required = fields.number_of_optional_and_default_fields() < fields.len();
+        self.writer.close_group(addition, has_required)
+    }
+
     fn open_list(
         &mut self,
         _tag: Tag,
@@ -346,4 +374,17 @@ impl<A: Allocator + Clone> encoder::Encoder for Encoder<A> {
     }
 
     ghost lawful = { presents_well };
+}
+
+/// How many additions a type has, where it has an extension marker.
+fn addition_count<C: Constructed>() -> Option<usize>
+    ensures { result ≡ counted_behind C.IS_EXTENSIBLE C.EXTENDED_FIELDS }
+{
+    if !C::IS_EXTENSIBLE {
+        return None;
+    }
+    match C::EXTENDED_FIELDS {
+        Some(fields) => Some(fields.len()),
+        None => Some(0),
+    }
 }

@@ -2,15 +2,16 @@
 use Rattle.std.specs.Prelude.{◌≡◌, ◌<◌, ◌≤◌, ◌⊎◌, Bool, true, false, ◌||◌, [], ◌∷◌, ◌++◌, length, Option, Some, None, Result, IfOk, IfErr, OnOk, OnErr}
 use Rattle.rasn_types.specs.Bits.{Bits}
 use Rattle.rasn_types.specs.Codecs.{variant_of}
+use Rattle.rasn_types.specs.Values.{Value}
 use Rattle.rasn_types.specs.Variants.{Variant}
-use Rattle.rasn_schema.specs.Schemas.{Parts, no_parts, part, Presence, required, optional, group, default}
-use Rattle.per_core.specs.Canon.{any_set}
+use Rattle.rasn_schema.specs.Schemas.{Schema, Parts, no_parts, part, Presence, required, optional, group, default}
+use Rattle.per_core.specs.Canon.{any_set, canon}
 use Rattle.per_core.specs.Counts.{open_bits}
 use Rattle.per_core.specs.Writers.{Writer, just}
 use Rattle.per_write.specs.declared.error.EncodeError.{EncodeError}
 use Rattle.per_write.specs.declared.error.EncodeErrorKind.TheVariants.{TooManyAdditions}
 use Rattle.per_write.specs.declared.presences.Presences.{Presences}
-use Rattle.per_write.specs.Faults.{IsError, IsMemory}
+use Rattle.per_write.specs.Faults.{IsAlready, IsError, IsMemory}
 use Rattle.per_write.specs.State.{Additions, Appends, State, no_scope}
 
 -- what waits outside of an open type: the bits written before, and what is kept of the open SEQUENCE
@@ -59,6 +60,10 @@ NoneLeft (Some k) = k.count ≤ length k.flags
 abbrev pub RefusesAddition : EncodeError → State → Type 0
 RefusesAddition e x = IsMemory e x ⊎ (IsError TooManyAdditions e x × NoneLeft x.scope.additions)
 
+-- an error by which an addition is refused: none is left to give, or the encoder had been refused before
+abbrev pub IsSurplus : EncodeError → State → Type 0
+IsSurplus e x = (IsError TooManyAdditions e x × NoneLeft x.scope.additions) ⊎ (IsAlready e x × (x.failed ≡ true))
+
 -- A call that takes the additions of the open SEQUENCE, of which one is still to be given.
 pub record TakesOrNot (x : State) (result : Result Additions EncodeError) (y : State) : Type 0 where
   pub ok : IfOk result (λ k. Awaits x k)
@@ -93,6 +98,11 @@ pub record Opens (x : State) (outside : Outside) (y : State) : Type 0 where
   pub waits : outside ≡ record { bits = x.bits; presences = x.scope.presences; additions = outside.additions }
   pub same : y ≡ record x { bits = []; scope = no_scope }
 
+-- the contents of the next addition's open type begin
+pub record Begins (x y : State) : Type 0 where
+  pub outside : Outside
+  pub opened : Opens x outside y
+
 -- A call that opens the open type of the next addition.
 pub record OpensOrNot (x : State) (result : Result Outside EncodeError) (y : State) : Type 0 where
   pub ok : IfOk result (λ outside. Opens x outside y)
@@ -113,3 +123,13 @@ pub record ClosesOrNot (is_there : Bool) (outside : Outside) (x : State) (result
   pub err : IfErr result (λ e. IsMemory e x)
   pub fails : OnErr result (y.failed ≡ true)
   pub kept : y.codec ≡ x.codec
+
+-- the next addition is there: one value in an open type
+pub record Adds (x : State) (s : Schema) (v : Value) (y : State) : Type 0 where
+  pub before : Additions
+  pub awaits : Awaits x before
+  pub contents : Bits
+  pub complete : canon (variant_of x.codec) s v 0 ≡ Some contents
+  pub opens : Bits
+  pub appended : Appends before.opens (open_if (variant_of x.codec) true contents) opens
+  pub same : y ≡ record x { scope = record { presences = x.scope.presences; additions = Some (with_next before true opens) } }

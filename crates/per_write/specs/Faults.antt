@@ -1,5 +1,5 @@
 -- What the errors of an encoder say.
-use Rattle.std.specs.Prelude.{ℕ, ◌≡◌, ◌<◌, ◌⊎◌, Bool, true, false, ◌||◌, List, [], ◌∷◌, length, get_or, Option, Some, None, is_some, MatchOption, ℤ}
+use Rattle.std.specs.Prelude.{ℕ, ◌≡◌, ◌<◌, ◌⊎◌, Bool, true, false, ◌||◌, List, ◌∷◌, length, get_or, Option, Some, None, is_some, MatchOption, ℤ}
 use Rattle.rasn_types.specs.Alphabets.{index_of}
 use Rattle.rasn_types.specs.Codecs.{variant_of}
 use Rattle.rasn_types.specs.Values.{Value, whole, octets, bits, characters, elements, values, alternative, root}
@@ -8,8 +8,8 @@ use Rattle.rasn_schema.specs.Choices.{alternative_at, choice_of}
 use Rattle.rasn_schema.specs.Lists.{list_value}
 use Rattle.rasn_schema.specs.Records.{record_value}
 use Rattle.rasn_schema.specs.Schemas.{Schema, Parts, part, Presence, TagTree}
-use Rattle.rasn_calls.specs.Scopes.{record_of}
-use Rattle.per_core.specs.Canon.{canon}
+use Rattle.rasn_calls.specs.Additions.{extended}
+use Rattle.per_core.specs.Canon.{canon, shown}
 use Rattle.per_write.specs.State.{State}
 use Rattle.per_write.specs.declared.error.EncodeError.{EncodeError}
 use Rattle.per_write.specs.declared.error.EncodeErrorKind.{EncodeErrorKind}
@@ -86,9 +86,9 @@ abbrev pub IsReal : Schema → Value → Type 0
 IsReal Schema.real v = Unit {0}
 IsReal _ _ = ⊥
 
--- a component that is there, by its schema
+-- X.691 19.2, 19.8: a component that is written, by its schema
 pub data HasPart (s : Schema) (v : Value) : Parts → List (Option Value) → Type 0 where
-  part_here : {t : TagTree} {p : Presence} {ps : Parts} {rs : List (Option Value)} → HasPart s v (part t p s ps) (Some v ∷ rs)
+  part_here : {t : TagTree} {p : Presence} {ps : Parts} {rs : List (Option Value)} → shown p (Some v) ≡ Some true → HasPart s v (part t p s ps) (Some v ∷ rs)
   part_behind : {t : TagTree} {p : Presence} {c : Schema} {r : Option Value} {ps : Parts} {rs : List (Option Value)} → HasPart s v ps rs → HasPart s v (part t p c ps) (r ∷ rs)
 
 -- an element of a list
@@ -96,14 +96,15 @@ pub data HasElement (v : Value) : List Value → Type 0 where
   element_here : {vs : List Value} → HasElement v (v ∷ vs)
   element_behind : {w : Value} {vs : List Value} → HasElement v vs → HasElement v (w ∷ vs)
 
--- a fault stands in a value: at once, in a component or an element of it, or in its alternative
+-- a fault stands in a value: at once, in a component, an addition or an element of it, or in its alternative
 pub data StandsIn (fault : Schema → Value → Type 0) : Schema → Value → Type 0 where
   at_once : {s : Schema} {v : Value} → fault s v → StandsIn fault s v
-  in_part : {s : Schema} {v : Value} {ps : Parts} {rs : List (Option Value)} → HasPart s v ps rs → StandsIn fault s v → StandsIn fault (record_of ps) (record_value rs [])
+  in_part : {s : Schema} {v : Value} {ps qs : Parts} {marker : Bool} {rs : List (Option Value)} (xs : List (Option Value)) → HasPart s v ps rs → StandsIn fault s v → StandsIn fault (extended ps marker qs) (record_value rs xs)
+  in_addition : {s : Schema} {v : Value} {ps qs : Parts} {marker : Bool} {xs : List (Option Value)} (rs : List (Option Value)) → HasPart s v qs xs → StandsIn fault s v → StandsIn fault (extended ps marker qs) (record_value rs xs)
   in_element : {e : Schema} {size : Size} {mark : Bool} {v : Value} {vs : List Value} → HasElement v vs → StandsIn fault e v → StandsIn fault (Schema.list e size mark) (list_value vs)
   in_alternative : {s : Schema} {v : Value} {ps : Parts} {k : ℕ} → alternative_at ps k ≡ Some s → StandsIn fault s v → StandsIn fault (choice_of ps) (alternative root k v)
 
--- Where a kind's fault stands in a value. No call can answer those of additions yet, and no choice that a lawful type
+-- Where a kind's fault stands in a value. No list of additions is longer than its schema's, and no choice that a lawful type
 -- writes has a tag of none of its alternatives; the last three are none of a value.
 abbrev pub IsInValue : EncodeErrorKind → Schema → Value → Type 0
 IsInValue (SizeConstraintNotSatisfied length lower upper) s v = StandsIn (IsOutOfSize length lower upper) s v

@@ -3,6 +3,7 @@ use Rattle.rasn_calls.specs.Calls.{EncoderRules}
 use Rattle.per_write.specs.declared.error.EncodeError.{EncodeError}
 use Rattle.per_write.specs.declared.error.EncodeErrorKind.TheVariants.{VariantNotInChoice}
 use Rattle.per_write.specs.Faults.{IsError, IsMemory, IsAlready, RefusesValue}
+use Rattle.per_write.specs.Additions.{Adds, Begins, IsSurplus, Skips}
 use Rattle.per_write.specs.Presences.{Marks, IsUnmarked}
 use Rattle.per_write.specs.State.{State, Presents}
 
@@ -10,8 +11,12 @@ abbrev pub encoder_rules : EncoderRules EncodeError State
 encoder_rules = record {
   presents = Presents;
   marks = Marks;
+  skips = Skips;
+  begins = Begins;
+  adds = Adds;
   refuses = RefusesValue;
   unmarked = IsUnmarked;
+  surplus = IsSurplus;
   unchosen = IsError VariantNotInChoice;
   memory = IsMemory;
   already = IsAlready;

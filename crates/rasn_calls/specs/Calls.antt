@@ -3,6 +3,7 @@ use Rattle.std.specs.Prelude.{◌≡◌, ℕ, ◌≤◌, ◌⊎◌, Bool, true, 
 use Rattle.rasn_types.specs.declared.types.Codec.{Codec}
 use Rattle.rasn_types.specs.Values.{Value}
 use Rattle.rasn_schema.specs.Schemas.{Schema}
+use Rattle.rasn_schema.specs.Lawful.{is_group_schema}
 use Rattle.rasn_schema.specs.Normal.{normal, is_vacant}
 
 -- a fact at each unfolding of a schema that is deep enough for a value of k levels
@@ -75,7 +76,7 @@ pub record PresentsWell {E X : Type 0} (rules : EncoderRules E X) : Type 0 where
   pub begin_room : (x y : X) (e : E) → rules.begins x y → rules.memory e y → rules.memory e x
   pub add_room : (x : X) (s : Schema) (v : Value) (y : X) (e : E) → rules.adds x s v y → rules.memory e y → rules.memory e x
   -- a group that holds nothing isn't refused (X.691 19.9)
-  pub vacant : (x i : X) (s : Schema) (v : Value) (e : E) → rules.begins x i → is_vacant s v ≡ true → rules.refuses e i s v → ⊥
+  pub vacant : (x i : X) (s : Schema) (v : Value) (e : E) → rules.begins x i → is_group_schema s ≡ true → is_vacant s v ≡ true → rules.refuses e i s v → ⊥
 
 -- A refusal of a decoder: nothing is read at s, and the fault that e names stands in what is left there.
 pub record Refuses {S V E : Type 0} (R : S → V → S → Type 0) (fault : E → S → Type 0) (e : E) (s : S) : Type 0 where

@@ -1,6 +1,6 @@
 //! What a record states of its components: their tags, in which order they stand, and whether they may be absent.
 
-ghost use Rattle.std.specs.Prelude.{◌≡◌, ℕ, Bool, List, [], Option, count_by};
+ghost use Rattle.std.specs.Prelude.{◌≡◌, ℕ, Bool, List, [], length, Option, count_by};
 ghost use Rattle.rasn_types.specs.Values.{Value};
 ghost use Rattle.rasn_schema.specs.Schemas.{Parts, Order, listed};
 ghost use Rattle.rasn_schema.specs.Records.{record_at, no_additions};
@@ -66,6 +66,13 @@ impl Model for Fields {
 
 impl Fields {
     ghost use Rattle.rasn_schema.specs.Fields.{may_be_absent};
+
+    /// How many components there are.
+    pub fn len(&self) -> usize
+        ensures { result ≡ length self.now }
+    {
+        self.list.len()
+    }
 
     /// How many of the components may be absent: each has a presence bit (X.691 19.2).
     pub fn number_of_optional_and_default_fields(&self) -> usize

@@ -1,0 +1,128 @@
+-- The calls of an encoder that give additions (ITU-T X.691, 11.2, 19.7 to 19.9).
+use Rattle.std.specs.Prelude.{Result, Ok, Err, not, nat_lt}
+use Rattle.std.proofs.Common.{◌≡◌, refl, sym, ap, ap₂, ◌∙◌, subst, inl, inr, ℕ, suc, ◌<◌, ◌≤◌, Bool, true, false, length, Some, None, arith, append-nil, lt-ltb}
+use Rattle.std.proofs.lemmas.Bool.{le-ltb}
+use Rattle.rasn_types.specs.Bits.{Bits}
+use Rattle.rasn_types.specs.Codecs.{variant_of}
+use Rattle.rasn_types.specs.Values.{Value, fields, slots}
+use Rattle.rasn_types.specs.Variants.{Variant}
+use Rattle.rasn_types.specs.declared.types.Codec.{Codec}
+use Rattle.rasn_schema.specs.Fields.{shapes_from}
+use Rattle.rasn_schema.specs.Lawful.{presence_bits}
+use Rattle.rasn_schema.specs.Normal.{is_vacant, settle}
+use Rattle.rasn_schema.specs.Schemas.{Schema, Parts, no_parts, part, required, optional, group, default}
+use Rattle.rasn_calls.specs.Additions.{AdditionClosed, AdditionOpened, AdditionSkipped, extended}
+use Rattle.per_core.specs.Canon.{canon}
+use Rattle.per_write.specs.declared.error.EncodeError.{EncodeError}
+use Rattle.per_write.specs.declared.presences.Presences.{Presences}
+use Rattle.per_write.specs.Additions.{ClosesOrNot, has_required, is_group_there, open_if, Opens, OpensOrNot, Outside, SkipsOrNot, with_next}
+use Rattle.per_write.specs.Rules.{encoder_rules}
+use Rattle.per_write.specs.State.{Additions, Appends, State, Presents}
+use Rattle.per_write.proofs.Vacant.{group_there}
+use Rattle.per_enc.specs.Opens.{part_count}
+use Rattle.per_enc.proofs.Presenting.{presents_first}
+
+inside : {A : Type 0} {s t : A} → Some s ≡ Some t → s ≡ t
+inside e = cc
+
+pub skipped : (x y : State) (result : Result (Unit {0}) EncodeError) → SkipsOrNot x result y → AdditionSkipped encoder_rules x result y
+skipped x y (Ok u) h = h.ok
+skipped x y (Err e) h = elim h.err [ inl m ↦ inl m | inr s ↦ inr (inl s) ]
+
+pub opened : (x y : State) (result : Result Outside EncodeError) → OpensOrNot x result y → AdditionOpened encoder_rules Opens x result y
+opened x y (Ok o) h = (h.ok, record { outside = o; opened = h.ok })
+opened x y (Err e) h = elim h.err [ inl m ↦ inl m | inr s ↦ inr (inl s) ]
+
+-- what was written inside an open type is the value's canonical bits
+contents_of : (x i j : State) (o : Outside) (s : Schema) (v : Value) → Opens x o i → Presents i s v j → canon (variant_of x.codec) s v 0 ≡ Some j.bits
+contents_of x i j o s v h w = ap (λ (c : Codec). canon (variant_of c) s v 0) (sym (ap (λ z. z.codec) h.same)) ∙ sym (presents_first i j s v (ap (λ z. z.bits) h.same) w)
+
+-- what was before is there again, but for the additions
+restored : (x i j y : State) (o : Outside) (s : Schema) (v : Value) (k : Additions) → Opens x o i → Presents i s v j → y ≡ record j { bits = o.bits; scope = record { presences = o.presences; additions = Some k } } →
+    y ≡ record x { scope = record { presences = x.scope.presences; additions = Some k } }
+restored x i j y o s v k h w e =
+    let codec : j.codec ≡ x.codec = w.same ∙ ap (λ z. z.codec) h.same in
+    let failed : j.failed ≡ x.failed = w.left ∙ sym h.awaits.begun in
+    let bits : o.bits ≡ x.bits = ap (λ z. z.bits) h.waits in
+    let presences : o.presences ≡ x.scope.presences = ap (λ z. z.presences) h.waits in
+    e ∙ ap₂ (λ (bs : Bits) (f : Bool). record { bits = bs; failed = f; codec = j.codec; scope = record { presences = o.presences; additions = Some k } }) bits failed
+    ∙ ap₂ (λ (c : Codec) (q : Presences). record { bits = x.bits; failed = x.failed; codec = c; scope = record { presences = q; additions = Some k } }) codec presences
+
+-- the value of an addition
+pub closed : (x i j y : State) (o : Outside) (s : Schema) (v : Value) (result : Result (Unit {0}) EncodeError) → Opens x o i → Presents i s v j → ClosesOrNot true o j result y → AdditionClosed encoder_rules s (Some v) x result y
+closed x i j y o s v (Ok u) h w c = record {
+  before = o.additions;
+  awaits = h.awaits;
+  contents = j.bits;
+  complete = contents_of x i j o s v h w;
+  opens = c.ok.opens;
+  appended = subst (λ (e : Codec). Appends o.additions.opens (open_if (variant_of e) true j.bits) c.ok.opens) codec c.ok.appended;
+  same = restored x i j y o s v (with_next o.additions true c.ok.opens) h w c.ok.same;
+}
+  where
+    codec : j.codec ≡ x.codec
+    codec = w.same ∙ ap (λ z. z.codec) h.same
+closed x i j y o s v (Err e) h w c = record { kind_is = c.err.kind_is; codec_is = c.err.codec_is ∙ w.same ∙ ap (λ z. z.codec) h.same }
+
+-- X.691 19.9: whether a group is there
+shown_group : (a : Variant) (ps : Parts) (marker : Bool) (qs : Parts) (v : Value) (written : Bits) → canon a (extended ps marker qs) v 0 ≡ Some written → is_group_there (has_required ps) written ≡ not (is_vacant (extended ps marker qs) v)
+unfolding canon is_vacant
+shown_group a ps marker qs (fields r x) written e = group_there a marker ps qs (slots r) (slots x) 0 written e
+shown_group a ps marker qs _ written e = absurd cc
+
+left_out : (x i j y : State) (o : Outside) (s : Schema) (v : Value) (result : Result (Unit {0}) EncodeError) → Opens x o i → Presents i s v j → ClosesOrNot false o j result y → AdditionClosed encoder_rules s None x result y
+left_out x i j y o s v (Ok u) h w c =
+    let opens : c.ok.opens ≡ o.additions.opens = inside c.ok.appended ∙ append-nil o.additions.opens in
+    record {
+      before = o.additions;
+      awaits = h.awaits;
+      same = restored x i j y o s v (with_next o.additions false c.ok.opens) h w c.ok.same ∙ ap (λ (bs : Bits). record x { scope = record { presences = x.scope.presences; additions = Some (with_next o.additions false bs) } }) opens;
+    }
+left_out x i j y o s v (Err e) h w c = record { kind_is = c.err.kind_is; codec_is = c.err.codec_is ∙ w.same ∙ ap (λ z. z.codec) h.same }
+
+-- a group
+pub group_closed : (ps : Parts) (marker : Bool) (qs : Parts) (x i j y : State) (o : Outside) (v : Value) (has : Bool) (result : Result (Unit {0}) EncodeError) → has ≡ has_required ps → Opens x o i → Presents i (extended ps marker qs) v j →
+    ClosesOrNot (is_group_there has j.bits) o j result y → AdditionClosed encoder_rules (extended ps marker qs) (settle group (extended ps marker qs) v) x result y
+unfolding settle
+group_closed ps marker qs x i j y o v has result e h w c = go (is_vacant (extended ps marker qs) v) refl
+  where
+    there : is_group_there has j.bits ≡ not (is_vacant (extended ps marker qs) v)
+    there = ap (λ (b : Bool). is_group_there b j.bits) e ∙ shown_group (variant_of x.codec) ps marker qs v j.bits (contents_of x i j o (extended ps marker qs) v h w)
+
+    go : (b : Bool) → is_vacant (extended ps marker qs) v ≡ b → AdditionClosed encoder_rules (extended ps marker qs) (settle group (extended ps marker qs) v) x result y
+    go false n = rw n (closed x i j y o (extended ps marker qs) v result h w (subst (λ (b : Bool). ClosesOrNot b o j result y) (there ∙ ap not n) c))
+    go true n = rw n (left_out x i j y o (extended ps marker qs) v result h w (subst (λ (b : Bool). ClosesOrNot b o j result y) (there ∙ ap not n) c))
+
+-- how many parts there are
+pub shapes_counted : (i : ℕ) (ps : Parts) → length (shapes_from i ps) ≡ part_count ps
+shapes_counted i no_parts = refl
+shapes_counted i (part t q s ps) = ap suc (shapes_counted (suc i) ps)
+
+bits_within : (ps : Parts) → presence_bits ps ≤ part_count ps
+bits_within no_parts = omega arith
+bits_within (part t required s ps) = let h = bits_within ps in omega arith
+bits_within (part t optional s ps) = let h = bits_within ps in omega arith
+bits_within (part t group s ps) = let h = bits_within ps in omega arith
+bits_within (part t (default d) s ps) = let h = bits_within ps in omega arith
+
+some_required : (ps : Parts) → has_required ps ≡ true → presence_bits ps < part_count ps
+some_required no_parts h = absurd cc
+some_required (part t required s ps) h = let b = bits_within ps in omega arith
+some_required (part t optional s ps) h = let b = some_required ps h in omega arith
+some_required (part t group s ps) h = let b = some_required ps h in omega arith
+some_required (part t (default d) s ps) h = let b = some_required ps h in omega arith
+
+none_required : (ps : Parts) → has_required ps ≡ false → presence_bits ps ≡ part_count ps
+none_required no_parts h = refl
+none_required (part t required s ps) h = absurd cc
+none_required (part t optional s ps) h = let b = none_required ps h in omega arith
+none_required (part t group s ps) h = let b = none_required ps h in omega arith
+none_required (part t (default d) s ps) h = let b = none_required ps h in omega arith
+
+-- whether a part is required, by how many have a presence bit
+pub required_counted : (ps : Parts) → nat_lt (presence_bits ps) (part_count ps) ≡ has_required ps
+required_counted ps = go (has_required ps) refl
+  where
+    go : (b : Bool) → has_required ps ≡ b → nat_lt (presence_bits ps) (part_count ps) ≡ has_required ps
+    go true h = lt-ltb (presence_bits ps) (part_count ps) (some_required ps h) ∙ sym h
+    go false h = le-ltb (presence_bits ps) (part_count ps) (let e = none_required ps h in omega arith) ∙ sym h

@@ -1,0 +1,89 @@
+-- No fault stands in an addition group that holds nothing (ITU-T X.691, 19.9).
+use Rattle.std.specs.Prelude.{◌≡◌, ℕ, Bool, true, false, ◌&&◌, not, List, [], ◌∷◌, Option, Some, ℤ, refl}
+use Rattle.std.proofs.Common.{◌∙◌, ap, sym}
+use Rattle.rasn_types.specs.Values.{Value, same}
+use Rattle.rasn_types.proofs.Values.{slots-as_slots}
+use Rattle.rasn_schema.specs.Lawful.{is_group_schema}
+use Rattle.rasn_schema.specs.Normal.{are_idle, is_idle, is_vacant}
+use Rattle.rasn_schema.specs.Schemas.{Schema, Parts, no_parts, part, Presence, required, optional, group, default}
+use Rattle.per_core.specs.Canon.{shown}
+use Rattle.per_write.specs.declared.error.EncodeErrorKind.{EncodeErrorKind}
+use Rattle.per_write.specs.declared.error.EncodeErrorKind.TheVariants.{SizeConstraintNotSatisfied, ValueConstraintNotSatisfied, AlphabetConstraintNotSatisfied, IntegerTypeConversionFailed, VariantNotInChoice, RealNotSupported, TooManyAdditions, Below, AlreadyFailed, OutOfMemory, OutOfTurn}
+use Rattle.per_write.specs.Faults.{HasPart, part_here, part_behind, StandsIn, at_once, in_part, in_addition, in_element, in_alternative, IsForeign, IsOutOfBounds, IsOutOfSize, IsPastBounds, IsReal, Stands}
+use Rattle.per_write.specs.State.{State}
+
+-- a part that is written isn't idle
+written_busy : (q : Presence) (v : Value) → shown q (Some v) ≡ Some true → is_idle q (Some v) ≡ false
+unfolding shown is_idle
+written_busy required v e = refl
+written_busy optional v e = refl
+written_busy group v e = refl
+written_busy (default d) v e = busy (same v d) e
+  where
+    busy : (b : Bool) → Some (not b) ≡ Some true → b ≡ false
+    busy true e = absurd cc
+    busy false e = refl
+
+and_nothing : (x : Bool) → (x && false) ≡ false
+and_nothing true = refl
+and_nothing false = refl
+
+part_busy : (s : Schema) (v : Value) (ps : Parts) (rs : List (Option Value)) → HasPart s v ps rs → are_idle ps rs ≡ false
+unfolding are_idle
+part_busy s v no_parts rs h = elim h [ ]
+part_busy s v (part t q c ps) [] h = elim h [ ]
+part_busy s v (part t q c ps) (r ∷ rs) (part_behind h) = ap (λ (b : Bool). is_idle q r && b) (part_busy s v ps rs h) ∙ and_nothing (is_idle q r)
+part_busy s v (part t q c ps) (Some w ∷ rs) (part_here e) = ap (λ (b : Bool). b && are_idle ps rs) (written_busy q w e)
+
+-- of faults that stand in no group themselves
+none_stands : (fault : Schema → Value → Type 0) → ((s : Schema) (v : Value) → is_group_schema s ≡ true → fault s v → ⊥) → (s : Schema) (v : Value) → is_group_schema s ≡ true → is_vacant s v ≡ true → StandsIn fault s v → ⊥
+unfolding is_vacant
+none_stands fault f s v g i (at_once h) = f s v g h
+none_stands fault f s v g i (in_part {ps = ps} {qs = qs} {rs = rs} xs h k) =
+    let b : are_idle ps rs ≡ false = part_busy _ _ ps rs h in
+    let e : (are_idle ps rs && are_idle qs xs) ≡ true = (rw (slots-as_slots rs, slots-as_slots xs) at i) in
+    absurd (let t : (false && are_idle qs xs) ≡ true = ap (λ (c : Bool). c && are_idle qs xs) (sym b) ∙ e in cc)
+none_stands fault f s v g i (in_addition {ps = ps} {qs = qs} {xs = xs} rs h k) =
+    let b : are_idle qs xs ≡ false = part_busy _ _ qs xs h in
+    let e : (are_idle ps rs && are_idle qs xs) ≡ true = (rw (slots-as_slots rs, slots-as_slots xs) at i) in
+    absurd (let t : false ≡ true = sym (and_nothing (are_idle ps rs)) ∙ ap (λ (c : Bool). are_idle ps rs && c) (sym b) ∙ e in cc)
+none_stands fault f s v g i (in_element h k) = absurd cc
+none_stands fault f s v g i (in_alternative h k) = absurd cc
+
+no_size : (n : ℕ) (l u : Option ℕ) (s : Schema) (v : Value) → is_group_schema s ≡ true → IsOutOfSize n l u s v → ⊥
+no_size n l u (Schema.sequence o ps m qs) v g h = h
+no_size n l u Schema.cut v g h = h
+no_size n l u _ v g h = absurd cc
+
+no_bounds : (n l u : Option ℤ) (s : Schema) (v : Value) → is_group_schema s ≡ true → IsOutOfBounds n l u s v → ⊥
+no_bounds n l u (Schema.sequence o ps m qs) v g h = h
+no_bounds n l u Schema.cut v g h = h
+no_bounds n l u _ v g h = absurd cc
+
+no_past : (s : Schema) (v : Value) → is_group_schema s ≡ true → IsPastBounds s v → ⊥
+no_past (Schema.sequence o ps m qs) v g h = h
+no_past Schema.cut v g h = h
+no_past _ v g h = absurd cc
+
+no_foreign : (s : Schema) (v : Value) → is_group_schema s ≡ true → IsForeign s v → ⊥
+no_foreign (Schema.sequence o ps m qs) v g h = h
+no_foreign Schema.cut v g h = h
+no_foreign _ v g h = absurd cc
+
+no_real : (s : Schema) (v : Value) → is_group_schema s ≡ true → IsReal s v → ⊥
+no_real (Schema.sequence o ps m qs) v g h = h
+no_real Schema.cut v g h = h
+no_real _ v g h = absurd cc
+
+pub none_in_vacant : (kind : EncodeErrorKind) (x : State) (s : Schema) (v : Value) → x.failed ≡ false → is_group_schema s ≡ true → is_vacant s v ≡ true → Stands kind x s v → ⊥
+none_in_vacant (SizeConstraintNotSatisfied n l u) x s v f g i h = none_stands (IsOutOfSize n l u) (no_size n l u) s v g i h
+none_in_vacant (ValueConstraintNotSatisfied n l u) x s v f g i h = none_stands (IsOutOfBounds n l u) (no_bounds n l u) s v g i h
+none_in_vacant AlphabetConstraintNotSatisfied x s v f g i h = none_stands IsForeign no_foreign s v g i h
+none_in_vacant IntegerTypeConversionFailed x s v f g i h = none_stands IsPastBounds no_past s v g i h
+none_in_vacant VariantNotInChoice x s v f g i h = h
+none_in_vacant RealNotSupported x s v f g i h = none_stands IsReal no_real s v g i h
+none_in_vacant TooManyAdditions x s v f g i h = h
+none_in_vacant Below x s v f g i h = h
+none_in_vacant AlreadyFailed x s v f g i h = absurd cc
+none_in_vacant OutOfMemory x s v f g i h = h
+none_in_vacant OutOfTurn x s v f g i h = h
