@@ -6,6 +6,8 @@
 #[cfg(test)]
 mod forms;
 #[cfg(test)]
+mod fronts;
+#[cfg(test)]
 mod header;
 #[cfg(test)]
 mod lines;
