@@ -219,12 +219,12 @@ fn replies_before_it_reads_on(rt: HostRuntime) -> Result<(), Fail> {
     let replies = Rc::new(rt.alloc(), Cell::new(0))?;
     let asker = Asker {
         given: 0,
-        replies: replies.clone(),
+        replies: replies.clone()?,
     };
     let mut input = BufReader::new(rt.alloc(), asker)?;
     let mut output = Counter {
         kept: 0,
-        replies: replies.clone(),
+        replies: replies.clone()?,
     };
     let (status, faults) = told(rt.alloc(), &mut input, &mut output)?;
     assert_eq!(rt; status, 0);
