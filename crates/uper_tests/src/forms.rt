@@ -6,6 +6,7 @@ use std::alloc::{AllocError, Global};
 use std::cell::Cell;
 use std::io;
 use std::io::{BufRead, BufReader, ErrorKind, Read};
+use std::rc::Rc;
 use std::test::Fail;
 
 /// Arguments, an input, and the replies to its lines.
@@ -169,36 +170,35 @@ fn ends_where_it_cannot_write(rt: HostRuntime) -> Result<(), Fail> {
     Ok(())
 }
 
-/// Gives a line in each read, and fails where one that it gave has no reply.
+/// Gives a line of an INTEGER in each read, and fails where one that it gave has no reply.
 #[derive(Drop)]
-struct Asker<'a> {
-    lines: &'static [&'static [u8]],
+struct Asker {
     given: usize,
-    replies: &'a Cell<usize>,
+    replies: Rc<Cell<usize>>,
 }
 
-impl Read for Asker<'_> {
+impl Read for Asker {
     fn read(&mut self, buffer: &mut [u8]) -> io::Result<usize> {
         if self.replies.get() != self.given {
             return Err(io::Error::from(ErrorKind::Other));
         }
-        let Some((line, rest)) = self.lines.split_first() else {
+        if self.given >= 4 {
             return Ok(0);
-        };
-        self.lines = rest;
-        self.given = self.given.saturating_add(1);
+        }
+        self.given += 1;
+        let mut line = b"0105\n".as_slice();
         line.read(buffer)
     }
 }
 
 /// Counts the replies that are passed on.
 #[derive(Drop)]
-struct Counter<'a> {
+struct Counter {
     kept: usize,
-    replies: &'a Cell<usize>,
+    replies: Rc<Cell<usize>>,
 }
 
-impl io::Write for Counter<'_> {
+impl io::Write for Counter {
     fn write(&mut self, octets: &[u8]) -> io::Result<usize> {
         if octets.contains(&b'\n') {
             self.kept = self.kept.saturating_add(1);
@@ -216,16 +216,15 @@ impl io::Write for Counter<'_> {
 
 #[test]
 fn replies_before_it_reads_on(rt: HostRuntime) -> Result<(), Fail> {
-    let replies = Cell::new(0);
+    let replies = Rc::new(rt.alloc(), Cell::new(0))?;
     let asker = Asker {
-        lines: &[b"0105\n", b"0\n", b"00\n", b"0105"],
         given: 0,
-        replies: &replies,
+        replies: replies.clone()?,
     };
     let mut input = BufReader::new(rt.alloc(), asker)?;
     let mut output = Counter {
         kept: 0,
-        replies: &replies,
+        replies: replies.clone()?,
     };
     let (status, faults) = told(rt.alloc(), &mut input, &mut output)?;
     assert_eq!(rt; status, 0);
