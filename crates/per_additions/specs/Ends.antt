@@ -2,7 +2,7 @@
 use Rattle.std.specs.Prelude.{◌≡◌, ℕ, List, length, Result, OnOk, IfErr}
 use Rattle.rasn_types.specs.Bits.{Bits, unpack}
 use Rattle.per_core.specs.Ends.{Ends, IsWhy}
-use Rattle.per_core.specs.Spellings.{Settings, Spelling, ZeroIf}
+use Rattle.per_core.specs.Spellings.{Settings, Spelling}
 use Rattle.per_core.specs.Took.{Took}
 use Rattle.per_core.specs.declared.ended.Surplus.{Surplus}
 use Rattle.per_core.specs.declared.ended.Surplus.TheVariants.{Missing, NonzeroOctet, NonzeroSpareBits, ExtraOctets}
@@ -13,9 +13,8 @@ use Rattle.per_read.specs.declared.error.ParserFailCause.TheVariants.{NonzeroEmp
 
 -- X.691 11.1: what is left of n bits behind a value ends a complete encoding, in zero bits where the settings ask for
 -- them
-pub record EndsAs (a : Settings) (left : Bits) (n : ℕ) : Type 0 where
-  pub ends : Ends left n
-  pub zeros : ZeroIf a.strict left
+abbrev pub EndsAs : Settings → Bits → ℕ → Type 0
+EndsAs a left n = Ends a.strict left n
 
 -- X.691 11.1: what has a spelling is read of octets, and what is left of them ends a complete encoding
 pub record IsWhole (a : Settings) (f : Spelling) (octets : List ℕ) : Type 0 where

@@ -1,6 +1,6 @@
 -- The calls of an encoder that give additions (ITU-T X.691, 11.2, 19.7 to 19.9).
 use Rattle.std.specs.Prelude.{Result, Ok, Err, not, nat_lt}
-use Rattle.std.proofs.Common.{◌≡◌, refl, sym, ap, ap₂, ◌∙◌, subst, inl, inr, ℕ, suc, ◌<◌, ◌≤◌, Bool, true, false, length, Some, None, arith, append-nil, lt-ltb}
+use Rattle.std.proofs.Common.{◌≡◌, refl, sym, ap, ap₂, ◌∙◌, subst, inl, inr, ℕ, zero, suc, ◌<◌, ◌≤◌, Bool, true, false, length, Some, None, arith, append-nil, lt-ltb}
 use Rattle.std.proofs.lemmas.Bool.{le-ltb}
 use Rattle.rasn_types.specs.Bits.{Bits}
 use Rattle.rasn_types.specs.Codecs.{variant_of}
@@ -10,7 +10,8 @@ use Rattle.rasn_types.specs.declared.types.Codec.{Codec}
 use Rattle.rasn_schema.specs.Fields.{shapes_from}
 use Rattle.rasn_schema.specs.Lawful.{presence_bits}
 use Rattle.rasn_schema.specs.Normal.{is_vacant, settle}
-use Rattle.rasn_schema.specs.Schemas.{Schema, Parts, no_parts, part, required, optional, group, default}
+use Rattle.rasn_schema.specs.Records.{record_at}
+use Rattle.rasn_schema.specs.Schemas.{listed, Schema, Parts, no_parts, part, required, optional, group, default}
 use Rattle.rasn_calls.specs.Additions.{AdditionClosed, AdditionOpened, AdditionSkipped, extended}
 use Rattle.per_core.specs.Canon.{canon}
 use Rattle.per_write.specs.declared.error.EncodeError.{EncodeError}
@@ -92,6 +93,21 @@ group_closed ps marker qs x i j y o v has result e h w c = go (is_vacant (extend
     go : (b : Bool) → is_vacant (extended ps marker qs) v ≡ b → AdditionClosed encoder_rules (extended ps marker qs) (settle group (extended ps marker qs) v) x result y
     go false n = rw n (closed x i j y o (extended ps marker qs) v result h w (subst (λ (b : Bool). ClosesOrNot b o j result y) (there ∙ ap not n) c))
     go true n = rw n (left_out x i j y o (extended ps marker qs) v result h w (subst (λ (b : Bool). ClosesOrNot b o j result y) (there ∙ ap not n) c))
+
+-- nothing was written where a tree is cut off
+none_cut : (i j : State) (v : Value) → Presents i Schema.cut v j → ⊥
+unfolding canon
+none_cut i j v w = let n : Some j.bits ≡ None = w.written 0 refl in absurd cc
+
+-- the same by the group's own family of trees
+pub family_closed : (parts : ℕ → Parts) (marker : Bool) (additions : ℕ → Parts) (schema : ℕ → Schema) → schema ≡ record_at listed parts marker additions → (x i j y : State) (o : Outside) (n : ℕ) (v : Value) (has : Bool)
+    (result : Result (Unit {0}) EncodeError) → ((m : ℕ) → has ≡ has_required (parts m)) → Opens x o i → Presents i (schema n) v j → ClosesOrNot (is_group_there has j.bits) o j result y
+    → AdditionClosed encoder_rules (schema n) (settle group (schema n) v) x result y
+family_closed parts marker additions schema e x i j y o n v has result q h w c = rw e (at_each n (rw e at w))
+  where
+    at_each : (m : ℕ) → Presents i (record_at listed parts marker additions m) v j → AdditionClosed encoder_rules (record_at listed parts marker additions m) (settle group (record_at listed parts marker additions m) v) x result y
+    at_each zero u = absurd (none_cut i j v u)
+    at_each (suc m) u = group_closed (parts m) marker (additions m) x i j y o v has result (q m) h u c
 
 -- how many parts there are
 pub shapes_counted : (i : ℕ) (ps : Parts) → length (shapes_from i ps) ≡ part_count ps

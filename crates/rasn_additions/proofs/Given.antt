@@ -1,10 +1,20 @@
 -- How the law of an addition follows from those of its open type and of its value, over any encoder.
-use Rattle.std.proofs.Common.{◌≡◌, refl, ◌⊎◌, inl, inr, Bool, true, false, Result, Ok, Err, Option, Some, None}
+use Rattle.std.proofs.Common.{◌≡◌, refl, ap, ◌∙◌, ℕ, zero, suc, ◌⊎◌, inl, inr, Bool, true, false, Result, Ok, Err, Option, Some, None}
 use Rattle.rasn_types.specs.Values.{Value}
+use Rattle.rasn_schema.specs.Lawful.{is_group_schema}
 use Rattle.rasn_schema.specs.Normal.{is_vacant, settle}
-use Rattle.rasn_schema.specs.Schemas.{group, Schema}
+use Rattle.rasn_schema.specs.Records.{record_at}
+use Rattle.rasn_schema.specs.Schemas.{group, listed, Parts, Schema}
 use Rattle.rasn_calls.specs.Additions.{AdditionClosed, AdditionWritten, ClosesAddition, presents_added, presents_skipped, refuses_added, refuses_inside, refuses_skipped, refuses_surplus, WrittenAddition}
 use Rattle.rasn_calls.specs.Calls.{EncoderRules, PresentsWell, Written}
+
+-- a record is a group's schema at each depth
+pub record_is_group : {schema : ℕ → Schema} (parts : ℕ → Parts) (marker : Bool) (additions : ℕ → Parts) → schema ≡ record_at listed parts marker additions → (n : ℕ) → is_group_schema (schema n) ≡ true
+record_is_group parts marker additions e n = ap (λ f. is_group_schema (f n)) e ∙ at_each n
+  where
+    at_each : (m : ℕ) → is_group_schema (record_at listed parts marker additions m) ≡ true
+    at_each zero = refl
+    at_each (suc m) = refl
 
 module _ {E X : Type 0} (rules : EncoderRules E X) (L : PresentsWell rules) where
   -- a value that is refused inside its open type
@@ -29,13 +39,13 @@ module _ {E X : Type 0} (rules : EncoderRules E X) (L : PresentsWell rules) wher
       of_vacant false h = rw h (inr (refuses_added refl (refuses_surplus q)))
 
   -- a group that is refused inside its open type: it holds something
-  pub group_refused : (s : Schema) (v : Value) (x i j y : X) (e : E) → rules.begins x i → Written rules s v i (Err e) j → WrittenAddition rules group s (settle group s v) x (Err e) y
+  pub group_refused : (s : Schema) (v : Value) (x i j y : X) (e : E) → is_group_schema s ≡ true → rules.begins x i → Written rules s v i (Err e) j → WrittenAddition rules group s (settle group s v) x (Err e) y
   unfolding settle
-  group_refused s v x i j y e b (inl m) = inl (L.begin_room x i e b m)
-  group_refused s v x i j y e b (inr q) = of_vacant (is_vacant s v) refl
+  group_refused s v x i j y e g b (inl m) = inl (L.begin_room x i e b m)
+  group_refused s v x i j y e g b (inr q) = of_vacant (is_vacant s v) refl
     where
       of_vacant : (c : Bool) → is_vacant s v ≡ c → WrittenAddition rules group s (settle group s v) x (Err e) y
-      of_vacant true h = absurd (L.vacant x i s v e b h q)
+      of_vacant true h = absurd (L.vacant x i s v e b g h q)
       of_vacant false h = rw h (inr (refuses_added refl (refuses_inside b q)))
 
   -- a group that was given
