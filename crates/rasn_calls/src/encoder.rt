@@ -382,12 +382,13 @@ pub trait Encoder: Sized {
 
     /// Writes a SEQUENCE (X.691 19) by the lists of its root components, which stand in the order of `FIELDS`, and of its
     /// additions, which stand in the order of `EXTENDED_FIELDS`.
-    final fn encode_record<
-        C: Constructed,
-        P: EncodeParts,
-        Q: EncodeAdditions,
-        I: Into<Identifier>,
-    >(&mut self, tag: Tag, parts: &P, additions: &Q, identifier: I) -> Result<(), Self::Error>
+    final fn encode_record<C: Constructed, P: EncodeParts, Q: EncodeAdditions, I: Into<Identifier>>(
+        &mut self,
+        tag: Tag,
+        parts: &P,
+        additions: &Q,
+        identifier: I,
+    ) -> Result<(), Self::Error>
         requires root { (n : ℕ) → C.parts n ≡ P.parts parts.now n }
         requires behind { (n : ℕ) → C.additions n ≡ Q.additions additions.now n }
         ensures { Encodes rules (record_at listed C.parts C.IS_EXTENSIBLE C.additions)

@@ -45,10 +45,16 @@ fn writes_and_reads_under_constraints(rt: HostRuntime) -> Result<(), Fail> {
     let limits = Constraints::new(ZERO_TO_SEVEN);
     let written = encode_with_constraints(rt.alloc(), &limits, &5_i128)?;
     assert_eq!(rt; written.as_slice(), [0xa0].as_slice());
-    assert_eq!(rt; decode_with_constraints::<i128>(rt.alloc(), &limits, &[0xa0]), Ok(5));
+    assert_eq!(rt;
+        decode_with_constraints::<i128>(rt.alloc(), &limits, &[0xa0]),
+        Ok(5)
+    );
     let written = aper::encode_with_constraints(rt.alloc(), &limits, &5_i128)?;
     assert_eq!(rt; written.as_slice(), [0xa0].as_slice());
-    assert_eq!(rt; aper::decode_with_constraints::<i128>(rt.alloc(), &limits, &[0xa0]), Ok(5));
+    assert_eq!(rt;
+        aper::decode_with_constraints::<i128>(rt.alloc(), &limits, &[0xa0]),
+        Ok(5)
+    );
     Ok(())
 }
 
@@ -62,15 +68,20 @@ fn leaves_the_octets_behind_a_value(rt: HostRuntime) {
 
 #[test]
 fn names_what_no_value_begins_with(rt: HostRuntime) {
-    let kind = decode_with_remainder::<()>(rt.alloc(), &[]).err().map(|e| e.kind);
+    let kind = decode_with_remainder::<()>(rt.alloc(), &[])
+        .err()
+        .map(|e| e.kind);
     assert_eq!(rt; kind, Some(DecodeErrorKind::Incomplete(8)));
-    let kind = decode_with_remainder::<()>(rt.alloc(), &[0x01, 0x00]).err().map(|e| e.kind);
+    let kind = decode_with_remainder::<()>(rt.alloc(), &[0x01, 0x00])
+        .err()
+        .map(|e| e.kind);
     let cause = ParserFailCause::NonzeroEmptyValue;
     assert_eq!(rt; kind, Some(DecodeErrorKind::ParserFail(cause)));
 }
 
-const NONZERO_PADDING: DecodeErrorKind =
-    DecodeErrorKind::ParserFail(ParserFailCause::NonzeroPadding);
+const NONZERO_PADDING: DecodeErrorKind = DecodeErrorKind::ParserFail(
+    ParserFailCause::NonzeroPadding,
+);
 
 /// Octets that are read as no BOOLEAN where padding must be zero, and why.
 const NO_BOOLEANS: &[(&[u8], DecodeErrorKind)] = &[
