@@ -66,6 +66,8 @@ const PRINTED: &[(&str, &str, &str)] = &[
         "! ParserFail\n! ParserFail\n! ParserFail\n",
     ),
     ("octets lines", "", ""),
+    // The form `zero`.
+    ("i65536 zero", "00fd\n", "00fd\n"),
     // The form `as`: padding bits that are not zero are gone where the other type reads.
     ("i65536 as i65536", "3ffd\n", "00fd\n"),
     ("boolean as byte", "ff\n", "80\n"),
@@ -79,6 +81,8 @@ const REFUSED: &[(&str, &str, &str)] = &[
     ("seven", "0000\n", "UnexpectedExtraData\n"),
     // 65537.
     ("i65536", "80010001\n", "ValueConstraintNotSatisfied\n"),
+    // 253, whose padding bits are not zero.
+    ("i65536 zero", "3ffd\n", "ParserFail\n"),
     // 253 in the octets `00fd`, as a number of no octets.
     ("i65536 as integer", "3ffd\n", "UnexpectedEmptyInput\n"),
     // The code 7, of five characters.

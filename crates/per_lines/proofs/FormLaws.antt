@@ -1,7 +1,7 @@
 -- What each form prints, and how it ends, by the words that ask for it.
 use Rattle.std.proofs.Common.{◌≡◌, sym, subst, ℕ, List, Option, Result, Ok, Err, OnOk, IfErr}
 use Rattle.per_lines.specs.declared.arguments.Form.{Form}
-use Rattle.per_lines.specs.declared.arguments.Form.TheVariants.{OneLine, Lines, As}
+use Rattle.per_lines.specs.declared.arguments.Form.TheVariants.{OneLine, Lines, Zero, As}
 use Rattle.per_lines.specs.declared.arguments.Arguments.{Arguments}
 use Rattle.per_lines.specs.declared.fault.Fault.{Fault}
 use Rattle.per_lines.specs.declared.fault.Fault.TheVariants.{WrongArguments, CannotRead, BadHexadecimal, Decode, Encode, CannotWrite, OutOfMemory}
@@ -22,6 +22,7 @@ ends : (words : List (List ℕ)) (a : Arguments) (form : Form) (input before aft
     words ≡ words_of a → a.form ≡ form → EndsIn form a input before after fault → Ends words input before after fault
 ends words a OneLine input before after WrongArguments e f x = elim x [ ]
 ends words a Lines input before after WrongArguments e f x = elim x [ ]
+ends words a Zero input before after WrongArguments e f x = elim x [ ]
 ends words a (As _) input before after WrongArguments e f x = elim x [ ]
 ends words a form input before after CannotRead e f x =
     (a, asks words a e, subst (λ g. EndsIn g a input before after CannotRead) (sym f) x)

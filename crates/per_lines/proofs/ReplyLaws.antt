@@ -1,7 +1,7 @@
 -- The replies to the lines of an input, one by one.
-use Rattle.std.proofs.Common.{◌≡◌, refl, sym, ap, ◌∙◌, subst, ℕ, ◌+◌, ◌-◌, List, [], ◌∷◌, ◌++◌, length, Option, Some, None, IfSome, Bool, true, false, append_assoc, append-nil, map, arith, rules}
-use Rattle.std.specs.Prelude.{◌≢◌, ◌==◌, ◌⊎◌, IsSomeAnd, slice_index, if◌then◌else◌}
-use Rattle.std.specs.Io.BufRead.{first_piece, strip_last, take_through, drop_through, ends_with_byte}
+use Rattle.std.proofs.Common.{◌≡◌, refl, sym, ap, ◌∙◌, ℕ, List, [], ◌∷◌, ◌++◌, Option, Some, None, IfSome, append_assoc, append-nil}
+use Rattle.std.specs.Prelude.{IsSomeAnd}
+use Rattle.std.specs.Io.BufRead.{drop_through}
 use Rattle.std.specs.Io.KnownBytes.{Appends, Keeps, IsAtEnd, prepend_known}
 use Rattle.std.specs.Io.Buffered.{reader_inner, reader_buffer, reader_capacity, reader_remaining}
 use Rattle.std.specs.declared.io.buffered.BufReader.{BufReader}
@@ -10,7 +10,7 @@ use Rattle.per_lines.specs.declared.fault.Fault.{Fault}
 use Rattle.per_lines.specs.declared.fault.Fault.TheVariants.{WrongArguments, CannotRead, BadHexadecimal, Decode, Encode, CannotWrite, OutOfMemory}
 use Rattle.per_lines.specs.Lines.{lines_of, TakesLine}
 use Rattle.per_lines.proofs.LineLaws.{lines-cons}
-use Rattle.per_lines.specs.Answers.{IsReply, AreReplies, PrintsReplies, PrintsNext, TakesTurn, EndsTurn, EndsReplies}
+use Rattle.per_lines.specs.Answers.{IsReply, AreReplies, PrintsReplies, PrintsNext, EndsTurn, EndsReplies}
 
 -- one reply more
 replies-more : (a : Arguments) (lines : List (List ℕ)) (octets line text : List ℕ) →

@@ -1,14 +1,14 @@
 -- The words after the program's name ask for one thing.
 use Rattle.std.proofs.Common.{◌≡◌, refl, sym, ap, ◌∙◌, ℕ, if◌then◌else◌, List, [], ◌∷◌, Option, Some, None}
 use Rattle.std.proofs.lemmas.Option.{same_Some}
-use Rattle.std.specs.Prelude.{option_map}
+use Rattle.std.specs.Prelude.{option_map, codes}
 use Rattle.std.specs.Str.{bytes_eq}
 use Rattle.rasn_types.specs.declared.types.Codec.{Codec}
 use Rattle.rasn_types.specs.declared.types.Codec.TheVariants.{Aper, Uper}
 use Rattle.per_lines.specs.declared.arguments.TypeName.{TypeName}
 use Rattle.per_lines.specs.declared.arguments.TypeName.TheVariants.{Boolean, Null, Integer, UpTo65535, FromMinusOne, Natural, ZeroTo65536, OneToTenExtensible, Four, Seven, OneDefault, ShortVisible, LettersAToE, BitString, OctetString, OnlyX, Items, Byte, MaybeEmpty, Nested, Nest, Deep, Bytes, Nulls, NullList, Elements}
 use Rattle.per_lines.specs.declared.arguments.Form.{Form}
-use Rattle.per_lines.specs.declared.arguments.Form.TheVariants.{OneLine, Lines, As}
+use Rattle.per_lines.specs.declared.arguments.Form.TheVariants.{OneLine, Lines, Zero, As}
 use Rattle.per_lines.specs.declared.arguments.Arguments.{Arguments}
 use Rattle.per_lines.specs.Words.{codec_word, type_word, form_words, words_of}
 use Rattle.per_lines.specs.Answers.{AskFor}
@@ -64,15 +64,21 @@ abbrev type_of : List (List ℕ) → Option TypeName
 type_of (v ∷ w ∷ ws) = named type_word w all_types
 type_of _ = None
 
+-- the word of a form of one word
+abbrev form_word : Form → List ℕ
+form_word Zero = codes "zero"
+form_word _ = codes "lines"
+
 abbrev form_of : List (List ℕ) → Option Form
 form_of (v ∷ w ∷ []) = Some OneLine
-form_of (v ∷ w ∷ x ∷ []) = Some Lines
+form_of (v ∷ w ∷ x ∷ []) = named form_word x (Lines ∷ Zero ∷ [])
 form_of (v ∷ w ∷ x ∷ y ∷ ws) = option_map As (named type_word y all_types)
 form_of _ = None
 
 form_of-words : (v w : List ℕ) (f : Form) → form_of (v ∷ w ∷ form_words f) ≡ Some f
 form_of-words v w OneLine = refl
 form_of-words v w Lines = refl
+form_of-words v w Zero = refl
 form_of-words v w (As t) = ap (option_map As) (type_of-word t)
 
 same_codec : (a b : Arguments) → words_of a ≡ words_of b → a.codec ≡ b.codec

@@ -4,7 +4,7 @@ use Rattle.std.specs.Io.KnownBytes.{Appends, Keeps, IsAtEnd}
 use Rattle.rasn_types.specs.Codecs.{variant_of}
 use Rattle.hex.specs.Hex.{decode_of, encode_lower}
 use Rattle.per_lines.specs.declared.arguments.Form.{Form}
-use Rattle.per_lines.specs.declared.arguments.Form.TheVariants.{OneLine, Lines, As}
+use Rattle.per_lines.specs.declared.arguments.Form.TheVariants.{OneLine, Lines, Zero, As}
 use Rattle.per_lines.specs.declared.arguments.Arguments.{Arguments}
 use Rattle.per_lines.specs.declared.fault.Fault.{Fault}
 use Rattle.per_lines.specs.declared.fault.Fault.TheVariants.{WrongArguments, CannotRead, BadHexadecimal, Decode, Encode, CannotWrite, OutOfMemory}
@@ -86,6 +86,7 @@ pub record PrintsReplies (a : Arguments) (input : Option (List ℕ)) (last : Lis
 abbrev pub PrintsIn : Form → Arguments → Option (List ℕ) → Option (List ℕ) → Option (List ℕ) → Type 0
 PrintsIn OneLine a input before after = PrintsAnswer a input before after
 PrintsIn Lines a input before after = PrintsReplies a input [] before after
+PrintsIn Zero a input before after = PrintsAnswer a input before after
 PrintsIn (As other) a input before after = PrintsAnswer a input before after
 
 -- an output got what the words and the input ask for, and nothing else
@@ -113,6 +114,7 @@ EndsReplies a input before after _ = ⊥
 abbrev pub EndsIn : Form → Arguments → Option (List ℕ) → Option (List ℕ) → Option (List ℕ) → Fault → Type 0
 EndsIn OneLine a input before after fault = EndsAnswer a input before after fault
 EndsIn Lines a input before after fault = EndsReplies a input before after fault
+EndsIn Zero a input before after fault = EndsAnswer a input before after fault
 EndsIn (As other) a input before after fault = EndsAnswer a input before after fault
 
 -- a fault comes only where it stands, and the output got this by then

@@ -11,7 +11,7 @@ use Rattle.per_lines.specs.declared.fault.Fault.TheVariants.{WrongArguments, Can
 
 -- what is said of a fault
 abbrev pub text_of : Fault → List ℕ
-text_of WrongArguments = codes "usage: per_check (aper|uper) TYPE [lines | as TYPE]"
+text_of WrongArguments = codes "usage: per_check (aper|uper) TYPE [lines | zero | as TYPE]"
 text_of CannotRead = codes "cannot read input"
 text_of BadHexadecimal = codes "bad hexadecimal"
 text_of (Decode kind) = decode_name kind

@@ -1,6 +1,8 @@
 -- From the octets of a value to the canonical octets of the same value.
-use Rattle.std.specs.Prelude.{ℕ, ◌≢◌, ◌⊎◌, List, [], ◌∷◌, Some, true, false, pos, negsuc}
+use Rattle.std.specs.Prelude.{ℕ, Bool, ◌≢◌, ◌⊎◌, List, [], ◌∷◌, Some, true, false, pos, negsuc}
 use Rattle.rasn_types.specs.Alphabets.{visible, from_to}
+use Rattle.rasn_types.specs.declared.types.Codec.{Codec}
+use Rattle.rasn_types.specs.Codecs.{variant_of}
 use Rattle.rasn_types.specs.Variants.{Variant}
 use Rattle.rasn_types.specs.Values.{Value}
 use Rattle.rasn_constraints.specs.Bounds.{unbounded, between, Size, any_size}
@@ -19,14 +21,17 @@ use Rattle.per_samples_e.specs.Deeps.{deep}
 use Rattle.per_samples_e.specs.Elements.{elements}
 use Rattle.per_samples_e.specs.Empties.{maybe_empty}
 use Rattle.per_samples_e.specs.Nests.{nest}
-use Rattle.rasn_per.specs.Complete.{AreBytes, HasNoBytes, AreReadAs, AreUnread}
-use Rattle.rasn_per.specs.Kinds.{IsInOctets}
+use Rattle.per_core.specs.Spellings.{Settings}
+use Rattle.rasn_per.specs.Complete.{AreBytes, HasNoBytes, AreReadBy, AreUnreadBy, reading, basically}
+use Rattle.rasn_per.specs.Kinds.{IsInOctetsBy}
 use Rattle.per_write.specs.declared.error.EncodeErrorKind.TheVariants as Encoding
 use Rattle.per_read.specs.declared.error.DecodeErrorKind.TheVariants as Decoding
 use Rattle.per_lines.specs.declared.arguments.TypeName.{TypeName}
 use Rattle.per_lines.specs.declared.arguments.TypeName.TheVariants.{Boolean, Null, Integer, UpTo65535, FromMinusOne, Natural, ZeroTo65536, OneToTenExtensible, Four, Seven, OneDefault, ShortVisible, LettersAToE, BitString, OctetString, OnlyX, Items, Byte, MaybeEmpty, Nested, Nest, Deep, Bytes, Nulls, NullList, Elements}
 use Rattle.per_lines.specs.declared.arguments.Form.{Form}
-use Rattle.per_lines.specs.declared.arguments.Form.TheVariants.{OneLine, Lines, As}
+use Rattle.per_lines.specs.declared.arguments.Form.TheVariants.{OneLine, Lines, Zero, As}
+use Rattle.per_lines.specs.declared.arguments.Padding.{Padding}
+use Rattle.per_lines.specs.declared.arguments.Padding.TheVariants as Paddings
 use Rattle.per_lines.specs.declared.fault.Fault.{Fault}
 use Rattle.per_lines.specs.declared.fault.Fault.TheVariants as Faults
 
@@ -65,38 +70,56 @@ schema_of Nulls = list_at (always Schema.null) (one_to 300) false
 schema_of NullList = list_at (always Schema.null) any_size false
 schema_of Elements = sequence_at elements
 
+-- `zero` asks that padding is zero; behind `as` what is written needs no such check
+abbrev pub padding_of : Form → Padding
+padding_of OneLine = Paddings.Any
+padding_of Lines = Paddings.Any
+padding_of Zero = Paddings.Zero
+padding_of (As other) = Paddings.Any
+
+abbrev pub is_strict : Padding → Bool
+is_strict Paddings.Any = false
+is_strict Paddings.Zero = true
+
+-- X.691 7: a reader of the variant that a codec names, which takes such padding
+abbrev pub reader_of : Codec → Padding → Settings
+reader_of codec padding = reading (is_strict padding) (variant_of codec)
+
 -- octets are read as one value, whose canonical octets these are
-pub record Recodes (a : Variant) (schema : ℕ → Schema) (octets canonical : List ℕ) : Type 0 where
+pub record Recodes (a : Settings) (schema : ℕ → Schema) (octets canonical : List ℕ) : Type 0 where
   pub value : Value
   pub levels : ℕ
-  pub is_read : AreReadAs a schema value octets
-  pub is_written : AreBytes a schema levels value canonical
+  pub is_read : AreReadBy a schema value octets
+  pub is_written : AreBytes a.variant schema levels value canonical
 
 -- octets are read as one value, which has no canonical octets
-pub record IsUnwritable (a : Variant) (schema : ℕ → Schema) (octets : List ℕ) : Type 0 where
+pub record IsUnwritable (a : Settings) (schema : ℕ → Schema) (octets : List ℕ) : Type 0 where
   pub value : Value
   pub levels : ℕ
-  pub is_read : AreReadAs a schema value octets
-  pub is_unwritten : HasNoBytes a schema levels value
+  pub is_read : AreReadBy a schema value octets
+  pub is_unwritten : HasNoBytes a.variant schema levels value
 
 -- Why octets are refused: they are read as no value, and what the kind says is in them; or as one without canonical
 -- octets; or memory ran out.
-abbrev pub IsRefusal : Variant → (ℕ → Schema) → List ℕ → Fault → Type 0
+abbrev pub IsRefusal : Settings → (ℕ → Schema) → List ℕ → Fault → Type 0
 IsRefusal a schema octets (Faults.Decode kind) =
-    (kind ≢ Decoding.OutOfMemory → AreUnread a schema octets) × IsInOctets a schema octets kind
+    (kind ≢ Decoding.OutOfMemory → AreUnreadBy a schema octets) × IsInOctetsBy a schema octets kind
 IsRefusal a schema octets (Faults.Encode kind) = kind ≢ Encoding.OutOfMemory → IsUnwritable a schema octets
 IsRefusal a schema octets _ = ⊥
 
--- Octets are read by a type and written. Behind `as`, what was written is read by the other type and written.
+-- Octets are read by a type and written; with `zero` their padding and spare bits are zero. Behind `as`, what was written is read by the
+-- other type and written.
 abbrev pub Converts : Variant → TypeName → Form → List ℕ → List ℕ → Type 0
-Converts a t OneLine octets canonical = Recodes a (schema_of t) octets canonical
-Converts a t Lines octets canonical = Recodes a (schema_of t) octets canonical
-Converts a t (As other) octets canonical =
-    (written : List ℕ) × Recodes a (schema_of t) octets written × Recodes a (schema_of other) written canonical
+Converts a t OneLine octets canonical = Recodes (basically a) (schema_of t) octets canonical
+Converts a t Lines octets canonical = Recodes (basically a) (schema_of t) octets canonical
+Converts a t Zero octets canonical = Recodes (reading true a) (schema_of t) octets canonical
+Converts a t (As other) octets canonical = (written : List ℕ)
+    × Recodes (basically a) (schema_of t) octets written × Recodes (basically a) (schema_of other) written canonical
 
 -- why octets are not so converted: they are refused, or behind `as` what was written is
 abbrev pub IsUnconverted : Variant → TypeName → Form → List ℕ → Fault → Type 0
-IsUnconverted a t OneLine octets fault = IsRefusal a (schema_of t) octets fault
-IsUnconverted a t Lines octets fault = IsRefusal a (schema_of t) octets fault
-IsUnconverted a t (As other) octets fault = IsRefusal a (schema_of t) octets fault
-    ⊎ ((written : List ℕ) × Recodes a (schema_of t) octets written × IsRefusal a (schema_of other) written fault)
+IsUnconverted a t OneLine octets fault = IsRefusal (basically a) (schema_of t) octets fault
+IsUnconverted a t Lines octets fault = IsRefusal (basically a) (schema_of t) octets fault
+IsUnconverted a t Zero octets fault = IsRefusal (reading true a) (schema_of t) octets fault
+IsUnconverted a t (As other) octets fault = IsRefusal (basically a) (schema_of t) octets fault
+    ⊎ ((written : List ℕ) × Recodes (basically a) (schema_of t) octets written × IsRefusal (basically a) (schema_of other) written fault)

@@ -5,7 +5,7 @@ use Rattle.rasn_types.specs.declared.types.Codec.TheVariants.{Aper, Uper}
 use Rattle.per_lines.specs.declared.arguments.TypeName.{TypeName}
 use Rattle.per_lines.specs.declared.arguments.TypeName.TheVariants.{Boolean, Null, Integer, UpTo65535, FromMinusOne, Natural, ZeroTo65536, OneToTenExtensible, Four, Seven, OneDefault, ShortVisible, LettersAToE, BitString, OctetString, OnlyX, Items, Byte, MaybeEmpty, Nested, Nest, Deep, Bytes, Nulls, NullList, Elements}
 use Rattle.per_lines.specs.declared.arguments.Form.{Form}
-use Rattle.per_lines.specs.declared.arguments.Form.TheVariants.{OneLine, Lines, As}
+use Rattle.per_lines.specs.declared.arguments.Form.TheVariants.{OneLine, Lines, Zero, As}
 use Rattle.per_lines.specs.declared.arguments.Arguments.{Arguments}
 
 -- words by their octets
@@ -44,10 +44,11 @@ type_word Nulls = codes "nulls"
 type_word NullList = codes "nulllist"
 type_word Elements = codes "elements"
 
--- nothing, `lines`, or `as` and another type
+-- nothing, `lines`, `zero`, or `as` and another type
 abbrev pub form_words : Form → List (List ℕ)
 form_words OneLine = []
 form_words Lines = codes "lines" ∷ []
+form_words Zero = codes "zero" ∷ []
 form_words (As other) = codes "as" ∷ type_word other ∷ []
 
 -- a codec, a type and a form

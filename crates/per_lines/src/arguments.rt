@@ -3,6 +3,7 @@
 ghost use Rattle.std.specs.Prelude.{◌≡◌, ◌≢◌, [], ◌∷◌, IfSome, IfNone, map, string_bytes};
 ghost use Rattle.rasn_types.specs.declared.types.Codec.{Codec as a_codec};
 ghost use Rattle.per_lines.specs.Words.{codec_word, type_word, form_words, words_of};
+ghost use Rattle.per_lines.specs.Recoding.{padding_of};
 ghost use Rattle.per_lines.specs.declared.arguments.TypeName.{TypeName as a_name};
 ghost use Rattle.per_lines.specs.declared.arguments.Form.{Form as a_form};
 ghost use Rattle.per_lines.specs.declared.arguments.Arguments.{Arguments as the_arguments};
@@ -74,8 +75,19 @@ pub enum Form {
     OneLine,
     /// `lines`: all lines, and for each its canonical encoding, or why it has none.
     Lines,
+    /// `zero`: as for one line, but all padding and spare bits must be zero.
+    Zero,
     /// `as TYPE`: one line, and the canonical encoding of what its own is read as by this other type.
     As(TypeName),
+}
+
+/// Which padding and spare bits are read.
+#[derive(Clone, Copy, Debug, PartialEq, Eq)]
+pub enum Padding {
+    /// Bits of any value.
+    Any,
+    /// Zero bits alone (this project's choice).
+    Zero,
 }
 
 /// What the program is asked to do.
@@ -140,6 +152,16 @@ impl TypeName {
 }
 
 impl Form {
+    /// Which padding and spare bits are read in the input.
+    pub fn padding(self) -> Padding
+        ensures { result ≡ padding_of self }
+    {
+        match self {
+            Form::OneLine | Form::Lines | Form::As(_) => Padding::Any,
+            Form::Zero => Padding::Zero,
+        }
+    }
+
     /// The form that the words after the type name.
     fn of_words(words: &[String]) -> Option<Form>
         ensures named { IfSome result (λ f. map string_bytes words.now ≡ form_words f) }
@@ -160,6 +182,7 @@ impl Form {
     {
         match word {
             "lines" => Some(Form::Lines),
+            "zero" => Some(Form::Zero),
             _ => None,
         }
     }

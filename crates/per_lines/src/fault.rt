@@ -4,7 +4,8 @@ ghost use Rattle.std.specs.Prelude.{◌≡◌, ◌∷◌, [], ◌++◌, OnOk};
 ghost use Rattle.std.specs.IoError.{error_kind};
 ghost use Rattle.std.specs.Io.KnownBytes.{Appends};
 ghost use Rattle.per_lines.specs.Faults.{text_of, status_of, io_fault, hexadecimal_fault};
-ghost use Rattle.per_lines.specs.declared.fault.Fault.TheVariants.{OutOfMemory, Encode as encode_fault, Decode as decode_fault};
+ghost use Rattle.per_lines.specs.declared.fault.Fault.TheVariants.{OutOfMemory};
+ghost use Rattle.per_lines.specs.declared.fault.Fault.TheVariants.{Encode as encode_fault, Decode as decode_fault};
 
 use hex::FromHexError;
 use per_de::{DecodeError, DecodeErrorKind};
@@ -48,7 +49,7 @@ impl Fault {
         ensures { result.now ≡ text_of self.now }
     {
         match self {
-            Fault::WrongArguments => "usage: per_check (aper|uper) TYPE [lines | as TYPE]",
+            Fault::WrongArguments => "usage: per_check (aper|uper) TYPE [lines | zero | as TYPE]",
             Fault::CannotRead => "cannot read input",
             Fault::BadHexadecimal => "bad hexadecimal",
             Fault::Decode(kind) => kind.name(),

@@ -2,10 +2,11 @@
 
 ghost use Rattle.std.specs.Prelude.{◌≡◌, IfOk, IfErr};
 ghost use Rattle.rasn_types.specs.Codecs.{variant_of};
-ghost use Rattle.rasn_per.specs.Calls.{Encoded, Decoded};
-ghost use Rattle.per_lines.specs.Recoding.{Recodes, IsRefusal, Converts, IsUnconverted, schema_of};
+ghost use Rattle.rasn_per.specs.Calls.{Encoded, DecodedBy};
+ghost use Rattle.per_lines.specs.Recoding.{Recodes, IsRefusal, Converts, IsUnconverted};
+ghost use Rattle.per_lines.specs.Recoding.{schema_of, is_strict, reader_of};
 
-use crate::arguments::{Arguments, Form, TypeName};
+use crate::arguments::{Arguments, Form, Padding, TypeName};
 use crate::fault::Fault;
 use per_de::DecodeError;
 use per_enc::EncodeError;
@@ -38,10 +39,11 @@ pub fn converted(alloc: Global, arguments: Arguments, octets: &[u8]) -> Result<V
     ensures err { IfErr result (λ f. IsUnconverted
         (variant_of arguments.codec) arguments.type_name arguments.form octets.now f) }
 {
-    let written = recoded(alloc, arguments.codec, arguments.type_name, octets)?;
-    match arguments.form {
-        Form::OneLine | Form::Lines => Ok(written),
-        Form::As(other) => recoded(alloc, arguments.codec, other, written.as_slice()),
+    let (codec, form) = (arguments.codec, arguments.form);
+    let written = recoded(alloc, codec, form.padding(), arguments.type_name, octets)?;
+    match form {
+        Form::OneLine | Form::Lines | Form::Zero => Ok(written),
+        Form::As(other) => recoded(alloc, codec, Padding::Any, other, written.as_slice()),
     }
 }
 
@@ -50,40 +52,43 @@ pub fn converted(alloc: Global, arguments: Arguments, octets: &[u8]) -> Result<V
 fn recoded(
     alloc: Global,
     codec: Codec,
+    padding: Padding,
     type_name: TypeName,
     octets: &[u8],
 ) -> Result<Vec<u8>, Fault>
     ensures ok { IfOk result (λ canonical.
-        Recodes (variant_of codec) (schema_of type_name) octets.now canonical.items) }
-    ensures err { IfErr result (λ f. IsRefusal (variant_of codec) (schema_of type_name) octets.now f) }
+        Recodes (reader_of codec padding) (schema_of type_name) octets.now canonical.items) }
+    ensures err { IfErr result (λ f. IsRefusal (reader_of codec padding) (schema_of type_name) octets.now f) }
 {
     match type_name {
-        TypeName::Boolean => recoded_as::<bool>(alloc, codec, octets),
-        TypeName::Null => recoded_as::<()>(alloc, codec, octets),
-        TypeName::Integer => recoded_as::<Integer>(alloc, codec, octets),
-        TypeName::UpTo65535 => recoded_as::<UpTo65535>(alloc, codec, octets),
-        TypeName::FromMinusOne => recoded_as::<FromMinusOne>(alloc, codec, octets),
-        TypeName::Natural => recoded_as::<Natural>(alloc, codec, octets),
-        TypeName::ZeroTo65536 => recoded_as::<ZeroTo65536>(alloc, codec, octets),
-        TypeName::OneToTenExtensible => recoded_as::<OneToTenExtensible>(alloc, codec, octets),
-        TypeName::Four => recoded_as::<Four>(alloc, codec, octets),
-        TypeName::Seven => recoded_as::<Seven>(alloc, codec, octets),
-        TypeName::OneDefault => recoded_as::<OneDefault>(alloc, codec, octets),
-        TypeName::ShortVisible => recoded_as::<ShortVisible>(alloc, codec, octets),
-        TypeName::LettersAToE => recoded_as::<LettersAToE>(alloc, codec, octets),
-        TypeName::BitString => recoded_as::<BitString>(alloc, codec, octets),
-        TypeName::OctetString => recoded_as::<OctetString>(alloc, codec, octets),
-        TypeName::OnlyX => recoded_as::<OnlyX>(alloc, codec, octets),
-        TypeName::Items => recoded_as::<WithItem>(alloc, codec, octets),
-        TypeName::Byte => recoded_as::<Byte>(alloc, codec, octets),
-        TypeName::MaybeEmpty => recoded_as::<MaybeEmpty>(alloc, codec, octets),
-        TypeName::Nested => recoded_as::<Outer>(alloc, codec, octets),
-        TypeName::Nest => recoded_as::<Nest>(alloc, codec, octets),
-        TypeName::Deep => recoded_as::<Deep>(alloc, codec, octets),
-        TypeName::Bytes => recoded_as::<Bytes>(alloc, codec, octets),
-        TypeName::Nulls => recoded_as::<Nulls>(alloc, codec, octets),
-        TypeName::NullList => recoded_as::<NullList>(alloc, codec, octets),
-        TypeName::Elements => recoded_as::<Elements>(alloc, codec, octets),
+        TypeName::Boolean => recoded_as::<bool>(alloc, codec, padding, octets),
+        TypeName::Null => recoded_as::<()>(alloc, codec, padding, octets),
+        TypeName::Integer => recoded_as::<Integer>(alloc, codec, padding, octets),
+        TypeName::UpTo65535 => recoded_as::<UpTo65535>(alloc, codec, padding, octets),
+        TypeName::FromMinusOne => recoded_as::<FromMinusOne>(alloc, codec, padding, octets),
+        TypeName::Natural => recoded_as::<Natural>(alloc, codec, padding, octets),
+        TypeName::ZeroTo65536 => recoded_as::<ZeroTo65536>(alloc, codec, padding, octets),
+        TypeName::OneToTenExtensible => recoded_as::<OneToTenExtensible>(
+            alloc, codec, padding, octets,
+        ),
+        TypeName::Four => recoded_as::<Four>(alloc, codec, padding, octets),
+        TypeName::Seven => recoded_as::<Seven>(alloc, codec, padding, octets),
+        TypeName::OneDefault => recoded_as::<OneDefault>(alloc, codec, padding, octets),
+        TypeName::ShortVisible => recoded_as::<ShortVisible>(alloc, codec, padding, octets),
+        TypeName::LettersAToE => recoded_as::<LettersAToE>(alloc, codec, padding, octets),
+        TypeName::BitString => recoded_as::<BitString>(alloc, codec, padding, octets),
+        TypeName::OctetString => recoded_as::<OctetString>(alloc, codec, padding, octets),
+        TypeName::OnlyX => recoded_as::<OnlyX>(alloc, codec, padding, octets),
+        TypeName::Items => recoded_as::<WithItem>(alloc, codec, padding, octets),
+        TypeName::Byte => recoded_as::<Byte>(alloc, codec, padding, octets),
+        TypeName::MaybeEmpty => recoded_as::<MaybeEmpty>(alloc, codec, padding, octets),
+        TypeName::Nested => recoded_as::<Outer>(alloc, codec, padding, octets),
+        TypeName::Nest => recoded_as::<Nest>(alloc, codec, padding, octets),
+        TypeName::Deep => recoded_as::<Deep>(alloc, codec, padding, octets),
+        TypeName::Bytes => recoded_as::<Bytes>(alloc, codec, padding, octets),
+        TypeName::Nulls => recoded_as::<Nulls>(alloc, codec, padding, octets),
+        TypeName::NullList => recoded_as::<NullList>(alloc, codec, padding, octets),
+        TypeName::Elements => recoded_as::<Elements>(alloc, codec, padding, octets),
     }
 }
 
@@ -91,25 +96,32 @@ fn recoded(
 fn recoded_as<T: Encode + Decode>(
     alloc: Global,
     codec: Codec,
+    padding: Padding,
     octets: &[u8],
 ) -> Result<Vec<u8>, Fault>
     ensures ok { IfOk result (λ canonical.
-        Recodes (variant_of codec) (T.schema T.CONSTRAINTS) octets.now canonical.items) }
-    ensures err { IfErr result (λ f.
-        IsRefusal (variant_of codec) (T.schema T.CONSTRAINTS) octets.now f) }
+        Recodes (reader_of codec padding) (T.schema T.CONSTRAINTS) octets.now canonical.items) }
+    ensures err { IfErr result (λ f. IsRefusal (reader_of codec padding) (T.schema T.CONSTRAINTS) octets.now f) }
 {
-    let value: T = decode(alloc, codec, octets)?;
+    let value: T = decode(alloc, codec, padding, octets)?;
     let canonical = encode(alloc, codec, &value)?;
     Ok(canonical)
 }
 
-/// The value that all octets spell in the variant of a codec.
-fn decode<T: Decode>(alloc: Global, codec: Codec, octets: &[u8]) -> Result<T, DecodeError>
-    ensures { Decoded codec (T.schema T.CONSTRAINTS) T.value octets.now result }
+/// The value that all octets spell in the variant of a codec, with such padding.
+fn decode<T: Decode>(
+    alloc: Global,
+    codec: Codec,
+    padding: Padding,
+    octets: &[u8],
+) -> Result<T, DecodeError>
+    ensures { DecodedBy (is_strict padding) codec (T.schema T.CONSTRAINTS) T.value octets.now result }
 {
-    match codec {
-        Codec::Aper => aper::decode(alloc, octets),
-        Codec::Uper => uper::decode(alloc, octets),
+    match (codec, padding) {
+        (Codec::Aper, Padding::Any) => aper::decode(alloc, octets),
+        (Codec::Aper, Padding::Zero) => aper::decode_zero_padded(alloc, octets),
+        (Codec::Uper, Padding::Any) => uper::decode(alloc, octets),
+        (Codec::Uper, Padding::Zero) => uper::decode_zero_padded(alloc, octets),
     }
 }
 

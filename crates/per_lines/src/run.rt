@@ -21,7 +21,8 @@ use std::io::{BufRead, Write};
 /// `output`, in lower case and with a line feed. `arguments` are the words after the program's name.
 ///
 /// In the form `lines` it does so for every line, and where there is no such encoding, it writes `! ` and why. In the
-/// form `as` the encoding is read by another type, and encoded again.
+/// form `zero` all padding and spare bits must be zero. In the form `as` the encoding is read by another type, and
+/// encoded again.
 ///
 /// Answers the status that the program ends with: 0, or 1 where the octets are refused or memory ran out, or 2 where
 /// the arguments are wrong, the line is no hexadecimal, or reading or writing fails. A fault is told on a line of
@@ -74,6 +75,7 @@ fn print<R: BufRead, W: Write>(
     match arguments.form {
         Form::OneLine => print_answer(alloc, arguments, input, output),
         Form::Lines => reply_to_lines(alloc, arguments, input, output),
+        Form::Zero => print_answer(alloc, arguments, input, output),
         Form::As(_) => print_answer(alloc, arguments, input, output),
     }
 }

@@ -1,4 +1,4 @@
-//! The program's forms `lines` and `as`.
+//! The program's forms `lines`, `zero` and `as`.
 
 use crate::lines::{BrokenReader, BrokenWriter, assert_ran, run_on, words};
 use per_lines::run::run;
@@ -99,6 +99,52 @@ fn reads_as_another_type(rt: HostRuntime) -> Result<(), Fail> {
         assert_ran(&rt, &ran, 0, output, "");
     }
     for (arguments, input, status, faults) in NOT_READ_AS {
+        let ran = run_on(rt.alloc(), arguments, input.as_bytes())?;
+        assert_ran(&rt, &ran, *status, "", faults);
+    }
+    Ok(())
+}
+
+/// Arguments, a line whose padding and spare bits are zero, and what is printed.
+const ZERO_PADDED: &[(&str, &str, &str)] = &[
+    ("uper boolean zero", "80\n", "80\n"),
+    ("uper boolean zero", "00\n", "00\n"),
+    ("uper null zero", "00\n", "00\n"),
+    ("uper integer zero", "020005\n", "0105\n"),
+    ("uper bits zero", "04a0\n", "04a0\n"),
+    ("uper byte zero", "ff\n", "ff\n"),
+    // Of more than one line the first.
+    ("uper boolean zero", "80\nff\n", "80\n"),
+    ("aper i65536 zero", "00fd\n", "00fd\n"),
+    // 5 in four octets, whose padding is zero.
+    ("aper i65536 zero", "c000000005\n", "0005\n"),
+    ("aper items zero", "80ff\n", "80ff\n"),
+];
+
+/// Arguments, a line that is refused, the status, and what is said.
+const NOT_ZERO_PADDED: &[(&str, &str, u8, &str)] = &[
+    // A spare bit that is not zero, which is told before octets that are left over.
+    ("uper boolean zero", "ff\n", 1, "ParserFail\n"),
+    ("uper boolean zero", "81\n", 1, "ParserFail\n"),
+    ("uper boolean zero", "ff00\n", 1, "ParserFail\n"),
+    ("uper boolean zero", "8000\n", 1, "UnexpectedExtraData\n"),
+    ("uper boolean zero", "\n", 1, "Incomplete\n"),
+    ("uper boolean zero", "8\n", 2, "bad hexadecimal\n"),
+    ("uper null zero", "80\n", 1, "ParserFail\n"),
+    ("uper bits zero", "04af\n", 1, "ParserFail\n"),
+    ("uper items zero", "007f\n", 1, "ParserFail\n"),
+    // The same value, 253, as `00fd`, with one bits up to the next boundary.
+    ("aper i65536 zero", "3ffd\n", 1, "ParserFail\n"),
+    ("aper boolean zero", "ff\n", 1, "ParserFail\n"),
+];
+
+#[test]
+fn reads_zero_padding(rt: HostRuntime) -> Result<(), Fail> {
+    for (arguments, input, output) in ZERO_PADDED {
+        let ran = run_on(rt.alloc(), arguments, input.as_bytes())?;
+        assert_ran(&rt, &ran, 0, output, "");
+    }
+    for (arguments, input, status, faults) in NOT_ZERO_PADDED {
         let ran = run_on(rt.alloc(), arguments, input.as_bytes())?;
         assert_ran(&rt, &ran, *status, "", faults);
     }

@@ -7,7 +7,7 @@ use std::io::{BufRead, BufReader, ErrorKind, Read};
 use std::process::Abort;
 use std::test::Fail;
 
-const USAGE: &str = "usage: per_check (aper|uper) TYPE [lines | as TYPE]\n";
+const USAGE: &str = "usage: per_check (aper|uper) TYPE [lines | zero | as TYPE]\n";
 
 /// What a run answered and wrote.
 #[derive(Drop)]
@@ -388,6 +388,13 @@ const WRONG_ARGUMENTS: &[&str] = &[
     "uper lines integer",
     "uper integer Lines",
     "uper integer lines lines",
+    "uper integer zero zero",
+    "uper integer zero lines",
+    "uper integer lines zero",
+    "uper integer zero as integer",
+    "uper integer as integer zero",
+    "uper integer Zero",
+    "uper zero",
     "uper integer lines as integer",
     "uper integer as",
     "uper integer as real",

@@ -1,4 +1,3 @@
-use Rattle.std.proofs.Common.{rules}
 use Rattle.std.proofs.lemmas.Result.{err_from_is_err_and}
 use Rattle.per_lines.specs.declared.fault.Fault.TheVariants.{CannotRead}
 use Rattle.per_lines.proofs.ReplyLaws.{replied-more, ends_turn, keeps-same}

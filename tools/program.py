@@ -1,0 +1,39 @@
+"""What the tools run of the program per_check, and the encodings of vectors/ that they give to it."""
+import os
+import re
+import subprocess
+
+from repository import TOP, Failure, folder_of
+
+VARIANTS = ("aper", "uper")
+# The files of vectors/, and in which column of each the canonical encoding stands.
+CANONICAL = {"canonical.tsv": 2, "spellings.tsv": 3}
+# What they have no row of.
+WITHOUT_ROWS = {("aper", "null"), ("uper", "seven")}
+
+
+def known_types():
+    """Returns the types of the table of docs/TYPES.md."""
+    with open(f"{TOP}/docs/TYPES.md", encoding="utf-8") as it:
+        return set(re.findall(r"^\| `(\w+)` \|", it.read(), re.MULTILINE))
+
+
+def rows_of(name):
+    """Gives the columns of each row of a file of vectors/."""
+    with open(f"{TOP}/vectors/{name}", encoding="utf-8") as it:
+        for line in it:
+            if not line.startswith("#"):
+                yield line.rstrip("\n").split("\t")
+
+
+def built_program(built):
+    """Returns the program's file: as the gate left it, or else proved and built here."""
+    if not built:
+        words = ["rt", "run", "--", "uper", "octets"]
+        ran = subprocess.run(words, cwd=folder_of("per_check"), input="00\n", capture_output=True, text=True)
+        if ran.returncode:
+            raise Failure(f"the program isn't built:\n{ran.stderr[-2000:]}")
+    program = f"{folder_of('per_check')}/out/per_check"
+    if not os.path.isfile(program):
+        raise Failure(f"there is no program {os.path.relpath(program, TOP)}")
+    return program
