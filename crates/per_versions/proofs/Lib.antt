@@ -1,4 +1,5 @@
 pub mod Depths
 pub mod Exchanged
+pub mod Fronts
 pub mod Laws
 pub mod Normalised

@@ -1,5 +1,6 @@
 -- What a reader answers.
-use Rattle.std.specs.Prelude.{◌≢◌, Bool, List, Result, IfOk, IfErr, ℕ}
+use Rattle.std.specs.Prelude.{◌≡◌, ◌≢◌, ◌++◌, Bool, false, List, Result, IfOk, IfErr, ℕ}
+use Rattle.std.specs.Borrow.{Bor}
 use Rattle.rasn_types.specs.Codecs.{variant_of}
 use Rattle.rasn_types.specs.Values.{Value}
 use Rattle.rasn_types.specs.declared.types.Codec.{Codec}
@@ -19,3 +20,14 @@ pub record Answers {T : Type 0} (value : T → Value) (IsRead : Value → Type 0
 -- present that the type doesn't know
 abbrev pub AreKnown : Bool → Codec → (ℕ → Schema) → Value → List ℕ → Type 0
 AreKnown strict codec type v octets = fills_known (reading strict (variant_of codec)) (type 128) v octets
+
+-- the same of a reader that answers the octets behind the value, too: these and no others
+pub record AnswersFront {T : Type 0} (value : T → Value) (IsRead : Value → Type 0) (rest : List ℕ)
+    (answer : Result (T × Bor (List ℕ)) DecodeError) : Type 0 where
+  pub ok : IfOk answer (λ x. IsRead (value x.0) × (x.1.now ≡ rest))
+  pub err : IfErr answer (λ e. e.kind ≢ OutOfMemory → (w : Value) → IsRead w → ⊥)
+
+-- octets begin with some that are known so, and go on with the rest
+abbrev pub BeginKnown : Codec → (ℕ → Schema) → Value → List ℕ → List ℕ → Type 0
+BeginKnown codec type v octets rest =
+    (front : List ℕ) × (octets ≡ front ++ rest) × AreKnown false codec type v front

@@ -5,5 +5,6 @@
 pub mod chains;
 pub mod depth;
 pub mod exchange;
+pub mod remainders;
 pub mod round_trips;
 pub mod versions;
