@@ -3,3 +3,4 @@ pub mod Exchanged
 pub mod Fronts
 pub mod Laws
 pub mod Normalised
+pub mod Relayed
