@@ -3,4 +3,5 @@ pub mod Exchanged
 pub mod Fronts
 pub mod Laws
 pub mod Normalised
+pub mod Passed
 pub mod Relayed

@@ -1,8 +1,9 @@
 //! Relays: what was decoded is encoded again, in the same variant or in the other, and read by another version (X.680,
 //! 52). No reader refuses it for its depth.
 
-ghost use Rattle.std.specs.Prelude.{ℕ, Bool, List, Result, Ok};
+ghost use Rattle.std.specs.Prelude.{◌≡◌, ℕ, Bool, List, Result, Ok};
 ghost use Rattle.rasn_types.specs.Codecs.{variant_of};
+ghost use Rattle.rasn_types.specs.Values.{Value};
 ghost use Rattle.rasn_types.specs.declared.types.Codec.{Codec};
 ghost use Rattle.rasn_schema.specs.Lawful.{IsLawfulType};
 ghost use Rattle.per_core.specs.Versions.{NewerType};
@@ -37,6 +38,19 @@ pub fn newer_reader_widens_what_is_passed_on<New: Decode, Old: Encode + Decode>(
         → AreBytes (variant_of other) older (Old.levels x) (Old.value x) others
         → DecodedBy again other newer New.value others answer
         → Answers New.value (IsWidening newer older (normal_form older (Old.value x))) answer }
+{}
+
+/// What an older type's `decode` answers to what a lawful newer type passes on, has the normal form of what it answers
+/// to the octets that were passed: to an older reader a relay that knows more changes nothing else. It refuses for want
+/// of memory alone (X.680, 52; X.691, 19.9).
+pub fn relay_changes_nothing_that_the_older_sees<New: Encode + Decode, Old: Decode>()
+    ensures { let newer = New.schema New.CONSTRAINTS in let older = Old.schema Old.CONSTRAINTS in IsLawfulType newer
+        → IsLawfulType older → NewerType newer older → (strict again : Bool) (codec other : Codec) (x : New) (y : Old)
+        (octets others : List ℕ) (answer : Result Old DecodeError)
+        → DecodedBy strict codec newer New.value octets (Ok x) → DecodedBy strict codec older Old.value octets (Ok y)
+        → AreBytes (variant_of other) newer (New.levels x) (New.value x) others
+        → DecodedBy again other older Old.value others answer
+        → Answers Old.value (λ (w : Value). normal_form older w ≡ normal_form older (Old.value y)) answer }
 {}
 
 /// Nothing that is written of what a lawful type's `decode` answered lies deeper than an older or a newer type's 128

@@ -74,9 +74,9 @@ pub fn newer_reader_answers_the_widening_and_the_rest<New: Decode, Old: Encode>(
         → AnswersFront New.value (IsReadByNewer newer older (Old.value x)) rest answer }
 {}
 
-/// Of any octets, canonical or not, of which a newer type's `decode_with_remainder` answers a value and a rest, an older
-/// type's answers the projection of that value and the same rest. It refuses, memory aside, exactly where there is no
-/// projection.
+/// Of any octets, canonical or not, of which a newer type's `decode_with_remainder` answers a value and a rest, an
+/// older type's answers the projection of that value and the same rest. It refuses, memory aside, exactly where there
+/// is no projection.
 pub fn older_reader_projects_the_front_that_the_newer_reads<New: Decode, Old: Decode>()
     ensures { let newer = New.schema New.CONSTRAINTS in let older = Old.schema Old.CONSTRAINTS in NewerType newer older
         → (codec : Codec) (octets : List ℕ) (x : New × Bor (List ℕ)) (answer : Result (Old × Bor (List ℕ)) DecodeError)
