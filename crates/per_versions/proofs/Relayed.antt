@@ -63,14 +63,15 @@ module _ (T' T : ℕ → Schema) (g' : Levelled T') (g : Levelled T) (l : (n : �
   one_projection : (u u' : Value) → IsProjection T' T (normal_form T' v) u → IsProjection T' T (normal_form T' v) u' → u ≡ u'
   one_projection u u' j k = some_is u u' (sym j ∙ k)
 
+  same_form : (u r : Value) (m : ℕ) → depth_of u ≤ m → depth_of w ≤ m → r ≡ u → normal (T m) r ≡ normal (T m) w → normal_form T u ≡ normal_form T w
+  same_form u r m a b e f = sym (normal_at T g u m a) ∙ ap (normal (T m)) (sym e) ∙ f ∙ normal_at T g w m b
+
   pub passed : (u : Value) × IsProjection T' T (normal_form T' v) u × (normal_form T u ≡ normal_form T w)
   passed =
       let n = depth_of v + depth_of (normal_form T' v) in
       let q = at_depth n (omega arith) (omega arith) in
-      let m = n + depth_of q.0 + depth_of w in
-      let r = at_depth m (omega arith) (omega arith) in
-      let same = one_projection r.0 q.0 r.1 q.1 in
-      (q.0, q.1, sym (normal_at T g q.0 m (omega arith)) ∙ ap (normal (T m)) (sym same) ∙ r.2 ∙ normal_at T g w m (omega arith))
+      let r = at_depth (n + depth_of q.0 + depth_of w) (omega arith) (omega arith) in
+      (q.0, q.1, same_form q.0 r.0 (n + depth_of q.0 + depth_of w) (omega arith) (omega arith) (one_projection r.0 q.0 r.1 q.1) r.2)
 
   pub passed_alike : (u : Value) → IsProjection T' T (normal_form T' v) u → normal_form T u ≡ normal_form T w
   passed_alike u j = ap (normal_form T) (one_projection u passed.0 j passed.1) ∙ passed.2

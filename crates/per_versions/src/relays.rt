@@ -40,6 +40,13 @@ pub fn newer_reader_widens_what_is_passed_on<New: Decode, Old: Encode + Decode>(
         → Answers New.value (IsWidening newer older (normal_form older (Old.value x))) answer }
 {}
 
+/// Where a value has a projection, its normal form has one, and both projections have one normal form (X.691, 19.9).
+pub fn normal_form_is_projected_alike<New: AsnType, Old: AsnType>()
+    ensures { let newer = New.schema New.CONSTRAINTS in let older = Old.schema Old.CONSTRAINTS in IsLawfulType older
+        → NewerType newer older → (v w : Value) → IsProjection newer older v w →
+        (u : Value) × IsProjection newer older (normal_form newer v) u × (normal_form older u ≡ normal_form older w) }
+{}
+
 /// What an older type's `decode` answers to what a lawful newer type passes on, has the normal form of what it answers
 /// to the octets that were passed: to an older reader a relay that knows more changes nothing else. It refuses for want
 /// of memory alone (X.680, 52; X.691, 19.9).

@@ -117,6 +117,24 @@ pub fn oldest_reader_answers_the_same_front_by_way_of_the_middle<
         × AnswersFront Oldest.value (IsProjection middle oldest (Middle.value y.0)) y.1.now answer }
 {}
 
+/// Of any octets that begin with the oldest type's value, no additions being present in it that the type doesn't know,
+/// and of which the middle type's `decode_with_remainder` answers another value and a rest, the newest type's answers
+/// the widening of the first, which is that of the second, and the same rest. It refuses, memory aside, exactly where
+/// there is none.
+pub fn newest_reader_answers_the_same_front_by_way_of_the_middle<
+    Newest: Decode,
+    Middle: Decode,
+    Oldest: Decode,
+>()
+    ensures { let newest = Newest.schema Newest.CONSTRAINTS in let middle = Middle.schema Middle.CONSTRAINTS in
+        let oldest = Oldest.schema Oldest.CONSTRAINTS in NewerType newest middle → NewerType middle oldest
+        → (codec : Codec) (octets rest : List ℕ) (x : Oldest) (y : Middle × Bor (List ℕ))
+        (answer : Result (Newest × Bor (List ℕ)) DecodeError) → BeginKnown codec oldest (Oldest.value x) octets rest
+        → DecodedFront codec middle Middle.value octets (Ok y) → DecodedFront codec newest Newest.value octets answer →
+        AnswersFront Newest.value (IsWidening newest oldest (Oldest.value x)) rest answer
+        × AnswersFront Newest.value (IsWidening newest middle (Middle.value y.0)) rest answer }
+{}
+
 /// Of octets that begin with those that `encode` answers of a value whose normal form has at most 128 levels,
 /// `decode_with_remainder` answers that and the rest, and refuses for want of memory alone.
 pub fn few_levels_are_read_back_in_front<T: Encode + Decode>()
@@ -125,4 +143,26 @@ pub fn few_levels_are_read_back_in_front<T: Encode + Decode>()
         → AreBytes (variant_of codec) type (T.levels x) (T.value x) octets
         → levels_of (normal_form type (T.value x)) ≤ 128 → DecodedFront codec type T.value (octets ++ rest) answer
         → AnswersFront T.value (λ (w : Value). w ≡ normal_form type (T.value x)) rest answer }
+{}
+
+/// The same of an older type's: it answers the projection and the rest, and refuses, memory aside, exactly where there
+/// is no projection (X.680, 52).
+pub fn few_levels_are_projected_in_front<New: Encode, Old: Decode>()
+    ensures { let newer = New.schema New.CONSTRAINTS in let older = Old.schema Old.CONSTRAINTS in NewerType newer older
+        → (codec : Codec) (x : New) (octets rest : List ℕ) (answer : Result (Old × Bor (List ℕ)) DecodeError)
+        → AreBytes (variant_of codec) newer (New.levels x) (New.value x) octets
+        → levels_of (normal_form newer (New.value x)) ≤ 128
+        → DecodedFront codec older Old.value (octets ++ rest) answer
+        → AnswersFront Old.value (IsProjection newer older (normal_form newer (New.value x))) rest answer }
+{}
+
+/// And of a newer type's: it answers the widening and the rest, and refuses, memory aside, exactly where there is no
+/// widening (X.680, 52).
+pub fn few_levels_are_widened_in_front<New: Decode, Old: Encode>()
+    ensures { let newer = New.schema New.CONSTRAINTS in let older = Old.schema Old.CONSTRAINTS in NewerType newer older
+        → (codec : Codec) (x : Old) (octets rest : List ℕ) (answer : Result (New × Bor (List ℕ)) DecodeError)
+        → AreBytes (variant_of codec) older (Old.levels x) (Old.value x) octets
+        → levels_of (normal_form older (Old.value x)) ≤ 128
+        → DecodedFront codec newer New.value (octets ++ rest) answer
+        → AnswersFront New.value (IsWidening newer older (normal_form older (Old.value x))) rest answer }
 {}
