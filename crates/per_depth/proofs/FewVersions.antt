@@ -26,7 +26,7 @@ and_less false b c h m = refl
 mutual
   unfolding writes_cut
 
-  older_less : {t s : Schema} → Newer t s → (v : Value) → writes_cut t t v ≡ false → writes_cut s t v ≡ false
+  pub older_less : {t s : Schema} → Newer t s → (v : Value) → writes_cut t t v ≡ false → writes_cut s t v ≡ false
   older_less (unchanged h) v m = m
   older_less (more_items h) v m = refl
   older_less (newer_list {e = s} {e' = t} n) v m = elements_less (writes_cut t t) (writes_cut s t) (older_less n) v m
@@ -51,7 +51,7 @@ mutual
 mutual
   unfolding writes_cut
 
-  newer_less : {s t : Schema} → Newer s t → (v : Value) → writes_cut t t v ≡ false → writes_cut s t v ≡ false
+  pub newer_less : {s t : Schema} → Newer s t → (v : Value) → writes_cut t t v ≡ false → writes_cut s t v ≡ false
   newer_less (unchanged h) v m = m
   newer_less (more_items h) v m = refl
   newer_less (newer_list {e = t} {e' = s} n) v m = elements_less (writes_cut t t) (writes_cut s t) (newer_less n) v m

@@ -23,7 +23,7 @@ all_map : (f : Value → Value) (vs : List Value) → all_of (λ v. Some (f v)) 
 all_map f [] = refl
 all_map f (v ∷ vs) = ap (joined (Some (f v))) (all_map f vs)
 
-bag_map : (f : Value → Value) (vs : List Value) → bag_of (map f (sort vs)) ≡ bag_of (map f vs)
+pub bag_map : (f : Value → Value) (vs : List Value) → bag_of (map f (sort vs)) ≡ bag_of (map f vs)
 unfolding sort
 bag_map f vs =
     let q = bag_becomes (λ v. Some (f v)) vs (map f vs) (all_map f vs) in

@@ -21,7 +21,7 @@ unfolding bag_of sort
 in_bag K us m = any_in_bag K us (subst (λ l. any_of K l ≡ false) (values-as_values (sort us)) m)
 
 -- what a widened value does not meet, the value did not meet
-abbrev Cuts : {X : Type 0} → (X → Option X) → (X → Bool) → (X → Bool) → Type 0
+abbrev pub Cuts : {X : Type 0} → (X → Option X) → (X → Bool) → (X → Bool) → Type 0
 Cuts {X} g K' K = (v w : X) → g v ≡ Some w → K w ≡ false → K' v ≡ false
 
 all_cuts : (g : Value → Option Value) (K' K : Value → Bool) → Cuts g K' K → Cuts (all_of g) (any_of K') (any_of K)
@@ -77,7 +77,7 @@ slots_cuts g K' K G L' L r rs (Some v ∷ xs) ws e m =
 mutual
   unfolding widen meets_cut
 
-  cuts : {s' s : Schema} → Newer s' s → Cuts (widen s' s) (meets_cut s) (meets_cut s')
+  pub cuts : {s' s : Schema} → Newer s' s → Cuts (widen s' s) (meets_cut s) (meets_cut s')
   cuts (unchanged {s = s} h) = λ v w e m. subst (λ z. meets_cut s z ≡ false) (sym (some_is v w (sym (plain_widen s h v) ∙ e))) m
   cuts (more_items k) = λ v w e m. refl
   cuts (newer_list {e = e0} {e' = e1} n) = elements_cuts (widen e1 e0) (meets_cut e0) (meets_cut e1) (cuts n)

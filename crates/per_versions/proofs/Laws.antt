@@ -1,5 +1,5 @@
 -- What is read, in the words of the calls.
-use Rattle.std.proofs.Common.{◌≡◌, ◌↔◌, sym, ap, ◌∙◌, subst, ℕ, ◌+◌, ◌≤◌, ◌<◌, length, List, Option, Some, None, Result, Ok, Err, false, arith}
+use Rattle.std.proofs.Common.{◌≡◌, ◌↔◌, sym, ap, ◌∙◌, subst, ℕ, ◌+◌, ◌≤◌, ◌<◌, length, List, Option, Some, None, Result, Ok, Err, Bool, false, arith}
 use Rattle.std.proofs.Math.Nat.{le_refl}
 use Rattle.rasn_types.specs.Bits.{AreOctets}
 use Rattle.rasn_types.specs.Codecs.{variant_of}
@@ -30,18 +30,18 @@ use Rattle.per_depth.proofs.FewVersions.{levelled_holds, few_levels_are_projecte
 use Rattle.per_depth.proofs.Levelled.{levelled_type_unfolds, few_levels_are_read}
 use Rattle.per_depth.proofs.Peers
 use Rattle.per_read.specs.declared.error.DecodeError.{DecodeError}
-use Rattle.rasn_per.specs.Calls.{Decoded}
-use Rattle.rasn_per.specs.Complete.{AreBytes, HasNoBytes, basically}
+use Rattle.rasn_per.specs.Calls.{DecodedBy}
+use Rattle.rasn_per.specs.Complete.{AreBytes, HasNoBytes, basically, reading}
 use Rattle.per_versions.specs.Answers.{Answers}
 use Rattle.per_versions.specs.Readings.{depth_of, normal_form, IsProjection, IsWidening, IsReadBack, IsReadByOlder, IsReadByNewer}
 use Rattle.per_versions.proofs.Depths.{is_held, normal_at, bytes_at, no_bytes_at, projection_at, widening_at}
 use Rattle.per_versions.proofs.Normalised.{stays_in_reach}
 
 -- a reader answers just what the octets are read as
-pub answered : {T : Type 0} (codec : Codec) (type : ℕ → Schema) (value : T → Value) (octets : List ℕ) (answer : Result T DecodeError) (IsRead : Value → Type 0) →
-    Decoded codec type value octets answer → ((w : Value) → read (basically (variant_of codec)) type w octets ↔ IsRead w) → Answers value IsRead answer
-answered codec type value octets (Ok x) IsRead d h = record { ok = (h (value x)).0 d.ok.are_read; err = tt }
-answered codec type value octets (Err e) IsRead d h = record { ok = tt; err = λ m w r. d.err m w ((h w).1 r) }
+pub answered : {T : Type 0} (strict : Bool) (codec : Codec) (type : ℕ → Schema) (value : T → Value) (octets : List ℕ) (answer : Result T DecodeError) (IsRead : Value → Type 0) →
+    DecodedBy strict codec type value octets answer → ((w : Value) → read (reading strict (variant_of codec)) type w octets ↔ IsRead w) → Answers value IsRead answer
+answered strict codec type value octets (Ok x) IsRead d h = record { ok = (h (value x)).0 d.ok.are_read; err = tt }
+answered strict codec type value octets (Err e) IsRead d h = record { ok = tt; err = λ m w r. d.err m w ((h w).1 r) }
 
 -- what canonical octets are read as
 pub own_reads : (a : Settings) (T : ℕ → Schema) → Levelled T → (k : ℕ) (v : Value) (os : List ℕ) → AreBytes a.variant T k v os → (w : Value) → read a T w os ↔ IsReadBack T v w
@@ -226,8 +226,8 @@ module _ (a : Variant) (T : ℕ → Schema) (g : Levelled T) (k l : ℕ) (v w : 
       none j = absurd (cc)
 
 -- a value that was read is read again in normal form
-pub read_again : (a : Settings) (T : ℕ → Schema) → Levelled T → ((n : ℕ) → IsLawful (T n)) → (k : ℕ) (v : Value) (os ps : List ℕ) → read a T v os → AreBytes a.variant T k v ps →
-    (w : Value) → read a T w ps ↔ (w ≡ normal_form T v)
-read_again a T g l k v os ps r h w =
-    let q = own_reads a T g k v ps h w in
+pub read_again : (a b : Settings) (T : ℕ → Schema) → Levelled T → ((n : ℕ) → IsLawful (T n)) → (k : ℕ) (v : Value) (os ps : List ℕ) → read a T v os → AreBytes b.variant T k v ps →
+    (w : Value) → read b T w ps ↔ (w ≡ normal_form T v)
+read_again a b T g l k v os ps r h w =
+    let q = own_reads b T g k v ps h w in
     (λ x. (q.0 x).normal, λ i. q.1 (record { normal = i; in_reach = stays_in_reach a T g l v os r }))

@@ -1,4 +1,7 @@
 pub mod Depths
 pub mod Exchanged
+pub mod Fronts
 pub mod Laws
 pub mod Normalised
+pub mod Passed
+pub mod Relayed

@@ -22,7 +22,7 @@ use Rattle.per_versions.specs.Readings.{depth_of, normal_form, IsInReach}
 use Rattle.per_versions.proofs.Depths as Own
 
 -- where one test is false, another one stays so
-abbrev Low : {X : Type 0} → (X → Bool) → (X → Bool) → (X → X) → Type 0
+abbrev pub Low : {X : Type 0} → (X → Bool) → (X → Bool) → (X → X) → Type 0
 Low {X} K M g = (v : X) → M v ≡ false → K v ≡ false → K (g v) ≡ false
 
 all_low : (K M : Value → Bool) (g : Value → Value) → Low K M g → (vs : List Value) → any_of M vs ≡ false → any_of K vs ≡ false → any_of K (map g vs) ≡ false
@@ -30,18 +30,18 @@ all_low K M g h [] m e = refl
 all_low K M g h (v ∷ vs) m e = or_both (K (g v)) (any_of K (map g vs)) (h v (or_left (M v) (any_of M vs) m) (or_left (K v) (any_of K vs) e))
     (all_low K M g h vs (or_right (M v) (any_of M vs) m) (or_right (K v) (any_of K vs) e))
 
-elements_low : (K M : Value → Bool) (g : Value → Value) → Low K M g → Low (in_elements K) (in_elements M) (over_elements g)
+pub elements_low : (K M : Value → Bool) (g : Value → Value) → Low K M g → Low (in_elements K) (in_elements M) (over_elements g)
 elements_low K M g h (elements vs) m e = ap (any_of K) (values-as_values (map g (values vs))) ∙ all_low K M g h (values vs) m e
 elements_low K M g h _ m e = e
 
-bags_low : (K M : Value → Bool) (g : Value → Value) → Low K M g → Low (in_elements K) (in_elements M) (over_bag g)
+pub bags_low : (K M : Value → Bool) (g : Value → Value) → Low K M g → Low (in_elements K) (in_elements M) (over_bag g)
 unfolding over_bag bag_of
 bags_low K M g h (bag vs) m e =
     ap (any_of K) (values-as_values (sorted (λ v w. before (code v) (code w)) (map g (values vs))))
     ∙ any_sorted (λ v w. before (code v) (code w)) K (map g (values vs)) (all_low K M g h (values vs) m e)
 bags_low K M g h _ m e = e
 
-fields_low : (K M : List (Option Value) → Bool) (g : List (Option Value) → List (Option Value)) (K' M' : List (Option Value) → Bool) (g' : List (Option Value) → List (Option Value)) →
+pub fields_low : (K M : List (Option Value) → Bool) (g : List (Option Value) → List (Option Value)) (K' M' : List (Option Value) → Bool) (g' : List (Option Value) → List (Option Value)) →
     Low K M g → Low K' M' g' → Low (in_fields K K') (in_fields M M') (over_fields g g')
 fields_low K M g K' M' g' h h' (fields r x) m e =
     ap₂ (λ l k. K l || K' k) (slots-as_slots (g (slots r))) (slots-as_slots (g' (slots x)))
@@ -49,18 +49,18 @@ fields_low K M g K' M' g' h h' (fields r x) m e =
     (h' (slots x) (or_right (M (slots r)) (M' (slots x)) m) (or_right (K (slots r)) (K' (slots x)) e))
 fields_low K M g K' M' g' h h' _ m e = e
 
-alternative_low : (K M : ℕ → Value → Bool) (g : ℕ → Value → Value) (K' M' : ℕ → Value → Bool) (g' : ℕ → Value → Value) →
+pub alternative_low : (K M : ℕ → Value → Bool) (g : ℕ → Value → Value) (K' M' : ℕ → Value → Bool) (g' : ℕ → Value → Value) →
     ((i : ℕ) → Low (K i) (M i) (g i)) → ((i : ℕ) → Low (K' i) (M' i) (g' i)) → Low (in_alternative K K') (in_alternative M M') (over_alternative g g')
 alternative_low K M g K' M' g' h h' (alternative root i v) m e = h i v m e
 alternative_low K M g K' M' g' h h' (alternative added i v) m e = h' i v m e
 alternative_low K M g K' M' g' h h' _ m e = e
 
 -- one slot
-abbrev in_slot : (Value → Bool) → Option Value → Bool
+abbrev pub in_slot : (Value → Bool) → Option Value → Bool
 in_slot f None = false
 in_slot f (Some v) = f v
 
-first_slot : (f : Value → Bool) (g : List (Option Value) → Bool) (x : Option Value) (xs : List (Option Value)) → in_slot f x ≡ false → g xs ≡ false → in_slots f g (x ∷ xs) ≡ false
+pub first_slot : (f : Value → Bool) (g : List (Option Value) → Bool) (x : Option Value) (xs : List (Option Value)) → in_slot f x ≡ false → g xs ≡ false → in_slots f g (x ∷ xs) ≡ false
 first_slot f g None xs e h = h
 first_slot f g (Some v) xs e h = or_both (f v) (g xs) e h
 

@@ -1,5 +1,6 @@
 -- What a reader answers.
-use Rattle.std.specs.Prelude.{◌≢◌, List, Result, IfOk, IfErr, ℕ}
+use Rattle.std.specs.Prelude.{◌≡◌, ◌≢◌, ◌++◌, Bool, false, List, Result, IfOk, IfErr, ℕ}
+use Rattle.std.specs.Borrow.{Bor}
 use Rattle.rasn_types.specs.Codecs.{variant_of}
 use Rattle.rasn_types.specs.Values.{Value}
 use Rattle.rasn_types.specs.declared.types.Codec.{Codec}
@@ -7,7 +8,7 @@ use Rattle.rasn_schema.specs.Schemas.{Schema}
 use Rattle.per_core.specs.Basic.{fills_known}
 use Rattle.per_read.specs.declared.error.DecodeError.{DecodeError}
 use Rattle.per_read.specs.declared.error.DecodeErrorKind.TheVariants.{OutOfMemory}
-use Rattle.rasn_per.specs.Complete.{basically}
+use Rattle.rasn_per.specs.Complete.{reading}
 
 -- the one value that is to be read, or, memory aside, a refusal only where there is none
 pub record Answers {T : Type 0} (value : T → Value) (IsRead : Value → Type 0) (answer : Result T DecodeError)
@@ -15,6 +16,18 @@ pub record Answers {T : Type 0} (value : T → Value) (IsRead : Value → Type 0
   pub ok : IfOk answer (λ x. IsRead (value x))
   pub err : IfErr answer (λ e. e.kind ≢ OutOfMemory → (w : Value) → IsRead w → ⊥)
 
--- X.691 19.9: octets are read as a value within 128 levels, and no additions are present that the type doesn't know
-abbrev pub AreKnown : Codec → (ℕ → Schema) → Value → List ℕ → Type 0
-AreKnown codec type v octets = fills_known (basically (variant_of codec)) (type 128) v octets
+-- X.691 19.9: octets are read as a value within 128 levels, padding being zero where it must, and no additions are
+-- present that the type doesn't know
+abbrev pub AreKnown : Bool → Codec → (ℕ → Schema) → Value → List ℕ → Type 0
+AreKnown strict codec type v octets = fills_known (reading strict (variant_of codec)) (type 128) v octets
+
+-- the same of a reader that answers the octets behind the value, too: these and no others
+pub record AnswersFront {T : Type 0} (value : T → Value) (IsRead : Value → Type 0) (rest : List ℕ)
+    (answer : Result (T × Bor (List ℕ)) DecodeError) : Type 0 where
+  pub ok : IfOk answer (λ x. IsRead (value x.0) × (x.1.now ≡ rest))
+  pub err : IfErr answer (λ e. e.kind ≢ OutOfMemory → (w : Value) → IsRead w → ⊥)
+
+-- octets begin with some that are known so, and go on with the rest
+abbrev pub BeginKnown : Codec → (ℕ → Schema) → Value → List ℕ → List ℕ → Type 0
+BeginKnown codec type v octets rest =
+    (front : List ℕ) × (octets ≡ front ++ rest) × AreKnown false codec type v front

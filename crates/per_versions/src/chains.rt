@@ -1,11 +1,11 @@
 //! Chains of three versions: by way of the middle one or not, a reader answers the same (X.680, 52).
 
-ghost use Rattle.std.specs.Prelude.{◌≡◌, ◌↔◌, ℕ, List, Result, Ok};
+ghost use Rattle.std.specs.Prelude.{◌≡◌, ◌↔◌, ℕ, Bool, List, Result, Ok};
 ghost use Rattle.rasn_types.specs.Values.{Value};
 ghost use Rattle.rasn_types.specs.declared.types.Codec.{Codec};
 ghost use Rattle.per_core.specs.Versions.{NewerType};
 ghost use Rattle.per_read.specs.declared.error.DecodeError.{DecodeError};
-ghost use Rattle.rasn_per.specs.Calls.{Decoded};
+ghost use Rattle.rasn_per.specs.Calls.{DecodedBy};
 ghost use Rattle.per_versions.specs.Answers.{Answers, AreKnown};
 ghost use Rattle.per_versions.specs.Readings.{IsProjection, IsWidening};
 
@@ -42,9 +42,11 @@ pub fn oldest_reader_answers_the_same_by_way_of_the_middle<
 >()
     ensures { let newest = Newest.schema Newest.CONSTRAINTS in let middle = Middle.schema Middle.CONSTRAINTS in
         let oldest = Oldest.schema Oldest.CONSTRAINTS in NewerType newest middle → NewerType middle oldest
-        → (codec : Codec) (octets : List ℕ) (x : Newest) (y : Middle) (answer : Result Oldest DecodeError)
-        → Decoded codec newest Newest.value octets (Ok x) → Decoded codec middle Middle.value octets (Ok y)
-        → Decoded codec oldest Oldest.value octets answer →
+        → (strict : Bool) (codec : Codec) (octets : List ℕ) (x : Newest) (y : Middle)
+        (answer : Result Oldest DecodeError)
+        → DecodedBy strict codec newest Newest.value octets (Ok x)
+        → DecodedBy strict codec middle Middle.value octets (Ok y)
+        → DecodedBy strict codec oldest Oldest.value octets answer →
         Answers Oldest.value (IsProjection newest oldest (Newest.value x)) answer
         × Answers Oldest.value (IsProjection middle oldest (Middle.value y)) answer }
 {}
@@ -59,9 +61,11 @@ pub fn newest_reader_answers_the_same_by_way_of_the_middle<
 >()
     ensures { let newest = Newest.schema Newest.CONSTRAINTS in let middle = Middle.schema Middle.CONSTRAINTS in
         let oldest = Oldest.schema Oldest.CONSTRAINTS in NewerType newest middle → NewerType middle oldest
-        → (codec : Codec) (octets : List ℕ) (x : Oldest) (y : Middle) (answer : Result Newest DecodeError)
-        → AreKnown codec oldest (Oldest.value x) octets → Decoded codec middle Middle.value octets (Ok y)
-        → Decoded codec newest Newest.value octets answer →
+        → (strict : Bool) (codec : Codec) (octets : List ℕ) (x : Oldest) (y : Middle)
+        (answer : Result Newest DecodeError)
+        → AreKnown strict codec oldest (Oldest.value x) octets
+        → DecodedBy strict codec middle Middle.value octets (Ok y)
+        → DecodedBy strict codec newest Newest.value octets answer →
         Answers Newest.value (IsWidening newest oldest (Oldest.value x)) answer
         × Answers Newest.value (IsWidening newest middle (Middle.value y)) answer }
 {}

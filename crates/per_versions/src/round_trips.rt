@@ -1,13 +1,13 @@
 //! What `encode` and `decode` of one type answer to one another.
 
-ghost use Rattle.std.specs.Prelude.{◌≡◌, ◌↔◌, ◌<◌, ℕ, List, length, Result, Ok};
+ghost use Rattle.std.specs.Prelude.{◌≡◌, ◌↔◌, ◌<◌, ℕ, Bool, List, length, Result, Ok};
 ghost use Rattle.rasn_types.specs.Bits.{AreOctets};
 ghost use Rattle.rasn_types.specs.Codecs.{variant_of};
 ghost use Rattle.rasn_types.specs.Values.{Value};
 ghost use Rattle.rasn_types.specs.declared.types.Codec.{Codec};
 ghost use Rattle.rasn_schema.specs.Lawful.{IsLawfulType};
 ghost use Rattle.per_read.specs.declared.error.DecodeError.{DecodeError};
-ghost use Rattle.rasn_per.specs.Calls.{Decoded};
+ghost use Rattle.rasn_per.specs.Calls.{DecodedBy};
 ghost use Rattle.rasn_per.specs.Complete.{AreBytes, HasNoBytes};
 ghost use Rattle.per_versions.specs.Answers.{Answers};
 ghost use Rattle.per_versions.specs.Readings.{IsReadBack, normal_form};
@@ -33,28 +33,32 @@ pub fn encoding_is_octets_and_at_least_one<T: Encode>()
 /// where something that is written lies deeper than 128 levels.
 pub fn reader_answers_the_normal_form<T: Encode + Decode>()
     ensures { let type = T.schema T.CONSTRAINTS in
-        (codec : Codec) (x : T) (octets : List ℕ) (answer : Result T DecodeError)
+        (strict : Bool) (codec : Codec) (x : T) (octets : List ℕ) (answer : Result T DecodeError)
         → AreBytes (variant_of codec) type (T.levels x) (T.value x) octets
-        → Decoded codec type T.value octets answer → Answers T.value (IsReadBack type (T.value x)) answer }
+        → DecodedBy strict codec type T.value octets answer → Answers T.value (IsReadBack type (T.value x)) answer }
 {}
 
 /// What `decode` answers to the octets that `encode` answered is encoded as these octets again, and refused for want of
 /// memory alone.
 pub fn what_was_decoded_is_encoded_the_same<T: Encode + Decode>()
-    ensures same { let type = T.schema T.CONSTRAINTS in (codec : Codec) (x y : T) (octets others : List ℕ)
-        → AreBytes (variant_of codec) type (T.levels x) (T.value x) octets → Decoded codec type T.value octets (Ok y)
+    ensures same { let type = T.schema T.CONSTRAINTS in
+        (strict : Bool) (codec : Codec) (x y : T) (octets others : List ℕ)
+        → AreBytes (variant_of codec) type (T.levels x) (T.value x) octets
+        → DecodedBy strict codec type T.value octets (Ok y)
         → AreBytes (variant_of codec) type (T.levels y) (T.value y) others → others ≡ octets }
-    ensures encoded { let type = T.schema T.CONSTRAINTS in (codec : Codec) (x y : T) (octets : List ℕ)
-        → AreBytes (variant_of codec) type (T.levels x) (T.value x) octets → Decoded codec type T.value octets (Ok y)
+    ensures encoded { let type = T.schema T.CONSTRAINTS in (strict : Bool) (codec : Codec) (x y : T) (octets : List ℕ)
+        → AreBytes (variant_of codec) type (T.levels x) (T.value x) octets
+        → DecodedBy strict codec type T.value octets (Ok y)
         → HasNoBytes (variant_of codec) type (T.levels y) (T.value y) → ⊥ }
 {}
 
 /// What a lawful type's `decode` answers to any octets, canonical or not, it answers in normal form to the octets as
-/// which `encode` writes that, and refuses these for want of memory alone.
+/// which `encode` writes that, in the same variant or in the other, and refuses these for want of memory alone.
 pub fn what_was_decoded_is_decoded_again<T: Encode + Decode>()
     ensures { let type = T.schema T.CONSTRAINTS in IsLawfulType type
-        → (codec : Codec) (x : T) (octets others : List ℕ) (answer : Result T DecodeError)
-        → Decoded codec type T.value octets (Ok x)
-        → AreBytes (variant_of codec) type (T.levels x) (T.value x) others → Decoded codec type T.value others answer
+        → (strict again : Bool) (codec other : Codec) (x : T) (octets others : List ℕ) (answer : Result T DecodeError)
+        → DecodedBy strict codec type T.value octets (Ok x)
+        → AreBytes (variant_of other) type (T.levels x) (T.value x) others
+        → DecodedBy again other type T.value others answer
         → Answers T.value (λ (w : Value). w ≡ normal_form type (T.value x)) answer }
 {}

@@ -1,13 +1,13 @@
 //! What an older and a newer type's `decode` answer to the same octets (X.680, 52).
 
-ghost use Rattle.std.specs.Prelude.{◌≡◌, ◌↔◌, ℕ, List, Result, Ok, Some, false};
+ghost use Rattle.std.specs.Prelude.{◌≡◌, ◌↔◌, ℕ, Bool, List, Result, Ok, Some, false};
 ghost use Rattle.rasn_types.specs.Codecs.{variant_of};
 ghost use Rattle.rasn_types.specs.Values.{Value};
 ghost use Rattle.rasn_types.specs.declared.types.Codec.{Codec};
 ghost use Rattle.rasn_schema.specs.Depth.{meets_cut};
 ghost use Rattle.per_core.specs.Versions.{NewerType, project, widen};
 ghost use Rattle.per_read.specs.declared.error.DecodeError.{DecodeError};
-ghost use Rattle.rasn_per.specs.Calls.{Decoded};
+ghost use Rattle.rasn_per.specs.Calls.{DecodedBy};
 ghost use Rattle.rasn_per.specs.Complete.{AreBytes};
 ghost use Rattle.per_versions.specs.Answers.{Answers, AreKnown};
 ghost use Rattle.per_versions.specs.Readings.{IsProjection, IsReadByNewer, IsReadByOlder, IsWidening};
@@ -20,9 +20,10 @@ use rasn_schema::schema::AsnType;
 /// than 128 levels, outside the additions that it doesn't know (X.680, 52; X.691, 19.9).
 pub fn older_reader_answers_the_projection<New: Encode, Old: Decode>()
     ensures { let newer = New.schema New.CONSTRAINTS in let older = Old.schema Old.CONSTRAINTS in
-        NewerType newer older → (codec : Codec) (x : New) (octets : List ℕ) (answer : Result Old DecodeError)
+        NewerType newer older
+        → (strict : Bool) (codec : Codec) (x : New) (octets : List ℕ) (answer : Result Old DecodeError)
         → AreBytes (variant_of codec) newer (New.levels x) (New.value x) octets
-        → Decoded codec older Old.value octets answer
+        → DecodedBy strict codec older Old.value octets answer
         → Answers Old.value (IsReadByOlder newer older (New.value x)) answer }
 {}
 
@@ -31,9 +32,10 @@ pub fn older_reader_answers_the_projection<New: Encode, Old: Decode>()
 /// than 128 levels (X.680, 52; X.691, 19.5, 19.8).
 pub fn newer_reader_answers_the_widening<New: Decode, Old: Encode>()
     ensures { let newer = New.schema New.CONSTRAINTS in let older = Old.schema Old.CONSTRAINTS in
-        NewerType newer older → (codec : Codec) (x : Old) (octets : List ℕ) (answer : Result New DecodeError)
+        NewerType newer older
+        → (strict : Bool) (codec : Codec) (x : Old) (octets : List ℕ) (answer : Result New DecodeError)
         → AreBytes (variant_of codec) older (Old.levels x) (Old.value x) octets
-        → Decoded codec newer New.value octets answer
+        → DecodedBy strict codec newer New.value octets answer
         → Answers New.value (IsReadByNewer newer older (Old.value x)) answer }
 {}
 
@@ -41,8 +43,9 @@ pub fn newer_reader_answers_the_widening<New: Decode, Old: Encode>()
 /// projection of that value. It refuses, memory aside, exactly where there is none.
 pub fn older_reader_projects_what_the_newer_reads<New: Decode, Old: Decode>()
     ensures { let newer = New.schema New.CONSTRAINTS in let older = Old.schema Old.CONSTRAINTS in
-        NewerType newer older → (codec : Codec) (octets : List ℕ) (x : New) (answer : Result Old DecodeError)
-        → Decoded codec newer New.value octets (Ok x) → Decoded codec older Old.value octets answer
+        NewerType newer older
+        → (strict : Bool) (codec : Codec) (octets : List ℕ) (x : New) (answer : Result Old DecodeError)
+        → DecodedBy strict codec newer New.value octets (Ok x) → DecodedBy strict codec older Old.value octets answer
         → Answers Old.value (IsProjection newer older (New.value x)) answer }
 {}
 
@@ -52,25 +55,27 @@ pub fn older_reader_projects_what_the_newer_reads<New: Decode, Old: Decode>()
 /// newer one.
 pub fn newer_reader_widens_what_the_older_reads<New: Decode, Old: Decode>()
     ensures answers { let newer = New.schema New.CONSTRAINTS in let older = Old.schema Old.CONSTRAINTS in
-        NewerType newer older → (codec : Codec) (octets : List ℕ) (x : Old) (answer : Result New DecodeError)
-        → AreKnown codec older (Old.value x) octets → Decoded codec newer New.value octets answer
+        NewerType newer older
+        → (strict : Bool) (codec : Codec) (octets : List ℕ) (x : Old) (answer : Result New DecodeError)
+        → AreKnown strict codec older (Old.value x) octets → DecodedBy strict codec newer New.value octets answer
         → Answers New.value (IsWidening newer older (Old.value x)) answer }
     ensures known { let newer = New.schema New.CONSTRAINTS in let older = Old.schema Old.CONSTRAINTS in
-        NewerType newer older → (codec : Codec) (octets : List ℕ) (x : Old) (y : New)
-        → AreKnown codec older (Old.value x) octets → IsWidening newer older (Old.value x) (New.value y)
-        → AreKnown codec newer (New.value y) octets }
+        NewerType newer older → (strict : Bool) (codec : Codec) (octets : List ℕ) (x : Old) (y : New)
+        → AreKnown strict codec older (Old.value x) octets → IsWidening newer older (Old.value x) (New.value y)
+        → AreKnown strict codec newer (New.value y) octets }
     ensures projects_back { let newer = New.schema New.CONSTRAINTS in let older = Old.schema Old.CONSTRAINTS in
-        NewerType newer older → (codec : Codec) (octets : List ℕ) (x : Old) (y : New)
-        → AreKnown codec older (Old.value x) octets → Decoded codec newer New.value octets (Ok y)
+        NewerType newer older → (strict : Bool) (codec : Codec) (octets : List ℕ) (x : Old) (y : New)
+        → AreKnown strict codec older (Old.value x) octets → DecodedBy strict codec newer New.value octets (Ok y)
         → IsProjection newer older (New.value y) (Old.value x) }
 {}
 
 /// In the octets that `encode` answers no additions are present that the type doesn't know, where they are read within
 /// 128 levels (X.691, 19.9).
 pub fn encoded_octets_are_known<T: Encode + Decode>()
-    ensures { let type = T.schema T.CONSTRAINTS in (codec : Codec) (x y : T) (octets : List ℕ)
-        → AreBytes (variant_of codec) type (T.levels x) (T.value x) octets → Decoded codec type T.value octets (Ok y)
-        → AreKnown codec type (T.value y) octets }
+    ensures { let type = T.schema T.CONSTRAINTS in (strict : Bool) (codec : Codec) (x y : T) (octets : List ℕ)
+        → AreBytes (variant_of codec) type (T.levels x) (T.value x) octets
+        → DecodedBy strict codec type T.value octets (Ok y)
+        → AreKnown strict codec type (T.value y) octets }
 {}
 
 /// The projection and the widening are the same along all trees that hold the newer value.

@@ -1,8 +1,8 @@
 use Rattle.per_versions.proofs.Laws
 use Rattle.per_versions.proofs.depth.few_levels_are_projected.Goals as goal
-use Rattle.rasn_per.specs.Complete.{basically}
+use Rattle.rasn_per.specs.Complete.{reading}
 use Rattle.rasn_types.specs.Codecs.{variant_of}
 
 pub returns : goal.returns
-returns g c = λ k codec x octets answer h l d. Laws.answered codec (g.Old.AsnType.schema g.Old.AsnType.CONSTRAINTS) g.Old.AsnType.value octets answer _ d
-    (Laws.few_projected (basically (variant_of codec)) (g.New.AsnType.schema g.New.AsnType.CONSTRAINTS) (g.Old.AsnType.schema g.Old.AsnType.CONSTRAINTS) (g.New.AsnType.levelled g.New.AsnType.CONSTRAINTS) (g.Old.AsnType.levelled g.Old.AsnType.CONSTRAINTS) k (g.New.AsnType.levels x) (g.New.AsnType.value x) octets h l)
+returns g c = λ k strict codec x octets answer h l d. Laws.answered strict codec (g.Old.AsnType.schema g.Old.AsnType.CONSTRAINTS) g.Old.AsnType.value octets answer _ d
+    (Laws.few_projected (reading strict (variant_of codec)) (g.New.AsnType.schema g.New.AsnType.CONSTRAINTS) (g.Old.AsnType.schema g.Old.AsnType.CONSTRAINTS) (g.New.AsnType.levelled g.New.AsnType.CONSTRAINTS) (g.Old.AsnType.levelled g.Old.AsnType.CONSTRAINTS) k (g.New.AsnType.levels x) (g.New.AsnType.value x) octets h l)

@@ -1,8 +1,8 @@
 use Rattle.per_versions.proofs.Laws
 use Rattle.per_versions.proofs.depth.few_levels_are_read_back.Goals as goal
-use Rattle.rasn_per.specs.Complete.{basically}
+use Rattle.rasn_per.specs.Complete.{reading}
 use Rattle.rasn_types.specs.Codecs.{variant_of}
 
 pub returns : goal.returns
-returns g c = λ codec x octets answer h l d. Laws.answered codec (g.T.AsnType.schema g.T.AsnType.CONSTRAINTS) g.T.AsnType.value octets answer _ d
-    (Laws.few_read_back (basically (variant_of codec)) (g.T.AsnType.schema g.T.AsnType.CONSTRAINTS) (g.T.AsnType.levelled g.T.AsnType.CONSTRAINTS) (g.T.AsnType.levels x) (g.T.AsnType.value x) octets h l)
+returns g c = λ strict codec x octets answer h l d. Laws.answered strict codec (g.T.AsnType.schema g.T.AsnType.CONSTRAINTS) g.T.AsnType.value octets answer _ d
+    (Laws.few_read_back (reading strict (variant_of codec)) (g.T.AsnType.schema g.T.AsnType.CONSTRAINTS) (g.T.AsnType.levelled g.T.AsnType.CONSTRAINTS) (g.T.AsnType.levels x) (g.T.AsnType.value x) octets h l)

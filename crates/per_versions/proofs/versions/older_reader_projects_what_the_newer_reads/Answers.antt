@@ -1,8 +1,8 @@
 use Rattle.per_versions.proofs.Laws
 use Rattle.per_versions.proofs.versions.older_reader_projects_what_the_newer_reads.Goals as goal
-use Rattle.rasn_per.specs.Complete.{basically}
+use Rattle.rasn_per.specs.Complete.{reading}
 use Rattle.rasn_types.specs.Codecs.{variant_of}
 
 pub returns : goal.returns
-returns g c = λ k codec octets x answer e d. Laws.answered codec (g.Old.AsnType.schema g.Old.AsnType.CONSTRAINTS) g.Old.AsnType.value octets answer _ d
-    (Laws.older_projects (basically (variant_of codec)) (g.New.AsnType.schema g.New.AsnType.CONSTRAINTS) (g.Old.AsnType.schema g.Old.AsnType.CONSTRAINTS) (g.New.AsnType.levelled g.New.AsnType.CONSTRAINTS) (g.Old.AsnType.levelled g.Old.AsnType.CONSTRAINTS) k (g.New.AsnType.value x) octets e.ok.are_read)
+returns g c = λ k strict codec octets x answer e d. Laws.answered strict codec (g.Old.AsnType.schema g.Old.AsnType.CONSTRAINTS) g.Old.AsnType.value octets answer _ d
+    (Laws.older_projects (reading strict (variant_of codec)) (g.New.AsnType.schema g.New.AsnType.CONSTRAINTS) (g.Old.AsnType.schema g.Old.AsnType.CONSTRAINTS) (g.New.AsnType.levelled g.New.AsnType.CONSTRAINTS) (g.Old.AsnType.levelled g.Old.AsnType.CONSTRAINTS) k (g.New.AsnType.value x) octets e.ok.are_read)

@@ -1,0 +1,13 @@
+use Rattle.per_versions.proofs.Fronts
+use Rattle.per_versions.proofs.Laws
+use Rattle.per_versions.proofs.remainders.older_reader_answers_the_projection_and_the_rest.Goals as goal
+use Rattle.rasn_per.specs.Complete.{basically}
+use Rattle.rasn_types.specs.Codecs.{variant_of}
+use Rattle.std.proofs.Common.{refl}
+
+pub returns : goal.returns
+returns g c = λ k codec x octets rest answer h d.
+    let a = basically (variant_of codec) in
+    Fronts.front_answered codec (g.Old.AsnType.schema g.Old.AsnType.CONSTRAINTS) g.Old.AsnType.value _ octets rest answer _ d refl
+    (Fronts.older_front a (g.New.AsnType.schema g.New.AsnType.CONSTRAINTS) (g.Old.AsnType.schema g.Old.AsnType.CONSTRAINTS) (g.New.AsnType.levelled g.New.AsnType.CONSTRAINTS) (g.Old.AsnType.levelled g.Old.AsnType.CONSTRAINTS) k (g.New.AsnType.levels x) (g.New.AsnType.value x) octets rest h)
+    (Laws.older_reads a (g.New.AsnType.schema g.New.AsnType.CONSTRAINTS) (g.Old.AsnType.schema g.Old.AsnType.CONSTRAINTS) (g.New.AsnType.levelled g.New.AsnType.CONSTRAINTS) (g.Old.AsnType.levelled g.Old.AsnType.CONSTRAINTS) k (g.New.AsnType.levels x) (g.New.AsnType.value x) octets h)
