@@ -1,0 +1,15 @@
+//! The items of a value and the bits of its encodings (X.691, 11.9).
+
+ghost use Rattle.std.specs.Prelude.{◌≤◌, ℕ, length};
+ghost use Rattle.rasn_types.specs.Bits.{Bits};
+ghost use Rattle.rasn_types.specs.Values.{Value};
+ghost use Rattle.rasn_schema.specs.Schemas.{Schema};
+ghost use Rattle.per_core.specs.Basic.{basic};
+ghost use Rattle.per_core.specs.Spellings.{Settings};
+ghost use Rattle.per_counts.specs.Counts.{item_count, most_items};
+
+/// A value has at most 65535 items, and 8192 for each bit of a basic encoding of it.
+pub fn items_are_few_for_their_bits()
+    ensures { (a : Settings) (s : Schema) (v : Value) (p : ℕ) (bits : Bits) →
+        basic a s v p bits → item_count v ≤ most_items (length bits) }
+{}
