@@ -1,2 +1,4 @@
 mod FewItems
 mod FewRead
+mod FewWithin
+mod HeldIn

@@ -3,8 +3,9 @@
 ghost use Rattle.std.specs.Prelude.{◌≤◌, ◌*◌, ◌-◌, ℕ, Bool, List, length, Ok, IfOk};
 ghost use Rattle.std.specs.Borrow.{Bor};
 ghost use Rattle.rasn_types.specs.declared.types.Codec.{Codec};
-ghost use Rattle.rasn_per.specs.Calls.{DecodedBy, DecodedFront};
+ghost use Rattle.rasn_per.specs.Calls.{Decoded, DecodedBy, DecodedFront};
 ghost use Rattle.per_counts.specs.Counts.{item_count, most_items};
+ghost use Rattle.per_counts.specs.Within.{HasAtMost};
 
 use per_de::DecodeError;
 use rasn_codec::codec::Decode;
@@ -13,25 +14,33 @@ use rasn_types::types::Codec;
 use std::alloc::Global;
 
 /// What a type's `decode` answers to octets has at most 65535 items, and 8192 for each bit of the octets, whether
-/// padding must be zero or not (X.691, 11.9).
+/// padding must be zero or not; and so has each value within it, but for a default that stands for an absent part
+/// (X.691, 11.9, 19.5).
 pub fn decoded_items_are_few<T: Decode>()
-    ensures { (strict : Bool) (codec : Codec) (octets : List ℕ) (x : T)
+    ensures own { (strict : Bool) (codec : Codec) (octets : List ℕ) (x : T)
         → DecodedBy strict codec (T.schema T.CONSTRAINTS) T.value octets (Ok x) →
         item_count (T.value x) ≤ most_items (8 * length octets) }
+    ensures within { (strict : Bool) (codec : Codec) (octets : List ℕ) (x : T)
+        → DecodedBy strict codec (T.schema T.CONSTRAINTS) T.value octets (Ok x) →
+        HasAtMost (most_items (8 * length octets)) (T.schema T.CONSTRAINTS 128) (T.value x) }
 {}
 
-/// What a type's `decode_with_remainder` answers has at most 65535 items, and 8192 for each bit of the octets in front
-/// of the remainder (X.691, 11.9).
+/// The same of what a type's `decode_with_remainder` answers, for each bit of the octets in front of the remainder
+/// (X.691, 11.9, 19.5).
 pub fn decoded_items_in_front_are_few<T: Decode>()
-    ensures { (codec : Codec) (octets : List ℕ) (x : T) (rest : Bor (List ℕ))
+    ensures own { (codec : Codec) (octets : List ℕ) (x : T) (rest : Bor (List ℕ))
         → DecodedFront codec (T.schema T.CONSTRAINTS) T.value octets (Ok (x, rest)) →
         item_count (T.value x) ≤ most_items (8 * (length octets - length rest.now)) }
+    ensures within { (codec : Codec) (octets : List ℕ) (x : T) (rest : Bor (List ℕ))
+        → DecodedFront codec (T.schema T.CONSTRAINTS) T.value octets (Ok (x, rest)) →
+        HasAtMost (most_items (8 * (length octets - length rest.now))) (T.schema T.CONSTRAINTS 128) (T.value x) }
 {}
 
-/// The value that all octets spell, in the variant of a codec, as `decode` gives it: at most 65535 items, and 8192 for
-/// each bit of the octets.
+/// The value that all octets spell, in the variant of a codec, as `uper::decode` and `aper::decode` give it: at most
+/// 65535 items, and 8192 for each bit of the octets.
 pub fn decode<T: Decode>(alloc: Global, codec: Codec, octets: &[u8]) -> Result<T, DecodeError>
-    ensures { IfOk result (λ x. item_count (T.value x) ≤ most_items (8 * length octets.now)) }
+    ensures decoded { Decoded codec (T.schema T.CONSTRAINTS) T.value octets.now result }
+    ensures few { IfOk result (λ x. item_count (T.value x) ≤ most_items (8 * length octets.now)) }
 {
     decoded_items_are_few::<T>();
     match codec {

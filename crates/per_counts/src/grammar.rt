@@ -7,9 +7,13 @@ ghost use Rattle.rasn_schema.specs.Schemas.{Schema};
 ghost use Rattle.per_core.specs.Basic.{basic};
 ghost use Rattle.per_core.specs.Spellings.{Settings};
 ghost use Rattle.per_counts.specs.Counts.{item_count, most_items};
+ghost use Rattle.per_counts.specs.Within.{HasAtMost};
 
-/// A value has at most 65535 items, and 8192 for each bit of a basic encoding of it.
+/// A value has at most 65535 items, and 8192 for each bit of a basic encoding of it; and so has each value within it,
+/// but for a default that stands for an absent part (X.691, 19.5).
 pub fn items_are_few_for_their_bits()
-    ensures { (a : Settings) (s : Schema) (v : Value) (p : ℕ) (bits : Bits) →
+    ensures own { (a : Settings) (s : Schema) (v : Value) (p : ℕ) (bits : Bits) →
         basic a s v p bits → item_count v ≤ most_items (length bits) }
+    ensures within { (a : Settings) (s : Schema) (v : Value) (p : ℕ) (bits : Bits) →
+        basic a s v p bits → HasAtMost (most_items (length bits)) s v }
 {}

@@ -4,10 +4,10 @@ use Rattle.std.proofs.Common.{false}
 use Rattle.per_counts.proofs.FewRead.{where_answered}
 use Rattle.per_counts.proofs.decoding.decode.Goals as goal
 
-pub returns-in-Aper : goal.returns-in-Aper
-returns-in-Aper g c = where_answered c.decode.result (λ r. Decoded Aper (g.T.AsnType.schema g.T.AsnType.CONSTRAINTS) g.T.AsnType.value c.args.octets.now r) _
-    (λ x h. c.decoded_items_are_few.ensures false Aper c.args.octets.now x h) c.decode.ensures
+pub returns-in-Aper-clause-few : goal.returns-in-Aper-clause-few
+returns-in-Aper-clause-few g c = where_answered c.decode.result (λ r. Decoded Aper (g.T.AsnType.schema g.T.AsnType.CONSTRAINTS) g.T.AsnType.value c.args.octets.now r) _
+    (λ x h. c.decoded_items_are_few.ensures.own false Aper c.args.octets.now x h) c.decode.ensures
 
-pub returns-in-Uper : goal.returns-in-Uper
-returns-in-Uper g c = where_answered c.decode-in-Uper.result (λ r. Decoded Uper (g.T.AsnType.schema g.T.AsnType.CONSTRAINTS) g.T.AsnType.value c.args.octets.now r) _
-    (λ x h. c.decoded_items_are_few.ensures false Uper c.args.octets.now x h) c.decode-in-Uper.ensures
+pub returns-in-Uper-clause-few : goal.returns-in-Uper-clause-few
+returns-in-Uper-clause-few g c = where_answered c.decode-in-Uper.result (λ r. Decoded Uper (g.T.AsnType.schema g.T.AsnType.CONSTRAINTS) g.T.AsnType.value c.args.octets.now r) _
+    (λ x h. c.decoded_items_are_few.ensures.own false Uper c.args.octets.now x h) c.decode-in-Uper.ensures
