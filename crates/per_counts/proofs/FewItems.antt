@@ -13,7 +13,7 @@ use Rattle.per_core.proofs.Lengths.{and_left, and_right}
 use Rattle.per_counts.specs.Counts.{item_count, most_items}
 
 -- a count below 16384, in eight bits or more
-last_few : (n p : ℕ) (b : Bits) → LastCount n p b → n ≤ 8192 * length b
+pub last_few : (n p : ℕ) (b : Bits) → LastCount n p b → n ≤ 8192 * length b
 last_few n p b (inl x) = let h : n < 128 = x.0 in let k : length b ≡ 8 = x.1.wide in omega arith
 last_few n p b (inr x) =
     let e : length x.front ≡ 2 = ap length x.is_front in
@@ -25,7 +25,7 @@ last_few n p b (inr x) =
     omega arith
 
 -- a fragment's count, in eight bits
-fragment_few : (n p : ℕ) (b : Bits) → Fragment n p b → n ≤ 8192 * length b
+pub fragment_few : (n p : ℕ) (b : Bits) → Fragment n p b → n ≤ 8192 * length b
 fragment_few n p b x = let k : length b ≡ 8 = x.spelled.wide in let e : n ≡ 16384 * x.times = x.is in let h : x.times < 5 = x.few in omega arith
 
 -- what stands behind another thing, and in front of it, is no longer than both

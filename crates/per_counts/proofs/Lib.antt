@@ -1,3 +1,4 @@
+mod FewBefore
 mod FewItems
 mod FewRead
 mod FewWithin

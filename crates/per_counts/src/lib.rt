@@ -5,3 +5,4 @@
 pub mod calls;
 pub mod decoding;
 pub mod grammar;
+pub mod lists;
