@@ -3,3 +3,4 @@ mod FewItems
 mod FewRead
 mod FewWithin
 mod HeldIn
+mod NullRows

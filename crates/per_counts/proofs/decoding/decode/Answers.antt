@@ -6,8 +6,8 @@ use Rattle.per_counts.proofs.decoding.decode.Goals as goal
 
 pub returns-in-Aper-clause-few : goal.returns-in-Aper-clause-few
 returns-in-Aper-clause-few g c = where_answered c.decode.result (λ r. Decoded Aper (g.T.AsnType.schema g.T.AsnType.CONSTRAINTS) g.T.AsnType.value c.args.octets.now r) _
-    (λ x h. c.decoded_items_are_few.ensures.own false Aper c.args.octets.now x h) c.decode.ensures
+    (λ x h. c.decoded_items_are_few.ensures.own false Aper g.T.AsnType.CONSTRAINTS c.args.octets.now x h) c.decode.ensures
 
 pub returns-in-Uper-clause-few : goal.returns-in-Uper-clause-few
 returns-in-Uper-clause-few g c = where_answered c.decode-in-Uper.result (λ r. Decoded Uper (g.T.AsnType.schema g.T.AsnType.CONSTRAINTS) g.T.AsnType.value c.args.octets.now r) _
-    (λ x h. c.decoded_items_are_few.ensures.own false Uper c.args.octets.now x h) c.decode-in-Uper.ensures
+    (λ x h. c.decoded_items_are_few.ensures.own false Uper g.T.AsnType.CONSTRAINTS c.args.octets.now x h) c.decode-in-Uper.ensures
