@@ -1,0 +1,6 @@
+mod FewBefore
+mod FewItems
+mod FewRead
+mod FewWithin
+mod HeldIn
+mod NullRows

@@ -1,0 +1,61 @@
+//! The items that one call of a decoder reads, and the bits that it takes.
+
+ghost use Rattle.std.specs.Prelude.{◌≡◌, ◌≤◌, ◌⊎◌, ◌-◌, ℕ, length, Option, Some, Ok, IfOk};
+ghost use Rattle.rasn_types.specs.Values.{Value};
+ghost use Rattle.rasn_schema.specs.Schemas.{Presence, Schema};
+ghost use Rattle.rasn_calls.specs.Calls.{Reads};
+ghost use Rattle.rasn_calls.specs.Optionals.{MakesDefault, ReadsComponent, ReadsDefault};
+ghost use Rattle.rasn_calls.specs.Presences.{left_out};
+ghost use Rattle.per_de.specs.Rules.{decoder_rules};
+ghost use Rattle.per_de.specs.State.{State};
+ghost use Rattle.per_counts.specs.Counts.{item_count, most_items};
+ghost use Rattle.per_counts.specs.Within.{HasAtMost};
+
+use per_de::{DecodeError, Decoder};
+use rasn_codec::codec::Decode;
+use std::alloc::{AllocError, Global};
+
+/// A call that reads a value answers at most 65535 items, and 8192 for each bit that it took, and so many in each value
+/// within the answer, but for a default that stands for an absent part (X.691, 11.9, 19.5).
+pub fn items_of_a_call_are_few<T>()
+    ensures own { (c : Schema) (value : T → Value) (s t : State) (x : T) → Reads decoder_rules c value s (Ok x) t →
+        item_count (value x) ≤ most_items (length s.bits - length t.bits) }
+    ensures within { (c : Schema) (value : T → Value) (s t : State) (x : T) → Reads decoder_rules c value s (Ok x) t →
+        HasAtMost (most_items (length s.bits - length t.bits)) c (value x) }
+{}
+
+/// The same of a call that reads a component which may be absent, unless it answers the default that stands for an
+/// absent one (X.691, 19.2, 19.5).
+pub fn items_of_a_component_are_few<T>()
+    ensures own { (p : Presence) (c : Schema) (slot : T → Option Value) (s t : State) (x : T) (v : Value)
+        → ReadsComponent decoder_rules p c slot s (Ok x) t → slot x ≡ Some v →
+        (item_count v ≤ most_items (length s.bits - length t.bits)) ⊎ (left_out p ≡ Some (Some v)) }
+    ensures within { (p : Presence) (c : Schema) (slot : T → Option Value) (s t : State) (x : T) (v : Value)
+        → ReadsComponent decoder_rules p c slot s (Ok x) t → slot x ≡ Some v →
+        HasAtMost (most_items (length s.bits - length t.bits)) c v ⊎ (left_out p ≡ Some (Some v)) }
+{}
+
+/// The same of a call that reads a component with a default, which a function makes, unless it answers that default
+/// (X.691, 19.5).
+pub fn items_are_few_or_the_default<T, F: FnOnce(Global) -> Result<T, AllocError>>()
+    ensures own { (c : Schema) (value : T → Value) (make : F) (s t : State) (x : T) (d : Value)
+        → MakesDefault value d (λ made. (alloc : _) × F.post make alloc made)
+        → ReadsDefault decoder_rules c value (λ made. (alloc : _) × F.post make alloc made) s (Ok x) t →
+        (item_count (value x) ≤ most_items (length s.bits - length t.bits)) ⊎ (value x ≡ d) }
+    ensures within { (c : Schema) (value : T → Value) (make : F) (s t : State) (x : T) (d : Value)
+        → MakesDefault value d (λ made. (alloc : _) × F.post make alloc made)
+        → ReadsDefault decoder_rules c value (λ made. (alloc : _) × F.post make alloc made) s (Ok x) t →
+        HasAtMost (most_items (length s.bits - length t.bits)) c (value x) ⊎ (value x ≡ d) }
+{}
+
+/// Reads a value under its type's own tag and constraints, as `Decode::decode` does: at most 65535 items, and 8192 for
+/// each bit that it took.
+pub fn decode_from<T: Decode>(decoder: &mut Decoder) -> Result<T, DecodeError>
+    ensures read { Reads decoder_rules (T.schema T.CONSTRAINTS decoder.old.levels) T.value
+        decoder.old result decoder.new }
+    ensures few { IfOk result (λ x. item_count (T.value x)
+        ≤ most_items (length decoder.old.bits - length decoder.new.bits)) }
+{
+    items_of_a_call_are_few::<T>();
+    T::decode(decoder)
+}
