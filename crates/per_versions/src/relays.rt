@@ -44,12 +44,12 @@ pub fn newer_reader_widens_what_is_passed_on<New: Decode, Old: Encode + Decode>(
 /// Where a value has a projection, its normal form has one, and both projections have one normal form; where the normal
 /// form has one, the value has one (X.691, 19.9).
 pub fn normal_form_is_projected_alike<New: AsnType, Old: AsnType>()
-    ensures alike { let newer = New.schema New.CONSTRAINTS in let older = Old.schema Old.CONSTRAINTS in IsLawfulType older
-        → NewerType newer older → (v w : Value) → IsProjection newer older v w →
+    ensures alike { let newer = New.schema New.CONSTRAINTS in let older = Old.schema Old.CONSTRAINTS in
+        IsLawfulType older → NewerType newer older → (v w : Value) → IsProjection newer older v w →
         (u : Value) × IsProjection newer older (normal_form newer v) u × (normal_form older u ≡ normal_form older w) }
     ensures back { let newer = New.schema New.CONSTRAINTS in let older = Old.schema Old.CONSTRAINTS in
-        IsLawfulType older → NewerType newer older → (v u : Value) → IsProjection newer older (normal_form newer v) u
-        → (w : Value) × IsProjection newer older v w }
+        IsLawfulType older → NewerType newer older → (v u : Value)
+        → IsProjection newer older (normal_form newer v) u → (w : Value) × IsProjection newer older v w }
 {}
 
 /// What an older type's `decode` answers to what a lawful newer type passes on, has the normal form of what it answers
@@ -57,9 +57,9 @@ pub fn normal_form_is_projected_alike<New: AsnType, Old: AsnType>()
 /// refuses what is passed on. So to an older reader a relay that knows more changes nothing else (X.680, 52; X.691,
 /// 19.9).
 pub fn relay_changes_nothing_that_the_older_sees<New: Encode + Decode, Old: Decode>()
-    ensures answers { let newer = New.schema New.CONSTRAINTS in let older = Old.schema Old.CONSTRAINTS in IsLawfulType newer
-        → IsLawfulType older → NewerType newer older → (strict again : Bool) (codec other : Codec) (x : New) (y : Old)
-        (octets others : List ℕ) (answer : Result Old DecodeError)
+    ensures answers { let newer = New.schema New.CONSTRAINTS in let older = Old.schema Old.CONSTRAINTS in
+        IsLawfulType newer → IsLawfulType older → NewerType newer older → (strict again : Bool) (codec other : Codec)
+        (x : New) (y : Old) (octets others : List ℕ) (answer : Result Old DecodeError)
         → DecodedBy strict codec newer New.value octets (Ok x) → DecodedBy strict codec older Old.value octets (Ok y)
         → AreBytes (variant_of other) newer (New.levels x) (New.value x) others
         → DecodedBy again other older Old.value others answer
