@@ -5,3 +5,4 @@ pub mod Laws
 pub mod Normalised
 pub mod Passed
 pub mod Relayed
+pub mod Returned

@@ -20,7 +20,7 @@ use Rattle.per_depth.proofs.Reading.{same_self}
 use Rattle.per_versions.proofs.Normalised.{elements_low, bags_low, fields_low, alternative_low}
 
 -- a value that meets no Cut meets none in normal form
-abbrev Whole : {X : Type 0} → (X → Bool) → (X → X) → Type 0
+abbrev pub Whole : {X : Type 0} → (X → Bool) → (X → X) → Type 0
 Whole {X} K g = (v : X) → K v ≡ false → K v ≡ false → K (g v) ≡ false
 
 settled_whole : (p : Presence) (s : Schema) (v : Value) (L : List (Option Value) → Bool) (xs : List (Option Value)) → meets_cut s v ≡ false → L xs ≡ false → in_slots (meets_cut s) L (settle p s v ∷ xs) ≡ false
@@ -45,7 +45,7 @@ slots_whole p s L g h k (Some v ∷ xs) m m' =
 mutual
   unfolding normal meets_cut
 
-  whole : (s : Schema) → Whole (meets_cut s) (normal s)
+  pub whole : (s : Schema) → Whole (meets_cut s) (normal s)
   whole (Schema.list e size mark) = elements_low (meets_cut e) (meets_cut e) (normal e) (whole e)
   whole (Schema.set_of e size mark) = bags_low (meets_cut e) (meets_cut e) (normal e) (whole e)
   whole (Schema.sequence o ps ext adds) = fields_low (slots_meet_cut ps) (slots_meet_cut ps) (normals ps) (slots_meet_cut adds) (slots_meet_cut adds) (normals adds) (wholes ps) (wholes adds)
@@ -98,7 +98,7 @@ bags_commute P N' N K h (bag vs) w m e =
     (bag_of a.0, bag_through P (map N' (values vs)) ∙ ap (made bag_of) a.1, over_bag_of N a.0 ∙ ap bag_of a.2 ∙ sym (ap (over_bag N) q.2 ∙ over_bag_of N q.0))
 bags_commute P N' N K h _ w m e = absurd (cc)
 
-abbrev Slotted : Type 0
+abbrev pub Slotted : Type 0
 Slotted = List (Option Value) → Option (List (Option Value))
 
 over_both : (f g : List (Option Value) → List (Option Value)) (r x : List (Option Value)) → over_fields f g (fields (as_slots r) (as_slots x)) ≡ fields (as_slots (f r)) (as_slots (g x))
@@ -167,7 +167,7 @@ idle_slot n (default d') required k l x y m i e = absurd k
 idle_slot n (default d') optional k l x y m i e = absurd k
 idle_slot n (default d') group k l x y m i e = absurd k
 
-slots_first : (s : Schema) (L : List (Option Value) → Bool) (x : Option Value) (xs : List (Option Value)) → in_slots (meets_cut s) L (x ∷ xs) ≡ false → (slot_meets s x ≡ false) × (L xs ≡ false)
+pub slots_first : (s : Schema) (L : List (Option Value) → Bool) (x : Option Value) (xs : List (Option Value)) → in_slots (meets_cut s) L (x ∷ xs) ≡ false → (slot_meets s x ≡ false) × (L xs ≡ false)
 slots_first s L None xs m = (refl, m)
 slots_first s L (Some v) xs m = (or_left (meets_cut s v) (L xs) m, or_right (meets_cut s v) (L xs) m)
 
@@ -188,6 +188,13 @@ idle_parts (also {t = t} {p = p} {p' = p'} {s = s} {s' = s'} {ps = ps} {ps' = ps
     (idle_slot n p' p k l.0 x q.0 c.0 (and_left (is_idle p' x) (are_idle ps' xs) i) q.2)
     (idle_parts ns l.2 xs q.1 c.1 (and_right (is_idle p' x) (are_idle ps' xs) i) q.3)
 
+-- a group's schema isn't of a plain kind, other than a Cut
+pub plain_group : (s : Schema) → IsPlain s → is_group_schema s ≡ true → (z : Value) → meets_cut s z ≡ false → ⊥
+unfolding meets_cut
+plain_group (Schema.sequence o ps ext adds) h k z m = h
+plain_group Schema.cut h k z m = absurd (cc)
+plain_group _ h k z m = absurd (cc)
+
 -- a group that holds nothing holds nothing as an older reader sees it
 vacant_stays : {s' s : Schema} → Newer s' s → IsLawful s → is_group_schema s ≡ true → (z u : Value) → meets_cut s' z ≡ false → is_vacant s' z ≡ true → project s' s z ≡ Some u → is_vacant s (normal s u) ≡ true
 unfolding is_vacant project normal meets_cut IsLawful
@@ -203,11 +210,6 @@ vacant_stays (newer_list n) l k z u m i e = absurd (cc)
 vacant_stays (newer_set_of n) l k z u m i e = absurd (cc)
 vacant_stays (newer_choice n ns) l k z u m i e = absurd (cc)
 vacant_stays (unchanged {s = s} h) l k z u m i e = absurd (plain_group s h k z m)
-  where
-    plain_group : (s : Schema) → IsPlain s → is_group_schema s ≡ true → (z : Value) → meets_cut s z ≡ false → ⊥
-    plain_group (Schema.sequence o ps ext adds) h k z m = h
-    plain_group Schema.cut h k z m = absurd (cc)
-    plain_group _ h k z m = absurd (cc)
 
 -- a part that is there
 slot_commute : {s' s : Schema} → Newer s' s → IsLawful s → (p' p : Presence) → NewerPresence s' s p' p → IsLawfulPresence s p → Commutes (project s' s) (normal s') (normal s) (meets_cut s') →

@@ -22,6 +22,7 @@ use Rattle.per_versions.specs.Readings.{depth_of, normal_form, IsInReach, IsProj
 use Rattle.per_versions.proofs.Depths.{normal_at, projection_at}
 use Rattle.per_versions.proofs.Laws
 use Rattle.per_versions.proofs.Passed.{commute}
+use Rattle.per_versions.proofs.Returned.{goes_back}
 use Rattle.per_versions.proofs.Normalised.{stays_in_reach}
 
 pub older_relayed : (a b : Settings) (T' T : ℕ → Schema) → Levelled T' → Levelled T → ((n : ℕ) → IsLawful (T' n)) → NewerType T' T → (k : ℕ) (v : Value) (os ps : List ℕ) → read a T' v os → AreBytes b.variant T' k v ps →
@@ -75,6 +76,16 @@ module _ (T' T : ℕ → Schema) (g' : Levelled T') (g : Levelled T) (l : (n : �
 
   pub passed_alike : (u : Value) → IsProjection T' T (normal_form T' v) u → normal_form T u ≡ normal_form T w
   passed_alike u j = ap (normal_form T) (one_projection u passed.0 j passed.1) ∙ passed.2
+
+-- and where the normal form of a value has a projection, the value has one
+pub returned : (T' T : ℕ → Schema) → Levelled T' → Levelled T → ((n : ℕ) → IsLawful (T n)) → NewerType T' T → (v u : Value) → IsProjection T' T (normal_form T' v) u → (w : Value) × IsProjection T' T v w
+returned T' T g' g l x v u i =
+    let z = normal_form T' v in
+    let n = depth_of v + depth_of z in
+    let e = (projection_at T' T g' g x z u n (levelled_holds T' g' z n (omega arith))).0 i in
+    let held = levelled_holds T' g' v n (omega arith) in
+    let q = goes_back (x n) (l n) v u held (subst (λ y. project (T' n) (T n) y ≡ Some u) (sym (normal_at T' g' v n (omega arith))) e) in
+    (q.0, (projection_at T' T g' g x v q.0 n held).1 q.1)
 
 -- a reader answers one of the values that octets are read as, where there is one
 pub one_of : {T : Type 0} (strict : Bool) (codec : Codec) (type : ℕ → Schema) (value : T → Value) (octets : List ℕ) (answer : Result T DecodeError) (IsRead : Value → Type 0) (u : Value) →

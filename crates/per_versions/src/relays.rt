@@ -1,13 +1,14 @@
 //! Relays: what was decoded is encoded again, in the same variant or in the other, and read by another version (X.680,
 //! 52). No reader refuses it for its depth.
 
-ghost use Rattle.std.specs.Prelude.{◌≡◌, ℕ, Bool, List, Result, Ok};
+ghost use Rattle.std.specs.Prelude.{◌≡◌, ◌≢◌, ℕ, Bool, List, Result, Ok, Err};
 ghost use Rattle.rasn_types.specs.Codecs.{variant_of};
 ghost use Rattle.rasn_types.specs.Values.{Value};
 ghost use Rattle.rasn_types.specs.declared.types.Codec.{Codec};
 ghost use Rattle.rasn_schema.specs.Lawful.{IsLawfulType};
 ghost use Rattle.per_core.specs.Versions.{NewerType};
 ghost use Rattle.per_read.specs.declared.error.DecodeError.{DecodeError};
+ghost use Rattle.per_read.specs.declared.error.DecodeErrorKind.TheVariants.{OutOfMemory};
 ghost use Rattle.rasn_per.specs.Calls.{DecodedBy};
 ghost use Rattle.rasn_per.specs.Complete.{AreBytes};
 ghost use Rattle.per_versions.specs.Answers.{Answers};
@@ -40,24 +41,36 @@ pub fn newer_reader_widens_what_is_passed_on<New: Decode, Old: Encode + Decode>(
         → Answers New.value (IsWidening newer older (normal_form older (Old.value x))) answer }
 {}
 
-/// Where a value has a projection, its normal form has one, and both projections have one normal form (X.691, 19.9).
+/// Where a value has a projection, its normal form has one, and both projections have one normal form; where the normal
+/// form has one, the value has one (X.691, 19.9).
 pub fn normal_form_is_projected_alike<New: AsnType, Old: AsnType>()
-    ensures { let newer = New.schema New.CONSTRAINTS in let older = Old.schema Old.CONSTRAINTS in IsLawfulType older
-        → NewerType newer older → (v w : Value) → IsProjection newer older v w →
+    ensures alike { let newer = New.schema New.CONSTRAINTS in let older = Old.schema Old.CONSTRAINTS in
+        IsLawfulType older → NewerType newer older → (v w : Value) → IsProjection newer older v w →
         (u : Value) × IsProjection newer older (normal_form newer v) u × (normal_form older u ≡ normal_form older w) }
+    ensures back { let newer = New.schema New.CONSTRAINTS in let older = Old.schema Old.CONSTRAINTS in
+        IsLawfulType older → NewerType newer older → (v u : Value)
+        → IsProjection newer older (normal_form newer v) u → (w : Value) × IsProjection newer older v w }
 {}
 
 /// What an older type's `decode` answers to what a lawful newer type passes on, has the normal form of what it answers
-/// to the octets that were passed: to an older reader a relay that knows more changes nothing else. It refuses for want
-/// of memory alone (X.680, 52; X.691, 19.9).
+/// to the octets that were passed, and it refuses for want of memory alone. Where it refuses those, memory aside, it
+/// refuses what is passed on. So to an older reader a relay that knows more changes nothing else (X.680, 52; X.691,
+/// 19.9).
 pub fn relay_changes_nothing_that_the_older_sees<New: Encode + Decode, Old: Decode>()
-    ensures { let newer = New.schema New.CONSTRAINTS in let older = Old.schema Old.CONSTRAINTS in IsLawfulType newer
-        → IsLawfulType older → NewerType newer older → (strict again : Bool) (codec other : Codec) (x : New) (y : Old)
-        (octets others : List ℕ) (answer : Result Old DecodeError)
+    ensures answers { let newer = New.schema New.CONSTRAINTS in let older = Old.schema Old.CONSTRAINTS in
+        IsLawfulType newer → IsLawfulType older → NewerType newer older → (strict again : Bool) (codec other : Codec)
+        (x : New) (y : Old) (octets others : List ℕ) (answer : Result Old DecodeError)
         → DecodedBy strict codec newer New.value octets (Ok x) → DecodedBy strict codec older Old.value octets (Ok y)
         → AreBytes (variant_of other) newer (New.levels x) (New.value x) others
         → DecodedBy again other older Old.value others answer
         → Answers Old.value (λ (w : Value). normal_form older w ≡ normal_form older (Old.value y)) answer }
+    ensures refuses { let newer = New.schema New.CONSTRAINTS in let older = Old.schema Old.CONSTRAINTS in
+        IsLawfulType newer → IsLawfulType older → NewerType newer older → (strict again : Bool) (codec other : Codec)
+        (x : New) (y : Old) (octets others : List ℕ) (e : DecodeError) → e.kind ≢ OutOfMemory
+        → DecodedBy strict codec newer New.value octets (Ok x)
+        → DecodedBy {T = Old} strict codec older Old.value octets (Err e)
+        → AreBytes (variant_of other) newer (New.levels x) (New.value x) others
+        → DecodedBy again other older Old.value others (Ok y) → ⊥ }
 {}
 
 /// Nothing that is written of what a lawful type's `decode` answered lies deeper than an older or a newer type's 128
