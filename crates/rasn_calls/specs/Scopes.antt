@@ -7,7 +7,7 @@ use Rattle.rasn_calls.specs.Calls.{AtDepths, Behaves, EncoderRules, Written, Dec
 use Rattle.rasn_calls.specs.Additions.{extended, PresentsAdditions, RefusesAdditions}
 use Rattle.rasn_calls.specs.AdditionsRead.{ReadsAdditions, FaultyAdditions}
 use Rattle.rasn_calls.specs.Presences.{presence_bit, left_out}
-use Rattle.rasn_schema.specs.Records.{record_at, no_additions, record_value, AtParts}
+use Rattle.rasn_schema.specs.Records.{record_at, record_value, AtParts}
 
 -- a record of these root components, without an extension marker
 abbrev pub record_of : Parts → Schema
@@ -202,7 +202,7 @@ pub record ReadsScope {E S T : Type 0} (rules : DecoderRules E S) (parts additio
 pub record ReadsAround {E S T : Type 0} (rules : DecoderRules E S) (parts : ℕ → Parts) (marker : Bool) (additions : ℕ → Parts) (contents added : T → List (Option Value)) (returns : S → Result T E → S → Type 0) (s : S) (result : Result T E) (t : S) : Type 0 where
   pub law : ReadsScope rules parts additions contents added (rules.levels s) returns
       → (let c = record_at listed parts marker additions (rules.levels s) in
-          Answers rules.memory (rules.fault c) (rules.spells c) (λ x. record_value (contents x) (added x)) s result t)
+      Answers rules.memory (rules.fault c) (rules.spells c) (λ x. record_value (contents x) (added x)) s result t)
   pub again : rules.failed s ≡ true → IsErrAnd result (λ e. rules.already e s)
   pub fails : OnErr result (rules.failed t ≡ true)
   pub kept : KeepsCodec rules.codec returns → rules.codec t ≡ rules.codec s
