@@ -2,7 +2,12 @@
 //! codecs.
 #![tactic(auto)]
 
+pub mod added_default;
 pub mod flagged;
+pub mod grouped;
+pub mod none_needed;
+pub mod one_needed;
 pub mod outer1;
 pub mod outer2;
 pub mod outer3;
+pub mod possible;
