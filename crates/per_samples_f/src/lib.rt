@@ -11,3 +11,4 @@ pub mod outer1;
 pub mod outer2;
 pub mod outer3;
 pub mod possible;
+pub mod rows;
