@@ -197,7 +197,7 @@ impl<H: Decode> DecodeAddition for Optional<PhantomData<Option<H>>> {
         tag: Tag,
         constraints: &Constraints,
     ) -> Result<Option<H>, D::Error> {
-        decoder.decode_extension_addition_with_tag_and_constraints(tag, constraints)
+        decoder.decode_extension_addition_with_tag_and_constraints::<H>(tag, constraints)
     }
 }
 
