@@ -1,8 +1,8 @@
 -- What a call of an encoder or a decoder owes, stated once over any codec's relations.
-use Rattle.std.specs.Prelude.{◌≡◌, ℕ, ◌≤◌, ◌⊎◌, Bool, true, false, Result, Ok, Err, OnErr, IsErrAnd}
+use Rattle.std.specs.Prelude.{◌≡◌, ℕ, ◌≤◌, ◌⊎◌, Bool, true, false, Option, Result, Ok, Err, OnErr, IsErrAnd}
 use Rattle.rasn_types.specs.declared.types.Codec.{Codec}
 use Rattle.rasn_types.specs.Values.{Value}
-use Rattle.rasn_schema.specs.Schemas.{Schema}
+use Rattle.rasn_schema.specs.Schemas.{Schema, Tag}
 use Rattle.rasn_schema.specs.Lawful.{is_group_schema}
 use Rattle.rasn_schema.specs.Normal.{normal, is_vacant}
 
@@ -96,10 +96,16 @@ pub record DecoderRules (E S : Type 0) : Type 1 where
   pub spells : Schema → S → Value → S → Type 0
   -- the next presence bit
   pub marks : S → Bool → S → Type 0
+  -- the next addition: the value of an open type, or none; and what is left behind it
+  pub adds : Schema → S → Option Value → S → Type 0
   -- the fault that an error names stands in what is left, as a schema reads it
   pub fault : Schema → E → S → Type 0
   -- an error by which a presence bit is refused: none is left, or the decoder had failed
   pub unmarked : E → S → Type 0
+  -- the fault that an error names stands in the next addition, as a schema reads it
+  pub misadds : Schema → E → S → Type 0
+  -- an error that says that a required addition isn't there, and names its tag
+  pub lacking : Tag → E → S → Type 0
   -- an error that says that memory ran out
   pub memory : E → S → Type 0
   -- an error that says that the decoder had failed before
@@ -124,7 +130,8 @@ pub record ReadsWell {S V E : Type 0} (rules : DecoderRules E S) (R : S → V �
   pub left : (s : S) (v : V) (t : S) → R s v t → rules.failed t ≡ false
   pub room : (s : S) (v : V) (t : S) (e : E) → R s v t → rules.memory e t → rules.memory e s
 
--- What holds of a decoder's relations: those of values, and that of presence bits.
+-- What holds of a decoder's relations: those of values, that of presence bits, and those of additions.
 pub record DecodesWell {S E : Type 0} (rules : DecoderRules E S) : Type 0 where
   pub spelled : (c : Schema) → ReadsWell rules (rules.spells c)
   pub marked : ReadsWell rules rules.marks
+  pub added : (c : Schema) → ReadsWell rules (rules.adds c)

@@ -1,4 +1,5 @@
 pub mod Additions
+pub mod AdditionsRead
 pub mod Boxes
 pub mod Calls
 pub mod Choices

@@ -5,8 +5,9 @@ use Rattle.rasn_schema.specs.Schemas.{TagTree, Presence, required, listed, Schem
 use Rattle.rasn_schema.specs.Normal.{normal, normals}
 use Rattle.rasn_calls.specs.Calls.{AtDepths, Behaves, EncoderRules, Written, DecoderRules, Refuses, Answers}
 use Rattle.rasn_calls.specs.Additions.{extended, PresentsAdditions, RefusesAdditions}
+use Rattle.rasn_calls.specs.AdditionsRead.{ReadsAdditions, FaultyAdditions}
 use Rattle.rasn_calls.specs.Presences.{presence_bit, left_out}
-use Rattle.rasn_schema.specs.Records.{record_at, no_additions, record_value, AtParts}
+use Rattle.rasn_schema.specs.Records.{record_at, record_value, AtParts}
 
 -- a record of these root components, without an extension marker
 abbrev pub record_of : Parts → Schema
@@ -151,15 +152,35 @@ pub record TakesParts {S T E : Type 0} (rules : DecoderRules E S) (parts : ℕ �
   pub fails : OnErr result (rules.failed t ≡ true)
   pub kept : rules.codec t ≡ rules.codec s
 
+-- The root components are read in turn, and then the additions.
+pub data ReadsFields {E S : Type 0} (rules : DecoderRules E S) (ps qs : Parts) (s : S) (rs xs : List (Option Value)) (t : S) : Type 0 where
+  reads_fields : {m : S} → ReadsParts rules ps s rs m → ReadsAdditions rules qs m xs t → ReadsFields rules ps qs s rs xs t
+
+-- The fault that an error names stands in one of the components, behind those that are read before it.
+pub data FaultyFields {E S : Type 0} (rules : DecoderRules E S) (e : E) (ps qs : Parts) (s : S) : Type 0 where
+  faulty_root : FaultyParts rules e ps s → FaultyFields rules e ps qs s
+  faulty_behind_root : {m : S} {rs : List (Option Value)} → ReadsParts rules ps s rs m → FaultyAdditions rules e qs m → FaultyFields rules e ps qs s
+
+-- No components are read, root components and then additions.
+pub record ReadsNoFields {E S : Type 0} (rules : DecoderRules E S) (ps qs : Parts) (e : E) (s : S) : Type 0 where
+  pub nothing : (rs xs : List (Option Value)) (t : S) → ReadsFields rules ps qs s rs xs t → ⊥
+  pub stands : FaultyFields rules e ps qs s
+
+-- Ok answers components that are read in turn, and Err, memory aside, comes only where they aren't.
+abbrev pub AnswersFields : {S T E : Type 0} → DecoderRules E S → Parts → Parts → (T → List (Option Value)) → (T → List (Option Value)) → S → Result T E → S → Type 0
+AnswersFields rules ps qs contents added s (Ok v) t = ReadsFields rules ps qs s (contents v) (added v) t
+AnswersFields rules ps qs contents added s (Err e) t = rules.memory e s ⊎ ReadsNoFields rules ps qs e s
+
 -- Ok is inside a record, one level deeper, and Err, memory aside, comes only where no such record is read.
-abbrev pub OpenedToRead : {E S O : Type 0} → DecoderRules E S → (Schema → S → O → S → Type 0) → (ℕ → Parts) → S → Result O E → S → Type 0
-OpenedToRead rules opens parts s (Ok o) i = (rules.levels s ≡ suc (rules.levels i)) × opens (record_of (parts (rules.levels i))) s o i
-OpenedToRead rules opens parts s (Err e) i =
-    let c = record_at listed parts false no_additions (rules.levels s) in rules.memory e s ⊎ Refuses (rules.spells c) (rules.fault c) e s
+abbrev pub OpenedToRead : {E S O : Type 0} → DecoderRules E S → (Schema → S → O → S → Type 0) → (ℕ → Parts) → Bool → (ℕ → Parts) → S → Result O E → S → Type 0
+OpenedToRead rules opens parts marker additions s (Ok o) i =
+    (rules.levels s ≡ suc (rules.levels i)) × opens (extended (parts (rules.levels i)) marker (additions (rules.levels i))) s o i
+OpenedToRead rules opens parts marker additions s (Err e) i =
+    let c = record_at listed parts marker additions (rules.levels s) in rules.memory e s ⊎ Refuses (rules.spells c) (rules.fault c) e s
 
 -- A call that opens a record to read.
-pub record OpensToRead {E S O : Type 0} (rules : DecoderRules E S) (opens : Schema → S → O → S → Type 0) (parts : ℕ → Parts) (s : S) (result : Result O E) (t : S) : Type 0 where
-  pub law : OpenedToRead rules opens parts s result t
+pub record OpensToRead {E S O : Type 0} (rules : DecoderRules E S) (opens : Schema → S → O → S → Type 0) (parts : ℕ → Parts) (marker : Bool) (additions : ℕ → Parts) (s : S) (result : Result O E) (t : S) : Type 0 where
+  pub law : OpenedToRead rules opens parts marker additions s result t
   pub behaves : Behaves rules.already rules.failed rules.codec s result t
 
 -- Ok is behind a scope, and Err, memory aside, comes only where the record can't end here.
@@ -173,13 +194,15 @@ pub record ClosesRead {E S O : Type 0} (rules : DecoderRules E S) (unended : O �
   pub behaves : Behaves rules.already rules.failed rules.codec s result t
 
 -- What a function owes that is lent a decoder, with `outer` levels before the scope, to read components.
-pub record ReadsScope {E S T : Type 0} (rules : DecoderRules E S) (parts : ℕ → Parts) (contents : T → List (Option Value)) (outer : ℕ) (returns : S → Result T E → S → Type 0) : Type 0 where
-  pub keeps : (s : S) (r : Result T E) (t : S) → suc (rules.levels s) ≡ outer → returns s r t → AnswersParts rules (parts (rules.levels s)) contents s r t
+pub record ReadsScope {E S T : Type 0} (rules : DecoderRules E S) (parts additions : ℕ → Parts) (contents added : T → List (Option Value)) (outer : ℕ) (returns : S → Result T E → S → Type 0) : Type 0 where
+  pub keeps : (s : S) (r : Result T E) (t : S) → suc (rules.levels s) ≡ outer → returns s r t
+      → AnswersFields rules (parts (rules.levels s)) (additions (rules.levels s)) contents added s r t
 
 -- A call that reads a record by a function that is lent the decoder.
-pub record ReadsAround {E S T : Type 0} (rules : DecoderRules E S) (parts : ℕ → Parts) (contents : T → List (Option Value)) (returns : S → Result T E → S → Type 0) (s : S) (result : Result T E) (t : S) : Type 0 where
-  pub law : ReadsScope rules parts contents (rules.levels s) returns
-      → (let c = record_at listed parts false no_additions (rules.levels s) in Answers rules.memory (rules.fault c) (rules.spells c) (λ x. record_value (contents x) []) s result t)
+pub record ReadsAround {E S T : Type 0} (rules : DecoderRules E S) (parts : ℕ → Parts) (marker : Bool) (additions : ℕ → Parts) (contents added : T → List (Option Value)) (returns : S → Result T E → S → Type 0) (s : S) (result : Result T E) (t : S) : Type 0 where
+  pub law : ReadsScope rules parts additions contents added (rules.levels s) returns
+      → (let c = record_at listed parts marker additions (rules.levels s) in
+      Answers rules.memory (rules.fault c) (rules.spells c) (λ x. record_value (contents x) (added x)) s result t)
   pub again : rules.failed s ≡ true → IsErrAnd result (λ e. rules.already e s)
   pub fails : OnErr result (rules.failed t ≡ true)
   pub kept : KeepsCodec rules.codec returns → rules.codec t ≡ rules.codec s
@@ -189,9 +212,11 @@ pub record ReadsAround {E S T : Type 0} (rules : DecoderRules E S) (parts : ℕ 
 pub record ScopesWell {E S O : Type 0} (rules : DecoderRules E S) (unended : O → E → S → Type 0) (opens : Schema → S → O → S → Type 0) (closes : S → O → S → Type 0) : Type 0 where
   pub inside : (c : Schema) (s : S) (o : O) (i : S) → opens c s o i → rules.failed i ≡ false
   pub room : (c : Schema) (s : S) (o : O) (i : S) (e : E) → opens c s o i → rules.memory e i → rules.memory e s
-  pub in_part : (ps : Parts) (s : S) (o : O) (i : S) (e : E) → opens (record_of ps) s o i → FaultyParts rules e ps i → rules.fault (record_of ps) e s
-  pub at_end : (ps : Parts) (s i j : S) (o : O) (rs : List (Option Value)) (e : E) → opens (record_of ps) s o i → ReadsParts rules ps i rs j → unended o e j → rules.fault (record_of ps) e s
-  pub record_read : (ps : Parts) (s i j t : S) (o : O) (rs : List (Option Value)) → opens (record_of ps) s o i
-      → ReadsParts rules ps i rs j → closes j o t → rules.spells (record_of ps) s (record_value rs []) t
-  pub record_back : (ps : Parts) (s i t : S) (o : O) (v : Value) → opens (record_of ps) s o i → rules.spells (record_of ps) s v t
-      → (rs : List (Option Value)) × (j : S) × ReadsParts rules ps i rs j × closes j o t
+  pub in_part : (ps : Parts) (marker : Bool) (qs : Parts) (s : S) (o : O) (i : S) (e : E) → opens (extended ps marker qs) s o i
+      → FaultyFields rules e ps qs i → rules.fault (extended ps marker qs) e s
+  pub at_end : (ps : Parts) (marker : Bool) (qs : Parts) (s i j : S) (o : O) (rs xs : List (Option Value)) (e : E) → opens (extended ps marker qs) s o i
+      → ReadsFields rules ps qs i rs xs j → unended o e j → rules.fault (extended ps marker qs) e s
+  pub record_read : (ps : Parts) (marker : Bool) (qs : Parts) (s i j t : S) (o : O) (rs xs : List (Option Value)) → opens (extended ps marker qs) s o i
+      → ReadsFields rules ps qs i rs xs j → closes j o t → rules.spells (extended ps marker qs) s (record_value rs xs) t
+  pub record_back : (ps : Parts) (marker : Bool) (qs : Parts) (s i t : S) (o : O) (v : Value) → opens (extended ps marker qs) s o i → rules.spells (extended ps marker qs) s v t
+      → (rs xs : List (Option Value)) × (j : S) × ReadsFields rules ps qs i rs xs j × closes j o t

@@ -10,7 +10,9 @@ ghost use Rattle.rasn_types.specs.Values.{truth, nothing, whole, octets, bits, c
 ghost use Rattle.rasn_schema.specs.Schemas.{Schema, listed};
 ghost use Rattle.rasn_schema.specs.Forms.{number_schema, octet_schema, bit_schema, character_schema};
 ghost use Rattle.rasn_schema.specs.Forms.{size_of, is_size_marked};
-ghost use Rattle.rasn_schema.specs.Records.{record_at, no_additions, record_value};
+ghost use Rattle.rasn_schema.specs.Fields.{tag_of};
+ghost use Rattle.rasn_schema.specs.Records.{record_at, record_value};
+ghost use Rattle.rasn_calls.specs.AdditionsRead.{AdditionsWell, OpensAdditionToRead};
 ghost use Rattle.rasn_calls.specs.Optionals.{ReadsBit};
 ghost use Rattle.rasn_calls.specs.Calls.{DecoderRules, freely_read, Reads, DecodesWell};
 ghost use Rattle.rasn_calls.specs.Choices.{ChoicesWell, EndsChoice, OpensToChoose};
@@ -18,7 +20,7 @@ ghost use Rattle.rasn_calls.specs.Reals.{ReadsNoReal};
 ghost use Rattle.rasn_calls.specs.Lists.{AmidRead, OpensListToRead, ReadsNext};
 ghost use Rattle.rasn_calls.specs.Scopes.{OpensToRead, ClosesRead, ReadsAround, ScopesWell};
 
-use crate::parts::DecodeParts;
+use crate::parts::{DecodeAdditions, DecodeParts};
 use rasn_schema::choices::Choice;
 use rasn_schema::enumerated::Enumerated;
 use rasn_schema::fields::Constructed;
@@ -45,6 +47,9 @@ pub trait Decoder: Sized {
     /// What is left of an open list, and what waits outside.
     type List: Drop;
 
+    /// What waits outside while the open type of an addition is open.
+    type Addition: Drop;
+
     // What is read, and what states and errors say.
     ghost rules: { DecoderRules Self.Error Self };
 
@@ -68,6 +73,15 @@ pub trait Decoder: Sized {
 
     // The fault that an error names stands at the end of a scope.
     ghost unended: { Self.Scope → Self.Error → Self → Type 0 };
+
+    // The open type of an addition is opened to read: what was before, what waits outside, and how it is inside.
+    ghost opens_addition: { Self → Self.Addition → Self → Type 0 };
+
+    // An open type ends: how it is inside, what waited outside, and how it is behind it.
+    ghost closes_addition: { Self → Self.Addition → Self → Type 0 };
+
+    // The fault that an error names stands at the end of an open type.
+    ghost unended_addition: { Self.Addition → Self.Error → Self → Type 0 };
 
     /// The variant in use.
     fn codec(&self) -> Codec
@@ -171,12 +185,19 @@ pub trait Decoder: Sized {
     ) -> Result<TeletexString, Self::Error>
         ensures { Reads rules (Schema.text other) (λ x. octets x) self.old result self.new };
 
-    /// Opens a SEQUENCE (X.691 19), which takes a level: the calls from here to `close_sequence` read its components,
-    /// in the order of `FIELDS`. At no level left it refuses.
-    fn open_sequence<C: Constructed>(&mut self, tag: Tag) -> Result<Self::Scope, Self::Error>
-        ensures { OpensToRead rules opens C.parts self.old result self.new };
+    /// Refuses from now on, and answers that a required addition, which has this tag, isn't there.
+    fn required_extension_not_present(&mut self, tag: Tag) -> Self::Error
+        ensures lacking { rules.lacking (tag_of tag) result self.old }
+        ensures fails { rules.failed self.new ≡ true }
+        ensures kept { rules.codec self.new ≡ rules.codec self.old };
 
-    /// Closes a SEQUENCE, and gives its level back.
+    /// Opens a SEQUENCE (X.691 19), which takes a level: the calls from here to `close_sequence` read its root
+    /// components, in the order of `FIELDS`, and then its additions, in the order of `EXTENDED_FIELDS`. At no level
+    /// left it refuses.
+    fn open_sequence<C: Constructed>(&mut self, tag: Tag) -> Result<Self::Scope, Self::Error>
+        ensures { OpensToRead rules opens C.parts C.IS_EXTENSIBLE C.additions self.old result self.new };
+
+    /// Closes a SEQUENCE, skips the additions that its type doesn't know (X.691 19.9), and gives its level back.
     fn close_sequence(&mut self, scope: Self::Scope) -> Result<(), Self::Error>
         ensures { ClosesRead rules unended closes scope self.old result self.new };
 
@@ -192,6 +213,16 @@ pub trait Decoder: Sized {
     /// Reads the presence bit of the next component of the open SEQUENCE that has one (X.691 19.2). Takes no memory.
     fn next_presence(&mut self) -> Result<bool, Self::Error>
         ensures { ReadsBit rules self.old result self.new };
+
+    /// Opens the open type of the next addition of the open SEQUENCE (X.691 11.2, 19.9): the calls from here to
+    /// `close_addition` read its value, by itself. Where the addition isn't there, it answers `None`, and the next call
+    /// is for the one behind it.
+    fn open_addition(&mut self) -> Result<Option<Self::Addition>, Self::Error>
+        ensures { OpensAdditionToRead rules opens_addition self.old result self.new };
+
+    /// Closes an open type of which one value was read.
+    fn close_addition(&mut self, addition: Self::Addition) -> Result<(), Self::Error>
+        ensures { ClosesRead rules unended_addition closes_addition addition self.old result self.new };
 
     /// Opens a SEQUENCE OF under constraints (X.691 20), which takes a level: its elements follow, each behind a call
     /// of `next_element` that answers true. At no level left it refuses.
@@ -272,7 +303,8 @@ pub trait Decoder: Sized {
         F: FnOnce(&mut Self) -> Result<C, Self::Error>,
     >(&mut self, tag: Tag, default: Option<G>, scope: F) -> Result<C, Self::Error>
         requires { (x : _) → suc (rules.levels x.now) ≡ rules.levels self.old → F.pre scope x }
-        ensures { ReadsAround rules C.parts C.contents (FnOnceReturnsAtMut F.FnOnce scope) self.old result self.new }
+        ensures { ReadsAround rules C.parts C.IS_EXTENSIBLE C.additions C.contents C.added
+            (FnOnceReturnsAtMut F.FnOnce scope) self.old result self.new }
     {
         drop(default);
         let outside = self.open_sequence::<C>(tag)?;
@@ -288,21 +320,24 @@ pub trait Decoder: Sized {
         }
     }
 
-    /// Reads a SEQUENCE (X.691 19) by the list of its components, which stand in the order of `FIELDS`, and answers
-    /// what they are.
-    final fn decode_record<C: Constructed, P: DecodeParts>(
+    /// Reads a SEQUENCE (X.691 19) by the lists of its root components, which stand in the order of `FIELDS`, and of its
+    /// additions, which stand in the order of `EXTENDED_FIELDS`, and answers what they are.
+    final fn decode_record<C: Constructed, P: DecodeParts, Q: DecodeAdditions>(
         &mut self,
         tag: Tag,
         parts: &P,
-    ) -> Result<P::Values, Self::Error>
-        requires { (n : ℕ) → C.parts n ≡ P.parts parts.now n }
-        ensures { Reads rules (record_at listed C.parts false no_additions (rules.levels self.old))
-            (λ values. record_value (P.contents values) []) self.old result self.new }
+        additions: &Q,
+    ) -> Result<(P::Values, Q::Values), Self::Error>
+        requires root { (n : ℕ) → C.parts n ≡ P.parts parts.now n }
+        requires behind { (n : ℕ) → C.additions n ≡ Q.additions additions.now n }
+        ensures { Reads rules (record_at listed C.parts C.IS_EXTENSIBLE C.additions (rules.levels self.old))
+            (λ values. record_value (P.contents values.0) (Q.contents values.1)) self.old result self.new }
     {
         let outside = self.open_sequence::<C>(tag)?;
-        let values = parts.decode_parts(self)?;
+        let root = parts.decode_parts(self)?;
+        let added = additions.decode_additions(self)?;
         self.close_sequence(outside)?;
-        Ok(values)
+        Ok((root, added))
     }
 
     // What holds of each decoder's relations.
@@ -310,6 +345,9 @@ pub trait Decoder: Sized {
 
     // What holds of each decoder's scopes.
     ghost scopes: { ScopesWell rules unended opens closes };
+
+    // What holds of each decoder's open types.
+    ghost additions: { AdditionsWell rules unended_addition opens_addition closes_addition };
 
     // What holds of each decoder's choices.
     ghost choices: { ChoicesWell rules opens_choice closes_choice };

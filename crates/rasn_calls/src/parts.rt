@@ -5,6 +5,7 @@ ghost use Rattle.rasn_types.specs.Values.{Value};
 ghost use Rattle.rasn_schema.specs.Schemas.{Parts};
 ghost use Rattle.rasn_schema.specs.Records.{no_additions};
 ghost use Rattle.rasn_calls.specs.Additions.{WritesAdditions};
+ghost use Rattle.rasn_calls.specs.AdditionsRead.{TakesAdditions};
 ghost use Rattle.rasn_calls.specs.Scopes.{WritesParts, TakesParts};
 
 use crate::decoder::Decoder;
@@ -74,4 +75,32 @@ pub trait DecodeParts {
     /// Reads the components in turn.
     fn decode_parts<D: Decoder>(&self, decoder: &mut D) -> Result<Self::Values, D::Error>
         ensures { TakesParts D.rules (Self.parts self.now) Self.contents decoder.old result decoder.new };
+}
+
+/// Additions of a record that are still to be read, in their order.
+pub trait DecodeAdditions {
+    /// What they are: a pair of the first and of those behind it, and `()` at the end.
+    type Values: Drop;
+
+    // The additions, to a number of levels.
+    ghost additions: { Self → ℕ → Parts };
+
+    // What values of them are.
+    ghost contents: { Self.Values → List (Option Value) };
+
+    /// Reads the additions in turn.
+    fn decode_additions<D: Decoder>(&self, decoder: &mut D) -> Result<Self::Values, D::Error>
+        ensures { TakesAdditions D.rules (Self.additions self.now) Self.contents decoder.old result decoder.new };
+}
+
+impl DecodeAdditions for NoAdditions {
+    type Values = ();
+
+    ghost additions = { λ _. no_additions };
+
+    ghost contents = { λ _. [] };
+
+    fn decode_additions<D: Decoder>(&self, _decoder: &mut D) -> Result<(), D::Error> {
+        Ok(())
+    }
 }

@@ -12,8 +12,8 @@ returns-in_err-close_sequence-in-Ok g c =
     record {
       law = λ owed.
           let w = rw c.in-Ok.is at (owed.keeps c.open_sequence.new.self c.scope.result c.scope.new.arg2 (sym o.0) gave) in
-          rw (p.1, p.2) (record_endless g.met.Self.Decoder.lawful g.met.Self.Decoder.scopes g.C.Constructed.parts o.0 o.1 _ _ w
-          (c.in_err-close_sequence-in-Ok.ensures.law (inside_left g.met.Self.Decoder.lawful g.met.Self.Decoder.scopes g.C.Constructed.parts o.0 o.1 _ _ w)));
+          rw (p.1, p.2) (record_endless g.met.Self.Decoder.lawful g.met.Self.Decoder.scopes g.C.Constructed.parts g.C.Constructed.IS_EXTENSIBLE g.C.Constructed.additions o.0 o.1 _ _ _ w
+          (c.in_err-close_sequence-in-Ok.ensures.law (inside_left g.met.Self.Decoder.lawful g.met.Self.Decoder.scopes g.C.Constructed.parts g.C.Constructed.IS_EXTENSIBLE g.C.Constructed.additions o.0 o.1 _ _ _ w)));
       again = search rules;
       fails = search rules;
       kept = λ owed. c.close_sequence.ensures.behaves.kept ∙ owed.stays c.open_sequence.new.self c.scope.result c.scope.new.arg2 gave ∙ c.in_ok-outside.ensures.behaves.kept;
@@ -26,8 +26,8 @@ returns-in_ok-close_sequence-in-Ok g c =
     record {
       law = λ owed.
           let w = rw c.in-Ok.is at (owed.keeps c.open_sequence.new.self c.scope.result c.scope.new.arg2 (sym o.0) gave) in
-          record_ended g.met.Self.Decoder.lawful g.met.Self.Decoder.scopes g.C.Constructed.parts o.0 o.1 _ _ _ w
-          (c.in_ok-close_sequence-in-Ok.ensures.law (inside_left g.met.Self.Decoder.lawful g.met.Self.Decoder.scopes g.C.Constructed.parts o.0 o.1 _ _ w));
+          record_ended g.met.Self.Decoder.lawful g.met.Self.Decoder.scopes g.C.Constructed.parts g.C.Constructed.IS_EXTENSIBLE g.C.Constructed.additions o.0 o.1 _ _ _ _ w
+          (c.in_ok-close_sequence-in-Ok.ensures.law (inside_left g.met.Self.Decoder.lawful g.met.Self.Decoder.scopes g.C.Constructed.parts g.C.Constructed.IS_EXTENSIBLE g.C.Constructed.additions o.0 o.1 _ _ _ w));
       again = search rules;
       fails = search rules;
       kept = λ owed. c.close_sequence.ensures.behaves.kept ∙ owed.stays c.open_sequence.new.self c.scope.result c.scope.new.arg2 gave ∙ c.in_ok-outside.ensures.behaves.kept;
@@ -38,7 +38,7 @@ returns-in-Err g c =
     let o = c.in_ok-outside.ensures.law in
     let gave : FnOnceReturnsAtMut g.F.FnOnce c.args.scope c.open_sequence.new.self c.scope.result c.scope.new.arg2 = record { shown = _; shows = refl; left = _; met = c.scope.ensures; leaves = refl } in
     record {
-      law = λ owed. record_failed g.met.Self.Decoder.lawful g.met.Self.Decoder.scopes g.C.Constructed.parts o.0 o.1
+      law = λ owed. record_failed g.met.Self.Decoder.lawful g.met.Self.Decoder.scopes g.C.Constructed.parts g.C.Constructed.IS_EXTENSIBLE g.C.Constructed.additions o.0 o.1
           (rw c.in-Err.is at (owed.keeps c.open_sequence.new.self c.scope.result c.scope.new.arg2 (sym o.0) gave));
       again = search rules;
       fails = search rules;
