@@ -140,7 +140,11 @@ impl<A: Decode, B: Decode> Decode for Both<A, B> {
                 },
             },
         };
-        let (a, (b, ())) = decoder.decode_record::<Both<A, B>, _>(tag, &parts)?;
+        let ((a, (b, ())), ()) = decoder.decode_record::<Both<A, B>, _, _>(
+            tag,
+            &parts,
+            &NoAdditions,
+        )?;
         Ok(Both { a, b })
     }
 }

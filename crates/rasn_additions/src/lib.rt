@@ -1,10 +1,14 @@
-//! The calls of every encoder that give the additions behind an extension marker, by the types of their values.
+//! The calls of every encoder that give the additions behind an extension marker, and those of every decoder that read
+//! them, by the types of their values.
 #![tactic(auto)]
 
 ghost use Rattle.rasn_calls.specs.Additions.{GivesAddition, GivesGroup};
+ghost use Rattle.rasn_calls.specs.AdditionsRead.{TakesAddition};
+ghost use Rattle.rasn_calls.specs.Presences.{slot_of};
 
+use rasn_calls::decoder::Decoder;
 use rasn_calls::encoder::Encoder;
-use rasn_codec::codec::Encode;
+use rasn_codec::codec::{Decode, Encode};
 use rasn_schema::fields::Constructed;
 use rasn_schema::schema::Constraints;
 use rasn_types::types::{Identifier, Tag};
@@ -51,3 +55,70 @@ pub trait ExtensionEncoder: Encoder {
 }
 
 impl<E: Encoder> ExtensionEncoder for E {}
+
+/// What every decoder reads of additions, in the scope of their SEQUENCE and behind its root components, one call for
+/// each addition of the type, in the order of `EXTENDED_FIELDS`.
+pub trait ExtensionDecoder: Decoder {
+    /// Reads the next addition (X.691 19.7 to 19.9), the value in its open type, under its type's own tag and
+    /// constraints; or answers `None`, where it isn't there.
+    final fn decode_extension_addition<T: Decode>(&mut self) -> Result<Option<T>, Self::Error>
+        ensures { TakesAddition Self.rules (T.schema T.CONSTRAINTS (Self.rules.levels self.old)) (slot_of T.value)
+            self.old result self.new }
+    {
+        self.decode_extension_addition_with_tag_and_constraints(T::TAG, &T::CONSTRAINTS)
+    }
+
+    /// Reads the next addition under its type's own tag and under constraints; or answers `None`, where it isn't there.
+    final fn decode_extension_addition_with_constraints<T: Decode>(
+        &mut self,
+        constraints: &Constraints,
+    ) -> Result<Option<T>, Self::Error>
+        ensures { TakesAddition Self.rules (T.schema constraints.now (Self.rules.levels self.old)) (slot_of T.value)
+            self.old result self.new }
+    {
+        self.decode_extension_addition_with_tag_and_constraints(T::TAG, constraints)
+    }
+
+    /// Reads the next addition under a tag and constraints; or answers `None`, where it isn't there.
+    final fn decode_extension_addition_with_tag_and_constraints<T: Decode>(
+        &mut self,
+        tag: Tag,
+        constraints: &Constraints,
+    ) -> Result<Option<T>, Self::Error>
+        ensures { TakesAddition Self.rules (T.schema constraints.now (Self.rules.levels self.old)) (slot_of T.value)
+            self.old result self.new }
+    {
+        let Some(outside) = self.open_addition()? else {
+            return Ok(None);
+        };
+        let value = T::decode_with_tag_and_constraints(self, tag, constraints)?;
+        self.close_addition(outside)?;
+        Ok(Some(value))
+    }
+
+    /// Reads the next addition under an explicit tag, which isn't written (X.691 11), and constraints; or answers
+    /// `None`, where it isn't there.
+    final fn decode_extension_addition_with_explicit_tag_and_constraints<T: Decode>(
+        &mut self,
+        tag: Tag,
+        constraints: &Constraints,
+    ) -> Result<Option<T>, Self::Error>
+        ensures { TakesAddition Self.rules (T.schema constraints.now (Self.rules.levels self.old)) (slot_of T.value)
+            self.old result self.new }
+    {
+        self.decode_extension_addition_with_tag_and_constraints(tag, constraints)
+    }
+
+    /// Reads the next addition, which is a group of additions (X.691 19.9): the SEQUENCE in its open type; or answers
+    /// `None`, where it isn't there.
+    final fn decode_extension_addition_group<T: Decode + Constructed>(
+        &mut self,
+    ) -> Result<Option<T>, Self::Error>
+        ensures { TakesAddition Self.rules (T.schema T.CONSTRAINTS (Self.rules.levels self.old)) (slot_of T.value)
+            self.old result self.new }
+    {
+        self.decode_extension_addition::<T>()
+    }
+}
+
+impl<D: Decoder> ExtensionDecoder for D {}

@@ -1,14 +1,14 @@
 -- How the law of a record follows from those of its components and of its scope, over any decoder.
-use Rattle.std.proofs.Common.{◌≡◌, refl, sym, ap, subst, ◌∙◌, ℕ, suc, ◌⊎◌, inl, inr, Bool, true, false, List, [], ◌∷◌, Option, Some, None}
+use Rattle.std.proofs.Common.{◌≡◌, refl, sym, ap, subst, ◌∙◌, ℕ, suc, ◌⊎◌, inl, inr, Bool, true, false, List, [], ◌∷◌, Result, Ok, Err, Option, Some, None}
 use Rattle.rasn_types.specs.Values.{Value}
 use Rattle.rasn_schema.specs.Fields.{field_tag}
 use Rattle.rasn_schema.specs.Schemas.{TagTree, Presence, required, optional, group, default, listed, Schema, Parts, no_parts, part}
 use Rattle.rasn_calls.specs.Additions.{extended}
 use Rattle.rasn_calls.specs.AdditionsRead.{ReadsAddition, reads_added, reads_lacking, ReadsAdditions, reads_no_more, reads_further, FaultyAddition, faulty_lacking, FaultyAdditions, faulty_addition, faulty_further}
-use Rattle.rasn_calls.specs.Calls.{DecoderRules, Refuses, ReadsWell, DecodesWell}
+use Rattle.rasn_calls.specs.Calls.{DecoderRules, Reads, Refuses, ReadsWell, DecodesWell}
 use Rattle.rasn_calls.specs.Presences.{left_out}
-use Rattle.rasn_schema.specs.Records.{record_at, record_value}
-use Rattle.rasn_calls.specs.Scopes.{ReadsPart, reads_required, reads_there, reads_left_out, ReadsParts, reads_end, reads_next, FaultyPart, faulty_required, FaultyParts, faulty_here, faulty_behind, ReadsFields, reads_fields, faulty_root, faulty_behind_root, ReadsNoFields, ScopesWell}
+use Rattle.rasn_schema.specs.Records.{record_at, no_additions, record_value}
+use Rattle.rasn_calls.specs.Scopes.{ReadsPart, reads_required, reads_there, reads_left_out, ReadsParts, reads_end, reads_next, FaultyPart, faulty_required, FaultyParts, faulty_here, faulty_behind, ReadsFields, reads_fields, faulty_root, faulty_behind_root, ReadsNoFields, AnswersFields, AnswersParts, KeepsCodec, ReadsAround, ScopesWell}
 
 -- how a component was read, which may be absent
 pub data Optionally {E S : Type 0} (rules : DecoderRules E S) (p : Presence) (c : Schema) (s : S) (x : Option Value) (t : S) : Type 0 where
@@ -234,9 +234,24 @@ pub required_read : {E S : Type 0} {rules : DecoderRules E S} {k : TagTree} {c :
     → rules.spells c s v m → ReadsParts rules ps m rs t → ReadsParts rules (part k required c ps) s (Some v ∷ rs) t
 required_read m a b = reads_next (reads_required a) b
 
--- components without additions
+-- root components, where there are no additions
 pub plainly_read : {E S : Type 0} {rules : DecoderRules E S} {ps : Parts} {s t : S} {rs : List (Option Value)} → ReadsParts rules ps s rs t → ReadsFields rules ps no_parts s rs [] t
 plainly_read a = reads_fields a reads_no_more
+
+plainly_answered : {E S T : Type 0} {rules : DecoderRules E S} (L : DecodesWell rules) (ps : Parts) (contents : T → List (Option Value)) (s : S) (r : Result T E) (t : S)
+    → AnswersParts rules ps contents s r t → AnswersFields rules ps no_parts contents (λ x. []) s r t
+plainly_answered L ps contents s (Ok v) t a = plainly_read a
+plainly_answered L ps contents s (Err e) t a = fails_root L a
+
+-- a call that read a record by a function that keeps to its components and to the variant
+pub read_around : {E S T : Type 0} {rules : DecoderRules E S} (L : DecodesWell rules) {parts : ℕ → Parts} {contents : T → List (Option Value)} {returns : S → Result T E → S → Type 0} {s t : S} {r : Result T E}
+    → ReadsAround rules parts false no_additions contents (λ x. []) returns s r t
+    → ((a : S) (q : Result T E) (b : S) → returns a q b → AnswersParts rules (parts (rules.levels a)) contents a q b) → KeepsCodec rules.codec returns
+    → Reads rules (record_at listed parts false no_additions (rules.levels s)) (λ x. record_value (contents x) []) s r t
+read_around {rules = rules} L {parts} {contents} w k c = record {
+  law = w.law (record { keeps = λ a q b l z. plainly_answered L (parts (rules.levels a)) contents a q b (k a q b z) });
+  behaves = record { again = w.again; fails = w.fails; kept = w.kept c };
+}
 
 -- a record, as the calls of a decoder read it
 module _ {S O E : Type 0} {rules : DecoderRules E S} {unended : O → E → S → Type 0} {opens : Schema → S → O → S → Type 0} {closes : S → O → S → Type 0}

@@ -68,6 +68,8 @@ impl<T: Record> EncodeKind<T> for SequenceKind {
 
 impl<T: Record> DecodeKind<T> for SequenceKind {
     fn decode_value<D: Decoder>(decoder: &mut D, tag: Tag) -> Result<T, D::Error> {
-        decoder.decode_record::<T, _>(tag, &Read(PhantomData::<T>))
+        let (value, ()) =
+            decoder.decode_record::<T, _, _>(tag, &Read(PhantomData::<T>), &NoAdditions)?;
+        Ok(value)
     }
 }

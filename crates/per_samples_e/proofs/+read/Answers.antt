@@ -1,11 +1,12 @@
 use denote.Hole.Carrier.{roll}
-use Rattle.std.proofs.Common.{◌≡◌, Box, Global, Option, Some, None, [], ◌∷◌, refl, rules, subst, sym}
+use Rattle.std.proofs.Common.{◌≡◌, Box, Global, Option, Some, None, [], ◌∷◌, refl, rules, subst, sym, false}
 use Rattle.std.proofs.lemmas.Result.{err_from_is_err_and}
 use Rattle.rasn_schema.specs.Components.{parts_of, sequence_at, sequence_value}
 use Rattle.rasn_calls.specs.Presences.{slot_of}
+use Rattle.rasn_schema.specs.Records.{no_additions}
 use Rattle.rasn_calls.specs.Scopes.{reads_end, reads_left_out, reads_next, reads_there}
 use Rattle.rasn_calls.proofs.Optionals.{bit_refused, value_unread}
-use Rattle.rasn_calls.proofs.Reading.{fails_part, inside_left, record_ended, record_endless, record_failed}
+use Rattle.rasn_calls.proofs.Reading.{fails_part, inside_left, plainly_read, record_ended, record_endless, record_root_failed}
 use Rattle.per_samples_e.specs.Mutuals.{ping, pong, ping_contents, pong_contents, ping_is_sequence, pong_is_sequence}
 use Rattle.per_samples_e.specs.declared.ping.Ping.{Ping}
 use Rattle.per_samples_e.specs.declared.ping.Ping.TheViews.{roll-Ping, roll-Pong}
@@ -48,7 +49,7 @@ ping::PingDecode::decode_with_tag_and_constraints-returns-in_err-pong g t c =
     let o = c.in_ok-outside.ensures.law in
     let p = err_from_is_err_and c.from_residual-in_err-pong.result c.from_residual-in_err-pong.ensures.1 in
     record {
-      law = rw (p.1, p.2) (record_failed g.met.D.Decoder.lawful g.met.D.Decoder.scopes (parts_of ping) o.0 o.1 (fails_part g.met.D.Decoder.lawful c.in_err-pong.ensures.law));
+      law = rw (p.1, p.2) (record_root_failed g.met.D.Decoder.lawful g.met.D.Decoder.scopes (parts_of ping) false no_additions o.0 o.1 (fails_part g.met.D.Decoder.lawful c.in_err-pong.ensures.law));
       behaves = search rules;
     }
 
@@ -56,21 +57,21 @@ pub ping::PingDecode::decode_with_tag_and_constraints-returns-in_err-close_seque
 ping::PingDecode::decode_with_tag_and_constraints-returns-in_err-close_sequence g t c =
     let o = c.in_ok-outside.ensures.law in
     let p = err_from_is_err_and c.from_residual-in_err-close_sequence.result c.from_residual-in_err-close_sequence.ensures.1 in
-    let w = reads_next c.in_ok-pong.ensures.law reads_end in
+    let w = plainly_read (reads_next c.in_ok-pong.ensures.law reads_end) in
     record {
-      law = rw (p.1, p.2) (record_endless g.met.D.Decoder.lawful g.met.D.Decoder.scopes (parts_of ping) o.0 o.1 _ _ w
-          (c.in_err-close_sequence.ensures.law (inside_left g.met.D.Decoder.lawful g.met.D.Decoder.scopes (parts_of ping) o.0 o.1 _ _ w)));
+      law = rw (p.1, p.2) (record_endless g.met.D.Decoder.lawful g.met.D.Decoder.scopes (parts_of ping) false no_additions o.0 o.1 _ _ _ w
+          (c.in_err-close_sequence.ensures.law (inside_left g.met.D.Decoder.lawful g.met.D.Decoder.scopes (parts_of ping) false no_additions o.0 o.1 _ _ _ w)));
       behaves = search rules;
     }
 
 pub ping::PingDecode::decode_with_tag_and_constraints-returns : goal.ping::PingDecode::decode_with_tag_and_constraints-returns
 ping::PingDecode::decode_with_tag_and_constraints-returns g t c =
     let o = c.in_ok-outside.ensures.law in
-    let w = reads_next c.in_ok-pong.ensures.law reads_end in
+    let w = plainly_read (reads_next c.in_ok-pong.ensures.law reads_end) in
     record {
       law = subst (λ rs. g.D.Decoder.rules.spells (sequence_at ping (g.D.Decoder.rules.levels c.args.decoder.now)) c.args.decoder.now (sequence_value rs) c.close_sequence.new.self)
-          (sym (ping_read c.in_ok-pong.pong)) (record_ended g.met.D.Decoder.lawful g.met.D.Decoder.scopes (parts_of ping) o.0 o.1 _ _ _ w
-          (c.in_ok-close_sequence.ensures.law (inside_left g.met.D.Decoder.lawful g.met.D.Decoder.scopes (parts_of ping) o.0 o.1 _ _ w)));
+          (sym (ping_read c.in_ok-pong.pong)) (record_ended g.met.D.Decoder.lawful g.met.D.Decoder.scopes (parts_of ping) false no_additions o.0 o.1 _ _ _ _ w
+          (c.in_ok-close_sequence.ensures.law (inside_left g.met.D.Decoder.lawful g.met.D.Decoder.scopes (parts_of ping) false no_additions o.0 o.1 _ _ _ w)));
       behaves = search rules;
     }
 
@@ -110,7 +111,7 @@ pong::PongDecode::decode_with_tag_and_constraints-returns-in_err-ping g t c =
     let o = c.in_ok-outside.ensures.law in
     let p = err_from_is_err_and c.from_residual-in_err-ping.result c.from_residual-in_err-ping.ensures.1 in
     record {
-      law = rw (p.1, p.2) (record_failed g.met.D.Decoder.lawful g.met.D.Decoder.scopes (parts_of pong) o.0 o.1 (fails_part g.met.D.Decoder.lawful c.in_err-ping.ensures.law));
+      law = rw (p.1, p.2) (record_root_failed g.met.D.Decoder.lawful g.met.D.Decoder.scopes (parts_of pong) false no_additions o.0 o.1 (fails_part g.met.D.Decoder.lawful c.in_err-ping.ensures.law));
       behaves = search rules;
     }
 
@@ -118,20 +119,20 @@ pub pong::PongDecode::decode_with_tag_and_constraints-returns-in_err-close_seque
 pong::PongDecode::decode_with_tag_and_constraints-returns-in_err-close_sequence g t c =
     let o = c.in_ok-outside.ensures.law in
     let p = err_from_is_err_and c.from_residual-in_err-close_sequence.result c.from_residual-in_err-close_sequence.ensures.1 in
-    let w = reads_next c.in_ok-ping.ensures.law reads_end in
+    let w = plainly_read (reads_next c.in_ok-ping.ensures.law reads_end) in
     record {
-      law = rw (p.1, p.2) (record_endless g.met.D.Decoder.lawful g.met.D.Decoder.scopes (parts_of pong) o.0 o.1 _ _ w
-          (c.in_err-close_sequence.ensures.law (inside_left g.met.D.Decoder.lawful g.met.D.Decoder.scopes (parts_of pong) o.0 o.1 _ _ w)));
+      law = rw (p.1, p.2) (record_endless g.met.D.Decoder.lawful g.met.D.Decoder.scopes (parts_of pong) false no_additions o.0 o.1 _ _ _ w
+          (c.in_err-close_sequence.ensures.law (inside_left g.met.D.Decoder.lawful g.met.D.Decoder.scopes (parts_of pong) false no_additions o.0 o.1 _ _ _ w)));
       behaves = search rules;
     }
 
 pub pong::PongDecode::decode_with_tag_and_constraints-returns : goal.pong::PongDecode::decode_with_tag_and_constraints-returns
 pong::PongDecode::decode_with_tag_and_constraints-returns g t c =
     let o = c.in_ok-outside.ensures.law in
-    let w = reads_next c.in_ok-ping.ensures.law reads_end in
+    let w = plainly_read (reads_next c.in_ok-ping.ensures.law reads_end) in
     record {
       law = subst (λ rs. g.D.Decoder.rules.spells (sequence_at pong (g.D.Decoder.rules.levels c.args.decoder.now)) c.args.decoder.now (sequence_value rs) c.close_sequence.new.self)
-          (sym (pong_read c.in_ok-ping.ping)) (record_ended g.met.D.Decoder.lawful g.met.D.Decoder.scopes (parts_of pong) o.0 o.1 _ _ _ w
-          (c.in_ok-close_sequence.ensures.law (inside_left g.met.D.Decoder.lawful g.met.D.Decoder.scopes (parts_of pong) o.0 o.1 _ _ w)));
+          (sym (pong_read c.in_ok-ping.ping)) (record_ended g.met.D.Decoder.lawful g.met.D.Decoder.scopes (parts_of pong) false no_additions o.0 o.1 _ _ _ _ w
+          (c.in_ok-close_sequence.ensures.law (inside_left g.met.D.Decoder.lawful g.met.D.Decoder.scopes (parts_of pong) false no_additions o.0 o.1 _ _ _ w)));
       behaves = search rules;
     }

@@ -1,9 +1,10 @@
-use Rattle.std.proofs.Common.{refl, rules, subst, sym}
+use Rattle.std.proofs.Common.{refl, rules, subst, sym, false}
 use Rattle.std.proofs.lemmas.Result.{err_from_is_err_and}
 use Rattle.rasn_schema.specs.Components.{parts_of, sequence_at, sequence_value}
+use Rattle.rasn_schema.specs.Records.{no_additions}
 use Rattle.rasn_calls.specs.Scopes.{reads_end, reads_left_out, reads_next, reads_there}
 use Rattle.rasn_calls.proofs.Optionals.{bit_refused, value_unread}
-use Rattle.rasn_calls.proofs.Reading.{fails_part, inside_left, record_ended, record_endless, record_failed}
+use Rattle.rasn_calls.proofs.Reading.{fails_part, inside_left, plainly_read, record_ended, record_endless, record_root_failed}
 use Rattle.per_samples_e.specs.Nests.{nest, nest_is_sequence}
 use Rattle.per_samples_e.proofs.Contents.{contents_read}
 use Rattle.per_samples_e.proofs.nest.+nest.Goals as goal
@@ -38,7 +39,7 @@ NestDecode::decode_with_tag_and_constraints-returns-in_err-inner g t c =
     let o = c.in_ok-outside.ensures.law in
     let p = err_from_is_err_and c.from_residual-in_err-inner.result c.from_residual-in_err-inner.ensures.1 in
     record {
-      law = rw (p.1, p.2) (record_failed g.met.D.Decoder.lawful g.met.D.Decoder.scopes (parts_of nest) o.0 o.1 (fails_part g.met.D.Decoder.lawful c.in_err-inner.ensures.law));
+      law = rw (p.1, p.2) (record_root_failed g.met.D.Decoder.lawful g.met.D.Decoder.scopes (parts_of nest) false no_additions o.0 o.1 (fails_part g.met.D.Decoder.lawful c.in_err-inner.ensures.law));
       behaves = search rules;
     }
 
@@ -46,20 +47,20 @@ pub NestDecode::decode_with_tag_and_constraints-returns-in_err-close_sequence : 
 NestDecode::decode_with_tag_and_constraints-returns-in_err-close_sequence g t c =
     let o = c.in_ok-outside.ensures.law in
     let p = err_from_is_err_and c.from_residual-in_err-close_sequence.result c.from_residual-in_err-close_sequence.ensures.1 in
-    let w = reads_next c.in_ok-inner.ensures.law reads_end in
+    let w = plainly_read (reads_next c.in_ok-inner.ensures.law reads_end) in
     record {
-      law = rw (p.1, p.2) (record_endless g.met.D.Decoder.lawful g.met.D.Decoder.scopes (parts_of nest) o.0 o.1 _ _ w
-          (c.in_err-close_sequence.ensures.law (inside_left g.met.D.Decoder.lawful g.met.D.Decoder.scopes (parts_of nest) o.0 o.1 _ _ w)));
+      law = rw (p.1, p.2) (record_endless g.met.D.Decoder.lawful g.met.D.Decoder.scopes (parts_of nest) false no_additions o.0 o.1 _ _ _ w
+          (c.in_err-close_sequence.ensures.law (inside_left g.met.D.Decoder.lawful g.met.D.Decoder.scopes (parts_of nest) false no_additions o.0 o.1 _ _ _ w)));
       behaves = search rules;
     }
 
 pub NestDecode::decode_with_tag_and_constraints-returns : goal.NestDecode::decode_with_tag_and_constraints-returns
 NestDecode::decode_with_tag_and_constraints-returns g t c =
     let o = c.in_ok-outside.ensures.law in
-    let w = reads_next c.in_ok-inner.ensures.law reads_end in
+    let w = plainly_read (reads_next c.in_ok-inner.ensures.law reads_end) in
     record {
       law = subst (λ rs. g.D.Decoder.rules.spells (sequence_at nest (g.D.Decoder.rules.levels c.args.decoder.now)) c.args.decoder.now (sequence_value rs) c.close_sequence.new.self)
-          (sym (contents_read c.in_ok-inner.inner)) (record_ended g.met.D.Decoder.lawful g.met.D.Decoder.scopes (parts_of nest) o.0 o.1 _ _ _ w
-          (c.in_ok-close_sequence.ensures.law (inside_left g.met.D.Decoder.lawful g.met.D.Decoder.scopes (parts_of nest) o.0 o.1 _ _ w)));
+          (sym (contents_read c.in_ok-inner.inner)) (record_ended g.met.D.Decoder.lawful g.met.D.Decoder.scopes (parts_of nest) false no_additions o.0 o.1 _ _ _ _ w
+          (c.in_ok-close_sequence.ensures.law (inside_left g.met.D.Decoder.lawful g.met.D.Decoder.scopes (parts_of nest) false no_additions o.0 o.1 _ _ _ w)));
       behaves = search rules;
     }
