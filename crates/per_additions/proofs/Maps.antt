@@ -22,10 +22,13 @@ use Rattle.per_read.proofs.Fields.{either_took, when_took}
 use Rattle.per_read.proofs.Marked.{in_mark, mark_in, mark_past, no_mark, past_mark, behind_bit}
 use Rattle.per_read.proofs.Parts.{Tail, first_part, items_begin, no_items_length, no_items_short, one_length}
 use Rattle.per_additions.specs.Bitmaps.{large_bitmap, small_bitmap, large_fragments_of}
+use Rattle.per_additions.specs.Flags.{AreFlags}
 use Rattle.per_additions.specs.OpenTypes.{fragments_of}
 use Rattle.per_additions.specs.Reasons.{gathering}
+use Rattle.per_additions.specs.declared.bitmaps.PresenceBits.{PresenceBits}
+use Rattle.per_additions.specs.declared.bitmaps.PresenceBits.TheVariants.{InPlace, Gathered}
 use Rattle.per_additions.proofs.Pieces.{Anything, one_piece}
-use Rattle.per_additions.proofs.Rows.{bits_took, no_row, row_took}
+use Rattle.per_additions.proofs.Rows.{bits_took, last_behind, no_row, row_took}
 
 -- a bitmap, by its first bit
 module _ (a : Settings) (flags : List Bool) {s t : Bits} where
@@ -139,3 +142,8 @@ pub tested_bits : (a : Settings) (s : Bits) (k : DecodeErrorKind) → IsOfItems 
 tested_bits a s (SizeConstraintNotSatisfied n least most) h =
     let e : true ≡ false = sym h.took.spelled.allowed ∙ ap (allows any_size) h.count ∙ h.refused in absurd (cc)
 tested_bits a s _ h = h
+
+-- what a bitmap is, behind its first bit
+pub flags_behind : (b : Bool) (v : PresenceBits) (flags : List Bool) {s m : Bits} (t : Bits) → s ≡ b ∷ m → AreFlags m t v flags → AreFlags s t v flags
+flags_behind b (InPlace n) flags t e h = last_behind b e h
+flags_behind b (Gathered bits) flags t e h = h

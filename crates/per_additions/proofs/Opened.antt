@@ -1,7 +1,7 @@
 -- An open type is its octets, and a complete encoding in them (X.691 11.2).
-use Rattle.std.proofs.Common.{◌≡◌, ◌<◌, ◌*◌, ◌∙◌, sym, ap, subst, ℕ, zero, suc, ◌^◌, List, [], ◌∷◌, ◌++◌, length, arith}
+use Rattle.std.proofs.Common.{◌≡◌, ◌<◌, sym, ap, subst, ℕ, zero, suc, ◌^◌, List, [], ◌∷◌, ◌++◌, length, arith}
 use Rattle.rasn_types.specs.Bits.{Bits, AreOctets, unpack}
-use Rattle.rasn_types.proofs.Bits.{length-unpack, number_below}
+use Rattle.rasn_types.proofs.Bits.{number_below}
 use Rattle.per_core.specs.Basic.{Fills, InFragments, Octets, OneByOne, Open, octet}
 use Rattle.per_core.specs.Spellings.{Settings, Spelling}
 use Rattle.per_core.specs.Took.{Took}
@@ -10,8 +10,6 @@ use Rattle.per_core.proofs.Lengths.{same_octets}
 use Rattle.per_core.proofs.Took.{took_agree, took_map}
 use Rattle.per_read.specs.Kinds.{NoneIn}
 use Rattle.per_additions.specs.Ends.{EndsAs}
-use Rattle.per_additions.specs.OpenTypes.{HasOctets, bits_of}
-use Rattle.per_additions.specs.declared.open_types.Contents.{Contents}
 use Rattle.per_additions.proofs.Filled.{fills_took, took_fills}
 
 -- octets that are read are below 256
@@ -48,26 +46,14 @@ module _ (a : Settings) (f : Spelling) (os : List ℕ) {s m : Bits} (took : Took
       let r = took_agree (same_octets a os x.octets) took c in
       let q = took_fills a f os (subst (λ z. Fills a f z) (sym r.0) x.are) in (r.1, q.0, q.1, q.2)
 
--- the same of the contents that a call answers
-module _ (a : Settings) {s m : Bits} {contents : Contents} (h : HasOctets (λ os. Took (Octets a os) s m) contents) where
-  -- they are whole octets
-  pub contents_whole : length (bits_of contents) ≡ 8 * length h.octets
-  contents_whole = ap length h.are ∙ length-unpack h.octets
-
-  -- what is read of them, and ends them, is what the open type is of
-  pub contents_took : (f : Spelling) (t : Bits) → Took f (bits_of contents) t → EndsAs a t (length (bits_of contents)) → Took (Open a (Fills a f)) s m
-  contents_took f t k e = open_took a f h.octets h.held t (subst (λ z. Took f z t) h.are k) (subst (λ z. EndsAs a t (length z)) h.are e)
-
-  -- and back
-  pub took_contents : (f : Spelling) (u : Bits) → Took (Open a (Fills a f)) s u → (m ≡ u) × (t : Bits) × Took f (bits_of contents) t × EndsAs a t (length (bits_of contents))
-  took_contents f u b =
-      let r = took_open a f h.octets h.held u b in (r.0, r.1, subst (λ z. Took f z r.1) (sym h.are) r.2, subst (λ z. EndsAs a r.1 (length z)) (sym h.are) r.3)
-
   -- where what is read of them doesn't end them, the open type is of nothing
-  pub unended : {P : Type 0} {f g : Spelling} {t : Bits} → Agree P f g → Took f (bits_of contents) t → (EndsAs a t (length (bits_of contents)) → ⊥) → (u : Bits) → Took (Open a (Fills a g)) s u → ⊥
-  unended {f = f} {g = g} w k none u b =
-      let r = took_contents g u b in
-      let e = took_agree w k r.2 in none (subst (λ z. EndsAs a z (length (bits_of contents))) (sym e.1) r.3)
+  pub unended : {P : Type 0} {g : Spelling} {t : Bits} → Agree P f g → Took f (unpack os) t → (EndsAs a t (length (unpack os)) → ⊥) → (u : Bits) → Took (Open a (Fills a g)) s u → ⊥
+  unended {g = g} w k none u b =
+      let x = b.spelled in
+      let c : Took (Octets a x.octets) s u = record { front = b.front; joins = b.joins; spelled = x.spelled } in
+      let r = took_agree (same_octets a os x.octets) took c in
+      let q = took_fills a g os (subst (λ z. Fills a g z) (sym r.0) x.are) in
+      let e = took_agree w k q.1 in none (subst (λ z. EndsAs a z (length (unpack os))) (sym e.1) q.2)
 
 -- where there are no octets, there is no open type
 pub no_open : (a : Settings) (contents : List ℕ → Type 0) {s : Bits} → NoneIn (Octets a) s → (t : Bits) → Took (Open a contents) s t → ⊥

@@ -1,13 +1,15 @@
 -- Octets and bits that are taken as a row of bits.
-use Rattle.std.proofs.Common.{◌≡◌, ◌<◌, ◌≤◌, ◌⊎◌, inl, inr, refl, sym, ap, ◌∙◌, ℕ, zero, suc, ◌*◌, false, [], ◌∷◌, ◌++◌, length, take, drop, replicate, length-take, length-drop, length-append, arith}
+use Rattle.std.proofs.Common.{◌≡◌, ◌<◌, ◌≤◌, ◌⊎◌, inl, inr, refl, sym, ap, ◌∙◌, ℕ, zero, suc, ◌*◌, Bool, false, [], ◌∷◌, ◌++◌, length, take, drop, replicate, length-take, length-drop, length-append, arith}
 use Rattle.std.proofs.lemmas.Bool.{cases_lt}
 use Rattle.std.proofs.lemmas.List.{take-append-drop, take-append-le}
 use Rattle.rasn_types.specs.Bits.{Bits, number_of, pack}
 use Rattle.per_core.specs.Basic.{OneByOne, bit, octet}
+use Rattle.per_core.specs.Spellings.{Spelling}
 use Rattle.per_core.specs.Took.{Took, place}
 use Rattle.per_core.specs.Writers.{after}
 use Rattle.per_read.specs.Kinds.{NoneIn}
 use Rattle.per_read.specs.Takes.{Row}
+use Rattle.per_additions.specs.Stands.{LastTaken}
 
 -- a row that was taken
 pub row_took : {n : ℕ} {bits s t : Bits} → Took (Row n bits) s t → (length bits ≡ n) × (s ≡ bits ++ t)
@@ -53,3 +55,11 @@ bits_in_row (b ∷ bits) p = record { front = b ∷ []; rest = bits; is_front = 
 
 pub bits_took : (n : ℕ) (bits : Bits) {s t : Bits} → Took (Row n bits) s t → Took (OneByOne bit bits) s t
 bits_took n bits {s} {t} a = let r = row_took a in record { front = bits; joins = r.1; spelled = bits_in_row bits (place s) }
+
+-- a row behind something else is what was taken last
+pub last_row : {f : Spelling} {n : ℕ} {bits s m t : Bits} → Took f s m → Took (Row n bits) m t → LastTaken n bits s t
+last_row a b = let r = row_took b in record { before = a.front; joins = a.joins ∙ ap (λ z. a.front ++ z) r.1; wide = r.0 }
+
+-- and behind one more bit
+pub last_behind : {n : ℕ} {bits s m t : Bits} (b : Bool) → s ≡ b ∷ m → LastTaken n bits m t → LastTaken n bits s t
+last_behind b e h = record { before = b ∷ h.before; joins = e ∙ ap (λ z. b ∷ z) h.joins; wide = h.wide }

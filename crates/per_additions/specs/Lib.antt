@@ -4,3 +4,4 @@ pub mod Ends
 pub mod Flags
 pub mod OpenTypes
 pub mod Reasons
+pub mod Stands

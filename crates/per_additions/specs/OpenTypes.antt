@@ -5,18 +5,19 @@ use Rattle.per_core.specs.Basic.{Open}
 use Rattle.per_core.specs.Spellings.{Settings, Spelling}
 use Rattle.per_read.specs.Lengths.{LengthOf}
 use Rattle.per_read.specs.declared.lengths.Length.TheVariants.{Fragment}
+use Rattle.per_additions.specs.Stands.{LastTaken}
 use Rattle.per_additions.specs.declared.open_types.Contents.{Contents}
 use Rattle.per_additions.specs.declared.open_types.Contents.TheVariants.{InPlace, Gathered}
 
--- the bits of the octets
-abbrev pub bits_of : Contents → Bits
-bits_of (InPlace bits) = bits
-bits_of (Gathered octets) = unpack octets.items
+-- the octets of an open type that were taken off the bits s, in front of t
+abbrev pub AreContents : Bits → Bits → Contents → List ℕ → Type 0
+AreContents s t (InPlace count) octets = LastTaken count (unpack octets) s t
+AreContents s t (Gathered bytes) octets = bytes.items ≡ octets
 
 -- a fact of the octets that contents are
-pub record HasOctets (P : List ℕ → Type 0) (contents : Contents) : Type 0 where
+pub record HasOctets (s t : Bits) (P : List ℕ → Type 0) (contents : Contents) : Type 0 where
   pub octets : List ℕ
-  pub are : bits_of contents ≡ unpack octets
+  pub are : AreContents s t contents octets
   pub held : P octets
 
 -- X.691 11.9.3.8: padding and the length of a fragment of n items

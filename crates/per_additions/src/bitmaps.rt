@@ -1,11 +1,12 @@
 //! The bitmap of a record's additions (X.691 19.7, 19.8), and the additions that the schema doesn't know (19.9).
 
-ghost use Rattle.std.specs.Prelude.{◌≡◌, [], drop};
+ghost use Rattle.std.specs.Prelude.{◌≡◌, drop};
 ghost use Rattle.std.specs.Iterator.{YieldsFirst, item_count};
 ghost use Rattle.per_core.specs.Basic.{IsBitmap};
 ghost use Rattle.per_read.specs.Takes.{Takes, itself, short, tested};
 ghost use Rattle.per_additions.specs.Additions.{NextFlag};
 ghost use Rattle.per_additions.specs.Bitmaps.{large_bitmap, large_fragments_of, skipped_unknown, small_bitmap};
+ghost use Rattle.per_additions.specs.Flags.{HasFlags};
 ghost use Rattle.per_additions.specs.OpenTypes.{fragments_of};
 ghost use Rattle.per_additions.specs.Reasons.{gathering};
 
@@ -19,6 +20,15 @@ use rasn_schema::constraints::Constraints;
 use rasn_types::bit_string::BitString;
 use std::marker::Model;
 
+/// The bitmap of a record's additions: its presence bits, in the order of the additions.
+#[derive(Drop)]
+pub enum PresenceBits {
+    /// They stand in place, behind one length alone, in front of the bits left: how many.
+    InPlace(u128),
+    /// Those of the fragments, one after another.
+    Gathered(BitString),
+}
+
 /// The presence bits of a record's additions that are still to be read, in the order of the additions. Behind the last
 /// of them no addition is present.
 #[derive(Drop)]
@@ -29,9 +39,9 @@ pub struct Bitmap<'input> {
 /// Presence bits, where they stand.
 #[derive(Drop)]
 enum Flags<'input> {
-    /// In the input: they stand behind one length alone.
+    /// In the input.
     InPlace(BitReader<'input>),
-    /// Those of the fragments, one after another, and how many of them were read.
+    /// Those that were gathered, and how many of them were read.
     Gathered(BitString, usize),
 }
 
@@ -44,13 +54,22 @@ impl<'input> Model for Bitmap<'input> {
     ghost view = { λ b. flags_left b.flags };
 }
 
-impl Bitmap<'_> {
-    /// The bitmap of a record whose extension bit is 0: no addition is present. It takes no memory.
-    pub fn empty() -> Self
-        ensures { result ≡ [] }
+impl<'input> Bitmap<'input> {
+    /// The presence bits that a reader has left. It takes no memory.
+    pub fn in_place(bits: BitReader<'input>) -> Self
+        ensures { result ≡ bits.entry }
     {
         Bitmap {
-            flags: Flags::InPlace(BitReader::from_octets(&[])),
+            flags: Flags::InPlace(bits),
+        }
+    }
+
+    /// Presence bits that were gathered, behind the first `read` of them. It takes no memory.
+    pub fn gathered(bits: BitString, read: usize) -> Self
+        ensures { result ≡ drop read bits }
+    {
+        Bitmap {
+            flags: Flags::Gathered(bits, read),
         }
     }
 }
@@ -72,7 +91,7 @@ impl Iterator for Bitmap<'_> {
 }
 
 /// The next of the presence bits that a reader has left, which is then no longer left.
-fn take_flag(bits: &mut BitReader<'_>) -> Option<bool>
+pub fn take_flag(bits: &mut BitReader<'_>) -> Option<bool>
     ensures { NextFlag bits.old result bits.new }
 {
     match bits.take(1) {
@@ -81,8 +100,8 @@ fn take_flag(bits: &mut BitReader<'_>) -> Option<bool>
     }
 }
 
-/// The presence bit at an index, which then is that of the next one.
-fn next_flag(bits: &BitString, index: &mut usize) -> Option<bool>
+/// The presence bit at an index of gathered ones, which then is that of the next one.
+pub fn next_flag(bits: &BitString, index: &mut usize) -> Option<bool>
     ensures { NextFlag (drop index.old bits.now) result (drop index.new bits.now) }
 {
     if *index >= bits.len() {
@@ -96,8 +115,9 @@ fn next_flag(bits: &BitString, index: &mut usize) -> Option<bool>
 /// Takes the bitmap of a record's additions (X.691 19.7, 19.8, 11.9.3.4): behind a bit 0 its length less one in six
 /// bits, behind a bit 1 an unconstrained length, and then its bits. One of no bits is refused as `EmptyBitmap`. Only
 /// one in fragments takes memory.
-pub fn take_bitmap<'input>(reader: &mut Reader<'input>) -> Result<Bitmap<'input>, DecodeErrorKind>
-    ensures { Takes (gathering large_fragments_of) IsBitmap itself reader.old result reader.new }
+pub fn take_bitmap(reader: &mut Reader<'_>) -> Result<PresenceBits, DecodeErrorKind>
+    ensures { Takes (gathering large_fragments_of) IsBitmap (HasFlags reader.old.bits reader.new.bits) reader.old
+        result reader.new }
 {
     if reader.take_bit()? {
         take_large_bitmap(reader)
@@ -107,33 +127,34 @@ pub fn take_bitmap<'input>(reader: &mut Reader<'input>) -> Result<Bitmap<'input>
 }
 
 /// Takes a bitmap of up to 64 bits, behind its length less one in six bits.
-fn take_small_bitmap<'input>(reader: &mut Reader<'input>) -> Result<Bitmap<'input>, DecodeErrorKind>
-    ensures { Takes short (λ a. small_bitmap) itself reader.old result reader.new }
+fn take_small_bitmap(reader: &mut Reader<'_>) -> Result<PresenceBits, DecodeErrorKind>
+    ensures { Takes short (λ a. small_bitmap) (HasFlags reader.old.bits reader.new.bits) reader.old result
+        reader.new }
 {
     let more = reader.take_bits(6)?;
-    let bits = reader.take_row(more + 1)?;
-    Ok(Bitmap {
-        flags: Flags::InPlace(bits),
-    })
+    reader.take_row(more + 1)?;
+    Ok(PresenceBits::InPlace(more + 1))
 }
 
 /// Takes a bitmap of one bit or more behind an unconstrained length (X.691 11.9.3.5 to 11.9.3.8).
-fn take_large_bitmap<'input>(reader: &mut Reader<'input>) -> Result<Bitmap<'input>, DecodeErrorKind>
-    ensures { Takes (gathering fragments_of) large_bitmap itself reader.old result reader.new }
+fn take_large_bitmap(reader: &mut Reader<'_>) -> Result<PresenceBits, DecodeErrorKind>
+    ensures { Takes (gathering fragments_of) large_bitmap (HasFlags reader.old.bits reader.new.bits) reader.old result
+        reader.new }
 {
     let mut ahead = ahead_of(reader);
-    let flags = match ahead.take_unconstrained_length()? {
+    match ahead.take_unconstrained_length()? {
         Length::Last(count) => {
             if count == 0 {
                 return Err(DecodeErrorKind::ParserFail(ParserFailCause::EmptyBitmap));
             }
-            let bits = ahead.take_row(count)?;
+            ahead.take_row(count)?;
             *reader = ahead;
-            Flags::InPlace(bits)
+            Ok(PresenceBits::InPlace(count))
         }
-        Length::Fragment(_) => Flags::Gathered(reader.take_bit_string(&Constraints::NONE)?, 0),
-    };
-    Ok(Bitmap { flags })
+        Length::Fragment(_) => Ok(PresenceBits::Gathered(reader.take_bit_string(
+            &Constraints::NONE,
+        )?)),
+    }
 }
 
 /// Skips the additions behind those that the schema knows, of which these are the presence bits (X.691 19.9): an open

@@ -3,12 +3,11 @@
 ghost use Rattle.std.specs.Prelude.{◌≡◌, ◌%◌, ◌≤◌, length};
 ghost use Rattle.per_core.specs.Basic.{Octets};
 ghost use Rattle.per_read.specs.Takes.{Takes, itself, tested};
-ghost use Rattle.per_additions.specs.OpenTypes.{HasOctets, bits_of, fragments_of, skipped_open};
+ghost use Rattle.per_additions.specs.OpenTypes.{HasOctets, fragments_of, skipped_open};
 ghost use Rattle.per_additions.specs.Ends.{EndsOpen, kind_of};
 ghost use Rattle.per_additions.specs.Reasons.{gathering};
 
 use crate::ahead_of;
-use per_bits::BitReader;
 use per_core::ended::{Surplus, ended};
 use per_read::Reader;
 use per_read::error::{DecodeErrorKind, ParserFailCause};
@@ -16,42 +15,24 @@ use per_read::lengths::Length;
 
 /// The octets of an open type.
 #[derive(Drop)]
-pub enum Contents<'input> {
-    /// Their bits, in the input: they stand behind one length alone.
-    InPlace(BitReader<'input>),
+pub enum Contents {
+    /// They stand in place, behind one length alone, in front of the bits left: how many bits they are, eight of each.
+    InPlace(u128),
     /// The octets of its fragments, one after another.
     Gathered(Vec<u8>),
 }
 
-impl Contents<'_> {
-    /// The bits of the octets, eight of each.
-    pub fn bits(&self) -> BitReader<'_>
-        ensures { result ≡ bits_of self.now }
-    {
-        match self {
-            Contents::InPlace(bits) => copy_of(bits),
-            Contents::Gathered(octets) => BitReader::from_octets(octets.as_slice()),
-        }
-    }
-}
-
-/// A second reader of the same bits.
-fn copy_of<'bits>(bits: &'bits BitReader<'_>) -> BitReader<'bits>
-    ensures { result ≡ bits.now }
-{
-    bits.clone().unwrap()
-}
-
 /// Takes the octets of an open type (X.691 11.2), behind an unconstrained length. Only those in fragments take memory.
-pub fn take_open<'input>(reader: &mut Reader<'input>) -> Result<Contents<'input>, DecodeErrorKind>
-    ensures { Takes (gathering fragments_of) Octets HasOctets reader.old result reader.new }
+pub fn take_open(reader: &mut Reader<'_>) -> Result<Contents, DecodeErrorKind>
+    ensures { Takes (gathering fragments_of) Octets (HasOctets reader.old.bits reader.new.bits) reader.old result
+        reader.new }
 {
     let mut ahead = ahead_of(reader);
     match ahead.take_unconstrained_length()? {
         Length::Last(count) => {
-            let bits = ahead.take_row(8 * count)?;
+            ahead.take_row(8 * count)?;
             *reader = ahead;
-            Ok(Contents::InPlace(bits))
+            Ok(Contents::InPlace(8 * count))
         }
         Length::Fragment(_) => Ok(Contents::Gathered(reader.take_octets()?)),
     }

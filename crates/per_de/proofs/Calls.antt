@@ -1,5 +1,5 @@
 -- What each call reads, and why it refuses.
-use Rattle.std.proofs.Common.{◌≡◌, ◌⊎◌, inl, inr, ℕ, Bool, true, false, [], refl, sym, ◌∙◌, ap, subst, ℤ}
+use Rattle.std.proofs.Common.{◌≡◌, ◌⊎◌, inl, inr, ℕ, Bool, true, false, [], length, refl, sym, ◌∙◌, ap, subst, ℤ}
 use Rattle.std.specs.Prelude.{Result, Ok, Err, OnOk, OnErr, IfOk, IfErr, IsErrAnd}
 use Rattle.std.proofs.lemmas.Result.{IfOk-weaker, IfErr-weaker}
 use Rattle.rasn_types.specs.Bits.{Bits}
@@ -17,13 +17,13 @@ use Rattle.per_read.specs.Numbers.{IsOfNumber}
 use Rattle.per_read.specs.declared.error.DecodeError.{DecodeError}
 use Rattle.per_read.specs.declared.error.DecodeErrorKind.{DecodeErrorKind}
 use Rattle.per_read.specs.declared.error.DecodeErrorKind.TheVariants.{AlreadyFailed, ExceedsMaxParseDepth, OutOfMemory, RealNotSupported}
-use Rattle.per_read.specs.Options.{settings}
 use Rattle.per_read.specs.State.{State as Taking}
 use Rattle.per_read.specs.Takes.{Reason, Takes}
 use Rattle.per_read.proofs.Refusals.{faulty_map}
-use Rattle.per_de.specs.State.{State, Spells, settings_of}
+use Rattle.per_de.specs.State.{State, Spells, reader_of, settings_of}
 use Rattle.per_de.specs.Faults.{Answered, Fault, IsAt, IsOf, at_once, refusal}
 use Rattle.per_de.specs.Rules.{decoder_rules}
+use Rattle.per_de.proofs.Spans.{with_rest}
 
 -- a refusal
 not_failed : (c : Schema) (a : Settings) (s : Bits) → IsAt a c s AlreadyFailed → ⊥
@@ -108,50 +108,46 @@ pub too_deep : (family : ℕ → Schema) (s : State) (e : DecodeError) (n : ℕ)
 unfolding basic_in
 too_deep family s e n h z i = subst (λ c. (e ≡ refusal OutOfMemory s) ⊎ Refuses (Spells c) (Fault c) e s) (sym (ap family z ∙ h)) (inr (refuses Schemas.cut s ExceedsMaxParseDepth e i tt (λ v t b. b.spelled)))
 
--- a decoder around what it takes from
-abbrev pub around : Taking → Bool → ℕ → Bits → State
-around x f n q = record { bits = x.bits; failed = f; levels = n; codec = x.options.codec; zero_padding = x.options.zero_padding; presences = q }
-
-went : {T : Type 0} (x y : Taking) (f : Bool) (n : ℕ) (q : Bits) (t : State) → f ≡ false → y.options ≡ x.options → (taken : Result T DecodeErrorKind) (result : Result T DecodeError) → Answered taken (around y f n q) result t
-    → Behaves (λ e s. e ≡ refusal AlreadyFailed s) (λ s. s.failed) (λ s. s.codec) (around x f n q) result t
-went x y f n q t live e (Ok v) result a = record { again = λ h. absurd cc; fails = subst (λ r. OnErr r (t.failed ≡ true)) (sym a.0) tt; kept = ap (λ s. s.codec) a.1 ∙ ap (λ k. k.codec) e }
-went x y f n q t live e (Err k) result a = record { again = λ h. absurd cc; fails = subst (λ r. OnErr r (t.failed ≡ true)) (sym a.0) (ap (λ s. s.failed) a.1); kept = ap (λ s. s.codec) a.1 ∙ ap (λ k. k.codec) e }
+went : {T : Type 0} (s : State) (left : ℕ) (t : State) → s.failed ≡ false → (taken : Result T DecodeErrorKind) (result : Result T DecodeError) → Answered taken left s result t
+    → Behaves (λ e s. e ≡ refusal AlreadyFailed s) (λ s. s.failed) (λ s. s.codec) s result t
+went s left t live (Ok v) result a = record { again = λ h. absurd cc; fails = subst (λ r. OnErr r (t.failed ≡ true)) (sym a.0) tt; kept = ap (λ s. s.codec) a.1 }
+went s left t live (Err k) result a = record { again = λ h. absurd cc; fails = subst (λ r. OnErr r (t.failed ≡ true)) (sym a.0) (ap (λ s. s.failed) a.1); kept = ap (λ s. s.codec) a.1 }
 
 -- the law of such a call, where want of memory is told as it may be
-answered : {T : Type 0} (memory : DecodeError → State → Type 0) (c : Schema) (value : T → Value) (x y : Taking) (f : Bool) (n : ℕ) (q : Bits) (t : State) → f ≡ false → y.options ≡ x.options
-    → (taken : Result T DecodeErrorKind) (result : Result T DecodeError) → Answered taken (around y f n q) result t
-    → IfOk taken (λ v. Took (basic (settings x.options) c (value v)) x.bits y.bits) → IfErr taken (λ k. memory (refusal k (around x f n q)) (around x f n q) ⊎ Refuses (Spells c) (Fault c) (refusal k (around x f n q)) (around x f n q))
-    → Answers memory (Fault c) (Spells c) value (around x f n q) result t
-answered memory c value x y f n q t live e (Ok v) result a ok err =
-    subst (λ r. Answers memory (Fault c) (Spells c) value (around x f n q) r t) (sym a.0)
-    (subst (λ s. Spells c (around x f n q) (value v) s) (sym a.1) (record { live = live; took = ok; same = ap (λ k. record { bits = y.bits; failed = f; levels = n; codec = k.codec; zero_padding = k.zero_padding; presences = q }) e }))
-answered memory c value x y f n q t live e (Err k) result a ok err =
-    subst (λ r. Answers memory (Fault c) (Spells c) value (around x f n q) r t) (sym a.0)
-    (subst (λ z. memory z (around x f n q) ⊎ Refuses (Spells c) (Fault c) z (around x f n q)) (sym (ap (λ z. record { kind = k; codec = z.codec }) e)) err)
+answered : {T : Type 0} (memory : DecodeError → State → Type 0) (c : Schema) (value : T → Value) (s : State) (rest : Bits) (left : ℕ) (t : State) → s.failed ≡ false → left ≡ length rest
+    → (taken : Result T DecodeErrorKind) (result : Result T DecodeError) → Answered taken left s result t
+    → IfOk taken (λ v. Took (basic (settings_of s) c (value v)) s.bits rest) → IfErr taken (λ k. memory (refusal k s) s ⊎ Refuses (Spells c) (Fault c) (refusal k s) s)
+    → Answers memory (Fault c) (Spells c) value s result t
+answered memory c value s rest left t live l (Ok v) result a ok err =
+    subst (λ r. Answers memory (Fault c) (Spells c) value s r t) (sym a.0)
+    (subst (λ z. Spells c s (value v) z) (sym (a.1 ∙ with_rest s ok.front rest left ok.joins l)) (record { live = live; took = ok; same = refl }))
+answered memory c value s rest left t live l (Err k) result a ok err = subst (λ r. Answers memory (Fault c) (Spells c) value s r t) (sym a.0) err
 
 -- A call that takes what a form spells, and its answer: where the form is that of a schema, and each kind says something of it, the call
 -- reads the schema.
-pub reads : {T X : Type 0} {why : Reason} {form : Settings → X → Spelling} {of : (X → Type 0) → T → Type 0} {x y : Taking} {f : Bool} {n : ℕ} {q : Bits} {t : State} {taken : Result T DecodeErrorKind} {result : Result T DecodeError}
-    (c : Schema) (value : T → Value) → f ≡ false → ((v : T) → of (λ w. Took (form (settings x.options) w) x.bits y.bits) v → Took (basic (settings x.options) c (value v)) x.bits y.bits)
-    → Takes why form of x taken y → Answered taken (around y f n q) result t
-    → ((k : DecodeErrorKind) → why (settings x.options) x.bits (NoneIn (form (settings x.options)) x.bits) k → Faulty (IsAt (settings x.options) c x.bits) (NoneIn (basic (settings x.options) c) x.bits) k)
-    → Reads decoder_rules c value (around x f n q) result t
-reads {x = x} {y} {f} {n} {q} {t} {taken} {result} c value live ok h a err = record {
-  law = answered (λ e s. e ≡ refusal OutOfMemory s) c value x y f n q t live h.kept taken result a (IfOk-weaker taken _ _ ok h.ok) (IfErr-weaker taken _ _ (λ k i. faulty c (around x f n q) k (refusal k (around x f n q)) refl (err k i)) h.err);
-  behaves = went x y f n q t live h.kept taken result a;
-}
+module _ {T X : Type 0} {why : Reason} {form : Settings → X → Spelling} {of : (X → Type 0) → T → Type 0} (s : State) {x y : Taking} {left : ℕ} {t : State} {taken : Result T DecodeErrorKind} {result : Result T DecodeError} where
+  pub reads : (c : Schema) (value : T → Value) → s.failed ≡ false → ((v : T) → of (λ w. Took (form (settings_of s) w) s.bits y.bits) v → Took (basic (settings_of s) c (value v)) s.bits y.bits)
+      → x ≡ reader_of s → Takes why form of x taken y → left ≡ length y.bits → Answered taken left s result t
+      → ((k : DecodeErrorKind) → why (settings_of s) s.bits (NoneIn (form (settings_of s)) s.bits) k → Faulty (IsAt (settings_of s) c s.bits) (NoneIn (basic (settings_of s) c) s.bits) k)
+      → Reads decoder_rules c value s result t
+  reads c value live ok i g l a err =
+      let h : Takes why form of (reader_of s) taken y = subst (λ z. Takes why form of z taken y) i g in
+      record {
+        law = answered (λ e s. e ≡ refusal OutOfMemory s) c value s y.bits left t live l taken result a (IfOk-weaker taken _ _ ok h.ok) (IfErr-weaker taken _ _ (λ k j. faulty c s k (refusal k s) refl (err k j)) h.err);
+        behaves = went s left t live taken result a;
+      }
 
--- the same of a call that takes no memory
-pub reads_freely : {T X : Type 0} {why : Reason} {form : Settings → X → Spelling} {of : (X → Type 0) → T → Type 0} {x y : Taking} {f : Bool} {n : ℕ} {q : Bits} {t : State} {taken : Result T DecodeErrorKind} {result : Result T DecodeError}
-    (c : Schema) (value : T → Value) → f ≡ false → ((v : T) → of (λ w. Took (form (settings x.options) w) x.bits y.bits) v → Took (basic (settings x.options) c (value v)) x.bits y.bits)
-    → Takes why form of x taken y → Answered taken (around y f n q) result t
-    → ((k : DecodeErrorKind) → why (settings x.options) x.bits (NoneIn (form (settings x.options)) x.bits) k → IsAt (settings x.options) c x.bits k × NoneIn (basic (settings x.options) c) x.bits)
-    → Reads (freely_read decoder_rules) c value (around x f n q) result t
-reads_freely {x = x} {y} {f} {n} {q} {t} {taken} {result} c value live ok h a err = record {
-  law = answered takes_none c value x y f n q t live h.kept taken result a (IfOk-weaker taken _ _ ok h.ok)
-      (IfErr-weaker taken _ _ (λ k i. let r = err k i in inr (refuses c (around x f n q) k (refusal k (around x f n q)) refl r.0 r.1)) h.err);
-  behaves = went x y f n q t live h.kept taken result a;
-}
+  -- the same of a call that takes no memory
+  pub reads_freely : (c : Schema) (value : T → Value) → s.failed ≡ false → ((v : T) → of (λ w. Took (form (settings_of s) w) s.bits y.bits) v → Took (basic (settings_of s) c (value v)) s.bits y.bits)
+      → x ≡ reader_of s → Takes why form of x taken y → left ≡ length y.bits → Answered taken left s result t
+      → ((k : DecodeErrorKind) → why (settings_of s) s.bits (NoneIn (form (settings_of s)) s.bits) k → IsAt (settings_of s) c s.bits k × NoneIn (basic (settings_of s) c) s.bits)
+      → Reads (freely_read decoder_rules) c value s result t
+  reads_freely c value live ok i g l a err =
+      let h : Takes why form of (reader_of s) taken y = subst (λ z. Takes why form of z taken y) i g in
+      record {
+        law = answered takes_none c value s y.bits left t live l taken result a (IfOk-weaker taken _ _ ok h.ok) (IfErr-weaker taken _ _ (λ k j. let r = err k j in inr (refuses c s k (refusal k s) refl r.0 r.1)) h.err);
+        behaves = went s left t live taken result a;
+      }
 
 -- an answer that is made of another, and an error that is handed on
 pub reads_ok : {T U : Type 0} {c : Schema} {value : T → Value} {made : U → Value} {s t : State} (v : T) (u : U) → made u ≡ value v → Reads decoder_rules c value s (Ok v) t → Reads decoder_rules c made s (Ok u) t

@@ -4,3 +4,4 @@ pub mod Enumerations
 pub mod Listing
 pub mod Opening
 pub mod StringCalls
+pub mod Spans

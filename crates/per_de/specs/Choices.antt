@@ -5,7 +5,7 @@ use Rattle.rasn_schema.specs.Schemas.{Schema}
 use Rattle.per_core.specs.Basic.{IsConstrainedWhole}
 use Rattle.per_core.specs.Took.{Took}
 use Rattle.per_core.specs.Versions.{alternatives_of}
-use Rattle.per_de.specs.Scopes.{with_scope, Enters}
+use Rattle.per_de.specs.Scopes.{presences_of, with_scope, Enters}
 use Rattle.per_de.specs.State.{State, settings_of, with_bits}
 use Rattle.per_de.specs.declared.Scope.{Scope}
 
@@ -19,4 +19,4 @@ pub record OpensChoice (c : Schema) (k : ℕ) (s : State) (o : Scope) (i : State
 -- Behind its alternative the level is given back, and the presence bits that waited outside.
 pub record ClosesChoice (s : State) (o : Scope) (t : State) : Type 0 where
   pub live : s.failed ≡ false
-  pub same : t ≡ with_scope s o.levels o.presences
+  pub same : t ≡ with_scope s o.levels (presences_of s.source o)

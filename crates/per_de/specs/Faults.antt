@@ -21,7 +21,7 @@ use Rattle.per_core.specs.declared.items.Item.TheVariants.{Octet, Bit}
 use Rattle.per_read.specs.declared.error.DecodeError.{DecodeError}
 use Rattle.per_read.specs.declared.error.DecodeErrorKind.{DecodeErrorKind}
 use Rattle.per_read.specs.declared.error.DecodeErrorKind.TheVariants.{ExceedsMaxParseDepth, AlreadyFailed, MissingTag, RealNotSupported}
-use Rattle.per_de.specs.State.{State, settings_of}
+use Rattle.per_de.specs.State.{State, settings_of, with_last}
 
 -- what a kind says where no level is left
 abbrev pub IsOfCut : DecodeErrorKind → Type 0
@@ -78,10 +78,11 @@ pub record Fault (c : Schema) (e : DecodeError) (s : State) : Type 0 where
 abbrev pub refusal : DecodeErrorKind → State → DecodeError
 refusal k s = record { kind = k; codec = s.codec }
 
--- A decoder's answer to what was taken: the value; or the refusal of its kind, after which the decoder has failed.
-abbrev pub Answered : {T : Type 0} → Result T DecodeErrorKind → State → Result T DecodeError → State → Type 0
-Answered (Ok v) s result t = (result ≡ Ok v) × (t ≡ s)
-Answered (Err k) s result t = (result ≡ Err (refusal k s)) × (t ≡ record s { failed = true })
+-- A decoder's answer to what a reader of its bits took that has so many bits left: the value, with these bits left; or the refusal of its
+-- kind, after which the decoder has failed.
+abbrev pub Answered : {T : Type 0} → Result T DecodeErrorKind → ℕ → State → Result T DecodeError → State → Type 0
+Answered (Ok v) left s result t = (result ≡ Ok v) × (t ≡ with_last s left)
+Answered (Err k) left s result t = (result ≡ Err (refusal k s)) × (t ≡ record s { failed = true })
 
 -- an error by which a presence bit is refused: none is left, or the decoder had failed
 abbrev pub IsUnmarked : DecodeError → State → Type 0

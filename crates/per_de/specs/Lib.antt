@@ -6,4 +6,5 @@ pub mod Lists
 pub mod Rules
 pub mod ScopeLaws
 pub mod Scopes
+pub mod Sources
 pub mod State

@@ -17,7 +17,7 @@ use Rattle.per_read.specs.declared.error.DecodeErrorKind.TheVariants.{AlreadyFai
 use Rattle.per_de.specs.State.{State, Marks, Spells, settings_of, with_bits}
 use Rattle.per_de.specs.Faults.{Fault, IsOf, IsInBits, IsInParts, here, later, inside, IsUnmarked, refusal}
 use Rattle.per_de.specs.Rules.{decoder_rules}
-use Rattle.per_de.specs.Scopes.{with_scope, Opens, Closes, Unended}
+use Rattle.per_de.specs.Scopes.{presences_of, with_scope, Opens, Closes, Unended}
 use Rattle.per_de.specs.declared.Scope.{Scope}
 
 -- the same decoder with other bits left and other presence bits still to be read
@@ -365,8 +365,8 @@ module _ (ps : Parts) {s i : State} {o : Scope} (a : Opens (record_of ps) s o i)
       record {
         live = a.live;
         took = subst (λ z. Took (basic (settings_of s) (record_of ps) (record_value rs [])) s.bits z) (sym f) (record_took (settings_of s) ps r.shown rs s.bits i.bits j.bits flags r.bodies);
-        same = c.same ∙ ap (λ z. with_scope z o.levels o.presences) (r.same ∙ ap (λ z. with_rest z j.bits j.presences) a.enters.same)
-            ∙ ap (λ n. with_scope (with_bits s j.bits) n o.presences) a.enters.outside ∙ ap (λ q. with_scope (with_bits s j.bits) s.levels q) a.enters.waits ∙ ap (λ z. with_bits s z) (sym f);
+        same = c.same ∙ ap (λ z. with_scope z o.levels (presences_of z.source o)) (r.same ∙ ap (λ z. with_rest z j.bits j.presences) a.enters.same)
+            ∙ ap (λ n. with_scope (with_bits s j.bits) n (presences_of s.source o)) a.enters.outside ∙ ap (λ q. with_scope (with_bits s j.bits) s.levels q) a.enters.waits ∙ ap (λ z. with_bits s z) (sym f);
       }
 
   back_of : (t : State) (v : Value) → Spells (record_of ps) s v t → (rs : List (Option Value)) × (j : State) × ReadsParts decoder_rules ps i rs j × Closes j o t
@@ -380,8 +380,8 @@ module _ (ps : Parts) {s i : State} {o : Scope} (a : Opens (record_of ps) s o i)
         record {
           live = unfailed;
           done = refl;
-          same = b.same ∙ sym (ap (λ z. with_scope (with_rest z t.bits []) o.levels o.presences) a.enters.same
-              ∙ ap (λ n. with_scope (with_bits s t.bits) n o.presences) a.enters.outside ∙ ap (λ q. with_scope (with_bits s t.bits) s.levels q) a.enters.waits);
+          same = b.same ∙ sym (ap (λ z. with_scope (with_rest z t.bits []) o.levels (presences_of z.source o)) a.enters.same
+              ∙ ap (λ n. with_scope (with_bits s t.bits) n (presences_of s.source o)) a.enters.outside ∙ ap (λ q. with_scope (with_bits s t.bits) s.levels q) a.enters.waits);
         },
       )
 

@@ -1,5 +1,5 @@
 -- What a decoder holds, and what its calls read.
-use Rattle.std.specs.Prelude.{◌≡◌, ℕ, Bool, false, [], ◌∷◌}
+use Rattle.std.specs.Prelude.{◌≡◌, ◌-◌, ℕ, Bool, false, [], ◌∷◌, drop, length}
 use Rattle.rasn_types.specs.Bits.{Bits}
 use Rattle.rasn_types.specs.Values.{Value}
 use Rattle.rasn_types.specs.declared.types.Codec.{Codec}
@@ -8,6 +8,7 @@ use Rattle.per_core.specs.Spellings.{Settings}
 use Rattle.per_core.specs.Basic.{basic}
 use Rattle.per_core.specs.Took.{Took}
 use Rattle.per_read.specs.Options.{settings}
+use Rattle.per_read.specs.State.{State as Taking}
 use Rattle.per_read.specs.declared.ReaderOptions.{ReaderOptions}
 
 -- What a decoder is told: the codec, how many levels of values it may enter, and whether padding must be zero.
@@ -16,10 +17,11 @@ pub record Options : Type 0 where
   pub levels : ℕ
   pub zero_padding : Bool
 
--- What a decoder holds: the bits that are left, whether a call has refused, how many levels it may still enter, the
+-- What a decoder holds: the bits that it reads from, those of them that are left, whether a call has refused, how many levels it may still enter, the
 -- codec in use, whether padding must be zero, and the presence bits of the open SEQUENCE that are still to be read.
 -- The position in an octet follows from the number of bits that are left (`place`).
 pub record State : Type 0 where
+  pub source : Bits
   pub bits : Bits
   pub failed : Bool
   pub levels : ℕ
@@ -30,6 +32,7 @@ pub record State : Type 0 where
 -- what has read nothing
 abbrev pub fresh : Bits → Options → State
 fresh bits options = record {
+  source = bits;
   bits = bits;
   failed = false;
   levels = options.levels;
@@ -46,9 +49,17 @@ options_of s = record { codec = s.codec; zero_padding = s.zero_padding }
 abbrev pub settings_of : State → Settings
 settings_of s = settings (options_of s)
 
+-- a reader of the bits that are left
+abbrev pub reader_of : State → Taking
+reader_of s = record { bits = s.bits; options = options_of s }
+
 -- the same with other bits left
 abbrev pub with_bits : State → Bits → State
 with_bits s b = record s { bits = b }
+
+-- the same with the last so many bits left
+abbrev pub with_last : State → ℕ → State
+with_last s n = with_bits s (drop (length s.bits - n) s.bits)
 
 -- A front of the bits that are left spells a value, and the bits behind it are left.
 pub record Spells (c : Schema) (s : State) (v : Value) (t : State) : Type 0 where

@@ -1,16 +1,17 @@
 //! The decoder of the packed encoding rules: it reads every basic encoding.
 #![tactic(auto)]
 
-ghost use Rattle.std.specs.Prelude.{◌≡◌, true, false, MatchOption, OnOk, OnErr, IfErr};
+ghost use Rattle.std.specs.Prelude.{◌≡◌, ◌≤◌, ◌+◌, ◌-◌, true, false, slice_get, MatchOption, OnOk, OnErr, IfErr};
 ghost use Rattle.rasn_types.specs.declared.types.Codec.TheVariants.{Aper, Uper};
 ghost use Rattle.per_read.specs.declared.error.DecodeErrorKind.TheVariants.{AlreadyFailed};
 ghost use Rattle.per_read.specs.Lists.{most};
-ghost use Rattle.per_de.specs.State.{State, Options, fresh};
+ghost use Rattle.per_de.specs.Sources.{bits_of, span_of, IsWithin};
+ghost use Rattle.per_de.specs.State.{State, Options, fresh, reader_of};
 ghost use Rattle.per_de.specs.ChoiceLaws.{choices_well};
 ghost use Rattle.per_de.specs.Choices.{ClosesChoice, OpensChoice};
 ghost use Rattle.per_de.specs.Faults.{refusal, Answered};
 ghost use Rattle.per_de.specs.Rules.{decoder_rules};
-ghost use Rattle.per_de.specs.Scopes.{Enters, Opens, Closes, LevelInside, Unended};
+ghost use Rattle.per_de.specs.Scopes.{Enters, Opens, Closes, LevelInside, TakesPresences, Unended};
 ghost use Rattle.per_de.specs.Laws.{decodes_well};
 ghost use Rattle.per_de.specs.Lists.{AmidList};
 ghost use Rattle.per_de.specs.ScopeLaws.{scopes_well};
@@ -106,28 +107,95 @@ impl DecoderOptions {
     }
 }
 
+/// Where the bits come from that a decoder reads.
+#[derive(Drop)]
+enum Source<'input> {
+    /// The input's own.
+    Input(BitReader<'input>),
+    /// Octets that were gathered from fragments (X.691 11.9.3.8), which the decoder owns.
+    Gathered(Vec<u8>),
+}
+
+impl Source<'_> {
+    /// All its bits.
+    fn bits(&self) -> BitReader<'_>
+        ensures { result ≡ bits_of self.now }
+    {
+        let octets = match self {
+            Source::Input(bits) => return bits.clone().unwrap(),
+            Source::Gathered(octets) => octets,
+        };
+        BitReader::from_octets(octets.as_slice())
+    }
+}
+
+/// Bits of a source: those from a place on, in front of another.
+#[derive(Clone, Copy, Debug)]
+struct Span {
+    begin: u128,
+    end: u128,
+}
+
+impl Span {
+    /// How many bits it has in a source that is long enough.
+    fn len(self) -> u128
+        ensures { result ≡ self.end - self.begin }
+    {
+        self.end.saturating_sub(self.begin)
+    }
+
+    /// The bits behind the first `count` of them.
+    fn behind(self, count: u128) -> Span
+        requires { count ≤ self.end - self.begin }
+        ensures { result ≡ record self { begin = self.begin + count } }
+    {
+        Span {
+            begin: self.begin + count,
+            end: self.end,
+        }
+    }
+
+    /// These bits of a source, as far as they are there.
+    fn part_of<'source>(self, source: BitReader<'source>) -> BitReader<'source>
+        ensures { result ≡ span_of self source.entry }
+    {
+        let mut bits = source;
+        let skipped = self.begin.min(bits.len());
+        bits.take(skipped).unwrap();
+        let count = self.len().min(bits.len());
+        bits.take(count).unwrap()
+    }
+}
+
 /// A reader of values from the front of bits. Every basic encoding is read, canonical or not; where padding must be
 /// zero, every one whose padding is.
 #[derive(Drop)]
 pub struct Decoder<'input> {
-    reader: Reader<'input>,
+    source: Source<'input>,
+    /// The bits that are left.
+    bits: Span,
+    /// The presence bits of the open SEQUENCE that are still to be read.
+    presences: Span,
+    options: ReaderOptions,
+    alloc: Global,
     levels: u32,
     failed: bool,
-    /// The presence bits of the open SEQUENCE that are still to be read.
-    presences: BitReader<'input>,
 }
 
 impl<'input> Model for Decoder<'input> {
     ghost Value = { State };
 
     ghost view = { λ d. record {
-      bits = d.reader.bits;
+      source = bits_of d.source;
+      bits = span_of d.bits (bits_of d.source);
       failed = d.failed;
       levels = d.levels;
-      codec = d.reader.options.codec;
-      zero_padding = d.reader.options.zero_padding;
-      presences = d.presences;
+      codec = d.options.codec;
+      zero_padding = d.options.zero_padding;
+      presences = span_of d.presences (bits_of d.source);
     } };
+
+    ghost invariant = { λ d. IsWithin d.bits (bits_of d.source) };
 }
 
 impl<'input> Decoder<'input> {
@@ -146,26 +214,55 @@ impl<'input> Decoder<'input> {
     pub fn from_reader(alloc: Global, input: BitReader<'input>, options: DecoderOptions) -> Self
         ensures { result ≡ fresh input.entry options }
     {
+        let end = input.len();
         Decoder {
-            reader: Reader::new(alloc, input, options.reader()),
+            source: Source::Input(input),
+            bits: Span { begin: 0, end },
+            presences: Span { begin: 0, end: 0 },
+            options: options.reader(),
+            alloc,
             levels: options.levels,
             failed: false,
-            presences: BitReader::from_octets(&[]),
         }
     }
 
     /// The bits that are left.
-    pub fn input(&self) -> BitReader<'input>
+    pub fn input(&self) -> BitReader<'_>
         ensures { result ≡ self.now.bits }
     {
-        self.reader.bits()
+        self.bits.part_of(self.source.bits())
     }
 
     /// The variant in use.
     pub fn codec(&self) -> Codec
         ensures { result ≡ self.now.codec }
     {
-        self.reader.codec()
+        self.options.codec
+    }
+
+    /// A reader of the bits that are left.
+    fn reader(&self) -> Reader<'_>
+        ensures { result ≡ reader_of self.now }
+    {
+        Reader::new(self.alloc, self.input(), self.options)
+    }
+
+    /// The presence bits of the open SEQUENCE that are still to be read.
+    fn presence_bits(&self) -> BitReader<'_>
+        ensures { result ≡ self.now.presences }
+    {
+        self.presences.part_of(self.source.bits())
+    }
+
+    /// The next presence bit, where one is left.
+    fn first_presence(&self) -> Option<bool>
+        ensures { result ≡ slice_get self.now.presences 0 }
+    {
+        let presences = self.presence_bits();
+        if presences.is_empty() {
+            return None;
+        }
+        Some(presences.first_bits(1) == 1)
     }
 
     /// An error of a kind, with the variant in use.
@@ -174,7 +271,7 @@ impl<'input> Decoder<'input> {
     {
         DecodeError {
             kind,
-            codec: self.reader.codec(),
+            codec: self.options.codec,
         }
     }
 
@@ -199,14 +296,39 @@ impl<'input> Decoder<'input> {
         self.error(kind)
     }
 
-    /// What was taken, unless it was refused; then the decoder has failed.
-    fn answer<T: Drop>(&mut self, taken: Result<T, DecodeErrorKind>) -> Result<T, DecodeError>
-        ensures { Answered taken self.old result self.new }
+    /// What was taken by a reader that has so many bits left, which are then left here too, unless it was refused; then
+    /// the decoder has failed.
+    fn answer<T: Drop>(
+        &mut self,
+        taken: Result<T, DecodeErrorKind>,
+        left: u128,
+    ) -> Result<T, DecodeError>
+        ensures { Answered taken left self.old result self.new }
     {
         match taken {
-            Ok(value) => Ok(value),
+            Ok(value) => {
+                let count = self.bits.len().saturating_sub(left);
+                self.bits = self.bits.behind(count);
+                Ok(value)
+            }
             Err(kind) => Err(self.refuse(kind)),
         }
+    }
+
+    /// Takes so many presence bits off the bits left, and answers where they stand. Where fewer are left it refuses.
+    fn take_presences(&mut self, count: u128) -> Result<Span, DecodeError>
+        ensures { TakesPresences count self.old result self.new }
+    {
+        let left = self.bits.len();
+        if left < count {
+            return Err(self.refuse(DecodeErrorKind::Incomplete(count - left)));
+        }
+        let begin = self.bits.begin;
+        self.bits = self.bits.behind(count);
+        Ok(Span {
+            begin,
+            end: self.bits.begin,
+        })
     }
 
     /// How many levels may be entered one level deeper. At no level left it refuses.
@@ -220,8 +342,8 @@ impl<'input> Decoder<'input> {
     }
 
     /// Enters a scope with so many levels left and these presence bits to read.
-    fn enter(&mut self, levels: u32, presences: BitReader<'input>) -> Scope<'input>
-        ensures { Enters levels presences.entry self.old result self.new }
+    fn enter(&mut self, levels: u32, presences: Span) -> Scope
+        ensures { Enters levels (span_of presences self.old.source) self.old result self.new }
     {
         Scope {
             levels: mem::replace(&mut self.levels, levels),
@@ -233,9 +355,9 @@ impl<'input> Decoder<'input> {
 /// What waits outside while a record is open: the levels that may be entered there, and the presence bits that are
 /// still to be read there.
 #[derive(Drop)]
-pub struct Scope<'input> {
+pub struct Scope {
     levels: u32,
-    presences: BitReader<'input>,
+    presences: Span,
 }
 
 /// What is left of an open list, and what waits outside: the levels that may be entered there.
@@ -248,7 +370,7 @@ pub struct ListScope {
 impl<'input> decoder::Decoder for Decoder<'input> {
     type Error = DecodeError;
 
-    type Scope = Scope<'input>;
+    type Scope = Scope;
 
     type List = ListScope;
 
@@ -273,7 +395,7 @@ impl<'input> decoder::Decoder for Decoder<'input> {
     }
 
     fn alloc(&self) -> Global {
-        self.reader.alloc()
+        self.alloc
     }
 
     fn out_of_memory(&mut self) -> DecodeError {
@@ -282,8 +404,10 @@ impl<'input> decoder::Decoder for Decoder<'input> {
 
     fn decode_bool(&mut self, _tag: Tag) -> Result<bool, DecodeError> {
         self.check_unfailed()?;
-        let taken = self.reader.take_bit();
-        self.answer(taken)
+        let mut reader = self.reader();
+        let taken = reader.take_bit();
+        let left = reader.bits().len();
+        self.answer(taken, left)
     }
 
     fn decode_integer<I: IntegerType>(
@@ -292,8 +416,10 @@ impl<'input> decoder::Decoder for Decoder<'input> {
         constraints: &Constraints,
     ) -> Result<I, DecodeError> {
         self.check_unfailed()?;
-        let taken = self.reader.take_integer(constraints);
-        self.answer(taken)
+        let mut reader = self.reader();
+        let taken = reader.take_integer(constraints);
+        let left = reader.bits().len();
+        self.answer(taken, left)
     }
 
     fn decode_real(&mut self, _tag: Tag, _constraints: &Constraints) -> Result<(), DecodeError> {
@@ -307,14 +433,18 @@ impl<'input> decoder::Decoder for Decoder<'input> {
 
     fn decode_enumerated<E: Enumerated>(&mut self, _tag: Tag) -> Result<E, DecodeError> {
         self.check_unfailed()?;
-        let taken = self.reader.take_enumerated();
-        self.answer(taken)
+        let mut reader = self.reader();
+        let taken = reader.take_enumerated();
+        let left = reader.bits().len();
+        self.answer(taken, left)
     }
 
     fn decode_any(&mut self, _tag: Tag) -> Result<Any, DecodeError> {
         self.check_unfailed()?;
-        let taken = self.reader.take_octets();
-        let octets = self.answer(taken)?;
+        let mut reader = self.reader();
+        let taken = reader.take_octets();
+        let left = reader.bits().len();
+        let octets = self.answer(taken, left)?;
         Ok(Any::new(octets))
     }
 
@@ -324,8 +454,10 @@ impl<'input> decoder::Decoder for Decoder<'input> {
         constraints: &Constraints,
     ) -> Result<CowSlice<'static, u8>, DecodeError> {
         self.check_unfailed()?;
-        let taken = self.reader.take_octet_string(constraints);
-        let octets = self.answer(taken)?;
+        let mut reader = self.reader();
+        let taken = reader.take_octet_string(constraints);
+        let left = reader.bits().len();
+        let octets = self.answer(taken, left)?;
         Ok(CowSlice::Owned(octets))
     }
 
@@ -335,8 +467,10 @@ impl<'input> decoder::Decoder for Decoder<'input> {
         constraints: &Constraints,
     ) -> Result<BitString, DecodeError> {
         self.check_unfailed()?;
-        let taken = self.reader.take_bit_string(constraints);
-        self.answer(taken)
+        let mut reader = self.reader();
+        let taken = reader.take_bit_string(constraints);
+        let left = reader.bits().len();
+        self.answer(taken, left)
     }
 
     fn decode_known_multiplier_string<S: StaticPermittedAlphabet>(
@@ -345,8 +479,10 @@ impl<'input> decoder::Decoder for Decoder<'input> {
         constraints: &Constraints,
     ) -> Result<S, DecodeError> {
         self.check_unfailed()?;
-        let taken = self.reader.take_characters(constraints);
-        self.answer(taken)
+        let mut reader = self.reader();
+        let taken = reader.take_characters(constraints);
+        let left = reader.bits().len();
+        self.answer(taken, left)
     }
 
     fn decode_utf8_string(
@@ -355,8 +491,10 @@ impl<'input> decoder::Decoder for Decoder<'input> {
         _constraints: &Constraints,
     ) -> Result<Utf8String, DecodeError> {
         self.check_unfailed()?;
-        let taken = self.reader.take_utf8();
-        self.answer(taken)
+        let mut reader = self.reader();
+        let taken = reader.take_utf8();
+        let left = reader.bits().len();
+        self.answer(taken, left)
     }
 
     fn decode_general_string(
@@ -365,8 +503,10 @@ impl<'input> decoder::Decoder for Decoder<'input> {
         _constraints: &Constraints,
     ) -> Result<GeneralString, DecodeError> {
         self.check_unfailed()?;
-        let taken = self.reader.take_octets();
-        let octets = self.answer(taken)?;
+        let mut reader = self.reader();
+        let taken = reader.take_octets();
+        let left = reader.bits().len();
+        let octets = self.answer(taken, left)?;
         Ok(GeneralString::new(octets))
     }
 
@@ -376,8 +516,10 @@ impl<'input> decoder::Decoder for Decoder<'input> {
         _constraints: &Constraints,
     ) -> Result<GraphicString, DecodeError> {
         self.check_unfailed()?;
-        let taken = self.reader.take_octets();
-        let octets = self.answer(taken)?;
+        let mut reader = self.reader();
+        let taken = reader.take_octets();
+        let left = reader.bits().len();
+        let octets = self.answer(taken, left)?;
         Ok(GraphicString::new(octets))
     }
 
@@ -387,23 +529,24 @@ impl<'input> decoder::Decoder for Decoder<'input> {
         _constraints: &Constraints,
     ) -> Result<TeletexString, DecodeError> {
         self.check_unfailed()?;
-        let taken = self.reader.take_octets();
-        let octets = self.answer(taken)?;
+        let mut reader = self.reader();
+        let taken = reader.take_octets();
+        let left = reader.bits().len();
+        let octets = self.answer(taken, left)?;
         Ok(TeletexString::new(octets))
     }
 
-    fn open_sequence<C: Constructed>(&mut self, _tag: Tag) -> Result<Scope<'input>, DecodeError> {
+    fn open_sequence<C: Constructed>(&mut self, _tag: Tag) -> Result<Scope, DecodeError> {
         self.check_unfailed()?;
         let levels = self.level_inside()?;
         let count = C::FIELDS.number_of_optional_and_default_fields();
-        let taken = self.reader.take_row(count as u128);
-        let presences = self.answer(taken)?;
+        let presences = self.take_presences(count as u128)?;
         Ok(self.enter(levels, presences))
     }
 
-    fn close_sequence(&mut self, scope: Scope<'input>) -> Result<(), DecodeError> {
+    fn close_sequence(&mut self, scope: Scope) -> Result<(), DecodeError> {
         self.check_unfailed()?;
-        if !self.presences.is_empty() {
+        if !self.presence_bits().is_empty() {
             return Err(self.refuse(DecodeErrorKind::MissingTag));
         }
         self.levels = scope.levels;
@@ -411,17 +554,19 @@ impl<'input> decoder::Decoder for Decoder<'input> {
         Ok(())
     }
 
-    fn open_choice<C: Choice>(&mut self) -> Result<(Tag, Scope<'input>), DecodeError> {
+    fn open_choice<C: Choice>(&mut self) -> Result<(Tag, Scope), DecodeError> {
         self.check_unfailed()?;
         let levels = self.level_inside()?;
         let variants = C::VARIANTS;
-        let taken = self.reader.take_choice_index(variants.len());
-        let index = self.answer(taken)?;
-        let scope = self.enter(levels, BitReader::from_octets(&[]));
+        let mut reader = self.reader();
+        let taken = reader.take_choice_index(variants.len());
+        let left = reader.bits().len();
+        let index = self.answer(taken, left)?;
+        let scope = self.enter(levels, Span { begin: 0, end: 0 });
         Ok((variants.tag_at(index), scope))
     }
 
-    fn close_choice(&mut self, scope: Scope<'input>) {
+    fn close_choice(&mut self, scope: Scope) {
         self.levels = scope.levels;
         self.presences = scope.presences;
     }
@@ -433,8 +578,10 @@ impl<'input> decoder::Decoder for Decoder<'input> {
     ) -> Result<ListScope, DecodeError> {
         self.check_unfailed()?;
         let levels = self.level_inside()?;
-        let taken = self.reader.open_list(constraints);
-        let list = self.answer(taken)?;
+        let mut reader = self.reader();
+        let taken = reader.open_list(constraints);
+        let left = reader.bits().len();
+        let list = self.answer(taken, left)?;
         let outside = mem::replace(&mut self.levels, levels);
         Ok(ListScope {
             list,
@@ -444,8 +591,10 @@ impl<'input> decoder::Decoder for Decoder<'input> {
 
     fn next_element(&mut self, scope: &mut ListScope) -> Result<bool, DecodeError> {
         self.check_unfailed()?;
-        let taken = self.reader.next_element(&mut scope.list);
-        let follows = self.answer(taken)?;
+        let mut reader = self.reader();
+        let taken = reader.next_element(&mut scope.list);
+        let left = reader.bits().len();
+        let follows = self.answer(taken, left)?;
         if !follows {
             self.levels = scope.levels;
         }
@@ -454,9 +603,12 @@ impl<'input> decoder::Decoder for Decoder<'input> {
 
     fn next_presence(&mut self) -> Result<bool, DecodeError> {
         self.check_unfailed()?;
-        match self.presences.take(1) {
-            Ok(bit) => Ok(bit.first_bits(1) == 1),
-            Err(_) => Err(self.refuse(DecodeErrorKind::MissingTag)),
+        match self.first_presence() {
+            Some(bit) => {
+                self.presences = self.presences.behind(1);
+                Ok(bit)
+            }
+            None => Err(self.refuse(DecodeErrorKind::MissingTag)),
         }
     }
 

@@ -48,10 +48,7 @@ pub fn refusal(kind: DecodeErrorKind) -> DecodeError {
 }
 
 /// Opens so many records, and answers the innermost of them.
-pub fn open_many<'input>(
-    decoder: &mut Decoder<'input>,
-    count: u32,
-) -> Result<Option<Scope<'input>>, DecodeError> {
+pub fn open_many(decoder: &mut Decoder<'_>, count: u32) -> Result<Option<Scope>, DecodeError> {
     let mut innermost = None;
     for _ in 0..count {
         innermost = Some(decoder.open_sequence::<Pair>(Pair::TAG)?);

@@ -1,8 +1,8 @@
 -- How lists are opened: what stands in front of their first item (X.691 20).
-use Rattle.std.proofs.Common.{◌≡◌, inl, inr, ℕ, ◌^◌, ◌&&◌, ltb, Bool, true, false, List, [], ◌∷◌, ◌++◌, length, Option, Some, None, refl, sym, ◌∙◌, subst}
+use Rattle.std.proofs.Common.{◌≡◌, inl, inr, ℕ, ◌^◌, ◌&&◌, ltb, Bool, true, false, List, [], ◌∷◌, ◌++◌, length, Option, Some, None, refl, sym, ◌∙◌, ap, subst, append_assoc}
 use Rattle.std.proofs.lemmas.Bool.{lt-ltb, le-ltb}
 use Rattle.std.proofs.lemmas.Result.{IfOk-weaker, IfErr-weaker}
-use Rattle.std.specs.Prelude.{Result}
+use Rattle.std.specs.Prelude.{Result, Ok, Err, OnOk}
 use Rattle.rasn_types.specs.Bits.{Bits}
 use Rattle.rasn_constraints.specs.Bounds.{any_size, Size}
 use Rattle.rasn_constraints.specs.Constraints.{start_of, end_of, size_between}
@@ -14,7 +14,7 @@ use Rattle.per_core.specs.Spellings.{Settings, Spelling, never}
 use Rattle.per_core.specs.Took.{Took}
 use Rattle.per_core.proofs.Took.{took_then, then_took, took_map, took_agree, took_nothing, nothing_took}
 use Rattle.per_read.specs.Kinds.{NoneIn}
-use Rattle.per_read.specs.Lists.{AmidItems, ListRule, OpensList, Rest, RestUpTo, list_form, list_rule}
+use Rattle.per_read.specs.Lists.{AmidItems, Leaves, ListRule, OpensList, Rest, RestUpTo, list_form, list_rule}
 use Rattle.per_read.specs.Sizes.{Between, CountFrom, under_size}
 use Rattle.per_read.specs.State.{State, settings_of}
 use Rattle.per_read.specs.UpTo.{UpToBetween, UpToSized, UpToUnconstrained}
@@ -156,13 +156,22 @@ module _ {X : Type 0} (a : Settings) (item : X → Spelling) where
       pub none_outside : s ≡ true ∷ m → NoneIn (list_form (rule any_size false)) m → NoneIn (list_form (rule size true)) s
       none_outside e none xs t c = none xs t (past_mark inside outside e xs t c)
 
+-- bits that are left where some, or none, were taken
+pub leaves_all : (s : Bits) → Leaves s s
+leaves_all s = record { front = []; joins = refl }
+
+pub leaves_behind : {T E : Type 0} {s m : Bits} (t : Bits) (r : Result T E) → Leaves s m → OnOk r (Leaves m t) → OnOk r (Leaves s t)
+leaves_behind t (Ok v) a b = record { front = a.front ++ b.front; joins = a.joins ∙ ap (λ z. a.front ++ z) b.joins ∙ sym (append_assoc a.front b.front t) }
+leaves_behind t (Err e) a b = tt
+
 -- what a call opens behind others that took the bit
-pub opens_behind : {size other : Size} {mark marked : Bool} {x m y : State} {r : Result OpenList DecodeErrorKind} → OpensList other marked m r y → m.options ≡ x.options
+pub opens_behind : {size other : Size} {mark marked : Bool} {x m y : State} {r : Result OpenList DecodeErrorKind} → OpensList other marked m r y → m.options ≡ x.options → Leaves x.bits m.bits
     → ((l : OpenList) (e : Schema) → AmidItems (list_rule (settings_of x) other marked e) m.bits [] l y.bits → AmidItems (list_rule (settings_of x) size mark e) x.bits [] l y.bits)
     → ((e : Schema) → NoneIn (list_form (list_rule (settings_of x) other marked e)) m.bits → NoneIn (list_form (list_rule (settings_of x) size mark e)) x.bits)
     → OpensList size mark x r y
-opens_behind {r = r} h same f g = record {
+opens_behind {y = y} {r = r} h same leaves f g = record {
   ok = IfOk-weaker r _ _ (λ l amid e. f l e (rw (sym same) (amid e))) h.ok;
   err = IfErr-weaker r _ _ (λ k none. (none.0, λ e. g e (rw (sym same) (none.1 e)))) h.err;
+  leaves = leaves_behind y.bits r leaves h.leaves;
   kept = h.kept ∙ same;
 }

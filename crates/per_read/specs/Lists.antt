@@ -80,6 +80,11 @@ NextRead f start before (Ok true) l here = AwaitsItem f start before l here
 NextRead f start before (Ok false) l here = Took (list_form f before) start here
 NextRead f start before (Err k) l here = RefusesList f start k
 
+-- Bits that are left are the last of those before.
+pub record Leaves (s t : Bits) : Type 0 where
+  pub front : Bits
+  pub joins : s ≡ front ++ t
+
 -- how many items may still be read, since no list has more than can be counted
 abbrev pub most : OpenList → ℕ
 most l = 2 ^ 64 - l.count
@@ -88,6 +93,7 @@ most l = 2 ^ 64 - l.count
 pub record OpensList (size : Size) (mark : Bool) (x : State) (result : Result OpenList DecodeErrorKind) (y : State) : Type 0 where
   pub ok : IfOk result (λ l. (e : Schema) → AmidItems (list_rule (settings_of x) size mark e) x.bits [] l y.bits)
   pub err : IfErr result (Refused ((e : Schema) → NoneIn (list_form (list_rule (settings_of x) size mark e)) x.bits))
+  pub leaves : OnOk result (Leaves x.bits y.bits)
   pub kept : y.options ≡ x.options
 
 -- A call that takes the length of the next fragment of an open list, where one begins here. The list stays open, and where no item is left, it has ended.
@@ -96,6 +102,7 @@ pub record BeginsFragment (l : OpenList) (x : State) (result : Result (Unit {0})
       → (let f = list_rule (settings_of x) size mark e in AmidItems f start before l x.bits → MatchResult result (λ u. AmidItems f start before m y.bits) (RefusesList f start))
   pub ended : OnOk result (m.left ≡ 0 → m.more ≡ false)
   pub count : m.count ≡ l.count
+  pub leaves : OnOk result (Leaves x.bits y.bits)
   pub kept : y.options ≡ x.options
 
 -- A call before each element of an open list, and behind the last. Each leaves fewer elements that may be read.
@@ -103,4 +110,5 @@ pub record ReadsNext (l : OpenList) (x : State) (result : Result Bool DecodeErro
   pub law : (size : Size) (mark : Bool) (e : Schema) (start : Bits) (before : List Value)
       → (let f = list_rule (settings_of x) size mark e in AmidItems f start before l x.bits → NextRead f start before result m y.bits)
   pub fewer : IfOk result (λ another. another ≡ true → most m < most l)
+  pub leaves : OnOk result (Leaves x.bits y.bits)
   pub kept : y.options ≡ x.options

@@ -1,7 +1,7 @@
-use Rattle.std.proofs.Common.{inr}
+use Rattle.std.proofs.Common.{true, false, inr}
 use Rattle.per_read.proofs.Calls.{begins, ended, of_short, passes_on, takes_last}
 use Rattle.per_read.specs.State.{settings_of}
-use Rattle.per_additions.proofs.Maps.{large_gathers, large_took, no_bitmap, no_large, no_small, small_took}
+use Rattle.per_additions.proofs.Maps.{flags_behind, large_gathers, large_took, no_bitmap, no_large, no_small, small_took}
 use Rattle.per_additions.proofs.bitmaps.take_bitmap.Goals as goal
 
 pub returns-in_err-take_bit : goal.returns-in_err-take_bit
@@ -14,7 +14,7 @@ returns-then-branch c =
     let a = settings_of c.args.reader.now in
     let bit = c.in_ok-take_bit.ensures in
     let e = begins bit.ok c.if-branch.true in
-    takes_last c.take_large_bitmap.ensures bit.kept (λ v t. large_took a e v _ (rw bit.kept at t))
+    takes_last c.take_large_bitmap.ensures bit.kept (λ v t. record { flags = t.flags; are = flags_behind true v t.flags _ e t.are; held = large_took a e t.flags _ (rw bit.kept at t.held) })
     (λ k h. large_gathers a e k (no_large a e) (rw bit.kept at h))
 
 pub returns-else-branch : goal.returns-else-branch
@@ -22,5 +22,5 @@ returns-else-branch c =
     let a = settings_of c.args.reader.now in
     let bit = c.in_ok-take_bit.ensures in
     let e = begins bit.ok c.if-branch.false in
-    takes_last c.take_small_bitmap.ensures bit.kept (λ v t. small_took a e v _ t)
+    takes_last c.take_small_bitmap.ensures bit.kept (λ v t. record { flags = t.flags; are = flags_behind false v t.flags _ e t.are; held = small_took a e t.flags _ t.held })
     (λ k h. inr (of_short k h.0, no_small a e h.1))

@@ -1,8 +1,8 @@
-use Rattle.std.proofs.Common.{ap, ◌∙◌}
+use Rattle.std.proofs.Common.{ap, ◌∙◌, length}
 use Rattle.per_de.proofs.Calls.{reads}
 use Rattle.per_de.proofs.StringCalls.{reads_characters, faulty_characters}
 use Rattle.per_de.proofs.DecoderDecoder.decode_known_multiplier_string.Goals as goal
 
 pub returns : goal.returns
 returns g c =
-    rw (← c.self.view_is) (reads _ _ (ap (λ z. z.failed) c.self.view_is ∙ c.in_ok-check_unfailed.ensures.ok) (λ v. reads_characters _ _ _ _ _) c.take_characters-taken.ensures c.answer.ensures (λ k. faulty_characters _ _ _ _ _ k))
+    reads c.args.self.now _ _ c.in_ok-check_unfailed.ensures.ok (λ v. reads_characters _ _ _ _ _) c.reader-reader.ensures c.take_characters-taken.ensures (c.len-left.ensures ∙ ap length c.bits.ensures) c.answer.ensures (λ k. faulty_characters _ _ _ _ _ k)

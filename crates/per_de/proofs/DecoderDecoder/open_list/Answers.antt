@@ -1,7 +1,8 @@
-use Rattle.std.proofs.Common.{refl, rules, ap, ◌∙◌}
+use Rattle.std.proofs.Common.{refl, rules, ap, ◌∙◌, length}
 use Rattle.std.proofs.lemmas.Result.{err_from_is_err_and}
 use Rattle.rasn_schema.specs.Forms.{is_size_marked, size_of}
 use Rattle.rasn_schema.specs.Lists.{list_at}
+use Rattle.per_de.specs.State.{reader_of}
 use Rattle.per_de.proofs.Calls.{too_deep}
 use Rattle.per_de.proofs.Listing.{list_begun, no_list_begun}
 use Rattle.per_de.proofs.DecoderDecoder.open_list.Goals as goal
@@ -17,18 +18,17 @@ returns-in_err-list c =
     let p = err_from_is_err_and c.from_residual-in_err-list.result c.from_residual-in_err-list.ensures.1 in
     let o = c.in_ok-levels.ensures in
     record {
-      law = rw (p.1, p.2, ← (c.self.view_is ∙ o.1)) (no_list_begun (size_of c.args.constraints.now) (is_size_marked c.args.constraints.now) c.self.inside.reader c.open_list-taken.new.self c.self.inside.failed c.self.inside.levels c.in_ok-levels.levels c.self.inside.presences
-          c.open_list-taken.result (ap (λ z. z.levels) (c.self.view_is ∙ o.1) ∙ o.0) c.open_list-taken.ensures _ c.answer.new.self c.answer.new.self c.in_err-list.ensures);
+      law = rw (p.1, p.2) (no_list_begun (size_of c.args.constraints.now) (is_size_marked c.args.constraints.now) c.args.self.now c.reader-reader.result c.open_list-taken.new.self c.len-left.result c.in_ok-levels.levels
+          c.open_list-taken.result o.0 (c.reader-reader.ensures ∙ ap reader_of o.1) c.open_list-taken.ensures _ c.answer.new.self c.answer.new.self (rw o.1 at c.in_err-list.ensures));
       behaves = search rules;
     }
 
 pub returns : goal.returns
 returns c =
     let o = c.in_ok-levels.ensures in
-    let same = c.self.view_is ∙ o.1 in
     record {
-      law = rw (← same) (list_begun (size_of c.args.constraints.now) (is_size_marked c.args.constraints.now) c.self.inside.reader c.open_list-taken.new.self c.self.inside.failed c.self.inside.levels c.in_ok-levels.levels c.self.inside.presences
-          c.open_list-taken.result (ap (λ z. z.levels) same ∙ o.0) c.open_list-taken.ensures (record { list = c.in_ok-list.list; levels = c.replace-outside.result }) c.answer.new.self _ (ap (λ z. z.failed) same ∙ c.in_ok-check_unfailed.ensures.ok) c.in_ok-list.ensures
-          (c.replace-outside.ensures.value ∙ ap (λ z. z.levels) c.self-2.view_is) (search rules));
+      law = list_begun (size_of c.args.constraints.now) (is_size_marked c.args.constraints.now) c.args.self.now c.reader-reader.result c.open_list-taken.new.self c.len-left.result c.in_ok-levels.levels
+          c.open_list-taken.result o.0 (c.reader-reader.ensures ∙ ap reader_of o.1) c.open_list-taken.ensures (record { list = c.in_ok-list.list; levels = c.replace-outside.result }) c.answer.new.self _ c.in_ok-check_unfailed.ensures.ok
+          (c.len-left.ensures ∙ ap length c.bits.ensures) (rw o.1 at c.in_ok-list.ensures) (c.replace-outside.ensures.value ∙ ap (λ z. z.levels) c.self.view_is) (search rules);
       behaves = search rules;
     }

@@ -22,10 +22,8 @@ returns-in_err-presences g c =
     let count : (n : ℕ) → c.number_of_optional_and_default_fields-count.result ≡ presence_bits (g.C.Constructed.parts n) =
     λ n. c.number_of_optional_and_default_fields-count.ensures ∙ ap (count_by may_be_absent) (c.FIELDS.ensures ∙ g.C.Constructed.described n) ∙ bits_counted 0 (g.C.Constructed.parts n) in
     let o = c.in_ok-levels.ensures in
-    let same = c.self.view_is ∙ o.1 in
     record {
-      law = rw (p.1, p.2, ← same) (no_row g.C.Constructed.parts c.number_of_optional_and_default_fields-count.result c.self.inside.reader c.take_row-taken.new.self c.self.inside.failed c.self.inside.levels c.in_ok-levels.levels c.self.inside.presences
-          c.take_row-taken.result _ _ (ap (λ z. z.levels) same ∙ o.0) (count c.in_ok-levels.levels) c.take_row-taken.ensures c.in_err-presences.ensures);
+      law = rw (p.1, p.2) (no_row g.C.Constructed.parts c.number_of_optional_and_default_fields-count.result c.args.self.now c.in_ok-levels.levels _ _ o.0 (count c.in_ok-levels.levels) (rw o.1 at c.in_err-presences.ensures));
       behaves = search rules;
     }
 
@@ -34,13 +32,10 @@ returns g c =
     let count : (n : ℕ) → c.number_of_optional_and_default_fields-count.result ≡ presence_bits (g.C.Constructed.parts n) =
     λ n. c.number_of_optional_and_default_fields-count.ensures ∙ ap (count_by may_be_absent) (c.FIELDS.ensures ∙ g.C.Constructed.described n) ∙ bits_counted 0 (g.C.Constructed.parts n) in
     let o = c.in_ok-levels.ensures in
-    let same = c.self.view_is ∙ o.1 in
-    let deeper : c.self.inside.levels ≡ suc c.in_ok-levels.levels = ap (λ z. z.levels) same ∙ o.0 in
     record {
-      law = rw (← same) (
-        deeper ∙ sym (ap (λ z. suc z.levels) c.enter.ensures.same),
-        opens_row _ c.number_of_optional_and_default_fields-count.result c.self.inside.reader c.take_row-taken.new.self c.self.inside.failed c.self.inside.levels c.in_ok-levels.levels c.self.inside.presences c.in_ok-presences.presences
-            c.take_row-taken.result _ _ _ (ap (λ z. z.failed) same ∙ c.in_ok-check_unfailed.ensures.ok) deeper (count _) c.take_row-taken.ensures c.in_ok-presences.ensures c.enter.ensures,
+      law = (
+        o.0 ∙ sym (ap (λ z. suc z.levels) c.enter.ensures.same),
+        opens_row _ c.number_of_optional_and_default_fields-count.result c.args.self.now c.in_ok-levels.levels c.in_ok-presences.presences _ _ _ c.in_ok-check_unfailed.ensures.ok o.0 (count _) (rw o.1 at c.in_ok-presences.ensures) c.enter.ensures,
       );
       behaves = search rules;
     }

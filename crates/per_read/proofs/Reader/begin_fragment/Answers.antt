@@ -22,6 +22,7 @@ returns-in_err-length c =
       };
       ended = tt;
       count = refl;
+      leaves = tt;
       kept = h.kept;
     })
 
@@ -34,5 +35,6 @@ returns c =
           (amid_fragment (list_rule (settings_of c.args.self.now) size mark e) c.in_ok-length.length (omega (arith, c.if-list-gt0.false)) c.if-not-list.false h.ok amid);
       ended = λ none. c.is_followed-list.ensures ∙ empty_length c.in_ok-length.length h.ok (sym c.count.ensures ∙ none);
       count = refl;
+      leaves = record { front = h.ok.front; joins = h.ok.joins };
       kept = h.kept;
     }

@@ -9,7 +9,7 @@ use Rattle.per_read.proofs.Reader.next_element.Goals as goal
 pub returns-in_err-begin_fragment : goal.returns-in_err-begin_fragment
 returns-in_err-begin_fragment c =
     let h = c.in_err-begin_fragment.ensures in
-    rw (errs _ _ c.from_residual.ensures.1) (record { law = λ size mark e start before amid. h.law size mark e start before amid; fewer = tt; kept = h.kept })
+    rw (errs _ _ c.from_residual.ensures.1) (record { law = λ size mark e start before amid. h.law size mark e start before amid; fewer = tt; leaves = tt; kept = h.kept })
 
 pub returns-in_err-check_size : goal.returns-in_err-check_size
 returns-in_err-check_size c =
@@ -22,6 +22,7 @@ returns-in_err-check_size c =
       law = λ size mark e start before amid.
           list_miscounted (list_rule a size mark e) none (h.ended none) (h.law size mark e start before amid) few k.not;
       fewer = tt;
+      leaves = tt;
       kept = h.kept;
     })
 
@@ -33,6 +34,7 @@ returns-in_default c =
       law = λ size mark e start before amid.
           list_ends (list_rule (settings_of c.args.self.now) size mark e) none (h.ended none) (h.law size mark e start before amid) c.in_ok-check_size.ensures.ok;
       fewer = λ e. absurd (cc);
+      leaves = h.leaves;
       kept = h.kept;
     }
 
@@ -48,6 +50,7 @@ returns-in_default-checked_add c =
         none = none_uncounted (list_rule a size mark e) c.in-Some.left some many (h.law size mark e start before amid);
       };
       fewer = tt;
+      leaves = tt;
       kept = h.kept;
     }
 
@@ -60,5 +63,6 @@ returns c =
     record {
       law = λ size mark e start before amid. rw counted (amid_item (list_rule a size mark e) c.in-Some.left some (λ v w. one_reading a e v w) (h.law size mark e start before amid));
       fewer = λ e. omega (arith, h.count, c.in-Some-checked_add.ensures);
+      leaves = h.leaves;
       kept = h.kept;
     }

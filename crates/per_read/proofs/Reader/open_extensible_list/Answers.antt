@@ -14,7 +14,7 @@ returns-in_err-take_bit c =
     let h = c.in_err-take_bit.ensures in
     let a = settings_of c.args.self.now in
     rw (not-false c.args.size.extensible c.if-not-size.false, errs _ _ c.from_residual.ensures.1)
-    (record { ok = tt; err = (of_short _ h.err.0, λ e. none_marked a (basic a e) (size_between c.args.size.constraint) (ended h.err.1)); kept = h.kept })
+    (record { ok = tt; err = (of_short _ h.err.0, λ e. none_marked a (basic a e) (size_between c.args.size.constraint) (ended h.err.1)); leaves = tt; kept = h.kept })
 
 pub returns-then-branch : goal.returns-then-branch
 returns-then-branch c =
@@ -23,7 +23,7 @@ returns-then-branch c =
     let bit = c.in_ok-take_bit.ensures in
     let i = begins bit.ok c.if-branch.true in
     rw (not-false c.args.size.extensible c.if-not-size.false)
-    (opens_behind c.open_sized_list-then-branch.ensures bit.kept (λ l e h. amid_outside a (basic a e) size i h) (λ e none. none_outside a (basic a e) size i none))
+    (opens_behind c.open_sized_list-then-branch.ensures bit.kept (record { front = bit.ok.front; joins = bit.ok.joins }) (λ l e h. amid_outside a (basic a e) size i h) (λ e none. none_outside a (basic a e) size i none))
 
 pub returns : goal.returns
 returns c =
@@ -32,4 +32,4 @@ returns c =
     let bit = c.in_ok-take_bit.ensures in
     let i = begins bit.ok c.if-branch.false in
     rw (not-false c.args.size.extensible c.if-not-size.false)
-    (opens_behind c.open_sized_list-2.ensures bit.kept (λ l e h. amid_inside a (basic a e) size i h) (λ e none. none_inside a (basic a e) size i none))
+    (opens_behind c.open_sized_list-2.ensures bit.kept (record { front = bit.ok.front; joins = bit.ok.joins }) (λ l e h. amid_inside a (basic a e) size i h) (λ e none. none_inside a (basic a e) size i none))

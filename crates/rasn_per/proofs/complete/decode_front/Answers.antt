@@ -21,8 +21,8 @@ returns-in-Ok g c =
     (begun_basically c.args.options _ _ _ c.from_reader-decoder.ensures c.requires.levels c.requires.padding c.from_octets.ensures) _ _ _ _ (c.len.ensures ∙ ap length c.input.ensures)
     c.in_ok-value.ensures.law c.in-Ok.ensures.ok
 
-pub returns-in-Err : goal.returns-in-Err
-returns-in-Err g c =
+pub returns : goal.returns
+returns g c =
     none_behind c.args.options.codec (g.T.AsnType.schema g.T.AsnType.CONSTRAINTS) g.T.AsnType.value c.args.octets.now _
     (begun_basically c.args.options _ _ _ c.from_reader-decoder.ensures c.requires.levels c.requires.padding c.from_octets.ensures) c.in-Err.why _ _ _ _ _ (c.len.ensures ∙ ap length c.input.ensures)
     c.refusal.ensures c.codec.ensures c.in_ok-value.ensures.law c.in-Err.ensures.none c.in-Err.ensures.why

@@ -21,8 +21,8 @@ returns-in-Ok g c =
     (begun c.args.options _ _ _ c.from_reader-decoder.ensures c.requires c.from_octets-bits.ensures) _ _ _ (are_octets _ c.type_inv.octets) c.in_ok-value.ensures.law
     (record { left = c.input.result; total = c.len-total.result; ends = subst (λ z. Ends z c.input.result c.len-total.result) c.needs_zero_padding.ensures c.in-Ok.ensures.ok; left_is = c.input.ensures; total_is = c.len-total.ensures; all = c.from_octets-bits.ensures })
 
-pub returns-in-Err : goal.returns-in-Err
-returns-in-Err g c =
+pub returns : goal.returns
+returns g c =
     surplus c.args.options.codec c.args.options.zero_padding (g.T.AsnType.schema c.args.constraints.now) g.T.AsnType.value c.args.octets.now _
     (begun c.args.options _ _ _ c.from_reader-decoder.ensures c.requires c.from_octets-bits.ensures) c.in-Err.surplus _ _ _ _ _ c.refusal.ensures c.codec.ensures c.in_ok-value.ensures.law
     (record { left = c.input.result; total = c.len-total.result; ends = subst (λ z. Ends z c.input.result c.len-total.result → ⊥) c.needs_zero_padding.ensures c.in-Err.ensures.none; left_is = c.input.ensures; total_is = c.len-total.ensures; all = c.from_octets-bits.ensures })

@@ -1,0 +1,63 @@
+-- The bits that a span means, and those that are left of them.
+use Rattle.std.proofs.Common.{◌≡◌, ◌≤◌, sym, ◌∙◌, ap, ap₂, ℕ, ◌+◌, ◌-◌, Bool, [], ◌∷◌, ◌++◌, length, take, drop, Some, slice_get, arith, length-append, length-take, length-drop, take-take, take_at, drop_at, drop-drop, take-append-drop}
+use Rattle.std.specs.Prelude.{min}
+use Rattle.std.proofs.lemmas.List.{take_min, drop_min, drop-take}
+use Rattle.rasn_types.specs.Bits.{Bits}
+use Rattle.per_de.specs.Sources.{span_of, IsWithin}
+use Rattle.per_de.specs.State.{State, with_bits, with_last}
+use Rattle.per_de.specs.declared.Span.{Span}
+
+-- what was taken behind what is in front of it
+pub part : (span : Span) (source skipped rest these others : Bits) → source ≡ skipped ++ rest → length skipped ≡ min span.begin (length source)
+    → rest ≡ these ++ others → length these ≡ min (span.end - span.begin) (length rest) → these ≡ span_of span source
+part span source skipped rest these others e l g k =
+    let d : drop span.begin source ≡ rest = sym (drop_min span.begin source) ∙ ap (λ z. drop (min span.begin (length source)) z) e ∙ drop_at skipped rest (min span.begin (length source)) l in
+    let t : take (span.end - span.begin) rest ≡ these = sym (take_min (span.end - span.begin) rest) ∙ ap (λ z. take (min (span.end - span.begin) (length rest)) z) g ∙ take_at these others (min (span.end - span.begin) (length rest)) k in
+    sym (ap (λ z. take (span.end - span.begin) z) d ∙ t)
+
+pub span_length : (span : Span) (source : Bits) → IsWithin span source → length (span_of span source) ≡ span.end - span.begin
+span_length span source h = length-take (span.end - span.begin) (drop span.begin source) ∙ omega (arith, length-drop span.begin source, h.ordered, h.enough)
+
+-- behind the first of them
+pub behind : (span : Span) (source : Bits) (n : ℕ) → n ≤ span.end - span.begin → drop n (span_of span source) ≡ span_of (record { begin = span.begin + n; end = span.end }) source
+behind span source n h =
+    let e : span.end - span.begin ≡ n + (span.end - (span.begin + n)) = omega arith in
+    ap (λ (k : ℕ). drop n (take k (drop span.begin source))) e ∙ drop-take n (span.end - (span.begin + n)) (drop span.begin source) ∙ ap (λ z. take (span.end - (span.begin + n)) z) (drop-drop n span.begin source)
+
+-- the first of them, and those behind
+pub first_of : (span : Span) (source : Bits) (n : ℕ) → n ≤ span.end - span.begin
+    → span_of span source ≡ span_of (record { begin = span.begin; end = span.begin + n }) source ++ span_of (record { begin = span.begin + n; end = span.end }) source
+first_of span source n h =
+    let e : n ≡ span.begin + n - span.begin = omega arith in
+    let first : take n (span_of span source) ≡ span_of (record { begin = span.begin; end = span.begin + n }) source = take-take n (span.end - span.begin) (drop span.begin source) h ∙ ap (λ (k : ℕ). take k (drop span.begin source)) e in
+    sym (take-append-drop n (span_of span source)) ∙ ap₂ (λ bs cs. bs ++ cs) first (behind span source n h)
+
+-- a bit, and those behind it
+pub first_bit : (bits : Bits) (b : Bool) → slice_get bits 0 ≡ Some b → bits ≡ b ∷ drop 1 bits
+first_bit [] b e = absurd cc
+first_bit (c ∷ bits) b e = let i : c ≡ b = cc in ap (λ z. z ∷ bits) i
+
+pub one_more : (span : Span) (source : Bits) (b : Bool) → slice_get (span_of span source) 0 ≡ Some b → 1 ≤ span.end - span.begin
+one_more span source b e =
+    let l : length (span_of span source) ≡ length (b ∷ drop 1 (span_of span source)) = ap length (first_bit (span_of span source) b e) in
+    omega (arith, l, length-take (span.end - span.begin) (drop span.begin source))
+
+-- the last bits, of which so many are left
+pub last_of : (front rest bits : Bits) (left : ℕ) → bits ≡ front ++ rest → left ≡ length rest → drop (length bits - left) bits ≡ rest
+last_of front rest bits left e l =
+    let n : length front ≡ length bits - left = omega (arith, l, ap length e, length-append front rest) in
+    ap (λ z. drop (length bits - left) z) e ∙ drop_at front rest (length bits - left) n
+
+pub with_rest : (s : State) (front rest : Bits) (left : ℕ) → s.bits ≡ front ++ rest → left ≡ length rest → with_last s left ≡ with_bits s rest
+with_rest s front rest left e l = ap (λ z. with_bits s z) (last_of front rest s.bits left e l)
+
+pub row_length : (span : Span) (source : Bits) (n : ℕ) → IsWithin span source → n ≤ span.end - span.begin → length (span_of (record { begin = span.begin; end = span.begin + n }) source) ≡ n
+row_length span source n h l = length-take (span.begin + n - span.begin) (drop span.begin source) ∙ omega (arith, length-drop span.begin source, h.ordered, h.enough)
+
+-- the bits left behind n of them
+pub advanced : (span : Span) (source : Bits) (left n : ℕ) → IsWithin span source → n ≡ span.end - span.begin - left
+    → span_of (record { begin = span.begin + n; end = span.end }) source ≡ drop (length (span_of span source) - left) (span_of span source)
+advanced span source left n h e =
+    let l : n ≤ span.end - span.begin = omega arith in
+    let k : n ≡ length (span_of span source) - left = omega (arith, span_length span source h) in
+    sym (behind span source n l) ∙ ap (λ (m : ℕ). drop m (span_of span source)) k

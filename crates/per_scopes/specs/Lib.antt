@@ -1,0 +1,10 @@
+pub mod AdditionLaws
+pub mod Additions
+pub mod Faults
+pub mod Laws
+pub mod Records
+pub mod Rules
+pub mod ScopeLaws
+pub mod Scopes
+pub mod State
+pub mod Tails

@@ -1,0 +1,83 @@
+-- What a decoder holds, and what its calls read.
+use Rattle.std.specs.Prelude.{◌≡◌, ℕ, Bool, true, false, List, [], ◌∷◌}
+use Rattle.rasn_types.specs.Bits.{Bits}
+use Rattle.rasn_types.specs.Values.{Value}
+use Rattle.rasn_types.specs.declared.types.Codec.{Codec}
+use Rattle.rasn_schema.specs.Schemas.{Schema}
+use Rattle.per_core.specs.Spellings.{Settings}
+use Rattle.per_core.specs.Basic.{basic}
+use Rattle.per_core.specs.Took.{Took}
+use Rattle.per_read.specs.Options.{settings}
+use Rattle.per_read.specs.declared.ReaderOptions.{ReaderOptions}
+
+-- What a decoder is told: the codec, how many levels of values it may enter, and whether padding must be zero.
+pub record Options : Type 0 where
+  pub codec : Codec
+  pub levels : ℕ
+  pub zero_padding : Bool
+
+-- What is still to be read of the bitmap of an open record's additions (X.691 19.7 to 19.9): all of it, which stands
+-- behind the root components; or the presence bits that are left. There are none without an extension marker, nor behind
+-- an extension bit 0.
+pub data Extension : Type 0 where
+  ahead : Extension
+  shown : List Bool → Extension
+
+-- X.691 19.1: what an extension bit says of the bitmap
+abbrev pub extension_of : Bool → Extension
+extension_of true = ahead
+extension_of false = shown []
+
+-- What a decoder holds: the bits that are left, whether a call has refused, how many levels it may still enter, the
+-- codec in use, whether padding must be zero, and of the open record the presence bits of the root components that are
+-- still to be read, the bitmap of its additions, and how many additions of its type are still to be asked for. `source`
+-- is the bits in which those that are left stand: those of the input, or of an open type in fragments. The position in an
+-- octet follows from the number of bits that are left (`place`).
+pub record State : Type 0 where
+  pub bits : Bits
+  pub failed : Bool
+  pub levels : ℕ
+  pub codec : Codec
+  pub zero_padding : Bool
+  pub presences : Bits
+  pub source : Bits
+  pub extension : Extension
+  pub expected : ℕ
+
+-- what has read nothing
+abbrev pub fresh : Bits → Options → State
+fresh bits options = record {
+  bits = bits;
+  failed = false;
+  levels = options.levels;
+  codec = options.codec;
+  zero_padding = options.zero_padding;
+  presences = [];
+  source = bits;
+  extension = shown [];
+  expected = 0;
+}
+
+-- how it reads
+abbrev pub options_of : State → ReaderOptions
+options_of s = record { codec = s.codec; zero_padding = s.zero_padding }
+
+-- the settings in use
+abbrev pub settings_of : State → Settings
+settings_of s = settings (options_of s)
+
+-- the same with other bits left
+abbrev pub with_bits : State → Bits → State
+with_bits s b = record s { bits = b }
+
+-- A front of the bits that are left spells a value, and the bits behind it are left.
+pub record Spells (c : Schema) (s : State) (v : Value) (t : State) : Type 0 where
+  pub live : s.failed ≡ false
+  pub took : Took (basic (settings_of s) c v) s.bits t.bits
+  pub same : t ≡ with_bits s t.bits
+
+-- The next presence bit of the root components of the open record.
+pub record Marks (s : State) (b : Bool) (t : State) : Type 0 where
+  pub live : s.failed ≡ false
+  pub first : s.presences ≡ b ∷ t.presences
+  pub same : t ≡ record s { presences = t.presences }

@@ -1,0 +1,38 @@
+//! The laws by which a decoder reads records and their additions (X.691 11.2, 19): each is the contract of a function
+//! that does nothing.
+
+ghost use Rattle.std.specs.Prelude.{◌≡◌, ◌↔◌, ℕ, suc, Bool};
+ghost use Rattle.rasn_types.specs.Values.{Value};
+ghost use Rattle.rasn_schema.specs.Schemas.{Parts, Schema};
+ghost use Rattle.rasn_calls.specs.Additions.{extended};
+ghost use Rattle.per_scopes.specs.Additions.{AddsValue, InOpen, OpensAddition, Waiting};
+ghost use Rattle.per_scopes.specs.Scopes.{InScope, Opens, Outside};
+ghost use Rattle.per_scopes.specs.State.{Spells, State};
+
+/// Where a record was opened, a value of its schema is read exactly where its root components and its additions are
+/// read in turn and the record is closed behind them (X.691 19).
+pub fn record_is_what_stands_in_its_scope()
+    ensures { (ps qs : Parts) (marker : Bool) (s i t : State) (w : Outside) (v : Value)
+        → Opens (extended ps marker qs) s w i
+        → Spells (extended ps marker qs) s v t ↔ InScope ps qs i w v t }
+{}
+
+/// Where a level is left, each record that stands at the front can be opened (X.691 19.1, 19.2).
+pub fn record_can_be_opened()
+    ensures { (ps qs : Parts) (marker : Bool) (s t : State) (v : Value) (n : ℕ) → s.levels ≡ suc n
+        → Spells (extended ps marker qs) s v t
+        → (w : Outside) × (i : State) × Opens (extended ps marker qs) s w i }
+{}
+
+/// Where the open type of an addition was opened, the addition is a value exactly where the value is read of the
+/// contents and they end behind it (X.691 11.2, 19.9).
+pub fn addition_is_what_stands_in_its_open_type()
+    ensures { (c : Schema) (s i t : State) (w : Waiting) (v : Value) → OpensAddition s w i
+        → AddsValue c s v t ↔ InOpen c i w v t }
+{}
+
+/// Each addition that is there can be opened (X.691 19.9).
+pub fn addition_can_be_opened()
+    ensures { (c : Schema) (s t : State) (v : Value) → AddsValue c s v t
+        → (w : Waiting) × (i : State) × OpensAddition s w i }
+{}
