@@ -10,8 +10,8 @@ use Rattle.rasn_calls.specs.Scopes.{ReadsPart, reads_required, reads_there, read
 use Rattle.per_core.specs.Basic.{basic, fills, front}
 use Rattle.per_core.specs.Spellings.{Settings}
 use Rattle.per_core.specs.Took.{Took}
-use Rattle.per_de.specs.Rules.{decoder_rules}
-use Rattle.per_de.specs.State.{State, Spells, Marks}
+use Rattle.per_scopes.specs.Rules.{decoder_rules}
+use Rattle.per_scopes.specs.State.{State, Spells, Marks}
 use Rattle.per_counts.specs.Counts.{most_items}
 use Rattle.per_counts.proofs.FewWithin.{Few, few}
 

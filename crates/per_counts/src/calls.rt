@@ -6,8 +6,8 @@ ghost use Rattle.rasn_schema.specs.Schemas.{Presence, Schema};
 ghost use Rattle.rasn_calls.specs.Calls.{Reads};
 ghost use Rattle.rasn_calls.specs.Optionals.{MakesDefault, ReadsComponent, ReadsDefault};
 ghost use Rattle.rasn_calls.specs.Presences.{left_out};
-ghost use Rattle.per_de.specs.Rules.{decoder_rules};
-ghost use Rattle.per_de.specs.State.{State};
+ghost use Rattle.per_scopes.specs.Rules.{decoder_rules};
+ghost use Rattle.per_scopes.specs.State.{State};
 ghost use Rattle.per_counts.specs.Counts.{item_count, most_items};
 ghost use Rattle.per_counts.specs.Within.{HasAtMost};
 

@@ -1,5 +1,5 @@
 use Rattle.rasn_calls.specs.Calls.{Reads}
-use Rattle.per_de.specs.Rules.{decoder_rules}
+use Rattle.per_scopes.specs.Rules.{decoder_rules}
 use Rattle.per_counts.proofs.FewRead.{where_answered}
 use Rattle.per_counts.proofs.calls.decode_from.Goals as goal
 
