@@ -1,11 +1,9 @@
-//! Tests in the ALIGNED variant of what no clause of `rasn_per` and `per_lines` says: that values are written and read
-//! where there is memory, which refusal is named where several would do, and what the program prints.
+//! Tests in the ALIGNED variant of what no clause of `rasn_per` says: that values are written and read where there is
+//! memory, and which refusal is named where several would do.
 #![tactic(auto)]
 
 #[cfg(test)]
 mod limits;
-#[cfg(test)]
-mod lines;
 #[cfg(test)]
 mod refusals;
 #[cfg(test)]

@@ -21,18 +21,26 @@ struct Expected {
     unused: u32,
 }
 
+fn expect_code(rt: &impl Abort, found: Option<u32>, expected: Option<u32>) {
+    assert_eq!(rt; found, expected);
+}
+
+fn expect_codes(rt: &impl Abort, alphabet: &CharacterAlphabet, codes: &[(u32, u32)]) {
+    for (character, code) in codes {
+        assert!(rt; alphabet.contains(*character));
+        expect_code(rt, alphabet.encode(*character), Some(*code));
+        expect_code(rt, alphabet.decode(*code), Some(*character));
+    }
+}
+
 fn expect<S: StaticPermittedAlphabet>(rt: &impl Abort, rows: &[Expected]) {
     for row in rows {
         let alphabet = CharacterAlphabet::new::<S>(row.permitted, row.aligned);
         assert_eq!(rt; alphabet.width(), row.width);
-        for (character, code) in row.codes {
-            assert!(rt; alphabet.contains(*character));
-            assert_eq!(rt; alphabet.encode(*character), Some(*code));
-            assert_eq!(rt; alphabet.decode(*code), Some(*character));
-        }
+        expect_codes(rt, &alphabet, row.codes);
         assert!(rt; !alphabet.contains(row.foreign));
-        assert_eq!(rt; alphabet.encode(row.foreign), None);
-        assert_eq!(rt; alphabet.decode(row.unused), None);
+        expect_code(rt, alphabet.encode(row.foreign), None);
+        expect_code(rt, alphabet.decode(row.unused), None);
     }
 }
 

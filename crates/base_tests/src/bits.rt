@@ -1,7 +1,9 @@
 //! Bits by words, against the same bits pushed one by one: at each place of an octet and each width.
 
+use crate::expected::expect_octets;
 use per_bits::{BitList, BitReader};
 use std::alloc::{AllocError, Global};
+use std::process::Abort;
 use std::test::Fail;
 
 /// Bits of which no two runs of eight are alike, and the same bits turned.
@@ -71,6 +73,10 @@ fn are_same(one: &BitList<Global>, other: &BitList<Global>) -> bool {
     one.len() == other.len() && one.as_octets() == other.as_octets()
 }
 
+fn expect_bit(rt: &impl Abort, found: Option<bool>, expected: Option<bool>) {
+    assert_eq!(rt; found, expected);
+}
+
 #[test]
 fn appends_and_clears(rt: HostRuntime) -> Result<(), Fail> {
     let mut list = BitList::new(rt.alloc());
@@ -78,16 +84,14 @@ fn appends_and_clears(rt: HostRuntime) -> Result<(), Fail> {
     list.push(true)?;
     list.push_bits(0b1101, 3)?;
     list.push_octets(&[0x80, 0x01])?;
-    assert_eq!(rt;
-        (list.len(), list.as_octets()),
-        (20, [0b1101_1000, 0, 0b0001_0000].as_slice())
-    );
-    assert_eq!(rt;
-        (list.get(0), list.get(2), list.get(20)),
-        (Some(true), Some(false), None)
-    );
+    assert_eq!(rt; list.len(), 20);
+    expect_octets(&rt, list.as_octets(), &[0b1101_1000, 0, 0b0001_0000]);
+    expect_bit(&rt, list.get(0), Some(true));
+    expect_bit(&rt, list.get(2), Some(false));
+    expect_bit(&rt, list.get(20), None);
     list.clear();
-    assert_eq!(rt; (list.len(), list.get(0)), (0, None));
+    assert_eq!(rt; list.len(), 0);
+    expect_bit(&rt, list.get(0), None);
     Ok(())
 }
 
@@ -95,16 +99,14 @@ fn appends_and_clears(rt: HostRuntime) -> Result<(), Fail> {
 fn fills_the_last_octet_with_zeros(rt: HostRuntime) -> Result<(), Fail> {
     let mut list = BitList::new(rt.alloc());
     list.push_bits(u128::MAX, 3)?;
-    assert_eq!(rt; list.as_octets(), [0b1110_0000].as_slice());
+    expect_octets(&rt, list.as_octets(), &[0b1110_0000]);
     list.push_bits(0b01, 2)?;
-    assert_eq!(rt; list.as_octets(), [0b1110_1000].as_slice());
+    expect_octets(&rt, list.as_octets(), &[0b1110_1000]);
     list.push_bits(0x8000_0000_0000_0001, 64)?;
     assert_eq!(rt; list.len(), 69);
     let octets = list.into_octets();
-    assert_eq!(rt;
-        octets.as_slice(),
-        [0b1110_1100, 0, 0, 0, 0, 0, 0, 0, 0b0000_1000].as_slice()
-    );
+    let expected = &[0b1110_1100, 0, 0, 0, 0, 0, 0, 0, 0b0000_1000];
+    expect_octets(&rt, octets.as_slice(), expected);
     Ok(())
 }
 

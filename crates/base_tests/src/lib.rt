@@ -9,6 +9,8 @@ mod bits;
 #[cfg(test)]
 mod constraints;
 #[cfg(test)]
+mod expected;
+#[cfg(test)]
 mod numbers;
 #[cfg(test)]
 mod octets;

@@ -1,5 +1,6 @@
 //! The types that hold octets and bits.
 
+use crate::expected::expect_octets;
 use rasn_types::bit_string::BitString;
 use rasn_types::octet_strings::{Any, GeneralString, GraphicString, OctetString, TeletexString};
 use std::alloc::AllocError;
@@ -12,7 +13,8 @@ const OCTETS: [u8; 6] = [0x0a, 0x3b, 0x5f, 0x29, 0x1c, 0xd0];
 fn keeps_the_first_bits(rt: HostRuntime) -> Result<(), AllocError> {
     let more = [0x0a, 0x3b, 0x5f, 0x29, 0x1c, 0xdf, 0xff];
     let bits = BitString::from_octets(rt.alloc(), &more, 44)?;
-    assert_eq!(rt; (bits.len(), bits.as_octets()), (44, OCTETS.as_slice()));
+    assert_eq!(rt; bits.len(), 44);
+    expect_octets(&rt, bits.as_octets(), &OCTETS);
     Ok(())
 }
 
@@ -71,10 +73,10 @@ fn prints_octets_and_bits(rt: HostRuntime) -> Result<(), Fail> {
 fn holds_octets(rt: HostRuntime) -> Result<(), Fail> {
     let octets = OctetString::new(Vec::from_slice(rt.alloc(), &[0x00, 0xff])?);
     let other = OctetString::from(Vec::from_slice(rt.alloc(), &[0x00])?);
-    assert_eq!(rt; octets.as_bytes(), [0x00, 0xff].as_slice());
+    expect_octets(&rt, octets.as_bytes(), &[0x00, 0xff]);
     assert!(rt; octets.len() == 2 && !octets.is_empty() && octets != other);
     let list = octets.into_vec();
-    assert_eq!(rt; list.as_slice(), [0x00, 0xff].as_slice());
+    expect_octets(&rt, list.as_slice(), &[0x00, 0xff]);
     Ok(())
 }
 
@@ -85,6 +87,6 @@ fn holds_any_octets(rt: HostRuntime) -> Result<(), Fail> {
     let octets = GraphicString::from(octets).into_vec();
     let octets = TeletexString::from(octets).into_vec();
     let octets = Any::from(octets);
-    assert_eq!(rt; octets.as_bytes(), [0x80].as_slice());
+    expect_octets(&rt, octets.as_bytes(), &[0x80]);
     Ok(())
 }

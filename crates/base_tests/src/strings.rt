@@ -1,5 +1,6 @@
 //! The character strings of known multiplier.
 
+use crate::expected::expect_octets;
 use rasn_strings::strings::{
     BmpString, Ia5String, NumericString, PrintableString, StaticPermittedAlphabet, VisibleString,
 };
@@ -46,18 +47,18 @@ fn strings_are_built_and_walked(rt: HostRuntime) -> Result<(), AllocError> {
 #[test]
 fn strings_show_what_they_are_kept_in(rt: HostRuntime) -> Result<(), AllocError> {
     let visible: VisibleString = built(rt.alloc(), &[32, 65, 126])?;
-    assert_eq!(rt; visible.as_iso646_bytes(), b" A~".as_slice());
+    expect_octets(&rt, visible.as_iso646_bytes(), b" A~");
     let ia5: Ia5String = built(rt.alloc(), &[0, 10, 127])?;
-    assert_eq!(rt; ia5.as_iso646_bytes(), b"\x00\n\x7f".as_slice());
+    expect_octets(&rt, ia5.as_iso646_bytes(), b"\x00\n\x7f");
     let printable: PrintableString = built(rt.alloc(), &[65, 39, 122, 63])?;
-    assert_eq!(rt; printable.as_bytes(), b"A'z?".as_slice());
+    expect_octets(&rt, printable.as_bytes(), b"A'z?");
     Ok(())
 }
 
 #[test]
 fn other_strings_show_what_they_are_kept_in(rt: HostRuntime) -> Result<(), AllocError> {
     let numeric: NumericString = built(rt.alloc(), &[32, 48, 57])?;
-    assert_eq!(rt; numeric.as_bytes(), b" 09".as_slice());
+    expect_octets(&rt, numeric.as_bytes(), b" 09");
     let bmp: BmpString = built(rt.alloc(), &[0, 0x20ac, 0xd800, 0xffff])?;
     assert_eq!(rt; bmp.as_units(), [0, 0x20ac, 0xd800, 0xffff].as_slice());
     Ok(())

@@ -1,0 +1,96 @@
+//! The program's answers to lines in the ALIGNED variant.
+
+use crate::lines::{assert_ran, run_on};
+use std::test::Fail;
+
+/// Arguments, a line, and what is printed.
+const PRINTED: &[(&str, &str, &str)] = &[
+    ("aper boolean", "ff\n", "80\n"),
+    ("aper null", "00\n", "00\n"),
+    ("aper integer", "021000\n", "021000\n"),
+    ("aper integer", "020005\n", "0105\n"),
+    ("aper upto", "0180\n", "0180\n"),
+    ("aper from", "021001\n", "021001\n"),
+    ("aper natural", "0180\n", "0180\n"),
+    // 253, 256 and 65536: the count of octets in two bits, and the octets from a boundary on.
+    ("aper i65536", "00fd\n", "00fd\n"),
+    ("aper i65536", "400100\n", "400100\n"),
+    ("aper i65536", "80010000\n", "80010000\n"),
+    // 5 in four octets, and padding bits that are not zero.
+    ("aper i65536", "c000000005\n", "0005\n"),
+    ("aper i65536", "3ffd\n", "00fd\n"),
+    // 16, out of the bounds, and 5, within them, as such a number.
+    ("aper iext", "800110\n", "800110\n"),
+    ("aper iext", "800105\n", "20\n"),
+    (
+        "aper four",
+        "80050a240a8d1f000001\n",
+        "80050a240a8d1f000001\n",
+    ),
+    ("aper seven", "00\n", "00\n"),
+    ("aper default", "d0\n", "d0\n"),
+    ("aper default", "b0\n", "00\n"),
+    // "abcd", one character more than the size has.
+    ("aper vis", "800461626364\n", "800461626364\n"),
+    // "AE", in four bits each.
+    ("aper five", "0804\n", "0804\n"),
+    ("aper bits", "04af\n", "04a0\n"),
+    ("aper octets", "8002aabb\n", "02aabb\n"),
+    // "xxx".
+    ("aper onlyx", "03\n", "03\n"),
+    // The last item of 256, from a boundary on.
+    ("aper items", "80ff\n", "80ff\n"),
+    // The form `lines`.
+    (
+        "aper iext lines",
+        "20\n78\n2\n",
+        "20\n! ValueConstraintNotSatisfied\n! bad hexadecimal\n",
+    ),
+    (
+        "aper octets lines",
+        "c0\nc5\nff",
+        "! ParserFail\n! ParserFail\n! ParserFail\n",
+    ),
+    ("aper octets lines", "", ""),
+    // The form `zero`.
+    ("aper i65536 zero", "00fd\n", "00fd\n"),
+    // The form `as`: padding bits that are not zero are gone where the other type reads.
+    ("aper i65536 as i65536", "3ffd\n", "00fd\n"),
+    ("aper boolean as byte", "ff\n", "80\n"),
+];
+
+/// Arguments, a line that is refused, and what is said.
+const REFUSED: &[(&str, &str, &str)] = &[
+    ("aper integer", "0210\n", "Incomplete\n"),
+    ("aper integer", "00\n", "UnexpectedEmptyInput\n"),
+    ("aper octets", "c5\n", "ParserFail\n"),
+    ("aper seven", "0000\n", "UnexpectedExtraData\n"),
+    // 65537.
+    ("aper i65536", "80010001\n", "ValueConstraintNotSatisfied\n"),
+    // 253 in the octets `00fd`, as a number of no octets.
+    ("aper i65536 as integer", "3ffd\n", "UnexpectedEmptyInput\n"),
+    // The same octets, whose padding bits are not zero.
+    ("aper i65536 zero", "3ffd\n", "ParserFail\n"),
+    // The code 7, of five characters.
+    ("aper five", "0807\n", "PermittedAlphabet\n"),
+    // "abcd", as a count within the size.
+    ("aper vis", "6061626364\n", "SizeConstraintNotSatisfied\n"),
+];
+
+#[test]
+fn prints_the_canonical_aligned_encoding(rt: HostRuntime) -> Result<(), Fail> {
+    for (arguments, line, printed) in PRINTED {
+        let ran = run_on(rt.alloc(), arguments, line.as_bytes())?;
+        assert_ran(&rt, &ran, 0, printed, "");
+    }
+    Ok(())
+}
+
+#[test]
+fn refuses_an_aligned_line_by_name(rt: HostRuntime) -> Result<(), Fail> {
+    for (arguments, line, said) in REFUSED {
+        let ran = run_on(rt.alloc(), arguments, line.as_bytes())?;
+        assert_ran(&rt, &ran, 1, "", said);
+    }
+    Ok(())
+}
