@@ -68,8 +68,11 @@ impl<T: Record> EncodeKind<T> for SequenceKind {
 
 impl<T: Record> DecodeKind<T> for SequenceKind {
     fn decode_value<D: Decoder>(decoder: &mut D, tag: Tag) -> Result<T, D::Error> {
-        let (value, ()) =
-            decoder.decode_record::<T, _, _>(tag, &Read(PhantomData::<T>), &NoAdditions)?;
+        let (value, ()) = decoder.decode_record::<T, _, _>(
+            tag,
+            &Read(PhantomData::<T>),
+            &NoAdditions,
+        )?;
         Ok(value)
     }
 }

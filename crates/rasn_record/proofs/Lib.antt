@@ -1,2 +1,3 @@
 pub mod Behind
 pub mod Slots
+pub mod OneAddition

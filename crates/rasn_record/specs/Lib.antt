@@ -1,2 +1,4 @@
 pub mod Lists
 pub mod Slots
+pub mod OneAddition
+pub mod ExtendedRecords

@@ -2,10 +2,13 @@
 //! a type of his own names.
 #![tactic(auto)]
 
+pub mod added;
+pub mod additions;
 pub mod alternatives;
 pub mod cells;
 mod choices;
 pub mod components;
+mod extended;
 mod items;
 mod macros;
 pub mod read;
@@ -13,7 +16,7 @@ pub mod write;
 
 pub use rasn_calls::parts::NoAdditions;
 pub use rasn_codec::alternatives::CodedAlternatives;
-pub use rasn_codec::codec::{Decoder, Encoder};
+pub use rasn_codec::codec::{Decode, Decoder, Encode, Encoder};
 pub use rasn_codec::kinds::ByKind;
 pub use rasn_codec::record::Record;
 pub use rasn_schema::alternatives::{Alternatives, ChoiceKind};
@@ -21,7 +24,7 @@ pub use rasn_schema::choices::{Variant, Variants};
 pub use rasn_schema::components::Components;
 pub use rasn_schema::constrained::{Constrained, Limits};
 pub use rasn_schema::constraints::{Bounded, Constraint, Extensible};
-pub use rasn_schema::fields::{Field, Fields, Presence, TagTree};
+pub use rasn_schema::fields::{Constructed, Field, Fields, Presence, TagTree};
 pub use rasn_schema::items::{EnumeratedKind, ItemCounts, Items, Place};
 pub use rasn_schema::kinds::OfKind;
 pub use rasn_schema::schema::{AsnType, Constraints};

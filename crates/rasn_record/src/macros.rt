@@ -194,6 +194,7 @@ macro_rules! presence {
     (required) => { $crate::Presence::Required };
     (optional) => { $crate::Presence::Optional };
     (default) => { $crate::Presence::Default };
+    (group) => { $crate::Presence::Optional };
 }
 
 /// The fields of a list of components at their places, behind those that are done.
@@ -274,6 +275,7 @@ macro_rules! cell {
 macro_rules! component {
     (required [$($bounds:tt)*], $value:expr) => { $crate::components::Required($value) };
     (optional [$($bounds:tt)*], $value:expr) => { $crate::components::Optional($value) };
+    (group [], $value:expr) => { $crate::additions::Group($value) };
     (default [$($bounds:tt)*], $value:expr) => {
         $crate::components::Default {
             value: $value,
