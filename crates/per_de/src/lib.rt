@@ -521,9 +521,9 @@ impl<'input> Decoder<'input> {
             return Ok(false);
         }
         let mut reader = self.reader();
-        let taken = reader.take_bit();
+        let bit = reader.take_bit();
         let left = reader.bits().len();
-        self.answer(taken, left)
+        self.answer(bit, left)
     }
 
     /// Takes a bitmap (X.691 19.7, 19.8), and answers its presence bits. Only one in fragments takes memory.
