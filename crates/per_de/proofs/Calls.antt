@@ -20,9 +20,9 @@ use Rattle.per_read.specs.declared.error.DecodeErrorKind.TheVariants.{AlreadyFai
 use Rattle.per_read.specs.State.{State as Taking}
 use Rattle.per_read.specs.Takes.{Reason, Takes}
 use Rattle.per_read.proofs.Refusals.{faulty_map}
-use Rattle.per_de.specs.State.{State, Spells, reader_of, settings_of}
-use Rattle.per_de.specs.Faults.{Answered, Fault, IsAt, IsOf, at_once, refusal}
-use Rattle.per_de.specs.Rules.{decoder_rules}
+use Rattle.per_scopes.specs.State.{State, Spells, reader_of, settings_of}
+use Rattle.per_scopes.specs.Faults.{Answered, Fault, IsAt, IsOf, at_once, refusal}
+use Rattle.per_scopes.specs.Rules.{decoder_rules}
 use Rattle.per_de.proofs.Spans.{with_rest}
 
 -- a refusal

@@ -1,7 +1,6 @@
 -- What opening a choice takes, and why it refuses.
-use Rattle.std.proofs.Common.{◌≡◌, ◌⊎◌, inr, refl, sym, ◌∙◌, ap, subst, arith, ℕ, zero, suc, ◌+◌, ◌<◌, false, [], length, List, Some, slice_get}
+use Rattle.std.proofs.Common.{◌≡◌, ◌⊎◌, inr, refl, sym, ◌∙◌, ap, subst, arith, ℕ, zero, suc, ◌+◌, ◌<◌, false, length, List, Some, slice_get}
 use Rattle.std.specs.Prelude.{Result, Ok, Err}
-use Rattle.rasn_types.specs.Bits.{Bits}
 use Rattle.rasn_schema.specs.Choices.{VariantShape, alternative_at, choice_at, choice_of, go_by, place_of, tags_of, AreVariants}
 use Rattle.rasn_schema.specs.Schemas
 use Rattle.rasn_schema.specs.Schemas.{Schema, Parts, no_parts, part}
@@ -18,9 +17,10 @@ use Rattle.per_read.specs.declared.error.DecodeErrorKind.{DecodeErrorKind}
 use Rattle.per_read.specs.declared.error.DecodeErrorKind.TheVariants.{OutOfMemory}
 use Rattle.per_de.specs.ChoiceLaws.{choice_index}
 use Rattle.per_de.specs.Choices.{OpensChoice}
-use Rattle.per_de.specs.State.{State, Spells, reader_of, settings_of, with_bits}
-use Rattle.per_de.specs.Faults.{Answered, Fault, refusal}
-use Rattle.per_de.specs.Scopes.{presences_of, with_scope, Enters}
+use Rattle.per_scopes.specs.State.{State, Spells, reader_of, settings_of, with_bits}
+use Rattle.per_scopes.specs.Faults.{Answered, Fault, refusal}
+use Rattle.per_scopes.specs.Scopes.{Enters, Outside, no_record, with_outside, outside_of as in_state}
+use Rattle.per_de.specs.Outsides.{outside_of}
 use Rattle.per_de.specs.declared.Scope.{Scope}
 use Rattle.per_de.proofs.Calls.{refuses}
 use Rattle.per_de.proofs.Opening.{answered_ok, answered_err}
@@ -40,24 +40,21 @@ no_index alternatives count s x y left m taken e t deeper i is g a =
     (λ v u b. let w = choice_index (settings_of s) (alternatives m) v b in k.1 w.0 w.1 (subst (λ (l : ℕ). Took (IsConstrainedWhole (settings_of s) l w.0) s.bits w.1) (sym i) w.2))))
 
 -- a level is entered behind an index
-pub opens_index : (c : Schema) (count index : ℕ) (s : State) (x y : Taking) (left m : ℕ) (row : Bits) (taken : Result ℕ DecodeErrorKind) (t : State) (o : Scope) (i : State) → s.failed ≡ false → s.levels ≡ suc m → row ≡ []
+pub opens_index : (c : Schema) (count index : ℕ) (s : State) (x y : Taking) (left m : ℕ) (inside : Outside) (taken : Result ℕ DecodeErrorKind) (t : State) (o : Scope) (i : State) → s.failed ≡ false → s.levels ≡ suc m → inside ≡ no_record m
     → count ≡ length (tags_of (alternatives_of c)) → x ≡ reader_of s → Takes (telling (λ a. IsOfIndex a count)) (λ a. IsConstrainedWhole a count) itself x taken y → left ≡ length y.bits
-    → Answered taken left s (Ok index) t → Enters m row t o i → OpensChoice c index s o i
-opens_index c count index s x y left m row taken t o i live deeper none e is g l a w =
+    → Answered taken left s (Ok index) t → Enters inside t (outside_of i.source o) i → OpensChoice c index s o i
+opens_index c count index s x y left m inside taken t o i live deeper none e is g l a w =
     let h = subst (λ z. Takes (telling (λ a. IsOfIndex a count)) (λ a. IsConstrainedWhole a count) itself z taken y) is g in
     let r = answered_ok taken left s index t a in
     let k : Took (IsConstrainedWhole (settings_of s) count index) s.bits y.bits = rw r.0 at h.ok in
     let f : t ≡ with_bits s y.bits = r.1 ∙ with_rest s k.front y.bits left k.joins l in
-    let same : i ≡ with_scope (with_bits s y.bits) m [] = w.same ∙ ap (λ z. with_scope z m row) f ∙ ap (λ (b : Bits). with_scope (with_bits s y.bits) m b) none in
+    let same : i ≡ with_outside (with_bits s y.bits) (no_record m) = w.same ∙ ap (λ z. with_outside t z) none ∙ ap (λ z. with_outside z (no_record m)) f in
+    let waits : outside_of i.source o ≡ in_state s = w.waits ∙ ap (λ z. in_state z) f in
     subst (λ z. OpensChoice c index s o z) (sym same) (record {
       live = live;
       deeper = deeper;
       took = subst (λ (l : ℕ). Took (IsConstrainedWhole (settings_of s) l index) s.bits y.bits) e k;
-      enters = record {
-        outside = w.outside ∙ ap (λ z. z.levels) f;
-        waits = ap (λ z. presences_of z.source o) (sym f) ∙ w.waits ∙ ap (λ z. z.presences) f;
-        same = refl;
-      };
+      enters = record { waits = ap (λ z. outside_of z.source o) (sym same) ∙ waits; same = refl };
     })
 
 -- the alternative at an index

@@ -1,3 +1,4 @@
+pub mod Additions
 pub mod Calls
 pub mod Choosing
 pub mod Enumerations
@@ -5,3 +6,4 @@ pub mod Listing
 pub mod Opening
 pub mod StringCalls
 pub mod Spans
+pub mod Steps

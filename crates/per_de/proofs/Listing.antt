@@ -23,10 +23,10 @@ use Rattle.per_read.specs.declared.error.DecodeErrorKind.TheVariants.{AlreadyFai
 use Rattle.per_read.specs.declared.lists.OpenList.{OpenList}
 use Rattle.per_read.proofs.Miscounts.{tested_size}
 use Rattle.per_de.specs.ChoiceLaws.{moved}
-use Rattle.per_de.specs.Faults.{Answered, IsOf, in_element, refusal}
+use Rattle.per_scopes.specs.Faults.{Answered, IsOf, in_element, refusal}
 use Rattle.per_de.specs.Lists.{AmidList}
-use Rattle.per_de.specs.Rules.{decoder_rules}
-use Rattle.per_de.specs.State.{State, Spells, reader_of, settings_of, with_bits}
+use Rattle.per_scopes.specs.Rules.{decoder_rules}
+use Rattle.per_scopes.specs.State.{State, Spells, reader_of, settings_of, with_bits}
 use Rattle.per_de.specs.declared.ListScope.{ListScope}
 use Rattle.per_de.proofs.Calls.{refuses}
 use Rattle.per_de.proofs.Opening.{answered_ok, answered_err}

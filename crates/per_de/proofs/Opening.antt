@@ -1,21 +1,25 @@
 -- What opening a record takes, and why it refuses.
-use Rattle.std.proofs.Common.{◌≡◌, ◌⊎◌, inr, refl, sym, ◌∙◌, ap, subst, ℕ, suc, ◌-◌, false, ◌++◌, length, arith, length-append}
+use Rattle.std.proofs.Common.{◌≡◌, ◌⊎◌, inr, refl, sym, ◌∙◌, ap, subst, ℕ, suc, ◌-◌, Bool, false, ◌++◌, length, arith, length-append}
 use Rattle.std.specs.Prelude.{Result, Ok, Err}
 use Rattle.rasn_schema.specs.Lawful.{presence_bits}
-use Rattle.rasn_schema.specs.Normal.{root_of}
-use Rattle.rasn_schema.specs.Schemas.{Schema, Parts, listed}
-use Rattle.rasn_schema.specs.Records.{record_at, no_additions}
+use Rattle.rasn_schema.specs.Normal.{additions_of, root_of}
+use Rattle.rasn_schema.specs.Schemas.{Schema, Parts, listed, count as part_count}
+use Rattle.rasn_schema.specs.Records.{record_at}
+use Rattle.rasn_calls.specs.Additions.{extended}
 use Rattle.rasn_calls.specs.Calls.{Refuses}
-use Rattle.rasn_calls.specs.Scopes.{record_of}
+use Rattle.per_core.specs.Basic.{ExtensionBit}
+use Rattle.per_core.specs.Took.{Took}
+use Rattle.per_core.proofs.Took.{then_took, took_agree}
 use Rattle.per_read.specs.declared.error.DecodeError.{DecodeError}
 use Rattle.per_read.specs.declared.error.DecodeErrorKind.{DecodeErrorKind}
 use Rattle.per_read.specs.declared.error.DecodeErrorKind.TheVariants.{Incomplete, OutOfMemory}
+use Rattle.per_scopes.specs.Faults.{Answered, Fault, refusal}
+use Rattle.per_scopes.specs.Records.{flags_row}
+use Rattle.per_scopes.specs.ScopeLaws.{bit_agree, took_record}
+use Rattle.per_scopes.specs.Scopes.{Enters, Opens, Outside, is_extensible, outside_of, with_outside}
+use Rattle.per_scopes.specs.State.{State, Spells, extension_of, settings_of, with_bits, with_last}
 use Rattle.per_de.specs.Sources.{span_of}
-use Rattle.per_de.specs.State.{State, Spells, settings_of, with_bits, with_last}
-use Rattle.per_de.specs.Faults.{Answered, Fault, refusal}
-use Rattle.per_de.specs.ScopeLaws.{flags_row, took_record}
-use Rattle.per_de.specs.Scopes.{presences_of, with_scope, Enters, Opens, TakesPresences}
-use Rattle.per_de.specs.declared.Scope.{Scope}
+use Rattle.per_de.specs.Steps.{TakesExtensionBit, TakesPresences}
 use Rattle.per_de.specs.declared.Span.{Span}
 use Rattle.per_de.proofs.Calls.{refuses}
 
@@ -27,35 +31,54 @@ pub answered_err : {T : Type 0} (taken : Result T DecodeErrorKind) (left : ℕ) 
 answered_err (Ok w) left s e t a = let i = a.0 in absurd cc
 answered_err (Err k) left s e t a = (k, refl, let i = a.0 in cc)
 
--- a scope is entered from another state of the same source
-pub entered : (n : ℕ) (row : Span) (s t : State) (o : Scope) (i : State) → t ≡ with_bits s t.bits → Enters n (span_of row t.source) t o i → Enters n (span_of row s.source) (with_bits s t.bits) o i
-entered n row s t o i e w = record {
-  outside = w.outside ∙ ap (λ z. z.levels) e;
-  waits = ap (λ z. presences_of z.source o) (sym e) ∙ w.waits ∙ ap (λ z. z.presences) e;
-  same = w.same ∙ ap (λ z. with_scope z n (span_of row z.source)) e;
-}
+-- the steps that open a record at s: its extension bit, and its presence bits
+module _ (flag : Bool) (count : ℕ) (s t u : State) (m : ℕ) (b : Bool) (deeper : s.levels ≡ suc m) (start : t ≡ s) (bit : TakesExtensionBit flag t (Ok b) u) where
+  bit_took : Took (ExtensionBit flag b) s.bits u.bits
+  bit_took = subst (λ z. Took (ExtensionBit flag b) z.bits u.bits) start bit.0
 
--- a scope is entered with the presence bits that were taken
-pub opens_row : (c : Schema) (count : ℕ) (s : State) (m : ℕ) (row : Span) (t : State) (o : Scope) (i : State) → s.failed ≡ false → s.levels ≡ suc m
-    → count ≡ presence_bits (root_of c) → TakesPresences count s (Ok row) t → Enters m (span_of row t.source) t o i → Opens c s o i
-opens_row c count s m row t o i live deeper e h w =
-    let k = h.0 in
-    let v = entered m row s t o i h.1 w in
-    subst (λ z. Opens c s o z) (sym v.same) (record {
-      live = live;
-      deeper = deeper;
-      taken = k.joins ∙ ap (λ z. z ++ t.bits) k.spelled.1;
-      count = k.spelled.0 ∙ e;
-      enters = record { outside = v.outside; waits = v.waits; same = refl };
-    })
+  behind_bit : u ≡ with_bits s u.bits
+  behind_bit = bit.1 ∙ ap (λ z. with_bits z u.bits) start
 
--- too few bits are left for a record's presence bits
-pub no_row : (parts : ℕ → Parts) (count : ℕ) (s : State) (m : ℕ) (e : DecodeError) (t : State) → s.levels ≡ suc m → count ≡ presence_bits (parts m) → TakesPresences count s (Err e) t
-    → let c = record_at listed parts false no_additions s.levels in (e ≡ refusal OutOfMemory s) ⊎ Refuses (Spells c) (Fault c) e s
-no_row parts count s m e t deeper i h =
-    let c = record_of (parts m) in
-    inr (subst (λ l. Refuses (Spells (record_at listed parts false no_additions l)) (Fault (record_at listed parts false no_additions l)) e s) (sym deeper)
-    (refuses c s (Incomplete (count - length s.bits)) e h.1 tt
-    (λ v u b. let w = took_record (settings_of s) (parts m) v s.bits u b in
-    let z = flags_row (settings_of s) (parts m) w.shown s.bits w.middle w.flags in
-    absurd (omega (arith, i, h.0, z.2, ap length z.1, length-append z.0 w.middle)))))
+  -- a scope is entered with the presence bits that were taken
+  pub opens_record : (c : Schema) (row : Span) (v : State) (inside w : Outside) (i : State) → s.failed ≡ false → flag ≡ is_extensible c → count ≡ presence_bits (root_of c) → TakesPresences count u (Ok row) v
+      → inside ≡ record { levels = m; presences = span_of row v.source; extension = extension_of b; expected = part_count (additions_of c) } → Enters inside v w i → Opens c s w i
+  opens_record c row v inside w i live e n p is enters =
+      let same : v ≡ with_bits s v.bits = p.1 ∙ ap (λ z. with_bits z v.bits) behind_bit in
+      let q = span_of row u.source in
+      let source : v.source ≡ u.source = ap (λ z. z.source) p.1 in
+      let within : Outside = record { levels = m; presences = q; extension = extension_of b; expected = part_count (additions_of c) } in
+      let there : inside ≡ within = is ∙ ap (λ z. record { levels = m; presences = span_of row z; extension = extension_of b; expected = part_count (additions_of c) }) source in
+      let joins : u.bits ≡ q ++ v.bits = p.0.joins ∙ ap (λ z. z ++ v.bits) p.0.spelled.1 in
+      let taken : Took (ExtensionBit (is_extensible c) b) s.bits (q ++ v.bits) = subst (λ z. Took (ExtensionBit (is_extensible c) b) s.bits z) joins (subst (λ (z : Bool). Took (ExtensionBit z b) s.bits u.bits) e bit_took) in
+      subst (λ z. Opens c s w z) (sym (enters.same ∙ ap (λ z. with_outside v z) there ∙ ap (λ z. with_outside z within) same)) (record {
+        live = live;
+        deeper = deeper;
+        extends = b;
+        taken = taken;
+        row = p.0.spelled.0 ∙ n;
+        shows = refl;
+        counts = refl;
+        enters = record { waits = enters.waits ∙ ap (λ z. outside_of z) same; same = refl };
+      })
+
+  -- too few bits are left for a record's presence bits
+  pub no_row : (parts additions : ℕ → Parts) (marker : Bool) (e : DecodeError) (v : State) → flag ≡ marker → count ≡ presence_bits (parts m) → TakesPresences count u (Err e) v
+      → let c = record_at listed parts marker additions s.levels in (e ≡ refusal OutOfMemory s) ⊎ Refuses (Spells c) (Fault c) e s
+  no_row parts additions marker e v f i h =
+      let c = extended (parts m) marker (additions m) in
+      inr (subst (λ l. Refuses (Spells (record_at listed parts marker additions l)) (Fault (record_at listed parts marker additions l)) e s) (sym deeper)
+      (refuses c s (Incomplete (count - length u.bits)) e (h.1 ∙ ap (λ z. refusal (Incomplete (count - length u.bits)) z) behind_bit) tt
+      (λ w y d. let q = took_record (settings_of s) (parts m) marker (additions m) w s.bits y d in
+      let g = took_agree (bit_agree marker b q.extends) (subst (λ (z : Bool). Took (ExtensionBit z b) s.bits u.bits) f bit_took) q.bit in
+      let r = then_took (record { front = q.root.front; joins = q.root.joins; spelled = q.root.spelled.spelled }) in
+      let z = flags_row (settings_of s) (parts m) q.root.spelled.shown q.middle r.0 r.1 in
+      absurd (omega (arith, i, h.0, z.2, ap length g.1, ap length z.1, length-append z.0 r.0)))))
+
+-- no extension bit is left
+pub no_bit : (parts additions : ℕ → Parts) (marker flag : Bool) (s t : State) (m : ℕ) (e : DecodeError) (u : State) → s.levels ≡ suc m → t ≡ s → flag ≡ marker → TakesExtensionBit flag t (Err e) u
+    → let c = record_at listed parts marker additions s.levels in (e ≡ refusal OutOfMemory s) ⊎ Refuses (Spells c) (Fault c) e s
+no_bit parts additions marker flag s t m e u deeper start f h =
+    let k : TakesExtensionBit marker s (Err e) u = subst (λ (z : Bool). TakesExtensionBit z s (Err e) u) f (subst (λ z. TakesExtensionBit flag z (Err e) u) start h) in
+    let c = extended (parts m) marker (additions m) in
+    inr (subst (λ l. Refuses (Spells (record_at listed parts marker additions l)) (Fault (record_at listed parts marker additions l)) e s) (sym deeper)
+    (refuses c s k.kind e k.is k.because.0 (λ v y d. let q = took_record (settings_of s) (parts m) marker (additions m) v s.bits y d in k.because.1 q.extends q.middle q.bit)))

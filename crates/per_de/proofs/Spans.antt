@@ -1,10 +1,11 @@
 -- The bits that a span means, and those that are left of them.
-use Rattle.std.proofs.Common.{◌≡◌, ◌≤◌, sym, ◌∙◌, ap, ap₂, ℕ, ◌+◌, ◌-◌, Bool, [], ◌∷◌, ◌++◌, length, take, drop, Some, slice_get, arith, length-append, length-take, length-drop, take-take, take_at, drop_at, drop-drop, take-append-drop}
+use Rattle.std.proofs.Common.{◌≡◌, ◌≤◌, refl, sym, ◌∙◌, ap, ap₂, ℕ, ◌+◌, ◌-◌, Bool, [], ◌∷◌, ◌++◌, length, take, drop, Some, slice_get, arith, length-append, length-take, length-drop, take-take, take_at, drop_at, drop-drop, take-append-drop, append_assoc, nat_eq}
 use Rattle.std.specs.Prelude.{min}
-use Rattle.std.proofs.lemmas.List.{take_min, drop_min, drop-take}
-use Rattle.rasn_types.specs.Bits.{Bits}
+use Rattle.std.proofs.lemmas.List.{take_all, take_min, drop_min, drop-take}
+use Rattle.rasn_types.specs.Bits.{Bits, number_of}
+use Rattle.per_additions.proofs.Turns.{one_bit}
 use Rattle.per_de.specs.Sources.{span_of, IsWithin}
-use Rattle.per_de.specs.State.{State, with_bits, with_last}
+use Rattle.per_scopes.specs.State.{State, with_bits, with_last}
 use Rattle.per_de.specs.declared.Span.{Span}
 
 -- what was taken behind what is in front of it
@@ -61,3 +62,35 @@ advanced span source left n h e =
     let l : n ≤ span.end - span.begin = omega arith in
     let k : n ≡ length (span_of span source) - left = omega (arith, span_length span source h) in
     sym (behind span source n l) ∙ ap (λ (m : ℕ). drop m (span_of span source)) k
+
+-- the last of some bits in front of others
+pub in_front_of : (span : Span) (source before bits rest : Bits) (left count : ℕ) → IsWithin span source → span_of span source ≡ before ++ (bits ++ rest) → length rest ≡ left → length bits ≡ count
+    → span_of (record { begin = span.end - left - count; end = span.end - left }) source ≡ bits
+in_front_of span source before bits rest left count h e l n =
+    let behind = drop (span.end - span.begin) (drop span.begin source) in
+    let skipped = take span.begin source ++ before in
+    let whole : source ≡ skipped ++ (bits ++ (rest ++ behind)) =
+    sym (take-append-drop span.begin source)
+    ∙ ap (λ z. take span.begin source ++ z) (sym (take-append-drop (span.end - span.begin) (drop span.begin source)) ∙ ap (λ z. z ++ behind) e ∙ append_assoc before (bits ++ rest) behind ∙ ap (λ z. before ++ z) (append_assoc bits rest behind))
+    ∙ sym (append_assoc (take span.begin source) before (bits ++ (rest ++ behind))) in
+    let inner : length before + (count + left) ≡ span.end - span.begin = omega (arith, sym (span_length span source h) ∙ ap length e, length-append before (bits ++ rest), length-append bits rest, l, n) in
+    let first : length skipped ≡ span.end - left - count = omega (arith, length-append (take span.begin source) before, length-take span.begin source, h.ordered, h.enough, inner) in
+    let many : length bits ≡ span.end - left - (span.end - left - count) = omega (arith, inner, n, h.ordered) in
+    let d : drop (span.end - left - count) source ≡ bits ++ (rest ++ behind) = ap (λ z. drop (span.end - left - count) z) whole ∙ drop_at skipped (bits ++ (rest ++ behind)) (span.end - left - count) first in
+    ap (λ z. take (span.end - left - (span.end - left - count)) z) d ∙ take_at bits (rest ++ behind) (span.end - left - (span.end - left - count)) many
+
+-- the next bit of a span
+pub next_of : (span : Span) (source bits : Bits) (n : ℕ) → bits ≡ span_of span source → (bits ≡ [] → ⊥) → n ≡ number_of (take 1 bits)
+    → span_of span source ≡ nat_eq n 1 ∷ span_of (record { begin = span.begin + 1; end = span.end }) source
+next_of span source bits n e some m = go bits e some m
+  where
+    go : (bits : Bits) → bits ≡ span_of span source → (bits ≡ [] → ⊥) → n ≡ number_of (take 1 bits) → span_of span source ≡ nat_eq n 1 ∷ span_of (record { begin = span.begin + 1; end = span.end }) source
+    go [] e some m = absurd (some refl)
+    go (b ∷ rest) e some m =
+        let l : 1 ≤ span.end - span.begin = omega (arith, ap length e, length-take (span.end - span.begin) (drop span.begin source)) in
+        let r : rest ≡ span_of (record { begin = span.begin + 1; end = span.end }) source = ap (λ z. drop 1 z) e ∙ behind span source 1 l in
+        sym e ∙ one_bit (b ∷ rest) (b ∷ []) rest n refl refl m ∙ ap (λ z. nat_eq n 1 ∷ z) r
+
+-- all bits of a source
+pub span_whole : (source : Bits) (n : ℕ) → n ≡ length source → span_of (record { begin = 0; end = n }) source ≡ source
+span_whole source n e = take_all (n - 0) source (omega (arith, e))

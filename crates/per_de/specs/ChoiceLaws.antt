@@ -13,10 +13,11 @@ use Rattle.per_core.proofs.Took.{took_then, then_took, took_map, took_agree, too
 use Rattle.per_read.specs.declared.error.DecodeErrorKind.{DecodeErrorKind}
 use Rattle.per_read.specs.declared.error.DecodeErrorKind.TheVariants.{AlreadyFailed, OutOfMemory}
 use Rattle.per_de.specs.Choices.{OpensChoice, ClosesChoice}
-use Rattle.per_de.specs.Faults.{IsInBits, IsOf, in_alternative, refusal}
-use Rattle.per_de.specs.Rules.{decoder_rules}
-use Rattle.per_de.specs.Scopes.{presences_of, with_scope}
-use Rattle.per_de.specs.State.{State, Spells, settings_of, with_bits}
+use Rattle.per_scopes.specs.Faults.{IsInBits, IsOf, in_alternative, refusal}
+use Rattle.per_scopes.specs.Rules.{decoder_rules}
+use Rattle.per_scopes.specs.Scopes.{with_outside, outside_of as in_state}
+use Rattle.per_scopes.specs.State.{State, Spells, settings_of, with_bits}
+use Rattle.per_de.specs.Outsides.{outside_of}
 use Rattle.per_de.specs.declared.Scope.{Scope}
 
 length-rules : (a : Settings) (ps : Parts) → length (rules a ps) ≡ length (tags_of ps)
@@ -83,8 +84,8 @@ module _ (ps : Parts) (k : ℕ) (c : Schema) {s i : State} {o : Scope} (h : Open
         live = h.live;
         took = subst (λ z. Took (basic (settings_of s) (choice_of ps) (alternative root k v)) s.bits z) (sym f)
             (choice_took (settings_of s) ps k c v e h.took (subst (λ z. Took (basic z c v) i.bits j.bits) same_settings b.took));
-        same = d.same ∙ ap (λ z. with_scope z o.levels (presences_of z.source o)) (b.same ∙ ap (λ z. with_bits z j.bits) h.enters.same)
-            ∙ ap (λ n. with_scope (with_bits s j.bits) n (presences_of s.source o)) h.enters.outside ∙ ap (λ q. with_scope (with_bits s j.bits) s.levels q) h.enters.waits ∙ ap (λ z. with_bits s z) (sym f);
+        same = d.same ∙ ap (λ z. with_outside z (outside_of z.source o)) b.same ∙ ap (λ z. with_outside (with_bits i j.bits) z) h.enters.waits
+            ∙ ap (λ z. with_outside (with_bits z j.bits) (in_state s)) h.enters.same ∙ ap (λ z. with_bits s z) (sym f);
       }
 
   back_of : (t : State) (w : Value) → Spells (choice_of ps) s w t → (j : State) × ReadsAlternative decoder_rules k c i w j

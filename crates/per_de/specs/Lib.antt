@@ -1,10 +1,6 @@
 pub mod ChoiceLaws
 pub mod Choices
-pub mod Faults
-pub mod Laws
 pub mod Lists
-pub mod Rules
-pub mod ScopeLaws
-pub mod Scopes
+pub mod Outsides
 pub mod Sources
-pub mod State
+pub mod Steps

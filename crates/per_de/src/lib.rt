@@ -1,21 +1,31 @@
 //! The decoder of the packed encoding rules: it reads every basic encoding.
 #![tactic(auto)]
 
-ghost use Rattle.std.specs.Prelude.{◌≡◌, ◌≤◌, ◌+◌, ◌-◌, true, false, slice_get, MatchOption, OnOk, OnErr, IfErr};
+ghost use Rattle.std.specs.Prelude.{◌≡◌, ◌≤◌, ◌+◌, ◌-◌, ◌*◌, ◌%◌, true, false, length, slice_get, MatchOption, OnOk, OnErr, IfErr};
+ghost use Rattle.rasn_types.specs.Bits.{Bits, unpack};
 ghost use Rattle.rasn_types.specs.declared.types.Codec.TheVariants.{Aper, Uper};
+ghost use Rattle.rasn_schema.specs.Extensions.{fields_behind};
 ghost use Rattle.per_read.specs.declared.error.DecodeErrorKind.TheVariants.{AlreadyFailed};
 ghost use Rattle.per_read.specs.Lists.{most};
-ghost use Rattle.per_de.specs.Sources.{bits_of, span_of, IsWithin};
-ghost use Rattle.per_de.specs.State.{State, Options, fresh, reader_of};
+ghost use Rattle.per_additions.specs.Additions.{NextFlag};
+ghost use Rattle.per_scopes.specs.AdditionLaws.{additions_well};
+ghost use Rattle.per_scopes.specs.Additions.{ClosesAddition, OpensAddition, outside_open};
+ghost use Rattle.per_scopes.specs.Faults.{refusal, Answered, Unended, UnendedAddition};
+ghost use Rattle.per_scopes.specs.Laws.{decodes_well};
+ghost use Rattle.per_scopes.specs.Rules.{decoder_rules};
+ghost use Rattle.per_scopes.specs.ScopeLaws.{scopes_well};
+ghost use Rattle.per_scopes.specs.Scopes.{Closes, Enters, LevelInside, Opens, no_record, with_outside};
+ghost use Rattle.per_scopes.specs.State.{State, Options, extension_of, fresh, reader_of, shown};
 ghost use Rattle.per_de.specs.ChoiceLaws.{choices_well};
 ghost use Rattle.per_de.specs.Choices.{ClosesChoice, OpensChoice};
-ghost use Rattle.per_de.specs.Faults.{refusal, Answered};
-ghost use Rattle.per_de.specs.Rules.{decoder_rules};
-ghost use Rattle.per_de.specs.Scopes.{Enters, Opens, Closes, LevelInside, TakesPresences, Unended};
-ghost use Rattle.per_de.specs.Laws.{decodes_well};
 ghost use Rattle.per_de.specs.Lists.{AmidList};
-ghost use Rattle.per_de.specs.ScopeLaws.{scopes_well};
+ghost use Rattle.per_de.specs.Outsides.{outside_of, waiting_of};
+ghost use Rattle.per_de.specs.Sources.{bits_of, extension_in, flags_in, span_of, IsWithin};
+ghost use Rattle.per_de.specs.Steps.{AsksNext, EndsContents, EntersContents, EntersOpen, IsRootRead, SkipsUnknown};
+ghost use Rattle.per_de.specs.Steps.{TakesBitmap, TakesExtensionBit, TakesFlags, TakesPresences};
 
+use per_additions::bitmaps::{Bitmap, PresenceBits, next_flag, skip_unknown, take_bitmap};
+use per_additions::open_types::{Contents, end_of_open, take_open};
 use per_bits::{BitList, BitReader};
 pub use per_read::error;
 pub use per_read::error::{DecodeError, DecodeErrorKind, ParserFailCause};
@@ -155,6 +165,50 @@ impl Span {
         }
     }
 
+    /// None.
+    fn empty() -> Span
+        ensures { result ≡ record { begin = 0; end = 0 } }
+    {
+        Span { begin: 0, end: 0 }
+    }
+
+    /// Of those in front of the last `left` of them, the last `count`.
+    fn in_front(self, left: u128, count: u128) -> Span
+        requires { left + count ≤ self.end - self.begin }
+        ensures { result ≡ record { begin = self.end - left - count; end = self.end - left } }
+    {
+        let end = self.end - left;
+        Span {
+            begin: end - count,
+            end,
+        }
+    }
+
+    /// The same bits of a source, which has all of them.
+    fn within(self, source: &BitReader<'_>) -> Span
+        ensures same { span_of result source.now ≡ span_of self source.now }
+        ensures there { IsWithin result source.now }
+    {
+        let len = source.len();
+        let begin = self.begin.min(len);
+        Span {
+            begin,
+            end: self.end.min(len).max(begin),
+        }
+    }
+
+    /// The next of these bits of a source, which is then no longer one of them.
+    fn next_bit(&mut self, source: BitReader<'_>) -> Option<bool>
+        ensures { NextFlag (span_of self.old source.entry) result (span_of self.new source.entry) }
+    {
+        let bits = self.part_of(source);
+        if bits.is_empty() {
+            return None;
+        }
+        *self = self.behind(1);
+        Some(bits.first_bits(1) == 1)
+    }
+
     /// These bits of a source, as far as they are there.
     fn part_of<'source>(self, source: BitReader<'source>) -> BitReader<'source>
         ensures { result ≡ span_of self source.entry }
@@ -167,6 +221,94 @@ impl Span {
     }
 }
 
+/// Presence bits of additions that are still to be read (X.691 19.7), where they stand.
+#[derive(Drop)]
+enum Flags {
+    /// In the source.
+    InPlace(Span),
+    /// Those of a bitmap in fragments, one after another, and how many of them were read.
+    Gathered(BitString, usize),
+}
+
+impl Flags {
+    /// The next of them, where they stand in a source, which is then no longer one of them.
+    fn next(&mut self, source: BitReader<'_>) -> Option<bool>
+        ensures { NextFlag (flags_in source.entry self.old) result (flags_in source.entry self.new) }
+    {
+        match self {
+            Flags::InPlace(span) => span.next_bit(source),
+            Flags::Gathered(bits, read) => next_flag(bits, read),
+        }
+    }
+
+    /// They in turn, where they stand in a source.
+    fn into_bitmap<'source>(self, source: BitReader<'source>) -> Bitmap<'source>
+        ensures { result ≡ flags_in source.entry self }
+    {
+        match self {
+            Flags::InPlace(span) => Bitmap::in_place(span.part_of(source)),
+            Flags::Gathered(bits, read) => Bitmap::gathered(bits, read),
+        }
+    }
+}
+
+/// What is still to be read of the bitmap of the open SEQUENCE's additions (X.691 19.7).
+#[derive(Drop)]
+enum Extension {
+    /// All of it: it stands behind the root components.
+    Ahead,
+    /// The presence bits that are left.
+    Shown(Flags),
+}
+
+impl Extension {
+    /// What an extension bit says of it (X.691 19.1).
+    fn of_bit(extends: bool) -> Self
+        ensures { (source : Bits) → extension_in source result ≡ extension_of extends }
+    {
+        if extends {
+            return Extension::Ahead;
+        }
+        Extension::Shown(Flags::InPlace(Span::empty()))
+    }
+}
+
+/// Whole octets, counted in bits.
+#[derive(Clone, Copy, Debug)]
+struct WholeOctets {
+    bits: u128,
+}
+
+impl Model for WholeOctets {
+    ghost use Rattle.std.specs.Prelude.{◌≡◌, ◌%◌, ℕ};
+
+    ghost Value = { ℕ };
+
+    ghost view = { λ o. o.bits };
+
+    ghost inverse = { λ v. record { bits = v } };
+
+    ghost invariant = { λ o. o.bits % 8 ≡ 0 };
+}
+
+impl WholeOctets {
+    /// So many bits.
+    fn new(bits: u128) -> Self
+        requires { bits % 8 ≡ 0 }
+        ensures { result ≡ bits }
+    {
+        WholeOctets { bits }
+    }
+
+    /// How many bits they have.
+    fn bits(self) -> u128
+        ensures is { result ≡ self }
+        ensures octets { result % 8 ≡ 0 }
+    {
+        self.bits
+    }
+}
+
 /// A reader of values from the front of bits. Every basic encoding is read, canonical or not; where padding must be
 /// zero, every one whose padding is.
 #[derive(Drop)]
@@ -174,8 +316,12 @@ pub struct Decoder<'input> {
     source: Source<'input>,
     /// The bits that are left.
     bits: Span,
-    /// The presence bits of the open SEQUENCE that are still to be read.
+    /// The presence bits of the open SEQUENCE's root components that are still to be read.
     presences: Span,
+    /// What is still to be read of the bitmap of its additions.
+    extension: Extension,
+    /// How many additions of its type are still to be asked for.
+    expected: usize,
     options: ReaderOptions,
     alloc: Global,
     levels: u32,
@@ -193,6 +339,8 @@ impl<'input> Model for Decoder<'input> {
       codec = d.options.codec;
       zero_padding = d.options.zero_padding;
       presences = span_of d.presences (bits_of d.source);
+      extension = extension_in (bits_of d.source) d.extension;
+      expected = d.expected;
     } };
 
     ghost invariant = { λ d. IsWithin d.bits (bits_of d.source) };
@@ -218,7 +366,9 @@ impl<'input> Decoder<'input> {
         Decoder {
             source: Source::Input(input),
             bits: Span { begin: 0, end },
-            presences: Span { begin: 0, end: 0 },
+            presences: Span::empty(),
+            extension: Extension::of_bit(false),
+            expected: 0,
             options: options.reader(),
             alloc,
             levels: options.levels,
@@ -341,23 +491,228 @@ impl<'input> Decoder<'input> {
         }
     }
 
-    /// Enters a scope with so many levels left and these presence bits to read.
-    fn enter(&mut self, levels: u32, presences: Span) -> Scope
-        ensures { Enters levels (span_of presences self.old.source) self.old result self.new }
+    /// Enters a scope with other levels and another SEQUENCE to read, and answers what waits outside.
+    fn enter(&mut self, inside: Scope) -> Scope
+        ensures { Enters (outside_of self.old.source inside) self.old (outside_of self.new.source result) self.new }
     {
         Scope {
-            levels: mem::replace(&mut self.levels, levels),
-            presences: mem::replace(&mut self.presences, presences),
+            levels: mem::replace(&mut self.levels, inside.levels),
+            presences: mem::replace(&mut self.presences, inside.presences),
+            extension: mem::replace(&mut self.extension, inside.extension),
+            expected: mem::replace(&mut self.expected, inside.expected),
         }
+    }
+
+    /// Leaves a scope: what waited outside is back.
+    fn leave(&mut self, outside: Scope)
+        ensures { self.new ≡ with_outside self.old (outside_of self.old.source outside) }
+    {
+        self.levels = outside.levels;
+        self.presences = outside.presences;
+        self.extension = outside.extension;
+        self.expected = outside.expected;
+    }
+
+    /// Takes the extension bit of a SEQUENCE (X.691 19.1), where its type has an extension marker.
+    fn take_extension_bit(&mut self, marker: bool) -> Result<bool, DecodeError>
+        ensures { TakesExtensionBit marker self.old result self.new }
+    {
+        if !marker {
+            return Ok(false);
+        }
+        let mut reader = self.reader();
+        let taken = reader.take_bit();
+        let left = reader.bits().len();
+        self.answer(taken, left)
+    }
+
+    /// Takes a bitmap (X.691 19.7, 19.8), and answers its presence bits. Only one in fragments takes memory.
+    fn take_flags(&mut self) -> Result<Flags, DecodeError>
+        ensures { TakesBitmap self.old result self.new }
+    {
+        let outer = self.bits;
+        let mut reader = self.reader();
+        let taken = take_bitmap(&mut reader);
+        let left = reader.bits().len();
+        match self.answer(taken, left)? {
+            PresenceBits::InPlace(count) => Ok(Flags::InPlace(outer.in_front(left, count))),
+            PresenceBits::Gathered(bits) => Ok(Flags::Gathered(bits, 0)),
+        }
+    }
+
+    /// Takes out the presence bits of the open SEQUENCE's additions that are still to be read, where they are ahead off
+    /// the bits left.
+    fn take_extension(&mut self) -> Result<Flags, DecodeError>
+        ensures { TakesFlags self.old result self.new }
+    {
+        match mem::replace(&mut self.extension, Extension::of_bit(false)) {
+            Extension::Shown(flags) => Ok(flags),
+            Extension::Ahead => self.take_flags(),
+        }
+    }
+
+    /// Refuses where a presence bit of the open SEQUENCE's root components wasn't read.
+    fn check_root_read(&mut self) -> Result<(), DecodeError>
+        ensures { IsRootRead self.old result self.new }
+    {
+        if !self.presence_bits().is_empty() {
+            return Err(self.refuse(DecodeErrorKind::MissingTag));
+        }
+        Ok(())
+    }
+
+    /// Asks for the next addition of the open SEQUENCE (X.691 19.7, 19.8): its presence bit, or none past the end of
+    /// the bitmap.
+    fn next_addition(&mut self) -> Result<Option<bool>, DecodeError>
+        requires { self.old.failed ≡ false }
+        ensures { AsksNext self.old result self.new }
+    {
+        self.check_root_read()?;
+        let Some(expected) = self.expected.checked_sub(1) else {
+            return Err(self.refuse(DecodeErrorKind::TypeNotExtensible));
+        };
+        let mut flags = self.take_extension()?;
+        let flag = flags.next(self.source.bits());
+        self.extension = Extension::Shown(flags);
+        self.expected = expected;
+        Ok(flag)
+    }
+
+    /// Enters contents that stand in the source, and answers what waits outside.
+    fn enter_contents(&mut self, contents: Span, total: WholeOctets) -> Addition<'input>
+        requires within { IsWithin contents self.old.source }
+        requires whole { total ≡ length (span_of contents self.old.source) }
+        ensures { EntersContents (span_of contents self.old.source) self.old (waiting_of self.new.source result)
+            self.new }
+    {
+        Addition {
+            bits: mem::replace(&mut self.bits, contents),
+            source: None,
+            presences: mem::replace(&mut self.presences, Span::empty()),
+            extension: mem::replace(&mut self.extension, Extension::of_bit(false)),
+            expected: mem::replace(&mut self.expected, 0),
+            total,
+        }
+    }
+
+    /// Enters contents that were gathered, and answers what waits outside.
+    fn enter_gathered(&mut self, octets: Vec<u8>) -> Addition<'input>
+        ensures { EntersContents (unpack octets.items) self.old (waiting_of self.new.source result) self.new }
+    {
+        let end = 8 * octets.len() as u128;
+        Addition {
+            source: Some(mem::replace(&mut self.source, Source::Gathered(octets))),
+            bits: mem::replace(&mut self.bits, Span { begin: 0, end }),
+            presences: mem::replace(&mut self.presences, Span::empty()),
+            extension: mem::replace(&mut self.extension, Extension::of_bit(false)),
+            expected: mem::replace(&mut self.expected, 0),
+            total: WholeOctets::new(end),
+        }
+    }
+
+    /// Takes the length of an open type (X.691 11.2), enters its contents, and answers what waits outside. Only those
+    /// in fragments take memory.
+    fn open_contents(&mut self) -> Result<Addition<'input>, DecodeError>
+        ensures { EntersOpen self.old result self.new }
+    {
+        let outer = self.bits;
+        let mut reader = self.reader();
+        let taken = take_open(&mut reader);
+        let left = reader.bits().len();
+        match self.answer(taken, left)? {
+            Contents::InPlace(count) => {
+                let contents = outer.in_front(left, count);
+                Ok(self.enter_contents(contents, WholeOctets::new(count)))
+            }
+            Contents::Gathered(octets) => Ok(self.enter_gathered(octets)),
+        }
+    }
+
+    /// Whether what is left of contents ends them (X.691 11.1).
+    fn end_of_contents(&self, total: WholeOctets) -> Result<(), DecodeErrorKind>
+        ensures { EndsContents self.now total result }
+    {
+        let reader = self.reader();
+        let left = reader.bits().len();
+        if left > total.bits() {
+            return Err(DecodeErrorKind::UnexpectedExtraData(left - total.bits()));
+        }
+        end_of_open(&reader, total.bits())
+    }
+
+    /// Leaves an open type: what waited outside is back.
+    fn leave_contents(&mut self, outside: Addition<'input>)
+        ensures { self.new ≡ outside_open self.old (waiting_of self.old.source outside.entry) }
+    {
+        let source = outside.source;
+        if let Some(source) = source {
+            self.source = source;
+        }
+        self.bits = outside.bits.within(&self.source.bits());
+        self.presences = outside.presences;
+        self.extension = outside.extension;
+        self.expected = outside.expected;
+    }
+
+    /// Skips the additions that the open SEQUENCE's type doesn't know, of which these are the presence bits (X.691
+    /// 19.9).
+    fn skip_additions(&mut self, flags: Flags) -> Result<(), DecodeError>
+        ensures { SkipsUnknown (flags_in self.old.source flags) self.old result self.new }
+    {
+        let bitmap = flags.into_bitmap(self.source.bits());
+        let mut reader = self.reader();
+        let taken = skip_unknown(&mut reader, bitmap);
+        let left = reader.bits().len();
+        self.answer(taken, left)
     }
 }
 
-/// What waits outside while a record is open: the levels that may be entered there, and the presence bits that are
-/// still to be read there.
+/// How many additions a type has.
+fn addition_count<C: Constructed>() -> usize
+    ensures { result ≡ length (fields_behind C.EXTENDED_FIELDS) }
+{
+    match C::EXTENDED_FIELDS {
+        Some(fields) => fields.len(),
+        None => 0,
+    }
+}
+
+/// What waits outside while a scope is open: the levels that may be entered there, and what is still to be read of the
+/// SEQUENCE there.
 #[derive(Drop)]
 pub struct Scope {
     levels: u32,
     presences: Span,
+    extension: Extension,
+    expected: usize,
+}
+
+impl Scope {
+    /// So many levels, and nothing of a SEQUENCE to read.
+    fn without_record(levels: u32) -> Self
+        ensures { (source : Bits) → outside_of source result ≡ no_record levels }
+    {
+        Scope {
+            levels,
+            presences: Span::empty(),
+            extension: Extension::of_bit(false),
+            expected: 0,
+        }
+    }
+}
+
+/// What waits outside while the open type of an addition is open: the bits behind it, and what is still to be read of
+/// the SEQUENCE there.
+#[derive(Drop)]
+pub struct Addition<'input> {
+    bits: Span,
+    /// Where the bits outside come from, if not from where the contents do.
+    source: Option<Source<'input>>,
+    presences: Span,
+    extension: Extension,
+    expected: usize,
+    /// How many bits the contents had.
+    total: WholeOctets,
 }
 
 /// What is left of an open list, and what waits outside: the levels that may be entered there.
@@ -374,13 +729,21 @@ impl<'input> decoder::Decoder for Decoder<'input> {
 
     type List = ListScope;
 
+    type Addition = Addition<'input>;
+
     ghost rules = { decoder_rules };
 
-    ghost opens = { Opens };
+    ghost opens = { λ c s o i. Opens c s (outside_of i.source o) i };
 
-    ghost closes = { Closes };
+    ghost closes = { λ s o t. Closes s (outside_of s.source o) t };
 
-    ghost unended = { Unended };
+    ghost unended = { λ o e s. Unended e s };
+
+    ghost opens_addition = { λ s o i. OpensAddition s (waiting_of i.source o) i };
+
+    ghost closes_addition = { λ s o t. ClosesAddition s (waiting_of s.source o) t };
+
+    ghost unended_addition = { λ o e s. UnendedAddition (waiting_of s.source o) e s };
 
     ghost opens_choice = { OpensChoice };
 
@@ -536,22 +899,53 @@ impl<'input> decoder::Decoder for Decoder<'input> {
         Ok(TeletexString::new(octets))
     }
 
+    fn required_extension_not_present(&mut self, tag: Tag) -> DecodeError {
+        self.refuse(DecodeErrorKind::RequiredExtensionNotPresent(tag))
+    }
+
     fn open_sequence<C: Constructed>(&mut self, _tag: Tag) -> Result<Scope, DecodeError> {
         self.check_unfailed()?;
         let levels = self.level_inside()?;
+        let extends = self.take_extension_bit(C::IS_EXTENSIBLE)?;
         let count = C::FIELDS.number_of_optional_and_default_fields();
         let presences = self.take_presences(count as u128)?;
-        Ok(self.enter(levels, presences))
+        Ok(self.enter(Scope {
+            levels,
+            presences,
+            extension: Extension::of_bit(extends),
+            expected: addition_count::<C>(),
+        }))
     }
 
     fn close_sequence(&mut self, scope: Scope) -> Result<(), DecodeError> {
         self.check_unfailed()?;
-        if !self.presence_bits().is_empty() {
+        self.check_root_read()?;
+        if self.expected > 0 {
             return Err(self.refuse(DecodeErrorKind::MissingTag));
         }
-        self.levels = scope.levels;
-        self.presences = scope.presences;
+        let flags = self.take_extension()?;
+        self.skip_additions(flags)?;
+        self.leave(scope);
         Ok(())
+    }
+
+    fn open_addition(&mut self) -> Result<Option<Addition<'input>>, DecodeError> {
+        self.check_unfailed()?;
+        match self.next_addition()? {
+            Some(true) => Ok(Some(self.open_contents()?)),
+            _ => Ok(None),
+        }
+    }
+
+    fn close_addition(&mut self, addition: Addition<'input>) -> Result<(), DecodeError> {
+        self.check_unfailed()?;
+        match self.end_of_contents(addition.total) {
+            Ok(()) => {
+                self.leave_contents(addition);
+                Ok(())
+            }
+            Err(kind) => Err(self.refuse(kind)),
+        }
     }
 
     fn open_choice<C: Choice>(&mut self) -> Result<(Tag, Scope), DecodeError> {
@@ -562,13 +956,12 @@ impl<'input> decoder::Decoder for Decoder<'input> {
         let taken = reader.take_choice_index(variants.len());
         let left = reader.bits().len();
         let index = self.answer(taken, left)?;
-        let scope = self.enter(levels, Span { begin: 0, end: 0 });
+        let scope = self.enter(Scope::without_record(levels));
         Ok((variants.tag_at(index), scope))
     }
 
     fn close_choice(&mut self, scope: Scope) {
-        self.levels = scope.levels;
-        self.presences = scope.presences;
+        self.leave(scope);
     }
 
     fn open_list(
@@ -618,7 +1011,9 @@ impl<'input> decoder::Decoder for Decoder<'input> {
 
     ghost lawful = { decodes_well };
 
-    ghost scopes = { scopes_well };
+    ghost scopes = { scopes_well outside_of };
+
+    ghost additions = { additions_well waiting_of };
 
     ghost choices = { choices_well };
 }

@@ -1,5 +1,5 @@
 -- The laws of the decoder's open types: an addition is the value in its open type, up to its end (X.691 11.2, 19.9).
-use Rattle.std.proofs.Common.{◌≡◌, ◌∙◌, inl, inr, refl, sym, ap, subst, ℕ, true, false, length, Option, Some, None}
+use Rattle.std.proofs.Common.{◌≡◌, ◌∙◌, ◌≤◌, inl, inr, refl, sym, ap, subst, ℕ, true, false, length, length-append, arith, Option, Some, None}
 use Rattle.rasn_types.specs.Bits.{Bits, unpack}
 use Rattle.rasn_types.specs.Values.{Value}
 use Rattle.rasn_schema.specs.Schemas.{Schema}
@@ -21,13 +21,13 @@ use Rattle.per_scopes.specs.State.{State, Spells, settings_of, with_bits}
 use Rattle.per_scopes.specs.Tails.{asks_agree}
 
 -- why contents don't end doesn't say that the decoder had failed
-new_why : (why : Surplus) → IsNew (kind_of why)
+pub new_why : (why : Surplus) → IsNew (kind_of why)
 new_why (Missing bits) = tt
 new_why NonzeroOctet = tt
 new_why NonzeroSpareBits = tt
 new_why (ExtraOctets octets) = tt
 
-of_next : (k : DecodeErrorKind) (c : Schema) (s : State) → IsNew k → IsInNext k c s → IsOfNext k c s
+pub of_next : (k : DecodeErrorKind) (c : Schema) (s : State) → IsNew k → IsInNext k c s → IsOfNext k c s
 of_next AlreadyFailed c s n h = absurd n
 of_next _ c s n h = h
 
@@ -63,9 +63,12 @@ module _ {s i : State} {w : Waiting} (a : OpensAddition s w i) where
   at_end_of c v e j h u =
       let k : settings_of j ≡ settings_of s = ap settings_of h.same ∙ same_settings in
       let n : w.total ≡ length (unpack a.octets) = ap (λ z. z.total) a.waits in
+      let q = value_in c v j h in
+      let less : length j.bits ≤ w.total = omega (arith, n, ap length q.joins, length-append q.front j.bits) in
+      let y : IsOfEnd (settings_of j) j.bits w.total e.kind = u.stands less in
       let x : IsOfEnd (settings_of s) j.bits (length (unpack a.octets)) e.kind
-      = subst (λ (z : ℕ). IsOfEnd (settings_of s) j.bits z e.kind) n (subst (λ z. IsOfEnd z j.bits w.total e.kind) k u.stands) in
-      of_open c e (u.codec ∙ ap (λ z. z.codec) h.same) (subst IsNew (sym u.stands.names) (new_why u.stands.why)) (at_their_end a.octets v a.took (value_in c v j h) x)
+      = subst (λ (z : ℕ). IsOfEnd (settings_of s) j.bits z e.kind) n (subst (λ z. IsOfEnd z j.bits w.total e.kind) k y) in
+      of_open c e (u.codec ∙ ap (λ z. z.codec) h.same) (subst IsNew (sym y.names) (new_why y.why)) (at_their_end a.octets v a.took q x)
 
   -- what is the same inside comes back behind the open type
   given_back : outside_open i w ≡ with_bits a.middle w.bits

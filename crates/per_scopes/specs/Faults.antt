@@ -1,5 +1,5 @@
 -- The fault that a refusal names, where it stands.
-use Rattle.std.specs.Prelude.{◌≡◌, ◌⊎◌, ℕ, Bool, true, false, List, [], ◌∷◌, length, Option, Some, None, Result, Ok, Err}
+use Rattle.std.specs.Prelude.{◌≡◌, ◌≤◌, ◌⊎◌, ℕ, Bool, true, false, List, [], ◌∷◌, length, Option, Some, None, Result, Ok, Err}
 use Rattle.rasn_types.specs.Bits.{Bits, unpack}
 use Rattle.rasn_types.specs.Values.{Value}
 use Rattle.rasn_types.specs.declared.types.Tag.{Tag}
@@ -28,7 +28,7 @@ use Rattle.per_additions.specs.Additions.{Addition, NextFlag, rule_of}
 use Rattle.per_additions.specs.Bitmaps.{skipped_unknown}
 use Rattle.per_additions.specs.Ends.{IsOfEnd}
 use Rattle.per_scopes.specs.Additions.{Asks, Shown, Waiting}
-use Rattle.per_scopes.specs.State.{Extension, ahead, State, extension_of, settings_of}
+use Rattle.per_scopes.specs.State.{Extension, ahead, State, extension_of, settings_of, with_last}
 
 -- what a kind says where no level is left
 abbrev pub IsOfCut : DecodeErrorKind → Type 0
@@ -128,10 +128,11 @@ pub record Fault (c : Schema) (e : DecodeError) (s : State) : Type 0 where
 abbrev pub refusal : DecodeErrorKind → State → DecodeError
 refusal k s = record { kind = k; codec = s.codec }
 
--- A decoder's answer to what was taken: the value; or the refusal of its kind, after which the decoder has failed.
-abbrev pub Answered : {T : Type 0} → Result T DecodeErrorKind → State → Result T DecodeError → State → Type 0
-Answered (Ok v) s result t = (result ≡ Ok v) × (t ≡ s)
-Answered (Err k) s result t = (result ≡ Err (refusal k s)) × (t ≡ record s { failed = true })
+-- A decoder's answer to what a reader of its bits took that has so many bits left: the value, with these bits left; or the
+-- refusal of its kind, after which the decoder has failed.
+abbrev pub Answered : {T : Type 0} → Result T DecodeErrorKind → ℕ → State → Result T DecodeError → State → Type 0
+Answered (Ok v) left s result t = (result ≡ Ok v) × (t ≡ with_last s left)
+Answered (Err k) left s result t = (result ≡ Err (refusal k s)) × (t ≡ record s { failed = true })
 
 -- an error by which a presence bit is refused: none is left, or the decoder had failed
 abbrev pub IsUnmarked : DecodeError → State → Type 0
@@ -171,7 +172,7 @@ pub record Unended (e : DecodeError) (s : State) : Type 0 where
   pub codec : e.codec ≡ s.codec
   pub stands : IsOfEnding e.kind s
 
--- What is left of the contents of an open type doesn't end them (X.691 11.1).
+-- What is left of the contents of an open type doesn't end them (X.691 11.1): no more is left than they had.
 pub record UnendedAddition (w : Waiting) (e : DecodeError) (s : State) : Type 0 where
   pub codec : e.codec ≡ s.codec
-  pub stands : IsOfEnd (settings_of s) s.bits w.total e.kind
+  pub stands : length s.bits ≤ w.total → IsOfEnd (settings_of s) s.bits w.total e.kind

@@ -72,7 +72,7 @@ took_fields a true rs adds ss xs {s} {t} h = go (either_took h)
         record { extends = true; middle = q.0; behind = w.0; bit = q.1; root = w.1; flags = y.spelled.flags; end = x.0; bitmap = x.1; additions = x.2 }
 
 -- the extension bit is one
-bit_agree : (marker b c : Bool) → Agree (b ≡ c) (ExtensionBit marker b) (ExtensionBit marker c)
+pub bit_agree : (marker b c : Bool) → Agree (b ≡ c) (ExtensionBit marker b) (ExtensionBit marker c)
 bit_agree true b c = weaken (λ e. let f : b ∷ [] ≡ c ∷ [] = e in cc) (exactly_agree (b ∷ []) (c ∷ []) refl)
 bit_agree false false false = weaken (λ u. refl) empty_agree
 bit_agree false false true = agree_never

@@ -1,5 +1,5 @@
 -- What a decoder holds, and what its calls read.
-use Rattle.std.specs.Prelude.{◌≡◌, ℕ, Bool, true, false, List, [], ◌∷◌}
+use Rattle.std.specs.Prelude.{◌≡◌, ◌-◌, ℕ, Bool, true, false, List, [], ◌∷◌, drop, length}
 use Rattle.rasn_types.specs.Bits.{Bits}
 use Rattle.rasn_types.specs.Values.{Value}
 use Rattle.rasn_types.specs.declared.types.Codec.{Codec}
@@ -8,6 +8,7 @@ use Rattle.per_core.specs.Spellings.{Settings}
 use Rattle.per_core.specs.Basic.{basic}
 use Rattle.per_core.specs.Took.{Took}
 use Rattle.per_read.specs.Options.{settings}
+use Rattle.per_read.specs.State.{State as Taking}
 use Rattle.per_read.specs.declared.ReaderOptions.{ReaderOptions}
 
 -- What a decoder is told: the codec, how many levels of values it may enter, and whether padding must be zero.
@@ -66,9 +67,17 @@ options_of s = record { codec = s.codec; zero_padding = s.zero_padding }
 abbrev pub settings_of : State → Settings
 settings_of s = settings (options_of s)
 
+-- a reader of the bits that are left
+abbrev pub reader_of : State → Taking
+reader_of s = record { bits = s.bits; options = options_of s }
+
 -- the same with other bits left
 abbrev pub with_bits : State → Bits → State
 with_bits s b = record s { bits = b }
+
+-- the same with the last so many bits left
+abbrev pub with_last : State → ℕ → State
+with_last s n = with_bits s (drop (length s.bits - n) s.bits)
 
 -- A front of the bits that are left spells a value, and the bits behind it are left.
 pub record Spells (c : Schema) (s : State) (v : Value) (t : State) : Type 0 where

@@ -26,7 +26,7 @@ use Rattle.per_scopes.specs.Rules.{decoder_rules}
 use Rattle.per_scopes.specs.State.{Extension, ahead, shown, State, settings_of, with_bits}
 
 -- the presence bits of a bitmap are one list, and one of them is next
-shown_agree : (a : Settings) (x : Extension) (f g : List Bool) → Agree (f ≡ g) (Shown a x f) (Shown a x g)
+pub shown_agree : (a : Settings) (x : Extension) (f g : List Bool) → Agree (f ≡ g) (Shown a x f) (Shown a x g)
 shown_agree a ahead f g = bitmap_agree a f g
 shown_agree a (shown old) f g = when_agree (λ u v. weaken (λ w. u ∙ sym v) empty_agree)
 
@@ -287,7 +287,7 @@ faulty_tail a e (part k p c qs) s i live done counted (faulty_further {m = m} x 
 faulty_tail a e no_parts s i live done counted x = elim x [ ]
 
 -- a kind that tests show doesn't say that the decoder had failed
-tested_new : (k : DecodeErrorKind) → IsTested k → IsNew k
+pub tested_new : (k : DecodeErrorKind) → IsTested k → IsNew k
 tested_new AlreadyFailed h = absurd h
 tested_new _ h = tt
 

@@ -1,0 +1,144 @@
+-- What opening and closing a record with additions, and the open type of one, take, and why they refuse (X.691 19.7 to 19.9).
+use Rattle.std.proofs.Common.{◌≡◌, ◌⊎◌, inl, inr, refl, sym, ◌∙◌, ap, subst, ℕ, suc, true, false, [], Option, Some, None, length, arith}
+use Rattle.std.specs.Prelude.{Ok, Err}
+use Rattle.rasn_types.specs.Values.{Value}
+use Rattle.rasn_schema.specs.Fields.{shapes_from}
+use Rattle.rasn_schema.specs.Schemas.{Schema, Parts, no_parts, part, count}
+use Rattle.rasn_calls.specs.AdditionsRead.{ReadsNoAddition}
+use Rattle.per_core.specs.Basic.{Fills, Octets, Unknown, basic}
+use Rattle.per_core.specs.Took.{Took}
+use Rattle.per_core.proofs.Took.{then_took, took_agree, took_then}
+use Rattle.per_read.specs.Kinds.{NoneIn, Stopped}
+use Rattle.per_read.specs.declared.error.DecodeError.{DecodeError}
+use Rattle.per_read.specs.declared.error.DecodeErrorKind.{DecodeErrorKind}
+use Rattle.per_read.specs.declared.error.DecodeErrorKind.TheVariants.{MissingTag, OutOfMemory}
+use Rattle.per_additions.specs.Bitmaps.{skipped_unknown}
+use Rattle.per_additions.proofs.Opened.{no_open}
+use Rattle.per_scopes.specs.AdditionLaws.{of_next}
+use Rattle.per_scopes.specs.Additions.{Adds, Asks, OpensAddition, Shown, Waiting}
+use Rattle.per_scopes.specs.Faults.{IsInTail, behind_bitmap, in_bitmap, in_octets, in_open, in_unknown, refusal, unread, unskipped, IsOfNext, Unended}
+use Rattle.per_scopes.specs.Rules.{decoder_rules}
+use Rattle.per_scopes.specs.Scopes.{Closes, Outside, with_outside}
+use Rattle.per_scopes.specs.State.{Extension, State, ahead, settings_of, with_bits}
+use Rattle.per_scopes.specs.Tails.{asks_agree, shown_agree, tested_new}
+use Rattle.per_de.specs.Sources.{flags_in}
+use Rattle.per_de.specs.Steps.{IsOfBitmap, OpensContents, RefusedAs, SkipsUnknown, TakesFlags, Unasked}
+use Rattle.per_de.specs.declared.Flags.{Flags}
+
+-- how many parts there are
+pub shapes_counted : (i : ℕ) (ps : Parts) → length (shapes_from i ps) ≡ count ps
+shapes_counted i no_parts = refl
+shapes_counted i (part t q s ps) = ap suc (shapes_counted (suc i) ps) ∙ omega arith
+
+-- a record can't end
+abbrev pub Endless : State → Outside → DecodeError → Type 0
+Endless s w e = (e ≡ refusal OutOfMemory s) ⊎ (((u : State) → Closes s w u → ⊥) × Unended e s)
+
+pub root_unread : (s : State) (w : Outside) (e : DecodeError) → e ≡ refusal MissingTag s → (s.presences ≡ [] → ⊥) → Endless s w e
+root_unread s w e i none = inr ((λ u h. none h.done), subst (λ z. Unended z s) (sym i) (record { codec = refl; stands = unread refl (λ p q. none p) }))
+
+pub addition_unread : (s : State) (w : Outside) (e : DecodeError) → e ≡ refusal MissingTag s → (s.expected ≡ 0 → ⊥) → Endless s w e
+addition_unread s w e i none = inr ((λ u h. none h.none), subst (λ z. Unended z s) (sym i) (record { codec = refl; stands = unread refl (λ p q. none q) }))
+
+-- no bitmap stands where one is ahead
+pub bitmap_unread : (s m t : State) (w : Outside) (e : DecodeError) → m ≡ s → s.presences ≡ [] → s.expected ≡ 0 → TakesFlags m (Err e) t → Endless s w e
+bitmap_unread s m t w e same done none h =
+    let k : TakesFlags s (Err e) t = subst (λ z. TakesFlags z (Err e) t) same h in
+    go k.0 k.1.kind k.1.is k.1.because
+  where
+    go : s.extension ≡ ahead → (d : DecodeErrorKind) → e ≡ refusal d s → IsOfBitmap s d → Endless s w e
+    go x d i (inl o) = inl (i ∙ ap (λ z. refusal z s) o)
+    go x d i (inr o) = inr (
+      (λ u c. let q = then_took c.skipped in o.1 c.flags q.0 (subst (λ (z : Extension). Took (Shown (settings_of s) z c.flags) s.bits q.0) x q.1)),
+      subst (λ z. Unended z s) (sym i) (record {
+        codec = refl;
+        stands = unskipped done none (subst (λ (z : Extension). IsInTail (settings_of s) d no_parts z s.bits) (sym x) (in_bitmap o.0 o.1));
+      }),
+    )
+
+-- behind the bitmap
+module _ (s m n : State) (flags : Flags) (same : m ≡ s) (done : s.presences ≡ []) (none : s.expected ≡ 0) (h : TakesFlags m (Ok flags) n) where
+  took_flags : TakesFlags s (Ok flags) n
+  took_flags = subst (λ z. TakesFlags z (Ok flags) n) same h
+
+  source_kept : n.source ≡ s.source
+  source_kept = ap (λ z. z.source) took_flags.1
+
+  settings_kept : settings_of n ≡ settings_of s
+  settings_kept = ap settings_of took_flags.1
+
+  same_flags : flags_in n.source flags ≡ flags_in s.source flags
+  same_flags = ap (λ z. flags_in z flags) source_kept
+
+  -- an unknown addition isn't there
+  pub unknown_unread : (t : State) (w : Outside) (e : DecodeError) → SkipsUnknown (flags_in n.source flags) n (Err e) t → Endless s w e
+  unknown_unread t w e r =
+      let no : NoneIn (skipped_unknown (flags_in s.source flags) (settings_of s)) n.bits = subst (λ z. NoneIn (skipped_unknown (flags_in s.source flags) z) n.bits) settings_kept (subst (λ z. NoneIn (skipped_unknown z (settings_of n)) n.bits) same_flags r.because.1) in
+      let codec : e.codec ≡ s.codec = ap (λ z. z.codec) r.is ∙ ap (λ z. z.codec) took_flags.1 in
+      let kind : r.kind ≡ e.kind = ap (λ z. z.kind) (sym r.is) in
+      inr (
+        (λ u c. let q = then_took c.skipped in
+            let g = took_agree (shown_agree (settings_of s) s.extension c.flags (flags_in s.source flags)) q.1 took_flags.0 in
+            no tt u.bits (subst (λ z. Took (Unknown (settings_of s) z) n.bits u.bits) g.0 (subst (λ z. Took (Unknown (settings_of s) c.flags) z u.bits) g.1 q.2))),
+        record {
+          codec = codec;
+          stands = unskipped done none (subst (λ z. IsInTail (settings_of s) z no_parts s.extension s.bits) kind (behind_bitmap (flags_in s.source flags) took_flags.0 (in_unknown r.because.0 no)));
+        },
+      )
+
+  -- they were skipped
+  pub record_closed : (u t : State) (w : Outside) → s.failed ≡ false → SkipsUnknown (flags_in n.source flags) n (Ok tt) u → t ≡ with_outside u w → Closes s w t
+  record_closed u t w live r e =
+      let k : Took (Unknown (settings_of s) (flags_in s.source flags)) n.bits u.bits = subst (λ z. Took (Unknown z (flags_in s.source flags)) n.bits u.bits) settings_kept (subst (λ z. Took (Unknown (settings_of n) z) n.bits u.bits) same_flags r.0) in
+      subst (λ z. Closes s w z) (sym e) (record {
+        live = live;
+        done = done;
+        none = none;
+        flags = flags_in s.source flags;
+        skipped = took_then took_flags.0 k;
+        same = ap (λ z. with_outside z w) r.1 ∙ ap (λ z. with_outside (with_bits z u.bits) w) took_flags.1;
+      })
+
+-- the open type of the next addition
+pub opens_addition : (s m : State) (w : Waiting) (i : State) → Asks s (Some true) m → OpensContents m w i → OpensAddition s w i
+opens_addition s m w i a h = record { middle = m; asks = a; octets = h.octets; took = subst (λ z. Took (Octets z h.octets) m.bits w.bits) (ap settings_of a.same) h.took; contents = h.enters.inside; waits = h.enters.waits; same = h.enters.same }
+
+-- no addition can be asked for
+pub no_addition : (s : State) (e : DecodeError) → (e ≡ refusal OutOfMemory s) ⊎ Unasked e s → (e ≡ refusal OutOfMemory s) ⊎ ReadsNoAddition decoder_rules e s
+no_addition s e (inl h) = inl h
+no_addition s e (inr h) = inr (record { nothing = λ c r t a. go c r t a; stands = λ c. record { codec = h.codec; stands = h.stands c } })
+  where
+    go : (c : Schema) (r : Option Value) (t : State) → Adds c s r t → ⊥
+    go c (Some v) t a = h.none (Some true) a.middle a.asks
+    go c None t (inl a) = h.none (Some false) t a
+    go c None t (inr a) = h.none None t a
+
+-- no open type stands where one is shown
+pub no_contents : (s m : State) (e : DecodeError) (t : State) → Asks s (Some true) m → RefusedAs (Stopped (NoneIn (Octets (settings_of m)) m.bits)) m e t → (e ≡ refusal OutOfMemory s) ⊎ ReadsNoAddition decoder_rules e s
+no_contents s m e t asks h = go h.kind h.is h.because
+  where
+    at : (d : DecodeErrorKind) → refusal d m ≡ refusal d s
+    at d = ap (λ z. refusal d z) asks.same
+
+    same : settings_of m ≡ settings_of s
+    same = ap settings_of asks.same
+
+    nothing : NoneIn (Octets (settings_of s)) m.bits → (c : Schema) (r : Option Value) (u : State) → Adds c s r u → ⊥
+    nothing none c (Some v) u a =
+        let g = (asks_agree s (Some true) (Some true) a.middle m a.asks asks).1 in
+        no_open (settings_of s) (Fills (settings_of s) (basic (settings_of s) c v)) (subst (λ (z : State). NoneIn (Octets (settings_of s)) z.bits) (sym g) none) u.bits a.took
+    nothing none c None u (inl a) = let g = (asks_agree s (Some false) (Some true) u m a asks).0 in absurd cc
+    nothing none c None u (inr a) = let g = (asks_agree s None (Some true) u m a asks).0 in absurd cc
+
+    go : (d : DecodeErrorKind) → e ≡ refusal d m → Stopped (NoneIn (Octets (settings_of m)) m.bits) d → (e ≡ refusal OutOfMemory s) ⊎ ReadsNoAddition decoder_rules e s
+    go d i (inl o) = inl (i ∙ ap (λ z. refusal z m) o ∙ at OutOfMemory)
+    go d i (inr o) =
+        let none : NoneIn (Octets (settings_of s)) m.bits = subst (λ z. NoneIn (Octets z) m.bits) same o.1 in
+        let f : e ≡ refusal d s = i ∙ at d in
+        inr (record {
+          nothing = nothing none;
+          stands = λ c. record {
+            codec = ap (λ z. z.codec) f;
+            stands = subst (λ (z : DecodeError). IsOfNext z.kind c s) (sym f) (of_next d c s (tested_new d o.0) (in_open asks (in_octets o.0 none)));
+          };
+        })

@@ -1,0 +1,108 @@
+-- The steps of a decoder's calls: what each takes off the front of the bits left, or why it refuses.
+use Rattle.std.specs.Prelude.{◌≡◌, ◌-◌, ◌<◌, ◌≤◌, ◌⊎◌, ℕ, true, List, [], Bool, Option, length, Result, Ok, Err, OnOk, IfErr}
+use Rattle.rasn_types.specs.Bits.{Bits, unpack}
+use Rattle.rasn_schema.specs.Schemas.{Schema}
+use Rattle.per_core.specs.Basic.{ExtensionBit, IsBitmap, Octets, Unknown}
+use Rattle.per_core.specs.Took.{Took}
+use Rattle.per_read.specs.Kinds.{IsTested, NoneIn, Stopped}
+use Rattle.per_read.specs.Takes.{Row}
+use Rattle.per_read.specs.declared.error.DecodeError.{DecodeError}
+use Rattle.per_read.specs.declared.error.DecodeErrorKind.{DecodeErrorKind}
+use Rattle.per_read.specs.declared.error.DecodeErrorKind.TheVariants.{Incomplete, MissingTag, OutOfMemory}
+use Rattle.per_additions.specs.Bitmaps.{skipped_unknown}
+use Rattle.per_additions.specs.Ends.{EndsAs, IsOfEnd}
+use Rattle.per_scopes.specs.Additions.{Asks, Shown, Waiting}
+use Rattle.per_scopes.specs.Faults.{IsOfNext, refusal}
+use Rattle.per_scopes.specs.State.{State, ahead, settings_of, shown, with_bits}
+use Rattle.per_de.specs.Outsides.{waiting_of}
+use Rattle.per_de.specs.Sources.{flags_in, span_of}
+use Rattle.per_de.specs.declared.Addition.{Addition}
+use Rattle.per_de.specs.declared.Flags.{Flags}
+use Rattle.per_de.specs.declared.Span.{Span}
+
+-- A refusal of some kind, for a reason, after which the decoder has failed.
+pub record RefusedAs (why : DecodeErrorKind → Type 0) (s : State) (e : DecodeError) (t : State) : Type 0 where
+  pub kind : DecodeErrorKind
+  pub is : e ≡ refusal kind s
+  pub because : why kind
+  pub failed : t.failed ≡ true
+  pub codec : t.codec ≡ s.codec
+
+-- So many presence bits are taken off the bits left, and stand in a part of the source; where fewer are left the decoder
+-- refuses (X.691 19.2).
+abbrev pub TakesPresences : ℕ → State → Result Span DecodeError → State → Type 0
+TakesPresences n s (Ok p) t = Took (Row n (span_of p s.source)) s.bits t.bits × (t ≡ with_bits s t.bits)
+TakesPresences n s (Err e) t = (length s.bits < n) × (e ≡ refusal (Incomplete (n - length s.bits)) s) × (t ≡ record s { failed = true })
+
+-- The extension bit is taken off the bits left, where there is a marker (X.691 19.1).
+abbrev pub TakesExtensionBit : Bool → State → Result Bool DecodeError → State → Type 0
+TakesExtensionBit marker s (Ok b) t = Took (ExtensionBit marker b) s.bits t.bits × (t ≡ with_bits s t.bits)
+TakesExtensionBit marker s (Err e) t = RefusedAs (λ k. IsTested k × NoneIn (ExtensionBit marker) s.bits) s e t
+
+-- want of memory, or a kind that tests show, where no bitmap stands at the front (X.691 19.7)
+abbrev pub IsOfBitmap : State → DecodeErrorKind → Type 0
+IsOfBitmap s = Stopped (NoneIn (IsBitmap (settings_of s)) s.bits)
+
+-- A bitmap is taken off the bits left (X.691 19.7, 19.8).
+abbrev pub TakesBitmap : State → Result Flags DecodeError → State → Type 0
+TakesBitmap s (Ok flags) t = Took (IsBitmap (settings_of s) (flags_in s.source flags)) s.bits t.bits × (t ≡ with_bits s t.bits)
+TakesBitmap s (Err e) t = RefusedAs (IsOfBitmap s) s e t
+
+-- The presence bits of additions are taken out that are still to be read, and off the bits left where they are still ahead
+-- (X.691 19.7, 19.8).
+abbrev pub TakesFlags : State → Result Flags DecodeError → State → Type 0
+TakesFlags s (Ok flags) t = Took (Shown (settings_of s) s.extension (flags_in s.source flags)) s.bits t.bits × (t ≡ record s { bits = t.bits; extension = shown [] })
+TakesFlags s (Err e) t = (s.extension ≡ ahead) × RefusedAs (IsOfBitmap s) s e t
+
+-- An addition can't be asked for, whichever the schema.
+pub record Unasked (e : DecodeError) (s : State) : Type 0 where
+  pub none : (flag : Option Bool) (m : State) → Asks s flag m → ⊥
+  pub codec : e.codec ≡ s.codec
+  pub stands : (c : Schema) → IsOfNext e.kind c s
+
+-- The next addition is asked for; Err, memory aside, comes only where none can be.
+abbrev pub AsksNext : State → Result (Option Bool) DecodeError → State → Type 0
+AsksNext s (Ok flag) t = Asks s flag t
+AsksNext s (Err e) t = ((e ≡ refusal OutOfMemory s) ⊎ Unasked e s) × (t.failed ≡ true) × (t.codec ≡ s.codec)
+
+-- The contents of an open type are entered: what is still to be read of a record waits outside, and nothing of one is read
+-- inside (X.691 11.2).
+pub record EntersContents (contents : Bits) (s : State) (w : Waiting) (i : State) : Type 0 where
+  pub inside : i.bits ≡ contents
+  pub waits : w ≡ record {
+    bits = s.bits;
+    source = s.source;
+    presences = s.presences;
+    extension = s.extension;
+    expected = s.expected;
+    total = length contents;
+  }
+  pub same : i ≡ record s { bits = i.bits; source = i.source; presences = []; extension = shown []; expected = 0 }
+
+-- an open type's contents are entered behind its length
+pub record OpensContents (s : State) (w : Waiting) (i : State) : Type 0 where
+  pub octets : List ℕ
+  pub took : Took (Octets (settings_of s) octets) s.bits w.bits
+  pub enters : EntersContents (unpack octets) (with_bits s w.bits) w i
+
+-- Ok is inside an open type, and Err comes only where none stands at the front, or for want of memory.
+abbrev pub EntersOpen : State → Result Addition DecodeError → State → Type 0
+EntersOpen s (Ok o) i = OpensContents s (waiting_of i.source o) i
+EntersOpen s (Err e) i = RefusedAs (Stopped (NoneIn (Octets (settings_of s)) s.bits)) s e i
+
+-- The additions that the schema doesn't know are taken off the bits left (X.691 19.9).
+abbrev pub SkipsUnknown : List Bool → State → Result (Unit {0}) DecodeError → State → Type 0
+SkipsUnknown flags s (Ok u) t = Took (Unknown (settings_of s) flags) s.bits t.bits × (t ≡ with_bits s t.bits)
+SkipsUnknown flags s (Err e) t = RefusedAs (λ k. IsTested k × NoneIn (skipped_unknown flags (settings_of s)) s.bits) s e t
+
+-- Whether what is left of contents of n bits ends them: Ok comes exactly where it does, and Err says why it doesn't, where
+-- no more is left than they had (X.691 11.1).
+pub record EndsContents (s : State) (n : ℕ) (result : Result (Unit {0}) DecodeErrorKind) : Type 0 where
+  pub ok : OnOk result (EndsAs (settings_of s) s.bits n)
+  pub none : IfErr result (λ k. EndsAs (settings_of s) s.bits n → ⊥)
+  pub err : IfErr result (λ k. length s.bits ≤ n → IsOfEnd (settings_of s) s.bits n k)
+
+-- each presence bit of the root components was read; else the decoder refuses
+abbrev pub IsRootRead : State → Result (Unit {0}) DecodeError → State → Type 0
+IsRootRead s (Ok u) t = (s.presences ≡ []) × (t ≡ s)
+IsRootRead s (Err e) t = (s.presences ≡ [] → ⊥) × (e ≡ refusal MissingTag s) × (t ≡ record s { failed = true })
