@@ -8,8 +8,8 @@ use Rattle.rasn_schema.specs.Schemas.{Schema}
 use Rattle.rasn_calls.specs.Calls.{Refuses}
 use Rattle.per_core.specs.Ends.{Ends, IsWhy}
 use Rattle.per_core.specs.declared.ended.Surplus.{Surplus}
-use Rattle.per_de.specs.State.{State, Spells}
-use Rattle.per_de.specs.Faults.{Fault, refusal}
+use Rattle.per_scopes.specs.State.{State, Spells}
+use Rattle.per_scopes.specs.Faults.{Fault, refusal}
 use Rattle.per_read.specs.declared.error.DecodeError.{DecodeError}
 use Rattle.per_read.specs.declared.error.DecodeErrorKind.TheVariants.{OutOfMemory}
 use Rattle.rasn_per.specs.Calls.{DecodedBy, DecodedFront}

@@ -14,8 +14,8 @@ use Rattle.per_core.proofs.Readings.{one_reading}
 use Rattle.per_core.proofs.Took.{took_agree}
 use Rattle.per_core.proofs.Laws.{one_value, one_front}
 use Rattle.per_core.proofs.Filling.{fills_read, fills_back}
-use Rattle.per_de.specs.State.{State, Options, Spells, fresh as begin, with_bits}
-use Rattle.per_de.specs.Faults.{Fault, refusal}
+use Rattle.per_scopes.specs.State.{State, Options, Spells, fresh as begin, with_bits}
+use Rattle.per_scopes.specs.Faults.{Fault, refusal}
 use Rattle.per_read.specs.declared.error.DecodeError.{DecodeError}
 use Rattle.per_read.specs.declared.error.DecodeErrorKind.TheVariants.{OutOfMemory}
 use Rattle.rasn_per.specs.Complete.{reading, basically, AreReadBy, AreUnreadBy, BeginWith, BeginWithNone}

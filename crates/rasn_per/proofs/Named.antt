@@ -1,18 +1,17 @@
 -- What the kind of a refused reading says of the octets.
-use Rattle.std.proofs.Common.{◌≡◌, refl, sym, ap, subst, ℕ, Bool, List, ◌⊎◌, inl, inr, Result, Err}
+use Rattle.std.proofs.Common.{◌≡◌, sym, ap, subst, ℕ, Bool, List, ◌⊎◌, inl, inr, Result, Err}
 use Rattle.std.specs.Prelude.{IfErr}
 use Rattle.rasn_types.specs.Bits.{Bits}
 use Rattle.rasn_types.specs.Codecs.{variant_of}
 use Rattle.rasn_types.specs.Values.{Value}
 use Rattle.rasn_types.specs.declared.types.Codec.{Codec}
-use Rattle.rasn_schema.specs.Schemas.{Schema, Parts}
+use Rattle.rasn_schema.specs.Schemas.{Schema}
 use Rattle.rasn_calls.specs.Calls.{Refuses}
 use Rattle.per_core.specs.Ends.{IsWhy}
-use Rattle.per_core.specs.Spellings.{Settings}
 use Rattle.per_core.specs.declared.ended.Surplus.{Surplus}
 use Rattle.per_core.specs.declared.ended.Surplus.TheVariants.{Missing, NonzeroOctet, NonzeroSpareBits, ExtraOctets}
-use Rattle.per_de.specs.State.{State, Spells}
-use Rattle.per_de.specs.Faults.{in_alternative, in_element, IsAt, IsInBits, at_once, inside, IsInParts, here, later, IsOf, Fault, refusal}
+use Rattle.per_scopes.specs.State.{State, Spells}
+use Rattle.per_scopes.specs.Faults.{IsOf, Fault, refusal}
 use Rattle.per_read.specs.declared.error.DecodeError.{DecodeError}
 use Rattle.per_read.specs.declared.error.DecodeErrorKind.{DecodeErrorKind}
 use Rattle.per_read.specs.declared.error.DecodeErrorKind.TheVariants.{Incomplete, ParserFail, UnexpectedExtraData, AlreadyFailed, OutOfMemory}
@@ -21,37 +20,10 @@ use Rattle.rasn_per.specs.Complete.{reading}
 use Rattle.rasn_per.specs.Remainders.{IsWhyNone}
 use Rattle.rasn_per.proofs.Decoded.{fresh, Ended, so}
 
--- no call of a decoder finds octets left over
-extra_nowhere : (a : Settings) (c : Schema) (s : Bits) (n : ℕ) → IsAt a c s (UnexpectedExtraData n) → ⊥
-extra_nowhere a Schema.boolean s n h = h
-extra_nowhere a Schema.null s n h = h
-extra_nowhere a (Schema.number b m r) s n h = h
-extra_nowhere a (Schema.items r e x) s n h = h
-extra_nowhere a (Schema.choice p e x) s n h = h
-extra_nowhere a (Schema.octet_string z m) s n h = h
-extra_nowhere a (Schema.bit_string z m) s n h = h
-extra_nowhere a (Schema.char_string l z m) s n h = h
-extra_nowhere a (Schema.text k) s n h = h
-extra_nowhere a Schema.real s n h = h
-extra_nowhere a (Schema.list e z m) s n h = h
-extra_nowhere a Schema.cut s n h = h
-extra_nowhere a _ s n h = h
-
-mutual
-  no_extra : {a : Settings} {k : DecodeErrorKind} {c : Schema} {s : Bits} → IsInBits a k c s → (n : ℕ) → k ≡ UnexpectedExtraData n → ⊥
-  no_extra {a} {k} {c} {s} (at_once h) n e = extra_nowhere a c s n (subst (IsAt a c s) e h)
-  no_extra (inside b t h) n e = no_extra_inside h n e
-  no_extra (in_alternative t i h) n e = no_extra h n e
-  no_extra (in_element vs t h) n e = no_extra h n e
-
-  no_extra_inside : {a : Settings} {k : DecodeErrorKind} {ps : Parts} {bs : List Bool} {s : Bits} → IsInParts a k ps bs s → (n : ℕ) → k ≡ UnexpectedExtraData n → ⊥
-  no_extra_inside (here h) n e = no_extra h n e
-  no_extra_inside (later r t h) n e = no_extra_inside h n e
-
 module _ (a : Codec) (strict : Bool) (schema : ℕ → Schema) (octets : List ℕ) where
   of_fresh : (k : DecodeErrorKind) → IsOf k (schema 128) (fresh a strict octets) → IsInOctetsBy (reading strict (variant_of a)) schema octets k
   of_fresh AlreadyFailed h = absurd (cc)
-  of_fresh (UnexpectedExtraData n) h = absurd (no_extra h n refl)
+  of_fresh (UnexpectedExtraData n) h = inr h
   of_fresh (Incomplete n) h = tt
   of_fresh (ParserFail cause) h = tt
   of_fresh OutOfMemory h = tt
@@ -96,10 +68,10 @@ module _ (a : Codec) (strict : Bool) (schema : ℕ → Schema) (octets : List �
   named_surplus (Missing n) v s t b e h d = tt
   named_surplus NonzeroOctet v s t b e h d = tt
   named_surplus NonzeroSpareBits v s t b e h d = tt
-  named_surplus (ExtraOctets n) v s t b e h d = record {
+  named_surplus (ExtraOctets n) v s t b e h d = inl (record {
     value = v;
     left = t.bits;
     read = (subst (λ z. Spells (schema z.levels) z v t) e h).took;
     are_over = (so a strict schema octets (λ l m. IsWhy strict l m (ExtraOctets n)) t b d).0;
     zeros = (so a strict schema octets (λ l m. IsWhy strict l m (ExtraOctets n)) t b d).1;
-  }
+  })

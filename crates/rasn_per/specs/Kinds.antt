@@ -1,5 +1,5 @@
 -- The fault that a refused reading names, where it stands in the octets.
-use Rattle.std.specs.Prelude.{ℕ, List, length}
+use Rattle.std.specs.Prelude.{◌⊎◌, ℕ, List, length}
 use Rattle.rasn_types.specs.Bits.{unpack, Bits}
 use Rattle.rasn_types.specs.Variants.{Variant}
 use Rattle.rasn_types.specs.Values.{Value}
@@ -10,7 +10,7 @@ use Rattle.per_core.specs.Spellings.{Settings, ZeroIf}
 use Rattle.per_core.specs.Took.{Took}
 use Rattle.per_core.specs.declared.ended.Surplus.{Surplus}
 use Rattle.per_core.specs.declared.ended.Surplus.TheVariants.{Missing, NonzeroOctet, NonzeroSpareBits, ExtraOctets}
-use Rattle.per_de.specs.Faults.{IsInBits}
+use Rattle.per_scopes.specs.Faults.{IsInBits}
 use Rattle.per_read.specs.declared.error.DecodeErrorKind.{DecodeErrorKind}
 use Rattle.per_read.specs.declared.error.DecodeErrorKind.TheVariants.{Incomplete, ParserFail, UnexpectedExtraData, OutOfMemory}
 use Rattle.per_read.specs.declared.error.ParserFailCause.TheVariants.{NonzeroEmptyValue, NonzeroPadding}
@@ -39,9 +39,10 @@ IsInFront a schema octets (ParserFail cause) = Unit {0}
 IsInFront a schema octets OutOfMemory = Unit {0}
 IsInFront a schema octets k = IsInBits a k (schema 128) (unpack octets)
 
--- the same where all octets have to be read
+-- the same where all octets have to be read: whole ones are left over behind the value, or in an open type within it
 abbrev pub IsInOctetsBy : Settings → (ℕ → Schema) → List ℕ → DecodeErrorKind → Type 0
-IsInOctetsBy a schema octets (UnexpectedExtraData over) = LeaveOver a schema octets over
+IsInOctetsBy a schema octets (UnexpectedExtraData over) =
+    LeaveOver a schema octets over ⊎ IsInFront a schema octets (UnexpectedExtraData over)
 IsInOctetsBy a schema octets k = IsInFront a schema octets k
 
 -- and where padding has any value
