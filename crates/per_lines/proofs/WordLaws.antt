@@ -6,7 +6,7 @@ use Rattle.std.specs.Str.{bytes_eq}
 use Rattle.rasn_types.specs.declared.types.Codec.{Codec}
 use Rattle.rasn_types.specs.declared.types.Codec.TheVariants.{Aper, Uper}
 use Rattle.per_lines.specs.declared.arguments.TypeName.{TypeName}
-use Rattle.per_lines.specs.declared.arguments.TypeName.TheVariants.{Boolean, Null, Integer, UpTo65535, FromMinusOne, Natural, ZeroTo65536, OneToTenExtensible, Four, Seven, OneDefault, ShortVisible, LettersAToE, BitString, OctetString, OnlyX, Items, Byte, MaybeEmpty, Nested, Nest, Deep, Bytes, Nulls, NullList, Elements}
+use Rattle.per_lines.specs.declared.arguments.TypeName.TheVariants.{Boolean, Null, Integer, UpTo65535, FromMinusOne, Natural, ZeroTo65536, OneToTenExtensible, Four, Seven, OneDefault, ShortVisible, LettersAToE, BitString, OctetString, OnlyX, Items, Byte, MaybeEmpty, Nested, Nest, Deep, Bytes, Nulls, NullList, Elements, Outer1, Outer2, Outer3, Grouped, NoneNeeded, OneNeeded, AddedDefault, Outers1, Outers3, BeforeNest, AddedNest}
 use Rattle.per_lines.specs.declared.arguments.Form.{Form}
 use Rattle.per_lines.specs.declared.arguments.Form.TheVariants.{OneLine, Lines, Zero, As}
 use Rattle.per_lines.specs.declared.arguments.Arguments.{Arguments}
@@ -17,7 +17,8 @@ use Rattle.per_lines.specs.Answers.{AskFor}
 abbrev all_types : List TypeName
 all_types = Boolean ∷ Null ∷ Integer ∷ UpTo65535 ∷ FromMinusOne ∷ Natural ∷ ZeroTo65536 ∷ OneToTenExtensible ∷ Four ∷ Seven ∷ OneDefault
     ∷ ShortVisible ∷ LettersAToE ∷ BitString ∷ OctetString ∷ OnlyX ∷ Items
-    ∷ Byte ∷ MaybeEmpty ∷ Nested ∷ Nest ∷ Deep ∷ Bytes ∷ Nulls ∷ NullList ∷ Elements ∷ []
+    ∷ Byte ∷ MaybeEmpty ∷ Nested ∷ Nest ∷ Deep ∷ Bytes ∷ Nulls ∷ NullList ∷ Elements
+    ∷ Outer1 ∷ Outer2 ∷ Outer3 ∷ Grouped ∷ NoneNeeded ∷ OneNeeded ∷ AddedDefault ∷ Outers1 ∷ Outers3 ∷ BeforeNest ∷ AddedNest ∷ []
 
 -- the first of some things that a word names
 abbrev named : {X : Type 0} → (X → List ℕ) → List ℕ → List X → Option X
@@ -59,6 +60,17 @@ type_of-word Bytes = refl
 type_of-word Nulls = refl
 type_of-word NullList = refl
 type_of-word Elements = refl
+type_of-word Outer1 = refl
+type_of-word Outer2 = refl
+type_of-word Outer3 = refl
+type_of-word Grouped = refl
+type_of-word NoneNeeded = refl
+type_of-word OneNeeded = refl
+type_of-word AddedDefault = refl
+type_of-word Outers1 = refl
+type_of-word Outers3 = refl
+type_of-word BeforeNest = refl
+type_of-word AddedNest = refl
 
 abbrev type_of : List (List ℕ) → Option TypeName
 type_of (v ∷ w ∷ ws) = named type_word w all_types

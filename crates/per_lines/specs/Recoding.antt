@@ -11,6 +11,7 @@ use Rattle.rasn_schema.specs.Choices.{choice_at}
 use Rattle.rasn_schema.specs.Forms.{always}
 use Rattle.rasn_schema.specs.Lists.{list_at}
 use Rattle.rasn_schema.specs.Components.{lower_bound, upper_bound, sequence_at}
+use Rattle.rasn_record.specs.ExtendedRecords.{extended_at}
 use Rattle.per_samples_a.specs.Absents.{one_default}
 use Rattle.per_samples_a.specs.Fours.{four}
 use Rattle.per_samples_a.specs.Sevens.{seven}
@@ -21,13 +22,17 @@ use Rattle.per_samples_e.specs.Deeps.{deep}
 use Rattle.per_samples_e.specs.Elements.{elements}
 use Rattle.per_samples_e.specs.Empties.{maybe_empty}
 use Rattle.per_samples_e.specs.Nests.{nest}
+use Rattle.per_samples_f.specs.AddedNests.{nest_root, nest_additions}
+use Rattle.per_samples_f.specs.Groups.{grouped_root, grouped_additions}
+use Rattle.per_samples_f.specs.Needs.{one_needed, added_default}
+use Rattle.per_samples_f.specs.Outers.{outer_root, outer2_additions, outer3_additions}
 use Rattle.per_core.specs.Spellings.{Settings}
 use Rattle.rasn_per.specs.Complete.{AreBytes, HasNoBytes, AreReadBy, AreUnreadBy, reading, basically}
 use Rattle.rasn_per.specs.Kinds.{IsInOctetsBy}
 use Rattle.per_write.specs.declared.error.EncodeErrorKind.TheVariants as Encoding
 use Rattle.per_read.specs.declared.error.DecodeErrorKind.TheVariants as Decoding
 use Rattle.per_lines.specs.declared.arguments.TypeName.{TypeName}
-use Rattle.per_lines.specs.declared.arguments.TypeName.TheVariants.{Boolean, Null, Integer, UpTo65535, FromMinusOne, Natural, ZeroTo65536, OneToTenExtensible, Four, Seven, OneDefault, ShortVisible, LettersAToE, BitString, OctetString, OnlyX, Items, Byte, MaybeEmpty, Nested, Nest, Deep, Bytes, Nulls, NullList, Elements}
+use Rattle.per_lines.specs.declared.arguments.TypeName.TheVariants.{Boolean, Null, Integer, UpTo65535, FromMinusOne, Natural, ZeroTo65536, OneToTenExtensible, Four, Seven, OneDefault, ShortVisible, LettersAToE, BitString, OctetString, OnlyX, Items, Byte, MaybeEmpty, Nested, Nest, Deep, Bytes, Nulls, NullList, Elements, Outer1, Outer2, Outer3, Grouped, NoneNeeded, OneNeeded, AddedDefault, Outers1, Outers3, BeforeNest, AddedNest}
 use Rattle.per_lines.specs.declared.arguments.Form.{Form}
 use Rattle.per_lines.specs.declared.arguments.Form.TheVariants.{OneLine, Lines, Zero, As}
 use Rattle.per_lines.specs.declared.arguments.Padding.{Padding}
@@ -40,7 +45,7 @@ abbrev pub one_to : ℕ → Size
 one_to u = record { least = Some 1; most = Some u }
 
 -- what the name of a type means: BOOLEAN (X.680 18); NULL (X.680 24); INTEGER (X.680 19), alone and under value constraints
--- (X.680 51.4); SEQUENCE (X.680 25), with a default, an ENUMERATED (X.680 20) or itself in it; SEQUENCE OF (X.680 26); CHOICE (X.680 29); BIT STRING (X.680 22); OCTET STRING (X.680 23); and character strings
+-- (X.680 51.4); SEQUENCE (X.680 25), with a default, an ENUMERATED (X.680 20), itself or an extension marker in it; SEQUENCE OF (X.680 26); CHOICE (X.680 29); BIT STRING (X.680 22); OCTET STRING (X.680 23); and character strings
 -- (X.680 41) by their characters
 abbrev pub schema_of : TypeName → ℕ → Schema
 schema_of Boolean = always Schema.boolean
@@ -69,6 +74,17 @@ schema_of Bytes = list_at (sequence_at byte) any_size false
 schema_of Nulls = list_at (always Schema.null) (one_to 300) false
 schema_of NullList = list_at (always Schema.null) any_size false
 schema_of Elements = sequence_at elements
+schema_of Outer1 = extended_at outer_root []
+schema_of Outer2 = extended_at outer_root outer2_additions
+schema_of Outer3 = extended_at outer_root outer3_additions
+schema_of Grouped = extended_at grouped_root grouped_additions
+schema_of NoneNeeded = extended_at [] []
+schema_of OneNeeded = extended_at [] one_needed
+schema_of AddedDefault = extended_at [] added_default
+schema_of Outers1 = list_at (extended_at outer_root []) any_size false
+schema_of Outers3 = list_at (extended_at outer_root outer3_additions) any_size false
+schema_of BeforeNest = extended_at nest_root []
+schema_of AddedNest = extended_at nest_root nest_additions
 
 -- `zero` asks that padding is zero; behind `as` what is written needs no such check
 abbrev pub padding_of : Form → Padding

@@ -3,7 +3,7 @@ use Rattle.std.specs.Prelude.{ℕ, List, [], ◌∷◌, String, codes, map, stri
 use Rattle.rasn_types.specs.declared.types.Codec.{Codec}
 use Rattle.rasn_types.specs.declared.types.Codec.TheVariants.{Aper, Uper}
 use Rattle.per_lines.specs.declared.arguments.TypeName.{TypeName}
-use Rattle.per_lines.specs.declared.arguments.TypeName.TheVariants.{Boolean, Null, Integer, UpTo65535, FromMinusOne, Natural, ZeroTo65536, OneToTenExtensible, Four, Seven, OneDefault, ShortVisible, LettersAToE, BitString, OctetString, OnlyX, Items, Byte, MaybeEmpty, Nested, Nest, Deep, Bytes, Nulls, NullList, Elements}
+use Rattle.per_lines.specs.declared.arguments.TypeName.TheVariants.{Boolean, Null, Integer, UpTo65535, FromMinusOne, Natural, ZeroTo65536, OneToTenExtensible, Four, Seven, OneDefault, ShortVisible, LettersAToE, BitString, OctetString, OnlyX, Items, Byte, MaybeEmpty, Nested, Nest, Deep, Bytes, Nulls, NullList, Elements, Outer1, Outer2, Outer3, Grouped, NoneNeeded, OneNeeded, AddedDefault, Outers1, Outers3, BeforeNest, AddedNest}
 use Rattle.per_lines.specs.declared.arguments.Form.{Form}
 use Rattle.per_lines.specs.declared.arguments.Form.TheVariants.{OneLine, Lines, Zero, As}
 use Rattle.per_lines.specs.declared.arguments.Arguments.{Arguments}
@@ -43,6 +43,17 @@ type_word Bytes = codes "bytes"
 type_word Nulls = codes "nulls"
 type_word NullList = codes "nulllist"
 type_word Elements = codes "elements"
+type_word Outer1 = codes "outer1"
+type_word Outer2 = codes "outer2"
+type_word Outer3 = codes "outer3"
+type_word Grouped = codes "group"
+type_word NoneNeeded = codes "need0"
+type_word OneNeeded = codes "need"
+type_word AddedDefault = codes "addd"
+type_word Outers1 = codes "rel1"
+type_word Outers3 = codes "rel3"
+type_word BeforeNest = codes "dv1"
+type_word AddedNest = codes "dv2"
 
 -- nothing, `lines`, `zero`, or `as` and another type
 abbrev pub form_words : Form → List (List ℕ)

@@ -66,6 +66,29 @@ pub enum TypeName {
     /// SEQUENCE { flag BOOLEAN, fixed SEQUENCE (SIZE (2)) OF E, ranged SEQUENCE (SIZE (1..4)) OF E,
     /// trailer INTEGER (0..255) }, E being SEQUENCE { octets OCTET STRING (SIZE (3)) }.
     Elements,
+    /// SEQUENCE { first BOOLEAN, second BOOLEAN, ... }.
+    Outer1,
+    /// SEQUENCE { first BOOLEAN, second BOOLEAN, ..., [[ flag BOOLEAN, octets OCTET STRING (SIZE (3)) ]] }.
+    Outer2,
+    /// SEQUENCE { first BOOLEAN, second BOOLEAN, ..., [[ flag BOOLEAN, octets OCTET STRING (SIZE (3)) ]],
+    /// after OCTET STRING (SIZE (3)) OPTIONAL }.
+    Outer3,
+    /// SEQUENCE { first BOOLEAN, ..., [[ x BOOLEAN OPTIONAL ]] }.
+    Grouped,
+    /// SEQUENCE { ... }.
+    NoneNeeded,
+    /// SEQUENCE { ..., a BOOLEAN, b BOOLEAN OPTIONAL }.
+    OneNeeded,
+    /// SEQUENCE { ..., a INTEGER (0..7) DEFAULT 3 }.
+    AddedDefault,
+    /// SEQUENCE OF outer1.
+    Outers1,
+    /// SEQUENCE OF outer3.
+    Outers3,
+    /// SEQUENCE { a BOOLEAN, ... }.
+    BeforeNest,
+    /// SEQUENCE { a BOOLEAN, ..., deep Nest OPTIONAL }.
+    AddedNest,
 }
 
 /// How much is read, and what is printed.
@@ -146,6 +169,17 @@ impl TypeName {
             "nulls" => Some(TypeName::Nulls),
             "nulllist" => Some(TypeName::NullList),
             "elements" => Some(TypeName::Elements),
+            "outer1" => Some(TypeName::Outer1),
+            "outer2" => Some(TypeName::Outer2),
+            "outer3" => Some(TypeName::Outer3),
+            "group" => Some(TypeName::Grouped),
+            "need0" => Some(TypeName::NoneNeeded),
+            "need" => Some(TypeName::OneNeeded),
+            "addd" => Some(TypeName::AddedDefault),
+            "rel1" => Some(TypeName::Outers1),
+            "rel3" => Some(TypeName::Outers3),
+            "dv1" => Some(TypeName::BeforeNest),
+            "dv2" => Some(TypeName::AddedNest),
             _ => None,
         }
     }

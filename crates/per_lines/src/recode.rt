@@ -24,6 +24,15 @@ use per_samples_e::elements::Elements;
 use per_samples_e::empty::MaybeEmpty;
 use per_samples_e::lists::{Bytes, NullList, Nulls};
 use per_samples_e::nest::Nest;
+use per_samples_f::added_default::AddedDefault;
+use per_samples_f::added_nest::AddedNest;
+use per_samples_f::before_nest::BeforeNest;
+use per_samples_f::grouped::Grouped;
+use per_samples_f::none_needed::NoneNeeded;
+use per_samples_f::one_needed::OneNeeded;
+use per_samples_f::outer1::{Outer1, Outers1};
+use per_samples_f::outer2::Outer2;
+use per_samples_f::outer3::{Outer3, Outers3};
 use rasn_codec::codec::{Decode, Encode};
 use rasn_per::{aper, uper};
 use rasn_types::big::Integer;
@@ -89,6 +98,17 @@ fn recoded(
         TypeName::Nulls => recoded_as::<Nulls>(alloc, codec, padding, octets),
         TypeName::NullList => recoded_as::<NullList>(alloc, codec, padding, octets),
         TypeName::Elements => recoded_as::<Elements>(alloc, codec, padding, octets),
+        TypeName::Outer1 => recoded_as::<Outer1>(alloc, codec, padding, octets),
+        TypeName::Outer2 => recoded_as::<Outer2>(alloc, codec, padding, octets),
+        TypeName::Outer3 => recoded_as::<Outer3>(alloc, codec, padding, octets),
+        TypeName::Grouped => recoded_as::<Grouped>(alloc, codec, padding, octets),
+        TypeName::NoneNeeded => recoded_as::<NoneNeeded>(alloc, codec, padding, octets),
+        TypeName::OneNeeded => recoded_as::<OneNeeded>(alloc, codec, padding, octets),
+        TypeName::AddedDefault => recoded_as::<AddedDefault>(alloc, codec, padding, octets),
+        TypeName::Outers1 => recoded_as::<Outers1>(alloc, codec, padding, octets),
+        TypeName::Outers3 => recoded_as::<Outers3>(alloc, codec, padding, octets),
+        TypeName::BeforeNest => recoded_as::<BeforeNest>(alloc, codec, padding, octets),
+        TypeName::AddedNest => recoded_as::<AddedNest>(alloc, codec, padding, octets),
     }
 }
 

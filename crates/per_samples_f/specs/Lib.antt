@@ -1,3 +1,4 @@
+pub mod AddedNests
 pub mod Groups
 pub mod Needs
 pub mod Outers

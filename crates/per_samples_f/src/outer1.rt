@@ -26,6 +26,9 @@ pub struct Outer1 {
     pub second: bool,
 }
 
+/// SEQUENCE OF outer1
+pub type Outers1 = Vec<Outer1>;
+
 macro_rules! components {
     ($to:ident $($with:ident)*) => {
         $to! { [$($with)*]

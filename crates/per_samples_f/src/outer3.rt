@@ -33,6 +33,9 @@ pub struct Outer3 {
     pub after: Option<OctetString>,
 }
 
+/// SEQUENCE OF outer3
+pub type Outers3 = Vec<Outer3>;
+
 macro_rules! components {
     ($to:ident $($with:ident)*) => {
         $to! { [$($with)*]

@@ -3,8 +3,10 @@
 ghost use Rattle.std.specs.Prelude.{true, false, [], ◌∷◌, Some, None};
 ghost use Rattle.rasn_types.specs.Variants.{aligned, unaligned};
 ghost use Rattle.per_samples_a.specs.Rows.{IsWrittenAs};
+ghost use Rattle.per_samples_e.specs.declared.nest.Nest.{Nest', None'};
 
 use crate::added_default::AddedDefault;
+use crate::added_nest::AddedNest;
 use crate::grouped::Grouped;
 use crate::none_needed::NoneNeeded;
 use crate::one_needed::OneNeeded;
@@ -36,6 +38,14 @@ pub fn additions_are_open_types()
     ensures other { let own = ⟦<AddedDefault as AsnType>⟧ in
         IsWrittenAs unaligned (own.schema own.CONSTRAINTS) own.levels own.value
         (record { a = 5 }) (0x80 ∷ 0x80 ∷ 0xd0 ∷ 0x00 ∷ []) }
+{}
+
+/// An addition of one level, whose open type holds a presence bit.
+#[tactic(auto, unfolding(per_core::specs::Canon::bytes, rasn_schema::specs::Normal::normal, rasn_schema::specs::Normal::settle))]
+pub fn recursive_additions_are_open_types()
+    ensures one { let own = ⟦<AddedNest as AsnType>⟧ in
+        IsWrittenAs unaligned (own.schema own.CONSTRAINTS) own.levels own.value
+        (record { a = true; deep = Some (Nest' None') }) (0xc0 ∷ 0x40 ∷ 0x40 ∷ 0x00 ∷ []) }
 {}
 
 /// A group that holds nothing isn't written (X.691 19.9).

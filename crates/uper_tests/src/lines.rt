@@ -282,7 +282,7 @@ fn refuses_by_name(rt: HostRuntime) -> Result<(), Fail> {
 }
 
 /// A line of texts in a row, each so many times.
-fn line_of(alloc: Global, parts: &[(&str, usize)]) -> Result<String, AllocError> {
+pub(crate) fn line_of(alloc: Global, parts: &[(&str, usize)]) -> Result<String, AllocError> {
     let mut line = String::new(alloc);
     for (text, times) in parts {
         for _ in 0..*times {

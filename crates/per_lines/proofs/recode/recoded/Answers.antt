@@ -38,3 +38,36 @@ returns-in-NullList-clause-err c = rw c.in-NullList.is c.recoded_as-in-NullList.
 
 pub returns-in-Elements-clause-err : goal.returns-in-Elements-clause-err
 returns-in-Elements-clause-err c = rw c.in-Elements.is c.recoded_as-in-Elements.ensures.err
+
+pub returns-in-Outer1-clause-err : goal.returns-in-Outer1-clause-err
+returns-in-Outer1-clause-err c = rw c.in-Outer1.is c.recoded_as-in-Outer1.ensures.err
+
+pub returns-in-Outer2-clause-err : goal.returns-in-Outer2-clause-err
+returns-in-Outer2-clause-err c = rw c.in-Outer2.is c.recoded_as-in-Outer2.ensures.err
+
+pub returns-in-Outer3-clause-err : goal.returns-in-Outer3-clause-err
+returns-in-Outer3-clause-err c = rw c.in-Outer3.is c.recoded_as-in-Outer3.ensures.err
+
+pub returns-in-Grouped-clause-err : goal.returns-in-Grouped-clause-err
+returns-in-Grouped-clause-err c = rw c.in-Grouped.is c.recoded_as-in-Grouped.ensures.err
+
+pub returns-in-NoneNeeded-clause-err : goal.returns-in-NoneNeeded-clause-err
+returns-in-NoneNeeded-clause-err c = rw c.in-NoneNeeded.is c.recoded_as-in-NoneNeeded.ensures.err
+
+pub returns-in-OneNeeded-clause-err : goal.returns-in-OneNeeded-clause-err
+returns-in-OneNeeded-clause-err c = rw c.in-OneNeeded.is c.recoded_as-in-OneNeeded.ensures.err
+
+pub returns-in-AddedDefault-clause-err : goal.returns-in-AddedDefault-clause-err
+returns-in-AddedDefault-clause-err c = rw c.in-AddedDefault.is c.recoded_as-in-AddedDefault.ensures.err
+
+pub returns-in-Outers1-clause-err : goal.returns-in-Outers1-clause-err
+returns-in-Outers1-clause-err c = rw c.in-Outers1.is c.recoded_as-in-Outers1.ensures.err
+
+pub returns-in-Outers3-clause-err : goal.returns-in-Outers3-clause-err
+returns-in-Outers3-clause-err c = rw c.in-Outers3.is c.recoded_as-in-Outers3.ensures.err
+
+pub returns-in-BeforeNest-clause-err : goal.returns-in-BeforeNest-clause-err
+returns-in-BeforeNest-clause-err c = rw c.in-BeforeNest.is c.recoded_as-in-BeforeNest.ensures.err
+
+pub returns-in-AddedNest-clause-err : goal.returns-in-AddedNest-clause-err
+returns-in-AddedNest-clause-err c = rw c.in-AddedNest.is c.recoded_as-in-AddedNest.ensures.err
