@@ -9,6 +9,7 @@ ghost use Rattle.per_write.specs.Faults.{RefusesOutput};
 ghost use Rattle.per_write.specs.Rules.{encoder_rules};
 ghost use Rattle.per_write.specs.State.{fresh, view};
 
+use per_bits::BitList;
 pub use per_write::error;
 pub use per_write::error::{EncodeError, EncodeErrorKind};
 use per_write::lists::OpenList;
@@ -87,6 +88,16 @@ impl<A: Allocator + Clone> Encoder<A> {
     {
         Encoder {
             writer: Writer::new(alloc, options.codec),
+        }
+    }
+
+    /// An encoder that has written nothing, as `new` makes it, over a list of bits. The bits are cleared; the list's
+    /// memory may be used for what is written, and its allocator keeps what is put out. It takes no memory yet.
+    pub fn new_with_output(options: EncoderOptions, output: BitList<A>) -> Self
+        ensures { result ≡ fresh options }
+    {
+        Encoder {
+            writer: Writer::new_with_output(options.codec, output),
         }
     }
 

@@ -69,8 +69,17 @@ impl<A: Allocator + Clone> Writer<A> {
     pub fn new(alloc: A, codec: Codec) -> Self
         ensures { result ≡ fresh codec }
     {
+        Writer::new_with_output(codec, BitList::new(alloc))
+    }
+
+    /// A writer that has written nothing, as `new` makes it, over a list of bits. The bits are cleared; the list's
+    /// memory may be used for what is written. It takes no memory yet.
+    pub fn new_with_output(codec: Codec, mut output: BitList<A>) -> Self
+        ensures { result ≡ fresh codec }
+    {
+        output.clear();
         Writer {
-            bits: BitList::new(alloc),
+            bits: output,
             failed: false,
             codec,
             presences: Presences { place: 0, left: 0 },
