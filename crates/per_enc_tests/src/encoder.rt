@@ -2,6 +2,7 @@
 //! and refuses every call once it has failed.
 
 use linked_list_allocator::LocalHeap;
+use per_bits::BitList;
 use per_enc::{EncodeError, EncodeErrorKind, Encoder, EncoderOptions};
 use per_samples_a::pair::Pair;
 use rasn_codec::codec::Encoder as _;
@@ -22,6 +23,18 @@ fn outputs_of(encoder: &mut Encoder<Global>) -> Result<(Vec<u8>, Vec<u8>), Encod
 fn empties_itself(rt: HostRuntime) -> Result<(), Fail> {
     let mut encoder = Encoder::new(rt.alloc(), EncoderOptions::default());
     assert_eq!(rt; encoder.codec(), Codec::Uper);
+    let (first, second) = outputs_of(&mut encoder)?;
+    assert_eq!(rt; first.as_slice(), [0x80].as_slice());
+    assert_eq!(rt; second.as_slice(), [0x00].as_slice());
+    Ok(())
+}
+
+#[test]
+fn writes_in_place_of_the_bits_of_a_list(rt: HostRuntime) -> Result<(), Fail> {
+    let mut list = BitList::new(rt.alloc());
+    list.push_bits(0b1_1111_1111, 9)?;
+    let mut encoder = Encoder::new_with_output(EncoderOptions::aligned(), list);
+    assert_eq!(rt; encoder.codec(), Codec::Aper);
     let (first, second) = outputs_of(&mut encoder)?;
     assert_eq!(rt; first.as_slice(), [0x80].as_slice());
     assert_eq!(rt; second.as_slice(), [0x00].as_slice());
