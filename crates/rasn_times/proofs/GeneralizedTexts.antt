@@ -1,16 +1,15 @@
 -- The texts of GeneralizedTime.
-use Rattle.std.proofs.Common.{◌≡◌, ◌≢◌, refl, sym, ap, ap₂, ◌∙◌, subst, ℕ, zero, suc, ◌+◌, ◌-◌, ◌*◌, ◌/◌, ◌%◌, ◌^◌, ◌<◌, ◌≤◌, ◌⊎◌, inl, inr, Bool, true, false, cond, not, ◌&&◌, ◌||◌, eqb, leb, List, [], ◌∷◌, ◌++◌, length, take, drop, get_or, ℤ, pos, negsuc, ◌≤ℤ◌, ◌+ℤ◌, ◌*ℤ◌, to_z, of_z, w8, arith, true≢false, leb-true, le-leb, Option, Some, None, MatchOption}
+use Rattle.std.proofs.Common.{◌≡◌, ◌≢◌, refl, sym, ap, ap₂, ◌∙◌, subst, ℕ, zero, suc, ◌+◌, ◌-◌, ◌*◌, ◌/◌, ◌%◌, ◌^◌, ◌<◌, ◌≤◌, ◌⊎◌, inl, inr, Bool, true, false, cond, not, ◌&&◌, ◌||◌, eqb, leb, List, [], ◌∷◌, ◌++◌, length, take, drop, ℤ, pos, negsuc, ◌≤ℤ◌, ◌+ℤ◌, ◌*ℤ◌, to_z, of_z, w8, arith, true≢false, leb-true, le-leb, Option, Some, None, MatchOption}
 use Rattle.std.proofs.lemmas.Bool.{ne_eqb, lt-leb}
 use Rattle.std.proofs.lemmas.List.{take_all, take-append-drop, length-drop, length-take-le}
 use Rattle.std.proofs.lemmas.Nat.{div-add-mod'}
-use Rattle.std.proofs.lemmas.Int.{to_z-of_z, to_z_pos}
+use Rattle.std.proofs.lemmas.Int.{to_z-of_z}
 use Rattle.std.specs.Int.{w16, w32}
 use lib.IntN.{nat_abs}
 use lib.Signed.{le_z, lt_z, mag, quot_z, rem_z}
 use Rattle.rasn_types.specs.Contents.{TimeKind, are_digits, decimal_from, two, is_moment, is_z, ends_well, is_fraction, is_time, year_size}
 use Rattle.jiff.specs.Types.{DateTime}
 use Rattle.rasn_times.specs.Moments.{two_digits, month_to_second, year_to_second, fraction_digits, fraction_text, is_generalized_moment, generalized_characters, generalized_text, IsMomentOf, IsFractionText, IsGeneralizedMomentOf, IsSameMoment}
-use Rattle.rasn_times.proofs.Digits.{both_left, both_right}
 use Rattle.rasn_times.proofs.Calendar.{unpos, tested, back8}
 use Rattle.rasn_times.proofs.Fractions.{fraction_digits-zero, fraction_digits-step, digit_of, behind}
 use Rattle.rasn_times.proofs.Texts.{are_digits-two, two_digits-number, digits_behind, characters_of, moment_named, number_below, ten}

@@ -1,4 +1,4 @@
-use Rattle.std.proofs.Common.{◌∙◌, sym, ap, refl, inl, inr, true≢false, arith}
+use Rattle.std.proofs.Common.{◌∙◌, sym, ap, refl, inl, inr, true≢false}
 use Rattle.rasn_types.specs.Contents.{is_time, TimeKind}
 use Rattle.rasn_times.specs.Moments.{generalized_text}
 use Rattle.rasn_times.proofs.GeneralizedTexts.{is_time-generalized_text, generalized_same, text_is, not_digits, not_fraction, not_moment}
