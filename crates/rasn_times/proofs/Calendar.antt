@@ -18,7 +18,7 @@ is_true false t = absurd t
 at_most : (a b : ℤ) → le_z a b ≡ true → a ≤ℤ b
 at_most a b e = le_z_yes (subst T (sym e) tt)
 
-tested : (a b : ℤ) → a ≤ℤ b → le_z a b ≡ true
+pub tested : (a b : ℤ) → a ≤ℤ b → le_z a b ≡ true
 tested a b h = is_true (le_z a b) h.le
 
 leap-is : (y : ℤ) → leap (year_size y) ≡ is_leap_year y

@@ -63,7 +63,7 @@ is_time-utc_text t = go (is_utc_moment t) refl
 
 -- ---- each moment has a text of its own
 
-two_same : (m n : ℕ) (cs ds : List ℕ) → m < 100 → n < 100 → two_digits m ++ cs ≡ two_digits n ++ ds → (m ≡ n) × (cs ≡ ds)
+pub two_same : (m n : ℕ) (cs ds : List ℕ) → m < 100 → n < 100 → two_digits m ++ cs ≡ two_digits n ++ ds → (m ≡ n) × (cs ≡ ds)
 two_same m n cs ds h k e = let f : 48 + m / 10 % 10 ≡ 48 + n / 10 % 10 = cc in let g : 48 + m % 10 ≡ 48 + n % 10 = cc in let i : cs ≡ ds = cc in (omega arith, i)
 
 pub moments_same : (t u : DateTime) (cs ds : List ℕ) → month_to_second t ++ cs ≡ month_to_second u ++ ds → (t.date.month ≡ u.date.month) × (t.date.day ≡ u.date.day) × (t.time.hour ≡ u.time.hour) × (t.time.minute ≡ u.time.minute) × (t.time.second ≡ u.time.second) × (cs ≡ ds)

@@ -66,6 +66,35 @@ fraction_digits (suc places) n =
 abbrev pub fraction_text : ℕ → List ℕ
 fraction_text n = if n == 0 then [] else 46 ∷ fraction_digits 9 n
 
+-- X.680 46.3: whether a GeneralizedTime can hold the moment: one of the years 0 to 9999 (this project's choice)
+abbrev pub is_generalized_moment : DateTime → Bool
+is_generalized_moment t = le_z (pos 0) t.date.year
+
+-- YYYYMMDDhhmmss: the year's four digits, then month, day, hour, minute and second
+abbrev pub year_to_second : DateTime → List ℕ
+year_to_second t = two_digits (year_size t.date.year / 100) ++ two_digits (year_size t.date.year % 100)
+    ++ month_to_second t
+
+-- YYYYMMDDhhmmss, a fraction of the second if it isn't 0, and Z
+abbrev pub generalized_characters : DateTime → List ℕ
+generalized_characters t = year_to_second t ++ fraction_text t.time.subsec_nanosecond ++ 90 ∷ []
+
+-- X.690 11.7: the text of a GeneralizedTime, YYYYMMDDhhmmss, the fraction and Z; there is none where it can't hold the
+-- moment
+unfoldable pub generalized_text : DateTime → List ℕ
+generalized_text t = if is_generalized_moment t then generalized_characters t else []
+
+-- the moment is that of a GeneralizedTime with these digits before the fraction, and with this many nanoseconds
+pub record IsGeneralizedMomentOf (digits : List ℕ) (nanosecond : ℕ) (t : DateTime) : Type 0 where
+  pub held : is_generalized_moment t ≡ true
+  pub characters : year_to_second t ≡ digits
+  pub fraction_is : t.time.subsec_nanosecond ≡ nanosecond
+
+-- each moment that a GeneralizedTime can hold has a text of its own
+abbrev pub EachGeneralizedTimeHasOneText : Type 0
+EachGeneralizedTimeHasOneText = (t u : DateTime) → is_generalized_moment t ≡ true → is_generalized_moment u ≡ true →
+    generalized_text t ≡ generalized_text u → IsSameMoment t u
+
 -- the digits and the Z behind them are those of a number
 pub record IsFractionOf (places : ℕ) (text : List ℕ) (number : ℕ) : Type 0 where
   pub lawful : ends_well places text ≡ true

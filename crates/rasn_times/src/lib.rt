@@ -5,6 +5,7 @@
 pub mod date;
 pub mod error;
 pub mod fraction;
+pub mod generalized_time;
 pub mod laws;
 pub mod moment;
 #[cfg(test)]

@@ -3,6 +3,10 @@
 use crate::date::{date_from_parts, date_to_parts};
 use crate::error::TimeError;
 use crate::fraction::{push_fraction, read_fraction};
+use crate::generalized_time::{
+    GeneralizedTime, datetime_to_canonical_generalized_time_bytes,
+    parse_canonical_generalized_time_string,
+};
 use crate::utc_time::{
     UtcTime, datetime_to_canonical_utc_time_bytes, parse_canonical_utc_time_string,
 };
@@ -85,5 +89,48 @@ fn writes_and_reads_fractions(rt: HostRuntime) -> Result<(), Fail> {
             .iter()
             .all(|text| read_fraction(text.as_bytes()).is_none())
     );
+    Ok(())
+}
+
+/// The parts of moments and the texts of their GeneralizedTime: X.690 11.7.5, and the second nanosecond of year 0.
+const GENERALIZED: &[((i16, i8, i8), (i8, i8, i8), i32, &str)] = &[
+    ((1992, 5, 21), (0, 0, 0), 0, "19920521000000Z"),
+    ((1992, 6, 22), (12, 34, 21), 0, "19920622123421Z"),
+    ((1992, 7, 22), (13, 21, 0), 300_000_000, "19920722132100.3Z"),
+    ((0, 1, 1), (0, 0, 0), 1, "00000101000000.000000001Z"),
+];
+
+#[test]
+fn writes_and_reads_generalized_times(rt: HostRuntime) -> Result<(), Fail> {
+    for ((year, month, day), (hour, minute, second), nanosecond, text) in GENERALIZED {
+        let moment = DateTime::new(*year, *month, *day, *hour, *minute, *second, *nanosecond)?;
+        let time = GeneralizedTime::new(moment);
+        let written = datetime_to_canonical_generalized_time_bytes(rt.alloc(), time)?;
+        assert_eq!(rt; written.as_slice(), text.as_bytes());
+        let read = parse_canonical_generalized_time_string(text.as_bytes())?;
+        assert!(rt; read.to_datetime() == moment);
+    }
+    Ok(())
+}
+
+/// Texts that are none of a GeneralizedTime: X.690 11.7.5, a text without Z, and a second that there isn't.
+const NOT_GENERALIZED: &[&str] = &[
+    "19920520240000Z",
+    "19920622123421.0Z",
+    "19920722132100.30Z",
+    "19920622123421",
+    "19920622123460Z",
+    "",
+];
+
+#[test]
+fn refuses_other_generalized_texts(rt: HostRuntime) -> Result<(), Fail> {
+    for text in NOT_GENERALIZED {
+        let read = parse_canonical_generalized_time_string(text.as_bytes());
+        assert!(rt; read == Err(TimeError::InvalidText), "{text}");
+    }
+    let time = GeneralizedTime::new(DateTime::new(-1, 12, 31, 23, 59, 59, 0)?);
+    let written = datetime_to_canonical_generalized_time_bytes(rt.alloc(), time);
+    assert!(rt; written == Err(TimeError::Unrepresentable));
     Ok(())
 }
