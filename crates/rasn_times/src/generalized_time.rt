@@ -1,7 +1,7 @@
 //! GeneralizedTime and its canonical text (X.680 46, X.690 11.7).
 
 ghost use Rattle.std.specs.Prelude.{◌≡◌, ◌↔◌, ◌≤ℤ◌, ◌<◌, ◌^◌, pos, Err, true, false, length, take, drop};
-ghost use Rattle.std.specs.Prelude.{IfOk, MatchOption};
+ghost use Rattle.std.specs.Prelude.{IsOk, IfOk, MatchOption};
 ghost use Rattle.rasn_types.specs.Contents.{TimeKind, is_time, is_moment, decimal_from, are_digits as all_are_digits};
 ghost use Rattle.jiff.specs.Types.{DateTime as Plain};
 ghost use Rattle.rasn_times.specs.Moments.{is_generalized_moment, generalized_characters, generalized_text};
@@ -81,6 +81,7 @@ pub fn parse_canonical_generalized_time_string(text: &[u8]) -> Result<Generalize
     ensures one { (time : Plain) → is_generalized_moment time ≡ true → generalized_text time ≡ text.now
         → IfOk result (IsSameMoment time) }
     ensures refused { (result ≡ Err InvalidText) ↔ (is_time TimeKind.generalized text.now ≡ false) }
+    ensures accepted { IsOk result ↔ (is_time TimeKind.generalized text.now ≡ true) }
 {
     if text.len() < 14 || !are_digits(&text[..14]) {
         return Err(TimeError::InvalidText);

@@ -1,6 +1,6 @@
 //! UTCTime and its canonical text (X.680 47, X.690 11.8).
 
-ghost use Rattle.std.specs.Prelude.{◌≡◌, ◌↔◌, ◌≤ℤ◌, pos, ◌++◌, ◌∷◌, [], Err, true, false, length, IfOk, MatchOption};
+ghost use Rattle.std.specs.Prelude.{◌≡◌, ◌↔◌, ◌≤ℤ◌, pos, ◌++◌, ◌∷◌, [], Err, true, false, length, IsOk, IfOk, MatchOption};
 ghost use Rattle.rasn_types.specs.Contents.{TimeKind, is_time, are_digits as all_are_digits};
 ghost use Rattle.jiff.specs.Types.{DateTime as Plain};
 ghost use Rattle.rasn_times.specs.Moments.{is_utc_moment, utc_characters, utc_text, IsSameMoment, IsUtcMomentOf};
@@ -78,6 +78,7 @@ pub fn parse_canonical_utc_time_string(text: &[u8]) -> Result<UtcTime, TimeError
     ensures one { (time : Plain) → is_utc_moment time ≡ true → utc_text time ≡ text.now
         → IfOk result (IsSameMoment time) }
     ensures refused { (result ≡ Err InvalidText) ↔ (is_time TimeKind.utc text.now ≡ false) }
+    ensures accepted { IsOk result ↔ (is_time TimeKind.utc text.now ≡ true) }
 {
     if text.len() != 13 || text[12] != b'Z' || !are_digits(&text[..12]) {
         return Err(TimeError::InvalidText);
