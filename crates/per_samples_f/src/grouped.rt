@@ -56,7 +56,8 @@ impl AsnType for Grouped {
 
     ghost schema = { λ _. extended_at grouped_root grouped_additions };
 
-    ghost value = { λ x. record_value (Some (truth x.first) ∷ []) (slot_of ⟦<Possible as AsnType>⟧.value x.group ∷ []) };
+    ghost value = { λ x. record_value (Some (truth x.first) ∷ [])
+        (slot_of ⟦<Possible as AsnType>⟧.value x.group ∷ []) };
 
     ghost levels = { λ x. suc (deeper_of 0 (max (slot_levels ⟦<Possible as AsnType>⟧.levels x.group) 0)) };
 

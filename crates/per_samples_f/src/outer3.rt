@@ -70,7 +70,8 @@ impl AsnType for Outer3 {
     ghost value = { λ x. record_value (Some (truth x.first) ∷ Some (truth x.second) ∷ [])
         (slot_of ⟦<Flagged as AsnType>⟧.value x.group ∷ slot_of octets x.after ∷ []) };
 
-    ghost levels = { λ x. suc (deeper_of 0 (max (slot_levels ⟦<Flagged as AsnType>⟧.levels x.group) (max (slot_levels ⟦<OctetString as AsnType>⟧.levels x.after) 0))) };
+    ghost levels = { λ x. suc (deeper_of 0 (max (slot_levels ⟦<Flagged as AsnType>⟧.levels x.group)
+        (max (slot_levels ⟦<OctetString as AsnType>⟧.levels x.after) 0))) };
 
     ghost levelled = { λ _. extended_levelled outer_root outer3_additions };
 

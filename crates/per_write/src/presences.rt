@@ -1,4 +1,5 @@
-//! Presence bits of components that may be absent (X.691 19.2), and what is kept of the SEQUENCE or CHOICE that is open.
+//! Presence bits of components that may be absent (X.691 19.2), and what is kept of the SEQUENCE or CHOICE that is
+//! open.
 
 ghost use Rattle.std.specs.Prelude.{◌≡◌, Option, false, replicate};
 ghost use Rattle.per_core.specs.Writers.{just};
@@ -61,7 +62,8 @@ impl<A: Allocator + Clone> Writer<A> {
         additions: Option<Additions<A>>,
     ) -> Scope<A>
         ensures waits { result ≡ self.old.scope }
-        ensures inside { self.new ≡ record self.old { scope = record { presences = presences; additions = additions } } }
+        ensures inside { self.new
+            ≡ record self.old { scope = record { presences = presences; additions = additions } } }
     {
         Scope {
             presences: mem::replace(&mut self.presences, presences),

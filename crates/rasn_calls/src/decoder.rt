@@ -320,8 +320,8 @@ pub trait Decoder: Sized {
         }
     }
 
-    /// Reads a SEQUENCE (X.691 19) by the lists of its root components, which stand in the order of `FIELDS`, and of its
-    /// additions, which stand in the order of `EXTENDED_FIELDS`, and answers what they are.
+    /// Reads a SEQUENCE (X.691 19) by the lists of its root components, which stand in the order of `FIELDS`, and of
+    /// its additions, which stand in the order of `EXTENDED_FIELDS`, and answers what they are.
     final fn decode_record<C: Constructed, P: DecodeParts, Q: DecodeAdditions>(
         &mut self,
         tag: Tag,

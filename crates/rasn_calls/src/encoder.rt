@@ -380,8 +380,8 @@ pub trait Encoder: Sized {
         }
     }
 
-    /// Writes a SEQUENCE (X.691 19) by the lists of its root components, which stand in the order of `FIELDS`, and of its
-    /// additions, which stand in the order of `EXTENDED_FIELDS`.
+    /// Writes a SEQUENCE (X.691 19) by the lists of its root components, which stand in the order of `FIELDS`, and of
+    /// its additions, which stand in the order of `EXTENDED_FIELDS`.
     final fn encode_record<C: Constructed, P: EncodeParts, Q: EncodeAdditions, I: Into<Identifier>>(
         &mut self,
         tag: Tag,

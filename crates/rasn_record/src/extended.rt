@@ -1,7 +1,8 @@
 //! What an author's list of components is handed to that has an extension marker.
 //!
 //! Behind the marker `...;` stand the additions, in the order of the type: `required`, `optional` and `default` as
-//! before it, and `group` for an addition group, whose field is an `Option` of its SEQUENCE and whose brackets are empty.
+//! before it, and `group` for an addition group, whose field is an `Option` of its SEQUENCE and whose brackets are
+//! empty.
 //!
 //! ```text
 //! required 0 "first" first: bool [];
