@@ -1,0 +1,10 @@
+//! Tests of the calls that write and read what stands behind an extension marker, by hand and out of turn, and of the
+//! calls that say how many items they may answer.
+#![tactic(auto)]
+
+#[cfg(test)]
+mod counted;
+#[cfg(test)]
+mod reading;
+#[cfg(test)]
+mod writing;
