@@ -24,7 +24,7 @@ def functions_in(crate):
     if not os.path.isfile(file):
         return []
     with open(file, encoding="utf-8") as it:
-        found = re.findall(rf'"part/Rattle-{crate}-proofs\.([^"]*)\.Code"', it.read())
+        found = re.findall(rf'"(?:part/)?Rattle-{crate}-proofs\.([^"]*)\.Code"', it.read())
     return [f"{crate}::{it.replace('.', '::')}" for it in found]
 
 
