@@ -1,6 +1,6 @@
 //! ActionArea.
 
-ghost use Rattle.std.specs.Prelude.{pos, refl};
+ghost use Rattle.std.specs.Prelude.{None, pos, refl};
 ghost use Rattle.rasn_types.specs.Values.{whole, nothing};
 ghost use Rattle.rasn_schema.specs.Components.{chosen, variants_in};
 ghost use Rattle.its_header.specs.Areas.{area};
@@ -47,6 +47,10 @@ impl Alternatives for ActionArea {
 
     ghost ALTERNATIVES = { variants_in area };
 
+    const ADDED_ALTERNATIVES: Option<Variants> = None;
+
+    ghost ADDED_ALTERNATIVES = { None };
+
     ghost alternatives = { area };
 
     ghost chosen = { elim [
@@ -58,6 +62,8 @@ impl Alternatives for ActionArea {
     ghost depth = { λ _. 1 };
 
     ghost described = { refl };
+
+    ghost extends = { refl };
 
     ghost are_variants = { record { distinct = refl; few = refl } };
 }

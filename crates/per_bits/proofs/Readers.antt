@@ -34,6 +34,13 @@ pub taken : (s n k p : ℕ) (os : List ℕ) → k ≤ n → p ≡ s + k →
     take n (drop s (unpack os)) ≡ take k (drop s (unpack os)) ++ take (n - k) (drop (p % 8) (unpack (between (p / 8) (length os) os)))
 taken s n k p os h e = split_at k n (drop s (unpack os)) h ∙ ap (λ bs. take k (drop s (unpack os)) ++ take (n - k) bs) (sym (from_place s k p os e))
 
+-- m bits behind the first k of a reader's
+pub part_taken : (s n k m p : ℕ) (os : List ℕ) → k + m ≤ n → p ≡ s + k → take m (drop (p % 8) (unpack (between (p / 8) (length os) os))) ≡ take m (drop k (take n (drop s (unpack os))))
+part_taken s n k m p os h e =
+    let bits = drop s (unpack os) in
+    let rest : take m (drop k (take n bits)) ≡ take m (drop k bits) = ap (λ (i : ℕ). take m (drop k (take i bits))) (let i : n ≡ k + (n - k) = omega arith in i) ∙ ap (λ bs. take m bs) (drop-take k (n - k) bits) ∙ take-take m (n - k) (drop k bits) (omega arith) in
+    ap (λ bs. take m bs) (from_place s k p os e) ∙ sym rest
+
 pub empty_iff : (n : ℕ) (xs : Bits) → length xs ≡ n → (IsTrue (nat_eq n 0) → xs ≡ []) × (xs ≡ [] → IsTrue (nat_eq n 0))
 empty_iff n xs e = (λ t. nil_from_length xs (e ∙ eqb-true n 0 t), λ t. eq-eqb n 0 (sym e ∙ ap length t))
 

@@ -4,7 +4,7 @@
 //! to an octet, the first highest.
 #![tactic(auto)]
 
-ghost use Rattle.std.specs.Prelude.{◌≡◌, ◌+◌, ◌-◌, ◌*◌, ◌/◌, ◌^◌, ◌<◌, ◌≤◌, List, [], ◌∷◌, ◌++◌, Bool, length, take, set, slice_get, vec_len, vec_capacity, OnOk, OnErr, IfOk, IfErr, IsTrue, ◌↔◌, ⊤};
+ghost use Rattle.std.specs.Prelude.{◌≡◌, ◌+◌, ◌-◌, ◌*◌, ◌/◌, ◌^◌, ◌<◌, ◌≤◌, List, [], ◌∷◌, ◌++◌, Bool, length, take, drop, set, slice_get, vec_len, vec_capacity, OnOk, OnErr, IfOk, IfErr, IsTrue, ◌↔◌, ⊤};
 ghost use Rattle.rasn_types.specs.Bits.{to_bits, number_of, unpack};
 ghost use Rattle.rasn_types.specs.Packed.{packed};
 ghost use Rattle.per_bits.specs.Octets.{filled, AreFilledBy, ArePadded};
@@ -261,6 +261,19 @@ impl<'input> BitReader<'input> {
         self.skip = (place % 8) as u32;
         self.len -= count;
         Ok(front)
+    }
+
+    /// A reader of `count` bits behind the first `begin`, all of which are still left here.
+    pub fn part(&self, begin: u128, count: u128) -> BitReader<'input>
+        requires { begin + count ≤ length self.now }
+        ensures { result ≡ take count (drop begin self.now) }
+    {
+        let place = u128::from(self.skip) + begin;
+        BitReader {
+            octets: &self.octets[(place / 8) as usize..],
+            skip: (place % 8) as u32,
+            len: count,
+        }
     }
 
     /// The number that the first `count` bits mean as a non-negative-binary-integer (ITU-T X.691, 11.3), the first bit

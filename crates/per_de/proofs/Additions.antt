@@ -15,15 +15,15 @@ use Rattle.per_read.specs.declared.error.DecodeErrorKind.TheVariants.{MissingTag
 use Rattle.per_additions.specs.Bitmaps.{skipped_unknown}
 use Rattle.per_additions.proofs.Opened.{no_open}
 use Rattle.per_scopes.specs.AdditionLaws.{of_next}
-use Rattle.per_scopes.specs.Additions.{Adds, Asks, OpensAddition, Shown, Waiting}
+use Rattle.per_scopes.specs.Additions.{Adds, Asks, OpensAddition, OpensContents, Shown, Waiting}
 use Rattle.per_scopes.specs.Faults.{IsInTail, behind_bitmap, in_bitmap, in_octets, in_open, in_unknown, refusal, unread, unskipped, IsOfNext, Unended}
 use Rattle.per_scopes.specs.Rules.{decoder_rules}
 use Rattle.per_scopes.specs.Scopes.{Closes, Outside, with_outside}
 use Rattle.per_scopes.specs.State.{Extension, State, ahead, settings_of, with_bits}
 use Rattle.per_scopes.specs.Tails.{asks_agree, shown_agree, tested_new}
 use Rattle.per_de.specs.Sources.{flags_in}
-use Rattle.per_de.specs.Steps.{IsOfBitmap, OpensContents, RefusedAs, SkipsUnknown, TakesFlags, Unasked}
-use Rattle.per_de.specs.declared.Flags.{Flags}
+use Rattle.per_de.specs.Steps.{IsOfBitmap, RefusedAs, SkipsUnknown, TakesFlags, Unasked}
+use Rattle.per_de.specs.declared.source.Flags.{Flags}
 
 -- how many parts there are
 pub shapes_counted : (i : ℕ) (ps : Parts) → length (shapes_from i ps) ≡ count ps

@@ -16,14 +16,15 @@ use Rattle.per_read.specs.Kinds.{Faulty, NoneIn}
 use Rattle.per_read.specs.Numbers.{IsOfNumber}
 use Rattle.per_read.specs.declared.error.DecodeError.{DecodeError}
 use Rattle.per_read.specs.declared.error.DecodeErrorKind.{DecodeErrorKind}
-use Rattle.per_read.specs.declared.error.DecodeErrorKind.TheVariants.{AlreadyFailed, ExceedsMaxParseDepth, OutOfMemory, RealNotSupported}
+use Rattle.per_read.specs.declared.error.DecodeErrorKind.TheVariants.{AlreadyFailed, ExceedsMaxParseDepth, Incomplete, OutOfMemory, RealNotSupported}
 use Rattle.per_read.specs.State.{State as Taking}
 use Rattle.per_read.specs.Takes.{Reason, Takes}
 use Rattle.per_read.proofs.Refusals.{faulty_map}
 use Rattle.per_scopes.specs.State.{State, Spells, reader_of, settings_of}
 use Rattle.per_scopes.specs.Faults.{Answered, Fault, IsAt, IsOf, at_once, refusal}
 use Rattle.per_scopes.specs.Rules.{decoder_rules}
-use Rattle.per_de.proofs.Spans.{with_rest}
+use Rattle.per_de.specs.Steps.{TakesBit}
+use Rattle.per_de.proofs.Spans.{none_left, with_rest}
 
 -- a refusal
 not_failed : (c : Schema) (a : Settings) (s : Bits) → IsAt a c s AlreadyFailed → ⊥
@@ -64,6 +65,16 @@ reads_truth a b h = took_map (λ p c i. record { of = b; is = refl; spelled = i 
 pub no_truth : (a : Settings) {s : Bits} → NoneIn bit s → NoneIn (basic a Schemas.boolean) s
 unfolding basic_in
 no_truth a none v t h = none h.spelled.of t (record { front = h.front; joins = h.joins; spelled = h.spelled.spelled })
+
+pub bool_answers : (s : State) (r : Result Bool DecodeError) (t : State) → s.failed ≡ false → TakesBit s r t → Reads (freely_read decoder_rules) Schemas.boolean truth s r t
+bool_answers s (Ok b) t live h = record {
+  law = record { live = live; took = reads_truth (settings_of s) b h.0; same = h.1 };
+  behaves = record { again = λ f. absurd cc; fails = tt; kept = ap (λ z. z.codec) h.1 };
+}
+bool_answers s (Err e) t live h = record {
+  law = inr (refuses Schemas.boolean s (Incomplete 1) e h.1 tt (no_truth (settings_of s) (none_left h.0)));
+  behaves = record { again = λ f. absurd cc; fails = ap (λ z. z.failed) h.2; kept = ap (λ z. z.codec) h.2 };
+}
 
 -- NULL
 pub reads_nothing : (a : Settings) (s : Bits) → Took (basic a Schemas.null nothing) s s

@@ -1,67 +1,155 @@
 -- What opening a choice takes, and why it refuses.
-use Rattle.std.proofs.Common.{◌≡◌, ◌⊎◌, inr, refl, sym, ◌∙◌, ap, subst, arith, ℕ, zero, suc, ◌+◌, ◌<◌, false, length, List, Some, slice_get}
-use Rattle.std.specs.Prelude.{Result, Ok, Err}
-use Rattle.rasn_schema.specs.Choices.{VariantShape, alternative_at, choice_at, choice_of, go_by, place_of, tags_of, AreVariants}
+use Rattle.std.proofs.Common.{◌≡◌, ◌⊎◌, inl, inr, refl, sym, ◌∙◌, ap, subst, arith, ℕ, zero, suc, ◌+◌, ◌<◌, Bool, false, length, List, Option, Some, None, slice_get}
+use Rattle.std.specs.Prelude.{Err}
+use Rattle.rasn_types.specs.Bits.{Bits}
+use Rattle.rasn_types.specs.Values.{Side, root, added}
+use Rattle.rasn_schema.specs.Choices.{AreVariants, VariantShape, alternative_at, alternative_in, choice_of, go_by, one_level_in, place_of, tags_of, variants_behind, variants_on}
 use Rattle.rasn_schema.specs.Schemas
 use Rattle.rasn_schema.specs.Schemas.{Schema, Parts, no_parts, part}
+use Rattle.rasn_schema.proofs.Both.{distinct_before, distinct_behind}
 use Rattle.rasn_schema.proofs.Places.{found_at}
 use Rattle.rasn_calls.specs.Calls.{Refuses}
-use Rattle.per_core.specs.Basic.{IsConstrainedWhole}
+use Rattle.per_core.specs.Basic.{Octets}
+use Rattle.per_core.specs.Spellings.{Settings}
 use Rattle.per_core.specs.Took.{Took}
-use Rattle.per_core.specs.Versions.{alternatives_of}
-use Rattle.per_read.specs.Choices.{IsOfIndex}
-use Rattle.per_read.specs.State.{State as Taking}
-use Rattle.per_read.specs.Takes.{Takes, telling, itself}
+use Rattle.per_core.proofs.Took.{then_took}
+use Rattle.per_read.specs.Choices.{IsOfIndex, index_form}
+use Rattle.per_read.specs.Kinds.{NoneIn, Stopped}
 use Rattle.per_read.specs.declared.error.DecodeError.{DecodeError}
 use Rattle.per_read.specs.declared.error.DecodeErrorKind.{DecodeErrorKind}
 use Rattle.per_read.specs.declared.error.DecodeErrorKind.TheVariants.{OutOfMemory}
-use Rattle.per_de.specs.ChoiceLaws.{choice_index}
-use Rattle.per_de.specs.Choices.{OpensChoice}
-use Rattle.per_scopes.specs.State.{State, Spells, reader_of, settings_of, with_bits}
-use Rattle.per_scopes.specs.Faults.{Answered, Fault, refusal}
+use Rattle.per_scopes.specs.ChoiceLaws.{no_contents, no_index}
+use Rattle.per_scopes.specs.Choices.{OpensChoice, StandsFrom}
+use Rattle.per_scopes.specs.Faults.{Fault, in_added_alternative, in_octets, refusal}
+use Rattle.per_scopes.specs.Records.{of_bits}
+use Rattle.per_scopes.specs.Tails.{tested_new}
 use Rattle.per_scopes.specs.Scopes.{Enters, Outside, no_record, with_outside, outside_of as in_state}
-use Rattle.per_de.specs.Outsides.{outside_of}
+use Rattle.per_scopes.specs.State.{State, Spells, settings_of, with_bits}
+use Rattle.per_de.specs.Outsides.{choosing_of, contents_of, outside_of, source_behind}
+use Rattle.per_de.specs.Steps.{RefusedAs, TakesIndex}
+use Rattle.per_de.specs.declared.Addition.{Addition}
 use Rattle.per_de.specs.declared.Scope.{Scope}
 use Rattle.per_de.proofs.Calls.{refuses}
-use Rattle.per_de.proofs.Opening.{answered_ok, answered_err}
-use Rattle.per_de.proofs.Spans.{with_rest}
 
--- no index is read
-pub no_index : (alternatives : ℕ → Parts) (count : ℕ) (s : State) (x y : Taking) (left m : ℕ) (taken : Result ℕ DecodeErrorKind) (e : DecodeError) (t : State) → s.levels ≡ suc m → count ≡ length (tags_of (alternatives m))
-    → x ≡ reader_of s → Takes (telling (λ a. IsOfIndex a count)) (λ a. IsConstrainedWhole a count) itself x taken y → Answered taken left s (Err e) t
-    → let c = choice_at alternatives s.levels in (e ≡ refusal OutOfMemory s) ⊎ Refuses (Spells c) (Fault c) e s
-no_index alternatives count s x y left m taken e t deeper i is g a =
-    let h = subst (λ z. Takes (telling (λ a. IsOfIndex a count)) (λ a. IsConstrainedWhole a count) itself z taken y) is g in
-    let r = answered_err taken left s e t a in
-    let k = rw r.1 at h.err in
-    let c = choice_of (alternatives m) in
-    inr (subst (λ l. Refuses (Spells (choice_at alternatives l)) (Fault (choice_at alternatives l)) e s) (sym deeper)
-    (refuses c s r.0 e r.2 (subst (λ (l : ℕ). IsOfIndex (settings_of s) l s.bits r.0) i k.0)
-    (λ v u b. let w = choice_index (settings_of s) (alternatives m) v b in k.1 w.0 w.1 (subst (λ (l : ℕ). Took (IsConstrainedWhole (settings_of s) l w.0) s.bits w.1) (sym i) w.2))))
+-- how many alternatives a list has
+abbrev pub many_on : Side → ℕ → ℕ → ℕ
+many_on root r e = r
+many_on added r e = e
 
--- a level is entered behind an index
-pub opens_index : (c : Schema) (count index : ℕ) (s : State) (x y : Taking) (left m : ℕ) (inside : Outside) (taken : Result ℕ DecodeErrorKind) (t : State) (o : Scope) (i : State) → s.failed ≡ false → s.levels ≡ suc m → inside ≡ no_record m
-    → count ≡ length (tags_of (alternatives_of c)) → x ≡ reader_of s → Takes (telling (λ a. IsOfIndex a count)) (λ a. IsConstrainedWhole a count) itself x taken y → left ≡ length y.bits
-    → Answered taken left s (Ok index) t → Enters inside t (outside_of i.source o) i → OpensChoice c index s o i
-opens_index c count index s x y left m inside taken t o i live deeper none e is g l a w =
-    let h = subst (λ z. Takes (telling (λ a. IsOfIndex a count)) (λ a. IsConstrainedWhole a count) itself z taken y) is g in
-    let r = answered_ok taken left s index t a in
-    let k : Took (IsConstrainedWhole (settings_of s) count index) s.bits y.bits = rw r.0 at h.ok in
-    let f : t ≡ with_bits s y.bits = r.1 ∙ with_rest s k.front y.bits left k.joins l in
-    let same : i ≡ with_outside (with_bits s y.bits) (no_record m) = w.same ∙ ap (λ z. with_outside t z) none ∙ ap (λ z. with_outside z (no_record m)) f in
-    let waits : outside_of i.source o ≡ in_state s = w.waits ∙ ap (λ z. in_state z) f in
-    subst (λ z. OpensChoice c index s o z) (sym same) (record {
-      live = live;
-      deeper = deeper;
-      took = subst (λ (l : ℕ). Took (IsConstrainedWhole (settings_of s) l index) s.bits y.bits) e k;
-      enters = record { waits = ap (λ z. outside_of z.source o) (sym same) ∙ waits; same = refl };
-    })
+-- an index is below that
+pub index_below : (a : Settings) (r e : ℕ) (ext : Bool) (d : Side) (i : ℕ) {s m : Bits} → Took (index_form a r e ext (d, i)) s m → i < many_on d r e
+index_below a r e ext root i h = let q = then_took h in q.2.spelled.below
+index_below a r e ext added i h = let q = then_took h in q.2.spelled.known
+
+-- so is it below the variants of the list
+pub below_variants : (vs : List VariantShape) (xs : Option (List VariantShape)) (d : Side) (k r e : ℕ) → length vs ≡ r → length (variants_behind xs) ≡ e → k < many_on d r e → k < length (variants_on d vs xs)
+below_variants vs xs root k r e f h l = omega (arith, f, l)
+below_variants vs xs added k r e f h l = omega (arith, h, l)
+
+-- what is refused of a choice at the levels inside is refused at those outside
+pub at_level : (choice : ℕ → Schema) (s : State) (m : ℕ) (err : DecodeError) → s.levels ≡ suc m → (err ≡ refusal OutOfMemory s) ⊎ Refuses (Spells (choice m)) (Fault (choice m)) err s
+    → (err ≡ refusal OutOfMemory s) ⊎ Refuses (Spells (one_level_in choice s.levels)) (Fault (one_level_in choice s.levels)) err s
+at_level choice s m err deeper h = subst (λ l. (err ≡ refusal OutOfMemory s) ⊎ Refuses (Spells (one_level_in choice l)) (Fault (one_level_in choice l)) err s) (sym deeper) h
 
 -- the alternative at an index
-pub alternative_there : (ps : Parts) (i : ℕ) → i < length (tags_of ps) → (s : Schema) × (alternative_at ps i ≡ Some s)
-alternative_there no_parts i h = absurd (omega arith)
-alternative_there (part t p s ps) zero h = (s, refl)
-alternative_there (part t p s ps) (suc i) h = alternative_there ps i (omega arith)
+there_at : (ps : Parts) (i : ℕ) → i < length (tags_of ps) → (s : Schema) × (alternative_at ps i ≡ Some s)
+there_at no_parts i h = absurd (omega arith)
+there_at (part t p s ps) zero h = (s, refl)
+there_at (part t p s ps) (suc i) h = there_at ps i (omega arith)
 
-pub place_found : (vs : List VariantShape) (i : ℕ) (t : Schemas.Tag) → AreVariants vs → slice_get (go_by vs) i ≡ Some t → place_of t vs ≡ Some i
-place_found vs i t v e = found_at (go_by vs) i 0 t v.distinct e ∙ ap Some (let n : 0 + i ≡ i = omega arith in n)
+pub alternative_there : (ps : Parts) (marker : Bool) (qs : Parts) (d : Side) (i : ℕ) → i < many_on d (length (tags_of ps)) (length (tags_of qs)) → (s : Schema) × (alternative_in (choice_of ps marker qs) d i ≡ Some s)
+alternative_there ps marker qs root i h = there_at ps i h
+alternative_there ps marker qs added i h = there_at qs i h
+
+-- the place of the tag at an index
+pub place_found : (vs : List VariantShape) (xs : Option (List VariantShape)) (d : Side) (i : ℕ) (t : Schemas.Tag) → AreVariants vs xs → slice_get (go_by (variants_on d vs xs)) i ≡ Some t → place_of t (variants_on d vs xs) ≡ Some i
+place_found vs xs root i t v e = found_at (go_by vs) i 0 t (distinct_before (go_by vs) (go_by (variants_behind xs)) v.distinct) e ∙ ap Some (let n : 0 + i ≡ i = omega arith in n)
+place_found vs xs added i t v e = found_at (go_by (variants_behind xs)) i 0 t (distinct_behind (go_by vs) (go_by (variants_behind xs)) v.distinct) e ∙ ap Some (let n : 0 + i ≡ i = omega arith in n)
+
+-- the bits outside of an alternative's open type are those in front of it
+outer_source : (d : Side) (u i : State) (o : Option Addition) → StandsFrom d u (contents_of i.source o) i → source_behind i.source o ≡ u.source
+outer_source root u i None f = ap (λ z. z.source) f
+outer_source root u i (Some o) f = absurd f
+outer_source added u i None f = absurd f
+outer_source added u i (Some o) f = ap (λ z. z.source) f.enters.waits
+
+-- a choice of these alternatives, of which there are so many, and whose index was taken
+module _ (ps : Parts) (marker : Bool) (qs : Parts) (r e : ℕ) (few : r ≡ length (tags_of ps)) (more : e ≡ length (tags_of qs)) (s x : State) (start : x ≡ s) where
+  index_moved : (y : Side × ℕ) {t : Bits} → Took (index_form (settings_of x) r e marker y) x.bits t → Took (index_form (settings_of s) (length (tags_of ps)) (length (tags_of qs)) marker y) s.bits t
+  index_moved y {t} h =
+      subst (λ (n : ℕ). Took (index_form (settings_of s) (length (tags_of ps)) n marker y) s.bits t) more
+      (subst (λ (n : ℕ). Took (index_form (settings_of s) n e marker y) s.bits t) few (subst (λ z. Took (index_form (settings_of z) r e marker y) z.bits t) start h))
+
+  index_back : (y : Side × ℕ) (t : Bits) → Took (index_form (settings_of s) (length (tags_of ps)) (length (tags_of qs)) marker y) s.bits t → Took (index_form (settings_of x) r e marker y) x.bits t
+  index_back y t h =
+      subst (λ z. Took (index_form (settings_of z) r e marker y) z.bits t) (sym start)
+      (subst (λ (n : ℕ). Took (index_form (settings_of s) n e marker y) s.bits t) (sym few) (subst (λ (n : ℕ). Took (index_form (settings_of s) (length (tags_of ps)) n marker y) s.bits t) (sym more) h))
+
+  -- no index is read
+  pub refused_index : (err : DecodeError) (t : State) → TakesIndex r e marker x (Err err) t → Refuses (Spells (choice_of ps marker qs)) (Fault (choice_of ps marker qs)) err s
+  refused_index err t h =
+      let says : IsOfIndex (settings_of s) (length (tags_of ps)) (length (tags_of qs)) marker s.bits h.kind =
+      subst (λ (n : ℕ). IsOfIndex (settings_of s) (length (tags_of ps)) n marker s.bits h.kind) more
+      (subst (λ (n : ℕ). IsOfIndex (settings_of s) n e marker s.bits h.kind) few (subst (λ z. IsOfIndex (settings_of z) r e marker z.bits h.kind) start h.because.0)) in
+      refuses (choice_of ps marker qs) s h.kind err (h.is ∙ ap (λ z. refusal h.kind z) start) says
+      (no_index (settings_of s) ps marker qs (λ y u k. h.because.1 y u (index_back y u k)))
+
+  -- a level is entered behind it
+  module _ (d : Side) (k m : ℕ) (t u : State) (inside : Outside) (o : Scope) (live : s.failed ≡ false) (deeper : s.levels ≡ suc m) (none : inside ≡ no_record m)
+      (index : Took (index_form (settings_of x) r e marker (d, k)) x.bits t.bits × (t ≡ with_bits x t.bits)) (enters : Enters inside t (outside_of u.source o) u) where
+    behind_index : t ≡ with_bits s t.bits
+    behind_index = index.1 ∙ ap (λ z. with_bits z t.bits) start
+
+    entered : u ≡ with_outside (with_bits s t.bits) (no_record m)
+    entered = enters.same ∙ ap (λ z. with_outside t z) none ∙ ap (λ z. with_outside z (no_record m)) behind_index
+
+    bits_left : u.bits ≡ t.bits
+    bits_left = ap (λ z. z.bits) entered
+
+    index_taken : Took (index_form (settings_of s) (length (tags_of ps)) (length (tags_of qs)) marker (d, k)) s.bits u.bits
+    index_taken = index_moved (d, k) (subst (λ z. Took (index_form (settings_of x) r e marker (d, k)) x.bits z) (sym bits_left) index.0)
+
+    pub below : k < many_on d (length (tags_of ps)) (length (tags_of qs))
+    below = index_below (settings_of s) (length (tags_of ps)) (length (tags_of qs)) marker d k index_taken
+
+    pub opens_choice : (i : State) (held : Option Addition) → StandsFrom d u (contents_of i.source held) i → OpensChoice (choice_of ps marker qs) d k s (choosing_of i.source (record { scope = o; contents = held })) i
+    opens_choice i held f = record {
+      live = live;
+      middle = u;
+      deeper = deeper ∙ ap suc (sym (ap (λ z. z.levels) entered));
+      took = index_taken;
+      enters = record {
+        waits = ap (λ z. outside_of z o) (outer_source d u i held f) ∙ enters.waits ∙ ap (λ z. in_state z) behind_index;
+        same = entered ∙ ap (λ z. with_outside (with_bits s z) (no_record m)) (sym bits_left) ∙ ap (λ l. with_outside (with_bits s u.bits) (no_record l)) (sym (ap (λ z. z.levels) entered));
+      };
+      stands = f;
+    }
+
+    -- where it would stand in an open type, none is read
+    pub refused_contents : (err : DecodeError) (i : State) → d ≡ added → RefusedAs (Stopped (NoneIn (Octets (settings_of u)) u.bits)) u err i
+        → (err ≡ refusal OutOfMemory s) ⊎ Refuses (Spells (choice_of ps marker qs)) (Fault (choice_of ps marker qs)) err s
+    refused_contents err i side h = go h.kind h.is h.because
+      where
+        same : settings_of u ≡ settings_of s
+        same = ap settings_of entered
+
+        at : (z : DecodeErrorKind) → refusal z u ≡ refusal z s
+        at z = ap (λ y. refusal z y) entered
+
+        placed : Took (index_form (settings_of s) (length (tags_of ps)) (length (tags_of qs)) marker (added, k)) s.bits u.bits
+        placed = subst (λ z. Took (index_form (settings_of s) (length (tags_of ps)) (length (tags_of qs)) marker (z, k)) s.bits u.bits) side index_taken
+
+        there : (c : Schema) × (alternative_at qs k ≡ Some c)
+        there = there_at qs k (index_below (settings_of s) (length (tags_of ps)) (length (tags_of qs)) marker added k placed)
+
+        go : (z : DecodeErrorKind) → err ≡ refusal z u → Stopped (NoneIn (Octets (settings_of u)) u.bits) z → (err ≡ refusal OutOfMemory s) ⊎ Refuses (Spells (choice_of ps marker qs)) (Fault (choice_of ps marker qs)) err s
+        go z is (inl out) = inl (is ∙ ap (λ y. refusal y u) out ∙ at OutOfMemory)
+        go z is (inr h) =
+            let nothing : NoneIn (Octets (settings_of s)) u.bits = subst (λ y. NoneIn (Octets y) u.bits) same h.1 in
+            inr (record {
+              nothing = λ v y b. no_contents (settings_of s) ps marker qs k placed nothing v y.bits b.took;
+              stands = subst (λ y. Fault (choice_of ps marker qs) y s) (sym (is ∙ at z)) (record {
+                codec = refl;
+                stands = of_bits z (choice_of ps marker qs) s (tested_new z h.0) (in_added_alternative placed there.1 (in_octets h.0 nothing));
+              });
+            })

@@ -22,7 +22,7 @@ use Rattle.per_read.specs.declared.error.DecodeErrorKind.{DecodeErrorKind}
 use Rattle.per_read.specs.declared.error.DecodeErrorKind.TheVariants.{AlreadyFailed, OutOfMemory}
 use Rattle.per_read.specs.declared.lists.OpenList.{OpenList}
 use Rattle.per_read.proofs.Miscounts.{tested_size}
-use Rattle.per_de.specs.ChoiceLaws.{moved}
+use Rattle.per_scopes.specs.ChoiceLaws.{moved}
 use Rattle.per_scopes.specs.Faults.{Answered, IsOf, in_element, refusal}
 use Rattle.per_de.specs.Lists.{AmidList}
 use Rattle.per_scopes.specs.Rules.{decoder_rules}

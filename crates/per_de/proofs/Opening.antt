@@ -20,7 +20,7 @@ use Rattle.per_scopes.specs.Scopes.{Enters, Opens, Outside, is_extensible, outsi
 use Rattle.per_scopes.specs.State.{State, Spells, extension_of, settings_of, with_bits, with_last}
 use Rattle.per_de.specs.Sources.{span_of}
 use Rattle.per_de.specs.Steps.{TakesExtensionBit, TakesPresences}
-use Rattle.per_de.specs.declared.Span.{Span}
+use Rattle.per_de.specs.declared.source.Span.{Span}
 use Rattle.per_de.proofs.Calls.{refuses}
 
 pub answered_ok : {T : Type 0} (taken : Result T DecodeErrorKind) (left : ℕ) (s : State) (v : T) (t : State) → Answered taken left s (Ok v) t → (taken ≡ Ok v) × (t ≡ with_last s left)

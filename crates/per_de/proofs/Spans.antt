@@ -3,18 +3,19 @@ use Rattle.std.proofs.Common.{◌≡◌, ◌≤◌, refl, sym, ◌∙◌, ap, ap
 use Rattle.std.specs.Prelude.{min}
 use Rattle.std.proofs.lemmas.List.{take_all, take_min, drop_min, drop-take}
 use Rattle.rasn_types.specs.Bits.{Bits, number_of}
+use Rattle.per_core.specs.Basic.{bit}
+use Rattle.per_read.specs.Kinds.{NoneIn}
 use Rattle.per_additions.proofs.Turns.{one_bit}
 use Rattle.per_de.specs.Sources.{span_of, IsWithin}
 use Rattle.per_scopes.specs.State.{State, with_bits, with_last}
-use Rattle.per_de.specs.declared.Span.{Span}
+use Rattle.per_de.specs.declared.source.Span.{Span}
 
--- what was taken behind what is in front of it
-pub part : (span : Span) (source skipped rest these others : Bits) → source ≡ skipped ++ rest → length skipped ≡ min span.begin (length source)
-    → rest ≡ these ++ others → length these ≡ min (span.end - span.begin) (length rest) → these ≡ span_of span source
-part span source skipped rest these others e l g k =
-    let d : drop span.begin source ≡ rest = sym (drop_min span.begin source) ∙ ap (λ z. drop (min span.begin (length source)) z) e ∙ drop_at skipped rest (min span.begin (length source)) l in
-    let t : take (span.end - span.begin) rest ≡ these = sym (take_min (span.end - span.begin) rest) ∙ ap (λ z. take (min (span.end - span.begin) (length rest)) z) g ∙ take_at these others (min (span.end - span.begin) (length rest)) k in
-    sym (ap (λ z. take (span.end - span.begin) z) d ∙ t)
+-- as many of its bits as a source has
+pub part : (span : Span) (source : Bits) (begin count : ℕ) → begin ≡ min span.begin (length source) → count ≡ min (span.end - span.begin) (length source - begin) → take count (drop begin source) ≡ span_of span source
+part span source begin count b n =
+    let behind : drop begin source ≡ drop span.begin source = ap (λ (k : ℕ). drop k source) b ∙ drop_min span.begin source in
+    ap (λ (k : ℕ). take k (drop begin source)) (n ∙ ap (λ (k : ℕ). min (span.end - span.begin) k) (sym (length-drop begin source)))
+    ∙ take_min (span.end - span.begin) (drop begin source) ∙ ap (λ bs. take (span.end - span.begin) bs) behind
 
 pub span_length : (span : Span) (source : Bits) → IsWithin span source → length (span_of span source) ≡ span.end - span.begin
 span_length span source h = length-take (span.end - span.begin) (drop span.begin source) ∙ omega (arith, length-drop span.begin source, h.ordered, h.enough)
@@ -94,3 +95,16 @@ next_of span source bits n e some m = go bits e some m
 -- all bits of a source
 pub span_whole : (source : Bits) (n : ℕ) → n ≡ length source → span_of (record { begin = 0; end = n }) source ≡ source
 span_whole source n e = take_all (n - 0) source (omega (arith, e))
+
+-- a span that ends where it begins
+pub no_bits : (span : Span) (source : Bits) → span.end - span.begin ≡ 0 → span_of span source ≡ []
+no_bits span source e = ap (λ (n : ℕ). take n (drop span.begin source)) e
+
+-- a span of some bits
+pub some_left : (span : Span) (source bits : Bits) → bits ≡ span_of span source → (bits ≡ [] → ⊥) → 1 ≤ span.end - span.begin
+some_left span source [] e some = absurd (some refl)
+some_left span source (b ∷ bits) e some = omega (arith, ap length e, length-take (span.end - span.begin) (drop span.begin source))
+
+-- no bit stands where none is left
+pub none_left : {s : Bits} → s ≡ [] → NoneIn bit s
+none_left n b t h = let i : b ∷ t ≡ [] = ap (λ z. z ++ t) (sym h.spelled) ∙ sym h.joins ∙ n in absurd cc

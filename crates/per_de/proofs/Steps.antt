@@ -1,19 +1,21 @@
 -- What the steps of the calls take, and why they refuse.
-use Rattle.std.proofs.Common.{◌≡◌, ◌⊎◌, inl, inr, sym, ◌∙◌, ap, subst, ℕ, ◌+◌, ◌-◌, ◌≤◌, ◌%◌, Bool, true, List, [], ◌++◌, length, length-append, arith}
+use Rattle.std.proofs.Common.{◌≡◌, ◌⊎◌, inl, inr, refl, sym, ◌∙◌, ap, subst, ℕ, ◌+◌, ◌-◌, ◌≤◌, ◌%◌, Bool, true, List, [], ◌++◌, length, length-append, arith}
 use Rattle.std.specs.Prelude.{Result, Ok, Err}
 use Rattle.rasn_types.specs.Bits.{Bits, unpack}
 use Rattle.rasn_types.proofs.Bits.{length-unpack}
-use Rattle.per_core.specs.Basic.{ExtensionBit, IsBitmap, Octets, Unknown, bit}
+use Rattle.rasn_schema.specs.declared.items.Place.{Place}
+use Rattle.per_core.specs.Basic.{ExtensionBit, IsBitmap, Octets, Unknown}
 use Rattle.per_core.specs.Spellings.{Settings, Spelling}
 use Rattle.per_core.specs.Took.{Took}
+use Rattle.per_core.proofs.Took.{took_nothing}
+use Rattle.per_read.specs.Choices.{IsOfIndex, index_form, index_of}
 use Rattle.per_read.specs.Kinds.{IsTested, NoneIn, Stopped}
 use Rattle.per_read.specs.Lists.{Leaves}
 use Rattle.per_read.specs.State.{State as Taking}
-use Rattle.per_read.specs.Takes.{Reason, Takes, itself, short, tested}
+use Rattle.per_read.specs.Takes.{Reason, Takes, itself, telling, tested}
 use Rattle.per_read.specs.declared.error.DecodeError.{DecodeError}
 use Rattle.per_read.specs.declared.error.DecodeErrorKind.{DecodeErrorKind}
-use Rattle.per_read.specs.declared.error.DecodeErrorKind.TheVariants.{OutOfMemory}
-use Rattle.per_read.proofs.Calls.{of_short}
+use Rattle.per_read.specs.declared.error.DecodeErrorKind.TheVariants.{Incomplete, OutOfMemory}
 use Rattle.per_additions.specs.Bitmaps.{large_fragments_of, skipped_unknown}
 use Rattle.per_additions.specs.Flags.{HasFlags}
 use Rattle.per_additions.specs.OpenTypes.{HasOctets, fragments_of}
@@ -24,16 +26,16 @@ use Rattle.per_additions.specs.declared.bitmaps.PresenceBits.TheVariants as Take
 use Rattle.per_additions.specs.declared.open_types.Contents.{Contents}
 use Rattle.per_additions.specs.declared.open_types.Contents.TheVariants as Open
 use Rattle.per_scopes.specs.AdditionLaws.{of_next}
-use Rattle.per_scopes.specs.Additions.{Shown, Waiting}
+use Rattle.per_scopes.specs.Additions.{EntersContents, OpensContents, Shown, Waiting}
 use Rattle.per_scopes.specs.Faults.{Answered, IsOfNext, at_bitmap, refusal}
 use Rattle.per_scopes.specs.State.{Extension, State, ahead, reader_of, settings_of, shown, with_bits}
 use Rattle.per_scopes.specs.Tails.{tested_new}
 use Rattle.per_de.specs.Sources.{flags_in, span_of, IsWithin}
-use Rattle.per_de.specs.Steps.{AsksNext, EntersContents, IsOfBitmap, OpensContents, RefusedAs, SkipsUnknown, TakesBitmap, TakesExtensionBit, TakesFlags, Unasked}
-use Rattle.per_de.specs.declared.Flags.{Flags}
-use Rattle.per_de.specs.declared.Span.{Span}
+use Rattle.per_de.specs.Steps.{AsksNext, IsOfBitmap, RefusedAs, SkipsUnknown, TakesBit, TakesBitmap, TakesExtensionBit, TakesFlags, TakesIndex, Unasked}
+use Rattle.per_de.specs.declared.source.Flags.{Flags}
+use Rattle.per_de.specs.declared.source.Span.{Span}
 use Rattle.per_de.proofs.Opening.{answered_ok, answered_err}
-use Rattle.per_de.proofs.Spans.{in_front_of, span_length, with_rest}
+use Rattle.per_de.proofs.Spans.{in_front_of, none_left, span_length, with_rest}
 
 answered_failed : {T : Type 0} (taken : Result T DecodeErrorKind) (left : ℕ) (s : State) (e : DecodeError) (t : State) → Answered taken left s (Err e) t → t ≡ record s { failed = true }
 answered_failed (Ok w) left s e t a = let i = a.0 in absurd cc
@@ -71,15 +73,24 @@ gathered_stops form a s k (inl h) = inl h.0
 gathered_stops form a s k (inr h) = inr h
 
 -- the extension bit of a type with a marker
-pub bit_taken : (marker : Bool) (s : State) {x y : Taking} {left : ℕ} (t : State) {taken : Result Bool DecodeErrorKind} (result : Result Bool DecodeError) → marker ≡ true → x ≡ reader_of s
-    → Takes short (λ a. bit) itself x taken y → left ≡ length y.bits → Answered taken left s result t → TakesExtensionBit marker s result t
-bit_taken marker s {y = y} t (Ok b) m i g l a =
-    let w = went_ok s _ b i g l a leaves in
-    let n : y.bits ≡ t.bits = ap (λ z. z.bits) (sym w.1) in
-    let k : Took (bit b) s.bits t.bits = subst (λ z. Took (bit b) s.bits z) n w.0 in
-    (subst (λ (z : Bool). Took (ExtensionBit z b) s.bits t.bits) (sym m) k, w.1 ∙ ap (λ z. with_bits s z) n)
-bit_taken marker s t (Err e) m i g l a =
-    subst (λ (z : Bool). RefusedAs (λ k. IsTested k × NoneIn (ExtensionBit z) s.bits) s e t) (sym m) (because_of (λ k h. (of_short k h.0, h.1)) (went_err s _ e i g a))
+pub extension_taken : (marker : Bool) (s t : State) (result : Result Bool DecodeError) → marker ≡ true → TakesBit s result t → TakesExtensionBit marker s result t
+extension_taken marker s t (Ok b) m a = (subst (λ (z : Bool). Took (ExtensionBit z b) s.bits t.bits) (sym m) a.0, a.1)
+extension_taken marker s t (Err e) m a =
+    subst (λ (z : Bool). RefusedAs (λ k. IsTested k × NoneIn (ExtensionBit z) s.bits) s e t) (sym m)
+    (record { kind = Incomplete 1; is = a.1; because = (tt, none_left a.0); failed = ap (λ z. z.failed) a.2; codec = ap (λ z. z.codec) a.2 })
+
+-- the index of a choice
+pub index_taken : (r e e' : ℕ) (ext ext' : Bool) (s : State) {x y : Taking} {left : ℕ} (t : State) {taken : Result Place DecodeErrorKind} (result : Result Place DecodeError) → e ≡ e' → ext ≡ ext' → x ≡ reader_of s
+    → Takes (telling (λ a. IsOfIndex a r e ext)) (λ a. index_form a r e ext) (λ P z. P (index_of z)) x taken y → left ≡ length y.bits → Answered taken left s result t → TakesIndex r e' ext' s result t
+index_taken r e e' ext ext' s {y = y} t (Ok z) m n i g l a =
+    let w = went_ok s _ z i g l a leaves in
+    let b : y.bits ≡ t.bits = ap (λ z. z.bits) (sym w.1) in
+    let k : Took (index_form (settings_of s) r e ext (index_of z)) s.bits t.bits = subst (λ q. Took (index_form (settings_of s) r e ext (index_of z)) s.bits q) b w.0 in (
+      subst (λ (q : ℕ). Took (index_form (settings_of s) r q ext' (index_of z)) s.bits t.bits) m (subst (λ (q : Bool). Took (index_form (settings_of s) r e q (index_of z)) s.bits t.bits) n k),
+      w.1 ∙ ap (λ z. with_bits s z) b,
+    )
+index_taken r e e' ext ext' s t (Err err) m n i g l a =
+    subst (λ (q : ℕ). TakesIndex r q ext' s (Err err) t) m (subst (λ (q : Bool). TakesIndex r e q s (Err err) t) n (because_of (λ k h. h) (went_err s _ err i g a)))
 
 -- a bitmap
 module _ (s : State) {x y : Taking} (left : ℕ) (t : State) {taken : Result PresenceBits DecodeErrorKind} (i : x ≡ reader_of s) (g : Takes (gathering large_fragments_of) IsBitmap (HasFlags x.bits y.bits) x taken y) where
@@ -143,6 +154,9 @@ unknown_skipped flags bitmap s {y = y} t (Ok u) b i g l a =
     (subst (λ z. Took (Unknown (settings_of s) flags) s.bits z) n (subst (λ z. Took (Unknown (settings_of s) z) s.bits y.bits) b w.0), w.1 ∙ ap (λ z. with_bits s z) n)
 unknown_skipped flags bitmap s t (Err e) b i g l a =
     subst (λ z. RefusedAs (λ k. IsTested k × NoneIn (skipped_unknown z (settings_of s)) s.bits) s e t) b (went_err s _ e i g a)
+
+pub none_skipped : (flags : List Bool) (s : State) → flags ≡ [] → SkipsUnknown flags s (Ok tt) s
+none_skipped flags s e = subst (λ z. SkipsUnknown z s (Ok tt) s) (sym e) (took_nothing s.bits, refl)
 
 -- the contents of an open type
 module _ (s : State) {x y : Taking} (left : ℕ) (t : State) {taken : Result Contents DecodeErrorKind} (i : x ≡ reader_of s) (g : Takes (gathering fragments_of) Octets (HasOctets x.bits y.bits) x taken y) where

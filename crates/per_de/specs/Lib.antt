@@ -1,5 +1,3 @@
-pub mod ChoiceLaws
-pub mod Choices
 pub mod Lists
 pub mod Outsides
 pub mod Sources

@@ -4,13 +4,13 @@ use Rattle.std.specs.List.{between}
 use Rattle.rasn_types.specs.Bits.{Bits, unpack}
 use Rattle.per_scopes.specs.State
 use Rattle.per_scopes.specs.State.{ahead, shown}
-use Rattle.per_de.specs.declared.Source.{Source}
-use Rattle.per_de.specs.declared.Source.TheVariants.{Input, Gathered}
-use Rattle.per_de.specs.declared.Span.{Span}
-use Rattle.per_de.specs.declared.Flags.{Flags}
-use Rattle.per_de.specs.declared.Flags.TheVariants as Kept
-use Rattle.per_de.specs.declared.Extension.{Extension}
-use Rattle.per_de.specs.declared.Extension.TheVariants.{Ahead, Shown}
+use Rattle.per_de.specs.declared.source.Source.{Source}
+use Rattle.per_de.specs.declared.source.Source.TheVariants.{Input, Gathered}
+use Rattle.per_de.specs.declared.source.Span.{Span}
+use Rattle.per_de.specs.declared.source.Flags.{Flags}
+use Rattle.per_de.specs.declared.source.Flags.TheVariants as Kept
+use Rattle.per_de.specs.declared.source.Extension.{Extension}
+use Rattle.per_de.specs.declared.source.Extension.TheVariants.{Ahead, Shown}
 
 -- all bits of a source
 abbrev pub bits_of : Source → Bits

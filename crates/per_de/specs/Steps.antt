@@ -1,9 +1,11 @@
 -- The steps of a decoder's calls: what each takes off the front of the bits left, or why it refuses.
 use Rattle.std.specs.Prelude.{◌≡◌, ◌-◌, ◌<◌, ◌≤◌, ◌⊎◌, ℕ, true, List, [], Bool, Option, length, Result, Ok, Err, OnOk, IfErr}
-use Rattle.rasn_types.specs.Bits.{Bits, unpack}
+use Rattle.rasn_types.specs.Values.{Side, added}
 use Rattle.rasn_schema.specs.Schemas.{Schema}
-use Rattle.per_core.specs.Basic.{ExtensionBit, IsBitmap, Octets, Unknown}
+use Rattle.rasn_schema.specs.declared.items.Place.{Place}
+use Rattle.per_core.specs.Basic.{ExtensionBit, IsBitmap, Octets, Unknown, bit}
 use Rattle.per_core.specs.Took.{Took}
+use Rattle.per_read.specs.Choices.{IsOfIndex, index_form, index_of}
 use Rattle.per_read.specs.Kinds.{IsTested, NoneIn, Stopped}
 use Rattle.per_read.specs.Takes.{Row}
 use Rattle.per_read.specs.declared.error.DecodeError.{DecodeError}
@@ -11,14 +13,15 @@ use Rattle.per_read.specs.declared.error.DecodeErrorKind.{DecodeErrorKind}
 use Rattle.per_read.specs.declared.error.DecodeErrorKind.TheVariants.{Incomplete, MissingTag, OutOfMemory}
 use Rattle.per_additions.specs.Bitmaps.{skipped_unknown}
 use Rattle.per_additions.specs.Ends.{EndsAs, IsOfEnd}
-use Rattle.per_scopes.specs.Additions.{Asks, Shown, Waiting}
+use Rattle.per_scopes.specs.Additions.{Asks, OpensContents, Shown, Waiting, outside_open}
+use Rattle.per_scopes.specs.Choices.{StandsFrom}
 use Rattle.per_scopes.specs.Faults.{IsOfNext, refusal}
 use Rattle.per_scopes.specs.State.{State, ahead, settings_of, shown, with_bits}
-use Rattle.per_de.specs.Outsides.{waiting_of}
+use Rattle.per_de.specs.Outsides.{contents_of, waiting_of}
 use Rattle.per_de.specs.Sources.{flags_in, span_of}
 use Rattle.per_de.specs.declared.Addition.{Addition}
-use Rattle.per_de.specs.declared.Flags.{Flags}
-use Rattle.per_de.specs.declared.Span.{Span}
+use Rattle.per_de.specs.declared.source.Flags.{Flags}
+use Rattle.per_de.specs.declared.source.Span.{Span}
 
 -- A refusal of some kind, for a reason, after which the decoder has failed.
 pub record RefusedAs (why : DecodeErrorKind → Type 0) (s : State) (e : DecodeError) (t : State) : Type 0 where
@@ -33,6 +36,11 @@ pub record RefusedAs (why : DecodeErrorKind → Type 0) (s : State) (e : DecodeE
 abbrev pub TakesPresences : ℕ → State → Result Span DecodeError → State → Type 0
 TakesPresences n s (Ok p) t = Took (Row n (span_of p s.source)) s.bits t.bits × (t ≡ with_bits s t.bits)
 TakesPresences n s (Err e) t = (length s.bits < n) × (e ≡ refusal (Incomplete (n - length s.bits)) s) × (t ≡ record s { failed = true })
+
+-- A bit is taken off the bits left; where none is left the decoder refuses.
+abbrev pub TakesBit : State → Result Bool DecodeError → State → Type 0
+TakesBit s (Ok b) t = Took (bit b) s.bits t.bits × (t ≡ with_bits s t.bits)
+TakesBit s (Err e) t = (s.bits ≡ []) × (e ≡ refusal (Incomplete 1) s) × (t ≡ record s { failed = true })
 
 -- The extension bit is taken off the bits left, where there is a marker (X.691 19.1).
 abbrev pub TakesExtensionBit : Bool → State → Result Bool DecodeError → State → Type 0
@@ -65,26 +73,6 @@ abbrev pub AsksNext : State → Result (Option Bool) DecodeError → State → T
 AsksNext s (Ok flag) t = Asks s flag t
 AsksNext s (Err e) t = ((e ≡ refusal OutOfMemory s) ⊎ Unasked e s) × (t.failed ≡ true) × (t.codec ≡ s.codec)
 
--- The contents of an open type are entered: what is still to be read of a record waits outside, and nothing of one is read
--- inside (X.691 11.2).
-pub record EntersContents (contents : Bits) (s : State) (w : Waiting) (i : State) : Type 0 where
-  pub inside : i.bits ≡ contents
-  pub waits : w ≡ record {
-    bits = s.bits;
-    source = s.source;
-    presences = s.presences;
-    extension = s.extension;
-    expected = s.expected;
-    total = length contents;
-  }
-  pub same : i ≡ record s { bits = i.bits; source = i.source; presences = []; extension = shown []; expected = 0 }
-
--- an open type's contents are entered behind its length
-pub record OpensContents (s : State) (w : Waiting) (i : State) : Type 0 where
-  pub octets : List ℕ
-  pub took : Took (Octets (settings_of s) octets) s.bits w.bits
-  pub enters : EntersContents (unpack octets) (with_bits s w.bits) w i
-
 -- Ok is inside an open type, and Err comes only where none stands at the front, or for want of memory.
 abbrev pub EntersOpen : State → Result Addition DecodeError → State → Type 0
 EntersOpen s (Ok o) i = OpensContents s (waiting_of i.source o) i
@@ -106,3 +94,25 @@ pub record EndsContents (s : State) (n : ℕ) (result : Result (Unit {0}) Decode
 abbrev pub IsRootRead : State → Result (Unit {0}) DecodeError → State → Type 0
 IsRootRead s (Ok u) t = (s.presences ≡ []) × (t ≡ s)
 IsRootRead s (Err e) t = (s.presences ≡ [] → ⊥) × (e ≡ refusal MissingTag s) × (t ≡ record s { failed = true })
+
+-- The index of a choice of so many alternatives is taken off the bits left (X.691 23.5 to 23.8).
+abbrev pub TakesIndex : (roots addeds : ℕ) → (extensible : Bool) → State → Result Place DecodeError → State → Type 0
+TakesIndex r e ext s (Ok place) t = Took (index_form (settings_of s) r e ext (index_of place)) s.bits t.bits × (t ≡ with_bits s t.bits)
+TakesIndex r e ext s (Err err) t =
+    RefusedAs (λ k. IsOfIndex (settings_of s) r e ext s.bits k × NoneIn (index_form (settings_of s) r e ext) s.bits) s err t
+
+-- Ok is where an alternative of a list is read, and Err comes only where it would stand in an open type, and none is at the
+-- front, or for want of memory (X.691 23.7, 23.8).
+abbrev pub EntersAlternative : Side → State → Result (Option Addition) DecodeError → State → Type 0
+EntersAlternative d s (Ok o) i = StandsFrom d s (contents_of i.source o) i
+EntersAlternative d s (Err e) i = (d ≡ added) × RefusedAs (Stopped (NoneIn (Octets (settings_of s)) s.bits)) s e i
+
+-- What is left of an open type doesn't end it, and why, where no more is left than it had (X.691 11.1).
+pub record Unended (w : Waiting) (s : State) (k : DecodeErrorKind) : Type 0 where
+  pub none : EndsAs (settings_of s) s.bits w.total → ⊥
+  pub why : length s.bits ≤ w.total → IsOfEnd (settings_of s) s.bits w.total k
+
+-- An open type is left, with what waited outside, where what is left of it ends it.
+abbrev pub ClosesContents : Waiting → State → Result (Unit {0}) DecodeError → State → Type 0
+ClosesContents w s (Ok u) t = EndsAs (settings_of s) s.bits w.total × (t ≡ outside_open s w)
+ClosesContents w s (Err e) t = RefusedAs (Unended w s) s e t

@@ -1,30 +1,36 @@
 //! The decoder of the packed encoding rules: it reads every basic encoding.
 #![tactic(auto)]
 
-ghost use Rattle.std.specs.Prelude.{◌≡◌, ◌≤◌, ◌+◌, ◌-◌, ◌*◌, ◌%◌, true, false, length, slice_get, MatchOption, OnOk, OnErr, IfErr};
+ghost use Rattle.std.specs.Prelude.{◌≡◌, ◌<◌, ◌≤◌, ◌+◌, ◌-◌, ◌*◌, ◌%◌, true, false, length, slice_get, Some, MatchOption};
+ghost use Rattle.std.specs.Prelude.{OnOk, OnErr, IfErr};
 ghost use Rattle.rasn_types.specs.Bits.{Bits, unpack};
 ghost use Rattle.rasn_types.specs.declared.types.Codec.TheVariants.{Aper, Uper};
+ghost use Rattle.rasn_schema.specs.Choices.{go_by, is_extensible, variants_behind, variants_on};
+ghost use Rattle.rasn_schema.specs.Enumerations.{addeds_of, is_extensible as is_marked};
 ghost use Rattle.rasn_schema.specs.Extensions.{fields_behind};
+ghost use Rattle.rasn_schema.specs.Fields.{tag_of};
 ghost use Rattle.per_read.specs.declared.error.DecodeErrorKind.TheVariants.{AlreadyFailed};
+ghost use Rattle.per_read.specs.Choices.{index_of};
 ghost use Rattle.per_read.specs.Lists.{most};
-ghost use Rattle.per_additions.specs.Additions.{NextFlag};
 ghost use Rattle.per_scopes.specs.AdditionLaws.{additions_well};
-ghost use Rattle.per_scopes.specs.Additions.{ClosesAddition, OpensAddition, outside_open};
+ghost use Rattle.per_scopes.specs.Additions.{ClosesAddition, EntersContents, OpensAddition, outside_open};
+ghost use Rattle.per_scopes.specs.ChoiceLaws.{choices_well};
+ghost use Rattle.per_scopes.specs.Choices.{ClosesChoice, OpensChoice, UnendedChoice};
 ghost use Rattle.per_scopes.specs.Faults.{refusal, Answered, Unended, UnendedAddition};
 ghost use Rattle.per_scopes.specs.Laws.{decodes_well};
 ghost use Rattle.per_scopes.specs.Rules.{decoder_rules};
+ghost use Rattle.per_scopes.specs.BagLaws.{bags_well};
 ghost use Rattle.per_scopes.specs.ScopeLaws.{scopes_well};
 ghost use Rattle.per_scopes.specs.Scopes.{Closes, Enters, LevelInside, Opens, no_record, with_outside};
-ghost use Rattle.per_scopes.specs.State.{State, Options, extension_of, fresh, reader_of, shown};
-ghost use Rattle.per_de.specs.ChoiceLaws.{choices_well};
-ghost use Rattle.per_de.specs.Choices.{ClosesChoice, OpensChoice};
+ghost use Rattle.per_scopes.specs.State.{State, Options, fresh, reader_of, shown};
 ghost use Rattle.per_de.specs.Lists.{AmidList};
-ghost use Rattle.per_de.specs.Outsides.{outside_of, waiting_of};
+ghost use Rattle.per_de.specs.Outsides.{choosing_of, outside_of, waiting_of};
 ghost use Rattle.per_de.specs.Sources.{bits_of, extension_in, flags_in, span_of, IsWithin};
-ghost use Rattle.per_de.specs.Steps.{AsksNext, EndsContents, EntersContents, EntersOpen, IsRootRead, SkipsUnknown};
-ghost use Rattle.per_de.specs.Steps.{TakesBitmap, TakesExtensionBit, TakesFlags, TakesPresences};
+ghost use Rattle.per_de.specs.Steps.{AsksNext, EndsContents, EntersOpen, IsRootRead, SkipsUnknown};
+ghost use Rattle.per_de.specs.Steps.{ClosesContents, EntersAlternative, TakesIndex};
+ghost use Rattle.per_de.specs.Steps.{TakesBit, TakesBitmap, TakesExtensionBit, TakesFlags, TakesPresences};
 
-use per_additions::bitmaps::{Bitmap, PresenceBits, next_flag, skip_unknown, take_bitmap};
+use per_additions::bitmaps::{PresenceBits, skip_unknown, take_bitmap};
 use per_additions::open_types::{Contents, end_of_open, take_open};
 use per_bits::{BitList, BitReader};
 pub use per_read::error;
@@ -36,6 +42,7 @@ use rasn_schema::choices::Choice;
 use rasn_schema::constraints::Constraints;
 use rasn_schema::enumerated::Enumerated;
 use rasn_schema::fields::Constructed;
+use rasn_schema::items::Place;
 use rasn_schema::schema::IntegerType;
 use rasn_strings::strings::StaticPermittedAlphabet;
 use rasn_types::bit_string::BitString;
@@ -45,6 +52,10 @@ use std::alloc::{Allocator, Global};
 use std::borrow::CowSlice;
 use std::marker::Model;
 use std::mem;
+
+mod source;
+
+use source::{Extension, Flags, Source, Span};
 
 /// What a decoder is told: the variant of the rules, how deep values may stand inside one another, and whether padding
 /// must be zero.
@@ -114,162 +125,6 @@ impl DecoderOptions {
             codec: self.codec,
             zero_padding: self.zero_padding,
         }
-    }
-}
-
-/// Where the bits come from that a decoder reads.
-#[derive(Drop)]
-enum Source<'input> {
-    /// The input's own.
-    Input(BitReader<'input>),
-    /// Octets that were gathered from fragments (X.691 11.9.3.8), which the decoder owns.
-    Gathered(Vec<u8>),
-}
-
-impl Source<'_> {
-    /// All its bits.
-    fn bits(&self) -> BitReader<'_>
-        ensures { result ≡ bits_of self.now }
-    {
-        let octets = match self {
-            Source::Input(bits) => return bits.clone().unwrap(),
-            Source::Gathered(octets) => octets,
-        };
-        BitReader::from_octets(octets.as_slice())
-    }
-}
-
-/// Bits of a source: those from a place on, in front of another.
-#[derive(Clone, Copy, Debug)]
-struct Span {
-    begin: u128,
-    end: u128,
-}
-
-impl Span {
-    /// How many bits it has in a source that is long enough.
-    fn len(self) -> u128
-        ensures { result ≡ self.end - self.begin }
-    {
-        self.end.saturating_sub(self.begin)
-    }
-
-    /// The bits behind the first `count` of them.
-    fn behind(self, count: u128) -> Span
-        requires { count ≤ self.end - self.begin }
-        ensures { result ≡ record self { begin = self.begin + count } }
-    {
-        Span {
-            begin: self.begin + count,
-            end: self.end,
-        }
-    }
-
-    /// None.
-    fn empty() -> Span
-        ensures { result ≡ record { begin = 0; end = 0 } }
-    {
-        Span { begin: 0, end: 0 }
-    }
-
-    /// Of those in front of the last `left` of them, the last `count`.
-    fn in_front(self, left: u128, count: u128) -> Span
-        requires { left + count ≤ self.end - self.begin }
-        ensures { result ≡ record { begin = self.end - left - count; end = self.end - left } }
-    {
-        let end = self.end - left;
-        Span {
-            begin: end - count,
-            end,
-        }
-    }
-
-    /// The same bits of a source, which has all of them.
-    fn within(self, source: &BitReader<'_>) -> Span
-        ensures same { span_of result source.now ≡ span_of self source.now }
-        ensures there { IsWithin result source.now }
-    {
-        let len = source.len();
-        let begin = self.begin.min(len);
-        Span {
-            begin,
-            end: self.end.min(len).max(begin),
-        }
-    }
-
-    /// The next of these bits of a source, which is then no longer one of them.
-    fn next_bit(&mut self, source: BitReader<'_>) -> Option<bool>
-        ensures { NextFlag (span_of self.old source.entry) result (span_of self.new source.entry) }
-    {
-        let bits = self.part_of(source);
-        if bits.is_empty() {
-            return None;
-        }
-        *self = self.behind(1);
-        Some(bits.first_bits(1) == 1)
-    }
-
-    /// These bits of a source, as far as they are there.
-    fn part_of<'source>(self, source: BitReader<'source>) -> BitReader<'source>
-        ensures { result ≡ span_of self source.entry }
-    {
-        let mut bits = source;
-        let skipped = self.begin.min(bits.len());
-        bits.take(skipped).unwrap();
-        let count = self.len().min(bits.len());
-        bits.take(count).unwrap()
-    }
-}
-
-/// Presence bits of additions that are still to be read (X.691 19.7), where they stand.
-#[derive(Drop)]
-enum Flags {
-    /// In the source.
-    InPlace(Span),
-    /// Those of a bitmap in fragments, one after another, and how many of them were read.
-    Gathered(BitString, usize),
-}
-
-impl Flags {
-    /// The next of them, where they stand in a source, which is then no longer one of them.
-    fn next(&mut self, source: BitReader<'_>) -> Option<bool>
-        ensures { NextFlag (flags_in source.entry self.old) result (flags_in source.entry self.new) }
-    {
-        match self {
-            Flags::InPlace(span) => span.next_bit(source),
-            Flags::Gathered(bits, read) => next_flag(bits, read),
-        }
-    }
-
-    /// They in turn, where they stand in a source.
-    fn into_bitmap<'source>(self, source: BitReader<'source>) -> Bitmap<'source>
-        ensures { result ≡ flags_in source.entry self }
-    {
-        match self {
-            Flags::InPlace(span) => Bitmap::in_place(span.part_of(source)),
-            Flags::Gathered(bits, read) => Bitmap::gathered(bits, read),
-        }
-    }
-}
-
-/// What is still to be read of the bitmap of the open SEQUENCE's additions (X.691 19.7).
-#[derive(Drop)]
-enum Extension {
-    /// All of it: it stands behind the root components.
-    Ahead,
-    /// The presence bits that are left.
-    Shown(Flags),
-}
-
-impl Extension {
-    /// What an extension bit says of it (X.691 19.1).
-    fn of_bit(extends: bool) -> Self
-        ensures { (source : Bits) → extension_in source result ≡ extension_of extends }
-    {
-        if extends {
-            return Extension::Ahead;
-        }
-        Extension::Shown(Flags::InPlace(Span::empty()))
     }
 }
 
@@ -380,7 +235,7 @@ impl<'input> Decoder<'input> {
     pub fn input(&self) -> BitReader<'_>
         ensures { result ≡ self.now.bits }
     {
-        self.bits.part_of(self.source.bits())
+        self.bits.all_of(self.source.bits())
     }
 
     /// The variant in use.
@@ -513,6 +368,19 @@ impl<'input> Decoder<'input> {
         self.expected = outside.expected;
     }
 
+    /// Takes the next bit off the bits left. Where none is left it refuses.
+    fn take_bit(&mut self) -> Result<bool, DecodeError>
+        ensures { TakesBit self.old result self.new }
+    {
+        let bits = self.input();
+        if bits.is_empty() {
+            return Err(self.refuse(DecodeErrorKind::Incomplete(1)));
+        }
+        let bit = bits.first_bits(1) == 1;
+        self.bits = self.bits.behind(1);
+        Ok(bit)
+    }
+
     /// Takes the extension bit of a SEQUENCE (X.691 19.1), where its type has an extension marker.
     fn take_extension_bit(&mut self, marker: bool) -> Result<bool, DecodeError>
         ensures { TakesExtensionBit marker self.old result self.new }
@@ -520,10 +388,7 @@ impl<'input> Decoder<'input> {
         if !marker {
             return Ok(false);
         }
-        let mut reader = self.reader();
-        let bit = reader.take_bit();
-        let left = reader.bits().len();
-        self.answer(bit, left)
+        self.take_bit()
     }
 
     /// Takes a bitmap (X.691 19.7, 19.8), and answers its presence bits. Only one in fragments takes memory.
@@ -654,11 +519,50 @@ impl<'input> Decoder<'input> {
         self.expected = outside.expected;
     }
 
+    /// Leaves an open type where what is left of its contents ends them (X.691 11.1), and else refuses.
+    fn close_contents(&mut self, outside: Addition<'input>) -> Result<(), DecodeError>
+        ensures { ClosesContents (waiting_of self.old.source outside.entry) self.old result self.new }
+    {
+        match self.end_of_contents(outside.total) {
+            Ok(()) => {
+                self.leave_contents(outside);
+                Ok(())
+            }
+            Err(kind) => Err(self.refuse(kind)),
+        }
+    }
+
+    /// Takes the index of a CHOICE (X.691 23.5 to 23.8), and answers the place of its alternative.
+    fn take_index<C: Choice>(&mut self) -> Result<Place, DecodeError>
+        ensures { TakesIndex (length C.VARIANTS) (length (variants_behind C.EXTENDED_VARIANTS))
+            (is_extensible C.EXTENDED_VARIANTS) self.old result self.new }
+    {
+        let variants = C::VARIANTS;
+        let mut reader = self.reader();
+        let taken = reader.take_choice_index(variants.len(), added_count::<C>());
+        let left = reader.bits().len();
+        self.answer(taken, left)
+    }
+
+    /// Enters the open type of an alternative that stands behind the extension marker (X.691 23.8), and answers what
+    /// waits outside it. One of the root has none.
+    fn open_alternative(&mut self, place: Place) -> Result<Option<Addition<'input>>, DecodeError>
+        ensures { EntersAlternative (index_of place).0 self.old result self.new }
+    {
+        match place {
+            Place::Root(_) => Ok(None),
+            Place::Added(_) => Ok(Some(self.open_contents()?)),
+        }
+    }
+
     /// Skips the additions that the open SEQUENCE's type doesn't know, of which these are the presence bits (X.691
     /// 19.9).
     fn skip_additions(&mut self, flags: Flags) -> Result<(), DecodeError>
         ensures { SkipsUnknown (flags_in self.old.source flags) self.old result self.new }
     {
+        if flags.are_none() {
+            return Ok(());
+        }
         let bitmap = flags.into_bitmap(self.source.bits());
         let mut reader = self.reader();
         let taken = skip_unknown(&mut reader, bitmap);
@@ -674,6 +578,29 @@ fn addition_count<C: Constructed>() -> usize
     match C::EXTENDED_FIELDS {
         Some(fields) => fields.len(),
         None => 0,
+    }
+}
+
+/// How many alternatives a type has behind its extension marker, where it has one.
+fn added_count<C: Choice>() -> Option<usize>
+    ensures count { addeds_of result ≡ length (variants_behind C.EXTENDED_VARIANTS) }
+    ensures marked { is_marked result ≡ is_extensible C.EXTENDED_VARIANTS }
+{
+    match C::EXTENDED_VARIANTS {
+        Some(variants) => Some(variants.len()),
+        None => None,
+    }
+}
+
+/// The tag by which the alternative at a place goes.
+fn tag_at<C: Choice>(place: Place) -> Tag
+    requires { (index_of place).1 < length (variants_on (index_of place).0 C.VARIANTS C.EXTENDED_VARIANTS) }
+    ensures { slice_get (go_by (variants_on (index_of place).0 C.VARIANTS C.EXTENDED_VARIANTS)) (index_of place).1
+        ≡ Some (tag_of result) }
+{
+    match place {
+        Place::Root(index) => C::VARIANTS.tag_at(index),
+        Place::Added(index) => C::EXTENDED_VARIANTS.unwrap().tag_at(index),
     }
 }
 
@@ -715,6 +642,14 @@ pub struct Addition<'input> {
     total: WholeOctets,
 }
 
+/// What waits outside while a CHOICE is open: the levels that may be entered there, and what waits outside the open type
+/// of an alternative behind the extension marker.
+#[derive(Drop)]
+pub struct Alternative<'input> {
+    scope: Scope,
+    contents: Option<Addition<'input>>,
+}
+
 /// What is left of an open list, and what waits outside: the levels that may be entered there.
 #[derive(Drop)]
 pub struct ListScope {
@@ -731,6 +666,8 @@ impl<'input> decoder::Decoder for Decoder<'input> {
 
     type Addition = Addition<'input>;
 
+    type Alternative = Alternative<'input>;
+
     ghost rules = { decoder_rules };
 
     ghost opens = { λ c s o i. Opens c s (outside_of i.source o) i };
@@ -745,9 +682,11 @@ impl<'input> decoder::Decoder for Decoder<'input> {
 
     ghost unended_addition = { λ o e s. UnendedAddition (waiting_of s.source o) e s };
 
-    ghost opens_choice = { OpensChoice };
+    ghost opens_choice = { λ c d k s o i. OpensChoice c d k s (choosing_of i.source o) i };
 
-    ghost closes_choice = { ClosesChoice };
+    ghost closes_choice = { λ s o t. ClosesChoice s (choosing_of s.source o) t };
+
+    ghost unended_choice = { λ o e s. UnendedChoice (choosing_of s.source o).contents e s };
 
     ghost amid = { AmidList };
 
@@ -767,10 +706,7 @@ impl<'input> decoder::Decoder for Decoder<'input> {
 
     fn decode_bool(&mut self, _tag: Tag) -> Result<bool, DecodeError> {
         self.check_unfailed()?;
-        let mut reader = self.reader();
-        let taken = reader.take_bit();
-        let left = reader.bits().len();
-        self.answer(taken, left)
+        self.take_bit()
     }
 
     fn decode_integer<I: IntegerType>(
@@ -939,29 +875,27 @@ impl<'input> decoder::Decoder for Decoder<'input> {
 
     fn close_addition(&mut self, addition: Addition<'input>) -> Result<(), DecodeError> {
         self.check_unfailed()?;
-        match self.end_of_contents(addition.total) {
-            Ok(()) => {
-                self.leave_contents(addition);
-                Ok(())
-            }
-            Err(kind) => Err(self.refuse(kind)),
-        }
+        self.close_contents(addition)
     }
 
-    fn open_choice<C: Choice>(&mut self) -> Result<(Tag, Scope), DecodeError> {
+    fn open_choice<C: Choice>(&mut self) -> Result<(Tag, Alternative<'input>), DecodeError> {
         self.check_unfailed()?;
         let levels = self.level_inside()?;
-        let variants = C::VARIANTS;
-        let mut reader = self.reader();
-        let taken = reader.take_choice_index(variants.len());
-        let left = reader.bits().len();
-        let index = self.answer(taken, left)?;
+        let place = self.take_index::<C>()?;
         let scope = self.enter(Scope::without_record(levels));
-        Ok((variants.tag_at(index), scope))
+        let contents = self.open_alternative(place)?;
+        Ok((tag_at::<C>(place), Alternative { scope, contents }))
     }
 
-    fn close_choice(&mut self, scope: Scope) {
+    fn close_choice(&mut self, alternative: Alternative<'input>) -> Result<(), DecodeError> {
+        self.check_unfailed()?;
+        let scope = alternative.scope;
+        let contents = alternative.contents;
+        if let Some(contents) = contents {
+            self.close_contents(contents)?;
+        }
         self.leave(scope);
+        Ok(())
     }
 
     fn open_list(
@@ -1015,5 +949,7 @@ impl<'input> decoder::Decoder for Decoder<'input> {
 
     ghost additions = { additions_well waiting_of };
 
-    ghost choices = { choices_well };
+    ghost choices = { choices_well choosing_of };
+
+    ghost bags = { bags_well };
 }

@@ -17,7 +17,7 @@ use Rattle.per_write.specs.Faults.{HasPart, part_here, part_behind, RefusesValue
 use Rattle.per_write.specs.Rules.{encoder_rules}
 use Rattle.per_write.specs.State.{Additions, State}
 use Rattle.per_write.proofs.Gathering.{Gathers, gathers_none, gathers_absent, gathers_there}
-use Rattle.per_write.proofs.Writing.{none_behind}
+use Rattle.per_pieces.proofs.Writing.{none_behind}
 use Rattle.per_enc.specs.Opens.{part_count}
 
 inside : {A : Type 0} {s t : A} → Some s ≡ Some t → s ≡ t
@@ -45,7 +45,7 @@ pub record Gathering (x : State) (codec : Codec) (k : Additions) (n : ℕ) : Typ
 -- one addition was given
 record GivenOne (x y : State) (codec : Codec) (q : Presence) (s : Schema) (r : Option Value) (k : Additions) (n : ℕ) : Type 0 where
   kept : Additions
-  bits : y.bits ≡ x.bits
+  pieces : y.pieces ≡ x.pieces
   presences : y.scope.presences ≡ x.scope.presences
   gathering : Gathering y codec kept n
   gathers : (ms : List Member) (ss : List (Option Value)) (l : Additions) → Gathers (variant_of codec) ms ss kept l →
@@ -67,7 +67,7 @@ given_one x y codec q s (Some v) k n h (presents_added e w) =
     let same_before : w.before ≡ k = inside (sym w.awaits.some ∙ h.keeps) in
     record {
       kept = with_next k true w.opens;
-      bits = ap (λ z. z.bits) w.same;
+      pieces = ap (λ z. z.pieces) w.same;
       presences = ap (λ z. z.scope.presences) w.same;
       gathering = gathering_next x y codec k w.before n true w.opens h w.awaits.some w.same;
       gathers = λ ms ss l g. gathers_there (variant_of codec) _ ms v ss k l w.contents w.opens (addition_shown q (Some v) true e) (ap (λ c. canon (variant_of c) s v 0) (sym h.same) ∙ w.complete)
@@ -83,7 +83,7 @@ given_one x y codec q s r k n h (presents_skipped e w) =
     let same_before : w.before ≡ k = inside (sym w.awaits.some ∙ h.keeps) in
     record {
       kept = with_next k false k.opens;
-      bits = ap (λ z. z.bits) w.same;
+      pieces = ap (λ z. z.pieces) w.same;
       presences = ap (λ z. z.scope.presences) w.same;
       gathering = gathering_next x y codec k w.before n false k.opens h w.awaits.some
           (w.same ∙ ap (λ (bs : Bits). record x { scope = record { presences = x.scope.presences; additions = Some (with_next w.before false bs) } }) (ap (λ (j : Additions). j.opens) same_before));
@@ -95,20 +95,20 @@ given_one x y codec q s r k n h (presents_skipped e w) =
 -- all additions were given
 pub record GivenAll (x y : State) (codec : Codec) (ps : Parts) (rs : List (Option Value)) (k : Additions) : Type 0 where
   pub kept : Additions
-  pub bits : y.bits ≡ x.bits
+  pub pieces : y.pieces ≡ x.pieces
   pub presences : y.scope.presences ≡ x.scope.presences
   pub gathering : Gathering y codec kept 0
   pub gathers : Gathers (variant_of codec) (members (variant_of codec) ps) rs k kept
 
 pub given_all : (ps : Parts) (x y : State) (codec : Codec) (rs : List (Option Value)) (k : Additions) → Gathering x codec k (part_count ps) → PresentsAdditions encoder_rules ps x rs y → GivenAll x y codec ps rs k
 unfolding canon
-given_all no_parts x y codec rs k h presents_no_more = record { kept = k; bits = refl; presences = refl; gathering = h; gathers = gathers_none (variant_of codec) k }
+given_all no_parts x y codec rs k h presents_no_more = record { kept = k; pieces = refl; presences = refl; gathering = h; gathers = gathers_none (variant_of codec) k }
 given_all (part t q s ps) x y codec (r ∷ rs) k h (presents_further {m = m} c d) =
     let o = given_one x m codec q s r k (part_count ps) h c in
     let a = given_all ps m y codec rs o.kept o.gathering d in
     record {
       kept = a.kept;
-      bits = a.bits ∙ o.bits;
+      pieces = a.pieces ∙ o.pieces;
       presences = a.presences ∙ o.presences;
       gathering = a.gathering;
       gathers = o.gathers (members (variant_of codec) ps) rs a.kept a.gathers;

@@ -14,11 +14,12 @@ use Rattle.rasn_schema.specs.Records.{record_at}
 use Rattle.rasn_schema.specs.Schemas.{listed, Schema, Parts, no_parts, part, required, optional, group, default}
 use Rattle.rasn_calls.specs.Additions.{AdditionClosed, AdditionOpened, AdditionSkipped, extended}
 use Rattle.per_core.specs.Canon.{canon}
+use Rattle.per_pieces.specs.Pieces.{Pieces, settle as settle_pieces}
 use Rattle.per_write.specs.declared.error.EncodeError.{EncodeError}
 use Rattle.per_write.specs.declared.presences.Presences.{Presences}
 use Rattle.per_write.specs.Additions.{ClosesOrNot, has_required, is_group_there, open_if, Opens, OpensOrNot, Outside, SkipsOrNot, with_next}
 use Rattle.per_write.specs.Rules.{encoder_rules}
-use Rattle.per_write.specs.State.{Additions, Appends, State, Presents}
+use Rattle.per_write.specs.State.{Additions, AppendsBits, State, Presents}
 use Rattle.per_write.proofs.Vacant.{group_there}
 use Rattle.per_enc.specs.Opens.{part_count}
 use Rattle.per_enc.proofs.Presenting.{presents_first}
@@ -35,29 +36,29 @@ opened x y (Ok o) h = (h.ok, record { outside = o; opened = h.ok })
 opened x y (Err e) h = elim h.err [ inl m ↦ inl m | inr s ↦ inr (inl s) ]
 
 -- what was written inside an open type is the value's canonical bits
-contents_of : (x i j : State) (o : Outside) (s : Schema) (v : Value) → Opens x o i → Presents i s v j → canon (variant_of x.codec) s v 0 ≡ Some j.bits
-contents_of x i j o s v h w = ap (λ (c : Codec). canon (variant_of c) s v 0) (sym (ap (λ z. z.codec) h.same)) ∙ sym (presents_first i j s v (ap (λ z. z.bits) h.same) w)
+contents_of : (x i j : State) (o : Outside) (s : Schema) (v : Value) → Opens x o i → Presents i s v j → canon (variant_of x.codec) s v 0 ≡ Some (settle_pieces j.pieces.list 0)
+contents_of x i j o s v h w = ap (λ (c : Codec). canon (variant_of c) s v 0) (sym (ap (λ z. z.codec) h.same)) ∙ sym (presents_first i j s v (ap (λ z. z.pieces) h.same) w)
 
 -- what was before is there again, but for the additions
-restored : (x i j y : State) (o : Outside) (s : Schema) (v : Value) (k : Additions) → Opens x o i → Presents i s v j → y ≡ record j { bits = o.bits; scope = record { presences = o.presences; additions = Some k } } →
+restored : (x i j y : State) (o : Outside) (s : Schema) (v : Value) (k : Additions) → Opens x o i → Presents i s v j → y ≡ record j { pieces = o.pieces; scope = record { presences = o.presences; additions = Some k } } →
     y ≡ record x { scope = record { presences = x.scope.presences; additions = Some k } }
 restored x i j y o s v k h w e =
     let codec : j.codec ≡ x.codec = w.same ∙ ap (λ z. z.codec) h.same in
     let failed : j.failed ≡ x.failed = w.left ∙ sym h.awaits.begun in
-    let bits : o.bits ≡ x.bits = ap (λ z. z.bits) h.waits in
+    let pieces : o.pieces ≡ x.pieces = ap (λ z. z.pieces) h.waits in
     let presences : o.presences ≡ x.scope.presences = ap (λ z. z.presences) h.waits in
-    e ∙ ap₂ (λ (bs : Bits) (f : Bool). record { bits = bs; failed = f; codec = j.codec; scope = record { presences = o.presences; additions = Some k } }) bits failed
-    ∙ ap₂ (λ (c : Codec) (q : Presences). record { bits = x.bits; failed = x.failed; codec = c; scope = record { presences = q; additions = Some k } }) codec presences
+    e ∙ ap₂ (λ (ps : Pieces) (f : Bool). record { pieces = ps; failed = f; codec = j.codec; scope = record { presences = o.presences; additions = Some k } }) pieces failed
+    ∙ ap₂ (λ (c : Codec) (q : Presences). record { pieces = x.pieces; failed = x.failed; codec = c; scope = record { presences = q; additions = Some k } }) codec presences
 
 -- the value of an addition
 pub closed : (x i j y : State) (o : Outside) (s : Schema) (v : Value) (result : Result (Unit {0}) EncodeError) → Opens x o i → Presents i s v j → ClosesOrNot true o j result y → AdditionClosed encoder_rules s (Some v) x result y
 closed x i j y o s v (Ok u) h w c = record {
   before = o.additions;
   awaits = h.awaits;
-  contents = j.bits;
+  contents = settle_pieces j.pieces.list 0;
   complete = contents_of x i j o s v h w;
   opens = c.ok.opens;
-  appended = subst (λ (e : Codec). Appends o.additions.opens (open_if (variant_of e) true j.bits) c.ok.opens) codec c.ok.appended;
+  appended = subst (λ (e : Codec). AppendsBits o.additions.opens (open_if (variant_of e) true (settle_pieces j.pieces.list 0)) c.ok.opens) codec c.ok.appended;
   same = restored x i j y o s v (with_next o.additions true c.ok.opens) h w c.ok.same;
 }
   where
@@ -83,12 +84,12 @@ left_out x i j y o s v (Err e) h w c = record { kind_is = c.err.kind_is; codec_i
 
 -- a group
 pub group_closed : (ps : Parts) (marker : Bool) (qs : Parts) (x i j y : State) (o : Outside) (v : Value) (has : Bool) (result : Result (Unit {0}) EncodeError) → has ≡ has_required ps → Opens x o i → Presents i (extended ps marker qs) v j →
-    ClosesOrNot (is_group_there has j.bits) o j result y → AdditionClosed encoder_rules (extended ps marker qs) (settle group (extended ps marker qs) v) x result y
+    ClosesOrNot (is_group_there has (settle_pieces j.pieces.list 0)) o j result y → AdditionClosed encoder_rules (extended ps marker qs) (settle group (extended ps marker qs) v) x result y
 unfolding settle
 group_closed ps marker qs x i j y o v has result e h w c = go (is_vacant (extended ps marker qs) v) refl
   where
-    there : is_group_there has j.bits ≡ not (is_vacant (extended ps marker qs) v)
-    there = ap (λ (b : Bool). is_group_there b j.bits) e ∙ shown_group (variant_of x.codec) ps marker qs v j.bits (contents_of x i j o (extended ps marker qs) v h w)
+    there : is_group_there has (settle_pieces j.pieces.list 0) ≡ not (is_vacant (extended ps marker qs) v)
+    there = ap (λ (b : Bool). is_group_there b (settle_pieces j.pieces.list 0)) e ∙ shown_group (variant_of x.codec) ps marker qs v (settle_pieces j.pieces.list 0) (contents_of x i j o (extended ps marker qs) v h w)
 
     go : (b : Bool) → is_vacant (extended ps marker qs) v ≡ b → AdditionClosed encoder_rules (extended ps marker qs) (settle group (extended ps marker qs) v) x result y
     go false n = rw n (closed x i j y o (extended ps marker qs) v result h w (subst (λ (b : Bool). ClosesOrNot b o j result y) (there ∙ ap not n) c))
@@ -97,11 +98,11 @@ group_closed ps marker qs x i j y o v has result e h w c = go (is_vacant (extend
 -- nothing was written where a tree is cut off
 none_cut : (i j : State) (v : Value) → Presents i Schema.cut v j → ⊥
 unfolding canon
-none_cut i j v w = let n : Some j.bits ≡ None = w.written 0 refl in absurd cc
+none_cut i j v w = let n : Some (settle_pieces j.pieces.list 0) ≡ None = w.appended.written 0 (λ t. refl) in absurd cc
 
 -- the same by the group's own family of trees
 pub family_closed : (parts : ℕ → Parts) (marker : Bool) (additions : ℕ → Parts) (schema : ℕ → Schema) → schema ≡ record_at listed parts marker additions → (x i j y : State) (o : Outside) (n : ℕ) (v : Value) (has : Bool)
-    (result : Result (Unit {0}) EncodeError) → ((m : ℕ) → has ≡ has_required (parts m)) → Opens x o i → Presents i (schema n) v j → ClosesOrNot (is_group_there has j.bits) o j result y
+    (result : Result (Unit {0}) EncodeError) → ((m : ℕ) → has ≡ has_required (parts m)) → Opens x o i → Presents i (schema n) v j → ClosesOrNot (is_group_there has (settle_pieces j.pieces.list 0)) o j result y
     → AdditionClosed encoder_rules (schema n) (settle group (schema n) v) x result y
 family_closed parts marker additions schema e x i j y o n v has result q h w c = rw e (at_each n (rw e at w))
   where

@@ -1,6 +1,6 @@
 -- What the calls of an encoder present.
 use Rattle.std.specs.Prelude.{OnOk, OnErr, IfErr, Result, Ok, Err, Bool}
-use Rattle.std.proofs.Common.{◌≡◌, refl, sym, ap, ◌∙◌, subst, true, false, ℕ, List, [], ◌∷◌, Some, append-nil, inl, inr, None, Option, ℤ, rules}
+use Rattle.std.proofs.Common.{◌≡◌, refl, sym, ap, ◌∙◌, subst, true, false, ℕ, List, [], ◌∷◌, Some, inl, inr, None, Option, ℤ, rules}
 use Rattle.rasn_types.specs.Bits.{Bits}
 use Rattle.rasn_types.specs.Codecs.{variant_of}
 use Rattle.rasn_types.specs.Values.{Value, truth, nothing, octets, whole}
@@ -15,6 +15,8 @@ use Rattle.rasn_calls.specs.Calls.{Behaves, Written, Writes, freely}
 use Rattle.per_core.specs.Counts.{number_form, number_under, unconstrained_octets}
 use Rattle.per_core.specs.Writers.{Writer, join, just, written_if, ◌▹◌}
 use Rattle.per_core.specs.Canon.{canon}
+use Rattle.per_pieces.specs.Pieces.{Pieces, no_pieces, settled}
+use Rattle.per_pieces.proofs.Settling.{appends_none}
 use Rattle.per_write.specs.declared.error.EncodeError.{EncodeError}
 use Rattle.per_write.specs.Faults.{IsMemory, IsAlready, RefusesValue, Stands}
 use Rattle.per_write.specs.Numbers.{unconstrained_whole}
@@ -88,7 +90,7 @@ other_law x y taken os result t f p = text_law x y other taken os result t refl 
 -- X.691 18: a NULL is no bits
 pub presents_null : (x : State) → x.failed ≡ false → Presents x Schema.null nothing x
 unfolding canon
-presents_null x f = record { begun = f; left = f; same = refl; beside = refl; written = λ p b. ap Some (sym (append-nil x.bits)) }
+presents_null x f = record { begun = f; left = f; same = refl; beside = refl; appended = appends_none x.pieces }
 
 -- X.691 18: a NULL, where the encoder had not been refused
 null_written : (x : State) (result : Result (Unit {0}) EncodeError) → OnOk result (x.failed ≡ false) → IfErr result (λ e. IsAlready e x) → OnErr result (x.failed ≡ true) →
@@ -101,9 +103,9 @@ pub null_law : (x : State) (result : Result (Unit {0}) EncodeError) → OnOk res
 null_law x result h k f = record { law = null_written x result h k f; behaves = search rules }
 
 -- the first value of an encoder stands alone
-pub presents_first : (x y : State) (s : Schema) (v : Value) → x.bits ≡ [] → Presents x s v y → view y 0 ≡ canon (variant_of x.codec) s v 0
+pub presents_first : (x y : State) (s : Schema) (v : Value) → x.pieces ≡ no_pieces → Presents x s v y → view y 0 ≡ canon (variant_of x.codec) s v 0
 presents_first x y s v e h =
-    h.written 0 refl ∙ ap (λ (b : Bits). (just b ▹ canon (variant_of x.codec) s v) 0) e ∙ alone (canon (variant_of x.codec) s v 0)
+    h.appended.written 0 (λ t. refl) ∙ ap (λ (z : Pieces). (settled z.list ▹ canon (variant_of x.codec) s v) 0) e ∙ alone (canon (variant_of x.codec) s v 0)
   where
     alone : (o : Option Bits) → join [] o ≡ o
     alone None = refl

@@ -15,18 +15,20 @@ use Rattle.rasn_schema.specs.Schemas.{Schema, Parts, no_parts}
 use Rattle.rasn_calls.specs.Scopes.{PresentsParts, PresentsFields, presents_fields, RefusesFields, refuses_root, refuses_behind_root, Passes, OpenedToWrite}
 use Rattle.per_core.specs.Canon.{canon, members, any_set, bitmap, bitmap_of, extension_bit, flags_of, bodies_of, opens_of, with_additions, record_of as record_writer}
 use Rattle.per_core.specs.Writers.{Writer, just, ◌▹◌, join, go_on, after}
+use Rattle.per_pieces.specs.Pieces.{Piece, bit, Pieces, MayBegin, bit_count, plain, set_bit, settle, settled}
+use Rattle.per_pieces.proofs.Settling.{set_seam, settle_plain}
 use Rattle.per_write.specs.declared.error.EncodeError.{EncodeError}
 use Rattle.per_write.specs.declared.error.EncodeErrorKind.{EncodeErrorKind}
 use Rattle.per_write.specs.declared.error.EncodeErrorKind.TheVariants.{SizeConstraintNotSatisfied, ValueConstraintNotSatisfied, AlphabetConstraintNotSatisfied, IntegerTypeConversionFailed, VariantNotInChoice, RealNotSupported, TooManyAdditions, Below, AlreadyFailed, OutOfMemory, OutOfTurn}
 use Rattle.per_write.specs.Faults.{HasPart, in_addition, in_part, IsError, IsMemory, RefusesValue, Stands}
-use Rattle.per_write.specs.Records.{AreGiven, IsUngiven, ClosesOrNot, closed_bits, OpensOrNot, Opens as OpensRecord, to_be_given, with_behind}
+use Rattle.per_write.specs.Records.{AreGiven, ClosedBehind, ExtendedBehind, IsUngiven, ClosesOrNot, OpensOrNot, Opens as OpensRecord, to_be_given}
 use Rattle.per_write.specs.Rules.{encoder_rules}
-use Rattle.per_write.specs.State.{Additions, Appends, Scope, State, Presents}
+use Rattle.per_write.specs.State.{Additions, Scope, State, Presents}
 use Rattle.per_enc.specs.Opens.{behind_marker, Opens, part_count}
-use Rattle.per_enc.proofs.Chain.{Laid, Ready, laid, moved, parts_keep, refused_part}
+use Rattle.per_enc.proofs.Chain.{Laid, Ready, end_of, laid, moved, parts_keep, refused_part}
 use Rattle.per_enc.proofs.Extending.{GivenAll, Gathering, given_all, given_none, refused_addition}
-use Rattle.per_write.proofs.Gathering.{closed_form}
-use Rattle.per_write.proofs.Writing.{none_behind, then_nothing}
+use Rattle.per_write.proofs.Gathering.{AppendsAt, closed_form}
+use Rattle.per_pieces.proofs.Writing.{none_behind, then_nothing}
 
 inside : {A : Type 0} {s t : A} → Some s ≡ Some t → s ≡ t
 inside e = cc
@@ -71,38 +73,35 @@ stands_in Below x m s v ps marker qs rs xs f h k = absurd k
 stands_in OutOfMemory x m s v ps marker qs rs xs f h k = absurd k
 stands_in OutOfTurn x m s v ps marker qs rs xs f h k = absurd k
 
--- the bits in front of the presence bits
-abbrev front_of : Bits → Bool → Bits
-front_of bs false = bs
-front_of bs true = bs ++ false ∷ []
+-- the pieces in front of the presence bits
+abbrev front_of : List Piece → Bool → List Piece
+front_of ps false = ps
+front_of ps true = ps ++ bit false ∷ []
+
+kept_zeros : (n : ℕ) → plain (replicate n false) ≡ plain (replicate (n + 0) false) ++ []
+kept_zeros n = ap (λ (i : ℕ). plain (replicate i false)) (let e : n ≡ n + 0 = omega arith in e) ∙ sym (append-nil (plain (replicate (n + 0) false)))
 
 -- inside a record that is opened, its presence bits are still to be given
-opened : (ps : Parts) (marker : Bool) (qs : Parts) {x i : State} {o : Scope} → Opens (extended ps marker qs) x o i → Ready i x.codec (front_of x.bits marker) [] (presence_bits ps + 0)
+opened : (ps : Parts) (marker : Bool) (qs : Parts) {x i : State} {o : Scope} → Opens (extended ps marker qs) x o i → Ready i x.codec (front_of x.pieces.list marker) [] (presence_bits ps + 0)
 opened ps false qs {x} {i} h = record {
   unfailed = h.unfailed;
   same = h.same;
-  bits = h.bits ∙ ap (λ bs. x.bits ++ bs) (zeros (presence_bits ps));
-  place = ap (λ z. z.place) h.place ∙ ap length (append-nil x.bits);
+  list = ap (λ z. z.list) h.pieces ∙ ap (λ (qs : List Piece). x.pieces.list ++ qs) (kept_zeros (presence_bits ps));
+  place = ap (λ z. z.place) h.place ∙ ap bit_count (append-nil x.pieces.list);
   left = ap (λ z. z.left) h.place ∙ omega arith;
 }
-  where
-    zeros : (n : ℕ) → replicate n false ≡ replicate (n + 0) false ++ []
-    zeros n = ap (λ (i : ℕ). replicate i false) (let e : n ≡ n + 0 = omega arith in e) ∙ sym (append-nil (replicate (n + 0) false))
 opened ps true qs {x} {i} h = record {
   unfailed = h.unfailed;
   same = h.same;
-  bits = h.bits ∙ sym (append_assoc x.bits (false ∷ []) (replicate (presence_bits ps) false)) ∙ ap (λ bs. (x.bits ++ false ∷ []) ++ bs) (zeros (presence_bits ps));
+  list = ap (λ z. z.list) h.pieces ∙ sym (append_assoc x.pieces.list (bit false ∷ []) (plain (replicate (presence_bits ps) false))) ∙ ap (λ (qs : List Piece). (x.pieces.list ++ bit false ∷ []) ++ qs) (kept_zeros (presence_bits ps));
   place = ap (λ z. z.place) h.place;
   left = ap (λ z. z.left) h.place ∙ omega arith;
 }
-  where
-    zeros : (n : ℕ) → replicate n false ≡ replicate (n + 0) false ++ []
-    zeros n = ap (λ (i : ℕ). replicate i false) (let e : n ≡ n + 0 = omega arith in e) ∙ sym (append-nil (replicate (n + 0) false))
 
 -- behind its root, its additions are still to be given
-gathering : (ps qs : Parts) {x i m : State} {o : Scope} (rs : List (Option Value)) → Opens (extended ps true qs) x o i → PresentsParts encoder_rules ps i rs m → Gathering m x.codec (to_be_given (length x.bits) (part_count qs)) (part_count qs)
+gathering : (ps qs : Parts) {x i m : State} {o : Scope} (rs : List (Option Value)) → Opens (extended ps true qs) x o i → PresentsParts encoder_rules ps i rs m → Gathering m x.codec (to_be_given (bit_count x.pieces.list) (part_count qs)) (part_count qs)
 gathering ps qs {x} {i} {m} rs h k =
-    let l = laid ps i m x.codec rs (front_of x.bits true) [] 0 (opened ps true qs h) k in
+    let l = laid ps i m x.codec rs (front_of x.pieces.list true) [] 0 (opened ps true qs h) k in
     record {
       unfailed = l.unfailed;
       same = l.same;
@@ -138,14 +137,14 @@ no_more_refused c = elim c [ ]
 refuses_record : (e : EncodeError) (x i : State) (o : Scope) (ps : Parts) (marker : Bool) (qs : Parts) (rs xs : List (Option Value)) → (marker ≡ false → qs ≡ no_parts) → Opens (extended ps marker qs) x o i → RefusesFields encoder_rules e ps qs i rs xs →
     RefusesValue e x (extended ps marker qs) (record_value rs xs)
 refuses_record e x i o ps marker qs rs xs w h (refuses_root k) =
-    let d = refused_part e ps i x.codec rs (front_of x.bits marker) [] 0 (opened ps marker qs h) k in
+    let d = refused_part e ps i x.codec rs (front_of x.pieces.list marker) [] 0 (opened ps marker qs h) k in
     record {
       none = λ f p. root_none (variant_of x.codec) ps marker qs rs xs d.none p;
       stands = stands_in e.kind x d.m d.s d.v ps marker qs rs xs d.unfailed (inl d.has) d.refused.stands;
       codec_is = d.refused.codec_is ∙ d.same;
     }
 refuses_record e x i o ps true qs rs xs w h (refuses_behind_root {m = m} c k) =
-    let d = refused_addition e qs m x.codec xs (to_be_given (length x.bits) (part_count qs)) (gathering ps qs rs h c) k in
+    let d = refused_addition e qs m x.codec xs (to_be_given (bit_count x.pieces.list) (part_count qs)) (gathering ps qs rs h c) k in
     record {
       none = λ f p. addition_none (variant_of x.codec) ps true qs rs xs d.set d.none p;
       stands = stands_in e.kind x d.m d.s d.v ps true qs rs xs d.unfailed (inr d.has) d.refused.stands;
@@ -161,23 +160,32 @@ passes x i o ps marker qs w h = record {
 }
 
 -- the root behind what stands in front of it
-root_laid : {a : Variant} {y : State} {codec : Codec} {ps : Parts} {rs : List (Option Value)} {front : Bits} → variant_of codec ≡ a → Laid y codec ps rs front [] 0 → Appends front (flags_of (members a ps) rs ▹ bodies_of (members a ps) rs) y.bits
-root_laid {y = y} {codec} {ps} {rs} {front} e l =
+root_laid : {a : Variant} {x y : State} {codec : Codec} {ps : Parts} {rs : List (Option Value)} {front : List Piece} → variant_of codec ≡ a → Laid x y codec ps rs front [] 0 → (p : ℕ) → MayBegin x.pieces p →
+    AppendsAt p front (flags_of (members a ps) rs ▹ bodies_of (members a ps) rs) y.pieces.list
+root_laid {y = y} {codec} {ps} {rs} {front} e l p u =
     let flags = flags_of (members (variant_of codec) ps) rs in
     let bodies = bodies_of (members (variant_of codec) ps) rs in
-    subst (λ (a : Variant). Appends front (flags_of (members a ps) rs ▹ bodies_of (members a ps) rs) y.bits) e
-    (l.written ∙ ap (λ bs. (just (front ++ bs) ▹ bodies) 0) (append-nil l.flags) ∙ sym (moved front l.flags flags bodies (l.are_flags (after 0 front))))
+    let alone : front ++ (plain (l.flags ++ []) ++ []) ≡ front ++ plain l.flags = ap (λ (qs : List Piece). front ++ qs) (append-nil (plain (l.flags ++ [])) ∙ ap plain (append-nil l.flags)) in
+    subst (λ (a : Variant). AppendsAt p front (flags_of (members a ps) rs ▹ bodies_of (members a ps) rs) y.pieces.list) e
+    (l.written p u ∙ ap (λ (qs : List Piece). (settled qs ▹ bodies) p) alone
+    ∙ sym (moved p front (plain l.flags) flags bodies (l.are_flags (after p (settle front p)) ∙ ap Some (sym (settle_plain l.flags (after p (settle front p)))))))
 
--- what was written behind the bits from before
-presents_appended : (x z : State) (s : Schema) (v : Value) → x.failed ≡ false → z.failed ≡ false → z.codec ≡ x.codec → z.scope ≡ x.scope → Appends x.bits (canon (variant_of x.codec) s v) z.bits → Presents x s v z
-presents_appended x z s v f g d u w = record { begun = f; left = g; same = d; beside = u; written = λ p b. rw b w }
+-- what was written behind the pieces from before
+presents_appended : (x z : State) (s : Schema) (v : Value) (behind : List Piece) → x.failed ≡ false → z.failed ≡ false → z.codec ≡ x.codec → z.scope ≡ x.scope → z.pieces.list ≡ x.pieces.list ++ behind → z.pieces.placed ≡ x.pieces.placed →
+    ((p : ℕ) → MayBegin x.pieces p → AppendsAt p x.pieces.list (canon (variant_of x.codec) s v) z.pieces.list) → Presents x s v z
+presents_appended x z s v behind f g d u l m w = record { begun = f; left = g; same = d; beside = u; appended = record { behind = behind; list = l; place = m; written = w } }
+
+-- where a record begins that is opened
+opened_place : (ps : Parts) (marker : Bool) (qs : Parts) {x i : State} {o : Scope} → Opens (extended ps marker qs) x o i → i.pieces.placed ≡ x.pieces.placed
+opened_place ps marker qs h = ap (λ z. z.placed) h.pieces
 
 -- a record without an extension marker whose components were presented
-presents_plain : (x j z : State) (ps : Parts) (rs : List (Option Value)) → x.failed ≡ false → Laid j x.codec ps rs x.bits [] 0 → z.bits ≡ j.bits → z.failed ≡ false → z.codec ≡ x.codec → z.scope ≡ x.scope
+presents_plain : (x i j z : State) (ps : Parts) (rs : List (Option Value)) → x.failed ≡ false → i.pieces.placed ≡ x.pieces.placed → Laid i j x.codec ps rs x.pieces.list [] 0 → z.pieces ≡ j.pieces → z.failed ≡ false → z.codec ≡ x.codec → z.scope ≡ x.scope
     → Presents x (extended ps false no_parts) (record_value rs []) z
-presents_plain x j z ps rs f l e g d u =
-    presents_appended x z (extended ps false no_parts) (record_value rs []) f g d u
-    (ap Some e ∙ root_laid refl l ∙ ap (join x.bits) (all (after 0 x.bits) (let m : (0 + length x.bits) % 8 < 8 = omega arith in m)))
+presents_plain x i j z ps rs f m l e g d u =
+    presents_appended x z (extended ps false no_parts) (record_value rs []) l.behind f g d u (ap (λ q. q.list) e ∙ l.list) (ap (λ q. q.placed) e ∙ l.steady ∙ m)
+    (λ p b. ap (λ q. settled q.list p) e ∙ root_laid refl l p (λ t. b (sym m ∙ t))
+    ∙ ap (join (settle x.pieces.list p)) (all (end_of x p) (let n : (p + length (settle x.pieces.list p)) % 8 < 8 = omega arith in n)))
   where
     root : Writer
     root = flags_of (members (variant_of x.codec) ps) rs ▹ bodies_of (members (variant_of x.codec) ps) rs
@@ -188,42 +196,53 @@ presents_plain x j z ps rs f l e g d u =
 closes_plain : (ps : Parts) (x i j y : State) (rs : List (Option Value)) (o : Scope) (result : Result (Unit {0}) EncodeError) → Opens (extended ps false no_parts) x o i → PresentsParts encoder_rules ps i rs j → ClosesOrNot o j result y
     → Written encoder_rules (extended ps false no_parts) (record_value rs []) x result y
 closes_plain ps x i j y rs o (Ok u) h k c =
-    let l = laid ps i j x.codec rs x.bits [] 0 (opened ps false no_parts h) k in
+    let l = laid ps i j x.codec rs x.pieces.list [] 0 (opened ps false no_parts h) k in
     let s = c.ok.same in
-    let bits : y.bits ≡ j.bits = inside (c.ok.bits ∙ ap (closed_bits (variant_of j.codec) j.bits) (parts_keep ps i j rs k ∙ h.keeps)) in
-    presents_plain x j y ps rs h.begun l bits (ap (λ z. z.failed) s ∙ l.unfailed) (ap (λ z. z.codec) s ∙ l.same) (ap (λ z. z.scope) s ∙ h.waits)
+    let same : y.pieces ≡ j.pieces = subst (λ (q : Option Additions). ClosedBehind (variant_of j.codec) q j.pieces y.pieces) (parts_keep ps i j rs k ∙ h.keeps) c.ok.pieces in
+    presents_plain x i j y ps rs h.begun (opened_place ps false no_parts h) l same (ap (λ z. z.failed) s ∙ l.unfailed) (ap (λ z. z.codec) s ∙ l.same) (ap (λ z. z.scope) s ∙ h.waits)
 closes_plain ps x i j y rs o (Err d) h k c = refused c.err
   where
-    l : Laid j x.codec ps rs x.bits [] 0
-    l = laid ps i j x.codec rs x.bits [] 0 (opened ps false no_parts h) k
+    l : Laid i j x.codec ps rs x.pieces.list [] 0
+    l = laid ps i j x.codec rs x.pieces.list [] 0 (opened ps false no_parts h) k
 
     refused : IsMemory d j ⊎ (IsError OutOfTurn d j × IsUngiven j.scope) → Written encoder_rules (extended ps false no_parts) (record_value rs []) x (Err d) y
     refused (inl m) = inl (record { kind_is = m.kind_is; codec_is = m.codec_is ∙ l.same })
     refused (inr (e, inl s)) = let z = l.left in absurd (omega arith)
     refused (inr (e, inr n)) = absurd (n (subst AreGiven (sym (parts_keep ps i j rs k ∙ h.keeps)) tt))
 
+-- what stands behind the pieces from before, where the additions were put behind the root
+extended_behind : (a : Variant) (k : Additions) (there : Bool) (front root : List Piece) (j y : Pieces) → k.extension ≡ bit_count front → j.list ≡ (front ++ bit false ∷ []) ++ root → ExtendedBehind a k there j y →
+    (behind : List Piece) × (y.list ≡ front ++ behind) × (y.placed ≡ j.placed)
+extended_behind a k false front root j y e l h = (bit false ∷ root, ap (λ q. q.list) h ∙ l ∙ append_assoc front (bit false ∷ []) root, ap (λ q. q.placed) h)
+extended_behind a k true front root j y e l h =
+    let set : set_bit j.list k.extension true ≡ front ++ bit true ∷ root = ap₂ (λ (ps : List Piece) (i : ℕ). set_bit ps i true) (l ∙ append_assoc front (bit false ∷ []) root) e ∙ set_seam front root false true in
+    ((bit true ∷ root) ++ h.behind, h.list ∙ ap (λ (ps : List Piece). ps ++ h.behind) set ∙ append_assoc front (bit true ∷ root) h.behind, h.place)
+
 -- a record with an extension marker
 closes_extended : (ps qs : Parts) (x i m j y : State) (rs xs : List (Option Value)) (o : Scope) (result : Result (Unit {0}) EncodeError) → Opens (extended ps true qs) x o i → PresentsParts encoder_rules ps i rs m →
     PresentsAdditions encoder_rules qs m xs j → ClosesOrNot o j result y → Written encoder_rules (extended ps true qs) (record_value rs xs) x result y
 closes_extended ps qs x i m j y rs xs o (Ok u) h k b c =
     let a = variant_of x.codec in
-    let l = laid ps i m x.codec rs (x.bits ++ false ∷ []) [] 0 (opened ps true qs h) k in
-    let g = given_all qs m j x.codec xs (to_be_given (length x.bits) (part_count qs)) (gathering ps qs rs h k) b in
+    let front = x.pieces.list in
+    let l = laid ps i m x.codec rs (front ++ bit false ∷ []) [] 0 (opened ps true qs h) k in
+    let g = given_all qs m j x.codec xs (to_be_given (bit_count front) (part_count qs)) (gathering ps qs rs h k) b in
     let s = c.ok.same in
     let inner = flags_of (members a ps) rs ▹ bodies_of (members a ps) rs in
-    let closed : Some y.bits ≡ with_behind a m.bits g.kept =
-    c.ok.bits ∙ ap₂ (λ (e : Codec) (q : Option Additions). closed_bits (variant_of e) j.bits q) g.gathering.same g.gathering.keeps ∙ ap (λ (bs : Bits). with_behind a bs g.kept) g.bits in
-    let form : Appends x.bits (with_additions a true (members a qs) xs inner (bitmap_of (members a qs) xs)) y.bits =
-    closed_form a (members a qs) xs x.bits m.bits y.bits (part_count qs) g.kept inner g.gathers (root_laid refl l) closed in
-    presents_appended x y (extended ps true qs) (record_value rs xs) h.begun (ap (λ z. z.failed) s ∙ g.gathering.unfailed) (ap (λ z. z.codec) s ∙ g.gathering.same) (ap (λ z. z.scope) s ∙ h.waits)
-    (form ∙ ap (join x.bits) (record_form a ps true qs rs xs (after 0 x.bits)))
+    let place : m.pieces.placed ≡ x.pieces.placed = l.steady ∙ opened_place ps true qs h in
+    let closed : ExtendedBehind a g.kept (any_set g.kept.flags) m.pieces y.pieces =
+    subst (λ (z : Pieces). ClosedBehind a (Some g.kept) z y.pieces) g.pieces
+    (subst (λ (q : Option Additions). ClosedBehind a q j.pieces y.pieces) g.gathering.keeps (subst (λ (e : Codec). ClosedBehind (variant_of e) j.scope.additions j.pieces y.pieces) g.gathering.same c.ok.pieces)) in
+    let all = extended_behind a g.kept (any_set g.kept.flags) front l.behind m.pieces y.pieces g.gathers.extension l.list closed in
+    presents_appended x y (extended ps true qs) (record_value rs xs) all.0 h.begun (ap (λ z. z.failed) s ∙ g.gathering.unfailed) (ap (λ z. z.codec) s ∙ g.gathering.same) (ap (λ z. z.scope) s ∙ h.waits) all.1 (all.2 ∙ place)
+    (λ p e. closed_form p a (members a qs) xs front l.behind m.pieces y.pieces (part_count qs) g.kept inner (λ t. e (sym place ∙ t)) g.gathers l.list (root_laid refl l p (λ t. e (sym (opened_place ps true qs h) ∙ t))) closed
+    ∙ ap (join (settle front p)) (record_form a ps true qs rs xs (end_of x p)))
 closes_extended ps qs x i m j y rs xs o (Err d) h k b c = refused c.err
   where
-    l : Laid m x.codec ps rs (x.bits ++ false ∷ []) [] 0
-    l = laid ps i m x.codec rs (x.bits ++ false ∷ []) [] 0 (opened ps true qs h) k
+    l : Laid i m x.codec ps rs (x.pieces.list ++ bit false ∷ []) [] 0
+    l = laid ps i m x.codec rs (x.pieces.list ++ bit false ∷ []) [] 0 (opened ps true qs h) k
 
-    g : GivenAll m j x.codec qs xs (to_be_given (length x.bits) (part_count qs))
-    g = given_all qs m j x.codec xs (to_be_given (length x.bits) (part_count qs)) (gathering ps qs rs h k) b
+    g : GivenAll m j x.codec qs xs (to_be_given (bit_count x.pieces.list) (part_count qs))
+    g = given_all qs m j x.codec xs (to_be_given (bit_count x.pieces.list) (part_count qs)) (gathering ps qs rs h k) b
 
     all : length g.kept.flags ≡ g.kept.count
     all = let e = g.gathering.left in omega arith
@@ -245,10 +264,10 @@ closes_record ps false qs x i j y rs xs o result w h (presents_fields {m = m} k 
 -- nor was the encoder refused inside
 pub not_failed_inside : (ps : Parts) (marker : Bool) (qs : Parts) (x i j : State) (rs xs : List (Option Value)) (o : Scope) → Opens (extended ps marker qs) x o i → PresentsFields encoder_rules ps qs i rs xs j → j.failed ≡ true → ⊥
 not_failed_inside ps true qs x i j rs xs o h (presents_fields {m = m} k b) f =
-    let g = given_all qs m j x.codec xs (to_be_given (length x.bits) (part_count qs)) (gathering ps qs rs h k) b in
+    let g = given_all qs m j x.codec xs (to_be_given (bit_count x.pieces.list) (part_count qs)) (gathering ps qs rs h k) b in
     let u = g.gathering.unfailed in absurd cc
 not_failed_inside ps false qs x i j rs xs o h (presents_fields {m = m} k b) f =
-    let l = laid ps i m x.codec rs x.bits [] 0 (opened ps false qs h) k in
+    let l = laid ps i m x.codec rs x.pieces.list [] 0 (opened ps false qs h) k in
     let n = given_none qs m j xs (parts_keep ps i m rs k ∙ h.keeps) b in
     let u = l.unfailed in let e = ap (λ z. z.failed) n.1 in absurd cc
 

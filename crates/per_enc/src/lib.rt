@@ -4,7 +4,9 @@
 ghost use Rattle.std.specs.Prelude.{◌≡◌, [], true, false, Some, OnOk, OnErr, IfOk, IfErr};
 ghost use Rattle.rasn_types.specs.declared.types.Codec.TheVariants.{Aper, Uper};
 ghost use Rattle.per_core.specs.Canon.{completed};
+ghost use Rattle.per_enc.specs.Choices.{counted_variants};
 ghost use Rattle.per_enc.specs.Opens.{counted_behind};
+ghost use Rattle.per_pieces.specs.Pieces.{no_pieces};
 ghost use Rattle.per_write.specs.Faults.{RefusesOutput};
 ghost use Rattle.per_write.specs.Rules.{encoder_rules};
 ghost use Rattle.per_write.specs.State.{fresh, view};
@@ -13,7 +15,7 @@ use per_bits::BitList;
 pub use per_write::error;
 pub use per_write::error::{EncodeError, EncodeErrorKind};
 use per_write::lists::OpenList;
-use per_write::{Outside, Scope, Writer};
+use per_write::{OpenChoice, Outside, Scope, Writer};
 use rasn_calls::encoder;
 use rasn_schema::choices::Choice;
 use rasn_schema::enumerated::Enumerated;
@@ -114,7 +116,7 @@ impl<A: Allocator + Clone> Encoder<A> {
     /// An error says that memory ran out, or that the encoder had failed before. The encoder has failed then.
     pub fn output(&mut self) -> Result<Vec<u8, A>, EncodeError>
         ensures octets { IfOk result (λ octets. completed (view self.old 0) ≡ Some octets.items) }
-        ensures taken { OnOk result (self.new ≡ record self.old { bits = [] }) }
+        ensures taken { OnOk result (self.new ≡ record self.old { pieces = no_pieces }) }
         ensures begun { OnOk result (self.old.failed ≡ false) }
         ensures err { IfErr result (λ e. RefusesOutput e self.old) }
         ensures fails { OnErr result (self.new.failed ≡ true) }
@@ -145,6 +147,8 @@ impl<A: Allocator + Clone> encoder::Encoder for Encoder<A> {
     type Scope = Scope<A>;
 
     type Addition = Outside<A>;
+
+    type Alternative = OpenChoice<A>;
 
     type List = OpenList;
 
@@ -316,20 +320,24 @@ impl<A: Allocator + Clone> encoder::Encoder for Encoder<A> {
         &mut self,
         _tag: Tag,
         _identifier: Identifier,
-    ) -> Result<Scope<A>, EncodeError> {
+    ) -> Result<OpenChoice<A>, EncodeError> {
         self.writer.check_unfailed()?;
-        self.writer.open_choice(C::VARIANTS.len())
+        self.writer
+            .open_alternative(C::VARIANTS.len(), added_count::<C>())
     }
 
     fn close_choice<C: Choice>(
         &mut self,
-        outside: Scope<A>,
+        outside: OpenChoice<A>,
         chosen: Tag,
     ) -> Result<(), EncodeError> {
         self.writer.check_unfailed()?;
         let variants = C::VARIANTS;
-        let index = self.writer.known_index(variants.index_of(chosen))?;
-        self.writer.close_choice(variants.len(), index, outside)
+        let added = C::EXTENDED_VARIANTS;
+        let found = variants.place_of(&added, chosen);
+        let place = self.writer.known_place(found)?;
+        self.writer
+            .close_alternative(variants.len(), place, outside)
     }
 
     fn set_presence(&mut self, is_there: bool) -> Result<(), EncodeError> {
@@ -397,5 +405,15 @@ fn addition_count<C: Constructed>() -> Option<usize>
     match C::EXTENDED_FIELDS {
         Some(fields) => Some(fields.len()),
         None => Some(0),
+    }
+}
+
+/// How many added alternatives a choice has, where it has an extension marker.
+fn added_count<C: Choice>() -> Option<usize>
+    ensures { result ≡ counted_variants C.EXTENDED_VARIANTS }
+{
+    match C::EXTENDED_VARIANTS {
+        Some(variants) => Some(variants.len()),
+        None => None,
     }
 }

@@ -13,4 +13,6 @@ mod lengths;
 #[cfg(test)]
 mod lists;
 #[cfg(test)]
+mod pieces;
+#[cfg(test)]
 mod values;

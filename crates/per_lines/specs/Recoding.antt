@@ -1,5 +1,5 @@
 -- From the octets of a value to the canonical octets of the same value.
-use Rattle.std.specs.Prelude.{ℕ, Bool, ◌≢◌, ◌⊎◌, List, [], ◌∷◌, Some, true, false, pos, negsuc}
+use Rattle.std.specs.Prelude.{ℕ, Bool, ◌≢◌, ◌⊎◌, List, [], ◌∷◌, Some, None, true, false, pos, negsuc}
 use Rattle.rasn_types.specs.Alphabets.{visible, from_to}
 use Rattle.rasn_types.specs.declared.types.Codec.{Codec}
 use Rattle.rasn_types.specs.Codecs.{variant_of}
@@ -11,6 +11,7 @@ use Rattle.rasn_schema.specs.Choices.{choice_at}
 use Rattle.rasn_schema.specs.Forms.{always}
 use Rattle.rasn_schema.specs.Lists.{list_at}
 use Rattle.rasn_schema.specs.Components.{lower_bound, upper_bound, sequence_at}
+use Rattle.rasn_schema.specs.Records.{no_additions}
 use Rattle.rasn_record.specs.ExtendedRecords.{extended_at}
 use Rattle.per_samples_a.specs.Absents.{one_default}
 use Rattle.per_samples_a.specs.Fours.{four}
@@ -67,7 +68,7 @@ schema_of OnlyX = always (Schema.char_string (120 ∷ []) any_size false)
 schema_of Items = sequence_at with_item
 schema_of Byte = sequence_at byte
 schema_of MaybeEmpty = sequence_at maybe_empty
-schema_of Nested = choice_at outer_parts
+schema_of Nested = choice_at outer_parts None no_additions
 schema_of Nest = sequence_at nest
 schema_of Deep = sequence_at deep
 schema_of Bytes = list_at (sequence_at byte) any_size false

@@ -133,11 +133,11 @@ no_extension a r e ext {s} none v t h = go (h.spelled.of).0 (h.spelled.of).1 (re
 
 module _ (a : Settings) (r e : ℕ) (ext b : Bool) {s m : Bits} (bit : Took (ExtensionBit ext b) s m) where
   -- no item without a place
-  no_place : NoneIn (place_form a (count_of r e b) b) m → NoneIn (item_form a r e ext) s
+  pub no_place : NoneIn (place_form a (count_of r e b) b) m → NoneIn (item_form a r e ext) s
   no_place none v t h = let p = item_back a r e ext b v bit h in none p.index t p.took
 
   -- and none at a place past those of the list
-  no_item : (i : ℕ) (t : Bits) → Took (place_form a (count_of r e b) b i) m t → count_of r e b ≤ i → NoneIn (item_form a r e ext) s
+  pub no_item : (i : ℕ) (t : Bits) → Took (place_form a (count_of r e b) b i) m t → count_of r e b ≤ i → NoneIn (item_form a r e ext) s
   no_item i t k l v u h =
       let p = item_back a r e ext b v bit h in
       let same : p.index ≡ i = (took_agree (place_agree a (count_of r e b) b p.index i) p.took k).0 in

@@ -1,27 +1,51 @@
-//! The index of a CHOICE (X.691 23.6).
+//! The index of a CHOICE (X.691 23.5 to 23.8).
 
-ghost use Rattle.std.specs.Prelude.{IfErr, IfOk};
-ghost use Rattle.per_core.specs.Basic.{IsConstrainedWhole};
-ghost use Rattle.per_read.specs.Choices.{IsKnown, IsOfIndex, IsUnknown};
-ghost use Rattle.per_read.specs.Takes.{Takes, itself, telling};
+ghost use Rattle.std.specs.Prelude.{◌≡◌, IfErr, IfOk};
+ghost use Rattle.rasn_schema.specs.Enumerations.{addeds_of, is_extensible};
+ghost use Rattle.per_read.specs.Choices.{IsKnown, IsOfIndex, IsUnknown, index_form, index_of};
+ghost use Rattle.per_read.specs.Enumerations.{count_of};
+ghost use Rattle.per_read.specs.Takes.{Takes, telling};
 
 use crate::Reader;
 use crate::error::DecodeErrorKind;
+use rasn_schema::items::Place;
 
 impl Reader<'_> {
-    /// Takes the index of one of `count` root alternatives of a CHOICE (X.691 23.6).
-    pub fn take_choice_index(&mut self, count: usize) -> Result<usize, DecodeErrorKind>
-        ensures { Takes (telling (λ a. IsOfIndex a count)) (λ a. IsConstrainedWhole a count) itself
+    /// Takes the index of a CHOICE, and answers the place of its alternative: `roots` stand before the extension marker,
+    /// and `addeds` behind it, where there is one. The extension bit tells the list (X.691 23.5).
+    pub fn take_choice_index(
+        &mut self,
+        roots: usize,
+        addeds: Option<usize>,
+    ) -> Result<Place, DecodeErrorKind>
+        ensures { Takes (telling (λ a. IsOfIndex a roots (addeds_of addeds) (is_extensible addeds)))
+            (λ a. index_form a roots (addeds_of addeds) (is_extensible addeds)) (λ P place. P (index_of place))
             self.old result self.new }
     {
-        let place = self.take_root_place(count)?;
-        known_index(place, count)
+        let extended = self.take_extension_bit(has_marker(addeds))?;
+        let count = alternative_count(roots, addeds, extended);
+        let place = self.take_place(count, extended)?;
+        known_place(place, count, extended)
     }
 }
 
-/// The index of an alternative that stands at a place, where one does.
-fn known_index(place: Option<usize>, count: usize) -> Result<usize, DecodeErrorKind>
-    ensures ok { IfOk result (IsKnown count place) }
+/// Whether a CHOICE has an extension marker.
+fn has_marker(addeds: Option<usize>) -> bool
+    ensures { result ≡ is_extensible addeds }
+{
+    addeds.is_some()
+}
+
+/// How many alternatives a list has, that before the extension marker or that behind it.
+fn alternative_count(roots: usize, addeds: Option<usize>, extended: bool) -> usize
+    ensures { result ≡ count_of roots (addeds_of addeds) extended }
+{
+    if extended { addeds.unwrap_or(0) } else { roots }
+}
+
+/// The place of the alternative that stands at an index of a list of `count`, where one does.
+fn known_place(place: Option<usize>, count: usize, extended: bool) -> Result<Place, DecodeErrorKind>
+    ensures ok { IfOk result (λ x. IsKnown count extended place (index_of x)) }
     ensures err { IfErr result (IsUnknown count place) }
 {
     let Some(index) = place else {
@@ -30,5 +54,8 @@ fn known_index(place: Option<usize>, count: usize) -> Result<usize, DecodeErrorK
     if index >= count {
         return Err(DecodeErrorKind::ChoiceIndexNotFound(index));
     }
-    Ok(index)
+    if extended {
+        return Ok(Place::Added(index));
+    }
+    Ok(Place::Root(index))
 }

@@ -23,7 +23,7 @@ impl Reader<'_> {
 
     /// Takes the extension bit of a type with an extension marker, whether what follows stands after the marker (X.691
     /// 14.3). In another type nothing does.
-    fn take_extension_bit(&mut self, extensible: bool) -> Result<bool, DecodeErrorKind>
+    pub(crate) fn take_extension_bit(&mut self, extensible: bool) -> Result<bool, DecodeErrorKind>
         ensures { Takes short (λ a. ExtensionBit extensible) itself self.old result self.new }
     {
         if !extensible {
@@ -34,7 +34,11 @@ impl Reader<'_> {
 
     /// Takes a place in a list of `count` items: before the extension marker as a constrained whole number, after it as
     /// a normally small one. `None` is a place that no `usize` holds.
-    fn take_place(&mut self, count: usize, extended: bool) -> Result<Option<usize>, DecodeErrorKind>
+    pub(crate) fn take_place(
+        &mut self,
+        count: usize,
+        extended: bool,
+    ) -> Result<Option<usize>, DecodeErrorKind>
         ensures { Takes (telling (λ a. IsOfPlace a extended)) (λ a. place_form a count extended) OfIndex
             self.old result self.new }
     {

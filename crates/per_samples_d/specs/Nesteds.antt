@@ -1,9 +1,10 @@
 -- CHOICE { record SEQUENCE { a BOOLEAN, b INTEGER }, inner CHOICE { x [0] BOOLEAN, y [1] INTEGER (0..7) }, last [2] NULL }
-use Rattle.std.specs.Prelude.{◌≡◌, ℕ, List, [], ◌∷◌, Some, refl}
+use Rattle.std.specs.Prelude.{◌≡◌, ℕ, List, [], ◌∷◌, Some, None, refl}
 use Rattle.rasn_types.specs.Values.{Value, alternative, root, nothing}
 use Rattle.rasn_schema.specs.Choices.{VariantShape, choice_at, choice_levelled, variants_of}
 use Rattle.rasn_schema.specs.Components.{Component, parts_of, components_levelled, choice, chosen_value, sequence, sequence_value, null, under, at}
-use Rattle.rasn_schema.specs.Levels.{Levelled}
+use Rattle.rasn_schema.specs.Levels.{Levelled, parts_levelled}
+use Rattle.rasn_schema.specs.Records.{no_additions}
 use Rattle.rasn_schema.specs.Schemas.{Parts, leaf, one_of, tree, no_trees, smallest}
 use Rattle.per_samples_a.specs.Pairs.{pair, pair_contents}
 use Rattle.per_samples_d.specs.Alternatives.{alternatives, alternative_of}
@@ -18,8 +19,8 @@ nested = sequence pair ∷ choice alternatives ∷ under (at 2) null ∷ []
 abbrev pub nested_parts : ℕ → Parts
 nested_parts = parts_of nested
 
-pub nested_levelled : Levelled (choice_at nested_parts)
-nested_levelled = choice_levelled (components_levelled nested)
+pub nested_levelled : Levelled (choice_at nested_parts None no_additions)
+nested_levelled = choice_levelled None (components_levelled nested) parts_levelled
 
 -- the variants: the inner choice goes by the smallest of its tags
 abbrev pub nested_variants : List VariantShape

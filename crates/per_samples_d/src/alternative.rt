@@ -1,6 +1,6 @@
 //! A CHOICE of two alternatives.
 
-ghost use Rattle.std.specs.Prelude.{refl, true, [], ◌∷◌};
+ghost use Rattle.std.specs.Prelude.{None, refl, true, [], ◌∷◌};
 ghost use Rattle.rasn_types.specs.Variants.{aligned, unaligned};
 ghost use Rattle.rasn_schema.specs.Components.{variants_in, ◌to◌};
 ghost use Rattle.per_samples_a.specs.Rows.{IsWrittenAs};
@@ -60,11 +60,17 @@ impl Alternatives for Alternative {
 
     ghost ALTERNATIVES = { variants_in alternatives };
 
+    const ADDED_ALTERNATIVES: Option<Variants> = None;
+
+    ghost ADDED_ALTERNATIVES = { None };
+
     ghost alternatives = { alternatives };
 
     ghost chosen = { alternative_of };
 
     ghost described = { refl };
+
+    ghost extends = { refl };
 
     ghost are_variants = { record { distinct = refl; few = refl } };
 }

@@ -1,10 +1,11 @@
 //! A CHOICE of a SEQUENCE, an untagged CHOICE and NULL.
 
-ghost use Rattle.std.specs.Prelude.{refl, true, [], ◌∷◌, pos};
+ghost use Rattle.std.specs.Prelude.{None, refl, true, [], ◌∷◌, pos};
 ghost use Rattle.rasn_types.specs.declared.types.TheConstants.Tag.{EOC};
 ghost use Rattle.rasn_types.specs.Variants.{aligned, unaligned};
 ghost use Rattle.rasn_constraints.specs.Ranges.{no_constraints};
 ghost use Rattle.rasn_schema.specs.Choices.{choice_at};
+ghost use Rattle.rasn_schema.specs.Records.{no_additions};
 ghost use Rattle.rasn_schema.specs.Tags.{choice_tag};
 ghost use Rattle.per_samples_a.specs.Rows.{IsWrittenAs};
 ghost use Rattle.per_samples_d.specs.Nesteds.{nested_parts, nested_levelled, nested_variants, nested_described, nested_chosen, nested_levels};
@@ -36,7 +37,7 @@ impl AsnType for Nested {
 
     ghost CONSTRAINTS = { no_constraints };
 
-    ghost schema = { λ _. choice_at nested_parts };
+    ghost schema = { λ _. choice_at nested_parts None no_additions };
 
     ghost value = { nested_chosen };
 
@@ -44,7 +45,7 @@ impl AsnType for Nested {
 
     ghost levelled = { λ _. nested_levelled };
 
-    ghost tag_fits = { λ _. choice_tag nested_parts };
+    ghost tag_fits = { λ _. choice_tag nested_parts None no_additions };
 }
 
 /// The smallest tag of the inner choice.
@@ -79,9 +80,15 @@ impl Choice for Nested {
 
     ghost VARIANTS = { nested_variants };
 
+    const EXTENDED_VARIANTS: Option<Variants> = None;
+
+    ghost EXTENDED_VARIANTS = { None };
+
     ghost alternatives = { nested_parts };
 
     ghost described = { nested_described };
+
+    ghost extends = { λ _. refl };
 
     ghost are_variants = { record { distinct = refl; few = refl } };
 

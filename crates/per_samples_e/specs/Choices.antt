@@ -1,9 +1,10 @@
 -- CHOICE { x [0] BOOLEAN, y CHOICE { p [1] BOOLEAN, q [2] NULL }, z [3] NULL }, y untagged
-use Rattle.std.specs.Prelude.{◌≡◌, ℕ, List, [], ◌∷◌, Some, refl}
+use Rattle.std.specs.Prelude.{◌≡◌, ℕ, List, [], ◌∷◌, Some, None, refl}
 use Rattle.rasn_types.specs.Values.{Value, alternative, root, nothing, truth}
 use Rattle.rasn_schema.specs.Choices.{VariantShape, choice_at, choice_levelled, variants_of}
 use Rattle.rasn_schema.specs.Components.{Component, parts_of, components_levelled, boolean, null, under, at}
-use Rattle.rasn_schema.specs.Levels.{Levelled}
+use Rattle.rasn_schema.specs.Levels.{Levelled, parts_levelled}
+use Rattle.rasn_schema.specs.Records.{no_additions}
 use Rattle.rasn_schema.specs.Schemas.{Parts, one_of, tree, no_trees, required, smallest}
 use Rattle.per_samples_e.specs.declared.choice.Inner.{Inner}
 use Rattle.per_samples_e.specs.declared.choice.Inner.TheVariants.{P, Q}
@@ -18,8 +19,8 @@ inner = under (at 1) boolean ∷ under (at 2) null ∷ []
 abbrev pub inner_parts : ℕ → Parts
 inner_parts = parts_of inner
 
-pub inner_levelled : Levelled (choice_at inner_parts)
-inner_levelled = choice_levelled (components_levelled inner)
+pub inner_levelled : Levelled (choice_at inner_parts None no_additions)
+inner_levelled = choice_levelled None (components_levelled inner) parts_levelled
 
 abbrev pub inner_chosen : Inner → Value
 inner_chosen (P p) = alternative root 0 (truth p)
@@ -28,7 +29,7 @@ inner_chosen Q = alternative root 1 nothing
 -- the outer one, of which the inner is an alternative by the tags of its own
 
 abbrev pub untagged : Component
-untagged = record { tags = one_of (at 1) (tree (at 2) no_trees); presence = required; schema = choice_at inner_parts; levelled = inner_levelled }
+untagged = record { tags = one_of (at 1) (tree (at 2) no_trees); presence = required; schema = choice_at inner_parts None no_additions; levelled = inner_levelled }
 
 abbrev pub outer : List Component
 outer = under (at 0) boolean ∷ untagged ∷ under (at 3) null ∷ []
@@ -36,8 +37,8 @@ outer = under (at 0) boolean ∷ untagged ∷ under (at 3) null ∷ []
 abbrev pub outer_parts : ℕ → Parts
 outer_parts = parts_of outer
 
-pub outer_levelled : Levelled (choice_at outer_parts)
-outer_levelled = choice_levelled (components_levelled outer)
+pub outer_levelled : Levelled (choice_at outer_parts None no_additions)
+outer_levelled = choice_levelled None (components_levelled outer) parts_levelled
 
 -- the variants: the inner choice goes by the smallest of its tags
 abbrev pub outer_variants : List VariantShape

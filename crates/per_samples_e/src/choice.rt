@@ -1,10 +1,11 @@
 //! A CHOICE of which an alternative is a choice without a tag of its own.
 
-ghost use Rattle.std.specs.Prelude.{refl, true, [], ◌∷◌};
+ghost use Rattle.std.specs.Prelude.{None, refl, true, [], ◌∷◌};
 ghost use Rattle.rasn_types.specs.declared.types.TheConstants.Tag.{EOC};
 ghost use Rattle.rasn_types.specs.Variants.{unaligned};
 ghost use Rattle.rasn_constraints.specs.Ranges.{no_constraints};
 ghost use Rattle.rasn_schema.specs.Choices.{choice_at, variants_of};
+ghost use Rattle.rasn_schema.specs.Records.{no_additions};
 ghost use Rattle.rasn_schema.specs.Tags.{choice_tag};
 ghost use Rattle.per_samples_a.specs.Rows.{IsWrittenAs};
 ghost use Rattle.per_samples_e.specs.Choices.{inner_parts, inner_levelled, inner_chosen, outer_parts, outer_levelled, outer_variants, outer_described, outer_chosen, outer_levels};
@@ -50,7 +51,7 @@ impl AsnType for Inner {
 
     ghost CONSTRAINTS = { no_constraints };
 
-    ghost schema = { λ _. choice_at inner_parts };
+    ghost schema = { λ _. choice_at inner_parts None no_additions };
 
     ghost value = { inner_chosen };
 
@@ -58,7 +59,7 @@ impl AsnType for Inner {
 
     ghost levelled = { λ _. inner_levelled };
 
-    ghost tag_fits = { λ _. choice_tag inner_parts };
+    ghost tag_fits = { λ _. choice_tag inner_parts None no_additions };
 }
 
 const INNER: &[Variant] = &[
@@ -77,9 +78,15 @@ impl Choice for Inner {
 
     ghost VARIANTS = { variants_of (inner_parts 0) };
 
+    const EXTENDED_VARIANTS: Option<Variants> = None;
+
+    ghost EXTENDED_VARIANTS = { None };
+
     ghost alternatives = { inner_parts };
 
     ghost described = { λ _. refl };
+
+    ghost extends = { λ _. refl };
 
     ghost are_variants = { record { distinct = refl; few = refl } };
 
@@ -135,7 +142,7 @@ impl AsnType for Outer {
 
     ghost CONSTRAINTS = { no_constraints };
 
-    ghost schema = { λ _. choice_at outer_parts };
+    ghost schema = { λ _. choice_at outer_parts None no_additions };
 
     ghost value = { outer_chosen };
 
@@ -143,7 +150,7 @@ impl AsnType for Outer {
 
     ghost levelled = { λ _. outer_levelled };
 
-    ghost tag_fits = { λ _. choice_tag outer_parts };
+    ghost tag_fits = { λ _. choice_tag outer_parts None no_additions };
 }
 
 const OUTER: &[Variant] = &[
@@ -166,9 +173,15 @@ impl Choice for Outer {
 
     ghost VARIANTS = { outer_variants };
 
+    const EXTENDED_VARIANTS: Option<Variants> = None;
+
+    ghost EXTENDED_VARIANTS = { None };
+
     ghost alternatives = { outer_parts };
 
     ghost described = { outer_described };
+
+    ghost extends = { λ _. refl };
 
     ghost are_variants = { record { distinct = refl; few = refl } };
 

@@ -49,6 +49,26 @@ pub record Waiting : Type 0 where
   pub expected : ℕ
   pub total : ℕ
 
+-- The contents of an open type are entered: what is still to be read of a record waits outside, and nothing of one is read
+-- inside (X.691 11.2).
+pub record EntersContents (contents : Bits) (s : State) (w : Waiting) (i : State) : Type 0 where
+  pub inside : i.bits ≡ contents
+  pub waits : w ≡ record {
+    bits = s.bits;
+    source = s.source;
+    presences = s.presences;
+    extension = s.extension;
+    expected = s.expected;
+    total = length contents;
+  }
+  pub same : i ≡ record s { bits = i.bits; source = i.source; presences = []; extension = shown []; expected = 0 }
+
+-- an open type's contents are entered behind its length
+pub record OpensContents (s : State) (w : Waiting) (i : State) : Type 0 where
+  pub octets : List ℕ
+  pub took : Took (Octets (settings_of s) octets) s.bits w.bits
+  pub enters : EntersContents (unpack octets) (with_bits s w.bits) w i
+
 -- Inside the contents of the next addition's open type, a complete encoding from its own start, nothing of the record is
 -- read (X.691 11.2, 19.9).
 pub record OpensAddition (s : State) (w : Waiting) (i : State) : Type 0 where

@@ -1,9 +1,9 @@
 -- The fault that a refusal names, where it stands.
 use Rattle.std.specs.Prelude.{◌≡◌, ◌≤◌, ◌⊎◌, ℕ, Bool, true, false, List, [], ◌∷◌, length, Option, Some, None, Result, Ok, Err}
 use Rattle.rasn_types.specs.Bits.{Bits, unpack}
-use Rattle.rasn_types.specs.Values.{Value}
 use Rattle.rasn_types.specs.declared.types.Tag.{Tag}
 use Rattle.rasn_constraints.specs.Bounds.{Size}
+use Rattle.rasn_types.specs.Values.{Value, root, added}
 use Rattle.rasn_schema.specs.Choices.{alternative_at, choice_of, tags_of}
 use Rattle.rasn_schema.specs.Fields.{field_tag, tag_of}
 use Rattle.rasn_schema.specs.Schemas
@@ -11,9 +11,9 @@ use Rattle.rasn_schema.specs.Schemas.{TagTree, Presence, required, Schema, Parts
 use Rattle.rasn_calls.specs.Additions.{extended}
 use Rattle.per_core.specs.Counts.{list_items}
 use Rattle.per_core.specs.Spellings.{Settings}
-use Rattle.per_core.specs.Basic.{basic, rules, Body, ExtensionBit, Flags, IsBitmap, IsConstrainedWhole, Octets, Root}
+use Rattle.per_core.specs.Basic.{basic, rules, Body, ExtensionBit, Flags, IsBitmap, Octets, Root}
 use Rattle.per_core.specs.Took.{Took}
-use Rattle.per_read.specs.Choices.{IsOfIndex}
+use Rattle.per_read.specs.Choices.{IsOfIndex, index_form}
 use Rattle.per_read.specs.Enumerations.{IsOfItem}
 use Rattle.per_read.specs.Kinds.{IsShort, IsTested, NoneIn}
 use Rattle.per_read.specs.Numbers.{IsOfNumber}
@@ -46,13 +46,14 @@ IsAt a Schema.boolean s k = IsShort k
 IsAt a Schema.null s k = ⊥
 IsAt a (Schema.number bounds mark range) s k = IsOfNumber a bounds mark s k
 IsAt a (Schema.items r e ext) s k = IsOfItem a r e ext s k
-IsAt a (Schema.choice ps adds ext) s k = IsOfIndex a (length (tags_of ps)) s k
+IsAt a (Schema.choice ps adds ext) s k = IsOfIndex a (length (tags_of ps)) (length (tags_of adds)) ext s k
 IsAt a (Schema.octet_string size mark) s k = IsOfItems a size mark Octet s k
 IsAt a (Schema.bit_string size mark) s k = IsOfItems a size mark Bit s k
 IsAt a (Schema.char_string alphabet size mark) s k = IsOfString a alphabet size mark s k
 IsAt a (Schema.text kind) s k = IsOfText a kind s k
 IsAt a Schema.real s k = IsOfReal k
 IsAt a (Schema.list e size mark) s k = IsOfSize a size mark list_items (basic a e) s k
+IsAt a (Schema.set_of e size mark) s k = IsOfSize a size mark list_items (basic a e) s k
 IsAt a Schema.cut s k = IsOfCut k
 IsAt a c s k = IsTested k
 
@@ -64,7 +65,8 @@ pub record IsOfLacking (t : Schemas.Tag) (k : DecodeErrorKind) : Type 0 where
 
 mutual
   -- The fault that a kind names stands in bits, as a schema reads them: at once, in a root component of a record, in its
-  -- bitmap or behind that, in the alternative of a choice, or in an element of a list, behind others.
+  -- bitmap or behind that, in the alternative of a choice, behind an extension marker in its open type, or in an element of a
+  -- list or a bag, behind others.
   pub data IsInBits (a : Settings) (k : DecodeErrorKind) : Schema → Bits → Type 0 where
     at_once : {c : Schema} {s : Bits} → IsAt a c s k → IsInBits a k c s
     in_root : {ps qs : Parts} {marker : Bool} {s m n : Bits} (extends : Bool) (flags : List Bool)
@@ -73,10 +75,16 @@ mutual
     behind_root : {ps qs : Parts} {marker : Bool} {s m n : Bits} (extends : Bool) (rs : List (Option Value))
         → Took (ExtensionBit marker extends) s m → Took (Root (rules a ps) rs) m n → IsInTail a k qs (extension_of extends) n
         → IsInBits a k (extended ps marker qs) s
-    in_alternative : {ps : Parts} {n : ℕ} {c : Schema} {s m : Bits} → Took (IsConstrainedWhole a (length (tags_of ps)) n) s m
-        → alternative_at ps n ≡ Some c → IsInBits a k c m → IsInBits a k (choice_of ps) s
+    in_alternative : {ps qs : Parts} {marker : Bool} {n : ℕ} {c : Schema} {s m : Bits}
+        → Took (index_form a (length (tags_of ps)) (length (tags_of qs)) marker (root, n)) s m
+        → alternative_at ps n ≡ Some c → IsInBits a k c m → IsInBits a k (choice_of ps marker qs) s
+    in_added_alternative : {ps qs : Parts} {marker : Bool} {n : ℕ} {c : Schema} {s m : Bits}
+        → Took (index_form a (length (tags_of ps)) (length (tags_of qs)) marker (added, n)) s m
+        → alternative_at qs n ≡ Some c → IsInOpen a k c m → IsInBits a k (choice_of ps marker qs) s
     in_element : {e : Schema} {size : Size} {mark : Bool} {s m : Bits} (vs : List Value)
         → Took (UpTo a size mark (basic a e) vs) s m → IsInBits a k e m → IsInBits a k (Schema.list e size mark) s
+    in_member : {e : Schema} {size : Size} {mark : Bool} {s m : Bits} (vs : List Value)
+        → Took (UpTo a size mark (basic a e) vs) s m → IsInBits a k e m → IsInBits a k (Schema.set_of e size mark) s
 
   -- It stands in a component that its presence bit shows, behind those before it.
   pub data IsInParts (a : Settings) (k : DecodeErrorKind) : Parts → List Bool → Bits → Type 0 where

@@ -1,5 +1,6 @@
 pub mod AdditionLaws
 pub mod Additions
+pub mod BagLaws
 pub mod Faults
 pub mod Laws
 pub mod Records
@@ -8,3 +9,5 @@ pub mod ScopeLaws
 pub mod Scopes
 pub mod State
 pub mod Tails
+pub mod ChoiceLaws
+pub mod Choices

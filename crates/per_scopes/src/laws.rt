@@ -1,11 +1,13 @@
 //! The laws by which a decoder reads records and their additions (X.691 11.2, 19): each is the contract of a function
 //! that does nothing.
 
-ghost use Rattle.std.specs.Prelude.{◌≡◌, ◌↔◌, ℕ, suc, Bool};
-ghost use Rattle.rasn_types.specs.Values.{Value};
+ghost use Rattle.std.specs.Prelude.{◌≡◌, ◌↔◌, ℕ, suc, Bool, Some};
+ghost use Rattle.rasn_types.specs.Values.{Side, Value, alternative};
+ghost use Rattle.rasn_schema.specs.Choices.{alternative_in};
 ghost use Rattle.rasn_schema.specs.Schemas.{Parts, Schema};
 ghost use Rattle.rasn_calls.specs.Additions.{extended};
 ghost use Rattle.per_scopes.specs.Additions.{AddsValue, InOpen, OpensAddition, Waiting};
+ghost use Rattle.per_scopes.specs.Choices.{Choosing, OpensChoice, Stands};
 ghost use Rattle.per_scopes.specs.Scopes.{InScope, Opens, Outside};
 ghost use Rattle.per_scopes.specs.State.{Spells, State};
 
@@ -35,4 +37,11 @@ pub fn addition_is_what_stands_in_its_open_type()
 pub fn addition_can_be_opened()
     ensures { (c : Schema) (s t : State) (v : Value) → AddsValue c s v t
         → (w : Waiting) × (i : State) × OpensAddition s w i }
+{}
+
+/// Where a choice was opened, a value of its schema is read exactly where it is the alternative behind the index, its
+/// value is read there, and the choice is closed behind it (X.691 23).
+pub fn choice_is_what_stands_behind_its_index()
+    ensures { (c a : Schema) (d : Side) (k : ℕ) (s i t : State) (w : Choosing) (v : Value) → OpensChoice c d k s w i
+        → alternative_in c d k ≡ Some a → Spells c s v t ↔ Stands a d k i w v t }
 {}

@@ -18,17 +18,19 @@ use Rattle.rasn_schema.specs.Schemas.{Schema}
 use Rattle.per_core.specs.Canon.{canon}
 use Rattle.per_core.specs.Counts.{constrained_whole, counted_octets, marked_form, number_form, number_under, unconstrained_octets}
 use Rattle.per_core.specs.Writers.{Writer, just, join, after, written_if}
-use Rattle.rasn_types.specs.Bits.{Bits, pack}
+use Rattle.rasn_types.specs.Bits.{pack}
 use Rattle.rasn_types.specs.Octets.{natural_bits}
+use Rattle.per_pieces.specs.Pieces.{Appends, Pieces, settle}
+use Rattle.per_pieces.proofs.Settling.{appends_same}
 use Rattle.per_write.specs.declared.error.EncodeError.{EncodeError}
 use Rattle.per_write.specs.declared.error.EncodeErrorKind.TheVariants.{ValueConstraintNotSatisfied, IntegerTypeConversionFailed}
 use Rattle.per_write.specs.Faults.{at_once, has_bound, IsError, IsMemory, IsPast, Outside, RefusesValue, Stands}
 use Rattle.per_write.specs.Numbers.{unconstrained_whole}
-use Rattle.per_write.specs.State.{Appends, State, Wrote, Presents}
-use Rattle.per_write.proofs.Writing.{appends_same, wrote_then, wrote_same}
+use Rattle.per_write.specs.State.{State, Wrote, Presents}
+use Rattle.per_write.proofs.Writing.{wrote_then, wrote_same}
 
 -- X.691 13.2.2: both bounds
-pub appends_between : (a : Variant) (x y : Bits) (l u v : ℤ) (m o : ℕ) → m ≡ above l u → o ≡ above l v → FitsSigned w128 v →
+pub appends_between : (a : Variant) (x y : Pieces) (l u v : ℤ) (m o : ℕ) → m ≡ above l u → o ≡ above l v → FitsSigned w128 v →
     Appends x (constrained_whole a (m + 1) o) y → Appends x (number_under a (Some l) (Some u) v) y
 unfolding number_under
 appends_between a x y l u v m o e d f h =
@@ -36,7 +38,7 @@ appends_between a x y l u v m o e d f h =
     (λ p. ap (λ (k : ℕ). constrained_whole a (k + 1) o p) e ∙ ap (λ (k : ℕ). constrained_whole a (above l u + 1) k p) d ∙ ap (λ (b : Bool). written_if b (constrained_whole a (above l u + 1) (above l v)) p) (sym (fits-is_i128 v f))) h
 
 -- X.691 13.2.3: a lower bound alone
-pub appends_from : (a : Variant) (x y : Bits) (l v : ℤ) (o : ℕ) → o ≡ above l v → FitsSigned w128 v →
+pub appends_from : (a : Variant) (x y : Pieces) (l v : ℤ) (o : ℕ) → o ≡ above l v → FitsSigned w128 v →
     Appends x (counted_octets a (natural_bits o)) y → Appends x (number_under a (Some l) None v) y
 unfolding number_under
 appends_from a x y l v o d f h =
@@ -65,7 +67,7 @@ wrote_whole x m y range z octets result k h o w =
 -- what was written where a test passes, was written
 wrote_tested : (b : Bool) (more : Writer) (x y : State) → Wrote x (written_if b more) y → Wrote x more y
 wrote_tested true more x y w = w
-wrote_tested false more x y w = absurd (let e : Some y.bits ≡ None = w.written 0 refl in cc)
+wrote_tested false more x y w = absurd (let e : Some (settle y.pieces.list 0) ≡ None = w.appended.written 0 (λ t. refl) in cc)
 
 pub whole_written : (x y : State) (range : Bounds) (z : ℤ) (result : Result (Unit {0}) EncodeError) →
     OnOk result (Wrote x (unconstrained_whole (variant_of x.codec) range z) y) → OnOk result (Wrote x (counted_octets (variant_of x.codec) (whole_bits z)) y)

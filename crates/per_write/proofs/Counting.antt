@@ -24,7 +24,8 @@ use Rattle.per_write.specs.State.{State, Wrote}
 use Rattle.per_core.proofs.Lengths.{and_left, and_right}
 use Rattle.per_write.proofs.Fragments.{first_fragment, in_their_fragments, fragments_of_few, fragments_of_many}
 use Rattle.per_write.specs.Remains.{Remains}
-use Rattle.per_write.proofs.Writing.{remains_after, remains_last, then_assoc, wrote_same, wrote_then}
+use Rattle.per_pieces.proofs.Writing.{then_assoc}
+use Rattle.per_write.proofs.Writing.{remains_after, remains_last, wrote_same, wrote_then}
 
 -- items between two places
 length-slice : (ws : List Writer) (start end : ℕ) → start ≤ end → end ≤ length ws → length (slice_range ws start end) ≡ end - start

@@ -26,10 +26,12 @@ use Rattle.per_write.specs.Items.{HasRefused, refused_behind, refused_here}
 use Rattle.per_write.specs.Lists.{count_left, AmidList, Begins, BeginsItems, count_behind, count_memory, count_outside, fragment_and, RefusesCount, still}
 use Rattle.per_write.specs.Remains.{Remains}
 use Rattle.per_write.specs.Rules.{encoder_rules}
-use Rattle.per_write.specs.State.{Puts, State, view, Wrote}
+use Rattle.per_pieces.proofs.Settling.{remains_behind as pieces_behind, remains_none, remains_same as pieces_same, remains_then as pieces_then}
+use Rattle.per_write.specs.State.{Puts, State, Wrote}
 use Rattle.per_write.proofs.Fragments.{first_fragment, fragments_of_few, fragments_of_many, in_their_fragments}
 use Rattle.per_write.proofs.Refusing.{none_counted, none_outside}
-use Rattle.per_write.proofs.Writing.{remains_after, remains_all, remains_last, then_assoc, then_nothing, then_same}
+use Rattle.per_pieces.proofs.Writing.{then_assoc, then_nothing, then_same}
+use Rattle.per_write.proofs.Writing.{remains_after, remains_all, remains_last}
 
 join_nothing : (o : Option Bits) → join [] o ≡ o
 join_nothing None = refl
@@ -108,7 +110,7 @@ remains_behind x m y f g rest h k = record {
   left = k.left;
   same = k.same ∙ h.same;
   beside = k.beside ∙ h.beside;
-  written = λ p b. k.written p b ∙ ap (λ o. go_on o g p) (h.written p b) ∙ sym (then_assoc (view x) f g p);
+  pieces = pieces_behind x.pieces m.pieces y.pieces f g rest h.appended k.pieces;
 }
 
 remains_same : (x y : State) (f g rest : Writer) → ((p : ℕ) → f p ≡ g p) → Remains x f y rest → Remains x g y rest
@@ -117,7 +119,7 @@ remains_same x y f g rest e h = record {
   left = h.left;
   same = h.same;
   beside = h.beside;
-  written = λ p b. h.written p b ∙ then_same (view x) (view x) f g (λ q. refl) e p;
+  pieces = pieces_same x.pieces y.pieces f g rest e h.pieces;
 }
 
 remains_then : (x y z : State) (all rest more : Writer) → Remains x all y rest → Remains y rest z more → Remains x all z more
@@ -126,8 +128,14 @@ remains_then x y z all rest more h k = record {
   left = k.left;
   same = k.same ∙ h.same;
   beside = k.beside ∙ h.beside;
-  written = λ p b. k.written p b ∙ h.written p b;
+  pieces = pieces_then x.pieces y.pieces z.pieces all rest more h.pieces k.pieces;
 }
+
+-- without an extension marker no bit stands in front
+pub begins_bare : (size under : Size) (mark : Bool) (x y : State) (count : ℕ) (l : OpenList) → mark ≡ false → size ≡ under →
+    Begins (λ a ws. counted_in a under list_items ws) count x l y → Begins (λ a ws. counted a size mark list_items ws) count x l y
+begins_bare size under mark x y count l e d w =
+    subst (λ (s : Size). Begins (λ a ws. counted a s mark list_items ws) count x l y) (sym d) (subst (λ (b : Bool). Begins (λ a ws. counted a under b list_items ws) count x l y) (sym e) w)
 
 -- X.691 20.4: a size's extension bit, and what stands in front of the elements
 pub begins_inside : (size under : Size) (mark : Bool) (x m y : State) (count : ℕ) (l : OpenList) → mark ≡ true → size ≡ under → allows under count ≡ true → Wrote x (just (false ∷ [])) m →
@@ -315,7 +323,7 @@ list_left f x y l e h =
       left = h.remains.left;
       same = h.remains.same;
       beside = h.remains.beside;
-      written = λ p b. sym (then_nothing (view y) p) ∙ ap (λ (o : Option ℕ). (view y ▹ still a o l.fragment []) p) (sym e) ∙ h.remains.written p b;
+      appended = remains_none x.pieces y.pieces (canon a (schema_of f) (list_value f.all)) (still a l.behind l.fragment []) (λ p. ap (λ (o : Option ℕ). still a o l.fragment [] p) e) h.remains.pieces;
     }
 
 pub unwrapped_behind : (b : Option ℕ) → unwrap_or b 0 ≡ count_behind b

@@ -1,18 +1,19 @@
 -- Items behind an unconstrained length, fragment by fragment.
-use Rattle.std.proofs.Common.{◌≡◌, refl, sym, ap, ◌∙◌, ℕ, zero, suc, ◌+◌, ◌-◌, ◌*◌, ◌/◌, ◌%◌, ◌^◌, ◌<◌, ◌≤◌, Bool, true, false, cond, min, ltb, lt-ltb, List, [], ◌∷◌, ◌++◌, length, take, drop, replicate, arith, Some, length-take, length-drop, append_assoc, get_or, pow_pos}
+use Rattle.std.proofs.Common.{◌≡◌, refl, sym, ap, ◌∙◌, subst, ℕ, zero, suc, ◌+◌, ◌-◌, ◌*◌, ◌/◌, ◌%◌, ◌^◌, ◌<◌, ◌≤◌, Bool, true, false, cond, min, ltb, lt-ltb, List, [], ◌∷◌, ◌++◌, length, take, drop, replicate, arith, Some, length-take, length-drop, append_assoc, get_or, pow_pos}
 use Rattle.std.proofs.lemmas.Bool.{le-ltb, lt-leb}
 use Rattle.std.specs.Prelude.{slice_range}
 use Rattle.std.proofs.lemmas.List.{take-map, drop-map}
 use Rattle.std.proofs.Math.Nat.{zero-mod}
 use Rattle.std.proofs.Math.Seq.{take-length}
 use Rattle.rasn_types.specs.Bits.{Bits, to_bits, unpack}
-use Rattle.rasn_types.specs.Variants.{Variant, aligned}
+use Rattle.rasn_types.specs.Variants.{Variant, aligned, unaligned}
 use Rattle.per_core.specs.Writers.{Writer, just, ◌▹◌, pad, join, go_on, after, one_by_one, padding, written_if}
 use Rattle.per_core.specs.Counts.{fragment_sizes, unless_zero, in_fragments, determinant, octet_writers, Counted, counted_in}
 use Rattle.rasn_constraints.specs.Bounds.{any_size}
 use Rattle.per_write.specs.Fragments.{one_fragment}
-use Rattle.per_write.specs.State.{Appends}
-use Rattle.per_write.proofs.Writing.{then_assoc, then_nothing}
+use Rattle.per_pieces.specs.Pieces.{Appends, Pieces, with_bits}
+use Rattle.per_pieces.proofs.Settling.{appends_bits, appends_none, appends_same, appends_then}
+use Rattle.per_pieces.proofs.Writing.{then_assoc, then_nothing}
 
 unless_zero-some : (m : ℕ) → 0 < m → unless_zero m ≡ m ∷ []
 unless_zero-some zero h = absurd (omega arith)
@@ -93,36 +94,37 @@ fragments_of_few a ws h p =
     ∙ then_nothing (one_fragment a ws) p
 
 -- X.691 11.9.3.6: the count of few items in an octet
-pub appends_short : (x y : Bits) (n : ℕ) → n < 128 → y ≡ x ++ to_bits 8 n → Appends x (just (determinant n)) y
+pub appends_short : (x y : Pieces) (n : ℕ) → n < 128 → y ≡ with_bits x (to_bits 8 n) → Appends x (just (determinant n)) y
 unfolding determinant
-appends_short x y n h e = ap Some (e ∙ ap (λ (b : Bool). x ++ cond b (to_bits 8 n) (cond (ltb n 16384) (true ∷ false ∷ to_bits 14 n) (to_bits 8 (192 + n / 16384)))) (sym (lt-ltb n 128 h)))
+appends_short x y n h e =
+    appends_same x y (just (to_bits 8 n)) (just (determinant n))
+    (λ p. ap (λ (b : Bool). Some (cond b (to_bits 8 n) (cond (ltb n 16384) (true ∷ false ∷ to_bits 14 n) (to_bits 8 (192 + n / 16384))))) (sym (lt-ltb n 128 h))) (appends_bits x y (to_bits 8 n) e)
 
 -- X.691 11.9.3.7: the bits 10 and the count in 14 bits
-pub appends_long : (x y z : Bits) (n : ℕ) → 128 ≤ n → n < 16384 → y ≡ x ++ true ∷ false ∷ [] → z ≡ y ++ to_bits 14 n → Appends x (just (determinant n)) z
+pub appends_long : (x y z : Pieces) (n : ℕ) → 128 ≤ n → n < 16384 → y ≡ with_bits x (true ∷ false ∷ []) → z ≡ with_bits y (to_bits 14 n) → Appends x (just (determinant n)) z
 unfolding determinant
 appends_long x y z n l h d e =
-    let t : z ≡ x ++ true ∷ false ∷ to_bits 14 n = e ∙ ap (λ (b : Bits). b ++ to_bits 14 n) d ∙ append_assoc x (true ∷ false ∷ []) (to_bits 14 n) in
-    ap Some (t
-    ∙ ap (λ (b : Bool). x ++ cond b (true ∷ false ∷ to_bits 14 n) (to_bits 8 (192 + n / 16384))) (sym (lt-ltb n 16384 h))
-    ∙ ap (λ (b : Bool). x ++ cond b (to_bits 8 n) (cond (ltb n 16384) (true ∷ false ∷ to_bits 14 n) (to_bits 8 (192 + n / 16384)))) (sym (le-ltb n 128 l)))
+    appends_same x z (just (true ∷ false ∷ []) ▹ just (to_bits 14 n)) (just (determinant n))
+    (λ p. ap (λ (b : Bool). Some (cond b (true ∷ false ∷ to_bits 14 n) (to_bits 8 (192 + n / 16384)))) (sym (lt-ltb n 16384 h))
+    ∙ ap (λ (b : Bool). Some (cond b (to_bits 8 n) (cond (ltb n 16384) (true ∷ false ∷ to_bits 14 n) (to_bits 8 (192 + n / 16384))))) (sym (le-ltb n 128 l)))
+    (appends_then x y z (just (true ∷ false ∷ [])) (just (to_bits 14 n)) (appends_bits x y (true ∷ false ∷ []) d) (appends_bits y z (to_bits 14 n) e))
 
 -- X.691 11.9.3.8: the bits 11 and how many times 16384, in six bits
-pub appends_fragment : (x y : Bits) (n : ℕ) → 16384 ≤ n → y ≡ x ++ to_bits 8 (192 + n / 16384) → Appends x (just (determinant n)) y
+pub appends_fragment : (x y : Pieces) (n : ℕ) → 16384 ≤ n → y ≡ with_bits x (to_bits 8 (192 + n / 16384)) → Appends x (just (determinant n)) y
 unfolding determinant
 appends_fragment x y n l e =
-    ap Some (e
-    ∙ ap (λ (b : Bool). x ++ cond b (true ∷ false ∷ to_bits 14 n) (to_bits 8 (192 + n / 16384))) (sym (le-ltb n 16384 l))
-    ∙ ap (λ (b : Bool). x ++ cond b (to_bits 8 n) (cond (ltb n 16384) (true ∷ false ∷ to_bits 14 n) (to_bits 8 (192 + n / 16384)))) (sym (le-ltb n 128 (omega arith))))
+    appends_same x y (just (to_bits 8 (192 + n / 16384))) (just (determinant n))
+    (λ p. ap (λ (b : Bool). Some (cond b (true ∷ false ∷ to_bits 14 n) (to_bits 8 (192 + n / 16384)))) (sym (le-ltb n 16384 l))
+    ∙ ap (λ (b : Bool). Some (cond b (to_bits 8 n) (cond (ltb n 16384) (true ∷ false ∷ to_bits 14 n) (to_bits 8 (192 + n / 16384))))) (sym (le-ltb n 128 (omega arith))))
+    (appends_bits x y (to_bits 8 (192 + n / 16384)) e)
 
--- Zero bits up to an octet in the aligned variant
-pub appends_padding : (a : Variant) (x y : Bits) (n : ℕ) → a ≡ aligned → n ≡ length x → y ≡ x ++ to_bits ((8 - n % 8) % 8) 0 → Appends x (padding a) y
-appends_padding a x y n v l e =
-    let m : (8 - n % 8) % 8 ≡ pad aligned (after 0 x) = omega arith in
-    ap Some (e ∙ ap (λ (b : Bits). x ++ b) (zeros ((8 - n % 8) % 8) ∙ ap (λ (k : ℕ). replicate k false) m ∙ ap (λ (b : Variant). replicate (pad b (after 0 x)) false) (sym v)))
-  where
-    zeros : (w : ℕ) → to_bits w 0 ≡ replicate w false
-    zeros zero = refl
-    zeros (suc w) = rw (zero-mod (2 ^ suc w), zeros w) (ap (λ (b : Bool). b ∷ replicate w false) (lt-leb (2 ^ w) 0 (pow_pos w)))
+-- X.691 11.1: padding in the aligned variant
+pub appends_padding : (a : Variant) (x y : Pieces) → a ≡ aligned → Appends x (padding aligned) y → Appends x (padding a) y
+appends_padding a x y v h = subst (λ (b : Variant). Appends x (padding b) y) (sym v) h
+
+-- and in the other one
+pub appends_nothing : (a : Variant) (x : Pieces) → a ≡ unaligned → Appends x (padding a) x
+appends_nothing a x v = subst (λ (b : Variant). Appends x (padding b) x) (sym v) (appends_none x)
 
 -- the octets between two places
 pub octets_between : (os : List ℕ) (start end : ℕ) → octet_writers (slice_range os start end) ≡ slice_range (octet_writers os) start end

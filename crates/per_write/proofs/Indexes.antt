@@ -4,8 +4,10 @@ use Rattle.std.proofs.lemmas.Bool.{leb-false, leb-true, lt-leb, ne_eqb}
 use Rattle.rasn_types.specs.Bits.{Bits, to_bits, width}
 use Rattle.rasn_types.specs.Codecs.{variant_of}
 use Rattle.rasn_types.specs.Variants.{Variant, aligned, unaligned}
+use Rattle.rasn_types.specs.declared.types.Codec.{Codec}
 use Rattle.per_core.specs.Counts.{constrained_whole}
 use Rattle.per_core.specs.Writers.{just, pad, join, after}
+use Rattle.per_pieces.specs.Pieces.{Pieces, bit_count, with_bits}
 use Rattle.per_write.specs.Choices.{index_padding, index_width, OpensIndex}
 use Rattle.per_write.specs.State.{Scope, State, Wrote}
 
@@ -23,22 +25,19 @@ no_padding unaligned n h p = refl
 no_padding aligned n h p = rw (le-leb n 255 (omega arith)) refl
 
 -- room is made behind padding
-pub index_opened : (n w : ℕ) (x m z y : State) (place : ℕ) (outside : Scope) → Wrote x (index_padding (variant_of x.codec) n) m
-    → w ≡ index_width (variant_of m.codec) n → Wrote m (just (replicate w false)) z → place ≡ length m.bits → outside ≡ z.scope
+pub index_opened : (n w : ℕ) (x m z y : State) (q : Pieces) (place : ℕ) (outside : Scope) → Wrote x (index_padding (variant_of x.codec) n) m
+    → w ≡ index_width (variant_of m.codec) n → q ≡ with_bits m.pieces (replicate w false) → z ≡ record m { pieces = q } → place ≡ bit_count m.pieces.list → outside ≡ z.scope
     → y ≡ record z { scope = record { presences = record { place = place; left = 0 }; additions = None } } → OpensIndex n x outside y
-index_opened n w x m z y place outside h i k l o e =
-    let j = joined x.bits (index_padding (variant_of x.codec) n (after 0 x.bits)) m.bits (h.written 0 refl) in
-    let b : z.bits ≡ m.bits ++ replicate (index_width (variant_of m.codec) n) false = inside (k.written 0 refl) ∙ ap (λ (v : ℕ). m.bits ++ replicate v false) i in
-    record {
-      begun = h.begun;
-      waits = o ∙ k.beside ∙ h.beside;
-      unfailed = ap (λ s. s.failed) e ∙ k.left;
-      same = ap (λ s. s.codec) e ∙ k.same ∙ h.same;
-      spare = j.0;
-      padded = j.1;
-      bits = ap (λ s. s.bits) e ∙ b ∙ ap₂ (λ bs c. bs ++ replicate (index_width (variant_of c) n) false) j.2 h.same;
-      place = ap (λ s. s.scope) e ∙ ap (λ (i : ℕ). record { presences = record { place = i; left = 0 }; additions = None }) (l ∙ ap length j.2);
-    }
+index_opened n w x m z y q place outside h i k v l o e = record {
+  begun = h.begun;
+  waits = o ∙ ap (λ (s : State). s.scope) v ∙ h.beside;
+  unfailed = ap (λ (s : State). s.failed) e ∙ ap (λ (s : State). s.failed) v ∙ h.left;
+  same = ap (λ (s : State). s.codec) e ∙ ap (λ (s : State). s.codec) v ∙ h.same;
+  padded = m.pieces;
+  is_padded = h.appended;
+  pieces = ap (λ (s : State). s.pieces) e ∙ ap (λ (s : State). s.pieces) v ∙ k ∙ ap (λ (j : ℕ). with_bits m.pieces (replicate j false)) (i ∙ ap (λ (c : Codec). index_width (variant_of c) n) h.same);
+  place = ap (λ (s : State). s.scope) e ∙ ap (λ (j : ℕ). record { presences = record { place = j; left = 0 }; additions = None }) l;
+}
 
 -- X.691 11.5.7.1: the index of one of 255 alternatives or fewer
 few_form : (n k p : ℕ) (spare : Bits) → k < n → n ≤ 255 → index_padding aligned n p ≡ Some spare → constrained_whole aligned n k p ≡ Some (spare ++ to_bits (index_width aligned n) k)

@@ -9,10 +9,10 @@ pub mod Fragments
 pub mod Gathering
 pub mod Indexes
 pub mod OpenTypes
+pub mod Placing
 pub mod Records
 pub mod Refusing
 pub mod SmallNumbers
 pub mod Steps
 pub mod Vacant
 pub mod Writing
-pub mod Zeros

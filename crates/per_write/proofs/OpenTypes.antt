@@ -10,7 +10,7 @@ use Rattle.per_core.specs.Canon.{Member, any_set, bitmap_of, opens_of, shown}
 use Rattle.per_core.specs.Counts.{determinant, fragment_sizes, in_fragments, octet_writers, open_bits, unless_zero}
 use Rattle.per_core.specs.Writers.{Writer, after, complete, go_on, join, just, one_by_one, pad, padding, refused, written_if, ◌▹◌}
 use Rattle.rasn_schema.specs.Schemas.{Presence, required, optional, group, default}
-use Rattle.per_write.proofs.Writing.{then_assoc, then_same}
+use Rattle.per_pieces.proofs.Writing.{then_assoc, then_same}
 
 -- what is written is the same wherever it begins
 abbrev IsStill : Writer → Type 0

@@ -23,7 +23,8 @@ use Rattle.per_write.specs.Fragments.{one_fragment}
 use Rattle.per_write.specs.State.{State, Wrote}
 use Rattle.per_write.proofs.Fragments.{first_fragment, length-octet_writers, fragments_of_few, fragments_of_many}
 use Rattle.per_write.proofs.Steps.{length-bit_writers, length-char_writers}
-use Rattle.per_write.proofs.Writing.{none_behind, wrote_same}
+use Rattle.per_pieces.proofs.Writing.{none_behind}
+use Rattle.per_write.proofs.Writing.{wrote_same}
 
 none_one_by_one : (ws : List Writer) → HasRefused ws → (p : ℕ) → one_by_one ws p ≡ None
 none_one_by_one [] h p = elim h [ ]

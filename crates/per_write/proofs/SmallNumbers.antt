@@ -1,15 +1,15 @@
 -- Normally small numbers, as they are written (X.691 11.6).
-use Rattle.std.proofs.Common.{◌≡◌, sym, ap, ◌∙◌, ℕ, ◌%◌, ◌<◌, ◌≤◌, Bool, true, false, cond, lt-ltb, [], ◌∷◌, ◌++◌, arith, Some, None, pos}
+use Rattle.std.proofs.Common.{◌≡◌, sym, ap, ◌∙◌, ℕ, ◌%◌, ◌<◌, ◌≤◌, Bool, true, false, cond, lt-ltb, [], ◌∷◌, arith, Some, None, pos}
 use Rattle.std.proofs.lemmas.Bool.{le-ltb, lt-leb}
-use Rattle.rasn_types.specs.Bits.{Bits, to_bits}
+use Rattle.rasn_types.specs.Bits.{to_bits}
 use Rattle.rasn_types.specs.Variants.{Variant}
 use Rattle.per_core.specs.Counts.{number_under, small}
 use Rattle.per_core.specs.Writers.{just, ◌▹◌}
-use Rattle.per_write.specs.State.{Appends}
-use Rattle.per_write.proofs.Writing.{appends_same, appends_bits, appends_then}
+use Rattle.per_pieces.specs.Pieces.{Appends, Pieces, with_bits}
+use Rattle.per_pieces.proofs.Settling.{appends_bits, appends_same, appends_then}
 
 -- below 64
-pub appends_low : (a : Variant) (x y : Bits) (n : ℕ) → n < 64 → y ≡ x ++ to_bits 7 n → Appends x (small a n) y
+pub appends_low : (a : Variant) (x y : Pieces) (n : ℕ) → n < 64 → y ≡ with_bits x (to_bits 7 n) → Appends x (small a n) y
 unfolding small
 appends_low a x y n h e =
     let m : n % 128 < 64 = omega arith in
@@ -18,7 +18,7 @@ appends_low a x y n h e =
     (appends_bits x y _ e)
 
 -- from 64 on
-pub appends_high : (a : Variant) (x m y : Bits) (n : ℕ) → 64 ≤ n → m ≡ x ++ true ∷ [] → Appends m (number_under a (Some (pos 0)) None (pos n)) y → Appends x (small a n) y
+pub appends_high : (a : Variant) (x m y : Pieces) (n : ℕ) → 64 ≤ n → m ≡ with_bits x (true ∷ []) → Appends m (number_under a (Some (pos 0)) None (pos n)) y → Appends x (small a n) y
 unfolding small
 appends_high a x m y n h e k =
     appends_same x y (just (true ∷ []) ▹ number_under a (Some (pos 0)) None (pos n)) (small a n)

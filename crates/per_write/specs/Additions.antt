@@ -8,15 +8,16 @@ use Rattle.rasn_schema.specs.Schemas.{Schema, Parts, no_parts, part, Presence, r
 use Rattle.per_core.specs.Canon.{any_set, canon}
 use Rattle.per_core.specs.Counts.{open_bits}
 use Rattle.per_core.specs.Writers.{Writer, just}
+use Rattle.per_pieces.specs.Pieces.{Pieces, no_pieces, settle}
 use Rattle.per_write.specs.declared.error.EncodeError.{EncodeError}
 use Rattle.per_write.specs.declared.error.EncodeErrorKind.TheVariants.{TooManyAdditions}
 use Rattle.per_write.specs.declared.presences.Presences.{Presences}
 use Rattle.per_write.specs.Faults.{IsAlready, IsError, IsMemory}
-use Rattle.per_write.specs.State.{Additions, Appends, State, no_scope}
+use Rattle.per_write.specs.State.{Additions, AppendsBits, State, no_scope}
 
--- what waits outside of an open type: the bits written before, and what is kept of the open SEQUENCE
+-- what waits outside of an open type: what was written before, and what is kept of the open SEQUENCE
 pub record Outside : Type 0 where
-  pub bits : Bits
+  pub pieces : Pieces
   pub presences : Presences
   pub additions : Additions
 
@@ -95,8 +96,8 @@ pub record SkipsOrNot (x : State) (result : Result (Unit {0}) EncodeError) (y : 
 -- an open type begins at position 0, and what was there waits outside
 pub record Opens (x : State) (outside : Outside) (y : State) : Type 0 where
   pub awaits : Awaits x outside.additions
-  pub waits : outside ≡ record { bits = x.bits; presences = x.scope.presences; additions = outside.additions }
-  pub same : y ≡ record x { bits = []; scope = no_scope }
+  pub waits : outside ≡ record { pieces = x.pieces; presences = x.scope.presences; additions = outside.additions }
+  pub same : y ≡ record x { pieces = no_pieces; scope = no_scope }
 
 -- the contents of the next addition's open type begin
 pub record Begins (x y : State) : Type 0 where
@@ -110,12 +111,21 @@ pub record OpensOrNot (x : State) (result : Result Outside EncodeError) (y : Sta
   pub fails : OnErr result (y.failed ≡ true)
   pub kept : y.codec ≡ x.codec
 
--- an addition was given: where it is there, the bits written are the contents of its open type
+-- an addition was given: where it is there, what was written is the contents of its open type, from position 0 on
 pub record Closes (is_there : Bool) (outside : Outside) (x y : State) : Type 0 where
   pub begun : x.failed ≡ false
   pub opens : Bits
-  pub appended : Appends outside.additions.opens (open_if (variant_of x.codec) is_there x.bits) opens
-  pub same : y ≡ record x { bits = outside.bits; scope = record { presences = outside.presences; additions = Some (with_next outside.additions is_there opens) } }
+  pub appended : AppendsBits outside.additions.opens (open_if (variant_of x.codec) is_there (settle x.pieces.list 0)) opens
+  pub same : y ≡ record x { pieces = outside.pieces; scope = record { presences = outside.presences; additions = Some (with_next outside.additions is_there opens) } }
+
+-- A call that puts what was written, as the contents of an open type, behind the open types of other additions.
+pub record PutsAddition (k : Additions) (before : Pieces) (x : State) (result : Result Additions EncodeError) (y : State) : Type 0 where
+  pub opens : IfOk result (λ l. AppendsBits k.opens (open_bits (variant_of x.codec) (Some (settle x.pieces.list 0))) l.opens)
+  pub others : IfOk result (λ l. l ≡ record k { opens = l.opens })
+  pub same : OnOk result (y ≡ record x { pieces = before })
+  pub err : IfErr result (λ e. IsMemory e x)
+  pub fails : OnErr result (y.failed ≡ true)
+  pub kept : y.codec ≡ x.codec
 
 -- A call that closes the open type of an addition.
 pub record ClosesOrNot (is_there : Bool) (outside : Outside) (x : State) (result : Result (Unit {0}) EncodeError) (y : State) : Type 0 where
@@ -131,5 +141,5 @@ pub record Adds (x : State) (s : Schema) (v : Value) (y : State) : Type 0 where
   pub contents : Bits
   pub complete : canon (variant_of x.codec) s v 0 ≡ Some contents
   pub opens : Bits
-  pub appended : Appends before.opens (open_if (variant_of x.codec) true contents) opens
+  pub appended : AppendsBits before.opens (open_if (variant_of x.codec) true contents) opens
   pub same : y ≡ record x { scope = record { presences = x.scope.presences; additions = Some (with_next before true opens) } }

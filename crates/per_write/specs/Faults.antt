@@ -2,9 +2,9 @@
 use Rattle.std.specs.Prelude.{ℕ, ◌≡◌, ◌<◌, ◌⊎◌, Bool, true, false, ◌||◌, List, ◌∷◌, length, get_or, Option, Some, None, is_some, MatchOption, ℤ}
 use Rattle.rasn_types.specs.Alphabets.{index_of}
 use Rattle.rasn_types.specs.Codecs.{variant_of}
-use Rattle.rasn_types.specs.Values.{Value, whole, octets, bits, characters, elements, values, alternative, root}
+use Rattle.rasn_types.specs.Values.{Value, whole, octets, bits, characters, elements, values, alternative, Side}
 use Rattle.rasn_constraints.specs.Bounds.{allows, holds, fits_i128, Bounds, Size}
-use Rattle.rasn_schema.specs.Choices.{alternative_at, choice_of}
+use Rattle.rasn_schema.specs.Choices.{alternative_in, choice_of}
 use Rattle.rasn_schema.specs.Lists.{list_value}
 use Rattle.rasn_schema.specs.Records.{record_value}
 use Rattle.rasn_schema.specs.Schemas.{Schema, Parts, part, Presence, TagTree}
@@ -102,7 +102,7 @@ pub data StandsIn (fault : Schema → Value → Type 0) : Schema → Value → T
   in_part : {s : Schema} {v : Value} {ps qs : Parts} {marker : Bool} {rs : List (Option Value)} (xs : List (Option Value)) → HasPart s v ps rs → StandsIn fault s v → StandsIn fault (extended ps marker qs) (record_value rs xs)
   in_addition : {s : Schema} {v : Value} {ps qs : Parts} {marker : Bool} {xs : List (Option Value)} (rs : List (Option Value)) → HasPart s v qs xs → StandsIn fault s v → StandsIn fault (extended ps marker qs) (record_value rs xs)
   in_element : {e : Schema} {size : Size} {mark : Bool} {v : Value} {vs : List Value} → HasElement v vs → StandsIn fault e v → StandsIn fault (Schema.list e size mark) (list_value vs)
-  in_alternative : {s : Schema} {v : Value} {ps : Parts} {k : ℕ} → alternative_at ps k ≡ Some s → StandsIn fault s v → StandsIn fault (choice_of ps) (alternative root k v)
+  in_alternative : {s : Schema} {v : Value} {ps qs : Parts} {marker : Bool} {d : Side} {k : ℕ} → alternative_in (choice_of ps marker qs) d k ≡ Some s → StandsIn fault s v → StandsIn fault (choice_of ps marker qs) (alternative d k v)
 
 -- Where a kind's fault stands in a value. No list of additions is longer than its schema's, and no choice that a lawful type
 -- writes has a tag of none of its alternatives; the last three are none of a value.

@@ -1,4 +1,5 @@
 pub mod Additions
+pub mod Alternatives
 pub mod Choices
 pub mod Characters
 pub mod Faults
@@ -6,6 +7,7 @@ pub mod Items
 pub mod Lists
 pub mod Names
 pub mod Numbers
+pub mod Floating
 pub mod Fragments
 pub mod Presences
 pub mod Records

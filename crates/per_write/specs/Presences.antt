@@ -1,5 +1,6 @@
 -- The presence bits of a SEQUENCE: zeros that are kept for them where it is opened, and given one after another (ITU-T X.691, 19.2).
-use Rattle.std.specs.Prelude.{suc, ◌+◌, ◌≡◌, ◌<◌, ◌≤◌, ◌⊎◌, Bool, true, false, length, set, Result, IfErr, OnOk, OnErr}
+use Rattle.std.specs.Prelude.{suc, ◌+◌, ◌≡◌, ◌<◌, ◌≤◌, ◌⊎◌, Bool, true, false, Result, IfErr, OnOk, OnErr}
+use Rattle.per_pieces.specs.Pieces.{bit_count, with_bit}
 use Rattle.per_write.specs.declared.error.EncodeError.{EncodeError}
 use Rattle.per_write.specs.declared.error.EncodeErrorKind.TheVariants.{OutOfTurn}
 use Rattle.per_write.specs.Faults.{IsError, IsAlready}
@@ -8,13 +9,13 @@ use Rattle.per_write.specs.State.{State}
 -- the next presence bit is given; all other bits stay
 pub record Marks (x : State) (b : Bool) (y : State) : Type 0 where
   pub begun : x.failed ≡ false
-  pub within : x.scope.presences.place < length x.bits
+  pub within : x.scope.presences.place < bit_count x.pieces.list
   pub some : x.scope.presences.left ≡ suc y.scope.presences.left
-  pub same : y ≡ record x { bits = set x.bits x.scope.presences.place b; scope = record { presences = record { place = x.scope.presences.place + 1; left = y.scope.presences.left }; additions = x.scope.additions } }
+  pub same : y ≡ record x { pieces = with_bit x.pieces x.scope.presences.place b; scope = record { presences = record { place = x.scope.presences.place + 1; left = y.scope.presences.left }; additions = x.scope.additions } }
 
 -- none is left to give
 abbrev pub NoneLeft : State → Type 0
-NoneLeft x = (x.scope.presences.left ≡ 0) ⊎ (length x.bits ≤ x.scope.presences.place)
+NoneLeft x = (x.scope.presences.left ≡ 0) ⊎ (bit_count x.pieces.list ≤ x.scope.presences.place)
 
 -- an error by which a presence bit is refused: none is left, or the encoder had been refused before
 abbrev pub IsUnmarked : EncodeError → State → Type 0

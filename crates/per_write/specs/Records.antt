@@ -1,10 +1,11 @@
 -- A SEQUENCE: its presence bits and its extension bit are kept where it is opened, and its additions stand behind its root (ITU-T X.691, 19).
-use Rattle.std.specs.Prelude.{ℕ, ◌≡◌, ◌<◌, ◌⊎◌, true, false, if◌then◌else◌, [], ◌∷◌, ◌++◌, length, replicate, set, Option, Some, None, Result, IfOk, IfErr, OnOk, OnErr}
+use Rattle.std.specs.Prelude.{ℕ, ◌≡◌, ◌<◌, ◌⊎◌, Bool, true, false, [], ◌∷◌, ◌++◌, length, replicate, Option, Some, None, Result, IfOk, IfErr, OnOk, OnErr}
 use Rattle.rasn_types.specs.Bits.{Bits}
 use Rattle.rasn_types.specs.Codecs.{variant_of}
 use Rattle.rasn_types.specs.Variants.{Variant}
 use Rattle.per_core.specs.Canon.{any_set, bitmap}
 use Rattle.per_core.specs.Writers.{Writer, just, ◌▹◌, padding}
+use Rattle.per_pieces.specs.Pieces.{Appends, Pieces, bit_count, with_bit, with_bits}
 use Rattle.per_write.specs.declared.error.EncodeError.{EncodeError}
 use Rattle.per_write.specs.declared.error.EncodeErrorKind.TheVariants.{OutOfTurn}
 use Rattle.per_write.specs.Faults.{IsError, IsMemory}
@@ -30,9 +31,9 @@ pub record Opens (presences : ℕ) (additions : Option ℕ) (x : State) (outside
   pub waits : outside ≡ x.scope
   pub unfailed : y.failed ≡ false
   pub same : y.codec ≡ x.codec
-  pub bits : y.bits ≡ x.bits ++ (extension_room additions ++ replicate presences false)
-  pub place : y.scope.presences ≡ record { place = length (x.bits ++ extension_room additions); left = presences }
-  pub keeps : y.scope.additions ≡ kept_additions (length x.bits) additions
+  pub pieces : y.pieces ≡ with_bits x.pieces (extension_room additions ++ replicate presences false)
+  pub place : y.scope.presences ≡ record { place = bit_count (with_bits x.pieces (extension_room additions)).list; left = presences }
+  pub keeps : y.scope.additions ≡ kept_additions (bit_count x.pieces.list) additions
 
 -- A call that opens a SEQUENCE, or finds no memory.
 pub record OpensOrNot (presences : ℕ) (additions : Option ℕ) (x : State) (result : Result Scope EncodeError) (y : State) : Type 0 where
@@ -43,8 +44,8 @@ pub record OpensOrNot (presences : ℕ) (additions : Option ℕ) (x : State) (re
 
 -- A call that keeps the place of an extension bit, where there is one, or finds no memory.
 pub record KeepsOrNot (n : Option ℕ) (x : State) (result : Result (Option Additions) EncodeError) (y : State) : Type 0 where
-  pub ok : IfOk result (λ k. k ≡ kept_additions (length x.bits) n)
-  pub same : OnOk result (y ≡ record x { bits = x.bits ++ extension_room n })
+  pub ok : IfOk result (λ k. k ≡ kept_additions (bit_count x.pieces.list) n)
+  pub same : OnOk result (y ≡ record x { pieces = with_bits x.pieces (extension_room n) })
   pub err : IfErr result (λ e. IsMemory e x)
   pub fails : OnErr result (y.failed ≡ true)
   pub kept : y.codec ≡ x.codec
@@ -53,14 +54,15 @@ pub record KeepsOrNot (n : Option ℕ) (x : State) (result : Result (Option Addi
 abbrev pub behind_root : Variant → Additions → Writer
 behind_root a k = bitmap a k.flags ▹ padding a ▹ just k.opens
 
--- X.691 19.1: the bits of a SEQUENCE with its additions, of which one that is there makes its extension bit 1
-abbrev pub with_behind : Variant → Bits → Additions → Option Bits
-with_behind a bs k = if any_set k.flags then (just (set bs k.extension true) ▹ behind_root a k) 0 else Some bs
+-- X.691 19.1: an addition that is there makes the extension bit 1, and the additions stand behind the root
+abbrev pub ExtendedBehind : Variant → Additions → Bool → Pieces → Pieces → Type 0
+ExtendedBehind a k false x y = y ≡ x
+ExtendedBehind a k true x y = Appends (with_bit x k.extension true) (behind_root a k) y
 
 -- the same, where there is an extension marker
-abbrev pub closed_bits : Variant → Bits → Option Additions → Option Bits
-closed_bits a bs None = Some bs
-closed_bits a bs (Some k) = with_behind a bs k
+abbrev pub ClosedBehind : Variant → Option Additions → Pieces → Pieces → Type 0
+ClosedBehind a None x y = y ≡ x
+ClosedBehind a (Some k) x y = ExtendedBehind a k (any_set k.flags) x y
 
 -- each addition was given
 abbrev pub AreGiven : Option Additions → Type 0
@@ -70,8 +72,8 @@ AreGiven (Some k) = length k.flags ≡ k.count
 -- A call that writes the additions behind the root, where each was given.
 pub record PutsAdditions (k : Additions) (x : State) (result : Result (Unit {0}) EncodeError) (y : State) : Type 0 where
   pub given : OnOk result (length k.flags ≡ k.count)
-  pub bits : OnOk result (Some y.bits ≡ with_behind (variant_of x.codec) x.bits k)
-  pub same : OnOk result (y ≡ record x { bits = y.bits })
+  pub pieces : OnOk result (ExtendedBehind (variant_of x.codec) k (any_set k.flags) x.pieces y.pieces)
+  pub same : OnOk result (y ≡ record x { pieces = y.pieces })
   pub err : IfErr result (λ e. IsMemory e x ⊎ (IsError OutOfTurn e x × (length k.flags ≡ k.count → ⊥)))
   pub fails : OnErr result (y.failed ≡ true)
   pub kept : y.codec ≡ x.codec
@@ -80,8 +82,8 @@ pub record PutsAdditions (k : Additions) (x : State) (result : Result (Unit {0})
 pub record Closes (outside : Scope) (x y : State) : Type 0 where
   pub presences : x.scope.presences.left ≡ 0
   pub additions : AreGiven x.scope.additions
-  pub bits : Some y.bits ≡ closed_bits (variant_of x.codec) x.bits x.scope.additions
-  pub same : y ≡ record x { bits = y.bits; scope = outside }
+  pub pieces : ClosedBehind (variant_of x.codec) x.scope.additions x.pieces y.pieces
+  pub same : y ≡ record x { pieces = y.pieces; scope = outside }
 
 -- a presence bit or an addition wasn't given
 abbrev pub IsUngiven : Scope → Type 0

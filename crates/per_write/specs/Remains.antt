@@ -1,7 +1,8 @@
 -- What is still to be written.
-use Rattle.std.specs.Prelude.{ℕ, ◌≡◌, false}
-use Rattle.per_core.specs.Writers.{Writer, ◌▹◌}
-use Rattle.per_write.specs.State.{MayBegin, State, view}
+use Rattle.std.specs.Prelude.{◌≡◌, false}
+use Rattle.per_core.specs.Writers.{Writer}
+use Rattle.per_pieces.specs.Pieces.{Remains as RemainsOf}
+use Rattle.per_write.specs.State.{State}
 
 -- calls wrote the first of what was to be written, and so much remains
 pub record Remains (x : State) (all : Writer) (y : State) (rest : Writer) : Type 0 where
@@ -9,4 +10,4 @@ pub record Remains (x : State) (all : Writer) (y : State) (rest : Writer) : Type
   pub left : y.failed ≡ false
   pub same : y.codec ≡ x.codec
   pub beside : y.scope ≡ x.scope
-  pub written : (p : ℕ) → MayBegin x p → (view y ▹ rest) p ≡ (view x ▹ all) p
+  pub pieces : RemainsOf x.pieces all y.pieces rest

@@ -8,6 +8,7 @@ use Rattle.rasn_types.specs.declared.types.Codec.{Codec}
 use Rattle.rasn_schema.specs.Schemas.{Schema}
 use Rattle.per_core.specs.Writers.{Writer, just, ◌▹◌}
 use Rattle.per_core.specs.Canon.{canon}
+use Rattle.per_pieces.specs.Pieces.{Appends, MayBegin as MayStand, Pieces, no_pieces, settled}
 use Rattle.per_write.specs.declared.presences.Presences.{Presences}
 
 -- what is kept of the additions of an open SEQUENCE: the place of its extension bit, how many additions its schema has, a bit for each
@@ -23,9 +24,9 @@ pub record Scope : Type 0 where
   pub presences : Presences
   pub additions : Option Additions
 
--- the bits written, whether a call was refused, the variant in use, and what is kept of the open SEQUENCE or CHOICE
+-- what was written, whether a call was refused, the variant in use, and what is kept of the open SEQUENCE or CHOICE
 pub record State : Type 0 where
-  pub bits : Bits
+  pub pieces : Pieces
   pub failed : Bool
   pub codec : Codec
   pub scope : Scope
@@ -36,19 +37,19 @@ no_scope = record { presences = record { place = 0; left = 0 }; additions = None
 
 -- what has written nothing
 abbrev pub fresh : Codec → State
-fresh codec = record { bits = []; failed = false; codec = codec; scope = no_scope }
+fresh codec = record { pieces = no_pieces; failed = false; codec = codec; scope = no_scope }
 
 -- what the open scope holds, as written from a position on
 abbrev pub view : State → Writer
-view x = just x.bits
+view x = settled x.pieces.list
 
--- the positions that the open scope may begin at: with nothing open, the start
+-- the positions that the open scope may begin at: the start, unless its place isn't known
 abbrev pub MayBegin : State → ℕ → Type 0
-MayBegin x p = p ≡ 0
+MayBegin x p = MayStand x.pieces p
 
 -- some bits were written behind those that stood there from the start
-abbrev pub Appends : Bits → Writer → Bits → Type 0
-Appends before more behind = Some behind ≡ (just before ▹ more) 0
+abbrev pub AppendsBits : Bits → Writer → Bits → Type 0
+AppendsBits before more behind = Some behind ≡ (just before ▹ more) 0
 
 -- a call wrote one thing more
 pub record Wrote (x : State) (more : Writer) (y : State) : Type 0 where
@@ -56,7 +57,7 @@ pub record Wrote (x : State) (more : Writer) (y : State) : Type 0 where
   pub left : y.failed ≡ false
   pub same : y.codec ≡ x.codec
   pub beside : y.scope ≡ x.scope
-  pub written : (p : ℕ) → MayBegin x p → view y p ≡ (view x ▹ more) p
+  pub appended : Appends x.pieces more y.pieces
 
 -- one value more, in its canonical bits
 abbrev pub Presents : State → Schema → Value → State → Type 0

@@ -5,7 +5,8 @@ ghost use Rattle.std.specs.Prelude.{◌≡◌, length, true, false, nat_lt, Some
 ghost use Rattle.per_core.specs.Canon.{any_set, bitmap};
 ghost use Rattle.per_core.specs.Counts.{open_bits};
 ghost use Rattle.per_core.specs.Writers.{padding};
-ghost use Rattle.per_write.specs.Additions.{ClosesOrNot as ClosesOpenType, GivesOrNot, is_group_there, OpensOrNot as OpensOpenType, SkipsOrNot, TakesOrNot};
+ghost use Rattle.per_pieces.specs.Pieces.{settle};
+ghost use Rattle.per_write.specs.Additions.{ClosesOrNot as ClosesOpenType, GivesOrNot, is_group_there, OpensOrNot as OpensOpenType, PutsAddition, SkipsOrNot, TakesOrNot};
 ghost use Rattle.per_write.specs.Faults.{IsMemory};
 ghost use Rattle.per_write.specs.Records.{ClosesOrNot, KeepsOrNot, OpensOrNot, PutsAdditions};
 ghost use Rattle.per_write.specs.State.{PutsIn};
@@ -16,6 +17,7 @@ use crate::lengths::push_padding;
 use crate::presences::{Presences, Scope};
 use crate::{Writer, no_bits};
 use per_bits::{BitList, BitReader};
+use per_pieces::Pieces;
 use std::alloc::Allocator;
 use std::marker::Model;
 use std::mem;
@@ -41,10 +43,10 @@ impl<A: Allocator + Clone> Model for Additions<A> {
     ghost view = { λ a. record { extension = a.extension; count = a.count; flags = a.flags; opens = a.opens } };
 }
 
-/// What waits outside of an open type until it is closed: the bits written before, and what was open.
+/// What waits outside of an open type until it is closed: what was written before, and what was open.
 #[derive(Drop)]
 pub struct Outside<A: Allocator + Clone> {
-    bits: BitList<A>,
+    pieces: Pieces<A>,
     presences: Presences,
     additions: Additions<A>,
 }
@@ -54,7 +56,7 @@ impl<A: Allocator + Clone> Model for Outside<A> {
 
     ghost Value = { Outside };
 
-    ghost view = { λ a. record { bits = a.bits; presences = a.presences; additions = a.additions } };
+    ghost view = { λ a. record { pieces = a.pieces; presences = a.presences; additions = a.additions } };
 }
 
 impl<A: Allocator + Clone> Writer<A> {
@@ -70,8 +72,9 @@ impl<A: Allocator + Clone> Writer<A> {
         ensures { OpensOrNot presences additions self.old result self.new }
     {
         let kept = self.keep_additions(additions)?;
-        let place = self.bits.len();
-        self.put_zeros(presences)?;
+        let place = self.pieces.len();
+        let zeros = self.pieces.push_zeros(presences);
+        self.unless_out_of_memory(zeros)?;
         let first = Presences {
             place,
             left: presences,
@@ -112,11 +115,11 @@ impl<A: Allocator + Clone> Writer<A> {
         ensures { OpensOpenType self.old result self.new }
     {
         let additions = self.take_additions()?;
-        let empty = no_bits(&self.bits);
+        let empty = no_bits(self.pieces.bits());
         let empty = self.unless_out_of_memory(empty)?;
         let nothing = Presences { place: 0, left: 0 };
         Ok(Outside {
-            bits: mem::replace(&mut self.bits, empty),
+            pieces: mem::replace(&mut self.pieces, Pieces::from_bits(empty)),
             presences: mem::replace(&mut self.presences, nothing),
             additions,
         })
@@ -129,13 +132,11 @@ impl<A: Allocator + Clone> Writer<A> {
         ensures { ClosesOpenType true outside self.old result self.new }
     {
         let Outside {
-            bits,
+            pieces,
             presences,
-            mut additions,
+            additions,
         } = outside;
-        mem::swap(&mut self.bits, &mut additions.opens);
-        self.put_open_type(&additions.opens)?;
-        additions.opens = mem::replace(&mut self.bits, bits);
+        let additions = self.put_addition(additions, pieces)?;
         self.presences = presences;
         self.give_addition(additions, true)
     }
@@ -148,19 +149,48 @@ impl<A: Allocator + Clone> Writer<A> {
         has_required: bool,
     ) -> Result<(), EncodeError>
         requires { self.old.failed ≡ false }
-        ensures { ClosesOpenType (is_group_there has_required self.old.bits) outside self.old result self.new }
+        ensures { ClosesOpenType (is_group_there has_required (settle self.old.pieces.list 0)) outside self.old result self.new }
     {
-        if has_required || has_one(&self.bits) {
+        if has_required || has_one(self.pieces.bits()) {
             return self.close_addition(outside);
         }
         let Outside {
-            bits,
+            pieces,
             presences,
             additions,
         } = outside;
-        self.bits = bits;
+        self.pieces = pieces;
         self.presences = presences;
         self.give_addition(additions, false)
+    }
+
+    /// Puts what was written, as the contents of an open type (X.691 11.2), behind the open types of other additions.
+    /// What was written before is there again.
+    fn put_addition(
+        &mut self,
+        additions: Additions<A>,
+        before: Pieces<A>,
+    ) -> Result<Additions<A>, EncodeError>
+        requires { self.old.failed ≡ false }
+        ensures { PutsAddition additions before self.old result self.new }
+    {
+        let Additions {
+            extension,
+            count,
+            flags,
+            opens,
+        } = additions;
+        let contents = mem::replace(&mut self.pieces, Pieces::from_bits(opens)).into_settled();
+        let contents = self.unless_out_of_memory(contents)?;
+        self.put_open_type(&contents)?;
+        let opens = mem::replace(&mut self.pieces, before).into_settled();
+        let opens = self.unless_out_of_memory(opens)?;
+        Ok(Additions {
+            extension,
+            count,
+            flags,
+            opens,
+        })
     }
 
     /// Where there is an extension marker, writes a zero for the extension bit, and keeps its place for so many
@@ -172,11 +202,12 @@ impl<A: Allocator + Clone> Writer<A> {
         let Some(count) = count else {
             return Ok(None);
         };
-        let extension = self.bits.len();
-        self.put_bit(false)?;
-        let flags = no_bits(&self.bits);
+        let extension = self.pieces.len();
+        let pushed = self.pieces.push(false);
+        self.unless_out_of_memory(pushed)?;
+        let flags = no_bits(self.pieces.bits());
         let flags = self.unless_out_of_memory(flags)?;
-        let opens = no_bits(&self.bits);
+        let opens = no_bits(self.pieces.bits());
         let opens = self.unless_out_of_memory(opens)?;
         Ok(Some(Additions {
             extension,
@@ -221,14 +252,14 @@ impl<A: Allocator + Clone> Writer<A> {
         if !has_one(&additions.flags) {
             return Ok(());
         }
-        self.bits.set(additions.extension, true);
+        self.pieces.set(additions.extension, true);
         self.put_bitmap(&additions.flags, additions.count)?;
         self.put_padding()?;
         self.put_reader(&BitReader::new(&additions.opens))
     }
 
     /// Writes an open type of some contents (X.691 11.2): their complete encoding, behind the count of its octets.
-    fn put_open_type(&mut self, contents: &BitList<A>) -> Result<(), EncodeError>
+    pub(crate) fn put_open_type(&mut self, contents: &BitList<A>) -> Result<(), EncodeError>
         requires { self.old.failed ≡ false }
         ensures { PutsIn IsMemory (λ a. open_bits a (Some contents.now)) self.old result self.new }
     {
@@ -258,7 +289,7 @@ impl<A: Allocator + Clone> Writer<A> {
         requires { self.old.failed ≡ false }
         ensures { PutsIn IsMemory padding self.old result self.new }
     {
-        let pushed = push_padding(&mut self.bits, self.codec);
+        let pushed = push_padding(&mut self.pieces, self.codec);
         self.unless_out_of_memory(pushed)
     }
 }

@@ -3,7 +3,7 @@
 
 ghost use Rattle.std.specs.Prelude.{◌≡◌, ◌+◌, ◌^◌, ◌<◌, ◌≤◌, false};
 ghost use Rattle.rasn_types.specs.Codecs.{variant_of};
-ghost use Rattle.per_write.specs.Choices.{FillsIndexOrNot, IsFilled, KnowsIndex, OpensIndexOrNot, index_padding, index_width};
+ghost use Rattle.per_write.specs.Choices.{FillsIndexOrNot, IsFilled, OpensIndexOrNot, index_padding, index_width};
 ghost use Rattle.per_write.specs.Faults.{IsMemory};
 ghost use Rattle.per_write.specs.State.{PutsIn};
 
@@ -11,7 +11,7 @@ use crate::Writer;
 use crate::error::{EncodeError, EncodeErrorKind};
 use crate::lengths::push_padding;
 use crate::presences::{Presences, Scope};
-use per_bits::BitList;
+use per_pieces::Pieces;
 use rasn_types::types::Codec;
 use rasn_types::width::width_of;
 use std::alloc::Allocator;
@@ -19,20 +19,21 @@ use std::alloc::Allocator;
 impl<A: Allocator + Clone> Writer<A> {
     /// Opens a CHOICE of so many root alternatives: zeros stand for the index of the one that follows. Answers what
     /// waits outside until the CHOICE is closed.
-    pub fn open_choice(&mut self, count: usize) -> Result<Scope<A>, EncodeError>
+    pub(crate) fn open_choice(&mut self, count: usize) -> Result<Scope<A>, EncodeError>
         requires { self.old.failed ≡ false }
         ensures { OpensIndexOrNot count self.old result self.new }
     {
         self.put_index_padding(count)?;
-        let place = self.bits.len();
-        self.put_zeros(index_width(self.codec, count))?;
+        let place = self.pieces.len();
+        let zeros = self.pieces.push_zeros(index_width(self.codec, count));
+        self.unless_out_of_memory(zeros)?;
         let index = Presences { place, left: 0 };
         Ok(self.enter(index, None))
     }
 
     /// Closes a CHOICE of so many root alternatives by the index of the one that was written. What waited outside is
     /// there again. Where no index is kept it refuses.
-    pub fn close_choice(
+    pub(crate) fn close_choice(
         &mut self,
         count: usize,
         index: usize,
@@ -43,44 +44,32 @@ impl<A: Allocator + Clone> Writer<A> {
     {
         let width = index_width(self.codec, count);
         let place = self.presences.place;
-        let written = self.bits.len();
+        let written = self.pieces.len();
         if written < width as u128 || written - (width as u128) < place {
             return Err(self.refuse(EncodeErrorKind::OutOfTurn));
         }
-        fill(&mut self.bits, place, width, index);
+        fill(&mut self.pieces, place, width, index);
         self.leave(outside);
         Ok(())
     }
 
-    /// The index of the alternative that goes by a tag, where there is one; else the tag is none of the choice's, and
-    /// this refuses. Takes no memory.
-    pub fn known_index(&mut self, index: Option<usize>) -> Result<usize, EncodeError>
-        requires { self.old.failed ≡ false }
-        ensures { KnowsIndex index self.old result self.new }
-    {
-        match index {
-            Some(index) => Ok(index),
-            None => Err(self.refuse(EncodeErrorKind::VariantNotInChoice)),
-        }
-    }
-
     /// Writes what stands in front of the index of one of so many root alternatives: in the aligned variant zeros up to
     /// the next octet, where the index is whole octets (X.691 11.5.7).
-    fn put_index_padding(&mut self, count: usize) -> Result<(), EncodeError>
+    pub(crate) fn put_index_padding(&mut self, count: usize) -> Result<(), EncodeError>
         requires { self.old.failed ≡ false }
         ensures { PutsIn IsMemory (λ a. index_padding a count) self.old result self.new }
     {
         if count < 256 {
             return Ok(());
         }
-        let pushed = push_padding(&mut self.bits, self.codec);
+        let pushed = push_padding(&mut self.pieces, self.codec);
         self.unless_out_of_memory(pushed)
     }
 }
 
 /// How many bits the index of one of so many root alternatives takes (X.691 11.5.6, 11.5.7), of which there are at most
 /// 65536.
-fn index_width(codec: Codec, count: usize) -> usize
+pub(crate) fn index_width(codec: Codec, count: usize) -> usize
     ensures width { result ≡ index_width (variant_of codec) count }
     ensures few { result ≤ 64 }
 {
@@ -91,17 +80,18 @@ fn index_width(codec: Codec, count: usize) -> usize
 }
 
 /// Writes the low `width` bits of a number, highest first, over the zeros that stand at a place.
-fn fill<A: Allocator>(bits: &mut BitList<A>, place: u128, width: usize, number: usize)
+fn fill<A: Allocator>(pieces: &mut Pieces<A>, place: u128, width: usize, number: usize)
     requires within { place + width < 2 ^ 128 }
     requires few { width ≤ 64 }
-    ensures { IsFilled place width number bits.old bits.new }
+    ensures place { pieces.new.placed ≡ pieces.old.placed }
+    ensures filled { IsFilled place width number pieces.old.list pieces.new.list }
 {
     let mut next = place;
     let mut left = width;
     while left > 0 {
         left -= 1;
         let weight = 2_u128.pow(left as u32);
-        bits.set(next, number as u128 % (2 * weight) >= weight);
+        pieces.set(next, number as u128 % (2 * weight) >= weight);
         next += 1;
     }
 }

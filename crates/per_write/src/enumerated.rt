@@ -34,7 +34,11 @@ impl<A: Allocator + Clone> Writer<A> {
 
     /// Writes the extension bit of a type with an extension marker, whether what follows stands after the marker (X.691
     /// 14.3); of another type nothing.
-    fn put_extension_bit(&mut self, extensible: bool, extended: bool) -> Result<(), EncodeError>
+    pub(crate) fn put_extension_bit(
+        &mut self,
+        extensible: bool,
+        extended: bool,
+    ) -> Result<(), EncodeError>
         requires begun { self.old.failed ≡ false }
         requires marked { (extensible || not extended) ≡ true }
         ensures { Puts IsMemory (extension_bit extensible extended) self.old result self.new }
@@ -46,11 +50,11 @@ impl<A: Allocator + Clone> Writer<A> {
     }
 
     /// Writes a normally small number (X.691 11.6).
-    fn put_small(&mut self, number: usize) -> Result<(), EncodeError>
+    pub(crate) fn put_small(&mut self, number: usize) -> Result<(), EncodeError>
         requires { self.old.failed ≡ false }
         ensures { PutsIn IsMemory (λ a. small a number) self.old result self.new }
     {
-        let pushed = push_small(&mut self.bits, self.codec, number);
+        let pushed = push_small(&mut self.pieces, self.codec, number);
         self.unless_out_of_memory(pushed)
     }
 
@@ -60,7 +64,7 @@ impl<A: Allocator + Clone> Writer<A> {
         requires within { offset ≤ greatest }
         ensures { PutsIn IsMemory (λ a. constrained_whole a (greatest + 1) offset) self.old result self.new }
     {
-        let pushed = push_constrained_whole(&mut self.bits, self.codec, greatest, offset);
+        let pushed = push_constrained_whole(&mut self.pieces, self.codec, greatest, offset);
         self.unless_out_of_memory(pushed)
     }
 }

@@ -27,7 +27,7 @@ impl<A: Allocator + Clone> Writer<A> {
         requires { self.old.failed ≡ false }
         ensures { PutsIn IsMemory (λ a. unconstrained_whole a I.range (I.number value.now)) self.old result self.new }
     {
-        let octets = number_octets(&self.bits, value);
+        let octets = number_octets(self.pieces.bits(), value);
         let octets = self.unless_out_of_memory(octets)?;
         self.put_octets(&octets)
     }
@@ -46,7 +46,7 @@ impl<A: Allocator + Clone> Writer<A> {
     {
         match lower {
             Some(lower) => {
-                let pushed = push_above(&mut self.bits, self.codec, lower, upper, number);
+                let pushed = push_above(&mut self.pieces, self.codec, lower, upper, number);
                 self.unless_out_of_memory(pushed)
             }
             None => self.put_unconstrained_whole(&number),
@@ -87,7 +87,7 @@ impl<A: Allocator + Clone> Writer<A> {
     {
         let bounds = stated.constraint;
         let number = value.to_i128();
-        let within = is_within(&self.bits, &bounds, value);
+        let within = is_within(self.pieces.bits(), &bounds, value);
         let within = self.unless_out_of_memory(within)?;
         match (within, stated.extensible) {
             (true, false) => self.put_within(&bounds, value),

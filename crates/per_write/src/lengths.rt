@@ -5,10 +5,10 @@ ghost use Rattle.rasn_types.specs.Codecs.{variant_of};
 ghost use Rattle.per_core.specs.Writers.{just, padding};
 ghost use Rattle.per_core.specs.Counts.{determinant};
 ghost use Rattle.per_write.specs.Fragments.{constrained_length, unconstrained_length};
-ghost use Rattle.per_write.specs.State.{Appends};
+ghost use Rattle.per_pieces.specs.Pieces.{Appends};
 
 use crate::numbers::push_constrained_whole;
-use per_bits::BitList;
+use per_pieces::Pieces;
 use rasn_types::types::Codec;
 use std::alloc::{AllocError, Allocator};
 
@@ -17,20 +17,20 @@ pub(crate) const FRAGMENT: usize = 16384;
 
 /// Writes how many items follow, which begins on an octet in the aligned variant (X.691 11.9.3.5 to 11.9.3.8).
 pub(crate) fn push_unconstrained_length<A: Allocator>(
-    bits: &mut BitList<A>,
+    pieces: &mut Pieces<A>,
     codec: Codec,
     count: usize,
 ) -> Result<(), AllocError>
-    ensures { OnOk result (Appends bits.old (unconstrained_length (variant_of codec) count) bits.new) }
+    ensures { OnOk result (Appends pieces.old (unconstrained_length (variant_of codec) count) pieces.new) }
 {
-    push_padding(bits, codec)?;
-    push_determinant(bits, count)
+    push_padding(pieces, codec)?;
+    push_determinant(pieces, count)
 }
 
 /// Writes how many items follow, as a constrained whole number, and the padding in front of items that begin on an
 /// octet (X.691 11.9.4.1).
 pub(crate) fn push_constrained_length<A: Allocator>(
-    bits: &mut BitList<A>,
+    pieces: &mut Pieces<A>,
     codec: Codec,
     lower: usize,
     upper: usize,
@@ -40,29 +40,29 @@ pub(crate) fn push_constrained_length<A: Allocator>(
     requires lower { lower ≤ count }
     requires upper { count ≤ upper }
     ensures { let a = variant_of codec in
-        OnOk result (Appends bits.old (constrained_length a lower upper count on_octet) bits.new) }
+        OnOk result (Appends pieces.old (constrained_length a lower upper count on_octet) pieces.new) }
 {
     push_constrained_whole(
-        bits,
+        pieces,
         codec,
         (upper - lower) as u128,
         (count - lower) as u128,
     )?;
     if on_octet {
-        push_padding(bits, codec)?;
+        push_padding(pieces, codec)?;
     }
     Ok(())
 }
 
 /// Writes zero bits up to a multiple of eight in the aligned variant.
 pub(crate) fn push_padding<A: Allocator>(
-    bits: &mut BitList<A>,
+    pieces: &mut Pieces<A>,
     codec: Codec,
 ) -> Result<(), AllocError>
-    ensures { OnOk result (Appends bits.old (padding (variant_of codec)) bits.new) }
+    ensures { OnOk result (Appends pieces.old (padding (variant_of codec)) pieces.new) }
 {
     match codec {
-        Codec::Aper => bits.push_bits(0, (8 - bits.len() % 8) % 8),
+        Codec::Aper => pieces.push_padding(),
         Codec::Uper => Ok(()),
     }
 }
@@ -70,17 +70,17 @@ pub(crate) fn push_padding<A: Allocator>(
 /// Writes how many items follow: to 127 in one octet, below 16384 in two, and else how many times 16384 (X.691
 /// 11.9.3.6 to 11.9.3.8).
 pub(crate) fn push_determinant<A: Allocator>(
-    bits: &mut BitList<A>,
+    pieces: &mut Pieces<A>,
     count: usize,
 ) -> Result<(), AllocError>
-    ensures { OnOk result (Appends bits.old (just (determinant count)) bits.new) }
+    ensures { OnOk result (Appends pieces.old (just (determinant count)) pieces.new) }
 {
     if count < 128 {
-        bits.push_bits(count as u128, 8)
+        pieces.push_bits(count as u128, 8)
     } else if count < FRAGMENT {
-        bits.push_bits(0b10, 2)?;
-        bits.push_bits(count as u128, 14)
+        pieces.push_bits(0b10, 2)?;
+        pieces.push_bits(count as u128, 14)
     } else {
-        bits.push_bits(0b1100_0000 + (count / FRAGMENT) as u128, 8)
+        pieces.push_bits(0b1100_0000 + (count / FRAGMENT) as u128, 8)
     }
 }

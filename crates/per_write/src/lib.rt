@@ -9,14 +9,17 @@ ghost use Rattle.rasn_calls.specs.Reals.{WritesNoReal};
 ghost use Rattle.per_core.specs.Writers.{just, complete, one_by_one};
 ghost use Rattle.per_core.specs.Counts.{octet_writers, unconstrained_octets};
 ghost use Rattle.per_core.specs.Canon.{completed};
+ghost use Rattle.per_pieces.specs.Pieces.{no_pieces};
 ghost use Rattle.per_write.specs.State.{fresh, view, Puts};
 ghost use Rattle.per_write.specs.Rules.{encoder_rules};
 ghost use Rattle.per_write.specs.Faults.{IsError, IsMemory, IsAlready, RefusesOutput};
 
 mod additions;
+mod alternatives;
 mod choices;
 mod enumerated;
 pub mod error;
+mod floating;
 mod integers;
 mod items;
 mod lengths;
@@ -29,9 +32,12 @@ mod strings;
 
 use additions::Additions;
 pub use additions::Outside;
+pub use alternatives::OpenChoice;
 use error::{EncodeError, EncodeErrorKind};
+pub use floating::Waiting;
 use items::Octets;
 use per_bits::{BitList, BitReader};
+use per_pieces::Pieces;
 use presences::Presences;
 pub use presences::Scope;
 use rasn_types::types::Codec;
@@ -43,7 +49,7 @@ use std::mem;
 /// nothing more is written then.
 #[derive(Drop)]
 pub struct Writer<A: Allocator + Clone> {
-    bits: BitList<A>,
+    pieces: Pieces<A>,
     failed: bool,
     codec: Codec,
     presences: Presences,
@@ -56,7 +62,7 @@ impl<A: Allocator + Clone> Model for Writer<A> {
     ghost Value = { State };
 
     ghost view = { λ a. record {
-      bits = a.bits;
+      pieces = a.pieces;
       failed = a.failed;
       codec = a.codec;
       scope = record { presences = a.presences; additions = a.additions };
@@ -79,7 +85,7 @@ impl<A: Allocator + Clone> Writer<A> {
     {
         output.clear();
         Writer {
-            bits: output,
+            pieces: Pieces::from_bits(output),
             failed: false,
             codec,
             presences: Presences { place: 0, left: 0 },
@@ -100,16 +106,18 @@ impl<A: Allocator + Clone> Writer<A> {
     /// An error says that memory ran out, or that the writer had failed before. The writer has failed then.
     pub fn output(&mut self) -> Result<Vec<u8, A>, EncodeError>
         ensures octets { IfOk result (λ octets. completed (view self.old 0) ≡ Some octets.items) }
-        ensures taken { OnOk result (self.new ≡ record self.old { bits = [] }) }
+        ensures taken { OnOk result (self.new ≡ record self.old { pieces = no_pieces }) }
         ensures begun { OnOk result (self.old.failed ≡ false) }
         ensures err { IfErr result (λ e. RefusesOutput e self.old) }
         ensures fails { OnErr result (self.new.failed ≡ true) }
         ensures kept { self.new.codec ≡ self.old.codec }
     {
         self.check_unfailed()?;
-        let empty = no_bits(&self.bits);
+        let empty = no_bits(self.pieces.bits());
         let empty = self.unless_out_of_memory(empty)?;
-        let octets = complete_octets(mem::replace(&mut self.bits, empty));
+        let bits = mem::replace(&mut self.pieces, Pieces::from_bits(empty)).into_settled();
+        let bits = self.unless_out_of_memory(bits)?;
+        let octets = complete_octets(bits);
         self.unless_out_of_memory(octets)
     }
 
@@ -164,7 +172,7 @@ impl<A: Allocator + Clone> Writer<A> {
         requires { self.old.failed ≡ false }
         ensures { Puts IsMemory (just (bit ∷ [])) self.old result self.new }
     {
-        let pushed = self.bits.push(bit);
+        let pushed = self.pieces.push(bit);
         self.unless_out_of_memory(pushed)
     }
 
@@ -174,7 +182,7 @@ impl<A: Allocator + Clone> Writer<A> {
         requires few { width ≤ 128 }
         ensures { Puts IsMemory (just (to_bits width number)) self.old result self.new }
     {
-        let pushed = self.bits.push_bits(number, width);
+        let pushed = self.pieces.push_bits(number, width);
         self.unless_out_of_memory(pushed)
     }
 
@@ -183,7 +191,7 @@ impl<A: Allocator + Clone> Writer<A> {
         requires { self.old.failed ≡ false }
         ensures { Puts IsMemory (just reader.now) self.old result self.new }
     {
-        let pushed = self.bits.push_reader(reader);
+        let pushed = self.pieces.push_reader(reader);
         self.unless_out_of_memory(pushed)
     }
 
@@ -192,7 +200,7 @@ impl<A: Allocator + Clone> Writer<A> {
         requires { self.old.failed ≡ false }
         ensures { Puts IsMemory (one_by_one (octet_writers octets.now)) self.old result self.new }
     {
-        let pushed = self.bits.push_octets(octets);
+        let pushed = self.pieces.push_octets(octets);
         self.unless_out_of_memory(pushed)
     }
 

@@ -8,17 +8,17 @@ ghost use Rattle.rasn_types.specs.Variants.{aligned};
 ghost use Rattle.per_core.specs.Writers.{just, padding, ◌▹◌};
 ghost use Rattle.per_core.specs.Counts.{constrained_whole, counted_octets, number_under};
 ghost use Rattle.rasn_constraints.specs.Bounds.{above, not_above};
-ghost use Rattle.per_write.specs.State.{Appends};
+ghost use Rattle.per_pieces.specs.Pieces.{Appends};
 
 use crate::lengths::{push_padding, push_unconstrained_length};
-use per_bits::BitList;
+use per_pieces::Pieces;
 use rasn_types::types::Codec;
 use rasn_types::width::{width_of, width_to};
 use std::alloc::{AllocError, Allocator};
 
 /// Writes a number within bounds of which the lower one is there (X.691 13.2.2, 13.2.3).
 pub(crate) fn push_above<A: Allocator>(
-    bits: &mut BitList<A>,
+    pieces: &mut Pieces<A>,
     codec: Codec,
     lower: i128,
     upper: Option<i128>,
@@ -26,12 +26,12 @@ pub(crate) fn push_above<A: Allocator>(
 ) -> Result<(), AllocError>
     requires lower { lower ≤ℤ number }
     requires upper { not_above upper number ≡ true }
-    ensures { OnOk result (Appends bits.old (number_under (variant_of codec) (Some lower) upper number) bits.new) }
+    ensures { OnOk result (Appends pieces.old (number_under (variant_of codec) (Some lower) upper number) pieces.new) }
 {
     let offset = distance_above(lower, number);
     match upper {
-        Some(upper) => push_constrained_whole(bits, codec, distance_above(lower, upper), offset),
-        None => push_semi_constrained_whole(bits, codec, offset),
+        Some(upper) => push_constrained_whole(pieces, codec, distance_above(lower, upper), offset),
+        None => push_semi_constrained_whole(pieces, codec, offset),
     }
 }
 
@@ -46,68 +46,68 @@ fn distance_above(lower: i128, number: i128) -> u128
 /// Writes one of the numbers from 0 to `greatest`, a constrained whole number above its lower bound (X.691 11.5): in
 /// the unaligned variant in the fewest bits that tell these numbers apart.
 pub(crate) fn push_constrained_whole<A: Allocator>(
-    bits: &mut BitList<A>,
+    pieces: &mut Pieces<A>,
     codec: Codec,
     greatest: u128,
     offset: u128,
 ) -> Result<(), AllocError>
     requires { offset ≤ greatest }
-    ensures { OnOk result (Appends bits.old (constrained_whole (variant_of codec) (greatest + 1) offset) bits.new) }
+    ensures { OnOk result (Appends pieces.old (constrained_whole (variant_of codec) (greatest + 1) offset) pieces.new) }
 {
     match codec {
-        Codec::Aper => push_constrained_whole_aligned(bits, greatest, offset),
-        Codec::Uper => bits.push_bits(offset, width_to(greatest)),
+        Codec::Aper => push_constrained_whole_aligned(pieces, greatest, offset),
+        Codec::Uper => pieces.push_bits(offset, width_to(greatest)),
     }
 }
 
 /// Writes one of the numbers from 0 to `greatest` in the aligned variant (X.691 11.5.7): of 255 numbers or fewer in
 /// bits, of 256 in an octet, of 65536 or fewer in two, and of more in its fewest octets, which their count precedes.
 fn push_constrained_whole_aligned<A: Allocator>(
-    bits: &mut BitList<A>,
+    pieces: &mut Pieces<A>,
     greatest: u128,
     offset: u128,
 ) -> Result<(), AllocError>
     requires { offset ≤ greatest }
-    ensures { OnOk result (Appends bits.old (constrained_whole aligned (greatest + 1) offset) bits.new) }
+    ensures { OnOk result (Appends pieces.old (constrained_whole aligned (greatest + 1) offset) pieces.new) }
 {
     if greatest < 255 {
-        bits.push_bits(offset, width_to(greatest))
+        pieces.push_bits(offset, width_to(greatest))
     } else if greatest == 255 {
-        push_on_octet(bits, offset, 8)
+        push_on_octet(pieces, offset, 8)
     } else if greatest < 65536 {
-        push_on_octet(bits, offset, 16)
+        push_on_octet(pieces, offset, 16)
     } else {
         let octets = octet_count(offset);
-        bits.push_bits(octets - 1, u128::from(width_of(octet_count(greatest))))?;
-        push_on_octet(bits, offset, 8 * octets)
+        pieces.push_bits(octets - 1, u128::from(width_of(octet_count(greatest))))?;
+        push_on_octet(pieces, offset, 8 * octets)
     }
 }
 
 /// Writes the low `width` bits of a number from the next octet on, in the aligned variant.
 fn push_on_octet<A: Allocator>(
-    bits: &mut BitList<A>,
+    pieces: &mut Pieces<A>,
     number: u128,
     width: u128,
 ) -> Result<(), AllocError>
     requires { width ≤ 128 }
-    ensures { OnOk result (Appends bits.old (padding aligned ▹ just (to_bits width number)) bits.new) }
+    ensures { OnOk result (Appends pieces.old (padding aligned ▹ just (to_bits width number)) pieces.new) }
 {
-    push_padding(bits, Codec::Aper)?;
-    bits.push_bits(number, width)
+    push_padding(pieces, Codec::Aper)?;
+    pieces.push_bits(number, width)
 }
 
 /// Writes a number that has a lower bound alone, by how far it is above that (X.691 11.7): its fewest octets without
 /// sign, behind an unconstrained length.
 pub(crate) fn push_semi_constrained_whole<A: Allocator>(
-    bits: &mut BitList<A>,
+    pieces: &mut Pieces<A>,
     codec: Codec,
     offset: u128,
 ) -> Result<(), AllocError>
-    ensures { OnOk result (Appends bits.old (counted_octets (variant_of codec) (natural_bits offset)) bits.new) }
+    ensures { OnOk result (Appends pieces.old (counted_octets (variant_of codec) (natural_bits offset)) pieces.new) }
 {
     let octets = octet_count(offset);
-    push_unconstrained_length(bits, codec, octets as usize)?;
-    bits.push_bits(offset, 8 * octets)
+    push_unconstrained_length(pieces, codec, octets as usize)?;
+    pieces.push_bits(offset, 8 * octets)
 }
 
 /// How many octets are the fewest for a number without sign (X.691 11.3.6), from 1 to 16.

@@ -1,11 +1,8 @@
 //! Presence bits of components that may be absent (X.691 19.2), and what is kept of the SEQUENCE or CHOICE that is
 //! open.
 
-ghost use Rattle.std.specs.Prelude.{◌≡◌, Option, false, replicate};
-ghost use Rattle.per_core.specs.Writers.{just};
-ghost use Rattle.per_write.specs.Faults.{IsMemory};
+ghost use Rattle.std.specs.Prelude.{◌≡◌, Option, false};
 ghost use Rattle.per_write.specs.Presences.{MarksOrNot};
-ghost use Rattle.per_write.specs.State.{Puts};
 
 use crate::Writer;
 use crate::additions::Additions;
@@ -46,10 +43,10 @@ impl<A: Allocator + Clone> Writer<A> {
         ensures { MarksOrNot is_there self.old result self.new }
     {
         let place = self.presences.place;
-        if self.presences.left == 0 || place >= self.bits.len() {
+        if self.presences.left == 0 || place >= self.pieces.len() {
             return Err(self.refuse(EncodeErrorKind::OutOfTurn));
         }
-        self.bits.set(place, is_there);
+        self.pieces.set(place, is_there);
         self.presences.place = place + 1;
         self.presences.left -= 1;
         Ok(())
@@ -81,19 +78,5 @@ impl<A: Allocator + Clone> Writer<A> {
         } = outside;
         self.presences = presences;
         self.additions = additions;
-    }
-
-    /// Writes zero bits.
-    pub(crate) fn put_zeros(&mut self, count: usize) -> Result<(), EncodeError>
-        requires { self.old.failed ≡ false }
-        ensures { Puts IsMemory (just (replicate count false)) self.old result self.new }
-    {
-        let mut left = count;
-        while left > 0 {
-            let width = left.min(128);
-            self.put_bits(0, width as u128)?;
-            left -= width;
-        }
-        Ok(())
     }
 }

@@ -105,7 +105,7 @@ impl<A: Allocator + Clone> Writer<A> {
         requires { self.old.failed ≡ false }
         ensures { PutsIn IsMemory (λ a. unconstrained_length a count) self.old result self.new }
     {
-        let pushed = push_unconstrained_length(&mut self.bits, self.codec, count);
+        let pushed = push_unconstrained_length(&mut self.pieces, self.codec, count);
         self.unless_out_of_memory(pushed)
     }
 
@@ -124,7 +124,7 @@ impl<A: Allocator + Clone> Writer<A> {
         ensures { PutsIn IsMemory (λ a. constrained_length a lower upper count on_octet) self.old result self.new }
     {
         let pushed = push_constrained_length(
-            &mut self.bits,
+            &mut self.pieces,
             self.codec,
             lower,
             upper,

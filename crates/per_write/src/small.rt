@@ -3,25 +3,25 @@
 ghost use Rattle.std.specs.Prelude.{OnOk};
 ghost use Rattle.rasn_types.specs.Codecs.{variant_of};
 ghost use Rattle.per_core.specs.Counts.{small};
-ghost use Rattle.per_write.specs.State.{Appends};
+ghost use Rattle.per_pieces.specs.Pieces.{Appends};
 
 use crate::numbers::push_above;
-use per_bits::BitList;
+use per_pieces::Pieces;
 use rasn_types::types::Codec;
 use std::alloc::{AllocError, Allocator};
 
 /// Writes a normally small number: below 64 as a bit 0 and six bits, else as a bit 1 and a number with the lower
 /// bound 0.
 pub(crate) fn push_small<A: Allocator>(
-    bits: &mut BitList<A>,
+    pieces: &mut Pieces<A>,
     codec: Codec,
     number: usize,
 ) -> Result<(), AllocError>
-    ensures { OnOk result (Appends bits.old (small (variant_of codec) number) bits.new) }
+    ensures { OnOk result (Appends pieces.old (small (variant_of codec) number) pieces.new) }
 {
     if number < 64 {
-        return bits.push_bits(number as u128, 7);
+        return pieces.push_bits(number as u128, 7);
     }
-    bits.push(true)?;
-    push_above(bits, codec, 0, None, number as i128)
+    pieces.push(true)?;
+    push_above(pieces, codec, 0, None, number as i128)
 }

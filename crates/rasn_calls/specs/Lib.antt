@@ -1,5 +1,6 @@
 pub mod Additions
 pub mod AdditionsRead
+pub mod BagsRead
 pub mod Boxes
 pub mod Calls
 pub mod Choices

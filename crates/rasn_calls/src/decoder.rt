@@ -6,16 +6,18 @@ ghost use Rattle.std.specs.Fn.{FnOnceReturnsAtMut};
 ghost use Rattle.std.specs.String.{string_bytes};
 ghost use Rattle.rasn_types.specs.Alphabets.{visible, ia5, printable, numeric, bmp};
 ghost use Rattle.rasn_types.specs.Contents.{utf8, other};
-ghost use Rattle.rasn_types.specs.Values.{truth, nothing, whole, octets, bits, characters};
+ghost use Rattle.rasn_types.specs.Values.{Side, truth, nothing, whole, octets, bits, characters};
 ghost use Rattle.rasn_schema.specs.Schemas.{Schema, listed};
 ghost use Rattle.rasn_schema.specs.Forms.{number_schema, octet_schema, bit_schema, character_schema};
 ghost use Rattle.rasn_schema.specs.Forms.{size_of, is_size_marked};
+ghost use Rattle.rasn_schema.specs.Choices.{choices_of};
 ghost use Rattle.rasn_schema.specs.Fields.{tag_of};
 ghost use Rattle.rasn_schema.specs.Records.{record_at, record_value};
 ghost use Rattle.rasn_calls.specs.AdditionsRead.{AdditionsWell, OpensAdditionToRead};
+ghost use Rattle.rasn_calls.specs.BagsRead.{BagsWell};
 ghost use Rattle.rasn_calls.specs.Optionals.{ReadsBit};
 ghost use Rattle.rasn_calls.specs.Calls.{DecoderRules, freely_read, Reads, DecodesWell};
-ghost use Rattle.rasn_calls.specs.Choices.{ChoicesWell, EndsChoice, OpensToChoose};
+ghost use Rattle.rasn_calls.specs.Choices.{ChoicesWell, OpensToChoose};
 ghost use Rattle.rasn_calls.specs.Reals.{ReadsNoReal};
 ghost use Rattle.rasn_calls.specs.Lists.{AmidRead, OpensListToRead, ReadsNext};
 ghost use Rattle.rasn_calls.specs.Scopes.{OpensToRead, ClosesRead, ReadsAround, ScopesWell};
@@ -50,6 +52,9 @@ pub trait Decoder: Sized {
     /// What waits outside while the open type of an addition is open.
     type Addition: Drop;
 
+    /// What waits outside while a choice is open.
+    type Alternative: Drop;
+
     // What is read, and what states and errors say.
     ghost rules: { DecoderRules Self.Error Self };
 
@@ -59,11 +64,14 @@ pub trait Decoder: Sized {
     // A scope ends: how it is inside, what waited outside, and how it is behind the scope.
     ghost closes: { Self → Self.Scope → Self → Type 0 };
 
-    // The index of a choice is read: what was before, what waits outside, and how it is behind the index.
-    ghost opens_choice: { Schema → ℕ → Self → Self.Scope → Self → Type 0 };
+    // A choice is opened to read the alternative at a place: what was before, what waits outside, and how it is there.
+    ghost opens_choice: { Schema → Side → ℕ → Self → Self.Alternative → Self → Type 0 };
 
     // A choice ends: how it is behind its alternative, what waited outside, and how it is behind the choice.
-    ghost closes_choice: { Self → Self.Scope → Self → Type 0 };
+    ghost closes_choice: { Self → Self.Alternative → Self → Type 0 };
+
+    // The fault that an error names stands at the end of an alternative's open type.
+    ghost unended_choice: { Self.Alternative → Self.Error → Self → Type 0 };
 
     // A list is open: its elements' schema and its size, what was before it, its elements read, what is left, and now.
     ghost amid: { AmidRead Self Self.List };
@@ -201,14 +209,17 @@ pub trait Decoder: Sized {
     fn close_sequence(&mut self, scope: Self::Scope) -> Result<(), Self::Error>
         ensures { ClosesRead rules unended closes scope self.old result self.new };
 
-    /// Reads the index of a CHOICE (X.691 23), which takes a level: the calls from here to `close_choice` read the
-    /// value of its alternative, which goes by the tag. At no level left it refuses.
-    fn open_choice<C: Choice>(&mut self) -> Result<(Tag, Self::Scope), Self::Error>
-        ensures { OpensToChoose rules opens_choice C.alternatives C.VARIANTS self.old result self.new };
+    /// Reads the index of a CHOICE (X.691 23), which takes a level, and opens the open type of an alternative behind the
+    /// extension marker (X.691 23.8): the calls from here to `close_choice` read the value of the alternative, which goes
+    /// by the tag. At no level left it refuses.
+    fn open_choice<C: Choice>(&mut self) -> Result<(Tag, Self::Alternative), Self::Error>
+        ensures { OpensToChoose rules opens_choice (choices_of C.alternatives C.EXTENDED_VARIANTS C.added) C.VARIANTS
+            C.EXTENDED_VARIANTS self.old result self.new };
 
-    /// Closes a CHOICE, and gives its level back.
-    fn close_choice(&mut self, scope: Self::Scope)
-        ensures { EndsChoice rules closes_choice scope self.old self.new };
+    /// Closes a CHOICE of which the alternative was read, and gives its level back. An open type with whole octets left
+    /// over is refused.
+    fn close_choice(&mut self, alternative: Self::Alternative) -> Result<(), Self::Error>
+        ensures { ClosesRead rules unended_choice closes_choice alternative self.old result self.new };
 
     /// Reads the presence bit of the next component of the open SEQUENCE that has one (X.691 19.2). Takes no memory.
     fn next_presence(&mut self) -> Result<bool, Self::Error>
@@ -350,5 +361,8 @@ pub trait Decoder: Sized {
     ghost additions: { AdditionsWell rules unended_addition opens_addition closes_addition };
 
     // What holds of each decoder's choices.
-    ghost choices: { ChoicesWell rules opens_choice closes_choice };
+    ghost choices: { ChoicesWell rules unended_choice opens_choice closes_choice };
+
+    // What holds of each decoder's bags.
+    ghost bags: { BagsWell rules };
 }

@@ -12,6 +12,7 @@ ghost use Rattle.rasn_schema.specs.Records.{record_at, record_value};
 ghost use Rattle.rasn_calls.specs.Additions.{ClosesAddition, ClosesGroup, OpensAddition, SkipsAddition};
 ghost use Rattle.rasn_calls.specs.Optionals.{GivesBit};
 ghost use Rattle.rasn_calls.specs.Calls.{EncoderRules, freely, Writes, Encodes, PresentsWell};
+ghost use Rattle.rasn_schema.specs.Choices.{choices_of};
 ghost use Rattle.rasn_schema.specs.Fields.{tag_of};
 ghost use Rattle.rasn_calls.specs.Choices.{ClosesChoice, OpensChoice, WritesChoice};
 ghost use Rattle.rasn_calls.specs.Lists.{Amid, OpensList, WritesNext, ClosesList};
@@ -42,6 +43,9 @@ pub trait Encoder: Sized {
     /// What waits outside while the open type of an addition is open.
     type Addition: Drop;
 
+    /// What waits outside while a choice is open.
+    type Alternative: Drop;
+
     /// What is left of an open list.
     type List: Drop;
 
@@ -55,7 +59,7 @@ pub trait Encoder: Sized {
     ghost opens_addition: { Self → Self.Addition → Self → Type 0 };
 
     // A choice is opened to write a schema: what was before, what waits outside, and how it is inside.
-    ghost opens_choice: { Schema → Self → Self.Scope → Self → Type 0 };
+    ghost opens_choice: { Schema → Self → Self.Alternative → Self → Type 0 };
 
     // A list is open: which one, what was before it, its elements still to be written, what is left of it, and now.
     ghost amid: { Amid Self Self.List };
@@ -206,18 +210,20 @@ pub trait Encoder: Sized {
         &mut self,
         tag: Tag,
         identifier: Identifier,
-    ) -> Result<Self::Scope, Self::Error>
-        ensures { OpensChoice rules opens_choice C.alternatives self.old result self.new };
+    ) -> Result<Self::Alternative, Self::Error>
+        ensures { OpensChoice rules opens_choice (choices_of C.alternatives C.EXTENDED_VARIANTS C.added)
+            self.old result self.new };
 
-    /// Closes a CHOICE in which the value of an alternative was written, by the tag that this goes by. A tag by which
-    /// none goes is refused.
+    /// Closes a CHOICE in which the value of an alternative was written, by the tag that this goes by: one of the root,
+    /// or one behind the extension marker, which stands in an open type (X.691 23.8). A tag by which none goes is
+    /// refused.
     fn close_choice<C: Choice>(
         &mut self,
-        scope: Self::Scope,
+        alternative: Self::Alternative,
         chosen: Tag,
     ) -> Result<(), Self::Error>
-        ensures { ClosesChoice rules opens_choice C.alternatives C.VARIANTS scope (tag_of chosen)
-            self.old result self.new };
+        ensures { ClosesChoice rules opens_choice (choices_of C.alternatives C.EXTENDED_VARIANTS C.added) C.VARIANTS
+            C.EXTENDED_VARIANTS alternative (tag_of chosen) self.old result self.new };
 
     /// Gives the presence bit of the next component of the open SEQUENCE that has one (X.691 19.2). Takes no memory.
     fn set_presence(&mut self, is_there: bool) -> Result<(), Self::Error>
@@ -367,8 +373,8 @@ pub trait Encoder: Sized {
         identifier: I,
     ) -> Result<(), Self::Error>
         requires { F.IsAlwaysCallable scope }
-        ensures { WritesChoice rules C.alternatives C.VARIANTS (FnOnceReturnsAtMut F.FnOnce scope)
-            self.old result self.new }
+        ensures { WritesChoice rules (choices_of C.alternatives C.EXTENDED_VARIANTS C.added) C.VARIANTS C.EXTENDED_VARIANTS
+            (FnOnceReturnsAtMut F.FnOnce scope) self.old result self.new }
     {
         let outside = self.open_choice::<C>(tag, identifier.into())?;
         match scope(self) {

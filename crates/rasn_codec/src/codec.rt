@@ -2,6 +2,7 @@
 
 ghost use Rattle.std.specs.Prelude.{◌≡◌, true};
 ghost use Rattle.rasn_calls.specs.Calls.{Encodes, Reads};
+ghost use Rattle.rasn_schema.specs.Choices.{choices_of};
 ghost use Rattle.rasn_schema.specs.Fields.{tag_of};
 ghost use Rattle.rasn_calls.specs.Choices.{TakesAlternative};
 
@@ -111,8 +112,8 @@ pub trait Decode: AsnType + Sized + Drop {
 /// A CHOICE that can be decoded.
 pub trait DecodeChoice: Choice + Sized + Drop {
     /// Reads the alternative that goes by a tag: its own, or the smallest of a nested untagged choice, which is read
-    /// whole. The tag is one of `VARIANTS`.
+    /// whole. The tag is one of `VARIANTS` or of `EXTENDED_VARIANTS`.
     fn from_tag<D: Decoder>(decoder: &mut D, tag: Tag) -> Result<Self, D::Error>
-        ensures { TakesAlternative D.rules Self.alternatives Self.VARIANTS (tag_of tag) Self.value
-            decoder.old result decoder.new };
+        ensures { TakesAlternative D.rules (choices_of Self.alternatives Self.EXTENDED_VARIANTS Self.added) Self.VARIANTS
+            Self.EXTENDED_VARIANTS (tag_of tag) Self.value decoder.old result decoder.new };
 }

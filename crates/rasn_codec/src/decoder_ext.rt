@@ -144,12 +144,12 @@ pub trait DecoderExt: Decoder {
         &mut self,
         _constraints: &Constraints,
     ) -> Result<C, Self::Error>
-        ensures { Reads Self.rules (choice_at C.alternatives (Self.rules.levels self.old)) C.value
-            self.old result self.new }
+        ensures { Reads Self.rules (choice_at C.alternatives C.EXTENDED_VARIANTS C.added (Self.rules.levels self.old))
+            C.value self.old result self.new }
     {
         let (tag, outside) = self.open_choice::<C>()?;
         let value = C::from_tag(self, tag)?;
-        self.close_choice(outside);
+        self.close_choice(outside)?;
         Ok(value)
     }
 

@@ -2,7 +2,7 @@
 
 ghost use Rattle.std.specs.Prelude.{suc, map};
 ghost use Rattle.std.specs.Fn.{FnOnceReturnsAt};
-ghost use Rattle.rasn_schema.specs.Choices.{place_of};
+ghost use Rattle.rasn_schema.specs.Choices.{choices_of};
 ghost use Rattle.rasn_schema.specs.Fields.{tag_of};
 ghost use Rattle.rasn_schema.specs.Forms.{size_of, is_size_marked};
 ghost use Rattle.rasn_calls.specs.Choices.{EncodesAlternative};
@@ -39,7 +39,7 @@ pub trait EncoderExt: Encoder {
     }
 
     /// Writes a CHOICE (X.691 23) by the value of the alternative that goes by the tag `chosen`: the type's own tag, or
-    /// the smallest of a nested untagged choice.
+    /// the smallest of a nested untagged choice. It stands in the root, or behind the extension marker.
     final fn encode_alternative<C: Choice, T: Encode>(
         &mut self,
         tag: Tag,
@@ -47,8 +47,9 @@ pub trait EncoderExt: Encoder {
         value: &T,
         identifier: Identifier,
     ) -> Result<(), Self::Error>
-        ensures { EncodesAlternative Self.rules C.alternatives (place_of (tag_of chosen) C.VARIANTS)
-            (T.schema T.CONSTRAINTS) (T.levels value.now) (T.value value.now) self.old result self.new }
+        ensures { EncodesAlternative Self.rules (choices_of C.alternatives C.EXTENDED_VARIANTS C.added) C.VARIANTS
+            C.EXTENDED_VARIANTS (tag_of chosen) (T.schema T.CONSTRAINTS) (T.levels value.now) (T.value value.now)
+            self.old result self.new }
     {
         let outside = self.open_choice::<C>(tag, identifier)?;
         value.encode_with_tag(self, chosen)?;

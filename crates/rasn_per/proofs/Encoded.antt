@@ -11,6 +11,7 @@ use Rattle.rasn_schema.specs.Normal.{normal}
 use Rattle.rasn_calls.specs.Calls.{AtDepths}
 use Rattle.per_core.specs.Writers.{join, just, ◌▹◌}
 use Rattle.per_core.specs.Canon.{canon, bytes, completed}
+use Rattle.per_pieces.specs.Pieces.{Pieces, no_pieces, settled}
 use Rattle.per_write.specs.State.{State, fresh, view, Presents}
 use Rattle.per_write.specs.Faults.{IsMemory, IsInValue, RefusesOutput, RefusesValue, Stands}
 use Rattle.per_write.specs.declared.error.EncodeError.{EncodeError}
@@ -22,11 +23,11 @@ join-nil : (o : Option Bits) → join [] o ≡ o
 join-nil None = refl
 join-nil (Some b) = refl
 
-presented : (x : State) (s : Schema) (v : Value) (y : State) (octets : List ℕ) → x.bits ≡ [] → Presents x s v y → completed (view y 0) ≡ Some octets → bytes (variant_of x.codec) s v ≡ Some octets
+presented : (x : State) (s : Schema) (v : Value) (y : State) (octets : List ℕ) → x.pieces ≡ no_pieces → Presents x s v y → completed (view y 0) ≡ Some octets → bytes (variant_of x.codec) s v ≡ Some octets
 unfolding bytes
 presented x s v y octets e h k =
-    let w : view y 0 ≡ (view x ▹ canon (variant_of x.codec) s v) 0 = h.written 0 refl in
-    let z : view y 0 ≡ join [] (canon (variant_of x.codec) s v 0) = w ∙ ap (λ (u : Bits). (just u ▹ canon (variant_of x.codec) s v) 0) e in
+    let w : view y 0 ≡ (view x ▹ canon (variant_of x.codec) s v) 0 = h.appended.written 0 (λ t. refl) in
+    let z : view y 0 ≡ join [] (canon (variant_of x.codec) s v 0) = w ∙ ap (λ (u : Pieces). (settled u.list ▹ canon (variant_of x.codec) s v) 0) e in
     ap completed (sym (z ∙ join-nil (canon (variant_of x.codec) s v 0))) ∙ k
 
 unfailed : true ≡ false → ⊥
@@ -42,7 +43,7 @@ pub written : {Z : Type 0} (a : Codec) (x : State) (schema : ℕ → Schema) (le
     → AtDepths schema levels (λ s. Presents x s (normal s v) y) → IfOk result (λ o. completed (view y 0) ≡ Some o.items) → IfErr result (λ e. RefusesOutput e y)
     → Encoded a schema levels v result
 written a x schema levels v y (Ok o) e h k r = record {
-  ok = record { at = λ n l. subst (λ z. bytes (variant_of z) (schema n) (normal (schema n) v) ≡ Some o.items) (ap (λ (u : State). u.codec) e) (presented x (schema n) (normal (schema n) v) y o.items (ap (λ (u : State). u.bits) e) (h.at n l) k) };
+  ok = record { at = λ n l. subst (λ z. bytes (variant_of z) (schema n) (normal (schema n) v) ≡ Some o.items) (ap (λ (u : State). u.codec) e) (presented x (schema n) (normal (schema n) v) y o.items (ap (λ (u : State). u.pieces) e) (h.at n l) k) };
   err = tt;
   kind = tt;
   variant = tt;

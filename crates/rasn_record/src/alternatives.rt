@@ -1,8 +1,8 @@
 //! One alternative of a CHOICE, as a list states it.
 
 ghost use Rattle.std.specs.Prelude.{◌≡◌, ◌≤◌, ℕ, Some};
-ghost use Rattle.rasn_schema.specs.Choices.{alternative_at, place_of};
-ghost use Rattle.rasn_schema.specs.Components.{chosen, parts_of};
+ghost use Rattle.rasn_schema.specs.Choices.{alternative_at, choices_of, place_of};
+ghost use Rattle.rasn_schema.specs.Components.{chosen, components_behind, parts_of};
 ghost use Rattle.rasn_schema.specs.Fields.{tag_of};
 ghost use Rattle.rasn_schema.specs.Records.{own_or};
 ghost use Rattle.rasn_calls.specs.Calls.{Reads};
@@ -15,8 +15,8 @@ use rasn_schema::alternatives::Alternatives;
 use rasn_schema::constraints::Constraint;
 use rasn_types::types::Tag;
 
-/// Writes the alternative at a place, which goes by a tag, and answers that. Its constraints are its type's own where
-/// none are given.
+/// Writes the alternative at a place before the extension marker, which goes by a tag, and answers that. Its constraints
+/// are its type's own where none are given.
 pub fn write<T: Alternatives, H: Encode, E: Encoder>(
     of: &T,
     place: usize,
@@ -30,8 +30,9 @@ pub fn write<T: Alternatives, H: Encode, E: Encoder>(
         ≡ Some (H.schema (own_or H.CONSTRAINTS (given constraints.now)) n) }
     requires value { T.chosen of.now ≡ chosen place (H.value value.now) }
     requires levels { H.levels value.now ≤ T.depth of.now }
-    ensures { WritesChosen E.rules (parts_of T.alternatives) T.ALTERNATIVES (T.chosen of.now) (T.depth of.now)
-        encoder.old result encoder.new }
+    ensures { WritesChosen E.rules
+        (choices_of (parts_of T.alternatives) T.ADDED_ALTERNATIVES (parts_of (components_behind T.added)))
+        T.ALTERNATIVES T.ADDED_ALTERNATIVES (T.chosen of.now) (T.depth of.now) encoder.old result encoder.new }
 {
     let _ = of;
     let _ = place;

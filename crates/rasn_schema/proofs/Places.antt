@@ -20,15 +20,15 @@ slice_get-map f [] i d h = absurd (omega arith)
 slice_get-map f (x ∷ xs) zero d h = refl
 slice_get-map f (x ∷ xs) (suc i) d h = slice_get-map f xs i d (omega arith)
 
-and_first : (x y : Bool) → (x && y) ≡ true → x ≡ true
+pub and_first : (x y : Bool) → (x && y) ≡ true → x ≡ true
 and_first true y e = refl
 and_first false y e = absurd cc
 
-and_second : (x y : Bool) → (x && y) ≡ true → y ≡ true
+pub and_second : (x y : Bool) → (x && y) ≡ true → y ≡ true
 and_second true y e = e
 and_second false y e = absurd cc
 
-not_false : (b : Bool) → not b ≡ true → b ≡ false
+pub not_false : (b : Bool) → not b ≡ true → b ≡ false
 not_false false e = refl
 not_false true e = absurd cc
 

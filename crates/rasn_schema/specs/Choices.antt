@@ -1,14 +1,17 @@
--- Choices (X.680 29): their alternatives, each by its place in the list before the extension marker, their schemas to a number of
--- levels, and their values.
-use Rattle.std.specs.Prelude.{ℕ, zero, suc, ◌≡◌, true, false, nat_le, List, [], ◌∷◌, length, map, Option, Some, None, refl}
+-- Choices (X.680 29): their alternatives, each by its list, before the extension marker or behind it, and its place there; and their
+-- schemas to a number of levels.
+use Rattle.std.specs.Prelude.{ℕ, zero, suc, ◌≡◌, Bool, true, false, nat_le, List, [], ◌∷◌, ◌++◌, length, map, Option, Some, None, refl}
 use Rattle.std.proofs.Common.{ap, ◌∙◌}
 use Rattle.std.specs.List.{position_from}
+use Rattle.rasn_types.specs.Values.{Side, root, added}
 use Rattle.rasn_schema.specs.Fields.{field_tag, tag_of, tree_of}
 use Rattle.rasn_schema.specs.Lawful.{are_distinct, same_tag}
-use Rattle.rasn_schema.specs.Levels.{LevelledParts, Levelled, no_level, to_choice, parts_levelled}
+use Rattle.rasn_schema.specs.Levels.{LevelledParts, Levelled, no_level, to_choice}
 use Rattle.rasn_schema.specs.Schemas
 use Rattle.rasn_schema.specs.Schemas.{Schema, Parts, no_parts, part}
 use Rattle.rasn_schema.specs.declared.choices.Variant.{Variant}
+use Rattle.rasn_schema.specs.declared.items.Place.{Place}
+use Rattle.rasn_schema.specs.declared.items.Place.TheVariants.{Root, Added}
 
 -- a variant: the tag that it goes by, its type's own or the smallest of a nested untagged choice; and its tags
 pub record VariantShape : Type 0 where
@@ -40,31 +43,68 @@ length-variants (part t p s ps) = ap suc (length-variants ps)
 pub variants_counted : {vs : List VariantShape} (ps : Parts) → vs ≡ variants_of ps → length vs ≡ length (tags_of ps)
 variants_counted ps e = ap length e ∙ length-variants ps
 
--- the place of the alternative that goes by a tag
+-- the variants behind an extension marker, where there is one
+abbrev pub variants_behind : Option (List VariantShape) → List VariantShape
+variants_behind None = []
+variants_behind (Some vs) = vs
+
+-- X.680 29.1: a choice has an extension marker exactly where it states a list of variants behind one (this project's profile)
+abbrev pub is_extensible : Option (List VariantShape) → Bool
+is_extensible None = false
+is_extensible (Some vs) = true
+
+-- the variants of one of the two lists
+abbrev pub variants_on : Side → List VariantShape → Option (List VariantShape) → List VariantShape
+variants_on root vs xs = vs
+variants_on added vs xs = variants_behind xs
+
+-- the place in a list of the alternative that goes by a tag
 abbrev pub place_of : Schemas.Tag → List VariantShape → Option ℕ
 place_of t vs = position_from (same_tag t) 0 (go_by vs)
 
--- the schema of the alternative at a place
+-- Where the alternative stands that goes by a tag, if one does. No other goes by it.
+abbrev pub StandsAt : Schemas.Tag → List VariantShape → Option (List VariantShape) → Option Place → Type 0
+StandsAt t vs xs None = (place_of t vs ≡ None) × (place_of t (variants_behind xs) ≡ None)
+StandsAt t vs xs (Some (Root i)) = (place_of t vs ≡ Some i) × (place_of t (variants_behind xs) ≡ None)
+StandsAt t vs xs (Some (Added i)) = (place_of t vs ≡ None) × (place_of t (variants_behind xs) ≡ Some i)
+
+-- the schema of the alternative at a place of a list
 abbrev pub alternative_at : Parts → ℕ → Option Schema
 alternative_at no_parts i = None
 alternative_at (part t p s ps) zero = Some s
 alternative_at (part t p s ps) (suc i) = alternative_at ps i
 
--- X.680 29: a choice of these alternatives, without an extension marker
-abbrev pub choice_of : Parts → Schema
-choice_of ps = Schema.choice ps no_parts false
+-- the schema of a choice's alternative at a place of one of its lists
+abbrev pub alternative_in : Schema → Side → ℕ → Option Schema
+alternative_in (Schema.choice ps qs marker) root i = alternative_at ps i
+alternative_in (Schema.choice ps qs marker) added i = alternative_at qs i
+alternative_in _ d i = None
 
--- X.680 29: a choice to a number of levels, of which it takes one; with none left it is cut off
-abbrev pub choice_at : (ℕ → Parts) → ℕ → Schema
-choice_at alternatives zero = Schemas.cut
-choice_at alternatives (suc n) = choice_of (alternatives n)
+-- X.680 29: a choice of the alternatives before an extension marker and those behind it
+abbrev pub choice_of : Parts → Bool → Parts → Schema
+choice_of ps marker qs = Schema.choice ps qs marker
 
--- X.680 29.3: alternatives that are told apart by their tags, and at most 65536 of them (this project's limit)
-pub record AreVariants (vs : List VariantShape) : Type 0 where
-  pub distinct : are_distinct (go_by vs) ≡ true
+-- a choice with these variants behind an extension marker, where there is one, to a number of levels of its alternatives
+abbrev pub choices_of : (ℕ → Parts) → Option (List VariantShape) → (ℕ → Parts) → ℕ → Schema
+choices_of alternatives xs behind n = choice_of (alternatives n) (is_extensible xs) (behind n)
+
+-- a family of trees one level further in; with no level left it is cut off
+abbrev pub one_level_in : (ℕ → Schema) → ℕ → Schema
+one_level_in trees zero = Schemas.cut
+one_level_in trees (suc n) = trees n
+
+-- X.680 29: a choice to a number of levels, of which it takes one
+abbrev pub choice_at : (ℕ → Parts) → Option (List VariantShape) → (ℕ → Parts) → ℕ → Schema
+choice_at alternatives xs behind = one_level_in (choices_of alternatives xs behind)
+
+-- X.680 29.3: alternatives that are told apart by their tags, those of both lists, and at most 65536 of them before the marker (this
+-- project's limit)
+pub record AreVariants (vs : List VariantShape) (xs : Option (List VariantShape)) : Type 0 where
+  pub distinct : are_distinct (go_by vs ++ go_by (variants_behind xs)) ≡ true
   pub few : nat_le (length vs) 65536 ≡ true
 
 -- a choice leaves one level less for its alternatives
-pub choice_levelled : {alternatives : ℕ → Parts} → LevelledParts alternatives → Levelled (choice_at alternatives)
-choice_levelled w zero = no_level tt
-choice_levelled w (suc n) = to_choice (w n) (parts_levelled n)
+pub choice_levelled : (xs : Option (List VariantShape)) {alternatives behind : ℕ → Parts} → LevelledParts alternatives → LevelledParts behind
+    → Levelled (choice_at alternatives xs behind)
+choice_levelled xs u w zero = no_level tt
+choice_levelled xs u w (suc n) = to_choice (u n) (w n)

@@ -4,7 +4,7 @@ use Rattle.std.specs.Prelude.{◌≡◌, ℕ, zero, suc, ℤ, pos, neg_ℤ, true
 use Rattle.std.proofs.Common.{ap}
 use Rattle.rasn_types.specs.Alphabets.{visible, ia5, printable, numeric, bmp}
 use Rattle.rasn_types.specs.Contents.{utf8}
-use Rattle.rasn_types.specs.Values.{Value, alternative, root}
+use Rattle.rasn_types.specs.Values.{Value, alternative, Side, root, added}
 use Rattle.rasn_constraints.specs.Bounds.{Bounds, between, unbounded}
 use Rattle.rasn_constraints.specs.Ranges.{no_constraints, within, signed_range, unsigned_range, i128_range}
 use Rattle.rasn_constraints.specs.declared.constraints.Bounded.TheVariants.{Range}
@@ -12,7 +12,7 @@ use Rattle.rasn_constraints.specs.declared.constraints.Constraints.{Constraints}
 use Rattle.rasn_constraints.specs.declared.constraints.Extensible.{Extensible}
 use Rattle.rasn_schema.specs.Schemas
 use Rattle.rasn_schema.specs.Schemas.{Schema, TagTree, TagTrees, leaf, one_of, no_trees, tree, Presence, Parts, no_parts, part, listed}
-use Rattle.rasn_schema.specs.Choices.{VariantShape, choice_at, choice_levelled, variants_of}
+use Rattle.rasn_schema.specs.Choices.{VariantShape, choice_at, choice_levelled, variants_behind, variants_of}
 use Rattle.rasn_schema.specs.Fields.{Shape, field_tag, presence_of, shapes_from}
 use Rattle.rasn_schema.specs.Forms.{number_schema, octet_schema, bit_schema, character_schema, size_of, is_size_marked, always}
 use Rattle.rasn_schema.specs.Levels.{TakesNone, Levelled, LevelledParts, simple_levelled, parts_levelled, part_levelled, record_levelled}
@@ -94,18 +94,49 @@ pub variants_described : (cs : List Component) (n : ℕ) → variants_in cs ≡ 
 variants_described [] n = refl
 variants_described (c ∷ cs) n = ap (λ vs. record { tag = field_tag c.tags; tree = Some c.tags } ∷ vs) (variants_described cs n)
 
--- X.680 29: the alternative that a choice's value is, by its place, and its own value
+-- the components behind an extension marker, where there is one
+abbrev pub components_behind : Option (List Component) → List Component
+components_behind None = []
+components_behind (Some cs) = cs
+
+-- the variants of alternatives behind an extension marker, where there is one
+abbrev pub added_variants : Option (List Component) → Option (List VariantShape)
+added_variants None = None
+added_variants (Some cs) = Some (variants_in cs)
+
+-- they are those of the alternatives at each number of levels
+pub added_described : (xs : Option (List Component)) (n : ℕ) → variants_behind (added_variants xs) ≡ variants_of (parts_of (components_behind xs) n)
+added_described None n = refl
+added_described (Some cs) n = variants_described cs n
+
+-- a choice of alternatives, and of those behind an extension marker, of which these are the variants, to a number of levels
+abbrev pub alternatives_of : List Component → List Component → Option (List VariantShape) → ℕ → Schema
+alternatives_of cs behind xs = choice_at (parts_of cs) xs (parts_of behind)
+
+-- a choice of alternatives, and of those behind an extension marker, where there is one, to a number of levels
+abbrev pub alternatives_at : List Component → Option (List Component) → ℕ → Schema
+alternatives_at cs xs = alternatives_of cs (components_behind xs) (added_variants xs)
+
+pub alternatives_levelled : (cs : List Component) (xs : Option (List Component)) → Levelled (alternatives_at cs xs)
+alternatives_levelled cs xs = choice_levelled (added_variants xs) (components_levelled cs) (components_levelled (components_behind xs))
+
+-- X.680 29: the alternative that a choice's value is, by its list and its place there, and its own value
 pub record Chosen : Type 0 where
+  pub side : Side
   pub place : ℕ
   pub value : Value
 
--- the alternative at a place
+-- the alternative at a place before the extension marker
 abbrev pub chosen : ℕ → Value → Chosen
-chosen i v = record { place = i; value = v }
+chosen i v = record { side = root; place = i; value = v }
+
+-- the alternative at a place behind the extension marker
+abbrev pub chosen_behind : ℕ → Value → Chosen
+chosen_behind i v = record { side = added; place = i; value = v }
 
 -- the value of a choice
 abbrev pub chosen_value : Chosen → Value
-chosen_value c = alternative root c.place c.value
+chosen_value c = alternative c.side c.place c.value
 
 some_is : {A : Type 0} (x y : A) → Some x ≡ Some y → x ≡ y
 some_is x y e = cc
@@ -321,8 +352,17 @@ abbrev pub choice : List Component → Component
 choice cs = record {
   tags = choice_tags cs;
   presence = Schemas.required;
-  schema = choice_at (parts_of cs);
-  levelled = choice_levelled (components_levelled cs);
+  schema = alternatives_at cs None;
+  levelled = alternatives_levelled cs None;
+}
+
+-- CHOICE with an extension marker, untagged; it goes by the tags of the alternatives before the marker
+abbrev pub extensible_choice : List Component → List Component → Component
+extensible_choice cs xs = record {
+  tags = choice_tags cs;
+  presence = Schemas.required;
+  schema = alternatives_at cs (Some xs);
+  levelled = alternatives_levelled cs (Some xs);
 }
 
 -- a component that may be absent (X.680 25.6)

@@ -1,11 +1,11 @@
 -- Which tags a type of a kind may have.
-use Rattle.std.specs.Prelude.{ℕ, zero, suc, ◌≡◌, Bool, true, false, ◌||◌, ◌==◌, List, [], ◌∷◌, refl}
+use Rattle.std.specs.Prelude.{ℕ, zero, suc, ◌≡◌, Bool, true, false, ◌||◌, ◌==◌, List, [], ◌∷◌, Option, refl}
 use Rattle.rasn_types.specs.Contents.{utf8, other, utc, generalized}
 use Rattle.rasn_types.specs.declared.types.Tag.{Tag}
 use Rattle.rasn_types.specs.declared.types.Class.{Class}
 use Rattle.rasn_types.specs.declared.types.Class.TheVariants.{Universal, Application, Context, Private}
 use Rattle.rasn_types.specs.declared.types.TheConstants.Tag.{EOC}
-use Rattle.rasn_schema.specs.Choices.{choice_at}
+use Rattle.rasn_schema.specs.Choices.{VariantShape, choice_at}
 use Rattle.rasn_schema.specs.Schemas
 use Rattle.rasn_schema.specs.Schemas.{Schema, Parts, Order, listed, by_tag}
 use Rattle.rasn_schema.specs.Records.{record_at}
@@ -63,6 +63,6 @@ sequence_tag root extensible additions zero = refl
 sequence_tag root extensible additions (suc n) = refl
 
 -- a CHOICE has no tag of its own
-pub choice_tag : (alternatives : ℕ → Parts) → IsTagOf EOC (choice_at alternatives)
-choice_tag alternatives zero = refl
-choice_tag alternatives (suc n) = refl
+pub choice_tag : (alternatives : ℕ → Parts) (xs : Option (List VariantShape)) (behind : ℕ → Parts) → IsTagOf EOC (choice_at alternatives xs behind)
+choice_tag alternatives xs behind zero = refl
+choice_tag alternatives xs behind (suc n) = refl

@@ -1,10 +1,12 @@
 //! CHOICE types that are stated by one list of their alternatives.
 
-ghost use Rattle.std.specs.Prelude.{◌≡◌, ℕ, suc, List, refl};
-ghost use Rattle.std.proofs.Common.{◌∙◌};
+ghost use Rattle.std.specs.Prelude.{◌≡◌, ℕ, suc, List, Option, None, refl};
+ghost use Rattle.std.proofs.Common.{◌∙◌, ap, sym};
 ghost use Rattle.rasn_types.specs.declared.types.TheConstants.Tag.{EOC};
-ghost use Rattle.rasn_schema.specs.Choices.{AreVariants, VariantShape, choice_at, choice_levelled};
-ghost use Rattle.rasn_schema.specs.Components.{Component, Chosen, chosen_value, parts_of, components_levelled, variants_in, variants_described};
+ghost use Rattle.rasn_schema.specs.Choices.{AreVariants, VariantShape, variants_behind};
+ghost use Rattle.rasn_schema.specs.Components.{Component, Chosen, chosen_value, parts_of, components_behind};
+ghost use Rattle.rasn_schema.specs.Components.{alternatives_at, alternatives_levelled, alternatives_of};
+ghost use Rattle.rasn_schema.specs.Components.{added_variants, added_described, variants_in, variants_described};
 ghost use Rattle.rasn_schema.specs.Tags.{choice_tag};
 
 use crate::choices::{Choice, Variants};
@@ -13,13 +15,22 @@ use rasn_types::types::Tag;
 
 /// The alternatives of a CHOICE (X.680 29).
 pub trait Alternatives {
-    /// The alternatives, in the order of their indexes (X.691 23.5).
+    /// The root alternatives, in the order of their indexes (X.691 23.5).
     const ALTERNATIVES: Variants;
 
     ghost ALTERNATIVES: { List VariantShape };
 
-    // The alternatives, each as a component.
+    /// The alternatives behind the extension marker, in the order of their indexes (X.691 23.8). The choice has a marker
+    /// exactly where this is `Some`.
+    const ADDED_ALTERNATIVES: Option<Variants>;
+
+    ghost ADDED_ALTERNATIVES: { Option (List VariantShape) };
+
+    // The root alternatives, each as a component.
     ghost alternatives: { List Component };
+
+    // The alternatives behind the extension marker, where there is one.
+    ghost added: { Option (List Component) } = { None };
 
     // The alternative that a value is.
     ghost chosen: { Self → Chosen };
@@ -27,11 +38,14 @@ pub trait Alternatives {
     // How many levels the alternative takes.
     ghost depth: { Self → ℕ } = { λ _. 0 };
 
-    // The variants are those of the alternatives.
+    // The variants are those of the root alternatives.
     ghost described: { ALTERNATIVES ≡ variants_in alternatives };
 
+    // And those behind the marker are those of the alternatives there.
+    ghost extends: { ADDED_ALTERNATIVES ≡ added_variants added };
+
     // No two alternatives go by one tag, and there aren't too many.
-    ghost are_variants: { AreVariants ALTERNATIVES };
+    ghost are_variants: { AreVariants ALTERNATIVES ADDED_ALTERNATIVES };
 }
 
 /// The kind of a CHOICE (X.680 29).
@@ -42,15 +56,15 @@ impl<T: Alternatives> Kind<T> for ChoiceKind {
 
     ghost TAG = { EOC };
 
-    ghost schema = { choice_at (parts_of T.alternatives) };
+    ghost schema = { alternatives_at T.alternatives T.added };
 
     ghost value = { λ x. chosen_value (T.chosen x) };
 
     ghost levels = { λ x. suc (T.depth x) };
 
-    ghost levelled = { choice_levelled (components_levelled T.alternatives) };
+    ghost levelled = { alternatives_levelled T.alternatives T.added };
 
-    ghost tag_fits = { choice_tag (parts_of T.alternatives) };
+    ghost tag_fits = { choice_tag (parts_of T.alternatives) (added_variants T.added) (parts_of (components_behind T.added)) };
 }
 
 impl<T: Alternatives + OfKind<Kind = ChoiceKind>> Choice for T {
@@ -58,11 +72,19 @@ impl<T: Alternatives + OfKind<Kind = ChoiceKind>> Choice for T {
 
     ghost VARIANTS = { T.ALTERNATIVES };
 
+    const EXTENDED_VARIANTS: Option<Variants> = T::ADDED_ALTERNATIVES;
+
+    ghost EXTENDED_VARIANTS = { T.ADDED_ALTERNATIVES };
+
     ghost alternatives = { parts_of T.alternatives };
+
+    ghost added = { parts_of (components_behind T.added) };
 
     ghost described = { λ n. T.described ∙ variants_described T.alternatives n };
 
+    ghost extends = { λ n. ap variants_behind T.extends ∙ added_described T.added n };
+
     ghost are_variants = { T.are_variants };
 
-    ghost is_choice = { λ _. refl };
+    ghost is_choice = { λ _. ap (alternatives_of T.alternatives (components_behind T.added)) (sym T.extends) };
 }

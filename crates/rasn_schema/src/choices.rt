@@ -2,12 +2,14 @@
 
 ghost use Rattle.std.specs.Prelude.{◌≡◌, ◌<◌, ℕ, Some, length, map, slice_get};
 ghost use Rattle.std.specs.List.{position_from};
-ghost use Rattle.rasn_schema.specs.Choices.{AreVariants, VariantShape, choice_at, go_by, place_of, variant_shape, variants_of};
+ghost use Rattle.rasn_schema.specs.Choices.{AreVariants, StandsAt, VariantShape, choice_at, go_by, place_of};
+ghost use Rattle.rasn_schema.specs.Choices.{variant_shape, variants_behind, variants_of};
 ghost use Rattle.rasn_schema.specs.Fields.{tag_of};
 ghost use Rattle.rasn_schema.specs.Lawful.{same_tag};
 ghost use Rattle.rasn_schema.specs.Schemas.{Parts};
 
 use crate::fields::TagTree;
+use crate::items::Place;
 use crate::schema::AsnType;
 use rasn_types::types::Tag;
 use std::marker::Model;
@@ -63,6 +65,19 @@ impl Variants {
     {
         index_in(self.list, tag)
     }
+
+    /// Where the alternative stands that goes by a tag: in this list, or in `added`, those behind the extension marker.
+    /// `None` where none goes by it.
+    pub fn place_of(&self, added: &Option<Variants>, tag: Tag) -> Option<Place>
+        requires { AreVariants self.now added.now }
+        ensures { StandsAt (tag_of tag) self.now added.now result }
+    {
+        if let Some(index) = self.index_of(tag) {
+            return Some(Place::Root(index));
+        }
+        let index = added.as_ref()?.index_of(tag)?;
+        Some(Place::Added(index))
+    }
 }
 
 /// The tag that the alternative at an index of a list goes by.
@@ -88,25 +103,38 @@ fn is_same_tag(tag: Tag, other: Tag) -> bool
     tag.class as u8 == other.class as u8 && tag.value == other.value
 }
 
-/// A CHOICE (X.680 29), by its root alternatives.
+/// A CHOICE (X.680 29), by its alternatives.
 pub trait Choice: AsnType {
-    ghost use Rattle.std.specs.Prelude.{List};
+    ghost use Rattle.std.specs.Prelude.{List, Option};
     ghost use Rattle.rasn_constraints.specs.declared.constraints.Constraints.{Constraints};
+    ghost use Rattle.rasn_schema.specs.Records.{no_additions};
 
     /// The root alternatives, in the order of their indexes (X.691 23.5).
     const VARIANTS: Variants;
 
     ghost VARIANTS: { List VariantShape };
 
+    /// The alternatives behind the extension marker, in the order of their indexes (X.691 23.5, 23.8). The choice has a
+    /// marker exactly where this is `Some`, of none or of more alternatives.
+    const EXTENDED_VARIANTS: Option<Variants>;
+
+    ghost EXTENDED_VARIANTS: { Option (List VariantShape) };
+
     // The root alternatives, to a number of levels.
     ghost alternatives: { ℕ → Parts };
 
-    // The variants are those of the alternatives.
+    // The alternatives behind the marker, to a number of levels.
+    ghost added: { ℕ → Parts } = { no_additions };
+
+    // The variants are those of the root alternatives.
     ghost described: { (n : ℕ) → VARIANTS ≡ variants_of (alternatives n) };
 
+    // And those behind the marker are those of the alternatives there.
+    ghost extends: { (n : ℕ) → variants_behind EXTENDED_VARIANTS ≡ variants_of (added n) };
+
     // No two alternatives go by one tag, and there aren't too many.
-    ghost are_variants: { AreVariants VARIANTS };
+    ghost are_variants: { AreVariants VARIANTS EXTENDED_VARIANTS };
 
     // The schema is the choice of the alternatives.
-    ghost is_choice: { (c : Constraints) → Self.schema c ≡ choice_at alternatives };
+    ghost is_choice: { (c : Constraints) → Self.schema c ≡ choice_at alternatives EXTENDED_VARIANTS added };
 }

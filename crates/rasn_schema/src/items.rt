@@ -20,7 +20,8 @@ pub struct ItemCounts {
     pub addeds: Option<usize>,
 }
 
-/// Where an item of an ENUMERATED stands: its list, and its place there, from 0 (X.691 14.1).
+/// Where an item of an ENUMERATED stands, or an alternative of a CHOICE: its list, and its place there, from 0 (X.691
+/// 14.1, 23.5).
 #[derive(Clone, Copy, Debug, PartialEq, Eq)]
 pub enum Place {
     /// Before the extension marker.

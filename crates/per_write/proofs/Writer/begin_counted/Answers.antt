@@ -1,8 +1,22 @@
 use Rattle.std.proofs.Common.{◌∙◌, true, false, refl, arith, rules}
 use Rattle.std.proofs.lemmas.Result.{IfOk-weaker}
 use Rattle.per_write.proofs.Counting.{allowed_is, stated_mark, stated_size}
-use Rattle.per_write.proofs.Elements.{begins_inside, begins_outside, refuses_count_of}
+use Rattle.per_write.proofs.Elements.{begins_bare, begins_inside, begins_outside, refuses_count_of}
 use Rattle.per_write.proofs.Writer.begin_counted.Goals as goal
+
+pub returns-in-true-false : goal.returns-in-true-false
+returns-in-true-false g c =
+    let lower = c.start_and_end-lower.result.0 in
+    let upper = c.start_and_end-lower.result.1 in
+    record {
+      ok = IfOk-weaker c.begin_sized-in-true-false.result _ _ (λ l. begins_bare _ (record { least = lower; most = upper }) _ c.args.self.now c.begin_sized-in-true-false.new.self c.args.count l
+          (stated_mark c.args.size c.new.result c.unwrap_or-stated.result c.new.ensures.extensible c.unwrap_or-stated.ensures ∙ c.in-true-false.is-1)
+          (stated_size c.args.size c.new.result c.unwrap_or-stated.result lower upper c.new.ensures.constraint c.unwrap_or-stated.ensures c.start_and_end-lower.ensures.start c.start_and_end-lower.ensures.end))
+          c.begin_sized-in-true-false.ensures.ok;
+      err = search rules;
+      fails = search rules;
+      kept = search rules;
+    }
 
 pub returns-in_ok-put_bit-in-true-true : goal.returns-in_ok-put_bit-in-true-true
 returns-in_ok-put_bit-in-true-true g c =

@@ -4,7 +4,11 @@ use Rattle.rasn_types.specs.Codecs.{variant_of}
 use Rattle.rasn_types.specs.Variants.{Variant}
 use Rattle.per_write.proofs.Fragments.{first_fragment}
 use Rattle.per_write.proofs.Counting.{fragment_written, last_written}
+use Rattle.per_write.proofs.Writing.{remains_all}
 use Rattle.per_write.proofs.Writer.put_unconstrained_items.Goals as goal
+
+pub loop-start-init : goal.loop-start-init
+loop-start-init g c = record { written = remains_all c.args.self.now _ c.requires; within = omega arith }
 
 pub loop-start-preserved : goal.loop-start-preserved
 loop-start-preserved g c =

@@ -4,7 +4,8 @@ use Rattle.per_write.proofs.choices.fill.Given as goal
 
 abbrev pub invariant-loop-left : goal.invariant-loop-left
 invariant-loop-left g l = record {
-  filled : AreFilled l.fn.place l.width l.number l.fn.bits l.left l.next l.bits;
+  filled : AreFilled l.fn.place l.width l.number l.fn.pieces.list l.left l.next l.pieces.list;
+  same : l.pieces.placed ≡ l.fn.pieces.placed;
   few : l.left ≤ l.width;
   there : l.next + l.left ≡ l.fn.place + l.width;
 }

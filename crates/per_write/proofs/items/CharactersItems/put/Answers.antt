@@ -6,6 +6,7 @@ use Rattle.rasn_types.specs.Variants.{unaligned}
 use Rattle.per_core.specs.Writers.{just}
 use Rattle.per_write.specs.State.{Wrote}
 use Rattle.per_write.proofs.Steps.{character_foreign, character_refused, length-char_writers, some_within, wrote_character}
+use Rattle.per_write.proofs.Writing.{remains_all}
 use Rattle.per_write.proofs.items.CharactersItems.put.Goals as goal
 
 pub unwrap-character-requires : goal.unwrap-character-requires
@@ -16,6 +17,9 @@ unwrap-character-requires g c =
     let counted = length-char_writers a.variant a.characters cs in
     let bound : c.loop-index.index < length cs = omega arith in
     some_within cs c.loop-index.index c.character.result c.character.ensures.value bound
+
+pub loop-index-init : goal.loop-index-init
+loop-index-init g c = remains_all c.args.writer.now _ c.requires.begun
 
 pub loop-index-preserved : goal.loop-index-preserved
 loop-index-preserved g c =

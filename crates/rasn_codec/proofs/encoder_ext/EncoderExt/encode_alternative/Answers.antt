@@ -1,42 +1,51 @@
-use Rattle.std.proofs.Common.{◌≡◌, refl, rules, ℕ, suc, Option, Some, None, Result}
-use Rattle.rasn_types.specs.Values.{Value, alternative, root}
-use Rattle.rasn_schema.specs.Choices.{alternative_at, choice_at, place_of}
+use Rattle.std.proofs.Common.{◌≡◌, refl, rules, ℕ, suc, List, Option, Some, None, Result}
+use Rattle.rasn_types.specs.Values.{Value, alternative, Side, root, added}
+use Rattle.rasn_schema.specs.Choices.{VariantShape, alternative_in, choices_of, one_level_in, place_of, variants_behind, variants_on}
 use Rattle.rasn_schema.specs.Fields.{tag_of}
-use Rattle.rasn_schema.specs.Schemas.{Schema, Parts}
+use Rattle.rasn_schema.specs.Schemas
+use Rattle.rasn_schema.specs.Schemas.{Schema}
 use Rattle.rasn_calls.specs.Calls.{EncoderRules, Encodes}
-use Rattle.rasn_calls.specs.Choices.{EncodesAlternative}
+use Rattle.rasn_calls.specs.Choices.{EncodesAlternative, EncodesAt}
 use Rattle.std.proofs.lemmas.Result.{err_from_is_err_and}
 use Rattle.rasn_calls.proofs.Alternatives.{choice_refused, choice_closed}
 use Rattle.rasn_codec.proofs.encoder_ext.EncoderExt.encode_alternative.Goals as goal
 
 -- what is owed where a tag has a place is shown for each place
-at_place : {E X : Type 0} (rules : EncoderRules E X) (alternatives : ℕ → Parts) (place : Option ℕ) (schema : ℕ → Schema) (depth : ℕ) (v : Value) (x : X) (r : Result (Unit {0}) E) (y : X)
-    → ((k : ℕ) → place ≡ Some k → ((n : ℕ) → alternative_at (alternatives n) k ≡ Some (schema n)) → Encodes rules (choice_at alternatives) (suc depth) (alternative root k v) x r y)
-    → EncodesAlternative rules alternatives place schema depth v x r y
-at_place rules alternatives None schema depth v x r y f = tt
-at_place rules alternatives (Some k) schema depth v x r y f = f k refl
+at_place : {E X : Type 0} (rules : EncoderRules E X) (choice : ℕ → Schema) (d : Side) (place : Option ℕ) (schema : ℕ → Schema) (depth : ℕ) (v : Value) (x : X) (r : Result (Unit {0}) E) (y : X)
+    → ((k : ℕ) → place ≡ Some k → ((n : ℕ) → alternative_in (choice n) d k ≡ Some (schema n)) → Encodes rules (one_level_in choice) (suc depth) (alternative d k v) x r y)
+    → EncodesAt rules choice d place schema depth v x r y
+at_place rules choice d None schema depth v x r y f = tt
+at_place rules choice d (Some k) schema depth v x r y f = f k refl
+
+both : {E X : Type 0} (rules : EncoderRules E X) (choice : ℕ → Schema) (vs : List VariantShape) (xs : Option (List VariantShape)) (tag : Schemas.Tag) (schema : ℕ → Schema) (depth : ℕ) (v : Value) (x : X) (r : Result (Unit {0}) E) (y : X)
+    → ((d : Side) (k : ℕ) → place_of tag (variants_on d vs xs) ≡ Some k → ((n : ℕ) → alternative_in (choice n) d k ≡ Some (schema n)) → Encodes rules (one_level_in choice) (suc depth) (alternative d k v) x r y)
+    → EncodesAlternative rules choice vs xs tag schema depth v x r y
+both rules choice vs xs tag schema depth v x r y f = record {
+  before = at_place rules choice root (place_of tag vs) schema depth v x r y (f root);
+  behind = at_place rules choice added (place_of tag (variants_behind xs)) schema depth v x r y (f added);
+}
 
 pub returns-in_err-outside : goal.returns-in_err-outside
-returns-in_err-outside g c = at_place g.Self.Encoder.rules g.C.Choice.alternatives (place_of (tag_of c.args.chosen) g.C.Choice.VARIANTS) (g.T.AsnType.schema g.T.AsnType.CONSTRAINTS) (g.T.AsnType.levels c.args.value.now) (g.T.AsnType.value c.args.value.now)
-    c.args.self.now _ _ (λ k place there. search rules)
+returns-in_err-outside g c = both g.Self.Encoder.rules (choices_of g.C.Choice.alternatives g.C.Choice.EXTENDED_VARIANTS g.C.Choice.added) g.C.Choice.VARIANTS g.C.Choice.EXTENDED_VARIANTS (tag_of c.args.chosen)
+    (g.T.AsnType.schema g.T.AsnType.CONSTRAINTS) (g.T.AsnType.levels c.args.value.now) (g.T.AsnType.value c.args.value.now) c.args.self.now _ _ (λ d k place there. search rules)
 
 pub returns-in_err-encode_with_tag : goal.returns-in_err-encode_with_tag
 returns-in_err-encode_with_tag g c =
     let p = err_from_is_err_and c.from_residual-in_err-encode_with_tag.result c.from_residual-in_err-encode_with_tag.ensures.1 in
     let o = c.in_ok-outside.ensures.law in
-    at_place g.Self.Encoder.rules g.C.Choice.alternatives (place_of (tag_of c.args.chosen) g.C.Choice.VARIANTS) (g.T.AsnType.schema g.T.AsnType.CONSTRAINTS) (g.T.AsnType.levels c.args.value.now) (g.T.AsnType.value c.args.value.now)
-    c.args.self.now _ _ (λ k place there. record {
-      law = rw (p.1, p.2) (choice_refused g.Self.Encoder.rules g.C.Choice.alternatives g.C.Choice.VARIANTS k _ _ _ c.open_choice.new.self c.encode_with_tag.new.encoder c.args.self.now _ (λ n. (o n).1)
-          (record { at = λ n le. (_, there n, c.in_err-encode_with_tag.ensures.law.at n le) }));
+    both g.Self.Encoder.rules (choices_of g.C.Choice.alternatives g.C.Choice.EXTENDED_VARIANTS g.C.Choice.added) g.C.Choice.VARIANTS g.C.Choice.EXTENDED_VARIANTS (tag_of c.args.chosen)
+    (g.T.AsnType.schema g.T.AsnType.CONSTRAINTS) (g.T.AsnType.levels c.args.value.now) (g.T.AsnType.value c.args.value.now) c.args.self.now _ _ (λ d k place there. record {
+      law = rw (p.1, p.2) (choice_refused g.Self.Encoder.rules (choices_of g.C.Choice.alternatives g.C.Choice.EXTENDED_VARIANTS g.C.Choice.added) (variants_on d g.C.Choice.VARIANTS g.C.Choice.EXTENDED_VARIANTS) d k _ _ _
+          c.open_choice.new.self c.encode_with_tag.new.encoder c.args.self.now _ (λ n. (o n).1) (record { at = λ n le. (_, there n, c.in_err-encode_with_tag.ensures.law.at n le) }));
       behaves = search rules;
     })
 
 pub returns : goal.returns
 returns g c =
     let o = c.in_ok-outside.ensures.law in
-    at_place g.Self.Encoder.rules g.C.Choice.alternatives (place_of (tag_of c.args.chosen) g.C.Choice.VARIANTS) (g.T.AsnType.schema g.T.AsnType.CONSTRAINTS) (g.T.AsnType.levels c.args.value.now) (g.T.AsnType.value c.args.value.now)
-    c.args.self.now _ _ (λ k place there. record {
-      law = choice_closed g.Self.Encoder.rules g.Self.Encoder.opens_choice g.C.Choice.alternatives g.C.Choice.VARIANTS k _ _
+    both g.Self.Encoder.rules (choices_of g.C.Choice.alternatives g.C.Choice.EXTENDED_VARIANTS g.C.Choice.added) g.C.Choice.VARIANTS g.C.Choice.EXTENDED_VARIANTS (tag_of c.args.chosen)
+    (g.T.AsnType.schema g.T.AsnType.CONSTRAINTS) (g.T.AsnType.levels c.args.value.now) (g.T.AsnType.value c.args.value.now) c.args.self.now _ _ (λ d k place there. record {
+      law = choice_closed g.Self.Encoder.rules g.Self.Encoder.opens_choice (choices_of g.C.Choice.alternatives g.C.Choice.EXTENDED_VARIANTS g.C.Choice.added) g.C.Choice.VARIANTS g.C.Choice.EXTENDED_VARIANTS d k _ _
           c.args.self.now c.open_choice.new.self c.encode_with_tag.new.encoder _ _ (λ n. (o n).0)
           (record { at = λ n le. (_, there n, (place, c.in_ok-encode_with_tag.ensures.law.at n le)) }) _ _ c.close_choice.ensures;
       behaves = search rules;

@@ -1,0 +1,66 @@
+//! The UNALIGNED variant.
+
+use per_samples_h::alt1::Alt1;
+use per_samples_h::alt2::Alt2;
+use rasn_per::uper::{DecodeErrorKind, decode, encode};
+use std::test::Fail;
+
+/// Values of the newer version, and their octets: an alternative behind the marker is an extension bit 1, an index as a
+/// normally small number and an open type (X.691 23.8), one of the root an extension bit 0 and no index (23.4).
+const ROWS: &[(Alt2, &[u8])] = &[
+    (Alt2::A(false), &[0x00]),
+    (Alt2::A(true), &[0x40]),
+    (Alt2::B(false), &[0x80, 0x01, 0x00]),
+    (Alt2::B(true), &[0x80, 0x01, 0x80]),
+];
+
+/// Octets that the newer version refuses, and why.
+const REFUSED: &[(&[u8], DecodeErrorKind)] = &[
+    // An index behind the only one there.
+    (&[0x81, 0x01, 0x80], DecodeErrorKind::ChoiceIndexNotFound(1)),
+    // A whole octet left over in the open type.
+    (
+        &[0x80, 0x02, 0x80, 0x00],
+        DecodeErrorKind::UnexpectedExtraData(1),
+    ),
+];
+
+#[test]
+fn writes_and_reads_each_alternative(rt: HostRuntime) -> Result<(), Fail> {
+    for (value, octets) in ROWS {
+        let written = encode(rt.alloc(), value)?;
+        assert_eq!(rt; written.as_slice(), *octets, "writing {value:?}");
+        let read: Alt2 = decode(rt.alloc(), octets)?;
+        assert_eq!(rt; read, *value, "reading {octets:?}");
+    }
+    Ok(())
+}
+
+#[test]
+fn the_older_version_has_the_same_root(rt: HostRuntime) -> Result<(), Fail> {
+    let written = encode(rt.alloc(), &Alt1::A(true))?;
+    assert_eq!(rt; written.as_slice(), [0x40].as_slice());
+    let read: Alt1 = decode(rt.alloc(), &[0x40])?;
+    assert_eq!(rt; read, Alt1::A(true));
+    let newer: Alt2 = decode(rt.alloc(), written.as_slice())?;
+    assert_eq!(rt; newer, Alt2::A(true));
+    Ok(())
+}
+
+#[test]
+fn the_older_version_refuses_what_it_does_not_know(rt: HostRuntime) {
+    match decode::<Alt1>(rt.alloc(), &[0x80, 0x01, 0x80]) {
+        Ok(value) => assert!(rt; false, "it is read as {value:?}"),
+        Err(error) => assert_eq!(rt; error.kind, DecodeErrorKind::ChoiceIndexNotFound(0)),
+    }
+}
+
+#[test]
+fn names_its_refusals(rt: HostRuntime) {
+    for (octets, kind) in REFUSED {
+        match decode::<Alt2>(rt.alloc(), octets) {
+            Ok(value) => assert!(rt; false, "{octets:?} are read as {value:?}"),
+            Err(error) => assert_eq!(rt; error.kind, *kind, "at {octets:?}"),
+        }
+    }
+}

@@ -1,0 +1,183 @@
+//! Where a decoder's bits come from, and which of them it means: places in a source, and presence bits there.
+
+ghost use Rattle.std.specs.Prelude.{◌≡◌, ◌≤◌, ◌+◌, ◌-◌, [], IsTrue};
+ghost use Rattle.rasn_types.specs.Bits.{Bits};
+ghost use Rattle.per_additions.specs.Additions.{NextFlag};
+ghost use Rattle.per_scopes.specs.State.{extension_of};
+ghost use Rattle.per_de.specs.Sources.{bits_of, extension_in, flags_in, span_of, IsWithin};
+
+use per_additions::bitmaps::{Bitmap, next_flag};
+use per_bits::BitReader;
+use rasn_types::bit_string::BitString;
+
+/// Where the bits come from that a decoder reads.
+#[derive(Drop)]
+pub(crate) enum Source<'input> {
+    /// The input's own.
+    Input(BitReader<'input>),
+    /// Octets that were gathered from fragments (X.691 11.9.3.8), which the decoder owns.
+    Gathered(Vec<u8>),
+}
+
+impl Source<'_> {
+    /// All its bits.
+    pub(crate) fn bits(&self) -> BitReader<'_>
+        ensures { result ≡ bits_of self.now }
+    {
+        let octets = match self {
+            Source::Input(bits) => return bits.clone().unwrap(),
+            Source::Gathered(octets) => octets,
+        };
+        BitReader::from_octets(octets.as_slice())
+    }
+}
+
+/// Bits of a source: those from a place on, in front of another.
+#[derive(Clone, Copy, Debug)]
+pub(crate) struct Span {
+    pub(crate) begin: u128,
+    pub(crate) end: u128,
+}
+
+impl Span {
+    /// How many bits it has in a source that is long enough.
+    pub(crate) fn len(self) -> u128
+        ensures { result ≡ self.end - self.begin }
+    {
+        self.end.saturating_sub(self.begin)
+    }
+
+    /// The bits behind the first `count` of them.
+    pub(crate) fn behind(self, count: u128) -> Span
+        requires { count ≤ self.end - self.begin }
+        ensures { result ≡ record self { begin = self.begin + count } }
+    {
+        Span {
+            begin: self.begin + count,
+            end: self.end,
+        }
+    }
+
+    /// None.
+    pub(crate) fn empty() -> Span
+        ensures { result ≡ record { begin = 0; end = 0 } }
+    {
+        Span { begin: 0, end: 0 }
+    }
+
+    /// Of those in front of the last `left` of them, the last `count`.
+    pub(crate) fn in_front(self, left: u128, count: u128) -> Span
+        requires { left + count ≤ self.end - self.begin }
+        ensures { result ≡ record { begin = self.end - left - count; end = self.end - left } }
+    {
+        let end = self.end - left;
+        Span {
+            begin: end - count,
+            end,
+        }
+    }
+
+    /// The same bits of a source, which has all of them.
+    pub(crate) fn within(self, source: &BitReader<'_>) -> Span
+        ensures same { span_of result source.now ≡ span_of self source.now }
+        ensures there { IsWithin result source.now }
+    {
+        let len = source.len();
+        let begin = self.begin.min(len);
+        Span {
+            begin,
+            end: self.end.min(len).max(begin),
+        }
+    }
+
+    /// The next of these bits of a source, which is then no longer one of them.
+    pub(crate) fn next_bit(&mut self, source: BitReader<'_>) -> Option<bool>
+        ensures { NextFlag (span_of self.old source.entry) result (span_of self.new source.entry) }
+    {
+        let bits = self.part_of(source);
+        if bits.is_empty() {
+            return None;
+        }
+        *self = self.behind(1);
+        Some(bits.first_bits(1) == 1)
+    }
+
+    /// These bits of a source, as far as they are there.
+    pub(crate) fn part_of<'source>(self, source: BitReader<'source>) -> BitReader<'source>
+        ensures { result ≡ span_of self source.entry }
+    {
+        let begin = self.begin.min(source.len());
+        let count = self.len().min(source.len() - begin);
+        source.part(begin, count)
+    }
+
+    /// These bits of a source, which has all of them.
+    pub(crate) fn all_of<'source>(self, source: BitReader<'source>) -> BitReader<'source>
+        requires { IsWithin self source }
+        ensures { result ≡ span_of self source.entry }
+    {
+        source.part(self.begin, self.end - self.begin)
+    }
+}
+
+/// Presence bits of additions that are still to be read (X.691 19.7), where they stand.
+#[derive(Drop)]
+pub(crate) enum Flags {
+    /// In the source.
+    InPlace(Span),
+    /// Those of a bitmap in fragments, one after another, and how many of them were read.
+    Gathered(BitString, usize),
+}
+
+impl Flags {
+    /// The next of them, where they stand in a source, which is then no longer one of them.
+    pub(crate) fn next(&mut self, source: BitReader<'_>) -> Option<bool>
+        ensures { NextFlag (flags_in source.entry self.old) result (flags_in source.entry self.new) }
+    {
+        match self {
+            Flags::InPlace(span) => span.next_bit(source),
+            Flags::Gathered(bits, read) => next_flag(bits, read),
+        }
+    }
+
+    /// Whether there is surely none of them, whichever the source.
+    pub(crate) fn are_none(&self) -> bool
+        ensures { IsTrue result → (source : Bits) → flags_in source self.now ≡ [] }
+    {
+        match self {
+            Flags::InPlace(span) => span.len() == 0,
+            Flags::Gathered(..) => false,
+        }
+    }
+
+    /// They in turn, where they stand in a source.
+    pub(crate) fn into_bitmap<'source>(self, source: BitReader<'source>) -> Bitmap<'source>
+        ensures { result ≡ flags_in source.entry self }
+    {
+        match self {
+            Flags::InPlace(span) => Bitmap::in_place(span.part_of(source)),
+            Flags::Gathered(bits, read) => Bitmap::gathered(bits, read),
+        }
+    }
+}
+
+/// What is still to be read of the bitmap of the open SEQUENCE's additions (X.691 19.7).
+#[derive(Drop)]
+pub(crate) enum Extension {
+    /// All of it: it stands behind the root components.
+    Ahead,
+    /// The presence bits that are left.
+    Shown(Flags),
+}
+
+impl Extension {
+    /// What an extension bit says of it (X.691 19.1).
+    pub(crate) fn of_bit(extends: bool) -> Self
+        ensures { (source : Bits) → extension_in source result ≡ extension_of extends }
+    {
+        if extends {
+            return Extension::Ahead;
+        }
+        Extension::Shown(Flags::InPlace(Span::empty()))
+    }
+}

@@ -1,0 +1,4 @@
+pub mod Marking
+pub mod Settling
+pub mod Writing
+pub mod Zeros

@@ -1,0 +1,80 @@
+-- What is written before its place is known: bits, with marks where padding may stand (ITU-T X.691, 11.1).
+use Rattle.std.specs.Prelude.{ℕ, zero, suc, ◌+◌, ◌≡◌, Bool, true, false, List, [], ◌∷◌, ◌++◌, length, map, replicate, Some}
+use Rattle.rasn_types.specs.Bits.{Bits}
+use Rattle.rasn_types.specs.Variants.{aligned}
+use Rattle.per_core.specs.Writers.{Writer, pad, ◌▹◌}
+
+-- a bit, or a mark where zero bits fill the octet that isn't full, once its place is known
+pub data Piece : Type 0 where
+  bit : Bool → Piece
+  to_octet : Piece
+
+-- pieces one behind another, and whether the first stands at position 0; else any position may be its place
+pub record Pieces : Type 0 where
+  pub list : List Piece
+  pub placed : Bool
+
+-- no pieces, at position 0
+abbrev pub no_pieces : Pieces
+no_pieces = record { list = []; placed = true }
+
+-- no pieces, whose place isn't known
+abbrev pub floating : Pieces
+floating = record { list = []; placed = false }
+
+-- bits without a mark among them
+abbrev pub plain : Bits → List Piece
+plain = map bit
+
+-- pieces and some bits behind them
+abbrev pub with_bits : Pieces → Bits → Pieces
+with_bits x bs = record { list = x.list ++ plain bs; placed = x.placed }
+
+-- the bits alone
+abbrev pub bits_of : List Piece → Bits
+bits_of [] = []
+bits_of (bit b ∷ ps) = b ∷ bits_of ps
+bits_of (to_octet ∷ ps) = bits_of ps
+
+-- how many bits there are
+abbrev pub bit_count : List Piece → ℕ
+bit_count ps = length (bits_of ps)
+
+-- another bit at a place among the bits
+abbrev pub set_bit : List Piece → ℕ → Bool → List Piece
+set_bit [] i b = []
+set_bit (to_octet ∷ ps) i b = to_octet ∷ set_bit ps i b
+set_bit (bit c ∷ ps) zero b = bit b ∷ ps
+set_bit (bit c ∷ ps) (suc i) b = bit c ∷ set_bit ps i b
+
+-- the same where they stand
+abbrev pub with_bit : Pieces → ℕ → Bool → Pieces
+with_bit x i b = record { list = set_bit x.list i b; placed = x.placed }
+
+-- X.691 11.1: the bits that pieces are from a position on, with their padding
+abbrev pub settle : List Piece → ℕ → Bits
+settle [] p = []
+settle (bit b ∷ ps) p = b ∷ settle ps (p + 1)
+settle (to_octet ∷ ps) p = replicate (pad aligned p) false ++ settle ps 0
+
+-- the same, as what is written
+abbrev pub settled : List Piece → Writer
+settled ps p = Some (settle ps p)
+
+-- the positions that the first piece may stand at
+abbrev pub MayBegin : Pieces → ℕ → Type 0
+MayBegin x p = x.placed ≡ true → p ≡ 0
+
+-- one thing more was written behind some pieces
+pub record Appends (x : Pieces) (more : Writer) (y : Pieces) : Type 0 where
+  pub behind : List Piece
+  pub list : y.list ≡ x.list ++ behind
+  pub place : y.placed ≡ x.placed
+  pub written : (p : ℕ) → MayBegin x p → settled y.list p ≡ (settled x.list ▹ more) p
+
+-- the first of what was to be written was written behind some pieces, and so much remains
+pub record Remains (x : Pieces) (all : Writer) (y : Pieces) (rest : Writer) : Type 0 where
+  pub behind : List Piece
+  pub list : y.list ≡ x.list ++ behind
+  pub place : y.placed ≡ x.placed
+  pub written : (p : ℕ) → MayBegin x p → (settled y.list ▹ rest) p ≡ (settled x.list ▹ all) p

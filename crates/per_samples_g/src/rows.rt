@@ -1,0 +1,24 @@
+//! What is written of some records with additions.
+
+ghost use Rattle.std.specs.Prelude.{true, false, [], ◌∷◌, Some, None};
+ghost use Rattle.rasn_types.specs.Variants.{unaligned};
+ghost use Rattle.per_samples_a.specs.Rows.{IsWrittenAs};
+
+use crate::grouped1::Grouped1;
+use crate::grouped2::Grouped2;
+use rasn_record::AsnType;
+
+/// A group that holds an addition of its own alone is written, one that holds nothing isn't (X.691 19.9).
+#[tactic(auto, unfolding(per_core::specs::Canon::bytes, rasn_schema::specs::Normal::normal))]
+pub fn groups_have_additions()
+    ensures newer { let own = ⟦<Grouped2 as AsnType>⟧ in
+        IsWrittenAs unaligned (own.schema own.CONSTRAINTS) own.levels own.value
+        (record { first = true; group = Some (record { x = None; y = Some true }) })
+        (0xc0 ∷ 0x41 ∷ 0x20 ∷ 0x10 ∷ 0x18 ∷ 0x00 ∷ 0x00 ∷ []) }
+    ensures empty { let own = ⟦<Grouped2 as AsnType>⟧ in
+        IsWrittenAs unaligned (own.schema own.CONSTRAINTS) own.levels own.value
+        (record { first = true; group = Some (record { x = None; y = None }) }) (0x40 ∷ []) }
+    ensures older { let own = ⟦<Grouped1 as AsnType>⟧ in
+        IsWrittenAs unaligned (own.schema own.CONSTRAINTS) own.levels own.value
+        (record { first = true; group = Some (record { x = None }) }) (0x40 ∷ []) }
+{}

@@ -1,0 +1,84 @@
+//! The type of bags (X.680 28).
+
+ghost use Rattle.std.specs.Prelude.{◌≡◌, ◌↔◌, [], IsTrue, suc, map, length};
+ghost use Rattle.rasn_types.specs.Values.{bag_of};
+ghost use Rattle.rasn_types.specs.declared.types.TheConstants.Tag.{SET};
+ghost use Rattle.rasn_constraints.specs.Ranges.{no_constraints};
+ghost use Rattle.rasn_schema.specs.Forms.{is_size_marked, size_of};
+ghost use Rattle.rasn_schema.specs.Lists.{deepest};
+ghost use Rattle.rasn_sets.specs.Bags.{set_at, set_levelled, set_tag};
+
+use rasn_schema::schema::{AsnType, Constraints};
+use rasn_types::types::Tag;
+use std::marker::Model;
+
+/// The members of a SET OF (X.680 28), in whatever order.
+#[derive(Drop)]
+pub struct SetOf<T> {
+    members: Vec<T>,
+}
+
+impl<T> Model for SetOf<T> {
+    ghost use Rattle.std.specs.Prelude.{List};
+
+    ghost Value = { List T };
+
+    ghost view = { λ a. a.members.items };
+}
+
+impl<T> SetOf<T> {
+    /// These members.
+    pub fn from_vec(members: Vec<T>) -> SetOf<T>
+        ensures { result ≡ members.items }
+    {
+        SetOf { members }
+    }
+
+    /// The members, in the order in which they are kept.
+    pub fn to_vec(self) -> Vec<T>
+        ensures { result.items ≡ self }
+    {
+        self.members
+    }
+
+    /// The members, in the order in which they are kept.
+    pub fn as_slice(&self) -> &[T]
+        ensures { result.now ≡ self.now }
+    {
+        self.members.as_slice()
+    }
+
+    /// How many members there are.
+    pub fn len(&self) -> usize
+        ensures { result ≡ length self.now }
+    {
+        self.members.len()
+    }
+
+    /// Whether there is no member.
+    pub fn is_empty(&self) -> bool
+        ensures { IsTrue result ↔ (self.now ≡ []) }
+    {
+        self.members.is_empty()
+    }
+}
+
+impl<T: AsnType> AsnType for SetOf<T> {
+    const TAG: Tag = Tag::SET;
+
+    ghost TAG = { SET };
+
+    const CONSTRAINTS: Constraints = Constraints::NONE;
+
+    ghost CONSTRAINTS = { no_constraints };
+
+    ghost schema = { λ c. set_at (T.schema T.CONSTRAINTS) (size_of c) (is_size_marked c) };
+
+    ghost value = { λ xs. bag_of (map T.value xs) };
+
+    ghost levels = { λ xs. suc (deepest T.levels xs) };
+
+    ghost levelled = { λ c. set_levelled (size_of c) (is_size_marked c) (T.levelled T.CONSTRAINTS) };
+
+    ghost tag_fits = { λ c. set_tag (T.schema T.CONSTRAINTS) (size_of c) (is_size_marked c) };
+}
