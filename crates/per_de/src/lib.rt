@@ -642,8 +642,8 @@ pub struct Addition<'input> {
     total: WholeOctets,
 }
 
-/// What waits outside while a CHOICE is open: the levels that may be entered there, and what waits outside the open type
-/// of an alternative behind the extension marker.
+/// What waits outside while a CHOICE is open: the levels that may be entered there, and what waits outside the open
+/// type of an alternative behind the extension marker.
 #[derive(Drop)]
 pub struct Alternative<'input> {
     scope: Scope,

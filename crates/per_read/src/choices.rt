@@ -11,8 +11,8 @@ use crate::error::DecodeErrorKind;
 use rasn_schema::items::Place;
 
 impl Reader<'_> {
-    /// Takes the index of a CHOICE, and answers the place of its alternative: `roots` stand before the extension marker,
-    /// and `addeds` behind it, where there is one. The extension bit tells the list (X.691 23.5).
+    /// Takes the index of a CHOICE, and answers the place of its alternative: `roots` stand before the extension
+    /// marker, and `addeds` behind it, where there is one. The extension bit tells the list (X.691 23.5).
     pub fn take_choice_index(
         &mut self,
         roots: usize,

@@ -149,7 +149,8 @@ impl<A: Allocator + Clone> Writer<A> {
         has_required: bool,
     ) -> Result<(), EncodeError>
         requires { self.old.failed ≡ false }
-        ensures { ClosesOpenType (is_group_there has_required (settle self.old.pieces.list 0)) outside self.old result self.new }
+        ensures { ClosesOpenType (is_group_there has_required (settle self.old.pieces.list 0)) outside
+            self.old result self.new }
     {
         if has_required || has_one(self.pieces.bits()) {
             return self.close_addition(outside);

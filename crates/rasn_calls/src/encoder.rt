@@ -373,8 +373,8 @@ pub trait Encoder: Sized {
         identifier: I,
     ) -> Result<(), Self::Error>
         requires { F.IsAlwaysCallable scope }
-        ensures { WritesChoice rules (choices_of C.alternatives C.EXTENDED_VARIANTS C.added) C.VARIANTS C.EXTENDED_VARIANTS
-            (FnOnceReturnsAtMut F.FnOnce scope) self.old result self.new }
+        ensures { WritesChoice rules (choices_of C.alternatives C.EXTENDED_VARIANTS C.added) C.VARIANTS
+            C.EXTENDED_VARIANTS (FnOnceReturnsAtMut F.FnOnce scope) self.old result self.new }
     {
         let outside = self.open_choice::<C>(tag, identifier.into())?;
         match scope(self) {

@@ -114,6 +114,6 @@ pub trait DecodeChoice: Choice + Sized + Drop {
     /// Reads the alternative that goes by a tag: its own, or the smallest of a nested untagged choice, which is read
     /// whole. The tag is one of `VARIANTS` or of `EXTENDED_VARIANTS`.
     fn from_tag<D: Decoder>(decoder: &mut D, tag: Tag) -> Result<Self, D::Error>
-        ensures { TakesAlternative D.rules (choices_of Self.alternatives Self.EXTENDED_VARIANTS Self.added) Self.VARIANTS
-            Self.EXTENDED_VARIANTS (tag_of tag) Self.value decoder.old result decoder.new };
+        ensures { TakesAlternative D.rules (choices_of Self.alternatives Self.EXTENDED_VARIANTS Self.added)
+            Self.VARIANTS Self.EXTENDED_VARIANTS (tag_of tag) Self.value decoder.old result decoder.new };
 }

@@ -15,8 +15,8 @@ use rasn_schema::alternatives::Alternatives;
 use rasn_schema::constraints::Constraint;
 use rasn_types::types::Tag;
 
-/// Writes the alternative at a place before the extension marker, which goes by a tag, and answers that. Its constraints
-/// are its type's own where none are given.
+/// Writes the alternative at a place before the extension marker, which goes by a tag, and answers that. Its
+/// constraints are its type's own where none are given.
 pub fn write<T: Alternatives, H: Encode, E: Encoder>(
     of: &T,
     place: usize,

@@ -20,8 +20,8 @@ pub trait Alternatives {
 
     ghost ALTERNATIVES: { List VariantShape };
 
-    /// The alternatives behind the extension marker, in the order of their indexes (X.691 23.8). The choice has a marker
-    /// exactly where this is `Some`.
+    /// The alternatives behind the extension marker, in the order of their indexes (X.691 23.8). The choice has a
+    /// marker exactly where this is `Some`.
     const ADDED_ALTERNATIVES: Option<Variants>;
 
     ghost ADDED_ALTERNATIVES: { Option (List VariantShape) };
@@ -64,7 +64,8 @@ impl<T: Alternatives> Kind<T> for ChoiceKind {
 
     ghost levelled = { alternatives_levelled T.alternatives T.added };
 
-    ghost tag_fits = { choice_tag (parts_of T.alternatives) (added_variants T.added) (parts_of (components_behind T.added)) };
+    ghost tag_fits = { choice_tag (parts_of T.alternatives) (added_variants T.added)
+        (parts_of (components_behind T.added)) };
 }
 
 impl<T: Alternatives + OfKind<Kind = ChoiceKind>> Choice for T {
