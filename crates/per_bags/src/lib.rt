@@ -1,4 +1,5 @@
-//! The order of the members of a SET OF (X.691 22).
+//! The members of a SET OF and their order (X.691 22).
 #![tactic(auto)]
 
 pub mod laws;
+pub mod members;

@@ -7,3 +7,4 @@ pub mod Opening
 pub mod StringCalls
 pub mod Spans
 pub mod Steps
+pub mod MomentCalls

@@ -30,6 +30,7 @@ ghost use Rattle.per_de.specs.Steps.{AsksNext, EndsContents, EntersOpen, IsRootR
 ghost use Rattle.per_de.specs.Steps.{ClosesContents, EntersAlternative, TakesIndex};
 ghost use Rattle.per_de.specs.Steps.{TakesBit, TakesBitmap, TakesExtensionBit, TakesFlags, TakesPresences};
 
+use jiff::civil::DateTime;
 use per_additions::bitmaps::{PresenceBits, skip_unknown, take_bitmap};
 use per_additions::open_types::{Contents, end_of_open, take_open};
 use per_bits::{BitList, BitReader};
@@ -833,6 +834,30 @@ impl<'input> decoder::Decoder for Decoder<'input> {
         let left = reader.bits().len();
         let octets = self.answer(taken, left)?;
         Ok(TeletexString::new(octets))
+    }
+
+    fn decode_object_identifier(&mut self, _tag: Tag) -> Result<Vec<u32>, DecodeError> {
+        self.check_unfailed()?;
+        let mut reader = self.reader();
+        let taken = reader.take_object_identifier();
+        let left = reader.bits().len();
+        self.answer(taken, left)
+    }
+
+    fn decode_utc_time(&mut self, _tag: Tag) -> Result<DateTime, DecodeError> {
+        self.check_unfailed()?;
+        let mut reader = self.reader();
+        let taken = reader.take_utc_time();
+        let left = reader.bits().len();
+        self.answer(taken, left)
+    }
+
+    fn decode_generalized_time(&mut self, _tag: Tag) -> Result<DateTime, DecodeError> {
+        self.check_unfailed()?;
+        let mut reader = self.reader();
+        let taken = reader.take_generalized_time();
+        let left = reader.bits().len();
+        self.answer(taken, left)
     }
 
     fn required_extension_not_present(&mut self, tag: Tag) -> DecodeError {

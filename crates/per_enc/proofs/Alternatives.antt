@@ -86,7 +86,7 @@ stands_in_alternative AlphabetConstraintNotSatisfied x m ps marker qs d k s v f 
 stands_in_alternative VariantNotInChoice x m ps marker qs d k s v f h t = absurd t
 stands_in_alternative RealNotSupported x m ps marker qs d k s v f h t = in_alternative h t
 stands_in_alternative TooManyAdditions x m ps marker qs d k s v f h t = absurd t
-stands_in_alternative Below x m ps marker qs d k s v f h t = absurd t
+stands_in_alternative Below x m ps marker qs d k s v f h t = in_alternative h t
 stands_in_alternative OutOfMemory x m ps marker qs d k s v f h t = absurd t
 stands_in_alternative OutOfTurn x m ps marker qs d k s v f h t = absurd t
 

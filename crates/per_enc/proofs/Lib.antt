@@ -1,4 +1,5 @@
 pub mod Alternatives
+pub mod Bags
 pub mod Chain
 pub mod Extending
 pub mod Given

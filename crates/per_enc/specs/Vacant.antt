@@ -9,7 +9,7 @@ use Rattle.rasn_schema.specs.Schemas.{Schema, Parts, no_parts, part, Presence, r
 use Rattle.per_core.specs.Canon.{shown}
 use Rattle.per_write.specs.declared.error.EncodeErrorKind.{EncodeErrorKind}
 use Rattle.per_write.specs.declared.error.EncodeErrorKind.TheVariants.{SizeConstraintNotSatisfied, ValueConstraintNotSatisfied, AlphabetConstraintNotSatisfied, IntegerTypeConversionFailed, VariantNotInChoice, RealNotSupported, TooManyAdditions, Below, AlreadyFailed, OutOfMemory, OutOfTurn}
-use Rattle.per_write.specs.Faults.{HasPart, part_here, part_behind, StandsIn, at_once, in_part, in_addition, in_element, in_alternative, IsForeign, IsOutOfBounds, IsOutOfSize, IsPastBounds, IsReal, Stands}
+use Rattle.per_write.specs.Faults.{HasPart, part_here, part_behind, StandsIn, at_once, in_part, in_addition, in_element, in_member, in_alternative, IsForeign, IsOutOfBounds, IsOutOfSize, IsPastBounds, IsReal, IsUnlawful, Stands}
 use Rattle.per_write.specs.State.{State}
 
 -- a part that is written isn't idle
@@ -48,6 +48,7 @@ none_stands fault f s v g i (in_addition {ps = ps} {qs = qs} {xs = xs} rs h k) =
     let e : (are_idle ps rs && are_idle qs xs) ≡ true = (rw (slots-as_slots rs, slots-as_slots xs) at i) in
     absurd (let t : false ≡ true = sym (and_nothing (are_idle ps rs)) ∙ ap (λ (c : Bool). are_idle ps rs && c) (sym b) ∙ e in cc)
 none_stands fault f s v g i (in_element h k) = absurd cc
+none_stands fault f s v g i (in_member h k) = absurd cc
 none_stands fault f s v g i (in_alternative h k) = absurd cc
 
 no_size : (n : ℕ) (l u : Option ℕ) (s : Schema) (v : Value) → is_group_schema s ≡ true → IsOutOfSize n l u s v → ⊥
@@ -75,6 +76,11 @@ no_real (Schema.sequence o ps m qs) v g h = h
 no_real Schema.cut v g h = h
 no_real _ v g h = absurd cc
 
+no_unlawful : (s : Schema) (v : Value) → is_group_schema s ≡ true → IsUnlawful s v → ⊥
+no_unlawful (Schema.sequence o ps m qs) v g h = h
+no_unlawful Schema.cut v g h = h
+no_unlawful _ v g h = absurd cc
+
 pub none_in_vacant : (kind : EncodeErrorKind) (x : State) (s : Schema) (v : Value) → x.failed ≡ false → is_group_schema s ≡ true → is_vacant s v ≡ true → Stands kind x s v → ⊥
 none_in_vacant (SizeConstraintNotSatisfied n l u) x s v f g i h = none_stands (IsOutOfSize n l u) (no_size n l u) s v g i h
 none_in_vacant (ValueConstraintNotSatisfied n l u) x s v f g i h = none_stands (IsOutOfBounds n l u) (no_bounds n l u) s v g i h
@@ -83,7 +89,7 @@ none_in_vacant IntegerTypeConversionFailed x s v f g i h = none_stands IsPastBou
 none_in_vacant VariantNotInChoice x s v f g i h = h
 none_in_vacant RealNotSupported x s v f g i h = none_stands IsReal no_real s v g i h
 none_in_vacant TooManyAdditions x s v f g i h = h
-none_in_vacant Below x s v f g i h = h
+none_in_vacant Below x s v f g i h = none_stands IsUnlawful no_unlawful s v g i h
 none_in_vacant AlreadyFailed x s v f g i h = absurd cc
 none_in_vacant OutOfMemory x s v f g i h = h
 none_in_vacant OutOfTurn x s v f g i h = h

@@ -11,7 +11,9 @@ ghost use Rattle.per_write.specs.Faults.{RefusesOutput};
 ghost use Rattle.per_write.specs.Rules.{encoder_rules};
 ghost use Rattle.per_write.specs.State.{fresh, view};
 
+use jiff::civil::DateTime;
 use per_bits::BitList;
+use per_members::OpenBag;
 pub use per_write::error;
 pub use per_write::error::{EncodeError, EncodeErrorKind};
 use per_write::lists::OpenList;
@@ -139,6 +141,7 @@ impl<A: Allocator + Clone> encoder::Encoder for Encoder<A> {
     ghost use Rattle.per_enc.specs.Laws.{presents_well};
     ghost use Rattle.per_enc.specs.Choices.{OpensChoice};
     ghost use Rattle.per_enc.specs.Opens.{Opens};
+    ghost use Rattle.per_members.specs.Bags.{AmidBag};
     ghost use Rattle.per_write.specs.Additions.{Opens as OpensOpenType};
     ghost use Rattle.per_write.specs.Lists.{AmidList};
 
@@ -152,6 +155,8 @@ impl<A: Allocator + Clone> encoder::Encoder for Encoder<A> {
 
     type List = OpenList;
 
+    type Bag = OpenBag<A>;
+
     ghost rules = { encoder_rules };
 
     ghost opens = { Opens };
@@ -161,6 +166,8 @@ impl<A: Allocator + Clone> encoder::Encoder for Encoder<A> {
     ghost opens_choice = { OpensChoice };
 
     ghost amid = { AmidList };
+
+    ghost amid_bag = { AmidBag };
 
     fn codec(&self) -> Codec {
         Encoder::codec(self)
@@ -301,6 +308,36 @@ impl<A: Allocator + Clone> encoder::Encoder for Encoder<A> {
         self.writer.put_octets(value.as_bytes())
     }
 
+    fn encode_object_identifier(
+        &mut self,
+        _tag: Tag,
+        value: &[u32],
+        _identifier: Identifier,
+    ) -> Result<(), EncodeError> {
+        self.writer.check_unfailed()?;
+        self.writer.put_object_identifier(value)
+    }
+
+    fn encode_utc_time(
+        &mut self,
+        _tag: Tag,
+        value: &DateTime,
+        _identifier: Identifier,
+    ) -> Result<(), EncodeError> {
+        self.writer.check_unfailed()?;
+        self.writer.put_utc_time(value)
+    }
+
+    fn encode_generalized_time(
+        &mut self,
+        _tag: Tag,
+        value: &DateTime,
+        _identifier: Identifier,
+    ) -> Result<(), EncodeError> {
+        self.writer.check_unfailed()?;
+        self.writer.put_generalized_time(value)
+    }
+
     fn open_sequence<C: Constructed>(
         &mut self,
         _tag: Tag,
@@ -386,6 +423,27 @@ impl<A: Allocator + Clone> encoder::Encoder for Encoder<A> {
     fn close_list(&mut self, list: OpenList) -> Result<(), EncodeError> {
         self.writer.check_unfailed()?;
         self.writer.close_list(list)
+    }
+
+    fn open_set_of(
+        &mut self,
+        _tag: Tag,
+        constraints: &Constraints,
+        count: usize,
+        _identifier: Identifier,
+    ) -> Result<OpenBag<A>, EncodeError> {
+        self.writer.check_unfailed()?;
+        OpenBag::open(&mut self.writer, constraints, count)
+    }
+
+    fn next_member(&mut self, bag: &mut OpenBag<A>) -> Result<(), EncodeError> {
+        self.writer.check_unfailed()?;
+        bag.next_member(&mut self.writer)
+    }
+
+    fn close_set_of(&mut self, bag: OpenBag<A>) -> Result<(), EncodeError> {
+        self.writer.check_unfailed()?;
+        bag.close(&mut self.writer)
     }
 
     fn fail(&mut self) {

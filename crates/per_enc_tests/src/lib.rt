@@ -13,6 +13,8 @@ mod lengths;
 #[cfg(test)]
 mod lists;
 #[cfg(test)]
+mod moments;
+#[cfg(test)]
 mod pieces;
 #[cfg(test)]
 mod values;

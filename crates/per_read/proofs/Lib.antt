@@ -24,3 +24,4 @@ pub mod Coded
 pub mod CharacterCodes
 pub mod Texts
 pub mod Padding
+pub mod Moments

@@ -5,6 +5,7 @@ pub mod Items
 pub mod Kinds
 pub mod Lengths
 pub mod Lists
+pub mod Moments
 pub mod Names
 pub mod Numbers
 pub mod Sizes

@@ -10,6 +10,7 @@ ghost use Rattle.per_read.specs.Takes.{Row, Takes, short, stopped, itself};
 mod choices;
 mod enumerated;
 pub mod error;
+mod identifiers;
 mod in_place;
 mod integers;
 mod items;
@@ -19,6 +20,7 @@ mod numbers;
 mod sizes;
 mod small;
 mod strings;
+mod times;
 
 use error::DecodeErrorKind;
 use per_bits::BitReader;

@@ -16,6 +16,7 @@ use Rattle.per_core.specs.Took.{Took}
 use Rattle.per_read.specs.Choices.{IsOfIndex, index_form}
 use Rattle.per_read.specs.Enumerations.{IsOfItem}
 use Rattle.per_read.specs.Kinds.{IsShort, IsTested, NoneIn}
+use Rattle.per_read.specs.Moments.{IsOfIdentifier, IsOfTime}
 use Rattle.per_read.specs.Numbers.{IsOfNumber}
 use Rattle.per_read.specs.Sizes.{IsOfItems, IsOfSize}
 use Rattle.per_read.specs.Strings.{IsOfString, IsOfText}
@@ -51,6 +52,8 @@ IsAt a (Schema.octet_string size mark) s k = IsOfItems a size mark Octet s k
 IsAt a (Schema.bit_string size mark) s k = IsOfItems a size mark Bit s k
 IsAt a (Schema.char_string alphabet size mark) s k = IsOfString a alphabet size mark s k
 IsAt a (Schema.text kind) s k = IsOfText a kind s k
+IsAt a Schema.identifier s k = IsOfIdentifier a s k
+IsAt a (Schema.time kind) s k = IsOfTime a kind s k
 IsAt a Schema.real s k = IsOfReal k
 IsAt a (Schema.list e size mark) s k = IsOfSize a size mark list_items (basic a e) s k
 IsAt a (Schema.set_of e size mark) s k = IsOfSize a size mark list_items (basic a e) s k

@@ -2,6 +2,7 @@
 use Rattle.std.specs.Prelude.{Result, Ok, Err}
 use Rattle.std.specs.Option.{unwrap_or}
 use Rattle.std.proofs.Common.{◌≡◌, ◌⊎◌, refl, sym, ap, ap₂, ◌∙◌, subst, ℕ, zero, suc, ◌-◌, ◌%◌, ◌<◌, ◌≤◌, Bool, true, false, List, [], ◌∷◌, ◌++◌, map, length, take, drop, length-take, length-drop, replicate, append_assoc, ◌^◌, arith, Option, Some, None, inl, inr}
+use Rattle.std.proofs.lemmas.List.{length-replicate}
 use Rattle.rasn_types.specs.Bits.{Bits}
 use Rattle.rasn_types.specs.Codecs.{variant_of}
 use Rattle.rasn_types.specs.Values.{Value}
@@ -15,7 +16,7 @@ use Rattle.rasn_calls.specs.Calls.{Written}
 use Rattle.rasn_calls.specs.Lists.{AwaitsElement, ListForm, ListOpened, schema_of}
 use Rattle.per_core.specs.Canon.{canon}
 use Rattle.per_core.specs.Counts.{counted, counted_in, determinant, fragment_sizes, in_fragments, list_items, marked_form}
-use Rattle.per_core.specs.Writers.{Writer, after, go_on, join, just, ◌▹◌, one_by_one, pad, padding}
+use Rattle.per_core.specs.Writers.{Writer, after, go_on, join, just, ◌▹◌, one_by_one, pad, padding, refused}
 use Rattle.per_write.specs.declared.error.EncodeError.{EncodeError}
 use Rattle.per_write.specs.declared.error.EncodeErrorKind.{EncodeErrorKind}
 use Rattle.per_write.specs.declared.error.EncodeErrorKind.TheVariants.{SizeConstraintNotSatisfied, ValueConstraintNotSatisfied, AlphabetConstraintNotSatisfied, IntegerTypeConversionFailed, VariantNotInChoice, RealNotSupported, TooManyAdditions, Below, AlreadyFailed, OutOfMemory, OutOfTurn}
@@ -183,7 +184,7 @@ list_form : (a : Variant) (e : Schema) (size : Size) (mark : Bool) (vs : List Va
 unfolding canon
 list_form a e size mark vs p = ap (λ ws. counted a size mark list_items (map (canon a e) ws) p) (sym (values-as_values vs))
 
-length-forms : (f : Value → Writer) (vs : List Value) → length (map f vs) ≡ length vs
+pub length-forms : (f : Value → Writer) (vs : List Value) → length (map f vs) ≡ length vs
 length-forms f [] = refl
 length-forms f (v ∷ vs) = ap suc (length-forms f vs)
 
@@ -218,11 +219,11 @@ count_refused size mark x d e vs count lower upper k m o h =
     }
 
 -- an element that is refused
-refused_in : (f : Value → Writer) (front : List Value) (v : Value) (vs : List Value) → ((p : ℕ) → f v p ≡ None) → HasRefused (map f (front ++ v ∷ vs))
+pub refused_in : (f : Value → Writer) (front : List Value) (v : Value) (vs : List Value) → ((p : ℕ) → f v p ≡ None) → HasRefused (map f (front ++ v ∷ vs))
 refused_in f [] v vs h = refused_here h
 refused_in f (w ∷ front) v vs h = refused_behind (refused_in f front v vs h)
 
-element_in : (front : List Value) (v : Value) (vs : List Value) → HasElement v (front ++ v ∷ vs)
+pub element_in : (front : List Value) (v : Value) (vs : List Value) → HasElement v (front ++ v ∷ vs)
 element_in [] v vs = element_here
 element_in (w ∷ front) v vs = element_behind (element_in front v vs)
 
@@ -236,7 +237,7 @@ stands_in_element AlphabetConstraintNotSatisfied x y e size mark v vs f h k = in
 stands_in_element VariantNotInChoice x y e size mark v vs f h k = absurd k
 stands_in_element RealNotSupported x y e size mark v vs f h k = in_element h k
 stands_in_element TooManyAdditions x y e size mark v vs f h k = absurd k
-stands_in_element Below x y e size mark v vs f h k = absurd k
+stands_in_element Below x y e size mark v vs f h k = in_element h k
 stands_in_element OutOfMemory x y e size mark v vs f h k = absurd k
 stands_in_element OutOfTurn x y e size mark v vs f h k = absurd k
 
@@ -335,6 +336,10 @@ pub fragment_begun_at : (f : ListForm) (x y z : State) (v : Value) (vs : List Va
     Begins (λ a ws. in_fragments a (fragment_sizes n) ws) n y m z → AmidList f x (v ∷ vs) l y → AmidList f x (v ∷ vs) m z
 fragment_begun_at f x y z v vs l m n e d k h =
     fragment_begun f x y z (v ∷ vs) l m e (omega arith) h (subst (λ (i : ℕ). Begins (λ a ws. in_fragments a (fragment_sizes i) ws) i y m z) (d ∙ unwrapped_behind l.behind) k)
+
+-- what stands in front of items was written, and nothing refused
+pub begins_left : {form : Variant → List Writer → Writer} (x y : State) (count : ℕ) (l : OpenList) → Begins form count x l y → y.failed ≡ false
+begins_left x y count l h = (h.remains (replicate count refused) (length-replicate count refused)).left
 
 -- nor is one left in a fragment that begins where none is left
 pub none_begun : {form : Variant → List Writer → Writer} (y z : State) (l m : OpenList) (n : ℕ) → n ≡ unwrap_or l.behind 0 → Begins form n y m z → count_left l ≡ 0 → count_left m ≡ 0

@@ -8,6 +8,7 @@ pub mod Filling
 pub mod Fragments
 pub mod Gathering
 pub mod Indexes
+pub mod Moments
 pub mod OpenTypes
 pub mod Placing
 pub mod Records

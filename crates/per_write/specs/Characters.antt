@@ -1,6 +1,8 @@
 -- Characters that a length counts, in an alphabet that may permit some of those of their type (ITU-T X.691, 30.5).
 use Rattle.std.specs.Prelude.{ℕ, ◌≡◌, List}
-use Rattle.rasn_types.specs.Alphabets.{Alphabet, char_width}
+use Rattle.rasn_types.specs.Alphabets.{Alphabet, char_width, visible}
+use Rattle.rasn_types.specs.Codecs.{variant_of}
+use Rattle.rasn_types.specs.declared.types.Codec.{Codec}
 use Rattle.per_core.specs.Canon.{char_writers}
 use Rattle.per_core.specs.Counts.{char_items}
 use Rattle.per_write.specs.declared.error.EncodeErrorKind.TheVariants.{AlphabetConstraintNotSatisfied}
@@ -14,3 +16,7 @@ counted_characters alphabet cs = record {
   writers = λ a. char_writers alphabet.variant alphabet.characters cs;
   fault = λ k. (k ≡ AlphabetConstraintNotSatisfied) × HasForeign alphabet.characters cs;
 }
+
+-- X.680 46.3, 47.3: the characters of a time's text, which is a VisibleString
+abbrev pub text_characters : Codec → List ℕ → CountedItems
+text_characters codec cs = counted_characters (record { variant = variant_of codec; characters = visible }) cs

@@ -1,8 +1,9 @@
 -- What the errors of an encoder say.
 use Rattle.std.specs.Prelude.{ℕ, ◌≡◌, ◌<◌, ◌⊎◌, Bool, true, false, ◌||◌, List, ◌∷◌, length, get_or, Option, Some, None, is_some, MatchOption, ℤ}
-use Rattle.rasn_types.specs.Alphabets.{index_of}
+use Rattle.rasn_types.specs.Alphabets.{index_of, visible}
 use Rattle.rasn_types.specs.Codecs.{variant_of}
-use Rattle.rasn_types.specs.Values.{Value, whole, octets, bits, characters, elements, values, alternative, Side}
+use Rattle.rasn_types.specs.Contents.{is_identifier, is_time}
+use Rattle.rasn_types.specs.Values.{Value, whole, octets, bits, characters, elements, bag, bag_of, values, alternative, Side}
 use Rattle.rasn_constraints.specs.Bounds.{allows, holds, fits_i128, Bounds, Size}
 use Rattle.rasn_schema.specs.Choices.{alternative_in, choice_of}
 use Rattle.rasn_schema.specs.Lists.{list_value}
@@ -62,12 +63,14 @@ abbrev pub IsPastBounds : Schema → Value → Type 0
 IsPastBounds (Schema.number bounds mark range) (whole z) = IsPast bounds z
 IsPastBounds _ _ = ⊥
 
--- X.691 16, 17, 20, 30: the count of a string's items or of a list's elements is outside a size that isn't extensible
+-- X.691 16, 17, 20, 22, 30: the count of a string's items, of a list's elements or of a bag's members is outside a size that isn't
+-- extensible
 abbrev pub IsOutOfSize : ℕ → Option ℕ → Option ℕ → Schema → Value → Type 0
 IsOutOfSize count lower upper (Schema.octet_string size false) (octets os) = OutsideSize size (length os) count lower upper
 IsOutOfSize count lower upper (Schema.bit_string size false) (bits bs) = OutsideSize size (length bs) count lower upper
 IsOutOfSize count lower upper (Schema.char_string alphabet size false) (characters cs) = OutsideSize size (length cs) count lower upper
 IsOutOfSize count lower upper (Schema.list e size false) (elements vs) = OutsideSize size (length (values vs)) count lower upper
+IsOutOfSize count lower upper (Schema.set_of e size false) (bag vs) = OutsideSize size (length (values vs)) count lower upper
 IsOutOfSize count lower upper _ _ = ⊥
 
 -- some characters have one outside an alphabet, at an index
@@ -79,7 +82,14 @@ pub record HasForeign (alphabet : List ℕ) (cs : List ℕ) : Type 0 where
 -- X.691 30.5: a character isn't permitted, where the size allows the count or is extensible
 abbrev pub IsForeign : Schema → Value → Type 0
 IsForeign (Schema.char_string alphabet size mark) (characters cs) = ((mark || allows size (length cs)) ≡ true) × HasForeign alphabet cs
+IsForeign (Schema.time kind) (characters cs) = HasForeign visible cs
 IsForeign _ _ = ⊥
+
+-- X.680 32, 46, 47: octets aren't the contents of an OBJECT IDENTIFIER, or characters aren't the text of a time
+abbrev pub IsUnlawful : Schema → Value → Type 0
+IsUnlawful Schema.identifier (octets os) = is_identifier os ≡ false
+IsUnlawful (Schema.time kind) (characters cs) = is_time kind cs ≡ false
+IsUnlawful _ _ = ⊥
 
 -- X.691 15: REAL isn't supported
 abbrev pub IsReal : Schema → Value → Type 0
@@ -91,17 +101,18 @@ pub data HasPart (s : Schema) (v : Value) : Parts → List (Option Value) → Ty
   part_here : {t : TagTree} {p : Presence} {ps : Parts} {rs : List (Option Value)} → shown p (Some v) ≡ Some true → HasPart s v (part t p s ps) (Some v ∷ rs)
   part_behind : {t : TagTree} {p : Presence} {c : Schema} {r : Option Value} {ps : Parts} {rs : List (Option Value)} → HasPart s v ps rs → HasPart s v (part t p c ps) (r ∷ rs)
 
--- an element of a list
+-- an element of a list, or a member of a bag
 pub data HasElement (v : Value) : List Value → Type 0 where
   element_here : {vs : List Value} → HasElement v (v ∷ vs)
   element_behind : {w : Value} {vs : List Value} → HasElement v vs → HasElement v (w ∷ vs)
 
--- a fault stands in a value: at once, in a component, an addition or an element of it, or in its alternative
+-- a fault stands in a value: at once, in a component, an addition, an element or a member of it, or in its alternative
 pub data StandsIn (fault : Schema → Value → Type 0) : Schema → Value → Type 0 where
   at_once : {s : Schema} {v : Value} → fault s v → StandsIn fault s v
   in_part : {s : Schema} {v : Value} {ps qs : Parts} {marker : Bool} {rs : List (Option Value)} (xs : List (Option Value)) → HasPart s v ps rs → StandsIn fault s v → StandsIn fault (extended ps marker qs) (record_value rs xs)
   in_addition : {s : Schema} {v : Value} {ps qs : Parts} {marker : Bool} {xs : List (Option Value)} (rs : List (Option Value)) → HasPart s v qs xs → StandsIn fault s v → StandsIn fault (extended ps marker qs) (record_value rs xs)
   in_element : {e : Schema} {size : Size} {mark : Bool} {v : Value} {vs : List Value} → HasElement v vs → StandsIn fault e v → StandsIn fault (Schema.list e size mark) (list_value vs)
+  in_member : {e : Schema} {size : Size} {mark : Bool} {v : Value} {vs : List Value} → HasElement v vs → StandsIn fault e v → StandsIn fault (Schema.set_of e size mark) (bag_of vs)
   in_alternative : {s : Schema} {v : Value} {ps qs : Parts} {marker : Bool} {d : Side} {k : ℕ} → alternative_in (choice_of ps marker qs) d k ≡ Some s → StandsIn fault s v → StandsIn fault (choice_of ps marker qs) (alternative d k v)
 
 -- Where a kind's fault stands in a value. No list of additions is longer than its schema's, and no choice that a lawful type
@@ -114,7 +125,7 @@ IsInValue IntegerTypeConversionFailed s v = StandsIn IsPastBounds s v
 IsInValue VariantNotInChoice s v = ⊥
 IsInValue RealNotSupported s v = StandsIn IsReal s v
 IsInValue TooManyAdditions s v = ⊥
-IsInValue Below s v = ⊥
+IsInValue Below s v = StandsIn IsUnlawful s v
 IsInValue AlreadyFailed s v = ⊥
 IsInValue OutOfMemory s v = ⊥
 IsInValue OutOfTurn s v = ⊥

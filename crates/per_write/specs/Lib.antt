@@ -5,6 +5,7 @@ pub mod Characters
 pub mod Faults
 pub mod Items
 pub mod Lists
+pub mod Moments
 pub mod Names
 pub mod Numbers
 pub mod Floating

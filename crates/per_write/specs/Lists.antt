@@ -1,5 +1,5 @@
 -- SEQUENCE OF, written element by element (ITU-T X.691, 20).
-use Rattle.std.specs.Prelude.{ℕ, zero, suc, ◌+◌, ◌<◌, ◌≡◌, ◌⊎◌, Bool, true, false, List, [], ◌∷◌, ◌++◌, map, length, Option, Some, None, Result, IfOk, IfErr, IsErrAnd, OnErr}
+use Rattle.std.specs.Prelude.{ℕ, zero, suc, ◌+◌, ◌<◌, ◌≡◌, ◌⊎◌, Bool, true, false, List, [], ◌∷◌, ◌++◌, map, length, Option, Some, None, Result, IfOk, IfErr, IsErrAnd, OnOk, OnErr}
 use Rattle.rasn_types.specs.Codecs.{variant_of}
 use Rattle.rasn_types.specs.Values.{Value}
 use Rattle.rasn_types.specs.Variants.{Variant}
@@ -67,3 +67,4 @@ pub record AmidList (f : ListForm) (x : State) (vs : List Value) (l : OpenList) 
 pub record NextElement (l : OpenList) (y : State) (result : Result (Unit {0}) EncodeError) (m : OpenList) (z : State) : Type 0 where
   pub next : WritesNext encoder_rules AmidList l y result m z
   pub over : count_left l ≡ 0 → IsErrAnd result (λ e. IsMemory e y ⊎ IsError OutOfTurn e y)
+  pub left : OnOk result (z.failed ≡ false)

@@ -59,7 +59,11 @@ impl<A: Allocator + Clone> Writer<A> {
     }
 
     /// Writes one of the numbers from 0 to `greatest`, a constrained whole number (X.691 11.5).
-    fn put_constrained_whole(&mut self, greatest: u128, offset: u128) -> Result<(), EncodeError>
+    pub(crate) fn put_constrained_whole(
+        &mut self,
+        greatest: u128,
+        offset: u128,
+    ) -> Result<(), EncodeError>
         requires begun { self.old.failed ≡ false }
         requires within { offset ≤ greatest }
         ensures { PutsIn IsMemory (λ a. constrained_whole a (greatest + 1) offset) self.old result self.new }

@@ -20,6 +20,7 @@ mod choices;
 mod enumerated;
 pub mod error;
 mod floating;
+mod identifiers;
 mod integers;
 mod items;
 mod lengths;
@@ -29,6 +30,7 @@ mod presences;
 mod sizes;
 mod small;
 mod strings;
+mod times;
 
 use additions::Additions;
 pub use additions::Outside;
@@ -213,7 +215,7 @@ impl<A: Allocator + Clone> Writer<A> {
     }
 
     /// What was made, unless memory ran out; then the writer has failed.
-    fn unless_out_of_memory<T: Drop>(
+    pub fn unless_out_of_memory<T: Drop>(
         &mut self,
         made: Result<T, AllocError>,
     ) -> Result<T, EncodeError>

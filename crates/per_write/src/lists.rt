@@ -71,7 +71,7 @@ impl<A: Allocator + Clone> Writer<A> {
 
     /// Writes what stands in front of elements under a size constraint: where the constraint is extensible, a bit that
     /// says whether their count is outside; and their count (X.691 20.4).
-    fn begin_counted(
+    pub fn begin_counted(
         &mut self,
         size: Option<Extensible<Bounded<usize>>>,
         count: usize,

@@ -5,7 +5,6 @@ ghost use Rattle.rasn_types.specs.Contents.{is_identifier, next_arc};
 ghost use Rattle.rasn_ber.specs.Identifiers.{are_arcs, are_arcs_so_far, begun_arc, contents, leading_octets, limit_behind, subidentifier, subidentifiers, IsFirstSubidentifier, IsReadOn};
 ghost use Rattle.rasn_ber.specs.declared.ber.BerError.TheVariants.{InvalidObjectIdentifier};
 
-use crate::object_identifier::ObjectIdentifier;
 use std::alloc::{AllocError, Allocator, Global};
 use thiserror::Error;
 
@@ -109,14 +108,11 @@ fn push_leading_octets<A: Allocator>(number: u64, octets: &mut Vec<u8, A>) -> Re
 
 /// The arcs of the object with these contents octets (X.690 8.19). Refused as no object identifier are no octets, a
 /// subidentifier whose first octet is 80, one that is cut off, and an arc past 32 bits.
-pub fn object_identifier_from_bytes(
-    alloc: Global,
-    octets: &[u8],
-) -> Result<ObjectIdentifier, BerError>
-    ensures read { IfOk result (λ identifier. contents identifier ≡ octets.now) }
+pub fn object_identifier_from_bytes(alloc: Global, octets: &[u8]) -> Result<Vec<u32>, BerError>
+    ensures read { IfOk result (λ arcs. contents arcs.items ≡ octets.now) }
     ensures lawful { OnOk result (is_identifier octets.now ≡ true) }
     ensures one { (arcs : List ℕ) → are_arcs arcs ≡ true → contents arcs ≡ octets.now
-        → IfOk result (λ read. read ≡ arcs) }
+        → IfOk result (λ read. read.items ≡ arcs) }
     ensures refused { result ≡ Err InvalidObjectIdentifier → is_identifier octets.now ≡ false }
 {
     let mut arcs = Vec::new(alloc);
@@ -135,7 +131,7 @@ pub fn object_identifier_from_bytes(
     if arcs.is_empty() || begun > 0 {
         return Err(BerError::InvalidObjectIdentifier);
     }
-    Ok(ObjectIdentifier::new(arcs))
+    Ok(arcs)
 }
 
 /// The number that an arc may not reach.

@@ -4,6 +4,5 @@
 
 pub mod ber;
 pub mod laws;
-pub mod object_identifier;
 #[cfg(test)]
 mod tests;

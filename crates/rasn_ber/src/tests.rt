@@ -1,7 +1,6 @@
 //! Outside vectors of what the clauses define, and each call once.
 
 use crate::ber::{BerError, object_identifier_as_bytes, object_identifier_from_bytes};
-use crate::object_identifier::ObjectIdentifier;
 use std::test::Fail;
 
 /// Arcs and their contents octets: X.690 8.19.5, and others' encodings of joint-iso-itu-t and of 0.0.20.124.0.1.
@@ -18,7 +17,7 @@ fn writes_and_reads_contents(rt: HostRuntime) -> Result<(), Fail> {
         object_identifier_as_bytes(arcs, &mut written)?;
         assert_eq!(rt; written.as_slice(), *octets);
         let read = object_identifier_from_bytes(rt.alloc(), octets)?;
-        assert_eq!(rt; read.as_arcs(), *arcs);
+        assert_eq!(rt; read.as_slice(), *arcs);
     }
     Ok(())
 }
@@ -30,19 +29,7 @@ fn refuses(rt: HostRuntime) -> Result<(), Fail> {
     assert_eq!(rt; refused, Err(BerError::InvalidObjectIdentifier));
     let read = object_identifier_from_bytes(rt.alloc(), &[0x80, 0x01]);
     assert!(rt; read == Err(BerError::InvalidObjectIdentifier));
-    Ok(())
-}
-
-#[test]
-fn holds_arcs(rt: HostRuntime) -> Result<(), Fail> {
-    let arcs = ObjectIdentifier::from(Vec::from_slice(rt.alloc(), &[2, 999])?);
-    let printed = format!(in rt.alloc(); "{arcs:?}, {}", BerError::OutOfMemory)?;
-    assert_eq!(rt;
-        printed.as_str(),
-        "ObjectIdentifier { arcs: [2, 999] }, out of memory"
-    );
-    assert!(rt; arcs.len() == 2 && !arcs.is_empty());
-    let again = ObjectIdentifier::new(arcs.into_vec());
-    assert_eq!(rt; again.as_arcs(), [2, 999].as_slice());
+    let printed = format!(in rt.alloc(); "{}", BerError::OutOfMemory)?;
+    assert_eq!(rt; printed.as_str(), "out of memory");
     Ok(())
 }

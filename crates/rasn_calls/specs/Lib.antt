@@ -1,10 +1,12 @@
 pub mod Additions
 pub mod AdditionsRead
+pub mod Bags
 pub mod BagsRead
 pub mod Boxes
 pub mod Calls
 pub mod Choices
 pub mod Lists
+pub mod Moments
 pub mod Scopes
 pub mod Optionals
 pub mod Presences

@@ -5,7 +5,7 @@ ghost use Rattle.std.specs.Cow.{cow_slice_items, IsOwnedSlice};
 ghost use Rattle.std.specs.Fn.{FnOnceReturnsAtMut};
 ghost use Rattle.std.specs.String.{string_bytes};
 ghost use Rattle.rasn_types.specs.Alphabets.{visible, ia5, printable, numeric, bmp};
-ghost use Rattle.rasn_types.specs.Contents.{utf8, other};
+ghost use Rattle.rasn_types.specs.Contents.{utf8, other, utc, generalized};
 ghost use Rattle.rasn_types.specs.Values.{Side, truth, nothing, whole, octets, bits, characters};
 ghost use Rattle.rasn_schema.specs.Schemas.{Schema, listed};
 ghost use Rattle.rasn_schema.specs.Forms.{number_schema, octet_schema, bit_schema, character_schema};
@@ -20,9 +20,11 @@ ghost use Rattle.rasn_calls.specs.Calls.{DecoderRules, freely_read, Reads, Decod
 ghost use Rattle.rasn_calls.specs.Choices.{ChoicesWell, OpensToChoose};
 ghost use Rattle.rasn_calls.specs.Reals.{ReadsNoReal};
 ghost use Rattle.rasn_calls.specs.Lists.{AmidRead, OpensListToRead, ReadsNext};
+ghost use Rattle.rasn_calls.specs.Moments.{generalized_value, identifier_value, utc_value};
 ghost use Rattle.rasn_calls.specs.Scopes.{OpensToRead, ClosesRead, ReadsAround, ScopesWell};
 
 use crate::parts::{DecodeAdditions, DecodeParts};
+use jiff::civil::DateTime;
 use rasn_schema::choices::Choice;
 use rasn_schema::enumerated::Enumerated;
 use rasn_schema::fields::Constructed;
@@ -192,6 +194,21 @@ pub trait Decoder: Sized {
         constraints: &Constraints,
     ) -> Result<TeletexString, Self::Error>
         ensures { Reads rules (Schema.text other) (λ x. octets x) self.old result self.new };
+
+    /// Reads an OBJECT IDENTIFIER (X.691 24), and answers its arcs. Octets that are the contents of no object are
+    /// refused.
+    fn decode_object_identifier(&mut self, tag: Tag) -> Result<Vec<u32>, Self::Error>
+        ensures { Reads rules Schema.identifier (λ arcs. identifier_value arcs.items) self.old result self.new };
+
+    /// Reads a UTCTime (X.691 30), and answers its moment in UTC. Characters that aren't its canonical text (X.690
+    /// 11.8) are refused.
+    fn decode_utc_time(&mut self, tag: Tag) -> Result<DateTime, Self::Error>
+        ensures { Reads rules (Schema.time utc) utc_value self.old result self.new };
+
+    /// Reads a GeneralizedTime (X.691 30), and answers its moment in UTC. Characters that aren't its canonical text
+    /// (X.690 11.7) are refused.
+    fn decode_generalized_time(&mut self, tag: Tag) -> Result<DateTime, Self::Error>
+        ensures { Reads rules (Schema.time generalized) generalized_value self.old result self.new };
 
     /// Refuses from now on, and answers that a required addition, which has this tag, isn't there.
     fn required_extension_not_present(&mut self, tag: Tag) -> Self::Error

@@ -3,23 +3,26 @@
 ghost use Rattle.std.specs.Prelude.{◌≡◌, ℕ, suc, true};
 ghost use Rattle.std.specs.Fn.{FnOnceReturnsAtMut};
 ghost use Rattle.rasn_types.specs.Alphabets.{visible, ia5, printable, numeric, bmp};
-ghost use Rattle.rasn_types.specs.Contents.{utf8, other};
+ghost use Rattle.rasn_types.specs.Contents.{utf8, other, utc, generalized};
 ghost use Rattle.rasn_types.specs.Values.{truth, nothing, whole, octets, bits, characters};
 ghost use Rattle.rasn_schema.specs.Schemas.{Schema, listed};
 ghost use Rattle.rasn_schema.specs.Forms.{number_schema, octet_schema, bit_schema, character_schema};
 ghost use Rattle.rasn_schema.specs.Forms.{size_of, is_size_marked};
 ghost use Rattle.rasn_schema.specs.Records.{record_at, record_value};
 ghost use Rattle.rasn_calls.specs.Additions.{ClosesAddition, ClosesGroup, OpensAddition, SkipsAddition};
+ghost use Rattle.rasn_calls.specs.Bags.{ClosesBag, OpensBag, WritesMember};
 ghost use Rattle.rasn_calls.specs.Optionals.{GivesBit};
 ghost use Rattle.rasn_calls.specs.Calls.{EncoderRules, freely, Writes, Encodes, PresentsWell};
 ghost use Rattle.rasn_schema.specs.Choices.{choices_of};
 ghost use Rattle.rasn_schema.specs.Fields.{tag_of};
 ghost use Rattle.rasn_calls.specs.Choices.{ClosesChoice, OpensChoice, WritesChoice};
 ghost use Rattle.rasn_calls.specs.Lists.{Amid, OpensList, WritesNext, ClosesList};
+ghost use Rattle.rasn_calls.specs.Moments.{generalized_value, identifier_value, utc_value};
 ghost use Rattle.rasn_calls.specs.Reals.{WritesNoReal};
 ghost use Rattle.rasn_calls.specs.Scopes.{OpensToWrite, ClosesWritten, WritesAround, deeper_of};
 
 use crate::parts::{EncodeAdditions, EncodeParts};
+use jiff::civil::DateTime;
 use rasn_schema::choices::Choice;
 use rasn_schema::enumerated::Enumerated;
 use rasn_schema::fields::Constructed;
@@ -49,6 +52,9 @@ pub trait Encoder: Sized {
     /// What is left of an open list.
     type List: Drop;
 
+    /// What was written of an open SET OF, and what waits outside.
+    type Bag: Drop;
+
     // What is presented and refused, and what states and errors say.
     ghost rules: { EncoderRules Self.Error Self };
 
@@ -63,6 +69,9 @@ pub trait Encoder: Sized {
 
     // A list is open: which one, what was before it, its elements still to be written, what is left of it, and now.
     ghost amid: { Amid Self Self.List };
+
+    // A SET OF is open: which one, what was before it, its members still to be written, what is kept of it, and now.
+    ghost amid_bag: { Amid Self Self.Bag };
 
     /// The variant in use.
     fn codec(&self) -> Codec
@@ -192,6 +201,36 @@ pub trait Encoder: Sized {
     ) -> Result<(), Self::Error>
         ensures { Writes rules (Schema.text other) (octets value.now) self.old result self.new };
 
+    /// Writes an OBJECT IDENTIFIER by its arcs: its contents octets (X.690 8.19) behind an unconstrained length (X.691
+    /// 24). Arcs that name no object are refused.
+    fn encode_object_identifier(
+        &mut self,
+        tag: Tag,
+        value: &[u32],
+        identifier: Identifier,
+    ) -> Result<(), Self::Error>
+        ensures { Writes rules Schema.identifier (identifier_value value.now) self.old result self.new };
+
+    /// Writes a UTCTime by its moment in UTC: its canonical text (X.690 11.8) as a VisibleString without constraints
+    /// (X.691 30). A moment that the text can't hold is refused.
+    fn encode_utc_time(
+        &mut self,
+        tag: Tag,
+        value: &DateTime,
+        identifier: Identifier,
+    ) -> Result<(), Self::Error>
+        ensures { Writes rules (Schema.time utc) (utc_value value.now) self.old result self.new };
+
+    /// Writes a GeneralizedTime by its moment in UTC: its canonical text (X.690 11.7) as a VisibleString without
+    /// constraints (X.691 30). A moment that the text can't hold is refused.
+    fn encode_generalized_time(
+        &mut self,
+        tag: Tag,
+        value: &DateTime,
+        identifier: Identifier,
+    ) -> Result<(), Self::Error>
+        ensures { Writes rules (Schema.time generalized) (generalized_value value.now) self.old result self.new };
+
     /// Opens a SEQUENCE (X.691 19): the calls from here to `close_sequence` write its root components, in the order of
     /// `FIELDS`, and then give its additions, in the order of `EXTENDED_FIELDS`.
     fn open_sequence<C: Constructed>(
@@ -266,6 +305,26 @@ pub trait Encoder: Sized {
     /// Closes a list of which all elements were written: where a last length is due, it is written.
     fn close_list(&mut self, list: Self::List) -> Result<(), Self::Error>
         ensures { ClosesList rules amid list self.old result self.new };
+
+    /// Opens a SET OF under constraints (X.691 22): so many members follow, each behind a call of `next_member`, up to
+    /// `close_set_of`, in whatever order. A count outside a size that isn't extensible is refused.
+    fn open_set_of(
+        &mut self,
+        tag: Tag,
+        constraints: &Constraints,
+        count: usize,
+        identifier: Identifier,
+    ) -> Result<Self::Bag, Self::Error>
+        ensures { OpensBag rules amid_bag (size_of constraints.now) (is_size_marked constraints.now) count
+            self.old result self.new };
+
+    /// Goes on to the next member of an open SET OF, which is written by itself.
+    fn next_member(&mut self, bag: &mut Self::Bag) -> Result<(), Self::Error>
+        ensures { WritesMember rules amid_bag bag.old self.old result bag.new self.new };
+
+    /// Closes a SET OF of which all members were written: they stand in ascending order of their complete encodings.
+    fn close_set_of(&mut self, bag: Self::Bag) -> Result<(), Self::Error>
+        ensures { ClosesBag rules amid_bag bag self.old result self.new };
 
     /// Refuses from now on.
     fn fail(&mut self)

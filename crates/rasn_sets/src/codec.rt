@@ -1,15 +1,43 @@
-//! The calls of every decoder that read bags, by the types of their members.
+//! The calls of every encoder that write bags and of every decoder that read them, by the types of their members.
 
-ghost use Rattle.std.specs.Prelude.{map};
+ghost use Rattle.std.specs.Prelude.{map, suc};
 ghost use Rattle.rasn_types.specs.Values.{bag_of};
 ghost use Rattle.rasn_schema.specs.Forms.{is_size_marked, size_of};
-ghost use Rattle.rasn_calls.specs.Calls.{Reads};
+ghost use Rattle.rasn_schema.specs.Lists.{deepest};
+ghost use Rattle.rasn_calls.specs.Calls.{Encodes, Reads};
 ghost use Rattle.rasn_sets.specs.Bags.{set_at};
 
 use crate::set_of::SetOf;
-use rasn_codec::codec::{Decode, Decoder, DecoderExt};
+use rasn_codec::codec::{Decode, Decoder, DecoderExt, Encode, Encoder};
 use rasn_schema::schema::Constraints;
-use rasn_types::types::Tag;
+use rasn_types::types::{Identifier, Tag};
+
+/// What every encoder writes of bags.
+pub trait SetOfEncoder: Encoder {
+    /// Writes a SET OF under constraints (X.691 22), of which the size counts members: these in ascending order of
+    /// their complete encodings, whatever order they are kept in.
+    final fn encode_set_of<T: Encode>(
+        &mut self,
+        tag: Tag,
+        values: &SetOf<T>,
+        constraints: &Constraints,
+        identifier: Identifier,
+    ) -> Result<(), Self::Error>
+        ensures { let size = size_of constraints.now in
+            Encodes Self.rules (set_at (T.schema T.CONSTRAINTS) size (is_size_marked constraints.now))
+            (suc (deepest T.levels values.now)) (bag_of (map T.value values.now)) self.old result self.new }
+    {
+        let members = values.as_slice();
+        let mut bag = self.open_set_of(tag, constraints, members.len(), identifier)?;
+        for member in members {
+            self.next_member(&mut bag)?;
+            member.encode(self)?;
+        }
+        self.close_set_of(bag)
+    }
+}
+
+impl<E: Encoder> SetOfEncoder for E {}
 
 /// What every decoder reads of bags.
 pub trait SetOfDecoder: Decoder {
@@ -29,6 +57,18 @@ pub trait SetOfDecoder: Decoder {
 }
 
 impl<D: Decoder> SetOfDecoder for D {}
+
+impl<T: Encode> Encode for SetOf<T> {
+    fn encode_with_tag_and_constraints<E: Encoder>(
+        &self,
+        encoder: &mut E,
+        tag: Tag,
+        constraints: &Constraints,
+        identifier: Identifier,
+    ) -> Result<(), E::Error> {
+        encoder.encode_set_of(tag, self, constraints, identifier)
+    }
+}
 
 impl<T: Decode> Decode for SetOf<T> {
     fn decode_with_tag_and_constraints<D: Decoder>(

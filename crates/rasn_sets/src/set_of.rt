@@ -1,12 +1,14 @@
 //! The type of bags (X.680 28).
 
 ghost use Rattle.std.specs.Prelude.{◌≡◌, ◌↔◌, [], IsTrue, suc, map, length};
+ghost use Rattle.std.specs.Cmp.{partial_equiv_from_equiv};
 ghost use Rattle.rasn_types.specs.Values.{bag_of};
 ghost use Rattle.rasn_types.specs.declared.types.TheConstants.Tag.{SET};
 ghost use Rattle.rasn_constraints.specs.Ranges.{no_constraints};
 ghost use Rattle.rasn_schema.specs.Forms.{is_size_marked, size_of};
 ghost use Rattle.rasn_schema.specs.Lists.{deepest};
 ghost use Rattle.rasn_sets.specs.Bags.{set_at, set_levelled, set_tag};
+ghost use Rattle.rasn_sets.specs.Equality.{same_bag, same_bag_equiv, stand_alike, times};
 
 use rasn_schema::schema::{AsnType, Constraints};
 use rasn_types::types::Tag;
@@ -61,6 +63,48 @@ impl<T> SetOf<T> {
     {
         self.members.is_empty()
     }
+}
+
+/// Equality as bags: each member stands as often in the one as in the other.
+impl<T: Eq> PartialEq for SetOf<T> {
+    ghost eq = { same_bag T.eq };
+
+    ghost laws = { partial_equiv_from_equiv (same_bag_equiv T.Eq.laws) };
+
+    fn eq(&self, other: &SetOf<T>) -> bool {
+        let (members, others) = (self.as_slice(), other.as_slice());
+        stand_as_often(members, others, members) && stand_as_often(members, others, others)
+    }
+}
+
+impl<T: Eq> Eq for SetOf<T> {
+    ghost laws = { same_bag_equiv T.Eq.laws };
+}
+
+/// Whether each of these values stands in the one list as often as in the other.
+fn stand_as_often<T: Eq>(members: &[T], others: &[T], values: &[T]) -> bool
+    ensures { result ≡ stand_alike T.eq members.now others.now values.now }
+{
+    for value in values {
+        if times_in(members, value) != times_in(others, value) {
+            return false;
+        }
+    }
+    true
+}
+
+/// How often a value stands in a list.
+#[tactic(auto, using(std::proofs::lemmas::List::at_drop_more, std::proofs::lemmas::List::drop_all))]
+fn times_in<T: Eq>(members: &[T], value: &T) -> usize
+    ensures { result ≡ times T.eq value.now members.now }
+{
+    let mut times = 0;
+    for member in members {
+        if value == member {
+            times += 1;
+        }
+    }
+    times
 }
 
 impl<T: AsnType> AsnType for SetOf<T> {

@@ -13,48 +13,16 @@ use crate::fraction::{push_fraction, read_fraction};
 use crate::moment::{are_digits, moment_of, push_moment, push_two, two};
 use jiff::civil::DateTime;
 use std::alloc::{AllocError, Allocator};
-use std::marker::Model;
-
-/// A GeneralizedTime (X.680 46): a civil moment, meant in UTC.
-#[derive(Clone, Copy, Debug, PartialEq, Eq)]
-pub struct GeneralizedTime {
-    moment: DateTime,
-}
-
-impl Model for GeneralizedTime {
-    ghost Value = { Plain };
-
-    ghost view = { λ a. a.moment };
-
-    ghost inverse = { λ moment. record { moment = moment } };
-}
-
-impl GeneralizedTime {
-    /// The time of a moment in UTC. A text can't hold every moment.
-    pub fn new(moment: DateTime) -> GeneralizedTime
-        ensures { result ≡ moment }
-    {
-        GeneralizedTime { moment }
-    }
-
-    /// The moment in UTC.
-    pub fn to_datetime(self) -> DateTime
-        ensures { result ≡ self }
-    {
-        self.moment
-    }
-}
 
 /// The canonical text of a GeneralizedTime (X.690 11.7): YYYYMMDDhhmmss, then, where the second has a fraction, a full
 /// stop and its 1 to 9 digits without trailing zeros, then Z. Refused is a moment of a year before 0.
 pub fn datetime_to_canonical_generalized_time_bytes<A: Allocator>(
     alloc: A,
-    time: GeneralizedTime,
+    moment: DateTime,
 ) -> Result<Vec<u8, A>, TimeError>
-    ensures written { IfOk result (λ text. text.items ≡ generalized_text time) }
-    ensures refused { (result ≡ Err Unrepresentable) ↔ (is_generalized_moment time ≡ false) }
+    ensures written { IfOk result (λ text. text.items ≡ generalized_text moment) }
+    ensures refused { (result ≡ Err Unrepresentable) ↔ (is_generalized_moment moment ≡ false) }
 {
-    let moment = time.to_datetime();
     if moment.year() < 0 {
         return Err(TimeError::Unrepresentable);
     }
@@ -75,8 +43,8 @@ fn written<A: Allocator>(alloc: A, moment: DateTime) -> Result<Vec<u8, A>, Alloc
     Ok(text)
 }
 
-/// The time with this canonical text (X.690 11.7). Refused is any other text, also one that names no moment.
-pub fn parse_canonical_generalized_time_string(text: &[u8]) -> Result<GeneralizedTime, TimeError>
+/// The moment with this canonical text (X.690 11.7). Refused is any other text, also one that names no moment.
+pub fn parse_canonical_generalized_time_string(text: &[u8]) -> Result<DateTime, TimeError>
     ensures read { IfOk result (λ time. generalized_text time ≡ text.now) }
     ensures one { (time : Plain) → is_generalized_moment time ≡ true → generalized_text time ≡ text.now
         → IfOk result (IsSameMoment time) }
@@ -91,7 +59,7 @@ pub fn parse_canonical_generalized_time_string(text: &[u8]) -> Result<Generalize
         None => return Err(TimeError::InvalidText),
     };
     match generalized_moment(&text[..14], nanosecond) {
-        Some(moment) => Ok(GeneralizedTime::new(moment)),
+        Some(moment) => Ok(moment),
         None => Err(TimeError::InvalidText),
     }
 }

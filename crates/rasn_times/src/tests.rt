@@ -4,12 +4,9 @@ use crate::date::{date_from_parts, date_to_parts};
 use crate::error::TimeError;
 use crate::fraction::{push_fraction, read_fraction};
 use crate::generalized_time::{
-    GeneralizedTime, datetime_to_canonical_generalized_time_bytes,
-    parse_canonical_generalized_time_string,
+    datetime_to_canonical_generalized_time_bytes, parse_canonical_generalized_time_string,
 };
-use crate::utc_time::{
-    UtcTime, datetime_to_canonical_utc_time_bytes, parse_canonical_utc_time_string,
-};
+use crate::utc_time::{datetime_to_canonical_utc_time_bytes, parse_canonical_utc_time_string};
 use jiff::civil::DateTime;
 use std::test::Fail;
 
@@ -34,10 +31,10 @@ const ROWS: &[((i16, i8, i8), (i8, i8, i8), &str)] = &[
 fn writes_and_reads_utc_times(rt: HostRuntime) -> Result<(), Fail> {
     for ((year, month, day), (hour, minute, second), text) in ROWS {
         let moment = DateTime::new(*year, *month, *day, *hour, *minute, *second, 0)?;
-        let written = datetime_to_canonical_utc_time_bytes(rt.alloc(), UtcTime::new(moment))?;
+        let written = datetime_to_canonical_utc_time_bytes(rt.alloc(), moment)?;
         assert_eq!(rt; written.as_slice(), text.as_bytes());
         let read = parse_canonical_utc_time_string(text.as_bytes())?;
-        assert!(rt; read.to_datetime() == moment);
+        assert!(rt; read == moment);
     }
     Ok(())
 }
@@ -59,7 +56,7 @@ fn refuses_other_texts(rt: HostRuntime) -> Result<(), Fail> {
         assert!(rt; read == Err(TimeError::InvalidText), "{text}");
     }
     let moment = DateTime::new(2050, 1, 1, 0, 0, 0, 0)?;
-    let written = datetime_to_canonical_utc_time_bytes(rt.alloc(), UtcTime::new(moment));
+    let written = datetime_to_canonical_utc_time_bytes(rt.alloc(), moment);
     assert!(rt; written == Err(TimeError::Unrepresentable));
     Ok(())
 }
@@ -104,11 +101,10 @@ const GENERALIZED: &[((i16, i8, i8), (i8, i8, i8), i32, &str)] = &[
 fn writes_and_reads_generalized_times(rt: HostRuntime) -> Result<(), Fail> {
     for ((year, month, day), (hour, minute, second), nanosecond, text) in GENERALIZED {
         let moment = DateTime::new(*year, *month, *day, *hour, *minute, *second, *nanosecond)?;
-        let time = GeneralizedTime::new(moment);
-        let written = datetime_to_canonical_generalized_time_bytes(rt.alloc(), time)?;
+        let written = datetime_to_canonical_generalized_time_bytes(rt.alloc(), moment)?;
         assert_eq!(rt; written.as_slice(), text.as_bytes());
         let read = parse_canonical_generalized_time_string(text.as_bytes())?;
-        assert!(rt; read.to_datetime() == moment);
+        assert!(rt; read == moment);
     }
     Ok(())
 }
@@ -129,8 +125,8 @@ fn refuses_other_generalized_texts(rt: HostRuntime) -> Result<(), Fail> {
         let read = parse_canonical_generalized_time_string(text.as_bytes());
         assert!(rt; read == Err(TimeError::InvalidText), "{text}");
     }
-    let time = GeneralizedTime::new(DateTime::new(-1, 12, 31, 23, 59, 59, 0)?);
-    let written = datetime_to_canonical_generalized_time_bytes(rt.alloc(), time);
+    let moment = DateTime::new(-1, 12, 31, 23, 59, 59, 0)?;
+    let written = datetime_to_canonical_generalized_time_bytes(rt.alloc(), moment);
     assert!(rt; written == Err(TimeError::Unrepresentable));
     Ok(())
 }

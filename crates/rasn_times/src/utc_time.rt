@@ -10,48 +10,16 @@ use crate::error::TimeError;
 use crate::moment::{are_digits, moment_of, push_moment, push_two, two};
 use jiff::civil::DateTime;
 use std::alloc::{AllocError, Allocator};
-use std::marker::Model;
-
-/// A UTCTime (X.680 47): a civil moment, meant in UTC.
-#[derive(Clone, Copy, Debug, PartialEq, Eq)]
-pub struct UtcTime {
-    moment: DateTime,
-}
-
-impl Model for UtcTime {
-    ghost Value = { Plain };
-
-    ghost view = { λ a. a.moment };
-
-    ghost inverse = { λ moment. record { moment = moment } };
-}
-
-impl UtcTime {
-    /// The time of a moment in UTC. A text can't hold every moment.
-    pub fn new(moment: DateTime) -> UtcTime
-        ensures { result ≡ moment }
-    {
-        UtcTime { moment }
-    }
-
-    /// The moment in UTC.
-    pub fn to_datetime(self) -> DateTime
-        ensures { result ≡ self }
-    {
-        self.moment
-    }
-}
 
 /// The canonical text of a UTCTime, YYMMDDhhmmssZ (X.690 11.8). Refused is a moment that it can't hold: of another year
 /// than 1950 to 2049, or not of a whole second.
 pub fn datetime_to_canonical_utc_time_bytes<A: Allocator>(
     alloc: A,
-    time: UtcTime,
+    moment: DateTime,
 ) -> Result<Vec<u8, A>, TimeError>
-    ensures written { IfOk result (λ text. text.items ≡ utc_text time) }
-    ensures refused { (result ≡ Err Unrepresentable) ↔ (is_utc_moment time ≡ false) }
+    ensures written { IfOk result (λ text. text.items ≡ utc_text moment) }
+    ensures refused { (result ≡ Err Unrepresentable) ↔ (is_utc_moment moment ≡ false) }
 {
-    let moment = time.to_datetime();
     let year = moment.year();
     if year < 1950 || year > 2049 || moment.subsec_nanosecond() != 0 {
         return Err(TimeError::Unrepresentable);
@@ -71,9 +39,9 @@ fn written<A: Allocator>(alloc: A, moment: DateTime) -> Result<Vec<u8, A>, Alloc
     Ok(text)
 }
 
-/// The time with this canonical text (X.690 11.8). Refused is any other text, also one that names no moment. 50 to 99
+/// The moment with this canonical text (X.690 11.8). Refused is any other text, also one that names no moment. 50 to 99
 /// mean years from 1950, 00 to 49 from 2000.
-pub fn parse_canonical_utc_time_string(text: &[u8]) -> Result<UtcTime, TimeError>
+pub fn parse_canonical_utc_time_string(text: &[u8]) -> Result<DateTime, TimeError>
     ensures read { IfOk result (λ time. utc_text time ≡ text.now) }
     ensures one { (time : Plain) → is_utc_moment time ≡ true → utc_text time ≡ text.now
         → IfOk result (IsSameMoment time) }
@@ -84,7 +52,7 @@ pub fn parse_canonical_utc_time_string(text: &[u8]) -> Result<UtcTime, TimeError
         return Err(TimeError::InvalidText);
     }
     match utc_moment(&text[..12]) {
-        Some(moment) => Ok(UtcTime::new(moment)),
+        Some(moment) => Ok(moment),
         None => Err(TimeError::InvalidText),
     }
 }

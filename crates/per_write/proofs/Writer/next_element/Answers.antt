@@ -1,9 +1,9 @@
-use Rattle.std.proofs.Common.{◌≡◌, suc, List, ◌∷◌, arith, rules}
+use Rattle.std.proofs.Common.{◌≡◌, false, suc, List, ◌∷◌, arith, rules}
 use Rattle.rasn_types.specs.Values.{Value}
 use Rattle.rasn_calls.specs.Lists.{ListForm}
 use Rattle.per_write.specs.Lists.{AmidList, count_left}
 use Rattle.per_write.specs.State.{State}
-use Rattle.per_write.proofs.Elements.{element_next, fragment_begun_at, none_begun}
+use Rattle.per_write.proofs.Elements.{begins_left, element_next, fragment_begun_at, none_begun}
 use Rattle.per_write.proofs.Writer.next_element.Goals as goal
 use Rattle.per_write.proofs.Writer.next_element.Goals.{then-list-eq0+in_ok-list, else-list-eq0}
 
@@ -21,7 +21,12 @@ returns-in-Some g c =
       | then-list-eq0+in_ok-list w ↦ rw (w.list-is) (none_begun y w.begin_fragment.new.self l w.in_ok-list.field-0 w.unwrap_or.result w.unwrap_or.ensures w.in_ok-list.ensures.ok o)
       | else-list-eq0 w ↦ rw (w.list-is) o
     ] in
+    let unfailed : c.if-list-eq0.self.failed ≡ false = elim c.if-list-eq0.branch [
+      | then-list-eq0+in_ok-list w ↦ rw (w.self-is) (begins_left c.args.self.now w.begin_fragment.new.self w.unwrap_or.result w.in_ok-list.field-0 w.in_ok-list.ensures.ok)
+      | else-list-eq0 w ↦ rw (w.self-is) c.requires
+    ] in
     record {
       next = record { law = λ f x v vs h. element_next f x c.if-list-eq0.self v vs c.if-list-eq0.list c.in-Some.left left (goes_on f x v vs h); behaves = search rules };
       over = λ o. let none = still_over o in absurd (omega (arith, left, none));
+      left = unfailed;
     }

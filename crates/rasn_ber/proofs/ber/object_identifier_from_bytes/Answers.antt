@@ -28,7 +28,7 @@ returns-then-is_empty-clause-refused c = λ e. unfinished c.args.octets.now c.lo
 ]) c.loop-octet.invariant
 
 pub returns-clause-read : goal.returns-clause-read
-returns-clause-read c = ap contents c.new.ensures ∙ (finished c.args.octets.now c.loop-octet.arcs.items c.loop-octet.octet-index c.loop-octet.begun c.loop-octet-test.false (omega arith) (λ e. eqb-false _ 0 (sym c.if-is_empty.ensures) (c.loop-octet.arcs.ok.0 ∙ e)) c.loop-octet.invariant).0
+returns-clause-read c = (finished c.args.octets.now c.loop-octet.arcs.items c.loop-octet.octet-index c.loop-octet.begun c.loop-octet-test.false (omega arith) (λ e. eqb-false _ 0 (sym c.if-is_empty.ensures) (c.loop-octet.arcs.ok.0 ∙ e)) c.loop-octet.invariant).0
 
 pub returns-clause-lawful : goal.returns-clause-lawful
 returns-clause-lawful c =
@@ -38,4 +38,4 @@ returns-clause-lawful c =
 pub returns-clause-one : goal.returns-clause-one
 returns-clause-one c = λ arcs lawful is.
     let h : (contents c.loop-octet.arcs.items ≡ c.args.octets.now) × (are_arcs c.loop-octet.arcs.items ≡ true) = finished c.args.octets.now c.loop-octet.arcs.items c.loop-octet.octet-index c.loop-octet.begun c.loop-octet-test.false (omega arith) (λ e. eqb-false _ 0 (sym c.if-is_empty.ensures) (c.loop-octet.arcs.ok.0 ∙ e)) c.loop-octet.invariant in
-    c.new.ensures ∙ one_contents c.loop-octet.arcs.items arcs h.1 lawful (h.0 ∙ sym is)
+    one_contents c.loop-octet.arcs.items arcs h.1 lawful (h.0 ∙ sym is)

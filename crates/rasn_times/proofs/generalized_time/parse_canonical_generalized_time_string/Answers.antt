@@ -24,17 +24,17 @@ pub returns-in-None-clause-accepted : goal.returns-in-None-clause-accepted
 returns-in-None-clause-accepted c = (λ i. absurd (true≢false (sym i)), λ e. absurd (true≢false (sym e ∙ not_fraction c.args.text.now c.if-text-lt14.false c.in-None.ensures)))
 
 -- what was read is the text of the moment
-same_text : (c : goal.After-new) → generalized_text c.in-Some-generalized_moment.moment ≡ c.args.text.now
+same_text : (c : goal.In-Some-generalized_moment) → generalized_text c.in-Some-generalized_moment.moment ≡ c.args.text.now
 same_text c = text_is c.in-Some-generalized_moment.moment c.in-Some.nanosecond c.args.text.now c.if-text-lt14.false c.in-Some.ensures c.in-Some-generalized_moment.ensures
 
-lawful : (c : goal.After-new) → is_time TimeKind.generalized c.args.text.now ≡ true
+lawful : (c : goal.In-Some-generalized_moment) → is_time TimeKind.generalized c.args.text.now ≡ true
 lawful c = sym (ap (is_time TimeKind.generalized) (same_text c)) ∙ is_time-generalized_text c.in-Some-generalized_moment.moment ∙ c.in-Some-generalized_moment.ensures.held
 
 pub returns-in-Some-generalized_moment-clause-read : goal.returns-in-Some-generalized_moment-clause-read
-returns-in-Some-generalized_moment-clause-read c = ap generalized_text c.new.ensures ∙ same_text c
+returns-in-Some-generalized_moment-clause-read c = same_text c
 
 pub returns-in-Some-generalized_moment-clause-one : goal.returns-in-Some-generalized_moment-clause-one
-returns-in-Some-generalized_moment-clause-one c = λ time h e. rw c.new.ensures (generalized_same time c.in-Some-generalized_moment.moment h c.in-Some-generalized_moment.ensures.held (e ∙ sym (same_text c)))
+returns-in-Some-generalized_moment-clause-one c = λ time h e. (generalized_same time c.in-Some-generalized_moment.moment h c.in-Some-generalized_moment.ensures.held (e ∙ sym (same_text c)))
 
 pub returns-in-Some-generalized_moment-clause-refused : goal.returns-in-Some-generalized_moment-clause-refused
 returns-in-Some-generalized_moment-clause-refused c = (λ e. absurd (cc), λ e. absurd (true≢false (sym (lawful c) ∙ e)))

@@ -1,6 +1,5 @@
 use Rattle.std.proofs.Common.{◌∙◌, sym, ap, refl, inl, inr, true≢false}
 use Rattle.rasn_types.specs.Contents.{is_time, TimeKind}
-use Rattle.rasn_times.specs.Moments.{utc_text}
 use Rattle.rasn_times.proofs.UtcTexts.{is_time-utc_text, utc_same, not_utc, with_z}
 use Rattle.rasn_times.proofs.utc_time.parse_canonical_utc_time_string.Goals as goal
 use Rattle.rasn_times.proofs.utc_time.parse_canonical_utc_time_string.Goals.{then-text-ne13-via-then-text-ne13, then-text-ne13-via-else-text-ne13+then-text-ne90, then-text-ne13-via-else-text-ne13+else-text-ne90+then-not-are_digits}
@@ -16,10 +15,10 @@ returns-then-text-ne13-clause-refused c = (
 )
 
 pub returns-in-Some-clause-read : goal.returns-in-Some-clause-read
-returns-in-Some-clause-read c = ap utc_text c.new.ensures ∙ c.in-Some.ensures.written ∙ with_z c.args.text.now c.if-text-ne13.false c.if-text-ne90.false
+returns-in-Some-clause-read c = c.in-Some.ensures.written ∙ with_z c.args.text.now c.if-text-ne13.false c.if-text-ne90.false
 
 pub returns-in-Some-clause-one : goal.returns-in-Some-clause-one
-returns-in-Some-clause-one c = λ time h e. rw c.new.ensures (utc_same time c.in-Some.moment h c.in-Some.ensures.held (e ∙ sym (c.in-Some.ensures.written ∙ with_z c.args.text.now c.if-text-ne13.false c.if-text-ne90.false)))
+returns-in-Some-clause-one c = λ time h e. (utc_same time c.in-Some.moment h c.in-Some.ensures.held (e ∙ sym (c.in-Some.ensures.written ∙ with_z c.args.text.now c.if-text-ne13.false c.if-text-ne90.false)))
 
 pub returns-in-Some-clause-refused : goal.returns-in-Some-clause-refused
 returns-in-Some-clause-refused c = (λ e. absurd (cc), λ e. absurd (true≢false (sym c.in-Some.ensures.held ∙ sym (is_time-utc_text c.in-Some.moment) ∙ ap (is_time TimeKind.utc) (c.in-Some.ensures.written ∙ with_z c.args.text.now c.if-text-ne13.false c.if-text-ne90.false) ∙ e)))

@@ -1,0 +1,14 @@
+-- While a SET OF is open nothing was refused (ITU-T X.691, 22).
+use Rattle.std.proofs.Common.{◌≡◌, refl, sym, ◌∙◌, false, List, Option, Some, None}
+use Rattle.rasn_types.specs.Values.{Value}
+use Rattle.rasn_calls.specs.Lists.{ListForm}
+use Rattle.per_members.specs.Bags.{AmidBag, OpenBag, outside}
+use Rattle.per_write.specs.Floating.{Waiting}
+use Rattle.per_write.specs.State.{State}
+
+outside_failed : (o : Option Waiting) (y : State) → (outside o y).failed ≡ y.failed
+outside_failed None y = refl
+outside_failed (Some w) y = refl
+
+pub bag_left : (f : ListForm) (x : State) (vs : List Value) (b : OpenBag) (y : State) → AmidBag f x vs b y → y.failed ≡ false
+bag_left f x vs b y h = sym (outside_failed b.waiting y) ∙ (h.amid f.all refl).remains.left

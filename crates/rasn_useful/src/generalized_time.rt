@@ -1,0 +1,90 @@
+//! GeneralizedTime (X.680 46).
+
+ghost use Rattle.std.specs.Prelude.{◌≡◌, refl};
+ghost use Rattle.rasn_types.specs.Contents.{generalized};
+ghost use Rattle.rasn_types.specs.declared.types.TheConstants.Tag.{GENERALIZED_TIME};
+ghost use Rattle.rasn_constraints.specs.Ranges.{no_constraints};
+ghost use Rattle.rasn_schema.specs.Forms.{always};
+ghost use Rattle.rasn_schema.specs.Levels.{simple_levelled};
+ghost use Rattle.rasn_schema.specs.Schemas.{Schema};
+ghost use Rattle.rasn_calls.specs.Moments.{generalized_value};
+
+use jiff::civil::DateTime;
+use rasn_codec::codec::{Decode, Decoder, Encode, Encoder};
+use rasn_schema::schema::{AsnType, Constraints};
+use rasn_types::types::{Identifier, Tag};
+use std::marker::Model;
+
+/// A GeneralizedTime (X.680 46): a civil moment, meant in UTC.
+#[derive(Clone, Copy, Debug, PartialEq, Eq)]
+pub struct GeneralizedTime {
+    moment: DateTime,
+}
+
+impl Model for GeneralizedTime {
+    ghost use Rattle.jiff.specs.Types.{DateTime as Plain};
+
+    ghost Value = { Plain };
+
+    ghost view = { λ a. a.moment };
+
+    ghost inverse = { λ moment. record { moment = moment } };
+}
+
+impl GeneralizedTime {
+    /// The time of a moment in UTC. A text can't hold every moment.
+    pub fn new(moment: DateTime) -> GeneralizedTime
+        ensures { result ≡ moment }
+    {
+        GeneralizedTime { moment }
+    }
+
+    /// The moment in UTC.
+    pub fn to_datetime(self) -> DateTime
+        ensures { result ≡ self }
+    {
+        self.moment
+    }
+}
+
+impl AsnType for GeneralizedTime {
+    const TAG: Tag = Tag::GENERALIZED_TIME;
+
+    ghost TAG = { GENERALIZED_TIME };
+
+    const CONSTRAINTS: Constraints = Constraints::NONE;
+
+    ghost CONSTRAINTS = { no_constraints };
+
+    ghost schema = { λ _. always (Schema.time generalized) };
+
+    ghost value = { generalized_value };
+
+    ghost levelled = { λ _. simple_levelled (Schema.time generalized) tt };
+
+    ghost tag_fits = { λ _ _. refl };
+}
+
+impl Encode for GeneralizedTime {
+    #[tactic(auto, unfolding(rasn_schema::specs::Normal::normal))]
+    fn encode_with_tag_and_constraints<E: Encoder>(
+        &self,
+        encoder: &mut E,
+        tag: Tag,
+        _: &Constraints,
+        identifier: Identifier,
+    ) -> Result<(), E::Error> {
+        encoder.encode_generalized_time(tag, &self.moment, identifier)
+    }
+}
+
+impl Decode for GeneralizedTime {
+    fn decode_with_tag_and_constraints<D: Decoder>(
+        decoder: &mut D,
+        tag: Tag,
+        _: &Constraints,
+    ) -> Result<GeneralizedTime, D::Error> {
+        let moment = decoder.decode_generalized_time(tag)?;
+        Ok(GeneralizedTime::new(moment))
+    }
+}

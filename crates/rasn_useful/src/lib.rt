@@ -1,0 +1,6 @@
+//! OBJECT IDENTIFIER, UTCTime and GeneralizedTime, as types that are written and read.
+#![tactic(auto)]
+
+pub mod generalized_time;
+pub mod object_identifier;
+pub mod utc_time;

@@ -1,0 +1,90 @@
+//! UTCTime (X.680 47).
+
+ghost use Rattle.std.specs.Prelude.{◌≡◌, refl};
+ghost use Rattle.rasn_types.specs.Contents.{utc};
+ghost use Rattle.rasn_types.specs.declared.types.TheConstants.Tag.{UTC_TIME};
+ghost use Rattle.rasn_constraints.specs.Ranges.{no_constraints};
+ghost use Rattle.rasn_schema.specs.Forms.{always};
+ghost use Rattle.rasn_schema.specs.Levels.{simple_levelled};
+ghost use Rattle.rasn_schema.specs.Schemas.{Schema};
+ghost use Rattle.rasn_calls.specs.Moments.{utc_value};
+
+use jiff::civil::DateTime;
+use rasn_codec::codec::{Decode, Decoder, Encode, Encoder};
+use rasn_schema::schema::{AsnType, Constraints};
+use rasn_types::types::{Identifier, Tag};
+use std::marker::Model;
+
+/// A UTCTime (X.680 47): a civil moment, meant in UTC.
+#[derive(Clone, Copy, Debug, PartialEq, Eq)]
+pub struct UtcTime {
+    moment: DateTime,
+}
+
+impl Model for UtcTime {
+    ghost use Rattle.jiff.specs.Types.{DateTime as Plain};
+
+    ghost Value = { Plain };
+
+    ghost view = { λ a. a.moment };
+
+    ghost inverse = { λ moment. record { moment = moment } };
+}
+
+impl UtcTime {
+    /// The time of a moment in UTC. A text can't hold every moment.
+    pub fn new(moment: DateTime) -> UtcTime
+        ensures { result ≡ moment }
+    {
+        UtcTime { moment }
+    }
+
+    /// The moment in UTC.
+    pub fn to_datetime(self) -> DateTime
+        ensures { result ≡ self }
+    {
+        self.moment
+    }
+}
+
+impl AsnType for UtcTime {
+    const TAG: Tag = Tag::UTC_TIME;
+
+    ghost TAG = { UTC_TIME };
+
+    const CONSTRAINTS: Constraints = Constraints::NONE;
+
+    ghost CONSTRAINTS = { no_constraints };
+
+    ghost schema = { λ _. always (Schema.time utc) };
+
+    ghost value = { utc_value };
+
+    ghost levelled = { λ _. simple_levelled (Schema.time utc) tt };
+
+    ghost tag_fits = { λ _ _. refl };
+}
+
+impl Encode for UtcTime {
+    #[tactic(auto, unfolding(rasn_schema::specs::Normal::normal))]
+    fn encode_with_tag_and_constraints<E: Encoder>(
+        &self,
+        encoder: &mut E,
+        tag: Tag,
+        _: &Constraints,
+        identifier: Identifier,
+    ) -> Result<(), E::Error> {
+        encoder.encode_utc_time(tag, &self.moment, identifier)
+    }
+}
+
+impl Decode for UtcTime {
+    fn decode_with_tag_and_constraints<D: Decoder>(
+        decoder: &mut D,
+        tag: Tag,
+        _: &Constraints,
+    ) -> Result<UtcTime, D::Error> {
+        let moment = decoder.decode_utc_time(tag)?;
+        Ok(UtcTime::new(moment))
+    }
+}
