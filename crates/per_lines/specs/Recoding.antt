@@ -10,7 +10,7 @@ use Rattle.rasn_schema.specs.Schemas.{Schema}
 use Rattle.rasn_schema.specs.Choices.{choice_at}
 use Rattle.rasn_schema.specs.Forms.{always}
 use Rattle.rasn_schema.specs.Lists.{list_at}
-use Rattle.rasn_schema.specs.Components.{lower_bound, upper_bound, sequence_at}
+use Rattle.rasn_schema.specs.Components.{lower_bound, upper_bound, sequence_at, alternatives_at}
 use Rattle.rasn_schema.specs.Records.{no_additions}
 use Rattle.rasn_record.specs.ExtendedRecords.{extended_at}
 use Rattle.per_samples_a.specs.Absents.{one_default}
@@ -27,13 +27,19 @@ use Rattle.per_samples_f.specs.AddedNests.{nest_root, nest_additions}
 use Rattle.per_samples_f.specs.Groups.{grouped_root, grouped_additions}
 use Rattle.per_samples_f.specs.Needs.{one_needed, added_default}
 use Rattle.per_samples_f.specs.Outers.{outer_root, outer2_additions, outer3_additions}
+use Rattle.per_samples_g.specs.Defaults.{default_outer1, default_outer3}
+use Rattle.per_samples_g.specs.Groups.{first_root, x_group, x_y_group}
+use Rattle.per_samples_h.specs.Alternatives.{two_alternatives}
+use Rattle.per_samples_h.specs.First.{in_root}
+use Rattle.per_samples_h.specs.Second.{behind_marker}
+use Rattle.per_samples_m.specs.Many.{many_root, many_additions}
 use Rattle.per_core.specs.Spellings.{Settings}
 use Rattle.rasn_per.specs.Complete.{AreBytes, HasNoBytes, AreReadBy, AreUnreadBy, reading, basically}
 use Rattle.rasn_per.specs.Kinds.{IsInOctetsBy}
 use Rattle.per_write.specs.declared.error.EncodeErrorKind.TheVariants as Encoding
 use Rattle.per_read.specs.declared.error.DecodeErrorKind.TheVariants as Decoding
 use Rattle.per_lines.specs.declared.arguments.TypeName.{TypeName}
-use Rattle.per_lines.specs.declared.arguments.TypeName.TheVariants.{Boolean, Null, Integer, UpTo65535, FromMinusOne, Natural, ZeroTo65536, OneToTenExtensible, Four, Seven, OneDefault, ShortVisible, LettersAToE, BitString, OctetString, OnlyX, Items, Byte, MaybeEmpty, Nested, Nest, Deep, Bytes, Nulls, NullList, Elements, Outer1, Outer2, Outer3, Grouped, NoneNeeded, OneNeeded, AddedDefault, Outers1, Outers3, BeforeNest, AddedNest}
+use Rattle.per_lines.specs.declared.arguments.TypeName.TheVariants.{Boolean, Null, Integer, UpTo65535, FromMinusOne, Natural, ZeroTo65536, OneToTenExtensible, Four, Seven, OneDefault, ShortVisible, LettersAToE, BitString, OctetString, OnlyX, Items, Byte, MaybeEmpty, Nested, Nest, Deep, Bytes, Nulls, NullList, Elements, Outer1, Outer2, Outer3, Grouped, NoneNeeded, OneNeeded, AddedDefault, Outers1, Outers3, BeforeNest, AddedNest, Grouped1, Grouped2, OneColor, TwoColors, DefaultOuter1, DefaultOuter3, OneAlternative, TwoAlternatives, Alternatives, Many}
 use Rattle.per_lines.specs.declared.arguments.Form.{Form}
 use Rattle.per_lines.specs.declared.arguments.Form.TheVariants.{OneLine, Lines, Zero, As}
 use Rattle.per_lines.specs.declared.arguments.Padding.{Padding}
@@ -86,6 +92,16 @@ schema_of Outers1 = list_at (extended_at outer_root []) any_size false
 schema_of Outers3 = list_at (extended_at outer_root outer3_additions) any_size false
 schema_of BeforeNest = extended_at nest_root []
 schema_of AddedNest = extended_at nest_root nest_additions
+schema_of Grouped1 = extended_at first_root x_group
+schema_of Grouped2 = extended_at first_root x_y_group
+schema_of OneColor = always (Schema.items 1 0 true)
+schema_of TwoColors = always (Schema.items 1 1 true)
+schema_of DefaultOuter1 = sequence_at default_outer1
+schema_of DefaultOuter3 = sequence_at default_outer3
+schema_of OneAlternative = alternatives_at in_root (Some [])
+schema_of TwoAlternatives = alternatives_at in_root (Some behind_marker)
+schema_of Alternatives = sequence_at two_alternatives
+schema_of Many = extended_at many_root many_additions
 
 -- `zero` asks that padding is zero; behind `as` what is written needs no such check
 abbrev pub padding_of : Form → Padding

@@ -89,6 +89,28 @@ pub enum TypeName {
     BeforeNest,
     /// SEQUENCE { a BOOLEAN, ..., deep Nest OPTIONAL }.
     AddedNest,
+    /// SEQUENCE { first BOOLEAN, ..., an addition group }, the group being SEQUENCE { x BOOLEAN OPTIONAL, ... }.
+    Grouped1,
+    /// SEQUENCE { first BOOLEAN, ..., an addition group }, the group being
+    /// SEQUENCE { x BOOLEAN OPTIONAL, ..., y BOOLEAN OPTIONAL }.
+    Grouped2,
+    /// ENUMERATED { a, ... }.
+    OneColor,
+    /// ENUMERATED { a, ..., b }.
+    TwoColors,
+    /// SEQUENCE { o outer1 DEFAULT (TRUE, FALSE) }.
+    DefaultOuter1,
+    /// SEQUENCE { o outer3 DEFAULT (TRUE, FALSE, both additions absent) }.
+    DefaultOuter3,
+    /// CHOICE { a BOOLEAN, ... }.
+    OneAlternative,
+    /// CHOICE { a BOOLEAN, ..., b BOOLEAN }.
+    TwoAlternatives,
+    /// SEQUENCE { first BOOLEAN, root Alt, extension Alt, trailer INTEGER (0..255) }, Alt being
+    /// CHOICE { plain BOOLEAN, inner Inner, ..., added Inner }.
+    Alternatives,
+    /// SEQUENCE { ..., a0 BOOLEAN OPTIONAL, a1 BOOLEAN OPTIONAL, and so on up to a64 }.
+    Many,
 }
 
 /// How much is read, and what is printed.
@@ -180,6 +202,16 @@ impl TypeName {
             "rel3" => Some(TypeName::Outers3),
             "dv1" => Some(TypeName::BeforeNest),
             "dv2" => Some(TypeName::AddedNest),
+            "grp1" => Some(TypeName::Grouped1),
+            "grp2" => Some(TypeName::Grouped2),
+            "col1" => Some(TypeName::OneColor),
+            "col2" => Some(TypeName::TwoColors),
+            "def1" => Some(TypeName::DefaultOuter1),
+            "def3" => Some(TypeName::DefaultOuter3),
+            "alt1" => Some(TypeName::OneAlternative),
+            "alt2" => Some(TypeName::TwoAlternatives),
+            "alternatives" => Some(TypeName::Alternatives),
+            "many" => Some(TypeName::Many),
             _ => None,
         }
     }

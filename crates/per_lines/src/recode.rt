@@ -16,7 +16,9 @@ use per_samples_a::four::Four;
 use per_samples_a::half_bounded::{FromMinusOne, Natural, UpTo65535};
 use per_samples_a::seven::Seven;
 use per_samples_b::strings::{LettersAToE, OnlyX, ShortVisible};
+use per_samples_c::colors::TwoColors;
 use per_samples_c::items::WithItem;
+use per_samples_c::one_color::OneColor;
 use per_samples_e::byte::Byte;
 use per_samples_e::choice::Outer;
 use per_samples_e::deep::Deep;
@@ -33,6 +35,14 @@ use per_samples_f::one_needed::OneNeeded;
 use per_samples_f::outer1::{Outer1, Outers1};
 use per_samples_f::outer2::Outer2;
 use per_samples_f::outer3::{Outer3, Outers3};
+use per_samples_g::default_outer1::DefaultOuter1;
+use per_samples_g::default_outer3::DefaultOuter3;
+use per_samples_g::grouped1::Grouped1;
+use per_samples_g::grouped2::Grouped2;
+use per_samples_h::alt1::Alt1;
+use per_samples_h::alt2::Alt2;
+use per_samples_h::two_alternatives::TwoAlternatives;
+use per_samples_m::many::Many;
 use rasn_codec::codec::{Decode, Encode};
 use rasn_per::{aper, uper};
 use rasn_types::big::Integer;
@@ -109,6 +119,16 @@ fn recoded(
         TypeName::Outers3 => recoded_as::<Outers3>(alloc, codec, padding, octets),
         TypeName::BeforeNest => recoded_as::<BeforeNest>(alloc, codec, padding, octets),
         TypeName::AddedNest => recoded_as::<AddedNest>(alloc, codec, padding, octets),
+        TypeName::Grouped1 => recoded_as::<Grouped1>(alloc, codec, padding, octets),
+        TypeName::Grouped2 => recoded_as::<Grouped2>(alloc, codec, padding, octets),
+        TypeName::OneColor => recoded_as::<OneColor>(alloc, codec, padding, octets),
+        TypeName::TwoColors => recoded_as::<TwoColors>(alloc, codec, padding, octets),
+        TypeName::DefaultOuter1 => recoded_as::<DefaultOuter1>(alloc, codec, padding, octets),
+        TypeName::DefaultOuter3 => recoded_as::<DefaultOuter3>(alloc, codec, padding, octets),
+        TypeName::OneAlternative => recoded_as::<Alt1>(alloc, codec, padding, octets),
+        TypeName::TwoAlternatives => recoded_as::<Alt2>(alloc, codec, padding, octets),
+        TypeName::Alternatives => recoded_as::<TwoAlternatives>(alloc, codec, padding, octets),
+        TypeName::Many => recoded_as::<Many>(alloc, codec, padding, octets),
     }
 }
 

@@ -1,2 +1,3 @@
 pub mod Colors
 pub mod Items
+pub mod OneColors

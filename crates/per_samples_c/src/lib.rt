@@ -3,3 +3,4 @@
 
 pub mod colors;
 pub mod items;
+pub mod one_color;

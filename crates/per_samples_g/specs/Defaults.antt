@@ -1,14 +1,21 @@
--- SEQUENCE { o outer1 DEFAULT (TRUE, FALSE) }
-use Rattle.std.specs.Prelude.{List, [], ◌∷◌, true, false, Some}
+-- SEQUENCE { o outer1 DEFAULT (TRUE, FALSE) } and SEQUENCE { o outer3 DEFAULT (TRUE, FALSE, both additions absent) }
+use Rattle.std.specs.Prelude.{List, [], ◌∷◌, true, false, Some, None}
 use Rattle.rasn_types.specs.Values.{Value, truth}
 use Rattle.rasn_schema.specs.Components.{Component, automatic, default}
 use Rattle.rasn_schema.specs.Records.{record_value}
 use Rattle.rasn_record.specs.ExtendedRecords.{extended_sequence}
-use Rattle.per_samples_f.specs.Outers.{outer_root}
+use Rattle.per_samples_f.specs.Outers.{outer_root, outer3_additions}
 
 -- TRUE and FALSE
 abbrev pub true_false : Value
 true_false = record_value (Some (truth true) ∷ Some (truth false) ∷ []) []
 
+-- the same, and both additions absent
+abbrev pub true_false_alone : Value
+true_false_alone = record_value (Some (truth true) ∷ Some (truth false) ∷ []) (None ∷ None ∷ [])
+
 abbrev pub default_outer1 : List Component
 default_outer1 = automatic (default true_false (extended_sequence outer_root []) ∷ [])
+
+abbrev pub default_outer3 : List Component
+default_outer3 = automatic (default true_false_alone (extended_sequence outer_root outer3_additions) ∷ [])

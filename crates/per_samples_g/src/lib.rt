@@ -3,6 +3,7 @@
 #![tactic(auto)]
 
 pub mod default_outer1;
+pub mod default_outer3;
 pub mod group1;
 pub mod group2;
 pub mod grouped1;

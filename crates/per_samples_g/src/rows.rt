@@ -1,9 +1,10 @@
 //! What is written of some records with additions.
 
 ghost use Rattle.std.specs.Prelude.{true, false, [], ◌∷◌, Some, None};
-ghost use Rattle.rasn_types.specs.Variants.{unaligned};
+ghost use Rattle.rasn_types.specs.Variants.{aligned, unaligned};
 ghost use Rattle.per_samples_a.specs.Rows.{IsWrittenAs};
 
+use crate::default_outer3::DefaultOuter3;
 use crate::grouped1::Grouped1;
 use crate::grouped2::Grouped2;
 use rasn_record::AsnType;
@@ -21,4 +22,16 @@ pub fn groups_have_additions()
     ensures older { let own = ⟦<Grouped1 as AsnType>⟧ in
         IsWrittenAs unaligned (own.schema own.CONSTRAINTS) own.levels own.value
         (record { first = true; group = Some (record { x = None }) }) (0x40 ∷ []) }
+{}
+
+/// A component at its default isn't written; one with an addition isn't at it (X.691 19.5).
+#[tactic(auto, unfolding(per_core::specs::Canon::bytes, rasn_schema::specs::Normal::normal))]
+pub fn defaults_have_no_additions()
+    ensures default { let own = ⟦<DefaultOuter3 as AsnType>⟧ in
+        IsWrittenAs aligned (own.schema own.CONSTRAINTS) own.levels own.value
+        (record { o = record { first = true; second = false; group = None; after = None } }) (0x00 ∷ []) }
+    ensures other { let own = ⟦<DefaultOuter3 as AsnType>⟧ in
+        IsWrittenAs aligned (own.schema own.CONSTRAINTS) own.levels own.value
+        (record { o = record { first = true; second = false; group = None; after = Some (7 ∷ 8 ∷ 9 ∷ []) } })
+        (0xe0 ∷ 0x28 ∷ 0x03 ∷ 0x07 ∷ 0x08 ∷ 0x09 ∷ []) }
 {}

@@ -1,2 +1,4 @@
+pub mod Alternatives
 pub mod First
 pub mod Second
+pub mod Several

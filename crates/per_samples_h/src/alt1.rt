@@ -1,104 +1,69 @@
 //! A CHOICE with an extension marker, and nothing behind it.
 
-ghost use Rattle.std.specs.Prelude.{refl};
-ghost use Rattle.rasn_types.specs.declared.types.TheConstants.Tag.{EOC};
-ghost use Rattle.rasn_constraints.specs.Ranges.{no_constraints};
-ghost use Rattle.rasn_schema.specs.Choices.{choice_at, variants_of};
-ghost use Rattle.rasn_schema.specs.Records.{no_additions};
-ghost use Rattle.rasn_schema.specs.Tags.{choice_tag};
-ghost use Rattle.per_samples_h.specs.First.{alt1_chosen, alt1_levelled, none_behind, root_parts};
+ghost use Rattle.std.specs.Prelude.{[], Some, refl};
+ghost use Rattle.rasn_schema.specs.Components.{variants_in};
+ghost use Rattle.per_samples_h.specs.First.{alt1_chosen, in_root};
 
-use rasn_codec::codec::{Decode, DecodeChoice, Decoder, DecoderExt, Encode, Encoder, EncoderExt};
-use rasn_record::context_tag;
-use rasn_schema::choices::{Choice, Variant, Variants};
-use rasn_schema::fields::TagTree;
-use rasn_schema::schema::{AsnType, Constraints};
-use rasn_types::types::{Identifier, Tag};
+use rasn_record::{
+    Alternatives, ByKind, ChoiceKind, CodedAlternatives, Constraint, Decoder, Encoder, OfKind, Tag,
+    Variants, added_variants, alternative_bounds, decode_alternative, encode_alternative, variants,
+};
 
-/// Alt1 ::= CHOICE { a BOOLEAN, ... }, with automatic tags
+/// Alt1 ::= CHOICE { a BOOLEAN, ... }
 #[derive(Clone, Copy, Debug, PartialEq, Eq)]
 pub enum Alt1 {
     A(bool),
 }
 
-const TAG_OF_A: Tag = context_tag!(0);
-
-impl AsnType for Alt1 {
-    const TAG: Tag = Tag::EOC;
-
-    ghost TAG = { EOC };
-
-    const CONSTRAINTS: Constraints = Constraints::NONE;
-
-    ghost CONSTRAINTS = { no_constraints };
-
-    ghost schema = { λ _. choice_at root_parts none_behind no_additions };
-
-    ghost value = { alt1_chosen };
-
-    ghost levels = { λ _. 1 };
-
-    ghost levelled = { λ _. alt1_levelled };
-
-    ghost tag_fits = { λ _. choice_tag root_parts none_behind no_additions };
+macro_rules! alternatives {
+    ($to:ident $($with:ident)*) => {
+        $to! { [$($with)*]
+            0 "a" A: bool [];
+            ...;
+        }
+    };
 }
 
-const IN_ROOT: &[Variant] = &[Variant {
-    tag: TAG_OF_A,
-    tag_tree: TagTree::Leaf(TAG_OF_A),
-}];
+const VARIANTS: Variants = alternatives!(variants);
 
-const BEHIND_MARKER: &[Variant] = &[];
+const ADDED_VARIANTS: Option<Variants> = alternatives!(added_variants);
 
-impl Choice for Alt1 {
-    const VARIANTS: Variants = Variants { list: IN_ROOT };
+const BOUNDS: &[&[Constraint]] = alternatives!(alternative_bounds);
 
-    ghost VARIANTS = { variants_of (root_parts 0) };
+impl OfKind for Alt1 {
+    type Kind = ChoiceKind;
+}
 
-    const EXTENDED_VARIANTS: Option<Variants> = Some(Variants {
-        list: BEHIND_MARKER,
-    });
+impl Alternatives for Alt1 {
+    const ALTERNATIVES: Variants = VARIANTS;
 
-    ghost EXTENDED_VARIANTS = { none_behind };
+    ghost ALTERNATIVES = { variants_in in_root };
 
-    ghost alternatives = { root_parts };
+    const ADDED_ALTERNATIVES: Option<Variants> = ADDED_VARIANTS;
 
-    ghost described = { λ _. refl };
+    ghost ADDED_ALTERNATIVES = { Some [] };
 
-    ghost extends = { λ _. refl };
+    ghost alternatives = { in_root };
+
+    ghost added = { Some [] };
+
+    ghost chosen = { alt1_chosen };
+
+    ghost described = { refl };
+
+    ghost extends = { refl };
 
     ghost are_variants = { record { distinct = refl; few = refl } };
-
-    ghost is_choice = { λ _. refl };
 }
 
-impl Encode for Alt1 {
-    fn encode_with_tag_and_constraints<E: Encoder>(
-        &self,
-        encoder: &mut E,
-        tag: Tag,
-        _: &Constraints,
-        identifier: Identifier,
-    ) -> Result<(), E::Error> {
-        match self {
-            Alt1::A(a) => encoder.encode_alternative::<Alt1, _>(tag, TAG_OF_A, a, identifier),
-        }
+impl CodedAlternatives for Alt1 {
+    fn encode_alternative<E: Encoder>(&self, encoder: &mut E) -> Result<Tag, E::Error> {
+        alternatives!(encode_alternative self encoder)
+    }
+
+    fn decode_alternative<D: Decoder>(decoder: &mut D, tag: Tag) -> Result<Self, D::Error> {
+        alternatives!(decode_alternative decoder tag)
     }
 }
 
-impl Decode for Alt1 {
-    fn decode_with_tag_and_constraints<D: Decoder>(
-        decoder: &mut D,
-        _: Tag,
-        constraints: &Constraints,
-    ) -> Result<Alt1, D::Error> {
-        decoder.decode_choice(constraints)
-    }
-}
-
-impl DecodeChoice for Alt1 {
-    fn from_tag<D: Decoder>(decoder: &mut D, tag: Tag) -> Result<Alt1, D::Error> {
-        let a = bool::decode_with_tag(decoder, tag)?;
-        Ok(Alt1::A(a))
-    }
-}
+impl ByKind for Alt1 {}

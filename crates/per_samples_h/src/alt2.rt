@@ -1,121 +1,75 @@
 //! A CHOICE with an extension marker, and one alternative behind it.
 
-ghost use Rattle.std.specs.Prelude.{refl};
-ghost use Rattle.rasn_types.specs.declared.types.TheConstants.Tag.{EOC};
-ghost use Rattle.rasn_constraints.specs.Ranges.{no_constraints};
-ghost use Rattle.rasn_schema.specs.Choices.{choice_at, variants_of};
-ghost use Rattle.rasn_schema.specs.Tags.{choice_tag};
-ghost use Rattle.per_samples_h.specs.First.{root_parts};
-ghost use Rattle.per_samples_h.specs.Second.{added_parts, alt2_chosen, alt2_levelled, one_behind};
+ghost use Rattle.std.specs.Prelude.{Some, refl};
+ghost use Rattle.rasn_schema.specs.Components.{variants_in};
+ghost use Rattle.per_samples_h.specs.First.{in_root};
+ghost use Rattle.per_samples_h.specs.Second.{alt2_chosen, behind_marker};
 
-use rasn_codec::codec::{Decode, DecodeChoice, Decoder, DecoderExt, Encode, Encoder, EncoderExt};
-use rasn_record::context_tag;
-use rasn_schema::choices::{Choice, Variant, Variants};
-use rasn_schema::fields::TagTree;
-use rasn_schema::schema::{AsnType, Constraints};
-use rasn_types::types::{Identifier, Tag};
+use rasn_record::{
+    Alternatives, ByKind, ChoiceKind, CodedAlternatives, Constraint, Decoder, Encoder, OfKind, Tag,
+    Variants, added_alternative_bounds, added_variants, alternative_bounds, decode_alternative,
+    encode_alternative, variants,
+};
 
-/// Alt2 ::= CHOICE { a BOOLEAN, ..., b BOOLEAN }, with automatic tags
+/// Alt2 ::= CHOICE { a BOOLEAN, ..., b BOOLEAN }
 #[derive(Clone, Copy, Debug, PartialEq, Eq)]
 pub enum Alt2 {
     A(bool),
     B(bool),
 }
 
-const TAG_OF_A: Tag = context_tag!(0);
-
-const TAG_OF_B: Tag = context_tag!(1);
-
-impl AsnType for Alt2 {
-    const TAG: Tag = Tag::EOC;
-
-    ghost TAG = { EOC };
-
-    const CONSTRAINTS: Constraints = Constraints::NONE;
-
-    ghost CONSTRAINTS = { no_constraints };
-
-    ghost schema = { λ _. choice_at root_parts one_behind added_parts };
-
-    ghost value = { alt2_chosen };
-
-    ghost levels = { λ _. 1 };
-
-    ghost levelled = { λ _. alt2_levelled };
-
-    ghost tag_fits = { λ _. choice_tag root_parts one_behind added_parts };
+macro_rules! alternatives {
+    ($to:ident $($with:ident)*) => {
+        $to! { [$($with)*]
+            0 "a" A: bool [];
+            ...;
+            1 "b" B: bool [];
+        }
+    };
 }
 
-const IN_ROOT: &[Variant] = &[Variant {
-    tag: TAG_OF_A,
-    tag_tree: TagTree::Leaf(TAG_OF_A),
-}];
+const VARIANTS: Variants = alternatives!(variants);
 
-const BEHIND_MARKER: &[Variant] = &[Variant {
-    tag: TAG_OF_B,
-    tag_tree: TagTree::Leaf(TAG_OF_B),
-}];
+const ADDED_VARIANTS: Option<Variants> = alternatives!(added_variants);
 
-impl Choice for Alt2 {
-    const VARIANTS: Variants = Variants { list: IN_ROOT };
+const BOUNDS: &[&[Constraint]] = alternatives!(alternative_bounds);
 
-    ghost VARIANTS = { variants_of (root_parts 0) };
+const ADDED_BOUNDS: &[&[Constraint]] = alternatives!(added_alternative_bounds);
 
-    const EXTENDED_VARIANTS: Option<Variants> = Some(Variants {
-        list: BEHIND_MARKER,
-    });
+impl OfKind for Alt2 {
+    type Kind = ChoiceKind;
+}
 
-    ghost EXTENDED_VARIANTS = { one_behind };
+impl Alternatives for Alt2 {
+    const ALTERNATIVES: Variants = VARIANTS;
 
-    ghost alternatives = { root_parts };
+    ghost ALTERNATIVES = { variants_in in_root };
 
-    ghost added = { added_parts };
+    const ADDED_ALTERNATIVES: Option<Variants> = ADDED_VARIANTS;
 
-    ghost described = { λ _. refl };
+    ghost ADDED_ALTERNATIVES = { Some (variants_in behind_marker) };
 
-    ghost extends = { λ _. refl };
+    ghost alternatives = { in_root };
+
+    ghost added = { Some behind_marker };
+
+    ghost chosen = { alt2_chosen };
+
+    ghost described = { refl };
+
+    ghost extends = { refl };
 
     ghost are_variants = { record { distinct = refl; few = refl } };
-
-    ghost is_choice = { λ _. refl };
 }
 
-impl Encode for Alt2 {
-    fn encode_with_tag_and_constraints<E: Encoder>(
-        &self,
-        encoder: &mut E,
-        tag: Tag,
-        _: &Constraints,
-        identifier: Identifier,
-    ) -> Result<(), E::Error> {
-        match self {
-            Alt2::A(a) => encoder.encode_alternative::<Alt2, _>(tag, TAG_OF_A, a, identifier),
-            Alt2::B(b) => encoder.encode_alternative::<Alt2, _>(tag, TAG_OF_B, b, identifier),
-        }
+impl CodedAlternatives for Alt2 {
+    fn encode_alternative<E: Encoder>(&self, encoder: &mut E) -> Result<Tag, E::Error> {
+        alternatives!(encode_alternative self encoder)
+    }
+
+    fn decode_alternative<D: Decoder>(decoder: &mut D, tag: Tag) -> Result<Self, D::Error> {
+        alternatives!(decode_alternative decoder tag)
     }
 }
 
-impl Decode for Alt2 {
-    fn decode_with_tag_and_constraints<D: Decoder>(
-        decoder: &mut D,
-        _: Tag,
-        constraints: &Constraints,
-    ) -> Result<Alt2, D::Error> {
-        decoder.decode_choice(constraints)
-    }
-}
-
-impl DecodeChoice for Alt2 {
-    fn from_tag<D: Decoder>(decoder: &mut D, tag: Tag) -> Result<Alt2, D::Error> {
-        match Self::VARIANTS.index_of(tag) {
-            Some(_) => {
-                let a = bool::decode_with_tag(decoder, tag)?;
-                Ok(Alt2::A(a))
-            }
-            None => {
-                let b = bool::decode_with_tag(decoder, tag)?;
-                Ok(Alt2::B(b))
-            }
-        }
-    }
-}
+impl ByKind for Alt2 {}

@@ -1,8 +1,8 @@
 //! One alternative of a CHOICE, as a list states it.
 
 ghost use Rattle.std.specs.Prelude.{◌≡◌, ◌≤◌, ℕ, Some};
-ghost use Rattle.rasn_schema.specs.Choices.{alternative_at, choices_of, place_of};
-ghost use Rattle.rasn_schema.specs.Components.{chosen, components_behind, parts_of};
+ghost use Rattle.rasn_schema.specs.Choices.{alternative_at, choices_of, place_of, variants_behind};
+ghost use Rattle.rasn_schema.specs.Components.{chosen, chosen_behind, components_behind, parts_of};
 ghost use Rattle.rasn_schema.specs.Fields.{tag_of};
 ghost use Rattle.rasn_schema.specs.Records.{own_or};
 ghost use Rattle.rasn_calls.specs.Calls.{Reads};
@@ -38,6 +38,33 @@ pub fn write<T: Alternatives, H: Encode, E: Encoder>(
     let _ = place;
     let in_use = given(constraints, H::CONSTRAINTS);
     value.encode_with_tag_and_constraints(encoder, tag, &in_use, H::IDENTIFIER)?;
+    Ok(tag)
+}
+
+/// Writes the alternative at a place behind the extension marker, which goes by a tag, and answers that. Its
+/// constraints are its type's own where none are given.
+pub fn write_behind<T: Alternatives, H: Encode, E: Encoder>(
+    of: &T,
+    place: usize,
+    tag: Tag,
+    constraints: &'static [Constraint],
+    value: &H,
+    encoder: &mut E,
+) -> Result<Tag, E::Error>
+    requires tag { place_of (tag_of tag) (variants_behind T.ADDED_ALTERNATIVES) ≡ Some place }
+    requires schema { (n : ℕ) → alternative_at (parts_of (components_behind T.added) n) place
+        ≡ Some (H.schema (own_or H.CONSTRAINTS (given constraints.now)) n) }
+    requires value { T.chosen of.now ≡ chosen_behind place (H.value value.now) }
+    requires levels { H.levels value.now ≤ T.depth of.now }
+    ensures { WritesChosen E.rules
+        (choices_of (parts_of T.alternatives) T.ADDED_ALTERNATIVES (parts_of (components_behind T.added)))
+        T.ALTERNATIVES T.ADDED_ALTERNATIVES (T.chosen of.now) (T.depth of.now) encoder.old result encoder.new }
+{
+    let _ = of;
+    let _ = place;
+    let in_use = given(constraints, H::CONSTRAINTS);
+    let identifier = H::IDENTIFIER;
+    value.encode_with_tag_and_constraints(encoder, tag, &in_use, identifier)?;
     Ok(tag)
 }
 

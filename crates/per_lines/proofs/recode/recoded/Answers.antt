@@ -71,3 +71,27 @@ returns-in-BeforeNest-clause-err c = rw c.in-BeforeNest.is c.recoded_as-in-Befor
 
 pub returns-in-AddedNest-clause-err : goal.returns-in-AddedNest-clause-err
 returns-in-AddedNest-clause-err c = rw c.in-AddedNest.is c.recoded_as-in-AddedNest.ensures.err
+
+pub returns-in-Grouped1-clause-err : goal.returns-in-Grouped1-clause-err
+returns-in-Grouped1-clause-err c = rw c.in-Grouped1.is c.recoded_as-in-Grouped1.ensures.err
+
+pub returns-in-Grouped2-clause-err : goal.returns-in-Grouped2-clause-err
+returns-in-Grouped2-clause-err c = rw c.in-Grouped2.is c.recoded_as-in-Grouped2.ensures.err
+
+pub returns-in-DefaultOuter1-clause-err : goal.returns-in-DefaultOuter1-clause-err
+returns-in-DefaultOuter1-clause-err c = rw c.in-DefaultOuter1.is c.recoded_as-in-DefaultOuter1.ensures.err
+
+pub returns-in-DefaultOuter3-clause-err : goal.returns-in-DefaultOuter3-clause-err
+returns-in-DefaultOuter3-clause-err c = rw c.in-DefaultOuter3.is c.recoded_as-in-DefaultOuter3.ensures.err
+
+pub returns-in-OneAlternative-clause-err : goal.returns-in-OneAlternative-clause-err
+returns-in-OneAlternative-clause-err c = rw c.in-OneAlternative.is c.recoded_as-in-OneAlternative.ensures.err
+
+pub returns-in-TwoAlternatives-clause-err : goal.returns-in-TwoAlternatives-clause-err
+returns-in-TwoAlternatives-clause-err c = rw c.in-TwoAlternatives.is c.recoded_as-in-TwoAlternatives.ensures.err
+
+pub returns-in-Alternatives-clause-err : goal.returns-in-Alternatives-clause-err
+returns-in-Alternatives-clause-err c = rw c.in-Alternatives.is c.recoded_as-in-Alternatives.ensures.err
+
+pub returns-in-Many-clause-err : goal.returns-in-Many-clause-err
+returns-in-Many-clause-err c = rw c.in-Many.is c.recoded_as-in-Many.ensures.err

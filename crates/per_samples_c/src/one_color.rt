@@ -1,0 +1,40 @@
+//! An ENUMERATED with an extension marker and no item after it.
+
+ghost use Rattle.rasn_schema.specs.Enumerations.{extensible_items};
+ghost use Rattle.per_samples_c.specs.OneColors.{only_color};
+
+use rasn_record::{
+    ByKind, EnumeratedKind, ItemCounts, Items, OfKind, Place, item_at, item_counts, place_of_item,
+};
+
+/// ENUMERATED { a, ... }
+#[derive(Clone, Copy, Debug, PartialEq, Eq)]
+pub enum OneColor {
+    A,
+}
+
+macro_rules! items {
+    ($to:ident $($with:ident)*) => { $to! { [$($with)*] A; ...; } };
+}
+
+impl OfKind for OneColor {
+    type Kind = EnumeratedKind;
+}
+
+impl Items for OneColor {
+    const ITEMS: ItemCounts = items!(item_counts);
+
+    ghost ITEMS = { extensible_items 1 0 };
+
+    ghost item = { only_color };
+
+    fn place(&self) -> Place {
+        items!(place_of_item self)
+    }
+
+    fn at(place: Place) -> Option<OneColor> {
+        items!(item_at place)
+    }
+}
+
+impl ByKind for OneColor {}

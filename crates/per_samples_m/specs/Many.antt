@@ -1,0 +1,13 @@
+-- SEQUENCE { ..., a0 BOOLEAN OPTIONAL, a1 BOOLEAN OPTIONAL, and so on up to a64 }
+use Rattle.std.specs.Prelude.{ℕ, List, [], replicate}
+use Rattle.rasn_schema.specs.Components.{Component, automatic_from, boolean, optional}
+
+-- so many optional truth values, under automatic tags from a place on
+abbrev pub truths_from : ℕ → ℕ → List Component
+truths_from place count = automatic_from place (replicate count (optional boolean))
+
+abbrev pub many_root : List Component
+many_root = []
+
+abbrev pub many_additions : List Component
+many_additions = truths_from 0 65
