@@ -4,4 +4,6 @@
 #[cfg(test)]
 mod aligned;
 #[cfg(test)]
+mod rows;
+#[cfg(test)]
 mod unaligned;

@@ -1,6 +1,6 @@
 //! Records with an extension marker, through the program: what an older, a newer and the same reader print.
 
-use crate::lines::{assert_ran, line_of, run_on};
+use crate::runs::{assert_ran, expect_printed, expect_refused, line_of, run_on};
 use std::test::Fail;
 
 /// Arguments, a line, and what is printed.
@@ -125,68 +125,70 @@ const PRINTED: &[(&str, &str, &str)] = &[
     ),
 ];
 
-/// Arguments, a line that is refused, and what is said.
-const REFUSED: &[(&str, &str, &str)] = &[
+/// Arguments, a line that is refused, the status, and what is said.
+const REFUSED: &[(&str, &str, u8, &str)] = &[
     // The required addition is absent.
-    ("uper need", "81406000\n", "RequiredExtensionNotPresent\n"),
-    ("uper need", "00\n", "RequiredExtensionNotPresent\n"),
-    ("uper need", "8000\n", "RequiredExtensionNotPresent\n"),
+    (
+        "uper need",
+        "81406000\n",
+        1,
+        "RequiredExtensionNotPresent\n",
+    ),
+    ("uper need", "00\n", 1, "RequiredExtensionNotPresent\n"),
+    ("uper need", "8000\n", 1, "RequiredExtensionNotPresent\n"),
     (
         "uper need0 as need",
         "00\n",
+        1,
         "RequiredExtensionNotPresent\n",
     ),
     // No presence bits.
-    ("uper group", "e000\n", "ParserFail\n"),
+    ("uper group", "e000\n", 1, "ParserFail\n"),
     // An open type of two octets, and of none.
-    ("uper group", "c040800000\n", "UnexpectedExtraData\n"),
-    ("uper group", "c04000\n", "Incomplete\n"),
+    ("uper group", "c040800000\n", 1, "UnexpectedExtraData\n"),
+    ("uper group", "c04000\n", 1, "Incomplete\n"),
     // A spare bit of 1 in an open type.
-    ("uper group zero", "c0404080\n", "ParserFail\n"),
+    ("uper group zero", "c0404080\n", 1, "ParserFail\n"),
     // An addition of 200 levels.
     (
         "uper dv2",
         "c0467fffffffffffffffffffffffffffffffffffffffffffffffff80\n",
+        1,
         "ExceedsMaxParseDepth\n",
     ),
     // No presence bits.
-    ("aper group", "e000\n", "ParserFail\n"),
+    ("aper group", "e000\n", 1, "ParserFail\n"),
     // By hand: an open type that holds an octet too many, and one too few.
     (
         "aper outer3",
         "c07005800102030003070809\n",
+        1,
         "UnexpectedExtraData\n",
     ),
-    ("aper outer3", "c0700380010203070809\n", "Incomplete\n"),
+    ("aper outer3", "c0700380010203070809\n", 1, "Incomplete\n"),
     // And padding that is not zero, before a length and within an open type.
     (
         "aper outer1 zero",
         "c07f048001020303070809\n",
+        1,
         "ParserFail\n",
     ),
     (
         "aper outer3 zero",
         "c07004ff01020303070809\n",
+        1,
         "ParserFail\n",
     ),
 ];
 
 #[test]
 fn prints_records_with_additions(rt: HostRuntime) -> Result<(), Fail> {
-    for (arguments, input, output) in PRINTED {
-        let ran = run_on(rt.alloc(), arguments, input.as_bytes())?;
-        assert_ran(&rt, &ran, 0, output, "");
-    }
-    Ok(())
+    expect_printed(&rt, rt.alloc(), PRINTED)
 }
 
 #[test]
 fn refuses_additions_by_name(rt: HostRuntime) -> Result<(), Fail> {
-    for (arguments, input, faults) in REFUSED {
-        let ran = run_on(rt.alloc(), arguments, input.as_bytes())?;
-        assert_ran(&rt, &ran, 1, "", faults);
-    }
-    Ok(())
+    expect_refused(&rt, rt.alloc(), REFUSED)
 }
 
 /// Arguments, the texts of a line, the status, what is printed, and what is said.

@@ -1,6 +1,6 @@
 //! The program's answers to lines in the ALIGNED variant.
 
-use crate::lines::{assert_ran, run_on};
+use crate::runs::{expect_printed, expect_refused};
 use std::test::Fail;
 
 /// Arguments, a line, and what is printed.
@@ -59,38 +59,45 @@ const PRINTED: &[(&str, &str, &str)] = &[
     ("aper boolean as byte", "ff\n", "80\n"),
 ];
 
-/// Arguments, a line that is refused, and what is said.
-const REFUSED: &[(&str, &str, &str)] = &[
-    ("aper integer", "0210\n", "Incomplete\n"),
-    ("aper integer", "00\n", "UnexpectedEmptyInput\n"),
-    ("aper octets", "c5\n", "ParserFail\n"),
-    ("aper seven", "0000\n", "UnexpectedExtraData\n"),
+/// Arguments, a line that is refused, the status, and what is said.
+const REFUSED: &[(&str, &str, u8, &str)] = &[
+    ("aper integer", "0210\n", 1, "Incomplete\n"),
+    ("aper integer", "00\n", 1, "UnexpectedEmptyInput\n"),
+    ("aper octets", "c5\n", 1, "ParserFail\n"),
+    ("aper seven", "0000\n", 1, "UnexpectedExtraData\n"),
     // 65537.
-    ("aper i65536", "80010001\n", "ValueConstraintNotSatisfied\n"),
+    (
+        "aper i65536",
+        "80010001\n",
+        1,
+        "ValueConstraintNotSatisfied\n",
+    ),
     // 253 in the octets `00fd`, as a number of no octets.
-    ("aper i65536 as integer", "3ffd\n", "UnexpectedEmptyInput\n"),
+    (
+        "aper i65536 as integer",
+        "3ffd\n",
+        1,
+        "UnexpectedEmptyInput\n",
+    ),
     // The same octets, whose padding bits are not zero.
-    ("aper i65536 zero", "3ffd\n", "ParserFail\n"),
+    ("aper i65536 zero", "3ffd\n", 1, "ParserFail\n"),
     // The code 7, of five characters.
-    ("aper five", "0807\n", "PermittedAlphabet\n"),
+    ("aper five", "0807\n", 1, "PermittedAlphabet\n"),
     // "abcd", as a count within the size.
-    ("aper vis", "6061626364\n", "SizeConstraintNotSatisfied\n"),
+    (
+        "aper vis",
+        "6061626364\n",
+        1,
+        "SizeConstraintNotSatisfied\n",
+    ),
 ];
 
 #[test]
 fn prints_the_canonical_aligned_encoding(rt: HostRuntime) -> Result<(), Fail> {
-    for (arguments, line, printed) in PRINTED {
-        let ran = run_on(rt.alloc(), arguments, line.as_bytes())?;
-        assert_ran(&rt, &ran, 0, printed, "");
-    }
-    Ok(())
+    expect_printed(&rt, rt.alloc(), PRINTED)
 }
 
 #[test]
 fn refuses_an_aligned_line_by_name(rt: HostRuntime) -> Result<(), Fail> {
-    for (arguments, line, said) in REFUSED {
-        let ran = run_on(rt.alloc(), arguments, line.as_bytes())?;
-        assert_ran(&rt, &ran, 1, "", said);
-    }
-    Ok(())
+    expect_refused(&rt, rt.alloc(), REFUSED)
 }

@@ -1,0 +1,16 @@
+//! Tests of what no clause of `per_lines` says: what the program prints and says to lines in both variants, to streams
+//! that break, and when it reads and writes.
+#![tactic(auto)]
+
+#[cfg(test)]
+mod additions;
+#[cfg(test)]
+mod aligned_lines;
+#[cfg(test)]
+mod forms;
+#[cfg(test)]
+mod lines;
+#[cfg(test)]
+mod runs;
+#[cfg(test)]
+mod streams;

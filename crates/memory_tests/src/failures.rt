@@ -1,0 +1,148 @@
+//! After a refusal of each kind the same encoder or decoder says AlreadyFailed, also to what takes no bits.
+
+use per_bits::BitReader;
+use per_de::{DecodeError, DecodeErrorKind, Decoder, DecoderOptions};
+use per_enc::{EncodeError, EncodeErrorKind, Encoder, EncoderOptions};
+use per_samples_a::bounded::OneToTenExtensible;
+use per_samples_a::half_bounded::FromMinusOne;
+use per_samples_b::strings::LettersAToE;
+use per_samples_c::colors::TwoColors;
+use per_samples_e::choice::Outer;
+use per_samples_e::lists::Nulls;
+use per_samples_e::nest::Nest;
+use per_samples_f::grouped::Grouped;
+use per_samples_f::one_needed::OneNeeded;
+use rasn_codec::codec::{Decode, Decoder as _, Encoder as _};
+use rasn_record::{Constraints, constraints};
+use rasn_types::octet_strings::Utf8String;
+use rasn_types::types::{Identifier, Tag};
+use std::alloc::Global;
+use std::process::Abort;
+
+/// A decoder of octets in the UNALIGNED variant.
+fn decoder_of(alloc: Global, octets: &[u8]) -> Decoder<'_> {
+    let bits = BitReader::from_octets(octets);
+    Decoder::from_reader(alloc, bits, DecoderOptions::unaligned())
+}
+
+/// A decoder has refused with a kind of this name, and refuses again.
+fn expect_failed(
+    rt: &impl Abort,
+    decoder: &mut Decoder<'_>,
+    error: Option<DecodeError>,
+    name: &str,
+) {
+    assert_eq!(rt; error.map(|e| e.kind.name()), Some(name));
+    let again = decoder.decode_null(Tag::NULL).err();
+    assert_eq!(rt; again.map(|e| e.kind), Some(DecodeErrorKind::AlreadyFailed));
+}
+
+/// A decoder refuses octets of a type with a kind of this name, and refuses again.
+fn expect_unread<T: Decode>(rt: &impl Abort, alloc: Global, octets: &[u8], name: &str) {
+    let mut decoder = decoder_of(alloc, octets);
+    let error = T::decode(&mut decoder).err();
+    expect_failed(rt, &mut decoder, error, name);
+}
+
+#[test]
+fn reads_nothing_behind_what_is_no_number(rt: HostRuntime) {
+    expect_unread::<i128>(&rt, rt.alloc(), &[0x02, 0x10], "Incomplete");
+    expect_unread::<i128>(&rt, rt.alloc(), &[0x00], "UnexpectedEmptyInput");
+    expect_unread::<i128>(&rt, rt.alloc(), &[0xc0], "ParserFail");
+    expect_unread::<OneToTenExtensible>(&rt, rt.alloc(), &[0x78], "ValueConstraintNotSatisfied");
+    expect_unread::<FromMinusOne>(&rt, rt.alloc(), PAST_128_BITS, "IntegerOverflow");
+    expect_unread::<TwoColors>(&rt, rt.alloc(), &[0x81], "EnumerationIndexNotFound");
+}
+
+/// 2 to the 127th, as its distance from -1.
+const PAST_128_BITS: &[u8] = &[
+    0x10, 0x80, 0x00, 0x00, 0x00, 0x00, 0x00, 0x00, 0x00, 0x00, 0x00, 0x00, 0x00, 0x00, 0x00, 0x00,
+    0x01,
+];
+
+#[test]
+fn reads_nothing_behind_what_is_no_text_or_list(rt: HostRuntime) {
+    expect_unread::<Nulls>(&rt, rt.alloc(), &[0x96, 0x00], "SizeConstraintNotSatisfied");
+    expect_unread::<LettersAToE>(&rt, rt.alloc(), &[0x0f, 0x00], "PermittedAlphabet");
+    expect_unread::<Utf8String>(
+        &rt,
+        rt.alloc(),
+        &[0x02, 0xc3, 0x28],
+        "StringConversionFailed",
+    );
+}
+
+#[test]
+fn reads_nothing_behind_what_is_no_record_or_choice(rt: HostRuntime) {
+    expect_unread::<Outer>(&rt, rt.alloc(), &[0xc0], "ChoiceIndexNotFound");
+    expect_unread::<OneNeeded>(&rt, rt.alloc(), &[0x00], "RequiredExtensionNotPresent");
+    expect_unread::<Grouped>(&rt, rt.alloc(), &[0xe0, 0x00], "ParserFail");
+    expect_unread::<Grouped>(&rt, rt.alloc(), EXTRA_OCTET, "UnexpectedExtraData");
+    expect_unread::<Nest>(&rt, rt.alloc(), &[0xff; 17], "ExceedsMaxParseDepth");
+}
+
+/// A group that holds nothing, in an open type of two octets.
+const EXTRA_OCTET: &[u8] = &[0xc0, 0x40, 0x80, 0x00, 0x00];
+
+#[test]
+fn reads_nothing_behind_a_call_out_of_turn(rt: HostRuntime) {
+    let mut decoder = decoder_of(rt.alloc(), &[0x80]);
+    let error = decoder.next_presence().err();
+    expect_failed(&rt, &mut decoder, error, "MissingTag");
+    let mut decoder = decoder_of(rt.alloc(), &[0x80]);
+    let error = decoder.open_addition().err();
+    expect_failed(&rt, &mut decoder, error, "TypeNotExtensible");
+    let mut decoder = decoder_of(rt.alloc(), &[0x80]);
+    let error = decoder.decode_real(Tag::REAL, &Constraints::NONE).err();
+    expect_failed(&rt, &mut decoder, error, "RealNotSupported");
+}
+
+/// An encoder has refused with a kind of this name, and refuses again.
+fn expect_unwritten(
+    rt: &impl Abort,
+    encoder: &mut Encoder<Global>,
+    error: Option<EncodeError>,
+    name: &str,
+) {
+    assert_eq!(rt; error.map(|e| e.kind.name()), Some(name));
+    let again = encoder.encode_null(Tag::NULL, Identifier::EMPTY).err();
+    assert_eq!(rt; again.map(|e| e.kind), Some(EncodeErrorKind::AlreadyFailed));
+}
+
+/// An encoder in the UNALIGNED variant.
+fn encoder(alloc: Global) -> Encoder<Global> {
+    Encoder::new(alloc, EncoderOptions::unaligned())
+}
+
+const NONE: Identifier = Identifier::EMPTY;
+
+const ZERO_TO_SEVEN: Constraints = Constraints(constraints!(0..=7));
+
+const SIZE_3: Constraints = Constraints(constraints!(SIZE 3..=3));
+
+#[test]
+fn writes_nothing_behind_a_value_that_it_refused(rt: HostRuntime) {
+    let mut number = encoder(rt.alloc());
+    let error = number
+        .encode_integer::<i128>(Tag::INTEGER, &ZERO_TO_SEVEN, &9, NONE)
+        .err();
+    expect_unwritten(&rt, &mut number, error, "ValueConstraintNotSatisfied");
+    let mut octets = encoder(rt.alloc());
+    let error = octets
+        .encode_octet_string(Tag::OCTET_STRING, &SIZE_3, &[], NONE)
+        .err();
+    expect_unwritten(&rt, &mut octets, error, "SizeConstraintNotSatisfied");
+    let mut real = encoder(rt.alloc());
+    let error = real.encode_real(Tag::REAL, &Constraints::NONE, NONE).err();
+    expect_unwritten(&rt, &mut real, error, "RealNotSupported");
+}
+
+#[test]
+fn writes_nothing_behind_a_call_out_of_turn(rt: HostRuntime) {
+    let mut part = encoder(rt.alloc());
+    let error = part.set_presence(true).err();
+    expect_unwritten(&rt, &mut part, error, "OutOfTurn");
+    let mut addition = encoder(rt.alloc());
+    let error = addition.skip_addition().err();
+    expect_unwritten(&rt, &mut addition, error, "TooManyAdditions");
+}
