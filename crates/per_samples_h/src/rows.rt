@@ -32,9 +32,11 @@ pub fn root_alternatives_are_written_behind_their_index()
 #[tactic(auto, unfolding(per_core::specs::Canon::bytes, rasn_schema::specs::Normal::normal))]
 pub fn added_alternatives_are_open_types()
     ensures only { let own = ⟦<Alt2 as AsnType>⟧ in
-        IsWrittenAs unaligned (own.schema own.CONSTRAINTS) own.levels own.value (B true) (0x80 ∷ 0x01 ∷ 0x80 ∷ []) }
+        IsWrittenAs unaligned (own.schema own.CONSTRAINTS) own.levels own.value (B true)
+        (0x80 ∷ 0x01 ∷ 0x80 ∷ []) }
     ensures first { let own = ⟦<Several as AsnType>⟧ in
-        IsWrittenAs unaligned (own.schema own.CONSTRAINTS) own.levels own.value (Small 5) (0x80 ∷ 0x01 ∷ 0xa0 ∷ []) }
+        IsWrittenAs unaligned (own.schema own.CONSTRAINTS) own.levels own.value (Small 5)
+        (0x80 ∷ 0x01 ∷ 0xa0 ∷ []) }
     ensures second { let own = ⟦<Several as AsnType>⟧ in
         IsWrittenAs aligned (own.schema own.CONSTRAINTS) own.levels own.value Done (0x81 ∷ 0x01 ∷ 0x00 ∷ []) }
 {}
