@@ -11,3 +11,4 @@ pub mod State
 pub mod Tails
 pub mod ChoiceLaws
 pub mod Choices
+pub mod Dates
