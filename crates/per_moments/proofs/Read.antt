@@ -7,7 +7,11 @@ use Rattle.rasn_types.specs.Values.{Value, day}
 use Rattle.rasn_types.specs.Variants.{Variant, aligned, unaligned}
 use Rattle.rasn_constraints.specs.Bounds.{Bounds, between, fits_i128, holds, unbounded}
 use Rattle.rasn_constraints.specs.Ranges.{unsigned_range}
+use Rattle.std.specs.Prelude.{Result, Ok, Err, IfOk}
+use Rattle.jiff.specs.Types.{Date}
+use Rattle.rasn_times.proofs.Calendar.{date_is, tested}
 use Rattle.rasn_schema.specs.Schemas.{Schema}
+use Rattle.rasn_calls.specs.Moments.{date_value}
 use Rattle.per_core.specs.Basic.{IsConstrainedWhole, IsNumberOf, IsUnconstrainedWhole, Octets, Year, YearIn, basic, basic_in, constrained_by, constrained_form, year_form}
 use Rattle.per_core.specs.Spellings.{Settings, Field, Then, AnyPadding}
 use Rattle.per_core.specs.Took.{Took}
@@ -21,7 +25,8 @@ use Rattle.per_read.specs.declared.error.DecodeErrorKind.{DecodeErrorKind}
 use Rattle.per_read.specs.declared.error.DecodeErrorKind.TheVariants.{IntegerOverflow, InvalidDate, UnexpectedEmptyInput, ValueConstraintNotSatisfied}
 use Rattle.per_read.proofs.Fields.{field_below, when_took}
 use Rattle.per_read.proofs.Refusals.{faulty_map}
-use Rattle.per_scopes.specs.Dates.{IsEmptyYear, IsNoDay, IsNoPart, IsOfDate, no_day_in_month, no_month, numbers_form}
+use Rattle.per_scopes.specs.Dates.{IsOfDate, no_day_in_month, no_month, numbers_form}
+use Rattle.per_moments.specs.Years
 use Rattle.per_moments.specs.Years.{IsOfYear}
 use Rattle.per_moments.proofs.Written.{fits_small}
 
@@ -108,6 +113,12 @@ module _ (a : Settings) {s : Bits} where
 
   range_of_year : (z : ℤ) {t : Bits} → Took (Year a z) s t → (i : ℕ) × (m : Bits) × Took (Field 2 i) s m × Took (year_form a i z) m t
   range_of_year z b = (b.spelled.range, then_took (record { front = b.front; joins = b.joins; spelled = b.spelled.spelled }))
+
+  -- too few bits for an index
+  pub short_year : (k : DecodeErrorKind) → IsTested k → IsOfYear a s k
+  short_year UnexpectedEmptyInput h = absurd h
+  short_year (IntegerOverflow width) h = absurd h
+  short_year _ h = h
 
   pub no_index : NoneIn (Field 2) s → NoneIn (Year a) s
   no_index none z t b = let q = range_of_year z b in none q.0 q.1.0 q.1.1.0
@@ -201,3 +212,103 @@ module _ (a : Settings) {s : Bits} where
   year_fault UnexpectedEmptyInput h = h
   year_fault (IntegerOverflow width) h = tt
   year_fault _ h = h
+
+  month_kind : (y : ℤ) {m : Bits} (k : DecodeErrorKind) → Took (Year a y) s m → IsOfNumber a (between (pos 1) (pos 12)) false m k → IsOfDate a s k
+  month_kind y {m} UnexpectedEmptyInput by h = absurd (not_empty a (pos 1) (pos 12) m h)
+  month_kind y (ValueConstraintNotSatisfied named low high) by h = no_month y by h
+  month_kind y (IntegerOverflow width) by h = tt
+  month_kind y InvalidDate by h = absurd h
+  month_kind y _ by h = h
+
+  day_kind : (y : ℤ) (j : ℕ) {m n : Bits} (k : DecodeErrorKind) → Took (Year a y) s m → Took (IsConstrainedWhole a 12 j) m n → IsOfNumber a (between (pos 1) (pos 31)) false n k → IsOfDate a s k
+  day_kind y j {n = n} UnexpectedEmptyInput by bm h = absurd (not_empty a (pos 1) (pos 31) n h)
+  day_kind y j (ValueConstraintNotSatisfied named low high) by bm h = no_day_in_month y j by bm h
+  day_kind y j (IntegerOverflow width) by bm h = tt
+  day_kind y j InvalidDate by bm h = absurd h
+  day_kind y j _ by bm h = h
+
+  in_octet : (n : ℕ) → n < 255 → (k : ℕ) → k < n → holds (unsigned_range 8) (pos (1 + k)) ≡ true
+  in_octet n i k h = ap₂ (λ b c. b && c) (le-leb 0 (1 + k) (omega arith)) (le-leb (1 + k) 255 (omega (arith, h, i)))
+
+  pub month_fault : (y : ℤ) {m : Bits} (k : DecodeErrorKind) → Took (Year a y) s m
+      → Faulty (IsOfNumber a (between (pos 1) (pos 12)) false m) (NoneIn (IsNumberOf a (between (pos 1) (pos 12)) false (unsigned_range 8)) m) k
+      → Faulty (IsOfDate a s) (NoneIn (basic a Schema.date) s) k
+  month_fault y {m} k by = faulty_map k (month_kind y k by) no
+    where
+      no : NoneIn (IsNumberOf a (between (pos 1) (pos 12)) false (unsigned_range 8)) m → NoneIn (basic a Schema.date) s
+      no none v t b =
+          let q = numbers_of v b in
+          let r = then_took q.1.1.1 in
+          let e = (took_agree (year_agree a q.0.0 y) r.1.0 by).1 in
+          let n = then_took r.1.1 in
+          none_of a 1 12 12 (unsigned_range 8) refl (omega arith) (omega arith) (in_octet 12 (omega arith)) none q.0.1 n.0 (subst (λ (w : Bits). Took (IsConstrainedWhole a 12 q.0.1) w n.0) e n.1.0)
+
+  pub day_fault : (y mo : ℤ) {m n : Bits} (k : DecodeErrorKind) → Took (Year a y) s m → Took (IsNumberOf a (between (pos 1) (pos 12)) false (unsigned_range 8) mo) m n
+      → Faulty (IsOfNumber a (between (pos 1) (pos 31)) false n) (NoneIn (IsNumberOf a (between (pos 1) (pos 31)) false (unsigned_range 8)) n) k
+      → Faulty (IsOfDate a s) (NoneIn (basic a Schema.date) s) k
+  day_fault y mo {m} {n} k by bm = faulty_map k (day_kind y j.0 k by j.1.1) no
+    where
+      j : (i : ℕ) × (mo ≡ pos (1 + i)) × Took (IsConstrainedWhole a 12 i) m n
+      j = one_of a 1 12 12 (unsigned_range 8) mo refl bm
+
+      no : NoneIn (IsNumberOf a (between (pos 1) (pos 31)) false (unsigned_range 8)) n → NoneIn (basic a Schema.date) s
+      no none v t b =
+          let q = numbers_of v b in
+          let r = then_took q.1.1.1 in
+          let e = (took_agree (year_agree a q.0.0 y) r.1.0 by).1 in
+          let w = then_took r.1.1 in
+          let f = (took_agree (bounded_agree a 12 q.0.1 j.0) (subst (λ (z : Bits). Took (IsConstrainedWhole a 12 q.0.1) z w.0) e w.1.0) j.1.1).1 in
+          none_of a 1 31 31 (unsigned_range 8) refl (omega arith) (omega arith) (in_octet 31 (omega arith)) none q.0.2 t (subst (λ (z : Bits). Took (IsConstrainedWhole a 31 q.0.2) z t) f w.1.1)
+
+  numbers_agree : (y z : ℤ) (i j k l : ℕ) → Agree ((y ≡ z) × (i ≡ j) × (k ≡ l)) (numbers_form a y i k) (numbers_form a z j l)
+  numbers_agree y z i j k l = then_agree (year_agree a y z) (λ e. then_agree (bounded_agree a 12 i j) (λ f. bounded_agree a 31 k l))
+
+  -- a year, a month and a day that were taken
+  module _ (y : ℤ) (mo da : ℕ) {m n t : Bits} (by : Took (Year a y) s m) (bm : Took (IsNumberOf a (between (pos 1) (pos 12)) false (unsigned_range 8) (pos mo)) m n)
+      (bd : Took (IsNumberOf a (between (pos 1) (pos 31)) false (unsigned_range 8) (pos da)) n t) where
+    taken : (j : ℕ) × (k : ℕ) × (pos mo ≡ pos (suc j)) × (pos da ≡ pos (suc k)) × Took (numbers_form a y j k) s t
+    taken = numbers_took y (pos mo) (pos da) by bm bd
+
+    month_is : mo ≡ suc taken.0
+    month_is = let e : pos mo ≡ pos (suc taken.0) = taken.1.1.0 in cc
+
+    day_is : da ≡ suc taken.1.0
+    day_is = let e : pos da ≡ pos (suc taken.1.0) = taken.1.1.1.0 in cc
+
+    pub day_found : is_date y mo da ≡ true → Took (basic a Schema.date (day y mo da)) s t
+    day_found l =
+        let i : is_date y (suc taken.0) (suc taken.1.0) ≡ true = subst (λ (k : ℕ). is_date y (suc taken.0) k ≡ true) day_is (subst (λ (j : ℕ). is_date y j da ≡ true) month_is l) in
+        subst (λ (j : ℕ). Took (basic a Schema.date (day y j da)) s t) (sym month_is)
+        (subst (λ (k : ℕ). Took (basic a Schema.date (day y (suc taken.0) k)) s t) (sym day_is) (day_of y taken.0 taken.1.0 i taken.1.1.1.1))
+
+    pub known_found : (r : Result Date DecodeErrorKind) → IfOk r (λ date. date_value date ≡ day y mo da) → IfOk r (λ date. is_date y mo da ≡ true)
+        → IfOk r (λ date. Took (basic a Schema.date (date_value date)) s t)
+    known_found (Ok d) e l = subst (λ (v : Value). Took (basic a Schema.date v) s t) (sym e) (day_found l)
+    known_found (Err k) e l = tt
+
+    pub no_day : (k : DecodeErrorKind) → Years.IsNoDay y mo da k → Faulty (IsOfDate a s) (NoneIn (basic a Schema.date) s) k
+    no_day k (inl e) = inl e
+    no_day k (inr h) = inr (subst (λ (z : DecodeErrorKind). IsOfDate a s z) (sym h.0) (record { year = y; month = taken.0; day = taken.1.0; rest = t; took = taken.1.1.1.1; no_day = none }), other)
+      where
+        none : is_date y (suc taken.0) (suc taken.1.0) ≡ false
+        none = subst (λ (k : ℕ). is_date y (suc taken.0) k ≡ false) day_is (subst (λ (j : ℕ). is_date y j da ≡ false) month_is h.1)
+
+        other : NoneIn (basic a Schema.date) s
+        other v u b =
+            let q = numbers_of v b in
+            let e = (took_agree (numbers_agree q.0.0 y q.0.1 taken.0 q.0.2 taken.1.0) q.1.1.1 taken.1.1.1.1).0 in
+            let f : is_date q.0.0 (suc q.0.1) (suc q.0.2) ≡ is_date y (suc taken.0) (suc taken.1.0) = ap (λ z. is_date z (suc q.0.1) (suc q.0.2)) e.0 ∙ ap (λ (z : ℕ). is_date y (suc z) (suc q.0.2)) e.1.0
+                ∙ ap (λ (z : ℕ). is_date y (suc taken.0) (suc z)) e.1.1 in
+            true≢false (sym q.1.1.0 ∙ f ∙ none)
+
+-- a year that no i128 holds is none of the calendar
+pub too_far : (y : ℤ) (m d : ℕ) → fits_i128 y ≡ false → is_date y m d ≡ false
+too_far y m d n = go (is_date y m d) refl
+  where
+    held : (y : ℤ) → le_z (negsuc 9998) y ≡ true → le_z y (pos 9999) ≡ true → fits_i128 y ≡ true
+    held (pos k) e f = le-leb k (2 ^ 127 - 1) (omega (arith, leb-true k 9999 f))
+    held (negsuc k) e f = ap (λ b. b && true) (le-leb k (2 ^ 127 - 1) (omega (arith, leb-true k 9998 e)))
+
+    go : (b : Bool) → is_date y m d ≡ b → is_date y m d ≡ false
+    go true e = let h = (date_is y m d e).0 in absurd (true≢false (sym (held y (tested _ _ h.0) (tested _ _ h.1)) ∙ n))
+    go false e = e

@@ -19,6 +19,7 @@ use Rattle.per_write.specs.Faults.{IsMemory}
 use Rattle.per_write.specs.Rules.{encoder_rules}
 use Rattle.per_write.specs.State.{Puts, State, Wrote}
 use Rattle.per_write.proofs.Writing.{wrote_then}
+use Rattle.per_moments.specs.Years.{put_within}
 
 pub fits_small : (n : ℕ) → n < 65536 → fits_i128 (pos n) ≡ true
 fits_small n h = le-leb n (2 ^ 127 - 1) (omega (arith, h))
@@ -31,9 +32,6 @@ under_both a l u v h = ap (λ (b : Bool). written_if b (constrained_whole a (u -
 -- a year in one of the ranges
 abbrev ranged : Variant → ℕ → ℕ → ℕ → ℤ → Writer
 ranged a k low n y = constrained_whole a 4 k ▹ constrained_whole a n (year_of y - low)
-
-abbrev pub put_within : Variant → ℤ → ℤ → ℤ → ℤ → Writer
-put_within a k l u y = number_under a (Some (pos 0)) (Some (pos 3)) k ▹ number_under a (Some l) (Some u) y
 
 ranged_is : (a : Variant) (k l u : ℕ) (y : ℤ) → k < 65536 → u < 65536 → in_range l u y ≡ true → put_within a (pos k) (pos l) (pos u) y ≡ ranged a (k - 0) l (u - l + 1) y
 ranged_is a k l u (pos v) i j h =

@@ -7,9 +7,8 @@ ghost use Rattle.rasn_schema.specs.Schemas.{Schema};
 ghost use Rattle.rasn_calls.specs.Moments.{date_value};
 ghost use Rattle.per_core.specs.Basic.{basic, Year};
 ghost use Rattle.per_read.specs.Takes.{Takes, memory_or, itself};
-ghost use Rattle.per_read.specs.declared.error.DecodeErrorKind.TheVariants.{InvalidDate};
 ghost use Rattle.per_scopes.specs.Dates.{IsOfDate};
-ghost use Rattle.per_moments.specs.Years.{IsOfYear};
+ghost use Rattle.per_moments.specs.Years.{IsNoDay, IsOfYear};
 
 use jiff::civil::Date;
 use per_read::Reader;
@@ -17,6 +16,7 @@ use per_read::error::DecodeErrorKind;
 use rasn_constraints::constraints::{Bounded, Constraint, Constraints, Extensible};
 use rasn_constraints::integer_type::IntegerType;
 use rasn_times::date::date_from_parts;
+use rasn_times::error::TimeError;
 use rasn_types::big::Integer;
 
 /// A value constraint: a least and a greatest number.
@@ -70,14 +70,14 @@ fn take_year(reader: &mut Reader<'_>) -> Result<Integer, DecodeErrorKind>
 fn known_day(year: &Integer, month: u8, day: u8) -> Result<Date, DecodeErrorKind>
     ensures known { IfOk result (λ date. date_value date ≡ day_value year.now month day) }
     ensures lawful { IfOk result (λ date. is_date year.now month day ≡ true) }
-    ensures none { IfErr result (λ kind. kind ≡ InvalidDate) }
-    ensures refused { IfErr result (λ kind. is_date year.now month day ≡ false) }
+    ensures none { IfErr result (IsNoDay year.now month day) }
 {
     let Some(year) = year.to_i128() else {
         return Err(DecodeErrorKind::InvalidDate);
     };
     match date_from_parts(year, month, day) {
         Ok(date) => Ok(date),
-        Err(_) => Err(DecodeErrorKind::InvalidDate),
+        Err(TimeError::InvalidDate) => Err(DecodeErrorKind::InvalidDate),
+        Err(_) => Err(DecodeErrorKind::OutOfMemory),
     }
 }

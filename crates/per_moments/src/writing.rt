@@ -1,16 +1,16 @@
 //! DATE as it is written (X.691 32).
 
-ghost use Rattle.std.specs.Prelude.{◌≡◌, ◌≤ℤ◌, false, true, Some, pos};
+ghost use Rattle.std.specs.Prelude.{◌≡◌, false, true, pos};
 ghost use Rattle.rasn_types.specs.Contents.{is_date};
+ghost use Rattle.rasn_constraints.specs.Bounds.{between, holds};
 ghost use Rattle.rasn_schema.specs.Schemas.{Schema};
 ghost use Rattle.rasn_calls.specs.Calls.{Writes};
 ghost use Rattle.rasn_calls.specs.Moments.{date_value};
 ghost use Rattle.per_core.specs.Canon.{date_of, year_writer};
-ghost use Rattle.per_core.specs.Counts.{number_under};
-ghost use Rattle.per_core.specs.Writers.{◌▹◌};
 ghost use Rattle.per_write.specs.Faults.{IsMemory};
 ghost use Rattle.per_write.specs.Rules.{encoder_rules};
 ghost use Rattle.per_write.specs.State.{PutsIn};
+ghost use Rattle.per_moments.specs.Years.{put_within};
 
 use jiff::civil::Date;
 use per_write::Writer;
@@ -52,15 +52,23 @@ fn put_year<A: Allocator + Clone>(writer: &mut Writer<A>, year: i128) -> Result<
     requires { writer.old.failed ≡ false }
     ensures { PutsIn IsMemory (λ a. year_writer a year) writer.old result writer.new }
 {
-    match year {
-        2005..=2020 => put_year_within(writer, 0, 2005, 2020, year),
-        2021..=2276 => put_year_within(writer, 1, 2021, 2276, year),
-        1749..=2004 => put_year_within(writer, 2, 1749, 2004, year),
-        _ => {
-            writer.put_number(Some(0), Some(3), 3)?;
-            writer.put_number(None, None, year)
-        }
+    if is_from_to(2005, 2020, year) {
+        put_year_within(writer, 0, 2005, 2020, year)
+    } else if is_from_to(2021, 2276, year) {
+        put_year_within(writer, 1, 2021, 2276, year)
+    } else if is_from_to(1749, 2004, year) {
+        put_year_within(writer, 2, 1749, 2004, year)
+    } else {
+        writer.put_number(Some(0), Some(3), 3)?;
+        writer.put_number(None, None, year)
     }
+}
+
+/// Whether a year is one of a range.
+fn is_from_to(first: i128, last: i128, year: i128) -> bool
+    ensures { result ≡ holds (between first last) year }
+{
+    first <= year && year <= last
 }
 
 /// Writes the index of a range, and a year that it holds.
@@ -72,12 +80,9 @@ fn put_year_within<A: Allocator + Clone>(
     year: i128,
 ) -> Result<(), EncodeError>
     requires begun { writer.old.failed ≡ false }
-    requires some { pos 0 ≤ℤ index }
-    requires known { index ≤ℤ pos 3 }
-    requires from { first ≤ℤ year }
-    requires to { year ≤ℤ last }
-    ensures { PutsIn IsMemory (λ a. number_under a (Some (pos 0)) (Some (pos 3)) index
-        ▹ number_under a (Some first) (Some last) year) writer.old result writer.new }
+    requires known { holds (between (pos 0) (pos 3)) index ≡ true }
+    requires held { holds (between first last) year ≡ true }
+    ensures { PutsIn IsMemory (λ a. put_within a index first last year) writer.old result writer.new }
 {
     writer.put_number(Some(0), Some(3), index)?;
     writer.put_number(Some(first), Some(last), year)
