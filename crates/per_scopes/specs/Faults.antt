@@ -30,6 +30,7 @@ use Rattle.per_additions.specs.Additions.{Addition, NextFlag, rule_of}
 use Rattle.per_additions.specs.Bitmaps.{skipped_unknown}
 use Rattle.per_additions.specs.Ends.{IsOfEnd}
 use Rattle.per_scopes.specs.Additions.{Asks, Shown, Waiting}
+use Rattle.per_scopes.specs.Dates.{IsOfDate}
 use Rattle.per_scopes.specs.State.{Extension, ahead, State, extension_of, settings_of, with_last}
 
 -- what a kind says where no level is left
@@ -55,6 +56,7 @@ IsAt a (Schema.char_string alphabet size mark) s k = IsOfString a alphabet size 
 IsAt a (Schema.text kind) s k = IsOfText a kind s k
 IsAt a Schema.identifier s k = IsOfIdentifier a s k
 IsAt a (Schema.time kind) s k = IsOfTime a kind s k
+IsAt a Schema.date s k = IsOfDate a s k
 IsAt a Schema.real s k = IsOfReal k
 IsAt a (Schema.list e size mark) s k = IsOfSize a size mark list_items (basic a e) s k
 IsAt a (Schema.set_of e size mark) s k = IsOfSize a size mark list_items (basic a e) s k

@@ -12,3 +12,4 @@ pub mod State
 pub mod Tails
 pub mod ChoiceLaws
 pub mod Choices
+pub mod Dates

@@ -33,7 +33,7 @@ impl<A: Allocator + Clone> Writer<A> {
     }
 
     /// Writes a number of an `i128` that is within bounds (X.691 13.2).
-    fn put_number(
+    pub fn put_number(
         &mut self,
         lower: Option<i128>,
         upper: Option<i128>,

@@ -21,12 +21,13 @@ ghost use Rattle.rasn_calls.specs.Calls.{DecoderRules, freely_read, Reads, Decod
 ghost use Rattle.rasn_calls.specs.Choices.{ChoicesWell, OpensToChoose};
 ghost use Rattle.rasn_calls.specs.Reals.{ReadsNoReal};
 ghost use Rattle.rasn_calls.specs.Lists.{AmidRead, OpensListToRead, ReadsNext};
+ghost use Rattle.rasn_calls.specs.Moments.{date_at, date_value};
 ghost use Rattle.rasn_calls.specs.Moments.{generalized_value, identifier_value, utc_value};
 ghost use Rattle.rasn_calls.specs.Scopes.{OpensToRead, ClosesRead, ReadsAround, ScopesWell};
 ghost use Rattle.rasn_calls.specs.Sets.{ReadsSet, SetsWell};
 
 use crate::parts::{DecodeAdditions, DecodeParts};
-use jiff::civil::DateTime;
+use jiff::civil::{Date, DateTime};
 use rasn_schema::choices::Choice;
 use rasn_schema::enumerated::Enumerated;
 use rasn_schema::fields::Constructed;
@@ -211,6 +212,11 @@ pub trait Decoder: Sized {
     /// (X.690 11.7) are refused.
     fn decode_generalized_time(&mut self, tag: Tag) -> Result<DateTime, Self::Error>
         ensures { Reads rules (Schema.time generalized) generalized_value self.old result self.new };
+
+    /// Reads a DATE (X.691 32), which takes two levels, and gives them back. A year, a month and a day that are no day
+    /// of the calendar are refused; with fewer than two levels left it refuses.
+    fn decode_date(&mut self, tag: Tag) -> Result<Date, Self::Error>
+        ensures { Reads rules (date_at (rules.levels self.old)) date_value self.old result self.new };
 
     /// Refuses from now on, and answers that a required addition, which has this tag, isn't there.
     fn required_extension_not_present(&mut self, tag: Tag) -> Self::Error

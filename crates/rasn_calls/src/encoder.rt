@@ -18,13 +18,13 @@ ghost use Rattle.rasn_schema.specs.Choices.{choices_of};
 ghost use Rattle.rasn_schema.specs.Fields.{tag_of};
 ghost use Rattle.rasn_calls.specs.Choices.{ClosesChoice, OpensChoice, WritesChoice};
 ghost use Rattle.rasn_calls.specs.Lists.{Amid, OpensList, WritesNext, ClosesList};
-ghost use Rattle.rasn_calls.specs.Moments.{generalized_value, identifier_value, utc_value};
+ghost use Rattle.rasn_calls.specs.Moments.{date_value, generalized_value, identifier_value, utc_value};
 ghost use Rattle.rasn_calls.specs.Reals.{WritesNoReal};
 ghost use Rattle.rasn_calls.specs.Scopes.{OpensToWrite, ClosesWritten, WritesAround, deeper_of};
 ghost use Rattle.rasn_calls.specs.Sets.{SetsWritten, WritesSet};
 
 use crate::parts::{EncodeAdditions, EncodeParts};
-use jiff::civil::DateTime;
+use jiff::civil::{Date, DateTime};
 use rasn_schema::choices::Choice;
 use rasn_schema::enumerated::Enumerated;
 use rasn_schema::fields::{AdditionGroup, Constructed};
@@ -232,6 +232,15 @@ pub trait Encoder: Sized {
         identifier: Identifier,
     ) -> Result<(), Self::Error>
         ensures { Writes rules (Schema.time generalized) (generalized_value value.now) self.old result self.new };
+
+    /// Writes a DATE (X.691 32): its year, as one of a range where one of three holds it, its month and its day.
+    fn encode_date(
+        &mut self,
+        tag: Tag,
+        value: &Date,
+        identifier: Identifier,
+    ) -> Result<(), Self::Error>
+        ensures { Writes rules Schema.date (date_value value.now) self.old result self.new };
 
     /// Opens a SEQUENCE (X.691 19): the calls from here to `close_sequence` write its root components, in the order of
     /// `FIELDS`, and then give its additions, in the order of `EXTENDED_FIELDS`.
