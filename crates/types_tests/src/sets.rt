@@ -56,26 +56,44 @@ fn component_with_the_smaller_tag_stands_first(rt: HostRuntime) -> Result<(), Fa
 
 #[test]
 fn private_tag_stands_last(rt: HostRuntime) -> Result<(), Fail> {
-    let set = SetOptional { p: Some(true), q: None, r: None };
+    let set = SetOptional {
+        p: Some(true),
+        q: None,
+        r: None,
+    };
     expect_both(&rt, rt.alloc(), &set, &[0x30])
 }
 
 #[test]
 fn presence_bits_are_in_the_order_of_tags(rt: HostRuntime) -> Result<(), Fail> {
-    let set = SetOptional { p: Some(true), q: Some(false), r: None };
+    let set = SetOptional {
+        p: Some(true),
+        q: Some(false),
+        r: None,
+    };
     expect_both(&rt, rt.alloc(), &set, &[0xa8])
 }
 
 #[test]
 fn second_tag_alone(rt: HostRuntime) -> Result<(), Fail> {
-    let set = SetOptional { p: None, q: None, r: Some(true) };
+    let set = SetOptional {
+        p: None,
+        q: None,
+        r: Some(true),
+    };
     expect_both(&rt, rt.alloc(), &set, &[0x50])
 }
 
 #[test]
 fn choice_counts_with_its_smallest_tag(rt: HostRuntime) -> Result<(), Fail> {
-    let other = SetChoice { k: false, c: TruthOrNone::N };
+    let other = SetChoice {
+        k: false,
+        c: TruthOrNone::N,
+    };
     expect_both(&rt, rt.alloc(), &other, &[0x80])?;
-    let smallest = SetChoice { k: true, c: TruthOrNone::M(false) };
+    let smallest = SetChoice {
+        k: true,
+        c: TruthOrNone::M(false),
+    };
     expect_both(&rt, rt.alloc(), &smallest, &[0x20])
 }
