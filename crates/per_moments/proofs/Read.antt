@@ -49,10 +49,13 @@ module _ (a : Settings) (l u n : ℕ) (range : Bounds) where
       let within : holds (between (pos l) (pos u)) (pos (l + k)) ≡ true = ap₂ (λ b c. b && c) least most in
       let fits = fits_small (l + k) (omega (arith, below, e, o, i)) in
       let back : l + k - l ≡ k = omega arith in
-      took_map (λ p c x. record { in_range = r; spelled = record {
-        within = within;
-        spelled = (fits, subst (λ (m : ℕ). IsConstrainedWhole a m (l + k - l) p c) (sym e) (subst (λ (m : ℕ). IsConstrainedWhole a n m p c) (sym back) x));
-      } }) b
+      took_map (λ p c x. record {
+        in_range = r;
+        spelled = record {
+          within = within;
+          spelled = (fits, subst (λ (m : ℕ). IsConstrainedWhole a m (l + k - l) p c) (sym e) (subst (λ (m : ℕ). IsConstrainedWhole a n m p c) (sym back) x));
+        };
+      }) b
 
   pub none_of : {s : Bits} → u - l + 1 ≡ n → l ≤ u → u < 65536 → ((k : ℕ) → k < n → holds range (pos (l + k)) ≡ true) → NoneIn (IsNumberOf a (between (pos l) (pos u)) false range) s
       → NoneIn (IsConstrainedWhole a n) s
@@ -298,7 +301,7 @@ module _ (a : Settings) {s : Bits} where
             let q = numbers_of v b in
             let e = (took_agree (numbers_agree q.0.0 y q.0.1 taken.0 q.0.2 taken.1.0) q.1.1.1 taken.1.1.1.1).0 in
             let f : is_date q.0.0 (suc q.0.1) (suc q.0.2) ≡ is_date y (suc taken.0) (suc taken.1.0) = ap (λ z. is_date z (suc q.0.1) (suc q.0.2)) e.0 ∙ ap (λ (z : ℕ). is_date y (suc z) (suc q.0.2)) e.1.0
-                ∙ ap (λ (z : ℕ). is_date y (suc taken.0) (suc z)) e.1.1 in
+            ∙ ap (λ (z : ℕ). is_date y (suc taken.0) (suc z)) e.1.1 in
             true≢false (sym q.1.1.0 ∙ f ∙ none)
 
 -- a year that no i128 holds is none of the calendar
