@@ -5,7 +5,9 @@ use Rattle.rasn_constraints.specs.declared.constraints.Constraints.{Constraints}
 use Rattle.rasn_schema.specs.Schemas
 use Rattle.rasn_schema.specs.Schemas.{Schema}
 use Rattle.rasn_schema.specs.Forms.{is_size_marked, size_of}
+use Rattle.rasn_calls.specs.Moments.{date_at}
 use Rattle.rasn_sets.specs.Bags.{set_at, set_levelled}
+use Rattle.rasn_useful.specs.Dates.{date_levelled}
 pub use Rattle.rasn_schema.specs.Components.{Component, Chosen, chosen, chosen_behind, fields_of, parts_of, variants_in, fields_described}
 pub use Rattle.rasn_schema.specs.Components.{u8, u16, u32, u64, i8, i16, i32, i64, i128, big}
 pub use Rattle.rasn_schema.specs.Components.{any, ◌to◌, minus◌to◌, minus◌to_minus◌, from, from_minus, up_to, up_to_minus, size◌to◌, size_from, size_up_to, extensible, of_characters}
@@ -19,6 +21,15 @@ pub use Rattle.rasn_record.specs.ExtendedRecords.{extended_at, extended_by, exte
 -- OBJECT IDENTIFIER (X.680 32)
 abbrev pub object_identifier : Component
 object_identifier = simple 6 Schemas.identifier tt
+
+-- DATE (X.680 38.4), which takes two levels
+abbrev pub date : Component
+date = record {
+  tags = universal 31;
+  presence = Schemas.required;
+  schema = date_at;
+  levelled = date_levelled;
+}
 
 -- UTCTime (X.680 47)
 abbrev pub utc_time : Component

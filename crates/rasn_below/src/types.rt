@@ -8,6 +8,7 @@ pub use rasn_types::types::{
     Any, BitString, Class, Codec, GeneralString, GraphicString, Identifier, Integer, OctetString,
     Tag, TeletexString, Utf8String,
 };
+pub use rasn_useful::date::Date;
 pub use rasn_useful::generalized_time::GeneralizedTime;
 pub use rasn_useful::object_identifier::ObjectIdentifier;
 pub use rasn_useful::utc_time::UtcTime;

@@ -1,6 +1,7 @@
-//! OBJECT IDENTIFIER, UTCTime and GeneralizedTime, as types that are written and read.
+//! OBJECT IDENTIFIER, DATE, UTCTime and GeneralizedTime, as types that are written and read.
 #![tactic(auto)]
 
+pub mod date;
 pub mod generalized_time;
 pub mod object_identifier;
 pub mod utc_time;

@@ -1,0 +1,89 @@
+//! DATE (X.680 38.4).
+
+ghost use Rattle.std.specs.Prelude.{◌≡◌};
+ghost use Rattle.rasn_types.specs.declared.types.TheConstants.Tag.{DATE};
+ghost use Rattle.rasn_constraints.specs.Ranges.{no_constraints};
+ghost use Rattle.rasn_calls.specs.Moments.{date_at, date_value};
+ghost use Rattle.rasn_useful.specs.Dates.{date_levelled, date_tag};
+
+use jiff::civil;
+use rasn_codec::codec::{Decode, Decoder, Encode, Encoder};
+use rasn_schema::schema::{AsnType, Constraints};
+use rasn_types::types::{Identifier, Tag};
+use std::marker::Model;
+
+/// A DATE (X.680 38.4): a day of the calendar, of a year from -9999 to 9999.
+#[derive(Clone, Copy, Debug, PartialEq, Eq)]
+pub struct Date {
+    day: civil::Date,
+}
+
+impl Model for Date {
+    ghost use Rattle.jiff.specs.Types.{Date as Plain};
+
+    ghost Value = { Plain };
+
+    ghost view = { λ a. a.day };
+
+    ghost inverse = { λ day. record { day = day } };
+}
+
+impl Date {
+    /// The DATE of a day.
+    pub fn new(day: civil::Date) -> Date
+        ensures { result ≡ day }
+    {
+        Date { day }
+    }
+
+    /// The day.
+    pub fn to_civil_date(self) -> civil::Date
+        ensures { result ≡ self }
+    {
+        self.day
+    }
+}
+
+impl AsnType for Date {
+    const TAG: Tag = Tag::DATE;
+
+    ghost TAG = { DATE };
+
+    const CONSTRAINTS: Constraints = Constraints::NONE;
+
+    ghost CONSTRAINTS = { no_constraints };
+
+    ghost schema = { λ _. date_at };
+
+    ghost value = { date_value };
+
+    ghost levels = { λ _. 2 };
+
+    ghost levelled = { λ _. date_levelled };
+
+    ghost tag_fits = { λ _. date_tag };
+}
+
+impl Encode for Date {
+    #[tactic(auto, unfolding(rasn_schema::specs::Normal::normal))]
+    fn encode_with_tag_and_constraints<E: Encoder>(
+        &self,
+        encoder: &mut E,
+        tag: Tag,
+        _: &Constraints,
+        identifier: Identifier,
+    ) -> Result<(), E::Error> {
+        encoder.encode_date(tag, &self.day, identifier)
+    }
+}
+
+impl Decode for Date {
+    fn decode_with_tag_and_constraints<D: Decoder>(
+        decoder: &mut D,
+        tag: Tag,
+        _: &Constraints,
+    ) -> Result<Date, D::Error> {
+        let day = decoder.decode_date(tag)?;
+        Ok(Date::new(day))
+    }
+}
