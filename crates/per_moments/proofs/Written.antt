@@ -70,6 +70,18 @@ module _ (a : Variant) (y : ℤ) where
       ∙ ap (λ (b : Bool). cond b (ranged a 1 2021 256 y) (cond (in_range 1749 2004 y) (ranged a 2 1749 256 y) (as_number a y))) (sym m)
       ∙ ap (λ (b : Bool). cond b (ranged a 0 2005 16 y) (behind_first a y)) (sym n)
 
+-- the index of a range, and a year in it
+pub wrote_within : (x m z : State) (index first last year : ℤ) → Wrote x (number_under (variant_of x.codec) (Some (pos 0)) (Some (pos 3)) index) m
+    → Wrote m (number_under (variant_of m.codec) (Some first) (Some last) year) z → Wrote x (put_within (variant_of x.codec) index first last year) z
+wrote_within x m z index first last year wi wy =
+    wrote_then x m z _ _ wi (subst (λ c. Wrote m (number_under (variant_of c) (Some first) (Some last) year) z) wi.same wy)
+
+-- the last index, and a year as a number
+pub wrote_number : (x m z : State) (year : ℤ) → Wrote x (number_under (variant_of x.codec) (Some (pos 0)) (Some (pos 3)) (pos 3)) m
+    → Wrote m (number_under (variant_of m.codec) None None year) z
+    → Wrote x (number_under (variant_of x.codec) (Some (pos 0)) (Some (pos 3)) (pos 3) ▹ number_under (variant_of x.codec) None None year) z
+wrote_number x m z year wi wy = wrote_then x m z _ _ wi (subst (λ c. Wrote m (number_under (variant_of c) None None year) z) wi.same wy)
+
 -- a year, a month and a day, one after another
 pub wrote_numbers : (x m n z : State) (y : ℤ) (mo d : ℕ) → is_date y mo d ≡ true → mo < 65536 → d < 65536 → Wrote x (year_writer (variant_of x.codec) y) m
     → Wrote m (number_under (variant_of m.codec) (Some (pos 1)) (Some (pos 12)) (pos mo)) n → Wrote n (number_under (variant_of n.codec) (Some (pos 1)) (Some (pos 31)) (pos d)) z
