@@ -10,7 +10,7 @@ pub returns-in_err-check_date_levels : goal.returns-in_err-check_date_levels
 returns-in_err-check_date_levels c =
     let p = err_from_is_err_and c.from_residual-in_err-check_date_levels.result c.from_residual-in_err-check_date_levels.ensures.1 in
     let o = c.in_err-check_date_levels.ensures in
-    record { law = rw (p.1, p.2) (date_too_deep c.args.self.now _ o.0 o.1.0); behaves = search rules }
+    record { law = rw (p.1, p.2) (date_too_deep c.args.self.now _ o.0 o.1); behaves = search rules }
 
 pub returns : goal.returns
 returns c =
