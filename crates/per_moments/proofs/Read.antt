@@ -317,15 +317,3 @@ module _ (a : Settings) where
         let none = counted false h.1 in
         let fault : IsOfDate a s InvalidDate = record { year = y; month = taken.0; day = taken.1; rest = t; took = taken.4; no_day = none } in
         inr (subst (λ (z : DecodeErrorKind). IsOfDate a s z) (sym h.0) fault, no_other_day y taken.0 taken.1 taken.4 none)
-
--- a year that no i128 holds is none of the calendar
-pub too_far : (y : ℤ) (m d : ℕ) → fits_i128 y ≡ false → is_date y m d ≡ false
-too_far y m d n = go (is_date y m d) refl
-  where
-    held : (y : ℤ) → le_z (negsuc 9998) y ≡ true → le_z y (pos 9999) ≡ true → fits_i128 y ≡ true
-    held (pos k) e f = le-leb k (2 ^ 127 - 1) (omega (arith, leb-true k 9999 f))
-    held (negsuc k) e f = ap (λ b. b && true) (le-leb k (2 ^ 127 - 1) (omega (arith, leb-true k 9998 e)))
-
-    go : (b : Bool) → is_date y m d ≡ b → is_date y m d ≡ false
-    go true e = let h = (date_is y m d e).0 in absurd (true≢false (sym (held y (tested _ _ h.0) (tested _ _ h.1)) ∙ n))
-    go false e = e
