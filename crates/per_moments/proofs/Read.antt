@@ -1,22 +1,21 @@
 -- Years, months and days as they are read (X.691 32).
 use lib.Signed.{le_z}
-use Rattle.std.proofs.Common.{◌≡◌, refl, sym, ap, ap₂, ◌∙◌, subst, ℕ, zero, suc, ◌+◌, ◌-◌, ◌^◌, ◌<◌, ◌≤◌, Bool, true, false, ◌&&◌, List, [], leb-true, le-leb, arith, true≢false, Option, Some, None, ℤ, pos, negsuc, inl, inr}
+use Rattle.std.proofs.Common.{◌≡◌, refl, sym, ap, ap₂, ◌∙◌, subst, ℕ, zero, suc, ◌+◌, ◌-◌, ◌<◌, ◌≤◌, Bool, true, false, ◌&&◌, leb-true, le-leb, arith, true≢false, Option, Some, ℤ, pos, negsuc, inl, inr}
 use Rattle.rasn_types.specs.Bits.{Bits, width}
 use Rattle.rasn_types.specs.Contents.{is_date}
 use Rattle.rasn_types.specs.Values.{Value, day}
 use Rattle.rasn_types.specs.Variants.{Variant, aligned, unaligned}
-use Rattle.rasn_constraints.specs.Bounds.{Bounds, between, fits_i128, holds, unbounded}
+use Rattle.rasn_constraints.specs.Bounds.{Bounds, between, holds, unbounded}
 use Rattle.rasn_constraints.specs.Ranges.{unsigned_range}
 use Rattle.std.specs.Prelude.{Result, Ok, Err, IfOk}
 use Rattle.jiff.specs.Types.{Date}
-use Rattle.rasn_times.proofs.Calendar.{date_is, tested}
 use Rattle.rasn_schema.specs.Schemas.{Schema}
 use Rattle.rasn_calls.specs.Moments.{date_value}
-use Rattle.per_core.specs.Basic.{IsConstrainedWhole, IsNumberOf, IsUnconstrainedWhole, Octets, Year, YearIn, basic, basic_in, constrained_by, constrained_form, year_form}
-use Rattle.per_core.specs.Spellings.{Settings, Field, Then, AnyPadding}
+use Rattle.per_core.specs.Basic.{IsConstrainedWhole, IsNumberOf, Year, YearIn, basic, basic_in, constrained_by, constrained_form, year_form}
+use Rattle.per_core.specs.Spellings.{Settings, Field, Then}
 use Rattle.per_core.specs.Took.{Took}
 use Rattle.per_core.proofs.Agree.{Agree, field_agree, never_agree, then_agree, weaken}
-use Rattle.per_core.proofs.Lengths.{and_left, and_right, bounded_agree}
+use Rattle.per_core.proofs.Lengths.{and_left, bounded_agree}
 use Rattle.per_core.proofs.Took.{then_took, took_agree, took_map, took_then}
 use Rattle.per_core.proofs.Unique.{in_whole_agree}
 use Rattle.per_read.specs.Kinds.{Faulty, IsTested, NoneIn}

@@ -1,5 +1,4 @@
 use Rattle.std.proofs.Common.{◌≡◌, ℕ, subst, inr, arith}
-use Rattle.rasn_types.specs.Bits.{Bits}
 use Rattle.per_core.specs.Spellings.{Field}
 use Rattle.per_core.specs.Took.{Took}
 use Rattle.per_read.specs.State.{settings_of}
