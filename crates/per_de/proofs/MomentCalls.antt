@@ -1,5 +1,5 @@
 -- What the calls for dates, identifiers and times read, and why they refuse.
-use Rattle.std.proofs.Common.{◌≡◌, ◌⊎◌, ◌<◌, ◌≤◌, refl, sym, subst, ℕ, suc, List, arith}
+use Rattle.std.proofs.Common.{◌≡◌, ◌⊎◌, ◌<◌, ◌≤◌, refl, sym, subst, ℕ, zero, suc, List, arith}
 use Rattle.std.specs.Prelude.{Result}
 use Rattle.jiff.specs.Types.{Date}
 use Rattle.rasn_types.specs.Bits.{Bits}
@@ -46,14 +46,14 @@ module _ (a : Settings) where
 
 -- DATE to so many levels
 date_whole : (n : ℕ) → 2 ≤ n → date_at n ≡ Schemas.date
-date_whole 0 h = absurd (let i : 1 ≡ 0 = omega (arith, h) in cc)
-date_whole 1 h = absurd (let i : 1 ≡ 0 = omega (arith, h) in cc)
+date_whole zero h = absurd (omega arith)
+date_whole (suc zero) h = absurd (omega arith)
 date_whole (suc (suc n)) h = refl
 
 date_cut : (n : ℕ) → n < 2 → date_at n ≡ Schemas.cut
-date_cut 0 h = refl
-date_cut 1 h = refl
-date_cut (suc (suc n)) h = absurd (let i : 1 ≡ 0 = omega (arith, h) in cc)
+date_cut zero h = refl
+date_cut (suc zero) h = refl
+date_cut (suc (suc n)) h = absurd (omega arith)
 
 -- with fewer than two levels left no DATE is read
 pub date_too_deep : (s : State) (e : DecodeError) → s.levels < 2 → e ≡ refusal ExceedsMaxParseDepth s

@@ -16,4 +16,4 @@ pub returns : goal.returns
 returns c =
     let o = c.in_ok-check_date_levels.ensures in
     date_within c.args.self.now _ _ o.0 (reads c.args.self.now Schemas.date _ c.in_ok-check_unfailed.ensures.ok (λ v b. b) (c.reader-reader.ensures ∙ ap reader_of o.1) c.take_date-taken.ensures
-        (c.len-left.ensures ∙ ap length c.bits.ensures) (rw o.1 at c.answer.ensures) (λ k h. h))
+    (c.len-left.ensures ∙ ap length c.bits.ensures) (rw o.1 at c.answer.ensures) (λ k h. h))
