@@ -282,7 +282,7 @@ module _ (a : Settings) where
       let q = numbers_of v c in
       let e = (took_agree (numbers_agree q.0.0 y q.0.1 j q.0.2 k) q.3 b).0 in
       let f : is_date q.0.0 (suc q.0.1) (suc q.0.2) ≡ is_date y (suc j) (suc k) = ap (λ z. is_date z (suc q.0.1) (suc q.0.2)) e.0 ∙ ap (λ (z : ℕ). is_date y (suc z) (suc q.0.2)) e.1
-          ∙ ap (λ (z : ℕ). is_date y (suc j) (suc z)) e.2 in
+      ∙ ap (λ (z : ℕ). is_date y (suc j) (suc z)) e.2 in
       true≢false (sym q.2 ∙ f ∙ none)
 
   -- a year, a month and a day that were taken
