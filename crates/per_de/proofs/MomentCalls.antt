@@ -1,18 +1,28 @@
--- What the calls for identifiers and times read, and why they refuse.
-use Rattle.std.proofs.Common.{refl, ℕ, List}
+-- What the calls for dates, identifiers and times read, and why they refuse.
+use Rattle.std.proofs.Common.{◌≡◌, ◌⊎◌, ◌<◌, ◌≤◌, refl, sym, subst, ℕ, zero, suc, List, arith}
+use Rattle.std.specs.Prelude.{Result}
+use Rattle.jiff.specs.Types.{Date}
 use Rattle.rasn_types.specs.Bits.{Bits}
 use Rattle.rasn_types.specs.Contents.{TimeKind}
 use Rattle.rasn_types.specs.Values.{characters, octets}
 use Rattle.rasn_schema.specs.Schemas
+use Rattle.rasn_schema.specs.Schemas.{Schema}
+use Rattle.rasn_calls.specs.Calls.{Reads, Refuses}
+use Rattle.rasn_calls.specs.Moments.{date_at, date_value}
 use Rattle.per_core.specs.Basic.{basic, basic_in}
 use Rattle.per_core.specs.Spellings.{Settings}
 use Rattle.per_core.specs.Took.{Took}
 use Rattle.per_core.proofs.Took.{took_map}
 use Rattle.per_read.specs.Kinds.{Faulty, NoneIn}
 use Rattle.per_read.specs.Moments.{IsOfIdentifier, IsOfTime, identifier_form, time_form}
+use Rattle.per_read.specs.declared.error.DecodeError.{DecodeError}
 use Rattle.per_read.specs.declared.error.DecodeErrorKind.{DecodeErrorKind}
+use Rattle.per_read.specs.declared.error.DecodeErrorKind.TheVariants.{ExceedsMaxParseDepth, OutOfMemory}
 use Rattle.per_read.proofs.Refusals.{faulty_map}
-use Rattle.per_scopes.specs.Faults.{IsAt}
+use Rattle.per_scopes.specs.Faults.{Fault, IsAt, refusal}
+use Rattle.per_scopes.specs.Rules.{decoder_rules}
+use Rattle.per_scopes.specs.State.{Spells, State}
+use Rattle.per_de.proofs.Calls.{too_deep}
 
 module _ (a : Settings) where
   -- OBJECT IDENTIFIER
@@ -33,3 +43,24 @@ module _ (a : Settings) where
     pub faulty_time : (s : Bits) (k : DecodeErrorKind) → Faulty (IsOfTime a kind s) (NoneIn (time_form a kind) s) k → Faulty (IsAt a (Schemas.time kind) s) (NoneIn (basic a (Schemas.time kind)) s) k
     unfolding basic_in
     faulty_time s k = faulty_map k (λ h. h) (λ none v t b. none b.spelled.of t (record { front = b.front; joins = b.joins; spelled = b.spelled.spelled }))
+
+-- DATE to so many levels
+date_whole : (n : ℕ) → 2 ≤ n → date_at n ≡ Schemas.date
+date_whole zero h = absurd (omega arith)
+date_whole (suc zero) h = absurd (omega arith)
+date_whole (suc (suc n)) h = refl
+
+date_cut : (n : ℕ) → n < 2 → date_at n ≡ Schemas.cut
+date_cut zero h = refl
+date_cut (suc zero) h = refl
+date_cut (suc (suc n)) h = absurd (omega arith)
+
+-- with fewer than two levels left no DATE is read
+pub date_too_deep : (s : State) (e : DecodeError) → s.levels < 2 → e ≡ refusal ExceedsMaxParseDepth s
+    → let c = date_at s.levels in (e ≡ refusal OutOfMemory s) ⊎ Refuses (Spells c) (Fault c) e s
+date_too_deep s e h i = too_deep (λ n. date_at s.levels) s e 0 (date_cut s.levels h) refl i
+
+-- with two levels left a DATE is read
+pub date_within : (s : State) (result : Result Date DecodeError) (t : State) → 2 ≤ s.levels → Reads decoder_rules Schemas.date date_value s result t
+    → Reads decoder_rules (date_at s.levels) date_value s result t
+date_within s result t h = subst (λ (c : Schema). Reads decoder_rules c date_value s result t) (sym (date_whole s.levels h))

@@ -10,7 +10,7 @@ use Rattle.per_read.specs.Kinds.{IsTested, NoneIn, Stopped}
 use Rattle.per_read.specs.Takes.{Row}
 use Rattle.per_read.specs.declared.error.DecodeError.{DecodeError}
 use Rattle.per_read.specs.declared.error.DecodeErrorKind.{DecodeErrorKind}
-use Rattle.per_read.specs.declared.error.DecodeErrorKind.TheVariants.{Incomplete, MissingTag, OutOfMemory}
+use Rattle.per_read.specs.declared.error.DecodeErrorKind.TheVariants.{ExceedsMaxParseDepth, Incomplete, MissingTag, OutOfMemory}
 use Rattle.per_additions.specs.Bitmaps.{skipped_unknown}
 use Rattle.per_additions.specs.Ends.{EndsAs, IsOfEnd}
 use Rattle.per_scopes.specs.Additions.{Asks, OpensContents, Shown, Waiting, outside_open}
@@ -30,6 +30,11 @@ pub record RefusedAs (why : DecodeErrorKind → Type 0) (s : State) (e : DecodeE
   pub because : why kind
   pub failed : t.failed ≡ true
   pub codec : t.codec ≡ s.codec
+
+-- Two levels are left, as many as a DATE takes (X.691 32); with fewer left the decoder refuses.
+abbrev pub HasTwoLevels : State → Result (Unit {0}) DecodeError → State → Type 0
+HasTwoLevels s (Ok u) t = (2 ≤ s.levels) × (t ≡ s)
+HasTwoLevels s (Err e) t = (s.levels < 2) × (e ≡ refusal ExceedsMaxParseDepth s) × (t ≡ record s { failed = true })
 
 -- So many presence bits are taken off the bits left, and stand in a part of the source; where fewer are left the decoder
 -- refuses (X.691 19.2).

@@ -28,14 +28,15 @@ ghost use Rattle.per_de.specs.Lists.{AmidList};
 ghost use Rattle.per_de.specs.Openings.{OpensRecord};
 ghost use Rattle.per_de.specs.Outsides.{choosing_of, outside_of, waiting_of};
 ghost use Rattle.per_de.specs.Sources.{bits_of, extension_in, flags_in, span_of, IsWithin};
-ghost use Rattle.per_de.specs.Steps.{AsksNext, EndsContents, EntersOpen, IsRootRead, SkipsUnknown};
+ghost use Rattle.per_de.specs.Steps.{AsksNext, EndsContents, EntersOpen, HasTwoLevels, IsRootRead, SkipsUnknown};
 ghost use Rattle.per_de.specs.Steps.{ClosesContents, EntersAlternative, TakesIndex};
 ghost use Rattle.per_de.specs.Steps.{TakesBit, TakesBitmap, TakesExtensionBit, TakesFlags, TakesPresences};
 
-use jiff::civil::DateTime;
+use jiff::civil::{Date, DateTime};
 use per_additions::bitmaps::{PresenceBits, skip_unknown, take_bitmap};
 use per_additions::open_types::{Contents, end_of_open, take_open};
 use per_bits::{BitList, BitReader};
+use per_moments::reading::take_date;
 pub use per_read::error;
 pub use per_read::error::{DecodeError, DecodeErrorKind, ParserFailCause};
 use per_read::lists::OpenList;
@@ -347,6 +348,17 @@ impl<'input> Decoder<'input> {
             Some(levels) => Ok(levels),
             None => Err(self.refuse(DecodeErrorKind::ExceedsMaxParseDepth)),
         }
+    }
+
+    /// Refuses where fewer levels are left than a DATE takes (X.691 32): that of its SEQUENCE, and that of its year's
+    /// CHOICE.
+    fn check_date_levels(&mut self) -> Result<(), DecodeError>
+        ensures { HasTwoLevels self.old result self.new }
+    {
+        if self.levels < 2 {
+            return Err(self.refuse(DecodeErrorKind::ExceedsMaxParseDepth));
+        }
+        Ok(())
     }
 
     /// Enters a scope with other levels and another SEQUENCE to read, and answers what waits outside.
@@ -876,6 +888,15 @@ impl<'input> decoder::Decoder for Decoder<'input> {
         self.check_unfailed()?;
         let mut reader = self.reader();
         let taken = reader.take_generalized_time();
+        let left = reader.bits().len();
+        self.answer(taken, left)
+    }
+
+    fn decode_date(&mut self, _tag: Tag) -> Result<Date, DecodeError> {
+        self.check_unfailed()?;
+        self.check_date_levels()?;
+        let mut reader = self.reader();
+        let taken = take_date(&mut reader);
         let left = reader.bits().len();
         self.answer(taken, left)
     }

@@ -10,7 +10,7 @@ pub returns-in_err-year : goal.returns-in_err-year
 returns-in_err-year c =
     let a = settings_of c.args.reader.now in
     let h = c.in_err-year.ensures in
-    passes_on _ _ c.from_residual.ensures.1 h.kept (faulty_map _ (year_fault a _) (no_years a) h.err)
+    passes_on _ _ c.from_residual.ensures.1 h.kept (faulty_map _ (year_fault a _ _) (no_years a) h.err)
 
 pub returns-in_err-month : goal.returns-in_err-month
 returns-in_err-month c =
