@@ -11,9 +11,10 @@ ghost use Rattle.per_write.specs.Faults.{RefusesOutput};
 ghost use Rattle.per_write.specs.Rules.{encoder_rules};
 ghost use Rattle.per_write.specs.State.{fresh, view};
 
-use jiff::civil::DateTime;
+use jiff::civil::{Date, DateTime};
 use per_bits::BitList;
 use per_members::OpenBag;
+use per_moments::writing::put_date;
 pub use per_write::error;
 pub use per_write::error::{EncodeError, EncodeErrorKind};
 use per_write::lists::OpenList;
@@ -337,6 +338,16 @@ impl<A: Allocator + Clone> encoder::Encoder for Encoder<A> {
     ) -> Result<(), EncodeError> {
         self.writer.check_unfailed()?;
         self.writer.put_generalized_time(value)
+    }
+
+    fn encode_date(
+        &mut self,
+        _tag: Tag,
+        value: &Date,
+        _identifier: Identifier,
+    ) -> Result<(), EncodeError> {
+        self.writer.check_unfailed()?;
+        put_date(&mut self.writer, value)
     }
 
     fn open_sequence<C: Constructed>(

@@ -1,6 +1,6 @@
 -- A day of the calendar as it is written (X.691 32).
 use lib.Signed.{le_z}
-use Rattle.std.proofs.Common.{◌≡◌, refl, sym, ap, ap₂, ◌∙◌, subst, ℕ, ◌+◌, ◌-◌, ◌^◌, ◌<◌, ◌≤◌, Bool, true, false, cond, leb-true, le-leb, arith, Option, Some, None, ℤ, pos, negsuc}
+use Rattle.std.proofs.Common.{◌≡◌, sym, ap, ap₂, ◌∙◌, subst, ℕ, ◌+◌, ◌-◌, ◌^◌, ◌<◌, Bool, true, false, cond, leb-true, le-leb, arith, Some, None, ℤ, pos, negsuc}
 use Rattle.std.specs.Prelude.{Result, Ok, Err}
 use Rattle.std.proofs.Common.{inl}
 use Rattle.rasn_types.specs.Codecs.{variant_of}
@@ -13,7 +13,7 @@ use Rattle.rasn_calls.specs.Calls.{Written}
 use Rattle.per_core.specs.Canon.{canon, date_of, in_range, year_of, year_writer}
 use Rattle.per_core.specs.Counts.{constrained_whole, number_under}
 use Rattle.per_core.specs.Writers.{Writer, ◌▹◌, written_if}
-use Rattle.per_core.proofs.Lengths.{and_left, and_right}
+use Rattle.per_core.proofs.Lengths.{and_right}
 use Rattle.per_write.specs.declared.error.EncodeError.{EncodeError}
 use Rattle.per_write.specs.Faults.{IsMemory}
 use Rattle.per_write.specs.Rules.{encoder_rules}

@@ -1,5 +1,7 @@
-//! Tests of OBJECT IDENTIFIER, UTCTime and GeneralizedTime in both variants, by octets that come from X.690 and X.691.
+//! Tests of OBJECT IDENTIFIER, DATE, UTCTime and GeneralizedTime in both variants, by octets that come from X.690,
+//! X.691 and another compiler.
 
+mod dates;
 mod generalized_times;
 mod identifiers;
 mod pages;
