@@ -65,10 +65,7 @@ const REFUSED: &[(&[u8], DecodeErrorKind)] = &[
         DecodeErrorKind::ValueConstraintNotSatisfied(Some(13), Some(1), Some(12)),
     ),
     // A year of no octets.
-    (
-        &[0xc0, 0x00, 0x00],
-        DecodeErrorKind::UnexpectedEmptyInput,
-    ),
+    (&[0xc0, 0x00, 0x00], DecodeErrorKind::UnexpectedEmptyInput),
 ];
 
 #[test]
