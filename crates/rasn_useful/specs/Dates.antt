@@ -1,5 +1,5 @@
 -- The family of trees of a DATE, which takes two levels (ITU-T X.691, 32).
-use Rattle.std.proofs.Common.{ℕ, zero, suc, arith, refl}
+use Rattle.std.proofs.Common.{zero, suc, arith, refl}
 use Rattle.rasn_types.specs.declared.types.TheConstants.Tag.{DATE}
 use Rattle.rasn_schema.specs.Levels.{Levelled, no_date, still_cut, to_date}
 use Rattle.rasn_schema.specs.Tags.{IsTagOf}
