@@ -1,6 +1,6 @@
 //! What is written of a DATE, and of a recursive SEQUENCE with one.
 
-ghost use Rattle.std.specs.Prelude.{[], ◌∷◌, Some, pos};
+ghost use Rattle.std.specs.Prelude.{[], ◌∷◌, Some, None, pos};
 ghost use Rattle.rasn_types.specs.Variants.{aligned, unaligned};
 ghost use Rattle.per_samples_a.specs.Rows.{IsWrittenAs};
 ghost use Rattle.per_samples_l.specs.declared.dnest.Dnest.{Dnest', None', Some'};
@@ -11,7 +11,6 @@ use rasn_below::types::Date;
 
 /// The year of a range is behind the index of the range, both constrained; the month and the day are constrained too
 /// (X.691 32).
-#[tactic(auto, unfolding(per_core::specs::Canon::bytes, rasn_schema::specs::Normal::normal))]
 pub fn years_of_a_range_are_written_behind_its_index()
     ensures near { let own = ⟦<Date as AsnType>⟧ in
         (y m d : _) → IsWrittenAs unaligned (own.schema own.CONSTRAINTS) own.levels own.value
@@ -27,7 +26,6 @@ pub fn years_of_a_range_are_written_behind_its_index()
 {}
 
 /// A year of no range is a number without constraints behind the last index (X.691 32).
-#[tactic(auto, unfolding(per_core::specs::Canon::bytes, rasn_schema::specs::Normal::normal))]
 pub fn other_years_are_numbers()
     ensures { let own = ⟦<Date as AsnType>⟧ in
         (y m d : _) → IsWrittenAs unaligned (own.schema own.CONSTRAINTS) own.levels own.value
@@ -36,8 +34,15 @@ pub fn other_years_are_numbers()
 {}
 
 /// Two presence bits stand in front of each level (X.691 19.2), and the DATE behind those of the last.
-#[tactic(auto, unfolding(per_core::specs::Canon::bytes, rasn_schema::specs::Normal::normal, rasn_schema::specs::Normal::settle))]
 pub fn a_date_stands_behind_the_bits_of_its_level()
     ensures nothing { let own = ⟦<Dnest as AsnType>⟧ in
         IsWrittenAs unaligned (own.schema own.CONSTRAINTS) own.levels own.value (Dnest' None' None) (0x00 ∷ []) }
+    ensures inside { let own = ⟦<Dnest as AsnType>⟧ in
+        (a y m d : _) → IsWrittenAs unaligned (own.schema own.CONSTRAINTS) own.levels own.value
+        (Dnest' (Some' a (Dnest' None' (Some (record { year = pos 2010; month = 1; day = 1; year_in = y; month_in = m; day_in = d })))) None)
+        (0x91 ∷ 0x40 ∷ 0x00 ∷ []) }
+    ensures beside { let own = ⟦<Dnest as AsnType>⟧ in
+        (a y m d : _) → IsWrittenAs aligned (own.schema own.CONSTRAINTS) own.levels own.value
+        (Dnest' (Some' a (Dnest' None' None)) (Some (record { year = pos 2024; month = 2; day = 29; year_in = y; month_in = m; day_in = d })))
+        (0xc4 ∷ 0x03 ∷ 0x1e ∷ 0x00 ∷ []) }
 {}
