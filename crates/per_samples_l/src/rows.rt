@@ -33,16 +33,31 @@ pub fn other_years_are_numbers()
         (0xc0 ∷ 0x81 ∷ 0x77 ∷ 0x15 ∷ 0xc0 ∷ []) }
 {}
 
-/// Two presence bits stand in front of each level (X.691 19.2), and the DATE behind those of the last.
+/// Each record has a presence bit for the record inside and one for its DATE (X.691 19.2), which stands behind that
+/// record.
 pub fn a_date_stands_behind_the_bits_of_its_level()
     ensures nothing { let own = ⟦<Dnest as AsnType>⟧ in
         IsWrittenAs unaligned (own.schema own.CONSTRAINTS) own.levels own.value (Dnest' None' None) (0x00 ∷ []) }
     ensures inside { let own = ⟦<Dnest as AsnType>⟧ in
         (a y m d : _) → IsWrittenAs unaligned (own.schema own.CONSTRAINTS) own.levels own.value
-        (Dnest' (Some' a (Dnest' None' (Some (record { year = pos 2010; month = 1; day = 1; year_in = y; month_in = m; day_in = d })))) None)
+        (Dnest' (Some' a (Dnest' None' (Some (record {
+          year = pos 2010;
+          month = 1;
+          day = 1;
+          year_in = y;
+          month_in = m;
+          day_in = d;
+        })))) None)
         (0x91 ∷ 0x40 ∷ 0x00 ∷ []) }
     ensures beside { let own = ⟦<Dnest as AsnType>⟧ in
         (a y m d : _) → IsWrittenAs aligned (own.schema own.CONSTRAINTS) own.levels own.value
-        (Dnest' (Some' a (Dnest' None' None)) (Some (record { year = pos 2024; month = 2; day = 29; year_in = y; month_in = m; day_in = d })))
+        (Dnest' (Some' a (Dnest' None' None)) (Some (record {
+          year = pos 2024;
+          month = 2;
+          day = 29;
+          year_in = y;
+          month_in = m;
+          day_in = d;
+        })))
         (0xc4 ∷ 0x03 ∷ 0x1e ∷ 0x00 ∷ []) }
 {}
