@@ -5,7 +5,7 @@ use per_de::{DecodeError, DecodeErrorKind, Decoder, DecoderOptions, Scope};
 use per_samples_f::one_needed::OneNeeded;
 use rasn_additions::ExtensionDecoder;
 use rasn_codec::codec::Decoder as _;
-use rasn_record::{AsnType, Constraints};
+use rasn_below::{AsnType, Constraints};
 use rasn_types::types::Tag;
 use std::alloc::Global;
 use std::test::Fail;

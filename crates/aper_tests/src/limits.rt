@@ -2,7 +2,7 @@
 
 ghost use Rattle.rasn_schema.specs.Components.{◌to◌, size◌to◌};
 
-use rasn_record::{Constraint, Constraints, Limits, constraints};
+use rasn_below::{Constraint, Constraints, Limits, constraints};
 
 /// SIZE (0..3)
 #[derive(Clone, Copy, Debug)]

@@ -2,7 +2,7 @@
 
 use crate::limits::SizeTo3;
 use rasn_per::aper::{DecodeError, DecodeErrorKind, EncodeError, EncodeErrorKind, decode, encode};
-use rasn_record::Constrained;
+use rasn_below::Constrained;
 use rasn_types::octet_strings::OctetString;
 use rasn_types::types::Codec;
 use std::test::Fail;

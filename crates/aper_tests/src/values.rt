@@ -11,7 +11,7 @@ use per_samples_d::alternative::{Alternative, ZeroTo7};
 use per_samples_d::nested::Nested;
 use rasn_codec::codec::{Decode, Encode};
 use rasn_per::aper::{decode, encode};
-use rasn_record::{Constrained, Limits};
+use rasn_below::{Constrained, Limits};
 use rasn_strings::strings::{BmpString, VisibleString};
 use rasn_types::bit_string::BitString;
 use rasn_types::octet_strings::{OctetString, Utf8String};

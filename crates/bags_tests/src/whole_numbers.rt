@@ -2,7 +2,7 @@
 
 use rasn_per::aper::EncodeErrorKind;
 use rasn_per::{aper, uper};
-use rasn_record::{Constraint, Constraints, constraints};
+use rasn_below::{Constraint, Constraints, constraints};
 use rasn_sets::set_of::SetOf;
 use std::alloc::{AllocError, Global};
 use std::test::Fail;

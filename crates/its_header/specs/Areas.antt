@@ -1,6 +1,6 @@
 -- ActionArea ::= CHOICE { radius INTEGER (1..1000), corner ReferencePositionLite, everywhere NULL }
 use Rattle.std.specs.Prelude.{List, [], ◌∷◌}
-use Rattle.rasn_schema.specs.Components.{Component, automatic, integer, null, sequence, u16, ◌to◌}
+use Rattle.rasn_below.specs.Components.{Component, automatic, integer, null, sequence, u16, ◌to◌}
 use Rattle.its_header.specs.Positions.{position}
 
 abbrev pub area : List Component

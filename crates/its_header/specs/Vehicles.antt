@@ -1,6 +1,6 @@
 -- VehicleState ::= SEQUENCE { heading INTEGER (0..3601), .. }: the components stand in the order of the type
 use Rattle.std.specs.Prelude.{List, [], ◌∷◌}
-use Rattle.rasn_schema.specs.Components.{Component, automatic, integer, boolean, i16, i32, i8, u16, u32, u8, ◌to◌, minus◌to◌}
+use Rattle.rasn_below.specs.Components.{Component, automatic, integer, boolean, i16, i32, i8, u16, u32, u8, ◌to◌, minus◌to◌}
 
 abbrev pub vehicle_state : List Component
 vehicle_state = automatic (

@@ -2,8 +2,8 @@
 --     direction DriveDirection OPTIONAL, area ActionArea, positions SEQUENCE (SIZE (1..4)) OF ReferencePositionLite, lane INTEGER (0..7) DEFAULT 1
 -- }
 use Rattle.std.specs.Prelude.{List, [], ◌∷◌, pos}
-use Rattle.rasn_types.specs.Values.{whole}
-use Rattle.rasn_schema.specs.Components.{Component, automatic, optional, default, enumerated, choice, integer, sequence, sequence_of, size◌to◌, u8, ◌to◌}
+use Rattle.rasn_below.specs.Values.{whole}
+use Rattle.rasn_below.specs.Components.{Component, automatic, optional, default, enumerated, choice, integer, sequence, sequence_of, size◌to◌, u8, ◌to◌}
 use Rattle.its_header.specs.Areas.{area}
 use Rattle.its_header.specs.Positions.{position}
 

@@ -1,13 +1,13 @@
 //! ActionArea.
 
 ghost use Rattle.std.specs.Prelude.{None, pos, refl};
-ghost use Rattle.rasn_types.specs.Values.{whole, nothing};
-ghost use Rattle.rasn_schema.specs.Components.{chosen, variants_in};
+ghost use Rattle.rasn_below.specs.Values.{whole, nothing};
+ghost use Rattle.rasn_below.specs.Components.{chosen, variants_in};
 ghost use Rattle.its_header.specs.Areas.{area};
 ghost use Rattle.its_header.specs.declared.area.ActionArea.TheVariants.{Radius, Corner, Everywhere};
 
 use crate::position::ReferencePositionLite;
-use rasn_record::{
+use rasn_below::{
     Alternatives, AsnType, ByKind, ChoiceKind, CodedAlternatives, Constraint, Decoder, Encoder,
     OfKind, Tag, TagTree, Variants, alternative_bounds, decode_alternative, encode_alternative,
     tags_of_choice, variants,

@@ -1,9 +1,9 @@
 //! DriveDirection.
 
-ghost use Rattle.rasn_schema.specs.Enumerations.{all_items};
+ghost use Rattle.rasn_below.specs.Components.{all_items};
 ghost use Rattle.its_header.specs.Directions.{direction};
 
-use rasn_record::{
+use rasn_below::{
     ByKind, EnumeratedKind, ItemCounts, Items, OfKind, Place, item_at, item_counts, place_of_item,
 };
 

@@ -1,15 +1,15 @@
 //! A speed: an INTEGER by hand, with the calls of an encoder and a decoder.
 
 ghost use Rattle.std.specs.Prelude.{refl};
-ghost use Rattle.rasn_types.specs.Values.{whole};
-ghost use Rattle.rasn_types.specs.declared.types.TheConstants.Tag.{INTEGER};
-ghost use Rattle.rasn_constraints.specs.Ranges.{i128_range, no_constraints};
-ghost use Rattle.rasn_schema.specs.Forms.{always, number_schema};
-ghost use Rattle.rasn_schema.specs.Levels.{simple_levelled};
+ghost use Rattle.rasn_below.specs.Values.{whole};
+ghost use Rattle.rasn_below.specs.Types.{INTEGER};
+ghost use Rattle.rasn_below.specs.Types.{i128_range, no_constraints};
+ghost use Rattle.rasn_below.specs.Types.{always, number_schema};
+ghost use Rattle.rasn_below.specs.Types.{simple_levelled};
 
-use rasn_codec::codec::{Decode, Decoder, Encode, Encoder};
-use rasn_schema::schema::{AsnType, Constraints};
-use rasn_types::types::{Identifier, Tag};
+use rasn_below::codec::{Decode, Decoder, Encode, Encoder};
+use rasn_below::schema::{AsnType, Constraints};
+use rasn_below::types::{Identifier, Tag};
 
 /// Speed ::= INTEGER
 #[derive(Clone, Copy)]
@@ -36,7 +36,7 @@ impl AsnType for Speed {
 }
 
 impl Encode for Speed {
-    #[tactic(auto, unfolding(rasn_schema::specs::Normal::normal))]
+    #[tactic(auto, unfolding(rasn_below::specs::Types::normal))]
     fn encode_with_tag_and_constraints<E: Encoder>(
         &self,
         encoder: &mut E,

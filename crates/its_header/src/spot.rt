@@ -1,13 +1,13 @@
 //! Spot.
-#![tactic(auto, unfolding(rasn_schema::specs::Schemas::smallest, rasn_schema::specs::Schemas::least_of))]
+#![tactic(auto, unfolding(rasn_below::specs::Types::smallest, rasn_below::specs::Types::least_of))]
 
 ghost use Rattle.std.specs.Prelude.{[], ◌∷◌, Some, pos, refl};
-ghost use Rattle.rasn_types.specs.Values.{whole};
-ghost use Rattle.rasn_schema.specs.Components.{fields_of};
+ghost use Rattle.rasn_below.specs.Values.{whole};
+ghost use Rattle.rasn_below.specs.Components.{fields_of};
 ghost use Rattle.its_header.specs.Spots.{spot};
 
 use crate::area::{AREA_TAGS, ActionArea};
-use rasn_record::{
+use rasn_below::{
     AsnType, Components, Constraint, Decoder, Encoder, Fields, Record, bounds, decode_components,
     encode_components, fields,
 };

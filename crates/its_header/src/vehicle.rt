@@ -1,11 +1,11 @@
 //! VehicleState: a SEQUENCE of sixteen components.
 
 ghost use Rattle.std.specs.Prelude.{[], ◌∷◌, Some, pos, refl};
-ghost use Rattle.rasn_types.specs.Values.{truth, whole};
-ghost use Rattle.rasn_schema.specs.Components.{fields_of};
+ghost use Rattle.rasn_below.specs.Values.{truth, whole};
+ghost use Rattle.rasn_below.specs.Components.{fields_of};
 ghost use Rattle.its_header.specs.Vehicles.{vehicle_state};
 
-use rasn_record::{
+use rasn_below::{
     Components, Constraint, Decoder, Encoder, Fields, Record, bounds, decode_components,
     encode_components, fields,
 };

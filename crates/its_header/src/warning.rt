@@ -1,16 +1,16 @@
 //! Warning.
 
 ghost use Rattle.std.specs.Prelude.{[], ◌∷◌, Some, max, pos, refl};
-ghost use Rattle.rasn_types.specs.Values.{whole};
-ghost use Rattle.rasn_schema.specs.Components.{fields_of};
-ghost use Rattle.rasn_calls.specs.Presences.{slot_of};
+ghost use Rattle.rasn_below.specs.Values.{whole};
+ghost use Rattle.rasn_below.specs.Components.{fields_of};
+ghost use Rattle.rasn_below.specs.Values.{slot_of};
 ghost use Rattle.its_header.specs.Directions.{direction};
 ghost use Rattle.its_header.specs.Warnings.{warning};
 
 use crate::area::ActionArea;
 use crate::direction::DriveDirection;
 use crate::position::ReferencePositionLite;
-use rasn_record::{
+use rasn_below::{
     AsnType, Components, Constraint, Decoder, Encoder, Fields, Record, bounds, decode_components,
     encode_components, fields,
 };

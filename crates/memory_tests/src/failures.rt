@@ -13,7 +13,7 @@ use per_samples_e::nest::Nest;
 use per_samples_f::grouped::Grouped;
 use per_samples_f::one_needed::OneNeeded;
 use rasn_codec::codec::{Decode, Decoder as _, Encoder as _};
-use rasn_record::{Constraints, constraints};
+use rasn_below::{Constraints, constraints};
 use rasn_types::octet_strings::Utf8String;
 use rasn_types::types::{Identifier, Tag};
 use std::alloc::Global;

@@ -5,7 +5,7 @@ use per_de::{Decoder, DecoderOptions};
 use per_read::error::{DecodeError, DecodeErrorKind};
 use per_samples_a::some_absent::SomeAbsent;
 use rasn_codec::codec::{Decoder as _, DecoderExt as _};
-use rasn_record::{AsnType, Constraint, Constraints, constraints};
+use rasn_below::{AsnType, Constraint, Constraints, constraints};
 use rasn_types::types::Tag;
 use std::alloc::Global;
 use std::test::Fail;

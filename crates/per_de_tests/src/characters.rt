@@ -4,7 +4,7 @@ use crate::padding::any_padding;
 use per_bits::BitReader;
 use per_read::Reader;
 use per_read::error::DecodeErrorKind;
-use rasn_record::{Constraint, Constraints, constraints};
+use rasn_below::{Constraint, Constraints, constraints};
 use rasn_strings::strings::{
     BmpString, Ia5String, NumericString, PrintableString, StaticPermittedAlphabet, VisibleString,
 };

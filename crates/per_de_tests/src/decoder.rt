@@ -6,7 +6,7 @@ use per_de::{Decoder, DecoderOptions, Scope};
 use per_read::error::{DecodeError, DecodeErrorKind};
 use per_samples_a::pair::Pair;
 use rasn_codec::codec::Decoder as _;
-use rasn_record::{AsnType, Constraints};
+use rasn_below::{AsnType, Constraints};
 use rasn_types::types::{Codec, Tag};
 use std::alloc::Global;
 use std::test::Fail;

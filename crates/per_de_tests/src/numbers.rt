@@ -4,7 +4,7 @@ use crate::padding::any_padding;
 use per_bits::BitReader;
 use per_read::Reader;
 use per_read::error::{DecodeErrorKind, ParserFailCause};
-use rasn_record::{Constraint, Constraints, constraints};
+use rasn_below::{Constraint, Constraints, constraints};
 use rasn_schema::schema::IntegerType;
 use rasn_types::types::Codec;
 use std::alloc::Global;

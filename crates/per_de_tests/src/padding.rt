@@ -5,7 +5,7 @@ use per_de::{Decoder, DecoderOptions};
 use per_read::ReaderOptions;
 use per_read::error::{DecodeErrorKind, ParserFailCause};
 use rasn_codec::codec::Decoder as _;
-use rasn_record::{Constraint, Constraints, constraints};
+use rasn_below::{Constraint, Constraints, constraints};
 use rasn_types::types::{Codec, Tag};
 use std::test::Fail;
 

@@ -6,7 +6,7 @@ use per_bits::BitList;
 use per_enc::{EncodeError, EncodeErrorKind, Encoder, EncoderOptions};
 use per_samples_a::pair::Pair;
 use rasn_codec::codec::Encoder as _;
-use rasn_record::{AsnType, Constraints};
+use rasn_below::{AsnType, Constraints};
 use rasn_types::types::{Codec, Identifier, Tag};
 use std::alloc::{Allocator, Global};
 use std::process::Abort;

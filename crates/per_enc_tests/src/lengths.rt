@@ -2,7 +2,7 @@
 
 use per_write::Writer;
 use per_write::error::EncodeError;
-use rasn_record::Constraints;
+use rasn_below::Constraints;
 use rasn_types::bit_string::BitString;
 use rasn_types::types::Codec;
 use std::alloc::{AllocError, Global};

@@ -2,7 +2,7 @@
 
 use per_enc::{EncodeError, EncodeErrorKind, Encoder, EncoderOptions};
 use rasn_codec::codec::Encode;
-use rasn_record::{Constraint, Constraints, constraints};
+use rasn_below::{Constraint, Constraints, constraints};
 use std::alloc::{AllocError, Global};
 use std::test::Fail;
 

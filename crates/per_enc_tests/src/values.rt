@@ -2,7 +2,7 @@
 
 use per_write::Writer;
 use per_write::error::{EncodeError, EncodeErrorKind};
-use rasn_record::{Bounded, Constraint, Constraints, Extensible, constraints};
+use rasn_below::{Bounded, Constraint, Constraints, Extensible, constraints};
 use rasn_strings::strings::VisibleString;
 use rasn_types::bit_string::BitString;
 use rasn_types::types::Codec;

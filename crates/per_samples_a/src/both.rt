@@ -11,8 +11,8 @@ ghost use Rattle.per_samples_a.specs.Boths.{both_parts, both_schema, both_levell
 
 use rasn_calls::parts::NoAdditions;
 use rasn_codec::codec::{Decode, Decoder, Encode, Encoder};
-use rasn_record::cells::{Cell, End, Listed};
-use rasn_record::components::Required;
+use rasn_below::cells::{Cell, End, Listed};
+use rasn_below::components::Required;
 use rasn_schema::fields::{Constructed, Field, Fields, Presence, TagTree};
 use rasn_schema::schema::{AsnType, Constraints};
 use rasn_types::types::{Class, Identifier, Tag};

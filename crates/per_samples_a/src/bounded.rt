@@ -5,7 +5,7 @@ ghost use Rattle.rasn_types.specs.Variants.{aligned, unaligned};
 ghost use Rattle.rasn_schema.specs.Components.{◌to◌, minus◌to◌, extensible};
 ghost use Rattle.per_samples_a.specs.Rows.{IsWrittenAs, IsUnwritten};
 
-use rasn_record::{AsnType, Constrained, Constraint, Constraints, Limits, constraints};
+use rasn_below::{AsnType, Constrained, Constraint, Constraints, Limits, constraints};
 use rasn_types::big::Integer;
 
 /// INTEGER (0..65536)

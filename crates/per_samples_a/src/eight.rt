@@ -5,7 +5,7 @@ ghost use Rattle.rasn_types.specs.Values.{truth, nothing, whole};
 ghost use Rattle.rasn_schema.specs.Components.{fields_of};
 ghost use Rattle.per_samples_a.specs.Eights.{eight};
 
-use rasn_record::{
+use rasn_below::{
     Components, Constraint, Decoder, Encoder, Fields, Record, bounds, decode_components,
     encode_components, fields,
 };

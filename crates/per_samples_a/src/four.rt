@@ -7,7 +7,7 @@ ghost use Rattle.rasn_schema.specs.Components.{fields_of};
 ghost use Rattle.per_samples_a.specs.Fours.{four};
 ghost use Rattle.per_samples_a.specs.Rows.{IsWrittenAs, IsUnwritten};
 
-use rasn_record::{
+use rasn_below::{
     AsnType, Components, Constraint, Decoder, Encoder, Fields, Record, bounds, decode_components,
     encode_components, fields,
 };

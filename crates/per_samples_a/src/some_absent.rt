@@ -8,7 +8,7 @@ ghost use Rattle.rasn_calls.specs.Presences.{slot_of};
 ghost use Rattle.per_samples_a.specs.Absents.{some_absent};
 ghost use Rattle.per_samples_a.specs.Rows.{IsWrittenAs};
 
-use rasn_record::{
+use rasn_below::{
     AsnType, Components, Constraint, Decoder, Encoder, Fields, Record, bounds, decode_components,
     encode_components, fields,
 };

@@ -6,7 +6,7 @@ ghost use Rattle.rasn_types.specs.Variants.{aligned, unaligned};
 ghost use Rattle.rasn_schema.specs.Components.{size◌to◌, extensible, of_characters, any};
 ghost use Rattle.per_samples_a.specs.Rows.{IsWrittenAs, IsUnwritten};
 
-use rasn_record::{AsnType, Constrained, Constraint, Constraints, Limits, constraints};
+use rasn_below::{AsnType, Constrained, Constraint, Constraints, Limits, constraints};
 use rasn_strings::strings::{Ia5String, VisibleString};
 
 /// VisibleString (SIZE (1..3, ...))

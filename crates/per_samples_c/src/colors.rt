@@ -7,7 +7,7 @@ ghost use Rattle.per_samples_a.specs.Rows.{IsWrittenAs};
 ghost use Rattle.per_samples_c.specs.Colors.{color};
 ghost use Rattle.per_samples_c.specs.declared.colors.TwoColors.TheVariants.{A, B};
 
-use rasn_record::{
+use rasn_below::{
     AsnType, ByKind, EnumeratedKind, ItemCounts, Items, OfKind, Place, item_at, item_counts,
     place_of_item,
 };

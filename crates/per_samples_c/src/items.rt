@@ -8,7 +8,7 @@ ghost use Rattle.rasn_schema.specs.Enumerations.{all_items};
 ghost use Rattle.per_samples_a.specs.Rows.{IsWrittenAs};
 ghost use Rattle.per_samples_c.specs.Items.{with_item};
 
-use rasn_record::{
+use rasn_below::{
     AsnType, ByKind, Components, Constraint, Decoder, Encoder, EnumeratedKind, Fields, ItemCounts,
     Items, OfKind, Place, Record, bounds, decode_components, encode_components, fields,
 };

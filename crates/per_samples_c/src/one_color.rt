@@ -3,7 +3,7 @@
 ghost use Rattle.rasn_schema.specs.Enumerations.{extensible_items};
 ghost use Rattle.per_samples_c.specs.OneColors.{only_color};
 
-use rasn_record::{
+use rasn_below::{
     ByKind, EnumeratedKind, ItemCounts, Items, OfKind, Place, item_at, item_counts, place_of_item,
 };
 

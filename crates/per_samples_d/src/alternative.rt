@@ -7,7 +7,7 @@ ghost use Rattle.per_samples_a.specs.Rows.{IsWrittenAs};
 ghost use Rattle.per_samples_d.specs.Alternatives.{alternatives, alternative_of};
 ghost use Rattle.per_samples_d.specs.declared.alternative.Alternative.TheVariants.{X, Y};
 
-use rasn_record::{
+use rasn_below::{
     Alternatives, AsnType, ByKind, ChoiceKind, CodedAlternatives, Constrained, Constraint,
     Constraints, Decoder, Encoder, Limits, OfKind, Tag, TagTree, Variants, alternative_bounds,
     constraints, decode_alternative, encode_alternative, tags_of_choice, variants,

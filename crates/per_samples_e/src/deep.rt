@@ -7,7 +7,7 @@ ghost use Rattle.per_samples_e.specs.Deeps.{deep, nest_with};
 
 use crate::nest::Nest;
 use rasn_codec::codec::{DecoderExt, EncoderExt};
-use rasn_record::{
+use rasn_below::{
     AsnType, Components, Decoder, Encoder, Fields, Record, Tag, context_tag, fields,
 };
 use rasn_types::types::Identifier;

@@ -6,7 +6,7 @@ ghost use Rattle.rasn_schema.specs.Components.{fields_of};
 ghost use Rattle.per_samples_e.specs.Elements.{elements};
 
 use crate::triple::Triple;
-use rasn_record::{
+use rasn_below::{
     AsnType, Components, Constraint, Decoder, Encoder, Fields, Record, bounds, decode_components,
     encode_components, fields,
 };

@@ -3,7 +3,7 @@
 ghost use Rattle.rasn_schema.specs.Components.{size◌to◌};
 
 use crate::byte::Byte;
-use rasn_record::{Constrained, Constraint, Constraints, Limits, constraints};
+use rasn_below::{Constrained, Constraint, Constraints, Limits, constraints};
 
 /// SEQUENCE OF byte
 pub type Bytes = Vec<Byte>;

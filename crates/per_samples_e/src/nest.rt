@@ -12,7 +12,7 @@ ghost use Rattle.per_samples_e.specs.Nests.{nest, nest_contents, nest_depth, nes
 
 use rasn_codec::boxed::boxed;
 use rasn_codec::codec::{Decode, Encode};
-use rasn_record::{
+use rasn_below::{
     AsnType, Components, Constraint, Constraints, Decoder, Encoder, Fields, Tag, bounds,
     context_tag, encode_record, fields,
 };

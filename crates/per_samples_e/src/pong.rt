@@ -10,7 +10,7 @@ ghost use Rattle.per_samples_e.specs.Mutuals.{pong, pong_contents, pong_depth, p
 use crate::ping::Ping;
 use rasn_codec::boxed::boxed;
 use rasn_codec::codec::{Decode, Encode};
-use rasn_record::{
+use rasn_below::{
     AsnType, Components, Constraint, Constraints, Decoder, Encoder, Fields, Tag, bounds,
     context_tag, encode_record, fields,
 };

@@ -14,7 +14,7 @@ ghost use Rattle.rasn_record.specs.ExtendedRecords.{extended_at, extended_by, ex
 ghost use Rattle.per_samples_f.specs.AddedNests.{nest_root, nest_additions};
 
 use per_samples_e::nest::Nest;
-use rasn_record::{
+use rasn_below::{
     AsnType, Constraint, Constraints, Constructed, Decode, Decoder, Encode, Encoder, Fields, Tag,
     added_bounds, added_fields, decode_extended, encode_extended, root_bounds, root_fields,
 };

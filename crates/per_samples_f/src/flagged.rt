@@ -5,7 +5,7 @@ ghost use Rattle.rasn_types.specs.Values.{octets, truth};
 ghost use Rattle.rasn_schema.specs.Components.{fields_of};
 ghost use Rattle.per_samples_f.specs.Outers.{flagged};
 
-use rasn_record::{
+use rasn_below::{
     Components, Constraint, Decoder, Encoder, Fields, Record, bounds, decode_components,
     encode_components, fields,
 };

@@ -9,7 +9,7 @@ ghost use Rattle.rasn_schema.specs.Tags.{sequence_tag};
 ghost use Rattle.rasn_calls.specs.Scopes.{deeper_of};
 ghost use Rattle.rasn_record.specs.ExtendedRecords.{extended_at, extended_by, extended_levelled};
 
-use rasn_record::{
+use rasn_below::{
     AsnType, Constraint, Constraints, Constructed, Decode, Decoder, Encode, Encoder, Fields, Tag,
     added_bounds, added_fields, decode_extended, encode_extended, root_bounds, root_fields,
 };

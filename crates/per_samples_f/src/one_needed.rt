@@ -13,7 +13,7 @@ ghost use Rattle.rasn_calls.specs.Scopes.{deeper_of};
 ghost use Rattle.rasn_record.specs.ExtendedRecords.{extended_at, extended_by, extended_levelled};
 ghost use Rattle.per_samples_f.specs.Needs.{one_needed};
 
-use rasn_record::{
+use rasn_below::{
     AsnType, Constraint, Constraints, Constructed, Decode, Decoder, Encode, Encoder, Fields, Tag,
     added_bounds, added_fields, decode_extended, encode_extended, root_bounds, root_fields,
 };

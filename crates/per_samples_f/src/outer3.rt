@@ -14,7 +14,7 @@ ghost use Rattle.rasn_record.specs.Slots.{slot_levels};
 ghost use Rattle.per_samples_f.specs.Outers.{outer_root, outer3_additions};
 
 use crate::flagged::Flagged;
-use rasn_record::{
+use rasn_below::{
     AsnType, Constraint, Constraints, Constructed, Decode, Decoder, Encode, Encoder, Fields, Tag,
     added_bounds, added_fields, decode_extended, encode_extended, root_bounds, root_fields,
 };

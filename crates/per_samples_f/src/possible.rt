@@ -6,7 +6,7 @@ ghost use Rattle.rasn_schema.specs.Components.{fields_of};
 ghost use Rattle.rasn_calls.specs.Presences.{slot_of};
 ghost use Rattle.per_samples_f.specs.Groups.{possible};
 
-use rasn_record::{
+use rasn_below::{
     Components, Constraint, Decoder, Encoder, Fields, Record, bounds, decode_components,
     encode_components, fields,
 };

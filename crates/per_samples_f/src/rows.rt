@@ -12,7 +12,7 @@ use crate::none_needed::NoneNeeded;
 use crate::one_needed::OneNeeded;
 use crate::outer1::Outer1;
 use crate::outer3::Outer3;
-use rasn_record::AsnType;
+use rasn_below::AsnType;
 
 /// Without additions the extension bit is 0 (X.691 19.1).
 #[tactic(auto, unfolding(per_core::specs::Canon::bytes, rasn_schema::specs::Normal::normal))]

@@ -7,7 +7,7 @@ ghost use Rattle.per_samples_g.specs.Defaults.{default_outer1, true_false};
 
 use per_samples_f::outer1::Outer1;
 use rasn_codec::codec::{DecoderExt, EncoderExt};
-use rasn_record::{
+use rasn_below::{
     AsnType, Components, Decoder, Encoder, Fields, Record, Tag, context_tag, fields,
 };
 use rasn_types::types::Identifier;

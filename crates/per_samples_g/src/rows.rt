@@ -7,7 +7,7 @@ ghost use Rattle.per_samples_a.specs.Rows.{IsWrittenAs};
 use crate::default_outer3::DefaultOuter3;
 use crate::grouped1::Grouped1;
 use crate::grouped2::Grouped2;
-use rasn_record::AsnType;
+use rasn_below::AsnType;
 
 /// A group that holds an addition of its own alone is written, one that holds nothing isn't (X.691 19.9).
 #[tactic(auto, unfolding(per_core::specs::Canon::bytes, rasn_schema::specs::Normal::normal))]

@@ -7,7 +7,7 @@ ghost use Rattle.per_samples_h.specs.Alternatives.{alt_added, alt_root};
 ghost use Rattle.per_samples_h.specs.declared.alt.Alt.TheVariants.{Added, Inner, Plain};
 
 use crate::inner::Inner;
-use rasn_record::{
+use rasn_below::{
     Alternatives, AsnType, ByKind, ChoiceKind, CodedAlternatives, Constraint, Decoder, Encoder,
     OfKind, Tag, Variants, added_alternative_bounds, added_variants, alternative_bounds,
     decode_alternative, encode_alternative, variants,

@@ -5,7 +5,7 @@ ghost use Rattle.rasn_schema.specs.Components.{variants_in};
 ghost use Rattle.per_samples_h.specs.First.{in_root};
 ghost use Rattle.per_samples_h.specs.Second.{alt2_chosen, behind_marker};
 
-use rasn_record::{
+use rasn_below::{
     Alternatives, ByKind, ChoiceKind, CodedAlternatives, Constraint, Decoder, Encoder, OfKind, Tag,
     Variants, added_alternative_bounds, added_variants, alternative_bounds, decode_alternative,
     encode_alternative, variants,

@@ -7,7 +7,7 @@ ghost use Rattle.rasn_schema.specs.Components.{fields_of};
 ghost use Rattle.per_samples_h.specs.Several.{beside_several};
 
 use crate::several::{SEVERAL_TAGS, Several};
-use rasn_record::{
+use rasn_below::{
     AsnType, Components, Constraint, Decoder, Encoder, Fields, Record, bounds, decode_components,
     encode_components, fields,
 };

@@ -13,7 +13,7 @@ use crate::alt2::Alt2;
 use crate::beside::BesideSeveral;
 use crate::several::Several;
 use crate::two_alternatives::TwoAlternatives;
-use rasn_record::AsnType;
+use rasn_below::AsnType;
 
 /// An alternative of the root stands behind an extension bit 0 and its index (X.691 23.5, 23.6), which has no bits
 /// where it is the only one.

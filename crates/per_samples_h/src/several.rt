@@ -4,7 +4,7 @@ ghost use Rattle.std.specs.Prelude.{Some, refl};
 ghost use Rattle.rasn_schema.specs.Components.{variants_in};
 ghost use Rattle.per_samples_h.specs.Several.{several_added, several_chosen, several_root};
 
-use rasn_record::{
+use rasn_below::{
     Alternatives, ByKind, ChoiceKind, CodedAlternatives, Constraint, Decoder, Encoder, OfKind, Tag,
     TagTree, Variants, added_alternative_bounds, added_variants, alternative_bounds,
     decode_alternative, encode_alternative, tags_of_choice, variants,

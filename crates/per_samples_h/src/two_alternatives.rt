@@ -6,7 +6,7 @@ ghost use Rattle.rasn_schema.specs.Components.{fields_of};
 ghost use Rattle.per_samples_h.specs.Alternatives.{two_alternatives};
 
 use crate::alt::Alt;
-use rasn_record::{
+use rasn_below::{
     AsnType, Components, Constraint, Decoder, Encoder, Fields, Record, bounds, decode_components,
     encode_components, fields,
 };

@@ -12,8 +12,8 @@ ghost use Rattle.rasn_record.specs.ExtendedRecords.{extended_at, extended_by, ex
 ghost use Rattle.per_samples_m.specs.Many.{many_additions, many_root};
 
 use crate::additions::{TruthsToRead, TruthsToWrite};
-use rasn_record::cells::{End, Listed};
-use rasn_record::{
+use rasn_below::cells::{End, Listed};
+use rasn_below::{
     AsnType, Constraints, Constructed, Decode, Decoder, Encode, Encoder, Field, Fields, Presence,
     Tag, context_tag, tag_tree,
 };

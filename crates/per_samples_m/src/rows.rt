@@ -5,7 +5,7 @@ ghost use Rattle.rasn_types.specs.Variants.{aligned, unaligned};
 ghost use Rattle.per_samples_a.specs.Rows.{IsWrittenAs};
 
 use crate::many::Many;
-use rasn_record::AsnType;
+use rasn_below::AsnType;
 
 /// A bitmap of more than 64 bits has a length in the form of any length (X.691 11.9.3.4, 19.8).
 pub fn long_bitmaps_have_a_length()

@@ -8,7 +8,7 @@ ghost use Rattle.per_versions_tests.specs.Colors.{only_color};
 
 use per_samples_c::colors::TwoColors;
 use per_versions::exchange::{ExchangeError, read_by_older};
-use rasn_record::{
+use rasn_below::{
     AsnType, ByKind, EnumeratedKind, ItemCounts, Items, OfKind, Place, item_at, item_counts,
     place_of_item,
 };

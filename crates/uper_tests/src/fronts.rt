@@ -7,7 +7,7 @@ use rasn_per::uper::{
     DecodeErrorKind, EncodeErrorKind, ParserFailCause, decode_with_constraints,
     decode_with_remainder, decode_zero_padded, encode_buf, encode_with_constraints,
 };
-use rasn_record::{Constrained, Constraint, Constraints, constraints};
+use rasn_below::{Constrained, Constraint, Constraints, constraints};
 use rasn_strings::strings::VisibleString;
 use std::alloc::Global;
 use std::test::Fail;

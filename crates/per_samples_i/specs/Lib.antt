@@ -1,0 +1,4 @@
+pub mod Connects
+pub mod Memberships
+pub mod Periods
+pub mod Texts

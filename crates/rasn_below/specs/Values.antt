@@ -1,0 +1,7 @@
+-- What an author's values are, in the words of a page's `contents`.
+pub use Rattle.rasn_types.specs.Values.{Value, whole, truth, nothing, item, root, added, octets, bits, characters}
+pub use Rattle.rasn_schema.specs.Records.{record_value}
+pub use Rattle.rasn_calls.specs.Moments.{identifier_value, utc_value, generalized_value}
+pub use Rattle.rasn_calls.specs.Presences.{slot_of}
+pub use Rattle.rasn_calls.specs.Scopes.{deeper_of}
+pub use Rattle.rasn_record.specs.Slots.{slot_levels}

@@ -1,0 +1,8 @@
+//! The traits of values that are encoded and decoded, and those of encoders and decoders.
+
+pub use rasn_additions::{ExtensionDecoder, ExtensionEncoder};
+pub use rasn_codec::boxed::boxed;
+pub use rasn_codec::codec::{
+    Decode, DecodeChoice, Decoder, DecoderExt, Encode, Encoder, EncoderExt,
+};
+pub use rasn_sets::codec::{SetOfDecoder, SetOfEncoder};

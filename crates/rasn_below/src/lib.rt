@@ -1,0 +1,30 @@
+//! What the layers below the packed encoding rules give to those who write types: values, schemas, the traits of types
+//! and codecs, contents octets and texts; and at the root all that a page of an author's types names, macros included.
+//! With `rasn_per` this is all that a user's crate names.
+#![tactic(auto)]
+
+pub mod ber;
+mod choices;
+pub mod codec;
+mod extended;
+mod items;
+mod macros;
+pub mod schema;
+pub mod types;
+
+pub use rasn_calls::parts::NoAdditions;
+pub use rasn_codec::alternatives::CodedAlternatives;
+pub use rasn_codec::codec::{Decode, Decoder, Encode, Encoder};
+pub use rasn_codec::kinds::ByKind;
+pub use rasn_codec::record::Record;
+pub use rasn_record::{additions, alternatives, cells, components, read, write};
+pub use rasn_schema::alternatives::{Alternatives, ChoiceKind};
+pub use rasn_schema::choices::{Variant, Variants};
+pub use rasn_schema::components::Components;
+pub use rasn_schema::constrained::{Constrained, Limits};
+pub use rasn_schema::constraints::{Bounded, Constraint, Extensible};
+pub use rasn_schema::fields::{Constructed, Field, Fields, Presence, TagTree};
+pub use rasn_schema::items::{EnumeratedKind, ItemCounts, Items, Place};
+pub use rasn_schema::kinds::OfKind;
+pub use rasn_schema::schema::{AsnType, Constraints};
+pub use rasn_schema::types::{Class, Tag};

@@ -1,0 +1,13 @@
+//! The types of values (X.680 17 to 47), with their tags.
+
+pub use rasn_sets::set_of::SetOf;
+pub use rasn_strings::strings::{
+    BmpString, Ia5String, NumericString, PrintableString, VisibleString,
+};
+pub use rasn_types::types::{
+    Any, BitString, Class, Codec, GeneralString, GraphicString, Identifier, Integer, OctetString,
+    Tag, TeletexString, Utf8String,
+};
+pub use rasn_useful::generalized_time::GeneralizedTime;
+pub use rasn_useful::object_identifier::ObjectIdentifier;
+pub use rasn_useful::utc_time::UtcTime;
