@@ -33,7 +33,7 @@ use Rattle.per_read.specs.declared.error.DecodeError.{DecodeError}
 use Rattle.rasn_per.specs.Calls.{DecodedBy}
 use Rattle.rasn_per.specs.Complete.{AreBytes, HasNoBytes, basically, reading}
 use Rattle.per_versions.specs.Answers.{Answers}
-use Rattle.per_versions.specs.Readings.{depth_of, normal_form, IsProjection, IsWidening, IsReadBack, IsReadByOlder, IsReadByNewer}
+use Rattle.per_versions.specs.Readings.{AreCanonical, depth_of, normal_form, IsProjection, IsWidening, IsReadBack, IsReadByOlder, IsReadByNewer}
 use Rattle.per_versions.proofs.Depths.{is_held, normal_at, bytes_at, no_bytes_at, projection_at, widening_at}
 use Rattle.per_versions.proofs.Normalised.{stays_in_reach}
 
@@ -159,6 +159,15 @@ told_apart a T g k l v w os ps h i = (λ j. same_bytes a (T n) (normal_form T v)
 
 pub whole_octets : (a : Variant) (T : ℕ → Schema) → Levelled T → (k : ℕ) (v : Value) (os : List ℕ) → AreBytes a T k v os → (0 < length os) × AreOctets os
 whole_octets a T g k v os h = full_octets (basically a) (T (k + depth_of v)) (normal_form T v) os (bytes_at T g a k v os h (k + depth_of v) (omega arith) (omega arith))
+
+-- canonical octets are those of the normal form along each tree that holds it
+pub written_canonically : (a : Variant) (T : ℕ → Schema) → Levelled T → (k : ℕ) (v : Value) (os : List ℕ) → AreBytes a T k v os → AreCanonical a T (normal_form T v) os
+written_canonically a T g k v os h n d =
+    let z = normal_form T v in
+    let m = k + depth_of v + n in
+    let e = bytes_at T g a k v os h m (omega arith) (omega arith) in
+    let i : meets_cut (T n) z ≡ false = levelled_holds T g z n d in
+    (Depths.writes_at_less a (T n) (T m) (up_to T (levelled_type_unfolds T g) n m (omega arith)) z os).1 e (Peers.uncut_writes (T n) (T n) z i)
 
 -- of values of at most 128 levels
 pub few_read_back : (a : Settings) (T : ℕ → Schema) → Levelled T → (k : ℕ) (v : Value) (os : List ℕ) → AreBytes a.variant T k v os → levels_of (normal_form T v) ≤ 128 →

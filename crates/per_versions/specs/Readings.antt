@@ -1,8 +1,10 @@
 -- What a type's own reader, an older type's and a newer type's read of a value (ITU-T X.680, 52; X.691, 19.9).
-use Rattle.std.specs.Prelude.{ℕ, ◌+◌, ◌≡◌, false, Some}
+use Rattle.std.specs.Prelude.{ℕ, ◌+◌, ◌≡◌, ◌≤◌, false, List, Some}
 use Rattle.rasn_types.specs.Values.{Value}
+use Rattle.rasn_types.specs.Variants.{Variant}
 use Rattle.rasn_schema.specs.Schemas.{Schema}
 use Rattle.rasn_schema.specs.Normal.{normal}
+use Rattle.per_core.specs.Canon.{bytes}
 use Rattle.per_core.specs.Versions.{project, widen}
 use Rattle.per_depth.specs.Levels.{levels_of}
 use Rattle.per_depth.specs.Written.{writes_cut}
@@ -14,6 +16,10 @@ depth_of v = levels_of v + 2
 -- X.691 19.9: the normal form of a type's value, along a tree that holds the value
 abbrev pub normal_form : (ℕ → Schema) → Value → Value
 normal_form type v = normal (type (depth_of v)) v
+
+-- X.691 11.1: octets are the canonical bytes of a value as it is, along each tree that holds it
+abbrev pub AreCanonical : Variant → (ℕ → Schema) → Value → List ℕ → Type 0
+AreCanonical a type v octets = (n : ℕ) → depth_of v ≤ n → bytes a (type n) v ≡ Some octets
 
 -- X.680 52: what an older type sees of a newer type's value, along trees that hold the value
 abbrev pub IsProjection : (ℕ → Schema) → (ℕ → Schema) → Value → Value → Type 0

@@ -10,7 +10,7 @@ ghost use Rattle.per_read.specs.declared.error.DecodeError.{DecodeError};
 ghost use Rattle.rasn_per.specs.Calls.{DecodedBy};
 ghost use Rattle.rasn_per.specs.Complete.{AreBytes, HasNoBytes};
 ghost use Rattle.per_versions.specs.Answers.{Answers};
-ghost use Rattle.per_versions.specs.Readings.{IsReadBack, normal_form};
+ghost use Rattle.per_versions.specs.Readings.{AreCanonical, IsReadBack, normal_form};
 
 use rasn_codec::codec::{Decode, Encode};
 
@@ -61,4 +61,21 @@ pub fn what_was_decoded_is_decoded_again<T: Encode + Decode>()
         → AreBytes (variant_of other) type (T.levels x) (T.value x) others
         → DecodedBy again other type T.value others answer
         → Answers T.value (λ (w : Value). w ≡ normal_form type (T.value x)) answer }
+{}
+
+/// What `decode` answered to any octets, canonical or not, is encoded, where it is, as the canonical octets of its normal
+/// form. What `decode` then answers to those is encoded, where it is, as the same octets again: so whoever decodes and
+/// encodes makes octets canonical, in the same variant or in the other, and does so once for all (X.691, 11.1).
+pub fn what_was_decoded_is_encoded_canonically<T: Encode + Decode>()
+    ensures canonical { let type = T.schema T.CONSTRAINTS in
+        (strict : Bool) (codec other : Codec) (x : T) (octets others : List ℕ)
+        → DecodedBy strict codec type T.value octets (Ok x)
+        → AreBytes (variant_of other) type (T.levels x) (T.value x) others
+        → AreCanonical (variant_of other) type (normal_form type (T.value x)) others }
+    ensures settled { let type = T.schema T.CONSTRAINTS in
+        (strict again : Bool) (codec other : Codec) (x y : T) (octets others last : List ℕ)
+        → DecodedBy strict codec type T.value octets (Ok x)
+        → AreBytes (variant_of other) type (T.levels x) (T.value x) others
+        → DecodedBy again other type T.value others (Ok y)
+        → AreBytes (variant_of other) type (T.levels y) (T.value y) last → last ≡ others }
 {}

@@ -5,6 +5,9 @@ ghost use Rattle.rasn_per.specs.Calls.{Encoded, EncodedInto, Decoded, DecodedFro
 
 pub use crate::complete::lawful;
 use crate::complete::{decode_front, decode_in, encode_in, encode_into};
+pub use crate::per;
+pub use crate::per::de::Decoder;
+pub use crate::per::enc::Encoder;
 use per_de::DecoderOptions;
 pub use per_de::error::{DecodeError, DecodeErrorKind, ParserFailCause};
 pub use per_enc::{EncodeError, EncodeErrorKind};

@@ -2,6 +2,7 @@
 #![tactic(auto)]
 
 pub use per_bits as bits;
+pub use per_core::model;
 
 pub mod aper;
 mod complete;
