@@ -6,4 +6,6 @@ mod generalized_times;
 #[cfg(test)]
 mod identifiers;
 #[cfg(test)]
+mod pages;
+#[cfg(test)]
 mod utc_times;
