@@ -19,7 +19,10 @@ fn object_in_a_key_is_written_and_read(rt: HostRuntime) -> Result<(), Fail> {
         key: Key::Object(ObjectIdentifier::new(arcs)),
         pdu: OctetString::new(pdu),
     };
-    assert_eq!(rt; aper::encode(rt.alloc(), &connect)?.as_slice(), octets.as_slice());
+    assert_eq!(rt;
+        aper::encode(rt.alloc(), &connect)?.as_slice(),
+        octets.as_slice()
+    );
     assert_eq!(rt; aper::decode::<Connect>(rt.alloc(), &octets)?, connect);
     Ok(())
 }
@@ -37,7 +40,10 @@ fn times_in_a_period_are_written_and_read(rt: HostRuntime) -> Result<(), Fail> {
         since: UtcTime::new(since),
         until: Some(GeneralizedTime::new(until)),
     };
-    assert_eq!(rt; aper::encode(rt.alloc(), &period)?.as_slice(), octets.as_slice());
+    assert_eq!(rt;
+        aper::encode(rt.alloc(), &period)?.as_slice(),
+        octets.as_slice()
+    );
     assert_eq!(rt; aper::decode::<Period>(rt.alloc(), &octets)?, period);
     Ok(())
 }

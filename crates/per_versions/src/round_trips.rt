@@ -63,9 +63,10 @@ pub fn what_was_decoded_is_decoded_again<T: Encode + Decode>()
         → Answers T.value (λ (w : Value). w ≡ normal_form type (T.value x)) answer }
 {}
 
-/// What `decode` answered to any octets, canonical or not, is encoded, where it is, as the canonical octets of its normal
-/// form. What `decode` then answers to those is encoded, where it is, as the same octets again: so whoever decodes and
-/// encodes makes octets canonical, in the same variant or in the other, and does so once for all (X.691, 11.1).
+/// What `decode` answered to any octets, canonical or not, is encoded, where it is, as the canonical octets of its
+/// normal form. What `decode` then answers to those is encoded, where it is, as the same octets again: so whoever
+/// decodes and encodes makes octets canonical, in the same variant or in the other, and does so once for all (X.691,
+/// 11.1).
 pub fn what_was_decoded_is_encoded_canonically<T: Encode + Decode>()
     ensures canonical { let type = T.schema T.CONSTRAINTS in
         (strict : Bool) (codec other : Codec) (x : T) (octets others : List ℕ)
