@@ -3,8 +3,8 @@
 use per_enc::{EncodeError, EncodeErrorKind, Encoder, EncoderOptions};
 use per_samples_f::one_needed::OneNeeded;
 use rasn_additions::ExtensionEncoder;
-use rasn_codec::codec::Encoder as _;
 use rasn_below::{AsnType, Constraints};
+use rasn_codec::codec::Encoder as _;
 use rasn_types::types::{Identifier, Tag};
 use std::alloc::Global;
 use std::test::Fail;

@@ -1,8 +1,8 @@
 //! The variant that a refusal names.
 
 use crate::limits::SizeTo3;
-use rasn_per::aper::{DecodeError, DecodeErrorKind, EncodeError, EncodeErrorKind, decode, encode};
 use rasn_below::Constrained;
+use rasn_per::aper::{DecodeError, DecodeErrorKind, EncodeError, EncodeErrorKind, decode, encode};
 use rasn_types::octet_strings::OctetString;
 use rasn_types::types::Codec;
 use std::test::Fail;

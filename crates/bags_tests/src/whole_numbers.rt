@@ -1,8 +1,8 @@
 //! SET OF INTEGER, whose octets are the same in both variants: each member is whole octets.
 
+use rasn_below::{Constraint, Constraints, constraints};
 use rasn_per::aper::EncodeErrorKind;
 use rasn_per::{aper, uper};
-use rasn_below::{Constraint, Constraints, constraints};
 use rasn_sets::set_of::SetOf;
 use std::alloc::{AllocError, Global};
 use std::test::Fail;

@@ -2,8 +2,8 @@
 
 use crate::decoder::{open_many, refusal, unaligned};
 use per_read::error::{DecodeError, DecodeErrorKind, ParserFailCause};
-use rasn_codec::codec::Decode;
 use rasn_below::{Constraint, Constraints, constraints};
+use rasn_codec::codec::Decode;
 use std::alloc::Global;
 use std::test::Fail;
 

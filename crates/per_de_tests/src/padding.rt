@@ -4,8 +4,8 @@ use per_bits::BitReader;
 use per_de::{Decoder, DecoderOptions};
 use per_read::ReaderOptions;
 use per_read::error::{DecodeErrorKind, ParserFailCause};
-use rasn_codec::codec::Decoder as _;
 use rasn_below::{Constraint, Constraints, constraints};
+use rasn_codec::codec::Decoder as _;
 use rasn_types::types::{Codec, Tag};
 use std::test::Fail;
 

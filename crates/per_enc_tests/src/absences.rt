@@ -2,8 +2,8 @@
 
 use per_enc::{EncodeError, EncodeErrorKind, Encoder, EncoderOptions};
 use per_samples_a::some_absent::SomeAbsent;
-use rasn_codec::codec::{Encoder as _, EncoderExt as _};
 use rasn_below::{AsnType, Constraint, Constraints, constraints};
+use rasn_codec::codec::{Encoder as _, EncoderExt as _};
 use rasn_types::types::{Identifier, Tag};
 use std::alloc::Global;
 use std::test::Fail;

@@ -1,8 +1,8 @@
 //! Worked encodings of lists, and a count that is refused.
 
 use per_enc::{EncodeError, EncodeErrorKind, Encoder, EncoderOptions};
-use rasn_codec::codec::Encode;
 use rasn_below::{Constraint, Constraints, constraints};
+use rasn_codec::codec::Encode;
 use std::alloc::{AllocError, Global};
 use std::test::Fail;
 

@@ -9,10 +9,10 @@ ghost use Rattle.rasn_schema.specs.Records.{no_additions, record_value};
 ghost use Rattle.rasn_schema.specs.Tags.{sequence_tag};
 ghost use Rattle.per_samples_a.specs.Boths.{both_parts, both_schema, both_levelled, both_contents};
 
-use rasn_calls::parts::NoAdditions;
-use rasn_codec::codec::{Decode, Decoder, Encode, Encoder};
 use rasn_below::cells::{Cell, End, Listed};
 use rasn_below::components::Required;
+use rasn_calls::parts::NoAdditions;
+use rasn_codec::codec::{Decode, Decoder, Encode, Encoder};
 use rasn_schema::fields::{Constructed, Field, Fields, Presence, TagTree};
 use rasn_schema::schema::{AsnType, Constraints};
 use rasn_types::types::{Class, Identifier, Tag};

@@ -12,8 +12,8 @@ ghost use Rattle.per_samples_e.specs.Choices.{inner_parts, inner_levelled, inner
 ghost use Rattle.per_samples_e.specs.declared.choice.Inner.TheVariants.{P, Q};
 ghost use Rattle.per_samples_e.specs.declared.choice.Outer.TheVariants.{X, Y, Z};
 
-use rasn_codec::codec::{Decode, DecodeChoice, Decoder, DecoderExt, Encode, Encoder, EncoderExt};
 use rasn_below::context_tag;
+use rasn_codec::codec::{Decode, DecodeChoice, Decoder, DecoderExt, Encode, Encoder, EncoderExt};
 use rasn_schema::choices::{Choice, Variant, Variants};
 use rasn_schema::fields::TagTree;
 use rasn_schema::schema::{AsnType, Constraints};

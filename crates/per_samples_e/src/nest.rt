@@ -10,12 +10,12 @@ ghost use Rattle.per_samples_a.specs.Rows.{IsWrittenAs};
 ghost use Rattle.per_samples_e.specs.declared.nest.Nest.{Nest', None', Some'};
 ghost use Rattle.per_samples_e.specs.Nests.{nest, nest_contents, nest_depth, nest_schema};
 
-use rasn_codec::boxed::boxed;
-use rasn_codec::codec::{Decode, Encode};
 use rasn_below::{
     AsnType, Components, Constraint, Constraints, Decoder, Encoder, Fields, Tag, bounds,
     context_tag, encode_record, fields,
 };
+use rasn_codec::boxed::boxed;
+use rasn_codec::codec::{Decode, Encode};
 use rasn_types::types::Identifier;
 
 /// Nest ::= SEQUENCE { inner Nest OPTIONAL }

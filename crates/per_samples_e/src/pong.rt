@@ -8,12 +8,12 @@ ghost use Rattle.rasn_calls.specs.Presences.{slot_of};
 ghost use Rattle.per_samples_e.specs.Mutuals.{pong, pong_contents, pong_depth, ping_schema};
 
 use crate::ping::Ping;
-use rasn_codec::boxed::boxed;
-use rasn_codec::codec::{Decode, Encode};
 use rasn_below::{
     AsnType, Components, Constraint, Constraints, Decoder, Encoder, Fields, Tag, bounds,
     context_tag, encode_record, fields,
 };
+use rasn_codec::boxed::boxed;
+use rasn_codec::codec::{Decode, Encode};
 use rasn_types::types::Identifier;
 
 /// Pong ::= SEQUENCE { ping Ping OPTIONAL }

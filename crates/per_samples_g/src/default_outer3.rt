@@ -6,10 +6,8 @@ ghost use Rattle.rasn_schema.specs.Components.{fields_of};
 ghost use Rattle.per_samples_g.specs.Defaults.{default_outer3, true_false_alone};
 
 use per_samples_f::outer3::Outer3;
+use rasn_below::{AsnType, Components, Decoder, Encoder, Fields, Record, Tag, context_tag, fields};
 use rasn_codec::codec::{DecoderExt, EncoderExt};
-use rasn_below::{
-    AsnType, Components, Decoder, Encoder, Fields, Record, Tag, context_tag, fields,
-};
 use rasn_types::types::Identifier;
 use std::alloc::{AllocError, Global};
 

@@ -9,10 +9,10 @@ ghost use Rattle.rasn_calls.specs.AdditionsRead.{TakesAdditions};
 ghost use Rattle.rasn_calls.specs.Presences.{slot_of};
 ghost use Rattle.per_samples_m.specs.Many.{truths_from};
 
-use rasn_calls::parts::{DecodeAdditions, EncodeAdditions};
 use rasn_below::additions::{DecodeAddition, EncodeAddition};
 use rasn_below::components::Optional;
 use rasn_below::{AsnType, Class, Decoder, Encoder, Tag};
+use rasn_calls::parts::{DecodeAdditions, EncodeAdditions};
 use std::marker::PhantomData;
 
 /// The additions to write.

@@ -2,12 +2,12 @@
 
 use per_samples_a::bounded::ZeroTo65536;
 use per_samples_b::strings::LettersAToE;
+use rasn_below::{Constrained, Constraint, Constraints, constraints};
 use rasn_per::aper;
 use rasn_per::uper::{
     DecodeErrorKind, EncodeErrorKind, ParserFailCause, decode_with_constraints,
     decode_with_remainder, decode_zero_padded, encode_buf, encode_with_constraints,
 };
-use rasn_below::{Constrained, Constraint, Constraints, constraints};
 use rasn_strings::strings::VisibleString;
 use std::alloc::Global;
 use std::test::Fail;

@@ -2,9 +2,9 @@
 
 ghost use Rattle.rasn_schema.specs.Components.{minus◌to◌};
 
+use rasn_below::{Constrained, Constraint, Constraints, Limits, constraints};
 use rasn_codec::codec::Decode;
 use rasn_per::uper::{DecodeError, DecodeErrorKind, ParserFailCause, decode, lawful};
-use rasn_below::{Constrained, Constraint, Constraints, Limits, constraints};
 use rasn_types::types::Codec;
 use std::alloc::Global;
 
