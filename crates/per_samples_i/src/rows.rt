@@ -12,7 +12,7 @@ use rasn_below::AsnType;
 
 /// A key by an object identifier, and one by octets: the index in one bit, and a length in front of each (X.691 23.6,
 /// 24, 17).
-#[tactic(auto, unfolding(per_core::specs::Canon::bytes, rasn_schema::specs::Normal::normal, rasn_ber::specs::Identifiers::contents))]
+#[tactic(auto, unfolding(per_core::specs::Canon::bytes, rasn_schema::specs::Normal::normal, rasn_ber::specs::Identifiers::contents, rasn_ber::specs::Identifiers::subidentifier))]
 pub fn key_is_written_behind_its_index()
     ensures object { let own = ⟦<Connect as AsnType>⟧ in
         IsWrittenAs aligned (own.schema own.CONSTRAINTS) own.levels own.value
@@ -24,7 +24,7 @@ pub fn key_is_written_behind_its_index()
 {}
 
 /// The members of a bag stand in the order of their encodings, behind their count in two bits (X.691 22, 11.5.7).
-#[tactic(auto, unfolding(per_core::specs::Canon::bytes, rasn_schema::specs::Normal::normal, rasn_types::specs::Values::bag_of))]
+#[tactic(auto, unfolding(per_core::specs::Canon::bytes, rasn_schema::specs::Normal::normal, rasn_schema::specs::Normal::over_bag, rasn_types::specs::Values::bag_of, rasn_ber::specs::Identifiers::contents, rasn_ber::specs::Identifiers::subidentifier))]
 pub fn members_are_written_in_order()
     ensures { let own = ⟦<Membership as AsnType>⟧ in
         IsWrittenAs aligned (own.schema own.CONSTRAINTS) own.levels own.value
