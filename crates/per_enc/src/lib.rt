@@ -21,7 +21,7 @@ use per_write::{OpenChoice, Outside, Scope, Writer};
 use rasn_calls::encoder;
 use rasn_schema::choices::Choice;
 use rasn_schema::enumerated::Enumerated;
-use rasn_schema::fields::Constructed;
+use rasn_schema::fields::{AdditionGroup, Constructed};
 use rasn_schema::schema::{Constraints, IntegerType};
 use rasn_strings::strings::StaticPermittedAlphabet;
 use rasn_types::bit_string::BitString;
@@ -397,7 +397,7 @@ impl<A: Allocator + Clone> encoder::Encoder for Encoder<A> {
         self.writer.close_addition(addition)
     }
 
-    fn close_group<C: Constructed>(&mut self, addition: Outside<A>) -> Result<(), EncodeError> {
+    fn close_group<C: AdditionGroup>(&mut self, addition: Outside<A>) -> Result<(), EncodeError> {
         self.writer.check_unfailed()?;
         let fields = C::FIELDS;
         let has_required = fields.number_of_optional_and_default_fields() < fields.len();
