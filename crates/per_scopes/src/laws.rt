@@ -45,3 +45,11 @@ pub fn choice_is_what_stands_behind_its_index()
     ensures { (c a : Schema) (d : Side) (k : ℕ) (s i t : State) (w : Choosing) (v : Value) → OpensChoice c d k s w i
         → alternative_in c d k ≡ Some a → Spells c s v t ↔ Stands a d k i w v t }
 {}
+
+/// A SET is read exactly where the SEQUENCE of its root components in ascending order of their smallest tags is, and
+/// what these are in that order is what they are there (X.691 21.1).
+pub fn set_is_read_as_its_components_in_order()
+    ensures { (ps qs : Parts) (marker : Bool) (s t : State) (rs xs : List (Option Value))
+        → Spells (Schema.sequence by_tag ps marker qs) s (record_value rs xs) t
+        ↔ Spells (extended (canonised ps) marker qs) s (record_value (canonised_slots ps rs) xs) t }
+{}
