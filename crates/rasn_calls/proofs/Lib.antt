@@ -1,4 +1,5 @@
 pub mod Alternatives
 pub mod Optionals
 pub mod Reading
+pub mod SetsWritten
 pub mod Writing
