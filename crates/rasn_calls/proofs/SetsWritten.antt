@@ -8,6 +8,7 @@ use Rattle.rasn_schema.specs.Records.{record_at, record_value}
 use Rattle.rasn_schema.specs.Schemas.{by_tag, count, listed, Parts, Schema}
 use Rattle.rasn_schema.proofs.Canonised.{normals_ordered}
 use Rattle.rasn_calls.specs.Calls.{AtDepths, EncoderRules, Written}
+use Rattle.rasn_calls.specs.Scopes.{OpenedToWrite}
 use Rattle.rasn_calls.specs.Sets.{InTagOrder, SetsWritten}
 use Rattle.rasn_calls.proofs.Writing.{at_suc, normal-record}
 
@@ -48,3 +49,14 @@ module _ {E X : Type 0} (rules : EncoderRules E X) (holds : SetsWritten rules) w
       subst (λ v. Written rules s v x r y) (sym (normal_set ps marker qs rs xs))
       (written_in_order ps marker qs (normals ps rs) (normals qs xs) x r y
       (subst (λ v. Written rules t v x r y) (normal_ordered ps marker qs rs cs xs (o.counted n) (o.placed n)) (a.at (suc n) (omega arith)))))
+
+  -- what isn't opened refuses the SET
+  pub set_unopened : {O : Type 0} (opens : Schema → X → O → X → Type 0) (parts : ℕ → Parts) (marker : Bool) (additions : ℕ → Parts) (rs cs xs : List (Option Value)) (k : ℕ) (x : X) (e : E) (i y : X)
+      → InTagOrder parts rs cs → OpenedToWrite rules opens (canonised_at parts) marker additions x (Err e) i
+      → AtDepths (record_at by_tag parts marker additions) (suc k) (λ s. Written rules s (normal s (record_value rs xs)) x (Err e) y)
+  set_unopened opens parts marker additions rs cs xs k x e i y o w = set_written parts marker additions rs cs xs k x (Err e) y o (at_suc (λ n le. go n w))
+    where
+      go : (n : ℕ) → OpenedToWrite rules opens (canonised_at parts) marker additions x (Err e) i
+          → (let s = Schema.sequence listed (canonised (parts n)) marker (additions n) in Written rules s (normal s (record_value cs xs)) x (Err e) y)
+      go n (inl m) = inl m
+      go n (inr h) = inr (h n (normal (Schema.sequence listed (canonised (parts n)) marker (additions n)) (record_value cs xs)))
