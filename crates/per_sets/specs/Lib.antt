@@ -1,0 +1,2 @@
+pub mod Canonised
+pub mod Listed
