@@ -2,4 +2,5 @@ pub mod Alternatives
 pub mod Optionals
 pub mod Reading
 pub mod SetsRead
+pub mod SetsWritten
 pub mod Writing
