@@ -1,5 +1,5 @@
 -- The law of a decoder's SETs: a SET is read as the SEQUENCE of its components in ascending order of their tags is (X.691 21.1).
-use Rattle.std.proofs.Common.{subst, Bool, true}
+use Rattle.std.proofs.Common.{subst, ℕ, Bool, true}
 use Rattle.rasn_types.specs.Bits.{Bits}
 use Rattle.rasn_types.specs.Values.{Value}
 use Rattle.rasn_schema.specs.Canonised.{canonised, canonised_slots}
@@ -9,30 +9,38 @@ use Rattle.rasn_calls.specs.Additions.{extended}
 use Rattle.rasn_calls.specs.Sets.{SetsWell}
 use Rattle.per_core.specs.Basic.{basic}
 use Rattle.per_core.specs.Spellings.{Settings}
-use Rattle.per_core.specs.Took.{Took}
+use Rattle.per_core.specs.Took.{Took, place}
 use Rattle.per_core.proofs.Took.{took_map}
 use Rattle.per_sets.proofs.Readings.{in_order, out_of_order, read_as_listed}
 use Rattle.per_read.specs.declared.error.DecodeErrorKind.{DecodeErrorKind}
 use Rattle.per_read.specs.declared.error.DecodeErrorKind.TheVariants.{AlreadyFailed}
-use Rattle.per_scopes.specs.Faults.{IsOf, in_set}
+use Rattle.per_scopes.specs.Faults.{IsInBits, IsOf, at_once, in_set}
 use Rattle.per_scopes.specs.Rules.{decoder_rules}
 use Rattle.per_scopes.specs.State.{State}
 
 -- the SEQUENCE of a SET that is read
-in_turn_took : (a : Settings) (ps : Parts) (marker : Bool) (qs : Parts) (v : Value) {s t : Bits} → Took (basic a (Schema.sequence by_tag ps marker qs) v) s t
-    → (w : Value) × Took (basic a (extended (canonised ps) marker qs) w) s t
-in_turn_took a ps marker qs v b =
-    let q = read_as_listed a true ps marker qs v _ _ b.spelled in
+in_turn_spelled : (a : Settings) (ps : Parts) (marker : Bool) (qs : Parts) (v : Value) (p : ℕ) (bits : Bits) → basic a (Schema.sequence by_tag ps marker qs) v p bits
+    → (w : Value) × basic a (extended (canonised ps) marker qs) w p bits
+in_turn_spelled a ps marker qs v p bits b =
+    let q = read_as_listed a true ps marker qs v p bits b in
     (
       record_value (canonised_slots ps q.root) q.added,
-      record {
-        front = b.front;
-        joins = b.joins;
-        spelled = in_order a true ps marker qs q.root q.added _ _ (subst (λ w. basic a (Schema.sequence by_tag ps marker qs) w _ _) q.is b.spelled);
-      },
+      in_order a true ps marker qs q.root q.added p bits (subst (λ w. basic a (Schema.sequence by_tag ps marker qs) w p bits) q.is b),
     )
 
--- a fault of that SEQUENCE is one of the SET
+in_turn_took : (a : Settings) (ps : Parts) (marker : Bool) (qs : Parts) (v : Value) {s t : Bits} → Took (basic a (Schema.sequence by_tag ps marker qs) v) s t
+    → (w : Value) × Took (basic a (extended (canonised ps) marker qs) w) s t
+in_turn_took a ps marker qs v {s} b =
+    let q = in_turn_spelled a ps marker qs v (place s) b.front b.spelled in
+    (q.0, record { front = b.front; joins = b.joins; spelled = q.1 })
+
+-- a fault of the SET is one of that SEQUENCE
+pub fault_in_turn : {a : Settings} {k : DecodeErrorKind} {ps qs : Parts} {marker : Bool} {s : Bits} → IsInBits a k (Schema.sequence by_tag ps marker qs) s
+    → IsInBits a k (extended (canonised ps) marker qs) s
+fault_in_turn (at_once h) = at_once h
+fault_in_turn (in_set h) = h
+
+-- and the other way round
 of_sequence : (k : DecodeErrorKind) (ps : Parts) (marker : Bool) (qs : Parts) (s : State)
     → IsOf k (extended (canonised ps) marker qs) s → IsOf k (Schema.sequence by_tag ps marker qs) s
 of_sequence AlreadyFailed ps marker qs s h = h
