@@ -141,6 +141,7 @@ impl<A: Allocator + Clone> encoder::Encoder for Encoder<A> {
     ghost use Rattle.per_enc.specs.Laws.{presents_well};
     ghost use Rattle.per_enc.specs.Choices.{OpensChoice};
     ghost use Rattle.per_enc.specs.Opens.{Opens};
+    ghost use Rattle.per_enc.specs.SetLaws.{sets_written};
     ghost use Rattle.per_members.specs.Bags.{AmidBag};
     ghost use Rattle.per_write.specs.Additions.{Opens as OpensOpenType};
     ghost use Rattle.per_write.specs.Lists.{AmidList};
@@ -353,6 +354,21 @@ impl<A: Allocator + Clone> encoder::Encoder for Encoder<A> {
         self.writer.close_record(outside)
     }
 
+    fn open_set<C: Constructed>(
+        &mut self,
+        _tag: Tag,
+        _identifier: Identifier,
+    ) -> Result<Scope<A>, EncodeError> {
+        self.writer.check_unfailed()?;
+        let bits = C::FIELDS.number_of_optional_and_default_fields();
+        self.writer.open_record(bits, addition_count::<C>())
+    }
+
+    fn close_set<C: Constructed>(&mut self, scope: Scope<A>) -> Result<(), EncodeError> {
+        self.writer.check_unfailed()?;
+        self.writer.close_record(scope)
+    }
+
     fn open_choice<C: Choice>(
         &mut self,
         _tag: Tag,
@@ -451,6 +467,8 @@ impl<A: Allocator + Clone> encoder::Encoder for Encoder<A> {
     }
 
     ghost lawful = { presents_well };
+
+    ghost sets = { sets_written };
 }
 
 /// How many additions a type has, where it has an extension marker.

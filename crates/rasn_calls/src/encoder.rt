@@ -447,9 +447,9 @@ pub trait Encoder: Sized {
             self.old result self.new }
     {
         let outside = self.open_set::<C>(tag, identifier.into())?;
-        if let Err(error) = scope(self) {
+        if let Err(refusal) = scope(self) {
             self.fail();
-            return Err(error);
+            return Err(refusal);
         }
         self.close_set::<C>(outside)
     }

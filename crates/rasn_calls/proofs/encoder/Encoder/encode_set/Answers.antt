@@ -25,7 +25,7 @@ returns-in-Err g c =
     let gave : FnOnceReturnsAtMut g.F.FnOnce c.args.scope c.open_set.new.self c.scope.result c.scope.new.arg2 = record { shown = _; shows = refl; left = _; met = c.scope.ensures; leaves = refl } in
     record {
       law = λ rs cs xs k order owed.
-          set_written g.Self.Encoder.rules g.met.Self.Encoder.sets C.parts C.IS_EXTENSIBLE C.additions rs cs xs k c.args.self.now (Err c.in-Err.error) c.fail.new.self order
+          set_written g.Self.Encoder.rules g.met.Self.Encoder.sets C.parts C.IS_EXTENSIBLE C.additions rs cs xs k c.args.self.now (Err c.in-Err.refusal) c.fail.new.self order
           (record_refused g.Self.Encoder.rules (canonised_at C.parts) C.IS_EXTENSIBLE C.additions cs xs k _ c.open_set.new.self c.scope.new.arg2 c.args.self.now _ (λ n. (o n).1)
           (rw c.in-Err.is at (owed.keeps c.open_set.new.self c.scope.result c.scope.new.arg2 gave)));
       again = search rules;
