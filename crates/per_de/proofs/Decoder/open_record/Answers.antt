@@ -4,7 +4,7 @@ use Rattle.std.proofs.lemmas.Result.{err_from_is_err_and}
 use Rattle.rasn_schema.specs.Fields.{may_be_absent}
 use Rattle.rasn_schema.specs.Lawful.{presence_bits}
 use Rattle.rasn_schema.specs.Records.{record_at}
-use Rattle.rasn_schema.specs.Schemas.{Parts, listed, count as part_count}
+use Rattle.rasn_schema.specs.Schemas.{listed, count as part_count}
 use Rattle.rasn_calls.proofs.Optionals.{bits_counted}
 use Rattle.rasn_calls.specs.Additions.{extended}
 use Rattle.per_de.proofs.Additions.{shapes_counted}
