@@ -361,7 +361,8 @@ impl<A: Allocator + Clone> encoder::Encoder for Encoder<A> {
     ) -> Result<Scope<A>, EncodeError> {
         self.writer.check_unfailed()?;
         let bits = C::FIELDS.number_of_optional_and_default_fields();
-        self.writer.open_record(bits, addition_count::<C>())
+        let added = addition_count::<C>();
+        self.writer.open_record(bits, added)
     }
 
     fn close_set<C: Constructed>(&mut self, scope: Scope<A>) -> Result<(), EncodeError> {

@@ -22,8 +22,7 @@ use Rattle.per_scopes.specs.State.{State}
 in_turn_spelled : (a : Settings) (ps : Parts) (marker : Bool) (qs : Parts) (v : Value) (p : ℕ) (bits : Bits) → basic a (Schema.sequence by_tag ps marker qs) v p bits
     → (w : Value) × basic a (extended (canonised ps) marker qs) w p bits
 in_turn_spelled a ps marker qs v p bits b =
-    let q = read_as_listed a true ps marker qs v p bits b in
-    (
+    let q = read_as_listed a true ps marker qs v p bits b in (
       record_value (canonised_slots ps q.root) q.added,
       in_order a true ps marker qs q.root q.added p bits (subst (λ w. basic a (Schema.sequence by_tag ps marker qs) w p bits) q.is b),
     )

@@ -20,8 +20,8 @@ module _ {S E : Type 0} {rules : DecoderRules E S} (K : SetsWell rules) (parts :
       → rules.spells (in_turn n) s (record_value cs xs) t → rules.spells (in_set n) s (record_value rs xs) t
   set_ended {s} {t} n k rs cs xs l e h =
       subst (λ m. rules.spells (in_set m) s (record_value rs xs) t) (sym l)
-          (K.set_read (parts k) marker (additions k) s t rs xs
-              (subst (λ z. rules.spells (in_turn (suc k)) s (record_value z xs) t) e (subst (λ m. rules.spells (in_turn m) s (record_value cs xs) t) l h)))
+      (K.set_read (parts k) marker (additions k) s t rs xs
+      (subst (λ z. rules.spells (in_turn (suc k)) s (record_value z xs) t) e (subst (λ m. rules.spells (in_turn m) s (record_value cs xs) t) l h)))
 
   none_read : (n : ℕ) {e : E} {s : S} → Refuses (rules.spells (in_turn n)) (rules.fault (in_turn n)) e s → Refuses (rules.spells (in_set n)) (rules.fault (in_set n)) e s
   none_read zero r = r

@@ -228,9 +228,9 @@ pub trait Decoder: Sized {
     fn close_sequence(&mut self, scope: Self::Scope) -> Result<(), Self::Error>
         ensures { ClosesRead rules unended closes scope self.old result self.new };
 
-    /// Opens a SET (X.691 21), which takes a level: the calls from here to `close_sequence` read its root components, in
-    /// ascending order of their smallest tags, and then its additions, in the order of `EXTENDED_FIELDS`. At no level
-    /// left it refuses.
+    /// Opens a SET (X.691 21), which takes a level: the calls from here to `close_sequence` read its root components,
+    /// in ascending order of their smallest tags, and then its additions, in the order of `EXTENDED_FIELDS`. At no
+    /// level left it refuses.
     fn open_set<C: Constructed>(&mut self, tag: Tag) -> Result<Self::Scope, Self::Error>
         ensures { OpensToRead rules opens (canonised_at C.parts) C.IS_EXTENSIBLE C.additions
             self.old result self.new };
@@ -359,11 +359,10 @@ pub trait Decoder: Sized {
 
     /// Reads a SET (X.691 21), whose components `scope` reads: those of the root in ascending order of their smallest
     /// tags, and then its additions, in the order of `EXTENDED_FIELDS`.
-    final fn decode_set_in_order<C: Constructed + Drop, F: FnOnce(&mut Self) -> Result<C, Self::Error>>(
-        &mut self,
-        tag: Tag,
-        scope: F,
-    ) -> Result<C, Self::Error>
+    final fn decode_set_in_order<
+        C: Constructed + Drop,
+        F: FnOnce(&mut Self) -> Result<C, Self::Error>,
+    >(&mut self, tag: Tag, scope: F) -> Result<C, Self::Error>
         requires { (x : _) → suc (rules.levels x.now) ≡ rules.levels self.old → F.pre scope x }
         ensures { ReadsSet rules C.parts C.IS_EXTENSIBLE C.additions C.contents C.added
             (FnOnceReturnsAtMut F.FnOnce scope) self.old result self.new }

@@ -137,5 +137,6 @@ pub trait AdditionGroup: Constructed {
     ghost use Rattle.rasn_constraints.specs.declared.constraints.Constraints.{Constraints};
 
     // The schema is the SEQUENCE of the components.
-    ghost is_sequence: { (c : Constraints) → Self.schema c ≡ record_at listed Self.parts Self.IS_EXTENSIBLE Self.additions };
+    ghost is_sequence: { (c : Constraints)
+        → Self.schema c ≡ record_at listed Self.parts Self.IS_EXTENSIBLE Self.additions };
 }

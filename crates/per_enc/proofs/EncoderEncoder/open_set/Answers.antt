@@ -15,6 +15,6 @@ returns g c =
     record {
       law = rw (← c.self.view_is) (opens_record (canonised_at C.parts) C.IS_EXTENSIBLE C.additions _ _ c.self.inside.writer _ c.open_record.result
           (λ n. c.number_of_optional_and_default_fields-bits.ensures ∙ ap (count_by may_be_absent) (c.FIELDS.ensures ∙ C.described n) ∙ bits_counted 0 (C.parts n) ∙ sym (bits_ordered (C.parts n)))
-          (λ n. c.addition_count.ensures ∙ ap (behind_marker C.IS_EXTENSIBLE) (ap length (C.extends.described n) ∙ shapes_counted 0 (C.additions n))) C.extends.marked c.open_record.ensures);
+          (λ n. c.addition_count-added.ensures ∙ ap (behind_marker C.IS_EXTENSIBLE) (ap length (C.extends.described n) ∙ shapes_counted 0 (C.additions n))) C.extends.marked c.open_record.ensures);
       behaves = search rules;
     }
