@@ -1,5 +1,5 @@
 -- What holds of an encoder's SETs.
-use Rattle.std.specs.Prelude.{◌≡◌, Bool, List, Option}
+use Rattle.std.specs.Prelude.{Bool, List, Option}
 use Rattle.std.proofs.Common.{◌∙◌, ap, sym, subst}
 use Rattle.rasn_types.specs.Codecs.{variant_of}
 use Rattle.rasn_types.specs.Values.{Value}
