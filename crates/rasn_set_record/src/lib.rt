@@ -2,6 +2,7 @@
 #![tactic(auto)]
 
 pub mod components;
+pub mod laws;
 mod macros;
 pub mod ordered;
 pub mod record;
