@@ -18,13 +18,15 @@ pub set_written_around : {E X : Type 0} {rules : EncoderRules E X} {returns : X 
     (cs : List Component) (rs : List (Option Value)) (k : ℕ) → length rs ≡ length cs
     → WritesSet rules (parts_of cs) false no_additions returns x r y
     → ((a : X) (q : Result (Unit {0}) E) (b : X) → returns a q b
-        → AtParts (parts_in_order cs) k (λ ps. WrittenParts rules ps (normals ps (slots_in_order cs rs)) a q b))
+    → AtParts (parts_in_order cs) k (λ ps. WrittenParts rules ps (normals ps (slots_in_order cs rs)) a q b))
     → KeepsCodec rules.codec returns → Encodes rules (set_at cs) (suc k) (set_value rs) x r y
 unfolding normal
 set_written_around {rules = rules} cs rs k e w s c = record {
   law = w.law rs (slots_in_order cs rs) [] k (are_in_order cs rs e)
-      (record { keeps = λ a q b z n le.
-          plainly_written rules (parts_in_order cs n) a (normals (parts_in_order cs n) (slots_in_order cs rs)) q b ((s a q b z).at n le) });
+      (record {
+        keeps = λ a q b z n le.
+            plainly_written rules (parts_in_order cs n) a (normals (parts_in_order cs n) (slots_in_order cs rs)) q b ((s a q b z).at n le);
+      });
   behaves = record { again = w.again; fails = w.fails; kept = w.kept c };
 }
 
@@ -38,11 +40,13 @@ pub set_read_around : {E S T : Type 0} {rules : DecoderRules E S} (L : DecodesWe
     {s t : S} {r : Result T E} (cs : List Component)
     → ReadsSet rules (parts_of cs) false no_additions contents (λ x. []) returns s r t
     → ((a : S) (q : Result T E) (b : S) → returns a q b
-        → AnswersParts rules (parts_in_order cs (rules.levels a)) (λ x. slots_in_order cs (contents x)) a q b)
+    → AnswersParts rules (parts_in_order cs (rules.levels a)) (λ x. slots_in_order cs (contents x)) a q b)
     → KeepsCodec rules.codec returns → Reads rules (set_at cs (rules.levels s)) (λ x. set_value (contents x)) s r t
 set_read_around {rules = rules} L {contents} cs w k c = record {
   law = w.law (λ x. slots_in_order cs (contents x)) (λ n v. slots_alike cs (contents v) n)
-      (record { keeps = λ a q b l z.
-          plainly_answered L (parts_in_order cs (rules.levels a)) (λ x. slots_in_order cs (contents x)) a q b (k a q b z) });
+      (record {
+        keeps = λ a q b l z.
+            plainly_answered L (parts_in_order cs (rules.levels a)) (λ x. slots_in_order cs (contents x)) a q b (k a q b z);
+      });
   behaves = record { again = w.again; fails = w.fails; kept = w.kept c };
 }

@@ -38,9 +38,7 @@ impl<T: SetRecord> EncodeKind<T> for SetKind {
                     WrittenParts E.rules ps (normals ps (slots_in_order T.components (T.contents value.entry.now)))
                     e.old result e.new) }
                 ensures kept { E.rules.codec e.new ≡ E.rules.codec e.old }
-            {
-                value.encode_components(e)
-            },
+            { value.encode_components(e) },
             identifier,
         )
     }
@@ -52,11 +50,10 @@ impl<T: SetRecord> DecodeKind<T> for SetKind {
             tag,
             |d: &mut D| -> Result<AsSet<T>, D::Error>
                 ensures law { AnswersParts D.rules (parts_in_order T.components (D.rules.levels d.old))
-                    (λ (x : AsSet T.T). slots_in_order T.components (T.contents x.0)) d.old result d.new }
+                    (λ (x : AsSet T). slots_in_order T.components (T.contents x.0))
+                    d.old result d.new }
                 ensures kept { D.rules.codec d.new ≡ D.rules.codec d.old }
-            {
-                Ok(AsSet(T::decode_components(d)?))
-            },
+            { Ok(AsSet(T::decode_components(d)?)) },
         )?;
         Ok(set.0)
     }
