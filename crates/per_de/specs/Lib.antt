@@ -2,3 +2,4 @@ pub mod Lists
 pub mod Outsides
 pub mod Sources
 pub mod Steps
+pub mod Openings

@@ -21,9 +21,11 @@ ghost use Rattle.per_scopes.specs.Laws.{decodes_well};
 ghost use Rattle.per_scopes.specs.Rules.{decoder_rules};
 ghost use Rattle.per_scopes.specs.BagLaws.{bags_well};
 ghost use Rattle.per_scopes.specs.ScopeLaws.{scopes_well};
+ghost use Rattle.per_scopes.specs.SetLaws.{sets_well};
 ghost use Rattle.per_scopes.specs.Scopes.{Closes, Enters, LevelInside, Opens, no_record, with_outside};
 ghost use Rattle.per_scopes.specs.State.{State, Options, fresh, reader_of, shown};
 ghost use Rattle.per_de.specs.Lists.{AmidList};
+ghost use Rattle.per_de.specs.Openings.{OpensRecord};
 ghost use Rattle.per_de.specs.Outsides.{choosing_of, outside_of, waiting_of};
 ghost use Rattle.per_de.specs.Sources.{bits_of, extension_in, flags_in, span_of, IsWithin};
 ghost use Rattle.per_de.specs.Steps.{AsksNext, EndsContents, EntersOpen, IsRootRead, SkipsUnknown};
@@ -390,6 +392,24 @@ impl<'input> Decoder<'input> {
             return Ok(false);
         }
         self.take_bit()
+    }
+
+    /// Opens a record, which takes a level: its extension bit and its presence bits are taken, and its root components
+    /// follow, in whichever order. At no level left it refuses.
+    fn open_record<C: Constructed>(&mut self) -> Result<Scope, DecodeError>
+        ensures { OpensRecord C.parts C.IS_EXTENSIBLE C.additions self.old result self.new }
+    {
+        self.check_unfailed()?;
+        let levels = self.level_inside()?;
+        let extends = self.take_extension_bit(C::IS_EXTENSIBLE)?;
+        let count = C::FIELDS.number_of_optional_and_default_fields();
+        let presences = self.take_presences(count as u128)?;
+        Ok(self.enter(Scope {
+            levels,
+            presences,
+            extension: Extension::of_bit(extends),
+            expected: addition_count::<C>(),
+        }))
     }
 
     /// Takes a bitmap (X.691 19.7, 19.8), and answers its presence bits. Only one in fragments takes memory.
@@ -865,17 +885,11 @@ impl<'input> decoder::Decoder for Decoder<'input> {
     }
 
     fn open_sequence<C: Constructed>(&mut self, _tag: Tag) -> Result<Scope, DecodeError> {
-        self.check_unfailed()?;
-        let levels = self.level_inside()?;
-        let extends = self.take_extension_bit(C::IS_EXTENSIBLE)?;
-        let count = C::FIELDS.number_of_optional_and_default_fields();
-        let presences = self.take_presences(count as u128)?;
-        Ok(self.enter(Scope {
-            levels,
-            presences,
-            extension: Extension::of_bit(extends),
-            expected: addition_count::<C>(),
-        }))
+        self.open_record::<C>()
+    }
+
+    fn open_set<C: Constructed>(&mut self, _tag: Tag) -> Result<Scope, DecodeError> {
+        self.open_record::<C>()
     }
 
     fn close_sequence(&mut self, scope: Scope) -> Result<(), DecodeError> {
@@ -975,6 +989,8 @@ impl<'input> decoder::Decoder for Decoder<'input> {
     ghost additions = { additions_well waiting_of };
 
     ghost choices = { choices_well choosing_of };
+
+    ghost sets = { sets_well };
 
     ghost bags = { bags_well };
 }

@@ -1,4 +1,5 @@
 pub mod Choices
 pub mod Laws
 pub mod Opens
+pub mod SetLaws
 pub mod Vacant

@@ -9,7 +9,7 @@ use Rattle.rasn_schema.specs.Schemas.{Schema, Parts, no_parts, part, Presence, r
 use Rattle.per_core.specs.Canon.{shown}
 use Rattle.per_write.specs.declared.error.EncodeErrorKind.{EncodeErrorKind}
 use Rattle.per_write.specs.declared.error.EncodeErrorKind.TheVariants.{SizeConstraintNotSatisfied, ValueConstraintNotSatisfied, AlphabetConstraintNotSatisfied, IntegerTypeConversionFailed, VariantNotInChoice, RealNotSupported, TooManyAdditions, Below, AlreadyFailed, OutOfMemory, OutOfTurn}
-use Rattle.per_write.specs.Faults.{HasPart, part_here, part_behind, StandsIn, at_once, in_part, in_addition, in_element, in_member, in_alternative, IsForeign, IsOutOfBounds, IsOutOfSize, IsPastBounds, IsReal, IsUnlawful, Stands}
+use Rattle.per_write.specs.Faults.{HasPart, part_here, part_behind, StandsIn, at_once, in_part, in_addition, in_element, in_member, in_alternative, in_set, IsForeign, IsOutOfBounds, IsOutOfSize, IsPastBounds, IsReal, IsUnlawful, Stands}
 use Rattle.per_write.specs.State.{State}
 
 -- a part that is written isn't idle
@@ -49,6 +49,7 @@ none_stands fault f s v g i (in_addition {ps = ps} {qs = qs} {xs = xs} rs h k) =
     absurd (let t : false ≡ true = sym (and_nothing (are_idle ps rs)) ∙ ap (λ (c : Bool). are_idle ps rs && c) (sym b) ∙ e in cc)
 none_stands fault f s v g i (in_element h k) = absurd cc
 none_stands fault f s v g i (in_member h k) = absurd cc
+none_stands fault f s v g i (in_set rs xs k) = absurd cc
 none_stands fault f s v g i (in_alternative h k) = absurd cc
 
 no_size : (n : ℕ) (l u : Option ℕ) (s : Schema) (v : Value) → is_group_schema s ≡ true → IsOutOfSize n l u s v → ⊥

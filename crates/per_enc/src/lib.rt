@@ -21,7 +21,7 @@ use per_write::{OpenChoice, Outside, Scope, Writer};
 use rasn_calls::encoder;
 use rasn_schema::choices::Choice;
 use rasn_schema::enumerated::Enumerated;
-use rasn_schema::fields::Constructed;
+use rasn_schema::fields::{AdditionGroup, Constructed};
 use rasn_schema::schema::{Constraints, IntegerType};
 use rasn_strings::strings::StaticPermittedAlphabet;
 use rasn_types::bit_string::BitString;
@@ -141,6 +141,7 @@ impl<A: Allocator + Clone> encoder::Encoder for Encoder<A> {
     ghost use Rattle.per_enc.specs.Laws.{presents_well};
     ghost use Rattle.per_enc.specs.Choices.{OpensChoice};
     ghost use Rattle.per_enc.specs.Opens.{Opens};
+    ghost use Rattle.per_enc.specs.SetLaws.{sets_written};
     ghost use Rattle.per_members.specs.Bags.{AmidBag};
     ghost use Rattle.per_write.specs.Additions.{Opens as OpensOpenType};
     ghost use Rattle.per_write.specs.Lists.{AmidList};
@@ -353,6 +354,22 @@ impl<A: Allocator + Clone> encoder::Encoder for Encoder<A> {
         self.writer.close_record(outside)
     }
 
+    fn open_set<C: Constructed>(
+        &mut self,
+        _tag: Tag,
+        _identifier: Identifier,
+    ) -> Result<Scope<A>, EncodeError> {
+        self.writer.check_unfailed()?;
+        let bits = C::FIELDS.number_of_optional_and_default_fields();
+        let added = addition_count::<C>();
+        self.writer.open_record(bits, added)
+    }
+
+    fn close_set<C: Constructed>(&mut self, scope: Scope<A>) -> Result<(), EncodeError> {
+        self.writer.check_unfailed()?;
+        self.writer.close_record(scope)
+    }
+
     fn open_choice<C: Choice>(
         &mut self,
         _tag: Tag,
@@ -397,7 +414,7 @@ impl<A: Allocator + Clone> encoder::Encoder for Encoder<A> {
         self.writer.close_addition(addition)
     }
 
-    fn close_group<C: Constructed>(&mut self, addition: Outside<A>) -> Result<(), EncodeError> {
+    fn close_group<C: AdditionGroup>(&mut self, addition: Outside<A>) -> Result<(), EncodeError> {
         self.writer.check_unfailed()?;
         let fields = C::FIELDS;
         let has_required = fields.number_of_optional_and_default_fields() < fields.len();
@@ -451,6 +468,8 @@ impl<A: Allocator + Clone> encoder::Encoder for Encoder<A> {
     }
 
     ghost lawful = { presents_well };
+
+    ghost sets = { sets_written };
 }
 
 /// How many additions a type has, where it has an extension marker.

@@ -14,8 +14,9 @@ ghost use Rattle.rasn_record.specs.Slots.{slot_levels};
 ghost use Rattle.per_samples_g.specs.Groups.{x_root};
 
 use rasn_below::{
-    AsnType, Constraint, Constraints, Constructed, Decode, Decoder, Encode, Encoder, Fields, Tag,
-    added_bounds, added_fields, decode_extended, encode_extended, root_bounds, root_fields,
+    AdditionGroup, AsnType, Constraint, Constraints, Constructed, Decode, Decoder, Encode, Encoder,
+    Fields, Tag, added_bounds, added_fields, decode_extended, encode_extended, root_bounds,
+    root_fields,
 };
 use rasn_types::types::Identifier;
 
@@ -88,6 +89,10 @@ impl Constructed for Group1 {
     ghost extends = { extended_by [] };
 
     ghost is_record = { λ _. refl };
+}
+
+impl AdditionGroup for Group1 {
+    ghost is_sequence = { λ _. refl };
 }
 
 impl Encode for Group1 {

@@ -14,8 +14,9 @@ ghost use Rattle.rasn_record.specs.Slots.{slot_levels};
 ghost use Rattle.per_samples_g.specs.Groups.{x_root, y_additions};
 
 use rasn_below::{
-    AsnType, Constraint, Constraints, Constructed, Decode, Decoder, Encode, Encoder, Fields, Tag,
-    added_bounds, added_fields, decode_extended, encode_extended, root_bounds, root_fields,
+    AdditionGroup, AsnType, Constraint, Constraints, Constructed, Decode, Decoder, Encode, Encoder,
+    Fields, Tag, added_bounds, added_fields, decode_extended, encode_extended, root_bounds,
+    root_fields,
 };
 use rasn_types::types::Identifier;
 
@@ -91,6 +92,10 @@ impl Constructed for Group2 {
     ghost extends = { extended_by y_additions };
 
     ghost is_record = { λ _. refl };
+}
+
+impl AdditionGroup for Group2 {
+    ghost is_sequence = { λ _. refl };
 }
 
 impl Encode for Group2 {

@@ -1,7 +1,7 @@
 -- The law of a decoder's bags: a SET OF is read as the SEQUENCE OF its elements is (X.691 22).
 use Rattle.std.proofs.Common.{◌≡◌, refl, sym, ap, ◌∙◌, Bool, List}
 use Rattle.rasn_types.specs.Bits.{Bits}
-use Rattle.rasn_types.specs.Values.{Value, as_values, bag_of, elements, values}
+use Rattle.rasn_types.specs.Values.{Value, as_values, bag_of, values}
 use Rattle.rasn_types.proofs.Values.{values-as_values}
 use Rattle.rasn_constraints.specs.Bounds.{Size}
 use Rattle.rasn_schema.specs.Lists.{list_value}

@@ -1,5 +1,5 @@
 -- The laws of the decoder's choices: a choice is its index, and the alternative at that place, which stands behind an extension marker in an open type (X.691 23).
-use Rattle.std.proofs.Common.{◌≡◌, ◌∙◌, ◌⊎◌, ◌<◌, ◌≤◌, inl, inr, refl, sym, ap, subst, arith, ℕ, zero, suc, Bool, true, false, List, [], length, length-append, Option, Some, None}
+use Rattle.std.proofs.Common.{◌≡◌, ◌∙◌, ◌<◌, ◌≤◌, inl, inr, refl, sym, ap, subst, arith, ℕ, zero, suc, Bool, false, List, length, length-append, Option, Some, None}
 use Rattle.rasn_types.specs.Bits.{Bits, unpack}
 use Rattle.rasn_types.specs.Values.{Value, alternative, item, Side, root, added}
 use Rattle.rasn_schema.specs.Choices.{alternative_at, alternative_in, choice_of, tags_of}
@@ -20,10 +20,10 @@ use Rattle.per_additions.proofs.Opened.{no_open, open_took, took_open}
 use Rattle.per_scopes.specs.AdditionLaws.{new_why}
 use Rattle.per_scopes.specs.Additions.{OpensContents, Waiting, outside_open}
 use Rattle.per_scopes.specs.Choices.{Choosing, ClosesChoice, EndsFrom, OpensChoice, StandsFrom, UnendedChoice}
-use Rattle.per_scopes.specs.Faults.{Fault, IsInBits, IsInOpen, UnendedAddition, at_their_end, in_added_alternative, in_alternative, in_contents, refusal}
+use Rattle.per_scopes.specs.Faults.{Fault, IsInBits, IsInOpen, UnendedAddition, at_their_end, in_added_alternative, in_alternative, in_contents}
 use Rattle.per_scopes.specs.Records.{IsNew, in_bits, is_new, of_bits}
 use Rattle.per_scopes.specs.Rules.{decoder_rules}
-use Rattle.per_scopes.specs.Scopes.{Enters, Outside, no_record, with_outside}
+use Rattle.per_scopes.specs.Scopes.{with_outside}
 use Rattle.per_scopes.specs.State.{State, Spells, settings_of, with_bits}
 
 length-rules : (a : Settings) (ps : Parts) → length (rules a ps) ≡ length (tags_of ps)

@@ -4,10 +4,11 @@ use Rattle.rasn_types.specs.Bits.{Bits, unpack}
 use Rattle.rasn_types.specs.declared.types.Tag.{Tag}
 use Rattle.rasn_constraints.specs.Bounds.{Size}
 use Rattle.rasn_types.specs.Values.{Value, root, added}
+use Rattle.rasn_schema.specs.Canonised.{canonised}
 use Rattle.rasn_schema.specs.Choices.{alternative_at, choice_of, tags_of}
 use Rattle.rasn_schema.specs.Fields.{field_tag, tag_of}
 use Rattle.rasn_schema.specs.Schemas
-use Rattle.rasn_schema.specs.Schemas.{TagTree, Presence, required, Schema, Parts, no_parts, part}
+use Rattle.rasn_schema.specs.Schemas.{TagTree, Presence, by_tag, required, Schema, Parts, no_parts, part}
 use Rattle.rasn_calls.specs.Additions.{extended}
 use Rattle.per_core.specs.Counts.{list_items}
 use Rattle.per_core.specs.Spellings.{Settings}
@@ -69,7 +70,8 @@ pub record IsOfLacking (t : Schemas.Tag) (k : DecodeErrorKind) : Type 0 where
 mutual
   -- The fault that a kind names stands in bits, as a schema reads them: at once, in a root component of a record, in its
   -- bitmap or behind that, in the alternative of a choice, behind an extension marker in its open type, or in an element of a
-  -- list or a bag, behind others.
+  -- list or a bag, behind others. In a SET it stands where it does in the SEQUENCE of its components in ascending order of
+  -- their tags (X.691 21.1).
   pub data IsInBits (a : Settings) (k : DecodeErrorKind) : Schema → Bits → Type 0 where
     at_once : {c : Schema} {s : Bits} → IsAt a c s k → IsInBits a k c s
     in_root : {ps qs : Parts} {marker : Bool} {s m n : Bits} (extends : Bool) (flags : List Bool)
@@ -78,6 +80,8 @@ mutual
     behind_root : {ps qs : Parts} {marker : Bool} {s m n : Bits} (extends : Bool) (rs : List (Option Value))
         → Took (ExtensionBit marker extends) s m → Took (Root (rules a ps) rs) m n → IsInTail a k qs (extension_of extends) n
         → IsInBits a k (extended ps marker qs) s
+    in_set : {ps qs : Parts} {marker : Bool} {s : Bits} → IsInBits a k (extended (canonised ps) marker qs) s
+        → IsInBits a k (Schema.sequence by_tag ps marker qs) s
     in_alternative : {ps qs : Parts} {marker : Bool} {n : ℕ} {c : Schema} {s m : Bits}
         → Took (index_form a (length (tags_of ps)) (length (tags_of qs)) marker (root, n)) s m
         → alternative_at ps n ≡ Some c → IsInBits a k c m → IsInBits a k (choice_of ps marker qs) s

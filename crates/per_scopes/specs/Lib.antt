@@ -7,6 +7,7 @@ pub mod Records
 pub mod Rules
 pub mod ScopeLaws
 pub mod Scopes
+pub mod SetLaws
 pub mod State
 pub mod Tails
 pub mod ChoiceLaws

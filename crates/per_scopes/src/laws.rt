@@ -1,13 +1,19 @@
 //! The laws by which a decoder reads records and their additions (X.691 11.2, 19): each is the contract of a function
 //! that does nothing.
 
-ghost use Rattle.std.specs.Prelude.{◌≡◌, ◌↔◌, ℕ, suc, Bool, Some};
+ghost use Rattle.std.specs.Prelude.{◌≡◌, ◌↔◌, ℕ, suc, Bool, List, Option, Some};
+ghost use Rattle.rasn_types.specs.Bits.{Bits};
 ghost use Rattle.rasn_types.specs.Values.{Side, Value, alternative};
+ghost use Rattle.rasn_schema.specs.Canonised.{canonised, canonised_slots};
 ghost use Rattle.rasn_schema.specs.Choices.{alternative_in};
-ghost use Rattle.rasn_schema.specs.Schemas.{Parts, Schema};
+ghost use Rattle.rasn_schema.specs.Records.{record_value};
+ghost use Rattle.rasn_schema.specs.Schemas.{Parts, Schema, by_tag};
 ghost use Rattle.rasn_calls.specs.Additions.{extended};
+ghost use Rattle.per_core.specs.Spellings.{Settings};
+ghost use Rattle.per_read.specs.declared.error.DecodeErrorKind.{DecodeErrorKind};
 ghost use Rattle.per_scopes.specs.Additions.{AddsValue, InOpen, OpensAddition, Waiting};
 ghost use Rattle.per_scopes.specs.Choices.{Choosing, OpensChoice, Stands};
+ghost use Rattle.per_scopes.specs.Faults.{IsInBits};
 ghost use Rattle.per_scopes.specs.Scopes.{InScope, Opens, Outside};
 ghost use Rattle.per_scopes.specs.State.{Spells, State};
 
@@ -44,4 +50,19 @@ pub fn addition_can_be_opened()
 pub fn choice_is_what_stands_behind_its_index()
     ensures { (c a : Schema) (d : Side) (k : ℕ) (s i t : State) (w : Choosing) (v : Value) → OpensChoice c d k s w i
         → alternative_in c d k ≡ Some a → Spells c s v t ↔ Stands a d k i w v t }
+{}
+
+/// A SET is read exactly where the SEQUENCE of its root components in ascending order of their smallest tags is, and
+/// what these are in that order is what they are there (X.691 21.1).
+pub fn set_is_read_as_its_components_in_order()
+    ensures { (ps qs : Parts) (marker : Bool) (s t : State) (rs xs : List (Option Value))
+        → Spells (Schema.sequence by_tag ps marker qs) s (record_value rs xs) t
+        ↔ Spells (extended (canonised ps) marker qs) s (record_value (canonised_slots ps rs) xs) t }
+{}
+
+/// A fault stands in a SET exactly where it stands in the SEQUENCE of its root components in ascending order of their
+/// smallest tags (X.691 21.1).
+pub fn fault_of_a_set_is_that_of_its_components_in_order()
+    ensures { (a : Settings) (k : DecodeErrorKind) (ps qs : Parts) (marker : Bool) (s : Bits)
+        → IsInBits a k (Schema.sequence by_tag ps marker qs) s ↔ IsInBits a k (extended (canonised ps) marker qs) s }
 {}

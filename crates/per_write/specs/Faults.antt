@@ -5,10 +5,11 @@ use Rattle.rasn_types.specs.Codecs.{variant_of}
 use Rattle.rasn_types.specs.Contents.{is_identifier, is_time}
 use Rattle.rasn_types.specs.Values.{Value, whole, octets, bits, characters, elements, bag, bag_of, values, alternative, Side}
 use Rattle.rasn_constraints.specs.Bounds.{allows, holds, fits_i128, Bounds, Size}
+use Rattle.rasn_schema.specs.Canonised.{canonised, canonised_slots}
 use Rattle.rasn_schema.specs.Choices.{alternative_in, choice_of}
 use Rattle.rasn_schema.specs.Lists.{list_value}
 use Rattle.rasn_schema.specs.Records.{record_value}
-use Rattle.rasn_schema.specs.Schemas.{Schema, Parts, part, Presence, TagTree}
+use Rattle.rasn_schema.specs.Schemas.{by_tag, Schema, Parts, part, Presence, TagTree}
 use Rattle.rasn_calls.specs.Additions.{extended}
 use Rattle.per_core.specs.Canon.{canon, shown}
 use Rattle.per_write.specs.State.{State}
@@ -111,6 +112,9 @@ pub data StandsIn (fault : Schema → Value → Type 0) : Schema → Value → T
   at_once : {s : Schema} {v : Value} → fault s v → StandsIn fault s v
   in_part : {s : Schema} {v : Value} {ps qs : Parts} {marker : Bool} {rs : List (Option Value)} (xs : List (Option Value)) → HasPart s v ps rs → StandsIn fault s v → StandsIn fault (extended ps marker qs) (record_value rs xs)
   in_addition : {s : Schema} {v : Value} {ps qs : Parts} {marker : Bool} {xs : List (Option Value)} (rs : List (Option Value)) → HasPart s v qs xs → StandsIn fault s v → StandsIn fault (extended ps marker qs) (record_value rs xs)
+  -- X.691 21.1: in the SEQUENCE of a SET's components in ascending order of their smallest tags
+  in_set : {ps qs : Parts} {marker : Bool} (rs xs : List (Option Value))
+      → StandsIn fault (extended (canonised ps) marker qs) (record_value (canonised_slots ps rs) xs) → StandsIn fault (Schema.sequence by_tag ps marker qs) (record_value rs xs)
   in_element : {e : Schema} {size : Size} {mark : Bool} {v : Value} {vs : List Value} → HasElement v vs → StandsIn fault e v → StandsIn fault (Schema.list e size mark) (list_value vs)
   in_member : {e : Schema} {size : Size} {mark : Bool} {v : Value} {vs : List Value} → HasElement v vs → StandsIn fault e v → StandsIn fault (Schema.set_of e size mark) (bag_of vs)
   in_alternative : {s : Schema} {v : Value} {ps qs : Parts} {marker : Bool} {d : Side} {k : ℕ} → alternative_in (choice_of ps marker qs) d k ≡ Some s → StandsIn fault s v → StandsIn fault (choice_of ps marker qs) (alternative d k v)

@@ -9,7 +9,7 @@ ghost use Rattle.rasn_calls.specs.Presences.{slot_of};
 use rasn_calls::decoder::Decoder;
 use rasn_calls::encoder::Encoder;
 use rasn_codec::codec::{Decode, Encode};
-use rasn_schema::fields::Constructed;
+use rasn_schema::fields::AdditionGroup;
 use rasn_schema::schema::Constraints;
 use rasn_types::types::{Identifier, Tag};
 
@@ -38,7 +38,7 @@ pub trait ExtensionEncoder: Encoder {
 
     /// Gives the next addition, which is a group of additions (X.691 19.9): a SEQUENCE in an open type; or nothing,
     /// where it is `None`, or holds nothing.
-    final fn encode_extension_addition_group<T: Encode + Constructed>(
+    final fn encode_extension_addition_group<T: Encode + AdditionGroup>(
         &mut self,
         value: Option<&T>,
     ) -> Result<(), Self::Error>
@@ -111,7 +111,7 @@ pub trait ExtensionDecoder: Decoder {
 
     /// Reads the next addition, which is a group of additions (X.691 19.9): the SEQUENCE in its open type; or answers
     /// `None`, where it isn't there.
-    final fn decode_extension_addition_group<T: Decode + Constructed>(
+    final fn decode_extension_addition_group<T: Decode + AdditionGroup>(
         &mut self,
     ) -> Result<Option<T>, Self::Error>
         ensures { TakesAddition Self.rules (T.schema T.CONSTRAINTS (Self.rules.levels self.old)) (slot_of T.value)

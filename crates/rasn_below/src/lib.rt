@@ -23,7 +23,7 @@ pub use rasn_schema::choices::{Variant, Variants};
 pub use rasn_schema::components::Components;
 pub use rasn_schema::constrained::{Constrained, Limits};
 pub use rasn_schema::constraints::{Bounded, Constraint, Extensible};
-pub use rasn_schema::fields::{Constructed, Field, Fields, Presence, TagTree};
+pub use rasn_schema::fields::{AdditionGroup, Constructed, Field, Fields, Presence, TagTree};
 pub use rasn_schema::items::{EnumeratedKind, ItemCounts, Items, Place};
 pub use rasn_schema::kinds::OfKind;
 pub use rasn_schema::schema::{AsnType, Constraints};

@@ -6,7 +6,7 @@ pub use rasn_constraints::integer_type::IntegerType;
 pub use rasn_schema::choices::{Choice, Variant, Variants};
 pub use rasn_schema::constrained::{Constrained, Limits};
 pub use rasn_schema::enumerated::Enumerated;
-pub use rasn_schema::fields::{Constructed, Field, Fields, Presence, TagTree};
+pub use rasn_schema::fields::{AdditionGroup, Constructed, Field, Fields, Presence, TagTree};
 pub use rasn_schema::schema::AsnType;
 pub use rasn_strings::alphabet::CharacterAlphabet;
 pub use rasn_strings::strings::StaticPermittedAlphabet;

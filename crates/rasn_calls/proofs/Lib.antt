@@ -1,4 +1,6 @@
 pub mod Alternatives
 pub mod Optionals
 pub mod Reading
+pub mod SetsRead
+pub mod SetsWritten
 pub mod Writing

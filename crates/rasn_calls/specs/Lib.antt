@@ -8,6 +8,7 @@ pub mod Choices
 pub mod Lists
 pub mod Moments
 pub mod Scopes
+pub mod Sets
 pub mod Optionals
 pub mod Presences
 pub mod Reals

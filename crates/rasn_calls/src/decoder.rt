@@ -7,6 +7,7 @@ ghost use Rattle.std.specs.String.{string_bytes};
 ghost use Rattle.rasn_types.specs.Alphabets.{visible, ia5, printable, numeric, bmp};
 ghost use Rattle.rasn_types.specs.Contents.{utf8, other, utc, generalized};
 ghost use Rattle.rasn_types.specs.Values.{Side, truth, nothing, whole, octets, bits, characters};
+ghost use Rattle.rasn_schema.specs.Canonised.{canonised_at};
 ghost use Rattle.rasn_schema.specs.Schemas.{Schema, listed};
 ghost use Rattle.rasn_schema.specs.Forms.{number_schema, octet_schema, bit_schema, character_schema};
 ghost use Rattle.rasn_schema.specs.Forms.{size_of, is_size_marked};
@@ -22,6 +23,7 @@ ghost use Rattle.rasn_calls.specs.Reals.{ReadsNoReal};
 ghost use Rattle.rasn_calls.specs.Lists.{AmidRead, OpensListToRead, ReadsNext};
 ghost use Rattle.rasn_calls.specs.Moments.{generalized_value, identifier_value, utc_value};
 ghost use Rattle.rasn_calls.specs.Scopes.{OpensToRead, ClosesRead, ReadsAround, ScopesWell};
+ghost use Rattle.rasn_calls.specs.Sets.{ReadsSet, SetsWell};
 
 use crate::parts::{DecodeAdditions, DecodeParts};
 use jiff::civil::DateTime;
@@ -226,6 +228,13 @@ pub trait Decoder: Sized {
     fn close_sequence(&mut self, scope: Self::Scope) -> Result<(), Self::Error>
         ensures { ClosesRead rules unended closes scope self.old result self.new };
 
+    /// Opens a SET (X.691 21), which takes a level: the calls from here to `close_sequence` read its root components,
+    /// in ascending order of their smallest tags, and then its additions, in the order of `EXTENDED_FIELDS`. At no
+    /// level left it refuses.
+    fn open_set<C: Constructed>(&mut self, tag: Tag) -> Result<Self::Scope, Self::Error>
+        ensures { OpensToRead rules opens (canonised_at C.parts) C.IS_EXTENSIBLE C.additions
+            self.old result self.new };
+
     /// Reads the index of a CHOICE (X.691 23), which takes a level, and opens the open type of an alternative behind
     /// the extension marker (X.691 23.8): the calls from here to `close_choice` read the value of the alternative, which
     /// goes by the tag. At no level left it refuses.
@@ -348,6 +357,29 @@ pub trait Decoder: Sized {
         }
     }
 
+    /// Reads a SET (X.691 21), whose components `scope` reads: those of the root in ascending order of their smallest
+    /// tags, and then its additions, in the order of `EXTENDED_FIELDS`.
+    final fn decode_set_in_order<
+        C: Constructed + Drop,
+        F: FnOnce(&mut Self) -> Result<C, Self::Error>,
+    >(&mut self, tag: Tag, scope: F) -> Result<C, Self::Error>
+        requires { (x : _) → suc (rules.levels x.now) ≡ rules.levels self.old → F.pre scope x }
+        ensures { ReadsSet rules C.parts C.IS_EXTENSIBLE C.additions C.contents C.added
+            (FnOnceReturnsAtMut F.FnOnce scope) self.old result self.new }
+    {
+        let outside = self.open_set::<C>(tag)?;
+        match scope(self) {
+            Ok(value) => {
+                self.close_sequence(outside)?;
+                Ok(value)
+            }
+            Err(error) => {
+                self.fail();
+                Err(error)
+            }
+        }
+    }
+
     /// Reads a SEQUENCE (X.691 19) by the lists of its root components, which stand in the order of `FIELDS`, and of
     /// its additions, which stand in the order of `EXTENDED_FIELDS`, and answers what they are.
     final fn decode_record<C: Constructed, P: DecodeParts, Q: DecodeAdditions>(
@@ -379,6 +411,9 @@ pub trait Decoder: Sized {
 
     // What holds of each decoder's choices.
     ghost choices: { ChoicesWell rules unended_choice opens_choice closes_choice };
+
+    // What holds of each decoder's SETs.
+    ghost sets: { SetsWell rules };
 
     // What holds of each decoder's bags.
     ghost bags: { BagsWell rules };

@@ -5,6 +5,7 @@ ghost use Rattle.std.specs.Fn.{FnOnceReturnsAtMut};
 ghost use Rattle.rasn_types.specs.Alphabets.{visible, ia5, printable, numeric, bmp};
 ghost use Rattle.rasn_types.specs.Contents.{utf8, other, utc, generalized};
 ghost use Rattle.rasn_types.specs.Values.{truth, nothing, whole, octets, bits, characters};
+ghost use Rattle.rasn_schema.specs.Canonised.{canonised_at};
 ghost use Rattle.rasn_schema.specs.Schemas.{Schema, listed};
 ghost use Rattle.rasn_schema.specs.Forms.{number_schema, octet_schema, bit_schema, character_schema};
 ghost use Rattle.rasn_schema.specs.Forms.{size_of, is_size_marked};
@@ -20,12 +21,13 @@ ghost use Rattle.rasn_calls.specs.Lists.{Amid, OpensList, WritesNext, ClosesList
 ghost use Rattle.rasn_calls.specs.Moments.{generalized_value, identifier_value, utc_value};
 ghost use Rattle.rasn_calls.specs.Reals.{WritesNoReal};
 ghost use Rattle.rasn_calls.specs.Scopes.{OpensToWrite, ClosesWritten, WritesAround, deeper_of};
+ghost use Rattle.rasn_calls.specs.Sets.{SetsWritten, WritesSet};
 
 use crate::parts::{EncodeAdditions, EncodeParts};
 use jiff::civil::DateTime;
 use rasn_schema::choices::Choice;
 use rasn_schema::enumerated::Enumerated;
-use rasn_schema::fields::Constructed;
+use rasn_schema::fields::{AdditionGroup, Constructed};
 use rasn_schema::schema::{Constraints, IntegerType};
 use rasn_strings::strings::{
     BmpString, Ia5String, NumericString, PrintableString, StaticPermittedAlphabet, VisibleString,
@@ -244,6 +246,21 @@ pub trait Encoder: Sized {
     fn close_sequence<C: Constructed>(&mut self, scope: Self::Scope) -> Result<(), Self::Error>
         ensures { ClosesWritten rules opens C.parts C.IS_EXTENSIBLE C.additions scope self.old result self.new };
 
+    /// Opens a SET (X.691 21): the calls from here to `close_set` write its root components, in ascending order of
+    /// their smallest tags, and then give its additions, in the order of `EXTENDED_FIELDS`.
+    fn open_set<C: Constructed>(
+        &mut self,
+        tag: Tag,
+        identifier: Identifier,
+    ) -> Result<Self::Scope, Self::Error>
+        ensures { OpensToWrite rules opens (canonised_at C.parts) C.IS_EXTENSIBLE C.additions
+            self.old result self.new };
+
+    /// Closes a SET in which its components were written and its additions given.
+    fn close_set<C: Constructed>(&mut self, scope: Self::Scope) -> Result<(), Self::Error>
+        ensures { ClosesWritten rules opens (canonised_at C.parts) C.IS_EXTENSIBLE C.additions scope
+            self.old result self.new };
+
     /// Opens a CHOICE (X.691 23): the calls from here to `close_choice` write the value of its alternative.
     fn open_choice<C: Choice>(
         &mut self,
@@ -283,7 +300,7 @@ pub trait Encoder: Sized {
 
     /// Closes an open type in which an addition group was written: one that holds nothing is given as absent
     /// (X.691 19.9).
-    fn close_group<C: Constructed>(&mut self, addition: Self::Addition) -> Result<(), Self::Error>
+    fn close_group<C: AdditionGroup>(&mut self, addition: Self::Addition) -> Result<(), Self::Error>
         ensures { ClosesGroup rules opens_addition (C.schema C.CONSTRAINTS) addition self.old result self.new };
 
     /// Opens a SEQUENCE OF under constraints (X.691 20): so many elements follow, each behind a call of `next_element`,
@@ -418,6 +435,25 @@ pub trait Encoder: Sized {
         self.close_sequence::<C>(outside)
     }
 
+    /// Writes a SET (X.691 21). `scope` writes its root components, in ascending order of their smallest tags, and then
+    /// gives its additions, in the order of `EXTENDED_FIELDS`.
+    final fn encode_set<
+        C: Constructed,
+        F: FnOnce(&mut Self) -> Result<(), Self::Error>,
+        I: Into<Identifier>,
+    >(&mut self, tag: Tag, scope: F, identifier: I) -> Result<(), Self::Error>
+        requires { F.IsAlwaysCallable scope }
+        ensures { WritesSet rules C.parts C.IS_EXTENSIBLE C.additions (FnOnceReturnsAtMut F.FnOnce scope)
+            self.old result self.new }
+    {
+        let outside = self.open_set::<C>(tag, identifier.into())?;
+        if let Err(refusal) = scope(self) {
+            self.fail();
+            return Err(refusal);
+        }
+        self.close_set::<C>(outside)
+    }
+
     /// Writes a CHOICE (X.691 23). `scope` writes the value of an alternative, and answers the tag that this goes by:
     /// its own, or the smallest of a nested untagged choice.
     final fn encode_choice<
@@ -468,4 +504,7 @@ pub trait Encoder: Sized {
 
     // What holds of each encoder's relations.
     ghost lawful: { PresentsWell rules };
+
+    // What holds of each encoder's SETs.
+    ghost sets: { SetsWritten rules };
 }

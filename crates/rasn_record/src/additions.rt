@@ -11,7 +11,7 @@ ghost use Rattle.rasn_record.specs.Slots.{slot_levels};
 use crate::components::{Default, Defaulted, Optional, Required};
 use rasn_additions::{ExtensionDecoder, ExtensionEncoder};
 use rasn_codec::codec::{Decode, Decoder, DecoderExt, Encode, Encoder};
-use rasn_schema::fields::Constructed;
+use rasn_schema::fields::AdditionGroup;
 use rasn_schema::schema::{AsnType, Constraints};
 use rasn_types::types::Tag;
 use std::marker::PhantomData;
@@ -134,7 +134,7 @@ impl<'a, H: Encode + Defaulted> EncodeAddition for Default<&'a H, H> {
     }
 }
 
-impl<'a, H: Encode + Constructed> EncodeAddition for Group<&'a Option<H>> {
+impl<'a, H: Encode + AdditionGroup> EncodeAddition for Group<&'a Option<H>> {
     type Of = H;
 
     ghost presence = { λ c. group };
@@ -230,7 +230,7 @@ impl<H: Decode + Defaulted> DecodeAddition for Default<PhantomData<H>, H> {
     }
 }
 
-impl<H: Decode + Constructed> DecodeAddition for Group<PhantomData<Option<H>>> {
+impl<H: Decode + AdditionGroup> DecodeAddition for Group<PhantomData<Option<H>>> {
     type Of = H;
 
     type Value = Option<H>;

@@ -1,2 +1,3 @@
+pub mod Canonised
 pub mod Places
 pub mod Both

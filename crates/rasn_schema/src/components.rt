@@ -10,7 +10,7 @@ ghost use Rattle.rasn_schema.specs.Records.{no_additions};
 ghost use Rattle.rasn_schema.specs.Tags.{sequence_tag};
 ghost use Rattle.rasn_schema.specs.Components.{Component, parts_of, sequence_at, sequence_value, sequence_levelled, fields_of, fields_described};
 
-use crate::fields::{Constructed, Fields};
+use crate::fields::{AdditionGroup, Constructed, Fields};
 use crate::kinds::{Kind, OfKind};
 use rasn_types::types::Tag;
 
@@ -79,4 +79,8 @@ impl<T: Components> Constructed for T {
     ghost extends = { unextended };
 
     ghost is_record = { λ _. refl };
+}
+
+impl<T: Components> AdditionGroup for T {
+    ghost is_sequence = { λ _. refl };
 }

@@ -107,6 +107,9 @@ pub trait Constructed: AsnType {
 
     ghost IS_EXTENSIBLE: { Bool };
 
+    // The order in which the root components are written: as listed in a SEQUENCE, by their tags in a SET.
+    ghost order: { Order } = { listed };
+
     // The root components, to a number of levels.
     ghost parts: { ℕ → Parts };
 
@@ -126,5 +129,14 @@ pub trait Constructed: AsnType {
     ghost extends: { Extends IS_EXTENSIBLE EXTENDED_FIELDS additions };
 
     // The schema is the record of the components.
-    ghost is_record: { (c : Constraints) → Self.schema c ≡ record_at listed parts IS_EXTENSIBLE additions };
+    ghost is_record: { (c : Constraints) → Self.schema c ≡ record_at order parts IS_EXTENSIBLE additions };
+}
+
+/// A SEQUENCE that may be an addition group of another one (X.680 25.1).
+pub trait AdditionGroup: Constructed {
+    ghost use Rattle.rasn_constraints.specs.declared.constraints.Constraints.{Constraints};
+
+    // The schema is the SEQUENCE of the components.
+    ghost is_sequence: { (c : Constraints)
+        → Self.schema c ≡ record_at listed Self.parts Self.IS_EXTENSIBLE Self.additions };
 }

@@ -18,7 +18,7 @@ returns-in_err-encode g c =
     record {
       law = rw (c.in-Some.is, p.1, p.2) (record {
         at = λ n le. group_refused g.Self.Encoder.rules g.met.Self.Encoder.lawful _ _ c.args.self.now c.open_addition.new.self c.encode.new.encoder c.encode.new.encoder _
-            (record_is_group g.T.Constructed.parts g.T.Constructed.IS_EXTENSIBLE g.T.Constructed.additions (g.met.T.Constructed.is_record g.T.AsnType.CONSTRAINTS) n) o.1 (c.in_err-encode.ensures.law.at n le);
+            (record_is_group g.T.Constructed.parts g.T.Constructed.IS_EXTENSIBLE g.T.Constructed.additions (g.met.T.AdditionGroup.is_sequence g.T.AsnType.CONSTRAINTS) n) o.1 (c.in_err-encode.ensures.law.at n le);
       });
       behaves = search rules;
     }

@@ -5,7 +5,7 @@ use Rattle.rasn_record.proofs.additions.GroupPhantomDataOptionDecodeAddition.dec
 
 pub returns : goal.returns
 returns g c =
-    let e = g.met.H.Constructed.is_record g.H.AsnType.CONSTRAINTS ∙ sym (g.met.H.Constructed.is_record c.args._constraints.now) in
+    let e = g.met.H.AdditionGroup.is_sequence g.H.AsnType.CONSTRAINTS ∙ sym (g.met.H.AdditionGroup.is_sequence c.args._constraints.now) in
     record {
       law = addition_taken g.D.Decoder.rules g.H.AsnType.value group _ _ _ _ _ refl (rw e at c.decode_extension_addition_group.ensures.law);
       behaves = c.decode_extension_addition_group.ensures.behaves;

@@ -1,0 +1,6 @@
+use Rattle.rasn_schema.specs.Canonised.{canonised_at}
+use Rattle.per_sets.proofs.Orders.{bits_ordered}
+use Rattle.per_de.proofs.DecoderDecoder.open_set.Goals as goal
+
+pub returns : goal.returns
+returns g c = c.open_record.ensures.to_read (canonised_at g.C.Constructed.parts) (λ n. bits_ordered (g.C.Constructed.parts n))
