@@ -10,7 +10,7 @@ use Rattle.per_core.specs.Basic.{basic_in, rules_in}
 use Rattle.per_core.specs.Canon.{canon, members}
 use Rattle.per_core.specs.Spellings.{Settings}
 use Rattle.per_core.proofs.Readings.{length-by_tags}
-use Rattle.per_sets.specs.Canonised.{put_part, canonised, canonised_slots}
+use Rattle.rasn_schema.specs.Canonised.{put_part, canonised, canonised_slots}
 use Rattle.per_sets.specs.Listed.{put_second, brought_forward, behind_first, as_listed}
 
 -- how a part is written, where it is put

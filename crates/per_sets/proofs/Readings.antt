@@ -12,7 +12,7 @@ use Rattle.per_core.specs.Basic.{Bodies, Fields_in, Root, Rule, basic_in, rules_
 use Rattle.per_core.specs.Canon.{canon, members, record_of}
 use Rattle.per_core.specs.Spellings.{Settings}
 use Rattle.per_core.proofs.Readings.{length-by_tags, length-rules-in}
-use Rattle.per_sets.specs.Canonised.{canonised, canonised_slots}
+use Rattle.rasn_schema.specs.Canonised.{canonised, canonised_slots}
 use Rattle.per_sets.specs.Listed.{listed_slots, AsListed, InOrder}
 use Rattle.per_sets.proofs.Orders.{members_ordered, rules_ordered, count_ordered, listed_again, ordered_again, normals_ordered}
 

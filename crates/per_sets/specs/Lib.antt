@@ -1,2 +1,1 @@
-pub mod Canonised
 pub mod Listed

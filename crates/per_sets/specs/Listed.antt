@@ -4,7 +4,7 @@ use Rattle.rasn_types.specs.Values.{Value}
 use Rattle.rasn_schema.specs.Orders.{how_many_less}
 use Rattle.rasn_schema.specs.Records.{record_value}
 use Rattle.rasn_schema.specs.Schemas.{Tag, Parts, tags, count}
-use Rattle.per_sets.specs.Canonised.{canonised_slots}
+use Rattle.rasn_schema.specs.Canonised.{canonised_slots}
 
 -- y behind the first of a list, or alone
 abbrev pub put_second {ℓ} : {A : Type ℓ} → A → List A → List A

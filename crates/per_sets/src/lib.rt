@@ -15,7 +15,7 @@ ghost use Rattle.rasn_schema.specs.Schemas.{Schema, Parts, count, tags, by_tag, 
 ghost use Rattle.per_core.specs.Basic.{basic_in};
 ghost use Rattle.per_core.specs.Canon.{canon, members};
 ghost use Rattle.per_core.specs.Spellings.{Settings};
-ghost use Rattle.per_sets.specs.Canonised.{canonised, canonised_slots};
+ghost use Rattle.rasn_schema.specs.Canonised.{canonised, canonised_slots};
 ghost use Rattle.per_sets.specs.Listed.{listed_slots, AsListed, InOrder};
 
 /// Of parts in order, how they are written, their tags, how many they are and how many presence bits they have are

@@ -1,2 +1,4 @@
 pub mod Places
 pub mod Both
+pub mod Sorting
+pub mod TagOrder
