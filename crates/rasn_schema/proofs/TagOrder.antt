@@ -1,5 +1,5 @@
 -- What is put in order of tags is sorted by its tags, and what ties stays as it was.
-use Rattle.std.proofs.Common.{Bor, Ordering, Less, Equal, Greater, nat_lt, ◌≡◌, refl, sym, ap, ◌∙◌, ℕ, suc, Bool, true, false, cond, List, [], ◌∷◌, map, ◌+◌, arith}
+use Rattle.std.proofs.Common.{Bor, Less, Equal, Greater, nat_lt, ◌≡◌, refl, sym, ap, ◌∙◌, ℕ, suc, Bool, true, false, cond, List, [], ◌∷◌, map, ◌+◌, arith}
 use Rattle.std.proofs.lemmas.Bool.Decides.{nat_tests}
 use Rattle.std.specs.Cmp.{IsStrictWeakOrder}
 use Rattle.std.proofs.lemmas.Fn.{always_returns_same}
