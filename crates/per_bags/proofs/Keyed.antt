@@ -12,7 +12,7 @@ use Rattle.per_pieces.specs.Pieces.{Piece, settle, settled}
 use Rattle.per_bags.specs.declared.members.Member.{Member}
 use Rattle.per_bags.specs.Members.{AreKeyed, Every, IsKeyed, comes_before, pieces_of, writers_of}
 use Rattle.per_bags.proofs.Order.{before_is, weak}
-use Rattle.per_bags.proofs.Sorting.{stable_is_sorted}
+use Rattle.rasn_schema.proofs.Sorting.{stable_is_sorted}
 
 -- what holds of each holds of each of the sorted list
 module _ {X : Type 0} (P : X → Type 0) (less : X → X → Bool) where

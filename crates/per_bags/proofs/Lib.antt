@@ -1,3 +1,2 @@
-pub mod Sorting
 pub mod Order
 pub mod Keyed

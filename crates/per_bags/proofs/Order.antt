@@ -16,7 +16,7 @@ use Rattle.per_core.specs.Writers.{Writer, written_if}
 use Rattle.per_core.proofs.Bags.{bag_becomes, some_list, sort}
 use Rattle.per_core.proofs.Laws.{same_bytes}
 use Rattle.per_bags.specs.Written.{AreWritten}
-use Rattle.per_bags.proofs.Sorting.{map_sorted}
+use Rattle.rasn_schema.proofs.Sorting.{map_sorted}
 
 -- the order of a dictionary is that of lists of numbers
 pub before_is : (xs ys : List ℕ) → before xs ys ≡ is_lt (slice_cmp nat_cmp xs ys)

@@ -13,7 +13,7 @@ use Rattle.per_pieces.specs.Pieces.{Piece, settled}
 use Rattle.per_bags.specs.Members.{writers_of}
 use Rattle.per_bags.specs.Written.{AreWritten}
 use Rattle.per_bags.proofs.Order.{bag_canon}
-use Rattle.per_bags.proofs.Sorting.{map_sorted}
+use Rattle.rasn_schema.proofs.Sorting.{map_sorted}
 use Rattle.per_write.specs.Faults.{HasElement, element_here, element_behind}
 
 module _ {X : Type 0} (less : X → X → Bool) where

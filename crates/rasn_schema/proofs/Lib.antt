@@ -1,3 +1,5 @@
 pub mod Canonised
 pub mod Places
 pub mod Both
+pub mod Sorting
+pub mod TagOrder

@@ -1,8 +1,9 @@
 -- Tags, tag trees and fields as contracts see them.
-use Rattle.std.specs.Prelude.{ℕ, suc, Bool, true, false, List, [], ◌∷◌, Option, Some, None}
+use Rattle.std.specs.Prelude.{ℕ, suc, Bool, true, false, List, [], ◌∷◌, Option, Some, None, map}
 use Rattle.rasn_types.specs.declared.types.Tag.{Tag}
 use Rattle.rasn_types.specs.declared.types.Class.{Class}
 use Rattle.rasn_types.specs.declared.types.Class.TheVariants.{Universal, Application, Context, Private}
+use Rattle.rasn_schema.specs.Orders.{by_tags}
 use Rattle.rasn_schema.specs.Schemas
 use Rattle.rasn_schema.specs.Schemas.{leaf, one_of, no_trees, tree, smallest, Parts, no_parts, part}
 use Rattle.rasn_schema.specs.declared.fields.Field.{Field}
@@ -88,3 +89,7 @@ shapes_from i (part t p s ps) = record { index = i; tag = field_tag t; tree = So
 -- whether a field has a presence bit
 abbrev pub may_be_absent : Shape → Bool
 may_be_absent f = is_not_required f.presence
+
+-- X.691 21.1: fields in ascending order of their tags
+abbrev pub in_tag_order : List Shape → List Shape
+in_tag_order fs = by_tags (map (λ f. f.tag) fs) fs

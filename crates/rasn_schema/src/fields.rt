@@ -7,6 +7,7 @@ ghost use Rattle.rasn_schema.specs.Records.{record_at, no_additions};
 
 use crate::schema::AsnType;
 use rasn_types::types::Tag;
+use std::alloc::{AllocError, Allocator};
 use std::marker::Model;
 
 /// The tags of a type: its own, or those of the root alternatives of an untagged choice (X.680 29).
@@ -65,7 +66,8 @@ impl Model for Fields {
 }
 
 impl Fields {
-    ghost use Rattle.rasn_schema.specs.Fields.{may_be_absent};
+    ghost use Rattle.std.specs.Prelude.{map, IfOk};
+    ghost use Rattle.rasn_schema.specs.Fields.{in_tag_order, may_be_absent, shape_of};
 
     /// How many components there are.
     pub fn len(&self) -> usize
@@ -82,6 +84,16 @@ impl Fields {
             .iter()
             .filter(|field| field.presence != Presence::Required)
             .count()
+    }
+
+    /// The components in ascending order of their smallest tags, in which those of a SET are written (X.691 21.1); those
+    /// of one tag stay in the order of the type. The only error is want of memory.
+    pub fn canonised<A: Allocator>(&self, alloc: A) -> Result<Vec<Field, A>, AllocError>
+        ensures { IfOk result (λ fields. map shape_of fields.items ≡ in_tag_order self.now) }
+    {
+        let mut fields = self.list.to_vec(alloc)?;
+        fields.sort_by_key(|field| field.tag)?;
+        Ok(fields)
     }
 }
 

@@ -1,4 +1,4 @@
-use Rattle.per_bags.proofs.Sorting.{stable_is_sorted}
+use Rattle.rasn_schema.proofs.Sorting.{stable_is_sorted}
 use Rattle.per_bags.proofs.laws.stable_sort_gives_one_list.Goals as goal
 
 pub returns : goal.returns

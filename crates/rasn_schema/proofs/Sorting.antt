@@ -1,5 +1,5 @@
 -- What a stable sort gives is the one ascending list in which what ties keeps its order.
-use Rattle.std.proofs.Common.{◌≡◌, refl, sym, ap, subst, ◌∙◌, ℕ, zero, suc, Bool, true, false, not, ◌&&◌, cond, List, [], ◌∷◌, map, length, arith, get_or, ◌+◌}
+use Rattle.std.proofs.Common.{◌≡◌, refl, sym, ap, subst, ◌∙◌, ℕ, suc, Bool, true, false, not, ◌&&◌, cond, List, [], ◌∷◌, map, arith, get_or, ◌+◌}
 use Rattle.std.specs.Cmp.{IsStrictWeakOrder}
 use Rattle.std.specs.List.{filter}
 use Rattle.std.specs.List.Sorted.{IsSortedBy, IsStableBy, ties}
@@ -20,11 +20,11 @@ tails x y xs ys e = cc
 
 module _ {X : Type 0} (lt : X → X → Bool) (o : IsStrictWeakOrder lt) where
   -- none of these is less than y
-  abbrev Low : X → List X → Type 0
+  abbrev pub Low : X → List X → Type 0
   Low y [] = Unit {0}
   Low y (z ∷ zs) = (lt z y ≡ false) × Low y zs
 
-  abbrev Up : List X → Type 0
+  abbrev pub Up : List X → Type 0
   Up [] = Unit {0}
   Up (y ∷ ys) = Low y ys × Up ys
 
@@ -95,7 +95,7 @@ module _ {X : Type 0} (lt : X → X → Bool) (o : IsStrictWeakOrder lt) where
           let r : ys ≡ zs = ih (λ x. rests x y z ys zs h (f x)) in
           ap (λ v. v ∷ ys) h ∙ ap (λ l. z ∷ l) r
 
-  low_below : (x w : X) (ws : List X) → lt w x ≡ false → Low w ws → Low x ws
+  pub low_below : (x w : X) (ws : List X) → lt w x ≡ false → Low w ws → Low x ws
   low_below x w [] e u = tt
   low_below x w (z ∷ zs) e u = (o.chain z w x u.0 e, low_below x w zs e u.1)
 
@@ -115,7 +115,7 @@ module _ {X : Type 0} (lt : X → X → Bool) (o : IsStrictWeakOrder lt) where
       go true e ih = (low_put w x ws (o.one_way w x e) u.0, ih)
       go false e ih = ((e, low_below x w ws e u.0), u)
 
-  up_sorted : (xs : List X) → Up (sorted lt xs)
+  pub up_sorted : (xs : List X) → Up (sorted lt xs)
   up_sorted [] = tt
   up_sorted (x ∷ xs) = up_put x (sorted lt xs) (up_sorted xs)
 
