@@ -1,0 +1,27 @@
+//! The variant that a refusal names.
+
+use super::limits::SizeTo3;
+use rasn_per::aper::{DecodeError, DecodeErrorKind, EncodeError, EncodeErrorKind, decode, encode};
+use rasn_record::Constrained;
+use rasn_types::octet_strings::OctetString;
+use rasn_types::types::Codec;
+use std::test::Fail;
+
+const CODEC: Codec = Codec::Aper;
+
+#[test]
+fn names_the_variant_of_what_is_not_read(rt: HostRuntime) {
+    let kind = DecodeErrorKind::UnexpectedExtraData(2);
+    let refusal = decode::<bool>(rt.alloc(), &[0x80, 0xaa, 0xbb]);
+    assert_eq!(rt; refusal, Err(DecodeError { kind, codec: CODEC }));
+}
+
+#[test]
+fn names_the_variant_of_what_is_not_written(rt: HostRuntime) -> Result<(), Fail> {
+    let octets = OctetString::new(Vec::from_slice(rt.alloc(), &[1, 2, 3, 4])?);
+    let long: Constrained<_, SizeTo3> = Constrained::new(octets);
+    let kind = EncodeErrorKind::SizeConstraintNotSatisfied(4, Some(0), Some(3));
+    let refusal = encode(rt.alloc(), &long);
+    assert_eq!(rt; refusal.err(), Some(EncodeError { kind, codec: CODEC }));
+    Ok(())
+}
