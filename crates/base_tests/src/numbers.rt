@@ -1,6 +1,6 @@
 //! Whole numbers as octets, how wide they are, and the types that hold them.
 
-use crate::expected::expect_octets;
+use crate::expected::{expect_equal, expect_octets};
 use rasn_constraints::integer_type::IntegerType;
 use rasn_types::big::Integer;
 use rasn_types::integer::{signed_octets_of, whole_of_octets};
@@ -213,10 +213,10 @@ fn is_written_as<I: IntegerType>(
 #[test]
 fn octets_of_the_types(rt: HostRuntime) {
     let alloc = rt.alloc();
-    assert_eq!(rt; read::<u8>(alloc, &[0x00, 0xff]), Ok(Some(255)));
-    assert_eq!(rt; read::<u8>(alloc, &[0xff]), Ok(None));
-    assert_eq!(rt; read::<i8>(alloc, &[0xff]), Ok(Some(-1)));
-    assert_eq!(rt; read::<i8>(alloc, &[0x00, 0x80]), Ok(None));
-    assert_eq!(rt; is_written_as(alloc, 255u8, &[0x00, 0xff]), Ok(true));
-    assert_eq!(rt; is_written_as(alloc, -129i64, &[0xff, 0x7f]), Ok(true));
+    expect_equal(&rt, &read::<u8>(alloc, &[0x00, 0xff]), &Ok(Some(255)));
+    expect_equal(&rt, &read::<u8>(alloc, &[0xff]), &Ok(None));
+    expect_equal(&rt, &read::<i8>(alloc, &[0xff]), &Ok(Some(-1)));
+    expect_equal(&rt, &read::<i8>(alloc, &[0x00, 0x80]), &Ok(None));
+    expect_equal(&rt, &is_written_as(alloc, 255u8, &[0x00, 0xff]), &Ok(true));
+    expect_equal(&rt, &is_written_as(alloc, -129i64, &[0xff, 0x7f]), &Ok(true));
 }

@@ -11,6 +11,8 @@ mod decoder;
 #[cfg(test)]
 mod errors;
 #[cfg(test)]
+mod expected;
+#[cfg(test)]
 mod lists;
 #[cfg(test)]
 mod numbers;

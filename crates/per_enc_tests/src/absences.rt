@@ -1,5 +1,6 @@
 //! Components that may be absent and values under an explicit tag, by the calls that a closure makes, and REAL.
 
+use crate::expected::{expect_octets, expect_unwritten};
 use per_enc::{EncodeError, EncodeErrorKind, Encoder, EncoderOptions};
 use per_samples_a::some_absent::SomeAbsent;
 use rasn_codec::codec::{Encoder as _, EncoderExt as _};
@@ -33,7 +34,7 @@ fn writes_components_that_may_be_absent(rt: HostRuntime) -> Result<(), Fail> {
         let mut encoder = Encoder::new(rt.alloc(), EncoderOptions::unaligned());
         put_bounded(&mut encoder, *b, *c)?;
         let encoding = encoder.output()?;
-        assert!(rt; encoding.as_slice() == *expected, "{b:?} and {c}");
+        expect_octets(&rt, encoding.as_slice(), expected);
     }
     Ok(())
 }
@@ -56,7 +57,7 @@ fn writes_components_under_their_own_constraints(rt: HostRuntime) -> Result<(), 
     let mut encoder = Encoder::new(rt.alloc(), EncoderOptions::unaligned());
     put_unbounded(&mut encoder)?;
     let encoding = encoder.output()?;
-    assert_eq!(rt; encoding.as_slice(), [0x81, 0x70, 0x50, 0x40].as_slice());
+    expect_octets(&rt, encoding.as_slice(), &[0x81, 0x70, 0x50, 0x40]);
     Ok(())
 }
 
@@ -65,7 +66,7 @@ fn writes_no_explicit_tag(rt: HostRuntime) -> Result<(), Fail> {
     let mut encoder = Encoder::new(rt.alloc(), EncoderOptions::unaligned());
     encoder.encode_explicit_prefix(Tag::SEQUENCE, &true, Identifier::EMPTY)?;
     let encoding = encoder.output()?;
-    assert_eq!(rt; encoding.as_slice(), [0x80].as_slice());
+    expect_octets(&rt, encoding.as_slice(), &[0x80]);
     Ok(())
 }
 
@@ -74,13 +75,7 @@ fn refuses_real(rt: HostRuntime) {
     let mut encoder = Encoder::new(rt.alloc(), EncoderOptions::unaligned());
     let none = Identifier::EMPTY;
     let refused = encoder.encode_real(Tag::REAL, &Constraints::NONE, none);
-    assert_eq!(rt;
-        refused.err().map(|error| error.kind),
-        Some(EncodeErrorKind::RealNotSupported)
-    );
+    expect_unwritten(&rt, refused.err(), EncodeErrorKind::RealNotSupported);
     let again = encoder.encode_real(Tag::REAL, &Constraints::NONE, none);
-    assert_eq!(rt;
-        again.err().map(|error| error.kind),
-        Some(EncodeErrorKind::AlreadyFailed)
-    );
+    expect_unwritten(&rt, again.err(), EncodeErrorKind::AlreadyFailed);
 }

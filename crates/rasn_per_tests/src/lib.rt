@@ -5,4 +5,6 @@
 #[cfg(test)]
 mod aligned;
 #[cfg(test)]
+mod expected;
+#[cfg(test)]
 mod unaligned;

@@ -1,10 +1,10 @@
 //! Items of an ENUMERATED, those behind its extension marker in each form of their index.
 
+use crate::expected::{expect_equal, expect_octets, expect_unread};
 use per_de::{DecodeErrorKind, ParserFailCause};
 use per_samples_c::colors::TwoColors;
 use per_samples_c::items::{ItemOf256, WithItem};
 use rasn_per::uper::{decode, encode};
-use std::process::Abort;
 use std::test::Fail;
 
 /// Octets that are read, and the item that they spell.
@@ -39,43 +39,28 @@ const REFUSED: &[(&[u8], DecodeErrorKind)] = &[
     (&[0x80, 0x00], DecodeErrorKind::UnexpectedExtraData(1)),
 ];
 
-fn refused_as(rt: &(impl Abort + AllocGlobal), octets: &[u8], kind: DecodeErrorKind) {
-    match decode::<TwoColors>(rt.alloc(), octets) {
-        Ok(_) => assert!(rt; false, "{octets:?} are read"),
-        Err(error) => assert_eq!(rt; error.kind, kind, "at {octets:?}"),
-    }
-}
-
 #[test]
 fn writes_items(rt: HostRuntime) -> Result<(), Fail> {
-    assert_eq!(rt;
-        encode(rt.alloc(), &TwoColors::A)?.as_slice(),
-        [0x00].as_slice()
-    );
-    assert_eq!(rt;
-        encode(rt.alloc(), &TwoColors::B)?.as_slice(),
-        [0x80].as_slice()
-    );
+    let first = encode(rt.alloc(), &TwoColors::A)?;
+    expect_octets(&rt, first.as_slice(), &[0x00]);
+    let second = encode(rt.alloc(), &TwoColors::B)?;
+    expect_octets(&rt, second.as_slice(), &[0x80]);
     let last = WithItem {
         a: true,
         e: ItemOf256 { index: 255 },
     };
-    assert_eq!(rt;
-        encode(rt.alloc(), &last)?.as_slice(),
-        [0xff, 0x80].as_slice()
-    );
-    assert_eq!(rt; decode::<WithItem>(rt.alloc(), &[0xff, 0x80])?, last);
+    let written = encode(rt.alloc(), &last)?;
+    expect_octets(&rt, written.as_slice(), &[0xff, 0x80]);
+    let read: WithItem = decode(rt.alloc(), &[0xff, 0x80])?;
+    expect_equal(&rt, &read, &last);
     Ok(())
 }
 
 #[test]
 fn reads_items_in_each_form(rt: HostRuntime) -> Result<(), Fail> {
     for (octets, color) in READ {
-        assert_eq!(rt;
-            decode::<TwoColors>(rt.alloc(), octets)?,
-            *color,
-            "at {octets:?}"
-        );
+        let read: TwoColors = decode(rt.alloc(), octets)?;
+        expect_equal(&rt, &read, color);
     }
     Ok(())
 }
@@ -83,6 +68,7 @@ fn reads_items_in_each_form(rt: HostRuntime) -> Result<(), Fail> {
 #[test]
 fn names_its_refusals(rt: HostRuntime) {
     for (octets, kind) in REFUSED {
-        refused_as(&rt, octets, *kind);
+        let refused = decode::<TwoColors>(rt.alloc(), octets).err();
+        expect_unread(&rt, octets, refused, *kind);
     }
 }

@@ -12,6 +12,8 @@ pub mod colors;
 #[cfg(test)]
 mod exchanges;
 #[cfg(test)]
+mod expected;
+#[cfg(test)]
 mod items;
 #[cfg(test)]
 mod many;

@@ -4,6 +4,7 @@ use super::limits::{
     Size1To2, Size2, Size16, Size24, SizeTo3, SizeTo256, SizeTo1000, SizeTo65536, ZeroTo254,
     ZeroTo256,
 };
+use crate::expected::expect_octets;
 use per_samples_a::both::Both;
 use per_samples_a::pair::Pair;
 use per_samples_a::some_absent::SomeAbsent;
@@ -27,7 +28,7 @@ fn expect_both<T: Encode + Decode + PartialEq>(
     octets: &[u8],
 ) -> Result<(), Fail> {
     let written = encode(alloc, value)?;
-    assert_eq!(rt; written.as_slice(), octets);
+    expect_octets(rt, written.as_slice(), octets);
     let read: T = decode(alloc, octets)?;
     assert!(rt; read == *value, "{octets:?}");
     Ok(())
@@ -41,7 +42,7 @@ fn expect_value<T: Encode + Decode>(
 ) -> Result<(), Fail> {
     let value: T = decode(alloc, octets)?;
     let written = encode(alloc, &value)?;
-    assert!(rt; written.as_slice() == octets);
+    expect_octets(rt, written.as_slice(), octets);
     Ok(())
 }
 
@@ -57,7 +58,7 @@ fn expect_behind_true<T: Encode + Decode + PartialEq, L: Limits + Drop>(
 ) -> Result<(), Fail> {
     let record = Both { a: true, b: value };
     let written = encode(alloc, &record)?;
-    assert_eq!(rt; written.as_slice(), octets);
+    expect_octets(rt, written.as_slice(), octets);
     let read: BehindTrue<T, L> = decode(alloc, octets)?;
     assert!(rt; read.a && read.b.value == record.b.value, "{octets:?}");
     Ok(())
@@ -134,7 +135,7 @@ fn pads_no_elements(rt: HostRuntime) -> Result<(), Fail> {
     let elements = Vec::from_slice(rt.alloc(), &[true, false, true])?;
     let list: Constrained<Vec<bool>, SizeTo256> = Constrained::new(elements);
     let written = encode(rt.alloc(), &Both { a: true, b: list })?;
-    assert_eq!(rt; written.as_slice(), [0x80, 0x02, 0xa0].as_slice());
+    expect_octets(&rt, written.as_slice(), &[0x80, 0x02, 0xa0]);
     Ok(())
 }
 

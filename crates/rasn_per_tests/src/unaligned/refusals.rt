@@ -2,21 +2,20 @@
 
 ghost use Rattle.rasn_schema.specs.Components.{minus◌to◌};
 
+use crate::expected::{expect_equal, expect_unread};
 use rasn_codec::codec::Decode;
 use rasn_per::uper::{DecodeError, DecodeErrorKind, ParserFailCause, decode, lawful};
 use rasn_record::{Constrained, Constraint, Constraints, Limits, constraints};
 use rasn_types::types::Codec;
 use std::alloc::Global;
+use std::process::Abort;
+use std::test::Fail;
 
-/// A refusal in the UNALIGNED variant.
-fn refusal(kind: DecodeErrorKind) -> Option<DecodeError> {
+/// Octets of the UNALIGNED variant are refused as no value of the type, for this reason.
+fn expect_refused<T: Decode>(rt: &impl Abort, alloc: Global, octets: &[u8], kind: DecodeErrorKind) {
     let codec = Codec::Uper;
-    Some(DecodeError { kind, codec })
-}
-
-/// The refusal of octets, where they are no value of the type.
-fn refusal_of<T: Decode>(alloc: Global, octets: &[u8]) -> Option<DecodeError> {
-    decode::<T>(alloc, octets).err()
+    let refused = decode::<T>(alloc, octets).err();
+    expect_unread(rt, octets, refused, DecodeError { kind, codec });
 }
 
 /// Octets that are read as no INTEGER, and why.
@@ -48,16 +47,13 @@ const NO_NULLS: &[(&[u8], DecodeErrorKind)] = &[
 #[test]
 fn names_its_refusals(rt: HostRuntime) {
     for (octets, kind) in NO_INTEGERS {
-        assert_eq!(rt; refusal_of::<i128>(rt.alloc(), octets), refusal(*kind));
+        expect_refused::<i128>(&rt, rt.alloc(), octets, *kind);
     }
     for (octets, kind) in NO_NULLS {
-        assert_eq!(rt; refusal_of::<()>(rt.alloc(), octets), refusal(*kind));
+        expect_refused::<()>(&rt, rt.alloc(), octets, *kind);
     }
     let kind = DecodeErrorKind::UnexpectedExtraData(2);
-    assert_eq!(rt;
-        refusal_of::<bool>(rt.alloc(), &[0x80, 0xaa, 0xbb]),
-        refusal(kind)
-    );
+    expect_refused::<bool>(&rt, rt.alloc(), &[0x80, 0xaa, 0xbb], kind);
 }
 
 /// The constraints of INTEGER (-1..254).
@@ -73,13 +69,14 @@ impl Limits for MinusOneTo254 {
 }
 
 #[test]
-fn fits_a_number_to_its_type_behind_its_bounds(rt: HostRuntime) {
+fn fits_a_number_to_its_type_behind_its_bounds(rt: HostRuntime) -> Result<(), Fail> {
     type Narrow = Constrained<u8, MinusOneTo254>;
-    let five = decode::<Narrow>(rt.alloc(), &[0x06]);
-    assert_eq!(rt; five.map(|five| five.value), Ok(5));
+    let five: Narrow = decode(rt.alloc(), &[0x06])?;
+    expect_equal(&rt, &five.value, &5);
     // -1, which is within the bounds
     let kind = DecodeErrorKind::IntegerOverflow(8);
-    assert_eq!(rt; refusal_of::<Narrow>(rt.alloc(), &[0x00]), refusal(kind));
+    expect_refused::<Narrow>(&rt, rt.alloc(), &[0x00], kind);
+    Ok(())
 }
 
 const ONE_TO_GREATEST: &[Constraint] = constraints!(

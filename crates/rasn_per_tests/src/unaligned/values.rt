@@ -1,5 +1,6 @@
 //! Values of each type, and the octets of their complete encodings.
 
+use crate::expected::{expect_equal, expect_octets};
 use its_header::speed::Speed;
 use per_samples_a::pair::Pair;
 use per_samples_a::some_absent::SomeAbsent;
@@ -23,7 +24,7 @@ pub fn expect_both<T: Encode + Decode + PartialEq>(
     octets: &[u8],
 ) -> Result<(), Fail> {
     let written = encode(alloc, value)?;
-    assert_eq!(rt; written.as_slice(), octets);
+    expect_octets(rt, written.as_slice(), octets);
     let read: T = decode(alloc, octets)?;
     assert!(rt; read == *value, "{octets:?}");
     Ok(())
@@ -37,7 +38,7 @@ fn expect_value<T: Encode + Decode>(
 ) -> Result<(), Fail> {
     let value: T = decode(alloc, octets)?;
     let written = encode(alloc, &value)?;
-    assert_eq!(rt; written.as_slice(), octets);
+    expect_octets(rt, written.as_slice(), octets);
     Ok(())
 }
 
@@ -54,7 +55,8 @@ fn writes_and_reads_whole_numbers(rt: HostRuntime) -> Result<(), Fail> {
         expect_both(&rt, rt.alloc(), number, octets)?;
     }
     // a superfluous octet
-    assert_eq!(rt; decode::<i128>(rt.alloc(), &[0x02, 0x00, 0x05]), Ok(5));
+    let five: i128 = decode(rt.alloc(), &[0x02, 0x00, 0x05])?;
+    expect_equal(&rt, &five, &5);
     Ok(())
 }
 
@@ -64,7 +66,8 @@ fn writes_and_reads_truth_values_and_null(rt: HostRuntime) -> Result<(), Fail> {
     expect_both(&rt, rt.alloc(), &false, &[0x00])?;
     expect_both(&rt, rt.alloc(), &(), &[0x00])?;
     // bits behind the value that are not zero
-    assert_eq!(rt; decode::<bool>(rt.alloc(), &[0xff]), Ok(true));
+    let read: bool = decode(rt.alloc(), &[0xff])?;
+    expect_equal(&rt, &read, &true);
     Ok(())
 }
 

@@ -1,5 +1,6 @@
 //! The calls of `per_counts` that answer a value.
 
+use crate::expected::expect_equal;
 use per_bits::BitReader;
 use per_counts::calls::decode_from;
 use per_counts::decoding::decode;
@@ -19,7 +20,7 @@ const READ: Outer1 = Outer1 {
 #[test]
 fn decodes_octets(rt: HostRuntime) -> Result<(), Fail> {
     let value: Outer1 = decode(rt.alloc(), Codec::Aper, OCTETS)?;
-    assert_eq!(rt; value, READ);
+    expect_equal(&rt, &value, &READ);
     Ok(())
 }
 
@@ -28,7 +29,7 @@ fn reads_from_a_decoder(rt: HostRuntime) -> Result<(), Fail> {
     let bits = BitReader::from_octets(OCTETS);
     let mut decoder = Decoder::from_reader(rt.alloc(), bits, DecoderOptions::unaligned());
     let value: Outer1 = decode_from(&mut decoder)?;
-    assert_eq!(rt; value, READ);
-    assert_eq!(rt; decoder.input().len(), 5);
+    expect_equal(&rt, &value, &READ);
+    expect_equal(&rt, &decoder.input().len(), &5);
     Ok(())
 }

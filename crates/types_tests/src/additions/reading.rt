@@ -1,5 +1,6 @@
 //! What a `Decoder` reads of SEQUENCE { ..., a BOOLEAN, b BOOLEAN OPTIONAL }, call by call.
 
+use crate::expected::{expect_equal, expect_unread};
 use per_bits::BitReader;
 use per_de::{DecodeError, DecodeErrorKind, Decoder, DecoderOptions, Scope};
 use per_samples_f::one_needed::OneNeeded;
@@ -40,7 +41,7 @@ fn take_both(decoder: &mut Decoder<'_>) -> Result<(Option<bool>, Option<bool>), 
 fn reads_additions_in_turn(rt: HostRuntime) -> Result<(), Fail> {
     let mut decoder = unaligned(rt.alloc(), A_ALONE);
     let both = take_both(&mut decoder)?;
-    assert_eq!(rt; both, (Some(true), None));
+    expect_equal(&rt, &both, &(Some(true), None));
     Ok(())
 }
 
@@ -48,7 +49,7 @@ fn reads_additions_in_turn(rt: HostRuntime) -> Result<(), Fail> {
 fn reads_a_bitmap_that_is_shorter(rt: HostRuntime) -> Result<(), Fail> {
     let mut decoder = unaligned(rt.alloc(), &[0x80, 0x80, 0xc0, 0x00]);
     let both = take_both(&mut decoder)?;
-    assert_eq!(rt; both, (Some(true), None));
+    expect_equal(&rt, &both, &(Some(true), None));
     Ok(())
 }
 
@@ -64,10 +65,10 @@ fn take_three(decoder: &mut Decoder<'_>) -> Result<(), DecodeError> {
 #[test]
 fn refuses_an_addition_too_many(rt: HostRuntime) -> Result<(), Fail> {
     let mut decoder = unaligned(rt.alloc(), A_ALONE);
-    let kind = take_three(&mut decoder).map_err(|error| error.kind);
-    assert_eq!(rt; kind, Err(DecodeErrorKind::TypeNotExtensible));
-    let again = decoder.open_addition().map_err(|error| error.kind).err();
-    assert_eq!(rt; again, Some(DecodeErrorKind::AlreadyFailed));
+    let refused = take_three(&mut decoder).err();
+    expect_unread(&rt, &A_ALONE, refused, DecodeErrorKind::TypeNotExtensible);
+    let again = decoder.open_addition().err();
+    expect_unread(&rt, &A_ALONE, again, DecodeErrorKind::AlreadyFailed);
     Ok(())
 }
 
@@ -81,7 +82,7 @@ fn take_one(decoder: &mut Decoder<'_>) -> Result<(), DecodeError> {
 #[test]
 fn refuses_an_addition_that_is_left(rt: HostRuntime) -> Result<(), Fail> {
     let mut decoder = unaligned(rt.alloc(), A_ALONE);
-    let kind = take_one(&mut decoder).map_err(|error| error.kind);
-    assert_eq!(rt; kind, Err(DecodeErrorKind::MissingTag));
+    let refused = take_one(&mut decoder).err();
+    expect_unread(&rt, &A_ALONE, refused, DecodeErrorKind::MissingTag);
     Ok(())
 }

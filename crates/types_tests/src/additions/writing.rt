@@ -1,5 +1,6 @@
 //! What an `Encoder` writes of SEQUENCE { ..., a BOOLEAN, b BOOLEAN OPTIONAL }, call by call.
 
+use crate::expected::{expect_octets, expect_unwritten};
 use per_enc::{EncodeError, EncodeErrorKind, Encoder, EncoderOptions};
 use per_samples_f::one_needed::OneNeeded;
 use rasn_additions::ExtensionEncoder;
@@ -23,24 +24,26 @@ fn writes_additions_in_turn(rt: HostRuntime) -> Result<(), Fail> {
     let mut encoder = Encoder::new(rt.alloc(), EncoderOptions::unaligned());
     put(&mut encoder, &[Some(true), None])?;
     let encoding = encoder.output_into_vec()?;
-    assert_eq!(rt; encoding.as_slice(), [0x81, 0x80, 0x60, 0x00].as_slice());
+    expect_octets(&rt, encoding.as_slice(), &[0x81, 0x80, 0x60, 0x00]);
     Ok(())
 }
 
 #[test]
 fn refuses_an_addition_too_many(rt: HostRuntime) -> Result<(), Fail> {
     let mut encoder = Encoder::new(rt.alloc(), EncoderOptions::unaligned());
-    let kind = put(&mut encoder, &[Some(true), None, None]).map_err(|error| error.kind);
-    assert_eq!(rt; kind, Err(EncodeErrorKind::TooManyAdditions));
-    let again = encoder.skip_addition().map_err(|error| error.kind);
-    assert_eq!(rt; again, Err(EncodeErrorKind::AlreadyFailed));
+    let additions = [Some(true), None, None];
+    let refused = put(&mut encoder, &additions).err();
+    expect_unwritten(&rt, &additions, refused, EncodeErrorKind::TooManyAdditions);
+    let again = encoder.skip_addition().err();
+    expect_unwritten(&rt, &additions, again, EncodeErrorKind::AlreadyFailed);
     Ok(())
 }
 
 #[test]
 fn refuses_an_addition_that_is_left(rt: HostRuntime) -> Result<(), Fail> {
     let mut encoder = Encoder::new(rt.alloc(), EncoderOptions::unaligned());
-    let kind = put(&mut encoder, &[Some(true)]).map_err(|error| error.kind);
-    assert_eq!(rt; kind, Err(EncodeErrorKind::OutOfTurn));
+    let additions = [Some(true)];
+    let refused = put(&mut encoder, &additions).err();
+    expect_unwritten(&rt, &additions, refused, EncodeErrorKind::OutOfTurn);
     Ok(())
 }

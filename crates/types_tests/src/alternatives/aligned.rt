@@ -1,5 +1,6 @@
 //! The ALIGNED variant.
 
+use crate::expected::{expect_equal, expect_octets, expect_unread};
 use per_samples_h::alt1::Alt1;
 use per_samples_h::alt2::Alt2;
 use rasn_per::aper::{DecodeErrorKind, decode, encode};
@@ -29,9 +30,9 @@ const REFUSED: &[(&[u8], DecodeErrorKind)] = &[
 fn writes_and_reads_each_alternative(rt: HostRuntime) -> Result<(), Fail> {
     for (value, octets) in ROWS {
         let written = encode(rt.alloc(), value)?;
-        assert_eq!(rt; written.as_slice(), *octets, "writing {value:?}");
+        expect_octets(&rt, written.as_slice(), octets);
         let read: Alt2 = decode(rt.alloc(), octets)?;
-        assert_eq!(rt; read, *value, "reading {octets:?}");
+        expect_equal(&rt, &read, value);
     }
     Ok(())
 }
@@ -39,28 +40,30 @@ fn writes_and_reads_each_alternative(rt: HostRuntime) -> Result<(), Fail> {
 #[test]
 fn the_older_version_has_the_same_root(rt: HostRuntime) -> Result<(), Fail> {
     let written = encode(rt.alloc(), &Alt1::A(true))?;
-    assert_eq!(rt; written.as_slice(), [0x40].as_slice());
+    expect_octets(&rt, written.as_slice(), &[0x40]);
     let read: Alt1 = decode(rt.alloc(), &[0x40])?;
-    assert_eq!(rt; read, Alt1::A(true));
+    expect_equal(&rt, &read, &Alt1::A(true));
     let newer: Alt2 = decode(rt.alloc(), written.as_slice())?;
-    assert_eq!(rt; newer, Alt2::A(true));
+    expect_equal(&rt, &newer, &Alt2::A(true));
     Ok(())
 }
 
 #[test]
 fn the_older_version_refuses_what_it_does_not_know(rt: HostRuntime) {
-    match decode::<Alt1>(rt.alloc(), &[0x80, 0x01, 0x80]) {
-        Ok(value) => assert!(rt; false, "it is read as {value:?}"),
-        Err(error) => assert_eq!(rt; error.kind, DecodeErrorKind::ChoiceIndexNotFound(0)),
-    }
+    let octets = &[0x80, 0x01, 0x80];
+    let refused = decode::<Alt1>(rt.alloc(), octets).err();
+    expect_unread(
+        &rt,
+        octets,
+        refused,
+        DecodeErrorKind::ChoiceIndexNotFound(0),
+    );
 }
 
 #[test]
 fn names_its_refusals(rt: HostRuntime) {
     for (octets, kind) in REFUSED {
-        match decode::<Alt2>(rt.alloc(), octets) {
-            Ok(value) => assert!(rt; false, "{octets:?} are read as {value:?}"),
-            Err(error) => assert_eq!(rt; error.kind, *kind, "at {octets:?}"),
-        }
+        let refused = decode::<Alt2>(rt.alloc(), octets).err();
+        expect_unread(&rt, octets, refused, *kind);
     }
 }

@@ -1,5 +1,6 @@
 //! A SEQUENCE with an alternative of the root and one behind the marker, and a CHOICE of several of each.
 
+use crate::expected::{expect_equal, expect_octets, expect_unread};
 use per_samples_h::alt::Alt;
 use per_samples_h::inner::Inner;
 use per_samples_h::several::Several;
@@ -42,13 +43,13 @@ fn writes_and_reads_alternatives_in_a_sequence(rt: HostRuntime) -> Result<(), Fa
         trailer: 0xab,
     };
     let aligned = aper::encode(rt.alloc(), &value)?;
-    assert_eq!(rt; aligned.as_slice(), ALIGNED);
+    expect_octets(&rt, aligned.as_slice(), ALIGNED);
     let unaligned = uper::encode(rt.alloc(), &value)?;
-    assert_eq!(rt; unaligned.as_slice(), UNALIGNED);
+    expect_octets(&rt, unaligned.as_slice(), UNALIGNED);
     let read: TwoAlternatives = aper::decode(rt.alloc(), ALIGNED)?;
-    assert_eq!(rt; read, value);
+    expect_equal(&rt, &read, &value);
     let read: TwoAlternatives = uper::decode(rt.alloc(), UNALIGNED)?;
-    assert_eq!(rt; read, value);
+    expect_equal(&rt, &read, &value);
     Ok(())
 }
 
@@ -56,21 +57,25 @@ fn writes_and_reads_alternatives_in_a_sequence(rt: HostRuntime) -> Result<(), Fa
 fn writes_and_reads_several_alternatives(rt: HostRuntime) -> Result<(), Fail> {
     for (value, octets) in ROWS {
         let aligned = aper::encode(rt.alloc(), value)?;
-        assert_eq!(rt; aligned.as_slice(), *octets, "writing {value:?}");
+        expect_octets(&rt, aligned.as_slice(), octets);
         let unaligned = uper::encode(rt.alloc(), value)?;
-        assert_eq!(rt; unaligned.as_slice(), *octets, "writing {value:?}");
+        expect_octets(&rt, unaligned.as_slice(), octets);
         let read: Several = aper::decode(rt.alloc(), octets)?;
-        assert_eq!(rt; read, *value, "reading {octets:?}");
+        expect_equal(&rt, &read, value);
         let read: Several = uper::decode(rt.alloc(), octets)?;
-        assert_eq!(rt; read, *value, "reading {octets:?}");
+        expect_equal(&rt, &read, value);
     }
     Ok(())
 }
 
 #[test]
 fn refuses_an_index_behind_the_last(rt: HostRuntime) {
-    match aper::decode::<Several>(rt.alloc(), &[0x82, 0x01, 0x00]) {
-        Ok(value) => assert!(rt; false, "it is read as {value:?}"),
-        Err(error) => assert_eq!(rt; error.kind, DecodeErrorKind::ChoiceIndexNotFound(2)),
-    }
+    let octets = &[0x82, 0x01, 0x00];
+    let refused = aper::decode::<Several>(rt.alloc(), octets).err();
+    expect_unread(
+        &rt,
+        octets,
+        refused,
+        DecodeErrorKind::ChoiceIndexNotFound(2),
+    );
 }

@@ -1,6 +1,7 @@
 //! Bags whose members are no whole octets. Their order is that of the members' complete encodings, which end in zero
 //! bits; they themselves stand without these.
 
+use crate::expected::{expect_equal, expect_octets};
 use rasn_per::{aper, uper};
 use rasn_sets::set_of::SetOf;
 use rasn_types::bit_string::BitString;
@@ -12,13 +13,13 @@ use std::test::Fail;
 fn writes_and_reads_truth_values(rt: HostRuntime) -> Result<(), Fail> {
     let bag = SetOf::from_vec(Vec::from_slice(rt.alloc(), &[true, false, true])?);
     let unaligned = uper::encode(rt.alloc(), &bag)?;
-    assert_eq!(rt; unaligned.as_slice(), [0x03, 0x60].as_slice());
+    expect_octets(&rt, unaligned.as_slice(), &[0x03, 0x60]);
     let aligned = aper::encode(rt.alloc(), &bag)?;
-    assert_eq!(rt; aligned.as_slice(), [0x03, 0x60].as_slice());
+    expect_octets(&rt, aligned.as_slice(), &[0x03, 0x60]);
     let read: SetOf<bool> = uper::decode(rt.alloc(), &[0x03, 0xc0])?;
-    assert_eq!(rt; read.as_slice(), [true, true, false].as_slice());
+    expect_equal(&rt, &read.as_slice(), &[true, true, false].as_slice());
     let read: SetOf<bool> = aper::decode(rt.alloc(), &[0x03, 0xc0])?;
-    assert_eq!(rt; read.as_slice(), [true, true, false].as_slice());
+    expect_equal(&rt, &read.as_slice(), &[true, true, false].as_slice());
     Ok(())
 }
 
@@ -36,11 +37,8 @@ fn one_bit_each(alloc: Global) -> Result<SetOf<BitString>, Fail> {
 fn pads_members_where_they_stand(rt: HostRuntime) -> Result<(), Fail> {
     let bag = one_bit_each(rt.alloc())?;
     let unaligned = uper::encode(rt.alloc(), &bag)?;
-    assert_eq!(rt; unaligned.as_slice(), [0x02, 0x01, 0x00, 0xc0].as_slice());
+    expect_octets(&rt, unaligned.as_slice(), &[0x02, 0x01, 0x00, 0xc0]);
     let aligned = aper::encode(rt.alloc(), &bag)?;
-    assert_eq!(rt;
-        aligned.as_slice(),
-        [0x02, 0x01, 0x00, 0x01, 0x80].as_slice()
-    );
+    expect_octets(&rt, aligned.as_slice(), &[0x02, 0x01, 0x00, 0x01, 0x80]);
     Ok(())
 }

@@ -1,5 +1,6 @@
 //! SET OF INTEGER, whose octets are the same in both variants: each member is whole octets.
 
+use crate::expected::{expect_equal, expect_octets, expect_unwritten};
 use rasn_per::aper::EncodeErrorKind;
 use rasn_per::{aper, uper};
 use rasn_record::{Constraint, Constraints, constraints};
@@ -97,9 +98,9 @@ fn writes_members_in_ascending_order(rt: HostRuntime) -> Result<(), Fail> {
     for (members, octets) in WRITTEN {
         let bag = bag_of(rt.alloc(), members)?;
         let unaligned = uper::encode(rt.alloc(), &bag)?;
-        assert_eq!(rt; unaligned.as_slice(), *octets, "unaligned: {members:?}");
+        expect_octets(&rt, unaligned.as_slice(), octets);
         let aligned = aper::encode(rt.alloc(), &bag)?;
-        assert_eq!(rt; aligned.as_slice(), *octets, "aligned: {members:?}");
+        expect_octets(&rt, aligned.as_slice(), octets);
     }
     Ok(())
 }
@@ -112,9 +113,9 @@ fn writes_what_is_read_the_other_way_round(rt: HostRuntime) -> Result<(), Fail> 
         members.reverse();
         let turned = SetOf::from_vec(members);
         let unaligned = uper::encode(rt.alloc(), &turned)?;
-        assert_eq!(rt; unaligned.as_slice(), *octets, "unaligned");
+        expect_octets(&rt, unaligned.as_slice(), octets);
         let aligned = aper::encode(rt.alloc(), &turned)?;
-        assert_eq!(rt; aligned.as_slice(), *octets, "aligned");
+        expect_octets(&rt, aligned.as_slice(), octets);
     }
     Ok(())
 }
@@ -123,13 +124,13 @@ fn writes_what_is_read_the_other_way_round(rt: HostRuntime) -> Result<(), Fail> 
 fn reads_members_in_any_order(rt: HostRuntime) -> Result<(), Fail> {
     for (spelled, members, octets) in SPELLINGS {
         let unaligned: SetOf<i128> = uper::decode(rt.alloc(), spelled)?;
-        assert_eq!(rt; unaligned.as_slice(), *members, "unaligned: {spelled:?}");
+        expect_equal(&rt, &unaligned.as_slice(), members);
         let aligned: SetOf<i128> = aper::decode(rt.alloc(), spelled)?;
-        assert_eq!(rt; aligned.as_slice(), *members, "aligned: {spelled:?}");
+        expect_equal(&rt, &aligned.as_slice(), members);
         let written = uper::encode(rt.alloc(), &unaligned)?;
-        assert_eq!(rt; written.as_slice(), *octets, "unaligned: {spelled:?}");
+        expect_octets(&rt, written.as_slice(), octets);
         let written = aper::encode(rt.alloc(), &aligned)?;
-        assert_eq!(rt; written.as_slice(), *octets, "aligned: {spelled:?}");
+        expect_octets(&rt, written.as_slice(), octets);
     }
     Ok(())
 }
@@ -139,9 +140,7 @@ fn refuses_members_out_of_size(rt: HostRuntime) -> Result<(), Fail> {
     let bag = bag_of(rt.alloc(), &[1, 2, 3])?;
     let size = Constraints::new(UP_TO_2);
     let kind = EncodeErrorKind::SizeConstraintNotSatisfied(3, Some(0), Some(2));
-    match aper::encode_with_constraints(rt.alloc(), &size, &bag) {
-        Ok(octets) => assert!(rt; false, "it is written as {octets:?}"),
-        Err(error) => assert_eq!(rt; error.kind, kind),
-    }
+    let refused = aper::encode_with_constraints(rt.alloc(), &size, &bag).err();
+    expect_unwritten(&rt, &bag.as_slice(), refused, kind);
     Ok(())
 }

@@ -1,6 +1,7 @@
 //! The UNALIGNED variant.
 
 use super::values::only;
+use crate::expected::{expect_equal, expect_octets};
 use per_samples_m::many::Many;
 use rasn_per::uper::{decode, encode};
 use std::test::Fail;
@@ -26,9 +27,9 @@ const READ: &[(&[u8], usize)] = &[
 fn writes_and_reads_long_bitmaps(rt: HostRuntime) -> Result<(), Fail> {
     for (place, octets) in ROWS {
         let written = encode(rt.alloc(), &only(*place))?;
-        assert_eq!(rt; written.as_slice(), *octets, "writing {place}");
+        expect_octets(&rt, written.as_slice(), octets);
         let read: Many = decode(rt.alloc(), octets)?;
-        assert_eq!(rt; read, only(*place), "reading {octets:?}");
+        expect_equal(&rt, &read, &only(*place));
     }
     Ok(())
 }
@@ -37,7 +38,7 @@ fn writes_and_reads_long_bitmaps(rt: HostRuntime) -> Result<(), Fail> {
 fn reads_bitmaps_of_other_lengths(rt: HostRuntime) -> Result<(), Fail> {
     for (octets, place) in READ {
         let read: Many = decode(rt.alloc(), octets)?;
-        assert_eq!(rt; read, only(*place), "reading {octets:?}");
+        expect_equal(&rt, &read, &only(*place));
     }
     Ok(())
 }

@@ -1,5 +1,6 @@
 //! OBJECT IDENTIFIER (X.691 24): its contents octets behind an unconstrained length, alike in both variants.
 
+use crate::expected::{expect_equal, expect_octets, expect_unread, expect_unwritten};
 use rasn_per::uper::{DecodeErrorKind, EncodeErrorKind};
 use rasn_per::{aper, uper};
 use rasn_useful::object_identifier::ObjectIdentifier;
@@ -29,9 +30,9 @@ fn writes_and_reads_aligned(rt: HostRuntime) -> Result<(), Fail> {
     for (arcs, octets) in ROWS {
         let identifier = identifier_of(rt.alloc(), arcs)?;
         let written = aper::encode(rt.alloc(), &identifier)?;
-        assert_eq!(rt; written.as_slice(), *octets, "writing {arcs:?}");
+        expect_octets(&rt, written.as_slice(), octets);
         let read: ObjectIdentifier = aper::decode(rt.alloc(), octets)?;
-        assert_eq!(rt; read.as_arcs(), *arcs, "reading {octets:?}");
+        expect_equal(&rt, &read.as_arcs(), arcs);
     }
     Ok(())
 }
@@ -41,9 +42,9 @@ fn writes_and_reads_unaligned(rt: HostRuntime) -> Result<(), Fail> {
     for (arcs, octets) in ROWS {
         let identifier = identifier_of(rt.alloc(), arcs)?;
         let written = uper::encode(rt.alloc(), &identifier)?;
-        assert_eq!(rt; written.as_slice(), *octets, "writing {arcs:?}");
+        expect_octets(&rt, written.as_slice(), octets);
         let read: ObjectIdentifier = uper::decode(rt.alloc(), octets)?;
-        assert_eq!(rt; read.as_arcs(), *arcs, "reading {octets:?}");
+        expect_equal(&rt, &read.as_arcs(), arcs);
     }
     Ok(())
 }
@@ -68,14 +69,10 @@ const REFUSED: &[(&[u8], DecodeErrorKind)] = &[
 #[test]
 fn refuses_octets(rt: HostRuntime) {
     for (octets, kind) in REFUSED {
-        match aper::decode::<ObjectIdentifier>(rt.alloc(), octets) {
-            Ok(read) => assert!(rt; false, "{octets:?} are read as {read:?}"),
-            Err(error) => assert_eq!(rt; error.kind, *kind, "at {octets:?}"),
-        }
-        match uper::decode::<ObjectIdentifier>(rt.alloc(), octets) {
-            Ok(read) => assert!(rt; false, "{octets:?} are read as {read:?}"),
-            Err(error) => assert_eq!(rt; error.kind, *kind, "at {octets:?}"),
-        }
+        let refused = aper::decode::<ObjectIdentifier>(rt.alloc(), octets).err();
+        expect_unread(&rt, octets, refused, *kind);
+        let refused = uper::decode::<ObjectIdentifier>(rt.alloc(), octets).err();
+        expect_unread(&rt, octets, refused, *kind);
     }
 }
 
@@ -86,14 +83,10 @@ const NO_OBJECTS: &[&[u32]] = &[&[], &[1], &[1, 40], &[3, 1]];
 fn refuses_arcs(rt: HostRuntime) -> Result<(), Fail> {
     for arcs in NO_OBJECTS {
         let identifier = identifier_of(rt.alloc(), arcs)?;
-        match aper::encode(rt.alloc(), &identifier) {
-            Ok(written) => assert!(rt; false, "{arcs:?} are written as {written:?}"),
-            Err(error) => assert_eq!(rt; error.kind, EncodeErrorKind::Below, "at {arcs:?}"),
-        }
-        match uper::encode(rt.alloc(), &identifier) {
-            Ok(written) => assert!(rt; false, "{arcs:?} are written as {written:?}"),
-            Err(error) => assert_eq!(rt; error.kind, EncodeErrorKind::Below, "at {arcs:?}"),
-        }
+        let refused = aper::encode(rt.alloc(), &identifier).err();
+        expect_unwritten(&rt, arcs, refused, EncodeErrorKind::Below);
+        let refused = uper::encode(rt.alloc(), &identifier).err();
+        expect_unwritten(&rt, arcs, refused, EncodeErrorKind::Below);
     }
     Ok(())
 }

@@ -1,5 +1,6 @@
 //! UTCTime (X.691 30): its canonical text (X.690 11.8) as a VisibleString without constraints.
 
+use crate::expected::{expect_equal, expect_octets, expect_unread, expect_unwritten};
 use jiff::civil::DateTime;
 use rasn_per::uper::{DecodeErrorKind, EncodeErrorKind};
 use rasn_per::{aper, uper};
@@ -36,9 +37,9 @@ fn writes_and_reads_aligned(rt: HostRuntime) -> Result<(), Fail> {
         let moment = DateTime::new(*year, *month, *day, *hour, *minute, *second, 0)?;
         let time = UtcTime::new(moment);
         let written = aper::encode(rt.alloc(), &time)?;
-        assert_eq!(rt; written.as_slice(), *aligned, "writing {moment:?}");
+        expect_octets(&rt, written.as_slice(), aligned);
         let read: UtcTime = aper::decode(rt.alloc(), aligned)?;
-        assert_eq!(rt; read.to_datetime(), moment, "reading {aligned:?}");
+        expect_equal(&rt, &read.to_datetime(), &moment);
     }
     Ok(())
 }
@@ -49,9 +50,9 @@ fn writes_and_reads_unaligned(rt: HostRuntime) -> Result<(), Fail> {
         let moment = DateTime::new(*year, *month, *day, *hour, *minute, *second, 0)?;
         let time = UtcTime::new(moment);
         let written = uper::encode(rt.alloc(), &time)?;
-        assert_eq!(rt; written.as_slice(), *unaligned, "writing {moment:?}");
+        expect_octets(&rt, written.as_slice(), unaligned);
         let read: UtcTime = uper::decode(rt.alloc(), unaligned)?;
-        assert_eq!(rt; read.to_datetime(), moment, "reading {unaligned:?}");
+        expect_equal(&rt, &read.to_datetime(), &moment);
     }
     Ok(())
 }
@@ -94,10 +95,8 @@ const REFUSED_ALIGNED: &[(&[u8], DecodeErrorKind)] = &[
 #[test]
 fn refuses_octets_aligned(rt: HostRuntime) {
     for (octets, kind) in REFUSED_ALIGNED {
-        match aper::decode::<UtcTime>(rt.alloc(), octets) {
-            Ok(read) => assert!(rt; false, "{octets:?} are read as {read:?}"),
-            Err(error) => assert_eq!(rt; error.kind, *kind, "at {octets:?}"),
-        }
+        let refused = aper::decode::<UtcTime>(rt.alloc(), octets).err();
+        expect_unread(&rt, octets, refused, *kind);
     }
 }
 
@@ -137,10 +136,8 @@ const REFUSED_UNALIGNED: &[(&[u8], DecodeErrorKind)] = &[
 #[test]
 fn refuses_octets_unaligned(rt: HostRuntime) {
     for (octets, kind) in REFUSED_UNALIGNED {
-        match uper::decode::<UtcTime>(rt.alloc(), octets) {
-            Ok(read) => assert!(rt; false, "{octets:?} are read as {read:?}"),
-            Err(error) => assert_eq!(rt; error.kind, *kind, "at {octets:?}"),
-        }
+        let refused = uper::decode::<UtcTime>(rt.alloc(), octets).err();
+        expect_unread(&rt, octets, refused, *kind);
     }
 }
 
@@ -156,14 +153,10 @@ fn refuses_moments(rt: HostRuntime) -> Result<(), Fail> {
     for ((year, month, day), nanosecond) in NO_TEXTS {
         let moment = DateTime::new(*year, *month, *day, 0, 0, 0, *nanosecond)?;
         let time = UtcTime::new(moment);
-        match aper::encode(rt.alloc(), &time) {
-            Ok(written) => assert!(rt; false, "{moment:?} is written as {written:?}"),
-            Err(error) => assert_eq!(rt; error.kind, EncodeErrorKind::Below, "at {moment:?}"),
-        }
-        match uper::encode(rt.alloc(), &time) {
-            Ok(written) => assert!(rt; false, "{moment:?} is written as {written:?}"),
-            Err(error) => assert_eq!(rt; error.kind, EncodeErrorKind::Below, "at {moment:?}"),
-        }
+        let refused = aper::encode(rt.alloc(), &time).err();
+        expect_unwritten(&rt, &moment, refused, EncodeErrorKind::Below);
+        let refused = uper::encode(rt.alloc(), &time).err();
+        expect_unwritten(&rt, &moment, refused, EncodeErrorKind::Below);
     }
     Ok(())
 }
