@@ -1,6 +1,5 @@
 //! The codes of characters in the alphabets that types and permitted characters leave (X.691 30.5).
 
-use crate::expected::{expect_each, expect_equal};
 use rasn_strings::alphabet::CharacterAlphabet;
 use rasn_strings::strings::{
     BmpString, Ia5String, NumericString, PrintableString, StaticPermittedAlphabet, VisibleString,
@@ -22,22 +21,26 @@ struct Expected {
     unused: u32,
 }
 
+fn expect_code(rt: &impl Abort, found: Option<u32>, expected: Option<u32>) {
+    assert_eq!(rt; found, expected);
+}
+
 fn expect_codes(rt: &impl Abort, alphabet: &CharacterAlphabet, codes: &[(u32, u32)]) {
     for (character, code) in codes {
-        expect_each(rt, &[alphabet.contains(*character)]);
-        expect_equal(rt, &alphabet.encode(*character), &Some(*code));
-        expect_equal(rt, &alphabet.decode(*code), &Some(*character));
+        assert!(rt; alphabet.contains(*character));
+        expect_code(rt, alphabet.encode(*character), Some(*code));
+        expect_code(rt, alphabet.decode(*code), Some(*character));
     }
 }
 
 fn expect<S: StaticPermittedAlphabet>(rt: &impl Abort, rows: &[Expected]) {
     for row in rows {
         let alphabet = CharacterAlphabet::new::<S>(row.permitted, row.aligned);
-        expect_equal(rt, &alphabet.width(), &row.width);
+        assert_eq!(rt; alphabet.width(), row.width);
         expect_codes(rt, &alphabet, row.codes);
-        expect_each(rt, &[!alphabet.contains(row.foreign)]);
-        expect_equal(rt, &alphabet.encode(row.foreign), &None);
-        expect_equal(rt, &alphabet.decode(row.unused), &None);
+        assert!(rt; !alphabet.contains(row.foreign));
+        expect_code(rt, alphabet.encode(row.foreign), None);
+        expect_code(rt, alphabet.decode(row.unused), None);
     }
 }
 

@@ -3,6 +3,7 @@
 use crate::expected::{expect_each, expect_equal, expect_octets};
 use per_bits::{BitList, BitReader};
 use std::alloc::{AllocError, Global};
+use std::process::Abort;
 use std::test::Fail;
 
 /// Bits of which no two runs of eight are alike, and the same bits turned.
@@ -72,6 +73,10 @@ fn are_same(one: &BitList<Global>, other: &BitList<Global>) -> bool {
     one.len() == other.len() && one.as_octets() == other.as_octets()
 }
 
+fn expect_bit(rt: &impl Abort, found: Option<bool>, expected: Option<bool>) {
+    assert_eq!(rt; found, expected);
+}
+
 #[test]
 fn appends_and_clears(rt: HostRuntime) -> Result<(), Fail> {
     let mut list = BitList::new(rt.alloc());
@@ -81,10 +86,12 @@ fn appends_and_clears(rt: HostRuntime) -> Result<(), Fail> {
     list.push_octets(&[0x80, 0x01])?;
     expect_equal(&rt, &list.len(), &20);
     expect_octets(&rt, list.as_octets(), &[0b1101_1000, 0, 0b0001_0000]);
-    let bits = (list.get(0), list.get(2), list.get(20));
-    expect_equal(&rt, &bits, &(Some(true), Some(false), None));
+    expect_bit(&rt, list.get(0), Some(true));
+    expect_bit(&rt, list.get(2), Some(false));
+    expect_bit(&rt, list.get(20), None);
     list.clear();
-    expect_equal(&rt, &(list.len(), list.get(0)), &(0, None));
+    expect_equal(&rt, &list.len(), &0);
+    expect_bit(&rt, list.get(0), None);
     Ok(())
 }
 
