@@ -1,7 +1,7 @@
 //! Bags whose members are no whole octets. Their order is that of the members' complete encodings, which end in zero
 //! bits; they themselves stand without these.
 
-use crate::expected::{expect_equal, expect_octets};
+use crate::expected::{expect_items, expect_octets};
 use rasn_per::{aper, uper};
 use rasn_sets::set_of::SetOf;
 use rasn_types::bit_string::BitString;
@@ -17,9 +17,9 @@ fn writes_and_reads_truth_values(rt: HostRuntime) -> Result<(), Fail> {
     let aligned = aper::encode(rt.alloc(), &bag)?;
     expect_octets(&rt, aligned.as_slice(), &[0x03, 0x60]);
     let read: SetOf<bool> = uper::decode(rt.alloc(), &[0x03, 0xc0])?;
-    expect_equal(&rt, &read.as_slice(), &[true, true, false].as_slice());
+    expect_items(&rt, read.as_slice(), &[true, true, false]);
     let read: SetOf<bool> = aper::decode(rt.alloc(), &[0x03, 0xc0])?;
-    expect_equal(&rt, &read.as_slice(), &[true, true, false].as_slice());
+    expect_items(&rt, read.as_slice(), &[true, true, false]);
     Ok(())
 }
 

@@ -1,6 +1,6 @@
 //! SET OF INTEGER, whose octets are the same in both variants: each member is whole octets.
 
-use crate::expected::{expect_equal, expect_octets, expect_unwritten};
+use crate::expected::{expect_items, expect_octets, expect_unwritten};
 use rasn_per::aper::EncodeErrorKind;
 use rasn_per::{aper, uper};
 use rasn_record::{Constraint, Constraints, constraints};
@@ -124,9 +124,9 @@ fn writes_what_is_read_the_other_way_round(rt: HostRuntime) -> Result<(), Fail> 
 fn reads_members_in_any_order(rt: HostRuntime) -> Result<(), Fail> {
     for (spelled, members, octets) in SPELLINGS {
         let unaligned: SetOf<i128> = uper::decode(rt.alloc(), spelled)?;
-        expect_equal(&rt, &unaligned.as_slice(), members);
+        expect_items(&rt, unaligned.as_slice(), members);
         let aligned: SetOf<i128> = aper::decode(rt.alloc(), spelled)?;
-        expect_equal(&rt, &aligned.as_slice(), members);
+        expect_items(&rt, aligned.as_slice(), members);
         let written = uper::encode(rt.alloc(), &unaligned)?;
         expect_octets(&rt, written.as_slice(), octets);
         let written = aper::encode(rt.alloc(), &aligned)?;

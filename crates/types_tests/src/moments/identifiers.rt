@@ -1,6 +1,6 @@
 //! OBJECT IDENTIFIER (X.691 24): its contents octets behind an unconstrained length, alike in both variants.
 
-use crate::expected::{expect_equal, expect_octets, expect_unread, expect_unwritten};
+use crate::expected::{expect_items, expect_octets, expect_unread, expect_unwritten};
 use rasn_per::uper::{DecodeErrorKind, EncodeErrorKind};
 use rasn_per::{aper, uper};
 use rasn_useful::object_identifier::ObjectIdentifier;
@@ -32,7 +32,7 @@ fn writes_and_reads_aligned(rt: HostRuntime) -> Result<(), Fail> {
         let written = aper::encode(rt.alloc(), &identifier)?;
         expect_octets(&rt, written.as_slice(), octets);
         let read: ObjectIdentifier = aper::decode(rt.alloc(), octets)?;
-        expect_equal(&rt, &read.as_arcs(), arcs);
+        expect_items(&rt, read.as_arcs(), arcs);
     }
     Ok(())
 }
@@ -44,7 +44,7 @@ fn writes_and_reads_unaligned(rt: HostRuntime) -> Result<(), Fail> {
         let written = uper::encode(rt.alloc(), &identifier)?;
         expect_octets(&rt, written.as_slice(), octets);
         let read: ObjectIdentifier = uper::decode(rt.alloc(), octets)?;
-        expect_equal(&rt, &read.as_arcs(), arcs);
+        expect_items(&rt, read.as_arcs(), arcs);
     }
     Ok(())
 }
