@@ -17,7 +17,7 @@ pub(crate) struct Ran {
 }
 
 /// The words of a text.
-fn words(alloc: Global, text: &str) -> Result<Vec<String>, AllocError> {
+pub(crate) fn words(alloc: Global, text: &str) -> Result<Vec<String>, AllocError> {
     let mut words = Vec::new(alloc);
     for word in text.split_ascii_whitespace() {
         words.push(String::from_str(alloc, word)?)?;
@@ -43,21 +43,10 @@ pub(crate) fn told<R: BufRead, W: io::Write>(
     input: &mut R,
     output: &mut W,
 ) -> Result<(u8, Vec<u8>), AllocError> {
-    let mut faults = Vec::new(alloc);
-    let status = status_of(alloc, arguments, input, output, &mut faults)?;
-    Ok((status, faults))
-}
-
-/// The status of a run with these words as its arguments. No other test calls `run`, since each call costs its proof.
-pub(crate) fn status_of<R: BufRead, W: io::Write, F: io::Write>(
-    alloc: Global,
-    arguments: &str,
-    input: &mut R,
-    output: &mut W,
-    faults: &mut F,
-) -> Result<u8, AllocError> {
     let arguments = words(alloc, arguments)?;
-    Ok(run(alloc, arguments.as_slice(), input, output, faults))
+    let mut faults = Vec::new(alloc);
+    let status = run(alloc, arguments.as_slice(), input, output, &mut faults);
+    Ok((status, faults))
 }
 
 /// A run has this status, printed this and said this.

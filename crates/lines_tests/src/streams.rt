@@ -1,7 +1,8 @@
 //! Readers and writers that fail, and what the program does then; when it reads and writes.
 
 use crate::lines::USAGE;
-use crate::runs::{status_of, told};
+use crate::runs::{told, words};
+use per_lines::run::run;
 use std::alloc::{AllocError, Global};
 use std::cell::Cell;
 use std::io;
@@ -91,15 +92,16 @@ fn tells_wrong_arguments_before_it_reads(rt: HostRuntime) -> Result<(), Fail> {
 
 #[test]
 fn leaves_what_follows_the_line(rt: HostRuntime) -> Result<(), Fail> {
+    let arguments = words(rt.alloc(), "uper integer")?;
     let mut input = b"021000\n0105\n".as_slice();
     let mut output = Vec::new(rt.alloc());
-    let status = status_of(
+    let status = run(
         rt.alloc(),
-        "uper integer",
+        arguments.as_slice(),
         &mut input,
         &mut output,
         &mut FullWriter,
-    )?;
+    );
     assert_eq!(rt; status, 0);
     assert_eq!(rt; output.as_slice(), b"021000\n".as_slice());
     assert_eq!(rt; input, b"0105\n".as_slice());
@@ -274,23 +276,26 @@ const UNTOLD: &[(&str, &[u8], u8)] = &[
 ];
 
 /// The status of a run that prints nothing and can say so much.
-fn status_within(
-    alloc: Global,
-    arguments: &str,
-    mut input: &[u8],
-    room: usize,
-) -> Result<u8, AllocError> {
+fn status_of(alloc: Global, arguments: &str, input: &[u8], room: usize) -> Result<u8, AllocError> {
     let kind = ErrorKind::BrokenPipe;
+    let arguments = words(alloc, arguments)?;
+    let mut input = input;
     let mut output = BrokenWriter { room: 0, kind };
     let mut faults = BrokenWriter { room, kind };
-    status_of(alloc, arguments, &mut input, &mut output, &mut faults)
+    Ok(run(
+        alloc,
+        arguments.as_slice(),
+        &mut input,
+        &mut output,
+        &mut faults,
+    ))
 }
 
 #[test]
 fn keeps_its_status_where_faults_cannot_be_told(rt: HostRuntime) {
     for (arguments, input, status) in UNTOLD {
         for room in [0, 1, 4] {
-            let answered = status_within(rt.alloc(), arguments, input, room);
+            let answered = status_of(rt.alloc(), arguments, input, room);
             assert_eq!(rt; answered, Ok(*status));
         }
     }

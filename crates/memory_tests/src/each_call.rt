@@ -20,42 +20,22 @@ use std::process::Abort;
 
 /// Whether a reading was refused, which is for want of memory.
 fn is_unread(rt: &impl Abort, codec: Codec, error: Option<DecodeError>) -> bool {
-    let Some(error) = error else {
-        return false;
-    };
-    let is_memory = matches!(error.kind, DecodeErrorKind::OutOfMemory);
-    assert!(rt; is_memory && error.codec == codec, "{error:?}");
-    true
+    let kind = DecodeErrorKind::OutOfMemory;
+    assert!(rt;
+        error.is_none() || error == Some(DecodeError { kind, codec }),
+        "{error:?}"
+    );
+    error.is_some()
 }
 
 /// Whether a value was refused, which is for want of memory.
 fn is_unwritten(rt: &impl Abort, codec: Codec, error: Option<EncodeError>) -> bool {
-    let Some(error) = error else {
-        return false;
-    };
-    let is_memory = matches!(error.kind, EncodeErrorKind::OutOfMemory);
-    assert!(rt; is_memory && error.codec == codec, "{error:?}");
-    true
-}
-
-/// Whether an error says that a decoder of the variant had failed before.
-fn had_decoder_failed(codec: Codec, error: Option<DecodeError>) -> bool {
-    match error {
-        Some(error) => {
-            matches!(error.kind, DecodeErrorKind::AlreadyFailed) && error.codec == codec
-        }
-        None => false,
-    }
-}
-
-/// Whether an error says that an encoder of the variant had failed before.
-fn had_encoder_failed(codec: Codec, error: Option<EncodeError>) -> bool {
-    match error {
-        Some(error) => {
-            matches!(error.kind, EncodeErrorKind::AlreadyFailed) && error.codec == codec
-        }
-        None => false,
-    }
+    let kind = EncodeErrorKind::OutOfMemory;
+    assert!(rt;
+        error.is_none() || error == Some(EncodeError { kind, codec }),
+        "{error:?}"
+    );
+    error.is_some()
 }
 
 /// Whether one of the calls that read all octets, or their front, was refused.
@@ -89,9 +69,10 @@ fn is_refused_by_decoder<T: Decode>(
     };
     let mut decoder = Decoder::from_reader(alloc, BitReader::from_octets(octets), options);
     let error = T::decode(&mut decoder).err();
+    let kind = DecodeErrorKind::AlreadyFailed;
     if error.is_some() {
         let again = decoder.decode_null(Tag::NULL).err();
-        assert!(rt; had_decoder_failed(codec, again), "{again:?}");
+        assert_eq!(rt; again, Some(DecodeError { kind, codec }));
     }
     is_unread(rt, codec, error)
 }
@@ -138,9 +119,10 @@ fn is_refused_by_encoder<T: Encode>(
     };
     let mut encoder = Encoder::new(alloc, options);
     let error = value.encode(&mut encoder).err();
+    let kind = EncodeErrorKind::AlreadyFailed;
     if error.is_some() {
         let again = encoder.encode_null(Tag::NULL, Identifier::EMPTY).err();
-        assert!(rt; had_encoder_failed(codec, again), "{again:?}");
+        assert_eq!(rt; again, Some(EncodeError { kind, codec }));
     }
     is_unwritten(rt, codec, error)
 }

@@ -1,8 +1,8 @@
 //! After a refusal of each kind the same encoder or decoder says AlreadyFailed, also to what takes no bits.
 
 use per_bits::BitReader;
-use per_de::{DecodeError, Decoder, DecoderOptions};
-use per_enc::{EncodeError, Encoder, EncoderOptions};
+use per_de::{DecodeError, DecodeErrorKind, Decoder, DecoderOptions};
+use per_enc::{EncodeError, EncodeErrorKind, Encoder, EncoderOptions};
 use per_samples_a::bounded::OneToTenExtensible;
 use per_samples_a::half_bounded::FromMinusOne;
 use per_samples_b::strings::LettersAToE;
@@ -34,7 +34,7 @@ fn expect_failed(
 ) {
     assert_eq!(rt; error.map(|e| e.kind.name()), Some(name));
     let again = decoder.decode_null(Tag::NULL).err();
-    assert_eq!(rt; again.map(|e| e.kind.name()), Some("AlreadyFailed"));
+    assert_eq!(rt; again.map(|e| e.kind), Some(DecodeErrorKind::AlreadyFailed));
 }
 
 /// A decoder refuses octets of a type with a kind of this name, and refuses again.
@@ -106,7 +106,7 @@ fn expect_unwritten(
 ) {
     assert_eq!(rt; error.map(|e| e.kind.name()), Some(name));
     let again = encoder.encode_null(Tag::NULL, Identifier::EMPTY).err();
-    assert_eq!(rt; again.map(|e| e.kind.name()), Some("AlreadyFailed"));
+    assert_eq!(rt; again.map(|e| e.kind), Some(EncodeErrorKind::AlreadyFailed));
 }
 
 /// An encoder in the UNALIGNED variant.

@@ -1,6 +1,5 @@
 //! Components that may be absent and values under an explicit tag, by the calls that a closure makes, and REAL.
 
-use crate::expected::expect_unread;
 use per_bits::BitReader;
 use per_de::{Decoder, DecoderOptions};
 use per_read::error::{DecodeError, DecodeErrorKind};
@@ -79,8 +78,14 @@ fn reads_no_explicit_tag(rt: HostRuntime) -> Result<(), Fail> {
 #[test]
 fn refuses_real(rt: HostRuntime) {
     let mut decoder = unaligned(rt.alloc(), &[0x00]);
-    let refused = decoder.decode_real(Tag::REAL, &Constraints::NONE).err();
-    expect_unread(&rt, refused, DecodeErrorKind::RealNotSupported);
-    let again = decoder.decode_real(Tag::REAL, &Constraints::NONE).err();
-    expect_unread(&rt, again, DecodeErrorKind::AlreadyFailed);
+    let refused = decoder.decode_real(Tag::REAL, &Constraints::NONE);
+    assert_eq!(rt;
+        refused.err().map(|error| error.kind),
+        Some(DecodeErrorKind::RealNotSupported)
+    );
+    let again = decoder.decode_real(Tag::REAL, &Constraints::NONE);
+    assert_eq!(rt;
+        again.err().map(|error| error.kind),
+        Some(DecodeErrorKind::AlreadyFailed)
+    );
 }

@@ -1,7 +1,6 @@
 //! What a `Decoder` does from call to call: that it reads values behind one another, how deep records may stand, and
 //! that it refuses every call once it has failed.
 
-use crate::expected::{expect_equal, expect_unread};
 use per_bits::{BitList, BitReader};
 use per_de::{Decoder, DecoderOptions, Scope};
 use per_read::error::{DecodeError, DecodeErrorKind};
@@ -28,7 +27,7 @@ fn reads_values_behind_one_another(rt: HostRuntime) -> Result<(), Fail> {
     let number: i128 = decoder.decode_integer(Tag::INTEGER, &Constraints::NONE)?;
     let left = decoder.input().len();
     let last = decoder.decode_bool(Tag::BOOL)?;
-    expect_equal(&rt, &(first, number, left, last), &(true, 5, 7, false));
+    assert_eq!(rt; (first, number, left, last), (true, 5, 7, false));
     Ok(())
 }
 
@@ -38,6 +37,14 @@ fn hands_out_its_allocator(rt: HostRuntime) -> Result<(), Fail> {
     let octets = Vec::from_slice(decoder.alloc(), &[0x01, 0x02])?;
     assert_eq!(rt; octets.as_slice(), [0x01, 0x02].as_slice());
     Ok(())
+}
+
+/// An error in the UNALIGNED variant.
+pub fn refusal(kind: DecodeErrorKind) -> DecodeError {
+    DecodeError {
+        kind,
+        codec: Codec::Uper,
+    }
 }
 
 /// Opens so many records, and answers the innermost of them.
@@ -53,10 +60,13 @@ pub fn open_many(decoder: &mut Decoder<'_>, count: u32) -> Result<Option<Scope>,
 fn takes_a_level_for_each_record(rt: HostRuntime) -> Result<(), Fail> {
     let mut decoder = unaligned(rt.alloc(), &[0xa0]);
     let innermost = open_many(&mut decoder, 128)?.ok_or("a scope was opened")?;
-    let deeper = open_many(&mut decoder, 1).err();
-    expect_unread(&rt, deeper, DecodeErrorKind::ExceedsMaxParseDepth);
-    let closed = decoder.close_sequence(innermost).err();
-    expect_unread(&rt, closed, DecodeErrorKind::AlreadyFailed);
+    let deeper = open_many(&mut decoder, 1);
+    assert_eq!(rt;
+        deeper.err(),
+        Some(refusal(DecodeErrorKind::ExceedsMaxParseDepth))
+    );
+    let closed = decoder.close_sequence(innermost);
+    assert_eq!(rt; closed.err(), Some(refusal(DecodeErrorKind::AlreadyFailed)));
     Ok(())
 }
 
@@ -70,8 +80,11 @@ fn gives_a_level_back(rt: HostRuntime) -> Result<(), Fail> {
     let second = decoder.decode_bool(Tag::BOOL)?;
     let again = open_many(&mut decoder, 1)?;
     assert!(rt; first && !second && again.is_some() && decoder.input().len() == 6);
-    let deeper = open_many(&mut decoder, 1).err();
-    expect_unread(&rt, deeper, DecodeErrorKind::ExceedsMaxParseDepth);
+    let deeper = open_many(&mut decoder, 1);
+    assert_eq!(rt;
+        deeper.err(),
+        Some(refusal(DecodeErrorKind::ExceedsMaxParseDepth))
+    );
     Ok(())
 }
 
@@ -80,37 +93,39 @@ fn refuses_after_a_failed_scope(rt: HostRuntime) {
     let mut decoder = unaligned(rt.alloc(), &[0x80]);
     decoder.fail();
     let opened = open_many(&mut decoder, 1);
-    expect_unread(&rt, opened.err(), DecodeErrorKind::AlreadyFailed);
+    assert_eq!(rt; opened.err(), Some(refusal(DecodeErrorKind::AlreadyFailed)));
 }
 
 #[test]
 fn refuses_after_a_refusal(rt: HostRuntime) {
     let mut decoder = unaligned(rt.alloc(), &[]);
     let first = decoder.decode_bool(Tag::BOOL).err();
-    expect_unread(&rt, first, DecodeErrorKind::Incomplete(1));
+    assert_eq!(rt; first, Some(refusal(DecodeErrorKind::Incomplete(1))));
+    let again = Some(refusal(DecodeErrorKind::AlreadyFailed));
     let number: Result<i128, DecodeError> = decoder.decode_integer(
         Tag::INTEGER,
         &Constraints::NONE,
     );
-    expect_unread(&rt, number.err(), DecodeErrorKind::AlreadyFailed);
-    let truth = decoder.decode_bool(Tag::BOOL).err();
-    expect_unread(&rt, truth, DecodeErrorKind::AlreadyFailed);
-    let null = decoder.decode_null(Tag::NULL).err();
-    expect_unread(&rt, null, DecodeErrorKind::AlreadyFailed);
+    assert_eq!(rt; number.err(), again);
+    assert_eq!(rt; decoder.decode_bool(Tag::BOOL).err(), again);
+    assert_eq!(rt; decoder.decode_null(Tag::NULL).err(), again);
 }
 
 #[test]
 fn refuses_once_memory_ran_out(rt: HostRuntime) {
     let mut decoder = unaligned(rt.alloc(), &[0x00]);
     let error = decoder.out_of_memory();
-    expect_unread(&rt, Some(error), DecodeErrorKind::OutOfMemory);
+    assert_eq!(rt; error, refusal(DecodeErrorKind::OutOfMemory));
     let octets = decoder.decode_any(Tag::OCTET_STRING);
-    expect_unread(&rt, octets.err(), DecodeErrorKind::AlreadyFailed);
+    assert_eq!(rt; octets.err(), Some(refusal(DecodeErrorKind::AlreadyFailed)));
 }
 
 #[test]
 fn refuses_octets_that_are_no_text(rt: HostRuntime) {
     let mut decoder = unaligned(rt.alloc(), &[0x02, 0xc3, 0x28]);
     let text = decoder.decode_utf8_string(Tag::UTF8_STRING, &Constraints::NONE);
-    expect_unread(&rt, text.err(), DecodeErrorKind::StringConversionFailed);
+    assert_eq!(rt;
+        text.err(),
+        Some(refusal(DecodeErrorKind::StringConversionFailed))
+    );
 }

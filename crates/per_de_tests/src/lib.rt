@@ -11,8 +11,6 @@ mod decoder;
 #[cfg(test)]
 mod errors;
 #[cfg(test)]
-mod expected;
-#[cfg(test)]
 mod lists;
 #[cfg(test)]
 mod numbers;

@@ -1,7 +1,6 @@
 //! Worked encodings of lists, counts that are refused, and the level that a list takes.
 
-use crate::decoder::{open_many, unaligned};
-use crate::expected::expect_unread;
+use crate::decoder::{open_many, refusal, unaligned};
 use per_read::error::{DecodeError, DecodeErrorKind, ParserFailCause};
 use rasn_codec::codec::Decode;
 use rasn_record::{Constraint, Constraints, constraints};
@@ -62,7 +61,7 @@ fn reads_lists(rt: HostRuntime) -> Result<(), Fail> {
 fn refuses_lists(rt: HostRuntime) {
     for (size, encoding, kind) in REFUSED {
         let values = list_of::<()>(rt.alloc(), size, encoding);
-        expect_unread(&rt, values.err(), *kind);
+        assert_eq!(rt; values.err(), Some(refusal(*kind)));
     }
 }
 
@@ -103,6 +102,9 @@ fn gives_the_level_of_a_list_back(rt: HostRuntime) -> Result<(), Fail> {
     let empty: Vec<Vec<bool>> = Vec::decode(&mut decoder)?;
     assert!(rt; empty.is_empty());
     let too_deep: Result<Vec<Vec<bool>>, DecodeError> = Vec::decode(&mut decoder);
-    expect_unread(&rt, too_deep.err(), DecodeErrorKind::ExceedsMaxParseDepth);
+    assert_eq!(rt;
+        too_deep.err(),
+        Some(refusal(DecodeErrorKind::ExceedsMaxParseDepth))
+    );
     Ok(())
 }

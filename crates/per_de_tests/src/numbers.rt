@@ -1,6 +1,5 @@
 //! INTEGER in worked encodings of both variants, by `Reader`.
 
-use crate::expected::{expect_equal, expect_refused};
 use crate::padding::any_padding;
 use per_bits::BitReader;
 use per_read::Reader;
@@ -192,19 +191,18 @@ fn reads_fragments(rt: HostRuntime) -> Result<(), Fail> {
     if let [first, .., length, last] = octets.as_mut_slice() {
         (*first, *length, *last) = (0xc1, 0x01, 0x05);
     }
-    let number: (i128, u128) = number_of(rt.alloc(), Codec::Uper, NO_CONSTRAINT, &octets)?;
-    expect_equal(&rt, &number, &(5, 0));
+    let number = number_of::<i128>(rt.alloc(), Codec::Uper, NO_CONSTRAINT, &octets);
+    assert_eq!(rt; number, Ok((5, 0)));
     Ok(())
 }
 
 // a lower bound that doesn't fit the type refuses nothing by itself
 #[test]
-fn fits_a_number_behind_its_bounds(rt: HostRuntime) -> Result<(), Fail> {
-    let number: (u8, u128) = number_of(rt.alloc(), Codec::Uper, FROM_MINUS_1_TO_254, &[0x06])?;
-    expect_equal(&rt, &number, &(5, 0));
-    let refused = number_of::<u8>(rt.alloc(), Codec::Uper, FROM_MINUS_1_TO_254, &[0x00]).err();
-    expect_refused(&rt, &[0x00], refused, DecodeErrorKind::IntegerOverflow(8));
-    Ok(())
+fn fits_a_number_behind_its_bounds(rt: HostRuntime) {
+    let number = number_of::<u8>(rt.alloc(), Codec::Uper, FROM_MINUS_1_TO_254, &[0x06]);
+    assert_eq!(rt; number, Ok((5, 0)));
+    let number = number_of::<u8>(rt.alloc(), Codec::Uper, FROM_MINUS_1_TO_254, &[0x00]);
+    assert_eq!(rt; number, Err(DecodeErrorKind::IntegerOverflow(8)));
 }
 
 // X.691 11.9.3.3: the length begins on an octet
