@@ -9,8 +9,6 @@ mod encoder;
 #[cfg(test)]
 mod errors;
 #[cfg(test)]
-mod expected;
-#[cfg(test)]
 mod lengths;
 #[cfg(test)]
 mod lists;

@@ -1,6 +1,5 @@
 //! Worked encodings of lists, and a count that is refused.
 
-use crate::expected::expect_unwritten;
 use per_enc::{EncodeError, EncodeErrorKind, Encoder, EncoderOptions};
 use rasn_codec::codec::Encode;
 use rasn_record::{Constraint, Constraints, constraints};
@@ -45,6 +44,6 @@ fn refuses_a_count_out_of_size(rt: HostRuntime) -> Result<(), Fail> {
     let values = nulls(rt.alloc(), 301)?;
     let encoding = encoding_of(rt.alloc(), &values, Constraints::new(FROM_1_TO_300));
     let kind = EncodeErrorKind::SizeConstraintNotSatisfied(301, Some(1), Some(300));
-    expect_unwritten(&rt, encoding.err(), kind);
+    assert_eq!(rt; encoding.err().map(|error| error.kind), Some(kind));
     Ok(())
 }
