@@ -1,6 +1,6 @@
 //! Bits by words, against the same bits pushed one by one: at each place of an octet and each width.
 
-use crate::expected::expect_octets;
+use crate::expected::{expect_each, expect_equal, expect_octets};
 use per_bits::{BitList, BitReader};
 use std::alloc::{AllocError, Global};
 use std::process::Abort;
@@ -80,17 +80,17 @@ fn expect_bit(rt: &impl Abort, found: Option<bool>, expected: Option<bool>) {
 #[test]
 fn appends_and_clears(rt: HostRuntime) -> Result<(), Fail> {
     let mut list = BitList::new(rt.alloc());
-    assert!(rt; list.is_empty());
+    expect_each(&rt, &[list.is_empty()]);
     list.push(true)?;
     list.push_bits(0b1101, 3)?;
     list.push_octets(&[0x80, 0x01])?;
-    assert_eq!(rt; list.len(), 20);
+    expect_equal(&rt, &list.len(), &20);
     expect_octets(&rt, list.as_octets(), &[0b1101_1000, 0, 0b0001_0000]);
     expect_bit(&rt, list.get(0), Some(true));
     expect_bit(&rt, list.get(2), Some(false));
     expect_bit(&rt, list.get(20), None);
     list.clear();
-    assert_eq!(rt; list.len(), 0);
+    expect_equal(&rt, &list.len(), &0);
     expect_bit(&rt, list.get(0), None);
     Ok(())
 }
@@ -103,7 +103,7 @@ fn fills_the_last_octet_with_zeros(rt: HostRuntime) -> Result<(), Fail> {
     list.push_bits(0b01, 2)?;
     expect_octets(&rt, list.as_octets(), &[0b1110_1000]);
     list.push_bits(0x8000_0000_0000_0001, 64)?;
-    assert_eq!(rt; list.len(), 69);
+    expect_equal(&rt, &list.len(), &69);
     let octets = list.into_octets();
     let expected = &[0b1110_1100, 0, 0, 0, 0, 0, 0, 0, 0b0000_1000];
     expect_octets(&rt, octets.as_slice(), expected);
@@ -126,10 +126,13 @@ fn takes_from_the_front(rt: HostRuntime) -> Result<(), Fail> {
     let mut reader = BitReader::new(&list);
     let (front, first) = front_of(&mut reader, 3).ok_or("three of eight bits are there")?;
     let mut second = reader.clone()?;
-    assert_eq!(rt; (front.len(), first, second.len()), (3, 0b101, 5));
-    assert_eq!(rt; (second.take(9).err(), second.len()), (Some(4), 5));
+    expect_equal(&rt, &(front.len(), first, second.len()), &(3, 0b101, 5));
+    expect_equal(&rt, &(second.take(9).err(), second.len()), &(Some(4), 5));
     let (_, rest) = front_of(&mut second, 5).ok_or("five bits are left")?;
-    assert!(rt; rest == 0b00101 && second.is_empty() && !reader.is_empty());
+    expect_each(
+        &rt,
+        &[rest == 0b00101, second.is_empty(), !reader.is_empty()],
+    );
     Ok(())
 }
 

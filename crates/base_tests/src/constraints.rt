@@ -1,5 +1,6 @@
 //! Worked bounds, and lists of constraints.
 
+use crate::expected::expect_each;
 use either::{Left, Right};
 use rasn_constraints::constraints::{Bounded, Constraint, Constraints, Extensible};
 
@@ -37,7 +38,8 @@ fn ends_of_bounds(rt: HostRuntime) {
     let none = Bounded::<i128>::None.start_and_end() == (None, None);
     let single = SEVEN.start_and_end() == (Some(7), Some(7));
     let range = ONE_TO_THREE.start_and_end() == (Some(1), Some(3));
-    assert!(rt; none && single && range && UP_TO_65535.start_and_end() == (None, Some(65535)));
+    let open = UP_TO_65535.start_and_end() == (None, Some(65535));
+    expect_each(&rt, &[none, single, range, open]);
 }
 
 /// Bounds, a number, and whether it is within them.
@@ -58,7 +60,10 @@ fn contains_both_ends(rt: HostRuntime) {
     for (bounds, number, within) in CONTAINED {
         assert_eq!(rt; bounds.contains(number), *within, "{number} in {bounds:?}");
     }
-    assert!(rt; ONE_TO_THREE.contains(&3) && !ONE_TO_THREE.contains(&4));
+    expect_each(
+        &rt,
+        &[ONE_TO_THREE.contains(&3), !ONE_TO_THREE.contains(&4)],
+    );
 }
 
 /// Bounds, and how many numbers are within them.
@@ -77,7 +82,7 @@ fn counts_values(rt: HostRuntime) {
     for (bounds, count) in COUNTED {
         assert_eq!(rt; bounds.range(), *count, "in {bounds:?}");
     }
-    assert_eq!(rt; ONE_TO_THREE.range(), Some(3));
+    expect_each(&rt, &[ONE_TO_THREE.range() == Some(3)]);
 }
 
 #[test]
@@ -85,7 +90,8 @@ fn distances_from_the_start(rt: HostRuntime) {
     let below = UP_TO_65535.effective_value(-128) == Right(-128);
     let one = FROM_MINUS_10_TO_400.effective_value(-9) == Left(1);
     let two = ONE_TO_THREE.effective_value(3) == Left(2);
-    assert!(rt; below && one && two && FROM_MINUS_1.effective_value(4096) == Left(4097));
+    let far = FROM_MINUS_1.effective_value(4096) == Left(4097);
+    expect_each(&rt, &[below, one, two, far]);
 }
 
 const LETTERS: &[u32] = &[65, 66];
@@ -120,8 +126,8 @@ fn the_first_of_each_kind(rt: HostRuntime) {
     let value = listed.value() == Some(Extensible::new_extensible(SEVEN));
     let size = listed.size() == Some(Extensible::new(Bounded::Single(4)));
     let alphabet = listed.permitted_alphabet() == Some(Extensible::new(LETTERS));
-    assert!(rt; value && size && alphabet);
+    expect_each(&rt, &[value, size, alphabet]);
     let none = Constraints::NONE;
     let (value, size, alphabet) = (none.value(), none.size(), none.permitted_alphabet());
-    assert!(rt; value.is_none() && size.is_none() && alphabet.is_none());
+    expect_each(&rt, &[value.is_none(), size.is_none(), alphabet.is_none()]);
 }

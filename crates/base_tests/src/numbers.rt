@@ -1,6 +1,6 @@
 //! Whole numbers as octets, how wide they are, and the types that hold them.
 
-use crate::expected::expect_octets;
+use crate::expected::{expect_each, expect_equal, expect_octets, expect_text};
 use rasn_constraints::integer_type::IntegerType;
 use rasn_types::big::Integer;
 use rasn_types::integer::{signed_octets_of, whole_of_octets};
@@ -59,7 +59,7 @@ fn writes_and_reads_the_fewest_octets(rt: HostRuntime) -> Result<(), AllocError>
     for (number, octets) in NUMBERS {
         let written = signed_octets_of(rt.alloc(), *number)?;
         expect_octets(&rt, written.as_slice(), octets);
-        assert_eq!(rt; whole_of_octets(octets), Some(*number));
+        expect_equal(&rt, &whole_of_octets(octets), &Some(*number));
     }
     Ok(())
 }
@@ -67,7 +67,7 @@ fn writes_and_reads_the_fewest_octets(rt: HostRuntime) -> Result<(), AllocError>
 #[test]
 fn reads_other_octets(rt: HostRuntime) {
     for (octets, number) in OTHERS {
-        assert_eq!(rt; whole_of_octets(octets), *number);
+        expect_equal(&rt, &whole_of_octets(octets), number);
     }
 }
 
@@ -104,10 +104,10 @@ const GREATEST_NUMBERS: &[(u128, u128)] = &[
 #[test]
 fn width_is_the_least(rt: HostRuntime) {
     for (count, width) in COUNTS {
-        assert_eq!(rt; width_of(*count), *width, "at {count}");
+        expect_equal(&rt, &(*count, width_of(*count)), &(*count, *width));
     }
     for (greatest, width) in GREATEST_NUMBERS {
-        assert_eq!(rt; width_to(*greatest), *width, "at {greatest}");
+        expect_equal(&rt, &(*greatest, width_to(*greatest)), &(*greatest, *width));
     }
 }
 
@@ -134,7 +134,8 @@ const HELD: &[(&[u8], &[u8], Option<i128>)] = &[
 fn holds_numbers_of_any_size(rt: HostRuntime) -> Result<(), AllocError> {
     for (octets, fewest, number) in HELD {
         let (written, held) = held(rt.alloc(), octets)?;
-        assert_eq!(rt; (written.as_slice(), held), (*fewest, *number));
+        expect_octets(&rt, written.as_slice(), fewest);
+        expect_equal(&rt, &held, number);
     }
     Ok(())
 }
@@ -147,7 +148,8 @@ fn equals_the_same_number_only(rt: HostRuntime) -> Result<(), AllocError> {
     let again = Integer::from_signed_octets(rt.alloc(), superfluous)?;
     let above = Integer::from_signed_octets(rt.alloc(), ABOVE)?;
     let below = Integer::from_signed_octets(rt.alloc(), BELOW)?;
-    assert!(rt; again == above && above != below && above != Integer::from(i128::MIN));
+    let least = Integer::from(i128::MIN);
+    expect_each(&rt, &[again == above, above != below, above != least]);
     Ok(())
 }
 
@@ -158,9 +160,10 @@ fn prints_numbers(rt: HostRuntime) -> Result<(), Fail> {
         Integer::from_signed_octets(rt.alloc(), ABOVE)?,
     );
     let printed = format!(in rt.alloc(); "{small:?}, {large:?}")?;
-    assert_eq!(rt;
+    expect_text(
+        &rt,
         printed.as_str(),
-        "Primitive(-5), Variable([0, 128, 0, 0, 0, 0, 0, 0, 0, 0, 0, 0, 0, 0, 0, 0, 0])"
+        "Primitive(-5), Variable([0, 128, 0, 0, 0, 0, 0, 0, 0, 0, 0, 0, 0, 0, 0, 0, 0])",
     );
     Ok(())
 }
@@ -184,12 +187,12 @@ fn ends_of_the_types(rt: HostRuntime) {
         (-9223372036854775809, 9223372036854775808),
     );
     let i128s = holds::<i128>(i128::MIN) && holds::<i128>(i128::MAX);
-    assert!(rt; i8s && i16s && i32s && i64s && i128s);
+    expect_each(&rt, &[i8s, i16s, i32s, i64s, i128s]);
     let u8s = ends_at::<u8>((0, 255), (-1, 256));
     let u16s = ends_at::<u16>((0, 65535), (-1, 65536));
     let u32s = ends_at::<u32>((0, 4294967295), (-1, 4294967296));
     let u64s = ends_at::<u64>((0, 18446744073709551615), (-1, 18446744073709551616));
-    assert!(rt; u8s && u16s && u32s && u64s);
+    expect_each(&rt, &[u8s, u16s, u32s, u64s]);
 }
 
 /// The number that a type reads from octets, where it holds it.
@@ -213,10 +216,14 @@ fn is_written_as<I: IntegerType>(
 #[test]
 fn octets_of_the_types(rt: HostRuntime) {
     let alloc = rt.alloc();
-    assert_eq!(rt; read::<u8>(alloc, &[0x00, 0xff]), Ok(Some(255)));
-    assert_eq!(rt; read::<u8>(alloc, &[0xff]), Ok(None));
-    assert_eq!(rt; read::<i8>(alloc, &[0xff]), Ok(Some(-1)));
-    assert_eq!(rt; read::<i8>(alloc, &[0x00, 0x80]), Ok(None));
-    assert_eq!(rt; is_written_as(alloc, 255u8, &[0x00, 0xff]), Ok(true));
-    assert_eq!(rt; is_written_as(alloc, -129i64, &[0xff, 0x7f]), Ok(true));
+    expect_equal(&rt, &read::<u8>(alloc, &[0x00, 0xff]), &Ok(Some(255)));
+    expect_equal(&rt, &read::<u8>(alloc, &[0xff]), &Ok(None));
+    expect_equal(&rt, &read::<i8>(alloc, &[0xff]), &Ok(Some(-1)));
+    expect_equal(&rt, &read::<i8>(alloc, &[0x00, 0x80]), &Ok(None));
+    expect_equal(&rt, &is_written_as(alloc, 255u8, &[0x00, 0xff]), &Ok(true));
+    expect_equal(
+        &rt,
+        &is_written_as(alloc, -129i64, &[0xff, 0x7f]),
+        &Ok(true),
+    );
 }

@@ -1,6 +1,6 @@
 //! The types that hold octets and bits.
 
-use crate::expected::expect_octets;
+use crate::expected::{expect_each, expect_equal, expect_octets, expect_text};
 use rasn_types::bit_string::BitString;
 use rasn_types::octet_strings::{Any, GeneralString, GraphicString, OctetString, TeletexString};
 use std::alloc::AllocError;
@@ -13,7 +13,7 @@ const OCTETS: [u8; 6] = [0x0a, 0x3b, 0x5f, 0x29, 0x1c, 0xd0];
 fn keeps_the_first_bits(rt: HostRuntime) -> Result<(), AllocError> {
     let more = [0x0a, 0x3b, 0x5f, 0x29, 0x1c, 0xdf, 0xff];
     let bits = BitString::from_octets(rt.alloc(), &more, 44)?;
-    assert_eq!(rt; bits.len(), 44);
+    expect_each(&rt, &[bits.len() == 44]);
     expect_octets(&rt, bits.as_octets(), &OCTETS);
     Ok(())
 }
@@ -24,7 +24,7 @@ fn compares_bits(rt: HostRuntime) -> Result<(), AllocError> {
     let same = BitString::from_octets(rt.alloc(), &OCTETS, 44)?;
     let longer = BitString::from_octets(rt.alloc(), &OCTETS, 45)?;
     let longest = BitString::from_octets(rt.alloc(), &OCTETS, 48)?;
-    assert!(rt; bits == same && bits != longer && bits != longest);
+    expect_each(&rt, &[bits == same, bits != longer, bits != longest]);
     Ok(())
 }
 
@@ -32,10 +32,13 @@ fn compares_bits(rt: HostRuntime) -> Result<(), AllocError> {
 fn gets_each_bit(rt: HostRuntime) -> Result<(), AllocError> {
     let bits = BitString::from_octets(rt.alloc(), &[0b1010_0000, 0b0000_0001], 16)?;
     for index in 0..16 {
-        let expected = index == 0 || index == 2 || index == 15;
-        assert_eq!(rt; bits.get(index), Some(expected), "at {index}");
+        let expected = [0, 2, 15].contains(&index);
+        expect_equal(&rt, &(index, bits.get(index)), &(index, Some(expected)));
     }
-    assert!(rt; bits.get(16).is_none() && bits.get(usize::MAX).is_none());
+    expect_each(
+        &rt,
+        &[bits.get(16).is_none(), bits.get(usize::MAX).is_none()],
+    );
     Ok(())
 }
 
@@ -53,7 +56,7 @@ fn pushes_bits(rt: HostRuntime) -> Result<(), Fail> {
             bits.push(bit)?;
         }
     }
-    assert!(rt; was_empty && !bits.is_empty() && bits == all);
+    expect_each(&rt, &[was_empty, !bits.is_empty(), bits == all]);
     Ok(())
 }
 
@@ -62,9 +65,10 @@ fn prints_octets_and_bits(rt: HostRuntime) -> Result<(), Fail> {
     let bits = BitString::from_octets(rt.alloc(), &[0xff], 3)?;
     let octets = OctetString::new(Vec::from_slice(rt.alloc(), &[0x00, 0xff])?);
     let printed = format!(in rt.alloc(); "{bits:?}, {octets:?}")?;
-    assert_eq!(rt;
+    expect_text(
+        &rt,
         printed.as_str(),
-        "BitString { octets: [224], len: 3 }, OctetString { octets: [0, 255] }"
+        "BitString { octets: [224], len: 3 }, OctetString { octets: [0, 255] }",
     );
     Ok(())
 }
@@ -74,7 +78,10 @@ fn holds_octets(rt: HostRuntime) -> Result<(), Fail> {
     let octets = OctetString::new(Vec::from_slice(rt.alloc(), &[0x00, 0xff])?);
     let other = OctetString::from(Vec::from_slice(rt.alloc(), &[0x00])?);
     expect_octets(&rt, octets.as_bytes(), &[0x00, 0xff]);
-    assert!(rt; octets.len() == 2 && !octets.is_empty() && octets != other);
+    expect_each(
+        &rt,
+        &[octets.len() == 2, !octets.is_empty(), octets != other],
+    );
     let list = octets.into_vec();
     expect_octets(&rt, list.as_slice(), &[0x00, 0xff]);
     Ok(())

@@ -1,6 +1,6 @@
 //! The character strings of known multiplier.
 
-use crate::expected::expect_octets;
+use crate::expected::{expect_each, expect_equal, expect_octets, expect_text};
 use rasn_strings::strings::{
     BmpString, Ia5String, NumericString, PrintableString, StaticPermittedAlphabet, VisibleString,
 };
@@ -27,11 +27,11 @@ fn expect_walk<S: StaticPermittedAlphabet>(
 ) -> Result<(), AllocError> {
     let empty = S::new(alloc);
     let string: S = built(alloc, characters)?;
-    assert!(rt; empty.is_empty() && string.len() == characters.len());
+    expect_each(rt, &[empty.is_empty(), string.len() == characters.len()]);
     for (index, character) in characters.iter().enumerate() {
-        assert_eq!(rt; string.character(index), Some(*character));
+        expect_equal(rt, &string.character(index), &Some(*character));
     }
-    assert_eq!(rt; string.character(characters.len()), None);
+    expect_equal(rt, &string.character(characters.len()), &None);
     Ok(())
 }
 
@@ -60,7 +60,10 @@ fn other_strings_show_what_they_are_kept_in(rt: HostRuntime) -> Result<(), Alloc
     let numeric: NumericString = built(rt.alloc(), &[32, 48, 57])?;
     expect_octets(&rt, numeric.as_bytes(), b" 09");
     let bmp: BmpString = built(rt.alloc(), &[0, 0x20ac, 0xd800, 0xffff])?;
-    assert_eq!(rt; bmp.as_units(), [0, 0x20ac, 0xd800, 0xffff].as_slice());
+    expect_each(
+        &rt,
+        &[bmp.as_units() == [0, 0x20ac, 0xd800, 0xffff].as_slice()],
+    );
     Ok(())
 }
 
@@ -69,7 +72,7 @@ fn expect_characters<S: StaticPermittedAlphabet>(rt: &impl Abort, count: usize, 
     let counted = (0..70000)
         .filter(|character| S::contains_character(*character))
         .count();
-    assert_eq!(rt; counted, count);
+    expect_equal(rt, &counted, &count);
     for character in some {
         assert!(rt; S::contains_character(u32::from(*character)));
     }
@@ -125,7 +128,7 @@ fn strings_are_made_of_their_characters(rt: HostRuntime) -> Result<(), AllocErro
 #[test]
 fn bmp_strings_are_made_of_any_16_bits(rt: HostRuntime) -> Result<(), AllocError> {
     let euro = BmpString::from_units(Vec::from_slice(rt.alloc(), &[0x20ac])?);
-    assert_eq!(rt; euro.character(0), Some(0x20ac));
+    expect_equal(&rt, &euro.character(0), &Some(0x20ac));
     Ok(())
 }
 
@@ -134,8 +137,8 @@ fn strings_are_compared_and_printed(rt: HostRuntime) -> Result<(), Fail> {
     let one: NumericString = built(rt.alloc(), &[49, 50])?;
     let other: NumericString = built(rt.alloc(), &[49, 50])?;
     let longer: NumericString = built(rt.alloc(), &[49, 50, 51])?;
-    assert!(rt; one == other && one != longer);
+    expect_each(&rt, &[one == other, one != longer]);
     let text = format!(in rt.alloc(); "{one:?}")?;
-    assert_eq!(rt; text.as_str(), "NumericString { characters: [49, 50] }");
+    expect_text(&rt, text.as_str(), "NumericString { characters: [49, 50] }");
     Ok(())
 }

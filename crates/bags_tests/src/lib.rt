@@ -1,8 +1,0 @@
-//! Tests of SET OF (X.691 22) in both variants, by octets from outside: its members stand in ascending order of their
-//! complete encodings, whatever order they are kept in.
-#![tactic(auto)]
-
-#[cfg(test)]
-mod bits;
-#[cfg(test)]
-mod whole_numbers;

@@ -1,0 +1,62 @@
+//! The header of an intelligent transport message, and records that hold it.
+
+use super::values::expect_both;
+use its_header::header::ItsPduHeader;
+use its_header::message::Message;
+use its_header::position::ReferencePositionLite;
+use rasn_per::uper::decode;
+use rasn_strings::strings::Ia5String;
+use rasn_types::octet_strings::OctetString;
+use std::alloc::Global;
+use std::test::Fail;
+
+const HEADER: ItsPduHeader = ItsPduHeader {
+    protocol_version: 2,
+    message_id: 2,
+    station_id: 0x1234_5678,
+};
+
+const POSITION: ReferencePositionLite = ReferencePositionLite {
+    latitude: 485_000_000,
+    longitude: 90_000_000,
+    heading: 900,
+};
+
+#[test]
+fn header_is_six_octets(rt: HostRuntime) -> Result<(), Fail> {
+    let octets = &[0x02, 0x02, 0x12, 0x34, 0x56, 0x78];
+    expect_both(&rt, rt.alloc(), &HEADER, octets)
+}
+
+#[test]
+fn position_is_75_bits(rt: HostRuntime) -> Result<(), Fail> {
+    let octets = &[0xa5, 0x1a, 0xd8, 0x80, 0xe1, 0x4e, 0x39, 0x00, 0x70, 0x80];
+    expect_both(&rt, rt.alloc(), &POSITION, octets)
+}
+
+const MESSAGE: &[u8] = &[
+    0x02, 0x02, 0x12, 0x34, 0x56, 0x78, 0xa5, 0x1a, 0xd8, 0x80, 0xe1, 0x4e, 0x39, 0x00, 0x70, 0x89,
+    0x0b, 0xaf, 0x34, 0x0d, 0xc0, 0xf7, 0xab, 0x6f, 0x80,
+];
+
+fn message(alloc: Global) -> Result<Message, Fail> {
+    let name = Ia5String::from_iso646_bytes(Vec::from_slice(alloc, b"Bus 7")?);
+    Ok(Message {
+        header: HEADER,
+        position: POSITION,
+        name: name.ok_or("no IA5 string")?,
+        payload: OctetString::new(Vec::from_slice(alloc, &[0xde, 0xad, 0xbe])?),
+    })
+}
+
+#[test]
+fn message_is_194_bits(rt: HostRuntime) -> Result<(), Fail> {
+    let message = message(rt.alloc())?;
+    expect_both(&rt, rt.alloc(), &message, MESSAGE)
+}
+
+#[test]
+fn message_has_an_end(rt: HostRuntime) {
+    let front = decode::<Message>(rt.alloc(), &MESSAGE[..24]);
+    assert!(rt; front.is_err());
+}

@@ -1,0 +1,74 @@
+//! Items of an ENUMERATED, those behind its extension marker in each form of their index.
+
+use crate::expected::{expect_equal, expect_octets, expect_unread};
+use per_de::{DecodeErrorKind, ParserFailCause};
+use per_samples_c::colors::TwoColors;
+use per_samples_c::items::{ItemOf256, WithItem};
+use rasn_per::uper::{decode, encode};
+use std::test::Fail;
+
+/// Octets that are read, and the item that they spell.
+const READ: &[(&[u8], TwoColors)] = &[
+    (&[0x00], TwoColors::A),
+    (&[0x7f], TwoColors::A),
+    (&[0x80], TwoColors::B),
+    // The large form, in one octet and in two.
+    (&[0xc0, 0x40, 0x00], TwoColors::B),
+    (&[0xc0, 0x80, 0x00, 0x00], TwoColors::B),
+];
+
+/// Octets that are refused, and why.
+const REFUSED: &[(&[u8], DecodeErrorKind)] = &[
+    (&[], DecodeErrorKind::Incomplete(1)),
+    (&[0x81], DecodeErrorKind::EnumerationIndexNotFound(1, true)),
+    (
+        &[0xc0, 0x40, 0x40],
+        DecodeErrorKind::EnumerationIndexNotFound(1, true),
+    ),
+    // The large form of no octets, of an octet that isn't whole, and of 2 to the 64th.
+    (&[0xc0, 0x00], DecodeErrorKind::UnexpectedEmptyInput),
+    (&[0xc0, 0x40], DecodeErrorKind::Incomplete(2)),
+    (
+        &[0xc2, 0x40, 0x40, 0, 0, 0, 0, 0, 0, 0, 0],
+        DecodeErrorKind::IntegerOverflow(64),
+    ),
+    (
+        &[0xf1, 0x40],
+        DecodeErrorKind::ParserFail(ParserFailCause::FragmentCode),
+    ),
+    (&[0x80, 0x00], DecodeErrorKind::UnexpectedExtraData(1)),
+];
+
+#[test]
+fn writes_items(rt: HostRuntime) -> Result<(), Fail> {
+    let first = encode(rt.alloc(), &TwoColors::A)?;
+    expect_octets(&rt, first.as_slice(), &[0x00]);
+    let second = encode(rt.alloc(), &TwoColors::B)?;
+    expect_octets(&rt, second.as_slice(), &[0x80]);
+    let last = WithItem {
+        a: true,
+        e: ItemOf256 { index: 255 },
+    };
+    let written = encode(rt.alloc(), &last)?;
+    expect_octets(&rt, written.as_slice(), &[0xff, 0x80]);
+    let read: WithItem = decode(rt.alloc(), &[0xff, 0x80])?;
+    expect_equal(&rt, &read, &last);
+    Ok(())
+}
+
+#[test]
+fn reads_items_in_each_form(rt: HostRuntime) -> Result<(), Fail> {
+    for (octets, color) in READ {
+        let read: TwoColors = decode(rt.alloc(), octets)?;
+        expect_equal(&rt, &read, color);
+    }
+    Ok(())
+}
+
+#[test]
+fn names_its_refusals(rt: HostRuntime) {
+    for (octets, kind) in REFUSED {
+        let refused = decode::<TwoColors>(rt.alloc(), octets).err();
+        expect_unread(&rt, octets, refused, *kind);
+    }
+}

@@ -1,0 +1,174 @@
+//! GeneralizedTime (X.691 30): its canonical text (X.690 11.7) as a VisibleString without constraints.
+
+use crate::expected::{expect_equal, expect_octets, expect_unread, expect_unwritten};
+use jiff::civil::DateTime;
+use rasn_per::uper::{DecodeErrorKind, EncodeErrorKind};
+use rasn_per::{aper, uper};
+use rasn_useful::generalized_time::GeneralizedTime;
+use std::test::Fail;
+
+/// The parts of moments with nanoseconds, and their octets ALIGNED and UNALIGNED: 2018-06-13 06:01:58, and X.690
+/// 11.7.5.
+const ROWS: &[((i16, i8, i8), (i8, i8, i8), i32, &[u8], &[u8])] = &[
+    (
+        (2018, 6, 13),
+        (6, 1, 58),
+        0,
+        &[
+            0x0f, 0x32, 0x30, 0x31, 0x38, 0x30, 0x36, 0x31, 0x33, 0x30, 0x36, 0x30, 0x31, 0x35,
+            0x38, 0x5a,
+        ],
+        &[
+            0x0f, 0x64, 0xc1, 0x8b, 0x86, 0x0d, 0x98, 0xb3, 0x60, 0xd9, 0x83, 0x16, 0xae, 0x2d,
+            0x00,
+        ],
+    ),
+    (
+        (1992, 7, 22),
+        (13, 21, 0),
+        300_000_000,
+        &[
+            0x11, 0x31, 0x39, 0x39, 0x32, 0x30, 0x37, 0x32, 0x32, 0x31, 0x33, 0x32, 0x31, 0x30,
+            0x30, 0x2e, 0x33, 0x5a,
+        ],
+        &[
+            0x11, 0x62, 0xe5, 0xcb, 0x26, 0x0d, 0xd9, 0x32, 0x62, 0xcd, 0x93, 0x16, 0x0c, 0x17,
+            0x33, 0xb4,
+        ],
+    ),
+];
+
+#[test]
+fn writes_and_reads_aligned(rt: HostRuntime) -> Result<(), Fail> {
+    for ((year, month, day), (hour, minute, second), nanosecond, aligned, _) in ROWS {
+        let moment = DateTime::new(*year, *month, *day, *hour, *minute, *second, *nanosecond)?;
+        let time = GeneralizedTime::new(moment);
+        let written = aper::encode(rt.alloc(), &time)?;
+        expect_octets(&rt, written.as_slice(), aligned);
+        let read: GeneralizedTime = aper::decode(rt.alloc(), aligned)?;
+        expect_equal(&rt, &read.to_datetime(), &moment);
+    }
+    Ok(())
+}
+
+#[test]
+fn writes_and_reads_unaligned(rt: HostRuntime) -> Result<(), Fail> {
+    for ((year, month, day), (hour, minute, second), nanosecond, _, unaligned) in ROWS {
+        let moment = DateTime::new(*year, *month, *day, *hour, *minute, *second, *nanosecond)?;
+        let time = GeneralizedTime::new(moment);
+        let written = uper::encode(rt.alloc(), &time)?;
+        expect_octets(&rt, written.as_slice(), unaligned);
+        let read: GeneralizedTime = uper::decode(rt.alloc(), unaligned)?;
+        expect_equal(&rt, &read.to_datetime(), &moment);
+    }
+    Ok(())
+}
+
+/// Octets of the ALIGNED variant that are read as no GeneralizedTime, and why.
+const REFUSED_ALIGNED: &[(&[u8], DecodeErrorKind)] = &[
+    // A fraction with a zero behind it (X.690 11.7.5).
+    (
+        &[
+            0x11, 0x31, 0x39, 0x39, 0x32, 0x30, 0x36, 0x32, 0x32, 0x31, 0x32, 0x33, 0x34, 0x32,
+            0x31, 0x2e, 0x30, 0x5a,
+        ],
+        DecodeErrorKind::Below,
+    ),
+    // A text without Z.
+    (
+        &[
+            0x0e, 0x32, 0x30, 0x31, 0x38, 0x30, 0x36, 0x31, 0x33, 0x30, 0x36, 0x30, 0x31, 0x35,
+            0x38,
+        ],
+        DecodeErrorKind::Below,
+    ),
+    // Midnight as the 24th hour.
+    (
+        &[
+            0x0f, 0x31, 0x39, 0x39, 0x32, 0x30, 0x35, 0x32, 0x30, 0x32, 0x34, 0x30, 0x30, 0x30,
+            0x30, 0x5a,
+        ],
+        DecodeErrorKind::Below,
+    ),
+    // The text of a UTCTime.
+    (
+        &[
+            0x0d, 0x31, 0x38, 0x30, 0x36, 0x31, 0x33, 0x31, 0x31, 0x30, 0x31, 0x35, 0x39, 0x5a,
+        ],
+        DecodeErrorKind::Below,
+    ),
+    // A control character, which no VisibleString has.
+    (&[0x01, 0x1f], DecodeErrorKind::PermittedAlphabet),
+    // A code behind the last character.
+    (&[0x01, 0x7f], DecodeErrorKind::PermittedAlphabet),
+];
+
+#[test]
+fn refuses_octets_aligned(rt: HostRuntime) {
+    for (octets, kind) in REFUSED_ALIGNED {
+        let refused = aper::decode::<GeneralizedTime>(rt.alloc(), octets).err();
+        expect_unread(&rt, octets, refused, *kind);
+    }
+}
+
+/// Octets of the UNALIGNED variant that are read as no GeneralizedTime, and why.
+const REFUSED_UNALIGNED: &[(&[u8], DecodeErrorKind)] = &[
+    // A fraction with a zero behind it (X.690 11.7.5).
+    (
+        &[
+            0x11, 0x62, 0xe5, 0xcb, 0x26, 0x0d, 0x99, 0x32, 0x62, 0xc9, 0x9b, 0x46, 0x4c, 0x57,
+            0x30, 0xb4,
+        ],
+        DecodeErrorKind::Below,
+    ),
+    // A text without Z.
+    (
+        &[
+            0x0e, 0x64, 0xc1, 0x8b, 0x86, 0x0d, 0x98, 0xb3, 0x60, 0xd9, 0x83, 0x16, 0xae, 0x00,
+        ],
+        DecodeErrorKind::Below,
+    ),
+    // Midnight as the 24th hour.
+    (
+        &[
+            0x0f, 0x62, 0xe5, 0xcb, 0x26, 0x0d, 0x59, 0x30, 0x64, 0xd1, 0x83, 0x06, 0x0c, 0x2d,
+            0x00,
+        ],
+        DecodeErrorKind::Below,
+    ),
+    // The text of a UTCTime.
+    (
+        &[
+            0x0d, 0x62, 0xe1, 0x83, 0x66, 0x2c, 0xd8, 0xb1, 0x60, 0xc5, 0xab, 0x9b, 0x40,
+        ],
+        DecodeErrorKind::Below,
+    ),
+    // A control character, which no VisibleString has.
+    (&[0x01, 0x3e], DecodeErrorKind::PermittedAlphabet),
+    // A code behind the last character.
+    (&[0x01, 0xfe], DecodeErrorKind::PermittedAlphabet),
+];
+
+#[test]
+fn refuses_octets_unaligned(rt: HostRuntime) {
+    for (octets, kind) in REFUSED_UNALIGNED {
+        let refused = uper::decode::<GeneralizedTime>(rt.alloc(), octets).err();
+        expect_unread(&rt, octets, refused, *kind);
+    }
+}
+
+/// Days, and nanoseconds of their first second, that no GeneralizedTime holds.
+const NO_TEXTS: &[((i16, i8, i8), i32)] = &[((-1, 12, 31), 0), ((-1, 12, 31), 1)];
+
+#[test]
+fn refuses_moments(rt: HostRuntime) -> Result<(), Fail> {
+    for ((year, month, day), nanosecond) in NO_TEXTS {
+        let moment = DateTime::new(*year, *month, *day, 0, 0, 0, *nanosecond)?;
+        let time = GeneralizedTime::new(moment);
+        let refused = aper::encode(rt.alloc(), &time).err();
+        expect_unwritten(&rt, &moment, refused, EncodeErrorKind::Below);
+        let refused = uper::encode(rt.alloc(), &time).err();
+        expect_unwritten(&rt, &moment, refused, EncodeErrorKind::Below);
+    }
+    Ok(())
+}
