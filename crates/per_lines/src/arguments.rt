@@ -111,6 +111,10 @@ pub enum TypeName {
     Alternatives,
     /// SEQUENCE { ..., a0 BOOLEAN OPTIONAL, a1 BOOLEAN OPTIONAL, and so on up to a64 }.
     Many,
+    /// SET OF INTEGER.
+    Bag,
+    /// UTCTime.
+    UtcTime,
 }
 
 /// How much is read, and what is printed.
@@ -212,6 +216,8 @@ impl TypeName {
             "alt2" => Some(TypeName::TwoAlternatives),
             "alternatives" => Some(TypeName::Alternatives),
             "many" => Some(TypeName::Many),
+            "bag" => Some(TypeName::Bag),
+            "utc" => Some(TypeName::UtcTime),
             _ => None,
         }
     }

@@ -95,3 +95,6 @@ returns-in-Alternatives-clause-err c = rw c.in-Alternatives.is c.recoded_as-in-A
 
 pub returns-in-Many-clause-err : goal.returns-in-Many-clause-err
 returns-in-Many-clause-err c = rw c.in-Many.is c.recoded_as-in-Many.ensures.err
+
+pub returns-in-Bag-clause-err : goal.returns-in-Bag-clause-err
+returns-in-Bag-clause-err c = rw c.in-Bag.is c.recoded_as-in-Bag.ensures.err
