@@ -115,6 +115,8 @@ pub enum TypeName {
     Bag,
     /// UTCTime.
     UtcTime,
+    /// SEQUENCE { key CHOICE { object OBJECT IDENTIFIER, other OCTET STRING }, pdu OCTET STRING }.
+    Connect,
 }
 
 /// How much is read, and what is printed.
@@ -218,6 +220,7 @@ impl TypeName {
             "many" => Some(TypeName::Many),
             "bag" => Some(TypeName::Bag),
             "utc" => Some(TypeName::UtcTime),
+            "connect" => Some(TypeName::Connect),
             _ => None,
         }
     }

@@ -42,6 +42,7 @@ use per_samples_g::grouped2::Grouped2;
 use per_samples_h::alt1::Alt1;
 use per_samples_h::alt2::Alt2;
 use per_samples_h::two_alternatives::TwoAlternatives;
+use per_samples_i::connect::Connect;
 use per_samples_m::many::Many;
 use rasn_codec::codec::{Decode, Encode};
 use rasn_per::{aper, uper};
@@ -133,6 +134,7 @@ fn recoded(
         TypeName::Many => recoded_as::<Many>(alloc, codec, padding, octets),
         TypeName::Bag => recoded_as::<SetOf<Integer>>(alloc, codec, padding, octets),
         TypeName::UtcTime => recoded_as::<UtcTime>(alloc, codec, padding, octets),
+        TypeName::Connect => recoded_as::<Connect>(alloc, codec, padding, octets),
     }
 }
 

@@ -98,3 +98,6 @@ returns-in-Many-clause-err c = rw c.in-Many.is c.recoded_as-in-Many.ensures.err
 
 pub returns-in-Bag-clause-err : goal.returns-in-Bag-clause-err
 returns-in-Bag-clause-err c = rw c.in-Bag.is c.recoded_as-in-Bag.ensures.err
+
+pub returns-in-Connect-clause-err : goal.returns-in-Connect-clause-err
+returns-in-Connect-clause-err c = rw c.in-Connect.is c.recoded_as-in-Connect.ensures.err
