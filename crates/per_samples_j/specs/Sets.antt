@@ -2,7 +2,7 @@
 use Rattle.std.specs.Prelude.{ℕ, Bool, List, [], ◌∷◌, Option, Some}
 use Rattle.rasn_types.specs.Values.{Value, nothing, truth}
 use Rattle.rasn_schema.specs.Schemas.{leaf, TagTree}
-use Rattle.rasn_schema.specs.Components.{Component, Chosen, at, boolean, choice, chosen, chosen_value, integer, null, optional, u8, under, ◌to◌}
+use Rattle.rasn_schema.specs.Components.{Component, Chosen, at, boolean, choice, chosen, integer, null, optional, u8, under, ◌to◌}
 use Rattle.per_samples_j.specs.declared.truth_or_none.TruthOrNone.{TruthOrNone}
 use Rattle.per_samples_j.specs.declared.truth_or_none.TruthOrNone.TheVariants.{M, N}
 
@@ -29,10 +29,6 @@ truth_or_none = under (at 3) boolean ∷ under (at 9) null ∷ []
 abbrev pub truth_or_none_chosen : TruthOrNone → Chosen
 truth_or_none_chosen (M m) = chosen 0 (truth m)
 truth_or_none_chosen N = chosen 1 nothing
-
--- what a value is
-abbrev pub truth_or_none_value : TruthOrNone → Value
-truth_or_none_value x = chosen_value (truth_or_none_chosen x)
 
 -- SET { k [5] BOOLEAN, c CHOICE { m [3] BOOLEAN, n [9] NULL } }, whose choice has no tag of its own
 abbrev pub set_choice : List Component
