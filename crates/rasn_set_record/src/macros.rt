@@ -1,5 +1,6 @@
 //! What an author's list of the components of a SET is handed to. Its lines are those of a SEQUENCE's list, and stand in
-//! ascending order of the components' smallest tags (X.680 8.6): the order in which they are written (X.691 21.1).
+//! ascending order of the components' smallest tags (X.680 8.6): the order in which they are written (X.691 21.1). They
+//! use macros of `rasn_below`, which a page names anyway.
 
 /// Writes the components of a list in turn. Their fields are in the constant `FIELDS`, their constraints in `BOUNDS`.
 #[macro_export]
@@ -7,7 +8,7 @@ macro_rules! encode_set_components {
     ([$of:ident $encoder:ident] $($list:tt)*) => {
         $crate::ordered::write_all(
             $of,
-            &rasn_record::listed!(rasn_record::cells_to_write!($of $($list)*)),
+            &rasn_below::listed!(rasn_below::cells_to_write!($of $($list)*)),
             $encoder,
         )
     };
@@ -20,8 +21,8 @@ macro_rules! decode_set_components {
         $presence:ident $tag:literal $(of $tree:ident)? $name:literal
         $field:ident: $type:ty [$($bounds:tt)*];
     )*) => {{
-        let cells = rasn_record::listed!(rasn_record::cells_to_read!($($presence $type [$($bounds)*];)*));
-        let rasn_record::pairs!($($field)*) = $crate::ordered::read_all::<Self, _, _>(&cells, $decoder)?;
+        let cells = rasn_below::listed!(rasn_below::cells_to_read!($($presence $type [$($bounds)*];)*));
+        let rasn_below::pairs!($($field)*) = $crate::ordered::read_all::<Self, _, _>(&cells, $decoder)?;
         Ok(Self { $($field),* })
     }};
 }

@@ -19,3 +19,5 @@ mod items;
 mod many;
 #[cfg(test)]
 mod moments;
+#[cfg(test)]
+mod sets;

@@ -1,0 +1,81 @@
+//! SETs by value: a component that stands elsewhere would come back as it went, so that a round trip can't see it.
+
+use crate::expected::{expect_equal, expect_octets};
+use per_samples_j::set::Set;
+use per_samples_j::set_choice::SetChoice;
+use per_samples_j::set_optional::SetOptional;
+use per_samples_j::truth_or_none::TruthOrNone;
+use rasn_below::{Decode, Encode};
+use rasn_per::{aper, uper};
+use std::alloc::Global;
+use std::fmt::Debug;
+use std::process::Abort;
+use std::test::Fail;
+
+/// A value is written as these octets in the ALIGNED variant, and read from them.
+fn expect_aligned<T: Encode + Decode + PartialEq + Debug>(
+    rt: &impl Abort,
+    alloc: Global,
+    value: &T,
+    octets: &[u8],
+) -> Result<(), Fail> {
+    expect_octets(rt, &aper::encode(alloc, value)?, octets);
+    expect_equal(rt, &aper::decode::<T>(alloc, octets)?, value);
+    Ok(())
+}
+
+/// A value is written as these octets in the UNALIGNED variant, and read from them.
+fn expect_unaligned<T: Encode + Decode + PartialEq + Debug>(
+    rt: &impl Abort,
+    alloc: Global,
+    value: &T,
+    octets: &[u8],
+) -> Result<(), Fail> {
+    expect_octets(rt, &uper::encode(alloc, value)?, octets);
+    expect_equal(rt, &uper::decode::<T>(alloc, octets)?, value);
+    Ok(())
+}
+
+/// A value is written as these octets in both variants, and read from them.
+fn expect_both<T: Encode + Decode + PartialEq + Debug>(
+    rt: &impl Abort,
+    alloc: Global,
+    value: &T,
+    octets: &[u8],
+) -> Result<(), Fail> {
+    expect_aligned(rt, alloc, value, octets)?;
+    expect_unaligned(rt, alloc, value, octets)
+}
+
+#[test]
+fn component_with_the_smaller_tag_stands_first(rt: HostRuntime) -> Result<(), Fail> {
+    let set = Set { b: 5, a: true };
+    expect_aligned(&rt, rt.alloc(), &set, &[0x80, 0x05])?;
+    expect_unaligned(&rt, rt.alloc(), &set, &[0x82, 0x80])
+}
+
+#[test]
+fn private_tag_stands_last(rt: HostRuntime) -> Result<(), Fail> {
+    let set = SetOptional { p: Some(true), q: None, r: None };
+    expect_both(&rt, rt.alloc(), &set, &[0x30])
+}
+
+#[test]
+fn presence_bits_are_in_the_order_of_tags(rt: HostRuntime) -> Result<(), Fail> {
+    let set = SetOptional { p: Some(true), q: Some(false), r: None };
+    expect_both(&rt, rt.alloc(), &set, &[0xa8])
+}
+
+#[test]
+fn second_tag_alone(rt: HostRuntime) -> Result<(), Fail> {
+    let set = SetOptional { p: None, q: None, r: Some(true) };
+    expect_both(&rt, rt.alloc(), &set, &[0x50])
+}
+
+#[test]
+fn choice_counts_with_its_smallest_tag(rt: HostRuntime) -> Result<(), Fail> {
+    let other = SetChoice { k: false, c: TruthOrNone::N };
+    expect_both(&rt, rt.alloc(), &other, &[0x80])?;
+    let smallest = SetChoice { k: true, c: TruthOrNone::M(false) };
+    expect_both(&rt, rt.alloc(), &smallest, &[0x20])
+}
