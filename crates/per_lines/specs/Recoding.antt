@@ -38,11 +38,13 @@ use Rattle.per_samples_m.specs.Many.{many_root, many_additions}
 use Rattle.per_core.specs.Spellings.{Settings}
 use Rattle.rasn_per.specs.Complete.{AreBytes, HasNoBytes, AreReadBy, AreUnreadBy, reading, basically}
 use Rattle.per_samples_i.specs.Connects.{connect}
+use Rattle.per_samples_j.specs.Sets.{set, set_choice, set_optional}
+use Rattle.rasn_set_record.specs.SetRecords.{set_at as set_of_parts}
 use Rattle.rasn_per.specs.Kinds.{IsInOctetsBy}
 use Rattle.per_write.specs.declared.error.EncodeErrorKind.TheVariants as Encoding
 use Rattle.per_read.specs.declared.error.DecodeErrorKind.TheVariants as Decoding
 use Rattle.per_lines.specs.declared.arguments.TypeName.{TypeName}
-use Rattle.per_lines.specs.declared.arguments.TypeName.TheVariants.{Boolean, Null, Integer, UpTo65535, FromMinusOne, Natural, ZeroTo65536, OneToTenExtensible, Four, Seven, OneDefault, ShortVisible, LettersAToE, BitString, OctetString, OnlyX, Items, Byte, MaybeEmpty, Nested, Nest, Deep, Bytes, Nulls, NullList, Elements, Outer1, Outer2, Outer3, Grouped, NoneNeeded, OneNeeded, AddedDefault, Outers1, Outers3, BeforeNest, AddedNest, Grouped1, Grouped2, OneColor, TwoColors, DefaultOuter1, DefaultOuter3, OneAlternative, TwoAlternatives, Alternatives, Many, Bag, UtcTime, Connect}
+use Rattle.per_lines.specs.declared.arguments.TypeName.TheVariants.{Boolean, Null, Integer, UpTo65535, FromMinusOne, Natural, ZeroTo65536, OneToTenExtensible, Four, Seven, OneDefault, ShortVisible, LettersAToE, BitString, OctetString, OnlyX, Items, Byte, MaybeEmpty, Nested, Nest, Deep, Bytes, Nulls, NullList, Elements, Outer1, Outer2, Outer3, Grouped, NoneNeeded, OneNeeded, AddedDefault, Outers1, Outers3, BeforeNest, AddedNest, Grouped1, Grouped2, OneColor, TwoColors, DefaultOuter1, DefaultOuter3, OneAlternative, TwoAlternatives, Alternatives, Many, Bag, UtcTime, Connect, Set, SetOptional, SetChoice}
 use Rattle.per_lines.specs.declared.arguments.Form.{Form}
 use Rattle.per_lines.specs.declared.arguments.Form.TheVariants.{OneLine, Lines, Zero, As}
 use Rattle.per_lines.specs.declared.arguments.Padding.{Padding}
@@ -109,6 +111,9 @@ schema_of Many = extended_at many_root many_additions
 schema_of Bag = set_at (always (Schema.number unbounded false unbounded)) any_size false
 schema_of UtcTime = always (Schema.time utc)
 schema_of Connect = sequence_at connect
+schema_of Set = set_of_parts set
+schema_of SetOptional = set_of_parts set_optional
+schema_of SetChoice = set_of_parts set_choice
 
 -- `zero` asks that padding is zero; behind `as` what is written needs no such check
 abbrev pub padding_of : Form → Padding

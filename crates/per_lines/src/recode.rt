@@ -43,6 +43,9 @@ use per_samples_h::alt1::Alt1;
 use per_samples_h::alt2::Alt2;
 use per_samples_h::two_alternatives::TwoAlternatives;
 use per_samples_i::connect::Connect;
+use per_samples_j::set::Set;
+use per_samples_j::set_choice::SetChoice;
+use per_samples_j::set_optional::SetOptional;
 use per_samples_m::many::Many;
 use rasn_codec::codec::{Decode, Encode};
 use rasn_per::{aper, uper};
@@ -135,6 +138,9 @@ fn recoded(
         TypeName::Bag => recoded_as::<SetOf<Integer>>(alloc, codec, padding, octets),
         TypeName::UtcTime => recoded_as::<UtcTime>(alloc, codec, padding, octets),
         TypeName::Connect => recoded_as::<Connect>(alloc, codec, padding, octets),
+        TypeName::Set => recoded_as::<Set>(alloc, codec, padding, octets),
+        TypeName::SetOptional => recoded_as::<SetOptional>(alloc, codec, padding, octets),
+        TypeName::SetChoice => recoded_as::<SetChoice>(alloc, codec, padding, octets),
     }
 }
 
