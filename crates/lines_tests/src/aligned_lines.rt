@@ -1,6 +1,6 @@
 //! The program's answers to lines in the ALIGNED variant.
 
-use crate::runs::{expect_printed, expect_refused};
+use crate::runs::{assert_ran, expect_printed, expect_refused, line_of, run_on};
 use std::test::Fail;
 
 /// Arguments, a line, and what is printed.
@@ -40,6 +40,29 @@ const PRINTED: &[(&str, &str, &str)] = &[
     ("aper onlyx", "03\n", "03\n"),
     // The last item of 256, from a boundary on.
     ("aper items", "80ff\n", "80ff\n"),
+    // Between two truth values no octets, and one.
+    ("aper empty", "90\n", "90\n"),
+    ("aper empty", "a00780\n", "a00780\n"),
+    // 300 items, whose count is within the size.
+    ("aper nulls", "012b\n", "012b\n"),
+    // Strings of three octets in a list of two and in one of one to four.
+    (
+        "aper elements",
+        "8001020304050600070809ab\n",
+        "8001020304050600070809ab\n",
+    ),
+    // A root alternative in place, and one behind the marker in an open type.
+    (
+        "aper alternatives",
+        "b0010203800480010203ab\n",
+        "b0010203800480010203ab\n",
+    ),
+    // The last of 65 additions alone.
+    (
+        "aper many",
+        "c0410000000000000000800180\n",
+        "c0410000000000000000800180\n",
+    ),
     // The form `lines`.
     (
         "aper iext lines",
@@ -83,6 +106,8 @@ const REFUSED: &[(&str, &str, u8, &str)] = &[
     ("aper i65536 zero", "3ffd\n", 1, "ParserFail\n"),
     // The code 7, of five characters.
     ("aper five", "0807\n", 1, "PermittedAlphabet\n"),
+    // 301 items, where there are at most 300.
+    ("aper nulls", "012c\n", 1, "SizeConstraintNotSatisfied\n"),
     // "abcd", as a count within the size.
     (
         "aper vis",
@@ -100,4 +125,15 @@ fn prints_the_canonical_aligned_encoding(rt: HostRuntime) -> Result<(), Fail> {
 #[test]
 fn refuses_an_aligned_line_by_name(rt: HostRuntime) -> Result<(), Fail> {
     expect_refused(&rt, rt.alloc(), REFUSED)
+}
+
+/// 16384 bits: a fragment, and none behind it.
+const BITS: &[(&str, usize)] = &[("c1", 1), ("55", 2048), ("00", 1)];
+
+#[test]
+fn takes_and_prints_aligned_fragments(rt: HostRuntime) -> Result<(), Fail> {
+    let line = line_of(rt.alloc(), BITS)?;
+    let ran = run_on(rt.alloc(), "aper bits", line.as_bytes())?;
+    assert_ran(&rt, &ran, 0, line.as_str(), "");
+    Ok(())
 }

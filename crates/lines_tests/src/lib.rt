@@ -11,6 +11,10 @@ mod forms;
 #[cfg(test)]
 mod lines;
 #[cfg(test)]
+mod moments;
+#[cfg(test)]
 mod runs;
+#[cfg(test)]
+mod sets;
 #[cfg(test)]
 mod streams;

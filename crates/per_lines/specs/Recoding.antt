@@ -1,6 +1,7 @@
 -- From the octets of a value to the canonical octets of the same value.
 use Rattle.std.specs.Prelude.{ℕ, Bool, ◌≢◌, ◌⊎◌, List, [], ◌∷◌, Some, None, true, false, pos, negsuc}
 use Rattle.rasn_types.specs.Alphabets.{visible, from_to}
+use Rattle.rasn_types.specs.Contents.{utc}
 use Rattle.rasn_types.specs.declared.types.Codec.{Codec}
 use Rattle.rasn_types.specs.Codecs.{variant_of}
 use Rattle.rasn_types.specs.Variants.{Variant}
@@ -13,6 +14,7 @@ use Rattle.rasn_schema.specs.Lists.{list_at}
 use Rattle.rasn_schema.specs.Components.{lower_bound, upper_bound, sequence_at, alternatives_at}
 use Rattle.rasn_schema.specs.Records.{no_additions}
 use Rattle.rasn_record.specs.ExtendedRecords.{extended_at}
+use Rattle.rasn_sets.specs.Bags.{set_at}
 use Rattle.per_samples_a.specs.Absents.{one_default}
 use Rattle.per_samples_a.specs.Fours.{four}
 use Rattle.per_samples_a.specs.Sevens.{seven}
@@ -35,11 +37,14 @@ use Rattle.per_samples_h.specs.Second.{behind_marker}
 use Rattle.per_samples_m.specs.Many.{many_root, many_additions}
 use Rattle.per_core.specs.Spellings.{Settings}
 use Rattle.rasn_per.specs.Complete.{AreBytes, HasNoBytes, AreReadBy, AreUnreadBy, reading, basically}
+use Rattle.per_samples_i.specs.Connects.{connect}
+use Rattle.per_samples_j.specs.Sets.{set, set_choice, set_optional}
+use Rattle.rasn_set_record.specs.SetRecords.{set_at as set_of_parts}
 use Rattle.rasn_per.specs.Kinds.{IsInOctetsBy}
 use Rattle.per_write.specs.declared.error.EncodeErrorKind.TheVariants as Encoding
 use Rattle.per_read.specs.declared.error.DecodeErrorKind.TheVariants as Decoding
 use Rattle.per_lines.specs.declared.arguments.TypeName.{TypeName}
-use Rattle.per_lines.specs.declared.arguments.TypeName.TheVariants.{Boolean, Null, Integer, UpTo65535, FromMinusOne, Natural, ZeroTo65536, OneToTenExtensible, Four, Seven, OneDefault, ShortVisible, LettersAToE, BitString, OctetString, OnlyX, Items, Byte, MaybeEmpty, Nested, Nest, Deep, Bytes, Nulls, NullList, Elements, Outer1, Outer2, Outer3, Grouped, NoneNeeded, OneNeeded, AddedDefault, Outers1, Outers3, BeforeNest, AddedNest, Grouped1, Grouped2, OneColor, TwoColors, DefaultOuter1, DefaultOuter3, OneAlternative, TwoAlternatives, Alternatives, Many}
+use Rattle.per_lines.specs.declared.arguments.TypeName.TheVariants.{Boolean, Null, Integer, UpTo65535, FromMinusOne, Natural, ZeroTo65536, OneToTenExtensible, Four, Seven, OneDefault, ShortVisible, LettersAToE, BitString, OctetString, OnlyX, Items, Byte, MaybeEmpty, Nested, Nest, Deep, Bytes, Nulls, NullList, Elements, Outer1, Outer2, Outer3, Grouped, NoneNeeded, OneNeeded, AddedDefault, Outers1, Outers3, BeforeNest, AddedNest, Grouped1, Grouped2, OneColor, TwoColors, DefaultOuter1, DefaultOuter3, OneAlternative, TwoAlternatives, Alternatives, Many, Bag, UtcTime, Connect, Set, SetOptional, SetChoice}
 use Rattle.per_lines.specs.declared.arguments.Form.{Form}
 use Rattle.per_lines.specs.declared.arguments.Form.TheVariants.{OneLine, Lines, Zero, As}
 use Rattle.per_lines.specs.declared.arguments.Padding.{Padding}
@@ -52,8 +57,9 @@ abbrev pub one_to : ℕ → Size
 one_to u = record { least = Some 1; most = Some u }
 
 -- what the name of a type means: BOOLEAN (X.680 18); NULL (X.680 24); INTEGER (X.680 19), alone and under value constraints
--- (X.680 51.4); SEQUENCE (X.680 25), with a default, an ENUMERATED (X.680 20), itself or an extension marker in it; SEQUENCE OF (X.680 26); CHOICE (X.680 29); BIT STRING (X.680 22); OCTET STRING (X.680 23); and character strings
--- (X.680 41) by their characters
+-- (X.680 51.4); SEQUENCE (X.680 25), with a default, an ENUMERATED (X.680 20), itself or an extension marker in it; SEQUENCE OF
+-- (X.680 26); SET OF (X.680 28); CHOICE (X.680 29); BIT STRING (X.680 22); OCTET STRING (X.680 23); character strings (X.680 41) by
+-- their characters; and UTCTime (X.680 47)
 abbrev pub schema_of : TypeName → ℕ → Schema
 schema_of Boolean = always Schema.boolean
 schema_of Null = always Schema.null
@@ -102,6 +108,12 @@ schema_of OneAlternative = alternatives_at in_root (Some [])
 schema_of TwoAlternatives = alternatives_at in_root (Some behind_marker)
 schema_of Alternatives = sequence_at two_alternatives
 schema_of Many = extended_at many_root many_additions
+schema_of Bag = set_at (always (Schema.number unbounded false unbounded)) any_size false
+schema_of UtcTime = always (Schema.time utc)
+schema_of Connect = sequence_at connect
+schema_of Set = set_of_parts set
+schema_of SetOptional = set_of_parts set_optional
+schema_of SetChoice = set_of_parts set_choice
 
 -- `zero` asks that padding is zero; behind `as` what is written needs no such check
 abbrev pub padding_of : Form → Padding

@@ -111,6 +111,18 @@ pub enum TypeName {
     Alternatives,
     /// SEQUENCE { ..., a0 BOOLEAN OPTIONAL, a1 BOOLEAN OPTIONAL, and so on up to a64 }.
     Many,
+    /// SET OF INTEGER.
+    Bag,
+    /// UTCTime.
+    UtcTime,
+    /// SEQUENCE { key CHOICE { object OBJECT IDENTIFIER, other OCTET STRING }, pdu OCTET STRING }.
+    Connect,
+    /// SET { b [1] INTEGER (0..255), a [0] BOOLEAN }.
+    Set,
+    /// SET { p [PRIVATE 0] BOOLEAN OPTIONAL, q [0] BOOLEAN OPTIONAL, r [1] BOOLEAN OPTIONAL }.
+    SetOptional,
+    /// SET { k [5] BOOLEAN, c CHOICE { m [3] BOOLEAN, n [9] NULL } }, whose choice has no tag of its own.
+    SetChoice,
 }
 
 /// How much is read, and what is printed.
@@ -212,6 +224,12 @@ impl TypeName {
             "alt2" => Some(TypeName::TwoAlternatives),
             "alternatives" => Some(TypeName::Alternatives),
             "many" => Some(TypeName::Many),
+            "bag" => Some(TypeName::Bag),
+            "utc" => Some(TypeName::UtcTime),
+            "connect" => Some(TypeName::Connect),
+            "set" => Some(TypeName::Set),
+            "setopt" => Some(TypeName::SetOptional),
+            "setchoice" => Some(TypeName::SetChoice),
             _ => None,
         }
     }

@@ -42,13 +42,19 @@ use per_samples_g::grouped2::Grouped2;
 use per_samples_h::alt1::Alt1;
 use per_samples_h::alt2::Alt2;
 use per_samples_h::two_alternatives::TwoAlternatives;
+use per_samples_i::connect::Connect;
+use per_samples_j::set::Set;
+use per_samples_j::set_choice::SetChoice;
+use per_samples_j::set_optional::SetOptional;
 use per_samples_m::many::Many;
 use rasn_codec::codec::{Decode, Encode};
 use rasn_per::{aper, uper};
+use rasn_sets::set_of::SetOf;
 use rasn_types::big::Integer;
 use rasn_types::bit_string::BitString;
 use rasn_types::octet_strings::OctetString;
 use rasn_types::types::Codec;
+use rasn_useful::utc_time::UtcTime;
 use std::alloc::Global;
 
 /// The canonical octets that octets are converted to, as the arguments say.
@@ -129,6 +135,12 @@ fn recoded(
         TypeName::TwoAlternatives => recoded_as::<Alt2>(alloc, codec, padding, octets),
         TypeName::Alternatives => recoded_as::<TwoAlternatives>(alloc, codec, padding, octets),
         TypeName::Many => recoded_as::<Many>(alloc, codec, padding, octets),
+        TypeName::Bag => recoded_as::<SetOf<Integer>>(alloc, codec, padding, octets),
+        TypeName::UtcTime => recoded_as::<UtcTime>(alloc, codec, padding, octets),
+        TypeName::Connect => recoded_as::<Connect>(alloc, codec, padding, octets),
+        TypeName::Set => recoded_as::<Set>(alloc, codec, padding, octets),
+        TypeName::SetOptional => recoded_as::<SetOptional>(alloc, codec, padding, octets),
+        TypeName::SetChoice => recoded_as::<SetChoice>(alloc, codec, padding, octets),
     }
 }
 

@@ -95,3 +95,18 @@ returns-in-Alternatives-clause-err c = rw c.in-Alternatives.is c.recoded_as-in-A
 
 pub returns-in-Many-clause-err : goal.returns-in-Many-clause-err
 returns-in-Many-clause-err c = rw c.in-Many.is c.recoded_as-in-Many.ensures.err
+
+pub returns-in-Bag-clause-err : goal.returns-in-Bag-clause-err
+returns-in-Bag-clause-err c = rw c.in-Bag.is c.recoded_as-in-Bag.ensures.err
+
+pub returns-in-Connect-clause-err : goal.returns-in-Connect-clause-err
+returns-in-Connect-clause-err c = rw c.in-Connect.is c.recoded_as-in-Connect.ensures.err
+
+pub returns-in-Set-clause-err : goal.returns-in-Set-clause-err
+returns-in-Set-clause-err c = rw c.in-Set.is c.recoded_as-in-Set.ensures.err
+
+pub returns-in-SetOptional-clause-err : goal.returns-in-SetOptional-clause-err
+returns-in-SetOptional-clause-err c = rw c.in-SetOptional.is c.recoded_as-in-SetOptional.ensures.err
+
+pub returns-in-SetChoice-clause-err : goal.returns-in-SetChoice-clause-err
+returns-in-SetChoice-clause-err c = rw c.in-SetChoice.is c.recoded_as-in-SetChoice.ensures.err
