@@ -15,6 +15,7 @@ use Rattle.rasn_schema.specs.Components.{lower_bound, upper_bound, sequence_at, 
 use Rattle.rasn_schema.specs.Records.{no_additions}
 use Rattle.rasn_record.specs.ExtendedRecords.{extended_at}
 use Rattle.rasn_sets.specs.Bags.{set_at}
+use Rattle.rasn_calls.specs.Moments.{date_at}
 use Rattle.per_samples_a.specs.Absents.{one_default}
 use Rattle.per_samples_a.specs.Fours.{four}
 use Rattle.per_samples_a.specs.Sevens.{seven}
@@ -39,12 +40,13 @@ use Rattle.per_core.specs.Spellings.{Settings}
 use Rattle.rasn_per.specs.Complete.{AreBytes, HasNoBytes, AreReadBy, AreUnreadBy, reading, basically}
 use Rattle.per_samples_i.specs.Connects.{connect}
 use Rattle.per_samples_j.specs.Sets.{set, set_choice, set_optional}
+use Rattle.per_samples_l.specs.Dnests.{dnest}
 use Rattle.rasn_set_record.specs.SetRecords.{set_at as set_of_parts}
 use Rattle.rasn_per.specs.Kinds.{IsInOctetsBy}
 use Rattle.per_write.specs.declared.error.EncodeErrorKind.TheVariants as Encoding
 use Rattle.per_read.specs.declared.error.DecodeErrorKind.TheVariants as Decoding
 use Rattle.per_lines.specs.declared.arguments.TypeName.{TypeName}
-use Rattle.per_lines.specs.declared.arguments.TypeName.TheVariants.{Boolean, Null, Integer, UpTo65535, FromMinusOne, Natural, ZeroTo65536, OneToTenExtensible, Four, Seven, OneDefault, ShortVisible, LettersAToE, BitString, OctetString, OnlyX, Items, Byte, MaybeEmpty, Nested, Nest, Deep, Bytes, Nulls, NullList, Elements, Outer1, Outer2, Outer3, Grouped, NoneNeeded, OneNeeded, AddedDefault, Outers1, Outers3, BeforeNest, AddedNest, Grouped1, Grouped2, OneColor, TwoColors, DefaultOuter1, DefaultOuter3, OneAlternative, TwoAlternatives, Alternatives, Many, Bag, UtcTime, Connect, Set, SetOptional, SetChoice}
+use Rattle.per_lines.specs.declared.arguments.TypeName.TheVariants.{Boolean, Null, Integer, UpTo65535, FromMinusOne, Natural, ZeroTo65536, OneToTenExtensible, Four, Seven, OneDefault, ShortVisible, LettersAToE, BitString, OctetString, OnlyX, Items, Byte, MaybeEmpty, Nested, Nest, Deep, Bytes, Nulls, NullList, Elements, Outer1, Outer2, Outer3, Grouped, NoneNeeded, OneNeeded, AddedDefault, Outers1, Outers3, BeforeNest, AddedNest, Grouped1, Grouped2, OneColor, TwoColors, DefaultOuter1, DefaultOuter3, OneAlternative, TwoAlternatives, Alternatives, Many, Bag, UtcTime, Connect, Set, SetOptional, SetChoice, Date, DatedNest}
 use Rattle.per_lines.specs.declared.arguments.Form.{Form}
 use Rattle.per_lines.specs.declared.arguments.Form.TheVariants.{OneLine, Lines, Zero, As}
 use Rattle.per_lines.specs.declared.arguments.Padding.{Padding}
@@ -59,7 +61,7 @@ one_to u = record { least = Some 1; most = Some u }
 -- what the name of a type means: BOOLEAN (X.680 18); NULL (X.680 24); INTEGER (X.680 19), alone and under value constraints
 -- (X.680 51.4); SEQUENCE (X.680 25), with a default, an ENUMERATED (X.680 20), itself or an extension marker in it; SEQUENCE OF
 -- (X.680 26); SET OF (X.680 28); CHOICE (X.680 29); BIT STRING (X.680 22); OCTET STRING (X.680 23); character strings (X.680 41) by
--- their characters; and UTCTime (X.680 47)
+-- their characters; UTCTime (X.680 47); and DATE (X.680 38.4)
 abbrev pub schema_of : TypeName → ℕ → Schema
 schema_of Boolean = always Schema.boolean
 schema_of Null = always Schema.null
@@ -114,6 +116,8 @@ schema_of Connect = sequence_at connect
 schema_of Set = set_of_parts set
 schema_of SetOptional = set_of_parts set_optional
 schema_of SetChoice = set_of_parts set_choice
+schema_of Date = date_at
+schema_of DatedNest = sequence_at dnest
 
 -- `zero` asks that padding is zero; behind `as` what is written needs no such check
 abbrev pub padding_of : Form → Padding

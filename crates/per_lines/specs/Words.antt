@@ -3,7 +3,7 @@ use Rattle.std.specs.Prelude.{ℕ, List, [], ◌∷◌, String, codes, map, stri
 use Rattle.rasn_types.specs.declared.types.Codec.{Codec}
 use Rattle.rasn_types.specs.declared.types.Codec.TheVariants.{Aper, Uper}
 use Rattle.per_lines.specs.declared.arguments.TypeName.{TypeName}
-use Rattle.per_lines.specs.declared.arguments.TypeName.TheVariants.{Boolean, Null, Integer, UpTo65535, FromMinusOne, Natural, ZeroTo65536, OneToTenExtensible, Four, Seven, OneDefault, ShortVisible, LettersAToE, BitString, OctetString, OnlyX, Items, Byte, MaybeEmpty, Nested, Nest, Deep, Bytes, Nulls, NullList, Elements, Outer1, Outer2, Outer3, Grouped, NoneNeeded, OneNeeded, AddedDefault, Outers1, Outers3, BeforeNest, AddedNest, Grouped1, Grouped2, OneColor, TwoColors, DefaultOuter1, DefaultOuter3, OneAlternative, TwoAlternatives, Alternatives, Many, Bag, UtcTime, Connect, Set, SetOptional, SetChoice}
+use Rattle.per_lines.specs.declared.arguments.TypeName.TheVariants.{Boolean, Null, Integer, UpTo65535, FromMinusOne, Natural, ZeroTo65536, OneToTenExtensible, Four, Seven, OneDefault, ShortVisible, LettersAToE, BitString, OctetString, OnlyX, Items, Byte, MaybeEmpty, Nested, Nest, Deep, Bytes, Nulls, NullList, Elements, Outer1, Outer2, Outer3, Grouped, NoneNeeded, OneNeeded, AddedDefault, Outers1, Outers3, BeforeNest, AddedNest, Grouped1, Grouped2, OneColor, TwoColors, DefaultOuter1, DefaultOuter3, OneAlternative, TwoAlternatives, Alternatives, Many, Bag, UtcTime, Connect, Set, SetOptional, SetChoice, Date, DatedNest}
 use Rattle.per_lines.specs.declared.arguments.Form.{Form}
 use Rattle.per_lines.specs.declared.arguments.Form.TheVariants.{OneLine, Lines, Zero, As}
 use Rattle.per_lines.specs.declared.arguments.Arguments.{Arguments}
@@ -70,6 +70,8 @@ type_word Connect = codes "connect"
 type_word Set = codes "set"
 type_word SetOptional = codes "setopt"
 type_word SetChoice = codes "setchoice"
+type_word Date = codes "date"
+type_word DatedNest = codes "dnest"
 
 -- nothing, `lines`, `zero`, or `as` and another type
 abbrev pub form_words : Form → List (List ℕ)

@@ -123,6 +123,10 @@ pub enum TypeName {
     SetOptional,
     /// SET { k [5] BOOLEAN, c CHOICE { m [3] BOOLEAN, n [9] NULL } }, whose choice has no tag of its own.
     SetChoice,
+    /// DATE.
+    Date,
+    /// Dnest ::= SEQUENCE { inner Dnest OPTIONAL, d DATE OPTIONAL }.
+    DatedNest,
 }
 
 /// How much is read, and what is printed.
@@ -230,6 +234,8 @@ impl TypeName {
             "set" => Some(TypeName::Set),
             "setopt" => Some(TypeName::SetOptional),
             "setchoice" => Some(TypeName::SetChoice),
+            "date" => Some(TypeName::Date),
+            "dnest" => Some(TypeName::DatedNest),
             _ => None,
         }
     }

@@ -46,6 +46,7 @@ use per_samples_i::connect::Connect;
 use per_samples_j::set::Set;
 use per_samples_j::set_choice::SetChoice;
 use per_samples_j::set_optional::SetOptional;
+use per_samples_l::dnest::Dnest;
 use per_samples_m::many::Many;
 use rasn_codec::codec::{Decode, Encode};
 use rasn_per::{aper, uper};
@@ -54,6 +55,7 @@ use rasn_types::big::Integer;
 use rasn_types::bit_string::BitString;
 use rasn_types::octet_strings::OctetString;
 use rasn_types::types::Codec;
+use rasn_useful::date::Date;
 use rasn_useful::utc_time::UtcTime;
 use std::alloc::Global;
 
@@ -141,6 +143,8 @@ fn recoded(
         TypeName::Set => recoded_as::<Set>(alloc, codec, padding, octets),
         TypeName::SetOptional => recoded_as::<SetOptional>(alloc, codec, padding, octets),
         TypeName::SetChoice => recoded_as::<SetChoice>(alloc, codec, padding, octets),
+        TypeName::Date => recoded_as::<Date>(alloc, codec, padding, octets),
+        TypeName::DatedNest => recoded_as::<Dnest>(alloc, codec, padding, octets),
     }
 }
 

@@ -110,3 +110,6 @@ returns-in-SetOptional-clause-err c = rw c.in-SetOptional.is c.recoded_as-in-Set
 
 pub returns-in-SetChoice-clause-err : goal.returns-in-SetChoice-clause-err
 returns-in-SetChoice-clause-err c = rw c.in-SetChoice.is c.recoded_as-in-SetChoice.ensures.err
+
+pub returns-in-DatedNest-clause-err : goal.returns-in-DatedNest-clause-err
+returns-in-DatedNest-clause-err c = rw c.in-DatedNest.is c.recoded_as-in-DatedNest.ensures.err
