@@ -1,13 +1,14 @@
 -- What stands in a Dnest, by its fields.
-use denote.Hole.Carrier.{roll}
-use Rattle.std.proofs.Common.{◌≡◌, refl, Box, Global, Option, Some, None, [], ◌∷◌}
+use denote.Hole.Carrier.{out, roll}
+use Rattle.std.proofs.Common.{◌≡◌, refl, Box, Global, suc, max, Option, Some, None, [], ◌∷◌}
 use Rattle.jiff.specs.Types.{Date}
 use Rattle.rasn_schema.specs.Components.{sequence_value}
 use Rattle.rasn_calls.specs.Moments.{date_value}
 use Rattle.rasn_calls.specs.Presences.{slot_of}
-use Rattle.per_samples_l.specs.Dnests.{dnest_contents}
-use Rattle.per_samples_l.specs.declared.dnest.Dnest.{Dnest}
-use Rattle.per_samples_l.specs.declared.dnest.Dnest.TheViews.{roll-Dnest}
+use Rattle.rasn_below.specs.Values.{slot_levels}
+use Rattle.per_samples_l.specs.Dnests.{dnest_contents, dnest_depth}
+use Rattle.per_samples_l.specs.declared.dnest.Dnest.{Dnest, Dnest', None', Some'}
+use Rattle.per_samples_l.specs.declared.dnest.Dnest.TheViews.{out-Dnest, roll-Dnest}
 
 -- what is read, of its components
 pub contents_read : (x : Option (Box Dnest Global)) (d : Option Date)
@@ -15,3 +16,14 @@ pub contents_read : (x : Option (Box Dnest Global)) (d : Option Date)
 unfolding roll-Dnest roll
 contents_read None d = refl
 contents_read (Some b) d = refl
+
+-- and what is looked at, with how many levels that takes
+pub contents_of : (x : Dnest) → dnest_contents x ≡ slot_of (λ b. sequence_value (dnest_contents b.value)) ((out-Dnest x).inner) ∷ slot_of date_value ((out-Dnest x).d) ∷ []
+unfolding out-Dnest out
+contents_of (Dnest' None' d) = refl
+contents_of (Dnest' (Some' p x) d) = refl
+
+pub depth_of : (x : Dnest) → dnest_depth x ≡ max (slot_levels (λ b. suc (dnest_depth b.value)) ((out-Dnest x).inner)) (max (slot_levels (λ _. 2) ((out-Dnest x).d)) 0)
+unfolding out-Dnest out
+depth_of (Dnest' None' d) = refl
+depth_of (Dnest' (Some' p x) d) = refl

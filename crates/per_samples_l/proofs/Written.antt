@@ -36,7 +36,7 @@ other = refl
 abbrev both : Option Value → Option Value → Value
 both r s = sequence_value (r ∷ s ∷ [])
 
-pub nothing_there : (n : ℕ) → 3 ≤ n → bytes unaligned (sequence_at dnest n) (normal (sequence_at dnest n) (both None None)) ≡ Some (0x00 ∷ [])
+pub nothing_there : (n : ℕ) → 1 ≤ n → bytes unaligned (sequence_at dnest n) (normal (sequence_at dnest n) (both None None)) ≡ Some (0x00 ∷ [])
 unfolding bytes normal settle
 nothing_there zero h = absurd (omega arith)
 nothing_there (suc n) h = refl
@@ -50,7 +50,7 @@ one_inside (suc (suc zero)) h = absurd (omega arith)
 one_inside (suc (suc (suc zero))) h = absurd (omega arith)
 one_inside (suc (suc (suc (suc n)))) h = refl
 
-pub beside_one : (n : ℕ) → 4 ≤ n
+pub beside_one : (n : ℕ) → 3 ≤ n
     → bytes aligned (sequence_at dnest n) (normal (sequence_at dnest n) (both (Some (both None None)) (Some (day (pos 2024) 2 29)))) ≡ Some (0xc4 ∷ 0x03 ∷ 0x1e ∷ 0x00 ∷ [])
 unfolding bytes normal settle
 beside_one zero h = absurd (omega arith)

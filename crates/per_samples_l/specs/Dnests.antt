@@ -9,6 +9,7 @@ use Rattle.rasn_calls.specs.Moments.{date_at, date_value}
 use Rattle.rasn_calls.specs.Presences.{slot_of}
 use Rattle.rasn_useful.specs.Dates.{date_levelled}
 use Rattle.rasn_below.specs.Components.{date}
+use Rattle.rasn_below.specs.Values.{slot_levels}
 use Rattle.per_samples_l.specs.declared.dnest.Dnest.{Dnest, Dnest', Held-Dnest-inner, None', Some'}
 
 -- to a number of levels
@@ -43,7 +44,7 @@ abbrev mutual
 -- how many levels they take
 abbrev mutual
   pub dnest_depth : Dnest → ℕ
-  dnest_depth (Dnest' inner d) = max (inner_depth inner) 2
+  dnest_depth (Dnest' inner d) = max (inner_depth inner) (max (slot_levels (λ _. 2) d) 0)
 
   pub inner_depth : Held-Dnest-inner → ℕ
   inner_depth None' = 0

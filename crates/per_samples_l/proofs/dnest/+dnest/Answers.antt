@@ -1,14 +1,20 @@
-use Rattle.std.proofs.Common.{refl, rules, subst, sym, false}
+use Rattle.std.proofs.Common.{◌≡◌, ℕ, refl, rules, subst, sym, false}
 use Rattle.std.proofs.lemmas.Result.{err_from_is_err_and}
+use Rattle.rasn_types.specs.Values.{Value}
 use Rattle.rasn_schema.specs.Components.{parts_of, sequence_at, sequence_value}
 use Rattle.rasn_schema.specs.Records.{no_additions}
 use Rattle.rasn_schema.specs.Schemas.{optional}
+use Rattle.rasn_calls.specs.Calls.{DecoderRules}
 use Rattle.rasn_calls.specs.Scopes.{reads_end, reads_left_out, reads_next, reads_there}
 use Rattle.rasn_calls.proofs.Optionals.{bit_refused, value_unread}
 use Rattle.rasn_calls.proofs.Reading.{fails_behind, fails_part, inside_left, part_reads_well, plainly_read, record_ended, record_endless, record_root_failed}
-use Rattle.per_samples_l.specs.Dnests.{dnest, dnest_is_sequence}
+use Rattle.per_samples_l.specs.Dnests.{dnest, dnest_is_sequence, dnest_schema}
 use Rattle.per_samples_l.proofs.Contents.{contents_read}
 use Rattle.per_samples_l.proofs.dnest.+dnest.Goals as goal
+
+-- what is read of the record inside, to the levels left
+spelled_as : {E S : Type 0} (rules : DecoderRules E S) {n m : ℕ} {s t : S} {v : Value} → n ≡ m → rules.spells (sequence_at dnest n) s v t → rules.spells (dnest_schema m) s v t
+spelled_as rules {n = n} {s = s} {t = t} {v = v} e h = subst (λ k. rules.spells (dnest_schema k) s v t) e (subst (λ c. rules.spells c s v t) (dnest_is_sequence n) h)
 
 -- the first component
 pub Dnest::decode_inner-returns-in_err-next_presence : goal.Dnest::decode_inner-returns-in_err-next_presence
@@ -32,7 +38,7 @@ Dnest::decode_inner-returns g t c =
     let k = rw c.if-not-branch.false at c.in_ok-next_presence.ensures.law in
     let l = g.met.D.Decoder.lawful.marked.level _ _ _ k in
     let b = c.in_ok-inner-2.ensures.law in
-    record { law = rw (b.0, b.1) (reads_there refl k (rw (l, dnest_is_sequence) at c.in_ok-inner.ensures.law)); behaves = search rules }
+    record { law = rw (b.0, b.1) (reads_there refl k (spelled_as g.D.Decoder.rules l c.in_ok-inner.ensures.law)); behaves = search rules }
 
 -- the record
 pub DnestDecode::decode_with_tag_and_constraints-returns-in_err-inner : goal.DnestDecode::decode_with_tag_and_constraints-returns-in_err-inner
