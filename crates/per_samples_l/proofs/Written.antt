@@ -1,5 +1,5 @@
 -- What is written of dates, and of records with one, at each depth that holds them.
-use Rattle.std.proofs.Common.{◌≡◌, ◌≤◌, ℕ, zero, suc, ℤ, pos, List, [], ◌∷◌, Option, Some, None, arith, refl}
+use Rattle.std.proofs.Common.{◌≡◌, ◌≤◌, ℕ, zero, suc, pos, List, [], ◌∷◌, Option, Some, None, arith, refl}
 use Rattle.rasn_types.specs.Values.{Value, day}
 use Rattle.rasn_types.specs.Variants.{Variant, aligned, unaligned}
 use Rattle.rasn_schema.specs.Components.{sequence_at, sequence_value}
