@@ -363,3 +363,35 @@ fn replies_before_it_reads_on(rt: HostRuntime) -> Result<(), Fail> {
     assert_eq!(rt; replies.get(), 4);
     Ok(())
 }
+
+/// Counts how often it is told to pass on what it took.
+#[derive(Drop)]
+struct Flushes {
+    count: Rc<Cell<usize>>,
+}
+
+impl io::Write for Flushes {
+    fn write(&mut self, octets: &[u8]) -> io::Result<usize> {
+        Ok(octets.len())
+    }
+
+    fn flush(&mut self) -> io::Result<()> {
+        self.count.set(self.count.get().saturating_add(1));
+        Ok(())
+    }
+}
+
+#[test]
+fn replies_together_to_lines_that_are_there(rt: HostRuntime) -> Result<(), Fail> {
+    let flushes = Rc::new(rt.alloc(), Cell::new(0))?;
+    let mut input = b"0105\n0106\n0107\n".as_slice();
+    let mut output = Flushes {
+        count: flushes.clone()?,
+    };
+    let (status, faults) = told(rt.alloc(), "uper integer lines", &mut input, &mut output)?;
+    assert_eq!(rt; status, 0);
+    assert!(rt; faults.is_empty());
+    // Once behind the three lines, and once at the end of the input.
+    assert_eq!(rt; flushes.get(), 2);
+    Ok(())
+}

@@ -1,5 +1,5 @@
 -- The replies to the lines of an input, one by one.
-use Rattle.std.proofs.Common.{◌≡◌, refl, sym, ap, ◌∙◌, ℕ, List, [], ◌∷◌, ◌++◌, Option, Some, None, IfSome, append_assoc, append-nil}
+use Rattle.std.proofs.Common.{◌≡◌, refl, sym, ap, ◌∙◌, ℕ, Bool, true, false, List, [], ◌∷◌, ◌++◌, Option, Some, None, IfSome, append_assoc, append-nil}
 use Rattle.std.specs.Prelude.{IsSomeAnd}
 use Rattle.std.specs.Io.BufRead.{drop_through}
 use Rattle.std.specs.Io.KnownBytes.{Appends, Keeps, IsAtEnd, prepend_known}
@@ -10,7 +10,7 @@ use Rattle.per_lines.specs.declared.fault.Fault.{Fault}
 use Rattle.per_lines.specs.declared.fault.Fault.TheVariants.{WrongArguments, CannotRead, BadHexadecimal, Decode, Encode, CannotWrite, OutOfMemory}
 use Rattle.per_lines.specs.Lines.{lines_of, TakesLine}
 use Rattle.per_lines.proofs.LineLaws.{lines-cons}
-use Rattle.per_lines.specs.Answers.{IsReply, AreReplies, PrintsReplies, PrintsNext, EndsTurn, EndsReplies}
+use Rattle.per_lines.specs.Answers.{IsReply, AreReplies, PrintsReplies, PrintsNext, HasReplied, TakesTurns, EndsTurn, EndsReplies}
 
 -- one reply more
 replies-more : (a : Arguments) (lines : List (List ℕ)) (octets line text : List ℕ) →
@@ -18,14 +18,6 @@ replies-more : (a : Arguments) (lines : List (List ℕ)) (octets line text : Lis
 replies-more a [] octets line text e r = (text, [], r, refl, rw e (sym (append-nil text)))
 replies-more a (first ∷ lines) octets line text (t, rest, r0, more, e) r =
     (t, rest ++ text, r0, replies-more a lines rest line text more r, ap (λ z. z ++ text) e ∙ append_assoc t rest text)
-
--- the replies to the first lines of an input are printed, and this is left of it
-pub record HasReplied (a : Arguments) (input rest before now : Option (List ℕ)) : Type 0 where
-  pub lines : List (List ℕ)
-  pub texts : List ℕ
-  pub first : IfSome input (λ octets. IsSomeAnd rest (λ left. lines_of octets ≡ lines ++ lines_of left))
-  pub are_replies : AreReplies a lines texts
-  pub printed : Appends before now texts
 
 appends-none : (known : Option (List ℕ)) → Appends known known []
 appends-none None = tt
@@ -115,6 +107,102 @@ replied-some a input rest before now after x k = record {
   are_replies = x.are_replies;
   printed = appends-kept before now after x.texts x.printed k;
 }
+
+-- replies behind replies
+replies-then : (a : Arguments) (lines others : List (List ℕ)) (octets more : List ℕ) →
+    AreReplies a lines octets → AreReplies a others more → AreReplies a (lines ++ others) (octets ++ more)
+replies-then a [] others octets more e r = rw e r
+replies-then a (first ∷ lines) others octets more (t, rest, r0, tail, e) r =
+    (t, rest ++ more, r0, replies-then a lines others rest more tail r, ap (λ z. z ++ more) e ∙ append_assoc t rest more)
+
+first-then : (input rest : Option (List ℕ)) (lines others : List (List ℕ)) (P : Option (List ℕ)) →
+    IfSome input (λ octets. IsSomeAnd rest (λ left. lines_of octets ≡ lines ++ lines_of left)) →
+    IfSome rest (λ octets. IsSomeAnd P (λ left. lines_of octets ≡ others ++ lines_of left)) →
+    IfSome input (λ octets. IsSomeAnd P (λ left. lines_of octets ≡ (lines ++ others) ++ lines_of left))
+first-then None rest lines others p x y = tt
+first-then (Some octets) None lines others p x y = elim x [ ]
+first-then (Some octets) (Some left) lines others None x y = elim y [ ]
+first-then (Some octets) (Some left) lines others (Some end) x y =
+    x ∙ ap (λ u. lines ++ u) y ∙ sym (append_assoc lines others (lines_of end))
+
+last-then : (input rest : Option (List ℕ)) (lines others last : List (List ℕ)) →
+    IfSome input (λ octets. IsSomeAnd rest (λ left. lines_of octets ≡ lines ++ lines_of left)) →
+    IfSome rest (λ octets. lines_of octets ≡ others ++ last) → IfSome input (λ octets. lines_of octets ≡ (lines ++ others) ++ last)
+last-then None rest lines others last x y = tt
+last-then (Some octets) None lines others last x y = elim x [ ]
+last-then (Some octets) (Some left) lines others last x y = x ∙ ap (λ u. lines ++ u) y ∙ sym (append_assoc lines others last)
+
+pub replied-then : (a : Arguments) (input rest left before now after : Option (List ℕ)) →
+    HasReplied a input rest before now → HasReplied a rest left now after → HasReplied a input left before after
+replied-then a input rest left before now after x y = record {
+  lines = x.lines ++ y.lines;
+  texts = x.texts ++ y.texts;
+  first = first-then input rest x.lines y.lines left x.first y.first;
+  are_replies = replies-then a x.lines y.lines x.texts y.texts x.are_replies y.are_replies;
+  printed = appends-more before now after x.texts y.texts x.printed y.printed;
+}
+
+-- replies that were kept, and then printed
+appends-through : (kept : List ℕ) (before after : Option (List ℕ)) (texts : List ℕ) →
+    Appends (Some []) (Some kept) texts → Appends before after kept → Appends before after texts
+appends-through kept before after texts x y = rw (sym x) y
+
+pub replied-through : (a : Arguments) (input rest before after : Option (List ℕ)) (kept : List ℕ) →
+    HasReplied a input rest (Some []) (Some kept) → Appends before after kept → HasReplied a input rest before after
+replied-through a input rest before after kept x y = record {
+  lines = x.lines;
+  texts = x.texts;
+  first = x.first;
+  are_replies = x.are_replies;
+  printed = appends-through kept before after x.texts x.printed y;
+}
+
+prints-through : (a : Arguments) (input before after : Option (List ℕ)) (last : List (List ℕ)) (kept : List ℕ) →
+    PrintsReplies a input last (Some []) (Some kept) → Appends before after kept → PrintsReplies a input last before after
+prints-through a input before after last kept x y = record {
+  lines = x.lines;
+  texts = x.texts;
+  first = x.first;
+  are_replies = x.are_replies;
+  printed = appends-through kept before after x.texts x.printed y;
+}
+
+pub turns-through : (a : Arguments) (more : Bool) (input rest before after : Option (List ℕ)) (kept : List ℕ) →
+    TakesTurns a more input rest (Some []) (Some kept) → Appends before after kept → TakesTurns a more input rest before after
+turns-through a true input rest before after kept x y = replied-through a input rest before after kept x y
+turns-through a false input rest before after kept x y = prints-through a input before after [] kept x y
+
+pub ends_through : (a : Arguments) (input before after : Option (List ℕ)) (kept : List ℕ) (fault : Fault) →
+    EndsReplies a input (Some []) (Some kept) fault → Appends before after kept → EndsReplies a input before after fault
+ends_through a input before after kept WrongArguments x y = elim x [ ]
+ends_through a input before after kept BadHexadecimal x y = elim x [ ]
+ends_through a input before after kept (Decode _) x y = elim x [ ]
+ends_through a input before after kept (Encode _) x y = elim x [ ]
+ends_through a input before after kept CannotRead x y = (x.0, prints-through a input before after x.0 kept x.1 y)
+ends_through a input before after kept CannotWrite x y = tt
+ends_through a input before after kept OutOfMemory x y = tt
+
+-- the last turns
+pub prints-then : (a : Arguments) (input rest before now after : Option (List ℕ)) (last : List (List ℕ)) →
+    HasReplied a input rest before now → PrintsReplies a rest last now after → PrintsReplies a input last before after
+prints-then a input rest before now after last x y = record {
+  lines = x.lines ++ y.lines;
+  texts = x.texts ++ y.texts;
+  first = last-then input rest x.lines y.lines last x.first y.first;
+  are_replies = replies-then a x.lines y.lines x.texts y.texts x.are_replies y.are_replies;
+  printed = appends-more before now after x.texts y.texts x.printed y.printed;
+}
+
+-- turns that fail end the replies
+pub ends_then : (a : Arguments) (input rest before now after : Option (List ℕ)) (fault : Fault) →
+    HasReplied a input rest before now → EndsReplies a rest now after fault → EndsReplies a input before after fault
+ends_then a input rest before now after WrongArguments x y = elim y [ ]
+ends_then a input rest before now after BadHexadecimal x y = elim y [ ]
+ends_then a input rest before now after (Decode _) x y = elim y [ ]
+ends_then a input rest before now after (Encode _) x y = elim y [ ]
+ends_then a input rest before now after CannotRead x y = (y.0, prints-then a input rest before now after y.0 x y.1)
+ends_then a input rest before now after CannotWrite x y = tt
+ends_then a input rest before now after OutOfMemory x y = tt
 
 -- a turn that fails ends the replies
 pub ends_turn : (a : Arguments) (input rest before now after : Option (List ℕ)) (fault : Fault) →

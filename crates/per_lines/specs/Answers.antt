@@ -1,5 +1,5 @@
 -- What the program answers to its words and its input.
-use Rattle.std.specs.Prelude.{ℕ, ◌≡◌, ◌≢◌, ◌⊎◌, Bool, true, false, ⊤, List, [], ◌∷◌, ◌++◌, Option, IfSome, Ok, codes}
+use Rattle.std.specs.Prelude.{ℕ, ◌≡◌, ◌≢◌, ◌⊎◌, Bool, true, false, ⊤, List, [], ◌∷◌, ◌++◌, Option, IfSome, IsSomeAnd, Ok, codes}
 use Rattle.std.specs.Io.KnownBytes.{Appends, Keeps, IsAtEnd}
 use Rattle.rasn_types.specs.Codecs.{variant_of}
 use Rattle.hex.specs.Hex.{decode_of, encode_lower}
@@ -134,6 +134,19 @@ pub record PrintsNext (a : Arguments) (input rest before after : Option (List �
 abbrev pub TakesTurn : Arguments → Bool → Option (List ℕ) → Option (List ℕ) → Option (List ℕ) → Option (List ℕ) → Type 0
 TakesTurn a true input rest before after = PrintsNext a input rest before after
 TakesTurn a false input rest before after = IsAtEnd input × Keeps before after
+
+-- the first lines of an input were taken, this is left of it, and an output got their replies, and nothing else
+pub record HasReplied (a : Arguments) (input rest before after : Option (List ℕ)) : Type 0 where
+  pub lines : List (List ℕ)
+  pub texts : List ℕ
+  pub first : IfSome input (λ octets. IsSomeAnd rest (λ left. lines_of octets ≡ lines ++ lines_of left))
+  pub are_replies : AreReplies a lines texts
+  pub printed : Appends before after texts
+
+-- what some turns do: an output gets the replies to the lines that they take; where there are no more lines, those to all
+abbrev pub TakesTurns : Arguments → Bool → Option (List ℕ) → Option (List ℕ) → Option (List ℕ) → Option (List ℕ) → Type 0
+TakesTurns a true input rest before after = HasReplied a input rest before after
+TakesTurns a false input rest before after = PrintsReplies a input [] before after
 
 -- why a turn fails, and what the output got by then
 abbrev pub EndsTurn : Option (List ℕ) → Option (List ℕ) → Fault → Type 0

@@ -1,7 +1,8 @@
 //! The form `lines`: a reply to each line, as a Unix filter gives it.
 
-ghost use Rattle.std.specs.Prelude.{◌≡◌, [], IfOk, IfErr, OnOk};
-ghost use Rattle.per_lines.specs.Answers.{PrintsReplies, EndsReplies, TakesTurn, EndsTurn};
+ghost use Rattle.std.specs.Prelude.{◌≡◌, [], Some, IfOk, IfErr, OnOk, string_bytes};
+ghost use Rattle.std.specs.Io.Buffered.{reader_remaining};
+ghost use Rattle.per_lines.specs.Answers.{PrintsReplies, EndsReplies, TakesTurn, TakesTurns, EndsTurn};
 
 use crate::answer::reply;
 use crate::arguments::Arguments;
@@ -9,7 +10,7 @@ use crate::fault::Fault;
 use crate::line::next_line;
 use crate::output::write;
 use std::alloc::Global;
-use std::io::{BufRead, BufReader, Write};
+use std::io::{BufRead, BufReader, Read, Write};
 
 /// Prints the reply to each line of `input`, which is read through a buffer.
 pub fn reply_to_lines<R: BufRead, W: Write>(
@@ -30,16 +31,16 @@ pub fn reply_to_lines<R: BufRead, W: Write>(
 }
 
 /// Prints the reply to each line.
-fn reply_to_each<R: BufRead, W: Write>(
+fn reply_to_each<R: Read, W: Write>(
     alloc: Global,
     arguments: Arguments,
-    input: &mut R,
+    input: &mut BufReader<R>,
     output: &mut W,
 ) -> Result<(), Fault>
-    ensures ok { OnOk result
-        (PrintsReplies arguments (R.remaining input.old) [] (W.contents output.old) (W.contents output.new)) }
-    ensures err { IfErr result
-        (EndsReplies arguments (R.remaining input.old) (W.contents output.old) (W.contents output.new)) }
+    ensures ok { OnOk result (PrintsReplies arguments
+        (reader_remaining R.remaining input.old) [] (W.contents output.old) (W.contents output.new)) }
+    ensures err { IfErr result (EndsReplies arguments
+        (reader_remaining R.remaining input.old) (W.contents output.old) (W.contents output.new)) }
 {
     for _ in 0..u64::MAX {
         if !reply_to_next(alloc, arguments, input, output)? {
@@ -49,26 +50,69 @@ fn reply_to_each<R: BufRead, W: Write>(
     Err(Fault::CannotRead)
 }
 
-/// Takes the next line and prints its reply, through to where the output goes. Answers whether there was a line.
+/// Takes the next lines and prints their replies, through to where the output goes. Answers whether there may be more.
 ///
-/// Nothing behind the line is taken, so no reply is kept back while more of the input is waited for.
-pub fn reply_to_next<R: BufRead, W: Write>(
+/// Lines behind the next one are taken where they are in the buffer already, so no reply is kept back while more of
+/// the input is waited for.
+pub fn reply_to_next<R: Read, W: Write>(
+    alloc: Global,
+    arguments: Arguments,
+    input: &mut BufReader<R>,
+    output: &mut W,
+) -> Result<bool, Fault>
+    ensures ok { IfOk result (λ more. TakesTurns arguments more (reader_remaining R.remaining input.old)
+        (reader_remaining R.remaining input.new) (W.contents output.old) (W.contents output.new)) }
+    ensures err { IfErr result (EndsReplies arguments
+        (reader_remaining R.remaining input.old) (W.contents output.old) (W.contents output.new)) }
+{
+    let mut replies = String::new(alloc);
+    let taken = take_lines(alloc, arguments, input, &mut replies);
+    match write(replies.as_str(), output) {
+        Ok(()) => taken,
+        Err(error) => Err(Fault::of_io(&error, Fault::CannotWrite)),
+    }
+}
+
+/// Takes the next line, and those behind it that are whole in the buffer, and puts their replies behind `replies`.
+/// Answers whether there may be more.
+fn take_lines<R: Read>(
+    alloc: Global,
+    arguments: Arguments,
+    input: &mut BufReader<R>,
+    replies: &mut String,
+) -> Result<bool, Fault>
+    ensures ok { IfOk result (λ more. TakesTurns arguments more (reader_remaining R.remaining input.old)
+        (reader_remaining R.remaining input.new) (Some (string_bytes replies.old)) (Some (string_bytes replies.new))) }
+    ensures err { IfErr result (EndsReplies arguments (reader_remaining R.remaining input.old)
+        (Some (string_bytes replies.old)) (Some (string_bytes replies.new))) }
+{
+    for _ in 0..u64::MAX {
+        if !take_line(alloc, arguments, input, replies)? {
+            return Ok(false);
+        }
+        if !input.buffer().contains(&b'\n') {
+            return Ok(true);
+        }
+    }
+    Ok(true)
+}
+
+/// Takes the next line, and puts its reply behind `replies`. Answers whether there was a line.
+fn take_line<R: BufRead>(
     alloc: Global,
     arguments: Arguments,
     input: &mut R,
-    output: &mut W,
+    replies: &mut String,
 ) -> Result<bool, Fault>
-    ensures ok { IfOk result (λ some. TakesTurn arguments some
-        (R.remaining input.old) (R.remaining input.new) (W.contents output.old) (W.contents output.new)) }
-    ensures err { IfErr result (EndsTurn (W.contents output.old) (W.contents output.new)) }
+    ensures ok { IfOk result (λ some. TakesTurn arguments some (R.remaining input.old) (R.remaining input.new)
+        (Some (string_bytes replies.old)) (Some (string_bytes replies.new))) }
+    ensures err { IfErr result (EndsTurn (Some (string_bytes replies.old)) (Some (string_bytes replies.new))) }
 {
     let next = next_line(alloc, input).map_err(|error| Fault::of_io(&error, Fault::CannotRead))?;
     let Some(line) = next else {
         return Ok(false);
     };
     let text = reply(alloc, arguments, line)?;
-    match write(text.as_str(), output) {
-        Ok(()) => Ok(true),
-        Err(error) => Err(Fault::of_io(&error, Fault::CannotWrite)),
-    }
+    replies.push_str(text.as_str())?;
+    Ok(true)
 }

@@ -1,6 +1,7 @@
-use Rattle.per_lines.proofs.ReplyLaws.{HasReplied}
+use Rattle.std.specs.Io.Buffered.{reader_remaining}
+use Rattle.per_lines.specs.Answers.{HasReplied}
 use Rattle.per_lines.proofs.replies.reply_to_each.Given as goal
 
 abbrev pub invariant-loop : goal.invariant-loop
-invariant-loop g l = HasReplied l.fn.arguments
-    (g.R.Read.remaining l.fn.input) (g.R.Read.remaining l.input) (g.W.Write.contents l.fn.output) (g.W.Write.contents l.output)
+invariant-loop g l = HasReplied l.fn.arguments (reader_remaining g.R.Read.remaining l.fn.input) (reader_remaining g.R.Read.remaining l.input)
+    (g.W.Write.contents l.fn.output) (g.W.Write.contents l.output)
