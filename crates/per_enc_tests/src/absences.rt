@@ -1,9 +1,10 @@
 //! Components that may be absent and values under an explicit tag, by the calls that a closure makes, and REAL.
 
+use crate::expected::{expect_octets, expect_unwritten};
 use per_enc::{EncodeError, EncodeErrorKind, Encoder, EncoderOptions};
 use per_samples_a::some_absent::SomeAbsent;
 use rasn_below::{AsnType, Constraint, Constraints, constraints};
-use rasn_codec::codec::{Encoder as _, EncoderExt as _};
+use rasn_codec::codec::{Encoder as AnyEncoder, EncoderExt as _};
 use rasn_types::types::{Identifier, Tag};
 use std::alloc::Global;
 use std::test::Fail;
@@ -13,74 +14,95 @@ const FROM_0_TO_7: &[Constraint] = constraints!(0..=7);
 /// The second and the third component of a `SomeAbsent`, and the octets of its complete encoding.
 const ROWS: &[(Option<u8>, u8, &[u8])] = &[(Some(5), 3, &[0xb4]), (None, 4, &[0x70])];
 
-/// Writes a `SomeAbsent` whose first component is true.
-fn put_bounded(encoder: &mut Encoder<Global>, b: Option<u8>, c: u8) -> Result<(), EncodeError> {
-    let none = Identifier::EMPTY;
+const NONE: Identifier = Identifier::EMPTY;
+
+// The calls are made over any encoder, and the scope is held across few of them: to prove them of one encoder alone, or
+// in one function, costs several times as much.
+
+/// Writes the components of a `SomeAbsent`, of which the first is true.
+fn put_components<E: AnyEncoder>(encoder: &mut E, b: Option<u8>, c: u8) -> Result<(), E::Error> {
     let bounds = Constraints::new(FROM_0_TO_7);
-    let scope = encoder.open_sequence::<SomeAbsent>(SomeAbsent::TAG, none)?;
-    encoder.encode_bool(Tag::BOOL, true, none)?;
+    encoder.encode_bool(Tag::BOOL, true, NONE)?;
     match &b {
-        Some(b) => encoder.encode_some_with_constraints(&bounds, b, none)?,
-        None => encoder.encode_none::<u8>(none)?,
+        Some(b) => encoder.encode_some_with_constraints(&bounds, b, NONE)?,
+        None => encoder.encode_none::<u8>(NONE)?,
     }
-    encoder.encode_default_with_constraints(&bounds, &c, |c| *c == 3, none)?;
+    encoder.encode_default_with_constraints(&bounds, &c, |c| *c == 3, NONE)
+}
+
+/// Writes a `SomeAbsent` whose first component is true.
+fn put_bounded<E: AnyEncoder>(encoder: &mut E, b: Option<u8>, c: u8) -> Result<(), E::Error> {
+    let scope = encoder.open_sequence::<SomeAbsent>(SomeAbsent::TAG, NONE)?;
+    put_components(encoder, b, c)?;
     encoder.close_sequence::<SomeAbsent>(scope)
+}
+
+/// The octets of a `SomeAbsent` whose first component is true.
+fn bounded_of(alloc: Global, b: Option<u8>, c: u8) -> Result<Vec<u8>, EncodeError> {
+    let mut encoder = Encoder::new(alloc, EncoderOptions::unaligned());
+    put_bounded(&mut encoder, b, c)?;
+    encoder.output()
 }
 
 #[test]
 fn writes_components_that_may_be_absent(rt: HostRuntime) -> Result<(), Fail> {
     for (b, c, expected) in ROWS {
-        let mut encoder = Encoder::new(rt.alloc(), EncoderOptions::unaligned());
-        put_bounded(&mut encoder, *b, *c)?;
-        let encoding = encoder.output()?;
-        assert!(rt; encoding.as_slice() == *expected, "{b:?} and {c}");
+        let encoding = bounded_of(rt.alloc(), *b, *c)?;
+        expect_octets(&rt, encoding.as_slice(), expected);
     }
     Ok(())
 }
 
+/// Writes components under the constraints of `u8`.
+fn put_unbounded<E: AnyEncoder>(encoder: &mut E) -> Result<(), E::Error> {
+    encoder.encode_some(&5_u8, NONE)?;
+    encoder.encode_default(&3_u8, |c| *c == 3, NONE)
+}
+
+/// Writes components under a tag and the constraints of `u8`.
+fn put_tagged<E: AnyEncoder>(encoder: &mut E) -> Result<(), E::Error> {
+    encoder.encode_some_with_tag(Tag::INTEGER, &5_u8, NONE)?;
+    encoder.encode_default_with_tag(Tag::INTEGER, &4_u8, |c| *c == 3, NONE)
+}
+
 /// Writes the components of two SEQUENCEs under the constraints of `u8`.
-fn put_unbounded(encoder: &mut Encoder<Global>) -> Result<(), EncodeError> {
-    let none = Identifier::EMPTY;
-    let scope = encoder.open_sequence::<SomeAbsent>(SomeAbsent::TAG, none)?;
-    encoder.encode_some(&5_u8, none)?;
-    encoder.encode_default(&3_u8, |c| *c == 3, none)?;
+fn put_both<E: AnyEncoder>(encoder: &mut E) -> Result<(), E::Error> {
+    let scope = encoder.open_sequence::<SomeAbsent>(SomeAbsent::TAG, NONE)?;
+    put_unbounded(encoder)?;
     encoder.close_sequence::<SomeAbsent>(scope)?;
-    let scope = encoder.open_sequence::<SomeAbsent>(SomeAbsent::TAG, none)?;
-    encoder.encode_some_with_tag(Tag::INTEGER, &5_u8, none)?;
-    encoder.encode_default_with_tag(Tag::INTEGER, &4_u8, |c| *c == 3, none)?;
+    let scope = encoder.open_sequence::<SomeAbsent>(SomeAbsent::TAG, NONE)?;
+    put_tagged(encoder)?;
     encoder.close_sequence::<SomeAbsent>(scope)
+}
+
+/// The octets of both.
+fn both_of(alloc: Global) -> Result<Vec<u8>, EncodeError> {
+    let mut encoder = Encoder::new(alloc, EncoderOptions::unaligned());
+    put_both(&mut encoder)?;
+    encoder.output()
 }
 
 #[test]
 fn writes_components_under_their_own_constraints(rt: HostRuntime) -> Result<(), Fail> {
-    let mut encoder = Encoder::new(rt.alloc(), EncoderOptions::unaligned());
-    put_unbounded(&mut encoder)?;
-    let encoding = encoder.output()?;
-    assert_eq!(rt; encoding.as_slice(), [0x81, 0x70, 0x50, 0x40].as_slice());
+    let encoding = both_of(rt.alloc())?;
+    expect_octets(&rt, encoding.as_slice(), &[0x81, 0x70, 0x50, 0x40]);
     Ok(())
 }
 
 #[test]
 fn writes_no_explicit_tag(rt: HostRuntime) -> Result<(), Fail> {
     let mut encoder = Encoder::new(rt.alloc(), EncoderOptions::unaligned());
-    encoder.encode_explicit_prefix(Tag::SEQUENCE, &true, Identifier::EMPTY)?;
+    encoder.encode_explicit_prefix(Tag::SEQUENCE, &true, NONE)?;
     let encoding = encoder.output()?;
-    assert_eq!(rt; encoding.as_slice(), [0x80].as_slice());
+    expect_octets(&rt, encoding.as_slice(), &[0x80]);
     Ok(())
 }
 
 #[test]
 fn refuses_real(rt: HostRuntime) {
     let mut encoder = Encoder::new(rt.alloc(), EncoderOptions::unaligned());
-    let none = Identifier::EMPTY;
-    let refused = encoder.encode_real(Tag::REAL, &Constraints::NONE, none);
-    assert_eq!(rt;
-        refused.err().map(|error| error.kind),
-        Some(EncodeErrorKind::RealNotSupported)
-    );
-    let again = encoder.encode_real(Tag::REAL, &Constraints::NONE, none);
-    assert_eq!(rt;
-        again.err().map(|error| error.kind),
-        Some(EncodeErrorKind::AlreadyFailed)
-    );
+    let refused = encoder.encode_real(Tag::REAL, &Constraints::NONE, NONE);
+    expect_unwritten(&rt, refused.err(), EncodeErrorKind::RealNotSupported);
+    let again = encoder.encode_real(Tag::REAL, &Constraints::NONE, NONE);
+    expect_unwritten(&rt, again.err(), EncodeErrorKind::AlreadyFailed);
 }

@@ -1,6 +1,7 @@
 //! What an `Encoder` does from call to call: that it empties itself, writes the parts of a record one after another,
 //! and refuses every call once it has failed.
 
+use crate::expected::{expect_octets, expect_unwritten};
 use linked_list_allocator::LocalHeap;
 use per_bits::BitList;
 use per_enc::{EncodeError, EncodeErrorKind, Encoder, EncoderOptions};
@@ -24,8 +25,8 @@ fn empties_itself(rt: HostRuntime) -> Result<(), Fail> {
     let mut encoder = Encoder::new(rt.alloc(), EncoderOptions::default());
     assert_eq!(rt; encoder.codec(), Codec::Uper);
     let (first, second) = outputs_of(&mut encoder)?;
-    assert_eq!(rt; first.as_slice(), [0x80].as_slice());
-    assert_eq!(rt; second.as_slice(), [0x00].as_slice());
+    expect_octets(&rt, first.as_slice(), &[0x80]);
+    expect_octets(&rt, second.as_slice(), &[0x00]);
     Ok(())
 }
 
@@ -36,8 +37,8 @@ fn writes_in_place_of_the_bits_of_a_list(rt: HostRuntime) -> Result<(), Fail> {
     let mut encoder = Encoder::new_with_output(EncoderOptions::aligned(), list);
     assert_eq!(rt; encoder.codec(), Codec::Aper);
     let (first, second) = outputs_of(&mut encoder)?;
-    assert_eq!(rt; first.as_slice(), [0x80].as_slice());
-    assert_eq!(rt; second.as_slice(), [0x00].as_slice());
+    expect_octets(&rt, first.as_slice(), &[0x80]);
+    expect_octets(&rt, second.as_slice(), &[0x00]);
     Ok(())
 }
 
@@ -56,14 +57,8 @@ fn writes_the_components_of_a_record(rt: HostRuntime) -> Result<(), Fail> {
     let mut encoder = Encoder::new(rt.alloc(), EncoderOptions::unaligned());
     put_record(&mut encoder)?;
     let encoding = encoder.output_into_vec()?;
-    assert_eq!(rt; encoding.as_slice(), [0x80, 0x82, 0x80].as_slice());
+    expect_octets(&rt, encoding.as_slice(), &[0x80, 0x82, 0x80]);
     Ok(())
-}
-
-/// An error in the UNALIGNED variant.
-fn refusal(kind: EncodeErrorKind) -> Option<EncodeError> {
-    let codec = Codec::Uper;
-    Some(EncodeError { kind, codec })
 }
 
 #[test]
@@ -85,15 +80,14 @@ fn until_refused<A: Allocator + Clone>(encoder: &mut Encoder<A>) -> Option<Encod
 
 /// Each call of an encoder that has failed says so.
 fn expect_failed<A: Allocator + Clone>(rt: &impl Abort, encoder: &mut Encoder<A>) {
-    let already_failed = refusal(EncodeErrorKind::AlreadyFailed);
     let refused = encoder.encode_bool(Tag::BOOL, true, Identifier::EMPTY);
-    assert_eq!(rt; refused.err(), already_failed);
+    expect_unwritten(rt, refused.err(), EncodeErrorKind::AlreadyFailed);
     let refused = encoder.encode_null(Tag::NULL, Identifier::EMPTY);
-    assert_eq!(rt; refused.err(), already_failed);
+    expect_unwritten(rt, refused.err(), EncodeErrorKind::AlreadyFailed);
     let none = Constraints::NONE;
     let refused = encoder.encode_integer::<i128>(Tag::INTEGER, &none, &5, Identifier::EMPTY);
-    assert_eq!(rt; refused.err(), already_failed);
-    assert_eq!(rt; encoder.output().err(), already_failed);
+    expect_unwritten(rt, refused.err(), EncodeErrorKind::AlreadyFailed);
+    expect_unwritten(rt, encoder.output().err(), EncodeErrorKind::AlreadyFailed);
 }
 
 #[test]
@@ -101,9 +95,9 @@ fn refuses_again_once_memory_ran_out(rt: HostRuntime) -> Result<(), Fail> {
     let heap = LocalHeap::new(rt.alloc(), 512)?;
     let mut encoder = Encoder::new(&heap, EncoderOptions::unaligned());
     let error = until_refused(&mut encoder);
-    assert_eq!(rt; error, refusal(EncodeErrorKind::OutOfMemory));
+    expect_unwritten(&rt, error, EncodeErrorKind::OutOfMemory);
     expect_failed(&rt, &mut encoder);
     let error = encoder.output_into_vec().err();
-    assert_eq!(rt; error, refusal(EncodeErrorKind::AlreadyFailed));
+    expect_unwritten(&rt, error, EncodeErrorKind::AlreadyFailed);
     Ok(())
 }

@@ -9,6 +9,8 @@ mod encoder;
 #[cfg(test)]
 mod errors;
 #[cfg(test)]
+mod expected;
+#[cfg(test)]
 mod lengths;
 #[cfg(test)]
 mod lists;

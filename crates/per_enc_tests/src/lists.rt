@@ -1,5 +1,6 @@
 //! Worked encodings of lists, and a count that is refused.
 
+use crate::expected::expect_unwritten;
 use per_enc::{EncodeError, EncodeErrorKind, Encoder, EncoderOptions};
 use rasn_below::{Constraint, Constraints, constraints};
 use rasn_codec::codec::Encode;
@@ -44,6 +45,6 @@ fn refuses_a_count_out_of_size(rt: HostRuntime) -> Result<(), Fail> {
     let values = nulls(rt.alloc(), 301)?;
     let encoding = encoding_of(rt.alloc(), &values, Constraints::new(FROM_1_TO_300));
     let kind = EncodeErrorKind::SizeConstraintNotSatisfied(301, Some(1), Some(300));
-    assert_eq!(rt; encoding.err().map(|error| error.kind), Some(kind));
+    expect_unwritten(&rt, encoding.err(), kind);
     Ok(())
 }

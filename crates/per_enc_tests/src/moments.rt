@@ -1,9 +1,10 @@
 //! Identifiers and times, by `Encoder`: worked encodings, and what has no contents.
 
+use crate::expected::{expect_octets, expect_unwritten};
 use jiff::civil::DateTime;
 use per_enc::{EncodeError, EncodeErrorKind, Encoder, EncoderOptions};
 use rasn_codec::codec::Encoder as _;
-use rasn_types::types::{Codec, Identifier, Tag};
+use rasn_types::types::{Identifier, Tag};
 use std::alloc::Global;
 use std::test::Fail;
 
@@ -33,7 +34,7 @@ fn writes_identifiers(rt: HostRuntime) -> Result<(), Fail> {
     let mut encoder = Encoder::new(rt.alloc(), EncoderOptions::aligned());
     let written = identifier_of(&mut encoder, &[0, 0, 20, 124, 0, 1])?;
     let octets = [0x05, 0x00, 0x14, 0x7c, 0x00, 0x01];
-    assert_eq!(rt; written.as_slice(), octets.as_slice());
+    expect_octets(&rt, written.as_slice(), &octets);
     Ok(())
 }
 
@@ -41,9 +42,7 @@ fn writes_identifiers(rt: HostRuntime) -> Result<(), Fail> {
 fn refuses_arcs_that_name_no_object(rt: HostRuntime) {
     let mut encoder = Encoder::new(rt.alloc(), EncoderOptions::unaligned());
     let refused = identifier_of(&mut encoder, &[1, 40]).err();
-    let codec = Codec::Uper;
-    let kind = EncodeErrorKind::Below;
-    assert_eq!(rt; refused, Some(EncodeError { kind, codec }));
+    expect_unwritten(&rt, refused, EncodeErrorKind::Below);
 }
 
 /// 2018-06-13 11:01:59 as a UTCTime in the UNALIGNED variant.
@@ -59,10 +58,10 @@ fn writes_utc_times(rt: HostRuntime) -> Result<(), Fail> {
     let moment = DateTime::new(2018, 6, 13, 11, 1, 59, 0)?;
     let mut encoder = Encoder::new(rt.alloc(), EncoderOptions::unaligned());
     let written = utc_time_of(&mut encoder, &moment)?;
-    assert_eq!(rt; written.as_slice(), UTC_TIME);
+    expect_octets(&rt, written.as_slice(), UTC_TIME);
     let mut encoder = Encoder::new(rt.alloc(), EncoderOptions::aligned());
     let written = utc_time_of(&mut encoder, &moment)?;
-    assert_eq!(rt; written.as_slice(), ALIGNED_UTC_TIME);
+    expect_octets(&rt, written.as_slice(), ALIGNED_UTC_TIME);
     Ok(())
 }
 
@@ -76,7 +75,7 @@ fn writes_generalized_times(rt: HostRuntime) -> Result<(), Fail> {
     let moment = DateTime::new(2018, 6, 13, 6, 1, 58, 0)?;
     let mut encoder = Encoder::new(rt.alloc(), EncoderOptions::unaligned());
     let written = generalized_time_of(&mut encoder, &moment)?;
-    assert_eq!(rt; written.as_slice(), GENERALIZED_TIME);
+    expect_octets(&rt, written.as_slice(), GENERALIZED_TIME);
     Ok(())
 }
 
@@ -85,8 +84,6 @@ fn refuses_a_year_that_a_utc_time_cannot_hold(rt: HostRuntime) -> Result<(), Fai
     let moment = DateTime::new(2050, 1, 1, 0, 0, 0, 0)?;
     let mut encoder = Encoder::new(rt.alloc(), EncoderOptions::unaligned());
     let refused = utc_time_of(&mut encoder, &moment).err();
-    let codec = Codec::Uper;
-    let kind = EncodeErrorKind::Below;
-    assert_eq!(rt; refused, Some(EncodeError { kind, codec }));
+    expect_unwritten(&rt, refused, EncodeErrorKind::Below);
     Ok(())
 }

@@ -1,5 +1,6 @@
 //! Worked encodings in both variants, by `Writer`: values behind one another, and values that are refused.
 
+use crate::expected::{expect_octets, expect_refused};
 use per_write::Writer;
 use per_write::error::{EncodeError, EncodeErrorKind};
 use rasn_below::{Bounded, Constraint, Constraints, Extensible, constraints};
@@ -315,7 +316,7 @@ fn writes_values(rt: HostRuntime) -> Result<(), Fail> {
     for (codec, rows) in [(Codec::Uper, UNALIGNED), (Codec::Aper, ALIGNED)] {
         for (parts, octets) in rows {
             let encoding = encoding_of(rt.alloc(), codec, parts)?;
-            assert_eq!(rt; encoding.as_slice(), *octets);
+            expect_octets(&rt, encoding.as_slice(), octets);
         }
     }
     Ok(())
@@ -325,6 +326,6 @@ fn writes_values(rt: HostRuntime) -> Result<(), Fail> {
 fn refuses_values(rt: HostRuntime) {
     for (codec, part, kind) in REFUSED {
         let encoding = encoding_of(rt.alloc(), *codec, &[*part]);
-        assert_eq!(rt; encoding.err(), Some(error_of(*kind, *codec)));
+        expect_refused(&rt, encoding.err(), *kind, *codec);
     }
 }
