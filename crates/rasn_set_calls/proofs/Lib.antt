@@ -1,0 +1,5 @@
+pub mod Order
+pub mod Read
+pub mod Loops
+pub mod Made
+pub mod Callers

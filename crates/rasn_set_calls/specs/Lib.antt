@@ -1,0 +1,3 @@
+pub mod Components
+pub mod Made
+pub mod Turns
