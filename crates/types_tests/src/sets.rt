@@ -5,6 +5,7 @@ use per_samples_j::set::Set;
 use per_samples_j::set_choice::SetChoice;
 use per_samples_j::set_optional::SetOptional;
 use per_samples_j::truth_or_none::TruthOrNone;
+use per_samples_k::set_each::SetEach;
 use rasn_below::{Decode, Encode};
 use rasn_per::{aper, uper};
 use std::alloc::Global;
@@ -45,6 +46,18 @@ fn expect_both<T: Encode + Decode + PartialEq + Debug>(
 ) -> Result<(), Fail> {
     expect_aligned(rt, alloc, value, octets)?;
     expect_unaligned(rt, alloc, value, octets)
+}
+
+/// A value is read from these octets in both variants.
+fn expect_read<T: Decode + PartialEq + Debug>(
+    rt: &impl Abort,
+    alloc: Global,
+    value: &T,
+    octets: &[u8],
+) -> Result<(), Fail> {
+    expect_equal(rt, &aper::decode::<T>(alloc, octets)?, value);
+    expect_equal(rt, &uper::decode::<T>(alloc, octets)?, value);
+    Ok(())
 }
 
 #[test]
@@ -96,4 +109,20 @@ fn choice_counts_with_its_smallest_tag(rt: HostRuntime) -> Result<(), Fail> {
         c: TruthOrNone::M(false),
     };
     expect_both(&rt, rt.alloc(), &smallest, &[0x20])
+}
+
+#[test]
+fn components_are_read_by_their_indices(rt: HostRuntime) -> Result<(), Fail> {
+    let first_two = SetEach {
+        p: Some(true),
+        q: Some(false),
+        r: None,
+    };
+    expect_read(&rt, rt.alloc(), &first_two, &[0xa8])?;
+    let last_listed = SetEach {
+        p: None,
+        q: None,
+        r: Some(true),
+    };
+    expect_read(&rt, rt.alloc(), &last_listed, &[0x50])
 }
