@@ -1,4 +1,4 @@
-//! UTCTime and OBJECT IDENTIFIER through the program.
+//! UTCTime, OBJECT IDENTIFIER and DATE through the program.
 
 use crate::runs::{expect_printed, expect_refused};
 use std::test::Fail;
@@ -39,6 +39,18 @@ const PRINTED: &[(&str, &str, &str)] = &[
     // Padding that is not zero, and a length in two octets.
     ("aper connect", "12800500147c000100\n", "000500147c000100\n"),
     ("uper connect", "4000a78000\n", "00a78000\n"),
+    // 29 February 2024, 1 January 2010 and 15 June 1500.
+    ("uper date", "40c780\n", "40c780\n"),
+    ("uper date", "1400\n", "1400\n"),
+    ("uper date", "c0817715c0\n", "c0817715c0\n"),
+    ("aper date", "40031e00\n", "40031e00\n"),
+    ("aper date", "1400\n", "1400\n"),
+    // 126 records, and 1 January 2010 in the last.
+    (
+        "uper dnest",
+        "aaaaaaaaaaaaaaaaaaaaaaaaaaaaaaaaaaaaaaaaaaaaaaaaaaaaaaaaaaaaaa914000\n",
+        "aaaaaaaaaaaaaaaaaaaaaaaaaaaaaaaaaaaaaaaaaaaaaaaaaaaaaaaaaaaaaa914000\n",
+    ),
     // The forms of the program.
     (
         "aper utc zero",
@@ -75,6 +87,15 @@ const REFUSED: &[(&str, &str, u8, &str)] = &[
         1,
         "ParserFail\n",
     ),
+    // The 30th of February, a month 13, and 127 records with a date.
+    ("uper date", "147a\n", 1, "InvalidDate\n"),
+    ("uper date", "1700\n", 1, "ValueConstraintNotSatisfied\n"),
+    (
+        "uper dnest",
+        "aaaaaaaaaaaaaaaaaaaaaaaaaaaaaaaaaaaaaaaaaaaaaaaaaaaaaaaaaaaaaaa45000\n",
+        1,
+        "ExceedsMaxParseDepth\n",
+    ),
     // An identifier of no octets, and one whose subidentifier begins with 80.
     ("aper connect", "000000\n", 1, "Below\n"),
     ("aper connect", "0002800100\n", 1, "Below\n"),
@@ -88,11 +109,11 @@ const REFUSED: &[(&str, &str, u8, &str)] = &[
 ];
 
 #[test]
-fn prints_times_and_identifiers(rt: HostRuntime) -> Result<(), Fail> {
+fn prints_times_identifiers_and_dates(rt: HostRuntime) -> Result<(), Fail> {
     expect_printed(&rt, rt.alloc(), PRINTED)
 }
 
 #[test]
-fn refuses_times_and_identifiers_by_name(rt: HostRuntime) -> Result<(), Fail> {
+fn refuses_times_identifiers_and_dates_by_name(rt: HostRuntime) -> Result<(), Fail> {
     expect_refused(&rt, rt.alloc(), REFUSED)
 }
