@@ -12,6 +12,8 @@ use per_samples_e::lists::Nulls;
 use per_samples_e::nest::Nest;
 use per_samples_f::grouped::Grouped;
 use per_samples_f::one_needed::OneNeeded;
+use per_samples_h::alt1::Alt1;
+use rasn_below::types::{Date, UtcTime};
 use rasn_below::{Constraints, constraints};
 use rasn_codec::codec::{Decode, Decoder as _, Encoder as _};
 use rasn_types::octet_strings::Utf8String;
@@ -83,6 +85,23 @@ fn reads_nothing_behind_what_is_no_record_or_choice(rt: HostRuntime) {
 
 /// A group that holds nothing, in an open type of two octets.
 const EXTRA_OCTET: &[u8] = &[0xc0, 0x40, 0x80, 0x00, 0x00];
+
+#[test]
+fn reads_nothing_behind_what_is_no_day_or_alternative(rt: HostRuntime) {
+    expect_unread::<Date>(&rt, rt.alloc(), &[0x14, 0x7a], "InvalidDate");
+    expect_unread::<UtcTime>(&rt, rt.alloc(), &[0x00], "Below");
+    expect_unread::<Alt1>(
+        &rt,
+        rt.alloc(),
+        PAST_64_BITS,
+        "ChoiceIndexExceedsPlatformWidth",
+    );
+}
+
+/// 2 to the 64th, as the index of an added alternative.
+const PAST_64_BITS: &[u8] = &[
+    0xc2, 0x40, 0x40, 0x00, 0x00, 0x00, 0x00, 0x00, 0x00, 0x00, 0x00,
+];
 
 #[test]
 fn reads_nothing_behind_a_call_out_of_turn(rt: HostRuntime) {
