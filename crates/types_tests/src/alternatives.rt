@@ -2,4 +2,5 @@
 
 mod aligned;
 mod rows;
+mod scopes;
 mod unaligned;
