@@ -36,6 +36,18 @@ pub(crate) fn run_on(alloc: Global, arguments: &str, mut input: &[u8]) -> Result
     })
 }
 
+/// The status of a run: in one place, since each call of a function with that many clauses costs a proof's time.
+pub(crate) fn status_of<R: BufRead, W: io::Write, F: io::Write>(
+    alloc: Global,
+    arguments: &str,
+    input: &mut R,
+    output: &mut W,
+    faults: &mut F,
+) -> Result<u8, AllocError> {
+    let arguments = words(alloc, arguments)?;
+    Ok(run(alloc, arguments.as_slice(), input, output, faults))
+}
+
 /// The status of a run with these words as its arguments, and what it said.
 pub(crate) fn told<R: BufRead, W: io::Write>(
     alloc: Global,
@@ -43,17 +55,26 @@ pub(crate) fn told<R: BufRead, W: io::Write>(
     input: &mut R,
     output: &mut W,
 ) -> Result<(u8, Vec<u8>), AllocError> {
-    let arguments = words(alloc, arguments)?;
     let mut faults = Vec::new(alloc);
-    let status = run(alloc, arguments.as_slice(), input, output, &mut faults);
+    let status = status_of(alloc, arguments, input, output, &mut faults)?;
     Ok((status, faults))
+}
+
+/// A status is this one.
+pub(crate) fn expect_status(rt: &impl Abort, found: u8, expected: u8) {
+    assert_eq!(rt; found, expected);
+}
+
+/// Octets are those of this text.
+pub(crate) fn expect_text(rt: &impl Abort, found: &[u8], expected: &str) {
+    assert_eq!(rt; found, expected.as_bytes());
 }
 
 /// A run has this status, printed this and said this.
 pub(crate) fn assert_ran(rt: &impl Abort, ran: &Ran, status: u8, output: &str, faults: &str) {
-    assert_eq!(rt; ran.output.as_slice(), output.as_bytes());
-    assert_eq!(rt; ran.faults.as_slice(), faults.as_bytes());
-    assert_eq!(rt; ran.status, status);
+    expect_text(rt, ran.output.as_slice(), output);
+    expect_text(rt, ran.faults.as_slice(), faults);
+    expect_status(rt, ran.status, status);
 }
 
 /// Of arguments and an input each, this is printed.

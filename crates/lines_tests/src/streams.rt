@@ -1,8 +1,7 @@
 //! Readers and writers that fail, and what the program does then; when it reads and writes.
 
 use crate::lines::USAGE;
-use crate::runs::{told, words};
-use per_lines::run::run;
+use crate::runs::{expect_status, expect_text, status_of, told};
 use std::alloc::{AllocError, Global};
 use std::cell::Cell;
 use std::io;
@@ -84,27 +83,21 @@ impl io::Write for FullWriter {
 fn tells_wrong_arguments_before_it_reads(rt: HostRuntime) -> Result<(), Fail> {
     let mut input = b"021000\n0105\n".as_slice();
     let (status, faults) = told(rt.alloc(), "uper", &mut input, &mut FullWriter)?;
-    assert_eq!(rt; status, 2);
-    assert_eq!(rt; faults.as_slice(), USAGE.as_bytes());
-    assert_eq!(rt; input, b"021000\n0105\n".as_slice());
+    expect_status(&rt, status, 2);
+    expect_text(&rt, faults.as_slice(), USAGE);
+    expect_text(&rt, input, "021000\n0105\n");
     Ok(())
 }
 
 #[test]
 fn leaves_what_follows_the_line(rt: HostRuntime) -> Result<(), Fail> {
-    let arguments = words(rt.alloc(), "uper integer")?;
     let mut input = b"021000\n0105\n".as_slice();
     let mut output = Vec::new(rt.alloc());
-    let status = run(
-        rt.alloc(),
-        arguments.as_slice(),
-        &mut input,
-        &mut output,
-        &mut FullWriter,
-    );
-    assert_eq!(rt; status, 0);
-    assert_eq!(rt; output.as_slice(), b"021000\n".as_slice());
-    assert_eq!(rt; input, b"0105\n".as_slice());
+    let (alloc, faults) = (rt.alloc(), &mut FullWriter);
+    let status = status_of(alloc, "uper integer", &mut input, &mut output, faults)?;
+    expect_status(&rt, status, 0);
+    expect_text(&rt, output.as_slice(), "021000\n");
+    expect_text(&rt, input, "0105\n");
     Ok(())
 }
 
@@ -176,9 +169,9 @@ fn tells_that_it_cannot_read(rt: HostRuntime) -> Result<(), Fail> {
         let mut input = BufReader::new(rt.alloc(), reader)?;
         let mut output = Vec::new(rt.alloc());
         let (answered, faults) = told(rt.alloc(), arguments, &mut input, &mut output)?;
-        assert_eq!(rt; answered, *status);
-        assert_eq!(rt; faults.as_slice(), said.as_bytes());
-        assert_eq!(rt; output.as_slice(), printed.as_bytes());
+        expect_status(&rt, answered, *status);
+        expect_text(&rt, faults.as_slice(), said);
+        expect_text(&rt, output.as_slice(), printed);
     }
     Ok(())
 }
@@ -243,8 +236,8 @@ fn tells_that_it_cannot_write(rt: HostRuntime) -> Result<(), Fail> {
         let (room, kind) = (*room, *kind);
         let mut output = BrokenWriter { room, kind };
         let (answered, faults) = told(rt.alloc(), arguments, &mut input, &mut output)?;
-        assert_eq!(rt; answered, *status);
-        assert_eq!(rt; faults.as_slice(), said.as_bytes());
+        expect_status(&rt, answered, *status);
+        expect_text(&rt, faults.as_slice(), said);
     }
     Ok(())
 }
@@ -253,8 +246,8 @@ fn tells_that_it_cannot_write(rt: HostRuntime) -> Result<(), Fail> {
 fn tells_that_output_is_not_passed_on(rt: HostRuntime) -> Result<(), Fail> {
     let mut input = b"021000\n".as_slice();
     let (status, faults) = told(rt.alloc(), "uper integer", &mut input, &mut StuckWriter)?;
-    assert_eq!(rt; status, 2);
-    assert_eq!(rt; faults.as_slice(), b"cannot write output\n".as_slice());
+    expect_status(&rt, status, 2);
+    expect_text(&rt, faults.as_slice(), "cannot write output\n");
     Ok(())
 }
 
@@ -262,8 +255,8 @@ fn tells_that_output_is_not_passed_on(rt: HostRuntime) -> Result<(), Fail> {
 fn tells_that_output_is_not_taken(rt: HostRuntime) -> Result<(), Fail> {
     let mut input = b"021000\n".as_slice();
     let (status, faults) = told(rt.alloc(), "uper integer", &mut input, &mut FullWriter)?;
-    assert_eq!(rt; status, 2);
-    assert_eq!(rt; faults.as_slice(), b"cannot write output\n".as_slice());
+    expect_status(&rt, status, 2);
+    expect_text(&rt, faults.as_slice(), "cannot write output\n");
     Ok(())
 }
 
@@ -276,29 +269,22 @@ const UNTOLD: &[(&str, &[u8], u8)] = &[
 ];
 
 /// The status of a run that prints nothing and can say so much.
-fn status_of(alloc: Global, arguments: &str, input: &[u8], room: usize) -> Result<u8, AllocError> {
+fn untold(alloc: Global, arguments: &str, mut input: &[u8], room: usize) -> Result<u8, AllocError> {
     let kind = ErrorKind::BrokenPipe;
-    let arguments = words(alloc, arguments)?;
-    let mut input = input;
     let mut output = BrokenWriter { room: 0, kind };
     let mut faults = BrokenWriter { room, kind };
-    Ok(run(
-        alloc,
-        arguments.as_slice(),
-        &mut input,
-        &mut output,
-        &mut faults,
-    ))
+    status_of(alloc, arguments, &mut input, &mut output, &mut faults)
 }
 
 #[test]
-fn keeps_its_status_where_faults_cannot_be_told(rt: HostRuntime) {
+fn keeps_its_status_where_faults_cannot_be_told(rt: HostRuntime) -> Result<(), Fail> {
     for (arguments, input, status) in UNTOLD {
         for room in [0, 1, 4] {
-            let answered = status_of(rt.alloc(), arguments, input, room);
-            assert_eq!(rt; answered, Ok(*status));
+            let answered = untold(rt.alloc(), arguments, input, room)?;
+            expect_status(&rt, answered, *status);
         }
     }
+    Ok(())
 }
 
 /// Gives a line of an INTEGER in each read, and fails where one that it gave has no reply.
@@ -358,8 +344,8 @@ fn replies_before_it_reads_on(rt: HostRuntime) -> Result<(), Fail> {
         replies: replies.clone()?,
     };
     let (status, faults) = told(rt.alloc(), "uper integer lines", &mut input, &mut output)?;
-    assert_eq!(rt; status, 0);
-    assert!(rt; faults.is_empty());
+    expect_status(&rt, status, 0);
+    expect_text(&rt, faults.as_slice(), "");
     assert_eq!(rt; replies.get(), 4);
     Ok(())
 }
@@ -389,8 +375,8 @@ fn replies_together_to_lines_that_are_there(rt: HostRuntime) -> Result<(), Fail>
         count: flushes.clone()?,
     };
     let (status, faults) = told(rt.alloc(), "uper integer lines", &mut input, &mut output)?;
-    assert_eq!(rt; status, 0);
-    assert!(rt; faults.is_empty());
+    expect_status(&rt, status, 0);
+    expect_text(&rt, faults.as_slice(), "");
     // Once behind the three lines, and once at the end of the input.
     assert_eq!(rt; flushes.get(), 2);
     Ok(())

@@ -1,9 +1,8 @@
 //! That want of memory is named so, and which calls take none.
 
 use linked_list_allocator::LocalHeap;
+use rasn_below::types::{Codec, OctetString};
 use rasn_per::uper::{EncodeError, EncodeErrorKind, decode, encode};
-use rasn_types::octet_strings::OctetString;
-use rasn_types::types::Codec;
 use std::alloc::{AllocError, Global};
 use std::test::Fail;
 
@@ -36,10 +35,12 @@ fn names_want_of_memory(rt: HostRuntime) -> Result<(), Fail> {
 
 // `tools/refuse_memory` runs this test with its first request for memory refused, and it passes there too.
 #[test]
-fn reads_plain_values_without_memory(rt: HostRuntime) {
-    assert_eq!(rt; decode::<bool>(rt.alloc(), &[0x80]), Ok(true));
-    assert_eq!(rt; decode::<bool>(rt.alloc(), &[0x00]), Ok(false));
-    assert_eq!(rt; decode::<()>(rt.alloc(), &[0x00]), Ok(()));
+fn reads_plain_values_without_memory(rt: HostRuntime) -> Result<(), Fail> {
+    let first: bool = decode(rt.alloc(), &[0x80])?;
+    let second: bool = decode(rt.alloc(), &[0x00])?;
+    decode::<()>(rt.alloc(), &[0x00])?;
+    assert_eq!(rt; (first, second), (true, false));
+    Ok(())
 }
 
 // And this one, which fails there.

@@ -8,8 +8,8 @@ ghost use Rattle.rasn_per.specs.Calls.{Decoded, DecodedBy, DecodedFront};
 ghost use Rattle.per_counts.specs.Counts.{item_count, most_items};
 ghost use Rattle.per_counts.specs.Within.{HasAtMost};
 
-use per_de::DecodeError;
 use rasn_codec::codec::Decode;
+use rasn_per::uper::DecodeError;
 use rasn_per::{aper, uper};
 use rasn_types::types::Codec;
 use std::alloc::Global;

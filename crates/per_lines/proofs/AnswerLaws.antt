@@ -4,12 +4,9 @@ use Rattle.std.proofs.Math.Nat.{le-add_left, le-add_right}
 use Rattle.std.proofs.lemmas.Option.{same_Some}
 use Rattle.std.specs.Result.{result_ok}
 use Rattle.hex.specs.Hex.{encode_lower}
-use Rattle.rasn_types.specs.Codecs.{variant_of}
-use Rattle.rasn_types.specs.Variants.{Variant}
-use Rattle.rasn_schema.specs.Schemas.{Schema}
-use Rattle.rasn_schema.specs.Normal.{normal}
+use Rattle.rasn_below.specs.Types.{Schema, normal}
+use Rattle.rasn_below.specs.Rows.{variant_of, Variant, bytes}
 use Rattle.per_core.specs.Spellings.{Settings}
-use Rattle.per_core.specs.Canon.{bytes}
 use Rattle.rasn_per.specs.Complete.{reading, basically}
 use Rattle.per_lines.specs.declared.arguments.TypeName.{TypeName}
 use Rattle.per_lines.specs.declared.arguments.Form.{Form}

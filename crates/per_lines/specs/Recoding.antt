@@ -1,21 +1,9 @@
 -- From the octets of a value to the canonical octets of the same value.
 use Rattle.std.specs.Prelude.{ℕ, Bool, ◌≢◌, ◌⊎◌, List, [], ◌∷◌, Some, None, true, false, pos, negsuc}
-use Rattle.rasn_types.specs.Alphabets.{visible, from_to}
-use Rattle.rasn_types.specs.Contents.{utc}
-use Rattle.rasn_types.specs.declared.types.Codec.{Codec}
-use Rattle.rasn_types.specs.Codecs.{variant_of}
-use Rattle.rasn_types.specs.Variants.{Variant}
-use Rattle.rasn_types.specs.Values.{Value}
-use Rattle.rasn_constraints.specs.Bounds.{unbounded, between, Size, any_size}
-use Rattle.rasn_schema.specs.Schemas.{Schema}
-use Rattle.rasn_schema.specs.Choices.{choice_at}
-use Rattle.rasn_schema.specs.Forms.{always}
-use Rattle.rasn_schema.specs.Lists.{list_at}
-use Rattle.rasn_schema.specs.Components.{lower_bound, upper_bound, sequence_at, alternatives_at}
-use Rattle.rasn_schema.specs.Records.{no_additions}
-use Rattle.rasn_record.specs.ExtendedRecords.{extended_at}
-use Rattle.rasn_sets.specs.Bags.{set_at}
-use Rattle.rasn_calls.specs.Moments.{date_at}
+use Rattle.rasn_below.specs.Values.{utc, Value}
+use Rattle.rasn_below.specs.Components.{extended_at}
+use Rattle.rasn_below.specs.Types.{visible, from_to, unbounded, between, Size, any_size, Schema, choice_at, always, list_at, lower_bound, upper_bound, sequence_at, alternatives_at, no_additions, set_of_at, date_at, set_at}
+use Rattle.rasn_below.specs.Rows.{Codec, variant_of, Variant}
 use Rattle.per_samples_a.specs.Absents.{one_default}
 use Rattle.per_samples_a.specs.Fours.{four}
 use Rattle.per_samples_a.specs.Sevens.{seven}
@@ -26,7 +14,7 @@ use Rattle.per_samples_e.specs.Deeps.{deep}
 use Rattle.per_samples_e.specs.Elements.{elements}
 use Rattle.per_samples_e.specs.Empties.{maybe_empty}
 use Rattle.per_samples_e.specs.Nests.{nest}
-use Rattle.per_samples_f.specs.AddedNests.{nest_root, nest_additions}
+use Rattle.per_samples_e.specs.AddedNests.{nest_root, nest_additions}
 use Rattle.per_samples_f.specs.Groups.{grouped_root, grouped_additions}
 use Rattle.per_samples_f.specs.Needs.{one_needed, added_default}
 use Rattle.per_samples_f.specs.Outers.{outer_root, outer2_additions, outer3_additions}
@@ -41,7 +29,6 @@ use Rattle.rasn_per.specs.Complete.{AreBytes, HasNoBytes, AreReadBy, AreUnreadBy
 use Rattle.per_samples_i.specs.Connects.{connect}
 use Rattle.per_samples_j.specs.Sets.{set, set_choice, set_optional}
 use Rattle.per_samples_l.specs.Dnests.{dnest}
-use Rattle.rasn_set_record.specs.SetRecords.{set_at as set_of_parts}
 use Rattle.rasn_per.specs.Kinds.{IsInOctetsBy}
 use Rattle.per_write.specs.declared.error.EncodeErrorKind.TheVariants as Encoding
 use Rattle.per_read.specs.declared.error.DecodeErrorKind.TheVariants as Decoding
@@ -110,12 +97,12 @@ schema_of OneAlternative = alternatives_at in_root (Some [])
 schema_of TwoAlternatives = alternatives_at in_root (Some behind_marker)
 schema_of Alternatives = sequence_at two_alternatives
 schema_of Many = extended_at many_root many_additions
-schema_of Bag = set_at (always (Schema.number unbounded false unbounded)) any_size false
+schema_of Bag = set_of_at (always (Schema.number unbounded false unbounded)) any_size false
 schema_of UtcTime = always (Schema.time utc)
 schema_of Connect = sequence_at connect
-schema_of Set = set_of_parts set
-schema_of SetOptional = set_of_parts set_optional
-schema_of SetChoice = set_of_parts set_choice
+schema_of Set = set_at set
+schema_of SetOptional = set_at set_optional
+schema_of SetChoice = set_at set_choice
 schema_of Date = date_at
 schema_of DatedNest = sequence_at dnest
 

@@ -1,14 +1,14 @@
 //! What the program is asked to do.
 
 ghost use Rattle.std.specs.Prelude.{◌≡◌, ◌≢◌, [], ◌∷◌, IfSome, IfNone, map, string_bytes};
-ghost use Rattle.rasn_types.specs.declared.types.Codec.{Codec as a_codec};
+ghost use Rattle.rasn_below.specs.Rows.{Codec as a_codec};
 ghost use Rattle.per_lines.specs.Words.{codec_word, type_word, form_words, words_of};
 ghost use Rattle.per_lines.specs.Recoding.{padding_of};
 ghost use Rattle.per_lines.specs.declared.arguments.TypeName.{TypeName as a_name};
 ghost use Rattle.per_lines.specs.declared.arguments.Form.{Form as a_form};
 ghost use Rattle.per_lines.specs.declared.arguments.Arguments.{Arguments as the_arguments};
 
-use rasn_types::types::Codec;
+use rasn_below::types::Codec;
 
 /// A type that the program knows.
 #[derive(Clone, Copy, Debug, PartialEq, Eq)]

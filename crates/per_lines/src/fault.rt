@@ -8,8 +8,7 @@ ghost use Rattle.per_lines.specs.declared.fault.Fault.TheVariants.{OutOfMemory};
 ghost use Rattle.per_lines.specs.declared.fault.Fault.TheVariants.{Encode as encode_fault, Decode as decode_fault};
 
 use hex::FromHexError;
-use per_de::{DecodeError, DecodeErrorKind};
-use per_enc::{EncodeError, EncodeErrorKind};
+use rasn_per::uper::{DecodeError, DecodeErrorKind, EncodeError, EncodeErrorKind};
 use std::alloc::AllocError;
 use std::io;
 use std::io::{ErrorKind, Write};

@@ -1,15 +1,13 @@
 //! From the octets of a value to the canonical octets of the same value.
 
 ghost use Rattle.std.specs.Prelude.{◌≡◌, IfOk, IfErr};
-ghost use Rattle.rasn_types.specs.Codecs.{variant_of};
+ghost use Rattle.rasn_below.specs.Rows.{variant_of};
 ghost use Rattle.rasn_per.specs.Calls.{Encoded, DecodedBy};
 ghost use Rattle.per_lines.specs.Recoding.{Recodes, IsRefusal, Converts, IsUnconverted};
 ghost use Rattle.per_lines.specs.Recoding.{schema_of, is_strict, reader_of};
 
 use crate::arguments::{Arguments, Form, Padding, TypeName};
 use crate::fault::Fault;
-use per_de::DecodeError;
-use per_enc::EncodeError;
 use per_samples_a::absent::OneDefault;
 use per_samples_a::bounded::{OneToTenExtensible, ZeroTo65536};
 use per_samples_a::four::Four;
@@ -19,6 +17,8 @@ use per_samples_b::strings::{LettersAToE, OnlyX, ShortVisible};
 use per_samples_c::colors::TwoColors;
 use per_samples_c::items::WithItem;
 use per_samples_c::one_color::OneColor;
+use per_samples_e::added_nest::AddedNest;
+use per_samples_e::before_nest::BeforeNest;
 use per_samples_e::byte::Byte;
 use per_samples_e::choice::Outer;
 use per_samples_e::deep::Deep;
@@ -27,8 +27,6 @@ use per_samples_e::empty::MaybeEmpty;
 use per_samples_e::lists::{Bytes, NullList, Nulls};
 use per_samples_e::nest::Nest;
 use per_samples_f::added_default::AddedDefault;
-use per_samples_f::added_nest::AddedNest;
-use per_samples_f::before_nest::BeforeNest;
 use per_samples_f::grouped::Grouped;
 use per_samples_f::none_needed::NoneNeeded;
 use per_samples_f::one_needed::OneNeeded;
@@ -48,15 +46,10 @@ use per_samples_j::set_choice::SetChoice;
 use per_samples_j::set_optional::SetOptional;
 use per_samples_l::dnest::Dnest;
 use per_samples_m::many::Many;
-use rasn_codec::codec::{Decode, Encode};
+use rasn_below::codec::{Decode, Encode};
+use rasn_below::types::{BitString, Codec, Date, Integer, OctetString, SetOf, UtcTime};
+use rasn_per::uper::{DecodeError, EncodeError};
 use rasn_per::{aper, uper};
-use rasn_sets::set_of::SetOf;
-use rasn_types::big::Integer;
-use rasn_types::bit_string::BitString;
-use rasn_types::octet_strings::OctetString;
-use rasn_types::types::Codec;
-use rasn_useful::date::Date;
-use rasn_useful::utc_time::UtcTime;
 use std::alloc::Global;
 
 /// The canonical octets that octets are converted to, as the arguments say.
@@ -75,7 +68,7 @@ pub fn converted(alloc: Global, arguments: Arguments, octets: &[u8]) -> Result<V
 }
 
 /// The canonical octets of the value that octets spell, of a type and in the variant of a codec.
-#[tactic(auto, unfolding(rasn_types::specs::Alphabets::interval_of))]
+#[tactic(auto, unfolding(rasn_below::specs::Types::interval_of))]
 fn recoded(
     alloc: Global,
     codec: Codec,

@@ -1,7 +1,7 @@
 -- Components that may be absent.
 use Rattle.std.specs.Prelude.{List, [], ◌∷◌, pos}
-use Rattle.rasn_types.specs.Values.{whole}
-use Rattle.rasn_schema.specs.Components.{Component, automatic, boolean, integer, optional, default, u8, ◌to◌}
+use Rattle.rasn_below.specs.Values.{whole}
+use Rattle.rasn_below.specs.Components.{Component, automatic, boolean, integer, optional, default, u8, ◌to◌}
 
 -- SEQUENCE { a INTEGER (0..7) DEFAULT 3 }
 abbrev pub one_default : List Component

@@ -1,10 +1,8 @@
 -- SEQUENCE { a A, b B }
 use Rattle.std.specs.Prelude.{ℕ, List, [], ◌∷◌, Option, Some, false}
-use Rattle.rasn_types.specs.Values.{Value}
-use Rattle.rasn_schema.specs.Levels.{Levelled, part_levelled, parts_levelled, record_levelled}
-use Rattle.rasn_schema.specs.Records.{no_additions, record_at}
-use Rattle.rasn_schema.specs.Schemas.{Schema, Parts, listed, no_parts, part, required}
-use Rattle.rasn_schema.specs.Components.{at}
+use Rattle.rasn_below.specs.Values.{Value}
+use Rattle.rasn_below.specs.Components.{at}
+use Rattle.rasn_below.specs.Types.{Levelled, part_levelled, parts_levelled, record_levelled, no_additions, record_at, Schema, Parts, listed, no_parts, part, required}
 
 abbrev pub both_parts : (ℕ → Schema) → (ℕ → Schema) → ℕ → Parts
 both_parts a b n = part (at 0) required (a n) (part (at 1) required (b n) no_parts)

@@ -1,6 +1,6 @@
 -- SEQUENCE { a BOOLEAN, b INTEGER, c NULL, d BOOLEAN, e INTEGER, f BOOLEAN, g NULL, h INTEGER }
 use Rattle.std.specs.Prelude.{List, [], ◌∷◌}
-use Rattle.rasn_schema.specs.Components.{Component, automatic, boolean, integer, null, i128, any}
+use Rattle.rasn_below.specs.Components.{Component, automatic, boolean, integer, null, i128, any}
 
 abbrev pub eight : List Component
 eight = automatic (

@@ -1,6 +1,6 @@
 -- SEQUENCE { a BOOLEAN, b INTEGER, c BOOLEAN, d INTEGER (-10..400) }
 use Rattle.std.specs.Prelude.{List, [], ◌∷◌}
-use Rattle.rasn_schema.specs.Components.{Component, automatic, boolean, integer, big, any, minus◌to◌}
+use Rattle.rasn_below.specs.Components.{Component, automatic, boolean, integer, big, any, minus◌to◌}
 
 abbrev pub four : List Component
 four = automatic (

@@ -3,5 +3,4 @@ pub mod Boths
 pub mod Eights
 pub mod Fours
 pub mod Pairs
-pub mod Rows
 pub mod Sevens

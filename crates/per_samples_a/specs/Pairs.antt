@@ -1,8 +1,8 @@
 -- SEQUENCE { a BOOLEAN, b INTEGER }
 use Rattle.std.specs.Prelude.{ℕ, Bool, List, [], ◌∷◌, Option, Some, ℤ}
-use Rattle.rasn_types.specs.Values.{Value, truth, whole}
-use Rattle.rasn_schema.specs.Schemas.{Parts}
-use Rattle.rasn_schema.specs.Components.{Component, parts_of, automatic, boolean, integer, i128, any}
+use Rattle.rasn_below.specs.Values.{Value, truth, whole}
+use Rattle.rasn_below.specs.Components.{Component, parts_of, automatic, boolean, integer, i128, any}
+use Rattle.rasn_below.specs.Types.{Parts}
 
 abbrev pub pair : List Component
 pair = automatic (boolean ∷ integer i128 any ∷ [])

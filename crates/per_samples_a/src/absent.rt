@@ -1,11 +1,10 @@
 //! A SEQUENCE of a component with a default.
 
 ghost use Rattle.std.specs.Prelude.{refl, [], ◌∷◌, Some, pos};
-ghost use Rattle.rasn_types.specs.Values.{whole};
-ghost use Rattle.rasn_types.specs.Variants.{unaligned};
-ghost use Rattle.rasn_schema.specs.Components.{fields_of};
+ghost use Rattle.rasn_below.specs.Values.{whole};
+ghost use Rattle.rasn_below.specs.Components.{fields_of};
+ghost use Rattle.rasn_below.specs.Rows.{unaligned, IsWrittenAs, IsUnwritten};
 ghost use Rattle.per_samples_a.specs.Absents.{one_default};
-ghost use Rattle.per_samples_a.specs.Rows.{IsWrittenAs, IsUnwritten};
 
 use rasn_below::{
     AsnType, Components, Constraint, Decoder, Encoder, Fields, Record, bounds, decode_components,
@@ -53,7 +52,7 @@ impl Record for OneDefault {
 }
 
 /// A component at its default is left out: its presence bit is 0 (X.691 19.2, 19.5).
-#[tactic(auto, unfolding(per_core::specs::Canon::bytes, rasn_schema::specs::Normal::normal))]
+#[tactic(auto, unfolding(rasn_below::specs::Rows::bytes, rasn_below::specs::Types::normal))]
 pub fn a_default_is_left_out()
     ensures default { let own = ⟦<OneDefault as AsnType>⟧ in
         IsWrittenAs unaligned (own.schema own.CONSTRAINTS) own.levels own.value

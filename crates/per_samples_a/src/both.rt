@@ -1,21 +1,17 @@
 //! A SEQUENCE of two required components of any types, by the cells of them.
 
 ghost use Rattle.std.specs.Prelude.{refl, None, [], false, suc, max};
-ghost use Rattle.rasn_types.specs.declared.types.TheConstants.Tag.{SEQUENCE};
-ghost use Rattle.rasn_constraints.specs.Ranges.{no_constraints};
-ghost use Rattle.rasn_schema.specs.Extensions.{unextended};
-ghost use Rattle.rasn_schema.specs.Fields.{shapes_from};
-ghost use Rattle.rasn_schema.specs.Records.{no_additions, record_value};
-ghost use Rattle.rasn_schema.specs.Tags.{sequence_tag};
+ghost use Rattle.rasn_below.specs.Values.{record_value};
+ghost use Rattle.rasn_below.specs.Types.{SEQUENCE, no_constraints, unextended, shapes_from, no_additions};
+ghost use Rattle.rasn_below.specs.Types.{sequence_tag};
 ghost use Rattle.per_samples_a.specs.Boths.{both_parts, both_schema, both_levelled, both_contents};
 
+use rasn_below::NoAdditions;
 use rasn_below::cells::{Cell, End, Listed};
+use rasn_below::codec::{Decode, Decoder, Encode, Encoder};
 use rasn_below::components::Required;
-use rasn_calls::parts::NoAdditions;
-use rasn_codec::codec::{Decode, Decoder, Encode, Encoder};
-use rasn_schema::fields::{Constructed, Field, Fields, Presence, TagTree};
-use rasn_schema::schema::{AsnType, Constraints};
-use rasn_types::types::{Class, Identifier, Tag};
+use rasn_below::schema::{AsnType, Constraints, Constructed, Field, Fields, Presence, TagTree};
+use rasn_below::types::{Class, Identifier, Tag};
 use std::marker::PhantomData;
 
 /// SEQUENCE { a A, b B }

@@ -1,8 +1,8 @@
 //! A SEQUENCE of eight required components.
 
 ghost use Rattle.std.specs.Prelude.{refl, [], ◌∷◌, Some};
-ghost use Rattle.rasn_types.specs.Values.{truth, nothing, whole};
-ghost use Rattle.rasn_schema.specs.Components.{fields_of};
+ghost use Rattle.rasn_below.specs.Values.{truth, nothing, whole};
+ghost use Rattle.rasn_below.specs.Components.{fields_of};
 ghost use Rattle.per_samples_a.specs.Eights.{eight};
 
 use rasn_below::{

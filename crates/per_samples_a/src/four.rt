@@ -1,17 +1,16 @@
 //! A SEQUENCE of which one component is bounded.
 
 ghost use Rattle.std.specs.Prelude.{refl, [], ◌∷◌, Some, true, false, pos, negsuc};
-ghost use Rattle.rasn_types.specs.Values.{truth, whole};
-ghost use Rattle.rasn_types.specs.Variants.{aligned, unaligned};
-ghost use Rattle.rasn_schema.specs.Components.{fields_of};
+ghost use Rattle.rasn_below.specs.Values.{truth, whole};
+ghost use Rattle.rasn_below.specs.Components.{fields_of};
+ghost use Rattle.rasn_below.specs.Rows.{aligned, unaligned, IsWrittenAs, IsUnwritten};
 ghost use Rattle.per_samples_a.specs.Fours.{four};
-ghost use Rattle.per_samples_a.specs.Rows.{IsWrittenAs, IsUnwritten};
 
+use rasn_below::types::Integer;
 use rasn_below::{
     AsnType, Components, Constraint, Decoder, Encoder, Fields, Record, bounds, decode_components,
     encode_components, fields,
 };
-use rasn_types::big::Integer;
 
 /// SEQUENCE { a BOOLEAN, b INTEGER, c BOOLEAN, d INTEGER (-10..400) }
 #[derive(Debug, Drop, PartialEq, Eq)]
@@ -61,7 +60,7 @@ impl Record for Four {
 
 /// The components in turn: a bit, a number behind its count of octets, a bit, and in nine bits how far a number is
 /// above its bound; in APER the count, and the nine bits in two octets, stand on a boundary (X.691 11.5.7.3, 19.4).
-#[tactic(auto, unfolding(per_core::specs::Canon::bytes, rasn_schema::specs::Normal::normal))]
+#[tactic(auto, unfolding(rasn_below::specs::Rows::bytes, rasn_below::specs::Types::normal))]
 pub fn four_is_its_components_in_turn()
     ensures uper { let own = ⟦<Four as AsnType>⟧ in
         IsWrittenAs unaligned (own.schema own.CONSTRAINTS) own.levels own.value

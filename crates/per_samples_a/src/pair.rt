@@ -1,22 +1,15 @@
 //! A SEQUENCE of two required components, by a scope that writes or reads them.
 
 ghost use Rattle.std.specs.Prelude.{refl, true, None, [], ◌∷◌, false, ◌≡◌, IsErrAnd, OnErr};
-ghost use Rattle.rasn_types.specs.declared.types.TheConstants.Tag.{SEQUENCE};
-ghost use Rattle.rasn_schema.specs.Schemas.{listed};
-ghost use Rattle.rasn_schema.specs.Normal.{normals};
-ghost use Rattle.rasn_constraints.specs.Ranges.{no_constraints};
-ghost use Rattle.rasn_schema.specs.Extensions.{unextended};
-ghost use Rattle.rasn_schema.specs.Fields.{shapes_from};
-ghost use Rattle.rasn_schema.specs.Records.{AtParts, record_at, no_additions, record_value};
-ghost use Rattle.rasn_schema.specs.Components.{sequence_levelled};
-ghost use Rattle.rasn_schema.specs.Tags.{sequence_tag};
-ghost use Rattle.rasn_calls.specs.Scopes.{WrittenParts, AnswersParts};
+ghost use Rattle.rasn_below.specs.Values.{record_value};
+ghost use Rattle.rasn_below.specs.Types.{SEQUENCE, listed, normals, no_constraints, unextended, shapes_from};
+ghost use Rattle.rasn_below.specs.Types.{AtParts, record_at, no_additions, sequence_levelled, sequence_tag};
+ghost use Rattle.rasn_below.specs.Calls.{WrittenParts, AnswersParts};
 ghost use Rattle.per_samples_a.specs.Pairs.{pair, pair_parts, pair_contents};
 
-use rasn_codec::codec::{Decode, Decoder, Encode, Encoder};
-use rasn_schema::fields::{Constructed, Field, Fields, Presence, TagTree};
-use rasn_schema::schema::{AsnType, Constraints};
-use rasn_types::types::{Class, Identifier, Tag};
+use rasn_below::codec::{Decode, Decoder, Encode, Encoder};
+use rasn_below::schema::{AsnType, Constraints, Constructed, Field, Fields, Presence};
+use rasn_below::types::{Class, Identifier, Tag};
 
 /// SEQUENCE { a BOOLEAN, b INTEGER }
 #[derive(Clone, Copy, Debug, PartialEq)]
@@ -60,14 +53,14 @@ const FIELDS: &[Field] = &[
     Field {
         index: 0,
         tag: A,
-        tag_tree: TagTree::Leaf(A),
+        tag_tree: rasn_below::TagTree::Leaf(A),
         presence: Presence::Required,
         name: "a",
     },
     Field {
         index: 1,
         tag: B,
-        tag_tree: TagTree::Leaf(B),
+        tag_tree: rasn_below::TagTree::Leaf(B),
         presence: Presence::Required,
         name: "b",
     },

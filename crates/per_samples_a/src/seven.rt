@@ -1,17 +1,16 @@
 //! A SEQUENCE of which each value takes no bits.
 
 ghost use Rattle.std.specs.Prelude.{refl, [], ◌∷◌, Some, pos};
-ghost use Rattle.rasn_types.specs.Values.{whole};
-ghost use Rattle.rasn_types.specs.Variants.{aligned, unaligned};
-ghost use Rattle.rasn_schema.specs.Components.{fields_of};
+ghost use Rattle.rasn_below.specs.Values.{whole};
+ghost use Rattle.rasn_below.specs.Components.{fields_of};
+ghost use Rattle.rasn_below.specs.Rows.{aligned, unaligned, IsWrittenAs, IsUnwritten};
 ghost use Rattle.per_samples_a.specs.Sevens.{seven};
-ghost use Rattle.per_samples_a.specs.Rows.{IsWrittenAs, IsUnwritten};
 
+use rasn_below::types::Integer;
 use rasn_below::{
     AsnType, Components, Constraint, Decoder, Encoder, Fields, Record, bounds, decode_components,
     encode_components, fields,
 };
-use rasn_types::big::Integer;
 
 /// SEQUENCE { a INTEGER (7..7) }
 #[derive(Debug, Drop, PartialEq, Eq)]
@@ -55,7 +54,7 @@ impl Record for Seven {
 
 /// A number of one value takes no bits (X.691 11.5.4), and a complete encoding of no bits is a zero octet
 /// (X.691 11.1.3).
-#[tactic(auto, unfolding(per_core::specs::Canon::bytes, rasn_schema::specs::Normal::normal))]
+#[tactic(auto, unfolding(rasn_below::specs::Rows::bytes, rasn_below::specs::Types::normal))]
 pub fn seven_is_a_zero_octet()
     ensures uper { let own = ⟦<Seven as AsnType>⟧ in
         IsWrittenAs unaligned (own.schema own.CONSTRAINTS) own.levels own.value

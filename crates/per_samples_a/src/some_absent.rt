@@ -1,12 +1,10 @@
 //! A SEQUENCE of a required component, an optional one, and one with a default.
 
 ghost use Rattle.std.specs.Prelude.{refl, true, [], ◌∷◌, Some, None, pos};
-ghost use Rattle.rasn_types.specs.Values.{truth, whole};
-ghost use Rattle.rasn_types.specs.Variants.{unaligned};
-ghost use Rattle.rasn_schema.specs.Components.{fields_of};
-ghost use Rattle.rasn_calls.specs.Presences.{slot_of};
+ghost use Rattle.rasn_below.specs.Values.{truth, whole, slot_of};
+ghost use Rattle.rasn_below.specs.Components.{fields_of};
+ghost use Rattle.rasn_below.specs.Rows.{unaligned, IsWrittenAs};
 ghost use Rattle.per_samples_a.specs.Absents.{some_absent};
-ghost use Rattle.per_samples_a.specs.Rows.{IsWrittenAs};
 
 use rasn_below::{
     AsnType, Components, Constraint, Decoder, Encoder, Fields, Record, bounds, decode_components,
@@ -58,7 +56,7 @@ impl Record for SomeAbsent {
 }
 
 /// The presence bits of the second and the third component stand before all components (X.691 19.2).
-#[tactic(auto, unfolding(per_core::specs::Canon::bytes, rasn_schema::specs::Normal::normal))]
+#[tactic(auto, unfolding(rasn_below::specs::Rows::bytes, rasn_below::specs::Types::normal))]
 pub fn presence_bits_come_first()
     ensures there { let own = ⟦<SomeAbsent as AsnType>⟧ in
         IsWrittenAs unaligned (own.schema own.CONSTRAINTS) own.levels own.value

@@ -1,9 +1,8 @@
 //! An ENUMERATED with an item after its extension marker.
 
 ghost use Rattle.std.specs.Prelude.{[], ◌∷◌};
-ghost use Rattle.rasn_types.specs.Variants.{aligned, unaligned};
-ghost use Rattle.rasn_schema.specs.Enumerations.{extensible_items};
-ghost use Rattle.per_samples_a.specs.Rows.{IsWrittenAs};
+ghost use Rattle.rasn_below.specs.Components.{extensible_items};
+ghost use Rattle.rasn_below.specs.Rows.{aligned, unaligned, IsWrittenAs};
 ghost use Rattle.per_samples_c.specs.Colors.{color};
 ghost use Rattle.per_samples_c.specs.declared.colors.TwoColors.TheVariants.{A, B};
 
@@ -46,7 +45,7 @@ impl Items for TwoColors {
 impl ByKind for TwoColors {}
 
 /// The extension bit; behind 0 the place in no bits, and behind 1 the place as a normally small number (X.691 14.3).
-#[tactic(auto, unfolding(per_core::specs::Canon::bytes, rasn_schema::specs::Normal::normal))]
+#[tactic(auto, unfolding(rasn_below::specs::Rows::bytes, rasn_below::specs::Types::normal))]
 pub fn added_item_is_written_behind_its_bit()
     ensures root_item { let own = ⟦<TwoColors as AsnType>⟧ in
         IsWrittenAs unaligned (own.schema own.CONSTRAINTS) own.levels own.value A (0x00 ∷ []) }

@@ -1,11 +1,9 @@
 //! An ENUMERATED of 256 items, and a SEQUENCE with one of them.
 
 ghost use Rattle.std.specs.Prelude.{refl, true, [], ◌∷◌, Some};
-ghost use Rattle.rasn_types.specs.Values.{item, root, truth};
-ghost use Rattle.rasn_types.specs.Variants.{aligned, unaligned};
-ghost use Rattle.rasn_schema.specs.Components.{fields_of};
-ghost use Rattle.rasn_schema.specs.Enumerations.{all_items};
-ghost use Rattle.per_samples_a.specs.Rows.{IsWrittenAs};
+ghost use Rattle.rasn_below.specs.Values.{item, root, truth};
+ghost use Rattle.rasn_below.specs.Components.{fields_of, all_items};
+ghost use Rattle.rasn_below.specs.Rows.{aligned, unaligned, IsWrittenAs};
 ghost use Rattle.per_samples_c.specs.Items.{with_item};
 
 use rasn_below::{
@@ -92,7 +90,7 @@ impl Record for WithItem {
 }
 
 /// The place of the item in eight bits, in APER on an octet boundary (X.691 11.5.7.2, 14.2).
-#[tactic(auto, unfolding(per_core::specs::Canon::bytes, rasn_schema::specs::Normal::normal))]
+#[tactic(auto, unfolding(rasn_below::specs::Rows::bytes, rasn_below::specs::Types::normal))]
 pub fn item_of_256_takes_an_octet()
     ensures uper { let own = ⟦<WithItem as AsnType>⟧ in
         IsWrittenAs unaligned (own.schema own.CONSTRAINTS) own.levels own.value

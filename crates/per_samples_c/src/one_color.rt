@@ -1,6 +1,6 @@
 //! An ENUMERATED with an extension marker and no item after it.
 
-ghost use Rattle.rasn_schema.specs.Enumerations.{extensible_items};
+ghost use Rattle.rasn_below.specs.Components.{extensible_items};
 ghost use Rattle.per_samples_c.specs.OneColors.{only_color};
 
 use rasn_below::{

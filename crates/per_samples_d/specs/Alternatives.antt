@@ -1,7 +1,7 @@
 -- CHOICE { x BOOLEAN, y INTEGER (0..7) }
 use Rattle.std.specs.Prelude.{pos, List, [], ◌∷◌}
-use Rattle.rasn_types.specs.Values.{truth, whole}
-use Rattle.rasn_schema.specs.Components.{Component, Chosen, chosen, automatic, boolean, integer, u8, ◌to◌}
+use Rattle.rasn_below.specs.Values.{truth, whole}
+use Rattle.rasn_below.specs.Components.{Component, Chosen, chosen, automatic, boolean, integer, u8, ◌to◌}
 use Rattle.per_samples_d.specs.declared.alternative.Alternative.{Alternative}
 use Rattle.per_samples_d.specs.declared.alternative.Alternative.TheVariants.{X, Y}
 

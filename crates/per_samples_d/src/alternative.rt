@@ -1,16 +1,15 @@
 //! A CHOICE of two alternatives.
 
 ghost use Rattle.std.specs.Prelude.{None, refl, true, [], ◌∷◌};
-ghost use Rattle.rasn_types.specs.Variants.{aligned, unaligned};
-ghost use Rattle.rasn_schema.specs.Components.{variants_in, ◌to◌};
-ghost use Rattle.per_samples_a.specs.Rows.{IsWrittenAs};
+ghost use Rattle.rasn_below.specs.Components.{variants_in, ◌to◌};
+ghost use Rattle.rasn_below.specs.Rows.{aligned, unaligned, IsWrittenAs};
 ghost use Rattle.per_samples_d.specs.Alternatives.{alternatives, alternative_of};
 ghost use Rattle.per_samples_d.specs.declared.alternative.Alternative.TheVariants.{X, Y};
 
 use rasn_below::{
     Alternatives, AsnType, ByKind, ChoiceKind, CodedAlternatives, Constrained, Constraint,
-    Constraints, Decoder, Encoder, Limits, OfKind, Tag, TagTree, Variants, alternative_bounds,
-    constraints, decode_alternative, encode_alternative, tags_of_choice, variants,
+    Constraints, Decoder, Encoder, Limits, OfKind, Tag, Variants, alternative_bounds, constraints,
+    decode_alternative, encode_alternative, tags_of_choice, variants,
 };
 
 /// INTEGER (0..7)
@@ -49,7 +48,7 @@ const VARIANTS: Variants = alternatives!(variants);
 const BOUNDS: &[&[Constraint]] = alternatives!(alternative_bounds);
 
 /// The tags of an untagged `Alternative`.
-pub(crate) const ALTERNATIVE_TAGS: TagTree = alternatives!(tags_of_choice);
+pub(crate) const ALTERNATIVE_TAGS: rasn_below::TagTree = alternatives!(tags_of_choice);
 
 impl OfKind for Alternative {
     type Kind = ChoiceKind;
@@ -88,7 +87,7 @@ impl CodedAlternatives for Alternative {
 impl ByKind for Alternative {}
 
 /// The index in one bit, and the value of the alternative behind it (X.691 23.6).
-#[tactic(auto, unfolding(per_core::specs::Canon::bytes, rasn_schema::specs::Normal::normal))]
+#[tactic(auto, unfolding(rasn_below::specs::Rows::bytes, rasn_below::specs::Types::normal))]
 pub fn alternative_is_written_behind_its_index()
     ensures first { let own = ⟦<Alternative as AsnType>⟧ in
         IsWrittenAs unaligned (own.schema own.CONSTRAINTS) own.levels own.value (X true) (0x40 ∷ []) }

@@ -1,24 +1,17 @@
 //! A CHOICE of a SEQUENCE, an untagged CHOICE and NULL.
 
 ghost use Rattle.std.specs.Prelude.{None, refl, true, [], ◌∷◌, pos};
-ghost use Rattle.rasn_types.specs.declared.types.TheConstants.Tag.{EOC};
-ghost use Rattle.rasn_types.specs.Variants.{aligned, unaligned};
-ghost use Rattle.rasn_constraints.specs.Ranges.{no_constraints};
-ghost use Rattle.rasn_schema.specs.Choices.{choice_at};
-ghost use Rattle.rasn_schema.specs.Records.{no_additions};
-ghost use Rattle.rasn_schema.specs.Tags.{choice_tag};
-ghost use Rattle.per_samples_a.specs.Rows.{IsWrittenAs};
+ghost use Rattle.rasn_below.specs.Types.{EOC, no_constraints, choice_at, no_additions, choice_tag};
+ghost use Rattle.rasn_below.specs.Rows.{aligned, unaligned, IsWrittenAs};
 ghost use Rattle.per_samples_d.specs.Nesteds.{nested_parts, nested_levelled, nested_variants, nested_described, nested_chosen, nested_levels};
 ghost use Rattle.per_samples_d.specs.declared.alternative.Alternative.TheVariants.{X, Y};
 ghost use Rattle.per_samples_d.specs.declared.nested.Nested.TheVariants.{Record, Inner, Last};
 
 use crate::alternative::{ALTERNATIVE_TAGS, Alternative};
 use per_samples_a::pair::Pair;
-use rasn_codec::codec::{Decode, DecodeChoice, Decoder, DecoderExt, Encode, Encoder, EncoderExt};
-use rasn_schema::choices::{Choice, Variant, Variants};
-use rasn_schema::fields::TagTree;
-use rasn_schema::schema::{AsnType, Constraints};
-use rasn_types::types::{Class, Identifier, Tag};
+use rasn_below::codec::{Decode, DecodeChoice, Decoder, DecoderExt, Encode, Encoder, EncoderExt};
+use rasn_below::schema::{AsnType, Choice, Constraints, Variant, Variants};
+use rasn_below::types::{Class, Identifier, Tag};
 
 /// CHOICE { record SEQUENCE { a BOOLEAN, b INTEGER }, inner Alternative, last [2] NULL }
 #[derive(Clone, Copy, Debug, PartialEq)]
@@ -63,7 +56,7 @@ const TAG_OF_LAST: Tag = Tag {
 const VARIANTS: &[Variant] = &[
     Variant {
         tag: Tag::SEQUENCE,
-        tag_tree: TagTree::Leaf(Tag::SEQUENCE),
+        tag_tree: rasn_below::TagTree::Leaf(Tag::SEQUENCE),
     },
     Variant {
         tag: TAG_OF_X,
@@ -71,7 +64,7 @@ const VARIANTS: &[Variant] = &[
     },
     Variant {
         tag: TAG_OF_LAST,
-        tag_tree: TagTree::Leaf(TAG_OF_LAST),
+        tag_tree: rasn_below::TagTree::Leaf(TAG_OF_LAST),
     },
 ];
 
@@ -149,7 +142,7 @@ impl DecodeChoice for Nested {
 }
 
 /// The index in two bits, and behind that of the inner choice its own (X.691 23.6).
-#[tactic(auto, unfolding(per_core::specs::Canon::bytes, rasn_schema::specs::Normal::normal, rasn_schema::specs::Normal::settle))]
+#[tactic(auto, unfolding(rasn_below::specs::Rows::bytes, rasn_below::specs::Types::normal, rasn_below::specs::Types::settle))]
 pub fn inner_choice_is_written_behind_the_outer_index()
     ensures record { let own = ⟦<Nested as AsnType>⟧ in
         IsWrittenAs unaligned (own.schema own.CONSTRAINTS) own.levels own.value

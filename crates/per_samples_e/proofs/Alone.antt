@@ -1,10 +1,8 @@
 -- A record of one component.
 use Rattle.std.proofs.Common.{◌≡◌, refl, inl, inr, Result, Ok, Err, [], ◌∷◌, Option, Some}
-use Rattle.rasn_types.specs.Values.{Value}
-use Rattle.rasn_schema.specs.Schemas.{TagTree, Presence, default, Schema, no_parts, part}
-use Rattle.rasn_schema.specs.Normal.{normal, normals, settle}
-use Rattle.rasn_calls.specs.Calls.{EncoderRules}
-use Rattle.rasn_calls.specs.Scopes.{presents_end, presents_next, refuses_here, WrittenPart, WrittenParts}
+use Rattle.rasn_below.specs.Values.{Value}
+use Rattle.rasn_below.specs.Types.{TagTree, Presence, default, Schema, no_parts, part, normal, normals, settle}
+use Rattle.rasn_below.specs.Calls.{EncoderRules, presents_end, presents_next, refuses_here, WrittenPart, WrittenParts}
 
 -- its component is the whole of it
 pub alone_written : {E X : Type 0} (rules : EncoderRules E X) (t : TagTree) (p : Presence) (s : Schema) (r : Option Value) (x : X) (result : Result (Unit {0}) E) (y : X)

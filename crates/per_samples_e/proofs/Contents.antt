@@ -1,8 +1,7 @@
 -- What stands in a Nest, by its field.
 use denote.Hole.Carrier.{out, roll}
 use Rattle.std.proofs.Common.{◌≡◌, refl, Box, Global, Option, Some, None, [], ◌∷◌}
-use Rattle.rasn_schema.specs.Components.{sequence_value}
-use Rattle.rasn_calls.specs.Presences.{slot_of}
+use Rattle.rasn_below.specs.Values.{sequence_value, slot_of}
 use Rattle.per_samples_e.specs.Nests.{nest_contents}
 use Rattle.per_samples_e.specs.declared.nest.Nest.{Nest, Nest', None', Some'}
 use Rattle.per_samples_e.specs.declared.nest.Nest.TheViews.{out-Nest, roll-Nest}

@@ -1,11 +1,8 @@
 -- CHOICE { x [0] BOOLEAN, y CHOICE { p [1] BOOLEAN, q [2] NULL }, z [3] NULL }, y untagged
 use Rattle.std.specs.Prelude.{◌≡◌, ℕ, List, [], ◌∷◌, Some, None, refl}
-use Rattle.rasn_types.specs.Values.{Value, alternative, root, nothing, truth}
-use Rattle.rasn_schema.specs.Choices.{VariantShape, choice_at, choice_levelled, variants_of}
-use Rattle.rasn_schema.specs.Components.{Component, parts_of, components_levelled, boolean, null, under, at}
-use Rattle.rasn_schema.specs.Levels.{Levelled, parts_levelled}
-use Rattle.rasn_schema.specs.Records.{no_additions}
-use Rattle.rasn_schema.specs.Schemas.{Parts, one_of, tree, no_trees, required, smallest}
+use Rattle.rasn_below.specs.Values.{Value, alternative, root, nothing, truth}
+use Rattle.rasn_below.specs.Components.{Component, parts_of, boolean, null, under, at}
+use Rattle.rasn_below.specs.Types.{VariantShape, choice_at, choice_levelled, variants_of, components_levelled, Levelled, parts_levelled, no_additions, Parts, one_of, tree, no_trees, required, smallest}
 use Rattle.per_samples_e.specs.declared.choice.Inner.{Inner}
 use Rattle.per_samples_e.specs.declared.choice.Inner.TheVariants.{P, Q}
 use Rattle.per_samples_e.specs.declared.choice.Outer.{Outer}

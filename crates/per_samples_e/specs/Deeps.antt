@@ -1,7 +1,7 @@
 -- SEQUENCE { d Nest DEFAULT a value of 200 levels }
 use Rattle.std.specs.Prelude.{ℕ, zero, suc, List, [], ◌∷◌, Some, None}
-use Rattle.rasn_types.specs.Values.{Value}
-use Rattle.rasn_schema.specs.Components.{Component, automatic, default, sequence, sequence_value}
+use Rattle.rasn_below.specs.Values.{Value, sequence_value}
+use Rattle.rasn_below.specs.Components.{Component, automatic, default, sequence}
 use Rattle.per_samples_e.specs.Nests.{nest}
 
 -- a Nest with so many levels inside the first

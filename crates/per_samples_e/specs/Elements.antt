@@ -2,7 +2,7 @@
 --     flag BOOLEAN, fixed SEQUENCE (SIZE (2)) OF Triple, ranged SEQUENCE (SIZE (1..4)) OF Triple, trailer INTEGER (0..255)
 -- }, and Triple ::= SEQUENCE { octets OCTET STRING (SIZE (3)) }
 use Rattle.std.specs.Prelude.{List, [], ◌∷◌}
-use Rattle.rasn_schema.specs.Components.{Component, automatic, boolean, integer, octet_string, sequence, sequence_of, u8, ◌to◌, size◌to◌}
+use Rattle.rasn_below.specs.Components.{Component, automatic, boolean, integer, octet_string, sequence, sequence_of, u8, ◌to◌, size◌to◌}
 
 abbrev pub triple : List Component
 triple = automatic (octet_string (size 3 to 3) ∷ [])

@@ -1,3 +1,4 @@
+pub mod AddedNests
 pub mod Bytes
 pub mod Choices
 pub mod Deeps

@@ -1,22 +1,21 @@
 -- Ping ::= SEQUENCE { pong Pong OPTIONAL } and Pong ::= SEQUENCE { ping Ping OPTIONAL }
 use Rattle.std.specs.Prelude.{◌≡◌, ℕ, zero, suc, List, [], ◌∷◌, Option, Some, None, false, refl}
-use Rattle.rasn_types.specs.Values.{Value}
-use Rattle.rasn_schema.specs.Schemas
-use Rattle.rasn_schema.specs.Schemas.{Schema, listed, no_parts, part}
-use Rattle.rasn_schema.specs.Levels.{Levelled, no_level, to_sequence, to_part, to_no_parts}
-use Rattle.rasn_schema.specs.Components.{Component, sequence_at, sequence_value, at}
+use Rattle.rasn_below.specs.Values.{Value, sequence_value}
+use Rattle.rasn_below.specs.Components.{Component, at}
+use Rattle.rasn_below.specs.Types.{Schema, listed, no_parts, part, Levelled, no_level, to_sequence, to_part, to_no_parts, sequence_at}
+use Rattle.rasn_below.specs.Types
 use Rattle.per_samples_e.specs.declared.ping.Ping.{Ping, Ping', Held-Ping-pong, Ping-pong-None', Ping-pong-Some'}
 use Rattle.per_samples_e.specs.declared.pong.Pong.{Pong, Pong', Held-Pong-ping, Pong-ping-None', Pong-ping-Some'}
 
 -- each to a number of levels
 abbrev mutual
   pub ping_schema : ℕ → Schema
-  ping_schema zero = Schemas.cut
-  ping_schema (suc n) = Schema.sequence listed (part (at 0) Schemas.optional (pong_schema n) no_parts) false no_parts
+  ping_schema zero = Types.cut
+  ping_schema (suc n) = Schema.sequence listed (part (at 0) Types.optional (pong_schema n) no_parts) false no_parts
 
   pub pong_schema : ℕ → Schema
-  pong_schema zero = Schemas.cut
-  pong_schema (suc n) = Schema.sequence listed (part (at 0) Schemas.optional (ping_schema n) no_parts) false no_parts
+  pong_schema zero = Types.cut
+  pong_schema (suc n) = Schema.sequence listed (part (at 0) Types.optional (ping_schema n) no_parts) false no_parts
 
 mutual
   pub ping_levelled : Levelled ping_schema
@@ -28,10 +27,10 @@ mutual
   pong_levelled (suc n) = to_sequence (to_part (ping_levelled n) to_no_parts) to_no_parts
 
 abbrev pub ping : List Component
-ping = record { tags = at 0; presence = Schemas.optional; schema = pong_schema; levelled = pong_levelled } ∷ []
+ping = record { tags = at 0; presence = Types.optional; schema = pong_schema; levelled = pong_levelled } ∷ []
 
 abbrev pub pong : List Component
-pong = record { tags = at 0; presence = Schemas.optional; schema = ping_schema; levelled = ping_levelled } ∷ []
+pong = record { tags = at 0; presence = Types.optional; schema = ping_schema; levelled = ping_levelled } ∷ []
 
 -- the trees are those of the components
 pub ping_is_sequence : (n : ℕ) → sequence_at ping n ≡ ping_schema n

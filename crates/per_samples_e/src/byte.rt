@@ -1,10 +1,9 @@
 //! A SEQUENCE of eight BOOLEAN.
 
 ghost use Rattle.std.specs.Prelude.{refl, true, false, [], ◌∷◌, Some};
-ghost use Rattle.rasn_types.specs.Values.{truth};
-ghost use Rattle.rasn_types.specs.Variants.{unaligned};
-ghost use Rattle.rasn_schema.specs.Components.{fields_of};
-ghost use Rattle.per_samples_a.specs.Rows.{IsWrittenAs};
+ghost use Rattle.rasn_below.specs.Values.{truth};
+ghost use Rattle.rasn_below.specs.Components.{fields_of};
+ghost use Rattle.rasn_below.specs.Rows.{unaligned, IsWrittenAs};
 ghost use Rattle.per_samples_e.specs.Bytes.{byte};
 
 use rasn_below::{
@@ -71,7 +70,7 @@ impl Record for Byte {
 }
 
 /// Eight bits are an octet, the first one highest (X.691 11.1).
-#[tactic(auto, unfolding(per_core::specs::Canon::bytes, rasn_schema::specs::Normal::normal))]
+#[tactic(auto, unfolding(rasn_below::specs::Rows::bytes, rasn_below::specs::Types::normal))]
 pub fn eight_bits_are_an_octet()
     ensures uper { let own = ⟦<Byte as AsnType>⟧ in
         IsWrittenAs unaligned (own.schema own.CONSTRAINTS) own.levels own.value

@@ -1,23 +1,16 @@
 //! A CHOICE of which an alternative is a choice without a tag of its own.
 
 ghost use Rattle.std.specs.Prelude.{None, refl, true, [], ◌∷◌};
-ghost use Rattle.rasn_types.specs.declared.types.TheConstants.Tag.{EOC};
-ghost use Rattle.rasn_types.specs.Variants.{unaligned};
-ghost use Rattle.rasn_constraints.specs.Ranges.{no_constraints};
-ghost use Rattle.rasn_schema.specs.Choices.{choice_at, variants_of};
-ghost use Rattle.rasn_schema.specs.Records.{no_additions};
-ghost use Rattle.rasn_schema.specs.Tags.{choice_tag};
-ghost use Rattle.per_samples_a.specs.Rows.{IsWrittenAs};
+ghost use Rattle.rasn_below.specs.Types.{EOC, no_constraints, choice_at, variants_of, no_additions, choice_tag};
+ghost use Rattle.rasn_below.specs.Rows.{unaligned, IsWrittenAs};
 ghost use Rattle.per_samples_e.specs.Choices.{inner_parts, inner_levelled, inner_chosen, outer_parts, outer_levelled, outer_variants, outer_described, outer_chosen, outer_levels};
 ghost use Rattle.per_samples_e.specs.declared.choice.Inner.TheVariants.{P, Q};
 ghost use Rattle.per_samples_e.specs.declared.choice.Outer.TheVariants.{X, Y, Z};
 
+use rasn_below::codec::{Decode, DecodeChoice, Decoder, DecoderExt, Encode, Encoder, EncoderExt};
 use rasn_below::context_tag;
-use rasn_codec::codec::{Decode, DecodeChoice, Decoder, DecoderExt, Encode, Encoder, EncoderExt};
-use rasn_schema::choices::{Choice, Variant, Variants};
-use rasn_schema::fields::TagTree;
-use rasn_schema::schema::{AsnType, Constraints};
-use rasn_types::types::{Identifier, Tag};
+use rasn_below::schema::{AsnType, Choice, Constraints, Variant, Variants};
+use rasn_below::types::{Identifier, Tag};
 
 /// CHOICE { p [1] BOOLEAN, q [2] NULL }
 #[derive(Clone, Copy, Debug, PartialEq, Eq)]
@@ -65,11 +58,11 @@ impl AsnType for Inner {
 const INNER: &[Variant] = &[
     Variant {
         tag: TAG_OF_P,
-        tag_tree: TagTree::Leaf(TAG_OF_P),
+        tag_tree: rasn_below::TagTree::Leaf(TAG_OF_P),
     },
     Variant {
         tag: TAG_OF_Q,
-        tag_tree: TagTree::Leaf(TAG_OF_Q),
+        tag_tree: rasn_below::TagTree::Leaf(TAG_OF_Q),
     },
 ];
 
@@ -156,15 +149,18 @@ impl AsnType for Outer {
 const OUTER: &[Variant] = &[
     Variant {
         tag: TAG_OF_X,
-        tag_tree: TagTree::Leaf(TAG_OF_X),
+        tag_tree: rasn_below::TagTree::Leaf(TAG_OF_X),
     },
     Variant {
         tag: TAG_OF_P,
-        tag_tree: TagTree::Choice(&[TagTree::Leaf(TAG_OF_P), TagTree::Leaf(TAG_OF_Q)]),
+        tag_tree: rasn_below::TagTree::Choice(&[
+            rasn_below::TagTree::Leaf(TAG_OF_P),
+            rasn_below::TagTree::Leaf(TAG_OF_Q),
+        ]),
     },
     Variant {
         tag: TAG_OF_Z,
-        tag_tree: TagTree::Leaf(TAG_OF_Z),
+        tag_tree: rasn_below::TagTree::Leaf(TAG_OF_Z),
     },
 ];
 
@@ -234,7 +230,7 @@ impl DecodeChoice for Outer {
 }
 
 /// The index in two bits, and behind that of the inner choice its own (X.691 23.6): it is one alternative.
-#[tactic(auto, unfolding(per_core::specs::Canon::bytes, rasn_schema::specs::Normal::normal, rasn_schema::specs::Normal::settle))]
+#[tactic(auto, unfolding(rasn_below::specs::Rows::bytes, rasn_below::specs::Types::normal, rasn_below::specs::Types::settle))]
 pub fn an_untagged_choice_is_one_alternative()
     ensures x { let own = ⟦<Outer as AsnType>⟧ in
         IsWrittenAs unaligned (own.schema own.CONSTRAINTS) own.levels own.value (X true) (0x20 ∷ []) }

@@ -1,14 +1,14 @@
 //! A SEQUENCE of a component whose default has more levels than a decoder reads.
 
 ghost use Rattle.std.specs.Prelude.{◌≡◌, refl, IfOk, [], ◌∷◌, Some};
-ghost use Rattle.rasn_types.specs.Values.{same};
-ghost use Rattle.rasn_schema.specs.Components.{fields_of};
+ghost use Rattle.rasn_below.specs.Values.{same};
+ghost use Rattle.rasn_below.specs.Components.{fields_of};
 ghost use Rattle.per_samples_e.specs.Deeps.{deep, nest_with};
 
 use crate::nest::Nest;
+use rasn_below::codec::{DecoderExt, EncoderExt};
+use rasn_below::types::Identifier;
 use rasn_below::{AsnType, Components, Decoder, Encoder, Fields, Record, Tag, context_tag, fields};
-use rasn_codec::codec::{DecoderExt, EncoderExt};
-use rasn_types::types::Identifier;
 use std::alloc::{AllocError, Global};
 
 /// SEQUENCE { d Nest DEFAULT a value of 200 levels }

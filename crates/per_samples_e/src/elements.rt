@@ -1,8 +1,8 @@
 //! A SEQUENCE with lists in it.
 
 ghost use Rattle.std.specs.Prelude.{refl, max, [], ◌∷◌, Some, pos};
-ghost use Rattle.rasn_types.specs.Values.{truth, whole};
-ghost use Rattle.rasn_schema.specs.Components.{fields_of};
+ghost use Rattle.rasn_below.specs.Values.{truth, whole};
+ghost use Rattle.rasn_below.specs.Components.{fields_of};
 ghost use Rattle.per_samples_e.specs.Elements.{elements};
 
 use crate::triple::Triple;

@@ -1,17 +1,16 @@
 //! A SEQUENCE of a component between others that may have no octets.
 
 ghost use Rattle.std.specs.Prelude.{refl, true, [], ◌∷◌, Some};
-ghost use Rattle.rasn_types.specs.Values.{octets, truth};
-ghost use Rattle.rasn_types.specs.Variants.{aligned, unaligned};
-ghost use Rattle.rasn_schema.specs.Components.{fields_of};
-ghost use Rattle.per_samples_a.specs.Rows.{IsWrittenAs};
+ghost use Rattle.rasn_below.specs.Values.{octets, truth};
+ghost use Rattle.rasn_below.specs.Components.{fields_of};
+ghost use Rattle.rasn_below.specs.Rows.{aligned, unaligned, IsWrittenAs};
 ghost use Rattle.per_samples_e.specs.Empties.{maybe_empty};
 
+use rasn_below::types::OctetString;
 use rasn_below::{
     AsnType, Components, Constraint, Decoder, Encoder, Fields, Record, bounds, decode_components,
     encode_components, fields,
 };
-use rasn_types::octet_strings::OctetString;
 
 /// SEQUENCE { a BOOLEAN, b OCTET STRING (SIZE (0..3)), c BOOLEAN }
 #[derive(Debug, Drop, PartialEq)]
@@ -58,7 +57,7 @@ impl Record for MaybeEmpty {
 }
 
 /// The count of octets in two bits; where it is 0 nothing stands behind it, and in APER no padding (X.691 17.8).
-#[tactic(auto, unfolding(per_core::specs::Canon::bytes, rasn_schema::specs::Normal::normal))]
+#[tactic(auto, unfolding(rasn_below::specs::Rows::bytes, rasn_below::specs::Types::normal))]
 pub fn no_octets_are_their_count()
     ensures none { let own = ⟦<MaybeEmpty as AsnType>⟧ in
         IsWrittenAs unaligned (own.schema own.CONSTRAINTS) own.levels own.value

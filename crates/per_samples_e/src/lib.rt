@@ -1,6 +1,9 @@
-//! Recursive types and lists whose encodings are known, written over the traits of types and codecs.
+//! Recursive types, also as an addition, and lists, whose encodings are known, written over the traits of types and
+//! codecs.
 #![tactic(auto)]
 
+pub mod added_nest;
+pub mod before_nest;
 pub mod byte;
 pub mod choice;
 pub mod deep;

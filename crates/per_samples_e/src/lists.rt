@@ -1,6 +1,6 @@
 //! Lists of octets as eight BOOLEAN each, and lists of NULL.
 
-ghost use Rattle.rasn_schema.specs.Components.{size◌to◌};
+ghost use Rattle.rasn_below.specs.Components.{size◌to◌};
 
 use crate::byte::Byte;
 use rasn_below::{Constrained, Constraint, Constraints, Limits, constraints};

@@ -1,22 +1,20 @@
 //! A SEQUENCE that holds itself.
 
 ghost use Rattle.std.specs.Prelude.{refl, [], ◌∷◌};
-ghost use Rattle.rasn_types.specs.Variants.{unaligned};
-ghost use Rattle.rasn_schema.specs.Components.{fields_of};
-ghost use Rattle.rasn_schema.specs.Schemas.{optional};
-ghost use Rattle.rasn_calls.specs.Optionals.{ReadsComponent};
-ghost use Rattle.rasn_calls.specs.Presences.{slot_of};
-ghost use Rattle.per_samples_a.specs.Rows.{IsWrittenAs};
+ghost use Rattle.rasn_below.specs.Values.{slot_of};
+ghost use Rattle.rasn_below.specs.Components.{fields_of};
+ghost use Rattle.rasn_below.specs.Types.{optional};
+ghost use Rattle.rasn_below.specs.Calls.{ReadsComponent};
+ghost use Rattle.rasn_below.specs.Rows.{unaligned, IsWrittenAs};
 ghost use Rattle.per_samples_e.specs.declared.nest.Nest.{Nest', None', Some'};
 ghost use Rattle.per_samples_e.specs.Nests.{nest, nest_contents, nest_depth, nest_schema};
 
+use rasn_below::codec::{Decode, Encode, boxed};
+use rasn_below::types::Identifier;
 use rasn_below::{
     AsnType, Components, Constraint, Constraints, Decoder, Encoder, Fields, Tag, bounds,
     context_tag, encode_record, fields,
 };
-use rasn_codec::boxed::boxed;
-use rasn_codec::codec::{Decode, Encode};
-use rasn_types::types::Identifier;
 
 /// Nest ::= SEQUENCE { inner Nest OPTIONAL }
 #[derive(Debug, Drop, PartialEq)]
@@ -100,7 +98,7 @@ impl Nest {
 }
 
 /// A bit for each level (X.691 19.2): 1 where a further one is inside, at last 0.
-#[tactic(auto, unfolding(per_core::specs::Canon::bytes, rasn_schema::specs::Normal::normal, rasn_schema::specs::Normal::settle))]
+#[tactic(auto, unfolding(rasn_below::specs::Rows::bytes, rasn_below::specs::Types::normal, rasn_below::specs::Types::settle))]
 pub fn a_level_is_a_bit()
     ensures one { let own = ⟦<Nest as AsnType>⟧ in
         IsWrittenAs unaligned (own.schema own.CONSTRAINTS) own.levels own.value (Nest' None') (0x00 ∷ []) }

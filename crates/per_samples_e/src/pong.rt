@@ -1,20 +1,19 @@
 //! The second of two SEQUENCEs that hold one another.
 
 ghost use Rattle.std.specs.Prelude.{refl};
-ghost use Rattle.rasn_schema.specs.Components.{fields_of};
-ghost use Rattle.rasn_schema.specs.Schemas.{optional};
-ghost use Rattle.rasn_calls.specs.Optionals.{ReadsComponent};
-ghost use Rattle.rasn_calls.specs.Presences.{slot_of};
+ghost use Rattle.rasn_below.specs.Values.{slot_of};
+ghost use Rattle.rasn_below.specs.Components.{fields_of};
+ghost use Rattle.rasn_below.specs.Types.{optional};
+ghost use Rattle.rasn_below.specs.Calls.{ReadsComponent};
 ghost use Rattle.per_samples_e.specs.Mutuals.{pong, pong_contents, pong_depth, ping_schema};
 
 use crate::ping::Ping;
+use rasn_below::codec::{Decode, Encode, boxed};
+use rasn_below::types::Identifier;
 use rasn_below::{
     AsnType, Components, Constraint, Constraints, Decoder, Encoder, Fields, Tag, bounds,
     context_tag, encode_record, fields,
 };
-use rasn_codec::boxed::boxed;
-use rasn_codec::codec::{Decode, Encode};
-use rasn_types::types::Identifier;
 
 /// Pong ::= SEQUENCE { ping Ping OPTIONAL }
 #[cycle(hold)]

@@ -1,7 +1,6 @@
 -- SEQUENCE { first BOOLEAN, ..., [[ x BOOLEAN OPTIONAL ]] }
 use Rattle.std.specs.Prelude.{List, [], ◌∷◌}
-use Rattle.rasn_schema.specs.Components.{Component, automatic, automatic_from, boolean, optional, sequence}
-use Rattle.rasn_record.specs.ExtendedRecords.{group}
+use Rattle.rasn_below.specs.Components.{Component, automatic, automatic_from, boolean, optional, sequence, group}
 
 abbrev pub grouped_root : List Component
 grouped_root = automatic (boolean ∷ [])

@@ -1,4 +1,3 @@
-pub mod AddedNests
 pub mod Groups
 pub mod Needs
 pub mod Outers

@@ -1,7 +1,7 @@
 -- SEQUENCE { ..., a BOOLEAN, b BOOLEAN OPTIONAL }, and SEQUENCE { ..., a INTEGER (0..7) DEFAULT 3 }
 use Rattle.std.specs.Prelude.{pos, List, [], ◌∷◌}
-use Rattle.rasn_types.specs.Values.{whole}
-use Rattle.rasn_schema.specs.Components.{Component, automatic, boolean, default, integer, optional, u8, ◌to◌}
+use Rattle.rasn_below.specs.Values.{whole}
+use Rattle.rasn_below.specs.Components.{Component, automatic, boolean, default, integer, optional, u8, ◌to◌}
 
 abbrev pub one_needed : List Component
 one_needed = automatic (boolean ∷ optional boolean ∷ [])

@@ -3,8 +3,7 @@
 -- outer2 ::= SEQUENCE { first BOOLEAN, second BOOLEAN, ..., [[ flag BOOLEAN, octets OCTET STRING (SIZE (3)) ]] }
 -- outer3 ::= SEQUENCE { first BOOLEAN, second BOOLEAN, ..., [[ flag BOOLEAN, octets OCTET STRING (SIZE (3)) ]], after OCTET STRING (SIZE (3)) OPTIONAL }
 use Rattle.std.specs.Prelude.{List, [], ◌∷◌}
-use Rattle.rasn_schema.specs.Components.{Component, automatic, automatic_from, boolean, octet_string, optional, sequence, size◌to◌}
-use Rattle.rasn_record.specs.ExtendedRecords.{group}
+use Rattle.rasn_below.specs.Components.{Component, automatic, automatic_from, boolean, octet_string, optional, sequence, size◌to◌, group}
 
 -- the root components of each
 abbrev pub outer_root : List Component

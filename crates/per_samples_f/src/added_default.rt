@@ -1,21 +1,17 @@
 //! A SEQUENCE with an addition that has a default.
 
 ghost use Rattle.std.specs.Prelude.{[], ◌∷◌, Some, pos, refl, suc, true};
-ghost use Rattle.rasn_types.specs.Values.{whole};
-ghost use Rattle.rasn_types.specs.declared.types.TheConstants.Tag.{SEQUENCE};
-ghost use Rattle.rasn_constraints.specs.Ranges.{no_constraints};
-ghost use Rattle.rasn_schema.specs.Components.{fields_described, fields_of, parts_of};
-ghost use Rattle.rasn_schema.specs.Records.{record_value};
-ghost use Rattle.rasn_schema.specs.Tags.{sequence_tag};
-ghost use Rattle.rasn_calls.specs.Scopes.{deeper_of};
-ghost use Rattle.rasn_record.specs.ExtendedRecords.{extended_at, extended_by, extended_levelled};
+ghost use Rattle.rasn_below.specs.Values.{whole, record_value, deeper_of};
+ghost use Rattle.rasn_below.specs.Components.{fields_described, fields_of, parts_of, extended_at, extended_by};
+ghost use Rattle.rasn_below.specs.Components.{extended_levelled};
+ghost use Rattle.rasn_below.specs.Types.{SEQUENCE, no_constraints, sequence_tag};
 ghost use Rattle.per_samples_f.specs.Needs.{added_default};
 
+use rasn_below::types::Identifier;
 use rasn_below::{
     AsnType, Constraint, Constraints, Constructed, Decode, Decoder, Encode, Encoder, Fields, Tag,
     added_bounds, added_fields, decode_extended, encode_extended, root_bounds, root_fields,
 };
-use rasn_types::types::Identifier;
 
 /// SEQUENCE { ..., a INTEGER (0..7) DEFAULT 3 }
 #[derive(Clone, Copy, Debug, PartialEq)]

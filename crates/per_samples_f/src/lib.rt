@@ -3,8 +3,6 @@
 #![tactic(auto)]
 
 pub mod added_default;
-pub mod added_nest;
-pub mod before_nest;
 pub mod flagged;
 pub mod grouped;
 pub mod none_needed;

@@ -1,25 +1,18 @@
 //! A SEQUENCE with an addition group and an optional addition.
 
 ghost use Rattle.std.specs.Prelude.{[], ◌∷◌, Some, max, refl, suc, true};
-ghost use Rattle.rasn_types.specs.Values.{octets, truth};
-ghost use Rattle.rasn_types.specs.declared.types.TheConstants.Tag.{SEQUENCE};
-ghost use Rattle.rasn_constraints.specs.Ranges.{no_constraints};
-ghost use Rattle.rasn_schema.specs.Components.{fields_described, fields_of, parts_of};
-ghost use Rattle.rasn_schema.specs.Records.{record_value};
-ghost use Rattle.rasn_schema.specs.Tags.{sequence_tag};
-ghost use Rattle.rasn_calls.specs.Presences.{slot_of};
-ghost use Rattle.rasn_calls.specs.Scopes.{deeper_of};
-ghost use Rattle.rasn_record.specs.ExtendedRecords.{extended_at, extended_by, extended_levelled};
-ghost use Rattle.rasn_record.specs.Slots.{slot_levels};
+ghost use Rattle.rasn_below.specs.Values.{octets, truth, record_value, slot_of, deeper_of, slot_levels};
+ghost use Rattle.rasn_below.specs.Components.{fields_described, fields_of, parts_of, extended_at, extended_by};
+ghost use Rattle.rasn_below.specs.Components.{extended_levelled};
+ghost use Rattle.rasn_below.specs.Types.{SEQUENCE, no_constraints, sequence_tag};
 ghost use Rattle.per_samples_f.specs.Outers.{outer_root, outer3_additions};
 
 use crate::flagged::Flagged;
+use rasn_below::types::{Identifier, OctetString};
 use rasn_below::{
     AsnType, Constraint, Constraints, Constructed, Decode, Decoder, Encode, Encoder, Fields, Tag,
     added_bounds, added_fields, decode_extended, encode_extended, root_bounds, root_fields,
 };
-use rasn_types::octet_strings::OctetString;
-use rasn_types::types::Identifier;
 
 /// SEQUENCE {
 ///     first BOOLEAN, second BOOLEAN, ..., [[ flag BOOLEAN, octets OCTET STRING (SIZE (3)) ]],

@@ -1,9 +1,8 @@
 //! A group of additions that may hold nothing.
 
 ghost use Rattle.std.specs.Prelude.{[], ◌∷◌, refl};
-ghost use Rattle.rasn_types.specs.Values.{truth};
-ghost use Rattle.rasn_schema.specs.Components.{fields_of};
-ghost use Rattle.rasn_calls.specs.Presences.{slot_of};
+ghost use Rattle.rasn_below.specs.Values.{truth, slot_of};
+ghost use Rattle.rasn_below.specs.Components.{fields_of};
 ghost use Rattle.per_samples_f.specs.Groups.{possible};
 
 use rasn_below::{

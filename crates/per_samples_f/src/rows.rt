@@ -1,12 +1,9 @@
 //! What is written of some records with additions.
 
 ghost use Rattle.std.specs.Prelude.{true, false, [], ◌∷◌, Some, None};
-ghost use Rattle.rasn_types.specs.Variants.{aligned, unaligned};
-ghost use Rattle.per_samples_a.specs.Rows.{IsWrittenAs};
-ghost use Rattle.per_samples_e.specs.declared.nest.Nest.{Nest', None'};
+ghost use Rattle.rasn_below.specs.Rows.{aligned, unaligned, IsWrittenAs};
 
 use crate::added_default::AddedDefault;
-use crate::added_nest::AddedNest;
 use crate::grouped::Grouped;
 use crate::none_needed::NoneNeeded;
 use crate::one_needed::OneNeeded;
@@ -15,7 +12,7 @@ use crate::outer3::Outer3;
 use rasn_below::AsnType;
 
 /// Without additions the extension bit is 0 (X.691 19.1).
-#[tactic(auto, unfolding(per_core::specs::Canon::bytes, rasn_schema::specs::Normal::normal))]
+#[tactic(auto, unfolding(rasn_below::specs::Rows::bytes, rasn_below::specs::Types::normal))]
 pub fn extension_bit_shows_additions()
     ensures none { let own = ⟦<NoneNeeded as AsnType>⟧ in
         IsWrittenAs unaligned (own.schema own.CONSTRAINTS) own.levels own.value (record {}) (0x00 ∷ []) }
@@ -28,7 +25,7 @@ pub fn extension_bit_shows_additions()
 {}
 
 /// A required addition is written, one at its default isn't (X.691 19.7, 19.9).
-#[tactic(auto, unfolding(per_core::specs::Canon::bytes, rasn_schema::specs::Normal::normal))]
+#[tactic(auto, unfolding(rasn_below::specs::Rows::bytes, rasn_below::specs::Types::normal))]
 pub fn additions_are_open_types()
     ensures needed { let own = ⟦<OneNeeded as AsnType>⟧ in
         IsWrittenAs unaligned (own.schema own.CONSTRAINTS) own.levels own.value
@@ -40,16 +37,8 @@ pub fn additions_are_open_types()
         (record { a = 5 }) (0x80 ∷ 0x80 ∷ 0xd0 ∷ 0x00 ∷ []) }
 {}
 
-/// An addition of one level, whose open type holds a presence bit.
-#[tactic(auto, unfolding(per_core::specs::Canon::bytes, rasn_schema::specs::Normal::normal, rasn_schema::specs::Normal::settle))]
-pub fn recursive_additions_are_open_types()
-    ensures one { let own = ⟦<AddedNest as AsnType>⟧ in
-        IsWrittenAs unaligned (own.schema own.CONSTRAINTS) own.levels own.value
-        (record { a = true; deep = Some (Nest' None') }) (0xc0 ∷ 0x40 ∷ 0x40 ∷ 0x00 ∷ []) }
-{}
-
 /// A group that holds nothing isn't written (X.691 19.9).
-#[tactic(auto, unfolding(per_core::specs::Canon::bytes, rasn_schema::specs::Normal::normal))]
+#[tactic(auto, unfolding(rasn_below::specs::Rows::bytes, rasn_below::specs::Types::normal))]
 pub fn empty_groups_are_absent()
     ensures empty { let own = ⟦<Grouped as AsnType>⟧ in
         IsWrittenAs unaligned (own.schema own.CONSTRAINTS) own.levels own.value
@@ -57,7 +46,7 @@ pub fn empty_groups_are_absent()
 {}
 
 /// A group and an addition behind it.
-#[tactic(auto, unfolding(per_core::specs::Canon::bytes, rasn_schema::specs::Normal::normal))]
+#[tactic(auto, unfolding(rasn_below::specs::Rows::bytes, rasn_below::specs::Types::normal))]
 pub fn groups_are_open_types()
     ensures aligned { let own = ⟦<Outer3 as AsnType>⟧ in
         IsWrittenAs aligned (own.schema own.CONSTRAINTS) own.levels own.value

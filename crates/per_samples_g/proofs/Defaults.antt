@@ -1,13 +1,10 @@
 -- Whether an outer1 or an outer3 is at the default, and its normal form.
 use Rattle.std.proofs.Common.{◌≡◌, refl, ℕ, zero, suc, Bool, true, false, not, ◌&&◌, List, [], ◌∷◌, Option, Some, None}
 use Rattle.std.specs.Option.{is_none, is_some}
-use Rattle.rasn_types.specs.Values.{Value, octets, same, truth}
-use Rattle.rasn_schema.specs.Components.{sequence_value}
-use Rattle.rasn_calls.specs.Presences.{slot_of}
+use Rattle.rasn_below.specs.Values.{Value, octets, same, truth, sequence_value, slot_of, record_value}
+use Rattle.rasn_below.specs.Components.{extended_at}
+use Rattle.rasn_below.specs.Types.{normal, settle}
 use Rattle.per_samples_f.specs.declared.flagged.Flagged.{Flagged}
-use Rattle.rasn_schema.specs.Normal.{normal, settle}
-use Rattle.rasn_schema.specs.Records.{record_value}
-use Rattle.rasn_record.specs.ExtendedRecords.{extended_at}
 use Rattle.per_samples_f.specs.Outers.{outer_root, outer3_additions}
 use Rattle.per_samples_g.specs.Defaults.{true_false, true_false_alone}
 

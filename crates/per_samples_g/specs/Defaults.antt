@@ -1,9 +1,7 @@
 -- SEQUENCE { o outer1 DEFAULT (TRUE, FALSE) } and SEQUENCE { o outer3 DEFAULT (TRUE, FALSE, both additions absent) }
 use Rattle.std.specs.Prelude.{List, [], ◌∷◌, true, false, Some, None}
-use Rattle.rasn_types.specs.Values.{Value, truth}
-use Rattle.rasn_schema.specs.Components.{Component, automatic, default}
-use Rattle.rasn_schema.specs.Records.{record_value}
-use Rattle.rasn_record.specs.ExtendedRecords.{extended_sequence}
+use Rattle.rasn_below.specs.Values.{Value, truth, record_value}
+use Rattle.rasn_below.specs.Components.{Component, automatic, default, extended_sequence}
 use Rattle.per_samples_f.specs.Outers.{outer_root, outer3_additions}
 
 -- TRUE and FALSE

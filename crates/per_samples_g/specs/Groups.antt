@@ -1,8 +1,7 @@
 -- SEQUENCE { first BOOLEAN, ..., an addition group }, in two versions of the group's SEQUENCE, which has a marker of its
 -- own: SEQUENCE { x BOOLEAN OPTIONAL, ... } and SEQUENCE { x BOOLEAN OPTIONAL, ..., y BOOLEAN OPTIONAL }
 use Rattle.std.specs.Prelude.{List, [], ◌∷◌}
-use Rattle.rasn_schema.specs.Components.{Component, automatic, automatic_from, boolean, optional}
-use Rattle.rasn_record.specs.ExtendedRecords.{extended_sequence, group}
+use Rattle.rasn_below.specs.Components.{Component, automatic, automatic_from, boolean, optional, extended_sequence, group}
 
 -- the root components of the record
 abbrev pub first_root : List Component

@@ -1,14 +1,14 @@
 //! A SEQUENCE of a component with additions, which has a default.
 
 ghost use Rattle.std.specs.Prelude.{◌≡◌, IfOk, [], ◌∷◌, Some, refl};
-ghost use Rattle.rasn_types.specs.Values.{same};
-ghost use Rattle.rasn_schema.specs.Components.{fields_of};
+ghost use Rattle.rasn_below.specs.Values.{same};
+ghost use Rattle.rasn_below.specs.Components.{fields_of};
 ghost use Rattle.per_samples_g.specs.Defaults.{default_outer3, true_false_alone};
 
 use per_samples_f::outer3::Outer3;
+use rasn_below::codec::{DecoderExt, EncoderExt};
+use rasn_below::types::Identifier;
 use rasn_below::{AsnType, Components, Decoder, Encoder, Fields, Record, Tag, context_tag, fields};
-use rasn_codec::codec::{DecoderExt, EncoderExt};
-use rasn_types::types::Identifier;
 use std::alloc::{AllocError, Global};
 
 /// SEQUENCE { o outer3 DEFAULT (TRUE, FALSE, both additions absent) }

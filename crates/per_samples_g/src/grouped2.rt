@@ -1,24 +1,18 @@
 //! A SEQUENCE with a group that has an extension marker and an addition of its own.
 
 ghost use Rattle.std.specs.Prelude.{[], ◌∷◌, Some, max, refl, suc, true};
-ghost use Rattle.rasn_types.specs.Values.{truth};
-ghost use Rattle.rasn_types.specs.declared.types.TheConstants.Tag.{SEQUENCE};
-ghost use Rattle.rasn_constraints.specs.Ranges.{no_constraints};
-ghost use Rattle.rasn_schema.specs.Components.{fields_described, fields_of, parts_of};
-ghost use Rattle.rasn_schema.specs.Records.{record_value};
-ghost use Rattle.rasn_schema.specs.Tags.{sequence_tag};
-ghost use Rattle.rasn_calls.specs.Presences.{slot_of};
-ghost use Rattle.rasn_record.specs.Slots.{slot_levels};
-ghost use Rattle.rasn_calls.specs.Scopes.{deeper_of};
-ghost use Rattle.rasn_record.specs.ExtendedRecords.{extended_at, extended_by, extended_levelled};
+ghost use Rattle.rasn_below.specs.Values.{truth, record_value, slot_of, slot_levels, deeper_of};
+ghost use Rattle.rasn_below.specs.Components.{fields_described, fields_of, parts_of, extended_at, extended_by};
+ghost use Rattle.rasn_below.specs.Components.{extended_levelled};
+ghost use Rattle.rasn_below.specs.Types.{SEQUENCE, no_constraints, sequence_tag};
 ghost use Rattle.per_samples_g.specs.Groups.{first_root, x_y_group};
 
 use crate::group2::Group2;
+use rasn_below::types::Identifier;
 use rasn_below::{
     AsnType, Constraint, Constraints, Constructed, Decode, Decoder, Encode, Encoder, Fields, Tag,
     added_bounds, added_fields, decode_extended, encode_extended, root_bounds, root_fields,
 };
-use rasn_types::types::Identifier;
 
 /// SEQUENCE { first BOOLEAN, ..., an addition group whose type is `Group2` }
 #[derive(Clone, Copy, Debug, PartialEq)]

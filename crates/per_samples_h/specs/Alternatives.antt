@@ -2,7 +2,7 @@
 -- Alt ::= CHOICE { plain BOOLEAN, inner Inner, ..., added Inner },
 -- Inner ::= SEQUENCE { flag BOOLEAN, octets OCTET STRING (SIZE (3)) }, with automatic tags
 use Rattle.std.specs.Prelude.{List, [], ◌∷◌}
-use Rattle.rasn_schema.specs.Components.{Component, automatic, automatic_from, boolean, extensible_choice, integer, octet_string, sequence, u8, ◌to◌, size◌to◌}
+use Rattle.rasn_below.specs.Components.{Component, automatic, automatic_from, boolean, extensible_choice, integer, octet_string, sequence, u8, ◌to◌, size◌to◌}
 
 -- the components of Inner
 abbrev pub inner : List Component

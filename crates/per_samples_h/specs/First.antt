@@ -1,7 +1,7 @@
 -- Alt1 ::= CHOICE { a BOOLEAN, ... }, with automatic tags
 use Rattle.std.specs.Prelude.{List, [], ◌∷◌}
-use Rattle.rasn_types.specs.Values.{truth}
-use Rattle.rasn_schema.specs.Components.{Component, Chosen, chosen, automatic, boolean}
+use Rattle.rasn_below.specs.Values.{truth}
+use Rattle.rasn_below.specs.Components.{Component, Chosen, chosen, automatic, boolean}
 use Rattle.per_samples_h.specs.declared.alt1.Alt1.{Alt1}
 use Rattle.per_samples_h.specs.declared.alt1.Alt1.TheVariants.{A}
 

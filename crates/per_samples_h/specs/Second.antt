@@ -1,7 +1,7 @@
 -- Alt2 ::= CHOICE { a BOOLEAN, ..., b BOOLEAN }, with automatic tags
 use Rattle.std.specs.Prelude.{List, [], ◌∷◌}
-use Rattle.rasn_types.specs.Values.{truth}
-use Rattle.rasn_schema.specs.Components.{Component, Chosen, chosen, chosen_behind, automatic_from, boolean}
+use Rattle.rasn_below.specs.Values.{truth}
+use Rattle.rasn_below.specs.Components.{Component, Chosen, chosen, chosen_behind, automatic_from, boolean}
 use Rattle.per_samples_h.specs.declared.alt2.Alt2.{Alt2}
 use Rattle.per_samples_h.specs.declared.alt2.Alt2.TheVariants.{A, B}
 

@@ -1,7 +1,7 @@
 -- Several ::= CHOICE { a BOOLEAN, none NULL, ..., small INTEGER (0..7), done NULL }, with automatic tags
 use Rattle.std.specs.Prelude.{List, [], ◌∷◌, pos}
-use Rattle.rasn_types.specs.Values.{nothing, truth, whole}
-use Rattle.rasn_schema.specs.Components.{Component, Chosen, chosen, chosen_behind, automatic, automatic_from, at, boolean, extensible_choice, integer, null, u8, under, ◌to◌}
+use Rattle.rasn_below.specs.Values.{nothing, truth, whole}
+use Rattle.rasn_below.specs.Components.{Component, Chosen, chosen, chosen_behind, automatic, automatic_from, at, boolean, extensible_choice, integer, null, u8, under, ◌to◌}
 use Rattle.per_samples_h.specs.declared.several.Several.{Several}
 use Rattle.per_samples_h.specs.declared.several.Several.TheVariants.{A, Nothing, Small, Done}
 

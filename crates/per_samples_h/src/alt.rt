@@ -1,8 +1,8 @@
 //! A CHOICE with a SEQUENCE before its extension marker and behind it.
 
 ghost use Rattle.std.specs.Prelude.{Some, refl};
-ghost use Rattle.rasn_types.specs.Values.{truth};
-ghost use Rattle.rasn_schema.specs.Components.{chosen, chosen_behind, variants_in};
+ghost use Rattle.rasn_below.specs.Values.{truth};
+ghost use Rattle.rasn_below.specs.Components.{chosen, chosen_behind, variants_in};
 ghost use Rattle.per_samples_h.specs.Alternatives.{alt_added, alt_root};
 ghost use Rattle.per_samples_h.specs.declared.alt.Alt.TheVariants.{Added, Inner, Plain};
 

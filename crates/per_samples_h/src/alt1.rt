@@ -1,7 +1,7 @@
 //! A CHOICE with an extension marker, and nothing behind it.
 
 ghost use Rattle.std.specs.Prelude.{[], Some, refl};
-ghost use Rattle.rasn_schema.specs.Components.{variants_in};
+ghost use Rattle.rasn_below.specs.Components.{variants_in};
 ghost use Rattle.per_samples_h.specs.First.{alt1_chosen, in_root};
 
 use rasn_below::{

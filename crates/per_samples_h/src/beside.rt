@@ -1,9 +1,9 @@
 //! A SEQUENCE with a CHOICE that has no tag of its own, and an extension marker.
-#![tactic(auto, unfolding(rasn_schema::specs::Schemas::smallest, rasn_schema::specs::Schemas::least_of))]
+#![tactic(auto, unfolding(rasn_below::specs::Types::smallest, rasn_below::specs::Types::least_of))]
 
 ghost use Rattle.std.specs.Prelude.{refl, [], ◌∷◌, Some, pos};
-ghost use Rattle.rasn_types.specs.Values.{whole};
-ghost use Rattle.rasn_schema.specs.Components.{fields_of};
+ghost use Rattle.rasn_below.specs.Values.{whole};
+ghost use Rattle.rasn_below.specs.Components.{fields_of};
 ghost use Rattle.per_samples_h.specs.Several.{beside_several};
 
 use crate::several::{SEVERAL_TAGS, Several};

@@ -1,15 +1,15 @@
 //! A SEQUENCE of a truth value and three octets.
 
 ghost use Rattle.std.specs.Prelude.{[], ◌∷◌, Some, refl};
-ghost use Rattle.rasn_types.specs.Values.{octets, truth};
-ghost use Rattle.rasn_schema.specs.Components.{fields_of};
+ghost use Rattle.rasn_below.specs.Values.{octets, truth};
+ghost use Rattle.rasn_below.specs.Components.{fields_of};
 ghost use Rattle.per_samples_h.specs.Alternatives.{inner};
 
+use rasn_below::types::OctetString;
 use rasn_below::{
     Components, Constraint, Decoder, Encoder, Fields, Record, bounds, decode_components,
     encode_components, fields,
 };
-use rasn_types::octet_strings::OctetString;
 
 /// Inner ::= SEQUENCE { flag BOOLEAN, octets OCTET STRING (SIZE (3)) }
 #[derive(Debug, Drop, PartialEq)]

@@ -1,7 +1,7 @@
 //! A CHOICE with more than one alternative before its extension marker and behind it.
 
 ghost use Rattle.std.specs.Prelude.{Some, refl};
-ghost use Rattle.rasn_schema.specs.Components.{variants_in};
+ghost use Rattle.rasn_below.specs.Components.{variants_in};
 ghost use Rattle.per_samples_h.specs.Several.{several_added, several_chosen, several_root};
 
 use rasn_below::{

@@ -1,8 +1,8 @@
 //! A SEQUENCE with an alternative before the extension marker of a CHOICE, and one behind it.
 
 ghost use Rattle.std.specs.Prelude.{refl, [], ◌∷◌, Some, pos};
-ghost use Rattle.rasn_types.specs.Values.{truth, whole};
-ghost use Rattle.rasn_schema.specs.Components.{fields_of};
+ghost use Rattle.rasn_below.specs.Values.{truth, whole};
+ghost use Rattle.rasn_below.specs.Components.{fields_of};
 ghost use Rattle.per_samples_h.specs.Alternatives.{two_alternatives};
 
 use crate::alt::Alt;

@@ -1,8 +1,8 @@
 //! A SEQUENCE with a key that is an object identifier or octets.
 
 ghost use Rattle.std.specs.Prelude.{[], ◌∷◌, Some, refl};
-ghost use Rattle.rasn_below.specs.Components.{fields_of};
 ghost use Rattle.rasn_below.specs.Values.{octets};
+ghost use Rattle.rasn_below.specs.Components.{fields_of};
 ghost use Rattle.per_samples_i.specs.Connects.{connect};
 
 use crate::key::Key;

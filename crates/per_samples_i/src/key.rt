@@ -1,8 +1,8 @@
 //! The key of a `Connect`.
 
 ghost use Rattle.std.specs.Prelude.{None, refl};
-ghost use Rattle.rasn_below.specs.Components.{chosen, variants_in};
 ghost use Rattle.rasn_below.specs.Values.{identifier_value, octets};
+ghost use Rattle.rasn_below.specs.Components.{chosen, variants_in};
 ghost use Rattle.per_samples_i.specs.Connects.{key};
 ghost use Rattle.per_samples_i.specs.declared.key.Key.TheVariants.{Object, Other};
 

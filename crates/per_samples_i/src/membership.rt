@@ -1,8 +1,8 @@
 //! A SEQUENCE with an object identifier and a SET OF.
 
 ghost use Rattle.std.specs.Prelude.{[], ◌∷◌, Some, refl};
-ghost use Rattle.rasn_below.specs.Components.{fields_of};
 ghost use Rattle.rasn_below.specs.Values.{identifier_value};
+ghost use Rattle.rasn_below.specs.Components.{fields_of};
 ghost use Rattle.per_samples_i.specs.Memberships.{membership};
 
 use rasn_below::types::{Integer, ObjectIdentifier, SetOf};

@@ -1,8 +1,7 @@
 //! What is written of records with identifiers, bags and strings of any octets.
 
 ghost use Rattle.std.specs.Prelude.{[], ◌∷◌, Some, None, pos};
-ghost use Rattle.rasn_types.specs.Variants.{aligned, unaligned};
-ghost use Rattle.per_samples_a.specs.Rows.{IsWrittenAs};
+ghost use Rattle.rasn_below.specs.Rows.{aligned, unaligned, IsWrittenAs};
 ghost use Rattle.per_samples_i.specs.declared.key.Key.TheVariants.{Object, Other};
 
 use crate::connect::Connect;
@@ -12,7 +11,7 @@ use rasn_below::AsnType;
 
 /// A key by an object identifier, and one by octets: the index in one bit, and a length in front of each (X.691 23.6,
 /// 24, 17).
-#[tactic(auto, unfolding(per_core::specs::Canon::bytes, rasn_schema::specs::Normal::normal, rasn_ber::specs::Identifiers::contents, rasn_ber::specs::Identifiers::subidentifier))]
+#[tactic(auto, unfolding(rasn_below::specs::Rows::bytes, rasn_below::specs::Types::normal, rasn_below::specs::Rows::contents, rasn_below::specs::Rows::subidentifier))]
 pub fn key_is_written_behind_its_index()
     ensures object { let own = ⟦<Connect as AsnType>⟧ in
         IsWrittenAs aligned (own.schema own.CONSTRAINTS) own.levels own.value
@@ -24,7 +23,7 @@ pub fn key_is_written_behind_its_index()
 {}
 
 /// The members of a bag stand in the order of their encodings, behind their count in two bits (X.691 22, 11.5.7).
-#[tactic(auto, unfolding(per_core::specs::Canon::bytes, rasn_schema::specs::Normal::normal, rasn_schema::specs::Normal::over_bag, rasn_types::specs::Values::bag_of, rasn_ber::specs::Identifiers::contents, rasn_ber::specs::Identifiers::subidentifier))]
+#[tactic(auto, unfolding(rasn_below::specs::Rows::bytes, rasn_below::specs::Types::normal, rasn_below::specs::Types::over_bag, rasn_below::specs::Values::bag_of, rasn_below::specs::Rows::contents, rasn_below::specs::Rows::subidentifier))]
 pub fn members_are_written_in_order()
     ensures { let own = ⟦<Membership as AsnType>⟧ in
         IsWrittenAs aligned (own.schema own.CONSTRAINTS) own.levels own.value
@@ -34,7 +33,7 @@ pub fn members_are_written_in_order()
 
 /// Strings of any octets and a value whose type isn't known have a length in front (X.691 30.6, 11.2), behind the
 /// presence bit.
-#[tactic(auto, unfolding(per_core::specs::Canon::bytes, rasn_schema::specs::Normal::normal, rasn_schema::specs::Normal::settle))]
+#[tactic(auto, unfolding(rasn_below::specs::Rows::bytes, rasn_below::specs::Types::normal, rasn_below::specs::Types::settle))]
 pub fn texts_are_octets_behind_their_lengths()
     ensures { let own = ⟦<SomeTexts as AsnType>⟧ in
         IsWrittenAs aligned (own.schema own.CONSTRAINTS) own.levels own.value

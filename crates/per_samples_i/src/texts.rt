@@ -1,8 +1,8 @@
 //! A SEQUENCE of strings of any octets and of a value whose type isn't known.
 
 ghost use Rattle.std.specs.Prelude.{[], ◌∷◌, Some, refl};
-ghost use Rattle.rasn_below.specs.Components.{fields_of};
 ghost use Rattle.rasn_below.specs.Values.{octets, slot_of};
+ghost use Rattle.rasn_below.specs.Components.{fields_of};
 ghost use Rattle.per_samples_i.specs.Texts.{texts};
 
 use rasn_below::types::{Any, GeneralString, GraphicString, TeletexString};

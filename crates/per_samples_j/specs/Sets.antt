@@ -1,8 +1,8 @@
 -- SETs, each with its components in the order of its type.
 use Rattle.std.specs.Prelude.{ℕ, Bool, List, [], ◌∷◌, Option, Some}
-use Rattle.rasn_types.specs.Values.{Value, nothing, truth}
-use Rattle.rasn_schema.specs.Schemas.{leaf, TagTree}
-use Rattle.rasn_schema.specs.Components.{Component, Chosen, at, boolean, choice, chosen, integer, null, optional, u8, under, ◌to◌}
+use Rattle.rasn_below.specs.Values.{Value, nothing, truth}
+use Rattle.rasn_below.specs.Components.{Component, Chosen, at, boolean, choice, chosen, integer, null, optional, u8, under, ◌to◌}
+use Rattle.rasn_below.specs.Types.{leaf, TagTree}
 use Rattle.per_samples_j.specs.declared.truth_or_none.TruthOrNone.{TruthOrNone}
 use Rattle.per_samples_j.specs.declared.truth_or_none.TruthOrNone.TheVariants.{M, N}
 

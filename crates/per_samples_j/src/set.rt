@@ -1,14 +1,14 @@
 //! A SET of two components.
-#![tactic(auto, unfolding(rasn_schema::specs::Schemas::smallest))]
+#![tactic(auto, unfolding(rasn_below::specs::Types::smallest))]
 
 ghost use Rattle.std.specs.Prelude.{[], ◌∷◌, Some, pos, refl};
-ghost use Rattle.rasn_types.specs.Values.{truth, whole};
-ghost use Rattle.rasn_schema.specs.Components.{fields_of};
+ghost use Rattle.rasn_below.specs.Values.{truth, whole};
+ghost use Rattle.rasn_below.specs.Components.{fields_of};
 ghost use Rattle.per_samples_j.specs.Sets.{set};
 
-use rasn_below::{ByKind, Constraint, Decoder, Encoder, Fields, OfKind, bounds, fields};
-use rasn_set_record::{
-    SetComponents, SetKind, SetRecord, decode_set_components, encode_set_components,
+use rasn_below::{
+    ByKind, Constraint, Decoder, Encoder, Fields, OfKind, SetComponents, SetKind, SetRecord,
+    bounds, decode_set_components, encode_set_components, fields,
 };
 
 /// SET { b [1] INTEGER (0..255), a [0] BOOLEAN }

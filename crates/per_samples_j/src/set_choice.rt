@@ -1,15 +1,15 @@
 //! A SET with a CHOICE that has no tag of its own: it counts with the smallest of its alternatives' tags (X.691 21.1), and
 //! so it is written first.
-#![tactic(auto, unfolding(rasn_schema::specs::Schemas::smallest, rasn_schema::specs::Schemas::least_of))]
+#![tactic(auto, unfolding(rasn_below::specs::Types::smallest, rasn_below::specs::Types::least_of))]
 
 ghost use Rattle.std.specs.Prelude.{refl};
-ghost use Rattle.rasn_schema.specs.Components.{fields_of};
+ghost use Rattle.rasn_below.specs.Components.{fields_of};
 ghost use Rattle.per_samples_j.specs.Sets.{set_choice, set_choice_contents};
 
 use crate::truth_or_none::{TAGS, TruthOrNone};
-use rasn_below::{AsnType, ByKind, Constraint, Decoder, Encoder, Fields, OfKind, bounds, fields};
-use rasn_set_record::{
-    SetComponents, SetKind, SetRecord, decode_set_components, encode_set_components,
+use rasn_below::{
+    AsnType, ByKind, Constraint, Decoder, Encoder, Fields, OfKind, SetComponents, SetKind,
+    SetRecord, bounds, decode_set_components, encode_set_components, fields,
 };
 
 /// SET { k [5] BOOLEAN, c CHOICE { m [3] BOOLEAN, n [9] NULL } }, whose choice has no tag of its own

@@ -1,18 +1,14 @@
 //! A SET of components that may be absent, one of them with a private tag.
-#![tactic(auto, unfolding(rasn_schema::specs::Schemas::smallest))]
+#![tactic(auto, unfolding(rasn_below::specs::Types::smallest))]
 
 ghost use Rattle.std.specs.Prelude.{[], ◌∷◌, refl};
-ghost use Rattle.rasn_types.specs.Values.{truth};
-ghost use Rattle.rasn_schema.specs.Components.{fields_of};
-ghost use Rattle.rasn_calls.specs.Presences.{slot_of};
+ghost use Rattle.rasn_below.specs.Values.{truth, slot_of};
+ghost use Rattle.rasn_below.specs.Components.{fields_of};
 ghost use Rattle.per_samples_j.specs.Sets.{set_optional};
 
 use rasn_below::{
-    ByKind, Class, Constraint, Decoder, Encoder, Field, Fields, OfKind, Presence, Tag, TagTree,
-    bounds,
-};
-use rasn_set_record::{
-    SetComponents, SetKind, SetRecord, decode_set_components, encode_set_components,
+    ByKind, Class, Constraint, Decoder, Encoder, Field, Fields, OfKind, Presence, SetComponents,
+    SetKind, SetRecord, Tag, TagTree, bounds, decode_set_components, encode_set_components,
 };
 
 /// SET { p [PRIVATE 0] BOOLEAN OPTIONAL, q [0] BOOLEAN OPTIONAL, r [1] BOOLEAN OPTIONAL }

@@ -1,7 +1,7 @@
 //! A CHOICE that has no tag of its own.
 
 ghost use Rattle.std.specs.Prelude.{None, refl};
-ghost use Rattle.rasn_schema.specs.Components.{variants_in};
+ghost use Rattle.rasn_below.specs.Components.{variants_in};
 ghost use Rattle.per_samples_j.specs.Sets.{truth_or_none, truth_or_none_chosen};
 
 use rasn_below::{

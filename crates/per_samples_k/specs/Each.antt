@@ -1,9 +1,17 @@
--- A SET that is made of its components, one after another.
+-- A SET, and how it is made of its components, one after another.
 use Rattle.std.specs.Prelude.{ℕ, Bool, nat_eq, if◌then◌else◌, List, [], ◌∷◌, Option, Some, None}
-use Rattle.rasn_types.specs.Values.{Value, truth}
-use Rattle.rasn_calls.specs.Presences.{slot_of}
+use Rattle.rasn_below.specs.Values.{Value, truth, slot_of}
+use Rattle.rasn_below.specs.Components.{Component, at, boolean, optional, under}
+use Rattle.rasn_below.specs.Types.{leaf}
 use Rattle.per_samples_k.specs.declared.set_each.Item.{Item}
 use Rattle.per_samples_k.specs.declared.set_each.SetEach.{SetEach}
+
+-- SET { p [PRIVATE 0] BOOLEAN OPTIONAL, q [0] BOOLEAN OPTIONAL, r [1] BOOLEAN OPTIONAL }
+abbrev pub set_each : List Component
+set_each =
+    under (leaf (record { class = 3; number = 0 })) (optional boolean) ∷
+    under (at 0) (optional boolean) ∷
+    under (at 1) (optional boolean) ∷ []
 
 -- nothing is there
 abbrev pub none : SetEach

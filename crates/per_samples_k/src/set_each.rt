@@ -1,23 +1,18 @@
 //! A SET that is read by a function for each component and one that makes the SET of what the first answered.
-#![tactic(auto, unfolding(rasn_schema::specs::Schemas::smallest))]
+#![tactic(auto, unfolding(rasn_below::specs::Types::smallest))]
 
 ghost use Rattle.std.specs.Prelude.{◌≡◌, [], false, IfOk, None, Ok, refl};
-ghost use Rattle.rasn_types.specs.Values.{truth};
-ghost use Rattle.rasn_types.specs.declared.types.TheConstants.Tag.{SET};
-ghost use Rattle.rasn_constraints.specs.Ranges.{no_constraints};
-ghost use Rattle.rasn_schema.specs.Components.{fields_described, fields_of, parts_of};
-ghost use Rattle.rasn_schema.specs.Extensions.{unextended};
-ghost use Rattle.rasn_schema.specs.Schemas.{by_tag, Schema};
-ghost use Rattle.rasn_calls.specs.Calls.{Reads};
-ghost use Rattle.rasn_set_record.specs.SetRecords.{set_at, set_levelled, set_tag, set_value};
-ghost use Rattle.per_samples_k.specs.Each.{none, set_each_contents, with_item, with_items};
-ghost use Rattle.per_samples_j.specs.Sets.{set_optional};
+ghost use Rattle.rasn_below.specs.Values.{truth, set_value};
+ghost use Rattle.rasn_below.specs.Components.{fields_described, fields_of, parts_of};
+ghost use Rattle.rasn_below.specs.Types.{SET, no_constraints, unextended, by_tag, Schema, set_at, set_levelled};
+ghost use Rattle.rasn_below.specs.Types.{set_tag};
+ghost use Rattle.rasn_below.specs.Calls.{Reads};
+ghost use Rattle.per_samples_k.specs.Each.{none, set_each, set_each_contents, with_item, with_items};
 
+use rasn_below::codec::SetDecoder;
 use rasn_below::{
     AsnType, Class, Constraints, Constructed, Decode, Decoder, Field, Fields, Presence, Tag,
-    TagTree,
 };
-use rasn_set_calls::SetDecoder;
 
 /// SET { p [PRIVATE 0] BOOLEAN OPTIONAL, q [0] BOOLEAN OPTIONAL, r [1] BOOLEAN OPTIONAL }
 #[derive(Clone, Copy, Debug, PartialEq, Eq)]
@@ -33,7 +28,7 @@ macro_rules! field {
         Field {
             index: $index,
             tag: Tag { class: Class::$class, value: $number },
-            tag_tree: TagTree::Leaf(Tag { class: Class::$class, value: $number }),
+            tag_tree: rasn_below::TagTree::Leaf(Tag { class: Class::$class, value: $number }),
             presence: Presence::Optional,
             name: $name,
         }
@@ -57,21 +52,21 @@ impl AsnType for SetEach {
 
     ghost CONSTRAINTS = { no_constraints };
 
-    ghost schema = { λ _. set_at set_optional };
+    ghost schema = { λ _. set_at set_each };
 
     ghost value = { λ x. set_value (set_each_contents x) };
 
     ghost levels = { λ _. 1 };
 
-    ghost levelled = { λ _. set_levelled set_optional };
+    ghost levelled = { λ _. set_levelled set_each };
 
-    ghost tag_fits = { λ _. set_tag set_optional };
+    ghost tag_fits = { λ _. set_tag set_each };
 }
 
 impl Constructed for SetEach {
     const FIELDS: Fields = COMPONENTS;
 
-    ghost FIELDS = { fields_of set_optional };
+    ghost FIELDS = { fields_of set_each };
 
     const EXTENDED_FIELDS: Option<Fields> = None;
 
@@ -83,11 +78,11 @@ impl Constructed for SetEach {
 
     ghost order = { by_tag };
 
-    ghost parts = { parts_of set_optional };
+    ghost parts = { parts_of set_each };
 
     ghost contents = { set_each_contents };
 
-    ghost described = { fields_described set_optional };
+    ghost described = { fields_described set_each };
 
     ghost extends = { unextended };
 

@@ -1,12 +1,8 @@
 -- What is written of dates, and of records with one, at each depth that holds them.
 use Rattle.std.proofs.Common.{◌≡◌, ◌≤◌, ℕ, zero, suc, pos, List, [], ◌∷◌, Option, Some, None, arith, refl}
-use Rattle.rasn_types.specs.Values.{Value, day}
-use Rattle.rasn_types.specs.Variants.{Variant, aligned, unaligned}
-use Rattle.rasn_schema.specs.Components.{sequence_at, sequence_value}
-use Rattle.rasn_schema.specs.Normal.{normal, settle}
-use Rattle.rasn_schema.specs.Schemas.{Schema}
-use Rattle.rasn_calls.specs.Moments.{date_at}
-use Rattle.per_core.specs.Canon.{bytes}
+use Rattle.rasn_below.specs.Values.{Value, day, sequence_value}
+use Rattle.rasn_below.specs.Types.{sequence_at, normal, settle, Schema, date_at}
+use Rattle.rasn_below.specs.Rows.{Variant, aligned, unaligned, bytes}
 use Rattle.per_samples_l.specs.Dnests.{dnest}
 
 -- a date at each depth of two levels or more

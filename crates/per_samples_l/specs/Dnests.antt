@@ -1,28 +1,22 @@
 -- Dnest ::= SEQUENCE { inner Dnest OPTIONAL, d DATE OPTIONAL }
 use Rattle.std.specs.Prelude.{◌≡◌, ℕ, zero, suc, max, List, [], ◌∷◌, Option, Some, None, false, refl}
-use Rattle.rasn_types.specs.Values.{Value}
-use Rattle.rasn_schema.specs.Schemas
-use Rattle.rasn_schema.specs.Schemas.{Schema, listed, no_parts, part}
-use Rattle.rasn_schema.specs.Levels.{Levelled, no_level, to_sequence, to_part, to_no_parts}
-use Rattle.rasn_schema.specs.Components.{Component, sequence_at, sequence_value, at, optional, under}
-use Rattle.rasn_calls.specs.Moments.{date_at, date_value}
-use Rattle.rasn_calls.specs.Presences.{slot_of}
-use Rattle.rasn_useful.specs.Dates.{date_levelled}
-use Rattle.rasn_below.specs.Components.{date}
-use Rattle.rasn_below.specs.Values.{slot_levels}
+use Rattle.rasn_below.specs.Values.{Value, sequence_value, date_value, slot_of, slot_levels}
+use Rattle.rasn_below.specs.Components.{Component, at, optional, under, date}
+use Rattle.rasn_below.specs.Types.{Schema, listed, no_parts, part, Levelled, no_level, to_sequence, to_part, to_no_parts, sequence_at, date_at, date_levelled}
+use Rattle.rasn_below.specs.Types
 use Rattle.per_samples_l.specs.declared.dnest.Dnest.{Dnest, Dnest', Held-Dnest-inner, None', Some'}
 
 -- to a number of levels
 abbrev pub dnest_schema : ℕ → Schema
-dnest_schema zero = Schemas.cut
-dnest_schema (suc n) = Schema.sequence listed (part (at 0) Schemas.optional (dnest_schema n) (part (at 1) Schemas.optional (date_at n) no_parts)) false no_parts
+dnest_schema zero = Types.cut
+dnest_schema (suc n) = Schema.sequence listed (part (at 0) Types.optional (dnest_schema n) (part (at 1) Types.optional (date_at n) no_parts)) false no_parts
 
 pub dnest_levelled : Levelled dnest_schema
 dnest_levelled zero = no_level tt
 dnest_levelled (suc n) = to_sequence (to_part (dnest_levelled n) (to_part (date_levelled n) to_no_parts)) to_no_parts
 
 abbrev pub inner_component : Component
-inner_component = record { tags = at 0; presence = Schemas.optional; schema = dnest_schema; levelled = dnest_levelled }
+inner_component = record { tags = at 0; presence = Types.optional; schema = dnest_schema; levelled = dnest_levelled }
 
 abbrev pub dnest : List Component
 dnest = inner_component ∷ under (at 1) (optional date) ∷ []

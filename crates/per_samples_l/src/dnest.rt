@@ -1,20 +1,18 @@
 //! A SEQUENCE that holds itself and a DATE.
 
 ghost use Rattle.std.specs.Prelude.{refl};
-ghost use Rattle.rasn_schema.specs.Components.{fields_of};
-ghost use Rattle.rasn_schema.specs.Schemas.{optional};
-ghost use Rattle.rasn_calls.specs.Optionals.{ReadsComponent};
-ghost use Rattle.rasn_calls.specs.Presences.{slot_of};
+ghost use Rattle.rasn_below.specs.Values.{slot_of};
+ghost use Rattle.rasn_below.specs.Components.{fields_of};
+ghost use Rattle.rasn_below.specs.Types.{optional};
+ghost use Rattle.rasn_below.specs.Calls.{ReadsComponent};
 ghost use Rattle.per_samples_l.specs.Dnests.{dnest, dnest_contents, dnest_depth, dnest_schema};
 
-use rasn_below::types::Date;
+use rasn_below::codec::{Decode, DecoderExt, Encode, boxed};
+use rasn_below::types::{Date, Identifier};
 use rasn_below::{
     AsnType, Components, Constraint, Constraints, Decoder, Encoder, Fields, Tag, bounds,
     context_tag, encode_record, fields,
 };
-use rasn_codec::boxed::boxed;
-use rasn_codec::codec::{Decode, DecoderExt, Encode};
-use rasn_types::types::Identifier;
 
 /// Dnest ::= SEQUENCE { inner Dnest OPTIONAL, d DATE OPTIONAL }
 #[derive(Debug, Drop, PartialEq)]

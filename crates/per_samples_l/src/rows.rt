@@ -1,8 +1,7 @@
 //! What is written of a DATE, and of a recursive SEQUENCE with one.
 
 ghost use Rattle.std.specs.Prelude.{[], ◌∷◌, Some, None, pos};
-ghost use Rattle.rasn_types.specs.Variants.{aligned, unaligned};
-ghost use Rattle.per_samples_a.specs.Rows.{IsWrittenAs};
+ghost use Rattle.rasn_below.specs.Rows.{aligned, unaligned, IsWrittenAs};
 ghost use Rattle.per_samples_l.specs.declared.dnest.Dnest.{Dnest', None', Some'};
 
 use crate::dnest::Dnest;

@@ -1,12 +1,9 @@
 -- What is written of the last of 65 additions alone, at each depth that holds it.
 use Rattle.std.proofs.Common.{arith, ◌≡◌, refl, ℕ, zero, suc, ◌≤◌, true, [], ◌∷◌, ◌++◌, map, replicate, Some, None}
-use Rattle.rasn_types.specs.Values.{truth}
-use Rattle.rasn_types.specs.Variants.{aligned, unaligned}
-use Rattle.rasn_schema.specs.Normal.{normal, settle}
-use Rattle.rasn_schema.specs.Records.{record_value}
-use Rattle.rasn_calls.specs.Presences.{slot_of}
-use Rattle.rasn_record.specs.ExtendedRecords.{extended_at}
-use Rattle.per_core.specs.Canon.{bytes}
+use Rattle.rasn_below.specs.Values.{truth, record_value, slot_of}
+use Rattle.rasn_below.specs.Components.{extended_at}
+use Rattle.rasn_below.specs.Types.{normal, settle}
+use Rattle.rasn_below.specs.Rows.{aligned, unaligned, bytes}
 use Rattle.per_samples_m.specs.Many.{many_additions, many_root}
 
 pub unaligned_row : (n : ℕ) → 1 ≤ n → bytes unaligned (extended_at many_root many_additions n) (normal (extended_at many_root many_additions n) (record_value [] (map (slot_of truth) (replicate 64 None ++ Some true ∷ []))))

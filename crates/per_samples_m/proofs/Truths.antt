@@ -1,13 +1,10 @@
 -- Optional truth values in a row, read in turn.
 use Rattle.std.proofs.Common.{arith, ◌≡◌, sym, subst, ℕ, suc, ◌<◌, ◌≤◌, Bool, IfOk, List, length, map, take, drop, slice_set, Result, Ok, Err, Option, Some, None}
-use Rattle.rasn_types.specs.Values.{truth}
-use Rattle.rasn_schema.specs.Components.{parts_of}
-use Rattle.rasn_schema.specs.Schemas.{boolean, optional}
-use Rattle.rasn_calls.specs.AdditionsRead.{AnswersAdditions, ReadsAddition, ReadsAdditions, reads_further}
-use Rattle.rasn_calls.specs.Calls.{DecodesWell, DecoderRules}
-use Rattle.rasn_calls.specs.Presences.{slot_of}
-use Rattle.rasn_calls.proofs.Reading.{fails_further}
-use Rattle.rasn_record.specs.Slots.{slot_levels}
+use Rattle.rasn_below.specs.Values.{truth, slot_of, slot_levels}
+use Rattle.rasn_below.specs.Components.{parts_of}
+use Rattle.rasn_below.specs.Types.{boolean, optional}
+use Rattle.rasn_below.specs.Calls.{AnswersAdditions, ReadsAddition, ReadsAdditions, reads_further, DecodesWell, DecoderRules}
+use Rattle.rasn_below.proofs.Reading.{fails_further}
 use Rattle.per_samples_m.specs.Many.{truths_from}
 use Rattle.per_samples_m.proofs.Arrays.{read_there}
 

@@ -1,6 +1,6 @@
 -- SEQUENCE { ..., a0 BOOLEAN OPTIONAL, a1 BOOLEAN OPTIONAL, and so on up to a64 }
 use Rattle.std.specs.Prelude.{ℕ, List, [], replicate}
-use Rattle.rasn_schema.specs.Components.{Component, automatic_from, boolean, optional}
+use Rattle.rasn_below.specs.Components.{Component, automatic_from, boolean, optional}
 
 -- so many optional truth values, under automatic tags from a place on
 abbrev pub truths_from : ℕ → ℕ → List Component

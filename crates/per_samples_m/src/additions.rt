@@ -1,18 +1,16 @@
 //! Optional truth values in an array as the additions of a record, which are given and read in turn.
 
 ghost use Rattle.std.specs.Prelude.{◌≡◌, ◌≤◌, ◌+◌, ◌-◌, length, map, take, drop, IfOk};
-ghost use Rattle.rasn_types.specs.Values.{truth};
-ghost use Rattle.rasn_schema.specs.Components.{at, parts_of};
-ghost use Rattle.rasn_schema.specs.Fields.{tagged};
-ghost use Rattle.rasn_calls.specs.Additions.{WritesAdditions};
-ghost use Rattle.rasn_calls.specs.AdditionsRead.{TakesAdditions};
-ghost use Rattle.rasn_calls.specs.Presences.{slot_of};
+ghost use Rattle.rasn_below.specs.Values.{truth, slot_of};
+ghost use Rattle.rasn_below.specs.Components.{at, parts_of};
+ghost use Rattle.rasn_below.specs.Types.{tagged};
+ghost use Rattle.rasn_below.specs.Calls.{WritesAdditions, TakesAdditions};
 ghost use Rattle.per_samples_m.specs.Many.{truths_from};
 
 use rasn_below::additions::{DecodeAddition, EncodeAddition};
+use rasn_below::codec::{DecodeAdditions, EncodeAdditions};
 use rasn_below::components::Optional;
 use rasn_below::{AsnType, Class, Decoder, Encoder, Tag};
-use rasn_calls::parts::{DecodeAdditions, EncodeAdditions};
 use std::marker::PhantomData;
 
 /// The additions to write.

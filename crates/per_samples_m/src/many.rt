@@ -1,23 +1,19 @@
 //! A SEQUENCE of 65 optional additions, kept as an array.
 
 ghost use Rattle.std.specs.Prelude.{[], Some, map, refl, suc, true};
-ghost use Rattle.rasn_types.specs.Values.{truth};
-ghost use Rattle.rasn_types.specs.declared.types.TheConstants.Tag.{SEQUENCE};
-ghost use Rattle.rasn_constraints.specs.Ranges.{no_constraints};
-ghost use Rattle.rasn_schema.specs.Components.{fields_described, fields_of, parts_of};
-ghost use Rattle.rasn_schema.specs.Records.{record_value};
-ghost use Rattle.rasn_schema.specs.Tags.{sequence_tag};
-ghost use Rattle.rasn_calls.specs.Presences.{slot_of};
-ghost use Rattle.rasn_record.specs.ExtendedRecords.{extended_at, extended_by, extended_levelled};
+ghost use Rattle.rasn_below.specs.Values.{truth, record_value, slot_of};
+ghost use Rattle.rasn_below.specs.Components.{fields_described, fields_of, parts_of, extended_at, extended_by};
+ghost use Rattle.rasn_below.specs.Components.{extended_levelled};
+ghost use Rattle.rasn_below.specs.Types.{SEQUENCE, no_constraints, sequence_tag};
 ghost use Rattle.per_samples_m.specs.Many.{many_additions, many_root};
 
 use crate::additions::{TruthsToRead, TruthsToWrite};
 use rasn_below::cells::{End, Listed};
+use rasn_below::types::Identifier;
 use rasn_below::{
     AsnType, Constraints, Constructed, Decode, Decoder, Encode, Encoder, Field, Fields, Presence,
     Tag, context_tag, tag_tree,
 };
-use rasn_types::types::Identifier;
 
 /// SEQUENCE { ..., a0 BOOLEAN OPTIONAL, a1 BOOLEAN OPTIONAL, and so on up to a64 }
 #[derive(Clone, Copy, Debug, PartialEq)]

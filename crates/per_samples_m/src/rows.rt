@@ -1,8 +1,7 @@
 //! What is written of many additions.
 
 ghost use Rattle.std.specs.Prelude.{true, [], ◌∷◌, ◌++◌, Some, None, replicate};
-ghost use Rattle.rasn_types.specs.Variants.{aligned, unaligned};
-ghost use Rattle.per_samples_a.specs.Rows.{IsWrittenAs};
+ghost use Rattle.rasn_below.specs.Rows.{aligned, unaligned, IsWrittenAs};
 
 use crate::many::Many;
 use rasn_below::AsnType;

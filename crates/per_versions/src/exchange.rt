@@ -8,9 +8,8 @@ ghost use Rattle.per_versions.specs.Readings.{IsReadByNewer, IsReadByOlder};
 ghost use Rattle.per_versions.specs.declared.exchange.ExchangeError.TheVariants as Faults;
 
 use crate::versions::{newer_reader_answers_the_widening, older_reader_answers_the_projection};
-use per_de::DecodeError;
-use per_enc::EncodeError;
 use rasn_codec::codec::{Decode, Encode};
+use rasn_per::uper::{DecodeError, EncodeError};
 use rasn_per::{aper, uper};
 use rasn_types::types::Codec;
 use std::alloc::Global;

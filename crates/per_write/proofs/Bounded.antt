@@ -1,7 +1,7 @@
 -- Whole numbers under bounds, as they are written.
 use Rattle.std.proofs.Common.{◌≡◌, refl, sym, ap, ◌∙◌, subst, ℕ, zero, suc, ◌+◌, ◌-◌, ◌*◌, ◌/◌, ◌^◌, ◌<◌, ◌≤◌, Bool, true, false, cond, max, min, ◌%◌, eqb, leb, lt-ltb, le-leb, List, [], ◌∷◌, length, get_or, arith, Some}
 use Rattle.std.proofs.lemmas.Bool.{lt-leb, ne_eqb}
-use Rattle.rasn_types.specs.Bits.{to_bits, width, unpack, pack, AreOctets}
+use Rattle.rasn_types.specs.Bits.{Bits, to_bits, width, unpack, pack, AreOctets}
 use Rattle.rasn_types.specs.Octets.{natural_bits, octets_of_natural}
 use Rattle.rasn_types.specs.Variants.{Variant, aligned, unaligned}
 use Rattle.rasn_types.proofs.Bits.{width_holds, length-to_bits}
@@ -86,31 +86,36 @@ are_octets [] h k = omega arith
 are_octets (o ∷ os) h zero = h.0
 are_octets (o ∷ os) h (suc k) = are_octets os h.1 k
 
--- X.691 11.7: the fewest octets without sign behind their count
-pub appends_natural : (a : Variant) (x y z : Pieces) (o k : ℕ) → k ≡ octets_of_natural o → k ≤ 16 →
-    Appends x (padding a ▹ just (determinant k)) y → z ≡ with_bits y (to_bits (8 * k) o) → Appends x (counted_octets a (natural_bits o)) z
-unfolding natural_bits counted_octets
-appends_natural a x y z o k e l p t =
-    appends_same x z ((padding a ▹ just (determinant k)) ▹ just (to_bits (8 * k) o)) (counted_octets a (natural_bits o)) same
-    (appends_then x y z (padding a ▹ just (determinant k)) (just (to_bits (8 * k) o)) p (appends_bits y z _ t))
+-- X.691 11.9.3.5: whole octets, given as bits, behind their count
+pub appends_counted : (a : Variant) (x y z : Pieces) (all : Bits) (k : ℕ) → length all ≡ 8 * k → k ≤ 16 →
+    Appends x (padding a ▹ just (determinant k)) y → z ≡ with_bits y all → Appends x (counted_octets a all) z
+unfolding counted_octets
+appends_counted a x y z all k wide l p t =
+    appends_same x z ((padding a ▹ just (determinant k)) ▹ just all) (counted_octets a all) same
+    (appends_then x y z (padding a ▹ just (determinant k)) (just all) p (appends_bits y z all t))
   where
     octets : List ℕ
-    octets = pack (length (natural_bits o) / 8) (natural_bits o)
-
-    wide : length (natural_bits o) ≡ 8 * k
-    wide = length-to_bits (8 * octets_of_natural o) o ∙ ap (λ (n : ℕ). 8 * n) (sym e)
+    octets = pack (length all / 8) all
 
     counted : length (octet_writers octets) ≡ k
-    counted = length-octet_writers octets ∙ length-pack (length (natural_bits o) / 8) (natural_bits o) ∙ omega (arith, wide)
+    counted = length-octet_writers octets ∙ length-pack (length all / 8) all ∙ omega (arith, wide)
 
-    bits : unpack octets ≡ to_bits (8 * k) o
-    bits = unpack-pack (length (natural_bits o) / 8) (natural_bits o) (omega (arith, wide)) ∙ ap (λ (n : ℕ). to_bits (8 * n) o) (sym e)
+    bits : unpack octets ≡ all
+    bits = unpack-pack (length all / 8) all (omega (arith, wide))
 
-    of_octets : (q : ℕ) → just (to_bits (8 * k) o) q ≡ one_by_one (octet_writers octets) q
-    of_octets q = ap Some (sym bits) ∙ sym (octets_one_by_one octets (are_octets octets (octets-pack (length (natural_bits o) / 8) (natural_bits o))) q)
+    of_octets : (q : ℕ) → just all q ≡ one_by_one (octet_writers octets) q
+    of_octets q = ap Some (sym bits) ∙ sym (octets_one_by_one octets (are_octets octets (octets-pack (length all / 8) all)) q)
 
-    same : (q : ℕ) → ((padding a ▹ just (determinant k)) ▹ just (to_bits (8 * k) o)) q ≡ counted_octets a (natural_bits o) q
-    same q = then_same (padding a ▹ just (determinant k)) (padding a ▹ just (determinant (length (octet_writers octets)))) (just (to_bits (8 * k) o)) (one_by_one (octet_writers octets))
+    same : (q : ℕ) → ((padding a ▹ just (determinant k)) ▹ just all) q ≡ counted_octets a all q
+    same q = then_same (padding a ▹ just (determinant k)) (padding a ▹ just (determinant (length (octet_writers octets)))) (just all) (one_by_one (octet_writers octets))
         (λ r. ap (λ (n : ℕ). (padding a ▹ just (determinant n)) r) (sym counted)) of_octets q
         ∙ sym (fragments_of_few a (octet_writers octets) (omega (arith, counted)) q)
         ∙ in_their_fragments a octet_items (octet_writers octets) (omega (arith, counted)) q
+
+-- X.691 11.7: the fewest octets without sign behind their count
+pub appends_natural : (a : Variant) (x y z : Pieces) (o k : ℕ) → k ≡ octets_of_natural o → k ≤ 16 →
+    Appends x (padding a ▹ just (determinant k)) y → z ≡ with_bits y (to_bits (8 * k) o) → Appends x (counted_octets a (natural_bits o)) z
+unfolding natural_bits
+appends_natural a x y z o k e l p t =
+    appends_counted a x y z (natural_bits o) k (length-to_bits (8 * octets_of_natural o) o ∙ ap (λ (n : ℕ). 8 * n) (sym e)) l p
+    (t ∙ ap (λ (n : ℕ). with_bits y (to_bits (8 * n) o)) e)

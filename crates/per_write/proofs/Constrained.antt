@@ -64,6 +64,12 @@ wrote_whole x m y range z octets result k h o w =
     (subst (λ (f : Writer). OnOk result (Wrote x f y)) (ap (unconstrained_octets (variant_of x.codec)) o ∙ whole_counted (variant_of x.codec) z)
     (subst (λ (s : State). OnOk result (Wrote s (unconstrained_octets (variant_of s.codec) octets) y)) k w))
 
+pub wrote_number : (x y : State) (range : Bounds) (z v : ℤ) (result : Result (Unit {0}) EncodeError) → v ≡ z → holds range z ≡ true →
+    OnOk result (Wrote x (counted_octets (variant_of x.codec) (whole_bits v)) y) → OnOk result (Wrote x (unconstrained_whole (variant_of x.codec) range z) y)
+wrote_number x y range z v result e h w =
+    subst (λ (b : Bool). OnOk result (Wrote x (written_if b (counted_octets (variant_of x.codec) (whole_bits z))) y)) (sym h)
+    (subst (λ (u : ℤ). OnOk result (Wrote x (counted_octets (variant_of x.codec) (whole_bits u)) y)) e w)
+
 -- what was written where a test passes, was written
 wrote_tested : (b : Bool) (more : Writer) (x y : State) → Wrote x (written_if b more) y → Wrote x more y
 wrote_tested true more x y w = w

@@ -5,6 +5,7 @@ pub mod Counting
 pub mod Elements
 pub mod Enumerations
 pub mod Filling
+pub mod Fields
 pub mod Fragments
 pub mod Gathering
 pub mod Indexes
@@ -16,4 +17,5 @@ pub mod Refusing
 pub mod SmallNumbers
 pub mod Steps
 pub mod Vacant
+pub mod Wholes
 pub mod Writing

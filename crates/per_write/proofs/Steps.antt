@@ -5,16 +5,13 @@ use Rattle.std.proofs.lemmas.List.{drop-map, take-map, take_at, drop_at, drop-ta
 use Rattle.std.proofs.lemmas.Option.{get_or_from_slice_get, slice_get_within}
 use Rattle.std.proofs.Math.Seq.{drop-cons}
 use Rattle.rasn_types.specs.Alphabets.{Alphabet, char_code, char_width, index_of, keep_own}
-use Rattle.rasn_types.specs.Bits.{Bits, to_bits}
+use Rattle.rasn_types.specs.Bits.{Bits}
 use Rattle.rasn_types.specs.Variants.{Variant}
 use Rattle.per_core.specs.Canon.{char_writers, coded}
 use Rattle.per_core.specs.Counts.{bit_writers}
-use Rattle.per_core.specs.Writers.{Writer, after, join, one_by_one, just}
+use Rattle.per_core.specs.Writers.{Writer, after, join, one_by_one}
 use Rattle.per_write.specs.Faults.{HasForeign}
 use Rattle.per_write.specs.Items.{HasRefused, refused_behind, refused_here}
-use Rattle.per_write.specs.State.{State, Wrote}
-use Rattle.per_write.specs.Remains.{Remains}
-use Rattle.per_write.proofs.Writing.{remains_after}
 
 -- an element within a list is there
 pub some_within : {A : Type 0} (xs : List A) (i : ℕ) (o : Option A) → o ≡ slice_get xs i → i < length xs → IsSome o
@@ -23,7 +20,7 @@ some_within (x ∷ xs) zero o e h = subst (λ (q : Option _). IsSome q) (sym e) 
 some_within (x ∷ xs) (suc i) o e h = some_within xs i o e (omega arith)
 
 -- the first of the items between two places, and those behind it
-next_between : {A : Type 0} (f : A → Writer) (xs : List A) (i e : ℕ) (x : A) → i < e → slice_get xs i ≡ Some x → slice_range (map f xs) i e ≡ f x ∷ slice_range (map f xs) (i + 1) e
+pub next_between : {A : Type 0} (f : A → Writer) (xs : List A) (i e : ℕ) (x : A) → i < e → slice_get xs i ≡ Some x → slice_range (map f xs) i e ≡ f x ∷ slice_range (map f xs) (i + 1) e
 next_between f xs i e x h g =
     let within : i < length xs = slice_get_within xs i x g in
     let here : drop i xs ≡ x ∷ drop (i + 1) xs =
@@ -31,20 +28,6 @@ next_between f xs i e x h g =
     let behind : drop i (map f xs) ≡ f x ∷ drop (i + 1) (map f xs) = drop-map f i xs ∙ ap (map f) here ∙ ap (λ (ws : List Writer). f x ∷ ws) (sym (drop-map f (i + 1) xs)) in
     let count : e - i ≡ suc (e - (i + 1)) = omega arith in
     ap₂ (λ (n : ℕ) (ws : List Writer). take n ws) count behind
-
--- one item more
-pub wrote_next : {A : Type 0} (f : A → Writer) (xs : List A) (i e : ℕ) (o : A) (all : Writer) (x y z : State) → i < e → slice_get xs i ≡ Some o →
-    Remains x all y (one_by_one (slice_range (map f xs) i e)) → Wrote y (f o) z → Remains x all z (one_by_one (slice_range (map f xs) (i + 1) e))
-wrote_next f xs i e o all x y z h g r w = remains_after x y z all _ (f o) _ r (λ p. ap (λ (ws : List Writer). one_by_one ws p) (next_between f xs i e o h g)) w
-
--- one character more
-pub wrote_character : (a : Alphabet) (cs : List ℕ) (i e c code : ℕ) (all : Writer) (x y z : State) → i < e → slice_get cs i ≡ Some c → char_code a.variant a.characters c ≡ Some code →
-    Remains x all y (one_by_one (slice_range (char_writers a.variant a.characters cs) i e)) → Wrote y (just (to_bits (char_width a.variant a.characters) code)) z →
-    Remains x all z (one_by_one (slice_range (char_writers a.variant a.characters cs) (i + 1) e))
-unfolding char_writers
-wrote_character a cs i e c code all x y z h g k r w =
-    wrote_next (λ d. coded (char_width a.variant a.characters) (char_code a.variant a.characters d)) cs i e c all x y z h g r
-    (subst (λ (o : Option ℕ). Wrote y (coded (char_width a.variant a.characters) o) z) (sym k) w)
 
 -- an item without encoding
 refused_at : {A : Type 0} (f : A → Writer) (xs : List A) (i : ℕ) (x : A) → slice_get xs i ≡ Some x → ((p : ℕ) → f x p ≡ None) → HasRefused (map f xs)

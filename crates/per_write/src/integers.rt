@@ -14,7 +14,7 @@ ghost use Rattle.per_write.specs.State.{PutsIn};
 
 use crate::Writer;
 use crate::error::{EncodeError, EncodeErrorKind};
-use crate::numbers::push_above;
+use crate::numbers::{push_above, push_unconstrained_whole};
 use per_bits::BitList;
 use rasn_schema::constraints::{Bounded, Extensible};
 use rasn_schema::schema::IntegerType;
@@ -22,14 +22,18 @@ use std::alloc::{AllocError, Allocator};
 
 impl<A: Allocator + Clone> Writer<A> {
     /// Writes an INTEGER as if it had no constraint: its fewest octets in two's complement behind an unconstrained
-    /// length (X.691 13.2.4).
+    /// length (X.691 13.2.4). Memory for the octets themselves is taken only where an `i128` doesn't hold the number.
     pub fn put_unconstrained_whole<I: IntegerType>(&mut self, value: &I) -> Result<(), EncodeError>
         requires { self.old.failed ≡ false }
         ensures { PutsIn IsMemory (λ a. unconstrained_whole a I.range (I.number value.now)) self.old result self.new }
     {
-        let octets = number_octets(self.pieces.bits(), value);
-        let octets = self.unless_out_of_memory(octets)?;
-        self.put_octets(&octets)
+        let Some(number) = value.to_i128() else {
+            let octets = number_octets(self.pieces.bits(), value);
+            let octets = self.unless_out_of_memory(octets)?;
+            return self.put_octets(&octets);
+        };
+        let pushed = push_unconstrained_whole(&mut self.pieces, self.codec, number);
+        self.unless_out_of_memory(pushed)
     }
 
     /// Writes a number of an `i128` that is within bounds (X.691 13.2).

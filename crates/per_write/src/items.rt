@@ -7,6 +7,7 @@ ghost use Rattle.per_write.specs.Items.{CountedItems, PutsItems, items_between};
 
 use crate::Writer;
 use crate::error::{EncodeError, EncodeErrorKind};
+use crate::gathered::Gathered;
 use per_bits::{BitList, BitReader};
 use per_core::items::Item;
 use rasn_strings::alphabet::CharacterAlphabet;
@@ -155,14 +156,15 @@ impl<S: StaticPermittedAlphabet> Items for Characters<'_, S> {
         start: usize,
         end: usize,
     ) -> Result<(), EncodeError> {
-        let width = u128::from(self.alphabet.width());
+        let width = self.alphabet.width();
+        let mut gathered = Gathered::new();
         for index in start..end {
             let character = self.string.character(index).unwrap();
             let Some(code) = self.alphabet.encode(character) else {
                 return Err(writer.refuse(EncodeErrorKind::AlphabetConstraintNotSatisfied));
             };
-            writer.put_bits(u128::from(code), width)?;
+            writer.gather(&mut gathered, code, width)?;
         }
-        Ok(())
+        writer.put_gathered(&gathered)
     }
 }

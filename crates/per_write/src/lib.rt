@@ -20,6 +20,7 @@ mod choices;
 mod enumerated;
 pub mod error;
 mod floating;
+mod gathered;
 mod identifiers;
 mod integers;
 mod items;

@@ -3,7 +3,7 @@
 ghost use Rattle.std.specs.Prelude.{◌≡◌, ◌+◌, ◌<◌, ◌≤◌, ◌≤ℤ◌, ℤ, true, Some, OnOk};
 ghost use Rattle.rasn_types.specs.Bits.{to_bits};
 ghost use Rattle.rasn_types.specs.Codecs.{variant_of};
-ghost use Rattle.rasn_types.specs.Octets.{natural_bits, octets_of_natural};
+ghost use Rattle.rasn_types.specs.Octets.{natural_bits, octets_of_natural, octets_of_whole, whole_bits};
 ghost use Rattle.rasn_types.specs.Variants.{aligned};
 ghost use Rattle.per_core.specs.Writers.{just, padding, ◌▹◌};
 ghost use Rattle.per_core.specs.Counts.{constrained_whole, counted_octets, number_under};
@@ -110,6 +110,19 @@ pub(crate) fn push_semi_constrained_whole<A: Allocator>(
     pieces.push_bits(offset, 8 * octets)
 }
 
+/// Writes a number without bounds (X.691 11.8): its fewest octets in two's complement, behind an unconstrained length.
+pub(crate) fn push_unconstrained_whole<A: Allocator>(
+    pieces: &mut Pieces<A>,
+    codec: Codec,
+    number: i128,
+) -> Result<(), AllocError>
+    ensures { OnOk result (Appends pieces.old (counted_octets (variant_of codec) (whole_bits number)) pieces.new) }
+{
+    let octets = whole_octet_count(number);
+    push_unconstrained_length(pieces, codec, octets as usize)?;
+    pieces.push_bits(number.cast_unsigned(), 8 * octets)
+}
+
 /// How many octets are the fewest for a number without sign (X.691 11.3.6), from 1 to 16.
 fn octet_count(number: u128) -> u128
     ensures count { result ≡ octets_of_natural number }
@@ -117,4 +130,17 @@ fn octet_count(number: u128) -> u128
     ensures few { result ≤ 16 }
 {
     width_to(number).div_ceil(8).max(1)
+}
+
+/// How many octets are the fewest for a number in two's complement (X.691 11.4.6), from 1 to 16.
+fn whole_octet_count(number: i128) -> u128
+    ensures count { result ≡ octets_of_whole number }
+    ensures few { result ≤ 16 }
+{
+    let beyond = if number < 0 {
+        distance_above(number, -1)
+    } else {
+        distance_above(0, number)
+    };
+    width_to(beyond) / 8 + 1
 }

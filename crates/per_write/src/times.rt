@@ -12,6 +12,7 @@ ghost use Rattle.per_write.specs.Rules.{encoder_rules};
 
 use crate::Writer;
 use crate::error::{EncodeError, EncodeErrorKind};
+use crate::gathered::Gathered;
 use crate::items::Items;
 use jiff::civil::DateTime;
 use per_core::items::Item;
@@ -50,15 +51,16 @@ impl Items for Text<'_> {
         start: usize,
         end: usize,
     ) -> Result<(), EncodeError> {
-        let width = u128::from(self.alphabet.width());
+        let width = self.alphabet.width();
+        let mut gathered = Gathered::new();
         for index in start..end {
             let character = character_at(self.characters, index).unwrap();
             let Some(code) = self.alphabet.encode(character) else {
                 return Err(writer.refuse(EncodeErrorKind::AlphabetConstraintNotSatisfied));
             };
-            writer.put_bits(u128::from(code), width)?;
+            writer.gather(&mut gathered, code, width)?;
         }
-        Ok(())
+        writer.put_gathered(&gathered)
     }
 }
 

@@ -1,3 +1,5 @@
+pub mod Calls
 pub mod Components
+pub mod Rows
 pub mod Types
 pub mod Values

@@ -1,7 +1,12 @@
 -- What an author's values are, in the words of a page's `contents`.
 pub use Rattle.rasn_types.specs.Values.{Value, whole, truth, nothing, item, root, added, octets, bits, characters}
+pub use Rattle.rasn_types.specs.Values.{alternative, code, day, equal_lists}
+unfoldable pub use Rattle.rasn_types.specs.Values.{same, bag_of}
+pub use Rattle.rasn_types.specs.Contents.{utc}
+pub use Rattle.rasn_schema.specs.Components.{chosen_value, sequence_value}
 pub use Rattle.rasn_schema.specs.Records.{record_value}
 pub use Rattle.rasn_calls.specs.Moments.{date_value, identifier_value, utc_value, generalized_value}
 pub use Rattle.rasn_calls.specs.Presences.{slot_of}
 pub use Rattle.rasn_calls.specs.Scopes.{deeper_of}
 pub use Rattle.rasn_record.specs.Slots.{slot_levels}
+pub use Rattle.rasn_set_record.specs.SetRecords.{set_value}

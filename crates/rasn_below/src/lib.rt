@@ -10,6 +10,7 @@ mod extended;
 mod items;
 mod macros;
 pub mod schema;
+mod sets;
 pub mod types;
 
 pub use rasn_calls::parts::NoAdditions;
@@ -28,3 +29,4 @@ pub use rasn_schema::items::{EnumeratedKind, ItemCounts, Items, Place};
 pub use rasn_schema::kinds::OfKind;
 pub use rasn_schema::schema::{AsnType, Constraints};
 pub use rasn_schema::types::{Class, Tag};
+pub use rasn_set_record::{SetComponents, SetKind, SetRecord, ordered};

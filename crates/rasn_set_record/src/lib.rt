@@ -3,7 +3,6 @@
 
 pub mod components;
 pub mod laws;
-mod macros;
 pub mod ordered;
 pub mod record;
 

@@ -1,5 +1,5 @@
 -- ENUMERATED { a, ... }, the older version of ENUMERATED { a, ..., b }
-use Rattle.rasn_types.specs.Values.{Value, item, root}
+use Rattle.rasn_below.specs.Values.{Value, item, root}
 use Rattle.types_tests.specs.declared.colors.OneColor.{OneColor}
 
 abbrev pub only_color : OneColor → Value

@@ -2,4 +2,5 @@
 //! complete encodings, whatever order they are kept in.
 
 mod bits;
+mod members;
 mod whole_numbers;

@@ -1,18 +1,18 @@
 //! The older version of `TwoColors`, without the item behind the extension marker.
 
 ghost use Rattle.std.specs.Prelude.{◌≡◌, ◌≢◌, IfOk, OnOk};
-ghost use Rattle.rasn_schema.specs.Enumerations.{extensible_items};
+ghost use Rattle.rasn_below.specs.Components.{extensible_items};
 ghost use Rattle.per_core.specs.Versions.{NewerType};
 ghost use Rattle.per_samples_c.specs.declared.colors.TwoColors.TheVariants.{A as color_a};
 ghost use Rattle.types_tests.specs.Colors.{only_color};
 
 use per_samples_c::colors::TwoColors;
 use per_versions::exchange::{ExchangeError, read_by_older};
+use rasn_below::types::Codec;
 use rasn_below::{
     AsnType, ByKind, EnumeratedKind, ItemCounts, Items, OfKind, Place, item_at, item_counts,
     place_of_item,
 };
-use rasn_types::types::Codec;
 use std::alloc::Global;
 
 /// ENUMERATED { a, ... }

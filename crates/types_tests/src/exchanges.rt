@@ -2,10 +2,10 @@
 
 use crate::colors::{OneColor, read_as_one_color};
 use crate::expected::{expect_equal, expect_unread};
-use per_de::DecodeErrorKind;
 use per_samples_c::colors::TwoColors;
 use per_versions::exchange::{ExchangeError, read_by_newer};
-use rasn_types::types::Codec;
+use rasn_below::types::Codec;
+use rasn_per::per::de::DecodeErrorKind;
 use std::test::Fail;
 
 #[test]

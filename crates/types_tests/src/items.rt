@@ -1,10 +1,11 @@
 //! Items of an ENUMERATED, those behind its extension marker in each form of their index.
 
-use crate::expected::{expect_equal, expect_octets, expect_unread};
-use per_de::{DecodeErrorKind, ParserFailCause};
+use crate::expected::{
+    expect_read_unaligned, expect_refused_unaligned, expect_unaligned, expect_written_unaligned,
+};
 use per_samples_c::colors::TwoColors;
 use per_samples_c::items::{ItemOf256, WithItem};
-use rasn_per::uper::{decode, encode};
+use rasn_per::per::de::{DecodeErrorKind, ParserFailCause};
 use std::test::Fail;
 
 /// Octets that are read, and the item that they spell.
@@ -41,34 +42,24 @@ const REFUSED: &[(&[u8], DecodeErrorKind)] = &[
 
 #[test]
 fn writes_items(rt: HostRuntime) -> Result<(), Fail> {
-    let first = encode(rt.alloc(), &TwoColors::A)?;
-    expect_octets(&rt, first.as_slice(), &[0x00]);
-    let second = encode(rt.alloc(), &TwoColors::B)?;
-    expect_octets(&rt, second.as_slice(), &[0x80]);
+    expect_written_unaligned(&rt, rt.alloc(), &TwoColors::A, &[0x00])?;
+    expect_written_unaligned(&rt, rt.alloc(), &TwoColors::B, &[0x80])?;
     let last = WithItem {
         a: true,
         e: ItemOf256 { index: 255 },
     };
-    let written = encode(rt.alloc(), &last)?;
-    expect_octets(&rt, written.as_slice(), &[0xff, 0x80]);
-    let read: WithItem = decode(rt.alloc(), &[0xff, 0x80])?;
-    expect_equal(&rt, &read, &last);
-    Ok(())
+    expect_unaligned(&rt, rt.alloc(), &last, &[0xff, 0x80])
 }
 
 #[test]
 fn reads_items_in_each_form(rt: HostRuntime) -> Result<(), Fail> {
     for (octets, color) in READ {
-        let read: TwoColors = decode(rt.alloc(), octets)?;
-        expect_equal(&rt, &read, color);
+        expect_read_unaligned(&rt, rt.alloc(), color, octets)?;
     }
     Ok(())
 }
 
 #[test]
 fn names_its_refusals(rt: HostRuntime) {
-    for (octets, kind) in REFUSED {
-        let refused = decode::<TwoColors>(rt.alloc(), octets).err();
-        expect_unread(&rt, octets, refused, *kind);
-    }
+    expect_refused_unaligned::<TwoColors>(&rt, rt.alloc(), REFUSED);
 }

@@ -1,64 +1,12 @@
 //! SETs by value: a component that stands elsewhere would come back as it went, so that a round trip can't see it.
 
-use crate::expected::{expect_equal, expect_octets};
+use crate::expected::{expect_aligned, expect_both, expect_read, expect_unaligned};
 use per_samples_j::set::Set;
 use per_samples_j::set_choice::SetChoice;
 use per_samples_j::set_optional::SetOptional;
 use per_samples_j::truth_or_none::TruthOrNone;
 use per_samples_k::set_each::SetEach;
-use rasn_below::{Decode, Encode};
-use rasn_per::{aper, uper};
-use std::alloc::Global;
-use std::fmt::Debug;
-use std::process::Abort;
 use std::test::Fail;
-
-/// A value is written as these octets in the ALIGNED variant, and read from them.
-fn expect_aligned<T: Encode + Decode + PartialEq + Debug>(
-    rt: &impl Abort,
-    alloc: Global,
-    value: &T,
-    octets: &[u8],
-) -> Result<(), Fail> {
-    expect_octets(rt, &aper::encode(alloc, value)?, octets);
-    expect_equal(rt, &aper::decode::<T>(alloc, octets)?, value);
-    Ok(())
-}
-
-/// A value is written as these octets in the UNALIGNED variant, and read from them.
-fn expect_unaligned<T: Encode + Decode + PartialEq + Debug>(
-    rt: &impl Abort,
-    alloc: Global,
-    value: &T,
-    octets: &[u8],
-) -> Result<(), Fail> {
-    expect_octets(rt, &uper::encode(alloc, value)?, octets);
-    expect_equal(rt, &uper::decode::<T>(alloc, octets)?, value);
-    Ok(())
-}
-
-/// A value is written as these octets in both variants, and read from them.
-fn expect_both<T: Encode + Decode + PartialEq + Debug>(
-    rt: &impl Abort,
-    alloc: Global,
-    value: &T,
-    octets: &[u8],
-) -> Result<(), Fail> {
-    expect_aligned(rt, alloc, value, octets)?;
-    expect_unaligned(rt, alloc, value, octets)
-}
-
-/// A value is read from these octets in both variants.
-fn expect_read<T: Decode + PartialEq + Debug>(
-    rt: &impl Abort,
-    alloc: Global,
-    value: &T,
-    octets: &[u8],
-) -> Result<(), Fail> {
-    expect_equal(rt, &aper::decode::<T>(alloc, octets)?, value);
-    expect_equal(rt, &uper::decode::<T>(alloc, octets)?, value);
-    Ok(())
-}
 
 #[test]
 fn component_with_the_smaller_tag_stands_first(rt: HostRuntime) -> Result<(), Fail> {

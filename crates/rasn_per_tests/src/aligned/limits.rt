@@ -1,6 +1,6 @@
 //! The constraints of the components that stand behind a BOOLEAN.
 
-ghost use Rattle.rasn_schema.specs.Components.{◌to◌, size◌to◌};
+ghost use Rattle.rasn_below.specs.Components.{◌to◌, size◌to◌};
 
 use rasn_below::{Constraint, Constraints, Limits, constraints};
 

@@ -3,9 +3,8 @@
 use super::limits::SizeTo3;
 use crate::expected::{expect_unread, expect_unwritten};
 use rasn_below::Constrained;
+use rasn_below::types::{Codec, OctetString};
 use rasn_per::aper::{DecodeError, DecodeErrorKind, EncodeError, EncodeErrorKind, decode, encode};
-use rasn_types::octet_strings::OctetString;
-use rasn_types::types::Codec;
 use std::test::Fail;
 
 const CODEC: Codec = Codec::Aper;

@@ -3,6 +3,7 @@
 use crate::expected::{expect_equal, expect_octets, expect_unread, expect_unwritten};
 use per_samples_a::bounded::ZeroTo65536;
 use per_samples_b::strings::LettersAToE;
+use rasn_below::types::{Codec, Integer, VisibleString};
 use rasn_below::{Constrained, Constraint, Constraints, constraints};
 use rasn_per::aper;
 use rasn_per::uper::{
@@ -10,9 +11,6 @@ use rasn_per::uper::{
     decode_with_constraints, decode_with_remainder, decode_zero_padded, encode_buf,
     encode_with_constraints,
 };
-use rasn_strings::strings::VisibleString;
-use rasn_types::big::Integer;
-use rasn_types::types::Codec;
 use std::alloc::Global;
 use std::process::Abort;
 use std::test::Fail;

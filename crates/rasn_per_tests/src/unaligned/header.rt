@@ -4,9 +4,8 @@ use super::values::expect_both;
 use its_header::header::ItsPduHeader;
 use its_header::message::Message;
 use its_header::position::ReferencePositionLite;
+use rasn_below::types::{Ia5String, OctetString};
 use rasn_per::uper::decode;
-use rasn_strings::strings::Ia5String;
-use rasn_types::octet_strings::OctetString;
 use std::alloc::Global;
 use std::test::Fail;
 

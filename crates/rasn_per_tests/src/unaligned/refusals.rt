@@ -1,12 +1,12 @@
 //! Which refusal is named where several would do, and which constraints are lawful.
 
-ghost use Rattle.rasn_schema.specs.Components.{minus◌to◌};
+ghost use Rattle.rasn_below.specs.Components.{minus◌to◌};
 
 use crate::expected::{expect_equal, expect_unread};
+use rasn_below::codec::Decode;
+use rasn_below::types::Codec;
 use rasn_below::{Constrained, Constraint, Constraints, Limits, constraints};
-use rasn_codec::codec::Decode;
 use rasn_per::uper::{DecodeError, DecodeErrorKind, ParserFailCause, decode, lawful};
-use rasn_types::types::Codec;
 use std::alloc::Global;
 use std::process::Abort;
 use std::test::Fail;

@@ -5,13 +5,12 @@ use its_header::speed::Speed;
 use per_samples_a::pair::Pair;
 use per_samples_a::some_absent::SomeAbsent;
 use per_samples_d::alternative::{Alternative, ZeroTo7};
-use rasn_codec::codec::{Decode, Encode};
-use rasn_per::uper::{decode, encode};
-use rasn_strings::strings::{BmpString, Ia5String, NumericString, PrintableString, VisibleString};
-use rasn_types::bit_string::BitString;
-use rasn_types::octet_strings::{
-    Any, GeneralString, GraphicString, OctetString, TeletexString, Utf8String,
+use rasn_below::codec::{Decode, Encode};
+use rasn_below::types::{
+    Any, BitString, BmpString, GeneralString, GraphicString, Ia5String, NumericString, OctetString,
+    PrintableString, TeletexString, Utf8String, VisibleString,
 };
+use rasn_per::uper::{decode, encode};
 use std::alloc::Global;
 use std::process::Abort;
 use std::test::Fail;

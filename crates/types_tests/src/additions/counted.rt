@@ -1,12 +1,12 @@
 //! The calls of `per_counts` that answer a value.
 
 use crate::expected::expect_equal;
-use per_bits::BitReader;
 use per_counts::calls::decode_from;
 use per_counts::decoding::decode;
-use per_de::{Decoder, DecoderOptions};
 use per_samples_f::outer1::Outer1;
-use rasn_types::types::Codec;
+use rasn_below::types::Codec;
+use rasn_per::bits::BitReader;
+use rasn_per::per::de::{Decoder, DecoderOptions};
 use std::test::Fail;
 
 /// TRUE and FALSE, behind an extension bit 0.

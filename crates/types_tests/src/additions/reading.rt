@@ -1,13 +1,12 @@
 //! What a `Decoder` reads of SEQUENCE { ..., a BOOLEAN, b BOOLEAN OPTIONAL }, call by call.
 
 use crate::expected::{expect_equal, expect_unread};
-use per_bits::BitReader;
-use per_de::{DecodeError, DecodeErrorKind, Decoder, DecoderOptions, Scope};
 use per_samples_f::one_needed::OneNeeded;
-use rasn_additions::ExtensionDecoder;
+use rasn_below::codec::{Decoder as AnyDecoder, ExtensionDecoder};
+use rasn_below::types::Tag;
 use rasn_below::{AsnType, Constraints};
-use rasn_codec::codec::Decoder as _;
-use rasn_types::types::Tag;
+use rasn_per::bits::BitReader;
+use rasn_per::per::de::{DecodeErrorKind, Decoder, DecoderOptions};
 use std::alloc::Global;
 use std::test::Fail;
 
@@ -20,14 +19,11 @@ fn unaligned(alloc: Global, octets: &[u8]) -> Decoder<'_> {
     Decoder::from_reader(alloc, bits, DecoderOptions::unaligned())
 }
 
-/// Opens the record.
-fn open(decoder: &mut Decoder<'_>) -> Result<Scope, DecodeError> {
-    decoder.open_sequence::<OneNeeded>(OneNeeded::TAG)
-}
+// The calls are made over any decoder: to prove them of one decoder alone costs several times as much.
 
 /// Reads the record: a under constraints, and b as if it had an explicit tag.
-fn take_both(decoder: &mut Decoder<'_>) -> Result<(Option<bool>, Option<bool>), DecodeError> {
-    let scope = open(decoder)?;
+fn take_both<D: AnyDecoder>(decoder: &mut D) -> Result<(Option<bool>, Option<bool>), D::Error> {
+    let scope = decoder.open_sequence::<OneNeeded>(OneNeeded::TAG)?;
     let a = decoder.decode_extension_addition_with_constraints(&Constraints::NONE)?;
     let b = decoder.decode_extension_addition_with_explicit_tag_and_constraints(
         Tag::BOOL,
@@ -54,8 +50,8 @@ fn reads_a_bitmap_that_is_shorter(rt: HostRuntime) -> Result<(), Fail> {
 }
 
 /// Reads the record, and asks for one addition more than it has.
-fn take_three(decoder: &mut Decoder<'_>) -> Result<(), DecodeError> {
-    let _scope = open(decoder)?;
+fn take_three<D: AnyDecoder>(decoder: &mut D) -> Result<(), D::Error> {
+    let _scope = decoder.open_sequence::<OneNeeded>(OneNeeded::TAG)?;
     decoder.decode_extension_addition::<bool>()?;
     decoder.decode_extension_addition::<bool>()?;
     decoder.decode_extension_addition::<bool>()?;
@@ -73,8 +69,8 @@ fn refuses_an_addition_too_many(rt: HostRuntime) -> Result<(), Fail> {
 }
 
 /// Reads the record but for its last addition.
-fn take_one(decoder: &mut Decoder<'_>) -> Result<(), DecodeError> {
-    let scope = open(decoder)?;
+fn take_one<D: AnyDecoder>(decoder: &mut D) -> Result<(), D::Error> {
+    let scope = decoder.open_sequence::<OneNeeded>(OneNeeded::TAG)?;
     decoder.decode_extension_addition::<bool>()?;
     decoder.close_sequence(scope)
 }

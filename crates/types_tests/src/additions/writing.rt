@@ -1,17 +1,15 @@
 //! What an `Encoder` writes of SEQUENCE { ..., a BOOLEAN, b BOOLEAN OPTIONAL }, call by call.
 
 use crate::expected::{expect_octets, expect_unwritten};
-use per_enc::{EncodeError, EncodeErrorKind, Encoder, EncoderOptions};
 use per_samples_f::one_needed::OneNeeded;
-use rasn_additions::ExtensionEncoder;
+use rasn_below::codec::{Encoder as AnyEncoder, ExtensionEncoder};
+use rasn_below::types::{Identifier, Tag};
 use rasn_below::{AsnType, Constraints};
-use rasn_codec::codec::Encoder as _;
-use rasn_types::types::{Identifier, Tag};
-use std::alloc::Global;
+use rasn_per::per::enc::{EncodeErrorKind, Encoder, EncoderOptions};
 use std::test::Fail;
 
-/// Writes the record with these additions.
-fn put(encoder: &mut Encoder<Global>, additions: &[Option<bool>]) -> Result<(), EncodeError> {
+/// Writes the record with these additions: over any encoder, since to prove it of one alone costs several times more.
+fn put<E: AnyEncoder>(encoder: &mut E, additions: &[Option<bool>]) -> Result<(), E::Error> {
     let scope = encoder.open_sequence::<OneNeeded>(OneNeeded::TAG, Identifier::EMPTY)?;
     for addition in additions {
         encoder.encode_extension_addition(Tag::BOOL, &Constraints::NONE, addition.as_ref())?;

@@ -1,13 +1,12 @@
 //! A SEQUENCE with an alternative of the root and one behind the marker, and a CHOICE of several of each.
 
-use crate::expected::{expect_equal, expect_octets, expect_unread};
+use crate::expected::{expect_both_rows, expect_refused_aligned, expect_variants};
 use per_samples_h::alt::Alt;
 use per_samples_h::inner::Inner;
 use per_samples_h::several::Several;
 use per_samples_h::two_alternatives::TwoAlternatives;
+use rasn_below::types::OctetString;
 use rasn_per::aper::DecodeErrorKind;
-use rasn_per::{aper, uper};
-use rasn_types::octet_strings::OctetString;
 use std::alloc::{AllocError, Global};
 use std::test::Fail;
 
@@ -34,48 +33,36 @@ fn inner(alloc: Global) -> Result<Inner, AllocError> {
     Ok(Inner { flag: true, octets })
 }
 
+/// A SEQUENCE with the same value as an alternative of the root and as one behind the marker.
+fn two_alternatives(alloc: Global) -> Result<TwoAlternatives, AllocError> {
+    let root = inner(alloc)?;
+    let extension = inner(alloc)?;
+    Ok(TwoAlternatives {
+        first: true,
+        root: Alt::Inner(root),
+        extension: Alt::Added(extension),
+        trailer: 0xab,
+    })
+}
+
 #[test]
 fn writes_and_reads_alternatives_in_a_sequence(rt: HostRuntime) -> Result<(), Fail> {
-    let value = TwoAlternatives {
-        first: true,
-        root: Alt::Inner(inner(rt.alloc())?),
-        extension: Alt::Added(inner(rt.alloc())?),
-        trailer: 0xab,
-    };
-    let aligned = aper::encode(rt.alloc(), &value)?;
-    expect_octets(&rt, aligned.as_slice(), ALIGNED);
-    let unaligned = uper::encode(rt.alloc(), &value)?;
-    expect_octets(&rt, unaligned.as_slice(), UNALIGNED);
-    let read: TwoAlternatives = aper::decode(rt.alloc(), ALIGNED)?;
-    expect_equal(&rt, &read, &value);
-    let read: TwoAlternatives = uper::decode(rt.alloc(), UNALIGNED)?;
-    expect_equal(&rt, &read, &value);
-    Ok(())
+    let value = two_alternatives(rt.alloc())?;
+    expect_variants(&rt, rt.alloc(), &value, ALIGNED, UNALIGNED)
 }
 
 #[test]
 fn writes_and_reads_several_alternatives(rt: HostRuntime) -> Result<(), Fail> {
-    for (value, octets) in ROWS {
-        let aligned = aper::encode(rt.alloc(), value)?;
-        expect_octets(&rt, aligned.as_slice(), octets);
-        let unaligned = uper::encode(rt.alloc(), value)?;
-        expect_octets(&rt, unaligned.as_slice(), octets);
-        let read: Several = aper::decode(rt.alloc(), octets)?;
-        expect_equal(&rt, &read, value);
-        let read: Several = uper::decode(rt.alloc(), octets)?;
-        expect_equal(&rt, &read, value);
-    }
-    Ok(())
+    expect_both_rows(&rt, rt.alloc(), ROWS)
 }
+
+/// An index behind the last one.
+const REFUSED: &[(&[u8], DecodeErrorKind)] = &[(
+    &[0x82, 0x01, 0x00],
+    DecodeErrorKind::ChoiceIndexNotFound(2),
+)];
 
 #[test]
 fn refuses_an_index_behind_the_last(rt: HostRuntime) {
-    let octets = &[0x82, 0x01, 0x00];
-    let refused = aper::decode::<Several>(rt.alloc(), octets).err();
-    expect_unread(
-        &rt,
-        octets,
-        refused,
-        DecodeErrorKind::ChoiceIndexNotFound(2),
-    );
+    expect_refused_aligned::<Several>(&rt, rt.alloc(), REFUSED);
 }

@@ -1,9 +1,9 @@
 //! The UNALIGNED variant.
 
-use crate::expected::{expect_equal, expect_octets, expect_unread};
+use crate::expected::{expect_refused_unaligned, expect_unaligned, expect_unaligned_rows};
 use per_samples_h::alt1::Alt1;
 use per_samples_h::alt2::Alt2;
-use rasn_per::uper::{DecodeErrorKind, decode, encode};
+use rasn_per::uper::DecodeErrorKind;
 use std::test::Fail;
 
 /// Values of the newer version, and their octets: an alternative behind the marker is an extension bit 1, an index as a
@@ -28,42 +28,27 @@ const REFUSED: &[(&[u8], DecodeErrorKind)] = &[
 
 #[test]
 fn writes_and_reads_each_alternative(rt: HostRuntime) -> Result<(), Fail> {
-    for (value, octets) in ROWS {
-        let written = encode(rt.alloc(), value)?;
-        expect_octets(&rt, written.as_slice(), octets);
-        let read: Alt2 = decode(rt.alloc(), octets)?;
-        expect_equal(&rt, &read, value);
-    }
-    Ok(())
+    expect_unaligned_rows(&rt, rt.alloc(), ROWS)
 }
 
 #[test]
 fn the_older_version_has_the_same_root(rt: HostRuntime) -> Result<(), Fail> {
-    let written = encode(rt.alloc(), &Alt1::A(true))?;
-    expect_octets(&rt, written.as_slice(), &[0x40]);
-    let read: Alt1 = decode(rt.alloc(), &[0x40])?;
-    expect_equal(&rt, &read, &Alt1::A(true));
-    let newer: Alt2 = decode(rt.alloc(), written.as_slice())?;
-    expect_equal(&rt, &newer, &Alt2::A(true));
-    Ok(())
+    expect_unaligned(&rt, rt.alloc(), &Alt1::A(true), &[0x40])?;
+    expect_unaligned(&rt, rt.alloc(), &Alt2::A(true), &[0x40])
 }
+
+/// Octets that the older version refuses, and why.
+const UNKNOWN: &[(&[u8], DecodeErrorKind)] = &[(
+    &[0x80, 0x01, 0x80],
+    DecodeErrorKind::ChoiceIndexNotFound(0),
+)];
 
 #[test]
 fn the_older_version_refuses_what_it_does_not_know(rt: HostRuntime) {
-    let octets = &[0x80, 0x01, 0x80];
-    let refused = decode::<Alt1>(rt.alloc(), octets).err();
-    expect_unread(
-        &rt,
-        octets,
-        refused,
-        DecodeErrorKind::ChoiceIndexNotFound(0),
-    );
+    expect_refused_unaligned::<Alt1>(&rt, rt.alloc(), UNKNOWN);
 }
 
 #[test]
 fn names_its_refusals(rt: HostRuntime) {
-    for (octets, kind) in REFUSED {
-        let refused = decode::<Alt2>(rt.alloc(), octets).err();
-        expect_unread(&rt, octets, refused, *kind);
-    }
+    expect_refused_unaligned::<Alt2>(&rt, rt.alloc(), REFUSED);
 }

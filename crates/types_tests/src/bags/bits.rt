@@ -1,10 +1,9 @@
 //! Bags whose members are no whole octets. Their order is that of the members' complete encodings, which end in zero
 //! bits; they themselves stand without these.
 
-use crate::expected::{expect_items, expect_octets};
-use rasn_per::{aper, uper};
-use rasn_sets::set_of::SetOf;
-use rasn_types::bit_string::BitString;
+use crate::bags::members::expect_members;
+use crate::expected::{expect_written, expect_written_aligned, expect_written_unaligned};
+use rasn_below::types::{BitString, SetOf};
 use std::alloc::Global;
 use std::test::Fail;
 
@@ -12,15 +11,8 @@ use std::test::Fail;
 #[test]
 fn writes_and_reads_truth_values(rt: HostRuntime) -> Result<(), Fail> {
     let bag = SetOf::from_vec(Vec::from_slice(rt.alloc(), &[true, false, true])?);
-    let unaligned = uper::encode(rt.alloc(), &bag)?;
-    expect_octets(&rt, unaligned.as_slice(), &[0x03, 0x60]);
-    let aligned = aper::encode(rt.alloc(), &bag)?;
-    expect_octets(&rt, aligned.as_slice(), &[0x03, 0x60]);
-    let read: SetOf<bool> = uper::decode(rt.alloc(), &[0x03, 0xc0])?;
-    expect_items(&rt, read.as_slice(), &[true, true, false]);
-    let read: SetOf<bool> = aper::decode(rt.alloc(), &[0x03, 0xc0])?;
-    expect_items(&rt, read.as_slice(), &[true, true, false]);
-    Ok(())
+    expect_written(&rt, rt.alloc(), &bag, &[0x03, 0x60])?;
+    expect_members(&rt, rt.alloc(), &[0x03, 0xc0], &[true, true, false])
 }
 
 /// A bag of the strings of one bit, the greater one first.
@@ -36,9 +28,6 @@ fn one_bit_each(alloc: Global) -> Result<SetOf<BitString>, Fail> {
 #[test]
 fn pads_members_where_they_stand(rt: HostRuntime) -> Result<(), Fail> {
     let bag = one_bit_each(rt.alloc())?;
-    let unaligned = uper::encode(rt.alloc(), &bag)?;
-    expect_octets(&rt, unaligned.as_slice(), &[0x02, 0x01, 0x00, 0xc0]);
-    let aligned = aper::encode(rt.alloc(), &bag)?;
-    expect_octets(&rt, aligned.as_slice(), &[0x02, 0x01, 0x00, 0x01, 0x80]);
-    Ok(())
+    expect_written_unaligned(&rt, rt.alloc(), &bag, &[0x02, 0x01, 0x00, 0xc0])?;
+    expect_written_aligned(&rt, rt.alloc(), &bag, &[0x02, 0x01, 0x00, 0x01, 0x80])
 }

@@ -1,11 +1,15 @@
 //! SET OF INTEGER, whose octets are the same in both variants: each member is whole octets.
 
-use crate::expected::{expect_items, expect_octets, expect_unwritten};
+use crate::bags::members::expect_members;
+use crate::expected::{
+    expect_unwritten, expect_written, expect_written_aligned, expect_written_unaligned,
+};
+use rasn_below::types::SetOf;
 use rasn_below::{Constraint, Constraints, constraints};
-use rasn_per::aper::EncodeErrorKind;
+use rasn_per::aper::{DecodeError, EncodeErrorKind};
 use rasn_per::{aper, uper};
-use rasn_sets::set_of::SetOf;
 use std::alloc::{AllocError, Global};
+use std::process::Abort;
 use std::test::Fail;
 
 /// Members in the order in which they are kept, and the octets of their bag.
@@ -97,40 +101,46 @@ fn bag_of(alloc: Global, members: &[i128]) -> Result<SetOf<i128>, AllocError> {
 fn writes_members_in_ascending_order(rt: HostRuntime) -> Result<(), Fail> {
     for (members, octets) in WRITTEN {
         let bag = bag_of(rt.alloc(), members)?;
-        let unaligned = uper::encode(rt.alloc(), &bag)?;
-        expect_octets(&rt, unaligned.as_slice(), octets);
-        let aligned = aper::encode(rt.alloc(), &bag)?;
-        expect_octets(&rt, aligned.as_slice(), octets);
+        expect_written(&rt, rt.alloc(), &bag, octets)?;
     }
     Ok(())
+}
+
+/// The bag that these octets spell, with its members the other way round.
+fn turned(alloc: Global, octets: &[u8]) -> Result<SetOf<i128>, DecodeError> {
+    let bag: SetOf<i128> = uper::decode(alloc, octets)?;
+    let mut members = bag.to_vec();
+    members.reverse();
+    Ok(SetOf::from_vec(members))
 }
 
 #[test]
 fn writes_what_is_read_the_other_way_round(rt: HostRuntime) -> Result<(), Fail> {
     for octets in CANONICAL {
-        let bag: SetOf<i128> = uper::decode(rt.alloc(), octets)?;
-        let mut members = bag.to_vec();
-        members.reverse();
-        let turned = SetOf::from_vec(members);
-        let unaligned = uper::encode(rt.alloc(), &turned)?;
-        expect_octets(&rt, unaligned.as_slice(), octets);
-        let aligned = aper::encode(rt.alloc(), &turned)?;
-        expect_octets(&rt, aligned.as_slice(), octets);
+        let bag = turned(rt.alloc(), octets)?;
+        expect_written(&rt, rt.alloc(), &bag, octets)?;
     }
     Ok(())
+}
+
+/// What is read from these octets in both variants is written as the others.
+fn expect_rewritten(
+    rt: &impl Abort,
+    alloc: Global,
+    spelled: &[u8],
+    octets: &[u8],
+) -> Result<(), Fail> {
+    let unaligned: SetOf<i128> = uper::decode(alloc, spelled)?;
+    expect_written_unaligned(rt, alloc, &unaligned, octets)?;
+    let aligned: SetOf<i128> = aper::decode(alloc, spelled)?;
+    expect_written_aligned(rt, alloc, &aligned, octets)
 }
 
 #[test]
 fn reads_members_in_any_order(rt: HostRuntime) -> Result<(), Fail> {
     for (spelled, members, octets) in SPELLINGS {
-        let unaligned: SetOf<i128> = uper::decode(rt.alloc(), spelled)?;
-        expect_items(&rt, unaligned.as_slice(), members);
-        let aligned: SetOf<i128> = aper::decode(rt.alloc(), spelled)?;
-        expect_items(&rt, aligned.as_slice(), members);
-        let written = uper::encode(rt.alloc(), &unaligned)?;
-        expect_octets(&rt, written.as_slice(), octets);
-        let written = aper::encode(rt.alloc(), &aligned)?;
-        expect_octets(&rt, written.as_slice(), octets);
+        expect_members(&rt, rt.alloc(), spelled, members)?;
+        expect_rewritten(&rt, rt.alloc(), spelled, octets)?;
     }
     Ok(())
 }

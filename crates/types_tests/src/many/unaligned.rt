@@ -1,9 +1,7 @@
 //! The UNALIGNED variant.
 
 use super::values::only;
-use crate::expected::{expect_equal, expect_octets};
-use per_samples_m::many::Many;
-use rasn_per::uper::{decode, encode};
+use crate::expected::{expect_read_unaligned, expect_unaligned};
 use std::test::Fail;
 
 /// Which addition alone is there, TRUE, and the octets: an extension bit 1, a bit 1 for the form of the length, the
@@ -26,10 +24,7 @@ const READ: &[(&[u8], usize)] = &[
 #[test]
 fn writes_and_reads_long_bitmaps(rt: HostRuntime) -> Result<(), Fail> {
     for (place, octets) in ROWS {
-        let written = encode(rt.alloc(), &only(*place))?;
-        expect_octets(&rt, written.as_slice(), octets);
-        let read: Many = decode(rt.alloc(), octets)?;
-        expect_equal(&rt, &read, &only(*place));
+        expect_unaligned(&rt, rt.alloc(), &only(*place), octets)?;
     }
     Ok(())
 }
@@ -37,8 +32,7 @@ fn writes_and_reads_long_bitmaps(rt: HostRuntime) -> Result<(), Fail> {
 #[test]
 fn reads_bitmaps_of_other_lengths(rt: HostRuntime) -> Result<(), Fail> {
     for (octets, place) in READ {
-        let read: Many = decode(rt.alloc(), octets)?;
-        expect_equal(&rt, &read, &only(*place));
+        expect_read_unaligned(&rt, rt.alloc(), &only(*place), octets)?;
     }
     Ok(())
 }

@@ -1,11 +1,16 @@
 //! DATE (X.691 32): its year, as one of a range where one of three holds it, its month and its day.
 
-use crate::expected::{expect_equal, expect_octets, expect_unread};
+use crate::expected::{
+    expect_aligned, expect_refused_unaligned, expect_unaligned, expect_unread,
+    expect_written_unaligned,
+};
 use jiff::civil;
 use per_samples_l::dnest::Dnest;
+use rasn_below::types::Date;
+use rasn_per::uper;
 use rasn_per::uper::DecodeErrorKind;
-use rasn_per::{aper, uper};
-use rasn_useful::date::Date;
+use std::alloc::{AllocError, Global};
+use std::process::Abort;
 use std::test::Fail;
 
 /// Days, and their octets ALIGNED: of each range, and of years in none.
@@ -30,10 +35,7 @@ const UNALIGNED: &[((i16, i8, i8), &[u8])] = &[
 fn writes_and_reads_aligned(rt: HostRuntime) -> Result<(), Fail> {
     for ((year, month, day), octets) in ALIGNED {
         let date = Date::new(civil::Date::new(*year, *month, *day)?);
-        let written = aper::encode(rt.alloc(), &date)?;
-        expect_octets(&rt, written.as_slice(), octets);
-        let read: Date = aper::decode(rt.alloc(), octets)?;
-        expect_equal(&rt, &read, &date);
+        expect_aligned(&rt, rt.alloc(), &date, octets)?;
     }
     Ok(())
 }
@@ -42,10 +44,7 @@ fn writes_and_reads_aligned(rt: HostRuntime) -> Result<(), Fail> {
 fn writes_and_reads_unaligned(rt: HostRuntime) -> Result<(), Fail> {
     for ((year, month, day), octets) in UNALIGNED {
         let date = Date::new(civil::Date::new(*year, *month, *day)?);
-        let written = uper::encode(rt.alloc(), &date)?;
-        expect_octets(&rt, written.as_slice(), octets);
-        let read: Date = uper::decode(rt.alloc(), octets)?;
-        expect_equal(&rt, &read, &date);
+        expect_unaligned(&rt, rt.alloc(), &date, octets)?;
     }
     Ok(())
 }
@@ -70,36 +69,32 @@ const REFUSED: &[(&[u8], DecodeErrorKind)] = &[
 
 #[test]
 fn refuses_octets(rt: HostRuntime) {
-    for (octets, kind) in REFUSED {
-        let refused = uper::decode::<Date>(rt.alloc(), octets).err();
-        expect_unread(&rt, octets, refused, *kind);
-    }
+    expect_refused_unaligned::<Date>(&rt, rt.alloc(), REFUSED);
 }
 
 /// The presence bits of 124 records, each inside the one before, and then others.
-fn in_124_records(octets: &mut Vec<u8>, others: &[u8]) -> Result<(), Fail> {
-    for _ in 0..31 {
-        octets.push(0xaa)?;
-    }
+fn in_124_records(alloc: Global, others: &[u8]) -> Result<Vec<u8>, AllocError> {
+    let mut octets = vec![in alloc; 0xaau8; 31]?;
     octets.extend_from_slice(others)?;
-    Ok(())
+    Ok(octets)
+}
+
+/// What is read from octets is written as these again.
+fn expect_rewritten(rt: &impl Abort, alloc: Global, octets: &[u8]) -> Result<(), Fail> {
+    let read: Dnest = uper::decode(alloc, octets)?;
+    expect_written_unaligned(rt, alloc, &read, octets)
 }
 
 #[test]
 fn a_date_takes_two_of_128_levels(rt: HostRuntime) -> Result<(), Fail> {
     // 126 records, and 1 January 2010 in the last.
-    let mut octets = Vec::new(rt.alloc());
-    in_124_records(&mut octets, &[0x91, 0x40, 0x00])?;
-    let read: Dnest = uper::decode(rt.alloc(), octets.as_slice())?;
-    let written = uper::encode(rt.alloc(), &read)?;
-    expect_octets(&rt, written.as_slice(), octets.as_slice());
-    Ok(())
+    let octets = in_124_records(rt.alloc(), &[0x91, 0x40, 0x00])?;
+    expect_rewritten(&rt, rt.alloc(), octets.as_slice())
 }
 
 #[test]
 fn a_date_in_127_records_is_refused(rt: HostRuntime) -> Result<(), Fail> {
-    let mut octets = Vec::new(rt.alloc());
-    in_124_records(&mut octets, &[0xa4, 0x50, 0x00])?;
+    let octets = in_124_records(rt.alloc(), &[0xa4, 0x50, 0x00])?;
     let refused = uper::decode::<Dnest>(rt.alloc(), octets.as_slice()).err();
     expect_unread(&rt, &octets, refused, DecodeErrorKind::ExceedsMaxParseDepth);
     Ok(())

@@ -1,10 +1,12 @@
 //! GeneralizedTime (X.691 30): its canonical text (X.690 11.7) as a VisibleString without constraints.
 
-use crate::expected::{expect_equal, expect_octets, expect_unread, expect_unwritten};
+use crate::expected::{
+    expect_aligned, expect_equal, expect_refusals, expect_refused_aligned,
+    expect_refused_unaligned, expect_unaligned,
+};
 use jiff::civil::DateTime;
+use rasn_below::types::GeneralizedTime;
 use rasn_per::uper::{DecodeErrorKind, EncodeErrorKind};
-use rasn_per::{aper, uper};
-use rasn_useful::generalized_time::GeneralizedTime;
 use std::test::Fail;
 
 /// The parts of moments with nanoseconds, and their octets ALIGNED and UNALIGNED: 2018-06-13 06:01:58, and X.690
@@ -43,10 +45,8 @@ fn writes_and_reads_aligned(rt: HostRuntime) -> Result<(), Fail> {
     for ((year, month, day), (hour, minute, second), nanosecond, aligned, _) in ROWS {
         let moment = DateTime::new(*year, *month, *day, *hour, *minute, *second, *nanosecond)?;
         let time = GeneralizedTime::new(moment);
-        let written = aper::encode(rt.alloc(), &time)?;
-        expect_octets(&rt, written.as_slice(), aligned);
-        let read: GeneralizedTime = aper::decode(rt.alloc(), aligned)?;
-        expect_equal(&rt, &read.to_datetime(), &moment);
+        expect_equal(&rt, &time.to_datetime(), &moment);
+        expect_aligned(&rt, rt.alloc(), &time, aligned)?;
     }
     Ok(())
 }
@@ -56,10 +56,8 @@ fn writes_and_reads_unaligned(rt: HostRuntime) -> Result<(), Fail> {
     for ((year, month, day), (hour, minute, second), nanosecond, _, unaligned) in ROWS {
         let moment = DateTime::new(*year, *month, *day, *hour, *minute, *second, *nanosecond)?;
         let time = GeneralizedTime::new(moment);
-        let written = uper::encode(rt.alloc(), &time)?;
-        expect_octets(&rt, written.as_slice(), unaligned);
-        let read: GeneralizedTime = uper::decode(rt.alloc(), unaligned)?;
-        expect_equal(&rt, &read.to_datetime(), &moment);
+        expect_equal(&rt, &time.to_datetime(), &moment);
+        expect_unaligned(&rt, rt.alloc(), &time, unaligned)?;
     }
     Ok(())
 }
@@ -105,10 +103,7 @@ const REFUSED_ALIGNED: &[(&[u8], DecodeErrorKind)] = &[
 
 #[test]
 fn refuses_octets_aligned(rt: HostRuntime) {
-    for (octets, kind) in REFUSED_ALIGNED {
-        let refused = aper::decode::<GeneralizedTime>(rt.alloc(), octets).err();
-        expect_unread(&rt, octets, refused, *kind);
-    }
+    expect_refused_aligned::<GeneralizedTime>(&rt, rt.alloc(), REFUSED_ALIGNED);
 }
 
 /// Octets of the UNALIGNED variant that are read as no GeneralizedTime, and why.
@@ -151,10 +146,7 @@ const REFUSED_UNALIGNED: &[(&[u8], DecodeErrorKind)] = &[
 
 #[test]
 fn refuses_octets_unaligned(rt: HostRuntime) {
-    for (octets, kind) in REFUSED_UNALIGNED {
-        let refused = uper::decode::<GeneralizedTime>(rt.alloc(), octets).err();
-        expect_unread(&rt, octets, refused, *kind);
-    }
+    expect_refused_unaligned::<GeneralizedTime>(&rt, rt.alloc(), REFUSED_UNALIGNED);
 }
 
 /// Days, and nanoseconds of their first second, that no GeneralizedTime holds.
@@ -165,10 +157,7 @@ fn refuses_moments(rt: HostRuntime) -> Result<(), Fail> {
     for ((year, month, day), nanosecond) in NO_TEXTS {
         let moment = DateTime::new(*year, *month, *day, 0, 0, 0, *nanosecond)?;
         let time = GeneralizedTime::new(moment);
-        let refused = aper::encode(rt.alloc(), &time).err();
-        expect_unwritten(&rt, &moment, refused, EncodeErrorKind::Below);
-        let refused = uper::encode(rt.alloc(), &time).err();
-        expect_unwritten(&rt, &moment, refused, EncodeErrorKind::Below);
+        expect_refusals(&rt, rt.alloc(), &time, EncodeErrorKind::Below);
     }
     Ok(())
 }

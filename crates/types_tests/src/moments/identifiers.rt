@@ -1,10 +1,14 @@
 //! OBJECT IDENTIFIER (X.691 24): its contents octets behind an unconstrained length, alike in both variants.
 
-use crate::expected::{expect_items, expect_octets, expect_unread, expect_unwritten};
+use crate::expected::{
+    expect_items, expect_refusals, expect_refused_aligned, expect_refused_unaligned,
+    expect_written_aligned, expect_written_unaligned,
+};
+use rasn_below::types::ObjectIdentifier;
 use rasn_per::uper::{DecodeErrorKind, EncodeErrorKind};
 use rasn_per::{aper, uper};
-use rasn_useful::object_identifier::ObjectIdentifier;
 use std::alloc::Global;
+use std::process::Abort;
 use std::test::Fail;
 
 /// Arcs and their octets: X.690 8.19.5, and others' encodings of 0.0.20.124.0.1 and of 1.2.840.113549.
@@ -25,15 +29,37 @@ fn identifier_of(alloc: Global, arcs: &[u32]) -> Result<ObjectIdentifier, Fail> 
     Ok(ObjectIdentifier::new(arcs.to_vec(alloc)?))
 }
 
+/// These arcs are read from octets in the ALIGNED variant.
+fn expect_arcs_aligned(
+    rt: &impl Abort,
+    alloc: Global,
+    octets: &[u8],
+    arcs: &[u32],
+) -> Result<(), Fail> {
+    let read: ObjectIdentifier = aper::decode(alloc, octets)?;
+    expect_items(rt, read.as_arcs(), arcs);
+    Ok(())
+}
+
 #[test]
 fn writes_and_reads_aligned(rt: HostRuntime) -> Result<(), Fail> {
     for (arcs, octets) in ROWS {
         let identifier = identifier_of(rt.alloc(), arcs)?;
-        let written = aper::encode(rt.alloc(), &identifier)?;
-        expect_octets(&rt, written.as_slice(), octets);
-        let read: ObjectIdentifier = aper::decode(rt.alloc(), octets)?;
-        expect_items(&rt, read.as_arcs(), arcs);
+        expect_written_aligned(&rt, rt.alloc(), &identifier, octets)?;
+        expect_arcs_aligned(&rt, rt.alloc(), octets, arcs)?;
     }
+    Ok(())
+}
+
+/// These arcs are read from octets in the UNALIGNED variant.
+fn expect_arcs_unaligned(
+    rt: &impl Abort,
+    alloc: Global,
+    octets: &[u8],
+    arcs: &[u32],
+) -> Result<(), Fail> {
+    let read: ObjectIdentifier = uper::decode(alloc, octets)?;
+    expect_items(rt, read.as_arcs(), arcs);
     Ok(())
 }
 
@@ -41,10 +67,8 @@ fn writes_and_reads_aligned(rt: HostRuntime) -> Result<(), Fail> {
 fn writes_and_reads_unaligned(rt: HostRuntime) -> Result<(), Fail> {
     for (arcs, octets) in ROWS {
         let identifier = identifier_of(rt.alloc(), arcs)?;
-        let written = uper::encode(rt.alloc(), &identifier)?;
-        expect_octets(&rt, written.as_slice(), octets);
-        let read: ObjectIdentifier = uper::decode(rt.alloc(), octets)?;
-        expect_items(&rt, read.as_arcs(), arcs);
+        expect_written_unaligned(&rt, rt.alloc(), &identifier, octets)?;
+        expect_arcs_unaligned(&rt, rt.alloc(), octets, arcs)?;
     }
     Ok(())
 }
@@ -68,12 +92,8 @@ const REFUSED: &[(&[u8], DecodeErrorKind)] = &[
 
 #[test]
 fn refuses_octets(rt: HostRuntime) {
-    for (octets, kind) in REFUSED {
-        let refused = aper::decode::<ObjectIdentifier>(rt.alloc(), octets).err();
-        expect_unread(&rt, octets, refused, *kind);
-        let refused = uper::decode::<ObjectIdentifier>(rt.alloc(), octets).err();
-        expect_unread(&rt, octets, refused, *kind);
-    }
+    expect_refused_aligned::<ObjectIdentifier>(&rt, rt.alloc(), REFUSED);
+    expect_refused_unaligned::<ObjectIdentifier>(&rt, rt.alloc(), REFUSED);
 }
 
 /// Arcs that name no object: too few, a second one past 39, a first one past 2.
@@ -83,10 +103,7 @@ const NO_OBJECTS: &[&[u32]] = &[&[], &[1], &[1, 40], &[3, 1]];
 fn refuses_arcs(rt: HostRuntime) -> Result<(), Fail> {
     for arcs in NO_OBJECTS {
         let identifier = identifier_of(rt.alloc(), arcs)?;
-        let refused = aper::encode(rt.alloc(), &identifier).err();
-        expect_unwritten(&rt, arcs, refused, EncodeErrorKind::Below);
-        let refused = uper::encode(rt.alloc(), &identifier).err();
-        expect_unwritten(&rt, arcs, refused, EncodeErrorKind::Below);
+        expect_refusals(&rt, rt.alloc(), &identifier, EncodeErrorKind::Below);
     }
     Ok(())
 }

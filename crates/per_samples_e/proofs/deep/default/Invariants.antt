@@ -1,5 +1,5 @@
 use Rattle.std.proofs.Common.{◌≡◌}
-use Rattle.rasn_schema.specs.Components.{sequence_value}
+use Rattle.rasn_below.specs.Values.{sequence_value}
 use Rattle.per_samples_e.specs.Deeps.{nest_with}
 use Rattle.per_samples_e.specs.Nests.{nest_contents}
 use Rattle.per_samples_e.proofs.deep.default.Given as goal

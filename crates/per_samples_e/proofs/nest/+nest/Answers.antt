@@ -1,10 +1,10 @@
 use Rattle.std.proofs.Common.{refl, rules, subst, sym, false}
 use Rattle.std.proofs.lemmas.Result.{err_from_is_err_and}
-use Rattle.rasn_schema.specs.Components.{parts_of, sequence_at, sequence_value}
-use Rattle.rasn_schema.specs.Records.{no_additions}
-use Rattle.rasn_calls.specs.Scopes.{reads_end, reads_left_out, reads_next, reads_there}
-use Rattle.rasn_calls.proofs.Optionals.{bit_refused, value_unread}
-use Rattle.rasn_calls.proofs.Reading.{fails_part, inside_left, plainly_read, record_ended, record_endless, record_root_failed}
+use Rattle.rasn_below.specs.Values.{sequence_value}
+use Rattle.rasn_below.specs.Components.{parts_of}
+use Rattle.rasn_below.specs.Types.{sequence_at, no_additions}
+use Rattle.rasn_below.specs.Calls.{reads_end, reads_left_out, reads_next, reads_there}
+use Rattle.rasn_below.proofs.Reading.{bit_refused, value_unread, fails_part, inside_left, plainly_read, record_ended, record_endless, record_root_failed}
 use Rattle.per_samples_e.specs.Nests.{nest, nest_is_sequence}
 use Rattle.per_samples_e.proofs.Contents.{contents_read}
 use Rattle.per_samples_e.proofs.nest.+nest.Goals as goal

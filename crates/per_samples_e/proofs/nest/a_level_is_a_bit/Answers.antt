@@ -1,9 +1,7 @@
 use Rattle.std.proofs.Common.{◌≡◌, ◌≤◌, ℕ, zero, suc, [], ◌∷◌, Option, Some, None, arith, refl}
-use Rattle.rasn_types.specs.Variants.{unaligned}
-use Rattle.rasn_types.specs.Values.{Value}
-use Rattle.rasn_schema.specs.Components.{sequence_at, sequence_value}
-use Rattle.rasn_schema.specs.Normal.{normal, settle}
-use Rattle.per_core.specs.Canon.{bytes}
+use Rattle.rasn_below.specs.Values.{Value, sequence_value}
+use Rattle.rasn_below.specs.Types.{sequence_at, normal, settle}
+use Rattle.rasn_below.specs.Rows.{unaligned, bytes}
 use Rattle.per_samples_e.specs.Nests.{nest}
 use Rattle.per_samples_e.proofs.nest.a_level_is_a_bit.Goals as goal
 

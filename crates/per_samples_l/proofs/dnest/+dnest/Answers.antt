@@ -1,13 +1,10 @@
 use Rattle.std.proofs.Common.{◌≡◌, ℕ, refl, rules, subst, sym, false}
 use Rattle.std.proofs.lemmas.Result.{err_from_is_err_and}
-use Rattle.rasn_types.specs.Values.{Value}
-use Rattle.rasn_schema.specs.Components.{parts_of, sequence_at, sequence_value}
-use Rattle.rasn_schema.specs.Records.{no_additions}
-use Rattle.rasn_schema.specs.Schemas.{optional}
-use Rattle.rasn_calls.specs.Calls.{DecoderRules}
-use Rattle.rasn_calls.specs.Scopes.{reads_end, reads_left_out, reads_next, reads_there}
-use Rattle.rasn_calls.proofs.Optionals.{bit_refused, value_unread}
-use Rattle.rasn_calls.proofs.Reading.{fails_behind, fails_part, inside_left, part_reads_well, plainly_read, record_ended, record_endless, record_root_failed}
+use Rattle.rasn_below.specs.Values.{Value, sequence_value}
+use Rattle.rasn_below.specs.Components.{parts_of}
+use Rattle.rasn_below.specs.Types.{sequence_at, no_additions, optional}
+use Rattle.rasn_below.specs.Calls.{DecoderRules, reads_end, reads_left_out, reads_next, reads_there}
+use Rattle.rasn_below.proofs.Reading.{bit_refused, value_unread, fails_behind, fails_part, inside_left, part_reads_well, plainly_read, record_ended, record_endless, record_root_failed}
 use Rattle.per_samples_l.specs.Dnests.{dnest, dnest_is_sequence, dnest_schema}
 use Rattle.per_samples_l.proofs.Contents.{contents_read}
 use Rattle.per_samples_l.proofs.dnest.+dnest.Goals as goal

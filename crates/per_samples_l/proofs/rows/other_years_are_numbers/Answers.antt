@@ -1,4 +1,4 @@
-use Rattle.rasn_types.specs.Variants.{unaligned}
+use Rattle.rasn_below.specs.Rows.{unaligned}
 use Rattle.per_samples_l.proofs.Written.{at_depths, other}
 use Rattle.per_samples_l.proofs.rows.other_years_are_numbers.Goals as goal
 

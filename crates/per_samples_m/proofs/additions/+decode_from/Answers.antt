@@ -1,7 +1,7 @@
 use Rattle.std.proofs.Common.{◌≡◌, suc, ◌+◌, ◌-◌, arith, length, rules}
 use Rattle.std.proofs.lemmas.Result.{IfOk-weaker, err_from_is_err_and}
-use Rattle.rasn_calls.specs.AdditionsRead.{reads_no_more}
-use Rattle.rasn_calls.proofs.Reading.{addition_reads_well, fails_addition}
+use Rattle.rasn_below.specs.Calls.{reads_no_more}
+use Rattle.rasn_below.proofs.Reading.{addition_reads_well, fails_addition}
 use Rattle.per_samples_m.proofs.Arrays.{kept_before, none_behind}
 use Rattle.per_samples_m.proofs.Truths.{truths_read}
 use Rattle.per_samples_m.proofs.additions.+decode_from.Goals as goal

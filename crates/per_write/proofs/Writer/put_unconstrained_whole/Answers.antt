@@ -1,19 +1,36 @@
-use Rattle.std.specs.Prelude.{OnOk, Result}
-use Rattle.std.proofs.Common.{◌≡◌, ◌∙◌, subst, true, rules}
+use Rattle.std.specs.Prelude.{OnOk}
+use Rattle.std.proofs.Common.{◌≡◌, ◌∙◌, rules}
 use Rattle.std.proofs.lemmas.Result.{IfOk-at_ok}
-use Rattle.rasn_constraints.specs.Bounds.{holds}
-use Rattle.per_write.proofs.Constrained.{wrote_whole}
+use Rattle.rasn_types.specs.Codecs.{variant_of}
+use Rattle.rasn_types.specs.Octets.{whole_bits}
+use Rattle.per_core.specs.Counts.{counted_octets}
+use Rattle.per_write.specs.State.{Wrote}
+use Rattle.per_write.proofs.Constrained.{wrote_whole, wrote_number}
 use Rattle.per_write.proofs.Writer.put_unconstrained_whole.Goals as goal
 
-pub returns : goal.returns
-returns g c =
+pub returns-in_default : goal.returns-in_default
+returns-in_default g c =
     let z = g.I.IntegerType.number c.args.value.now in
     record {
       ok = wrote_whole c.args.self.now c.unless_out_of_memory.new.self _ g.I.IntegerType.range z c.deref.result.now c.put_octets.result
           c.in_ok-octets.ensures.kept
-          (subst (λ (r : Result _ _). OnOk r (holds g.I.IntegerType.range z ≡ true)) c.in_ok-octets.ensures.ok c.number_octets-octets.ensures.held)
+          c.to_i128.ensures.held
           (c.deref.ensures.value ∙ IfOk-at_ok _ c.in_ok-octets.ensures.ok c.number_octets-octets.ensures.octets)
           c.put_octets.ensures.ok;
+      err = search rules;
+      fails = search rules;
+      kept = search rules;
+    }
+
+pub returns : goal.returns
+returns g c =
+    let x = c.args.self.now in
+    let y = c.unless_out_of_memory-2.new.self in
+    let z = g.I.IntegerType.number c.args.value.now in
+    let is : c.in-Some.number ≡ z = c.in-Some.ensures.number in
+    let written : OnOk c.unless_out_of_memory-2.result (Wrote x (counted_octets (variant_of x.codec) (whole_bits c.in-Some.number)) y) = search rules in
+    record {
+      ok = wrote_number x y g.I.IntegerType.range z c.in-Some.number c.unless_out_of_memory-2.result is c.to_i128.ensures.held written;
       err = search rules;
       fails = search rules;
       kept = search rules;

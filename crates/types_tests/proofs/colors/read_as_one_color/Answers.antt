@@ -1,9 +1,8 @@
 use Rattle.std.proofs.Common.{◌≡◌, refl, ℕ, true, Option, Some, None, Result, Ok, Err, arith}
 use Rattle.std.specs.Prelude.{OnOk}
-use Rattle.rasn_types.specs.Values.{Value}
-use Rattle.rasn_types.specs.declared.types.Codec.{Codec}
-use Rattle.rasn_schema.specs.Normal.{normal}
-use Rattle.rasn_schema.specs.Schemas.{Schema}
+use Rattle.rasn_below.specs.Values.{Value}
+use Rattle.rasn_below.specs.Types.{normal, Schema}
+use Rattle.rasn_below.specs.Rows.{Codec}
 use Rattle.per_core.specs.Versions.{more_items, project}
 use Rattle.per_samples_c.specs.Colors.{color}
 use Rattle.per_samples_c.specs.declared.colors.TwoColors.{TwoColors}

@@ -1,5 +1,5 @@
 use Rattle.std.proofs.Common.{rules}
-use Rattle.rasn_calls.proofs.Reading.{read_around}
+use Rattle.rasn_below.proofs.Reading.{read_around}
 use Rattle.per_samples_a.proofs.pair.PairDecode.decode_with_tag_and_constraints.Goals as goal
 
 pub returns : goal.returns

@@ -1,5 +1,5 @@
 use Rattle.std.proofs.Common.{sym}
-use Rattle.rasn_calls.proofs.Writing.{written_around}
+use Rattle.rasn_below.proofs.Writing.{written_around}
 use Rattle.per_samples_a.specs.Pairs.{pair_contents}
 use Rattle.per_samples_a.proofs.pair.PairEncode.encode_with_tag_and_constraints.Goals as goal
 

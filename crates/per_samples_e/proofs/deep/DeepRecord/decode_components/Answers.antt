@@ -1,7 +1,7 @@
 use Rattle.std.proofs.Common.{rules}
 use Rattle.std.proofs.lemmas.Result.{err_from_is_err_and}
-use Rattle.rasn_calls.specs.Scopes.{reads_end, reads_next}
-use Rattle.rasn_calls.proofs.Reading.{fails_part}
+use Rattle.rasn_below.specs.Calls.{reads_end, reads_next}
+use Rattle.rasn_below.proofs.Reading.{fails_part}
 use Rattle.per_samples_e.specs.Deeps.{nest_with}
 use Rattle.per_samples_e.proofs.deep.DeepRecord.decode_components.Goals as goal
 

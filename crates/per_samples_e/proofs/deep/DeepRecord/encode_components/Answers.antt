@@ -1,6 +1,5 @@
 use Rattle.std.proofs.Common.{ap, rules, ◌∙◌}
-use Rattle.rasn_types.specs.Values.{same}
-use Rattle.rasn_schema.specs.Components.{sequence_value}
+use Rattle.rasn_below.specs.Values.{same, sequence_value}
 use Rattle.per_samples_e.specs.Deeps.{nest_with}
 use Rattle.per_samples_e.specs.Nests.{nest_contents}
 use Rattle.per_samples_e.proofs.Alone.{alone_normal, alone_written}

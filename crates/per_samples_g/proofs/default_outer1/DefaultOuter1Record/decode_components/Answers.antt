@@ -1,7 +1,7 @@
 use Rattle.std.proofs.Common.{rules}
 use Rattle.std.proofs.lemmas.Result.{err_from_is_err_and}
-use Rattle.rasn_calls.specs.Scopes.{reads_end, reads_next}
-use Rattle.rasn_calls.proofs.Reading.{fails_part}
+use Rattle.rasn_below.specs.Calls.{reads_end, reads_next}
+use Rattle.rasn_below.proofs.Reading.{fails_part}
 use Rattle.per_samples_g.specs.Defaults.{true_false}
 use Rattle.per_samples_g.proofs.default_outer1.DefaultOuter1Record.decode_components.Goals as goal
 

@@ -1,5 +1,5 @@
 use Rattle.std.proofs.Common.{ap, rules, ◌∙◌}
-use Rattle.rasn_types.specs.Values.{same}
+use Rattle.rasn_below.specs.Values.{same}
 use Rattle.per_samples_f.specs.declared.outer3.Outer3.{Outer3}
 use Rattle.per_samples_g.specs.Defaults.{true_false_alone}
 use Rattle.per_samples_g.proofs.Alone.{alone_normal, alone_written}

@@ -1,8 +1,8 @@
 use Rattle.std.proofs.Common.{sym, subst}
-use Rattle.rasn_types.specs.Values.{truth}
-use Rattle.rasn_schema.specs.Schemas.{Schema}
-use Rattle.rasn_set_calls.specs.Components.{ItemAnswered}
-use Rattle.rasn_set_calls.proofs.Callers.{item_answered, set_read_each}
+use Rattle.rasn_below.specs.Values.{truth}
+use Rattle.rasn_below.specs.Types.{Schema}
+use Rattle.rasn_below.specs.Calls.{ItemAnswered}
+use Rattle.rasn_below.proofs.Reading.{item_answered, set_read_each}
 use Rattle.per_samples_k.proofs.ByItem.{is_boolean, made, none_behind, place, slot}
 use Rattle.per_samples_k.proofs.set_each.SetEachDecode.decode_with_tag_and_constraints.Goals as goal
 

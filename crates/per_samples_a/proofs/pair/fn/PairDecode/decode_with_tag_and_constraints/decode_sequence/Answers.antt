@@ -3,8 +3,8 @@ use mir.Val.{SFits}
 use Rattle.std.proofs.Common.{rules, ◌∙◌}
 use Rattle.std.proofs.lemmas.Int.{to_z-of_z}
 use Rattle.std.proofs.lemmas.Result.{err_from_is_err_and}
-use Rattle.rasn_calls.specs.Scopes.{reads_required, reads_end}
-use Rattle.rasn_calls.proofs.Reading.{fails_required, fails_behind, required_read}
+use Rattle.rasn_below.specs.Calls.{reads_required, reads_end}
+use Rattle.rasn_below.proofs.Reading.{fails_required, fails_behind, required_read}
 use Rattle.per_samples_a.proofs.pair.fn.PairDecode.decode_with_tag_and_constraints.decode_sequence.Goals as goal
 
 pub returns-in_err-a : goal.returns-in_err-a

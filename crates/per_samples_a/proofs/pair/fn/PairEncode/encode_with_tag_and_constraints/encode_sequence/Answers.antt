@@ -1,7 +1,7 @@
 use Rattle.std.proofs.Common.{arith, ◌∙◌}
 use Rattle.std.proofs.lemmas.Result.{err_from_is_err_and}
-use Rattle.rasn_schema.specs.Normal.{normal, settle}
-use Rattle.rasn_calls.proofs.Writing.{required_refused, required_written, last_written}
+use Rattle.rasn_below.specs.Types.{normal, settle}
+use Rattle.rasn_below.proofs.Writing.{required_refused, required_written, last_written}
 use Rattle.per_samples_a.proofs.pair.fn.PairEncode.encode_with_tag_and_constraints.encode_sequence.Goals as goal
 
 pub returns-in_err-encode_with_tag : goal.returns-in_err-encode_with_tag

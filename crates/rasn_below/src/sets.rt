@@ -1,0 +1,27 @@
+//! What an author's list of the components of a SET is handed to. Its lines are those of a SEQUENCE's list, and stand in
+//! ascending order of the components' smallest tags (X.680 8.6): the order in which they are written (X.691 21.1).
+
+/// Writes the components of a list in turn. Their fields are in the constant `FIELDS`, their constraints in `BOUNDS`.
+#[macro_export]
+macro_rules! encode_set_components {
+    ([$of:ident $encoder:ident] $($list:tt)*) => {
+        $crate::ordered::write_all(
+            $of,
+            &$crate::listed!($crate::cells_to_write!($of $($list)*)),
+            $encoder,
+        )
+    };
+}
+
+/// Reads the components of a list in turn. Their fields are in the constant `FIELDS`, their constraints in `BOUNDS`.
+#[macro_export]
+macro_rules! decode_set_components {
+    ([$decoder:ident] $(
+        $presence:ident $tag:literal $(of $tree:ident)? $name:literal
+        $field:ident: $type:ty [$($bounds:tt)*];
+    )*) => {{
+        let cells = $crate::listed!($crate::cells_to_read!($($presence $type [$($bounds)*];)*));
+        let $crate::pairs!($($field)*) = $crate::ordered::read_all::<Self, _, _>(&cells, $decoder)?;
+        Ok(Self { $($field),* })
+    }};
+}
