@@ -3,6 +3,7 @@
 
 pub mod answer;
 pub mod arguments;
+pub mod environment;
 pub mod fault;
 mod line;
 mod output;
