@@ -6,8 +6,14 @@
 //! of that is printed. `docs/TYPES.md` has the types.
 #![tactic(auto)]
 
-use per_lines::environment::words;
+ghost use Rattle.std.specs.Prelude.{◌≡◌, ◌⊎◌, IfErr};
+ghost use Rattle.per_lines.specs.declared.fault.Fault.TheVariants.{OutOfMemory, WrongArguments};
+
+use per_lines::fault::Fault;
 use per_lines::run::run;
+use std::alloc::AllocError;
+use std::env;
+use std::env::Env;
 use std::io::Input;
 use std::process::ExitCode;
 
@@ -24,4 +30,17 @@ fn main(rt: HostRuntime) -> ExitCode {
         Err(fault) => fault.report(&mut faults),
     };
     ExitCode::from(status)
+}
+
+/// The words after the program's name. Words that are no text are wrong arguments.
+fn words(rt: &(impl Env + AllocGlobal)) -> Result<Vec<String>, Fault>
+    ensures { IfErr result (λ f. (f ≡ OutOfMemory) ⊎ (f ≡ WrongArguments)) }
+{
+    let all = env::args(rt).map_err(|error| Fault::of_io(&error, Fault::WrongArguments))?;
+    // Not `collect`, which goes on where the room that it asks for at first is refused.
+    let mut words = Vec::new(rt.alloc());
+    for word in all.skip(1) {
+        words.push(word).map_err(AllocError::from)?;
+    }
+    Ok(words)
 }

@@ -3,7 +3,6 @@
 
 pub mod answer;
 pub mod arguments;
-pub mod environment;
 pub mod fault;
 mod line;
 mod output;
