@@ -2,7 +2,7 @@
 use Rattle.std.proofs.Common.{◌≡◌, ◌≤◌, arith, nat_lt, Box, Global, refl, sym, ap, subst, ◌∙◌, ℕ, zero, suc, Bool, true, false, cond, eq-eqb, eqb-true, nat_eq, List, [], ◌∷◌, Option, Some, None}
 use Rattle.rasn_below.specs.Values.{Value, same, code, equal_lists, sequence_value, slot_of}
 use Rattle.rasn_below.specs.Types.{sequence_at, normal, settle}
-use Rattle.per_core.proofs.Codes.{same_true}
+use Rattle.rasn_below.proofs.Values.{same_true}
 use Rattle.per_samples_e.specs.declared.nest.Nest.{Nest, Nest', None', Some'}
 use Rattle.per_samples_e.specs.declared.nest.Nest.TheViews.{out-Nest, roll-Nest}
 use Rattle.per_samples_e.proofs.Contents.{contents_of, contents_read}

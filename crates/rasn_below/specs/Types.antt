@@ -8,8 +8,7 @@ pub use Rattle.rasn_schema.specs.Schemas.{Schema, cut, boolean, listed, by_tag}
 pub use Rattle.rasn_schema.specs.Schemas.{Parts, no_parts, part, Presence, required, optional, default}
 pub use Rattle.rasn_schema.specs.Schemas.{TagTree, leaf, one_of, no_trees, tree}
 unfoldable pub use Rattle.rasn_schema.specs.Schemas.{smallest, least_of}
-unfoldable pub use Rattle.rasn_schema.specs.Normal.{normal, settle, over_bag}
-pub use Rattle.rasn_schema.specs.Normal.{normals}
+unfoldable pub use Rattle.rasn_schema.specs.Normal.{normal, normals, settle, over_bag}
 pub use Rattle.rasn_schema.specs.Forms.{always, number_schema, octet_schema, bit_schema, character_schema}
 pub use Rattle.rasn_schema.specs.Levels.{Levelled, no_level, simple_levelled, part_levelled, parts_levelled, record_levelled, to_no_parts, to_part, to_sequence}
 pub use Rattle.rasn_schema.specs.Tags.{choice_tag, sequence_tag}

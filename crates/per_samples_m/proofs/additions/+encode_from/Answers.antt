@@ -1,8 +1,8 @@
 use Rattle.std.proofs.Common.{◌≡◌, ◌+◌, suc, arith, rules}
 use Rattle.std.proofs.lemmas.List.{nil_from_length}
 use Rattle.std.proofs.lemmas.Result.{err_from_is_err_and}
-use Rattle.rasn_schema.specs.Normal.{normals}
 use Rattle.rasn_below.specs.Calls.{presents_no_more}
+use Rattle.rasn_below.specs.Types.{normals}
 use Rattle.rasn_below.proofs.Writing.{addition_normal, addition_refused, addition_written}
 use Rattle.per_samples_m.proofs.Truths.{takes_no_level}
 use Rattle.per_samples_m.proofs.additions.+encode_from.Goals as goal
