@@ -54,6 +54,14 @@ module _ {C : Type 0} {holds : C → C → List ℕ → Type 0} {why : Reason} {
       → TakesItems holds why form before x r after y
   takes_last_items {r = r} a e f g = record { ok = IfOk-weaker r _ _ f a.ok; err = IfErr-weaker r _ _ g a.err; kept = a.kept ∙ e }
 
+-- a call from where another one began
+pub from_start : {T X : Type 0} {why : Reason} {form : Settings → X → Spelling} {of : (X → Type 0) → T → Type 0} {x m y : State} {r : Result T DecodeErrorKind}
+    → m.bits ≡ x.bits → m.options ≡ x.options → Takes why form of m r y → Takes why form of x r y
+from_start {why = why} {form} {of} {x} {m} {y} {r} e f h = subst (λ z. Takes why form of z r y) same h
+  where
+    same : m ≡ x
+    same = ap (λ b. record { bits = b; options = m.options }) e ∙ ap (λ o. record { bits = x.bits; options = o }) f
+
 -- a refusal that is handed on, as itself
 pub errs : {T E : Type 0} (r : Result T E) (k : E) → IsErrAnd r (λ e. e ≡ k) → r ≡ Err k
 errs (Ok v) k h = absurd h

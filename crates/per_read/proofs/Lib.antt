@@ -6,6 +6,7 @@ pub mod Forms
 pub mod Naturals
 pub mod OneByOne
 pub mod Parts
+pub mod ReadAsField
 pub mod OpenLists
 pub mod Openings
 pub mod Under

@@ -1,9 +1,10 @@
 -- Items of as many bits each, read one after the other.
-use Rattle.std.proofs.Common.{Bool, true, false, map, zero, ◌/◌, ap₂, take, drop, replicate, length-take, length-drop, Vec, Global, ◌≡◌, ◌<◌, ◌≤◌, ℕ, suc, ◌+◌, ◌*◌, List, [], ◌∷◌, ◌++◌, length, refl, sym, ◌∙◌, ap, subst, arith, append_assoc, length-append}
-use Rattle.std.proofs.Math.Nat.{mul-suc, mul-le-mul_left}
+use Rattle.std.proofs.Common.{Bool, true, false, map, zero, ◌/◌, ap₂, take, drop, replicate, length-take, length-drop, Vec, Global, ◌≡◌, ◌<◌, ◌≤◌, ℕ, suc, ◌+◌, ◌-◌, ◌*◌, ◌%◌, ◌^◌, List, [], ◌∷◌, ◌++◌, length, refl, sym, ◌∙◌, ap, subst, arith, append_assoc, length-append, pow_mono}
+use Rattle.std.proofs.Math.Nat.{mul-add, mul-suc, mul-le-mul_left}
 use Rattle.std.proofs.lemmas.List.{take_all, take-append-drop, take-append-le, append-nil, length-map, map-append}
-use Rattle.rasn_types.specs.Bits.{Bits, number_of, pack}
+use Rattle.rasn_types.specs.Bits.{Bits, number_of, pack, to_bits}
 use Rattle.rasn_types.specs.Packed.{packed}
+use Rattle.rasn_types.proofs.Bits.{length-to_bits, number_below, number-to_bits, to_bits-number, to_bits-split}
 use Rattle.rasn_types.proofs.Octets.{length-pack}
 use Rattle.per_core.specs.Writers.{after}
 use Rattle.per_core.specs.Spellings.{Field, Spelling}
@@ -31,9 +32,20 @@ module _ (w : ℕ) where
       let l : length s ≡ length q.1.front + length q.0 = ap length q.1.joins ∙ length-append q.1.front q.0 in
       omega (arith, q.1.spelled.wide, items_wide xs q.2, mul-suc w (length xs))
 
+  items_far : (xs ys : List ℕ) {s m t : Bits} → Took (OneByOne (Field w) xs) s m → Took (OneByOne (Field w) ys) m t → Took (OneByOne (Field w) (xs ++ ys)) s t
+  items_far [] ys {t = t} a b = subst (λ z. Took (OneByOne (Field w) ys) z t) (sym (nothing_took a)) b
+  items_far (x ∷ xs) ys a b = let q = then_took a in took_then q.1 (items_far xs ys q.2 b)
+
   items_more : (xs : List ℕ) (x : ℕ) {s m t : Bits} → Took (OneByOne (Field w) xs) s m → Took (Field w x) m t → Took (OneByOne (Field w) (xs ++ x ∷ [])) s t
-  items_more [] x {s} {m} {t} a b = subst (λ z. Took (OneByOne (Field w) (x ∷ [])) z t) (sym (nothing_took a)) (took_then b (took_nothing t))
-  items_more (y ∷ xs) x a b = let q = then_took a in took_then q.1 (items_more xs x q.2 b)
+  items_more xs x {t = t} a b = items_far xs (x ∷ []) a (took_then b (took_nothing t))
+
+-- with what stands behind the items
+pub took_within : (w : ℕ) {front s t : Bits} (codes : List ℕ) → Took (OneByOne (Field w) codes) front [] → s ≡ front ++ t → Took (OneByOne (Field w) codes) s t
+took_within w {front} {s} {t} codes h e = record {
+  front = h.front;
+  joins = e ∙ ap (λ z. z ++ t) (h.joins ∙ append-nil h.front);
+  spelled = items_anywhere w codes (place front) (place s) h.front h.spelled;
+}
 
 -- items that were appended one after the other
 pub adds_none : {C : Type 0} (holds : C → C → List ℕ → Type 0) (items : C) → Adds holds items [] items
@@ -74,6 +86,22 @@ first_go_on {w = w} {here = here} {rest} {i = i} x h k a b = record {
   took = items_more w h.these x h.took a;
 }
 
+-- with all that a word has
+pub first_go_far : {C : Type 0} {holds : C → C → List ℕ → Type 0} {w : ℕ} {front here word rest : Bits} {before items more : C} {i n count : ℕ} → FirstItems holds w front here before items i count → i + n ≤ count
+    → here ≡ word ++ rest → length word ≡ w * n → TookItems holds (OneByOne (Field w)) n items more word [] → FirstItems holds w front rest before more (i + n) count
+first_go_far {w = w} {word = word} {rest} {i = i} {n} h k e l b = record {
+  these = h.these ++ b.codes;
+  many = omega (arith, h.many, b.count, length-append h.these b.codes);
+  within = k;
+  added = adds_more h.added b.added;
+  left = omega (arith, h.left, l, ap length e, length-append word rest, mul-add w i n);
+  took = items_far w h.these b.codes h.took (took_within w b.codes b.took e);
+}
+
+-- the items of a word are left
+pub word_left : {C : Type 0} {holds : C → C → List ℕ → Type 0} {w : ℕ} {front here : Bits} {before items : C} {i count : ℕ} (n : ℕ) → FirstItems holds w front here before items i count → i + n ≤ count → w * n ≤ length here
+word_left {w = w} {i = i} n h k = omega (arith, h.left, mul-add w i n, mul-le-mul_left {m = i + n} w k)
+
 -- there is a further one
 pub one_more_left : {C : Type 0} {holds : C → C → List ℕ → Type 0} {w : ℕ} {front here : Bits} {before items : C} {i count : ℕ} → FirstItems holds w front here before items i count → i < count → w ≤ length here
 one_more_left {w = w} {i = i} h k = omega (arith, h.left, mul-suc w i, mul-le-mul_left {m = suc i} w k)
@@ -97,12 +125,7 @@ first_end {w = w} {front} {here} {s} {t} {i = i} h l e =
 
 -- with what stands behind the items
 pub items_within : {C : Type 0} {holds : C → C → List ℕ → Type 0} {w : ℕ} {front s t : Bits} {before items : C} {count : ℕ} → TookItems holds (OneByOne (Field w)) count before items front [] → s ≡ front ++ t → TookItems holds (OneByOne (Field w)) count before items s t
-items_within {w = w} {front} {s} {t} h e = record {
-  codes = h.codes;
-  count = h.count;
-  added = h.added;
-  took = record { front = h.took.front; joins = e ∙ ap (λ z. z ++ t) (h.took.joins ∙ append-nil h.took.front); spelled = items_anywhere w h.codes (place front) (place s) h.took.front h.took.spelled };
-}
+items_within {w = w} h e = record { codes = h.codes; count = h.count; added = h.added; took = took_within w h.codes h.took e }
 
 -- an item that was taken
 pub field_taken : (w x : ℕ) (s item t : Bits) → s ≡ item ++ t → length item ≡ w → x ≡ number_of (take w item) → Took (Field w x) s t
@@ -110,6 +133,23 @@ field_taken w x s item t e l n = record {
   front = item;
   joins = e;
   spelled = record { wide = l; means = sym (n ∙ ap number_of (take_all w item (omega arith))) };
+}
+
+-- the bits of a word, as the number that they mean
+pub word_bits : (word : Bits) (l n : ℕ) → l ≡ length word → n ≡ number_of (take l word) → to_bits l n ≡ word
+word_bits word l n e h = ap₂ (λ (k m : ℕ). to_bits k m) e (h ∙ ap number_of (take_all l word (omega arith))) ∙ to_bits-number word
+
+pub word_below : (word : Bits) (l n : ℕ) → l ≡ length word → n ≡ number_of (take l word) → length word ≤ 56 → n < 2 ^ 56
+word_below word l n e h few =
+    let i : n ≡ number_of word = h ∙ ap number_of (take_all l word (omega arith)) in
+    omega (arith, i, number_below word, pow_mono {i = length word} {j = 56} few)
+
+-- the next item of a word
+pub field_between : (w l n x : ℕ) → w ≤ l → x ≡ n / 2 ^ (l - w) % 2 ^ w → Took (Field w x) (to_bits l n) (to_bits (l - w) n)
+field_between w l n x h e = record {
+  front = to_bits w (n / 2 ^ (l - w));
+  joins = ap (λ (k : ℕ). to_bits k n) (let i : l ≡ w + (l - w) = omega arith in i) ∙ to_bits-split w (l - w) n;
+  spelled = record { wide = length-to_bits w (n / 2 ^ (l - w)); means = number-to_bits w (n / 2 ^ (l - w)) ∙ sym e };
 }
 
 -- octets one by one

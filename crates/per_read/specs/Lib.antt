@@ -1,6 +1,7 @@
 pub mod Choices
 pub mod Options
 pub mod Enumerations
+pub mod FewOctets
 pub mod Items
 pub mod Kinds
 pub mod Lengths

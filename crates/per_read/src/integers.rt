@@ -73,6 +73,19 @@ impl Reader<'_> {
     fn take_unconstrained_integer<I: IntegerType>(&mut self) -> Result<I, DecodeErrorKind>
         ensures { TakesInteger unbounded false I.range I.number self.old result self.new }
     {
+        let Some(octets) = self.take_few_octets()? else {
+            return self.take_long_integer();
+        };
+        match I::try_from_i128(octets.signed()) {
+            Some(number) => Ok(number),
+            None => Err(DecodeErrorKind::IntegerOverflow(I::WIDTH)),
+        }
+    }
+
+    /// Takes the same, of any count of octets, which are kept in memory.
+    fn take_long_integer<I: IntegerType>(&mut self) -> Result<I, DecodeErrorKind>
+        ensures { TakesInteger unbounded false I.range I.number self.old result self.new }
+    {
         let octets = self.take_octets()?;
         if octets.is_empty() {
             return Err(DecodeErrorKind::UnexpectedEmptyInput);

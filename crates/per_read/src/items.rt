@@ -1,7 +1,7 @@
 //! What is counted in strings, and what gathers it: octets, bits and characters, each of as many bits (X.691 11.9, 16,
 //! 17, 30.5).
 
-ghost use Rattle.std.specs.Prelude.{◌≡◌, ℕ, ◌+◌, ◌*◌, ◌^◌, ◌<◌, ◌≤◌, [], ◌∷◌, List, length, map, true, OnOk};
+ghost use Rattle.std.specs.Prelude.{◌≡◌, ℕ, ◌+◌, ◌*◌, ◌/◌, ◌%◌, ◌^◌, ◌<◌, ◌≤◌, [], ◌∷◌, List, length, map, true, OnOk};
 ghost use Rattle.rasn_types.specs.Alphabets.{has, char_width};
 ghost use Rattle.per_core.specs.Basic.{OneByOne};
 ghost use Rattle.per_core.specs.Items.{bits_of};
@@ -53,13 +53,59 @@ pub(crate) trait Collector {
         ensures count { OnOk result (count self.new ≤ count self.old + many) }
     {
         let width = self.item().width();
+        let most = items_in_word(width as u32);
         let mut left = bits;
-        for _ in 0..many {
-            let item = left.take(width).unwrap();
-            self.push(item.first_bits(width) as u32)?;
+        let mut done = 0;
+        while done < many {
+            let count = most.min(many - done);
+            let word = left.take(width * count as u128).unwrap();
+            self.push_word(word, count)?;
+            done += count;
         }
         Ok(())
     }
+
+    /// Appends the items that the bits of a word are, `many` of them.
+    fn push_word(&mut self, word: BitReader<'_>, many: usize) -> Result<(), AllocError>
+        requires bits { length word ≡ bits_of (item self.old) * many }
+        requires few { length word ≤ WORD_BITS }
+        requires room { count self.old + many ≤ usize.MAX }
+        ensures ok { let form = OneByOne (coded (item self.old)) in
+            OnOk result (TookItems holds form many self.old self.new word.entry []) }
+        ensures item { OnOk result (item self.new ≡ item self.old) }
+        ensures count { OnOk result (count self.new ≤ count self.old + many) }
+    {
+        let width = self.item().width() as u32;
+        let bits = word.len();
+        let number = word.first_bits(bits) as u64;
+        let mut left = bits as u32;
+        for _ in 0..many {
+            left -= width;
+            self.push(number_between(number, left, width))?;
+        }
+        Ok(())
+    }
+}
+
+/// The most bits that are read at once: those of a word less an octet, as the bits of an octet before them may be gone.
+const WORD_BITS: u32 = 56;
+
+/// How many items of so many bits one word has at most; at least one.
+fn items_in_word(width: u32) -> usize
+    requires { width ≤ 16 }
+    ensures some { 0 < result }
+    ensures few { width * result ≤ WORD_BITS }
+{
+    (WORD_BITS / width.max(1)) as usize
+}
+
+/// The number that `width` bits of a word mean, with `behind` others behind them.
+fn number_between(word: u64, behind: u32, width: u32) -> u32
+    requires behind { behind < 64 }
+    requires width { width ≤ 16 }
+    ensures { result ≡ word / 2 ^ behind % 2 ^ width }
+{
+    (word >> behind & ((1 << width) - 1)) as u32
 }
 
 impl Collector for Vec<u8> {

@@ -10,6 +10,7 @@ ghost use Rattle.per_read.specs.Takes.{Row, Takes, short, stopped, itself};
 mod choices;
 mod enumerated;
 pub mod error;
+mod few_octets;
 mod identifiers;
 mod in_place;
 mod integers;

@@ -66,6 +66,16 @@ impl Reader<'_> {
     fn take_unconstrained_whole(&mut self) -> Result<ReadNumber, DecodeErrorKind>
         ensures { Takes (memory_or IsOfOctets) IsUnconstrainedWhole OfRead self.old result self.new }
     {
+        match self.take_few_octets()? {
+            Some(octets) => Ok(ReadNumber::Held(octets.signed())),
+            None => self.take_long_whole(),
+        }
+    }
+
+    /// Takes the same, of any count of octets, which are kept in memory.
+    fn take_long_whole(&mut self) -> Result<ReadNumber, DecodeErrorKind>
+        ensures { Takes (memory_or IsOfOctets) IsUnconstrainedWhole OfRead self.old result self.new }
+    {
         let octets = self.take_octets()?;
         if octets.is_empty() {
             return Err(DecodeErrorKind::UnexpectedEmptyInput);
@@ -76,6 +86,16 @@ impl Reader<'_> {
     /// Takes a number above a lower bound: an unconstrained length and the octets of the number without sign, one or
     /// more (X.691 11.7). Superfluous leading octets are taken. `None` is a number that no `u128` holds.
     fn take_semi_constrained_whole(&mut self) -> Result<Option<u128>, DecodeErrorKind>
+        ensures { Takes (memory_or IsOfOctets) IsSemiConstrainedWhole OfNatural self.old result self.new }
+    {
+        match self.take_few_octets()? {
+            Some(octets) => Ok(Some(octets.number)),
+            None => self.take_long_natural(),
+        }
+    }
+
+    /// Takes the same, of any count of octets, which are kept in memory.
+    fn take_long_natural(&mut self) -> Result<Option<u128>, DecodeErrorKind>
         ensures { Takes (memory_or IsOfOctets) IsSemiConstrainedWhole OfNatural self.old result self.new }
     {
         let octets = self.take_octets()?;

@@ -1,24 +1,22 @@
-use Rattle.std.proofs.Common.{◌≡◌, ◌<◌, inr, arith, sym, length}
-use Rattle.std.proofs.lemmas.Bool.Decides.{nat_tests}
-use Rattle.per_read.proofs.Calls.{answers, refuses, passes_on}
-use Rattle.per_read.proofs.OneByOne.{no_more}
-use Rattle.per_read.proofs.Refusals.{faulty_map, tested_octets}
-use Rattle.per_read.proofs.Unbounded.{none_there}
-use Rattle.per_read.proofs.Naturals.{no_length_no_natural, no_octets_no_natural, natural_of}
+use Rattle.std.proofs.Common.{◌<◌, Some, inr, sym, arith, length}
+use Rattle.per_read.proofs.Calls.{answers, from_start, passes_on}
+use Rattle.per_read.proofs.Naturals.{no_length_no_natural, natural_of}
+use Rattle.per_read.proofs.Refusals.{tested_octets}
 use Rattle.per_read.proofs.Reader.take_semi_constrained_whole.Goals as goal
 
 pub returns-in_err-octets : goal.returns-in_err-octets
 returns-in_err-octets c =
-    passes_on _ _ c.from_residual.ensures.1 c.in_err-octets.ensures.kept (faulty_map _ (tested_octets _ _ _) (no_length_no_natural _ _) c.in_err-octets.ensures.err)
+    let h = c.in_err-octets.ensures in
+    passes_on _ _ c.from_residual.ensures.1 h.kept (inr (tested_octets _ _ _ h.err.0, no_length_no_natural _ _ h.err.1))
 
-pub returns-then-is_empty : goal.returns-then-is_empty
-returns-then-is_empty c =
-    let l : length c.in_ok-octets.octets.items ≡ 0 = grind (arith, nat_tests) in
-    let e = no_more c.in_ok-octets.octets.items l in
-    let b = c.in_ok-octets.ensures.ok in
-    refuses _ c.in_ok-octets.ensures.kept (inr ((_, none_there _ _ _ _ b e), no_octets_no_natural _ _ _ _ b e))
+pub returns-in-Some : goal.returns-in-Some
+returns-in-Some c =
+    let h = c.in_ok-octets.ensures in
+    let few = rw c.in-Some.is at h.ok in
+    let some : 0 < length few.octets = omega (arith, few.are.count, few.are.some) in
+    answers _ h.kept (natural_of _ _ few.octets (Some c.in-Some.octets.number) _ few.took some (sym few.are.means))
 
-pub returns : goal.returns
-returns c =
-    let l : 0 < length c.in_ok-octets.octets.items = grind (arith, nat_tests) in
-    answers _ c.in_ok-octets.ensures.kept (natural_of _ _ c.in_ok-octets.octets.items _ _ c.in_ok-octets.ensures.ok l (rw (sym c.deref.ensures.value) c.natural_of_octets.ensures))
+pub returns-in-None : goal.returns-in-None
+returns-in-None c =
+    let h = c.in_ok-octets.ensures in
+    from_start (rw c.in-None.is at h.ok) h.kept c.take_long_natural.ensures

@@ -1,34 +1,41 @@
-use Rattle.std.proofs.Common.{◌≡◌, ◌<◌, inr, arith, sym, ap, ◌∙◌, length}
-use Rattle.std.proofs.lemmas.Bool.Decides.{nat_tests}
-use Rattle.rasn_types.specs.Octets.{signed}
+use Rattle.std.proofs.Common.{◌∙◌, ◌<◌, inr, sym, ap, arith, length, FitsSigned}
+use Rattle.std.specs.Int.{w128}
+use Rattle.std.proofs.lemmas.Int.{to_z-of_z}
 use Rattle.rasn_constraints.specs.Bounds.{holds}
-use Rattle.per_read.proofs.Calls.{answers, refuses, passes_on}
-use Rattle.per_read.proofs.OneByOne.{no_more}
-use Rattle.per_read.proofs.Refusals.{faulty_map, tested_number}
-use Rattle.per_read.proofs.Unbounded.{no_length_no_number, no_octets_no_number, out_of_range_no_number, none_there, octets_number}
+use Rattle.per_read.proofs.Calls.{answers, from_start, refuses, passes_on}
+use Rattle.per_read.proofs.Refusals.{tested_number}
+use Rattle.per_read.proofs.Unbounded.{no_length_no_number, octets_number, out_of_range_no_number}
 use Rattle.per_read.proofs.Reader.take_unconstrained_integer.Goals as goal
 
 pub returns-in_err-octets : goal.returns-in_err-octets
 returns-in_err-octets g c =
     let h = c.in_err-octets.ensures in
-    passes_on _ _ c.from_residual.ensures.1 h.kept (faulty_map _ (tested_number _ _ _ _ _) (no_length_no_number _ _ _) h.err)
+    passes_on _ _ c.from_residual.ensures.1 h.kept (inr (tested_number _ _ _ _ _ h.err.0, no_length_no_number _ _ _ h.err.1))
 
-pub returns-then-is_empty : goal.returns-then-is_empty
-returns-then-is_empty g c =
-    let l : length c.in_ok-octets.octets.items ≡ 0 = grind (arith, nat_tests) in
-    let e = no_more c.in_ok-octets.octets.items l in
-    let b = c.in_ok-octets.ensures in
-    refuses _ b.kept (inr (record { rest = _; took = none_there _ _ _ _ b.ok e }, no_octets_no_number _ _ _ _ _ b.ok e))
+pub returns-in_default : goal.returns-in_default
+returns-in_default g c =
+    let h = c.in_ok-octets.ensures in
+    from_start (rw c.in_default.is at h.ok) h.kept c.take_long_integer.ensures
 
-pub returns-in-Some : goal.returns-in-Some
-returns-in-Some g c =
-    let l : 0 < length c.in_ok-octets.octets.items = grind (arith, nat_tests) in
-    let h = rw c.in-Some.is at c.in_ok-number.ensures in
-    let b = c.in_ok-octets.ensures in
-    answers _ b.kept (octets_number _ _ _ _ _ _ b.ok l (ap signed (sym c.deref.ensures.value) ∙ sym h.0) h.1)
+pub signed-requires : goal.signed-requires
+signed-requires g c =
+    let few = rw c.in-Some.is at c.in_ok-octets.ensures.ok in
+    (few.octets, few.are)
 
-pub returns : goal.returns
-returns g c =
-    let h = rw c.in-None.is at c.in_ok-number.ensures in
-    let b = c.in_ok-octets.ensures in
-    refuses _ b.kept (inr (tt, out_of_range_no_number _ _ _ _ _ b.ok (ap (λ z. holds g.I.IntegerType.range (signed z)) (sym c.deref.ensures.value) ∙ h)))
+pub returns-in-None : goal.returns-in-None
+returns-in-None g c =
+    let h = c.in_ok-octets.ensures in
+    let few = rw c.in-Some.is at h.ok in
+    let fits : FitsSigned w128 c.signed.result = record { sfits = c.signed.type_inv } in
+    let e = to_z-of_z w128 c.signed.result fits ∙ c.signed.ensures few.octets few.are in
+    refuses _ h.kept (inr (tt, out_of_range_no_number _ _ _ _ _ few.took (ap (λ z. holds g.I.IntegerType.range z) (sym e) ∙ c.in-None.ensures)))
+
+pub returns-in-Some-try_from_i128 : goal.returns-in-Some-try_from_i128
+returns-in-Some-try_from_i128 g c =
+    let h = c.in_ok-octets.ensures in
+    let few = rw c.in-Some.is at h.ok in
+    let fits : FitsSigned w128 c.signed.result = record { sfits = c.signed.type_inv } in
+    let e = to_z-of_z w128 c.signed.result fits ∙ c.signed.ensures few.octets few.are in
+    let held = rw c.in-Some-try_from_i128.is at c.try_from_i128.ensures in
+    let some : 0 < length few.octets = omega (arith, few.are.count, few.are.some) in
+    answers _ h.kept (octets_number _ _ _ few.octets _ _ few.took some (sym (held.0 ∙ e)) held.1)

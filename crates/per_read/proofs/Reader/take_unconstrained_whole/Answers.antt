@@ -1,25 +1,33 @@
-use Rattle.std.proofs.Common.{◌≡◌, ◌<◌, inr, sym, arith, length}
-use Rattle.std.proofs.lemmas.Bool.Decides.{nat_tests}
+use Rattle.std.proofs.Common.{◌∙◌, ◌<◌, inr, arith, length, FitsSigned, to_z, of_z}
+use Rattle.std.specs.Int.{w128}
+use Rattle.std.proofs.lemmas.Int.{to_z-of_z}
 use Rattle.per_read.specs.State.{settings_of}
-use Rattle.per_read.proofs.Calls.{answers, refuses, passes_on}
-use Rattle.per_read.proofs.OneByOne.{no_more}
-use Rattle.per_read.proofs.Refusals.{faulty_map, tested_octets}
-use Rattle.per_read.proofs.Unbounded.{none_there}
-use Rattle.per_read.proofs.Under.{no_length_no_whole, no_octets_no_whole, octets_whole}
+use Rattle.per_read.specs.declared.numbers.ReadNumber.TheVariants.{Held}
+use Rattle.per_read.proofs.Calls.{answers, from_start, passes_on}
+use Rattle.per_read.proofs.Refusals.{tested_octets}
+use Rattle.per_read.proofs.Under.{no_length_no_whole, octets_whole}
 use Rattle.per_read.proofs.Reader.take_unconstrained_whole.Goals as goal
 
 pub returns-in_err-octets : goal.returns-in_err-octets
 returns-in_err-octets c =
-    passes_on _ _ c.from_residual.ensures.1 c.in_err-octets.ensures.kept (faulty_map _ (tested_octets _ _ _) (no_length_no_whole _ _) c.in_err-octets.ensures.err)
+    let h = c.in_err-octets.ensures in
+    passes_on _ _ c.from_residual.ensures.1 h.kept (inr (tested_octets _ _ _ h.err.0, no_length_no_whole _ _ h.err.1))
 
-pub returns-then-is_empty : goal.returns-then-is_empty
-returns-then-is_empty c =
-    let l : length c.in_ok-octets.octets.items ≡ 0 = grind (arith, nat_tests) in
-    let e = no_more c.in_ok-octets.octets.items l in
-    let b = c.in_ok-octets.ensures.ok in
-    refuses _ c.in_ok-octets.ensures.kept (inr ((_, none_there _ _ _ _ b e), no_octets_no_whole _ _ _ _ b e))
+pub signed-requires : goal.signed-requires
+signed-requires c =
+    let few = rw c.in-Some.is at c.in_ok-octets.ensures.ok in
+    (few.octets, few.are)
 
-pub returns : goal.returns
-returns c =
-    let l : 0 < length c.in_ok-octets.octets.items = grind (arith, nat_tests) in
-    answers _ c.in_ok-octets.ensures.kept (octets_whole (settings_of c.args.self.now) _ c.in_ok-octets.octets.items _ c.in_ok-octets.ensures.ok l c.number_of_octets.result (rw (sym c.deref.ensures.value) c.number_of_octets.ensures))
+pub returns-in-Some : goal.returns-in-Some
+returns-in-Some c =
+    let h = c.in_ok-octets.ensures in
+    let few = rw c.in-Some.is at h.ok in
+    let some : 0 < length few.octets = omega (arith, few.are.count, few.are.some) in
+    let fits : FitsSigned w128 c.signed.result = record { sfits = c.signed.type_inv } in
+    let e = to_z-of_z w128 c.signed.result fits ∙ c.signed.ensures few.octets few.are in
+    answers _ h.kept (octets_whole (settings_of c.args.self.now) _ few.octets _ few.took some (Held (to_z w128 (of_z w128 c.signed.result))) e)
+
+pub returns-in-None : goal.returns-in-None
+returns-in-None c =
+    let h = c.in_ok-octets.ensures in
+    from_start (rw c.in-None.is at h.ok) h.kept c.take_long_whole.ensures

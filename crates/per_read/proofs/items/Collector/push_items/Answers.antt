@@ -1,49 +1,61 @@
-use Rattle.std.proofs.Common.{◌≡◌, ◌∙◌, ◌*◌, ◌^◌, ◌<◌, [], length, arith, ap, refl, sym, subst, ℕ, rules, pow_mono}
+use Rattle.std.proofs.Common.{◌≡◌, ◌∙◌, ◌*◌, [], length, arith, ap, refl, sym, subst, ℕ, rules}
+use Rattle.std.proofs.Math.Nat.{mul-le-mul_left}
 use Rattle.std.proofs.lemmas.List.{append-nil}
 use Rattle.per_core.specs.Items.{bits_of}
-use Rattle.per_read.specs.Items.{TookItems}
 use Rattle.per_core.specs.Basic.{OneByOne}
 use Rattle.per_core.specs.Spellings.{Field}
-use Rattle.per_read.proofs.Fields.{field_below}
-use Rattle.per_read.proofs.OneByOne.{field_taken, one_more_left, first_begin, first_go_on, first_end}
+use Rattle.per_read.specs.Items.{TookItems}
+use Rattle.per_read.proofs.OneByOne.{first_begin, first_end, first_go_far, word_left}
 use Rattle.per_read.proofs.items.Collector.push_items.Goals as goal
 
-pub loop-init : goal.loop-init
-loop-init g c =
+pub loop-done-init : goal.loop-done-init
+loop-done-init g c =
     let e : c.width-width.result ≡ bits_of (g.Self.Collector.item c.args.self.now) = c.width-width.ensures ∙ ap bits_of c.item.ensures.item in
-    (first_begin g.Self.Collector.holds c.width-width.result c.args.bits c.args.self.now c.args.many (subst (λ (w : ℕ). length c.args.bits ≡ w * c.args.many) (sym e) c.requires.bits), refl, omega arith)
+    record {
+      first = first_begin g.Self.Collector.holds c.width-width.result c.args.bits c.args.self.now c.args.many (subst (λ (w : ℕ). length c.args.bits ≡ w * c.args.many) (sym e) c.requires.bits);
+      same = refl;
+      few = omega arith;
+    }
 
-pub unwrap-item-requires : goal.unwrap-item-requires
-unwrap-item-requires g c = let l = one_more_left c.loop.invariant.0 c.loop-test.true in search rules
+pub overflow_mul-width : goal.overflow_mul-width
+overflow_mul-width g c = omega (arith, c.items_in_word-most.ensures.few, mul-le-mul_left {m = c.min-count.result} {n = c.items_in_word-most.result} c.width-width.result (omega arith))
 
-pub overflow_cast-first_bits : goal.overflow_cast-first_bits
-overflow_cast-first_bits g c =
-    let taken = rw c.unwrap-item.ensures at c.take.ensures in
-    let f = field_taken c.width-width.result c.first_bits.result c.loop.left c.unwrap-item.result c.take.new.self taken.ok taken.count c.first_bits.ensures in
-    omega (arith, field_below f, pow_mono {i = c.width-width.result} {j = 16} (omega (arith, c.width-width.ensures, c.item.ensures.few)))
+pub unwrap-word-requires : goal.unwrap-word-requires
+unwrap-word-requires g c =
+    let l = word_left c.min-count.result c.loop-done.invariant.first (omega arith) in
+    search rules
 
--- the width of the items, which stay what they are
-pub push-requires-clause-few : goal.push-requires-clause-few
-push-requires-clause-few g c =
-    let taken = rw c.unwrap-item.ensures at c.take.ensures in
-    let f = field_taken c.width-width.result c.first_bits.result c.loop.left c.unwrap-item.result c.take.new.self taken.ok taken.count c.first_bits.ensures in
-    let e : c.width-width.result ≡ bits_of (g.Self.Collector.item c.loop.self) = c.width-width.ensures ∙ ap bits_of (c.item.ensures.item ∙ sym c.loop.invariant.1) in
-    subst (λ (w : ℕ). c.first_bits.result < 2 ^ w) e (field_below f)
+-- the items stay what they are
+pub push_word-requires-clause-bits : goal.push_word-requires-clause-bits
+push_word-requires-clause-bits g c =
+    let taken = rw c.unwrap-word.ensures at c.take.ensures in
+    let e : c.width-width.result ≡ bits_of (g.Self.Collector.item c.loop-done.self) = c.width-width.ensures ∙ ap bits_of (c.item.ensures.item ∙ sym c.loop-done.invariant.same) in
+    taken.count ∙ ap (λ (w : ℕ). w * c.min-count.result) e
 
-pub push-requires-clause-room : goal.push-requires-clause-room
-push-requires-clause-room g c = omega (arith, c.loop.invariant.2, c.loop-test.true, c.requires.room)
+pub push_word-requires-clause-few : goal.push_word-requires-clause-few
+push_word-requires-clause-few g c =
+    let taken = rw c.unwrap-word.ensures at c.take.ensures in
+    omega (arith, taken.count, c.items_in_word-most.ensures.few, mul-le-mul_left {m = c.min-count.result} {n = c.items_in_word-most.result} c.width-width.result (omega arith))
 
-pub loop-preserved : goal.loop-preserved
-loop-preserved g c =
-    let taken = rw c.unwrap-item.ensures at c.take.ensures in
-    let f = field_taken c.width-width.result c.first_bits.result c.loop.left c.unwrap-item.result c.take.new.self taken.ok taken.count c.first_bits.ensures in
-    (first_go_on _ c.loop.invariant.0 c.loop-test.true f c.in_ok-push.ensures.ok, c.in_ok-push.ensures.item ∙ c.loop.invariant.1, omega (arith, c.in_ok-push.ensures.count, c.loop.invariant.2))
+pub push_word-requires-clause-room : goal.push_word-requires-clause-room
+push_word-requires-clause-room g c = omega (arith, c.loop-done.invariant.few, c.requires.room)
+
+pub loop-done-preserved : goal.loop-done-preserved
+loop-done-preserved g c =
+    let taken = rw c.unwrap-word.ensures at c.take.ensures in
+    let e : bits_of (g.Self.Collector.item c.loop-done.self) ≡ c.width-width.result = ap bits_of (c.loop-done.invariant.same ∙ sym c.item.ensures.item) ∙ sym c.width-width.ensures in
+    let more = subst (λ (w : ℕ). TookItems g.Self.Collector.holds (OneByOne (Field w)) c.min-count.result c.loop-done.self c.push_word.new.self c.unwrap-word.result []) e c.in_ok-push_word.ensures.ok in
+    record {
+      first = first_go_far c.loop-done.invariant.first (omega arith) taken.ok taken.count more;
+      same = c.in_ok-push_word.ensures.item ∙ c.loop-done.invariant.same;
+      few = omega (arith, c.in_ok-push_word.ensures.count, c.loop-done.invariant.few);
+    }
 
 pub returns-clause-ok : goal.returns-clause-ok
 returns-clause-ok g c =
     let e : c.width-width.result ≡ bits_of (g.Self.Collector.item c.args.self.now) = c.width-width.ensures ∙ ap bits_of c.item.ensures.item in
-    subst (λ (w : ℕ). TookItems g.Self.Collector.holds (OneByOne (Field w)) c.args.many c.args.self.now c.loop.self c.args.bits []) e
-    (first_end c.loop.invariant.0 c.loop-test.false (sym (append-nil c.args.bits)))
+    subst (λ (w : ℕ). TookItems g.Self.Collector.holds (OneByOne (Field w)) c.args.many c.args.self.now c.loop-done.self c.args.bits []) e
+    (first_end c.loop-done.invariant.first (omega arith) (sym (append-nil c.args.bits)))
 
 pub returns-clause-count : goal.returns-clause-count
-returns-clause-count g c = omega (arith, c.loop.invariant.2, c.loop.auto.counter-end)
+returns-clause-count g c = omega (arith, c.loop-done.invariant.few, c.loop-done.invariant.first.within)

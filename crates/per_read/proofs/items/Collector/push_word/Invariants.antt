@@ -1,0 +1,12 @@
+use Rattle.std.proofs.Common.{◌≡◌, ◌≤◌, ◌+◌}
+use Rattle.rasn_types.specs.Bits.{to_bits}
+use Rattle.per_read.proofs.OneByOne.{FirstItems}
+use Rattle.per_read.proofs.items.Collector.push_word.Given as goal
+
+abbrev pub invariant-loop : goal.invariant-loop
+invariant-loop g l = record {
+  short : l.left ≤ 56;
+  first : FirstItems g.Self.Collector.holds l.width l.fn.word (to_bits l.left l.number) l.initial.self l.self l.counter l.many;
+  same : g.Self.Collector.item l.self ≡ g.Self.Collector.item l.initial.self;
+  few : g.Self.Collector.count l.self ≤ g.Self.Collector.count l.initial.self + l.counter;
+}

@@ -1,0 +1,35 @@
+-- Numbers in few octets, which are read as one field (X.691 11.3, 11.4).
+use Rattle.std.specs.Prelude.{◌≡◌, ◌<◌, ◌≤◌, ℕ, List, length, Option, Some, None, Result, IfOk, IfErr}
+use Rattle.rasn_types.specs.Bits.{Bits}
+use Rattle.rasn_types.specs.Octets.{unsigned}
+use Rattle.per_core.specs.Basic.{Octets}
+use Rattle.per_core.specs.Spellings.{Settings}
+use Rattle.per_core.specs.Took.{Took}
+use Rattle.per_read.specs.Kinds.{NoneIn, Refused}
+use Rattle.per_read.specs.State.{State, settings_of}
+use Rattle.per_read.specs.declared.error.DecodeErrorKind.{DecodeErrorKind}
+use Rattle.per_read.specs.declared.few_octets.FewOctets.{FewOctets}
+
+-- the octets of a field, from 1 to 16
+pub record AreOctetsOf (octets : List ℕ) (f : FewOctets) : Type 0 where
+  pub count : length octets ≡ f.count
+  pub some : 0 < f.count
+  pub few : f.count ≤ 16
+  pub means : unsigned octets ≡ f.number
+
+-- the octets that a field has were read
+pub record TookFew (a : Settings) (f : FewOctets) (s t : Bits) : Type 0 where
+  pub octets : List ℕ
+  pub are : AreOctetsOf octets f
+  pub took : Took (Octets a octets) s t
+
+-- where there is no field, nothing was read
+abbrev pub OfFew : Settings → Bits → Bits → Option FewOctets → Type 0
+OfFew a s t None = t ≡ s
+OfFew a s t (Some f) = TookFew a f s t
+
+-- A call that takes few octets behind an unconstrained length.
+pub record TakesFew (x : State) (result : Result (Option FewOctets) DecodeErrorKind) (y : State) : Type 0 where
+  pub ok : IfOk result (OfFew (settings_of x) x.bits y.bits)
+  pub err : IfErr result (Refused (NoneIn (Octets (settings_of x)) x.bits))
+  pub kept : y.options ≡ x.options
