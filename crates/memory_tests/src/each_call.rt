@@ -144,7 +144,11 @@ fn is_refused_by_encoder<T: Encode>(
 
 /// Whether a call was refused that reads these octets of the UNALIGNED variant, writes what they spell, or reads it
 /// in the ALIGNED variant.
-fn is_any_refused<T: Encode + Decode>(rt: &impl Abort, alloc: Global, octets: &[u8]) -> bool {
+pub(crate) fn is_any_refused<T: Encode + Decode>(
+    rt: &impl Abort,
+    alloc: Global,
+    octets: &[u8],
+) -> bool {
     let unread = is_any_unread::<T>(rt, alloc, Codec::Uper, octets);
     match uper::decode::<T>(alloc, octets) {
         Ok(value) => unread || is_any_refused_of(rt, alloc, &value),

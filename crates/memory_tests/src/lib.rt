@@ -5,6 +5,8 @@
 #[cfg(test)]
 mod each_call;
 #[cfg(test)]
+mod each_row;
+#[cfg(test)]
 mod failures;
 #[cfg(test)]
 mod memory;

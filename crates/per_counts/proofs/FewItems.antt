@@ -1,37 +1,16 @@
 -- The items of what is spelled are few for its bits.
 use Rattle.std.proofs.Common.{◌≡◌, refl, ap, ◌∙◌, ℕ, zero, suc, ◌+◌, ◌-◌, ◌*◌, ◌^◌, ◌<◌, ◌≤◌, Bool, true, false, cond, ◌&&◌, ltb, leb, List, [], ◌∷◌, length, arith, inl, inr, Option, Some, None, length-append, ltb-true, leb-true}
 use Rattle.rasn_types.specs.Bits.{Bits}
-use Rattle.rasn_types.proofs.Bits.{number_below}
 use Rattle.rasn_types.specs.Values.{Value, bag_of, elements, before, code, put, sorted, as_values}
 use Rattle.rasn_types.proofs.Values.{values-as_values}
 use Rattle.rasn_constraints.specs.Bounds.{allows, Size, any_size, at_least}
 use Rattle.rasn_schema.specs.Schemas.{Schema}
-use Rattle.per_core.specs.Basic.{OneByOne, LastCount, Fragment, InFragments, UnconstrainedLength, IsConstrainedWhole, PaddingIf, length_form, Sized, Lengthy, basic_in}
+use Rattle.per_core.specs.Basic.{OneByOne, InFragments, UnconstrainedLength, IsConstrainedWhole, PaddingIf, length_form, Sized, Lengthy, basic_in}
 use Rattle.per_core.specs.Counts.{Counted, is_aligned}
 use Rattle.per_core.specs.Spellings.{Settings, Spelling, Then}
 use Rattle.per_core.proofs.Lengths.{and_left, and_right}
+use Rattle.per_de.proofs.FewBefore.{last_few, fragment_few, then_length}
 use Rattle.per_counts.specs.Counts.{item_count, most_items}
-
--- a count below 16384, in eight bits or more
-pub last_few : (n p : ℕ) (b : Bits) → LastCount n p b → n ≤ 8192 * length b
-last_few n p b (inl x) = let h : n < 128 = x.0 in let k : length b ≡ 8 = x.1.wide in omega arith
-last_few n p b (inr x) =
-    let e : length x.front ≡ 2 = ap length x.is_front in
-    let l : length b ≡ length x.front + length x.rest = ap length x.joins ∙ length-append x.front x.rest in
-    let w : length x.rest ≡ 14 = x.is_rest.wide in
-    let q : 2 ^ length x.rest ≡ 16384 = ap (λ (z : ℕ). 2 ^ z) w in
-    let m = x.is_rest.means in
-    let k = number_below x.rest in
-    omega arith
-
--- a fragment's count, in eight bits
-pub fragment_few : (n p : ℕ) (b : Bits) → Fragment n p b → n ≤ 8192 * length b
-fragment_few n p b x = let k : length b ≡ 8 = x.spelled.wide in let e : n ≡ 16384 * x.times = x.is in let h : x.times < 5 = x.few in omega arith
-
--- what stands behind another thing, and in front of it, is no longer than both
-module _ {f g : Spelling} {p : ℕ} {b : Bits} (x : Then f g p b) where
-  pub then_length : length b ≡ length x.front + length x.rest
-  then_length = ap length x.joins ∙ length-append x.front x.rest
 
 module _ {X : Type 0} (a : Settings) (item : X → Spelling) where
   pub fragments_few : (k : ℕ) (xs : List X) (p : ℕ) (b : Bits) → InFragments a item k xs p b → length xs ≤ 8192 * length b

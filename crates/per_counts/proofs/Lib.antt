@@ -1,4 +1,3 @@
-mod FewBefore
 mod FewItems
 mod FewRead
 mod FewWithin

@@ -6,3 +6,4 @@ pub mod calls;
 pub mod decoding;
 pub mod grammar;
 pub mod lists;
+pub mod open_lists;

@@ -2,6 +2,7 @@ pub mod Additions
 pub mod Calls
 pub mod Choosing
 pub mod Enumerations
+pub mod FewBefore
 pub mod Listing
 pub mod Opening
 pub mod StringCalls

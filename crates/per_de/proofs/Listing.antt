@@ -1,5 +1,5 @@
 -- What opening a list and going on in it take, and why they refuse (ITU-T X.691, 20).
-use Rattle.std.proofs.Common.{◌≡◌, inr, refl, sym, ◌∙◌, ap, subst, ℕ, suc, Bool, true, false, List, length}
+use Rattle.std.proofs.Common.{◌≡◌, inr, refl, sym, ◌∙◌, ap, subst, ℕ, suc, Bool, true, false, List, length, arith}
 use Rattle.std.specs.Prelude.{Result, Ok, Err}
 use Rattle.rasn_types.specs.Bits.{Bits}
 use Rattle.rasn_types.specs.Values.{Value}
@@ -29,6 +29,7 @@ use Rattle.per_scopes.specs.Rules.{decoder_rules}
 use Rattle.per_scopes.specs.State.{State, Spells, reader_of, settings_of, with_bits}
 use Rattle.per_de.specs.declared.ListScope.{ListScope}
 use Rattle.per_de.proofs.Calls.{refuses}
+use Rattle.per_de.proofs.FewBefore.{one_more_few, took_up_to_few}
 use Rattle.per_de.proofs.Opening.{answered_ok, answered_err}
 use Rattle.per_de.proofs.Spans.{with_rest}
 
@@ -65,6 +66,7 @@ module _ (size : Size) (mark : Bool) (s : State) (x y : Taking) (left m : ℕ) (
           deeper = deeper;
           outside = outside ∙ ap (λ z. z.levels) f;
           same = refl;
+          few = λ h. omega arith;
           items = items e;
         },
       )
@@ -139,6 +141,7 @@ module _ {e : Schema} {size : Size} {mark : Bool} {s : State} {vs : List Value} 
           deeper = a.deeper ∙ ap (λ z. suc z.levels) (sym c.same);
           outside = a.outside;
           same = c.same ∙ ap (λ z. with_bits z j.bits) g ∙ ap (λ z. record s { bits = j.bits; levels = z.levels }) (sym c.same);
+          few = λ h. one_more_few vs v s.bits y.bits j.bits (took_up_to_few (settings_of s) (basic (settings_of s) e) size mark vs s.bits y.bits h w.behind) c.took;
           items = w.goes_on v j.bits (subst (λ z. Took (basic z e v) y.bits j.bits) same_settings c.took);
         };
         none = λ no v u c. no_list (settings_of s) e size mark (w.none (λ x z k.

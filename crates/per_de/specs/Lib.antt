@@ -1,3 +1,4 @@
+pub mod Counts
 pub mod Lists
 pub mod Outsides
 pub mod Sources

@@ -1,6 +1,6 @@
 use Rattle.per_core.specs.Basic.{basic}
 use Rattle.per_read.specs.State.{settings_of}
-use Rattle.per_counts.proofs.FewBefore
+use Rattle.per_de.proofs.FewBefore
 use Rattle.per_counts.proofs.lists.elements_before_another_are_few.Goals as goal
 
 pub returns : goal.returns

@@ -1,20 +1,40 @@
--- The elements of a list in front of a further one are few for the bits that were taken.
-use Rattle.std.proofs.Common.{◌≡◌, refl, ap, ◌∙◌, ℕ, zero, suc, ◌+◌, ◌-◌, ◌*◌, ◌^◌, ◌<◌, ◌≤◌, Bool, true, false, cond, ltb, leb, eqb, List, length, arith, inl, inr, Option, Some, None, length-append, ltb-true, leb-true, leb-false, pow_mono}
+-- The elements of a list in front of a further one, and with it, are few for the bits that were taken.
+use Rattle.std.proofs.Common.{◌≡◌, refl, ap, ◌∙◌, ℕ, zero, suc, ◌+◌, ◌-◌, ◌*◌, ◌^◌, ◌<◌, ◌≤◌, Bool, true, false, cond, ltb, leb, eqb, List, [], ◌∷◌, ◌++◌, length, arith, inl, inr, Option, Some, None, length-append, ltb-true, leb-true, leb-false, pow_mono}
 use Rattle.std.proofs.lemmas.Bool.{cases_lt}
 use Rattle.rasn_types.specs.Bits.{Bits, width}
 use Rattle.rasn_types.specs.Variants.{Variant, aligned, unaligned}
 use Rattle.rasn_types.proofs.Bits.{number_below, width_least}
 use Rattle.rasn_constraints.specs.Bounds.{Size}
 use Rattle.rasn_constraints.specs.LawfulConstraints.{is_lawful_size}
-use Rattle.per_core.specs.Basic.{InOctets, constrained_by}
+use Rattle.per_core.specs.Basic.{Fragment as OneFragment, InOctets, LastCount, constrained_by}
 use Rattle.per_core.specs.Spellings.{Settings, Spelling, Then, AnyPadding, Field}
 use Rattle.per_core.specs.Took.{Took}
 use Rattle.per_read.specs.Lengths.{CountOf, count_of}
 use Rattle.per_read.specs.UpTo.{UpTo, UpToFragment, UpToUnconstrained, UpToBetween, UpToSized}
 use Rattle.per_read.specs.declared.lengths.Length.{Length}
 use Rattle.per_read.specs.declared.lengths.Length.TheVariants.{Last, Fragment}
-use Rattle.per_counts.specs.Counts.{most_items}
-use Rattle.per_counts.proofs.FewItems.{last_few, fragment_few, then_length}
+use Rattle.per_de.specs.Counts.{most_items}
+
+-- a count below 16384, in eight bits or more
+pub last_few : (n p : ℕ) (b : Bits) → LastCount n p b → n ≤ 8192 * length b
+last_few n p b (inl x) = let h : n < 128 = x.0 in let k : length b ≡ 8 = x.1.wide in omega arith
+last_few n p b (inr x) =
+    let e : length x.front ≡ 2 = ap length x.is_front in
+    let l : length b ≡ length x.front + length x.rest = ap length x.joins ∙ length-append x.front x.rest in
+    let w : length x.rest ≡ 14 = x.is_rest.wide in
+    let q : 2 ^ length x.rest ≡ 16384 = ap (λ (z : ℕ). 2 ^ z) w in
+    let m = x.is_rest.means in
+    let k = number_below x.rest in
+    omega arith
+
+-- a fragment's count, in eight bits
+pub fragment_few : (n p : ℕ) (b : Bits) → OneFragment n p b → n ≤ 8192 * length b
+fragment_few n p b x = let k : length b ≡ 8 = x.spelled.wide in let e : n ≡ 16384 * x.times = x.is in let h : x.times < 5 = x.few in omega arith
+
+-- what stands behind another thing, and in front of it, is no longer than both
+module _ {f g : Spelling} {p : ℕ} {b : Bits} (x : Then f g p b) where
+  pub then_length : length b ≡ length x.front + length x.rest
+  then_length = ap length x.joins ∙ length-append x.front x.rest
 
 -- a number below 65536 in its bits
 power_few : (w : ℕ) → w ≤ 16 → 2 ^ w ≤ 8192 * w + 1
@@ -106,3 +126,9 @@ module _ {X : Type 0} (a : Settings) (item : X → Spelling) where
   took_up_to_few size mark xs s t h x =
       let r = up_to_marked_few size mark xs _ x.front h x.spelled in
       let l : length s ≡ length x.front + length t = ap length x.joins ∙ length-append x.front t in omega arith
+
+-- with a further one, which is read behind them, they are few for the bits that are taken then
+pub one_more_few : {X : Type 0} {f : Spelling} (xs : List X) (x : X) (s m t : Bits) → length xs < most_items (length s - length m) → Took f m t → length (xs ++ x ∷ []) ≤ most_items (length s - length t)
+one_more_few xs x s m t h k =
+    let e : length (xs ++ x ∷ []) ≡ length xs + 1 = length-append xs (x ∷ []) in
+    let l : length m ≡ length k.front + length t = ap length k.joins ∙ length-append k.front t in omega arith

@@ -1,0 +1,27 @@
+//! The elements of a list that a decoder reads element by element, while it is open.
+
+ghost use Rattle.std.specs.Prelude.{◌≡◌, ◌≤◌, ◌-◌, [], ◌∷◌, ◌++◌, Bool, List, length, true, Ok};
+ghost use Rattle.rasn_types.specs.Values.{Value};
+ghost use Rattle.rasn_constraints.specs.Bounds.{Size};
+ghost use Rattle.rasn_constraints.specs.LawfulConstraints.{is_lawful_size};
+ghost use Rattle.rasn_schema.specs.Schemas.{Schema};
+ghost use Rattle.rasn_calls.specs.Lists.{ReadsNext};
+ghost use Rattle.per_read.specs.Lists.{most};
+ghost use Rattle.per_scopes.specs.Rules.{decoder_rules};
+ghost use Rattle.per_scopes.specs.State.{Spells, State};
+ghost use Rattle.per_de.specs.Lists.{AmidList};
+ghost use Rattle.per_de.specs.declared.ListScope.{ListScope};
+ghost use Rattle.per_counts.specs.Counts.{most_items};
+
+/// A list under a lawful size that a decoder has open, as `open_list`, `next_element` and the calls that read its
+/// elements leave it, has at most 65535 elements, and 8192 for each bit that was taken since it began; and so it has
+/// with the element that is read where `next_element` answers that one follows (X.691, 11.9, 20).
+pub fn elements_of_an_open_list_are_few()
+    ensures now { (e : Schema) (size : Size) (mark : Bool) (s i : State) (vs : List Value) (l : ListScope) →
+        is_lawful_size size.least size.most ≡ true → AmidList e size mark s vs l i →
+        length vs ≤ most_items (length s.bits - length i.bits) }
+    ensures with_another { (e : Schema) (size : Size) (mark : Bool) (s i j k : State) (vs : List Value)
+        (l m : ListScope) (v : Value) → is_lawful_size size.least size.most ≡ true → AmidList e size mark s vs l i →
+        ReadsNext decoder_rules AmidList (λ l. most l.list) l i (Ok true) m j → Spells e j v k →
+        length (vs ++ v ∷ []) ≤ most_items (length s.bits - length k.bits) }
+{}
