@@ -1,5 +1,5 @@
-//! Tests of what no clause says of the crates below the packed encoding rules (`rasn_types`, `rasn_strings`,
-//! `rasn_constraints`) and of bits (`per_bits`): outside vectors, printed text, and that calls succeed.
+//! Tests of what no clause says of the crates below the packed encoding rules (`rasn_types`, `rasn_ber`, `rasn_times`,
+//! `rasn_strings`, `rasn_constraints`) and of bits (`per_bits`): outside vectors, printed text, and that calls succeed.
 #![tactic(auto)]
 
 #[cfg(test)]
@@ -11,8 +11,12 @@ mod constraints;
 #[cfg(test)]
 mod expected;
 #[cfg(test)]
+mod identifiers;
+#[cfg(test)]
 mod numbers;
 #[cfg(test)]
 mod octets;
 #[cfg(test)]
 mod strings;
+#[cfg(test)]
+mod times;

@@ -2,5 +2,4 @@
 
 mod expected;
 mod groups;
-mod rows;
 mod versions;

@@ -3,7 +3,6 @@
 use crate::changes::expected::{
     expect_read_aligned, expect_read_unaligned, expect_written_aligned, expect_written_unaligned,
 };
-use crate::changes::rows::{expect_reply, text_of};
 use per_samples_f::flagged::Flagged;
 use per_samples_f::outer1::Outer1;
 use per_samples_f::outer2::Outer2;
@@ -183,42 +182,5 @@ fn each_version_writes_its_own(rt: HostRuntime) -> Result<(), Fail> {
     expect_written(&rt, rt.alloc(), &CANONICAL[0], &outer1())?;
     let value = outer2(rt.alloc(), &CANONICAL[1])?;
     expect_written(&rt, rt.alloc(), &CANONICAL[1], &value)?;
-    Ok(())
-}
-
-/// Two versions, and what the second one writes of what the first one wrote, in the ALIGNED and the UNALIGNED variant.
-const PAIRS: &[(&str, &str, &str)] = &[
-    ("outer3 as outer2", "c0200480010203\n", "c0209010203000\n"),
-    ("outer3 as outer1", "40\n", "40\n"),
-    ("outer2 as outer1", "40\n", "40\n"),
-    ("outer2 as outer3", "c0600480010203\n", "c0604808101800\n"),
-    ("outer1 as outer2", "40\n", "40\n"),
-    ("outer1 as outer3", "40\n", "40\n"),
-];
-
-/// The value with both additions: as it is written, with a length in two octets, and with the large form of the number
-/// of presence bits.
-const LINES: &[(&str, &str)] = &[
-    ("c070048001020303070809", "c070480810180030708090"),
-    ("c07080048001020303070809", "c07800480810180030708090"),
-    ("d002c0048001020303070809", "d02c12020406000c1c2024"),
-];
-
-/// A line is converted by all pairs of versions, as the table says.
-fn expect_pairs(rt: &impl Abort, alloc: Global, lines: (&str, &str)) -> Result<(), Fail> {
-    for (words, aligned, unaligned) in PAIRS {
-        let text = text_of(alloc, "aper", words)?;
-        expect_reply(rt, alloc, (text.as_str(), lines.0, aligned))?;
-        let text = text_of(alloc, "uper", words)?;
-        expect_reply(rt, alloc, (text.as_str(), lines.1, unaligned))?;
-    }
-    Ok(())
-}
-
-#[test]
-fn all_pairs_of_versions_agree(rt: HostRuntime) -> Result<(), Fail> {
-    for lines in LINES {
-        expect_pairs(&rt, rt.alloc(), *lines)?;
-    }
     Ok(())
 }
