@@ -1,6 +1,5 @@
 //! Readers and writers that fail, and what the program does then; when it reads and writes.
 
-use crate::lines::USAGE;
 use crate::runs::{expect_status, expect_text, status_of, told};
 use std::alloc::{AllocError, Global};
 use std::cell::Cell;
@@ -8,6 +7,9 @@ use std::io;
 use std::io::{BufReader, ErrorKind, Read};
 use std::rc::Rc;
 use std::test::Fail;
+
+/// What is told of wrong arguments.
+const USAGE: &str = "usage: per_check (aper|uper) TYPE [lines | zero | as TYPE]\n";
 
 /// Gives the first octets of `text`, and then fails.
 #[derive(Drop)]
