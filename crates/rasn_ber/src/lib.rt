@@ -4,5 +4,3 @@
 
 pub mod ber;
 pub mod laws;
-#[cfg(test)]
-mod tests;

@@ -8,6 +8,4 @@ pub mod fraction;
 pub mod generalized_time;
 pub mod laws;
 pub mod moment;
-#[cfg(test)]
-mod tests;
 pub mod utc_time;
