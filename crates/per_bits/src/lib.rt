@@ -49,6 +49,14 @@ impl<A: Allocator> BitList<A> {
         }
     }
 
+    /// A list of no bits in the memory of octets, which are removed.
+    pub fn from_memory(mut octets: Vec<u8, A>) -> Self
+        ensures { result ≡ [] }
+    {
+        octets.clear();
+        BitList { octets, spare: 0 }
+    }
+
     /// The bits of the octets, the highest of each octet first. The only error is want of memory.
     pub fn from_octets(alloc: A, octets: &[u8]) -> Result<Self, AllocError>
         ensures { IfOk result (λ list. list ≡ unpack octets.now) }
