@@ -7,7 +7,7 @@ ghost use Rattle.rasn_per.specs.Calls.{Encoded, EncodedInto, DecodedBy, DecodedF
 ghost use Rattle.rasn_per.specs.Kinds.{kind_of};
 ghost use Rattle.rasn_per.specs.Remainders.{IsRemainder, IsWhyNone};
 
-use per_bits::BitReader;
+use per_bits::{BitList, BitReader};
 use per_core::ended::{Surplus, ended};
 use per_de::error::{DecodeError, DecodeErrorKind, ParserFailCause};
 use per_de::{Decoder, DecoderOptions};
@@ -17,6 +17,7 @@ use rasn_schema::constraints::Constraints;
 use rasn_schema::limits::is_lawful;
 use rasn_types::types::Codec;
 use std::alloc::{Allocator, Global};
+use std::mem;
 
 /// `encode` of both modules, under constraints: the canonical octets of a value, in the variant of a codec.
 pub fn encode_in<T: Encode, A: Allocator + Clone>(
@@ -27,13 +28,11 @@ pub fn encode_in<T: Encode, A: Allocator + Clone>(
 ) -> Result<Vec<u8, A>, EncodeError>
     ensures { Encoded codec (T.schema constraints.now) (T.levels value.now) (T.value value.now) result }
 {
-    let mut encoder = Encoder::new(alloc, encoder_options(codec));
-    value.encode_with_constraints(&mut encoder, constraints)?;
-    encoder.output_into_vec()
+    encode_over(BitList::new(alloc), codec, constraints, value)
 }
 
-/// `encode_buf` of both modules: the canonical octets of a value, in place of what the buffer held. After an error it
-/// is empty.
+/// `encode_buf` of both modules: the canonical octets of a value, in place of what the buffer held and in its memory.
+/// After an error it is empty.
 pub fn encode_into<T: Encode, A: Allocator + Clone>(
     codec: Codec,
     value: &T,
@@ -44,8 +43,23 @@ pub fn encode_into<T: Encode, A: Allocator + Clone>(
 {
     buffer.clear();
     let alloc = allocator_of(buffer, codec)?;
-    *buffer = encode_in(alloc, codec, &T::CONSTRAINTS, value)?;
+    let memory = mem::replace(buffer, Vec::new(alloc));
+    *buffer = encode_over(BitList::from_memory(memory), codec, &T::CONSTRAINTS, value)?;
     Ok(())
+}
+
+/// The canonical octets of a value, in the memory of a list of bits, which are cleared.
+fn encode_over<T: Encode, A: Allocator + Clone>(
+    output: BitList<A>,
+    codec: Codec,
+    constraints: &Constraints,
+    value: &T,
+) -> Result<Vec<u8, A>, EncodeError>
+    ensures { Encoded codec (T.schema constraints.now) (T.levels value.now) (T.value value.now) result }
+{
+    let mut encoder = Encoder::new_with_output(encoder_options(codec), output);
+    value.encode_with_constraints(&mut encoder, constraints)?;
+    encoder.output_into_vec()
 }
 
 /// How an encoder writes in the variant of a codec.
