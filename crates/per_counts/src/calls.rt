@@ -11,8 +11,9 @@ ghost use Rattle.per_scopes.specs.State.{State};
 ghost use Rattle.per_counts.specs.Counts.{item_count, most_items};
 ghost use Rattle.per_counts.specs.Within.{HasAtMost};
 
+use per_de::Decoder;
+use per_de::error::DecodeError;
 use rasn_codec::codec::Decode;
-use rasn_per::uper::{DecodeError, Decoder};
 use std::alloc::{AllocError, Global};
 
 /// A call that reads a value answers at most 65535 items, and 8192 for each bit that it took, and so many in each value
