@@ -63,12 +63,12 @@ pub fn items_are_few_or_the_default<T, F: FnOnce(Global) -> Result<T, AllocError
 /// The same of a call that reads an addition or a group of additions, where it answers that it is there: of the bits
 /// that it took, those of the bitmap and of the open type among them (X.691, 11.2, 19.7 to 19.9).
 pub fn items_of_an_addition_are_few<T>()
-    ensures own { (c : Schema) (slot : T → Option Value) (s t : State) (x : T) (v : Value)
-        → TakesAddition decoder_rules c slot s (Ok x) t → slot x ≡ Some v →
-        item_count v ≤ most_items (length s.bits - length t.bits) }
-    ensures within { (c : Schema) (slot : T → Option Value) (s t : State) (x : T) (v : Value)
-        → TakesAddition decoder_rules c slot s (Ok x) t → slot x ≡ Some v →
-        HasAtMost (most_items (length s.bits - length t.bits)) c v }
+    ensures own { (c : Schema) (slot : T → Option Value) (s t : State) (x : T) (added : Value)
+        → TakesAddition decoder_rules c slot s (Ok x) t → slot x ≡ Some added →
+        item_count added ≤ most_items (length s.bits - length t.bits) }
+    ensures within { (c : Schema) (slot : T → Option Value) (s t : State) (x : T) (added : Value)
+        → TakesAddition decoder_rules c slot s (Ok x) t → slot x ≡ Some added →
+        HasAtMost (most_items (length s.bits - length t.bits)) c added }
 {}
 
 /// Reads a value under its type's own tag and constraints, as `Decode::decode` does: at most 65535 items, and 8192 for
