@@ -11,9 +11,11 @@ use Rattle.per_core.specs.Basic.{basic, fills, front}
 use Rattle.per_core.specs.Spellings.{Settings}
 use Rattle.per_core.specs.Took.{Took}
 use Rattle.per_scopes.specs.Rules.{decoder_rules}
-use Rattle.per_scopes.specs.State.{State, Spells, Marks}
+use Rattle.per_scopes.specs.Additions.{Adds, AddsValue}
+use Rattle.per_scopes.specs.State.{State, Spells, Marks, settings_of}
 use Rattle.per_counts.specs.Counts.{most_items}
 use Rattle.per_counts.proofs.FewWithin.{Few, few}
+use Rattle.per_counts.proofs.HeldIn.{HeldIn, open_held}
 
 took_few : (a : Settings) (c : Schema) (v : Value) (s t : Bits) → Took (basic a c v) s t → Few (most_items (length s - length t)) c v
 took_few a c v s t h =
@@ -60,6 +62,19 @@ default_few c value returns s t x d m h = go (part_few (default d) c s (Some (va
     go : FewOrLeftOut (default d) c s (value x) t → Few (most_items (length s.bits - length t.bits)) c (value x) ⊎ (value x ≡ d)
     go (inl k) = inl k
     go (inr e) = let f : ◌≡◌ {A = Option (Option Value)} (Some (Some d)) (Some (Some (value x))) = e in inr (cc)
+
+-- an addition's value stands in an open type
+value_added_few : (c : Schema) (s : State) (v : Value) (t : State) → AddsValue c s v t → Few (most_items (length s.bits - length t.bits)) c v
+value_added_few c s v t h =
+    let m = h.middle in
+    let k : length s.bits ≡ length h.asks.taken.front + length m.bits = ap length h.asks.taken.joins ∙ length-append h.asks.taken.front m.bits in
+    let l : length m.bits ≡ length h.took.front + length t.bits = ap length h.took.joins ∙ length-append h.took.front t.bits in
+    let x : HeldIn (length s.bits - length t.bits) (basic (settings_of s) c v) =
+    open_held (settings_of s) (length s.bits - length t.bits) (basic (settings_of s) c v) _ h.took.front (omega arith) h.took.spelled in
+    few (settings_of s) true c v x.at x.bits (length s.bits - length t.bits) x.fits x.spelled
+
+pub added_few : (c : Schema) (s : State) (r : Option Value) (t : State) (v : Value) → Adds c s r t → r ≡ Some v → Few (most_items (length s.bits - length t.bits)) c v
+added_few c s r t v h e = value_added_few c s v t (subst (λ z. Adds c s z t) e h)
 
 -- one of two facts, or another
 pub own_or : {A B Q : Type 0} → (A × B) ⊎ Q → A ⊎ Q

@@ -1,5 +1,5 @@
 mod FewItems
-mod FewRead
+pub mod FewRead
 mod FewWithin
 mod HeldIn
 mod NullRows

@@ -3,17 +3,29 @@
 ghost use Rattle.std.specs.Prelude.{◌≡◌, ◌≤◌, ◌⊎◌, ◌-◌, ℕ, length, Option, Some, Ok, IfOk};
 ghost use Rattle.rasn_types.specs.Values.{Value};
 ghost use Rattle.rasn_schema.specs.Schemas.{Presence, Schema};
+ghost use Rattle.rasn_calls.specs.AdditionsRead.{TakesAddition};
 ghost use Rattle.rasn_calls.specs.Calls.{Reads};
 ghost use Rattle.rasn_calls.specs.Optionals.{MakesDefault, ReadsComponent, ReadsDefault};
 ghost use Rattle.rasn_calls.specs.Presences.{left_out};
 ghost use Rattle.per_scopes.specs.Rules.{decoder_rules};
-ghost use Rattle.per_scopes.specs.State.{State};
+ghost use Rattle.per_scopes.specs.State.{Spells, State};
 ghost use Rattle.per_counts.specs.Counts.{item_count, most_items};
 ghost use Rattle.per_counts.specs.Within.{HasAtMost};
 
+use per_de::Decoder;
+use per_de::error::DecodeError;
 use rasn_codec::codec::Decode;
-use rasn_per::uper::{DecodeError, Decoder};
 use std::alloc::{AllocError, Global};
+
+/// A value that the next bits spell has at most 65535 items, and 8192 for each of those bits, and so has each value within
+/// it, but for a default that stands for an absent part: that of a call that reads a record by a function, in turn or in
+/// the order of tags, an alternative's or an element's (X.691, 11.9, 19.5).
+pub fn items_that_are_spelled_are_few()
+    ensures own { (c : Schema) (v : Value) (s t : State) → Spells c s v t →
+        item_count v ≤ most_items (length s.bits - length t.bits) }
+    ensures within { (c : Schema) (v : Value) (s t : State) → Spells c s v t →
+        HasAtMost (most_items (length s.bits - length t.bits)) c v }
+{}
 
 /// A call that reads a value answers at most 65535 items, and 8192 for each bit that it took, and so many in each value
 /// within the answer, but for a default that stands for an absent part (X.691, 11.9, 19.5).
@@ -46,6 +58,17 @@ pub fn items_are_few_or_the_default<T, F: FnOnce(Global) -> Result<T, AllocError
         → MakesDefault value d (λ made. (alloc : _) × F.post make alloc made)
         → ReadsDefault decoder_rules c value (λ made. (alloc : _) × F.post make alloc made) s (Ok x) t →
         HasAtMost (most_items (length s.bits - length t.bits)) c (value x) ⊎ (value x ≡ d) }
+{}
+
+/// The same of a call that reads an addition or a group of additions, where it answers that it is there: of the bits
+/// that it took, those of the bitmap and of the open type among them (X.691, 11.2, 19.7 to 19.9).
+pub fn items_of_an_addition_are_few<T>()
+    ensures own { (c : Schema) (slot : T → Option Value) (s t : State) (x : T) (added : Value)
+        → TakesAddition decoder_rules c slot s (Ok x) t → slot x ≡ Some added →
+        item_count added ≤ most_items (length s.bits - length t.bits) }
+    ensures within { (c : Schema) (slot : T → Option Value) (s t : State) (x : T) (added : Value)
+        → TakesAddition decoder_rules c slot s (Ok x) t → slot x ≡ Some added →
+        HasAtMost (most_items (length s.bits - length t.bits)) c added }
 {}
 
 /// Reads a value under its type's own tag and constraints, as `Decode::decode` does: at most 65535 items, and 8192 for

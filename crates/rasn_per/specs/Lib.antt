@@ -2,3 +2,4 @@ pub mod Remainders
 pub mod Kinds
 pub mod Complete
 pub mod Calls
+pub mod Counts

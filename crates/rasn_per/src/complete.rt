@@ -4,6 +4,7 @@ ghost use Rattle.std.specs.Prelude.{◌≡◌, ◌≤◌, ◌*◌, ℕ, false, L
 ghost use Rattle.rasn_constraints.specs.LawfulConstraints.{are_lawful};
 ghost use Rattle.per_write.specs.declared.error.EncodeErrorKind.TheVariants.{OutOfMemory};
 ghost use Rattle.rasn_per.specs.Calls.{Encoded, EncodedInto, DecodedBy, DecodedFront};
+ghost use Rattle.rasn_per.specs.Counts.{AnswersFew, AnswersFewInFront};
 ghost use Rattle.rasn_per.specs.Kinds.{kind_of};
 ghost use Rattle.rasn_per.specs.Remainders.{IsRemainder, IsWhyNone};
 
@@ -93,7 +94,8 @@ pub fn decode_in<T: Decode>(
     octets: &[u8],
 ) -> Result<T, DecodeError>
     requires { options.levels ≡ 128 }
-    ensures { DecodedBy options.zero_padding options.codec (T.schema constraints.now) T.value octets.now result }
+    ensures decoded { DecodedBy options.zero_padding options.codec (T.schema constraints.now) T.value octets.now result }
+    ensures few { AnswersFew (T.schema constraints.now) T.value octets.now result }
 {
     let bits = BitReader::from_octets(octets);
     let total = bits.len();
@@ -114,7 +116,8 @@ pub fn decode_front<T: Decode>(
 ) -> Result<(T, &[u8]), DecodeError>
     requires levels { options.levels ≡ 128 }
     requires padding { options.zero_padding ≡ false }
-    ensures { DecodedFront options.codec (T.schema T.CONSTRAINTS) T.value octets.now result }
+    ensures decoded { DecodedFront options.codec (T.schema T.CONSTRAINTS) T.value octets.now result }
+    ensures few { AnswersFewInFront (T.schema T.CONSTRAINTS) T.value octets.now result }
 {
     let mut decoder = Decoder::from_reader(alloc, BitReader::from_octets(octets), options);
     let value = T::decode(&mut decoder)?;

@@ -6,5 +6,6 @@ pub use per_core::model;
 
 pub mod aper;
 mod complete;
+pub mod counts;
 pub mod per;
 pub mod uper;

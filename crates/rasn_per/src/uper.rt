@@ -2,6 +2,7 @@
 
 ghost use Rattle.rasn_types.specs.declared.types.Codec.TheVariants.{Uper};
 ghost use Rattle.rasn_per.specs.Calls.{Encoded, EncodedInto, Decoded, DecodedFront, DecodedZeroPadded};
+ghost use Rattle.rasn_per.specs.Counts.{AnswersFew, AnswersFewInFront};
 
 pub use crate::complete::lawful;
 use crate::complete::{decode_front, decode_in, encode_in, encode_into};
@@ -58,7 +59,8 @@ pub fn encode_with_constraints<T: Encode, A: Allocator + Clone>(
 ///
 /// Refuses with `OutOfMemory` where memory ran out, and else only octets that spell no value of the type.
 pub fn decode<T: Decode>(alloc: Global, octets: &[u8]) -> Result<T, DecodeError>
-    ensures { Decoded Uper (T.schema T.CONSTRAINTS) T.value octets.now result }
+    ensures decoded { Decoded Uper (T.schema T.CONSTRAINTS) T.value octets.now result }
+    ensures few { AnswersFew (T.schema T.CONSTRAINTS) T.value octets.now result }
 {
     decode_in(alloc, DecoderOptions::unaligned(), &T::CONSTRAINTS, octets)
 }
@@ -70,7 +72,8 @@ pub fn decode_with_remainder<T: Decode>(
     alloc: Global,
     octets: &[u8],
 ) -> Result<(T, &[u8]), DecodeError>
-    ensures { DecodedFront Uper (T.schema T.CONSTRAINTS) T.value octets.now result }
+    ensures decoded { DecodedFront Uper (T.schema T.CONSTRAINTS) T.value octets.now result }
+    ensures few { AnswersFewInFront (T.schema T.CONSTRAINTS) T.value octets.now result }
 {
     decode_front(alloc, DecoderOptions::unaligned(), octets)
 }
@@ -83,7 +86,8 @@ pub fn decode_with_constraints<T: Decode>(
     constraints: &Constraints,
     octets: &[u8],
 ) -> Result<T, DecodeError>
-    ensures { Decoded Uper (T.schema constraints.now) T.value octets.now result }
+    ensures decoded { Decoded Uper (T.schema constraints.now) T.value octets.now result }
+    ensures few { AnswersFew (T.schema constraints.now) T.value octets.now result }
 {
     decode_in(alloc, DecoderOptions::unaligned(), constraints, octets)
 }
@@ -93,7 +97,8 @@ pub fn decode_with_constraints<T: Decode>(
 ///
 /// Refuses as `decode` does, and with `ParserFail` where one of these bits is one.
 pub fn decode_zero_padded<T: Decode>(alloc: Global, octets: &[u8]) -> Result<T, DecodeError>
-    ensures { DecodedZeroPadded Uper (T.schema T.CONSTRAINTS) T.value octets.now result }
+    ensures decoded { DecodedZeroPadded Uper (T.schema T.CONSTRAINTS) T.value octets.now result }
+    ensures few { AnswersFew (T.schema T.CONSTRAINTS) T.value octets.now result }
 {
     let options = DecoderOptions::unaligned().zero_padding();
     decode_in(alloc, options, &T::CONSTRAINTS, octets)

@@ -1,10 +1,8 @@
-//! The calls of `per_counts` that answer a value.
+//! The call of `per_counts` that answers a value.
 
 use crate::expected::expect_equal;
 use per_counts::calls::decode_from;
-use per_counts::decoding::decode;
 use per_samples_f::outer1::Outer1;
-use rasn_below::types::Codec;
 use rasn_per::bits::BitReader;
 use rasn_per::per::de::{Decoder, DecoderOptions};
 use std::test::Fail;
@@ -16,13 +14,6 @@ const READ: Outer1 = Outer1 {
     first: true,
     second: false,
 };
-
-#[test]
-fn decodes_octets(rt: HostRuntime) -> Result<(), Fail> {
-    let value: Outer1 = decode(rt.alloc(), Codec::Aper, OCTETS)?;
-    expect_equal(&rt, &value, &READ);
-    Ok(())
-}
 
 #[test]
 fn reads_from_a_decoder(rt: HostRuntime) -> Result<(), Fail> {
