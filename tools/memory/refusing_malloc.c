@@ -1,7 +1,8 @@
 /* Loaded before the C library. Counts the requests for memory, and writes their number to the file that REFUSE_COUNT
    names and the octets of the greatest one to the file that REFUSE_LARGEST names.
 
-   Where REFUSE_OUTCOMES names a file, the process forks at each request. The child is refused this request, and no
+   Where REFUSE_OUTCOMES names a file, the process forks at each request, or where REFUSE_UP_TO and REFUSE_BEHIND are
+   numbers, at those up to the one and those behind the other, counting from 1. The child is refused this request, and no
    other, and runs to its end. The parent waits for it, writes a line `REQUEST STATUS|OUTPUT|TOLD` to the file (the
    status as a shell says it, and what the child printed and said on standard error, a space for each line feed), and
    goes on with the request granted. */
@@ -25,6 +26,8 @@ extern void *__libc_realloc(void *block, size_t size);
 static unsigned long requests;
 static unsigned long largest;
 static int outcomes = -1;
+static unsigned long up_to;
+static unsigned long behind;
 static int is_child;
 /* Whether what asks for memory is this file itself. */
 static int is_at_work;
@@ -35,10 +38,18 @@ static int open_to_write(const char *variable)
     return name ? open(name, O_WRONLY | O_CREAT | O_TRUNC | O_CLOEXEC, 0600) : -1;
 }
 
+static unsigned long number_of(const char *variable)
+{
+    const char *text = getenv(variable);
+    return text ? strtoul(text, NULL, 10) : 0;
+}
+
 __attribute__((constructor)) static void begin(void)
 {
     requests = 0;
     largest = 0;
+    up_to = number_of("REFUSE_UP_TO");
+    behind = number_of("REFUSE_BEHIND");
     outcomes = open_to_write("REFUSE_OUTCOMES");
 }
 
@@ -135,7 +146,7 @@ static int is_refused(size_t size)
     requests++;
     if (size > largest)
         largest = size;
-    return outcomes >= 0 && is_child_of_fork();
+    return outcomes >= 0 && (requests <= up_to || requests > behind) && is_child_of_fork();
 }
 
 void *malloc(size_t size)
