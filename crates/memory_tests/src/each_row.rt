@@ -1,11 +1,12 @@
-//! Worked encodings of each type of the program, up to 64 octets long. `tools/refuse_memory` runs each test below with each
-//! request for memory refused in turn, and it fails each time for want of memory.
+//! Worked encodings of each type of the program. `tools/refuse_memory` runs the test of each module below with each
+//! request for memory refused in turn: it fails each time, and says that this is for want of memory.
 
 mod additions;
 mod choices;
 mod groups;
 mod levels;
 mod lists;
+mod long;
 mod numbers;
 mod records;
 mod strings;
