@@ -1,13 +1,8 @@
 //! Each call of both modules, and an encoder and a decoder of one's own: where a request for memory is refused, one of
 //! them says so, and none says anything else.
 
-use its_header::message::Message;
-use per_samples_b::strings::ShortVisible;
-use per_samples_e::elements::Elements;
-use per_samples_e::nest::Nest;
-use per_samples_f::outer3::Outer3;
 use rasn_below::codec::{Decode, Decoder as _, Encode, Encoder as _};
-use rasn_below::types::{BitString, Codec, Identifier, Integer, OctetString, Tag};
+use rasn_below::types::{Codec, Identifier, Tag};
 use rasn_per::bits::BitReader;
 use rasn_per::per::de::{DecodeError, DecodeErrorKind, Decoder, DecoderOptions};
 use rasn_per::per::enc::{EncodeError, EncodeErrorKind, Encoder, EncoderOptions};
@@ -55,22 +50,25 @@ fn had_encoder_failed(codec: Codec, error: Option<EncodeError>) -> bool {
     }
 }
 
-/// Whether one of the calls that read all octets, or their front, was refused.
+/// Whether one of the calls that read octets, all of them or their front, was refused.
 fn is_any_unread<T: Decode>(rt: &impl Abort, alloc: Global, codec: Codec, octets: &[u8]) -> bool {
     let limits = &T::CONSTRAINTS;
-    let (front, limited) = match codec {
+    let (all, front, limited) = match codec {
         Codec::Aper => (
+            aper::decode::<T>(alloc, octets).err(),
             aper::decode_with_remainder::<T>(alloc, octets).err(),
             aper::decode_with_constraints::<T>(alloc, limits, octets).err(),
         ),
         Codec::Uper => (
+            uper::decode::<T>(alloc, octets).err(),
             uper::decode_with_remainder::<T>(alloc, octets).err(),
             uper::decode_with_constraints::<T>(alloc, limits, octets).err(),
         ),
     };
+    let all = is_unread(rt, codec, all);
     let front = is_unread(rt, codec, front);
     let limited = is_unread(rt, codec, limited);
-    front || limited || is_refused_by_decoder::<T>(rt, alloc, codec, octets)
+    all || front || limited || is_refused_by_decoder::<T>(rt, alloc, codec, octets)
 }
 
 /// Whether a decoder of one's own refused the octets; it refuses again then.
@@ -96,13 +94,20 @@ fn is_refused_by_decoder<T: Decode>(
 /// Whether one of the calls that write a value was refused.
 fn is_any_unwritten<T: Encode>(rt: &impl Abort, alloc: Global, codec: Codec, value: &T) -> bool {
     let limits = &T::CONSTRAINTS;
-    let limited = match codec {
-        Codec::Aper => aper::encode_with_constraints(alloc, limits, value).err(),
-        Codec::Uper => uper::encode_with_constraints(alloc, limits, value).err(),
+    let (plain, limited) = match codec {
+        Codec::Aper => (
+            aper::encode(alloc, value).err(),
+            aper::encode_with_constraints(alloc, limits, value).err(),
+        ),
+        Codec::Uper => (
+            uper::encode(alloc, value).err(),
+            uper::encode_with_constraints(alloc, limits, value).err(),
+        ),
     };
+    let plain = is_unwritten(rt, codec, plain);
     let limited = is_unwritten(rt, codec, limited);
     let in_buffer = is_refused_into_buffer(rt, alloc, codec, value);
-    limited || in_buffer || is_refused_by_encoder(rt, alloc, codec, value)
+    plain || limited || in_buffer || is_refused_by_encoder(rt, alloc, codec, value)
 }
 
 /// Whether the call that writes into a buffer was refused; the buffer is empty then.
@@ -142,68 +147,61 @@ fn is_refused_by_encoder<T: Encode>(
     is_unwritten(rt, codec, error)
 }
 
-/// Whether a call was refused that reads these octets of the UNALIGNED variant, writes what they spell, or reads it
-/// in the ALIGNED variant.
+/// The variant that isn't this one.
+fn other_than(codec: Codec) -> Codec {
+    match codec {
+        Codec::Aper => Codec::Uper,
+        Codec::Uper => Codec::Aper,
+    }
+}
+
+/// Whether a call was refused that reads these octets, or writes what they spell in either variant, or reads it in the
+/// other one.
 pub(crate) fn is_any_refused<T: Encode + Decode>(
     rt: &impl Abort,
     alloc: Global,
+    codec: Codec,
     octets: &[u8],
 ) -> bool {
-    let unread = is_any_unread::<T>(rt, alloc, Codec::Uper, octets);
-    match uper::decode::<T>(alloc, octets) {
-        Ok(value) => unread || is_any_refused_of(rt, alloc, &value),
-        Err(error) => is_unread(rt, Codec::Uper, Some(error)),
-    }
-}
-
-/// Whether a call was refused that writes a value, or reads it in the ALIGNED variant.
-fn is_any_refused_of<T: Encode + Decode>(rt: &impl Abort, alloc: Global, value: &T) -> bool {
-    let unaligned = is_any_unwritten(rt, alloc, Codec::Uper, value);
-    let aligned = is_any_unwritten(rt, alloc, Codec::Aper, value);
-    match aper::encode(alloc, value) {
-        Ok(octets) => {
-            let unread = is_any_unread::<T>(rt, alloc, Codec::Aper, octets.as_slice());
-            unread || unaligned || aligned
+    let value = match codec {
+        Codec::Aper => aper::decode::<T>(alloc, octets),
+        Codec::Uper => uper::decode::<T>(alloc, octets),
+    };
+    match value {
+        Ok(value) => {
+            is_any_unread::<T>(rt, alloc, codec, octets)
+                || is_any_refused_of(rt, alloc, codec, &value)
         }
-        Err(error) => is_unwritten(rt, Codec::Aper, Some(error)),
+        Err(error) => is_unread(rt, codec, Some(error)),
     }
 }
 
-const MESSAGE: &[u8] = &[
-    0x02, 0x02, 0x12, 0x34, 0x56, 0x78, 0xa5, 0x1a, 0xd8, 0x80, 0xe1, 0x4e, 0x39, 0x00, 0x70, 0x89,
-    0x0b, 0xaf, 0x34, 0x0d, 0xc0, 0xf7, 0xab, 0x6f, 0x80,
-];
-
-const ELEMENTS: &[u8] = &[
-    0x80, 0x81, 0x01, 0x82, 0x02, 0x83, 0x00, 0xe1, 0x01, 0x35, 0x60,
-];
-
-const OUTER: &[u8] = &[
-    0xc0, 0x70, 0x48, 0x08, 0x10, 0x18, 0x00, 0x30, 0x70, 0x80, 0x90,
-];
-
-/// Whether a call was refused, of those for a value of each of these types.
-fn is_one_refused(rt: &impl Abort, alloc: Global) -> bool {
-    let number = is_any_refused::<Integer>(rt, alloc, &[0x02, 0x10, 0x00]);
-    let octets = is_any_refused::<OctetString>(rt, alloc, &[0x02, 0xaa, 0xbb]);
-    let bits = is_any_refused::<BitString>(rt, alloc, &[0x04, 0xa0]);
-    let text = is_any_refused::<ShortVisible>(rt, alloc, &[0x82, 0x61, 0xc5, 0x8f, 0x20]);
-    let plain = number || octets || bits || text;
-    let message = is_any_refused::<Message>(rt, alloc, MESSAGE);
-    let elements = is_any_refused::<Elements>(rt, alloc, ELEMENTS);
-    let nest = is_any_refused::<Nest>(rt, alloc, &[0xe0]);
-    let outer = is_any_refused::<Outer3>(rt, alloc, OUTER);
-    plain || message || elements || nest || outer
+/// Whether a call was refused that writes a value, or reads it in the variant that isn't this one.
+fn is_any_refused_of<T: Encode + Decode>(
+    rt: &impl Abort,
+    alloc: Global,
+    codec: Codec,
+    value: &T,
+) -> bool {
+    let other = other_than(codec);
+    is_any_unwritten(rt, alloc, codec, value)
+        || is_any_unwritten(rt, alloc, other, value)
+        || is_any_unread_of(rt, alloc, other, value)
 }
 
-// `tools/refuse_memory` runs this test with each request for memory refused in turn, and it passes each time.
-#[test]
-fn refuses_for_want_of_memory_alone(rt: HostRuntime) {
-    let _ = is_one_refused(&rt, rt.alloc());
-}
-
-// And this one, which fails each time.
-#[test]
-fn answers_where_there_is_memory(rt: HostRuntime) {
-    assert!(rt; !is_one_refused(&rt, rt.alloc()));
+/// Whether a call was refused that reads a value in this variant, or the one that writes it for that.
+fn is_any_unread_of<T: Encode + Decode>(
+    rt: &impl Abort,
+    alloc: Global,
+    codec: Codec,
+    value: &T,
+) -> bool {
+    let written = match codec {
+        Codec::Aper => aper::encode(alloc, value),
+        Codec::Uper => uper::encode(alloc, value),
+    };
+    match written {
+        Ok(octets) => is_any_unread::<T>(rt, alloc, codec, octets.as_slice()),
+        Err(error) => is_unwritten(rt, codec, Some(error)),
+    }
 }

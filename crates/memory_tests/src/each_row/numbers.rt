@@ -1,0 +1,102 @@
+//! Rows of BOOLEAN and INTEGER.
+
+use crate::each_row::{Rows, is_any_row_refused};
+use per_samples_a::bounded::{OneToTenExtensible, ZeroTo65536};
+use per_samples_a::half_bounded::{FromMinusOne, Natural, UpTo65535};
+use rasn_below::types::Codec::{Aper, Uper};
+use rasn_below::types::Integer;
+use std::alloc::Global;
+use std::process::Abort;
+
+const BOOLEAN: Rows = &[
+    (Uper, &[0xff]),
+    (Uper, &[0x7f]),
+    (Uper, &[0x80]),
+    (Uper, &[0x00]),
+    (Aper, &[0xff]),
+];
+
+const INTEGER: Rows = &[
+    (Uper, &[0x01, 0x05]),
+    (Uper, &[0x02, 0x00, 0x05]),
+    (Uper, &[0x02, 0xff, 0x7f]),
+    (Uper, &[0x02, 0x10, 0x00]),
+    (Uper, &[0x02, 0x00, 0x80]),
+    (
+        Uper,
+        &[
+            0x11, 0x00, 0x80, 0x00, 0x00, 0x00, 0x00, 0x00, 0x00, 0x00, 0x00, 0x00, 0x00, 0x00,
+            0x00, 0x00, 0x00, 0x00,
+        ],
+    ),
+    (Aper, &[0x02, 0x10, 0x00]),
+    (Aper, &[0x02, 0x00, 0x05]),
+    (
+        Aper,
+        &[
+            0x11, 0x00, 0x80, 0x00, 0x00, 0x00, 0x00, 0x00, 0x00, 0x00, 0x00, 0x00, 0x00, 0x00,
+            0x00, 0x00, 0x00, 0x00,
+        ],
+    ),
+];
+
+const UP_TO_65535: Rows = &[(Uper, &[0x01, 0x80]), (Aper, &[0x01, 0x80])];
+
+const FROM_MINUS_ONE: Rows = &[
+    (Uper, &[0x02, 0x10, 0x01]),
+    (
+        Uper,
+        &[
+            0x10, 0x80, 0x00, 0x00, 0x00, 0x00, 0x00, 0x00, 0x00, 0x00, 0x00, 0x00, 0x00, 0x00,
+            0x00, 0x00, 0x00,
+        ],
+    ),
+    (Aper, &[0x02, 0x10, 0x01]),
+    (
+        Aper,
+        &[
+            0x10, 0x80, 0x00, 0x00, 0x00, 0x00, 0x00, 0x00, 0x00, 0x00, 0x00, 0x00, 0x00, 0x00,
+            0x00, 0x00, 0x00,
+        ],
+    ),
+];
+
+const NATURAL: Rows = &[(Uper, &[0x01, 0x80]), (Aper, &[0x01, 0x80])];
+
+const ZERO_TO_65536: Rows = &[
+    (Uper, &[0x80, 0x00, 0x00]),
+    (Aper, &[0x00, 0xfd]),
+    (Aper, &[0x40, 0x01, 0x00]),
+    (Aper, &[0x80, 0x01, 0x00, 0x00]),
+    (Aper, &[0xc0, 0x00, 0x00, 0x00, 0x05]),
+    (Aper, &[0x3f, 0xfd]),
+];
+
+const ONE_TO_TEN: Rows = &[
+    (Uper, &[0x20]),
+    (Uper, &[0x80, 0x88, 0x00]),
+    (Uper, &[0x80, 0x82, 0x80]),
+    (Aper, &[0x80, 0x01, 0x10]),
+    (Aper, &[0x80, 0x01, 0x05]),
+    (Aper, &[0x20]),
+    (Aper, &[0x80, 0x02, 0x10, 0x00]),
+];
+
+/// Whether a call for one of the rows was refused.
+fn is_one_refused(rt: &impl Abort, alloc: Global) -> bool {
+    is_any_row_refused::<bool>(rt, alloc, BOOLEAN)
+        || is_any_row_refused::<Integer>(rt, alloc, INTEGER)
+        || is_any_row_refused::<UpTo65535>(rt, alloc, UP_TO_65535)
+        || is_any_row_refused::<FromMinusOne>(rt, alloc, FROM_MINUS_ONE)
+        || is_any_row_refused::<Natural>(rt, alloc, NATURAL)
+        || is_any_row_refused::<ZeroTo65536>(rt, alloc, ZERO_TO_65536)
+        || is_any_row_refused::<OneToTenExtensible>(rt, alloc, ONE_TO_TEN)
+}
+
+#[test]
+fn answers_where_there_is_memory(rt: HostRuntime) {
+    assert!(rt;
+        !is_one_refused(&rt, rt.alloc()),
+        "refused for want of memory"
+    );
+}
