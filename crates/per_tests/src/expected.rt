@@ -4,7 +4,6 @@
 use per_enc::{EncodeError, EncodeErrorKind};
 use per_read::error::{DecodeError, DecodeErrorKind};
 use rasn_below::types::Codec;
-use std::fmt::Debug;
 use std::process::Abort;
 
 /// Octets are these.
@@ -12,19 +11,9 @@ pub(crate) fn expect_octets(rt: &impl Abort, found: &[u8], expected: &[u8]) {
     assert_eq!(rt; found, expected);
 }
 
-/// A value is this one.
-pub(crate) fn expect_equal<T: PartialEq + Debug>(rt: &impl Abort, found: &T, expected: &T) {
+/// A text is this one.
+pub(crate) fn expect_text(rt: &impl Abort, found: &str, expected: &str) {
     assert_eq!(rt; found, expected);
-}
-
-/// Octets were refused, for this reason.
-pub(crate) fn expect_refused_octets(
-    rt: &impl Abort,
-    octets: &[u8],
-    found: Option<DecodeErrorKind>,
-    expected: DecodeErrorKind,
-) {
-    assert_eq!(rt; found, Some(expected), "of {octets:?}");
 }
 
 /// A decoder of the UNALIGNED variant refused, for this reason.
@@ -33,17 +22,8 @@ pub(crate) fn expect_unread(rt: &impl Abort, found: Option<DecodeError>, kind: D
     assert_eq!(rt; found, Some(DecodeError { kind, codec }));
 }
 
-/// A value was refused in a variant, for this reason.
-pub(crate) fn expect_refused_value(
-    rt: &impl Abort,
-    found: Option<EncodeError>,
-    kind: EncodeErrorKind,
-    codec: Codec,
-) {
-    assert_eq!(rt; found, Some(EncodeError { kind, codec }));
-}
-
 /// An encoder of the UNALIGNED variant refused, for this reason.
 pub(crate) fn expect_unwritten(rt: &impl Abort, found: Option<EncodeError>, kind: EncodeErrorKind) {
-    expect_refused_value(rt, found, kind, Codec::Uper);
+    let codec = Codec::Uper;
+    assert_eq!(rt; found, Some(EncodeError { kind, codec }));
 }
