@@ -18,10 +18,10 @@ fn put<E: AnyEncoder>(encoder: &mut E) -> Result<(), E::Error> {
 
 /// The octets of TRUE by an encoder over a list, and those of what is left behind it.
 fn outputs_of(list: BitList<Global>) -> Result<(Vec<u8>, Vec<u8>), EncodeError> {
-    let mut encoder = Encoder::new_with_output(EncoderOptions::aligned(), list);
+    let mut encoder = Encoder::new_with_output(EncoderOptions::unaligned(), list);
     put(&mut encoder)?;
     let first = encoder.output()?;
-    Ok((first, encoder.output_into_vec()?))
+    Ok((first, encoder.output()?))
 }
 
 #[test]

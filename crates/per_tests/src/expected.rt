@@ -4,6 +4,7 @@
 use per_enc::{EncodeError, EncodeErrorKind};
 use per_read::error::{DecodeError, DecodeErrorKind};
 use rasn_below::types::Codec;
+use std::fmt::Debug;
 use std::process::Abort;
 
 /// Octets are these.
@@ -11,8 +12,8 @@ pub(crate) fn expect_octets(rt: &impl Abort, found: &[u8], expected: &[u8]) {
     assert_eq!(rt; found, expected);
 }
 
-/// A text is this one.
-pub(crate) fn expect_text(rt: &impl Abort, found: &str, expected: &str) {
+/// A value is this one.
+pub(crate) fn expect_equal<T: PartialEq + Debug>(rt: &impl Abort, found: &T, expected: &T) {
     assert_eq!(rt; found, expected);
 }
 

@@ -10,7 +10,11 @@ use rasn_below::{Constraint, constraints};
 use std::alloc::{AllocError, Global};
 use std::process::Abort;
 
-const FROM_1_TO_10: &[Constraint] = constraints!(1..=10);
+const FROM_1_TO_10: &[Constraint] = constraints!(1..=10, ...);
+
+const BOUNDED: &[Constraint] = constraints!(1..=10);
+
+const FROM_1_TO_300: &[Constraint] = constraints!(SIZE 1..=300);
 
 const UP_TO_65535: &[Constraint] = constraints!(..=65_535);
 
@@ -34,7 +38,7 @@ const NUMBERS: Rows = &[
     ),
     (
         FROM_1_TO_10,
-        &[0xf0],
+        &[0x78],
         DecodeErrorKind::ValueConstraintNotSatisfied(Some(16), Some(1), Some(10)),
     ),
     // 2 to the power 127 is named by its absence
@@ -72,8 +76,15 @@ const STRINGS: Rows = &[
     (constraints!(), &[0x03], DecodeErrorKind::Incomplete(21)),
 ];
 
-// behind a fragment a further length stands
-const LISTS: Rows = &[(constraints!(), &[0xc1], DecodeErrorKind::Incomplete(1))];
+const LISTS: Rows = &[
+    (
+        FROM_1_TO_300,
+        &[0x96, 0x00],
+        DecodeErrorKind::SizeConstraintNotSatisfied(301, Some(1), Some(300)),
+    ),
+    // behind a fragment a further length stands
+    (constraints!(), &[0xc1], DecodeErrorKind::Incomplete(1)),
+];
 
 fn expect_refusals<T: Decode>(rt: &impl Abort, alloc: Global, rows: Rows) {
     for (constraints, octets, kind) in rows {
@@ -92,19 +103,25 @@ fn names_why_octets_are_no_value(rt: HostRuntime) {
 
 #[test]
 fn names_why_a_number_is_not_written(rt: HostRuntime) {
-    let written = written_of(rt.alloc(), &16_i128, FROM_1_TO_10);
+    let written = written_of(rt.alloc(), &16_i128, BOUNDED);
     let kind = EncodeErrorKind::ValueConstraintNotSatisfied(Some(16), Some(1), Some(10));
     expect_unwritten(&rt, written.err(), kind);
 }
 
-/// Why a string is written under constraints neither of which it meets: the count is looked at first.
+// a string that meets neither is refused for its count
 #[test]
-fn names_the_count_before_the_characters(rt: HostRuntime) -> Result<(), AllocError> {
+fn names_why_a_string_is_not_written(rt: HostRuntime) -> Result<(), AllocError> {
     let letters = Vec::from_slice(rt.alloc(), b"AF")?;
     if let Some(string) = VisibleString::from_iso646_bytes(letters) {
-        let written = written_of(rt.alloc(), &string, ONE_OF_FIVE);
+        let foreign = written_of(rt.alloc(), &string, FIVE).err();
+        expect_unwritten(
+            &rt,
+            foreign,
+            EncodeErrorKind::AlphabetConstraintNotSatisfied,
+        );
+        let long = written_of(rt.alloc(), &string, ONE_OF_FIVE).err();
         let kind = EncodeErrorKind::SizeConstraintNotSatisfied(2, Some(1), Some(1));
-        expect_unwritten(&rt, written.err(), kind);
+        expect_unwritten(&rt, long, kind);
     }
     Ok(())
 }
