@@ -17,10 +17,3 @@ pub(crate) fn expect_text(rt: &impl Abort, found: &str, expected: &str) {
 pub(crate) fn expect_equal<T: PartialEq + Debug>(rt: &impl Abort, found: &T, expected: &T) {
     assert_eq!(rt; found, expected);
 }
-
-/// Each of these tests holds.
-pub(crate) fn expect_each(rt: &impl Abort, tests: &[bool]) {
-    for holds in tests {
-        assert!(rt; *holds, "{tests:?}");
-    }
-}

@@ -1,7 +1,8 @@
-//! The contents octets of OBJECT IDENTIFIERs, by outside vectors (X.690 8.19).
+//! The contents octets of OBJECT IDENTIFIERs, by outside vectors (X.690 8.19), and the texts of errors.
 
-use crate::expected::{expect_equal, expect_octets, expect_text};
+use crate::expected::{expect_octets, expect_text};
 use rasn_ber::ber::{BerError, object_identifier_as_bytes, object_identifier_from_bytes};
+use std::alloc::Global;
 use std::process::Abort;
 use std::test::Fail;
 
@@ -12,48 +13,49 @@ const ROWS: &[(&[u32], &[u8])] = &[
     (&[1, 2, 840, 113549], &[0x2a, 0x86, 0x48, 0x86, 0xf7, 0x0d]),
 ];
 
-#[test]
-fn writes_contents(rt: HostRuntime) -> Result<(), Fail> {
-    for (arcs, octets) in ROWS {
-        let mut written = Vec::new(rt.alloc());
-        object_identifier_as_bytes(arcs, &mut written)?;
-        expect_octets(&rt, written.as_slice(), octets);
-    }
-    Ok(())
-}
-
-#[test]
-fn reads_contents(rt: HostRuntime) -> Result<(), Fail> {
-    for (arcs, octets) in ROWS {
-        let read = object_identifier_from_bytes(rt.alloc(), octets)?;
-        expect_arcs(&rt, read.as_slice(), arcs);
-    }
-    Ok(())
-}
-
 /// Arcs are these.
 fn expect_arcs(rt: &impl Abort, found: &[u32], expected: &[u32]) {
     assert_eq!(rt; found, expected);
 }
 
-#[test]
-fn refuses_other_arcs(rt: HostRuntime) -> Result<(), Fail> {
-    let mut written = Vec::new(rt.alloc());
-    let refused = object_identifier_as_bytes(&[1, 40], &mut written);
-    expect_equal(&rt, &refused, &Err(BerError::InvalidObjectIdentifier));
+/// Arcs have these contents, and are read from them.
+fn expect_contents(
+    rt: &impl Abort,
+    alloc: Global,
+    arcs: &[u32],
+    octets: &[u8],
+) -> Result<(), BerError> {
+    let mut written = Vec::new(alloc);
+    object_identifier_as_bytes(arcs, &mut written)?;
+    expect_octets(rt, written.as_slice(), octets);
+    let read = object_identifier_from_bytes(alloc, octets)?;
+    expect_arcs(rt, read.as_slice(), arcs);
     Ok(())
 }
 
 #[test]
-fn refuses_other_contents(rt: HostRuntime) -> Result<(), Fail> {
+fn writes_and_reads_contents(rt: HostRuntime) -> Result<(), BerError> {
+    for (arcs, octets) in ROWS {
+        expect_contents(&rt, rt.alloc(), arcs, octets)?;
+    }
+    Ok(())
+}
+
+// that memory was wanting would be no breach of the contract
+#[test]
+fn refuses_other_contents(rt: HostRuntime) {
     let read = object_identifier_from_bytes(rt.alloc(), &[0x80, 0x01]);
     assert!(rt; read == Err(BerError::InvalidObjectIdentifier));
-    Ok(())
 }
 
 #[test]
-fn prints_want_of_memory(rt: HostRuntime) -> Result<(), Fail> {
-    let printed = format!(in rt.alloc(); "{}", BerError::OutOfMemory)?;
-    expect_text(&rt, printed.as_str(), "out of memory");
+fn prints_errors(rt: HostRuntime) -> Result<(), Fail> {
+    let (memory, other) = (BerError::OutOfMemory, BerError::InvalidObjectIdentifier);
+    let printed = format!(in rt.alloc(); "{memory}, {other}")?;
+    expect_text(
+        &rt,
+        printed.as_str(),
+        "out of memory, not an object identifier",
+    );
     Ok(())
 }

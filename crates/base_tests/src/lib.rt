@@ -3,11 +3,7 @@
 #![tactic(auto)]
 
 #[cfg(test)]
-mod alphabets;
-#[cfg(test)]
 mod bits;
-#[cfg(test)]
-mod constraints;
 #[cfg(test)]
 mod expected;
 #[cfg(test)]

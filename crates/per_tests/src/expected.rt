@@ -17,33 +17,14 @@ pub(crate) fn expect_equal<T: PartialEq + Debug>(rt: &impl Abort, found: &T, exp
     assert_eq!(rt; found, expected);
 }
 
-/// Octets were refused, for this reason.
-pub(crate) fn expect_refused_octets(
-    rt: &impl Abort,
-    octets: &[u8],
-    found: Option<DecodeErrorKind>,
-    expected: DecodeErrorKind,
-) {
-    assert_eq!(rt; found, Some(expected), "of {octets:?}");
-}
-
 /// A decoder of the UNALIGNED variant refused, for this reason.
 pub(crate) fn expect_unread(rt: &impl Abort, found: Option<DecodeError>, kind: DecodeErrorKind) {
     let codec = Codec::Uper;
     assert_eq!(rt; found, Some(DecodeError { kind, codec }));
 }
 
-/// A value was refused in a variant, for this reason.
-pub(crate) fn expect_refused_value(
-    rt: &impl Abort,
-    found: Option<EncodeError>,
-    kind: EncodeErrorKind,
-    codec: Codec,
-) {
-    assert_eq!(rt; found, Some(EncodeError { kind, codec }));
-}
-
 /// An encoder of the UNALIGNED variant refused, for this reason.
 pub(crate) fn expect_unwritten(rt: &impl Abort, found: Option<EncodeError>, kind: EncodeErrorKind) {
-    expect_refused_value(rt, found, kind, Codec::Uper);
+    let codec = Codec::Uper;
+    assert_eq!(rt; found, Some(EncodeError { kind, codec }));
 }

@@ -1,11 +1,23 @@
-//! Tests of what no clause of the writer and the reader says (`per_write` and `per_enc`, `per_read` and `per_de`):
-//! worked encodings in both variants, that calls succeed where there is memory, which of two faults is named, and the
-//! texts of errors.
+//! Tests of what no clause of the writer and the reader says (`per_write` and `per_enc`, `per_read` and `per_de`) and no
+//! other test shows: calls that no type of the project makes, that they succeed where there is memory, which of two
+//! faults is named, and the texts of errors.
 #![tactic(auto)]
 
 #[cfg(test)]
-mod decoding;
+mod absences;
 #[cfg(test)]
-mod encoding;
+mod allocators;
+#[cfg(test)]
+mod calls;
+#[cfg(test)]
+mod decode_errors;
+#[cfg(test)]
+mod encode_errors;
 #[cfg(test)]
 mod expected;
+#[cfg(test)]
+mod pieces;
+#[cfg(test)]
+mod refusals;
+#[cfg(test)]
+mod values;

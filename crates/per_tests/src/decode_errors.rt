@@ -1,4 +1,4 @@
-//! The texts of errors and options.
+//! The names and the texts of a decoder's errors and options.
 
 use per_de::DecoderOptions;
 use per_read::error::{DecodeError, DecodeErrorKind, ParserFailCause};

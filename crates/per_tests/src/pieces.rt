@@ -8,17 +8,17 @@ use std::alloc::Global;
 use std::process::Abort;
 use std::test::Fail;
 
-/// A bit 1 and an octet a5 behind a length, from each place of an octet on, in the aligned variant: the bit, zeros up
-/// to the next octet, and 01 a5.
-const PLACES: &[(usize, &[u8])] = &[
+/// A bit 1 and an octet a5 behind a length, from each place of an octet on, in the aligned variant: the greatest number
+/// of so many bits as stand before, then the bit, zeros up to the next octet, and 01 a5.
+const PLACES: &[(u8, &[u8])] = &[
     (0, &[0x80, 0x01, 0xa5]),
-    (1, &[0x40, 0x01, 0xa5]),
-    (2, &[0x20, 0x01, 0xa5]),
-    (3, &[0x10, 0x01, 0xa5]),
-    (4, &[0x08, 0x01, 0xa5]),
-    (5, &[0x04, 0x01, 0xa5]),
-    (6, &[0x02, 0x01, 0xa5]),
-    (7, &[0x01, 0x01, 0xa5]),
+    (0b1, &[0x40, 0x01, 0xa5]),
+    (0b11, &[0x20, 0x01, 0xa5]),
+    (0b111, &[0x10, 0x01, 0xa5]),
+    (0b1111, &[0x08, 0x01, 0xa5]),
+    (0b1_1111, &[0x04, 0x01, 0xa5]),
+    (0b11_1111, &[0x02, 0x01, 0xa5]),
+    (0b111_1111, &[0x01, 0x01, 0xa5]),
 ];
 
 /// Writes the bit and the octet.
@@ -38,13 +38,10 @@ fn contents_of(writer: &mut Writer<Global>) -> Result<Pieces<Global>, EncodeErro
     Ok(contents)
 }
 
-/// Writes so many zero bits.
-fn put_zeros(writer: &mut Writer<Global>, zeros: usize) -> Result<(), EncodeError> {
-    for _ in 0..zeros {
-        writer.check_unfailed()?;
-        writer.put_bit(false)?;
-    }
-    Ok(())
+/// Writes zeros: as many as the bits of a number.
+fn put_zeros(writer: &mut Writer<Global>, greatest: u8) -> Result<(), EncodeError> {
+    writer.check_unfailed()?;
+    writer.put_number(Some(0), Some(i128::from(greatest)), 0)
 }
 
 /// What is written with the contents behind what stands there.
@@ -70,43 +67,43 @@ fn put_opened(
 /// The octets of contents behind what stands there, and in an open type.
 type Octets = (Vec<u8>, Vec<u8>);
 
-/// What is written with the contents behind so many zero bits, and then in an open type.
+/// What is written with the contents behind the zeros of a number, and then in an open type.
 fn put_both(
     writer: &mut Writer<Global>,
     contents: Pieces<Global>,
-    zeros: usize,
+    greatest: u8,
 ) -> Result<Octets, EncodeError> {
-    put_zeros(writer, zeros)?;
+    put_zeros(writer, greatest)?;
     let behind = put_behind(writer, &contents)?;
     let opened = put_opened(writer, contents)?;
     Ok((behind, opened))
 }
 
-/// The contents behind so many zero bits, written before these, and in an open type.
-fn written_before(alloc: Global, codec: Codec, zeros: usize) -> Result<Octets, EncodeError> {
+/// The contents behind the zeros of a number, written before these, and in an open type.
+fn written_before(alloc: Global, codec: Codec, greatest: u8) -> Result<Octets, EncodeError> {
     let mut writer = Writer::new(alloc, codec);
     let contents = contents_of(&mut writer)?;
-    put_both(&mut writer, contents, zeros)
+    put_both(&mut writer, contents, greatest)
 }
 
-/// The contents are these behind so many zero bits, and in an open type these.
+/// The contents are these behind the zeros of a number, and in an open type these.
 fn expect_written(
     rt: &(impl Abort + AllocGlobal),
     codec: Codec,
-    zeros: usize,
+    greatest: u8,
     expected: (&[u8], &[u8]),
 ) -> Result<(), Fail> {
-    let (behind, opened) = written_before(rt.alloc(), codec, zeros)?;
+    let (behind, opened) = written_before(rt.alloc(), codec, greatest)?;
     let found = (behind.as_slice(), opened.as_slice());
-    assert!(rt; found == expected, "{zeros} zeros");
+    assert!(rt; found == expected, "{greatest}");
     Ok(())
 }
 
 #[test]
 fn settles_at_each_place(rt: HostRuntime) -> Result<(), Fail> {
-    for (zeros, octets) in PLACES {
+    for (greatest, octets) in PLACES {
         let opened = &[0x03, 0x80, 0x01, 0xa5];
-        expect_written(&rt, Codec::Aper, *zeros, (octets, opened))?;
+        expect_written(&rt, Codec::Aper, *greatest, (octets, opened))?;
     }
     Ok(())
 }
@@ -114,5 +111,5 @@ fn settles_at_each_place(rt: HostRuntime) -> Result<(), Fail> {
 #[test]
 fn has_no_padding_in_the_other_variant(rt: HostRuntime) -> Result<(), Fail> {
     let (octets, opened) = (&[0x10, 0x1a, 0x50], &[0x03, 0x80, 0xd2, 0x80]);
-    expect_written(&rt, Codec::Uper, 3, (octets, opened))
+    expect_written(&rt, Codec::Uper, 0b111, (octets, opened))
 }

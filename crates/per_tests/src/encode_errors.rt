@@ -1,4 +1,4 @@
-//! The names and the texts of errors and options.
+//! The names and the texts of an encoder's errors and options.
 
 use per_enc::{EncodeError, EncodeErrorKind, EncoderOptions};
 use rasn_below::types::Codec;
