@@ -1,4 +1,5 @@
-//! Calls of the crates above `rasn_per`, and what `decode_with_remainder` says of fronts that spell no value.
+//! Calls of the crates above `rasn_per`, what `decode_with_remainder` says of fronts that spell no value, and which
+//! constraints are lawful.
 
 use crate::expected::{BOTH, expect_equal, expect_read};
 use per_counts::calls::decode_from;
@@ -9,9 +10,10 @@ use per_samples_f::outer1::Outer1;
 use per_samples_k::set_each::SetEach;
 use per_versions::exchange::{ExchangeError, read_by_newer, read_by_older};
 use rasn_below::types::Codec;
+use rasn_below::{Constraint, Constraints, constraints};
 use rasn_per::bits::BitReader;
 use rasn_per::per::de::{DecodeError, Decoder, DecoderOptions};
-use rasn_per::uper::{DecodeErrorKind, ParserFailCause, decode_with_remainder};
+use rasn_per::uper::{DecodeErrorKind, ParserFailCause, decode_with_remainder, lawful};
 use std::alloc::Global;
 
 /// TRUE and FALSE, behind an extension bit 0.
@@ -111,5 +113,42 @@ fn names_what_no_value_begins_with(rt: HostRuntime) {
             codec: Codec::Uper,
         };
         expect_equal(&rt, &refused, &Some(error));
+    }
+}
+
+const ONE_TO_GREATEST: &[Constraint] = constraints!(
+    1..=170_141_183_460_469_231_731_687_303_715_884_105_727
+);
+
+const ZERO_TO_GREATEST: &[Constraint] = constraints!(
+    0..=170_141_183_460_469_231_731_687_303_715_884_105_727
+);
+
+const FIVE_TO_FOUR: &[Constraint] = constraints!(5..=4);
+
+const FROM_ZERO: &[Constraint] = constraints!(0..);
+
+const SIZES_THREE_TO_TWO: &[Constraint] = constraints!(SIZE 3..=2);
+
+const SIZES_TWO_TO_THREE: &[Constraint] = constraints!(SIZE 2..=3);
+
+const NO_CONSTRAINT: &[Constraint] = constraints!();
+
+/// Constraints, and whether they are lawful.
+const LAWFUL: &[(&[Constraint], bool)] = &[
+    (ONE_TO_GREATEST, true),
+    (ZERO_TO_GREATEST, false),
+    (FIVE_TO_FOUR, false),
+    (FROM_ZERO, true),
+    (SIZES_THREE_TO_TWO, false),
+    (SIZES_TWO_TO_THREE, true),
+    (NO_CONSTRAINT, true),
+];
+
+#[test]
+fn tells_lawful_constraints(rt: HostRuntime) {
+    for (constraints, are_lawful) in LAWFUL {
+        let told = lawful(&Constraints::new(constraints));
+        expect_equal(&rt, &(constraints, told), &(constraints, *are_lawful));
     }
 }
