@@ -149,6 +149,6 @@ const LAWFUL: &[(&[Constraint], bool)] = &[
 fn tells_lawful_constraints(rt: HostRuntime) {
     for (constraints, are_lawful) in LAWFUL {
         let told = lawful(&Constraints::new(constraints));
-        expect_equal(&rt, &(constraints, told), &(constraints, *are_lawful));
+        assert_eq!(rt; told, *are_lawful, "{constraints:?}");
     }
 }
