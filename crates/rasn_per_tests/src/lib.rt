@@ -1,10 +1,25 @@
-//! Tests of what no clause of `rasn_per` and `its_header` says, in both variants: that values of each type are written
-//! and read where there is memory, and which refusal is named where several would do.
+//! Tests over both modules of what no clause says, and no row of `rows/` or `vectors/` shows: types that the program
+//! doesn't take, the calls for additions and of the crates above, which refusal is named where several would do, and
+//! streams that break under the program.
 #![tactic(auto)]
 
 #[cfg(test)]
-mod aligned;
+mod additions;
+#[cfg(test)]
+mod alternatives;
+#[cfg(test)]
+mod bags;
+#[cfg(test)]
+mod calls;
 #[cfg(test)]
 mod expected;
 #[cfg(test)]
-mod unaligned;
+mod header;
+#[cfg(test)]
+mod moments;
+#[cfg(test)]
+mod runs;
+#[cfg(test)]
+mod streams;
+#[cfg(test)]
+mod values;

@@ -1,11 +1,10 @@
-//! The header of an intelligent transport message, and records that hold it.
+//! The header of an intelligent transport message, and a record that holds it.
 
-use super::values::expect_both;
+use crate::expected::expect_coded;
 use its_header::header::ItsPduHeader;
 use its_header::message::Message;
 use its_header::position::ReferencePositionLite;
-use rasn_below::types::{Ia5String, OctetString};
-use rasn_per::uper::decode;
+use rasn_below::types::{Codec, Ia5String, OctetString};
 use std::alloc::Global;
 use std::test::Fail;
 
@@ -22,15 +21,9 @@ const POSITION: ReferencePositionLite = ReferencePositionLite {
 };
 
 #[test]
-fn header_is_six_octets(rt: HostRuntime) -> Result<(), Fail> {
+fn header_is_six_octets(rt: HostRuntime) {
     let octets = &[0x02, 0x02, 0x12, 0x34, 0x56, 0x78];
-    expect_both(&rt, rt.alloc(), &HEADER, octets)
-}
-
-#[test]
-fn position_is_75_bits(rt: HostRuntime) -> Result<(), Fail> {
-    let octets = &[0xa5, 0x1a, 0xd8, 0x80, 0xe1, 0x4e, 0x39, 0x00, 0x70, 0x80];
-    expect_both(&rt, rt.alloc(), &POSITION, octets)
+    expect_coded(&rt, rt.alloc(), Codec::Uper, &HEADER, octets);
 }
 
 const MESSAGE: &[u8] = &[
@@ -51,11 +44,6 @@ fn message(alloc: Global) -> Result<Message, Fail> {
 #[test]
 fn message_is_194_bits(rt: HostRuntime) -> Result<(), Fail> {
     let message = message(rt.alloc())?;
-    expect_both(&rt, rt.alloc(), &message, MESSAGE)
-}
-
-#[test]
-fn message_has_an_end(rt: HostRuntime) {
-    let front = decode::<Message>(rt.alloc(), &MESSAGE[..24]);
-    assert!(rt; front.is_err());
+    expect_coded(&rt, rt.alloc(), Codec::Uper, &message, MESSAGE);
+    Ok(())
 }

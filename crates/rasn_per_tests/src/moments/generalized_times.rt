@@ -1,11 +1,8 @@
 //! GeneralizedTime (X.691 30): its canonical text (X.690 11.7) as a VisibleString without constraints.
 
-use crate::expected::{
-    expect_aligned, expect_equal, expect_refusals, expect_refused_aligned,
-    expect_refused_unaligned, expect_unaligned,
-};
+use crate::expected::{BOTH, expect_unread, expect_unwritten, expect_variants};
 use jiff::civil::DateTime;
-use rasn_below::types::GeneralizedTime;
+use rasn_below::types::{Codec, GeneralizedTime};
 use rasn_per::uper::{DecodeErrorKind, EncodeErrorKind};
 use std::test::Fail;
 
@@ -41,23 +38,11 @@ const ROWS: &[((i16, i8, i8), (i8, i8, i8), i32, &[u8], &[u8])] = &[
 ];
 
 #[test]
-fn writes_and_reads_aligned(rt: HostRuntime) -> Result<(), Fail> {
-    for ((year, month, day), (hour, minute, second), nanosecond, aligned, _) in ROWS {
+fn writes_and_reads(rt: HostRuntime) -> Result<(), Fail> {
+    for ((year, month, day), (hour, minute, second), nanosecond, aligned, unaligned) in ROWS {
         let moment = DateTime::new(*year, *month, *day, *hour, *minute, *second, *nanosecond)?;
         let time = GeneralizedTime::new(moment);
-        expect_equal(&rt, &time.to_datetime(), &moment);
-        expect_aligned(&rt, rt.alloc(), &time, aligned)?;
-    }
-    Ok(())
-}
-
-#[test]
-fn writes_and_reads_unaligned(rt: HostRuntime) -> Result<(), Fail> {
-    for ((year, month, day), (hour, minute, second), nanosecond, _, unaligned) in ROWS {
-        let moment = DateTime::new(*year, *month, *day, *hour, *minute, *second, *nanosecond)?;
-        let time = GeneralizedTime::new(moment);
-        expect_equal(&rt, &time.to_datetime(), &moment);
-        expect_unaligned(&rt, rt.alloc(), &time, unaligned)?;
+        expect_variants(&rt, rt.alloc(), &time, aligned, unaligned);
     }
     Ok(())
 }
@@ -103,7 +88,7 @@ const REFUSED_ALIGNED: &[(&[u8], DecodeErrorKind)] = &[
 
 #[test]
 fn refuses_octets_aligned(rt: HostRuntime) {
-    expect_refused_aligned::<GeneralizedTime>(&rt, rt.alloc(), REFUSED_ALIGNED);
+    expect_unread::<GeneralizedTime>(&rt, rt.alloc(), Codec::Aper, REFUSED_ALIGNED);
 }
 
 /// Octets of the UNALIGNED variant that are read as no GeneralizedTime, and why.
@@ -146,18 +131,14 @@ const REFUSED_UNALIGNED: &[(&[u8], DecodeErrorKind)] = &[
 
 #[test]
 fn refuses_octets_unaligned(rt: HostRuntime) {
-    expect_refused_unaligned::<GeneralizedTime>(&rt, rt.alloc(), REFUSED_UNALIGNED);
+    expect_unread::<GeneralizedTime>(&rt, rt.alloc(), Codec::Uper, REFUSED_UNALIGNED);
 }
 
-/// Days, and nanoseconds of their first second, that no GeneralizedTime holds.
-const NO_TEXTS: &[((i16, i8, i8), i32)] = &[((-1, 12, 31), 0), ((-1, 12, 31), 1)];
-
 #[test]
-fn refuses_moments(rt: HostRuntime) -> Result<(), Fail> {
-    for ((year, month, day), nanosecond) in NO_TEXTS {
-        let moment = DateTime::new(*year, *month, *day, 0, 0, 0, *nanosecond)?;
-        let time = GeneralizedTime::new(moment);
-        expect_refusals(&rt, rt.alloc(), &time, EncodeErrorKind::Below);
+fn refuses_a_moment_before_year_0(rt: HostRuntime) -> Result<(), Fail> {
+    let time = GeneralizedTime::new(DateTime::new(-1, 12, 31, 0, 0, 0, 0)?);
+    for codec in BOTH {
+        expect_unwritten(&rt, rt.alloc(), *codec, &time, EncodeErrorKind::Below);
     }
     Ok(())
 }

@@ -1,0 +1,4 @@
+//! The calls for additions, of SEQUENCE { ..., a BOOLEAN, b BOOLEAN OPTIONAL }.
+
+mod reading;
+mod writing;

@@ -1,0 +1,145 @@
+//! Calls of the crates above `rasn_per`, what `decode_with_remainder` says of fronts that spell no value, and which
+//! constraints are lawful.
+
+use crate::expected::{BOTH, expect_equal, expect_read};
+use per_counts::calls::decode_from;
+use per_samples_c::colors::TwoColors;
+use per_samples_c::one_color::OneColor;
+use per_samples_f::outer1::Outer1;
+use per_samples_k::set_each::SetEach;
+use per_versions::exchange::{ExchangeError, read_by_newer, read_by_older};
+use rasn_below::types::Codec;
+use rasn_below::{Constraint, Constraints, constraints};
+use rasn_per::bits::BitReader;
+use rasn_per::per::de::{DecodeError, Decoder, DecoderOptions};
+use rasn_per::uper::{DecodeErrorKind, ParserFailCause, decode_with_remainder, lawful};
+use std::alloc::Global;
+
+/// TRUE and FALSE, behind an extension bit 0.
+const OUTER: &[u8] = &[0x40];
+
+const READ: Outer1 = Outer1 {
+    first: true,
+    second: false,
+};
+
+/// What a decoder of one's own reads.
+fn read_by_decoder(alloc: Global) -> Option<Outer1> {
+    let bits = BitReader::from_octets(OUTER);
+    let mut decoder = Decoder::from_reader(alloc, bits, DecoderOptions::unaligned());
+    decode_from(&mut decoder).ok()
+}
+
+#[test]
+fn counted_call_of_a_decoder_answers(rt: HostRuntime) {
+    expect_equal(&rt, &read_by_decoder(rt.alloc()), &Some(READ));
+}
+
+#[test]
+fn readers_of_other_versions_answer(rt: HostRuntime) {
+    for codec in BOTH {
+        let older = read_by_older::<TwoColors, OneColor>(rt.alloc(), *codec, &TwoColors::A);
+        expect_equal(&rt, &older, &Ok(OneColor::A));
+        let newer = read_by_newer::<TwoColors, OneColor>(rt.alloc(), *codec, &OneColor::A);
+        expect_equal(&rt, &newer, &Ok(TwoColors::A));
+    }
+}
+
+#[test]
+fn older_reader_refuses_an_added_item(rt: HostRuntime) {
+    let kind = DecodeErrorKind::EnumerationIndexNotFound(0, true);
+    for codec in BOTH {
+        let error = ExchangeError::Decode(DecodeError {
+            kind,
+            codec: *codec,
+        });
+        let answer = read_by_older::<TwoColors, OneColor>(rt.alloc(), *codec, &TwoColors::B);
+        expect_equal(&rt, &answer, &Err(error));
+    }
+}
+
+/// Components of a SET, each read by its index.
+const EACH: &[(SetEach, &[u8])] = &[
+    (
+        SetEach {
+            p: Some(true),
+            q: Some(false),
+            r: None,
+        },
+        &[0xa8],
+    ),
+    (
+        SetEach {
+            p: None,
+            q: None,
+            r: Some(true),
+        },
+        &[0x50],
+    ),
+];
+
+#[test]
+fn components_are_read_by_their_indices(rt: HostRuntime) {
+    for (set, octets) in EACH {
+        expect_read(&rt, rt.alloc(), Codec::Aper, set, octets);
+        expect_read(&rt, rt.alloc(), Codec::Uper, set, octets);
+    }
+}
+
+/// Octets that begin with no value of NULL, and why.
+const NO_NULLS: &[(&[u8], DecodeErrorKind)] = &[
+    (&[], DecodeErrorKind::Incomplete(8)),
+    (
+        &[0x01, 0x00],
+        DecodeErrorKind::ParserFail(ParserFailCause::NonzeroEmptyValue),
+    ),
+];
+
+#[test]
+fn names_what_no_value_begins_with(rt: HostRuntime) {
+    for (octets, kind) in NO_NULLS {
+        let refused = decode_with_remainder::<()>(rt.alloc(), octets).err();
+        let error = DecodeError {
+            kind: *kind,
+            codec: Codec::Uper,
+        };
+        expect_equal(&rt, &refused, &Some(error));
+    }
+}
+
+const ONE_TO_GREATEST: &[Constraint] = constraints!(
+    1..=170_141_183_460_469_231_731_687_303_715_884_105_727
+);
+
+const ZERO_TO_GREATEST: &[Constraint] = constraints!(
+    0..=170_141_183_460_469_231_731_687_303_715_884_105_727
+);
+
+const FIVE_TO_FOUR: &[Constraint] = constraints!(5..=4);
+
+const FROM_ZERO: &[Constraint] = constraints!(0..);
+
+const SIZES_THREE_TO_TWO: &[Constraint] = constraints!(SIZE 3..=2);
+
+const SIZES_TWO_TO_THREE: &[Constraint] = constraints!(SIZE 2..=3);
+
+const NO_CONSTRAINT: &[Constraint] = constraints!();
+
+/// Constraints, and whether they are lawful.
+const LAWFUL: &[(&[Constraint], bool)] = &[
+    (ONE_TO_GREATEST, true),
+    (ZERO_TO_GREATEST, false),
+    (FIVE_TO_FOUR, false),
+    (FROM_ZERO, true),
+    (SIZES_THREE_TO_TWO, false),
+    (SIZES_TWO_TO_THREE, true),
+    (NO_CONSTRAINT, true),
+];
+
+#[test]
+fn tells_lawful_constraints(rt: HostRuntime) {
+    for (constraints, are_lawful) in LAWFUL {
+        let told = lawful(&Constraints::new(constraints));
+        assert_eq!(rt; told, *are_lawful, "{constraints:?}");
+    }
+}

@@ -1,0 +1,81 @@
+//! Values of types that the program doesn't take, and the octets of their complete encodings.
+
+use crate::expected::{BOTH, expect_rows, expect_value, expect_variants};
+use its_header::speed::Speed;
+use per_samples_a::pair::Pair;
+use per_samples_a::some_absent::SomeAbsent;
+use per_samples_d::alternative::{Alternative, ZeroTo7};
+use per_samples_d::nested::Nested;
+use rasn_below::types::{
+    Any, BmpString, Codec, GeneralString, GraphicString, Ia5String, NumericString, PrintableString,
+    TeletexString, Utf8String, VisibleString,
+};
+
+#[test]
+fn writes_and_reads_octets_behind_a_length(rt: HostRuntime) {
+    for codec in BOTH {
+        expect_value::<Any>(&rt, rt.alloc(), *codec, &[0x02, 0x01, 0x05]);
+        expect_value::<Utf8String>(&rt, rt.alloc(), *codec, &[0x02, 0xc3, 0xa9]);
+        expect_value::<GeneralString>(&rt, rt.alloc(), *codec, &[0x01, 0xaa]);
+        expect_value::<GraphicString>(&rt, rt.alloc(), *codec, &[0x01, 0xbb]);
+        expect_value::<TeletexString>(&rt, rt.alloc(), *codec, &[0x01, 0xcc]);
+        expect_value::<Speed>(&rt, rt.alloc(), *codec, &[0x02, 0xff, 0x7f]);
+        expect_value::<Box<i128>>(&rt, rt.alloc(), *codec, &[0x02, 0xff, 0x7f]);
+    }
+}
+
+#[test]
+fn writes_and_reads_characters(rt: HostRuntime) {
+    expect_value::<VisibleString>(&rt, rt.alloc(), Codec::Uper, &[0x01, 0x82]);
+    expect_value::<Ia5String>(&rt, rt.alloc(), Codec::Uper, &[0x01, 0x14]);
+    expect_value::<PrintableString>(&rt, rt.alloc(), Codec::Uper, &[0x01, 0x7e]);
+    expect_value::<NumericString>(&rt, rt.alloc(), Codec::Uper, &[0x02, 0x1a]);
+    expect_value::<BmpString>(&rt, rt.alloc(), Codec::Uper, &[0x01, 0x04, 0x16]);
+    expect_value::<BmpString>(&rt, rt.alloc(), Codec::Aper, &[0x01, 0x20, 0xac]);
+}
+
+/// The length of an INTEGER is padded before in the ALIGNED variant (X.691 11.9.3.5).
+#[test]
+fn writes_and_reads_a_record(rt: HostRuntime) {
+    let pair = Pair { a: true, b: 5 };
+    let aligned = &[0x80, 0x01, 0x05];
+    expect_variants(&rt, rt.alloc(), &pair, aligned, &[0x80, 0x82, 0x80]);
+}
+
+const SOME_ABSENT: &[(SomeAbsent, &[u8])] = &[
+    (
+        SomeAbsent {
+            a: true,
+            b: Some(5),
+            c: 3,
+        },
+        &[0xb4],
+    ),
+    (
+        SomeAbsent {
+            a: true,
+            b: None,
+            c: 4,
+        },
+        &[0x70],
+    ),
+];
+
+/// Presence bits aren't padded (X.691 19.2).
+#[test]
+fn writes_and_reads_components_that_may_be_absent(rt: HostRuntime) {
+    expect_rows(&rt, rt.alloc(), SOME_ABSENT);
+}
+
+const NESTED: &[(Nested, &[u8])] = &[
+    (Nested::Inner(Alternative::X(true)), &[0x50]),
+    (Nested::Last, &[0x80]),
+];
+
+/// The index of few alternatives stands in bits, and the alternative is padded from where it stands (X.691 23.6).
+#[test]
+fn writes_and_reads_choices(rt: HostRuntime) {
+    let second = Alternative::Y(ZeroTo7::new(5));
+    expect_variants(&rt, rt.alloc(), &second, &[0xd0], &[0xd0]);
+    expect_rows(&rt, rt.alloc(), NESTED);
+}
