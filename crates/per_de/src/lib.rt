@@ -27,7 +27,7 @@ ghost use Rattle.per_scopes.specs.BagLaws.{bags_well};
 ghost use Rattle.per_scopes.specs.ScopeLaws.{scopes_well};
 ghost use Rattle.per_scopes.specs.SetLaws.{sets_well};
 ghost use Rattle.per_scopes.specs.Scopes.{Closes, Enters, LevelInside, Opens, no_record, with_outside};
-ghost use Rattle.per_scopes.specs.State.{Source, State, Options, fresh, fresh_of, octets_lent, reader_of, shown};
+ghost use Rattle.per_scopes.specs.State.{Source, State, Options, fresh, fresh_of, octets_lent, reader_of, shown, with_last};
 ghost use Rattle.per_de.specs.Lists.{AmidList};
 ghost use Rattle.per_de.specs.Openings.{OpensRecord};
 ghost use Rattle.per_de.specs.Outsides.{choosing_of, outside_of, waiting_of};
@@ -296,13 +296,14 @@ impl<'input> Decoder<'input> {
         let Some(octets) = self.lent(constraints, count, left) else {
             return decoder::Decoder::decode_octet_string(self, tag, constraints);
         };
-        self.bits = self.bits.behind(self.bits.len() - left);
+        self.keep_last(left);
         Ok(CowSlice::Borrowed(octets))
     }
 
     /// The `count` octets under a size in front of the last `left` bits, where they can be lent.
     fn lent(&self, constraints: &Constraints, count: usize, left: u128) -> Option<&'input [u8]>
-        requires { 8 * count + left ≤ length self.now.bits }
+        requires { ComeAlone (size_of constraints.now) (is_size_marked constraints.now) self.now.bits count
+            → 8 * count + left ≤ length self.now.bits }
         ensures some { let place = length self.now.source.bits - self.now.source.behind - left in
             IfSome result (λ part. AreOctetsOf self.now.source.bits place count part.now) }
         ensures lent { let size = size_of constraints.now in let mark = is_size_marked constraints.now in
@@ -381,12 +382,19 @@ impl<'input> Decoder<'input> {
     {
         match taken {
             Ok(value) => {
-                let count = self.bits.len().saturating_sub(left);
-                self.bits = self.bits.behind(count);
+                self.keep_last(left);
                 Ok(value)
             }
             Err(kind) => Err(self.refuse(kind)),
         }
+    }
+
+    /// Takes off the bits left all but the last so many.
+    fn keep_last(&mut self, left: u128)
+        ensures { self.new ≡ with_last self.old left }
+    {
+        let count = self.bits.len().saturating_sub(left);
+        self.bits = self.bits.behind(count);
     }
 
     /// Takes so many presence bits off the bits left, and answers where they stand. Where fewer are left it refuses.
