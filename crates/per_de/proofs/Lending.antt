@@ -1,9 +1,11 @@
 -- Octets that come with one count alone, or with none, are the last bits that were taken, and are lent where these are octets of the input
 -- (X.691 11.9, 17).
-use Rattle.std.proofs.Common.{◌≡◌, ◌<◌, ◌⊎◌, inl, inr, refl, sym, ◌∙◌, ap, ap₂, ℕ, zero, suc, ◌+◌, ◌*◌, ◌^◌, Bool, true, false, cond, nat_lt, ◌&&◌, List, [], ◌∷◌, ◌++◌, length, Option, Some, None, arith, length-append, append_assoc}
+use Rattle.std.proofs.Common.{◌≡◌, ◌<◌, ◌≤◌, ◌⊎◌, inl, inr, refl, sym, ◌∙◌, ap, ap₂, ℕ, zero, suc, ◌+◌, ◌-◌, ◌*◌, ◌/◌, ◌%◌, ◌^◌, take, drop, Bool, true, false, cond, nat_lt, ◌&&◌, List, [], ◌∷◌, ◌++◌, length, Option, Some, None, arith, length-append, append_assoc}
 use Rattle.rasn_types.specs.Bits.{AreOctets, Bits, pack, unpack}
 use Rattle.rasn_types.proofs.Bits.{length-unpack, number_below, to_bits-number}
 use Rattle.rasn_types.proofs.Fewest.{pack-unpack}
+use Rattle.rasn_types.proofs.Packing.{unpack-take}
+use Rattle.per_bits.proofs.Words.{unpack-drop}
 use Rattle.rasn_types.specs.Bits.{to_bits}
 use Rattle.rasn_constraints.specs.Bounds.{Size, any_size}
 use Rattle.per_core.specs.Basic.{InFragments, Lengthy, OneByOne, Sized, UnconstrainedLength, length_form, octet}
@@ -12,6 +14,7 @@ use Rattle.per_core.specs.Spellings.{Settings, Spelling, Then}
 use Rattle.per_core.specs.Took.{Took}
 use Rattle.per_additions.specs.Stands.{LastTaken}
 use Rattle.per_de.specs.Lending.{ComeAlone, is_counted_once, is_extended}
+use Rattle.per_de.specs.Sources.{AreOctetsOf}
 
 -- octets are the last of some bits
 record EndIn (os : List ℕ) (bits : Bits) : Type 0 where
@@ -85,3 +88,26 @@ pub unpack_same : (xs ys : List ℕ) → AreOctets xs → AreOctets ys → unpac
 unpack_same xs ys h k e =
     let n : length xs ≡ length ys = omega (arith, ap length e, length-unpack xs, length-unpack ys) in
     sym (pack-unpack xs h) ∙ ap₂ (λ (n : ℕ) (b : Bits). pack n b) n e ∙ pack-unpack ys k
+
+-- the octets in front of the place of a bit
+octets_take : (n : ℕ) (os : List ℕ) → AreOctets os → AreOctets (take n os)
+octets_take zero os h = tt
+octets_take (suc n) [] h = tt
+octets_take (suc n) (o ∷ os) h = (h.0, octets_take n os h.1)
+
+octets_drop : (n : ℕ) (os : List ℕ) → AreOctets os → AreOctets (drop n os)
+octets_drop zero os h = h
+octets_drop (suc n) [] h = tt
+octets_drop (suc n) (o ∷ os) h = octets_drop n os h.1
+
+pub octets_before : (os : List ℕ) (place n : ℕ) → AreOctets os → place % 8 ≡ 0 → 8 * n ≤ place
+    → AreOctetsOf (unpack os) place n (take (place / 8 - (place / 8 - n)) (drop (place / 8 - n) os))
+octets_before os place n h e l =
+    let begin = place / 8 - n in
+    let many = place / 8 - begin in
+    let m : 8 * many ≡ place - (place - 8 * n) = omega (arith, e, l) in
+    let b : 8 * begin ≡ place - 8 * n = omega (arith, e, l) in
+    record {
+      are = octets_take many (drop begin os) (octets_drop begin os h);
+      same = sym (unpack-take many (drop begin os)) ∙ ap (λ z. take (8 * many) z) (sym (unpack-drop begin os)) ∙ ap₂ (λ (i j : ℕ). take i (drop j (unpack os))) m b;
+    }

@@ -24,6 +24,10 @@ lends (Input bits) = false
 lends (Octets octets) = true
 lends (Gathered octets) = false
 
+-- a source of which all bits are left
+abbrev pub whole_of : Source → State.Source
+whole_of source = record { bits = bits_of source; behind = 0; lends = lends source }
+
 -- a source, of which the bits up to the end of a span are left
 abbrev pub up_to : Span → Source → State.Source
 up_to span source = record { bits = bits_of source; behind = length (bits_of source) - span.end; lends = lends source }
@@ -32,10 +36,10 @@ up_to span source = record { bits = bits_of source; behind = length (bits_of sou
 abbrev pub span_of : Span → Bits → Bits
 span_of span source = between span.begin span.end source
 
--- octets are the last n whole ones in front of the place of a bit
-pub record AreOctetsOf (bits : Bits) (place n : ℕ) (octets : List ℕ) : Type 0 where
-  pub octets : AreOctets octets
-  pub same : unpack octets ≡ between (place - 8 * n) place bits
+-- a part of some octets is the last n in front of the place of a bit
+pub record AreOctetsOf (bits : Bits) (place n : ℕ) (part : List ℕ) : Type 0 where
+  pub are : AreOctets part
+  pub same : unpack part ≡ between (place - 8 * n) place bits
 
 -- a source has all of them
 pub record IsWithin (span : Span) (source : Bits) : Type 0 where

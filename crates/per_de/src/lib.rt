@@ -27,12 +27,12 @@ ghost use Rattle.per_scopes.specs.BagLaws.{bags_well};
 ghost use Rattle.per_scopes.specs.ScopeLaws.{scopes_well};
 ghost use Rattle.per_scopes.specs.SetLaws.{sets_well};
 ghost use Rattle.per_scopes.specs.Scopes.{Closes, Enters, LevelInside, Opens, no_record, with_outside};
-ghost use Rattle.per_scopes.specs.State.{Source, State, Options, fresh, fresh_of, octets_lent, reader_of, shown, with_last};
+ghost use Rattle.per_scopes.specs.State.{State, Options, fresh, fresh_of, octets_lent, reader_of, shown, with_last};
 ghost use Rattle.per_de.specs.Lists.{AmidList};
 ghost use Rattle.per_de.specs.Openings.{OpensRecord};
 ghost use Rattle.per_de.specs.Outsides.{choosing_of, outside_of, waiting_of};
 ghost use Rattle.per_de.specs.Lending.{AreLent, ComeAlone};
-ghost use Rattle.per_de.specs.Sources.{bits_of, extension_in, flags_in, lends, span_of, up_to, AreOctetsOf, IsWithin};
+ghost use Rattle.per_de.specs.Sources.{bits_of, extension_in, flags_in, span_of, up_to, whole_of, AreOctetsOf, IsWithin};
 ghost use Rattle.per_de.specs.Steps.{AsksNext, EndsContents, EntersOpen, HasTwoLevels, IsRootRead, SkipsUnknown};
 ghost use Rattle.per_de.specs.Steps.{ClosesContents, EntersAlternative, TakesIndex};
 ghost use Rattle.per_de.specs.Steps.{TakesBit, TakesBitmap, TakesExtensionBit, TakesFlags, TakesPresences};
@@ -240,8 +240,7 @@ impl<'input> Decoder<'input> {
 
     /// A decoder of all bits of a source.
     fn of_source(alloc: Global, source: Source<'input>, options: DecoderOptions) -> Self
-        ensures { let whole = record { bits = bits_of source; behind = 0; lends = lends source } in
-            result ≡ fresh_of whole options }
+        ensures { result ≡ fresh_of (whole_of source) options }
     {
         let end = source.bits().len();
         Decoder {
@@ -741,7 +740,7 @@ pub struct Scope {
 impl Scope {
     /// So many levels, and nothing of a SEQUENCE to read.
     fn without_record(levels: u32) -> Self
-        ensures { (source : Source) → outside_of source result ≡ no_record levels }
+        ensures { (s : State) → outside_of s.source result ≡ no_record levels }
     {
         Scope {
             levels,
