@@ -11,7 +11,7 @@ use Rattle.rasn_constraints.specs.Bounds.{Size, any_size}
 use Rattle.per_core.specs.Basic.{InFragments, Lengthy, OneByOne, Sized, UnconstrainedLength, length_form, octet}
 use Rattle.per_core.specs.Counts.{octet_items}
 use Rattle.per_core.specs.Spellings.{Settings, Spelling, Then}
-use Rattle.per_core.specs.Took.{Took}
+use Rattle.per_core.specs.Took.{Took, place}
 use Rattle.per_additions.specs.Stands.{LastTaken}
 use Rattle.per_de.specs.Lending.{ComeAlone, is_counted_once, is_extended}
 use Rattle.per_de.specs.Sources.{AreOctetsOf}
@@ -29,7 +29,7 @@ octets_are (o ∷ os) p b h =
     let front : h.front ≡ to_bits 8 o = sym (to_bits-number h.front) ∙ ap₂ (λ (n m : ℕ). to_bits n m) w.wide w.means in
     let below : o < 256 = omega (arith, w.means, number_below h.front, ap (λ (n : ℕ). 2 ^ n) w.wide) in
     let rest = octets_are os _ h.rest h.is_rest in
-    (h.joins ∙ ap₂ (λ (x y : Bits). x ++ y) front rest.0, below, rest.1)
+    (h.joins ∙ ap₂ (λ (x y : Bits). x ++ y) front rest.0, (below, rest.1))
 
 one_by_one : (os : List ℕ) (p : ℕ) (b : Bits) → OneByOne octet os p b → EndIn os b
 one_by_one os p b h = let w = octets_are os p b h in record { before = []; joins = w.0; are = w.1 }
@@ -47,31 +47,31 @@ module _ (a : Settings) (os : List ℕ) where
   free : (p : ℕ) (b : Bits) → UnconstrainedLength a octet os p b → length os < 16384 → EndIn os b
   free p b h l = in_one h.fragments p b h.spelled l
 
-  once : (c : Bool) {f g : Spelling} (p : ℕ) (b : Bits) (pads : Spelling) → cond c (Then f (Then pads (OneByOne octet os))) (UnconstrainedLength a octet os) p b → (length os < 16384) ⊎ (c ≡ true) → EndIn os b
-  once true p b pads h l = behind os h (λ q c x. behind os x (one_by_one os))
-  once false p b pads h (inl l) = free p b h l
-  once false p b pads h (inr e) = absurd cc
+  once : (c : Bool) (f pads : Spelling) (p : ℕ) (b : Bits) → cond c (Then f (Then pads (OneByOne octet os))) (UnconstrainedLength a octet os) p b → (length os < 16384) ⊎ (c ≡ true) → EndIn os b
+  once true f pads p b h l = behind os h (λ q c x. behind os x (one_by_one os))
+  once false f pads p b h (inl l) = free p b h l
+  once false f pads p b h (inr e) = absurd cc
 
   under : (least most : Option ℕ) (p : ℕ) (b : Bits) → length_form a least most octet_items octet os p b → (length os < 16384) ⊎ (is_counted_once least most ≡ true) → EndIn os b
   under None most p b h (inl l) = free p b h l
   under None most p b h (inr e) = absurd cc
   under (Some lb) None p b h (inl l) = free p b h l
   under (Some lb) None p b h (inr e) = absurd cc
-  under (Some lb) (Some ub) p b h l = once (nat_lt ub 65536) p b _ h l
+  under (Some lb) (Some ub) p b h l = once (nat_lt ub 65536) _ _ p b h l
 
   some_end : {s t front : Bits} → s ≡ front ++ t → EndIn os front → LastTaken (8 * length os) (unpack os) s t × AreOctets os
   some_end {t = t} j e = (record { before = e.before; joins = j ∙ ap (λ z. z ++ t) e.joins ∙ append_assoc e.before (unpack os) t; wide = length-unpack os }, e.are)
 
   module _ (size : Size) where
-    without : {s : Bits} (mark : Bool) → ComeAlone size mark s (length os) → (length os < 16384) ⊎ (is_counted_once size.least size.most ≡ true)
-    without mark (inl l) = inl l
-    without mark (inr e) = inr e.0
+    without : (s : Bits) (mark : Bool) → ComeAlone size mark s (length os) → (length os < 16384) ⊎ (is_counted_once size.least size.most ≡ true)
+    without s mark (inl l) = inl l
+    without s mark (inr e) = inr e.0
 
     marked : {s t : Bits} → Took (Lengthy a size true octet_items octet os) s t → ComeAlone size true s (length os) → LastTaken (8 * length os) (unpack os) s t × AreOctets os
     marked {s} {t} h l = go h.spelled l
       where
-        go : Lengthy a size true octet_items octet os _ h.front → ComeAlone size true s (length os) → LastTaken (8 * length os) (unpack os) s t × AreOctets os
-        go (inl x) l = some_end h.joins (behind os x (λ q c y. under size.least size.most q c y.spelled (without true l)))
+        go : Lengthy a size true octet_items octet os (place s) h.front → ComeAlone size true s (length os) → LastTaken (8 * length os) (unpack os) s t × AreOctets os
+        go (inl x) l = some_end h.joins (behind os x (λ q c y. under size.least size.most q c y.spelled (without s true l)))
         go (inr x) (inl l) = some_end h.joins (behind os x (λ q c y. free q c y.spelled l))
         go (inr x) (inr e) =
             let i : s ≡ true ∷ (x.rest ++ t) = h.joins ∙ ap (λ z. z ++ t) (x.joins ∙ ap (λ z. z ++ x.rest) x.is_front) in
@@ -80,7 +80,7 @@ module _ (a : Settings) (os : List ℕ) where
 
     -- what comes alone was taken last
     pub alone_last : (mark : Bool) {s t : Bits} → Took (Lengthy a size mark octet_items octet os) s t → ComeAlone size mark s (length os) → LastTaken (8 * length os) (unpack os) s t × AreOctets os
-    alone_last false h l = some_end h.joins (under size.least size.most _ h.front h.spelled.spelled (without false l))
+    alone_last false h l = some_end h.joins (under size.least size.most _ h.front h.spelled.spelled (without _ false l))
     alone_last true h l = marked h l
 
 -- octets of the same bits

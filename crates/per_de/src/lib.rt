@@ -240,7 +240,7 @@ impl<'input> Decoder<'input> {
 
     /// A decoder of all bits of a source.
     fn of_source(alloc: Global, source: Source<'input>, options: DecoderOptions) -> Self
-        ensures { result ≡ fresh_of (whole_of source) options }
+        ensures { result ≡ fresh_of (whole_of source.entry) options }
     {
         let end = source.bits().len();
         Decoder {
