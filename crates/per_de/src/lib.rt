@@ -303,8 +303,8 @@ impl<'input> Decoder<'input> {
     fn lent(&self, constraints: &Constraints, count: usize, left: u128) -> Option<&'input [u8]>
         requires { ComeAlone (size_of constraints.now) (is_size_marked constraints.now) self.now.bits count
             → 8 * count + left ≤ length self.now.bits }
-        ensures some { let place = length self.now.source.bits - self.now.source.behind - left in
-            IfSome result (λ part. AreOctetsOf self.now.source.bits place count part.now) }
+        ensures some { let bits = self.now.bits in
+            IfSome result (λ part. AreOctetsOf bits (length bits - left) count part.now) }
         ensures lent { let size = size_of constraints.now in let mark = is_size_marked constraints.now in
             IsSome result ↔ AreLent size mark self.now left count }
     {
