@@ -4,6 +4,7 @@ mod absences;
 mod characters;
 mod decoder;
 mod errors;
+mod lending;
 mod lists;
 mod numbers;
 mod octets;
