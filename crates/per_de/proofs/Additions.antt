@@ -67,34 +67,34 @@ module _ (s m n : State) (flags : Flags) (same : m ≡ s) (done : s.presences �
   settings_kept : settings_of n ≡ settings_of s
   settings_kept = ap settings_of took_flags.1
 
-  same_flags : flags_in n.source flags ≡ flags_in s.source flags
-  same_flags = ap (λ z. flags_in z flags) source_kept
+  same_flags : flags_in n.source.bits flags ≡ flags_in s.source.bits flags
+  same_flags = ap (λ z. flags_in z.bits flags) source_kept
 
   -- an unknown addition isn't there
-  pub unknown_unread : (t : State) (w : Outside) (e : DecodeError) → SkipsUnknown (flags_in n.source flags) n (Err e) t → Endless s w e
+  pub unknown_unread : (t : State) (w : Outside) (e : DecodeError) → SkipsUnknown (flags_in n.source.bits flags) n (Err e) t → Endless s w e
   unknown_unread t w e r =
-      let no : NoneIn (skipped_unknown (flags_in s.source flags) (settings_of s)) n.bits = subst (λ z. NoneIn (skipped_unknown (flags_in s.source flags) z) n.bits) settings_kept (subst (λ z. NoneIn (skipped_unknown z (settings_of n)) n.bits) same_flags r.because.1) in
+      let no : NoneIn (skipped_unknown (flags_in s.source.bits flags) (settings_of s)) n.bits = subst (λ z. NoneIn (skipped_unknown (flags_in s.source.bits flags) z) n.bits) settings_kept (subst (λ z. NoneIn (skipped_unknown z (settings_of n)) n.bits) same_flags r.because.1) in
       let codec : e.codec ≡ s.codec = ap (λ z. z.codec) r.is ∙ ap (λ z. z.codec) took_flags.1 in
       let kind : r.kind ≡ e.kind = ap (λ z. z.kind) (sym r.is) in
       inr (
         (λ u c. let q = then_took c.skipped in
-            let g = took_agree (shown_agree (settings_of s) s.extension c.flags (flags_in s.source flags)) q.1 took_flags.0 in
+            let g = took_agree (shown_agree (settings_of s) s.extension c.flags (flags_in s.source.bits flags)) q.1 took_flags.0 in
             no tt u.bits (subst (λ z. Took (Unknown (settings_of s) z) n.bits u.bits) g.0 (subst (λ z. Took (Unknown (settings_of s) c.flags) z u.bits) g.1 q.2))),
         record {
           codec = codec;
-          stands = unskipped done none (subst (λ z. IsInTail (settings_of s) z no_parts s.extension s.bits) kind (behind_bitmap (flags_in s.source flags) took_flags.0 (in_unknown r.because.0 no)));
+          stands = unskipped done none (subst (λ z. IsInTail (settings_of s) z no_parts s.extension s.bits) kind (behind_bitmap (flags_in s.source.bits flags) took_flags.0 (in_unknown r.because.0 no)));
         },
       )
 
   -- they were skipped
-  pub record_closed : (u t : State) (w : Outside) → s.failed ≡ false → SkipsUnknown (flags_in n.source flags) n (Ok tt) u → t ≡ with_outside u w → Closes s w t
+  pub record_closed : (u t : State) (w : Outside) → s.failed ≡ false → SkipsUnknown (flags_in n.source.bits flags) n (Ok tt) u → t ≡ with_outside u w → Closes s w t
   record_closed u t w live r e =
-      let k : Took (Unknown (settings_of s) (flags_in s.source flags)) n.bits u.bits = subst (λ z. Took (Unknown z (flags_in s.source flags)) n.bits u.bits) settings_kept (subst (λ z. Took (Unknown (settings_of n) z) n.bits u.bits) same_flags r.0) in
+      let k : Took (Unknown (settings_of s) (flags_in s.source.bits flags)) n.bits u.bits = subst (λ z. Took (Unknown z (flags_in s.source.bits flags)) n.bits u.bits) settings_kept (subst (λ z. Took (Unknown (settings_of n) z) n.bits u.bits) same_flags r.0) in
       subst (λ z. Closes s w z) (sym e) (record {
         live = live;
         done = done;
         none = none;
-        flags = flags_in s.source flags;
+        flags = flags_in s.source.bits flags;
         skipped = took_then took_flags.0 k;
         same = ap (λ z. with_outside z w) r.1 ∙ ap (λ z. with_outside (with_bits z u.bits) w) took_flags.1;
       })

@@ -9,3 +9,4 @@ pub mod StringCalls
 pub mod Spans
 pub mod Steps
 pub mod MomentCalls
+pub mod Lending

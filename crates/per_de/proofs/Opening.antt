@@ -41,13 +41,13 @@ module _ (flag : Bool) (count : ℕ) (s t u : State) (m : ℕ) (b : Bool) (deepe
 
   -- a scope is entered with the presence bits that were taken
   pub opens_record : (c : Schema) (row : Span) (v : State) (inside w : Outside) (i : State) → s.failed ≡ false → flag ≡ is_extensible c → count ≡ presence_bits (root_of c) → TakesPresences count u (Ok row) v
-      → inside ≡ record { levels = m; presences = span_of row v.source; extension = extension_of b; expected = part_count (additions_of c) } → Enters inside v w i → Opens c s w i
+      → inside ≡ record { levels = m; presences = span_of row v.source.bits; extension = extension_of b; expected = part_count (additions_of c) } → Enters inside v w i → Opens c s w i
   opens_record c row v inside w i live e n p is enters =
       let same : v ≡ with_bits s v.bits = p.1 ∙ ap (λ z. with_bits z v.bits) behind_bit in
-      let q = span_of row u.source in
+      let q = span_of row u.source.bits in
       let source : v.source ≡ u.source = ap (λ z. z.source) p.1 in
       let within : Outside = record { levels = m; presences = q; extension = extension_of b; expected = part_count (additions_of c) } in
-      let there : inside ≡ within = is ∙ ap (λ z. record { levels = m; presences = span_of row z; extension = extension_of b; expected = part_count (additions_of c) }) source in
+      let there : inside ≡ within = is ∙ ap (λ z. record { levels = m; presences = span_of row z.bits; extension = extension_of b; expected = part_count (additions_of c) }) source in
       let joins : u.bits ≡ q ++ v.bits = p.0.joins ∙ ap (λ z. z ++ v.bits) p.0.spelled.1 in
       let taken : Took (ExtensionBit (is_extensible c) b) s.bits (q ++ v.bits) = subst (λ z. Took (ExtensionBit (is_extensible c) b) s.bits z) joins (subst (λ (z : Bool). Took (ExtensionBit z b) s.bits u.bits) e bit_took) in
       subst (λ z. Opens c s w z) (sym (enters.same ∙ ap (λ z. with_outside v z) there ∙ ap (λ z. with_outside z within) same)) (record {

@@ -103,15 +103,15 @@ module _ (s : State) {x y : Taking} (left : ℕ) (t : State) {taken : Result Pre
       let h = subst (λ z. Takes (gathering large_fragments_of) IsBitmap (HasFlags z y.bits) x taken y) (ap (λ z. z.bits) i) g in
       went_ok s left v i h l a (λ k. leaves k.held)
 
-  pub flags_in_place : (source : Bits) (span front : Span) (count : ℕ) → source ≡ s.source → IsWithin span source → span_of span source ≡ s.bits → left ≡ length y.bits
+  pub flags_in_place : (source : Bits) (span front : Span) (count : ℕ) → source ≡ s.source.bits → IsWithin span source → span_of span source ≡ s.bits → left ≡ length y.bits
       → front ≡ record { begin = span.end - left - count; end = span.end - left } → Answered taken left s (Ok (Taken.InPlace count)) t
-      → Took (IsBitmap (settings_of s) (span_of front s.source)) s.bits t.bits × (t ≡ with_bits s t.bits)
+      → Took (IsBitmap (settings_of s) (span_of front s.source.bits)) s.bits t.bits × (t ≡ with_bits s t.bits)
   flags_in_place source span front count c d b l f a =
       let w = bitmap_taken (Taken.InPlace count) l a in
       let n : y.bits ≡ t.bits = ap (λ z. z.bits) (sym w.1) in
       let h : LastTaken count w.0.flags s.bits y.bits = w.0.are in
-      let p : span_of front s.source ≡ w.0.flags = ap (λ z. span_of front z) (sym c) ∙ ap (λ (z : Span). span_of z source) f ∙ in_front_of span source h.before w.0.flags y.bits left count d (b ∙ h.joins) (sym l) h.wide in
-      (subst (λ z. Took (IsBitmap (settings_of s) (span_of front s.source)) s.bits z) n (subst (λ z. Took (IsBitmap (settings_of s) z) s.bits y.bits) (sym p) w.0.held), w.1 ∙ ap (λ z. with_bits s z) n)
+      let p : span_of front s.source.bits ≡ w.0.flags = ap (λ z. span_of front z) (sym c) ∙ ap (λ (z : Span). span_of z source) f ∙ in_front_of span source h.before w.0.flags y.bits left count d (b ∙ h.joins) (sym l) h.wide in
+      (subst (λ z. Took (IsBitmap (settings_of s) (span_of front s.source.bits)) s.bits z) n (subst (λ z. Took (IsBitmap (settings_of s) z) s.bits y.bits) (sym p) w.0.held), w.1 ∙ ap (λ z. with_bits s z) n)
 
   pub flags_gathered : (bits : List Bool) → left ≡ length y.bits → Answered taken left s (Ok (Taken.Gathered bits)) t → Took (IsBitmap (settings_of s) bits) s.bits t.bits × (t ≡ with_bits s t.bits)
   flags_gathered bits l a =
@@ -124,7 +124,7 @@ module _ (s : State) {x y : Taking} (left : ℕ) (t : State) {taken : Result Pre
 pub flags_ahead : (s m t : State) (result : Result Flags DecodeError) → m ≡ record s { extension = shown [] } → s.extension ≡ ahead → TakesBitmap m result t → TakesFlags s result t
 flags_ahead s m t (Ok flags) e x h =
     let k = subst (λ z. TakesBitmap z (Ok flags) t) e h in
-    (subst (λ z. Took (Shown (settings_of s) z (flags_in s.source flags)) s.bits t.bits) (sym x) k.0, k.1)
+    (subst (λ z. Took (Shown (settings_of s) z (flags_in s.source.bits flags)) s.bits t.bits) (sym x) k.0, k.1)
 flags_ahead s m t (Err f) e x h =
     let k : TakesBitmap (record s { extension = shown [] }) (Err f) t = subst (λ z. TakesBitmap z (Err f) t) e h in
     (x, record { kind = k.kind; is = k.is; because = k.because; failed = k.failed; codec = k.codec })
@@ -170,14 +170,14 @@ module _ (s : State) {x y : Taking} (left : ℕ) (t : State) {taken : Result Con
       went_ok s left v i h l a (λ k. leaves k.held)
 
   -- contents in place: what they are, how many, and where they stand
-  pub contents_in_place : (source : Bits) (span front : Span) (count : ℕ) → source ≡ s.source → IsWithin span source → span_of span source ≡ s.bits → left ≡ length y.bits
+  pub contents_in_place : (source : Bits) (span front : Span) (count : ℕ) → source ≡ s.source.bits → IsWithin span source → span_of span source ≡ s.bits → left ≡ length y.bits
       → front ≡ record { begin = span.end - left - count; end = span.end - left } → Answered taken left s (Ok (Open.InPlace count)) t
-      → (octets : List ℕ) × Took (Octets (settings_of s) octets) s.bits t.bits × (t ≡ with_bits s t.bits) × (span_of front s.source ≡ unpack octets) × (count ≡ length (unpack octets)) × (left + count ≤ span.end - span.begin)
+      → (octets : List ℕ) × Took (Octets (settings_of s) octets) s.bits t.bits × (t ≡ with_bits s t.bits) × (span_of front s.source.bits ≡ unpack octets) × (count ≡ length (unpack octets)) × (left + count ≤ span.end - span.begin)
   contents_in_place source span front count c d b l f a =
       let w = open_taken (Open.InPlace count) l a in
       let n : y.bits ≡ t.bits = ap (λ z. z.bits) (sym w.1) in
       let h : LastTaken count (unpack w.0.octets) s.bits y.bits = w.0.are in
-      let p : span_of front s.source ≡ unpack w.0.octets = ap (λ z. span_of front z) (sym c) ∙ ap (λ (z : Span). span_of z source) f ∙ in_front_of span source h.before (unpack w.0.octets) y.bits left count d (b ∙ h.joins) (sym l) h.wide in (
+      let p : span_of front s.source.bits ≡ unpack w.0.octets = ap (λ z. span_of front z) (sym c) ∙ ap (λ (z : Span). span_of z source) f ∙ in_front_of span source h.before (unpack w.0.octets) y.bits left count d (b ∙ h.joins) (sym l) h.wide in (
         w.0.octets,
         subst (λ z. Took (Octets (settings_of s) w.0.octets) s.bits z) n w.0.held,
         w.1 ∙ ap (λ z. with_bits s z) n,

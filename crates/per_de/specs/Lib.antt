@@ -4,3 +4,4 @@ pub mod Outsides
 pub mod Sources
 pub mod Steps
 pub mod Openings
+pub mod Lending

@@ -1,11 +1,11 @@
 -- Where the bits come from that a decoder reads, and which of them it means.
-use Rattle.std.specs.Prelude.{◌≤◌, List, Bool, drop, length}
+use Rattle.std.specs.Prelude.{◌≤◌, ◌≡◌, ◌-◌, ◌*◌, ℕ, List, Bool, true, false, drop, length}
 use Rattle.std.specs.List.{between}
-use Rattle.rasn_types.specs.Bits.{Bits, unpack}
+use Rattle.rasn_types.specs.Bits.{AreOctets, Bits, unpack}
 use Rattle.per_scopes.specs.State
 use Rattle.per_scopes.specs.State.{ahead, shown}
 use Rattle.per_de.specs.declared.source.Source.{Source}
-use Rattle.per_de.specs.declared.source.Source.TheVariants.{Input, Gathered}
+use Rattle.per_de.specs.declared.source.Source.TheVariants.{Input, Octets, Gathered}
 use Rattle.per_de.specs.declared.source.Span.{Span}
 use Rattle.per_de.specs.declared.source.Flags.{Flags}
 use Rattle.per_de.specs.declared.source.Flags.TheVariants as Kept
@@ -15,11 +15,31 @@ use Rattle.per_de.specs.declared.source.Extension.TheVariants.{Ahead, Shown}
 -- all bits of a source
 abbrev pub bits_of : Source → Bits
 bits_of (Input bits) = bits
+bits_of (Octets octets) = unpack octets.now
 bits_of (Gathered octets) = unpack octets.items
+
+-- whether they are octets of the input, which can be lent
+abbrev pub lends : Source → Bool
+lends (Input bits) = false
+lends (Octets octets) = true
+lends (Gathered octets) = false
+
+-- a source of which all bits are left
+abbrev pub whole_of : Source → State.Source
+whole_of source = record { bits = bits_of source; behind = 0; lends = lends source }
+
+-- a source, of which the bits up to the end of a span are left
+abbrev pub up_to : Span → Source → State.Source
+up_to span source = record { bits = bits_of source; behind = length (bits_of source) - span.end; lends = lends source }
 
 -- the bits from one place of a source up to another
 abbrev pub span_of : Span → Bits → Bits
 span_of span source = between span.begin span.end source
+
+-- a part of some octets is the last n in front of the place of a bit
+pub record AreOctetsOf (bits : Bits) (place n : ℕ) (part : List ℕ) : Type 0 where
+  pub are : AreOctets part
+  pub same : unpack part ≡ between (place - 8 * n) place bits
 
 -- a source has all of them
 pub record IsWithin (span : Span) (source : Bits) : Type 0 where

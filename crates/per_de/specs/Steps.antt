@@ -39,7 +39,7 @@ HasTwoLevels s (Err e) t = (s.levels < 2) × (e ≡ refusal ExceedsMaxParseDepth
 -- So many presence bits are taken off the bits left, and stand in a part of the source; where fewer are left the decoder
 -- refuses (X.691 19.2).
 abbrev pub TakesPresences : ℕ → State → Result Span DecodeError → State → Type 0
-TakesPresences n s (Ok p) t = Took (Row n (span_of p s.source)) s.bits t.bits × (t ≡ with_bits s t.bits)
+TakesPresences n s (Ok p) t = Took (Row n (span_of p s.source.bits)) s.bits t.bits × (t ≡ with_bits s t.bits)
 TakesPresences n s (Err e) t = (length s.bits < n) × (e ≡ refusal (Incomplete (n - length s.bits)) s) × (t ≡ record s { failed = true })
 
 -- A bit is taken off the bits left; where none is left the decoder refuses.
@@ -58,13 +58,13 @@ IsOfBitmap s = Stopped (NoneIn (IsBitmap (settings_of s)) s.bits)
 
 -- A bitmap is taken off the bits left (X.691 19.7, 19.8).
 abbrev pub TakesBitmap : State → Result Flags DecodeError → State → Type 0
-TakesBitmap s (Ok flags) t = Took (IsBitmap (settings_of s) (flags_in s.source flags)) s.bits t.bits × (t ≡ with_bits s t.bits)
+TakesBitmap s (Ok flags) t = Took (IsBitmap (settings_of s) (flags_in s.source.bits flags)) s.bits t.bits × (t ≡ with_bits s t.bits)
 TakesBitmap s (Err e) t = RefusedAs (IsOfBitmap s) s e t
 
 -- The presence bits of additions are taken out that are still to be read, and off the bits left where they are still ahead
 -- (X.691 19.7, 19.8).
 abbrev pub TakesFlags : State → Result Flags DecodeError → State → Type 0
-TakesFlags s (Ok flags) t = Took (Shown (settings_of s) s.extension (flags_in s.source flags)) s.bits t.bits × (t ≡ record s { bits = t.bits; extension = shown [] })
+TakesFlags s (Ok flags) t = Took (Shown (settings_of s) s.extension (flags_in s.source.bits flags)) s.bits t.bits × (t ≡ record s { bits = t.bits; extension = shown [] })
 TakesFlags s (Err e) t = (s.extension ≡ ahead) × RefusedAs (IsOfBitmap s) s e t
 
 -- An addition can't be asked for, whichever the schema.

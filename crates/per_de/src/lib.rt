@@ -2,13 +2,17 @@
 #![tactic(auto)]
 
 ghost use Rattle.std.specs.Prelude.{◌≡◌, ◌<◌, ◌≤◌, ◌+◌, ◌-◌, ◌*◌, ◌%◌, true, false, length, slice_get, Some, MatchOption};
-ghost use Rattle.std.specs.Prelude.{OnOk, OnErr, IfErr};
-ghost use Rattle.rasn_types.specs.Bits.{Bits, unpack};
+ghost use Rattle.std.specs.Prelude.{◌↔◌, IfOk, IfSome, IsSome, OnOk, OnErr, IfErr};
+ghost use Rattle.std.specs.Cow.{cow_slice_items, IsBorrowedSlice};
+ghost use Rattle.rasn_types.specs.Bits.{unpack};
+ghost use Rattle.rasn_types.specs.Values.{octets};
 ghost use Rattle.rasn_types.specs.declared.types.Codec.TheVariants.{Aper, Uper};
 ghost use Rattle.rasn_schema.specs.Choices.{go_by, is_extensible, variants_behind, variants_on};
 ghost use Rattle.rasn_schema.specs.Enumerations.{addeds_of, is_extensible as is_marked};
 ghost use Rattle.rasn_schema.specs.Extensions.{fields_behind};
 ghost use Rattle.rasn_schema.specs.Fields.{tag_of};
+ghost use Rattle.rasn_schema.specs.Forms.{octet_schema, size_of, is_size_marked};
+ghost use Rattle.rasn_calls.specs.Calls.{Reads};
 ghost use Rattle.per_read.specs.declared.error.DecodeErrorKind.TheVariants.{AlreadyFailed};
 ghost use Rattle.per_read.specs.Choices.{index_of};
 ghost use Rattle.per_read.specs.Lists.{most};
@@ -23,11 +27,12 @@ ghost use Rattle.per_scopes.specs.BagLaws.{bags_well};
 ghost use Rattle.per_scopes.specs.ScopeLaws.{scopes_well};
 ghost use Rattle.per_scopes.specs.SetLaws.{sets_well};
 ghost use Rattle.per_scopes.specs.Scopes.{Closes, Enters, LevelInside, Opens, no_record, with_outside};
-ghost use Rattle.per_scopes.specs.State.{State, Options, fresh, reader_of, shown};
+ghost use Rattle.per_scopes.specs.State.{State, Options, fresh, fresh_of, octets_lent, reader_of, shown, with_last};
 ghost use Rattle.per_de.specs.Lists.{AmidList};
 ghost use Rattle.per_de.specs.Openings.{OpensRecord};
 ghost use Rattle.per_de.specs.Outsides.{choosing_of, outside_of, waiting_of};
-ghost use Rattle.per_de.specs.Sources.{bits_of, extension_in, flags_in, span_of, IsWithin};
+ghost use Rattle.per_de.specs.Lending.{AreLent, ComeAlone};
+ghost use Rattle.per_de.specs.Sources.{bits_of, extension_in, flags_in, span_of, up_to, whole_of, AreOctetsOf, IsWithin};
 ghost use Rattle.per_de.specs.Steps.{AsksNext, EndsContents, EntersOpen, HasTwoLevels, IsRootRead, SkipsUnknown};
 ghost use Rattle.per_de.specs.Steps.{ClosesContents, EntersAlternative, TakesIndex};
 ghost use Rattle.per_de.specs.Steps.{TakesBit, TakesBitmap, TakesExtensionBit, TakesFlags, TakesPresences};
@@ -191,7 +196,7 @@ impl<'input> Model for Decoder<'input> {
     ghost Value = { State };
 
     ghost view = { λ d. record {
-      source = bits_of d.source;
+      source = up_to d.bits d.source;
       bits = span_of d.bits (bits_of d.source);
       failed = d.failed;
       levels = d.levels;
@@ -217,13 +222,29 @@ impl<'input> Decoder<'input> {
         Decoder::from_reader(alloc, BitReader::new(input), options)
     }
 
-    /// A decoder of the bits that a reader has left. What its values own is taken from `alloc`.
+    /// A decoder of the bits that a reader has left, which lends none of them. What its values own is taken from
+    /// `alloc`.
     pub fn from_reader(alloc: Global, input: BitReader<'input>, options: DecoderOptions) -> Self
         ensures { result ≡ fresh input.entry options }
     {
-        let end = input.len();
+        Decoder::of_source(alloc, Source::Input(input), options)
+    }
+
+    /// A decoder of the bits of octets, the highest of each octet first, which lends the octets. What its values own is
+    /// taken from `alloc`.
+    pub fn from_octets(alloc: Global, octets: &'input [u8], options: DecoderOptions) -> Self
+        ensures { result ≡ fresh_of (octets_lent (unpack octets.now)) options }
+    {
+        Decoder::of_source(alloc, Source::Octets(octets), options)
+    }
+
+    /// A decoder of all bits of a source.
+    fn of_source(alloc: Global, source: Source<'input>, options: DecoderOptions) -> Self
+        ensures { result ≡ fresh_of (whole_of source.entry) options }
+    {
+        let end = source.bits().len();
         Decoder {
-            source: Source::Input(input),
+            source,
             bits: Span { begin: 0, end },
             presences: Span::empty(),
             extension: Extension::of_bit(false),
@@ -247,6 +268,50 @@ impl<'input> Decoder<'input> {
         ensures { result ≡ self.now.codec }
     {
         self.options.codec
+    }
+
+    /// Reads an OCTET STRING under constraints (X.691 17), as the call of the trait does. The octets are `Borrowed`
+    /// exactly where they are octets of the input, at least one, and come with one count alone or with none; they may be
+    /// kept as long as the input. Those of a `from_reader`, or of an open type in fragments, are `Owned`.
+    pub fn decode_octet_string(
+        &mut self,
+        tag: Tag,
+        constraints: &Constraints,
+    ) -> Result<CowSlice<'input, u8>, DecodeError>
+        ensures read { Reads decoder_rules (octet_schema constraints.now) (λ x. octets (cow_slice_items x))
+            self.old result self.new }
+        ensures lent { let size = size_of constraints.now in let mark = is_size_marked constraints.now in
+            let left = length self.new.bits in
+            IfOk result (λ x. IsBorrowedSlice x ↔ AreLent size mark self.old left (length (cow_slice_items x))) }
+    {
+        self.check_unfailed()?;
+        let mut reader = self.reader();
+        let skipped = reader.skip_octet_string(constraints);
+        let left = reader.bits().len();
+        let count = match skipped {
+            Ok(count) => count,
+            Err(kind) => return Err(self.refuse(kind)),
+        };
+        let Some(octets) = self.lent(constraints, count, left) else {
+            return decoder::Decoder::decode_octet_string(self, tag, constraints);
+        };
+        self.keep_last(left);
+        Ok(CowSlice::Borrowed(octets))
+    }
+
+    /// The `count` octets under a size in front of the last `left` bits, where they can be lent.
+    fn lent(&self, constraints: &Constraints, count: usize, left: u128) -> Option<&'input [u8]>
+        requires { ComeAlone (size_of constraints.now) (is_size_marked constraints.now) self.now.bits count
+            → 8 * count + left ≤ length self.now.bits }
+        ensures some { let bits = self.now.bits in
+            IfSome result (λ part. AreOctetsOf bits (length bits - left) count part.now) }
+        ensures lent { let size = size_of constraints.now in let mark = is_size_marked constraints.now in
+            IsSome result ↔ AreLent size mark self.now left count }
+    {
+        if count == 0 || !come_alone(constraints, &self.input(), count) {
+            return None;
+        }
+        self.source.octets_before(self.bits.end - left, count)
     }
 
     /// A reader of the bits that are left.
@@ -316,12 +381,19 @@ impl<'input> Decoder<'input> {
     {
         match taken {
             Ok(value) => {
-                let count = self.bits.len().saturating_sub(left);
-                self.bits = self.bits.behind(count);
+                self.keep_last(left);
                 Ok(value)
             }
             Err(kind) => Err(self.refuse(kind)),
         }
+    }
+
+    /// Takes off the bits left all but the last so many.
+    fn keep_last(&mut self, left: u128)
+        ensures { self.new ≡ with_last self.old left }
+    {
+        let count = self.bits.len().saturating_sub(left);
+        self.bits = self.bits.behind(count);
     }
 
     /// Takes so many presence bits off the bits left, and answers where they stand. Where fewer are left it refuses.
@@ -478,9 +550,9 @@ impl<'input> Decoder<'input> {
 
     /// Enters contents that stand in the source, and answers what waits outside.
     fn enter_contents(&mut self, contents: Span, total: WholeOctets) -> Addition<'input>
-        requires within { IsWithin contents self.old.source }
-        requires whole { total ≡ length (span_of contents self.old.source) }
-        ensures { EntersContents (span_of contents self.old.source) self.old (waiting_of self.new.source result)
+        requires within { IsWithin contents self.old.source.bits }
+        requires whole { total ≡ length (span_of contents self.old.source.bits) }
+        ensures { EntersContents (span_of contents self.old.source.bits) self.old (waiting_of self.new.source result)
             self.new }
     {
         Addition {
@@ -591,7 +663,7 @@ impl<'input> Decoder<'input> {
     /// Skips the additions that the open SEQUENCE's type doesn't know, of which these are the presence bits (X.691
     /// 19.9).
     fn skip_additions(&mut self, flags: Flags) -> Result<(), DecodeError>
-        ensures { SkipsUnknown (flags_in self.old.source flags) self.old result self.new }
+        ensures { SkipsUnknown (flags_in self.old.source.bits flags) self.old result self.new }
     {
         if flags.are_none() {
             return Ok(());
@@ -602,6 +674,24 @@ impl<'input> Decoder<'input> {
         let left = reader.bits().len();
         self.answer(taken, left)
     }
+}
+
+/// Whether so many octets under a size, which stand at the front of bits, come with one count alone or with none
+/// (X.691 11.9.3.3 to 11.9.3.8).
+fn come_alone(constraints: &Constraints, bits: &BitReader<'_>, count: usize) -> bool
+    ensures { let size = size_of constraints.now in let mark = is_size_marked constraints.now in
+        (result ≡ true) ↔ ComeAlone size mark bits.now count }
+{
+    if count < 16384 {
+        return true;
+    }
+    let Some(size) = constraints.size() else {
+        return false;
+    };
+    let (Some(_), Some(upper)) = size.constraint.start_and_end() else {
+        return false;
+    };
+    upper < 65536 && !(size.extensible && !bits.is_empty() && bits.first_bits(1) == 1)
 }
 
 /// How many additions a type has.
@@ -650,7 +740,7 @@ pub struct Scope {
 impl Scope {
     /// So many levels, and nothing of a SEQUENCE to read.
     fn without_record(levels: u32) -> Self
-        ensures { (source : Bits) → outside_of source result ≡ no_record levels }
+        ensures { (s : State) → outside_of s.source result ≡ no_record levels }
     {
         Scope {
             levels,

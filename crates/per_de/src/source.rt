@@ -1,35 +1,66 @@
 //! Where a decoder's bits come from, and which of them it means: places in a source, and presence bits there.
 
-ghost use Rattle.std.specs.Prelude.{◌≡◌, ◌≤◌, ◌+◌, ◌-◌, [], IsTrue};
-ghost use Rattle.rasn_types.specs.Bits.{Bits};
+ghost use Rattle.std.specs.Prelude.{◌≡◌, ◌≤◌, ◌+◌, ◌-◌, ◌*◌, ◌%◌, ◌↔◌, true, [], length, IfSome, IsSome, IsTrue};
+ghost use Rattle.rasn_types.specs.Bits.{Bits, unpack};
 ghost use Rattle.per_additions.specs.Additions.{NextFlag};
 ghost use Rattle.per_scopes.specs.State.{extension_of};
-ghost use Rattle.per_de.specs.Sources.{bits_of, extension_in, flags_in, span_of, IsWithin};
+ghost use Rattle.per_de.specs.Sources.{bits_of, extension_in, flags_in, lends, span_of, AreOctetsOf, IsWithin};
 
 use per_additions::bitmaps::{Bitmap, next_flag};
 use per_bits::BitReader;
-use rasn_types::bit_string::BitString;
+use rasn_types::bit_string::{BitString, note_octets};
 
 /// Where the bits come from that a decoder reads.
 #[derive(Drop)]
 pub(crate) enum Source<'input> {
     /// The input's own.
     Input(BitReader<'input>),
+    /// The input's octets, which can be lent.
+    Octets(&'input [u8]),
     /// Octets that were gathered from fragments (X.691 11.9.3.8), which the decoder owns.
     Gathered(Vec<u8>),
 }
 
-impl Source<'_> {
+impl<'input> Source<'input> {
     /// All its bits.
     pub(crate) fn bits(&self) -> BitReader<'_>
         ensures { result ≡ bits_of self.now }
     {
         let octets = match self {
             Source::Input(bits) => return bits.clone().unwrap(),
-            Source::Gathered(octets) => octets,
+            Source::Octets(octets) => octets,
+            Source::Gathered(octets) => octets.as_slice(),
         };
-        BitReader::from_octets(octets.as_slice())
+        BitReader::from_octets(octets)
     }
+
+    /// The last `count` octets in front of a place, where they are octets of the input.
+    pub(crate) fn octets_before(&self, place: u128, count: usize) -> Option<&'input [u8]>
+        requires there { 8 * count ≤ place }
+        requires within { place ≤ length (bits_of self.now) }
+        ensures some { IfSome result (λ part. AreOctetsOf (bits_of self.now) place count part.now) }
+        ensures lent { IsSome result ↔ ((lends self.now ≡ true) × (place % 8 ≡ 0)) }
+    {
+        let Source::Octets(octets) = self else {
+            return None;
+        };
+        octets_between(octets, place, count)
+    }
+}
+
+/// The last `count` octets in front of the place of a bit, where that is the first of an octet.
+fn octets_between(octets: &[u8], place: u128, count: usize) -> Option<&[u8]>
+    requires there { 8 * count ≤ place }
+    requires within { place ≤ 8 * length octets.now }
+    ensures some { IfSome result (λ part. AreOctetsOf (unpack octets.now) place count part.now) }
+    ensures whole { IsSome result ↔ (place % 8 ≡ 0) }
+{
+    if place % 8 != 0 {
+        return None;
+    }
+    note_octets(octets);
+    let end = (place / 8) as usize;
+    Some(&octets[end - count..end])
 }
 
 /// Bits of a source: those from a place on, in front of another.
@@ -81,12 +112,12 @@ impl Span {
     pub(crate) fn within(self, source: &BitReader<'_>) -> Span
         ensures same { span_of result source.now ≡ span_of self source.now }
         ensures there { IsWithin result source.now }
+        ensures behind { length source.now - result.end ≡ length source.now - self.end }
     {
-        let len = source.len();
-        let begin = self.begin.min(len);
+        let end = self.end.min(source.len());
         Span {
-            begin,
-            end: self.end.min(len).max(begin),
+            begin: self.begin.min(end),
+            end,
         }
     }
 

@@ -172,6 +172,14 @@ octets_gathered before items n here l e = record {
   took = octets_one_by_one n here l;
 }
 
+pub octets_skipped : {C : Type 0} (before after : C) (n : ℕ) (here : Bits) → length here ≡ 8 * n → TookItems (λ _ _ _. Unit {0}) (OneByOne (Field 8)) n before after here []
+octets_skipped before after n here l = record {
+  codes = pack n here;
+  count = length-pack n here;
+  added = record { behind = λ start xs h. tt };
+  took = octets_one_by_one n here l;
+}
+
 -- bits one after another
 bit_means : (b : Bool) → number_of (b ∷ []) ≡ bit_code b
 bit_means true = refl

@@ -61,6 +61,12 @@ pub record Gathered (P : List ℕ → Type 0) (form : List ℕ → Spelling) (s 
   pub held : P codes
   pub took : Took (form codes) s t
 
+-- a fact of so many octets
+pub record HasCount (P : List ℕ → Type 0) (n : ℕ) : Type 0 where
+  pub octets : List ℕ
+  pub many : length octets ≡ n
+  pub held : P octets
+
 -- a bit's code
 abbrev pub bit_code : Bool → ℕ
 bit_code b = if b then 1 else 0

@@ -130,6 +130,30 @@ impl Collector for Vec<u8> {
     }
 }
 
+/// What octets are skipped with: it holds none of them.
+#[derive(Drop)]
+pub(crate) struct Skipped;
+
+impl Collector for Skipped {
+    ghost holds = { λ _ _ _. Unit {0} };
+
+    ghost item = { λ _. Octet };
+
+    ghost count = { λ _. 0 };
+
+    fn item(&self) -> Item {
+        Item::Octet
+    }
+
+    fn push(&mut self, _code: u32) -> Result<(), AllocError> {
+        Ok(())
+    }
+
+    fn push_items(&mut self, _bits: BitReader<'_>, _many: usize) -> Result<(), AllocError> {
+        Ok(())
+    }
+}
+
 impl Collector for BitList<Global> {
     ghost holds = { λ _ bits codes. map bit_code bits ≡ codes };
 

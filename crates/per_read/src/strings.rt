@@ -8,13 +8,14 @@ ghost use Rattle.per_core.specs.Basic.{Octets, Lengthy, String, Proper, octet, b
 ghost use Rattle.per_core.specs.Counts.{octet_items, bit_items};
 ghost use Rattle.per_core.specs.Spellings.{Settings};
 ghost use Rattle.per_core.specs.declared.items.Item.TheVariants.{Octet, Bit};
+ghost use Rattle.per_read.specs.Items.{HasCount};
 ghost use Rattle.per_read.specs.Sizes.{IsOfItems};
 ghost use Rattle.per_read.specs.Strings.{IsOfString, IsOfText};
 ghost use Rattle.per_read.specs.Takes.{Takes, memory_or, itself};
 
 use crate::Reader;
 use crate::error::DecodeErrorKind;
-use crate::items::Characters;
+use crate::items::{Characters, Skipped};
 use per_bits::BitList;
 use rasn_schema::constraints::Constraints;
 use rasn_schema::strings::alphabet_under;
@@ -36,6 +37,17 @@ impl Reader<'_> {
         let mut octets = Vec::new(self.alloc);
         self.take_items(constraints.size(), &mut octets)?;
         Ok(octets)
+    }
+
+    /// Skips an OCTET STRING under the first size constraint (X.691 17), and answers how many octets it has. It takes no
+    /// memory.
+    pub fn skip_octet_string(&mut self, constraints: &Constraints) -> Result<usize, DecodeErrorKind>
+        ensures { let size = size_of constraints.now in let mark = is_size_marked constraints.now in
+            let why = λ (a : Settings). IsOfItems a size mark Octet in
+            let form = λ (a : Settings). Lengthy a size mark octet_items octet in
+            Takes (memory_or why) form HasCount self.old result self.new }
+    {
+        self.take_items(constraints.size(), &mut Skipped)
     }
 
     /// Takes a BIT STRING under the first size constraint (X.691 16).

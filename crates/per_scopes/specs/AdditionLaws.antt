@@ -17,7 +17,7 @@ use Rattle.per_scopes.specs.Additions.{Adds, ClosesAddition, OpensAddition, Wait
 use Rattle.per_scopes.specs.Faults.{Fault, IsInBits, IsInNext, IsInOpen, in_contents, at_their_end, in_open, IsOfNext, Misadds, UnendedAddition, refusal}
 use Rattle.per_scopes.specs.Records.{IsNew, in_bits, is_new}
 use Rattle.per_scopes.specs.Rules.{decoder_rules}
-use Rattle.per_scopes.specs.State.{State, Spells, settings_of, with_bits}
+use Rattle.per_scopes.specs.State.{State, Spells, settings_of, with_bits, Source}
 use Rattle.per_scopes.specs.Tails.{asks_agree}
 
 -- why contents don't end doesn't say that the decoder had failed
@@ -107,7 +107,7 @@ module _ {s i : State} {w : Waiting} (a : OpensAddition s w i) where
       )
 
 -- An addition is what stands in its open type, whatever a decoder keeps of what waits outside: of it and of the bits in which those left stand, it is told what waits.
-pub additions_well : {O : Type 0} (outside : Bits → O → Waiting)
+pub additions_well : {O : Type 0} (outside : Source → O → Waiting)
     → AdditionsWell decoder_rules (λ o e s. UnendedAddition (outside s.source o) e s) (λ s o i. OpensAddition s (outside i.source o) i) (λ s o t. ClosesAddition s (outside s.source o) t)
 additions_well outside = record {
   inside = λ s o i a. unfailed a;

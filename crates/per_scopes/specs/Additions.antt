@@ -8,7 +8,7 @@ use Rattle.per_core.specs.Spellings.{Settings, Spelling, When, exactly}
 use Rattle.per_core.specs.Took.{Took}
 use Rattle.per_additions.specs.Additions.{NextFlag}
 use Rattle.per_additions.specs.Ends.{EndsAs}
-use Rattle.per_scopes.specs.State.{Extension, ahead, shown, Spells, State, settings_of, with_bits}
+use Rattle.per_scopes.specs.State.{Extension, ahead, shown, Source, Spells, State, settings_of, with_bits}
 
 -- X.691 19.7, 19.8: the presence bits that are still to be read, where the bitmap is still ahead behind the bits of it
 abbrev pub Shown : Settings → Extension → List Bool → Spelling
@@ -43,7 +43,7 @@ Adds c s None t = Asks s (Some false) t ⊎ Asks s None t
 -- still to be read of the record, and how many bits the contents had.
 pub record Waiting : Type 0 where
   pub bits : Bits
-  pub source : Bits
+  pub source : Source
   pub presences : Bits
   pub extension : Extension
   pub expected : ℕ

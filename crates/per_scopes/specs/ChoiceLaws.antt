@@ -24,7 +24,7 @@ use Rattle.per_scopes.specs.Faults.{Fault, IsInBits, IsInOpen, UnendedAddition, 
 use Rattle.per_scopes.specs.Records.{IsNew, in_bits, is_new, of_bits}
 use Rattle.per_scopes.specs.Rules.{decoder_rules}
 use Rattle.per_scopes.specs.Scopes.{with_outside}
-use Rattle.per_scopes.specs.State.{State, Spells, settings_of, with_bits}
+use Rattle.per_scopes.specs.State.{State, Spells, settings_of, with_bits, Source}
 
 length-rules : (a : Settings) (ps : Parts) → length (rules a ps) ≡ length (tags_of ps)
 unfolding rules_in
@@ -376,7 +376,7 @@ pub level_inside : (c : Schema) (d : Side) (k : ℕ) {s i : State} {w : Choosing
 level_inside c d k {i = i} {w = w} h = h.deeper ∙ ap suc (sym (alike d w.contents h.middle i h.stands).levels)
 
 -- A choice is what stands behind its index, whatever a decoder keeps of what waits outside: of it and of the bits in which those left stand, it is told what waits.
-pub choices_well : {O : Type 0} (outside : Bits → O → Choosing)
+pub choices_well : {O : Type 0} (outside : Source → O → Choosing)
     → ChoicesWell decoder_rules (λ o e s. UnendedChoice (outside s.source o).contents e s) (λ c d k s o i. OpensChoice c d k s (outside i.source o) i) (λ s o t. ClosesChoice s (outside s.source o) t)
 choices_well outside = record {
   inside = λ c d k s o i h. begun_unfailed c d k h;

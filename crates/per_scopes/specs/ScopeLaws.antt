@@ -22,7 +22,7 @@ use Rattle.per_scopes.specs.Faults.{Fault, IsInTail, in_root, behind_root, IsOfE
 use Rattle.per_scopes.specs.Records.{IsNew, exact_took, faulty_in, flags_off, no_more, of_bits, parts_back, read, with_rest}
 use Rattle.per_scopes.specs.Rules.{decoder_rules}
 use Rattle.per_scopes.specs.Scopes.{Outside, with_outside, Opens, Closes}
-use Rattle.per_scopes.specs.State.{State, Spells, extension_of, settings_of, with_bits}
+use Rattle.per_scopes.specs.State.{State, Spells, extension_of, settings_of, with_bits, Source}
 use Rattle.per_scopes.specs.Tails.{ending_new, Left, Tail, behind_additions, faulty_tail, left_of, tail_of, turns_of}
 
 -- a record behind its extension bit
@@ -240,7 +240,7 @@ module _ (ps : Parts) (marker : Bool) (qs : Parts) {s i : State} {w : Outside} (
       )
 
 -- A record is what stands in its scope, whatever a decoder keeps of what waits outside: of it and of the bits in which those left stand, it is told what waits.
-pub scopes_well : {O : Type 0} (outside : Bits → O → Outside)
+pub scopes_well : {O : Type 0} (outside : Source → O → Outside)
     → ScopesWell decoder_rules (λ o e s. Unended e s) (λ c s o i. Opens c s (outside i.source o) i) (λ s o t. Closes s (outside s.source o) t)
 scopes_well outside = record {
   inside = λ c s o i a. ap (λ z. z.failed) a.enters.same ∙ a.live;

@@ -29,11 +29,27 @@ abbrev pub extension_of : Bool → Extension
 extension_of true = ahead
 extension_of false = shown []
 
+-- The bits in which those stand that a decoder has left: those of the input, or of an open type in fragments; how many of
+-- them stand behind those that are left, which reading from the front doesn't change; and whether they are whole octets of
+-- the input, which can be lent.
+pub record Source : Type 0 where
+  pub bits : Bits
+  pub behind : ℕ
+  pub lends : Bool
+
+-- bits of which none stands behind another's, and which can't be lent
+abbrev pub unlent : Bits → Source
+unlent bits = record { bits = bits; behind = 0; lends = false }
+
+-- octets of the input, which can be lent
+abbrev pub octets_lent : Bits → Source
+octets_lent bits = record { bits = bits; behind = 0; lends = true }
+
 -- What a decoder holds: the bits that are left, whether a call has refused, how many levels it may still enter, the
 -- codec in use, whether padding must be zero, and of the open record the presence bits of the root components that are
 -- still to be read, the bitmap of its additions, and how many additions of its type are still to be asked for. `source`
--- is the bits in which those that are left stand: those of the input, or of an open type in fragments. The position in an
--- octet follows from the number of bits that are left (`place`).
+-- is where the bits that are left come from. The position in an octet follows from the number of bits that are left
+-- (`place`).
 pub record State : Type 0 where
   pub bits : Bits
   pub failed : Bool
@@ -41,23 +57,27 @@ pub record State : Type 0 where
   pub codec : Codec
   pub zero_padding : Bool
   pub presences : Bits
-  pub source : Bits
+  pub source : Source
   pub extension : Extension
   pub expected : ℕ
 
--- what has read nothing
-abbrev pub fresh : Bits → Options → State
-fresh bits options = record {
-  bits = bits;
+-- what has read nothing of a source
+abbrev pub fresh_of : Source → Options → State
+fresh_of source options = record {
+  bits = source.bits;
   failed = false;
   levels = options.levels;
   codec = options.codec;
   zero_padding = options.zero_padding;
   presences = [];
-  source = bits;
+  source = source;
   extension = shown [];
   expected = 0;
 }
+
+-- what has read nothing of bits that can't be lent
+abbrev pub fresh : Bits → Options → State
+fresh bits options = fresh_of (unlent bits) options
 
 -- how it reads
 abbrev pub options_of : State → ReaderOptions

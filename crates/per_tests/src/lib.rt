@@ -16,6 +16,8 @@ mod encode_errors;
 #[cfg(test)]
 mod expected;
 #[cfg(test)]
+mod lending;
+#[cfg(test)]
 mod pieces;
 #[cfg(test)]
 mod refusals;

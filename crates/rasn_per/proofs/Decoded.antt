@@ -14,7 +14,7 @@ use Rattle.per_core.proofs.Readings.{one_reading}
 use Rattle.per_core.proofs.Took.{took_agree}
 use Rattle.per_core.proofs.Laws.{one_value, one_front}
 use Rattle.per_core.proofs.Filling.{fills_read, fills_back}
-use Rattle.per_scopes.specs.State.{State, Options, Spells, fresh as begin, with_bits}
+use Rattle.per_scopes.specs.State.{State, Options, Spells, fresh_of, octets_lent, with_bits}
 use Rattle.per_scopes.specs.Faults.{Fault, refusal}
 use Rattle.per_read.specs.declared.error.DecodeError.{DecodeError}
 use Rattle.per_read.specs.declared.error.DecodeErrorKind.TheVariants.{OutOfMemory}
@@ -22,7 +22,11 @@ use Rattle.rasn_per.specs.Complete.{reading, basically, AreReadBy, AreUnreadBy, 
 use Rattle.rasn_per.specs.Remainders.{IsRemainder}
 use Rattle.rasn_per.proofs.Fronts.{front_read, front_back}
 
--- a decoder that has just begun with octets
+-- a decoder that has just begun with octets, given as bits
+abbrev pub begin : Bits → Options → State
+begin bits options = fresh_of (octets_lent bits) options
+
+-- the same, by what it was told
 abbrev pub fresh : Codec → Bool → List ℕ → State
 fresh a strict octets = begin (unpack octets) (record { codec = a; levels = 128; zero_padding = strict })
 

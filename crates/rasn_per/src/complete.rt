@@ -97,9 +97,8 @@ pub fn decode_in<T: Decode>(
     ensures decoded { DecodedBy options.zero_padding options.codec (T.schema constraints.now) T.value octets.now result }
     ensures few { AnswersFew (T.schema constraints.now) T.value octets.now result }
 {
-    let bits = BitReader::from_octets(octets);
-    let total = bits.len();
-    let mut decoder = Decoder::from_reader(alloc, bits, options);
+    let total = BitReader::from_octets(octets).len();
+    let mut decoder = Decoder::from_octets(alloc, octets, options);
     let value = T::decode_with_constraints(&mut decoder, constraints)?;
     match ended(&decoder.input(), total, options.needs_zero_padding()) {
         Ok(()) => Ok(value),
@@ -119,7 +118,7 @@ pub fn decode_front<T: Decode>(
     ensures decoded { DecodedFront options.codec (T.schema T.CONSTRAINTS) T.value octets.now result }
     ensures few { AnswersFewInFront (T.schema T.CONSTRAINTS) T.value octets.now result }
 {
-    let mut decoder = Decoder::from_reader(alloc, BitReader::from_octets(octets), options);
+    let mut decoder = Decoder::from_octets(alloc, octets, options);
     let value = T::decode(&mut decoder)?;
     match remainder(decoder.input().len(), octets) {
         Ok(rest) => Ok((value, rest)),

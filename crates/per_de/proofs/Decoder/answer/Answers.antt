@@ -1,19 +1,5 @@
-use Rattle.std.proofs.Common.{arith, refl, ◌∙◌, ◌+◌, ◌-◌, ap, drop, length}
-use Rattle.per_de.specs.Sources.{bits_of, span_of}
-use Rattle.per_scopes.specs.State.{with_bits}
-use Rattle.per_de.proofs.Spans.{advanced}
+use Rattle.std.proofs.Common.{refl}
 use Rattle.per_de.proofs.Decoder.answer.Goals as goal
 
-pub behind-self-inside-requires : goal.behind-self-inside-requires
-behind-self-inside-requires g c = omega (arith, c.len.ensures, c.saturating_sub-count.ensures)
-
 pub returns-in-Ok : goal.returns-in-Ok
-returns-in-Ok g c =
-    let same = c.self.view_is in
-    let source = bits_of c.self.inside.source in
-    rw (c.in-Ok.is, c.behind-self-inside.ensures) (
-      refl,
-      ap (λ z. with_bits z (span_of (record { begin = c.self.inside.bits.begin + c.saturating_sub-count.result; end = c.self.inside.bits.end }) source)) same ∙ ap (λ z. with_bits c.args.self.now z)
-          (advanced c.self.inside.bits source c.args.left c.saturating_sub-count.result c.self.invariant (omega (arith, c.len.ensures, c.saturating_sub-count.ensures))
-          ∙ ap (λ z. drop (length z.bits - c.args.left) z.bits) same),
-    )
+returns-in-Ok g c = rw c.in-Ok.is (refl, c.keep_last.ensures)

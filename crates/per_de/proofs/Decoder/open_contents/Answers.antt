@@ -13,16 +13,16 @@ returns-in_err-count c =
 pub new-requires : goal.new-requires
 new-requires c =
     let q = contents_in_place c.args.self.now c.len-left.result c.answer.new.self c.reader-reader.ensures c.take_open-taken.ensures (bits_of c.self.inside.source) c.self.inside.bits c.in_front-contents.result c.in-InPlace.count
-    (ap (λ z. z.source) c.self.view_is) c.self.invariant (ap (λ z. z.bits) c.self.view_is) (c.len-left.ensures ∙ ap length c.bits.ensures) c.in_front-contents.ensures (rw c.in-InPlace.is at c.in_ok-count.ensures) in
+    (ap (λ z. z.source.bits) c.self.view_is) c.self.invariant (ap (λ z. z.bits) c.self.view_is) (c.len-left.ensures ∙ ap length c.bits.ensures) c.in_front-contents.ensures (rw c.in-InPlace.is at c.in_ok-count.ensures) in
     whole_octets c.in-InPlace.count q.0 q.4
 
 pub returns-in-InPlace : goal.returns-in-InPlace
 returns-in-InPlace c =
     let t = c.answer.new.self in
     let q = contents_in_place c.args.self.now c.len-left.result t c.reader-reader.ensures c.take_open-taken.ensures (bits_of c.self.inside.source) c.self.inside.bits c.in_front-contents.result c.in-InPlace.count
-    (ap (λ z. z.source) c.self.view_is) c.self.invariant (ap (λ z. z.bits) c.self.view_is) (c.len-left.ensures ∙ ap length c.bits.ensures) c.in_front-contents.ensures (rw c.in-InPlace.is at c.in_ok-count.ensures) in
-    let are : span_of c.in_front-contents.result t.source ≡ unpack q.0 = ap (λ z. span_of c.in_front-contents.result z.source) q.2 ∙ q.3 in
-    opened c.args.self.now t q.0 _ _ (span_of c.in_front-contents.result t.source) q.1 q.2 are c.enter_contents.ensures
+    (ap (λ z. z.source.bits) c.self.view_is) c.self.invariant (ap (λ z. z.bits) c.self.view_is) (c.len-left.ensures ∙ ap length c.bits.ensures) c.in_front-contents.ensures (rw c.in-InPlace.is at c.in_ok-count.ensures) in
+    let are : span_of c.in_front-contents.result t.source.bits ≡ unpack q.0 = ap (λ z. span_of c.in_front-contents.result z.source.bits) q.2 ∙ q.3 in
+    opened c.args.self.now t q.0 _ _ (span_of c.in_front-contents.result t.source.bits) q.1 q.2 are c.enter_contents.ensures
 
 pub returns-in-Gathered : goal.returns-in-Gathered
 returns-in-Gathered c =

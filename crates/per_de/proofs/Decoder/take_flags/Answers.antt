@@ -12,7 +12,7 @@ returns-in_err-count c =
 pub returns-in-InPlace : goal.returns-in-InPlace
 returns-in-InPlace c =
     flags_in_place c.args.self.now c.len-left.result c.answer.new.self c.reader-reader.ensures c.take_bitmap-taken.ensures (bits_of c.self.inside.source) c.self.inside.bits c.in_front.result c.in-InPlace.count
-    (ap (λ z. z.source) c.self.view_is) c.self.invariant (ap (λ z. z.bits) c.self.view_is) (c.len-left.ensures ∙ ap length c.bits.ensures) c.in_front.ensures (rw c.in-InPlace.is at c.in_ok-count.ensures)
+    (ap (λ z. z.source.bits) c.self.view_is) c.self.invariant (ap (λ z. z.bits) c.self.view_is) (c.len-left.ensures ∙ ap length c.bits.ensures) c.in_front.ensures (rw c.in-InPlace.is at c.in_ok-count.ensures)
 
 pub returns-in-Gathered : goal.returns-in-Gathered
 returns-in-Gathered c =

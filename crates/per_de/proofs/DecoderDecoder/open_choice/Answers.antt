@@ -38,7 +38,7 @@ returns-in_err-contents g c =
     let refused = c.in_err-contents.ensures in
     let none = refused_contents (g.C.Choice.alternatives n) (is_extensible g.C.Choice.EXTENDED_VARIANTS) (g.C.Choice.added n) (length g.C.Choice.VARIANTS) (length (variants_behind g.C.Choice.EXTENDED_VARIANTS))
     (variants_counted (g.C.Choice.alternatives n) (g.C.Choice.described n)) (variants_counted (g.C.Choice.added n) (g.C.Choice.extends n)) c.args.self.now c.level_inside.new.self o.1
-    place.0 place.1 n c.take_index.new.self c.enter-scope.new.self _ c.enter-scope.result c.in_ok-check_unfailed.ensures.ok o.0 (c.without_record.ensures c.take_index.new.self.source) c.in_ok-place.ensures c.enter-scope.ensures
+    place.0 place.1 n c.take_index.new.self c.enter-scope.new.self _ c.enter-scope.result c.in_ok-check_unfailed.ensures.ok o.0 (c.without_record.ensures c.take_index.new.self) c.in_ok-place.ensures c.enter-scope.ensures
     _ c.open_alternative.new.self refused.0 refused.1 in
     record {
       law = rw (p.1, p.2) (at_level choice c.args.self.now n _ o.0 none);
@@ -55,7 +55,7 @@ tag_at-requires g c =
     let more = variants_counted qs (g.C.Choice.extends 0) in
     below_variants g.C.Choice.VARIANTS g.C.Choice.EXTENDED_VARIANTS place.0 place.1 (length (tags_of ps)) (length (tags_of qs)) few more
     (below ps (is_extensible g.C.Choice.EXTENDED_VARIANTS) qs (length g.C.Choice.VARIANTS) (length (variants_behind g.C.Choice.EXTENDED_VARIANTS)) few more c.args.self.now c.level_inside.new.self o.1
-    place.0 place.1 c.in_ok-levels.levels c.take_index.new.self c.enter-scope.new.self _ c.enter-scope.result c.in_ok-check_unfailed.ensures.ok o.0 (c.without_record.ensures c.take_index.new.self.source) c.in_ok-place.ensures c.enter-scope.ensures)
+    place.0 place.1 c.in_ok-levels.levels c.take_index.new.self c.enter-scope.new.self _ c.enter-scope.result c.in_ok-check_unfailed.ensures.ok o.0 (c.without_record.ensures c.take_index.new.self) c.in_ok-place.ensures c.enter-scope.ensures)
 
 pub returns : goal.returns
 returns g c =
@@ -68,10 +68,10 @@ returns g c =
     let few = variants_counted ps (g.C.Choice.described i.levels) in
     let more = variants_counted qs (g.C.Choice.extends i.levels) in
     let opened = opens_choice ps marker qs (length g.C.Choice.VARIANTS) (length (variants_behind g.C.Choice.EXTENDED_VARIANTS)) few more c.args.self.now c.level_inside.new.self o.1
-    place.0 place.1 c.in_ok-levels.levels c.take_index.new.self c.enter-scope.new.self _ c.enter-scope.result c.in_ok-check_unfailed.ensures.ok o.0 (c.without_record.ensures c.take_index.new.self.source) c.in_ok-place.ensures c.enter-scope.ensures
+    place.0 place.1 c.in_ok-levels.levels c.take_index.new.self c.enter-scope.new.self _ c.enter-scope.result c.in_ok-check_unfailed.ensures.ok o.0 (c.without_record.ensures c.take_index.new.self) c.in_ok-place.ensures c.enter-scope.ensures
     i c.in_ok-contents.contents c.in_ok-contents.ensures in
     let within = below ps marker qs (length g.C.Choice.VARIANTS) (length (variants_behind g.C.Choice.EXTENDED_VARIANTS)) few more c.args.self.now c.level_inside.new.self o.1
-    place.0 place.1 c.in_ok-levels.levels c.take_index.new.self c.enter-scope.new.self _ c.enter-scope.result c.in_ok-check_unfailed.ensures.ok o.0 (c.without_record.ensures c.take_index.new.self.source) c.in_ok-place.ensures c.enter-scope.ensures in
+    place.0 place.1 c.in_ok-levels.levels c.take_index.new.self c.enter-scope.new.self _ c.enter-scope.result c.in_ok-check_unfailed.ensures.ok o.0 (c.without_record.ensures c.take_index.new.self) c.in_ok-place.ensures c.enter-scope.ensures in
     let there = alternative_there ps marker qs place.0 place.1 within in
     record {
       law = record {

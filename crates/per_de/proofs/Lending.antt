@@ -1,0 +1,246 @@
+-- Octets that come with one count alone, or with none, are the last bits that were taken, and are lent where these are octets of the input
+-- (X.691 11.9, 17).
+use Rattle.std.proofs.Common.{◌≡◌, ◌<◌, ◌≤◌, ◌⊎◌, inl, inr, refl, sym, ◌∙◌, ap, ap₂, subst, ℕ, zero, suc, ◌+◌, ◌-◌, ◌*◌, ◌/◌, ◌%◌, ◌^◌, take, drop, take_at, drop_at, Bool, true, false, cond, nat_lt, List, [], ◌∷◌, ◌++◌, length, Option, Some, None, Global, arith, length-append, length-take, length-drop, take-append-drop, append_assoc}
+use Rattle.std.specs.Prelude.{◌↔◌, Result, Ok, Err, IfOk, IfSome, ⊤}
+use Rattle.std.specs.Cow.{cow_slice_items, IsBorrowedSlice, IsOwnedSlice}
+use Rattle.std.specs.List.{between}
+use Rattle.std.specs.declared.borrow.CowSlice.{CowSlice}
+use Rattle.std.specs.declared.borrow.CowSlice.TheVariants as Slice
+use Rattle.rasn_types.specs.Bits.{AreOctets, Bits, pack, to_bits, unpack}
+use Rattle.rasn_types.specs.Values.{octets}
+use Rattle.rasn_types.proofs.Bits.{length-unpack, number_below, to_bits-number}
+use Rattle.rasn_types.proofs.Fewest.{pack-unpack}
+use Rattle.rasn_types.proofs.Packing.{unpack-take}
+use Rattle.rasn_constraints.specs.Bounds.{Size, any_size}
+use Rattle.rasn_schema.specs.Schemas
+use Rattle.rasn_calls.specs.Calls.{Reads}
+use Rattle.per_bits.proofs.Words.{unpack-drop}
+use Rattle.per_core.specs.Basic.{InFragments, Lengthy, OneByOne, Sized, UnconstrainedLength, basic, length_form, octet}
+use Rattle.per_core.specs.Counts.{octet_items}
+use Rattle.per_core.specs.Spellings.{Settings, Spelling, Then}
+use Rattle.per_core.specs.Took.{Took, place}
+use Rattle.per_core.specs.declared.items.Item.TheVariants.{Octet}
+use Rattle.per_core.proofs.Readings.{one_reading}
+use Rattle.per_core.proofs.Took.{took_agree}
+use Rattle.per_read.specs.Items.{HasCount}
+use Rattle.per_read.specs.Sizes.{IsOfItems}
+use Rattle.per_read.specs.State.{State as Taking, settings_of as read_by}
+use Rattle.per_read.specs.Takes.{Takes, memory_or}
+use Rattle.per_read.specs.declared.error.DecodeError.{DecodeError}
+use Rattle.per_read.specs.declared.error.DecodeErrorKind.{DecodeErrorKind}
+use Rattle.per_additions.specs.Stands.{LastTaken}
+use Rattle.per_scopes.specs.Faults.{refusal}
+use Rattle.per_scopes.specs.Rules.{decoder_rules}
+use Rattle.per_scopes.specs.State.{State, reader_of, settings_of, with_last}
+use Rattle.per_de.specs.Lending.{AreLent, ComeAlone, is_counted_once, is_extended}
+use Rattle.per_de.specs.Sources.{bits_of, lends, span_of, up_to, AreOctetsOf, IsWithin}
+use Rattle.per_de.specs.declared.source.Source.{Source}
+use Rattle.per_de.specs.declared.source.Source.TheVariants as From
+use Rattle.per_de.specs.declared.source.Span.{Span}
+use Rattle.per_de.proofs.Calls.{reads}
+use Rattle.per_de.proofs.Spans.{in_front_of, span_length}
+use Rattle.per_de.proofs.StringCalls.{faulty_octets, reads_octets}
+
+-- octets are the last of some bits
+record EndIn (os : List ℕ) (bits : Bits) : Type 0 where
+  pub before : Bits
+  pub joins : bits ≡ before ++ unpack os
+  pub are : AreOctets os
+
+octets_are : (os : List ℕ) (p : ℕ) (b : Bits) → OneByOne octet os p b → (b ≡ unpack os) × AreOctets os
+octets_are [] p b h = (h, tt)
+octets_are (o ∷ os) p b h =
+    let w = h.is_front in
+    let front : h.front ≡ to_bits 8 o = sym (to_bits-number h.front) ∙ ap₂ (λ (n m : ℕ). to_bits n m) w.wide w.means in
+    let below : o < 256 = omega (arith, w.means, number_below h.front, ap (λ (n : ℕ). 2 ^ n) w.wide) in
+    let rest = octets_are os _ h.rest h.is_rest in
+    (h.joins ∙ ap₂ (λ (x y : Bits). x ++ y) front rest.0, (below, rest.1))
+
+one_by_one : (os : List ℕ) (p : ℕ) (b : Bits) → OneByOne octet os p b → EndIn os b
+one_by_one os p b h = let w = octets_are os p b h in record { before = []; joins = w.0; are = w.1 }
+
+behind : {f g : Spelling} {p : ℕ} {b : Bits} (os : List ℕ) → Then f g p b → ((q : ℕ) (c : Bits) → g q c → EndIn os c) → EndIn os b
+behind os h k =
+    let e = k _ h.rest h.is_rest in
+    record { before = h.front ++ e.before; joins = h.joins ∙ ap (λ z. h.front ++ z) e.joins ∙ sym (append_assoc h.front e.before (unpack os)); are = e.are }
+
+module _ (a : Settings) (os : List ℕ) where
+  in_one : (k p : ℕ) (b : Bits) → InFragments a octet k os p b → length os < 16384 → EndIn os b
+  in_one zero p b h l = behind os h (λ q c x. behind os x (one_by_one os))
+  in_one (suc k) p b h l = let w = h.spelled.is_rest.is_front in absurd (omega (arith, l, ap length h.all, length-append h.these h.others, w.is, w.some))
+
+  free : (p : ℕ) (b : Bits) → UnconstrainedLength a octet os p b → length os < 16384 → EndIn os b
+  free p b h l = in_one h.fragments p b h.spelled l
+
+  once : (c : Bool) (f pads : Spelling) (p : ℕ) (b : Bits) → cond c (Then f (Then pads (OneByOne octet os))) (UnconstrainedLength a octet os) p b → (length os < 16384) ⊎ (c ≡ true) → EndIn os b
+  once true f pads p b h l = behind os h (λ q c x. behind os x (one_by_one os))
+  once false f pads p b h (inl l) = free p b h l
+  once false f pads p b h (inr e) = absurd cc
+
+  under : (least most : Option ℕ) (p : ℕ) (b : Bits) → length_form a least most octet_items octet os p b → (length os < 16384) ⊎ (is_counted_once least most ≡ true) → EndIn os b
+  under None most p b h (inl l) = free p b h l
+  under None most p b h (inr e) = absurd cc
+  under (Some lb) None p b h (inl l) = free p b h l
+  under (Some lb) None p b h (inr e) = absurd cc
+  under (Some lb) (Some ub) p b h l = once (nat_lt ub 65536) _ _ p b h l
+
+  some_end : {s t front : Bits} → s ≡ front ++ t → EndIn os front → LastTaken (8 * length os) (unpack os) s t × AreOctets os
+  some_end {t = t} j e = (record { before = e.before; joins = j ∙ ap (λ z. z ++ t) e.joins ∙ append_assoc e.before (unpack os) t; wide = length-unpack os }, e.are)
+
+  module _ (size : Size) where
+    without : (s : Bits) (mark : Bool) → ComeAlone size mark s (length os) → (length os < 16384) ⊎ (is_counted_once size.least size.most ≡ true)
+    without s mark (inl l) = inl l
+    without s mark (inr e) = inr e.0
+
+    marked : {s t : Bits} → Took (Lengthy a size true octet_items octet os) s t → ComeAlone size true s (length os) → LastTaken (8 * length os) (unpack os) s t × AreOctets os
+    marked {s} {t} h l = go h.spelled l
+      where
+        go : Lengthy a size true octet_items octet os (place s) h.front → ComeAlone size true s (length os) → LastTaken (8 * length os) (unpack os) s t × AreOctets os
+        go (inl x) l = some_end h.joins (behind os x (λ q c y. under size.least size.most q c y.spelled (without s true l)))
+        go (inr x) (inl l) = some_end h.joins (behind os x (λ q c y. free q c y.spelled l))
+        go (inr x) (inr e) =
+            let i : s ≡ true ∷ (x.rest ++ t) = h.joins ∙ ap (λ z. z ++ t) (x.joins ∙ ap (λ z. z ++ x.rest) x.is_front) in
+            let f : true ≡ false = sym (ap (λ z. is_extended true z) i) ∙ e.1 in
+            absurd cc
+
+    -- what comes alone was taken last
+    pub alone_last : (mark : Bool) {s t : Bits} → Took (Lengthy a size mark octet_items octet os) s t → ComeAlone size mark s (length os) → LastTaken (8 * length os) (unpack os) s t × AreOctets os
+    alone_last false {s} h l = some_end h.joins (under size.least size.most (place s) h.front h.spelled.spelled (without s false l))
+    alone_last true h l = marked h l
+
+-- octets of the same bits
+pub unpack_same : (xs ys : List ℕ) → AreOctets xs → AreOctets ys → unpack xs ≡ unpack ys → xs ≡ ys
+unpack_same xs ys h k e =
+    let n : length xs ≡ length ys = omega (arith, ap length e, length-unpack xs, length-unpack ys) in
+    sym (pack-unpack xs h) ∙ ap₂ (λ (n : ℕ) (b : Bits). pack n b) n e ∙ pack-unpack ys k
+
+-- the octets in front of the place of a bit
+octets_take : (n : ℕ) (os : List ℕ) → AreOctets os → AreOctets (take n os)
+octets_take zero os h = tt
+octets_take (suc n) [] h = tt
+octets_take (suc n) (o ∷ os) h = (h.0, octets_take n os h.1)
+
+octets_drop : (n : ℕ) (os : List ℕ) → AreOctets os → AreOctets (drop n os)
+octets_drop zero os h = h
+octets_drop (suc n) [] h = tt
+octets_drop (suc n) (o ∷ os) h = octets_drop n os h.1
+
+pub octets_before : (os : List ℕ) (place n : ℕ) → AreOctets os → place % 8 ≡ 0 → 8 * n ≤ place
+    → AreOctetsOf (unpack os) place n (take (place / 8 - (place / 8 - n)) (drop (place / 8 - n) os))
+octets_before os place n h e l =
+    let begin = place / 8 - n in
+    let many = place / 8 - begin in
+    let m : 8 * many ≡ place - (place - 8 * n) = omega (arith, e, l) in
+    let b : 8 * begin ≡ place - 8 * n = omega (arith, e, l) in
+    record {
+      are = octets_take many (drop begin os) (octets_drop begin os h);
+      same = sym (unpack-take many (drop begin os)) ∙ ap (λ z. take (8 * many) z) (sym (unpack-drop begin os)) ∙ ap₂ (λ (i j : ℕ). take i (drop j (unpack os))) m b;
+    }
+
+-- a part of the bits that are left, as a part of those in which they stand
+inner : (span : Span) (source : Bits) (left m : ℕ) → IsWithin span source → m + left ≤ length (span_of span source)
+    → between (span.end - left - m) (span.end - left) source ≡ between (length (span_of span source) - left - m) (length (span_of span source) - left) (span_of span source)
+inner span source left m h l =
+    let s = span_of span source in
+    let k = length s - left - m in
+    let w = length s - left - k in
+    in_front_of span source (take k s) (take w (drop k s)) (drop w (drop k s)) left m h (sym (take-append-drop k s) ∙ ap (λ z. take k s ++ z) (sym (take-append-drop w (drop k s))))
+    (length-drop w (drop k s) ∙ omega (arith, length-drop k s, l)) (length-take w (drop k s) ∙ omega (arith, length-drop k s, l))
+
+pub part_inside : (span : Span) (source bits : Bits) (left n : ℕ) (part : List ℕ) → IsWithin span source → span_of span source ≡ bits → 8 * n + left ≤ length bits → AreOctetsOf source (span.end - left) n part
+    → AreOctetsOf bits (length bits - left) n part
+part_inside span source bits left n part h e l p =
+    let few : 8 * n + left ≤ length (span_of span source) = omega (arith, l, ap length e) in
+    subst (λ z. AreOctetsOf z (length z - left) n part) e (record { are = p.are; same = p.same ∙ inner span source left (8 * n) h few })
+
+pub if_some : {X : Type 0} (r : Option X) (P Q : X → Type 0) → ((v : X) → P v → Q v) → IfSome r P → IfSome r Q
+if_some None P Q f h = tt
+if_some (Some v) P Q f h = f v h
+
+-- octets of the input are whole
+whole : (source : Source) → lends source ≡ true → length (bits_of source) % 8 ≡ 0
+whole (From.Input bits) e = absurd cc
+whole (From.Octets os) e = omega (arith, length-unpack os.now)
+whole (From.Gathered os) e = absurd cc
+
+-- octets that come alone are lent exactly where octets of the input stand in front of the last bits
+pub lent_where : {A : Type 0} (size : Size) (mark : Bool) (s : State) (source : Source) (span : Span) (left n : ℕ) → up_to span source ≡ s.source → IsWithin span (bits_of source) → 0 < n → ComeAlone size mark s.bits n → left ≤ span.end
+    → A ↔ ((lends source ≡ true) × ((span.end - left) % 8 ≡ 0)) → A ↔ AreLent size mark s left n
+lent_where size mark s source span left n e h some alone l i = (
+  (λ a. let q = i.0 a in record {
+    some = some;
+    alone = alone;
+    lends = sym (ap (λ z. z.lends) e) ∙ q.0;
+    on_octets = omega (arith, ap (λ z. z.behind) e, whole source q.0, q.1, h.enough, l);
+  }),
+  λ w. let are : lends source ≡ true = ap (λ z. z.lends) e ∙ w.lends in i.1 (are, omega (arith, ap (λ z. z.behind) e, whole source are, w.on_octets, h.enough, l)),
+)
+
+owned_not : (x : CowSlice ℕ Global) → IsOwnedSlice x → IsBorrowedSlice x → ⊥
+owned_not (Slice.Borrowed r) o b = o
+owned_not (Slice.Owned v) o b = b
+
+-- an OCTET STRING that was skipped, and then is lent or copied
+module _ (s : State) (size : Size) (mark : Bool) {x y : Taking} (left : ℕ) (t : State) (live : s.failed ≡ false) (i : x ≡ reader_of s) (l : left ≡ length y.bits) where
+  -- the octets that were skipped
+  taken : (n : ℕ) → Takes (memory_or (λ a. IsOfItems a size mark Octet)) (λ a. Lengthy a size mark octet_items octet) HasCount x (Ok n) y
+      → (os : List ℕ) × (length os ≡ n) × Took (Lengthy (settings_of s) size mark octet_items octet os) s.bits y.bits
+  taken n g = (g.ok.octets, g.ok.many, subst (λ (z : Taking). Took (Lengthy (read_by z) size mark octet_items octet g.ok.octets) z.bits y.bits) i g.ok.held)
+
+  pub skip_refused : (k : DecodeErrorKind) (e : DecodeError) → Takes (memory_or (λ a. IsOfItems a size mark Octet)) (λ a. Lengthy a size mark octet_items octet) HasCount x (Err k) y
+      → e ≡ refusal k s → t ≡ record s { failed = true } → Reads decoder_rules (Schemas.octet_string size mark) (λ (v : CowSlice ℕ Global). octets (cow_slice_items v)) s (Err e) t
+  skip_refused k e g f h =
+      let r : Takes (memory_or (λ a. IsOfItems a size mark Octet)) (λ a. Lengthy a size mark octet_items octet) (λ P (v : CowSlice ℕ Global). P (cow_slice_items v)) x (Err k) y = record { ok = tt; err = g.err; kept = g.kept } in
+      reads s (Schemas.octet_string size mark) (λ v. octets (cow_slice_items v)) live (λ v. reads_octets (settings_of s) size mark (cow_slice_items v)) i r l (ap Err f, h) (λ d. faulty_octets (settings_of s) size mark s.bits d)
+
+  module _ (n : ℕ) (g : Takes (memory_or (λ a. IsOfItems a size mark Octet)) (λ a. Lengthy a size mark octet_items octet) HasCount x (Ok n) y) where
+    last : ComeAlone size mark s.bits n → LastTaken (8 * length (taken n g).0) (unpack (taken n g).0) s.bits y.bits × AreOctets (taken n g).0
+    last c = let q = taken n g in alone_last (settings_of s) q.0 size mark q.2 (subst (λ (m : ℕ). ComeAlone size mark s.bits m) (sym q.1) c)
+
+    pub enough : ComeAlone size mark s.bits n → 8 * n + left ≤ length s.bits
+    enough c =
+        let q = taken n g in
+        let h = (last c).0 in
+        omega (arith, l, h.wide, q.1, ap length h.joins, length-append h.before (unpack q.0 ++ y.bits), length-append (unpack q.0) y.bits)
+
+    -- a part of the input that can be lent is what was taken
+    part_is : (part : List ℕ) → ComeAlone size mark s.bits n → AreOctetsOf s.bits (length s.bits - left) n part → part ≡ (taken n g).0
+    part_is part c p =
+        let q = taken n g in
+        let w = last c in
+        let h = w.0 in
+        let k = length s.bits - left - 8 * n in
+        let m = length s.bits - left - k in
+        let all : length s.bits ≡ length h.before + (length (unpack q.0) + length y.bits) = omega (arith, ap length h.joins, length-append h.before (unpack q.0 ++ y.bits), length-append (unpack q.0) y.bits) in
+        let first : length h.before ≡ k = omega (arith, all, l, h.wide, q.1) in
+        let many : length (unpack q.0) ≡ m = omega (arith, all, l, h.wide, q.1) in
+        let d : drop k s.bits ≡ unpack q.0 ++ y.bits = ap (λ z. drop k z) h.joins ∙ drop_at h.before (unpack q.0 ++ y.bits) k first in
+        unpack_same part q.0 p.are w.1 (p.same ∙ ap (λ z. take m z) d ∙ take_at (unpack q.0) y.bits m many)
+
+    pub lent_read : (v : CowSlice ℕ Global) → AreLent size mark s left n → AreOctetsOf s.bits (length s.bits - left) n (cow_slice_items v) → t ≡ with_last s left
+        → Reads decoder_rules (Schemas.octet_string size mark) (λ (v : CowSlice ℕ Global). octets (cow_slice_items v)) s (Ok v) t
+    lent_read v a p h =
+        let q = taken n g in
+        let k : Took (Lengthy (settings_of s) size mark octet_items octet (cow_slice_items v)) s.bits y.bits = subst (λ z. Took (Lengthy (settings_of s) size mark octet_items octet z) s.bits y.bits) (sym (part_is (cow_slice_items v) a.alone p)) q.2 in
+        let r : Takes (memory_or (λ a. IsOfItems a size mark Octet)) (λ a. Lengthy a size mark octet_items octet) (λ P (v : CowSlice ℕ Global). P (cow_slice_items v)) (reader_of s) (Ok v) y =
+        record { ok = k; err = tt; kept = g.kept ∙ ap (λ z. z.options) i } in
+        reads s (Schemas.octet_string size mark) (λ v. octets (cow_slice_items v)) live (λ v. reads_octets (settings_of s) size mark (cow_slice_items v)) refl r l (refl, h) (λ d. faulty_octets (settings_of s) size mark s.bits d)
+
+    pub lent_as : (part : List ℕ) → AreLent size mark s left n → AreOctetsOf s.bits (length s.bits - left) n part → t ≡ with_last s left → AreLent size mark s (length t.bits) (length part)
+    lent_as part a p h =
+        let q = taken n g in
+        let many : length part ≡ n = ap length (part_is part a.alone p) ∙ q.1 in
+        let rest : length t.bits ≡ left = ap (λ z. length z.bits) h ∙ length-drop (length s.bits - left) s.bits ∙ omega (arith, enough a.alone) in
+        subst (λ (k : ℕ). AreLent size mark s k (length part)) (sym rest) (subst (λ (k : ℕ). AreLent size mark s left k) (sym many) a)
+
+    -- what is copied isn't lent
+    pub copied_unlent : (r : Result (CowSlice ℕ Global) DecodeError) → Reads decoder_rules (Schemas.octet_string size mark) (λ (v : CowSlice ℕ Global). octets (cow_slice_items v)) s r t → IfOk r (λ v. IsOwnedSlice v)
+        → (AreLent size mark s left n → ⊥) → IfOk r (λ v. IsBorrowedSlice v ↔ AreLent size mark s (length t.bits) (length (cow_slice_items v)))
+    copied_unlent (Err e) h o none = tt
+    copied_unlent (Ok v) h o none =
+        let q = taken n g in
+        let w = took_agree (one_reading (settings_of s) (Schemas.octet_string size mark) (octets (cow_slice_items v)) (octets q.0)) h.law.took (reads_octets (settings_of s) size mark q.0 q.2) in
+        let same : cow_slice_items v ≡ q.0 = let e = w.0 in cc in
+        let many : length (cow_slice_items v) ≡ n = ap length same ∙ q.1 in
+        let rest : length t.bits ≡ left = ap length w.1 ∙ sym l in
+        ((λ b. absurd (owned_not v o b)), λ a. absurd (none (subst (λ (k : ℕ). AreLent size mark s left k) many (subst (λ (k : ℕ). AreLent size mark s k (length (cow_slice_items v))) rest a))))
