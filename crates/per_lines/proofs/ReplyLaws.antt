@@ -76,6 +76,7 @@ more-than-none (first ∷ lines) others line e = (cc)
 -- a line more is at least one
 pub takes-next : (a : Arguments) (input rest left before now after : Option (List ℕ)) →
     HasReplied a input rest before now → PrintsNext a rest left now after → TakesTurns a true input left before after
+    unfolding replied-more
 takes-next a input rest left before now after x y =
     (replied-more a input rest left before now after x y, more-than-none x.lines [] y.line)
 
@@ -179,6 +180,7 @@ prints-through a input before after last kept x y = record {
 
 pub turns-through : (a : Arguments) (more : Bool) (input rest before after : Option (List ℕ)) (kept : List ℕ) →
     TakesTurns a more input rest (Some []) (Some kept) → Appends before after kept → TakesTurns a more input rest before after
+    unfolding replied-through
 turns-through a true input rest before after kept x y = (replied-through a input rest before after kept x.0 y, x.1)
 turns-through a false input rest before after kept x y = prints-through a input before after [] kept x y
 
