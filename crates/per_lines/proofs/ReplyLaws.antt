@@ -1,6 +1,6 @@
 -- The replies to the lines of an input, one by one.
-use Rattle.std.proofs.Common.{◌≡◌, refl, sym, ap, ◌∙◌, ℕ, Bool, true, false, List, [], ◌∷◌, ◌++◌, Option, Some, None, IfSome, append_assoc, append-nil}
-use Rattle.std.specs.Prelude.{IsSomeAnd}
+use Rattle.std.proofs.Common.{◌≡◌, refl, sym, ap, subst, ◌∙◌, ℕ, Bool, true, false, List, [], ◌∷◌, ◌++◌, Option, Some, None, IfSome, append_assoc, append-nil}
+use Rattle.std.specs.Prelude.{◌≢◌, IsSomeAnd, IfOk, Result, Ok, Err}
 use Rattle.std.specs.Io.BufRead.{drop_through}
 use Rattle.std.specs.Io.KnownBytes.{Appends, Keeps, IsAtEnd, prepend_known}
 use Rattle.std.specs.Io.Buffered.{reader_inner, reader_buffer, reader_capacity, reader_remaining}
@@ -68,6 +68,17 @@ replied-more a input rest left before now after x y = record {
   are_replies = replies-more a x.lines x.texts y.line y.text x.are_replies y.is_reply;
   printed = appends-more before now after x.texts y.text x.printed y.printed;
 }
+
+more-than-none : (lines others : List (List ℕ)) (line : List ℕ) → lines ++ line ∷ others ≢ []
+more-than-none [] others line e = (cc)
+more-than-none (first ∷ lines) others line e = (cc)
+
+-- a line more is at least one
+pub takes-next : (a : Arguments) (input rest left before now after : Option (List ℕ)) →
+    HasReplied a input rest before now → PrintsNext a rest left now after → TakesTurns a true input left before after
+unfolding replied-more
+takes-next a input rest left before now after x y =
+    (replied-more a input rest left before now after x y, more-than-none x.lines [] y.line)
 
 first-end : (input rest : Option (List ℕ)) (lines : List (List ℕ)) →
     IfSome input (λ octets. IsSomeAnd rest (λ others. lines_of octets ≡ lines ++ lines_of others)) →
@@ -169,8 +180,16 @@ prints-through a input before after last kept x y = record {
 
 pub turns-through : (a : Arguments) (more : Bool) (input rest before after : Option (List ℕ)) (kept : List ℕ) →
     TakesTurns a more input rest (Some []) (Some kept) → Appends before after kept → TakesTurns a more input rest before after
-turns-through a true input rest before after kept x y = replied-through a input rest before after kept x y
+unfolding replied-through
+turns-through a true input rest before after kept x y = (replied-through a input rest before after kept x.0 y, x.1)
 turns-through a false input rest before after kept x y = prints-through a input before after [] kept x y
+
+-- the same where some turns may have failed
+pub turns-if-ok : (a : Arguments) (taken : Result Bool Fault) (input rest before after start : Option (List ℕ)) (kept : List ℕ) →
+    start ≡ Some [] → IfOk taken (λ more. TakesTurns a more input rest start (Some kept)) → Appends before after kept →
+    IfOk taken (λ more. TakesTurns a more input rest before after)
+turns-if-ok a (Ok more) input rest before after start kept e x y = turns-through a more input rest before after kept (subst (λ z. TakesTurns a more input rest z (Some kept)) e x) y
+turns-if-ok a (Err fault) input rest before after start kept e x y = tt
 
 pub ends_through : (a : Arguments) (input before after : Option (List ℕ)) (kept : List ℕ) (fault : Fault) →
     EndsReplies a input (Some []) (Some kept) fault → Appends before after kept → EndsReplies a input before after fault

@@ -143,9 +143,10 @@ pub record HasReplied (a : Arguments) (input rest before after : Option (List �
   pub are_replies : AreReplies a lines texts
   pub printed : Appends before after texts
 
--- what some turns do: an output gets the replies to the lines that they take; where there are no more lines, those to all
+-- what some turns do: they take at least one line, and an output gets the replies to all that they take; where there are no more
+-- lines, it has got those to all
 abbrev pub TakesTurns : Arguments → Bool → Option (List ℕ) → Option (List ℕ) → Option (List ℕ) → Option (List ℕ) → Type 0
-TakesTurns a true input rest before after = HasReplied a input rest before after
+TakesTurns a true input rest before after = (replied : HasReplied a input rest before after) × (replied.lines ≢ [])
 TakesTurns a false input rest before after = PrintsReplies a input [] before after
 
 -- why a turn fails, and what the output got by then

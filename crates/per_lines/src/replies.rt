@@ -86,12 +86,15 @@ fn take_lines<R: Read>(
     ensures err { IfErr result (EndsReplies arguments (reader_remaining R.remaining input.old)
         (Some (string_bytes replies.old)) (Some (string_bytes replies.new))) }
 {
-    for _ in 0..u64::MAX {
+    if !take_line(alloc, arguments, input, replies)? {
+        return Ok(false);
+    }
+    for _ in 1..u64::MAX {
+        if !input.buffer().contains(&b'\n') {
+            break;
+        }
         if !take_line(alloc, arguments, input, replies)? {
             return Ok(false);
-        }
-        if !input.buffer().contains(&b'\n') {
-            return Ok(true);
         }
     }
     Ok(true)

@@ -18,9 +18,11 @@ returns-then-not-branch-clause-ok g c = prints-then c.args.arguments (reader_rem
     (g.W.Write.contents c.reply_to_next.new.output) [] c.loop.invariant (rw c.if-not-branch.true at c.in_ok-reply_to_next.ensures.ok)
 
 pub loop-preserved : goal.loop-preserved
-loop-preserved g c = replied-then c.args.arguments (reader_remaining g.R.Read.remaining c.args.input.now) (reader_remaining g.R.Read.remaining c.loop.input)
+loop-preserved g c =
+    let taken = rw c.if-not-branch.false at c.in_ok-reply_to_next.ensures.ok in
+    replied-then c.args.arguments (reader_remaining g.R.Read.remaining c.args.input.now) (reader_remaining g.R.Read.remaining c.loop.input)
     (reader_remaining g.R.Read.remaining c.reply_to_next.new.input) (g.W.Write.contents c.args.output.now) (g.W.Write.contents c.loop.output)
-    (g.W.Write.contents c.reply_to_next.new.output) c.loop.invariant (rw c.if-not-branch.false at c.in_ok-reply_to_next.ensures.ok)
+    (g.W.Write.contents c.reply_to_next.new.output) c.loop.invariant taken.0
 
 pub returns-clause-err : goal.returns-clause-err
 returns-clause-err g c = ends_turn c.args.arguments (reader_remaining g.R.Read.remaining c.args.input.now) (reader_remaining g.R.Read.remaining c.loop.input)
