@@ -69,15 +69,16 @@ def write_inputs(folder):
 def build_this_project(folder):
     """Proves and builds the program in Rattle, in a copy of the libraries below it, which are there as they are proved."""
     crates, copy = read_crates(), f"{folder.path}/copy"
-    shutil.rmtree(copy, ignore_errors=True)
     found = below(LIBRARIES, crates)
     for name in found:
+        shutil.rmtree(f"{copy}/crates/{name}", ignore_errors=True)
         shutil.copytree(f"{TOP}/crates/{name}", f"{copy}/crates/{name}", copy_function=linked)
     lines = [f"{name}: {' '.join(crates[name])}\n" for name in found]
     folder.written("copy/crates.txt", "".join(lines) + f"bench_rasn: {' '.join(LIBRARIES)} anyhow hex\n")
     shutil.copy(f"{TOP}/HANDLES", f"{copy}/HANDLES")
     crate = f"{copy}/crates/bench_rasn"
     for part, ending in (("src", ".rt"), ("specs", ".antt")):
+        shutil.rmtree(f"{crate}/{part}", ignore_errors=True)
         os.makedirs(f"{crate}/{part}")
         for name in os.listdir(f"{HERE}/rattle"):
             if name.endswith(f"{ending}.txt"):

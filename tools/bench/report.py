@@ -62,7 +62,7 @@ def goals(times, grown):
     found = []
 
     def goal(text, measured, most):
-        found.append([text, f"{measured:.2f}", "reached" if measured < most else f"missed, {measured / most:.2f} of it"])
+        found.append([text, f"{measured:.2f}", "reached" if measured < most else f"missed: {measured / most:.2f} times as much"])
 
     for operation, side in SIDES.items():
         for kind, name, text, most in (
@@ -74,7 +74,7 @@ def goals(times, grown):
             goal(f"{side}: {text}", times[f"uper {operation} {kind}"][name][1], most)
     if grown:
         size, _, memory = grown[-1]
-        goal("`per_check uper octets` at 16 MiB: resident octets an octet of value, at most 4", memory / size, 4.005)
+        goal("`per_check uper octets` at 16 MiB, with the program itself: 4 resident octets an octet of value", memory / size, 4)
     return found
 
 
@@ -109,7 +109,13 @@ def instruction_rows(counted):
 
 
 def growth_rows(grown):
-    return [[f"{size:,}", f"{seconds:.2f}", f"{memory / 1024:,.0f}", f"{memory / size:.2f}"] for size, seconds, memory in grown]
+    """A line for each length; the last column leaves out what the program takes for the shortest."""
+    least, _, own = grown[0]
+    rows = []
+    for size, seconds, memory in grown:
+        more = f"{(memory - own) / (size - least):.2f}" if size > least else ""
+        rows.append([f"{size:,}", f"{seconds:.2f}", f"{memory / 1024:,.0f}", more])
+    return rows
 
 
 def report(folder):
@@ -134,7 +140,7 @@ def report(folder):
         head = ["Instructions, UPER", "encode", "asn1c", "C", "decode", "asn1c", "C"]
         text += f"\n{table(head, rows)}\n{table(['Most instructions', 'of this project, by function'], most)}"
     if grown:
-        text += "\n" + table(["Octets", "seconds", "KiB resident", "octets an octet"], growth_rows(grown))
+        text += "\n" + table(["Octets of value", "seconds", "KiB resident", "more octets for each octet more"], growth_rows(grown))
     with open(f"{folder.path}/differences.txt", encoding="utf-8") as it:
         told = it.read()
     folder.written("report.md", text + (f"\n{told}" if told else ""))
