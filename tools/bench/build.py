@@ -35,19 +35,40 @@ def linked(source, to):
     return to
 
 
+class Erlang:
+    """A running program in Erlang, of one variant: to start one takes longer than what is timed."""
+
+    def __init__(self, folder, variant):
+        words = ["erl", "+S", "1", "+sbwt", "none", "-noshell", "-pa", f"{folder.path}/erlang_{variant}", "-s", "bench", "main"]
+        self.started = subprocess.Popen(words, stdin=subprocess.PIPE, stdout=subprocess.PIPE, text=True)
+
+    def answer(self, operation, kind, count, file):
+        """Returns the line that it answers."""
+        self.started.stdin.write(f"{operation} {kind} {count} {file}\n")
+        self.started.stdin.flush()
+        line = self.started.stdout.readline()
+        if not line:
+            raise Failure(f"erlang {operation} {file}: no answer")
+        return line
+
+
 class Folder:
     """Where the benchmark builds and keeps its results."""
 
     def __init__(self, path):
         self.path = os.path.realpath(path)
+        self.running = {}
         for name in ("bin", "inputs", "profiles"):
             os.makedirs(f"{self.path}/{name}", exist_ok=True)
 
+    def erlang(self, variant, operation, kind, count):
+        """Returns what Erlang answers. Its program ends with this one."""
+        if variant not in self.running:
+            self.running[variant] = Erlang(self, variant)
+        return self.running[variant].answer(operation, kind, count, self.input(variant, kind))
+
     def program(self, name, variant, operation, kind, count):
-        """Returns the command of a program. Erlang has a program for each variant."""
-        if name == "erlang":
-            erl = ["erl", "+S", "1", "+sbwt", "none", "-noshell", "-pa", f"{self.path}/erlang_{variant}"]
-            return [*erl, "-s", "bench", "main", operation, kind, str(count)]
+        """Returns the command of a program, which reads the line of the kind."""
         return [f"{self.path}/bin/{name}", variant, operation, kind, str(count)]
 
     def input(self, variant, kind):
@@ -115,7 +136,10 @@ def check(folder):
     for name, variant in programs():
         for kind in kinds():
             with open(folder.input(variant, kind), encoding="utf-8") as line:
-                answer = ran(folder.program(name, variant, "check", kind, 1), folder.path, stdin=line)
+                if name == "erlang":
+                    answer = folder.erlang(variant, "check", kind, 1)
+                else:
+                    answer = ran(folder.program(name, variant, "check", kind, 1), folder.path, stdin=line)
                 line.seek(0)
                 if answer == line.read():
                     continue

@@ -20,17 +20,17 @@ IN_APER = ("new", "dec")
 
 
 def run(folder, name, variant, operation, kind, count):
-    """Returns the seconds of processor time that a program takes in all, and what it prints."""
+    """Returns the seconds of processor time that a program takes in all."""
     words = folder.program(name, variant, operation, kind, count)
     with open(folder.input(variant, kind), encoding="utf-8") as line:
         started = subprocess.Popen(words, stdin=line, stdout=subprocess.PIPE, text=True)
-        printed = started.stdout.read()
+        started.stdout.read()
         _, status, took = os.wait4(started.pid, 0)
     started.returncode = os.waitstatus_to_exitcode(status)
     started.stdout.close()
     if started.returncode:
         raise Failure(f"{' '.join(words)}: status {started.returncode}")
-    return took.ru_utime + took.ru_stime, printed
+    return took.ru_utime + took.ru_stime
 
 
 class Cell:
@@ -41,19 +41,20 @@ class Cell:
         self.words = (variant, "enc" if name == "erlang" and operation == "new" else operation, kind)
         self.start = 0.0
         if name != "erlang":
-            self.start = min(run(folder, name, *self.words, 0)[0] for _ in range(3))
+            self.start = min(run(folder, name, *self.words, 0) for _ in range(3))
         self.count = 1
 
     def seconds(self):
         """Returns the processor time of `count` operations alone: Erlang tells it itself, in milliseconds."""
-        took, printed = run(self.folder, self.name, *self.words, self.count)
-        return int(printed.split()[0]) / 1000 if self.name == "erlang" else max(0.0, took - self.start)
+        if self.name == "erlang":
+            return int(self.folder.erlang(*self.words, self.count).split()[0]) / 1000
+        return max(0.0, run(self.folder, self.name, *self.words, self.count) - self.start)
 
     def settle(self, guess):
         """Finds how many operations take SECONDS."""
         self.count = max(1, guess)
         while True:
-            took = self.seconds()
+            took = min(self.seconds() for _ in range(2))
             if took >= SECONDS / 4:
                 self.count = max(1, round(self.count * SECONDS / took))
                 return

@@ -1,31 +1,36 @@
-%% bench OPERATION KIND COUNT: reads a line of hexadecimal, encodes the value that it spells (`enc`) or decodes the octets
-%% (`dec`) COUNT times, and prints the milliseconds of processor time and a checksum. The operation `check` prints the
-%% canonical octets. Which variant it is says the module 'Bench' on the path.
+%% Reads lines `OPERATION KIND COUNT FILE` to their end, and answers each by a line. FILE has a line of hexadecimal: the value
+%% that it spells is encoded (`enc`) or its octets decoded (`dec`) COUNT times, and the answer is the milliseconds of processor
+%% time and a checksum. The operation `check` answers the canonical octets. Which variant it is says the module 'Bench' on
+%% the path.
 -module(bench).
--export([main/1]).
+-export([main/0]).
 
-main([Operation, Kind, Count]) ->
+main() ->
     io:setopts([binary]),
-    Octets = binary:decode_hex(string:trim(line([]))),
-    Type = type(Kind),
-    {ok, Value} = 'Bench':decode(Type, Octets),
-    Times = list_to_integer(atom_to_list(Count)),
-    case Operation of
-        check ->
-            {ok, Canonical} = 'Bench':encode(Type, Value),
-            io:put_chars([string:lowercase(binary:encode_hex(Canonical)), $\n]);
-        enc ->
-            timed(fun() -> encode(Type, Value, Times, 0) end);
-        dec ->
-            timed(fun() -> decode(Type, Octets, Times, 0) end)
-    end,
+    answer_lines(),
     halt().
 
-line(Blocks) ->
-    case file:read(standard_io, 1 bsl 20) of
-        {ok, Block} -> line([Block | Blocks]);
-        eof -> iolist_to_binary(lists:reverse(Blocks))
+answer_lines() ->
+    case io:get_line("") of
+        eof ->
+            ok;
+        Line ->
+            [Operation, Kind, Count, File] = string:lexemes(Line, " \n"),
+            {ok, Digits} = file:read_file(File),
+            Octets = binary:decode_hex(string:trim(Digits)),
+            answer(Operation, type(Kind), binary_to_integer(Count), Octets),
+            answer_lines()
     end.
+
+answer(<<"check">>, Type, _, Octets) ->
+    {ok, Value} = 'Bench':decode(Type, Octets),
+    {ok, Canonical} = 'Bench':encode(Type, Value),
+    io:put_chars([string:lowercase(binary:encode_hex(Canonical)), $\n]);
+answer(<<"enc">>, Type, Times, Octets) ->
+    {ok, Value} = 'Bench':decode(Type, Octets),
+    timed(fun() -> encode(Type, Value, Times, 0) end);
+answer(<<"dec">>, Type, Times, Octets) ->
+    timed(fun() -> decode(Type, Octets, Times, 0) end).
 
 %% In a process with a heap that begins large, as that of a server's worker.
 timed(Work) ->
@@ -43,15 +48,15 @@ timed(Work) ->
         {Milliseconds, Sum} -> io:format("~b ~b~n", [Milliseconds, Sum])
     end.
 
-type(four) -> 'Four';
-type(integer) -> 'Whole';
-type(behind1k) -> 'Behind';
-type(behind1m) -> 'Behind';
-type(visible1k) -> 'Visible';
-type(optional) -> 'Report';
-type(list) -> 'Fours';
-type(group) -> 'Outer';
-type(choice) -> 'Alt';
+type(<<"four">>) -> 'Four';
+type(<<"integer">>) -> 'Whole';
+type(<<"behind1k">>) -> 'Behind';
+type(<<"behind1m">>) -> 'Behind';
+type(<<"visible1k">>) -> 'Visible';
+type(<<"optional">>) -> 'Report';
+type(<<"list">>) -> 'Fours';
+type(<<"group">>) -> 'Outer';
+type(<<"choice">>) -> 'Alt';
 type(_) -> 'Octets'.
 
 encode(_, _, 0, Sum) ->
