@@ -27,8 +27,11 @@ def ran(words, folder, **how):
     return done.stdout
 
 
-def linked(source, to):
+def copied(source, to):
+    """Copies a file; of what `rt` has built, which nothing writes again, a second name serves where the disk is the same."""
     try:
+        if "/out/" not in source:
+            return shutil.copy2(source, to)
         os.link(source, to)
     except OSError:
         shutil.copy2(source, to)
@@ -93,7 +96,7 @@ def build_this_project(folder):
     found = below(LIBRARIES, crates)
     for name in found:
         shutil.rmtree(f"{copy}/crates/{name}", ignore_errors=True)
-        shutil.copytree(f"{TOP}/crates/{name}", f"{copy}/crates/{name}", copy_function=linked)
+        shutil.copytree(f"{TOP}/crates/{name}", f"{copy}/crates/{name}", copy_function=copied)
     lines = [f"{name}: {' '.join(crates[name])}\n" for name in found]
     folder.written("copy/crates.txt", "".join(lines) + f"bench_rasn: {' '.join(LIBRARIES)} anyhow hex\n")
     shutil.copy(f"{TOP}/HANDLES", f"{copy}/HANDLES")
