@@ -1,0 +1,167 @@
+"""Builds the programs of the benchmark in a folder, and holds each to the encodings of inputs.py."""
+import os
+import re
+import shutil
+import subprocess
+
+from inputs import kinds, line_of, octets_line
+from program import built_program
+from repository import TOP, Failure, below, read_crates
+
+HERE = os.path.dirname(os.path.realpath(__file__))
+VARIANTS = ("uper", "aper")
+# The libraries that the program in Rattle names.
+LIBRARIES = ["rasn_below", "rasn_per", "per_samples_a", "per_samples_f", "per_samples_h"]
+SIZES = {"1k": 1 << 10, "64k": 1 << 16, "1m": 1 << 20, "16m": 1 << 24}
+# asn1c knows no addition groups: an optional addition of the group's type has the same encoding (X.691 19.9).
+GROUP = (r"\[\[.*\]\]", "group Inner OPTIONAL")
+# It leaves out the length of zero behind whole fragments of 64 KiB.
+KNOWN_DIFFERENCES = {("asn1c", "uper", "octets1m"), ("asn1c", "uper", "behind1m")}
+
+
+def ran(words, folder, **how):
+    """Runs a command in a folder and returns what it prints."""
+    done = subprocess.run(words, cwd=folder, capture_output=True, text=True, **how)
+    if done.returncode:
+        raise Failure(f"{' '.join(words)}: status {done.returncode}\n{(done.stdout + done.stderr)[-2000:]}")
+    return done.stdout
+
+
+def copied(source, to):
+    """Copies a file; of what `rt` has built, which nothing writes again, a second name serves where the disk is the same."""
+    try:
+        if "/out/" not in source:
+            return shutil.copy2(source, to)
+        os.link(source, to)
+    except OSError:
+        shutil.copy2(source, to)
+    return to
+
+
+class Erlang:
+    """A running program in Erlang, of one variant: to start one takes longer than what is timed."""
+
+    def __init__(self, folder, variant):
+        words = ["erl", "+S", "1", "+sbwt", "none", "-noshell", "-pa", f"{folder.path}/erlang_{variant}", "-s", "bench", "main"]
+        self.started = subprocess.Popen(words, stdin=subprocess.PIPE, stdout=subprocess.PIPE, text=True)
+
+    def answer(self, operation, kind, count, file):
+        """Returns the line that it answers."""
+        self.started.stdin.write(f"{operation} {kind} {count} {file}\n")
+        self.started.stdin.flush()
+        line = self.started.stdout.readline()
+        if not line:
+            raise Failure(f"erlang {operation} {file}: no answer")
+        return line
+
+
+class Folder:
+    """Where the benchmark builds and keeps its results."""
+
+    def __init__(self, path):
+        self.path = os.path.realpath(path)
+        self.running = {}
+        for name in ("bin", "inputs", "profiles"):
+            os.makedirs(f"{self.path}/{name}", exist_ok=True)
+
+    def erlang(self, variant, operation, kind, count):
+        """Returns what Erlang answers. Its program ends with this one."""
+        if variant not in self.running:
+            self.running[variant] = Erlang(self, variant)
+        return self.running[variant].answer(operation, kind, count, self.input(variant, kind))
+
+    def program(self, name, variant, operation, kind, count):
+        """Returns the command of a program, which reads the line of the kind."""
+        return [f"{self.path}/bin/{name}", variant, operation, kind, str(count)]
+
+    def input(self, variant, kind):
+        return f"{self.path}/inputs/{variant}.{kind}"
+
+    def written(self, name, text):
+        with open(f"{self.path}/{name}", "w", encoding="utf-8") as it:
+            it.write(text)
+
+
+def write_inputs(folder):
+    for kind, (_, put) in kinds().items():
+        for variant in VARIANTS:
+            folder.written(f"inputs/{variant}.{kind}", line_of(put, variant == "aper"))
+    for name, size in SIZES.items():
+        folder.written(f"inputs/growth.{name}", octets_line(size))
+
+
+def build_this_project(folder):
+    """Proves and builds the program in Rattle, in a copy of the libraries below it, which are there as they are proved."""
+    crates, copy = read_crates(), f"{folder.path}/copy"
+    found = below(LIBRARIES, crates)
+    for name in found:
+        shutil.rmtree(f"{copy}/crates/{name}", ignore_errors=True)
+        shutil.copytree(f"{TOP}/crates/{name}", f"{copy}/crates/{name}", copy_function=copied)
+    lines = [f"{name}: {' '.join(crates[name])}\n" for name in found]
+    folder.written("copy/crates.txt", "".join(lines) + f"bench_rasn: {' '.join(LIBRARIES)} anyhow hex\n")
+    shutil.copy(f"{TOP}/HANDLES", f"{copy}/HANDLES")
+    crate = f"{copy}/crates/bench_rasn"
+    for part, ending in (("src", ".rt"), ("specs", ".antt")):
+        shutil.rmtree(f"{crate}/{part}", ignore_errors=True)
+        os.makedirs(f"{crate}/{part}")
+        for name in os.listdir(f"{HERE}/rattle"):
+            if name.endswith(f"{ending}.txt"):
+                shutil.copy(f"{HERE}/rattle/{name}", f"{crate}/{part}/{name.removesuffix('.txt')}")
+    with open(folder.input("uper", "four"), encoding="utf-8") as line:
+        ran(["rt", "run", "--", "uper", "check", "four", "1"], crate, stdin=line)
+    shutil.copy(f"{crate}/out/bench_rasn", f"{folder.path}/bin/rasn")
+
+
+def build_asn1c(folder):
+    made = f"{folder.path}/asn1c"
+    shutil.rmtree(made, ignore_errors=True)
+    os.makedirs(made)
+    with open(f"{HERE}/Bench.asn1", encoding="utf-8") as it:
+        folder.written("asn1c/Bench.asn1", re.sub(*GROUP, it.read()))
+    ran(["asn1c", "-gen-PER", "-pdu=all", "Bench.asn1"], made)
+    sources = sorted(it for it in os.listdir(made) if it.endswith(".c") and it != "converter-sample.c")
+    words = ["gcc", "-O2", "-w", "-I.", f"-I{HERE}/c", "-o", f"{folder.path}/bin/asn1c", f"{HERE}/c/with_asn1c.c"]
+    ran([*words, *sources], made)
+
+
+def build_erlang(folder):
+    for variant, rules in (("uper", "uper"), ("aper", "per")):
+        made = f"{folder.path}/erlang_{variant}"
+        os.makedirs(made, exist_ok=True)
+        shutil.copy(f"{HERE}/Bench.asn1", made)
+        ran(["erl", "-noshell", "-eval", f'ok = asn1ct:compile("Bench.asn1", [{rules}]), halt().'], made)
+        ran(["erlc", f"{HERE}/erlang/bench.erl"], made)
+
+
+def check(folder):
+    """Has each program encode what it decoded, which must be the line that it was given."""
+    told = []
+    for name, variant in programs():
+        for kind in kinds():
+            with open(folder.input(variant, kind), encoding="utf-8") as line:
+                if name == "erlang":
+                    answer = folder.erlang(variant, "check", kind, 1)
+                else:
+                    answer = ran(folder.program(name, variant, "check", kind, 1), folder.path, stdin=line)
+                line.seek(0)
+                if answer == line.read():
+                    continue
+            if (name, variant, kind) not in KNOWN_DIFFERENCES:
+                raise Failure(f"{name} {variant} {kind}: other octets")
+            told.append(f"{name} writes {kind} otherwise in {variant}: it leaves out the length of zero behind whole fragments.")
+    folder.written("differences.txt", "".join(f"{it}\n" for it in told))
+
+
+def programs():
+    """Returns each program with each variant that it knows."""
+    return [(name, it) for name in ("rasn", "asn1c", "erlang", "c") for it in VARIANTS if (name, it) != ("asn1c", "aper")]
+
+
+def build(folder):
+    write_inputs(folder)
+    build_asn1c(folder)
+    build_erlang(folder)
+    ran(["gcc", "-O2", "-Wall", "-o", f"{folder.path}/bin/c", f"{HERE}/c/by_hand.c"], folder.path)
+    build_this_project(folder)
+    shutil.copy(built_program(False), f"{folder.path}/bin/per_check")
+    check(folder)

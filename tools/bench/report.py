@@ -1,0 +1,147 @@
+"""Writes the report of a run."""
+import json
+import os
+import platform
+import re
+import subprocess
+
+from inputs import kinds
+from repository import TOP
+
+SIDES = {"enc": "encode_buf", "new": "encode", "dec": "decode"}
+OTHERS = {"asn1c": "asn1c", "erlang": "Erlang", "c": "C"}
+MOST = 3
+
+
+def first_line(*words):
+    done = subprocess.run(words, capture_output=True, text=True, cwd=TOP)
+    lines = (done.stdout + done.stderr).strip().splitlines()
+    return lines[0] if lines else "unknown"
+
+
+def package(name):
+    return first_line("dpkg-query", "-W", "-f", "${Version}", name)
+
+
+def machine():
+    with open("/proc/cpuinfo", encoding="utf-8") as it:
+        model = re.search(r"^model name\s*: (.*)$", it.read(), re.MULTILINE)
+    return f"{model[1] if model else platform.machine()}, {os.cpu_count()} processors"
+
+
+def versions():
+    commit = first_line("git", "log", "-1", "--format=%h of %cs")
+    others = f"asn1c {package('asn1c')}, Erlang asn1 {package('erlang-asn1')}, {first_line('gcc', '--version')} at -O2"
+    return f"Commit {commit}; {first_line('rt', 'version')}; {others}. {machine()}; load at the end {os.getloadavg()[0]:.1f}."
+
+
+def table(head, rows):
+    lines = [head, ["---"] * len(head), *rows]
+    return "".join(f"| {' | '.join(line)} |\n" for line in lines)
+
+
+def time_table(times, variant):
+    """A line for each kind, a column for each operation and each other program: this project's time over the other's."""
+    columns = []
+    for operation in SIDES:
+        found = next((row for key, row in times.items() if key.startswith(f"{variant} {operation} ")), {})
+        columns += [(operation, name) for name in found]
+    head = [variant.upper()] + [f"{SIDES[it]} ns" if name == "rasn" else f"/ {OTHERS[name]}" for it, name in columns]
+    rows = []
+    for kind, (title, _) in kinds().items():
+        row = [title]
+        for operation, name in columns:
+            nanoseconds, ratio = times[f"{variant} {operation} {kind}"][name]
+            row.append(f"{nanoseconds:,.0f}" if name == "rasn" else f"{ratio:.2f}")
+        rows.append(row)
+    return table(head, rows)
+
+
+def goals(times, grown):
+    """Returns the goals with what was measured and whether that reaches them."""
+    found = []
+
+    def goal(text, measured, most):
+        found.append([text, f"{measured:.2f}", "reached" if measured < most else f"missed: {measured / most:.2f} times as much"])
+
+    for operation, side in SIDES.items():
+        for kind, name, text, most in (
+            ("four", "asn1c", "`four` below 0.6 of asn1c", 0.6),
+            ("octets1m", "c", "OCTET STRING of 1 MiB below 1.5 of memcpy", 1.5),
+            ("behind1m", "asn1c", "the same behind a bit below 0.2 of asn1c", 0.2),
+            ("visible1k", "asn1c", "VisibleString of 1 KiB below 0.3 of asn1c", 0.3),
+        ):
+            goal(f"{side}: {text}", times[f"uper {operation} {kind}"][name][1], most)
+    if grown:
+        size, _, memory = grown[-1]
+        goal("`per_check uper octets` at 16 MiB, with the program itself: 4 resident octets an octet of value", memory / size, 4)
+    return found
+
+
+def behind(times):
+    """Returns the rows on which this project isn't ahead of asn1c or Erlang."""
+    found = []
+    for key, row in times.items():
+        variant, operation, kind = key.split()
+        for name in ("asn1c", "erlang"):
+            if name in row and row[name][1] >= 1:
+                found.append(f"{variant.upper()} {SIDES[operation]} of {kinds()[kind][0]}: {row[name][1]:.2f} of {OTHERS[name]}'s time")
+    return found
+
+
+def plain(function):
+    """A function's name without the marks of its instance."""
+    return re.sub(r"::<#\w+>", "", function).split("'")[0]
+
+
+def instruction_rows(counted):
+    rows, most = [], []
+    for kind, (title, _) in kinds().items():
+        row = [title]
+        for operation in ("new", "dec"):
+            row += [f"{sum(counted[f'{name} {operation} {kind}'].values()):,.0f}" for name in ("rasn", "asn1c", "c")]
+            own = counted[f"rasn {operation} {kind}"]
+            total = sum(own.values()) or 1
+            first = sorted(own, key=own.get, reverse=True)[:MOST]
+            most.append([f"{SIDES[operation]}: {title}", ", ".join(f"`{plain(it)}` {100 * own[it] / total:.0f}%" for it in first)])
+        rows.append(row)
+    return rows, most
+
+
+def growth_rows(grown):
+    """A line for each length; the last column leaves out what the program takes for the shortest."""
+    least, _, own = grown[0]
+    rows = []
+    for size, seconds, memory in grown:
+        more = f"{(memory - own) / (size - least):.2f}" if size > least else ""
+        rows.append([f"{size:,}", f"{seconds:.2f}", f"{memory / 1024:,.0f}", more])
+    return rows
+
+
+def report(folder):
+    """Returns the text of the stages that have run."""
+    def kept(name):
+        path = f"{folder.path}/{name}.json"
+        if not os.path.isfile(path):
+            return None
+        with open(path, encoding="utf-8") as it:
+            return json.load(it)
+
+    times, counted, grown = kept("times"), kept("instructions"), kept("growth")
+    text = versions() + "\n"
+    if times:
+        for variant in ("uper", "aper"):
+            text += f"\n{time_table(times, variant)}"
+        text += "\n" + table(["Goal", "Measured", ""], goals(times, grown))
+        late = behind(times)
+        text += "\nNot ahead of asn1c or Erlang:" + ("\n\n" + "".join(f"- {it}\n" for it in late) if late else " nowhere.\n")
+    if counted:
+        rows, most = instruction_rows(counted)
+        head = ["Instructions, UPER", "encode", "asn1c", "C", "decode", "asn1c", "C"]
+        text += f"\n{table(head, rows)}\n{table(['Most instructions', 'of this project, by function'], most)}"
+    if grown:
+        text += "\n" + table(["Octets of value", "seconds", "KiB resident", "more octets for each octet more"], growth_rows(grown))
+    with open(f"{folder.path}/differences.txt", encoding="utf-8") as it:
+        told = it.read()
+    folder.written("report.md", text + (f"\n{told}" if told else ""))
+    return text
