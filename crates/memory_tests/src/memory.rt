@@ -2,7 +2,7 @@
 
 use linked_list_allocator::LocalHeap;
 use rasn_below::types::{Codec, OctetString};
-use rasn_per::uper::{EncodeError, EncodeErrorKind, decode, encode};
+use rasn_per::uper::{EncodeError, EncodeErrorKind, decode, encode, encode_buf};
 use std::alloc::{AllocError, Global};
 use std::test::Fail;
 
@@ -30,6 +30,21 @@ fn names_want_of_memory(rt: HostRuntime) -> Result<(), Fail> {
         }
     }
     assert!(rt; 0 < refused && refused < written);
+    Ok(())
+}
+
+/// Whether octets are written in a buffer of 112 octets that leaves its heap no room for them.
+fn is_written_in_its_buffer(alloc: Global, octets: &OctetString) -> Result<bool, AllocError> {
+    let heap = LocalHeap::new(alloc, 144)?;
+    let mut buffer = Vec::with_capacity(&heap, 112)?;
+    Ok(encode_buf(octets, &mut buffer).is_ok() && buffer.len() == 33)
+}
+
+#[test]
+fn writes_in_the_memory_of_a_buffer(rt: HostRuntime) -> Result<(), Fail> {
+    let octets = OctetString::new(Vec::from_slice(rt.alloc(), &[0x55; 32])?);
+    let is_written = is_written_in_its_buffer(rt.alloc(), &octets)?;
+    assert!(rt; is_written);
     Ok(())
 }
 
