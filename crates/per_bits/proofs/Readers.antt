@@ -6,7 +6,6 @@ use Rattle.std.proofs.lemmas.Slice.{between_to_end}
 use Rattle.std.specs.List.{between}
 use Rattle.rasn_types.specs.Bits.{Bits, unpack}
 use Rattle.rasn_types.proofs.Bits.{length-unpack}
-use Rattle.rasn_types.proofs.Packing.{unpack-take}
 use Rattle.per_bits.specs.Octets.{filled, AreFilledBy, ArePadded, AreWithin}
 use Rattle.per_bits.proofs.Words.{unpack-drop}
 

@@ -1,13 +1,13 @@
 -- One bit of octets that is set.
 use mir.Val.{bool_byte}
-use Rattle.std.proofs.Common.{◌≡◌, refl, sym, ap, ap₂, ◌∙◌, subst, ℕ, zero, suc, ◌+◌, ◌-◌, ◌*◌, ◌/◌, ◌%◌, ◌^◌, ◌<◌, ◌≤◌, Bool, true, false, inl, inr, List, [], ◌∷◌, ◌++◌, length, replicate, get_or, nat_le, arith, pow_pos, mod-eq_of_lt, mod-lt, append_assoc, bit_or}
+use Rattle.std.proofs.Common.{◌≡◌, refl, sym, ap, ap₂, ◌∙◌, subst, ℕ, suc, ◌+◌, ◌-◌, ◌*◌, ◌/◌, ◌%◌, ◌^◌, ◌<◌, ◌≤◌, Bool, true, false, inl, inr, List, [], ◌∷◌, ◌++◌, length, replicate, get_or, nat_le, arith, pow_pos, mod-eq_of_lt, mod-lt, append_assoc, bit_or}
 use Rattle.std.proofs.Math.ListN.{set}
 use Rattle.std.proofs.Math.Seq.{set-append_seam}
 use Rattle.std.proofs.lemmas.Bool.{cases_lt}
 use Rattle.std.proofs.lemmas.List.{set-append_left, set-append_right}
 use Rattle.std.proofs.lemmas.Nat.{shr_below, shr-shr}
-use Rattle.rasn_types.specs.Bits.{Bits, to_bits, unpack}
-use Rattle.rasn_types.proofs.Bits.{length-to_bits, length-unpack, to_bits-same, to_bits-split}
+use Rattle.rasn_types.specs.Bits.{to_bits, unpack}
+use Rattle.rasn_types.proofs.Bits.{length-to_bits, to_bits-same, to_bits-split}
 use Rattle.per_bits.specs.Octets.{filled, AreFilledBy, ArePadded}
 use Rattle.per_bits.proofs.Joins.{behind, put_behind}
 use Rattle.per_bits.proofs.Readers.{filled_length}

@@ -1,5 +1,5 @@
 -- Bits kept in octets, the highest bit of each first.
-use Rattle.std.specs.Prelude.{◌≡◌, ℕ, ◌+◌, ◌-◌, ◌*◌, ◌<◌, ◌≤◌, List, ◌++◌, length, take, drop, replicate, false}
+use Rattle.std.specs.Prelude.{◌≡◌, ℕ, ◌+◌, ◌-◌, ◌*◌, ◌<◌, ◌≤◌, List, ◌++◌, length, take, replicate, false}
 use Rattle.rasn_types.specs.Bits.{Bits, unpack}
 
 -- how many bits a word has; no numeral, so that no proof lists them
@@ -27,7 +27,3 @@ ArePadded spare octets = AreFilledBy (filled spare octets) spare octets
 pub record AreWithin (skip count : ℕ) (octets : List ℕ) : Type 0 where
   pub few : skip < 8
   pub enough : skip + count ≤ 8 * length octets
-
--- the octets from `start` on became the bits of `from` behind `skip` others
-abbrev pub IsShifted : ℕ → ℕ → List ℕ → List ℕ → List ℕ → Type 0
-IsShifted start skip old from new = unpack new ≡ unpack (take start old) ++ take (8 * (length old - start)) (drop skip (unpack from))

@@ -6,7 +6,7 @@
 
 ghost use Rattle.std.specs.Prelude.{◌≡◌, ◌+◌, ◌*◌, ◌%◌, ◌^◌, ◌<◌, ◌≤◌, ◌++◌, length, take, drop, set, vec_len, vec_capacity};
 ghost use Rattle.rasn_types.specs.Bits.{to_bits, number_of, unpack};
-ghost use Rattle.per_bits.specs.Octets.{word_size, first_word, filled, AreFilledBy, ArePadded, AreWithin, IsShifted};
+ghost use Rattle.per_bits.specs.Octets.{word_size, first_word, filled, AreFilledBy, ArePadded, AreWithin};
 
 use rasn_types::bit_string::note_octets;
 use std::alloc::Allocator;
@@ -186,20 +186,18 @@ pub(crate) fn append_octets_behind<A: Allocator>(
     let start = octets.len();
     octets.extend_from_slice(&from[..count]).unwrap();
     if skip > 0 {
-        shift_octets(octets, start, from, skip);
+        shift_octets(&mut octets[start..], from, skip);
     }
 }
 
-/// Fills the octets from `start` on with the bits of others, from the bit behind the first `skip` on.
-fn shift_octets<A: Allocator>(octets: &mut Vec<u8, A>, start: usize, from: &[u8], skip: u32)
-    requires start { start ≤ length octets.old.items }
+/// Fills octets with the bits of others, from the bit behind the first `skip` on.
+fn shift_octets(octets: &mut [u8], from: &[u8], skip: u32)
     requires few { skip < 8 }
-    requires enough { length octets.old.items < start + length from.now }
-    ensures bits { IsShifted start skip octets.old.items from.now octets.new.items }
-    ensures room { vec_capacity octets.old ≤ vec_capacity octets.new }
+    requires enough { length octets.old < length from.now }
+    ensures { unpack octets.new ≡ take (8 * length octets.old) (drop skip (unpack from.now)) }
 {
-    for index in 0..octets.len() - start {
-        let pair = u32::from(from[index]) << 8 | u32::from(from[index + 1]);
-        octets[start + index] = ((pair >> (8 - skip)) % 256) as u8;
+    for index in 0..octets.len() {
+        let pair = u16::from(from[index]) << 8 | u16::from(from[index + 1]);
+        octets[index] = ((pair >> (8 - skip)) % 256) as u8;
     }
 }

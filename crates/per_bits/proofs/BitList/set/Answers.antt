@@ -1,4 +1,4 @@
-use Rattle.std.proofs.Common.{◌≡◌, ◌∙◌, sym, ap, ◌<◌, ◌-◌, ◌*◌, ◌/◌, ◌%◌, length, get_or, subst, arith}
+use Rattle.std.proofs.Common.{◌∙◌, sym, ap, ◌<◌, ◌/◌, ◌%◌, length, subst, arith}
 use Rattle.std.specs.Prelude.{set}
 use Rattle.std.proofs.lemmas.Grind.{get_or_default_zero}
 use Rattle.rasn_types.specs.Bits.{to_bits}

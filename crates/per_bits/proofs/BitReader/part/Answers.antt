@@ -1,4 +1,4 @@
-use Rattle.std.proofs.Common.{◌≡◌, ◌∙◌, ◌+◌, ◌≤◌, ap, drop, length, take, arith, ℕ}
+use Rattle.std.proofs.Common.{◌≡◌, ◌∙◌, ◌+◌, ap, drop, length, take, arith, ℕ}
 use Rattle.per_bits.proofs.Readers.{left_is, part_taken}
 use Rattle.per_bits.proofs.BitReader.part.Goals as goal
 

@@ -1,8 +1,14 @@
-use Rattle.std.proofs.Common.{◌≡◌, ◌∙◌, ◌*◌, ◌++◌, ℕ, sym, ap, drop, take, arith}
+use Rattle.std.proofs.Common.{◌≡◌, ◌∙◌, ◌*◌, ◌++◌, ℕ, sym, ap, drop, take, arith, rules}
 use Rattle.rasn_types.specs.Bits.{unpack}
 use Rattle.rasn_types.proofs.Bits.{unpack-append}
 use Rattle.rasn_types.proofs.Packing.{unpack-take}
+use Rattle.per_bits.proofs.Shifts.{filled_behind}
 use Rattle.per_bits.proofs.fields.append_octets_behind.Goals as goal
+
+pub returns-then-skip-gt0-clause-bits : goal.returns-then-skip-gt0-clause-bits
+returns-then-skip-gt0-clause-bits g c =
+    filled_behind _ c.len-start.result c.args.count c.args.skip c.deref_mut.result.now c.args.octets.now.items c.shift_octets.new.octets c.args.from.now _ (search rules) (search rules)
+    (c.deref_mut.ensures.value ∙ rw c.unwrap.ensures at c.extend_from_slice.ensures.items) c.requires.within.enough c.shift_octets.ensures
 
 pub returns-else-skip-gt0-clause-bits : goal.returns-else-skip-gt0-clause-bits
 returns-else-skip-gt0-clause-bits g c =

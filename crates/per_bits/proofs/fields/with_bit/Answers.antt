@@ -1,4 +1,4 @@
-use Rattle.std.proofs.Common.{◌≡◌, ◌∙◌, refl, ap, ◌-◌, arith, Bool, true, false, []}
+use Rattle.std.proofs.Common.{◌∙◌, refl, ap, ◌-◌, arith}
 use Rattle.std.specs.Prelude.{set}
 use Rattle.rasn_types.specs.Bits.{to_bits}
 use Rattle.per_bits.proofs.Sets.{octet_fits, octet_set, bit_below, bit_is}
