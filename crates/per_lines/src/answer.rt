@@ -17,6 +17,7 @@ pub fn answer(alloc: Global, arguments: Arguments, line: Vec<u8>) -> Result<Stri
     let octets = hex::decode(alloc, line.as_slice())?;
     drop(line);
     let canonical = converted(alloc, arguments, octets.as_slice())?;
+    drop(octets);
     let mut text = hex::encode(alloc, canonical.as_slice())?;
     text.push('\n')?;
     Ok(text)
