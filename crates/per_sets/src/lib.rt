@@ -44,7 +44,8 @@ pub fn set_is_written_in_order()
 pub fn set_is_read_in_order()
     ensures { (a : Settings) (u : Bool) (ps : Parts) (ext : Bool) (adds : Parts) (rs xs : List (Option Value)) (p : ℕ)
         (bits : Bits) → basic_in a u (Schema.sequence by_tag ps ext adds) (record_value rs xs) p bits
-        ↔ basic_in a u (Schema.sequence listed (canonised ps) ext adds) (record_value (canonised_slots ps rs) xs) p bits }
+        ↔ basic_in a u (Schema.sequence listed (canonised ps) ext adds)
+        (record_value (canonised_slots ps rs) xs) p bits }
 {}
 
 /// Whatever a SET is read as has as many root parts as the SET.

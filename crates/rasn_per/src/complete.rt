@@ -94,7 +94,8 @@ pub fn decode_in<T: Decode>(
     octets: &[u8],
 ) -> Result<T, DecodeError>
     requires { options.levels ≡ 128 }
-    ensures decoded { DecodedBy options.zero_padding options.codec (T.schema constraints.now) T.value octets.now result }
+    ensures decoded { DecodedBy options.zero_padding options.codec (T.schema constraints.now) T.value
+        octets.now result }
     ensures few { AnswersFew (T.schema constraints.now) T.value octets.now result }
 {
     let total = BitReader::from_octets(octets).len();

@@ -13,8 +13,8 @@ use rasn_codec::codec::Decode;
 /// What is decoded has at most 65535 items, and 8192 for each bit of the octets; and so has each value within it, but
 /// for a default that stands for an absent part (X.691, 11.9, 19.5).
 pub fn decoded_items_are_few<T: Decode>()
-    ensures { (strict : Bool) (codec : Codec) (constraints : Constraints) (octets : List ℕ) (result : Result T DecodeError)
-        → DecodedBy strict codec (T.schema constraints) T.value octets result →
+    ensures { (strict : Bool) (codec : Codec) (constraints : Constraints) (octets : List ℕ)
+        (result : Result T DecodeError) → DecodedBy strict codec (T.schema constraints) T.value octets result →
         AnswersFew (T.schema constraints) T.value octets result }
 {}
 

@@ -1,19 +1,19 @@
 -- Bags are equal where each member stands as often in the one as in the other (ITU-T X.680, 28).
-use Rattle.std.proofs.Common.{◌≡◌, refl, sym, ap, ◌∙◌, ℕ, suc, Bool, true, false, ◌&&◌, ◌⊎◌, inl, inr, List, [], ◌∷◌, cond}
+use Rattle.std.proofs.Common.{◌≡◌, refl, sym, ap, ◌∙◌, ℕ, suc, Bool, true, false, ◌&&◌, ◌⊎◌, inl, inr, List, [], ◌∷◌}
 use Rattle.std.specs.Cmp.{IsEquivalence, first_so, second_so}
+use Rattle.std.specs.Prelude.{if◌then◌else◌, ◌==◌}
 use Rattle.std.specs.Bool.{Decides, one_answer}
 use Rattle.std.specs.List.{list_all}
-use Rattle.std.proofs.Math.Dec.{eqb}
 use Rattle.std.proofs.lemmas.Bool.{eqb-true, eq-eqb}
 
 -- how often a member stands in a list
 abbrev pub times : {K : Type 0} → (K → K → Bool) → K → List K → ℕ
 times eq q [] = 0
-times eq q (x ∷ xs) = cond (eq q x) (suc (times eq q xs)) (times eq q xs)
+times eq q (x ∷ xs) = if eq q x then suc (times eq q xs) else times eq q xs
 
 -- whether each of these members stands in the one list as often as in the other
 abbrev pub stand_alike : {K : Type 0} → (K → K → Bool) → List K → List K → List K → Bool
-stand_alike eq xs ys = list_all (λ q. eqb (times eq q xs) (times eq q ys))
+stand_alike eq xs ys = list_all (λ q. times eq q xs == times eq q ys)
 
 -- whether each member stands in the one list as often as in the other
 abbrev pub same_bag : {K : Type 0} → (K → K → Bool) → List K → List K → Bool
@@ -22,17 +22,17 @@ same_bag eq xs ys = stand_alike eq xs ys xs && stand_alike eq xs ys ys
 module _ {K : Type 0} {eq : K → K → Bool} (laws : IsEquivalence eq) where
   times_congr : (xs : List K) (q x : K) → eq q x ≡ true → times eq q xs ≡ times eq x xs
   times_congr [] q x e = refl
-  times_congr (y ∷ xs) q x e = λ i. cond (laws.congr q x y e i) (suc (times_congr xs q x e i)) (times_congr xs q x e i)
+  times_congr (y ∷ xs) q x e = λ i. if laws.congr q x y e i then suc (times_congr xs q x e i) else times_congr xs q x e i
 
   -- a member of no list of those that are looked at stands nowhere there
   looked_at : (xs ys ls : List K) → stand_alike eq xs ys ls ≡ true → (q : K) → (times eq q xs ≡ times eq q ys) ⊎ (times eq q ls ≡ 0)
   looked_at xs ys [] h q = inr refl
-  looked_at xs ys (x ∷ ls) h q = by (eq q x) refl (looked_at xs ys ls (second_so (eqb (times eq x xs) (times eq x ys)) _ h) q)
+  looked_at xs ys (x ∷ ls) h q = by (eq q x) refl (looked_at xs ys ls (second_so (times eq x xs == times eq x ys) _ h) q)
     where
       by : (b : Bool) → eq q x ≡ b → (times eq q xs ≡ times eq q ys) ⊎ (times eq q ls ≡ 0) → (times eq q xs ≡ times eq q ys) ⊎ (times eq q (x ∷ ls) ≡ 0)
       by true e r = inl (times_congr xs q x e ∙ eqb-true _ _ (first_so _ _ h) ∙ sym (times_congr ys q x e))
       by false e (inl g) = inl g
-      by false e (inr z) = inr (ap (λ b. cond b (suc (times eq q ls)) (times eq q ls)) e ∙ z)
+      by false e (inr z) = inr (ap (λ b. if b then suc (times eq q ls) else times eq q ls) e ∙ z)
 
   each_alike : (xs ys ls : List K) → ((q : K) → times eq q xs ≡ times eq q ys) → stand_alike eq xs ys ls ≡ true
   each_alike xs ys [] h = refl
