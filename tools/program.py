@@ -8,8 +8,6 @@ from repository import TOP, Failure, folder_of
 VARIANTS = ("aper", "uper")
 # The files of vectors/, and in which column of each the canonical encoding stands.
 CANONICAL = {"canonical.tsv": 2, "spellings.tsv": 3}
-# What they have no row of.
-WITHOUT_ROWS = {("aper", "null"), ("uper", "seven")}
 
 
 def known_types():
