@@ -94,8 +94,8 @@ pub record Ready (a : Alphabet) (own_values : Bool) : Type 0 where
   pub up : Up 0 a.characters
   pub own : ltb (greatest a.characters) (2 ^ char_width a.variant a.characters) ≡ own_values
 
-pub ready : (own : List Interval) (permitted : Option (List ℕ)) (is_aligned : Bool) (w : ℕ) (own_values : Bool) (a : Alphabet) → alphabet_of own permitted is_aligned ≡ a → IsPrepared own (alphabet_of own permitted is_aligned) w own_values → Ready a own_values
-ready own permitted is_aligned w own_values a e p = subst (λ b. Ready b own_values) e (record {
+pub ready : (own : List Interval) (permitted : Option (List ℕ)) (is_aligned : Bool) (w : ℕ) (own_values : Bool) (run : Interval) (a : Alphabet) → alphabet_of own permitted is_aligned ≡ a → IsPrepared own (alphabet_of own permitted is_aligned) w own_values run → Ready a own_values
+ready own permitted is_aligned w own_values run a e p = subst (λ b. Ready b own_values) e (record {
   up = ups permitted;
   own = sym (p.own_values_are ∙ ap (λ n. ltb (greatest (restricted_to (expand own) permitted)) (2 ^ n)) p.width_is);
 })

@@ -79,6 +79,12 @@ has_here is k c h e = has_next is k c none h ∙ or_left _ _ (sym e)
 pub has_further : (is : List Interval) (k c : ℕ) → k < length is → false ≡ (leb (get_or is k none).first c && leb c (get_or is k none).last) → has (expand (drop k is)) c ≡ has (expand (drop (k + 1) is)) c
 has_further is k c h e = has_next is k c none h ∙ ap (λ (b : Bool). b || has (expand (drop (k + 1) is)) c) (sym e)
 
+-- a character of the k-th interval
+pub has_at : (is : List Interval) (k c : ℕ) (i : Interval) → slice_get is k ≡ Some i → (leb i.first c && leb c i.last) ≡ true → has (expand is) c ≡ true
+has_at [] k c i g h = absurd cc
+has_at (j ∷ js) zero c i g h = let e : j ≡ i = cc in has-append (characters_of j) (expand js) c ∙ or_left _ _ (has-characters_of j c ∙ ap (λ (l : Interval). leb l.first c && leb c l.last) e ∙ h)
+has_at (j ∷ js) (suc k) c i g h = has-append (characters_of j) (expand js) c ∙ or_right (has (characters_of j) c) _ (has_at js k c i g h)
+
 -- ---- what ascending intervals are
 
 pub ascend_sooner : (m n : ℕ) (is : List Interval) → m ≤ n → ascend_from n is ≡ true → ascend_from m is ≡ true

@@ -1,7 +1,7 @@
 -- What a `CharacterAlphabet` keeps, and the alphabet that it stands for.
-use Rattle.std.specs.Prelude.{ℕ, ◌≡◌, ◌≤◌, ◌^◌, Bool, true, nat_lt, List, Option, option_map}
+use Rattle.std.specs.Prelude.{ℕ, ◌≡◌, ◌≤◌, ◌^◌, Bool, true, nat_le, nat_lt, ◌&&◌, List, Option, option_map}
 use Rattle.std.specs.Borrow.{Bor}
-use Rattle.rasn_types.specs.Alphabets.{Alphabet, char_width, greatest, restricted_to}
+use Rattle.rasn_types.specs.Alphabets.{Alphabet, char_width, greatest, has, restricted_to}
 use Rattle.rasn_strings.specs.Intervals.{expand, ascend_from}
 use Rattle.rasn_types.specs.Variants.{variant_when}
 use Rattle.rasn_strings.specs.declared.intervals.Interval.{Interval}
@@ -14,9 +14,11 @@ alphabet_of own permitted is_aligned = record { variant = variant_when is_aligne
 abbrev pub listed : Option (Bor (List ℕ)) → Option (List ℕ)
 listed permitted = option_map (λ p. p.now) permitted
 
--- what is kept fits the alphabet: the bits of a character, and whether each is written as its own value (X.691 30.5.4)
-pub record IsPrepared (own : List Interval) (alphabet : Alphabet) (width : ℕ) (own_values : Bool) : Type 0 where
+-- what is kept fits the alphabet: the bits of a character, whether each is written as its own value (X.691 30.5.4), and an interval
+-- of permitted characters
+pub record IsPrepared (own : List Interval) (alphabet : Alphabet) (width : ℕ) (own_values : Bool) (run : Interval) : Type 0 where
   pub ascends : ascend_from 0 own ≡ true
   pub width_is : width ≡ char_width alphabet.variant alphabet.characters
   pub few : width ≤ 16
   pub own_values_are : own_values ≡ nat_lt (greatest alphabet.characters) (2 ^ width)
+  pub permitted : (c : ℕ) → (nat_le run.first c && nat_le c run.last) ≡ true → has alphabet.characters c ≡ true

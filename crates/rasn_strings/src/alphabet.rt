@@ -5,7 +5,7 @@ ghost use Rattle.rasn_types.specs.Alphabets.{Alphabet, char_width, char_code, ha
 ghost use Rattle.rasn_strings.specs.Prepared.{listed};
 ghost use Rattle.rasn_types.specs.Variants.{variant_when};
 
-use crate::intervals::{self, Interval};
+use crate::intervals::{self, Interval, NO_RUN};
 use crate::permitted;
 use crate::strings::StaticPermittedAlphabet;
 use rasn_types::width::width_of;
@@ -19,6 +19,8 @@ pub struct CharacterAlphabet {
     aligned: bool,
     width: u32,
     own_values: bool,
+    /// Characters that are all permitted, so that most are found by two comparisons.
+    run: Interval,
 }
 
 impl Model for CharacterAlphabet {
@@ -30,7 +32,7 @@ impl Model for CharacterAlphabet {
     ghost view = { λ a. alphabet_of a.own.now (listed a.permitted) a.aligned };
 
     ghost invariant = { λ a. IsPrepared a.own.now (alphabet_of a.own.now (listed a.permitted) a.aligned)
-        a.width a.own_values };
+        a.width a.own_values a.run };
 }
 
 impl CharacterAlphabet {
@@ -47,6 +49,10 @@ impl CharacterAlphabet {
             Some(permitted) => permitted::count_and_greatest(own, permitted),
             None => (intervals::count(own), intervals::greatest(own)),
         };
+        let run = match permitted {
+            Some(_) => NO_RUN,
+            None => intervals::last(own),
+        };
         let width = width_of_characters(count, aligned);
         CharacterAlphabet {
             own,
@@ -54,6 +60,7 @@ impl CharacterAlphabet {
             aligned,
             width,
             own_values: greatest < 1 << width,
+            run,
         }
     }
 
@@ -67,6 +74,7 @@ impl CharacterAlphabet {
 
     /// The number that a character is written as (X.691 30.5.4): its own value where the greatest character fits the
     /// bits of one, else its place in ascending order. `None` where it isn't permitted.
+    #[inline]
     pub fn encode(&self, character: u32) -> Option<u32>
         ensures code { result ≡ char_code self.now.variant self.now.characters character }
         ensures permitted { IsSome result ↔ (has self.now.characters character ≡ true) }
@@ -82,6 +90,7 @@ impl CharacterAlphabet {
     }
 
     /// The character that is written as a number; `None` where there is none.
+    #[inline]
     pub fn decode(&self, code: u32) -> Option<u32>
         ensures some { IfSome result (λ character.
             char_code self.now.variant self.now.characters character ≡ Some code) }
@@ -99,7 +108,16 @@ impl CharacterAlphabet {
     }
 
     /// Whether a character is permitted.
+    #[inline]
     pub fn contains(&self, character: u32) -> bool
+        ensures { result ≡ has self.now.characters character }
+    {
+        self.run.contains(character) || self.is_listed(character)
+    }
+
+    /// The same, by a walk through the intervals and the list.
+    #[inline(never)]
+    fn is_listed(&self, character: u32) -> bool
         ensures { result ≡ has self.now.characters character }
     {
         intervals::contains(self.own, character)

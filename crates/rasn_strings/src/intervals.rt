@@ -1,6 +1,6 @@
 //! Intervals of characters, of which the alphabets of the character string types are made.
 
-ghost use Rattle.std.specs.Prelude.{◌≡◌, ◌+◌, ◌-◌, ◌^◌, ◌<◌, ◌≤◌, true, nat_le, ◌&&◌, length, slice_get};
+ghost use Rattle.std.specs.Prelude.{◌≡◌, ℕ, ◌+◌, ◌-◌, ◌^◌, ◌<◌, ◌≤◌, true, nat_le, ◌&&◌, length, slice_get};
 ghost use Rattle.rasn_types.specs.Alphabets.{has, greatest, index_of};
 ghost use Rattle.rasn_strings.specs.Intervals.{expand, ascend_from};
 
@@ -15,6 +15,7 @@ pub struct Interval {
 
 impl Interval {
     /// Whether a character is within the interval.
+    #[inline]
     pub fn contains(self, character: u32) -> bool
         ensures { result ≡ (nat_le self.first character && nat_le character self.last) }
     {
@@ -28,6 +29,20 @@ impl Interval {
         ensures { result ≡ self.last + 1 - self.first }
     {
         self.last - self.first + 1
+    }
+}
+
+/// An interval without characters.
+pub(crate) const NO_RUN: Interval = Interval { first: 1, last: 0 };
+
+/// The last interval; one without characters where there is none.
+pub(crate) fn last(intervals: &[Interval]) -> Interval
+    ensures { (character : ℕ) → (nat_le result.first character && nat_le character result.last) ≡ true
+        → has (expand intervals.now) character ≡ true }
+{
+    match intervals.last() {
+        Some(last) => *last,
+        None => NO_RUN,
     }
 }
 

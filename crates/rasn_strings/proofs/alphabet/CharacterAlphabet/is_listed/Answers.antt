@@ -1,7 +1,7 @@
 use Rattle.std.proofs.Common.{◌∙◌, sym, ap}
 use Rattle.rasn_strings.specs.Prepared.{listed}
 use Rattle.rasn_strings.proofs.Codes.{has-list_any, permitted_listed, permitted_own}
-use Rattle.rasn_strings.proofs.alphabet.CharacterAlphabet.contains.Goals as goal
+use Rattle.rasn_strings.proofs.alphabet.CharacterAlphabet.is_listed.Goals as goal
 
 pub returns-in-Some : goal.returns-in-Some
 returns-in-Some c = c.contains-in-Some.ensures.value ∙ has-list_any c.in-Some.permitted.now c.args.character
