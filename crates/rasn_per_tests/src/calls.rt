@@ -1,10 +1,11 @@
 //! Calls of the crates above `rasn_per`, what `decode_with_remainder` says of fronts that spell no value, and which
 //! constraints are lawful.
 
-use crate::expected::{BOTH, expect_equal, expect_read};
+use crate::expected::{BOTH, expect_equal, expect_read, expect_unread};
 use per_counts::calls::decode_from;
 use per_samples_c::colors::TwoColors;
 use per_samples_c::one_color::OneColor;
+use per_samples_f::grouped::Grouped;
 use per_samples_f::outer1::Outer1;
 use per_samples_k::set_each::SetEach;
 use per_versions::exchange::{ExchangeError, read_by_newer, read_by_older};
@@ -105,6 +106,24 @@ fn names_what_no_value_begins_with(rt: HostRuntime) {
         };
         expect_equal(&rt, &refused, &Some(error));
     }
+}
+
+/// A BOOLEAN and an octet more, and one and two more.
+const BOOLEAN_AND_MORE: &[(&[u8], DecodeErrorKind)] = &[
+    (&[0x00, 0x00], DecodeErrorKind::UnexpectedExtraData(1)),
+    (&[0x80, 0xaa, 0xbb], DecodeErrorKind::UnexpectedExtraData(2)),
+];
+
+/// A group that holds nothing, in an open type of two octets, where one does.
+const GROUP_AND_MORE: &[(&[u8], DecodeErrorKind)] = &[(
+    &[0xc0, 0x40, 0x80, 0x00, 0x00],
+    DecodeErrorKind::UnexpectedExtraData(1),
+)];
+
+#[test]
+fn counts_the_octets_that_are_left_over(rt: HostRuntime) {
+    expect_unread::<bool>(&rt, rt.alloc(), Codec::Uper, BOOLEAN_AND_MORE);
+    expect_unread::<Grouped>(&rt, rt.alloc(), Codec::Uper, GROUP_AND_MORE);
 }
 
 const ONE_TO_GREATEST: &[Constraint] = constraints!(
