@@ -59,7 +59,7 @@ remains_front x y z all f rest next h k = record {
 }
 
 -- some bits, and a writer of more bits behind them
-one_more : (before bits : Bits) (f next : Writer) → ((p : ℕ) → f p ≡ Some bits) → (p : ℕ) → (just (before ++ bits) ▹ next) p ≡ (just before ▹ (f ▹ next)) p
+pub one_more : (before bits : Bits) (f next : Writer) → ((p : ℕ) → f p ≡ Some bits) → (p : ℕ) → (just (before ++ bits) ▹ next) p ≡ (just before ▹ (f ▹ next)) p
 one_more before bits f next h p = ap (λ o. go_on o next p) (sym (ap (join before) (h (after p before)))) ∙ sym (then_assoc (just before) f next p)
 
 -- the same remains

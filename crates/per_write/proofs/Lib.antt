@@ -1,5 +1,6 @@
 pub mod Bitmaps
 pub mod Bounded
+pub mod CharacterFields
 pub mod Constrained
 pub mod Counting
 pub mod Elements

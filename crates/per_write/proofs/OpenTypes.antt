@@ -13,10 +13,10 @@ use Rattle.rasn_schema.specs.Schemas.{Presence, required, optional, group, defau
 use Rattle.per_pieces.proofs.Writing.{then_assoc, then_same}
 
 -- what is written is the same wherever it begins
-abbrev IsStill : Writer → Type 0
+abbrev pub IsStill : Writer → Type 0
 IsStill w = (p q : ℕ) → w p ≡ w q
 
-still_then : (f g : Writer) → IsStill f → IsStill g → IsStill (f ▹ g)
+pub still_then : (f g : Writer) → IsStill f → IsStill g → IsStill (f ▹ g)
 still_then f g h k p q = ap (λ o. go_on o g p) (h p q) ∙ go (f q)
   where
     go : (o : Option Bits) → go_on o g p ≡ go_on o g q

@@ -13,7 +13,7 @@ use std::alloc::Allocator;
 use std::marker::Model;
 
 /// The most bits of a field that is written at once, behind up to seven other bits of an octet.
-const FIELD_BITS: u32 = 56;
+pub(crate) const FIELD_BITS: u32 = 56;
 
 /// Bits that are still to be written, as many as one field has at most.
 #[derive(Drop)]

@@ -1,13 +1,15 @@
 //! What is counted in strings and lists: items that are written one after another (X.691 11.9).
 
-ghost use Rattle.std.specs.Prelude.{◌≡◌, ◌≤◌, false, length};
+ghost use Rattle.std.specs.Prelude.{◌≡◌, ◌-◌, ◌*◌, ◌≤◌, false, length, IfNone, IfSome};
+ghost use Rattle.rasn_types.specs.Alphabets.{char_width};
 ghost use Rattle.rasn_types.specs.Variants.{Variant};
 ghost use Rattle.per_core.specs.Items.{counted_of};
+ghost use Rattle.per_write.specs.Characters.{IsField, IsRefused};
 ghost use Rattle.per_write.specs.Items.{CountedItems, PutsItems, items_between};
 
 use crate::Writer;
 use crate::error::{EncodeError, EncodeErrorKind};
-use crate::gathered::Gathered;
+use crate::gathered::FIELD_BITS;
 use per_bits::{BitList, BitReader};
 use per_core::items::Item;
 use rasn_strings::alphabet::CharacterAlphabet;
@@ -157,14 +159,37 @@ impl<S: StaticPermittedAlphabet> Items for Characters<'_, S> {
         end: usize,
     ) -> Result<(), EncodeError> {
         let width = self.alphabet.width();
-        let mut gathered = Gathered::new();
-        for index in start..end {
-            let character = self.string.character(index).unwrap();
-            let Some(code) = self.alphabet.encode(character) else {
+        let most = (FIELD_BITS / width.max(1)) as usize;
+        let mut at = start;
+        while at < end {
+            let next = at + most.min(end - at);
+            let Some(number) = self.field(at, next) else {
                 return Err(writer.refuse(EncodeErrorKind::AlphabetConstraintNotSatisfied));
             };
-            writer.gather(&mut gathered, code, width)?;
+            writer.put_bits(u128::from(number), (next - at) as u128 * u128::from(width))?;
+            at = next;
         }
-        writer.put_gathered(&gathered)
+        Ok(())
+    }
+}
+
+impl<S: StaticPermittedAlphabet> Characters<'_, S> {
+    /// The number whose bits are the codes of the characters from an index on and before another, as many as one field
+    /// has at most; `None` where one of them isn't permitted.
+    fn field(&self, start: usize, end: usize) -> Option<u64>
+        requires ordered { start ≤ end }
+        requires within { end ≤ length (S.characters self.now.string.now) }
+        requires few { (end - start) * char_width self.now.alphabet.variant self.now.alphabet.characters ≤ FIELD_BITS }
+        ensures some { IfSome result (λ number.
+            IsField self.now.alphabet (S.characters self.now.string.now) start end number) }
+        ensures none { IfNone result (IsRefused self.now.alphabet (S.characters self.now.string.now)) }
+    {
+        let width = self.alphabet.width();
+        let mut number: u64 = 0;
+        for index in start..end {
+            let character = self.string.character(index).unwrap();
+            number = number << width | u64::from(self.alphabet.encode(character)?);
+        }
+        Some(number)
     }
 }
