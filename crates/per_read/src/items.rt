@@ -10,10 +10,10 @@ ghost use Rattle.per_read.specs.Items.{coded, bit_code, Adds, TookItems, Collect
 ghost use Rattle.per_read.specs.Strings.{AreRead};
 
 use crate::Reader;
+use crate::alphabet::ReadAlphabet;
 use crate::error::DecodeErrorKind;
 use per_bits::{BitList, BitReader};
 use per_core::items::Item;
-use rasn_strings::alphabet::CharacterAlphabet;
 use rasn_strings::strings::StaticPermittedAlphabet;
 use std::alloc::{AllocError, Global};
 
@@ -178,7 +178,7 @@ impl Collector for BitList<Global> {
 /// Characters as they are read.
 #[derive(Drop)]
 pub(crate) struct Characters<S: StaticPermittedAlphabet> {
-    pub(crate) alphabet: CharacterAlphabet,
+    pub(crate) alphabet: ReadAlphabet,
     pub(crate) string: S,
     /// Whether a code had no character. The characters before it stand in the string.
     pub(crate) has_unknown: bool,
