@@ -1,7 +1,7 @@
 -- Characters and their codes (X.691 30.5.4).
-use Rattle.std.proofs.Common.{◌≡◌, ◌∙◌, ℕ, Bool, true, false, List, [], ◌∷◌, ◌++◌, map, refl, sym, ap, subst, Option, Some, None, append_assoc, arith, replicate, slice_index_or, ◌<◌, ◌≤◌, ◌⊎◌, inl, inr}
+use Rattle.std.proofs.Common.{◌≡◌, ◌∙◌, ℕ, Bool, true, false, List, [], ◌∷◌, ◌++◌, map, refl, sym, ap, ap₂, subst, Option, Some, None, append_assoc, arith, replicate, slice_index_or, ◌<◌, ◌≤◌, ◌⊎◌, inl, inr}
 use Rattle.std.proofs.lemmas.Bool.{cases_lt}
-use Rattle.std.proofs.lemmas.List.{get_or-replicate, get_or_past, length-replicate}
+use Rattle.std.proofs.lemmas.List.{get_or-replicate, get_or_past, length-replicate, map-append}
 use Rattle.rasn_types.specs.Alphabets.{Alphabet, char_code, char_width}
 use Rattle.rasn_types.specs.Bits.{Bits}
 use Rattle.rasn_types.specs.Variants.{Variant}
@@ -51,6 +51,13 @@ module _ (a : Alphabet) (flag : Bool) (characters xs : List ℕ) (code : ℕ) wh
   -- a code that has none
   pub unknown_now : ((c : ℕ) → char_code a.variant a.characters c ≡ Some code → ⊥) → AreRead a true characters (xs ++ code ∷ [])
   unknown_now none = record { front = xs; code = code; rest = []; joins = refl; none = none }
+
+-- a code that has one
+pub known_more : (a : Alphabet) (flag : Bool) (characters xs : List ℕ) (character code : ℕ) → char_code a.variant a.characters character ≡ Some code → AreRead a flag characters xs
+    → AreRead a flag (characters ++ character ∷ []) (xs ++ code ∷ [])
+known_more a true characters xs character code e h = unknown_more a true characters xs code refl h
+known_more a false characters xs character code e h =
+    map-append (char_code a.variant a.characters) characters (character ∷ []) ∙ ap₂ (λ ys zs. ys ++ zs) h (ap (λ z. z ∷ []) e) ∙ sym (map-append Some xs (code ∷ []))
 
 -- what was read, where no code had no character, and where one had none
 pub read_known : (a : Alphabet) (flag : Bool) (characters codes : List ℕ) → flag ≡ false → AreRead a flag characters codes → map (char_code a.variant a.characters) characters ≡ map Some codes

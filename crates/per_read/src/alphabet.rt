@@ -1,6 +1,6 @@
 //! An alphabet and the characters of the codes that were read with it.
 
-ghost use Rattle.std.specs.Prelude.{◌≡◌, ◌≤◌, ℕ, true, Some, IfSome, IfNone};
+ghost use Rattle.std.specs.Prelude.{◌≡◌, ◌<◌, ◌≤◌, ℕ, true, Some, IfSome, IfNone};
 ghost use Rattle.rasn_types.specs.Alphabets.{Alphabet, char_code, char_width, has};
 
 use rasn_strings::alphabet::CharacterAlphabet;
@@ -44,28 +44,22 @@ impl ReadAlphabet {
         self.alphabet.width()
     }
 
-    /// The character that is written as a number; `None` where there is none.
-    pub(crate) fn decode(&mut self, code: u32) -> Option<u32>
-        ensures some { IfSome result (λ character.
-            char_code self.old.variant self.old.characters character ≡ Some code) }
-        ensures permitted { IfSome result (λ character. has self.old.characters character ≡ true) }
-        ensures none { IfNone result ((character : ℕ)
-            → char_code self.old.variant self.old.characters character ≡ Some code → ⊥) }
-        ensures kept { self.new ≡ self.old }
+    /// The character that is written as a number, where it is known; else 0.
+    pub(crate) fn known(&self, code: u32) -> u32
+        ensures code { 0 < result → char_code self.now.variant self.now.characters result ≡ Some code }
+        ensures permitted { 0 < result → has self.now.characters result ≡ true }
     {
         let index = code as usize;
         if index < self.known.len() {
-            let character = self.known[index];
-            if character > 0 {
-                return Some(u32::from(character));
-            }
+            u32::from(self.known[index])
+        } else {
+            0
         }
-        self.decode_first(code)
     }
 
-    /// The character that is written as a number that may come for the first time; `None` where there is none.
+    /// The character that is written as a number; `None` where there is none. It is known then.
     #[inline(never)]
-    fn decode_first(&mut self, code: u32) -> Option<u32>
+    pub(crate) fn decode(&mut self, code: u32) -> Option<u32>
         ensures some { IfSome result (λ character.
             char_code self.old.variant self.old.characters character ≡ Some code) }
         ensures permitted { IfSome result (λ character. has self.old.characters character ≡ true) }
