@@ -1,5 +1,7 @@
 -- Characters and their codes (X.691 30.5.4).
-use Rattle.std.proofs.Common.{◌≡◌, ◌∙◌, ℕ, Bool, true, false, List, [], ◌∷◌, ◌++◌, map, refl, sym, ap, subst, Option, Some, None, append_assoc}
+use Rattle.std.proofs.Common.{◌≡◌, ◌∙◌, ℕ, Bool, true, false, List, [], ◌∷◌, ◌++◌, map, refl, sym, ap, ap₂, subst, Option, Some, None, append_assoc, arith, replicate, slice_index_or, ◌<◌, ◌≤◌, ◌⊎◌, inl, inr}
+use Rattle.std.proofs.lemmas.Bool.{cases_lt}
+use Rattle.std.proofs.lemmas.List.{get_or-replicate, get_or_past, length-replicate, map-append}
 use Rattle.rasn_types.specs.Alphabets.{Alphabet, char_code, char_width}
 use Rattle.rasn_types.specs.Bits.{Bits}
 use Rattle.rasn_types.specs.Variants.{Variant}
@@ -14,12 +16,23 @@ use Rattle.per_core.proofs.Took.{took_map, took_agree}
 use Rattle.per_read.specs.Items.{lengthy_items}
 use Rattle.per_read.specs.Kinds.{NoneIn}
 use Rattle.per_read.specs.Sizes.{IsOfItems}
-use Rattle.per_read.specs.Strings.{AreRead, HasUnknown, IsUnpermitted, IsOfString}
+use Rattle.per_read.specs.Strings.{AreKnown, AreRead, HasUnknown, IsUnpermitted, IsOfString}
 use Rattle.per_core.specs.declared.items.Item.{Item}
 use Rattle.per_core.specs.declared.items.Item.TheVariants.{Character}
 use Rattle.per_read.specs.declared.error.DecodeErrorKind.{DecodeErrorKind}
 use Rattle.per_read.specs.declared.error.DecodeErrorKind.TheVariants.{PermittedAlphabet}
 use Rattle.per_read.proofs.Coded.{lengthy_as, zip_to, zip_equal}
+
+-- before a code was read no character is known
+pub none_known : (a : Alphabet) (n : ℕ) → AreKnown a (replicate n 0)
+none_known a n = record { code = λ i h. absurd (nowhere i h); permitted = λ i h. absurd (nowhere i h) }
+  where
+    nowhere : (i : ℕ) → 0 < slice_index_or (replicate n 0) i 0 → ⊥
+    nowhere i h = go (cases_lt i n)
+      where
+        go : (i < n) ⊎ (n ≤ i) → ⊥
+        go (inl l) = omega (arith, h, get_or-replicate {A = ℕ} n i 0 0 l)
+        go (inr l) = omega (arith, h, get_or_past {X = ℕ} (replicate n 0) i 0 (omega (arith, length-replicate {A = ℕ} n 0, l)))
 
 module _ (a : Alphabet) (flag : Bool) (characters xs : List ℕ) (code : ℕ) where
   -- where one code had no character, a further one changes nothing
@@ -38,6 +51,13 @@ module _ (a : Alphabet) (flag : Bool) (characters xs : List ℕ) (code : ℕ) wh
   -- a code that has none
   pub unknown_now : ((c : ℕ) → char_code a.variant a.characters c ≡ Some code → ⊥) → AreRead a true characters (xs ++ code ∷ [])
   unknown_now none = record { front = xs; code = code; rest = []; joins = refl; none = none }
+
+-- a code that has one
+pub known_more : (a : Alphabet) (flag : Bool) (characters xs : List ℕ) (character code : ℕ) → char_code a.variant a.characters character ≡ Some code → AreRead a flag characters xs
+    → AreRead a flag (characters ++ character ∷ []) (xs ++ code ∷ [])
+known_more a true characters xs character code e h = unknown_more a true characters xs code refl h
+known_more a false characters xs character code e h =
+    map-append (char_code a.variant a.characters) characters (character ∷ []) ∙ ap₂ (λ ys zs. ys ++ zs) h (ap (λ z. z ∷ []) e) ∙ sym (map-append Some xs (code ∷ []))
 
 -- what was read, where no code had no character, and where one had none
 pub read_known : (a : Alphabet) (flag : Bool) (characters codes : List ℕ) → flag ≡ false → AreRead a flag characters codes → map (char_code a.variant a.characters) characters ≡ map Some codes

@@ -1,6 +1,6 @@
 -- Characters and texts as they are read (X.691 30).
-use Rattle.std.specs.Prelude.{◌≡◌, ℕ, Bool, true, false, List, ◌∷◌, ◌++◌, map, Some}
-use Rattle.rasn_types.specs.Alphabets.{Alphabet, char_code, char_width}
+use Rattle.std.specs.Prelude.{◌≡◌, ◌<◌, ℕ, Bool, true, false, List, ◌∷◌, ◌++◌, map, Some, slice_index_or}
+use Rattle.rasn_types.specs.Alphabets.{Alphabet, char_code, char_width, has}
 use Rattle.rasn_types.specs.Bits.{Bits}
 use Rattle.rasn_types.specs.Contents.{TextKind, is_text}
 use Rattle.rasn_types.specs.Variants.{Variant}
@@ -22,6 +22,11 @@ pub record HasUnknown (variant : Variant) (alphabet codes : List ℕ) : Type 0 w
   pub rest : List ℕ
   pub joins : codes ≡ front ++ code ∷ rest
   pub none : (c : ℕ) → char_code variant alphabet c ≡ Some code → ⊥
+
+-- the characters of the codes from 0 on, 0 where one is not known
+pub record AreKnown (a : Alphabet) (known : List ℕ) : Type 0 where
+  pub code : (i : ℕ) → 0 < slice_index_or known i 0 → char_code a.variant a.characters (slice_index_or known i 0) ≡ Some i
+  pub permitted : (i : ℕ) → 0 < slice_index_or known i 0 → has a.characters (slice_index_or known i 0) ≡ true
 
 -- codes are those of characters, or one of them has none
 abbrev pub AreRead : Alphabet → Bool → List ℕ → List ℕ → Type 0

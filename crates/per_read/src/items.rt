@@ -3,6 +3,7 @@
 
 ghost use Rattle.std.specs.Prelude.{◌≡◌, ℕ, ◌+◌, ◌*◌, ◌/◌, ◌%◌, ◌^◌, ◌<◌, ◌≤◌, [], ◌∷◌, List, length, map, true, OnOk};
 ghost use Rattle.rasn_types.specs.Alphabets.{has, char_width};
+ghost use Rattle.rasn_types.specs.Bits.{to_bits};
 ghost use Rattle.per_core.specs.Basic.{OneByOne};
 ghost use Rattle.per_core.specs.Items.{bits_of};
 ghost use Rattle.per_core.specs.declared.items.Item.TheVariants.{Octet, Bit, Character};
@@ -10,10 +11,10 @@ ghost use Rattle.per_read.specs.Items.{coded, bit_code, Adds, TookItems, Collect
 ghost use Rattle.per_read.specs.Strings.{AreRead};
 
 use crate::Reader;
+use crate::alphabet::ReadAlphabet;
 use crate::error::DecodeErrorKind;
 use per_bits::{BitList, BitReader};
 use per_core::items::Item;
-use rasn_strings::alphabet::CharacterAlphabet;
 use rasn_strings::strings::StaticPermittedAlphabet;
 use std::alloc::{AllocError, Global};
 
@@ -52,36 +53,36 @@ pub(crate) trait Collector {
         ensures item { OnOk result (item self.new ≡ item self.old) }
         ensures count { OnOk result (count self.new ≤ count self.old + many) }
     {
-        let width = self.item().width();
-        let most = items_in_word(width as u32);
+        let width = self.item().width() as u32;
+        let most = items_in_word(width);
         let mut left = bits;
         let mut done = 0;
         while done < many {
             let count = most.min(many - done);
-            let word = left.take(width * count as u128).unwrap();
-            self.push_word(word, count)?;
+            let length = width * count as u32;
+            let word = left.first_bits(u128::from(length)) as u64;
+            left.take(u128::from(length)).unwrap();
+            self.push_word(word, length, count)?;
             done += count;
         }
         Ok(())
     }
 
-    /// Appends the items that the bits of a word are, `many` of them.
-    fn push_word(&mut self, word: BitReader<'_>, many: usize) -> Result<(), AllocError>
-        requires bits { length word ≡ bits_of (item self.old) * many }
-        requires few { length word ≤ WORD_BITS }
+    /// Appends the items that the low `length` bits of a word are, `many` of them.
+    fn push_word(&mut self, word: u64, length: u32, many: usize) -> Result<(), AllocError>
+        requires bits { length ≡ bits_of (item self.old) * many }
+        requires few { length ≤ WORD_BITS }
         requires room { count self.old + many ≤ usize.MAX }
         ensures ok { let form = OneByOne (coded (item self.old)) in
-            OnOk result (TookItems holds form many self.old self.new word.entry []) }
+            OnOk result (TookItems holds form many self.old self.new (to_bits length word) []) }
         ensures item { OnOk result (item self.new ≡ item self.old) }
         ensures count { OnOk result (count self.new ≤ count self.old + many) }
     {
         let width = self.item().width() as u32;
-        let bits = word.len();
-        let number = word.first_bits(bits) as u64;
-        let mut left = bits as u32;
+        let mut left = length;
         for _ in 0..many {
             left -= width;
-            self.push(number_between(number, left, width))?;
+            self.push(number_between(word, left, width))?;
         }
         Ok(())
     }
@@ -95,6 +96,7 @@ fn items_in_word(width: u32) -> usize
     requires { width ≤ 16 }
     ensures some { 0 < result }
     ensures few { width * result ≤ WORD_BITS }
+    ensures at_most { result ≤ WORD_BITS }
 {
     (WORD_BITS / width.max(1)) as usize
 }
@@ -178,9 +180,9 @@ impl Collector for BitList<Global> {
 /// Characters as they are read.
 #[derive(Drop)]
 pub(crate) struct Characters<S: StaticPermittedAlphabet> {
-    pub(crate) alphabet: CharacterAlphabet,
+    pub(crate) alphabet: ReadAlphabet,
     pub(crate) string: S,
-    /// Whether a code had no character. The characters before it stand in the string.
+    /// Whether a code had no character. The others' characters stand in the string.
     pub(crate) has_unknown: bool,
     ghost own: { (character : ℕ) → has alphabet.characters character ≡ true → has S.alphabet character ≡ true },
 }
@@ -198,7 +200,9 @@ impl<S: StaticPermittedAlphabet> Collector for Characters<S> {
     }
 
     fn push(&mut self, code: u32) -> Result<(), AllocError> {
-        if self.has_unknown {
+        let known = self.alphabet.known(code);
+        if known > 0 {
+            self.string.push(known)?;
             return Ok(());
         }
         match self.alphabet.decode(code) {

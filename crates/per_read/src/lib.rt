@@ -7,6 +7,7 @@ ghost use Rattle.per_core.specs.Basic.{Octets, bit};
 ghost use Rattle.per_core.specs.Spellings.{Field};
 ghost use Rattle.per_read.specs.Takes.{Row, Takes, short, stopped, itself};
 
+mod alphabet;
 mod choices;
 mod enumerated;
 pub mod error;

@@ -14,6 +14,7 @@ ghost use Rattle.per_read.specs.Strings.{IsOfString, IsOfText};
 ghost use Rattle.per_read.specs.Takes.{Takes, memory_or, itself};
 
 use crate::Reader;
+use crate::alphabet::ReadAlphabet;
 use crate::error::DecodeErrorKind;
 use crate::items::{Characters, Skipped};
 use per_bits::BitList;
@@ -78,7 +79,10 @@ impl Reader<'_> {
             Takes (memory_or why) form (λ P string. P (S.characters string)) self.old result self.new }
     {
         let mut characters = Characters {
-            alphabet: alphabet_under::<S>(constraints, self.options.codec),
+            alphabet: ReadAlphabet::from_alphabet(alphabet_under::<S>(
+                constraints,
+                self.options.codec,
+            )),
             string: S::new(self.alloc),
             has_unknown: false,
         };

@@ -1,11 +1,12 @@
-use Rattle.std.proofs.Common.{◌≡◌, ◌∙◌, ◌*◌, [], length, arith, ap, refl, sym, subst, ℕ, rules}
+use Rattle.std.proofs.Common.{◌≡◌, ◌∙◌, ◌*◌, [], length, take, arith, ap, refl, sym, subst, ℕ, rules}
 use Rattle.std.proofs.Math.Nat.{mul-le-mul_left}
 use Rattle.std.proofs.lemmas.List.{append-nil}
+use Rattle.rasn_types.specs.Bits.{number_of}
 use Rattle.per_core.specs.Items.{bits_of}
 use Rattle.per_core.specs.Basic.{OneByOne}
 use Rattle.per_core.specs.Spellings.{Field}
 use Rattle.per_read.specs.Items.{TookItems}
-use Rattle.per_read.proofs.OneByOne.{first_begin, first_end, first_go_far, word_left}
+use Rattle.per_read.proofs.OneByOne.{first_begin, first_end, first_go_far, word_below, word_bits, word_left}
 use Rattle.per_read.proofs.items.Collector.push_items.Goals as goal
 
 pub loop-done-init : goal.loop-done-init
@@ -17,36 +18,42 @@ loop-done-init g c =
       few = omega arith;
     }
 
-pub overflow_mul-width : goal.overflow_mul-width
-overflow_mul-width g c = omega (arith, c.items_in_word-most.ensures.few, mul-le-mul_left {m = c.min-count.result} {n = c.items_in_word-most.result} c.width-width.result (omega arith))
+pub first_bits-word-requires-clause-left : goal.first_bits-word-requires-clause-left
+first_bits-word-requires-clause-left g c = omega (arith, word_left c.min-count.result c.loop-done.invariant.first (omega arith), c.from.ensures)
 
-pub unwrap-word-requires : goal.unwrap-word-requires
-unwrap-word-requires g c =
+pub overflow_cast-word : goal.overflow_cast-word
+overflow_cast-word g c =
+    let few = mul-le-mul_left {m = c.min-count.result} {n = c.items_in_word-most.result} c.width-width.result (omega arith) in
+    omega (arith, word_below c.loop-done.left c.from.result c.first_bits-word.result c.first_bits-word.ensures (omega (arith, word_left c.min-count.result c.loop-done.invariant.first (omega arith), c.from.ensures)) (omega (arith, few, c.items_in_word-most.ensures.few, c.from.ensures)))
+
+pub unwrap-requires : goal.unwrap-requires
+unwrap-requires g c =
     let l = word_left c.min-count.result c.loop-done.invariant.first (omega arith) in
     search rules
 
 -- the items stay what they are
 pub push_word-requires-clause-bits : goal.push_word-requires-clause-bits
 push_word-requires-clause-bits g c =
-    let taken = rw c.unwrap-word.ensures at c.take.ensures in
     let e : c.width-width.result ≡ bits_of (g.Self.Collector.item c.loop-done.self) = c.width-width.ensures ∙ ap bits_of (c.item.ensures.item ∙ sym c.loop-done.invariant.same) in
-    taken.count ∙ ap (λ (w : ℕ). w * c.min-count.result) e
+    ap (λ (w : ℕ). w * c.min-count.result) e
 
 pub push_word-requires-clause-few : goal.push_word-requires-clause-few
-push_word-requires-clause-few g c =
-    let taken = rw c.unwrap-word.ensures at c.take.ensures in
-    omega (arith, taken.count, c.items_in_word-most.ensures.few, mul-le-mul_left {m = c.min-count.result} {n = c.items_in_word-most.result} c.width-width.result (omega arith))
+push_word-requires-clause-few g c = omega (arith, c.items_in_word-most.ensures.few, mul-le-mul_left {m = c.min-count.result} {n = c.items_in_word-most.result} c.width-width.result (omega arith))
 
 pub push_word-requires-clause-room : goal.push_word-requires-clause-room
 push_word-requires-clause-room g c = omega (arith, c.loop-done.invariant.few, c.requires.room)
 
 pub loop-done-preserved : goal.loop-done-preserved
 loop-done-preserved g c =
-    let taken = rw c.unwrap-word.ensures at c.take.ensures in
+    let taken = rw c.unwrap.ensures at c.take.ensures in
+    let l = taken.count ∙ c.from-in-loop-done.ensures in
+    let same = word_bits c.unwrap.result c.take.new.self c.loop-done.left (c.width-width.result * c.min-count.result) c.first_bits-word.result taken.ok l
+    (c.first_bits-word.ensures ∙ ap (λ (k : ℕ). number_of (take k c.loop-done.left)) c.from.ensures) in
     let e : bits_of (g.Self.Collector.item c.loop-done.self) ≡ c.width-width.result = ap bits_of (c.loop-done.invariant.same ∙ sym c.item.ensures.item) ∙ sym c.width-width.ensures in
-    let more = subst (λ (w : ℕ). TookItems g.Self.Collector.holds (OneByOne (Field w)) c.min-count.result c.loop-done.self c.push_word.new.self c.unwrap-word.result []) e c.in_ok-push_word.ensures.ok in
+    let more = subst (λ (w : ℕ). TookItems g.Self.Collector.holds (OneByOne (Field w)) c.min-count.result c.loop-done.self c.push_word.new.self c.unwrap.result []) e
+    (subst (λ z. TookItems g.Self.Collector.holds (OneByOne (Field (bits_of (g.Self.Collector.item c.loop-done.self)))) c.min-count.result c.loop-done.self c.push_word.new.self z []) same c.in_ok-push_word.ensures.ok) in
     record {
-      first = first_go_far c.loop-done.invariant.first (omega arith) taken.ok taken.count more;
+      first = first_go_far c.loop-done.invariant.first (omega arith) taken.ok l more;
       same = c.in_ok-push_word.ensures.item ∙ c.loop-done.invariant.same;
       few = omega (arith, c.in_ok-push_word.ensures.count, c.loop-done.invariant.few);
     }

@@ -1,45 +1,42 @@
-use Rattle.std.proofs.Common.{◌≡◌, ◌∙◌, ◌*◌, ◌^◌, ◌<◌, ◌≤◌, [], length, arith, ap, refl, sym, subst, ℕ}
+use Rattle.std.proofs.Common.{◌≡◌, ◌∙◌, ◌*◌, ◌^◌, ◌<◌, ◌≤◌, [], arith, ap, refl, sym, subst, ℕ}
 use Rattle.std.proofs.lemmas.List.{append-nil}
+use Rattle.rasn_types.specs.Bits.{to_bits}
 use Rattle.rasn_types.proofs.Bits.{length-to_bits}
 use Rattle.per_core.specs.Items.{bits_of}
 use Rattle.per_core.specs.Basic.{OneByOne}
 use Rattle.per_core.specs.Spellings.{Field}
 use Rattle.per_read.specs.Items.{TookItems}
 use Rattle.per_read.proofs.Fields.{field_below}
-use Rattle.per_read.proofs.OneByOne.{FirstItems, field_between, first_begin, first_end, first_go_on, one_more_left, word_below, word_bits}
+use Rattle.per_read.proofs.OneByOne.{field_between, first_begin, first_end, first_go_on, one_more_left}
 use Rattle.per_read.proofs.items.Collector.push_word.Goals as goal
-
-pub overflow_cast-number : goal.overflow_cast-number
-overflow_cast-number g c = omega (arith, word_below c.args.word c.len-bits.result c.first_bits-number.result c.len-bits.ensures c.first_bits-number.ensures c.requires.few)
 
 pub loop-init : goal.loop-init
 loop-init g c =
     let e : c.width-width.result ≡ bits_of (g.Self.Collector.item c.args.self.now) = c.width-width.ensures ∙ ap bits_of c.item.ensures.item in
-    let same = word_bits c.args.word c.len-bits.result c.first_bits-number.result c.len-bits.ensures c.first_bits-number.ensures in
     record {
-      short = omega (arith, c.requires.few, c.len-bits.ensures);
-      first = subst (λ z. FirstItems g.Self.Collector.holds c.width-width.result c.args.word z c.args.self.now c.args.self.now 0 c.args.many) (sym same)
-          (first_begin g.Self.Collector.holds c.width-width.result c.args.word c.args.self.now c.args.many (subst (λ (w : ℕ). length c.args.word ≡ w * c.args.many) (sym e) c.requires.bits));
+      short = c.requires.few;
+      first = first_begin g.Self.Collector.holds c.width-width.result (to_bits c.args.length c.args.word) c.args.self.now c.args.many
+          (length-to_bits c.args.length c.args.word ∙ subst (λ (w : ℕ). c.args.length ≡ w * c.args.many) (sym e) c.requires.bits);
       same = refl;
       few = omega arith;
     }
 
 pub overflow_sub-left : goal.overflow_sub-left
-overflow_sub-left g c = omega (arith, one_more_left c.loop.invariant.first c.loop-test.true, length-to_bits c.loop.left c.first_bits-number.result)
+overflow_sub-left g c = omega (arith, one_more_left c.loop.invariant.first c.loop-test.true, length-to_bits c.loop.left c.args.word)
 
 pub push-requires-clause-few : goal.push-requires-clause-few
 push-requires-clause-few g c =
-    let l : c.width-width.result ≤ c.loop.left = omega (arith, one_more_left c.loop.invariant.first c.loop-test.true, length-to_bits c.loop.left c.first_bits-number.result) in
+    let l : c.width-width.result ≤ c.loop.left = omega (arith, one_more_left c.loop.invariant.first c.loop-test.true, length-to_bits c.loop.left c.args.word) in
     let e : c.width-width.result ≡ bits_of (g.Self.Collector.item c.loop.self) = c.width-width.ensures ∙ ap bits_of (c.item.ensures.item ∙ sym c.loop.invariant.same) in
-    subst (λ (w : ℕ). c.number_between.result < 2 ^ w) e (field_below (field_between c.width-width.result c.loop.left c.first_bits-number.result c.number_between.result l c.number_between.ensures))
+    subst (λ (w : ℕ). c.number_between.result < 2 ^ w) e (field_below (field_between c.width-width.result c.loop.left c.args.word c.number_between.result l c.number_between.ensures))
 
 pub push-requires-clause-room : goal.push-requires-clause-room
 push-requires-clause-room g c = omega (arith, c.loop.invariant.few, c.loop-test.true, c.requires.room)
 
 pub loop-preserved : goal.loop-preserved
 loop-preserved g c =
-    let l : c.width-width.result ≤ c.loop.left = omega (arith, one_more_left c.loop.invariant.first c.loop-test.true, length-to_bits c.loop.left c.first_bits-number.result) in
-    let f = field_between c.width-width.result c.loop.left c.first_bits-number.result c.number_between.result l c.number_between.ensures in
+    let l : c.width-width.result ≤ c.loop.left = omega (arith, one_more_left c.loop.invariant.first c.loop-test.true, length-to_bits c.loop.left c.args.word) in
+    let f = field_between c.width-width.result c.loop.left c.args.word c.number_between.result l c.number_between.ensures in
     record {
       short = omega (arith, c.loop.invariant.short);
       first = first_go_on _ c.loop.invariant.first c.loop-test.true f c.in_ok-push.ensures.ok;
@@ -50,8 +47,8 @@ loop-preserved g c =
 pub returns-clause-ok : goal.returns-clause-ok
 returns-clause-ok g c =
     let e : c.width-width.result ≡ bits_of (g.Self.Collector.item c.args.self.now) = c.width-width.ensures ∙ ap bits_of c.item.ensures.item in
-    subst (λ (w : ℕ). TookItems g.Self.Collector.holds (OneByOne (Field w)) c.args.many c.args.self.now c.loop.self c.args.word []) e
-    (first_end c.loop.invariant.first c.loop-test.false (sym (append-nil c.args.word)))
+    subst (λ (w : ℕ). TookItems g.Self.Collector.holds (OneByOne (Field w)) c.args.many c.args.self.now c.loop.self (to_bits c.args.length c.args.word) []) e
+    (first_end c.loop.invariant.first c.loop-test.false (sym (append-nil (to_bits c.args.length c.args.word))))
 
 pub returns-clause-count : goal.returns-clause-count
 returns-clause-count g c = omega (arith, c.loop.invariant.few, c.loop.auto.counter-end)

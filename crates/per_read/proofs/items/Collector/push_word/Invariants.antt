@@ -6,7 +6,7 @@ use Rattle.per_read.proofs.items.Collector.push_word.Given as goal
 abbrev pub invariant-loop : goal.invariant-loop
 invariant-loop g l = record {
   short : l.left ≤ 56;
-  first : FirstItems g.Self.Collector.holds l.width l.fn.word (to_bits l.left l.number) l.initial.self l.self l.counter l.many;
+  first : FirstItems g.Self.Collector.holds l.width (to_bits l.fn.length l.word) (to_bits l.left l.word) l.initial.self l.self l.counter l.many;
   same : g.Self.Collector.item l.self ≡ g.Self.Collector.item l.initial.self;
   few : g.Self.Collector.count l.self ≤ g.Self.Collector.count l.initial.self + l.counter;
 }
