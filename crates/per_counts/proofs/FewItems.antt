@@ -9,8 +9,8 @@ use Rattle.per_core.specs.Basic.{OneByOne, InFragments, UnconstrainedLength, IsC
 use Rattle.per_core.specs.Counts.{Counted, is_aligned}
 use Rattle.per_core.specs.Spellings.{Settings, Spelling, Then}
 use Rattle.per_core.proofs.Lengths.{and_left, and_right}
-use Rattle.per_de.proofs.FewBefore.{last_few, fragment_few, then_length}
 use Rattle.per_counts.specs.Counts.{item_count, most_items}
+use Rattle.per_counts.proofs.FewLengths.{last_few, fragment_few, then_length}
 
 module _ {X : Type 0} (a : Settings) (item : X → Spelling) where
   pub fragments_few : (k : ℕ) (xs : List X) (p : ℕ) (b : Bits) → InFragments a item k xs p b → length xs ≤ 8192 * length b

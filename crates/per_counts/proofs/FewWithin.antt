@@ -11,7 +11,7 @@ use Rattle.per_core.specs.Spellings.{Settings}
 use Rattle.per_core.specs.Writers.{after}
 use Rattle.per_counts.specs.Counts.{item_count, most_items}
 use Rattle.per_counts.specs.Within.{Each, EachElement, OfParts, OfAlternative, HasAtMost, PartsHaveAtMost, AlternativeHasAtMost}
-use Rattle.per_de.proofs.FewBefore.{then_length}
+use Rattle.per_counts.proofs.FewLengths.{then_length}
 use Rattle.per_counts.proofs.FewItems.{items_few}
 use Rattle.per_counts.proofs.HeldIn.{HeldIn, SlotHeld, SlotsHeld, lengthy_held, open_held, fields_held, all_sorted, each_map}
 

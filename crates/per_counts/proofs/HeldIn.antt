@@ -11,7 +11,7 @@ use Rattle.per_core.specs.Counts.{Counted, is_aligned}
 use Rattle.per_core.specs.Spellings.{Settings, Spelling, Then}
 use Rattle.per_core.proofs.Readings.{length-by_tags}
 use Rattle.per_counts.specs.Within.{Each}
-use Rattle.per_de.proofs.FewBefore.{then_length}
+use Rattle.per_counts.proofs.FewLengths.{then_length}
 
 -- so many bits at most, from some position on, have a spelling
 pub record HeldIn (m : ℕ) (f : Spelling) : Type 0 where

@@ -1,5 +1,6 @@
 mod FewItems
-pub mod FewRead
-mod FewWithin
+pub mod FewLengths
+pub mod FewTook
+pub mod FewWithin
 mod HeldIn
 mod NullRows

@@ -1,9 +1,6 @@
-//! How many items one call may read: a false length can't make a list, a string or octets long. Each law is the
-//! contract of a function that does nothing; `decode_from` shows them at work, and so does each call of `rasn_per` that
-//! decodes.
+//! How many items the bits of an encoding may stand for: a false length can't make a list, a string or octets long. Each
+//! law is the contract of a function that does nothing; what a decoder reads has them among its own facts, since this
+//! crate stands below.
 #![tactic(auto)]
 
-pub mod calls;
 pub mod grammar;
-pub mod lists;
-pub mod open_lists;

@@ -20,6 +20,7 @@ use Rattle.per_read.specs.declared.error.DecodeErrorKind.TheVariants.{AlreadyFai
 use Rattle.per_read.specs.State.{State as Taking}
 use Rattle.per_read.specs.Takes.{Reason, Takes}
 use Rattle.per_read.proofs.Refusals.{faulty_map}
+use Rattle.per_scopes.specs.Spelled.{spelled}
 use Rattle.per_scopes.specs.State.{State, Spells, reader_of, settings_of}
 use Rattle.per_scopes.specs.Faults.{Answered, Fault, IsAt, IsOf, at_once, refusal}
 use Rattle.per_scopes.specs.Rules.{decoder_rules}
@@ -71,7 +72,7 @@ no_truth a none v t h = none h.spelled.of t (record { front = h.front; joins = h
 
 pub bool_answers : (s : State) (r : Result Bool DecodeError) (t : State) → s.failed ≡ false → TakesBit s r t → Reads (freely_read decoder_rules) Schemas.boolean truth s r t
 bool_answers s (Ok b) t live h = record {
-  law = record { live = live; took = reads_truth (settings_of s) b h.0; same = h.1 };
+  law = spelled live (reads_truth (settings_of s) b h.0) h.1;
   behaves = record { again = λ f. absurd cc; fails = tt; kept = ap (λ z. z.codec) h.1 };
 }
 bool_answers s (Err e) t live h = record {
@@ -108,7 +109,7 @@ failed_refuses c s e i f = record {
 
 pub null_answers : (s : State) (r : Result (Unit {0}) DecodeError) → OnOk r (s.failed ≡ false) → IfErr r (λ e. e ≡ refusal AlreadyFailed s) → OnErr r (s.failed ≡ true)
     → Answers takes_none (Fault Schemas.null) (Spells Schemas.null) (λ u. nothing) s r s
-null_answers s (Ok u) ok err failed = record { live = ok; took = reads_nothing (settings_of s) s.bits; same = refl }
+null_answers s (Ok u) ok err failed = spelled ok (reads_nothing (settings_of s) s.bits) refl
 null_answers s (Err e) ok err failed = inr (failed_refuses Schemas.null s e err failed)
 
 -- REAL
@@ -134,7 +135,7 @@ answered : {T : Type 0} (memory : DecodeError → State → Type 0) (c : Schema)
     → Answers memory (Fault c) (Spells c) value s result t
 answered memory c value s rest left t live l (Ok v) result a ok err =
     subst (λ r. Answers memory (Fault c) (Spells c) value s r t) (sym a.0)
-    (subst (λ z. Spells c s (value v) z) (sym (a.1 ∙ with_rest s ok.front rest left ok.joins l)) (record { live = live; took = ok; same = refl }))
+    (subst (λ z. Spells c s (value v) z) (sym (a.1 ∙ with_rest s ok.front rest left ok.joins l)) (spelled live ok refl))
 answered memory c value s rest left t live l (Err k) result a ok err = subst (λ r. Answers memory (Fault c) (Spells c) value s r t) (sym a.0) err
 
 -- A call that takes what a form spells, and its answer: where the form is that of a schema, and each kind says something of it, the call

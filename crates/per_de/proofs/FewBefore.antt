@@ -6,35 +6,15 @@ use Rattle.rasn_types.specs.Variants.{Variant, aligned, unaligned}
 use Rattle.rasn_types.proofs.Bits.{number_below, width_least}
 use Rattle.rasn_constraints.specs.Bounds.{Size}
 use Rattle.rasn_constraints.specs.LawfulConstraints.{is_lawful_size}
-use Rattle.per_core.specs.Basic.{Fragment as OneFragment, InOctets, LastCount, constrained_by}
+use Rattle.per_core.specs.Basic.{InOctets, constrained_by}
 use Rattle.per_core.specs.Spellings.{Settings, Spelling, Then, AnyPadding, Field}
 use Rattle.per_core.specs.Took.{Took}
 use Rattle.per_read.specs.Lengths.{CountOf, count_of}
 use Rattle.per_read.specs.UpTo.{UpTo, UpToFragment, UpToUnconstrained, UpToBetween, UpToSized}
 use Rattle.per_read.specs.declared.lengths.Length.{Length}
 use Rattle.per_read.specs.declared.lengths.Length.TheVariants.{Last, Fragment}
-use Rattle.per_de.specs.Counts.{most_items}
-
--- a count below 16384, in eight bits or more
-pub last_few : (n p : ℕ) (b : Bits) → LastCount n p b → n ≤ 8192 * length b
-last_few n p b (inl x) = let h : n < 128 = x.0 in let k : length b ≡ 8 = x.1.wide in omega arith
-last_few n p b (inr x) =
-    let e : length x.front ≡ 2 = ap length x.is_front in
-    let l : length b ≡ length x.front + length x.rest = ap length x.joins ∙ length-append x.front x.rest in
-    let w : length x.rest ≡ 14 = x.is_rest.wide in
-    let q : 2 ^ length x.rest ≡ 16384 = ap (λ (z : ℕ). 2 ^ z) w in
-    let m = x.is_rest.means in
-    let k = number_below x.rest in
-    omega arith
-
--- a fragment's count, in eight bits
-pub fragment_few : (n p : ℕ) (b : Bits) → OneFragment n p b → n ≤ 8192 * length b
-fragment_few n p b x = let k : length b ≡ 8 = x.spelled.wide in let e : n ≡ 16384 * x.times = x.is in let h : x.times < 5 = x.few in omega arith
-
--- what stands behind another thing, and in front of it, is no longer than both
-module _ {f g : Spelling} {p : ℕ} {b : Bits} (x : Then f g p b) where
-  pub then_length : length b ≡ length x.front + length x.rest
-  then_length = ap length x.joins ∙ length-append x.front x.rest
+use Rattle.per_counts.specs.Counts.{most_items}
+use Rattle.per_counts.proofs.FewLengths.{last_few, fragment_few, then_length}
 
 -- a number below 65536 in its bits
 power_few : (w : ℕ) → w ≤ 16 → 2 ^ w ≤ 8192 * w + 1

@@ -1,7 +1,7 @@
 -- Octets that come with one count alone, or with none, are the last bits that were taken, and are lent where these are octets of the input
 -- (X.691 11.9, 17).
 use Rattle.std.proofs.Common.{◌≡◌, ◌<◌, ◌≤◌, ◌⊎◌, inl, inr, refl, sym, ◌∙◌, ap, ap₂, subst, ℕ, zero, suc, ◌+◌, ◌-◌, ◌*◌, ◌/◌, ◌%◌, ◌^◌, take, drop, take_at, drop_at, Bool, true, false, cond, nat_lt, List, [], ◌∷◌, ◌++◌, length, Option, Some, None, Global, arith, length-append, length-take, length-drop, take-append-drop, append_assoc}
-use Rattle.std.specs.Prelude.{◌↔◌, Result, Ok, Err, IfOk, IfSome, ⊤}
+use Rattle.std.specs.Prelude.{◌↔◌, Result, Ok, Err, IfOk, IfSome}
 use Rattle.std.specs.Cow.{cow_slice_items, IsBorrowedSlice, IsOwnedSlice}
 use Rattle.std.specs.List.{between}
 use Rattle.std.specs.declared.borrow.CowSlice.{CowSlice}
@@ -11,11 +11,11 @@ use Rattle.rasn_types.specs.Values.{octets}
 use Rattle.rasn_types.proofs.Bits.{length-unpack, number_below, to_bits-number}
 use Rattle.rasn_types.proofs.Fewest.{pack-unpack}
 use Rattle.rasn_types.proofs.Packing.{unpack-take}
-use Rattle.rasn_constraints.specs.Bounds.{Size, any_size}
+use Rattle.rasn_constraints.specs.Bounds.{Size}
 use Rattle.rasn_schema.specs.Schemas
 use Rattle.rasn_calls.specs.Calls.{Reads}
 use Rattle.per_bits.proofs.Words.{unpack-drop}
-use Rattle.per_core.specs.Basic.{InFragments, Lengthy, OneByOne, Sized, UnconstrainedLength, basic, length_form, octet}
+use Rattle.per_core.specs.Basic.{InFragments, Lengthy, OneByOne, UnconstrainedLength, length_form, octet}
 use Rattle.per_core.specs.Counts.{octet_items}
 use Rattle.per_core.specs.Spellings.{Settings, Spelling, Then}
 use Rattle.per_core.specs.Took.{Took, place}
@@ -38,7 +38,7 @@ use Rattle.per_de.specs.declared.source.Source.{Source}
 use Rattle.per_de.specs.declared.source.Source.TheVariants as From
 use Rattle.per_de.specs.declared.source.Span.{Span}
 use Rattle.per_de.proofs.Calls.{reads}
-use Rattle.per_de.proofs.Spans.{in_front_of, span_length}
+use Rattle.per_de.proofs.Spans.{in_front_of}
 use Rattle.per_de.proofs.StringCalls.{faulty_octets, reads_octets}
 
 -- octets are the last of some bits

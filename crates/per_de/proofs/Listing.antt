@@ -26,6 +26,7 @@ use Rattle.per_scopes.specs.ChoiceLaws.{moved}
 use Rattle.per_scopes.specs.Faults.{Answered, IsOf, in_element, refusal}
 use Rattle.per_de.specs.Lists.{AmidList}
 use Rattle.per_scopes.specs.Rules.{decoder_rules}
+use Rattle.per_scopes.specs.Spelled.{spelled}
 use Rattle.per_scopes.specs.State.{State, Spells, reader_of, settings_of, with_bits}
 use Rattle.per_de.specs.declared.ListScope.{ListScope}
 use Rattle.per_de.proofs.Calls.{refuses}
@@ -111,7 +112,7 @@ module _ {e : Schema} {size : Size} {mark : Bool} {s : State} {vs : List Value} 
       let w : Took (list_form (list_rule (settings_of s) size mark e) vs) s.bits y.bits = rw r.0 at found in
       subst (λ z. Spells (Schemas.list e size mark) s (list_value vs) z)
       (sym (same ∙ ap (λ (z : State). record z { levels = o }) (on false t n b) ∙ ap (λ z. record s { bits = y.bits; levels = z }) a.outside))
-      (record { live = a.live; took = list_took (settings_of s) e size mark vs w; same = refl })
+      (spelled a.live (list_took (settings_of s) e size mark vs w) refl)
 
   -- it isn't read
   pub list_refused : (d : DecodeError) (t : State) → Answered taken left i (Err d) t → ListUnread decoder_rules (Schemas.list e size mark) d s
@@ -145,7 +146,7 @@ module _ {e : Schema} {size : Size} {mark : Bool} {s : State} {vs : List Value} 
           items = w.goes_on v j.bits (subst (λ z. Took (basic z e v) y.bits j.bits) same_settings c.took);
         };
         none = λ no v u c. no_list (settings_of s) e size mark (w.none (λ x z k.
-            no x (with_bits i z) (record { live = live; took = subst (λ b. Took (basic b e x) y.bits z) (sym same_settings) k; same = refl }))) v u.bits c.took;
+            no x (with_bits i z) (spelled live (subst (λ b. Took (basic b e x) y.bits z) (sym same_settings) k) refl))) v u.bits c.took;
         in_element = λ d k. record { codec = k.codec ∙ same_codec; stands = of_element d.kind w k.stands };
         room = λ d k. k ∙ ap (λ c. record { kind = OutOfMemory; codec = c }) same_codec;
       })

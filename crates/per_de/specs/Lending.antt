@@ -1,5 +1,5 @@
 -- When the octets of an OCTET STRING are lent, and not copied (ITU-T X.691, 11.9, 17).
-use Rattle.std.specs.Prelude.{◌≡◌, ◌⊎◌, ◌<◌, ◌+◌, ◌%◌, ℕ, Bool, true, false, nat_lt, ◌∷◌, [], Option, Some, None}
+use Rattle.std.specs.Prelude.{◌≡◌, ◌⊎◌, ◌<◌, ◌+◌, ◌%◌, ℕ, Bool, true, false, nat_lt, ◌∷◌, [], Option, Some}
 use Rattle.rasn_types.specs.Bits.{Bits}
 use Rattle.rasn_constraints.specs.Bounds.{Size}
 use Rattle.per_scopes.specs.State.{State}

@@ -6,7 +6,7 @@ use Rattle.rasn_constraints.specs.LawfulConstraints.{is_lawful_size}
 use Rattle.rasn_schema.specs.Schemas.{Schema}
 use Rattle.per_read.specs.Lists.{AmidItems, list_rule}
 use Rattle.per_scopes.specs.State.{State, settings_of}
-use Rattle.per_de.specs.Counts.{most_items}
+use Rattle.per_counts.specs.Counts.{most_items}
 use Rattle.per_de.specs.declared.ListScope.{ListScope}
 
 -- A list is open, which began at s: some elements were read, and what is left of it is read from i on, one level deeper. The elements

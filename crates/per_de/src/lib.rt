@@ -62,6 +62,8 @@ use std::borrow::CowSlice;
 use std::marker::Model;
 use std::mem;
 
+pub mod elements;
+pub mod open_lists;
 mod source;
 
 use source::{Extension, Flags, Source, Span};

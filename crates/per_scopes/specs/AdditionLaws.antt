@@ -1,6 +1,6 @@
 -- The laws of the decoder's open types: an addition is the value in its open type, up to its end (X.691 11.2, 19.9).
 use Rattle.std.proofs.Common.{◌≡◌, ◌∙◌, ◌≤◌, inl, inr, refl, sym, ap, subst, ℕ, true, false, length, length-append, arith, Option, Some, None}
-use Rattle.rasn_types.specs.Bits.{Bits, unpack}
+use Rattle.rasn_types.specs.Bits.{unpack}
 use Rattle.rasn_types.specs.Values.{Value}
 use Rattle.rasn_schema.specs.Schemas.{Schema}
 use Rattle.rasn_calls.specs.AdditionsRead.{AdditionsWell}
@@ -17,6 +17,7 @@ use Rattle.per_scopes.specs.Additions.{Adds, ClosesAddition, OpensAddition, Wait
 use Rattle.per_scopes.specs.Faults.{Fault, IsInBits, IsInNext, IsInOpen, in_contents, at_their_end, in_open, IsOfNext, Misadds, UnendedAddition, refusal}
 use Rattle.per_scopes.specs.Records.{IsNew, in_bits, is_new}
 use Rattle.per_scopes.specs.Rules.{decoder_rules}
+use Rattle.per_scopes.specs.Spelled.{added, spelled}
 use Rattle.per_scopes.specs.State.{State, Spells, settings_of, with_bits, Source}
 use Rattle.per_scopes.specs.Tails.{asks_agree}
 
@@ -80,12 +81,9 @@ module _ {s i : State} {w : Waiting} (a : OpensAddition s w i) where
       let n : w.total ≡ length (unpack a.octets) = ap (λ z. z.total) a.waits in
       let x : EndsAs (settings_of s) j.bits (length (unpack a.octets)) = subst (λ (z : ℕ). EndsAs (settings_of s) j.bits z) n (subst (λ z. EndsAs z j.bits w.total) k d.ends) in
       let e : t.bits ≡ w.bits = ap (λ z. z.bits) d.same in
-      record {
-        middle = a.middle;
-        asks = a.asks;
-        took = subst (λ z. Took (OpenOf (settings_of s) (basic (settings_of s) c) v) a.middle.bits z) (sym e) (open_took (settings_of s) (basic (settings_of s) c v) a.octets a.took j.bits (value_in c v j h) x);
-        same = d.same ∙ ap (λ z. outside_open z w) h.same ∙ given_back ∙ ap (λ z. with_bits a.middle z) (sym e);
-      }
+      added a.middle a.asks
+      (subst (λ z. Took (OpenOf (settings_of s) (basic (settings_of s) c) v) a.middle.bits z) (sym e) (open_took (settings_of s) (basic (settings_of s) c v) a.octets a.took j.bits (value_in c v j h) x))
+      (d.same ∙ ap (λ z. outside_open z w) h.same ∙ given_back ∙ ap (λ z. with_bits a.middle z) (sym e))
 
   pub back_of : (c : Schema) (r : Option Value) (t : State) → Adds c s r t → (v : Value) × (j : State) × (r ≡ Some v) × Spells c i v j × ClosesAddition j w t
   back_of c None t (inl h) = let e = (asks_agree s (Some true) (Some false) a.middle t a.asks h).0 in absurd cc
@@ -98,7 +96,7 @@ module _ {s i : State} {w : Waiting} (a : OpensAddition s w i) where
         v,
         with_bits i q.1,
         refl,
-        record { live = unfailed; took = subst (λ z. Took (basic z c v) i.bits q.1) (sym same_settings) (subst (λ z. Took (basic (settings_of s) c v) z q.1) (sym a.contents) q.2); same = refl },
+        spelled unfailed (subst (λ z. Took (basic z c v) i.bits q.1) (sym same_settings) (subst (λ z. Took (basic (settings_of s) c v) z q.1) (sym a.contents) q.2)) refl,
         record {
           live = unfailed;
           ends = subst (λ z. EndsAs z q.1 w.total) (sym same_settings) (subst (λ (z : ℕ). EndsAs (settings_of s) q.1 z) (sym n) q.3);

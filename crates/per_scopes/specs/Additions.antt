@@ -1,11 +1,13 @@
 -- What a decoder reads of the additions of an open record (X.691 19.7 to 19.9), and of the open type of one (11.2).
-use Rattle.std.specs.Prelude.{◌≡◌, ◌⊎◌, ℕ, suc, Bool, true, false, List, [], length, Option, Some, None}
+use Rattle.std.specs.Prelude.{◌≡◌, ◌≤◌, ◌⊎◌, ◌-◌, ℕ, suc, Bool, true, false, List, [], length, Option, Some, None}
 use Rattle.rasn_types.specs.Bits.{Bits, unpack}
 use Rattle.rasn_types.specs.Values.{Value}
 use Rattle.rasn_schema.specs.Schemas.{Schema}
 use Rattle.per_core.specs.Basic.{IsBitmap, Octets, OpenOf, basic}
 use Rattle.per_core.specs.Spellings.{Settings, Spelling, When, exactly}
 use Rattle.per_core.specs.Took.{Took}
+use Rattle.per_counts.specs.Counts.{item_count, most_items}
+use Rattle.per_counts.specs.Within.{HasAtMost}
 use Rattle.per_additions.specs.Additions.{NextFlag}
 use Rattle.per_additions.specs.Ends.{EndsAs}
 use Rattle.per_scopes.specs.State.{Extension, ahead, shown, Source, Spells, State, settings_of, with_bits}
@@ -27,12 +29,15 @@ pub record Asks (s : State) (flag : Option Bool) (m : State) : Type 0 where
   pub next : NextFlag flags flag rest
   pub same : m ≡ record s { bits = m.bits; extension = shown rest; expected = m.expected }
 
--- X.691 19.9: the next addition is there, a value in an open type.
+-- X.691 19.9: the next addition is there, a value in an open type. It has at most 65535 items, and 8192 for each bit that was taken,
+-- those of the bitmap among them, and so has each value within it, but for a default that stands for an absent part (11.9, 19.5).
 pub record AddsValue (c : Schema) (s : State) (v : Value) (t : State) : Type 0 where
   pub middle : State
   pub asks : Asks s (Some true) middle
   pub took : Took (OpenOf (settings_of s) (basic (settings_of s) c) v) middle.bits t.bits
   pub same : t ≡ with_bits middle t.bits
+  pub few : item_count v ≤ most_items (length s.bits - length t.bits)
+  pub within : HasAtMost (most_items (length s.bits - length t.bits)) c v
 
 -- X.691 19.9: the next addition: a value in an open type; or none, as its presence bit says, or past the end of the bitmap
 abbrev pub Adds : Schema → State → Option Value → State → Type 0

@@ -15,6 +15,7 @@ use Rattle.per_read.specs.declared.error.DecodeErrorKind.{DecodeErrorKind}
 use Rattle.per_read.specs.declared.error.DecodeErrorKind.TheVariants.{AlreadyFailed}
 use Rattle.per_scopes.specs.Faults.{IsInBits, IsOf, at_once, in_element, in_member}
 use Rattle.per_scopes.specs.Rules.{decoder_rules}
+use Rattle.per_scopes.specs.Spelled.{spelled}
 use Rattle.per_scopes.specs.State.{State}
 
 -- a list has one row of elements
@@ -58,10 +59,10 @@ no_cut a v b = b.spelled
 
 pub bags_well : BagsWell decoder_rules
 bags_well = record {
-  bag_read = λ e size mark s t vs r. record { live = r.live; took = bag_took _ e size mark vs r.took; same = r.same };
+  bag_read = λ e size mark s t vs r. spelled r.live (bag_took _ e size mark vs r.took) r.same;
   none = λ e size mark s no w t r.
       let q = list_took _ e size mark w r.took in
-      no (list_value q.0) t (record { live = r.live; took = q.1; same = r.same });
+      no (list_value q.0) t (spelled r.live q.1 r.same);
   in_list = λ e size mark s d f. record { codec = f.codec; stands = of_list d.kind e size mark s f.stands };
   cut = λ s v t r. no_cut _ v r.took;
 }

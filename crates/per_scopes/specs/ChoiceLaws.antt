@@ -24,6 +24,7 @@ use Rattle.per_scopes.specs.Faults.{Fault, IsInBits, IsInOpen, UnendedAddition, 
 use Rattle.per_scopes.specs.Records.{IsNew, in_bits, is_new, of_bits}
 use Rattle.per_scopes.specs.Rules.{decoder_rules}
 use Rattle.per_scopes.specs.Scopes.{with_outside}
+use Rattle.per_scopes.specs.Spelled.{spelled}
 use Rattle.per_scopes.specs.State.{State, Spells, settings_of, with_bits, Source}
 
 length-rules : (a : Settings) (ps : Parts) → length (rules a ps) ≡ length (tags_of ps)
@@ -313,17 +314,14 @@ module _ (ps : Parts) (marker : Bool) (qs : Parts) (d : Side) (k : ℕ) (c : Sch
   read_of j t v b z =
       let x = ended_of j t v b z in
       let f : t.bits ≡ x.rest = ap (λ l. l.bits) x.same in
-      record {
-        live = h.live;
-        took = subst (λ l. Took (basic (settings_of s) (choice_of ps marker qs) (alternative d k v)) s.bits l) (sym f) (choice_took (settings_of s) ps marker qs d k c v e h.took x.took);
-        same = x.same ∙ ap (λ l. with_bits s l) (sym f);
-      }
+      spelled h.live (subst (λ l. Took (basic (settings_of s) (choice_of ps marker qs) (alternative d k v)) s.bits l) (sym f) (choice_took (settings_of s) ps marker qs d k c v e h.took x.took))
+      (x.same ∙ ap (λ l. with_bits s l) (sym f))
 
   back_of : (t : State) (v : Value) → Spells (choice_of ps marker qs) s v t → (j : State) × ReadsAlternative decoder_rules d k c i v j × ClosesChoice j w t
   back_of t v b =
       let q = inside_of (settings_of s) ps marker qs d k c v e h.took b.took in
       let x = go d w.contents h.stands q.v q.took in
-      (with_bits i x.0, (q.v, q.is, record { live = unfailed; took = x.1; same = refl }), record { live = unfailed; middle = x.2; ends = x.3; same = b.same ∙ sym (x.4 ∙ given_back t.bits) })
+      (with_bits i x.0, (q.v, q.is, spelled unfailed x.1 refl), record { live = unfailed; middle = x.2; ends = x.3; same = b.same ∙ sym (x.4 ∙ given_back t.bits) })
     where
       go : (d : Side) (o : Option Waiting) → StandsFrom d h.middle o i → (u : Value) → Took (Standing (settings_of s) d (basic (settings_of s) c u)) h.middle.bits t.bits
           → (l : Bits) × Took (basic (settings_of i) c u) i.bits l × (n : State) × EndsFrom (with_bits i l) o n × (with_outside n w.outer ≡ with_outside (with_bits h.middle t.bits) w.outer)

@@ -8,6 +8,7 @@ pub mod Rules
 pub mod ScopeLaws
 pub mod Scopes
 pub mod SetLaws
+pub mod Spelled
 pub mod State
 pub mod Tails
 pub mod ChoiceLaws

@@ -13,6 +13,7 @@ use Rattle.per_core.proofs.Took.{took_then, then_took, took_map, took_nothing, n
 use Rattle.per_read.specs.declared.error.DecodeError.{DecodeError}
 use Rattle.per_read.specs.declared.error.DecodeErrorKind.{DecodeErrorKind}
 use Rattle.per_read.specs.declared.error.DecodeErrorKind.TheVariants.{AlreadyFailed}
+use Rattle.per_scopes.specs.Spelled.{spelled}
 use Rattle.per_scopes.specs.State.{State, Marks, Spells, settings_of, with_bits}
 use Rattle.per_scopes.specs.Faults.{IsOf, IsInBits, IsInParts, here, later, IsUnmarked}
 use Rattle.per_scopes.specs.Rules.{decoder_rules}
@@ -211,13 +212,13 @@ flags_there a (part k (default d) c ps) q l =
 part_back : (a : Settings) (p : Presence) (c : Schema) (i : State) (b : Bool) (r : Option Value) (q t : Bits) → settings_of i ≡ a → i.failed ≡ false → Shows p b i.presences q → Took (PartBody a p c b r) i.bits t
     → ReadsPart decoder_rules p c i r (with_rest i t q)
 part_back a p c i true r q t e f (always g h l) y =
-    let v : Spells c i y.spelled.held (with_bits i t) = record { live = f; took = record { front = y.front; joins = y.joins; spelled = subst (λ z. basic z c y.spelled.held (place i.bits) y.front) (sym e) y.spelled.spelled }; same = refl } in
+    let v : Spells c i y.spelled.held (with_bits i t) = spelled f (record { front = y.front; joins = y.joins; spelled = subst (λ z. basic z c y.spelled.held (place i.bits) y.front) (sym e) y.spelled.spelled }) refl in
     rw (g, ← l, y.spelled.is) (reads_required v)
 part_back a p c i false r q t e f (always g h l) y = absurd cc
 part_back a p c i true r q t e f (shows d o l) y =
     let m : Marks i true (with_rest i i.bits q) = record { live = f; first = l; same = refl } in
     let v : Spells c (with_rest i i.bits q) y.spelled.held (with_rest i t q) =
-    record { live = f; took = record { front = y.front; joins = y.joins; spelled = subst (λ z. basic z c y.spelled.held (place i.bits) y.front) (sym e) y.spelled.spelled }; same = refl } in
+    spelled f (record { front = y.front; joins = y.joins; spelled = subst (λ z. basic z c y.spelled.held (place i.bits) y.front) (sym e) y.spelled.spelled }) refl in
     rw y.spelled.is (reads_there o m v)
 part_back a p c i false r q t e f (shows d o l) y =
     let n : i.bits ≡ t = nothing_took (took_map (λ p c w. w.1) y) in

@@ -22,6 +22,7 @@ use Rattle.per_scopes.specs.Faults.{Fault, IsInTail, in_root, behind_root, IsOfE
 use Rattle.per_scopes.specs.Records.{IsNew, exact_took, faulty_in, flags_off, no_more, of_bits, parts_back, read, with_rest}
 use Rattle.per_scopes.specs.Rules.{decoder_rules}
 use Rattle.per_scopes.specs.Scopes.{Outside, with_outside, Opens, Closes}
+use Rattle.per_scopes.specs.Spelled.{spelled}
 use Rattle.per_scopes.specs.State.{State, Spells, extension_of, settings_of, with_bits, Source}
 use Rattle.per_scopes.specs.Tails.{ending_new, Left, Tail, behind_additions, faulty_tail, left_of, tail_of, turns_of}
 
@@ -204,11 +205,8 @@ module _ (ps : Parts) (marker : Bool) (qs : Parts) {s i : State} {w : Outside} (
       let l = left_behind b k in
       let e : settings_of j ≡ settings_of s = ap settings_of l.same ∙ settings_behind b in
       let y = tail_of (settings_of s) qs m j xs c.flags (settings_behind b) k (subst (λ z. Took (Then (Shown z j.extension c.flags) (Unknown z c.flags)) j.bits t.bits) e c.skipped) in
-      record {
-        live = a.live;
-        took = record_took (settings_of s) ps marker a.extends qs rs xs a.taken b.root (subst (λ z. Tail (settings_of s) qs z xs m.bits t.bits) (bitmap_behind b) y);
-        same = c.same ∙ ap (λ z. with_outside (with_bits z t.bits) w) l.same ∙ ap (λ z. with_outside (with_bits z t.bits) w) b.same ∙ given_back t.bits;
-      }
+      spelled a.live (record_took (settings_of s) ps marker a.extends qs rs xs a.taken b.root (subst (λ z. Tail (settings_of s) qs z xs m.bits t.bits) (bitmap_behind b) y))
+      (c.same ∙ ap (λ z. with_outside (with_bits z t.bits) w) l.same ∙ ap (λ z. with_outside (with_bits z t.bits) w) b.same ∙ given_back t.bits)
 
   pub back_of : (t : State) (v : Value) → Spells (extended ps marker qs) s v t → (rs xs : List (Option Value)) × (j : State) × ReadsFields decoder_rules ps qs i rs xs j × Closes j w t
   back_of t v b =

@@ -16,6 +16,7 @@ use Rattle.per_read.specs.declared.error.DecodeErrorKind.{DecodeErrorKind}
 use Rattle.per_read.specs.declared.error.DecodeErrorKind.TheVariants.{AlreadyFailed}
 use Rattle.per_scopes.specs.Faults.{IsInBits, IsOf, at_once, in_set}
 use Rattle.per_scopes.specs.Rules.{decoder_rules}
+use Rattle.per_scopes.specs.Spelled.{spelled}
 use Rattle.per_scopes.specs.State.{State}
 
 -- the SEQUENCE of a SET that is read
@@ -47,7 +48,7 @@ of_sequence _ ps marker qs s h = in_set h
 
 pub sets_well : SetsWell decoder_rules
 sets_well = record {
-  set_read = λ ps marker qs s t rs xs r. record { live = r.live; took = took_map (out_of_order _ true ps marker qs rs xs) r.took; same = r.same };
-  set_back = λ ps marker qs s t v r. let q = in_turn_took _ ps marker qs v r.took in (q.0, record { live = r.live; took = q.1; same = r.same });
+  set_read = λ ps marker qs s t rs xs r. spelled r.live (took_map (out_of_order _ true ps marker qs rs xs) r.took) r.same;
+  set_back = λ ps marker qs s t v r. let q = in_turn_took _ ps marker qs v r.took in (q.0, spelled r.live q.1 r.same);
   in_set = λ ps marker qs s e f. record { codec = f.codec; stands = of_sequence e.kind ps marker qs s f.stands };
 }

@@ -1,5 +1,5 @@
 -- What a decoder holds, and what its calls read.
-use Rattle.std.specs.Prelude.{◌≡◌, ◌-◌, ℕ, Bool, true, false, List, [], ◌∷◌, drop, length}
+use Rattle.std.specs.Prelude.{◌≡◌, ◌≤◌, ◌-◌, ℕ, Bool, true, false, List, [], ◌∷◌, drop, length}
 use Rattle.rasn_types.specs.Bits.{Bits}
 use Rattle.rasn_types.specs.Values.{Value}
 use Rattle.rasn_types.specs.declared.types.Codec.{Codec}
@@ -7,6 +7,8 @@ use Rattle.rasn_schema.specs.Schemas.{Schema}
 use Rattle.per_core.specs.Spellings.{Settings}
 use Rattle.per_core.specs.Basic.{basic}
 use Rattle.per_core.specs.Took.{Took}
+use Rattle.per_counts.specs.Counts.{item_count, most_items}
+use Rattle.per_counts.specs.Within.{HasAtMost}
 use Rattle.per_read.specs.Options.{settings}
 use Rattle.per_read.specs.State.{State as Taking}
 use Rattle.per_read.specs.declared.ReaderOptions.{ReaderOptions}
@@ -99,11 +101,14 @@ with_bits s b = record s { bits = b }
 abbrev pub with_last : State → ℕ → State
 with_last s n = with_bits s (drop (length s.bits - n) s.bits)
 
--- A front of the bits that are left spells a value, and the bits behind it are left.
+-- A front of the bits that are left spells a value, and the bits behind it are left. The value has at most 65535 items, and 8192 for
+-- each bit that was taken, and so has each value within it, but for a default that stands for an absent part (X.691 11.9, 19.5).
 pub record Spells (c : Schema) (s : State) (v : Value) (t : State) : Type 0 where
   pub live : s.failed ≡ false
   pub took : Took (basic (settings_of s) c v) s.bits t.bits
   pub same : t ≡ with_bits s t.bits
+  pub few : item_count v ≤ most_items (length s.bits - length t.bits)
+  pub within : HasAtMost (most_items (length s.bits - length t.bits)) c v
 
 -- The next presence bit of the root components of the open record.
 pub record Marks (s : State) (b : Bool) (t : State) : Type 0 where

@@ -23,6 +23,7 @@ use Rattle.per_scopes.specs.Additions.{Adds, Asks, Shown}
 use Rattle.per_scopes.specs.Faults.{IsInTail, in_bitmap, behind_bitmap, IsInAdditions, in_addition, lacking, further, in_unknown, IsInNext, IsInOpen, IsOfLacking, out_of_turn, not_expected, at_bitmap, in_open, IsOfNext}
 use Rattle.per_scopes.specs.Records.{IsNew, is_left_out, left_out_is}
 use Rattle.per_scopes.specs.Rules.{decoder_rules}
+use Rattle.per_scopes.specs.Spelled.{added}
 use Rattle.per_scopes.specs.State.{Extension, ahead, shown, State, settings_of, with_bits}
 
 -- the presence bits of a bitmap are one list, and one of them is next
@@ -179,12 +180,7 @@ turn_back a p c r flag flags rest s n m t e live done counted taken next h = go 
     go (Some true) x y =
         let v : Took (OpenOf a (basic a c) y.spelled.held) m t = record { front = y.front; joins = y.joins; spelled = y.spelled.spelled } in
         let w : Adds c s (Some y.spelled.held) (record s { bits = t; extension = shown rest; expected = n }) =
-        record {
-          middle = record s { bits = m; extension = shown rest; expected = n };
-          asks = asks (Some true) m x refl;
-          took = subst (λ z. Took (OpenOf z (basic z c) y.spelled.held) m t) (sym e) v;
-          same = refl;
-        } in
+        added (record s { bits = m; extension = shown rest; expected = n }) (asks (Some true) m x refl) (subst (λ z. Took (OpenOf z (basic z c) y.spelled.held) m t) (sym e) v) refl in
         subst (λ z. ReadsAddition decoder_rules p c s z (record s { bits = t; extension = shown rest; expected = n })) (sym y.spelled.is) (reads_added w)
     go (Some false) x y = let w = when_took y in reads_lacking (left_out_is p r w.0) (inl (asks (Some false) t x (nothing_took w.1)))
     go None x y = let w = when_took y in reads_lacking (left_out_is p r w.0) (inr (asks None t x (nothing_took w.1)))

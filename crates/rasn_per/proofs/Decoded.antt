@@ -14,6 +14,7 @@ use Rattle.per_core.proofs.Readings.{one_reading}
 use Rattle.per_core.proofs.Took.{took_agree}
 use Rattle.per_core.proofs.Laws.{one_value, one_front}
 use Rattle.per_core.proofs.Filling.{fills_read, fills_back}
+use Rattle.per_scopes.specs.Spelled.{spelled}
 use Rattle.per_scopes.specs.State.{State, Options, Spells, fresh_of, octets_lent, with_bits}
 use Rattle.per_scopes.specs.Faults.{Fault, refusal}
 use Rattle.per_read.specs.declared.error.DecodeError.{DecodeError}
@@ -65,7 +66,7 @@ module _ (a : Codec) (strict : Bool) (schema : ℕ → Schema) (octets : List �
   unread : ((v : Value) (t : State) → Spells (schema 128) (fresh a strict octets) v t → ⊥) → AreUnreadBy (reading strict (variant_of a)) schema octets
   unread none v x =
       let k = fills_back (reading strict (variant_of a)) (schema 128) v octets x in
-      none v (with_bits (fresh a strict octets) k.0) (record { live = refl; took = k.1; same = refl })
+      none v (with_bits (fresh a strict octets) k.0) (spelled refl k.1 refl)
 
   pub refused_so : {T : Type 0} (X : Type 0) → (((v : Value) (t : State) → Spells (schema 128) (fresh a strict octets) v t → ⊥) → X) → (result : Result T DecodeError) (f : DecodeError) (s : State)
       → s ≡ fresh a strict octets → result ≡ Err f
@@ -93,7 +94,7 @@ module _ (a : Codec) (schema : ℕ → Schema) (octets : List ℕ) where
   none_begun : ((v : Value) (t : State) → Spells (schema 128) (fresh a false octets) v t → ⊥) → BeginWithNone (variant_of a) schema octets
   none_begun none v rest x =
       let k = front_back (variant_of a) (schema 128) v octets rest x in
-      none v (with_bits (fresh a false octets) k.0) (record { live = refl; took = k.1; same = refl })
+      none v (with_bits (fresh a false octets) k.0) (spelled refl k.1 refl)
 
   pub refused_front : {T : Type 0} (result : Result T DecodeError) (f : DecodeError) (s : State) → s ≡ fresh a false octets → result ≡ Err f
       → ((f ≡ refusal OutOfMemory s) ⊎ Refuses (Spells (schema s.levels)) (Fault (schema s.levels)) f s) → IfErr result (λ e. e.kind ≢ OutOfMemory → BeginWithNone (variant_of a) schema octets)

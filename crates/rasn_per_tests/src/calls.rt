@@ -2,7 +2,6 @@
 //! constraints are lawful.
 
 use crate::expected::{BOTH, expect_equal, expect_read, expect_unread};
-use per_counts::calls::decode_from;
 use per_samples_c::colors::TwoColors;
 use per_samples_c::one_color::OneColor;
 use per_samples_f::grouped::Grouped;
@@ -10,7 +9,7 @@ use per_samples_f::outer1::Outer1;
 use per_samples_k::set_each::SetEach;
 use per_versions::exchange::{ExchangeError, read_by_newer, read_by_older};
 use rasn_below::types::Codec;
-use rasn_below::{Constraint, Constraints, constraints};
+use rasn_below::{Constraint, Constraints, Decode, constraints};
 use rasn_per::bits::BitReader;
 use rasn_per::per::de::{DecodeError, Decoder, DecoderOptions};
 use rasn_per::uper::{DecodeErrorKind, ParserFailCause, decode_with_remainder, lawful};
@@ -28,11 +27,11 @@ const READ: Outer1 = Outer1 {
 fn read_by_decoder(alloc: Global) -> Option<Outer1> {
     let bits = BitReader::from_octets(OUTER);
     let mut decoder = Decoder::from_reader(alloc, bits, DecoderOptions::unaligned());
-    decode_from(&mut decoder).ok()
+    Outer1::decode(&mut decoder).ok()
 }
 
 #[test]
-fn counted_call_of_a_decoder_answers(rt: HostRuntime) {
+fn decoder_of_ones_own_answers(rt: HostRuntime) {
     expect_equal(&rt, &read_by_decoder(rt.alloc()), &Some(READ));
 }
 

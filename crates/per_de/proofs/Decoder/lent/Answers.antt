@@ -1,7 +1,7 @@
-use Rattle.std.proofs.Common.{◌≡◌, ◌<◌, ◌≤◌, ◌+◌, ◌-◌, ◌*◌, ◌∙◌, ap, arith, length, rules, subst, sym}
+use Rattle.std.proofs.Common.{◌≤◌, ◌+◌, ◌*◌, ap, arith, length, subst}
 use Rattle.rasn_schema.specs.Forms.{size_of, is_size_marked}
 use Rattle.per_de.specs.Lending.{ComeAlone}
-use Rattle.per_de.specs.Sources.{bits_of, span_of}
+use Rattle.per_de.specs.Sources.{bits_of}
 use Rattle.per_de.proofs.Lending.{if_some, lent_where, part_inside}
 use Rattle.per_de.proofs.Spans.{span_length}
 use Rattle.per_de.proofs.Decoder.lent.Goals as goal

@@ -1,4 +1,4 @@
-use Rattle.per_counts.proofs.open_lists.elements_of_an_open_list_are_few.Goals as goal
+use Rattle.per_de.proofs.open_lists.elements_of_an_open_list_are_few.Goals as goal
 
 pub returns-clause-now : goal.returns-clause-now
 returns-clause-now c = λ e size mark s i vs l h amid. amid.few h

@@ -1,6 +1,7 @@
-//! The items that one call of a decoder reads, and the bits that it takes.
+//! The items that one call of a decoder reads, and the bits that it takes: what the facts that its clause is made of say
+//! in the words of the call. Each law is the contract of a function that does nothing.
 
-ghost use Rattle.std.specs.Prelude.{◌≡◌, ◌≤◌, ◌⊎◌, ◌-◌, ℕ, length, Option, Some, Ok, IfOk};
+ghost use Rattle.std.specs.Prelude.{◌≡◌, ◌≤◌, ◌⊎◌, ◌-◌, ℕ, length, Option, Some, Ok};
 ghost use Rattle.rasn_types.specs.Values.{Value};
 ghost use Rattle.rasn_schema.specs.Schemas.{Presence, Schema};
 ghost use Rattle.rasn_calls.specs.AdditionsRead.{TakesAddition};
@@ -8,24 +9,11 @@ ghost use Rattle.rasn_calls.specs.Calls.{Reads};
 ghost use Rattle.rasn_calls.specs.Optionals.{MakesDefault, ReadsComponent, ReadsDefault};
 ghost use Rattle.rasn_calls.specs.Presences.{left_out};
 ghost use Rattle.per_scopes.specs.Rules.{decoder_rules};
-ghost use Rattle.per_scopes.specs.State.{Spells, State};
+ghost use Rattle.per_scopes.specs.State.{State};
 ghost use Rattle.per_counts.specs.Counts.{item_count, most_items};
 ghost use Rattle.per_counts.specs.Within.{HasAtMost};
 
-use per_de::Decoder;
-use per_de::error::DecodeError;
-use rasn_codec::codec::Decode;
 use std::alloc::{AllocError, Global};
-
-/// A value that the next bits spell has at most 65535 items, and 8192 for each of those bits, and so has each value within
-/// it, but for a default that stands for an absent part: that of a call that reads a record by a function, in turn or in
-/// the order of tags, an alternative's or an element's (X.691, 11.9, 19.5).
-pub fn items_that_are_spelled_are_few()
-    ensures own { (c : Schema) (v : Value) (s t : State) → Spells c s v t →
-        item_count v ≤ most_items (length s.bits - length t.bits) }
-    ensures within { (c : Schema) (v : Value) (s t : State) → Spells c s v t →
-        HasAtMost (most_items (length s.bits - length t.bits)) c v }
-{}
 
 /// A call that reads a value answers at most 65535 items, and 8192 for each bit that it took, and so many in each value
 /// within the answer, but for a default that stands for an absent part (X.691, 11.9, 19.5).
@@ -70,15 +58,3 @@ pub fn items_of_an_addition_are_few<T>()
         → TakesAddition decoder_rules c slot s (Ok x) t → slot x ≡ Some added →
         HasAtMost (most_items (length s.bits - length t.bits)) c added }
 {}
-
-/// Reads a value under its type's own tag and constraints, as `Decode::decode` does: at most 65535 items, and 8192 for
-/// each bit that it took.
-pub fn decode_from<T: Decode>(decoder: &mut Decoder) -> Result<T, DecodeError>
-    ensures read { Reads decoder_rules (T.schema T.CONSTRAINTS decoder.old.levels) T.value
-        decoder.old result decoder.new }
-    ensures few { IfOk result (λ x. item_count (T.value x)
-        ≤ most_items (length decoder.old.bits - length decoder.new.bits)) }
-{
-    items_of_a_call_are_few::<T>();
-    T::decode(decoder)
-}
