@@ -2,7 +2,7 @@ pub mod Additions
 pub mod Filled
 pub mod Opened
 pub mod Records
-pub mod Rows
+pub mod Fronts
 pub mod Pieces
 pub mod Maps
 pub mod Skipped

@@ -13,7 +13,7 @@ use Rattle.per_read.specs.Sizes.{IsOfItems}
 use Rattle.per_read.specs.declared.error.DecodeErrorKind.TheVariants.{SizeConstraintNotSatisfied}
 use Rattle.per_core.specs.declared.items.Item.TheVariants.{Bit}
 use Rattle.per_read.specs.Lengths.{LengthOf, count_of}
-use Rattle.per_read.specs.Takes.{Row}
+use Rattle.per_read.specs.Takes.{Front}
 use Rattle.per_read.specs.declared.error.DecodeErrorKind.{DecodeErrorKind}
 use Rattle.per_read.specs.declared.lengths.Length.{Length}
 use Rattle.per_read.specs.declared.lengths.Length.TheVariants.{Last, Fragment}
@@ -28,7 +28,7 @@ use Rattle.per_additions.specs.Reasons.{gathering}
 use Rattle.per_additions.specs.declared.bitmaps.PresenceBits.{PresenceBits}
 use Rattle.per_additions.specs.declared.bitmaps.PresenceBits.TheVariants.{InPlace, Gathered}
 use Rattle.per_additions.proofs.Pieces.{Anything, one_piece}
-use Rattle.per_additions.proofs.Rows.{bits_took, last_behind, no_row, row_took}
+use Rattle.per_additions.proofs.Fronts.{bits_took, last_behind, no_front, front_took}
 
 -- a bitmap, by its first bit
 module _ (a : Settings) (flags : List Bool) {s t : Bits} where
@@ -82,19 +82,19 @@ no_bitmap a e flags t b = no_mark small_bitmap (large_bitmap a) e flags t (took_
 
 -- the small form
 module _ {s m : Bits} (n : ℕ) (b : Took (Field 6 n) s m) where
-  pub small_bits : (bits : Bits) {t : Bits} → Took (Row (n + 1) bits) m t → Took (small_bitmap bits) s t
+  pub small_bits : (bits : Bits) {t : Bits} → Took (Front (n + 1) bits) m t → Took (small_bitmap bits) s t
   small_bits bits {t} c =
-      let r = row_took c in
+      let r = front_took c in
       let f : Took (Field 6 (length bits - 1)) s m = subst (λ (z : ℕ). Took (Field 6 z) s m) (omega (arith, r.0)) b in
       let x : Took (exactly bits) m t = took_map (λ p y z. z.1) c in
       took_map (λ p y z. (omega (arith, r.0), z)) (took_then f x)
 
-  pub no_small_bits : NoneIn (Row (n + 1)) m → NoneIn small_bitmap s
+  pub no_small_bits : NoneIn (Front (n + 1)) m → NoneIn small_bitmap s
   no_small_bits none flags t c =
       let w = when_took c in
       let q = then_took w.1 in
       let r = took_agree (field_agree 6 n (length flags - 1)) b q.1 in
-      none flags t (subst (λ z. Took (Row (n + 1) flags) z t) (sym r.1) (took_map (λ p y z. (omega (arith, r.0, w.0), z)) q.2))
+      none flags t (subst (λ z. Took (Front (n + 1) flags) z t) (sym r.1) (took_map (λ p y z. (omega (arith, r.0, w.0), z)) q.2))
 
 pub no_small_field : {s : Bits} → NoneIn (Field 6) s → NoneIn small_bitmap s
 no_small_field none flags t c = let q = then_took (when_took c).1 in none (length flags - 1) q.0 q.1
@@ -107,13 +107,13 @@ module _ (a : Settings) {s : Bits} where
   pub no_length_no_bits : NoneIn (LengthOf a) s → NoneIn (large_bitmap a) s
   no_length_no_bits none = no_large_bits (none_of_bits a any_size false (no_items_length (items_begin Anything a 1 s tt) bit_items none))
 
-  pub no_row_no_bits : (n : ℕ) {m : Bits} → Took (LengthOf a (Last n)) s m → NoneIn (Row n) m → NoneIn (large_bitmap a) s
-  no_row_no_bits n {m} b none =
-      no_large_bits (none_of_bits a any_size false (no_items_short (items_begin Anything a 1 s tt) bit_items (Last n) m b (λ few. omega (arith, no_row none))))
+  pub no_front_no_bits : (n : ℕ) {m : Bits} → Took (LengthOf a (Last n)) s m → NoneIn (Front n) m → NoneIn (large_bitmap a) s
+  no_front_no_bits n {m} b none =
+      no_large_bits (none_of_bits a any_size false (no_items_short (items_begin Anything a 1 s tt) bit_items (Last n) m b (λ few. omega (arith, no_front none))))
 
-  pub large_bits : (n : ℕ) (bits : Bits) {m t : Bits} → 0 < n → Took (LengthOf a (Last n)) s m → Took (Row n bits) m t → Took (large_bitmap a bits) s t
+  pub large_bits : (n : ℕ) (bits : Bits) {m t : Bits} → 0 < n → Took (LengthOf a (Last n)) s m → Took (Front n bits) m t → Took (large_bitmap a bits) s t
   large_bits n bits some b c =
-      let r = row_took c in
+      let r = front_took c in
       took_map (λ p x y. (omega (arith, r.0), y)) (one_piece a bit bit_items bits n b r.0 (bits_took n bits c))
 
   -- how many bits a first length counts, and those behind them

@@ -4,7 +4,7 @@ use Rattle.std.specs.Prelude.{slice_get}
 use Rattle.rasn_types.specs.Bits.{Bits, number_of}
 use Rattle.per_additions.specs.Additions.{NextFlag}
 
--- a row of one bit
+-- one bit
 pub one_bit : (s front t : Bits) (n : ℕ) → s ≡ front ++ t → length front ≡ 1 → n ≡ number_of (take 1 front) → NextFlag s (Some (nat_eq n 1)) t
 one_bit s [] t n e l m = absurd (omega arith)
 one_bit s (b ∷ c ∷ front) t n e l m = absurd (omega arith)

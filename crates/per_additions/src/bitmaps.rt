@@ -132,7 +132,7 @@ fn take_small_bitmap(reader: &mut Reader<'_>) -> Result<PresenceBits, DecodeErro
         reader.new }
 {
     let more = reader.take_bits(6)?;
-    reader.take_row(more + 1)?;
+    reader.take_front(more + 1)?;
     Ok(PresenceBits::InPlace(more + 1))
 }
 
@@ -147,7 +147,7 @@ fn take_large_bitmap(reader: &mut Reader<'_>) -> Result<PresenceBits, DecodeErro
             if count == 0 {
                 return Err(DecodeErrorKind::ParserFail(ParserFailCause::EmptyBitmap));
             }
-            ahead.take_row(count)?;
+            ahead.take_front(count)?;
             *reader = ahead;
             Ok(PresenceBits::InPlace(count))
         }

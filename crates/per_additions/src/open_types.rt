@@ -30,7 +30,7 @@ pub fn take_open(reader: &mut Reader<'_>) -> Result<Contents, DecodeErrorKind>
     let mut ahead = ahead_of(reader);
     match ahead.take_unconstrained_length()? {
         Length::Last(count) => {
-            ahead.take_row(8 * count)?;
+            ahead.take_front(8 * count)?;
             *reader = ahead;
             Ok(Contents::InPlace(8 * count))
         }
@@ -51,7 +51,7 @@ pub fn skip_open(reader: &mut Reader<'_>) -> Result<(), DecodeErrorKind>
             Some(all) => count = all,
             None => return Err(DecodeErrorKind::ExceedsMaxLength),
         }
-        reader.take_row(8 * more as u128)?;
+        reader.take_front(8 * more as u128)?;
         if let Length::Last(_) = length {
             return Ok(());
         }

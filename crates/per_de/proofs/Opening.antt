@@ -14,7 +14,7 @@ use Rattle.per_read.specs.declared.error.DecodeError.{DecodeError}
 use Rattle.per_read.specs.declared.error.DecodeErrorKind.{DecodeErrorKind}
 use Rattle.per_read.specs.declared.error.DecodeErrorKind.TheVariants.{Incomplete, OutOfMemory}
 use Rattle.per_scopes.specs.Faults.{Answered, Fault, refusal}
-use Rattle.per_scopes.specs.Records.{flags_row}
+use Rattle.per_scopes.specs.Records.{flags_bits}
 use Rattle.per_scopes.specs.ScopeLaws.{bit_agree, took_record}
 use Rattle.per_scopes.specs.Scopes.{Enters, Opens, Outside, is_extensible, outside_of, with_outside}
 use Rattle.per_scopes.specs.State.{State, Spells, extension_of, settings_of, with_bits, with_last}
@@ -40,14 +40,14 @@ module _ (flag : Bool) (count : ℕ) (s t u : State) (m : ℕ) (b : Bool) (deepe
   behind_bit = bit.1 ∙ ap (λ z. with_bits z u.bits) start
 
   -- a scope is entered with the presence bits that were taken
-  pub opens_record : (c : Schema) (row : Span) (v : State) (inside w : Outside) (i : State) → s.failed ≡ false → flag ≡ is_extensible c → count ≡ presence_bits (root_of c) → TakesPresences count u (Ok row) v
-      → inside ≡ record { levels = m; presences = span_of row v.source.bits; extension = extension_of b; expected = part_count (additions_of c) } → Enters inside v w i → Opens c s w i
-  opens_record c row v inside w i live e n p is enters =
+  pub opens_record : (c : Schema) (asked : Span) (v : State) (inside w : Outside) (i : State) → s.failed ≡ false → flag ≡ is_extensible c → count ≡ presence_bits (root_of c) → TakesPresences count u (Ok asked) v
+      → inside ≡ record { levels = m; presences = span_of asked v.source.bits; extension = extension_of b; expected = part_count (additions_of c) } → Enters inside v w i → Opens c s w i
+  opens_record c asked v inside w i live e n p is enters =
       let same : v ≡ with_bits s v.bits = p.1 ∙ ap (λ z. with_bits z v.bits) behind_bit in
-      let q = span_of row u.source.bits in
+      let q = span_of asked u.source.bits in
       let source : v.source ≡ u.source = ap (λ z. z.source) p.1 in
       let within : Outside = record { levels = m; presences = q; extension = extension_of b; expected = part_count (additions_of c) } in
-      let there : inside ≡ within = is ∙ ap (λ z. record { levels = m; presences = span_of row z.bits; extension = extension_of b; expected = part_count (additions_of c) }) source in
+      let there : inside ≡ within = is ∙ ap (λ z. record { levels = m; presences = span_of asked z.bits; extension = extension_of b; expected = part_count (additions_of c) }) source in
       let joins : u.bits ≡ q ++ v.bits = p.0.joins ∙ ap (λ z. z ++ v.bits) p.0.spelled.1 in
       let taken : Took (ExtensionBit (is_extensible c) b) s.bits (q ++ v.bits) = subst (λ z. Took (ExtensionBit (is_extensible c) b) s.bits z) joins (subst (λ (z : Bool). Took (ExtensionBit z b) s.bits u.bits) e bit_took) in
       subst (λ z. Opens c s w z) (sym (enters.same ∙ ap (λ z. with_outside v z) there ∙ ap (λ z. with_outside z within) same)) (record {
@@ -55,23 +55,23 @@ module _ (flag : Bool) (count : ℕ) (s t u : State) (m : ℕ) (b : Bool) (deepe
         deeper = deeper;
         extends = b;
         taken = taken;
-        row = p.0.spelled.0 ∙ n;
+        presence_count = p.0.spelled.0 ∙ n;
         shows = refl;
         counts = refl;
         enters = record { waits = enters.waits ∙ ap (λ z. outside_of z) same; same = refl };
       })
 
   -- too few bits are left for a record's presence bits
-  pub no_row : (parts additions : ℕ → Parts) (marker : Bool) (e : DecodeError) (v : State) → flag ≡ marker → count ≡ presence_bits (parts m) → TakesPresences count u (Err e) v
+  pub no_front : (parts additions : ℕ → Parts) (marker : Bool) (e : DecodeError) (v : State) → flag ≡ marker → count ≡ presence_bits (parts m) → TakesPresences count u (Err e) v
       → let c = record_at listed parts marker additions s.levels in (e ≡ refusal OutOfMemory s) ⊎ Refuses (Spells c) (Fault c) e s
-  no_row parts additions marker e v f i h =
+  no_front parts additions marker e v f i h =
       let c = extended (parts m) marker (additions m) in
       inr (subst (λ l. Refuses (Spells (record_at listed parts marker additions l)) (Fault (record_at listed parts marker additions l)) e s) (sym deeper)
       (refuses c s (Incomplete (count - length u.bits)) e (h.1 ∙ ap (λ z. refusal (Incomplete (count - length u.bits)) z) behind_bit) tt
       (λ w y d. let q = took_record (settings_of s) (parts m) marker (additions m) w s.bits y d in
       let g = took_agree (bit_agree marker b q.extends) (subst (λ (z : Bool). Took (ExtensionBit z b) s.bits u.bits) f bit_took) q.bit in
       let r = then_took (record { front = q.root.front; joins = q.root.joins; spelled = q.root.spelled.spelled }) in
-      let z = flags_row (settings_of s) (parts m) q.root.spelled.shown q.middle r.0 r.1 in
+      let z = flags_bits (settings_of s) (parts m) q.root.spelled.shown q.middle r.0 r.1 in
       absurd (omega (arith, i, h.0, z.2, ap length g.1, ap length z.1, length-append z.0 r.0)))))
 
 -- no extension bit is left

@@ -25,8 +25,8 @@ lends (Octets octets) = true
 lends (Gathered octets) = false
 
 -- a source of which all bits are left
-abbrev pub whole_of : Source → State.Source
-whole_of source = record { bits = bits_of source; behind = 0; lends = lends source }
+abbrev pub unread_of : Source → State.Source
+unread_of source = record { bits = bits_of source; behind = 0; lends = lends source }
 
 -- a source, of which the bits up to the end of a span are left
 abbrev pub up_to : Span → Source → State.Source

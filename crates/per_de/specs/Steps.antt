@@ -7,7 +7,7 @@ use Rattle.per_core.specs.Basic.{ExtensionBit, IsBitmap, Octets, Unknown, bit}
 use Rattle.per_core.specs.Took.{Took}
 use Rattle.per_read.specs.Choices.{IsOfIndex, index_form, index_of}
 use Rattle.per_read.specs.Kinds.{IsTested, NoneIn, Stopped}
-use Rattle.per_read.specs.Takes.{Row}
+use Rattle.per_read.specs.Takes.{Front}
 use Rattle.per_read.specs.declared.error.DecodeError.{DecodeError}
 use Rattle.per_read.specs.declared.error.DecodeErrorKind.{DecodeErrorKind}
 use Rattle.per_read.specs.declared.error.DecodeErrorKind.TheVariants.{ExceedsMaxParseDepth, Incomplete, MissingTag, OutOfMemory}
@@ -39,7 +39,7 @@ HasTwoLevels s (Err e) t = (s.levels < 2) × (e ≡ refusal ExceedsMaxParseDepth
 -- So many presence bits are taken off the bits left, and stand in a part of the source; where fewer are left the decoder
 -- refuses (X.691 19.2).
 abbrev pub TakesPresences : ℕ → State → Result Span DecodeError → State → Type 0
-TakesPresences n s (Ok p) t = Took (Row n (span_of p s.source.bits)) s.bits t.bits × (t ≡ with_bits s t.bits)
+TakesPresences n s (Ok p) t = Took (Front n (span_of p s.source.bits)) s.bits t.bits × (t ≡ with_bits s t.bits)
 TakesPresences n s (Err e) t = (length s.bits < n) × (e ≡ refusal (Incomplete (n - length s.bits)) s) × (t ≡ record s { failed = true })
 
 -- A bit is taken off the bits left; where none is left the decoder refuses.

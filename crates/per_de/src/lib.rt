@@ -32,7 +32,7 @@ ghost use Rattle.per_de.specs.Lists.{AmidList};
 ghost use Rattle.per_de.specs.Openings.{OpensRecord};
 ghost use Rattle.per_de.specs.Outsides.{choosing_of, outside_of, waiting_of};
 ghost use Rattle.per_de.specs.Lending.{AreLent, ComeAlone};
-ghost use Rattle.per_de.specs.Sources.{bits_of, extension_in, flags_in, span_of, up_to, whole_of, AreOctetsOf, IsWithin};
+ghost use Rattle.per_de.specs.Sources.{bits_of, extension_in, flags_in, span_of, up_to, unread_of, AreOctetsOf, IsWithin};
 ghost use Rattle.per_de.specs.Steps.{AsksNext, EndsContents, EntersOpen, HasTwoLevels, IsRootRead, SkipsUnknown};
 ghost use Rattle.per_de.specs.Steps.{ClosesContents, EntersAlternative, TakesIndex};
 ghost use Rattle.per_de.specs.Steps.{TakesBit, TakesBitmap, TakesExtensionBit, TakesFlags, TakesPresences};
@@ -242,7 +242,7 @@ impl<'input> Decoder<'input> {
 
     /// A decoder of all bits of a source.
     fn of_source(alloc: Global, source: Source<'input>, options: DecoderOptions) -> Self
-        ensures { result ≡ fresh_of (whole_of source.entry) options }
+        ensures { result ≡ fresh_of (unread_of source.entry) options }
     {
         let end = source.bits().len();
         Decoder {

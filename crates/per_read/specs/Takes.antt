@@ -40,8 +40,8 @@ abbrev pub alone : (Settings → Spelling) → Settings → Unit {0} → Spellin
 alone form a u = form a
 
 -- so many bits, whichever they are
-abbrev pub Row : ℕ → Bits → Spelling
-Row n bits = When (length bits ≡ n) (exactly bits)
+abbrev pub Front : ℕ → Bits → Spelling
+Front n bits = When (length bits ≡ n) (exactly bits)
 
 -- A call that takes what a form spells: Ok answers what a front of the bits left spells, and the bits behind it are left; Err comes only
 -- where no front spells anything, for a reason; and how it reads stays. `of` says what of the form an answer is.

@@ -5,7 +5,7 @@
 ghost use Rattle.std.specs.Prelude.{◌≡◌, ◌≤◌};
 ghost use Rattle.per_core.specs.Basic.{Octets, bit};
 ghost use Rattle.per_core.specs.Spellings.{Field};
-ghost use Rattle.per_read.specs.Takes.{Row, Takes, short, stopped, itself};
+ghost use Rattle.per_read.specs.Takes.{Front, Takes, short, stopped, itself};
 
 mod alphabet;
 mod choices;
@@ -102,8 +102,8 @@ impl<'input> Reader<'input> {
     }
 
     /// Takes so many bits, as a reader of their own. Takes no memory.
-    pub fn take_row(&mut self, count: u128) -> Result<BitReader<'input>, DecodeErrorKind>
-        ensures { Takes short (λ a. Row count) itself self.old result self.new }
+    pub fn take_front(&mut self, count: u128) -> Result<BitReader<'input>, DecodeErrorKind>
+        ensures { Takes short (λ a. Front count) itself self.old result self.new }
     {
         self.bits.take(count).map_err(DecodeErrorKind::Incomplete)
     }

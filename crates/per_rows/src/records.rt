@@ -61,7 +61,7 @@ pub fn uper_recursive_sequence_takes_a_bit_a_level()
 
 /// UPER SEQUENCE { d Nest DEFAULT a value of 200 levels }: the default is one zero bit at any unfolding (X.691 19.5).
 pub fn uper_deep_default_is_not_written()
-    ensures whole_default { bytes unaligned (deep 201) (record_of (nested 199 ∷ [])) ≡ Some (0x00 ∷ []) }
+    ensures default_of_199_levels { bytes unaligned (deep 201) (record_of (nested 199 ∷ [])) ≡ Some (0x00 ∷ []) }
     ensures shallow { bytes unaligned (deep 128) (record_of (nested 199 ∷ [])) ≡ Some (0x00 ∷ []) }
 {}
 

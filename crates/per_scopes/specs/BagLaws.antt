@@ -18,9 +18,9 @@ use Rattle.per_scopes.specs.Rules.{decoder_rules}
 use Rattle.per_scopes.specs.Spelled.{spelled}
 use Rattle.per_scopes.specs.State.{State}
 
--- a list has one row of elements
-one_row : (us vs : List Value) → list_value us ≡ list_value vs → us ≡ vs
-one_row us vs e =
+-- a list has its elements in one way
+one_list : (us vs : List Value) → list_value us ≡ list_value vs → us ≡ vs
+one_list us vs e =
     let f : as_values us ≡ as_values vs = cc in
     sym (values-as_values us) ∙ ap values f ∙ values-as_values vs
 
@@ -29,7 +29,7 @@ bag_took : (a : Settings) (e : Schema) (size : Size) (mark : Bool) (vs : List Va
     → Took (basic a (Schema.list e size mark) (list_value vs)) s t → Took (basic a (Schema.set_of e size mark) (bag_of vs)) s t
 unfolding basic_in
 bag_took a e size mark vs b =
-    took_map (λ p c y. record { of = y.of; is = ap bag_of (one_row vs y.of y.is); spelled = y.spelled }) b
+    took_map (λ p c y. record { of = y.of; is = ap bag_of (one_list vs y.of y.is); spelled = y.spelled }) b
 
 -- the list of a bag that is read
 list_took : (a : Settings) (e : Schema) (size : Size) (mark : Bool) (w : Value) {s t : Bits}

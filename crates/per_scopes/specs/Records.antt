@@ -165,11 +165,11 @@ flag_off optional b q z m n l x = optional_off optional None refl b q z m n l x
 flag_off group b q z m n l x = optional_off group None refl b q z m n l x
 flag_off (default d) b q z m n l x = optional_off (default d) (Some d) refl b q z m n l x
 
-flag_row : (p : Presence) (b : Bool) (s t : Bits) → Took (FlagOf p b) s t → (q : Bits) × (s ≡ q ++ t) × (length q ≡ has_bit p)
-flag_row required b s t x = ([], nothing_took (took_map (λ p c y. y.1) x), refl)
-flag_row optional b s t x = (b ∷ [], exact_took x, refl)
-flag_row group b s t x = (b ∷ [], exact_took x, refl)
-flag_row (default d) b s t x = (b ∷ [], exact_took x, refl)
+flag_bits : (p : Presence) (b : Bool) (s t : Bits) → Took (FlagOf p b) s t → (q : Bits) × (s ≡ q ++ t) × (length q ≡ has_bit p)
+flag_bits required b s t x = ([], nothing_took (took_map (λ p c y. y.1) x), refl)
+flag_bits optional b s t x = (b ∷ [], exact_took x, refl)
+flag_bits group b s t x = (b ∷ [], exact_took x, refl)
+flag_bits (default d) b s t x = (b ∷ [], exact_took x, refl)
 
 -- presence bits are so many
 pub flags_off : (a : Settings) (ps : Parts) (shown : List Bool) (q z m : Bits) → length q ≡ presence_bits ps → Took (Flags (rules a ps) shown) (q ++ z) m → m ≡ z
@@ -182,15 +182,15 @@ flags_off a no_parts (b ∷ bs) q z m l x = absurd x.spelled
 flags_off a (part k p c ps) [] q z m l x = absurd x.spelled
 
 -- and so many were taken
-pub flags_row : (a : Settings) (ps : Parts) (shown : List Bool) (s t : Bits) → Took (Flags (rules a ps) shown) s t → (q : Bits) × (s ≡ q ++ t) × (length q ≡ presence_bits ps)
+pub flags_bits : (a : Settings) (ps : Parts) (shown : List Bool) (s t : Bits) → Took (Flags (rules a ps) shown) s t → (q : Bits) × (s ≡ q ++ t) × (length q ≡ presence_bits ps)
 unfolding rules_in
-flags_row a no_parts [] s t x = ([], nothing_took x, refl)
-flags_row a (part k p c ps) (b ∷ bs) s t x =
+flags_bits a no_parts [] s t x = ([], nothing_took x, refl)
+flags_bits a (part k p c ps) (b ∷ bs) s t x =
     let u = then_took x in
-    let r = flags_row a ps bs u.0 t u.2 in
-    let f = flag_row p b s u.0 u.1 in (f.0 ++ r.0, f.1 ∙ ap (λ z. f.0 ++ z) r.1 ∙ sym (append_assoc f.0 r.0 t), length-append f.0 r.0 ∙ omega (arith, f.2, r.2))
-flags_row a no_parts (b ∷ bs) s t x = absurd x.spelled
-flags_row a (part k p c ps) [] s t x = absurd x.spelled
+    let r = flags_bits a ps bs u.0 t u.2 in
+    let f = flag_bits p b s u.0 u.1 in (f.0 ++ r.0, f.1 ∙ ap (λ z. f.0 ++ z) r.1 ∙ sym (append_assoc f.0 r.0 t), length-append f.0 r.0 ∙ omega (arith, f.2, r.2))
+flags_bits a no_parts (b ∷ bs) s t x = absurd x.spelled
+flags_bits a (part k p c ps) [] s t x = absurd x.spelled
 
 -- any so many are those of some components shown
 pub flags_there : (a : Settings) (ps : Parts) (q : Bits) → length q ≡ presence_bits ps → (shown : List Bool) × ((z : Bits) → Took (Flags (rules a ps) shown) (q ++ z) z)

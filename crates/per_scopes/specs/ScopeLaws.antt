@@ -133,7 +133,7 @@ module _ (ps : Parts) (marker : Bool) (qs : Parts) {s i : State} {w : Outside} (
   behind : (m : State) (rs : List (Option Value)) → ReadsParts decoder_rules ps i rs m → Behind rs m
   behind m rs h =
       let r = read (settings_of s) ps i m rs same_settings h in
-      let d : m.presences ≡ [] = no_more m.presences (let n = r.count in let c = a.row in omega arith) in
+      let d : m.presences ≡ [] = no_more m.presences (let n = r.count in let c = a.presence_count in omega arith) in
       let flags : Took (Flags (rules (settings_of s) ps) r.shown) (i.presences ++ i.bits) i.bits = subst (λ q. Took (Flags (rules (settings_of s) ps) r.shown) (i.presences ++ i.bits) (q ++ i.bits)) d (r.flags i.bits) in
       record {
         root = took_map (λ p c y. record { shown = r.shown; spelled = y }) (took_then flags r.bodies);
@@ -160,7 +160,7 @@ module _ (ps : Parts) (marker : Bool) (qs : Parts) {s i : State} {w : Outside} (
 
   in_part_of : (e : DecodeError) → FaultyFields decoder_rules e ps qs i → Fault (extended ps marker qs) e s
   in_part_of e (faulty_root f) =
-      let d = faulty_in (settings_of s) e ps i same_settings unfailed a.row f in
+      let d = faulty_in (settings_of s) e ps i same_settings unfailed a.presence_count f in
       record {
         codec = d.codec ∙ ap (λ z. z.codec) a.enters.same;
         stands = of_bits e.kind (extended ps marker qs) s d.new (in_root a.extends d.shown a.taken (d.flags i.bits) d.stands);
@@ -214,8 +214,8 @@ module _ (ps : Parts) (marker : Bool) (qs : Parts) {s i : State} {w : Outside} (
       let g = took_agree (bit_agree marker q.extends a.extends) q.bit a.taken in
       let o : Took (Root (rules (settings_of s) ps) q.rs) (i.presences ++ i.bits) q.behind = subst (λ z. Took (Root (rules (settings_of s) ps) q.rs) z q.behind) g.1 q.root in
       let f = then_took (record { front = o.front; joins = o.joins; spelled = o.spelled.spelled }) in
-      let n : f.0 ≡ i.bits = flags_off (settings_of s) ps o.spelled.shown i.presences i.bits f.0 a.row f.1 in
-      let parts = parts_back (settings_of s) ps i o.spelled.shown q.rs i.bits f.0 q.behind same_settings unfailed a.row f.1
+      let n : f.0 ≡ i.bits = flags_off (settings_of s) ps o.spelled.shown i.presences i.bits f.0 a.presence_count f.1 in
+      let parts = parts_back (settings_of s) ps i o.spelled.shown q.rs i.bits f.0 q.behind same_settings unfailed a.presence_count f.1
       (subst (λ z. Took (Bodies (rules (settings_of s) ps) o.spelled.shown q.rs) z q.behind) n f.2) in
       let m : State = with_rest i q.behind [] in
       let x : i.extension ≡ extension_of q.extends = a.shows ∙ ap extension_of (sym g.0) in

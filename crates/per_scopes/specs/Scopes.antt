@@ -60,7 +60,7 @@ pub record Opens (c : Schema) (s : State) (w : Outside) (i : State) : Type 0 whe
   pub deeper : s.levels ≡ suc i.levels
   pub extends : Bool
   pub taken : Took (ExtensionBit (is_extensible c) extends) s.bits (i.presences ++ i.bits)
-  pub row : length i.presences ≡ presence_bits (root_of c)
+  pub presence_count : length i.presences ≡ presence_bits (root_of c)
   pub shows : i.extension ≡ extension_of extends
   pub counts : i.expected ≡ count (additions_of c)
   pub enters : Enters (outside_of i) (with_bits s i.bits) w i

@@ -5,9 +5,9 @@ use Rattle.per_read.specs.State.{settings_of}
 use Rattle.per_read.specs.declared.lengths.Length.TheVariants.{Last}
 use Rattle.per_read.proofs.Calls.{answers, of_short, passes_on, refuses}
 use Rattle.per_read.proofs.Refusals.{faulty_map}
-use Rattle.per_additions.proofs.Maps.{empty_bits, fragment_bits, large_bits, no_large_bits, no_length_no_bits, no_row_no_bits, tested_bits}
+use Rattle.per_additions.proofs.Maps.{empty_bits, fragment_bits, large_bits, no_large_bits, no_length_no_bits, no_front_no_bits, tested_bits}
 use Rattle.per_additions.proofs.Pieces.{gathers}
-use Rattle.per_additions.proofs.Rows.{last_row}
+use Rattle.per_additions.proofs.Fronts.{last_front}
 use Rattle.per_additions.proofs.bitmaps.take_large_bitmap.Goals as goal
 
 pub returns-in_err-count : goal.returns-in_err-count
@@ -22,13 +22,13 @@ returns-then-count-eq0 c =
     let l = subst (λ z. Took (LengthOf (settings_of x) z) x.bits c.take_unconstrained_length.new.self.bits) (c.in-Last.is ∙ ap Last c.if-count-eq0.true) f.ok in
     refuses _ refl (inr (tt, empty_bits _ l))
 
-pub returns-in_err-take_row-in-Last : goal.returns-in_err-take_row-in-Last
-returns-in_err-take_row-in-Last c =
+pub returns-in_err-take_front-in-Last : goal.returns-in_err-take_front-in-Last
+returns-in_err-take_front-in-Last c =
     let x = c.args.reader.now in
     let f = rw c.ahead_of-ahead.ensures at c.in_ok-count.ensures in
     let l = subst (λ z. Took (LengthOf (settings_of x) z) x.bits c.take_unconstrained_length.new.self.bits) c.in-Last.is f.ok in
-    let h = c.in_err-take_row-in-Last.ensures in
-    passes_on _ _ c.from_residual-in_err-take_row-in-Last.ensures.1 refl (inr (of_short _ h.err.0, no_row_no_bits _ c.in-Last.count l h.err.1))
+    let h = c.in_err-take_front-in-Last.ensures in
+    passes_on _ _ c.from_residual-in_err-take_front-in-Last.ensures.1 refl (inr (of_short _ h.err.0, no_front_no_bits _ c.in-Last.count l h.err.1))
 
 pub returns-in_err-take_bit_string-in-Fragment : goal.returns-in_err-take_bit_string-in-Fragment
 returns-in_err-take_bit_string-in-Fragment c =
@@ -39,15 +39,15 @@ returns-in_err-take_bit_string-in-Fragment c =
     passes_on _ _ c.from_residual-in_err-take_bit_string-in-Fragment.ensures.1 h.kept
     (gathers _ _ l (no_large_bits _) (faulty_map _ (tested_bits _ _ _) (λ none. none) h.err))
 
-pub returns-in_ok-take_row-in-Last : goal.returns-in_ok-take_row-in-Last
-returns-in_ok-take_row-in-Last c =
+pub returns-in_ok-take_front-in-Last : goal.returns-in_ok-take_front-in-Last
+returns-in_ok-take_front-in-Last c =
     let x = c.args.reader.now in
     let f = rw c.ahead_of-ahead.ensures at c.in_ok-count.ensures in
     let l = subst (λ z. Took (LengthOf (settings_of x) z) x.bits c.take_unconstrained_length.new.self.bits) c.in-Last.is f.ok in
-    let h = c.in_ok-take_row-in-Last.ensures in
+    let h = c.in_ok-take_front-in-Last.ensures in
     answers _ (h.kept ∙ f.kept) (record {
       flags = _;
-      are = last_row l h.ok;
+      are = last_front l h.ok;
       held = large_bits (settings_of x) c.in-Last.count _ (omega (arith, c.if-count-eq0.false)) l h.ok;
     })
 

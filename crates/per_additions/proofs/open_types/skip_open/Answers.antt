@@ -5,7 +5,7 @@ use Rattle.per_read.proofs.Calls.{answers, of_short, passes_on}
 use Rattle.per_read.proofs.Parts.{items_begin, items_end, items_go_on, no_items_length, no_items_short, small_length}
 use Rattle.per_additions.proofs.Opened.{no_open}
 use Rattle.per_additions.proofs.Pieces.{Anything, skipped}
-use Rattle.per_additions.proofs.Rows.{no_row}
+use Rattle.per_additions.proofs.Fronts.{no_front}
 use Rattle.per_additions.proofs.open_types.skip_open.Goals as goal
 
 pub loop-length-init : goal.loop-length-init
@@ -30,33 +30,33 @@ returns-in-None c =
       kept = t.kept ∙ h.1;
     }
 
-pub returns-in_err-take_row : goal.returns-in_err-take_row
-returns-in_err-take_row c =
+pub returns-in_err-take_front : goal.returns-in_err-take_front
+returns-in_err-take_front c =
     let h = c.loop-length.invariant in
     let t = c.in_ok-length.ensures in
-    let b = c.in_err-take_row.ensures in
+    let b = c.in_err-take_front.ensures in
     let m = c.take_unconstrained_length.new.self.bits in
-    passes_on _ _ c.from_residual-in_err-take_row.ensures.1 (b.kept ∙ t.kept ∙ h.1)
-    (of_short _ b.err.0, λ u. no_open _ _ (no_items_short h.0 octet_items c.in_ok-length.length _ (rw h.1 at t.ok) (λ few. subst (λ (n : ℕ). length m < 8 * n) c.count-more.ensures (no_row b.err.1))))
+    passes_on _ _ c.from_residual-in_err-take_front.ensures.1 (b.kept ∙ t.kept ∙ h.1)
+    (of_short _ b.err.0, λ u. no_open _ _ (no_items_short h.0 octet_items c.in_ok-length.length _ (rw h.1 at t.ok) (λ few. subst (λ (n : ℕ). length m < 8 * n) c.count-more.ensures (no_front b.err.1))))
 
 pub returns-in-Last : goal.returns-in-Last
 returns-in-Last c =
     let h = c.loop-length.invariant in
     let t = c.in_ok-length.ensures in
-    let b = c.in_ok-take_row.ensures in
+    let b = c.in_ok-take_front.ensures in
     let e : c.in-Some.all ≡ c.loop-length.count + c.count-more.result = omega (arith, c.in-Some.ensures) in
     let all = items_end h.0 octet_items c.in-Some.all (rw h.1 at t.ok) c.in-Last.is c.count-more.ensures e (omega (arith, c.in-Some.ensures)) (skipped _ _ b.ok) in
     answers _ (b.kept ∙ t.kept ∙ h.1) (took_map (λ p x y. record { octets = all.codes; are = tt; spelled = y }) all.took)
 
 pub loop-length-smaller : goal.loop-length-smaller
 loop-length-smaller c =
-    let r = c.in_ok-take_row.ensures.ok in
-    omega (arith, (small_length _ c.in_ok-length.ensures.ok).1, ap length r.joins, length-append r.front c.take_row.new.self.bits)
+    let r = c.in_ok-take_front.ensures.ok in
+    omega (arith, (small_length _ c.in_ok-length.ensures.ok).1, ap length r.joins, length-append r.front c.take_front.new.self.bits)
 
 pub loop-length-preserved : goal.loop-length-preserved
 loop-length-preserved c =
     let h = c.loop-length.invariant in
     let t = c.in_ok-length.ensures in
-    let b = c.in_ok-take_row.ensures in
+    let b = c.in_ok-take_front.ensures in
     let e : c.in-Some.all ≡ c.loop-length.count + c.count-more.result = omega (arith, c.in-Some.ensures) in
     (rw e (items_go_on h.0 (rw h.1 at t.ok) c.in_default.is c.count-more.ensures (skipped _ _ b.ok)), b.kept ∙ t.kept ∙ h.1)

@@ -5,9 +5,9 @@ use Rattle.per_read.specs.Lengths.{LengthOf, count_of}
 use Rattle.per_read.specs.State.{settings_of}
 use Rattle.per_read.proofs.Calls.{answers, of_short, passes_on}
 use Rattle.per_read.proofs.Parts.{small_length}
-use Rattle.per_additions.proofs.Pieces.{no_length_no_octets, no_row_no_octets, octets_are, octets_in_place}
+use Rattle.per_additions.proofs.Pieces.{no_length_no_octets, no_front_no_octets, octets_are, octets_in_place}
 use Rattle.per_additions.specs.Stands.{LastTaken}
-use Rattle.per_additions.proofs.Rows.{last_row}
+use Rattle.per_additions.proofs.Fronts.{last_front}
 use Rattle.per_additions.proofs.open_types.take_open.Goals as goal
 
 pub returns-in_err-count : goal.returns-in_err-count
@@ -18,24 +18,24 @@ returns-in_err-count c =
 pub overflow_mul-count : goal.overflow_mul-count
 overflow_mul-count c = omega (arith, (small_length _ c.in_ok-count.ensures.ok).0, ap count_of c.in-Last.is)
 
-pub returns-in_err-take_row-in-Last : goal.returns-in_err-take_row-in-Last
-returns-in_err-take_row-in-Last c =
+pub returns-in_err-take_front-in-Last : goal.returns-in_err-take_front-in-Last
+returns-in_err-take_front-in-Last c =
     let x = c.args.reader.now in
     let f = rw c.ahead_of-ahead.ensures at c.in_ok-count.ensures in
     let l = subst (λ z. Took (LengthOf (settings_of x) z) x.bits c.take_unconstrained_length.new.self.bits) c.in-Last.is f.ok in
-    let h = c.in_err-take_row-in-Last.ensures in
-    passes_on _ _ c.from_residual-in_err-take_row-in-Last.ensures.1 refl (inr (of_short _ h.err.0, no_row_no_octets _ _ l h.err.1))
+    let h = c.in_err-take_front-in-Last.ensures in
+    passes_on _ _ c.from_residual-in_err-take_front-in-Last.ensures.1 refl (inr (of_short _ h.err.0, no_front_no_octets _ _ l h.err.1))
 
-pub returns-in_ok-take_row-in-Last : goal.returns-in_ok-take_row-in-Last
-returns-in_ok-take_row-in-Last c =
+pub returns-in_ok-take_front-in-Last : goal.returns-in_ok-take_front-in-Last
+returns-in_ok-take_front-in-Last c =
     let x = c.args.reader.now in
     let f = rw c.ahead_of-ahead.ensures at c.in_ok-count.ensures in
     let l = subst (λ z. Took (LengthOf (settings_of x) z) x.bits c.take_unconstrained_length.new.self.bits) c.in-Last.is f.ok in
-    let h = c.in_ok-take_row-in-Last.ensures in
-    let y = c.take_row.new.self.bits in
+    let h = c.in_ok-take_front-in-Last.ensures in
+    let y = c.take_front.new.self.bits in
     let e = octets_are c.in-Last.count _ h.ok in
     answers _ (h.kept ∙ f.kept) (record {
       octets = pack c.in-Last.count _;
-      are = subst (λ z. LastTaken (8 * c.in-Last.count) z x.bits y) e (last_row l h.ok);
+      are = subst (λ z. LastTaken (8 * c.in-Last.count) z x.bits y) e (last_front l h.ok);
       held = octets_in_place _ c.in-Last.count _ l h.ok;
     })

@@ -9,7 +9,7 @@ use Rattle.rasn_calls.proofs.Optionals.{bits_counted}
 use Rattle.rasn_calls.specs.Additions.{extended}
 use Rattle.per_de.proofs.Additions.{shapes_counted}
 use Rattle.per_de.proofs.Calls.{too_deep}
-use Rattle.per_de.proofs.Opening.{opens_record, no_bit, no_row}
+use Rattle.per_de.proofs.Opening.{opens_record, no_bit, no_front}
 use Rattle.per_de.proofs.Decoder.open_record.Goals as goal
 
 pub returns-in_err-levels : goal.returns-in_err-levels
@@ -37,7 +37,7 @@ returns-in_err-presences g c =
     let o = c.in_ok-levels.ensures in
     record {
       to_read = λ ps same. record {
-        law = rw (p.1, p.2) (no_row c.IS_EXTENSIBLE.result c.number_of_optional_and_default_fields-count.result c.args.self.now _ _ c.in_ok-levels.levels c.in_ok-extends.extends o.0 o.1 c.in_ok-extends.ensures
+        law = rw (p.1, p.2) (no_front c.IS_EXTENSIBLE.result c.number_of_optional_and_default_fields-count.result c.args.self.now _ _ c.in_ok-levels.levels c.in_ok-extends.extends o.0 o.1 c.in_ok-extends.ensures
             ps g.C.Constructed.additions g.C.Constructed.IS_EXTENSIBLE _ _ c.IS_EXTENSIBLE.ensures (count c.in_ok-levels.levels ∙ sym (same c.in_ok-levels.levels)) c.in_err-presences.ensures);
         behaves = search rules;
       };

@@ -3,7 +3,7 @@ use Rattle.rasn_schema.specs.Schemas.{count}
 use Rattle.per_core.specs.Basic.{ExtensionBit}
 use Rattle.per_core.specs.Took.{Took}
 use Rattle.per_core.proofs.Took.{then_took}
-use Rattle.per_scopes.specs.Records.{flags_row}
+use Rattle.per_scopes.specs.Records.{flags_bits}
 use Rattle.per_scopes.specs.Scopes.{outside_of}
 use Rattle.per_scopes.specs.ScopeLaws.{took_record}
 use Rattle.per_scopes.specs.State.{State, extension_of, settings_of}
@@ -13,7 +13,7 @@ pub returns : goal.returns
 returns c = λ ps qs marker s t v n e b.
     let q = took_record (settings_of s) ps marker qs v s.bits t.bits b.took in
     let f = then_took (record { front = q.root.front; joins = q.root.joins; spelled = q.root.spelled.spelled }) in
-    let z = flags_row (settings_of s) ps q.root.spelled.shown q.middle f.0 f.1 in
+    let z = flags_bits (settings_of s) ps q.root.spelled.shown q.middle f.0 f.1 in
     let i : State = record s { bits = f.0; levels = n; presences = z.0; extension = extension_of q.extends; expected = count qs } in (
       outside_of s,
       i,
@@ -22,7 +22,7 @@ returns c = λ ps qs marker s t v n e b.
         deeper = e;
         extends = q.extends;
         taken = subst (λ y. Took (ExtensionBit marker q.extends) s.bits y) z.1 q.bit;
-        row = z.2;
+        presence_count = z.2;
         shows = refl;
         counts = refl;
         enters = record { waits = refl; same = refl };

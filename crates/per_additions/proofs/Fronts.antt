@@ -1,4 +1,4 @@
--- Octets and bits that are taken as a row of bits.
+-- Octets and bits that are taken from the front.
 use Rattle.std.proofs.Common.{◌≡◌, ◌<◌, ◌≤◌, ◌⊎◌, inl, inr, refl, sym, ap, ◌∙◌, ℕ, zero, suc, ◌*◌, Bool, false, [], ◌∷◌, ◌++◌, length, take, drop, replicate, length-take, length-drop, length-append, arith}
 use Rattle.std.proofs.lemmas.Bool.{cases_lt}
 use Rattle.std.proofs.lemmas.List.{take-append-drop, take-append-le}
@@ -8,16 +8,16 @@ use Rattle.per_core.specs.Spellings.{Spelling}
 use Rattle.per_core.specs.Took.{Took, place}
 use Rattle.per_core.specs.Writers.{after}
 use Rattle.per_read.specs.Kinds.{NoneIn}
-use Rattle.per_read.specs.Takes.{Row}
+use Rattle.per_read.specs.Takes.{Front}
 use Rattle.per_additions.specs.Stands.{LastTaken}
 
--- a row that was taken
-pub row_took : {n : ℕ} {bits s t : Bits} → Took (Row n bits) s t → (length bits ≡ n) × (s ≡ bits ++ t)
-row_took {t = t} a = (a.spelled.0, a.joins ∙ ap (λ z. z ++ t) a.spelled.1)
+-- a front that was taken
+pub front_took : {n : ℕ} {bits s t : Bits} → Took (Front n bits) s t → (length bits ≡ n) × (s ≡ bits ++ t)
+front_took {t = t} a = (a.spelled.0, a.joins ∙ ap (λ z. z ++ t) a.spelled.1)
 
 -- one that isn't there
-pub no_row : {n : ℕ} {s : Bits} → NoneIn (Row n) s → length s < n
-no_row {n} {s} none = go (cases_lt (length s) n)
+pub no_front : {n : ℕ} {s : Bits} → NoneIn (Front n) s → length s < n
+no_front {n} {s} none = go (cases_lt (length s) n)
   where
     go : (length s < n) ⊎ (n ≤ length s) → length s < n
     go (inl h) = h
@@ -27,8 +27,8 @@ no_row {n} {s} none = go (cases_lt (length s) n)
       spelled = (length-take n s ∙ omega arith, refl);
     }))
 
-pub no_row_in : {n : ℕ} {s : Bits} → length s < n → NoneIn (Row n) s
-no_row_in {n} {s} h bits t b = let r = row_took b in omega (arith, r.0, ap length r.1, length-append bits t)
+pub no_front_in : {n : ℕ} {s : Bits} → length s < n → NoneIn (Front n) s
+no_front_in {n} {s} h bits t b = let r = front_took b in omega (arith, r.0, ap length r.1, length-append bits t)
 
 -- whole octets, one after another
 octets_in_row : (n : ℕ) (bits : Bits) → length bits ≡ 8 * n → (p : ℕ) → OneByOne octet (pack n bits) p bits
@@ -45,20 +45,20 @@ octets_in_row (suc n) bits l p = record {
   joins = sym (take-append-drop 8 bits);
 }
 
-pub octets_took : (n : ℕ) (bits : Bits) {s t : Bits} → Took (Row (8 * n) bits) s t → Took (OneByOne octet (pack n bits)) s t
-octets_took n bits {s} {t} a = let r = row_took a in record { front = bits; joins = r.1; spelled = octets_in_row n bits r.0 (place s) }
+pub octets_took : (n : ℕ) (bits : Bits) {s t : Bits} → Took (Front (8 * n) bits) s t → Took (OneByOne octet (pack n bits)) s t
+octets_took n bits {s} {t} a = let r = front_took a in record { front = bits; joins = r.1; spelled = octets_in_row n bits r.0 (place s) }
 
 -- bits, one after another
 bits_in_row : (bits : Bits) (p : ℕ) → OneByOne bit bits p bits
 bits_in_row [] p = refl
 bits_in_row (b ∷ bits) p = record { front = b ∷ []; rest = bits; is_front = refl; is_rest = bits_in_row bits (after p (b ∷ [])); joins = refl }
 
-pub bits_took : (n : ℕ) (bits : Bits) {s t : Bits} → Took (Row n bits) s t → Took (OneByOne bit bits) s t
-bits_took n bits {s} {t} a = let r = row_took a in record { front = bits; joins = r.1; spelled = bits_in_row bits (place s) }
+pub bits_took : (n : ℕ) (bits : Bits) {s t : Bits} → Took (Front n bits) s t → Took (OneByOne bit bits) s t
+bits_took n bits {s} {t} a = let r = front_took a in record { front = bits; joins = r.1; spelled = bits_in_row bits (place s) }
 
--- a row behind something else is what was taken last
-pub last_row : {f : Spelling} {n : ℕ} {bits s m t : Bits} → Took f s m → Took (Row n bits) m t → LastTaken n bits s t
-last_row a b = let r = row_took b in record { before = a.front; joins = a.joins ∙ ap (λ z. a.front ++ z) r.1; wide = r.0 }
+-- a front behind something else is what was taken last
+pub last_front : {f : Spelling} {n : ℕ} {bits s m t : Bits} → Took f s m → Took (Front n bits) m t → LastTaken n bits s t
+last_front a b = let r = front_took b in record { before = a.front; joins = a.joins ∙ ap (λ z. a.front ++ z) r.1; wide = r.0 }
 
 -- and behind one more bit
 pub last_behind : {n : ℕ} {bits s m t : Bits} (b : Bool) → s ≡ b ∷ m → LastTaken n bits m t → LastTaken n bits s t
