@@ -10,8 +10,8 @@ use per_samples_e::nest::Nest;
 use per_samples_f::grouped::Grouped;
 use per_samples_f::one_needed::OneNeeded;
 use per_samples_h::alt1::Alt1;
-use rasn_below::codec::{Decode, Decoder as _, Encoder as _};
-use rasn_below::types::{Date, Identifier, Tag, UtcTime, Utf8String};
+use rasn_below::codec::{Decode, Decoder as _, Encoder as AnyEncoder};
+use rasn_below::types::{Date, Identifier, Integer, Tag, UtcTime, Utf8String, VisibleString};
 use rasn_below::{Constraints, constraints};
 use rasn_per::bits::BitReader;
 use rasn_per::per::de::{DecodeError, Decoder, DecoderOptions};
@@ -152,6 +152,60 @@ fn writes_nothing_behind_a_value_that_it_refused(rt: HostRuntime) {
     let mut real = encoder(rt.alloc());
     let error = real.encode_real(Tag::REAL, &Constraints::NONE, NONE).err();
     expect_unwritten(&rt, &mut real, error, "RealNotSupported");
+}
+
+const FROM_0: Constraints = Constraints(constraints!(0..));
+
+/// 2 to the 127th, which passes an `i128`.
+const PAST_127_BITS: &[u8] = &[
+    0x00, 0x80, 0x00, 0x00, 0x00, 0x00, 0x00, 0x00, 0x00, 0x00, 0x00, 0x00, 0x00, 0x00, 0x00, 0x00,
+    0x00,
+];
+
+/// Why an encoder refuses 2 to the 127th under a lower bound of 0.
+fn refusal_of_number(alloc: Global, encoder: &mut Encoder<Global>) -> Option<EncodeError> {
+    let number = Integer::from_signed_octets(alloc, PAST_127_BITS).ok()?;
+    encoder
+        .encode_integer::<Integer>(Tag::INTEGER, &FROM_0, &number, NONE)
+        .err()
+}
+
+const A_TO_E: &[u32] = &[65, 66, 67, 68, 69];
+
+const FROM_A_TO_E: Constraints = Constraints(constraints!(FROM A_TO_E));
+
+/// Why an encoder refuses "F" where the characters are those from A to E.
+fn refusal_of_text(alloc: Global, encoder: &mut Encoder<Global>) -> Option<EncodeError> {
+    let letter = Vec::from_slice(alloc, b"F").ok()?;
+    let text = VisibleString::from_iso646_bytes(letter)?;
+    encoder
+        .encode_visible_string(Tag::VISIBLE_STRING, &FROM_A_TO_E, &text, NONE)
+        .err()
+}
+
+/// TRUE in a CHOICE { a BOOLEAN, ... } by the tag of BOOLEAN, which no alternative has.
+fn put_by_another_tag<E: AnyEncoder>(encoder: &mut E) -> Result<(), E::Error> {
+    let outside = encoder.open_choice::<Alt1>(Tag::EOC, NONE)?;
+    encoder.encode_bool(Tag::BOOL, true, NONE)?;
+    encoder.close_choice::<Alt1>(outside, Tag::BOOL)
+}
+
+#[test]
+fn writes_nothing_behind_what_has_no_encoding(rt: HostRuntime) {
+    let mut number = encoder(rt.alloc());
+    let error = refusal_of_number(rt.alloc(), &mut number);
+    expect_unwritten(&rt, &mut number, error, "IntegerTypeConversionFailed");
+    let mut text = encoder(rt.alloc());
+    let error = refusal_of_text(rt.alloc(), &mut text);
+    expect_unwritten(&rt, &mut text, error, "AlphabetConstraintNotSatisfied");
+    let mut choice = encoder(rt.alloc());
+    let error = put_by_another_tag(&mut choice).err();
+    expect_unwritten(&rt, &mut choice, error, "VariantNotInChoice");
+    let mut object = encoder(rt.alloc());
+    let error = object
+        .encode_object_identifier(Tag::OBJECT_IDENTIFIER, &[3], NONE)
+        .err();
+    expect_unwritten(&rt, &mut object, error, "Below");
 }
 
 #[test]

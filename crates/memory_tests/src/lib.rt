@@ -9,4 +9,6 @@ mod each_row;
 #[cfg(test)]
 mod failures;
 #[cfg(test)]
+mod levels;
+#[cfg(test)]
 mod memory;

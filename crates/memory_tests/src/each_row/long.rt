@@ -1,4 +1,4 @@
-//! Rows of more than 64 octets, and one of 16384 characters of no bits.
+//! Rows of more than 64 octets, and two of 16384 and 65536 characters of no bits.
 
 use crate::each_call::is_any_refused;
 use per_samples_b::strings::OnlyX;
@@ -51,6 +51,9 @@ const ADDITION: Long = (&[0xc0, 0x70], 16384, &[0x40, 0x00]);
 /// A fragment of 16384 characters, and none more.
 const CHARACTERS: Long = (&[0xc1, 0x00], 0, &[]);
 
+/// A fragment of 65536 characters, and none more.
+const MORE_CHARACTERS: Long = (&[0xc4, 0x00], 0, &[]);
+
 /// Whether a call for one of the rows was refused.
 fn is_one_refused(rt: &impl Abort, alloc: Global) -> bool {
     is_refused::<OctetString>(rt, alloc, Uper, ONE_COUNT)
@@ -60,6 +63,7 @@ fn is_one_refused(rt: &impl Abort, alloc: Global) -> bool {
         || is_refused::<Outer1>(rt, alloc, Aper, ALIGNED_ADDITION)
         || is_refused::<BeforeNest>(rt, alloc, Uper, ADDITION)
         || is_refused::<OnlyX>(rt, alloc, Uper, CHARACTERS)
+        || is_refused::<OnlyX>(rt, alloc, Uper, MORE_CHARACTERS)
 }
 
 #[test]
