@@ -54,11 +54,30 @@ const CHARACTERS: Long = (&[0xc1, 0x00], 0, &[]);
 /// A fragment of 65536 characters, and none more.
 const MORE_CHARACTERS: Long = (&[0xc4, 0x00], 0, &[]);
 
+/// 99,000 records of eight BOOLEAN, in fragments of 65536 and 32768 and a rest of 696.
+fn records(alloc: Global) -> Result<Vec<u8>, AllocError> {
+    let mut octets = octets_of(alloc, (&[0xc4], 65536, &[0xc2]))?;
+    let fragment = octets_of(alloc, (&[], 32768, &[0x82, 0xb8]))?;
+    octets.extend_from_slice(fragment.as_slice())?;
+    let rest = octets_of(alloc, (&[], 696, &[]))?;
+    octets.extend_from_slice(rest.as_slice())?;
+    Ok(octets)
+}
+
+/// Whether a call for these records was refused, or the room for their octets.
+fn are_records_refused(rt: &impl Abort, alloc: Global) -> bool {
+    match records(alloc) {
+        Ok(octets) => is_any_refused::<Bytes>(rt, alloc, Uper, octets.as_slice()),
+        Err(_) => true,
+    }
+}
+
 /// Whether a call for one of the rows was refused.
 fn is_one_refused(rt: &impl Abort, alloc: Global) -> bool {
     is_refused::<OctetString>(rt, alloc, Uper, ONE_COUNT)
         || is_refused::<OctetString>(rt, alloc, Uper, FRAGMENT)
         || is_refused::<Bytes>(rt, alloc, Uper, ONE_COUNT)
+        || are_records_refused(rt, alloc)
         || is_refused::<BitString>(rt, alloc, Aper, BITS)
         || is_refused::<Outer1>(rt, alloc, Aper, ALIGNED_ADDITION)
         || is_refused::<BeforeNest>(rt, alloc, Uper, ADDITION)
