@@ -1,5 +1,5 @@
-//! The items that one call of a decoder reads, and the bits that it takes: what the facts that its clause is made of say
-//! in the words of the call. Each law is the contract of a function that does nothing.
+//! The items that one call of a decoder reads, and the bits that it takes: what the facts that its clause is made of
+//! say in the words of the call. Each law is the contract of a function that does nothing.
 
 ghost use Rattle.std.specs.Prelude.{◌≡◌, ◌≤◌, ◌⊎◌, ◌-◌, ℕ, length, Option, Some, Ok};
 ghost use Rattle.rasn_types.specs.Values.{Value};
