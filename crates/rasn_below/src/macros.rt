@@ -141,8 +141,8 @@ macro_rules! decode_components {
         $presence:ident $tag:literal $(of $tree:ident)? $name:literal
         $field:ident: $type:ty [$($bounds:tt)*];
     )*) => {{
-        let cells = $crate::listed!($crate::cells_to_read!($($presence $type [$($bounds)*];)*));
-        let $crate::pairs!($($field)*) = $crate::read::all::<Self, _, _>(&cells, $decoder)?;
+        let cells = $crate::cells_to_read!($($presence $type [$($bounds)*];)*);
+        let $crate::pairs!($($field)*) = $crate::read::all::<Self, _, _>(&cells, BOUNDS, $decoder)?;
         Ok(Self { $($field),* })
     }};
 }
@@ -246,15 +246,52 @@ macro_rules! cells_to_write {
     };
 }
 
-/// The components of a list as cells to read.
+/// The components of a list as cells to read: the value of their type, where none has a default.
 #[macro_export]
 macro_rules! cells_to_read {
+    ($($list:tt)*) => { $crate::read_by_type!([$($list)*] []; $($list)*) };
+}
+
+/// The cells of a list, by the types of those that are done, the last one first.
+#[macro_export]
+macro_rules! read_by_type {
+    ($list:tt [$($done:tt)*];) => { $crate::cells_of_types!([$crate::cells::End] $($done)*) };
+    ([$($list:tt)*] $done:tt; default $($rest:tt)*) => { $crate::read_by_value!($($list)*) };
+    ($list:tt [$($done:tt)*]; $presence:ident $type:ty [$($bounds:tt)*]; $($rest:tt)*) => {
+        $crate::read_by_type!($list [$presence $type; $($done)*]; $($rest)*)
+    };
+}
+
+/// The value of cells of these types, the last one first, in front of those that are done.
+#[macro_export]
+macro_rules! cells_of_types {
+    ([$($cells:tt)*]) => { <$($cells)* as $crate::cells::ByType>::VALUE };
+    ([$($cells:tt)*] required $type:ty; $($rest:tt)*) => {
+        $crate::cells_of_types!([
+            $crate::cells::Cell<$crate::components::Required<std::marker::PhantomData<$type>>, $($cells)*>
+        ] $($rest)*)
+    };
+    ([$($cells:tt)*] optional $type:ty; $($rest:tt)*) => {
+        $crate::cells_of_types!([
+            $crate::cells::Cell<$crate::components::Optional<std::marker::PhantomData<$type>>, $($cells)*>
+        ] $($rest)*)
+    };
+    ([$($cells:tt)*] group $type:ty; $($rest:tt)*) => {
+        $crate::cells_of_types!([
+            $crate::cells::Cell<$crate::additions::Group<std::marker::PhantomData<$type>>, $($cells)*>
+        ] $($rest)*)
+    };
+}
+
+/// The components of a list, one with a default among them, as cells to read.
+#[macro_export]
+macro_rules! read_by_value {
     () => { $crate::cells::End {} };
     ($presence:ident $type:ty [$($bounds:tt)*]; $($rest:tt)*) => {
         $crate::cell!(
             $presence [$($bounds)*],
             std::marker::PhantomData::<$type>,
-            $crate::cells_to_read!($($rest)*)
+            $crate::read_by_value!($($rest)*)
         )
     };
 }

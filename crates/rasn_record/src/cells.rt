@@ -10,13 +10,15 @@ ghost use Rattle.rasn_schema.specs.Fields.{Shape, shape_of, tag_of, tagged};
 ghost use Rattle.rasn_calls.specs.Scopes.{WritesParts, TakesParts};
 ghost use Rattle.rasn_record.specs.Lists.{behind, first_tag, first_tree, first_given, given};
 
-use crate::components::{DecodeComponent, EncodeComponent};
+use crate::additions::Group;
+use crate::components::{DecodeComponent, EncodeComponent, Optional, Required};
 use rasn_calls::parts::{DecodeParts, EncodeParts};
 use rasn_codec::codec::{Decoder, Encoder};
 use rasn_schema::constraints::Constraint;
 use rasn_schema::fields::Field;
 use rasn_schema::schema::{AsnType, Constraints};
 use rasn_types::types::Tag;
+use std::marker::PhantomData;
 
 /// Components of a record that are still to be written, of which lists state the tags and the constraints.
 pub trait EncodeCells {
@@ -75,6 +77,12 @@ pub struct Cell<C, N> {
     pub next: N,
 }
 
+/// Cells to read that hold no value, so that their type says all of them: none has a default.
+pub trait ByType: Sized {
+    /// The only value.
+    const VALUE: Self;
+}
+
 /// Components of a record, and the lists that state their tags and constraints. A component that isn't in a list has
 /// its type's own tag; one that isn't in a list, or has none there, has its type's own constraints.
 #[derive(Clone, Copy)]
@@ -125,6 +133,29 @@ pub(crate) fn behind<T>(list: &[T]) -> &[T]
         [_, behind @ ..] => behind,
         [] => list,
     }
+}
+
+impl ByType for End {
+    const VALUE: End = End {};
+}
+
+impl<C: ByType, N: ByType> ByType for Cell<C, N> {
+    const VALUE: Cell<C, N> = Cell {
+        component: C::VALUE,
+        next: N::VALUE,
+    };
+}
+
+impl<H> ByType for Required<PhantomData<H>> {
+    const VALUE: Required<PhantomData<H>> = Required(PhantomData);
+}
+
+impl<H> ByType for Optional<PhantomData<H>> {
+    const VALUE: Optional<PhantomData<H>> = Optional(PhantomData);
+}
+
+impl<H> ByType for Group<PhantomData<H>> {
+    const VALUE: Group<PhantomData<H>> = Group(PhantomData);
 }
 
 impl EncodeCells for End {

@@ -7,7 +7,7 @@ ghost use Rattle.rasn_schema.specs.Components.{parts_of, tags_at, presence_at, s
 ghost use Rattle.rasn_calls.specs.Scopes.{TakesParts};
 ghost use Rattle.rasn_record.specs.Lists.{first_given};
 
-use rasn_calls::parts::DecodeParts;
+use crate::cells::DecodeCells;
 use rasn_codec::codec::Decoder;
 use rasn_schema::components::Components;
 use rasn_schema::constraints::Constraint;
@@ -38,13 +38,15 @@ pub fn value<T: Components, H: AsnType>(of: &T, place: usize, value: &H)
     let _ = value;
 }
 
-/// Reads all components of a record in turn.
-pub fn all<T: Components, P: DecodeParts, D: Decoder>(
+/// Reads all components of a record in turn, by the record's own fields and the constraints of a list.
+pub fn all<T: Components, P: DecodeCells, D: Decoder>(
     cells: &P,
+    constraints: &[&'static [Constraint]],
     decoder: &mut D,
 ) -> Result<P::Values, D::Error>
-    requires components { (n : ℕ) → parts_of T.components n ≡ P.parts cells.now n }
+    requires components { (n : ℕ) → parts_of T.components n ≡ P.parts cells.now T.COMPONENTS constraints.now n }
     ensures { TakesParts D.rules (parts_of T.components) P.contents decoder.old result decoder.new }
 {
-    cells.decode_parts(decoder)
+    let fields = T::COMPONENTS;
+    cells.decode_cells(fields.list, constraints, decoder)
 }
