@@ -64,7 +64,7 @@ macro_rules! encode_extended {
             &$crate::listed!($crate::cells_to_write!(
                 $of $($presence $number $(of $tree)? $name $field: $type [$($bounds)*];)*
             )),
-            &$crate::listed_behind!($crate::cells_to_write!($of $($behind)*)),
+            &$crate::listed_behind!($crate::additions_to_write!($of $($behind)*)),
             $identifier,
         )
     };
@@ -83,9 +83,9 @@ macro_rules! decode_extended {
     )*) => {{
         let root = $crate::listed!($crate::cells_to_read!($($presence $type [$($bounds)*];)*));
         let added = $crate::listed_behind!(
-            $crate::cells_to_read!($($presence_behind $type_behind [$($bounds_behind)*];)*)
+            $crate::additions_to_read!($($presence_behind $type_behind [$($bounds_behind)*];)*)
         );
-        let ($crate::pairs!($($field)*), $crate::pairs!($($field_behind)*)) =
+        let ($crate::fours!($($field)*), $crate::pairs!($($field_behind)*)) =
             $decoder.decode_record::<Self, _, _>($tag, &root, &added)?;
         Ok(Self { $($field,)* $($field_behind,)* })
     }};

@@ -18,7 +18,7 @@ pub use rasn_codec::alternatives::CodedAlternatives;
 pub use rasn_codec::codec::{Decode, Decoder, Encode, Encoder};
 pub use rasn_codec::kinds::ByKind;
 pub use rasn_codec::record::Record;
-pub use rasn_record::{additions, alternatives, cells, components, read, write};
+pub use rasn_record::{additions, alternatives, cells, components, fours, read, write};
 pub use rasn_schema::alternatives::{Alternatives, ChoiceKind};
 pub use rasn_schema::choices::{Variant, Variants};
 pub use rasn_schema::components::Components;

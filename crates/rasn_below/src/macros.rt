@@ -142,7 +142,7 @@ macro_rules! decode_components {
         $field:ident: $type:ty [$($bounds:tt)*];
     )*) => {{
         let cells = $crate::cells_to_read!($($presence $type [$($bounds)*];)*);
-        let $crate::pairs!($($field)*) = $crate::read::all::<Self, _, _>(&cells, BOUNDS, $decoder)?;
+        let $crate::fours!($($field)*) = $crate::read::all::<Self, _, _>(&cells, BOUNDS, $decoder)?;
         Ok(Self { $($field),* })
     }};
 }
@@ -236,6 +236,25 @@ macro_rules! cells_to_write {
     ($of:ident) => { $crate::cells::End {} };
     ($of:ident
         $presence:ident $tag:literal $(of $tree:ident)? $name:literal
+        $field:ident: $type:ty [$($bounds:tt)*];
+        $presence_2:ident $tag_2:literal $(of $tree_2:ident)? $name_2:literal
+        $field_2:ident: $type_2:ty [$($bounds_2:tt)*];
+        $presence_3:ident $tag_3:literal $(of $tree_3:ident)? $name_3:literal
+        $field_3:ident: $type_3:ty [$($bounds_3:tt)*];
+        $presence_4:ident $tag_4:literal $(of $tree_4:ident)? $name_4:literal
+        $field_4:ident: $type_4:ty [$($bounds_4:tt)*];
+        $($rest:tt)*
+    ) => {
+        $crate::fours::Four {
+            first: $crate::component!($presence [$($bounds)*], &$of.$field),
+            second: $crate::component!($presence_2 [$($bounds_2)*], &$of.$field_2),
+            third: $crate::component!($presence_3 [$($bounds_3)*], &$of.$field_3),
+            fourth: $crate::component!($presence_4 [$($bounds_4)*], &$of.$field_4),
+            next: $crate::cells_to_write!($of $($rest)*),
+        }
+    };
+    ($of:ident
+        $presence:ident $tag:literal $(of $tree:ident)? $name:literal
         $field:ident: $type:ty [$($bounds:tt)*]; $($rest:tt)*
     ) => {
         $crate::cell!(
@@ -246,52 +265,121 @@ macro_rules! cells_to_write {
     };
 }
 
+/// The additions of a list as cells to write.
+#[macro_export]
+macro_rules! additions_to_write {
+    ($of:ident) => { $crate::cells::End {} };
+    ($of:ident
+        $presence:ident $tag:literal $(of $tree:ident)? $name:literal
+        $field:ident: $type:ty [$($bounds:tt)*]; $($rest:tt)*
+    ) => {
+        $crate::cell!(
+            $presence [$($bounds)*],
+            &$of.$field,
+            $crate::additions_to_write!($of $($rest)*)
+        )
+    };
+}
+
 /// The components of a list as cells to read: the value of their type, where none has a default.
 #[macro_export]
 macro_rules! cells_to_read {
-    ($($list:tt)*) => { $crate::read_by_type!([$($list)*] []; $($list)*) };
+    ($($list:tt)*) => { $crate::read_by_type!(cells_in_fours values_in_fours [$($list)*] []; $($list)*) };
 }
 
-/// The cells of a list, by the types of those that are done, the last one first.
+/// The additions of a list as cells to read: the value of their type, where none has a default.
+#[macro_export]
+macro_rules! additions_to_read {
+    ($($list:tt)*) => { $crate::read_by_type!(cells_in_turn values_in_turn [$($list)*] []; $($list)*) };
+}
+
+/// The cells of a list by the types of its components, or by values where one has a default.
 #[macro_export]
 macro_rules! read_by_type {
-    ($list:tt [$($done:tt)*];) => { $crate::cells_of_types!([$crate::cells::End] $($done)*) };
-    ([$($list:tt)*] $done:tt; default $($rest:tt)*) => { $crate::read_by_value!($($list)*) };
-    ($list:tt [$($done:tt)*]; $presence:ident $type:ty [$($bounds:tt)*]; $($rest:tt)*) => {
-        $crate::read_by_type!($list [$presence $type; $($done)*]; $($rest)*)
+    ($by_type:ident $by_value:ident $list:tt [$($done:tt)*];) => { $crate::$by_type!([] $($done)*) };
+    ($by_type:ident $by_value:ident [$($list:tt)*] $done:tt; default $($rest:tt)*) => {
+        $crate::$by_value!($($list)*)
+    };
+    ($by_type:ident $by_value:ident $list:tt [$($done:tt)*]; required $type:ty [$($bounds:tt)*]; $($rest:tt)*) => {
+        $crate::read_by_type!($by_type $by_value $list [
+            $($done)* [$crate::components::Required<std::marker::PhantomData<$type>>]
+        ]; $($rest)*)
+    };
+    ($by_type:ident $by_value:ident $list:tt [$($done:tt)*]; optional $type:ty [$($bounds:tt)*]; $($rest:tt)*) => {
+        $crate::read_by_type!($by_type $by_value $list [
+            $($done)* [$crate::components::Optional<std::marker::PhantomData<$type>>]
+        ]; $($rest)*)
+    };
+    ($by_type:ident $by_value:ident $list:tt [$($done:tt)*]; group $type:ty [$($bounds:tt)*]; $($rest:tt)*) => {
+        $crate::read_by_type!($by_type $by_value $list [
+            $($done)* [$crate::additions::Group<std::marker::PhantomData<$type>>]
+        ]; $($rest)*)
     };
 }
 
-/// The value of cells of these types, the last one first, in front of those that are done.
+/// The value of cells of these types, four at a time, which are put in brackets, the last ones first.
 #[macro_export]
-macro_rules! cells_of_types {
+macro_rules! cells_in_fours {
+    ([$($done:tt)*] $first:tt $second:tt $third:tt $fourth:tt $($rest:tt)*) => {
+        $crate::cells_in_fours!([[$first $second $third $fourth] $($done)*] $($rest)*)
+    };
+    ([$($done:tt)*] $first:tt $($rest:tt)*) => { $crate::cells_in_fours!([[$first] $($done)*] $($rest)*) };
+    ([$($done:tt)*]) => { $crate::value_of_cells!([$crate::cells::End] $($done)*) };
+}
+
+/// The value of cells of these types, which are put in brackets, the last one first.
+#[macro_export]
+macro_rules! cells_in_turn {
+    ([$($done:tt)*] $first:tt $($rest:tt)*) => { $crate::cells_in_turn!([[$first] $($done)*] $($rest)*) };
+    ([$($done:tt)*]) => { $crate::value_of_cells!([$crate::cells::End] $($done)*) };
+}
+
+/// The value of cells of these types, the last ones first, in front of those that are done.
+#[macro_export]
+macro_rules! value_of_cells {
     ([$($cells:tt)*]) => { <$($cells)* as $crate::cells::ByType>::VALUE };
-    ([$($cells:tt)*] required $type:ty; $($rest:tt)*) => {
-        $crate::cells_of_types!([
-            $crate::cells::Cell<$crate::components::Required<std::marker::PhantomData<$type>>, $($cells)*>
-        ] $($rest)*)
+    ([$($cells:tt)*] [[$($only:tt)*]] $($rest:tt)*) => {
+        $crate::value_of_cells!([$crate::cells::Cell<$($only)*, $($cells)*>] $($rest)*)
     };
-    ([$($cells:tt)*] optional $type:ty; $($rest:tt)*) => {
-        $crate::cells_of_types!([
-            $crate::cells::Cell<$crate::components::Optional<std::marker::PhantomData<$type>>, $($cells)*>
-        ] $($rest)*)
-    };
-    ([$($cells:tt)*] group $type:ty; $($rest:tt)*) => {
-        $crate::cells_of_types!([
-            $crate::cells::Cell<$crate::additions::Group<std::marker::PhantomData<$type>>, $($cells)*>
-        ] $($rest)*)
+    ([$($cells:tt)*] [[$($a:tt)*] [$($b:tt)*] [$($c:tt)*] [$($d:tt)*]] $($rest:tt)*) => {
+        $crate::value_of_cells!([$crate::fours::Four<$($a)*, $($b)*, $($c)*, $($d)*, $($cells)*>] $($rest)*)
     };
 }
 
 /// The components of a list, one with a default among them, as cells to read.
 #[macro_export]
-macro_rules! read_by_value {
+macro_rules! values_in_fours {
+    () => { $crate::cells::End {} };
+    ($presence:ident $type:ty [$($bounds:tt)*]; $presence_2:ident $type_2:ty [$($bounds_2:tt)*];
+        $presence_3:ident $type_3:ty [$($bounds_3:tt)*]; $presence_4:ident $type_4:ty [$($bounds_4:tt)*];
+        $($rest:tt)*
+    ) => {
+        $crate::fours::Four {
+            first: $crate::component!($presence [$($bounds)*], std::marker::PhantomData::<$type>),
+            second: $crate::component!($presence_2 [$($bounds_2)*], std::marker::PhantomData::<$type_2>),
+            third: $crate::component!($presence_3 [$($bounds_3)*], std::marker::PhantomData::<$type_3>),
+            fourth: $crate::component!($presence_4 [$($bounds_4)*], std::marker::PhantomData::<$type_4>),
+            next: $crate::values_in_fours!($($rest)*),
+        }
+    };
+    ($presence:ident $type:ty [$($bounds:tt)*]; $($rest:tt)*) => {
+        $crate::cell!(
+            $presence [$($bounds)*],
+            std::marker::PhantomData::<$type>,
+            $crate::values_in_fours!($($rest)*)
+        )
+    };
+}
+
+/// The additions of a list, one with a default among them, as cells to read.
+#[macro_export]
+macro_rules! values_in_turn {
     () => { $crate::cells::End {} };
     ($presence:ident $type:ty [$($bounds:tt)*]; $($rest:tt)*) => {
         $crate::cell!(
             $presence [$($bounds)*],
             std::marker::PhantomData::<$type>,
-            $crate::read_by_value!($($rest)*)
+            $crate::values_in_turn!($($rest)*)
         )
     };
 }
@@ -381,7 +469,17 @@ macro_rules! stated_as_read {
     }};
 }
 
-/// The fields of a record as pairs of the first and of those behind it.
+/// The fields of a record as they are read, four at a time.
+#[macro_export]
+macro_rules! fours {
+    () => { () };
+    ($first:ident $second:ident $third:ident $fourth:ident $($rest:ident)*) => {
+        ($first, $second, $third, $fourth, $crate::fours!($($rest)*))
+    };
+    ($first:ident $($rest:ident)*) => { ($first, $crate::fours!($($rest)*)) };
+}
+
+/// The additions of a record as pairs of the first and of those behind it.
 #[macro_export]
 macro_rules! pairs {
     () => { () };

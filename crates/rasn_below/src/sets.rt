@@ -21,7 +21,7 @@ macro_rules! decode_set_components {
         $field:ident: $type:ty [$($bounds:tt)*];
     )*) => {{
         let cells = $crate::listed!($crate::cells_to_read!($($presence $type [$($bounds)*];)*));
-        let $crate::pairs!($($field)*) = $crate::ordered::read_all::<Self, _, _>(&cells, $decoder)?;
+        let $crate::fours!($($field)*) = $crate::ordered::read_all::<Self, _, _>(&cells, $decoder)?;
         Ok(Self { $($field),* })
     }};
 }

@@ -1,5 +1,5 @@
 -- One component in front of those behind it.
-use Rattle.std.proofs.Common.{◌≡◌, refl, inl, inr, ℕ, Bool, true, false, nat_eq, if◌then◌else◌, Result, Ok, Err, List, ◌∷◌, Option, Some, None}
+use Rattle.std.proofs.Common.{◌≡◌, ◌≤◌, arith, refl, inl, inr, ℕ, max, Bool, true, false, nat_eq, if◌then◌else◌, Result, Ok, Err, List, ◌∷◌, Option, Some, None}
 use Rattle.std.specs.Prelude.{pos}
 use mathlib.Core.Bool.{beq}
 use Rattle.rasn_types.specs.Values.{Value, truth, whole, same, code}
@@ -39,6 +39,24 @@ part_normal t optional s ps (Some v) rs h = refl
 part_normal t group s ps r rs h = absurd h
 part_normal t (default d) s ps None rs h = refl
 part_normal t (default d) s ps (Some v) rs h = refl
+
+-- a bound of the greater of two is one of each
+pub bounds_left : (a b n : ℕ) → max a b ≤ n → a ≤ n
+bounds_left a b n h = omega arith
+
+pub bounds_right : (a b n : ℕ) → max a b ≤ n → b ≤ n
+bounds_right a b n h = omega arith
+
+-- a component that is presented, and what is written behind it, by their normal forms
+pub next_written : {E X : Type 0} (rules : EncoderRules E X) → PresentsWell rules → (t : TagTree) (p : Presence) (s : Schema) (ps : Parts) (x m : X) (r : Option Value) (rs : List (Option Value)) → IsComponent p
+    → PresentsPart rules p s x (normal_slot s r) m → (result : Result (Unit {0}) E) (y : X) → WrittenParts rules ps (normals ps rs) m result y
+    → WrittenParts rules (part t p s ps) (normals (part t p s ps) (r ∷ rs)) x result y
+next_written rules L t p s ps x m r rs h a result y w = rw (part_normal t p s ps r rs h) (part_written rules L t p s ps x m (normal_slot s r) (normals ps rs) a result y w)
+
+-- one that is refused, by its normal form
+pub next_refused : {E X : Type 0} (rules : EncoderRules E X) → (t : TagTree) (p : Presence) (s : Schema) (ps : Parts) (x y : X) (r : Option Value) (rs : List (Option Value)) (e : E) → IsComponent p
+    → WrittenPart rules p s (normal_slot s r) x (Err e) y → WrittenParts rules (part t p s ps) (normals (part t p s ps) (r ∷ rs)) x (Err e) y
+next_refused rules t p s ps x y r rs e h w = rw (part_normal t p s ps r rs h) (part_refused rules t p s ps x y (normal_slot s r) (normals ps rs) e w)
 
 -- a required component is written as its value
 pub value_written : {E X : Type 0} (rules : EncoderRules E X) (s : Schema) (v : Value) (x : X) (result : Result (Unit {0}) E) (y : X) → Written rules s v x result y → WrittenPart rules required s (Some v) x result y

@@ -7,5 +7,6 @@ pub mod additions;
 pub mod alternatives;
 pub mod cells;
 pub mod components;
+pub mod fours;
 pub mod read;
 pub mod write;

@@ -1,0 +1,151 @@
+//! Four components at a time, so that the types of long lists stay short.
+
+ghost use Rattle.std.specs.Prelude.{ℕ, max, List, ◌∷◌, Option};
+ghost use Rattle.std.specs.Borrow.{Bor};
+ghost use Rattle.rasn_types.specs.Values.{Value};
+ghost use Rattle.rasn_constraints.specs.declared.constraints.Constraint.{Constraint};
+ghost use Rattle.rasn_schema.specs.Schemas.{Parts, part};
+ghost use Rattle.rasn_schema.specs.Records.{own_or};
+ghost use Rattle.rasn_schema.specs.Fields.{Shape, tagged};
+ghost use Rattle.rasn_calls.specs.Scopes.{TakesParts, WritesParts};
+ghost use Rattle.rasn_record.specs.Lists.{behind, first_given, first_tree};
+
+use crate::cells::{ByType, DecodeCells, EncodeCells, behind, first_tag, given_or_own};
+use crate::components::{DecodeComponent, EncodeComponent};
+use rasn_codec::codec::{Decoder, Encoder};
+use rasn_schema::constraints::Constraint;
+use rasn_schema::fields::Field;
+use rasn_schema::schema::AsnType;
+
+/// Four components, and those behind them.
+#[derive(Clone, Copy)]
+pub struct Four<A, B, C, D, N> {
+    /// The first component.
+    pub first: A,
+    /// The second one.
+    pub second: B,
+    /// The third one.
+    pub third: C,
+    /// The fourth one.
+    pub fourth: D,
+    /// The components behind them.
+    pub next: N,
+}
+
+impl<A: ByType, B: ByType, C: ByType, D: ByType, N: ByType> ByType for Four<A, B, C, D, N> {
+    const VALUE: Four<A, B, C, D, N> = Four {
+        first: A::VALUE,
+        second: B::VALUE,
+        third: C::VALUE,
+        fourth: D::VALUE,
+        next: N::VALUE,
+    };
+}
+
+impl<A, B, C, D, N> EncodeCells for Four<A, B, C, D, N>
+where
+    A: EncodeComponent,
+    B: EncodeComponent,
+    C: EncodeComponent,
+    D: EncodeComponent,
+    N: EncodeCells,
+{
+    ghost parts = { λ p fs cs n.
+        part (first_tree (tagged A.Of.TAG) fs) (A.presence p.first)
+        (A.Of.schema (own_or A.Of.CONSTRAINTS (first_given cs)) n)
+        (part (first_tree (tagged B.Of.TAG) (behind fs)) (B.presence p.second)
+        (B.Of.schema (own_or B.Of.CONSTRAINTS (first_given (behind cs))) n)
+        (part (first_tree (tagged C.Of.TAG) (behind (behind fs))) (C.presence p.third)
+        (C.Of.schema (own_or C.Of.CONSTRAINTS (first_given (behind (behind cs)))) n)
+        (part (first_tree (tagged D.Of.TAG) (behind (behind (behind fs)))) (D.presence p.fourth)
+        (D.Of.schema (own_or D.Of.CONSTRAINTS (first_given (behind (behind (behind cs))))) n)
+        (N.parts p.next (behind (behind (behind (behind fs)))) (behind (behind (behind (behind cs)))) n)))) };
+
+    ghost contents = { λ p. A.slot p.first ∷ B.slot p.second ∷ C.slot p.third ∷ D.slot p.fourth ∷ N.contents p.next };
+
+    ghost levels = { λ p. max (A.levels p.first) (max (B.levels p.second) (max (C.levels p.third)
+        (max (D.levels p.fourth) (N.levels p.next)))) };
+
+    fn encode_cells<E: Encoder>(
+        &self,
+        fields: &[Field],
+        constraints: &[&'static [Constraint]],
+        encoder: &mut E,
+    ) -> Result<(), E::Error> {
+        let tag = first_tag(fields, <A::Of as AsnType>::TAG);
+        let in_use = given_or_own(constraints, <A::Of as AsnType>::CONSTRAINTS);
+        self.first.encode_component(encoder, tag, &in_use)?;
+        let fields_2 = behind(fields);
+        let constraints_2 = behind(constraints);
+        let tag_2 = first_tag(fields_2, <B::Of as AsnType>::TAG);
+        let in_use_2 = given_or_own(constraints_2, <B::Of as AsnType>::CONSTRAINTS);
+        self.second.encode_component(encoder, tag_2, &in_use_2)?;
+        let fields_3 = behind(fields_2);
+        let constraints_3 = behind(constraints_2);
+        let tag_3 = first_tag(fields_3, <C::Of as AsnType>::TAG);
+        let in_use_3 = given_or_own(constraints_3, <C::Of as AsnType>::CONSTRAINTS);
+        self.third.encode_component(encoder, tag_3, &in_use_3)?;
+        let fields_4 = behind(fields_3);
+        let constraints_4 = behind(constraints_3);
+        let tag_4 = first_tag(fields_4, <D::Of as AsnType>::TAG);
+        let in_use_4 = given_or_own(constraints_4, <D::Of as AsnType>::CONSTRAINTS);
+        self.fourth.encode_component(encoder, tag_4, &in_use_4)?;
+        let fields_5 = behind(fields_4);
+        let constraints_5 = behind(constraints_4);
+        self.next.encode_cells(fields_5, constraints_5, encoder)
+    }
+}
+
+impl<A, B, C, D, N> DecodeCells for Four<A, B, C, D, N>
+where
+    A: DecodeComponent,
+    B: DecodeComponent,
+    C: DecodeComponent,
+    D: DecodeComponent,
+    N: DecodeCells,
+{
+    type Values = (A::Value, B::Value, C::Value, D::Value, N::Values);
+
+    ghost parts = { λ p fs cs n.
+        part (first_tree (tagged A.Of.TAG) fs) (A.presence p.first)
+        (A.Of.schema (own_or A.Of.CONSTRAINTS (first_given cs)) n)
+        (part (first_tree (tagged B.Of.TAG) (behind fs)) (B.presence p.second)
+        (B.Of.schema (own_or B.Of.CONSTRAINTS (first_given (behind cs))) n)
+        (part (first_tree (tagged C.Of.TAG) (behind (behind fs))) (C.presence p.third)
+        (C.Of.schema (own_or C.Of.CONSTRAINTS (first_given (behind (behind cs)))) n)
+        (part (first_tree (tagged D.Of.TAG) (behind (behind (behind fs)))) (D.presence p.fourth)
+        (D.Of.schema (own_or D.Of.CONSTRAINTS (first_given (behind (behind (behind cs))))) n)
+        (N.parts p.next (behind (behind (behind (behind fs)))) (behind (behind (behind (behind cs)))) n)))) };
+
+    ghost contents = { λ xs. A.slot xs.0 ∷ B.slot xs.1 ∷ C.slot xs.2 ∷ D.slot xs.3 ∷ N.contents xs.4 };
+
+    fn decode_cells<R: Decoder>(
+        &self,
+        fields: &[Field],
+        constraints: &[&'static [Constraint]],
+        decoder: &mut R,
+    ) -> Result<(A::Value, B::Value, C::Value, D::Value, N::Values), R::Error> {
+        let tag = first_tag(fields, <A::Of as AsnType>::TAG);
+        let in_use = given_or_own(constraints, <A::Of as AsnType>::CONSTRAINTS);
+        let a = self.first.decode_component(decoder, tag, &in_use)?;
+        let fields_2 = behind(fields);
+        let constraints_2 = behind(constraints);
+        let tag_2 = first_tag(fields_2, <B::Of as AsnType>::TAG);
+        let in_use_2 = given_or_own(constraints_2, <B::Of as AsnType>::CONSTRAINTS);
+        let b = self.second.decode_component(decoder, tag_2, &in_use_2)?;
+        let fields_3 = behind(fields_2);
+        let constraints_3 = behind(constraints_2);
+        let tag_3 = first_tag(fields_3, <C::Of as AsnType>::TAG);
+        let in_use_3 = given_or_own(constraints_3, <C::Of as AsnType>::CONSTRAINTS);
+        let c = self.third.decode_component(decoder, tag_3, &in_use_3)?;
+        let fields_4 = behind(fields_3);
+        let constraints_4 = behind(constraints_3);
+        let tag_4 = first_tag(fields_4, <D::Of as AsnType>::TAG);
+        let in_use_4 = given_or_own(constraints_4, <D::Of as AsnType>::CONSTRAINTS);
+        let d = self.fourth.decode_component(decoder, tag_4, &in_use_4)?;
+        let fields_5 = behind(fields_4);
+        let constraints_5 = behind(constraints_4);
+        let rest = self.next.decode_cells(fields_5, constraints_5, decoder)?;
+        Ok((a, b, c, d, rest))
+    }
+}
