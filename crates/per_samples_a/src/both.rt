@@ -9,7 +9,6 @@ ghost use Rattle.per_samples_a.specs.Boths.{both_parts, both_schema, both_levell
 use rasn_below::NoAdditions;
 use rasn_below::cells::{Cell, End, Listed};
 use rasn_below::codec::{Decode, Decoder, Encode, Encoder};
-use rasn_below::components::Required;
 use rasn_below::schema::{AsnType, Constraints, Constructed, Field, Fields, Presence, TagTree};
 use rasn_below::types::{Class, Identifier, Tag};
 use std::marker::PhantomData;
@@ -107,9 +106,9 @@ impl<A: Encode, B: Encode> Encode for Both<A, B> {
             fields: FIELDS,
             constraints: &[],
             cells: Cell {
-                component: Required(&self.a),
+                component: &self.a,
                 next: Cell {
-                    component: Required(&self.b),
+                    component: &self.b,
                     next: End {},
                 },
             },
@@ -129,9 +128,9 @@ impl<A: Decode, B: Decode> Decode for Both<A, B> {
             fields: FIELDS,
             constraints: &[],
             cells: Cell {
-                component: Required(PhantomData::<A>),
+                component: PhantomData::<A>,
                 next: Cell {
-                    component: Required(PhantomData::<B>),
+                    component: PhantomData::<B>,
                     next: End {},
                 },
             },

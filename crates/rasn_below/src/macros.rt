@@ -104,11 +104,12 @@ macro_rules! is_marked {
     (...) => { true };
 }
 
-/// Writes the components of a list in turn. Their fields are in the constant `FIELDS`, their constraints in `BOUNDS`.
+/// Writes the components of a list in turn. Their fields are those that the record states as its `COMPONENTS`, their
+/// constraints are in the constant `BOUNDS`.
 #[macro_export]
 macro_rules! encode_components {
     ([$of:ident $encoder:ident] $($list:tt)*) => {
-        $crate::write::all($of, &$crate::listed!($crate::cells_to_write!($of $($list)*)), $encoder)
+        $crate::write::all($of, &$crate::of_record!($crate::cells_to_write!($of $($list)*)), $encoder)
     };
 }
 
@@ -134,7 +135,8 @@ macro_rules! encode_each_component {
     }};
 }
 
-/// Reads the components of a list in turn. Their fields are in the constant `FIELDS`, their constraints in `BOUNDS`.
+/// Reads the components of a list in turn. Their fields are those that the record states as its `COMPONENTS`, their
+/// constraints are in the constant `BOUNDS`.
 #[macro_export]
 macro_rules! decode_components {
     ([$decoder:ident] $(
@@ -230,6 +232,18 @@ macro_rules! listed {
     };
 }
 
+/// Cells of a record, whose fields are its own, with the list of their constraints.
+#[macro_export]
+macro_rules! of_record {
+    ($cells:expr) => {
+        $crate::cells::OfRecord {
+            of: std::marker::PhantomData::<Self>,
+            constraints: BOUNDS,
+            cells: $cells,
+        }
+    };
+}
+
 /// The components of a list as cells to write.
 #[macro_export]
 macro_rules! cells_to_write {
@@ -302,7 +316,7 @@ macro_rules! read_by_type {
     };
     ($by_type:ident $by_value:ident $list:tt [$($done:tt)*]; required $type:ty [$($bounds:tt)*]; $($rest:tt)*) => {
         $crate::read_by_type!($by_type $by_value $list [
-            $($done)* [$crate::components::Required<std::marker::PhantomData<$type>>]
+            $($done)* [std::marker::PhantomData<$type>]
         ]; $($rest)*)
     };
     ($by_type:ident $by_value:ident $list:tt [$($done:tt)*]; optional $type:ty [$($bounds:tt)*]; $($rest:tt)*) => {
@@ -398,7 +412,7 @@ macro_rules! cell {
 /// One component.
 #[macro_export]
 macro_rules! component {
-    (required [$($bounds:tt)*], $value:expr) => { $crate::components::Required($value) };
+    (required [$($bounds:tt)*], $value:expr) => { $value };
     (optional [$($bounds:tt)*], $value:expr) => { $crate::components::Optional($value) };
     (group [], $value:expr) => { $crate::additions::Group($value) };
     (default [$($bounds:tt)*], $value:expr) => {

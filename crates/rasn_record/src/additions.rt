@@ -8,7 +8,7 @@ ghost use Rattle.rasn_calls.specs.Presences.{slot_of};
 ghost use Rattle.rasn_record.specs.OneAddition.{ReadsOneAddition, WritesAddition};
 ghost use Rattle.rasn_record.specs.Slots.{slot_levels};
 
-use crate::components::{Default, Defaulted, Optional, Required};
+use crate::components::{Default, Defaulted, Optional};
 use rasn_additions::{ExtensionDecoder, ExtensionEncoder};
 use rasn_codec::codec::{Decode, Decoder, DecoderExt, Encode, Encoder};
 use rasn_schema::fields::AdditionGroup;
@@ -71,14 +71,15 @@ pub trait DecodeAddition {
 #[derive(Clone, Copy)]
 pub struct Group<V>(pub V);
 
-impl<'a, H: Encode> EncodeAddition for Required<&'a H> {
+/// A required addition is a reference to it.
+impl<'a, H: Encode> EncodeAddition for &'a H {
     type Of = H;
 
     ghost presence = { λ c. required };
 
-    ghost slot = { λ c. Some (H.value c.0.now) };
+    ghost slot = { λ c. Some (H.value c.now) };
 
-    ghost levels = { λ c. H.levels c.0.now };
+    ghost levels = { λ c. H.levels c.now };
 
     fn encode_addition<E: Encoder>(
         &self,
@@ -86,7 +87,7 @@ impl<'a, H: Encode> EncodeAddition for Required<&'a H> {
         tag: Tag,
         constraints: &Constraints,
     ) -> Result<(), E::Error> {
-        encoder.encode_extension_addition(tag, constraints, Some(self.0))
+        encoder.encode_extension_addition(tag, constraints, Some(*self))
     }
 }
 
@@ -156,7 +157,8 @@ impl<'a, H: Encode + AdditionGroup> EncodeAddition for Group<&'a Option<H>> {
     }
 }
 
-impl<H: Decode> DecodeAddition for Required<PhantomData<H>> {
+/// A required addition is read by `PhantomData` of its type.
+impl<H: Decode> DecodeAddition for PhantomData<H> {
     type Of = H;
 
     type Value = H;

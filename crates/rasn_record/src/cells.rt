@@ -11,9 +11,10 @@ ghost use Rattle.rasn_calls.specs.Scopes.{WritesParts, TakesParts};
 ghost use Rattle.rasn_record.specs.Lists.{behind, first_tag, first_tree, first_given, given};
 
 use crate::additions::Group;
-use crate::components::{DecodeComponent, EncodeComponent, Optional, Required};
+use crate::components::{DecodeComponent, EncodeComponent, Optional};
 use rasn_calls::parts::{DecodeParts, EncodeParts};
 use rasn_codec::codec::{Decoder, Encoder};
+use rasn_schema::components::Components;
 use rasn_schema::constraints::Constraint;
 use rasn_schema::fields::Field;
 use rasn_schema::schema::{AsnType, Constraints};
@@ -95,6 +96,18 @@ pub struct Listed<P> {
     pub cells: P,
 }
 
+/// Components of a record as cells, and the list that states their constraints. Their tags are those of the record's
+/// own fields.
+#[derive(Clone, Copy)]
+pub struct OfRecord<T, P> {
+    /// The record.
+    pub of: PhantomData<T>,
+    /// The constraints of the components, in their order.
+    pub constraints: &'static [&'static [Constraint]],
+    /// The components.
+    pub cells: P,
+}
+
 /// The tag of the first field, or else a type's own.
 pub(crate) fn first_tag(fields: &[Field], own: Tag) -> Tag
     ensures { tag_of result ≡ first_tag (tag_of own) (map shape_of fields.now) }
@@ -146,8 +159,8 @@ impl<C: ByType, N: ByType> ByType for Cell<C, N> {
     };
 }
 
-impl<H> ByType for Required<PhantomData<H>> {
-    const VALUE: Required<PhantomData<H>> = Required(PhantomData);
+impl<H> ByType for PhantomData<H> {
+    const VALUE: PhantomData<H> = PhantomData;
 }
 
 impl<H> ByType for Optional<PhantomData<H>> {
@@ -209,6 +222,20 @@ impl<P: EncodeCells> EncodeParts for Listed<P> {
     fn encode_parts<E: Encoder>(&self, encoder: &mut E) -> Result<(), E::Error> {
         self.cells
             .encode_cells(self.fields, self.constraints, encoder)
+    }
+}
+
+impl<T: Components, P: EncodeCells> EncodeParts for OfRecord<T, P> {
+    ghost parts = { λ p. P.parts p.cells T.COMPONENTS p.constraints.now };
+
+    ghost contents = { λ p. P.contents p.cells };
+
+    ghost levels = { λ p. P.levels p.cells };
+
+    fn encode_parts<E: Encoder>(&self, encoder: &mut E) -> Result<(), E::Error> {
+        let fields = T::COMPONENTS;
+        self.cells
+            .encode_cells(fields.list, self.constraints, encoder)
     }
 }
 

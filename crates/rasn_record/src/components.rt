@@ -66,10 +66,6 @@ pub trait DecodeComponent {
             (Self.Of.schema constraints.now (D.rules.levels decoder.old)) slot decoder.old result decoder.new };
 }
 
-/// A required component: to write, a reference to it; to read, `PhantomData` of its type.
-#[derive(Clone, Copy)]
-pub struct Required<V>(pub V);
-
 /// An optional component: to write, a reference to it; to read, `PhantomData` of its type.
 #[derive(Clone, Copy)]
 pub struct Optional<V>(pub V);
@@ -94,14 +90,15 @@ pub trait Defaulted: AsnType + Sized {
         ensures { IfOk result (λ x. Self.value x ≡ Self.value self.now) };
 }
 
-impl<'a, H: Encode> EncodeComponent for Required<&'a H> {
+/// A required component is a reference to it.
+impl<'a, H: Encode> EncodeComponent for &'a H {
     type Of = H;
 
     ghost presence = { λ c. required };
 
-    ghost slot = { λ c. Some (H.value c.0.now) };
+    ghost slot = { λ c. Some (H.value c.now) };
 
-    ghost levels = { λ c. H.levels c.0.now };
+    ghost levels = { λ c. H.levels c.now };
 
     fn encode_component<E: Encoder>(
         &self,
@@ -109,8 +106,8 @@ impl<'a, H: Encode> EncodeComponent for Required<&'a H> {
         tag: Tag,
         constraints: &Constraints,
     ) -> Result<(), E::Error> {
-        self.0
-            .encode_with_tag_and_constraints(encoder, tag, constraints, H::IDENTIFIER)
+        let value: &H = *self;
+        value.encode_with_tag_and_constraints(encoder, tag, constraints, H::IDENTIFIER)
     }
 
     ghost is_component = { λ c. tt };
@@ -169,7 +166,8 @@ impl<'a, H: Encode + Defaulted> EncodeComponent for Default<&'a H, H> {
     ghost is_component = { λ c. tt };
 }
 
-impl<H: Decode> DecodeComponent for Required<PhantomData<H>> {
+/// A required component is read by `PhantomData` of its type.
+impl<H: Decode> DecodeComponent for PhantomData<H> {
     type Of = H;
 
     type Value = H;

@@ -1,5 +1,5 @@
 use Rattle.rasn_record.proofs.Slots.{value_written}
-use Rattle.rasn_record.proofs.components.RequiredRefEncodeComponent.encode_component.Goals as goal
+use Rattle.rasn_record.proofs.components.RefEncodeComponent.encode_component.Goals as goal
 
 pub returns : goal.returns
 returns g c = record {

@@ -1,7 +1,7 @@
 use Rattle.std.proofs.Common.{refl}
 use Rattle.rasn_schema.specs.Normal.{settle}
 use Rattle.rasn_record.proofs.OneAddition.{given_there}
-use Rattle.rasn_record.proofs.additions.RequiredRefEncodeAddition.encode_addition.Goals as goal
+use Rattle.rasn_record.proofs.additions.RefEncodeAddition.encode_addition.Goals as goal
 
 pub returns : goal.returns
 unfolding settle

@@ -1,5 +1,5 @@
 use Rattle.rasn_record.proofs.Slots.{value_taken}
-use Rattle.rasn_record.proofs.components.RequiredPhantomDataDecodeComponent.decode_component.Goals as goal
+use Rattle.rasn_record.proofs.components.PhantomDataDecodeComponent.decode_component.Goals as goal
 
 pub returns : goal.returns
 returns g c = record {

@@ -3,7 +3,7 @@ use Rattle.std.proofs.lemmas.Result.{err_from_is_err_and}
 use Rattle.rasn_calls.specs.AdditionsRead.{reads_added}
 use Rattle.rasn_calls.proofs.Reading.{addition_lacks}
 use Rattle.rasn_record.proofs.OneAddition.{addition_unread}
-use Rattle.rasn_record.proofs.additions.RequiredPhantomDataDecodeAddition.decode_addition.Goals as goal
+use Rattle.rasn_record.proofs.additions.PhantomDataDecodeAddition.decode_addition.Goals as goal
 
 pub returns-in_err-read : goal.returns-in_err-read
 returns-in_err-read g c =
