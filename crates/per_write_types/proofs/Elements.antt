@@ -16,7 +16,7 @@ use Rattle.rasn_calls.specs.Calls.{Written}
 use Rattle.rasn_calls.specs.Lists.{AwaitsElement, ListForm, ListOpened, schema_of}
 use Rattle.per_core.specs.Canon.{canon}
 use Rattle.per_core.specs.Counts.{counted, counted_in, determinant, fragment_sizes, in_fragments, list_items, marked_form}
-use Rattle.per_core.specs.Writers.{Writer, after, go_on, join, just, ◌▹◌, one_by_one, pad, padding, refused}
+use Rattle.per_core.specs.Writers.{Writer, after, join, just, ◌▹◌, one_by_one, pad, padding, refused}
 use Rattle.per_write.specs.declared.error.EncodeError.{EncodeError}
 use Rattle.per_write.specs.declared.error.EncodeErrorKind.{EncodeErrorKind}
 use Rattle.per_write.specs.declared.error.EncodeErrorKind.TheVariants.{SizeConstraintNotSatisfied, ValueConstraintNotSatisfied, AlphabetConstraintNotSatisfied, IntegerTypeConversionFailed, VariantNotInChoice, RealNotSupported, TooManyAdditions, Below, AlreadyFailed, OutOfMemory, OutOfTurn}

@@ -1,6 +1,6 @@
 -- An alternative that is put where its place is (X.691 23).
 use Rattle.std.specs.Prelude.{Result, Ok, Err, unwrap_or}
-use Rattle.std.proofs.Common.{◌≡◌, refl, sym, ap, ◌∙◌, subst, ℕ, zero, suc, Bool, true, false, leb, ◌<◌, ◌≤◌, ◌%◌, [], ◌++◌, replicate, Option, Some, None, is_some, arith}
+use Rattle.std.proofs.Common.{◌≡◌, refl, sym, ap, ◌∙◌, subst, ℕ, zero, suc, Bool, true, false, leb, ◌<◌, ◌≤◌, [], replicate, Option, Some, None, is_some, arith}
 use Rattle.rasn_types.specs.Bits.{Bits, to_bits}
 use Rattle.rasn_types.specs.Codecs.{variant_of}
 use Rattle.rasn_types.specs.Variants.{Variant, aligned, unaligned}
