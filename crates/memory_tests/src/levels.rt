@@ -38,7 +38,7 @@ const LEVELS_129: &[u8] = &[
     0x00,
 ];
 
-// reading them is refused: `failures` and `rows/` have them
+// reading them is refused: `per_tests::failures` and `rows/` have them
 #[test]
 fn writes_a_level_more_than_is_read(rt: HostRuntime) {
     expect_written(&rt, rt.alloc(), 128, LEVELS_129);

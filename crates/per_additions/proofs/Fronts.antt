@@ -1,6 +1,5 @@
 -- Octets and bits that are taken from the front.
-use Rattle.std.proofs.Common.{◌≡◌, ◌<◌, ◌≤◌, ◌⊎◌, inl, inr, refl, sym, ap, ◌∙◌, ℕ, zero, suc, ◌*◌, Bool, false, [], ◌∷◌, ◌++◌, length, take, drop, replicate, length-take, length-drop, length-append, arith}
-use Rattle.std.proofs.lemmas.Bool.{cases_lt}
+use Rattle.std.proofs.Common.{◌≡◌, ◌<◌, refl, sym, ap, ◌∙◌, ℕ, zero, suc, ◌*◌, Bool, false, [], ◌∷◌, ◌++◌, length, take, drop, replicate, length-take, length-drop, length-append, arith}
 use Rattle.std.proofs.lemmas.List.{take-append-drop, take-append-le}
 use Rattle.rasn_types.specs.Bits.{Bits, number_of, pack}
 use Rattle.per_core.specs.Basic.{OneByOne, bit, octet}
@@ -9,24 +8,10 @@ use Rattle.per_core.specs.Took.{Took, place}
 use Rattle.per_core.specs.Writers.{after}
 use Rattle.per_read.specs.Kinds.{NoneIn}
 use Rattle.per_read.specs.Takes.{Front}
+use Rattle.per_read.proofs.Fronts.{front_took}
 use Rattle.per_additions.specs.Stands.{LastTaken}
 
--- a front that was taken
-pub front_took : {n : ℕ} {bits s t : Bits} → Took (Front n bits) s t → (length bits ≡ n) × (s ≡ bits ++ t)
-front_took {t = t} a = (a.spelled.0, a.joins ∙ ap (λ z. z ++ t) a.spelled.1)
-
 -- one that isn't there
-pub no_front : {n : ℕ} {s : Bits} → NoneIn (Front n) s → length s < n
-no_front {n} {s} none = go (cases_lt (length s) n)
-  where
-    go : (length s < n) ⊎ (n ≤ length s) → length s < n
-    go (inl h) = h
-    go (inr h) = absurd (none (take n s) (drop n s) (record {
-      front = take n s;
-      joins = sym (take-append-drop n s);
-      spelled = (length-take n s ∙ omega arith, refl);
-    }))
-
 pub no_front_in : {n : ℕ} {s : Bits} → length s < n → NoneIn (Front n) s
 no_front_in {n} {s} h bits t b = let r = front_took b in omega (arith, r.0, ap length r.1, length-append bits t)
 

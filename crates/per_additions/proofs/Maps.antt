@@ -28,7 +28,8 @@ use Rattle.per_additions.specs.Reasons.{gathering}
 use Rattle.per_additions.specs.declared.bitmaps.PresenceBits.{PresenceBits}
 use Rattle.per_additions.specs.declared.bitmaps.PresenceBits.TheVariants.{InPlace, Gathered}
 use Rattle.per_additions.proofs.Pieces.{Anything, one_piece}
-use Rattle.per_additions.proofs.Fronts.{bits_took, last_behind, no_front, front_took}
+use Rattle.per_additions.proofs.Fronts.{bits_took, last_behind}
+use Rattle.per_read.proofs.Fronts.{no_front, front_took}
 
 -- a bitmap, by its first bit
 module _ (a : Settings) (flags : List Bool) {s t : Bits} where

@@ -18,7 +18,8 @@ use Rattle.per_read.specs.declared.lengths.Length.TheVariants.{Last, Fragment}
 use Rattle.per_read.proofs.Parts.{items_begin, last_part, no_items_length, no_items_short, small_length}
 use Rattle.per_additions.specs.OpenTypes.{fragments_of}
 use Rattle.per_additions.specs.Reasons.{gathering}
-use Rattle.per_additions.proofs.Fronts.{no_front, octets_took, front_took}
+use Rattle.per_additions.proofs.Fronts.{octets_took}
+use Rattle.per_read.proofs.Fronts.{no_front, front_took}
 
 -- what is skipped is kept nowhere
 abbrev pub Anything : Unit {0} → Unit {0} → List ℕ → Type 0

@@ -8,7 +8,7 @@ use Rattle.per_core.specs.Basic.{ExtensionBit, IsBitmap, Octets, Unknown}
 use Rattle.per_core.specs.Spellings.{Settings, Spelling}
 use Rattle.per_core.specs.Took.{Took}
 use Rattle.per_core.proofs.Took.{took_nothing}
-use Rattle.per_read.specs.Choices.{IsOfIndex, index_form, index_of}
+use Rattle.per_read_types.specs.Choices.{IsOfIndex, index_form, index_of}
 use Rattle.per_read.specs.Kinds.{IsTested, NoneIn, Stopped}
 use Rattle.per_read.specs.Lists.{Leaves}
 use Rattle.per_read.specs.State.{State as Taking}

@@ -14,7 +14,7 @@ ghost use Rattle.rasn_schema.specs.Fields.{tag_of};
 ghost use Rattle.rasn_schema.specs.Forms.{octet_schema, size_of, is_size_marked};
 ghost use Rattle.rasn_calls.specs.Calls.{Reads};
 ghost use Rattle.per_read.specs.declared.error.DecodeErrorKind.TheVariants.{AlreadyFailed};
-ghost use Rattle.per_read.specs.Choices.{index_of};
+ghost use Rattle.per_read_types.specs.Choices.{index_of};
 ghost use Rattle.per_read.specs.Lists.{most};
 ghost use Rattle.per_scopes.specs.AdditionLaws.{additions_well};
 ghost use Rattle.per_scopes.specs.Additions.{ClosesAddition, EntersContents, OpensAddition, outside_open};
@@ -46,6 +46,11 @@ pub use per_read::error;
 pub use per_read::error::{DecodeError, DecodeErrorKind, ParserFailCause};
 use per_read::lists::OpenList;
 use per_read::{Reader, ReaderOptions};
+use per_read_types::choices::take_choice_index;
+use per_read_types::enumerated::take_enumerated;
+use per_read_types::identifiers::take_object_identifier;
+use per_read_types::integers::take_integer;
+use per_read_types::times::{take_generalized_time, take_utc_time};
 use rasn_calls::decoder;
 use rasn_schema::choices::Choice;
 use rasn_schema::constraints::Constraints;
@@ -646,7 +651,7 @@ impl<'input> Decoder<'input> {
     {
         let variants = C::VARIANTS;
         let mut reader = self.reader();
-        let taken = reader.take_choice_index(variants.len(), added_count::<C>());
+        let taken = take_choice_index(&mut reader, variants.len(), added_count::<C>());
         let left = reader.bits().len();
         self.answer(taken, left)
     }
@@ -841,7 +846,7 @@ impl<'input> decoder::Decoder for Decoder<'input> {
     ) -> Result<I, DecodeError> {
         self.check_unfailed()?;
         let mut reader = self.reader();
-        let taken = reader.take_integer(constraints);
+        let taken = take_integer(&mut reader, constraints);
         let left = reader.bits().len();
         self.answer(taken, left)
     }
@@ -858,7 +863,7 @@ impl<'input> decoder::Decoder for Decoder<'input> {
     fn decode_enumerated<E: Enumerated>(&mut self, _tag: Tag) -> Result<E, DecodeError> {
         self.check_unfailed()?;
         let mut reader = self.reader();
-        let taken = reader.take_enumerated();
+        let taken = take_enumerated(&mut reader);
         let left = reader.bits().len();
         self.answer(taken, left)
     }
@@ -963,7 +968,7 @@ impl<'input> decoder::Decoder for Decoder<'input> {
     fn decode_object_identifier(&mut self, _tag: Tag) -> Result<Vec<u32>, DecodeError> {
         self.check_unfailed()?;
         let mut reader = self.reader();
-        let taken = reader.take_object_identifier();
+        let taken = take_object_identifier(&mut reader);
         let left = reader.bits().len();
         self.answer(taken, left)
     }
@@ -971,7 +976,7 @@ impl<'input> decoder::Decoder for Decoder<'input> {
     fn decode_utc_time(&mut self, _tag: Tag) -> Result<DateTime, DecodeError> {
         self.check_unfailed()?;
         let mut reader = self.reader();
-        let taken = reader.take_utc_time();
+        let taken = take_utc_time(&mut reader);
         let left = reader.bits().len();
         self.answer(taken, left)
     }
@@ -979,7 +984,7 @@ impl<'input> decoder::Decoder for Decoder<'input> {
     fn decode_generalized_time(&mut self, _tag: Tag) -> Result<DateTime, DecodeError> {
         self.check_unfailed()?;
         let mut reader = self.reader();
-        let taken = reader.take_generalized_time();
+        let taken = take_generalized_time(&mut reader);
         let left = reader.bits().len();
         self.answer(taken, left)
     }

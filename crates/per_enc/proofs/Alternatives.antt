@@ -21,7 +21,7 @@ use Rattle.per_core.specs.Writers.{Writer, just, ◌▹◌, join, go_on, after}
 use Rattle.per_pieces.specs.Pieces.{Piece, Pieces, bits_of, bit_count, floating, plain, settle, settled}
 use Rattle.per_pieces.proofs.Settling.{bits_of_append, bits_of_plain, settle_append, settle_plain}
 use Rattle.per_pieces.proofs.Writing.{none_behind, then_assoc, then_same}
-use Rattle.per_write.specs.Alternatives.{ClosesAlternative, ClosesBehind, OpenChoice, OpensAlternative, OpensFloating, OpensInPlace, OpensOrNot, placed_alternative, restored, root_index}
+use Rattle.per_write_types.specs.Alternatives.{ClosesAlternative, ClosesBehind, OpenChoice, OpensAlternative, OpensFloating, OpensInPlace, OpensOrNot, placed_alternative, restored, root_index}
 use Rattle.per_write.specs.Choices.{FillsIndexOrNot, IsFilled, OpensIndex, index_padding, index_width}
 use Rattle.per_write.specs.declared.error.EncodeError.{EncodeError}
 use Rattle.per_write.specs.declared.error.EncodeErrorKind.{EncodeErrorKind}
@@ -30,7 +30,7 @@ use Rattle.per_write.specs.Faults.{IsMemory, in_alternative, RefusesValue, Stand
 use Rattle.per_write.specs.Rules.{encoder_rules}
 use Rattle.per_write.specs.State.{Puts, Scope, State, Presents, Wrote, no_scope, view}
 use Rattle.per_write.proofs.Indexes.{joined}
-use Rattle.per_write.proofs.Placing.{index_placed, then_within}
+use Rattle.per_write_types.proofs.Placing.{index_placed, then_within}
 use Rattle.per_write.proofs.Writing.{wrote_same, wrote_then}
 use Rattle.per_enc.specs.Choices.{OpensChoice, counted_variants}
 use Rattle.per_enc.specs.Opens.{behind_marker}

@@ -3,7 +3,7 @@ use Rattle.std.specs.Prelude.{ℕ, List, length, Option, Some, None}
 use Rattle.rasn_schema.specs.Choices.{VariantShape, tags_of}
 use Rattle.rasn_schema.specs.Schemas.{Schema}
 use Rattle.per_core.specs.Versions.{alternatives_of}
-use Rattle.per_write.specs.Alternatives.{OpenChoice, OpensAlternative}
+use Rattle.per_write_types.specs.Alternatives.{OpenChoice, OpensAlternative}
 use Rattle.per_write.specs.State.{State}
 use Rattle.per_enc.specs.Opens.{behind_marker}
 

@@ -17,8 +17,13 @@ use per_members::OpenBag;
 use per_moments::writing::put_date;
 pub use per_write::error;
 pub use per_write::error::{EncodeError, EncodeErrorKind};
-use per_write::lists::OpenList;
-use per_write::{OpenChoice, Outside, Scope, Writer};
+use per_write::{Outside, Scope, Writer};
+use per_write_types::alternatives::{OpenChoice, close_alternative, known_place, open_alternative};
+use per_write_types::enumerated::put_enumerated;
+use per_write_types::identifiers::put_object_identifier;
+use per_write_types::integers::put_integer;
+use per_write_types::lists::{OpenList, close_list, next_element, open_list};
+use per_write_types::times::{put_generalized_time, put_utc_time};
 use rasn_calls::encoder;
 use rasn_schema::choices::Choice;
 use rasn_schema::enumerated::Enumerated;
@@ -145,7 +150,7 @@ impl<A: Allocator + Clone> encoder::Encoder for Encoder<A> {
     ghost use Rattle.per_enc.specs.SetLaws.{sets_written};
     ghost use Rattle.per_members.specs.Bags.{AmidBag};
     ghost use Rattle.per_write.specs.Additions.{Opens as OpensOpenType};
-    ghost use Rattle.per_write.specs.Lists.{AmidList};
+    ghost use Rattle.per_write_types.specs.Lists.{AmidList};
 
     type Error = EncodeError;
 
@@ -194,7 +199,7 @@ impl<A: Allocator + Clone> encoder::Encoder for Encoder<A> {
     ) -> Result<(), EncodeError> {
         self.writer.check_unfailed()?;
         match constraints.value() {
-            Some(stated) => self.writer.put_integer(stated, value),
+            Some(stated) => put_integer(&mut self.writer, stated, value),
             None => self.writer.put_unconstrained_whole(value),
         }
     }
@@ -220,7 +225,7 @@ impl<A: Allocator + Clone> encoder::Encoder for Encoder<A> {
         _identifier: Identifier,
     ) -> Result<(), EncodeError> {
         self.writer.check_unfailed()?;
-        self.writer.put_enumerated(value)
+        put_enumerated(&mut self.writer, value)
     }
 
     fn encode_any(
@@ -317,7 +322,7 @@ impl<A: Allocator + Clone> encoder::Encoder for Encoder<A> {
         _identifier: Identifier,
     ) -> Result<(), EncodeError> {
         self.writer.check_unfailed()?;
-        self.writer.put_object_identifier(value)
+        put_object_identifier(&mut self.writer, value)
     }
 
     fn encode_utc_time(
@@ -327,7 +332,7 @@ impl<A: Allocator + Clone> encoder::Encoder for Encoder<A> {
         _identifier: Identifier,
     ) -> Result<(), EncodeError> {
         self.writer.check_unfailed()?;
-        self.writer.put_utc_time(value)
+        put_utc_time(&mut self.writer, value)
     }
 
     fn encode_generalized_time(
@@ -337,7 +342,7 @@ impl<A: Allocator + Clone> encoder::Encoder for Encoder<A> {
         _identifier: Identifier,
     ) -> Result<(), EncodeError> {
         self.writer.check_unfailed()?;
-        self.writer.put_generalized_time(value)
+        put_generalized_time(&mut self.writer, value)
     }
 
     fn encode_date(
@@ -387,8 +392,7 @@ impl<A: Allocator + Clone> encoder::Encoder for Encoder<A> {
         _identifier: Identifier,
     ) -> Result<OpenChoice<A>, EncodeError> {
         self.writer.check_unfailed()?;
-        self.writer
-            .open_alternative(C::VARIANTS.len(), added_count::<C>())
+        open_alternative(&mut self.writer, C::VARIANTS.len(), added_count::<C>())
     }
 
     fn close_choice<C: Choice>(
@@ -400,9 +404,8 @@ impl<A: Allocator + Clone> encoder::Encoder for Encoder<A> {
         let variants = C::VARIANTS;
         let added = C::EXTENDED_VARIANTS;
         let found = variants.place_of(&added, chosen);
-        let place = self.writer.known_place(found)?;
-        self.writer
-            .close_alternative(variants.len(), place, outside)
+        let place = known_place(&mut self.writer, found)?;
+        close_alternative(&mut self.writer, variants.len(), place, outside)
     }
 
     fn set_presence(&mut self, is_there: bool) -> Result<(), EncodeError> {
@@ -440,17 +443,17 @@ impl<A: Allocator + Clone> encoder::Encoder for Encoder<A> {
         _identifier: Identifier,
     ) -> Result<OpenList, EncodeError> {
         self.writer.check_unfailed()?;
-        self.writer.open_list(constraints, count)
+        open_list(&mut self.writer, constraints, count)
     }
 
     fn next_element(&mut self, list: &mut OpenList) -> Result<(), EncodeError> {
         self.writer.check_unfailed()?;
-        self.writer.next_element(list)
+        next_element(&mut self.writer, list)
     }
 
     fn close_list(&mut self, list: OpenList) -> Result<(), EncodeError> {
         self.writer.check_unfailed()?;
-        self.writer.close_list(list)
+        close_list(&mut self.writer, list)
     }
 
     fn open_set_of(

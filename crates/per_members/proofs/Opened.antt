@@ -23,13 +23,13 @@ use Rattle.per_pieces.specs.Pieces.{Piece, Pieces, floating, settled}
 use Rattle.per_bags.specs.Members.{writers_of}
 use Rattle.per_bags.specs.Written.{AreWritten}
 use Rattle.per_write.specs.declared.error.EncodeError.{EncodeError}
-use Rattle.per_write.specs.declared.lists.OpenList.{OpenList}
+use Rattle.per_write_types.specs.declared.lists.OpenList.{OpenList}
 use Rattle.per_write.specs.Faults.{HasElement, IsMemory, RefusesValue}
 use Rattle.per_write.specs.Floating.{Floats, Waiting}
-use Rattle.per_write.specs.Lists.{AmidList, Begins, BeginsItems, RefusesCount, count_memory, count_outside}
+use Rattle.per_write_types.specs.Lists.{AmidList, Begins, BeginsItems, RefusesCount, count_memory, count_outside}
 use Rattle.per_write.specs.Rules.{encoder_rules}
 use Rattle.per_write.specs.State.{Scope, State, Wrote, no_scope}
-use Rattle.per_write.proofs.Elements.{element_in, list_begun, list_law}
+use Rattle.per_write_types.proofs.Elements.{element_in, list_begun, list_law}
 use Rattle.per_write.proofs.Writing.{wrote_same}
 use Rattle.per_members.specs.Bags.{AmidBag, OpenBag, PutsMembers, list_of, outside, with_begun}
 use Rattle.per_members.proofs.Order.{are_written, at_place, element_of_ordered, in_order, length_in_order, list_is_bag, ordered_writers}

@@ -10,10 +10,10 @@ use Rattle.per_core.specs.Writers.{Writer}
 use Rattle.per_pieces.specs.Pieces.{Piece}
 use Rattle.per_bags.specs.Members.{writers_of}
 use Rattle.per_write.specs.declared.error.EncodeError.{EncodeError}
-use Rattle.per_write.specs.declared.lists.OpenList.{OpenList}
+use Rattle.per_write_types.specs.declared.lists.OpenList.{OpenList}
 use Rattle.per_write.specs.Faults.{IsMemory}
 use Rattle.per_write.specs.Floating.{Waiting}
-use Rattle.per_write.specs.Lists.{AmidList}
+use Rattle.per_write_types.specs.Lists.{AmidList}
 use Rattle.per_write.specs.Rules.{encoder_rules}
 use Rattle.per_write.specs.State.{State}
 

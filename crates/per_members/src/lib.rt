@@ -11,8 +11,8 @@ ghost use Rattle.per_write.specs.Rules.{encoder_rules};
 
 use per_bags::members::Members;
 use per_write::error::EncodeError;
-use per_write::lists::OpenList;
 use per_write::{Waiting, Writer};
+use per_write_types::lists::{OpenList, begin_counted, close_list, next_element};
 use rasn_schema::schema::Constraints;
 use std::alloc::Allocator;
 use std::marker::Model;
@@ -48,7 +48,7 @@ impl<A: Allocator + Clone> OpenBag<A> {
             writer.old result writer.new }
     {
         let alloc = writer.allocator()?;
-        let list = writer.begin_counted(constraints.size(), count)?;
+        let list = begin_counted(writer, constraints.size(), count)?;
         Ok(OpenBag {
             list,
             members: Members::new(alloc),
@@ -103,8 +103,8 @@ fn put_members<A: Allocator + Clone>(
     ensures { PutsMembers (writers_of members.now) list writer.old result writer.new }
 {
     for place in 0..members.len() {
-        writer.next_element(&mut list)?;
+        next_element(writer, &mut list)?;
         writer.put_pieces(members.at(place))?;
     }
-    writer.close_list(list)
+    close_list(writer, list)
 }

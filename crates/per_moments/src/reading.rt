@@ -13,6 +13,7 @@ ghost use Rattle.per_moments.specs.Years.{IsNoDay, IsOfYear};
 use jiff::civil::Date;
 use per_read::Reader;
 use per_read::error::DecodeErrorKind;
+use per_read_types::integers::take_integer;
 use rasn_constraints::constraints::{Bounded, Constraint, Constraints, Extensible};
 use rasn_constraints::integer_type::IntegerType;
 use rasn_times::date::date_from_parts;
@@ -48,8 +49,8 @@ pub fn take_date(reader: &mut Reader<'_>) -> Result<Date, DecodeErrorKind>
         reader.old result reader.new }
 {
     let year = take_year(reader)?;
-    let month = reader.take_integer::<u8>(&Constraints(MONTHS))?;
-    let day = reader.take_integer::<u8>(&Constraints(DAYS))?;
+    let month = take_integer::<u8>(reader, &Constraints(MONTHS))?;
+    let day = take_integer::<u8>(reader, &Constraints(DAYS))?;
     known_day(&year, month, day)
 }
 
@@ -59,10 +60,10 @@ fn take_year(reader: &mut Reader<'_>) -> Result<Integer, DecodeErrorKind>
     ensures { Takes (memory_or IsOfYear) Year itself reader.old result reader.new }
 {
     match reader.take_bits(2)? {
-        0 => reader.take_integer(&Constraints(FIRST_YEARS)),
-        1 => reader.take_integer(&Constraints(LATER_YEARS)),
-        2 => reader.take_integer(&Constraints(EARLIER_YEARS)),
-        _ => reader.take_integer(&Constraints::NONE),
+        0 => take_integer(reader, &Constraints(FIRST_YEARS)),
+        1 => take_integer(reader, &Constraints(LATER_YEARS)),
+        2 => take_integer(reader, &Constraints(EARLIER_YEARS)),
+        _ => take_integer(reader, &Constraints::NONE),
     }
 }
 

@@ -10,12 +10,6 @@ pub mod ReadAsField
 pub mod OpenLists
 pub mod Openings
 pub mod Under
-pub mod Within
-pub mod Fits
-pub mod Marks
-pub mod InPlace
-pub mod Indexes
-pub mod Enumerations
 pub mod Refusals
 pub mod Unbounded
 pub mod Marked
@@ -25,4 +19,4 @@ pub mod Coded
 pub mod CharacterCodes
 pub mod Texts
 pub mod Padding
-pub mod Moments
+pub mod Fronts

@@ -1,16 +1,12 @@
-pub mod Choices
 pub mod Options
-pub mod Enumerations
 pub mod FewOctets
 pub mod Items
 pub mod Kinds
 pub mod Lengths
 pub mod Lists
-pub mod Moments
 pub mod Names
 pub mod Numbers
 pub mod Sizes
-pub mod SmallNumbers
 pub mod State
 pub mod Strings
 pub mod Takes

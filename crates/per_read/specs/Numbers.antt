@@ -1,14 +1,12 @@
 -- Numbers as they are read.
 use lib.Signed.{le_z}
-use Rattle.std.specs.Prelude.{◌≡◌, ℕ, ◌+◌, ◌/◌, ◌^◌, ◌≤◌, Bool, true, false, if◌then◌else◌, [], Option, Some, None, Result, ℤ, pos, negsuc}
+use Rattle.std.specs.Prelude.{◌≡◌, ℕ, ◌+◌, ◌/◌, ◌^◌, ◌≤◌, Bool, true, false, if◌then◌else◌, [], Option, Some, None, ℤ, pos, negsuc}
 use Rattle.rasn_types.specs.Bits.{Bits, width}
 use Rattle.rasn_constraints.specs.Bounds.{above, holds, fits_i128, Bounds, unbounded}
 use Rattle.per_core.specs.Spellings.{Settings, Spelling, Then, When, never, AnyPadding, Field}
-use Rattle.per_core.specs.Basic.{IsSemiConstrainedWhole, IsUnconstrainedWhole, IsNumberOf, Octets, Marked, constrained_form}
+use Rattle.per_core.specs.Basic.{IsSemiConstrainedWhole, IsUnconstrainedWhole, Octets, Marked, constrained_form}
 use Rattle.per_core.specs.Took.{Took}
 use Rattle.per_read.specs.Kinds.{IsTested}
-use Rattle.per_read.specs.State.{State}
-use Rattle.per_read.specs.Takes.{Takes, memory_or}
 use Rattle.per_read.specs.declared.error.DecodeErrorKind.{DecodeErrorKind}
 use Rattle.per_read.specs.declared.error.DecodeErrorKind.TheVariants.{ValueConstraintNotSatisfied, IntegerOverflow, UnexpectedEmptyInput}
 use Rattle.per_read.specs.declared.numbers.ReadNumber.{ReadNumber}
@@ -32,12 +30,6 @@ abbrev pub OfRead : (ℤ → Type 0) → ReadNumber → Type 0
 OfRead P (Held z) = P z
 OfRead P Below = (n : ℕ) × (2 ^ 127 ≤ n) × P (negsuc n)
 OfRead P Above = (n : ℕ) × (2 ^ 127 ≤ n) × P (pos n)
-
--- a fact about each number that it may be
-abbrev pub OfEach : (ℤ → Type 0) → ReadNumber → Type 0
-OfEach P (Held z) = P z
-OfEach P Below = (n : ℕ) → 2 ^ 127 ≤ n → P (negsuc n)
-OfEach P Above = (n : ℕ) → 2 ^ 127 ≤ n → P (pos n)
 
 -- a number stands o above l
 abbrev pub IsAbove : ℤ → ℕ → ℤ → Type 0
@@ -89,30 +81,3 @@ IsOfNumber a bounds mark s UnexpectedEmptyInput = IsEmpty a bounds mark s
 IsOfNumber a bounds mark s (ValueConstraintNotSatisfied named low high) = IsOutside a bounds mark named low high s
 IsOfNumber a bounds mark s (IntegerOverflow width) = Unit {0}
 IsOfNumber a bounds mark s k = IsTested k
-
--- What a kind says of a number that is no value of a type of a width: it stands outside its bounds, or within these but not in the type.
-abbrev pub IsMissed : Bounds → ℕ → DecodeErrorKind → ℤ → Type 0
-IsMissed bounds width (ValueConstraintNotSatisfied named low high) z = (holds bounds z ≡ false) × (named ≡ in_i128 z) × (low ≡ bounds.low) × (high ≡ bounds.high)
-IsMissed bounds width (IntegerOverflow w) z = (holds bounds z ≡ true) × (w ≡ width)
-IsMissed bounds width _ z = ⊥
-
--- A number that was read is no value, and a kind that says why.
-pub record Misfit (bounds range : Bounds) (width : ℕ) (k : DecodeErrorKind) (z : ℤ) : Type 0 where
-  pub missed : IsMissed bounds width k z
-  pub none : fits_i128 z ≡ true → holds bounds z ≡ true → holds range z ≡ true → ⊥
-
--- a number that was read is a value: an i128 holds it, it is within its bounds, and its type holds it
-pub record IsFit (bounds range : Bounds) (r : ReadNumber) (z : ℤ) : Type 0 where
-  pub held : r ≡ Held z
-  pub fits : fits_i128 z ≡ true
-  pub within : holds bounds z ≡ true
-  pub in_range : holds range z ≡ true
-
--- a bound is there
-abbrev pub AreSome : Bounds → Type 0
-AreSome b = b.low ≡ None → b.high ≡ None → ⊥
-
--- X.691 13: a call that takes an INTEGER of a type's range, under bounds and behind an extension bit where there is a mark
-abbrev pub TakesInteger : {I : Type 0} → Bounds → Bool → Bounds → (I → ℤ) → State → Result I DecodeErrorKind → State → Type 0
-TakesInteger bounds mark range number =
-    Takes (memory_or (λ a. IsOfNumber a bounds mark)) (λ a. IsNumberOf a bounds mark range) (λ P i. P (number i))

@@ -10,16 +10,16 @@ use crate::lengths::Length;
 
 /// From 1 to 16 octets of a number.
 #[derive(Drop)]
-pub(crate) struct FewOctets {
+pub struct FewOctets {
     /// The number that they mean without sign.
-    pub(crate) number: u128,
+    pub number: u128,
     /// How many there are.
     count: u128,
 }
 
 impl FewOctets {
     /// The number that the octets mean in two's complement (X.691 11.4).
-    pub(crate) fn signed(&self) -> i128
+    pub fn signed(&self) -> i128
         requires { (octets : List ℕ) × AreOctetsOf octets self.now }
         ensures { (octets : List ℕ) → AreOctetsOf octets self.now → result ≡ signed octets }
     {
@@ -35,7 +35,7 @@ impl FewOctets {
 impl Reader<'_> {
     /// Takes octets behind an unconstrained length (X.691 11.9.3.5 to 11.9.3.7), where there are from 1 to 16. Else
     /// `None`, and nothing is taken.
-    pub(crate) fn take_few_octets(&mut self) -> Result<Option<FewOctets>, DecodeErrorKind>
+    pub fn take_few_octets(&mut self) -> Result<Option<FewOctets>, DecodeErrorKind>
         ensures { TakesFew self.old result self.new }
     {
         let start = self.bits();

@@ -8,21 +8,14 @@ ghost use Rattle.per_core.specs.Spellings.{Field};
 ghost use Rattle.per_read.specs.Takes.{Front, Takes, short, stopped, itself};
 
 mod alphabet;
-mod choices;
-mod enumerated;
 pub mod error;
-mod few_octets;
-mod identifiers;
-mod in_place;
-mod integers;
+pub mod few_octets;
 mod items;
 pub mod lengths;
 pub mod lists;
-mod numbers;
+pub mod numbers;
 mod sizes;
-mod small;
 mod strings;
-mod times;
 
 use error::DecodeErrorKind;
 use per_bits::BitReader;

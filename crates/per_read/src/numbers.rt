@@ -17,7 +17,7 @@ use rasn_types::width::{width_of, width_to};
 
 /// A whole number that was read.
 #[derive(Drop)]
-pub(crate) enum ReadNumber {
+pub enum ReadNumber {
     /// One that an `i128` holds.
     Held(i128),
     /// One below all that an `i128` holds.
@@ -28,7 +28,7 @@ pub(crate) enum ReadNumber {
 
 impl Reader<'_> {
     /// Takes a number in the form that bounds give it (X.691 13.2). It may stand outside the bounds.
-    pub(crate) fn take_number(
+    pub fn take_number(
         &mut self,
         lower: Option<i128>,
         upper: Option<i128>,
@@ -107,7 +107,7 @@ impl Reader<'_> {
 
     /// Takes one of the numbers from 0 to `greatest`, a constrained whole number above its lower bound (X.691 11.5). A
     /// code past `greatest` has no meaning: it is answered as it stands, since its caller names what it would be.
-    pub(crate) fn take_constrained_whole(&mut self, greatest: u128) -> Result<u128, DecodeErrorKind>
+    pub fn take_constrained_whole(&mut self, greatest: u128) -> Result<u128, DecodeErrorKind>
         ensures { Takes tested (λ a. constrained_form a (greatest + 1)) itself self.old result self.new }
     {
         match self.options.codec {

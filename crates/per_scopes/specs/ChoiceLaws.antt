@@ -10,7 +10,7 @@ use Rattle.per_core.specs.Basic.{basic, basic_in, rules, rules_in, Alternative, 
 use Rattle.per_core.specs.Took.{Took}
 use Rattle.per_core.proofs.Readings.{one_reading}
 use Rattle.per_core.proofs.Took.{took_then, then_took, took_map, took_agree}
-use Rattle.per_read.specs.Choices.{index_form}
+use Rattle.per_read_types.specs.Choices.{index_form}
 use Rattle.per_read.specs.Kinds.{NoneIn}
 use Rattle.per_read.specs.declared.error.DecodeError.{DecodeError}
 use Rattle.per_read.specs.declared.error.DecodeErrorKind.{DecodeErrorKind}

@@ -5,7 +5,7 @@ use Rattle.rasn_schema.specs.Choices.{tags_of}
 use Rattle.rasn_schema.specs.Schemas.{Schema}
 use Rattle.per_core.specs.Spellings.{Settings, Spelling, never}
 use Rattle.per_core.specs.Took.{Took}
-use Rattle.per_read.specs.Choices.{index_form}
+use Rattle.per_read_types.specs.Choices.{index_form}
 use Rattle.per_read.specs.declared.error.DecodeError.{DecodeError}
 use Rattle.per_additions.specs.Ends.{EndsAs}
 use Rattle.per_scopes.specs.Additions.{OpensContents, Waiting, outside_open}

@@ -14,10 +14,10 @@ use Rattle.per_core.specs.Counts.{list_items}
 use Rattle.per_core.specs.Spellings.{Settings}
 use Rattle.per_core.specs.Basic.{basic, rules, Body, ExtensionBit, Flags, IsBitmap, Octets, Root}
 use Rattle.per_core.specs.Took.{Took}
-use Rattle.per_read.specs.Choices.{IsOfIndex, index_form}
-use Rattle.per_read.specs.Enumerations.{IsOfItem}
+use Rattle.per_read_types.specs.Choices.{IsOfIndex, index_form}
+use Rattle.per_read_types.specs.Enumerations.{IsOfItem}
 use Rattle.per_read.specs.Kinds.{IsShort, IsTested, NoneIn}
-use Rattle.per_read.specs.Moments.{IsOfIdentifier, IsOfTime}
+use Rattle.per_read_types.specs.Moments.{IsOfIdentifier, IsOfTime}
 use Rattle.per_read.specs.Numbers.{IsOfNumber}
 use Rattle.per_read.specs.Sizes.{IsOfItems, IsOfSize}
 use Rattle.per_read.specs.Strings.{IsOfString, IsOfText}

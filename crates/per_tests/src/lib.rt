@@ -1,6 +1,6 @@
 //! Tests of what no clause of the writer and the reader says (`per_write` and `per_enc`, `per_read` and `per_de`) and no
 //! other test shows: calls that no type of the project makes, that they succeed where there is memory, which of two
-//! faults is named, and the texts of errors.
+//! faults is named, that a codec refuses again once it has failed, and the texts of errors.
 #![tactic(auto)]
 
 #[cfg(test)]
@@ -15,6 +15,8 @@ mod decode_errors;
 mod encode_errors;
 #[cfg(test)]
 mod expected;
+#[cfg(test)]
+mod failures;
 #[cfg(test)]
 mod lending;
 #[cfg(test)]

@@ -1,12 +1,12 @@
 -- The room that is made for the index of a choice.
-use Rattle.std.proofs.Common.{◌≡◌, refl, sym, ap, ap₂, ◌∙◌, subst, ℕ, ◌<◌, false, [], ◌++◌, length, replicate, Option, Some, None, ◌≤◌, Bool, true, leb, le-leb, lt-ltb, arith}
+use Rattle.std.proofs.Common.{◌≡◌, refl, sym, ap, ◌∙◌, subst, ℕ, ◌<◌, false, [], ◌++◌, replicate, Option, Some, None, ◌≤◌, Bool, true, leb, le-leb, lt-ltb, arith}
 use Rattle.std.proofs.lemmas.Bool.{leb-false, leb-true, lt-leb, ne_eqb}
 use Rattle.rasn_types.specs.Bits.{Bits, to_bits, width}
 use Rattle.rasn_types.specs.Codecs.{variant_of}
 use Rattle.rasn_types.specs.Variants.{Variant, aligned, unaligned}
 use Rattle.rasn_types.specs.declared.types.Codec.{Codec}
 use Rattle.per_core.specs.Counts.{constrained_whole}
-use Rattle.per_core.specs.Writers.{just, pad, join, after}
+use Rattle.per_core.specs.Writers.{pad, join}
 use Rattle.per_pieces.specs.Pieces.{Pieces, bit_count, with_bits}
 use Rattle.per_write.specs.Choices.{index_padding, index_width, OpensIndex}
 use Rattle.per_write.specs.State.{Scope, State, Wrote}

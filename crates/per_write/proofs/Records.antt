@@ -1,6 +1,6 @@
 -- A SEQUENCE that is opened and closed, and a group that is left out.
 use Rattle.std.specs.Prelude.{Result, Ok, Err}
-use Rattle.std.proofs.Common.{◌≡◌, refl, sym, ap, ap₂, ◌∙◌, subst, inl, ℕ, zero, suc, Bool, true, false, ◌||◌, [], ◌∷◌, ◌++◌, List, length, replicate, Option, Some, ◌+◌, ◌%◌, ◌-◌, append-nil}
+use Rattle.std.proofs.Common.{◌≡◌, refl, sym, ap, ap₂, ◌∙◌, subst, inl, ℕ, zero, suc, Bool, true, false, ◌||◌, [], ◌∷◌, ◌++◌, List, length, replicate, Option, Some, ◌+◌, append-nil}
 use Rattle.rasn_types.specs.Bits.{Bits}
 use Rattle.rasn_types.specs.Codecs.{variant_of}
 use Rattle.rasn_types.specs.Variants.{aligned}

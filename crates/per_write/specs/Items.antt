@@ -12,7 +12,7 @@ use Rattle.per_write.specs.declared.error.EncodeError.{EncodeError}
 use Rattle.per_write.specs.declared.error.EncodeErrorKind.{EncodeErrorKind}
 use Rattle.per_write.specs.declared.error.EncodeErrorKind.TheVariants.{SizeConstraintNotSatisfied}
 use Rattle.per_write.specs.Faults.{IsError, IsMemory, OutsideSize}
-use Rattle.per_write.specs.Fragments.{one_fragment}
+use Rattle.per_numbers.specs.Fragments.{one_fragment}
 use Rattle.per_write.specs.State.{Puts, State}
 
 -- what a length counts: of which kind its items are, how each is written, and the fault that a kind of error names in them

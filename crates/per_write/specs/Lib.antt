@@ -1,15 +1,11 @@
 pub mod Additions
-pub mod Alternatives
 pub mod Choices
 pub mod Characters
 pub mod Faults
 pub mod Items
-pub mod Lists
-pub mod Moments
 pub mod Names
 pub mod Numbers
 pub mod Floating
-pub mod Fragments
 pub mod Presences
 pub mod Records
 pub mod Remains

@@ -1,5 +1,5 @@
 -- What contracts see of a writer and of an encoder around it, and what their calls do to it.
-use Rattle.std.specs.Prelude.{ℕ, ◌≡◌, Bool, true, false, [], Option, Some, None, Result, OnOk, OnErr, IfErr}
+use Rattle.std.specs.Prelude.{ℕ, ◌≡◌, Bool, true, false, Option, Some, None, Result, OnOk, OnErr, IfErr}
 use Rattle.rasn_types.specs.Bits.{Bits}
 use Rattle.rasn_types.specs.Codecs.{variant_of}
 use Rattle.rasn_types.specs.Values.{Value}

@@ -13,10 +13,10 @@ ghost use Rattle.per_write.specs.State.{PutsIn};
 
 use crate::error::{EncodeError, EncodeErrorKind};
 use crate::items::Flags;
-use crate::lengths::push_padding;
 use crate::presences::{Presences, Scope};
 use crate::{Writer, no_bits};
 use per_bits::{BitList, BitReader};
+use per_numbers::lengths::push_padding;
 use per_pieces::Pieces;
 use std::alloc::Allocator;
 use std::marker::Model;

@@ -9,8 +9,8 @@ ghost use Rattle.per_write.specs.State.{PutsIn};
 
 use crate::Writer;
 use crate::error::{EncodeError, EncodeErrorKind};
-use crate::lengths::push_padding;
 use crate::presences::{Presences, Scope};
+use per_numbers::lengths::push_padding;
 use per_pieces::Pieces;
 use rasn_types::types::Codec;
 use rasn_types::width::width_of;
@@ -19,7 +19,7 @@ use std::alloc::Allocator;
 impl<A: Allocator + Clone> Writer<A> {
     /// Opens a CHOICE of so many root alternatives: zeros stand for the index of the one that follows. Answers what
     /// waits outside until the CHOICE is closed.
-    pub(crate) fn open_choice(&mut self, count: usize) -> Result<Scope<A>, EncodeError>
+    pub fn open_choice(&mut self, count: usize) -> Result<Scope<A>, EncodeError>
         requires { self.old.failed ≡ false }
         ensures { OpensIndexOrNot count self.old result self.new }
     {
@@ -33,7 +33,7 @@ impl<A: Allocator + Clone> Writer<A> {
 
     /// Closes a CHOICE of so many root alternatives by the index of the one that was written. What waited outside is
     /// there again. Where no index is kept it refuses.
-    pub(crate) fn close_choice(
+    pub fn close_choice(
         &mut self,
         count: usize,
         index: usize,
@@ -55,7 +55,7 @@ impl<A: Allocator + Clone> Writer<A> {
 
     /// Writes what stands in front of the index of one of so many root alternatives: in the aligned variant zeros up to
     /// the next octet, where the index is whole octets (X.691 11.5.7).
-    pub(crate) fn put_index_padding(&mut self, count: usize) -> Result<(), EncodeError>
+    pub fn put_index_padding(&mut self, count: usize) -> Result<(), EncodeError>
         requires { self.old.failed ≡ false }
         ensures { PutsIn IsMemory (λ a. index_padding a count) self.old result self.new }
     {
@@ -69,7 +69,7 @@ impl<A: Allocator + Clone> Writer<A> {
 
 /// How many bits the index of one of so many root alternatives takes (X.691 11.5.6, 11.5.7), of which there are at most
 /// 65536.
-pub(crate) fn index_width(codec: Codec, count: usize) -> usize
+pub fn index_width(codec: Codec, count: usize) -> usize
     ensures width { result ≡ index_width (variant_of codec) count }
     ensures few { result ≤ 64 }
 {

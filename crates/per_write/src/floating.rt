@@ -19,8 +19,10 @@ use std::mem;
 /// What waits while something is written before its place is known: what was written before, and what was open.
 #[derive(Drop)]
 pub struct Waiting<A: Allocator + Clone> {
-    pub(crate) pieces: Pieces<A>,
-    pub(crate) scope: Scope<A>,
+    /// What was written before.
+    pub pieces: Pieces<A>,
+    /// What was open.
+    pub scope: Scope<A>,
 }
 
 impl<A: Allocator + Clone> Model for Waiting<A> {

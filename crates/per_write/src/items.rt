@@ -9,7 +9,6 @@ ghost use Rattle.per_write.specs.Items.{CountedItems, PutsItems, items_between};
 
 use crate::Writer;
 use crate::error::{EncodeError, EncodeErrorKind};
-use crate::gathered::FIELD_BITS;
 use per_bits::{BitList, BitReader};
 use per_core::items::Item;
 use rasn_strings::alphabet::CharacterAlphabet;
@@ -17,8 +16,11 @@ use rasn_strings::strings::StaticPermittedAlphabet;
 use rasn_types::bit_string::BitString;
 use std::alloc::Allocator;
 
+/// The most bits of a field that is written at once, behind up to seven other bits of an octet.
+pub const FIELD_BITS: u32 = 56;
+
 /// Items that a length counts.
-pub(crate) trait Items {
+pub trait Items {
     // What is counted, how each item is written, and the fault that an error names in them.
     ghost counted: { Self → CountedItems };
 

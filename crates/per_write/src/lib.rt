@@ -15,27 +15,17 @@ ghost use Rattle.per_write.specs.Rules.{encoder_rules};
 ghost use Rattle.per_write.specs.Faults.{IsError, IsMemory, IsAlready, RefusesOutput};
 
 mod additions;
-mod alternatives;
-mod choices;
-mod enumerated;
+pub mod choices;
 pub mod error;
 mod floating;
-mod gathered;
-mod identifiers;
-mod integers;
-mod items;
-mod lengths;
-pub mod lists;
-mod numbers;
+pub mod items;
 mod presences;
 mod sizes;
-mod small;
 mod strings;
-mod times;
+pub mod wholes;
 
 use additions::Additions;
 pub use additions::Outside;
-pub use alternatives::OpenChoice;
 use error::{EncodeError, EncodeErrorKind};
 pub use floating::Waiting;
 use items::Octets;
@@ -124,6 +114,23 @@ impl<A: Allocator + Clone> Writer<A> {
         self.unless_out_of_memory(octets)
     }
 
+    /// What was written, and where the memory of more is from.
+    pub fn pieces(&self) -> &Pieces<A>
+        ensures { result.now ≡ self.now.pieces }
+    {
+        &self.pieces
+    }
+
+    /// The allocator of what is written, for what is made on the way to it.
+    pub fn allocator(&mut self) -> Result<A, EncodeError>
+        ensures kept { OnOk result (self.new ≡ self.old) }
+        ensures err { IfErr result (λ e. IsMemory e self.old) }
+        ensures fails { OnErr result (self.new ≡ record self.old { failed = true }) }
+    {
+        let alloc: Result<A, AllocError> = self.pieces.bits().allocator().clone();
+        self.unless_out_of_memory(alloc)
+    }
+
     /// An error of a kind, under the variant in use.
     fn error(&self, kind: EncodeErrorKind) -> EncodeError
         ensures { IsError kind result self.now }
@@ -135,7 +142,7 @@ impl<A: Allocator + Clone> Writer<A> {
     }
 
     /// An error of a kind, by which the writer has failed.
-    fn refuse(&mut self, kind: EncodeErrorKind) -> EncodeError
+    pub fn refuse(&mut self, kind: EncodeErrorKind) -> EncodeError
         ensures error { IsError kind result self.old }
         ensures failed { self.new ≡ record self.old { failed = true } }
     {
@@ -180,7 +187,7 @@ impl<A: Allocator + Clone> Writer<A> {
     }
 
     /// Writes the low `width` bits of a number, highest first (X.691 11.3).
-    fn put_bits(&mut self, number: u128, width: u128) -> Result<(), EncodeError>
+    pub fn put_bits(&mut self, number: u128, width: u128) -> Result<(), EncodeError>
         requires begun { self.old.failed ≡ false }
         requires few { width ≤ 128 }
         ensures { Puts IsMemory (just (to_bits width number)) self.old result self.new }

@@ -3,14 +3,14 @@
 ghost use Rattle.std.specs.Prelude.{◌≡◌, ◌≤◌, length, false};
 ghost use Rattle.rasn_types.specs.Variants.{Variant};
 ghost use Rattle.per_write.specs.Faults.{IsMemory};
-ghost use Rattle.per_write.specs.Fragments.{constrained_length, unconstrained_length};
+ghost use Rattle.per_numbers.specs.Fragments.{constrained_length, unconstrained_length};
 ghost use Rattle.per_write.specs.Items.{AllowsItems, PutsCounted, PutsItems, fragment_between, sized_items, unconstrained_items};
 ghost use Rattle.per_write.specs.State.{PutsIn};
 
 use crate::Writer;
 use crate::error::{EncodeError, EncodeErrorKind};
 use crate::items::Items;
-use crate::lengths::{FRAGMENT, push_constrained_length, push_unconstrained_length};
+use per_numbers::lengths::{FRAGMENT, push_constrained_length, push_unconstrained_length};
 use rasn_schema::constraints::{Bounded, Extensible};
 use std::alloc::Allocator;
 
@@ -70,7 +70,7 @@ impl<A: Allocator + Clone> Writer<A> {
 
     /// Writes items behind an unconstrained length (X.691 11.9.3.5 to 11.9.3.8): in fragments while there are 16384 or
     /// more, each as large as it may be, and then the rest behind a length of its own, which may be zero.
-    pub(crate) fn put_unconstrained_items<I: Items>(&mut self, items: &I) -> Result<(), EncodeError>
+    pub fn put_unconstrained_items<I: Items>(&mut self, items: &I) -> Result<(), EncodeError>
         requires { self.old.failed ≡ false }
         ensures { PutsItems (I.counted items.now) unconstrained_items self.old result self.new }
     {
@@ -101,7 +101,7 @@ impl<A: Allocator + Clone> Writer<A> {
     }
 
     /// Writes how many items follow, which begins on an octet in the aligned variant (X.691 11.9.3.5 to 11.9.3.8).
-    pub(crate) fn put_unconstrained_length(&mut self, count: usize) -> Result<(), EncodeError>
+    pub fn put_unconstrained_length(&mut self, count: usize) -> Result<(), EncodeError>
         requires { self.old.failed ≡ false }
         ensures { PutsIn IsMemory (λ a. unconstrained_length a count) self.old result self.new }
     {
@@ -111,7 +111,7 @@ impl<A: Allocator + Clone> Writer<A> {
 
     /// Writes how many items follow, as a constrained whole number, and the padding in front of items that begin on an
     /// octet (X.691 11.9.4.1).
-    pub(crate) fn put_constrained_length(
+    pub fn put_constrained_length(
         &mut self,
         lower: usize,
         upper: usize,

@@ -5,7 +5,7 @@ use Rattle.per_read.proofs.Calls.{answers, of_short, passes_on}
 use Rattle.per_read.proofs.Parts.{items_begin, items_end, items_go_on, no_items_length, no_items_short, small_length}
 use Rattle.per_additions.proofs.Opened.{no_open}
 use Rattle.per_additions.proofs.Pieces.{Anything, skipped}
-use Rattle.per_additions.proofs.Fronts.{no_front}
+use Rattle.per_read.proofs.Fronts.{no_front}
 use Rattle.per_additions.proofs.open_types.skip_open.Goals as goal
 
 pub loop-length-init : goal.loop-length-init

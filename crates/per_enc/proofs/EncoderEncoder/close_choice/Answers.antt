@@ -32,7 +32,7 @@ returns g c =
     let few : c.len.result ≤ 65536 = omega (arith, counted, leb-true (length C.VARIANTS) 65536 C.are_variants.few) in
     record {
       law = rw (← c.self.view_is) (λ x i n d k s v h p a w.
-          closes_choice C.EXTENDED_VARIANTS C.VARIANTS t x i c.self.inside.writer c.known_place.new.self _ c.args.outside (C.alternatives n) (C.added n) c.len.result c.in_ok-place.place d k s v c.close_alternative.result
+          closes_choice C.EXTENDED_VARIANTS C.VARIANTS t x i c.self.inside.writer c.known_place.new.writer _ c.args.outside (C.alternatives n) (C.added n) c.len.result c.in_ok-place.place d k s v c.close_alternative.result
           (counted ∙ variants_counted (C.alternatives n) (C.described n)) few (C.extends n) stands c.in_ok-place.ensures.stays c.close_alternative.ensures h p a w);
       unknown = λ e f. absurd (some_found t C.VARIANTS C.EXTENDED_VARIANTS c.in_ok-place.place stands e f);
       behaves = search rules;

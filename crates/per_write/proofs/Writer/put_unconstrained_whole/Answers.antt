@@ -5,7 +5,7 @@ use Rattle.rasn_types.specs.Codecs.{variant_of}
 use Rattle.rasn_types.specs.Octets.{whole_bits}
 use Rattle.per_core.specs.Counts.{counted_octets}
 use Rattle.per_write.specs.State.{Wrote}
-use Rattle.per_write.proofs.Constrained.{wrote_whole, wrote_number}
+use Rattle.per_write.proofs.Unbounded.{wrote_whole, wrote_number}
 use Rattle.per_write.proofs.Writer.put_unconstrained_whole.Goals as goal
 
 pub returns-in_default : goal.returns-in_default

@@ -1,0 +1,64 @@
+-- Items of an ENUMERATED, as they are read (X.691 14).
+use Rattle.std.specs.Prelude.{◌≡◌, ◌<◌, ◌≤◌, ◌^◌, ℕ, Bool, true, false, Option, Some, None}
+use Rattle.rasn_types.specs.Bits.{Bits}
+use Rattle.rasn_types.specs.Values.{Value, item, Side, root, added}
+use Rattle.per_core.specs.Basic.{As, ExtensionBit, Item, constrained_form}
+use Rattle.per_core.specs.Spellings.{Settings, Spelling, Then}
+use Rattle.per_core.specs.Took.{Took}
+use Rattle.per_read.specs.Kinds.{IsTested}
+use Rattle.per_read_types.specs.SmallNumbers.{IsOfSmall, empty_form, small_form}
+use Rattle.per_read.specs.declared.error.DecodeErrorKind.{DecodeErrorKind}
+use Rattle.per_read.specs.declared.error.DecodeErrorKind.TheVariants.{EnumerationIndexNotFound, IntegerOverflow, UnexpectedEmptyInput}
+
+-- X.691 14: an item of an ENUMERATED, as a value
+abbrev pub item_form : Settings → (roots addeds : ℕ) → (extensible : Bool) → Value → Spelling
+item_form a r e ext = As (λ (x : Side × ℕ). item x.0 x.1) (λ x. Item a r e ext x.0 x.1)
+
+-- the list before the extension marker, or that after it
+abbrev pub side_of : Bool → Side
+side_of false = root
+side_of true = added
+
+-- how many items stand there
+abbrev pub count_of : (roots addeds : ℕ) → Bool → ℕ
+count_of r e false = r
+count_of r e true = e
+
+-- X.691 14.2, 14.3: a place in a list of so many items, whether one stands there or not
+abbrev pub place_form : Settings → (count : ℕ) → Bool → ℕ → Spelling
+place_form a n false i = constrained_form a n i
+place_form a n true i = small_form a i
+
+-- a place in a list is read, behind the extension bit
+pub record IsPlace (a : Settings) (count : ℕ) (extensible : Bool) (extended : Bool) (i : ℕ) (s : Bits) : Type 0 where
+  pub rest : Bits
+  pub took : Took (Then (ExtensionBit extensible extended) (place_form a count extended i)) s rest
+
+-- what a kind says of a place in a list
+abbrev pub IsOfPlace : Settings → Bool → Bits → DecodeErrorKind → Type 0
+IsOfPlace a false s k = IsTested k
+IsOfPlace a true s k = IsOfSmall a s k
+
+-- what a kind says of an item: at a place that is read no item stands, a place is past 64 bits, or a large form has no
+-- octets
+abbrev pub IsOfItem : Settings → (roots addeds : ℕ) → (extensible : Bool) → Bits → DecodeErrorKind → Type 0
+IsOfItem a r e ext s (EnumerationIndexNotFound i extended) =
+    (count_of r e extended ≤ i) × IsPlace a (count_of r e extended) ext extended i s
+IsOfItem a r e ext s (IntegerOverflow width) =
+    (width ≡ 64) × ((extended : Bool) × (i : ℕ) × (2 ^ 64 ≤ i) × IsPlace a (count_of r e extended) ext extended i s)
+IsOfItem a r e ext s UnexpectedEmptyInput = (t : Bits) × Took (Then (ExtensionBit ext true) (empty_form a)) s t
+IsOfItem a r e ext s k = IsTested k
+
+-- an item stands at a place that was read
+pub record IsThere {E : Type 0} (value : E → Value) (count : ℕ) (extended : Bool) (place : Option ℕ)
+    (x : E) : Type 0 where
+  pub index : ℕ
+  pub is_place : place ≡ Some index
+  pub below : index < count
+  pub is : value x ≡ item (side_of extended) index
+
+-- none stands there, or the place is past 64 bits, and a kind that says so
+abbrev pub IsMissing : (count : ℕ) → (extended : Bool) → Option ℕ → DecodeErrorKind → Type 0
+IsMissing count extended place (EnumerationIndexNotFound i b) = (place ≡ Some i) × (b ≡ extended) × (count ≤ i)
+IsMissing count extended place (IntegerOverflow width) = (place ≡ None) × (width ≡ 64)
+IsMissing count extended place k = ⊥

@@ -1,0 +1,45 @@
+-- Integers of a type, under its bounds, as they are read.
+use Rattle.std.specs.Prelude.{◌≡◌, ℕ, ◌^◌, ◌≤◌, Bool, true, false, None, Result, ℤ, pos, negsuc}
+use Rattle.rasn_types.specs.Bits.{width}
+use Rattle.rasn_constraints.specs.Bounds.{holds, fits_i128, Bounds}
+use Rattle.per_core.specs.Basic.{IsNumberOf}
+use Rattle.per_read.specs.State.{State}
+use Rattle.per_read.specs.Takes.{Takes, memory_or}
+use Rattle.per_read.specs.declared.error.DecodeErrorKind.{DecodeErrorKind}
+use Rattle.per_read.specs.declared.error.DecodeErrorKind.TheVariants.{ValueConstraintNotSatisfied, IntegerOverflow}
+use Rattle.per_read.specs.declared.numbers.ReadNumber.{ReadNumber}
+use Rattle.per_read.specs.declared.numbers.ReadNumber.TheVariants.{Held, Below, Above}
+use Rattle.per_read.specs.Numbers.{IsOfNumber, in_i128}
+
+-- a fact about each number that it may be
+abbrev pub OfEach : (ℤ → Type 0) → ReadNumber → Type 0
+OfEach P (Held z) = P z
+OfEach P Below = (n : ℕ) → 2 ^ 127 ≤ n → P (negsuc n)
+OfEach P Above = (n : ℕ) → 2 ^ 127 ≤ n → P (pos n)
+
+-- What a kind says of a number that is no value of a type of a width: it stands outside its bounds, or within these but not in the type.
+abbrev pub IsMissed : Bounds → ℕ → DecodeErrorKind → ℤ → Type 0
+IsMissed bounds width (ValueConstraintNotSatisfied named low high) z = (holds bounds z ≡ false) × (named ≡ in_i128 z) × (low ≡ bounds.low) × (high ≡ bounds.high)
+IsMissed bounds width (IntegerOverflow w) z = (holds bounds z ≡ true) × (w ≡ width)
+IsMissed bounds width _ z = ⊥
+
+-- A number that was read is no value, and a kind that says why.
+pub record Misfit (bounds range : Bounds) (width : ℕ) (k : DecodeErrorKind) (z : ℤ) : Type 0 where
+  pub missed : IsMissed bounds width k z
+  pub none : fits_i128 z ≡ true → holds bounds z ≡ true → holds range z ≡ true → ⊥
+
+-- a number that was read is a value: an i128 holds it, it is within its bounds, and its type holds it
+pub record IsFit (bounds range : Bounds) (r : ReadNumber) (z : ℤ) : Type 0 where
+  pub held : r ≡ Held z
+  pub fits : fits_i128 z ≡ true
+  pub within : holds bounds z ≡ true
+  pub in_range : holds range z ≡ true
+
+-- a bound is there
+abbrev pub AreSome : Bounds → Type 0
+AreSome b = b.low ≡ None → b.high ≡ None → ⊥
+
+-- X.691 13: a call that takes an INTEGER of a type's range, under bounds and behind an extension bit where there is a mark
+abbrev pub TakesInteger : {I : Type 0} → Bounds → Bool → Bounds → (I → ℤ) → State → Result I DecodeErrorKind → State → Type 0
+TakesInteger bounds mark range number =
+    Takes (memory_or (λ a. IsOfNumber a bounds mark)) (λ a. IsNumberOf a bounds mark range) (λ P i. P (number i))

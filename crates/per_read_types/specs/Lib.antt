@@ -1,0 +1,5 @@
+pub mod Choices
+pub mod Enumerations
+pub mod Integers
+pub mod Moments
+pub mod SmallNumbers

@@ -1,0 +1,92 @@
+//! ENUMERATED (X.691 14).
+
+ghost use Rattle.std.specs.Prelude.{◌≡◌, IfErr, IfOk};
+ghost use Rattle.per_core.specs.Basic.{ExtensionBit, constrained_form};
+ghost use Rattle.per_read_types.specs.Enumerations.{IsMissing, IsOfItem, IsOfPlace, IsThere, count_of, item_form, place_form};
+ghost use Rattle.per_read_types.specs.SmallNumbers.{OfIndex};
+ghost use Rattle.per_read.specs.Takes.{Takes, itself, short, telling, tested};
+
+use crate::small::take_small;
+use per_read::Reader;
+use per_read::error::DecodeErrorKind;
+use rasn_schema::enumerated::Enumerated;
+
+/// Takes an item of an ENUMERATED (X.691 14): the extension bit, and the place in the list that it tells.
+pub fn take_enumerated<E: Enumerated>(reader: &mut Reader<'_>) -> Result<E, DecodeErrorKind>
+    ensures { Takes (telling (λ a. IsOfItem a E.roots E.addeds E.EXTENSIBLE))
+        (λ a. item_form a E.roots E.addeds E.EXTENSIBLE) (λ P x. P (E.value x)) reader.old result reader.new }
+{
+    let extended = take_extension_bit(reader, E::EXTENSIBLE)?;
+    let place = take_place(reader, item_count::<E>(extended), extended)?;
+    item_at(place, extended)
+}
+
+/// Takes the extension bit of a type with an extension marker, whether what follows stands after the marker (X.691
+/// 14.3). In another type nothing does.
+pub(crate) fn take_extension_bit(
+    reader: &mut Reader<'_>,
+    extensible: bool,
+) -> Result<bool, DecodeErrorKind>
+    ensures { Takes short (λ a. ExtensionBit extensible) itself reader.old result reader.new }
+{
+    if !extensible {
+        return Ok(false);
+    }
+    reader.take_bit()
+}
+
+/// Takes a place in a list of `count` items: before the extension marker as a constrained whole number, after it as
+/// a normally small one. `None` is a place that no `usize` holds.
+pub(crate) fn take_place(
+    reader: &mut Reader<'_>,
+    count: usize,
+    extended: bool,
+) -> Result<Option<usize>, DecodeErrorKind>
+    ensures { Takes (telling (λ a. IsOfPlace a extended)) (λ a. place_form a count extended) OfIndex
+        reader.old result reader.new }
+{
+    if extended {
+        take_small(reader)
+    } else {
+        take_root_place(reader, count)
+    }
+}
+
+/// Takes a place among `count` items before the extension marker (X.691 14.2). A code past the last place is
+/// answered as it stands.
+pub(crate) fn take_root_place(
+    reader: &mut Reader<'_>,
+    count: usize,
+) -> Result<Option<usize>, DecodeErrorKind>
+    ensures { Takes tested (λ a. constrained_form a count) OfIndex reader.old result reader.new }
+{
+    let code = reader.take_constrained_whole(count.saturating_sub(1) as u128)?;
+    Ok(usize::try_from(code).ok())
+}
+
+/// How many items a list has, that before the extension marker or that after it.
+fn item_count<E: Enumerated>(extended: bool) -> usize
+    ensures { result ≡ count_of E.roots E.addeds extended }
+{
+    if extended {
+        E::extended_variance()
+    } else {
+        E::variance()
+    }
+}
+
+/// The item at a place of a list, where it has one.
+fn item_at<E: Enumerated>(place: Option<usize>, extended: bool) -> Result<E, DecodeErrorKind>
+    ensures ok { IfOk result (λ x. IsThere E.value (count_of E.roots E.addeds extended) extended place x) }
+    ensures err { IfErr result (IsMissing (count_of E.roots E.addeds extended) extended place) }
+{
+    let Some(index) = place else {
+        return Err(DecodeErrorKind::IntegerOverflow(usize::BITS));
+    };
+    let found = if extended {
+        E::from_extended_enumeration_index(index)
+    } else {
+        E::from_enumeration_index(index)
+    };
+    found.ok_or(DecodeErrorKind::EnumerationIndexNotFound(index, extended))
+}

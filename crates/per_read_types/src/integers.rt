@@ -1,0 +1,118 @@
+//! INTEGER (X.691 13).
+
+ghost use Rattle.std.specs.Prelude.{◌≡◌, false, IfOk, IfErr};
+ghost use Rattle.rasn_constraints.specs.Bounds.{unbounded};
+ghost use Rattle.rasn_constraints.specs.Constraints.{bounds_of, bounds_in, is_marked};
+ghost use Rattle.per_core.specs.Basic.{IsNumberOf};
+ghost use Rattle.per_read_types.specs.Integers.{OfEach, IsFit, Misfit, AreSome, TakesInteger};
+
+use per_read::Reader;
+use per_read::error::DecodeErrorKind;
+use per_read::numbers::ReadNumber;
+use rasn_schema::constraints::{Bounded, Constraints, Extensible};
+use rasn_schema::schema::IntegerType;
+
+/// Takes an INTEGER under the first value constraint (X.691 13).
+pub fn take_integer<I: IntegerType>(
+    reader: &mut Reader<'_>,
+    constraints: &Constraints,
+) -> Result<I, DecodeErrorKind>
+    ensures { let value = constraints.now.value in
+        TakesInteger (bounds_in value) (is_marked value) I.range I.number reader.old result reader.new }
+{
+    match constraints.value() {
+        Some(value) => take_extensible_integer(reader, value),
+        None => take_unconstrained_integer(reader),
+    }
+}
+
+/// Takes a number under a value constraint. Where that has an extension marker, one bit comes first: 0 and the
+/// number under the bounds, or 1 and the number without, which may be within the bounds too (X.691 13.1).
+fn take_extensible_integer<I: IntegerType>(
+    reader: &mut Reader<'_>,
+    value: Extensible<Bounded<i128>>,
+) -> Result<I, DecodeErrorKind>
+    ensures { let bounds = bounds_of value.constraint in
+        TakesInteger bounds value.extensible I.range I.number reader.old result reader.new }
+{
+    if !value.extensible {
+        return take_root_integer(reader, &value.constraint);
+    }
+    if reader.take_bit()? {
+        return take_unconstrained_integer(reader);
+    }
+    take_root_integer(reader, &value.constraint)
+}
+
+/// Takes a number under bounds, where there are any (X.691 13.2).
+fn take_root_integer<I: IntegerType>(
+    reader: &mut Reader<'_>,
+    bounds: &Bounded<i128>,
+) -> Result<I, DecodeErrorKind>
+    ensures { TakesInteger (bounds_of bounds.now) false I.range I.number reader.old result reader.new }
+{
+    match bounds.start_and_end() {
+        (None, None) => take_unconstrained_integer(reader),
+        _ => take_within(reader, bounds),
+    }
+}
+
+/// Takes a number under bounds, of which one at least is there (X.691 13.2).
+fn take_within<I: IntegerType>(
+    reader: &mut Reader<'_>,
+    bounds: &Bounded<i128>,
+) -> Result<I, DecodeErrorKind>
+    requires { AreSome (bounds_of bounds.now) }
+    ensures { TakesInteger (bounds_of bounds.now) false I.range I.number reader.old result reader.new }
+{
+    let (lower, upper) = bounds.start_and_end();
+    let number = reader.take_number(lower, upper)?;
+    fit(number, bounds)
+}
+
+/// Takes a number without bounds, as an unconstrained whole number (X.691 11.8, 13.2.4). Superfluous leading octets
+/// are taken.
+fn take_unconstrained_integer<I: IntegerType>(reader: &mut Reader<'_>) -> Result<I, DecodeErrorKind>
+    ensures { TakesInteger unbounded false I.range I.number reader.old result reader.new }
+{
+    let Some(octets) = reader.take_few_octets()? else {
+        return take_long_integer(reader);
+    };
+    match I::try_from_i128(octets.signed()) {
+        Some(number) => Ok(number),
+        None => Err(DecodeErrorKind::IntegerOverflow(I::WIDTH)),
+    }
+}
+
+/// Takes the same, of any count of octets, which are kept in memory.
+fn take_long_integer<I: IntegerType>(reader: &mut Reader<'_>) -> Result<I, DecodeErrorKind>
+    ensures { TakesInteger unbounded false I.range I.number reader.old result reader.new }
+{
+    let octets = reader.take_octets()?;
+    if octets.is_empty() {
+        return Err(DecodeErrorKind::UnexpectedEmptyInput);
+    }
+    match I::try_from_signed_bytes(reader.alloc(), &octets)? {
+        Some(number) => Ok(number),
+        None => Err(DecodeErrorKind::IntegerOverflow(I::WIDTH)),
+    }
+}
+
+/// The value that a number is, first by the bounds and then by the type. A number that no `i128` holds is none, also
+/// where it is within the bounds.
+fn fit<I: IntegerType>(number: ReadNumber, bounds: &Bounded<i128>) -> Result<I, DecodeErrorKind>
+    ensures ok { IfOk result (λ x. IsFit (bounds_of bounds.now) I.range number (I.number x)) }
+    ensures err { IfErr result (λ kind. OfEach (Misfit (bounds_of bounds.now) I.range I.WIDTH kind) number) }
+{
+    let (lower, upper) = bounds.start_and_end();
+    let outside = match number {
+        ReadNumber::Held(number) if bounds.contains(&number) => {
+            return I::try_from_i128(number).ok_or(DecodeErrorKind::IntegerOverflow(I::WIDTH));
+        }
+        ReadNumber::Held(number) => Some(number),
+        ReadNumber::Below if lower.is_some() => None,
+        ReadNumber::Above if upper.is_some() => None,
+        _ => return Err(DecodeErrorKind::IntegerOverflow(I::WIDTH)),
+    };
+    Err(DecodeErrorKind::ValueConstraintNotSatisfied(outside, lower, upper))
+}

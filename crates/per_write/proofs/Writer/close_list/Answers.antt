@@ -1,7 +1,0 @@
-use Rattle.std.proofs.Common.{rules}
-use Rattle.per_write.proofs.Elements.{list_ended}
-use Rattle.per_write.proofs.Writer.close_list.Goals as goal
-
-pub returns-in-Some : goal.returns-in-Some
-returns-in-Some g c =
-    record { law = λ f x h. list_ended f x c.args.self.now c.put_unconstrained_length.new.self c.args.list c.in-Some.count c.put_unconstrained_length.result c.in-Some.is h c.put_unconstrained_length.ensures; behaves = search rules }

@@ -1,6 +1,0 @@
-use Rattle.std.proofs.Common.{rules}
-use Rattle.per_write.proofs.Elements.{list_law}
-use Rattle.per_write.proofs.Writer.open_list.Goals as goal
-
-pub returns : goal.returns
-returns g c = record { law = rw c.size.ensures at (list_law _ _ c.args.count c.args.self.now c.begin_counted.new.self c.begin_counted.result c.begin_counted.ensures); behaves = search rules }

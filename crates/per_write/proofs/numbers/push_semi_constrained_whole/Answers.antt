@@ -1,9 +1,0 @@
-use Rattle.std.proofs.lemmas.Result.{on_ok_weaker}
-use Rattle.rasn_types.specs.Codecs.{variant_of}
-use Rattle.per_write.proofs.Bounded.{appends_natural}
-use Rattle.per_write.proofs.numbers.push_semi_constrained_whole.Goals as goal
-
-pub returns : goal.returns
-returns g c =
-    on_ok_weaker _ (appends_natural (variant_of c.args.codec) _ _ _ c.args.offset c.octet_count-octets.result c.octet_count-octets.ensures.count c.octet_count-octets.ensures.few c.in_ok-push_unconstrained_length.ensures)
-    c.push_bits.ensures.ok

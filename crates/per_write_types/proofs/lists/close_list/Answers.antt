@@ -1,0 +1,7 @@
+use Rattle.std.proofs.Common.{rules}
+use Rattle.per_write_types.proofs.Elements.{list_ended}
+use Rattle.per_write_types.proofs.lists.close_list.Goals as goal
+
+pub returns-in-Some : goal.returns-in-Some
+returns-in-Some g c =
+    record { law = λ f x h. list_ended f x c.args.writer.now c.put_unconstrained_length.new.self c.args.list c.in-Some.count c.put_unconstrained_length.result c.in-Some.is h c.put_unconstrained_length.ensures; behaves = search rules }

@@ -1,0 +1,4 @@
+pub mod Alternatives
+pub mod Lists
+pub mod Moments
+pub mod Numbers
