@@ -5,3 +5,4 @@ pub mod Readers
 pub mod Sets
 pub mod Shifts
 pub mod Words
+pub mod LowBits

@@ -1,6 +1,6 @@
 -- Bits kept in octets, the highest bit of each first.
-use Rattle.std.specs.Prelude.{◌≡◌, ℕ, ◌+◌, ◌-◌, ◌*◌, ◌<◌, ◌≤◌, List, ◌++◌, length, take, replicate, false}
-use Rattle.rasn_types.specs.Bits.{Bits, unpack}
+use Rattle.std.specs.Prelude.{◌≡◌, ℕ, ◌+◌, ◌-◌, ◌*◌, ◌<◌, ◌≤◌, List, [], ◌∷◌, ◌++◌, length, take, replicate, false}
+use Rattle.rasn_types.specs.Bits.{Bits, to_bits, unpack}
 
 -- how many bits a word has; no numeral, so that no proof lists them
 unfoldable pub word_size : ℕ
@@ -27,3 +27,8 @@ ArePadded spare octets = AreFilledBy (filled spare octets) spare octets
 pub record AreWithin (skip count : ℕ) (octets : List ℕ) : Type 0 where
   pub few : skip < 8
   pub enough : skip + count ≤ 8 * length octets
+
+-- the low w bits of each of some numbers, one number after another
+abbrev pub low_bits_of : ℕ → List ℕ → Bits
+low_bits_of w [] = []
+low_bits_of w (n ∷ ns) = to_bits w n ++ low_bits_of w ns

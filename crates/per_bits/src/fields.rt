@@ -6,7 +6,7 @@
 
 ghost use Rattle.std.specs.Prelude.{◌≡◌, ◌+◌, ◌*◌, ◌%◌, ◌^◌, ◌<◌, ◌≤◌, ◌++◌, length, take, drop, set, vec_len, vec_capacity};
 ghost use Rattle.rasn_types.specs.Bits.{to_bits, number_of, unpack};
-ghost use Rattle.per_bits.specs.Octets.{word_size, first_word, filled, AreFilledBy, ArePadded, AreWithin};
+ghost use Rattle.per_bits.specs.Octets.{word_size, first_word, filled, low_bits_of, AreFilledBy, ArePadded, AreWithin};
 
 use rasn_types::bit_string::note_octets;
 use std::alloc::Allocator;
@@ -167,6 +167,44 @@ pub(crate) fn append_wide_field<A: Allocator>(
         let count = left.min(FIELD_BITS);
         left -= count;
         unused = append_field(octets, unused, low_field(value >> left), count);
+    }
+    unused
+}
+
+/// The number whose bits are the low `width` ones of each of some octets, no more than a field has.
+fn field_of(octets: &[u8], width: u32) -> u64
+    requires width { width ≤ 8 }
+    requires few { width * length octets.now ≤ FIELD_BITS }
+    ensures { to_bits (width * length octets.now) result ≡ low_bits_of width octets.now }
+{
+    let mut field: u64 = 0;
+    for octet in octets {
+        field = field << width | low_bits(u64::from(*octet), width);
+    }
+    field
+}
+
+/// Appends the low `width` bits of each of some octets, as many octets at a time as one field has, and answers how many
+/// bits are spare then.
+pub(crate) fn append_low_bits<A: Allocator>(
+    octets: &mut Vec<u8, A>,
+    spare: u32,
+    from: &[u8],
+    width: u32,
+) -> u32
+    requires padded { ArePadded spare octets.old.items }
+    requires width { width ≤ 8 }
+    requires room { vec_len octets.old + length from.now + 9 ≤ vec_capacity octets.old }
+    ensures { AreFilledBy (filled spare octets.old.items ++ low_bits_of width from.now) result octets.new.items }
+{
+    let most = (FIELD_BITS / width.max(1)) as usize;
+    let mut unused = spare;
+    let mut at = 0;
+    while at < from.len() {
+        let next = at + most.min(from.len() - at);
+        let field = field_of(&from[at..next], width);
+        unused = append_field(octets, unused, field, width * (next - at) as u32);
+        at = next;
     }
     unused
 }

@@ -7,11 +7,11 @@
 ghost use Rattle.std.specs.Prelude.{◌≡◌, ◌+◌, ◌-◌, ◌*◌, ◌/◌, ◌^◌, ◌<◌, ◌≤◌, List, [], ◌∷◌, ◌++◌, Bool, length, take, drop, set, slice_get, vec_len, vec_capacity, OnOk, OnErr, IfOk, IfErr, IsTrue, ◌↔◌, ⊤};
 ghost use Rattle.rasn_types.specs.Bits.{to_bits, number_of, unpack};
 ghost use Rattle.rasn_types.specs.Packed.{packed};
-ghost use Rattle.per_bits.specs.Octets.{filled, AreFilledBy, ArePadded};
+ghost use Rattle.per_bits.specs.Octets.{filled, low_bits_of, AreFilledBy, ArePadded};
 
 use crate::fields::{
-    FIELD_BITS, append_field, append_octets_behind, append_wide_field, fill_last_octet, low_field,
-    read_field, read_wide_field, with_bit,
+    FIELD_BITS, append_field, append_low_bits, append_octets_behind, append_wide_field,
+    fill_last_octet, low_field, read_field, read_wide_field, with_bit,
 };
 use rasn_types::bit_string::note_octets;
 use std::alloc::{AllocError, Allocator};
@@ -169,6 +169,22 @@ impl<A: Allocator> BitList<A> {
         self.push_reader(&BitReader::from_octets(octets))
     }
 
+    /// Appends the low `width` bits of each octet, highest first. The only error is want of memory, and then the list is
+    /// as it was.
+    pub fn push_low_bits(&mut self, octets: &[u8], width: u32) -> Result<(), AllocError>
+        requires { width ≤ 8 }
+        ensures ok { OnOk result (self.new ≡ self.old ++ low_bits_of width octets.now) }
+        ensures err { OnErr result (self.new ≡ self.old) }
+    {
+        if width == 8 {
+            return self.push_octets(octets);
+        }
+        // an octet for bits that stood there, and the word that is written before it is cut back
+        self.octets.reserve(octets.len() + 9)?;
+        self.spare = append_low_bits(&mut self.octets, self.spare, octets, width);
+        Ok(())
+    }
+
     /// Appends the bits that a reader has left. The only error is want of memory, and then the list is as it was.
     pub fn push_reader(&mut self, reader: &BitReader<'_>) -> Result<(), AllocError>
         ensures ok { OnOk result (self.new ≡ self.old ++ reader.now) }
@@ -298,6 +314,17 @@ impl<'input> BitReader<'input> {
         }
     }
 
+    /// The number that the first `width` bits mean, at most the 56 of a field. They are then no longer left.
+    pub fn take_field(&mut self, width: u32) -> u64
+        requires few { width ≤ FIELD_BITS }
+        requires left { width ≤ length self.old }
+        ensures { self.old ≡ to_bits width result ++ self.new }
+    {
+        let number = read_field(self.octets, self.skip, width);
+        self.take(u128::from(width)).unwrap();
+        number
+    }
+
     /// Appends the bits that are left to octets: the fewest octets, the first bit highest, and zero bits behind the
     /// last. The only error is want of memory, and then the octets are as they were.
     pub fn append_octets<A: Allocator>(&self, octets: &mut Vec<u8, A>) -> Result<(), AllocError>
@@ -308,17 +335,6 @@ impl<'input> BitReader<'input> {
         octets.reserve(self.octet_room())?;
         append_reader(octets, 0, self.clone().unwrap());
         Ok(())
-    }
-
-    /// The number that the first `width` bits mean, which are then no longer left.
-    fn take_field(&mut self, width: u32) -> u64
-        requires few { width ≤ FIELD_BITS }
-        requires left { width ≤ length self.old }
-        ensures { self.old ≡ to_bits width result ++ self.new }
-    {
-        let number = read_field(self.octets, self.skip, width);
-        self.take(u128::from(width)).unwrap();
-        number
     }
 
     /// Appends the octets that the bits fill, which are then no longer left.

@@ -6,6 +6,7 @@
 ghost use Rattle.std.specs.Prelude.{◌≡◌, ◌≤◌, ◌∷◌, [], ◌++◌, false, true, length, replicate, Some, OnOk, OnErr, IfOk};
 ghost use Rattle.rasn_types.specs.Bits.{to_bits, unpack};
 ghost use Rattle.rasn_types.specs.Variants.{aligned};
+ghost use Rattle.per_bits.specs.Octets.{low_bits_of};
 ghost use Rattle.per_core.specs.Writers.{just, padding};
 ghost use Rattle.per_pieces.specs.Pieces.{Appends, bit_count, bits_of, floating, plain, settle, settled, with_bit, with_bits};
 ghost use Rattle.per_pieces.specs.Places.{AreInOrder, marked};
@@ -113,6 +114,14 @@ impl<A: Allocator> Pieces<A> {
         ensures appends { OnOk result (Appends self.old (just (unpack octets.now)) self.new) }
     {
         self.bits.push_octets(octets)
+    }
+
+    /// Appends the low `width` bits of each octet, highest first. The only error is want of memory.
+    pub fn push_low_bits(&mut self, octets: &[u8], width: u32) -> Result<(), AllocError>
+        requires { width ≤ 8 }
+        ensures { OnOk result (Appends self.old (just (low_bits_of width octets.now)) self.new) }
+    {
+        self.bits.push_low_bits(octets, width)
     }
 
     /// Appends the bits that a reader has left. The only error is want of memory.

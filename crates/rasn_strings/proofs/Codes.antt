@@ -1,11 +1,11 @@
 -- The numbers that permitted characters are written as.
-use Rattle.std.proofs.Common.{◌≡◌, refl, sym, ap, ◌∙◌, subst, ℕ, zero, suc, ◌+◌, ◌*◌, ◌%◌, ◌^◌, ◌<◌, ◌≤◌, ◌⊎◌, max, Bool, true, false, ◌&&◌, ◌||◌, leb, ltb, eqb, nat_eq, List, [], ◌∷◌, length, Option, Some, None, slice_get, IsSome, IfSome, ◌↔◌, arith, pow_mono, mod-eq_of_lt, inl, inr}
+use Rattle.std.proofs.Common.{◌≡◌, refl, sym, ap, ap₂, ◌∙◌, subst, ℕ, zero, suc, ◌+◌, ◌*◌, ◌%◌, ◌^◌, ◌<◌, ◌≤◌, ◌⊎◌, max, Bool, true, false, ◌&&◌, ◌||◌, leb, ltb, eqb, nat_eq, List, [], ◌∷◌, length, Option, Some, None, slice_get, IsSome, IfSome, ◌↔◌, arith, pow_mono, mod-eq_of_lt, inl, inr}
 use Rattle.std.specs.List.{list_any}
-use Rattle.std.proofs.lemmas.Bool.{cases_Bool, ltb-true, lt-leb, eqb-true, eqb-false, eq-eqb, ne_eqb, cond-true, cond-false, or_left, or_right, or_from, and_parts, both_ways}
-use Rattle.rasn_types.specs.Alphabets.{Alphabet, char_width, char_code, keep_own, has, index_of, more, greatest, restricted_to}
+use Rattle.std.proofs.lemmas.Bool.{cases_Bool, ltb-true, lt-leb, eqb-true, eqb-false, eq-eqb, ne_eqb, cond-true, cond-false, or_left, or_right, or_from, and_parts, and_from, both_ways}
+use Rattle.rasn_types.specs.Alphabets.{Alphabet, char_width, char_code, keep_own, has, index_of, has_all, more, greatest, restricted_to}
 use Rattle.rasn_types.specs.Bits.{width}
-use Rattle.rasn_strings.specs.Intervals.{expand}
-use Rattle.rasn_strings.specs.Prepared.{IsPrepared, alphabet_of}
+use Rattle.rasn_strings.specs.Intervals.{all_within, expand}
+use Rattle.rasn_strings.specs.Prepared.{AreOwn, IsPrepared, alphabet_of}
 use Rattle.rasn_types.specs.Variants.{Variant, aligned}
 use Rattle.rasn_strings.specs.declared.intervals.Interval.{Interval}
 use Rattle.rasn_strings.proofs.Ascending.{Up, up-expand, up-restricted, has-restricted}
@@ -186,3 +186,22 @@ place_permitted a own_values r f k = go (slice_get a.characters k) refl
     go : (o : Option ℕ) → slice_get a.characters k ≡ o → IfSome o (λ c. has a.characters c ≡ true)
     go None e = tt
     go (Some c) e = (index_below a.characters c k (index_at 0 a.characters k c r.up e).0).3
+
+-- ---- characters within the interval of permitted ones
+
+own_within : (a : Alphabet) (own_values : Bool) (run : Interval) → Ready a own_values → own_values ≡ true →
+    ((c : ℕ) → (leb run.first c && leb c run.last) ≡ true → has a.characters c ≡ true) → (cs : List ℕ) → all_within run cs ≡ true → AreOwn a cs
+own_within a own_values run r t p [] h = record { permitted = refl; codes = refl }
+own_within a own_values run r t p (c ∷ cs) h =
+    let q = and_parts (leb run.first c && leb c run.last) (all_within run cs) h in
+    let k = own_within a own_values run r t p cs q.1 in
+    let m = p c q.0 in
+    record {
+      permitted = and_from (has a.characters c) (has_all a.characters cs) m k.permitted;
+      codes = ap₂ (λ (o : Option ℕ) os. o ∷ os) (code_own a own_values r t c m) k.codes;
+    }
+
+pub own_in_run : (own : List Interval) (permitted : Option (List ℕ)) (is_aligned : Bool) (w : ℕ) (own_values : Bool) (run : Interval) (a : Alphabet) → alphabet_of own permitted is_aligned ≡ a → IsPrepared own (alphabet_of own permitted is_aligned) w own_values run →
+    own_values ≡ true → (cs : List ℕ) → all_within run cs ≡ true → AreOwn a cs
+own_in_run own permitted is_aligned w own_values run a e p t cs h = own_within a own_values run (ready own permitted is_aligned w own_values run a e p) t
+    (λ c k. subst (λ (b : Alphabet). has b.characters c ≡ true) e (p.permitted c k)) cs h

@@ -48,3 +48,8 @@ own_get own (d ∷ cs) (suc i) h = own_get own cs i (and_parts (has own d) (has_
 pub own_units : (us : List ℕ) → ((i : ℕ) → Fits w16 (get_or us i 0)) → has_all bmp us ≡ true
 own_units [] h = refl
 own_units (u ∷ us) h = and_from (has bmp u) _ (has-interval_of 65536 0 u ∙ and_from _ _ (le-leb 0 u (omega arith)) (lt-ltb u 65536 (h 0).fits)) (own_units us (λ i. h (suc i)))
+
+-- more characters
+pub own_append : (own cs ds : List ℕ) → has_all own cs ≡ true → has_all own ds ≡ true → has_all own (cs ++ ds) ≡ true
+own_append own [] ds h e = e
+own_append own (c ∷ cs) ds h e = let p = and_parts (has own c) (has_all own cs) h in and_from (has own c) _ p.0 (own_append own cs ds p.1 e)

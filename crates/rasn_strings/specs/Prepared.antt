@@ -1,7 +1,7 @@
 -- What a `CharacterAlphabet` keeps, and the alphabet that it stands for.
-use Rattle.std.specs.Prelude.{ℕ, ◌≡◌, ◌≤◌, ◌^◌, Bool, true, nat_le, nat_lt, ◌&&◌, List, Option, option_map}
+use Rattle.std.specs.Prelude.{ℕ, ◌≡◌, ◌≤◌, ◌^◌, Bool, true, nat_le, nat_lt, ◌&&◌, List, map, Option, Some, option_map}
 use Rattle.std.specs.Borrow.{Bor}
-use Rattle.rasn_types.specs.Alphabets.{Alphabet, char_width, greatest, has, restricted_to}
+use Rattle.rasn_types.specs.Alphabets.{Alphabet, char_code, char_width, greatest, has, has_all, restricted_to}
 use Rattle.rasn_strings.specs.Intervals.{expand, ascend_from}
 use Rattle.rasn_types.specs.Variants.{variant_when}
 use Rattle.rasn_strings.specs.declared.intervals.Interval.{Interval}
@@ -22,3 +22,8 @@ pub record IsPrepared (own : List Interval) (alphabet : Alphabet) (width : ℕ) 
   pub few : width ≤ 16
   pub own_values_are : own_values ≡ nat_lt (greatest alphabet.characters) (2 ^ width)
   pub permitted : (c : ℕ) → (nat_le run.first c && nat_le c run.last) ≡ true → has alphabet.characters c ≡ true
+
+-- X.691 30.5.4: some characters are permitted, and each is written as its own value
+pub record AreOwn (alphabet : Alphabet) (characters : List ℕ) : Type 0 where
+  pub permitted : has_all alphabet.characters characters ≡ true
+  pub codes : map (char_code alphabet.variant alphabet.characters) characters ≡ map Some characters

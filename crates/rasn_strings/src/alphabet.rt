@@ -1,8 +1,8 @@
 //! The permitted alphabet of a character string, and the numbers that its characters are written as (X.691 30.4, 30.5).
 
-ghost use Rattle.std.specs.Prelude.{◌≡◌, ℕ, List, ◌^◌, ◌<◌, ◌≤◌, true, Some, length, slice_get, IsSome, IfSome, ◌↔◌};
+ghost use Rattle.std.specs.Prelude.{◌≡◌, ℕ, List, ◌^◌, ◌<◌, ◌≤◌, true, Some, length, slice_get, IsSome, IfSome, IsTrue, ◌↔◌};
 ghost use Rattle.rasn_types.specs.Alphabets.{Alphabet, char_width, char_code, has, index_of, restricted_to};
-ghost use Rattle.rasn_strings.specs.Prepared.{listed};
+ghost use Rattle.rasn_strings.specs.Prepared.{AreOwn, listed};
 ghost use Rattle.rasn_types.specs.Variants.{variant_when};
 
 use crate::intervals::{self, Interval, NO_RUN};
@@ -105,6 +105,15 @@ impl CharacterAlphabet {
         } else {
             None
         }
+    }
+
+    /// Whether some octets are found, by two comparisons each, to be permitted characters that are each written as their
+    /// own values. Where this is false they may still be.
+    #[inline]
+    pub fn are_own(&self, octets: &[u8]) -> bool
+        ensures { IsTrue result → AreOwn self.now octets.now }
+    {
+        self.own_values && self.run.contains_all(octets)
     }
 
     /// Whether a character is permitted.

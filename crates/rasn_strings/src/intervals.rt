@@ -2,7 +2,7 @@
 
 ghost use Rattle.std.specs.Prelude.{◌≡◌, ℕ, ◌+◌, ◌-◌, ◌^◌, ◌<◌, ◌≤◌, true, nat_le, ◌&&◌, length, slice_get};
 ghost use Rattle.rasn_types.specs.Alphabets.{has, greatest, index_of};
-ghost use Rattle.rasn_strings.specs.Intervals.{expand, ascend_from};
+ghost use Rattle.rasn_strings.specs.Intervals.{all_within, expand, ascend_from};
 
 /// The characters from a first to a last, both included, by their values.
 #[derive(Clone, Copy, Debug, PartialEq, Eq)]
@@ -20,6 +20,18 @@ impl Interval {
         ensures { result ≡ (nat_le self.first character && nat_le character self.last) }
     {
         self.first <= character && character <= self.last
+    }
+
+    /// Whether each of some octets is a character within the interval. All are looked at, without a branch for each.
+    #[inline]
+    pub(crate) fn contains_all(self, octets: &[u8]) -> bool
+        ensures { result ≡ all_within self octets.now }
+    {
+        let mut all = true;
+        for octet in octets {
+            all = all & self.contains(u32::from(*octet));
+        }
+        all
     }
 
     /// How many characters the interval has.

@@ -1,7 +1,7 @@
 //! The character strings whose characters all take as many bits, the known-multiplier strings (X.691 30.1), and their
 //! alphabets (X.680 41).
 
-ghost use Rattle.std.specs.Prelude.{◌≡◌, ℕ, List, [], ◌∷◌, ◌++◌, true, false, length, slice_get, IfSome, IfNone, OnOk, OnErr, IsTrue, ◌↔◌, ◌==◌};
+ghost use Rattle.std.specs.Prelude.{◌≡◌, ℕ, ◌+◌, ◌≤◌, List, [], ◌∷◌, ◌++◌, true, false, length, slice_get, vec_len, vec_capacity, IfSome, IfNone, OnOk, OnErr, IsTrue, ◌↔◌, ◌==◌};
 ghost use Rattle.std.specs.Cmp.Lexicographic.{pointwise};
 ghost use Rattle.std.specs.Cmp.Rules.{comparing};
 ghost use Rattle.std.proofs.Common.{rules};
@@ -34,6 +34,17 @@ pub trait StaticPermittedAlphabet: Drop {
         requires { has alphabet character ≡ true }
         ensures ok { OnOk result (characters self.new ≡ characters self.old ++ character ∷ []) }
         ensures err { OnErr result (characters self.new ≡ characters self.old) };
+
+    /// Appends octets, each of which is a character of the type. The only error is want of memory, and then the string
+    /// is as it was.
+    fn push_octets(&mut self, octets: &[u8]) -> Result<(), AllocError>
+        requires { has_all alphabet octets.now ≡ true }
+        ensures ok { OnOk result (characters self.new ≡ characters self.old ++ octets.now) }
+        ensures err { OnErr result (characters self.new ≡ characters self.old) };
+
+    /// The characters as one slice of octets; `None` of a type that holds them otherwise.
+    fn octets(&self) -> Option<&[u8]>
+        ensures { IfSome result (λ octets. octets.now ≡ characters self.now) };
 
     /// How many characters there are.
     fn len(&self) -> usize
@@ -123,6 +134,15 @@ impl StaticPermittedAlphabet for VisibleString {
         Ok(())
     }
 
+    fn push_octets(&mut self, octets: &[u8]) -> Result<(), AllocError> {
+        self.characters.extend_from_slice(octets)?;
+        Ok(())
+    }
+
+    fn octets(&self) -> Option<&[u8]> {
+        Some(self.characters.as_slice())
+    }
+
     fn len(&self) -> usize {
         self.characters.len()
     }
@@ -208,6 +228,15 @@ impl StaticPermittedAlphabet for Ia5String {
     fn push(&mut self, character: u32) -> Result<(), AllocError> {
         self.characters.push(character as u8)?;
         Ok(())
+    }
+
+    fn push_octets(&mut self, octets: &[u8]) -> Result<(), AllocError> {
+        self.characters.extend_from_slice(octets)?;
+        Ok(())
+    }
+
+    fn octets(&self) -> Option<&[u8]> {
+        Some(self.characters.as_slice())
     }
 
     fn len(&self) -> usize {
@@ -323,6 +352,15 @@ impl StaticPermittedAlphabet for PrintableString {
         Ok(())
     }
 
+    fn push_octets(&mut self, octets: &[u8]) -> Result<(), AllocError> {
+        self.characters.extend_from_slice(octets)?;
+        Ok(())
+    }
+
+    fn octets(&self) -> Option<&[u8]> {
+        Some(self.characters.as_slice())
+    }
+
     fn len(&self) -> usize {
         self.characters.len()
     }
@@ -416,6 +454,15 @@ impl StaticPermittedAlphabet for NumericString {
         Ok(())
     }
 
+    fn push_octets(&mut self, octets: &[u8]) -> Result<(), AllocError> {
+        self.characters.extend_from_slice(octets)?;
+        Ok(())
+    }
+
+    fn octets(&self) -> Option<&[u8]> {
+        Some(self.characters.as_slice())
+    }
+
     fn len(&self) -> usize {
         self.characters.len()
     }
@@ -499,6 +546,17 @@ impl StaticPermittedAlphabet for BmpString {
         Ok(())
     }
 
+    fn push_octets(&mut self, octets: &[u8]) -> Result<(), AllocError> {
+        self.units.reserve(octets.len())?;
+        append_units(&mut self.units, octets);
+        Ok(())
+    }
+
+    fn octets(&self) -> Option<&[u8]> {
+        // each character takes two
+        None
+    }
+
     fn len(&self) -> usize {
         self.units.len()
     }
@@ -546,6 +604,16 @@ fn character_at(octets: &[u8], index: usize) -> Option<u32>
 fn all_are_own(units: &[u16])
     ensures { has_all bmp units.now ≡ true }
 {}
+
+/// Appends octets, each as 16 bits, for which there is room.
+fn append_units(units: &mut Vec<u16>, octets: &[u8])
+    requires { vec_len units.old + length octets.now ≤ vec_capacity units.old }
+    ensures { units.new.items ≡ units.old.items ++ octets.now }
+{
+    for octet in octets {
+        units.push(u16::from(*octet)).unwrap();
+    }
+}
 
 /// The 16 bits at an index, as a character; `None` from the count on.
 fn unit_at(units: &[u16], index: usize) -> Option<u32>

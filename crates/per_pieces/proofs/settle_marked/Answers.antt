@@ -1,4 +1,3 @@
-use Rattle.std.proofs.Common.{◌∙◌}
 use Rattle.per_pieces.specs.Places.{marked}
 use Rattle.per_pieces.proofs.Marking.{settled_alone}
 use Rattle.per_pieces.proofs.settle_marked.Goals as goal

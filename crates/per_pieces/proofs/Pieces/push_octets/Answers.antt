@@ -1,4 +1,4 @@
-use Rattle.std.proofs.Common.{◌∙◌, ap, sym}
+use Rattle.std.proofs.Common.{◌∙◌, ap}
 use Rattle.rasn_types.specs.Bits.{unpack}
 use Rattle.std.proofs.lemmas.Result.{on_ok_weaker}
 use Rattle.per_pieces.specs.Pieces.{Pieces, with_bits}
