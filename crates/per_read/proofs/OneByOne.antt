@@ -135,16 +135,6 @@ field_taken w x s item t e l n = record {
   spelled = record { wide = l; means = sym (n ∙ ap number_of (take_all w item (omega arith))) };
 }
 
--- the bits of a word at the front, as the number that they mean
-pub word_bits : (word rest here : Bits) (l n : ℕ) → here ≡ word ++ rest → length word ≡ l → n ≡ number_of (take l here) → to_bits l n ≡ word
-word_bits word rest here l n i e h =
-    ap₂ (λ (k m : ℕ). to_bits k m) (sym e) (h ∙ ap (λ z. number_of (take l z)) i ∙ ap number_of (take-append-le l word rest (omega (arith, e)) ∙ take_all l word (omega (arith, e)))) ∙ to_bits-number word
-
-pub word_below : (here : Bits) (l n : ℕ) → n ≡ number_of (take l here) → l ≤ length here → l ≤ 56 → n < 2 ^ 56
-word_below here l n h left few =
-    let k : length (take l here) ≡ l = length-take l here ∙ omega arith in
-    omega (arith, h, number_below (take l here), pow_mono {i = length (take l here)} {j = 56} (omega (arith, k)))
-
 -- the next item of a word
 pub field_between : (w l n x : ℕ) → w ≤ l → x ≡ n / 2 ^ (l - w) % 2 ^ w → Took (Field w x) (to_bits l n) (to_bits (l - w) n)
 field_between w l n x h e = record {
