@@ -1,10 +1,10 @@
 -- Items of as many bits each, read one after the other.
-use Rattle.std.proofs.Common.{Bool, true, false, map, zero, ◌/◌, ap₂, take, drop, replicate, length-take, length-drop, Vec, Global, ◌≡◌, ◌<◌, ◌≤◌, ℕ, suc, ◌+◌, ◌-◌, ◌*◌, ◌%◌, ◌^◌, List, [], ◌∷◌, ◌++◌, length, refl, sym, ◌∙◌, ap, subst, arith, append_assoc, length-append, pow_mono}
+use Rattle.std.proofs.Common.{Bool, true, false, map, zero, ◌/◌, ap₂, take, drop, replicate, length-take, length-drop, Vec, Global, ◌≡◌, ◌<◌, ◌≤◌, ℕ, suc, ◌+◌, ◌-◌, ◌*◌, ◌%◌, ◌^◌, List, [], ◌∷◌, ◌++◌, length, refl, sym, ◌∙◌, ap, subst, arith, append_assoc, length-append}
 use Rattle.std.proofs.Math.Nat.{mul-add, mul-suc, mul-le-mul_left}
 use Rattle.std.proofs.lemmas.List.{take_all, take-append-drop, take-append-le, append-nil, length-map, map-append}
 use Rattle.rasn_types.specs.Bits.{Bits, number_of, pack, to_bits}
 use Rattle.rasn_types.specs.Packed.{packed}
-use Rattle.rasn_types.proofs.Bits.{length-to_bits, number_below, number-to_bits, to_bits-number, to_bits-split}
+use Rattle.rasn_types.proofs.Bits.{length-to_bits, number-to_bits, to_bits-split}
 use Rattle.rasn_types.proofs.Octets.{length-pack}
 use Rattle.per_core.specs.Writers.{after}
 use Rattle.per_core.specs.Spellings.{Field, Spelling}

@@ -1,4 +1,4 @@
-use Rattle.std.proofs.Common.{◌≡◌, ◌∙◌, ◌++◌, List, ℕ, length, map, arith, length-take, refl, subst, sym, take, Some}
+use Rattle.std.proofs.Common.{◌≡◌, ◌∙◌, ◌++◌, map, arith, length-take, refl, subst, sym, take, Some}
 use Rattle.rasn_types.specs.Alphabets.{Alphabet, char_code}
 use Rattle.per_read.specs.Strings.{AreRead}
 use Rattle.per_read.proofs.CharacterCodes.{has_all_among, known_all}
