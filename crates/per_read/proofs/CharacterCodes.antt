@@ -1,18 +1,21 @@
 -- Characters and their codes (X.691 30.5.4).
-use Rattle.std.proofs.Common.{◌≡◌, ◌∙◌, ℕ, Bool, true, false, List, [], ◌∷◌, ◌++◌, map, refl, sym, ap, ap₂, subst, Option, Some, None, append_assoc, arith, replicate, slice_index_or, ◌<◌, ◌≤◌, ◌⊎◌, inl, inr}
-use Rattle.std.proofs.lemmas.Bool.{cases_lt}
+use Rattle.std.proofs.Common.{◌≡◌, ◌∙◌, ℕ, Bool, true, false, List, [], ◌∷◌, ◌++◌, map, refl, sym, ap, ap₂, subst, Option, Some, None, append_assoc, arith, mod-eq_of_lt, replicate, slice_index_or, ◌^◌, ◌<◌, ◌≤◌, ◌⊎◌, IfSome, inl, inr}
+use Rattle.std.proofs.lemmas.Bool.{and_from, and_parts, cases_lt}
 use Rattle.std.proofs.lemmas.List.{get_or-replicate, get_or_past, length-replicate, map-append}
-use Rattle.rasn_types.specs.Alphabets.{Alphabet, char_code, char_width}
-use Rattle.rasn_types.specs.Bits.{Bits}
+use Rattle.rasn_types.specs.Alphabets.{Alphabet, char_code, char_width, has, has_all}
+use Rattle.rasn_types.specs.Bits.{Bits, to_bits}
+use Rattle.rasn_types.proofs.Bits.{length-to_bits, number-to_bits}
+use Rattle.rasn_strings.proofs.Codes.{code_fits}
+use Rattle.per_bits.specs.Octets.{low_bits_of}
 use Rattle.rasn_types.specs.Variants.{Variant}
 use Rattle.rasn_constraints.specs.Bounds.{Size}
-use Rattle.per_core.specs.Basic.{Char, String}
+use Rattle.per_core.specs.Basic.{Char, OneByOne, String}
 use Rattle.per_core.specs.Counts.{char_items}
 use Rattle.per_core.specs.Spellings.{Settings, Field}
 use Rattle.per_core.specs.Took.{Took}
 use Rattle.per_core.proofs.Agree.{Agree, field_agree}
 use Rattle.per_core.proofs.Lengths.{Zip, lengthy_agree}
-use Rattle.per_core.proofs.Took.{took_map, took_agree}
+use Rattle.per_core.proofs.Took.{took_agree, took_map, took_nothing, took_then}
 use Rattle.per_read.specs.Items.{lengthy_items}
 use Rattle.per_read.specs.Kinds.{NoneIn}
 use Rattle.per_read.specs.Sizes.{IsOfItems}
@@ -136,3 +139,37 @@ module _ (a : Settings) (alphabet : List ℕ) (size : Size) (mark : Bool) where
       go [] rest (c ∷ cs) z = u.none c z.0
       go (n ∷ front) rest [] z = z
       go (n ∷ front) rest (c ∷ cs) z = go front rest cs z.1
+
+-- ---- characters whose codes are their own values
+
+-- the characters of one alphabet are among those of another
+pub has_all_among : (xs ys cs : List ℕ) → ((c : ℕ) → has xs c ≡ true → has ys c ≡ true) → has_all xs cs ≡ true → has_all ys cs ≡ true
+has_all_among xs ys [] h e = refl
+has_all_among xs ys (c ∷ cs) h e = let p = and_parts (has xs c) (has_all xs cs) e in and_from (has ys c) (has_all ys cs) (h c p.0) (has_all_among xs ys cs h p.1)
+
+-- with all of these behind those that were read
+pub known_all : (a : Alphabet) (flag : Bool) (characters xs cs : List ℕ) → map (char_code a.variant a.characters) cs ≡ map Some cs → AreRead a flag characters xs → AreRead a flag (characters ++ cs) (xs ++ cs)
+known_all a true characters xs cs e h = record {
+  front = h.front;
+  code = h.code;
+  rest = h.rest ++ cs;
+  joins = ap (λ z. z ++ cs) h.joins ∙ append_assoc h.front (h.code ∷ h.rest) cs;
+  none = h.none;
+}
+known_all a false characters xs cs e h =
+    map-append (char_code a.variant a.characters) characters cs ∙ ap₂ (λ ys zs. ys ++ zs) h e ∙ sym (map-append Some xs cs)
+
+-- their bits are spelled by them
+pub own_took : (a : Alphabet) (cs : List ℕ) → map (char_code a.variant a.characters) cs ≡ map Some cs →
+    Took (OneByOne (Field (char_width a.variant a.characters)) cs) (low_bits_of (char_width a.variant a.characters) cs) []
+own_took a [] e = took_nothing []
+own_took a (c ∷ cs) e =
+    let w = char_width a.variant a.characters in
+    let first : char_code a.variant a.characters c ≡ Some c = cc in
+    let others : map (char_code a.variant a.characters) cs ≡ map Some cs = cc in
+    let below : c < 2 ^ w = subst (λ (o : Option ℕ). IfSome o (λ k. k < 2 ^ w)) first (code_fits a.variant a.characters c) in
+    took_then {f = Field w c} {g = OneByOne (Field w) cs} {s = to_bits w c ++ low_bits_of w cs} {m = low_bits_of w cs} {t = []} (record {
+      front = to_bits w c;
+      joins = refl;
+      spelled = record { wide = length-to_bits w c; means = number-to_bits w c ∙ mod-eq_of_lt below };
+    }) (own_took a cs others)

@@ -4,6 +4,7 @@ pub mod Counts
 pub mod Fields
 pub mod Forms
 pub mod Naturals
+pub mod OctetsInWords
 pub mod OneByOne
 pub mod Parts
 pub mod ReadAsField

@@ -1,10 +1,10 @@
 -- Items of as many bits each, read one after the other.
-use Rattle.std.proofs.Common.{Bool, true, false, map, zero, ◌/◌, ap₂, take, drop, replicate, length-take, length-drop, Vec, Global, ◌≡◌, ◌<◌, ◌≤◌, ℕ, suc, ◌+◌, ◌-◌, ◌*◌, ◌%◌, ◌^◌, List, [], ◌∷◌, ◌++◌, length, refl, sym, ◌∙◌, ap, subst, arith, append_assoc, length-append, pow_mono}
+use Rattle.std.proofs.Common.{Bool, true, false, map, zero, ◌/◌, ap₂, take, drop, replicate, length-take, length-drop, Vec, Global, ◌≡◌, ◌<◌, ◌≤◌, ℕ, suc, ◌+◌, ◌-◌, ◌*◌, ◌%◌, ◌^◌, List, [], ◌∷◌, ◌++◌, length, refl, sym, ◌∙◌, ap, subst, arith, append_assoc, length-append}
 use Rattle.std.proofs.Math.Nat.{mul-add, mul-suc, mul-le-mul_left}
 use Rattle.std.proofs.lemmas.List.{take_all, take-append-drop, take-append-le, append-nil, length-map, map-append}
 use Rattle.rasn_types.specs.Bits.{Bits, number_of, pack, to_bits}
 use Rattle.rasn_types.specs.Packed.{packed}
-use Rattle.rasn_types.proofs.Bits.{length-to_bits, number_below, number-to_bits, to_bits-number, to_bits-split}
+use Rattle.rasn_types.proofs.Bits.{length-to_bits, number-to_bits, to_bits-split}
 use Rattle.rasn_types.proofs.Octets.{length-pack}
 use Rattle.per_core.specs.Writers.{after}
 use Rattle.per_core.specs.Spellings.{Field, Spelling}
@@ -134,16 +134,6 @@ field_taken w x s item t e l n = record {
   joins = e;
   spelled = record { wide = l; means = sym (n ∙ ap number_of (take_all w item (omega arith))) };
 }
-
--- the bits of a word at the front, as the number that they mean
-pub word_bits : (word rest here : Bits) (l n : ℕ) → here ≡ word ++ rest → length word ≡ l → n ≡ number_of (take l here) → to_bits l n ≡ word
-word_bits word rest here l n i e h =
-    ap₂ (λ (k m : ℕ). to_bits k m) (sym e) (h ∙ ap (λ z. number_of (take l z)) i ∙ ap number_of (take-append-le l word rest (omega (arith, e)) ∙ take_all l word (omega (arith, e)))) ∙ to_bits-number word
-
-pub word_below : (here : Bits) (l n : ℕ) → n ≡ number_of (take l here) → l ≤ length here → l ≤ 56 → n < 2 ^ 56
-word_below here l n h left few =
-    let k : length (take l here) ≡ l = length-take l here ∙ omega arith in
-    omega (arith, h, number_below (take l here), pow_mono {i = length (take l here)} {j = 56} (omega (arith, k)))
 
 -- the next item of a word
 pub field_between : (w l n x : ℕ) → w ≤ l → x ≡ n / 2 ^ (l - w) % 2 ^ w → Took (Field w x) (to_bits l n) (to_bits (l - w) n)

@@ -1,7 +1,8 @@
 //! An alphabet and the characters of the codes that were read with it.
 
-ghost use Rattle.std.specs.Prelude.{◌≡◌, ◌<◌, ◌≤◌, ℕ, true, Some, IfSome, IfNone};
+ghost use Rattle.std.specs.Prelude.{◌≡◌, ◌<◌, ◌≤◌, ℕ, true, Some, IfSome, IfNone, IsTrue};
 ghost use Rattle.rasn_types.specs.Alphabets.{Alphabet, char_code, char_width, has};
+ghost use Rattle.rasn_strings.specs.Prepared.{AreOwn};
 
 use rasn_strings::alphabet::CharacterAlphabet;
 use std::marker::Model;
@@ -42,6 +43,14 @@ impl ReadAlphabet {
         ensures few { result ≤ 16 }
     {
         self.alphabet.width()
+    }
+
+    /// Whether some octets are found to be permitted characters that are each written as their own values. Where this is
+    /// false they may still be.
+    pub(crate) fn are_own(&self, octets: &[u8]) -> bool
+        ensures { IsTrue result → AreOwn self.now octets.now }
+    {
+        self.alphabet.are_own(octets)
     }
 
     /// The character that is written as a number, where it is known; else 0.

@@ -1,9 +1,10 @@
 //! What is counted in strings, and what gathers it: octets, bits and characters, each of as many bits (X.691 11.9, 16,
 //! 17, 30.5).
 
-ghost use Rattle.std.specs.Prelude.{◌≡◌, ℕ, ◌+◌, ◌*◌, ◌/◌, ◌%◌, ◌^◌, ◌<◌, ◌≤◌, [], ◌∷◌, List, length, map, true, OnOk};
+ghost use Rattle.std.specs.Prelude.{◌≡◌, ℕ, ◌+◌, ◌*◌, ◌/◌, ◌%◌, ◌^◌, ◌<◌, ◌≤◌, [], ◌∷◌, List, length, map, take, true, OnOk};
 ghost use Rattle.rasn_types.specs.Alphabets.{has, char_width};
 ghost use Rattle.rasn_types.specs.Bits.{to_bits};
+ghost use Rattle.per_bits.specs.Octets.{low_bits_of};
 ghost use Rattle.per_core.specs.Basic.{OneByOne};
 ghost use Rattle.per_core.specs.Items.{bits_of};
 ghost use Rattle.per_core.specs.declared.items.Item.TheVariants.{Octet, Bit, Character};
@@ -60,8 +61,7 @@ pub(crate) trait Collector {
         while done < many {
             let count = most.min(many - done);
             let length = width * count as u32;
-            let word = left.first_bits(u128::from(length)) as u64;
-            left.take(u128::from(length)).unwrap();
+            let word = left.take_field(length);
             self.push_word(word, length, count)?;
             done += count;
         }
@@ -70,6 +70,19 @@ pub(crate) trait Collector {
 
     /// Appends the items that the low `length` bits of a word are, `many` of them.
     fn push_word(&mut self, word: u64, length: u32, many: usize) -> Result<(), AllocError>
+        requires bits { length ≡ bits_of (item self.old) * many }
+        requires few { length ≤ WORD_BITS }
+        requires room { count self.old + many ≤ usize.MAX }
+        ensures ok { let form = OneByOne (coded (item self.old)) in
+            OnOk result (TookItems holds form many self.old self.new (to_bits length word) []) }
+        ensures item { OnOk result (item self.new ≡ item self.old) }
+        ensures count { OnOk result (count self.new ≤ count self.old + many) }
+    {
+        self.push_each(word, length, many)
+    }
+
+    /// The same, one item after another.
+    fn push_each(&mut self, word: u64, length: u32, many: usize) -> Result<(), AllocError>
         requires bits { length ≡ bits_of (item self.old) * many }
         requires few { length ≤ WORD_BITS }
         requires room { count self.old + many ≤ usize.MAX }
@@ -99,6 +112,21 @@ fn items_in_word(width: u32) -> usize
     ensures at_most { result ≤ WORD_BITS }
 {
     (WORD_BITS / width.max(1)) as usize
+}
+
+/// Octets of which the low `width` bits of each of the first `many` are those of a word. The others are zeros.
+fn octets_in_word(word: u64, width: u32, many: usize) -> [u8; 8]
+    requires width { width ≤ 8 }
+    requires many { many ≤ 8 }
+    ensures { low_bits_of width (take many result) ≡ to_bits (width * many) word }
+{
+    let mut octets = [0; 8];
+    let mut left = width * many as u32;
+    for index in 0..many {
+        left -= width;
+        octets[index] = number_between(word, left, width) as u8;
+    }
+    octets
 }
 
 /// The number that `width` bits of a word mean, with `behind` others behind them.
@@ -210,6 +238,18 @@ impl<S: StaticPermittedAlphabet> Collector for Characters<S> {
             None => self.has_unknown = true,
         }
         Ok(())
+    }
+
+    fn push_word(&mut self, word: u64, length: u32, many: usize) -> Result<(), AllocError> {
+        let width = self.alphabet.width();
+        if width <= 8 && many <= 8 {
+            let octets = octets_in_word(word, width, many);
+            if self.alphabet.are_own(&octets[..many]) {
+                self.string.push_octets(&octets[..many])?;
+                return Ok(());
+            }
+        }
+        self.push_each(word, length, many)
     }
 }
 

@@ -6,9 +6,10 @@ use Rattle.std.proofs.lemmas.Nat.{mul-le}
 use Rattle.std.proofs.Math.Nat.{add-mul}
 use Rattle.rasn_types.specs.Alphabets.{Alphabet, char_code, char_width}
 use Rattle.rasn_types.specs.Bits.{Bits, to_bits}
+use Rattle.per_bits.specs.Octets.{low_bits_of}
 use Rattle.per_core.specs.Canon.{char_writers, coded}
-use Rattle.per_core.specs.Writers.{Writer, after, join, just, one_by_one, ◌▹◌}
-use Rattle.per_write.specs.Characters.{IsField}
+use Rattle.per_core.specs.Writers.{Writer, after, go_on, join, just, one_by_one, ◌▹◌}
+use Rattle.per_write.specs.Characters.{AreOwnBetween, IsField}
 use Rattle.per_write.specs.Remains.{Remains}
 use Rattle.per_write.specs.State.{State, Wrote}
 use Rattle.per_write.proofs.Fields.{field_more, one_more}
@@ -93,3 +94,22 @@ remains_field a cs at next end number bits n all x y z h e d f r w =
     let ws = char_writers a.variant a.characters cs in
     remains_after x y z all (one_by_one (slice_range ws at end)) (just (to_bits bits n)) (one_by_one (slice_range ws next end)) r
     (λ p. f end h p ∙ sym (ap (λ (m : ℕ). (just (to_bits m n) ▹ one_by_one (slice_range ws next end)) p) e ∙ ap (λ (m : ℕ). (just (to_bits ((next - at) * char_width a.variant a.characters) m) ▹ one_by_one (slice_range ws next end)) p) d)) w
+
+-- ---- characters that are each written as their own values
+
+each_own : (w : ℕ) (code : ℕ → Option ℕ) (cs : List ℕ) (p : ℕ) → map code cs ≡ map Some cs → one_by_one (map (λ (c : ℕ). coded w (code c)) cs) p ≡ Some (low_bits_of w cs)
+each_own w code [] p e = refl
+each_own w code (c ∷ cs) p e =
+    let first : code c ≡ Some c = cc in
+    let others : map code cs ≡ map Some cs = cc in
+    let rest = one_by_one (map (λ (d : ℕ). coded w (code d)) cs) in
+    ap (λ (o : Option ℕ). go_on (coded w o p) rest p) first ∙ ap (join (to_bits w c)) (each_own w code cs (after p (to_bits w c)) others)
+
+pub own_written : (a : Alphabet) (cs octets : List ℕ) (start end width : ℕ) → width ≡ char_width a.variant a.characters → AreOwnBetween a cs start end octets →
+    (p : ℕ) → just (low_bits_of width octets) p ≡ one_by_one (slice_range (char_writers a.variant a.characters cs) start end) p
+unfolding char_writers
+own_written a cs octets start end width e h p =
+    let w = char_width a.variant a.characters in
+    let f = λ (d : ℕ). coded w (char_code a.variant a.characters d) in
+    let mapped : slice_range (map f cs) start end ≡ map f octets = ap (take (end - start)) (drop-map f start cs) ∙ take-map f (end - start) (drop start cs) ∙ ap (map f) (sym h.these) in
+    ap (λ (n : ℕ). just (low_bits_of n octets) p) e ∙ sym (ap (λ (ws : List Writer). one_by_one ws p) mapped ∙ each_own w (char_code a.variant a.characters) octets p h.own.codes)

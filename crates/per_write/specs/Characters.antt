@@ -4,6 +4,7 @@ use Rattle.rasn_types.specs.Alphabets.{Alphabet, char_width, visible}
 use Rattle.rasn_types.specs.Bits.{to_bits}
 use Rattle.rasn_types.specs.Codecs.{variant_of}
 use Rattle.rasn_types.specs.declared.types.Codec.{Codec}
+use Rattle.rasn_strings.specs.Prepared.{AreOwn}
 use Rattle.per_core.specs.Canon.{char_writers}
 use Rattle.per_core.specs.Counts.{char_items}
 use Rattle.per_core.specs.Writers.{just, one_by_one, ◌▹◌}
@@ -29,6 +30,12 @@ IsField alphabet cs start end number =
     let ws = char_writers alphabet.variant alphabet.characters cs in
     let bits = to_bits ((end - start) * char_width alphabet.variant alphabet.characters) number in
     (last : ℕ) → end ≤ last → (p : ℕ) → one_by_one (slice_range ws start last) p ≡ (just bits ▹ one_by_one (slice_range ws end last)) p
+
+-- octets are the characters from an index on and before another, each of which is written as its own value, in at most eight bits
+pub record AreOwnBetween (alphabet : Alphabet) (cs : List ℕ) (start end : ℕ) (octets : List ℕ) : Type 0 where
+  pub these : octets ≡ slice_range cs start end
+  pub own : AreOwn alphabet octets
+  pub few : char_width alphabet.variant alphabet.characters ≤ 8
 
 -- one of some characters has no encoding, as it isn't permitted
 abbrev pub IsRefused : Alphabet → List ℕ → Type 0

@@ -4,7 +4,7 @@ ghost use Rattle.std.specs.Prelude.{◌≡◌, ◌-◌, ◌*◌, ◌≤◌, fals
 ghost use Rattle.rasn_types.specs.Alphabets.{char_width};
 ghost use Rattle.rasn_types.specs.Variants.{Variant};
 ghost use Rattle.per_core.specs.Items.{counted_of};
-ghost use Rattle.per_write.specs.Characters.{IsField, IsRefused};
+ghost use Rattle.per_write.specs.Characters.{AreOwnBetween, IsField, IsRefused};
 ghost use Rattle.per_write.specs.Items.{CountedItems, PutsItems, items_between};
 
 use crate::Writer;
@@ -161,6 +161,9 @@ impl<S: StaticPermittedAlphabet> Items for Characters<'_, S> {
         end: usize,
     ) -> Result<(), EncodeError> {
         let width = self.alphabet.width();
+        if let Some(octets) = self.own_octets(start, end) {
+            return writer.put_low_bits(octets, width);
+        }
         let most = (FIELD_BITS / width.max(1)) as usize;
         let mut at = start;
         while at < end {
@@ -176,6 +179,22 @@ impl<S: StaticPermittedAlphabet> Items for Characters<'_, S> {
 }
 
 impl<S: StaticPermittedAlphabet> Characters<'_, S> {
+    /// The characters from an index on and before another, where they are octets and found to be written as such.
+    fn own_octets(&self, start: usize, end: usize) -> Option<&[u8]>
+        requires ordered { start ≤ end }
+        requires within { end ≤ length (S.characters self.now.string.now) }
+        ensures { IfSome result (λ octets.
+            AreOwnBetween self.now.alphabet (S.characters self.now.string.now) start end octets.now) }
+    {
+        let all = self.string.octets()?;
+        let octets = &all[start..end];
+        if self.alphabet.width() <= 8 && self.alphabet.are_own(octets) {
+            Some(octets)
+        } else {
+            None
+        }
+    }
+
     /// The number whose bits are the codes of the characters from an index on and before another, as many as one field
     /// has at most; `None` where one of them isn't permitted.
     fn field(&self, start: usize, end: usize) -> Option<u64>

@@ -6,6 +6,7 @@ ghost use Rattle.std.specs.Prelude.{◌≡◌, ◌≤◌, ◌∷◌, [], true, f
 ghost use Rattle.rasn_types.specs.Bits.{to_bits};
 ghost use Rattle.rasn_types.specs.Codecs.{variant_of};
 ghost use Rattle.rasn_calls.specs.Reals.{WritesNoReal};
+ghost use Rattle.per_bits.specs.Octets.{low_bits_of};
 ghost use Rattle.per_core.specs.Writers.{just, complete, one_by_one};
 ghost use Rattle.per_core.specs.Counts.{octet_writers, unconstrained_octets};
 ghost use Rattle.per_core.specs.Canon.{completed};
@@ -193,6 +194,16 @@ impl<A: Allocator + Clone> Writer<A> {
         ensures { Puts IsMemory (just (to_bits width number)) self.old result self.new }
     {
         let pushed = self.pieces.push_bits(number, width);
+        self.unless_out_of_memory(pushed)
+    }
+
+    /// Writes the low `width` bits of each octet, highest first.
+    fn put_low_bits(&mut self, octets: &[u8], width: u32) -> Result<(), EncodeError>
+        requires begun { self.old.failed ≡ false }
+        requires few { width ≤ 8 }
+        ensures { Puts IsMemory (just (low_bits_of width octets.now)) self.old result self.new }
+    {
+        let pushed = self.pieces.push_low_bits(octets, width);
         self.unless_out_of_memory(pushed)
     }
 

@@ -1,4 +1,3 @@
-use Rattle.std.specs.Prelude.{IfOk, IfErr}
 use Rattle.std.proofs.lemmas.Result.{IfOk-weaker}
 use Rattle.per_read.proofs.Reader.skip_octet_string.Goals as goal
 

@@ -8,7 +8,7 @@ use Rattle.per_core.specs.Spellings.{Field}
 use Rattle.per_read.specs.Items.{TookItems}
 use Rattle.per_read.proofs.Fields.{field_below}
 use Rattle.per_read.proofs.OneByOne.{field_between, first_begin, first_end, first_go_on, one_more_left}
-use Rattle.per_read.proofs.items.Collector.push_word.Goals as goal
+use Rattle.per_read.proofs.items.Collector.push_each.Goals as goal
 
 pub loop-init : goal.loop-init
 loop-init g c =

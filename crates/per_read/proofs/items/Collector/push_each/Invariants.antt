@@ -1,7 +1,7 @@
 use Rattle.std.proofs.Common.{◌≡◌, ◌≤◌, ◌+◌}
 use Rattle.rasn_types.specs.Bits.{to_bits}
 use Rattle.per_read.proofs.OneByOne.{FirstItems}
-use Rattle.per_read.proofs.items.Collector.push_word.Given as goal
+use Rattle.per_read.proofs.items.Collector.push_each.Given as goal
 
 abbrev pub invariant-loop : goal.invariant-loop
 invariant-loop g l = record {

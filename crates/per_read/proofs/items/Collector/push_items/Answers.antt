@@ -1,12 +1,13 @@
-use Rattle.std.proofs.Common.{◌≡◌, ◌∙◌, ◌*◌, [], length, take, arith, ap, refl, sym, subst, ℕ, rules}
+use Rattle.std.proofs.Common.{◌≡◌, ◌∙◌, ◌*◌, [], length, arith, ap, refl, sym, subst, ℕ}
 use Rattle.std.proofs.Math.Nat.{mul-le-mul_left}
 use Rattle.std.proofs.lemmas.List.{append-nil}
-use Rattle.rasn_types.specs.Bits.{number_of}
+use Rattle.rasn_types.specs.Bits.{to_bits}
+use Rattle.rasn_types.proofs.Bits.{length-to_bits}
 use Rattle.per_core.specs.Items.{bits_of}
 use Rattle.per_core.specs.Basic.{OneByOne}
 use Rattle.per_core.specs.Spellings.{Field}
 use Rattle.per_read.specs.Items.{TookItems}
-use Rattle.per_read.proofs.OneByOne.{first_begin, first_end, first_go_far, word_below, word_bits, word_left}
+use Rattle.per_read.proofs.OneByOne.{first_begin, first_end, first_go_far, word_left}
 use Rattle.per_read.proofs.items.Collector.push_items.Goals as goal
 
 pub loop-done-init : goal.loop-done-init
@@ -18,18 +19,11 @@ loop-done-init g c =
       few = omega arith;
     }
 
-pub first_bits-word-requires-clause-left : goal.first_bits-word-requires-clause-left
-first_bits-word-requires-clause-left g c = omega (arith, word_left c.min-count.result c.loop-done.invariant.first (omega arith), c.from.ensures)
+pub take_field-word-requires-clause-few : goal.take_field-word-requires-clause-few
+take_field-word-requires-clause-few g c = omega (arith, c.items_in_word-most.ensures.few, mul-le-mul_left {m = c.min-count.result} {n = c.items_in_word-most.result} c.width-width.result (omega arith))
 
-pub overflow_cast-word : goal.overflow_cast-word
-overflow_cast-word g c =
-    let few = mul-le-mul_left {m = c.min-count.result} {n = c.items_in_word-most.result} c.width-width.result (omega arith) in
-    omega (arith, word_below c.loop-done.left c.from.result c.first_bits-word.result c.first_bits-word.ensures (omega (arith, word_left c.min-count.result c.loop-done.invariant.first (omega arith), c.from.ensures)) (omega (arith, few, c.items_in_word-most.ensures.few, c.from.ensures)))
-
-pub unwrap-requires : goal.unwrap-requires
-unwrap-requires g c =
-    let l = word_left c.min-count.result c.loop-done.invariant.first (omega arith) in
-    search rules
+pub take_field-word-requires-clause-left : goal.take_field-word-requires-clause-left
+take_field-word-requires-clause-left g c = omega (arith, word_left c.min-count.result c.loop-done.invariant.first (omega arith))
 
 -- the items stay what they are
 pub push_word-requires-clause-bits : goal.push_word-requires-clause-bits
@@ -45,15 +39,12 @@ push_word-requires-clause-room g c = omega (arith, c.loop-done.invariant.few, c.
 
 pub loop-done-preserved : goal.loop-done-preserved
 loop-done-preserved g c =
-    let taken = rw c.unwrap.ensures at c.take.ensures in
-    let l = taken.count ∙ c.from-in-loop-done.ensures in
-    let same = word_bits c.unwrap.result c.take.new.self c.loop-done.left (c.width-width.result * c.min-count.result) c.first_bits-word.result taken.ok l
-    (c.first_bits-word.ensures ∙ ap (λ (k : ℕ). number_of (take k c.loop-done.left)) c.from.ensures) in
     let e : bits_of (g.Self.Collector.item c.loop-done.self) ≡ c.width-width.result = ap bits_of (c.loop-done.invariant.same ∙ sym c.item.ensures.item) ∙ sym c.width-width.ensures in
-    let more = subst (λ (w : ℕ). TookItems g.Self.Collector.holds (OneByOne (Field w)) c.min-count.result c.loop-done.self c.push_word.new.self c.unwrap.result []) e
-    (subst (λ z. TookItems g.Self.Collector.holds (OneByOne (Field (bits_of (g.Self.Collector.item c.loop-done.self)))) c.min-count.result c.loop-done.self c.push_word.new.self z []) same c.in_ok-push_word.ensures.ok) in
+    let length = c.width-width.result * c.min-count.result in
+    let bits = to_bits length c.take_field-word.result in
+    let more = subst (λ (w : ℕ). TookItems g.Self.Collector.holds (OneByOne (Field w)) c.min-count.result c.loop-done.self c.push_word.new.self bits []) e c.in_ok-push_word.ensures.ok in
     record {
-      first = first_go_far c.loop-done.invariant.first (omega arith) taken.ok l more;
+      first = first_go_far c.loop-done.invariant.first (omega arith) c.take_field-word.ensures (length-to_bits length c.take_field-word.result) more;
       same = c.in_ok-push_word.ensures.item ∙ c.loop-done.invariant.same;
       few = omega (arith, c.in_ok-push_word.ensures.count, c.loop-done.invariant.few);
     }
