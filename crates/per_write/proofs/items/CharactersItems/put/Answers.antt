@@ -30,8 +30,8 @@ loop-at-preserved g c =
     let next = c.loop-at.at + c.min.result in
     let within = next_within at c.args.end (56 / c.max.result) c.min.result c.loop-at-test.true c.min.ensures in
     record {
-      written = remains_field a cs at next c.args.end c.in-Some.number ((next - at) * c.from-in-loop-at.result) c.from.result all c.args.writer.now c.loop-at.writer c.put_bits.new.self within
-          (ap (λ (w : ℕ). (next - at) * w) (c.from-in-loop-at.ensures ∙ c.width-width.ensures.width)) c.from.ensures c.in-Some.ensures.some c.loop-at.invariant.written c.in_ok-put_bits.ensures.ok;
+      written = remains_field a cs at next c.args.end c.in-Some-field.number ((next - at) * c.from-in-loop-at.result) c.from.result all c.args.writer.now c.loop-at.writer c.put_bits.new.self within
+          (ap (λ (w : ℕ). (next - at) * w) (c.from-in-loop-at.ensures ∙ c.width-width.ensures.width)) c.from.ensures c.in-Some-field.ensures.some c.loop-at.invariant.written c.in_ok-put_bits.ensures.ok;
       within = within;
     }
 
