@@ -1,62 +1,63 @@
 -- Octets whose low bits are those of a word.
-use Rattle.std.proofs.Common.{◌≡◌, sym, ap, ap₂, ◌∙◌, subst, ℕ, ◌+◌, ◌-◌, ◌*◌, ◌/◌, ◌%◌, ◌^◌, ◌<◌, ◌≤◌, List, [], ◌∷◌, ◌++◌, length, take, arith, pow_mono, pow_pos, mod-eq_of_lt, mod-lt, append_assoc, append-nil}
-use Rattle.std.proofs.Math.ListN.{set}
-use Rattle.std.proofs.Math.Nat.{mul-add}
-use Rattle.std.proofs.lemmas.List.{length-set, take_more_set}
+use Rattle.std.proofs.Common.{◌≡◌, refl, sym, ap, ap₂, ◌∙◌, subst, ℕ, zero, suc, ◌+◌, ◌-◌, ◌*◌, ◌/◌, ◌%◌, ◌^◌, ◌<◌, ◌≤◌, List, [], ◌∷◌, ◌++◌, length, length-take, take, drop, arith, pow_mono, pow_pos, mod-eq_of_lt, mod-lt}
+use Rattle.std.proofs.Math.Nat.{mul-add, suc-mul}
+use Rattle.std.proofs.Math.Pow.{mod-mod-pow}
+use Rattle.std.proofs.lemmas.List.{take_at}
 use Rattle.std.proofs.lemmas.Nat.{mul-le}
 use Rattle.rasn_types.specs.Alphabets.{Alphabet, char_width}
 use Rattle.rasn_types.specs.Bits.{Bits, to_bits}
-use Rattle.rasn_types.proofs.Bits.{to_bits-same, to_bits-split}
+use Rattle.rasn_types.proofs.Bits.{length-to_bits, to_bits-same, to_bits-split}
 use Rattle.rasn_strings.specs.Prepared.{AreOwn}
 use Rattle.per_bits.specs.Octets.{low_bits_of}
-use Rattle.per_bits.proofs.LowBits.{low-append}
+use Rattle.per_bits.proofs.LowBits.{length-low, low-split}
+use Rattle.per_bits.proofs.Words.{to_bits-join}
 use Rattle.per_core.specs.Basic.{OneByOne}
 use Rattle.per_core.specs.Spellings.{Field}
 use Rattle.per_core.specs.Took.{Took}
 use Rattle.per_read.proofs.CharacterCodes.{own_took}
 
--- the first i octets, and the bits of the others
-pub record Split (w many word i left : ℕ) (os : List ℕ) : Type 0 where
-  pub long : length os ≡ 8
-  pub left_is : left + w * i ≡ w * many
-  pub bits : low_bits_of w (take i os) ++ to_bits left word ≡ to_bits (w * many) word
-
--- so many bits are left
-pub record Left (w left : ℕ) : Type 0 where
-  pub enough : w ≤ left
-  pub few : left - w < 64
-
-pub left_further : (w many word i left : ℕ) (os : List ℕ) → Split w many word i left os → w ≤ 8 → many ≤ 8 → i < many → Left w left
-left_further w many word i left os h k m l =
-    let further : w * (i + 1) ≡ w * i + w = mul-add w i 1 ∙ omega arith in
-    let within : w * (i + 1) ≤ w * many = mul-le w (i + 1) w many (omega arith) (omega arith) in
-    let all : w * many ≤ w * 8 = mul-le w many w 8 (omega arith) m in
-    let e : left + w * i ≡ w * many = h.left_is in
-    record { enough = omega (arith, further, within, e); few = omega (arith, all, e) }
-
 pub part_small : (w n part : ℕ) → w ≤ 8 → part ≡ n % 2 ^ w → part < 256
 part_small w n part h e = let m = mod-lt n (pow_pos w) in let p : 2 ^ w ≤ 2 ^ 8 = pow_mono {i = w} {j = 8} h in omega (arith, m, p, e)
 
--- one octet more
-pub split_more : (w many word i left part : ℕ) (os : List ℕ) → Split w many word i left os → Left w left → i < 8 → part ≡ word / 2 ^ (left - w) % 2 ^ w → Split w many word (i + 1) (left - w) (set os i part)
-split_more w many word i left part os h l k e = record {
-  long = length-set os i part ∙ h.long;
-  left_is = let further : w * (i + 1) ≡ w * i + w = mul-add w i 1 ∙ omega arith in let f : left + w * i ≡ w * many = h.left_is in omega (arith, further, f, l.enough);
-  bits = ap (λ bs. bs ++ to_bits (left - w) word) (ap (low_bits_of w) (take_more_set os i part (omega (arith, h.long))) ∙ low-append w (take i os) (part ∷ []) ∙ ap (λ bs. low_bits_of w (take i os) ++ bs) (append-nil (to_bits w part) ∙ here))
-      ∙ append_assoc (low_bits_of w (take i os)) (to_bits w (word / 2 ^ (left - w))) (to_bits (left - w) word)
-      ∙ ap (λ bs. low_bits_of w (take i os) ++ bs) (sym (to_bits-split w (left - w) word) ∙ ap (λ (n : ℕ). to_bits n word) (let j : w + (left - w) ≡ left = omega (arith, l.enough) in j))
-      ∙ h.bits;
-}
-  where
-    here : to_bits w part ≡ to_bits w (word / 2 ^ (left - w))
-    here = to_bits-same w part (word / 2 ^ (left - w)) (ap (λ (n : ℕ). n % 2 ^ w) e ∙ mod-eq_of_lt (mod-lt (word / 2 ^ (left - w)) (pow_pos w)))
+-- so many numbers of w bits each that stand in a number, the highest first
+abbrev pub parts_of : ℕ → ℕ → ℕ → List ℕ
+parts_of w zero n = []
+parts_of w (suc k) n = n / 2 ^ (k * w) % 2 ^ w ∷ parts_of w k n
 
-pub split_all : (w many word i left : ℕ) (os : List ℕ) → Split w many word i left os → i ≡ many → low_bits_of w (take many os) ≡ to_bits (w * many) word
-split_all w many word i left os h e =
-    let f : left + w * i ≡ w * many = h.left_is in
-    let g : w * i ≡ w * many = ap (λ (n : ℕ). w * n) e in
-    let none : left ≡ 0 = omega (arith, f, g) in
-    ap (λ (n : ℕ). low_bits_of w (take n os)) (sym e) ∙ sym (append-nil (low_bits_of w (take i os))) ∙ ap (λ (n : ℕ). low_bits_of w (take i os) ++ to_bits n word) (sym none) ∙ h.bits
+pub length-parts : (w k n : ℕ) → length (parts_of w k n) ≡ k
+length-parts w zero n = refl
+length-parts w (suc k) n = ap suc (length-parts w k n)
+
+low-parts : (w k n : ℕ) → low_bits_of w (parts_of w k n) ≡ to_bits (k * w) n
+low-parts w zero n = ap (λ (m : ℕ). to_bits m n) (let e : 0 ≡ 0 * w = omega arith in e)
+low-parts w (suc k) n =
+    let part = n / 2 ^ (k * w) % 2 ^ w in
+    ap₂ (λ bs cs. bs ++ cs) (to_bits-same w part (n / 2 ^ (k * w)) (mod-eq_of_lt (mod-lt (n / 2 ^ (k * w)) (pow_pos w)))) (low-parts w k n)
+    ∙ sym (to_bits-split w (k * w) n) ∙ ap (λ (m : ℕ). to_bits m n) (let e : w + k * w ≡ suc k * w = sym (suc-mul k w ∙ omega arith) in e)
+
+pub parts_eight : (w n a b c d e f g h : ℕ) → a ≡ n / 2 ^ (7 * w) % 2 ^ w → b ≡ n / 2 ^ (6 * w) % 2 ^ w → c ≡ n / 2 ^ (5 * w) % 2 ^ w → d ≡ n / 2 ^ (4 * w) % 2 ^ w →
+    e ≡ n / 2 ^ (3 * w) % 2 ^ w → f ≡ n / 2 ^ (2 * w) % 2 ^ w → g ≡ n / 2 ^ w % 2 ^ w → h ≡ n / 2 ^ 0 % 2 ^ w → a ∷ b ∷ c ∷ d ∷ e ∷ f ∷ g ∷ h ∷ [] ≡ parts_of w 8 n
+parts_eight w n a b c d e f g h ea eb ec ed ee ef eg eh =
+    let one : g ≡ n / 2 ^ (1 * w) % 2 ^ w = eg ∙ ap (λ (m : ℕ). n / 2 ^ m % 2 ^ w) (let i : w ≡ 1 * w = omega arith in i) in
+    let none : h ≡ n / 2 ^ (0 * w) % 2 ^ w = eh ∙ ap (λ (m : ℕ). n / 2 ^ m % 2 ^ w) (let i : 0 ≡ 0 * w = omega arith in i) in
+    cc
+
+-- the low bits of the first octets
+low-take : (w k : ℕ) (os : List ℕ) → k ≤ length os → low_bits_of w (take k os) ≡ take (w * k) (low_bits_of w os)
+low-take w k os h = sym (ap (take (w * k)) (low-split w k os) ∙ take_at (low_bits_of w (take k os)) (low_bits_of w (drop k os)) (w * k) (length-low w (take k os) ∙ ap (λ (n : ℕ). w * n) (length-take k os ∙ omega arith)))
+
+-- the first of eight numbers in a word that was moved up
+pub parts_in_word : (w many s word high : ℕ) (os : List ℕ) → w ≤ 8 → many ≤ 8 → s ≡ w * (8 - many) → high ≡ word * 2 ^ s % 2 ^ 64 → os ≡ parts_of w 8 high → low_bits_of w (take many os) ≡ to_bits (w * many) word
+parts_in_word w many s word high os f m e h l =
+    ap (λ qs. low_bits_of w (take many qs)) l ∙ low-take w many (parts_of w 8 high) (omega (arith, length-parts w 8 high)) ∙ ap (take (w * many)) (low-parts w 8 high ∙ whole)
+    ∙ take_at (to_bits (w * many) word) (to_bits s 0) (w * many) (length-to_bits (w * many) word)
+  where
+    all : 8 * w ≡ w * many + s
+    all = let d : w * (many + (8 - many)) ≡ w * many + w * (8 - many) = mul-add w many (8 - many) in let i : w * (many + (8 - many)) ≡ w * 8 = ap (λ (n : ℕ). w * n) (let j : many + (8 - many) ≡ 8 = omega arith in j) in omega (arith, d, i, e)
+
+    whole : to_bits (8 * w) high ≡ to_bits (w * many) word ++ to_bits s 0
+    whole = to_bits-same (8 * w) high (word * 2 ^ s) (ap (λ (n : ℕ). n % 2 ^ (8 * w)) h ∙ ap (λ (n : ℕ). word * 2 ^ s % 2 ^ n % 2 ^ (8 * w)) (let i : 64 ≡ 64 - 8 * w + 8 * w = omega arith in i) ∙ mod-mod-pow (word * 2 ^ s) (64 - 8 * w) (8 * w))
+        ∙ ap₂ to_bits all (let i : word * 2 ^ s ≡ word * 2 ^ s + 0 = omega arith in i) ∙ to_bits-join (w * many) s word 0 (pow_pos s)
 
 -- octets that are each written as their own value are spelled by the word
 pub own_word : (a : Alphabet) (octets os : List ℕ) (width many count word : ℕ) → width ≡ char_width a.variant a.characters → count ≡ char_width a.variant a.characters * many → os ≡ take many octets →

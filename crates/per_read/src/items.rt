@@ -114,19 +114,34 @@ fn items_in_word(width: u32) -> usize
     (WORD_BITS / width.max(1)) as usize
 }
 
-/// Octets of which the low `width` bits of each of the first `many` are those of a word. The others are zeros.
+/// Octets of which the low `width` bits of each of the first `many` are those of a word, at least one. They are named one
+/// by one, since of a loop over so few the compiler makes longer code.
 fn octets_in_word(word: u64, width: u32, many: usize) -> [u8; 8]
     requires width { width ≤ 8 }
+    requires some { 0 < many }
     requires many { many ≤ 8 }
     ensures { low_bits_of width (take many result) ≡ to_bits (width * many) word }
 {
-    let mut octets = [0; 8];
-    let mut left = width * many as u32;
-    for index in 0..many {
-        left -= width;
-        octets[index] = number_between(word, left, width) as u8;
-    }
-    octets
+    let high = word << (width * (8 - many as u32));
+    [
+        octet_between(high, 7 * width, width),
+        octet_between(high, 6 * width, width),
+        octet_between(high, 5 * width, width),
+        octet_between(high, 4 * width, width),
+        octet_between(high, 3 * width, width),
+        octet_between(high, 2 * width, width),
+        octet_between(high, width, width),
+        octet_between(high, 0, width),
+    ]
+}
+
+/// The number that `width` bits of a word mean, with `behind` others behind them, as an octet.
+fn octet_between(word: u64, behind: u32, width: u32) -> u8
+    requires behind { behind < 64 }
+    requires width { width ≤ 8 }
+    ensures { result ≡ word / 2 ^ behind % 2 ^ width }
+{
+    number_between(word, behind, width) as u8
 }
 
 /// The number that `width` bits of a word mean, with `behind` others behind them.
@@ -242,7 +257,7 @@ impl<S: StaticPermittedAlphabet> Collector for Characters<S> {
 
     fn push_word(&mut self, word: u64, length: u32, many: usize) -> Result<(), AllocError> {
         let width = self.alphabet.width();
-        if width <= 8 && many <= 8 {
+        if width <= 8 && 0 < many && many <= 8 {
             let octets = octets_in_word(word, width, many);
             if self.alphabet.are_own(&octets[..many]) {
                 self.string.push_octets(&octets[..many])?;

@@ -1,11 +1,12 @@
-use Rattle.std.proofs.Common.{arith}
-use Rattle.per_read.proofs.OctetsInWords.{left_further, split_all, split_more}
+use Rattle.std.proofs.Common.{refl, ◌-◌, ◌*◌, ◌%◌, ◌^◌}
+use Rattle.per_read.proofs.OctetsInWords.{parts_eight, parts_in_word}
 use Rattle.per_read.proofs.items.octets_in_word.Goals as goal
 
-pub loop-index-preserved : goal.loop-index-preserved
-loop-index-preserved c =
-    let left = left_further c.args.width c.args.many c.args.word c.loop-index.index c.loop-index.left c.loop-index.octets c.loop-index.invariant (omega arith) (omega arith) c.loop-index-test.true in
-    split_more c.args.width c.args.many c.args.word c.loop-index.index c.loop-index.left c.number_between.result c.loop-index.octets c.loop-index.invariant left (omega arith) c.number_between.ensures
-
 pub returns : goal.returns
-returns c = split_all c.args.width c.args.many c.args.word c.loop-index.index c.loop-index.left c.loop-index.octets c.loop-index.invariant (omega arith)
+returns c =
+    let width = c.args.width in
+    let up = width * (8 - c.args.many) in
+    let high = c.args.word * 2 ^ up % 2 ^ 64 in
+    parts_in_word width c.args.many up c.args.word high _ c.requires.width c.requires.many refl refl
+    (parts_eight width high c.octet_between.result c.octet_between-2.result c.octet_between-3.result c.octet_between-4.result c.octet_between-5.result c.octet_between-6.result c.octet_between-7.result c.octet_between-8.result
+    c.octet_between.ensures c.octet_between-2.ensures c.octet_between-3.ensures c.octet_between-4.ensures c.octet_between-5.ensures c.octet_between-6.ensures c.octet_between-7.ensures c.octet_between-8.ensures)
