@@ -171,8 +171,8 @@ pub(crate) fn append_wide_field<A: Allocator>(
     unused
 }
 
-/// The number whose bits are the low `width` ones of each of some octets, no more than a field has. Eight octets are told
-/// apart, since the compiler makes no loop of so many.
+/// The number whose bits are the low `width` ones of each of some octets, no more than a field has. Eight octets are
+/// told apart, since the compiler makes no loop of so many.
 fn field_of_octets(octets: &[u8], width: u32) -> u64
     requires width { width ≤ 8 }
     requires few { width * length octets.now ≤ FIELD_BITS }
