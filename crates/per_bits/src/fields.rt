@@ -171,7 +171,22 @@ pub(crate) fn append_wide_field<A: Allocator>(
     unused
 }
 
-/// The number whose bits are the low `width` ones of each of some octets, no more than a field has.
+/// The number whose bits are the low `width` ones of each of some octets, no more than a field has. Eight octets are
+/// told apart, since the compiler makes no loop of so many.
+fn field_of_octets(octets: &[u8], width: u32) -> u64
+    requires width { width ≤ 8 }
+    requires few { width * length octets.now ≤ FIELD_BITS }
+    ensures { to_bits (width * length octets.now) result ≡ low_bits_of width octets.now }
+{
+    if octets.len() == 8 {
+        field_of(&octets[..8], width)
+    } else {
+        field_of(octets, width)
+    }
+}
+
+/// The same, in one loop.
+#[inline]
 fn field_of(octets: &[u8], width: u32) -> u64
     requires width { width ≤ 8 }
     requires few { width * length octets.now ≤ FIELD_BITS }
@@ -202,7 +217,7 @@ pub(crate) fn append_low_bits<A: Allocator>(
     let mut at = 0;
     while at < from.len() {
         let next = at + most.min(from.len() - at);
-        let field = field_of(&from[at..next], width);
+        let field = field_of_octets(&from[at..next], width);
         unused = append_field(octets, unused, field, width * (next - at) as u32);
         at = next;
     }

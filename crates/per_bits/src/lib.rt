@@ -169,8 +169,8 @@ impl<A: Allocator> BitList<A> {
         self.push_reader(&BitReader::from_octets(octets))
     }
 
-    /// Appends the low `width` bits of each octet, highest first. The only error is want of memory, and then the list is
-    /// as it was.
+    /// Appends the low `width` bits of each octet, highest first. The only error is want of memory, and then the list
+    /// is as it was.
     pub fn push_low_bits(&mut self, octets: &[u8], width: u32) -> Result<(), AllocError>
         requires { width ≤ 8 }
         ensures ok { OnOk result (self.new ≡ self.old ++ low_bits_of width octets.now) }

@@ -45,8 +45,8 @@ impl ReadAlphabet {
         self.alphabet.width()
     }
 
-    /// Whether some octets are found to be permitted characters that are each written as their own values. Where this is
-    /// false they may still be.
+    /// Whether some octets are found to be permitted characters that are each written as their own values. Where this
+    /// is false they may still be.
     pub(crate) fn are_own(&self, octets: &[u8]) -> bool
         ensures { IsTrue result → AreOwn self.now octets.now }
     {

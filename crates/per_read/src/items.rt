@@ -114,8 +114,8 @@ fn items_in_word(width: u32) -> usize
     (WORD_BITS / width.max(1)) as usize
 }
 
-/// Octets of which the low `width` bits of each of the first `many` are those of a word, at least one. They are named one
-/// by one, since of a loop over so few the compiler makes longer code.
+/// Octets of which the low `width` bits of each of the first `many` are those of a word, at least one. They are named
+/// one by one, since of a loop over so few the compiler makes longer code.
 fn octets_in_word(word: u64, width: u32, many: usize) -> [u8; 8]
     requires width { width ≤ 8 }
     requires some { 0 < many }

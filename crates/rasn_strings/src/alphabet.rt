@@ -107,8 +107,8 @@ impl CharacterAlphabet {
         }
     }
 
-    /// Whether some octets are found, by two comparisons each, to be permitted characters that are each written as their
-    /// own values. Where this is false they may still be.
+    /// Whether some octets are found, by two comparisons each, to be permitted characters that are each written as
+    /// their own values. Where this is false they may still be.
     #[inline]
     pub fn are_own(&self, octets: &[u8]) -> bool
         ensures { IsTrue result → AreOwn self.now octets.now }

@@ -22,16 +22,14 @@ impl Interval {
         self.first <= character && character <= self.last
     }
 
-    /// Whether each of some octets is a character within the interval. All are looked at, without a branch for each.
+    /// Whether each of some octets is a character within the interval, if that is one of octets; else it is false.
     #[inline]
     pub(crate) fn contains_all(self, octets: &[u8]) -> bool
-        ensures { result ≡ all_within self octets.now }
+        ensures { result ≡ (nat_le self.first self.last && nat_le self.last 255 && all_within self octets.now) }
     {
-        let mut all = true;
-        for octet in octets {
-            all = all & self.contains(u32::from(*octet));
-        }
-        all
+        self.first <= self.last
+            && self.last <= 255
+            && are_within(self.first as u8, self.last as u8, octets)
     }
 
     /// How many characters the interval has.
@@ -42,6 +40,19 @@ impl Interval {
     {
         self.last - self.first + 1
     }
+}
+
+/// Whether all octets are at least a first and at most a last. Each is looked at, without a branch.
+#[inline]
+fn are_within(first: u8, last: u8, octets: &[u8]) -> bool
+    ensures { result ≡ all_within (record { first = first; last = last }) octets.now }
+{
+    let mut all = true;
+    for octet in octets {
+        let within = (first <= *octet) & (*octet <= last);
+        all = all & within;
+    }
+    all
 }
 
 /// An interval without characters.
