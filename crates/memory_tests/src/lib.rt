@@ -1,5 +1,5 @@
-//! Tests of refused memory: that want of it is named so, which calls take none, and that a value of more levels than are
-//! read is written.
+//! Tests of refused memory: that want of it is named so, which calls take none, and that a value of more levels than
+//! are read is written.
 #![tactic(auto)]
 
 #[cfg(test)]

@@ -278,8 +278,8 @@ impl<'input> Decoder<'input> {
     }
 
     /// Reads an OCTET STRING under constraints (X.691 17), as the call of the trait does. The octets are `Borrowed`
-    /// exactly where they are octets of the input, at least one, and come with one count alone or with none; they may be
-    /// kept as long as the input. Those of a `from_reader`, or of an open type in fragments, are `Owned`.
+    /// exactly where they are octets of the input, at least one, and come with one count alone or with none; they may
+    /// be kept as long as the input. Those of a `from_reader`, or of an open type in fragments, are `Owned`.
     pub fn decode_octet_string(
         &mut self,
         tag: Tag,

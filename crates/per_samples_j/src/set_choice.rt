@@ -1,5 +1,5 @@
-//! A SET with a CHOICE that has no tag of its own: it counts with the smallest of its alternatives' tags (X.691 21.1), and
-//! so it is written first.
+//! A SET with a CHOICE that has no tag of its own: it counts with the smallest of its alternatives' tags (X.691 21.1),
+//! and so it is written first.
 #![tactic(auto, unfolding(rasn_below::specs::Types::smallest, rasn_below::specs::Types::least_of))]
 
 ghost use Rattle.std.specs.Prelude.{refl};

@@ -41,8 +41,8 @@ enum Reading {
 /// The second and the third component of a `SomeAbsent`, of which the first is true, behind an explicit tag.
 type Both = (Option<u8>, u8);
 
-/// Calls, components, and the octets of their complete encoding: two bits of presence, the bit of TRUE, and those of the
-/// numbers that are there, of which each has three or eight.
+/// Calls, components, and the octets of their complete encoding: two bits of presence, the bit of TRUE, and those of
+/// the numbers that are there, of which each has three or eight.
 const ROWS: &[(Writing, Reading, Both, &[u8])] = &[
     (
         Writing::Bounded,

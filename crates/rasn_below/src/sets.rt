@@ -1,5 +1,5 @@
-//! What an author's list of the components of a SET is handed to. Its lines are those of a SEQUENCE's list, and stand in
-//! ascending order of the components' smallest tags (X.680 8.6): the order in which they are written (X.691 21.1).
+//! What an author's list of the components of a SET is handed to. Its lines are those of a SEQUENCE's list, and stand
+//! in ascending order of the components' smallest tags (X.680 8.6): the order in which they are written (X.691 21.1).
 
 /// Writes the components of a list in turn. Their fields are in the constant `FIELDS`, their constraints in `BOUNDS`.
 #[macro_export]

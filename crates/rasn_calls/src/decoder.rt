@@ -242,8 +242,8 @@ pub trait Decoder: Sized {
             self.old result self.new };
 
     /// Reads the index of a CHOICE (X.691 23), which takes a level, and opens the open type of an alternative behind
-    /// the extension marker (X.691 23.8): the calls from here to `close_choice` read the value of the alternative, which
-    /// goes by the tag. At no level left it refuses.
+    /// the extension marker (X.691 23.8): the calls from here to `close_choice` read the value of the alternative,
+    /// which goes by the tag. At no level left it refuses.
     fn open_choice<C: Choice>(&mut self) -> Result<(Tag, Self::Alternative), Self::Error>
         ensures { OpensToChoose rules opens_choice (choices_of C.alternatives C.EXTENDED_VARIANTS C.added) C.VARIANTS
             C.EXTENDED_VARIANTS self.old result self.new };

@@ -86,8 +86,8 @@ impl Fields {
             .count()
     }
 
-    /// The components in ascending order of their smallest tags, in which those of a SET are written (X.691 21.1); those
-    /// of one tag stay in the order of the type. The only error is want of memory.
+    /// The components in ascending order of their smallest tags, in which those of a SET are written (X.691 21.1);
+    /// those of one tag stay in the order of the type. The only error is want of memory.
     pub fn canonised<A: Allocator>(&self, alloc: A) -> Result<Vec<Field, A>, AllocError>
         ensures { IfOk result (λ fields. map shape_of fields.items ≡ in_tag_order self.now) }
     {

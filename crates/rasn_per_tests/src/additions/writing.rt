@@ -1,4 +1,5 @@
-//! What an `Encoder` writes, call by call: over any encoder, since to prove it of one alone costs several times as much.
+//! What an `Encoder` writes, call by call: over any encoder, since to prove it of one alone costs several times as
+//! much.
 
 use crate::expected::{expect_equal, expect_items};
 use per_samples_f::one_needed::OneNeeded;
