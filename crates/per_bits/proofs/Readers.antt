@@ -6,10 +6,16 @@ use Rattle.std.proofs.lemmas.Slice.{between_to_end}
 use Rattle.std.specs.List.{between}
 use Rattle.rasn_types.specs.Bits.{Bits, unpack}
 use Rattle.rasn_types.proofs.Bits.{length-unpack}
-use Rattle.per_bits.specs.Octets.{filled, AreFilledBy, ArePadded, AreWithin}
+use Rattle.per_bits.specs.Octets.{filled, AreFilledBy, ArePadded, AreWithin, Reading}
 use Rattle.per_bits.proofs.Words.{unpack-drop}
 
 -- ---- readers
+
+pub bits_are : {x y : Reading} → x ≡ y → x.bits ≡ y.bits
+bits_are e = ap (λ (x : Reading). x.bits) e
+
+pub place_is : {x y : Reading} → x ≡ y → x.place ≡ y.place
+place_is e = ap (λ (x : Reading). x.place) e
 
 pub left_length : (s n : ℕ) (os : List ℕ) → s + n ≤ 8 * length os → length (take n (drop s (unpack os))) ≡ n
 left_length s n os h = length-take n (drop s (unpack os)) ∙ omega (arith, length-drop s (unpack os), length-unpack os)
