@@ -57,14 +57,14 @@ are_whole {s} {n} {os} {now} e h z w = record {
   ends = ap (λ (k : ℕ). k % 8) (left_is s n os now.bits (bits_are e) h) ∙ w;
 }
 
-pub not_begun : {s n : ℕ} {os : List ℕ} {now : Reading} → record { bits = take n (drop s (unpack os)); place = s } ≡ now → ¬ (s ≡ 0) → ¬ AreWholeOctets now
-not_begun e h w = h (place_is e ∙ w.begins)
+pub not_begun : (s n : ℕ) (os : List ℕ) {now : Reading} → record { bits = take n (drop s (unpack os)); place = s } ≡ now → ¬ (s ≡ 0) → ¬ AreWholeOctets now
+not_begun s n os e h w = h (place_is e ∙ w.begins)
 
 pub not_ended : {s n : ℕ} {os : List ℕ} {now : Reading} → record { bits = take n (drop s (unpack os)); place = s } ≡ now → AreWithin s n os → ¬ (n % 8 ≡ 0) → ¬ AreWholeOctets now
 not_ended {s} {n} {os} {now} e h i w = i (ap (λ (k : ℕ). k % 8) (sym (left_is s n os now.bits (bits_are e) h)) ∙ w.ends)
 
-pub whole_octets : {s n : ℕ} {os : List ℕ} {now : Reading} → record { bits = take n (drop s (unpack os)); place = s } ≡ now → s ≡ 0 → n % 8 ≡ 0 → unpack (take (n / 8) os) ≡ now.bits
-whole_octets {s} {n} {os} e z w = sym (unpack-take (n / 8) os) ∙ ap (λ (k : ℕ). take k (unpack os)) (let i : 8 * (n / 8) ≡ n = omega arith in i) ∙ ap (λ (k : ℕ). take n (drop k (unpack os))) (sym z) ∙ bits_are e
+pub whole_octets : (s n : ℕ) (os : List ℕ) {now : Reading} → record { bits = take n (drop s (unpack os)); place = s } ≡ now → s ≡ 0 → n % 8 ≡ 0 → unpack (take (n / 8) os) ≡ now.bits
+whole_octets s n os e z w = sym (unpack-take (n / 8) os) ∙ ap (λ (k : ℕ). take k (unpack os)) (let i : 8 * (n / 8) ≡ n = omega arith in i) ∙ ap (λ (k : ℕ). take n (drop k (unpack os))) (sym z) ∙ bits_are e
 
 -- ---- filled octets
 
