@@ -172,7 +172,10 @@ const LENT: [(u128, u128, Option<&[u8]>); 9] = [
 fn lends_octets_that_stand_on_octets(rt: HostRuntime) {
     let reader = BitReader::from_octets(&[0xa5, 0x3c, 0xff]);
     for (begin, count, octets) in LENT {
-        assert!(rt; octets_behind(&reader, begin, count) == octets, "{count} behind {begin}");
+        assert!(rt;
+            octets_behind(&reader, begin, count) == octets,
+            "{count} behind {begin}"
+        );
     }
 }
 
@@ -180,6 +183,9 @@ fn lends_octets_that_stand_on_octets(rt: HostRuntime) {
 fn tells_the_place_of_its_first_bit(rt: HostRuntime) {
     let reader = BitReader::from_octets(&[0xa5, 0x3c]);
     for (begin, place) in [(0, 0), (1, 1), (7, 7), (8, 0), (11, 3), (16, 0)] {
-        assert!(rt; place_behind(&reader, begin) == Some(place), "behind {begin}");
+        assert!(rt;
+            place_behind(&reader, begin) == Some(place),
+            "behind {begin}"
+        );
     }
 }
