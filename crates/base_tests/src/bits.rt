@@ -136,3 +136,56 @@ fn appends_octets_and_readers(rt: HostRuntime) -> Result<(), Fail> {
     expect_octets(&rt, octets.as_slice(), &[0xd2, 0xc0, 0x00, 0x80]);
     Ok(())
 }
+
+/// The octets of `count` bits of a reader behind the first `begin`, where they are octets.
+fn octets_behind<'input>(
+    reader: &BitReader<'input>,
+    begin: u128,
+    count: u128,
+) -> Option<&'input [u8]> {
+    let mut rest = reader.clone().unwrap();
+    rest.take(begin).ok()?;
+    rest.take(count).ok()?.aligned_octets()
+}
+
+/// The place of the first bit behind so many of a reader's.
+fn place_behind(reader: &BitReader<'_>, begin: u128) -> Option<u32> {
+    let mut rest = reader.clone().unwrap();
+    rest.take(begin).ok()?;
+    Some(rest.place())
+}
+
+/// What is lent of three octets, by how many bits are left out in front and how many follow.
+const LENT: [(u128, u128, Option<&[u8]>); 9] = [
+    (0, 24, Some(&[0xa5, 0x3c, 0xff])),
+    (0, 0, Some(&[])),
+    (0, 8, Some(&[0xa5])),
+    (8, 16, Some(&[0x3c, 0xff])),
+    (24, 0, Some(&[])),
+    (0, 23, None),
+    (1, 8, None),
+    (4, 16, None),
+    (9, 0, None),
+];
+
+#[test]
+fn lends_octets_that_stand_on_octets(rt: HostRuntime) {
+    let reader = BitReader::from_octets(&[0xa5, 0x3c, 0xff]);
+    for (begin, count, octets) in LENT {
+        assert!(rt;
+            octets_behind(&reader, begin, count) == octets,
+            "{count} behind {begin}"
+        );
+    }
+}
+
+#[test]
+fn tells_the_place_of_its_first_bit(rt: HostRuntime) {
+    let reader = BitReader::from_octets(&[0xa5, 0x3c]);
+    for (begin, place) in [(0, 0), (1, 1), (7, 7), (8, 0), (11, 3), (16, 0)] {
+        assert!(rt;
+            place_behind(&reader, begin) == Some(place),
+            "behind {begin}"
+        );
+    }
+}

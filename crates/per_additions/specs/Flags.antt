@@ -9,7 +9,7 @@ use Rattle.per_additions.specs.declared.bitmaps.PresenceBits.TheVariants as Take
 
 -- the presence bits that are still to be read
 abbrev pub flags_left : Flags → List Bool
-flags_left (InPlace bits) = bits
+flags_left (InPlace reading) = reading.bits
 flags_left (Gathered bits index) = drop index bits
 
 -- the presence bits of a bitmap that was taken off the bits s, in front of t

@@ -57,7 +57,7 @@ impl<'input> Model for Bitmap<'input> {
 impl<'input> Bitmap<'input> {
     /// The presence bits that a reader has left. It takes no memory.
     pub fn in_place(bits: BitReader<'input>) -> Self
-        ensures { result ≡ bits.entry }
+        ensures { result ≡ bits.entry.bits }
     {
         Bitmap {
             flags: Flags::InPlace(bits),
@@ -92,7 +92,7 @@ impl Iterator for Bitmap<'_> {
 
 /// The next of the presence bits that a reader has left, which is then no longer left.
 pub fn take_flag(bits: &mut BitReader<'_>) -> Option<bool>
-    ensures { NextFlag bits.old result bits.new }
+    ensures { NextFlag bits.old.bits result bits.new.bits }
 {
     match bits.take(1) {
         Ok(bit) => Some(bit.first_bits(1) == 1),

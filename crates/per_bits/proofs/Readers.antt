@@ -6,10 +6,17 @@ use Rattle.std.proofs.lemmas.Slice.{between_to_end}
 use Rattle.std.specs.List.{between}
 use Rattle.rasn_types.specs.Bits.{Bits, unpack}
 use Rattle.rasn_types.proofs.Bits.{length-unpack}
-use Rattle.per_bits.specs.Octets.{filled, AreFilledBy, ArePadded, AreWithin}
+use Rattle.rasn_types.proofs.Packing.{unpack-take}
+use Rattle.per_bits.specs.Octets.{filled, AreFilledBy, ArePadded, AreWithin, AreWholeOctets, Reading}
 use Rattle.per_bits.proofs.Words.{unpack-drop}
 
 -- ---- readers
+
+pub bits_are : {x y : Reading} → x ≡ y → x.bits ≡ y.bits
+bits_are e = ap (λ (x : Reading). x.bits) e
+
+pub place_is : {x y : Reading} → x ≡ y → x.place ≡ y.place
+place_is e = ap (λ (x : Reading). x.place) e
 
 pub left_length : (s n : ℕ) (os : List ℕ) → s + n ≤ 8 * length os → length (take n (drop s (unpack os))) ≡ n
 left_length s n os h = length-take n (drop s (unpack os)) ∙ omega (arith, length-drop s (unpack os), length-unpack os)
@@ -42,6 +49,22 @@ part_taken s n k m p os h e =
 
 pub empty_iff : (n : ℕ) (xs : Bits) → length xs ≡ n → (IsTrue (nat_eq n 0) → xs ≡ []) × (xs ≡ [] → IsTrue (nat_eq n 0))
 empty_iff n xs e = (λ t. nil_from_length xs (e ∙ eqb-true n 0 t), λ t. eq-eqb n 0 (sym e ∙ ap length t))
+
+-- what a reader keeps, where its bits are whole octets
+pub are_whole : {s n : ℕ} {os : List ℕ} {now : Reading} → record { bits = take n (drop s (unpack os)); place = s } ≡ now → AreWithin s n os → s ≡ 0 → n % 8 ≡ 0 → AreWholeOctets now
+are_whole {s} {n} {os} {now} e h z w = record {
+  begins = sym (place_is e) ∙ z;
+  ends = ap (λ (k : ℕ). k % 8) (left_is s n os now.bits (bits_are e) h) ∙ w;
+}
+
+pub not_begun : (s n : ℕ) (os : List ℕ) {now : Reading} → record { bits = take n (drop s (unpack os)); place = s } ≡ now → ¬ (s ≡ 0) → ¬ AreWholeOctets now
+not_begun s n os e h w = h (place_is e ∙ w.begins)
+
+pub not_ended : {s n : ℕ} {os : List ℕ} {now : Reading} → record { bits = take n (drop s (unpack os)); place = s } ≡ now → AreWithin s n os → ¬ (n % 8 ≡ 0) → ¬ AreWholeOctets now
+not_ended {s} {n} {os} {now} e h i w = i (ap (λ (k : ℕ). k % 8) (sym (left_is s n os now.bits (bits_are e) h)) ∙ w.ends)
+
+pub whole_octets : (s n : ℕ) (os : List ℕ) {now : Reading} → record { bits = take n (drop s (unpack os)); place = s } ≡ now → s ≡ 0 → n % 8 ≡ 0 → unpack (take (n / 8) os) ≡ now.bits
+whole_octets s n os e z w = sym (unpack-take (n / 8) os) ∙ ap (λ (k : ℕ). take k (unpack os)) (let i : 8 * (n / 8) ≡ n = omega arith in i) ∙ ap (λ (k : ℕ). take n (drop k (unpack os))) (sym z) ∙ bits_are e
 
 -- ---- filled octets
 

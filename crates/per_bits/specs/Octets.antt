@@ -1,5 +1,5 @@
 -- Bits kept in octets, the highest bit of each first.
-use Rattle.std.specs.Prelude.{◌≡◌, ℕ, ◌+◌, ◌-◌, ◌*◌, ◌<◌, ◌≤◌, List, [], ◌∷◌, ◌++◌, length, take, replicate, false}
+use Rattle.std.specs.Prelude.{◌≡◌, ℕ, ◌+◌, ◌-◌, ◌*◌, ◌%◌, ◌<◌, ◌≤◌, List, [], ◌∷◌, ◌++◌, length, take, replicate, false}
 use Rattle.rasn_types.specs.Bits.{Bits, to_bits, unpack}
 
 -- how many bits a word has; no numeral, so that no proof lists them
@@ -32,3 +32,13 @@ pub record AreWithin (skip count : ℕ) (octets : List ℕ) : Type 0 where
 abbrev pub low_bits_of : ℕ → List ℕ → Bits
 low_bits_of w [] = []
 low_bits_of w (n ∷ ns) = to_bits w n ++ low_bits_of w ns
+
+-- what a reader has left: its bits, and how many bits of the first one's octet stand in front of that one
+pub record Reading : Type 0 where
+  pub bits : Bits
+  pub place : ℕ
+
+-- the bits begin and end with an octet
+pub record AreWholeOctets (reading : Reading) : Type 0 where
+  pub begins : reading.place ≡ 0
+  pub ends : length reading.bits % 8 ≡ 0

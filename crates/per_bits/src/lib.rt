@@ -4,10 +4,10 @@
 //! to an octet, the first highest.
 #![tactic(auto)]
 
-ghost use Rattle.std.specs.Prelude.{◌≡◌, ◌+◌, ◌-◌, ◌*◌, ◌/◌, ◌^◌, ◌<◌, ◌≤◌, List, [], ◌∷◌, ◌++◌, Bool, length, take, drop, set, slice_get, vec_len, vec_capacity, OnOk, OnErr, IfOk, IfErr, IsTrue, ◌↔◌, ⊤};
+ghost use Rattle.std.specs.Prelude.{◌≡◌, ◌+◌, ◌-◌, ◌*◌, ◌/◌, ◌%◌, ◌^◌, ◌<◌, ◌≤◌, List, [], ◌∷◌, ◌++◌, Bool, length, take, drop, set, slice_get, vec_len, vec_capacity, OnOk, OnErr, IfOk, IfErr, IfSome, IsSome, IsTrue, ◌↔◌, ⊤};
 ghost use Rattle.rasn_types.specs.Bits.{to_bits, number_of, unpack};
 ghost use Rattle.rasn_types.specs.Packed.{packed};
-ghost use Rattle.per_bits.specs.Octets.{filled, low_bits_of, AreFilledBy, ArePadded};
+ghost use Rattle.per_bits.specs.Octets.{filled, low_bits_of, AreFilledBy, ArePadded, AreWholeOctets};
 
 use crate::fields::{
     FIELD_BITS, append_field, append_low_bits, append_octets_behind, append_wide_field,
@@ -187,7 +187,7 @@ impl<A: Allocator> BitList<A> {
 
     /// Appends the bits that a reader has left. The only error is want of memory, and then the list is as it was.
     pub fn push_reader(&mut self, reader: &BitReader<'_>) -> Result<(), AllocError>
-        ensures ok { OnOk result (self.new ≡ self.old ++ reader.now) }
+        ensures ok { OnOk result (self.new ≡ self.old ++ reader.now.bits) }
         ensures err { OnErr result (self.new ≡ self.old) }
     {
         self.octets.reserve(reader.octet_room())?;
@@ -204,7 +204,8 @@ impl<A: Allocator> BitList<A> {
     }
 }
 
-/// The bits of a list or of octets that are left to read. No call takes memory but `append_octets`.
+/// The bits of a list or of octets that are left to read, and the place of the first in its octet: how many bits of
+/// that octet stand in front of it. No call takes memory but `append_octets`.
 #[derive(Drop)]
 pub struct BitReader<'input> {
     /// The octet that the first bit stands in, and those behind it.
@@ -215,13 +216,13 @@ pub struct BitReader<'input> {
 }
 
 impl<'input> Model for BitReader<'input> {
-    ghost use Rattle.std.specs.Prelude.{List, Bool, take, drop};
+    ghost use Rattle.std.specs.Prelude.{take, drop};
     ghost use Rattle.rasn_types.specs.Bits.{unpack};
-    ghost use Rattle.per_bits.specs.Octets.{AreWithin};
+    ghost use Rattle.per_bits.specs.Octets.{AreWithin, Reading};
 
-    ghost Value = { List Bool };
+    ghost Value = { Reading };
 
-    ghost view = { λ a. take a.len (drop a.skip (unpack a.octets.now)) };
+    ghost view = { λ a. record { bits = take a.len (drop a.skip (unpack a.octets.now)); place = a.skip } };
 
     ghost invariant = { λ a. AreWithin a.skip a.len a.octets.now };
 }
@@ -229,7 +230,8 @@ impl<'input> Model for BitReader<'input> {
 impl<'input> BitReader<'input> {
     /// A reader of all bits of the list.
     pub fn new<A: Allocator>(list: &'input BitList<A>) -> Self
-        ensures { result ≡ list.now }
+        ensures bits { result.bits ≡ list.now }
+        ensures place { result.place ≡ 0 }
     {
         BitReader {
             octets: list.octets.as_slice(),
@@ -240,7 +242,8 @@ impl<'input> BitReader<'input> {
 
     /// A reader of the bits of the octets, the highest of each octet first.
     pub fn from_octets(octets: &'input [u8]) -> Self
-        ensures { result ≡ unpack octets.now }
+        ensures bits { result.bits ≡ unpack octets.now }
+        ensures place { result.place ≡ 0 }
     {
         BitReader {
             octets,
@@ -251,25 +254,46 @@ impl<'input> BitReader<'input> {
 
     /// How many bits are left.
     pub fn len(&self) -> u128
-        ensures { result ≡ length self.now }
+        ensures { result ≡ length self.now.bits }
     {
         self.len
     }
 
     /// Whether no bit is left.
     pub fn is_empty(&self) -> bool
-        ensures { IsTrue result ↔ (self.now ≡ []) }
+        ensures { IsTrue result ↔ (self.now.bits ≡ []) }
     {
         self.len == 0
+    }
+
+    /// How many bits of its octet stand in front of the first bit that is left, fewer than eight.
+    pub fn place(&self) -> u32
+        ensures is { result ≡ self.now.place }
+        ensures few { result < 8 }
+    {
+        self.skip
+    }
+
+    /// The octets of the bits that are left, where these begin and end with an octet.
+    pub fn aligned_octets(&self) -> Option<&'input [u8]>
+        ensures same { IfSome result (λ octets. unpack octets.now ≡ self.now.bits) }
+        ensures whole { IsSome result ↔ AreWholeOctets self.now }
+    {
+        if self.skip != 0 || self.len % 8 != 0 {
+            return None;
+        }
+        Some(&self.octets[..(self.len / 8) as usize])
     }
 
     /// A reader of the first `count` bits, which are no longer left here. Where fewer are left, the error is how many
     /// bits are missing, and nothing changes.
     pub fn take(&mut self, count: u128) -> Result<BitReader<'input>, u128>
-        ensures ok { IfOk result (λ front. self.old ≡ front ++ self.new) }
-        ensures count { IfOk result (λ front. length front ≡ count) }
-        ensures missing { IfErr result (λ missing. missing ≡ count - length self.old) }
-        ensures short { OnErr result (length self.old < count) }
+        ensures ok { IfOk result (λ front. self.old.bits ≡ front.bits ++ self.new.bits) }
+        ensures count { IfOk result (λ front. length front.bits ≡ count) }
+        ensures place { IfOk result (λ front. front.place ≡ self.old.place) }
+        ensures behind { OnOk result (self.new.place ≡ (self.old.place + count) % 8) }
+        ensures missing { IfErr result (λ missing. missing ≡ count - length self.old.bits) }
+        ensures short { OnErr result (length self.old.bits < count) }
         ensures err { OnErr result (self.new ≡ self.old) }
     {
         if self.len < count {
@@ -289,8 +313,9 @@ impl<'input> BitReader<'input> {
 
     /// A reader of `count` bits behind the first `begin`, all of which are still left here.
     pub fn part(&self, begin: u128, count: u128) -> BitReader<'input>
-        requires { begin + count ≤ length self.now }
-        ensures { result ≡ take count (drop begin self.now) }
+        requires { begin + count ≤ length self.now.bits }
+        ensures bits { result.bits ≡ take count (drop begin self.now.bits) }
+        ensures place { result.place ≡ (self.now.place + begin) % 8 }
     {
         let place = u128::from(self.skip) + begin;
         BitReader {
@@ -304,8 +329,8 @@ impl<'input> BitReader<'input> {
     /// the highest. They are still left.
     pub fn first_bits(&self, count: u128) -> u128
         requires few { count ≤ 128 }
-        requires left { count ≤ length self.now }
-        ensures { result ≡ number_of (take count self.now) }
+        requires left { count ≤ length self.now.bits }
+        ensures { result ≡ number_of (take count self.now.bits) }
     {
         if count <= u128::from(FIELD_BITS) {
             u128::from(read_field(self.octets, self.skip, count as u32))
@@ -317,8 +342,9 @@ impl<'input> BitReader<'input> {
     /// The number that the first `width` bits mean, at most the 56 of a field. They are then no longer left.
     pub fn take_field(&mut self, width: u32) -> u64
         requires few { width ≤ FIELD_BITS }
-        requires left { width ≤ length self.old }
-        ensures { self.old ≡ to_bits width result ++ self.new }
+        requires left { width ≤ length self.old.bits }
+        ensures bits { self.old.bits ≡ to_bits width result ++ self.new.bits }
+        ensures place { self.new.place ≡ (self.old.place + width) % 8 }
     {
         let number = read_field(self.octets, self.skip, width);
         self.take(u128::from(width)).unwrap();
@@ -328,7 +354,7 @@ impl<'input> BitReader<'input> {
     /// Appends the bits that are left to octets: the fewest octets, the first bit highest, and zero bits behind the
     /// last. The only error is want of memory, and then the octets are as they were.
     pub fn append_octets<A: Allocator>(&self, octets: &mut Vec<u8, A>) -> Result<(), AllocError>
-        ensures ok { OnOk result (octets.new.items ≡ octets.old.items ++ packed self.now) }
+        ensures ok { OnOk result (octets.new.items ≡ octets.old.items ++ packed self.now.bits) }
         ensures err { OnErr result (octets.new.items ≡ octets.old.items) }
     {
         note_octets(octets.as_slice());
@@ -339,9 +365,9 @@ impl<'input> BitReader<'input> {
 
     /// Appends the octets that the bits fill, which are then no longer left.
     fn move_octets<A: Allocator>(&mut self, octets: &mut Vec<u8, A>)
-        requires room { 8 * vec_len octets.old + length self.old ≤ 8 * vec_capacity octets.old }
-        ensures bits { unpack octets.new.items ++ self.new ≡ unpack octets.old.items ++ self.old }
-        ensures few { length self.new < 8 }
+        requires room { 8 * vec_len octets.old + length self.old.bits ≤ 8 * vec_capacity octets.old }
+        ensures bits { unpack octets.new.items ++ self.new.bits ≡ unpack octets.old.items ++ self.old.bits }
+        ensures few { length self.new.bits < 8 }
         ensures room { vec_capacity octets.old ≤ vec_capacity octets.new }
     {
         let count = (self.len / 8) as usize;
@@ -352,7 +378,7 @@ impl<'input> BitReader<'input> {
     /// How many octets of room `append_reader` wants for the bits that are left: what they fill, one that they begin,
     /// one for bits that stood there, and the word that is written before it is cut back.
     fn octet_room(&self) -> usize
-        ensures { result ≡ length self.now / 8 + 10 }
+        ensures { result ≡ length self.now.bits / 8 + 10 }
     {
         (self.len / 8) as usize + 10
     }
@@ -377,8 +403,8 @@ impl<'input> Clone for BitReader<'input> {
 /// then.
 fn append_reader<A: Allocator>(octets: &mut Vec<u8, A>, spare: u32, reader: BitReader<'_>) -> u32
     requires padded { ArePadded spare octets.old.items }
-    requires room { 8 * vec_len octets.old + length reader + 72 ≤ 8 * vec_capacity octets.old }
-    ensures { AreFilledBy (filled spare octets.old.items ++ reader.entry) result octets.new.items }
+    requires room { 8 * vec_len octets.old + length reader.bits + 72 ≤ 8 * vec_capacity octets.old }
+    ensures { AreFilledBy (filled spare octets.old.items ++ reader.entry.bits) result octets.new.items }
 {
     if spare == 0 {
         return append_from_octet(octets, reader);
@@ -395,8 +421,8 @@ fn append_reader<A: Allocator>(octets: &mut Vec<u8, A>, spare: u32, reader: BitR
 
 /// Appends all bits of a reader to octets of which no bit is spare, and answers how many are spare then.
 fn append_from_octet<A: Allocator>(octets: &mut Vec<u8, A>, reader: BitReader<'_>) -> u32
-    requires { 8 * vec_len octets.old + length reader + 64 ≤ 8 * vec_capacity octets.old }
-    ensures { AreFilledBy (unpack octets.old.items ++ reader.entry) result octets.new.items }
+    requires { 8 * vec_len octets.old + length reader.bits + 64 ≤ 8 * vec_capacity octets.old }
+    ensures { AreFilledBy (unpack octets.old.items ++ reader.entry.bits) result octets.new.items }
 {
     let mut left = reader;
     left.move_octets(octets);

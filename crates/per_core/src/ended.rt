@@ -24,11 +24,11 @@ pub enum Surplus {
 /// Fewer than eight bits may be left, whatever they are, or zero bits where `zero_padding` asks for these; they are
 /// looked at before whole octets that are left over. A value of no bits takes one octet, which is zero.
 pub fn ended(left: &BitReader<'_>, total: u128, zero_padding: bool) -> Result<(), Surplus>
-    requires fits { length left.now ≤ total }
+    requires fits { length left.now.bits ≤ total }
     requires octets { total % 8 ≡ 0 }
-    ensures ok { OnOk result (Ends zero_padding left.now total) }
-    ensures none { OnErr result (Ends zero_padding left.now total → ⊥) }
-    ensures why { IfErr result (IsWhy zero_padding left.now total) }
+    ensures ok { OnOk result (Ends zero_padding left.now.bits total) }
+    ensures none { OnErr result (Ends zero_padding left.now.bits total → ⊥) }
+    ensures why { IfErr result (IsWhy zero_padding left.now.bits total) }
 {
     let count = left.len();
     if count < total {
@@ -52,8 +52,8 @@ pub fn ended(left: &BitReader<'_>, total: u128, zero_padding: bool) -> Result<()
 
 /// Refuses spare bits that aren't zero, where they must be (X.691 11.1).
 fn check_spare_bits(left: &BitReader<'_>, zero_padding: bool) -> Result<(), Surplus>
-    ensures ok { OnOk result (ZeroIf zero_padding (spare left.now)) }
-    ensures err { IfErr result (λ why. IsOfSpare zero_padding left.now why) }
+    ensures ok { OnOk result (ZeroIf zero_padding (spare left.now.bits)) }
+    ensures err { IfErr result (λ why. IsOfSpare zero_padding left.now.bits why) }
 {
     if !zero_padding {
         return Ok(());

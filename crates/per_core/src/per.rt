@@ -9,7 +9,7 @@ use std::alloc::{AllocError, Allocator};
 /// The octets of a complete encoding (X.691 11.1): the bits, first bit highest, and zero bits up to a whole octet; of
 /// no bits one zero octet.
 pub fn complete<A: Allocator>(alloc: A, bits: BitReader<'_>) -> Result<Vec<u8, A>, AllocError>
-    ensures { IfOk result (λ octets. octets.items ≡ writers.complete bits.entry) }
+    ensures { IfOk result (λ octets. octets.items ≡ writers.complete bits.entry.bits) }
 {
     let mut octets = Vec::new(alloc);
     if bits.is_empty() {

@@ -14,13 +14,13 @@ use Rattle.per_de.specs.declared.source.Extension.TheVariants.{Ahead, Shown}
 
 -- all bits of a source
 abbrev pub bits_of : Source → Bits
-bits_of (Input bits) = bits
+bits_of (Input reading) = reading.bits
 bits_of (Octets octets) = unpack octets.now
 bits_of (Gathered octets) = unpack octets.items
 
 -- whether they are octets of the input, which can be lent
 abbrev pub lends : Source → Bool
-lends (Input bits) = false
+lends (Input reading) = false
 lends (Octets octets) = true
 lends (Gathered octets) = false
 

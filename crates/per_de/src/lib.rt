@@ -232,7 +232,7 @@ impl<'input> Decoder<'input> {
     /// A decoder of the bits that a reader has left, which lends none of them. What its values own is taken from
     /// `alloc`.
     pub fn from_reader(alloc: Global, input: BitReader<'input>, options: DecoderOptions) -> Self
-        ensures { result ≡ fresh input.entry options }
+        ensures { result ≡ fresh input.entry.bits options }
     {
         Decoder::of_source(alloc, Source::Input(input), options)
     }
@@ -265,7 +265,7 @@ impl<'input> Decoder<'input> {
 
     /// The bits that are left.
     pub fn input(&self) -> BitReader<'_>
-        ensures { result ≡ self.now.bits }
+        ensures { result.bits ≡ self.now.bits }
     {
         self.bits.all_of(self.source.bits())
     }
@@ -330,7 +330,7 @@ impl<'input> Decoder<'input> {
 
     /// The presence bits of the open SEQUENCE that are still to be read.
     fn presence_bits(&self) -> BitReader<'_>
-        ensures { result ≡ self.now.presences }
+        ensures { result.bits ≡ self.now.presences }
     {
         self.presences.part_of(self.source.bits())
     }
@@ -687,7 +687,7 @@ impl<'input> Decoder<'input> {
 /// (X.691 11.9.3.3 to 11.9.3.8).
 fn come_alone(constraints: &Constraints, bits: &BitReader<'_>, count: usize) -> bool
     ensures { let size = size_of constraints.now in let mark = is_size_marked constraints.now in
-        (result ≡ true) ↔ ComeAlone size mark bits.now count }
+        (result ≡ true) ↔ ComeAlone size mark bits.now.bits count }
 {
     if count < 16384 {
         return true;

@@ -24,7 +24,7 @@ pub(crate) enum Source<'input> {
 impl<'input> Source<'input> {
     /// All its bits.
     pub(crate) fn bits(&self) -> BitReader<'_>
-        ensures { result ≡ bits_of self.now }
+        ensures { result.bits ≡ bits_of self.now }
     {
         let octets = match self {
             Source::Input(bits) => return bits.clone().unwrap(),
@@ -110,9 +110,9 @@ impl Span {
 
     /// The same bits of a source, which has all of them.
     pub(crate) fn within(self, source: &BitReader<'_>) -> Span
-        ensures same { span_of result source.now ≡ span_of self source.now }
-        ensures there { IsWithin result source.now }
-        ensures behind { length source.now - result.end ≡ length source.now - self.end }
+        ensures same { span_of result source.now.bits ≡ span_of self source.now.bits }
+        ensures there { IsWithin result source.now.bits }
+        ensures behind { length source.now.bits - result.end ≡ length source.now.bits - self.end }
     {
         let end = self.end.min(source.len());
         Span {
@@ -123,7 +123,7 @@ impl Span {
 
     /// The next of these bits of a source, which is then no longer one of them.
     pub(crate) fn next_bit(&mut self, source: BitReader<'_>) -> Option<bool>
-        ensures { NextFlag (span_of self.old source.entry) result (span_of self.new source.entry) }
+        ensures { NextFlag (span_of self.old source.entry.bits) result (span_of self.new source.entry.bits) }
     {
         let bits = self.part_of(source);
         if bits.is_empty() {
@@ -135,7 +135,7 @@ impl Span {
 
     /// These bits of a source, as far as they are there.
     pub(crate) fn part_of<'source>(self, source: BitReader<'source>) -> BitReader<'source>
-        ensures { result ≡ span_of self source.entry }
+        ensures { result.bits ≡ span_of self source.entry.bits }
     {
         let begin = self.begin.min(source.len());
         let count = self.len().min(source.len() - begin);
@@ -144,8 +144,8 @@ impl Span {
 
     /// These bits of a source, which has all of them.
     pub(crate) fn all_of<'source>(self, source: BitReader<'source>) -> BitReader<'source>
-        requires { IsWithin self source }
-        ensures { result ≡ span_of self source.entry }
+        requires { IsWithin self source.bits }
+        ensures { result.bits ≡ span_of self source.entry.bits }
     {
         source.part(self.begin, self.end - self.begin)
     }
@@ -163,7 +163,7 @@ pub(crate) enum Flags {
 impl Flags {
     /// The next of them, where they stand in a source, which is then no longer one of them.
     pub(crate) fn next(&mut self, source: BitReader<'_>) -> Option<bool>
-        ensures { NextFlag (flags_in source.entry self.old) result (flags_in source.entry self.new) }
+        ensures { NextFlag (flags_in source.entry.bits self.old) result (flags_in source.entry.bits self.new) }
     {
         match self {
             Flags::InPlace(span) => span.next_bit(source),
@@ -183,7 +183,7 @@ impl Flags {
 
     /// They in turn, where they stand in a source.
     pub(crate) fn into_bitmap<'source>(self, source: BitReader<'source>) -> Bitmap<'source>
-        ensures { result ≡ flags_in source.entry self }
+        ensures { result ≡ flags_in source.entry.bits self }
     {
         match self {
             Flags::InPlace(span) => Bitmap::in_place(span.part_of(source)),

@@ -126,8 +126,8 @@ impl<A: Allocator> Pieces<A> {
 
     /// Appends the bits that a reader has left. The only error is want of memory.
     pub fn push_reader(&mut self, reader: &BitReader<'_>) -> Result<(), AllocError>
-        ensures ok { OnOk result (self.new ≡ with_bits self.old reader.now) }
-        ensures appends { OnOk result (Appends self.old (just reader.now) self.new) }
+        ensures ok { OnOk result (self.new ≡ with_bits self.old reader.now.bits) }
+        ensures appends { OnOk result (Appends self.old (just reader.now.bits) self.new) }
     {
         self.bits.push_reader(reader)
     }

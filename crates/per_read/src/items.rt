@@ -47,10 +47,10 @@ pub(crate) trait Collector {
 
     /// Appends the items that some bits are, `many` of them.
     fn push_items(&mut self, bits: BitReader<'_>, many: usize) -> Result<(), AllocError>
-        requires bits { length bits ≡ bits_of (item self.old) * many }
+        requires bits { length bits.bits ≡ bits_of (item self.old) * many }
         requires room { count self.old + many ≤ usize.MAX }
         ensures ok { let form = OneByOne (coded (item self.old)) in
-            OnOk result (TookItems holds form many self.old self.new bits.entry []) }
+            OnOk result (TookItems holds form many self.old self.new bits.entry.bits []) }
         ensures item { OnOk result (item self.new ≡ item self.old) }
         ensures count { OnOk result (count self.new ≤ count self.old + many) }
     {

@@ -46,13 +46,13 @@ impl<'input> Model for Reader<'input> {
 
     ghost Value = { State };
 
-    ghost view = { λ r. record { bits = r.bits; options = r.options } };
+    ghost view = { λ r. record { bits = r.bits.bits; options = r.options } };
 }
 
 impl<'input> Reader<'input> {
     /// A reader of bits. What it answers is kept in memory of `alloc`.
     pub fn new(alloc: Global, bits: BitReader<'input>, options: ReaderOptions) -> Self
-        ensures { result ≡ record { bits = bits.entry; options = options } }
+        ensures { result ≡ record { bits = bits.entry.bits; options = options } }
     {
         Reader {
             bits,
@@ -63,7 +63,7 @@ impl<'input> Reader<'input> {
 
     /// The bits that are left.
     pub fn bits(&self) -> BitReader<'input>
-        ensures { result ≡ self.now.bits }
+        ensures { result.bits ≡ self.now.bits }
     {
         self.bits.clone().unwrap()
     }
@@ -96,7 +96,7 @@ impl<'input> Reader<'input> {
 
     /// Takes so many bits, as a reader of their own. Takes no memory.
     pub fn take_front(&mut self, count: u128) -> Result<BitReader<'input>, DecodeErrorKind>
-        ensures { Takes short (λ a. Front count) itself self.old result self.new }
+        ensures { Takes short (λ a. Front count) (λ P front. P front.bits) self.old result self.new }
     {
         self.bits.take(count).map_err(DecodeErrorKind::Incomplete)
     }

@@ -63,8 +63,8 @@ fn take_bare_octets_onto(
 
 /// A number with `count` octets behind it, which some bits are. `None` is a number that no `usize` holds.
 fn with_octets(number: Option<usize>, octets: BitReader<'_>, count: usize) -> Option<usize>
-    requires { length octets ≡ 8 * count }
-    ensures { TookItems MeansSince (OneByOne an_octet) count number result octets.entry [] }
+    requires { length octets.bits ≡ 8 * count }
+    ensures { TookItems MeansSince (OneByOne an_octet) count number result octets.entry.bits [] }
 {
     let mut number = number;
     let mut left = octets;

@@ -210,7 +210,7 @@ impl<A: Allocator + Clone> Writer<A> {
     /// Writes the bits that a reader has left.
     fn put_reader(&mut self, reader: &BitReader<'_>) -> Result<(), EncodeError>
         requires { self.old.failed ≡ false }
-        ensures { Puts IsMemory (just reader.now) self.old result self.new }
+        ensures { Puts IsMemory (just reader.now.bits) self.old result self.new }
     {
         let pushed = self.pieces.push_reader(reader);
         self.unless_out_of_memory(pushed)

@@ -6,8 +6,8 @@ use Rattle.per_read_types.proofs.in_place.with_octets.Goals as goal
 pub loop-preserved : goal.loop-preserved
 loop-preserved c =
     let taken = rw c.unwrap-octet.ensures at c.take.ensures in
-    let f = field_taken 8 c.first_bits.result c.loop.left c.unwrap-octet.result c.take.new.self taken.ok taken.count c.first_bits.ensures in
+    let f = field_taken 8 c.first_bits.result c.loop.left.bits c.unwrap-octet.result.bits c.take.new.self.bits taken.ok taken.count c.first_bits.ensures in
     first_go_on _ c.loop.invariant c.loop-test.true f c.with_octet-number.ensures
 
 pub returns : goal.returns
-returns c = first_end c.loop.invariant c.loop-test.false (sym (append-nil c.args.octets))
+returns c = first_end c.loop.invariant c.loop-test.false (sym (append-nil c.args.octets.bits))

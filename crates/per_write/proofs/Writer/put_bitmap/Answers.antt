@@ -14,4 +14,4 @@ pub returns : goal.returns
 returns g c =
     let less : c.saturating_sub.result ≡ length c.args.flags.now - 1 = omega (arith, c.saturating_sub.ensures) in
     small_bitmap c.args.self.now c.put_bit-2.new.self c.put_bits.new.self c.put_reader.new.self c.args.flags.now c.saturating_sub.result c.put_reader.result (omega arith) less c.in_ok-put_bit-2.ensures.ok c.in_ok-put_bits.ensures.ok
-    (subst (λ (bs : Bits). Puts IsMemory (just bs) c.put_bits.new.self c.put_reader.result c.put_reader.new.self) c.new.ensures c.put_reader.ensures)
+    (subst (λ (bs : Bits). Puts IsMemory (just bs) c.put_bits.new.self c.put_reader.result c.put_reader.new.self) c.new.ensures.bits c.put_reader.ensures)

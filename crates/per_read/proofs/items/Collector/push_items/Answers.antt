@@ -14,7 +14,7 @@ pub loop-done-init : goal.loop-done-init
 loop-done-init g c =
     let e : c.width-width.result ≡ bits_of (g.Self.Collector.item c.args.self.now) = c.width-width.ensures ∙ ap bits_of c.item.ensures.item in
     record {
-      first = first_begin g.Self.Collector.holds c.width-width.result c.args.bits c.args.self.now c.args.many (subst (λ (w : ℕ). length c.args.bits ≡ w * c.args.many) (sym e) c.requires.bits);
+      first = first_begin g.Self.Collector.holds c.width-width.result c.args.bits.bits c.args.self.now c.args.many (subst (λ (w : ℕ). length c.args.bits.bits ≡ w * c.args.many) (sym e) c.requires.bits);
       same = refl;
       few = omega arith;
     }
@@ -44,7 +44,7 @@ loop-done-preserved g c =
     let bits = to_bits length c.take_field-word.result in
     let more = subst (λ (w : ℕ). TookItems g.Self.Collector.holds (OneByOne (Field w)) c.min-count.result c.loop-done.self c.push_word.new.self bits []) e c.in_ok-push_word.ensures.ok in
     record {
-      first = first_go_far c.loop-done.invariant.first (omega arith) c.take_field-word.ensures (length-to_bits length c.take_field-word.result) more;
+      first = first_go_far c.loop-done.invariant.first (omega arith) c.take_field-word.ensures.bits (length-to_bits length c.take_field-word.result) more;
       same = c.in_ok-push_word.ensures.item ∙ c.loop-done.invariant.same;
       few = omega (arith, c.in_ok-push_word.ensures.count, c.loop-done.invariant.few);
     }
@@ -52,8 +52,8 @@ loop-done-preserved g c =
 pub returns-clause-ok : goal.returns-clause-ok
 returns-clause-ok g c =
     let e : c.width-width.result ≡ bits_of (g.Self.Collector.item c.args.self.now) = c.width-width.ensures ∙ ap bits_of c.item.ensures.item in
-    subst (λ (w : ℕ). TookItems g.Self.Collector.holds (OneByOne (Field w)) c.args.many c.args.self.now c.loop-done.self c.args.bits []) e
-    (first_end c.loop-done.invariant.first (omega arith) (sym (append-nil c.args.bits)))
+    subst (λ (w : ℕ). TookItems g.Self.Collector.holds (OneByOne (Field w)) c.args.many c.args.self.now c.loop-done.self c.args.bits.bits []) e
+    (first_end c.loop-done.invariant.first (omega arith) (sym (append-nil c.args.bits.bits)))
 
 pub returns-clause-count : goal.returns-clause-count
 returns-clause-count g c = omega (arith, c.loop-done.invariant.few, c.loop-done.invariant.first.within)

@@ -4,7 +4,7 @@ use Rattle.per_read.proofs.items.Collector.push_items.Given as goal
 
 abbrev pub invariant-loop-done : goal.invariant-loop-done
 invariant-loop-done g l = record {
-  first : FirstItems g.Self.Collector.holds l.width l.initial.left l.left l.initial.self l.self l.done l.many;
+  first : FirstItems g.Self.Collector.holds l.width l.initial.left.bits l.left.bits l.initial.self l.self l.done l.many;
   same : g.Self.Collector.item l.self ≡ g.Self.Collector.item l.initial.self;
   few : g.Self.Collector.count l.self ≤ g.Self.Collector.count l.initial.self + l.done;
 }

@@ -14,7 +14,7 @@ pub unwrap-bits-requires : goal.unwrap-bits-requires
 unwrap-bits-requires g c =
     let within = c.requires.within unaligned in
     let counted = length-bit_writers c.args.self.now.bits.now in
-    let long = ap length c.new-rest.ensures in
+    let long = ap length c.new-rest.ensures.bits in
     ok_unless c.take.result c.take.ensures.short (λ h. omega arith)
 
 pub unwrap-bits-requires-2 : goal.unwrap-bits-requires-2
@@ -22,8 +22,8 @@ unwrap-bits-requires-2 g c =
     let within = c.requires.within unaligned in
     let counted = length-bit_writers c.args.self.now.bits.now in
     let first = rw c.unwrap-bits.ensures at c.take.ensures in
-    let long = ap length c.new-rest.ensures in
-    let left = ap length first.ok ∙ length-append c.unwrap-bits.result c.take.new.self in
+    let long = ap length c.new-rest.ensures.bits in
+    let left = ap length first.ok ∙ length-append c.unwrap-bits.result.bits c.take.new.self.bits in
     ok_unless c.take-2.result c.take-2.ensures.short (λ h. omega (arith, first.count))
 
 pub returns : goal.returns
@@ -35,10 +35,10 @@ returns g c =
     let counted = length-bit_writers bs in
     let first = rw c.unwrap-bits.ensures at c.take.ensures in
     let second = rw c.unwrap-bits-2.ensures at c.take-2.ensures in
-    let these : c.unwrap-bits-2.result ≡ slice_range bs start end = taken_between bs c.new-rest.result c.unwrap-bits.result c.take.new.self c.unwrap-bits-2.result c.take-2.new.self start end
-    (ap (take (length bs)) c.new-rest.ensures ∙ take-length bs) (omega arith) c.requires.ordered first.ok first.count second.ok second.count in
+    let these : c.unwrap-bits-2.result.bits ≡ slice_range bs start end = taken_between bs c.new-rest.result.bits c.unwrap-bits.result.bits c.take.new.self.bits c.unwrap-bits-2.result.bits c.take-2.new.self.bits start end
+    (ap (take (length bs)) c.new-rest.ensures.bits ∙ take-length bs) (omega arith) c.requires.ordered first.ok first.count second.ok second.count in
     record {
-      ok = on_ok_weaker _ (wrote_same c.args.writer.now c.put_reader.new.self (just c.unwrap-bits-2.result) (one_by_one (slice_range (bit_writers bs) start end))
+      ok = on_ok_weaker _ (wrote_same c.args.writer.now c.put_reader.new.self (just c.unwrap-bits-2.result.bits) (one_by_one (slice_range (bit_writers bs) start end))
           (λ p. ap Some these ∙ sym (ap (λ ws. one_by_one ws p) (bits_between bs start end) ∙ bits_one_by_one (slice_range bs start end) p))) c.put_reader.ensures.ok;
       err = search rules;
       fails = search rules;
