@@ -10,11 +10,10 @@ use Rattle.rasn_types.specs.Bits.{AreOctets, Bits, pack, to_bits, unpack}
 use Rattle.rasn_types.specs.Values.{octets}
 use Rattle.rasn_types.proofs.Bits.{length-unpack, number_below, to_bits-number}
 use Rattle.rasn_types.proofs.Fewest.{pack-unpack}
-use Rattle.rasn_types.proofs.Packing.{unpack-take}
 use Rattle.rasn_constraints.specs.Bounds.{Size}
 use Rattle.rasn_schema.specs.Schemas
 use Rattle.rasn_calls.specs.Calls.{Reads}
-use Rattle.per_bits.proofs.Words.{unpack-drop}
+use Rattle.per_bits.specs.Octets.{AreWholeOctets, Reading}
 use Rattle.per_core.specs.Basic.{InFragments, Lengthy, OneByOne, UnconstrainedLength, length_form, octet}
 use Rattle.per_core.specs.Counts.{octet_items}
 use Rattle.per_core.specs.Spellings.{Settings, Spelling, Then}
@@ -33,7 +32,7 @@ use Rattle.per_scopes.specs.Faults.{refusal}
 use Rattle.per_scopes.specs.Rules.{decoder_rules}
 use Rattle.per_scopes.specs.State.{State, reader_of, settings_of, with_last}
 use Rattle.per_de.specs.Lending.{AreLent, ComeAlone, is_counted_once, is_extended}
-use Rattle.per_de.specs.Sources.{bits_of, lends, span_of, up_to, AreOctetsOf, IsWithin}
+use Rattle.per_de.specs.Sources.{bits_of, lends, place_of, span_of, up_to, AreOctetsOf, IsWithin}
 use Rattle.per_de.specs.declared.source.Source.{Source}
 use Rattle.per_de.specs.declared.source.Source.TheVariants as From
 use Rattle.per_de.specs.declared.source.Span.{Span}
@@ -114,28 +113,22 @@ unpack_same xs ys h k e =
     let n : length xs ≡ length ys = omega (arith, ap length e, length-unpack xs, length-unpack ys) in
     sym (pack-unpack xs h) ∙ ap₂ (λ (n : ℕ) (b : Bits). pack n b) n e ∙ pack-unpack ys k
 
--- the octets in front of the place of a bit
-octets_take : (n : ℕ) (os : List ℕ) → AreOctets os → AreOctets (take n os)
-octets_take zero os h = tt
-octets_take (suc n) [] h = tt
-octets_take (suc n) (o ∷ os) h = (h.0, octets_take n os h.1)
+-- octets of a reader's input that end in front of the place of a bit
+pub input_octets : (input part : Reading) (place n : ℕ) (os : List ℕ) → 8 * n ≤ place → part.bits ≡ take (8 * n) (drop (place - 8 * n) input.bits) → AreOctets os → unpack os ≡ part.bits
+    → AreOctetsOf input.bits place n os
+input_octets input part place n os l e h same =
+    let w : 8 * n ≡ place - (place - 8 * n) = omega (arith, l) in
+    record { are = h; same = same ∙ e ∙ ap (λ (i : ℕ). take i (drop (place - 8 * n) input.bits)) w }
 
-octets_drop : (n : ℕ) (os : List ℕ) → AreOctets os → AreOctets (drop n os)
-octets_drop zero os h = h
-octets_drop (suc n) [] h = tt
-octets_drop (suc n) (o ∷ os) h = octets_drop n os h.1
-
-pub octets_before : (os : List ℕ) (place n : ℕ) → AreOctets os → place % 8 ≡ 0 → 8 * n ≤ place
-    → AreOctetsOf (unpack os) place n (take (place / 8 - (place / 8 - n)) (drop (place / 8 - n) os))
-octets_before os place n h e l =
-    let begin = place / 8 - n in
-    let many = place / 8 - begin in
-    let m : 8 * many ≡ place - (place - 8 * n) = omega (arith, e, l) in
-    let b : 8 * begin ≡ place - 8 * n = omega (arith, e, l) in
-    record {
-      are = octets_take many (drop begin os) (octets_drop begin os h);
-      same = sym (unpack-take many (drop begin os)) ∙ ap (λ z. take (8 * many) z) (sym (unpack-drop begin os)) ∙ ap₂ (λ (i j : ℕ). take i (drop j (unpack os))) m b;
-    }
+-- these are whole octets exactly where that place begins an octet
+pub whole_where : (input part : Reading) (place n : ℕ) → 8 * n ≤ place → place ≤ length input.bits → part.bits ≡ take (8 * n) (drop (place - 8 * n) input.bits) → part.place ≡ (input.place + (place - 8 * n)) % 8
+    → AreWholeOctets part ↔ ((input.place + place) % 8 ≡ 0)
+whole_where input part place n l within e p =
+    let rest = drop (place - 8 * n) input.bits in
+    let wide : length part.bits ≡ 8 * n = ap length e ∙ length-take (8 * n) rest ∙ omega (arith, length-drop (place - 8 * n) input.bits, l, within) in (
+      (λ w. omega (arith, w.begins, p, l)),
+      λ h. record { begins = omega (arith, h, p, l); ends = omega (arith, wide) },
+    )
 
 -- a part of the bits that are left, as a part of those in which they stand
 inner : (span : Span) (source : Bits) (left m : ℕ) → IsWithin span source → m + left ≤ length (span_of span source)
@@ -157,24 +150,15 @@ pub if_some : {X : Type 0} (r : Option X) (P Q : X → Type 0) → ((v : X) → 
 if_some None P Q f h = tt
 if_some (Some v) P Q f h = f v h
 
--- octets of the input are whole
-whole : (source : Source) → lends source ≡ true → length (bits_of source) % 8 ≡ 0
-whole (From.Input bits) e = absurd cc
-whole (From.Octets os) e = omega (arith, length-unpack os.now)
-whole (From.Gathered os) e = absurd cc
-
 -- octets that come alone are lent exactly where octets of the input stand in front of the last bits
 pub lent_where : {A : Type 0} (size : Size) (mark : Bool) (s : State) (source : Source) (span : Span) (left n : ℕ) → up_to span source ≡ s.source → IsWithin span (bits_of source) → 0 < n → ComeAlone size mark s.bits n → left ≤ span.end
-    → A ↔ ((lends source ≡ true) × ((span.end - left) % 8 ≡ 0)) → A ↔ AreLent size mark s left n
-lent_where size mark s source span left n e h some alone l i = (
-  (λ a. let q = i.0 a in record {
-    some = some;
-    alone = alone;
-    lends = sym (ap (λ z. z.lends) e) ∙ q.0;
-    on_octets = omega (arith, ap (λ z. z.behind) e, whole source q.0, q.1, h.enough, l);
-  }),
-  λ w. let are : lends source ≡ true = ap (λ z. z.lends) e ∙ w.lends in i.1 (are, omega (arith, ap (λ z. z.behind) e, whole source are, w.on_octets, h.enough, l)),
-)
+    → A ↔ ((lends source ≡ true) × ((place_of source + (span.end - left)) % 8 ≡ 0)) → A ↔ AreLent size mark s left n
+lent_where size mark s source span left n e h some alone l i =
+    let same : place_of source + (span.end - left) ≡ s.source.place + (length s.source.bits - (s.source.behind + left)) =
+        omega (arith, ap (λ z. z.place) e, ap (λ z. z.behind) e, ap (λ z. length z.bits) e, h.enough, l) in (
+      (λ a. let q = i.0 a in record { some = some; alone = alone; lends = sym (ap (λ z. z.lends) e) ∙ q.0; on_octets = ap (λ (k : ℕ). k % 8) (sym same) ∙ q.1 }),
+      λ w. i.1 (ap (λ z. z.lends) e ∙ w.lends, ap (λ (k : ℕ). k % 8) same ∙ w.on_octets),
+    )
 
 owned_not : (x : CowSlice ℕ Global) → IsOwnedSlice x → IsBorrowedSlice x → ⊥
 owned_not (Slice.Borrowed r) o b = o

@@ -1,5 +1,5 @@
 -- When the octets of an OCTET STRING are lent, and not copied (ITU-T X.691, 11.9, 17).
-use Rattle.std.specs.Prelude.{◌≡◌, ◌⊎◌, ◌<◌, ◌+◌, ◌%◌, ℕ, Bool, true, false, nat_lt, ◌∷◌, [], Option, Some}
+use Rattle.std.specs.Prelude.{◌≡◌, ◌⊎◌, ◌<◌, ◌+◌, ◌-◌, ◌%◌, ℕ, Bool, true, false, nat_lt, ◌∷◌, [], length, Option, Some}
 use Rattle.rasn_types.specs.Bits.{Bits}
 use Rattle.rasn_constraints.specs.Bounds.{Size}
 use Rattle.per_scopes.specs.State.{State}
@@ -22,9 +22,9 @@ abbrev pub ComeAlone : Size → Bool → Bits → ℕ → Type 0
 ComeAlone size mark s n = (n < 16384) ⊎ ((is_counted_once size.least size.most ≡ true) × (is_extended mark s ≡ false))
 
 -- Of the bits that are left, n octets under a size were taken that stand in front of the last `left` bits: at least one, with one count
--- alone or with none, on octets of the input. These are whole, and so the place of the octets in them follows from the bits behind.
+-- alone or with none, on octets of the input. So the input's octets end where these bits do.
 pub record AreLent (size : Size) (mark : Bool) (s : State) (left n : ℕ) : Type 0 where
   pub some : 0 < n
   pub alone : ComeAlone size mark s.bits n
   pub lends : s.source.lends ≡ true
-  pub on_octets : (s.source.behind + left) % 8 ≡ 0
+  pub on_octets : (s.source.place + (length s.source.bits - (s.source.behind + left))) % 8 ≡ 0

@@ -5,7 +5,7 @@ use Rattle.rasn_types.specs.Bits.{AreOctets, Bits, unpack}
 use Rattle.per_scopes.specs.State
 use Rattle.per_scopes.specs.State.{ahead, shown}
 use Rattle.per_de.specs.declared.source.Source.{Source}
-use Rattle.per_de.specs.declared.source.Source.TheVariants.{Input, Octets, Gathered}
+use Rattle.per_de.specs.declared.source.Source.TheVariants.{Input, Gathered}
 use Rattle.per_de.specs.declared.source.Span.{Span}
 use Rattle.per_de.specs.declared.source.Flags.{Flags}
 use Rattle.per_de.specs.declared.source.Flags.TheVariants as Kept
@@ -15,22 +15,30 @@ use Rattle.per_de.specs.declared.source.Extension.TheVariants.{Ahead, Shown}
 -- all bits of a source
 abbrev pub bits_of : Source → Bits
 bits_of (Input reading) = reading.bits
-bits_of (Octets octets) = unpack octets.now
 bits_of (Gathered octets) = unpack octets.items
 
--- whether they are octets of the input, which can be lent
+-- how many bits of its octet stand in front of the first of them
+abbrev pub place_of : Source → ℕ
+place_of (Input reading) = reading.place
+place_of (Gathered octets) = 0
+
+-- whether they are the input's, of which octets can be lent
 abbrev pub lends : Source → Bool
-lends (Input reading) = false
-lends (Octets octets) = true
+lends (Input reading) = true
 lends (Gathered octets) = false
 
 -- a source of which all bits are left
 abbrev pub unread_of : Source → State.Source
-unread_of source = record { bits = bits_of source; behind = 0; lends = lends source }
+unread_of source = record { bits = bits_of source; behind = 0; place = place_of source; lends = lends source }
 
 -- a source, of which the bits up to the end of a span are left
 abbrev pub up_to : Span → Source → State.Source
-up_to span source = record { bits = bits_of source; behind = length (bits_of source) - span.end; lends = lends source }
+up_to span source = record {
+  bits = bits_of source;
+  behind = length (bits_of source) - span.end;
+  place = place_of source;
+  lends = lends source;
+}
 
 -- the bits from one place of a source up to another
 abbrev pub span_of : Span → Bits → Bits

@@ -27,7 +27,7 @@ ghost use Rattle.per_scopes.specs.BagLaws.{bags_well};
 ghost use Rattle.per_scopes.specs.ScopeLaws.{scopes_well};
 ghost use Rattle.per_scopes.specs.SetLaws.{sets_well};
 ghost use Rattle.per_scopes.specs.Scopes.{Closes, Enters, LevelInside, Opens, no_record, with_outside};
-ghost use Rattle.per_scopes.specs.State.{State, Options, fresh, fresh_of, octets_lent, reader_of, shown, with_last};
+ghost use Rattle.per_scopes.specs.State.{State, Options, fresh, fresh_of, from_octet, reader_of, shown, with_last};
 ghost use Rattle.per_de.specs.Lists.{AmidList};
 ghost use Rattle.per_de.specs.Openings.{OpensRecord};
 ghost use Rattle.per_de.specs.Outsides.{choosing_of, outside_of, waiting_of};
@@ -218,21 +218,21 @@ impl<'input> Model for Decoder<'input> {
 }
 
 impl<'input> Decoder<'input> {
-    /// A decoder of all bits of the list. What its values own is taken from `alloc`.
+    /// A decoder of all bits of the list, which lends octets of it. What its values own is taken from `alloc`.
     pub fn new<A: Allocator>(
         alloc: Global,
         input: &'input BitList<A>,
         options: DecoderOptions,
     ) -> Self
-        ensures { result ≡ fresh input.now options }
+        ensures { result ≡ fresh (from_octet input.now) options }
     {
         Decoder::from_reader(alloc, BitReader::new(input), options)
     }
 
-    /// A decoder of the bits that a reader has left, which lends none of them. What its values own is taken from
-    /// `alloc`.
+    /// A decoder of the bits that a reader has left, which lends octets of the reader's input. What its values own is
+    /// taken from `alloc`.
     pub fn from_reader(alloc: Global, input: BitReader<'input>, options: DecoderOptions) -> Self
-        ensures { result ≡ fresh input.entry.bits options }
+        ensures { result ≡ fresh input.entry options }
     {
         Decoder::of_source(alloc, Source::Input(input), options)
     }
@@ -240,9 +240,9 @@ impl<'input> Decoder<'input> {
     /// A decoder of the bits of octets, the highest of each octet first, which lends the octets. What its values own is
     /// taken from `alloc`.
     pub fn from_octets(alloc: Global, octets: &'input [u8], options: DecoderOptions) -> Self
-        ensures { result ≡ fresh_of (octets_lent (unpack octets.now)) options }
+        ensures { result ≡ fresh (from_octet (unpack octets.now)) options }
     {
-        Decoder::of_source(alloc, Source::Octets(octets), options)
+        Decoder::from_reader(alloc, BitReader::from_octets(octets), options)
     }
 
     /// A decoder of all bits of a source.
@@ -279,7 +279,7 @@ impl<'input> Decoder<'input> {
 
     /// Reads an OCTET STRING under constraints (X.691 17), as the call of the trait does. The octets are `Borrowed`
     /// exactly where they are octets of the input, at least one, and come with one count alone or with none; they may
-    /// be kept as long as the input. Those of a `from_reader`, or of an open type in fragments, are `Owned`.
+    /// be kept as long as the input. Those of an open type in fragments are `Owned`.
     pub fn decode_octet_string(
         &mut self,
         tag: Tag,

@@ -1,10 +1,10 @@
 //! Where a decoder's bits come from, and which of them it means: places in a source, and presence bits there.
 
 ghost use Rattle.std.specs.Prelude.{◌≡◌, ◌≤◌, ◌+◌, ◌-◌, ◌*◌, ◌%◌, ◌↔◌, true, [], length, IfSome, IsSome, IsTrue};
-ghost use Rattle.rasn_types.specs.Bits.{Bits, unpack};
+ghost use Rattle.rasn_types.specs.Bits.{Bits};
 ghost use Rattle.per_additions.specs.Additions.{NextFlag};
 ghost use Rattle.per_scopes.specs.State.{extension_of};
-ghost use Rattle.per_de.specs.Sources.{bits_of, extension_in, flags_in, lends, span_of, AreOctetsOf, IsWithin};
+ghost use Rattle.per_de.specs.Sources.{bits_of, extension_in, flags_in, lends, place_of, span_of, AreOctetsOf, IsWithin};
 
 use per_additions::bitmaps::{Bitmap, next_flag};
 use per_bits::BitReader;
@@ -13,10 +13,8 @@ use rasn_types::bit_string::{BitString, note_octets};
 /// Where the bits come from that a decoder reads.
 #[derive(Drop)]
 pub(crate) enum Source<'input> {
-    /// The input's own.
+    /// The input's own, of which octets can be lent.
     Input(BitReader<'input>),
-    /// The input's octets, which can be lent.
-    Octets(&'input [u8]),
     /// Octets that were gathered from fragments (X.691 11.9.3.8), which the decoder owns.
     Gathered(Vec<u8>),
 }
@@ -26,12 +24,10 @@ impl<'input> Source<'input> {
     pub(crate) fn bits(&self) -> BitReader<'_>
         ensures { result.bits ≡ bits_of self.now }
     {
-        let octets = match self {
-            Source::Input(bits) => return bits.clone().unwrap(),
-            Source::Octets(octets) => octets,
-            Source::Gathered(octets) => octets.as_slice(),
-        };
-        BitReader::from_octets(octets)
+        match self {
+            Source::Input(bits) => bits.clone().unwrap(),
+            Source::Gathered(octets) => BitReader::from_octets(octets.as_slice()),
+        }
     }
 
     /// The last `count` octets in front of a place, where they are octets of the input.
@@ -39,28 +35,30 @@ impl<'input> Source<'input> {
         requires there { 8 * count ≤ place }
         requires within { place ≤ length (bits_of self.now) }
         ensures some { IfSome result (λ part. AreOctetsOf (bits_of self.now) place count part.now) }
-        ensures lent { IsSome result ↔ ((lends self.now ≡ true) × (place % 8 ≡ 0)) }
+        ensures lent { IsSome result ↔ ((lends self.now ≡ true) × ((place_of self.now + place) % 8 ≡ 0)) }
     {
-        let Source::Octets(octets) = self else {
+        let Source::Input(input) = self else {
             return None;
         };
-        octets_between(octets, place, count)
+        octets_before(input, place, count)
     }
 }
 
-/// The last `count` octets in front of the place of a bit, where that is the first of an octet.
-fn octets_between(octets: &[u8], place: u128, count: usize) -> Option<&[u8]>
+/// The last `count` octets in front of the place of a bit, where these are octets of what is read.
+fn octets_before<'input>(
+    input: &BitReader<'input>,
+    place: u128,
+    count: usize,
+) -> Option<&'input [u8]>
     requires there { 8 * count ≤ place }
-    requires within { place ≤ 8 * length octets.now }
-    ensures some { IfSome result (λ part. AreOctetsOf (unpack octets.now) place count part.now) }
-    ensures whole { IsSome result ↔ (place % 8 ≡ 0) }
+    requires within { place ≤ length input.now.bits }
+    ensures some { IfSome result (λ part. AreOctetsOf input.now.bits place count part.now) }
+    ensures whole { IsSome result ↔ ((input.now.place + place) % 8 ≡ 0) }
 {
-    if place % 8 != 0 {
-        return None;
-    }
+    let width = 8 * count as u128;
+    let octets = input.part(place - width, width).aligned_octets()?;
     note_octets(octets);
-    let end = (place / 8) as usize;
-    Some(&octets[end - count..end])
+    Some(octets)
 }
 
 /// Bits of a source: those from a place on, in front of another.

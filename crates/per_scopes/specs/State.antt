@@ -4,6 +4,7 @@ use Rattle.rasn_types.specs.Bits.{Bits}
 use Rattle.rasn_types.specs.Values.{Value}
 use Rattle.rasn_types.specs.declared.types.Codec.{Codec}
 use Rattle.rasn_schema.specs.Schemas.{Schema}
+use Rattle.per_bits.specs.Octets.{Reading}
 use Rattle.per_core.specs.Spellings.{Settings}
 use Rattle.per_core.specs.Basic.{basic}
 use Rattle.per_core.specs.Took.{Took}
@@ -32,20 +33,21 @@ extension_of true = ahead
 extension_of false = shown []
 
 -- The bits in which those stand that a decoder has left: those of the input, or of an open type in fragments; how many of
--- them stand behind those that are left, which reading from the front doesn't change; and whether they are whole octets of
--- the input, which can be lent.
+-- them stand behind those that are left, which reading from the front doesn't change; how many bits of its octet stand in
+-- front of the first of them; and whether they are the input's, of which octets can be lent.
 pub record Source : Type 0 where
   pub bits : Bits
   pub behind : ℕ
+  pub place : ℕ
   pub lends : Bool
 
--- bits of which none stands behind another's, and which can't be lent
-abbrev pub unlent : Bits → Source
-unlent bits = record { bits = bits; behind = 0; lends = false }
+-- the bits of an input
+abbrev pub input_of : Reading → Source
+input_of input = record { bits = input.bits; behind = 0; place = input.place; lends = true }
 
--- octets of the input, which can be lent
-abbrev pub octets_lent : Bits → Source
-octets_lent bits = record { bits = bits; behind = 0; lends = true }
+-- bits of which the first begins an octet
+abbrev pub from_octet : Bits → Reading
+from_octet bits = record { bits = bits; place = 0 }
 
 -- What a decoder holds: the bits that are left, whether a call has refused, how many levels it may still enter, the
 -- codec in use, whether padding must be zero, and of the open record the presence bits of the root components that are
@@ -77,9 +79,9 @@ fresh_of source options = record {
   expected = 0;
 }
 
--- what has read nothing of bits that can't be lent
-abbrev pub fresh : Bits → Options → State
-fresh bits options = fresh_of (unlent bits) options
+-- what has read nothing of an input
+abbrev pub fresh : Reading → Options → State
+fresh input options = fresh_of (input_of input) options
 
 -- how it reads
 abbrev pub options_of : State → ReaderOptions

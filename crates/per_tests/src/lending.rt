@@ -71,13 +71,25 @@ fn copies_octets_in_fragments(rt: HostRuntime) -> Result<(), Fail> {
     Ok(())
 }
 
-#[test]
-fn lends_nothing_of_a_reader(rt: HostRuntime) -> Result<(), Fail> {
-    let input = BitReader::from_octets(&[0x03, 0xaa, 0xbb, 0xcc]);
-    let mut decoder = Decoder::from_reader(rt.alloc(), input, DecoderOptions::aligned());
+/// What a decoder reads of octets behind their first bits, so many, and whether it lends it.
+fn expect_behind(
+    rt: &HostRuntime,
+    input: &[u8],
+    count: u128,
+    is_lent: bool,
+) -> Result<(), Fail> {
+    let mut reader = BitReader::from_octets(input);
+    reader.take(count).unwrap();
+    let mut decoder = Decoder::from_reader(rt.alloc(), reader, DecoderOptions::unaligned());
     let taken = take_octets(&mut decoder)?;
     let (is_borrowed, octets) = parts(&taken);
-    expect_equal(&rt, &is_borrowed, &false);
-    expect_octets(&rt, octets, &[0xaa, 0xbb, 0xcc]);
+    expect_equal(rt, &is_borrowed, &is_lent);
+    expect_octets(rt, octets, &[0xaa, 0xbb, 0xcc]);
     Ok(())
+}
+
+#[test]
+fn lends_octets_of_a_reader(rt: HostRuntime) -> Result<(), Fail> {
+    expect_behind(&rt, &[0xff, 0x03, 0xaa, 0xbb, 0xcc], 8, true)?;
+    expect_behind(&rt, &[0xf0, 0x3a, 0xab, 0xbc, 0xc0], 4, false)
 }
