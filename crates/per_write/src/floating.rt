@@ -76,7 +76,9 @@ impl<A: Allocator + Clone> Writer<A> {
     {
         let bits = contents.into_settled();
         let bits = self.unless_out_of_memory(bits)?;
-        self.put_open_type(&bits)
+        self.put_open_type(&bits)?;
+        self.spare.contents = Some(bits);
+        Ok(())
     }
 }
 

@@ -22,6 +22,7 @@ mod floating;
 pub mod items;
 mod presences;
 mod sizes;
+mod spare;
 mod strings;
 pub mod wholes;
 
@@ -35,6 +36,7 @@ use per_pieces::Pieces;
 use presences::Presences;
 pub use presences::Scope;
 use rasn_types::types::Codec;
+use spare::Spare;
 use std::alloc::{AllocError, Allocator};
 use std::marker::Model;
 use std::mem;
@@ -48,6 +50,7 @@ pub struct Writer<A: Allocator + Clone> {
     codec: Codec,
     presences: Presences,
     additions: Option<Additions<A>>,
+    spare: Spare<A>,
 }
 
 impl<A: Allocator + Clone> Model for Writer<A> {
@@ -84,6 +87,11 @@ impl<A: Allocator + Clone> Writer<A> {
             codec,
             presences: Presences { place: 0, left: 0 },
             additions: None,
+            spare: Spare {
+                flags: None,
+                opens: None,
+                contents: None,
+            },
         }
     }
 
