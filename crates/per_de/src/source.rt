@@ -24,10 +24,11 @@ impl<'input> Source<'input> {
     pub(crate) fn bits(&self) -> BitReader<'_>
         ensures { result.bits ≡ bits_of self.now }
     {
-        match self {
-            Source::Input(bits) => bits.clone().unwrap(),
-            Source::Gathered(octets) => BitReader::from_octets(octets.as_slice()),
-        }
+        let octets = match self {
+            Source::Input(bits) => return bits.clone().unwrap(),
+            Source::Gathered(octets) => octets.as_slice(),
+        };
+        BitReader::from_octets(octets)
     }
 
     /// The last `count` octets in front of a place, where they are octets of the input.
