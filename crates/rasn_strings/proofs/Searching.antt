@@ -1,13 +1,13 @@
 -- Lists in strictly ascending order that have only characters of the type: they are what is permitted, and are searched.
-use Rattle.std.proofs.Common.{◌≡◌, refl, sym, ap, ◌∙◌, subst, ℕ, zero, suc, ◌+◌, ◌^◌, ◌<◌, ◌≤◌, ◌⊎◌, Bool, true, false, ◌&&◌, ◌||◌, leb, eqb, List, [], ◌∷◌, length, get_or, drop, Option, Some, None, slice_get, is_some, arith, inl, inr}
-use Rattle.std.proofs.lemmas.Bool.{cases_Bool, cases_lt, leb-true, eqb-true, eq-eqb, ne_eqb, and_left, and_right, and_parts, and_from, or_cases, or_left, or_from, both_ways}
+use Rattle.std.proofs.Common.{◌≡◌, refl, sym, ap, ◌∙◌, subst, ℕ, zero, suc, ◌+◌, ◌-◌, ◌^◌, ◌<◌, ◌≤◌, ◌⊎◌, Bool, true, false, ◌&&◌, ◌||◌, leb, eqb, List, [], ◌∷◌, length, get_or, drop, Option, Some, None, slice_get, is_some, arith, inl, inr}
+use Rattle.std.proofs.lemmas.Bool.{cases_Bool, cases_lt, leb-true, eqb-true, eq-eqb, ne_eqb, and_right, and_parts, and_from, or_cases, or_left, or_from, both_ways}
 use Rattle.std.proofs.lemmas.List.{at_drop_more}
-use Rattle.rasn_types.specs.Alphabets.{Alphabet, has, has_all, index_of, restricted, restricted_to}
+use Rattle.rasn_types.specs.Alphabets.{Alphabet, greatest, has, has_all, index_of, restricted, restricted_to}
 use Rattle.rasn_strings.specs.Intervals.{expand, ascend_from}
 use Rattle.rasn_strings.specs.Prepared.{IsPrepared, alphabet_of, is_in_order}
 use Rattle.rasn_strings.specs.Walks.{rises_from}
 use Rattle.rasn_strings.specs.declared.intervals.Interval.{Interval}
-use Rattle.rasn_strings.proofs.Ascending.{Up, up-expand, up-restricted, has-restricted, length-restricted}
+use Rattle.rasn_strings.proofs.Ascending.{Up, up-restricted, has-restricted, length-restricted}
 use Rattle.rasn_strings.proofs.Codes.{index_at, index_of_has}
 use Rattle.rasn_strings.proofs.IntervalsOf.{index_of_none}
 
@@ -141,3 +141,26 @@ placed xs c o e = ap is_some e ∙ elim (cases_Bool (has xs c)) [
   | inl t ↦ let q = index_of_has xs c t in ap is_some q.1 ∙ sym t
   | inr f ↦ ap is_some (index_of_none c xs f) ∙ sym f
 ]
+
+-- ---- the last of a list that ascends is the greatest
+
+last_at : (n : ℕ) (xs : List ℕ) (i c : ℕ) → Up n xs → i + 1 ≡ length xs → slice_get xs i ≡ Some c → greatest xs ≡ c
+last_at n [] i c u h e = absurd (omega (arith, h))
+last_at n (x ∷ []) zero c u h e = let s : x ≡ c = cc in omega arith
+last_at n (x ∷ []) (suc i) c u h e = absurd (omega (arith, h))
+last_at n (x ∷ y ∷ ys) zero c u h e = absurd (omega (arith, h))
+last_at n (x ∷ y ∷ ys) (suc i) c u h e =
+    let g : greatest (y ∷ ys) ≡ c = last_at (suc x) (y ∷ ys) i c u.1 (omega (arith, h)) e in
+    let l : x < y = u.1.0 in
+    omega (arith, g, l)
+
+pub last_greatest : (n : ℕ) (xs : List ℕ) (c : ℕ) → Up n xs → slice_get xs (length xs - 1) ≡ Some c → greatest xs ≡ c
+last_greatest n [] c u e = absurd cc
+last_greatest n (x ∷ xs) c u e = last_at n (x ∷ xs) (length (x ∷ xs) - 1) c u (omega arith) e
+
+pub none_last : (xs : List ℕ) → slice_get xs (length xs - 1) ≡ None → xs ≡ []
+none_last [] e = refl
+none_last (x ∷ xs) e =
+    let i = length (x ∷ xs) - 1 in
+    let n : Some (get_or (x ∷ xs) i 0) ≡ None = sym (slice_get_or (x ∷ xs) i (omega arith)) ∙ e in
+    absurd cc

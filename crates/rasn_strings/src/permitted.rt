@@ -51,6 +51,19 @@ pub(crate) fn is_ascending(own: &[Interval], permitted: &[u32]) -> bool
     true
 }
 
+/// How many characters a list in strictly ascending order has, and the greatest of them; 0 where there is none.
+fn count_and_last(ascending: &[u32]) -> (u32, u32)
+    requires rises { rises_from 0 ascending.now ≡ true }
+    requires few { length ascending.now ≤ 2 ^ 16 }
+    ensures count { result.0 ≡ length ascending.now }
+    ensures greatest { result.1 ≡ greatest ascending.now }
+{
+    match ascending.last() {
+        Some(last) => (ascending.len() as u32, *last),
+        None => (0, 0),
+    }
+}
+
 /// How many characters are permitted, and the greatest of them; 0 where there is none.
 pub(crate) fn count_and_greatest(own: &[Interval], permitted: &[u32]) -> (u32, u32)
     requires { ascend_from 0 own.now ≡ true }
@@ -58,6 +71,9 @@ pub(crate) fn count_and_greatest(own: &[Interval], permitted: &[u32]) -> (u32, u
     ensures few { result.0 ≤ 2 ^ 16 }
     ensures greatest { result.1 ≡ greatest (restricted (expand own.now) permitted.now) }
 {
+    if is_ascending(own, permitted) {
+        return count_and_last(permitted);
+    }
     let mut count = 0;
     let mut greatest = 0;
     let mut at = 0;

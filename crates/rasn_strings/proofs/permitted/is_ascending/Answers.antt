@@ -1,4 +1,4 @@
-use Rattle.std.proofs.Common.{◌∙◌, sym, ◌+◌, ◌^◌, ◌<◌, get_or, arith}
+use Rattle.std.proofs.Common.{◌∙◌, sym, get_or, arith}
 use Rattle.rasn_strings.proofs.Ascending.{small}
 use Rattle.rasn_strings.proofs.permitted.is_ascending.Goals as goal
 
