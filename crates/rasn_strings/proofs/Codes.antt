@@ -70,7 +70,7 @@ index_of_has ds c h = go (index_of c ds) refl
     go (Some i) e = (i, e)
 
 -- among ascending numbers each stands at one place
-index_at : (n : ℕ) (ds : List ℕ) (i c : ℕ) → Up n ds → slice_get ds i ≡ Some c → (index_of c ds ≡ Some i) × (n ≤ c)
+pub index_at : (n : ℕ) (ds : List ℕ) (i c : ℕ) → Up n ds → slice_get ds i ≡ Some c → (index_of c ds ≡ Some i) × (n ≤ c)
 index_at n [] i c u e = absurd (cc)
 index_at n (d ∷ ds) zero c u e = let h : c ≡ d = cc in let l : n ≤ d = u.0 in (cond-true (eqb c d) (Some 0) (more (index_of c ds)) (eq-eqb c d h), omega arith)
 index_at n (d ∷ ds) (suc i) c u e = let r = index_at (suc d) ds i c u.1 e in let l : suc d ≤ c = r.1 in let m : n ≤ d = u.0 in
@@ -94,8 +94,8 @@ pub record Ready (a : Alphabet) (own_values : Bool) : Type 0 where
   pub up : Up 0 a.characters
   pub own : ltb (greatest a.characters) (2 ^ char_width a.variant a.characters) ≡ own_values
 
-pub ready : (own : List Interval) (permitted : Option (List ℕ)) (is_aligned : Bool) (w : ℕ) (own_values : Bool) (run : Interval) (a : Alphabet) → alphabet_of own permitted is_aligned ≡ a → IsPrepared own (alphabet_of own permitted is_aligned) w own_values run → Ready a own_values
-ready own permitted is_aligned w own_values run a e p = subst (λ b. Ready b own_values) e (record {
+pub ready : (own : List Interval) (permitted : Option (List ℕ)) (is_aligned : Bool) (w : ℕ) (own_values : Bool) (run : Interval) (ascending : Bool) (a : Alphabet) → alphabet_of own permitted is_aligned ≡ a → IsPrepared own permitted (alphabet_of own permitted is_aligned) w own_values run ascending → Ready a own_values
+ready own permitted is_aligned w own_values run ascending a e p = subst (λ b. Ready b own_values) e (record {
   up = ups permitted;
   own = sym (p.own_values_are ∙ ap (λ n. ltb (greatest (restricted_to (expand own) permitted)) (2 ^ n)) p.width_is);
 })
@@ -201,7 +201,7 @@ own_within a own_values run r t p (c ∷ cs) h =
       codes = ap₂ (λ (o : Option ℕ) os. o ∷ os) (code_own a own_values r t c m) k.codes;
     }
 
-pub own_in_run : (own : List Interval) (permitted : Option (List ℕ)) (is_aligned : Bool) (w : ℕ) (own_values : Bool) (run : Interval) (a : Alphabet) → alphabet_of own permitted is_aligned ≡ a → IsPrepared own (alphabet_of own permitted is_aligned) w own_values run →
+pub own_in_run : (own : List Interval) (permitted : Option (List ℕ)) (is_aligned : Bool) (w : ℕ) (own_values : Bool) (run : Interval) (ascending : Bool) (a : Alphabet) → alphabet_of own permitted is_aligned ≡ a → IsPrepared own permitted (alphabet_of own permitted is_aligned) w own_values run ascending →
     own_values ≡ true → (cs : List ℕ) → all_within run cs ≡ true → AreOwn a cs
-own_in_run own permitted is_aligned w own_values run a e p t cs h = own_within a own_values run (ready own permitted is_aligned w own_values run a e p) t
+own_in_run own permitted is_aligned w own_values run ascending a e p t cs h = own_within a own_values run (ready own permitted is_aligned w own_values run ascending a e p) t
     (λ c k. subst (λ (b : Alphabet). has b.characters c ≡ true) e (p.permitted c k)) cs h

@@ -21,6 +21,8 @@ pub struct CharacterAlphabet {
     own_values: bool,
     /// Characters that are all permitted, so that most are found by two comparisons.
     run: Interval,
+    /// Whether the list is in strictly ascending order and has only characters of the type, so that it is searched.
+    ascending: bool,
 }
 
 impl Model for CharacterAlphabet {
@@ -31,8 +33,8 @@ impl Model for CharacterAlphabet {
 
     ghost view = { λ a. alphabet_of a.own.now (listed a.permitted) a.aligned };
 
-    ghost invariant = { λ a. IsPrepared a.own.now (alphabet_of a.own.now (listed a.permitted) a.aligned)
-        a.width a.own_values a.run };
+    ghost invariant = { λ a. IsPrepared a.own.now (listed a.permitted)
+        (alphabet_of a.own.now (listed a.permitted) a.aligned) a.width a.own_values a.run a.ascending };
 }
 
 impl CharacterAlphabet {
@@ -53,6 +55,10 @@ impl CharacterAlphabet {
             Some(_) => NO_RUN,
             None => intervals::last(own),
         };
+        let ascending = match permitted {
+            Some(permitted) => permitted::is_ascending(own, permitted),
+            None => false,
+        };
         let width = width_of_characters(count, aligned);
         CharacterAlphabet {
             own,
@@ -61,6 +67,7 @@ impl CharacterAlphabet {
             width,
             own_values: greatest < 1 << width,
             run,
+            ascending,
         }
     }
 
@@ -124,11 +131,14 @@ impl CharacterAlphabet {
         self.run.contains(character) || self.is_listed(character)
     }
 
-    /// The same, by a walk through the intervals and the list.
+    /// The same, by a search in the list where it ascends, else by a walk through the intervals and the list.
     #[inline(never)]
     fn is_listed(&self, character: u32) -> bool
         ensures { result ≡ has self.now.characters character }
     {
+        if self.ascending {
+            return self.index_of(character).is_some();
+        }
         intervals::contains(self.own, character)
             && match self.permitted {
                 Some(permitted) => permitted.contains(&character),
@@ -141,7 +151,13 @@ impl CharacterAlphabet {
         ensures { result ≡ index_of character self.now.characters }
     {
         match self.permitted {
-            Some(permitted) => permitted::index_of(self.own, permitted, character),
+            Some(permitted) => {
+                if self.ascending {
+                    permitted::place_in(permitted, character)
+                } else {
+                    permitted::index_of(self.own, permitted, character)
+                }
+            }
             None => intervals::index_of(self.own, character),
         }
     }
@@ -151,7 +167,13 @@ impl CharacterAlphabet {
         ensures { result ≡ slice_get self.now.characters index }
     {
         match self.permitted {
-            Some(permitted) => permitted::get(self.own, permitted, index),
+            Some(permitted) => {
+                if self.ascending {
+                    permitted::get_in(permitted, index)
+                } else {
+                    permitted::get(self.own, permitted, index)
+                }
+            }
             None => intervals::get(self.own, index),
         }
     }

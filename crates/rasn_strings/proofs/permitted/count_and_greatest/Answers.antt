@@ -1,8 +1,28 @@
-use Rattle.std.proofs.Common.{ap, length, arith}
+use Rattle.std.proofs.Common.{◌∙◌, ap, length, subst, sym, ◌≤◌, ◌^◌, arith}
 use Rattle.rasn_types.specs.Alphabets.{greatest}
 use Rattle.rasn_strings.proofs.Ascending.{length-restricted}
 use Rattle.rasn_strings.proofs.Walking.{begins, next_some, next_none}
+use Rattle.rasn_strings.proofs.Searching.{restricted_listed}
 use Rattle.rasn_strings.proofs.permitted.count_and_greatest.Goals as goal
+
+pub count_and_last-requires-clause-few : goal.count_and_last-requires-clause-few
+count_and_last-requires-clause-few c =
+    let same = restricted_listed c.args.own.now c.args.permitted.now c.requires (sym c.is_ascending.ensures ∙ c.if-is_ascending.true) in
+    subst (λ xs. length xs ≤ 2 ^ 16) same (length-restricted c.args.own.now c.args.permitted.now c.requires)
+
+pub returns-then-is_ascending-clause-count : goal.returns-then-is_ascending-clause-count
+returns-then-is_ascending-clause-count c =
+    c.count_and_last.ensures.count ∙ ap length (sym (restricted_listed c.args.own.now c.args.permitted.now c.requires (sym c.is_ascending.ensures ∙ c.if-is_ascending.true)))
+
+pub returns-then-is_ascending-clause-few : goal.returns-then-is_ascending-clause-few
+returns-then-is_ascending-clause-few c =
+    let same = restricted_listed c.args.own.now c.args.permitted.now c.requires (sym c.is_ascending.ensures ∙ c.if-is_ascending.true) in
+    let few = length-restricted c.args.own.now c.args.permitted.now c.requires in
+    omega (arith, c.count_and_last.ensures.count, ap length same, few)
+
+pub returns-then-is_ascending-clause-greatest : goal.returns-then-is_ascending-clause-greatest
+returns-then-is_ascending-clause-greatest c =
+    c.count_and_last.ensures.greatest ∙ ap greatest (sym (restricted_listed c.args.own.now c.args.permitted.now c.requires (sym c.is_ascending.ensures ∙ c.if-is_ascending.true)))
 
 pub loop-character-init : goal.loop-character-init
 loop-character-init c = let b = begins c.args.own.now c.args.permitted.now c.requires in record {
