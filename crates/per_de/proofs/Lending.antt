@@ -155,7 +155,7 @@ pub lent_where : {A : Type 0} (size : Size) (mark : Bool) (s : State) (source : 
     → A ↔ ((lends source ≡ true) × ((place_of source + (span.end - left)) % 8 ≡ 0)) → A ↔ AreLent size mark s left n
 lent_where size mark s source span left n e h some alone l i =
     let same : place_of source + (span.end - left) ≡ s.source.place + (length s.source.bits - (s.source.behind + left)) =
-        omega (arith, ap (λ z. z.place) e, ap (λ z. z.behind) e, ap (λ z. length z.bits) e, h.enough, l) in (
+    omega (arith, ap (λ z. z.place) e, ap (λ z. z.behind) e, ap (λ z. length z.bits) e, h.enough, l) in (
       (λ a. let q = i.0 a in record { some = some; alone = alone; lends = sym (ap (λ z. z.lends) e) ∙ q.0; on_octets = ap (λ (k : ℕ). k % 8) (sym same) ∙ q.1 }),
       λ w. i.1 (ap (λ z. z.lends) e ∙ w.lends, ap (λ (k : ℕ). k % 8) same ∙ w.on_octets),
     )

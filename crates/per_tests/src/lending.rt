@@ -72,12 +72,7 @@ fn copies_octets_in_fragments(rt: HostRuntime) -> Result<(), Fail> {
 }
 
 /// What a decoder reads of octets behind their first bits, so many, and whether it lends it.
-fn expect_behind(
-    rt: &HostRuntime,
-    input: &[u8],
-    count: u128,
-    is_lent: bool,
-) -> Result<(), Fail> {
+fn expect_behind(rt: &HostRuntime, input: &[u8], count: u128, is_lent: bool) -> Result<(), Fail> {
     let mut reader = BitReader::from_octets(input);
     reader.take(count).unwrap();
     let mut decoder = Decoder::from_reader(rt.alloc(), reader, DecoderOptions::unaligned());
