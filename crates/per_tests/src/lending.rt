@@ -9,6 +9,7 @@ use rasn_below::codec::Decoder as AnyDecoder;
 use rasn_below::types::Tag;
 use std::alloc::Global;
 use std::borrow::CowSlice;
+use std::process::Abort;
 use std::test::Fail;
 
 /// Reads an OCTET STRING without constraints.
@@ -72,10 +73,16 @@ fn copies_octets_in_fragments(rt: HostRuntime) -> Result<(), Fail> {
 }
 
 /// What a decoder reads of octets behind their first bits, so many, and whether it lends it.
-fn expect_behind(rt: &HostRuntime, input: &[u8], count: u128, is_lent: bool) -> Result<(), Fail> {
+fn expect_behind(
+    rt: &impl Abort,
+    alloc: Global,
+    input: &[u8],
+    count: u128,
+    is_lent: bool,
+) -> Result<(), DecodeError> {
     let mut reader = BitReader::from_octets(input);
-    reader.take(count).unwrap();
-    let mut decoder = Decoder::from_reader(rt.alloc(), reader, DecoderOptions::unaligned());
+    assert!(rt; reader.take(count).is_ok());
+    let mut decoder = Decoder::from_reader(alloc, reader, DecoderOptions::unaligned());
     let taken = take_octets(&mut decoder)?;
     let (is_borrowed, octets) = parts(&taken);
     expect_equal(rt, &is_borrowed, &is_lent);
@@ -84,7 +91,7 @@ fn expect_behind(rt: &HostRuntime, input: &[u8], count: u128, is_lent: bool) -> 
 }
 
 #[test]
-fn lends_octets_of_a_reader(rt: HostRuntime) -> Result<(), Fail> {
-    expect_behind(&rt, &[0xff, 0x03, 0xaa, 0xbb, 0xcc], 8, true)?;
-    expect_behind(&rt, &[0xf0, 0x3a, 0xab, 0xbc, 0xc0], 4, false)
+fn lends_octets_of_a_reader(rt: HostRuntime) -> Result<(), DecodeError> {
+    expect_behind(&rt, rt.alloc(), &[0xff, 0x03, 0xaa, 0xbb, 0xcc], 8, true)?;
+    expect_behind(&rt, rt.alloc(), &[0xf0, 0x3a, 0xab, 0xbc, 0xc0], 4, false)
 }

@@ -15,7 +15,7 @@ use Rattle.per_core.proofs.Took.{took_agree}
 use Rattle.per_core.proofs.Laws.{one_value, one_front}
 use Rattle.per_core.proofs.Filling.{fills_read, fills_back}
 use Rattle.per_scopes.specs.Spelled.{spelled}
-use Rattle.per_scopes.specs.State.{State, Options, Spells, from_octet, with_bits, fresh as unread}
+use Rattle.per_scopes.specs.State.{State, Options, Spells, from_octet, with_bits, fresh as from_input}
 use Rattle.per_scopes.specs.Faults.{Fault, refusal}
 use Rattle.per_read.specs.declared.error.DecodeError.{DecodeError}
 use Rattle.per_read.specs.declared.error.DecodeErrorKind.TheVariants.{OutOfMemory}
@@ -25,7 +25,7 @@ use Rattle.rasn_per.proofs.Fronts.{front_read, front_back}
 
 -- a decoder that has just begun with octets, given as bits
 abbrev pub begin : Bits → Options → State
-begin bits options = unread (from_octet bits) options
+begin bits options = from_input (from_octet bits) options
 
 -- the same, by what it was told
 abbrev pub fresh : Codec → Bool → List ℕ → State
