@@ -11,11 +11,10 @@ ghost use Rattle.per_write.specs.Faults.{IsMemory};
 ghost use Rattle.per_write.specs.Records.{ClosesOrNot, KeepsOrNot, OpensOrNot, PutsAdditions};
 ghost use Rattle.per_write.specs.State.{PutsIn};
 
-use crate::Writer;
 use crate::error::{EncodeError, EncodeErrorKind};
 use crate::items::Flags;
 use crate::presences::{Presences, Scope};
-use crate::spare::spare_or_new;
+use crate::{Writer, cleared_or_new, no_bits};
 use per_bits::{BitList, BitReader};
 use per_numbers::lengths::push_padding;
 use per_pieces::Pieces;
@@ -94,8 +93,7 @@ impl<A: Allocator + Clone> Writer<A> {
             return Err(self.refuse(EncodeErrorKind::OutOfTurn));
         }
         if let Some(additions) = self.additions.take() {
-            self.put_additions(&additions)?;
-            self.reuse(additions);
+            self.put_additions(additions)?;
         }
         self.leave(outside);
         Ok(())
@@ -117,7 +115,7 @@ impl<A: Allocator + Clone> Writer<A> {
         ensures { OpensOpenType self.old result self.new }
     {
         let additions = self.take_additions()?;
-        let empty = spare_or_new(self.spare.contents.take(), self.pieces.bits());
+        let empty = cleared_or_new(self.scratch.take(), self.pieces.bits());
         let empty = self.unless_out_of_memory(empty)?;
         let nothing = Presences { place: 0, left: 0 };
         Ok(Outside {
@@ -162,7 +160,7 @@ impl<A: Allocator + Clone> Writer<A> {
             presences,
             additions,
         } = outside;
-        self.spare.contents = mem::replace(&mut self.pieces, pieces).into_settled().ok();
+        self.scratch = mem::replace(&mut self.pieces, pieces).into_settled().ok();
         self.presences = presences;
         self.give_addition(additions, false)
     }
@@ -186,7 +184,7 @@ impl<A: Allocator + Clone> Writer<A> {
         let contents = mem::replace(&mut self.pieces, Pieces::from_bits(opens)).into_settled();
         let contents = self.unless_out_of_memory(contents)?;
         self.put_open_type(&contents)?;
-        self.spare.contents = Some(contents);
+        self.scratch = Some(contents);
         let opens = mem::replace(&mut self.pieces, before).into_settled();
         let opens = self.unless_out_of_memory(opens)?;
         Ok(Additions {
@@ -209,9 +207,9 @@ impl<A: Allocator + Clone> Writer<A> {
         let extension = self.pieces.len();
         let pushed = self.pieces.push(false);
         self.unless_out_of_memory(pushed)?;
-        let flags = spare_or_new(self.spare.flags.take(), self.pieces.bits());
+        let flags = no_bits(self.pieces.bits());
         let flags = self.unless_out_of_memory(flags)?;
-        let opens = spare_or_new(self.spare.opens.take(), self.pieces.bits());
+        let opens = no_bits(self.pieces.bits());
         let opens = self.unless_out_of_memory(opens)?;
         Ok(Some(Additions {
             extension,
@@ -246,9 +244,9 @@ impl<A: Allocator + Clone> Writer<A> {
 
     /// Writes the additions behind the root of a SEQUENCE (X.691 19.7 to 19.9), unless none is there. Where one wasn't
     /// given it refuses.
-    fn put_additions(&mut self, additions: &Additions<A>) -> Result<(), EncodeError>
+    fn put_additions(&mut self, additions: Additions<A>) -> Result<(), EncodeError>
         requires { self.old.failed ≡ false }
-        ensures { PutsAdditions additions.now self.old result self.new }
+        ensures { PutsAdditions additions self.old result self.new }
     {
         if additions.flags.len() != additions.count as u128 {
             return Err(self.refuse(EncodeErrorKind::OutOfTurn));
@@ -260,15 +258,6 @@ impl<A: Allocator + Clone> Writer<A> {
         self.put_bitmap(&additions.flags, additions.count)?;
         self.put_padding()?;
         self.put_reader(&BitReader::new(&additions.opens))
-    }
-
-    /// Keeps the lists of additions that are done, so that their memory is used again.
-    fn reuse(&mut self, additions: Additions<A>)
-        ensures { self.new ≡ self.old }
-    {
-        let Additions { flags, opens, .. } = additions;
-        self.spare.flags = Some(flags);
-        self.spare.opens = Some(opens);
     }
 
     /// Writes an open type of some contents (X.691 11.2): their complete encoding, behind the count of its octets.

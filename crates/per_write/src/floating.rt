@@ -77,7 +77,7 @@ impl<A: Allocator + Clone> Writer<A> {
         let bits = contents.into_settled();
         let bits = self.unless_out_of_memory(bits)?;
         self.put_open_type(&bits)?;
-        self.spare.contents = Some(bits);
+        self.scratch = Some(bits);
         Ok(())
     }
 }

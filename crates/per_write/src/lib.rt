@@ -22,7 +22,6 @@ mod floating;
 pub mod items;
 mod presences;
 mod sizes;
-mod spare;
 mod strings;
 pub mod wholes;
 
@@ -36,7 +35,6 @@ use per_pieces::Pieces;
 use presences::Presences;
 pub use presences::Scope;
 use rasn_types::types::Codec;
-use spare::Spare;
 use std::alloc::{AllocError, Allocator};
 use std::marker::Model;
 use std::mem;
@@ -50,7 +48,8 @@ pub struct Writer<A: Allocator + Clone> {
     codec: Codec,
     presences: Presences,
     additions: Option<Additions<A>>,
-    spare: Spare<A>,
+    /// The contents of the last open type, where it isn't in use. No contract speaks of it: only its memory counts.
+    scratch: Option<BitList<A>>,
 }
 
 impl<A: Allocator + Clone> Model for Writer<A> {
@@ -87,11 +86,7 @@ impl<A: Allocator + Clone> Writer<A> {
             codec,
             presences: Presences { place: 0, left: 0 },
             additions: None,
-            spare: Spare {
-                flags: None,
-                opens: None,
-                contents: None,
-            },
+            scratch: None,
         }
     }
 
@@ -263,6 +258,20 @@ fn no_bits<A: Allocator + Clone>(bits: &BitList<A>) -> Result<BitList<A>, AllocE
     ensures { IfOk result (λ none. none ≡ []) }
 {
     Ok(BitList::new(bits.allocator().clone()?))
+}
+
+/// No bits, in the memory of a list that isn't in use, else in memory of the allocator of others.
+fn cleared_or_new<A: Allocator + Clone>(
+    scratch: Option<BitList<A>>,
+    bits: &BitList<A>,
+) -> Result<BitList<A>, AllocError>
+    ensures { IfOk result (λ none. none ≡ []) }
+{
+    let Some(mut list) = scratch else {
+        return no_bits(bits);
+    };
+    list.clear();
+    Ok(list)
 }
 
 /// The complete encoding of some bits, in their own memory.
