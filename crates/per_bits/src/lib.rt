@@ -136,6 +136,7 @@ impl<A: Allocator> BitList<A> {
 
     /// Appends the low `width` bits of `value`, highest first: a non-negative-binary-integer (ITU-T X.691, 11.3) where
     /// the value fits. The only error is want of memory, and then the list is as it was.
+    #[inline(always)]
     pub fn push_bits(&mut self, value: u128, width: u128) -> Result<(), AllocError>
         requires { width ≤ 128 }
         ensures ok { OnOk result (self.new ≡ self.old ++ to_bits width value) }
@@ -190,6 +191,10 @@ impl<A: Allocator> BitList<A> {
         ensures ok { OnOk result (self.new ≡ self.old ++ reader.now.bits) }
         ensures err { OnErr result (self.new ≡ self.old) }
     {
+        let width = reader.len();
+        if width <= u128::from(FIELD_BITS) {
+            return self.push_bits(reader.first_bits(width), width);
+        }
         self.octets.reserve(reader.octet_room())?;
         self.spare = append_reader(&mut self.octets, self.spare, reader.clone().unwrap());
         Ok(())

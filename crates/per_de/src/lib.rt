@@ -164,6 +164,7 @@ impl Model for WholeOctets {
 
 impl WholeOctets {
     /// So many bits.
+    #[inline(always)]
     fn new(bits: u128) -> Self
         requires { bits % 8 ≡ 0 }
         ensures { result ≡ bits }
@@ -172,6 +173,7 @@ impl WholeOctets {
     }
 
     /// How many bits they have.
+    #[inline(always)]
     fn bits(self) -> u128
         ensures is { result ≡ self }
         ensures octets { result % 8 ≡ 0 }
@@ -231,6 +233,7 @@ impl<'input> Decoder<'input> {
 
     /// A decoder of the bits that a reader has left, which lends octets of the reader's input. What its values own is
     /// taken from `alloc`.
+    #[inline(always)]
     pub fn from_reader(alloc: Global, input: BitReader<'input>, options: DecoderOptions) -> Self
         ensures { result ≡ fresh input.entry options }
     {
@@ -239,6 +242,7 @@ impl<'input> Decoder<'input> {
 
     /// A decoder of the bits of octets, the highest of each octet first, which lends the octets. What its values own is
     /// taken from `alloc`.
+    #[inline(always)]
     pub fn from_octets(alloc: Global, octets: &'input [u8], options: DecoderOptions) -> Self
         ensures { result ≡ fresh (from_octet (unpack octets.now)) options }
     {
@@ -246,6 +250,7 @@ impl<'input> Decoder<'input> {
     }
 
     /// A decoder of all bits of a source.
+    #[inline(always)]
     fn of_source(alloc: Global, source: Source<'input>, options: DecoderOptions) -> Self
         ensures { result ≡ fresh_of (unread_of source.entry) options }
     {
@@ -264,6 +269,7 @@ impl<'input> Decoder<'input> {
     }
 
     /// The bits that are left.
+    #[inline(always)]
     pub fn input(&self) -> BitReader<'_>
         ensures { result.bits ≡ self.now.bits }
     {
@@ -271,6 +277,7 @@ impl<'input> Decoder<'input> {
     }
 
     /// The variant in use.
+    #[inline(always)]
     pub fn codec(&self) -> Codec
         ensures { result ≡ self.now.codec }
     {
@@ -322,6 +329,7 @@ impl<'input> Decoder<'input> {
     }
 
     /// A reader of the bits that are left.
+    #[inline(always)]
     fn reader(&self) -> Reader<'_>
         ensures { result ≡ reader_of self.now }
     {
@@ -329,6 +337,7 @@ impl<'input> Decoder<'input> {
     }
 
     /// The presence bits of the open SEQUENCE that are still to be read.
+    #[inline(always)]
     fn presence_bits(&self) -> BitReader<'_>
         ensures { result.bits ≡ self.now.presences }
     {
@@ -336,6 +345,7 @@ impl<'input> Decoder<'input> {
     }
 
     /// The next presence bit, where one is left.
+    #[inline(always)]
     fn first_presence(&self) -> Option<bool>
         ensures { result ≡ slice_get self.now.presences 0 }
     {
@@ -357,6 +367,7 @@ impl<'input> Decoder<'input> {
     }
 
     /// Refuses where a call has refused before.
+    #[inline(always)]
     fn check_unfailed(&self) -> Result<(), DecodeError>
         ensures ok { OnOk result (self.now.failed ≡ false) }
         ensures err { IfErr result (λ e. e ≡ refusal AlreadyFailed self.now) }
@@ -379,6 +390,7 @@ impl<'input> Decoder<'input> {
 
     /// What was taken by a reader that has so many bits left, which are then left here too, unless it was refused; then
     /// the decoder has failed.
+    #[inline(always)]
     fn answer<T: Drop>(
         &mut self,
         taken: Result<T, DecodeErrorKind>,
@@ -396,6 +408,7 @@ impl<'input> Decoder<'input> {
     }
 
     /// Takes off the bits left all but the last so many.
+    #[inline(always)]
     fn keep_last(&mut self, left: u128)
         ensures { self.new ≡ with_last self.old left }
     {
@@ -420,6 +433,7 @@ impl<'input> Decoder<'input> {
     }
 
     /// How many levels may be entered one level deeper. At no level left it refuses.
+    #[inline(always)]
     fn level_inside(&mut self) -> Result<u32, DecodeError>
         ensures { LevelInside self.old result self.new }
     {
@@ -441,6 +455,7 @@ impl<'input> Decoder<'input> {
     }
 
     /// Enters a scope with other levels and another SEQUENCE to read, and answers what waits outside.
+    #[inline(always)]
     fn enter(&mut self, inside: Scope) -> Scope
         ensures { Enters (outside_of self.old.source inside) self.old (outside_of self.new.source result) self.new }
     {
@@ -453,6 +468,7 @@ impl<'input> Decoder<'input> {
     }
 
     /// Leaves a scope: what waited outside is back.
+    #[inline(always)]
     fn leave(&mut self, outside: Scope)
         ensures { self.new ≡ with_outside self.old (outside_of self.old.source outside) }
     {
@@ -463,6 +479,7 @@ impl<'input> Decoder<'input> {
     }
 
     /// Takes the next bit off the bits left. Where none is left it refuses.
+    #[inline(always)]
     fn take_bit(&mut self) -> Result<bool, DecodeError>
         ensures { TakesBit self.old result self.new }
     {
@@ -476,6 +493,7 @@ impl<'input> Decoder<'input> {
     }
 
     /// Takes the extension bit of a SEQUENCE (X.691 19.1), where its type has an extension marker.
+    #[inline(always)]
     fn take_extension_bit(&mut self, marker: bool) -> Result<bool, DecodeError>
         ensures { TakesExtensionBit marker self.old result self.new }
     {
@@ -487,6 +505,7 @@ impl<'input> Decoder<'input> {
 
     /// Opens a record, which takes a level: its extension bit and its presence bits are taken, and its root components
     /// follow, in whichever order. At no level left it refuses.
+    #[inline(always)]
     fn open_record<C: Constructed>(&mut self) -> Result<Scope, DecodeError>
         ensures { OpensRecord C.parts C.IS_EXTENSIBLE C.additions self.old result self.new }
     {
@@ -519,6 +538,7 @@ impl<'input> Decoder<'input> {
 
     /// Takes out the presence bits of the open SEQUENCE's additions that are still to be read, where they are ahead off
     /// the bits left.
+    #[inline(always)]
     fn take_extension(&mut self) -> Result<Flags, DecodeError>
         ensures { TakesFlags self.old result self.new }
     {
@@ -529,6 +549,7 @@ impl<'input> Decoder<'input> {
     }
 
     /// Refuses where a presence bit of the open SEQUENCE's root components wasn't read.
+    #[inline(always)]
     fn check_root_read(&mut self) -> Result<(), DecodeError>
         ensures { IsRootRead self.old result self.new }
     {
@@ -556,6 +577,7 @@ impl<'input> Decoder<'input> {
     }
 
     /// Enters contents that stand in the source, and answers what waits outside.
+    #[inline(always)]
     fn enter_contents(&mut self, contents: Span, total: WholeOctets) -> Addition<'input>
         requires within { IsWithin contents self.old.source.bits }
         requires whole { total ≡ length (span_of contents self.old.source.bits) }
@@ -589,6 +611,7 @@ impl<'input> Decoder<'input> {
 
     /// Takes the length of an open type (X.691 11.2), enters its contents, and answers what waits outside. Only those
     /// in fragments take memory.
+    #[inline(always)]
     fn open_contents(&mut self) -> Result<Addition<'input>, DecodeError>
         ensures { EntersOpen self.old result self.new }
     {
@@ -606,6 +629,7 @@ impl<'input> Decoder<'input> {
     }
 
     /// Whether what is left of contents ends them (X.691 11.1).
+    #[inline(always)]
     fn end_of_contents(&self, total: WholeOctets) -> Result<(), DecodeErrorKind>
         ensures { EndsContents self.now total result }
     {
@@ -618,6 +642,7 @@ impl<'input> Decoder<'input> {
     }
 
     /// Leaves an open type: what waited outside is back.
+    #[inline(always)]
     fn leave_contents(&mut self, outside: Addition<'input>)
         ensures { self.new ≡ outside_open self.old (waiting_of self.old.source outside.entry) }
     {
@@ -632,6 +657,7 @@ impl<'input> Decoder<'input> {
     }
 
     /// Leaves an open type where what is left of its contents ends them (X.691 11.1), and else refuses.
+    #[inline(always)]
     fn close_contents(&mut self, outside: Addition<'input>) -> Result<(), DecodeError>
         ensures { ClosesContents (waiting_of self.old.source outside.entry) self.old result self.new }
     {
@@ -669,6 +695,7 @@ impl<'input> Decoder<'input> {
 
     /// Skips the additions that the open SEQUENCE's type doesn't know, of which these are the presence bits (X.691
     /// 19.9).
+    #[inline(always)]
     fn skip_additions(&mut self, flags: Flags) -> Result<(), DecodeError>
         ensures { SkipsUnknown (flags_in self.old.source.bits flags) self.old result self.new }
     {
@@ -702,6 +729,7 @@ fn come_alone(constraints: &Constraints, bits: &BitReader<'_>, count: usize) -> 
 }
 
 /// How many additions a type has.
+#[inline(always)]
 fn addition_count<C: Constructed>() -> usize
     ensures { result ≡ length (fields_behind C.EXTENDED_FIELDS) }
 {
@@ -712,6 +740,7 @@ fn addition_count<C: Constructed>() -> usize
 }
 
 /// How many alternatives a type has behind its extension marker, where it has one.
+#[inline(always)]
 fn added_count<C: Choice>() -> Option<usize>
     ensures count { addeds_of result ≡ length (variants_behind C.EXTENDED_VARIANTS) }
     ensures marked { is_marked result ≡ is_extensible C.EXTENDED_VARIANTS }
@@ -746,6 +775,7 @@ pub struct Scope {
 
 impl Scope {
     /// So many levels, and nothing of a SEQUENCE to read.
+    #[inline(always)]
     fn without_record(levels: u32) -> Self
         ensures { (s : State) → outside_of s.source result ≡ no_record levels }
     {
@@ -834,11 +864,13 @@ impl<'input> decoder::Decoder for Decoder<'input> {
         self.refuse(DecodeErrorKind::OutOfMemory)
     }
 
+    #[inline(always)]
     fn decode_bool(&mut self, _tag: Tag) -> Result<bool, DecodeError> {
         self.check_unfailed()?;
         self.take_bit()
     }
 
+    #[inline(always)]
     fn decode_integer<I: IntegerType>(
         &mut self,
         _tag: Tag,
@@ -856,6 +888,7 @@ impl<'input> decoder::Decoder for Decoder<'input> {
         Err(self.refuse(DecodeErrorKind::RealNotSupported))
     }
 
+    #[inline(always)]
     fn decode_null(&mut self, _tag: Tag) -> Result<(), DecodeError> {
         self.check_unfailed()
     }
@@ -877,6 +910,7 @@ impl<'input> decoder::Decoder for Decoder<'input> {
         Ok(Any::new(octets))
     }
 
+    #[inline(always)]
     fn decode_octet_string(
         &mut self,
         _tag: Tag,
@@ -902,6 +936,7 @@ impl<'input> decoder::Decoder for Decoder<'input> {
         self.answer(taken, left)
     }
 
+    #[inline(always)]
     fn decode_known_multiplier_string<S: StaticPermittedAlphabet>(
         &mut self,
         _tag: Tag,
@@ -1002,6 +1037,7 @@ impl<'input> decoder::Decoder for Decoder<'input> {
         self.refuse(DecodeErrorKind::RequiredExtensionNotPresent(tag))
     }
 
+    #[inline(always)]
     fn open_sequence<C: Constructed>(&mut self, _tag: Tag) -> Result<Scope, DecodeError> {
         self.open_record::<C>()
     }
@@ -1010,6 +1046,7 @@ impl<'input> decoder::Decoder for Decoder<'input> {
         self.open_record::<C>()
     }
 
+    #[inline(always)]
     fn close_sequence(&mut self, scope: Scope) -> Result<(), DecodeError> {
         self.check_unfailed()?;
         self.check_root_read()?;
@@ -1085,6 +1122,7 @@ impl<'input> decoder::Decoder for Decoder<'input> {
         Ok(follows)
     }
 
+    #[inline(always)]
     fn next_presence(&mut self) -> Result<bool, DecodeError> {
         self.check_unfailed()?;
         match self.first_presence() {

@@ -122,6 +122,7 @@ impl<A: Allocator + Clone> Encoder<A> {
     /// written at the start again.
     ///
     /// An error says that memory ran out, or that the encoder had failed before. The encoder has failed then.
+    #[inline(always)]
     pub fn output(&mut self) -> Result<Vec<u8, A>, EncodeError>
         ensures octets { IfOk result (λ octets. completed (view self.old 0) ≡ Some octets.items) }
         ensures taken { OnOk result (self.new ≡ record self.old { pieces = no_pieces }) }
@@ -134,6 +135,7 @@ impl<A: Allocator + Clone> Encoder<A> {
     }
 
     /// The complete encoding of what was written, as `output` gives it.
+    #[inline(always)]
     pub fn output_into_vec(mut self) -> Result<Vec<u8, A>, EncodeError>
         ensures octets { IfOk result (λ octets. completed (view self 0) ≡ Some octets.items) }
         ensures begun { OnOk result (self.failed ≡ false) }
@@ -180,6 +182,7 @@ impl<A: Allocator + Clone> encoder::Encoder for Encoder<A> {
         Encoder::codec(self)
     }
 
+    #[inline(always)]
     fn encode_bool(
         &mut self,
         _tag: Tag,
@@ -190,6 +193,7 @@ impl<A: Allocator + Clone> encoder::Encoder for Encoder<A> {
         self.writer.put_bit(value)
     }
 
+    #[inline(always)]
     fn encode_integer<I: IntegerType>(
         &mut self,
         _tag: Tag,
@@ -214,10 +218,12 @@ impl<A: Allocator + Clone> encoder::Encoder for Encoder<A> {
         self.writer.refuse_real()
     }
 
+    #[inline(always)]
     fn encode_null(&mut self, _tag: Tag, _identifier: Identifier) -> Result<(), EncodeError> {
         self.writer.check_unfailed()
     }
 
+    #[inline(always)]
     fn encode_enumerated<E: Enumerated>(
         &mut self,
         _tag: Tag,
@@ -238,6 +244,7 @@ impl<A: Allocator + Clone> encoder::Encoder for Encoder<A> {
         self.writer.put_octets(value.as_bytes())
     }
 
+    #[inline(always)]
     fn encode_octet_string(
         &mut self,
         _tag: Tag,
@@ -249,6 +256,7 @@ impl<A: Allocator + Clone> encoder::Encoder for Encoder<A> {
         self.writer.put_octet_string(constraints, value)
     }
 
+    #[inline(always)]
     fn encode_bit_string(
         &mut self,
         _tag: Tag,
@@ -260,6 +268,7 @@ impl<A: Allocator + Clone> encoder::Encoder for Encoder<A> {
         self.writer.put_bit_string(constraints, value)
     }
 
+    #[inline(always)]
     fn encode_known_multiplier_string<S: StaticPermittedAlphabet>(
         &mut self,
         _tag: Tag,
@@ -408,6 +417,7 @@ impl<A: Allocator + Clone> encoder::Encoder for Encoder<A> {
         close_alternative(&mut self.writer, variants.len(), place, outside)
     }
 
+    #[inline(always)]
     fn set_presence(&mut self, is_there: bool) -> Result<(), EncodeError> {
         self.writer.check_unfailed()?;
         self.writer.set_presence(is_there)

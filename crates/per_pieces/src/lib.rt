@@ -100,6 +100,7 @@ impl<A: Allocator> Pieces<A> {
     }
 
     /// Appends the low `width` bits of a number, highest first (X.691 11.3). The only error is want of memory.
+    #[inline(always)]
     pub fn push_bits(&mut self, number: u128, width: u128) -> Result<(), AllocError>
         requires { width ≤ 128 }
         ensures ok { OnOk result (self.new ≡ with_bits self.old (to_bits width number)) }
@@ -200,6 +201,7 @@ impl<A: Allocator + Clone> Pieces<A> {
 
     /// The bits that the pieces are from position 0 on, with their padding. Where there is no mark these are the bits
     /// themselves, and no memory is taken. The only error is want of memory.
+    #[inline(always)]
     pub fn into_settled(self) -> Result<BitList<A>, AllocError>
         ensures { IfOk result (λ bits. bits ≡ settle self.list 0) }
     {

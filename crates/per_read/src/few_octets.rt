@@ -19,6 +19,7 @@ pub struct FewOctets {
 
 impl FewOctets {
     /// The number that the octets mean in two's complement (X.691 11.4).
+    #[inline(always)]
     pub fn signed(&self) -> i128
         requires { (octets : List ℕ) × AreOctetsOf octets self.now }
         ensures { (octets : List ℕ) → AreOctetsOf octets self.now → result ≡ signed octets }
@@ -35,6 +36,7 @@ impl FewOctets {
 impl Reader<'_> {
     /// Takes octets behind an unconstrained length (X.691 11.9.3.5 to 11.9.3.7), where there are from 1 to 16. Else
     /// `None`, and nothing is taken.
+    #[inline(always)]
     pub fn take_few_octets(&mut self) -> Result<Option<FewOctets>, DecodeErrorKind>
         ensures { TakesFew self.old result self.new }
     {

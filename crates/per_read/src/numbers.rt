@@ -28,6 +28,7 @@ pub enum ReadNumber {
 
 impl Reader<'_> {
     /// Takes a number in the form that bounds give it (X.691 13.2). It may stand outside the bounds.
+    #[inline(always)]
     pub fn take_number(
         &mut self,
         lower: Option<i128>,

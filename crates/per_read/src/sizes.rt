@@ -22,6 +22,7 @@ use rasn_schema::constraints::{Bounded, Extensible};
 impl Reader<'_> {
     /// Takes items under the size constraint in use, where there is one (X.691 16, 17, 30.5). Answers how many there
     /// were.
+    #[inline(always)]
     pub(crate) fn take_items<C: Collector>(
         &mut self,
         size: Option<Extensible<Bounded<usize>>>,
@@ -41,6 +42,7 @@ impl Reader<'_> {
     /// Takes items under a size constraint. Where that has an extension marker, one bit comes first: 0 and the items
     /// under the size, or 1 and the items without, whose count the size may allow too (X.691 16.6, 17.3, 30.4). Answers
     /// how many there were.
+    #[inline(always)]
     fn take_extensible_items<C: Collector>(
         &mut self,
         size: Extensible<Bounded<usize>>,
@@ -63,6 +65,7 @@ impl Reader<'_> {
 
     /// Takes items whose count a size allows: the items first, and then their count is checked. Answers how many there
     /// were.
+    #[inline(always)]
     fn take_sized<C: Collector>(
         &mut self,
         size: &Bounded<usize>,
@@ -81,6 +84,7 @@ impl Reader<'_> {
     /// Takes items as a size has them written, whether it allows their count or not: where both bounds are there and
     /// the upper is below 65536 behind a constrained whole number, and else behind an unconstrained length (X.691
     /// 11.9.3.3, 11.9.4.1). Answers how many there were.
+    #[inline(always)]
     fn take_under_size<C: Collector>(
         &mut self,
         size: &Bounded<usize>,
@@ -98,6 +102,7 @@ impl Reader<'_> {
 
     /// Takes items behind a count from `lower` on, as one of the numbers from `lower` to `upper` (X.691 11.9.3.3).
     /// Answers how many there were.
+    #[inline(always)]
     fn take_constrained_items<C: Collector>(
         &mut self,
         lower: usize,

@@ -26,6 +26,7 @@ use rasn_types::octet_strings::Utf8String;
 
 impl Reader<'_> {
     /// Takes an OCTET STRING under the first size constraint (X.691 17).
+    #[inline(always)]
     pub fn take_octet_string(
         &mut self,
         constraints: &Constraints,
@@ -52,6 +53,7 @@ impl Reader<'_> {
     }
 
     /// Takes a BIT STRING under the first size constraint (X.691 16).
+    #[inline(always)]
     pub fn take_bit_string(
         &mut self,
         constraints: &Constraints,

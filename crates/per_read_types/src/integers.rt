@@ -13,6 +13,7 @@ use rasn_schema::constraints::{Bounded, Constraints, Extensible};
 use rasn_schema::schema::IntegerType;
 
 /// Takes an INTEGER under the first value constraint (X.691 13).
+#[inline(always)]
 pub fn take_integer<I: IntegerType>(
     reader: &mut Reader<'_>,
     constraints: &Constraints,
@@ -28,6 +29,7 @@ pub fn take_integer<I: IntegerType>(
 
 /// Takes a number under a value constraint. Where that has an extension marker, one bit comes first: 0 and the
 /// number under the bounds, or 1 and the number without, which may be within the bounds too (X.691 13.1).
+#[inline(always)]
 fn take_extensible_integer<I: IntegerType>(
     reader: &mut Reader<'_>,
     value: Extensible<Bounded<i128>>,
@@ -45,6 +47,7 @@ fn take_extensible_integer<I: IntegerType>(
 }
 
 /// Takes a number under bounds, where there are any (X.691 13.2).
+#[inline(always)]
 fn take_root_integer<I: IntegerType>(
     reader: &mut Reader<'_>,
     bounds: &Bounded<i128>,
@@ -58,6 +61,7 @@ fn take_root_integer<I: IntegerType>(
 }
 
 /// Takes a number under bounds, of which one at least is there (X.691 13.2).
+#[inline(always)]
 fn take_within<I: IntegerType>(
     reader: &mut Reader<'_>,
     bounds: &Bounded<i128>,
@@ -72,6 +76,7 @@ fn take_within<I: IntegerType>(
 
 /// Takes a number without bounds, as an unconstrained whole number (X.691 11.8, 13.2.4). Superfluous leading octets
 /// are taken.
+#[inline(always)]
 fn take_unconstrained_integer<I: IntegerType>(reader: &mut Reader<'_>) -> Result<I, DecodeErrorKind>
     ensures { TakesInteger unbounded false I.range I.number reader.old result reader.new }
 {
@@ -85,6 +90,7 @@ fn take_unconstrained_integer<I: IntegerType>(reader: &mut Reader<'_>) -> Result
 }
 
 /// Takes the same, of any count of octets, which are kept in memory.
+#[inline(always)]
 fn take_long_integer<I: IntegerType>(reader: &mut Reader<'_>) -> Result<I, DecodeErrorKind>
     ensures { TakesInteger unbounded false I.range I.number reader.old result reader.new }
 {

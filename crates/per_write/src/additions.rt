@@ -63,6 +63,7 @@ impl<A: Allocator + Clone> Writer<A> {
     /// Opens a SEQUENCE of so many presence bits, and, where it has an extension marker, of so many additions. The
     /// places of its extension bit and presence bits are kept, so that giving them takes no memory. Answers what waits
     /// outside until the SEQUENCE is closed.
+    #[inline(always)]
     pub fn open_record(
         &mut self,
         presences: usize,
@@ -85,6 +86,7 @@ impl<A: Allocator + Clone> Writer<A> {
     /// Closes a SEQUENCE of which each presence bit and each addition was given, else it refuses. Where an addition is
     /// there, its extension bit becomes 1, and behind its root stand the bitmap and the open types. What waited outside
     /// is there again.
+    #[inline(always)]
     pub fn close_record(&mut self, outside: Scope<A>) -> Result<(), EncodeError>
         requires { self.old.failed ≡ false }
         ensures { ClosesOrNot outside self.old result self.new }
@@ -100,6 +102,7 @@ impl<A: Allocator + Clone> Writer<A> {
     }
 
     /// Gives the next addition of the open SEQUENCE as absent. Where none is left it refuses.
+    #[inline(always)]
     pub fn skip_addition(&mut self) -> Result<(), EncodeError>
         requires { self.old.failed ≡ false }
         ensures { SkipsOrNot self.old result self.new }
@@ -110,6 +113,7 @@ impl<A: Allocator + Clone> Writer<A> {
 
     /// Opens the open type of the next addition of the open SEQUENCE: its contents are written from position 0 on.
     /// Where no addition is left it refuses. Answers what waits outside until the open type is closed.
+    #[inline(always)]
     pub fn open_addition(&mut self) -> Result<Outside<A>, EncodeError>
         requires { self.old.failed ≡ false }
         ensures { OpensOpenType self.old result self.new }
@@ -127,6 +131,7 @@ impl<A: Allocator + Clone> Writer<A> {
 
     /// Closes the open type of an addition (X.691 11.2): what was written in it becomes whole octets, behind their
     /// count. The bits from before are there again.
+    #[inline(always)]
     pub fn close_addition(&mut self, outside: Outside<A>) -> Result<(), EncodeError>
         requires { self.old.failed ≡ false }
         ensures { ClosesOpenType true outside self.old result self.new }
@@ -143,6 +148,7 @@ impl<A: Allocator + Clone> Writer<A> {
 
     /// Closes the open type of an addition group. Where none of its parts is required, and all bits that were written
     /// are zeros, all its parts are absent: then the group is absent (X.691 19.9).
+    #[inline(always)]
     pub fn close_group(
         &mut self,
         outside: Outside<A>,
@@ -197,6 +203,7 @@ impl<A: Allocator + Clone> Writer<A> {
 
     /// Where there is an extension marker, writes a zero for the extension bit, and keeps its place for so many
     /// additions.
+    #[inline(always)]
     fn keep_additions(&mut self, count: Option<usize>) -> Result<Option<Additions<A>>, EncodeError>
         requires { self.old.failed ≡ false }
         ensures { KeepsOrNot count self.old result self.new }
@@ -220,6 +227,7 @@ impl<A: Allocator + Clone> Writer<A> {
     }
 
     /// The additions of the open SEQUENCE, of which one is still to be given; where none is left it refuses.
+    #[inline(always)]
     fn take_additions(&mut self) -> Result<Additions<A>, EncodeError>
         requires { self.old.failed ≡ false }
         ensures { TakesOrNot self.old result self.new }
@@ -231,6 +239,7 @@ impl<A: Allocator + Clone> Writer<A> {
     }
 
     /// Goes on with additions of which one more is given.
+    #[inline(always)]
     fn give_addition(&mut self, additions: Additions<A>, is_there: bool) -> Result<(), EncodeError>
         requires { self.old.failed ≡ false }
         ensures { GivesOrNot is_there additions self.old result self.new }
@@ -244,6 +253,7 @@ impl<A: Allocator + Clone> Writer<A> {
 
     /// Writes the additions behind the root of a SEQUENCE (X.691 19.7 to 19.9), unless none is there. Where one wasn't
     /// given it refuses.
+    #[inline(always)]
     fn put_additions(&mut self, additions: Additions<A>) -> Result<(), EncodeError>
         requires { self.old.failed ≡ false }
         ensures { PutsAdditions additions self.old result self.new }
@@ -261,6 +271,7 @@ impl<A: Allocator + Clone> Writer<A> {
     }
 
     /// Writes an open type of some contents (X.691 11.2): their complete encoding, behind the count of its octets.
+    #[inline(always)]
     pub(crate) fn put_open_type(&mut self, contents: &BitList<A>) -> Result<(), EncodeError>
         requires { self.old.failed ≡ false }
         ensures { PutsIn IsMemory (λ a. open_bits a (Some contents.now)) self.old result self.new }
@@ -287,6 +298,7 @@ impl<A: Allocator + Clone> Writer<A> {
     }
 
     /// Writes zero bits up to the next octet in the aligned variant.
+    #[inline(always)]
     fn put_padding(&mut self) -> Result<(), EncodeError>
         requires { self.old.failed ≡ false }
         ensures { PutsIn IsMemory padding self.old result self.new }

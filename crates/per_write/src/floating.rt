@@ -61,6 +61,7 @@ impl<A: Allocator + Clone> Writer<A> {
     }
 
     /// Writes what was written before its place was known.
+    #[inline(always)]
     pub fn put_pieces(&mut self, pieces: &Pieces<A>) -> Result<(), EncodeError>
         requires { self.old.failed ≡ false }
         ensures { Puts IsMemory (settled pieces.now.list) self.old result self.new }

@@ -101,6 +101,7 @@ impl<A: Allocator + Clone> Writer<A> {
     /// written at the start again.
     ///
     /// An error says that memory ran out, or that the writer had failed before. The writer has failed then.
+    #[inline(always)]
     pub fn output(&mut self) -> Result<Vec<u8, A>, EncodeError>
         ensures octets { IfOk result (λ octets. completed (view self.old 0) ≡ Some octets.items) }
         ensures taken { OnOk result (self.new ≡ record self.old { pieces = no_pieces }) }
@@ -170,6 +171,7 @@ impl<A: Allocator + Clone> Writer<A> {
     }
 
     /// Refuses where a call was refused before.
+    #[inline(always)]
     pub fn check_unfailed(&self) -> Result<(), EncodeError>
         ensures ok { OnOk result (self.now.failed ≡ false) }
         ensures err { IfErr result (λ e. IsAlready e self.now) }
@@ -182,6 +184,7 @@ impl<A: Allocator + Clone> Writer<A> {
     }
 
     /// Writes a bit.
+    #[inline(always)]
     pub fn put_bit(&mut self, bit: bool) -> Result<(), EncodeError>
         requires { self.old.failed ≡ false }
         ensures { Puts IsMemory (just (bit ∷ [])) self.old result self.new }
@@ -191,6 +194,7 @@ impl<A: Allocator + Clone> Writer<A> {
     }
 
     /// Writes the low `width` bits of a number, highest first (X.691 11.3).
+    #[inline(always)]
     pub fn put_bits(&mut self, number: u128, width: u128) -> Result<(), EncodeError>
         requires begun { self.old.failed ≡ false }
         requires few { width ≤ 128 }
@@ -237,6 +241,7 @@ impl<A: Allocator + Clone> Writer<A> {
     }
 
     /// What was made, unless memory ran out; then the writer has failed.
+    #[inline(always)]
     pub fn unless_out_of_memory<T: Drop>(
         &mut self,
         made: Result<T, AllocError>,
@@ -254,6 +259,7 @@ impl<A: Allocator + Clone> Writer<A> {
 }
 
 /// No bits, in memory of the allocator of others.
+#[inline(always)]
 fn no_bits<A: Allocator + Clone>(bits: &BitList<A>) -> Result<BitList<A>, AllocError>
     ensures { IfOk result (λ none. none ≡ []) }
 {
@@ -261,6 +267,7 @@ fn no_bits<A: Allocator + Clone>(bits: &BitList<A>) -> Result<BitList<A>, AllocE
 }
 
 /// No bits, in the memory of a list that isn't in use, else in memory of the allocator of others.
+#[inline(always)]
 fn cleared_or_new<A: Allocator + Clone>(
     scratch: Option<BitList<A>>,
     bits: &BitList<A>,
@@ -275,6 +282,7 @@ fn cleared_or_new<A: Allocator + Clone>(
 }
 
 /// The complete encoding of some bits, in their own memory.
+#[inline(always)]
 fn complete_octets<A: Allocator>(bits: BitList<A>) -> Result<Vec<u8, A>, AllocError>
     ensures { IfOk result (λ octets. octets.items ≡ complete bits) }
 {

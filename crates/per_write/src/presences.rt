@@ -53,6 +53,7 @@ impl<A: Allocator + Clone> Writer<A> {
     }
 
     /// Goes into a SEQUENCE or CHOICE. Answers what waits outside until it is closed.
+    #[inline(always)]
     pub(crate) fn enter(
         &mut self,
         presences: Presences,
@@ -69,6 +70,7 @@ impl<A: Allocator + Clone> Writer<A> {
     }
 
     /// Goes out of a SEQUENCE or CHOICE: what waited outside is there again.
+    #[inline(always)]
     pub(crate) fn leave(&mut self, outside: Scope<A>)
         ensures { self.new ≡ record self.old { scope = outside } }
     {

@@ -111,6 +111,7 @@ impl<A: Allocator + Clone> Writer<A> {
 
     /// Writes how many items follow, as a constrained whole number, and the padding in front of items that begin on an
     /// octet (X.691 11.9.4.1).
+    #[inline(always)]
     pub fn put_constrained_length(
         &mut self,
         lower: usize,

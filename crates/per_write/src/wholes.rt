@@ -20,6 +20,7 @@ use std::alloc::{AllocError, Allocator};
 impl<A: Allocator + Clone> Writer<A> {
     /// Writes an INTEGER as if it had no constraint: its fewest octets in two's complement behind an unconstrained
     /// length (X.691 13.2.4). Memory for the octets themselves is taken only where an `i128` doesn't hold the number.
+    #[inline(always)]
     pub fn put_unconstrained_whole<I: IntegerType>(&mut self, value: &I) -> Result<(), EncodeError>
         requires { self.old.failed ≡ false }
         ensures { PutsIn IsMemory (λ a. unconstrained_whole a I.range (I.number value.now)) self.old result self.new }
@@ -34,6 +35,7 @@ impl<A: Allocator + Clone> Writer<A> {
     }
 
     /// Writes a number of an `i128` that is within bounds (X.691 13.2).
+    #[inline(always)]
     pub fn put_number(
         &mut self,
         lower: Option<i128>,
@@ -56,6 +58,7 @@ impl<A: Allocator + Clone> Writer<A> {
 
     /// Writes the extension bit of a type with an extension marker, whether what follows stands after the marker (X.691
     /// 14.3); of another type nothing.
+    #[inline(always)]
     pub fn put_extension_bit(&mut self, extensible: bool, extended: bool) -> Result<(), EncodeError>
         requires begun { self.old.failed ≡ false }
         requires marked { (extensible || not extended) ≡ true }
@@ -77,6 +80,7 @@ impl<A: Allocator + Clone> Writer<A> {
     }
 
     /// Writes one of the numbers from 0 to `greatest`, a constrained whole number (X.691 11.5).
+    #[inline(always)]
     pub fn put_constrained_whole(&mut self, greatest: u128, offset: u128) -> Result<(), EncodeError>
         requires begun { self.old.failed ≡ false }
         requires within { offset ≤ greatest }

@@ -19,6 +19,7 @@ use std::alloc::{AllocError, Allocator};
 
 /// Writes an INTEGER that is within bounds, in the form that these give it (X.691 13.2). Where there is a bound, an
 /// error can say that the number is past an `i128`.
+#[inline(always)]
 fn put_within<A: Allocator + Clone, I: IntegerType>(
     writer: &mut Writer<A>,
     bounds: &Bounded<i128>,
@@ -40,6 +41,7 @@ fn put_within<A: Allocator + Clone, I: IntegerType>(
 
 /// Writes an INTEGER under a value constraint (X.691 13): where the constraint is extensible, behind a bit that
 /// says whether the number is outside.
+#[inline(always)]
 pub fn put_integer<A: Allocator + Clone, I: IntegerType>(
     writer: &mut Writer<A>,
     stated: Extensible<Bounded<i128>>,

@@ -108,6 +108,7 @@ pub trait EncoderExt: Encoder {
     }
 
     /// Writes an optional component that is there: its presence bit, 1, and its value (X.691 19.2).
+    #[inline(always)]
     final fn encode_some_with_tag_and_constraints<T: Encode>(
         &mut self,
         tag: Tag,
@@ -130,6 +131,7 @@ pub trait EncoderExt: Encoder {
     }
 
     /// Writes an optional component that is absent: its presence bit, 0 (X.691 19.2). Takes no memory.
+    #[inline(always)]
     final fn encode_none_with_tag(
         &mut self,
         _tag: Tag,

@@ -6,6 +6,7 @@ use rasn_types::big::Integer;
 use rasn_types::types::{Identifier, Tag};
 
 impl Encode for i8 {
+    #[inline(always)]
     #[tactic(auto, unfolding(rasn_schema::specs::Normal::normal))]
     fn encode_with_tag_and_constraints<E: Encoder>(
         &self,
@@ -19,6 +20,7 @@ impl Encode for i8 {
 }
 
 impl Decode for i8 {
+    #[inline(always)]
     fn decode_with_tag_and_constraints<D: Decoder>(
         decoder: &mut D,
         tag: Tag,
@@ -29,6 +31,7 @@ impl Decode for i8 {
 }
 
 impl Encode for i16 {
+    #[inline(always)]
     #[tactic(auto, unfolding(rasn_schema::specs::Normal::normal))]
     fn encode_with_tag_and_constraints<E: Encoder>(
         &self,
@@ -42,6 +45,7 @@ impl Encode for i16 {
 }
 
 impl Decode for i16 {
+    #[inline(always)]
     fn decode_with_tag_and_constraints<D: Decoder>(
         decoder: &mut D,
         tag: Tag,
@@ -52,6 +56,7 @@ impl Decode for i16 {
 }
 
 impl Encode for i32 {
+    #[inline(always)]
     #[tactic(auto, unfolding(rasn_schema::specs::Normal::normal))]
     fn encode_with_tag_and_constraints<E: Encoder>(
         &self,
@@ -65,6 +70,7 @@ impl Encode for i32 {
 }
 
 impl Decode for i32 {
+    #[inline(always)]
     fn decode_with_tag_and_constraints<D: Decoder>(
         decoder: &mut D,
         tag: Tag,
@@ -75,6 +81,7 @@ impl Decode for i32 {
 }
 
 impl Encode for i64 {
+    #[inline(always)]
     #[tactic(auto, unfolding(rasn_schema::specs::Normal::normal))]
     fn encode_with_tag_and_constraints<E: Encoder>(
         &self,
@@ -88,6 +95,7 @@ impl Encode for i64 {
 }
 
 impl Decode for i64 {
+    #[inline(always)]
     fn decode_with_tag_and_constraints<D: Decoder>(
         decoder: &mut D,
         tag: Tag,
@@ -98,6 +106,7 @@ impl Decode for i64 {
 }
 
 impl Encode for i128 {
+    #[inline(always)]
     #[tactic(auto, unfolding(rasn_schema::specs::Normal::normal))]
     fn encode_with_tag_and_constraints<E: Encoder>(
         &self,
@@ -111,6 +120,7 @@ impl Encode for i128 {
 }
 
 impl Decode for i128 {
+    #[inline(always)]
     fn decode_with_tag_and_constraints<D: Decoder>(
         decoder: &mut D,
         tag: Tag,
@@ -121,6 +131,7 @@ impl Decode for i128 {
 }
 
 impl Encode for u8 {
+    #[inline(always)]
     #[tactic(auto, unfolding(rasn_schema::specs::Normal::normal))]
     fn encode_with_tag_and_constraints<E: Encoder>(
         &self,
@@ -134,6 +145,7 @@ impl Encode for u8 {
 }
 
 impl Decode for u8 {
+    #[inline(always)]
     fn decode_with_tag_and_constraints<D: Decoder>(
         decoder: &mut D,
         tag: Tag,
@@ -144,6 +156,7 @@ impl Decode for u8 {
 }
 
 impl Encode for u16 {
+    #[inline(always)]
     #[tactic(auto, unfolding(rasn_schema::specs::Normal::normal))]
     fn encode_with_tag_and_constraints<E: Encoder>(
         &self,
@@ -157,6 +170,7 @@ impl Encode for u16 {
 }
 
 impl Decode for u16 {
+    #[inline(always)]
     fn decode_with_tag_and_constraints<D: Decoder>(
         decoder: &mut D,
         tag: Tag,
@@ -167,6 +181,7 @@ impl Decode for u16 {
 }
 
 impl Encode for u32 {
+    #[inline(always)]
     #[tactic(auto, unfolding(rasn_schema::specs::Normal::normal))]
     fn encode_with_tag_and_constraints<E: Encoder>(
         &self,
@@ -180,6 +195,7 @@ impl Encode for u32 {
 }
 
 impl Decode for u32 {
+    #[inline(always)]
     fn decode_with_tag_and_constraints<D: Decoder>(
         decoder: &mut D,
         tag: Tag,
@@ -190,6 +206,7 @@ impl Decode for u32 {
 }
 
 impl Encode for u64 {
+    #[inline(always)]
     #[tactic(auto, unfolding(rasn_schema::specs::Normal::normal))]
     fn encode_with_tag_and_constraints<E: Encoder>(
         &self,
@@ -203,6 +220,7 @@ impl Encode for u64 {
 }
 
 impl Decode for u64 {
+    #[inline(always)]
     fn decode_with_tag_and_constraints<D: Decoder>(
         decoder: &mut D,
         tag: Tag,
@@ -213,6 +231,7 @@ impl Decode for u64 {
 }
 
 impl Encode for Integer {
+    #[inline(always)]
     #[tactic(auto, unfolding(rasn_schema::specs::Normal::normal))]
     fn encode_with_tag_and_constraints<E: Encoder>(
         &self,
@@ -226,6 +245,7 @@ impl Encode for Integer {
 }
 
 impl Decode for Integer {
+    #[inline(always)]
     fn decode_with_tag_and_constraints<D: Decoder>(
         decoder: &mut D,
         tag: Tag,

@@ -7,6 +7,7 @@ use rasn_types::octet_strings::{Any, OctetString};
 use rasn_types::types::{Identifier, Tag};
 
 impl Encode for OctetString {
+    #[inline(always)]
     #[tactic(auto, unfolding(rasn_schema::specs::Normal::normal))]
     fn encode_with_tag_and_constraints<E: Encoder>(
         &self,
@@ -20,6 +21,7 @@ impl Encode for OctetString {
 }
 
 impl Decode for OctetString {
+    #[inline(always)]
     fn decode_with_tag_and_constraints<D: Decoder>(
         decoder: &mut D,
         tag: Tag,
@@ -34,6 +36,7 @@ impl Decode for OctetString {
 }
 
 impl Encode for BitString {
+    #[inline(always)]
     #[tactic(auto, unfolding(rasn_schema::specs::Normal::normal))]
     fn encode_with_tag_and_constraints<E: Encoder>(
         &self,
@@ -47,6 +50,7 @@ impl Encode for BitString {
 }
 
 impl Decode for BitString {
+    #[inline(always)]
     fn decode_with_tag_and_constraints<D: Decoder>(
         decoder: &mut D,
         tag: Tag,
@@ -57,6 +61,7 @@ impl Decode for BitString {
 }
 
 impl Encode for Any {
+    #[inline(always)]
     #[tactic(auto, unfolding(rasn_schema::specs::Normal::normal))]
     fn encode_with_tag_and_constraints<E: Encoder>(
         &self,
@@ -71,6 +76,7 @@ impl Encode for Any {
 }
 
 impl Decode for Any {
+    #[inline(always)]
     fn decode_with_tag_and_constraints<D: Decoder>(
         decoder: &mut D,
         tag: Tag,

@@ -5,6 +5,7 @@ use rasn_schema::schema::Constraints;
 use rasn_types::types::{Identifier, Tag};
 
 impl Encode for bool {
+    #[inline(always)]
     #[tactic(auto, unfolding(rasn_schema::specs::Normal::normal))]
     fn encode_with_tag_and_constraints<E: Encoder>(
         &self,
@@ -19,6 +20,7 @@ impl Encode for bool {
 }
 
 impl Decode for bool {
+    #[inline(always)]
     fn decode_with_tag_and_constraints<D: Decoder>(
         decoder: &mut D,
         tag: Tag,
@@ -30,6 +32,7 @@ impl Decode for bool {
 }
 
 impl Encode for () {
+    #[inline(always)]
     #[tactic(auto, unfolding(rasn_schema::specs::Normal::normal))]
     fn encode_with_tag_and_constraints<E: Encoder>(
         &self,
@@ -44,6 +47,7 @@ impl Encode for () {
 }
 
 impl Decode for () {
+    #[inline(always)]
     fn decode_with_tag_and_constraints<D: Decoder>(
         decoder: &mut D,
         tag: Tag,

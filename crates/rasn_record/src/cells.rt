@@ -198,6 +198,7 @@ impl<C: EncodeComponent, N: EncodeCells> EncodeCells for Cell<C, N> {
 
     ghost levels = { λ p. max (C.levels p.component) (N.levels p.next) };
 
+    #[inline(always)]
     fn encode_cells<E: Encoder>(
         &self,
         fields: &[Field],
@@ -265,6 +266,7 @@ impl<C: DecodeComponent, N: DecodeCells> DecodeCells for Cell<C, N> {
 
     ghost contents = { λ values. C.slot values.0 ∷ N.contents values.1 };
 
+    #[inline(always)]
     fn decode_cells<D: Decoder>(
         &self,
         fields: &[Field],

@@ -100,6 +100,7 @@ impl<'a, H: Encode> EncodeComponent for &'a H {
 
     ghost levels = { λ c. H.levels c.now };
 
+    #[inline(always)]
     fn encode_component<E: Encoder>(
         &self,
         encoder: &mut E,
@@ -122,6 +123,7 @@ impl<'a, H: Encode> EncodeComponent for Optional<&'a Option<H>> {
 
     ghost levels = { λ c. slot_levels H.levels c.0.now };
 
+    #[inline(always)]
     fn encode_component<E: Encoder>(
         &self,
         encoder: &mut E,
@@ -151,6 +153,7 @@ impl<'a, H: Encode + Defaulted> EncodeComponent for Default<&'a H, H> {
 
     ghost levels = { λ c. H.levels c.value.now };
 
+    #[inline(always)]
     fn encode_component<E: Encoder>(
         &self,
         encoder: &mut E,
@@ -176,6 +179,7 @@ impl<H: Decode> DecodeComponent for PhantomData<H> {
 
     ghost slot = { λ x. Some (H.value x) };
 
+    #[inline(always)]
     fn decode_component<D: Decoder>(
         &self,
         decoder: &mut D,
@@ -195,6 +199,7 @@ impl<H: Decode> DecodeComponent for Optional<PhantomData<Option<H>>> {
 
     ghost slot = { λ x. slot_of H.value x };
 
+    #[inline(always)]
     fn decode_component<D: Decoder>(
         &self,
         decoder: &mut D,
@@ -214,6 +219,7 @@ impl<H: Decode + Defaulted> DecodeComponent for Default<PhantomData<H>, H> {
 
     ghost slot = { λ x. Some (H.value x) };
 
+    #[inline(always)]
     fn decode_component<D: Decoder>(
         &self,
         decoder: &mut D,

@@ -66,6 +66,7 @@ where
     ghost levels = { λ p. max (A.levels p.first) (max (B.levels p.second) (max (C.levels p.third)
         (max (D.levels p.fourth) (N.levels p.next)))) };
 
+    #[inline(always)]
     fn encode_cells<E: Encoder>(
         &self,
         fields: &[Field],
@@ -119,6 +120,7 @@ where
 
     ghost contents = { λ xs. A.slot xs.0 ∷ B.slot xs.1 ∷ C.slot xs.2 ∷ D.slot xs.3 ∷ N.contents xs.4 };
 
+    #[inline(always)]
     fn decode_cells<R: Decoder>(
         &self,
         fields: &[Field],
