@@ -82,6 +82,15 @@ pub(crate) fn read_wide_field(octets: &[u8], skip: u32, count: u32) -> u128
     value
 }
 
+/// How many octets to ask memory for before a field is written: eight, for the word that is written before it is cut
+/// back, and where there is no memory yet as many as a small message takes.
+#[inline(always)]
+pub(crate) fn room_of_field<A: Allocator>(octets: &Vec<u8, A>) -> usize
+    ensures { 8 ≤ result }
+{
+    if octets.capacity() == 0 { 32 } else { 8 }
+}
+
 /// Appends the low `width` bits of `value` to octets of which the last `spare` bits are spare, and answers how many are
 /// spare then. A word of eight octets is written behind the last full octet, and cut back to those in use.
 #[inline(never)]

@@ -11,7 +11,7 @@ ghost use Rattle.per_bits.specs.Octets.{filled, low_bits_of, AreFilledBy, ArePad
 
 use crate::fields::{
     FIELD_BITS, append_field, append_low_bits, append_octets_behind, append_wide_field,
-    fill_last_octet, low_field, read_field, read_wide_field, with_bit,
+    fill_last_octet, low_field, read_field, read_wide_field, room_of_field, with_bit,
 };
 use rasn_types::bit_string::note_octets;
 use std::alloc::{AllocError, Allocator};
@@ -150,8 +150,7 @@ impl<A: Allocator> BitList<A> {
                 width as u32,
             );
         } else if width <= u128::from(FIELD_BITS) {
-            // the word that is written before it is cut back
-            self.octets.reserve(8)?;
+            self.octets.reserve(room_of_field(&self.octets))?;
             self.spare = append_field(&mut self.octets, self.spare, low_field(value), width as u32);
         } else {
             // 128 bits behind spare ones begin at most 17 octets, and the last word has eight

@@ -87,12 +87,10 @@ are_octets (o ∷ os) h zero = h.0
 are_octets (o ∷ os) h (suc k) = are_octets os h.1 k
 
 -- X.691 11.9.3.5: whole octets, given as bits, behind their count
-pub appends_counted : (a : Variant) (x y z : Pieces) (all : Bits) (k : ℕ) → length all ≡ 8 * k → k ≤ 16 →
-    Appends x (padding a ▹ just (determinant k)) y → z ≡ with_bits y all → Appends x (counted_octets a all) z
+pub appends_counted : (a : Variant) (x z : Pieces) (all : Bits) (k : ℕ) → length all ≡ 8 * k → k ≤ 16 →
+    Appends x ((padding a ▹ just (determinant k)) ▹ just all) z → Appends x (counted_octets a all) z
 unfolding counted_octets
-appends_counted a x y z all k wide l p t =
-    appends_same x z ((padding a ▹ just (determinant k)) ▹ just all) (counted_octets a all) same
-    (appends_then x y z (padding a ▹ just (determinant k)) (just all) p (appends_bits y z all t))
+appends_counted a x z all k wide l p = appends_same x z ((padding a ▹ just (determinant k)) ▹ just all) (counted_octets a all) same p
   where
     octets : List ℕ
     octets = pack (length all / 8) all
@@ -113,9 +111,9 @@ appends_counted a x y z all k wide l p t =
         ∙ in_their_fragments a octet_items (octet_writers octets) (omega (arith, counted)) q
 
 -- X.691 11.7: the fewest octets without sign behind their count
-pub appends_natural : (a : Variant) (x y z : Pieces) (o k : ℕ) → k ≡ octets_of_natural o → k ≤ 16 →
-    Appends x (padding a ▹ just (determinant k)) y → z ≡ with_bits y (to_bits (8 * k) o) → Appends x (counted_octets a (natural_bits o)) z
+pub appends_natural : (a : Variant) (x z : Pieces) (o k : ℕ) → k ≡ octets_of_natural o → k ≤ 16 →
+    Appends x ((padding a ▹ just (determinant k)) ▹ just (to_bits (8 * k) o)) z → Appends x (counted_octets a (natural_bits o)) z
 unfolding natural_bits
-appends_natural a x y z o k e l p t =
-    appends_counted a x y z (natural_bits o) k (length-to_bits (8 * octets_of_natural o) o ∙ ap (λ (n : ℕ). 8 * n) (sym e)) l p
-    (t ∙ ap (λ (n : ℕ). with_bits y (to_bits (8 * n) o)) e)
+appends_natural a x z o k e l p =
+    appends_counted a x z (natural_bits o) k (length-to_bits (8 * octets_of_natural o) o ∙ ap (λ (n : ℕ). 8 * n) (sym e)) l
+    (subst (λ (n : ℕ). Appends x ((padding a ▹ just (determinant k)) ▹ just (to_bits (8 * n) o)) z) e p)

@@ -1,5 +1,5 @@
 -- Whole numbers without bounds, as they are written where an `i128` holds them.
-use Rattle.std.proofs.Common.{◌≡◌, refl, sym, ap, ◌∙◌, ℕ, suc, ◌+◌, ◌-◌, ◌*◌, ◌/◌, ◌%◌, ◌^◌, ◌<◌, ◌≤◌, true, false, arith, zero, ℤ, pos, negsuc, FitsSigned, ltb-true, mod-eq_of_lt, pow-add, pow_pos, suc-mul}
+use Rattle.std.proofs.Common.{◌≡◌, refl, sym, ap, ◌∙◌, ℕ, suc, ◌+◌, ◌-◌, ◌*◌, ◌/◌, ◌%◌, ◌^◌, ◌<◌, ◌≤◌, true, false, arith, zero, ℤ, pos, negsuc, FitsSigned, ltb-true, mod-eq_of_lt, pow-add, pow_pos, subst, suc-mul}
 use Rattle.std.proofs.lemmas.Nat.{mod_low}
 use Rattle.std.specs.Int.{w128, cast_unsigned}
 use lib.Signed.{mag, lt_z}
@@ -12,7 +12,7 @@ use Rattle.rasn_types.proofs.Octets.{length-whole_bits, mag_fits}
 use Rattle.rasn_constraints.specs.Bounds.{above}
 use Rattle.per_core.specs.Writers.{just, padding, ◌▹◌}
 use Rattle.per_core.specs.Counts.{counted_octets, determinant}
-use Rattle.per_pieces.specs.Pieces.{Appends, Pieces, with_bits}
+use Rattle.per_pieces.specs.Pieces.{Appends, Pieces}
 use Rattle.per_numbers.proofs.Bounded.{appends_counted}
 
 -- X.691 11.4.6: the octets of a number by how far it is from 0 or from -1
@@ -57,8 +57,8 @@ whole_bits_are z k u f e d = low_bits (octets_of_whole z) z (octets_of_i128 z f)
     ∙ sym (ap (λ (m : ℕ). to_bits (8 * octets_of_whole z) m) d) ∙ sym (ap (λ (m : ℕ). to_bits (8 * m) u) e)
 
 -- X.691 11.8: the fewest octets in two's complement behind their count
-pub appends_whole : (a : Variant) (x y z : Pieces) (n : ℤ) (k u : ℕ) → FitsSigned w128 n → k ≡ octets_of_whole n → k ≤ 16 → u ≡ cast_unsigned w128 n →
-    Appends x (padding a ▹ just (determinant k)) y → z ≡ with_bits y (to_bits (8 * k) u) → Appends x (counted_octets a (whole_bits n)) z
-appends_whole a x y z n k u f e l d p t =
-    appends_counted a x y z (whole_bits n) k (length-whole_bits n ∙ ap (λ (m : ℕ). 8 * m) (sym e)) l p
-    (t ∙ ap (λ (bs : Bits). with_bits y bs) (sym (whole_bits_are n k u f e d)))
+pub appends_whole : (a : Variant) (x z : Pieces) (n : ℤ) (k u : ℕ) → FitsSigned w128 n → k ≡ octets_of_whole n → k ≤ 16 → u ≡ cast_unsigned w128 n →
+    Appends x ((padding a ▹ just (determinant k)) ▹ just (to_bits (8 * k) u)) z → Appends x (counted_octets a (whole_bits n)) z
+appends_whole a x z n k u f e l d p =
+    appends_counted a x z (whole_bits n) k (length-whole_bits n ∙ ap (λ (m : ℕ). 8 * m) (sym e)) l
+    (subst (λ (bs : Bits). Appends x ((padding a ▹ just (determinant k)) ▹ just bs) z) (sym (whole_bits_are n k u f e d)) p)

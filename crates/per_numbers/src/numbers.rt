@@ -1,6 +1,6 @@
 //! Whole numbers under bounds (X.691 11.5, 11.7 and 13.2).
 
-ghost use Rattle.std.specs.Prelude.{◌≡◌, ◌+◌, ◌<◌, ◌≤◌, ◌≤ℤ◌, ℤ, true, Some, OnOk};
+ghost use Rattle.std.specs.Prelude.{◌≡◌, ◌+◌, ◌*◌, ◌%◌, ◌^◌, ◌<◌, ◌≤◌, ◌≤ℤ◌, ℤ, true, Some, OnOk};
 ghost use Rattle.rasn_types.specs.Bits.{to_bits};
 ghost use Rattle.rasn_types.specs.Codecs.{variant_of};
 ghost use Rattle.rasn_types.specs.Octets.{natural_bits, octets_of_natural, octets_of_whole, whole_bits};
@@ -8,9 +8,10 @@ ghost use Rattle.rasn_types.specs.Variants.{aligned};
 ghost use Rattle.per_core.specs.Writers.{just, padding, ◌▹◌};
 ghost use Rattle.per_core.specs.Counts.{constrained_whole, counted_octets, number_under};
 ghost use Rattle.rasn_constraints.specs.Bounds.{above, not_above};
+ghost use Rattle.per_numbers.specs.Fragments.{unconstrained_length};
 ghost use Rattle.per_pieces.specs.Pieces.{Appends};
 
-use crate::lengths::{push_padding, push_unconstrained_length};
+use crate::lengths::push_padding;
 use per_pieces::Pieces;
 use rasn_types::types::Codec;
 use rasn_types::width::{width_of, width_to};
@@ -105,9 +106,7 @@ pub fn push_semi_constrained_whole<A: Allocator>(
 ) -> Result<(), AllocError>
     ensures { OnOk result (Appends pieces.old (counted_octets (variant_of codec) (natural_bits offset)) pieces.new) }
 {
-    let octets = octet_count(offset);
-    push_unconstrained_length(pieces, codec, octets as usize)?;
-    pieces.push_bits(offset, 8 * octets)
+    push_counted(pieces, codec, octet_count(offset), offset)
 }
 
 /// Writes a number without bounds (X.691 11.8): its fewest octets in two's complement, behind an unconstrained length.
@@ -118,9 +117,41 @@ pub fn push_unconstrained_whole<A: Allocator>(
 ) -> Result<(), AllocError>
     ensures { OnOk result (Appends pieces.old (counted_octets (variant_of codec) (whole_bits number)) pieces.new) }
 {
-    let octets = whole_octet_count(number);
-    push_unconstrained_length(pieces, codec, octets as usize)?;
-    pieces.push_bits(number.cast_unsigned(), 8 * octets)
+    push_counted(
+        pieces,
+        codec,
+        whole_octet_count(number),
+        number.cast_unsigned(),
+    )
+}
+
+/// Writes so many octets of a number, behind their count as an unconstrained length (X.691 11.9.3.6): few of them with
+/// it in one field.
+fn push_counted<A: Allocator>(
+    pieces: &mut Pieces<A>,
+    codec: Codec,
+    octets: u128,
+    number: u128,
+) -> Result<(), AllocError>
+    requires few { octets ≤ 16 }
+    ensures { let a = variant_of codec in
+        OnOk result (Appends pieces.old (unconstrained_length a octets ▹ just (to_bits (8 * octets) number)) pieces.new) }
+{
+    push_padding(pieces, codec)?;
+    if octets <= 6 {
+        return pieces.push_bits(behind_count(octets, number), 8 + 8 * octets);
+    }
+    pieces.push_bits(octets, 8)?;
+    pieces.push_bits(number, 8 * octets)
+}
+
+/// So many octets of a number, behind their count in an octet.
+fn behind_count(octets: u128, number: u128) -> u128
+    requires { octets ≤ 6 }
+    ensures { result ≡ octets * 2 ^ (8 * octets) + number % 2 ^ (8 * octets) }
+{
+    let weight: u128 = 1 << (8 * octets) as u32;
+    octets * weight + (number & (weight - 1))
 }
 
 /// How many octets are the fewest for a number without sign (X.691 11.3.6), from 1 to 16.

@@ -5,5 +5,5 @@ use Rattle.per_numbers.proofs.numbers.push_semi_constrained_whole.Goals as goal
 
 pub returns : goal.returns
 returns g c =
-    on_ok_weaker _ (appends_natural (variant_of c.args.codec) _ _ _ c.args.offset c.octet_count-octets.result c.octet_count-octets.ensures.count c.octet_count-octets.ensures.few c.in_ok-push_unconstrained_length.ensures)
-    c.push_bits.ensures.ok
+    on_ok_weaker _ (appends_natural (variant_of c.args.codec) _ _ c.args.offset c.octet_count.result c.octet_count.ensures.count c.octet_count.ensures.few)
+    c.push_counted.ensures

@@ -8,5 +8,5 @@ use Rattle.per_numbers.proofs.numbers.push_unconstrained_whole.Goals as goal
 pub returns : goal.returns
 returns g c =
     let fits : FitsSigned w128 c.args.number = c.ranges.number in
-    on_ok_weaker _ (appends_whole (variant_of c.args.codec) _ _ _ c.args.number c.whole_octet_count-octets.result c.cast_unsigned.result fits (simp to_z-of_z at c.whole_octet_count-octets.ensures.count) c.whole_octet_count-octets.ensures.few
-    (simp to_z-of_z at c.cast_unsigned.ensures) c.in_ok-push_unconstrained_length.ensures) c.push_bits.ensures.ok
+    on_ok_weaker _ (appends_whole (variant_of c.args.codec) _ _ c.args.number c.whole_octet_count.result c.cast_unsigned.result fits (simp to_z-of_z at c.whole_octet_count.ensures.count) c.whole_octet_count.ensures.few
+    (simp to_z-of_z at c.cast_unsigned.ensures)) c.push_counted.ensures
