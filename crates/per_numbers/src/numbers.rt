@@ -8,7 +8,7 @@ ghost use Rattle.rasn_types.specs.Variants.{aligned};
 ghost use Rattle.per_core.specs.Writers.{just, padding, ◌▹◌};
 ghost use Rattle.per_core.specs.Counts.{constrained_whole, counted_octets, number_under};
 ghost use Rattle.rasn_constraints.specs.Bounds.{above, not_above};
-ghost use Rattle.per_numbers.specs.Fragments.{unconstrained_length};
+ghost use Rattle.per_numbers.specs.Fragments.{counted_number};
 ghost use Rattle.per_pieces.specs.Pieces.{Appends};
 
 use crate::lengths::push_padding;
@@ -134,8 +134,7 @@ fn push_counted<A: Allocator>(
     number: u128,
 ) -> Result<(), AllocError>
     requires few { octets ≤ 16 }
-    ensures { let a = variant_of codec in
-        OnOk result (Appends pieces.old (unconstrained_length a octets ▹ just (to_bits (8 * octets) number)) pieces.new) }
+    ensures { OnOk result (Appends pieces.old (counted_number (variant_of codec) octets number) pieces.new) }
 {
     push_padding(pieces, codec)?;
     if octets <= 6 {
