@@ -1,5 +1,5 @@
 -- A few octets of a number, written with their count in one field.
-use Rattle.std.proofs.Common.{◌≡◌, refl, sym, ap, ap₂, ◌∙◌, ℕ, ◌+◌, ◌*◌, ◌/◌, ◌%◌, ◌^◌, ◌<◌, ◌++◌, arith, pow_pos}
+use Rattle.std.proofs.Common.{◌≡◌, refl, sym, ap, ap₂, ◌∙◌, ℕ, ◌+◌, ◌*◌, ◌/◌, ◌%◌, ◌^◌, ◌<◌, ◌++◌, pow_pos, mod-lt}
 use Rattle.std.proofs.lemmas.Nat.{mod_low, shr_high}
 use Rattle.rasn_types.specs.Bits.{Bits, to_bits}
 use Rattle.rasn_types.specs.Variants.{Variant}
@@ -11,16 +11,13 @@ use Rattle.per_pieces.proofs.Settling.{appends_bits, appends_then}
 use Rattle.per_pieces.proofs.Zeros.{with_both}
 use Rattle.per_numbers.proofs.Fragments.{appends_short}
 
-below : (n w : ℕ) → n % 2 ^ w < 2 ^ w
-below n w = let p = pow_pos w in omega (arith, p)
-
 -- the bits of octets behind their count
 both : (k w n v : ℕ) → v ≡ k * 2 ^ w + n % 2 ^ w → to_bits (8 + w) v ≡ to_bits 8 k ++ to_bits w n
 both k w n v e =
     to_bits-split 8 w v
     ∙ ap₂ (λ (bs cs : Bits). bs ++ cs)
-    (ap (λ (m : ℕ). to_bits 8 m) (ap (λ (m : ℕ). m / 2 ^ w) e ∙ shr_high k w (n % 2 ^ w) (below n w)))
-    (to_bits-same w v n (ap (λ (m : ℕ). m % 2 ^ w) e ∙ mod_low k w (n % 2 ^ w) (below n w)))
+    (ap (λ (m : ℕ). to_bits 8 m) (ap (λ (m : ℕ). m / 2 ^ w) e ∙ shr_high k w (n % 2 ^ w) (mod-lt n (pow_pos w))))
+    (to_bits-same w v n (ap (λ (m : ℕ). m % 2 ^ w) e ∙ mod_low k w (n % 2 ^ w) (mod-lt n (pow_pos w))))
 
 -- octets behind their count
 pub appends_octets : (a : Variant) (x y u z : Pieces) (k n : ℕ) → k < 128 → Appends x (padding a) y → u ≡ with_bits y (to_bits 8 k) → z ≡ with_bits u (to_bits (8 * k) n) →

@@ -125,8 +125,8 @@ pub fn push_unconstrained_whole<A: Allocator>(
     )
 }
 
-/// Writes so many octets of a number, behind their count as an unconstrained length (X.691 11.9.3.6): few of them with
-/// it in one field.
+/// Writes so many octets of a number, behind their count as an unconstrained length (X.691 11.9.3.6): up to 6 of them
+/// in one field with the octet of their count, which is then of 56 bits at most.
 fn push_counted<A: Allocator>(
     pieces: &mut Pieces<A>,
     codec: Codec,

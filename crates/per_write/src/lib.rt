@@ -7,7 +7,7 @@ ghost use Rattle.rasn_types.specs.Bits.{to_bits};
 ghost use Rattle.rasn_types.specs.Codecs.{variant_of};
 ghost use Rattle.rasn_calls.specs.Reals.{WritesNoReal};
 ghost use Rattle.per_bits.specs.Octets.{low_bits_of};
-ghost use Rattle.per_core.specs.Writers.{just, complete, one_by_one};
+ghost use Rattle.per_core.specs.Writers.{just, one_by_one};
 ghost use Rattle.per_core.specs.Counts.{octet_writers, unconstrained_octets};
 ghost use Rattle.per_core.specs.Canon.{completed};
 ghost use Rattle.per_pieces.specs.Pieces.{no_pieces};
@@ -31,6 +31,7 @@ use error::{EncodeError, EncodeErrorKind};
 pub use floating::Waiting;
 use items::Octets;
 use per_bits::{BitList, BitReader};
+use per_core::per::complete_in_place;
 use per_pieces::Pieces;
 use presences::Presences;
 pub use presences::Scope;
@@ -115,7 +116,7 @@ impl<A: Allocator + Clone> Writer<A> {
         let empty = self.unless_out_of_memory(empty)?;
         let bits = mem::replace(&mut self.pieces, Pieces::from_bits(empty)).into_settled();
         let bits = self.unless_out_of_memory(bits)?;
-        let octets = complete_octets(bits);
+        let octets = complete_in_place(bits);
         self.unless_out_of_memory(octets)
     }
 
@@ -279,16 +280,4 @@ fn cleared_or_new<A: Allocator + Clone>(
     };
     list.clear();
     Ok(list)
-}
-
-/// The complete encoding of some bits, in their own memory.
-#[inline(always)]
-fn complete_octets<A: Allocator>(bits: BitList<A>) -> Result<Vec<u8, A>, AllocError>
-    ensures { IfOk result (λ octets. octets.items ≡ complete bits) }
-{
-    let mut octets = bits.into_octets();
-    if octets.is_empty() {
-        octets.push(0)?;
-    }
-    Ok(octets)
 }
