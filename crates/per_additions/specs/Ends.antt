@@ -1,11 +1,12 @@
 -- How the contents of an open type end (X.691 11.1, 11.2).
 use Rattle.std.specs.Prelude.{◌≡◌, ℕ, List, length, Result, OnOk, IfErr}
 use Rattle.rasn_types.specs.Bits.{Bits, unpack}
-use Rattle.per_core.specs.Ends.{Ends, IsWhy}
+use Rattle.per_core.specs.Ends.{Ends}
+use Rattle.per_complete.specs.Surpluses.{IsWhy}
 use Rattle.per_core.specs.Spellings.{Settings, Spelling}
 use Rattle.per_core.specs.Took.{Took}
-use Rattle.per_core.specs.declared.ended.Surplus.{Surplus}
-use Rattle.per_core.specs.declared.ended.Surplus.TheVariants.{Missing, NonzeroOctet, NonzeroSpareBits, ExtraOctets}
+use Rattle.per_complete.specs.declared.ended.Surplus.{Surplus}
+use Rattle.per_complete.specs.declared.ended.Surplus.TheVariants.{Missing, NonzeroOctet, NonzeroSpareBits, ExtraOctets}
 use Rattle.per_read.specs.State.{State, settings_of}
 use Rattle.per_read.specs.declared.error.DecodeErrorKind.{DecodeErrorKind}
 use Rattle.per_read.specs.declared.error.DecodeErrorKind.TheVariants.{Incomplete, ParserFail, UnexpectedExtraData}

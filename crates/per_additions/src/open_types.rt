@@ -8,7 +8,7 @@ ghost use Rattle.per_additions.specs.Ends.{EndsOpen, kind_of};
 ghost use Rattle.per_additions.specs.Reasons.{gathering};
 
 use crate::ahead_of;
-use per_core::ended::{Surplus, ended};
+use per_complete::ended::{Surplus, ended};
 use per_read::Reader;
 use per_read::error::{DecodeErrorKind, ParserFailCause};
 use per_read::lengths::Length;

@@ -5,7 +5,7 @@ ghost use Rattle.per_core.specs.Canon.{ascending};
 ghost use Rattle.per_bags.specs.Members.{AreKeyed, pieces_of, writers_of};
 
 use per_bits::BitReader;
-use per_core::per::complete;
+use per_complete::per::complete;
 use per_pieces::Pieces;
 use std::alloc::{AllocError, Allocator};
 use std::marker::Model;

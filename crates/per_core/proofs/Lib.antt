@@ -16,4 +16,3 @@ pub mod Readings
 pub mod Within
 pub mod Filling
 pub mod Zeros
-pub mod Spare

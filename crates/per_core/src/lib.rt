@@ -1,11 +1,8 @@
 //! The grammar of the packed encoding rules of ITU-T X.691 (02/2021), and its laws.
 //!
 //! The definitions stand in `specs/`: `Canon` says what is written, `Basic` what may be read, and `Versions` what one
-//! version of a schema means to another. What runs makes octets of bits (`per`), tests how an encoding ends
-//! (`ended`), and says what is counted (`items`).
+//! version of a schema means to another. What runs says what is counted (`items`).
 #![tactic(auto)]
 
-pub mod ended;
 pub mod items;
 pub mod model;
-pub mod per;

@@ -9,8 +9,8 @@ use Rattle.per_core.specs.Took.{Took}
 use Rattle.per_read.specs.declared.error.DecodeError.{DecodeError}
 use Rattle.per_read.specs.declared.error.DecodeErrorKind.{DecodeErrorKind}
 use Rattle.per_read.specs.declared.error.DecodeErrorKind.TheVariants.{AlreadyFailed, OutOfMemory}
-use Rattle.per_core.specs.declared.ended.Surplus.{Surplus}
-use Rattle.per_core.specs.declared.ended.Surplus.TheVariants.{Missing, NonzeroOctet, NonzeroSpareBits, ExtraOctets}
+use Rattle.per_complete.specs.declared.ended.Surplus.{Surplus}
+use Rattle.per_complete.specs.declared.ended.Surplus.TheVariants.{Missing, NonzeroOctet, NonzeroSpareBits, ExtraOctets}
 use Rattle.per_additions.specs.Ends.{EndsAs, IsOfEnd, kind_of}
 use Rattle.per_additions.proofs.Opened.{open_took, took_open}
 use Rattle.per_scopes.specs.Additions.{Adds, ClosesAddition, OpensAddition, Waiting, outside_open}

@@ -31,7 +31,7 @@ use error::{EncodeError, EncodeErrorKind};
 pub use floating::Waiting;
 use items::Octets;
 use per_bits::{BitList, BitReader};
-use per_core::per::complete_in_place;
+use per_complete::per::complete_in_place;
 use per_pieces::Pieces;
 use presences::Presences;
 pub use presences::Scope;

@@ -7,9 +7,9 @@ use Rattle.rasn_types.specs.Values.{Value}
 use Rattle.rasn_types.specs.declared.types.Codec.{Codec}
 use Rattle.rasn_schema.specs.Schemas.{Schema}
 use Rattle.rasn_calls.specs.Calls.{Refuses}
-use Rattle.per_core.specs.Ends.{IsWhy}
-use Rattle.per_core.specs.declared.ended.Surplus.{Surplus}
-use Rattle.per_core.specs.declared.ended.Surplus.TheVariants.{Missing, NonzeroOctet, NonzeroSpareBits, ExtraOctets}
+use Rattle.per_complete.specs.Surpluses.{IsWhy}
+use Rattle.per_complete.specs.declared.ended.Surplus.{Surplus}
+use Rattle.per_complete.specs.declared.ended.Surplus.TheVariants.{Missing, NonzeroOctet, NonzeroSpareBits, ExtraOctets}
 use Rattle.per_scopes.specs.State.{State, Spells}
 use Rattle.per_scopes.specs.Faults.{IsOf, Fault, refusal}
 use Rattle.per_read.specs.declared.error.DecodeError.{DecodeError}

@@ -8,8 +8,8 @@ use Rattle.per_core.specs.Basic.{basic}
 use Rattle.per_core.specs.Ends.{AreOver, spare}
 use Rattle.per_core.specs.Spellings.{Settings, ZeroIf}
 use Rattle.per_core.specs.Took.{Took}
-use Rattle.per_core.specs.declared.ended.Surplus.{Surplus}
-use Rattle.per_core.specs.declared.ended.Surplus.TheVariants.{Missing, NonzeroOctet, NonzeroSpareBits, ExtraOctets}
+use Rattle.per_complete.specs.declared.ended.Surplus.{Surplus}
+use Rattle.per_complete.specs.declared.ended.Surplus.TheVariants.{Missing, NonzeroOctet, NonzeroSpareBits, ExtraOctets}
 use Rattle.per_scopes.specs.Faults.{IsInBits}
 use Rattle.per_read.specs.declared.error.DecodeErrorKind.{DecodeErrorKind}
 use Rattle.per_read.specs.declared.error.DecodeErrorKind.TheVariants.{Incomplete, ParserFail, UnexpectedExtraData, OutOfMemory}

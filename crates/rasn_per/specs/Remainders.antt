@@ -1,7 +1,7 @@
 -- The octets that follow a complete encoding, seen from the bits that are left behind its value.
 use Rattle.std.specs.Prelude.{◌≡◌, ◌-◌, ◌*◌, ◌/◌, ◌<◌, ◌⊎◌, ◌∷◌, ℕ, List, [], length, drop}
-use Rattle.per_core.specs.declared.ended.Surplus.{Surplus}
-use Rattle.per_core.specs.declared.ended.Surplus.TheVariants.{Missing, NonzeroOctet}
+use Rattle.per_complete.specs.declared.ended.Surplus.{Surplus}
+use Rattle.per_complete.specs.declared.ended.Surplus.TheVariants.{Missing, NonzeroOctet}
 
 -- X.691 11.1: they are the whole octets of the bits that are left; behind a value of no bits all but one octet, which is zero
 abbrev pub IsRemainder : ℕ → List ℕ → List ℕ → Type 0

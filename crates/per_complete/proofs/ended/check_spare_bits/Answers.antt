@@ -1,7 +1,7 @@
 use Rattle.std.proofs.Common.{ℕ, ◌%◌, sym, ap, ◌∙◌, take}
 use Rattle.rasn_types.specs.Bits.{number_of}
-use Rattle.per_core.proofs.Spare.{zero_spare}
-use Rattle.per_core.proofs.ended.check_spare_bits.Goals as goal
+use Rattle.per_complete.proofs.Spare.{zero_spare}
+use Rattle.per_complete.proofs.ended.check_spare_bits.Goals as goal
 
 pub returns-clause-ok : goal.returns-clause-ok
 returns-clause-ok c =

@@ -1,7 +1,8 @@
 //! The end of a complete encoding (X.691 11.1).
 
 ghost use Rattle.std.specs.Prelude.{◌≡◌, ◌%◌, ◌≤◌, OnOk, OnErr, IfErr, length};
-ghost use Rattle.per_core.specs.Ends.{Ends, IsOfSpare, IsWhy, spare};
+ghost use Rattle.per_complete.specs.Surpluses.{IsOfSpare, IsWhy};
+ghost use Rattle.per_core.specs.Ends.{Ends, spare};
 ghost use Rattle.per_core.specs.Spellings.{ZeroIf};
 
 use per_bits::BitReader;

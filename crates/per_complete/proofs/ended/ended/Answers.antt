@@ -1,7 +1,7 @@
 use Rattle.std.proofs.Common.{arith}
 use Rattle.std.proofs.lemmas.Result.{err_from_is_err_and}
-use Rattle.per_core.proofs.Spare.{no_spare}
-use Rattle.per_core.proofs.ended.ended.Goals as goal
+use Rattle.per_complete.proofs.Spare.{no_spare}
+use Rattle.per_complete.proofs.ended.ended.Goals as goal
 
 pub returns-in_err-check_spare_bits-clause-none : goal.returns-in_err-check_spare_bits-clause-none
 returns-in_err-check_spare_bits-clause-none c =
