@@ -1,5 +1,6 @@
 pub mod Absents
 pub mod Boths
+pub mod Eighteens
 pub mod Eights
 pub mod Fours
 pub mod Pairs

@@ -5,6 +5,7 @@ pub mod absent;
 pub mod both;
 pub mod bounded;
 pub mod eight;
+pub mod eighteen;
 pub mod four;
 pub mod half_bounded;
 pub mod pair;

@@ -1,10 +1,14 @@
 //! The calls of every encoder that give the additions behind an extension marker, and those of every decoder that read
-//! them, by the types of their values.
+//! them, by the types of their values; and additions by their list, as cells of which the macros of `rasn_below` make an
+//! author's list.
 #![tactic(auto)]
 
 ghost use Rattle.rasn_calls.specs.Additions.{GivesAddition, GivesGroup};
 ghost use Rattle.rasn_calls.specs.AdditionsRead.{TakesAddition};
 ghost use Rattle.rasn_calls.specs.Presences.{slot_of};
+
+pub mod added;
+pub mod additions;
 
 use rasn_calls::decoder::Decoder;
 use rasn_calls::encoder::Encoder;

@@ -17,7 +17,7 @@ pub use Rattle.rasn_schema.specs.Components.{utf8_string, numeric_string, printa
 pub use Rattle.rasn_schema.specs.Components.{sequence, sequence_of, choice, extensible_choice}
 pub use Rattle.rasn_schema.specs.Enumerations.{all_items, extensible_items}
 pub use Rattle.rasn_set_record.specs.SetRecords.{set}
-pub use Rattle.rasn_record.specs.ExtendedRecords.{extended_at, extended_by, extended_levelled, extended_sequence, group}
+pub use Rattle.rasn_additions.specs.ExtendedRecords.{extended_at, extended_by, extended_levelled, extended_sequence, group}
 
 -- OBJECT IDENTIFIER (X.680 32)
 abbrev pub object_identifier : Component

@@ -95,7 +95,7 @@ macro_rules! decode_extended {
 #[macro_export]
 macro_rules! listed_behind {
     ($cells:expr) => {
-        $crate::cells::Listed {
+        $crate::added::ListedAdditions {
             fields: ADDED_FIELDS.list,
             constraints: ADDED_BOUNDS,
             cells: $cells,

@@ -13,12 +13,13 @@ pub mod schema;
 mod sets;
 pub mod types;
 
+pub use rasn_additions::{added, additions};
 pub use rasn_calls::parts::NoAdditions;
 pub use rasn_codec::alternatives::CodedAlternatives;
 pub use rasn_codec::codec::{Decode, Decoder, Encode, Encoder};
 pub use rasn_codec::kinds::ByKind;
 pub use rasn_codec::record::Record;
-pub use rasn_record::{additions, alternatives, cells, components, fours, read, write};
+pub use rasn_record::{alternatives, cells, components, fours, read, sixteen, write};
 pub use rasn_schema::alternatives::{Alternatives, ChoiceKind};
 pub use rasn_schema::choices::{Variant, Variants};
 pub use rasn_schema::components::Components;

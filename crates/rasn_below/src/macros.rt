@@ -28,7 +28,12 @@
 /// The fields of a list of components, as `Fields`.
 #[macro_export]
 macro_rules! fields {
-    ([] $($list:tt)*) => { $crate::with_places!(placed_fields []; $($list)*) };
+    ([] $(
+        $presence:ident $tag:literal $(of $tree:ident)? $name:literal
+        $field:ident: $type:ty [$($bounds:tt)*];
+    )*) => {
+        $crate::with_places!(placed_fields []; $([$presence $tag $($tree)?; $name])*)
+    };
 }
 
 /// The constraints of a list of components, as `&[&[Constraint]]`.
@@ -108,8 +113,11 @@ macro_rules! is_marked {
 /// constraints are in the constant `BOUNDS`.
 #[macro_export]
 macro_rules! encode_components {
-    ([$of:ident $encoder:ident] $($list:tt)*) => {
-        $crate::write::all($of, &$crate::of_record!($crate::cells_to_write!($of $($list)*)), $encoder)
+    ([$of:ident $encoder:ident] $(
+        $presence:ident $tag:literal $(of $tree:ident)? $name:literal
+        $field:ident: $type:ty [$($bounds:tt)*];
+    )*) => {
+        $crate::write_components!([$of $encoder] $([$presence $field [$($bounds)*]])*)
     };
 }
 
@@ -142,11 +150,9 @@ macro_rules! decode_components {
     ([$decoder:ident] $(
         $presence:ident $tag:literal $(of $tree:ident)? $name:literal
         $field:ident: $type:ty [$($bounds:tt)*];
-    )*) => {{
-        let cells = $crate::cells_to_read!($($presence $type [$($bounds)*];)*);
-        let $crate::fours!($($field)*) = $crate::read::all::<Self, _, _>(&cells, BOUNDS, $decoder)?;
-        Ok(Self { $($field),* })
-    }};
+    )*) => {
+        $crate::read_components!([$decoder] $([$presence $field [$type] [$($bounds)*]])*)
+    };
 }
 
 /// The same, each component also stated by itself: put it in the other's place where the check refuses that.
@@ -199,24 +205,22 @@ macro_rules! presence {
     (group) => { $crate::Presence::Optional };
 }
 
-/// The fields of a list of components at their places, behind those that are done.
+/// The fields of components at their places, behind those that are done.
 #[macro_export]
 macro_rules! placed_fields {
-    ($places:tt [$($done:tt)*];) => { $crate::Fields { list: &[$($done)*] } };
-    ([$place:literal $($places:tt)*] [$($done:tt)*];
-        $presence:ident $tag:literal $(of $tree:ident)? $name:literal
-        $field:ident: $type:ty [$($bounds:tt)*]; $($rest:tt)*
-    ) => {
-        $crate::placed_fields!([$($places)*] [
-            $($done)*
-            $crate::Field {
+    ($places:tt [$([$place:literal $presence:ident $tag:literal $($tree:ident)?; $name:literal])*];) => {
+        $crate::Fields {
+            list: &[$($crate::Field {
                 index: $place,
                 tag: $crate::context_tag!($tag),
                 tag_tree: $crate::tag_tree!($tag $($tree)?),
                 presence: $crate::presence!($presence),
                 name: $name,
-            },
-        ]; $($rest)*)
+            }),*],
+        }
+    };
+    ([$place:literal $($places:tt)*] [$($done:tt)*]; [$($field:tt)*] $($rest:tt)*) => {
+        $crate::placed_fields!([$($places)*] [$($done)* [$place $($field)*]]; $($rest)*)
     };
 }
 
@@ -244,38 +248,95 @@ macro_rules! of_record {
     };
 }
 
+/// Writes components in turn, each its presence, its field and its constraints in brackets: sixteen that are required,
+/// and then others, in one call.
+#[macro_export]
+macro_rules! write_components {
+    ([$of:ident $encoder:ident]
+        [required $a:ident $a_bounds:tt] [required $b:ident $b_bounds:tt] [required $c:ident $c_bounds:tt]
+        [required $d:ident $d_bounds:tt] [required $e:ident $e_bounds:tt] [required $f:ident $f_bounds:tt]
+        [required $g:ident $g_bounds:tt] [required $h:ident $h_bounds:tt] [required $i:ident $i_bounds:tt]
+        [required $j:ident $j_bounds:tt] [required $k:ident $k_bounds:tt] [required $l:ident $l_bounds:tt]
+        [required $m:ident $m_bounds:tt] [required $n:ident $n_bounds:tt] [required $o:ident $o_bounds:tt]
+        [required $p:ident $p_bounds:tt]
+        $($rest:tt)*
+    ) => {
+        $crate::sixteen::write(
+            $of,
+            &$of.$a, &$of.$b, &$of.$c, &$of.$d, &$of.$e, &$of.$f, &$of.$g, &$of.$h,
+            &$of.$i, &$of.$j, &$of.$k, &$of.$l, &$of.$m, &$of.$n, &$of.$o, &$of.$p,
+            &$crate::components_to_write!($of $($rest)*),
+            &$crate::cells::Bounds { list: BOUNDS },
+            $encoder,
+        )
+    };
+    ([$of:ident $encoder:ident] $($list:tt)*) => {
+        $crate::write::all($of, &$crate::of_record!($crate::components_to_write!($of $($list)*)), $encoder)
+    };
+}
+
+/// Reads components in turn, each its presence, its field, its type and its constraints in brackets: sixteen that are
+/// required, and then others, in one call.
+#[macro_export]
+macro_rules! read_components {
+    ([$decoder:ident]
+        [required $a:ident [$a_type:ty] $a_bounds:tt] [required $b:ident [$b_type:ty] $b_bounds:tt]
+        [required $c:ident [$c_type:ty] $c_bounds:tt] [required $d:ident [$d_type:ty] $d_bounds:tt]
+        [required $e:ident [$e_type:ty] $e_bounds:tt] [required $f:ident [$f_type:ty] $f_bounds:tt]
+        [required $g:ident [$g_type:ty] $g_bounds:tt] [required $h:ident [$h_type:ty] $h_bounds:tt]
+        [required $i:ident [$i_type:ty] $i_bounds:tt] [required $j:ident [$j_type:ty] $j_bounds:tt]
+        [required $k:ident [$k_type:ty] $k_bounds:tt] [required $l:ident [$l_type:ty] $l_bounds:tt]
+        [required $m:ident [$m_type:ty] $m_bounds:tt] [required $n:ident [$n_type:ty] $n_bounds:tt]
+        [required $o:ident [$o_type:ty] $o_bounds:tt] [required $p:ident [$p_type:ty] $p_bounds:tt]
+        $([$presence:ident $field:ident [$type:ty] $bounds:tt])*
+    ) => {{
+        let (
+            $a, $b, $c, $d, $e, $f, $g, $h, $i, $j, $k, $l, $m, $n, $o, $p,
+            $crate::fours!($($field)*),
+        ) = $crate::sixteen::read::<
+            Self,
+            $a_type, $b_type, $c_type, $d_type, $e_type, $f_type, $g_type, $h_type,
+            $i_type, $j_type, $k_type, $l_type, $m_type, $n_type, $o_type, $p_type,
+            _,
+            _,
+        >(BOUNDS, $crate::cells_to_read!($($presence $type $bounds;)*), $decoder)?;
+        Ok(Self { $a, $b, $c, $d, $e, $f, $g, $h, $i, $j, $k, $l, $m, $n, $o, $p, $($field),* })
+    }};
+    ([$decoder:ident] $([$presence:ident $field:ident [$type:ty] $bounds:tt])*) => {{
+        let cells = $crate::cells_to_read!($($presence $type $bounds;)*);
+        let $crate::fours!($($field)*) = $crate::read::all::<Self, _, _>(&cells, BOUNDS, $decoder)?;
+        Ok(Self { $($field),* })
+    }};
+}
+
 /// The components of a list as cells to write.
 #[macro_export]
 macro_rules! cells_to_write {
-    ($of:ident) => { $crate::cells::End {} };
-    ($of:ident
+    ($of:ident $(
         $presence:ident $tag:literal $(of $tree:ident)? $name:literal
         $field:ident: $type:ty [$($bounds:tt)*];
-        $presence_2:ident $tag_2:literal $(of $tree_2:ident)? $name_2:literal
-        $field_2:ident: $type_2:ty [$($bounds_2:tt)*];
-        $presence_3:ident $tag_3:literal $(of $tree_3:ident)? $name_3:literal
-        $field_3:ident: $type_3:ty [$($bounds_3:tt)*];
-        $presence_4:ident $tag_4:literal $(of $tree_4:ident)? $name_4:literal
-        $field_4:ident: $type_4:ty [$($bounds_4:tt)*];
-        $($rest:tt)*
+    )*) => {
+        $crate::components_to_write!($of $([$presence $field [$($bounds)*]])*)
+    };
+}
+
+/// Components as cells to write, each its presence, its field and its constraints in brackets.
+#[macro_export]
+macro_rules! components_to_write {
+    ($of:ident) => { $crate::cells::End {} };
+    ($of:ident [$a:ident $a_field:ident $a_bounds:tt] [$b:ident $b_field:ident $b_bounds:tt]
+        [$c:ident $c_field:ident $c_bounds:tt] [$d:ident $d_field:ident $d_bounds:tt] $($rest:tt)*
     ) => {
         $crate::fours::Four {
-            first: $crate::component!($presence [$($bounds)*], &$of.$field),
-            second: $crate::component!($presence_2 [$($bounds_2)*], &$of.$field_2),
-            third: $crate::component!($presence_3 [$($bounds_3)*], &$of.$field_3),
-            fourth: $crate::component!($presence_4 [$($bounds_4)*], &$of.$field_4),
-            next: $crate::cells_to_write!($of $($rest)*),
+            first: $crate::component!($a $a_bounds, &$of.$a_field),
+            second: $crate::component!($b $b_bounds, &$of.$b_field),
+            third: $crate::component!($c $c_bounds, &$of.$c_field),
+            fourth: $crate::component!($d $d_bounds, &$of.$d_field),
+            next: $crate::components_to_write!($of $($rest)*),
         }
     };
-    ($of:ident
-        $presence:ident $tag:literal $(of $tree:ident)? $name:literal
-        $field:ident: $type:ty [$($bounds:tt)*]; $($rest:tt)*
-    ) => {
-        $crate::cell!(
-            $presence [$($bounds)*],
-            &$of.$field,
-            $crate::cells_to_write!($of $($rest)*)
-        )
+    ($of:ident [$presence:ident $field:ident $bounds:tt] $($rest:tt)*) => {
+        $crate::cell!($presence $bounds, &$of.$field, $crate::components_to_write!($of $($rest)*))
     };
 }
 
@@ -298,33 +359,41 @@ macro_rules! additions_to_write {
 /// The components of a list as cells to read: the value of their type, where none has a default.
 #[macro_export]
 macro_rules! cells_to_read {
-    ($($list:tt)*) => { $crate::read_by_type!(cells_in_fours values_in_fours [$($list)*] []; $($list)*) };
+    ($($presence:ident $type:ty [$($bounds:tt)*];)*) => {
+        $crate::read_by_type!(cells_in_fours values_in_fours [$([$presence [$type] [$($bounds)*]])*] [];
+            $([$presence [$type]])*
+        )
+    };
 }
 
 /// The additions of a list as cells to read: the value of their type, where none has a default.
 #[macro_export]
 macro_rules! additions_to_read {
-    ($($list:tt)*) => { $crate::read_by_type!(cells_in_turn values_in_turn [$($list)*] []; $($list)*) };
+    ($($presence:ident $type:ty [$($bounds:tt)*];)*) => {
+        $crate::read_by_type!(cells_in_turn values_in_turn [$([$presence [$type] [$($bounds)*]])*] [];
+            $([$presence [$type]])*
+        )
+    };
 }
 
 /// The cells of a list by the types of its components, or by values where one has a default.
 #[macro_export]
 macro_rules! read_by_type {
     ($by_type:ident $by_value:ident $list:tt [$($done:tt)*];) => { $crate::$by_type!([] $($done)*) };
-    ($by_type:ident $by_value:ident [$($list:tt)*] $done:tt; default $($rest:tt)*) => {
+    ($by_type:ident $by_value:ident [$($list:tt)*] $done:tt; [default $type:tt] $($rest:tt)*) => {
         $crate::$by_value!($($list)*)
     };
-    ($by_type:ident $by_value:ident $list:tt [$($done:tt)*]; required $type:ty [$($bounds:tt)*]; $($rest:tt)*) => {
+    ($by_type:ident $by_value:ident $list:tt [$($done:tt)*]; [required [$type:ty]] $($rest:tt)*) => {
         $crate::read_by_type!($by_type $by_value $list [
             $($done)* [std::marker::PhantomData<$type>]
         ]; $($rest)*)
     };
-    ($by_type:ident $by_value:ident $list:tt [$($done:tt)*]; optional $type:ty [$($bounds:tt)*]; $($rest:tt)*) => {
+    ($by_type:ident $by_value:ident $list:tt [$($done:tt)*]; [optional [$type:ty]] $($rest:tt)*) => {
         $crate::read_by_type!($by_type $by_value $list [
             $($done)* [$crate::components::Optional<std::marker::PhantomData<$type>>]
         ]; $($rest)*)
     };
-    ($by_type:ident $by_value:ident $list:tt [$($done:tt)*]; group $type:ty [$($bounds:tt)*]; $($rest:tt)*) => {
+    ($by_type:ident $by_value:ident $list:tt [$($done:tt)*]; [group [$type:ty]] $($rest:tt)*) => {
         $crate::read_by_type!($by_type $by_value $list [
             $($done)* [$crate::additions::Group<std::marker::PhantomData<$type>>]
         ]; $($rest)*)
@@ -360,38 +429,37 @@ macro_rules! value_of_cells {
     };
 }
 
-/// The components of a list, one with a default among them, as cells to read.
+/// Components, one with a default among them, as cells to read.
 #[macro_export]
 macro_rules! values_in_fours {
     () => { $crate::cells::End {} };
-    ($presence:ident $type:ty [$($bounds:tt)*]; $presence_2:ident $type_2:ty [$($bounds_2:tt)*];
-        $presence_3:ident $type_3:ty [$($bounds_3:tt)*]; $presence_4:ident $type_4:ty [$($bounds_4:tt)*];
-        $($rest:tt)*
+    ([$a:ident [$a_type:ty] $a_bounds:tt] [$b:ident [$b_type:ty] $b_bounds:tt]
+        [$c:ident [$c_type:ty] $c_bounds:tt] [$d:ident [$d_type:ty] $d_bounds:tt] $($rest:tt)*
     ) => {
         $crate::fours::Four {
-            first: $crate::component!($presence [$($bounds)*], std::marker::PhantomData::<$type>),
-            second: $crate::component!($presence_2 [$($bounds_2)*], std::marker::PhantomData::<$type_2>),
-            third: $crate::component!($presence_3 [$($bounds_3)*], std::marker::PhantomData::<$type_3>),
-            fourth: $crate::component!($presence_4 [$($bounds_4)*], std::marker::PhantomData::<$type_4>),
+            first: $crate::component!($a $a_bounds, std::marker::PhantomData::<$a_type>),
+            second: $crate::component!($b $b_bounds, std::marker::PhantomData::<$b_type>),
+            third: $crate::component!($c $c_bounds, std::marker::PhantomData::<$c_type>),
+            fourth: $crate::component!($d $d_bounds, std::marker::PhantomData::<$d_type>),
             next: $crate::values_in_fours!($($rest)*),
         }
     };
-    ($presence:ident $type:ty [$($bounds:tt)*]; $($rest:tt)*) => {
+    ([$presence:ident [$type:ty] $bounds:tt] $($rest:tt)*) => {
         $crate::cell!(
-            $presence [$($bounds)*],
+            $presence $bounds,
             std::marker::PhantomData::<$type>,
             $crate::values_in_fours!($($rest)*)
         )
     };
 }
 
-/// The additions of a list, one with a default among them, as cells to read.
+/// Additions, one with a default among them, as cells to read.
 #[macro_export]
 macro_rules! values_in_turn {
     () => { $crate::cells::End {} };
-    ($presence:ident $type:ty [$($bounds:tt)*]; $($rest:tt)*) => {
+    ([$presence:ident [$type:ty] $bounds:tt] $($rest:tt)*) => {
         $crate::cell!(
-            $presence [$($bounds)*],
+            $presence $bounds,
             std::marker::PhantomData::<$type>,
             $crate::values_in_turn!($($rest)*)
         )

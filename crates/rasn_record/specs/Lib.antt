@@ -1,4 +1,3 @@
 pub mod Lists
+pub mod Sixteens
 pub mod Slots
-pub mod OneAddition
-pub mod ExtendedRecords

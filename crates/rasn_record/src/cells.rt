@@ -10,7 +10,6 @@ ghost use Rattle.rasn_schema.specs.Fields.{Shape, shape_of, tag_of, tagged};
 ghost use Rattle.rasn_calls.specs.Scopes.{WritesParts, TakesParts};
 ghost use Rattle.rasn_record.specs.Lists.{behind, first_tag, first_tree, first_given, given};
 
-use crate::additions::Group;
 use crate::components::{DecodeComponent, EncodeComponent, Optional};
 use rasn_calls::parts::{DecodeParts, EncodeParts};
 use rasn_codec::codec::{Decoder, Encoder};
@@ -108,8 +107,33 @@ pub struct OfRecord<T, P> {
     pub cells: P,
 }
 
+/// The constraints of a record's components, in their order.
+#[derive(Clone, Copy)]
+pub struct Bounds {
+    /// Those of each component.
+    pub list: &'static [&'static [Constraint]],
+}
+
+/// What gives the constraints of a record's components: `Bounds`, for a call whose other types name references.
+pub trait GivesBounds {
+    // The constraints.
+    ghost list: { Self → List (Bor (List Constraint)) };
+
+    /// The constraints.
+    fn list(&self) -> &'static [&'static [Constraint]]
+        ensures { result.now ≡ list self.now };
+}
+
+impl GivesBounds for Bounds {
+    ghost list = { λ b. b.list.now };
+
+    fn list(&self) -> &'static [&'static [Constraint]] {
+        self.list
+    }
+}
+
 /// The tag of the first field, or else a type's own.
-pub(crate) fn first_tag(fields: &[Field], own: Tag) -> Tag
+pub fn first_tag(fields: &[Field], own: Tag) -> Tag
     ensures { tag_of result ≡ first_tag (tag_of own) (map shape_of fields.now) }
 {
     match fields {
@@ -129,7 +153,7 @@ pub(crate) fn given(constraints: &'static [Constraint], own: Constraints) -> Con
 }
 
 /// The constraints that the first component is given, or else a type's own.
-pub(crate) fn given_or_own(constraints: &[&'static [Constraint]], own: Constraints) -> Constraints
+pub fn given_or_own(constraints: &[&'static [Constraint]], own: Constraints) -> Constraints
     ensures { result ≡ own_or own (first_given constraints.now) }
 {
     match constraints {
@@ -139,7 +163,7 @@ pub(crate) fn given_or_own(constraints: &[&'static [Constraint]], own: Constrain
 }
 
 /// Those behind the first of a list.
-pub(crate) fn behind<T>(list: &[T]) -> &[T]
+pub fn behind<T>(list: &[T]) -> &[T]
     ensures { result.now ≡ behind list.now }
 {
     match list {
@@ -165,10 +189,6 @@ impl<H> ByType for PhantomData<H> {
 
 impl<H> ByType for Optional<PhantomData<H>> {
     const VALUE: Optional<PhantomData<H>> = Optional(PhantomData);
-}
-
-impl<H> ByType for Group<PhantomData<H>> {
-    const VALUE: Group<PhantomData<H>> = Group(PhantomData);
 }
 
 impl EncodeCells for End {
@@ -210,6 +230,25 @@ impl<C: EncodeComponent, N: EncodeCells> EncodeCells for Cell<C, N> {
         self.component.encode_component(encoder, tag, &in_use)?;
         self.next
             .encode_cells(behind(fields), behind(constraints), encoder)
+    }
+}
+
+impl<'a, N: EncodeCells> EncodeCells for &'a N {
+    ghost parts = { λ p. N.parts p.now };
+
+    ghost contents = { λ p. N.contents p.now };
+
+    ghost levels = { λ p. N.levels p.now };
+
+    #[inline(always)]
+    fn encode_cells<E: Encoder>(
+        &self,
+        fields: &[Field],
+        constraints: &[&'static [Constraint]],
+        encoder: &mut E,
+    ) -> Result<(), E::Error> {
+        let cells: &N = *self;
+        cells.encode_cells(fields, constraints, encoder)
     }
 }
 

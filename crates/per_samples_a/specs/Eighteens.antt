@@ -1,0 +1,11 @@
+-- SEQUENCE { a BOOLEAN, b BOOLEAN, .., p BOOLEAN, q INTEGER (0..7) OPTIONAL, r INTEGER (0..7) DEFAULT 3 }
+use Rattle.std.specs.Prelude.{List, [], ◌∷◌, pos}
+use Rattle.rasn_below.specs.Values.{whole}
+use Rattle.rasn_below.specs.Components.{Component, automatic, boolean, integer, optional, default, u8, ◌to◌}
+
+abbrev pub eighteen : List Component
+eighteen = automatic (
+    boolean ∷ boolean ∷ boolean ∷ boolean ∷ boolean ∷ boolean ∷ boolean ∷ boolean ∷
+    boolean ∷ boolean ∷ boolean ∷ boolean ∷ boolean ∷ boolean ∷ boolean ∷ boolean ∷
+    optional (integer u8 (0 to 7)) ∷
+    default (whole (pos 3)) (integer u8 (0 to 7)) ∷ [])

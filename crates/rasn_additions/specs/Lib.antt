@@ -1,0 +1,2 @@
+pub mod ExtendedRecords
+pub mod OneAddition

@@ -1,0 +1,184 @@
+//! Cells, of which the list of a record's additions is made. Their tags and constraints stand in lists beside them.
+
+ghost use Rattle.std.specs.Prelude.{ℕ, max, List, [], ◌∷◌, Option, map};
+ghost use Rattle.std.specs.Borrow.{Bor};
+ghost use Rattle.rasn_types.specs.Values.{Value};
+ghost use Rattle.rasn_constraints.specs.declared.constraints.Constraint.{Constraint};
+ghost use Rattle.rasn_schema.specs.Schemas.{leaf, Parts, no_parts, part};
+ghost use Rattle.rasn_schema.specs.Records.{own_or};
+ghost use Rattle.rasn_schema.specs.Fields.{Shape, shape_of, tag_of};
+ghost use Rattle.rasn_calls.specs.Additions.{WritesAdditions};
+ghost use Rattle.rasn_calls.specs.AdditionsRead.{TakesAdditions};
+ghost use Rattle.rasn_record.specs.Lists.{behind, first_tag, first_given};
+
+use crate::additions::{DecodeAddition, EncodeAddition};
+use rasn_calls::parts::{DecodeAdditions, EncodeAdditions};
+use rasn_codec::codec::{Decoder, Encoder};
+use rasn_record::cells::{Cell, End, behind, first_tag, given_or_own};
+use rasn_schema::constraints::Constraint;
+use rasn_schema::fields::Field;
+use rasn_schema::schema::AsnType;
+
+/// Additions of a record that are still to be given, of which lists state the tags and the constraints.
+pub trait EncodeAdditionCells {
+    // The additions, by what the lists state of them, to a number of levels.
+    ghost additions: { Self → List Shape → List (Bor (List Constraint)) → ℕ → Parts };
+
+    // What they are.
+    ghost contents: { Self → List (Option Value) };
+
+    // How many levels they take.
+    ghost levels: { Self → ℕ };
+
+    /// Gives the additions in turn.
+    fn encode_addition_cells<E: Encoder>(
+        &self,
+        fields: &[Field],
+        constraints: &[&'static [Constraint]],
+        encoder: &mut E,
+    ) -> Result<(), E::Error>
+        ensures { WritesAdditions E.rules (Self.additions self.now (map shape_of fields.now) constraints.now)
+            (Self.levels self.now) (Self.contents self.now) encoder.old result encoder.new };
+}
+
+/// Additions of a record that are still to be read, of which lists state the tags and the constraints.
+pub trait DecodeAdditionCells {
+    /// What they are: a pair of the first and of those behind it, and `()` at the end.
+    type Values: Drop;
+
+    // The additions, by what the lists state of them, to a number of levels.
+    ghost additions: { Self → List Shape → List (Bor (List Constraint)) → ℕ → Parts };
+
+    // What values of them are.
+    ghost contents: { Self.Values → List (Option Value) };
+
+    /// Reads the additions in turn.
+    fn decode_addition_cells<D: Decoder>(
+        &self,
+        fields: &[Field],
+        constraints: &[&'static [Constraint]],
+        decoder: &mut D,
+    ) -> Result<Self::Values, D::Error>
+        ensures { TakesAdditions D.rules (Self.additions self.now (map shape_of fields.now) constraints.now)
+            Self.contents decoder.old result decoder.new };
+}
+
+/// Additions of a record, and the lists that state their tags and constraints. An addition that isn't in a list has its
+/// type's own tag; one that isn't in a list, or has none there, has its type's own constraints.
+#[derive(Clone, Copy)]
+pub struct ListedAdditions<P> {
+    /// The fields of the additions, in their order.
+    pub fields: &'static [Field],
+    /// The constraints of the additions, in their order.
+    pub constraints: &'static [&'static [Constraint]],
+    /// The additions.
+    pub cells: P,
+}
+
+impl EncodeAdditionCells for End {
+    ghost additions = { λ p fs cs n. no_parts };
+
+    ghost contents = { λ p. [] };
+
+    ghost levels = { λ p. 0 };
+
+    fn encode_addition_cells<E: Encoder>(
+        &self,
+        _: &[Field],
+        _: &[&'static [Constraint]],
+        encoder: &mut E,
+    ) -> Result<(), E::Error> {
+        let _ = encoder;
+        Ok(())
+    }
+}
+
+impl<C: EncodeAddition, N: EncodeAdditionCells> EncodeAdditionCells for Cell<C, N> {
+    ghost additions = { λ p fs cs n. part (leaf (first_tag (tag_of C.Of.TAG) fs)) (C.presence p.component)
+        (C.Of.schema (own_or C.Of.CONSTRAINTS (first_given cs)) n) (N.additions p.next (behind fs) (behind cs) n) };
+
+    ghost contents = { λ p. C.slot p.component ∷ N.contents p.next };
+
+    ghost levels = { λ p. max (C.levels p.component) (N.levels p.next) };
+
+    fn encode_addition_cells<E: Encoder>(
+        &self,
+        fields: &[Field],
+        constraints: &[&'static [Constraint]],
+        encoder: &mut E,
+    ) -> Result<(), E::Error> {
+        let tag = first_tag(fields, <C::Of as AsnType>::TAG);
+        let in_use = given_or_own(constraints, <C::Of as AsnType>::CONSTRAINTS);
+        self.component.encode_addition(encoder, tag, &in_use)?;
+        self.next
+            .encode_addition_cells(behind(fields), behind(constraints), encoder)
+    }
+}
+
+impl<P: EncodeAdditionCells> EncodeAdditions for ListedAdditions<P> {
+    ghost additions = { λ p. P.additions p.cells (map shape_of p.fields.now) p.constraints.now };
+
+    ghost contents = { λ p. P.contents p.cells };
+
+    ghost levels = { λ p. P.levels p.cells };
+
+    fn encode_additions<E: Encoder>(&self, encoder: &mut E) -> Result<(), E::Error> {
+        self.cells
+            .encode_addition_cells(self.fields, self.constraints, encoder)
+    }
+}
+
+impl DecodeAdditionCells for End {
+    type Values = ();
+
+    ghost additions = { λ p fs cs n. no_parts };
+
+    ghost contents = { λ values. [] };
+
+    fn decode_addition_cells<D: Decoder>(
+        &self,
+        _: &[Field],
+        _: &[&'static [Constraint]],
+        decoder: &mut D,
+    ) -> Result<(), D::Error> {
+        let _ = decoder;
+        Ok(())
+    }
+}
+
+impl<C: DecodeAddition, N: DecodeAdditionCells> DecodeAdditionCells for Cell<C, N> {
+    type Values = (C::Value, N::Values);
+
+    ghost additions = { λ p fs cs n. part (leaf (first_tag (tag_of C.Of.TAG) fs)) (C.presence p.component)
+        (C.Of.schema (own_or C.Of.CONSTRAINTS (first_given cs)) n) (N.additions p.next (behind fs) (behind cs) n) };
+
+    ghost contents = { λ values. C.slot values.0 ∷ N.contents values.1 };
+
+    fn decode_addition_cells<D: Decoder>(
+        &self,
+        fields: &[Field],
+        constraints: &[&'static [Constraint]],
+        decoder: &mut D,
+    ) -> Result<(C::Value, N::Values), D::Error> {
+        let tag = first_tag(fields, <C::Of as AsnType>::TAG);
+        let in_use = given_or_own(constraints, <C::Of as AsnType>::CONSTRAINTS);
+        let value = self.component.decode_addition(decoder, tag, &in_use)?;
+        let next = self
+            .next
+            .decode_addition_cells(behind(fields), behind(constraints), decoder)?;
+        Ok((value, next))
+    }
+}
+
+impl<P: DecodeAdditionCells> DecodeAdditions for ListedAdditions<P> {
+    type Values = P::Values;
+
+    ghost additions = { λ p. P.additions p.cells (map shape_of p.fields.now) p.constraints.now };
+
+    ghost contents = { P.contents };
+
+    fn decode_additions<D: Decoder>(&self, decoder: &mut D) -> Result<P::Values, D::Error> {
+        self.cells
+            .decode_addition_cells(self.fields, self.constraints, decoder)
+    }
+}
