@@ -1,14 +1,13 @@
 -- What the calls for dates, identifiers and times read, and why they refuse.
 use Rattle.std.proofs.Common.{◌≡◌, ◌⊎◌, ◌<◌, ◌≤◌, refl, sym, subst, ℕ, zero, suc, List, arith}
 use Rattle.std.specs.Prelude.{Result}
-use Rattle.jiff.specs.Types.{Date}
 use Rattle.rasn_types.specs.Bits.{Bits}
 use Rattle.rasn_types.specs.Contents.{TimeKind}
-use Rattle.rasn_types.specs.Values.{characters, octets}
+use Rattle.rasn_types.specs.Values.{Value, characters, octets}
 use Rattle.rasn_schema.specs.Schemas
 use Rattle.rasn_schema.specs.Schemas.{Schema}
 use Rattle.rasn_calls.specs.Calls.{Reads, Refuses}
-use Rattle.rasn_calls.specs.Moments.{date_at, date_value}
+use Rattle.rasn_calls.specs.Moments.{date_at}
 use Rattle.per_core.specs.Basic.{basic, basic_in}
 use Rattle.per_core.specs.Spellings.{Settings}
 use Rattle.per_core.specs.Took.{Took}
@@ -61,6 +60,6 @@ pub date_too_deep : (s : State) (e : DecodeError) → s.levels < 2 → e ≡ ref
 date_too_deep s e h i = too_deep (λ n. date_at s.levels) s e 0 (date_cut s.levels h) refl i
 
 -- with two levels left a DATE is read
-pub date_within : (s : State) (result : Result Date DecodeError) (t : State) → 2 ≤ s.levels → Reads decoder_rules Schemas.date date_value s result t
-    → Reads decoder_rules (date_at s.levels) date_value s result t
-date_within s result t h = subst (λ (c : Schema). Reads decoder_rules c date_value s result t) (sym (date_whole s.levels h))
+pub date_within : {D : Type 0} (value : D → Value) (s : State) (result : Result D DecodeError) (t : State) → 2 ≤ s.levels
+    → Reads decoder_rules Schemas.date value s result t → Reads decoder_rules (date_at s.levels) value s result t
+date_within value s result t h = subst (λ (c : Schema). Reads decoder_rules c value s result t) (sym (date_whole s.levels h))

@@ -37,7 +37,6 @@ ghost use Rattle.per_de.specs.Steps.{AsksNext, EndsContents, EntersOpen, HasTwoL
 ghost use Rattle.per_de.specs.Steps.{ClosesContents, EntersAlternative, TakesIndex};
 ghost use Rattle.per_de.specs.Steps.{TakesBit, TakesBitmap, TakesExtensionBit, TakesFlags, TakesPresences};
 
-use jiff::civil::{Date, DateTime};
 use per_additions::bitmaps::{PresenceBits, skip_unknown, take_bitmap};
 use per_additions::open_types::{Contents, end_of_open, take_open};
 use per_bits::{BitList, BitReader};
@@ -59,6 +58,7 @@ use rasn_schema::fields::Constructed;
 use rasn_schema::items::Place;
 use rasn_schema::schema::IntegerType;
 use rasn_strings::strings::StaticPermittedAlphabet;
+use rasn_times::civil::{CivilDate, GeneralizedMoment, UtcMoment};
 use rasn_types::bit_string::BitString;
 use rasn_types::octet_strings::{Any, GeneralString, GraphicString, TeletexString, Utf8String};
 use rasn_types::types::{Codec, Tag};
@@ -1008,7 +1008,7 @@ impl<'input> decoder::Decoder for Decoder<'input> {
         self.answer(taken, left)
     }
 
-    fn decode_utc_time(&mut self, _tag: Tag) -> Result<DateTime, DecodeError> {
+    fn decode_utc_time<M: UtcMoment>(&mut self, _tag: Tag) -> Result<M, DecodeError> {
         self.check_unfailed()?;
         let mut reader = self.reader();
         let taken = take_utc_time(&mut reader);
@@ -1016,7 +1016,10 @@ impl<'input> decoder::Decoder for Decoder<'input> {
         self.answer(taken, left)
     }
 
-    fn decode_generalized_time(&mut self, _tag: Tag) -> Result<DateTime, DecodeError> {
+    fn decode_generalized_time<M: GeneralizedMoment>(
+        &mut self,
+        _tag: Tag,
+    ) -> Result<M, DecodeError> {
         self.check_unfailed()?;
         let mut reader = self.reader();
         let taken = take_generalized_time(&mut reader);
@@ -1024,7 +1027,7 @@ impl<'input> decoder::Decoder for Decoder<'input> {
         self.answer(taken, left)
     }
 
-    fn decode_date(&mut self, _tag: Tag) -> Result<Date, DecodeError> {
+    fn decode_date<D: CivilDate>(&mut self, _tag: Tag) -> Result<D, DecodeError> {
         self.check_unfailed()?;
         self.check_date_levels()?;
         let mut reader = self.reader();

@@ -11,7 +11,6 @@ ghost use Rattle.per_write.specs.Faults.{RefusesOutput};
 ghost use Rattle.per_write.specs.Rules.{encoder_rules};
 ghost use Rattle.per_write.specs.State.{fresh, view};
 
-use jiff::civil::{Date, DateTime};
 use per_bits::BitList;
 use per_members::OpenBag;
 use per_moments::writing::put_date;
@@ -30,6 +29,7 @@ use rasn_schema::enumerated::Enumerated;
 use rasn_schema::fields::{AdditionGroup, Constructed};
 use rasn_schema::schema::{Constraints, IntegerType};
 use rasn_strings::strings::StaticPermittedAlphabet;
+use rasn_times::civil::{CivilDate, GeneralizedMoment, UtcMoment};
 use rasn_types::bit_string::BitString;
 use rasn_types::octet_strings::{Any, GeneralString, GraphicString, TeletexString};
 use rasn_types::types::{Codec, Identifier, Tag};
@@ -334,30 +334,30 @@ impl<A: Allocator + Clone> encoder::Encoder for Encoder<A> {
         put_object_identifier(&mut self.writer, value)
     }
 
-    fn encode_utc_time(
+    fn encode_utc_time<M: UtcMoment>(
         &mut self,
         _tag: Tag,
-        value: &DateTime,
+        value: &M,
         _identifier: Identifier,
     ) -> Result<(), EncodeError> {
         self.writer.check_unfailed()?;
         put_utc_time(&mut self.writer, value)
     }
 
-    fn encode_generalized_time(
+    fn encode_generalized_time<M: GeneralizedMoment>(
         &mut self,
         _tag: Tag,
-        value: &DateTime,
+        value: &M,
         _identifier: Identifier,
     ) -> Result<(), EncodeError> {
         self.writer.check_unfailed()?;
         put_generalized_time(&mut self.writer, value)
     }
 
-    fn encode_date(
+    fn encode_date<D: CivilDate>(
         &mut self,
         _tag: Tag,
-        value: &Date,
+        value: &D,
         _identifier: Identifier,
     ) -> Result<(), EncodeError> {
         self.writer.check_unfailed()?;

@@ -8,9 +8,7 @@ use Rattle.rasn_types.specs.Variants.{Variant, aligned, unaligned}
 use Rattle.rasn_constraints.specs.Bounds.{Bounds, between, holds, unbounded}
 use Rattle.rasn_constraints.specs.Ranges.{unsigned_range}
 use Rattle.std.specs.Prelude.{Result, Ok, Err, IfOk}
-use Rattle.jiff.specs.Types.{Date}
 use Rattle.rasn_schema.specs.Schemas.{Schema}
-use Rattle.rasn_calls.specs.Moments.{date_value}
 use Rattle.per_core.specs.Basic.{IsConstrainedWhole, IsNumberOf, Year, YearIn, basic, basic_in, constrained_by, constrained_form, year_form}
 use Rattle.per_core.specs.Spellings.{Settings, Field, Then}
 use Rattle.per_core.specs.Took.{Took}
@@ -305,10 +303,10 @@ module _ (a : Settings) where
         subst (λ (j : ℕ). Took (basic a Schema.date (day y j da)) s t) (sym taken.2)
         (subst (λ (k : ℕ). Took (basic a Schema.date (day y (suc taken.0) k)) s t) (sym taken.3) (day_of y taken.0 taken.1 (counted true l) taken.4))
 
-    pub known_found : (r : Result Date DecodeErrorKind) → IfOk r (λ date. date_value date ≡ day y mo da) → IfOk r (λ date. is_date y mo da ≡ true)
-        → IfOk r (λ date. Took (basic a Schema.date (date_value date)) s t)
-    known_found (Ok d) e l = subst (λ (v : Value). Took (basic a Schema.date v) s t) (sym e) (day_found l)
-    known_found (Err k) e l = tt
+    pub known_found : {D : Type 0} (value : D → Value) (r : Result D DecodeErrorKind) → IfOk r (λ date. value date ≡ day y mo da)
+        → IfOk r (λ date. is_date y mo da ≡ true) → IfOk r (λ date. Took (basic a Schema.date (value date)) s t)
+    known_found value (Ok d) e l = subst (λ (v : Value). Took (basic a Schema.date v) s t) (sym e) (day_found l)
+    known_found value (Err k) e l = tt
 
     pub no_day : (k : DecodeErrorKind) → Years.IsNoDay y mo da k → Faulty (IsOfDate a s) (NoneIn (basic a Schema.date) s) k
     no_day k (inl e) = inl e

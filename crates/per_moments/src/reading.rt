@@ -4,19 +4,17 @@ ghost use Rattle.std.specs.Prelude.{◌≡◌, false, true, IfErr, IfOk};
 ghost use Rattle.rasn_types.specs.Contents.{is_date};
 ghost use Rattle.rasn_types.specs.Values.{day as day_value};
 ghost use Rattle.rasn_schema.specs.Schemas.{Schema};
-ghost use Rattle.rasn_calls.specs.Moments.{date_value};
 ghost use Rattle.per_core.specs.Basic.{basic, Year};
 ghost use Rattle.per_read.specs.Takes.{Takes, memory_or, itself};
 ghost use Rattle.per_scopes.specs.Dates.{IsOfDate};
 ghost use Rattle.per_moments.specs.Years.{IsNoDay, IsOfYear};
 
-use jiff::civil::Date;
 use per_read::Reader;
 use per_read::error::DecodeErrorKind;
 use per_read_types::integers::take_integer;
 use rasn_constraints::constraints::{Bounded, Constraint, Constraints, Extensible};
 use rasn_constraints::integer_type::IntegerType;
-use rasn_times::date::date_from_parts;
+use rasn_times::civil::CivilDate;
 use rasn_times::error::TimeError;
 use rasn_types::big::Integer;
 
@@ -44,8 +42,8 @@ const MONTHS: &[Constraint] = between!(1, 12);
 const DAYS: &[Constraint] = between!(1, 31);
 
 /// Takes a DATE (X.691 32). Numbers that are no day of the calendar are refused.
-pub fn take_date(reader: &mut Reader<'_>) -> Result<Date, DecodeErrorKind>
-    ensures { Takes (memory_or IsOfDate) (λ a. basic a Schema.date) (λ P date. P (date_value date))
+pub fn take_date<D: CivilDate>(reader: &mut Reader<'_>) -> Result<D, DecodeErrorKind>
+    ensures { Takes (memory_or IsOfDate) (λ a. basic a Schema.date) (λ P date. P (D.value date))
         reader.old result reader.new }
 {
     let year = take_year(reader)?;
@@ -68,15 +66,15 @@ fn take_year(reader: &mut Reader<'_>) -> Result<Integer, DecodeErrorKind>
 }
 
 /// The day of the calendar with this year, month and day of the month, from 1 both, where there is one.
-fn known_day(year: &Integer, month: u8, day: u8) -> Result<Date, DecodeErrorKind>
-    ensures known { IfOk result (λ date. date_value date ≡ day_value year.now month day) }
+fn known_day<D: CivilDate>(year: &Integer, month: u8, day: u8) -> Result<D, DecodeErrorKind>
+    ensures known { IfOk result (λ date. D.value date ≡ day_value year.now month day) }
     ensures lawful { IfOk result (λ date. is_date year.now month day ≡ true) }
     ensures none { IfErr result (IsNoDay year.now month day) }
 {
     let Some(year) = year.to_i128() else {
         return Err(DecodeErrorKind::InvalidDate);
     };
-    match date_from_parts(year, month, day) {
+    match D::from_parts(year, month, day) {
         Ok(date) => Ok(date),
         Err(TimeError::InvalidDate) => Err(DecodeErrorKind::InvalidDate),
         Err(_) => Err(DecodeErrorKind::OutOfMemory),

@@ -5,28 +5,26 @@ ghost use Rattle.rasn_types.specs.Contents.{is_date};
 ghost use Rattle.rasn_constraints.specs.Bounds.{between, holds};
 ghost use Rattle.rasn_schema.specs.Schemas.{Schema};
 ghost use Rattle.rasn_calls.specs.Calls.{Writes};
-ghost use Rattle.rasn_calls.specs.Moments.{date_value};
 ghost use Rattle.per_core.specs.Canon.{date_of, year_writer};
 ghost use Rattle.per_write.specs.Faults.{IsMemory};
 ghost use Rattle.per_write.specs.Rules.{encoder_rules};
 ghost use Rattle.per_write.specs.State.{PutsIn};
 ghost use Rattle.per_moments.specs.Years.{put_within};
 
-use jiff::civil::Date;
 use per_write::Writer;
 use per_write::error::EncodeError;
-use rasn_times::date::date_to_parts;
+use rasn_times::civil::CivilDate;
 use std::alloc::Allocator;
 
 /// Writes a DATE (X.691 32) behind what was written before. The only error is want of memory.
-pub fn put_date<A: Allocator + Clone>(
+pub fn put_date<A: Allocator + Clone, D: CivilDate>(
     writer: &mut Writer<A>,
-    date: &Date,
+    date: &D,
 ) -> Result<(), EncodeError>
     requires { writer.old.failed ≡ false }
-    ensures { Writes encoder_rules Schema.date (date_value date.now) writer.old result writer.new }
+    ensures { Writes encoder_rules Schema.date (D.value date.now) writer.old result writer.new }
 {
-    let (year, month, day) = date_to_parts(*date);
+    let (year, month, day) = date.to_parts();
     put_numbers(writer, i128::from(year), month, day)
 }
 

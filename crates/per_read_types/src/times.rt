@@ -4,40 +4,39 @@ ghost use Rattle.std.specs.Prelude.{◌≡◌, false};
 ghost use Rattle.rasn_types.specs.Alphabets.{visible};
 ghost use Rattle.rasn_types.specs.Contents.{utc, generalized};
 ghost use Rattle.rasn_constraints.specs.Bounds.{any_size};
-ghost use Rattle.rasn_times.specs.Moments.{generalized_text, utc_text};
 ghost use Rattle.per_core.specs.Basic.{String};
 ghost use Rattle.per_core.specs.Spellings.{Settings};
 ghost use Rattle.per_read_types.specs.Moments.{IsOfTime, time_form};
 ghost use Rattle.per_read.specs.Strings.{IsOfString};
 ghost use Rattle.per_read.specs.Takes.{Takes, memory_or, itself};
 
-use jiff::civil::DateTime;
 use per_read::Reader;
 use per_read::error::DecodeErrorKind;
 use rasn_schema::constraints::Constraints;
 use rasn_strings::strings::VisibleString;
-use rasn_times::generalized_time::parse_canonical_generalized_time_string;
-use rasn_times::utc_time::parse_canonical_utc_time_string;
+use rasn_times::civil::{GeneralizedMoment, UtcMoment};
 
 /// Takes a UTCTime (X.691 30, X.690 11.8), and answers its moment in UTC.
-pub fn take_utc_time(reader: &mut Reader<'_>) -> Result<DateTime, DecodeErrorKind>
-    ensures { Takes (memory_or (λ a. IsOfTime a utc)) (λ a. time_form a utc) (λ P moment. P (utc_text moment))
+pub fn take_utc_time<M: UtcMoment>(reader: &mut Reader<'_>) -> Result<M, DecodeErrorKind>
+    ensures { Takes (memory_or (λ a. IsOfTime a utc)) (λ a. time_form a utc) (λ P moment. P (M.text moment))
         reader.old result reader.new }
 {
     let text = take_text(reader)?;
-    match parse_canonical_utc_time_string(text.as_iso646_bytes()) {
+    match M::parse_canonical_utc_time_string(text.as_iso646_bytes()) {
         Ok(moment) => Ok(moment),
         Err(_) => Err(DecodeErrorKind::Below),
     }
 }
 
 /// Takes a GeneralizedTime (X.691 30, X.690 11.7), and answers its moment in UTC.
-pub fn take_generalized_time(reader: &mut Reader<'_>) -> Result<DateTime, DecodeErrorKind>
+pub fn take_generalized_time<M: GeneralizedMoment>(
+    reader: &mut Reader<'_>,
+) -> Result<M, DecodeErrorKind>
     ensures { Takes (memory_or (λ a. IsOfTime a generalized)) (λ a. time_form a generalized)
-        (λ P moment. P (generalized_text moment)) reader.old result reader.new }
+        (λ P moment. P (M.text moment)) reader.old result reader.new }
 {
     let text = take_text(reader)?;
-    match parse_canonical_generalized_time_string(text.as_iso646_bytes()) {
+    match M::parse_canonical_generalized_time_string(text.as_iso646_bytes()) {
         Ok(moment) => Ok(moment),
         Err(_) => Err(DecodeErrorKind::Below),
     }

@@ -1,7 +1,8 @@
 //! A SEQUENCE with a UTCTime and a GeneralizedTime.
 
 ghost use Rattle.std.specs.Prelude.{[], ◌∷◌, Some, refl};
-ghost use Rattle.rasn_below.specs.Values.{generalized_value, slot_of, utc_value};
+ghost use Rattle.rasn_below.specs.Times.{generalized_value, utc_value};
+ghost use Rattle.rasn_below.specs.Values.{slot_of};
 ghost use Rattle.rasn_below.specs.Components.{fields_of};
 ghost use Rattle.per_samples_i.specs.Periods.{period};
 

@@ -2,7 +2,8 @@
 use denote.Hole.Carrier.{out, roll}
 use Rattle.std.proofs.Common.{◌≡◌, refl, Box, Global, suc, max, Option, Some, None, [], ◌∷◌}
 use Rattle.jiff.specs.Types.{Date}
-use Rattle.rasn_below.specs.Values.{sequence_value, date_value, slot_of, slot_levels}
+use Rattle.rasn_below.specs.Times.{date_value}
+use Rattle.rasn_below.specs.Values.{sequence_value, slot_of, slot_levels}
 use Rattle.per_samples_l.specs.Dnests.{dnest_contents, dnest_depth}
 use Rattle.per_samples_l.specs.declared.dnest.Dnest.{Dnest, Dnest', None', Some'}
 use Rattle.per_samples_l.specs.declared.dnest.Dnest.TheViews.{out-Dnest, roll-Dnest}

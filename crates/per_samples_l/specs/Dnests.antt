@@ -1,6 +1,7 @@
 -- Dnest ::= SEQUENCE { inner Dnest OPTIONAL, d DATE OPTIONAL }
 use Rattle.std.specs.Prelude.{◌≡◌, ℕ, zero, suc, max, List, [], ◌∷◌, Option, Some, None, false, refl}
-use Rattle.rasn_below.specs.Values.{Value, sequence_value, date_value, slot_of, slot_levels}
+use Rattle.rasn_below.specs.Times.{date_value}
+use Rattle.rasn_below.specs.Values.{Value, sequence_value, slot_of, slot_levels}
 use Rattle.rasn_below.specs.Components.{Component, at, optional, under, date}
 use Rattle.rasn_below.specs.Types.{Schema, listed, no_parts, part, Levelled, no_level, to_sequence, to_part, to_no_parts, sequence_at, date_at, date_levelled}
 use Rattle.rasn_below.specs.Types

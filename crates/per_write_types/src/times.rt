@@ -2,8 +2,8 @@
 
 ghost use Rattle.std.specs.Prelude.{◌≡◌, false, true, Ok, slice_get, IfOk, OnOk, OnErr, IfErr};
 ghost use Rattle.rasn_types.specs.Contents.{utc, generalized};
+ghost use Rattle.rasn_types.specs.Values.{characters};
 ghost use Rattle.rasn_calls.specs.Calls.{Writes};
-ghost use Rattle.rasn_calls.specs.Moments.{generalized_value, utc_value};
 ghost use Rattle.rasn_schema.specs.Schemas.{Schema};
 ghost use Rattle.per_write.specs.Items.{PutsItems, unconstrained_items};
 ghost use Rattle.per_write.specs.Characters.{text_characters};
@@ -11,7 +11,6 @@ ghost use Rattle.per_write_types.specs.Moments.{Unwritten};
 ghost use Rattle.per_write.specs.Rules.{encoder_rules};
 
 use crate::gathered::{Gathered, gather, put_gathered};
-use jiff::civil::DateTime;
 use per_core::items::Item;
 use per_write::Writer;
 use per_write::error::{EncodeError, EncodeErrorKind};
@@ -20,9 +19,8 @@ use rasn_schema::schema::Constraints;
 use rasn_schema::strings::alphabet_under;
 use rasn_strings::alphabet::CharacterAlphabet;
 use rasn_strings::strings::VisibleString;
+use rasn_times::civil::{GeneralizedMoment, UtcMoment};
 use rasn_times::error::TimeError;
-use rasn_times::generalized_time::datetime_to_canonical_generalized_time_bytes;
-use rasn_times::utc_time::datetime_to_canonical_utc_time_bytes;
 use std::alloc::Allocator;
 
 /// The characters of a text, in the alphabet of VisibleString (X.691 30.5).
@@ -72,31 +70,31 @@ fn character_at(characters: &[u8], index: usize) -> Option<u32>
 }
 
 /// Writes a UTCTime by its moment in UTC (X.691 30, X.690 11.8). A moment that the text can't hold is refused.
-pub fn put_utc_time<A: Allocator + Clone>(
+pub fn put_utc_time<A: Allocator + Clone, M: UtcMoment>(
     writer: &mut Writer<A>,
-    moment: &DateTime,
+    moment: &M,
 ) -> Result<(), EncodeError>
     requires { writer.old.failed ≡ false }
-    ensures { Writes encoder_rules (Schema.time utc) (utc_value moment.now) writer.old result writer.new }
+    ensures { Writes encoder_rules (Schema.time utc) (characters (M.text moment.now)) writer.old result writer.new }
 {
     let alloc = writer.allocator()?;
-    let text = datetime_to_canonical_utc_time_bytes(alloc, *moment);
+    let text = moment.to_canonical_utc_time_bytes(alloc);
     let text = unless_unwritten(writer, text)?;
     put_text(writer, &text)
 }
 
 /// Writes a GeneralizedTime by its moment in UTC (X.691 30, X.690 11.7). A moment that the text can't hold is
 /// refused.
-pub fn put_generalized_time<A: Allocator + Clone>(
+pub fn put_generalized_time<A: Allocator + Clone, M: GeneralizedMoment>(
     writer: &mut Writer<A>,
-    moment: &DateTime,
+    moment: &M,
 ) -> Result<(), EncodeError>
     requires { writer.old.failed ≡ false }
-    ensures { Writes encoder_rules (Schema.time generalized) (generalized_value moment.now)
+    ensures { Writes encoder_rules (Schema.time generalized) (characters (M.text moment.now))
         writer.old result writer.new }
 {
     let alloc = writer.allocator()?;
-    let text = datetime_to_canonical_generalized_time_bytes(alloc, *moment);
+    let text = moment.to_canonical_generalized_time_bytes(alloc);
     let text = unless_unwritten(writer, text)?;
     put_text(writer, &text)
 }

@@ -1,5 +1,6 @@
 pub mod Calls
 pub mod Components
 pub mod Rows
+pub mod Times
 pub mod Types
 pub mod Values

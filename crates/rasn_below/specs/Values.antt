@@ -5,7 +5,7 @@ unfoldable pub use Rattle.rasn_types.specs.Values.{same, bag_of}
 pub use Rattle.rasn_types.specs.Contents.{utc}
 pub use Rattle.rasn_schema.specs.Components.{chosen_value, sequence_value}
 pub use Rattle.rasn_schema.specs.Records.{record_value}
-pub use Rattle.rasn_calls.specs.Moments.{date_value, identifier_value, utc_value, generalized_value}
+pub use Rattle.rasn_calls.specs.Moments.{identifier_value}
 pub use Rattle.rasn_calls.specs.Presences.{slot_of}
 pub use Rattle.rasn_calls.specs.Scopes.{deeper_of}
 pub use Rattle.rasn_record.specs.Slots.{slot_levels}

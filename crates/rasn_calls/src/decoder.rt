@@ -21,13 +21,11 @@ ghost use Rattle.rasn_calls.specs.Calls.{DecoderRules, freely_read, Reads, Decod
 ghost use Rattle.rasn_calls.specs.Choices.{ChoicesWell, OpensToChoose};
 ghost use Rattle.rasn_calls.specs.Reals.{ReadsNoReal};
 ghost use Rattle.rasn_calls.specs.Lists.{AmidRead, OpensListToRead, ReadsNext};
-ghost use Rattle.rasn_calls.specs.Moments.{date_at, date_value};
-ghost use Rattle.rasn_calls.specs.Moments.{generalized_value, identifier_value, utc_value};
+ghost use Rattle.rasn_calls.specs.Moments.{date_at, identifier_value};
 ghost use Rattle.rasn_calls.specs.Scopes.{OpensToRead, ClosesRead, ReadsAround, ScopesWell};
 ghost use Rattle.rasn_calls.specs.Sets.{ReadsSet, SetsWell};
 
 use crate::parts::{DecodeAdditions, DecodeParts};
-use jiff::civil::{Date, DateTime};
 use rasn_schema::choices::Choice;
 use rasn_schema::enumerated::Enumerated;
 use rasn_schema::fields::Constructed;
@@ -35,6 +33,7 @@ use rasn_schema::schema::{Constraints, IntegerType};
 use rasn_strings::strings::{
     BmpString, Ia5String, NumericString, PrintableString, StaticPermittedAlphabet, VisibleString,
 };
+use rasn_times::civil::{CivilDate, GeneralizedMoment, UtcMoment};
 use rasn_types::bit_string::BitString;
 use rasn_types::octet_strings::{Any, GeneralString, GraphicString, TeletexString, Utf8String};
 use rasn_types::types::{Codec, Tag};
@@ -205,18 +204,19 @@ pub trait Decoder: Sized {
 
     /// Reads a UTCTime (X.691 30), and answers its moment in UTC. Characters that aren't its canonical text (X.690
     /// 11.8) are refused.
-    fn decode_utc_time(&mut self, tag: Tag) -> Result<DateTime, Self::Error>
-        ensures { Reads rules (Schema.time utc) utc_value self.old result self.new };
+    fn decode_utc_time<M: UtcMoment>(&mut self, tag: Tag) -> Result<M, Self::Error>
+        ensures { Reads rules (Schema.time utc) (λ x. characters (M.text x)) self.old result self.new };
 
     /// Reads a GeneralizedTime (X.691 30), and answers its moment in UTC. Characters that aren't its canonical text
     /// (X.690 11.7) are refused.
-    fn decode_generalized_time(&mut self, tag: Tag) -> Result<DateTime, Self::Error>
-        ensures { Reads rules (Schema.time generalized) generalized_value self.old result self.new };
+    fn decode_generalized_time<M: GeneralizedMoment>(&mut self, tag: Tag) -> Result<M, Self::Error>
+        ensures { Reads rules (Schema.time generalized) (λ x. characters (M.text x))
+            self.old result self.new };
 
     /// Reads a DATE (X.691 32), which takes two levels, and gives them back. A year, a month and a day that are no day
     /// of the calendar are refused; with fewer than two levels left it refuses.
-    fn decode_date(&mut self, tag: Tag) -> Result<Date, Self::Error>
-        ensures { Reads rules (date_at (rules.levels self.old)) date_value self.old result self.new };
+    fn decode_date<D: CivilDate>(&mut self, tag: Tag) -> Result<D, Self::Error>
+        ensures { Reads rules (date_at (rules.levels self.old)) (λ x. D.value x) self.old result self.new };
 
     /// Refuses from now on, and answers that a required addition, which has this tag, isn't there.
     fn required_extension_not_present(&mut self, tag: Tag) -> Self::Error

@@ -18,13 +18,12 @@ ghost use Rattle.rasn_schema.specs.Choices.{choices_of};
 ghost use Rattle.rasn_schema.specs.Fields.{tag_of};
 ghost use Rattle.rasn_calls.specs.Choices.{ClosesChoice, OpensChoice, WritesChoice};
 ghost use Rattle.rasn_calls.specs.Lists.{Amid, OpensList, WritesNext, ClosesList};
-ghost use Rattle.rasn_calls.specs.Moments.{date_value, generalized_value, identifier_value, utc_value};
+ghost use Rattle.rasn_calls.specs.Moments.{identifier_value};
 ghost use Rattle.rasn_calls.specs.Reals.{WritesNoReal};
 ghost use Rattle.rasn_calls.specs.Scopes.{OpensToWrite, ClosesWritten, WritesAround, deeper_of};
 ghost use Rattle.rasn_calls.specs.Sets.{SetsWritten, WritesSet};
 
 use crate::parts::{EncodeAdditions, EncodeParts};
-use jiff::civil::{Date, DateTime};
 use rasn_schema::choices::Choice;
 use rasn_schema::enumerated::Enumerated;
 use rasn_schema::fields::{AdditionGroup, Constructed};
@@ -32,6 +31,7 @@ use rasn_schema::schema::{Constraints, IntegerType};
 use rasn_strings::strings::{
     BmpString, Ia5String, NumericString, PrintableString, StaticPermittedAlphabet, VisibleString,
 };
+use rasn_times::civil::{CivilDate, GeneralizedMoment, UtcMoment};
 use rasn_types::bit_string::BitString;
 use rasn_types::octet_strings::{Any, GeneralString, GraphicString, TeletexString};
 use rasn_types::types::{Codec, Identifier, Tag};
@@ -215,32 +215,33 @@ pub trait Encoder: Sized {
 
     /// Writes a UTCTime by its moment in UTC: its canonical text (X.690 11.8) as a VisibleString without constraints
     /// (X.691 30). A moment that the text can't hold is refused.
-    fn encode_utc_time(
+    fn encode_utc_time<M: UtcMoment>(
         &mut self,
         tag: Tag,
-        value: &DateTime,
+        value: &M,
         identifier: Identifier,
     ) -> Result<(), Self::Error>
-        ensures { Writes rules (Schema.time utc) (utc_value value.now) self.old result self.new };
+        ensures { Writes rules (Schema.time utc) (characters (M.text value.now)) self.old result self.new };
 
     /// Writes a GeneralizedTime by its moment in UTC: its canonical text (X.690 11.7) as a VisibleString without
     /// constraints (X.691 30). A moment that the text can't hold is refused.
-    fn encode_generalized_time(
+    fn encode_generalized_time<M: GeneralizedMoment>(
         &mut self,
         tag: Tag,
-        value: &DateTime,
+        value: &M,
         identifier: Identifier,
     ) -> Result<(), Self::Error>
-        ensures { Writes rules (Schema.time generalized) (generalized_value value.now) self.old result self.new };
+        ensures { Writes rules (Schema.time generalized) (characters (M.text value.now))
+            self.old result self.new };
 
     /// Writes a DATE (X.691 32): its year, as one of a range where one of three holds it, its month and its day.
-    fn encode_date(
+    fn encode_date<D: CivilDate>(
         &mut self,
         tag: Tag,
-        value: &Date,
+        value: &D,
         identifier: Identifier,
     ) -> Result<(), Self::Error>
-        ensures { Writes rules Schema.date (date_value value.now) self.old result self.new };
+        ensures { Writes rules Schema.date (D.value value.now) self.old result self.new };
 
     /// Opens a SEQUENCE (X.691 19): the calls from here to `close_sequence` write its root components, in the order of
     /// `FIELDS`, and then give its additions, in the order of `EXTENDED_FIELDS`.

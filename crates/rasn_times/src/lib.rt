@@ -2,6 +2,7 @@
 //! call them.
 #![tactic(auto)]
 
+pub mod civil;
 pub mod date;
 pub mod error;
 pub mod fraction;

@@ -3,12 +3,16 @@
 ghost use Rattle.std.specs.Prelude.{◌≡◌};
 ghost use Rattle.rasn_types.specs.declared.types.TheConstants.Tag.{DATE};
 ghost use Rattle.rasn_constraints.specs.Ranges.{no_constraints};
-ghost use Rattle.rasn_calls.specs.Moments.{date_at, date_value};
+ghost use Rattle.rasn_times.specs.Values.{date_value};
+ghost use Rattle.rasn_calls.specs.Moments.{date_at};
 ghost use Rattle.rasn_useful.specs.Dates.{date_levelled, date_tag};
 
 use jiff::civil;
 use rasn_codec::codec::{Decode, Decoder, Encode, Encoder};
 use rasn_schema::schema::{AsnType, Constraints};
+use rasn_times::civil::CivilDate;
+use rasn_times::date::{date_from_parts, date_to_parts};
+use rasn_times::error::TimeError;
 use rasn_types::types::{Identifier, Tag};
 use std::marker::Model;
 
@@ -44,6 +48,18 @@ impl Date {
     }
 }
 
+impl CivilDate for Date {
+    ghost value = { date_value };
+
+    fn from_parts(year: i128, month: u8, day: u8) -> Result<Date, TimeError> {
+        Ok(Date::new(date_from_parts(year, month, day)?))
+    }
+
+    fn to_parts(&self) -> (i16, u8, u8) {
+        date_to_parts(self.day)
+    }
+}
+
 impl AsnType for Date {
     const TAG: Tag = Tag::DATE;
 
@@ -73,7 +89,7 @@ impl Encode for Date {
         _: &Constraints,
         identifier: Identifier,
     ) -> Result<(), E::Error> {
-        encoder.encode_date(tag, &self.day, identifier)
+        encoder.encode_date(tag, self, identifier)
     }
 }
 
@@ -83,7 +99,6 @@ impl Decode for Date {
         tag: Tag,
         _: &Constraints,
     ) -> Result<Date, D::Error> {
-        let day = decoder.decode_date(tag)?;
-        Ok(Date::new(day))
+        decoder.decode_date(tag)
     }
 }

@@ -7,12 +7,19 @@ ghost use Rattle.rasn_constraints.specs.Ranges.{no_constraints};
 ghost use Rattle.rasn_schema.specs.Forms.{always};
 ghost use Rattle.rasn_schema.specs.Levels.{simple_levelled};
 ghost use Rattle.rasn_schema.specs.Schemas.{Schema};
-ghost use Rattle.rasn_calls.specs.Moments.{generalized_value};
+ghost use Rattle.rasn_times.specs.Moments.{generalized_text};
+ghost use Rattle.rasn_times.specs.Values.{generalized_value};
 
 use jiff::civil::DateTime;
 use rasn_codec::codec::{Decode, Decoder, Encode, Encoder};
 use rasn_schema::schema::{AsnType, Constraints};
+use rasn_times::civil::GeneralizedMoment;
+use rasn_times::error::TimeError;
+use rasn_times::generalized_time::{
+    datetime_to_canonical_generalized_time_bytes, parse_canonical_generalized_time_string,
+};
 use rasn_types::types::{Identifier, Tag};
+use std::alloc::Allocator;
 use std::marker::Model;
 
 /// A GeneralizedTime (X.680 46): a civil moment, meant in UTC.
@@ -47,6 +54,23 @@ impl GeneralizedTime {
     }
 }
 
+impl GeneralizedMoment for GeneralizedTime {
+    ghost text = { generalized_text };
+
+    fn to_canonical_generalized_time_bytes<A: Allocator>(
+        &self,
+        alloc: A,
+    ) -> Result<Vec<u8, A>, TimeError> {
+        datetime_to_canonical_generalized_time_bytes(alloc, self.moment)
+    }
+
+    fn parse_canonical_generalized_time_string(
+        string: &[u8],
+    ) -> Result<GeneralizedTime, TimeError> {
+        Ok(GeneralizedTime::new(parse_canonical_generalized_time_string(string)?))
+    }
+}
+
 impl AsnType for GeneralizedTime {
     const TAG: Tag = Tag::GENERALIZED_TIME;
 
@@ -74,7 +98,7 @@ impl Encode for GeneralizedTime {
         _: &Constraints,
         identifier: Identifier,
     ) -> Result<(), E::Error> {
-        encoder.encode_generalized_time(tag, &self.moment, identifier)
+        encoder.encode_generalized_time(tag, self, identifier)
     }
 }
 
@@ -84,7 +108,6 @@ impl Decode for GeneralizedTime {
         tag: Tag,
         _: &Constraints,
     ) -> Result<GeneralizedTime, D::Error> {
-        let moment = decoder.decode_generalized_time(tag)?;
-        Ok(GeneralizedTime::new(moment))
+        decoder.decode_generalized_time(tag)
     }
 }

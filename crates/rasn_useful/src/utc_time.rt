@@ -7,12 +7,17 @@ ghost use Rattle.rasn_constraints.specs.Ranges.{no_constraints};
 ghost use Rattle.rasn_schema.specs.Forms.{always};
 ghost use Rattle.rasn_schema.specs.Levels.{simple_levelled};
 ghost use Rattle.rasn_schema.specs.Schemas.{Schema};
-ghost use Rattle.rasn_calls.specs.Moments.{utc_value};
+ghost use Rattle.rasn_times.specs.Moments.{utc_text};
+ghost use Rattle.rasn_times.specs.Values.{utc_value};
 
 use jiff::civil::DateTime;
 use rasn_codec::codec::{Decode, Decoder, Encode, Encoder};
 use rasn_schema::schema::{AsnType, Constraints};
+use rasn_times::civil::UtcMoment;
+use rasn_times::error::TimeError;
+use rasn_times::utc_time::{datetime_to_canonical_utc_time_bytes, parse_canonical_utc_time_string};
 use rasn_types::types::{Identifier, Tag};
+use std::alloc::Allocator;
 use std::marker::Model;
 
 /// A UTCTime (X.680 47): a civil moment, meant in UTC.
@@ -47,6 +52,18 @@ impl UtcTime {
     }
 }
 
+impl UtcMoment for UtcTime {
+    ghost text = { utc_text };
+
+    fn to_canonical_utc_time_bytes<A: Allocator>(&self, alloc: A) -> Result<Vec<u8, A>, TimeError> {
+        datetime_to_canonical_utc_time_bytes(alloc, self.moment)
+    }
+
+    fn parse_canonical_utc_time_string(string: &[u8]) -> Result<UtcTime, TimeError> {
+        Ok(UtcTime::new(parse_canonical_utc_time_string(string)?))
+    }
+}
+
 impl AsnType for UtcTime {
     const TAG: Tag = Tag::UTC_TIME;
 
@@ -74,7 +91,7 @@ impl Encode for UtcTime {
         _: &Constraints,
         identifier: Identifier,
     ) -> Result<(), E::Error> {
-        encoder.encode_utc_time(tag, &self.moment, identifier)
+        encoder.encode_utc_time(tag, self, identifier)
     }
 }
 
@@ -84,7 +101,6 @@ impl Decode for UtcTime {
         tag: Tag,
         _: &Constraints,
     ) -> Result<UtcTime, D::Error> {
-        let moment = decoder.decode_utc_time(tag)?;
-        Ok(UtcTime::new(moment))
+        decoder.decode_utc_time(tag)
     }
 }

@@ -1,0 +1,9 @@
+use Rattle.std.proofs.Common.{◌∙◌, sym}
+use Rattle.rasn_times.proofs.UtcTexts.{is_time-utc_text}
+use Rattle.rasn_useful.proofs.utc_time.UtcTimeUtcMoment.to_canonical_utc_time_bytes.Goals as goal
+
+pub returns-clause-refused : goal.returns-clause-refused
+returns-clause-refused g c =
+    let lawful = is_time-utc_text c.self.inside.moment in
+    let h = c.datetime_to_canonical_utc_time_bytes.ensures.refused in
+    rw (← c.self.view_is) (λ e. lawful ∙ h.0 e, λ e. h.1 (sym lawful ∙ e))
