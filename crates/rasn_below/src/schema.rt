@@ -2,6 +2,7 @@
 //! 52).
 
 pub use rasn_constraints::constraints::{Bounded, Constraint, Constraints, Extensible};
+pub use rasn_constraints::effective::effective_value;
 pub use rasn_constraints::integer_type::IntegerType;
 pub use rasn_schema::choices::{Choice, Variant, Variants};
 pub use rasn_schema::constrained::{Constrained, Limits};

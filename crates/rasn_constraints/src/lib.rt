@@ -2,5 +2,6 @@
 #![tactic(auto)]
 
 pub mod constraints;
+pub mod effective;
 pub mod integer_type;
 pub mod limits;
