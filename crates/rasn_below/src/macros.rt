@@ -289,19 +289,25 @@ macro_rules! read_components {
         [required $m:ident [$m_type:ty] $m_bounds:tt] [required $n:ident [$n_type:ty] $n_bounds:tt]
         [required $o:ident [$o_type:ty] $o_bounds:tt] [required $p:ident [$p_type:ty] $p_bounds:tt]
         $([$presence:ident $field:ident [$type:ty] $bounds:tt])*
-    ) => {{
-        let (
-            $a, $b, $c, $d, $e, $f, $g, $h, $i, $j, $k, $l, $m, $n, $o, $p,
-            $crate::fours!($($field)*),
-        ) = $crate::sixteen::read::<
+    ) => {
+        match $crate::sixteen::read::<
             Self,
             $a_type, $b_type, $c_type, $d_type, $e_type, $f_type, $g_type, $h_type,
             $i_type, $j_type, $k_type, $l_type, $m_type, $n_type, $o_type, $p_type,
             _,
             _,
-        >(BOUNDS, $crate::cells_to_read!($($presence $type $bounds;)*), $decoder)?;
-        Ok(Self { $a, $b, $c, $d, $e, $f, $g, $h, $i, $j, $k, $l, $m, $n, $o, $p, $($field),* })
-    }};
+        >(BOUNDS, $crate::cells_to_read!($($presence $type $bounds;)*), $decoder) {
+            Ok(read) => {
+                let $crate::fours!($($field)*) = read.16;
+                Ok(Self {
+                    $a: read.0, $b: read.1, $c: read.2, $d: read.3, $e: read.4, $f: read.5, $g: read.6, $h: read.7,
+                    $i: read.8, $j: read.9, $k: read.10, $l: read.11, $m: read.12, $n: read.13, $o: read.14,
+                    $p: read.15, $($field),*
+                })
+            }
+            Err(error) => Err(error),
+        }
+    };
     ([$decoder:ident] $([$presence:ident $field:ident [$type:ty] $bounds:tt])*) => {{
         let cells = $crate::cells_to_read!($($presence $type $bounds;)*);
         let $crate::fours!($($field)*) = $crate::read::all::<Self, _, _>(&cells, BOUNDS, $decoder)?;
