@@ -1,5 +1,5 @@
-//! What a UTCTime, a GeneralizedTime and a DATE hold (X.680 38.4, 46 and 47), as the calls of a codec take it: these name
-//! no calendar, and what names them is proved without reading one.
+//! What a UTCTime, a GeneralizedTime and a DATE hold (X.680 38.4, 46 and 47), as the calls of a codec take it. These
+//! name no calendar, and what names them is proved without reading one.
 
 ghost use Rattle.std.specs.Prelude.{◌≡◌, ◌↔◌, ℕ, List, Err, false, true, IfOk, IsOk};
 ghost use Rattle.rasn_types.specs.Contents.{generalized, is_date, is_time, utc};
@@ -55,7 +55,8 @@ pub trait CivilDate: Sized + Drop {
     fn from_parts(year: i128, month: u8, day: u8) -> Result<Self, TimeError>
         ensures found { IfOk result (λ date. value date ≡ day_value year month day) }
         ensures lawful { IfOk result (λ date. is_date year month day ≡ true) }
-        ensures refused { (result ≡ Err InvalidDate) ↔ (is_date year month day ≡ false) };
+        ensures refused { (result ≡ Err InvalidDate) ↔ (is_date year month day ≡ false) }
+        ensures accepted { IsOk result ↔ (is_date year month day ≡ true) };
 
     /// The year, the month and the day of the month, which are a day of the calendar.
     fn to_parts(&self) -> (i16, u8, u8)

@@ -1,6 +1,6 @@
 //! DATE (X.680 38.4).
 
-ghost use Rattle.std.specs.Prelude.{◌≡◌, ◌↔◌, Err, false, true, IfOk, OnOk};
+ghost use Rattle.std.specs.Prelude.{◌≡◌, ◌↔◌, Err, false, true, IfOk, IsOk, OnOk};
 ghost use Rattle.rasn_types.specs.Contents.{is_date};
 ghost use Rattle.rasn_times.specs.Dates.{IsDay};
 ghost use Rattle.rasn_times.specs.declared.error.TimeError.TheVariants.{InvalidDate};
@@ -14,6 +14,7 @@ pub fn date_from_parts(year: i128, month: u8, day: u8) -> Result<Date, TimeError
     ensures day { IfOk result (IsDay year month day) }
     ensures lawful { OnOk result (is_date year month day ≡ true) }
     ensures refused { (result ≡ Err InvalidDate) ↔ (is_date year month day ≡ false) }
+    ensures accepted { IsOk result ↔ (is_date year month day ≡ true) }
 {
     match (i16::try_from(year), i8::try_from(month), i8::try_from(day)) {
         (Ok(year), Ok(month), Ok(day)) => match Date::new(year, month, day) {
