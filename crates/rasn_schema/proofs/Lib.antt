@@ -3,3 +3,4 @@ pub mod Places
 pub mod Both
 pub mod Sorting
 pub mod TagOrder
+pub mod TreeTags

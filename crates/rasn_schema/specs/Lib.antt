@@ -15,3 +15,4 @@ pub mod Schemas
 pub mod TagCodes
 pub mod Tags
 pub mod Extensions
+pub mod TreeTags

@@ -97,7 +97,7 @@ fn index_in(list: &[Variant], tag: Tag) -> Option<usize>
 }
 
 /// Whether two tags are the same.
-fn is_same_tag(tag: Tag, other: Tag) -> bool
+pub(crate) fn is_same_tag(tag: Tag, other: Tag) -> bool
     ensures { result ≡ same_tag (tag_of tag) (tag_of other) }
 {
     tag.class as u8 == other.class as u8 && tag.value == other.value

@@ -16,6 +16,7 @@ pub mod octets;
 pub mod plain;
 pub mod schema;
 pub mod strings;
+mod trees;
 
 pub use rasn_constraints::{constraints, limits};
 pub use rasn_types::types;
