@@ -92,7 +92,7 @@ impl<'a, H: Encode> EncodeAddition for &'a H {
         tag: Tag,
         constraints: &Constraints,
     ) -> Result<(), E::Error> {
-        encoder.encode_extension_addition(tag, constraints, Some(*self))
+        encoder.encode_extension_addition(tag, constraints, Some(*self), H::IDENTIFIER)
     }
 }
 
@@ -112,7 +112,9 @@ impl<'a, H: Encode> EncodeAddition for Optional<&'a Option<H>> {
         constraints: &Constraints,
     ) -> Result<(), E::Error> {
         match self.0 {
-            Some(value) => encoder.encode_extension_addition(tag, constraints, Some(value)),
+            Some(value) => {
+                encoder.encode_extension_addition(tag, constraints, Some(value), H::IDENTIFIER)
+            }
             None => encoder.skip_addition(),
         }
     }
@@ -136,7 +138,7 @@ impl<'a, H: Encode + Defaulted> EncodeAddition for Default<&'a H, H> {
         if self.value.is_default(&self.default) {
             return encoder.skip_addition();
         }
-        encoder.encode_extension_addition(tag, constraints, Some(self.value))
+        encoder.encode_extension_addition(tag, constraints, Some(self.value), H::IDENTIFIER)
     }
 }
 
@@ -156,7 +158,7 @@ impl<'a, H: Encode + AdditionGroup> EncodeAddition for Group<&'a Option<H>> {
         _constraints: &Constraints,
     ) -> Result<(), E::Error> {
         match self.0 {
-            Some(value) => encoder.encode_extension_addition_group(Some(value)),
+            Some(value) => encoder.encode_extension_addition_group(Some(value), H::IDENTIFIER),
             None => encoder.skip_addition(),
         }
     }

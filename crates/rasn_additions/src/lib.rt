@@ -20,14 +20,15 @@ use rasn_types::types::{Identifier, Tag};
 /// What every encoder gives of additions, in the scope of their SEQUENCE and behind its root components, one call for
 /// each addition of the type, in the order of `EXTENDED_FIELDS`.
 pub trait ExtensionEncoder: Encoder {
-    /// Gives the next addition (X.691 19.7 to 19.9): its value in an open type, under a tag and constraints; or `None`,
-    /// where it is absent, or at its default. One that is required is always there. One addition more than the type has
-    /// is refused.
+    /// Gives the next addition (X.691 19.7 to 19.9): its value in an open type, under a tag, constraints and a name; or
+    /// `None`, where it is absent, or at its default. One that is required is always there. One addition more than the
+    /// type has is refused.
     final fn encode_extension_addition<T: Encode>(
         &mut self,
         tag: Tag,
         constraints: &Constraints,
         value: Option<&T>,
+        identifier: Identifier,
     ) -> Result<(), Self::Error>
         ensures { GivesAddition Self.rules (T.schema constraints.now) (λ x. T.levels x.now) (λ x. T.value x.now)
             value.entry self.old result self.new }
@@ -36,15 +37,16 @@ pub trait ExtensionEncoder: Encoder {
             return self.skip_addition();
         };
         let outside = self.open_addition()?;
-        value.encode_with_tag_and_constraints(self, tag, constraints, Identifier::EMPTY)?;
+        value.encode_with_tag_and_constraints(self, tag, constraints, identifier)?;
         self.close_addition(outside)
     }
 
-    /// Gives the next addition, which is a group of additions (X.691 19.9): a SEQUENCE in an open type; or nothing,
-    /// where it is `None`, or holds nothing.
+    /// Gives the next addition, which is a group of additions (X.691 19.9): a SEQUENCE in an open type, under a name; or
+    /// nothing, where it is `None`, or holds nothing.
     final fn encode_extension_addition_group<T: Encode + AdditionGroup>(
         &mut self,
         value: Option<&T>,
+        identifier: Identifier,
     ) -> Result<(), Self::Error>
         ensures { GivesGroup Self.rules (T.schema T.CONSTRAINTS) (λ x. T.levels x.now) (λ x. T.value x.now)
             value.entry self.old result self.new }
@@ -53,7 +55,7 @@ pub trait ExtensionEncoder: Encoder {
             return self.skip_addition();
         };
         let outside = self.open_addition()?;
-        group.encode(self)?;
+        group.encode_with_tag_and_constraints(self, T::TAG, &T::CONSTRAINTS, identifier)?;
         self.close_group::<T>(outside)
     }
 }

@@ -13,7 +13,9 @@ use std::test::Fail;
 /// Writes these additions.
 fn put_each<E: AnyEncoder>(encoder: &mut E, additions: &[Option<bool>]) -> Result<(), E::Error> {
     for addition in additions {
-        encoder.encode_extension_addition(Tag::BOOL, &Constraints::NONE, addition.as_ref())?;
+        let value = addition.as_ref();
+        let name = Identifier::EMPTY;
+        encoder.encode_extension_addition(Tag::BOOL, &Constraints::NONE, value, name)?;
     }
     Ok(())
 }

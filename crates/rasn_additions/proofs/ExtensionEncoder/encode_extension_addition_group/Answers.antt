@@ -11,14 +11,15 @@ returns-in_err-outside g c =
       behaves = search rules;
     }
 
-pub returns-in_err-encode : goal.returns-in_err-encode
-returns-in_err-encode g c =
-    let p = err_from_is_err_and c.from_residual-in_err-encode.result c.from_residual-in_err-encode.ensures.1 in
+pub returns-in_err-encode_with_tag_and_constraints : goal.returns-in_err-encode_with_tag_and_constraints
+returns-in_err-encode_with_tag_and_constraints g c =
+    let p = err_from_is_err_and c.from_residual-in_err-encode_with_tag_and_constraints.result c.from_residual-in_err-encode_with_tag_and_constraints.ensures.1 in
     let o = c.in_ok-outside.ensures.law in
+    let w = rw c.CONSTRAINTS.ensures at c.in_err-encode_with_tag_and_constraints.ensures.law in
     record {
       law = rw (c.in-Some.is, p.1, p.2) (record {
-        at = λ n le. group_refused g.Self.Encoder.rules g.met.Self.Encoder.lawful _ _ c.args.self.now c.open_addition.new.self c.encode.new.encoder c.encode.new.encoder _
-            (record_is_group g.T.Constructed.parts g.T.Constructed.IS_EXTENSIBLE g.T.Constructed.additions (g.met.T.AdditionGroup.is_sequence g.T.AsnType.CONSTRAINTS) n) o.1 (c.in_err-encode.ensures.law.at n le);
+        at = λ n le. group_refused g.Self.Encoder.rules g.met.Self.Encoder.lawful _ _ c.args.self.now c.open_addition.new.self c.encode_with_tag_and_constraints.new.encoder c.encode_with_tag_and_constraints.new.encoder _
+            (record_is_group g.T.Constructed.parts g.T.Constructed.IS_EXTENSIBLE g.T.Constructed.additions (g.met.T.AdditionGroup.is_sequence g.T.AsnType.CONSTRAINTS) n) o.1 (w.at n le);
       });
       behaves = search rules;
     }
@@ -26,7 +27,8 @@ returns-in_err-encode g c =
 pub returns : goal.returns
 returns g c =
     let o = c.in_ok-outside.ensures.law in
+    let w = rw c.CONSTRAINTS.ensures at c.in_ok-encode_with_tag_and_constraints.ensures.law in
     record {
-      law = rw c.in-Some.is (record { at = λ n le. group_closed g.Self.Encoder.rules g.met.Self.Encoder.lawful _ _ _ _ _ (c.close_group.ensures.law c.args.self.now c.open_addition.new.self n _ o.0 (c.in_ok-encode.ensures.law.at n le)) });
+      law = rw c.in-Some.is (record { at = λ n le. group_closed g.Self.Encoder.rules g.met.Self.Encoder.lawful _ _ _ _ _ (c.close_group.ensures.law c.args.self.now c.open_addition.new.self n _ o.0 (w.at n le)) });
       behaves = search rules;
     }
