@@ -92,7 +92,7 @@ impl<'a, H: Encode> EncodeAddition for &'a H {
         tag: Tag,
         constraints: &Constraints,
     ) -> Result<(), E::Error> {
-        encoder.encode_extension_addition(tag, constraints, Some(*self), H::IDENTIFIER)
+        encoder.encode_extension_addition(tag, constraints, *self, H::IDENTIFIER)
     }
 }
 
@@ -113,7 +113,7 @@ impl<'a, H: Encode> EncodeAddition for Optional<&'a Option<H>> {
     ) -> Result<(), E::Error> {
         match self.0 {
             Some(value) => {
-                encoder.encode_extension_addition(tag, constraints, Some(value), H::IDENTIFIER)
+                encoder.encode_extension_addition(tag, constraints, value, H::IDENTIFIER)
             }
             None => encoder.skip_addition(),
         }
@@ -138,7 +138,7 @@ impl<'a, H: Encode + Defaulted> EncodeAddition for Default<&'a H, H> {
         if self.value.is_default(&self.default) {
             return encoder.skip_addition();
         }
-        encoder.encode_extension_addition(tag, constraints, Some(self.value), H::IDENTIFIER)
+        encoder.encode_extension_addition(tag, constraints, self.value, H::IDENTIFIER)
     }
 }
 

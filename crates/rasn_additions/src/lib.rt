@@ -3,6 +3,7 @@
 //! author's list.
 #![tactic(auto)]
 
+ghost use Rattle.std.specs.Prelude.{◌≡◌, Option, Some, option_map};
 ghost use Rattle.rasn_calls.specs.Additions.{GivesAddition, GivesGroup};
 ghost use Rattle.rasn_calls.specs.AdditionsRead.{TakesAddition};
 ghost use Rattle.rasn_calls.specs.Presences.{slot_of};
@@ -17,23 +18,58 @@ use rasn_schema::fields::AdditionGroup;
 use rasn_schema::schema::Constraints;
 use rasn_types::types::{Identifier, Tag};
 
+/// What is given of an addition: a value, or an `Option` of one, by reference.
+pub trait AdditionValue: Copy {
+    /// The type of the addition.
+    type Of: Encode;
+
+    // The value, where there is one.
+    ghost there: { Self → Option Self.Of };
+
+    /// The value, where there is one.
+    fn value_there(&self) -> Option<&Self::Of>
+        ensures { option_map (λ x. x.now) result ≡ there self.now };
+}
+
+/// A value is there.
+impl<'a, T: Encode> AdditionValue for &'a T {
+    type Of = T;
+
+    ghost there = { λ x. Some x.now };
+
+    fn value_there(&self) -> Option<&T> {
+        Some(*self)
+    }
+}
+
+/// A value is there where the `Option` is `Some`.
+impl<'a, T: Encode> AdditionValue for Option<&'a T> {
+    type Of = T;
+
+    ghost there = { option_map (λ x. x.now) };
+
+    fn value_there(&self) -> Option<&T> {
+        *self
+    }
+}
+
 /// What every encoder gives of additions, in the scope of their SEQUENCE and behind its root components, one call for
 /// each addition of the type, in the order of `EXTENDED_FIELDS`.
 pub trait ExtensionEncoder: Encoder {
     /// Gives the next addition (X.691 19.7 to 19.9): its value in an open type, under a tag, constraints and a name; or
-    /// `None`, where it is absent, or at its default. One that is required is always there. One addition more than the
-    /// type has is refused.
-    final fn encode_extension_addition<T: Encode>(
+    /// that it is `None`, where it is absent, or at its default. One that is required is always there. One addition more
+    /// than the type has is refused.
+    final fn encode_extension_addition<V: AdditionValue>(
         &mut self,
         tag: Tag,
         constraints: &Constraints,
-        value: Option<&T>,
+        value: V,
         identifier: Identifier,
     ) -> Result<(), Self::Error>
-        ensures { GivesAddition Self.rules (T.schema constraints.now) (λ x. T.levels x.now) (λ x. T.value x.now)
-            value.entry self.old result self.new }
+        ensures { GivesAddition Self.rules (V.Of.schema constraints.now) V.Of.levels V.Of.value
+            (V.there value) self.old result self.new }
     {
-        let Some(value) = value else {
+        let Some(value) = value.value_there() else {
             return self.skip_addition();
         };
         let outside = self.open_addition()?;

@@ -1,6 +1,6 @@
 //! The traits of values that are encoded and decoded, and those of encoders and decoders.
 
-pub use rasn_additions::{ExtensionDecoder, ExtensionEncoder};
+pub use rasn_additions::{AdditionValue, ExtensionDecoder, ExtensionEncoder};
 pub use rasn_calls::parts::{DecodeAdditions, EncodeAdditions};
 pub use rasn_codec::boxed::boxed;
 pub use rasn_codec::codec::{

@@ -13,9 +13,8 @@ use std::test::Fail;
 /// Writes these additions.
 fn put_each<E: AnyEncoder>(encoder: &mut E, additions: &[Option<bool>]) -> Result<(), E::Error> {
     for addition in additions {
-        let value = addition.as_ref();
         let name = Identifier::EMPTY;
-        encoder.encode_extension_addition(Tag::BOOL, &Constraints::NONE, value, name)?;
+        encoder.encode_extension_addition(Tag::BOOL, &Constraints::NONE, addition.as_ref(), name)?;
     }
     Ok(())
 }
