@@ -4,3 +4,4 @@ pub mod Reading
 pub mod SetsRead
 pub mod SetsWritten
 pub mod Writing
+pub mod Ended

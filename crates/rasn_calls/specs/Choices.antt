@@ -11,7 +11,7 @@ use Rattle.rasn_schema.specs.Components.{Chosen}
 use Rattle.rasn_schema.specs.Fields.{tag_of}
 use Rattle.rasn_schema.specs.Normal.{normal}
 use Rattle.rasn_calls.specs.Calls.{AtDepths, Behaves, EncoderRules, Encodes, Written, DecoderRules, Refuses, Answers}
-use Rattle.rasn_calls.specs.Scopes.{KeepsCodec}
+use Rattle.rasn_calls.specs.Scopes.{Ends, KeepsCodec}
 
 -- a fact on the schema of the alternative at a place, at each unfolding that is deep enough for a value of so many levels
 pub record AtAlternative (choice : ℕ → Schema) (d : Side) (k depth : ℕ) (P : Schema → Type 0) : Type 0 where
@@ -63,6 +63,7 @@ pub record WritesChoice {E X : Type 0} (rules : EncoderRules E X) (choice : ℕ 
   pub law : (d : Side) (k : ℕ) (v : Value) (depth : ℕ) → WritesAlternative rules choice vs xs d k v depth returns
       → AtDepths (one_level_in choice) (suc depth) (λ s. Written rules s (normal s (alternative d k v)) x result y)
   pub unknown : ChoosesNone vs xs returns → IsErr result
+  pub swallowed : Ends rules.already rules.failed returns result
   pub again : rules.failed x ≡ true → IsErrAnd result (λ e. rules.already e x)
   pub fails : OnErr result (rules.failed y ≡ true)
   pub kept : KeepsCodec rules.codec returns → rules.codec y ≡ rules.codec x

@@ -1,5 +1,5 @@
 -- What stands in a scope, component after component, and what opening and closing one owe, stated over any codec's relations.
-use Rattle.std.specs.Prelude.{◌≡◌, ℕ, zero, suc, max, ◌≤◌, ◌⊎◌, Bool, true, false, Result, Ok, Err, OnErr, IsErrAnd, List, [], ◌∷◌, Option, Some}
+use Rattle.std.specs.Prelude.{◌≡◌, ℕ, zero, suc, max, ◌≤◌, ◌⊎◌, Bool, true, false, Result, Ok, Err, OnErr, IsErr, IsErrAnd, List, [], ◌∷◌, Option, Some}
 use Rattle.rasn_types.specs.Values.{Value}
 use Rattle.rasn_schema.specs.Schemas.{TagTree, Presence, required, listed, Schema, Parts, no_parts, part}
 use Rattle.rasn_schema.specs.Normal.{normal, normals}
@@ -98,6 +98,16 @@ pub record ClosesWritten {E X O : Type 0} (rules : EncoderRules E X) (opens : Sc
 pub record KeepsCodec {X R C : Type 0} (codec : X → C) (returns : X → R → X → Type 0) : Type 0 where
   pub stays : (x : X) (r : R) (y : X) → returns x r y → codec y ≡ codec x
 
+-- How a call answers that is around a function which is lent a codec, so that it swallows no refusal: an error, where
+-- the function wasn't called; the function's own error, where it answered one; and where it answered Ok and left the
+-- codec failed, an error that says so.
+pub data Ends {E X T A : Type 0} (already : E → X → Type 0) (failed : X → Bool) (returns : X → Result T E → X → Type 0)
+    (result : Result A E) : Type 0 where
+  ends_before : IsErr result → Ends already failed returns result
+  ends_refused : {i j : X} {e : E} → returns i (Err e) j → result ≡ Err e → Ends already failed returns result
+  ends_left : {i j : X} {t : T} → returns i (Ok t) j → (failed j ≡ true → IsErrAnd result (λ e. already e j))
+      → Ends already failed returns result
+
 -- the levels of root components and of additions, of which there may be none
 abbrev pub deeper_of : ℕ → ℕ → ℕ
 deeper_of k zero = k
@@ -112,6 +122,7 @@ pub record WritesScope {E X : Type 0} (rules : EncoderRules E X) (parts addition
 pub record WritesAround {E X : Type 0} (rules : EncoderRules E X) (parts : ℕ → Parts) (marker : Bool) (additions : ℕ → Parts) (returns : X → Result (Unit {0}) E → X → Type 0) (x : X) (result : Result (Unit {0}) E) (y : X) : Type 0 where
   pub law : (rs xs : List (Option Value)) (k : ℕ) → WritesScope rules parts additions rs xs k returns
       → AtDepths (record_at listed parts marker additions) (suc k) (λ s. Written rules s (normal s (record_value rs xs)) x result y)
+  pub swallowed : Ends rules.already rules.failed returns result
   pub again : rules.failed x ≡ true → IsErrAnd result (λ e. rules.already e x)
   pub fails : OnErr result (rules.failed y ≡ true)
   pub kept : KeepsCodec rules.codec returns → rules.codec y ≡ rules.codec x
@@ -203,6 +214,7 @@ pub record ReadsAround {E S T : Type 0} (rules : DecoderRules E S) (parts : ℕ 
   pub law : ReadsScope rules parts additions contents added (rules.levels s) returns
       → (let c = record_at listed parts marker additions (rules.levels s) in
       Answers rules.memory (rules.fault c) (rules.spells c) (λ x. record_value (contents x) (added x)) s result t)
+  pub swallowed : Ends rules.already rules.failed returns result
   pub again : rules.failed s ≡ true → IsErrAnd result (λ e. rules.already e s)
   pub fails : OnErr result (rules.failed t ≡ true)
   pub kept : KeepsCodec rules.codec returns → rules.codec t ≡ rules.codec s

@@ -7,7 +7,7 @@ use Rattle.rasn_schema.specs.Normal.{normal}
 use Rattle.rasn_schema.specs.Records.{record_at, record_value}
 use Rattle.rasn_schema.specs.Schemas.{by_tag, count, listed, Parts, Schema}
 use Rattle.rasn_calls.specs.Calls.{Answers, AtDepths, DecoderRules, EncoderRules, Written}
-use Rattle.rasn_calls.specs.Scopes.{KeepsCodec, ReadsScope, WritesScope}
+use Rattle.rasn_calls.specs.Scopes.{Ends, KeepsCodec, ReadsScope, WritesScope}
 
 -- What components are, as they are listed and in ascending order of their smallest tags.
 pub record InTagOrder (parts : ℕ → Parts) (rs cs : List (Option Value)) : Type 0 where
@@ -29,6 +29,7 @@ pub record SetsWritten {E X : Type 0} (rules : EncoderRules E X) : Type 0 where
 pub record WritesSet {E X : Type 0} (rules : EncoderRules E X) (parts : ℕ → Parts) (marker : Bool) (additions : ℕ → Parts) (returns : X → Result (Unit {0}) E → X → Type 0) (x : X) (result : Result (Unit {0}) E) (y : X) : Type 0 where
   pub law : (rs cs xs : List (Option Value)) (k : ℕ) → InTagOrder parts rs cs → WritesScope rules (canonised_at parts) additions cs xs k returns
       → AtDepths (record_at by_tag parts marker additions) (suc k) (λ s. Written rules s (normal s (record_value rs xs)) x result y)
+  pub swallowed : Ends rules.already rules.failed returns result
   pub again : rules.failed x ≡ true → IsErrAnd result (λ e. rules.already e x)
   pub fails : OnErr result (rules.failed y ≡ true)
   pub kept : KeepsCodec rules.codec returns → rules.codec y ≡ rules.codec x
@@ -51,6 +52,7 @@ pub record ReadsSet {E S T : Type 0} (rules : DecoderRules E S) (parts : ℕ →
       → ReadsScope rules (canonised_at parts) additions in_order added (rules.levels s) returns
       → (let c = record_at by_tag parts marker additions (rules.levels s) in
       Answers rules.memory (rules.fault c) (rules.spells c) (λ x. record_value (contents x) (added x)) s result t)
+  pub swallowed : Ends rules.already rules.failed returns result
   pub again : rules.failed s ≡ true → IsErrAnd result (λ e. rules.already e s)
   pub fails : OnErr result (rules.failed t ≡ true)
   pub kept : KeepsCodec rules.codec returns → rules.codec t ≡ rules.codec s

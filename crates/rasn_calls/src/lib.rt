@@ -3,4 +3,5 @@
 
 pub mod decoder;
 pub mod encoder;
+pub mod laws;
 pub mod parts;

@@ -3,3 +3,4 @@ pub mod Read
 pub mod Loops
 pub mod Made
 pub mod Callers
+pub mod Ends

@@ -1,6 +1,6 @@
 -- How a SET is read by a function for each component and one that makes the SET of what the first answered, stated over any decoder's
 -- relations (ITU-T X.691, 21).
-use Rattle.std.specs.Prelude.{◌≡◌, ℕ, suc, ◌+◌, ◌⊎◌, true, Bool, Result, Ok, Err, OnErr, IsErrAnd, List, [], ◌∷◌, ◌++◌, length, map, Option, Some}
+use Rattle.std.specs.Prelude.{◌≡◌, ℕ, suc, ◌+◌, ◌⊎◌, true, false, Bool, Result, Ok, Err, OnErr, IfOk, IsErrAnd, List, [], ◌∷◌, ◌++◌, length, map, Option, Some}
 use Rattle.std.specs.Fn.{Once, Shared}
 use denote.Ref.{MutBor}
 use Rattle.rasn_types.specs.Values.{Value}
@@ -74,6 +74,19 @@ pub record MakesSet {E S I T : Type 0} (rules : DecoderRules E S) (fields behind
   pub makes : (xs ys : List I) (rs : List (Option Value)) (r : Result T E) → Gathers place slot (in_tag_order fields) (canonised ps) xs rs
       → map place ys ≡ map (λ (f : Shape). length fields + f.index) behind → gives (xs ++ ys) r → IsMade rules ps contents added rs (map slot ys) r
 
+-- Items in the order in which a function gave them, which left the decoder unfailed when it gave the last of them.
+pub data EndsUnfailed {S I E : Type 0} (failed : S → Bool) (gives : S → ℕ → Tag → Result I E → S → Type 0)
+    : List I → Type 0 where
+  none_given : EndsUnfailed failed gives []
+  last_given : (xs : List I) {x : I} {s t : S} {i : ℕ} {tag : Tag} → gives s i tag (Ok x) t → failed t ≡ false
+      → EndsUnfailed failed gives (xs ++ x ∷ [])
+
+-- A SET is answered as it was made of items that a function gave; so no refusal of the decoder is swallowed which that
+-- function met and didn't answer.
+abbrev pub MadeUnfailed : {S I T E : Type 0} → (S → Bool) → (S → ℕ → Tag → Result I E → S → Type 0)
+    → (List I → Result T E → Type 0) → T → Type 0
+MadeUnfailed {I = I} failed gives makes v = (xs : List I) × makes xs (Ok v) × EndsUnfailed failed gives xs
+
 -- A call that reads a SET by a function that reads each component and one that makes the SET of what it answered.
 pub record ReadsSetEach {E S I T : Type 0} (rules : DecoderRules E S) (fields behind : List Shape) (parts : ℕ → Parts) (marker : Bool) (additions : ℕ → Parts) (contents added : T → List (Option Value)) (gives : S → ℕ → Tag → Result I E → S → Type 0) (makes : List I → Result T E → Type 0) (s : S) (result : Result T E) (t : S) : Type 0 where
   pub law : (place : I → ℕ) (slot : I → Option Value)
@@ -81,6 +94,7 @@ pub record ReadsSetEach {E S I T : Type 0} (rules : DecoderRules E S) (fields be
       → ((n : ℕ) → rules.levels s ≡ suc n → MakesSet rules fields behind (parts n) contents added place slot makes)
       → (let c = record_at by_tag parts marker additions (rules.levels s) in
       Answers rules.memory (rules.fault c) (rules.spells c) (λ x. record_value (contents x) (added x)) s result t)
+  pub swallowed : IfOk result (MadeUnfailed rules.failed gives makes)
   pub again : rules.failed s ≡ true → IsErrAnd result (λ e. rules.already e s)
   pub fails : OnErr result (rules.failed t ≡ true)
   pub kept : KeepsEach rules gives → rules.codec t ≡ rules.codec s

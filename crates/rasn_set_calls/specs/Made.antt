@@ -1,5 +1,5 @@
 -- What calls answer that read all items of a SET.
-use Rattle.std.specs.Prelude.{◌≡◌, ℕ, ◌+◌, ◌⊎◌, Result, Ok, Err, List, ◌++◌, length, map, Option}
+use Rattle.std.specs.Prelude.{◌≡◌, ℕ, ◌+◌, ◌⊎◌, false, Result, Ok, Err, IfOk, List, ◌++◌, length, map, Option}
 use Rattle.rasn_types.specs.Values.{Value}
 use Rattle.rasn_types.specs.declared.types.Tag.{Tag}
 use Rattle.rasn_schema.specs.Canonised.{canonised, canonised_slots}
@@ -8,7 +8,7 @@ use Rattle.rasn_schema.specs.declared.fields.Field.{Field}
 use Rattle.rasn_schema.specs.Schemas.{Parts}
 use Rattle.rasn_calls.specs.Calls.{DecoderRules}
 use Rattle.rasn_calls.specs.Scopes.{AnswersFields, ReadsFields, ReadsNoFields}
-use Rattle.rasn_set_calls.specs.Components.{Gathers, KeepsEach, MakesSet, ReadsEach}
+use Rattle.rasn_set_calls.specs.Components.{EndsUnfailed, Gathers, KeepsEach, MadeUnfailed, MakesSet, ReadsEach}
 use Rattle.rasn_set_calls.specs.Turns.{FailsBehind, FailsRoot, ReadsBehind, ReadsRoot}
 
 -- Ok reads the root components in an order, and Err, memory aside, comes only where one isn't read.
@@ -47,6 +47,7 @@ listing items (Err e) = Err e
 pub record TakesItems {E S I : Type 0} (rules : DecoderRules E S) (fields behind : List Shape) (gives : S → ℕ → Tag → Result I E → S → Type 0) (s : S) (result : Result (List I) E) (t : S) : Type 0 where
   pub law : (ps qs : Parts) (place : I → ℕ) (slot : I → Option Value) → fields ≡ shapes_from 0 ps → behind ≡ shapes_from 0 qs
       → ReadsEach rules ps qs (length fields) place slot (rules.levels s) gives → ItemsAnswered rules fields behind ps qs place slot s result t
+  pub ended : IfOk result (λ xs. rules.failed t ≡ false → EndsUnfailed rules.failed gives xs)
   pub kept : KeepsEach rules gives → rules.codec t ≡ rules.codec s
 
 -- A call that reads the items of a SET, and makes it of them.
@@ -54,4 +55,5 @@ pub record TakesSet {E S I T : Type 0} (rules : DecoderRules E S) (fields behind
   pub law : (ps qs : Parts) (place : I → ℕ) (slot : I → Option Value) → fields ≡ shapes_from 0 ps → behind ≡ shapes_from 0 qs
       → ReadsEach rules ps qs (length fields) place slot (rules.levels s) gives → MakesSet rules fields behind ps contents added place slot makes
       → AnswersFields rules (canonised ps) qs (λ x. canonised_slots ps (contents x)) added s result t
+  pub ended : IfOk result (λ v. rules.failed t ≡ false → MadeUnfailed rules.failed gives makes v)
   pub kept : KeepsEach rules gives → rules.codec t ≡ rules.codec s
