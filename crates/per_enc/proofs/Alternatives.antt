@@ -1,6 +1,6 @@
 -- What the scope of a choice presents, and how it refuses.
 use Rattle.std.specs.Prelude.{Result, Ok, Err}
-use Rattle.std.proofs.Common.{◌≡◌, refl, sym, ap, ap₂, ◌∙◌, subst, inl, ℕ, zero, suc, Bool, true, false, List, [], ◌∷◌, ◌++◌, length, replicate, Option, Some, None, arith, append_assoc, length-append, ◌+◌, ◌%◌, ◌<◌, ◌≤◌}
+use Rattle.std.proofs.Common.{◌≡◌, refl, sym, ap, ap₂, ◌∙◌, subst, inl, ℕ, zero, suc, Bool, true, false, List, [], ◌∷◌, ◌++◌, length, replicate, Option, Some, None, arith, append_assoc, length-append, ◌+◌, ◌<◌, ◌≤◌}
 use Rattle.std.proofs.lemmas.List.{append_cancel_left, length-replicate}
 use Rattle.rasn_types.specs.Bits.{Bits, to_bits}
 use Rattle.rasn_types.proofs.Bits.{length-to_bits}
