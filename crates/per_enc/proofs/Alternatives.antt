@@ -1,6 +1,6 @@
 -- What the scope of a choice presents, and how it refuses.
 use Rattle.std.specs.Prelude.{Result, Ok, Err}
-use Rattle.std.proofs.Common.{◌≡◌, refl, sym, ap, ap₂, ◌∙◌, subst, inl, ℕ, zero, suc, Bool, true, false, List, [], ◌∷◌, ◌++◌, length, replicate, Option, Some, None, arith, append_assoc, length-append, ◌+◌, ◌%◌, ◌<◌, ◌≤◌}
+use Rattle.std.proofs.Common.{◌≡◌, refl, sym, ap, ap₂, ◌∙◌, subst, inl, ℕ, zero, suc, Bool, true, false, List, [], ◌∷◌, ◌++◌, length, replicate, Option, Some, None, arith, append_assoc, length-append, ◌+◌, ◌<◌, ◌≤◌}
 use Rattle.std.proofs.lemmas.List.{append_cancel_left, length-replicate}
 use Rattle.rasn_types.specs.Bits.{Bits, to_bits}
 use Rattle.rasn_types.proofs.Bits.{length-to_bits}
@@ -28,7 +28,7 @@ use Rattle.per_write.specs.declared.error.EncodeErrorKind.{EncodeErrorKind}
 use Rattle.per_write.specs.declared.error.EncodeErrorKind.TheVariants.{SizeConstraintNotSatisfied, ValueConstraintNotSatisfied, AlphabetConstraintNotSatisfied, IntegerTypeConversionFailed, VariantNotInChoice, RealNotSupported, TooManyAdditions, Below, AlreadyFailed, OutOfMemory, OutOfTurn}
 use Rattle.per_write.specs.Faults.{IsMemory, in_alternative, RefusesValue, Stands}
 use Rattle.per_write.specs.Rules.{encoder_rules}
-use Rattle.per_write.specs.State.{Puts, Scope, State, Presents, Wrote, no_scope, view}
+use Rattle.per_write.specs.State.{Puts, Scope, State, Presents, Wrote, empty_scope, view}
 use Rattle.per_write.proofs.Indexes.{joined}
 use Rattle.per_write_types.proofs.Placing.{index_placed, then_within}
 use Rattle.per_write.proofs.Writing.{wrote_same, wrote_then}
@@ -255,7 +255,7 @@ placed_at added k = Added k
 -- what was written without a place is the alternative, from each position within an octet
 contents : (x i j : State) (o : OpenChoice) (s : Schema) (v : Value) → OpensFloating x o i → Presents i s v j → (q : ℕ) → q < 8 → view j q ≡ canon (variant_of x.codec) s v q
 contents x i j o s v h w q l =
-    let u : Presents (record x { pieces = floating; scope = no_scope }) s v j = subst (λ (z : State). Presents z s v j) h.same w in
+    let u : Presents (record x { pieces = floating; scope = empty_scope true }) s v j = subst (λ (z : State). Presents z s v j) h.same w in
     u.appended.written q (λ e. absurd (let t : false ≡ true = e in cc)) ∙ from_start (canon (variant_of x.codec) s v) q l
 
 -- X.691 23.5 to 23.8: put behind the index it is the choice

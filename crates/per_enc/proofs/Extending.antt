@@ -54,7 +54,7 @@ record GivenOne (x y : State) (codec : Codec) (q : Presence) (s : Schema) (r : O
   is_shown : shown q r ≡ Some bit
 
 gathering_next : (x y : State) (codec : Codec) (k before : Additions) (n : ℕ) (b : Bool) (opens : Bits) → Gathering x codec k (suc n) → x.scope.additions ≡ Some before →
-    y ≡ record x { scope = record { presences = x.scope.presences; additions = Some (with_next before b opens) } } → Gathering y codec (with_next k b opens) n
+    y ≡ record x { scope = record x.scope { additions = Some (with_next before b opens) } } → Gathering y codec (with_next k b opens) n
 gathering_next x y codec k before n b opens h a e = record {
   unfailed = ap (λ z. z.failed) e ∙ h.unfailed;
   same = ap (λ z. z.codec) e ∙ h.same;
@@ -86,7 +86,7 @@ given_one x y codec q s r k n h (presents_skipped e w) =
       pieces = ap (λ z. z.pieces) w.same;
       presences = ap (λ z. z.scope.presences) w.same;
       gathering = gathering_next x y codec k w.before n false k.opens h w.awaits.some
-          (w.same ∙ ap (λ (bs : Bits). record x { scope = record { presences = x.scope.presences; additions = Some (with_next w.before false bs) } }) (ap (λ (j : Additions). j.opens) same_before));
+          (w.same ∙ ap (λ (bs : Bits). record x { scope = record x.scope { additions = Some (with_next w.before false bs) } }) (ap (λ (j : Additions). j.opens) same_before));
       gathers = λ ms ss l g. gathers_absent (variant_of codec) _ ms r ss k l (addition_shown q r false e) g;
       bit = false;
       is_shown = addition_shown q r false e;

@@ -19,7 +19,7 @@ use Rattle.per_write.specs.declared.error.EncodeError.{EncodeError}
 use Rattle.per_write.specs.declared.presences.Presences.{Presences}
 use Rattle.per_write.specs.Additions.{ClosesOrNot, has_required, is_group_there, open_if, Opens, OpensOrNot, Outside, SkipsOrNot, with_next}
 use Rattle.per_write.specs.Rules.{encoder_rules}
-use Rattle.per_write.specs.State.{Additions, AppendsBits, State, Presents}
+use Rattle.per_write.specs.State.{Additions, AppendsBits, Scope, State, Presents}
 use Rattle.per_write.proofs.Vacant.{group_there}
 use Rattle.per_enc.specs.Opens.{part_count}
 use Rattle.per_enc.proofs.Presenting.{presents_first}
@@ -40,15 +40,17 @@ contents_of : (x i j : State) (o : Outside) (s : Schema) (v : Value) → Opens x
 contents_of x i j o s v h w = ap (λ (c : Codec). canon (variant_of c) s v 0) (sym (ap (λ z. z.codec) h.same)) ∙ sym (presents_first i j s v (ap (λ z. z.pieces) h.same) w)
 
 -- what was before is there again, but for the additions
-restored : (x i j y : State) (o : Outside) (s : Schema) (v : Value) (k : Additions) → Opens x o i → Presents i s v j → y ≡ record j { pieces = o.pieces; scope = record { presences = o.presences; additions = Some k } } →
-    y ≡ record x { scope = record { presences = x.scope.presences; additions = Some k } }
+restored : (x i j y : State) (o : Outside) (s : Schema) (v : Value) (k : Additions) → Opens x o i → Presents i s v j → y ≡ record j { pieces = o.pieces; scope = record { presences = o.presences; additions = Some k; is_open = j.scope.is_open } } →
+    y ≡ record x { scope = record x.scope { additions = Some k } }
 restored x i j y o s v k h w e =
     let codec : j.codec ≡ x.codec = w.same ∙ ap (λ z. z.codec) h.same in
     let failed : j.failed ≡ x.failed = w.left ∙ sym h.awaits.begun in
     let pieces : o.pieces ≡ x.pieces = ap (λ z. z.pieces) h.waits in
     let presences : o.presences ≡ x.scope.presences = ap (λ z. z.presences) h.waits in
-    e ∙ ap₂ (λ (ps : Pieces) (f : Bool). record { pieces = ps; failed = f; codec = j.codec; scope = record { presences = o.presences; additions = Some k } }) pieces failed
-    ∙ ap₂ (λ (c : Codec) (q : Presences). record { pieces = x.pieces; failed = x.failed; codec = c; scope = record { presences = q; additions = Some k } }) codec presences
+    let open_still : j.scope.is_open ≡ x.scope.is_open = ap (λ (s : Scope). s.is_open) w.beside ∙ ap (λ z. z.scope.is_open) h.same in
+    e ∙ ap₂ (λ (ps : Pieces) (f : Bool). record { pieces = ps; failed = f; codec = j.codec; scope = record { presences = o.presences; additions = Some k; is_open = j.scope.is_open } }) pieces failed
+    ∙ ap₂ (λ (c : Codec) (q : Presences). record { pieces = x.pieces; failed = x.failed; codec = c; scope = record { presences = q; additions = Some k; is_open = j.scope.is_open } }) codec presences
+    ∙ ap (λ (b : Bool). record x { scope = record { presences = x.scope.presences; additions = Some k; is_open = b } }) open_still
 
 -- the value of an addition
 pub closed : (x i j y : State) (o : Outside) (s : Schema) (v : Value) (result : Result (Unit {0}) EncodeError) → Opens x o i → Presents i s v j → ClosesOrNot true o j result y → AdditionClosed encoder_rules s (Some v) x result y
@@ -78,7 +80,7 @@ left_out x i j y o s v (Ok u) h w c =
     record {
       before = o.additions;
       awaits = h.awaits;
-      same = restored x i j y o s v (with_next o.additions false c.ok.opens) h w c.ok.same ∙ ap (λ (bs : Bits). record x { scope = record { presences = x.scope.presences; additions = Some (with_next o.additions false bs) } }) opens;
+      same = restored x i j y o s v (with_next o.additions false c.ok.opens) h w c.ok.same ∙ ap (λ (bs : Bits). record x { scope = record x.scope { additions = Some (with_next o.additions false bs) } }) opens;
     }
 left_out x i j y o s v (Err e) h w c = record { kind_is = c.err.kind_is; codec_is = c.err.codec_is ∙ w.same ∙ ap (λ z. z.codec) h.same }
 

@@ -121,12 +121,14 @@ impl<A: Allocator + Clone> Encoder<A> {
     /// The complete encoding of what was written so far (X.691 11.1), which is then taken out: the next value is
     /// written at the start again.
     ///
-    /// An error says that memory ran out, or that the encoder had failed before. The encoder has failed then.
+    /// An error says that the encoder had failed before, else `OutOfTurn`, where a SEQUENCE, a SET, a CHOICE, a list or
+    /// a bag is open, of which half a value was written, and else that memory ran out. The encoder has failed then.
     #[inline(always)]
     pub fn output(&mut self) -> Result<Vec<u8, A>, EncodeError>
         ensures octets { IfOk result (λ octets. completed (view self.old 0) ≡ Some octets.items) }
         ensures taken { OnOk result (self.new ≡ record self.old { pieces = no_pieces }) }
         ensures begun { OnOk result (self.old.failed ≡ false) }
+        ensures outside { OnOk result (self.old.scope.is_open ≡ false) }
         ensures err { IfErr result (λ e. RefusesOutput e self.old) }
         ensures fails { OnErr result (self.new.failed ≡ true) }
         ensures kept { self.new.codec ≡ self.old.codec }
@@ -139,6 +141,7 @@ impl<A: Allocator + Clone> Encoder<A> {
     pub fn output_into_vec(mut self) -> Result<Vec<u8, A>, EncodeError>
         ensures octets { IfOk result (λ octets. completed (view self 0) ≡ Some octets.items) }
         ensures begun { OnOk result (self.failed ≡ false) }
+        ensures outside { OnOk result (self.scope.is_open ≡ false) }
         ensures err { IfErr result (λ e. RefusesOutput e self) }
     {
         self.output()

@@ -1,6 +1,6 @@
 -- A SET OF that is open, member after member, and its close (ITU-T X.691, 22).
 use Rattle.std.specs.Prelude.{Result, Ok, Err}
-use Rattle.std.proofs.Common.{◌≡◌, ◌⊎◌, inl, inr, refl, sym, ap, ap₂, subst, ◌∙◌, ℕ, zero, suc, ◌+◌, ◌%◌, ◌<◌, ◌≤◌, Bool, true, false, List, [], ◌∷◌, ◌++◌, map, length, drop, get_or, append_assoc, append-nil, arith, Option, Some, None}
+use Rattle.std.proofs.Common.{◌≡◌, ◌⊎◌, inl, inr, refl, sym, ap, ap₂, subst, ◌∙◌, ℕ, suc, ◌+◌, ◌%◌, ◌<◌, ◌≤◌, Bool, false, List, [], ◌∷◌, ◌++◌, map, length, drop, get_or, append_assoc, append-nil, arith, Option, Some, None}
 use Rattle.std.proofs.Math.Path.{fun_ext}
 use Rattle.std.proofs.lemmas.List.{drop_all, map-append}
 use Rattle.rasn_types.specs.Bits.{Bits}
@@ -11,9 +11,9 @@ use Rattle.rasn_types.specs.declared.types.Codec.{Codec}
 use Rattle.rasn_constraints.specs.Bounds.{allows, Size}
 use Rattle.rasn_schema.specs.Lists.{list_value}
 use Rattle.rasn_schema.specs.Schemas.{Schema}
-use Rattle.rasn_calls.specs.Bags.{AwaitsMember, BagOpened, MemberAwaited, bag_schema}
+use Rattle.rasn_calls.specs.Bags.{AwaitsMember, BagOpened, bag_schema}
 use Rattle.rasn_calls.specs.Calls.{Written}
-use Rattle.rasn_calls.specs.Lists.{AwaitsElement, ClosesList, ListForm, WritesNext, schema_of}
+use Rattle.rasn_calls.specs.Lists.{ClosesList, ListForm, WritesNext, schema_of}
 use Rattle.per_core.specs.Canon.{ascending, canon}
 use Rattle.per_core.specs.Counts.{counted, list_items}
 use Rattle.per_core.specs.Writers.{Writer, join, ◌▹◌}
@@ -26,9 +26,9 @@ use Rattle.per_write.specs.declared.error.EncodeError.{EncodeError}
 use Rattle.per_write_types.specs.declared.lists.OpenList.{OpenList}
 use Rattle.per_write.specs.Faults.{HasElement, IsMemory, RefusesValue}
 use Rattle.per_write.specs.Floating.{Floats, Waiting}
-use Rattle.per_write_types.specs.Lists.{AmidList, Begins, BeginsItems, RefusesCount, count_memory, count_outside}
+use Rattle.per_write_types.specs.Lists.{AmidList, Enters, EntersItems, RefusesCount, count_memory, count_outside}
 use Rattle.per_write.specs.Rules.{encoder_rules}
-use Rattle.per_write.specs.State.{Scope, State, Wrote, no_scope}
+use Rattle.per_write.specs.State.{Scope, State, Wrote}
 use Rattle.per_write_types.proofs.Elements.{element_in, list_begun, list_law}
 use Rattle.per_write.proofs.Writing.{wrote_same}
 use Rattle.per_members.specs.Bags.{AmidBag, OpenBag, PutsMembers, list_of, outside, with_begun}
@@ -36,17 +36,18 @@ use Rattle.per_members.proofs.Order.{are_written, at_place, element_of_ordered, 
 use Rattle.per_members.proofs.Refusing.{none_of_count, none_of_member, refused_as_bag, stands_in_member}
 
 -- a bag is opened
-pub bag_begun : (size : Size) (mark : Bool) (count : ℕ) (x y : State) (l : OpenList) (ms : List (List Piece)) → ms ≡ [] → Begins (λ a ws. counted a size mark list_items ws) count x l y
+pub bag_begun : (size : Size) (mark : Bool) (count : ℕ) (x y : State) (l : OpenList) (ms : List (List Piece)) → ms ≡ [] → Enters (λ a ws. counted a size mark list_items ws) count x l y
     → BagOpened encoder_rules AmidBag size mark count x (Ok (record { list = l; members = ms; waiting = None })) y
 bag_begun size mark count x y l ms none h = λ e vs k. record {
   front = [];
   all_is = refl;
   members = ap writers_of none;
   amid = λ ws n. list_begun size mark count x y l h e ws (n ∙ k);
+  is_open = h.is_open;
 }
 
 -- a count is refused
-pub bag_unbegun : (size : Size) (mark : Bool) (count : ℕ) (x y : State) (d : EncodeError) → BeginsItems (RefusesCount size mark count) (λ a ws. counted a size mark list_items ws) count x (Err d) y
+pub bag_unbegun : (size : Size) (mark : Bool) (count : ℕ) (x y : State) (d : EncodeError) → EntersItems (RefusesCount size mark count) (λ a ws. counted a size mark list_items ws) count x (Err d) y
     → BagOpened encoder_rules AmidBag size mark count x (Err d) y
 bag_unbegun size mark count x y d h = go h.err (list_law size mark count x y (Err d) h)
   where
@@ -128,6 +129,7 @@ member_awaited f x v vs b y m z l ms w h is el em fl = record {
           members = map-append settled ms (t.pieces.list ∷ []) ∙ ap₂ (λ (k j : List Writer). k ++ j) (ap writers_of em ∙ h.members) (ap (λ (g : Writer). g ∷ []) one) ∙ sym (map-append (canon a f.element) h.front (v ∷ []));
           amid = λ ws n. subst (λ (s : State). AmidList (list_of f ws) x ws l s) (is_outside back)
               (subst (λ (k : OpenList). AmidList (list_of f ws) x ws k (outside b.waiting y)) (sym el) (h.amid ws n));
+          is_open = ap (λ (k : Scope). k.is_open) r.beside ∙ ap (λ (s : State). s.scope.is_open) fl.same;
         }
       where
         is_outside : {s : State} → s ≡ m → outside b.waiting y ≡ s

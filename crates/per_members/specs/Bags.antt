@@ -1,5 +1,5 @@
 -- An open SET OF, of which each member is written before its place is known (ITU-T X.691, 22).
-use Rattle.std.specs.Prelude.{◌≡◌, Bool, true, List, [], ◌∷◌, ◌++◌, map, length, Option, Some, None, Result, OnOk, OnErr, IfErr}
+use Rattle.std.specs.Prelude.{◌≡◌, true, List, [], ◌∷◌, ◌++◌, map, length, Option, Some, None, Result, OnOk, OnErr, IfErr}
 use Rattle.rasn_types.specs.Codecs.{variant_of}
 use Rattle.rasn_types.specs.Values.{Value}
 use Rattle.rasn_schema.specs.Lists.{list_value}
@@ -38,12 +38,13 @@ abbrev pub list_of : ListForm → List Value → ListForm
 list_of f ws = record { element = f.element; size = f.size; mark = f.mark; all = ws }
 
 -- A SET OF is open, which began at x: its last members are still to be written; the others were, each by itself; and outside the list
--- that they are to stand in is open, of whatever elements.
+-- that they are to stand in is open, of whatever elements. Something is open in each member too.
 pub record AmidBag (f : ListForm) (x : State) (vs : List Value) (b : OpenBag) (y : State) : Type 0 where
   pub front : List Value
   pub all_is : f.all ≡ front ++ vs
   pub members : writers_of (with_begun b.waiting y b.members) ≡ map (canon (variant_of x.codec) f.element) front
   pub amid : (ws : List Value) → length ws ≡ length f.all → AmidList (list_of f ws) x ws b.list (outside b.waiting y)
+  pub is_open : y.scope.is_open ≡ true
 
 -- A call that keeps the member that was begun, if one was: what waited is there again.
 pub record KeepsMember (b : OpenBag) (y : State) (result : Result (Unit {0}) EncodeError) (c : OpenBag) (z : State) : Type 0 where

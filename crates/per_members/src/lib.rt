@@ -12,7 +12,7 @@ ghost use Rattle.per_write.specs.Rules.{encoder_rules};
 use per_bags::members::Members;
 use per_write::error::EncodeError;
 use per_write::{Waiting, Writer};
-use per_write_types::lists::{OpenList, begin_counted, close_list, next_element};
+use per_write_types::lists::{OpenList, begin_list, close_list, next_element};
 use rasn_schema::schema::Constraints;
 use std::alloc::Allocator;
 use std::marker::Model;
@@ -48,7 +48,7 @@ impl<A: Allocator + Clone> OpenBag<A> {
             writer.old result writer.new }
     {
         let alloc = writer.allocator()?;
-        let list = begin_counted(writer, constraints.size(), count)?;
+        let list = begin_list(writer, constraints.size(), count)?;
         Ok(OpenBag {
             list,
             members: Members::new(alloc),

@@ -27,7 +27,7 @@ no_padding aligned n h p = rw (le-leb n 255 (omega arith)) refl
 -- room is made behind padding
 pub index_opened : (n w : ℕ) (x m z y : State) (q : Pieces) (place : ℕ) (outside : Scope) → Wrote x (index_padding (variant_of x.codec) n) m
     → w ≡ index_width (variant_of m.codec) n → q ≡ with_bits m.pieces (replicate w false) → z ≡ record m { pieces = q } → place ≡ bit_count m.pieces.list → outside ≡ z.scope
-    → y ≡ record z { scope = record { presences = record { place = place; left = 0 }; additions = None } } → OpensIndex n x outside y
+    → y ≡ record z { scope = record { presences = record { place = place; left = 0 }; additions = None; is_open = true } } → OpensIndex n x outside y
 index_opened n w x m z y q place outside h i k v l o e = record {
   begun = h.begun;
   waits = o ∙ ap (λ (s : State). s.scope) v ∙ h.beside;
@@ -36,7 +36,7 @@ index_opened n w x m z y q place outside h i k v l o e = record {
   padded = m.pieces;
   is_padded = h.appended;
   pieces = ap (λ (s : State). s.pieces) e ∙ ap (λ (s : State). s.pieces) v ∙ k ∙ ap (λ (j : ℕ). with_bits m.pieces (replicate j false)) (i ∙ ap (λ (c : Codec). index_width (variant_of c) n) h.same);
-  place = ap (λ (s : State). s.scope) e ∙ ap (λ (j : ℕ). record { presences = record { place = j; left = 0 }; additions = None }) l;
+  place = ap (λ (s : State). s.scope) e ∙ ap (λ (j : ℕ). record { presences = record { place = j; left = 0 }; additions = None; is_open = true }) l;
 }
 
 -- X.691 11.5.7.1: the index of one of 255 alternatives or fewer

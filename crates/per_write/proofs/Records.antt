@@ -25,7 +25,7 @@ no_room x = ap (λ (ps : List Piece). record x { pieces = record { list = ps; pl
 -- room is made behind the extension bit
 pub record_opened : (n : ℕ) (additions : Option ℕ) (x m z y : State) (q : Pieces) (place : ℕ) (kept : Option Additions) (outside : Scope) → x.failed ≡ false → m ≡ record x { pieces = with_bits x.pieces (extension_room additions) } →
     kept ≡ kept_additions (bit_count x.pieces.list) additions → q ≡ with_bits m.pieces (replicate n false) → z ≡ record m { pieces = q } → place ≡ bit_count m.pieces.list → outside ≡ z.scope →
-    y ≡ record z { scope = record { presences = record { place = place; left = n }; additions = kept } } → Opens n additions x outside y
+    y ≡ record z { scope = record { presences = record { place = place; left = n }; additions = kept; is_open = true } } → Opens n additions x outside y
 record_opened n additions x m z y q place kept outside f e k w v p o d = record {
   begun = f;
   waits = o ∙ ap (λ (s : State). s.scope) v ∙ ap (λ (s : State). s.scope) e;
@@ -34,6 +34,7 @@ record_opened n additions x m z y q place kept outside f e k w v p o d = record 
   pieces = ap (λ (s : State). s.pieces) d ∙ ap (λ (s : State). s.pieces) v ∙ w ∙ ap (λ (s : State). with_bits s.pieces (replicate n false)) e ∙ with_both x.pieces (extension_room additions) (replicate n false);
   place = ap (λ (s : State). s.scope.presences) d ∙ ap (λ (i : ℕ). record { place = i; left = n }) (p ∙ ap (λ (s : State). bit_count s.pieces.list) e);
   keeps = ap (λ (s : State). s.scope.additions) d ∙ k;
+  is_open = ap (λ (s : State). s.scope.is_open) d;
 }
 
 abbrev state : Pieces → Bool → Codec → Scope → State
@@ -94,20 +95,20 @@ addition_put k l before q d x m w y contents opens others f e i n c h o t b j =
 
 pub addition_closed : (x w y : State) (o : Outside) (k l : Additions) (result : Result (Unit {0}) EncodeError) → x.failed ≡ false → k ≡ o.additions →
     AppendsBits k.opens (open_bits (variant_of x.codec) (Some (settle x.pieces.list 0))) l.opens → l ≡ record k { opens = l.opens } → w.pieces ≡ o.pieces → w.failed ≡ x.failed → w.codec ≡ x.codec →
-    w.scope.presences ≡ o.presences → GivesOrNot true l w result y → ClosesOrNot true o x result y
-addition_closed x w y o k l (Ok u) f e a d b g c p h = record {
+    w.scope.presences ≡ o.presences → w.scope.is_open ≡ x.scope.is_open → GivesOrNot true l w result y → ClosesOrNot true o x result y
+addition_closed x w y o k l (Ok u) f e a d b g c p q h = record {
   ok = record {
     begun = f;
     opens = l.opens;
     appended = subst (λ (j : Additions). AppendsBits j.opens (open_bits (variant_of x.codec) (Some (settle x.pieces.list 0))) l.opens) e a;
-    same = h.ok ∙ same_state w.pieces o.pieces w.failed x.failed w.codec x.codec _ _ b g c (ap (λ q. record { presences = q; additions = Some (with_next l true l.opens) }) p
-        ∙ ap (λ (j : Additions). record { presences = o.presences; additions = Some (with_next j true l.opens) }) (d ∙ ap (λ (j : Additions). record j { opens = l.opens }) e));
+    same = h.ok ∙ same_state w.pieces o.pieces w.failed x.failed w.codec x.codec _ _ b g c (ap₂ (λ r i. record { presences = r; additions = Some (with_next l true l.opens); is_open = i }) p q
+        ∙ ap (λ (j : Additions). record { presences = o.presences; additions = Some (with_next j true l.opens); is_open = x.scope.is_open }) (d ∙ ap (λ (j : Additions). record j { opens = l.opens }) e));
   };
   err = tt;
   fails = tt;
   kept = h.kept ∙ c;
 }
-addition_closed x w y o k l (Err d) f e a i b g c p h = record {
+addition_closed x w y o k l (Err d) f e a i b g c p q h = record {
   ok = tt;
   err = record { kind_is = h.err.kind_is; codec_is = h.err.codec_is ∙ c };
   fails = h.fails;
@@ -116,19 +117,20 @@ addition_closed x w y o k l (Err d) f e a i b g c p h = record {
 
 -- X.691 19.9: a group is left out
 pub group_absent : (x w y : State) (o : Outside) (k : Additions) (has : Bool) (result : Result (Unit {0}) EncodeError) → is_group_there has (settle x.pieces.list 0) ≡ false → x.failed ≡ false → w.pieces ≡ o.pieces → w.failed ≡ x.failed → w.codec ≡ x.codec →
-    w.scope.presences ≡ o.presences → k ≡ o.additions → GivesOrNot false k w result y → ClosesOrNot (is_group_there has (settle x.pieces.list 0)) o x result y
-group_absent x w y o k has (Ok u) n f b g c p e h = rw n (record {
+    w.scope.presences ≡ o.presences → w.scope.is_open ≡ x.scope.is_open → k ≡ o.additions → GivesOrNot false k w result y → ClosesOrNot (is_group_there has (settle x.pieces.list 0)) o x result y
+group_absent x w y o k has (Ok u) n f b g c p q e h = rw n (record {
   ok = record {
     begun = f;
     opens = o.additions.opens;
     appended = ap Some (sym (append-nil o.additions.opens));
-    same = h.ok ∙ same_state w.pieces o.pieces w.failed x.failed w.codec x.codec _ _ b g c (ap (λ q. record { presences = q; additions = Some (with_next k false k.opens) }) p ∙ ap (λ (l : Additions). record { presences = o.presences; additions = Some (with_next l false l.opens) }) e);
+    same = h.ok ∙ same_state w.pieces o.pieces w.failed x.failed w.codec x.codec _ _ b g c (ap₂ (λ r i. record { presences = r; additions = Some (with_next k false k.opens); is_open = i }) p q
+        ∙ ap (λ (l : Additions). record { presences = o.presences; additions = Some (with_next l false l.opens); is_open = x.scope.is_open }) e);
   };
   err = tt;
   fails = tt;
   kept = h.kept ∙ c;
 })
-group_absent x w y o k has (Err d) n f b g c p e h = rw n (record {
+group_absent x w y o k has (Err d) n f b g c p q e h = rw n (record {
   ok = tt;
   err = record { kind_is = h.err.kind_is; codec_is = h.err.codec_is ∙ c };
   fails = h.fails;

@@ -13,7 +13,7 @@ use Rattle.per_write.specs.declared.error.EncodeError.{EncodeError}
 use Rattle.per_write.specs.declared.error.EncodeErrorKind.TheVariants.{TooManyAdditions}
 use Rattle.per_write.specs.declared.presences.Presences.{Presences}
 use Rattle.per_write.specs.Faults.{IsAlready, IsError, IsMemory}
-use Rattle.per_write.specs.State.{Additions, AppendsBits, State, no_scope}
+use Rattle.per_write.specs.State.{Additions, AppendsBits, State, empty_scope}
 
 -- what waits outside of an open type: what was written before, and what is kept of the open SEQUENCE
 pub record Outside : Type 0 where
@@ -68,14 +68,14 @@ IsSurplus e x = (IsError TooManyAdditions e x × NoneLeft x.scope.additions) ⊎
 -- A call that takes the additions of the open SEQUENCE, of which one is still to be given.
 pub record TakesOrNot (x : State) (result : Result Additions EncodeError) (y : State) : Type 0 where
   pub ok : IfOk result (λ k. Awaits x k)
-  pub same : OnOk result (y ≡ record x { scope = record { presences = x.scope.presences; additions = None } })
+  pub same : OnOk result (y ≡ record x { scope = record x.scope { additions = None } })
   pub err : IfErr result (λ e. IsError TooManyAdditions e x × NoneLeft x.scope.additions)
   pub fails : OnErr result (y.failed ≡ true)
   pub kept : y.codec ≡ x.codec
 
 -- A call that goes on with additions of which one more is given.
 pub record GivesOrNot (b : Bool) (k : Additions) (x : State) (result : Result (Unit {0}) EncodeError) (y : State) : Type 0 where
-  pub ok : OnOk result (y ≡ record x { scope = record { presences = x.scope.presences; additions = Some (with_next k b k.opens) } })
+  pub ok : OnOk result (y ≡ record x { scope = record x.scope { additions = Some (with_next k b k.opens) } })
   pub err : IfErr result (λ e. IsMemory e x)
   pub fails : OnErr result (y.failed ≡ true)
   pub kept : y.codec ≡ x.codec
@@ -84,7 +84,7 @@ pub record GivesOrNot (b : Bool) (k : Additions) (x : State) (result : Result (U
 pub record Skips (x y : State) : Type 0 where
   pub before : Additions
   pub awaits : Awaits x before
-  pub same : y ≡ record x { scope = record { presences = x.scope.presences; additions = Some (with_next before false before.opens) } }
+  pub same : y ≡ record x { scope = record x.scope { additions = Some (with_next before false before.opens) } }
 
 -- A call that gives the next addition as absent.
 pub record SkipsOrNot (x : State) (result : Result (Unit {0}) EncodeError) (y : State) : Type 0 where
@@ -93,11 +93,11 @@ pub record SkipsOrNot (x : State) (result : Result (Unit {0}) EncodeError) (y : 
   pub fails : OnErr result (y.failed ≡ true)
   pub kept : y.codec ≡ x.codec
 
--- an open type begins at position 0, and what was there waits outside
+-- an open type begins at position 0, and what was there waits outside; what is open stays so
 pub record Opens (x : State) (outside : Outside) (y : State) : Type 0 where
   pub awaits : Awaits x outside.additions
   pub waits : outside ≡ record { pieces = x.pieces; presences = x.scope.presences; additions = outside.additions }
-  pub same : y ≡ record x { pieces = no_pieces; scope = no_scope }
+  pub same : y ≡ record x { pieces = no_pieces; scope = empty_scope x.scope.is_open }
 
 -- the contents of the next addition's open type begin
 pub record Begins (x y : State) : Type 0 where
@@ -116,7 +116,7 @@ pub record Closes (is_there : Bool) (outside : Outside) (x y : State) : Type 0 w
   pub begun : x.failed ≡ false
   pub opens : Bits
   pub appended : AppendsBits outside.additions.opens (open_if (variant_of x.codec) is_there (settle x.pieces.list 0)) opens
-  pub same : y ≡ record x { pieces = outside.pieces; scope = record { presences = outside.presences; additions = Some (with_next outside.additions is_there opens) } }
+  pub same : y ≡ record x { pieces = outside.pieces; scope = record { presences = outside.presences; additions = Some (with_next outside.additions is_there opens); is_open = x.scope.is_open } }
 
 -- A call that puts what was written, as the contents of an open type, behind the open types of other additions.
 pub record PutsAddition (k : Additions) (before : Pieces) (x : State) (result : Result Additions EncodeError) (y : State) : Type 0 where
@@ -142,4 +142,4 @@ pub record Adds (x : State) (s : Schema) (v : Value) (y : State) : Type 0 where
   pub complete : canon (variant_of x.codec) s v 0 ≡ Some contents
   pub opens : Bits
   pub appended : AppendsBits before.opens (open_if (variant_of x.codec) true contents) opens
-  pub same : y ≡ record x { scope = record { presences = x.scope.presences; additions = Some (with_next before true opens) } }
+  pub same : y ≡ record x { scope = record x.scope { additions = Some (with_next before true opens) } }

@@ -29,7 +29,7 @@ pub record OpensIndex (n : ℕ) (x : State) (outside : Scope) (y : State) : Type
   pub padded : Pieces
   pub is_padded : Appends x.pieces (index_padding (variant_of x.codec) n) padded
   pub pieces : y.pieces ≡ with_bits padded (replicate (index_width (variant_of x.codec) n) false)
-  pub place : y.scope ≡ record { presences = record { place = bit_count padded.list; left = 0 }; additions = None }
+  pub place : y.scope ≡ record { presences = record { place = bit_count padded.list; left = 0 }; additions = None; is_open = true }
 
 -- A call that makes room for an index, or finds no memory.
 pub record OpensIndexOrNot (n : ℕ) (x : State) (result : Result Scope EncodeError) (y : State) : Type 0 where

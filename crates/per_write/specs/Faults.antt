@@ -1,5 +1,5 @@
 -- What the errors of an encoder say.
-use Rattle.std.specs.Prelude.{ℕ, ◌≡◌, ◌<◌, ◌⊎◌, Bool, true, false, ◌||◌, List, ◌∷◌, length, get_or, Option, Some, None, is_some, MatchOption, ℤ}
+use Rattle.std.specs.Prelude.{ℕ, ◌≡◌, ◌<◌, Bool, true, false, ◌||◌, List, ◌∷◌, length, get_or, Option, Some, None, is_some, MatchOption, ℤ}
 use Rattle.rasn_types.specs.Alphabets.{index_of, visible}
 use Rattle.rasn_types.specs.Codecs.{variant_of}
 use Rattle.rasn_types.specs.Contents.{is_identifier, is_time}
@@ -146,6 +146,12 @@ pub record RefusesValue (e : EncodeError) (x : State) (s : Schema) (v : Value) :
   pub stands : Stands e.kind x s v
   pub codec_is : e.codec ≡ x.codec
 
--- Nothing is put out: memory ran out, or, exactly where the encoder had been refused before, the error says that.
+-- why nothing is put out, by whether the encoder had been refused before, and whether something is open
+abbrev pub output_fault : Bool → Bool → EncodeErrorKind
+output_fault true is_open = AlreadyFailed
+output_fault false true = OutOfTurn
+output_fault false false = OutOfMemory
+
+-- Nothing is put out: the encoder had been refused before, else something is open, else memory ran out.
 abbrev pub RefusesOutput : EncodeError → State → Type 0
-RefusesOutput e x = (IsMemory e x × (x.failed ≡ false)) ⊎ (IsAlready e x × (x.failed ≡ true))
+RefusesOutput e x = IsError (output_fault x.failed x.scope.is_open) e x

@@ -3,7 +3,7 @@ use Rattle.std.specs.Prelude.{◌≡◌, true, false, Result, IfOk, IfErr, OnErr
 use Rattle.per_pieces.specs.Pieces.{Pieces, floating}
 use Rattle.per_write.specs.declared.error.EncodeError.{EncodeError}
 use Rattle.per_write.specs.Faults.{IsMemory}
-use Rattle.per_write.specs.State.{Scope, State, no_scope}
+use Rattle.per_write.specs.State.{Scope, State, empty_scope}
 
 -- what waits meanwhile: what was written before, and what is kept of the open SEQUENCE or CHOICE
 pub record Waiting : Type 0 where
@@ -14,7 +14,7 @@ pub record Waiting : Type 0 where
 pub record Floats (x : State) (waiting : Waiting) (y : State) : Type 0 where
   pub begun : x.failed ≡ false
   pub waits : waiting ≡ record { pieces = x.pieces; scope = x.scope }
-  pub same : y ≡ record x { pieces = floating; scope = no_scope }
+  pub same : y ≡ record x { pieces = floating; scope = empty_scope true }
 
 -- A call from which on what is written has no place, or that finds no memory.
 pub record FloatsOrNot (x : State) (result : Result Waiting EncodeError) (y : State) : Type 0 where

@@ -11,7 +11,7 @@ pub record Marks (x : State) (b : Bool) (y : State) : Type 0 where
   pub begun : x.failed ≡ false
   pub within : x.scope.presences.place < bit_count x.pieces.list
   pub some : x.scope.presences.left ≡ suc y.scope.presences.left
-  pub same : y ≡ record x { pieces = with_bit x.pieces x.scope.presences.place b; scope = record { presences = record { place = x.scope.presences.place + 1; left = y.scope.presences.left }; additions = x.scope.additions } }
+  pub same : y ≡ record x { pieces = with_bit x.pieces x.scope.presences.place b; scope = record x.scope { presences = record { place = x.scope.presences.place + 1; left = y.scope.presences.left } } }
 
 -- none is left to give
 abbrev pub NoneLeft : State → Type 0

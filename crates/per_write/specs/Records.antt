@@ -34,6 +34,7 @@ pub record Opens (presences : ℕ) (additions : Option ℕ) (x : State) (outside
   pub pieces : y.pieces ≡ with_bits x.pieces (extension_room additions ++ replicate presences false)
   pub place : y.scope.presences ≡ record { place = bit_count (with_bits x.pieces (extension_room additions)).list; left = presences }
   pub keeps : y.scope.additions ≡ kept_additions (bit_count x.pieces.list) additions
+  pub is_open : y.scope.is_open ≡ true
 
 -- A call that opens a SEQUENCE, or finds no memory.
 pub record OpensOrNot (presences : ℕ) (additions : Option ℕ) (x : State) (result : Result Scope EncodeError) (y : State) : Type 0 where

@@ -19,10 +19,12 @@ pub record Additions : Type 0 where
   pub flags : Bits
   pub opens : Bits
 
--- what is kept of an open SEQUENCE or CHOICE: its presence bits that are still to be given, and, behind an extension marker, its additions
+-- what is kept of an open SEQUENCE or CHOICE: its presence bits that are still to be given, and, behind an extension marker, its additions;
+-- and whether anything is open: a SEQUENCE, a SET, a CHOICE, a list or a bag
 pub record Scope : Type 0 where
   pub presences : Presences
   pub additions : Option Additions
+  pub is_open : Bool
 
 -- what was written, whether a call was refused, the variant in use, and what is kept of the open SEQUENCE or CHOICE
 pub record State : Type 0 where
@@ -31,9 +33,17 @@ pub record State : Type 0 where
   pub codec : Codec
   pub scope : Scope
 
+-- where nothing is kept, in something that is open or not
+abbrev pub empty_scope : Bool → Scope
+empty_scope is_open = record { presences = record { place = 0; left = 0 }; additions = None; is_open = is_open }
+
 -- where nothing is open
 abbrev pub no_scope : Scope
-no_scope = record { presences = record { place = 0; left = 0 }; additions = None }
+no_scope = empty_scope false
+
+-- the same, where something is open or not
+abbrev pub within : Bool → State → State
+within is_open x = record x { scope = record x.scope { is_open = is_open } }
 
 -- what has written nothing
 abbrev pub fresh : Codec → State

@@ -49,6 +49,8 @@ pub struct Writer<A: Allocator + Clone> {
     codec: Codec,
     presences: Presences,
     additions: Option<Additions<A>>,
+    /// Whether a SEQUENCE, a SET, a CHOICE, a list or a bag is open.
+    is_open: bool,
     /// The contents of the last open type, where it isn't in use. No contract speaks of it: only its memory counts.
     scratch: Option<BitList<A>>,
 }
@@ -62,7 +64,7 @@ impl<A: Allocator + Clone> Model for Writer<A> {
       pieces = a.pieces;
       failed = a.failed;
       codec = a.codec;
-      scope = record { presences = a.presences; additions = a.additions };
+      scope = record { presences = a.presences; additions = a.additions; is_open = a.is_open };
     } };
 }
 
@@ -87,6 +89,7 @@ impl<A: Allocator + Clone> Writer<A> {
             codec,
             presences: Presences { place: 0, left: 0 },
             additions: None,
+            is_open: false,
             scratch: None,
         }
     }
@@ -101,17 +104,22 @@ impl<A: Allocator + Clone> Writer<A> {
     /// The complete encoding of what was written so far (X.691 11.1), which is then taken out: the next value is
     /// written at the start again.
     ///
-    /// An error says that memory ran out, or that the writer had failed before. The writer has failed then.
+    /// An error says that the writer had failed before, else `OutOfTurn`, where a SEQUENCE, a SET, a CHOICE, a list or
+    /// a bag is open, of which half a value was written, and else that memory ran out. The writer has failed then.
     #[inline(always)]
     pub fn output(&mut self) -> Result<Vec<u8, A>, EncodeError>
         ensures octets { IfOk result (λ octets. completed (view self.old 0) ≡ Some octets.items) }
         ensures taken { OnOk result (self.new ≡ record self.old { pieces = no_pieces }) }
         ensures begun { OnOk result (self.old.failed ≡ false) }
+        ensures outside { OnOk result (self.old.scope.is_open ≡ false) }
         ensures err { IfErr result (λ e. RefusesOutput e self.old) }
         ensures fails { OnErr result (self.new.failed ≡ true) }
         ensures kept { self.new.codec ≡ self.old.codec }
     {
         self.check_unfailed()?;
+        if self.is_open {
+            return Err(self.refuse(EncodeErrorKind::OutOfTurn));
+        }
         let empty = no_bits(self.pieces.bits());
         let empty = self.unless_out_of_memory(empty)?;
         let bits = mem::replace(&mut self.pieces, Pieces::from_bits(empty)).into_settled();

@@ -1,8 +1,9 @@
 //! Presence bits of components that may be absent (X.691 19.2), and what is kept of the SEQUENCE or CHOICE that is
 //! open.
 
-ghost use Rattle.std.specs.Prelude.{◌≡◌, Option, false};
+ghost use Rattle.std.specs.Prelude.{◌≡◌, Option, true, false};
 ghost use Rattle.per_write.specs.Presences.{MarksOrNot};
+ghost use Rattle.per_write.specs.State.{within};
 
 use crate::Writer;
 use crate::additions::Additions;
@@ -21,11 +22,12 @@ pub struct Presences {
 }
 
 /// What waits outside of a SEQUENCE or CHOICE until it is closed: the presence bits that are still to be given there,
-/// and the additions.
+/// the additions, and whether anything is open there.
 #[derive(Drop)]
 pub struct Scope<A: Allocator + Clone> {
     presences: Presences,
     additions: Option<Additions<A>>,
+    is_open: bool,
 }
 
 impl<A: Allocator + Clone> Model for Scope<A> {
@@ -33,7 +35,7 @@ impl<A: Allocator + Clone> Model for Scope<A> {
 
     ghost Value = { Scope };
 
-    ghost view = { λ a. record { presences = a.presences; additions = a.additions } };
+    ghost view = { λ a. record { presences = a.presences; additions = a.additions; is_open = a.is_open } };
 }
 
 impl<A: Allocator + Clone> Writer<A> {
@@ -61,12 +63,22 @@ impl<A: Allocator + Clone> Writer<A> {
     ) -> Scope<A>
         ensures waits { result ≡ self.old.scope }
         ensures inside { self.new
-            ≡ record self.old { scope = record { presences = presences; additions = additions } } }
+            ≡ record self.old { scope = record { presences = presences; additions = additions; is_open = true } } }
     {
         Scope {
             presences: mem::replace(&mut self.presences, presences),
             additions: mem::replace(&mut self.additions, additions),
+            is_open: mem::replace(&mut self.is_open, true),
         }
+    }
+
+    /// States whether anything is open from now on. Answers whether anything was until then.
+    #[inline(always)]
+    pub fn set_open(&mut self, is_open: bool) -> bool
+        ensures before { result ≡ self.old.scope.is_open }
+        ensures from_now_on { self.new ≡ within is_open self.old }
+    {
+        mem::replace(&mut self.is_open, is_open)
     }
 
     /// Goes out of a SEQUENCE or CHOICE: what waited outside is there again.
@@ -77,8 +89,10 @@ impl<A: Allocator + Clone> Writer<A> {
         let Scope {
             presences,
             additions,
+            is_open,
         } = outside;
         self.presences = presences;
         self.additions = additions;
+        self.is_open = is_open;
     }
 }

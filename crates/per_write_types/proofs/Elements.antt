@@ -24,11 +24,11 @@ use Rattle.per_write_types.specs.declared.lists.OpenList.{OpenList}
 use Rattle.per_write.specs.Faults.{at_once, element_behind, element_here, HasElement, in_element, IsError, IsMemory, OutsideSize, RefusesValue, Stands}
 use Rattle.per_numbers.specs.Fragments.{one_fragment, unconstrained_length}
 use Rattle.per_write.specs.Items.{HasRefused, refused_behind, refused_here}
-use Rattle.per_write_types.specs.Lists.{count_left, AmidList, Begins, BeginsItems, count_behind, count_memory, count_outside, fragment_and, RefusesCount, still}
+use Rattle.per_write_types.specs.Lists.{count_left, AmidList, Begins, BeginsItems, Enters, EntersItems, count_behind, count_memory, count_outside, fragment_and, RefusesCount, still}
 use Rattle.per_write.specs.Remains.{Remains}
 use Rattle.per_write.specs.Rules.{encoder_rules}
 use Rattle.per_pieces.proofs.Settling.{remains_behind as pieces_behind, remains_none, remains_same as pieces_same, remains_then as pieces_then}
-use Rattle.per_write.specs.State.{Puts, State, Wrote}
+use Rattle.per_write.specs.State.{Puts, Scope, State, Wrote, within}
 use Rattle.per_numbers.proofs.Fragments.{first_fragment, fragments_of_few, fragments_of_many, in_their_fragments}
 use Rattle.per_write.proofs.Refusing.{none_counted, none_outside}
 use Rattle.per_pieces.proofs.Writing.{then_assoc, then_nothing, then_same}
@@ -65,9 +65,9 @@ spread a m (suc n) (w ∷ ws) h p =
     ∙ then_same w w (one_by_one (take n ws) ▹ in_fragments a (fragment_sizes m) (drop n ws)) (fragment_and a m n ws) (λ q. refl) (spread a m n ws (omega arith)) p
 
 -- X.691 11.9.3.6, 11.9.3.7: a last fragment begins with its length
-pub begins_few : (x y : State) (count : ℕ) → count < 16384 → Wrote x (unconstrained_length (variant_of x.codec) count) y →
-    Begins (λ a ws. in_fragments a (fragment_sizes count) ws) count x (record { fragment = count; behind = None }) y
-begins_few x y count h w = record {
+pub begins_few : (x y : State) (count : ℕ) (around : Bool) → count < 16384 → Wrote x (unconstrained_length (variant_of x.codec) count) y →
+    Begins (λ a ws. in_fragments a (fragment_sizes count) ws) count x (record { fragment = count; behind = None; around = around }) y
+begins_few x y count around h w = record {
   counted = omega arith;
   some = λ z. z;
   remains = λ ws e. few ws e;
@@ -81,9 +81,9 @@ begins_few x y count h w = record {
         (fragments_of_few a ws (omega (arith, e, h))) (subst (λ (n : ℕ). Wrote x (unconstrained_length a n) y) (sym e) w))
 
 -- X.691 11.9.3.8: a fragment that isn't the last begins with its length
-pub begins_many : (x y : State) (count n : ℕ) → 16384 ≤ count → n ≡ first_fragment count → Wrote x (unconstrained_length (variant_of x.codec) n) y →
-    Begins (λ a ws. in_fragments a (fragment_sizes count) ws) count x (record { fragment = n; behind = Some (count - n) }) y
-begins_many x y count n h f w = record {
+pub begins_many : (x y : State) (count n : ℕ) (around : Bool) → 16384 ≤ count → n ≡ first_fragment count → Wrote x (unconstrained_length (variant_of x.codec) n) y →
+    Begins (λ a ws. in_fragments a (fragment_sizes count) ws) count x (record { fragment = n; behind = Some (count - n); around = around }) y
+begins_many x y count n around h f w = record {
   counted = omega arith;
   some = λ z. omega (arith, f, h);
   remains = λ ws e. many ws e;
@@ -188,16 +188,68 @@ pub length-forms : (f : Value → Writer) (vs : List Value) → length (map f vs
 length-forms f [] = refl
 length-forms f (v ∷ vs) = ap suc (length-forms f vs)
 
+-- whether anything is open changes nothing of what was written
+remains_within : (around : Bool) (x y : State) (all rest : Writer) → Remains x all y rest → Remains (within around x) all (within around y) rest
+remains_within around x y all rest h = record {
+  begun = h.begun;
+  left = h.left;
+  same = h.same;
+  beside = ap (λ (s : Scope). record s { is_open = around }) h.beside;
+  pieces = h.pieces;
+}
+
+wrote_within : (around : Bool) (x y : State) (more : Writer) → Wrote x more y → Wrote (within around x) more (within around y)
+wrote_within around x y more h = record {
+  begun = h.begun;
+  left = h.left;
+  same = h.same;
+  beside = ap (λ (s : Scope). record s { is_open = around }) h.beside;
+  appended = h.appended;
+}
+
+-- an element is written where something is open
+stays_open : {x y : State} {more : Writer} → Wrote x more y → x.scope.is_open ≡ true → y.scope.is_open ≡ true
+stays_open h e = ap (λ (s : Scope). s.is_open) h.beside ∙ e
+
+-- what stands in front of items was written behind all that was there, and something is open
+pub entered : {form : Variant → List Writer → Writer} (count : ℕ) (x y : State) (l : OpenList) → l.around ≡ x.scope.is_open → Begins form count (within true x) l y → Enters form count x l y
+entered {form} count x y l e h = record {
+  counted = h.counted;
+  remains = λ ws k. back ws (h.remains ws k);
+  is_open = ap (λ (s : Scope). s.is_open) (h.remains (replicate count refused) (length-replicate count refused)).beside;
+}
+  where
+    back : (ws : List Writer) → Remains (within true x) (form (variant_of x.codec) ws) y (still (variant_of x.codec) l.behind l.fragment ws)
+        → Remains x (form (variant_of x.codec) ws) (within l.around y) (still (variant_of x.codec) l.behind l.fragment ws)
+    back ws r = record {
+      begun = r.begun;
+      left = r.left;
+      same = r.same;
+      beside = ap (λ (s : Scope). record s { is_open = l.around }) r.beside ∙ ap (λ (b : Bool). record x.scope { is_open = b }) e;
+      pieces = r.pieces;
+    }
+
+refuses_around : {size : Size} {mark : Bool} {count : ℕ} {e : EncodeError} {x : State} → RefusesCount size mark count e (within true x) → RefusesCount size mark count e x
+refuses_around (count_memory m) = count_memory (record { kind_is = m.kind_is; codec_is = m.codec_is })
+refuses_around (count_outside m o i) = count_outside m o (record { kind_is = i.kind_is; codec_is = i.codec_is })
+
+-- what a call that opens a list of so many items owes
+pub list_entered : {form : Variant → List Writer → Writer} (size : Size) (mark : Bool) (count : ℕ) (around : Bool) (x y : State) (result : Result OpenList EncodeError) → around ≡ x.scope.is_open
+    → BeginsItems (RefusesCount size mark count) form count around (within true x) result y → EntersItems (RefusesCount size mark count) form count x result y
+list_entered size mark count around x y (Ok l) e h = record { ok = entered count x y l (h.stated ∙ e) h.ok; err = tt; fails = tt; kept = h.kept }
+list_entered size mark count around x y (Err d) e h = record { ok = tt; err = refuses_around h.err; fails = h.fails; kept = h.kept }
+
 -- a list is opened
-pub list_begun : (size : Size) (mark : Bool) (count : ℕ) (x y : State) (l : OpenList) → Begins (λ a ws. counted a size mark list_items ws) count x l y → (e : Schema) (vs : List Value) → length vs ≡ count →
+pub list_begun : (size : Size) (mark : Bool) (count : ℕ) (x y : State) (l : OpenList) → Enters (λ a ws. counted a size mark list_items ws) count x l y → (e : Schema) (vs : List Value) → length vs ≡ count →
     AmidList (record { element = e; size = size; mark = mark; all = vs }) x vs l y
 list_begun size mark count x y l h e vs k =
     let a = variant_of x.codec in record {
       front = [];
       all_is = refl;
       counted = h.counted ∙ sym k;
-      remains = remains_same x y (counted a size mark list_items (map (canon a e) vs)) (canon a (Schema.list e size mark) (list_value vs)) (still a l.behind l.fragment (map (canon a e) vs)) (list_form a e size mark vs)
+      remains = remains_same x (within l.around y) (counted a size mark list_items (map (canon a e) vs)) (canon a (Schema.list e size mark) (list_value vs)) (still a l.behind l.fragment (map (canon a e) vs)) (list_form a e size mark vs)
           (h.remains (map (canon a e) vs) (length-forms (canon a e) vs ∙ k));
+      is_open = h.is_open;
     }
 
 -- a count is refused
@@ -257,7 +309,7 @@ still_next a (Some m) n w ws p = refl
 
 -- the next element, where its fragment has begun
 pub element_next : (f : ListForm) (x y : State) (v : Value) (vs : List Value) (l : OpenList) (n : ℕ) → l.fragment ≡ suc n → AmidList f x (v ∷ vs) l y →
-    AwaitsElement encoder_rules AmidList f x v vs (record { fragment = n; behind = l.behind }) y
+    AwaitsElement encoder_rules AmidList f x v vs (record { fragment = n; behind = l.behind; around = l.around }) y
 element_next f x y v vs l n e h = record {
   presented = λ z w. next z w;
   refused = λ d r. subst (λ ws. RefusesValue d x (schema_of f) (list_value ws)) (sym h.all_is) (refuses_element d x y f.element f.size f.mark h.front v vs h.remains.left h.remains.same r);
@@ -267,29 +319,33 @@ element_next f x y v vs l n e h = record {
     a : Variant
     a = variant_of x.codec
 
-    next : (z : State) → Wrote y (canon (variant_of y.codec) f.element v) z → AmidList f x vs (record { fragment = n; behind = l.behind }) z
+    next : (z : State) → Wrote y (canon (variant_of y.codec) f.element v) z → AmidList f x vs (record { fragment = n; behind = l.behind; around = l.around }) z
     next z w = record {
       front = h.front ++ v ∷ [];
       all_is = h.all_is ∙ sym (append_assoc h.front (v ∷ []) vs);
       counted = omega (arith, h.counted, e);
-      remains = remains_after x y z (canon a (schema_of f) (list_value f.all)) (still a l.behind (suc n) (map (canon a f.element) (v ∷ vs))) (canon a f.element v) (still a l.behind n (map (canon a f.element) vs))
-          (subst (λ (k : ℕ). Remains x (canon a (schema_of f) (list_value f.all)) y (still a l.behind k (map (canon a f.element) (v ∷ vs)))) e h.remains)
+      remains = remains_after x (within l.around y) (within l.around z) (canon a (schema_of f) (list_value f.all)) (still a l.behind (suc n) (map (canon a f.element) (v ∷ vs))) (canon a f.element v) (still a l.behind n (map (canon a f.element) vs))
+          (subst (λ (k : ℕ). Remains x (canon a (schema_of f) (list_value f.all)) (within l.around y) (still a l.behind k (map (canon a f.element) (v ∷ vs)))) e h.remains)
           (still_next a l.behind n (canon a f.element v) (map (canon a f.element) vs))
-          (subst (λ (c : Codec). Wrote y (canon (variant_of c) f.element v) z) h.remains.same w);
+          (wrote_within l.around y z (canon a f.element v) (subst (λ (c : Codec). Wrote y (canon (variant_of c) f.element v) z) h.remains.same w));
+      is_open = stays_open w h.is_open;
     }
 
 -- a fragment begins in an open list
-pub fragment_begun : (f : ListForm) (x y z : State) (vs : List Value) (l m : OpenList) → l.fragment ≡ 0 → 0 < length vs → AmidList f x vs l y →
+pub fragment_begun : (f : ListForm) (x y z : State) (vs : List Value) (l m : OpenList) → m.around ≡ l.around → l.fragment ≡ 0 → 0 < length vs → AmidList f x vs l y →
     Begins (λ a ws. in_fragments a (fragment_sizes (count_behind l.behind)) ws) (count_behind l.behind) y m z → AmidList f x vs m z
-fragment_begun f x y z vs l m e s h k = record {
+fragment_begun f x y z vs l m i e s h k = record {
   front = h.front;
   all_is = h.all_is;
   counted = k.counted ∙ behind_all;
-  remains = remains_then x y z (canon a (schema_of f) (list_value f.all)) (still a l.behind l.fragment (map (canon a f.element) vs)) (still a m.behind m.fragment (map (canon a f.element) vs)) h.remains
+  remains = subst (λ (b : Bool). Remains x (canon a (schema_of f) (list_value f.all)) (within b z) (still a m.behind m.fragment (map (canon a f.element) vs))) (sym i)
+      (remains_then x (within l.around y) (within l.around z) (canon a (schema_of f) (list_value f.all)) (still a l.behind l.fragment (map (canon a f.element) vs)) (still a m.behind m.fragment (map (canon a f.element) vs)) h.remains
+      (remains_within l.around y z (still a l.behind l.fragment (map (canon a f.element) vs)) (still a m.behind m.fragment (map (canon a f.element) vs))
       (remains_same y z (in_fragments a (fragment_sizes (count_behind l.behind)) (map (canon a f.element) vs)) (still a l.behind l.fragment (map (canon a f.element) vs)) (still a m.behind m.fragment (map (canon a f.element) vs))
       (same l.behind refl)
       (subst (λ (c : Codec). Remains y (in_fragments (variant_of c) (fragment_sizes (count_behind l.behind)) (map (canon a f.element) vs)) z (still (variant_of c) m.behind m.fragment (map (canon a f.element) vs))) h.remains.same
-      (k.remains (map (canon a f.element) vs) (length-forms (canon a f.element) vs ∙ sym behind_all))));
+      written))));
+  is_open = ap (λ (s : Scope). s.is_open) written.beside ∙ h.is_open;
 }
   where
     a : Variant
@@ -298,6 +354,9 @@ fragment_begun f x y z vs l m e s h k = record {
     behind_all : count_behind l.behind ≡ length vs
     behind_all = omega (arith, h.counted, e)
 
+    written : Remains y (in_fragments (variant_of y.codec) (fragment_sizes (count_behind l.behind)) (map (canon a f.element) vs)) z (still (variant_of y.codec) m.behind m.fragment (map (canon a f.element) vs))
+    written = k.remains (map (canon a f.element) vs) (length-forms (canon a f.element) vs ∙ sym behind_all)
+
     same : (b : Option ℕ) → l.behind ≡ b → (p : ℕ) → in_fragments a (fragment_sizes (count_behind l.behind)) (map (canon a f.element) vs) p ≡ still a l.behind l.fragment (map (canon a f.element) vs) p
     same None d p = let z : count_behind l.behind ≡ 0 = ap count_behind d in absurd (omega (arith, z, behind_all, s))
     same (Some n) d p = ap (λ (b : Option ℕ). in_fragments a (fragment_sizes (count_behind b)) (map (canon a f.element) vs) p) d
@@ -305,19 +364,19 @@ fragment_begun f x y z vs l m e s h k = record {
 
 -- X.691 11.9.3.8: behind fragments of 16384 items or more a last length is zero
 pub list_ended : (f : ListForm) (x y z : State) (l : OpenList) (m : ℕ) (result : Result (Unit {0}) EncodeError) → l.behind ≡ Some m → AmidList f x [] l y →
-    Puts IsMemory (unconstrained_length (variant_of y.codec) m) y result z → Written encoder_rules (schema_of f) (list_value f.all) x result z
+    Puts IsMemory (unconstrained_length (variant_of y.codec) m) (within l.around y) result z → Written encoder_rules (schema_of f) (list_value f.all) x result z
 list_ended f x y z l m (Err d) e h w = inl (record { kind_is = w.err.kind_is; codec_is = w.err.codec_is ∙ h.remains.same })
 list_ended f x y z l m (Ok u) e h w =
     let a = variant_of x.codec in
     let b : count_behind l.behind ≡ m = ap count_behind e in
     let no_more : m ≡ 0 = omega (arith, h.counted, b) in
     let no_item : l.fragment ≡ 0 = omega (arith, h.counted) in
-    remains_last x y z (canon a (schema_of f) (list_value f.all)) (still a l.behind l.fragment []) (unconstrained_length a 0) h.remains
+    remains_last x (within l.around y) z (canon a (schema_of f) (list_value f.all)) (still a l.behind l.fragment []) (unconstrained_length a 0) h.remains
     (λ p. ap₂ (λ (o : Option ℕ) (k : ℕ). still a o k [] p) (e ∙ ap Some no_more) no_item ∙ fragments_of_few a [] (omega arith) p ∙ then_nothing (unconstrained_length a 0) p)
-    (subst (λ (k : ℕ). Wrote y (unconstrained_length a k) z) no_more (subst (λ (c : Codec). Wrote y (unconstrained_length (variant_of c) m) z) h.remains.same w.ok))
+    (subst (λ (k : ℕ). Wrote (within l.around y) (unconstrained_length a k) z) no_more (subst (λ (c : Codec). Wrote (within l.around y) (unconstrained_length (variant_of c) m) z) h.remains.same w.ok))
 
 -- a list whose last length was written
-pub list_left : (f : ListForm) (x y : State) (l : OpenList) → l.behind ≡ None → AmidList f x [] l y → Wrote x (canon (variant_of x.codec) (schema_of f) (list_value f.all)) y
+pub list_left : (f : ListForm) (x y : State) (l : OpenList) → l.behind ≡ None → AmidList f x [] l y → Wrote x (canon (variant_of x.codec) (schema_of f) (list_value f.all)) (within l.around y)
 list_left f x y l e h =
     let a = variant_of x.codec in record {
       begun = h.remains.begun;
@@ -332,10 +391,10 @@ unwrapped_behind None = refl
 unwrapped_behind (Some m) = refl
 
 -- a fragment begins, so long as an element is left
-pub fragment_begun_at : (f : ListForm) (x y z : State) (v : Value) (vs : List Value) (l m : OpenList) (n : ℕ) → l.fragment ≡ 0 → n ≡ unwrap_or l.behind 0 →
+pub fragment_begun_at : (f : ListForm) (x y z : State) (v : Value) (vs : List Value) (l m : OpenList) (n : ℕ) → m.around ≡ l.around → l.fragment ≡ 0 → n ≡ unwrap_or l.behind 0 →
     Begins (λ a ws. in_fragments a (fragment_sizes n) ws) n y m z → AmidList f x (v ∷ vs) l y → AmidList f x (v ∷ vs) m z
-fragment_begun_at f x y z v vs l m n e d k h =
-    fragment_begun f x y z (v ∷ vs) l m e (omega arith) h (subst (λ (i : ℕ). Begins (λ a ws. in_fragments a (fragment_sizes i) ws) i y m z) (d ∙ unwrapped_behind l.behind) k)
+fragment_begun_at f x y z v vs l m n i e d k h =
+    fragment_begun f x y z (v ∷ vs) l m i e (omega arith) h (subst (λ (i : ℕ). Begins (λ a ws. in_fragments a (fragment_sizes i) ws) i y m z) (d ∙ unwrapped_behind l.behind) k)
 
 -- what stands in front of items was written, and nothing refused
 pub begins_left : {form : Variant → List Writer → Writer} (x y : State) (count : ℕ) (l : OpenList) → Begins form count x l y → y.failed ≡ false
@@ -346,7 +405,7 @@ pub none_begun : {form : Variant → List Writer → Writer} (y z : State) (l m 
 none_begun y z l m n d k e = let b = d ∙ unwrapped_behind l.behind in let c = k.counted in omega (arith, b, c, e)
 
 -- what a call that opens a list owes
-pub list_law : (size : Size) (mark : Bool) (count : ℕ) (x y : State) (result : Result OpenList EncodeError) → BeginsItems (RefusesCount size mark count) (λ a ws. counted a size mark list_items ws) count x result y →
+pub list_law : (size : Size) (mark : Bool) (count : ℕ) (x y : State) (result : Result OpenList EncodeError) → EntersItems (RefusesCount size mark count) (λ a ws. counted a size mark list_items ws) count x result y →
     ListOpened encoder_rules AmidList size mark count x result y
 list_law size mark count x y (Ok l) h = λ e vs k. list_begun size mark count x y l h.ok e vs k
 list_law size mark count x y (Err d) h = outside h.err

@@ -14,7 +14,7 @@ use Rattle.per_write.specs.declared.error.EncodeError.{EncodeError}
 use Rattle.per_write.specs.declared.error.EncodeErrorKind.TheVariants.{OutOfTurn, VariantNotInChoice}
 use Rattle.per_write.specs.Choices.{FillsIndexOrNot, OpensIndex, index_padding, index_width}
 use Rattle.per_write.specs.Faults.{IsError, IsMemory}
-use Rattle.per_write.specs.State.{Puts, Scope, State, Wrote, no_scope, view}
+use Rattle.per_write.specs.State.{Puts, Scope, State, Wrote, empty_scope, view}
 
 -- what waits outside of a CHOICE: what is kept of the open SEQUENCE or CHOICE there, and, where the alternative that is written has no
 -- place yet, what was written before
@@ -43,7 +43,7 @@ pub record OpensInPlace (marker : Bool) (n : ℕ) (x : State) (outside : OpenCho
 pub record OpensFloating (x : State) (outside : OpenChoice) (y : State) : Type 0 where
   pub begun : x.failed ≡ false
   pub waits : outside ≡ record { scope = x.scope; before = Some x.pieces }
-  pub same : y ≡ record x { pieces = floating; scope = no_scope }
+  pub same : y ≡ record x { pieces = floating; scope = empty_scope true }
 
 -- a CHOICE of n root alternatives is open and, where it has an extension marker, of so many added ones
 abbrev pub OpensAlternative : ℕ → Option ℕ → State → OpenChoice → State → Type 0

@@ -7,7 +7,7 @@ ghost use Rattle.rasn_schema.specs.Forms.{is_size_marked, size_of};
 ghost use Rattle.rasn_calls.specs.Lists.{ClosesList, OpensList};
 ghost use Rattle.per_core.specs.Counts.{counted, counted_in, fragment_sizes, in_fragments, list_items};
 ghost use Rattle.per_write.specs.Faults.{IsMemory};
-ghost use Rattle.per_write_types.specs.Lists.{AmidList, BeginsItems, NextElement, RefusesCount};
+ghost use Rattle.per_write_types.specs.Lists.{AmidList, BeginsItems, EntersItems, NextElement, RefusesCount};
 ghost use Rattle.per_write.specs.Rules.{encoder_rules};
 
 use per_numbers::lengths::FRAGMENT;
@@ -24,6 +24,8 @@ pub struct OpenList {
     fragment: usize,
     // How many elements stand behind it, in fragments of their own; none where it is the last.
     behind: Option<usize>,
+    // Whether anything was open around the list.
+    around: bool,
 }
 
 /// Opens a SEQUENCE OF so many elements under constraints (X.691 20): writes what stands in front of the first.
@@ -36,7 +38,21 @@ pub fn open_list<A: Allocator + Clone>(
     ensures { OpensList encoder_rules AmidList (size_of constraints.now) (is_size_marked constraints.now) count
         writer.old result writer.new }
 {
-    begin_counted(writer, constraints.size(), count)
+    begin_list(writer, constraints.size(), count)
+}
+
+/// Opens a list of so many elements under a size constraint (X.691 20): writes what stands in front of the first.
+pub fn begin_list<A: Allocator + Clone>(
+    writer: &mut Writer<A>,
+    size: Option<Extensible<Bounded<usize>>>,
+    count: usize,
+) -> Result<OpenList, EncodeError>
+    requires { writer.old.failed ≡ false }
+    ensures { EntersItems (RefusesCount (size_in size) (is_marked size) count)
+        (λ a ws. counted a (size_in size) (is_marked size) list_items ws) count writer.old result writer.new }
+{
+    let around = writer.set_open(true);
+    begin_counted(writer, size, count, around)
 }
 
 /// Goes on to the next element: where a fragment begins, its length is written. Where no element is left it
@@ -49,7 +65,7 @@ pub fn next_element<A: Allocator + Clone>(
     ensures { NextElement list.old writer.old result list.new writer.new }
 {
     if list.fragment == 0 {
-        *list = begin_fragment(writer, list.behind.unwrap_or(0))?;
+        *list = begin_fragment(writer, list.behind.unwrap_or(0), list.around)?;
     }
     match list.fragment.checked_sub(1) {
         Some(left) => {
@@ -60,7 +76,8 @@ pub fn next_element<A: Allocator + Clone>(
     }
 }
 
-/// Closes a list: behind fragments of 16384 elements or more a last length is written, which is zero.
+/// Closes a list: behind fragments of 16384 elements or more a last length is written, which is zero. What was open
+/// around it is open still.
 pub fn close_list<A: Allocator + Clone>(
     writer: &mut Writer<A>,
     list: OpenList,
@@ -68,6 +85,7 @@ pub fn close_list<A: Allocator + Clone>(
     requires { writer.old.failed ≡ false }
     ensures { ClosesList encoder_rules AmidList list writer.old result writer.new }
 {
+    writer.set_open(list.around);
     match list.behind {
         Some(count) => writer.put_unconstrained_length(count),
         None => Ok(()),
@@ -76,26 +94,28 @@ pub fn close_list<A: Allocator + Clone>(
 
 /// Writes what stands in front of elements under a size constraint: where the constraint is extensible, a bit that
 /// says whether their count is outside; and their count (X.691 20.4).
-pub fn begin_counted<A: Allocator + Clone>(
+fn begin_counted<A: Allocator + Clone>(
     writer: &mut Writer<A>,
     size: Option<Extensible<Bounded<usize>>>,
     count: usize,
+    around: bool,
 ) -> Result<OpenList, EncodeError>
     requires { writer.old.failed ≡ false }
     ensures { BeginsItems (RefusesCount (size_in size) (is_marked size) count)
-        (λ a ws. counted a (size_in size) (is_marked size) list_items ws) count writer.old result writer.new }
+        (λ a ws. counted a (size_in size) (is_marked size) list_items ws) count around
+        writer.old result writer.new }
 {
     let stated = size.unwrap_or(Extensible::new(Bounded::None));
     let (lower, upper) = stated.constraint.start_and_end();
     match (stated.constraint.contains(&count), stated.extensible) {
-        (true, false) => begin_sized(writer, lower, upper, count),
+        (true, false) => begin_sized(writer, lower, upper, count, around),
         (true, true) => {
             writer.put_bit(false)?;
-            begin_sized(writer, lower, upper, count)
+            begin_sized(writer, lower, upper, count, around)
         }
         (false, true) => {
             writer.put_bit(true)?;
-            begin_fragment(writer, count)
+            begin_fragment(writer, count, around)
         }
         (false, false) => {
             let kind = EncodeErrorKind::SizeConstraintNotSatisfied(count, lower, upper);
@@ -111,11 +131,12 @@ fn begin_sized<A: Allocator + Clone>(
     lower: Option<usize>,
     upper: Option<usize>,
     count: usize,
+    around: bool,
 ) -> Result<OpenList, EncodeError>
     requires begun { writer.old.failed ≡ false }
     requires within { allows (record { least = lower; most = upper }) count ≡ true }
     ensures { BeginsItems IsMemory (λ a ws. counted_in a (record { least = lower; most = upper }) list_items ws)
-        count writer.old result writer.new }
+        count around writer.old result writer.new }
 {
     match (lower, upper) {
         (Some(lower), Some(upper)) if upper < 65536 => {
@@ -123,9 +144,10 @@ fn begin_sized<A: Allocator + Clone>(
             Ok(OpenList {
                 fragment: count,
                 behind: None,
+                around,
             })
         }
-        _ => begin_fragment(writer, count),
+        _ => begin_fragment(writer, count, around),
     }
 }
 
@@ -133,16 +155,18 @@ fn begin_sized<A: Allocator + Clone>(
 fn begin_fragment<A: Allocator + Clone>(
     writer: &mut Writer<A>,
     count: usize,
+    around: bool,
 ) -> Result<OpenList, EncodeError>
     requires { writer.old.failed ≡ false }
     ensures { BeginsItems IsMemory (λ a ws. in_fragments a (fragment_sizes count) ws)
-        count writer.old result writer.new }
+        count around writer.old result writer.new }
 {
     if count < FRAGMENT {
         writer.put_unconstrained_length(count)?;
         return Ok(OpenList {
             fragment: count,
             behind: None,
+            around,
         });
     }
     let fragment = count.min(4 * FRAGMENT) / FRAGMENT * FRAGMENT;
@@ -150,5 +174,6 @@ fn begin_fragment<A: Allocator + Clone>(
     Ok(OpenList {
         fragment,
         behind: Some(count - fragment),
+        around,
     })
 }

@@ -1,5 +1,5 @@
 -- What a fresh encoder puts out is the bytes of what it presented.
-use Rattle.std.proofs.Common.{◌≡◌, ◌≢◌, ◌⊎◌, inl, inr, refl, sym, ap, ◌∙◌, subst, ℕ, true, false, List, [], Option, Some, None, Result, Ok, Err}
+use Rattle.std.proofs.Common.{◌≡◌, ◌≢◌, ◌⊎◌, inl, inr, refl, sym, ap, ap₂, ◌∙◌, subst, ℕ, true, false, List, [], Option, Some, None, Result, Ok, Err}
 use Rattle.std.proofs.Math.Nat.{le_refl}
 use Rattle.std.specs.Prelude.{IfOk, IfErr, Vec}
 use Rattle.rasn_types.specs.Bits.{Bits}
@@ -12,8 +12,8 @@ use Rattle.rasn_calls.specs.Calls.{AtDepths}
 use Rattle.per_core.specs.Writers.{join, just, ◌▹◌}
 use Rattle.per_core.specs.Canon.{canon, bytes, completed}
 use Rattle.per_pieces.specs.Pieces.{Pieces, no_pieces, settled}
-use Rattle.per_write.specs.State.{State, fresh, view, Presents}
-use Rattle.per_write.specs.Faults.{IsMemory, IsInValue, RefusesOutput, RefusesValue, Stands}
+use Rattle.per_write.specs.State.{Scope, State, fresh, view, Presents}
+use Rattle.per_write.specs.Faults.{IsMemory, IsInValue, RefusesOutput, RefusesValue, Stands, output_fault}
 use Rattle.per_write.specs.declared.error.EncodeError.{EncodeError}
 use Rattle.per_write.specs.declared.error.EncodeErrorKind.{EncodeErrorKind}
 use Rattle.per_write.specs.declared.error.EncodeErrorKind.TheVariants.{AlreadyFailed, OutOfMemory}
@@ -48,13 +48,16 @@ written a x schema levels v y (Ok o) e h k r = record {
   kind = tt;
   variant = tt;
 }
-written a x schema levels v y (Err f) e h k (inl m) = record {
-  ok = tt;
-  err = λ n. absurd (n m.0.kind_is);
-  kind = λ n. absurd (n m.0.kind_is);
-  variant = m.0.codec_is ∙ (h.at levels (le_refl levels)).same ∙ ap (λ (u : State). u.codec) e;
-}
-written a x schema levels v y (Err f) e h k (inr m) = absurd (unfailed (sym m.1 ∙ (h.at levels (le_refl levels)).left))
+written a x schema levels v y (Err f) e h k m =
+    let w = h.at levels (le_refl levels) in
+    let closed : y.scope.is_open ≡ false = ap (λ (s : Scope). s.is_open) w.beside ∙ ap (λ (u : State). u.scope.is_open) e in
+    let memory : f.kind ≡ OutOfMemory = m.kind_is ∙ ap₂ output_fault w.left closed in
+    record {
+      ok = tt;
+      err = λ n. absurd (n memory);
+      kind = λ n. absurd (n memory);
+      variant = m.codec_is ∙ w.same ∙ ap (λ (u : State). u.codec) e;
+    }
 
 -- where a fresh encoder refuses a value, it has no bytes
 pub refused : {Z : Type 0} (a : Codec) (x : State) (schema : ℕ → Schema) (levels : ℕ) (v : Value) (result : Result (Vec ℕ Z) EncodeError) (f : EncodeError) → x ≡ fresh a → result ≡ Err f

@@ -1,4 +1,4 @@
-use Rattle.std.proofs.Common.{◌≡◌, ◌≤◌, ap, sym, ◌∙◌, subst, length, None, Some, Option, List, arith, rules}
+use Rattle.std.proofs.Common.{◌≡◌, ◌≤◌, ap, ◌∙◌, subst, length, None, Some, Option, List, arith, rules}
 use Rattle.std.proofs.lemmas.Bool.{leb-true}
 use Rattle.rasn_schema.specs.Choices.{StandsAt, VariantShape, variants_counted}
 use Rattle.rasn_schema.specs.Fields.{tag_of}

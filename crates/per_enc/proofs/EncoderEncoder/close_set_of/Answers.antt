@@ -1,4 +1,4 @@
-use Rattle.std.proofs.Common.{refl, rules}
+use Rattle.std.proofs.Common.{refl}
 use Rattle.std.proofs.lemmas.Result.{err_from_is_err_and}
 use Rattle.per_enc.proofs.Bags.{bag_left}
 use Rattle.per_enc.proofs.EncoderEncoder.close_set_of.Goals as goal

@@ -1,8 +1,8 @@
-use Rattle.std.proofs.Common.{◌≡◌, ap, ◌∙◌, rules, inl}
+use Rattle.std.proofs.Common.{ap, ◌∙◌, inl}
 use Rattle.std.proofs.lemmas.Result.{err_from_is_err_and}
 use Rattle.per_core.specs.Canon.{ascending}
 use Rattle.per_bags.specs.Members.{writers_of}
-use Rattle.per_members.specs.Bags.{OpenBag, with_begun}
+use Rattle.per_members.specs.Bags.{OpenBag}
 use Rattle.per_write.specs.State.{State}
 use Rattle.per_members.proofs.Opened.{bag_closed, no_room, no_room_outside}
 use Rattle.per_members.proofs.OpenBag.close.Goals as goal

@@ -10,4 +10,4 @@ returns g c =
     (ap (λ (o : Outside). o.additions) c.outside.view_is) c.in_ok-additions.ensures.opens c.in_ok-additions.ensures.others
     (ap (λ (s : State). s.pieces) (c.self.view_is ∙ c.in_ok-additions.ensures.same) ∙ ap (λ (o : Outside). o.pieces) c.outside.view_is)
     (ap (λ (s : State). s.failed) (c.self.view_is ∙ c.in_ok-additions.ensures.same)) (ap (λ (s : State). s.codec) (c.self.view_is ∙ c.in_ok-additions.ensures.same))
-    (ap (λ (o : Outside). o.presences) c.outside.view_is) c.give_addition.ensures
+    (ap (λ (o : Outside). o.presences) c.outside.view_is) (ap (λ (s : State). s.scope.is_open) (c.self.view_is ∙ c.in_ok-additions.ensures.same)) c.give_addition.ensures

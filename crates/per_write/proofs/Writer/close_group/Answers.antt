@@ -24,4 +24,4 @@ returns g c =
     (ap (λ b. b || any_set (settle c.args.self.now.pieces.list 0)) c.if-has_required.false ∙ any_settled c.args.self.now.pieces.list 0 ∙ ap (λ (s : State). any_set (bits_of s.pieces.list)) (sym c.self.view_is)
     ∙ ap any_set (sym c.bits.ensures) ∙ sym c.has_one.ensures ∙ c.if-has_one.false) c.requires
     (c.replace.ensures.after ∙ ap (λ (o : Outside). o.pieces) c.outside.view_is) (ap (λ (s : State). s.failed) c.self-2.view_is) (ap (λ (s : State). s.codec) c.self-2.view_is)
-    (ap (λ (o : Outside). o.presences) c.outside.view_is) (ap (λ (o : Outside). o.additions) c.outside.view_is) c.give_addition.ensures
+    (ap (λ (o : Outside). o.presences) c.outside.view_is) (ap (λ (s : State). s.scope.is_open) c.self-2.view_is) (ap (λ (o : Outside). o.additions) c.outside.view_is) c.give_addition.ensures

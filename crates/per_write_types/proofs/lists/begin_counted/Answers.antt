@@ -13,6 +13,7 @@ returns-in-true-false g c =
           (stated_mark c.args.size c.new.result c.unwrap_or-stated.result c.new.ensures.extensible c.unwrap_or-stated.ensures ∙ c.in-true-false.is-1)
           (stated_size c.args.size c.new.result c.unwrap_or-stated.result lower upper c.new.ensures.constraint c.unwrap_or-stated.ensures c.start_and_end-lower.ensures.start c.start_and_end-lower.ensures.end))
           c.begin_sized-in-true-false.ensures.ok;
+      stated = search rules;
       err = search rules;
       fails = search rules;
       kept = search rules;
@@ -29,6 +30,7 @@ returns-in_ok-put_bit-in-true-true g c =
           (allowed_is c.unwrap_or-stated.result.constraint lower upper c.args.count c.args.count true c.start_and_end-lower.ensures.start c.start_and_end-lower.ensures.end refl (omega arith) c.in-true-true.ensures)
           c.in_ok-put_bit-in-true-true.ensures.ok)
           c.begin_sized.ensures.ok;
+      stated = search rules;
       err = search rules;
       fails = search rules;
       kept = search rules;
@@ -45,6 +47,7 @@ returns-in_ok-put_bit-in-false-true g c =
           (allowed_is c.unwrap_or-stated.result.constraint lower upper c.args.count c.args.count false c.start_and_end-lower.ensures.start c.start_and_end-lower.ensures.end refl (omega arith) c.in-false-true.ensures)
           c.in_ok-put_bit-in-false-true.ensures.ok)
           c.begin_fragment.ensures.ok;
+      stated = search rules;
       err = search rules;
       fails = search rules;
       kept = search rules;
@@ -56,6 +59,7 @@ returns-in-false-false g c =
     let upper = c.start_and_end-lower.result.1 in
     record {
       ok = search rules;
+      stated = search rules;
       err = refuses_count_of _ _ c.refuse.result c.args.writer.now lower upper c.args.count
           (stated_mark c.args.size c.new.result c.unwrap_or-stated.result c.new.ensures.extensible c.unwrap_or-stated.ensures ∙ c.in-false-false.is-1)
           (stated_size c.args.size c.new.result c.unwrap_or-stated.result lower upper c.new.ensures.constraint c.unwrap_or-stated.ensures c.start_and_end-lower.ensures.start c.start_and_end-lower.ensures.end)

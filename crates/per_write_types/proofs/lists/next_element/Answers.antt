@@ -13,7 +13,7 @@ returns-in-Some g c =
     let y = c.args.writer.now in
     let goes_on : (f : ListForm) (x : State) (v : Value) (vs : List Value) → AmidList f x (v ∷ vs) l y → AmidList f x (v ∷ vs) c.if-list-eq0.list c.if-list-eq0.writer =
     λ f x v vs h. elim c.if-list-eq0.branch [
-      | then-list-eq0+in_ok-list w ↦ rw (w.writer-is, w.list-is) (fragment_begun_at f x y w.begin_fragment.new.writer v vs l w.in_ok-list.field-0 w.unwrap_or.result w.if-list-eq0.true w.unwrap_or.ensures w.in_ok-list.ensures.ok h)
+      | then-list-eq0+in_ok-list w ↦ rw (w.writer-is, w.list-is) (fragment_begun_at f x y w.begin_fragment.new.writer v vs l w.in_ok-list.field-0 w.unwrap_or.result w.in_ok-list.ensures.stated w.if-list-eq0.true w.unwrap_or.ensures w.in_ok-list.ensures.ok h)
       | else-list-eq0 w ↦ rw (w.writer-is, w.list-is) h
     ] in
     let left : c.if-list-eq0.list.fragment ≡ suc c.in-Some.left = omega (arith, c.in-Some.ensures) in

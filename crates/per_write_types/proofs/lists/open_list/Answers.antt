@@ -3,4 +3,4 @@ use Rattle.per_write_types.proofs.Elements.{list_law}
 use Rattle.per_write_types.proofs.lists.open_list.Goals as goal
 
 pub returns : goal.returns
-returns g c = record { law = rw c.size.ensures at (list_law _ _ c.args.count c.args.writer.now c.begin_counted.new.writer c.begin_counted.result c.begin_counted.ensures); behaves = search rules }
+returns g c = record { law = rw c.size.ensures at (list_law _ _ c.args.count c.args.writer.now c.begin_list.new.writer c.begin_list.result c.begin_list.ensures); behaves = search rules }
