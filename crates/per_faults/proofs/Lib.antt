@@ -1,0 +1,4 @@
+pub mod Spelled
+pub mod Ordered
+pub mod Read
+pub mod Faultless
