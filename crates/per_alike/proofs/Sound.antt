@@ -18,7 +18,7 @@ pub record Sound (f : Spelling) (F : Pair) : Type 0 where
   pub both : (p : ℕ) (b c : Bits) → F p b c → f p b × f p c × (after p b ≡ after p c)
   pub itself : (p : ℕ) (b : Bits) → f p b → F p b b
 
-same_sound : (f : Spelling) → Sound f (Same f)
+pub same_sound : (f : Spelling) → Sound f (Same f)
 same_sound f = record { both = λ p b c x. (x.0, subst (f p) x.1 x.0, ap (after p) x.1); itself = λ p b x. (x, refl) }
 
 no_sound : Sound never no_pair
@@ -122,11 +122,11 @@ pub filled : (a : Settings) (f : Spelling) (os : List ℕ) → Fills a f os → 
 filled a f os (inl x) = record { bits = x.front; spelled = x.spelled; are = inl (record { front = x.front; spare = x.spare; spelled = refl; all = x.all; some = x.some; short = x.short; zeros = x.zeros }) }
 filled a f os (inr x) = record { bits = []; spelled = x.0; are = inr (refl, x.1) }
 
-octets_end : (a : Settings) (os qs : List ℕ) (p : ℕ) (b c : Bits) → Octets a os p b → Octets a qs p c → after p b ≡ after p c
+pub octets_end : (a : Settings) (os qs : List ℕ) (p : ℕ) (b c : Bits) → Octets a os p b → Octets a qs p c → after p b ≡ after p c
 octets_end a os qs p b c x y = end_alike a (os ∷ []) (qs ∷ []) p b c
     (record { front = b; rest = []; is_front = x; is_rest = refl; joins = sym (append-nil b) }) (record { front = c; rest = []; is_front = y; is_rest = refl; joins = sym (append-nil c) }) refl
 
-open_sound : (a : Settings) {f : Spelling} {F : Pair} → Sound f F → Sound (Open a (Fills a f)) (OpenAlike a F)
+pub open_sound : (a : Settings) {f : Spelling} {F : Pair} → Sound f F → Sound (Open a (Fills a f)) (OpenAlike a F)
 open_sound a {f} {F} h = record {
   both = λ p b c x.
       let r = h.both 0 x.contents x.others x.alike in (
@@ -149,13 +149,13 @@ unknown_sound a (false ∷ bs) = unknown_sound a bs
 unknown_sound a (true ∷ bs) = then_sound (any_sound a) (unknown_sound a bs)
 
 -- records
-holds_sound : (s : Option Value) {f : Value → Spelling} {F : Value → Pair} → ((v : Value) → Sound (f v) (F v)) → Sound (Holds s f) (HoldsAlike s F)
+pub holds_sound : (s : Option Value) {f : Value → Spelling} {F : Value → Pair} → ((v : Value) → Sound (f v) (F v)) → Sound (Holds s f) (HoldsAlike s F)
 holds_sound s h = record {
   both = λ p b c x. let r = (h x.held).both p b c x.alike in (record { held = x.held; is = x.is; spelled = r.0 }, record { held = x.held; is = x.is; spelled = r.1 }, r.2);
   itself = λ p b x. record { held = x.held; is = x.is; alike = (h x.held).itself p b x.spelled };
 }
 
-abbrev KinsSound : List Kin → Type 0
+abbrev pub KinsSound : List Kin → Type 0
 KinsSound [] = Unit {0}
 KinsSound (k ∷ ks) = ((v : Value) → Sound (k.rule.spells v) (k.alike v)) × KinsSound ks
 
@@ -171,7 +171,7 @@ bodies_sound [] h (b ∷ bs) ss = no_sound
 bodies_sound (k ∷ ks) h [] ss = no_sound
 bodies_sound (k ∷ ks) h (b ∷ bs) [] = no_sound
 
-root_sound : (ks : List Kin) → KinsSound ks → (ss : List (Option Value)) → Sound (Root (rules_of ks) ss) (RootAlike ks ss)
+pub root_sound : (ks : List Kin) → KinsSound ks → (ss : List (Option Value)) → Sound (Root (rules_of ks) ss) (RootAlike ks ss)
 root_sound ks h ss = record {
   both = λ p b c x. let r = (one x.shown).both p b c x.alike in (record { shown = x.shown; spelled = r.0 }, record { shown = x.shown; spelled = r.1 }, r.2);
   itself = λ p b x. record { shown = x.shown; alike = (one x.shown).itself p b x.spelled };
@@ -180,7 +180,7 @@ root_sound ks h ss = record {
     one : (shown : List Bool) → Sound (Then (Flags (rules_of ks) shown) (Bodies (rules_of ks) shown ss)) (Both (Same (Flags (rules_of ks) shown)) (BodiesAlike ks shown ss))
     one shown = then_sound (same_sound (Flags (rules_of ks) shown)) (bodies_sound ks h shown ss)
 
-additions_sound : (a : Settings) (ks : List Kin) → KinsSound ks → (ss : List (Option Value)) (bs : List Bool) → Sound (Additions_in a true (rules_of ks) ss bs) (AdditionsAlike a ks ss bs)
+pub additions_sound : (a : Settings) (ks : List Kin) → KinsSound ks → (ss : List (Option Value)) (bs : List Bool) → Sound (Additions_in a true (rules_of ks) ss bs) (AdditionsAlike a ks ss bs)
 additions_sound a [] h [] bs = unknown_sound a bs
 additions_sound a [] h (s ∷ ss) bs = no_sound
 additions_sound a (k ∷ ks) h [] bs = no_sound
@@ -233,7 +233,7 @@ rules_by_tags ts [] = refl
 rules_by_tags [] (k ∷ ks) = refl
 rules_by_tags (t ∷ ts) (k ∷ ks) = rules_insert (how_many_less t ts) k (by_tags ts ks) ∙ ap (insert_at (how_many_less t ts) k.rule) (rules_by_tags ts ks)
 
-rules_ordered : (o : Order) (ts : List Tag) (ks : List Kin) → rules_of (ordered o ts ks) ≡ ordered o ts (rules_of ks)
+pub rules_ordered : (o : Order) (ts : List Tag) (ks : List Kin) → rules_of (ordered o ts ks) ≡ ordered o ts (rules_of ks)
 rules_ordered listed ts ks = refl
 rules_ordered by_tag ts ks = rules_by_tags ts ks
 
@@ -247,11 +247,11 @@ sound_by_tags ts [] h = tt
 sound_by_tags [] (k ∷ ks) h = h
 sound_by_tags (t ∷ ts) (k ∷ ks) h = sound_insert (how_many_less t ts) k (by_tags ts ks) h.0 (sound_by_tags ts ks h.1)
 
-sound_ordered : (o : Order) (ts : List Tag) (ks : List Kin) → KinsSound ks → KinsSound (ordered o ts ks)
+pub sound_ordered : (o : Order) (ts : List Tag) (ks : List Kin) → KinsSound ks → KinsSound (ordered o ts ks)
 sound_ordered listed ts ks h = h
 sound_ordered by_tag ts ks h = sound_by_tags ts ks h
 
-rules_kins : (a : Settings) (ps : Parts) → rules_of (kins a ps) ≡ rules_in a true ps
+pub rules_kins : (a : Settings) (ps : Parts) → rules_of (kins a ps) ≡ rules_in a true ps
 unfolding kins rules_in
 rules_kins a no_parts = refl
 rules_kins a (part t p s ps) = ap (λ rs. record { presence = p; spells = basic_in a true s } ∷ rs) (rules_kins a ps)
@@ -285,7 +285,7 @@ mutual
       as_sound (λ (x : Side × ℕ × Value). alternative x.0 x.1 x.2) (λ x. choice_sound a ps adds ext (kins_sound a ps) (kins_sound a adds) x.0 x.1 x.2) v
   all_sound a s v = same_sound (basic a s v)
 
-  kins_sound : (a : Settings) (ps : Parts) → KinsSound (kins a ps)
+  pub kins_sound : (a : Settings) (ps : Parts) → KinsSound (kins a ps)
   kins_sound a no_parts = tt
   kins_sound a (part t p s ps) = (all_sound a s, kins_sound a ps)
 

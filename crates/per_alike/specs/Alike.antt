@@ -1,4 +1,4 @@
--- Two encodings that are the same but for the octets of additions that the schema doesn't know, at any depth (ITU-T X.691, 19.9).
+-- Two encodings that are the same but for additions that the schema doesn't know, at any depth (ITU-T X.691, 19.9).
 use Rattle.std.specs.Prelude.{ℕ, zero, suc, ◌+◌, ◌-◌, ◌≡◌, ◌⊎◌, Bool, true, false, cond, ◌&&◌, nat_lt, List, [], ◌∷◌, ◌++◌, length, Option, Some, None}
 use Rattle.rasn_types.specs.Bits.{Bits}
 use Rattle.rasn_types.specs.Values.{Value, elements, bag_of, fields, alternative, Side, root, added, as_values, as_slots}
@@ -48,19 +48,23 @@ EachAlike element [] = Same (exactly [])
 EachAlike element (v ∷ vs) = Both (element v) (EachAlike element vs)
 
 -- X.691 11.9.3.8: one fragment of elements after the same count, and the rest
-pub record FragmentAlike (a : Settings) (element : Value → Pair) (rest : List Value → Pair) (vs : List Value) (p : ℕ) (b c : Bits) : Type 0 where
+pub record FragmentAlike (a : Settings) (element : Value → Pair) (rest : List Value → Pair) (vs : List Value) (p : ℕ)
+    (b c : Bits) : Type 0 where
   pub these : List Value
   pub others : List Value
   pub all : vs ≡ these ++ others
-  pub alike : Both (Same (AnyPadding a)) (Both (Same (Fragment (length these))) (Both (EachAlike element these) (rest others))) p b c
+  pub alike : Both (Same (AnyPadding a)) (Both (Same (Fragment (length these)))
+      (Both (EachAlike element these) (rest others))) p b c
 
 -- X.691 11.9.3.5 to 11.9.3.8: elements in k fragments and a last one, after the same counts
 abbrev pub FragmentsAlike : Settings → (Value → Pair) → ℕ → List Value → Pair
-FragmentsAlike a element zero vs = Both (Same (AnyPadding a)) (Both (Same (LastCount (length vs))) (EachAlike element vs))
+FragmentsAlike a element zero vs =
+    Both (Same (AnyPadding a)) (Both (Same (LastCount (length vs))) (EachAlike element vs))
 FragmentsAlike a element (suc k) vs = FragmentAlike a element (FragmentsAlike a element k) vs
 
 -- in some number of fragments
-pub record UnconstrainedAlike (a : Settings) (element : Value → Pair) (vs : List Value) (p : ℕ) (b c : Bits) : Type 0 where
+pub record UnconstrainedAlike (a : Settings) (element : Value → Pair) (vs : List Value) (p : ℕ) (b c : Bits)
+    : Type 0 where
   pub fragments : ℕ
   pub alike : FragmentsAlike a element fragments vs p b c
 
@@ -74,7 +78,8 @@ FormAlike a (Some lb) (Some ub) element vs = cond (nat_lt ub 65536)
     (UnconstrainedAlike a element vs)
 
 -- elements whose count the size allows
-pub record SizedAlike (a : Settings) (size : Size) (element : Value → Pair) (vs : List Value) (p : ℕ) (b c : Bits) : Type 0 where
+pub record SizedAlike (a : Settings) (size : Size) (element : Value → Pair) (vs : List Value) (p : ℕ) (b c : Bits)
+    : Type 0 where
   pub allowed : allows size (length vs) ≡ true
   pub alike : FormAlike a size.least size.most element vs p b c
 
@@ -141,18 +146,22 @@ AdditionsAlike a [] (s ∷ ss) bs = no_pair
 AdditionsAlike a (k ∷ ks) [] bs = no_pair
 AdditionsAlike a (k ∷ ks) (s ∷ ss) [] = WhenPair (IsLeftOut k.rule.presence s) (AdditionsAlike a ks ss [])
 AdditionsAlike a (k ∷ ks) (s ∷ ss) (false ∷ bs) = WhenPair (IsLeftOut k.rule.presence s) (AdditionsAlike a ks ss bs)
-AdditionsAlike a (k ∷ ks) (s ∷ ss) (true ∷ bs) = Both (HoldsAlike s (λ v. OpenAlike a (k.alike v))) (AdditionsAlike a ks ss bs)
+AdditionsAlike a (k ∷ ks) (s ∷ ss) (true ∷ bs) =
+    Both (HoldsAlike s (λ v. OpenAlike a (k.alike v))) (AdditionsAlike a ks ss bs)
 
 -- X.691 19: extension bit 1, the root parts, the same bitmap, and the additions that it shows
-pub record ExtendedAlike (a : Settings) (ks adds : List Kin) (ss xs : List (Option Value)) (p : ℕ) (b c : Bits) : Type 0 where
+pub record ExtendedAlike (a : Settings) (ks adds : List Kin) (ss xs : List (Option Value)) (p : ℕ) (b c : Bits)
+    : Type 0 where
   pub flags : List Bool
-  pub alike : Both (Same (exactly (true ∷ []))) (Both (RootAlike ks ss) (Both (Same (IsBitmap a flags)) (AdditionsAlike a adds xs flags))) p b c
+  pub alike : Both (Same (exactly (true ∷ []))) (Both (RootAlike ks ss)
+      (Both (Same (IsBitmap a flags)) (AdditionsAlike a adds xs flags))) p b c
 
 -- X.691 19, 21: a SEQUENCE or SET
 abbrev pub FieldsAlike : Settings → Bool → List Kin → List Kin → List (Option Value) → List (Option Value) → Pair
 FieldsAlike a false ks adds ss xs = Both (RootAlike ks ss) (AdditionsAlike a adds xs [])
 FieldsAlike a true ks adds ss xs =
-    EitherPair (Both (Same (exactly (false ∷ []))) (Both (RootAlike ks ss) (AdditionsAlike a adds xs []))) (ExtendedAlike a ks adds ss xs)
+    EitherPair (Both (Same (exactly (false ∷ []))) (Both (RootAlike ks ss) (AdditionsAlike a adds xs [])))
+    (ExtendedAlike a ks adds ss xs)
 
 -- the value of the alternative at a place
 abbrev pub ChosenAlike : List Kin → ℕ → Value → Pair
@@ -163,7 +172,8 @@ ChosenAlike (k ∷ ks) (suc i) v = ChosenAlike ks i v
 -- X.691 23: the same alternative
 abbrev pub AlternativeAlike : Settings → Bool → List Kin → List Kin → Side → ℕ → Value → Pair
 AlternativeAlike a ext ks adds root i v =
-    Both (Same (ExtensionBit ext false)) (Both (Same (IsConstrainedWhole a (length (rules_of ks)) i)) (ChosenAlike ks i v))
+    Both (Same (ExtensionBit ext false))
+    (Both (Same (IsConstrainedWhole a (length (rules_of ks)) i)) (ChosenAlike ks i v))
 AlternativeAlike a ext ks adds added i v =
     Both (Same (ExtensionBit ext true)) (Both (Same (Small a i)) (OpenAlike a (ChosenAlike adds i v)))
 
@@ -176,22 +186,25 @@ pub record AsAlike {X : Type 0} (make : X → Value) (F : X → Pair) (v : Value
 unfoldable mutual
   unfolding Schemas.smallest bag_of
 
-  -- two spellings of a value along its schema, from one position on: the same, bit for bit, but for the octets of additions that the
-  -- schema doesn't know, and for the lengths of the open types in which these stand
+  -- two spellings of a value along its schema, from one position on: the same, bit for bit, but for the octets of
+  -- additions that the schema doesn't know, and for the octets of the open types in which these stand
   pub alike_in : Settings → Schema → Value → Pair
-  alike_in a (Schema.list e size mark) = AsAlike (λ vs. elements (as_values vs)) (LengthyAlike a size mark (alike_in a e))
+  alike_in a (Schema.list e size mark) =
+      AsAlike (λ vs. elements (as_values vs)) (LengthyAlike a size mark (alike_in a e))
   alike_in a (Schema.set_of e size mark) = AsAlike bag_of (LengthyAlike a size mark (alike_in a e))
   alike_in a (Schema.sequence o ps ext adds) =
       AsAlike (λ (x : List (Option Value) × List (Option Value)). fields (as_slots x.0) (as_slots x.1))
       (λ x. FieldsAlike a ext (ordered o (tags ps) (kins a ps)) (kins a adds) (ordered o (tags ps) x.0) x.1)
   alike_in a (Schema.choice ps adds ext) =
-      AsAlike (λ (x : Side × ℕ × Value). alternative x.0 x.1 x.2) (λ x. AlternativeAlike a ext (kins a ps) (kins a adds) x.0 x.1 x.2)
+      AsAlike (λ (x : Side × ℕ × Value). alternative x.0 x.1 x.2)
+      (λ x. AlternativeAlike a ext (kins a ps) (kins a adds) x.0 x.1 x.2)
   alike_in a s = λ v. Same (basic a s v)
 
   -- the same of parts, additions or alternatives
   pub kins : Settings → Parts → List Kin
   kins a no_parts = []
-  kins a (part t p s ps) = record { rule = record { presence = p; spells = basic a s }; alike = alike_in a s } ∷ kins a ps
+  kins a (part t p s ps) =
+      record { rule = record { presence = p; spells = basic a s }; alike = alike_in a s } ∷ kins a ps
 
 -- X.691 11.1: octets and others that are complete encodings, alike but for additions that the schema doesn't know
 pub record AreAlike (a : Settings) (s : Schema) (octets others : List ℕ) : Type 0 where

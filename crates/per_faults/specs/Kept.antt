@@ -20,8 +20,8 @@ abbrev pub are_in_i128 : Bounds → Bounds → Bool
 are_in_i128 bounds range =
     (starts_in_i128 bounds.low || starts_in_i128 range.low) && (ends_in_i128 bounds.high || ends_in_i128 range.high)
 
--- X.691 13.1: whether an INTEGER has no number that is read behind an extension bit, is within the bounds, and is past an
--- i128: its constraint isn't extensible, or has no bound, or leaves none
+-- X.691 13.1: whether an INTEGER has no number that is read behind an extension bit, is within the bounds, and is past
+-- an i128: its constraint isn't extensible, or has no bound, or leaves none
 abbrev pub keeps_numbers : Bounds → Bool → Bounds → Bool
 keeps_numbers bounds mark range = not mark || (not (has_bound bounds) || are_in_i128 bounds range)
 
