@@ -1,4 +1,5 @@
-pub mod Spelled
+pub mod Families
+pub mod Faultless
 pub mod Ordered
 pub mod Read
-pub mod Faultless
+pub mod Spelled
