@@ -1,5 +1,5 @@
 -- What was decoded is written, or refused for want of memory.
-use Rattle.std.proofs.Common.{◌≡◌, ◌≢◌, ℕ, ◌+◌, ◌≤◌, List, Vec, Result, Ok, Err, IfErr, Bool, true, false, refl, arith}
+use Rattle.std.proofs.Common.{◌≡◌, ◌≢◌, ℕ, ◌+◌, ◌≤◌, List, Vec, Result, Ok, Err, IfErr, true, refl, arith}
 use Rattle.rasn_types.specs.Codecs.{variant_of}
 use Rattle.rasn_types.specs.Values.{Value}
 use Rattle.rasn_types.specs.declared.types.Codec.{Codec}

@@ -2,6 +2,7 @@
 //! 52). No reader refuses it for its depth.
 
 ghost use Rattle.std.specs.Prelude.{◌≡◌, ◌≢◌, ℕ, Bool, List, Vec, Result, Ok, Err};
+ghost use Rattle.std.specs.Global.{Global};
 ghost use Rattle.rasn_types.specs.Codecs.{variant_of};
 ghost use Rattle.rasn_types.specs.Values.{Value};
 ghost use Rattle.rasn_types.specs.declared.types.Codec.{Codec};
@@ -93,8 +94,8 @@ pub fn what_was_decoded_is_in_reach<New: AsnType, Old: AsnType>()
 /// type's `decode` answers the projection of the normal form, or refuses it, memory aside, exactly where there is none.
 pub fn relay_to_an_older_reader<New: Encode + Decode, Old: Decode>()
     ensures { let newer = New.schema New.CONSTRAINTS in let older = Old.schema Old.CONSTRAINTS in IsLawfulType newer
-        → KeepsToI128 newer → NewerType newer older → (Z : Type 0) (strict again : Bool) (codec other : Codec) (x : New)
-        (octets : List ℕ) (written : Result (Vec ℕ Z) EncodeError) (answer : Result Old DecodeError)
+        → KeepsToI128 newer → NewerType newer older → (strict again : Bool) (codec other : Codec) (x : New)
+        (octets : List ℕ) (written : Result (Vec ℕ Global) EncodeError) (answer : Result Old DecodeError)
         → DecodedBy strict codec newer New.value octets (Ok x)
         → Encoded other newer (New.levels x) (New.value x) written
         → Passes (λ (others : List ℕ). DecodedBy again other older Old.value others answer
@@ -106,8 +107,8 @@ pub fn relay_to_an_older_reader<New: Encode + Decode, Old: Decode>()
 /// type's `decode` answers the widening of the normal form, or refuses it, memory aside, exactly where there is none.
 pub fn relay_to_a_newer_reader<New: Decode, Old: Encode + Decode>()
     ensures { let newer = New.schema New.CONSTRAINTS in let older = Old.schema Old.CONSTRAINTS in IsLawfulType older
-        → KeepsToI128 older → NewerType newer older → (Z : Type 0) (strict again : Bool) (codec other : Codec) (x : Old)
-        (octets : List ℕ) (written : Result (Vec ℕ Z) EncodeError) (answer : Result New DecodeError)
+        → KeepsToI128 older → NewerType newer older → (strict again : Bool) (codec other : Codec) (x : Old)
+        (octets : List ℕ) (written : Result (Vec ℕ Global) EncodeError) (answer : Result New DecodeError)
         → DecodedBy strict codec older Old.value octets (Ok x)
         → Encoded other older (Old.levels x) (Old.value x) written
         → Passes (λ (others : List ℕ). DecodedBy again other newer New.value others answer

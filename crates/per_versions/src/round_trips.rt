@@ -1,6 +1,7 @@
 //! What `encode` and `decode` of one type answer to one another.
 
 ghost use Rattle.std.specs.Prelude.{◌≡◌, ◌≢◌, ◌↔◌, ◌<◌, ℕ, Bool, List, Vec, length, Result, Ok, IfErr};
+ghost use Rattle.std.specs.Global.{Global};
 ghost use Rattle.rasn_types.specs.Bits.{AreOctets};
 ghost use Rattle.rasn_types.specs.Codecs.{variant_of};
 ghost use Rattle.rasn_types.specs.Values.{Value};
@@ -66,10 +67,10 @@ pub fn what_was_decoded_is_decoded_again<T: Encode + Decode>()
         → Answers T.value (λ (w : Value). w ≡ normal_form type (T.value x)) answer }
 {}
 
-/// What `decode` answered to any octets, canonical or not, is encoded, where it is, as the canonical octets of its
-/// normal form. What `decode` then answers to those is encoded, where it is, as the same octets again: so whoever
-/// decodes and encodes makes octets canonical, in the same variant or in the other, and does so once for all (X.691,
-/// 11.1).
+/// What `decode` answered to any octets, canonical or not, is encoded as the canonical octets of its normal form, unless
+/// it is refused (`what_was_decoded_is_encoded`). What `decode` then answers to those is encoded as the same octets
+/// again: so whoever decodes and encodes makes octets canonical, in the same variant or in the other, and does so once
+/// for all (X.691, 11.1).
 pub fn what_was_decoded_is_encoded_canonically<T: Encode + Decode>()
     ensures canonical { let type = T.schema T.CONSTRAINTS in
         (strict : Bool) (codec other : Codec) (x : T) (octets others : List ℕ)
@@ -89,12 +90,12 @@ pub fn what_was_decoded_is_encoded_canonically<T: Encode + Decode>()
 /// stands within the bounds. A type that keeps to the numbers of an `i128` has none (X.691, 13).
 pub fn what_was_decoded_is_encoded<T: Encode + Decode>()
     ensures one_fault { let type = T.schema T.CONSTRAINTS in IsLawfulType type
-        → (Z : Type 0) (strict : Bool) (codec other : Codec) (x : T) (octets : List ℕ)
-        (answer : Result (Vec ℕ Z) EncodeError) → DecodedBy strict codec type T.value octets (Ok x)
+        → (strict : Bool) (codec other : Codec) (x : T) (octets : List ℕ)
+        (answer : Result (Vec ℕ Global) EncodeError) → DecodedBy strict codec type T.value octets (Ok x)
         → Encoded other type (T.levels x) (T.value x) answer
         → IfErr answer (λ e. e.kind ≢ OutOfMemory → e.kind ≡ IntegerTypeConversionFailed) }
     ensures none { let type = T.schema T.CONSTRAINTS in IsLawfulType type → KeepsToI128 type
-        → (Z : Type 0) (strict : Bool) (codec other : Codec) (x : T) (octets : List ℕ)
-        (answer : Result (Vec ℕ Z) EncodeError) → DecodedBy strict codec type T.value octets (Ok x)
+        → (strict : Bool) (codec other : Codec) (x : T) (octets : List ℕ)
+        (answer : Result (Vec ℕ Global) EncodeError) → DecodedBy strict codec type T.value octets (Ok x)
         → Encoded other type (T.levels x) (T.value x) answer → IfErr answer (λ e. e.kind ≡ OutOfMemory) }
 {}

@@ -6,7 +6,7 @@ use Rattle.rasn_per.specs.Complete.{reading}
 use Rattle.rasn_types.specs.Codecs.{variant_of}
 
 pub returns : goal.returns
-returns g c = λ l i k Z strict again codec other x octets written answer d e.
+returns g c = λ l i k strict again codec other x octets written answer d e.
     let newer = g.New.AsnType.schema g.New.AsnType.CONSTRAINTS in
     let older = g.Old.AsnType.schema g.Old.AsnType.CONSTRAINTS in
     let n = g.New.AsnType.levelled g.New.AsnType.CONSTRAINTS in
