@@ -1,5 +1,6 @@
 pub mod Depths
 pub mod Exchanged
+pub mod Faulted
 pub mod Fronts
 pub mod Laws
 pub mod Normalised

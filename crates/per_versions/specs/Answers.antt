@@ -1,11 +1,13 @@
 -- What a reader answers.
-use Rattle.std.specs.Prelude.{◌≡◌, ◌≢◌, ◌++◌, Bool, false, List, Result, IfOk, IfErr, ℕ}
+use Rattle.std.specs.Prelude.{◌≡◌, ◌≢◌, ◌++◌, Bool, false, List, Vec, Result, IfOk, IfErr, ℕ}
 use Rattle.std.specs.Borrow.{Bor}
 use Rattle.rasn_types.specs.Codecs.{variant_of}
 use Rattle.rasn_types.specs.Values.{Value}
 use Rattle.rasn_types.specs.declared.types.Codec.{Codec}
 use Rattle.rasn_schema.specs.Schemas.{Schema}
 use Rattle.per_core.specs.Basic.{fills_known}
+use Rattle.per_write.specs.declared.error.EncodeError.{EncodeError}
+use Rattle.per_write.specs.declared.error.EncodeErrorKind.TheVariants.{OutOfMemory as no_room_to_write}
 use Rattle.per_read.specs.declared.error.DecodeError.{DecodeError}
 use Rattle.per_read.specs.declared.error.DecodeErrorKind.TheVariants.{OutOfMemory}
 use Rattle.rasn_per.specs.Complete.{reading}
@@ -31,3 +33,8 @@ pub record AnswersFront {T : Type 0} (value : T → Value) (IsRead : Value → T
 abbrev pub BeginKnown : Codec → (ℕ → Schema) → Value → List ℕ → List ℕ → Type 0
 BeginKnown codec type v octets rest =
     (front : List ℕ) × (octets ≡ front ++ rest) × AreKnown false codec type v front
+
+-- what a writer answers: octets of which a fact holds, or want of memory and no other refusal
+pub record Passes {Z : Type 0} (Holds : List ℕ → Type 0) (answer : Result (Vec ℕ Z) EncodeError) : Type 0 where
+  pub ok : IfOk answer (λ octets. Holds octets.items)
+  pub err : IfErr answer (λ e. e.kind ≡ no_room_to_write)

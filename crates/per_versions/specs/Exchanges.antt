@@ -1,12 +1,14 @@
 -- What becomes of a value that one type's writer writes and another type's reader reads.
-use Rattle.std.specs.Prelude.{◌≢◌, ℕ, List, Result, IfOk, IfErr}
+use Rattle.std.specs.Prelude.{◌≡◌, ◌≢◌, ℕ, List, Vec, Result, IfOk, IfErr}
 use Rattle.rasn_types.specs.Codecs.{variant_of}
 use Rattle.rasn_types.specs.Values.{Value}
 use Rattle.rasn_types.specs.declared.types.Codec.{Codec}
 use Rattle.rasn_schema.specs.Schemas.{Schema}
 use Rattle.per_write.specs.declared.error.EncodeErrorKind.TheVariants.{OutOfMemory as no_room_to_write}
 use Rattle.per_read.specs.declared.error.DecodeErrorKind.TheVariants.{OutOfMemory as no_room_to_read}
-use Rattle.rasn_per.specs.Complete.{AreBytes, HasNoBytes}
+use Rattle.per_core.specs.Basic.{read}
+use Rattle.rasn_per.specs.Complete.{AreBytes, HasNoBytes, AreUnread, basically}
+use Rattle.per_versions.specs.Readings.{AreCanonical, normal_form}
 use Rattle.per_versions.specs.declared.exchange.ExchangeError.{ExchangeError}
 use Rattle.per_versions.specs.declared.exchange.ExchangeError.TheVariants.{Encode, Decode}
 
@@ -26,3 +28,20 @@ pub record Exchanges {T : Type 0} (codec : Codec) (writer : ℕ → Schema) (lev
     (value : T → Value) (IsRead : Value → Type 0) (result : Result T ExchangeError) : Type 0 where
   pub ok : IfOk result (λ x. IsWritten codec writer levels v × IsRead (value x))
   pub err : IfErr result (λ e. IsLost codec writer levels v IsRead e)
+
+-- octets that one reader reads as a value, and the canonical octets of its normal form
+pub record IsPassedOn (from to : Codec) (type : ℕ → Schema) (octets others : List ℕ) : Type 0 where
+  pub value : Value
+  pub are_read : read (basically (variant_of from)) type value octets
+  pub are_canonical : AreCanonical (variant_of to) type (normal_form type value) others
+
+-- why nothing is passed on: there is no room, or the octets are read as no value
+abbrev pub IsKept : Codec → (ℕ → Schema) → List ℕ → ExchangeError → Type 0
+IsKept from type octets (Encode e) = e.kind ≡ no_room_to_write
+IsKept from type octets (Decode e) = e.kind ≢ no_room_to_read → AreUnread (variant_of from) type octets
+
+-- what a relay answers to octets
+pub record PassesOn {Z : Type 0} (from to : Codec) (type : ℕ → Schema) (octets : List ℕ)
+    (result : Result (Vec ℕ Z) ExchangeError) : Type 0 where
+  pub ok : IfOk result (λ others. IsPassedOn from to type octets others.items)
+  pub err : IfErr result (λ e. IsKept from type octets e)

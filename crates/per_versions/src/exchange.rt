@@ -1,12 +1,15 @@
 //! From a value of one type, through its octets, to a value of another version.
 
 ghost use Rattle.std.specs.Prelude.{◌≡◌};
+ghost use Rattle.rasn_schema.specs.Lawful.{IsLawfulType};
 ghost use Rattle.per_core.specs.Versions.{NewerType};
+ghost use Rattle.per_faults.specs.Kept.{KeepsToI128};
 ghost use Rattle.rasn_per.specs.Calls.{Decoded, Encoded};
-ghost use Rattle.per_versions.specs.Exchanges.{Exchanges};
+ghost use Rattle.per_versions.specs.Exchanges.{Exchanges, PassesOn};
 ghost use Rattle.per_versions.specs.Readings.{IsReadByNewer, IsReadByOlder};
 ghost use Rattle.per_versions.specs.declared.exchange.ExchangeError.TheVariants as Faults;
 
+use crate::round_trips::{what_was_decoded_is_encoded, what_was_decoded_is_encoded_canonically};
 use crate::versions::{newer_reader_answers_the_widening, older_reader_answers_the_projection};
 use rasn_codec::codec::{Decode, Encode};
 use rasn_per::uper::{DecodeError, EncodeError};
@@ -71,6 +74,25 @@ pub fn read_by_newer<New: Decode, Old: Encode>(
     let octets = encode(alloc, codec, value)?;
     let answer: New = decode(alloc, codec, &octets)?;
     Ok(answer)
+}
+
+/// What a relay makes of octets in the variant of one codec, in that of another or the same: the canonical octets of
+/// the value that they spell (X.691, 11.1, 19.9). Of a lawful type that keeps to the numbers of an `i128` it refuses,
+/// memory aside, only octets that spell no value.
+pub fn pass_on<T: Encode + Decode>(
+    alloc: Global,
+    from: Codec,
+    to: Codec,
+    octets: &[u8],
+) -> Result<Vec<u8>, ExchangeError>
+    ensures { let type = T.schema T.CONSTRAINTS in IsLawfulType type → KeepsToI128 type →
+        PassesOn from to type octets.now result }
+{
+    what_was_decoded_is_encoded::<T>();
+    what_was_decoded_is_encoded_canonically::<T>();
+    let value: T = decode(alloc, from, octets)?;
+    let others = encode(alloc, to, &value)?;
+    Ok(others)
 }
 
 /// The canonical octets of a value, in the variant of a codec.

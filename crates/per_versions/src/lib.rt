@@ -9,6 +9,7 @@
 pub mod chains;
 pub mod depth;
 pub mod exchange;
+pub mod messages;
 pub mod padding;
 pub mod relays;
 pub mod remainders;

@@ -1,7 +1,8 @@
 //! Relays: what was decoded is encoded again, in the same variant or in the other, and read by another version (X.680,
 //! 52). No reader refuses it for its depth.
 
-ghost use Rattle.std.specs.Prelude.{◌≡◌, ◌≢◌, ℕ, Bool, List, Result, Ok, Err};
+ghost use Rattle.std.specs.Prelude.{◌≡◌, ◌≢◌, ℕ, Bool, List, Vec, Result, Ok, Err};
+ghost use Rattle.std.specs.Global.{Global};
 ghost use Rattle.rasn_types.specs.Codecs.{variant_of};
 ghost use Rattle.rasn_types.specs.Values.{Value};
 ghost use Rattle.rasn_types.specs.declared.types.Codec.{Codec};
@@ -9,9 +10,11 @@ ghost use Rattle.rasn_schema.specs.Lawful.{IsLawfulType};
 ghost use Rattle.per_core.specs.Versions.{NewerType};
 ghost use Rattle.per_read.specs.declared.error.DecodeError.{DecodeError};
 ghost use Rattle.per_read.specs.declared.error.DecodeErrorKind.TheVariants.{OutOfMemory};
-ghost use Rattle.rasn_per.specs.Calls.{DecodedBy};
+ghost use Rattle.per_write.specs.declared.error.EncodeError.{EncodeError};
+ghost use Rattle.per_faults.specs.Kept.{KeepsToI128};
+ghost use Rattle.rasn_per.specs.Calls.{DecodedBy, Encoded};
 ghost use Rattle.rasn_per.specs.Complete.{AreBytes};
-ghost use Rattle.per_versions.specs.Answers.{Answers};
+ghost use Rattle.per_versions.specs.Answers.{Answers, Passes};
 ghost use Rattle.per_versions.specs.Readings.{IsInReach, IsProjection, IsWidening, normal_form};
 
 use rasn_codec::codec::{Decode, Encode};
@@ -84,4 +87,30 @@ pub fn what_was_decoded_is_in_reach<New: AsnType, Old: AsnType>()
         IsLawfulType older → NewerType newer older → (strict : Bool) (codec : Codec) (x : Old) (octets : List ℕ)
         → DecodedBy strict codec older Old.value octets (Ok x)
         → IsInReach newer older (normal_form older (Old.value x)) }
+{}
+
+/// A relay to an older reader, whole: what a lawful newer type's `decode` answered to any octets, `encode` writes or
+/// refuses for want of memory alone, where the type keeps to the numbers of an `i128`; and to what it wrote an older
+/// type's `decode` answers the projection of the normal form, or refuses it, memory aside, exactly where there is none.
+pub fn relay_to_an_older_reader<New: Encode + Decode, Old: Decode>()
+    ensures { let newer = New.schema New.CONSTRAINTS in let older = Old.schema Old.CONSTRAINTS in IsLawfulType newer
+        → KeepsToI128 newer → NewerType newer older → (strict again : Bool) (codec other : Codec) (x : New)
+        (octets : List ℕ) (written : Result (Vec ℕ Global) EncodeError) (answer : Result Old DecodeError)
+        → DecodedBy strict codec newer New.value octets (Ok x)
+        → Encoded other newer (New.levels x) (New.value x) written
+        → Passes (λ (others : List ℕ). DecodedBy again other older Old.value others answer
+        → Answers Old.value (IsProjection newer older (normal_form newer (New.value x))) answer) written }
+{}
+
+/// A relay to a newer reader, whole: what a lawful older type's `decode` answered to any octets, `encode` writes or
+/// refuses for want of memory alone, where the type keeps to the numbers of an `i128`; and to what it wrote a newer
+/// type's `decode` answers the widening of the normal form, or refuses it, memory aside, exactly where there is none.
+pub fn relay_to_a_newer_reader<New: Decode, Old: Encode + Decode>()
+    ensures { let newer = New.schema New.CONSTRAINTS in let older = Old.schema Old.CONSTRAINTS in IsLawfulType older
+        → KeepsToI128 older → NewerType newer older → (strict again : Bool) (codec other : Codec) (x : Old)
+        (octets : List ℕ) (written : Result (Vec ℕ Global) EncodeError) (answer : Result New DecodeError)
+        → DecodedBy strict codec older Old.value octets (Ok x)
+        → Encoded other older (Old.levels x) (Old.value x) written
+        → Passes (λ (others : List ℕ). DecodedBy again other newer New.value others answer
+        → Answers New.value (IsWidening newer older (normal_form older (Old.value x))) answer) written }
 {}

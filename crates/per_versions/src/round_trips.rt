@@ -1,13 +1,17 @@
 //! What `encode` and `decode` of one type answer to one another.
 
-ghost use Rattle.std.specs.Prelude.{◌≡◌, ◌↔◌, ◌<◌, ℕ, Bool, List, length, Result, Ok};
+ghost use Rattle.std.specs.Prelude.{◌≡◌, ◌≢◌, ◌↔◌, ◌<◌, ℕ, Bool, List, Vec, length, Result, Ok, IfErr};
+ghost use Rattle.std.specs.Global.{Global};
 ghost use Rattle.rasn_types.specs.Bits.{AreOctets};
 ghost use Rattle.rasn_types.specs.Codecs.{variant_of};
 ghost use Rattle.rasn_types.specs.Values.{Value};
 ghost use Rattle.rasn_types.specs.declared.types.Codec.{Codec};
 ghost use Rattle.rasn_schema.specs.Lawful.{IsLawfulType};
 ghost use Rattle.per_read.specs.declared.error.DecodeError.{DecodeError};
-ghost use Rattle.rasn_per.specs.Calls.{DecodedBy};
+ghost use Rattle.per_write.specs.declared.error.EncodeError.{EncodeError};
+ghost use Rattle.per_write.specs.declared.error.EncodeErrorKind.TheVariants.{IntegerTypeConversionFailed, OutOfMemory};
+ghost use Rattle.per_faults.specs.Kept.{KeepsToI128};
+ghost use Rattle.rasn_per.specs.Calls.{DecodedBy, Encoded};
 ghost use Rattle.rasn_per.specs.Complete.{AreBytes, HasNoBytes};
 ghost use Rattle.per_versions.specs.Answers.{Answers};
 ghost use Rattle.per_versions.specs.Readings.{AreCanonical, IsReadBack, normal_form};
@@ -63,10 +67,10 @@ pub fn what_was_decoded_is_decoded_again<T: Encode + Decode>()
         → Answers T.value (λ (w : Value). w ≡ normal_form type (T.value x)) answer }
 {}
 
-/// What `decode` answered to any octets, canonical or not, is encoded, where it is, as the canonical octets of its
-/// normal form. What `decode` then answers to those is encoded, where it is, as the same octets again: so whoever
-/// decodes and encodes makes octets canonical, in the same variant or in the other, and does so once for all (X.691,
-/// 11.1).
+/// What `decode` answered to any octets, canonical or not, is encoded as the canonical octets of its normal form, unless
+/// it is refused (`what_was_decoded_is_encoded`). What `decode` then answers to those is encoded as the same octets
+/// again: so whoever decodes and encodes makes octets canonical, in the same variant or in the other, and does so once
+/// for all (X.691, 11.1).
 pub fn what_was_decoded_is_encoded_canonically<T: Encode + Decode>()
     ensures canonical { let type = T.schema T.CONSTRAINTS in
         (strict : Bool) (codec other : Codec) (x : T) (octets others : List ℕ)
@@ -79,4 +83,19 @@ pub fn what_was_decoded_is_encoded_canonically<T: Encode + Decode>()
         → AreBytes (variant_of other) type (T.levels x) (T.value x) others
         → DecodedBy again other type T.value others (Ok y)
         → AreBytes (variant_of other) type (T.levels y) (T.value y) last → last ≡ others }
+{}
+
+/// What a lawful type's `decode` answered to any octets, canonical or not, `encode` writes, in the same variant or in
+/// the other: it refuses that for want of memory, or for a number past an `i128` that came behind an extension bit and
+/// stands within the bounds. A type that keeps to the numbers of an `i128` has none (X.691, 13).
+pub fn what_was_decoded_is_encoded<T: Encode + Decode>()
+    ensures one_fault { let type = T.schema T.CONSTRAINTS in IsLawfulType type
+        → (strict : Bool) (codec other : Codec) (x : T) (octets : List ℕ)
+        (answer : Result (Vec ℕ Global) EncodeError) → DecodedBy strict codec type T.value octets (Ok x)
+        → Encoded other type (T.levels x) (T.value x) answer
+        → IfErr answer (λ e. e.kind ≢ OutOfMemory → e.kind ≡ IntegerTypeConversionFailed) }
+    ensures none { let type = T.schema T.CONSTRAINTS in IsLawfulType type → KeepsToI128 type
+        → (strict : Bool) (codec other : Codec) (x : T) (octets : List ℕ)
+        (answer : Result (Vec ℕ Global) EncodeError) → DecodedBy strict codec type T.value octets (Ok x)
+        → Encoded other type (T.levels x) (T.value x) answer → IfErr answer (λ e. e.kind ≡ OutOfMemory) }
 {}

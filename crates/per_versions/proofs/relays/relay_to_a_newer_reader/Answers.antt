@@ -1,0 +1,17 @@
+use Rattle.per_versions.proofs.Faulted
+use Rattle.per_versions.proofs.Laws
+use Rattle.per_versions.proofs.Relayed
+use Rattle.per_versions.proofs.relays.relay_to_a_newer_reader.Goals as goal
+use Rattle.rasn_per.specs.Complete.{reading}
+use Rattle.rasn_types.specs.Codecs.{variant_of}
+
+pub returns : goal.returns
+returns g c = λ l i k strict again codec other x octets written answer d e.
+    let newer = g.New.AsnType.schema g.New.AsnType.CONSTRAINTS in
+    let older = g.Old.AsnType.schema g.Old.AsnType.CONSTRAINTS in
+    let n = g.New.AsnType.levelled g.New.AsnType.CONSTRAINTS in
+    let o = g.Old.AsnType.levelled g.Old.AsnType.CONSTRAINTS in
+    let a = reading strict (variant_of codec) in
+    let v = g.Old.AsnType.value x in
+    Faulted.passes other older (g.Old.AsnType.levels x) v _ written e (λ others h f. Laws.answered again other newer g.New.AsnType.value others answer _ f
+    (Relayed.newer_relayed a (reading again (variant_of other)) newer older n o l.lawful k (g.Old.AsnType.levels x) v octets others d.ok.are_read h)) (Faulted.no_refusal older o l a v octets d.ok.are_read other i (g.Old.AsnType.levels x) written e)
