@@ -1,0 +1,4 @@
+pub mod Alike
+pub mod Compared
+pub mod Judged
+pub mod Verdicts
