@@ -6,7 +6,7 @@ use Rattle.rasn_constraints.specs.Bounds.{Size}
 use Rattle.rasn_schema.specs.Forms.{IsSimple}
 use Rattle.rasn_schema.specs.Levels.{ToLevels, PartsToLevels, to_leaf, to_date, no_date, still_cut, no_level, to_list, to_set_of, to_sequence, to_choice, to_no_parts, to_part}
 use Rattle.rasn_schema.specs.Schemas.{TagTree, Presence, required, optional, group, default, Order, Schema, Parts, no_parts, part}
-use Rattle.per_core.specs.Versions.{project, widen}
+use Rattle.per_core.specs.Versions.{widen}
 use Rattle.per_core.proofs.Codes.{equal_lists_same, same_true}
 use Rattle.per_core.proofs.Lengths.{and_left, and_right}
 use Rattle.per_laws.specs.Successors.{DefaultSucceeds, PresenceSucceeds, Succeeds, SucceedsParts, succeeds_itself, succeeds_items, succeeds_list, succeeds_set_of, succeeds_sequence, succeeds_choice, none_succeed, added_parts, succeeds_part}
@@ -145,13 +145,9 @@ presence_sound required required s' s h t' t c d = tt
 presence_sound optional optional s' s h t' t c d = tt
 presence_sound group group s' s h t' t c d = tt
 presence_sound (default v') (default v) s' s h t' t c d =
-    let test : Bool = is_made (widen s' s v) v' && is_made (project s s v) v in
-    let a = passed (is_whole s' && is_whole s) no_end (unless test other_default allowed) refl h in
-    let b = passed test other_default allowed refl a.1 in
-    let k : DefaultSucceeds s' s v' v = record {
-      widened = λ m. made_is (widen s' s v) v' (and_left (is_made (widen s' s v) v') (is_made (project s s v) v) b.0);
-      valid = λ m. made_is (project s s v) v (and_right (is_made (widen s' s v) v') (is_made (project s s v) v) b.0);
-    } in
+    let a = passed (is_whole s' && is_whole s) no_end (unless (is_made (widen s' s v) v') other_default allowed) refl h in
+    let b = passed (is_made (widen s' s v) v') other_default allowed refl a.1 in
+    let k : DefaultSucceeds s' s v' v = record { widened = λ m. made_is (widen s' s v) v' b.0 } in
     subst (λ r. DefaultSucceeds r t v' v) (sym (whole_stays c (and_left (is_whole s') (is_whole s) a.0)))
     (subst (λ r. DefaultSucceeds s' r v' v) (sym (whole_stays d (and_right (is_whole s') (is_whole s) a.0))) k)
 presence_sound _ _ s' s h t' t c d = absurd (cc)

@@ -1,13 +1,14 @@
 -- A newer version is one along the first levels of both trees, too.
 use Rattle.std.proofs.Common.{◌≡◌, ℕ, ◌+◌, Bool, arith}
+use Rattle.rasn_schema.specs.Lawful.{IsLawfulType}
 use Rattle.rasn_schema.specs.Levels.{TakesLevel, ToLevels, PartsToLevels, Levelled, to_leaf, to_date, no_date, still_cut, no_level, to_list, to_set_of, to_sequence, to_choice, to_no_parts, to_part}
 use Rattle.rasn_schema.specs.Schemas.{Presence, required, optional, group, default, Schema, Parts}
 use Rattle.per_core.specs.Versions.{IsPlain, NewerType}
-use Rattle.per_laws.proofs.Fixed.{kept_shallower}
 use Rattle.per_laws.proofs.Successors.{successors_are_newer}
 use Rattle.per_laws.proofs.Types.{less_cut}
 use Rattle.per_laws.proofs.Wider.{narrower}
-use Rattle.per_laws.specs.Successors.{PresenceSucceeds, Succeeds, SucceedsParts, succeeds_itself, succeeds_items, succeeds_list, succeeds_set_of, succeeds_sequence, succeeds_choice, none_succeed, added_parts, succeeds_part}
+use Rattle.per_laws.specs.Successors.{PresenceSucceeds, Succeeds, SucceedsParts, SucceedsType, succeeds_itself, succeeds_items, succeeds_list, succeeds_set_of, succeeds_sequence, succeeds_choice, none_succeed, added_parts, succeeds_part}
+use Rattle.per_depth.proofs.Itself.{newer_than_itself}
 use Rattle.per_depth.proofs.Levelled.{levelled_type_unfolds, levels_up_to, to_cut}
 use Rattle.rasn_versions.specs.Compared.{comparison}
 use Rattle.rasn_versions.specs.Verdicts.{allowed}
@@ -50,10 +51,8 @@ presence_shallower : (p' p : Presence) {k : ℕ} {s' s t' t : Schema} → Presen
 presence_shallower required required h n c d = tt
 presence_shallower optional optional h n c d = tt
 presence_shallower group group h n c d = tt
-presence_shallower (default v') (default v) h n c d = record {
-  widened = λ m. narrower n (to_cut c) (to_cut d) v v' (h.widened (less_cut (to_cut c) v' m)) m;
-  valid = λ m. kept_shallower (to_cut d) v (h.valid (less_cut (to_cut c) v' m));
-}
+presence_shallower (default v') (default v) h n c d =
+    record { widened = λ m. narrower n (to_cut c) (to_cut d) v v' (h.widened (less_cut (to_cut c) v' m)) m }
 presence_shallower _ _ h n c d = absurd h
 
 mutual
@@ -90,9 +89,13 @@ mutual
       let m = shallower n c d in succeeds_part (presence_shallower p' p h m c d) m (parts_shallower ns cs ds)
 
 -- types that pass a comparison of their trees of 128 levels
-pub compared_is_newer : (T' T : ℕ → Schema) → Levelled T' → Levelled T → comparison T' T ≡ allowed → NewerType T' T
+pub compared_succeeds : (T' T : ℕ → Schema) → Levelled T' → Levelled T → comparison T' T ≡ allowed → SucceedsType T' T
 unfolding comparison
-compared_is_newer T' T g' g e = (successors_are_newer T' T (levelled_type_unfolds T' g') (levelled_type_unfolds T g)).0 (λ n.
+compared_succeeds T' T g' g e n =
     let m : ℕ = 128 + n in
     let deep = sound (T' 128) (T 128) e 128 (T' m) (T m) (levels_up_to T' g' 128 m (omega arith)) (levels_up_to T g 128 m (omega arith)) in
-    shallower deep (levels_up_to T' g' n m (omega arith)) (levels_up_to T g n m (omega arith)))
+    shallower deep (levels_up_to T' g' n m (omega arith)) (levels_up_to T g n m (omega arith))
+
+pub compared_is_newer : (T' T : ℕ → Schema) → Levelled T' → Levelled T → IsLawfulType T → comparison T' T ≡ allowed → NewerType T' T
+compared_is_newer T' T g' g l e =
+    (successors_are_newer T' T (levelled_type_unfolds T' g') l.unfolds (newer_than_itself T l)).0 (compared_succeeds T' T g' g e)

@@ -4,7 +4,7 @@ use Rattle.std.specs.Prelude.{ℕ, suc, Bool, false, cond, ◌&&◌, nat_le, ◌
 use Rattle.rasn_types.specs.Values.{Value, equal_lists, same}
 use Rattle.rasn_constraints.specs.Bounds.{Size}
 use Rattle.rasn_schema.specs.Schemas.{TagTree, Presence, required, optional, group, default, Order, Schema, Parts, no_parts, part}
-use Rattle.per_core.specs.Versions.{project, widen}
+use Rattle.per_core.specs.Versions.{widen}
 use Rattle.rasn_versions.specs.Alike.{is_whole, same_bounds, same_order, same_size, same_text, same_time, same_tree, same_truth}
 use Rattle.rasn_versions.specs.Verdicts.{Verdict, allowed, other_kind, other_bounds, other_range, other_size, other_alphabet, other_items, other_marker, other_order, other_tag, other_presence, other_default, left_out, put_in, no_end, in_element, in_root, in_additions, at_place, both, unless, within}
 
@@ -58,12 +58,12 @@ is_made (Some w) d = same w d
 
 -- X.680 25.1, 25.9: the same presence, save that a default is the older one with its added parts absent or at their defaults
 unfoldable pub compare_presence : Schema → Schema → Presence → Presence → Verdict
-unfolding is_made widen project
+unfolding is_made widen
 compare_presence s' s required required = allowed
 compare_presence s' s optional optional = allowed
 compare_presence s' s group group = allowed
 compare_presence s' s (default d') (default d) =
-    unless (is_whole s' && is_whole s) no_end (unless (is_made (widen s' s d) d' && is_made (project s s d) d) other_default allowed)
+    unless (is_whole s' && is_whole s) no_end (unless (is_made (widen s' s d) d') other_default allowed)
 compare_presence s' s _ _ = other_presence
 
 -- no further component

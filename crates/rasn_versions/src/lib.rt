@@ -14,12 +14,12 @@ ghost use Rattle.rasn_versions.specs.Verdicts.{allowed};
 
 use rasn_schema::schema::AsnType;
 
-/// A type of which the comparison with an older one finds nothing that isn't allowed is a newer version of it, at each
-/// number of levels: more additions, alternatives or items behind an extension marker, at any depth, and nothing else
-/// (X.680, 52).
+/// A type of which the comparison with an older, lawful one finds nothing that isn't allowed is a newer version of it, at
+/// each number of levels: more additions, alternatives or items behind an extension marker, at any depth, and nothing
+/// else (X.680, 52).
 pub fn compared_type_is_newer()
-    ensures { (newer older : ℕ → Schema) → Levelled newer → Levelled older → comparison newer older ≡ allowed
-        → NewerType newer older }
+    ensures { (newer older : ℕ → Schema) → Levelled newer → Levelled older → IsLawfulType older
+        → comparison newer older ≡ allowed → NewerType newer older }
 {}
 
 /// A type of which the judgement finds nothing unlawful is lawful, at each number of levels (X.680, 25, 27, 29, 51).
@@ -28,9 +28,10 @@ pub fn judged_type_is_lawful()
 {}
 
 /// The first type is a newer version of the second, where the comparison of the two finds nothing that isn't allowed
-/// (X.680, 52).
+/// and the second one is lawful (X.680, 52).
 pub fn is_newer_version<New: AsnType, Old: AsnType>()
-    requires { comparison (New.schema New.CONSTRAINTS) (Old.schema Old.CONSTRAINTS) ≡ allowed }
+    requires allowed { comparison (New.schema New.CONSTRAINTS) (Old.schema Old.CONSTRAINTS) ≡ allowed }
+    requires lawful { judgement (Old.schema Old.CONSTRAINTS) ≡ allowed }
     ensures { NewerType (New.schema New.CONSTRAINTS) (Old.schema Old.CONSTRAINTS) }
 {}
 
