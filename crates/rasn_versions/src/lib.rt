@@ -3,6 +3,8 @@
 //! prints what isn't allowed and its place.
 #![tactic(auto)]
 
+pub mod parts;
+
 ghost use Rattle.std.specs.Prelude.{◌≡◌, ℕ};
 ghost use Rattle.rasn_schema.specs.Lawful.{IsLawfulType};
 ghost use Rattle.rasn_schema.specs.Levels.{Levelled};
