@@ -11,7 +11,7 @@ use Rattle.per_core.proofs.Codes.{equal_lists_same, same_true}
 use Rattle.per_core.proofs.Lengths.{and_left, and_right}
 use Rattle.per_laws.specs.Successors.{DefaultSucceeds, PresenceSucceeds, Succeeds, SucceedsParts, succeeds_itself, succeeds_items, succeeds_list, succeeds_set_of, succeeds_sequence, succeeds_choice, none_succeed, added_parts, succeeds_part}
 use Rattle.rasn_versions.specs.Alike.{is_whole, same_bounds, same_order, same_size, same_text, same_time, same_tree, same_truth}
-use Rattle.rasn_versions.specs.Compared.{compare_leaf, compare_list, compare_set_of, compare_sequence, compare_choice, is_made, compare_presence, compare_end, compare_part, compare, compare_parts}
+use Rattle.rasn_versions.specs.Compared.{compare_leaf, compare_list, compare_set_of, compare_sequence, compare_choice, is_made, is_widened, compare_presence, compare_end, compare_part, compare, compare_parts}
 use Rattle.rasn_versions.specs.Verdicts.{Verdict, allowed, other_kind, other_bounds, other_range, other_size, other_alphabet, other_items, other_marker, other_order, other_tag, other_default, no_end, in_element, in_root, in_additions, at_place, both, unless, within}
 use Rattle.rasn_versions.proofs.Alike.{one_truth, one_size, one_bounds, one_text, one_time, one_order, one_tree, whole_stays}
 use Rattle.rasn_versions.proofs.Verdicts.{passed, both_allowed, within_allowed}
@@ -139,17 +139,20 @@ unfolding is_made
 made_is None d e = absurd (cc)
 made_is (Some w) d e = ap Some (same_true w d e)
 
+widened_is : (s' s : Schema) (d' d : Value) → is_widened s' s d' d ≡ true → widen s' s d ≡ Some d'
+unfolding is_widened
+widened_is s' s d' d e = made_is (widen s' s d) d' e
+
 presence_sound : (p' p : Presence) (s' s : Schema) → compare_presence s' s p' p ≡ allowed → {k : ℕ} (t' t : Schema) → ToLevels k s' t' → ToLevels k s t → PresenceSucceeds t' t p' p
-unfolding compare_presence
 presence_sound required required s' s h t' t c d = tt
 presence_sound optional optional s' s h t' t c d = tt
 presence_sound group group s' s h t' t c d = tt
 presence_sound (default v') (default v) s' s h t' t c d =
-    let a = passed (is_whole s' && is_whole s) no_end (unless (is_made (widen s' s v) v') other_default allowed) refl h in
-    let b = passed (is_made (widen s' s v) v') other_default allowed refl a.1 in
-    let k : DefaultSucceeds s' s v' v = record { widened = λ m. made_is (widen s' s v) v' b.0 } in
+    let a = passed (is_whole s' && is_whole s) no_end (unless (is_widened s' s v' v) other_default allowed) refl h in
+    let b = passed (is_widened s' s v' v) other_default allowed refl a.1 in
+    let k : DefaultSucceeds s' s v' v = record { widened = λ m. widened_is s' s v' v b.0 } in
     subst (λ r. DefaultSucceeds r t v' v) (sym (whole_stays c (and_left (is_whole s') (is_whole s) a.0)))
-    (subst (λ r. DefaultSucceeds s' r v' v) (sym (whole_stays d (and_right (is_whole s') (is_whole s) a.0))) k)
+        (subst (λ r. DefaultSucceeds s' r v' v) (sym (whole_stays d (and_right (is_whole s') (is_whole s) a.0))) k)
 presence_sound _ _ s' s h t' t c d = absurd (cc)
 
 end_sound : (may : Bool) → SoundParts may no_parts compare_end
@@ -158,7 +161,6 @@ end_sound may i (part t p s ps) h k qs' qs c d = absurd (cc)
 
 part_sound : (may : Bool) (t' : TagTree) (p' : Presence) (s' : Schema) (ps' : Parts) (f : Schema → Verdict) (g : ℕ → Parts → Verdict) → Sound s' f → SoundParts may ps' g →
     SoundParts may (part t' p' s' ps') (compare_part may t' p' s' f g)
-unfolding compare_part
 part_sound true t' p' s' ps' f g r q i no_parts h k qs' qs (to_part c cs) to_no_parts = added_parts
 part_sound false t' p' s' ps' f g r q i no_parts h k qs' qs c d = absurd (cc)
 part_sound may t' p' s' ps' f g r q i (part t p s ps) h k no_parts qs c d = elim c [ ]
@@ -172,8 +174,6 @@ part_sound may t' p' s' ps' f g r q i (part t p s ps) h k (part u' y' w' qs') (p
     rw (one_tree t' t b.0) (succeeds_part (presence_sound p' p s' s e.1 w' w c d) n (q (suc i) ps a.1 k qs' qs cs ds))
 
 mutual
-  unfolding compare
-
   pub sound : (s' : Schema) → Sound s' (compare s')
   sound (Schema.list e z m) = list_sound e z m (compare e) (sound e)
   sound (Schema.set_of e z m) = set_sound e z m (compare e) (sound e)

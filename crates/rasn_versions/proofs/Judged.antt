@@ -3,7 +3,7 @@ use Rattle.std.proofs.Common.{◌≡◌, refl, sym, ap, ◌∙◌, ap₂, subst,
 use Rattle.rasn_types.specs.Values.{Value, elements, bag, bag_of, fields, alternative, root, added, values, slots, same}
 use Rattle.rasn_constraints.specs.LawfulConstraints.{are_lawful_bounds, is_lawful_size}
 use Rattle.rasn_schema.specs.Depth.{CutOf, CutParts, cut_here, alike, cut_list, cut_set_of, cut_sequence, cut_choice, no_cut, cut_part, any_of, meets_cut, slots_meet_cut, meets_cut_at}
-use Rattle.rasn_schema.specs.Lawful.{leaves, are_distinct, are_lawful_tags, are_required, is_group_schema, is_value, are_values, is_value_at, no_groups, has_bit, presence_bits, tags_below, all_pass, is_countable, if_bag, slot_passes, IsLawful, AreLawful, IsLawfulPresence, IsLawfulRecord, IsLawfulChoice, IsLawfulType}
+use Rattle.rasn_schema.specs.Lawful.{IsLawfulDefault, leaves, are_distinct, are_lawful_tags, are_required, is_group_schema, is_value, are_values, is_value_at, no_groups, has_bit, presence_bits, tags_below, all_pass, is_countable, if_bag, slot_passes, IsLawful, AreLawful, IsLawfulPresence, IsLawfulRecord, IsLawfulChoice, IsLawfulType}
 use Rattle.rasn_schema.specs.Levels.{Levelled}
 use Rattle.rasn_schema.specs.Normal.{normal}
 use Rattle.rasn_schema.specs.Schemas.{Presence, required, optional, group, default, Order, listed, by_tag, Schema, Parts, no_parts, part}
@@ -13,7 +13,7 @@ use Rattle.per_laws.proofs.Types.{less_cut}
 use Rattle.per_depth.proofs.Levelled.{levelled_type_unfolds, levels_up_to, to_cut}
 use Rattle.per_depth.proofs.NormalForms.{normal_alike}
 use Rattle.rasn_versions.specs.Alike.{is_whole, are_whole}
-use Rattle.rasn_versions.specs.Judged.{judge_presence, judge_record, judge_choice, judge, judge_parts, judgement}
+use Rattle.rasn_versions.specs.Judged.{is_good_default, are_good_tags, are_told_apart, judge_presence, judge_record, judge_choice, judge, judge_parts, judgement}
 use Rattle.rasn_versions.specs.Verdicts.{allowed, bad_bounds, bad_size, root_group, bad_group, many_bits, repeated_tag, bad_alternative, bad_default, no_end, in_element, in_root, in_additions, at_place, both, unless, within}
 use Rattle.rasn_versions.proofs.Alike.{whole_stays}
 use Rattle.rasn_versions.proofs.Verdicts.{passed, both_allowed, within_allowed}
@@ -22,38 +22,45 @@ and_both : (a b : Bool) → a ≡ true → b ≡ true → (a && b) ≡ true
 and_both a b e f = ap₂ (λ x y. x && y) e f
 
 -- what passes the judgement is lawful
+default_lawful : (s : Schema) (d : Value) → is_good_default s d ≡ true → IsLawfulDefault s d
+unfolding is_good_default
+default_lawful s d e = record {
+  is_of_kind = λ m. and_left (is_value s d) (same (normal s d) d) e;
+  is_normal = λ m. same_true (normal s d) d (and_right (is_value s d) (same (normal s d) d) e);
+}
+
+good_tags : (o : Order) (ps adds : Parts) → are_good_tags o ps adds ≡ true → are_lawful_tags o ps adds ≡ true
+unfolding are_good_tags
+good_tags o ps adds e = e
+
+told_apart : (ps adds : Parts) → are_told_apart ps adds ≡ true → are_distinct (tags_below ps ++ tags_below adds) ≡ true
+unfolding are_told_apart
+told_apart ps adds e = e
+
 presence_lawful : (p : Presence) (s : Schema) → judge_presence s p ≡ allowed → IsLawfulPresence s p
-unfolding judge_presence
 presence_lawful required s h = tt
 presence_lawful optional s h = tt
 presence_lawful group s h = (passed (is_group_schema s) bad_group allowed refl h).0
 presence_lawful (default d) s h =
-    let a = passed (is_whole s) no_end (unless (is_value s d && same (normal s d) d) bad_default allowed) refl h in
-    let b = passed (is_value s d && same (normal s d) d) bad_default allowed refl a.1 in
-    record {
-      is_of_kind = λ m. and_left (is_value s d) (same (normal s d) d) b.0;
-      is_normal = λ m. same_true (normal s d) d (and_right (is_value s d) (same (normal s d) d) b.0);
-    }
+    let a = passed (is_whole s) no_end (unless (is_good_default s d) bad_default allowed) refl h in
+    default_lawful s d (passed (is_good_default s d) bad_default allowed refl a.1).0
 
 record_lawful : (o : Order) (ps adds : Parts) → judge_record o ps adds ≡ allowed → IsLawfulRecord o ps adds
-unfolding judge_record
 record_lawful o ps adds h =
     let bits : Bool = ltb (presence_bits ps) 65536 in
-    let a = passed (no_groups ps) root_group (unless bits many_bits (unless (are_lawful_tags o ps adds) repeated_tag allowed)) refl h in
-    let b = passed bits many_bits (unless (are_lawful_tags o ps adds) repeated_tag allowed) refl a.1 in
-    let c = passed (are_lawful_tags o ps adds) repeated_tag allowed refl b.1 in
-    record { root_groups = a.0; few_bits = b.0; lawful_tags = c.0 }
+    let a = passed (no_groups ps) root_group (unless bits many_bits (unless (are_good_tags o ps adds) repeated_tag allowed)) refl h in
+    let b = passed bits many_bits (unless (are_good_tags o ps adds) repeated_tag allowed) refl a.1 in
+    let c = passed (are_good_tags o ps adds) repeated_tag allowed refl b.1 in
+    record { root_groups = a.0; few_bits = b.0; lawful_tags = good_tags o ps adds c.0 }
 
 choice_lawful : (ps adds : Parts) → judge_choice ps adds ≡ allowed → IsLawfulChoice ps adds
-unfolding judge_choice
 choice_lawful ps adds h =
-    let tags : Bool = are_distinct (tags_below ps ++ tags_below adds) in
-    let a = passed (are_required ps && are_required adds) bad_alternative (unless tags repeated_tag allowed) refl h in
-    let b = passed tags repeated_tag allowed refl a.1 in
-    record { all_required = a.0; distinct_tags = b.0 }
+    let a = passed (are_required ps && are_required adds) bad_alternative (unless (are_told_apart ps adds) repeated_tag allowed) refl h in
+    let b = passed (are_told_apart ps adds) repeated_tag allowed refl a.1 in
+    record { all_required = a.0; distinct_tags = told_apart ps adds b.0 }
 
 mutual
-  unfolding judge IsLawful
+  unfolding IsLawful
 
   pub judged_is_lawful : (s : Schema) → judge s ≡ allowed → IsLawful s × (is_whole s ≡ true)
   judged_is_lawful Schema.cut h = absurd (cc)
@@ -229,7 +236,6 @@ mutual
 
 -- types that pass a judgement of their tree of 128 levels
 pub judged_type : (T : ℕ → Schema) → Levelled T → judgement T ≡ allowed → IsLawfulType T
-unfolding judgement
 judged_type T g e = record {
   unfolds = levelled_type_unfolds T g;
   lawful = λ n.

@@ -90,7 +90,6 @@ mutual
 
 -- types that pass a comparison of their trees of 128 levels
 pub compared_succeeds : (T' T : ℕ → Schema) → Levelled T' → Levelled T → comparison T' T ≡ allowed → SucceedsType T' T
-unfolding comparison
 compared_succeeds T' T g' g e n =
     let m : ℕ = 128 + n in
     let deep = sound (T' 128) (T 128) e 128 (T' m) (T m) (levels_up_to T' g' 128 m (omega arith)) (levels_up_to T g 128 m (omega arith)) in

@@ -56,14 +56,17 @@ unfolding same
 is_made None d = false
 is_made (Some w) d = same w d
 
--- X.680 25.1, 25.9: the same presence, save that a default is the older one with its added parts absent or at their defaults
-unfoldable pub compare_presence : Schema → Schema → Presence → Presence → Verdict
+-- X.680 52: whether a newer default is the older one as a newer reader sees it: its added parts absent or at their defaults
+unfoldable pub is_widened : Schema → Schema → Value → Value → Bool
 unfolding is_made widen
+is_widened s' s d' d = is_made (widen s' s d) d'
+
+-- X.680 25.1, 25.9: the same presence, save that a default is widened
+abbrev pub compare_presence : Schema → Schema → Presence → Presence → Verdict
 compare_presence s' s required required = allowed
 compare_presence s' s optional optional = allowed
 compare_presence s' s group group = allowed
-compare_presence s' s (default d') (default d) =
-    unless (is_whole s' && is_whole s) no_end (unless (is_made (widen s' s d) d') other_default allowed)
+compare_presence s' s (default d') (default d) = unless (is_whole s' && is_whole s) no_end (unless (is_widened s' s d' d) other_default allowed)
 compare_presence s' s _ _ = other_presence
 
 -- no further component
@@ -72,15 +75,12 @@ compare_end i no_parts = allowed
 compare_end i (part t p s ps) = at_place i left_out
 
 -- a component, and those behind it, of which verdicts are there
-unfoldable pub compare_part : Bool → TagTree → Presence → Schema → (Schema → Verdict) → (ℕ → Parts → Verdict) → ℕ → Parts → Verdict
-unfolding compare_presence
+abbrev pub compare_part : Bool → TagTree → Presence → Schema → (Schema → Verdict) → (ℕ → Parts → Verdict) → ℕ → Parts → Verdict
 compare_part may t' p' s' f g i no_parts = cond may allowed (at_place i put_in)
 compare_part may t' p' s' f g i (part t p s ps) =
     both (within (at_place i) (unless (same_tree t' t) other_tag (both (f s) (compare_presence s' s p' p)))) (g (suc i) ps)
 
-unfoldable mutual
-  unfolding compare_part
-
+abbrev mutual
   -- X.680 52: what isn't allowed in a newer schema beside an older one
   pub compare : Schema → Schema → Verdict
   compare (Schema.list e size mark) = compare_list (compare e) size mark
@@ -95,6 +95,5 @@ unfoldable mutual
   compare_parts may (part t p s ps) = compare_part may t p s (compare s) (compare_parts may ps)
 
 -- the same of types, in their trees of 128 levels
-unfoldable pub comparison : (ℕ → Schema) → (ℕ → Schema) → Verdict
-unfolding compare
+abbrev pub comparison : (ℕ → Schema) → (ℕ → Schema) → Verdict
 comparison newer older = compare (newer 128) (older 128)
