@@ -152,7 +152,7 @@ presence_sound (default v') (default v) s' s h t' t c d =
     let b = passed (is_widened s' s v' v) other_default allowed refl a.1 in
     let k : DefaultSucceeds s' s v' v = record { widened = λ m. widened_is s' s v' v b.0 } in
     subst (λ r. DefaultSucceeds r t v' v) (sym (whole_stays c (and_left (is_whole s') (is_whole s) a.0)))
-        (subst (λ r. DefaultSucceeds s' r v' v) (sym (whole_stays d (and_right (is_whole s') (is_whole s) a.0))) k)
+    (subst (λ r. DefaultSucceeds s' r v' v) (sym (whole_stays d (and_right (is_whole s') (is_whole s) a.0))) k)
 presence_sound _ _ s' s h t' t c d = absurd (cc)
 
 end_sound : (may : Bool) → SoundParts may no_parts compare_end

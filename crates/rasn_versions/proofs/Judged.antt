@@ -13,7 +13,7 @@ use Rattle.per_laws.proofs.Types.{less_cut}
 use Rattle.per_depth.proofs.Levelled.{levelled_type_unfolds, levels_up_to, to_cut}
 use Rattle.per_depth.proofs.NormalForms.{normal_alike}
 use Rattle.rasn_versions.specs.Alike.{is_whole, are_whole}
-use Rattle.rasn_versions.specs.Judged.{is_good_default, are_good_tags, are_told_apart, judge_presence, judge_record, judge_choice, judge, judge_parts, judgement}
+use Rattle.rasn_versions.specs.Judged.{is_good_default, are_told_apart, judge_presence, judge_tags, judge_record, judge_choice, judge, judge_parts, judgement}
 use Rattle.rasn_versions.specs.Verdicts.{allowed, bad_bounds, bad_size, root_group, bad_group, many_bits, repeated_tag, bad_alternative, bad_default, no_end, in_element, in_root, in_additions, at_place, both, unless, within}
 use Rattle.rasn_versions.proofs.Alike.{whole_stays}
 use Rattle.rasn_versions.proofs.Verdicts.{passed, both_allowed, within_allowed}
@@ -29,13 +29,13 @@ default_lawful s d e = record {
   is_normal = λ m. same_true (normal s d) d (and_right (is_value s d) (same (normal s d) d) e);
 }
 
-good_tags : (o : Order) (ps adds : Parts) → are_good_tags o ps adds ≡ true → are_lawful_tags o ps adds ≡ true
-unfolding are_good_tags
-good_tags o ps adds e = e
-
 told_apart : (ps adds : Parts) → are_told_apart ps adds ≡ true → are_distinct (tags_below ps ++ tags_below adds) ≡ true
 unfolding are_told_apart
 told_apart ps adds e = e
+
+tags_lawful : (o : Order) (ps adds : Parts) → judge_tags o ps adds ≡ allowed → are_lawful_tags o ps adds ≡ true
+tags_lawful listed ps adds h = refl
+tags_lawful by_tag ps adds h = told_apart ps adds (passed (are_told_apart ps adds) repeated_tag allowed refl h).0
 
 presence_lawful : (p : Presence) (s : Schema) → judge_presence s p ≡ allowed → IsLawfulPresence s p
 presence_lawful required s h = tt
@@ -48,10 +48,9 @@ presence_lawful (default d) s h =
 record_lawful : (o : Order) (ps adds : Parts) → judge_record o ps adds ≡ allowed → IsLawfulRecord o ps adds
 record_lawful o ps adds h =
     let bits : Bool = ltb (presence_bits ps) 65536 in
-    let a = passed (no_groups ps) root_group (unless bits many_bits (unless (are_good_tags o ps adds) repeated_tag allowed)) refl h in
-    let b = passed bits many_bits (unless (are_good_tags o ps adds) repeated_tag allowed) refl a.1 in
-    let c = passed (are_good_tags o ps adds) repeated_tag allowed refl b.1 in
-    record { root_groups = a.0; few_bits = b.0; lawful_tags = good_tags o ps adds c.0 }
+    let a = passed (no_groups ps) root_group (unless bits many_bits (judge_tags o ps adds)) refl h in
+    let b = passed bits many_bits (judge_tags o ps adds) refl a.1 in
+    record { root_groups = a.0; few_bits = b.0; lawful_tags = tags_lawful o ps adds b.1 }
 
 choice_lawful : (ps adds : Parts) → judge_choice ps adds ≡ allowed → IsLawfulChoice ps adds
 choice_lawful ps adds h =

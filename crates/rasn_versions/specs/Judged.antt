@@ -2,9 +2,9 @@
 use Rattle.std.specs.Prelude.{ℕ, suc, Bool, ◌&&◌, nat_lt, ◌++◌}
 use Rattle.rasn_types.specs.Values.{Value, same}
 use Rattle.rasn_constraints.specs.LawfulConstraints.{are_lawful_bounds, is_lawful_size}
-use Rattle.rasn_schema.specs.Lawful.{leaves, are_distinct, are_lawful_tags, are_required, is_group_schema, is_value, no_groups, presence_bits, tags_below}
+use Rattle.rasn_schema.specs.Lawful.{leaves, are_distinct, are_required, is_group_schema, is_value, no_groups, presence_bits, tags_below}
 use Rattle.rasn_schema.specs.Normal.{normal}
-use Rattle.rasn_schema.specs.Schemas.{Presence, required, optional, group, default, Order, Schema, Parts, no_parts, part}
+use Rattle.rasn_schema.specs.Schemas.{Presence, required, optional, group, default, Order, listed, by_tag, Schema, Parts, no_parts, part}
 use Rattle.rasn_versions.specs.Alike.{is_whole}
 use Rattle.rasn_versions.specs.Verdicts.{Verdict, allowed, bad_bounds, bad_size, root_group, bad_group, many_bits, repeated_tag, bad_alternative, bad_default, no_end, in_element, in_root, in_additions, at_place, both, unless, within}
 
@@ -13,12 +13,7 @@ unfoldable pub is_good_default : Schema → Value → Bool
 unfolding is_value normal same
 is_good_default s d = is_value s d && same (normal s d) d
 
--- X.680 27.3: whether a record's tags are as they have to be
-unfoldable pub are_good_tags : Order → Parts → Parts → Bool
-unfolding leaves
-are_good_tags o ps adds = are_lawful_tags o ps adds
-
--- X.680 29.3: whether the tags of alternatives differ
+-- X.680 27.3, 29.3: whether the tags of a SET's components, or of alternatives, differ
 unfoldable pub are_told_apart : Parts → Parts → Bool
 unfolding leaves
 are_told_apart ps adds = are_distinct (tags_below ps ++ tags_below adds)
@@ -30,10 +25,15 @@ judge_presence s optional = allowed
 judge_presence s group = unless (is_group_schema s) bad_group allowed
 judge_presence s (default d) = unless (is_whole s) no_end (unless (is_good_default s d) bad_default allowed)
 
+-- X.680 27.3: a SET's tags differ, a SEQUENCE's may repeat
+abbrev pub judge_tags : Order → Parts → Parts → Verdict
+judge_tags listed ps adds = allowed
+judge_tags by_tag ps adds = unless (are_told_apart ps adds) repeated_tag allowed
+
 -- X.680 27.3: a SEQUENCE or SET, its components aside
 abbrev pub judge_record : Order → Parts → Parts → Verdict
 judge_record o ps adds =
-    unless (no_groups ps) root_group (unless (nat_lt (presence_bits ps) 65536) many_bits (unless (are_good_tags o ps adds) repeated_tag allowed))
+    unless (no_groups ps) root_group (unless (nat_lt (presence_bits ps) 65536) many_bits (judge_tags o ps adds))
 
 -- X.680 29.3: a CHOICE, its alternatives aside
 abbrev pub judge_choice : Parts → Parts → Verdict
