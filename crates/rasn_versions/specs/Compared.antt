@@ -1,5 +1,5 @@
--- Whether one schema is a newer version of another (ITU-T X.680, 52), by computing, and what isn't allowed where it is none. The newer
--- schema comes first.
+-- Whether one schema is a newer version of another (ITU-T X.680, 52), by computing, and what isn't allowed where it is
+-- none. The newer schema comes first.
 use Rattle.std.specs.Prelude.{ℕ, suc, Bool, false, cond, ◌&&◌, nat_le, ◌==◌, Option, Some, None}
 use Rattle.rasn_types.specs.Values.{Value, equal_lists, same}
 use Rattle.rasn_constraints.specs.Bounds.{Size}
@@ -20,34 +20,43 @@ compare_leaf Schema.cut Schema.cut = no_end
 compare_leaf (Schema.text k') (Schema.text k) = unless (same_text k' k) other_kind allowed
 compare_leaf (Schema.time k') (Schema.time k) = unless (same_time k' k) other_kind allowed
 compare_leaf (Schema.number b' m' r') (Schema.number b m r) =
-    unless (same_bounds b' b) other_bounds (unless (same_truth m' m) other_marker (unless (same_bounds r' r) other_range allowed))
+    unless (same_bounds b' b) other_bounds
+    (unless (same_truth m' m) other_marker (unless (same_bounds r' r) other_range allowed))
 compare_leaf (Schema.items r' e' x') (Schema.items r e x) =
-    unless (r' == r) other_items (unless (same_truth x' x) other_marker (unless (cond x (nat_le e e') (e' == e)) other_items allowed))
-compare_leaf (Schema.octet_string z' m') (Schema.octet_string z m) = unless (same_size z' z) other_size (unless (same_truth m' m) other_marker allowed)
-compare_leaf (Schema.bit_string z' m') (Schema.bit_string z m) = unless (same_size z' z) other_size (unless (same_truth m' m) other_marker allowed)
+    unless (r' == r) other_items
+    (unless (same_truth x' x) other_marker (unless (cond x (nat_le e e') (e' == e)) other_items allowed))
+compare_leaf (Schema.octet_string z' m') (Schema.octet_string z m) =
+    unless (same_size z' z) other_size (unless (same_truth m' m) other_marker allowed)
+compare_leaf (Schema.bit_string z' m') (Schema.bit_string z m) =
+    unless (same_size z' z) other_size (unless (same_truth m' m) other_marker allowed)
 compare_leaf (Schema.char_string a' z' m') (Schema.char_string a z m) =
-    unless (equal_lists a' a) other_alphabet (unless (same_size z' z) other_size (unless (same_truth m' m) other_marker allowed))
+    unless (equal_lists a' a) other_alphabet
+    (unless (same_size z' z) other_size (unless (same_truth m' m) other_marker allowed))
 compare_leaf _ _ = other_kind
 
 -- a SEQUENCE OF, of whose elements a verdict is there
 abbrev pub compare_list : (Schema → Verdict) → Size → Bool → Schema → Verdict
-compare_list f z' m' (Schema.list e z m) = unless (same_size z' z) other_size (unless (same_truth m' m) other_marker (within in_element (f e)))
+compare_list f z' m' (Schema.list e z m) =
+    unless (same_size z' z) other_size (unless (same_truth m' m) other_marker (within in_element (f e)))
 compare_list f z' m' _ = other_kind
 
 -- a SET OF
 abbrev pub compare_set_of : (Schema → Verdict) → Size → Bool → Schema → Verdict
-compare_set_of f z' m' (Schema.set_of e z m) = unless (same_size z' z) other_size (unless (same_truth m' m) other_marker (within in_element (f e)))
+compare_set_of f z' m' (Schema.set_of e z m) =
+    unless (same_size z' z) other_size (unless (same_truth m' m) other_marker (within in_element (f e)))
 compare_set_of f z' m' _ = other_kind
 
 -- a SEQUENCE or SET, of whose root components and additions verdicts are there
 abbrev pub compare_sequence : Order → Bool → (Parts → Verdict) → (Parts → Verdict) → Schema → Verdict
 compare_sequence o' x' f g (Schema.sequence o ps x adds) =
-    unless (same_order o' o) other_order (unless (same_truth x' x) other_marker (both (within in_root (f ps)) (within in_additions (g adds))))
+    unless (same_order o' o) other_order
+    (unless (same_truth x' x) other_marker (both (within in_root (f ps)) (within in_additions (g adds))))
 compare_sequence o' x' f g _ = other_kind
 
 -- a CHOICE
 abbrev pub compare_choice : Bool → (Parts → Verdict) → (Parts → Verdict) → Schema → Verdict
-compare_choice x' f g (Schema.choice ps adds x) = unless (same_truth x' x) other_marker (both (within in_root (f ps)) (within in_additions (g adds)))
+compare_choice x' f g (Schema.choice ps adds x) =
+    unless (same_truth x' x) other_marker (both (within in_root (f ps)) (within in_additions (g adds)))
 compare_choice x' f g _ = other_kind
 
 -- whether a value is made, and is the one
@@ -56,7 +65,8 @@ unfolding same
 is_made None d = false
 is_made (Some w) d = same w d
 
--- X.680 52: whether a newer default is the older one as a newer reader sees it: its added parts absent or at their defaults
+-- X.680 52: whether a newer default is the older one as a newer reader sees it: its added parts absent or at their
+-- defaults
 unfoldable pub is_widened : Schema → Schema → Value → Value → Bool
 unfolding is_made widen
 is_widened s' s d' d = is_made (widen s' s d) d'
@@ -66,7 +76,8 @@ abbrev pub compare_presence : Schema → Schema → Presence → Presence → Ve
 compare_presence s' s required required = allowed
 compare_presence s' s optional optional = allowed
 compare_presence s' s group group = allowed
-compare_presence s' s (default d') (default d) = unless (is_whole s' && is_whole s) no_end (unless (is_widened s' s d' d) other_default allowed)
+compare_presence s' s (default d') (default d) =
+    unless (is_whole s' && is_whole s) no_end (unless (is_widened s' s d' d) other_default allowed)
 compare_presence s' s _ _ = other_presence
 
 -- no further component
@@ -75,10 +86,12 @@ compare_end i no_parts = allowed
 compare_end i (part t p s ps) = at_place i left_out
 
 -- a component, and those behind it, of which verdicts are there
-abbrev pub compare_part : Bool → TagTree → Presence → Schema → (Schema → Verdict) → (ℕ → Parts → Verdict) → ℕ → Parts → Verdict
+abbrev pub compare_part : Bool → TagTree → Presence → Schema → (Schema → Verdict) → (ℕ → Parts → Verdict) → ℕ → Parts
+    → Verdict
 compare_part may t' p' s' f g i no_parts = cond may allowed (at_place i put_in)
 compare_part may t' p' s' f g i (part t p s ps) =
-    both (within (at_place i) (unless (same_tree t' t) other_tag (both (f s) (compare_presence s' s p' p)))) (g (suc i) ps)
+    both (within (at_place i) (unless (same_tree t' t) other_tag (both (f s) (compare_presence s' s p' p))))
+    (g (suc i) ps)
 
 abbrev mutual
   -- X.680 52: what isn't allowed in a newer schema beside an older one

@@ -3,7 +3,8 @@ use Rattle.std.specs.Prelude.{ℕ, ◌≡◌, Bool, true, List, [], ◌∷◌}
 use Rattle.rasn_schema.specs.Components.{Component}
 use Rattle.per_core.specs.Versions.{NewerPresence, NewerType}
 
--- a component of the newer version, in the place of one of the older version: under the same tags, as often there, and of a newer type
+-- a component of the newer version, in the place of one of the older version: under the same tags, as often there, and
+-- of a newer type
 pub record IsNewerComponent (new old : Component) : Type 0 where
   pub tags : new.tags ≡ old.tags
   pub presence : (n : ℕ) → NewerPresence (new.schema n) (old.schema n) new.presence old.presence

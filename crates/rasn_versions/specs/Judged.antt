@@ -48,16 +48,21 @@ abbrev mutual
   judge (Schema.octet_string size mark) = unless (is_lawful_size size.least size.most) bad_size allowed
   judge (Schema.bit_string size mark) = unless (is_lawful_size size.least size.most) bad_size allowed
   judge (Schema.char_string alphabet size mark) = unless (is_lawful_size size.least size.most) bad_size allowed
-  judge (Schema.list e size mark) = unless (is_lawful_size size.least size.most) bad_size (within in_element (judge e))
-  judge (Schema.set_of e size mark) = unless (is_lawful_size size.least size.most) bad_size (within in_element (judge e))
-  judge (Schema.sequence o ps ext adds) = both (judge_record o ps adds) (both (within in_root (judge_parts 0 ps)) (within in_additions (judge_parts 0 adds)))
-  judge (Schema.choice ps adds ext) = both (judge_choice ps adds) (both (within in_root (judge_parts 0 ps)) (within in_additions (judge_parts 0 adds)))
+  judge (Schema.list e size mark) =
+      unless (is_lawful_size size.least size.most) bad_size (within in_element (judge e))
+  judge (Schema.set_of e size mark) =
+      unless (is_lawful_size size.least size.most) bad_size (within in_element (judge e))
+  judge (Schema.sequence o ps ext adds) =
+      both (judge_record o ps adds) (both (within in_root (judge_parts 0 ps)) (within in_additions (judge_parts 0 adds)))
+  judge (Schema.choice ps adds ext) =
+      both (judge_choice ps adds) (both (within in_root (judge_parts 0 ps)) (within in_additions (judge_parts 0 adds)))
   judge _ = allowed
 
   -- the same of components, counted from a number
   pub judge_parts : ℕ → Parts → Verdict
   judge_parts i no_parts = allowed
-  judge_parts i (part t p s ps) = both (within (at_place i) (both (judge s) (judge_presence s p))) (judge_parts (suc i) ps)
+  judge_parts i (part t p s ps) =
+      both (within (at_place i) (both (judge s) (judge_presence s p))) (judge_parts (suc i) ps)
 
 -- the same of a type, in its tree of 128 levels
 abbrev pub judgement : (ℕ → Schema) → Verdict

@@ -1,4 +1,5 @@
-//! Three versions in a chain: by way of the middle one or not, the reader at the other end answers the same (X.680, 52).
+//! Three versions in a chain: by way of the middle one or not, the reader at the other end answers the same (X.680,
+//! 52).
 #![tactic(auto)]
 
 ghost use Rattle.std.specs.Prelude.{ℕ, Bool, List, Result, Ok};

@@ -18,7 +18,8 @@ ghost use Rattle.per_samples_f.specs.Outers.{flagged, outer_root, outer2_additio
 pub fn additions_stay_in_their_order()
     ensures at_the_end { comparison (extended_at outer_root outer2_additions) (extended_at outer_root outer3_additions)
         ≡ in_additions (at_place 1 left_out) }
-    ensures of_the_middle { comparison (extended_at outer_root (automatic_from 2 (optional (octet_string (size 3 to 3)) ∷ [])))
+    ensures of_the_middle { comparison
+        (extended_at outer_root (automatic_from 2 (optional (octet_string (size 3 to 3)) ∷ [])))
         (extended_at outer_root outer3_additions) ≡ in_additions (at_place 0 other_kind) }
     ensures in_front { comparison (extended_at outer_root (automatic_from 2 (optional boolean ∷ optional null ∷ [])))
         (extended_at outer_root (automatic_from 2 (optional null ∷ []))) ≡ in_additions (at_place 0 other_kind) }
