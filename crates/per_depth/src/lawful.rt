@@ -13,6 +13,7 @@ ghost use Rattle.per_core.specs.Basic.{fills_known, read};
 ghost use Rattle.per_core.specs.Canon.{canon, bytes};
 ghost use Rattle.per_core.specs.Spellings.{Settings};
 ghost use Rattle.per_core.specs.Versions.{NewerType, project, widen};
+ghost use Rattle.per_laws.specs.Successors.{SucceedsType};
 ghost use Rattle.per_depth.specs.Listings.{has_tag, HasDefault, Relisted};
 ghost use Rattle.per_depth.specs.Written.{is_written, writes_cut};
 
@@ -101,6 +102,15 @@ pub fn newer_lawful_reader_reads_the_widening()
 /// order of lawful types, with `newer_is_transitive` (X.680, section 52).
 pub fn lawful_type_is_newer_than_itself()
     ensures { (family : ℕ → Schema) → IsLawfulType family → NewerType family family }
+{}
+
+/// Of lawful types: a newer version is an extension successor at every number of levels, and nothing else: the same
+/// tree, in which more additions, alternatives and items may stand behind an extension marker, and of which a default
+/// is the older one widened. That the older default is a value of its schema follows from the older type's being
+/// lawful (X.680, section 52).
+pub fn lawful_types_are_versions_where_one_succeeds_the_other()
+    ensures { (newer older : ℕ → Schema) → Unfolds newer → IsLawfulType older → SucceedsType newer older
+        ↔ NewerType newer older }
 {}
 
 /// A default of a lawful record that meets no Cut is a value of its part's schema, in normal form, and isn't written

@@ -6,7 +6,6 @@ use Rattle.rasn_schema.specs.Depth.{meets_cut, slots_meet_cut, meets_cut_at, Cut
 use Rattle.rasn_schema.specs.Schemas.{Presence, required, optional, group, default, Order, TagTree, Schema, Parts, no_parts, part}
 use Rattle.per_core.specs.Versions.{IsWidened, NewerPresence, Newer, NewerParts, NewerType, unchanged, more_items, newer_list, newer_set_of, newer_sequence, newer_choice, no_more, more_parts, also}
 use Rattle.per_core.proofs.Lengths.{or_left, or_right}
-use Rattle.per_laws.proofs.Fixed.{kept_shallower}
 use Rattle.per_laws.proofs.Takes.{some_is}
 use Rattle.per_laws.proofs.Types.{deep_enough, up_to}
 use Rattle.per_laws.proofs.Wider.{wider}
@@ -56,6 +55,35 @@ of_added (succeeds_choice n ns) = ns
 
 of_part : {may : Bool} {t t' : TagTree} {p p' : Presence} {s s' : Schema} {ps ps' : Parts} → SucceedsParts may (part t' p' s' ps') (part t p s ps) → PresenceSucceeds s' s p' p × Succeeds s' s × SucceedsParts may ps' ps
 of_part (succeeds_part h n ns) = (h, n, ns)
+
+-- what stands in a newer version is newer
+in_newer_list : {e' e : Schema} {size size' : Size} {mark mark' : Bool} → Newer (Schema.list e' size' mark') (Schema.list e size mark) → Newer e' e
+in_newer_list (unchanged h) = absurd h
+in_newer_list (newer_list n) = n
+
+in_newer_bag : {e' e : Schema} {size size' : Size} {mark mark' : Bool} → Newer (Schema.set_of e' size' mark') (Schema.set_of e size mark) → Newer e' e
+in_newer_bag (unchanged h) = absurd h
+in_newer_bag (newer_set_of n) = n
+
+in_newer_root : {o o' : Order} {ext ext' : Bool} {ps' ps adds' adds : Parts} → Newer (Schema.sequence o' ps' ext' adds') (Schema.sequence o ps ext adds) → NewerParts false ps' ps
+in_newer_root (unchanged h) = absurd h
+in_newer_root (newer_sequence n ns) = n
+
+in_newer_additions : {o o' : Order} {ext ext' : Bool} {ps' ps adds' adds : Parts} → Newer (Schema.sequence o' ps' ext' adds') (Schema.sequence o ps ext adds) → NewerParts ext adds' adds
+in_newer_additions (unchanged h) = absurd h
+in_newer_additions (newer_sequence n ns) = ns
+
+in_newer_alternatives : {ext ext' : Bool} {ps' ps adds' adds : Parts} → Newer (Schema.choice ps' adds' ext') (Schema.choice ps adds ext) → NewerParts false ps' ps
+in_newer_alternatives (unchanged h) = absurd h
+in_newer_alternatives (newer_choice n ns) = n
+
+in_newer_added : {ext ext' : Bool} {ps' ps adds' adds : Parts} → Newer (Schema.choice ps' adds' ext') (Schema.choice ps adds ext) → NewerParts ext adds' adds
+in_newer_added (unchanged h) = absurd h
+in_newer_added (newer_choice n ns) = ns
+
+in_newer_part : {may : Bool} {t t' : TagTree} {p' p : Presence} {s' s : Schema} {ps' ps : Parts} → NewerParts may (part t' p' s' ps') (part t p s ps) →
+    NewerPresence s' s p' p × Newer s' s × NewerParts may ps' ps
+in_newer_part (also h n ns) = (h, n, ns)
 
 -- a tree that holds a list holds its element, and so on
 in_list : {s' s : Schema} {size size' : Size} {mark mark' : Bool} (v : Value) → Held (Schema.list s' size' mark') (Schema.list s size mark) (elements (value v no_values)) → Held s' s v
@@ -139,40 +167,47 @@ in_others {may} {t} {t'} {p} {p'} {s} {s'} {ps} {ps'} i v h = go h.newer h.older
     go : (qs' qs : Parts) → CutParts (part t' p' s' ps') qs' → CutParts (part t p s ps) qs → SucceedsParts may qs' qs → meets_cut_at qs' (suc i) v ≡ false → HeldAt may ps' ps i v
     go qs' qs (cut_part {ps' = rs'} c cs) (cut_part {ps' = rs} d ds) n m = record { newer = rs'; older = rs; from_newer = cs; from_older = ds; succeeds = (of_part n).2; whole = m }
 
--- a default, compared in a deeper tree that holds it
-default_held : {may : Bool} {t t' : TagTree} {s s' : Schema} {ps ps' : Parts} (d' d : Value) → PresenceSucceeds s' s (default d') (default d) → Succeeds s' s →
+-- a default, compared in a deeper tree that holds it; the older one is a value of its schema, where it is its own projection
+default_held : {may : Bool} {t t' : TagTree} {s s' : Schema} {ps ps' : Parts} (d' d : Value) → PresenceSucceeds s' s (default d') (default d) → IsWidened s s d d → Succeeds s' s →
     HeldAt may (part t' (default d') s' ps') (part t (default d) s ps) zero d' → IsWidened s' s d' d
 unfolding meets_cut
-default_held {may} {t} {t'} {s} {s'} {ps} {ps'} d' d k n h = go h.newer h.older h.from_newer h.from_older h.succeeds h.whole
+default_held {may} {t} {t'} {s} {s'} {ps} {ps'} d' d k own n h = go h.newer h.older h.from_newer h.from_older h.succeeds h.whole
   where
     go : (qs' qs : Parts) → CutParts (part t' (default d') s' ps') qs' → CutParts (part t (default d) s ps) qs → SucceedsParts may qs' qs → meets_cut_at qs' zero d' ≡ false → IsWidened s' s d' d
     go qs' qs (cut_part c cs) (cut_part b bs) m w =
         let i = (of_part m).0 in
-        record { there = k.widened; same = λ x e l. some_is x d' (sym (wider n c b d x e l) ∙ i.widened w); valid = kept_shallower b d (i.valid w) }
+        record { there = k.widened; same = λ x e l. some_is x d' (sym (wider n c b d x e l) ∙ i.widened w); valid = own.valid }
 
-presence_held : {may : Bool} {t t' : TagTree} {s s' : Schema} {ps ps' : Parts} (p' p : Presence) → PresenceSucceeds s' s p' p → Succeeds s' s → ((v : Value) → HeldAt may (part t' p' s' ps') (part t p s ps) zero v) → NewerPresence s' s p' p
-presence_held required required k n h = tt
-presence_held optional optional k n h = tt
-presence_held group group k n h = tt
-presence_held (default d') (default d) k n h = default_held d' d k n (h d')
-presence_held _ _ k n h = absurd k
+presence_held : {may : Bool} {t t' : TagTree} {s s' : Schema} {ps ps' : Parts} (p' p : Presence) → PresenceSucceeds s' s p' p → NewerPresence s s p p → Succeeds s' s →
+    ((v : Value) → HeldAt may (part t' p' s' ps') (part t p s ps) zero v) → NewerPresence s' s p' p
+presence_held required required k own n h = tt
+presence_held optional optional k own n h = tt
+presence_held group group k own n h = tt
+presence_held (default d') (default d) k own n h = default_held d' d k own n (h d')
+presence_held _ _ k own n h = absurd k
 
 mutual
-  newer_held : {s' s : Schema} → Succeeds s' s → ((v : Value) → Held s' s v) → Newer s' s
-  newer_held (succeeds_itself i) h = unchanged i
-  newer_held (succeeds_items i) h = more_items i
-  newer_held (succeeds_list n) h = newer_list (newer_held n (λ v. in_list v (h (elements (value v no_values)))))
-  newer_held (succeeds_set_of n) h = newer_set_of (newer_held n (λ v. in_bag v (h (bag (value v no_values)))))
-  newer_held (succeeds_sequence n ns) h = newer_sequence (newer_parts n (λ i v. in_root i v (h (fields (at_place i v) no_slots)))) (newer_parts ns (λ i v. in_additions i v (h (fields no_slots (at_place i v)))))
-  newer_held (succeeds_choice n ns) h = newer_choice (newer_parts n (λ i v. in_alternatives i v (h (alternative root i v)))) (newer_parts ns (λ i v. in_added i v (h (alternative added i v))))
+  newer_held : {s' s : Schema} → Succeeds s' s → Newer s s → ((v : Value) → Held s' s v) → Newer s' s
+  newer_held (succeeds_itself i) own h = unchanged i
+  newer_held (succeeds_items i) own h = more_items i
+  newer_held (succeeds_list n) own h = newer_list (newer_held n (in_newer_list own) (λ v. in_list v (h (elements (value v no_values)))))
+  newer_held (succeeds_set_of n) own h = newer_set_of (newer_held n (in_newer_bag own) (λ v. in_bag v (h (bag (value v no_values)))))
+  newer_held (succeeds_sequence n ns) own h = newer_sequence
+      (newer_parts n (in_newer_root own) (λ i v. in_root i v (h (fields (at_place i v) no_slots))))
+      (newer_parts ns (in_newer_additions own) (λ i v. in_additions i v (h (fields no_slots (at_place i v)))))
+  newer_held (succeeds_choice n ns) own h = newer_choice
+      (newer_parts n (in_newer_alternatives own) (λ i v. in_alternatives i v (h (alternative root i v))))
+      (newer_parts ns (in_newer_added own) (λ i v. in_added i v (h (alternative added i v))))
 
-  newer_parts : {may : Bool} {ps' ps : Parts} → SucceedsParts may ps' ps → ((i : ℕ) (v : Value) → HeldAt may ps' ps i v) → NewerParts may ps' ps
-  newer_parts none_succeed h = no_more
-  newer_parts added_parts h = more_parts
-  newer_parts (succeeds_part {p = p} {p' = p'} k n ns) h = also (presence_held p' p k n (h zero)) (newer_held n (λ v. in_first v (h zero v))) (newer_parts ns (λ i v. in_others i v (h (suc i) v)))
+  newer_parts : {may : Bool} {ps' ps : Parts} → SucceedsParts may ps' ps → NewerParts may ps ps → ((i : ℕ) (v : Value) → HeldAt may ps' ps i v) → NewerParts may ps' ps
+  newer_parts none_succeed own h = no_more
+  newer_parts added_parts own h = more_parts
+  newer_parts (succeeds_part {p = p} {p' = p'} k n ns) own h =
+      let o = in_newer_part own in
+      also (presence_held p' p k o.0 n (h zero)) (newer_held n o.1 (λ v. in_first v (h zero v))) (newer_parts ns o.2 (λ i v. in_others i v (h (suc i) v)))
 
-successor_is_newer : (T' T : ℕ → Schema) → Unfolds T' → Unfolds T → SucceedsType T' T → NewerType T' T
-successor_is_newer T' T u' u k n = newer_held (k n) (λ v.
+pub successor_is_newer : (T' T : ℕ → Schema) → Unfolds T' → Unfolds T → NewerType T T → SucceedsType T' T → NewerType T' T
+successor_is_newer T' T u' u own k n = newer_held (k n) (own n) (λ v.
     let h = deep_enough T' u' v n in
     record { newer = T' h.0; older = T h.0; from_newer = up_to T' u' n h.0 h.1; from_older = up_to T u n h.0 h.1; succeeds = k h.0; whole = h.2 })
 
@@ -181,7 +216,7 @@ presence_succeeds : (s' s : Schema) (p' p : Presence) → NewerPresence s' s p' 
 presence_succeeds s' s required required k = tt
 presence_succeeds s' s optional optional k = tt
 presence_succeeds s' s group group k = tt
-presence_succeeds s' s (default d') (default d) k = record { widened = k.there; valid = λ m. k.valid }
+presence_succeeds s' s (default d') (default d) k = record { widened = k.there }
 presence_succeeds s' s _ _ k = absurd k
 
 mutual
@@ -198,5 +233,5 @@ mutual
   parts_succeed more_parts = added_parts
   parts_succeed (also {p = p} {p' = p'} {s = s} {s' = s'} k n ns) = succeeds_part (presence_succeeds s' s p' p k) (newer_succeeds n) (parts_succeed ns)
 
-pub successors_are_newer : (T' T : ℕ → Schema) → Unfolds T' → Unfolds T → SucceedsType T' T ↔ NewerType T' T
-successors_are_newer T' T u' u = (successor_is_newer T' T u' u, λ k n. newer_succeeds (k n))
+pub successors_are_newer : (T' T : ℕ → Schema) → Unfolds T' → Unfolds T → NewerType T T → SucceedsType T' T ↔ NewerType T' T
+successors_are_newer T' T u' u own = (successor_is_newer T' T u' u own, λ k n. newer_succeeds (k n))

@@ -4,12 +4,11 @@ use Rattle.rasn_types.specs.Values.{Value}
 use Rattle.rasn_constraints.specs.Bounds.{Size}
 use Rattle.rasn_schema.specs.Depth.{meets_cut}
 use Rattle.rasn_schema.specs.Schemas.{Presence, required, optional, group, default, Order, TagTree, Schema, Parts, no_parts, part}
-use Rattle.per_core.specs.Versions.{IsPlain, project, widen}
+use Rattle.per_core.specs.Versions.{IsPlain, widen}
 
--- where the newer default is whole, it is the older one as a newer reader sees it, and the older one is a value of its schema
+-- where the newer default is whole, it is the older one as a newer reader sees it
 pub record DefaultSucceeds (s' s : Schema) (d' d : Value) : Type 0 where
   pub widened : meets_cut s' d' ≡ false → widen s' s d ≡ Some d'
-  pub valid : meets_cut s' d' ≡ false → project s s d ≡ Some d
 
 -- the newer part's schema, the older's, and the presence of each: the same, save that a default is widened
 abbrev pub PresenceSucceeds : Schema → Schema → Presence → Presence → Type 0

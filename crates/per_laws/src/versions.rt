@@ -142,9 +142,10 @@ pub fn newer_reader_reads_the_widening()
         ↔ ((widen (newer n) (older n) w ≡ Some v) × (after ≡ rest))) }
 {}
 
-/// Of types of any depth: a newer version is one that is an extension successor at every number of levels. So versions
-/// owe that a default is the older one widened only in trees that hold it (X.680, 52).
+/// Of types of any depth: a newer version of a type that is one of itself is an extension successor at every number of
+/// levels. So versions owe that a default is the older one widened only in trees that hold it, and of the older
+/// default nothing beside (X.680, 52). A lawful type is a version of itself.
 pub fn newer_types_are_extension_successors()
-    ensures { (newer older : ℕ → Schema) → Unfolds newer → Unfolds older → SucceedsType newer older
-        ↔ NewerType newer older }
+    ensures { (newer older : ℕ → Schema) → Unfolds newer → Unfolds older → NewerType older older
+        → SucceedsType newer older ↔ NewerType newer older }
 {}

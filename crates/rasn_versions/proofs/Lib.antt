@@ -1,0 +1,6 @@
+pub mod Alike
+pub mod Compared
+pub mod Components
+pub mod Judged
+pub mod Shallower
+pub mod Verdicts

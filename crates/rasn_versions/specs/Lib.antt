@@ -1,0 +1,5 @@
+pub mod Alike
+pub mod Compared
+pub mod Components
+pub mod Judged
+pub mod Verdicts

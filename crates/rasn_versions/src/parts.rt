@@ -1,0 +1,54 @@
+//! Newer versions by what was added to them, also where a type that holds itself stands in both, of which computing
+//! finds no end (X.680, 52). Each law is the contract of a function that does nothing.
+
+ghost use Rattle.std.specs.Prelude.{ℕ, ◌+◌, ◌++◌, Bool, true, false, List, Some};
+ghost use Rattle.rasn_constraints.specs.Bounds.{Size};
+ghost use Rattle.rasn_schema.specs.Components.{Component, alternatives_at, parts_of};
+ghost use Rattle.rasn_schema.specs.Forms.{always};
+ghost use Rattle.rasn_schema.specs.Lawful.{IsLawfulType};
+ghost use Rattle.rasn_schema.specs.Lists.{list_at};
+ghost use Rattle.rasn_schema.specs.Records.{record_at};
+ghost use Rattle.rasn_schema.specs.Schemas.{Order, Schema};
+ghost use Rattle.per_core.specs.Versions.{NewerType};
+ghost use Rattle.rasn_versions.specs.Components.{AreNewer};
+
+/// A lawful SEQUENCE or SET with more additions at the end of those behind its marker is a newer version.
+pub fn more_additions_make_a_newer_version()
+    ensures { (o : Order) (roots adds more : List Component) →
+        let older = record_at o (parts_of roots) true (parts_of adds) in IsLawfulType older
+        → NewerType (record_at o (parts_of roots) true (parts_of (adds ++ more))) older }
+{}
+
+/// A lawful CHOICE with more alternatives at the end of those behind its marker is a newer version.
+pub fn more_alternatives_make_a_newer_version()
+    ensures { (roots adds more : List Component) → let older = alternatives_at roots (Some adds) in IsLawfulType older
+        → NewerType (alternatives_at roots (Some (adds ++ more))) older }
+{}
+
+/// An ENUMERATED with more items behind its marker is a newer version.
+pub fn more_items_make_a_newer_version()
+    ensures { (roots adds more : ℕ) →
+        NewerType (always (Schema.items roots (adds + more) true)) (always (Schema.items roots adds true)) }
+{}
+
+/// A SEQUENCE OF elements of a newer type is a newer version, under the same size.
+pub fn list_of_a_newer_type_is_newer()
+    ensures { (newer older : ℕ → Schema) (size : Size) (mark : Bool) → NewerType newer older
+        → NewerType (list_at newer size mark) (list_at older size mark) }
+{}
+
+/// A SEQUENCE or SET whose components are newer ones is a newer version: the root has as many, and behind the marker
+/// there may be more.
+pub fn record_of_newer_components_is_newer()
+    ensures { (o : Order) (extensible : Bool) (new_roots roots new_adds adds : List Component)
+        → AreNewer false new_roots roots → AreNewer extensible new_adds adds
+        → NewerType (record_at o (parts_of new_roots) extensible (parts_of new_adds))
+        (record_at o (parts_of roots) extensible (parts_of adds)) }
+{}
+
+/// A CHOICE whose alternatives are newer ones is a newer version, and behind the marker there may be more.
+pub fn choice_of_newer_alternatives_is_newer()
+    ensures { (new_roots roots new_adds adds : List Component) → AreNewer false new_roots roots
+        → AreNewer true new_adds adds
+        → NewerType (alternatives_at new_roots (Some new_adds)) (alternatives_at roots (Some adds)) }
+{}

@@ -1,0 +1,2 @@
+mod Nests
+mod NoVersions

@@ -1,0 +1,27 @@
+//! Which CHOICE and which ENUMERATED is a newer version of which (X.680, 52).
+#![tactic(auto, unfolding(rasn_versions::specs::Judged::are_told_apart))]
+
+ghost use Rattle.per_core.specs.Versions.{NewerType};
+
+use per_samples_c::colors::TwoColors;
+use per_samples_c::one_color::OneColor;
+use per_samples_h::alt1::Alt1;
+use per_samples_h::alt2::Alt2;
+use rasn_below::AsnType;
+use rasn_versions::is_newer_version;
+
+/// An alternative is added behind the marker.
+pub fn alternative_is_added()
+    ensures { let newer = ⟦<Alt2 as AsnType>⟧ in let older = ⟦<Alt1 as AsnType>⟧ in
+        NewerType (newer.schema newer.CONSTRAINTS) (older.schema older.CONSTRAINTS) }
+{
+    is_newer_version::<Alt2, Alt1>();
+}
+
+/// An item is added behind the marker.
+pub fn item_is_added()
+    ensures { let newer = ⟦<TwoColors as AsnType>⟧ in let older = ⟦<OneColor as AsnType>⟧ in
+        NewerType (newer.schema newer.CONSTRAINTS) (older.schema older.CONSTRAINTS) }
+{
+    is_newer_version::<TwoColors, OneColor>();
+}

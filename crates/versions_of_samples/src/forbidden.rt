@@ -1,0 +1,72 @@
+//! What isn't allowed between two versions has a name and a place (X.680, 52).
+#![tactic(auto)]
+
+ghost use Rattle.std.specs.Prelude.{◌≡◌, ◌++◌, [], ◌∷◌, None, Some, pos, true};
+ghost use Rattle.rasn_below.specs.Components.{at, automatic, automatic_from, boolean, default, integer, null};
+ghost use Rattle.rasn_below.specs.Components.{octet_string, optional, sequence, size◌to◌, u8, u16, under, ◌to◌, extended_at};
+ghost use Rattle.rasn_below.specs.Types.{alternatives_at, always, any_size, list_at, sequence_at, Schema};
+ghost use Rattle.rasn_below.specs.Values.{whole};
+ghost use Rattle.per_core.specs.Versions.{NewerType};
+ghost use Rattle.rasn_versions.specs.Compared.{comparison};
+ghost use Rattle.rasn_versions.specs.Verdicts.{allowed, at_place, in_additions, in_element, in_root, left_out};
+ghost use Rattle.rasn_versions.specs.Verdicts.{other_bounds, other_default, other_items, other_kind, other_marker};
+ghost use Rattle.rasn_versions.specs.Verdicts.{other_presence, other_range, other_size, other_tag, put_in};
+ghost use Rattle.per_samples_f.specs.Outers.{flagged, outer_root, outer2_additions, outer3_additions};
+
+/// An addition is left out at the end, or of the middle, so that the next one stands in its place; and one is put in
+/// front of others.
+pub fn additions_stay_in_their_order()
+    ensures at_the_end { comparison (extended_at outer_root outer2_additions) (extended_at outer_root outer3_additions)
+        ≡ in_additions (at_place 1 left_out) }
+    ensures of_the_middle { comparison
+        (extended_at outer_root (automatic_from 2 (optional (octet_string (size 3 to 3)) ∷ [])))
+        (extended_at outer_root outer3_additions) ≡ in_additions (at_place 0 other_kind) }
+    ensures in_front { comparison (extended_at outer_root (automatic_from 2 (optional boolean ∷ optional null ∷ [])))
+        (extended_at outer_root (automatic_from 2 (optional null ∷ []))) ≡ in_additions (at_place 0 other_kind) }
+    ensures no_version { ¬ (NewerType (extended_at outer_root outer2_additions)
+        (extended_at outer_root outer3_additions)) }
+{}
+
+/// A component is put into the root, or left out of it; and a marker is put in.
+pub fn root_stays_as_it_is()
+    ensures more { comparison (extended_at (automatic (boolean ∷ boolean ∷ boolean ∷ [])) [])
+        (extended_at outer_root []) ≡ in_root (at_place 2 put_in) }
+    ensures fewer { comparison (extended_at (automatic (boolean ∷ [])) []) (extended_at outer_root [])
+        ≡ in_root (at_place 1 left_out) }
+    ensures marker { comparison (extended_at outer_root []) (sequence_at outer_root) ≡ other_marker }
+    ensures alternative { comparison (alternatives_at (automatic (boolean ∷ null ∷ [])) (Some []))
+        (alternatives_at (automatic (boolean ∷ [])) (Some [])) ≡ in_root (at_place 1 put_in) }
+{}
+
+/// A component has another tag, may be absent now, or is under other constraints; in a list too.
+pub fn components_stay_as_they_are()
+    ensures tag { comparison (sequence_at (under (at 1) boolean ∷ [])) (sequence_at (under (at 0) boolean ∷ []))
+        ≡ in_root (at_place 0 other_tag) }
+    ensures presence { comparison (sequence_at (automatic (optional boolean ∷ [])))
+        (sequence_at (automatic (boolean ∷ []))) ≡ in_root (at_place 0 other_presence) }
+    ensures bounds { comparison (sequence_at (automatic (integer u8 (0 to 8) ∷ [])))
+        (sequence_at (automatic (integer u8 (0 to 7) ∷ []))) ≡ in_root (at_place 0 other_bounds) }
+    ensures range { comparison (sequence_at (automatic (integer u16 (0 to 7) ∷ [])))
+        (sequence_at (automatic (integer u8 (0 to 7) ∷ []))) ≡ in_root (at_place 0 other_range) }
+    ensures size { comparison (list_at (sequence_at (automatic (octet_string (size 3 to 4) ∷ []))) any_size true)
+        (list_at (sequence_at (automatic (octet_string (size 3 to 3) ∷ []))) any_size true)
+        ≡ in_element (in_root (at_place 0 other_size)) }
+{}
+
+/// A default is another one.
+#[tactic(auto, unfolding(rasn_versions::specs::Compared::is_widened))]
+pub fn default_stays_as_it_is()
+    ensures other { comparison (sequence_at (automatic (default (whole (pos 4)) (integer u8 (0 to 7)) ∷ [])))
+        (sequence_at (automatic (default (whole (pos 3)) (integer u8 (0 to 7)) ∷ [])))
+        ≡ in_root (at_place 0 other_default) }
+    ensures same { comparison (sequence_at (automatic (default (whole (pos 3)) (integer u8 (0 to 7)) ∷ [])))
+        (sequence_at (automatic (default (whole (pos 3)) (integer u8 (0 to 7)) ∷ []))) ≡ allowed }
+{}
+
+/// An item is put in before the marker, moved in front of it, or left out behind it.
+pub fn items_stay_as_they_are()
+    ensures before { comparison (always (Schema.items 2 1 true)) (always (Schema.items 1 1 true)) ≡ other_items }
+    ensures moved { comparison (always (Schema.items 2 0 true)) (always (Schema.items 1 1 true)) ≡ other_items }
+    ensures behind { comparison (always (Schema.items 1 0 true)) (always (Schema.items 1 1 true)) ≡ other_items }
+    ensures no_version { ¬ (NewerType (always (Schema.items 1 0 true)) (always (Schema.items 1 1 true))) }
+{}
