@@ -1,5 +1,6 @@
 -- What the program says of a fault, and the status that it ends with.
-use Rattle.std.specs.Prelude.{ℕ, List, codes}
+use Rattle.std.specs.Prelude.{ℕ, ◌≡◌, List, ◌++◌, Option, codes}
+use Rattle.std.specs.Io.KnownBytes.{Appends}
 use Rattle.per_read.specs.Names.{name_of as decode_name}
 use Rattle.per_write.specs.Names.{name_of as encode_name}
 use Rattle.std.specs.declared.io.ErrorKind.{ErrorKind}
@@ -18,6 +19,10 @@ text_of (Decode kind) = decode_name kind
 text_of (Encode kind) = encode_name kind
 text_of CannotWrite = codes "cannot write output"
 text_of OutOfMemory = codes "OutOfMemory"
+
+-- a writer got these octets, and nothing else; where writing failed, a front of them
+abbrev pub AppendsFront : Option (List ℕ) → Option (List ℕ) → List ℕ → Type 0
+AppendsFront before after octets = (front rest : List ℕ) × (octets ≡ front ++ rest) × Appends before after front
 
 -- 1: octets or a value are refused, or memory ran out; 2: the program can't do its work
 abbrev pub status_of : Fault → ℕ

@@ -1,12 +1,12 @@
 //! Why the program prints no encoding, and what it says then.
 
-ghost use Rattle.std.specs.Prelude.{◌≡◌, ◌∷◌, [], ◌++◌, OnOk};
+ghost use Rattle.std.specs.Prelude.{◌≡◌, ◌∷◌, [], ◌++◌};
 ghost use Rattle.std.specs.IoError.{error_kind};
-ghost use Rattle.std.specs.Io.KnownBytes.{Appends};
-ghost use Rattle.per_lines.specs.Faults.{text_of, status_of, io_fault, hexadecimal_fault};
+ghost use Rattle.per_lines.specs.Faults.{text_of, status_of, io_fault, hexadecimal_fault, AppendsFront};
 ghost use Rattle.per_lines.specs.declared.fault.Fault.TheVariants.{OutOfMemory};
 ghost use Rattle.per_lines.specs.declared.fault.Fault.TheVariants.{Encode as encode_fault, Decode as decode_fault};
 
+use crate::output::write_line;
 use hex::FromHexError;
 use rasn_per::uper::{DecodeError, DecodeErrorKind, EncodeError, EncodeErrorKind};
 use std::alloc::AllocError;
@@ -71,20 +71,14 @@ impl Fault {
         }
     }
 
-    /// Says the fault on a line of `faults`. Answers the status that the program ends with, also where that line can't
-    /// be written.
+    /// Says the fault on a line of `faults`, and nothing else. Answers the status that the program ends with, also
+    /// where that line can't be written, or a front of it alone.
     pub fn report<F: Write>(self, faults: &mut F) -> u8
-        ensures { result ≡ status_of self }
+        ensures status { result ≡ status_of self }
+        ensures told { AppendsFront (F.contents faults.old) (F.contents faults.new) (text_of self ++ 10 ∷ []) }
     {
-        let _ = self.write_line(faults);
+        let _ = write_line(self.text(), faults);
         self.status()
-    }
-
-    fn write_line<F: Write>(self, faults: &mut F) -> io::Result<()>
-        ensures { OnOk result (Appends (F.contents faults.old) (F.contents faults.new) (text_of self ++ 10 ∷ [])) }
-    {
-        writeln!(faults, "{}", self.text())?;
-        faults.flush()
     }
 }
 

@@ -1,9 +1,9 @@
 //! The work of the program, over any reader and writers.
 
-ghost use Rattle.std.specs.Prelude.{◌≡◌, ◌≢◌, ◌≤◌, IfErr, OnOk};
+ghost use Rattle.std.specs.Prelude.{◌≡◌, ◌≢◌, ◌≤◌, ◌++◌, ◌∷◌, [], IfErr, OnOk};
 ghost use Rattle.std.specs.Io.KnownBytes.{Keeps};
 ghost use Rattle.per_lines.specs.Answers.{Prints, PrintsAnswer, Ends, EndsAnswer, AreUnknown};
-ghost use Rattle.per_lines.specs.Faults.{status_of};
+ghost use Rattle.per_lines.specs.Faults.{status_of, text_of, AppendsFront};
 ghost use Rattle.per_lines.specs.Words.{words};
 ghost use Rattle.per_lines.specs.declared.fault.Fault.{Fault as the_fault};
 ghost use Rattle.per_lines.specs.declared.fault.Fault.TheVariants.{WrongArguments};
@@ -26,7 +26,7 @@ use std::io::{BufRead, Write};
 ///
 /// Answers the status that the program ends with: 0, or 1 where the octets are refused or memory ran out, or 2 where
 /// the arguments are wrong, the line is no hexadecimal, or reading or writing fails. A fault is told on a line of
-/// `faults`; that this line can't be written changes nothing.
+/// `faults`, which gets nothing else; that this line can't be written, or a front of it alone, changes nothing.
 pub fn run<R: BufRead, W: Write, F: Write>(
     alloc: Global,
     arguments: &[String],
@@ -41,9 +41,11 @@ pub fn run<R: BufRead, W: Write, F: Write>(
         Prints (words arguments.now) (R.remaining input.old) (W.contents output.old) (W.contents output.new) }
     ensures silent { result ≡ 0 → Keeps (F.contents faults.old) (F.contents faults.new) }
 
-    // Another status is that of a fault that stands.
+    // Another status is that of a fault that stands, and its line is all that `faults` gets: where that can't be
+    // written, a front of it.
     ensures faulty { result ≢ 0 → (fault : the_fault) × (result ≡ status_of fault)
-        × Ends (words arguments.now) (R.remaining input.old) (W.contents output.old) (W.contents output.new) fault }
+        × Ends (words arguments.now) (R.remaining input.old) (W.contents output.old) (W.contents output.new) fault
+        × AppendsFront (F.contents faults.old) (F.contents faults.new) (text_of fault ++ 10 ∷ []) }
 
     // Wrong arguments are found before anything is read.
     ensures usage { AreUnknown (words arguments.now) →

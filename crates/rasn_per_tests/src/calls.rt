@@ -1,19 +1,29 @@
-//! Calls of the crates above `rasn_per`, what `decode_with_remainder` says of fronts that spell no value, and which
+//! Calls of the crates above `rasn_per`, what the calls of `uper` say of values and octets that they refuse, and which
 //! constraints are lawful.
 
-use crate::expected::{BOTH, expect_equal, expect_read, expect_unread};
+use crate::expected::{
+    BOTH, expect_coded, expect_equal, expect_items, expect_read, expect_unread, expect_written,
+};
+use per_samples_a::bounded::MinusOneTo254;
+use per_samples_b::strings::LettersAToE;
 use per_samples_c::colors::TwoColors;
 use per_samples_c::one_color::OneColor;
 use per_samples_f::grouped::Grouped;
 use per_samples_f::outer1::Outer1;
+use per_samples_g::group1::Group1;
+use per_samples_g::grouped1::Grouped1;
 use per_samples_k::set_each::SetEach;
 use per_versions::exchange::{ExchangeError, read_by_newer, read_by_older};
-use rasn_below::types::Codec;
+use rasn_below::types::{Codec, VisibleString};
 use rasn_below::{Constraint, Constraints, Decode, constraints};
 use rasn_per::bits::BitReader;
 use rasn_per::per::de::{DecodeError, Decoder, DecoderOptions};
-use rasn_per::uper::{DecodeErrorKind, ParserFailCause, decode_with_remainder, lawful};
+use rasn_per::uper::{
+    DecodeErrorKind, EncodeError, EncodeErrorKind, ParserFailCause, decode_with_constraints,
+    decode_with_remainder, encode_buf, lawful,
+};
 use std::alloc::Global;
+use std::test::Fail;
 
 /// TRUE and FALSE, behind an extension bit 0.
 const OUTER: &[u8] = &[0x40];
@@ -105,6 +115,88 @@ fn names_what_no_value_begins_with(rt: HostRuntime) {
         };
         expect_equal(&rt, &refused, &Some(error));
     }
+}
+
+/// TRUE, and two octets behind it.
+#[test]
+fn answers_what_stands_behind_a_value(rt: HostRuntime) {
+    match decode_with_remainder::<bool>(rt.alloc(), &[0x80, 0xaa, 0xbb]) {
+        Ok((value, behind)) => {
+            expect_equal(&rt, &value, &true);
+            expect_items(&rt, behind, &[0xaa, 0xbb]);
+        }
+        Err(error) => assert!(rt; false, "{error:?}"),
+    }
+}
+
+/// -1, which is in its bounds and no `u8`.
+const BELOW_ITS_TYPE: &[(&[u8], DecodeErrorKind)] = &[(&[0], DecodeErrorKind::IntegerOverflow(8))];
+
+#[test]
+fn refuses_a_number_that_its_type_lacks(rt: HostRuntime) {
+    let five = MinusOneTo254::new(5);
+    for codec in BOTH {
+        expect_coded(&rt, rt.alloc(), *codec, &five, &[0x06]);
+        expect_unread::<MinusOneTo254>(&rt, rt.alloc(), *codec, BELOW_ITS_TYPE);
+    }
+}
+
+const SIZES_ONE_TO_TEN: &[Constraint] = constraints!(SIZE 1..=10);
+
+/// Four bits count up to sixteen characters where ten are the most.
+#[test]
+fn tells_a_size_past_its_bounds(rt: HostRuntime) {
+    let limits = Constraints::new(SIZES_ONE_TO_TEN);
+    let octets: &[u8] = &[0xff; 20];
+    let read = decode_with_constraints::<VisibleString>(rt.alloc(), &limits, octets);
+    let error = DecodeError {
+        kind: DecodeErrorKind::SizeConstraintNotSatisfied(16, Some(1), Some(10)),
+        codec: Codec::Uper,
+    };
+    expect_equal(&rt, &read.err(), &Some(error));
+}
+
+/// Writes letters into a buffer, and answers why they aren't written.
+fn refusal_of(
+    alloc: Global,
+    letters: &[u8],
+    buffer: &mut Vec<u8>,
+) -> Result<Option<EncodeError>, Fail> {
+    let letters = VisibleString::from_iso646_bytes(Vec::from_slice(alloc, letters)?);
+    let letters = LettersAToE::new(letters.ok_or("no VisibleString")?);
+    Ok(encode_buf(&letters, buffer).err())
+}
+
+const NOT_PERMITTED: EncodeError = EncodeError {
+    kind: EncodeErrorKind::AlphabetConstraintNotSatisfied,
+    codec: Codec::Uper,
+};
+
+/// The buffer holds a longer encoding before, which is gone with the refusal.
+#[test]
+fn leaves_no_octets_of_a_refused_value(rt: HostRuntime) -> Result<(), Fail> {
+    let mut buffer = Vec::new(rt.alloc());
+    let written = refusal_of(rt.alloc(), b"ABCDEABCDE", &mut buffer)?;
+    expect_equal(&rt, &written, &None);
+    expect_items(&rt, buffer.as_slice(), &[0x48, 0x29, 0xc0, 0x53, 0x80]);
+    let refused = refusal_of(rt.alloc(), b"AF", &mut buffer)?;
+    expect_equal(&rt, &refused, &Some(NOT_PERMITTED));
+    expect_items(&rt, buffer.as_slice(), &[]);
+    Ok(())
+}
+
+const GROUPED: Grouped1 = Grouped1 {
+    first: true,
+    group: Some(Group1 { x: None }),
+};
+
+/// A newer version's group, of which this one knows the part that is absent; so it is a group that holds nothing, and
+/// isn't written.
+#[test]
+fn reads_a_group_of_a_newer_version(rt: HostRuntime) {
+    let octets = &[0xc0, 0x41, 0x20, 0x10, 0x18, 0x00, 0x00];
+    expect_read(&rt, rt.alloc(), Codec::Uper, &GROUPED, octets);
+    expect_written(&rt, rt.alloc(), Codec::Uper, &GROUPED, &[0x40]);
 }
 
 /// A BOOLEAN and an octet more, and one and two more.

@@ -18,6 +18,8 @@ mod header;
 #[cfg(test)]
 mod moments;
 #[cfg(test)]
+mod records;
+#[cfg(test)]
 mod runs;
 #[cfg(test)]
 mod streams;
