@@ -122,5 +122,6 @@ def differences(modules, front, names):
     for module, name in names:
         checked = front[module]["checked"].get(name)
         if checked and checked.get("_") == "typedef" and kind(checked["typespec"]) == "type":
-            agreement.use(modules.cache[module, name], checked["typespec"], f"{module}.{name}", is_whole=True)
+            place = f"{module}, line {modules.defined[module, name]['pos']}: {name}"
+            agreement.use(modules.cache[module, name], checked["typespec"], place, is_whole=True)
     return agreement.found, agreement.compared

@@ -73,10 +73,7 @@ class Items:
         if use.name not in self.items:
             pos, full = self.modules.defined[use.name]["pos"], self.modules.cache[use.name]
             with placed(use.name[0], pos):
-                if full.name:
-                    self.made(use.name, full.type, pos, definition(use.name[1], full), target=full)
-                else:
-                    self.made(use.name, full.type, pos, definition(use.name[1], full))
+                self.made(use.name, full.type, pos, definition(use.name[1], full), full if full.name else None)
         return self.items[use.name]
 
     def of(self, use):
@@ -92,8 +89,8 @@ class Items:
 
     def made(self, key, of, line, text, target=None):
         name = key[1]
-        rust = self.unique(self.rust_names, shorter(name, self.rust_names, upper_camel), key)
-        word = self.unique(self.spec_words, shorter(name, self.spec_words, spec_word), key)
+        rust = self.unique(self.rust_names, upper_camel, key)
+        word = self.unique(self.spec_words, spec_word, key)
         item = Item(key, of, line, rust, word, self.crates.get(key[0], snake(key[0])), text, target)
         self.items[key] = item
         if target:
@@ -164,10 +161,11 @@ class Items:
             use.limited = found
         return found
 
-    def unique(self, taken, name, key):
-        """Returns a name that no other has: with the module's behind it, or a number."""
+    @staticmethod
+    def unique(taken, spell, key):
+        """Returns a name in a spelling that no other has: with the module's behind it, or a number."""
+        name, module = shorter(key[1], taken, spell), upper_camel(key[0])
         while taken.get(name, key) != key:
-            module = upper_camel(key[0])
             name = f"{name}{module}" if name[0].isupper() and not name.endswith(module) else f"{name}_2"
         taken[name] = key
         return name
