@@ -101,10 +101,17 @@ class Items:
             self.expect_few(of.items, of.added_items)
         elif of.parts is not None:
             self.need_parts(item)
-        elif of.kind == "BIT STRING" and of.names and not is_fixed(of.limits.size):
-            raise Refused(f"{name} has named bits and no fixed size, of which PER leaves out 0 bits, and the library doesn't")
+        else:
+            self.expect_plain_bits(of, name)
         self.order.append(item)
         return item
+
+    @staticmethod
+    def expect_plain_bits(of, path):
+        """Refuses named bits of which PER leaves out 0 bits at the end (X.691 16), since the library doesn't."""
+        low, high, marked = of.limits.size or (None, None, True)
+        if of.kind == "BIT STRING" and of.names and (low != high or marked):
+            raise Refused(f"{path.replace('/', '.')} has named bits and no fixed size, which isn't taken")
 
     @staticmethod
     def expect_few(root, added):
@@ -144,13 +151,13 @@ class Items:
         elif use.type.kind in LISTS:
             return self.need_element(item, use.type.element, path, line)
         else:
-            return None
+            return self.expect_plain_bits(use.type, path)
         item.needs.append(found)
         return found
 
     def need_element(self, item, use, path, line):
-        """Gives the elements of a list a name, where they stand under constraints: a list's elements have those of their
-        type alone."""
+        """Gives the elements of a list a name, where they stand under constraints: those of a list have their type's
+        alone."""
         found = self.need(item, use, f"{path}/Item", line)
         if use.type.kind not in WITH_PAGE and use.type.limits:
             if use.own or use.name is None:
@@ -186,7 +193,3 @@ class Items:
         of, found = item.type, [self.levels(part.use) for part in item.type.all_parts]
         is_open = of.kind == "SEQUENCE" and (of.added is not None or any(part.is_slot for part in of.parts))
         return None if is_open or None in found else max(found, default=0)
-
-
-def is_fixed(size):
-    return bool(size) and size[0] == size[1] and not size[2]

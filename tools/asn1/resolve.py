@@ -1,6 +1,7 @@
 """What the types of ASN.1 modules are: references followed, parameters put in, constraints that PER sees computed, tags
 numbered. All comes from what was parsed; what asn1ct made of the same text is held against it afterwards (agree.py), and
 neither is taken from the other."""
+from copy import deepcopy
 from dataclasses import dataclass, field, replace
 
 from constraints import LETTERS, Constraints, Limits
@@ -196,7 +197,7 @@ class Modules(Constraints):
                 with placed(module, node["pos"]):
                     (sides[-1] if group is None else group).append(self.part(node, module, given, path))
             elif head == "COMPONENTS OF":
-                sides[-1].extend(self.type(parts(node)[0], module, given, path).type.parts)
+                sides[-1] += deepcopy(self.type(parts(node)[0], module, given, path).type.parts)
             else:
                 raise Refused(f"{'.'.join(path)} has a part {head}, which isn't taken")
         if len(sides) > 3:

@@ -15,9 +15,6 @@ SIZED = {
     "OCTET STRING": "octet_string", "BIT STRING": "bit_string", "IA5String": "ia5_string", "VisibleString": "visible_string",
     "PrintableString": "printable_string", "NumericString": "numeric_string", "BMPString": "bmp_string",
 }
-# Columns up to which the names beside a schema's lines stand below one another.
-WIDE = 70
-
 
 class Imports:
     """What a file names, by module: of specs (`ghost`) and of code."""
@@ -177,9 +174,8 @@ class Schemas:
         if not is_automatic:
             under, tagged = imports.word("under"), imports.word("at")
             texts = [f"{under} ({tagged} {part.tag}) {bracketed(text)}" for part, text in zip(parts, texts)]
-        wide = min(max(map(len, texts)), WIDE)
         names = [part.name if part.group is None else "[[ ]]" for part in parts]
-        body = [f"    {text} ∷{' ' * max(1, wide + 1 - len(text))}-- {name}" for text, name in zip(texts, names)]
+        body = [f"    {text} ∷  -- {name}" for text, name in zip(texts, names)]
         if not is_automatic:
             return [head, f"{word} =", *body, "    []"]
         call = imports.word("automatic") if first == 0 else f"{imports.word('automatic_from')} {first}"
