@@ -1,0 +1,117 @@
+//! SpecialVehicleContainer, of the module CAM-PDU-Descriptions.
+
+ghost use Rattle.cam.specs.CamPduDescriptions.{special_vehicle_container_added, special_vehicle_container_root};
+ghost use Rattle.cam.specs.declared.special_vehicle_container.SpecialVehicleContainer.TheVariants.{DangerousGoodsContainer, EmergencyContainer, PublicTransportContainer, RescueContainer, RoadWorksContainerBasic, SafetyCarContainer, SpecialTransportContainer};
+ghost use Rattle.rasn_below.specs.Components.{chosen, variants_in};
+ghost use Rattle.std.specs.Prelude.{Some, refl};
+
+use crate::dangerous_goods_container::DangerousGoodsContainer;
+use crate::emergency_container::EmergencyContainer;
+use crate::public_transport_container::PublicTransportContainer;
+use crate::rescue_container::RescueContainer;
+use crate::road_works_container_basic::RoadWorksContainerBasic;
+use crate::safety_car_container::SafetyCarContainer;
+use crate::special_transport_container::SpecialTransportContainer;
+use rasn_below::{
+    Alternatives, AsnType, ByKind, ChoiceKind, CodedAlternatives, Constraint, Decoder, Encoder,
+    OfKind, Tag, Variants, added_variants, alternative_bounds, decode_alternative,
+    encode_alternative, variants,
+};
+
+/// SpecialVehicleContainer ::= CHOICE {
+///     publicTransportContainer PublicTransportContainer,
+///     specialTransportContainer SpecialTransportContainer,
+///     dangerousGoodsContainer DangerousGoodsContainer,
+///     roadWorksContainerBasic RoadWorksContainerBasic,
+///     rescueContainer RescueContainer,
+///     emergencyContainer EmergencyContainer,
+///     safetyCarContainer SafetyCarContainer,
+///     ...
+/// }
+#[derive(Debug, Drop, PartialEq)]
+pub enum SpecialVehicleContainer {
+    PublicTransportContainer(PublicTransportContainer),
+    SpecialTransportContainer(SpecialTransportContainer),
+    DangerousGoodsContainer(DangerousGoodsContainer),
+    RoadWorksContainerBasic(RoadWorksContainerBasic),
+    RescueContainer(RescueContainer),
+    EmergencyContainer(EmergencyContainer),
+    SafetyCarContainer(SafetyCarContainer),
+}
+
+macro_rules! alternatives {
+    ($to:ident $($with:ident)*) => {
+        $to! { [$($with)*]
+            0 "publicTransportContainer" PublicTransportContainer: PublicTransportContainer [];
+            1 "specialTransportContainer" SpecialTransportContainer: SpecialTransportContainer [];
+            2 "dangerousGoodsContainer" DangerousGoodsContainer: DangerousGoodsContainer [];
+            3 "roadWorksContainerBasic" RoadWorksContainerBasic: RoadWorksContainerBasic [];
+            4 "rescueContainer" RescueContainer: RescueContainer [];
+            5 "emergencyContainer" EmergencyContainer: EmergencyContainer [];
+            6 "safetyCarContainer" SafetyCarContainer: SafetyCarContainer [];
+            ...;
+        }
+    };
+}
+
+const VARIANTS: Variants = alternatives!(variants);
+
+const ADDED_VARIANTS: Option<Variants> = alternatives!(added_variants);
+
+const BOUNDS: &[&[Constraint]] = alternatives!(alternative_bounds);
+
+impl OfKind for SpecialVehicleContainer {
+    type Kind = ChoiceKind;
+}
+
+impl Alternatives for SpecialVehicleContainer {
+    const ALTERNATIVES: Variants = VARIANTS;
+
+    ghost ALTERNATIVES = { variants_in special_vehicle_container_root };
+
+    const ADDED_ALTERNATIVES: Option<Variants> = ADDED_VARIANTS;
+
+    ghost ADDED_ALTERNATIVES = { Some (variants_in special_vehicle_container_added) };
+
+    ghost alternatives = { special_vehicle_container_root };
+
+    ghost added = { Some special_vehicle_container_added };
+
+    ghost chosen = { elim [
+      | PublicTransportContainer v ↦ chosen 0 (⟦<PublicTransportContainer as AsnType>⟧.value v)
+      | SpecialTransportContainer v ↦ chosen 1 (⟦<SpecialTransportContainer as AsnType>⟧.value v)
+      | DangerousGoodsContainer v ↦ chosen 2 (⟦<DangerousGoodsContainer as AsnType>⟧.value v)
+      | RoadWorksContainerBasic v ↦ chosen 3 (⟦<RoadWorksContainerBasic as AsnType>⟧.value v)
+      | RescueContainer v ↦ chosen 4 (⟦<RescueContainer as AsnType>⟧.value v)
+      | EmergencyContainer v ↦ chosen 5 (⟦<EmergencyContainer as AsnType>⟧.value v)
+      | SafetyCarContainer v ↦ chosen 6 (⟦<SafetyCarContainer as AsnType>⟧.value v)
+    ] };
+
+    ghost depth = { elim [
+      | PublicTransportContainer v ↦ ⟦<PublicTransportContainer as AsnType>⟧.levels v
+      | SpecialTransportContainer _ ↦ 1
+      | DangerousGoodsContainer _ ↦ 1
+      | RoadWorksContainerBasic v ↦ ⟦<RoadWorksContainerBasic as AsnType>⟧.levels v
+      | RescueContainer _ ↦ 1
+      | EmergencyContainer v ↦ ⟦<EmergencyContainer as AsnType>⟧.levels v
+      | SafetyCarContainer v ↦ ⟦<SafetyCarContainer as AsnType>⟧.levels v
+    ] };
+
+    ghost described = { refl };
+
+    ghost extends = { refl };
+
+    ghost are_variants = { record { distinct = refl; few = refl } };
+}
+
+impl CodedAlternatives for SpecialVehicleContainer {
+    fn encode_alternative<E: Encoder>(&self, encoder: &mut E) -> Result<Tag, E::Error> {
+        alternatives!(encode_alternative self encoder)
+    }
+
+    fn decode_alternative<D: Decoder>(decoder: &mut D, tag: Tag) -> Result<Self, D::Error> {
+        alternatives!(decode_alternative decoder tag)
+    }
+}
+
+impl ByKind for SpecialVehicleContainer {}

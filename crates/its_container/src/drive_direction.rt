@@ -1,0 +1,53 @@
+//! DriveDirection, of the module ITS-Container.
+
+ghost use Rattle.its_container.specs.declared.drive_direction.DriveDirection.TheVariants.{Backward, Forward, Unavailable};
+ghost use Rattle.rasn_below.specs.Components.{all_items};
+ghost use Rattle.rasn_below.specs.Values.{item, root};
+
+use rasn_below::{
+    ByKind, EnumeratedKind, ItemCounts, Items, OfKind, Place, item_at, item_counts, place_of_item,
+};
+
+/// DriveDirection ::= ENUMERATED { forward(0), backward(1), unavailable(2) }
+#[derive(Clone, Copy, Debug, PartialEq, Eq)]
+pub enum DriveDirection {
+    Forward,
+    Backward,
+    Unavailable,
+}
+
+macro_rules! items {
+    ($to:ident $($with:ident)*) => {
+        $to! { [$($with)*]
+            Forward;
+            Backward;
+            Unavailable;
+        }
+    };
+}
+
+impl OfKind for DriveDirection {
+    type Kind = EnumeratedKind;
+}
+
+impl Items for DriveDirection {
+    const ITEMS: ItemCounts = items!(item_counts);
+
+    ghost ITEMS = { all_items 3 };
+
+    ghost item = { elim [
+      | Forward ↦ item root 0
+      | Backward ↦ item root 1
+      | Unavailable ↦ item root 2
+    ] };
+
+    fn place(&self) -> Place {
+        items!(place_of_item self)
+    }
+
+    fn at(place: Place) -> Option<DriveDirection> {
+        items!(item_at place)
+    }
+}
+
+impl ByKind for DriveDirection {}

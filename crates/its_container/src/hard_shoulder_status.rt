@@ -1,0 +1,53 @@
+//! HardShoulderStatus, of the module ITS-Container.
+
+ghost use Rattle.its_container.specs.declared.hard_shoulder_status.HardShoulderStatus.TheVariants.{AvailableForDriving, AvailableForStopping, Closed};
+ghost use Rattle.rasn_below.specs.Components.{all_items};
+ghost use Rattle.rasn_below.specs.Values.{item, root};
+
+use rasn_below::{
+    ByKind, EnumeratedKind, ItemCounts, Items, OfKind, Place, item_at, item_counts, place_of_item,
+};
+
+/// HardShoulderStatus ::= ENUMERATED { availableForStopping(0), closed(1), availableForDriving(2) }
+#[derive(Clone, Copy, Debug, PartialEq, Eq)]
+pub enum HardShoulderStatus {
+    AvailableForStopping,
+    Closed,
+    AvailableForDriving,
+}
+
+macro_rules! items {
+    ($to:ident $($with:ident)*) => {
+        $to! { [$($with)*]
+            AvailableForStopping;
+            Closed;
+            AvailableForDriving;
+        }
+    };
+}
+
+impl OfKind for HardShoulderStatus {
+    type Kind = EnumeratedKind;
+}
+
+impl Items for HardShoulderStatus {
+    const ITEMS: ItemCounts = items!(item_counts);
+
+    ghost ITEMS = { all_items 3 };
+
+    ghost item = { elim [
+      | AvailableForStopping ↦ item root 0
+      | Closed ↦ item root 1
+      | AvailableForDriving ↦ item root 2
+    ] };
+
+    fn place(&self) -> Place {
+        items!(place_of_item self)
+    }
+
+    fn at(place: Place) -> Option<HardShoulderStatus> {
+        items!(item_at place)
+    }
+}
+
+impl ByKind for HardShoulderStatus {}

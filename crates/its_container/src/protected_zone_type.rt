@@ -1,0 +1,51 @@
+//! ProtectedZoneType, of the module ITS-Container.
+
+ghost use Rattle.its_container.specs.declared.protected_zone_type.ProtectedZoneType.TheVariants.{PermanentCenDsrcTolling, TemporaryCenDsrcTolling};
+ghost use Rattle.rasn_below.specs.Components.{extensible_items};
+ghost use Rattle.rasn_below.specs.Values.{added, item, root};
+
+use rasn_below::{
+    ByKind, EnumeratedKind, ItemCounts, Items, OfKind, Place, item_at, item_counts, place_of_item,
+};
+
+/// ProtectedZoneType ::= ENUMERATED { permanentCenDsrcTolling(0), ..., temporaryCenDsrcTolling(1) }
+#[derive(Clone, Copy, Debug, PartialEq, Eq)]
+pub enum ProtectedZoneType {
+    PermanentCenDsrcTolling,
+    TemporaryCenDsrcTolling,
+}
+
+macro_rules! items {
+    ($to:ident $($with:ident)*) => {
+        $to! { [$($with)*]
+            PermanentCenDsrcTolling;
+            ...;
+            TemporaryCenDsrcTolling;
+        }
+    };
+}
+
+impl OfKind for ProtectedZoneType {
+    type Kind = EnumeratedKind;
+}
+
+impl Items for ProtectedZoneType {
+    const ITEMS: ItemCounts = items!(item_counts);
+
+    ghost ITEMS = { extensible_items 1 1 };
+
+    ghost item = { elim [
+      | PermanentCenDsrcTolling ↦ item root 0
+      | TemporaryCenDsrcTolling ↦ item added 0
+    ] };
+
+    fn place(&self) -> Place {
+        items!(place_of_item self)
+    }
+
+    fn at(place: Place) -> Option<ProtectedZoneType> {
+        items!(item_at place)
+    }
+}
+
+impl ByKind for ProtectedZoneType {}

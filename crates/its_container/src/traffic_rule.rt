@@ -1,0 +1,57 @@
+//! TrafficRule, of the module ITS-Container.
+
+ghost use Rattle.its_container.specs.declared.traffic_rule.TrafficRule.TheVariants.{NoPassing, NoPassingForTrucks, PassToLeft, PassToRight};
+ghost use Rattle.rasn_below.specs.Components.{extensible_items};
+ghost use Rattle.rasn_below.specs.Values.{item, root};
+
+use rasn_below::{
+    ByKind, EnumeratedKind, ItemCounts, Items, OfKind, Place, item_at, item_counts, place_of_item,
+};
+
+/// TrafficRule ::= ENUMERATED { noPassing(0), noPassingForTrucks(1), passToRight(2), passToLeft(3), ... }
+#[derive(Clone, Copy, Debug, PartialEq, Eq)]
+pub enum TrafficRule {
+    NoPassing,
+    NoPassingForTrucks,
+    PassToRight,
+    PassToLeft,
+}
+
+macro_rules! items {
+    ($to:ident $($with:ident)*) => {
+        $to! { [$($with)*]
+            NoPassing;
+            NoPassingForTrucks;
+            PassToRight;
+            PassToLeft;
+            ...;
+        }
+    };
+}
+
+impl OfKind for TrafficRule {
+    type Kind = EnumeratedKind;
+}
+
+impl Items for TrafficRule {
+    const ITEMS: ItemCounts = items!(item_counts);
+
+    ghost ITEMS = { extensible_items 4 0 };
+
+    ghost item = { elim [
+      | NoPassing ↦ item root 0
+      | NoPassingForTrucks ↦ item root 1
+      | PassToRight ↦ item root 2
+      | PassToLeft ↦ item root 3
+    ] };
+
+    fn place(&self) -> Place {
+        items!(place_of_item self)
+    }
+
+    fn at(place: Place) -> Option<TrafficRule> {
+        items!(item_at place)
+    }
+}
+
+impl ByKind for TrafficRule {}

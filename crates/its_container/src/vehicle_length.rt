@@ -1,0 +1,62 @@
+//! VehicleLength, of the module ITS-Container.
+
+ghost use Rattle.its_container.specs.ItsContainer.{vehicle_length_root};
+ghost use Rattle.rasn_below.specs.Components.{fields_of};
+ghost use Rattle.rasn_below.specs.Values.{whole};
+ghost use Rattle.std.specs.Prelude.{Some, [], pos, refl, ◌∷◌};
+
+use crate::aliases::VehicleLengthValue;
+use crate::vehicle_length_confidence_indication::VehicleLengthConfidenceIndication;
+use rasn_below::{
+    AsnType, Components, Constraint, Decoder, Encoder, Fields, Record, bounds, decode_components,
+    encode_components, fields,
+};
+
+/// VehicleLength ::= SEQUENCE {
+///     vehicleLengthValue VehicleLengthValue,
+///     vehicleLengthConfidenceIndication VehicleLengthConfidenceIndication
+/// }
+#[derive(Clone, Copy, Debug, PartialEq, Eq)]
+pub struct VehicleLength {
+    pub vehicle_length_value: VehicleLengthValue,
+    pub vehicle_length_confidence_indication: VehicleLengthConfidenceIndication,
+}
+
+macro_rules! components {
+    ($to:ident $($with:ident)*) => {
+        $to! { [$($with)*]
+            required 0 "vehicleLengthValue" vehicle_length_value: VehicleLengthValue [1..=1023];
+            required 1 "vehicleLengthConfidenceIndication" vehicle_length_confidence_indication:
+                VehicleLengthConfidenceIndication [];
+        }
+    };
+}
+
+const FIELDS: Fields = components!(fields);
+
+const BOUNDS: &[&[Constraint]] = components!(bounds);
+
+impl Components for VehicleLength {
+    const COMPONENTS: Fields = FIELDS;
+
+    ghost COMPONENTS = { fields_of vehicle_length_root };
+
+    ghost components = { vehicle_length_root };
+
+    ghost contents = { λ x.
+        Some (whole (pos x.vehicle_length_value)) ∷
+        Some (⟦<VehicleLengthConfidenceIndication as AsnType>⟧.value x.vehicle_length_confidence_indication) ∷
+        [] };
+
+    ghost described = { refl };
+}
+
+impl Record for VehicleLength {
+    fn encode_components<E: Encoder>(&self, encoder: &mut E) -> Result<(), E::Error> {
+        components!(encode_components self encoder)
+    }
+
+    fn decode_components<D: Decoder>(decoder: &mut D) -> Result<Self, D::Error> {
+        components!(decode_components decoder)
+    }
+}

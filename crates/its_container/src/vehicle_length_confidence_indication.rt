@@ -1,0 +1,60 @@
+//! VehicleLengthConfidenceIndication, of the module ITS-Container.
+
+ghost use Rattle.its_container.specs.declared.vehicle_length_confidence_indication.VehicleLengthConfidenceIndication.TheVariants.{NoTrailerPresent, TrailerPresenceIsUnknown, TrailerPresentWithKnownLength, TrailerPresentWithUnknownLength, Unavailable};
+ghost use Rattle.rasn_below.specs.Components.{all_items};
+ghost use Rattle.rasn_below.specs.Values.{item, root};
+
+use rasn_below::{
+    ByKind, EnumeratedKind, ItemCounts, Items, OfKind, Place, item_at, item_counts, place_of_item,
+};
+
+/// VehicleLengthConfidenceIndication ::= ENUMERATED { noTrailerPresent(0), trailerPresentWithKnownLength(1),
+///     trailerPresentWithUnknownLength(2), trailerPresenceIsUnknown(3), unavailable(4) }
+#[derive(Clone, Copy, Debug, PartialEq, Eq)]
+pub enum VehicleLengthConfidenceIndication {
+    NoTrailerPresent,
+    TrailerPresentWithKnownLength,
+    TrailerPresentWithUnknownLength,
+    TrailerPresenceIsUnknown,
+    Unavailable,
+}
+
+macro_rules! items {
+    ($to:ident $($with:ident)*) => {
+        $to! { [$($with)*]
+            NoTrailerPresent;
+            TrailerPresentWithKnownLength;
+            TrailerPresentWithUnknownLength;
+            TrailerPresenceIsUnknown;
+            Unavailable;
+        }
+    };
+}
+
+impl OfKind for VehicleLengthConfidenceIndication {
+    type Kind = EnumeratedKind;
+}
+
+impl Items for VehicleLengthConfidenceIndication {
+    const ITEMS: ItemCounts = items!(item_counts);
+
+    ghost ITEMS = { all_items 5 };
+
+    ghost item = { elim [
+      | NoTrailerPresent ↦ item root 0
+      | TrailerPresentWithKnownLength ↦ item root 1
+      | TrailerPresentWithUnknownLength ↦ item root 2
+      | TrailerPresenceIsUnknown ↦ item root 3
+      | Unavailable ↦ item root 4
+    ] };
+
+    fn place(&self) -> Place {
+        items!(place_of_item self)
+    }
+
+    fn at(place: Place) -> Option<VehicleLengthConfidenceIndication> {
+        items!(item_at place)
+    }
+}
+
+impl ByKind for VehicleLengthConfidenceIndication {}

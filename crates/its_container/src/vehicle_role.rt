@@ -1,0 +1,94 @@
+//! VehicleRole, of the module ITS-Container.
+
+ghost use Rattle.its_container.specs.declared.vehicle_role.VehicleRole.TheVariants.{Agriculture, Commercial, DangerousGoods, Default, Emergency, Military, PublicTransport, Rescue, Reserved1, Reserved2, Reserved3, RoadOperator, RoadWork, SafetyCar, SpecialTransport, Taxi};
+ghost use Rattle.rasn_below.specs.Components.{all_items};
+ghost use Rattle.rasn_below.specs.Values.{item, root};
+
+use rasn_below::{
+    ByKind, EnumeratedKind, ItemCounts, Items, OfKind, Place, item_at, item_counts, place_of_item,
+};
+
+/// VehicleRole ::= ENUMERATED { default(0), publicTransport(1), specialTransport(2), dangerousGoods(3),
+///     roadWork(4), rescue(5), emergency(6), safetyCar(7), agriculture(8), commercial(9), military(10),
+///     roadOperator(11), taxi(12), reserved1(13), reserved2(14), reserved3(15) }
+#[derive(Clone, Copy, Debug, PartialEq, Eq)]
+pub enum VehicleRole {
+    Default,
+    PublicTransport,
+    SpecialTransport,
+    DangerousGoods,
+    RoadWork,
+    Rescue,
+    Emergency,
+    SafetyCar,
+    Agriculture,
+    Commercial,
+    Military,
+    RoadOperator,
+    Taxi,
+    Reserved1,
+    Reserved2,
+    Reserved3,
+}
+
+macro_rules! items {
+    ($to:ident $($with:ident)*) => {
+        $to! { [$($with)*]
+            Default;
+            PublicTransport;
+            SpecialTransport;
+            DangerousGoods;
+            RoadWork;
+            Rescue;
+            Emergency;
+            SafetyCar;
+            Agriculture;
+            Commercial;
+            Military;
+            RoadOperator;
+            Taxi;
+            Reserved1;
+            Reserved2;
+            Reserved3;
+        }
+    };
+}
+
+impl OfKind for VehicleRole {
+    type Kind = EnumeratedKind;
+}
+
+impl Items for VehicleRole {
+    const ITEMS: ItemCounts = items!(item_counts);
+
+    ghost ITEMS = { all_items 16 };
+
+    ghost item = { elim [
+      | Default ↦ item root 0
+      | PublicTransport ↦ item root 1
+      | SpecialTransport ↦ item root 2
+      | DangerousGoods ↦ item root 3
+      | RoadWork ↦ item root 4
+      | Rescue ↦ item root 5
+      | Emergency ↦ item root 6
+      | SafetyCar ↦ item root 7
+      | Agriculture ↦ item root 8
+      | Commercial ↦ item root 9
+      | Military ↦ item root 10
+      | RoadOperator ↦ item root 11
+      | Taxi ↦ item root 12
+      | Reserved1 ↦ item root 13
+      | Reserved2 ↦ item root 14
+      | Reserved3 ↦ item root 15
+    ] };
+
+    fn place(&self) -> Place {
+        items!(place_of_item self)
+    }
+
+    fn at(place: Place) -> Option<VehicleRole> {
+        items!(item_at place)
+    }
+}
+
+impl ByKind for VehicleRole {}

@@ -1,0 +1,61 @@
+//! VerticalAcceleration, of the module ITS-Container.
+
+ghost use Rattle.its_container.specs.ItsContainer.{vertical_acceleration_root};
+ghost use Rattle.rasn_below.specs.Components.{fields_of};
+ghost use Rattle.rasn_below.specs.Values.{whole};
+ghost use Rattle.std.specs.Prelude.{Some, [], pos, refl, ◌∷◌};
+
+use crate::aliases::{AccelerationConfidence, VerticalAccelerationValue};
+use rasn_below::{
+    Components, Constraint, Decoder, Encoder, Fields, Record, bounds, decode_components,
+    encode_components, fields,
+};
+
+/// VerticalAcceleration ::= SEQUENCE {
+///     verticalAccelerationValue VerticalAccelerationValue,
+///     verticalAccelerationConfidence AccelerationConfidence
+/// }
+#[derive(Clone, Copy, Debug, PartialEq, Eq)]
+pub struct VerticalAcceleration {
+    pub vertical_acceleration_value: VerticalAccelerationValue,
+    pub vertical_acceleration_confidence: AccelerationConfidence,
+}
+
+macro_rules! components {
+    ($to:ident $($with:ident)*) => {
+        $to! { [$($with)*]
+            required 0 "verticalAccelerationValue" vertical_acceleration_value: VerticalAccelerationValue [-160..=161];
+            required 1 "verticalAccelerationConfidence" vertical_acceleration_confidence: AccelerationConfidence
+                [0..=102];
+        }
+    };
+}
+
+const FIELDS: Fields = components!(fields);
+
+const BOUNDS: &[&[Constraint]] = components!(bounds);
+
+impl Components for VerticalAcceleration {
+    const COMPONENTS: Fields = FIELDS;
+
+    ghost COMPONENTS = { fields_of vertical_acceleration_root };
+
+    ghost components = { vertical_acceleration_root };
+
+    ghost contents = { λ x.
+        Some (whole x.vertical_acceleration_value) ∷
+        Some (whole (pos x.vertical_acceleration_confidence)) ∷
+        [] };
+
+    ghost described = { refl };
+}
+
+impl Record for VerticalAcceleration {
+    fn encode_components<E: Encoder>(&self, encoder: &mut E) -> Result<(), E::Error> {
+        components!(encode_components self encoder)
+    }
+
+    fn decode_components<D: Decoder>(decoder: &mut D) -> Result<Self, D::Error> {
+        components!(decode_components decoder)
+    }
+}

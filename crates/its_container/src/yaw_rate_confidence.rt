@@ -1,0 +1,72 @@
+//! YawRateConfidence, of the module ITS-Container.
+
+ghost use Rattle.its_container.specs.declared.yaw_rate_confidence.YawRateConfidence.TheVariants.{DegSec000_01, DegSec000_05, DegSec000_10, DegSec001_00, DegSec005_00, DegSec010_00, DegSec100_00, OutOfRange, Unavailable};
+ghost use Rattle.rasn_below.specs.Components.{all_items};
+ghost use Rattle.rasn_below.specs.Values.{item, root};
+
+use rasn_below::{
+    ByKind, EnumeratedKind, ItemCounts, Items, OfKind, Place, item_at, item_counts, place_of_item,
+};
+
+/// YawRateConfidence ::= ENUMERATED { degSec-000-01(0), degSec-000-05(1), degSec-000-10(2), degSec-001-00(3),
+///     degSec-005-00(4), degSec-010-00(5), degSec-100-00(6), outOfRange(7), unavailable(8) }
+#[derive(Clone, Copy, Debug, PartialEq, Eq)]
+pub enum YawRateConfidence {
+    DegSec000_01,
+    DegSec000_05,
+    DegSec000_10,
+    DegSec001_00,
+    DegSec005_00,
+    DegSec010_00,
+    DegSec100_00,
+    OutOfRange,
+    Unavailable,
+}
+
+macro_rules! items {
+    ($to:ident $($with:ident)*) => {
+        $to! { [$($with)*]
+            DegSec000_01;
+            DegSec000_05;
+            DegSec000_10;
+            DegSec001_00;
+            DegSec005_00;
+            DegSec010_00;
+            DegSec100_00;
+            OutOfRange;
+            Unavailable;
+        }
+    };
+}
+
+impl OfKind for YawRateConfidence {
+    type Kind = EnumeratedKind;
+}
+
+impl Items for YawRateConfidence {
+    const ITEMS: ItemCounts = items!(item_counts);
+
+    ghost ITEMS = { all_items 9 };
+
+    ghost item = { elim [
+      | DegSec000_01 ↦ item root 0
+      | DegSec000_05 ↦ item root 1
+      | DegSec000_10 ↦ item root 2
+      | DegSec001_00 ↦ item root 3
+      | DegSec005_00 ↦ item root 4
+      | DegSec010_00 ↦ item root 5
+      | DegSec100_00 ↦ item root 6
+      | OutOfRange ↦ item root 7
+      | Unavailable ↦ item root 8
+    ] };
+
+    fn place(&self) -> Place {
+        items!(place_of_item self)
+    }
+
+    fn at(place: Place) -> Option<YawRateConfidence> {
+        items!(item_at place)
+    }
+}
+
+impl ByKind for YawRateConfidence {}

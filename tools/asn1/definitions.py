@@ -1,0 +1,86 @@
+"""The definitions of ASN.1 modules as they were parsed: by their names, across imports, with the values that they refer to."""
+from notation import Refused, kind, parts
+
+
+def module_name(node):
+    return node if isinstance(node, str) else node["type"]
+
+
+class Definitions:
+    """All definitions of the modules that were read, and the object sets that were given for a parameter."""
+
+    def __init__(self, front):
+        self.front, self.defined, self.automatic, self.imported = front, {}, {}, {}
+        self.object_sets = set()
+        for module, read in front.items():
+            self.automatic[module] = read["parsed"]["tagdefault"] == "AUTOMATIC"
+            for group in parts(read["parsed"]["imports"])[0]:
+                for symbol in group["symbols"]:
+                    self.imported[module, symbol.get("type") or symbol.get("value")] = module_name(group["module"])
+            for one in read["parsed"]["typeorval"]:
+                self.defined[module, one["name"]] = one
+
+    def home(self, module, name):
+        """Returns the module that defines what a module calls by this name."""
+        while (module, name) not in self.defined:
+            if (module, name) not in self.imported:
+                raise Refused(f"{module} has no definition of {name}")
+            module = self.imported[module, name]
+        return module
+
+    def find(self, module, name):
+        return self.defined[self.home(module, name), name]
+
+    def number(self, node, given):
+        """Returns the number that a value is, or None for MIN and MAX. What is `given` stands for the names of parameters."""
+        if isinstance(node, int):
+            return node
+        if node in ("MIN", "MAX"):
+            return None
+        if kind(node) == "Externalvaluereference":
+            if node["value"] in given:
+                return self.number(*given[node["value"]][::2])
+            return self.number(self.find(node["module"], node["value"])["value"], {})
+        if isinstance(node, list) and len(node) == 1:
+            return node[0]
+        raise Refused(f"{node} is no number")
+
+    def text(self, node):
+        """Returns the code points of a string."""
+        if isinstance(node, list) and all(isinstance(it, int) for it in node):
+            return node
+        if kind(node) == "Externalvaluereference":
+            return self.text(self.find(node["module"], node["value"])["value"])
+        raise Refused(f"{node} is no string")
+
+    def note_set(self, node, module, given):
+        """Keeps the name of an object set that is given for a parameter."""
+        element = parts(node)[0]
+        inner = parts(element)[0] if kind(element) == "element_set" else None
+        reference = inner["def"] if kind(inner) == "type" else None
+        if kind(reference) == "Externaltypereference":
+            if reference["type"] in given:
+                self.note_set(*given[reference["type"]])
+            else:
+                self.object_sets.add((self.home(reference["module"], reference["type"]), reference["type"]))
+
+    def objects(self, module, name):
+        """Gives the objects of a set, as asn1ct read them: the identifier, the type that it names, and what else it says."""
+        found = self.front[module]["checked"].get(name, {}).get("typespec", {})
+        for row in found.get("set", []) if found.get("_") == "ObjectSet" else []:
+            if isinstance(row, dict) and "t" in row and isinstance(row["t"][1], int):
+                yield row["t"][1], *self.fields_of_object(row["t"][2], row["t"][1])
+
+    @staticmethod
+    def fields_of_object(fields, identifier):
+        what, more = "a type", []
+        for key, held in (field["t"] for field in fields):
+            if kind(held) == "Externaltypereference":
+                what = held["type"]
+            elif kind(held) == "typedef":
+                of = held["typespec"]["def"]
+                what = kind(of) if isinstance(held["name"], dict) else held["name"]
+                what = of["type"] if kind(of) == "Externaltypereference" else what
+            elif kind(held) == "valuedef" and held["value"] != identifier:
+                more.append(f"{key} {held['value']}")
+        return what, ", ".join(reversed(more))

@@ -1,0 +1,195 @@
+"""Which types get a page, which a name alone, and what each is called; in the order in which they need one another."""
+from dataclasses import dataclass, field
+
+from names import TAKEN, shorter, snake, spec_word, upper_camel
+from notation import Refused, placed
+from resolve import Type, Use
+from spelling import definition
+from words import holder
+
+# Lines of a list on one side of its marker.
+MOST = 48
+WITH_PAGE = ("SEQUENCE", "CHOICE", "ENUMERATED")
+LISTS = ("SEQUENCE OF", "SET OF")
+
+
+@dataclass(eq=False)
+class Item:
+    """A type with a page, or with a name alone."""
+    key: tuple              # the module, and the name or the path
+    type: Type
+    line: int
+    rust: str
+    word: str
+    crate: str
+    text: list              # the lines of its definition
+    target: Use = None      # of a definition that is another name
+    needs: list = field(default_factory=list)
+    is_element: bool = False    # whether a list has it as its element, under its constraints
+    is_default: bool = False    # whether a component of it has a default
+    depth: object = 0       # the levels that the deepest component takes; None where that depends on the value
+
+    @property
+    def has_page(self):
+        return self.type.kind in WITH_PAGE and self.target is None
+
+    @property
+    def file(self):
+        return snake(self.rust) if self.has_page else "aliases"
+
+    @property
+    def specs(self):
+        return upper_camel(self.key[0])
+
+    @property
+    def root(self):
+        return f"{self.word}_root"
+
+    @property
+    def behind(self):
+        return f"{self.word}_added"
+
+    def variants(self):
+        """Returns the variant of each alternative or item, none twice."""
+        of, taken = self.type, {}
+        for name in [*of.items, *(of.added_items or [])] if of.items else [part.name for part in of.all_parts]:
+            text = upper_camel(name)
+            while text in taken.values():
+                text += "_"
+            taken[name] = text
+        return taken
+
+
+class Items:
+    """All types that are wanted, with those that they are made of. `crates` says of a module where its types go."""
+
+    def __init__(self, modules, crates):
+        self.modules, self.crates = modules, crates
+        self.items, self.order = {}, []
+        self.rust_names, self.spec_words = dict.fromkeys(TAKEN), {}
+
+    def add(self, use):
+        """Returns the item of a type that has a name, with all that it needs."""
+        if use.name not in self.items:
+            pos, full = self.modules.defined[use.name]["pos"], self.modules.cache[use.name]
+            with placed(use.name[0], pos):
+                self.made(use.name, full.type, pos, definition(use.name[1], full), full if full.name else None)
+        return self.items[use.name]
+
+    def of(self, use):
+        """Returns the item of a use, or None."""
+        return self.items[use.name] if use.name else use.item
+
+    def owner(self, use):
+        """Returns the item with the page that defines the type of a use, behind names for it."""
+        item = self.of(use)
+        while item.target:
+            item = self.of(item.target)
+        return item
+
+    def made(self, key, of, line, text, target=None):
+        name = key[1]
+        rust = self.unique(self.rust_names, upper_camel, key)
+        word = self.unique(self.spec_words, spec_word, key)
+        item = Item(key, of, line, rust, word, self.crates.get(key[0], snake(key[0])), text, target)
+        self.items[key] = item
+        if target:
+            self.need(item, target, name, line)
+        elif of.kind in LISTS:
+            self.need_element(item, of.element, name, line)
+        elif of.kind == "ENUMERATED":
+            self.expect_few(of.items, of.added_items)
+        elif of.parts is not None:
+            self.need_parts(item)
+        else:
+            self.expect_plain_bits(of, name)
+        self.order.append(item)
+        return item
+
+    @staticmethod
+    def expect_plain_bits(of, path):
+        """Refuses named bits of which PER leaves out 0 bits at the end (X.691 16), since the library doesn't."""
+        low, high, marked = of.limits.size or (None, None, True)
+        if of.kind == "BIT STRING" and of.names and (low != high or marked):
+            raise Refused(f"{path.replace('/', '.')} has named bits and no fixed size, which isn't taken")
+
+    @staticmethod
+    def expect_few(root, added):
+        if max(len(root), len(added or [])) > MOST:
+            raise Refused(f"more than {MOST} lines of a list on one side of its marker aren't taken")
+
+    def need_parts(self, item):
+        """Gives the types of a record's or a choice's parts their items."""
+        self.expect_few(item.type.parts, item.type.added)
+        for number, part in enumerate(item.type.all_parts):
+            with placed(part.module, part.line):
+                if part.group is not None:
+                    part.name, part.use = f"group{number}", Use(Type("SEQUENCE", parts=part.group))
+                    self.need(item, part.use, f"{item.key[1]}/Group{number}", part.line)
+                    continue
+                self.need(item, part.use, f"{item.key[1]}/{part.name}", part.line)
+                if part.presence == "default":
+                    self.need_default(part)
+        item.depth = self.depth_of(item)
+
+    def need_default(self, part):
+        """Refuses a default that a list can't say."""
+        of = part.use.type
+        if of.kind == "ENUMERATED":
+            self.owner(part.use).is_default = True
+        elif of.kind != "BOOLEAN" and not (of.kind == "INTEGER" and holder(of.limits).startswith("u")):
+            raise Refused(f"{part.name} has a DEFAULT of {of.kind}, which a list can't say")
+
+    def need(self, item, use, path, line):
+        """Gives the type of a use its item, where it has one."""
+        if use.name:
+            found = self.add(use)
+        elif use.type.kind in WITH_PAGE:
+            key = (item.key[0], path)
+            found = self.items.get(key) or self.made(key, use.type, line, definition(path.replace("/", "."), use))
+            use.item = found
+        elif use.type.kind in LISTS:
+            return self.need_element(item, use.type.element, path, line)
+        else:
+            return self.expect_plain_bits(use.type, path)
+        item.needs.append(found)
+        return found
+
+    def need_element(self, item, use, path, line):
+        """Gives the elements of a list a name, where they stand under constraints: those of a list have their type's
+        alone."""
+        found = self.need(item, use, f"{path}/Item", line)
+        if use.type.kind not in WITH_PAGE and use.type.limits:
+            if use.own or use.name is None:
+                key = (item.key[0], f"{path}/Element")
+                found = self.items.get(key) or self.made(key, use.type, line, definition(key[1].replace("/", "."), use))
+                item.needs.append(found)
+            found.is_element = True
+            use.limited = found
+        return found
+
+    @staticmethod
+    def unique(taken, spell, key):
+        """Returns a name in a spelling that no other has: with the module's behind it, or a number."""
+        name, module = shorter(key[1], taken, spell), upper_camel(key[0])
+        while taken.get(name, key) != key:
+            name = f"{name}{module}" if name[0].isupper() and not name.endswith(module) else f"{name}_2"
+        taken[name] = key
+        return name
+
+    def levels(self, use):
+        """Returns how many levels a value of the type takes at most; None where that depends on the value."""
+        if use.type.kind in LISTS:
+            return None
+        if use.type.kind == "DATE":
+            return 2
+        if use.type.parts is None:
+            return 0
+        depth = self.owner(use).depth
+        return None if depth is None else depth + 1
+
+    def depth_of(self, item):
+        """Returns the levels of the deepest component where no value changes them, else None."""
+        of, found = item.type, [self.levels(part.use) for part in item.type.all_parts]
+        is_open = of.kind == "SEQUENCE" and (of.added is not None or any(part.is_slot for part in of.parts))
+        return None if is_open or None in found else max(found, default=0)

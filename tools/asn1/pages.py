@@ -1,0 +1,373 @@
+"""The pages of types: for each a file of Rattle, as `docs/SCHEMAS.md` has them."""
+import templates
+from constraints import LETTERS
+from names import constant, grouped, snake
+from templates import filled
+from words import Imports, holder, limit_words
+
+# The types of the library that hold those of ASN.1, and the words of their values.
+HELD = {
+    "BOOLEAN": "bool", "NULL": "()", "OBJECT IDENTIFIER": "ObjectIdentifier", "UTCTime": "UtcTime",
+    "GeneralizedTime": "GeneralizedTime", "DATE": "Date", "UTF8String": "Utf8String", "TeletexString": "TeletexString",
+    "GraphicString": "GraphicString", "GeneralString": "GeneralString", "OPEN": "Any", "OCTET STRING": "OctetString",
+    "BIT STRING": "BitString", "IA5String": "Ia5String", "VisibleString": "VisibleString", "PrintableString": "PrintableString",
+    "NumericString": "NumericString", "BMPString": "BmpString",
+}
+VALUES = {"BOOLEAN": "truth", "OCTET STRING": "octets", "OPEN": "octets", "BIT STRING": "bits", "NULL": "nothing",
+          **dict.fromkeys(LETTERS, "characters")}
+
+# Columns of a line.
+WIDEST = 120
+
+
+def bounds_text(bounds):
+    low, high, marked = bounds
+    text = f"{'' if low is None else grouped(low)}..{'' if high is None else '=' + grouped(high)}"
+    return f"{text}, ..." if marked else text
+
+
+def fitted(line):
+    """Returns a line in as many as are needed, broken at blanks, those behind the first indented further."""
+    indent = line[: len(line) - len(line.lstrip())]
+    if len(line) <= WIDEST or line.startswith("///"):
+        return [line]
+    place = line.rindex(" ", len(indent), WIDEST)
+    return [line[:place], *fitted(f"{indent}    {line[place + 1 :]}")]
+
+
+def indented(lines, columns):
+    return [f"{' ' * columns}{line}" for line in lines]
+
+
+class Page:
+    """What the page of an item is made from, and what it imports."""
+
+    def __init__(self, items, item, imports=None):
+        self.items, self.item, self.letters = items, item, {}
+        self.imports = Imports() if imports is None else imports
+
+    def text(self):
+        """Returns the page."""
+        make = {"SEQUENCE": self.record, "CHOICE": self.choice, "ENUMERATED": self.enumerated}[self.item.type.kind]
+        return self.file(f"{self.item.rust}, of the module {self.item.key[0]}.", make())
+
+    def file(self, about, lines):
+        """Returns a file of these lines under what it is about and what it imports."""
+        fitting = [piece for line in lines for piece in fitted(line)]
+        blocks = [[f"//! {about}"], self.imports.ghost_lines(), self.imports.code_lines(), fitting]
+        return "\n\n".join("\n".join(block) for block in blocks if block) + "\n"
+
+    def value(self, value):
+        """Imports a word of values, and returns it."""
+        return self.imports.word(value, "Values")
+
+    # Types and their parts.
+
+    def rust(self, use):
+        """Returns the type of a component."""
+        item = self.items.of(use)
+        return self.held(use.type) if item is None or use.own else self.brought(item, item.rust)
+
+    def held(self, of):
+        """Returns the type of the library that holds a type of ASN.1."""
+        if of.kind in ("SEQUENCE OF", "SET OF"):
+            element = self.element(of.element)
+            if of.kind == "SEQUENCE OF":
+                return f"Vec<{element}>"
+            self.imports.use("rasn_below::types", "SetOf")
+            return f"SetOf<{element}>"
+        name = holder(of.limits) if of.kind == "INTEGER" else HELD[of.kind]
+        if name[0].isupper():
+            self.imports.use("rasn_below::types", name)
+        return name
+
+    def element(self, use):
+        """Returns the type of a list's elements: under constraints where they have any."""
+        return self.brought(use.limited, f"Limited{use.limited.rust}") if use.limited else self.rust(use)
+
+    def brought(self, item, name):
+        """Imports what an item's file has under this name, and returns the name."""
+        if (item.crate, item.file) != (self.item.crate, self.item.file):
+            self.imports.use(f"{'crate' if item.crate == self.item.crate else item.crate}::{item.file}", name)
+        return name
+
+    def bounds(self, limits):
+        """Returns what stands in the brackets of a list's line."""
+        found = [bounds_text(limits.value)] if limits.value else []
+        if limits.alphabet is not None:
+            name = f"LETTERS_{constant(self.item.rust)}_{len(self.letters)}"
+            found.append(f"FROM {self.letters.setdefault(limits.alphabet, name)}")
+        return ", ".join([*found, *([f"SIZE {bounds_text(limits.size)}"] if limits.size else [])])
+
+    def letter_lines(self):
+        """Returns the constants of the permitted alphabets that the bounds name."""
+        found = [(f"const {name}: &[u32] = &[{', '.join(map(str, codes))}];", "") for codes, name in self.letters.items()]
+        return [line for lines in found for line in lines]
+
+    def content(self, use, name=None):
+        """Returns what a value of the name is; without a name, as a function."""
+        kind = use.type.kind
+        if kind == "INTEGER" and holder(use.type.limits).startswith("u"):
+            self.imports.prelude("pos")
+            return f"{self.value('whole')} (pos {name})" if name else f"(λ v. {self.value('whole')} (pos v))"
+        if kind == "NULL":
+            return self.value("nothing") if name else f"(λ _. {self.value('nothing')})"
+        word = self.value("whole" if kind == "INTEGER" else VALUES[kind]) if kind == "INTEGER" or kind in VALUES else None
+        if word is None:
+            self.imports.use("rasn_below", "AsnType")
+            word = f"⟦<{self.rust(use)} as AsnType>⟧.value"
+        return f"{word} {name}" if name else word
+
+    def slots(self, parts):
+        """Returns what each component is, absent or there."""
+        lines = []
+        self.imports.prelude("[]", *["◌∷◌"] * bool(parts))
+        for part in parts:
+            field = f"x.{snake(part.name)}"
+            if part.is_slot:
+                lines.append(f"        {self.value('slot_of')} {self.content(part.use)} {field} ∷")
+            else:
+                self.imports.prelude("Some")
+                lines.append(f"        Some ({self.content(part.use, field)}) ∷")
+        return lines
+
+    def levels(self, parts):
+        """Returns the levels of components in their order, each on a line, with 0 behind the last that has any."""
+        found = [self.levels_of(part) for part in parts]
+        while found and found[-1] == "0":
+            found.pop()
+        if not found:
+            return ["0"]
+        self.imports.prelude("max")
+        lines = [f"(max {level if level == '0' else f'({level})'}" for level in found]
+        return [*lines[:-1], f"{lines[-1]} 0{')' * len(lines)}"]
+
+    def levels_of(self, part):
+        if not part.is_slot and self.items.levels(part.use) == 0:
+            return "0"
+        self.imports.use("rasn_below", "AsnType")
+        levels = f"⟦<{self.rust(part.use)} as AsnType>⟧.levels"
+        return f"{self.value('slot_levels')} {levels} x.{snake(part.name)}" if part.is_slot else f"{levels} x.{snake(part.name)}"
+
+    def is_copy(self, of):
+        """Returns whether values of a type can be copied."""
+        if of.kind == "INTEGER":
+            return holder(of.limits) != "Integer"
+        if of.parts is not None:
+            return all(self.is_copy(part.use.type) for part in of.all_parts)
+        return of.kind in ("BOOLEAN", "NULL", "ENUMERATED")
+
+    def derives(self):
+        return f"#[derive({'Clone, Copy, Debug, PartialEq, Eq' if self.is_copy(self.item.type) else 'Debug, Drop, PartialEq'})]"
+
+    def doc(self):
+        return [f"/// {line}" for line in self.item.text]
+
+    def own_spec(self, *names):
+        self.imports.spec(f"{self.item.crate}.specs.{self.item.specs}", *names)
+
+    def variants_spec(self, names):
+        self.imports.spec(f"{self.item.crate}.specs.declared.{self.item.file}.{self.item.rust}.TheVariants", *names)
+
+    # Records.
+
+    def list_line(self, part):
+        """Returns the line of a component in the list."""
+        rust, bounds = self.rust(part.use), self.bounds(part.use.type.limits)
+        presence = "group" if part.group is not None else part.presence
+        if part.is_slot:
+            rust = f"Option<{rust}>"
+        if presence == "default":
+            bounds = f"{bounds} DEFAULT {self.default(part)}".strip()
+        return f'{presence} {part.tag} "{part.name}" {snake(part.name)}: {rust} [{bounds}];'
+
+    def default(self, part):
+        """Returns a default as code."""
+        of = part.use.type
+        if of.kind == "BOOLEAN":
+            return "true" if part.default else "false"
+        if of.kind == "INTEGER":
+            return f"{part.default}_{holder(of.limits)}"
+        owner = self.items.owner(part.use)
+        return f"{self.brought(owner, owner.rust)}::{owner.variants()[part.default]}"
+
+    def record(self):
+        """Returns the lines of a SEQUENCE's page."""
+        of, item, imports = self.item.type, self.item, self.imports
+        texts = [self.list_line(part) for part in of.all_parts]
+        if of.added is not None:
+            texts.insert(len(of.parts), "...;")
+        fields = []
+        for part in of.all_parts:
+            rust = self.rust(part.use)
+            fields.append(f"    pub {snake(part.name)}: {f'Option<{rust}>' if part.is_slot else rust},")
+        self.own_spec(item.root)
+        imports.word("fields_of")
+        imports.prelude("refl")
+        values = {
+            "doc": self.doc(), "derives": self.derives(), "rust": item.rust, "fields": fields, "root": item.root,
+            "letters": self.letter_lines(), "lines": indented(texts, 12), "slots": self.slots(of.parts),
+        }
+        return self.plain_record(values) if of.added is None else self.extended_record(values)
+
+    def plain_record(self, values):
+        item, depth = self.item, []
+        self.imports.use("rasn_below", "Components", "Constraint", "Decoder", "Encoder", "Fields", "Record", "bounds",
+                         "decode_components", "encode_components", "fields")
+        if item.depth:
+            depth = [f"    ghost depth = {{ λ _. {item.depth} }};", ""]
+        elif item.depth is None:
+            lines = self.levels(item.type.parts)
+            if lines != ["0"]:
+                depth = ["    ghost depth = { λ x.", *indented(lines, 8), ""]
+                depth[-2] += " };"
+        return filled(templates.PLAIN_RECORD, **values, over="x" if item.type.parts else "_", depth=depth)
+
+    def extended_record(self, values):
+        item, imports = self.item, self.imports
+        self.own_spec(item.behind)
+        imports.prelude("Some", "suc", "true")
+        for word in ("record_value", "deeper_of"):
+            self.value(word)
+        for word in ("fields_described", "parts_of", "extended_at", "extended_by", "extended_levelled"):
+            imports.word(word)
+        for word in ("SEQUENCE", "no_constraints", "sequence_tag"):
+            imports.word(word, "Types")
+        imports.use("rasn_below::types", "Identifier")
+        imports.use("rasn_below", "AsnType", "Constraint", "Constraints", "Constructed", "Decode", "Decoder", "Encode",
+                    "Encoder", "Fields", "Tag", "added_bounds", "added_fields", "decode_extended", "encode_extended",
+                    "root_bounds", "root_fields")
+        levels, added_levels = (indented(self.levels(it), 8) for it in (item.type.parts, item.type.added))
+        return filled(templates.EXTENDED_RECORD, **values, behind=item.behind, added_slots=self.slots(item.type.added),
+                      levels=levels, added_levels=added_levels)
+
+    # Choices.
+
+    def alternative(self, part, variant, chosen, place):
+        """Returns of an alternative its variant, its line in the list, and which it is."""
+        self.imports.word(chosen)
+        line, which = f'{part.tag} "{part.name}" {variant}', f"{chosen} {place}"
+        if part.use.type.kind == "NULL":
+            return f"{variant},", f"{line};", f"| {variant} ↦ {which} {self.value('nothing')}"
+        rust, bounds = self.rust(part.use), self.bounds(part.use.type.limits)
+        return f"{variant}({rust}),", f"{line}: {rust} [{bounds}];", f"| {variant} v ↦ {which} ({self.content(part.use, 'v')})"
+
+    def choice_depth(self, names):
+        """Returns how many levels each alternative takes."""
+        found = [(part, names[part.name], self.items.levels(part.use)) for part in self.item.type.all_parts]
+        if None not in (levels for _, _, levels in found):
+            most = max((levels for _, _, levels in found), default=0)
+            return [f"    ghost depth = {{ λ _. {most} }};", ""] if most else []
+        lines = []
+        for part, variant, levels in found:
+            if levels is None:
+                self.imports.use("rasn_below", "AsnType")
+                lines.append(f"      | {variant} v ↦ ⟦<{self.rust(part.use)} as AsnType>⟧.levels v")
+            else:
+                lines.append(f"      | {variant}{'' if part.use.type.kind == 'NULL' else ' _'} ↦ {levels}")
+        return ["    ghost depth = { elim [", *lines, "    ] };", ""]
+
+    def choice(self):
+        """Returns the lines of a CHOICE's page."""
+        of, item, imports = self.item.type, self.item, self.imports
+        names = item.variants()
+        found = []
+        for chosen, side in (("chosen", of.parts), ("chosen_behind", of.added or [])):
+            found += [self.alternative(part, names[part.name], chosen, place) for place, part in enumerate(side)]
+        lines = [line for _, line, _ in found]
+        self.own_spec(item.root)
+        self.variants_spec(names.values())
+        imports.prelude("refl", "None" if of.added is None else "Some")
+        imports.word("variants_in")
+        imports.use("rasn_below", "Alternatives", "ByKind", "ChoiceKind", "CodedAlternatives", "Constraint", "Decoder",
+                    "Encoder", "OfKind", "Tag", "Variants", "alternative_bounds", "decode_alternative",
+                    "encode_alternative", "variants")
+        values = {"added": "None", "ghost_added": "None", "added_variants": "", "added_bounds": "", "behind": ""}
+        if of.added is not None:
+            lines.insert(len(of.parts), "...;")
+            values = self.choice_behind()
+        return filled(
+            templates.CHOICE, **values, doc=self.doc(), derives=self.derives(), rust=item.rust, root=item.root,
+            variants=indented([variant for variant, _, _ in found], 4), letters=self.letter_lines(), lines=indented(lines, 12),
+            chosen=indented([chosen for _, _, chosen in found], 6), depth=self.choice_depth(names),
+        )
+
+    def choice_behind(self):
+        """Returns what a CHOICE with a marker has more."""
+        behind = self.item.behind
+        self.own_spec(behind)
+        self.imports.use("rasn_below", "added_variants")
+        values = {
+            "added": "ADDED_VARIANTS", "ghost_added": f"Some (variants_in {behind})",
+            "added_variants": ["const ADDED_VARIANTS: Option<Variants> = alternatives!(added_variants);", ""],
+            "behind": [f"    ghost added = {{ Some {behind} }};", ""], "added_bounds": "",
+        }
+        if self.item.type.added:
+            self.imports.use("rasn_below", "added_alternative_bounds")
+            values["added_bounds"] = ["const ADDED_BOUNDS: &[&[Constraint]] = alternatives!(added_alternative_bounds);", ""]
+        return values
+
+    # ENUMERATED types.
+
+    def enumerated(self):
+        """Returns the lines of an ENUMERATED's page."""
+        of, item, imports = self.item.type, self.item, self.imports
+        names = item.variants()
+        roots, added = [names[it] for it in of.items], [names[it] for it in of.added_items or []]
+        items = []
+        for side, variants in (("root", roots), ("added", added)):
+            for place, name in enumerate(variants):
+                items.append(f"      | {name} ↦ {self.value('item')} {self.value(side)} {place}")
+        lines = [*roots, *["..."] * (of.added_items is not None), *added]
+        counts = f"all_items {len(roots)}" if of.added_items is None else f"extensible_items {len(roots)} {len(added)}"
+        imports.word(counts.split()[0])
+        self.variants_spec(names.values())
+        imports.use("rasn_below", "ByKind", "EnumeratedKind", "ItemCounts", "Items", "OfKind", "Place", "item_at",
+                    "item_counts", "place_of_item")
+        page = filled(
+            templates.ENUMERATED, doc=self.doc(), rust=item.rust, counts=counts, items=items,
+            variants=[f"    {name}," for name in [*roots, *added]], lines=[f"            {name};" for name in lines],
+        )
+        if not item.is_default:
+            return page
+        imports.use("rasn_below::components", "Defaulted")
+        imports.use("std::alloc", "AllocError", "Global")
+        return [*page, "", *filled(templates.DEFAULTED, rust=item.rust)]
+
+    # Names without a page.
+
+    def alias(self):
+        """Returns the lines of a name: for a type under constraints, for a list, for numbers or bits."""
+        item, of = self.item, self.item.type
+        target = self.rust(item.target) if item.target else self.held(of)
+        lines = [*self.doc(), f"pub type {item.rust} = {target};", ""]
+        is_number = of.kind == "INTEGER"
+        width = holder(of.limits).replace("Integer", "i128") if is_number else "usize"
+        for name, number in of.names.items() if of.kind in ("INTEGER", "BIT STRING") else []:
+            what = f"`{name}` of {item.rust}." if is_number else f"The place of the bit `{name}` of {item.rust}."
+            lines += [f"/// {what}", f"pub const {constant(item.rust)}_{constant(name)}: {width} = {grouped(number)};", ""]
+        if item.is_element:
+            self.imports.use("rasn_below", "Constrained", "Constraint", "Constraints", "Limits", "constraints")
+            bounds, words = self.bounds(of.limits), limit_words(of, self.imports)
+            limits = filled(templates.LIMITS, rust=item.rust, constant=constant(item.rust), bounds=bounds, words=words)
+            lines += [*self.letter_lines(), *limits, ""]
+        return lines
+
+
+def alias_file(items, named):
+    """Returns the file of the names that have no page."""
+    imports = Imports()
+    lines = [line for item in named for line in Page(items, item, imports).alias()]
+    about = "Names for types under constraints, for lists, and for numbers and bits."
+    return Page(items, named[0], imports).file(about, lines[:-1])
+
+
+def table_file(modules, of):
+    """Returns the file of the object sets of these modules in which open types look their types up, or None."""
+    lines = []
+    for module, name in sorted(modules.object_sets):
+        for number, what, more in sorted(modules.objects(module, name)) if module in of else []:
+            lines += [f"/// In {name}, {number} stands for {what}{f' ({more})' if more else ''}.",
+                      f"pub const {constant(name)}_{constant(what)}: u32 = {grouped(number)};", ""]
+    head = ["//! What the values whose types aren't known may hold: the identifiers of each object set, by their types.", ""]
+    return "\n".join([*head, *lines]) if lines else None

@@ -1,0 +1,206 @@
+"""Schemas in the words of ASN.1, as `docs/SCHEMAS.md` has them, and what a file imports for them."""
+from constraints import LETTERS
+
+BELOW = "rasn_below.specs."
+PRELUDE = "std.specs.Prelude"
+HOLDERS = [(f"u{bits}", 0, 2**bits - 1) for bits in (8, 16, 32, 64)] + [
+    (f"i{bits}", -(2 ** (bits - 1)), 2 ** (bits - 1) - 1) for bits in (8, 16, 32, 64, 128)
+]
+PLAIN = {
+    "BOOLEAN": "boolean", "NULL": "null", "OBJECT IDENTIFIER": "object_identifier", "UTCTime": "utc_time",
+    "GeneralizedTime": "generalized_time", "DATE": "date", "UTF8String": "utf8_string", "TeletexString": "teletex_string",
+    "GraphicString": "graphic_string", "GeneralString": "general_string", "OPEN": "open_type",
+}
+SIZED = {
+    "OCTET STRING": "octet_string", "BIT STRING": "bit_string", "IA5String": "ia5_string", "VisibleString": "visible_string",
+    "PrintableString": "printable_string", "NumericString": "numeric_string", "BMPString": "bmp_string",
+}
+
+class Imports:
+    """What a file names, by module: of specs (`ghost`) and of code."""
+
+    def __init__(self):
+        self.ghost, self.code = {}, {}
+
+    def spec(self, module, *names):
+        self.ghost.setdefault(module, set()).update(names)
+
+    def use(self, path, *names):
+        self.code.setdefault(path, set()).update(names)
+
+    def word(self, name, module="Components"):
+        """Returns a word of the library's specs, which is imported."""
+        self.spec(f"{BELOW}{module}", name)
+        return name
+
+    def prelude(self, *names):
+        self.spec(PRELUDE, *names)
+
+    def spec_lines(self):
+        return [f"use Rattle.{module}.{{{', '.join(sorted(names))}}}" for module, names in sorted(self.ghost.items())]
+
+    def ghost_lines(self):
+        return [f"ghost {line};" for line in self.spec_lines()]
+
+    def code_lines(self):
+        return [
+            f"use {path}::{{{', '.join(sorted(names))}}};" if len(names) > 1 else f"use {path}::{min(names)};"
+            for path, names in sorted(self.code.items())
+        ]
+
+
+def holder(limits):
+    """Returns the number type that holds an INTEGER: the smallest; `Integer` where it may be of any size."""
+    if not limits.value or limits.value[2] or None in limits.value[:2]:
+        return "Integer"
+    low, high, _ = limits.value
+    return next((name for name, least, most in HOLDERS if least <= low and high <= most), "Integer")
+
+
+def number_words(bounds, imports):
+    """Returns the words of a value's bounds."""
+    if not bounds:
+        return imports.word("any")
+    low, high, marked = bounds
+    if low is None:
+        text = f"{imports.word('up_to')} {high}" if high >= 0 else f"{imports.word('up_to_minus')} {-high}"
+    elif high is None:
+        text = f"{imports.word('from')} {low}" if low >= 0 else f"{imports.word('from_minus')} {-low}"
+    else:
+        imports.word("◌to◌" if low >= 0 else "minus◌to◌" if high >= 0 else "minus◌to_minus◌")
+        text = f"{low} to {high}" if low >= 0 else f"minus {-low} to {high}" if high >= 0 else f"minus {-low} to_minus {-high}"
+    return f"({imports.word('extensible')} ({text}))" if marked else f"({text})"
+
+
+def size_words(bounds, imports):
+    """Returns the words of a size's bounds."""
+    if not bounds:
+        return imports.word("any")
+    low, high, marked = bounds
+    if high is None:
+        text = f"{imports.word('size_from')} {low}"
+    else:
+        imports.word("size◌to◌")
+        text = f"size {low} to {high}"
+    return f"({imports.word('extensible')} ({text}))" if marked else f"({text})"
+
+
+def string_words(limits, imports):
+    """Returns the words of a string's characters and size."""
+    letters = limits.alphabet
+    if letters is None:
+        return size_words(limits.size, imports)
+    if len(letters) > 2 and letters[-1] - letters[0] + 1 == len(letters):
+        text = f"({imports.word('from_to', 'Types')} {len(letters)} {letters[0]})"
+    else:
+        imports.prelude("[]", "◌∷◌")
+        text = f"({' ∷ '.join([*map(str, letters), '[]'])})"
+    return f"({imports.word('of_characters')} {text} {size_words(limits.size, imports)})"
+
+
+def limit_words(of, imports):
+    """Returns the words of a type's constraints."""
+    if of.kind == "INTEGER":
+        return number_words(of.limits.value, imports)
+    return string_words(of.limits, imports) if of.kind in LETTERS else size_words(of.limits.size, imports)
+
+
+def bracketed(text):
+    return f"({text})" if " " in text else text
+
+
+class Schemas:
+    """The schemas of items."""
+
+    def __init__(self, items):
+        self.items = items
+
+    def of_use(self, use, at, imports):
+        """Returns the words of a type where it is used, in the file of the item `at`."""
+        item = self.items.of(use)
+        if item is None or use.own:
+            return self.of_type(use.type, at, imports)
+        if (item.crate, item.specs) != (at.crate, at.specs):
+            imports.spec(f"{item.crate}.specs.{item.specs}", item.word)
+        return item.word
+
+    def of_type(self, of, at, imports):
+        if of.kind == "INTEGER":
+            name = holder(of.limits)
+            return f"{imports.word('integer')} {imports.word('big' if name == 'Integer' else name)} {limit_words(of, imports)}"
+        if of.kind in SIZED:
+            return f"{imports.word(SIZED[of.kind])} {limit_words(of, imports)}"
+        if of.kind in PLAIN:
+            return imports.word(PLAIN[of.kind])
+        if of.kind == "ENUMERATED":
+            if of.added_items is None:
+                return f"{imports.word('enumerated')} {len(of.items)}"
+            return f"{imports.word('extensible_enumerated')} {len(of.items)} {len(of.added_items)}"
+        word = imports.word("sequence_of" if of.kind == "SEQUENCE OF" else "set_of")
+        return f"{word} {limit_words(of, imports)} {bracketed(self.of_use(of.element, at, imports))}"
+
+    def default(self, part, imports):
+        """Returns a default in the words of values."""
+        of, value = part.use.type, part.default
+        if of.kind == "BOOLEAN":
+            imports.prelude("true" if value else "false")
+            return f"({imports.word('truth', 'Values')} {'true' if value else 'false'})"
+        if of.kind == "INTEGER":
+            imports.prelude("pos")
+            return f"({imports.word('whole', 'Values')} (pos {value}))"
+        side, items = ("root", of.items) if value in of.items else ("added", of.added_items)
+        return f"({imports.word('item', 'Values')} {imports.word(side, 'Values')} {items.index(value)})"
+
+    def line(self, part, at, imports):
+        """Returns the words of a component."""
+        text = self.of_use(part.use, at, imports)
+        if part.group is not None:
+            return f"{imports.word('group')} {text}"
+        if part.presence == "optional":
+            return f"{imports.word('optional')} {bracketed(text)}"
+        if part.presence == "default":
+            return f"{imports.word('default')} {self.default(part, imports)} {bracketed(text)}"
+        return text
+
+    def list(self, word, parts, first, at, imports):
+        """Returns a list of components as a definition, the first of which is the `first` of its type."""
+        imports.prelude("List", "[]")
+        head = f"abbrev pub {word} : List {imports.word('Component')}"
+        if not parts:
+            return [head, f"{word} = []"]
+        imports.prelude("◌∷◌")
+        texts = [self.line(part, at, imports) for part in parts]
+        is_automatic = [part.tag for part in parts] == [*range(first, first + len(parts))]
+        if not is_automatic:
+            under, tagged = imports.word("under"), imports.word("at")
+            texts = [f"{under} ({tagged} {part.tag}) {bracketed(text)}" for part, text in zip(parts, texts)]
+        names = [part.name if part.group is None else "[[ ]]" for part in parts]
+        body = [f"    {text} ∷  -- {name}" for text, name in zip(texts, names)]
+        if not is_automatic:
+            return [head, f"{word} =", *body, "    []"]
+        call = imports.word("automatic") if first == 0 else f"{imports.word('automatic_from')} {first}"
+        return [head, f"{word} = {call} (", *body, "    [])"]
+
+    def lines(self, item, imports):
+        """Returns the lines of an item in the file of its module, below its ASN.1."""
+        of = item.type
+        lines = [f"-- {text}" for text in item.text]
+        head = f"abbrev pub {item.word} : {imports.word('Component')}"
+        if of.parts is None or item.target:
+            text = self.of_use(item.target, item, imports) if item.target else self.of_type(of, item, imports)
+            return [*lines, head, f"{item.word} = {text}"]
+        lines += self.list(item.root, of.parts, 0, item, imports)
+        name = {"SEQUENCE": "sequence", "CHOICE": "choice"}[of.kind]
+        if of.added is None:
+            return [*lines, "", head, f"{item.word} = {imports.word(name)} {item.root}"]
+        lines += ["", *self.list(item.behind, of.added, len(of.parts), item, imports)]
+        name = {"SEQUENCE": "extended_sequence", "CHOICE": "extensible_choice"}[of.kind]
+        return [*lines, "", head, f"{item.word} = {imports.word(name)} {item.root} {item.behind}"]
+
+    def file(self, module, items):
+        """Returns the schemas of the items of a module, in the order in which they need one another."""
+        imports, lines = Imports(), []
+        for item in items:
+            lines += ["", *self.lines(item, imports)]
+        head = f"-- The module {module}: below each definition in ASN.1 stands what the theorem takes it for."
+        return "\n".join([head, *imports.spec_lines(), *lines, ""])
