@@ -1,5 +1,5 @@
 -- Where the bits come from that a decoder reads, and which of them it means.
-use Rattle.std.specs.Prelude.{◌≤◌, ◌≡◌, ◌-◌, ◌*◌, ℕ, List, Bool, true, false, drop, length}
+use Rattle.std.specs.Prelude.{◌≤◌, ◌≡◌, ◌+◌, ◌-◌, ◌*◌, ◌%◌, ℕ, List, Bool, true, false, drop, length}
 use Rattle.std.specs.List.{between}
 use Rattle.rasn_types.specs.Bits.{AreOctets, Bits, unpack}
 use Rattle.per_scopes.specs.State
@@ -39,6 +39,10 @@ up_to span source = record {
   place = place_of source;
   lends = lends source;
 }
+
+-- how many bits of its octet stand in front of the first of the bits that are left
+abbrev pub place_left : State.State → ℕ
+place_left s = (s.source.place + (length s.source.bits - (s.source.behind + length s.bits))) % 8
 
 -- the bits from one place of a source up to another
 abbrev pub span_of : Span → Bits → Bits

@@ -32,7 +32,7 @@ ghost use Rattle.per_de.specs.Lists.{AmidList};
 ghost use Rattle.per_de.specs.Openings.{OpensRecord};
 ghost use Rattle.per_de.specs.Outsides.{choosing_of, outside_of, waiting_of};
 ghost use Rattle.per_de.specs.Lending.{AreLent, ComeAlone};
-ghost use Rattle.per_de.specs.Sources.{bits_of, extension_in, flags_in, span_of, up_to, unread_of, AreOctetsOf, IsWithin};
+ghost use Rattle.per_de.specs.Sources.{bits_of, extension_in, flags_in, place_left, span_of, up_to, unread_of, AreOctetsOf, IsWithin};
 ghost use Rattle.per_de.specs.Steps.{AsksNext, EndsContents, EntersOpen, HasTwoLevels, IsRootRead, SkipsUnknown};
 ghost use Rattle.per_de.specs.Steps.{ClosesContents, EntersAlternative, TakesIndex};
 ghost use Rattle.per_de.specs.Steps.{TakesBit, TakesBitmap, TakesExtensionBit, TakesFlags, TakesPresences};
@@ -268,10 +268,12 @@ impl<'input> Decoder<'input> {
         }
     }
 
-    /// The bits that are left.
+    /// The bits that are left, from the place of the first in its octet on. Within an open type in fragments they are
+    /// those of its gathered contents, which the decoder owns.
     #[inline(always)]
     pub fn input(&self) -> BitReader<'_>
-        ensures { result.bits ≡ self.now.bits }
+        ensures bits { result.bits ≡ self.now.bits }
+        ensures place { result.place ≡ place_left self.now }
     {
         self.bits.all_of(self.source.bits())
     }

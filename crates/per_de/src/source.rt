@@ -22,7 +22,8 @@ pub(crate) enum Source<'input> {
 impl<'input> Source<'input> {
     /// All its bits.
     pub(crate) fn bits(&self) -> BitReader<'_>
-        ensures { result.bits ≡ bits_of self.now }
+        ensures bits { result.bits ≡ bits_of self.now }
+        ensures place { result.place ≡ place_of self.now }
     {
         let octets = match self {
             Source::Input(bits) => return bits.clone().unwrap(),
@@ -144,7 +145,8 @@ impl Span {
     /// These bits of a source, which has all of them.
     pub(crate) fn all_of<'source>(self, source: BitReader<'source>) -> BitReader<'source>
         requires { IsWithin self source.bits }
-        ensures { result.bits ≡ span_of self source.entry.bits }
+        ensures bits { result.bits ≡ span_of self source.entry.bits }
+        ensures place { result.place ≡ (source.entry.place + self.begin) % 8 }
     {
         source.part(self.begin, self.end - self.begin)
     }

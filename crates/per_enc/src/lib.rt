@@ -15,7 +15,7 @@ use per_bits::BitList;
 use per_members::OpenBag;
 use per_moments::writing::put_date;
 pub use per_write::error;
-pub use per_write::error::{EncodeError, EncodeErrorKind};
+pub use per_write::error::{EncodeError, EncodeError as Error, EncodeErrorKind};
 use per_write::{Outside, Scope, Writer};
 use per_write_types::alternatives::{OpenChoice, close_alternative, known_place, open_alternative};
 use per_write_types::enumerated::put_enumerated;

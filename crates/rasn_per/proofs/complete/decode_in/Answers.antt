@@ -21,14 +21,14 @@ pub returns-in-Ok-clause-decoded : goal.returns-in-Ok-clause-decoded
 returns-in-Ok-clause-decoded g c =
     read c.args.options.codec c.args.options.zero_padding (g.T.AsnType.schema c.args.constraints.now) g.T.AsnType.value c.args.octets.now _
     (begun c.args.options _ _ _ c.from_octets-decoder.ensures c.requires refl) _ _ _ (are_octets _ c.type_inv.octets) c.in_ok-value.ensures.law
-    (record { left = c.input.result.bits; total = c.len-total.result; ends = subst (λ z. Ends z c.input.result.bits c.len-total.result) c.needs_zero_padding.ensures c.in-Ok.ensures.ok; left_is = c.input.ensures; total_is = c.len-total.ensures; all = c.from_octets.ensures.bits })
+    (record { left = c.input.result.bits; total = c.len-total.result; ends = subst (λ z. Ends z c.input.result.bits c.len-total.result) c.needs_zero_padding.ensures c.in-Ok.ensures.ok; left_is = c.input.ensures.bits; total_is = c.len-total.ensures; all = c.from_octets.ensures.bits })
 
 pub returns-clause-decoded : goal.returns-clause-decoded
 returns-clause-decoded g c =
     surplus c.args.options.codec c.args.options.zero_padding (g.T.AsnType.schema c.args.constraints.now) g.T.AsnType.value c.args.octets.now _
     (begun c.args.options _ _ _ c.from_octets-decoder.ensures c.requires refl) c.in-Err.surplus _ _ _ _ _ c.refusal.ensures c.codec.ensures c.in_ok-value.ensures.law
-    (record { left = c.input.result.bits; total = c.len-total.result; ends = subst (λ z. Ends z c.input.result.bits c.len-total.result → ⊥) c.needs_zero_padding.ensures c.in-Err.ensures.none; left_is = c.input.ensures; total_is = c.len-total.ensures; all = c.from_octets.ensures.bits })
-    (record { left = c.input.result.bits; total = c.len-total.result; ends = subst (λ z. IsWhy z c.input.result.bits c.len-total.result c.in-Err.surplus) c.needs_zero_padding.ensures c.in-Err.ensures.why; left_is = c.input.ensures; total_is = c.len-total.ensures; all = c.from_octets.ensures.bits })
+    (record { left = c.input.result.bits; total = c.len-total.result; ends = subst (λ z. Ends z c.input.result.bits c.len-total.result → ⊥) c.needs_zero_padding.ensures c.in-Err.ensures.none; left_is = c.input.ensures.bits; total_is = c.len-total.ensures; all = c.from_octets.ensures.bits })
+    (record { left = c.input.result.bits; total = c.len-total.result; ends = subst (λ z. IsWhy z c.input.result.bits c.len-total.result c.in-Err.surplus) c.needs_zero_padding.ensures c.in-Err.ensures.why; left_is = c.input.ensures.bits; total_is = c.len-total.ensures; all = c.from_octets.ensures.bits })
 
 pub returns-in_err-value-clause-few : goal.returns-in_err-value-clause-few
 returns-in_err-value-clause-few g c = few c.args.options.codec (g.T.AsnType.schema c.args.constraints.now) g.T.AsnType.value c.args.octets.now c.args.options.zero_padding _ (returns-in_err-value-clause-decoded g c)
