@@ -1,2 +1,3 @@
 pub mod Orders
+pub mod Placing
 pub mod Readings

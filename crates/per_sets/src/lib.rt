@@ -17,6 +17,7 @@ ghost use Rattle.per_core.specs.Canon.{canon, members};
 ghost use Rattle.per_core.specs.Spellings.{Settings};
 ghost use Rattle.rasn_schema.specs.Canonised.{canonised, canonised_slots};
 ghost use Rattle.per_sets.specs.Listed.{listed_slots, AsListed, InOrder};
+ghost use Rattle.per_sets.specs.Placed.{placed_set};
 
 /// Of parts in order, how they are written, their tags, how many they are and how many presence bits they have are
 /// those of the parts, in order.
@@ -38,6 +39,14 @@ pub fn set_is_written_in_order()
     ensures { (a : Variant) (ps : Parts) (ext : Bool) (adds : Parts) (rs xs : List (Option Value))
         → canon a (Schema.sequence by_tag ps ext adds) (record_value rs xs)
         ≡ canon a (Schema.sequence listed (canonised ps) ext adds) (record_value (canonised_slots ps rs) xs) }
+{}
+
+/// A SET of as many root parts as its schema has is what these write, each by itself: their presence bits and then
+/// their values, in ascending order of their smallest tags, wherever they were written first (X.691, 21.1).
+pub fn set_is_placed()
+    ensures { (a : Variant) (ps : Parts) (ext : Bool) (adds : Parts) (rs xs : List (Option Value))
+        → length rs ≡ count ps
+        → canon a (Schema.sequence by_tag ps ext adds) (record_value rs xs) ≡ placed_set a ps ext adds rs xs }
 {}
 
 /// What spells a SET spells the SEQUENCE of its root parts in order, and the other way round (X.691, 21.1).
