@@ -33,7 +33,8 @@ unfoldable mutual
   -- of its additions
   pub AdditionsShort : Variant → Parts → List (Option Value) → Type 0
   AdditionsShort a no_parts ss = Unit {0}
-  AdditionsShort a (part t p s ps) ss = EachSlot (λ v. IsShort (canon a s v 0) × AreShort a s v) (AdditionsShort a ps) ss
+  AdditionsShort a (part t p s ps) ss =
+      EachSlot (λ v. IsShort (canon a s v 0) × AreShort a s v) (AdditionsShort a ps) ss
 
   -- of the root alternative at a place
   pub AlternativeShort : Variant → Parts → ℕ → Value → Type 0
