@@ -84,7 +84,7 @@ ends None z e f = absurd (cc)
 ends (Some h) z e f = le_z_chain z h (pos (2 ^ 127 - 1)) f e
 
 -- bounds on both sides keep a number to an i128
-in_i128 : (bounds range : Bounds) (z : ℤ) → are_in_i128 bounds range ≡ true → holds bounds z ≡ true → holds range z ≡ true → fits_i128 z ≡ true
+pub in_i128 : (bounds range : Bounds) (z : ℤ) → are_in_i128 bounds range ≡ true → holds bounds z ≡ true → holds range z ≡ true → fits_i128 z ≡ true
 in_i128 bounds range z k e f =
     let lows = starts_in_i128 bounds.low || starts_in_i128 range.low in
     let highs = ends_in_i128 bounds.high || ends_in_i128 range.high in
@@ -109,7 +109,7 @@ keeps_in bounds range k h = go (has_bound bounds) h k
     go false h k = absurd (cc)
 
 -- items and their count
-length-put : (less : Value → Value → Bool) (v : Value) (vs : List Value) → length (put less v vs) ≡ suc (length vs)
+length-put : {X : Type 0} (less : X → X → Bool) (v : X) (vs : List X) → length (put less v vs) ≡ suc (length vs)
 length-put less v [] = refl
 length-put less v (w ∷ ws) = go (less w v) (length-put less v ws)
   where
@@ -117,7 +117,7 @@ length-put less v (w ∷ ws) = go (less w v) (length-put less v ws)
     go true e = ap suc e
     go false e = refl
 
-length-sorted : (less : Value → Value → Bool) (vs : List Value) → length (sorted less vs) ≡ length vs
+pub length-sorted : {X : Type 0} (less : X → X → Bool) (vs : List X) → length (sorted less vs) ≡ length vs
 length-sorted less [] = refl
 length-sorted less (v ∷ vs) = length-put less v (sorted less vs) ∙ ap suc (length-sorted less vs)
 

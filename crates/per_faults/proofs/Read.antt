@@ -56,7 +56,7 @@ pub record AreRead (a : Settings) (u : Bool) (ps : Parts) (ws : List (Option Val
   pub uncut : slots_meet_cut ps slots ≡ false
   pub normal : ws ≡ normals ps slots
 
-settled_is : (p : Presence) (s : Schema) (x v : Value) → ◌≡◌ {A = Option Value} (Some v) (settle p s (normal s x)) → v ≡ normal s x
+pub settled_is : (p : Presence) (s : Schema) (x v : Value) → ◌≡◌ {A = Option Value} (Some v) (settle p s (normal s x)) → v ≡ normal s x
 unfolding settle
 settled_is required s x v e = cc
 settled_is optional s x v e = cc
@@ -71,12 +71,12 @@ equal_itself : (xs : List ℕ) → equal_lists xs xs ≡ true
 equal_itself [] = refl
 equal_itself (x ∷ xs) = ap (λ c. cond c (equal_lists xs xs) false) (eq-eqb x x refl) ∙ equal_itself xs
 
-same_itself : (v : Value) → same v v ≡ true
+pub same_itself : (v : Value) → same v v ≡ true
 unfolding same
 same_itself v = equal_itself (code v)
 
 -- what is left out isn't written
-left_out_hidden : (p : Presence) (s : Schema) (x : Value) → IsLawfulPresence s p → IsLeftOut p (Some x) → meets_cut s x ≡ false → shown p (Some (normal s x)) ≡ Some true → ⊥
+pub left_out_hidden : (p : Presence) (s : Schema) (x : Value) → IsLawfulPresence s p → IsLeftOut p (Some x) → meets_cut s x ≡ false → shown p (Some (normal s x)) ≡ Some true → ⊥
 unfolding shown
 left_out_hidden required s x l h m e = h
 left_out_hidden optional s x l h m e = cc

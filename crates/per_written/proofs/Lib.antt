@@ -1,0 +1,5 @@
+pub mod Leaves
+pub mod Parts
+pub mod Records
+pub mod Total
+pub mod Written
