@@ -11,7 +11,7 @@ use Rattle.per_core.specs.Versions.{NewerPresence, Newer, NewerParts, NewerType,
 use Rattle.per_depth.proofs.Itself.{newer_than_itself}
 use Rattle.rasn_versions.specs.Components.{AreNewer}
 
-of_part : {may : Bool} {t t' : TagTree} {p' p : Presence} {s' s : Schema} {ps' ps : Parts} → NewerParts may (part t' p' s' ps') (part t p s ps) →
+pub of_part : {may : Bool} {t t' : TagTree} {p' p : Presence} {s' s : Schema} {ps' ps : Parts} → NewerParts may (part t' p' s' ps') (part t p s ps) →
     NewerPresence s' s p' p × Newer s' s × NewerParts may ps' ps
 of_part (also h n ns) = (h, n, ns)
 

@@ -45,14 +45,14 @@ presence_lawful (default d) s h =
     let a = passed (is_whole s) no_end (unless (is_good_default s d) bad_default allowed) refl h in
     default_lawful s d (passed (is_good_default s d) bad_default allowed refl a.1).0
 
-record_lawful : (o : Order) (ps adds : Parts) → judge_record o ps adds ≡ allowed → IsLawfulRecord o ps adds
+pub record_lawful : (o : Order) (ps adds : Parts) → judge_record o ps adds ≡ allowed → IsLawfulRecord o ps adds
 record_lawful o ps adds h =
     let bits : Bool = ltb (presence_bits ps) 65536 in
     let a = passed (no_groups ps) root_group (unless bits many_bits (judge_tags o ps adds)) refl h in
     let b = passed bits many_bits (judge_tags o ps adds) refl a.1 in
     record { root_groups = a.0; few_bits = b.0; lawful_tags = tags_lawful o ps adds b.1 }
 
-choice_lawful : (ps adds : Parts) → judge_choice ps adds ≡ allowed → IsLawfulChoice ps adds
+pub choice_lawful : (ps adds : Parts) → judge_choice ps adds ≡ allowed → IsLawfulChoice ps adds
 choice_lawful ps adds h =
     let a = passed (are_required ps && are_required adds) bad_alternative (unless (are_told_apart ps adds) repeated_tag allowed) refl h in
     let b = passed (are_told_apart ps adds) repeated_tag allowed refl a.1 in

@@ -1,7 +1,18 @@
--- Components of a newer version beside those of the older one (ITU-T X.680, 52), in the words of a page's lists.
+-- Components of lawful types, and components of a newer version beside those of the older one (ITU-T X.680, 52), in the
+-- words of a page's lists.
 use Rattle.std.specs.Prelude.{ℕ, ◌≡◌, Bool, true, List, [], ◌∷◌}
 use Rattle.rasn_schema.specs.Components.{Component}
+use Rattle.rasn_schema.specs.Lawful.{IsLawful, IsLawfulPresence}
 use Rattle.per_core.specs.Versions.{NewerPresence, NewerType}
+
+-- a component of a lawful type, which is a SEQUENCE where it is a group, and whose default is a value of it
+pub record IsLawfulComponent (c : Component) : Type 0 where
+  pub presence : (n : ℕ) → IsLawfulPresence (c.schema n) c.presence
+  pub schema : (n : ℕ) → IsLawful (c.schema n)
+
+abbrev pub AreLawfulComponents : List Component → Type 0
+AreLawfulComponents [] = Unit {0}
+AreLawfulComponents (c ∷ cs) = IsLawfulComponent c × AreLawfulComponents cs
 
 -- a component of the newer version, in the place of one of the older version: under the same tags, as often there, and
 -- of a newer type

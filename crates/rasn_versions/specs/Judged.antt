@@ -53,9 +53,11 @@ abbrev mutual
   judge (Schema.set_of e size mark) =
       unless (is_lawful_size size.least size.most) bad_size (within in_element (judge e))
   judge (Schema.sequence o ps ext adds) =
-      both (judge_record o ps adds) (both (within in_root (judge_parts 0 ps)) (within in_additions (judge_parts 0 adds)))
+      both (judge_record o ps adds)
+      (both (within in_root (judge_parts 0 ps)) (within in_additions (judge_parts 0 adds)))
   judge (Schema.choice ps adds ext) =
-      both (judge_choice ps adds) (both (within in_root (judge_parts 0 ps)) (within in_additions (judge_parts 0 adds)))
+      both (judge_choice ps adds)
+      (both (within in_root (judge_parts 0 ps)) (within in_additions (judge_parts 0 adds)))
   judge _ = allowed
 
   -- the same of components, counted from a number

@@ -10,7 +10,8 @@ pub data Verdict : Type 0 where
   -- may be absent, a default
   other_kind other_bounds other_range other_size other_alphabet : Verdict
   other_items other_marker other_order other_tag other_presence other_default : Verdict
-  -- a component, an alternative or an addition that isn't there any more, and one that is new where nothing may be added
+  -- a component, an alternative or an addition that isn't there any more, and one that is new where nothing may be
+  -- added
   left_out put_in : Verdict
   -- what a lawful schema may not have: bounds or a size out of order, an addition group in the root, or one that is no
   -- SEQUENCE, too many presence bits, a tag that stands twice, an alternative that isn't required, a default that is no

@@ -1,16 +1,20 @@
-//! Newer versions by what was added to them, also where a type that holds itself stands in both, of which computing
-//! finds no end (X.680, 52). Each law is the contract of a function that does nothing.
+//! Newer versions by what was added to them, and lawful types by their parts, also where a type that holds itself
+//! stands in them, of which computing finds no end (X.680, 52). Each law is the contract of a function that does nothing.
 
-ghost use Rattle.std.specs.Prelude.{ℕ, ◌+◌, ◌++◌, Bool, true, false, List, Some};
+ghost use Rattle.std.specs.Prelude.{◌≡◌, ℕ, ◌+◌, ◌++◌, Bool, true, false, List, Some};
 ghost use Rattle.rasn_constraints.specs.Bounds.{Size};
+ghost use Rattle.rasn_constraints.specs.LawfulConstraints.{is_lawful_size};
 ghost use Rattle.rasn_schema.specs.Components.{Component, alternatives_at, parts_of};
 ghost use Rattle.rasn_schema.specs.Forms.{always};
 ghost use Rattle.rasn_schema.specs.Lawful.{IsLawfulType};
+ghost use Rattle.rasn_schema.specs.Levels.{Levelled};
 ghost use Rattle.rasn_schema.specs.Lists.{list_at};
 ghost use Rattle.rasn_schema.specs.Records.{record_at};
 ghost use Rattle.rasn_schema.specs.Schemas.{Order, Schema};
 ghost use Rattle.per_core.specs.Versions.{NewerType};
-ghost use Rattle.rasn_versions.specs.Components.{AreNewer};
+ghost use Rattle.rasn_versions.specs.Components.{AreLawfulComponents, AreNewer};
+ghost use Rattle.rasn_versions.specs.Judged.{judge_choice, judge_record};
+ghost use Rattle.rasn_versions.specs.Verdicts.{allowed};
 
 /// A lawful SEQUENCE or SET with more additions at the end of those behind its marker is a newer version.
 pub fn more_additions_make_a_newer_version()
@@ -51,4 +55,28 @@ pub fn choice_of_newer_alternatives_is_newer()
     ensures { (new_roots roots new_adds adds : List Component) → AreNewer false new_roots roots
         → AreNewer true new_adds adds
         → NewerType (alternatives_at new_roots (Some new_adds)) (alternatives_at roots (Some adds)) }
+{}
+
+/// Components of lawful types are newer versions of themselves, so that only those that differ are to be shown.
+pub fn lawful_components_stay()
+    ensures { (may : Bool) (cs : List Component) → AreLawfulComponents cs → AreNewer may cs cs }
+{}
+
+/// A SEQUENCE or SET of components of lawful types is lawful, where its tags and presence bits are.
+pub fn record_of_lawful_components_is_lawful()
+    ensures { (o : Order) (extensible : Bool) (roots adds : List Component)
+        → judge_record o (parts_of roots 0) (parts_of adds 0) ≡ allowed → AreLawfulComponents roots
+        → AreLawfulComponents adds → IsLawfulType (record_at o (parts_of roots) extensible (parts_of adds)) }
+{}
+
+/// A CHOICE of alternatives of lawful types is lawful, where its tags are.
+pub fn choice_of_lawful_alternatives_is_lawful()
+    ensures { (roots adds : List Component) → judge_choice (parts_of roots 0) (parts_of adds 0) ≡ allowed
+        → AreLawfulComponents roots → AreLawfulComponents adds → IsLawfulType (alternatives_at roots (Some adds)) }
+{}
+
+/// A SEQUENCE OF elements of a lawful type is lawful under a size that is in order.
+pub fn list_of_a_lawful_type_is_lawful()
+    ensures { (element : ℕ → Schema) (size : Size) (mark : Bool) → Levelled element → IsLawfulType element
+        → is_lawful_size size.least size.most ≡ true → IsLawfulType (list_at element size mark) }
 {}

@@ -10,6 +10,7 @@ pub mod forbidden;
 pub mod plain;
 pub mod records;
 pub mod recursive;
+pub mod relays;
 pub mod to_newer;
 pub mod to_older;
 pub mod within;
