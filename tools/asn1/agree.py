@@ -111,8 +111,9 @@ class Agreement:
     def part(self, part, node, at):
         presence = presence_of(node["prop"])
         self.say(at, "the presence", part.presence, presence)
-        if presence == "default" and part.use.type.kind == "INTEGER":
-            self.say(at, "the default", part.default, parts(node["prop"])[0])
+        if presence == "default":
+            default = str(part.default).lower() if isinstance(part.default, bool) else part.default
+            self.say(at, "the default", default, parts(node["prop"])[0])
         self.use(part.use, node["typespec"], at)
 
 
