@@ -11,6 +11,7 @@ from words import holder
 MOST = 48
 WITH_PAGE = ("SEQUENCE", "CHOICE", "ENUMERATED")
 LISTS = ("SEQUENCE OF", "SET OF")
+OTHER_FILES = ("lib", "aliases", "tables")
 
 
 @dataclass(eq=False)
@@ -35,7 +36,7 @@ class Item:
 
     @property
     def file(self):
-        return snake(self.rust) if self.has_page else "aliases"
+        return snake(self.rust, OTHER_FILES) if self.has_page else "aliases"
 
     @property
     def specs(self):
