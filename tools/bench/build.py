@@ -11,7 +11,7 @@ from repository import TOP, Failure, below, read_crates
 HERE = os.path.dirname(os.path.realpath(__file__))
 VARIANTS = ("uper", "aper")
 # The libraries that the program in Rattle names.
-LIBRARIES = ["rasn_below", "rasn_per", "per_samples_a", "per_samples_f", "per_samples_h"]
+LIBRARIES = ["rasn_below", "rasn_per", "per_samples_a", "per_samples_b"]
 SIZES = {"1k": 1 << 10, "64k": 1 << 16, "1m": 1 << 20, "16m": 1 << 24}
 # asn1c knows no addition groups: an optional addition of the group's type has the same encoding (X.691 19.9).
 GROUP = (r"\[\[.*\]\]", "group Inner OPTIONAL")

@@ -1,7 +1,7 @@
 //! The contents octets of OBJECT IDENTIFIERs, by outside vectors (X.690 8.19), and the texts of errors.
 
 use crate::expected::{expect_octets, expect_text};
-use rasn_ber::ber::{BerError, object_identifier_as_bytes, object_identifier_from_bytes};
+use rasn_types::ber::{BerError, object_identifier_as_bytes, object_identifier_from_bytes};
 use std::alloc::Global;
 use std::process::Abort;
 use std::test::Fail;

@@ -1,4 +1,4 @@
-//! Tests of what no clause says of the crates below the packed encoding rules (`rasn_types`, `rasn_ber`, `rasn_times`,
+//! Tests of what no clause says of the crates below the packed encoding rules (`rasn_types`, `rasn_times`,
 //! `rasn_strings`, `rasn_constraints`) and of bits (`per_bits`): outside vectors, printed text, and that calls succeed.
 #![tactic(auto)]
 

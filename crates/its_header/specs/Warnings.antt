@@ -1,5 +1,6 @@
 -- Warning ::= SEQUENCE {
---     direction DriveDirection OPTIONAL, area ActionArea, positions SEQUENCE (SIZE (1..4)) OF ReferencePositionLite, lane INTEGER (0..7) DEFAULT 1
+-- direction DriveDirection OPTIONAL, area ActionArea, positions SEQUENCE (SIZE (1..4)) OF ReferencePositionLite, lane
+-- INTEGER (0..7) DEFAULT 1
 -- }
 use Rattle.std.specs.Prelude.{List, [], ◌∷◌, pos}
 use Rattle.rasn_below.specs.Values.{whole}

@@ -6,3 +6,4 @@ pub mod Sets
 pub mod Shifts
 pub mod Words
 pub mod LowBits
+pub mod Spare

@@ -1,7 +1,8 @@
 //! Bits as the packed encoding rules write and read them (ITU-T X.691, section 11): a list that grows at its end,
-//! and a reader that takes from the front. Every count, width and index is in bits, but for the length of a slice or
-//! `Vec` of octets. A contract speaks of the bits alone, as a list of truth values, and not of how they are kept: eight
-//! to an octet, the first highest.
+//! and a reader that takes from the front; complete encodings as octets (`per`), and the test of how one ends
+//! (`ended`).
+//! Every count, width and index is in bits, but for the length of a slice or `Vec` of octets. A contract speaks of the
+//! bits alone, as a list of truth values, and not of how they are kept: eight to an octet, the first highest.
 #![tactic(auto)]
 
 ghost use Rattle.std.specs.Prelude.{◌≡◌, ◌+◌, ◌-◌, ◌*◌, ◌/◌, ◌%◌, ◌^◌, ◌<◌, ◌≤◌, List, [], ◌∷◌, ◌++◌, Bool, length, take, drop, set, slice_get, vec_len, vec_capacity, OnOk, OnErr, IfOk, IfErr, IfSome, IsSome, IsTrue, ◌↔◌, ⊤};
@@ -17,7 +18,9 @@ use rasn_types::bit_string::note_octets;
 use std::alloc::{AllocError, Allocator};
 use std::marker::Model;
 
+pub mod ended;
 mod fields;
+pub mod per;
 
 /// Bits in the order in which they are written.
 #[derive(Drop)]

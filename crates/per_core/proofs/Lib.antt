@@ -16,3 +16,13 @@ pub mod Readings
 pub mod Within
 pub mod Filling
 pub mod Zeros
+pub mod SetOrders
+pub mod Placing
+pub mod SetReadings
+mod FewItems
+pub mod FewLengths
+pub mod FewTook
+pub mod FewWithin
+mod HeldIn
+mod NullRows
+pub mod Fits

@@ -1,4 +1,5 @@
--- All encodings that a basic decoder takes (ITU-T X.691, 12 to 24, 30 and 32). Where it takes more than X.691 allows a sender, that is
+-- All encodings that a basic decoder takes (ITU-T X.691, 12 to 24, 30 and 32). Where it takes more than X.691 allows a
+-- sender, that is
 -- this project's choice: any padding, superfluous octets and large forms, and additions that it doesn't know.
 use Rattle.std.specs.Prelude.{ℕ, zero, suc, ◌+◌, ◌-◌, ◌*◌, ◌/◌, ◌<◌, ◌≡◌, ◌⊎◌, Bool, true, false, cond, ◌&&◌, nat_le, nat_lt, ◌==◌, List, [], ◌∷◌, ◌++◌, length, Option, Some, None, ℤ, pos}
 use Rattle.rasn_types.specs.Alphabets.{char_width, char_code, visible}
@@ -27,7 +28,8 @@ pub record InOctets (a : Settings) (n o p : ℕ) (bits : Bits) : Type 0 where
 -- X.691 11.5.6, 11.5.7: the o-th of n numbers, by the variant
 abbrev pub constrained_by : Variant → Settings → ℕ → ℕ → Spelling
 constrained_by unaligned a n o = Field (width n) o
-constrained_by aligned a n o = cond (nat_le n 255) (Field (width n) o) (cond (n == 256) (Then (AnyPadding a) (Field 8 o))
+constrained_by aligned a n o = cond (nat_le n 255) (Field (width n) o)
+    (cond (n == 256) (Then (AnyPadding a) (Field 8 o))
     (cond (nat_le n 65536) (Then (AnyPadding a) (Field 16 o)) (InOctets a n o)))
 
 -- X.691 11.5.6, 11.5.7: the o-th of n numbers, by the settings
@@ -39,7 +41,8 @@ pub record IsConstrainedWhole (a : Settings) (n o p : ℕ) (bits : Bits) : Type 
   pub below : o < n
   pub spelled : constrained_form a n o p bits
 
--- X.691 11.9.3.6, 11.9.3.7: a count below 16384, in one octet or two; two may also stand below 128 (this project's choice)
+-- X.691 11.9.3.6, 11.9.3.7: a count below 16384, in one octet or two; two may also stand below 128 (this project's
+-- choice)
 abbrev pub LastCount : ℕ → Spelling
 LastCount n = Either (When (n < 128) (Field 8 n)) (Then (exactly (true ∷ false ∷ [])) (Field 14 n))
 
@@ -52,7 +55,8 @@ pub record Fragment (n p : ℕ) (bits : Bits) : Type 0 where
   pub spelled : Field 8 (192 + times) p bits
 
 -- X.691 11.9.3.8: one fragment of items, and the rest
-pub record Fragmented {X : Type 0} (a : Settings) (item : X → Spelling) (rest : List X → Spelling) (xs : List X) (p : ℕ) (bits : Bits) : Type 0 where
+pub record Fragmented {X : Type 0} (a : Settings) (item : X → Spelling) (rest : List X → Spelling) (xs : List X)
+    (p : ℕ) (bits : Bits) : Type 0 where
   pub these : List X
   pub others : List X
   pub all : xs ≡ these ++ others
@@ -64,7 +68,8 @@ InFragments a item zero xs = Then (AnyPadding a) (Then (LastCount (length xs)) (
 InFragments a item (suc k) xs = Fragmented a item (InFragments a item k) xs
 
 -- X.691 11.9.3.5 to 11.9.3.8: items after an unconstrained length
-pub record UnconstrainedLength {X : Type 0} (a : Settings) (item : X → Spelling) (xs : List X) (p : ℕ) (bits : Bits) : Type 0 where
+pub record UnconstrainedLength {X : Type 0} (a : Settings) (item : X → Spelling) (xs : List X) (p : ℕ)
+    (bits : Bits) : Type 0 where
   pub fragments : ℕ
   pub spelled : InFragments a item fragments xs p bits
 
@@ -73,21 +78,25 @@ abbrev pub PaddingIf : Bool → Settings → Spelling
 PaddingIf true a = AnyPadding a
 PaddingIf false a = exactly []
 
--- X.691 11.9.3.3, 11.9.4.1: items whose count is a constrained whole number where both bounds are there and the upper one is below
+-- X.691 11.9.3.3, 11.9.4.1: items whose count is a constrained whole number where both bounds are there and the upper
+-- one is below
 -- 65536, and else unconstrained
 abbrev pub length_form : {X : Type 0} → Settings → Option ℕ → Option ℕ → Counted → (X → Spelling) → List X → Spelling
 length_form a None most kind item xs = UnconstrainedLength a item xs
 length_form a (Some lb) None kind item xs = UnconstrainedLength a item xs
 length_form a (Some lb) (Some ub) kind item xs = cond (nat_lt ub 65536)
-    (Then (IsConstrainedWhole a (ub - lb + 1) (length xs - lb)) (Then (PaddingIf (nat_lt 0 (length xs) && is_aligned kind lb ub) a) (OneByOne item xs)))
+    (Then (IsConstrainedWhole a (ub - lb + 1) (length xs - lb))
+    (Then (PaddingIf (nat_lt 0 (length xs) && is_aligned kind lb ub) a) (OneByOne item xs)))
     (UnconstrainedLength a item xs)
 
 -- items whose count the size allows
-pub record Sized {X : Type 0} (a : Settings) (size : Size) (kind : Counted) (item : X → Spelling) (xs : List X) (p : ℕ) (bits : Bits) : Type 0 where
+pub record Sized {X : Type 0} (a : Settings) (size : Size) (kind : Counted) (item : X → Spelling) (xs : List X) (p : ℕ)
+    (bits : Bits) : Type 0 where
   pub allowed : allows size (length xs) ≡ true
   pub spelled : length_form a size.least size.most kind item xs p bits
 
--- an extensible constraint's bit: 0 and the form under the constraint, or 1 and the form without, also where the constraint is met
+-- an extensible constraint's bit: 0 and the form under the constraint, or 1 and the form without, also where the
+-- constraint is met
 -- (this project's choice)
 abbrev pub Marked : {X : Type 0} → Bool → (X → Spelling) → (X → Spelling) → X → Spelling
 Marked false inside outside x = inside x
@@ -141,7 +150,8 @@ at_least_zero = record { low = Some (pos 0); high = None }
 
 -- X.691 11.6: a normally small number; the large form may stand for every number (this project's choice)
 abbrev pub Small : Settings → ℕ → Spelling
-Small a i = Either (Then (exactly (false ∷ [])) (Field 6 i)) (Then (exactly (true ∷ [])) (IsNumber a at_least_zero (pos i)))
+Small a i = Either (Then (exactly (false ∷ [])) (Field 6 i))
+    (Then (exactly (true ∷ [])) (IsNumber a at_least_zero (pos i)))
 
 -- octets that begin with a spelling of some bits, followed by fewer than eight spare ones
 pub record Fronts (a : Settings) (s : Spelling) (os : List ℕ) : Type 0 where
@@ -219,7 +229,8 @@ Unknown_in a false (true ∷ bs) = never
 abbrev pub OpenOf : Settings → (Value → Spelling) → Value → Spelling
 OpenOf a spells v = Open a (Fills a (spells v))
 
--- X.691 19.7 to 19.9: additions as a bitmap shows them: of the schema those with a bit 1, and behind them those that it doesn't know.
+-- X.691 19.7 to 19.9: additions as a bitmap shows them: of the schema those with a bit 1, and behind them those that it
+-- doesn't know.
 -- A bitmap may be shorter or longer than the schema's list
 abbrev pub Additions_in : Settings → Bool → List Rule → List (Option Value) → List Bool → Spelling
 Additions_in a u [] [] bs = Unknown_in a u bs
@@ -237,22 +248,27 @@ Unknown a = Unknown_in a true
 abbrev pub Additions : Settings → List Rule → List (Option Value) → List Bool → Spelling
 Additions a = Additions_in a true
 
--- X.691 19.7, 19.8, 11.9.3.4: a bitmap of one bit or more, after its length in the small form (up to 64) or the large one
+-- X.691 19.7, 19.8, 11.9.3.4: a bitmap of one bit or more, after its length in the small form (up to 64) or the large
+-- one
 pub record IsBitmap (a : Settings) (flags : List Bool) (p : ℕ) (bits : Bits) : Type 0 where
   pub some : 0 < length flags
   pub spelled : Either (Then (exactly (false ∷ [])) (Then (Field 6 (length flags - 1)) (exactly flags)))
       (Then (exactly (true ∷ [])) (Sized a any_size bit_items bit flags)) p bits
 
 -- X.691 19: extension bit 1, the root parts, a bitmap, and the additions that it shows
-pub record Extended_in (a : Settings) (u : Bool) (rs adds : List Rule) (ss xs : List (Option Value)) (p : ℕ) (bits : Bits) : Type 0 where
+pub record Extended_in (a : Settings) (u : Bool) (rs adds : List Rule) (ss xs : List (Option Value)) (p : ℕ)
+    (bits : Bits) : Type 0 where
   pub flags : List Bool
-  pub spelled : Then (exactly (true ∷ [])) (Then (Root rs ss) (Then (IsBitmap a flags) (Additions_in a u adds xs flags))) p bits
+  pub spelled : Then (exactly (true ∷ [])) (Then (Root rs ss)
+      (Then (IsBitmap a flags) (Additions_in a u adds xs flags))) p bits
 
 -- X.691 19, 21: the parts of a SEQUENCE or SET, in the order in which they are written, and its additions
-abbrev pub Fields_in : Settings → Bool → Bool → List Rule → List Rule → List (Option Value) → List (Option Value) → Spelling
+abbrev pub Fields_in : Settings → Bool → Bool → List Rule → List Rule → List (Option Value) → List (Option Value)
+    → Spelling
 Fields_in a u false rs adds ss xs = Then (Root rs ss) (Additions_in a u adds xs [])
 Fields_in a u true rs adds ss xs =
-    Either (Then (exactly (false ∷ [])) (Then (Root rs ss) (Additions_in a u adds xs []))) (Extended_in a u rs adds ss xs)
+    Either (Then (exactly (false ∷ [])) (Then (Root rs ss) (Additions_in a u adds xs [])))
+    (Extended_in a u rs adds ss xs)
 
 -- X.691 19: a record with extension bit 1, where unknown additions may be present
 abbrev pub Extended : Settings → List Rule → List Rule → List (Option Value) → List (Option Value) → Spelling
@@ -276,8 +292,10 @@ ExtensionBit false true = never
 
 -- X.691 23: an alternative of the root in place, or an addition in an open type; only those of the schema
 abbrev pub Alternative : Settings → Bool → List Rule → List Rule → Side → ℕ → Value → Spelling
-Alternative a ext rs adds root i v = Then (ExtensionBit ext false) (Then (IsConstrainedWhole a (length rs) i) (Chosen rs i v))
-Alternative a ext rs adds added i v = Then (ExtensionBit ext true) (Then (Small a i) (Open a (Fills a (Chosen adds i v))))
+Alternative a ext rs adds root i v = Then (ExtensionBit ext false)
+    (Then (IsConstrainedWhole a (length rs) i) (Chosen rs i v))
+Alternative a ext rs adds added i v = Then (ExtensionBit ext true)
+    (Then (Small a i) (Open a (Fills a (Chosen adds i v))))
 
 -- X.691 14.3: an item behind the extension marker; only those of the schema
 pub record AddedItem (a : Settings) (addeds i p : ℕ) (bits : Bits) : Type 0 where
@@ -324,7 +342,8 @@ pub record IsDay (a : Settings) (x : ℤ × ℕ × ℕ) (p : ℕ) (bits : Bits) 
   pub spelled : Then (Year a x.0) (Then (IsConstrainedWhole a 12 x.1) (IsConstrainedWhole a 31 x.2)) p bits
 
 -- X.691 13: a number of the type's range under a value constraint
-pub record IsNumberOf (a : Settings) (bounds : Bounds) (mark : Bool) (range : Bounds) (z : ℤ) (p : ℕ) (bits : Bits) : Type 0 where
+pub record IsNumberOf (a : Settings) (bounds : Bounds) (mark : Bool) (range : Bounds) (z : ℤ) (p : ℕ)
+    (bits : Bits) : Type 0 where
   pub in_range : holds range z ≡ true
   pub spelled : Marked mark (IsNumber a bounds) (IsNumber a unbounded) z p bits
 
@@ -341,7 +360,8 @@ Proper ok spells x = When (ok x ≡ true) (spells x)
 unfoldable mutual
   unfolding is_text is_time is_identifier Schemas.smallest
 
-  -- X.691 12 to 24, 30, 32: the bits that spell a value, by its schema; `u` says whether unknown additions may be present
+  -- X.691 12 to 24, 30, 32: the bits that spell a value, by its schema; `u` says whether unknown additions may be
+  -- present
   pub basic_in : Settings → Bool → Schema → Value → Spelling
   basic_in a u Schema.boolean = As truth bit
   basic_in a u Schema.null = As (λ (u : Unit {0}). nothing) (λ u. exactly [])
@@ -357,13 +377,15 @@ unfoldable mutual
   basic_in a u (Schema.octet_string size mark) = As Value.octets (Lengthy a size mark octet_items octet)
   basic_in a u (Schema.bit_string size mark) = As Value.bits (Lengthy a size mark bit_items bit)
   basic_in a u (Schema.char_string alphabet size mark) = As characters (String a alphabet size mark)
-  basic_in a u (Schema.list e size mark) = As (λ vs. elements (as_values vs)) (Lengthy a size mark list_items (basic_in a u e))
+  basic_in a u (Schema.list e size mark) = As (λ vs. elements (as_values vs))
+      (Lengthy a size mark list_items (basic_in a u e))
   basic_in a u (Schema.set_of e size mark) = As bag_of (Lengthy a size mark list_items (basic_in a u e))
   basic_in a u (Schema.sequence o ps ext adds) =
       As (λ (x : List (Option Value) × List (Option Value)). fields (as_slots x.0) (as_slots x.1))
       (λ x. Fields_in a u ext (ordered o (tags ps) (rules_in a u ps)) (rules_in a u adds) (ordered o (tags ps) x.0) x.1)
   basic_in a u (Schema.choice ps adds ext) =
-      As (λ (x : Side × ℕ × Value). alternative x.0 x.1 x.2) (λ x. Alternative a ext (rules_in a u ps) (rules_in a u adds) x.0 x.1 x.2)
+      As (λ (x : Side × ℕ × Value). alternative x.0 x.1 x.2)
+      (λ x. Alternative a ext (rules_in a u ps) (rules_in a u adds) x.0 x.1 x.2)
 
   -- how each part, addition or alternative is spelled
   pub rules_in : Settings → Bool → Parts → List Rule

@@ -28,7 +28,8 @@ pub record Member : Type 0 where
   pub presence : Presence
   pub writes : Value → Writer
 
--- X.691 19.2, 19.5: whether a part is written; one at its default isn't. None where the part can't be as it is: a required one or
+-- X.691 19.2, 19.5: whether a part is written; one at its default isn't. None where the part can't be as it is: a
+-- required one or
 -- one with a default that is absent
 unfoldable pub shown : Presence → Option Value → Option Bool
 unfolding same
@@ -112,14 +113,16 @@ extension_bit false false = just []
 extension_bit false true = refused
 extension_bit true b = just (b ∷ [])
 
--- X.691 19.1, 19.7 to 19.9: the extension bit, 1 exactly where an addition is written; what is inside; and then the additions
+-- X.691 19.1, 19.7 to 19.9: the extension bit, 1 exactly where an addition is written; what is inside; and then the
+-- additions
 abbrev pub with_additions : Variant → Bool → List Member → List (Option Value) → Writer → Option Bits → Writer
 with_additions a ext ms ss inner None = refused
 with_additions a ext ms ss inner (Some bs) =
     extension_bit ext (any_set bs) ▹ inner ▹ (if any_set bs then bitmap a bs ▹ opens_of a ms ss bs else just [])
 
 -- X.691 19, 21: the parts of a SEQUENCE or SET, in the order in which they are written, and its additions
-unfoldable pub record_of : Variant → Bool → List Member → List Member → List (Option Value) → List (Option Value) → Writer
+unfoldable pub record_of : Variant → Bool → List Member → List Member → List (Option Value) → List (Option Value)
+    → Writer
 unfolding bitmap_of bitmap open_bits shown
 record_of a ext ms adds ss ads =
     with_additions a ext adds ads (flags_of ms ss ▹ bodies_of ms ss) (bitmap_of adds ads)
@@ -130,7 +133,8 @@ chosen [] i v = refused
 chosen (m ∷ ms) zero v = m.writes v
 chosen (m ∷ ms) (suc i) v = chosen ms i v
 
--- X.691 23: an alternative: of the root by a constrained whole number and in place, an addition by a normally small number and in an
+-- X.691 23: an alternative: of the root by a constrained whole number and in place, an addition by a normally small
+-- number and in an
 -- open type
 unfoldable pub choice_of : Variant → Bool → List Member → List Member → Side → ℕ → Value → Writer
 unfolding constrained_whole small open_bits
@@ -173,7 +177,8 @@ year_writer a y =
 -- X.691 32: a day of the calendar: year, month and day
 unfoldable pub date_of : Variant → ℤ → ℕ → ℕ → Writer
 unfolding year_writer
-date_of a y m d = written_if (is_date y m d) (year_writer a y ▹ constrained_whole a 12 (m - 1) ▹ constrained_whole a 31 (d - 1))
+date_of a y m d = written_if (is_date y m d) (year_writer a y ▹ constrained_whole a 12 (m - 1)
+    ▹ constrained_whole a 31 (d - 1))
 
 -- a writer of a whole number, for a value of this kind alone
 abbrev pub on_whole : (ℤ → Writer) → Value → Writer
@@ -236,9 +241,11 @@ on_day f (day y m d) = f y m d
 on_day f _ = refused
 
 unfoldable mutual
-  unfolding is_text is_time is_identifier number_form record_of choice_of item_of date_of char_writers char_code Schemas.smallest same bag_of
+  unfolding is_text is_time is_identifier number_form record_of choice_of item_of date_of char_writers char_code
+      Schemas.smallest same bag_of
 
-  -- X.691 12 to 24, 30, 32: the canonical bits of a value in normal form, by its schema; a value of another kind has none
+  -- X.691 12 to 24, 30, 32: the canonical bits of a value in normal form, by its schema; a value of another kind has
+  -- none
   pub canon : Variant → Schema → Value → Writer
   canon a Schema.boolean = on_truth (λ b. just (b ∷ []))
   canon a Schema.null = on_nothing (just [])
@@ -248,7 +255,8 @@ unfoldable mutual
   canon a (Schema.text kind) = on_octets (λ os. written_if (is_text kind os) (unconstrained_octets a os))
   canon a Schema.identifier = on_octets (λ os. written_if (is_identifier os) (unconstrained_octets a os))
   canon a (Schema.time kind) =
-      on_characters (λ cs. written_if (is_time kind cs) (counted a any_size false (char_items (char_width a visible)) (char_writers a visible cs)))
+      on_characters (λ cs. written_if (is_time kind cs)
+      (counted a any_size false (char_items (char_width a visible)) (char_writers a visible cs)))
   canon a Schema.date = on_day (date_of a)
   canon a (Schema.number bounds mark range) = on_whole (λ z. written_if (holds range z) (number_form a bounds mark z))
   canon a (Schema.items r e ext) = on_item (item_of a r e ext)

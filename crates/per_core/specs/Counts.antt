@@ -21,26 +21,30 @@ abbrev pub unless_zero : ℕ → List ℕ
 unless_zero zero = []
 unless_zero (suc n) = suc n ∷ []
 
--- X.691 11.9.3.8: how many items stand in each fragment: 65536 as often as it fits, then 49152, 32768 or 16384 where one fits, and
+-- X.691 11.9.3.8: how many items stand in each fragment: 65536 as often as it fits, then 49152, 32768 or 16384 where
+-- one fits, and
 -- then the rest below 16384, which is always there
 abbrev pub fragment_sizes : ℕ → List ℕ
 fragment_sizes n = replicate (n / 65536) 65536 ++ (unless_zero (n % 65536 / 16384 * 16384) ++ n % 16384 ∷ [])
 
 -- X.691 11.9.3.6 to 11.9.3.8: the length determinant of a fragment
 unfoldable pub determinant : ℕ → Bits
-determinant m = if nat_lt m 128 then to_bits 8 m else if nat_lt m 16384 then true ∷ false ∷ to_bits 14 m else to_bits 8 (192 + m / 16384)
+determinant m = if nat_lt m 128 then to_bits 8 m else if nat_lt m 16384 then true ∷ false
+    ∷ to_bits 14 m else to_bits 8 (192 + m / 16384)
 
 -- X.691 11.9.3.5 to 11.9.3.8: the items in fragments, each after padding and its determinant
 abbrev pub in_fragments : Variant → List ℕ → List Writer → Writer
 in_fragments a [] items = just []
-in_fragments a (m ∷ ms) items = padding a ▹ just (determinant m) ▹ one_by_one (take m items) ▹ in_fragments a ms (drop m items)
+in_fragments a (m ∷ ms) items = padding a ▹ just (determinant m) ▹ one_by_one (take m items)
+    ▹ in_fragments a ms (drop m items)
 
 -- what is counted: elements, octets, bits, or characters of some width
 pub data Counted : Type 0 where
   list_items octet_items bit_items : Counted
   char_items : (width : ℕ) → Counted
 
--- X.691 16.9 to 16.11, 17.6 to 17.8, 20.6, 30.5.6, 30.5.7: whether items begin on an octet, after a bounded length above 0
+-- X.691 16.9 to 16.11, 17.6 to 17.8, 20.6, 30.5.6, 30.5.7: whether items begin on an octet, after a bounded length
+-- above 0
 abbrev pub is_aligned : Counted → ℕ → ℕ → Bool
 is_aligned list_items lb ub = false
 is_aligned octet_items lb ub = not (lb == ub && nat_le ub 2)
@@ -52,7 +56,8 @@ abbrev pub padding_if : Bool → Variant → Writer
 padding_if true a = padding a
 padding_if false a = just []
 
--- X.691 11.9.3.3, 11.9.4.1: items whose count is written as a constrained whole number where both bounds are there and the upper one
+-- X.691 11.9.3.3, 11.9.4.1: items whose count is written as a constrained whole number where both bounds are there and
+-- the upper one
 -- is below 65536, and else in fragment_sizes
 abbrev pub counted_under : Variant → Option ℕ → Option ℕ → Counted → ℕ → List Writer → Writer
 counted_under a (Some lb) (Some ub) kind n items = if nat_lt ub 65536 then
@@ -63,9 +68,11 @@ counted_under a (Some lb) None kind n items = in_fragments a (fragment_sizes n) 
 
 -- items, where the size allows their count
 abbrev pub counted_in : Variant → Size → Counted → List Writer → Writer
-counted_in a size kind items = written_if (allows size (length items)) (counted_under a size.least size.most kind (length items) items)
+counted_in a size kind items = written_if (allows size (length items))
+    (counted_under a size.least size.most kind (length items) items)
 
--- X.691 13.1, 16.6, 17.3, 20.4, 30.4: an extensible constraint's bit, 0 and the form under the constraint, or 1 and the form without;
+-- X.691 13.1, 16.6, 17.3, 20.4, 30.4: an extensible constraint's bit, 0 and the form under the constraint, or 1 and the
+-- form without;
 -- a constraint that isn't extensible has no bit
 abbrev pub marked_form : Bool → Bool → Writer → Writer → Writer
 marked_form false is_inside inside outside = inside
@@ -94,7 +101,8 @@ unfoldable pub counted_octets : Variant → Bits → Writer
 unfolding width octets_of_natural natural_bits constrained_whole determinant
 counted_octets a bits = unconstrained_octets a (pack (length bits / 8) bits)
 
--- X.691 11.5, 11.7, 11.8, 13.2: a number as its bounds say; an upper bound alone leaves it unconstrained. Under bounds it fits i128
+-- X.691 11.5, 11.7, 11.8, 13.2: a number as its bounds say; an upper bound alone leaves it unconstrained. Under bounds
+-- it fits i128
 -- (this project's choice)
 unfoldable pub number_under : Variant → Option ℤ → Option ℤ → ℤ → Writer
 unfolding natural_bits whole_bits counted_octets constrained_whole
@@ -107,9 +115,11 @@ number_under a None None v = counted_octets a (whole_bits v)
 unfoldable pub number_form : Variant → Bounds → Bool → ℤ → Writer
 unfolding number_under whole_bits counted_octets
 number_form a bounds mark v =
-    marked_form mark (holds bounds v) (written_if (holds bounds v) (number_under a bounds.low bounds.high v)) (counted_octets a (whole_bits v))
+    marked_form mark (holds bounds v) (written_if (holds bounds v) (number_under a bounds.low bounds.high v))
+    (counted_octets a (whole_bits v))
 
--- X.691 11.2: an open type: the complete encoding of its contents, which begins at position 0, after an unconstrained length in octets
+-- X.691 11.2: an open type: the complete encoding of its contents, which begins at position 0, after an unconstrained
+-- length in octets
 unfoldable pub open_bits : Variant → Option Bits → Writer
 unfolding determinant constrained_whole
 open_bits a None = refused
@@ -118,4 +128,5 @@ open_bits a (Some bits) = unconstrained_octets a (complete bits)
 -- X.691 11.6: a normally small number: a bit 0 and six bits up to 63, else a bit 1 and a number with lower bound 0
 unfoldable pub small : Variant → ℕ → Writer
 unfolding number_under
-small a i = if nat_lt i 64 then just (false ∷ to_bits 6 i) else just (true ∷ []) ▹ number_under a (Some (pos 0)) None (pos i)
+small a i = if nat_lt i 64 then just (false ∷ to_bits 6 i) else just (true ∷ [])
+    ▹ number_under a (Some (pos 0)) None (pos i)

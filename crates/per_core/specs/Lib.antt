@@ -7,3 +7,8 @@ pub mod Spellings
 pub mod Took
 pub mod Versions
 pub mod Writers
+pub mod Listed
+pub mod Placed
+pub mod FewItems
+pub mod Nulls
+pub mod Within

@@ -1,4 +1,5 @@
--- Versions of a schema behind extension markers (ITU-T X.680, 52): which is newer, and what a value of one is in the other.
+-- Versions of a schema behind extension markers (ITU-T X.680, 52): which is newer, and what a value of one is in the
+-- other.
 use Rattle.std.specs.Prelude.{ℕ, zero, suc, ◌≤◌, ◌≡◌, Bool, true, false, if◌then◌else◌, nat_lt, List, [], ◌∷◌, Option, Some, None}
 use Rattle.rasn_types.specs.Values.{Value, item, elements, bag, bag_of, fields, alternative, root, added, values, as_values, slots, as_slots}
 use Rattle.rasn_schema.specs.Depth.{meets_cut}
@@ -60,7 +61,8 @@ through_bag f (bag vs) = made bag_of (all_of f (values vs))
 through_bag f _ = None
 
 -- the root parts and the additions of a record; none of a value of another kind
-abbrev pub through_fields : (List (Option Value) → Option (List (Option Value))) → (List (Option Value) → Option (List (Option Value))) → Value → Option Value
+abbrev pub through_fields : (List (Option Value) → Option (List (Option Value)))
+    → (List (Option Value) → Option (List (Option Value))) → Value → Option Value
 through_fields f g (fields r x) = made_both (f (slots r)) (g (slots x))
 through_fields f g _ = None
 
@@ -82,20 +84,24 @@ slot_through f None = Some None
 slot_through f (Some v) = elim (f v) [ None ↦ None | Some w ↦ Some (Some w) ]
 
 -- what becomes of the first part and of the others
-abbrev pub slots_through : (Value → Option Value) → (List (Option Value) → Option (List (Option Value))) → List (Option Value) → Option (List (Option Value))
+abbrev pub slots_through : (Value → Option Value) → (List (Option Value) → Option (List (Option Value)))
+    → List (Option Value) → Option (List (Option Value))
 slots_through f g [] = None
 slots_through f g (x ∷ xs) = joined (slot_through f x) (g xs)
 
 unfoldable mutual
   unfolding bag_of
 
-  -- X.680 52: what an older reader sees of a value: additions that it doesn't know are dropped at every depth, and nothing else
+  -- X.680 52: what an older reader sees of a value: additions that it doesn't know are dropped at every depth, and
+  -- nothing else
   -- changes; none where an alternative or an item stands that it doesn't know. The newer schema comes first
   pub project : Schema → Schema → Value → Option Value
   project (Schema.list e size mark) s = through_elements (project e (element_of s))
   project (Schema.set_of e size mark) s = through_bag (project e (element_of s))
-  project (Schema.sequence o ps ext adds) s = through_fields (project_slots ps (root_of s)) (project_slots adds (additions_of s))
-  project (Schema.choice ps adds ext) s = through_alternative (project_at ps (alternatives_of s)) (project_at adds (added_of s))
+  project (Schema.sequence o ps ext adds) s = through_fields (project_slots ps (root_of s))
+      (project_slots adds (additions_of s))
+  project (Schema.choice ps adds ext) s = through_alternative (project_at ps (alternatives_of s))
+      (project_at adds (added_of s))
   project (Schema.items r e ext) s = through_item (items_of s)
   project _ s = Some
 
@@ -126,13 +132,16 @@ all_filled_in (part t p s ps) = joined (filled_in p) (all_filled_in ps)
 unfoldable mutual
   unfolding bag_of
 
-  -- X.680 52: what a newer reader sees of a value: every added part is absent or at its default, at every depth; none where an added
+  -- X.680 52: what a newer reader sees of a value: every added part is absent or at its default, at every depth; none
+  -- where an added
   -- part is required. The newer schema comes first
   pub widen : Schema → Schema → Value → Option Value
   widen (Schema.list e size mark) s = through_elements (widen e (element_of s))
   widen (Schema.set_of e size mark) s = through_bag (widen e (element_of s))
-  widen (Schema.sequence o ps ext adds) s = through_fields (widen_slots ps (root_of s)) (widen_slots adds (additions_of s))
-  widen (Schema.choice ps adds ext) s = through_alternative (widen_at ps (alternatives_of s)) (widen_at adds (added_of s))
+  widen (Schema.sequence o ps ext adds) s = through_fields (widen_slots ps (root_of s))
+      (widen_slots adds (additions_of s))
+  widen (Schema.choice ps adds ext) s = through_alternative (widen_at ps (alternatives_of s))
+      (widen_at adds (added_of s))
   widen _ s = Some
 
   -- the same of a record's parts
@@ -156,7 +165,8 @@ IsPlain (Schema.sequence o ps ext adds) = ⊥
 IsPlain (Schema.choice ps adds ext) = ⊥
 IsPlain _ = Unit {0}
 
--- the newer default is the older one as a newer reader sees it, wherever one of the two is whole; and the older default is a value
+-- the newer default is the older one as a newer reader sees it, wherever one of the two is whole; and the older default
+-- is a value
 -- of its schema
 pub record IsWidened (s' s : Schema) (d' d : Value) : Type 0 where
   pub there : meets_cut s' d' ≡ false → widen s' s d ≡ Some d'
@@ -172,14 +182,18 @@ NewerPresence s' s group group = Unit {0}
 NewerPresence s' s _ _ = ⊥
 
 mutual
-  -- X.680 52: the first schema is a newer version of the second: the same tree, in which more additions, alternatives and items may
+  -- X.680 52: the first schema is a newer version of the second: the same tree, in which more additions, alternatives
+  -- and items may
   -- stand behind an extension marker
   pub data Newer : Schema → Schema → Type 0 where
     unchanged : {s : Schema} → IsPlain s → Newer s s
     more_items : {r e e' : ℕ} → e ≤ e' → Newer (Schema.items r e' true) (Schema.items r e true)
-    newer_list : {e e' : Schema} {size : Size} {mark : Bool} → Newer e' e → Newer (Schema.list e' size mark) (Schema.list e size mark)
-    newer_set_of : {e e' : Schema} {size : Size} {mark : Bool} → Newer e' e → Newer (Schema.set_of e' size mark) (Schema.set_of e size mark)
-    newer_sequence : {o : Order} {ext : Bool} {ps ps' adds adds' : Parts} → NewerParts false ps' ps → NewerParts ext adds' adds
+    newer_list : {e e' : Schema} {size : Size} {mark : Bool} → Newer e' e
+        → Newer (Schema.list e' size mark) (Schema.list e size mark)
+    newer_set_of : {e e' : Schema} {size : Size} {mark : Bool} → Newer e' e
+        → Newer (Schema.set_of e' size mark) (Schema.set_of e size mark)
+    newer_sequence : {o : Order} {ext : Bool} {ps ps' adds adds' : Parts} → NewerParts false ps' ps
+        → NewerParts ext adds' adds
         → Newer (Schema.sequence o ps' ext adds') (Schema.sequence o ps ext adds)
     newer_choice : {ext : Bool} {ps ps' adds adds' : Parts} → NewerParts false ps' ps → NewerParts ext adds' adds
         → Newer (Schema.choice ps' adds' ext) (Schema.choice ps adds ext)
@@ -188,7 +202,8 @@ mutual
   pub data NewerParts : Bool → Parts → Parts → Type 0 where
     no_more : {may : Bool} → NewerParts may no_parts no_parts
     more_parts : {t : TagTree} {p : Presence} {s : Schema} {ps : Parts} → NewerParts true (part t p s ps) no_parts
-    also : {may : Bool} {t : TagTree} {p p' : Presence} {s s' : Schema} {ps ps' : Parts} → NewerPresence s' s p' p → Newer s' s
+    also : {may : Bool} {t : TagTree} {p p' : Presence} {s s' : Schema} {ps ps' : Parts} → NewerPresence s' s p' p
+        → Newer s' s
         → NewerParts may ps' ps → NewerParts may (part t p' s' ps') (part t p s ps)
 
 -- one type is a newer version of another, at every number of levels

@@ -4,7 +4,7 @@ use Rattle.std.specs.Prelude.{Ok, Err}
 use Rattle.rasn_types.specs.Values.{Value}
 use Rattle.rasn_schema.specs.Fields.{shapes_from}
 use Rattle.rasn_schema.specs.Schemas.{Schema, Parts, no_parts, part, count}
-use Rattle.rasn_calls.specs.AdditionsRead.{ReadsNoAddition}
+use Rattle.rasn_traits.specs.AdditionsRead.{ReadsNoAddition}
 use Rattle.per_core.specs.Basic.{Fills, Octets, Unknown, basic}
 use Rattle.per_core.specs.Took.{Took}
 use Rattle.per_core.proofs.Took.{then_took, took_agree, took_then}
@@ -12,15 +12,15 @@ use Rattle.per_read.specs.Kinds.{NoneIn, Stopped}
 use Rattle.per_read.specs.declared.error.DecodeError.{DecodeError}
 use Rattle.per_read.specs.declared.error.DecodeErrorKind.{DecodeErrorKind}
 use Rattle.per_read.specs.declared.error.DecodeErrorKind.TheVariants.{MissingTag, OutOfMemory}
-use Rattle.per_additions.specs.Bitmaps.{skipped_unknown}
-use Rattle.per_additions.proofs.Opened.{no_open}
-use Rattle.per_scopes.specs.AdditionLaws.{of_next}
-use Rattle.per_scopes.specs.Additions.{Adds, Asks, OpensAddition, OpensContents, Shown, Waiting}
-use Rattle.per_scopes.specs.Faults.{IsInTail, behind_bitmap, in_bitmap, in_octets, in_open, in_unknown, refusal, unread, unskipped, IsOfNext, Unended}
-use Rattle.per_scopes.specs.Rules.{decoder_rules}
-use Rattle.per_scopes.specs.Scopes.{Closes, Outside, with_outside}
-use Rattle.per_scopes.specs.State.{Extension, State, ahead, settings_of, with_bits}
-use Rattle.per_scopes.specs.Tails.{asks_agree, shown_agree, tested_new}
+use Rattle.per_read_types.specs.Bitmaps.{skipped_unknown}
+use Rattle.per_read_types.proofs.Opened.{no_open}
+use Rattle.per_decoding.specs.AdditionLaws.{of_next}
+use Rattle.per_decoding.specs.Additions.{Adds, Asks, OpensAddition, OpensContents, Shown, Waiting}
+use Rattle.per_decoding.specs.Faults.{IsInTail, behind_bitmap, in_bitmap, in_octets, in_open, in_unknown, refusal, unread, unskipped, IsOfNext, Unended}
+use Rattle.per_decoding.specs.Rules.{decoder_rules}
+use Rattle.per_decoding.specs.Scopes.{Closes, Outside, with_outside}
+use Rattle.per_decoding.specs.State.{Extension, State, ahead, settings_of, with_bits}
+use Rattle.per_decoding.specs.Tails.{asks_agree, shown_agree, tested_new}
 use Rattle.per_de.specs.Sources.{flags_in}
 use Rattle.per_de.specs.Steps.{IsOfBitmap, RefusedAs, SkipsUnknown, TakesFlags, Unasked}
 use Rattle.per_de.specs.declared.source.Flags.{Flags}

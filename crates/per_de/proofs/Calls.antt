@@ -7,7 +7,7 @@ use Rattle.rasn_types.specs.Values.{Value, truth, nothing, whole}
 use Rattle.rasn_constraints.specs.Bounds.{Bounds}
 use Rattle.rasn_schema.specs.Schemas
 use Rattle.rasn_schema.specs.Schemas.{Schema}
-use Rattle.rasn_calls.specs.Calls.{Answers, Behaves, Reads, Refuses, freely_read, takes_none}
+use Rattle.rasn_traits.specs.Calls.{Answers, Behaves, Reads, Refuses, freely_read, takes_none}
 use Rattle.per_core.specs.Spellings.{Settings, Spelling}
 use Rattle.per_core.specs.Basic.{basic, basic_in, bit, IsNumberOf}
 use Rattle.per_core.specs.Took.{Took}
@@ -20,10 +20,10 @@ use Rattle.per_read.specs.declared.error.DecodeErrorKind.TheVariants.{AlreadyFai
 use Rattle.per_read.specs.State.{State as Taking}
 use Rattle.per_read.specs.Takes.{Reason, Takes}
 use Rattle.per_read.proofs.Refusals.{faulty_map}
-use Rattle.per_scopes.specs.Spelled.{spelled}
-use Rattle.per_scopes.specs.State.{State, Spells, reader_of, settings_of}
-use Rattle.per_scopes.specs.Faults.{Answered, Fault, IsAt, IsOf, at_once, refusal}
-use Rattle.per_scopes.specs.Rules.{decoder_rules}
+use Rattle.per_decoding.specs.Spelled.{spelled}
+use Rattle.per_decoding.specs.State.{State, Spells, reader_of, settings_of}
+use Rattle.per_decoding.specs.Faults.{Answered, Fault, IsAt, IsOf, at_once, refusal}
+use Rattle.per_decoding.specs.Rules.{decoder_rules}
 use Rattle.per_de.specs.Steps.{TakesBit}
 use Rattle.per_de.proofs.Spans.{none_left, with_rest}
 

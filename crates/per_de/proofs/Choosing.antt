@@ -8,7 +8,7 @@ use Rattle.rasn_schema.specs.Schemas
 use Rattle.rasn_schema.specs.Schemas.{Schema, Parts, no_parts, part}
 use Rattle.rasn_schema.proofs.Both.{distinct_before, distinct_behind}
 use Rattle.rasn_schema.proofs.Places.{found_at}
-use Rattle.rasn_calls.specs.Calls.{Refuses}
+use Rattle.rasn_traits.specs.Calls.{Refuses}
 use Rattle.per_core.specs.Basic.{Octets}
 use Rattle.per_core.specs.Spellings.{Settings}
 use Rattle.per_core.specs.Took.{Took}
@@ -18,13 +18,13 @@ use Rattle.per_read.specs.Kinds.{NoneIn, Stopped}
 use Rattle.per_read.specs.declared.error.DecodeError.{DecodeError}
 use Rattle.per_read.specs.declared.error.DecodeErrorKind.{DecodeErrorKind}
 use Rattle.per_read.specs.declared.error.DecodeErrorKind.TheVariants.{OutOfMemory}
-use Rattle.per_scopes.specs.ChoiceLaws.{no_contents, no_index}
-use Rattle.per_scopes.specs.Choices.{OpensChoice, StandsFrom}
-use Rattle.per_scopes.specs.Faults.{Fault, in_added_alternative, in_octets, refusal}
-use Rattle.per_scopes.specs.Records.{of_bits}
-use Rattle.per_scopes.specs.Tails.{tested_new}
-use Rattle.per_scopes.specs.Scopes.{Enters, Outside, no_record, with_outside, outside_of as in_state}
-use Rattle.per_scopes.specs.State.{State, Spells, settings_of, with_bits}
+use Rattle.per_decoding.specs.ChoiceLaws.{no_contents, no_index}
+use Rattle.per_decoding.specs.Choices.{OpensChoice, StandsFrom}
+use Rattle.per_decoding.specs.Faults.{Fault, in_added_alternative, in_octets, refusal}
+use Rattle.per_decoding.specs.Records.{of_bits}
+use Rattle.per_decoding.specs.Tails.{tested_new}
+use Rattle.per_decoding.specs.Scopes.{Enters, Outside, no_record, with_outside, outside_of as in_state}
+use Rattle.per_decoding.specs.State.{State, Spells, settings_of, with_bits}
 use Rattle.per_de.specs.Outsides.{choosing_of, contents_of, outside_of, source_behind}
 use Rattle.per_de.specs.Steps.{RefusedAs, TakesIndex}
 use Rattle.per_de.specs.declared.Addition.{Addition}

@@ -13,8 +13,8 @@ use Rattle.per_read.specs.Lengths.{CountOf, count_of}
 use Rattle.per_read.specs.UpTo.{UpTo, UpToFragment, UpToUnconstrained, UpToBetween, UpToSized}
 use Rattle.per_read.specs.declared.lengths.Length.{Length}
 use Rattle.per_read.specs.declared.lengths.Length.TheVariants.{Last, Fragment}
-use Rattle.per_counts.specs.Counts.{most_items}
-use Rattle.per_counts.proofs.FewLengths.{last_few, fragment_few, then_length}
+use Rattle.per_core.specs.FewItems.{most_items}
+use Rattle.per_core.proofs.FewLengths.{last_few, fragment_few, then_length}
 
 -- a number below 65536 in its bits
 power_few : (w : ℕ) → w ≤ 16 → 2 ^ w ≤ 8192 * w + 1

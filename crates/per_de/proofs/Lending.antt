@@ -12,7 +12,7 @@ use Rattle.rasn_types.proofs.Bits.{length-unpack, number_below, to_bits-number}
 use Rattle.rasn_types.proofs.Fewest.{pack-unpack}
 use Rattle.rasn_constraints.specs.Bounds.{Size}
 use Rattle.rasn_schema.specs.Schemas
-use Rattle.rasn_calls.specs.Calls.{Reads}
+use Rattle.rasn_traits.specs.Calls.{Reads}
 use Rattle.per_bits.specs.Octets.{AreWholeOctets, Reading}
 use Rattle.per_core.specs.Basic.{InFragments, Lengthy, OneByOne, UnconstrainedLength, length_form, octet}
 use Rattle.per_core.specs.Counts.{octet_items}
@@ -27,10 +27,10 @@ use Rattle.per_read.specs.State.{State as Taking, settings_of as read_by}
 use Rattle.per_read.specs.Takes.{Takes, memory_or}
 use Rattle.per_read.specs.declared.error.DecodeError.{DecodeError}
 use Rattle.per_read.specs.declared.error.DecodeErrorKind.{DecodeErrorKind}
-use Rattle.per_additions.specs.Stands.{LastTaken}
-use Rattle.per_scopes.specs.Faults.{refusal}
-use Rattle.per_scopes.specs.Rules.{decoder_rules}
-use Rattle.per_scopes.specs.State.{State, reader_of, settings_of, with_last}
+use Rattle.per_read_types.specs.Stands.{LastTaken}
+use Rattle.per_decoding.specs.Faults.{refusal}
+use Rattle.per_decoding.specs.Rules.{decoder_rules}
+use Rattle.per_decoding.specs.State.{State, reader_of, settings_of, with_last}
 use Rattle.per_de.specs.Lending.{AreLent, ComeAlone, is_counted_once, is_extended}
 use Rattle.per_de.specs.Sources.{bits_of, lends, place_of, span_of, up_to, AreOctetsOf, IsWithin}
 use Rattle.per_de.specs.declared.source.Source.{Source}

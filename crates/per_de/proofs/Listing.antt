@@ -7,7 +7,7 @@ use Rattle.rasn_constraints.specs.Bounds.{Size}
 use Rattle.rasn_schema.specs.Lists.{list_at, list_value}
 use Rattle.rasn_schema.specs.Schemas
 use Rattle.rasn_schema.specs.Schemas.{Schema}
-use Rattle.rasn_calls.specs.Lists.{HasElement, ListOpenedToRead, ListUnread}
+use Rattle.rasn_traits.specs.Lists.{HasElement, ListOpenedToRead, ListUnread}
 use Rattle.per_core.specs.Basic.{basic, basic_in}
 use Rattle.per_core.specs.Counts.{list_items}
 use Rattle.per_core.specs.Spellings.{Settings}
@@ -22,12 +22,12 @@ use Rattle.per_read.specs.declared.error.DecodeErrorKind.{DecodeErrorKind}
 use Rattle.per_read.specs.declared.error.DecodeErrorKind.TheVariants.{AlreadyFailed, OutOfMemory}
 use Rattle.per_read.specs.declared.lists.OpenList.{OpenList}
 use Rattle.per_read.proofs.Miscounts.{tested_size}
-use Rattle.per_scopes.specs.ChoiceLaws.{moved}
-use Rattle.per_scopes.specs.Faults.{Answered, IsOf, in_element, refusal}
+use Rattle.per_decoding.specs.ChoiceLaws.{moved}
+use Rattle.per_decoding.specs.Faults.{Answered, IsOf, in_element, refusal}
 use Rattle.per_de.specs.Lists.{AmidList}
-use Rattle.per_scopes.specs.Rules.{decoder_rules}
-use Rattle.per_scopes.specs.Spelled.{spelled}
-use Rattle.per_scopes.specs.State.{State, Spells, reader_of, settings_of, with_bits}
+use Rattle.per_decoding.specs.Rules.{decoder_rules}
+use Rattle.per_decoding.specs.Spelled.{spelled}
+use Rattle.per_decoding.specs.State.{State, Spells, reader_of, settings_of, with_bits}
 use Rattle.per_de.specs.declared.ListScope.{ListScope}
 use Rattle.per_de.proofs.Calls.{refuses}
 use Rattle.per_de.proofs.FewBefore.{one_more_few, took_up_to_few}

@@ -6,8 +6,8 @@ use Rattle.rasn_types.specs.Contents.{TimeKind}
 use Rattle.rasn_types.specs.Values.{Value, characters, octets}
 use Rattle.rasn_schema.specs.Schemas
 use Rattle.rasn_schema.specs.Schemas.{Schema}
-use Rattle.rasn_calls.specs.Calls.{Reads, Refuses}
-use Rattle.rasn_calls.specs.Moments.{date_at}
+use Rattle.rasn_traits.specs.Calls.{Reads, Refuses}
+use Rattle.rasn_traits.specs.Moments.{date_at}
 use Rattle.per_core.specs.Basic.{basic, basic_in}
 use Rattle.per_core.specs.Spellings.{Settings}
 use Rattle.per_core.specs.Took.{Took}
@@ -18,9 +18,9 @@ use Rattle.per_read.specs.declared.error.DecodeError.{DecodeError}
 use Rattle.per_read.specs.declared.error.DecodeErrorKind.{DecodeErrorKind}
 use Rattle.per_read.specs.declared.error.DecodeErrorKind.TheVariants.{ExceedsMaxParseDepth, OutOfMemory}
 use Rattle.per_read.proofs.Refusals.{faulty_map}
-use Rattle.per_scopes.specs.Faults.{Fault, IsAt, refusal}
-use Rattle.per_scopes.specs.Rules.{decoder_rules}
-use Rattle.per_scopes.specs.State.{Spells, State}
+use Rattle.per_decoding.specs.Faults.{Fault, IsAt, refusal}
+use Rattle.per_decoding.specs.Rules.{decoder_rules}
+use Rattle.per_decoding.specs.State.{Spells, State}
 use Rattle.per_de.proofs.Calls.{too_deep}
 
 module _ (a : Settings) where

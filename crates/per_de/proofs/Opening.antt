@@ -5,19 +5,19 @@ use Rattle.rasn_schema.specs.Lawful.{presence_bits}
 use Rattle.rasn_schema.specs.Normal.{additions_of, root_of}
 use Rattle.rasn_schema.specs.Schemas.{Schema, Parts, listed, count as part_count}
 use Rattle.rasn_schema.specs.Records.{record_at}
-use Rattle.rasn_calls.specs.Additions.{extended}
-use Rattle.rasn_calls.specs.Calls.{Refuses}
+use Rattle.rasn_traits.specs.Additions.{extended}
+use Rattle.rasn_traits.specs.Calls.{Refuses}
 use Rattle.per_core.specs.Basic.{ExtensionBit}
 use Rattle.per_core.specs.Took.{Took}
 use Rattle.per_core.proofs.Took.{then_took, took_agree}
 use Rattle.per_read.specs.declared.error.DecodeError.{DecodeError}
 use Rattle.per_read.specs.declared.error.DecodeErrorKind.{DecodeErrorKind}
 use Rattle.per_read.specs.declared.error.DecodeErrorKind.TheVariants.{Incomplete, OutOfMemory}
-use Rattle.per_scopes.specs.Faults.{Answered, Fault, refusal}
-use Rattle.per_scopes.specs.Records.{flags_bits}
-use Rattle.per_scopes.specs.ScopeLaws.{bit_agree, took_record}
-use Rattle.per_scopes.specs.Scopes.{Enters, Opens, Outside, is_extensible, outside_of, with_outside}
-use Rattle.per_scopes.specs.State.{State, Spells, extension_of, settings_of, with_bits, with_last}
+use Rattle.per_decoding.specs.Faults.{Answered, Fault, refusal}
+use Rattle.per_decoding.specs.Records.{flags_bits}
+use Rattle.per_decoding.specs.ScopeLaws.{bit_agree, took_record}
+use Rattle.per_decoding.specs.Scopes.{Enters, Opens, Outside, is_extensible, outside_of, with_outside}
+use Rattle.per_decoding.specs.State.{State, Spells, extension_of, settings_of, with_bits, with_last}
 use Rattle.per_de.specs.Sources.{span_of}
 use Rattle.per_de.specs.Steps.{TakesExtensionBit, TakesPresences}
 use Rattle.per_de.specs.declared.source.Span.{Span}

@@ -16,20 +16,20 @@ use Rattle.per_read.specs.Takes.{Reason, Takes, itself, telling, tested}
 use Rattle.per_read.specs.declared.error.DecodeError.{DecodeError}
 use Rattle.per_read.specs.declared.error.DecodeErrorKind.{DecodeErrorKind}
 use Rattle.per_read.specs.declared.error.DecodeErrorKind.TheVariants.{Incomplete, OutOfMemory}
-use Rattle.per_additions.specs.Bitmaps.{large_fragments_of, skipped_unknown}
-use Rattle.per_additions.specs.Flags.{HasFlags}
-use Rattle.per_additions.specs.OpenTypes.{HasOctets, fragments_of}
-use Rattle.per_additions.specs.Reasons.{gathering}
-use Rattle.per_additions.specs.Stands.{LastTaken}
-use Rattle.per_additions.specs.declared.bitmaps.PresenceBits.{PresenceBits}
-use Rattle.per_additions.specs.declared.bitmaps.PresenceBits.TheVariants as Taken
-use Rattle.per_additions.specs.declared.open_types.Contents.{Contents}
-use Rattle.per_additions.specs.declared.open_types.Contents.TheVariants as Open
-use Rattle.per_scopes.specs.AdditionLaws.{of_next}
-use Rattle.per_scopes.specs.Additions.{EntersContents, OpensContents, Shown, Waiting}
-use Rattle.per_scopes.specs.Faults.{Answered, IsOfNext, at_bitmap, refusal}
-use Rattle.per_scopes.specs.State.{Extension, State, ahead, reader_of, settings_of, shown, with_bits}
-use Rattle.per_scopes.specs.Tails.{tested_new}
+use Rattle.per_read_types.specs.Bitmaps.{large_fragments_of, skipped_unknown}
+use Rattle.per_read_types.specs.Flags.{HasFlags}
+use Rattle.per_read_types.specs.OpenTypes.{HasOctets, fragments_of}
+use Rattle.per_read_types.specs.Reasons.{gathering}
+use Rattle.per_read_types.specs.Stands.{LastTaken}
+use Rattle.per_read_types.specs.declared.bitmaps.PresenceBits.{PresenceBits}
+use Rattle.per_read_types.specs.declared.bitmaps.PresenceBits.TheVariants as Taken
+use Rattle.per_read_types.specs.declared.open_types.Contents.{Contents}
+use Rattle.per_read_types.specs.declared.open_types.Contents.TheVariants as Open
+use Rattle.per_decoding.specs.AdditionLaws.{of_next}
+use Rattle.per_decoding.specs.Additions.{EntersContents, OpensContents, Shown, Waiting}
+use Rattle.per_decoding.specs.Faults.{Answered, IsOfNext, at_bitmap, refusal}
+use Rattle.per_decoding.specs.State.{Extension, State, ahead, reader_of, settings_of, shown, with_bits}
+use Rattle.per_decoding.specs.Tails.{tested_new}
 use Rattle.per_de.specs.Sources.{flags_in, span_of, IsWithin}
 use Rattle.per_de.specs.Steps.{AsksNext, IsOfBitmap, RefusedAs, SkipsUnknown, TakesBit, TakesBitmap, TakesExtensionBit, TakesFlags, TakesIndex, Unasked}
 use Rattle.per_de.specs.declared.source.Flags.{Flags}

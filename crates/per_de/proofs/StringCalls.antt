@@ -17,7 +17,7 @@ use Rattle.per_core.specs.declared.items.Item.TheVariants.{Octet, Bit}
 use Rattle.per_read.specs.declared.error.DecodeErrorKind.{DecodeErrorKind}
 use Rattle.per_read.proofs.Refusals.{faulty_map}
 use Rattle.per_read.proofs.Texts.{tested_text}
-use Rattle.per_scopes.specs.Faults.{IsAt}
+use Rattle.per_decoding.specs.Faults.{IsAt}
 
 module _ (a : Settings) where
   -- octets of a type that isn't known

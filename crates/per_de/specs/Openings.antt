@@ -2,11 +2,11 @@
 use Rattle.std.specs.Prelude.{◌≡◌, ℕ, Bool, Result}
 use Rattle.rasn_schema.specs.Lawful.{presence_bits}
 use Rattle.rasn_schema.specs.Schemas.{Parts, Schema}
-use Rattle.rasn_calls.specs.Scopes.{OpensToRead}
+use Rattle.rasn_traits.specs.Scopes.{OpensToRead}
 use Rattle.per_read.specs.declared.error.DecodeError.{DecodeError}
-use Rattle.per_scopes.specs.Rules.{decoder_rules}
-use Rattle.per_scopes.specs.Scopes.{Opens}
-use Rattle.per_scopes.specs.State.{State}
+use Rattle.per_decoding.specs.Rules.{decoder_rules}
+use Rattle.per_decoding.specs.Scopes.{Opens}
+use Rattle.per_decoding.specs.State.{State}
 use Rattle.per_de.specs.Outsides.{outside_of}
 use Rattle.per_de.specs.declared.Scope.{Scope}
 
@@ -15,5 +15,7 @@ abbrev pub is_open : Schema → State → Scope → State → Type 0
 is_open c s o i = Opens c s (outside_of i.source o) i
 
 -- A call that opens a record of root components with as many presence bits as these.
-pub record OpensRecord (parts : ℕ → Parts) (marker : Bool) (additions : ℕ → Parts) (s : State) (result : Result Scope DecodeError) (t : State) : Type 0 where
-  pub to_read : (ps : ℕ → Parts) → ((n : ℕ) → presence_bits (ps n) ≡ presence_bits (parts n)) → OpensToRead decoder_rules is_open ps marker additions s result t
+pub record OpensRecord (parts : ℕ → Parts) (marker : Bool) (additions : ℕ → Parts) (s : State)
+    (result : Result Scope DecodeError) (t : State) : Type 0 where
+  pub to_read : (ps : ℕ → Parts) → ((n : ℕ) → presence_bits (ps n) ≡ presence_bits (parts n))
+      → OpensToRead decoder_rules is_open ps marker additions s result t

@@ -1,9 +1,9 @@
 -- What waits outside while a scope or an open type is open, seen from the source in use.
 use Rattle.std.specs.Prelude.{◌-◌, Option, Some, None, length}
-use Rattle.per_scopes.specs.Additions.{Waiting}
-use Rattle.per_scopes.specs.Choices.{Choosing}
-use Rattle.per_scopes.specs.Scopes.{Outside}
-use Rattle.per_scopes.specs.State
+use Rattle.per_decoding.specs.Additions.{Waiting}
+use Rattle.per_decoding.specs.Choices.{Choosing}
+use Rattle.per_decoding.specs.Scopes.{Outside}
+use Rattle.per_decoding.specs.State
 use Rattle.per_de.specs.Sources.{extension_in, span_of, up_to}
 use Rattle.per_de.specs.declared.Addition.{Addition}
 use Rattle.per_de.specs.declared.Alternative.{Alternative}
@@ -20,7 +20,8 @@ outside_of source o = record {
   expected = o.expected;
 }
 
--- the source outside, of which the bits up to the end of a span are left: another one, where the contents of an open type were
+-- the source outside, of which the bits up to the end of a span are left: another one, where the contents of an open
+-- type were
 -- gathered; else the one in use
 abbrev pub source_of : State.Source → Span → Option Source → State.Source
 source_of source span None = record source { behind = length source.bits - span.end }
@@ -49,4 +50,8 @@ source_behind source (Some o) = source_of source o.bits o.source
 
 -- what waits outside a choice
 abbrev pub choosing_of : State.Source → Alternative → Choosing
-choosing_of source o = record { outer = outside_of (source_behind source o.contents) o.scope; contents = contents_of source o.contents }
+choosing_of source o = record {
+  outer = outside_of (source_behind source o.contents) o.scope;
+  contents =
+      contents_of source o.contents;
+}

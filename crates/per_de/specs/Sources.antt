@@ -2,8 +2,8 @@
 use Rattle.std.specs.Prelude.{◌≤◌, ◌≡◌, ◌+◌, ◌-◌, ◌*◌, ◌%◌, ℕ, List, Bool, true, false, drop, length}
 use Rattle.std.specs.List.{between}
 use Rattle.rasn_types.specs.Bits.{AreOctets, Bits, unpack}
-use Rattle.per_scopes.specs.State
-use Rattle.per_scopes.specs.State.{ahead, shown}
+use Rattle.per_decoding.specs.State
+use Rattle.per_decoding.specs.State.{ahead, shown}
 use Rattle.per_de.specs.declared.source.Source.{Source}
 use Rattle.per_de.specs.declared.source.Source.TheVariants.{Input, Gathered}
 use Rattle.per_de.specs.declared.source.Span.{Span}

@@ -11,12 +11,12 @@ use Rattle.per_read.specs.Takes.{Front}
 use Rattle.per_read.specs.declared.error.DecodeError.{DecodeError}
 use Rattle.per_read.specs.declared.error.DecodeErrorKind.{DecodeErrorKind}
 use Rattle.per_read.specs.declared.error.DecodeErrorKind.TheVariants.{ExceedsMaxParseDepth, Incomplete, MissingTag, OutOfMemory}
-use Rattle.per_additions.specs.Bitmaps.{skipped_unknown}
-use Rattle.per_additions.specs.Ends.{EndsAs, IsOfEnd}
-use Rattle.per_scopes.specs.Additions.{Asks, OpensContents, Shown, Waiting, outside_open}
-use Rattle.per_scopes.specs.Choices.{StandsFrom}
-use Rattle.per_scopes.specs.Faults.{IsOfNext, refusal}
-use Rattle.per_scopes.specs.State.{State, ahead, settings_of, shown, with_bits}
+use Rattle.per_read_types.specs.Bitmaps.{skipped_unknown}
+use Rattle.per_read_types.specs.Ends.{EndsAs, IsOfEnd}
+use Rattle.per_decoding.specs.Additions.{Asks, OpensContents, Shown, Waiting, outside_open}
+use Rattle.per_decoding.specs.Choices.{StandsFrom}
+use Rattle.per_decoding.specs.Faults.{IsOfNext, refusal}
+use Rattle.per_decoding.specs.State.{State, ahead, settings_of, shown, with_bits}
 use Rattle.per_de.specs.Outsides.{contents_of, waiting_of}
 use Rattle.per_de.specs.Sources.{flags_in, span_of}
 use Rattle.per_de.specs.declared.Addition.{Addition}
@@ -36,11 +36,13 @@ abbrev pub HasTwoLevels : State → Result (Unit {0}) DecodeError → State → 
 HasTwoLevels s (Ok u) t = (2 ≤ s.levels) × (t ≡ s)
 HasTwoLevels s (Err e) t = (s.levels < 2) × (e ≡ refusal ExceedsMaxParseDepth s) × (t ≡ record s { failed = true })
 
--- So many presence bits are taken off the bits left, and stand in a part of the source; where fewer are left the decoder
+-- So many presence bits are taken off the bits left, and stand in a part of the source; where fewer are left the
+-- decoder
 -- refuses (X.691 19.2).
 abbrev pub TakesPresences : ℕ → State → Result Span DecodeError → State → Type 0
 TakesPresences n s (Ok p) t = Took (Front n (span_of p s.source.bits)) s.bits t.bits × (t ≡ with_bits s t.bits)
-TakesPresences n s (Err e) t = (length s.bits < n) × (e ≡ refusal (Incomplete (n - length s.bits)) s) × (t ≡ record s { failed = true })
+TakesPresences n s (Err e) t = (length s.bits < n) × (e ≡ refusal (Incomplete (n - length s.bits)) s)
+    × (t ≡ record s { failed = true })
 
 -- A bit is taken off the bits left; where none is left the decoder refuses.
 abbrev pub TakesBit : State → Result Bool DecodeError → State → Type 0
@@ -58,13 +60,16 @@ IsOfBitmap s = Stopped (NoneIn (IsBitmap (settings_of s)) s.bits)
 
 -- A bitmap is taken off the bits left (X.691 19.7, 19.8).
 abbrev pub TakesBitmap : State → Result Flags DecodeError → State → Type 0
-TakesBitmap s (Ok flags) t = Took (IsBitmap (settings_of s) (flags_in s.source.bits flags)) s.bits t.bits × (t ≡ with_bits s t.bits)
+TakesBitmap s (Ok flags) t = Took (IsBitmap (settings_of s) (flags_in s.source.bits flags)) s.bits t.bits
+    × (t ≡ with_bits s t.bits)
 TakesBitmap s (Err e) t = RefusedAs (IsOfBitmap s) s e t
 
--- The presence bits of additions are taken out that are still to be read, and off the bits left where they are still ahead
+-- The presence bits of additions are taken out that are still to be read, and off the bits left where they are still
+-- ahead
 -- (X.691 19.7, 19.8).
 abbrev pub TakesFlags : State → Result Flags DecodeError → State → Type 0
-TakesFlags s (Ok flags) t = Took (Shown (settings_of s) s.extension (flags_in s.source.bits flags)) s.bits t.bits × (t ≡ record s { bits = t.bits; extension = shown [] })
+TakesFlags s (Ok flags) t = Took (Shown (settings_of s) s.extension (flags_in s.source.bits flags)) s.bits t.bits
+    × (t ≡ record s { bits = t.bits; extension = shown [] })
 TakesFlags s (Err e) t = (s.extension ≡ ahead) × RefusedAs (IsOfBitmap s) s e t
 
 -- An addition can't be asked for, whichever the schema.
@@ -86,9 +91,11 @@ EntersOpen s (Err e) i = RefusedAs (Stopped (NoneIn (Octets (settings_of s)) s.b
 -- The additions that the schema doesn't know are taken off the bits left (X.691 19.9).
 abbrev pub SkipsUnknown : List Bool → State → Result (Unit {0}) DecodeError → State → Type 0
 SkipsUnknown flags s (Ok u) t = Took (Unknown (settings_of s) flags) s.bits t.bits × (t ≡ with_bits s t.bits)
-SkipsUnknown flags s (Err e) t = RefusedAs (λ k. IsTested k × NoneIn (skipped_unknown flags (settings_of s)) s.bits) s e t
+SkipsUnknown flags s (Err e) t = RefusedAs (λ k. IsTested k × NoneIn
+    (skipped_unknown flags (settings_of s)) s.bits) s e t
 
--- Whether what is left of contents of n bits ends them: Ok comes exactly where it does, and Err says why it doesn't, where
+-- Whether what is left of contents of n bits ends them: Ok comes exactly where it does, and Err says why it doesn't,
+-- where
 -- no more is left than they had (X.691 11.1).
 pub record EndsContents (s : State) (n : ℕ) (result : Result (Unit {0}) DecodeErrorKind) : Type 0 where
   pub ok : OnOk result (EndsAs (settings_of s) s.bits n)
@@ -102,11 +109,14 @@ IsRootRead s (Err e) t = (s.presences ≡ [] → ⊥) × (e ≡ refusal MissingT
 
 -- The index of a choice of so many alternatives is taken off the bits left (X.691 23.5 to 23.8).
 abbrev pub TakesIndex : (roots addeds : ℕ) → (extensible : Bool) → State → Result Place DecodeError → State → Type 0
-TakesIndex r e ext s (Ok place) t = Took (index_form (settings_of s) r e ext (index_of place)) s.bits t.bits × (t ≡ with_bits s t.bits)
+TakesIndex r e ext s (Ok place) t = Took (index_form (settings_of s) r e ext (index_of place)) s.bits t.bits
+    × (t ≡ with_bits s t.bits)
 TakesIndex r e ext s (Err err) t =
-    RefusedAs (λ k. IsOfIndex (settings_of s) r e ext s.bits k × NoneIn (index_form (settings_of s) r e ext) s.bits) s err t
+    RefusedAs (λ k. IsOfIndex (settings_of s) r e ext s.bits k × NoneIn
+    (index_form (settings_of s) r e ext) s.bits) s err t
 
--- Ok is where an alternative of a list is read, and Err comes only where it would stand in an open type, and none is at the
+-- Ok is where an alternative of a list is read, and Err comes only where it would stand in an open type, and none is at
+-- the
 -- front, or for want of memory (X.691 23.7, 23.8).
 abbrev pub EntersAlternative : Side → State → Result (Option Addition) DecodeError → State → Type 0
 EntersAlternative d s (Ok o) i = StandsFrom d s (contents_of i.source o) i

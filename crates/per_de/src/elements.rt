@@ -9,7 +9,7 @@ ghost use Rattle.rasn_schema.specs.Schemas.{Schema};
 ghost use Rattle.per_read.specs.Lists.{AmidItems, ReadsNext, list_rule};
 ghost use Rattle.per_read.specs.State.{State, settings_of};
 ghost use Rattle.per_read.specs.declared.lists.OpenList.{OpenList};
-ghost use Rattle.per_counts.specs.Counts.{most_items};
+ghost use Rattle.per_core.specs.FewItems.{most_items};
 
 /// An element of a list under a lawful size that a reader goes on to stands behind fewer elements than 65535, and 8192
 /// for each bit that was taken since the list began (X.691, 11.9, 20).

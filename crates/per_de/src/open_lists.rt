@@ -5,13 +5,13 @@ ghost use Rattle.rasn_types.specs.Values.{Value};
 ghost use Rattle.rasn_constraints.specs.Bounds.{Size};
 ghost use Rattle.rasn_constraints.specs.LawfulConstraints.{is_lawful_size};
 ghost use Rattle.rasn_schema.specs.Schemas.{Schema};
-ghost use Rattle.rasn_calls.specs.Lists.{ReadsNext};
+ghost use Rattle.rasn_traits.specs.Lists.{ReadsNext};
 ghost use Rattle.per_read.specs.Lists.{most};
-ghost use Rattle.per_scopes.specs.Rules.{decoder_rules};
-ghost use Rattle.per_scopes.specs.State.{Spells, State};
+ghost use Rattle.per_decoding.specs.Rules.{decoder_rules};
+ghost use Rattle.per_decoding.specs.State.{Spells, State};
 ghost use Rattle.per_de.specs.Lists.{AmidList};
 ghost use Rattle.per_de.specs.declared.ListScope.{ListScope};
-ghost use Rattle.per_counts.specs.Counts.{most_items};
+ghost use Rattle.per_core.specs.FewItems.{most_items};
 
 /// A list under a lawful size that a decoder has open, as `open_list`, `next_element` and the calls that read its
 /// elements leave it, has at most 65535 elements, and 8192 for each bit that was taken since it began; and so it has

@@ -13,8 +13,8 @@ use Rattle.rasn_schema.specs.Schemas
 use Rattle.rasn_schema.specs.Schemas.{Schema, Parts, no_parts, part}
 use Rattle.rasn_schema.specs.declared.items.Place.{Place}
 use Rattle.rasn_schema.specs.declared.items.Place.TheVariants.{Root, Added}
-use Rattle.rasn_calls.specs.Calls.{Written}
-use Rattle.rasn_calls.specs.Choices.{PassesChoice, OpenedChoice}
+use Rattle.rasn_traits.specs.Calls.{Written}
+use Rattle.rasn_traits.specs.Choices.{PassesChoice, OpenedChoice}
 use Rattle.per_core.specs.Canon.{canon, members, chosen, choice_of as choice_writer, extension_bit}
 use Rattle.per_core.specs.Counts.{constrained_whole, open_bits, small}
 use Rattle.per_core.specs.Writers.{Writer, just, ◌▹◌, join, go_on, after}

@@ -1,8 +1,8 @@
 -- While a SET OF is open nothing was refused (ITU-T X.691, 22).
 use Rattle.std.proofs.Common.{◌≡◌, refl, sym, ◌∙◌, false, List, Option, Some, None}
 use Rattle.rasn_types.specs.Values.{Value}
-use Rattle.rasn_calls.specs.Lists.{ListForm}
-use Rattle.per_members.specs.Bags.{AmidBag, OpenBag, outside}
+use Rattle.rasn_traits.specs.Lists.{ListForm}
+use Rattle.per_write_types.specs.Bags.{AmidBag, OpenBag, outside}
 use Rattle.per_write.specs.Floating.{Waiting}
 use Rattle.per_write.specs.State.{State}
 

@@ -8,8 +8,8 @@ use Rattle.rasn_types.specs.Variants.{aligned}
 use Rattle.rasn_types.specs.declared.types.Codec.{Codec}
 use Rattle.rasn_schema.specs.Lawful.{has_bit, presence_bits}
 use Rattle.rasn_schema.specs.Schemas.{Schema, Parts, no_parts, part, Presence, required, optional, group, default}
-use Rattle.rasn_calls.specs.Presences.{presence_bit}
-use Rattle.rasn_calls.specs.Scopes.{PresentsPart, presents_required, presents_there, presents_left_out, PresentsParts, presents_end, presents_next, refuses_required, refuses_there, refuses_bit, RefusesParts, refuses_here, refuses_behind}
+use Rattle.rasn_traits.specs.Presences.{presence_bit}
+use Rattle.rasn_traits.specs.Scopes.{PresentsPart, presents_required, presents_there, presents_left_out, PresentsParts, presents_end, presents_next, refuses_required, refuses_there, refuses_bit, RefusesParts, refuses_here, refuses_behind}
 use Rattle.per_core.specs.Canon.{canon, members, flag, flagged, if_shown, flags_of, bodies_of, shown}
 use Rattle.per_core.specs.Writers.{Writer, ◌▹◌, join, go_on, after, pad}
 use Rattle.per_pieces.specs.Pieces.{Appends, Piece, bit, to_octet, MayBegin, bits_of, bit_count, plain, set_bit, settle, settled}

@@ -6,7 +6,7 @@ use Rattle.rasn_types.specs.Values.{Value}
 use Rattle.rasn_types.specs.Variants.{Variant}
 use Rattle.rasn_types.specs.declared.types.Codec.{Codec}
 use Rattle.rasn_schema.specs.Schemas.{Schema, Parts, no_parts, part, Presence, required, optional, group, default}
-use Rattle.rasn_calls.specs.Additions.{addition_bit, PresentsAddition, presents_added, presents_skipped, PresentsAdditions, presents_no_more, presents_further, refuses_added, refuses_skipped, RefusesAdditions, refuses_addition, refuses_further, refuses_inside, refuses_surplus}
+use Rattle.rasn_traits.specs.Additions.{addition_bit, PresentsAddition, presents_added, presents_skipped, PresentsAdditions, presents_no_more, presents_further, refuses_added, refuses_skipped, RefusesAdditions, refuses_addition, refuses_further, refuses_inside, refuses_surplus}
 use Rattle.per_core.proofs.Presenting.{some_both}
 use Rattle.per_core.specs.Canon.{Member, any_set, bitmap_of, canon, members, opens_of, shown}
 use Rattle.per_core.specs.Counts.{open_bits}

@@ -12,7 +12,7 @@ use Rattle.rasn_schema.specs.Lawful.{presence_bits}
 use Rattle.rasn_schema.specs.Normal.{is_vacant, settle}
 use Rattle.rasn_schema.specs.Records.{record_at}
 use Rattle.rasn_schema.specs.Schemas.{listed, Schema, Parts, no_parts, part, required, optional, group, default}
-use Rattle.rasn_calls.specs.Additions.{AdditionClosed, AdditionOpened, AdditionSkipped, extended}
+use Rattle.rasn_traits.specs.Additions.{AdditionClosed, AdditionOpened, AdditionSkipped, extended}
 use Rattle.per_core.specs.Canon.{canon}
 use Rattle.per_pieces.specs.Pieces.{Pieces, settle as settle_pieces}
 use Rattle.per_write.specs.declared.error.EncodeError.{EncodeError}

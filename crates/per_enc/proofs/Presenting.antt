@@ -11,7 +11,7 @@ use Rattle.rasn_constraints.specs.Constraints.{bounds_in, is_marked}
 use Rattle.rasn_constraints.specs.declared.constraints.Bounded.{Bounded}
 use Rattle.rasn_constraints.specs.declared.constraints.Extensible.{Extensible}
 use Rattle.rasn_schema.specs.Schemas.{Schema}
-use Rattle.rasn_calls.specs.Calls.{Behaves, Written, Writes, freely}
+use Rattle.rasn_traits.specs.Calls.{Behaves, Written, Writes, freely}
 use Rattle.per_core.specs.Counts.{number_form, number_under, unconstrained_octets}
 use Rattle.per_core.specs.Writers.{Writer, join, just, written_if, ◌▹◌}
 use Rattle.per_core.specs.Canon.{canon}

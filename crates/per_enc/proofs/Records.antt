@@ -7,12 +7,12 @@ use Rattle.rasn_types.specs.Values.{Value}
 use Rattle.rasn_types.specs.Variants.{Variant}
 use Rattle.rasn_types.specs.declared.types.Codec.{Codec}
 use Rattle.rasn_types.proofs.Values.{slots-as_slots}
-use Rattle.rasn_calls.specs.Additions.{extended, PresentsAdditions, RefusesAdditions}
-use Rattle.rasn_calls.specs.Calls.{Written}
+use Rattle.rasn_traits.specs.Additions.{extended, PresentsAdditions, RefusesAdditions}
+use Rattle.rasn_traits.specs.Calls.{Written}
 use Rattle.rasn_schema.specs.Lawful.{presence_bits}
 use Rattle.rasn_schema.specs.Records.{record_value}
 use Rattle.rasn_schema.specs.Schemas.{Schema, Parts, no_parts}
-use Rattle.rasn_calls.specs.Scopes.{PresentsParts, PresentsFields, presents_fields, RefusesFields, refuses_root, refuses_behind_root, Passes, OpenedToWrite}
+use Rattle.rasn_traits.specs.Scopes.{PresentsParts, PresentsFields, presents_fields, RefusesFields, refuses_root, refuses_behind_root, Passes, OpenedToWrite}
 use Rattle.per_core.specs.Canon.{canon, members, any_set, bitmap, bitmap_of, extension_bit, flags_of, bodies_of, opens_of, with_additions, record_of as record_writer}
 use Rattle.per_core.specs.Writers.{Writer, just, ◌▹◌, join, go_on, after}
 use Rattle.per_pieces.specs.Pieces.{Piece, bit, Pieces, MayBegin, bit_count, plain, set_bit, settle, settled}

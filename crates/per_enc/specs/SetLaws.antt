@@ -6,8 +6,8 @@ use Rattle.rasn_types.specs.Values.{Value}
 use Rattle.rasn_schema.specs.Canonised.{canonised, canonised_slots}
 use Rattle.rasn_schema.specs.Records.{record_value}
 use Rattle.rasn_schema.specs.Schemas.{by_tag, listed, Parts, Schema}
-use Rattle.rasn_calls.specs.Sets.{SetsWritten}
-use Rattle.per_sets.proofs.Readings.{written}
+use Rattle.rasn_traits.specs.Sets.{SetsWritten}
+use Rattle.per_core.proofs.SetReadings.{written}
 use Rattle.per_write.specs.declared.error.EncodeError.{EncodeError}
 use Rattle.per_write.specs.declared.error.EncodeErrorKind.{EncodeErrorKind}
 use Rattle.per_write.specs.declared.error.EncodeErrorKind.TheVariants.{SizeConstraintNotSatisfied, ValueConstraintNotSatisfied, AlphabetConstraintNotSatisfied, IntegerTypeConversionFailed, VariantNotInChoice, RealNotSupported, TooManyAdditions, Below, AlreadyFailed, OutOfMemory, OutOfTurn}
@@ -16,7 +16,8 @@ use Rattle.per_write.specs.Rules.{encoder_rules}
 use Rattle.per_write.specs.State.{Presents, State, Wrote}
 
 -- a fault of the SEQUENCE of a SET's components in order is one of the SET
-stands_in_set : (kind : EncodeErrorKind) (x : State) (ps : Parts) (marker : Bool) (qs : Parts) (rs xs : List (Option Value))
+stands_in_set : (kind : EncodeErrorKind) (x : State) (ps : Parts) (marker : Bool) (qs : Parts)
+    (rs xs : List (Option Value))
     → Stands kind x (Schema.sequence listed (canonised ps) marker qs) (record_value (canonised_slots ps rs) xs)
     → Stands kind x (Schema.sequence by_tag ps marker qs) (record_value rs xs)
 stands_in_set (SizeConstraintNotSatisfied n l u) x ps marker qs rs xs h = in_set rs xs h
@@ -45,7 +46,8 @@ refused_set ps marker qs x rs xs e h = record {
 presented_set : (ps : Parts) (marker : Bool) (qs : Parts) (x y : State) (rs xs : List (Option Value))
     → Presents x (Schema.sequence listed (canonised ps) marker qs) (record_value (canonised_slots ps rs) xs) y
     → Presents x (Schema.sequence by_tag ps marker qs) (record_value rs xs) y
-presented_set ps marker qs x y rs xs w = subst (λ m. Wrote x m y) (sym (written (variant_of x.codec) ps marker qs rs xs)) w
+presented_set ps marker qs x y rs xs w = subst (λ m. Wrote x m y)
+    (sym (written (variant_of x.codec) ps marker qs rs xs)) w
 
 -- X.691 21.1: a SET is written as the SEQUENCE of its components in ascending order of their smallest tags
 pub sets_written : SetsWritten encoder_rules

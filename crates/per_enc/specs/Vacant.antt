@@ -28,15 +28,18 @@ and_nothing : (x : Bool) → (x && false) ≡ false
 and_nothing true = refl
 and_nothing false = refl
 
-part_busy : (s : Schema) (v : Value) (ps : Parts) (rs : List (Option Value)) → HasPart s v ps rs → are_idle ps rs ≡ false
+part_busy : (s : Schema) (v : Value) (ps : Parts) (rs : List (Option Value)) → HasPart s v ps rs
+    → are_idle ps rs ≡ false
 unfolding are_idle
 part_busy s v no_parts rs h = elim h [ ]
 part_busy s v (part t q c ps) [] h = elim h [ ]
-part_busy s v (part t q c ps) (r ∷ rs) (part_behind h) = ap (λ (b : Bool). is_idle q r && b) (part_busy s v ps rs h) ∙ and_nothing (is_idle q r)
+part_busy s v (part t q c ps) (r ∷ rs) (part_behind h) = ap (λ (b : Bool). is_idle q r && b)
+    (part_busy s v ps rs h) ∙ and_nothing (is_idle q r)
 part_busy s v (part t q c ps) (Some w ∷ rs) (part_here e) = ap (λ (b : Bool). b && are_idle ps rs) (written_busy q w e)
 
 -- of faults that stand in no group themselves
-none_stands : (fault : Schema → Value → Type 0) → ((s : Schema) (v : Value) → is_group_schema s ≡ true → fault s v → ⊥) → (s : Schema) (v : Value) → is_group_schema s ≡ true → is_vacant s v ≡ true → StandsIn fault s v → ⊥
+none_stands : (fault : Schema → Value → Type 0) → ((s : Schema) (v : Value) → is_group_schema s ≡ true → fault s v → ⊥)
+    → (s : Schema) (v : Value) → is_group_schema s ≡ true → is_vacant s v ≡ true → StandsIn fault s v → ⊥
 unfolding is_vacant
 none_stands fault f s v g i (at_once h) = f s v g h
 none_stands fault f s v g i (in_part {ps = ps} {qs = qs} {rs = rs} xs h k) =
@@ -46,7 +49,8 @@ none_stands fault f s v g i (in_part {ps = ps} {qs = qs} {rs = rs} xs h k) =
 none_stands fault f s v g i (in_addition {ps = ps} {qs = qs} {xs = xs} rs h k) =
     let b : are_idle qs xs ≡ false = part_busy _ _ qs xs h in
     let e : (are_idle ps rs && are_idle qs xs) ≡ true = (rw (slots-as_slots rs, slots-as_slots xs) at i) in
-    absurd (let t : false ≡ true = sym (and_nothing (are_idle ps rs)) ∙ ap (λ (c : Bool). are_idle ps rs && c) (sym b) ∙ e in cc)
+    absurd (let t : false ≡ true = sym (and_nothing (are_idle ps rs)) ∙ ap (λ (c : Bool). are_idle ps rs && c)
+    (sym b) ∙ e in cc)
 none_stands fault f s v g i (in_element h k) = absurd cc
 none_stands fault f s v g i (in_member h k) = absurd cc
 none_stands fault f s v g i (in_set rs xs k) = absurd cc
@@ -82,9 +86,12 @@ no_unlawful (Schema.sequence o ps m qs) v g h = h
 no_unlawful Schema.cut v g h = h
 no_unlawful _ v g h = absurd cc
 
-pub none_in_vacant : (kind : EncodeErrorKind) (x : State) (s : Schema) (v : Value) → x.failed ≡ false → is_group_schema s ≡ true → is_vacant s v ≡ true → Stands kind x s v → ⊥
-none_in_vacant (SizeConstraintNotSatisfied n l u) x s v f g i h = none_stands (IsOutOfSize n l u) (no_size n l u) s v g i h
-none_in_vacant (ValueConstraintNotSatisfied n l u) x s v f g i h = none_stands (IsOutOfBounds n l u) (no_bounds n l u) s v g i h
+pub none_in_vacant : (kind : EncodeErrorKind) (x : State) (s : Schema) (v : Value) → x.failed ≡ false
+    → is_group_schema s ≡ true → is_vacant s v ≡ true → Stands kind x s v → ⊥
+none_in_vacant (SizeConstraintNotSatisfied n l u) x s v f g i h = none_stands (IsOutOfSize n l u)
+    (no_size n l u) s v g i h
+none_in_vacant (ValueConstraintNotSatisfied n l u) x s v f g i h = none_stands (IsOutOfBounds n l u)
+    (no_bounds n l u) s v g i h
 none_in_vacant AlphabetConstraintNotSatisfied x s v f g i h = none_stands IsForeign no_foreign s v g i h
 none_in_vacant IntegerTypeConversionFailed x s v f g i h = none_stands IsPastBounds no_past s v g i h
 none_in_vacant VariantNotInChoice x s v f g i h = h

@@ -12,24 +12,24 @@ ghost use Rattle.per_write.specs.Rules.{encoder_rules};
 ghost use Rattle.per_write.specs.State.{fresh, view};
 
 use per_bits::BitList;
-use per_members::OpenBag;
-use per_moments::writing::put_date;
 pub use per_write::error;
 pub use per_write::error::{EncodeError, EncodeError as Error, EncodeErrorKind};
 use per_write::{Outside, Scope, Writer};
 use per_write_types::alternatives::{OpenChoice, close_alternative, known_place, open_alternative};
+use per_write_types::bags::OpenBag;
+use per_write_types::dates::put_date;
 use per_write_types::enumerated::put_enumerated;
 use per_write_types::identifiers::put_object_identifier;
 use per_write_types::integers::put_integer;
 use per_write_types::lists::{OpenList, close_list, next_element, open_list};
 use per_write_types::times::{put_generalized_time, put_utc_time};
-use rasn_calls::encoder;
 use rasn_schema::choices::Choice;
 use rasn_schema::enumerated::Enumerated;
 use rasn_schema::fields::{AdditionGroup, Constructed};
 use rasn_schema::schema::{Constraints, IntegerType};
 use rasn_strings::strings::StaticPermittedAlphabet;
 use rasn_times::civil::{CivilDate, GeneralizedMoment, UtcMoment};
+use rasn_traits::encoder;
 use rasn_types::bit_string::BitString;
 use rasn_types::octet_strings::{Any, GeneralString, GraphicString, TeletexString};
 use rasn_types::types::{Codec, Identifier, Tag};
@@ -153,7 +153,7 @@ impl<A: Allocator + Clone> encoder::Encoder for Encoder<A> {
     ghost use Rattle.per_enc.specs.Choices.{OpensChoice};
     ghost use Rattle.per_enc.specs.Opens.{Opens};
     ghost use Rattle.per_enc.specs.SetLaws.{sets_written};
-    ghost use Rattle.per_members.specs.Bags.{AmidBag};
+    ghost use Rattle.per_write_types.specs.Bags.{AmidBag};
     ghost use Rattle.per_write.specs.Additions.{Opens as OpensOpenType};
     ghost use Rattle.per_write_types.specs.Lists.{AmidList};
 

@@ -19,23 +19,29 @@ PresenceSucceeds s' s group group = Unit {0}
 PresenceSucceeds s' s _ _ = ⊥
 
 mutual
-  -- X.680 52: the first schema is an extension successor of the second: the same tree, in which more additions, alternatives and items
+  -- X.680 52: the first schema is an extension successor of the second: the same tree, in which more additions,
+  -- alternatives and items
   -- may stand behind an extension marker
   pub data Succeeds : Schema → Schema → Type 0 where
     succeeds_itself : {s : Schema} → IsPlain s → Succeeds s s
     succeeds_items : {r e e' : ℕ} → e ≤ e' → Succeeds (Schema.items r e' true) (Schema.items r e true)
-    succeeds_list : {e e' : Schema} {size : Size} {mark : Bool} → Succeeds e' e → Succeeds (Schema.list e' size mark) (Schema.list e size mark)
-    succeeds_set_of : {e e' : Schema} {size : Size} {mark : Bool} → Succeeds e' e → Succeeds (Schema.set_of e' size mark) (Schema.set_of e size mark)
-    succeeds_sequence : {o : Order} {ext : Bool} {ps ps' adds adds' : Parts} → SucceedsParts false ps' ps → SucceedsParts ext adds' adds
+    succeeds_list : {e e' : Schema} {size : Size} {mark : Bool} → Succeeds e' e
+        → Succeeds (Schema.list e' size mark) (Schema.list e size mark)
+    succeeds_set_of : {e e' : Schema} {size : Size} {mark : Bool} → Succeeds e' e
+        → Succeeds (Schema.set_of e' size mark) (Schema.set_of e size mark)
+    succeeds_sequence : {o : Order} {ext : Bool} {ps ps' adds adds' : Parts} → SucceedsParts false ps' ps
+        → SucceedsParts ext adds' adds
         → Succeeds (Schema.sequence o ps' ext adds') (Schema.sequence o ps ext adds)
-    succeeds_choice : {ext : Bool} {ps ps' adds adds' : Parts} → SucceedsParts false ps' ps → SucceedsParts ext adds' adds
+    succeeds_choice : {ext : Bool} {ps ps' adds adds' : Parts} → SucceedsParts false ps' ps
+        → SucceedsParts ext adds' adds
         → Succeeds (Schema.choice ps' adds' ext) (Schema.choice ps adds ext)
 
   -- the same of members, the newer ones first; the truth value says whether some may have been added
   pub data SucceedsParts : Bool → Parts → Parts → Type 0 where
     none_succeed : {may : Bool} → SucceedsParts may no_parts no_parts
     added_parts : {t : TagTree} {p : Presence} {s : Schema} {ps : Parts} → SucceedsParts true (part t p s ps) no_parts
-    succeeds_part : {may : Bool} {t : TagTree} {p p' : Presence} {s s' : Schema} {ps ps' : Parts} → PresenceSucceeds s' s p' p → Succeeds s' s
+    succeeds_part : {may : Bool} {t : TagTree} {p p' : Presence} {s s' : Schema} {ps ps' : Parts}
+        → PresenceSucceeds s' s p' p → Succeeds s' s
         → SucceedsParts may ps' ps → SucceedsParts may (part t p' s' ps') (part t p s ps)
 
 -- one type is an extension successor of another, at every number of levels

@@ -18,15 +18,18 @@ count_set (true ∷ bs) = suc (count_set bs)
 abbrev pub OpenTypes : Settings → List (List ℕ) → Spelling
 OpenTypes a = OneByOne (Octets a)
 
--- X.691 19: a record with extension bit 1 up to its unknown additions: the root components, a bitmap, in which `more` stands behind the
+-- X.691 19: a record with extension bit 1 up to its unknown additions: the root components, a bitmap, in which `more`
+-- stands behind the
 -- bits for the additions of the schema, and these additions. A bitmap may also be shorter than the schema's list
-pub record BeforeUnknown (a : Settings) (o : Order) (ps adds : Parts) (more : List Bool) (v : Value) (p : ℕ) (bits : Bits) : Type 0 where
+pub record BeforeUnknown (a : Settings) (o : Order) (ps adds : Parts) (more : List Bool) (v : Value) (p : ℕ)
+    (bits : Bits) : Type 0 where
   pub components : List (Option Value)
   pub additions : List (Option Value)
   pub is : v ≡ fields (as_slots components) (as_slots additions)
   pub shown : List Bool
   pub enough : (length shown ≡ count adds) ⊎ (more ≡ [])
-  pub spelled : Then (exactly (true ∷ [])) (Then (Root (ordered o (tags ps) (rules a ps)) (ordered o (tags ps) components))
+  pub spelled : Then (exactly (true ∷ []))
+      (Then (Root (ordered o (tags ps) (rules a ps)) (ordered o (tags ps) components))
       (Then (IsBitmap a (shown ++ more)) (Additions_in a false (rules a adds) additions shown))) p bits
 
 -- a record with extension bit 1, and the octets of its unknown additions behind all else

@@ -1,9 +1,12 @@
-//! The laws of schema versions, of open types and of depth, over the grammar of the packed encoding rules. Each law is
-//! the contract of a function that does nothing.
+//! The laws of schema versions, of open types, of levels and of depth, over the grammar of the packed encoding rules.
+//! Each law is the contract of a function that does nothing.
 #![tactic(auto)]
 
 pub mod additions;
 pub mod depth;
+pub mod lawful;
+pub mod levels;
+pub mod messages;
 pub mod normal_form;
 pub mod open_types;
 pub mod padding;

@@ -76,7 +76,8 @@ pub record PrintsAnswer (a : Arguments) (input before after : Option (List ℕ))
   pub printed : Appends before after text
 
 -- an output got the replies to the lines of an input but for these last ones, and nothing else
-pub record PrintsReplies (a : Arguments) (input : Option (List ℕ)) (last : List (List ℕ)) (before after : Option (List ℕ)) : Type 0 where
+pub record PrintsReplies (a : Arguments) (input : Option (List ℕ)) (last : List (List ℕ))
+    (before after : Option (List ℕ)) : Type 0 where
   pub lines : List (List ℕ)
   pub texts : List ℕ
   pub first : IfSome input (λ octets. lines_of octets ≡ lines ++ last)
@@ -102,7 +103,8 @@ EndsAnswer a input before after WrongArguments = ⊥
 EndsAnswer a input before after CannotRead = Keeps before after
 EndsAnswer a input before after CannotWrite = HasAnswer a input
 EndsAnswer a input before after OutOfMemory = Keeps before after ⊎ HasAnswer a input
-EndsAnswer a input before after fault = ((line : List ℕ) × IsLineOf input line × IsUnanswered a line fault) × Keeps before after
+EndsAnswer a input before after fault = ((line : List ℕ) × IsLineOf input line × IsUnanswered a line fault)
+    × Keeps before after
 
 -- Why not all lines of an input get their replies, and what the output got by then: no line ends the others' turns.
 abbrev pub EndsReplies : Arguments → Option (List ℕ) → Option (List ℕ) → Option (List ℕ) → Fault → Type 0
@@ -143,9 +145,11 @@ pub record HasReplied (a : Arguments) (input rest before after : Option (List �
   pub are_replies : AreReplies a lines texts
   pub printed : Appends before after texts
 
--- what some turns do: they take at least one line, and an output gets the replies to all that they take; where there are no more
+-- what some turns do: they take at least one line, and an output gets the replies to all that they take; where there
+-- are no more
 -- lines, it has got those to all
-abbrev pub TakesTurns : Arguments → Bool → Option (List ℕ) → Option (List ℕ) → Option (List ℕ) → Option (List ℕ) → Type 0
+abbrev pub TakesTurns : Arguments → Bool → Option (List ℕ) → Option (List ℕ) → Option (List ℕ) → Option (List ℕ)
+    → Type 0
 TakesTurns a true input rest before after = (replied : HasReplied a input rest before after) × (replied.lines ≢ [])
 TakesTurns a false input rest before after = PrintsReplies a input [] before after
 

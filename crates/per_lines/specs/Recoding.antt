@@ -8,27 +8,27 @@ use Rattle.per_samples_a.specs.Absents.{one_default}
 use Rattle.per_samples_a.specs.Fours.{four}
 use Rattle.per_samples_a.specs.Sevens.{seven}
 use Rattle.per_samples_c.specs.Items.{with_item}
-use Rattle.per_samples_e.specs.Bytes.{byte}
-use Rattle.per_samples_e.specs.Choices.{outer_parts}
-use Rattle.per_samples_e.specs.Deeps.{deep}
-use Rattle.per_samples_e.specs.Elements.{elements}
-use Rattle.per_samples_e.specs.Empties.{maybe_empty}
-use Rattle.per_samples_e.specs.Nests.{nest}
-use Rattle.per_samples_e.specs.AddedNests.{nest_root, nest_additions}
-use Rattle.per_samples_f.specs.Groups.{grouped_root, grouped_additions}
-use Rattle.per_samples_f.specs.Needs.{one_needed, added_default}
-use Rattle.per_samples_f.specs.Outers.{outer_root, outer2_additions, outer3_additions}
-use Rattle.per_samples_g.specs.Defaults.{default_outer1, default_outer3}
-use Rattle.per_samples_g.specs.Groups.{first_root, x_group, x_y_group}
-use Rattle.per_samples_h.specs.Alternatives.{two_alternatives}
-use Rattle.per_samples_h.specs.First.{in_root}
-use Rattle.per_samples_h.specs.Second.{behind_marker}
-use Rattle.per_samples_m.specs.Many.{many_root, many_additions}
+use Rattle.per_samples_lists.specs.Bytes.{byte}
+use Rattle.per_samples_lists.specs.Choices.{outer_parts}
+use Rattle.per_samples_lists.specs.Deeps.{deep}
+use Rattle.per_samples_lists.specs.Elements.{elements}
+use Rattle.per_samples_lists.specs.Empties.{maybe_empty}
+use Rattle.per_samples_lists.specs.Nests.{nest}
+use Rattle.per_samples_lists.specs.AddedNests.{nest_root, nest_additions}
+use Rattle.per_samples_b.specs.Groups.{grouped_root, grouped_additions}
+use Rattle.per_samples_b.specs.Needs.{one_needed, added_default}
+use Rattle.per_samples_b.specs.Outers.{outer_root, outer2_additions, outer3_additions}
+use Rattle.per_samples_c.specs.Defaults.{default_outer1, default_outer3}
+use Rattle.per_samples_c.specs.Groups.{first_root, x_group, x_y_group}
+use Rattle.per_samples_b.specs.Alternatives.{two_alternatives}
+use Rattle.per_samples_b.specs.First.{in_root}
+use Rattle.per_samples_b.specs.Second.{behind_marker}
+use Rattle.per_samples_b.specs.Many.{many_root, many_additions}
 use Rattle.per_core.specs.Spellings.{Settings}
 use Rattle.rasn_per.specs.Complete.{AreBytes, HasNoBytes, AreReadBy, AreUnreadBy, reading, basically}
-use Rattle.per_samples_i.specs.Connects.{connect}
-use Rattle.per_samples_j.specs.Sets.{set, set_choice, set_optional}
-use Rattle.per_samples_l.specs.Dnests.{dnest}
+use Rattle.per_samples_sets.specs.Connects.{connect}
+use Rattle.per_samples_sets.specs.Sets.{set, set_choice, set_optional}
+use Rattle.per_samples_sets.specs.Dnests.{dnest}
 use Rattle.rasn_per.specs.Kinds.{IsInOctetsBy}
 use Rattle.per_write.specs.declared.error.EncodeErrorKind.TheVariants as Encoding
 use Rattle.per_read.specs.declared.error.DecodeErrorKind.TheVariants as Decoding
@@ -45,9 +45,12 @@ use Rattle.per_lines.specs.declared.fault.Fault.TheVariants as Faults
 abbrev pub one_to : ℕ → Size
 one_to u = record { least = Some 1; most = Some u }
 
--- what the name of a type means: BOOLEAN (X.680 18); NULL (X.680 24); INTEGER (X.680 19), alone and under value constraints
--- (X.680 51.4); SEQUENCE (X.680 25), with a default, an ENUMERATED (X.680 20), itself or an extension marker in it; SEQUENCE OF
--- (X.680 26); SET OF (X.680 28); CHOICE (X.680 29); BIT STRING (X.680 22); OCTET STRING (X.680 23); character strings (X.680 41) by
+-- what the name of a type means: BOOLEAN (X.680 18); NULL (X.680 24); INTEGER (X.680 19), alone and under value
+-- constraints
+-- (X.680 51.4); SEQUENCE (X.680 25), with a default, an ENUMERATED (X.680 20), itself or an extension marker in it;
+-- SEQUENCE OF
+-- (X.680 26); SET OF (X.680 28); CHOICE (X.680 29); BIT STRING (X.680 22); OCTET STRING (X.680 23); character strings
+-- (X.680 41) by
 -- their characters; UTCTime (X.680 47); and DATE (X.680 38.4)
 abbrev pub schema_of : TypeName → ℕ → Schema
 schema_of Boolean = always Schema.boolean
@@ -143,7 +146,8 @@ IsRefusal a schema octets (Faults.Decode kind) =
 IsRefusal a schema octets (Faults.Encode kind) = kind ≢ Encoding.OutOfMemory → IsUnwritable a schema octets
 IsRefusal a schema octets _ = ⊥
 
--- Octets are read by a type and written; with `zero` their padding and spare bits are zero. Behind `as`, what was written is read by the
+-- Octets are read by a type and written; with `zero` their padding and spare bits are zero. Behind `as`, what was
+-- written is read by the
 -- other type and written.
 abbrev pub Converts : Variant → TypeName → Form → List ℕ → List ℕ → Type 0
 Converts a t OneLine octets canonical = Recodes (basically a) (schema_of t) octets canonical
@@ -158,4 +162,5 @@ IsUnconverted a t OneLine octets fault = IsRefusal (basically a) (schema_of t) o
 IsUnconverted a t Lines octets fault = IsRefusal (basically a) (schema_of t) octets fault
 IsUnconverted a t Zero octets fault = IsRefusal (reading true a) (schema_of t) octets fault
 IsUnconverted a t (As other) octets fault = IsRefusal (basically a) (schema_of t) octets fault
-    ⊎ ((written : List ℕ) × Recodes (basically a) (schema_of t) octets written × IsRefusal (basically a) (schema_of other) written fault)
+    ⊎ ((written : List ℕ) × Recodes (basically a) (schema_of t) octets written
+    × IsRefusal (basically a) (schema_of other) written fault)

@@ -2,3 +2,9 @@ pub mod Marking
 pub mod Settling
 pub mod Writing
 pub mod Zeros
+pub mod Bounded
+pub mod Distances
+pub mod FewOctets
+pub mod Fragments
+pub mod SmallNumbers
+pub mod Wholes

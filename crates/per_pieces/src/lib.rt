@@ -1,7 +1,12 @@
 //! What is written before its place is known (ITU-T X.691, 11.1): bits, with marks where padding may stand, into which
-//! the padding goes once the place of the first bit is known. Where this is known from the start, padding is zero bits
-//! at once, and no mark is kept. A contract speaks of the pieces alone, as a list of bits and marks.
+//! the padding goes once the place of the first bit is known; and whole numbers, lengths and normally small numbers as
+//! they are appended to these. Where the place is known from the start, padding is zero bits at once, and no mark is
+//! kept. A contract speaks of the pieces alone, as a list of bits and marks.
 #![tactic(auto)]
+
+pub mod lengths;
+pub mod numbers;
+pub mod small;
 
 ghost use Rattle.std.specs.Prelude.{◌≡◌, ◌≤◌, ◌∷◌, [], ◌++◌, false, true, length, replicate, Some, OnOk, OnErr, IfOk};
 ghost use Rattle.rasn_types.specs.Bits.{to_bits, unpack};

@@ -1,4 +1,5 @@
--- Counted items of as many bits each: octets, bits and characters (X.691 11.9, 16, 17, 30.5). An item's code is the number that its bits mean.
+-- Counted items of as many bits each: octets, bits and characters (X.691 11.9, 16, 17, 30.5). An item's code is the
+-- number that its bits mean.
 use Rattle.std.specs.Prelude.{◌≡◌, ◌<◌, ◌≤◌, ◌+◌, ◌*◌, ℕ, Bool, if◌then◌else◌, List, ◌++◌, length, Result, IfOk, OnOk, IfErr}
 use Rattle.rasn_types.specs.Bits.{Bits}
 use Rattle.rasn_constraints.specs.Bounds.{Size, any_size}
@@ -33,21 +34,24 @@ pub record Adds {C : Type 0} (holds : C → C → List ℕ → Type 0) (before :
   pub behind : (start : C) (xs : List ℕ) → holds start before xs → holds start after (xs ++ codes)
 
 -- n items were read, in some form, and appended
-pub record TookItems {C : Type 0} (holds : C → C → List ℕ → Type 0) (form : List ℕ → Spelling) (n : ℕ) (before after : C) (s t : Bits) : Type 0 where
+pub record TookItems {C : Type 0} (holds : C → C → List ℕ → Type 0) (form : List ℕ → Spelling) (n : ℕ)
+    (before after : C) (s t : Bits) : Type 0 where
   pub codes : List ℕ
   pub count : length codes ≡ n
   pub added : Adds holds before codes after
   pub took : Took (form codes) s t
 
 -- A call that takes items of a form, and answers how many there were.
-pub record TakesItems {C : Type 0} (holds : C → C → List ℕ → Type 0) (why : Reason) (form : Settings → List ℕ → Spelling) (before : C) (x : State)
+pub record TakesItems {C : Type 0} (holds : C → C → List ℕ → Type 0) (why : Reason)
+    (form : Settings → List ℕ → Spelling) (before : C) (x : State)
     (result : Result ℕ DecodeErrorKind) (after : C) (y : State) : Type 0 where
   pub ok : IfOk result (λ n. TookItems holds (form (settings_of x)) n before after x.bits y.bits)
   pub err : IfErr result (why (settings_of x) x.bits (NoneIn (form (settings_of x)) x.bits))
   pub kept : y.options ≡ x.options
 
 -- A call that takes n items with no length. They stay what they are.
-pub record Collects {C : Type 0} (holds : C → C → List ℕ → Type 0) (item : C → Item) (count : C → ℕ) (n : ℕ) (before : C) (x : State)
+pub record Collects {C : Type 0} (holds : C → C → List ℕ → Type 0) (item : C → Item) (count : C → ℕ) (n : ℕ)
+    (before : C) (x : State)
     (result : Result (Unit {0}) DecodeErrorKind) (after : C) (y : State) : Type 0 where
   pub ok : OnOk result (TookItems holds (OneByOne (coded (item before))) n before after x.bits y.bits)
   pub same : OnOk result (item after ≡ item before)

@@ -31,7 +31,8 @@ list_form f = Lengthy f.settings f.size f.mark list_items f.item
 abbrev pub list_rule : Settings → Size → Bool → Schema → ListRule Value
 list_rule a size mark e = record { settings = a; size = size; mark = mark; item = basic a e }
 
--- X.691 11.9.3.8: items of which n more stand behind a length that was read, and, where `more` says so, others behind a further length
+-- X.691 11.9.3.8: items of which n more stand behind a length that was read, and, where `more` says so, others behind a
+-- further length
 abbrev pub Rest : {X : Type 0} → Settings → (X → Spelling) → (more : Bool) → ℕ → List X → Spelling
 Rest a item more (suc n) (x ∷ xs) = Then (item x) (Rest a item more n xs)
 Rest a item more (suc n) [] = never
@@ -46,25 +47,35 @@ RestUpTo a item more (suc n) [] = exactly []
 RestUpTo a item true zero xs = UpToUnconstrained a item xs
 RestUpTo a item false zero xs = never
 
--- What is still to be read of a list of items: others behind those that were read, with whose count the size allows that of all.
-pub record IsLeft {X : Type 0} (a : Settings) (item : X → Spelling) (before : List X) (l : OpenList) (here : Bits) (xs : List X) (t : Bits) : Type 0 where
+-- What is still to be read of a list of items: others behind those that were read, with whose count the size allows
+-- that of all.
+pub record IsLeft {X : Type 0} (a : Settings) (item : X → Spelling) (before : List X) (l : OpenList) (here : Bits)
+    (xs : List X) (t : Bits) : Type 0 where
   pub others : List X
   pub all : xs ≡ before ++ others
   pub allowed : allows (size_between l.size) (length xs) ≡ true
   pub took : Took (Rest a item l.more l.left others) here t
 
--- A list is open: it began at `start`, the items `before` were read, and the reader is `here`. It is read from its start on exactly where the rest is read from here on, and the size allows the count
--- of all; a count that the size doesn't allow is its fault; and where a further item is to be read, it stands behind others of the list.
-pub record AmidItems {X : Type 0} (f : ListRule X) (start : Bits) (before : List X) (l : OpenList) (here : Bits) : Type 0 where
+-- A list is open: it began at `start`, the items `before` were read, and the reader is `here`. It is read from its
+-- start on exactly where the rest is read from here on, and the size allows the count
+-- of all; a count that the size doesn't allow is its fault; and where a further item is to be read, it stands behind
+-- others of the list.
+pub record AmidItems {X : Type 0} (f : ListRule X) (start : Bits) (before : List X) (l : OpenList)
+    (here : Bits) : Type 0 where
   pub count : l.count ≡ length before
   pub on : (xs : List X) (t : Bits) → IsLeft f.settings f.item before l here xs t → Took (list_form f xs) start t
   pub back : (xs : List X) (t : Bits) → Took (list_form f xs) start t → IsLeft f.settings f.item before l here xs t
-  pub miscounted : (xs : List X) (t : Bits) → allows (size_between l.size) (length (before ++ xs)) ≡ false → length (before ++ xs) < 2 ^ 64 → Took (Rest f.settings f.item l.more l.left xs) here t
-      → Miscounted f.settings f.size f.mark list_items f.item (length (before ++ xs)) (start_of l.size) (end_of l.size) start
-  pub up_to : (xs : List X) (t : Bits) → Took (RestUpTo f.settings f.item l.more l.left xs) here t → Took (UpTo f.settings f.size f.mark f.item (before ++ xs)) start t
+  pub miscounted : (xs : List X) (t : Bits) → allows (size_between l.size) (length (before ++ xs)) ≡ false
+      → length (before ++ xs) < 2 ^ 64 → Took (Rest f.settings f.item l.more l.left xs) here t
+      → Miscounted f.settings f.size f.mark list_items f.item (length (before ++ xs)) (start_of l.size)
+      (end_of l.size) start
+  pub up_to : (xs : List X) (t : Bits) → Took (RestUpTo f.settings f.item l.more l.left xs) here t
+      → Took (UpTo f.settings f.size f.mark f.item (before ++ xs)) start t
 
--- A further item of an open list is to be read here, behind those that were: with it, the list goes on; where none is read, the list isn't.
-pub record AwaitsItem {X : Type 0} (f : ListRule X) (start : Bits) (before : List X) (l : OpenList) (here : Bits) : Type 0 where
+-- A further item of an open list is to be read here, behind those that were: with it, the list goes on; where none is
+-- read, the list isn't.
+pub record AwaitsItem {X : Type 0} (f : ListRule X) (start : Bits) (before : List X) (l : OpenList)
+    (here : Bits) : Type 0 where
   pub behind : Took (UpTo f.settings f.size f.mark f.item before) start here
   pub goes_on : (x : X) (t : Bits) → Took (f.item x) here t → AmidItems f start (before ++ x ∷ []) l t
   pub none : NoneIn f.item here → NoneIn (list_form f) start
@@ -75,7 +86,8 @@ pub record RefusesList {X : Type 0} (f : ListRule X) (start : Bits) (k : DecodeE
   pub none : NoneIn (list_form f) start
 
 -- Ok is at a further item, or behind the list; and Err comes only where that isn't read.
-abbrev pub NextRead : {X : Type 0} → ListRule X → (start : Bits) → (before : List X) → Result Bool DecodeErrorKind → OpenList → Bits → Type 0
+abbrev pub NextRead : {X : Type 0} → ListRule X → (start : Bits) → (before : List X) → Result Bool DecodeErrorKind
+    → OpenList → Bits → Type 0
 NextRead f start before (Ok true) l here = AwaitsItem f start before l here
 NextRead f start before (Ok false) l here = Took (list_form f before) start here
 NextRead f start before (Err k) l here = RefusesList f start k
@@ -90,25 +102,31 @@ abbrev pub most : OpenList → ℕ
 most l = 2 ^ 64 - l.count
 
 -- A call that opens a list of a size, of whatever elements: an error comes only where none is read.
-pub record OpensList (size : Size) (mark : Bool) (x : State) (result : Result OpenList DecodeErrorKind) (y : State) : Type 0 where
+pub record OpensList (size : Size) (mark : Bool) (x : State) (result : Result OpenList DecodeErrorKind)
+    (y : State) : Type 0 where
   pub ok : IfOk result (λ l. (e : Schema) → AmidItems (list_rule (settings_of x) size mark e) x.bits [] l y.bits)
   pub err : IfErr result (Refused ((e : Schema) → NoneIn (list_form (list_rule (settings_of x) size mark e)) x.bits))
   pub leaves : OnOk result (Leaves x.bits y.bits)
   pub kept : y.options ≡ x.options
 
--- A call that takes the length of the next fragment of an open list, where one begins here. The list stays open, and where no item is left, it has ended.
-pub record BeginsFragment (l : OpenList) (x : State) (result : Result (Unit {0}) DecodeErrorKind) (m : OpenList) (y : State) : Type 0 where
+-- A call that takes the length of the next fragment of an open list, where one begins here. The list stays open, and
+-- where no item is left, it has ended.
+pub record BeginsFragment (l : OpenList) (x : State) (result : Result (Unit {0}) DecodeErrorKind) (m : OpenList)
+    (y : State) : Type 0 where
   pub law : (size : Size) (mark : Bool) (e : Schema) (start : Bits) (before : List Value)
-      → (let f = list_rule (settings_of x) size mark e in AmidItems f start before l x.bits → MatchResult result (λ u. AmidItems f start before m y.bits) (RefusesList f start))
+      → (let f = list_rule (settings_of x) size mark e in AmidItems f start before l x.bits
+      → MatchResult result (λ u. AmidItems f start before m y.bits) (RefusesList f start))
   pub ended : OnOk result (m.left ≡ 0 → m.more ≡ false)
   pub count : m.count ≡ l.count
   pub leaves : OnOk result (Leaves x.bits y.bits)
   pub kept : y.options ≡ x.options
 
 -- A call before each element of an open list, and behind the last. Each leaves fewer elements that may be read.
-pub record ReadsNext (l : OpenList) (x : State) (result : Result Bool DecodeErrorKind) (m : OpenList) (y : State) : Type 0 where
+pub record ReadsNext (l : OpenList) (x : State) (result : Result Bool DecodeErrorKind) (m : OpenList)
+    (y : State) : Type 0 where
   pub law : (size : Size) (mark : Bool) (e : Schema) (start : Bits) (before : List Value)
-      → (let f = list_rule (settings_of x) size mark e in AmidItems f start before l x.bits → NextRead f start before result m y.bits)
+      → (let f = list_rule (settings_of x) size mark e in AmidItems f start before l x.bits
+      → NextRead f start before result m y.bits)
   pub fewer : IfOk result (λ another. another ≡ true → most m < most l)
   pub leaves : OnOk result (Leaves x.bits y.bits)
   pub kept : y.options ≡ x.options

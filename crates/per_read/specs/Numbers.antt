@@ -45,8 +45,10 @@ under_bounds a (Some l) (Some u) z = When (le_z l z ≡ true) (constrained_form 
 abbrev pub in_i128 : ℤ → Option ℤ
 in_i128 z = if fits_i128 z then Some z else None
 
--- X.691 13.2: a number behind no extension bit 1 stands outside its bounds, which are named; it is named where an i128 holds it
-pub record IsOutside (a : Settings) (bounds : Bounds) (mark : Bool) (named low high : Option ℤ) (s : Bits) : Type 0 where
+-- X.691 13.2: a number behind no extension bit 1 stands outside its bounds, which are named; it is named where an i128
+-- holds it
+pub record IsOutside (a : Settings) (bounds : Bounds) (mark : Bool) (named low high : Option ℤ)
+    (s : Bits) : Type 0 where
   pub number : ℤ
   pub rest : Bits
   pub outside : holds bounds number ≡ false
@@ -57,7 +59,11 @@ pub record IsOutside (a : Settings) (bounds : Bounds) (mark : Bool) (named low h
 
 -- X.691 11.7, 11.8: no octets, where bounds have a number written in octets
 abbrev pub no_octets : Settings → Bounds → Spelling
-no_octets a bounds = elim bounds.low [ None ↦ Octets a [] | Some l ↦ elim bounds.high [ None ↦ Octets a [] | Some u ↦ never ] ]
+no_octets a bounds = elim bounds.low [
+  | None ↦ Octets a []
+  | Some l ↦ elim bounds.high
+      [ None ↦ Octets a [] | Some u ↦ never ]
+]
 
 -- a number of no octets stands there, under its bounds or behind an extension bit 1
 pub record IsEmpty (a : Settings) (bounds : Bounds) (mark : Bool) (s : Bits) : Type 0 where

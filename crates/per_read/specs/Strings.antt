@@ -25,7 +25,8 @@ pub record HasUnknown (variant : Variant) (alphabet codes : List ℕ) : Type 0 w
 
 -- the characters of the codes from 0 on, 0 where one is not known
 pub record AreKnown (a : Alphabet) (known : List ℕ) : Type 0 where
-  pub code : (i : ℕ) → 0 < slice_index_or known i 0 → char_code a.variant a.characters (slice_index_or known i 0) ≡ Some i
+  pub code : (i : ℕ) → 0 < slice_index_or known i 0 → char_code a.variant a.characters (slice_index_or known i 0)
+      ≡ Some i
   pub permitted : (i : ℕ) → 0 < slice_index_or known i 0 → has a.characters (slice_index_or known i 0) ≡ true
 
 -- codes are those of characters, or one of them has none

@@ -9,7 +9,8 @@ use Rattle.per_read.specs.Sizes.{CountFrom}
 use Rattle.per_read.specs.declared.lengths.Length.{Length}
 
 -- X.691 11.9.3.5 to 11.9.3.8: a length, and items, fewer than it counts
-pub record UpToCounted {X : Type 0} (a : Settings) (item : X → Spelling) (xs : List X) (p : ℕ) (bits : Bits) : Type 0 where
+pub record UpToCounted {X : Type 0} (a : Settings) (item : X → Spelling) (xs : List X) (p : ℕ)
+    (bits : Bits) : Type 0 where
   pub counts : Length
   pub fewer : length xs < count_of counts
   pub spelled : Then (LengthOf a counts) (OneByOne item xs) p bits
@@ -20,12 +21,14 @@ UpToFragment a item zero xs = UpToCounted a item xs
 UpToFragment a item (suc k) xs = Fragmented a item (UpToFragment a item k) xs
 
 -- behind an unconstrained length
-pub record UpToUnconstrained {X : Type 0} (a : Settings) (item : X → Spelling) (xs : List X) (p : ℕ) (bits : Bits) : Type 0 where
+pub record UpToUnconstrained {X : Type 0} (a : Settings) (item : X → Spelling) (xs : List X) (p : ℕ)
+    (bits : Bits) : Type 0 where
   pub fragments : ℕ
   pub spelled : UpToFragment a item fragments xs p bits
 
 -- X.691 11.9.3.3: a count from lb on, as one of the numbers from lb to ub, and items, fewer than it counts
-pub record UpToBetween {X : Type 0} (a : Settings) (lb ub : ℕ) (item : X → Spelling) (xs : List X) (p : ℕ) (bits : Bits) : Type 0 where
+pub record UpToBetween {X : Type 0} (a : Settings) (lb ub : ℕ) (item : X → Spelling) (xs : List X) (p : ℕ)
+    (bits : Bits) : Type 0 where
   pub count : ℕ
   pub fewer : length xs < count
   pub spelled : Then (CountFrom a lb ub count) (OneByOne item xs) p bits
@@ -34,7 +37,8 @@ pub record UpToBetween {X : Type 0} (a : Settings) (lb ub : ℕ) (item : X → S
 abbrev pub UpToSized : {X : Type 0} → Settings → Option ℕ → Option ℕ → (X → Spelling) → List X → Spelling
 UpToSized a None most item = UpToUnconstrained a item
 UpToSized a (Some lb) None item = UpToUnconstrained a item
-UpToSized a (Some lb) (Some ub) item = λ xs. cond (nat_lt ub 65536) (UpToBetween a lb ub item xs) (UpToUnconstrained a item xs)
+UpToSized a (Some lb) (Some ub) item = λ xs. cond (nat_lt ub 65536) (UpToBetween a lb ub item xs)
+    (UpToUnconstrained a item xs)
 
 -- X.691 20: what stands in front of an item of a list, behind the items xs
 abbrev pub UpTo : {X : Type 0} → Settings → Size → Bool → (X → Spelling) → List X → Spelling

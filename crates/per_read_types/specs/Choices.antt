@@ -18,12 +18,14 @@ abbrev pub index_of : Place → Side × ℕ
 index_of (Root i) = (root, i)
 index_of (Added i) = (added, i)
 
--- X.691 23.5 to 23.8: the extension bit of a choice and an index in the list that it tells are written as those of an ENUMERATED of as
+-- X.691 23.5 to 23.8: the extension bit of a choice and an index in the list that it tells are written as those of an
+-- ENUMERATED of as
 -- many items, one that is known
 abbrev pub index_form : Settings → (roots addeds : ℕ) → (extensible : Bool) → Side × ℕ → Spelling
 index_form a r e ext x = Item a r e ext x.0 x.1
 
--- what a kind says of the index of a choice: in its list none stands there, it is past 64 bits, or a large form has no octets
+-- what a kind says of the index of a choice: in its list none stands there, it is past 64 bits, or a large form has no
+-- octets
 abbrev pub IsOfIndex : Settings → (roots addeds : ℕ) → (extensible : Bool) → Bits → DecodeErrorKind → Type 0
 IsOfIndex a r e ext s (ChoiceIndexNotFound i) =
     (extended : Bool) × (count_of r e extended ≤ i) × IsPlace a (count_of r e extended) ext extended i s

@@ -17,9 +17,11 @@ OfEach P (Held z) = P z
 OfEach P Below = (n : ℕ) → 2 ^ 127 ≤ n → P (negsuc n)
 OfEach P Above = (n : ℕ) → 2 ^ 127 ≤ n → P (pos n)
 
--- What a kind says of a number that is no value of a type of a width: it stands outside its bounds, or within these but not in the type.
+-- What a kind says of a number that is no value of a type of a width: it stands outside its bounds, or within these but
+-- not in the type.
 abbrev pub IsMissed : Bounds → ℕ → DecodeErrorKind → ℤ → Type 0
-IsMissed bounds width (ValueConstraintNotSatisfied named low high) z = (holds bounds z ≡ false) × (named ≡ in_i128 z) × (low ≡ bounds.low) × (high ≡ bounds.high)
+IsMissed bounds width (ValueConstraintNotSatisfied named low high) z = (holds bounds z ≡ false) × (named ≡ in_i128 z)
+    × (low ≡ bounds.low) × (high ≡ bounds.high)
 IsMissed bounds width (IntegerOverflow w) z = (holds bounds z ≡ true) × (w ≡ width)
 IsMissed bounds width _ z = ⊥
 
@@ -39,7 +41,9 @@ pub record IsFit (bounds range : Bounds) (r : ReadNumber) (z : ℤ) : Type 0 whe
 abbrev pub AreSome : Bounds → Type 0
 AreSome b = b.low ≡ None → b.high ≡ None → ⊥
 
--- X.691 13: a call that takes an INTEGER of a type's range, under bounds and behind an extension bit where there is a mark
-abbrev pub TakesInteger : {I : Type 0} → Bounds → Bool → Bounds → (I → ℤ) → State → Result I DecodeErrorKind → State → Type 0
+-- X.691 13: a call that takes an INTEGER of a type's range, under bounds and behind an extension bit where there is a
+-- mark
+abbrev pub TakesInteger : {I : Type 0} → Bounds → Bool → Bounds → (I → ℤ) → State → Result I DecodeErrorKind → State
+    → Type 0
 TakesInteger bounds mark range number =
     Takes (memory_or (λ a. IsOfNumber a bounds mark)) (λ a. IsNumberOf a bounds mark range) (λ P i. P (number i))

@@ -1,13 +1,13 @@
 //! OBJECT IDENTIFIER (X.691 24).
 
 ghost use Rattle.std.specs.Prelude.{◌≡◌};
-ghost use Rattle.rasn_ber.specs.Identifiers.{contents};
+ghost use Rattle.rasn_types.specs.Identifiers.{contents};
 ghost use Rattle.per_read_types.specs.Moments.{IsOfIdentifier, identifier_form};
 ghost use Rattle.per_read.specs.Takes.{Takes, memory_or};
 
 use per_read::Reader;
 use per_read::error::DecodeErrorKind;
-use rasn_ber::ber::{BerError, object_identifier_from_bytes};
+use rasn_types::ber::{BerError, object_identifier_from_bytes};
 
 /// Takes an OBJECT IDENTIFIER (X.691 24), and answers its arcs.
 pub fn take_object_identifier(reader: &mut Reader<'_>) -> Result<Vec<u32>, DecodeErrorKind>

@@ -41,7 +41,8 @@ abbrev pub element : Schema
 element = sequence (octet_string (sized 3 3) ∷ [])
 
 abbrev pub with_lists : Schema
-with_lists = sequence (Schema.boolean ∷ list_of element (sized 2 2) ∷ list_of element (sized 1 4) ∷ integer_in (between (pos 0) (pos 255)) ∷ [])
+with_lists = sequence (Schema.boolean ∷ list_of element (sized 2 2) ∷ list_of element (sized 1 4)
+    ∷ integer_in (between (pos 0) (pos 255)) ∷ [])
 
 -- Nest ::= SEQUENCE { inner Nest OPTIONAL }, unfolded to so many levels, and its value with so many inside the first
 abbrev pub nest : ℕ → Schema
@@ -77,11 +78,13 @@ two_alternatives = extensible_choice (Schema.boolean ∷ []) (Schema.boolean ∷
 
 -- CHOICE { p [1] BOOLEAN, q [2] NULL }, and CHOICE { x [0] BOOLEAN, y the former, untagged, z [3] NULL }
 abbrev pub p_or_q : Schema
-p_or_q = Schema.choice (members ((context 1, required, Schema.boolean) ∷ (context 2, required, Schema.null) ∷ [])) no_parts false
+p_or_q = Schema.choice (members ((context 1, required, Schema.boolean) ∷ (context 2, required, Schema.null)
+    ∷ [])) no_parts false
 
 abbrev pub x_y_or_z : Schema
 x_y_or_z = Schema.choice (members (
-    (context 0, required, Schema.boolean) ∷ (one_of (context 1) (tree (context 2) no_trees), required, p_or_q) ∷ (context 3, required, Schema.null) ∷ [])) no_parts false
+    (context 0, required, Schema.boolean) ∷ (one_of (context 1) (tree (context 2) no_trees), required, p_or_q)
+    ∷ (context 3, required, Schema.null) ∷ [])) no_parts false
 
 -- SEQUENCE { key CHOICE { object OBJECT IDENTIFIER, other OCTET STRING }, pdu OCTET STRING }
 abbrev pub connect : Schema
@@ -97,7 +100,8 @@ outer2 = extensible_sequence (Schema.boolean ∷ Schema.boolean ∷ []) ((group,
 
 -- and with a further addition OCTET STRING (SIZE (3)) OPTIONAL
 abbrev pub outer3 : Schema
-outer3 = extensible_sequence (Schema.boolean ∷ Schema.boolean ∷ []) ((group, inner) ∷ (optional, octet_string (sized 3 3)) ∷ [])
+outer3 = extensible_sequence (Schema.boolean ∷ Schema.boolean ∷ [])
+    ((group, inner) ∷ (optional, octet_string (sized 3 3)) ∷ [])
 
 -- SEQUENCE { first BOOLEAN, ..., [[ x BOOLEAN OPTIONAL ]] }
 abbrev pub with_group : Schema
@@ -119,17 +123,24 @@ default_addition = extensible_sequence [] ((default (whole (pos 3)), integer_in 
 
 -- SET { b [1] INTEGER (0..255), a [0] BOOLEAN }
 abbrev pub b_before_a : Schema
-b_before_a = set ((context 1, required, integer_in (between (pos 0) (pos 255))) ∷ (context 0, required, Schema.boolean) ∷ [])
+b_before_a = set ((context 1, required, integer_in (between (pos 0) (pos 255))) ∷ (context 0, required, Schema.boolean)
+    ∷ [])
 
 -- SET { p [PRIVATE 0] BOOLEAN OPTIONAL, q [0] BOOLEAN OPTIONAL, r [1] BOOLEAN OPTIONAL }
 abbrev pub optional_members : Schema
-optional_members = set ((private_tag 0, optional, Schema.boolean) ∷ (context 0, optional, Schema.boolean) ∷ (context 1, optional, Schema.boolean) ∷ [])
+optional_members = set ((private_tag 0, optional, Schema.boolean) ∷ (context 0, optional, Schema.boolean)
+    ∷ (context 1, optional, Schema.boolean) ∷ [])
 
 -- SET { k [5] BOOLEAN, c CHOICE { m [3] BOOLEAN, n [9] NULL } }, c untagged
 abbrev pub untagged_member : Schema
 untagged_member = set (
     (context 5, required, Schema.boolean)
-    ∷ (one_of (context 3) (tree (context 9) no_trees), required, Schema.choice (members ((context 3, required, Schema.boolean) ∷ (context 9, required, Schema.null) ∷ [])) no_parts false)
+    ∷ (
+      one_of (context 3) (tree (context 9) no_trees),
+      required,
+      Schema.choice
+          (members ((context 3, required, Schema.boolean) ∷ (context 9, required, Schema.null) ∷ [])) no_parts false,
+    )
     ∷ [])
 
 -- SEQUENCE { x BOOLEAN OPTIONAL, ... }, with some additions
@@ -166,7 +177,8 @@ abbrev pub deep_version : ℕ → Schema
 deep_version zero = Schema.cut
 deep_version (suc n) = extensible_sequence (Schema.boolean ∷ []) ((optional, nest n) ∷ [])
 
--- SEQUENCE { inner the same OPTIONAL, d DATE OPTIONAL }, unfolded to so many levels, of which a date takes two; and its value with
+-- SEQUENCE { inner the same OPTIONAL, d DATE OPTIONAL }, unfolded to so many levels, of which a date takes two; and its
+-- value with
 -- so many records inside the first and a date in the last
 abbrev pub date_at : ℕ → Schema
 date_at zero = Schema.cut

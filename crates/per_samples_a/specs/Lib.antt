@@ -5,3 +5,5 @@ pub mod Eights
 pub mod Fours
 pub mod Pairs
 pub mod Sevens
+pub mod Alternatives
+pub mod Nesteds

@@ -1,13 +1,16 @@
-//! Types whose encodings are known, written by hand over the traits of types and codecs.
+//! Numbers, strings, records and choices whose encodings are known.
 #![tactic(auto)]
 
 pub mod absent;
+pub mod alternative;
 pub mod both;
 pub mod bounded;
 pub mod eight;
 pub mod eighteen;
 pub mod four;
 pub mod half_bounded;
+pub mod nested;
 pub mod pair;
 pub mod seven;
 pub mod some_absent;
+pub mod strings;

@@ -1,3 +1,5 @@
 pub mod Colors
 pub mod Items
 pub mod OneColors
+pub mod Defaults
+pub mod Groups

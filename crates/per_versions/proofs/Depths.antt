@@ -13,9 +13,9 @@ use Rattle.per_laws.proofs.AnyDepth.{project_alike}
 use Rattle.per_laws.proofs.Successors.{newer_succeeds}
 use Rattle.per_laws.proofs.Types.{up_to}
 use Rattle.per_laws.proofs.Wider.{wider, narrower}
-use Rattle.per_depth.proofs.FewVersions.{levelled_holds}
-use Rattle.per_depth.proofs.Levelled.{levelled_type_unfolds}
-use Rattle.per_depth.proofs.NormalForms.{one_normal_form}
+use Rattle.per_laws.proofs.FewVersions.{levelled_holds}
+use Rattle.per_laws.proofs.Levelled.{levelled_type_unfolds}
+use Rattle.per_laws.proofs.NormalForms.{one_normal_form}
 use Rattle.rasn_per.specs.Complete.{AreBytes, HasNoBytes}
 use Rattle.per_versions.specs.Readings.{depth_of, normal_form, IsProjection, IsWidening}
 

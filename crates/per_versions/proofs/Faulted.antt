@@ -7,20 +7,20 @@ use Rattle.rasn_schema.specs.Lawful.{IsLawfulType}
 use Rattle.rasn_schema.specs.Levels.{Levelled}
 use Rattle.rasn_schema.specs.Normal.{normal}
 use Rattle.rasn_schema.specs.Schemas.{Schema}
-use Rattle.rasn_calls.specs.Calls.{AtDepths}
+use Rattle.rasn_traits.specs.Calls.{AtDepths}
 use Rattle.per_core.specs.Basic.{read}
 use Rattle.per_core.specs.Spellings.{Settings}
 use Rattle.per_laws.proofs.Readers.{deeper_reads}
 use Rattle.per_laws.proofs.Types.{up_to}
-use Rattle.per_depth.proofs.FewVersions.{levelled_holds}
-use Rattle.per_depth.proofs.Levelled.{levelled_type_unfolds}
+use Rattle.per_laws.proofs.FewVersions.{levelled_holds}
+use Rattle.per_laws.proofs.Levelled.{levelled_type_unfolds}
 use Rattle.per_write.specs.Faults.{IsInValue}
 use Rattle.per_write.specs.declared.error.EncodeError.{EncodeError}
 use Rattle.per_write.specs.declared.error.EncodeErrorKind.{EncodeErrorKind}
 use Rattle.per_write.specs.declared.error.EncodeErrorKind.TheVariants.{SizeConstraintNotSatisfied, ValueConstraintNotSatisfied, AlphabetConstraintNotSatisfied, IntegerTypeConversionFailed, VariantNotInChoice, RealNotSupported, TooManyAdditions, Below, AlreadyFailed, OutOfMemory, OutOfTurn}
-use Rattle.per_faults.specs.Kept.{KeepsToI128}
-use Rattle.per_faults.proofs.Faultless.{one_fault, no_fault, read_whole}
-use Rattle.per_faults.proofs.Read.{IsRead}
+use Rattle.per_versions.specs.Kept.{KeepsToI128}
+use Rattle.per_versions.proofs.Faultless.{one_fault, no_fault, read_whole}
+use Rattle.per_versions.proofs.Read.{IsRead}
 use Rattle.rasn_per.specs.Calls.{Encoded}
 use Rattle.rasn_per.specs.Complete.{AreBytes}
 use Rattle.per_versions.specs.Answers.{Passes}

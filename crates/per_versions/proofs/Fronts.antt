@@ -13,8 +13,8 @@ use Rattle.per_core.specs.Versions.{NewerType}
 use Rattle.per_core.proofs.Codes.{split_at_length}
 use Rattle.per_core.proofs.Laws.{one_front, one_value}
 use Rattle.per_laws.proofs.AnyDepth
-use Rattle.per_depth.proofs.Levelled.{levelled_type_unfolds}
-use Rattle.per_depth.proofs.Peers
+use Rattle.per_laws.proofs.Levelled.{levelled_type_unfolds}
+use Rattle.per_laws.proofs.Peers
 use Rattle.per_read.specs.declared.error.DecodeError.{DecodeError}
 use Rattle.rasn_per.specs.Calls.{DecodedFront}
 use Rattle.rasn_per.specs.Complete.{AreBytes, basically}

@@ -24,11 +24,11 @@ use Rattle.per_laws.proofs.Normals.{normal_of_normal}
 use Rattle.per_laws.proofs.Readers.{written_is_known}
 use Rattle.per_laws.proofs.Transitive.{newer_transitive}
 use Rattle.per_laws.proofs.Types.{up_to}
-use Rattle.per_depth.specs.Levels.{levels_of}
-use Rattle.per_depth.proofs.Depths
-use Rattle.per_depth.proofs.FewVersions.{levelled_holds, few_levels_are_projected, few_levels_are_widened}
-use Rattle.per_depth.proofs.Levelled.{levelled_type_unfolds, few_levels_are_read}
-use Rattle.per_depth.proofs.Peers
+use Rattle.per_laws.specs.Levels.{levels_of}
+use Rattle.per_laws.proofs.Depths
+use Rattle.per_laws.proofs.FewVersions.{levelled_holds, few_levels_are_projected, few_levels_are_widened}
+use Rattle.per_laws.proofs.Levelled.{levelled_type_unfolds, few_levels_are_read}
+use Rattle.per_laws.proofs.Peers
 use Rattle.per_read.specs.declared.error.DecodeError.{DecodeError}
 use Rattle.rasn_per.specs.Calls.{DecodedBy}
 use Rattle.rasn_per.specs.Complete.{AreBytes, HasNoBytes, basically, reading}

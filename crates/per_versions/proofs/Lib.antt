@@ -7,3 +7,13 @@ pub mod Normalised
 pub mod Passed
 pub mod Relayed
 pub mod Returned
+pub mod Families
+pub mod Faultless
+pub mod Ordered
+pub mod Read
+pub mod Spelled
+pub mod Leaves
+pub mod Parts
+pub mod Records
+pub mod Total
+pub mod OneWritten

@@ -13,11 +13,11 @@ use Rattle.per_core.proofs.Codes.{same_true}
 use Rattle.per_core.proofs.Lengths.{or_left, or_right}
 use Rattle.per_laws.proofs.Transitive.{or_both}
 use Rattle.per_laws.proofs.Types.{up_to}
-use Rattle.per_depth.specs.Written.{is_written, writes_cut, slots_write_cut, writes_cut_at}
-use Rattle.per_depth.proofs.Depths.{own_test, spelled_whole}
-use Rattle.per_depth.proofs.FewVersions.{levelled_holds}
-use Rattle.per_depth.proofs.Levelled.{levelled_type_unfolds}
-use Rattle.per_depth.proofs.Reading.{any_sorted, same_self}
+use Rattle.per_laws.specs.Written.{is_written, writes_cut, slots_write_cut, writes_cut_at}
+use Rattle.per_laws.proofs.Depths.{own_test, spelled_whole}
+use Rattle.per_laws.proofs.FewVersions.{levelled_holds}
+use Rattle.per_laws.proofs.Levelled.{levelled_type_unfolds}
+use Rattle.per_laws.proofs.Reading.{any_sorted, same_self}
 use Rattle.per_versions.specs.Readings.{depth_of, normal_form, IsInReach}
 use Rattle.per_versions.proofs.Depths as Own
 

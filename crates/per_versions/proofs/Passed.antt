@@ -16,7 +16,7 @@ use Rattle.per_laws.proofs.Normals.{bag_map}
 use Rattle.per_laws.proofs.Older.{made_of, made_both_of, slot_some, slot_meets, slot_back, in_slot}
 use Rattle.per_laws.proofs.Takes.{none_through, some_slot_is}
 use Rattle.per_laws.proofs.Transitive.{cuts, or_both}
-use Rattle.per_depth.proofs.Reading.{same_self}
+use Rattle.per_laws.proofs.Reading.{same_self}
 use Rattle.per_versions.proofs.Normalised.{elements_low, bags_low, fields_low, alternative_low}
 
 -- a value that meets no Cut meets none in normal form

@@ -13,7 +13,7 @@ use Rattle.per_core.specs.Versions.{NewerType, project}
 use Rattle.per_laws.proofs.Takes.{some_is}
 use Rattle.per_laws.proofs.Carry.{fills_carry}
 use Rattle.per_laws.proofs.Loosen.{loose, loosen}
-use Rattle.per_depth.proofs.FewVersions.{levelled_holds, older_less, newer_less}
+use Rattle.per_laws.proofs.FewVersions.{levelled_holds, older_less, newer_less}
 use Rattle.per_read.specs.declared.error.DecodeError.{DecodeError}
 use Rattle.rasn_per.specs.Calls.{DecodedBy}
 use Rattle.rasn_per.specs.Complete.{AreBytes, reading}

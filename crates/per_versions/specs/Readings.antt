@@ -6,8 +6,8 @@ use Rattle.rasn_schema.specs.Schemas.{Schema}
 use Rattle.rasn_schema.specs.Normal.{normal}
 use Rattle.per_core.specs.Canon.{bytes}
 use Rattle.per_core.specs.Versions.{project, widen}
-use Rattle.per_depth.specs.Levels.{levels_of}
-use Rattle.per_depth.specs.Written.{writes_cut}
+use Rattle.per_laws.specs.Levels.{levels_of}
+use Rattle.per_laws.specs.Written.{writes_cut}
 
 -- a depth at which every type's tree holds all of a value: two levels more than the value has
 abbrev pub depth_of : Value → ℕ

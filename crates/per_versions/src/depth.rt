@@ -5,7 +5,7 @@ ghost use Rattle.rasn_types.specs.Codecs.{variant_of};
 ghost use Rattle.rasn_types.specs.Values.{Value};
 ghost use Rattle.rasn_types.specs.declared.types.Codec.{Codec};
 ghost use Rattle.per_core.specs.Versions.{NewerType};
-ghost use Rattle.per_depth.specs.Levels.{levels_of};
+ghost use Rattle.per_laws.specs.Levels.{levels_of};
 ghost use Rattle.per_read.specs.declared.error.DecodeError.{DecodeError};
 ghost use Rattle.rasn_per.specs.Calls.{DecodedBy};
 ghost use Rattle.rasn_per.specs.Complete.{AreBytes};

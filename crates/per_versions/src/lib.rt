@@ -9,9 +9,11 @@
 pub mod chains;
 pub mod depth;
 pub mod exchange;
+pub mod faults;
 pub mod messages;
 pub mod padding;
 pub mod relays;
 pub mod remainders;
 pub mod round_trips;
 pub mod versions;
+pub mod written;

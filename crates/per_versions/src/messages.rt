@@ -1,4 +1,5 @@
-//! Messages in which additions stand that the reader doesn't know: whatever these are, at any depth, it answers the same
+//! Messages in which additions stand that the reader doesn't know: whatever these are, at any depth, it answers the
+//! same
 //! (X.691, 19.9).
 
 ghost use Rattle.std.specs.Prelude.{◌≡◌, ◌↔◌, ◌++◌, ℕ, Bool, false, List, Result, Ok};
@@ -7,7 +8,7 @@ ghost use Rattle.rasn_types.specs.Codecs.{variant_of};
 ghost use Rattle.rasn_types.specs.Values.{Value};
 ghost use Rattle.rasn_types.specs.declared.types.Codec.{Codec};
 ghost use Rattle.per_core.specs.Versions.{NewerType};
-ghost use Rattle.per_alike.specs.Alike.{AreAlike};
+ghost use Rattle.per_laws.specs.Alike.{AreAlike};
 ghost use Rattle.per_read.specs.declared.error.DecodeError.{DecodeError};
 ghost use Rattle.rasn_per.specs.Calls.{DecodedBy, DecodedFront};
 ghost use Rattle.rasn_per.specs.Complete.{reading};

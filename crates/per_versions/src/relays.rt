@@ -11,7 +11,7 @@ ghost use Rattle.per_core.specs.Versions.{NewerType};
 ghost use Rattle.per_read.specs.declared.error.DecodeError.{DecodeError};
 ghost use Rattle.per_read.specs.declared.error.DecodeErrorKind.TheVariants.{OutOfMemory};
 ghost use Rattle.per_write.specs.declared.error.EncodeError.{EncodeError};
-ghost use Rattle.per_faults.specs.Kept.{KeepsToI128};
+ghost use Rattle.per_versions.specs.Kept.{KeepsToI128};
 ghost use Rattle.rasn_per.specs.Calls.{DecodedBy, Encoded};
 ghost use Rattle.rasn_per.specs.Complete.{AreBytes};
 ghost use Rattle.per_versions.specs.Answers.{Answers, Passes};

@@ -10,7 +10,7 @@ ghost use Rattle.rasn_schema.specs.Lawful.{IsLawfulType};
 ghost use Rattle.per_read.specs.declared.error.DecodeError.{DecodeError};
 ghost use Rattle.per_write.specs.declared.error.EncodeError.{EncodeError};
 ghost use Rattle.per_write.specs.declared.error.EncodeErrorKind.TheVariants.{IntegerTypeConversionFailed, OutOfMemory};
-ghost use Rattle.per_faults.specs.Kept.{KeepsToI128};
+ghost use Rattle.per_versions.specs.Kept.{KeepsToI128};
 ghost use Rattle.rasn_per.specs.Calls.{DecodedBy, Encoded};
 ghost use Rattle.rasn_per.specs.Complete.{AreBytes, HasNoBytes};
 ghost use Rattle.per_versions.specs.Answers.{Answers};
@@ -67,7 +67,8 @@ pub fn what_was_decoded_is_decoded_again<T: Encode + Decode>()
         → Answers T.value (λ (w : Value). w ≡ normal_form type (T.value x)) answer }
 {}
 
-/// What `decode` answered to any octets, canonical or not, is encoded as the canonical octets of its normal form, unless
+/// What `decode` answered to any octets, canonical or not, is encoded as the canonical octets of its normal form,
+/// unless
 /// it is refused (`what_was_decoded_is_encoded`). What `decode` then answers to those is encoded as the same octets
 /// again: so whoever decodes and encodes makes octets canonical, in the same variant or in the other, and does so once
 /// for all (X.691, 11.1).

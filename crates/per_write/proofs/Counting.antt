@@ -19,10 +19,10 @@ use Rattle.per_write.specs.declared.error.EncodeErrorKind.{EncodeErrorKind}
 use Rattle.per_write.specs.declared.error.EncodeErrorKind.TheVariants.{SizeConstraintNotSatisfied}
 use Rattle.per_write.specs.Faults.{IsError}
 use Rattle.per_write.specs.Items.{RefusesCounted, wrong_count}
-use Rattle.per_numbers.specs.Fragments.{one_fragment}
+use Rattle.per_pieces.specs.Fragments.{one_fragment}
 use Rattle.per_write.specs.State.{State, Wrote}
 use Rattle.per_core.proofs.Lengths.{and_left, and_right}
-use Rattle.per_numbers.proofs.Fragments.{first_fragment, in_their_fragments, fragments_of_few, fragments_of_many}
+use Rattle.per_pieces.proofs.Fragments.{first_fragment, in_their_fragments, fragments_of_few, fragments_of_many}
 use Rattle.per_write.specs.Remains.{Remains}
 use Rattle.per_pieces.proofs.Writing.{then_assoc}
 use Rattle.per_write.proofs.Writing.{remains_after, remains_last, wrote_same, wrote_then}

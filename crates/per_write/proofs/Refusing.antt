@@ -8,7 +8,7 @@ use Rattle.rasn_types.specs.Codecs.{variant_of}
 use Rattle.rasn_types.specs.Values.{Value, bits, characters, octets}
 use Rattle.rasn_types.specs.Variants.{Variant}
 use Rattle.rasn_constraints.specs.Bounds.{allows, Size, any_size}
-use Rattle.rasn_calls.specs.Calls.{Written}
+use Rattle.rasn_traits.specs.Calls.{Written}
 use Rattle.per_write.specs.Rules.{encoder_rules}
 use Rattle.rasn_schema.specs.Schemas.{Schema}
 use Rattle.per_core.specs.Canon.{canon, char_writers}
@@ -19,9 +19,9 @@ use Rattle.per_write.specs.declared.error.EncodeErrorKind.{EncodeErrorKind}
 use Rattle.per_write.specs.declared.error.EncodeErrorKind.TheVariants.{AlphabetConstraintNotSatisfied, RealNotSupported, SizeConstraintNotSatisfied}
 use Rattle.per_write.specs.Faults.{at_once, IsError, IsMemory, OutsideSize, RefusesValue, Stands, HasForeign}
 use Rattle.per_write.specs.Items.{HasRefused, refused_behind, refused_here, RefusesCounted, no_memory, wrong_count, wrong_item}
-use Rattle.per_numbers.specs.Fragments.{one_fragment}
+use Rattle.per_pieces.specs.Fragments.{one_fragment}
 use Rattle.per_write.specs.State.{State, Wrote}
-use Rattle.per_numbers.proofs.Fragments.{first_fragment, length-octet_writers, fragments_of_few, fragments_of_many}
+use Rattle.per_pieces.proofs.Fragments.{first_fragment, length-octet_writers, fragments_of_few, fragments_of_many}
 use Rattle.per_write.proofs.Steps.{length-bit_writers, length-char_writers}
 use Rattle.per_pieces.proofs.Writing.{none_behind}
 use Rattle.per_write.proofs.Writing.{wrote_same}

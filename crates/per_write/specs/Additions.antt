@@ -1,4 +1,5 @@
--- The additions of an open SEQUENCE, given one after another, each that is there in an open type (ITU-T X.691, 11.2, 19.7 to 19.9).
+-- The additions of an open SEQUENCE, given one after another, each that is there in an open type (ITU-T X.691, 11.2,
+-- 19.7 to 19.9).
 use Rattle.std.specs.Prelude.{◌≡◌, ◌<◌, ◌≤◌, ◌⊎◌, Bool, true, false, ◌||◌, [], ◌∷◌, ◌++◌, length, Option, Some, None, Result, IfOk, IfErr, OnOk, OnErr}
 use Rattle.rasn_types.specs.Bits.{Bits}
 use Rattle.rasn_types.specs.Codecs.{variant_of}
@@ -74,7 +75,8 @@ pub record TakesOrNot (x : State) (result : Result Additions EncodeError) (y : S
   pub kept : y.codec ≡ x.codec
 
 -- A call that goes on with additions of which one more is given.
-pub record GivesOrNot (b : Bool) (k : Additions) (x : State) (result : Result (Unit {0}) EncodeError) (y : State) : Type 0 where
+pub record GivesOrNot (b : Bool) (k : Additions) (x : State) (result : Result (Unit {0}) EncodeError)
+    (y : State) : Type 0 where
   pub ok : OnOk result (y ≡ record x { scope = record x.scope { additions = Some (with_next k b k.opens) } })
   pub err : IfErr result (λ e. IsMemory e x)
   pub fails : OnErr result (y.failed ≡ true)
@@ -115,12 +117,24 @@ pub record OpensOrNot (x : State) (result : Result Outside EncodeError) (y : Sta
 pub record Closes (is_there : Bool) (outside : Outside) (x y : State) : Type 0 where
   pub begun : x.failed ≡ false
   pub opens : Bits
-  pub appended : AppendsBits outside.additions.opens (open_if (variant_of x.codec) is_there (settle x.pieces.list 0)) opens
-  pub same : y ≡ record x { pieces = outside.pieces; scope = record { presences = outside.presences; additions = Some (with_next outside.additions is_there opens); is_open = x.scope.is_open } }
+  pub appended : AppendsBits outside.additions.opens (open_if (variant_of x.codec) is_there
+      (settle x.pieces.list 0)) opens
+  pub same : y ≡ record x {
+    pieces = outside.pieces;
+    scope =
+        record {
+          presences = outside.presences;
+          additions = Some (with_next outside.additions is_there opens);
+          is_open =
+              x.scope.is_open;
+        };
+  }
 
 -- A call that puts what was written, as the contents of an open type, behind the open types of other additions.
-pub record PutsAddition (k : Additions) (before : Pieces) (x : State) (result : Result Additions EncodeError) (y : State) : Type 0 where
-  pub opens : IfOk result (λ l. AppendsBits k.opens (open_bits (variant_of x.codec) (Some (settle x.pieces.list 0))) l.opens)
+pub record PutsAddition (k : Additions) (before : Pieces) (x : State) (result : Result Additions EncodeError)
+    (y : State) : Type 0 where
+  pub opens : IfOk result (λ l. AppendsBits k.opens (open_bits (variant_of x.codec)
+      (Some (settle x.pieces.list 0))) l.opens)
   pub others : IfOk result (λ l. l ≡ record k { opens = l.opens })
   pub same : OnOk result (y ≡ record x { pieces = before })
   pub err : IfErr result (λ e. IsMemory e x)
@@ -128,7 +142,8 @@ pub record PutsAddition (k : Additions) (before : Pieces) (x : State) (result : 
   pub kept : y.codec ≡ x.codec
 
 -- A call that closes the open type of an addition.
-pub record ClosesOrNot (is_there : Bool) (outside : Outside) (x : State) (result : Result (Unit {0}) EncodeError) (y : State) : Type 0 where
+pub record ClosesOrNot (is_there : Bool) (outside : Outside) (x : State) (result : Result (Unit {0}) EncodeError)
+    (y : State) : Type 0 where
   pub ok : OnOk result (Closes is_there outside x y)
   pub err : IfErr result (λ e. IsMemory e x)
   pub fails : OnErr result (y.failed ≡ true)

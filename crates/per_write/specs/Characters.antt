@@ -29,9 +29,11 @@ abbrev pub IsField : Alphabet → List ℕ → ℕ → ℕ → ℕ → Type 0
 IsField alphabet cs start end number =
     let ws = char_writers alphabet.variant alphabet.characters cs in
     let bits = to_bits ((end - start) * char_width alphabet.variant alphabet.characters) number in
-    (last : ℕ) → end ≤ last → (p : ℕ) → one_by_one (slice_range ws start last) p ≡ (just bits ▹ one_by_one (slice_range ws end last)) p
+    (last : ℕ) → end ≤ last → (p : ℕ) → one_by_one (slice_range ws start last) p
+    ≡ (just bits ▹ one_by_one (slice_range ws end last)) p
 
--- octets are the characters from an index on and before another, each of which is written as its own value, in at most eight bits
+-- octets are the characters from an index on and before another, each of which is written as its own value, in at most
+-- eight bits
 pub record AreOwnBetween (alphabet : Alphabet) (cs : List ℕ) (start end : ℕ) (octets : List ℕ) : Type 0 where
   pub these : octets ≡ slice_range cs start end
   pub own : AreOwn alphabet octets
@@ -39,4 +41,5 @@ pub record AreOwnBetween (alphabet : Alphabet) (cs : List ℕ) (start end : ℕ)
 
 -- one of some characters has no encoding, as it isn't permitted
 abbrev pub IsRefused : Alphabet → List ℕ → Type 0
-IsRefused alphabet cs = HasRefused (char_writers alphabet.variant alphabet.characters cs) × HasForeign alphabet.characters cs
+IsRefused alphabet cs = HasRefused (char_writers alphabet.variant alphabet.characters cs)
+    × HasForeign alphabet.characters cs

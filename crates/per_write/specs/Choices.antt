@@ -1,4 +1,5 @@
--- The index of a CHOICE: zeros that are kept for it where the choice is opened, and given where it is closed (ITU-T X.691, 23.6).
+-- The index of a CHOICE: zeros that are kept for it where the choice is opened, and given where it is closed (ITU-T
+-- X.691, 23.6).
 use Rattle.std.specs.Prelude.{ℕ, ◌+◌, ◌≡◌, ◌<◌, true, false, if◌then◌else◌, nat_le, List, [], ◌++◌, replicate, None, Result, IfOk, IfErr, OnOk, OnErr}
 use Rattle.rasn_types.specs.Bits.{to_bits, width}
 use Rattle.rasn_types.specs.Codecs.{variant_of}
@@ -29,7 +30,11 @@ pub record OpensIndex (n : ℕ) (x : State) (outside : Scope) (y : State) : Type
   pub padded : Pieces
   pub is_padded : Appends x.pieces (index_padding (variant_of x.codec) n) padded
   pub pieces : y.pieces ≡ with_bits padded (replicate (index_width (variant_of x.codec) n) false)
-  pub place : y.scope ≡ record { presences = record { place = bit_count padded.list; left = 0 }; additions = None; is_open = true }
+  pub place : y.scope ≡ record {
+    presences = record { place = bit_count padded.list; left = 0 };
+    additions = None;
+    is_open = true;
+  }
 
 -- A call that makes room for an index, or finds no memory.
 pub record OpensIndexOrNot (n : ℕ) (x : State) (result : Result Scope EncodeError) (y : State) : Type 0 where
@@ -41,11 +46,14 @@ pub record OpensIndexOrNot (n : ℕ) (x : State) (result : Result Scope EncodeEr
 -- the w zeros that stand at a place become the low bits of a number, highest first
 abbrev pub IsFilled : ℕ → ℕ → ℕ → List Piece → List Piece → Type 0
 IsFilled place w number before behind = (front rest : List Piece) →
-    before ≡ front ++ (plain (replicate w false) ++ rest) → place ≡ bit_count front → behind ≡ front ++ (plain (to_bits w number) ++ rest)
+    before ≡ front ++ (plain (replicate w false) ++ rest) → place ≡ bit_count front
+    → behind ≡ front ++ (plain (to_bits w number) ++ rest)
 
 -- A call that gives the index i of one of n alternatives, where room is kept for it: what waited outside comes back.
-pub record FillsIndexOrNot (n i : ℕ) (outside : Scope) (x : State) (result : Result (Unit {0}) EncodeError) (y : State) : Type 0 where
-  pub ok : OnOk result (IsFilled x.scope.presences.place (index_width (variant_of x.codec) n) i x.pieces.list y.pieces.list)
+pub record FillsIndexOrNot (n i : ℕ) (outside : Scope) (x : State) (result : Result (Unit {0}) EncodeError)
+    (y : State) : Type 0 where
+  pub ok : OnOk result (IsFilled x.scope.presences.place
+      (index_width (variant_of x.codec) n) i x.pieces.list y.pieces.list)
   pub place : OnOk result (y.pieces.placed ≡ x.pieces.placed)
   pub same : OnOk result (y ≡ record x { pieces = y.pieces; scope = outside })
   pub short : OnErr result (bit_count x.pieces.list < x.scope.presences.place + index_width (variant_of x.codec) n)

@@ -10,7 +10,7 @@ use Rattle.rasn_schema.specs.Choices.{alternative_in, choice_of}
 use Rattle.rasn_schema.specs.Lists.{list_value}
 use Rattle.rasn_schema.specs.Records.{record_value}
 use Rattle.rasn_schema.specs.Schemas.{by_tag, Schema, Parts, part, Presence, TagTree}
-use Rattle.rasn_calls.specs.Additions.{extended}
+use Rattle.rasn_traits.specs.Additions.{extended}
 use Rattle.per_core.specs.Canon.{canon, shown}
 use Rattle.per_write.specs.State.{State}
 use Rattle.per_write.specs.declared.error.EncodeError.{EncodeError}
@@ -64,14 +64,19 @@ abbrev pub IsPastBounds : Schema → Value → Type 0
 IsPastBounds (Schema.number bounds mark range) (whole z) = IsPast bounds z
 IsPastBounds _ _ = ⊥
 
--- X.691 16, 17, 20, 22, 30: the count of a string's items, of a list's elements or of a bag's members is outside a size that isn't
+-- X.691 16, 17, 20, 22, 30: the count of a string's items, of a list's elements or of a bag's members is outside a size
+-- that isn't
 -- extensible
 abbrev pub IsOutOfSize : ℕ → Option ℕ → Option ℕ → Schema → Value → Type 0
-IsOutOfSize count lower upper (Schema.octet_string size false) (octets os) = OutsideSize size (length os) count lower upper
+IsOutOfSize count lower upper (Schema.octet_string size false) (octets os) =
+    OutsideSize size (length os) count lower upper
 IsOutOfSize count lower upper (Schema.bit_string size false) (bits bs) = OutsideSize size (length bs) count lower upper
-IsOutOfSize count lower upper (Schema.char_string alphabet size false) (characters cs) = OutsideSize size (length cs) count lower upper
-IsOutOfSize count lower upper (Schema.list e size false) (elements vs) = OutsideSize size (length (values vs)) count lower upper
-IsOutOfSize count lower upper (Schema.set_of e size false) (bag vs) = OutsideSize size (length (values vs)) count lower upper
+IsOutOfSize count lower upper (Schema.char_string alphabet size false)
+    (characters cs) = OutsideSize size (length cs) count lower upper
+IsOutOfSize count lower upper (Schema.list e size false) (elements vs) =
+    OutsideSize size (length (values vs)) count lower upper
+IsOutOfSize count lower upper (Schema.set_of e size false) (bag vs) =
+    OutsideSize size (length (values vs)) count lower upper
 IsOutOfSize count lower upper _ _ = ⊥
 
 -- some characters have one outside an alphabet, at an index
@@ -82,7 +87,8 @@ pub record HasForeign (alphabet : List ℕ) (cs : List ℕ) : Type 0 where
 
 -- X.691 30.5: a character isn't permitted, where the size allows the count or is extensible
 abbrev pub IsForeign : Schema → Value → Type 0
-IsForeign (Schema.char_string alphabet size mark) (characters cs) = ((mark || allows size (length cs)) ≡ true) × HasForeign alphabet cs
+IsForeign (Schema.char_string alphabet size mark) (characters cs) = ((mark || allows size (length cs)) ≡ true)
+    × HasForeign alphabet cs
 IsForeign (Schema.time kind) (characters cs) = HasForeign visible cs
 IsForeign _ _ = ⊥
 
@@ -99,8 +105,10 @@ IsReal _ _ = ⊥
 
 -- X.691 19.2, 19.8: a component that is written, by its schema
 pub data HasPart (s : Schema) (v : Value) : Parts → List (Option Value) → Type 0 where
-  part_here : {t : TagTree} {p : Presence} {ps : Parts} {rs : List (Option Value)} → shown p (Some v) ≡ Some true → HasPart s v (part t p s ps) (Some v ∷ rs)
-  part_behind : {t : TagTree} {p : Presence} {c : Schema} {r : Option Value} {ps : Parts} {rs : List (Option Value)} → HasPart s v ps rs → HasPart s v (part t p c ps) (r ∷ rs)
+  part_here : {t : TagTree} {p : Presence} {ps : Parts} {rs : List (Option Value)} → shown p (Some v) ≡ Some true
+      → HasPart s v (part t p s ps) (Some v ∷ rs)
+  part_behind : {t : TagTree} {p : Presence} {c : Schema} {r : Option Value} {ps : Parts} {rs : List (Option Value)}
+      → HasPart s v ps rs → HasPart s v (part t p c ps) (r ∷ rs)
 
 -- an element of a list, or a member of a bag
 pub data HasElement (v : Value) : List Value → Type 0 where
@@ -110,16 +118,26 @@ pub data HasElement (v : Value) : List Value → Type 0 where
 -- a fault stands in a value: at once, in a component, an addition, an element or a member of it, or in its alternative
 pub data StandsIn (fault : Schema → Value → Type 0) : Schema → Value → Type 0 where
   at_once : {s : Schema} {v : Value} → fault s v → StandsIn fault s v
-  in_part : {s : Schema} {v : Value} {ps qs : Parts} {marker : Bool} {rs : List (Option Value)} (xs : List (Option Value)) → HasPart s v ps rs → StandsIn fault s v → StandsIn fault (extended ps marker qs) (record_value rs xs)
-  in_addition : {s : Schema} {v : Value} {ps qs : Parts} {marker : Bool} {xs : List (Option Value)} (rs : List (Option Value)) → HasPart s v qs xs → StandsIn fault s v → StandsIn fault (extended ps marker qs) (record_value rs xs)
+  in_part : {s : Schema} {v : Value} {ps qs : Parts} {marker : Bool} {rs : List (Option Value)}
+      (xs : List (Option Value)) → HasPart s v ps rs → StandsIn fault s v
+      → StandsIn fault (extended ps marker qs) (record_value rs xs)
+  in_addition : {s : Schema} {v : Value} {ps qs : Parts} {marker : Bool} {xs : List (Option Value)}
+      (rs : List (Option Value)) → HasPart s v qs xs → StandsIn fault s v
+      → StandsIn fault (extended ps marker qs) (record_value rs xs)
   -- X.691 21.1: in the SEQUENCE of a SET's components in ascending order of their smallest tags
   in_set : {ps qs : Parts} {marker : Bool} (rs xs : List (Option Value))
-      → StandsIn fault (extended (canonised ps) marker qs) (record_value (canonised_slots ps rs) xs) → StandsIn fault (Schema.sequence by_tag ps marker qs) (record_value rs xs)
-  in_element : {e : Schema} {size : Size} {mark : Bool} {v : Value} {vs : List Value} → HasElement v vs → StandsIn fault e v → StandsIn fault (Schema.list e size mark) (list_value vs)
-  in_member : {e : Schema} {size : Size} {mark : Bool} {v : Value} {vs : List Value} → HasElement v vs → StandsIn fault e v → StandsIn fault (Schema.set_of e size mark) (bag_of vs)
-  in_alternative : {s : Schema} {v : Value} {ps qs : Parts} {marker : Bool} {d : Side} {k : ℕ} → alternative_in (choice_of ps marker qs) d k ≡ Some s → StandsIn fault s v → StandsIn fault (choice_of ps marker qs) (alternative d k v)
+      → StandsIn fault (extended (canonised ps) marker qs) (record_value (canonised_slots ps rs) xs)
+      → StandsIn fault (Schema.sequence by_tag ps marker qs) (record_value rs xs)
+  in_element : {e : Schema} {size : Size} {mark : Bool} {v : Value} {vs : List Value} → HasElement v vs
+      → StandsIn fault e v → StandsIn fault (Schema.list e size mark) (list_value vs)
+  in_member : {e : Schema} {size : Size} {mark : Bool} {v : Value} {vs : List Value} → HasElement v vs
+      → StandsIn fault e v → StandsIn fault (Schema.set_of e size mark) (bag_of vs)
+  in_alternative : {s : Schema} {v : Value} {ps qs : Parts} {marker : Bool} {d : Side} {k : ℕ}
+      → alternative_in (choice_of ps marker qs) d k ≡ Some s → StandsIn fault s v
+      → StandsIn fault (choice_of ps marker qs) (alternative d k v)
 
--- Where a kind's fault stands in a value. No list of additions is longer than its schema's, and no choice that a lawful type
+-- Where a kind's fault stands in a value. No list of additions is longer than its schema's, and no choice that a lawful
+-- type
 -- writes has a tag of none of its alternatives; the last three are none of a value.
 abbrev pub IsInValue : EncodeErrorKind → Schema → Value → Type 0
 IsInValue (SizeConstraintNotSatisfied length lower upper) s v = StandsIn (IsOutOfSize length lower upper) s v

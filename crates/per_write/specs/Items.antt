@@ -12,10 +12,11 @@ use Rattle.per_write.specs.declared.error.EncodeError.{EncodeError}
 use Rattle.per_write.specs.declared.error.EncodeErrorKind.{EncodeErrorKind}
 use Rattle.per_write.specs.declared.error.EncodeErrorKind.TheVariants.{SizeConstraintNotSatisfied}
 use Rattle.per_write.specs.Faults.{IsError, IsMemory, OutsideSize}
-use Rattle.per_numbers.specs.Fragments.{one_fragment}
+use Rattle.per_pieces.specs.Fragments.{one_fragment}
 use Rattle.per_write.specs.State.{Puts, State}
 
--- what a length counts: of which kind its items are, how each is written, and the fault that a kind of error names in them
+-- what a length counts: of which kind its items are, how each is written, and the fault that a kind of error names in
+-- them
 pub record CountedItems : Type 1 where
   pub kind : Counted
   pub writers : Variant → List Writer
@@ -27,7 +28,8 @@ pub data HasRefused : List Writer → Type 0 where
   refused_behind : {w : Writer} {ws : List Writer} → HasRefused ws → HasRefused (w ∷ ws)
 
 -- an item is refused, and the error's fault stands in the items
-pub record RefusesItem (fault : EncodeErrorKind → Type 0) (items : List Writer) (e : EncodeError) (x : State) : Type 0 where
+pub record RefusesItem (fault : EncodeErrorKind → Type 0) (items : List Writer) (e : EncodeError)
+    (x : State) : Type 0 where
   pub refused : HasRefused items
   pub stands : fault e.kind
   pub codec_is : e.codec ≡ x.codec
@@ -36,13 +38,16 @@ pub record RefusesItem (fault : EncodeErrorKind → Type 0) (items : List Writer
 abbrev pub IsMemoryOrItem : (EncodeErrorKind → Type 0) → List Writer → EncodeError → State → Type 0
 IsMemoryOrItem fault items e x = IsMemory e x ⊎ RefusesItem fault items e x
 
--- why items under a size constraint are not written: want of memory; their count, where the constraint isn't extensible; or, where
+-- why items under a size constraint are not written: want of memory; their count, where the constraint isn't
+-- extensible; or, where
 -- the count is allowed or the constraint is extensible, one of them
-pub data RefusesCounted (size : Size) (mark : Bool) (fault : EncodeErrorKind → Type 0) (items : List Writer) (e : EncodeError) (x : State) : Type 0 where
+pub data RefusesCounted (size : Size) (mark : Bool) (fault : EncodeErrorKind → Type 0) (items : List Writer)
+    (e : EncodeError) (x : State) : Type 0 where
   no_memory : IsMemory e x → RefusesCounted size mark fault items e x
   wrong_count : {lower upper : Option ℕ} → mark ≡ false → OutsideSize size (length items) (length items) lower upper →
       IsError (SizeConstraintNotSatisfied (length items) lower upper) e x → RefusesCounted size mark fault items e x
-  wrong_item : (mark || allows size (length items)) ≡ true → RefusesItem fault items e x → RefusesCounted size mark fault items e x
+  wrong_item : (mark || allows size (length items)) ≡ true → RefusesItem fault items e x
+      → RefusesCounted size mark fault items e x
 
 -- the items from an index on and before another, one after another
 abbrev pub items_between : ℕ → ℕ → CountedItems → Variant → Writer
@@ -62,16 +67,20 @@ unconstrained_items items a = counted_in a any_size items.kind (items.writers a)
 
 -- bounds allow the count of items
 abbrev pub AllowsItems : Option ℕ → Option ℕ → CountedItems → Type 0
-AllowsItems lower upper items = (a : Variant) → allows (record { least = lower; most = upper }) (length (items.writers a)) ≡ true
+AllowsItems lower upper items = (a : Variant) → allows (record { least = lower; most = upper })
+    (length (items.writers a)) ≡ true
 
 -- A call that writes items in some form: an error says that memory ran out, or that an item is refused.
-abbrev pub PutsItems : CountedItems → (CountedItems → Variant → Writer) → State → Result (Unit {0}) EncodeError → State → Type 0
+abbrev pub PutsItems : CountedItems → (CountedItems → Variant → Writer) → State → Result (Unit {0}) EncodeError → State
+    → Type 0
 PutsItems items form x result y =
     let a = variant_of x.codec in Puts (IsMemoryOrItem items.fault (items.writers a)) (form items a) x result y
 
 -- X.691 16, 17, 20, 30.5: a call that writes items under the size constraint in use
-abbrev pub PutsCounted : Option (Extensible (Bounded ℕ)) → CountedItems → State → Result (Unit {0}) EncodeError → State → Type 0
+abbrev pub PutsCounted : Option (Extensible (Bounded ℕ)) → CountedItems → State → Result (Unit {0}) EncodeError → State
+    → Type 0
 PutsCounted size items x result y =
     let a = variant_of x.codec in
     let all = items.writers a in
-    Puts (RefusesCounted (size_in size) (is_marked size) items.fault all) (counted a (size_in size) (is_marked size) items.kind all) x result y
+    Puts (RefusesCounted (size_in size) (is_marked size) items.fault all)
+    (counted a (size_in size) (is_marked size) items.kind all) x result y

@@ -1,4 +1,5 @@
--- The presence bits of a SEQUENCE: zeros that are kept for them where it is opened, and given one after another (ITU-T X.691, 19.2).
+-- The presence bits of a SEQUENCE: zeros that are kept for them where it is opened, and given one after another (ITU-T
+-- X.691, 19.2).
 use Rattle.std.specs.Prelude.{suc, ◌+◌, ◌≡◌, ◌<◌, ◌≤◌, ◌⊎◌, Bool, true, false, Result, IfErr, OnOk, OnErr}
 use Rattle.per_pieces.specs.Pieces.{bit_count, with_bit}
 use Rattle.per_write.specs.declared.error.EncodeError.{EncodeError}
@@ -11,7 +12,11 @@ pub record Marks (x : State) (b : Bool) (y : State) : Type 0 where
   pub begun : x.failed ≡ false
   pub within : x.scope.presences.place < bit_count x.pieces.list
   pub some : x.scope.presences.left ≡ suc y.scope.presences.left
-  pub same : y ≡ record x { pieces = with_bit x.pieces x.scope.presences.place b; scope = record x.scope { presences = record { place = x.scope.presences.place + 1; left = y.scope.presences.left } } }
+  pub same : y ≡ record x {
+    pieces = with_bit x.pieces x.scope.presences.place b;
+    scope =
+        record x.scope { presences = record { place = x.scope.presences.place + 1; left = y.scope.presences.left } };
+  }
 
 -- none is left to give
 abbrev pub NoneLeft : State → Type 0

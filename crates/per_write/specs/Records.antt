@@ -1,4 +1,5 @@
--- A SEQUENCE: its presence bits and its extension bit are kept where it is opened, and its additions stand behind its root (ITU-T X.691, 19).
+-- A SEQUENCE: its presence bits and its extension bit are kept where it is opened, and its additions stand behind its
+-- root (ITU-T X.691, 19).
 use Rattle.std.specs.Prelude.{ℕ, ◌≡◌, ◌<◌, ◌⊎◌, Bool, true, false, [], ◌∷◌, ◌++◌, length, replicate, Option, Some, None, Result, IfOk, IfErr, OnOk, OnErr}
 use Rattle.rasn_types.specs.Bits.{Bits}
 use Rattle.rasn_types.specs.Codecs.{variant_of}
@@ -32,19 +33,24 @@ pub record Opens (presences : ℕ) (additions : Option ℕ) (x : State) (outside
   pub unfailed : y.failed ≡ false
   pub same : y.codec ≡ x.codec
   pub pieces : y.pieces ≡ with_bits x.pieces (extension_room additions ++ replicate presences false)
-  pub place : y.scope.presences ≡ record { place = bit_count (with_bits x.pieces (extension_room additions)).list; left = presences }
+  pub place : y.scope.presences ≡ record {
+    place = bit_count (with_bits x.pieces (extension_room additions)).list;
+    left = presences;
+  }
   pub keeps : y.scope.additions ≡ kept_additions (bit_count x.pieces.list) additions
   pub is_open : y.scope.is_open ≡ true
 
 -- A call that opens a SEQUENCE, or finds no memory.
-pub record OpensOrNot (presences : ℕ) (additions : Option ℕ) (x : State) (result : Result Scope EncodeError) (y : State) : Type 0 where
+pub record OpensOrNot (presences : ℕ) (additions : Option ℕ) (x : State) (result : Result Scope EncodeError)
+    (y : State) : Type 0 where
   pub ok : IfOk result (λ outside. Opens presences additions x outside y)
   pub err : IfErr result (λ e. IsMemory e x)
   pub fails : OnErr result (y.failed ≡ true)
   pub kept : y.codec ≡ x.codec
 
 -- A call that keeps the place of an extension bit, where there is one, or finds no memory.
-pub record KeepsOrNot (n : Option ℕ) (x : State) (result : Result (Option Additions) EncodeError) (y : State) : Type 0 where
+pub record KeepsOrNot (n : Option ℕ) (x : State) (result : Result (Option Additions) EncodeError)
+    (y : State) : Type 0 where
   pub ok : IfOk result (λ k. k ≡ kept_additions (bit_count x.pieces.list) n)
   pub same : OnOk result (y ≡ record x { pieces = with_bits x.pieces (extension_room n) })
   pub err : IfErr result (λ e. IsMemory e x)

@@ -1,5 +1,5 @@
 -- The rules of an encoder that puts a value's canonical bits behind those that were written before.
-use Rattle.rasn_calls.specs.Calls.{EncoderRules}
+use Rattle.rasn_traits.specs.Calls.{EncoderRules}
 use Rattle.per_write.specs.declared.error.EncodeError.{EncodeError}
 use Rattle.per_write.specs.declared.error.EncodeErrorKind.TheVariants.{VariantNotInChoice}
 use Rattle.per_write.specs.Faults.{IsError, IsMemory, IsAlready, RefusesValue}

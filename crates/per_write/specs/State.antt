@@ -11,7 +11,8 @@ use Rattle.per_core.specs.Canon.{canon}
 use Rattle.per_pieces.specs.Pieces.{Appends, MayBegin as MayStand, Pieces, no_pieces, settled}
 use Rattle.per_write.specs.declared.presences.Presences.{Presences}
 
--- what is kept of the additions of an open SEQUENCE: the place of its extension bit, how many additions its schema has, a bit for each
+-- what is kept of the additions of an open SEQUENCE: the place of its extension bit, how many additions its schema has,
+-- a bit for each
 -- that was given so far, and their open types, as written from position 0 on
 pub record Additions : Type 0 where
   pub extension : ℕ
@@ -19,7 +20,8 @@ pub record Additions : Type 0 where
   pub flags : Bits
   pub opens : Bits
 
--- what is kept of an open SEQUENCE or CHOICE: its presence bits that are still to be given, and, behind an extension marker, its additions;
+-- what is kept of an open SEQUENCE or CHOICE: its presence bits that are still to be given, and, behind an extension
+-- marker, its additions;
 -- and whether anything is open: a SEQUENCE, a SET, a CHOICE, a list or a bag
 pub record Scope : Type 0 where
   pub presences : Presences
@@ -74,12 +76,14 @@ abbrev pub Presents : State → Schema → Value → State → Type 0
 Presents x s v y = Wrote x (canon (variant_of x.codec) s v) y
 
 -- A call that writes one thing more: an error is one of some, and leaves the writer failed; and the variant stays.
-pub record Puts {E : Type 0} (errors : E → State → Type 0) (more : Writer) (x : State) (result : Result (Unit {0}) E) (y : State) : Type 0 where
+pub record Puts {E : Type 0} (errors : E → State → Type 0) (more : Writer) (x : State) (result : Result (Unit {0}) E)
+    (y : State) : Type 0 where
   pub ok : OnOk result (Wrote x more y)
   pub err : IfErr result (λ e. errors e x)
   pub fails : OnErr result (y.failed ≡ true)
   pub kept : y.codec ≡ x.codec
 
 -- the same of what is written in the variant in use
-abbrev pub PutsIn : {E : Type 0} → (E → State → Type 0) → (Variant → Writer) → State → Result (Unit {0}) E → State → Type 0
+abbrev pub PutsIn : {E : Type 0} → (E → State → Type 0) → (Variant → Writer) → State → Result (Unit {0}) E → State
+    → Type 0
 PutsIn errors more x result y = Puts errors (more (variant_of x.codec)) x result y

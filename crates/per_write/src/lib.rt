@@ -5,7 +5,7 @@
 ghost use Rattle.std.specs.Prelude.{◌≡◌, ◌≤◌, ◌∷◌, [], true, false, Some, OnOk, OnErr, IfOk, IfErr};
 ghost use Rattle.rasn_types.specs.Bits.{to_bits};
 ghost use Rattle.rasn_types.specs.Codecs.{variant_of};
-ghost use Rattle.rasn_calls.specs.Reals.{WritesNoReal};
+ghost use Rattle.rasn_traits.specs.Reals.{WritesNoReal};
 ghost use Rattle.per_bits.specs.Octets.{low_bits_of};
 ghost use Rattle.per_core.specs.Writers.{just, one_by_one};
 ghost use Rattle.per_core.specs.Counts.{octet_writers, unconstrained_octets};
@@ -30,8 +30,8 @@ pub use additions::Outside;
 use error::{EncodeError, EncodeErrorKind};
 pub use floating::Waiting;
 use items::Octets;
+use per_bits::per::complete_in_place;
 use per_bits::{BitList, BitReader};
-use per_complete::per::complete_in_place;
 use per_pieces::Pieces;
 use presences::Presences;
 pub use presences::Scope;

@@ -3,14 +3,14 @@
 ghost use Rattle.std.specs.Prelude.{◌≡◌, ◌≤◌, length, false};
 ghost use Rattle.rasn_types.specs.Variants.{Variant};
 ghost use Rattle.per_write.specs.Faults.{IsMemory};
-ghost use Rattle.per_numbers.specs.Fragments.{constrained_length, unconstrained_length};
+ghost use Rattle.per_pieces.specs.Fragments.{constrained_length, unconstrained_length};
 ghost use Rattle.per_write.specs.Items.{AllowsItems, PutsCounted, PutsItems, fragment_between, sized_items, unconstrained_items};
 ghost use Rattle.per_write.specs.State.{PutsIn};
 
 use crate::Writer;
 use crate::error::{EncodeError, EncodeErrorKind};
 use crate::items::Items;
-use per_numbers::lengths::{FRAGMENT, push_constrained_length, push_unconstrained_length};
+use per_pieces::lengths::{FRAGMENT, push_constrained_length, push_unconstrained_length};
 use rasn_schema::constraints::{Bounded, Extensible};
 use std::alloc::Allocator;
 

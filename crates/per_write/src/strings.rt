@@ -2,7 +2,7 @@
 
 ghost use Rattle.std.specs.Prelude.{◌≡◌, false};
 ghost use Rattle.rasn_types.specs.Values.{bits, characters, octets};
-ghost use Rattle.rasn_calls.specs.Calls.{Writes};
+ghost use Rattle.rasn_traits.specs.Calls.{Writes};
 ghost use Rattle.rasn_schema.specs.Forms.{bit_schema, character_schema, octet_schema};
 ghost use Rattle.rasn_schema.specs.Schemas.{Schema};
 ghost use Rattle.per_write.specs.Rules.{encoder_rules};

@@ -12,8 +12,8 @@ ghost use Rattle.per_write.specs.State.{Puts, PutsIn};
 use crate::Writer;
 use crate::error::EncodeError;
 use per_bits::BitList;
-use per_numbers::numbers::{push_above, push_constrained_whole, push_unconstrained_whole};
-use per_numbers::small::push_small;
+use per_pieces::numbers::{push_above, push_constrained_whole, push_unconstrained_whole};
+use per_pieces::small::push_small;
 use rasn_schema::schema::IntegerType;
 use std::alloc::{AllocError, Allocator};
 

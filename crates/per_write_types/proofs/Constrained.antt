@@ -10,7 +10,7 @@ use Rattle.rasn_types.specs.Octets.{whole_bits}
 use Rattle.rasn_types.specs.Values.{whole}
 use Rattle.rasn_types.specs.Variants.{Variant}
 use Rattle.rasn_constraints.specs.Bounds.{above, fits_i128, holds, not_above, Bounds}
-use Rattle.rasn_calls.specs.Calls.{Written}
+use Rattle.rasn_traits.specs.Calls.{Written}
 use Rattle.per_write.specs.Rules.{encoder_rules}
 use Rattle.rasn_schema.specs.Schemas.{Schema}
 use Rattle.per_core.specs.Canon.{canon}

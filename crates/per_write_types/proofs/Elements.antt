@@ -12,8 +12,8 @@ use Rattle.rasn_types.proofs.Values.{values-as_values}
 use Rattle.rasn_constraints.specs.Bounds.{allows, Size, any_size}
 use Rattle.rasn_schema.specs.Lists.{list_value}
 use Rattle.rasn_schema.specs.Schemas.{Schema}
-use Rattle.rasn_calls.specs.Calls.{Written}
-use Rattle.rasn_calls.specs.Lists.{AwaitsElement, ListForm, ListOpened, schema_of}
+use Rattle.rasn_traits.specs.Calls.{Written}
+use Rattle.rasn_traits.specs.Lists.{AwaitsElement, ListForm, ListOpened, schema_of}
 use Rattle.per_core.specs.Canon.{canon}
 use Rattle.per_core.specs.Counts.{counted, counted_in, determinant, fragment_sizes, in_fragments, list_items, marked_form}
 use Rattle.per_core.specs.Writers.{Writer, after, join, just, ◌▹◌, one_by_one, pad, padding, refused}
@@ -22,14 +22,14 @@ use Rattle.per_write.specs.declared.error.EncodeErrorKind.{EncodeErrorKind}
 use Rattle.per_write.specs.declared.error.EncodeErrorKind.TheVariants.{SizeConstraintNotSatisfied, ValueConstraintNotSatisfied, AlphabetConstraintNotSatisfied, IntegerTypeConversionFailed, VariantNotInChoice, RealNotSupported, TooManyAdditions, Below, AlreadyFailed, OutOfMemory, OutOfTurn}
 use Rattle.per_write_types.specs.declared.lists.OpenList.{OpenList}
 use Rattle.per_write.specs.Faults.{at_once, element_behind, element_here, HasElement, in_element, IsError, IsMemory, OutsideSize, RefusesValue, Stands}
-use Rattle.per_numbers.specs.Fragments.{one_fragment, unconstrained_length}
+use Rattle.per_pieces.specs.Fragments.{one_fragment, unconstrained_length}
 use Rattle.per_write.specs.Items.{HasRefused, refused_behind, refused_here}
 use Rattle.per_write_types.specs.Lists.{count_left, AmidList, Begins, BeginsItems, Enters, EntersItems, count_behind, count_memory, count_outside, fragment_and, RefusesCount, still}
 use Rattle.per_write.specs.Remains.{Remains}
 use Rattle.per_write.specs.Rules.{encoder_rules}
 use Rattle.per_pieces.proofs.Settling.{remains_behind as pieces_behind, remains_none, remains_same as pieces_same, remains_then as pieces_then}
 use Rattle.per_write.specs.State.{Puts, Scope, State, Wrote, within}
-use Rattle.per_numbers.proofs.Fragments.{first_fragment, fragments_of_few, fragments_of_many, in_their_fragments}
+use Rattle.per_pieces.proofs.Fragments.{first_fragment, fragments_of_few, fragments_of_many, in_their_fragments}
 use Rattle.per_write.proofs.Refusing.{none_counted, none_outside}
 use Rattle.per_pieces.proofs.Writing.{then_assoc, then_nothing, then_same}
 use Rattle.per_write.proofs.Writing.{remains_after, remains_all, remains_last}

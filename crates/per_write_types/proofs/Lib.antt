@@ -3,3 +3,9 @@ pub mod Elements
 pub mod Enumerations
 pub mod Moments
 pub mod Placing
+pub mod MemberOrder
+pub mod Keyed
+pub mod BagOrder
+pub mod Refusing
+pub mod Opened
+pub mod DatesWritten

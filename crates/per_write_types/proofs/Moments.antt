@@ -8,10 +8,10 @@ use Rattle.rasn_types.specs.Values.{characters, octets}
 use Rattle.rasn_types.specs.Variants.{Variant}
 use Rattle.rasn_constraints.specs.Bounds.{any_size}
 use Rattle.rasn_schema.specs.Schemas.{Schema}
-use Rattle.rasn_ber.specs.Identifiers.{are_arcs, contents}
-use Rattle.rasn_ber.proofs.Reading.{is_identifier-contents}
-use Rattle.rasn_calls.specs.Calls.{Written}
-use Rattle.rasn_calls.specs.Moments.{identifier_value}
+use Rattle.rasn_types.specs.Identifiers.{are_arcs, contents}
+use Rattle.rasn_types.proofs.ContentsRead.{is_identifier-contents}
+use Rattle.rasn_traits.specs.Calls.{Written}
+use Rattle.rasn_traits.specs.Moments.{identifier_value}
 use Rattle.per_core.specs.Canon.{canon, char_writers}
 use Rattle.per_core.specs.Counts.{char_items, counted, counted_in, unconstrained_octets}
 use Rattle.per_core.specs.Writers.{Writer, written_if}

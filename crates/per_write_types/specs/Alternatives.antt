@@ -1,4 +1,5 @@
--- A CHOICE that may have an extension marker. Where there are added alternatives, which one was written, and so what stands in front of
+-- A CHOICE that may have an extension marker. Where there are added alternatives, which one was written, and so what
+-- stands in front of
 -- it, is known behind it alone: it is written before its place is known (ITU-T X.691, 23).
 use Rattle.std.specs.Prelude.{ℕ, zero, suc, ◌≡◌, Bool, true, false, Option, Some, None, Result, IfOk, IfErr, OnErr, OnOk, IsErrAnd}
 use Rattle.rasn_types.specs.Bits.{to_bits}
@@ -16,7 +17,8 @@ use Rattle.per_write.specs.Choices.{FillsIndexOrNot, OpensIndex, index_padding, 
 use Rattle.per_write.specs.Faults.{IsError, IsMemory}
 use Rattle.per_write.specs.State.{Puts, Scope, State, Wrote, empty_scope, view}
 
--- what waits outside of a CHOICE: what is kept of the open SEQUENCE or CHOICE there, and, where the alternative that is written has no
+-- what waits outside of a CHOICE: what is kept of the open SEQUENCE or CHOICE there, and, where the alternative that is
+-- written has no
 -- place yet, what was written before
 pub record OpenChoice : Type 0 where
   pub scope : Scope
@@ -26,13 +28,15 @@ pub record OpenChoice : Type 0 where
 abbrev pub root_index : Variant → ℕ → ℕ → Writer
 root_index a n i = index_padding a n ▹ just (to_bits (index_width a n) i)
 
--- X.691 23.5 to 23.8: the alternative at a place, of n root ones, whose value is written so: one of the root in place, an added one
+-- X.691 23.5 to 23.8: the alternative at a place, of n root ones, whose value is written so: one of the root in place,
+-- an added one
 -- in an open type
 abbrev pub placed_alternative : Variant → ℕ → Place → Writer → Writer
 placed_alternative a n (Root i) value = extension_bit true false ▹ root_index a n i ▹ value
 placed_alternative a n (Added i) value = extension_bit true true ▹ small a i ▹ open_bits a (value 0)
 
--- X.691 23.5, 23.6: room is made for the index of one of n alternatives, behind the extension bit where there is a marker
+-- X.691 23.5, 23.6: room is made for the index of one of n alternatives, behind the extension bit where there is a
+-- marker
 pub record OpensInPlace (marker : Bool) (n : ℕ) (x : State) (outside : OpenChoice) (y : State) : Type 0 where
   pub none : outside.before ≡ None
   pub front : State
@@ -52,7 +56,8 @@ OpensAlternative n (Some zero) x o y = OpensInPlace true n x o y
 OpensAlternative n (Some (suc m)) x o y = OpensFloating x o y
 
 -- A call that opens a CHOICE in some way, or finds no memory.
-pub record OpensOrNot (opens : OpenChoice → State → Type 0) (x : State) (result : Result OpenChoice EncodeError) (y : State) : Type 0 where
+pub record OpensOrNot (opens : OpenChoice → State → Type 0) (x : State) (result : Result OpenChoice EncodeError)
+    (y : State) : Type 0 where
   pub ok : IfOk result (λ outside. opens outside y)
   pub err : IfErr result (λ e. IsMemory e x)
   pub fails : OnErr result (y.failed ≡ true)
@@ -68,7 +73,8 @@ pub record RefusesTurn (x : State) (result : Result (Unit {0}) EncodeError) (y :
   pub fails : y.failed ≡ true
   pub kept : y.codec ≡ x.codec
 
--- A call that closes a CHOICE of n root alternatives, by the place of the one that was written and by what was written before it, where
+-- A call that closes a CHOICE of n root alternatives, by the place of the one that was written and by what was written
+-- before it, where
 -- that waits. An added one that was written in place is refused.
 abbrev pub ClosesBehind : Option Pieces → ℕ → Place → Scope → State → Result (Unit {0}) EncodeError → State → Type 0
 ClosesBehind None n (Root i) scope x result y = FillsIndexOrNot n i scope x result y

@@ -5,7 +5,7 @@ use Rattle.rasn_types.specs.Values.{Value}
 use Rattle.rasn_types.specs.Variants.{Variant}
 use Rattle.rasn_constraints.specs.Bounds.{Size}
 use Rattle.rasn_schema.specs.Lists.{list_value}
-use Rattle.rasn_calls.specs.Lists.{ListForm, WritesNext, schema_of}
+use Rattle.rasn_traits.specs.Lists.{ListForm, WritesNext, schema_of}
 use Rattle.per_core.specs.Canon.{canon}
 use Rattle.per_core.specs.Counts.{fragment_sizes, in_fragments}
 use Rattle.per_core.specs.Writers.{Writer, refused, ◌▹◌, one_by_one}
@@ -17,7 +17,8 @@ use Rattle.per_write.specs.Remains.{Remains}
 use Rattle.per_write.specs.Rules.{encoder_rules}
 use Rattle.per_write.specs.State.{State, within}
 
--- X.691 11.9.3.8: what is left of a fragment of so many items, and then the m items behind it, in fragments of their own
+-- X.691 11.9.3.8: what is left of a fragment of so many items, and then the m items behind it, in fragments of their
+-- own
 abbrev pub fragment_and : Variant → ℕ → ℕ → List Writer → Writer
 fragment_and a m zero ws = in_fragments a (fragment_sizes m) ws
 fragment_and a m (suc n) [] = refused
@@ -38,28 +39,35 @@ abbrev pub count_left : OpenList → ℕ
 count_left l = l.fragment + count_behind l.behind
 
 -- What stands in front of items was written, in a form: of each list of so many, the rest is still to be written.
-pub record Begins (form : Variant → List Writer → Writer) (count : ℕ) (x : State) (l : OpenList) (y : State) : Type 0 where
+pub record Begins (form : Variant → List Writer → Writer) (count : ℕ) (x : State) (l : OpenList)
+    (y : State) : Type 0 where
   pub counted : count_left l ≡ count
   pub some : 0 < count → 0 < l.fragment
-  pub remains : (ws : List Writer) → length ws ≡ count → Remains x (form (variant_of x.codec) ws) y (still (variant_of x.codec) l.behind l.fragment ws)
+  pub remains : (ws : List Writer) → length ws ≡ count → Remains x (form (variant_of x.codec) ws) y
+      (still (variant_of x.codec) l.behind l.fragment ws)
 
 -- A call that writes what stands in front of so many items, of a list around which something is open or not.
-pub record BeginsItems (errors : EncodeError → State → Type 0) (form : Variant → List Writer → Writer) (count : ℕ) (around : Bool) (x : State) (result : Result OpenList EncodeError) (y : State) : Type 0 where
+pub record BeginsItems (errors : EncodeError → State → Type 0) (form : Variant → List Writer → Writer) (count : ℕ)
+    (around : Bool) (x : State) (result : Result OpenList EncodeError) (y : State) : Type 0 where
   pub ok : IfOk result (λ l. Begins form count x l y)
   pub stated : IfOk result (λ l. l.around ≡ around)
   pub err : IfErr result (λ e. errors e x)
   pub fails : OnErr result (y.failed ≡ true)
   pub kept : y.codec ≡ x.codec
 
--- What stands in front of items was written, and something is open until the list is closed: of each list of so many, the rest is still
+-- What stands in front of items was written, and something is open until the list is closed: of each list of so many,
+-- the rest is still
 -- to be written.
-pub record Enters (form : Variant → List Writer → Writer) (count : ℕ) (x : State) (l : OpenList) (y : State) : Type 0 where
+pub record Enters (form : Variant → List Writer → Writer) (count : ℕ) (x : State) (l : OpenList)
+    (y : State) : Type 0 where
   pub counted : count_left l ≡ count
-  pub remains : (ws : List Writer) → length ws ≡ count → Remains x (form (variant_of x.codec) ws) (within l.around y) (still (variant_of x.codec) l.behind l.fragment ws)
+  pub remains : (ws : List Writer) → length ws ≡ count → Remains x (form (variant_of x.codec) ws) (within l.around y)
+      (still (variant_of x.codec) l.behind l.fragment ws)
   pub is_open : y.scope.is_open ≡ true
 
 -- A call that opens a list of so many items.
-pub record EntersItems (errors : EncodeError → State → Type 0) (form : Variant → List Writer → Writer) (count : ℕ) (x : State) (result : Result OpenList EncodeError) (y : State) : Type 0 where
+pub record EntersItems (errors : EncodeError → State → Type 0) (form : Variant → List Writer → Writer) (count : ℕ)
+    (x : State) (result : Result OpenList EncodeError) (y : State) : Type 0 where
   pub ok : IfOk result (λ l. Enters form count x l y)
   pub err : IfErr result (λ e. errors e x)
   pub fails : OnErr result (y.failed ≡ true)
@@ -71,17 +79,20 @@ pub data RefusesCount (size : Size) (mark : Bool) (count : ℕ) (e : EncodeError
   count_outside : {lower upper : Option ℕ} → mark ≡ false → OutsideSize size count count lower upper →
       IsError (SizeConstraintNotSatisfied count lower upper) e x → RefusesCount size mark count e x
 
--- A list is open, which began at x: its last elements are still to be written, and with them it has its canonical bits. Something is open
+-- A list is open, which began at x: its last elements are still to be written, and with them it has its canonical bits.
+-- Something is open
 -- until it is closed.
 pub record AmidList (f : ListForm) (x : State) (vs : List Value) (l : OpenList) (y : State) : Type 0 where
   pub front : List Value
   pub all_is : f.all ≡ front ++ vs
   pub counted : count_left l ≡ length vs
-  pub remains : (let a = variant_of x.codec in Remains x (canon a (schema_of f) (list_value f.all)) (within l.around y) (still a l.behind l.fragment (map (canon a f.element) vs)))
+  pub remains : (let a = variant_of x.codec in Remains x (canon a (schema_of f) (list_value f.all)) (within l.around y)
+      (still a l.behind l.fragment (map (canon a f.element) vs)))
   pub is_open : y.scope.is_open ≡ true
 
 -- A call before each element of a list: where none is left it refuses.
-pub record NextElement (l : OpenList) (y : State) (result : Result (Unit {0}) EncodeError) (m : OpenList) (z : State) : Type 0 where
+pub record NextElement (l : OpenList) (y : State) (result : Result (Unit {0}) EncodeError) (m : OpenList)
+    (z : State) : Type 0 where
   pub next : WritesNext encoder_rules AmidList l y result m z
   pub over : count_left l ≡ 0 → IsErrAnd result (λ e. IsMemory e y ⊎ IsError OutOfTurn e y)
   pub left : OnOk result (z.failed ≡ false)

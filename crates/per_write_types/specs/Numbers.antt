@@ -16,7 +16,8 @@ use Rattle.per_write.specs.State.{Puts, State}
 abbrev pub stated_number : Extensible (Bounded ℤ) → Bounds → Schema
 stated_number stated range = Schema.number (bounds_of stated.constraint) stated.extensible range
 
--- X.691 13.2: a call that writes a number within bounds, in the form that these give it: an error says that memory ran out, or that
+-- X.691 13.2: a call that writes a number within bounds, in the form that these give it: an error says that memory ran
+-- out, or that
 -- the number is past an i128
 abbrev pub PutsWithin : Bounds → ℤ → State → Result (Unit {0}) EncodeError → State → Type 0
 PutsWithin bounds z x result y =

@@ -1,14 +1,14 @@
 //! OBJECT IDENTIFIER (X.691 24).
 
 ghost use Rattle.std.specs.Prelude.{◌≡◌, false};
-ghost use Rattle.rasn_calls.specs.Calls.{Writes};
-ghost use Rattle.rasn_calls.specs.Moments.{identifier_value};
+ghost use Rattle.rasn_traits.specs.Calls.{Writes};
+ghost use Rattle.rasn_traits.specs.Moments.{identifier_value};
 ghost use Rattle.rasn_schema.specs.Schemas.{Schema};
 ghost use Rattle.per_write.specs.Rules.{encoder_rules};
 
 use per_write::Writer;
 use per_write::error::{EncodeError, EncodeErrorKind};
-use rasn_ber::ber::{BerError, object_identifier_as_bytes};
+use rasn_types::ber::{BerError, object_identifier_as_bytes};
 use std::alloc::Allocator;
 
 /// Writes an OBJECT IDENTIFIER by its arcs (X.691 24): its contents octets behind an unconstrained length. Arcs

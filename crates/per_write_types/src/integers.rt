@@ -4,7 +4,7 @@ ghost use Rattle.std.specs.Prelude.{◌≡◌, ◌<ℤ◌, ◌↔◌, IsTrue, po
 ghost use Rattle.rasn_types.specs.Octets.{signed};
 ghost use Rattle.rasn_types.specs.Values.{whole};
 ghost use Rattle.rasn_constraints.specs.Bounds.{holds};
-ghost use Rattle.rasn_calls.specs.Calls.{Writes};
+ghost use Rattle.rasn_traits.specs.Calls.{Writes};
 ghost use Rattle.rasn_constraints.specs.Constraints.{bounds_of};
 ghost use Rattle.per_write.specs.Rules.{encoder_rules};
 ghost use Rattle.per_write_types.specs.Numbers.{PutsWithin, stated_number};

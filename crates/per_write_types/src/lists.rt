@@ -4,13 +4,13 @@ ghost use Rattle.std.specs.Prelude.{◌≡◌, true, false};
 ghost use Rattle.rasn_constraints.specs.Bounds.{allows, any_size};
 ghost use Rattle.rasn_constraints.specs.Constraints.{is_marked, size_in};
 ghost use Rattle.rasn_schema.specs.Forms.{is_size_marked, size_of};
-ghost use Rattle.rasn_calls.specs.Lists.{ClosesList, OpensList};
+ghost use Rattle.rasn_traits.specs.Lists.{ClosesList, OpensList};
 ghost use Rattle.per_core.specs.Counts.{counted, counted_in, fragment_sizes, in_fragments, list_items};
 ghost use Rattle.per_write.specs.Faults.{IsMemory};
 ghost use Rattle.per_write_types.specs.Lists.{AmidList, BeginsItems, EntersItems, NextElement, RefusesCount};
 ghost use Rattle.per_write.specs.Rules.{encoder_rules};
 
-use per_numbers::lengths::FRAGMENT;
+use per_pieces::lengths::FRAGMENT;
 use per_write::Writer;
 use per_write::error::{EncodeError, EncodeErrorKind};
 use rasn_schema::constraints::{Bounded, Extensible};

@@ -3,7 +3,7 @@
 ghost use Rattle.std.specs.Prelude.{◌≡◌, false, true, Ok, slice_get, IfOk, OnOk, OnErr, IfErr};
 ghost use Rattle.rasn_types.specs.Contents.{utc, generalized};
 ghost use Rattle.rasn_types.specs.Values.{characters};
-ghost use Rattle.rasn_calls.specs.Calls.{Writes};
+ghost use Rattle.rasn_traits.specs.Calls.{Writes};
 ghost use Rattle.rasn_schema.specs.Schemas.{Schema};
 ghost use Rattle.per_write.specs.Items.{PutsItems, unconstrained_items};
 ghost use Rattle.per_write.specs.Characters.{text_characters};

@@ -5,8 +5,8 @@ use Rattle.rasn_schema.specs.Lawful.{is_group_schema}
 use Rattle.rasn_schema.specs.Normal.{is_vacant, settle}
 use Rattle.rasn_schema.specs.Records.{record_at}
 use Rattle.rasn_schema.specs.Schemas.{group, listed, Parts, Schema}
-use Rattle.rasn_calls.specs.Additions.{AdditionClosed, AdditionWritten, ClosesAddition, presents_added, presents_skipped, refuses_added, refuses_inside, refuses_skipped, refuses_surplus, WrittenAddition}
-use Rattle.rasn_calls.specs.Calls.{EncoderRules, PresentsWell, Written}
+use Rattle.rasn_traits.specs.Additions.{AdditionClosed, AdditionWritten, ClosesAddition, presents_added, presents_skipped, refuses_added, refuses_inside, refuses_skipped, refuses_surplus, WrittenAddition}
+use Rattle.rasn_traits.specs.Calls.{EncoderRules, PresentsWell, Written}
 
 -- a record is a group's schema at each depth
 pub record_is_group : {schema : ℕ → Schema} (parts : ℕ → Parts) (marker : Bool) (additions : ℕ → Parts) → schema ≡ record_at listed parts marker additions → (n : ℕ) → is_group_schema (schema n) ≡ true

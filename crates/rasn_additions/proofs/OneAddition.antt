@@ -3,11 +3,11 @@ use Rattle.std.proofs.Common.{◌≡◌, refl, inl, inr, ◌⊎◌, true, false,
 use Rattle.rasn_types.specs.Values.{Value}
 use Rattle.rasn_schema.specs.Schemas.{TagTree, Presence, Schema, Parts, part}
 use Rattle.rasn_schema.specs.Normal.{normal, normals}
-use Rattle.rasn_calls.specs.Additions.{addition_bit, AdditionSkipped, AdditionWritten, PresentsAddition, presents_added, presents_skipped, presents_further, refuses_added, refuses_addition, refuses_further, refuses_skipped, WrittenAddition, WrittenAdditions}
-use Rattle.rasn_calls.specs.AdditionsRead.{FaultyAddition, faulty_added, ReadsAddition, reads_added, reads_lacking}
-use Rattle.rasn_calls.specs.Calls.{Answers, DecoderRules, EncoderRules, PresentsWell, Refuses}
-use Rattle.rasn_calls.specs.Presences.{left_out, slot_of}
-use Rattle.rasn_calls.proofs.Reading.{addition_of, given, lacking}
+use Rattle.rasn_traits.specs.Additions.{addition_bit, AdditionSkipped, AdditionWritten, PresentsAddition, presents_added, presents_skipped, presents_further, refuses_added, refuses_addition, refuses_further, refuses_skipped, WrittenAddition, WrittenAdditions}
+use Rattle.rasn_traits.specs.AdditionsRead.{FaultyAddition, faulty_added, ReadsAddition, reads_added, reads_lacking}
+use Rattle.rasn_traits.specs.Calls.{Answers, DecoderRules, EncoderRules, PresentsWell, Refuses}
+use Rattle.rasn_traits.specs.Presences.{left_out, slot_of}
+use Rattle.rasn_traits.proofs.Reading.{addition_of, given, lacking}
 use Rattle.rasn_additions.specs.OneAddition.{normal_addition}
 
 module _ {E X : Type 0} (rules : EncoderRules E X) where

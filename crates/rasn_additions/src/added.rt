@@ -7,17 +7,17 @@ ghost use Rattle.rasn_constraints.specs.declared.constraints.Constraint.{Constra
 ghost use Rattle.rasn_schema.specs.Schemas.{leaf, Parts, no_parts, part};
 ghost use Rattle.rasn_schema.specs.Records.{own_or};
 ghost use Rattle.rasn_schema.specs.Fields.{Shape, shape_of, tag_of};
-ghost use Rattle.rasn_calls.specs.Additions.{WritesAdditions};
-ghost use Rattle.rasn_calls.specs.AdditionsRead.{TakesAdditions};
+ghost use Rattle.rasn_traits.specs.Additions.{WritesAdditions};
+ghost use Rattle.rasn_traits.specs.AdditionsRead.{TakesAdditions};
 ghost use Rattle.rasn_record.specs.Lists.{behind, first_tag, first_given};
 
 use crate::additions::{DecodeAddition, EncodeAddition};
-use rasn_calls::parts::{DecodeAdditions, EncodeAdditions};
 use rasn_codec::codec::{Decoder, Encoder};
 use rasn_record::cells::{Cell, End, behind, first_tag, given_or_own};
 use rasn_schema::constraints::Constraint;
 use rasn_schema::fields::Field;
 use rasn_schema::schema::AsnType;
+use rasn_traits::parts::{DecodeAdditions, EncodeAdditions};
 
 /// Additions of a record that are still to be given, of which lists state the tags and the constraints.
 pub trait EncodeAdditionCells {

@@ -4,7 +4,7 @@ ghost use Rattle.std.specs.Prelude.{ℕ, Option, Some};
 ghost use Rattle.rasn_types.specs.Values.{Value};
 ghost use Rattle.rasn_schema.specs.Fields.{tagged};
 ghost use Rattle.rasn_schema.specs.Schemas.{Presence, required, optional, group};
-ghost use Rattle.rasn_calls.specs.Presences.{slot_of};
+ghost use Rattle.rasn_traits.specs.Presences.{slot_of};
 ghost use Rattle.rasn_additions.specs.OneAddition.{ReadsOneAddition, WritesAddition};
 ghost use Rattle.rasn_record.specs.Slots.{slot_levels};
 

@@ -1,21 +1,22 @@
 //! The calls of every encoder that give the additions behind an extension marker, and those of every decoder that read
-//! them, by the types of their values; and additions by their list, as cells of which the macros of `rasn_below` make an
+//! them, by the types of their values; and additions by their list, as cells of which the macros of `rasn_below` make
+//! an
 //! author's list.
 #![tactic(auto)]
 
 ghost use Rattle.std.specs.Prelude.{◌≡◌, Option, Some, option_map};
-ghost use Rattle.rasn_calls.specs.Additions.{GivesAddition, GivesGroup};
-ghost use Rattle.rasn_calls.specs.AdditionsRead.{TakesAddition};
-ghost use Rattle.rasn_calls.specs.Presences.{slot_of};
+ghost use Rattle.rasn_traits.specs.Additions.{GivesAddition, GivesGroup};
+ghost use Rattle.rasn_traits.specs.AdditionsRead.{TakesAddition};
+ghost use Rattle.rasn_traits.specs.Presences.{slot_of};
 
 pub mod added;
 pub mod additions;
 
-use rasn_calls::decoder::Decoder;
-use rasn_calls::encoder::Encoder;
 use rasn_codec::codec::{Decode, Encode};
 use rasn_schema::fields::AdditionGroup;
 use rasn_schema::schema::Constraints;
+use rasn_traits::decoder::Decoder;
+use rasn_traits::encoder::Encoder;
 use rasn_types::types::{Identifier, Tag};
 
 /// What is given of an addition: a value, or an `Option` of one, by reference.
@@ -57,7 +58,8 @@ impl<'a, T: Encode> AdditionValue for Option<&'a T> {
 /// each addition of the type, in the order of `EXTENDED_FIELDS`.
 pub trait ExtensionEncoder: Encoder {
     /// Gives the next addition (X.691 19.7 to 19.9): its value in an open type, under a tag, constraints and a name; or
-    /// that it is `None`, where it is absent, or at its default. One that is required is always there. One addition more
+    /// that it is `None`, where it is absent, or at its default. One that is required is always there. One addition
+    /// more
     /// than the type has is refused.
     final fn encode_extension_addition<V: AdditionValue>(
         &mut self,
@@ -77,7 +79,8 @@ pub trait ExtensionEncoder: Encoder {
         self.close_addition(outside)
     }
 
-    /// Gives the next addition, which is a group of additions (X.691 19.9): a SEQUENCE in an open type, under a name; or
+    /// Gives the next addition, which is a group of additions (X.691 19.9): a SEQUENCE in an open type, under a name;
+    /// or
     /// nothing, where it is `None`, or holds nothing.
     final fn encode_extension_addition_group<T: Encode + AdditionGroup>(
         &mut self,

@@ -1,9 +1,10 @@
--- What stands between the calls of a type by hand: the laws of calls, of the parts of a scope, and of a reader by index.
-pub use Rattle.rasn_calls.specs.Calls.{AtDepths, DecoderRules, DecodesWell, EncoderRules, Reads}
-pub use Rattle.rasn_calls.specs.Presences.{left_out}
-pub use Rattle.rasn_calls.specs.Optionals.{ReadsComponent}
-pub use Rattle.rasn_calls.specs.Scopes.{WrittenPart, WrittenParts, presents_end, presents_next, refuses_here}
-pub use Rattle.rasn_calls.specs.Scopes.{AnswersParts, reads_end, reads_left_out, reads_next, reads_required, reads_there}
-pub use Rattle.rasn_calls.specs.Additions.{WritesAdditions, presents_no_more}
-pub use Rattle.rasn_calls.specs.AdditionsRead.{AnswersAdditions, ReadsAddition, ReadsAdditions, TakesAdditions, reads_further, reads_no_more}
-pub use Rattle.rasn_set_calls.specs.Components.{Gathers, gathers_end, gathers_gap, gathers_item, IsMade, ItemAnswered, StandsAt, stands_behind, stands_first}
+-- What stands between the calls of a type by hand: the laws of calls, of the parts of a scope, and of a reader by
+-- index.
+pub use Rattle.rasn_traits.specs.Calls.{AtDepths, DecoderRules, DecodesWell, EncoderRules, Reads}
+pub use Rattle.rasn_traits.specs.Presences.{left_out}
+pub use Rattle.rasn_traits.specs.Optionals.{ReadsComponent}
+pub use Rattle.rasn_traits.specs.Scopes.{WrittenPart, WrittenParts, presents_end, presents_next, refuses_here}
+pub use Rattle.rasn_traits.specs.Scopes.{AnswersParts, reads_end, reads_left_out, reads_next, reads_required, reads_there}
+pub use Rattle.rasn_traits.specs.Additions.{WritesAdditions, presents_no_more}
+pub use Rattle.rasn_traits.specs.AdditionsRead.{AnswersAdditions, ReadsAddition, ReadsAdditions, TakesAdditions, reads_further, reads_no_more}
+pub use Rattle.rasn_sets.specs.Components.{Gathers, gathers_end, gathers_gap, gathers_item, IsMade, ItemAnswered, StandsAt, stands_behind, stands_first}

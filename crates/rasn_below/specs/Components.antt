@@ -5,7 +5,7 @@ use Rattle.rasn_constraints.specs.declared.constraints.Constraints.{Constraints}
 use Rattle.rasn_schema.specs.Schemas
 use Rattle.rasn_schema.specs.Schemas.{Schema}
 use Rattle.rasn_schema.specs.Forms.{is_size_marked, size_of}
-use Rattle.rasn_calls.specs.Moments.{date_at}
+use Rattle.rasn_traits.specs.Moments.{date_at}
 use Rattle.rasn_sets.specs.Bags.{set_at, set_levelled}
 use Rattle.rasn_useful.specs.Dates.{date_levelled}
 pub use Rattle.rasn_schema.specs.Components.{Component, Chosen, chosen, chosen_behind, fields_of, parts_of, variants_in, fields_described}
@@ -16,7 +16,7 @@ pub use Rattle.rasn_schema.specs.Components.{boolean, null, integer, bit_string,
 pub use Rattle.rasn_schema.specs.Components.{utf8_string, numeric_string, printable_string, ia5_string, visible_string, bmp_string}
 pub use Rattle.rasn_schema.specs.Components.{sequence, sequence_of, choice, extensible_choice}
 pub use Rattle.rasn_schema.specs.Enumerations.{all_items, extensible_items}
-pub use Rattle.rasn_set_record.specs.SetRecords.{set}
+pub use Rattle.rasn_sets.specs.SetRecords.{set}
 pub use Rattle.rasn_additions.specs.ExtendedRecords.{extended_at, extended_by, extended_levelled, extended_sequence, group}
 
 -- OBJECT IDENTIFIER (X.680 32)
@@ -50,7 +50,8 @@ graphic_string = simple 25 (Schema.text other) tt
 abbrev pub general_string : Component
 general_string = simple 27 (Schema.text other) tt
 
--- a value whose type isn't known, as octets in an open type (X.691 11.2); it has no tag of its own, and 0 stands for one
+-- a value whose type isn't known, as octets in an open type (X.691 11.2); it has no tag of its own, and 0 stands for
+-- one
 abbrev pub open_type : Component
 open_type = simple 0 Schemas.any tt
 

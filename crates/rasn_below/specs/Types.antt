@@ -19,7 +19,7 @@ pub use Rattle.rasn_schema.specs.Choices.{VariantShape, choice_at, choice_levell
 pub use Rattle.rasn_schema.specs.Lists.{list_at}
 pub use Rattle.rasn_schema.specs.Fields.{in_tag_order, shapes_from, tagged}
 pub use Rattle.rasn_schema.specs.Canonised.{canonised, canonised_slots}
-pub use Rattle.rasn_calls.specs.Moments.{date_at}
+pub use Rattle.rasn_traits.specs.Moments.{date_at}
 pub use Rattle.rasn_sets.specs.Bags.{set_at as set_of_at, set_levelled as set_of_levelled}
-pub use Rattle.rasn_set_record.specs.SetRecords.{set_at, set_levelled, set_tag}
+pub use Rattle.rasn_sets.specs.SetRecords.{set_at, set_levelled, set_tag}
 pub use Rattle.rasn_useful.specs.Dates.{date_levelled}

@@ -5,8 +5,8 @@ unfoldable pub use Rattle.rasn_types.specs.Values.{same, bag_of}
 pub use Rattle.rasn_types.specs.Contents.{utc}
 pub use Rattle.rasn_schema.specs.Components.{chosen_value, sequence_value}
 pub use Rattle.rasn_schema.specs.Records.{record_value}
-pub use Rattle.rasn_calls.specs.Moments.{identifier_value}
-pub use Rattle.rasn_calls.specs.Presences.{slot_of}
-pub use Rattle.rasn_calls.specs.Scopes.{deeper_of}
+pub use Rattle.rasn_traits.specs.Moments.{identifier_value}
+pub use Rattle.rasn_traits.specs.Presences.{slot_of}
+pub use Rattle.rasn_traits.specs.Scopes.{deeper_of}
 pub use Rattle.rasn_record.specs.Slots.{slot_levels}
-pub use Rattle.rasn_set_record.specs.SetRecords.{set_value}
+pub use Rattle.rasn_sets.specs.SetRecords.{set_value}

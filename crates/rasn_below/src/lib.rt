@@ -14,7 +14,6 @@ mod sets;
 pub mod types;
 
 pub use rasn_additions::{added, additions};
-pub use rasn_calls::parts::NoAdditions;
 pub use rasn_codec::alternatives::CodedAlternatives;
 pub use rasn_codec::codec::{Decode, Decoder, Encode, Encoder};
 pub use rasn_codec::kinds::ByKind;
@@ -30,4 +29,5 @@ pub use rasn_schema::items::{EnumeratedKind, ItemCounts, Items, Place};
 pub use rasn_schema::kinds::OfKind;
 pub use rasn_schema::schema::{AsnType, Constraints};
 pub use rasn_schema::types::{Class, Tag};
-pub use rasn_set_record::{SetComponents, SetKind, SetRecord, ordered};
+pub use rasn_sets::{SetComponents, SetKind, SetRecord, ordered};
+pub use rasn_traits::parts::NoAdditions;

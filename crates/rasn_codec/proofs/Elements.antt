@@ -7,9 +7,9 @@ use Rattle.rasn_constraints.specs.Bounds.{Size}
 use Rattle.rasn_schema.specs.Schemas.{Schema}
 use Rattle.rasn_schema.specs.Lists.{deepest, list_at, list_value}
 use Rattle.rasn_schema.specs.Normal.{normal}
-use Rattle.rasn_calls.specs.Calls.{AtDepths, EncoderRules, Written}
-use Rattle.rasn_calls.specs.Lists.{Amid, AwaitsElement, ClosesList, ListForm, ListOpened, schema_of, WritesNext}
-use Rattle.rasn_calls.proofs.Writing.{at_suc}
+use Rattle.rasn_traits.specs.Calls.{AtDepths, EncoderRules, Written}
+use Rattle.rasn_traits.specs.Lists.{Amid, AwaitsElement, ClosesList, ListForm, ListOpened, schema_of, WritesNext}
+use Rattle.rasn_traits.proofs.Writing.{at_suc}
 
 -- the normal form of a list has those of its elements
 normal-list : (e : Schema) (size : Size) (mark : Bool) (vs : List Value) → normal (Schema.list e size mark) (list_value vs) ≡ list_value (map (normal e) vs)

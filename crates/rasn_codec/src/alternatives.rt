@@ -3,7 +3,7 @@
 ghost use Rattle.rasn_schema.specs.Choices.{choices_of};
 ghost use Rattle.rasn_schema.specs.Components.{chosen_value, components_behind, parts_of};
 ghost use Rattle.rasn_schema.specs.Fields.{tag_of};
-ghost use Rattle.rasn_calls.specs.Choices.{TakesAlternative, WritesChosen};
+ghost use Rattle.rasn_traits.specs.Choices.{TakesAlternative, WritesChosen};
 
 use crate::codec::{DecodeChoice, Decoder, DecoderExt, Encoder};
 use crate::kinds::{DecodeKind, EncodeKind};

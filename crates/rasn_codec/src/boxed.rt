@@ -1,6 +1,6 @@
 //! How values in boxes are written and read: as what they hold.
 
-ghost use Rattle.rasn_calls.specs.Boxes.{Holds};
+ghost use Rattle.rasn_traits.specs.Boxes.{Holds};
 
 use crate::codec::{Decode, Decoder, Encode, Encoder};
 use rasn_schema::schema::Constraints;

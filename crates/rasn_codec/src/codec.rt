@@ -1,17 +1,17 @@
 //! The traits of values that can be encoded and decoded, and those of encoders and decoders.
 
 ghost use Rattle.std.specs.Prelude.{◌≡◌, true};
-ghost use Rattle.rasn_calls.specs.Calls.{Encodes, Reads};
+ghost use Rattle.rasn_traits.specs.Calls.{Encodes, Reads};
 ghost use Rattle.rasn_schema.specs.Choices.{choices_of};
 ghost use Rattle.rasn_schema.specs.Fields.{tag_of};
-ghost use Rattle.rasn_calls.specs.Choices.{TakesAlternative};
+ghost use Rattle.rasn_traits.specs.Choices.{TakesAlternative};
 
 pub use crate::decoder_ext::DecoderExt;
 pub use crate::encoder_ext::EncoderExt;
-pub use rasn_calls::decoder::Decoder;
-pub use rasn_calls::encoder::Encoder;
 use rasn_schema::choices::Choice;
 use rasn_schema::schema::{AsnType, Constraints};
+pub use rasn_traits::decoder::Decoder;
+pub use rasn_traits::encoder::Encoder;
 use rasn_types::types::{Identifier, Tag};
 
 /// A value that can be encoded. A call that answers Ok presents the normal form of the value by its schema, and a

@@ -4,14 +4,14 @@ ghost use Rattle.std.specs.Prelude.{map};
 ghost use Rattle.rasn_schema.specs.Forms.{is_size_marked, size_of};
 ghost use Rattle.rasn_schema.specs.Lists.{list_at, list_value};
 ghost use Rattle.rasn_schema.specs.Schemas.{optional};
-ghost use Rattle.rasn_calls.specs.Optionals.{ReadsComponent, ReadsDefault};
-ghost use Rattle.rasn_calls.specs.Presences.{slot_of};
-ghost use Rattle.rasn_calls.specs.Calls.{Reads};
+ghost use Rattle.rasn_traits.specs.Optionals.{ReadsComponent, ReadsDefault};
+ghost use Rattle.rasn_traits.specs.Presences.{slot_of};
+ghost use Rattle.rasn_traits.specs.Calls.{Reads};
 ghost use Rattle.rasn_schema.specs.Choices.{choice_at};
 
 use crate::codec::{Decode, DecodeChoice};
-use rasn_calls::decoder::Decoder;
 use rasn_schema::schema::Constraints;
+use rasn_traits::decoder::Decoder;
 use rasn_types::types::Tag;
 use std::alloc::{AllocError, Global};
 

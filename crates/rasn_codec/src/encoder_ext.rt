@@ -5,15 +5,15 @@ ghost use Rattle.std.specs.Fn.{FnOnceReturnsAt};
 ghost use Rattle.rasn_schema.specs.Choices.{choices_of};
 ghost use Rattle.rasn_schema.specs.Fields.{tag_of};
 ghost use Rattle.rasn_schema.specs.Forms.{size_of, is_size_marked};
-ghost use Rattle.rasn_calls.specs.Choices.{EncodesAlternative};
-ghost use Rattle.rasn_calls.specs.Optionals.{EncodesDefault, EncodesNone, EncodesSome};
-ghost use Rattle.rasn_calls.specs.Calls.{Encodes};
+ghost use Rattle.rasn_traits.specs.Choices.{EncodesAlternative};
+ghost use Rattle.rasn_traits.specs.Optionals.{EncodesDefault, EncodesNone, EncodesSome};
+ghost use Rattle.rasn_traits.specs.Calls.{Encodes};
 ghost use Rattle.rasn_schema.specs.Lists.{deepest, list_at, list_value};
 
 use crate::codec::Encode;
-use rasn_calls::encoder::Encoder;
 use rasn_schema::choices::Choice;
 use rasn_schema::schema::Constraints;
+use rasn_traits::encoder::Encoder;
 use rasn_types::types::{Identifier, Tag};
 
 /// What every encoder writes by the type of a value.

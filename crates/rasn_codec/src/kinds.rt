@@ -1,6 +1,6 @@
 //! How types that state on one page what they list are written and read: by their kind.
 
-ghost use Rattle.rasn_calls.specs.Calls.{Encodes, Reads};
+ghost use Rattle.rasn_traits.specs.Calls.{Encodes, Reads};
 
 use crate::codec::{Decode, Decoder, Encode, Encoder};
 use crate::record::Record;

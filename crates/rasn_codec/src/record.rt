@@ -1,12 +1,12 @@
 //! Records that are stated by one list of their components: they are written and read by it.
 
 ghost use Rattle.rasn_schema.specs.Components.{parts_of};
-ghost use Rattle.rasn_calls.specs.Scopes.{WritesParts, TakesParts};
+ghost use Rattle.rasn_traits.specs.Scopes.{WritesParts, TakesParts};
 
 use crate::codec::{Decoder, Encoder};
 use crate::kinds::{DecodeKind, EncodeKind};
-use rasn_calls::parts::{DecodeParts, EncodeParts, NoAdditions};
 use rasn_schema::components::{Components, SequenceKind};
+use rasn_traits::parts::{DecodeParts, EncodeParts, NoAdditions};
 use rasn_types::types::{Identifier, Tag};
 use std::marker::PhantomData;
 

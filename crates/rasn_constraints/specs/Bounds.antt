@@ -34,7 +34,8 @@ abbrev pub at_most : Option ℕ → ℕ → Bool
 at_most None n = true
 at_most (Some u) n = nat_le n u
 
--- X.680 51.5: whether a size allows a count; no string or list has more members than `usize::MAX` (this project's choice)
+-- X.680 51.5: whether a size allows a count; no string or list has more members than `usize::MAX` (this project's
+-- choice)
 abbrev pub allows : Size → ℕ → Bool
 allows size n = at_least size.least n && (at_most size.most n && nat_lt n (2 ^ 64))
 

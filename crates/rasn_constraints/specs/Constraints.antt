@@ -69,7 +69,12 @@ first_of f (c ∷ cs) = option_or (f c) (first_of f cs)
 
 -- the constraints in use of a list
 abbrev pub effective : List Constraint → Effective
-effective cs = record { value = first_of stated_value cs; size = first_of stated_size cs; alphabet = first_of stated_alphabet cs }
+effective cs = record {
+  value = first_of stated_value cs;
+  size = first_of stated_size cs;
+  alphabet =
+      first_of stated_alphabet cs;
+}
 
 -- whether a constraint in use has an extension marker; where there is none, it has not
 abbrev pub is_marked : {A : Type 0} → Option (Extensible A) → Bool

@@ -5,7 +5,8 @@ use Rattle.rasn_constraints.specs.Bounds.{above}
 use Rattle.rasn_constraints.specs.Constraints.{bounds_in, size_in}
 use Rattle.rasn_constraints.specs.declared.constraints.Constraints.{Constraints}
 
--- X.680 51.4: whether bounds are in order, and hold at most `i128::MAX` numbers where both are there (this project's limit)
+-- X.680 51.4: whether bounds are in order, and hold at most `i128::MAX` numbers where both are there (this project's
+-- limit)
 abbrev pub are_lawful_bounds : Option ℤ → Option ℤ → Bool
 are_lawful_bounds None high = true
 are_lawful_bounds (Some l) None = true

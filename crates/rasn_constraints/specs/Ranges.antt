@@ -10,7 +10,11 @@ no_constraints = record { value = None; size = None; alphabet = None }
 
 -- X.680 51.4: a value constraint alone, without a mark: to be within bounds
 abbrev pub within : Bounds → Constraints
-within b = record { value = Some (record { constraint = Range b.low b.high; extensible = false }); size = None; alphabet = None }
+within b = record {
+  value = Some (record { constraint = Range b.low b.high; extensible = false });
+  size = None;
+  alphabet = None;
+}
 
 -- the numbers that a signed number type of w bits holds
 abbrev pub signed_range : ℕ → Bounds

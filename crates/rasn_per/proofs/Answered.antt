@@ -5,12 +5,12 @@ use Rattle.rasn_types.specs.Bits.{Bits, AreOctets}
 use Rattle.rasn_types.specs.Values.{Value}
 use Rattle.rasn_types.specs.declared.types.Codec.{Codec}
 use Rattle.rasn_schema.specs.Schemas.{Schema}
-use Rattle.rasn_calls.specs.Calls.{Refuses}
+use Rattle.rasn_traits.specs.Calls.{Refuses}
 use Rattle.per_core.specs.Ends.{Ends}
-use Rattle.per_complete.specs.Surpluses.{IsWhy}
-use Rattle.per_complete.specs.declared.ended.Surplus.{Surplus}
-use Rattle.per_scopes.specs.State.{State, Spells}
-use Rattle.per_scopes.specs.Faults.{Fault, refusal}
+use Rattle.per_bits.specs.Surpluses.{IsWhy}
+use Rattle.per_bits.specs.declared.ended.Surplus.{Surplus}
+use Rattle.per_decoding.specs.State.{State, Spells}
+use Rattle.per_decoding.specs.Faults.{Fault, refusal}
 use Rattle.per_read.specs.declared.error.DecodeError.{DecodeError}
 use Rattle.per_read.specs.declared.error.DecodeErrorKind.TheVariants.{OutOfMemory}
 use Rattle.rasn_per.specs.Calls.{DecodedBy, DecodedFront}

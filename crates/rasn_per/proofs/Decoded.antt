@@ -7,16 +7,16 @@ use Rattle.rasn_types.specs.declared.types.Codec.{Codec}
 use Rattle.rasn_types.specs.Values.{Value}
 use Rattle.rasn_types.proofs.Bits.{length-unpack}
 use Rattle.rasn_schema.specs.Schemas.{Schema}
-use Rattle.rasn_calls.specs.Calls.{Refuses}
+use Rattle.rasn_traits.specs.Calls.{Refuses}
 use Rattle.per_core.specs.Basic.{fills, front}
 use Rattle.per_core.specs.Ends.{Ends}
 use Rattle.per_core.proofs.Readings.{one_reading}
 use Rattle.per_core.proofs.Took.{took_agree}
 use Rattle.per_core.proofs.Laws.{one_value, one_front}
 use Rattle.per_core.proofs.Filling.{fills_read, fills_back}
-use Rattle.per_scopes.specs.Spelled.{spelled}
-use Rattle.per_scopes.specs.State.{State, Options, Spells, from_octet, with_bits, fresh as from_input}
-use Rattle.per_scopes.specs.Faults.{Fault, refusal}
+use Rattle.per_decoding.specs.Spelled.{spelled}
+use Rattle.per_decoding.specs.State.{State, Options, Spells, from_octet, with_bits, fresh as from_input}
+use Rattle.per_decoding.specs.Faults.{Fault, refusal}
 use Rattle.per_read.specs.declared.error.DecodeError.{DecodeError}
 use Rattle.per_read.specs.declared.error.DecodeErrorKind.TheVariants.{OutOfMemory}
 use Rattle.rasn_per.specs.Complete.{reading, basically, AreReadBy, AreUnreadBy, BeginWith, BeginWithNone}

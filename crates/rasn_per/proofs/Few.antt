@@ -5,7 +5,7 @@ use Rattle.rasn_types.specs.Codecs.{variant_of}
 use Rattle.rasn_types.specs.Values.{Value}
 use Rattle.rasn_types.specs.declared.types.Codec.{Codec}
 use Rattle.rasn_schema.specs.Schemas.{Schema}
-use Rattle.per_counts.proofs.FewTook.{fills_few, front_few}
+use Rattle.per_core.proofs.FewTook.{fills_few, front_few}
 use Rattle.per_read.specs.declared.error.DecodeError.{DecodeError}
 use Rattle.rasn_per.specs.Calls.{DecodedBy, DecodedFront}
 use Rattle.rasn_per.specs.Complete.{reading, basically}

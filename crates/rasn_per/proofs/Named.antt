@@ -6,12 +6,12 @@ use Rattle.rasn_types.specs.Codecs.{variant_of}
 use Rattle.rasn_types.specs.Values.{Value}
 use Rattle.rasn_types.specs.declared.types.Codec.{Codec}
 use Rattle.rasn_schema.specs.Schemas.{Schema}
-use Rattle.rasn_calls.specs.Calls.{Refuses}
-use Rattle.per_complete.specs.Surpluses.{IsWhy}
-use Rattle.per_complete.specs.declared.ended.Surplus.{Surplus}
-use Rattle.per_complete.specs.declared.ended.Surplus.TheVariants.{Missing, NonzeroOctet, NonzeroSpareBits, ExtraOctets}
-use Rattle.per_scopes.specs.State.{State, Spells}
-use Rattle.per_scopes.specs.Faults.{IsOf, Fault, refusal}
+use Rattle.rasn_traits.specs.Calls.{Refuses}
+use Rattle.per_bits.specs.Surpluses.{IsWhy}
+use Rattle.per_bits.specs.declared.ended.Surplus.{Surplus}
+use Rattle.per_bits.specs.declared.ended.Surplus.TheVariants.{Missing, NonzeroOctet, NonzeroSpareBits, ExtraOctets}
+use Rattle.per_decoding.specs.State.{State, Spells}
+use Rattle.per_decoding.specs.Faults.{IsOf, Fault, refusal}
 use Rattle.per_read.specs.declared.error.DecodeError.{DecodeError}
 use Rattle.per_read.specs.declared.error.DecodeErrorKind.{DecodeErrorKind}
 use Rattle.per_read.specs.declared.error.DecodeErrorKind.TheVariants.{Incomplete, ParserFail, UnexpectedExtraData, AlreadyFailed, OutOfMemory}

@@ -6,7 +6,7 @@ use Rattle.rasn_types.specs.Values.{Value}
 use Rattle.rasn_types.specs.declared.types.Codec.{Codec}
 use Rattle.rasn_schema.specs.Schemas.{Schema}
 use Rattle.rasn_schema.specs.Normal.{normal}
-use Rattle.rasn_calls.specs.Calls.{AtDepths}
+use Rattle.rasn_traits.specs.Calls.{AtDepths}
 use Rattle.per_write.specs.Faults.{IsInValue}
 use Rattle.per_write.specs.declared.error.EncodeError.{EncodeError}
 use Rattle.per_write.specs.declared.error.EncodeErrorKind.TheVariants.{OutOfMemory as no_room_to_write}
@@ -15,25 +15,32 @@ use Rattle.per_read.specs.declared.error.DecodeErrorKind.TheVariants.{OutOfMemor
 use Rattle.rasn_per.specs.Complete.{AreBytes, HasNoBytes, reading, basically, AreReadBy, AreUnreadBy, BeginWith, BeginWithNone}
 use Rattle.rasn_per.specs.Kinds.{IsInFront, IsInOctetsBy}
 
--- A value is written by the schema of its type: its canonical bytes, or, memory aside, a refusal only where it has none, whose kind
+-- A value is written by the schema of its type: its canonical bytes, or, memory aside, a refusal only where it has
+-- none, whose kind
 -- names a fault of the value.
-pub record Encoded {Z : Type 0} (codec : Codec) (schema : ℕ → Schema) (levels : ℕ) (v : Value) (result : Result (Vec ℕ Z) EncodeError) : Type 0 where
+pub record Encoded {Z : Type 0} (codec : Codec) (schema : ℕ → Schema) (levels : ℕ) (v : Value)
+    (result : Result (Vec ℕ Z) EncodeError) : Type 0 where
   pub ok : IfOk result (λ octets. AreBytes (variant_of codec) schema levels v octets.items)
   pub err : IfErr result (λ e. e.kind ≢ no_room_to_write → HasNoBytes (variant_of codec) schema levels v)
-  pub kind : IfErr result (λ e. e.kind ≢ no_room_to_write → AtDepths schema levels (λ s. IsInValue e.kind s (normal s v)))
+  pub kind : IfErr result (λ e. e.kind ≢ no_room_to_write → AtDepths schema levels
+      (λ s. IsInValue e.kind s (normal s v)))
   pub variant : IfErr result (λ e. e.codec ≡ codec)
 
 -- The same where a buffer takes the bytes, in place of what it held. It is empty after a refusal.
-pub record EncodedInto (codec : Codec) (schema : ℕ → Schema) (levels : ℕ) (v : Value) (result : Result (Unit {0}) EncodeError) (buffer : List ℕ) : Type 0 where
+pub record EncodedInto (codec : Codec) (schema : ℕ → Schema) (levels : ℕ) (v : Value)
+    (result : Result (Unit {0}) EncodeError) (buffer : List ℕ) : Type 0 where
   pub ok : OnOk result (AreBytes (variant_of codec) schema levels v buffer)
   pub empty : OnErr result (buffer ≡ [])
   pub err : IfErr result (λ e. e.kind ≢ no_room_to_write → HasNoBytes (variant_of codec) schema levels v)
-  pub kind : IfErr result (λ e. e.kind ≢ no_room_to_write → AtDepths schema levels (λ s. IsInValue e.kind s (normal s v)))
+  pub kind : IfErr result (λ e. e.kind ≢ no_room_to_write → AtDepths schema levels
+      (λ s. IsInValue e.kind s (normal s v)))
   pub variant : IfErr result (λ e. e.codec ≡ codec)
 
--- Octets are read by the schema of a type, padding being zero where it must: the value that they spell and no other, or, memory aside, a
+-- Octets are read by the schema of a type, padding being zero where it must: the value that they spell and no other,
+-- or, memory aside, a
 -- refusal only where they spell none, whose kind names a fault of the octets.
-pub record DecodedBy {T : Type 0} (strict : Bool) (codec : Codec) (schema : ℕ → Schema) (value : T → Value) (octets : List ℕ) (result : Result T DecodeError) : Type 0 where
+pub record DecodedBy {T : Type 0} (strict : Bool) (codec : Codec) (schema : ℕ → Schema) (value : T → Value)
+    (octets : List ℕ) (result : Result T DecodeError) : Type 0 where
   pub ok : IfOk result (λ x. AreReadBy (reading strict (variant_of codec)) schema (value x) octets)
   pub err : IfErr result (λ e. e.kind ≢ no_room_to_read → AreUnreadBy (reading strict (variant_of codec)) schema octets)
   pub kind : IfErr result (λ e. IsInOctetsBy (reading strict (variant_of codec)) schema octets e.kind)
@@ -44,12 +51,15 @@ abbrev pub Decoded : {T : Type 0} → Codec → (ℕ → Schema) → (T → Valu
 Decoded = DecodedBy false
 
 -- padding and spare bits must be zero
-abbrev pub DecodedZeroPadded : {T : Type 0} → Codec → (ℕ → Schema) → (T → Value) → List ℕ → Result T DecodeError → Type 0
+abbrev pub DecodedZeroPadded : {T : Type 0} → Codec → (ℕ → Schema) → (T → Value) → List ℕ → Result T DecodeError
+    → Type 0
 DecodedZeroPadded = DecodedBy true
 
--- The same of octets that may go on behind a value, with padding of any value: the value that they begin with, and the rest, and no other; or a refusal only where
+-- The same of octets that may go on behind a value, with padding of any value: the value that they begin with, and the
+-- rest, and no other; or a refusal only where
 -- they begin with none.
-pub record DecodedFront {T : Type 0} (codec : Codec) (schema : ℕ → Schema) (value : T → Value) (octets : List ℕ) (result : Result (T × Bor (List ℕ)) DecodeError) : Type 0 where
+pub record DecodedFront {T : Type 0} (codec : Codec) (schema : ℕ → Schema) (value : T → Value) (octets : List ℕ)
+    (result : Result (T × Bor (List ℕ)) DecodeError) : Type 0 where
   pub ok : IfOk result (λ x. BeginWith (variant_of codec) schema (value x.0) octets x.1.now)
   pub err : IfErr result (λ e. e.kind ≢ no_room_to_read → BeginWithNone (variant_of codec) schema octets)
   pub kind : IfErr result (λ e. IsInFront (basically (variant_of codec)) schema octets e.kind)

@@ -4,12 +4,13 @@ use Rattle.rasn_types.specs.Variants.{Variant}
 use Rattle.rasn_types.specs.Values.{Value}
 use Rattle.rasn_schema.specs.Schemas.{Schema}
 use Rattle.rasn_schema.specs.Normal.{normal}
-use Rattle.rasn_calls.specs.Calls.{AtDepths}
+use Rattle.rasn_traits.specs.Calls.{AtDepths}
 use Rattle.per_core.specs.Spellings.{Settings}
 use Rattle.per_core.specs.Canon.{bytes}
 use Rattle.per_core.specs.Basic.{front, read}
 
--- X.691 11.1: octets are the canonical bytes of a value's normal form, by the schema of its type at each depth that holds the value
+-- X.691 11.1: octets are the canonical bytes of a value's normal form, by the schema of its type at each depth that
+-- holds the value
 abbrev pub AreBytes : Variant → (ℕ → Schema) → ℕ → Value → List ℕ → Type 0
 AreBytes a schema levels v octets = AtDepths schema levels (λ s. bytes a s (normal s v) ≡ Some octets)
 
@@ -41,7 +42,8 @@ AreReadAs a = AreReadBy (basically a)
 abbrev pub AreUnread : Variant → (ℕ → Schema) → List ℕ → Type 0
 AreUnread a = AreUnreadBy (basically a)
 
--- within 128 levels octets begin with an encoding of a value and leave the rest, and with none of another value or with another rest
+-- within 128 levels octets begin with an encoding of a value and leave the rest, and with none of another value or with
+-- another rest
 pub record BeginWith (a : Variant) (schema : ℕ → Schema) (v : Value) (octets rest : List ℕ) : Type 0 where
   pub are_read : front (basically a) (schema 128) v octets rest
   pub only : (w : Value) (after : List ℕ) → front (basically a) (schema 128) w octets after → (w ≡ v) × (after ≡ rest)

@@ -8,9 +8,9 @@ use Rattle.per_core.specs.Basic.{basic}
 use Rattle.per_core.specs.Ends.{AreOver, spare}
 use Rattle.per_core.specs.Spellings.{Settings, ZeroIf}
 use Rattle.per_core.specs.Took.{Took}
-use Rattle.per_complete.specs.declared.ended.Surplus.{Surplus}
-use Rattle.per_complete.specs.declared.ended.Surplus.TheVariants.{Missing, NonzeroOctet, NonzeroSpareBits, ExtraOctets}
-use Rattle.per_scopes.specs.Faults.{IsInBits}
+use Rattle.per_bits.specs.declared.ended.Surplus.{Surplus}
+use Rattle.per_bits.specs.declared.ended.Surplus.TheVariants.{Missing, NonzeroOctet, NonzeroSpareBits, ExtraOctets}
+use Rattle.per_decoding.specs.Faults.{IsInBits}
 use Rattle.per_read.specs.declared.error.DecodeErrorKind.{DecodeErrorKind}
 use Rattle.per_read.specs.declared.error.DecodeErrorKind.TheVariants.{Incomplete, ParserFail, UnexpectedExtraData, OutOfMemory}
 use Rattle.per_read.specs.declared.error.ParserFailCause.TheVariants.{NonzeroEmptyValue, NonzeroPadding}
@@ -31,7 +31,8 @@ pub record LeaveOver (a : Settings) (schema : ℕ → Schema) (octets : List ℕ
   pub are_over : AreOver left (length (unpack octets)) over
   pub zeros : ZeroIf a.strict (spare left)
 
--- What a kind says of the octets, or of their front, as a type's schema reads them within 128 levels. That they end early, or aren't as
+-- What a kind says of the octets, or of their front, as a type's schema reads them within 128 levels. That they end
+-- early, or aren't as
 -- they have to be, is shown by tests alone.
 abbrev pub IsInFront : Settings → (ℕ → Schema) → List ℕ → DecodeErrorKind → Type 0
 IsInFront a schema octets (Incomplete missing) = Unit {0}
@@ -41,7 +42,8 @@ IsInFront a schema octets k = IsInBits a k (schema 128) (unpack octets)
 
 -- The same where all octets have to be read: octets are left over behind the value, or in the open type of an addition.
 abbrev pub IsInOctetsBy : Settings → (ℕ → Schema) → List ℕ → DecodeErrorKind → Type 0
-IsInOctetsBy a schema octets (UnexpectedExtraData over) = LeaveOver a schema octets over ⊎ IsInBits a (UnexpectedExtraData over) (schema 128) (unpack octets)
+IsInOctetsBy a schema octets (UnexpectedExtraData over) = LeaveOver a schema octets over
+    ⊎ IsInBits a (UnexpectedExtraData over) (schema 128) (unpack octets)
 IsInOctetsBy a schema octets k = IsInFront a schema octets k
 
 -- and where padding has any value

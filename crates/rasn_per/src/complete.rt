@@ -8,8 +8,8 @@ ghost use Rattle.rasn_per.specs.Counts.{AnswersFew, AnswersFewInFront};
 ghost use Rattle.rasn_per.specs.Kinds.{kind_of};
 ghost use Rattle.rasn_per.specs.Remainders.{IsRemainder, IsWhyNone};
 
+use per_bits::ended::{Surplus, ended};
 use per_bits::{BitList, BitReader};
-use per_complete::ended::{Surplus, ended};
 use per_de::error::{DecodeError, DecodeErrorKind, ParserFailCause};
 use per_de::{Decoder, DecoderOptions};
 use per_enc::{EncodeError, EncodeErrorKind, Encoder, EncoderOptions};

@@ -2,8 +2,8 @@
 //! scope.
 
 use crate::expected::{BOTH, expect_items, expect_rows, expect_unread};
-use per_samples_h::alt1::Alt1;
-use per_samples_h::several::Several;
+use per_samples_b::alt1::Alt1;
+use per_samples_b::several::Several;
 use rasn_below::codec::Encoder as AnyEncoder;
 use rasn_below::types::Identifier;
 use rasn_below::{Constraints, Tag, context_tag};

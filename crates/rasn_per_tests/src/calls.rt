@@ -5,14 +5,14 @@ use crate::expected::{
     BOTH, expect_coded, expect_equal, expect_items, expect_read, expect_unread, expect_written,
 };
 use per_samples_a::bounded::MinusOneTo254;
-use per_samples_b::strings::LettersAToE;
+use per_samples_a::strings::LettersAToE;
+use per_samples_b::grouped::Grouped;
+use per_samples_b::outer1::Outer1;
 use per_samples_c::colors::TwoColors;
+use per_samples_c::group1::Group1;
+use per_samples_c::grouped1::Grouped1;
 use per_samples_c::one_color::OneColor;
-use per_samples_f::grouped::Grouped;
-use per_samples_f::outer1::Outer1;
-use per_samples_g::group1::Group1;
-use per_samples_g::grouped1::Grouped1;
-use per_samples_k::set_each::SetEach;
+use per_samples_sets::set_each::SetEach;
 use per_versions::exchange::{ExchangeError, read_by_newer, read_by_older};
 use rasn_below::types::{Codec, VisibleString};
 use rasn_below::{Constraint, Constraints, Decode, constraints};

@@ -2,10 +2,10 @@
 
 use crate::expected::{BOTH, expect_rows, expect_value, expect_variants};
 use its_header::speed::Speed;
+use per_samples_a::alternative::{Alternative, ZeroTo7};
+use per_samples_a::nested::Nested;
 use per_samples_a::pair::Pair;
 use per_samples_a::some_absent::SomeAbsent;
-use per_samples_d::alternative::{Alternative, ZeroTo7};
-use per_samples_d::nested::Nested;
 use rasn_below::types::{
     Any, BmpString, Codec, GeneralString, GraphicString, Ia5String, NumericString, PrintableString,
     TeletexString, Utf8String, VisibleString,

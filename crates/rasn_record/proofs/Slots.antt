@@ -5,8 +5,8 @@ use mathlib.Core.Bool.{beq}
 use Rattle.rasn_types.specs.Values.{Value, truth, whole, same, code}
 use Rattle.rasn_schema.specs.Schemas.{TagTree, Presence, required, optional, group, default, Schema, Parts, part}
 use Rattle.rasn_schema.specs.Normal.{normal, normals, settle}
-use Rattle.rasn_calls.specs.Calls.{EncoderRules, Written, PresentsWell, DecoderRules, Answers}
-use Rattle.rasn_calls.specs.Scopes.{PresentsPart, presents_required, presents_there, presents_left_out, presents_next, refuses_here, refuses_behind, refuses_required, WrittenPart, WrittenParts, FaultyPart, faulty_required, ReadsPart, reads_required, reads_there, reads_left_out}
+use Rattle.rasn_traits.specs.Calls.{EncoderRules, Written, PresentsWell, DecoderRules, Answers}
+use Rattle.rasn_traits.specs.Scopes.{PresentsPart, presents_required, presents_there, presents_left_out, presents_next, refuses_here, refuses_behind, refuses_required, WrittenPart, WrittenParts, FaultyPart, faulty_required, ReadsPart, reads_required, reads_there, reads_left_out}
 use Rattle.rasn_record.specs.Slots.{IsComponent, normal_slot}
 
 module _ {E X : Type 0} (rules : EncoderRules E X) where

@@ -18,11 +18,14 @@ pub record Typed : Type 0 where
 abbrev pub typed : Tag → Effective → (Effective → ℕ → Schema) → Typed
 typed tag own schema = record { tag = tag; own = own; schema = schema }
 
--- required components of these types and those behind them, by what the lists of fields and of constraints state of them
-abbrev pub typed_parts : List Typed → (List Shape → List (Bor (List Constraint)) → ℕ → Parts) → List Shape → List (Bor (List Constraint)) → ℕ → Parts
+-- required components of these types and those behind them, by what the lists of fields and of constraints state of
+-- them
+abbrev pub typed_parts : List Typed → (List Shape → List (Bor (List Constraint)) → ℕ → Parts) → List Shape
+    → List (Bor (List Constraint)) → ℕ → Parts
 typed_parts [] next fs cs n = next fs cs n
 typed_parts (t ∷ ts) next fs cs n =
-    part (first_tree (tagged t.tag) fs) required (t.schema (own_or t.own (first_given cs)) n) (typed_parts ts next (behind fs) (behind cs) n)
+    part (first_tree (tagged t.tag) fs) required (t.schema (own_or t.own (first_given cs)) n)
+    (typed_parts ts next (behind fs) (behind cs) n)
 
 -- the greatest of some numbers and one more
 abbrev pub greatest : List ℕ → ℕ → ℕ

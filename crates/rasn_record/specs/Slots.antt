@@ -3,8 +3,8 @@ use Rattle.std.specs.Prelude.{◌≡◌, ℕ, Bool, Result, Option, Some, None}
 use Rattle.rasn_types.specs.Values.{Value, same}
 use Rattle.rasn_schema.specs.Schemas.{Presence, group, Schema}
 use Rattle.rasn_schema.specs.Normal.{normal}
-use Rattle.rasn_calls.specs.Calls.{AtDepths, Behaves, EncoderRules}
-use Rattle.rasn_calls.specs.Scopes.{WrittenPart}
+use Rattle.rasn_traits.specs.Calls.{AtDepths, Behaves, EncoderRules}
+use Rattle.rasn_traits.specs.Scopes.{WrittenPart}
 
 -- how many levels a value takes that may be there
 abbrev pub slot_levels : {T : Type 0} → (T → ℕ) → Option T → ℕ
@@ -22,7 +22,8 @@ normal_slot s None = None
 normal_slot s (Some v) = Some (normal s v)
 
 -- A call that writes a component, absent or there, at each depth that holds it.
-pub record WritesComponent {E X : Type 0} (rules : EncoderRules E X) (p : Presence) (schema : ℕ → Schema) (k : ℕ) (r : Option Value) (x : X) (result : Result (Unit {0}) E) (y : X) : Type 0 where
+pub record WritesComponent {E X : Type 0} (rules : EncoderRules E X) (p : Presence) (schema : ℕ → Schema) (k : ℕ)
+    (r : Option Value) (x : X) (result : Result (Unit {0}) E) (y : X) : Type 0 where
   pub law : AtDepths schema k (λ s. WrittenPart rules p s (normal_slot s r) x result y)
   pub behaves : Behaves rules.already rules.failed rules.codec x result y
 

@@ -5,8 +5,8 @@ ghost use Rattle.rasn_schema.specs.Choices.{alternative_at, choices_of, place_of
 ghost use Rattle.rasn_schema.specs.Components.{chosen, chosen_behind, components_behind, parts_of};
 ghost use Rattle.rasn_schema.specs.Fields.{tag_of};
 ghost use Rattle.rasn_schema.specs.Records.{own_or};
-ghost use Rattle.rasn_calls.specs.Calls.{Reads};
-ghost use Rattle.rasn_calls.specs.Choices.{WritesChosen};
+ghost use Rattle.rasn_traits.specs.Calls.{Reads};
+ghost use Rattle.rasn_traits.specs.Choices.{WritesChosen};
 ghost use Rattle.rasn_record.specs.Lists.{given};
 
 use crate::cells::given;

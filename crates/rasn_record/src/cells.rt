@@ -7,16 +7,16 @@ ghost use Rattle.rasn_constraints.specs.declared.constraints.Constraint.{Constra
 ghost use Rattle.rasn_schema.specs.Schemas.{Parts, no_parts, part};
 ghost use Rattle.rasn_schema.specs.Records.{own_or};
 ghost use Rattle.rasn_schema.specs.Fields.{Shape, shape_of, tag_of, tagged};
-ghost use Rattle.rasn_calls.specs.Scopes.{WritesParts, TakesParts};
+ghost use Rattle.rasn_traits.specs.Scopes.{WritesParts, TakesParts};
 ghost use Rattle.rasn_record.specs.Lists.{behind, first_tag, first_tree, first_given, given};
 
 use crate::components::{DecodeComponent, EncodeComponent, Optional};
-use rasn_calls::parts::{DecodeParts, EncodeParts};
 use rasn_codec::codec::{Decoder, Encoder};
 use rasn_schema::components::Components;
 use rasn_schema::constraints::Constraint;
 use rasn_schema::fields::Field;
 use rasn_schema::schema::{AsnType, Constraints};
+use rasn_traits::parts::{DecodeParts, EncodeParts};
 use rasn_types::types::Tag;
 use std::marker::PhantomData;
 

@@ -3,8 +3,8 @@
 ghost use Rattle.std.specs.Prelude.{◌≡◌, ℕ, Option, Some, IfOk};
 ghost use Rattle.rasn_types.specs.Values.{Value};
 ghost use Rattle.rasn_schema.specs.Schemas.{Presence, required, optional};
-ghost use Rattle.rasn_calls.specs.Optionals.{ReadsComponent};
-ghost use Rattle.rasn_calls.specs.Presences.{slot_of};
+ghost use Rattle.rasn_traits.specs.Optionals.{ReadsComponent};
+ghost use Rattle.rasn_traits.specs.Presences.{slot_of};
 ghost use Rattle.rasn_record.specs.Slots.{IsComponent, TellsSame, WritesComponent, slot_levels};
 
 use rasn_codec::codec::{Decode, Decoder, DecoderExt, Encode, Encoder, EncoderExt};

@@ -7,7 +7,7 @@ ghost use Rattle.rasn_constraints.specs.declared.constraints.Constraint.{Constra
 ghost use Rattle.rasn_schema.specs.Schemas.{Parts, part};
 ghost use Rattle.rasn_schema.specs.Records.{own_or};
 ghost use Rattle.rasn_schema.specs.Fields.{Shape, tagged};
-ghost use Rattle.rasn_calls.specs.Scopes.{TakesParts, WritesParts};
+ghost use Rattle.rasn_traits.specs.Scopes.{TakesParts, WritesParts};
 ghost use Rattle.rasn_record.specs.Lists.{behind, first_given, first_tree};
 
 use crate::cells::{ByType, DecodeCells, EncodeCells, behind, first_tag, given_or_own};

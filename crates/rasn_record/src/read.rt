@@ -4,7 +4,7 @@ ghost use Rattle.std.specs.Prelude.{◌≡◌, ℕ, Some, drop};
 ghost use Rattle.rasn_schema.specs.Schemas.{required};
 ghost use Rattle.rasn_schema.specs.Records.{own_or};
 ghost use Rattle.rasn_schema.specs.Components.{parts_of, tags_at, presence_at, schema_at, content_at, at};
-ghost use Rattle.rasn_calls.specs.Scopes.{TakesParts};
+ghost use Rattle.rasn_traits.specs.Scopes.{TakesParts};
 ghost use Rattle.rasn_record.specs.Lists.{first_given};
 
 use crate::cells::DecodeCells;

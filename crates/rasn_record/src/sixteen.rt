@@ -3,7 +3,7 @@
 
 ghost use Rattle.std.specs.Prelude.{◌≡◌, ◌≤◌, ℕ, [], ◌∷◌, Some};
 ghost use Rattle.rasn_schema.specs.Components.{parts_of};
-ghost use Rattle.rasn_calls.specs.Scopes.{TakesParts, WritesParts};
+ghost use Rattle.rasn_traits.specs.Scopes.{TakesParts, WritesParts};
 ghost use Rattle.rasn_record.specs.Sixteens.{greatest, typed, typed_parts};
 
 use crate::cells::{DecodeCells, EncodeCells, GivesBounds, OfRecord};

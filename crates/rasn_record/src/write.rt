@@ -4,14 +4,14 @@ ghost use Rattle.std.specs.Prelude.{◌≡◌, ◌≤◌, ℕ, Some, drop};
 ghost use Rattle.rasn_schema.specs.Schemas.{required};
 ghost use Rattle.rasn_schema.specs.Records.{own_or};
 ghost use Rattle.rasn_schema.specs.Components.{parts_of, tags_at, presence_at, schema_at, content_at, at};
-ghost use Rattle.rasn_calls.specs.Scopes.{WritesParts};
+ghost use Rattle.rasn_traits.specs.Scopes.{WritesParts};
 ghost use Rattle.rasn_record.specs.Lists.{first_given};
 
-use rasn_calls::parts::EncodeParts;
 use rasn_codec::codec::Encoder;
 use rasn_schema::components::Components;
 use rasn_schema::constraints::Constraint;
 use rasn_schema::schema::AsnType;
+use rasn_traits::parts::EncodeParts;
 
 /// A required component of a record, as a list states it at its place.
 pub fn component<T: Components, H: AsnType>(

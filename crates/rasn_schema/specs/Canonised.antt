@@ -1,4 +1,5 @@
--- The root components of a SET in the order in which they are written: by ascending smallest tags (ITU-T X.691, 21.1; X.680, 8.6).
+-- The root components of a SET in the order in which they are written: by ascending smallest tags (ITU-T X.691, 21.1;
+-- X.680, 8.6).
 use Rattle.std.specs.Prelude.{ℕ, zero, suc, List, Option}
 use Rattle.rasn_types.specs.Values.{Value}
 use Rattle.rasn_schema.specs.Schemas.{TagTree, smallest, Presence, Schema, Parts, no_parts, part, tags}

@@ -1,4 +1,5 @@
--- Choices (X.680 29): their alternatives, each by its list, before the extension marker or behind it, and its place there; and their
+-- Choices (X.680 29): their alternatives, each by its list, before the extension marker or behind it, and its place
+-- there; and their
 -- schemas to a number of levels.
 use Rattle.std.specs.Prelude.{ℕ, zero, suc, ◌≡◌, Bool, true, false, nat_le, List, [], ◌∷◌, ◌++◌, length, map, Option, Some, None, refl}
 use Rattle.std.proofs.Common.{ap, ◌∙◌}
@@ -48,7 +49,8 @@ abbrev pub variants_behind : Option (List VariantShape) → List VariantShape
 variants_behind None = []
 variants_behind (Some vs) = vs
 
--- X.680 29.1: a choice has an extension marker exactly where it states a list of variants behind one (this project's profile)
+-- X.680 29.1: a choice has an extension marker exactly where it states a list of variants behind one (this project's
+-- profile)
 abbrev pub is_extensible : Option (List VariantShape) → Bool
 is_extensible None = false
 is_extensible (Some vs) = true
@@ -84,7 +86,8 @@ alternative_in _ d i = None
 abbrev pub choice_of : Parts → Bool → Parts → Schema
 choice_of ps marker qs = Schema.choice ps qs marker
 
--- a choice with these variants behind an extension marker, where there is one, to a number of levels of its alternatives
+-- a choice with these variants behind an extension marker, where there is one, to a number of levels of its
+-- alternatives
 abbrev pub choices_of : (ℕ → Parts) → Option (List VariantShape) → (ℕ → Parts) → ℕ → Schema
 choices_of alternatives xs behind n = choice_of (alternatives n) (is_extensible xs) (behind n)
 
@@ -97,14 +100,16 @@ one_level_in trees (suc n) = trees n
 abbrev pub choice_at : (ℕ → Parts) → Option (List VariantShape) → (ℕ → Parts) → ℕ → Schema
 choice_at alternatives xs behind = one_level_in (choices_of alternatives xs behind)
 
--- X.680 29.3: alternatives that are told apart by their tags, those of both lists, and at most 65536 of them before the marker (this
+-- X.680 29.3: alternatives that are told apart by their tags, those of both lists, and at most 65536 of them before the
+-- marker (this
 -- project's limit)
 pub record AreVariants (vs : List VariantShape) (xs : Option (List VariantShape)) : Type 0 where
   pub distinct : are_distinct (go_by vs ++ go_by (variants_behind xs)) ≡ true
   pub few : nat_le (length vs) 65536 ≡ true
 
 -- a choice leaves one level less for its alternatives
-pub choice_levelled : (xs : Option (List VariantShape)) {alternatives behind : ℕ → Parts} → LevelledParts alternatives → LevelledParts behind
+pub choice_levelled : (xs : Option (List VariantShape)) {alternatives behind : ℕ → Parts} → LevelledParts alternatives
+    → LevelledParts behind
     → Levelled (choice_at alternatives xs behind)
 choice_levelled xs u w zero = no_level tt
 choice_levelled xs u w (suc n) = to_choice (u n) (w n)

@@ -49,7 +49,13 @@ sequence_levelled cs = record_levelled (components_levelled cs) parts_levelled
 -- the fields of components, in order, counted from a number
 abbrev pub fields_from : ℕ → List Component → List Shape
 fields_from i [] = []
-fields_from i (c ∷ cs) = record { index = i; tag = field_tag c.tags; tree = Some c.tags; presence = presence_of c.presence } ∷ fields_from (suc i) cs
+fields_from i (c ∷ cs) = record {
+  index = i;
+  tag = field_tag c.tags;
+  tree = Some c.tags;
+  presence =
+      presence_of c.presence;
+} ∷ fields_from (suc i) cs
 
 -- the fields of components, in order
 abbrev pub fields_of : List Component → List Shape
@@ -57,7 +63,9 @@ fields_of cs = fields_from 0 cs
 
 fields_from_parts : (i : ℕ) (cs : List Component) (n : ℕ) → fields_from i cs ≡ shapes_from i (parts_of cs n)
 fields_from_parts i [] n = refl
-fields_from_parts i (c ∷ cs) n = ap (λ fs. record { index = i; tag = field_tag c.tags; tree = Some c.tags; presence = presence_of c.presence } ∷ fs) (fields_from_parts (suc i) cs n)
+fields_from_parts i (c ∷ cs) n =
+    ap (λ fs. record { index = i; tag = field_tag c.tags; tree = Some c.tags; presence = presence_of c.presence } ∷ fs)
+    (fields_from_parts (suc i) cs n)
 
 -- the fields are those of the components at each number of levels
 pub fields_described : (cs : List Component) (n : ℕ) → fields_of cs ≡ shapes_from 0 (parts_of cs n)
@@ -92,7 +100,8 @@ variants_in (c ∷ cs) = record { tag = field_tag c.tags; tree = Some c.tags } �
 -- the variants are those of the alternatives at each number of levels
 pub variants_described : (cs : List Component) (n : ℕ) → variants_in cs ≡ variants_of (parts_of cs n)
 variants_described [] n = refl
-variants_described (c ∷ cs) n = ap (λ vs. record { tag = field_tag c.tags; tree = Some c.tags } ∷ vs) (variants_described cs n)
+variants_described (c ∷ cs) n = ap (λ vs. record { tag = field_tag c.tags; tree = Some c.tags } ∷ vs)
+    (variants_described cs n)
 
 -- the components behind an extension marker, where there is one
 abbrev pub components_behind : Option (List Component) → List Component
@@ -105,11 +114,13 @@ added_variants None = None
 added_variants (Some cs) = Some (variants_in cs)
 
 -- they are those of the alternatives at each number of levels
-pub added_described : (xs : Option (List Component)) (n : ℕ) → variants_behind (added_variants xs) ≡ variants_of (parts_of (components_behind xs) n)
+pub added_described : (xs : Option (List Component)) (n : ℕ) → variants_behind (added_variants xs)
+    ≡ variants_of (parts_of (components_behind xs) n)
 added_described None n = refl
 added_described (Some cs) n = variants_described cs n
 
--- a choice of alternatives, and of those behind an extension marker, of which these are the variants, to a number of levels
+-- a choice of alternatives, and of those behind an extension marker, of which these are the variants, to a number of
+-- levels
 abbrev pub alternatives_of : List Component → List Component → Option (List VariantShape) → ℕ → Schema
 alternatives_of cs behind xs = choice_at (parts_of cs) xs (parts_of behind)
 
@@ -118,7 +129,8 @@ abbrev pub alternatives_at : List Component → Option (List Component) → ℕ 
 alternatives_at cs xs = alternatives_of cs (components_behind xs) (added_variants xs)
 
 pub alternatives_levelled : (cs : List Component) (xs : Option (List Component)) → Levelled (alternatives_at cs xs)
-alternatives_levelled cs xs = choice_levelled (added_variants xs) (components_levelled cs) (components_levelled (components_behind xs))
+alternatives_levelled cs xs = choice_levelled (added_variants xs) (components_levelled cs)
+    (components_levelled (components_behind xs))
 
 -- X.680 29: the alternative that a choice's value is, by its list and its place there, and its own value
 pub record Chosen : Type 0 where
@@ -142,14 +154,16 @@ some_is : {A : Type 0} (x y : A) → Some x ≡ Some y → x ≡ y
 some_is x y e = cc
 
 -- the components from a place on are that one and those behind it
-pub parts_from : (cs : List Component) (i : ℕ) (t : TagTree) (p : Presence) (s : Schema) (n : ℕ) → tags_at cs i ≡ Some t → presence_at cs i ≡ Some p → schema_at cs i n ≡ Some s
+pub parts_from : (cs : List Component) (i : ℕ) (t : TagTree) (p : Presence) (s : Schema) (n : ℕ)
+    → tags_at cs i ≡ Some t → presence_at cs i ≡ Some p → schema_at cs i n ≡ Some s
     → parts_of (drop i cs) n ≡ part t p s (parts_of (drop (suc i) cs) n)
 parts_from [] i t p s n e f g = absurd (cc)
 parts_from (c ∷ cs) zero t p s n e f g = rw (some_is c.tags t e, some_is c.presence p f, some_is (c.schema n) s g) refl
 parts_from (c ∷ cs) (suc i) t p s n e f g = parts_from cs i t p s n e f g
 
 -- what the components from a place on are
-pub contents_from : (rs : List (Option Value)) (i : ℕ) (r : Option Value) → content_at rs i ≡ Some r → drop i rs ≡ r ∷ drop (suc i) rs
+pub contents_from : (rs : List (Option Value)) (i : ℕ) (r : Option Value) → content_at rs i ≡ Some r
+    → drop i rs ≡ r ∷ drop (suc i) rs
 contents_from [] i r e = absurd (cc)
 contents_from (x ∷ rs) zero r e = ap (λ y. y ∷ rs) (some_is x r e)
 contents_from (x ∷ rs) (suc i) r e = contents_from rs i r e
@@ -166,7 +180,12 @@ upper_bound u = record { low = None; high = Some u }
 
 -- a size alone
 abbrev pub sized : Option ℕ → Option ℕ → Constraints
-sized l u = record { value = None; size = Some (record { constraint = Range l u; extensible = false }); alphabet = None }
+sized l u = record {
+  value = None;
+  size = Some (record { constraint = Range l u; extensible = false });
+  alphabet =
+      None;
+}
 
 -- a constraint with an extension marker, where there is one
 abbrev pub marked : {A : Type 0} → Option (Extensible A) → Option (Extensible A)
@@ -256,9 +275,15 @@ size_up_to u = sized None (Some u)
 abbrev pub extensible : Constraints → Constraints
 extensible c = record { value = marked c.value; size = marked c.size; alphabet = c.alphabet }
 
--- further constraints, and a permitted alphabet (X.680 51.7): `of_characters cs (size 1 to 20)` is (FROM (..)) (SIZE (1..20))
+-- further constraints, and a permitted alphabet (X.680 51.7): `of_characters cs (size 1 to 20)` is (FROM (..)) (SIZE
+-- (1..20))
 abbrev pub of_characters : List ℕ → Constraints → Constraints
-of_characters cs c = record { value = c.value; size = c.size; alphabet = Some (record { constraint = cs; extensible = false }) }
+of_characters cs c = record {
+  value = c.value;
+  size = c.size;
+  alphabet =
+      Some (record { constraint = cs; extensible = false });
+}
 
 -- the tag of a type of its own
 abbrev pub universal : ℕ → TagTree
@@ -266,7 +291,13 @@ universal i = leaf (record { class = 0; number = i })
 
 -- a component of a kind that takes no level
 abbrev pub simple : ℕ → (s : Schema) → TakesNone s → Component
-simple i s h = record { tags = universal i; presence = Schemas.required; schema = always s; levelled = simple_levelled s h }
+simple i s h = record {
+  tags = universal i;
+  presence = Schemas.required;
+  schema = always s;
+  levelled =
+      simple_levelled s h;
+}
 
 -- BOOLEAN
 abbrev pub boolean : Component
@@ -342,7 +373,8 @@ abbrev pub alternative_tags : List Component → TagTrees
 alternative_tags [] = no_trees
 alternative_tags (c ∷ cs) = tree c.tags (alternative_tags cs)
 
--- X.691 21.1: the tags of an untagged CHOICE, which has an alternative (X.680 29); where there is none, 0 stands for a tag
+-- X.691 21.1: the tags of an untagged CHOICE, which has an alternative (X.680 29); where there is none, 0 stands for a
+-- tag
 abbrev pub choice_tags : List Component → TagTree
 choice_tags [] = universal 0
 choice_tags (c ∷ cs) = one_of c.tags (alternative_tags cs)

@@ -65,15 +65,20 @@ mutual
   pub data CutOf : Schema → Schema → Type 0 where
     cut_here : {t : Schema} → CutOf Schema.cut t
     alike : {s : Schema} → IsLeaf s → CutOf s s
-    cut_list : {s t : Schema} {size : Size} {mark : Bool} → CutOf s t → CutOf (Schema.list s size mark) (Schema.list t size mark)
-    cut_set_of : {s t : Schema} {size : Size} {mark : Bool} → CutOf s t → CutOf (Schema.set_of s size mark) (Schema.set_of t size mark)
-    cut_sequence : {o : Order} {ext : Bool} {ps qs adds bdds : Parts} → CutParts ps qs → CutParts adds bdds → CutOf (Schema.sequence o ps ext adds) (Schema.sequence o qs ext bdds)
-    cut_choice : {ext : Bool} {ps qs adds bdds : Parts} → CutParts ps qs → CutParts adds bdds → CutOf (Schema.choice ps adds ext) (Schema.choice qs bdds ext)
+    cut_list : {s t : Schema} {size : Size} {mark : Bool} → CutOf s t
+        → CutOf (Schema.list s size mark) (Schema.list t size mark)
+    cut_set_of : {s t : Schema} {size : Size} {mark : Bool} → CutOf s t
+        → CutOf (Schema.set_of s size mark) (Schema.set_of t size mark)
+    cut_sequence : {o : Order} {ext : Bool} {ps qs adds bdds : Parts} → CutParts ps qs → CutParts adds bdds
+        → CutOf (Schema.sequence o ps ext adds) (Schema.sequence o qs ext bdds)
+    cut_choice : {ext : Bool} {ps qs adds bdds : Parts} → CutParts ps qs → CutParts adds bdds
+        → CutOf (Schema.choice ps adds ext) (Schema.choice qs bdds ext)
 
   -- the same of parts, additions or alternatives
   pub data CutParts : Parts → Parts → Type 0 where
     no_cut : CutParts no_parts no_parts
-    cut_part : {t : TagTree} {p : Presence} {s s' : Schema} {ps ps' : Parts} → CutOf s s' → CutParts ps ps' → CutParts (part t p s ps) (part t p s' ps')
+    cut_part : {t : TagTree} {p : Presence} {s s' : Schema} {ps ps' : Parts} → CutOf s s' → CutParts ps ps'
+        → CutParts (part t p s ps) (part t p s' ps')
 
 -- what a type's family of trees owes: each tree is the next one cut off, and every value is met whole by some tree
 pub record Unfolds (at : ℕ → Schema) : Type 0 where

@@ -84,7 +84,8 @@ field_tag (one_of t ts) = smallest (one_of t ts)
 -- the fields of components, in order, counted from a number
 abbrev pub shapes_from : ℕ → Parts → List Shape
 shapes_from i no_parts = []
-shapes_from i (part t p s ps) = record { index = i; tag = field_tag t; tree = Some t; presence = presence_of p } ∷ shapes_from (suc i) ps
+shapes_from i (part t p s ps) = record { index = i; tag = field_tag t; tree = Some t; presence = presence_of p }
+    ∷ shapes_from (suc i) ps
 
 -- whether a field has a presence bit
 abbrev pub may_be_absent : Shape → Bool

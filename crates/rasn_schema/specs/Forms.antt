@@ -9,7 +9,8 @@ use Rattle.rasn_schema.specs.Depth.{IsLeaf, CutOf, Unfolds, meets_cut}
 use Rattle.rasn_constraints.specs.Constraints.{bounds_in, size_in, is_marked, permitted}
 use Rattle.rasn_constraints.specs.declared.constraints.Constraints.{Constraints}
 
--- X.691 13: INTEGER under the first value constraint, with its mark, of a number type with a range. Other constraints change nothing.
+-- X.691 13: INTEGER under the first value constraint, with its mark, of a number type with a range. Other constraints
+-- change nothing.
 abbrev pub number_schema : Constraints → Bounds → Schema
 number_schema c range = Schema.number (bounds_in c.value) (is_marked c.value) range
 
@@ -21,7 +22,8 @@ size_of c = size_in c.size
 abbrev pub is_size_marked : Constraints → Bool
 is_size_marked c = is_marked c.size
 
--- X.691 30.4: the characters of a string type that the first permitted alphabet leaves, in the type's order; an extensible one isn't visible
+-- X.691 30.4: the characters of a string type that the first permitted alphabet leaves, in the type's order; an
+-- extensible one isn't visible
 abbrev pub alphabet_of : List ℕ → Constraints → List ℕ
 alphabet_of own c = permitted own c.alphabet
 
@@ -33,7 +35,8 @@ octet_schema c = Schema.octet_string (size_of c) (is_size_marked c)
 abbrev pub bit_schema : Constraints → Schema
 bit_schema c = Schema.bit_string (size_of c) (is_size_marked c)
 
--- X.691 30.5: a known-multiplier string of a type with these characters, under the first size constraint, with its mark, and the first permitted alphabet
+-- X.691 30.5: a known-multiplier string of a type with these characters, under the first size constraint, with its
+-- mark, and the first permitted alphabet
 abbrev pub character_schema : List ℕ → Constraints → Schema
 character_schema own c = Schema.char_string (alphabet_of own c) (size_of c) (is_size_marked c)
 

@@ -170,7 +170,8 @@ none_left (x ∷ xs) = false
 unfoldable mutual
   unfolding if_bag is_text is_time is_identifier
 
-  -- X.680: whether a value is one of a schema's kind, in the range of its number type, whatever its constraints; REAL has none
+  -- X.680: whether a value is one of a schema's kind, in the range of its number type, whatever its constraints; REAL
+  -- has none
   pub is_value : Schema → Value → Bool
   is_value Schema.boolean = if_truth
   is_value Schema.null = if_nothing
@@ -213,7 +214,8 @@ IsLawfulPresence s optional = Unit {0}
 IsLawfulPresence s group = is_group_schema s ≡ true
 IsLawfulPresence s (default d) = IsLawfulDefault s d
 
--- X.680 27.3: a SEQUENCE or SET, parts aside: no addition group in the root, fewer than 65536 root parts with a presence bit (this
+-- X.680 27.3: a SEQUENCE or SET, parts aside: no addition group in the root, fewer than 65536 root parts with a
+-- presence bit (this
 -- project's limit), and lawful tags
 pub record IsLawfulRecord (o : Order) (ps adds : Parts) : Type 0 where
   pub root_groups : no_groups ps ≡ true
@@ -228,7 +230,8 @@ pub record IsLawfulChoice (ps adds : Parts) : Type 0 where
 unfoldable mutual
   unfolding leaves is_value normal meets_cut
 
-  -- X.680: a lawful schema: its bounds and sizes are in order, its tags differ where they have to, its defaults are values of their
+  -- X.680: a lawful schema: its bounds and sizes are in order, its tags differ where they have to, its defaults are
+  -- values of their
   -- schemas in normal form, and it keeps within the limits of this project; so does each schema in it
   pub IsLawful : Schema → Type 0
   IsLawful (Schema.number bounds mark range) = are_lawful_bounds bounds.low bounds.high ≡ true

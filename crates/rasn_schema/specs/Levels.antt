@@ -31,14 +31,19 @@ mutual
     no_date : {n : ℕ} → n < 2 → ToLevels n Schema.cut Schema.date
     still_cut : {n : ℕ} → n < 2 → ToLevels n Schema.cut Schema.cut
     no_level : {t : Schema} → TakesLevel t → ToLevels zero Schema.cut t
-    to_list : {n : ℕ} {s t : Schema} {size : Size} {mark : Bool} → ToLevels n s t → ToLevels (suc n) (Schema.list s size mark) (Schema.list t size mark)
-    to_set_of : {n : ℕ} {s t : Schema} {size : Size} {mark : Bool} → ToLevels n s t → ToLevels (suc n) (Schema.set_of s size mark) (Schema.set_of t size mark)
-    to_sequence : {n : ℕ} {o : Order} {ext : Bool} {ps qs adds bdds : Parts} → PartsToLevels n ps qs → PartsToLevels n adds bdds → ToLevels (suc n) (Schema.sequence o ps ext adds) (Schema.sequence o qs ext bdds)
-    to_choice : {n : ℕ} {ext : Bool} {ps qs adds bdds : Parts} → PartsToLevels n ps qs → PartsToLevels n adds bdds → ToLevels (suc n) (Schema.choice ps adds ext) (Schema.choice qs bdds ext)
+    to_list : {n : ℕ} {s t : Schema} {size : Size} {mark : Bool} → ToLevels n s t
+        → ToLevels (suc n) (Schema.list s size mark) (Schema.list t size mark)
+    to_set_of : {n : ℕ} {s t : Schema} {size : Size} {mark : Bool} → ToLevels n s t
+        → ToLevels (suc n) (Schema.set_of s size mark) (Schema.set_of t size mark)
+    to_sequence : {n : ℕ} {o : Order} {ext : Bool} {ps qs adds bdds : Parts} → PartsToLevels n ps qs
+        → PartsToLevels n adds bdds → ToLevels (suc n) (Schema.sequence o ps ext adds) (Schema.sequence o qs ext bdds)
+    to_choice : {n : ℕ} {ext : Bool} {ps qs adds bdds : Parts} → PartsToLevels n ps qs → PartsToLevels n adds bdds
+        → ToLevels (suc n) (Schema.choice ps adds ext) (Schema.choice qs bdds ext)
 
   pub data PartsToLevels : ℕ → Parts → Parts → Type 0 where
     to_no_parts : {n : ℕ} → PartsToLevels n no_parts no_parts
-    to_part : {n : ℕ} {t : TagTree} {p : Presence} {s s' : Schema} {ps ps' : Parts} → ToLevels n s s' → PartsToLevels n ps ps' → PartsToLevels n (part t p s ps) (part t p s' ps')
+    to_part : {n : ℕ} {t : TagTree} {p : Presence} {s s' : Schema} {ps ps' : Parts} → ToLevels n s s'
+        → PartsToLevels n ps ps' → PartsToLevels n (part t p s ps) (part t p s' ps')
 
 -- what a type's family of trees owes: each is the next one to its number of levels
 abbrev pub Levelled : (ℕ → Schema) → Type 0
@@ -58,10 +63,12 @@ simple_levelled s h n = to_leaf h
 pub parts_levelled : LevelledParts no_additions
 parts_levelled n = to_no_parts
 
-pub part_levelled : {t : TagTree} {p : Presence} {s : ℕ → Schema} {ps : ℕ → Parts} → Levelled s → LevelledParts ps → LevelledParts (λ n. part t p (s n) (ps n))
+pub part_levelled : {t : TagTree} {p : Presence} {s : ℕ → Schema} {ps : ℕ → Parts} → Levelled s → LevelledParts ps
+    → LevelledParts (λ n. part t p (s n) (ps n))
 part_levelled u w n = to_part (u n) (w n)
 
 -- a record
-pub record_levelled : {o : Order} {extensible : Bool} {ps xs : ℕ → Parts} → LevelledParts ps → LevelledParts xs → Levelled (record_at o ps extensible xs)
+pub record_levelled : {o : Order} {extensible : Bool} {ps xs : ℕ → Parts} → LevelledParts ps → LevelledParts xs
+    → Levelled (record_at o ps extensible xs)
 record_levelled u w zero = no_level tt
 record_levelled u w (suc n) = to_sequence (u n) (w n)

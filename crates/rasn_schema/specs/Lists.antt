@@ -23,11 +23,13 @@ deepest levels [] = 0
 deepest levels (x ∷ xs) = max (levels x) (deepest levels xs)
 
 -- a family of lists
-pub list_levelled : {element : ℕ → Schema} (size : Size) (mark : Bool) → Levelled element → Levelled (list_at element size mark)
+pub list_levelled : {element : ℕ → Schema} (size : Size) (mark : Bool) → Levelled element
+    → Levelled (list_at element size mark)
 list_levelled size mark u zero = no_level tt
 list_levelled size mark u (suc n) = to_list (u n)
 
 -- SEQUENCE is the tag of each SEQUENCE OF
-pub list_tag : (element : ℕ → Schema) (size : Size) (mark : Bool) → IsTagOf (record { class = Universal; value = 16 }) (list_at element size mark)
+pub list_tag : (element : ℕ → Schema) (size : Size) (mark : Bool) → IsTagOf (record { class = Universal; value = 16 })
+    (list_at element size mark)
 list_tag element size mark zero = refl
 list_tag element size mark (suc n) = refl

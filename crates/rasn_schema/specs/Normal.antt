@@ -45,7 +45,8 @@ settle group s v = if is_vacant s v then None else Some v
 settle _ s v = Some v
 
 -- what becomes of the first part, where it is there, and of the others
-abbrev pub each_slot : (Value → Option Value) → (List (Option Value) → List (Option Value)) → List (Option Value) → List (Option Value)
+abbrev pub each_slot : (Value → Option Value) → (List (Option Value) → List (Option Value)) → List (Option Value)
+    → List (Option Value)
 each_slot f g [] = []
 each_slot f g (None ∷ xs) = None ∷ g xs
 each_slot f g (Some v ∷ xs) = f v ∷ g xs
@@ -62,7 +63,8 @@ over_bag f (bag vs) = bag_of (map f (values vs))
 over_bag f v = v
 
 -- the root parts and the additions of a record
-abbrev pub over_fields : (List (Option Value) → List (Option Value)) → (List (Option Value) → List (Option Value)) → Value → Value
+abbrev pub over_fields : (List (Option Value) → List (Option Value)) → (List (Option Value) → List (Option Value))
+    → Value → Value
 over_fields f g (fields r x) = fields (as_slots (f (slots r))) (as_slots (g (slots x)))
 over_fields f g v = v
 

@@ -23,7 +23,8 @@ mutual
 
 -- X.680 8.6: the order of tags: by class, then by number
 abbrev pub tag_less : Tag → Tag → Bool
-tag_less s t = if nat_lt s.class t.class then true else if nat_lt t.class s.class then false else nat_lt s.number t.number
+tag_less s t = if nat_lt s.class t.class then true else if nat_lt t.class s.class
+    then false else nat_lt s.number t.number
 
 -- the lesser of two tags
 abbrev pub lesser : Tag → Tag → Tag
@@ -53,10 +54,12 @@ pub data Order : Type 0 where
   listed by_tag : Order
 
 mutual
-  -- X.680 8.1, X.691 10.3: a type with its effective constraints. `marked` says that the constraint is extensible, `extensible` that
+  -- X.680 8.1, X.691 10.3: a type with its effective constraints. `marked` says that the constraint is extensible,
+  -- `extensible` that
   -- the type has an extension marker.
   pub data Schema : Type 0 where
-    -- X.691 12, 18, 15, 11.2, 24, 32: BOOLEAN; NULL; REAL; octets of a type that isn't known; OBJECT IDENTIFIER; DATE; and `cut`, where
+    -- X.691 12, 18, 15, 11.2, 24, 32: BOOLEAN; NULL; REAL; octets of a type that isn't known; OBJECT IDENTIFIER; DATE;
+    -- and `cut`, where
     -- the tree is cut off and nothing has an encoding
     boolean null real any identifier date cut : Schema
     -- X.691 30.6: a string that isn't a known-multiplier string
@@ -82,7 +85,8 @@ mutual
     -- X.691 23: CHOICE
     choice : (root : Parts) → (additions : Parts) → (extensible : Bool) → Schema
 
-  -- X.680 25, 27, 29: parts, additions or alternatives, each with its tags, its presence and its schema; an alternative is required
+  -- X.680 25, 27, 29: parts, additions or alternatives, each with its tags, its presence and its schema; an alternative
+  -- is required
   pub data Parts : Type 0 where
     no_parts : Parts
     part : TagTree → Presence → Schema → Parts → Parts

@@ -1,10 +1,12 @@
--- A code for tag trees, by which a proof tells them apart: a tree is written out in words, each of which makes a tree of those behind it.
+-- A code for tag trees, by which a proof tells them apart: a tree is written out in words, each of which makes a tree
+-- of those behind it.
 use Rattle.std.specs.Prelude.{◌≡◌, ℕ, zero, suc, List, [], ◌∷◌, refl}
 use Rattle.std.proofs.Common.{◌∙◌, ap}
 use Rattle.std.specs.Coded.{Coded, code_by, coded_ℕ, coded_list, coded×}
 use Rattle.rasn_schema.specs.Schemas.{TagTree, TagTrees, leaf, one_of, no_trees, tree}
 
--- a word: 0 and a tag for a leaf; 1 for a choice of a tree and further ones; 2 where further ones end; 3 for one of them before others
+-- a word: 0 and a tag for a leaf; 1 for a choice of a tree and further ones; 2 where further ones end; 3 for one of
+-- them before others
 abbrev pub Word : Type 0
 Word = ℕ × (ℕ × ℕ)
 
@@ -43,11 +45,13 @@ first_tree (t ∷ ts, fs) = t
 mutual
   pub made_tree : (t : TagTree) (ws : List Word) → made (tree_words t ws) ≡ (t ∷ (made ws).0, (made ws).1)
   made_tree (leaf t) ws = refl
-  made_tree (one_of t ts) ws = ap (make (1, (0, 0))) (made_tree t (trees_words ts ws) ∙ ap (λ m. (t ∷ m.0, m.1)) (made_trees ts ws))
+  made_tree (one_of t ts) ws = ap (make (1, (0, 0))) (made_tree t (trees_words ts ws) ∙ ap (λ m. (t ∷ m.0, m.1))
+      (made_trees ts ws))
 
   pub made_trees : (ts : TagTrees) (ws : List Word) → made (trees_words ts ws) ≡ ((made ws).0, ts ∷ (made ws).1)
   made_trees no_trees ws = refl
-  made_trees (tree t ts) ws = ap (make (3, (0, 0))) (made_tree t (trees_words ts ws) ∙ ap (λ m. (t ∷ m.0, m.1)) (made_trees ts ws))
+  made_trees (tree t ts) ws = ap (make (3, (0, 0))) (made_tree t (trees_words ts ws) ∙ ap (λ m. (t ∷ m.0, m.1))
+      (made_trees ts ws))
 
 abbrev pub tree_code : Coded TagTree
 tree_code = code_by (List Word) (coded_list (coded× coded_ℕ (coded× coded_ℕ coded_ℕ)))

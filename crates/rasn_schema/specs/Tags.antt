@@ -10,7 +10,8 @@ use Rattle.rasn_schema.specs.Schemas
 use Rattle.rasn_schema.specs.Schemas.{Schema, Parts, Order, listed, by_tag}
 use Rattle.rasn_schema.specs.Records.{record_at}
 
--- X.680 8.4, table 1: the universal numbers of the types of a kind. Several string types are of one kind. A CHOICE (X.680 29) and a
+-- X.680 8.4, table 1: the universal numbers of the types of a kind. Several string types are of one kind. A CHOICE
+-- (X.680 29) and a
 -- type that isn't known have no tag of their own, and 0 stands for it.
 abbrev pub universal_numbers : Schema → List ℕ
 universal_numbers Schemas.boolean = 1 ∷ []
@@ -63,6 +64,7 @@ sequence_tag root extensible additions zero = refl
 sequence_tag root extensible additions (suc n) = refl
 
 -- a CHOICE has no tag of its own
-pub choice_tag : (alternatives : ℕ → Parts) (xs : Option (List VariantShape)) (behind : ℕ → Parts) → IsTagOf EOC (choice_at alternatives xs behind)
+pub choice_tag : (alternatives : ℕ → Parts) (xs : Option (List VariantShape)) (behind : ℕ → Parts)
+    → IsTagOf EOC (choice_at alternatives xs behind)
 choice_tag alternatives xs behind zero = refl
 choice_tag alternatives xs behind (suc n) = refl

@@ -1,2 +1,10 @@
 pub mod Members
 pub mod Reading
+pub mod ItemOrder
+pub mod Read
+pub mod Loops
+pub mod Made
+pub mod Callers
+pub mod Ends
+pub mod InOrder
+pub mod Around

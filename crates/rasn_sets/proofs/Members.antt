@@ -7,10 +7,10 @@ use Rattle.rasn_constraints.specs.Bounds.{Size}
 use Rattle.rasn_schema.specs.Schemas.{Schema}
 use Rattle.rasn_schema.specs.Lists.{deepest}
 use Rattle.rasn_schema.specs.Normal.{normal, over_bag}
-use Rattle.rasn_calls.specs.Calls.{AtDepths, EncoderRules, Written}
-use Rattle.rasn_calls.specs.Bags.{AwaitsMember, BagOpened, ClosesBag, WritesMember, bag_schema}
-use Rattle.rasn_calls.specs.Lists.{Amid, ListForm}
-use Rattle.rasn_calls.proofs.Writing.{at_suc}
+use Rattle.rasn_traits.specs.Calls.{AtDepths, EncoderRules, Written}
+use Rattle.rasn_traits.specs.Bags.{AwaitsMember, BagOpened, ClosesBag, WritesMember, bag_schema}
+use Rattle.rasn_traits.specs.Lists.{Amid, ListForm}
+use Rattle.rasn_traits.proofs.Writing.{at_suc}
 use Rattle.per_core.specs.Versions.{all_of, joined}
 use Rattle.per_core.proofs.Bags.{bag_becomes, some_list, sort}
 use Rattle.rasn_sets.specs.Bags.{set_at}

@@ -13,7 +13,8 @@ set_at member size mark zero = Schemas.cut
 set_at member size mark (suc n) = Schema.set_of (member n) size mark
 
 -- a family of bags
-pub set_levelled : {member : ℕ → Schema} (size : Size) (mark : Bool) → Levelled member → Levelled (set_at member size mark)
+pub set_levelled : {member : ℕ → Schema} (size : Size) (mark : Bool) → Levelled member
+    → Levelled (set_at member size mark)
 set_levelled size mark u zero = no_level tt
 set_levelled size mark u (suc n) = to_set_of (u n)
 

@@ -1,2 +1,6 @@
 pub mod Bags
 pub mod Equality
+pub mod Components
+pub mod Made
+pub mod Turns
+pub mod SetRecords

@@ -15,7 +15,8 @@ expand (i ∷ is) = characters_of i ++ expand is
 -- whether each interval has a character, and all characters ascend from n on and are below 2 ^ 16
 abbrev pub ascend_from : ℕ → List Interval → Bool
 ascend_from n [] = true
-ascend_from n (i ∷ is) = nat_le n i.first && (nat_le i.first i.last && (nat_lt i.last (2 ^ 16) && ascend_from (i.last + 1) is))
+ascend_from n (i ∷ is) = nat_le n i.first && (nat_le i.first i.last &&
+    (nat_lt i.last (2 ^ 16) && ascend_from (i.last + 1) is))
 
 -- whether each of some characters is within an interval
 abbrev pub all_within : Interval → List ℕ → Bool

@@ -9,18 +9,24 @@ use Rattle.rasn_strings.specs.declared.intervals.Interval.{Interval}
 
 -- X.691 30.4, 30.5: the alphabet of a type's intervals, of which a list of characters may permit some
 abbrev pub alphabet_of : List Interval → Option (List ℕ) → Bool → Alphabet
-alphabet_of own permitted is_aligned = record { variant = variant_when is_aligned; characters = restricted_to (expand own) permitted }
+alphabet_of own permitted is_aligned = record {
+  variant = variant_when is_aligned;
+  characters =
+      restricted_to (expand own) permitted;
+}
 
 -- a list behind a reference, where there is one
 abbrev pub listed : Option (Bor (List ℕ)) → Option (List ℕ)
 listed permitted = option_map (λ p. p.now) permitted
 
--- whether a list is given that ascends strictly and has only characters of the type, so that it is itself what is permitted
+-- whether a list is given that ascends strictly and has only characters of the type, so that it is itself what is
+-- permitted
 abbrev pub is_in_order : List ℕ → Option (List ℕ) → Bool
 is_in_order own None = false
 is_in_order own (Some some) = rises_from 0 some && has_all own some
 
--- what is kept fits the alphabet: the bits of a character, whether each is written as its own value (X.691 30.5.4), an interval
+-- what is kept fits the alphabet: the bits of a character, whether each is written as its own value (X.691 30.5.4), an
+-- interval
 -- of permitted characters, and whether the list is in order
 pub record IsPrepared (own : List Interval) (permitted_list : Option (List ℕ)) (alphabet : Alphabet)
     (width : ℕ) (own_values : Bool) (run : Interval) (ascending : Bool) : Type 0 where

@@ -7,3 +7,6 @@ pub mod Reading
 pub mod Texts
 pub mod Values
 pub mod Widths
+pub mod ContentsRead
+pub mod Walking
+pub mod Writing

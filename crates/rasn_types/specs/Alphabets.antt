@@ -29,7 +29,8 @@ abbrev pub keep_own : Bool → ℕ → Option ℕ → Option ℕ
 keep_own own c None = None
 keep_own own c (Some i) = Some (if own then c else i)
 
--- X.691 30.5.4: the number that a character is written as: its own value where each permitted one fits its bits, else its place
+-- X.691 30.5.4: the number that a character is written as: its own value where each permitted one fits its bits, else
+-- its place
 unfoldable pub char_code : Variant → List ℕ → ℕ → Option ℕ
 unfolding width
 char_code a alphabet c = keep_own (nat_lt (greatest alphabet) (2 ^ char_width a alphabet)) c (index_of c alphabet)

@@ -1,8 +1,10 @@
--- Which contents a text, an identifier, a date and a time may have (ITU-T X.680, 32, 41, 46, 47; X.690, 8.19, 11.7, 11.8).
+-- Which contents a text, an identifier, a date and a time may have (ITU-T X.680, 32, 41, 46, 47; X.690, 8.19, 11.7,
+-- 11.8).
 use Rattle.std.specs.Prelude.{ℕ, zero, suc, ◌+◌, ◌-◌, ◌*◌, ◌%◌, ◌^◌, Bool, true, false, if◌then◌else◌, not, ◌&&◌, ◌||◌, nat_le, nat_lt, ◌==◌, List, [], ◌∷◌, length, take, drop, Option, Some, None, ℤ, pos, negsuc}
 use lib.Signed.{le_z}
 
--- X.680 41: a UTF8String; or a GeneralString, GraphicString or TeletexString, which is any octets (this project's choice)
+-- X.680 41: a UTF8String; or a GeneralString, GraphicString or TeletexString, which is any octets (this project's
+-- choice)
 pub data TextKind : Type 0 where
   utf8 other : TextKind
 
@@ -35,7 +37,8 @@ first_octet o =
 
 -- what follows one more octet; none where it may not stand there
 abbrev pub next_octet : Awaited → ℕ → Option Awaited
-next_octet w o = if w.more == 0 then first_octet o else if nat_le w.low o && nat_le o w.high then awaiting (w.more - 1) 128 191 else None
+next_octet w o = if w.more == 0 then first_octet o else if nat_le w.low o && nat_le o w.high then awaiting
+    (w.more - 1) 128 191 else None
 
 -- whether octets end whole where this is awaited before them
 abbrev pub utf8_after : Option Awaited → List ℕ → Bool
@@ -86,11 +89,13 @@ year_size (negsuc n) = n + 1
 
 -- the days of a month of a year
 abbrev pub days_in : ℤ → ℕ → ℕ
-days_in y m = if m == 2 then (if leap (year_size y) then 29 else 28) else if m == 4 || m == 6 || m == 9 || m == 11 then 30 else 31
+days_in y m = if m == 2 then (if leap (year_size y) then 29 else 28) else if m == 4 || m == 6 || m == 9
+    || m == 11 then 30 else 31
 
 -- X.680 38.4: whether year, month and day are a day of the calendar; years -9999 to 9999 (this project's choice)
 abbrev pub is_date : ℤ → ℕ → ℕ → Bool
-is_date y m d = nat_le 1 m && (nat_le 1 d && (nat_le m 12 && (nat_le d (days_in y m) && (le_z (negsuc 9998) y && le_z y (pos 9999)))))
+is_date y m d = nat_le 1 m &&
+    (nat_le 1 d && (nat_le m 12 && (nat_le d (days_in y m) && (le_z (negsuc 9998) y && le_z y (pos 9999)))))
 
 -- whether all characters are decimal digits
 abbrev pub are_digits : List ℕ → Bool
@@ -108,7 +113,8 @@ two i cs = decimal_from 0 (take 2 (drop i cs))
 
 -- whether the characters MMDDhhmmss, and what follows them, begin with a moment of year y; seconds of 60 are none
 abbrev pub is_moment : ℕ → List ℕ → Bool
-is_moment y cs = is_date (pos y) (two 0 cs) (two 2 cs) && (nat_lt (two 4 cs) 24 && (nat_lt (two 6 cs) 60 && nat_lt (two 8 cs) 60))
+is_moment y cs = is_date (pos y) (two 0 cs) (two 2 cs) &&
+    (nat_lt (two 4 cs) 24 && (nat_lt (two 6 cs) 60 && nat_lt (two 8 cs) 60))
 
 -- whether the characters are Z alone
 abbrev pub is_z : List ℕ → Bool
@@ -130,5 +136,7 @@ is_fraction (c ∷ cs) = (c == 90 && is_z (c ∷ cs)) || (c == 46 && ends_well 9
 -- X.690 11.7, 11.8: whether characters are the one text of a time. UTCTime is YYMMDDhhmmssZ, 00 to 49 meaning 20xx and
 -- 50 to 99 meaning 19xx; GeneralizedTime is YYYYMMDDhhmmss, a fraction if there is one, and Z (this project's choice).
 unfoldable pub is_time : TimeKind → List ℕ → Bool
-is_time TimeKind.utc cs = nat_le 12 (length cs) && (are_digits (take 12 cs) && (is_z (drop 12 cs) && is_moment ((if nat_lt (two 0 cs) 50 then 2000 else 1900) + two 0 cs) (drop 2 cs)))
-is_time TimeKind.generalized cs = nat_le 14 (length cs) && (are_digits (take 14 cs) && (is_fraction (drop 14 cs) && is_moment (decimal_from 0 (take 4 cs)) (drop 4 cs)))
+is_time TimeKind.utc cs = nat_le 12 (length cs) && (are_digits (take 12 cs) &&
+    (is_z (drop 12 cs) && is_moment ((if nat_lt (two 0 cs) 50 then 2000 else 1900) + two 0 cs) (drop 2 cs)))
+is_time TimeKind.generalized cs = nat_le 14 (length cs) &&
+    (are_digits (take 14 cs) && (is_fraction (drop 14 cs) && is_moment (decimal_from 0 (take 4 cs)) (drop 4 cs)))

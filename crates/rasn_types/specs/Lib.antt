@@ -8,3 +8,4 @@ pub mod Octets
 pub mod Packed
 pub mod Values
 pub mod Variants
+pub mod Identifiers

@@ -6,7 +6,8 @@ pub data Side : Type 0 where
   root added : Side
 
 mutual
-  -- X.680: the value of a type; octets are also those of a text, an identifier and an open type, characters also those of a time
+  -- X.680: the value of a type; octets are also those of a text, an identifier and an open type, characters also those
+  -- of a time
   pub data Value : Type 0 where
     -- X.680 19: of INTEGER
     whole : ℤ → Value
@@ -137,7 +138,8 @@ abbrev pub sorted {ℓ} : {A : Type ℓ} → (A → A → Bool) → List A → L
 sorted less [] = []
 sorted less (x ∷ xs) = put less x (sorted less xs)
 
--- X.680 28: the bag with these elements. A bag is kept as its elements in one order, that of their lists: so equal bags are equal
+-- X.680 28: the bag with these elements. A bag is kept as its elements in one order, that of their lists: so equal bags
+-- are equal
 -- values (this project's choice)
 unfoldable pub bag_of : List Value → Value
 unfolding code

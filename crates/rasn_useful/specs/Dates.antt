@@ -3,7 +3,7 @@ use Rattle.std.proofs.Common.{zero, suc, arith, refl}
 use Rattle.rasn_types.specs.declared.types.TheConstants.Tag.{DATE}
 use Rattle.rasn_schema.specs.Levels.{Levelled, no_date, still_cut, to_date}
 use Rattle.rasn_schema.specs.Tags.{IsTagOf}
-use Rattle.rasn_calls.specs.Moments.{date_at}
+use Rattle.rasn_traits.specs.Moments.{date_at}
 
 -- each tree is the next one to its number of levels
 pub date_levelled : Levelled date_at

@@ -4,7 +4,7 @@ ghost use Rattle.std.specs.Prelude.{◌≡◌};
 ghost use Rattle.rasn_types.specs.declared.types.TheConstants.Tag.{DATE};
 ghost use Rattle.rasn_constraints.specs.Ranges.{no_constraints};
 ghost use Rattle.rasn_times.specs.Values.{date_value};
-ghost use Rattle.rasn_calls.specs.Moments.{date_at};
+ghost use Rattle.rasn_traits.specs.Moments.{date_at};
 ghost use Rattle.rasn_useful.specs.Dates.{date_levelled, date_tag};
 
 use jiff::civil;

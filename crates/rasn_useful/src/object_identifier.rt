@@ -8,7 +8,7 @@ ghost use Rattle.rasn_constraints.specs.Ranges.{no_constraints};
 ghost use Rattle.rasn_schema.specs.Forms.{always};
 ghost use Rattle.rasn_schema.specs.Levels.{simple_levelled};
 ghost use Rattle.rasn_schema.specs.Schemas.{Schema};
-ghost use Rattle.rasn_calls.specs.Moments.{identifier_value};
+ghost use Rattle.rasn_traits.specs.Moments.{identifier_value};
 
 use rasn_codec::codec::{Decode, Decoder, Encode, Encoder};
 use rasn_schema::schema::{AsnType, Constraints};

@@ -10,8 +10,8 @@ use Rattle.rasn_schema.specs.Schemas.{Presence, required, optional, group, defau
 use Rattle.per_core.proofs.Codes.{same_true}
 use Rattle.per_core.proofs.Lengths.{and_left, and_right, or_left, or_right}
 use Rattle.per_laws.proofs.Types.{less_cut}
-use Rattle.per_depth.proofs.Levelled.{levelled_type_unfolds, levels_up_to, to_cut}
-use Rattle.per_depth.proofs.NormalForms.{normal_alike}
+use Rattle.per_laws.proofs.Levelled.{levelled_type_unfolds, levels_up_to, to_cut}
+use Rattle.per_laws.proofs.NormalForms.{normal_alike}
 use Rattle.rasn_versions.specs.Alike.{is_whole, are_whole}
 use Rattle.rasn_versions.specs.Judged.{is_good_default, are_told_apart, judge_presence, judge_tags, judge_record, judge_choice, judge, judge_parts, judgement}
 use Rattle.rasn_versions.specs.Verdicts.{allowed, bad_bounds, bad_size, root_group, bad_group, many_bits, repeated_tag, bad_alternative, bad_default, no_end, in_element, in_root, in_additions, at_place, both, unless, within}

@@ -1,5 +1,6 @@
 //! Newer versions by what was added to them, and lawful types by their parts, also where a type that holds itself
-//! stands in them, of which computing finds no end (X.680, 52). Each law is the contract of a function that does nothing.
+//! stands in them, of which computing finds no end (X.680, 52). Each law is the contract of a function that does
+//! nothing.
 
 ghost use Rattle.std.specs.Prelude.{◌≡◌, ℕ, ◌+◌, ◌++◌, Bool, true, false, List, Some};
 ghost use Rattle.rasn_constraints.specs.Bounds.{Size};

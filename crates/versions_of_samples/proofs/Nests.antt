@@ -9,12 +9,12 @@ use Rattle.rasn_schema.specs.Normal.{normal}
 use Rattle.rasn_schema.specs.Schemas.{Schema}
 use Rattle.rasn_below.specs.Components.{extended_at, extended_levelled}
 use Rattle.rasn_below.specs.Types.{date_at}
-use Rattle.per_depth.proofs.Levelled.{levelled_type_unfolds}
-use Rattle.per_samples_e.specs.AddedNests.{nest_additions, nest_root}
-use Rattle.per_samples_e.specs.Deeps.{deep, nest_with}
-use Rattle.per_samples_e.specs.Mutuals.{ping, ping_schema, pong, pong_schema}
-use Rattle.per_samples_e.specs.Nests.{nest, nest_schema}
-use Rattle.per_samples_l.specs.Dnests.{dnest, dnest_schema}
+use Rattle.per_laws.proofs.Levelled.{levelled_type_unfolds}
+use Rattle.per_samples_lists.specs.AddedNests.{nest_additions, nest_root}
+use Rattle.per_samples_lists.specs.Deeps.{deep, nest_with}
+use Rattle.per_samples_lists.specs.Mutuals.{ping, ping_schema, pong, pong_schema}
+use Rattle.per_samples_lists.specs.Nests.{nest, nest_schema}
+use Rattle.per_samples_sets.specs.Dnests.{dnest, dnest_schema}
 
 of_levels : (T : ℕ → Schema) → Levelled T → ((n : ℕ) → IsLawful (T n)) → IsLawfulType T
 of_levels T g h = record { unfolds = levelled_type_unfolds T g; lawful = h }

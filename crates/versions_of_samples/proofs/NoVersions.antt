@@ -4,7 +4,7 @@ use Rattle.rasn_schema.specs.Forms.{always}
 use Rattle.rasn_schema.specs.Schemas.{TagTree, Presence, Order, Schema, Parts, no_parts, part}
 use Rattle.rasn_below.specs.Components.{extended_at}
 use Rattle.per_core.specs.Versions.{Newer, NewerParts, NewerType, unchanged, more_items, newer_sequence, also}
-use Rattle.per_samples_f.specs.Outers.{outer_root, outer2_additions, outer3_additions}
+use Rattle.per_samples_b.specs.Outers.{outer_root, outer2_additions, outer3_additions}
 
 of_additions : {o o' : Order} {ext ext' : Bool} {ps' ps adds' adds : Parts} → Newer (Schema.sequence o' ps' ext' adds') (Schema.sequence o ps ext adds) → NewerParts ext adds' adds
 of_additions (unchanged h) = absurd h

@@ -3,12 +3,12 @@
 
 ghost use Rattle.per_core.specs.Versions.{NewerType};
 
-use per_samples_f::added_default::AddedDefault;
-use per_samples_f::none_needed::NoneNeeded;
-use per_samples_f::one_needed::OneNeeded;
-use per_samples_f::outer1::{Outer1, Outers1};
-use per_samples_f::outer2::Outer2;
-use per_samples_f::outer3::{Outer3, Outers3};
+use per_samples_b::added_default::AddedDefault;
+use per_samples_b::none_needed::NoneNeeded;
+use per_samples_b::one_needed::OneNeeded;
+use per_samples_b::outer1::{Outer1, Outers1};
+use per_samples_b::outer2::Outer2;
+use per_samples_b::outer3::{Outer3, Outers3};
 use rasn_below::AsnType;
 use rasn_versions::is_newer_version;
 

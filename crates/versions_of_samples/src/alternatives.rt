@@ -3,10 +3,10 @@
 
 ghost use Rattle.per_core.specs.Versions.{NewerType};
 
+use per_samples_b::alt1::Alt1;
+use per_samples_b::alt2::Alt2;
 use per_samples_c::colors::TwoColors;
 use per_samples_c::one_color::OneColor;
-use per_samples_h::alt1::Alt1;
-use per_samples_h::alt2::Alt2;
 use rasn_below::AsnType;
 use rasn_versions::is_newer_version;
 

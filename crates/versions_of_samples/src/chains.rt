@@ -11,9 +11,9 @@ ghost use Rattle.per_versions.specs.Answers.{Answers, AreKnown};
 ghost use Rattle.per_versions.specs.Readings.{IsProjection, IsWidening};
 
 use crate::additions::{outer2_adds_to_outer1, outer3_adds_to_outer2};
-use per_samples_f::outer1::Outer1;
-use per_samples_f::outer2::Outer2;
-use per_samples_f::outer3::Outer3;
+use per_samples_b::outer1::Outer1;
+use per_samples_b::outer2::Outer2;
+use per_samples_b::outer3::Outer3;
 use per_versions::chains::{
     newest_is_newer_than_the_oldest, newest_reader_answers_the_same_by_way_of_the_middle,
     oldest_reader_answers_the_same_by_way_of_the_middle,

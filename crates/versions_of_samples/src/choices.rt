@@ -3,16 +3,16 @@
 
 ghost use Rattle.rasn_schema.specs.Lawful.{IsLawfulType};
 
+use per_samples_b::alt1::Alt1;
+use per_samples_b::alt2::Alt2;
+use per_samples_b::two_alternatives::TwoAlternatives;
 use per_samples_c::colors::TwoColors;
 use per_samples_c::one_color::OneColor;
-use per_samples_e::choice::Outer;
-use per_samples_h::alt1::Alt1;
-use per_samples_h::alt2::Alt2;
-use per_samples_h::two_alternatives::TwoAlternatives;
-use per_samples_i::connect::Connect;
-use per_samples_j::set::Set;
-use per_samples_j::set_choice::SetChoice;
-use per_samples_j::set_optional::SetOptional;
+use per_samples_lists::choice::Outer;
+use per_samples_sets::connect::Connect;
+use per_samples_sets::set::Set;
+use per_samples_sets::set_choice::SetChoice;
+use per_samples_sets::set_optional::SetOptional;
 use rasn_below::AsnType;
 use rasn_versions::is_lawful;
 

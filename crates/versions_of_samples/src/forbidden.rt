@@ -11,7 +11,7 @@ ghost use Rattle.rasn_versions.specs.Compared.{comparison};
 ghost use Rattle.rasn_versions.specs.Verdicts.{allowed, at_place, in_additions, in_element, in_root, left_out};
 ghost use Rattle.rasn_versions.specs.Verdicts.{other_bounds, other_default, other_items, other_kind, other_marker};
 ghost use Rattle.rasn_versions.specs.Verdicts.{other_presence, other_range, other_size, other_tag, put_in};
-ghost use Rattle.per_samples_f.specs.Outers.{flagged, outer_root, outer2_additions, outer3_additions};
+ghost use Rattle.per_samples_b.specs.Outers.{flagged, outer_root, outer2_additions, outer3_additions};
 
 /// An addition is left out at the end, or of the middle, so that the next one stands in its place; and one is put in
 /// front of others.

@@ -5,7 +5,7 @@ ghost use Rattle.rasn_schema.specs.Lawful.{IsLawfulType};
 
 use per_samples_a::bounded::{MinusOneTo254, OneToTenExtensible, ZeroTo65536};
 use per_samples_a::half_bounded::{FromMinusOne, Natural, UpTo65535};
-use per_samples_b::strings::{LettersAToE, OnlyX, ShortVisible};
+use per_samples_a::strings::{LettersAToE, OnlyX, ShortVisible};
 use rasn_below::AsnType;
 use rasn_below::types::{BitString, Date, Integer, OctetString, SetOf, UtcTime};
 use rasn_versions::is_lawful;

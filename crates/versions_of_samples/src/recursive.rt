@@ -4,12 +4,12 @@
 
 ghost use Rattle.rasn_schema.specs.Lawful.{IsLawfulType};
 
-use per_samples_e::added_nest::AddedNest;
-use per_samples_e::deep::Deep;
-use per_samples_e::nest::Nest;
-use per_samples_e::ping::Ping;
-use per_samples_e::pong::Pong;
-use per_samples_l::dnest::Dnest;
+use per_samples_lists::added_nest::AddedNest;
+use per_samples_lists::deep::Deep;
+use per_samples_lists::nest::Nest;
+use per_samples_lists::ping::Ping;
+use per_samples_lists::pong::Pong;
+use per_samples_sets::dnest::Dnest;
 use rasn_below::AsnType;
 
 /// A SEQUENCE that holds itself, with a date beside it, and two that hold one another.

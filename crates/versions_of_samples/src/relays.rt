@@ -14,8 +14,8 @@ ghost use Rattle.per_versions.specs.Readings.{normal_form};
 
 use crate::additions::outer3_adds_to_outer1;
 use crate::records::extensible_records_are_lawful;
-use per_samples_f::outer1::Outer1;
-use per_samples_f::outer3::Outer3;
+use per_samples_b::outer1::Outer1;
+use per_samples_b::outer3::Outer3;
 use per_versions::relays::relay_changes_nothing_that_the_older_sees;
 use rasn_below::AsnType;
 

@@ -4,14 +4,14 @@
 
 ghost use Rattle.per_core.specs.Versions.{NewerType};
 
-use per_samples_e::added_nest::AddedNest;
-use per_samples_e::before_nest::BeforeNest;
-use per_samples_f::none_needed::NoneNeeded;
-use per_samples_g::default_outer1::DefaultOuter1;
-use per_samples_g::default_outer3::DefaultOuter3;
-use per_samples_g::grouped1::Grouped1;
-use per_samples_g::grouped2::Grouped2;
-use per_samples_m::many::Many;
+use per_samples_b::many::Many;
+use per_samples_b::none_needed::NoneNeeded;
+use per_samples_c::default_outer1::DefaultOuter1;
+use per_samples_c::default_outer3::DefaultOuter3;
+use per_samples_c::grouped1::Grouped1;
+use per_samples_c::grouped2::Grouped2;
+use per_samples_lists::added_nest::AddedNest;
+use per_samples_lists::before_nest::BeforeNest;
 use rasn_below::AsnType;
 use rasn_versions::is_newer_version;
 

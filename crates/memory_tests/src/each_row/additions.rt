@@ -1,13 +1,13 @@
 //! Rows of additions.
 
 use crate::each_row::{Rows, is_any_row_refused};
-use per_samples_f::added_default::AddedDefault;
-use per_samples_f::grouped::Grouped;
-use per_samples_f::none_needed::NoneNeeded;
-use per_samples_f::one_needed::OneNeeded;
-use per_samples_f::outer1::Outer1;
-use per_samples_f::outer2::Outer2;
-use per_samples_f::outer3::Outer3;
+use per_samples_b::added_default::AddedDefault;
+use per_samples_b::grouped::Grouped;
+use per_samples_b::none_needed::NoneNeeded;
+use per_samples_b::one_needed::OneNeeded;
+use per_samples_b::outer1::Outer1;
+use per_samples_b::outer2::Outer2;
+use per_samples_b::outer3::Outer3;
 use rasn_below::types::Codec::{Aper, Uper};
 use std::alloc::Global;
 use std::process::Abort;

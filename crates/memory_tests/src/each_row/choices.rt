@@ -1,15 +1,15 @@
 //! Rows of ENUMERATED, CHOICE and SET.
 
 use crate::each_row::{Rows, is_any_row_refused};
+use per_samples_b::alt1::Alt1;
+use per_samples_b::alt2::Alt2;
+use per_samples_b::two_alternatives::TwoAlternatives;
 use per_samples_c::colors::TwoColors;
 use per_samples_c::one_color::OneColor;
-use per_samples_e::choice::Outer;
-use per_samples_h::alt1::Alt1;
-use per_samples_h::alt2::Alt2;
-use per_samples_h::two_alternatives::TwoAlternatives;
-use per_samples_j::set::Set;
-use per_samples_j::set_choice::SetChoice;
-use per_samples_j::set_optional::SetOptional;
+use per_samples_lists::choice::Outer;
+use per_samples_sets::set::Set;
+use per_samples_sets::set_choice::SetChoice;
+use per_samples_sets::set_optional::SetOptional;
 use rasn_below::types::Codec::{Aper, Uper};
 use std::alloc::Global;
 use std::process::Abort;

@@ -1,11 +1,11 @@
 //! Rows of groups with additions of their own, and defaults.
 
 use crate::each_row::{Rows, is_any_row_refused};
-use per_samples_g::default_outer1::DefaultOuter1;
-use per_samples_g::default_outer3::DefaultOuter3;
-use per_samples_g::grouped1::Grouped1;
-use per_samples_g::grouped2::Grouped2;
-use per_samples_m::many::Many;
+use per_samples_b::many::Many;
+use per_samples_c::default_outer1::DefaultOuter1;
+use per_samples_c::default_outer3::DefaultOuter3;
+use per_samples_c::grouped1::Grouped1;
+use per_samples_c::grouped2::Grouped2;
 use rasn_below::types::Codec::{Aper, Uper};
 use std::alloc::Global;
 use std::process::Abort;

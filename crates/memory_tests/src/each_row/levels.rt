@@ -1,11 +1,11 @@
 //! Rows of recursive types.
 
 use crate::each_row::{Rows, is_any_row_refused};
-use per_samples_e::added_nest::AddedNest;
-use per_samples_e::before_nest::BeforeNest;
-use per_samples_e::deep::Deep;
-use per_samples_e::nest::Nest;
-use per_samples_l::dnest::Dnest;
+use per_samples_lists::added_nest::AddedNest;
+use per_samples_lists::before_nest::BeforeNest;
+use per_samples_lists::deep::Deep;
+use per_samples_lists::nest::Nest;
+use per_samples_sets::dnest::Dnest;
 use rasn_below::types::Codec::{Aper, Uper};
 use std::alloc::Global;
 use std::process::Abort;

@@ -1,10 +1,10 @@
 //! Rows of more than 64 octets, and two of 16384 and 65536 characters of no bits.
 
 use crate::each_call::is_any_refused;
-use per_samples_b::strings::OnlyX;
-use per_samples_e::before_nest::BeforeNest;
-use per_samples_e::lists::Bytes;
-use per_samples_f::outer1::Outer1;
+use per_samples_a::strings::OnlyX;
+use per_samples_b::outer1::Outer1;
+use per_samples_lists::before_nest::BeforeNest;
+use per_samples_lists::lists::Bytes;
 use rasn_below::codec::{Decode, Encode};
 use rasn_below::types::Codec::{Aper, Uper};
 use rasn_below::types::{BitString, Codec, OctetString};

@@ -1,8 +1,8 @@
 //! Rows of strings, identifiers and times.
 
 use crate::each_row::{Rows, is_any_row_refused};
-use per_samples_b::strings::{LettersAToE, OnlyX, ShortVisible};
-use per_samples_i::connect::Connect;
+use per_samples_a::strings::{LettersAToE, OnlyX, ShortVisible};
+use per_samples_sets::connect::Connect;
 use rasn_below::types::Codec::{Aper, Uper};
 use rasn_below::types::{BitString, Date, OctetString, UtcTime};
 use std::alloc::Global;

@@ -1,7 +1,7 @@
 //! What a `Decoder` reads, call by call: over any decoder, since to prove it of one alone costs several times as much.
 
 use crate::expected::expect_equal;
-use per_samples_f::one_needed::OneNeeded;
+use per_samples_b::one_needed::OneNeeded;
 use rasn_below::codec::{Decoder as AnyDecoder, ExtensionDecoder};
 use rasn_below::types::Tag;
 use rasn_below::{AsnType, Constraints};

@@ -2,7 +2,7 @@
 //! much.
 
 use crate::expected::{expect_equal, expect_items};
-use per_samples_f::one_needed::OneNeeded;
+use per_samples_b::one_needed::OneNeeded;
 use rasn_below::codec::{Encoder as AnyEncoder, ExtensionEncoder};
 use rasn_below::types::{Identifier, Tag};
 use rasn_below::{AsnType, Constraints};

@@ -3,9 +3,9 @@
 use crate::expected::{expect_coded, expect_variants};
 use jiff::civil;
 use jiff::civil::DateTime;
-use per_samples_i::connect::Connect;
-use per_samples_i::key::Key;
-use per_samples_i::period::Period;
+use per_samples_sets::connect::Connect;
+use per_samples_sets::key::Key;
+use per_samples_sets::period::Period;
 use rasn_below::types::{Codec, Date, GeneralizedTime, ObjectIdentifier, OctetString, UtcTime};
 use std::alloc::{AllocError, Global};
 use std::test::Fail;

@@ -5,8 +5,8 @@ use Rattle.rasn_schema.specs.Fields.{may_be_absent}
 use Rattle.rasn_schema.specs.Lawful.{presence_bits}
 use Rattle.rasn_schema.specs.Records.{record_at}
 use Rattle.rasn_schema.specs.Schemas.{listed, count as part_count}
-use Rattle.rasn_calls.proofs.Optionals.{bits_counted}
-use Rattle.rasn_calls.specs.Additions.{extended}
+use Rattle.rasn_traits.proofs.Optionals.{bits_counted}
+use Rattle.rasn_traits.specs.Additions.{extended}
 use Rattle.per_de.proofs.Additions.{shapes_counted}
 use Rattle.per_de.proofs.Calls.{too_deep}
 use Rattle.per_de.proofs.Opening.{opens_record, no_bit, no_front}

@@ -1,6 +1,6 @@
 use Rattle.std.proofs.Common.{◌≡◌, ◌∙◌, ap, arith, rules}
 use Rattle.std.proofs.lemmas.Result.{err_from_is_err_and}
-use Rattle.per_scopes.specs.Scopes.{with_outside}
+use Rattle.per_decoding.specs.Scopes.{with_outside}
 use Rattle.per_de.specs.Outsides.{outside_of}
 use Rattle.per_de.proofs.Additions.{bitmap_unread, record_closed, unknown_unread}
 use Rattle.per_de.proofs.DecoderDecoder.close_sequence.Goals as goal

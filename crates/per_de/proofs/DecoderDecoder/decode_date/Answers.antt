@@ -1,7 +1,7 @@
 use Rattle.std.proofs.Common.{ap, ◌∙◌, length, rules}
 use Rattle.std.proofs.lemmas.Result.{err_from_is_err_and}
 use Rattle.rasn_schema.specs.Schemas
-use Rattle.per_scopes.specs.State.{reader_of}
+use Rattle.per_decoding.specs.State.{reader_of}
 use Rattle.per_de.proofs.Calls.{reads}
 use Rattle.per_de.proofs.MomentCalls.{date_too_deep, date_within}
 use Rattle.per_de.proofs.DecoderDecoder.decode_date.Goals as goal

@@ -1,6 +1,6 @@
 use Rattle.std.proofs.Common.{◌≡◌, ◌∷◌, ◌+◌, ap, sym, ◌∙◌, rules, slice_get, Some}
 use Rattle.per_de.specs.Sources.{bits_of, span_of}
-use Rattle.per_scopes.specs.State.{State}
+use Rattle.per_decoding.specs.State.{State}
 use Rattle.per_de.proofs.Spans.{behind, first_bit, one_more}
 use Rattle.per_de.proofs.DecoderDecoder.next_presence.Goals as goal
 

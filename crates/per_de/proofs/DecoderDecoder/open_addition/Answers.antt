@@ -1,6 +1,6 @@
 use Rattle.std.proofs.Common.{rules, Some, true}
 use Rattle.std.proofs.lemmas.Result.{err_from_is_err_and}
-use Rattle.per_scopes.specs.Additions.{Asks}
+use Rattle.per_decoding.specs.Additions.{Asks}
 use Rattle.per_de.proofs.Additions.{no_addition, no_contents}
 use Rattle.per_de.proofs.DecoderDecoder.open_addition.Goals as goal
 

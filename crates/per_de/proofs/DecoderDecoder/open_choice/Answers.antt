@@ -4,7 +4,7 @@ use Rattle.rasn_schema.specs.Choices.{choices_of, choice_of, is_extensible, one_
 use Rattle.rasn_schema.specs.Fields.{tag_of}
 use Rattle.rasn_schema.specs.Schemas.{Schema}
 use Rattle.per_read_types.specs.Choices.{index_of}
-use Rattle.per_scopes.specs.ChoiceLaws.{level_inside}
+use Rattle.per_decoding.specs.ChoiceLaws.{level_inside}
 use Rattle.per_de.proofs.Calls.{too_deep}
 use Rattle.per_de.proofs.Choosing.{alternative_there, at_level, below, below_variants, opens_choice, place_found, refused_contents, refused_index}
 use Rattle.per_de.proofs.DecoderDecoder.open_choice.Goals as goal

@@ -2,7 +2,7 @@ use Rattle.std.proofs.Common.{refl, rules, ap, ◌∙◌, length}
 use Rattle.std.proofs.lemmas.Result.{err_from_is_err_and}
 use Rattle.rasn_schema.specs.Forms.{is_size_marked, size_of}
 use Rattle.rasn_schema.specs.Lists.{list_at}
-use Rattle.per_scopes.specs.State.{reader_of}
+use Rattle.per_decoding.specs.State.{reader_of}
 use Rattle.per_de.proofs.Calls.{too_deep}
 use Rattle.per_de.proofs.Listing.{list_begun, no_list_begun}
 use Rattle.per_de.proofs.DecoderDecoder.open_list.Goals as goal

@@ -1,7 +1,7 @@
 use Rattle.std.proofs.Common.{ap, ap₂, ◌∙◌, length, rules}
 use Rattle.std.specs.Prelude.{count_by, nat_lt}
 use Rattle.rasn_schema.specs.Fields.{may_be_absent}
-use Rattle.rasn_calls.proofs.Optionals.{bits_counted}
+use Rattle.rasn_traits.proofs.Optionals.{bits_counted}
 use Rattle.per_enc.proofs.Given.{family_closed, required_counted, shapes_counted}
 use Rattle.per_enc.proofs.EncoderEncoder.close_group.Goals as goal
 

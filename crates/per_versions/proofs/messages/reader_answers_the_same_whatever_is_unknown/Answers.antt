@@ -1,4 +1,4 @@
-use Rattle.per_alike.proofs.Sound.{read_the_same}
+use Rattle.per_laws.proofs.Sound.{read_the_same}
 use Rattle.per_versions.proofs.Fronts
 use Rattle.per_versions.proofs.Laws
 use Rattle.per_versions.proofs.messages.reader_answers_the_same_whatever_is_unknown.Goals as goal

@@ -2,7 +2,7 @@ use Rattle.std.proofs.Common.{◌≡◌, ◌+◌, ◌-◌, ◌*◌, ◌/◌, ari
 use Rattle.std.proofs.lemmas.Result.{on_ok_weaker}
 use Rattle.rasn_types.specs.Codecs.{variant_of}
 use Rattle.rasn_types.specs.Variants.{Variant}
-use Rattle.per_numbers.proofs.Fragments.{first_fragment}
+use Rattle.per_pieces.proofs.Fragments.{first_fragment}
 use Rattle.per_write.proofs.Counting.{fragment_written, last_written}
 use Rattle.per_write.proofs.Writing.{remains_all}
 use Rattle.per_write.proofs.Writer.put_unconstrained_items.Goals as goal

@@ -1,5 +1,5 @@
 use Rattle.std.proofs.Common.{◌∙◌, ◌++◌, ap, inr, rules}
-use Rattle.rasn_ber.specs.Identifiers.{are_arcs, contents}
+use Rattle.rasn_types.specs.Identifiers.{are_arcs, contents}
 use Rattle.per_write_types.proofs.Moments.{identifier_law, identifier_refused, passes_unless}
 use Rattle.per_write_types.proofs.identifiers.put_object_identifier.Goals as goal
 

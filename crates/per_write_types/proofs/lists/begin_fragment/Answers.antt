@@ -1,6 +1,6 @@
 use Rattle.std.proofs.Common.{◌≡◌, ◌*◌, ◌/◌, arith, rules}
 use Rattle.per_write_types.proofs.Elements.{begins_few, begins_many}
-use Rattle.per_numbers.proofs.Fragments.{first_fragment}
+use Rattle.per_pieces.proofs.Fragments.{first_fragment}
 use Rattle.per_write_types.proofs.lists.begin_fragment.Goals as goal
 
 pub returns-then-count-lt-FRAGMENT : goal.returns-then-count-lt-FRAGMENT

@@ -1,6 +1,6 @@
 use Rattle.std.proofs.Common.{◌≡◌, false, suc, List, ◌∷◌, arith, rules}
 use Rattle.rasn_types.specs.Values.{Value}
-use Rattle.rasn_calls.specs.Lists.{ListForm}
+use Rattle.rasn_traits.specs.Lists.{ListForm}
 use Rattle.per_write_types.specs.Lists.{AmidList, count_left}
 use Rattle.per_write.specs.State.{State}
 use Rattle.per_write_types.proofs.Elements.{begins_left, element_next, fragment_begun_at, none_begun}

@@ -1,6 +1,6 @@
 use Rattle.std.proofs.Common.{◌∙◌, ap, refl, subst, Err}
 use Rattle.per_core.specs.Ends.{Ends}
-use Rattle.per_complete.specs.Surpluses.{IsWhy}
+use Rattle.per_bits.specs.Surpluses.{IsWhy}
 use Rattle.std.proofs.lemmas.Result.{err_from_is_err_and}
 use Rattle.rasn_types.proofs.Reading.{are_octets}
 use Rattle.rasn_per.proofs.Answered.{read, unread, surplus}

@@ -3,7 +3,7 @@ use Rattle.std.proofs.Common.{◌≤◌, length, subst, List, arith, rules}
 use Rattle.rasn_types.specs.Variants.{unaligned}
 use Rattle.per_core.specs.Writers.{Writer, one_by_one}
 use Rattle.per_write.specs.State.{Wrote}
-use Rattle.per_numbers.proofs.Fragments.{length-octet_writers, octets_between}
+use Rattle.per_pieces.proofs.Fragments.{length-octet_writers, octets_between}
 use Rattle.per_write.proofs.items.OctetsItems.put.Goals as goal
 
 pub slice_bounds-put_bare_octets-end : goal.slice_bounds-put_bare_octets-end

@@ -1,8 +1,8 @@
 use Rattle.std.proofs.Common.{rules}
 use Rattle.std.proofs.lemmas.Result.{err_from_is_err_and}
 use Rattle.rasn_schema.specs.Fields.{shape_of}
-use Rattle.rasn_calls.specs.AdditionsRead.{reads_further}
-use Rattle.rasn_calls.proofs.Reading.{addition_reads_well, fails_addition, fails_further}
+use Rattle.rasn_traits.specs.AdditionsRead.{reads_further}
+use Rattle.rasn_traits.proofs.Reading.{addition_reads_well, fails_addition, fails_further}
 use Rattle.rasn_record.proofs.Behind.{behind-map}
 use Rattle.rasn_additions.proofs.added.CellDecodeAdditionCells.decode_addition_cells.Goals as goal
 

@@ -1,5 +1,5 @@
 use Rattle.std.proofs.Common.{rules}
-use Rattle.rasn_calls.specs.AdditionsRead.{reads_no_more}
+use Rattle.rasn_traits.specs.AdditionsRead.{reads_no_more}
 use Rattle.rasn_additions.proofs.added.EndDecodeAdditionCells.decode_addition_cells.Goals as goal
 
 pub returns : goal.returns

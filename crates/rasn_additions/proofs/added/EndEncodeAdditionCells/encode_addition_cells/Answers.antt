@@ -1,6 +1,6 @@
 use Rattle.std.proofs.Common.{rules}
 use Rattle.rasn_schema.specs.Normal.{normals}
-use Rattle.rasn_calls.specs.Additions.{presents_no_more}
+use Rattle.rasn_traits.specs.Additions.{presents_no_more}
 use Rattle.rasn_additions.proofs.added.EndEncodeAdditionCells.encode_addition_cells.Goals as goal
 
 pub returns : goal.returns

@@ -1,6 +1,6 @@
 use Rattle.std.proofs.Common.{refl, rules}
 use Rattle.std.proofs.lemmas.Result.{err_from_is_err_and}
-use Rattle.rasn_calls.specs.AdditionsRead.{reads_added, reads_lacking}
+use Rattle.rasn_traits.specs.AdditionsRead.{reads_added, reads_lacking}
 use Rattle.rasn_additions.proofs.OneAddition.{addition_unread}
 use Rattle.rasn_additions.proofs.additions.DefaultPhantomDataDecodeAddition.decode_addition.Goals as goal
 

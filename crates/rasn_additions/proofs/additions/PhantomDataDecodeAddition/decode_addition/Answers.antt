@@ -1,7 +1,7 @@
 use Rattle.std.proofs.Common.{inr, rules}
 use Rattle.std.proofs.lemmas.Result.{err_from_is_err_and}
-use Rattle.rasn_calls.specs.AdditionsRead.{reads_added}
-use Rattle.rasn_calls.proofs.Reading.{addition_lacks}
+use Rattle.rasn_traits.specs.AdditionsRead.{reads_added}
+use Rattle.rasn_traits.proofs.Reading.{addition_lacks}
 use Rattle.rasn_additions.proofs.OneAddition.{addition_unread}
 use Rattle.rasn_additions.proofs.additions.PhantomDataDecodeAddition.decode_addition.Goals as goal
 

@@ -1,7 +1,7 @@
 use Rattle.std.proofs.Common.{rules}
 use Rattle.std.proofs.lemmas.Result.{err_from_is_err_and}
 use Rattle.rasn_schema.specs.Choices.{variants_on}
-use Rattle.rasn_calls.proofs.Alternatives.{choice_refused, choice_closed}
+use Rattle.rasn_traits.proofs.Alternatives.{choice_refused, choice_closed}
 use Rattle.rasn_codec.proofs.alternatives.ChoiceKindEncodeKind.encode_value.Goals as goal
 
 pub returns-in_err-chosen : goal.returns-in_err-chosen

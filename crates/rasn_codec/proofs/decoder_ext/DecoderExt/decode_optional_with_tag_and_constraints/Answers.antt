@@ -1,7 +1,7 @@
 use Rattle.std.proofs.Common.{refl, rules}
 use Rattle.std.proofs.lemmas.Result.{err_from_is_err_and}
-use Rattle.rasn_calls.specs.Scopes.{reads_there, reads_left_out}
-use Rattle.rasn_calls.proofs.Optionals.{bit_refused, value_unread}
+use Rattle.rasn_traits.specs.Scopes.{reads_there, reads_left_out}
+use Rattle.rasn_traits.proofs.Optionals.{bit_refused, value_unread}
 use Rattle.rasn_codec.proofs.decoder_ext.DecoderExt.decode_optional_with_tag_and_constraints.Goals as goal
 
 pub returns-in_err-next_presence : goal.returns-in_err-next_presence

@@ -4,10 +4,10 @@ use Rattle.rasn_schema.specs.Choices.{VariantShape, alternative_in, choices_of, 
 use Rattle.rasn_schema.specs.Fields.{tag_of}
 use Rattle.rasn_schema.specs.Schemas
 use Rattle.rasn_schema.specs.Schemas.{Schema}
-use Rattle.rasn_calls.specs.Calls.{EncoderRules, Encodes}
-use Rattle.rasn_calls.specs.Choices.{EncodesAlternative, EncodesAt}
+use Rattle.rasn_traits.specs.Calls.{EncoderRules, Encodes}
+use Rattle.rasn_traits.specs.Choices.{EncodesAlternative, EncodesAt}
 use Rattle.std.proofs.lemmas.Result.{err_from_is_err_and}
-use Rattle.rasn_calls.proofs.Alternatives.{choice_refused, choice_closed}
+use Rattle.rasn_traits.proofs.Alternatives.{choice_refused, choice_closed}
 use Rattle.rasn_codec.proofs.encoder_ext.EncoderExt.encode_alternative.Goals as goal
 
 -- what is owed where a tag has a place is shown for each place

@@ -1,5 +1,5 @@
 use Rattle.std.proofs.Common.{refl}
-use Rattle.rasn_calls.proofs.Optionals.{bit_written}
+use Rattle.rasn_traits.proofs.Optionals.{bit_written}
 use Rattle.rasn_codec.proofs.encoder_ext.EncoderExt.encode_none_with_tag.Goals as goal
 
 pub returns : goal.returns

@@ -1,7 +1,7 @@
 use Rattle.std.proofs.Common.{refl, inr, rules}
 use Rattle.std.proofs.lemmas.Result.{err_from_is_err_and}
-use Rattle.rasn_calls.specs.Scopes.{refuses_bit}
-use Rattle.rasn_calls.proofs.Optionals.{there_written}
+use Rattle.rasn_traits.specs.Scopes.{refuses_bit}
+use Rattle.rasn_traits.proofs.Optionals.{there_written}
 use Rattle.rasn_codec.proofs.encoder_ext.EncoderExt.encode_some_with_tag_and_constraints.Goals as goal
 
 pub returns-in_err-set_presence : goal.returns-in_err-set_presence

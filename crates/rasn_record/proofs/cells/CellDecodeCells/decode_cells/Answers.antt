@@ -1,8 +1,8 @@
 use Rattle.std.proofs.Common.{rules}
 use Rattle.std.proofs.lemmas.Result.{err_from_is_err_and}
 use Rattle.rasn_schema.specs.Fields.{shape_of}
-use Rattle.rasn_calls.specs.Scopes.{reads_next}
-use Rattle.rasn_calls.proofs.Reading.{fails_part, fails_behind, part_reads_well}
+use Rattle.rasn_traits.specs.Scopes.{reads_next}
+use Rattle.rasn_traits.proofs.Reading.{fails_part, fails_behind, part_reads_well}
 use Rattle.rasn_record.proofs.Behind.{behind-map}
 use Rattle.rasn_record.proofs.cells.CellDecodeCells.decode_cells.Goals as goal
 

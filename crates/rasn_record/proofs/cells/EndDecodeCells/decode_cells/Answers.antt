@@ -1,5 +1,5 @@
 use Rattle.std.proofs.Common.{rules}
-use Rattle.rasn_calls.specs.Scopes.{reads_end}
+use Rattle.rasn_traits.specs.Scopes.{reads_end}
 use Rattle.rasn_record.proofs.cells.EndDecodeCells.decode_cells.Goals as goal
 
 pub returns : goal.returns

@@ -1,7 +1,7 @@
 use Rattle.std.proofs.Common.{refl, rules}
 use Rattle.std.proofs.lemmas.Result.{err_from_is_err_and}
-use Rattle.rasn_calls.specs.Scopes.{reads_left_out}
-use Rattle.rasn_calls.proofs.Optionals.{bit_refused, value_read}
+use Rattle.rasn_traits.specs.Scopes.{reads_left_out}
+use Rattle.rasn_traits.proofs.Optionals.{bit_refused, value_read}
 use Rattle.rasn_record.proofs.components.DefaultPhantomDataDecodeComponent.decode_component.Goals as goal
 
 pub returns-in_err-next_presence : goal.returns-in_err-next_presence

@@ -1,6 +1,6 @@
 use Rattle.std.proofs.Common.{refl, sym, ap, not, Some, rules, ◌∙◌}
 use Rattle.rasn_schema.specs.Schemas.{optional, default}
-use Rattle.rasn_calls.proofs.Optionals.{bit_written, of_freely, written_as}
+use Rattle.rasn_traits.proofs.Optionals.{bit_written, of_freely, written_as}
 use Rattle.rasn_record.proofs.components.DefaultRefEncodeComponent.encode_component.Goals as goal
 
 pub returns-then-is_default : goal.returns-then-is_default

@@ -1,6 +1,6 @@
 use Rattle.std.proofs.Common.{None}
 use Rattle.rasn_schema.specs.Schemas.{optional}
-use Rattle.rasn_calls.proofs.Optionals.{of_freely}
+use Rattle.rasn_traits.proofs.Optionals.{of_freely}
 use Rattle.rasn_record.proofs.components.OptionalRefOptionEncodeComponent.encode_component.Goals as goal
 
 pub returns-in-None : goal.returns-in-None

@@ -1,9 +1,0 @@
-pub mod Additions
-pub mod Filled
-pub mod Opened
-pub mod Records
-pub mod Fronts
-pub mod Pieces
-pub mod Maps
-pub mod Skipped
-pub mod Turns

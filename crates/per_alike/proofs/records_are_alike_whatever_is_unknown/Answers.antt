@@ -1,5 +1,0 @@
-use Rattle.per_alike.proofs.Replaced.{replaced}
-use Rattle.per_alike.proofs.records_are_alike_whatever_is_unknown.Goals as goal
-
-pub returns : goal.returns
-returns c = λ a o ps adds more octets others v p known unknown again x m n y z. replaced a o ps adds more octets others v p known unknown again x m n y z

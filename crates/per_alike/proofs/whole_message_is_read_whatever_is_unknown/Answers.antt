@@ -1,5 +1,0 @@
-use Rattle.per_alike.proofs.Sound.{read_the_same}
-use Rattle.per_alike.proofs.whole_message_is_read_whatever_is_unknown.Goals as goal
-
-pub returns : goal.returns
-returns c = λ a s v octets others k. read_the_same a s octets others k v

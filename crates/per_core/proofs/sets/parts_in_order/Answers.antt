@@ -1,0 +1,14 @@
+use Rattle.per_core.proofs.sets.parts_in_order.Goals as goal
+use Rattle.per_core.proofs.SetOrders
+
+pub returns-clause-writes : goal.returns-clause-writes
+returns-clause-writes c = SetOrders.members_ordered
+
+pub returns-clause-named : goal.returns-clause-named
+returns-clause-named c = SetOrders.tags_ordered
+
+pub returns-clause-counted : goal.returns-clause-counted
+returns-clause-counted c = SetOrders.count_ordered
+
+pub returns-clause-flagged : goal.returns-clause-flagged
+returns-clause-flagged c = SetOrders.bits_ordered

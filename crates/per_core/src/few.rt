@@ -1,0 +1,31 @@
+//! The items of a value and the bits of its encodings (X.691, 11.9).
+
+ghost use Rattle.std.specs.Prelude.{◌≡◌, ◌<◌, ◌≤◌, ◌+◌, ◌*◌, ◌^◌, ℕ, Bool, [], length};
+ghost use Rattle.rasn_types.specs.Bits.{Bits};
+ghost use Rattle.rasn_types.specs.Values.{Value};
+ghost use Rattle.rasn_types.specs.Variants.{unaligned};
+ghost use Rattle.rasn_schema.specs.Schemas.{Schema};
+ghost use Rattle.per_core.specs.Basic.{basic};
+ghost use Rattle.per_core.specs.Spellings.{Settings};
+ghost use Rattle.per_core.specs.FewItems.{item_count, most_items};
+ghost use Rattle.per_core.specs.Nulls.{any_nulls, nulls, sized_nulls};
+ghost use Rattle.per_core.specs.Within.{HasAtMost};
+
+/// A value has at most 65535 items, and 8192 for each bit of a basic encoding of it; and so has each value within it,
+/// but for a default that stands for an absent part (X.691, 19.5).
+pub fn items_are_few_for_their_bits()
+    ensures own { (a : Settings) (s : Schema) (v : Value) (p : ℕ) (bits : Bits) →
+        basic a s v p bits → item_count v ≤ most_items (length bits) }
+    ensures within { (a : Settings) (s : Schema) (v : Value) (p : ℕ) (bits : Bits) →
+        basic a s v p bits → HasAtMost (most_items (length bits)) s v }
+{}
+
+/// Neither number can be less: n NULLs under the size n, below 65536, take no bits; and 65536 times k NULLs under no
+/// size take 8 bits for each of k fragments, and 8 more (X.691, 11.9.3.3, 11.9.3.8).
+pub fn so_many_nulls_take_so_few_bits()
+    ensures count { (n : ℕ) → item_count (nulls n) ≡ n }
+    ensures sized { (a : Settings) (p n : ℕ) → n < 65536 → basic a (sized_nulls n) (nulls n) p [] }
+    ensures in_fragments { (strict : Bool) (p k n : ℕ) → n ≡ 65536 * k → n < 2 ^ 64 → (bits : Bits)
+        × (length bits ≡ 8 * k + 8)
+        × basic (record { variant = unaligned; strict = strict }) any_nulls (nulls n) p bits }
+{}

@@ -1,0 +1,15 @@
+pub mod AdditionLaws
+pub mod Additions
+pub mod BagLaws
+pub mod Faults
+pub mod Laws
+pub mod Records
+pub mod Rules
+pub mod ScopeLaws
+pub mod Scopes
+pub mod SetLaws
+pub mod Spelled
+pub mod State
+pub mod Tails
+pub mod ChoiceLaws
+pub mod Choices

@@ -1,5 +1,0 @@
-use Rattle.per_depth.proofs.few_levels_suffice.Goals as goal
-use Rattle.per_depth.proofs.Levelled
-
-pub returns : goal.returns
-returns c = Levelled.few_levels_suffice

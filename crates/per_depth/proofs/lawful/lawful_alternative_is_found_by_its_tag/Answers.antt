@@ -1,5 +1,0 @@
-use Rattle.per_depth.proofs.lawful.lawful_alternative_is_found_by_its_tag.Goals as goal
-use Rattle.per_depth.proofs.Tagged
-
-pub returns : goal.returns
-returns c = Tagged.found_by_tag

@@ -1,5 +1,0 @@
-use Rattle.per_depth.proofs.lawful.lawful_distance_fits.Goals as goal
-use Rattle.per_depth.proofs.Demands
-
-pub returns : goal.returns
-returns c = Demands.distance_fits

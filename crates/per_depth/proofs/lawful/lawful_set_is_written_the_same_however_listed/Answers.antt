@@ -1,5 +1,0 @@
-use Rattle.per_depth.proofs.lawful.lawful_set_is_written_the_same_however_listed.Goals as goal
-use Rattle.per_depth.proofs.Listed
-
-pub returns : goal.returns
-returns c = Listed.same_record

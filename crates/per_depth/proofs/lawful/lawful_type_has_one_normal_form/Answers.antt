@@ -1,5 +1,0 @@
-use Rattle.per_depth.proofs.lawful.lawful_type_has_one_normal_form.Goals as goal
-use Rattle.per_depth.proofs.Given
-
-pub returns : goal.returns
-returns c = Given.one_normal_form

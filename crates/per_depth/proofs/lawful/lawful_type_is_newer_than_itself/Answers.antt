@@ -1,5 +1,0 @@
-use Rattle.per_depth.proofs.lawful.lawful_type_is_newer_than_itself.Goals as goal
-use Rattle.per_depth.proofs.Itself
-
-pub returns : goal.returns
-returns c = Itself.newer_than_itself

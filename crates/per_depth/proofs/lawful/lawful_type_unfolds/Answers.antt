@@ -1,4 +1,0 @@
-use Rattle.per_depth.proofs.lawful.lawful_type_unfolds.Goals as goal
-
-pub returns : goal.returns
-returns c = λ T l. l.unfolds

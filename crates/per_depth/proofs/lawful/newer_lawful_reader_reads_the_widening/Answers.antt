@@ -1,5 +1,0 @@
-use Rattle.per_depth.proofs.lawful.newer_lawful_reader_reads_the_widening.Goals as goal
-use Rattle.per_depth.proofs.Given
-
-pub returns : goal.returns
-returns c = Given.newer_reader_reads

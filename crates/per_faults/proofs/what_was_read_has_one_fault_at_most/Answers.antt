@@ -1,6 +1,0 @@
-use Rattle.std.proofs.Common.{true}
-use Rattle.per_faults.proofs.Faultless.{one_fault, read_whole}
-use Rattle.per_faults.proofs.what_was_read_has_one_fault_at_most.Goals as goal
-
-pub returns : goal.returns
-returns c = λ a s v octets kind l m f. one_fault a true s _ (read_whole a s v octets m f) kind l

@@ -1,0 +1,5 @@
+use Rattle.per_laws.proofs.lawful.older_lawful_reader_reads_the_projection.Goals as goal
+use Rattle.per_laws.proofs.Given
+
+pub returns : goal.returns
+returns c = Given.older_reader_reads

@@ -1,0 +1,5 @@
+use Rattle.per_laws.proofs.levels.newer_type_front.Goals as goal
+use Rattle.per_laws.proofs.Peers
+
+pub returns : goal.returns
+returns c = Peers.newer_type_front

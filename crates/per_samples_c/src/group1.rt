@@ -1,0 +1,112 @@
+//! A group with an extension marker.
+
+ghost use Rattle.std.specs.Prelude.{[], ◌∷◌, Some, max, refl, suc, true};
+ghost use Rattle.rasn_below.specs.Values.{truth, record_value, slot_of, deeper_of, slot_levels};
+ghost use Rattle.rasn_below.specs.Components.{fields_described, fields_of, parts_of, extended_at, extended_by};
+ghost use Rattle.rasn_below.specs.Components.{extended_levelled};
+ghost use Rattle.rasn_below.specs.Types.{SEQUENCE, no_constraints, sequence_tag};
+ghost use Rattle.per_samples_c.specs.Groups.{x_root};
+
+use rasn_below::types::Identifier;
+use rasn_below::{
+    AdditionGroup, AsnType, Constraint, Constraints, Constructed, Decode, Decoder, Encode, Encoder,
+    Fields, Tag, added_bounds, added_fields, decode_extended, encode_extended, root_bounds,
+    root_fields,
+};
+
+/// SEQUENCE { x BOOLEAN OPTIONAL, ... }
+#[derive(Clone, Copy, Debug, PartialEq)]
+pub struct Group1 {
+    pub x: Option<bool>,
+}
+
+macro_rules! components {
+    ($to:ident $($with:ident)*) => {
+        $to! { [$($with)*]
+            optional 0 "x" x: Option<bool> [];
+            ...;
+        }
+    };
+}
+
+const FIELDS: Fields = components!(root_fields);
+
+const BOUNDS: &[&[Constraint]] = components!(root_bounds);
+
+const ADDED_FIELDS: Fields = components!(added_fields);
+
+const ADDED_BOUNDS: &[&[Constraint]] = components!(added_bounds);
+
+impl AsnType for Group1 {
+    const TAG: Tag = Tag::SEQUENCE;
+
+    ghost TAG = { SEQUENCE };
+
+    const CONSTRAINTS: Constraints = Constraints::NONE;
+
+    ghost CONSTRAINTS = { no_constraints };
+
+    ghost schema = { λ _. extended_at x_root [] };
+
+    ghost value = { λ x. record_value (slot_of truth x.x ∷ []) ([]) };
+
+    ghost levels = { λ x. suc (deeper_of (max (slot_levels ⟦<bool as AsnType>⟧.levels x.x) 0) 0) };
+
+    ghost levelled = { λ _. extended_levelled x_root [] };
+
+    ghost tag_fits = { λ _. sequence_tag (parts_of x_root) true (parts_of []) };
+}
+
+impl Constructed for Group1 {
+    const FIELDS: Fields = FIELDS;
+
+    ghost FIELDS = { fields_of x_root };
+
+    const EXTENDED_FIELDS: Option<Fields> = Some(ADDED_FIELDS);
+
+    ghost EXTENDED_FIELDS = { Some (fields_of []) };
+
+    const IS_EXTENSIBLE: bool = true;
+
+    ghost IS_EXTENSIBLE = { true };
+
+    ghost parts = { parts_of x_root };
+
+    ghost additions = { parts_of [] };
+
+    ghost contents = { λ x. slot_of truth x.x ∷ [] };
+
+    ghost added = { λ x. [] };
+
+    ghost described = { fields_described x_root };
+
+    ghost extends = { extended_by [] };
+
+    ghost is_record = { λ _. refl };
+}
+
+impl AdditionGroup for Group1 {
+    ghost is_sequence = { λ _. refl };
+}
+
+impl Encode for Group1 {
+    fn encode_with_tag_and_constraints<E: Encoder>(
+        &self,
+        encoder: &mut E,
+        tag: Tag,
+        _: &Constraints,
+        identifier: Identifier,
+    ) -> Result<(), E::Error> {
+        components!(encode_extended self encoder tag identifier)
+    }
+}
+
+impl Decode for Group1 {
+    fn decode_with_tag_and_constraints<D: Decoder>(
+        decoder: &mut D,
+        tag: Tag,
+        _: &Constraints,
+    ) -> Result<Group1, D::Error> {
+        components!(decode_extended decoder tag)
+    }
+}

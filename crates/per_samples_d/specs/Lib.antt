@@ -1,2 +1,0 @@
-pub mod Alternatives
-pub mod Nesteds

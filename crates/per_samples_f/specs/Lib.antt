@@ -1,3 +1,0 @@
-pub mod Groups
-pub mod Needs
-pub mod Outers

@@ -1,4 +1,0 @@
-pub mod Alternatives
-pub mod First
-pub mod Second
-pub mod Several

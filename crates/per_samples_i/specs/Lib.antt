@@ -1,4 +1,0 @@
-pub mod Connects
-pub mod Memberships
-pub mod Periods
-pub mod Texts

@@ -1,6 +1,0 @@
-use Rattle.rasn_below.specs.Rows.{unaligned}
-use Rattle.per_samples_l.proofs.Written.{at_depths, other}
-use Rattle.per_samples_l.proofs.rows.other_years_are_numbers.Goals as goal
-
-pub returns : goal.returns
-returns c y m d = record { at = at_depths unaligned _ _ other }

@@ -1,5 +1,0 @@
-//! A DATE, and a recursive SEQUENCE with one, whose encodings are known.
-#![tactic(auto)]
-
-pub mod dnest;
-pub mod rows;

@@ -1,0 +1,15 @@
+//! Lists and recursive types, also as an addition, whose encodings are known.
+#![tactic(auto)]
+
+pub mod added_nest;
+pub mod before_nest;
+pub mod byte;
+pub mod choice;
+pub mod deep;
+pub mod elements;
+pub mod empty;
+pub mod lists;
+pub mod nest;
+pub mod ping;
+pub mod pong;
+pub mod triple;

@@ -1,0 +1,3 @@
+pub mod ByItem
+pub mod Contents
+pub mod Written

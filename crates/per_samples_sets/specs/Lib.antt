@@ -1,0 +1,7 @@
+pub mod Connects
+pub mod Memberships
+pub mod Periods
+pub mod Texts
+pub mod Sets
+pub mod Each
+pub mod Dnests

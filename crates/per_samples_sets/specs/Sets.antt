@@ -1,0 +1,39 @@
+-- SETs, each with its components in the order of its type.
+use Rattle.std.specs.Prelude.{ℕ, Bool, List, [], ◌∷◌, Option, Some}
+use Rattle.rasn_below.specs.Values.{Value, nothing, truth}
+use Rattle.rasn_below.specs.Components.{Component, Chosen, at, boolean, choice, chosen, integer, null, optional, u8, under, ◌to◌}
+use Rattle.rasn_below.specs.Types.{leaf, TagTree}
+use Rattle.per_samples_sets.specs.declared.truth_or_none.TruthOrNone.{TruthOrNone}
+use Rattle.per_samples_sets.specs.declared.truth_or_none.TruthOrNone.TheVariants.{M, N}
+
+-- X.680 8.1: a private tag
+abbrev pub private : ℕ → TagTree
+private i = leaf (record { class = 3; number = i })
+
+-- SET { b [1] INTEGER (0..255), a [0] BOOLEAN }
+abbrev pub set : List Component
+set = under (at 1) (integer u8 (0 to 255)) ∷ under (at 0) boolean ∷ []
+
+-- SET { p [PRIVATE 0] BOOLEAN OPTIONAL, q [0] BOOLEAN OPTIONAL, r [1] BOOLEAN OPTIONAL }
+abbrev pub set_optional : List Component
+set_optional =
+    under (private 0) (optional boolean) ∷
+    under (at 0) (optional boolean) ∷
+    under (at 1) (optional boolean) ∷ []
+
+-- CHOICE { m [3] BOOLEAN, n [9] NULL }
+abbrev pub truth_or_none : List Component
+truth_or_none = under (at 3) boolean ∷ under (at 9) null ∷ []
+
+-- the alternative that a value is
+abbrev pub truth_or_none_chosen : TruthOrNone → Chosen
+truth_or_none_chosen (M m) = chosen 0 (truth m)
+truth_or_none_chosen N = chosen 1 nothing
+
+-- SET { k [5] BOOLEAN, c CHOICE { m [3] BOOLEAN, n [9] NULL } }, whose choice has no tag of its own
+abbrev pub set_choice : List Component
+set_choice = under (at 5) boolean ∷ choice truth_or_none ∷ []
+
+-- what its components are
+abbrev pub set_choice_contents : Bool → Value → List (Option Value)
+set_choice_contents k c = Some (truth k) ∷ Some c ∷ []

@@ -1,0 +1,57 @@
+//! A SEQUENCE with a key that is an object identifier or octets.
+
+ghost use Rattle.std.specs.Prelude.{[], ◌∷◌, Some, refl};
+ghost use Rattle.rasn_below.specs.Values.{octets};
+ghost use Rattle.rasn_below.specs.Components.{fields_of};
+ghost use Rattle.per_samples_sets.specs.Connects.{connect};
+
+use crate::key::Key;
+use rasn_below::types::OctetString;
+use rasn_below::{
+    AsnType, Components, Constraint, Decoder, Encoder, Fields, Record, bounds, decode_components,
+    encode_components, fields,
+};
+
+/// SEQUENCE { key CHOICE { object OBJECT IDENTIFIER, other OCTET STRING }, pdu OCTET STRING }
+#[derive(Debug, Drop, PartialEq)]
+pub struct Connect {
+    pub key: Key,
+    pub pdu: OctetString,
+}
+
+macro_rules! components {
+    ($to:ident $($with:ident)*) => {
+        $to! { [$($with)*]
+            required 0 "key" key: Key [];
+            required 1 "pdu" pdu: OctetString [];
+        }
+    };
+}
+
+const FIELDS: Fields = components!(fields);
+
+const BOUNDS: &[&[Constraint]] = components!(bounds);
+
+impl Components for Connect {
+    const COMPONENTS: Fields = FIELDS;
+
+    ghost COMPONENTS = { fields_of connect };
+
+    ghost components = { connect };
+
+    ghost contents = { λ x. Some (⟦<Key as AsnType>⟧.value x.key) ∷ Some (octets x.pdu) ∷ [] };
+
+    ghost depth = { λ _. 1 };
+
+    ghost described = { refl };
+}
+
+impl Record for Connect {
+    fn encode_components<E: Encoder>(&self, encoder: &mut E) -> Result<(), E::Error> {
+        components!(encode_components self encoder)
+    }
+
+    fn decode_components<D: Decoder>(decoder: &mut D) -> Result<Self, D::Error> {
+        components!(decode_components decoder)
+    }
+}

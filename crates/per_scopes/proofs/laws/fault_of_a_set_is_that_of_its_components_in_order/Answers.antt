@@ -1,6 +1,0 @@
-use Rattle.per_scopes.specs.Faults.{in_set}
-use Rattle.per_scopes.specs.SetLaws.{fault_in_turn}
-use Rattle.per_scopes.proofs.laws.fault_of_a_set_is_that_of_its_components_in_order.Goals as goal
-
-pub returns : goal.returns
-returns c = λ a k ps qs marker s. (λ h. fault_in_turn h, λ h. in_set h)

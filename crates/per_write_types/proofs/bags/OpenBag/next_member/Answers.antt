@@ -1,0 +1,30 @@
+use Rattle.std.proofs.Common.{ap, ◌∙◌, rules, inl}
+use Rattle.std.proofs.lemmas.Result.{err_from_is_err_and}
+use Rattle.per_write_types.specs.Bags.{OpenBag}
+use Rattle.per_write_types.proofs.Opened.{member_awaited, no_room, no_room_outside}
+use Rattle.per_write_types.proofs.bags.OpenBag.next_member.Goals as goal
+
+pub returns-in_err-keep_member : goal.returns-in_err-keep_member
+returns-in_err-keep_member g c =
+    let p = err_from_is_err_and c.from_residual.result c.from_residual.ensures.1 in
+    record {
+      law = λ f x v vs h. rw (p.1, p.2) (inl (no_room f x _ c.args.self.now c.args.writer.now c.in_err-keep_member.field-0.0 h c.in_err-keep_member.ensures.err));
+      behaves = search rules;
+    }
+
+pub returns-in_err-waiting : goal.returns-in_err-waiting
+returns-in_err-waiting g c =
+    let p = err_from_is_err_and c.from_residual-in_err-waiting.result c.from_residual-in_err-waiting.ensures.1 in
+    record {
+      law = λ f x v vs h. rw (p.1, p.2) (inl (no_room_outside f x _ c.args.self.now c.args.writer.now c.keep_member.new.writer c.in_err-waiting.field-0.0 h c.keep_member.ensures.kept c.in_err-waiting.ensures.err));
+      behaves = search rules;
+    }
+
+pub returns : goal.returns
+returns g c =
+    let is = c.self.view_is ∙ c.in_ok-keep_member.ensures.is in
+    record {
+      law = λ f x v vs h. member_awaited f x v vs c.args.self.now c.args.writer.now c.keep_member.new.writer c.open_floating.new.self c.self.inside.list c.self.inside.members c.in_ok-waiting.waiting
+          h c.in_ok-keep_member.ensures.ok (ap (λ (q : OpenBag). q.list) is) (ap (λ (q : OpenBag). q.members) is) c.in_ok-waiting.ensures.ok;
+      behaves = search rules;
+    }

@@ -1,5 +1,0 @@
-use Rattle.rasn_ber.proofs.Walking.{IsReadTo}
-use Rattle.rasn_ber.proofs.ber.object_identifier_from_bytes.Given as goal
-
-abbrev pub invariant-loop-octet : goal.invariant-loop-octet
-invariant-loop-octet l = IsReadTo l.octets l.octet-index l.arcs.items l.begun

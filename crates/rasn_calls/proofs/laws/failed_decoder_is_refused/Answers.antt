@@ -1,5 +1,0 @@
-use Rattle.rasn_calls.proofs.Ended.{ended_in_error}
-use Rattle.rasn_calls.proofs.laws.failed_decoder_is_refused.Goals as goal
-
-pub returns : goal.returns
-returns g c = λ scope result failed ended. ended_in_error g.D.Decoder.rules.already g.D.Decoder.rules.failed _ result failed ended

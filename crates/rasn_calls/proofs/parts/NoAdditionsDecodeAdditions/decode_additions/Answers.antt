@@ -1,6 +1,0 @@
-use Rattle.std.proofs.Common.{rules}
-use Rattle.rasn_calls.specs.AdditionsRead.{reads_no_more}
-use Rattle.rasn_calls.proofs.parts.NoAdditionsDecodeAdditions.decode_additions.Goals as goal
-
-pub returns : goal.returns
-returns g c = record { law = reads_no_more; fails = search rules; kept = search rules }

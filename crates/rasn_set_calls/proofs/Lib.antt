@@ -1,6 +1,0 @@
-pub mod Order
-pub mod Read
-pub mod Loops
-pub mod Made
-pub mod Callers
-pub mod Ends

@@ -1,3 +1,0 @@
-pub mod Components
-pub mod Made
-pub mod Turns

@@ -1,8 +1,0 @@
-use Rattle.std.proofs.Common.{sym}
-use Rattle.rasn_set_record.proofs.Around.{set_written_around}
-use Rattle.rasn_set_record.proofs.record.SetKindEncodeKind.encode_value.Goals as goal
-
-pub returns : goal.returns
-returns g c = set_written_around g.T.SetComponents.components (g.T.SetComponents.contents c.args.value.now) (g.T.SetComponents.depth c.args.value.now)
-    (g.T.SetComponents.counted c.args.value.now) c.encode_set.ensures
-    (λ x r y w. rw (sym w.shows, sym w.leaves) w.met.0) (record { stays = λ x r y w. rw (sym w.shows, sym w.leaves) w.met.1 })

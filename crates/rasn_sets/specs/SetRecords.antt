@@ -1,0 +1,51 @@
+-- A SET by the list of its components (ITU-T X.680, 27), and these in the order in which they are written (X.691,
+-- 21.1).
+use Rattle.std.specs.Prelude.{◌≡◌, ℕ, zero, suc, false, List, [], ◌∷◌, Option, refl}
+use Rattle.rasn_types.specs.Values.{Value}
+use Rattle.rasn_types.specs.declared.types.TheConstants.Tag.{SET}
+use Rattle.rasn_schema.specs.Canonised.{canonised_at, canonised_slots}
+use Rattle.rasn_schema.specs.Components.{Component, components_levelled, parts_of, universal}
+use Rattle.rasn_schema.specs.Levels.{Levelled, parts_levelled, record_levelled}
+use Rattle.rasn_schema.specs.Orders.{how_many_less}
+use Rattle.rasn_schema.specs.Records.{no_additions, record_at, record_value}
+use Rattle.rasn_schema.specs.Schemas
+use Rattle.rasn_schema.specs.Schemas.{by_tag, Parts, Schema, Tag}
+use Rattle.rasn_schema.specs.Tags.{IsTagOf}
+
+-- a SET of these components, to a number of levels
+abbrev pub set_at : List Component → ℕ → Schema
+set_at cs = record_at by_tag (parts_of cs) false no_additions
+
+-- what such a SET is, of what its components are
+abbrev pub set_value : List (Option Value) → Value
+set_value rs = record_value rs []
+
+pub set_levelled : (cs : List Component) → Levelled (set_at cs)
+set_levelled cs = record_levelled (components_levelled cs) parts_levelled
+
+-- X.680 8.4: SET is the tag of each SET
+pub set_tag : (cs : List Component) → IsTagOf SET (set_at cs)
+set_tag cs zero = refl
+set_tag cs (suc n) = refl
+
+-- a component that is a SET
+abbrev pub set : List Component → Component
+set cs = record {
+  tags = universal 17;
+  presence = Schemas.required;
+  schema = set_at cs;
+  levelled = set_levelled cs;
+}
+
+-- the components in ascending order of their smallest tags, to a number of levels
+abbrev pub parts_in_order : List Component → ℕ → Parts
+parts_in_order cs = canonised_at (parts_of cs)
+
+-- what the components are, in that order
+abbrev pub slots_in_order : List Component → List (Option Value) → List (Option Value)
+slots_in_order cs rs = canonised_slots (parts_of cs 0) rs
+
+-- X.680 8.6: tags in ascending order: none is less than one that stands before it
+abbrev pub AreAscending : List Tag → Type 0
+AreAscending [] = Unit {0}
+AreAscending (t ∷ ts) = (how_many_less t ts ≡ 0) × AreAscending ts
