@@ -158,12 +158,14 @@ class Items:
 
     def need_element(self, item, use, path, line):
         """Gives the elements of a list a name, where they stand under constraints: those of a list have their type's
-        alone."""
+        alone. The name of a definition of the same crate serves; that of another crate isn't changed for a list here."""
         found = self.need(item, use, f"{path}/Item", line)
         if use.type.kind not in WITH_PAGE and use.type.limits:
-            if use.own or use.name is None:
-                key = (item.key[0], f"{path}/Element")
-                found = self.items.get(key) or self.made(key, use.type, line, definition(key[1].replace("/", "."), use))
+            is_written_here = use.own or use.name is None
+            if is_written_here or found.crate != item.crate:
+                key, target = (item.key[0], f"{path}/Element"), None if is_written_here else use
+                text = definition(key[1].replace("/", "."), use)
+                found = self.items.get(key) or self.made(key, use.type, line, text, target)
                 item.needs.append(found)
             found.is_element = True
             use.limited = found

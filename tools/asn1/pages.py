@@ -343,7 +343,8 @@ class Page:
         lines = [*self.doc(), f"pub type {item.rust} = {target};", ""]
         is_number = of.kind == "INTEGER"
         width = holder(of.limits).replace("Integer", "i128") if is_number else "usize"
-        for name, number in of.names.items() if of.kind in ("INTEGER", "BIT STRING") else []:
+        is_named_elsewhere = item.target and "/" in item.key[1]
+        for name, number in of.names.items() if of.kind in ("INTEGER", "BIT STRING") and not is_named_elsewhere else []:
             what = f"`{name}` of {item.rust}." if is_number else f"The place of the bit `{name}` of {item.rust}."
             lines += [f"/// {what}", f"pub const {constant(item.rust)}_{constant(name)}: {width} = {grouped(number)};", ""]
         if item.is_element:
