@@ -194,7 +194,7 @@ fn field_of_octets(octets: &[u8], width: u32) -> u64
     }
 }
 
-/// The same, in one loop.
+/// The low `width` bits of each octet as one number, the first octet's highest, by one loop over the octets.
 #[inline]
 fn field_of(octets: &[u8], width: u32) -> u64
     requires width { width ≤ 8 }

@@ -4,7 +4,7 @@ use Rattle.rasn_types.specs.Values.{Value, before, put, sorted, code, bag, as_va
 use Rattle.rasn_schema.specs.Depth.{any_of}
 use Rattle.per_core.specs.Versions.{all_of, joined}
 use Rattle.per_core.proofs.Codes.{code_same}
-use Rattle.per_core.proofs.Lengths.{or_left, or_right}
+use Rattle.per_core.proofs.LengthForms.{or_left, or_right}
 
 -- what `joined` was made of
 pub joined_of : {A : Type 0} (o : Option A) (q : Option (List A)) (us : List A) → joined o q ≡ Some us → (u : A) × (us1 : List A) × (o ≡ Some u) × (q ≡ Some us1) × (us ≡ u ∷ us1)

@@ -9,10 +9,10 @@ use Rattle.rasn_constraints.specs.Bounds.{holds, Bounds, Size, any_size}
 use Rattle.rasn_schema.specs.Orders.{ordered, by_tags, insert_at, how_many_less}
 use Rattle.rasn_schema.specs.Schemas.{tags, Order, listed, by_tag, Tag, Schema, Parts, no_parts, part}
 use Rattle.per_core.specs.Basic
-use Rattle.per_core.specs.Basic.{Proper, As, Lengthy, octet, bit, Octets, Rule, Fields_in, Chosen, ExtensionBit, IsConstrainedWhole, IsNumberOf, String, IsDay, basic, basic_in, rules_in}
+use Rattle.per_core.specs.Basic.{Proper, As, Counted, octet, bit, Octets, Rule, Record_in, Chosen, ExtensionBit, IsConstrainedWhole, IsNumberOf, String, IsDay, basic, basic_in, rules_in}
 use Rattle.per_core.specs.Canon
 use Rattle.per_core.specs.Canon.{canon, members, Member, char_writers, chosen, choice_of, item_of, extension_bit, date_of, record_of, on_truth, on_nothing, on_octets, on_bits, on_whole, on_characters, on_elements, on_bag, on_fields, on_alternative, on_day, on_item}
-use Rattle.per_core.specs.Counts.{Counted, list_items, octet_items, bit_items, counted, octet_writers, bit_writers, unconstrained_octets, number_form, constrained_whole}
+use Rattle.per_core.specs.Counts.{ItemKind, list_items, octet_items, bit_items, counted, octet_writers, bit_writers, unconstrained_octets, number_form, constrained_whole}
 use Rattle.per_core.specs.Spellings.{Settings, Spelling, exactly, Then}
 use Rattle.per_core.specs.Writers.{Writer, just, ◌▹◌, written_if}
 use Rattle.per_core.proofs.Bags.{bag_rearranged}
@@ -62,15 +62,15 @@ bit_within false false h = then_within (just_within []) h
 bit_within false true h = record { within = λ p b e. absurd (cc) }
 
 bag_within : (a : Settings) (e : Schema) (spells : Value → Spelling) (size : Size) (mark : Bool) (vs : Values) → ((v : Value) → Within (canon a.variant e v) (spells v)) →
-    Within (written_if (same (bag_of (values vs)) (bag vs)) (counted a.variant size mark list_items (Canon.ascending (map (canon a.variant e) (values vs))))) (As bag_of (Lengthy a size mark list_items spells) (bag vs))
+    Within (written_if (same (bag_of (values vs)) (bag vs)) (counted a.variant size mark list_items (Canon.ascending (map (canon a.variant e) (values vs))))) (As bag_of (Counted a size mark list_items spells) (bag vs))
 bag_within a e spells size mark vs h = if_within (same (bag_of (values vs)) (bag vs)) (λ t.
     let r = bag_rearranged (canon a.variant e) (λ f g. before (Canon.octet_key (f 0)) (Canon.octet_key (g 0))) (values vs) in
-    subst (λ l. Within (counted a.variant size mark list_items l) (As bag_of (Lengthy a size mark list_items spells) (bag vs))) r.1
-    (as_within bag_of (Lengthy a size mark list_items spells) r.0 (bag vs) (sym (same_true (bag_of (values vs)) (bag vs) t) ∙ sym r.2)
+    subst (λ l. Within (counted a.variant size mark list_items l) (As bag_of (Counted a size mark list_items spells) (bag vs))) r.1
+    (as_within bag_of (Counted a size mark list_items spells) r.0 (bag vs) (sym (same_true (bag_of (values vs)) (bag vs) t) ∙ sym r.2)
     (counted_within (canon a.variant e) spells h a size mark list_items r.0)))
 
 alternative_within : (a : Settings) (ext : Bool) (ms adds : List Member) (rs ads : List Rule) → Pairs ms rs → Pairs adds ads → (d : Side) (i : ℕ) (v : Value) →
-    Within (choice_of a.variant ext ms adds d i v) (Basic.Alternative a ext rs ads d i v)
+    Within (choice_of a.variant ext ms adds d i v) (Basic.Choice a ext rs ads d i v)
 unfolding choice_of
 alternative_within a ext ms adds rs ads k k' root i v = bit_within ext false (then_within (subst (λ n. Within (constrained_whole a.variant (length ms) i) (IsConstrainedWhole a n i)) (pairs-length ms rs k) (bounded_within a (length ms) i)) (chosen_within ms rs k i v))
 alternative_within a ext ms adds rs ads k k' added i v = bit_within ext true (then_within (small_within a i) (open_within a (chosen adds i v) (Chosen ads i v) (chosen_within adds ads k' i v)))
@@ -87,20 +87,20 @@ octets_value : (a : Settings) (v : Value) → Within (on_octets (unconstrained_o
 octets_value a (Value.octets os) = as_within Value.octets (Octets a) os (Value.octets os) refl (octets_within a os)
 octets_value a _ = refused_within
 
-sized_octets : (a : Settings) (size : Size) (mark : Bool) (v : Value) → Within (on_octets (λ os. counted a.variant size mark octet_items (octet_writers os)) v) (As Value.octets (Lengthy a size mark octet_items octet) v)
-sized_octets a size mark (Value.octets os) = as_within Value.octets (Lengthy a size mark octet_items octet) os (Value.octets os) refl (counted_within (λ o. written_if (ltb o 256) (just (to_bits 8 o))) octet octet_each a size mark octet_items os)
+sized_octets : (a : Settings) (size : Size) (mark : Bool) (v : Value) → Within (on_octets (λ os. counted a.variant size mark octet_items (octet_writers os)) v) (As Value.octets (Counted a size mark octet_items octet) v)
+sized_octets a size mark (Value.octets os) = as_within Value.octets (Counted a size mark octet_items octet) os (Value.octets os) refl (counted_within (λ o. written_if (ltb o 256) (just (to_bits 8 o))) octet octet_each a size mark octet_items os)
 sized_octets a size mark _ = refused_within
 
 pub list_within : (a : Settings) (e : Schema) (spells : Value → Spelling) (size : Size) (mark : Bool) → ((v : Value) → Within (canon a.variant e v) (spells v)) → (v : Value) →
-    Within (on_elements (λ vs. counted a.variant size mark list_items (map (canon a.variant e) vs)) v) (As (λ vs. elements (as_values vs)) (Lengthy a size mark list_items spells) v)
-list_within a e spells size mark h (elements vs) = as_within (λ vs. elements (as_values vs)) (Lengthy a size mark list_items spells) (values vs) (elements vs) (ap elements (sym (as_values-values vs)))
+    Within (on_elements (λ vs. counted a.variant size mark list_items (map (canon a.variant e) vs)) v) (As (λ vs. elements (as_values vs)) (Counted a size mark list_items spells) v)
+list_within a e spells size mark h (elements vs) = as_within (λ vs. elements (as_values vs)) (Counted a size mark list_items spells) (values vs) (elements vs) (ap elements (sym (as_values-values vs)))
     (counted_within (canon a.variant e) spells h a size mark list_items (values vs))
 list_within a e spells size mark h _ = refused_within
 
 fields_within : (a : Settings) (u : Bool) (o : Order) (ts : List Tag) (ext : Bool) (ms adds : List Member) (rs ads : List Rule) → Pairs ms rs → Pairs adds ads → (v : Value) →
     Within (on_fields (λ r x. record_of a.variant ext (ordered o ts ms) adds (ordered o ts r) x) v)
-    (As (λ (x : List (Option Value) × List (Option Value)). fields (as_slots x.0) (as_slots x.1)) (λ x. Fields_in a u ext (ordered o ts rs) ads (ordered o ts x.0) x.1) v)
-fields_within a u o ts ext ms adds rs ads k k' (fields r x) = as_within (λ (x : List (Option Value) × List (Option Value)). fields (as_slots x.0) (as_slots x.1)) (λ x. Fields_in a u ext (ordered o ts rs) ads (ordered o ts x.0) x.1)
+    (As (λ (x : List (Option Value) × List (Option Value)). fields (as_slots x.0) (as_slots x.1)) (λ x. Record_in a u ext (ordered o ts rs) ads (ordered o ts x.0) x.1) v)
+fields_within a u o ts ext ms adds rs ads k k' (fields r x) = as_within (λ (x : List (Option Value) × List (Option Value)). fields (as_slots x.0) (as_slots x.1)) (λ x. Record_in a u ext (ordered o ts rs) ads (ordered o ts x.0) x.1)
     (slots r, slots x) (fields r x) (ap (λ z. fields z x) (sym (as_slots-slots r)) ∙ ap (λ z. fields (as_slots (slots r)) z) (sym (as_slots-slots x)))
     (record_within a u ext (ordered o ts ms) adds (ordered o ts rs) ads (ordered-pairs o ts ms rs k) k' (ordered o ts (slots r)) (slots x))
 fields_within a u o ts ext ms adds rs ads k k' _ = refused_within
@@ -113,12 +113,12 @@ null_within : (v : Value) → Within (on_nothing (just []) v) (As (λ (u : Unit 
 null_within nothing = as_within (λ (u : Unit {0}). nothing) (λ u. exactly []) tt nothing refl (just_within [])
 null_within _ = refused_within
 
-bits_within : (a : Settings) (size : Size) (mark : Bool) (v : Value) → Within (on_bits (λ bs. counted a.variant size mark bit_items (bit_writers bs)) v) (As Value.bits (Lengthy a size mark bit_items bit) v)
-bits_within a size mark (Value.bits bs) = as_within Value.bits (Lengthy a size mark bit_items bit) bs (Value.bits bs) refl (counted_within (λ b. just (b ∷ [])) bit (λ b. just_within (b ∷ [])) a size mark bit_items bs)
+bits_within : (a : Settings) (size : Size) (mark : Bool) (v : Value) → Within (on_bits (λ bs. counted a.variant size mark bit_items (bit_writers bs)) v) (As Value.bits (Counted a size mark bit_items bit) v)
+bits_within a size mark (Value.bits bs) = as_within Value.bits (Counted a size mark bit_items bit) bs (Value.bits bs) refl (counted_within (λ b. just (b ∷ [])) bit (λ b. just_within (b ∷ [])) a size mark bit_items bs)
 bits_within a size mark _ = refused_within
 
 strings_within : (a : Settings) (alphabet : List ℕ) (size : Size) (mark : Bool) (v : Value) →
-    Within (on_characters (λ cs. counted a.variant size mark (Counted.char_items (char_width a.variant alphabet)) (char_writers a.variant alphabet cs)) v) (As characters (String a alphabet size mark) v)
+    Within (on_characters (λ cs. counted a.variant size mark (ItemKind.char_items (char_width a.variant alphabet)) (char_writers a.variant alphabet cs)) v) (As characters (String a alphabet size mark) v)
 strings_within a alphabet size mark (characters cs) = as_within characters (String a alphabet size mark) cs (characters cs) refl (string_within a alphabet size mark cs)
 strings_within a alphabet size mark _ = refused_within
 
@@ -127,7 +127,7 @@ proper_octets a ok (Value.octets os) = as_within Value.octets (Proper ok (Octets
 proper_octets a ok _ = refused_within
 
 proper_strings : (a : Settings) (ok : List ℕ → Bool) (v : Value) →
-    Within (on_characters (λ cs. written_if (ok cs) (counted a.variant any_size false (Counted.char_items (char_width a.variant visible)) (char_writers a.variant visible cs))) v) (As characters (Proper ok (String a visible any_size false)) v)
+    Within (on_characters (λ cs. written_if (ok cs) (counted a.variant any_size false (ItemKind.char_items (char_width a.variant visible)) (char_writers a.variant visible cs))) v) (As characters (Proper ok (String a visible any_size false)) v)
 proper_strings a ok (characters cs) = as_within characters (Proper ok (String a visible any_size false)) cs (characters cs) refl (if_within (ok cs) (λ h. relax (λ p b x. (h, x)) (string_within a visible any_size false cs)))
 proper_strings a ok _ = refused_within
 
@@ -145,13 +145,13 @@ dates_within a (day y m d) = day_within a y m d
 dates_within a _ = refused_within
 
 pub choices_within : (a : Settings) (ext : Bool) (ms adds : List Member) (rs ads : List Rule) → Pairs ms rs → Pairs adds ads → (v : Value) →
-    Within (on_alternative (choice_of a.variant ext ms adds) v) (As (λ (x : Side × ℕ × Value). alternative x.0 x.1 x.2) (λ x. Basic.Alternative a ext rs ads x.0 x.1 x.2) v)
-choices_within a ext ms adds rs ads k k' (alternative d i v) = as_within (λ (x : Side × ℕ × Value). alternative x.0 x.1 x.2) (λ x. Basic.Alternative a ext rs ads x.0 x.1 x.2) (d, i, v) (alternative d i v) refl
+    Within (on_alternative (choice_of a.variant ext ms adds) v) (As (λ (x : Side × ℕ × Value). alternative x.0 x.1 x.2) (λ x. Basic.Choice a ext rs ads x.0 x.1 x.2) v)
+choices_within a ext ms adds rs ads k k' (alternative d i v) = as_within (λ (x : Side × ℕ × Value). alternative x.0 x.1 x.2) (λ x. Basic.Choice a ext rs ads x.0 x.1 x.2) (d, i, v) (alternative d i v) refl
     (alternative_within a ext ms adds rs ads k k' d i v)
 choices_within a ext ms adds rs ads k k' _ = refused_within
 
 pub bags_within : (a : Settings) (e : Schema) (spells : Value → Spelling) (size : Size) (mark : Bool) → ((v : Value) → Within (canon a.variant e v) (spells v)) → (v : Value) →
-    Within (on_bag (λ vs. counted a.variant size mark list_items (Canon.ascending (map (canon a.variant e) vs))) v) (As bag_of (Lengthy a size mark list_items spells) v)
+    Within (on_bag (λ vs. counted a.variant size mark list_items (Canon.ascending (map (canon a.variant e) vs))) v) (As bag_of (Counted a size mark list_items spells) v)
 bags_within a e spells size mark h (bag vs) = bag_within a e spells size mark vs h
 bags_within a e spells size mark h _ = refused_within
 

@@ -2,8 +2,8 @@
 use Rattle.std.proofs.Common.{◌≡◌, refl, sym, ap, ◌∙◌, subst, ℕ, zero, suc, ◌+◌, ◌-◌, ◌*◌, ◌/◌, ◌%◌, ◌<◌, ◌≤◌, Bool, true, false, cond, ◌&&◌, ltb, List, [], ◌∷◌, ◌++◌, map, length, take, drop, replicate, arith, Option, Some, None, ltb-true, append-nil, length-take, length-drop, take-append-drop, take_all, lt-ltb, le-ltb}
 use Rattle.rasn_types.specs.Bits.{Bits, to_bits}
 use Rattle.rasn_constraints.specs.Bounds.{allows, Size, any_size}
-use Rattle.per_core.specs.Basic.{OneByOne, LastCount, Fragment, UnconstrainedLength, PaddingIf, length_form, Sized, Lengthy}
-use Rattle.per_core.specs.Counts.{fragment_sizes, unless_zero, determinant, in_fragments, Counted, is_aligned, padding_if, counted_under, counted_in, marked_form, counted}
+use Rattle.per_core.specs.Basic.{OneByOne, LastCount, Fragment, UnconstrainedLength, PaddingIf, length_form, Sized, Counted}
+use Rattle.per_core.specs.Counts.{fragment_sizes, unless_zero, determinant, in_fragments, ItemKind, is_aligned, padding_if, counted_under, counted_in, marked_form, counted}
 use Rattle.per_core.specs.Spellings.{Settings, Spelling, exactly, Then, AnyPadding, Field}
 use Rattle.per_core.specs.Writers.{after, Writer, just, ◌▹◌, one_by_one, padding, written_if}
 use Rattle.per_core.proofs.Within.{Within, just_within, then_within, if_within, cond_within, relax, left_within, right_within, when_within, field_within, padding_within, bounded_within}
@@ -143,21 +143,21 @@ module _ {X : Type 0} (w : X → Writer) (f : X → Spelling) (each : (x : X) �
   padding_if_within a true = padding_within a
   padding_if_within a false = just_within []
 
-  under_within : (a : Settings) (l u : Option ℕ) (kind : Counted) (xs : List X) → Within (counted_under a.variant l u kind (length xs) (map w xs)) (length_form a l u kind f xs)
+  under_within : (a : Settings) (l u : Option ℕ) (kind : ItemKind) (xs : List X) → Within (counted_under a.variant l u kind (length xs) (map w xs)) (length_form a l u kind f xs)
   under_within a None u kind xs = unsized_within a xs
   under_within a (Some lb) None kind xs = unsized_within a xs
   under_within a (Some lb) (Some ub) kind xs = cond_within (ltb ub 65536)
       (λ e. then_within (bounded_within a (ub - lb + 1) (length xs - lb)) (then_within (padding_if_within a (ltb 0 (length xs) && is_aligned kind lb ub)) (row_within xs)))
       (λ e. unsized_within a xs)
 
-  sized_within : (a : Settings) (size : Size) (kind : Counted) (xs : List X) → Within (counted_in a.variant size kind (map w xs)) (Sized a size kind f xs)
+  sized_within : (a : Settings) (size : Size) (kind : ItemKind) (xs : List X) → Within (counted_in a.variant size kind (map w xs)) (Sized a size kind f xs)
   sized_within a size kind xs = subst (λ n. Within (written_if (allows size n) (counted_under a.variant size.least size.most kind n (map w xs))) (Sized a size kind f xs)) (sym (length-map' w xs))
       (if_within (allows size (length xs)) (λ e. relax (λ p b x. record { allowed = e; spelled = x }) (under_within a size.least size.most kind xs)))
 
-  pub counted_within : (a : Settings) (size : Size) (mark : Bool) (kind : Counted) (xs : List X) → Within (counted a.variant size mark kind (map w xs)) (Lengthy a size mark kind f xs)
+  pub counted_within : (a : Settings) (size : Size) (mark : Bool) (kind : ItemKind) (xs : List X) → Within (counted a.variant size mark kind (map w xs)) (Counted a size mark kind f xs)
   counted_within a size mark kind xs = form mark (allows size (length (map w xs)))
     where
-      form : (mark inside : Bool) → Within (marked_form mark inside (counted_in a.variant size kind (map w xs)) (counted_in a.variant any_size kind (map w xs))) (Lengthy a size mark kind f xs)
+      form : (mark inside : Bool) → Within (marked_form mark inside (counted_in a.variant size kind (map w xs)) (counted_in a.variant any_size kind (map w xs))) (Counted a size mark kind f xs)
       form false inside = sized_within a size kind xs
       form true true = left_within (then_within (just_within (false ∷ [])) (sized_within a size kind xs))
       form true false = right_within (then_within (just_within (true ∷ [])) (sized_within a any_size kind xs))

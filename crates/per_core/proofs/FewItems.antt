@@ -5,10 +5,10 @@ use Rattle.rasn_types.specs.Values.{Value, bag_of, elements, before, code, put, 
 use Rattle.rasn_types.proofs.Values.{values-as_values}
 use Rattle.rasn_constraints.specs.Bounds.{allows, Size, any_size, at_least}
 use Rattle.rasn_schema.specs.Schemas.{Schema}
-use Rattle.per_core.specs.Basic.{OneByOne, InFragments, UnconstrainedLength, IsConstrainedWhole, PaddingIf, length_form, Sized, Lengthy, basic_in}
-use Rattle.per_core.specs.Counts.{Counted, is_aligned}
+use Rattle.per_core.specs.Basic.{OneByOne, InFragments, UnconstrainedLength, IsConstrainedWhole, PaddingIf, length_form, Sized, Counted, basic_in}
+use Rattle.per_core.specs.Counts.{ItemKind, is_aligned}
 use Rattle.per_core.specs.Spellings.{Settings, Spelling, Then}
-use Rattle.per_core.proofs.Lengths.{and_left, and_right}
+use Rattle.per_core.proofs.LengthForms.{and_left, and_right}
 use Rattle.per_core.specs.FewItems.{item_count, most_items}
 use Rattle.per_core.proofs.FewLengths.{last_few, fragment_few, then_length}
 
@@ -33,7 +33,7 @@ module _ {X : Type 0} (a : Settings) (item : X → Spelling) where
   unconstrained_few xs p b x = fragments_few x.fragments xs p b x.spelled
 
   -- either form that bounds may give, where they allow the count
-  form_few : (l u : Option ℕ) (kind : Counted) (xs : List X) (p : ℕ) (b : Bits) → allows (record { least = l; most = u }) (length xs) ≡ true →
+  form_few : (l u : Option ℕ) (kind : ItemKind) (xs : List X) (p : ℕ) (b : Bits) → allows (record { least = l; most = u }) (length xs) ≡ true →
       length_form a l u kind item xs p b → length xs ≤ most_items (length b)
   form_few None u kind xs p b h x = let r = unconstrained_few xs p b x in omega arith
   form_few (Some lb) None kind xs p b h x = let r = unconstrained_few xs p b x in omega arith
@@ -48,10 +48,10 @@ module _ {X : Type 0} (a : Settings) (item : X → Spelling) where
       choose true e y = let k : ub < 65536 = ltb-true ub 65536 e in let r = within in omega arith
       choose false e y = let r = unconstrained_few xs p b y in omega arith
 
-  sized_few : (size : Size) (kind : Counted) (xs : List X) (p : ℕ) (b : Bits) → Sized a size kind item xs p b → length xs ≤ most_items (length b)
+  sized_few : (size : Size) (kind : ItemKind) (xs : List X) (p : ℕ) (b : Bits) → Sized a size kind item xs p b → length xs ≤ most_items (length b)
   sized_few size kind xs p b x = form_few size.least size.most kind xs p b x.allowed x.spelled
 
-  pub lengthy_few : (size : Size) (mark : Bool) (kind : Counted) (xs : List X) (p : ℕ) (b : Bits) → Lengthy a size mark kind item xs p b → length xs ≤ most_items (length b)
+  pub lengthy_few : (size : Size) (mark : Bool) (kind : ItemKind) (xs : List X) (p : ℕ) (b : Bits) → Counted a size mark kind item xs p b → length xs ≤ most_items (length b)
   lengthy_few size false kind xs p b x = sized_few size kind xs p b x
   lengthy_few size true kind xs p b (inl x) = let l = then_length x in let r = sized_few size kind xs _ x.rest x.is_rest in omega arith
   lengthy_few size true kind xs p b (inr x) = let l = then_length x in let r = sized_few any_size kind xs _ x.rest x.is_rest in omega arith

@@ -5,7 +5,7 @@ use Rattle.rasn_types.specs.Values.{Value, bag_of, alternative, Side, root, adde
 use Rattle.rasn_types.proofs.Values.{values-as_values, slots-as_slots}
 use Rattle.rasn_schema.specs.Schemas
 use Rattle.rasn_schema.specs.Schemas.{Schema, Presence, Parts, no_parts, part, tags}
-use Rattle.per_core.specs.Basic.{Rule, IsLeftOut, Alternative, Chosen, basic_in, rules_in}
+use Rattle.per_core.specs.Basic.{Rule, IsLeftOut, Choice, Chosen, basic_in, rules_in}
 use Rattle.per_core.specs.Counts.{list_items}
 use Rattle.per_core.specs.Spellings.{Settings}
 use Rattle.per_core.specs.Writers.{after}
@@ -26,7 +26,7 @@ of_slot m r P f v (inr y) = let e : ◌≡◌ {A = Option Value} (Some v) (Some 
 
 -- facts of the alternative that is chosen
 of_alternative : (m : ℕ) (a : Settings) (ext : Bool) (rs adds : List Rule) (P Q : ℕ → Value → Type 0) → ((i : ℕ) (w : Value) → HeldIn m (Chosen rs i w) → P i w)
-    → ((i : ℕ) (w : Value) → HeldIn m (Chosen adds i w) → Q i w) → (d : Side) (i : ℕ) (w : Value) (p : ℕ) (b : Bits) → length b ≤ m → Alternative a ext rs adds d i w p b → OfAlternative P Q (alternative d i w)
+    → ((i : ℕ) (w : Value) → HeldIn m (Chosen adds i w) → Q i w) → (d : Side) (i : ℕ) (w : Value) (p : ℕ) (b : Bits) → length b ≤ m → Choice a ext rs adds d i w p b → OfAlternative P Q (alternative d i w)
 of_alternative m a ext rs adds P Q f g root i w p b h x =
     let y = x.is_rest in
     let l = then_length x in

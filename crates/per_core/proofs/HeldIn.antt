@@ -6,8 +6,8 @@ use Rattle.rasn_types.specs.Values.{Value, put, sorted}
 use Rattle.rasn_constraints.specs.Bounds.{Size, any_size}
 use Rattle.rasn_schema.specs.Orders.{ordered, by_tags, insert_at, how_many_less}
 use Rattle.rasn_schema.specs.Schemas.{Order, listed, by_tag, Tag}
-use Rattle.per_core.specs.Basic.{OneByOne, InFragments, UnconstrainedLength, IsConstrainedWhole, PaddingIf, length_form, Lengthy, octet, Fills, Open, Rule, IsLeftOut, Bodies, Root, Additions_in, Fields_in}
-use Rattle.per_core.specs.Counts.{Counted, is_aligned}
+use Rattle.per_core.specs.Basic.{OneByOne, InFragments, UnconstrainedLength, IsConstrainedWhole, PaddingIf, length_form, Counted, octet, Fills, Open, Rule, IsLeftOut, Bodies, Root, Additions_in, Record_in}
+use Rattle.per_core.specs.Counts.{ItemKind, is_aligned}
 use Rattle.per_core.specs.Spellings.{Settings, Spelling, Then}
 use Rattle.per_core.proofs.Readings.{length-by_tags}
 use Rattle.per_core.specs.Within.{Each}
@@ -47,7 +47,7 @@ module _ {X : Type 0} (a : Settings) (m : ℕ) (item : X → Spelling) where
       let r = fragments_held k x.others _ w.rest (omega arith) w.is_rest in
       subst (λ ys. Each (λ y. HeldIn m (item y)) ys) (sym x.all) (each_append (λ y. HeldIn m (item y)) x.these x.others q r)
 
-  form_held : (l u : Option ℕ) (kind : Counted) (xs : List X) (p : ℕ) (b : Bits) → length b ≤ m → length_form a l u kind item xs p b → Each (λ x. HeldIn m (item x)) xs
+  form_held : (l u : Option ℕ) (kind : ItemKind) (xs : List X) (p : ℕ) (b : Bits) → length b ≤ m → length_form a l u kind item xs p b → Each (λ x. HeldIn m (item x)) xs
   form_held None u kind xs p b h x = fragments_held x.fragments xs p b h x.spelled
   form_held (Some lb) None kind xs p b h x = fragments_held x.fragments xs p b h x.spelled
   form_held (Some lb) (Some ub) kind xs p b h x = choose (ltb ub 65536) x
@@ -60,7 +60,7 @@ module _ {X : Type 0} (a : Settings) (m : ℕ) (item : X → Spelling) where
           let n = then_length z in each_held xs _ z.rest (omega arith) z.is_rest
       choose false y = fragments_held y.fragments xs p b h y.spelled
 
-  pub lengthy_held : (size : Size) (mark : Bool) (kind : Counted) (xs : List X) (p : ℕ) (b : Bits) → length b ≤ m → Lengthy a size mark kind item xs p b → Each (λ x. HeldIn m (item x)) xs
+  pub lengthy_held : (size : Size) (mark : Bool) (kind : ItemKind) (xs : List X) (p : ℕ) (b : Bits) → length b ≤ m → Counted a size mark kind item xs p b → Each (λ x. HeldIn m (item x)) xs
   lengthy_held size false kind xs p b h x = form_held size.least size.most kind xs p b h x.spelled
   lengthy_held size true kind xs p b h (inl x) = let l = then_length x in form_held size.least size.most kind xs _ x.rest (omega arith) x.is_rest.spelled
   lengthy_held size true kind xs p b h (inr x) = let l = then_length x in form_held any_size.least any_size.most kind xs _ x.rest (omega arith) x.is_rest.spelled
@@ -167,7 +167,7 @@ module _ (m : ℕ) where
   as_listed by_tag ts rs ss h = as_tagged ts rs ss (sym (length-by_tags ts rs) ∙ as_many (by_tags ts rs) (by_tags ts ss) h ∙ length-by_tags ts ss) h
 
   -- all of a record
-  fields_in_turn : (a : Settings) (u ext : Bool) (rs adds : List Rule) (ss xs : List (Option Value)) (p : ℕ) (b : Bits) → length b ≤ m → Fields_in a u ext rs adds ss xs p b → SlotsHeld m rs ss × SlotsHeld m adds xs
+  fields_in_turn : (a : Settings) (u ext : Bool) (rs adds : List Rule) (ss xs : List (Option Value)) (p : ℕ) (b : Bits) → length b ≤ m → Record_in a u ext rs adds ss xs p b → SlotsHeld m rs ss × SlotsHeld m adds xs
   fields_in_turn a u false rs adds ss xs p b h x =
       let l = then_length x in (root_held rs ss p x.front (omega arith) x.is_front, additions_held a u adds xs [] _ x.rest (omega arith) x.is_rest)
   fields_in_turn a u true rs adds ss xs p b h (inl x) =
@@ -183,7 +183,7 @@ module _ (m : ℕ) where
       let o = then_length w in (root_held rs ss _ y.front (omega arith) y.is_front, additions_held a u adds xs z.flags _ w.rest (omega arith) w.is_rest)
 
   pub fields_held : (a : Settings) (u ext : Bool) (o : Order) (ts : List Tag) (rs adds : List Rule) (ss xs : List (Option Value)) (p : ℕ) (b : Bits) → length b ≤ m →
-      Fields_in a u ext (ordered o ts rs) adds (ordered o ts ss) xs p b → SlotsHeld m rs ss × SlotsHeld m adds xs
+      Record_in a u ext (ordered o ts rs) adds (ordered o ts ss) xs p b → SlotsHeld m rs ss × SlotsHeld m adds xs
   fields_held a u ext o ts rs adds ss xs p b h x = let r = fields_in_turn a u ext (ordered o ts rs) adds (ordered o ts ss) xs p b h x in (as_listed o ts rs ss r.0, r.1)
 
 -- a fact of each member, in ascending order

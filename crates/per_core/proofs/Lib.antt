@@ -2,9 +2,10 @@ pub mod Agree
 pub mod Bags
 pub mod Canonical
 pub mod Codes
+pub mod ConstrainedLengths
 pub mod Counting
 pub mod Laws
-pub mod Lengths
+pub mod LengthForms
 pub mod Numbers
 pub mod Positions
 pub mod Presenting

@@ -13,7 +13,7 @@ use Rattle.per_core.specs.Basic.{OneByOne, IsConstrainedWhole, PaddingIf, Uncons
 use Rattle.per_core.specs.Counts.{is_aligned, list_items}
 use Rattle.per_core.specs.Spellings.{Settings, Spelling, Then, AnyPadding, Field}
 use Rattle.per_core.specs.Writers.{after}
-use Rattle.per_core.proofs.Lengths.{and_no}
+use Rattle.per_core.proofs.LengthForms.{and_no}
 use Rattle.per_core.proofs.Within.{zero_if}
 use Rattle.per_core.specs.FewItems.{item_count}
 use Rattle.per_core.specs.Nulls.{any_nulls, nulls, sized_nulls}

@@ -10,7 +10,7 @@ use Rattle.rasn_constraints.specs.Bounds.{allows, fits_i128, holds, above, Bound
 use Rattle.rasn_schema.specs.Orders.{ordered}
 use Rattle.rasn_schema.specs.Schemas.{tags, Schema, Presence}
 use Rattle.per_core.specs.Canon.{canon, members, Member, shown, flag, flagged, flags_of, bodies_of, bitmap_of, any_set, bitmap, opens_of, extension_bit, with_additions, record_of, chosen, choice_of, item_of, date_of, year_writer, in_range, year_of, char_writers, ascending, on_truth, on_nothing, on_whole, on_octets, on_bits, on_characters, on_item, on_day, on_elements, on_bag, on_fields, on_alternative}
-use Rattle.per_core.specs.Counts.{Counted, constrained_whole, in_fragments, determinant, fragment_sizes, counted_under, counted_in, counted, marked_form, padding_if, is_aligned, octet_writers, bit_writers, unconstrained_octets, counted_octets, number_under, number_form, open_bits, small, list_items, octet_items, bit_items}
+use Rattle.per_core.specs.Counts.{ItemKind, constrained_whole, in_fragments, determinant, fragment_sizes, counted_under, counted_in, counted, marked_form, padding_if, is_aligned, octet_writers, bit_writers, unconstrained_octets, counted_octets, number_under, number_form, open_bits, small, list_items, octet_items, bit_items}
 use Rattle.per_core.specs.Writers.{Writer, just, refused, ◌▹◌, go_on, join, one_by_one, padding, written_if}
 
 pub record Periodic (w : Writer) : Type 0 where
@@ -55,7 +55,7 @@ bounded_p unaligned n o = if_p (ltb o n) (just_p (to_bits (width n) o))
 bounded_p aligned n o = if_p (ltb o n) (cond_p (leb n 255) (just_p (to_bits (width n) o)) (cond_p (eqb n 256) (then_p (just (to_bits 8 o)) (padding_p aligned))
     (cond_p (leb n 65536) (then_p (just (to_bits 16 o)) (padding_p aligned)) (then_p (padding aligned ▹ just (natural_bits o)) (just_p (to_bits (width ((width n + 7) / 8)) (octets_of_natural o - 1)))))))
 
-under_p : (a : Variant) (l u : Option ℕ) (kind : Counted) (n : ℕ) (ws : List Writer) → Periodic (counted_under a l u kind n ws)
+under_p : (a : Variant) (l u : Option ℕ) (kind : ItemKind) (n : ℕ) (ws : List Writer) → Periodic (counted_under a l u kind n ws)
 under_p a None u kind n ws = in_fragments_p a (fragment_sizes n) ws
 under_p a (Some lb) None kind n ws = in_fragments_p a (fragment_sizes n) ws
 under_p a (Some lb) (Some ub) kind n ws = cond_p (ltb ub 65536) (then_p (padding_if (ltb 0 n && is_aligned kind lb ub) a ▹ one_by_one ws) (bounded_p a (ub - lb + 1) (n - lb))) (in_fragments_p a (fragment_sizes n) ws)
@@ -65,7 +65,7 @@ marked_p g false inside h = h
 marked_p {f} g true true h = then_p f (just_p (false ∷ []))
 marked_p g true false h = then_p g (just_p (true ∷ []))
 
-pub counted_p : (a : Variant) (size : Size) (mark : Bool) (kind : Counted) (ws : List Writer) → Periodic (counted a size mark kind ws)
+pub counted_p : (a : Variant) (size : Size) (mark : Bool) (kind : ItemKind) (ws : List Writer) → Periodic (counted a size mark kind ws)
 counted_p a size mark kind ws = marked_p (counted_in a any_size kind ws) mark (allows size (length ws)) (if_p (allows size (length ws)) (under_p a size.least size.most kind (length ws) ws))
 
 pub octets_p : (a : Variant) (os : List ℕ) → Periodic (unconstrained_octets a os)
@@ -177,8 +177,8 @@ on_alternative_p : (f : Side → ℕ → Value → Writer) → ((d : Side) (i : 
 on_alternative_p f h (Value.alternative d i v) = h d i v
 on_alternative_p f h _ = refused_p
 
-string_p : (a : Variant) (alphabet : List ℕ) (size : Size) (mark : Bool) (cs : List ℕ) → Periodic (counted a size mark (Counted.char_items (char_width a alphabet)) (char_writers a alphabet cs))
-string_p a alphabet size mark cs = counted_p a size mark (Counted.char_items (char_width a alphabet)) (char_writers a alphabet cs)
+string_p : (a : Variant) (alphabet : List ℕ) (size : Size) (mark : Bool) (cs : List ℕ) → Periodic (counted a size mark (ItemKind.char_items (char_width a alphabet)) (char_writers a alphabet cs))
+string_p a alphabet size mark cs = counted_p a size mark (ItemKind.char_items (char_width a alphabet)) (char_writers a alphabet cs)
 
 pub canon_p : (a : Variant) (s : Schema) (v : Value) → Periodic (canon a s v)
 unfolding canon

@@ -7,7 +7,7 @@ use Rattle.rasn_types.specs.Values.{Value, same}
 use Rattle.rasn_types.proofs.Octets.{octet_again}
 use Rattle.rasn_constraints.specs.Bounds.{any_size}
 use Rattle.rasn_schema.specs.Schemas.{Presence, required, optional, group, default}
-use Rattle.per_core.specs.Basic.{Sized, octet, bit, Octets, Fills, Open, Rule, FlagOf, Flags, IsLeftOut, Body, Bodies, Root, Additions_in, IsBitmap, Fields_in}
+use Rattle.per_core.specs.Basic.{Sized, octet, bit, Octets, Fills, Open, Rule, FlagOf, Flags, IsLeftOut, Body, Bodies, Root, Additions_in, IsBitmap, Record_in}
 use Rattle.per_core.specs.Canon.{Member, shown, flagged, if_shown, flags_of, bodies_of, also_bit, bitmap_of, any_set, bitmap, opens_of, extension_bit, with_additions, record_of}
 use Rattle.per_core.specs.Counts.{counted, octet_items, bit_items, bit_writers, unconstrained_octets, open_bits}
 use Rattle.per_core.specs.Spellings.{Settings, Spelling, exactly, Then, Either, Field}
@@ -231,18 +231,18 @@ after_nothing w h p b e = h.same p ((p + 0) % 8) (turned p) ∙ go (w ((p + 0) %
     go (Some c) e = e
 
 pub record_within : (a : Settings) (u : Bool) (ext : Bool) (ms adds : List Member) (rs ads : List Rule) → Pairs ms rs → Pairs adds ads → (ss xs : List (Option Value)) →
-    Within (record_of a.variant ext ms adds ss xs) (Fields_in a u ext rs ads ss xs)
+    Within (record_of a.variant ext ms adds ss xs) (Record_in a u ext rs ads ss xs)
 unfolding record_of
 record_within a u ext ms adds rs ads k k' ss xs = go (bitmap_of adds xs) refl
   where
     whole_of : (ext : Bool) (bs : Bits) → bitmap_of adds xs ≡ Some bs → (t : Bool) → any_set bs ≡ t →
-        Within (extension_bit ext t ▹ (flags_of ms ss ▹ bodies_of ms ss) ▹ cond t (bitmap a.variant bs ▹ opens_of a.variant adds xs bs) (just [])) (Fields_in a u ext rs ads ss xs)
+        Within (extension_bit ext t ▹ (flags_of ms ss ▹ bodies_of ms ss) ▹ cond t (bitmap a.variant bs ▹ opens_of a.variant adds xs bs) (just [])) (Record_in a u ext rs ads ss xs)
     whole_of false bs e true f = record { within = λ p b x. absurd (cc) }
     whole_of false bs e false f = record { within = λ p b x. (then_within (root_within ms rs k ss) (idle_within a u adds ads k' xs bs e f)).within p b (after_nothing ((flags_of ms ss ▹ bodies_of ms ss) ▹ just []) (then_p (just []) (then_p (bodies_of ms ss) (flags_p ms ss))) p b x) }
     whole_of true bs e true f = right_within (relax (λ p b x. record { flags = bs; spelled = x }) (then_within (just_within (true ∷ [])) (then_within (root_within ms rs k ss)
         (then_within (bitmap_within a bs (any_some bs f)) (opens_within a u adds ads k' xs bs e)))))
     whole_of true bs e false f = left_within (then_within (just_within (false ∷ [])) (then_within (root_within ms rs k ss) (idle_within a u adds ads k' xs bs e f)))
 
-    go : (o : Option Bits) → bitmap_of adds xs ≡ o → Within (with_additions a.variant ext adds xs (flags_of ms ss ▹ bodies_of ms ss) o) (Fields_in a u ext rs ads ss xs)
+    go : (o : Option Bits) → bitmap_of adds xs ≡ o → Within (with_additions a.variant ext adds xs (flags_of ms ss ▹ bodies_of ms ss) o) (Record_in a u ext rs ads ss xs)
     go None e = refused_within
     go (Some bs) e = whole_of ext bs e (any_set bs) refl

@@ -7,11 +7,11 @@ use Rattle.rasn_schema.specs.Orders.{ordered, by_tags, insert_at, how_many_less}
 use Rattle.rasn_constraints.specs.Bounds.{Size, any_size}
 use Rattle.rasn_schema.specs.Schemas.{tags, count, Presence, required, optional, group, default, Order, listed, by_tag, Tag, Schema, Parts, no_parts, part}
 use Rattle.per_core.specs.Basic
-use Rattle.per_core.specs.Basic.{Proper, Lengthy, octet, bit, Octets, Fills, Open, Rule, FlagOf, IsLeftOut, Fields, As, IsConstrainedWhole, Chosen, ExtensionBit, Char, String, YearIn, year_form, Year, IsDay, basic, basic_in, rules, rules_in}
+use Rattle.per_core.specs.Basic.{Proper, Counted, octet, bit, Octets, Fills, Open, Rule, FlagOf, IsLeftOut, Record, As, IsConstrainedWhole, Chosen, ExtensionBit, Char, String, YearIn, year_form, Year, IsDay, basic, basic_in, rules, rules_in}
 use Rattle.per_core.specs.Counts.{list_items, octet_items, bit_items, char_items}
 use Rattle.per_core.specs.Spellings.{Settings, Spelling, exactly, Then}
 use Rattle.per_core.proofs.Agree.{Agree, weaken, then_agree, when_agree, never_agree, agree_never, exactly_agree, empty_agree, field_agree, no_yes, behind, turned}
-use Rattle.per_core.proofs.Lengths.{Zip-same, lengthy_agree, same_octets, bounded_agree}
+use Rattle.per_core.proofs.LengthForms.{Zip-same, lengthy_agree, same_octets, bounded_agree}
 use Rattle.per_core.proofs.Records.{SlotRel, Kin, AllKin, Along, fields_agree}
 use Rattle.per_core.proofs.Unique.{fills_agree, open_agree, small_agree, as_agree, is_number_of_agree, in_whole_agree}
 
@@ -130,13 +130,13 @@ pub alternative_agree : (Q : Value → Value → Type 0) (a : Settings) (ext may
     AllKin false Ss rs' rs → AllKin may As adds' adds →
     ((i : ℕ) (v' v : Value) → i < length rs → rel_at Ss i (Some v') (Some v) → Q (alternative root i v') (alternative root i v)) →
     ((i : ℕ) (v' v : Value) → i < length adds → rel_at As i (Some v') (Some v) → Q (alternative added i v') (alternative added i v)) →
-    (x y : Side × ℕ × Value) → Agree (Q (alternative x.0 x.1 x.2) (alternative y.0 y.1 y.2)) (Basic.Alternative a ext rs' adds' x.0 x.1 x.2) (Basic.Alternative a ext rs adds y.0 y.1 y.2)
+    (x y : Side × ℕ × Value) → Agree (Q (alternative x.0 x.1 x.2) (alternative y.0 y.1 y.2)) (Basic.Choice a ext rs' adds' x.0 x.1 x.2) (Basic.Choice a ext rs adds y.0 y.1 y.2)
 alternative_agree Q a ext may Ss As rs' rs adds' adds k k' h h' x y = go x.0 x.1 x.2 y.0 y.1 y.2
   where
     constrained_whole : (i j : ℕ) → Agree (i ≡ j) (IsConstrainedWhole a (length rs') i) (IsConstrainedWhole a (length rs) j)
     constrained_whole i j = subst (λ n. Agree (i ≡ j) (IsConstrainedWhole a (length rs') i) (IsConstrainedWhole a n j)) (kin-length Ss rs' rs k) (bounded_agree a (length rs') i j)
 
-    go : (d' : Side) (i : ℕ) (v' : Value) (d : Side) (j : ℕ) (v : Value) → Agree (Q (alternative d' i v') (alternative d j v)) (Basic.Alternative a ext rs' adds' d' i v') (Basic.Alternative a ext rs adds d j v)
+    go : (d' : Side) (i : ℕ) (v' : Value) (d : Side) (j : ℕ) (v : Value) → Agree (Q (alternative d' i v') (alternative d j v)) (Basic.Choice a ext rs' adds' d' i v') (Basic.Choice a ext rs adds d j v)
     go root i v' root j v = same_bit ext false (weaken (λ r. r.1) (then_agree (constrained_whole i j) (λ e.
         subst (λ n. Agree (Q (alternative root i v') (alternative root n v)) (Chosen rs' i v') (Chosen rs n v)) e (weaken (λ r. h i v' v r.0 r.1) (chosen_agree false Ss rs' rs k i v' v)))))
     go root i v' added j v = root_added ext _ _
@@ -296,14 +296,14 @@ proper_string a ok v w = as_agree SameValue characters characters (Proper ok (St
 
 -- lists, by what is known of the elements
 list_value : (a : Settings) (make : List Value → Value) (f : Value → Spelling) (size : Size) (mark : Bool) → ((v w : Value) → Agree (v ≡ w) (f v) (f w)) → (v w : Value) →
-    Agree (v ≡ w) (As make (Lengthy a size mark list_items f) v) (As make (Lengthy a size mark list_items f) w)
-list_value a make f size mark h v w = as_agree SameValue make make (Lengthy a size mark list_items f) (Lengthy a size mark list_items f) v w
+    Agree (v ≡ w) (As make (Counted a size mark list_items f) v) (As make (Counted a size mark list_items f) w)
+list_value a make f size mark h v w = as_agree SameValue make make (Counted a size mark list_items f) (Counted a size mark list_items f) v w
     (λ x y. weaken (λ z. ap make (Zip-same x y z)) (lengthy_agree (λ x y. x ≡ y) f f h a size mark list_items x y))
 
 record_value : (a : Settings) (o : Order) (ext : Bool) (ps adds : Parts) (rs as_ : List Rule) → AllKin false (sames ps) rs rs → AllKin false (sames adds) as_ as_ →
     (x y : List (Option Value) × List (Option Value)) →
     Agree (fields (as_slots x.0) (as_slots x.1) ≡ fields (as_slots y.0) (as_slots y.1))
-    (Fields a ext (ordered o (tags ps) rs) as_ (ordered o (tags ps) x.0) x.1) (Fields a ext (ordered o (tags ps) rs) as_ (ordered o (tags ps) y.0) y.1)
+    (Record a ext (ordered o (tags ps) rs) as_ (ordered o (tags ps) x.0) x.1) (Record a ext (ordered o (tags ps) rs) as_ (ordered o (tags ps) y.0) y.1)
 record_value a o ext ps adds rs as_ k k' x y = weaken (λ r.
     let e : x.0 ≡ y.0 = same_slots ps x.0 y.0 (along-listed o (tags ps) (sames ps) x.0 y.0 r.0) in
     let f : x.1 ≡ y.1 = same_slots adds x.1 y.1 r.1 in cc)
@@ -312,7 +312,7 @@ record_value a o ext ps adds rs as_ k k' x y = weaken (λ r.
 
 choice_value : (a : Settings) (ext : Bool) (ps adds : Parts) → AllKin false (sames ps) (rules a ps) (rules a ps) → AllKin false (sames adds) (rules a adds) (rules a adds) →
     (x y : Side × ℕ × Value) → Agree (alternative x.0 x.1 x.2 ≡ alternative y.0 y.1 y.2)
-    (Basic.Alternative a ext (rules a ps) (rules a adds) x.0 x.1 x.2) (Basic.Alternative a ext (rules a ps) (rules a adds) y.0 y.1 y.2)
+    (Basic.Choice a ext (rules a ps) (rules a adds) x.0 x.1 x.2) (Basic.Choice a ext (rules a ps) (rules a adds) y.0 y.1 y.2)
 choice_value a ext ps adds k k' = alternative_agree SameValue a ext false (sames ps) (sames adds) (rules a ps) (rules a ps) (rules a adds) (rules a adds) k k'
     (λ i v' v l e. let q : v' ≡ v = same_at ps i v' v (subst (λ n. i < n) (length-rules a ps) l) e in cc)
     (λ i v' v l e. let q : v' ≡ v = same_at adds i v' v (subst (λ n. i < n) (length-rules a adds) l) e in cc)
@@ -321,13 +321,13 @@ item_value : (a : Settings) (r e : ℕ) (ext : Bool) (x y : Side × ℕ) → Agr
 item_value a r e ext x y = weaken (λ q. let m : x.0 ≡ y.0 = q.0 in let n : x.1 ≡ y.1 = q.1 in cc) (item_agree a r e e ext x.0 x.1 y.0 y.1)
 
 bits_value : (a : Settings) (size : Size) (mark : Bool) (v w : Value) →
-    Agree (v ≡ w) (As Value.bits (Lengthy a size mark bit_items bit) v) (As Value.bits (Lengthy a size mark bit_items bit) w)
-bits_value a size mark v w = as_agree SameValue Value.bits Value.bits (Lengthy a size mark bit_items bit) (Lengthy a size mark bit_items bit) v w
+    Agree (v ≡ w) (As Value.bits (Counted a size mark bit_items bit) v) (As Value.bits (Counted a size mark bit_items bit) w)
+bits_value a size mark v w = as_agree SameValue Value.bits Value.bits (Counted a size mark bit_items bit) (Counted a size mark bit_items bit) v w
     (λ x y. weaken (λ z. ap Value.bits (Zip-same x y z)) (lengthy_agree (λ x y. x ≡ y) bit bit same_bits a size mark bit_items x y))
 
 sized_octets_value : (a : Settings) (size : Size) (mark : Bool) (v w : Value) →
-    Agree (v ≡ w) (As Value.octets (Lengthy a size mark octet_items octet) v) (As Value.octets (Lengthy a size mark octet_items octet) w)
-sized_octets_value a size mark v w = as_agree SameValue Value.octets Value.octets (Lengthy a size mark octet_items octet) (Lengthy a size mark octet_items octet) v w
+    Agree (v ≡ w) (As Value.octets (Counted a size mark octet_items octet) v) (As Value.octets (Counted a size mark octet_items octet) w)
+sized_octets_value a size mark v w = as_agree SameValue Value.octets Value.octets (Counted a size mark octet_items octet) (Counted a size mark octet_items octet) v w
     (λ x y. weaken (λ z. ap Value.octets (Zip-same x y z)) (lengthy_agree (λ x y. x ≡ y) octet octet (field_agree 8) a size mark octet_items x y))
 
 mutual
@@ -353,12 +353,12 @@ mutual
   one_reading a (Schema.set_of e size mark) v w = list_value a bag_of (basic a e) size mark (one_reading a e) v w
   one_reading a (Schema.sequence o ps ext adds) v w =
       as_agree SameValue (λ x. fields (as_slots x.0) (as_slots x.1)) (λ x. fields (as_slots x.0) (as_slots x.1))
-      (λ x. Fields a ext (ordered o (tags ps) (rules a ps)) (rules a adds) (ordered o (tags ps) x.0) x.1)
-      (λ x. Fields a ext (ordered o (tags ps) (rules a ps)) (rules a adds) (ordered o (tags ps) x.0) x.1) v w
+      (λ x. Record a ext (ordered o (tags ps) (rules a ps)) (rules a adds) (ordered o (tags ps) x.0) x.1)
+      (λ x. Record a ext (ordered o (tags ps) (rules a ps)) (rules a adds) (ordered o (tags ps) x.0) x.1) v w
       (record_value a o ext ps adds (rules a ps) (rules a adds) (same_kin a ps) (same_kin a adds))
   one_reading a (Schema.choice ps adds ext) v w =
       as_agree SameValue (λ x. alternative x.0 x.1 x.2) (λ x. alternative x.0 x.1 x.2)
-      (λ x. Basic.Alternative a ext (rules a ps) (rules a adds) x.0 x.1 x.2) (λ x. Basic.Alternative a ext (rules a ps) (rules a adds) x.0 x.1 x.2) v w
+      (λ x. Basic.Choice a ext (rules a ps) (rules a adds) x.0 x.1 x.2) (λ x. Basic.Choice a ext (rules a ps) (rules a adds) x.0 x.1 x.2) v w
       (choice_value a ext ps adds (same_kin a ps) (same_kin a adds))
 
   pub same_kin : (a : Settings) (ps : Parts) → AllKin false (sames ps) (rules a ps) (rules a ps)

@@ -2,11 +2,11 @@
 use Rattle.std.proofs.Common.{◌≡◌, refl, sym, subst, ◌-◌, Bool, true, false, List, [], ◌∷◌, length, arith, Option, Some}
 use Rattle.rasn_types.specs.Values.{Value}
 use Rattle.rasn_constraints.specs.Bounds.{any_size}
-use Rattle.per_core.specs.Basic.{Sized, bit, Fills, Rule, FlagOf, Flags, IsLeftOut, Holds, Body, Bodies, Root, Unknown, OpenOf, Additions, IsBitmap, Extended, Fields}
+use Rattle.per_core.specs.Basic.{Sized, bit, Fills, Rule, FlagOf, Flags, IsLeftOut, Holds, Body, Bodies, Root, Unknown, OpenOf, Additions, IsBitmap, Extended, Record}
 use Rattle.per_core.specs.Counts.{bit_items}
 use Rattle.per_core.specs.Spellings.{Settings, Spelling, exactly, Then, Field}
 use Rattle.per_core.proofs.Agree.{Agree, weaken, then_agree, either_agree, when_agree, never_agree, agree_never, exactly_agree, empty_agree, field_agree, no_yes, yes_no, behind}
-use Rattle.per_core.proofs.Lengths.{Zip-same, sized_agree}
+use Rattle.per_core.proofs.LengthForms.{Zip-same, sized_agree}
 use Rattle.per_core.proofs.Unique.{fills_agree, open_agree}
 
 abbrev pub SlotRel : Type 1
@@ -156,7 +156,7 @@ module _ (a : Settings) (may : Bool) (Ss As : List SlotRel) (rs' rs adds' adds :
         let r = w.agree p b c s t x.spelled y.spelled e in ((r.0.0, r.0.1.1), r.1);
   }
 
-  pub fields_agree : (ext : Bool) → Agree Both (Fields a ext rs' adds' ss' xs') (Fields a ext rs adds ss xs)
+  pub fields_agree : (ext : Bool) → Agree Both (Record a ext rs' adds' ss' xs') (Record a ext rs adds ss xs)
   fields_agree false = plain_agree
   fields_agree true = either_agree (behind (false ∷ []) plain_agree)
       (record { agree = λ p b c s t x y e. (no_yes (Then (Root rs' ss') (Additions a adds' xs' [])) (Then (Root rs ss) (Then (IsBitmap a y.flags) (Additions a adds xs y.flags)))).agree p b c s t x y.spelled e })

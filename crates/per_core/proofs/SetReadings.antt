@@ -8,7 +8,7 @@ use Rattle.rasn_schema.specs.Normal.{normal, normals}
 use Rattle.rasn_schema.specs.Orders.{by_tags, ordered}
 use Rattle.rasn_schema.specs.Records.{record_value}
 use Rattle.rasn_schema.specs.Schemas.{Order, listed, by_tag, Schema, Parts, tags, count}
-use Rattle.per_core.specs.Basic.{Bodies, Fields_in, Root, Rule, basic_in, rules_in}
+use Rattle.per_core.specs.Basic.{Bodies, Record_in, Root, Rule, basic_in, rules_in}
 use Rattle.per_core.specs.Canon.{canon, members, record_of}
 use Rattle.per_core.specs.Spellings.{Settings}
 use Rattle.per_core.proofs.Readings.{length-by_tags, length-rules-in}
@@ -37,7 +37,7 @@ written a ps ext adds rs xs =
 -- what spells a record
 spelled : (a : Settings) (u : Bool) (o : Order) (ps : Parts) (ext : Bool) (adds : Parts) (rs xs : List (Option Value)) (p : ℕ) (bits : Bits)
     → basic_in a u (Schema.sequence o ps ext adds) (record_value rs xs) p bits
-    → Fields_in a u ext (ordered o (tags ps) (rules_in a u ps)) (rules_in a u adds) (ordered o (tags ps) rs) xs p bits
+    → Record_in a u ext (ordered o (tags ps) (rules_in a u ps)) (rules_in a u adds) (ordered o (tags ps) rs) xs p bits
 unfolding basic_in
 spelled a u o ps ext adds rs xs p bits b =
     let e = one_record rs xs b.of.0 b.of.1 b.is in
@@ -46,7 +46,7 @@ spelled a u o ps ext adds rs xs p bits b =
 
 -- and a record that is spelled so
 spells : (a : Settings) (u : Bool) (o : Order) (ps : Parts) (ext : Bool) (adds : Parts) (rs xs : List (Option Value)) (p : ℕ) (bits : Bits)
-    → Fields_in a u ext (ordered o (tags ps) (rules_in a u ps)) (rules_in a u adds) (ordered o (tags ps) rs) xs p bits
+    → Record_in a u ext (ordered o (tags ps) (rules_in a u ps)) (rules_in a u adds) (ordered o (tags ps) rs) xs p bits
     → basic_in a u (Schema.sequence o ps ext adds) (record_value rs xs) p bits
 unfolding basic_in
 spells a u o ps ext adds rs xs p bits f = record { of = (rs, xs); is = refl; spelled = f }
@@ -58,7 +58,7 @@ pub in_order : (a : Settings) (u : Bool) (ps : Parts) (ext : Bool) (adds : Parts
 in_order a u ps ext adds rs xs p bits b =
     let f = spelled a u by_tag ps ext adds rs xs p bits b in
     spells a u listed (canonised ps) ext adds (canonised_slots ps rs) xs p bits
-    (subst (λ rules. Fields_in a u ext rules (rules_in a u adds) (canonised_slots ps rs) xs p bits) (sym (rules_ordered a u ps)) f)
+    (subst (λ rules. Record_in a u ext rules (rules_in a u adds) (canonised_slots ps rs) xs p bits) (sym (rules_ordered a u ps)) f)
 
 -- and the other way round
 pub out_of_order : (a : Settings) (u : Bool) (ps : Parts) (ext : Bool) (adds : Parts) (rs xs : List (Option Value)) (p : ℕ) (bits : Bits)
@@ -67,7 +67,7 @@ pub out_of_order : (a : Settings) (u : Bool) (ps : Parts) (ext : Bool) (adds : P
 out_of_order a u ps ext adds rs xs p bits b =
     let f = spelled a u listed (canonised ps) ext adds (canonised_slots ps rs) xs p bits b in
     spells a u by_tag ps ext adds rs xs p bits
-    (subst (λ rules. Fields_in a u ext rules (rules_in a u adds) (canonised_slots ps rs) xs p bits) (rules_ordered a u ps) f)
+    (subst (λ rules. Record_in a u ext rules (rules_in a u adds) (canonised_slots ps rs) xs p bits) (rules_ordered a u ps) f)
 
 -- bodies are as many as their rules
 bodies_counted : (rs : List Rule) (bs : List Bool) (ss : List (Option Value)) (p : ℕ) (bits : Bits) → Bodies rs bs ss p bits → length ss ≡ length rs
@@ -82,7 +82,7 @@ root_counted : (rs : List Rule) (ss : List (Option Value)) (p : ℕ) (bits : Bit
 root_counted rs ss p bits r = bodies_counted rs r.shown ss _ r.spelled.rest r.spelled.is_rest
 
 -- root parts that are spelled are as many as their rules
-fields_counted : (a : Settings) (u ext : Bool) (rs adds : List Rule) (ss xs : List (Option Value)) (p : ℕ) (bits : Bits) → Fields_in a u ext rs adds ss xs p bits
+fields_counted : (a : Settings) (u ext : Bool) (rs adds : List Rule) (ss xs : List (Option Value)) (p : ℕ) (bits : Bits) → Record_in a u ext rs adds ss xs p bits
     → length ss ≡ length rs
 fields_counted a u false rs adds ss xs p bits f = root_counted rs ss p f.front f.is_front
 fields_counted a u true rs adds ss xs p bits (inl f) = root_counted rs ss _ f.is_rest.front f.is_rest.is_front

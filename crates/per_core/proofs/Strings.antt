@@ -14,7 +14,7 @@ use Rattle.per_core.specs.Counts.{char_items, counted, constrained_whole, number
 use Rattle.per_core.specs.Spellings.{Settings, Field}
 use Rattle.per_core.specs.Writers.{Writer, ◌▹◌}
 use Rattle.per_core.proofs.Counting.{counted_within}
-use Rattle.per_core.proofs.Lengths.{and_left, and_right}
+use Rattle.per_core.proofs.LengthForms.{and_left, and_right}
 use Rattle.per_core.proofs.Numbers.{whole_in_octets}
 use Rattle.per_core.proofs.Within.{Within, refused_within, then_within, if_within, relax, field_within, bounded_within}
 

@@ -8,7 +8,7 @@ use Rattle.rasn_constraints.specs.Bounds.{holds, above, Bounds, unbounded}
 use Rattle.per_core.specs.Basic.{Marked, IsSemiConstrainedWhole, IsUnconstrainedWhole, number_spelling, IsNumber, IsNumberOf, at_least_zero, Small, Fills, Open, As}
 use Rattle.per_core.specs.Spellings.{Settings, Spelling, Field}
 use Rattle.per_core.proofs.Agree.{Agree, weaken, either_agree, when_agree, field_agree, no_yes, yes_no, behind}
-use Rattle.per_core.proofs.Lengths.{and_left, same_octets, bounded_agree}
+use Rattle.per_core.proofs.LengthForms.{and_left, same_octets, bounded_agree}
 
 -- numbers
 pub above_same : (l z z' : ℤ) → le_z l z ≡ true → le_z l z' ≡ true → above l z ≡ above l z' → z ≡ z'

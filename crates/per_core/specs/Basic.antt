@@ -1,6 +1,6 @@
 -- All encodings that a basic decoder takes (ITU-T X.691, 12 to 24, 30 and 32). Where it takes more than X.691 allows a
--- sender, that is
--- this project's choice: any padding, superfluous octets and large forms, and additions that it doesn't know.
+-- sender, that is this project's choice: any padding, superfluous octets and large forms, and additions that it doesn't
+-- know.
 use Rattle.std.specs.Prelude.{ℕ, zero, suc, ◌+◌, ◌-◌, ◌*◌, ◌/◌, ◌<◌, ◌≡◌, ◌⊎◌, Bool, true, false, cond, ◌&&◌, nat_le, nat_lt, ◌==◌, List, [], ◌∷◌, ◌++◌, length, Option, Some, None, ℤ, pos}
 use Rattle.rasn_types.specs.Alphabets.{char_width, char_code, visible}
 use Rattle.rasn_types.specs.Bits.{Bits, width, unpack}
@@ -12,7 +12,7 @@ use Rattle.rasn_constraints.specs.Bounds.{allows, holds, fits_i128, above, Bound
 use Rattle.rasn_schema.specs.Orders.{ordered}
 use Rattle.rasn_schema.specs.Schemas
 use Rattle.rasn_schema.specs.Schemas.{tags, Presence, required, optional, group, default, Schema, Parts, no_parts, part}
-use Rattle.per_core.specs.Counts.{Counted, list_items, octet_items, bit_items, char_items, is_aligned}
+use Rattle.per_core.specs.Counts.{ItemKind, list_items, octet_items, bit_items, char_items, is_aligned}
 use Rattle.per_core.specs.Spellings.{Settings, ZeroIf, Spelling, exactly, Then, Either, When, never, AnyPadding, Field}
 
 -- items one after the other
@@ -79,9 +79,8 @@ PaddingIf true a = AnyPadding a
 PaddingIf false a = exactly []
 
 -- X.691 11.9.3.3, 11.9.4.1: items whose count is a constrained whole number where both bounds are there and the upper
--- one is below
--- 65536, and else unconstrained
-abbrev pub length_form : {X : Type 0} → Settings → Option ℕ → Option ℕ → Counted → (X → Spelling) → List X → Spelling
+-- one is below 65536, and else unconstrained
+abbrev pub length_form : {X : Type 0} → Settings → Option ℕ → Option ℕ → ItemKind → (X → Spelling) → List X → Spelling
 length_form a None most kind item xs = UnconstrainedLength a item xs
 length_form a (Some lb) None kind item xs = UnconstrainedLength a item xs
 length_form a (Some lb) (Some ub) kind item xs = cond (nat_lt ub 65536)
@@ -90,21 +89,20 @@ length_form a (Some lb) (Some ub) kind item xs = cond (nat_lt ub 65536)
     (UnconstrainedLength a item xs)
 
 -- items whose count the size allows
-pub record Sized {X : Type 0} (a : Settings) (size : Size) (kind : Counted) (item : X → Spelling) (xs : List X) (p : ℕ)
+pub record Sized {X : Type 0} (a : Settings) (size : Size) (kind : ItemKind) (item : X → Spelling) (xs : List X) (p : ℕ)
     (bits : Bits) : Type 0 where
   pub allowed : allows size (length xs) ≡ true
   pub spelled : length_form a size.least size.most kind item xs p bits
 
 -- an extensible constraint's bit: 0 and the form under the constraint, or 1 and the form without, also where the
--- constraint is met
--- (this project's choice)
+-- constraint is met (this project's choice)
 abbrev pub Marked : {X : Type 0} → Bool → (X → Spelling) → (X → Spelling) → X → Spelling
 Marked false inside outside x = inside x
 Marked true inside outside x = Either (Then (exactly (false ∷ [])) (inside x)) (Then (exactly (true ∷ [])) (outside x))
 
 -- X.691 16, 17, 20, 30.5: items under a size constraint
-abbrev pub Lengthy : {X : Type 0} → Settings → Size → Bool → Counted → (X → Spelling) → List X → Spelling
-Lengthy a size mark kind item = Marked mark (Sized a size kind item) (Sized a any_size kind item)
+abbrev pub Counted : {X : Type 0} → Settings → Size → Bool → ItemKind → (X → Spelling) → List X → Spelling
+Counted a size mark kind item = Marked mark (Sized a size kind item) (Sized a any_size kind item)
 
 -- an octet, as eight bits
 abbrev pub octet : ℕ → Spelling
@@ -263,10 +261,10 @@ pub record Extended_in (a : Settings) (u : Bool) (rs adds : List Rule) (ss xs : 
       (Then (IsBitmap a flags) (Additions_in a u adds xs flags))) p bits
 
 -- X.691 19, 21: the parts of a SEQUENCE or SET, in the order in which they are written, and its additions
-abbrev pub Fields_in : Settings → Bool → Bool → List Rule → List Rule → List (Option Value) → List (Option Value)
+abbrev pub Record_in : Settings → Bool → Bool → List Rule → List Rule → List (Option Value) → List (Option Value)
     → Spelling
-Fields_in a u false rs adds ss xs = Then (Root rs ss) (Additions_in a u adds xs [])
-Fields_in a u true rs adds ss xs =
+Record_in a u false rs adds ss xs = Then (Root rs ss) (Additions_in a u adds xs [])
+Record_in a u true rs adds ss xs =
     Either (Then (exactly (false ∷ [])) (Then (Root rs ss) (Additions_in a u adds xs [])))
     (Extended_in a u rs adds ss xs)
 
@@ -275,8 +273,8 @@ abbrev pub Extended : Settings → List Rule → List Rule → List (Option Valu
 Extended a = Extended_in a true
 
 -- X.691 19, 21: a SEQUENCE or SET, where unknown additions may be present
-abbrev pub Fields : Settings → Bool → List Rule → List Rule → List (Option Value) → List (Option Value) → Spelling
-Fields a = Fields_in a true
+abbrev pub Record : Settings → Bool → List Rule → List Rule → List (Option Value) → List (Option Value) → Spelling
+Record a = Record_in a true
 
 -- the value of the alternative at a place
 abbrev pub Chosen : List Rule → ℕ → Value → Spelling
@@ -291,10 +289,10 @@ ExtensionBit false false = exactly []
 ExtensionBit false true = never
 
 -- X.691 23: an alternative of the root in place, or an addition in an open type; only those of the schema
-abbrev pub Alternative : Settings → Bool → List Rule → List Rule → Side → ℕ → Value → Spelling
-Alternative a ext rs adds root i v = Then (ExtensionBit ext false)
+abbrev pub Choice : Settings → Bool → List Rule → List Rule → Side → ℕ → Value → Spelling
+Choice a ext rs adds root i v = Then (ExtensionBit ext false)
     (Then (IsConstrainedWhole a (length rs) i) (Chosen rs i v))
-Alternative a ext rs adds added i v = Then (ExtensionBit ext true)
+Choice a ext rs adds added i v = Then (ExtensionBit ext true)
     (Then (Small a i) (Open a (Fills a (Chosen adds i v))))
 
 -- X.691 14.3: an item behind the extension marker; only those of the schema
@@ -315,7 +313,7 @@ pub record Char (a : Settings) (alphabet : List ℕ) (c p : ℕ) (bits : Bits) :
 
 -- X.691 30.5: a known-multiplier string
 abbrev pub String : Settings → List ℕ → Size → Bool → List ℕ → Spelling
-String a alphabet size mark = Lengthy a size mark (char_items (char_width a.variant alphabet)) (Char a alphabet)
+String a alphabet size mark = Counted a size mark (char_items (char_width a.variant alphabet)) (Char a alphabet)
 
 -- a year of a range of n years from low on
 pub record YearIn (a : Settings) (low n : ℕ) (y : ℤ) (p : ℕ) (bits : Bits) : Type 0 where
@@ -374,18 +372,18 @@ unfoldable mutual
   basic_in a u Schema.date = As (λ (x : ℤ × ℕ × ℕ). day x.0 (suc x.1) (suc x.2)) (IsDay a)
   basic_in a u (Schema.number bounds mark range) = As whole (IsNumberOf a bounds mark range)
   basic_in a u (Schema.items r e ext) = As (λ (x : Side × ℕ). Value.item x.0 x.1) (λ x. Item a r e ext x.0 x.1)
-  basic_in a u (Schema.octet_string size mark) = As Value.octets (Lengthy a size mark octet_items octet)
-  basic_in a u (Schema.bit_string size mark) = As Value.bits (Lengthy a size mark bit_items bit)
+  basic_in a u (Schema.octet_string size mark) = As Value.octets (Counted a size mark octet_items octet)
+  basic_in a u (Schema.bit_string size mark) = As Value.bits (Counted a size mark bit_items bit)
   basic_in a u (Schema.char_string alphabet size mark) = As characters (String a alphabet size mark)
   basic_in a u (Schema.list e size mark) = As (λ vs. elements (as_values vs))
-      (Lengthy a size mark list_items (basic_in a u e))
-  basic_in a u (Schema.set_of e size mark) = As bag_of (Lengthy a size mark list_items (basic_in a u e))
+      (Counted a size mark list_items (basic_in a u e))
+  basic_in a u (Schema.set_of e size mark) = As bag_of (Counted a size mark list_items (basic_in a u e))
   basic_in a u (Schema.sequence o ps ext adds) =
       As (λ (x : List (Option Value) × List (Option Value)). fields (as_slots x.0) (as_slots x.1))
-      (λ x. Fields_in a u ext (ordered o (tags ps) (rules_in a u ps)) (rules_in a u adds) (ordered o (tags ps) x.0) x.1)
+      (λ x. Record_in a u ext (ordered o (tags ps) (rules_in a u ps)) (rules_in a u adds) (ordered o (tags ps) x.0) x.1)
   basic_in a u (Schema.choice ps adds ext) =
       As (λ (x : Side × ℕ × Value). alternative x.0 x.1 x.2)
-      (λ x. Alternative a ext (rules_in a u ps) (rules_in a u adds) x.0 x.1 x.2)
+      (λ x. Choice a ext (rules_in a u ps) (rules_in a u adds) x.0 x.1 x.2)
 
   -- how each part, addition or alternative is spelled
   pub rules_in : Settings → Bool → Parts → List Rule

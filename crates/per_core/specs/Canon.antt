@@ -29,8 +29,7 @@ pub record Member : Type 0 where
   pub writes : Value → Writer
 
 -- X.691 19.2, 19.5: whether a part is written; one at its default isn't. None where the part can't be as it is: a
--- required one or
--- one with a default that is absent
+-- required one or one with a default that is absent
 unfoldable pub shown : Presence → Option Value → Option Bool
 unfolding same
 shown required None = None
@@ -134,8 +133,7 @@ chosen (m ∷ ms) zero v = m.writes v
 chosen (m ∷ ms) (suc i) v = chosen ms i v
 
 -- X.691 23: an alternative: of the root by a constrained whole number and in place, an addition by a normally small
--- number and in an
--- open type
+-- number and in an open type
 unfoldable pub choice_of : Variant → Bool → List Member → List Member → Side → ℕ → Value → Writer
 unfolding constrained_whole small open_bits
 choice_of a ext ms adds root i v = extension_bit ext false ▹ constrained_whole a (length ms) i ▹ chosen ms i v

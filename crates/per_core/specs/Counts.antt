@@ -22,8 +22,7 @@ unless_zero zero = []
 unless_zero (suc n) = suc n ∷ []
 
 -- X.691 11.9.3.8: how many items stand in each fragment: 65536 as often as it fits, then 49152, 32768 or 16384 where
--- one fits, and
--- then the rest below 16384, which is always there
+-- one fits, and then the rest below 16384, which is always there
 abbrev pub fragment_sizes : ℕ → List ℕ
 fragment_sizes n = replicate (n / 65536) 65536 ++ (unless_zero (n % 65536 / 16384 * 16384) ++ n % 16384 ∷ [])
 
@@ -39,13 +38,13 @@ in_fragments a (m ∷ ms) items = padding a ▹ just (determinant m) ▹ one_by_
     ▹ in_fragments a ms (drop m items)
 
 -- what is counted: elements, octets, bits, or characters of some width
-pub data Counted : Type 0 where
-  list_items octet_items bit_items : Counted
-  char_items : (width : ℕ) → Counted
+pub data ItemKind : Type 0 where
+  list_items octet_items bit_items : ItemKind
+  char_items : (width : ℕ) → ItemKind
 
 -- X.691 16.9 to 16.11, 17.6 to 17.8, 20.6, 30.5.6, 30.5.7: whether items begin on an octet, after a bounded length
 -- above 0
-abbrev pub is_aligned : Counted → ℕ → ℕ → Bool
+abbrev pub is_aligned : ItemKind → ℕ → ℕ → Bool
 is_aligned list_items lb ub = false
 is_aligned octet_items lb ub = not (lb == ub && nat_le ub 2)
 is_aligned bit_items lb ub = not (lb == ub && nat_le ub 16)
@@ -56,10 +55,15 @@ abbrev pub padding_if : Bool → Variant → Writer
 padding_if true a = padding a
 padding_if false a = just []
 
+-- X.691 11.9.4.1: the bounds between which a count is written as a constrained whole number: both, where the upper one
+-- is below 65536
+abbrev pub constrained_between : Option ℕ → Option ℕ → Option (ℕ × ℕ)
+constrained_between (Some lb) (Some ub) = if nat_lt ub 65536 then Some (lb, ub) else None
+constrained_between least most = None
+
 -- X.691 11.9.3.3, 11.9.4.1: items whose count is written as a constrained whole number where both bounds are there and
--- the upper one
--- is below 65536, and else in fragment_sizes
-abbrev pub counted_under : Variant → Option ℕ → Option ℕ → Counted → ℕ → List Writer → Writer
+-- the upper one is below 65536, and else in fragment_sizes
+abbrev pub counted_under : Variant → Option ℕ → Option ℕ → ItemKind → ℕ → List Writer → Writer
 counted_under a (Some lb) (Some ub) kind n items = if nat_lt ub 65536 then
     constrained_whole a (ub - lb + 1) (n - lb) ▹ padding_if (nat_lt 0 n && is_aligned kind lb ub) a ▹ one_by_one items
     else in_fragments a (fragment_sizes n) items
@@ -67,7 +71,7 @@ counted_under a None most kind n items = in_fragments a (fragment_sizes n) items
 counted_under a (Some lb) None kind n items = in_fragments a (fragment_sizes n) items
 
 -- items, where the size allows their count
-abbrev pub counted_in : Variant → Size → Counted → List Writer → Writer
+abbrev pub counted_in : Variant → Size → ItemKind → List Writer → Writer
 counted_in a size kind items = written_if (allows size (length items))
     (counted_under a size.least size.most kind (length items) items)
 
@@ -80,7 +84,7 @@ marked_form true true inside outside = just (false ∷ []) ▹ inside
 marked_form true false inside outside = just (true ∷ []) ▹ outside
 
 -- X.691 16, 17, 20, 30.5: items under a size constraint
-abbrev pub counted : Variant → Size → Bool → Counted → List Writer → Writer
+abbrev pub counted : Variant → Size → Bool → ItemKind → List Writer → Writer
 counted a size mark kind items =
     marked_form mark (allows size (length items)) (counted_in a size kind items) (counted_in a any_size kind items)
 
@@ -102,8 +106,7 @@ unfolding width octets_of_natural natural_bits constrained_whole determinant
 counted_octets a bits = unconstrained_octets a (pack (length bits / 8) bits)
 
 -- X.691 11.5, 11.7, 11.8, 13.2: a number as its bounds say; an upper bound alone leaves it unconstrained. Under bounds
--- it fits i128
--- (this project's choice)
+-- it fits i128 (this project's choice)
 unfoldable pub number_under : Variant → Option ℤ → Option ℤ → ℤ → Writer
 unfolding natural_bits whole_bits counted_octets constrained_whole
 number_under a (Some l) (Some u) v = written_if (fits_i128 v) (constrained_whole a (above l u + 1) (above l v))

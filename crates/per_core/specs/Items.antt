@@ -1,11 +1,11 @@
 -- What is counted, as the program names it (X.691 11.9, 16, 17, 30.5).
 use Rattle.std.specs.Prelude.{ℕ}
-use Rattle.per_core.specs.Counts.{Counted, octet_items, bit_items, char_items}
+use Rattle.per_core.specs.Counts.{ItemKind, octet_items, bit_items, char_items}
 use Rattle.per_core.specs.declared.items.Item.{Item}
 use Rattle.per_core.specs.declared.items.Item.TheVariants.{Octet, Bit, Character}
 
 -- what is counted
-abbrev pub counted_of : Item → Counted
+abbrev pub counted_of : Item → ItemKind
 counted_of Octet = octet_items
 counted_of Bit = bit_items
 counted_of (Character w) = char_items w

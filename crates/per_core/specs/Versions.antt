@@ -93,8 +93,8 @@ unfoldable mutual
   unfolding bag_of
 
   -- X.680 52: what an older reader sees of a value: additions that it doesn't know are dropped at every depth, and
-  -- nothing else
-  -- changes; none where an alternative or an item stands that it doesn't know. The newer schema comes first
+  -- nothing else changes; none where an alternative or an item stands that it doesn't know. The newer schema comes
+  -- first
   pub project : Schema → Schema → Value → Option Value
   project (Schema.list e size mark) s = through_elements (project e (element_of s))
   project (Schema.set_of e size mark) s = through_bag (project e (element_of s))
@@ -105,13 +105,13 @@ unfoldable mutual
   project (Schema.items r e ext) s = through_item (items_of s)
   project _ s = Some
 
-  -- the same of a record's parts
+  -- what an older reader sees of a record's parts
   pub project_slots : Parts → Parts → List (Option Value) → Option (List (Option Value))
   project_slots no_parts old = λ ss. Some []
   project_slots (part t p s ps) no_parts = λ ss. Some []
   project_slots (part t p s ps) (part t' p' s' ps') = slots_through (project s s') (project_slots ps ps')
 
-  -- the same of the value of the alternative at a place
+  -- what an older reader sees of the value of the alternative at a place
   pub project_at : Parts → Parts → ℕ → Value → Option Value
   project_at no_parts old = λ i v. None
   project_at (part t p s ps) no_parts = λ i v. None
@@ -133,8 +133,7 @@ unfoldable mutual
   unfolding bag_of
 
   -- X.680 52: what a newer reader sees of a value: every added part is absent or at its default, at every depth; none
-  -- where an added
-  -- part is required. The newer schema comes first
+  -- where an added part is required. The newer schema comes first
   pub widen : Schema → Schema → Value → Option Value
   widen (Schema.list e size mark) s = through_elements (widen e (element_of s))
   widen (Schema.set_of e size mark) s = through_bag (widen e (element_of s))
@@ -144,13 +143,13 @@ unfoldable mutual
       (widen_at adds (added_of s))
   widen _ s = Some
 
-  -- the same of a record's parts
+  -- what a newer reader sees of a record's parts
   pub widen_slots : Parts → Parts → List (Option Value) → Option (List (Option Value))
   widen_slots no_parts old = λ ss. Some []
   widen_slots (part t p s ps) no_parts = λ ss. all_filled_in (part t p s ps)
   widen_slots (part t p s ps) (part t' p' s' ps') = slots_through (widen s s') (widen_slots ps ps')
 
-  -- the same of the value of the alternative at a place
+  -- what a newer reader sees of the value of the alternative at a place
   pub widen_at : Parts → Parts → ℕ → Value → Option Value
   widen_at no_parts old = λ i v. None
   widen_at (part t p s ps) no_parts = λ i v. None
@@ -166,8 +165,7 @@ IsPlain (Schema.choice ps adds ext) = ⊥
 IsPlain _ = Unit {0}
 
 -- the newer default is the older one as a newer reader sees it, wherever one of the two is whole; and the older default
--- is a value
--- of its schema
+-- is a value of its schema
 pub record IsWidened (s' s : Schema) (d' d : Value) : Type 0 where
   pub there : meets_cut s' d' ≡ false → widen s' s d ≡ Some d'
   pub same : (x : Value) → widen s' s d ≡ Some x → meets_cut s' x ≡ false → x ≡ d'
@@ -183,8 +181,7 @@ NewerPresence s' s _ _ = ⊥
 
 mutual
   -- X.680 52: the first schema is a newer version of the second: the same tree, in which more additions, alternatives
-  -- and items may
-  -- stand behind an extension marker
+  -- and items may stand behind an extension marker
   pub data Newer : Schema → Schema → Type 0 where
     unchanged : {s : Schema} → IsPlain s → Newer s s
     more_items : {r e e' : ℕ} → e ≤ e' → Newer (Schema.items r e' true) (Schema.items r e true)
@@ -198,7 +195,7 @@ mutual
     newer_choice : {ext : Bool} {ps ps' adds adds' : Parts} → NewerParts false ps' ps → NewerParts ext adds' adds
         → Newer (Schema.choice ps' adds' ext) (Schema.choice ps adds ext)
 
-  -- the same of members, the newer ones first; the truth value says whether some may have been added
+  -- the first members are newer versions of the second ones; the truth value says whether some may have been added
   pub data NewerParts : Bool → Parts → Parts → Type 0 where
     no_more : {may : Bool} → NewerParts may no_parts no_parts
     more_parts : {t : TagTree} {p : Presence} {s : Schema} {ps : Parts} → NewerParts true (part t p s ps) no_parts

@@ -50,7 +50,7 @@ unfoldable mutual
   PartsHaveAtMost n (part t p s ps) ss = EachSlot (λ v. IsLeftOut p (Some v) ⊎ HasAtMost n s v)
       (PartsHaveAtMost n ps) ss
 
-  -- the same of the alternative at a place
+  -- the value of the alternative at a place has at most n items, and so has each value within it
   pub AlternativeHasAtMost : ℕ → Parts → ℕ → Value → Type 0
   AlternativeHasAtMost n no_parts i v = Unit {0}
   AlternativeHasAtMost n (part t p s ps) zero v = HasAtMost n s v

@@ -14,13 +14,13 @@ use Rattle.per_read.specs.declared.error.DecodeErrorKind.{DecodeErrorKind}
 use Rattle.per_read.specs.declared.error.DecodeErrorKind.TheVariants.{MissingTag, OutOfMemory}
 use Rattle.per_read_types.specs.Bitmaps.{skipped_unknown}
 use Rattle.per_read_types.proofs.Opened.{no_open}
-use Rattle.per_decoding.specs.AdditionLaws.{of_next}
-use Rattle.per_decoding.specs.Additions.{Adds, Asks, OpensAddition, OpensContents, Shown, Waiting}
+use Rattle.per_decoding.specs.Laws.Additions.{of_next}
+use Rattle.per_decoding.specs.Additions.{Adds, Asks, OpensAddition, OpensContents, Shown, OutsideAddition}
 use Rattle.per_decoding.specs.Faults.{IsInTail, behind_bitmap, in_bitmap, in_octets, in_open, in_unknown, refusal, unread, unskipped, IsOfNext, Unended}
 use Rattle.per_decoding.specs.Rules.{decoder_rules}
-use Rattle.per_decoding.specs.Scopes.{Closes, Outside, with_outside}
+use Rattle.per_decoding.specs.Scopes.{Closes, OutsideRecord, with_outside_record}
 use Rattle.per_decoding.specs.State.{Extension, State, ahead, settings_of, with_bits}
-use Rattle.per_decoding.specs.Tails.{asks_agree, shown_agree, tested_new}
+use Rattle.per_decoding.specs.Laws.Tails.{asks_agree, shown_agree, tested_new}
 use Rattle.per_de.specs.Sources.{flags_in}
 use Rattle.per_de.specs.Steps.{IsOfBitmap, RefusedAs, SkipsUnknown, TakesFlags, Unasked}
 use Rattle.per_de.specs.declared.source.Flags.{Flags}
@@ -31,17 +31,17 @@ shapes_counted i no_parts = refl
 shapes_counted i (part t q s ps) = ap suc (shapes_counted (suc i) ps) ∙ omega arith
 
 -- a record can't end
-abbrev pub Endless : State → Outside → DecodeError → Type 0
+abbrev pub Endless : State → OutsideRecord → DecodeError → Type 0
 Endless s w e = (e ≡ refusal OutOfMemory s) ⊎ (((u : State) → Closes s w u → ⊥) × Unended e s)
 
-pub root_unread : (s : State) (w : Outside) (e : DecodeError) → e ≡ refusal MissingTag s → (s.presences ≡ [] → ⊥) → Endless s w e
+pub root_unread : (s : State) (w : OutsideRecord) (e : DecodeError) → e ≡ refusal MissingTag s → (s.presences ≡ [] → ⊥) → Endless s w e
 root_unread s w e i none = inr ((λ u h. none h.done), subst (λ z. Unended z s) (sym i) (record { codec = refl; stands = unread refl (λ p q. none p) }))
 
-pub addition_unread : (s : State) (w : Outside) (e : DecodeError) → e ≡ refusal MissingTag s → (s.expected ≡ 0 → ⊥) → Endless s w e
+pub addition_unread : (s : State) (w : OutsideRecord) (e : DecodeError) → e ≡ refusal MissingTag s → (s.expected ≡ 0 → ⊥) → Endless s w e
 addition_unread s w e i none = inr ((λ u h. none h.none), subst (λ z. Unended z s) (sym i) (record { codec = refl; stands = unread refl (λ p q. none q) }))
 
 -- no bitmap stands where one is ahead
-pub bitmap_unread : (s m t : State) (w : Outside) (e : DecodeError) → m ≡ s → s.presences ≡ [] → s.expected ≡ 0 → TakesFlags m (Err e) t → Endless s w e
+pub bitmap_unread : (s m t : State) (w : OutsideRecord) (e : DecodeError) → m ≡ s → s.presences ≡ [] → s.expected ≡ 0 → TakesFlags m (Err e) t → Endless s w e
 bitmap_unread s m t w e same done none h =
     let k : TakesFlags s (Err e) t = subst (λ z. TakesFlags z (Err e) t) same h in
     go k.0 k.1.kind k.1.is k.1.because
@@ -71,7 +71,7 @@ module _ (s m n : State) (flags : Flags) (same : m ≡ s) (done : s.presences �
   same_flags = ap (λ z. flags_in z.bits flags) source_kept
 
   -- an unknown addition isn't there
-  pub unknown_unread : (t : State) (w : Outside) (e : DecodeError) → SkipsUnknown (flags_in n.source.bits flags) n (Err e) t → Endless s w e
+  pub unknown_unread : (t : State) (w : OutsideRecord) (e : DecodeError) → SkipsUnknown (flags_in n.source.bits flags) n (Err e) t → Endless s w e
   unknown_unread t w e r =
       let no : NoneIn (skipped_unknown (flags_in s.source.bits flags) (settings_of s)) n.bits = subst (λ z. NoneIn (skipped_unknown (flags_in s.source.bits flags) z) n.bits) settings_kept (subst (λ z. NoneIn (skipped_unknown z (settings_of n)) n.bits) same_flags r.because.1) in
       let codec : e.codec ≡ s.codec = ap (λ z. z.codec) r.is ∙ ap (λ z. z.codec) took_flags.1 in
@@ -87,7 +87,7 @@ module _ (s m n : State) (flags : Flags) (same : m ≡ s) (done : s.presences �
       )
 
   -- they were skipped
-  pub record_closed : (u t : State) (w : Outside) → s.failed ≡ false → SkipsUnknown (flags_in n.source.bits flags) n (Ok tt) u → t ≡ with_outside u w → Closes s w t
+  pub record_closed : (u t : State) (w : OutsideRecord) → s.failed ≡ false → SkipsUnknown (flags_in n.source.bits flags) n (Ok tt) u → t ≡ with_outside_record u w → Closes s w t
   record_closed u t w live r e =
       let k : Took (Unknown (settings_of s) (flags_in s.source.bits flags)) n.bits u.bits = subst (λ z. Took (Unknown z (flags_in s.source.bits flags)) n.bits u.bits) settings_kept (subst (λ z. Took (Unknown (settings_of n) z) n.bits u.bits) same_flags r.0) in
       subst (λ z. Closes s w z) (sym e) (record {
@@ -96,11 +96,11 @@ module _ (s m n : State) (flags : Flags) (same : m ≡ s) (done : s.presences �
         none = none;
         flags = flags_in s.source.bits flags;
         skipped = took_then took_flags.0 k;
-        same = ap (λ z. with_outside z w) r.1 ∙ ap (λ z. with_outside (with_bits z u.bits) w) took_flags.1;
+        same = ap (λ z. with_outside_record z w) r.1 ∙ ap (λ z. with_outside_record (with_bits z u.bits) w) took_flags.1;
       })
 
 -- the open type of the next addition
-pub opens_addition : (s m : State) (w : Waiting) (i : State) → Asks s (Some true) m → OpensContents m w i → OpensAddition s w i
+pub opens_addition : (s m : State) (w : OutsideAddition) (i : State) → Asks s (Some true) m → OpensContents m w i → OpensAddition s w i
 opens_addition s m w i a h = record { middle = m; asks = a; octets = h.octets; took = subst (λ z. Took (Octets z h.octets) m.bits w.bits) (ap settings_of a.same) h.took; contents = h.enters.inside; waits = h.enters.waits; same = h.enters.same }
 
 -- no addition can be asked for

@@ -20,7 +20,7 @@ use Rattle.per_read.specs.declared.error.DecodeErrorKind.TheVariants.{AlreadyFai
 use Rattle.per_read.specs.State.{State as Taking}
 use Rattle.per_read.specs.Takes.{Reason, Takes}
 use Rattle.per_read.proofs.Refusals.{faulty_map}
-use Rattle.per_decoding.specs.Spelled.{spelled}
+use Rattle.per_decoding.specs.Laws.Spelled.{spelled}
 use Rattle.per_decoding.specs.State.{State, Spells, reader_of, settings_of}
 use Rattle.per_decoding.specs.Faults.{Answered, Fault, IsAt, IsOf, at_once, refusal}
 use Rattle.per_decoding.specs.Rules.{decoder_rules}

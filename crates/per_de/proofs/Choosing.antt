@@ -3,7 +3,7 @@ use Rattle.std.proofs.Common.{◌≡◌, ◌⊎◌, inl, inr, refl, sym, ◌∙�
 use Rattle.std.specs.Prelude.{Err}
 use Rattle.rasn_types.specs.Bits.{Bits}
 use Rattle.rasn_types.specs.Values.{Side, root, added}
-use Rattle.rasn_schema.specs.Choices.{AreVariants, VariantShape, alternative_at, alternative_in, choice_of, go_by, one_level_in, place_of, tags_of, variants_behind, variants_on}
+use Rattle.rasn_schema.specs.Choices.{AreVariants, VariantShape, alternative_at, alternative_in, choice_schema, go_by, one_level_in, place_of, tags_of, variants_behind, variants_on}
 use Rattle.rasn_schema.specs.Schemas
 use Rattle.rasn_schema.specs.Schemas.{Schema, Parts, no_parts, part}
 use Rattle.rasn_schema.proofs.Both.{distinct_before, distinct_behind}
@@ -18,14 +18,14 @@ use Rattle.per_read.specs.Kinds.{NoneIn, Stopped}
 use Rattle.per_read.specs.declared.error.DecodeError.{DecodeError}
 use Rattle.per_read.specs.declared.error.DecodeErrorKind.{DecodeErrorKind}
 use Rattle.per_read.specs.declared.error.DecodeErrorKind.TheVariants.{OutOfMemory}
-use Rattle.per_decoding.specs.ChoiceLaws.{no_contents, no_index}
+use Rattle.per_decoding.specs.Laws.Choices.{no_contents, no_index}
 use Rattle.per_decoding.specs.Choices.{OpensChoice, StandsFrom}
 use Rattle.per_decoding.specs.Faults.{Fault, in_added_alternative, in_octets, refusal}
-use Rattle.per_decoding.specs.Records.{of_bits}
-use Rattle.per_decoding.specs.Tails.{tested_new}
-use Rattle.per_decoding.specs.Scopes.{Enters, Outside, no_record, with_outside, outside_of as in_state}
+use Rattle.per_decoding.specs.Laws.Records.{of_bits}
+use Rattle.per_decoding.specs.Laws.Tails.{tested_new}
+use Rattle.per_decoding.specs.Scopes.{Enters, OutsideRecord, no_record, with_outside_record, outside_record as in_state}
 use Rattle.per_decoding.specs.State.{State, Spells, settings_of, with_bits}
-use Rattle.per_de.specs.Outsides.{choosing_of, contents_of, outside_of, source_behind}
+use Rattle.per_de.specs.Outsides.{outside_choice_of, outside_contents_of, outside_record_of, source_behind}
 use Rattle.per_de.specs.Steps.{RefusedAs, TakesIndex}
 use Rattle.per_de.specs.declared.Addition.{Addition}
 use Rattle.per_de.specs.declared.Scope.{Scope}
@@ -57,7 +57,7 @@ there_at no_parts i h = absurd (omega arith)
 there_at (part t p s ps) zero h = (s, refl)
 there_at (part t p s ps) (suc i) h = there_at ps i (omega arith)
 
-pub alternative_there : (ps : Parts) (marker : Bool) (qs : Parts) (d : Side) (i : ℕ) → i < many_on d (length (tags_of ps)) (length (tags_of qs)) → (s : Schema) × (alternative_in (choice_of ps marker qs) d i ≡ Some s)
+pub alternative_there : (ps : Parts) (marker : Bool) (qs : Parts) (d : Side) (i : ℕ) → i < many_on d (length (tags_of ps)) (length (tags_of qs)) → (s : Schema) × (alternative_in (choice_schema ps marker qs) d i ≡ Some s)
 alternative_there ps marker qs root i h = there_at ps i h
 alternative_there ps marker qs added i h = there_at qs i h
 
@@ -67,7 +67,7 @@ place_found vs xs root i t v e = found_at (go_by vs) i 0 t (distinct_before (go_
 place_found vs xs added i t v e = found_at (go_by (variants_behind xs)) i 0 t (distinct_behind (go_by vs) (go_by (variants_behind xs)) v.distinct) e ∙ ap Some (let n : 0 + i ≡ i = omega arith in n)
 
 -- the bits outside of an alternative's open type are those in front of it
-outer_source : (d : Side) (u i : State) (o : Option Addition) → StandsFrom d u (contents_of i.source o) i → source_behind i.source o ≡ u.source
+outer_source : (d : Side) (u i : State) (o : Option Addition) → StandsFrom d u (outside_contents_of i.source o) i → source_behind i.source o ≡ u.source
 outer_source root u i None f = ap (λ z. z.source) f
 outer_source root u i (Some o) f = absurd f
 outer_source added u i None f = absurd f
@@ -86,22 +86,22 @@ module _ (ps : Parts) (marker : Bool) (qs : Parts) (r e : ℕ) (few : r ≡ leng
       (subst (λ (n : ℕ). Took (index_form (settings_of s) n e marker y) s.bits t) (sym few) (subst (λ (n : ℕ). Took (index_form (settings_of s) (length (tags_of ps)) n marker y) s.bits t) (sym more) h))
 
   -- no index is read
-  pub refused_index : (err : DecodeError) (t : State) → TakesIndex r e marker x (Err err) t → Refuses (Spells (choice_of ps marker qs)) (Fault (choice_of ps marker qs)) err s
+  pub refused_index : (err : DecodeError) (t : State) → TakesIndex r e marker x (Err err) t → Refuses (Spells (choice_schema ps marker qs)) (Fault (choice_schema ps marker qs)) err s
   refused_index err t h =
       let says : IsOfIndex (settings_of s) (length (tags_of ps)) (length (tags_of qs)) marker s.bits h.kind =
       subst (λ (n : ℕ). IsOfIndex (settings_of s) (length (tags_of ps)) n marker s.bits h.kind) more
       (subst (λ (n : ℕ). IsOfIndex (settings_of s) n e marker s.bits h.kind) few (subst (λ z. IsOfIndex (settings_of z) r e marker z.bits h.kind) start h.because.0)) in
-      refuses (choice_of ps marker qs) s h.kind err (h.is ∙ ap (λ z. refusal h.kind z) start) says
+      refuses (choice_schema ps marker qs) s h.kind err (h.is ∙ ap (λ z. refusal h.kind z) start) says
       (no_index (settings_of s) ps marker qs (λ y u k. h.because.1 y u (index_back y u k)))
 
   -- a level is entered behind it
-  module _ (d : Side) (k m : ℕ) (t u : State) (inside : Outside) (o : Scope) (live : s.failed ≡ false) (deeper : s.levels ≡ suc m) (none : inside ≡ no_record m)
-      (index : Took (index_form (settings_of x) r e marker (d, k)) x.bits t.bits × (t ≡ with_bits x t.bits)) (enters : Enters inside t (outside_of u.source o) u) where
+  module _ (d : Side) (k m : ℕ) (t u : State) (inside : OutsideRecord) (o : Scope) (live : s.failed ≡ false) (deeper : s.levels ≡ suc m) (none : inside ≡ no_record m)
+      (index : Took (index_form (settings_of x) r e marker (d, k)) x.bits t.bits × (t ≡ with_bits x t.bits)) (enters : Enters inside t (outside_record_of u.source o) u) where
     behind_index : t ≡ with_bits s t.bits
     behind_index = index.1 ∙ ap (λ z. with_bits z t.bits) start
 
-    entered : u ≡ with_outside (with_bits s t.bits) (no_record m)
-    entered = enters.same ∙ ap (λ z. with_outside t z) none ∙ ap (λ z. with_outside z (no_record m)) behind_index
+    entered : u ≡ with_outside_record (with_bits s t.bits) (no_record m)
+    entered = enters.same ∙ ap (λ z. with_outside_record t z) none ∙ ap (λ z. with_outside_record z (no_record m)) behind_index
 
     bits_left : u.bits ≡ t.bits
     bits_left = ap (λ z. z.bits) entered
@@ -112,22 +112,22 @@ module _ (ps : Parts) (marker : Bool) (qs : Parts) (r e : ℕ) (few : r ≡ leng
     pub below : k < many_on d (length (tags_of ps)) (length (tags_of qs))
     below = index_below (settings_of s) (length (tags_of ps)) (length (tags_of qs)) marker d k index_taken
 
-    pub opens_choice : (i : State) (held : Option Addition) → StandsFrom d u (contents_of i.source held) i → OpensChoice (choice_of ps marker qs) d k s (choosing_of i.source (record { scope = o; contents = held })) i
+    pub opens_choice : (i : State) (held : Option Addition) → StandsFrom d u (outside_contents_of i.source held) i → OpensChoice (choice_schema ps marker qs) d k s (outside_choice_of i.source (record { scope = o; contents = held })) i
     opens_choice i held f = record {
       live = live;
       middle = u;
       deeper = deeper ∙ ap suc (sym (ap (λ z. z.levels) entered));
       took = index_taken;
       enters = record {
-        waits = ap (λ z. outside_of z o) (outer_source d u i held f) ∙ enters.waits ∙ ap (λ z. in_state z) behind_index;
-        same = entered ∙ ap (λ z. with_outside (with_bits s z) (no_record m)) (sym bits_left) ∙ ap (λ l. with_outside (with_bits s u.bits) (no_record l)) (sym (ap (λ z. z.levels) entered));
+        waits = ap (λ z. outside_record_of z o) (outer_source d u i held f) ∙ enters.waits ∙ ap (λ z. in_state z) behind_index;
+        same = entered ∙ ap (λ z. with_outside_record (with_bits s z) (no_record m)) (sym bits_left) ∙ ap (λ l. with_outside_record (with_bits s u.bits) (no_record l)) (sym (ap (λ z. z.levels) entered));
       };
       stands = f;
     }
 
     -- where it would stand in an open type, none is read
     pub refused_contents : (err : DecodeError) (i : State) → d ≡ added → RefusedAs (Stopped (NoneIn (Octets (settings_of u)) u.bits)) u err i
-        → (err ≡ refusal OutOfMemory s) ⊎ Refuses (Spells (choice_of ps marker qs)) (Fault (choice_of ps marker qs)) err s
+        → (err ≡ refusal OutOfMemory s) ⊎ Refuses (Spells (choice_schema ps marker qs)) (Fault (choice_schema ps marker qs)) err s
     refused_contents err i side h = go h.kind h.is h.because
       where
         same : settings_of u ≡ settings_of s
@@ -142,14 +142,14 @@ module _ (ps : Parts) (marker : Bool) (qs : Parts) (r e : ℕ) (few : r ≡ leng
         there : (c : Schema) × (alternative_at qs k ≡ Some c)
         there = there_at qs k (index_below (settings_of s) (length (tags_of ps)) (length (tags_of qs)) marker added k placed)
 
-        go : (z : DecodeErrorKind) → err ≡ refusal z u → Stopped (NoneIn (Octets (settings_of u)) u.bits) z → (err ≡ refusal OutOfMemory s) ⊎ Refuses (Spells (choice_of ps marker qs)) (Fault (choice_of ps marker qs)) err s
+        go : (z : DecodeErrorKind) → err ≡ refusal z u → Stopped (NoneIn (Octets (settings_of u)) u.bits) z → (err ≡ refusal OutOfMemory s) ⊎ Refuses (Spells (choice_schema ps marker qs)) (Fault (choice_schema ps marker qs)) err s
         go z is (inl out) = inl (is ∙ ap (λ y. refusal y u) out ∙ at OutOfMemory)
         go z is (inr h) =
             let nothing : NoneIn (Octets (settings_of s)) u.bits = subst (λ y. NoneIn (Octets y) u.bits) same h.1 in
             inr (record {
               nothing = λ v y b. no_contents (settings_of s) ps marker qs k placed nothing v y.bits b.took;
-              stands = subst (λ y. Fault (choice_of ps marker qs) y s) (sym (is ∙ at z)) (record {
+              stands = subst (λ y. Fault (choice_schema ps marker qs) y s) (sym (is ∙ at z)) (record {
                 codec = refl;
-                stands = of_bits z (choice_of ps marker qs) s (tested_new z h.0) (in_added_alternative placed there.1 (in_octets h.0 nothing));
+                stands = of_bits z (choice_schema ps marker qs) s (tested_new z h.0) (in_added_alternative placed there.1 (in_octets h.0 nothing));
               });
             })

@@ -14,7 +14,7 @@ use Rattle.rasn_constraints.specs.Bounds.{Size}
 use Rattle.rasn_schema.specs.Schemas
 use Rattle.rasn_traits.specs.Calls.{Reads}
 use Rattle.per_bits.specs.Octets.{AreWholeOctets, Reading}
-use Rattle.per_core.specs.Basic.{InFragments, Lengthy, OneByOne, UnconstrainedLength, length_form, octet}
+use Rattle.per_core.specs.Basic.{InFragments, Counted, OneByOne, UnconstrainedLength, length_form, octet}
 use Rattle.per_core.specs.Counts.{octet_items}
 use Rattle.per_core.specs.Spellings.{Settings, Spelling, Then}
 use Rattle.per_core.specs.Took.{Took, place}
@@ -91,10 +91,10 @@ module _ (a : Settings) (os : List ℕ) where
     without s mark (inl l) = inl l
     without s mark (inr e) = inr e.0
 
-    marked : {s t : Bits} → Took (Lengthy a size true octet_items octet os) s t → ComeAlone size true s (length os) → LastTaken (8 * length os) (unpack os) s t × AreOctets os
+    marked : {s t : Bits} → Took (Counted a size true octet_items octet os) s t → ComeAlone size true s (length os) → LastTaken (8 * length os) (unpack os) s t × AreOctets os
     marked {s} {t} h l = go h.spelled l
       where
-        go : Lengthy a size true octet_items octet os (place s) h.front → ComeAlone size true s (length os) → LastTaken (8 * length os) (unpack os) s t × AreOctets os
+        go : Counted a size true octet_items octet os (place s) h.front → ComeAlone size true s (length os) → LastTaken (8 * length os) (unpack os) s t × AreOctets os
         go (inl x) l = some_end h.joins (behind os x (λ q c y. under size.least size.most q c y.spelled (without s true l)))
         go (inr x) (inl l) = some_end h.joins (behind os x (λ q c y. free q c y.spelled l))
         go (inr x) (inr e) =
@@ -103,7 +103,7 @@ module _ (a : Settings) (os : List ℕ) where
             absurd cc
 
     -- what comes alone was taken last
-    pub alone_last : (mark : Bool) {s t : Bits} → Took (Lengthy a size mark octet_items octet os) s t → ComeAlone size mark s (length os) → LastTaken (8 * length os) (unpack os) s t × AreOctets os
+    pub alone_last : (mark : Bool) {s t : Bits} → Took (Counted a size mark octet_items octet os) s t → ComeAlone size mark s (length os) → LastTaken (8 * length os) (unpack os) s t × AreOctets os
     alone_last false {s} h l = some_end h.joins (under size.least size.most (place s) h.front h.spelled.spelled (without s false l))
     alone_last true h l = marked h l
 
@@ -167,17 +167,17 @@ owned_not (Slice.Owned v) o b = b
 -- an OCTET STRING that was skipped, and then is lent or copied
 module _ (s : State) (size : Size) (mark : Bool) {x y : Taking} (left : ℕ) (t : State) (live : s.failed ≡ false) (i : x ≡ reader_of s) (l : left ≡ length y.bits) where
   -- the octets that were skipped
-  taken : (n : ℕ) → Takes (memory_or (λ a. IsOfItems a size mark Octet)) (λ a. Lengthy a size mark octet_items octet) HasCount x (Ok n) y
-      → (os : List ℕ) × (length os ≡ n) × Took (Lengthy (settings_of s) size mark octet_items octet os) s.bits y.bits
-  taken n g = (g.ok.octets, g.ok.many, subst (λ (z : Taking). Took (Lengthy (read_by z) size mark octet_items octet g.ok.octets) z.bits y.bits) i g.ok.held)
+  taken : (n : ℕ) → Takes (memory_or (λ a. IsOfItems a size mark Octet)) (λ a. Counted a size mark octet_items octet) HasCount x (Ok n) y
+      → (os : List ℕ) × (length os ≡ n) × Took (Counted (settings_of s) size mark octet_items octet os) s.bits y.bits
+  taken n g = (g.ok.octets, g.ok.many, subst (λ (z : Taking). Took (Counted (read_by z) size mark octet_items octet g.ok.octets) z.bits y.bits) i g.ok.held)
 
-  pub skip_refused : (k : DecodeErrorKind) (e : DecodeError) → Takes (memory_or (λ a. IsOfItems a size mark Octet)) (λ a. Lengthy a size mark octet_items octet) HasCount x (Err k) y
+  pub skip_refused : (k : DecodeErrorKind) (e : DecodeError) → Takes (memory_or (λ a. IsOfItems a size mark Octet)) (λ a. Counted a size mark octet_items octet) HasCount x (Err k) y
       → e ≡ refusal k s → t ≡ record s { failed = true } → Reads decoder_rules (Schemas.octet_string size mark) (λ (v : CowSlice ℕ Global). octets (cow_slice_items v)) s (Err e) t
   skip_refused k e g f h =
-      let r : Takes (memory_or (λ a. IsOfItems a size mark Octet)) (λ a. Lengthy a size mark octet_items octet) (λ P (v : CowSlice ℕ Global). P (cow_slice_items v)) x (Err k) y = record { ok = tt; err = g.err; kept = g.kept } in
+      let r : Takes (memory_or (λ a. IsOfItems a size mark Octet)) (λ a. Counted a size mark octet_items octet) (λ P (v : CowSlice ℕ Global). P (cow_slice_items v)) x (Err k) y = record { ok = tt; err = g.err; kept = g.kept } in
       reads s (Schemas.octet_string size mark) (λ v. octets (cow_slice_items v)) live (λ v. reads_octets (settings_of s) size mark (cow_slice_items v)) i r l (ap Err f, h) (λ d. faulty_octets (settings_of s) size mark s.bits d)
 
-  module _ (n : ℕ) (g : Takes (memory_or (λ a. IsOfItems a size mark Octet)) (λ a. Lengthy a size mark octet_items octet) HasCount x (Ok n) y) where
+  module _ (n : ℕ) (g : Takes (memory_or (λ a. IsOfItems a size mark Octet)) (λ a. Counted a size mark octet_items octet) HasCount x (Ok n) y) where
     last : ComeAlone size mark s.bits n → LastTaken (8 * length (taken n g).0) (unpack (taken n g).0) s.bits y.bits × AreOctets (taken n g).0
     last c = let q = taken n g in alone_last (settings_of s) q.0 size mark q.2 (subst (λ (m : ℕ). ComeAlone size mark s.bits m) (sym q.1) c)
 
@@ -205,8 +205,8 @@ module _ (s : State) (size : Size) (mark : Bool) {x y : Taking} (left : ℕ) (t 
         → Reads decoder_rules (Schemas.octet_string size mark) (λ (v : CowSlice ℕ Global). octets (cow_slice_items v)) s (Ok v) t
     lent_read v a p h =
         let q = taken n g in
-        let k : Took (Lengthy (settings_of s) size mark octet_items octet (cow_slice_items v)) s.bits y.bits = subst (λ z. Took (Lengthy (settings_of s) size mark octet_items octet z) s.bits y.bits) (sym (part_is (cow_slice_items v) a.alone p)) q.2 in
-        let r : Takes (memory_or (λ a. IsOfItems a size mark Octet)) (λ a. Lengthy a size mark octet_items octet) (λ P (v : CowSlice ℕ Global). P (cow_slice_items v)) (reader_of s) (Ok v) y =
+        let k : Took (Counted (settings_of s) size mark octet_items octet (cow_slice_items v)) s.bits y.bits = subst (λ z. Took (Counted (settings_of s) size mark octet_items octet z) s.bits y.bits) (sym (part_is (cow_slice_items v) a.alone p)) q.2 in
+        let r : Takes (memory_or (λ a. IsOfItems a size mark Octet)) (λ a. Counted a size mark octet_items octet) (λ P (v : CowSlice ℕ Global). P (cow_slice_items v)) (reader_of s) (Ok v) y =
         record { ok = k; err = tt; kept = g.kept ∙ ap (λ z. z.options) i } in
         reads s (Schemas.octet_string size mark) (λ v. octets (cow_slice_items v)) live (λ v. reads_octets (settings_of s) size mark (cow_slice_items v)) refl r l (refl, h) (λ d. faulty_octets (settings_of s) size mark s.bits d)
 

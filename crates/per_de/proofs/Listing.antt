@@ -14,19 +14,19 @@ use Rattle.per_core.specs.Spellings.{Settings}
 use Rattle.per_core.specs.Took.{Took}
 use Rattle.per_core.proofs.Took.{took_map}
 use Rattle.per_read.specs.Kinds.{NoneIn}
-use Rattle.per_read.specs.Lists.{AmidItems, AwaitsItem, Leaves, NextRead, OpensList, ReadsNext, RefusesList, list_form, list_rule}
+use Rattle.per_read.specs.Lists.{AreOpenItems, AwaitsItem, Leaves, NextRead, OpensList, ReadsNext, RefusesList, list_form, list_rule}
 use Rattle.per_read.specs.Sizes.{IsOfSize}
 use Rattle.per_read.specs.State.{State as Taking}
 use Rattle.per_read.specs.declared.error.DecodeError.{DecodeError}
 use Rattle.per_read.specs.declared.error.DecodeErrorKind.{DecodeErrorKind}
 use Rattle.per_read.specs.declared.error.DecodeErrorKind.TheVariants.{AlreadyFailed, OutOfMemory}
-use Rattle.per_read.specs.declared.lists.OpenList.{OpenList}
+use Rattle.per_read.specs.declared.lists.UnreadElements.{UnreadElements}
 use Rattle.per_read.proofs.Miscounts.{tested_size}
-use Rattle.per_decoding.specs.ChoiceLaws.{moved}
+use Rattle.per_decoding.specs.Laws.Choices.{moved}
 use Rattle.per_decoding.specs.Faults.{Answered, IsOf, in_element, refusal}
-use Rattle.per_de.specs.Lists.{AmidList}
+use Rattle.per_de.specs.Lists.{IsOpenList}
 use Rattle.per_decoding.specs.Rules.{decoder_rules}
-use Rattle.per_decoding.specs.Spelled.{spelled}
+use Rattle.per_decoding.specs.Laws.Spelled.{spelled}
 use Rattle.per_decoding.specs.State.{State, Spells, reader_of, settings_of, with_bits}
 use Rattle.per_de.specs.declared.ListScope.{ListScope}
 use Rattle.per_de.proofs.Calls.{refuses}
@@ -48,19 +48,19 @@ unread : (e : Schema) (size : Size) (mark : Bool) (s : State) (k : DecodeErrorKi
     → IsOfSize (settings_of s) size mark list_items (basic (settings_of s) e) s.bits k → NoneIn (list_form (list_rule (settings_of s) size mark e)) s.bits → ListUnread decoder_rules (Schemas.list e size mark) d s
 unread e size mark s k d i says none = inr (refuses (Schemas.list e size mark) s k d i says (no_list (settings_of s) e size mark none))
 
-module _ (size : Size) (mark : Bool) (s : State) (x y : Taking) (left m : ℕ) (taken : Result OpenList DecodeErrorKind) (deeper : s.levels ≡ suc m) (is : x ≡ reader_of s) (g : OpensList size mark x taken y) where
+module _ (size : Size) (mark : Bool) (s : State) (x y : Taking) (left m : ℕ) (taken : Result UnreadElements DecodeErrorKind) (deeper : s.levels ≡ suc m) (is : x ≡ reader_of s) (g : OpensList size mark x taken y) where
   begun : OpensList size mark (reader_of s) taken y
   begun = subst (λ z. OpensList size mark z taken y) is g
 
   -- a list is opened
   pub list_begun : (o : ListScope) (t i : State) → s.failed ≡ false → left ≡ length y.bits → Answered taken left s (Ok o.list) t → o.levels ≡ t.levels → i ≡ record t { levels = m }
-      → ListOpenedToRead decoder_rules AmidList size mark s (Ok o) i
+      → ListOpenedToRead decoder_rules IsOpenList size mark s (Ok o) i
   list_begun o t i live l a outside same =
       let r = answered_ok taken left s o.list t a in
       let items = rw r.0 at begun.ok in
       let leaves : Leaves s.bits y.bits = rw r.0 at begun.leaves in
       let f : t ≡ with_bits s y.bits = r.1 ∙ with_rest s leaves.front y.bits left leaves.joins l in
-      subst (λ z. ListOpenedToRead decoder_rules AmidList size mark s (Ok o) z) (sym (same ∙ ap (λ (z : State). record z { levels = m }) f)) (
+      subst (λ z. ListOpenedToRead decoder_rules IsOpenList size mark s (Ok o) z) (sym (same ∙ ap (λ (z : State). record z { levels = m }) f)) (
         deeper,
         λ e. record {
           live = live;
@@ -73,7 +73,7 @@ module _ (size : Size) (mark : Bool) (s : State) (x y : Taking) (left m : ℕ) (
       )
 
   -- a list isn't opened
-  pub no_list_begun : (d : DecodeError) (t i : State) → Answered taken left s (Err d) t → ListOpenedToRead {L = ListScope} decoder_rules AmidList size mark s (Err d) i
+  pub no_list_begun : (d : DecodeError) (t i : State) → Answered taken left s (Err d) t → ListOpenedToRead {L = ListScope} decoder_rules IsOpenList size mark s (Err d) i
   no_list_begun d t i a element =
       let r = answered_err taken left s d t a in
       let k = rw r.1 at begun.err in
@@ -82,8 +82,8 @@ module _ (size : Size) (mark : Bool) (s : State) (x y : Taking) (left m : ℕ) (
       (tested_size (settings_of s) size mark list_items (basic (settings_of s) (element m)) s.bits r.0 k.0) (k.1 (element m)))
 
 -- inside a list, which began at s
-module _ {e : Schema} {size : Size} {mark : Bool} {s : State} {vs : List Value} {l m : OpenList} {o : ℕ} (i : State) {x y : Taking} (left : ℕ) {taken : Result Bool DecodeErrorKind}
-    (a : AmidList e size mark s vs (record { list = l; levels = o }) i) (is : x ≡ reader_of i) (next : ReadsNext l x taken m y) where
+module _ {e : Schema} {size : Size} {mark : Bool} {s : State} {vs : List Value} {l m : UnreadElements} {o : ℕ} (i : State) {x y : Taking} (left : ℕ) {taken : Result Bool DecodeErrorKind}
+    (a : IsOpenList e size mark s vs (record { list = l; levels = o }) i) (is : x ≡ reader_of i) (next : ReadsNext l x taken m y) where
   same_settings : settings_of i ≡ settings_of s
   same_settings = ap settings_of a.same
 
@@ -96,7 +96,7 @@ module _ {e : Schema} {size : Size} {mark : Bool} {s : State} {vs : List Value} 
   found : NextRead (list_rule (settings_of s) size mark e) s.bits vs taken m y.bits
   found =
       subst (λ z. NextRead (list_rule z size mark e) s.bits vs taken m y.bits) same_settings
-      (went.law size mark e s.bits vs (subst (λ z. AmidItems (list_rule z size mark e) s.bits vs l i.bits) (sym same_settings) a.items))
+      (went.law size mark e s.bits vs (subst (λ z. AreOpenItems (list_rule z size mark e) s.bits vs l i.bits) (sym same_settings) a.items))
 
   -- behind what was taken
   on : (b : Bool) (t : State) → left ≡ length y.bits → Answered taken left i (Ok b) t → t ≡ record s { bits = y.bits; levels = i.levels }
@@ -127,7 +127,7 @@ module _ {e : Schema} {size : Size} {mark : Bool} {s : State} {vs : List Value} 
   of_element _ w g = in_element vs w.behind (moved same_settings g)
 
   -- a further element stands here
-  pub element_follows : (t : State) → left ≡ length y.bits → Answered taken left i (Ok true) t → HasElement decoder_rules AmidList e size mark s vs (record { list = m; levels = o }) t
+  pub element_follows : (t : State) → left ≡ length y.bits → Answered taken left i (Ok true) t → HasElement decoder_rules IsOpenList e size mark s vs (record { list = m; levels = o }) t
   element_follows t n b =
       let r = answered_ok taken left i true t b in
       let w : AwaitsItem (list_rule (settings_of s) size mark e) s.bits vs m y.bits = rw r.0 at found in
@@ -135,7 +135,7 @@ module _ {e : Schema} {size : Size} {mark : Bool} {s : State} {vs : List Value} 
       let f : t ≡ with_bits i y.bits = r.1 ∙ with_rest i leaves.front y.bits left leaves.joins n in
       let g : with_bits i y.bits ≡ record s { bits = y.bits; levels = i.levels } = ap (λ z. with_bits z y.bits) a.same in
       let live : i.failed ≡ false = ap (λ z. z.failed) a.same ∙ a.live in
-      subst (λ z. HasElement decoder_rules AmidList e size mark s vs (record { list = m; levels = o }) z) (sym f) (record {
+      subst (λ z. HasElement decoder_rules IsOpenList e size mark s vs (record { list = m; levels = o }) z) (sym f) (record {
         deeper = a.deeper;
         element_read = λ v j c. record {
           live = a.live;

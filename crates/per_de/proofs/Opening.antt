@@ -14,9 +14,9 @@ use Rattle.per_read.specs.declared.error.DecodeError.{DecodeError}
 use Rattle.per_read.specs.declared.error.DecodeErrorKind.{DecodeErrorKind}
 use Rattle.per_read.specs.declared.error.DecodeErrorKind.TheVariants.{Incomplete, OutOfMemory}
 use Rattle.per_decoding.specs.Faults.{Answered, Fault, refusal}
-use Rattle.per_decoding.specs.Records.{flags_bits}
-use Rattle.per_decoding.specs.ScopeLaws.{bit_agree, took_record}
-use Rattle.per_decoding.specs.Scopes.{Enters, Opens, Outside, is_extensible, outside_of, with_outside}
+use Rattle.per_decoding.specs.Laws.Records.{flags_bits}
+use Rattle.per_decoding.specs.Laws.Scopes.{bit_agree, took_record}
+use Rattle.per_decoding.specs.Scopes.{Enters, Opens, OutsideRecord, is_extensible, outside_record, with_outside_record}
 use Rattle.per_decoding.specs.State.{State, Spells, extension_of, settings_of, with_bits, with_last}
 use Rattle.per_de.specs.Sources.{span_of}
 use Rattle.per_de.specs.Steps.{TakesExtensionBit, TakesPresences}
@@ -40,17 +40,17 @@ module _ (flag : Bool) (count : ℕ) (s t u : State) (m : ℕ) (b : Bool) (deepe
   behind_bit = bit.1 ∙ ap (λ z. with_bits z u.bits) start
 
   -- a scope is entered with the presence bits that were taken
-  pub opens_record : (c : Schema) (asked : Span) (v : State) (inside w : Outside) (i : State) → s.failed ≡ false → flag ≡ is_extensible c → count ≡ presence_bits (root_of c) → TakesPresences count u (Ok asked) v
+  pub opens_record : (c : Schema) (asked : Span) (v : State) (inside w : OutsideRecord) (i : State) → s.failed ≡ false → flag ≡ is_extensible c → count ≡ presence_bits (root_of c) → TakesPresences count u (Ok asked) v
       → inside ≡ record { levels = m; presences = span_of asked v.source.bits; extension = extension_of b; expected = part_count (additions_of c) } → Enters inside v w i → Opens c s w i
   opens_record c asked v inside w i live e n p is enters =
       let same : v ≡ with_bits s v.bits = p.1 ∙ ap (λ z. with_bits z v.bits) behind_bit in
       let q = span_of asked u.source.bits in
       let source : v.source ≡ u.source = ap (λ z. z.source) p.1 in
-      let within : Outside = record { levels = m; presences = q; extension = extension_of b; expected = part_count (additions_of c) } in
+      let within : OutsideRecord = record { levels = m; presences = q; extension = extension_of b; expected = part_count (additions_of c) } in
       let there : inside ≡ within = is ∙ ap (λ z. record { levels = m; presences = span_of asked z.bits; extension = extension_of b; expected = part_count (additions_of c) }) source in
       let joins : u.bits ≡ q ++ v.bits = p.0.joins ∙ ap (λ z. z ++ v.bits) p.0.spelled.1 in
       let taken : Took (ExtensionBit (is_extensible c) b) s.bits (q ++ v.bits) = subst (λ z. Took (ExtensionBit (is_extensible c) b) s.bits z) joins (subst (λ (z : Bool). Took (ExtensionBit z b) s.bits u.bits) e bit_took) in
-      subst (λ z. Opens c s w z) (sym (enters.same ∙ ap (λ z. with_outside v z) there ∙ ap (λ z. with_outside z within) same)) (record {
+      subst (λ z. Opens c s w z) (sym (enters.same ∙ ap (λ z. with_outside_record v z) there ∙ ap (λ z. with_outside_record z within) same)) (record {
         live = live;
         deeper = deeper;
         extends = b;
@@ -58,7 +58,7 @@ module _ (flag : Bool) (count : ℕ) (s t u : State) (m : ℕ) (b : Bool) (deepe
         presence_count = p.0.spelled.0 ∙ n;
         shows = refl;
         counts = refl;
-        enters = record { waits = enters.waits ∙ ap (λ z. outside_of z) same; same = refl };
+        enters = record { waits = enters.waits ∙ ap (λ z. outside_record z) same; same = refl };
       })
 
   -- too few bits are left for a record's presence bits

@@ -25,11 +25,11 @@ use Rattle.per_read_types.specs.declared.bitmaps.PresenceBits.{PresenceBits}
 use Rattle.per_read_types.specs.declared.bitmaps.PresenceBits.TheVariants as Taken
 use Rattle.per_read_types.specs.declared.open_types.Contents.{Contents}
 use Rattle.per_read_types.specs.declared.open_types.Contents.TheVariants as Open
-use Rattle.per_decoding.specs.AdditionLaws.{of_next}
-use Rattle.per_decoding.specs.Additions.{EntersContents, OpensContents, Shown, Waiting}
+use Rattle.per_decoding.specs.Laws.Additions.{of_next}
+use Rattle.per_decoding.specs.Additions.{EntersContents, OpensContents, Shown, OutsideAddition}
 use Rattle.per_decoding.specs.Faults.{Answered, IsOfNext, at_bitmap, refusal}
 use Rattle.per_decoding.specs.State.{Extension, State, ahead, reader_of, settings_of, shown, with_bits}
-use Rattle.per_decoding.specs.Tails.{tested_new}
+use Rattle.per_decoding.specs.Laws.Tails.{tested_new}
 use Rattle.per_de.specs.Sources.{flags_in, span_of, IsWithin}
 use Rattle.per_de.specs.Steps.{AsksNext, IsOfBitmap, RefusedAs, SkipsUnknown, TakesBit, TakesBitmap, TakesExtensionBit, TakesFlags, TakesIndex, Unasked}
 use Rattle.per_de.specs.declared.source.Flags.{Flags}
@@ -197,7 +197,7 @@ pub whole_octets : (count : ℕ) (octets : List ℕ) → count ≡ length (unpac
 whole_octets count octets e = omega (arith, e, length-unpack octets)
 
 -- contents that are entered behind their length
-pub opened : (s t : State) (octets : List ℕ) (w : Waiting) (i : State) (contents : Bits) → Took (Octets (settings_of s) octets) s.bits t.bits → t ≡ with_bits s t.bits → contents ≡ unpack octets
+pub opened : (s t : State) (octets : List ℕ) (w : OutsideAddition) (i : State) (contents : Bits) → Took (Octets (settings_of s) octets) s.bits t.bits → t ≡ with_bits s t.bits → contents ≡ unpack octets
     → EntersContents contents t w i → OpensContents s w i
 opened s t octets w i contents k e c h =
     let b : w.bits ≡ t.bits = ap (λ z. z.bits) h.waits in

@@ -5,7 +5,7 @@ use Rattle.rasn_types.specs.Contents.{is_text, utf8, other}
 use Rattle.rasn_types.specs.Values.{octets, bits, characters}
 use Rattle.rasn_constraints.specs.Bounds.{Size}
 use Rattle.rasn_schema.specs.Schemas
-use Rattle.per_core.specs.Basic.{basic, basic_in, Octets, Lengthy, String, Proper, octet, bit}
+use Rattle.per_core.specs.Basic.{basic, basic_in, Octets, Counted, String, Proper, octet, bit}
 use Rattle.per_core.specs.Counts.{octet_items, bit_items}
 use Rattle.per_core.specs.Spellings.{Settings}
 use Rattle.per_core.specs.Took.{Took}
@@ -49,21 +49,21 @@ module _ (a : Settings) where
 
   module _ (size : Size) (mark : Bool) where
     -- OCTET STRING
-    pub reads_octets : (os : List ℕ) {s t : Bits} → Took (Lengthy a size mark octet_items octet os) s t → Took (basic a (Schemas.octet_string size mark) (octets os)) s t
+    pub reads_octets : (os : List ℕ) {s t : Bits} → Took (Counted a size mark octet_items octet os) s t → Took (basic a (Schemas.octet_string size mark) (octets os)) s t
     unfolding basic_in
     reads_octets os b = took_map (λ p c i. record { of = os; is = refl; spelled = i }) b
 
-    pub faulty_octets : (s : Bits) (k : DecodeErrorKind) → Faulty (IsOfItems a size mark Octet s) (NoneIn (Lengthy a size mark octet_items octet) s) k
+    pub faulty_octets : (s : Bits) (k : DecodeErrorKind) → Faulty (IsOfItems a size mark Octet s) (NoneIn (Counted a size mark octet_items octet) s) k
         → Faulty (IsAt a (Schemas.octet_string size mark) s) (NoneIn (basic a (Schemas.octet_string size mark)) s) k
     unfolding basic_in
     faulty_octets s k = faulty_map k (λ h. h) (λ none v t b. none b.spelled.of t (record { front = b.front; joins = b.joins; spelled = b.spelled.spelled }))
 
     -- BIT STRING
-    pub reads_bits : (bs : Bits) {s t : Bits} → Took (Lengthy a size mark bit_items bit bs) s t → Took (basic a (Schemas.bit_string size mark) (bits bs)) s t
+    pub reads_bits : (bs : Bits) {s t : Bits} → Took (Counted a size mark bit_items bit bs) s t → Took (basic a (Schemas.bit_string size mark) (bits bs)) s t
     unfolding basic_in
     reads_bits bs b = took_map (λ p c i. record { of = bs; is = refl; spelled = i }) b
 
-    pub faulty_bits : (s : Bits) (k : DecodeErrorKind) → Faulty (IsOfItems a size mark Bit s) (NoneIn (Lengthy a size mark bit_items bit) s) k
+    pub faulty_bits : (s : Bits) (k : DecodeErrorKind) → Faulty (IsOfItems a size mark Bit s) (NoneIn (Counted a size mark bit_items bit) s) k
         → Faulty (IsAt a (Schemas.bit_string size mark) s) (NoneIn (basic a (Schemas.bit_string size mark)) s) k
     unfolding basic_in
     faulty_bits s k = faulty_map k (λ h. h) (λ none v t b. none b.spelled.of t (record { front = b.front; joins = b.joins; spelled = b.spelled.spelled }))

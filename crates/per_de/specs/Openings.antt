@@ -7,12 +7,12 @@ use Rattle.per_read.specs.declared.error.DecodeError.{DecodeError}
 use Rattle.per_decoding.specs.Rules.{decoder_rules}
 use Rattle.per_decoding.specs.Scopes.{Opens}
 use Rattle.per_decoding.specs.State.{State}
-use Rattle.per_de.specs.Outsides.{outside_of}
+use Rattle.per_de.specs.Outsides.{outside_record_of}
 use Rattle.per_de.specs.declared.Scope.{Scope}
 
 -- a record is open, and what waits outside
 abbrev pub is_open : Schema → State → Scope → State → Type 0
-is_open c s o i = Opens c s (outside_of i.source o) i
+is_open c s o i = Opens c s (outside_record_of i.source o) i
 
 -- A call that opens a record of root components with as many presence bits as these.
 pub record OpensRecord (parts : ℕ → Parts) (marker : Bool) (additions : ℕ → Parts) (s : State)

@@ -13,11 +13,11 @@ use Rattle.per_read.specs.declared.error.DecodeErrorKind.{DecodeErrorKind}
 use Rattle.per_read.specs.declared.error.DecodeErrorKind.TheVariants.{ExceedsMaxParseDepth, Incomplete, MissingTag, OutOfMemory}
 use Rattle.per_read_types.specs.Bitmaps.{skipped_unknown}
 use Rattle.per_read_types.specs.Ends.{EndsAs, IsOfEnd}
-use Rattle.per_decoding.specs.Additions.{Asks, OpensContents, Shown, Waiting, outside_open}
+use Rattle.per_decoding.specs.Additions.{Asks, OpensContents, Shown, OutsideAddition, with_outside_addition}
 use Rattle.per_decoding.specs.Choices.{StandsFrom}
 use Rattle.per_decoding.specs.Faults.{IsOfNext, refusal}
 use Rattle.per_decoding.specs.State.{State, ahead, settings_of, shown, with_bits}
-use Rattle.per_de.specs.Outsides.{contents_of, waiting_of}
+use Rattle.per_de.specs.Outsides.{outside_contents_of, outside_addition_of}
 use Rattle.per_de.specs.Sources.{flags_in, span_of}
 use Rattle.per_de.specs.declared.Addition.{Addition}
 use Rattle.per_de.specs.declared.source.Flags.{Flags}
@@ -37,8 +37,7 @@ HasTwoLevels s (Ok u) t = (2 ≤ s.levels) × (t ≡ s)
 HasTwoLevels s (Err e) t = (s.levels < 2) × (e ≡ refusal ExceedsMaxParseDepth s) × (t ≡ record s { failed = true })
 
 -- So many presence bits are taken off the bits left, and stand in a part of the source; where fewer are left the
--- decoder
--- refuses (X.691 19.2).
+-- decoder refuses (X.691 19.2).
 abbrev pub TakesPresences : ℕ → State → Result Span DecodeError → State → Type 0
 TakesPresences n s (Ok p) t = Took (Front n (span_of p s.source.bits)) s.bits t.bits × (t ≡ with_bits s t.bits)
 TakesPresences n s (Err e) t = (length s.bits < n) × (e ≡ refusal (Incomplete (n - length s.bits)) s)
@@ -65,8 +64,7 @@ TakesBitmap s (Ok flags) t = Took (IsBitmap (settings_of s) (flags_in s.source.b
 TakesBitmap s (Err e) t = RefusedAs (IsOfBitmap s) s e t
 
 -- The presence bits of additions are taken out that are still to be read, and off the bits left where they are still
--- ahead
--- (X.691 19.7, 19.8).
+-- ahead (X.691 19.7, 19.8).
 abbrev pub TakesFlags : State → Result Flags DecodeError → State → Type 0
 TakesFlags s (Ok flags) t = Took (Shown (settings_of s) s.extension (flags_in s.source.bits flags)) s.bits t.bits
     × (t ≡ record s { bits = t.bits; extension = shown [] })
@@ -85,7 +83,7 @@ AsksNext s (Err e) t = ((e ≡ refusal OutOfMemory s) ⊎ Unasked e s) × (t.fai
 
 -- Ok is inside an open type, and Err comes only where none stands at the front, or for want of memory.
 abbrev pub EntersOpen : State → Result Addition DecodeError → State → Type 0
-EntersOpen s (Ok o) i = OpensContents s (waiting_of i.source o) i
+EntersOpen s (Ok o) i = OpensContents s (outside_addition_of i.source o) i
 EntersOpen s (Err e) i = RefusedAs (Stopped (NoneIn (Octets (settings_of s)) s.bits)) s e i
 
 -- The additions that the schema doesn't know are taken off the bits left (X.691 19.9).
@@ -95,8 +93,7 @@ SkipsUnknown flags s (Err e) t = RefusedAs (λ k. IsTested k × NoneIn
     (skipped_unknown flags (settings_of s)) s.bits) s e t
 
 -- Whether what is left of contents of n bits ends them: Ok comes exactly where it does, and Err says why it doesn't,
--- where
--- no more is left than they had (X.691 11.1).
+-- where no more is left than they had (X.691 11.1).
 pub record EndsContents (s : State) (n : ℕ) (result : Result (Unit {0}) DecodeErrorKind) : Type 0 where
   pub ok : OnOk result (EndsAs (settings_of s) s.bits n)
   pub none : IfErr result (λ k. EndsAs (settings_of s) s.bits n → ⊥)
@@ -116,18 +113,17 @@ TakesIndex r e ext s (Err err) t =
     (index_form (settings_of s) r e ext) s.bits) s err t
 
 -- Ok is where an alternative of a list is read, and Err comes only where it would stand in an open type, and none is at
--- the
--- front, or for want of memory (X.691 23.7, 23.8).
+-- the front, or for want of memory (X.691 23.7, 23.8).
 abbrev pub EntersAlternative : Side → State → Result (Option Addition) DecodeError → State → Type 0
-EntersAlternative d s (Ok o) i = StandsFrom d s (contents_of i.source o) i
+EntersAlternative d s (Ok o) i = StandsFrom d s (outside_contents_of i.source o) i
 EntersAlternative d s (Err e) i = (d ≡ added) × RefusedAs (Stopped (NoneIn (Octets (settings_of s)) s.bits)) s e i
 
 -- What is left of an open type doesn't end it, and why, where no more is left than it had (X.691 11.1).
-pub record Unended (w : Waiting) (s : State) (k : DecodeErrorKind) : Type 0 where
+pub record Unended (w : OutsideAddition) (s : State) (k : DecodeErrorKind) : Type 0 where
   pub none : EndsAs (settings_of s) s.bits w.total → ⊥
   pub why : length s.bits ≤ w.total → IsOfEnd (settings_of s) s.bits w.total k
 
 -- An open type is left, with what waited outside, where what is left of it ends it.
-abbrev pub ClosesContents : Waiting → State → Result (Unit {0}) DecodeError → State → Type 0
-ClosesContents w s (Ok u) t = EndsAs (settings_of s) s.bits w.total × (t ≡ outside_open s w)
+abbrev pub ClosesContents : OutsideAddition → State → Result (Unit {0}) DecodeError → State → Type 0
+ClosesContents w s (Ok u) t = EndsAs (settings_of s) s.bits w.total × (t ≡ with_outside_addition s w)
 ClosesContents w s (Err e) t = RefusedAs (Unended w s) s e t

@@ -3,7 +3,7 @@
 
 ghost use Rattle.std.specs.Prelude.{◌≡◌, ◌<◌, ◌≤◌, ◌+◌, ◌-◌, ◌*◌, ◌%◌, true, false, length, slice_get, Some, MatchOption};
 ghost use Rattle.std.specs.Prelude.{◌↔◌, IfOk, IfSome, IsSome, OnOk, OnErr, IfErr};
-ghost use Rattle.std.specs.Cow.{cow_slice_items, IsBorrowedSlice};
+ghost use Rattle.std.specs.Cow.{cow_slice_items, IsBorrowedSlice, IsOwnedSlice};
 ghost use Rattle.rasn_types.specs.Bits.{unpack};
 ghost use Rattle.rasn_types.specs.Values.{octets};
 ghost use Rattle.rasn_types.specs.declared.types.Codec.TheVariants.{Aper, Uper};
@@ -16,21 +16,22 @@ ghost use Rattle.rasn_traits.specs.Calls.{Reads};
 ghost use Rattle.per_read.specs.declared.error.DecodeErrorKind.TheVariants.{AlreadyFailed};
 ghost use Rattle.per_read_types.specs.Choices.{index_of};
 ghost use Rattle.per_read.specs.Lists.{most};
-ghost use Rattle.per_decoding.specs.AdditionLaws.{additions_well};
-ghost use Rattle.per_decoding.specs.Additions.{ClosesAddition, EntersContents, OpensAddition, outside_open};
-ghost use Rattle.per_decoding.specs.ChoiceLaws.{choices_well};
+ghost use Rattle.per_decoding.specs.Laws.Additions.{additions_well};
+ghost use Rattle.per_decoding.specs.Additions.{ClosesAddition, EntersContents, OpensAddition, with_outside_addition};
+ghost use Rattle.per_decoding.specs.Laws.Choices.{choices_well};
 ghost use Rattle.per_decoding.specs.Choices.{ClosesChoice, OpensChoice, UnendedChoice};
 ghost use Rattle.per_decoding.specs.Faults.{refusal, Answered, Unended, UnendedAddition};
-ghost use Rattle.per_decoding.specs.Laws.{decodes_well};
+ghost use Rattle.per_decoding.specs.Laws.Relations.{decodes_well};
 ghost use Rattle.per_decoding.specs.Rules.{decoder_rules};
-ghost use Rattle.per_decoding.specs.BagLaws.{bags_well};
-ghost use Rattle.per_decoding.specs.ScopeLaws.{scopes_well};
-ghost use Rattle.per_decoding.specs.SetLaws.{sets_well};
-ghost use Rattle.per_decoding.specs.Scopes.{Closes, Enters, LevelInside, Opens, no_record, with_outside};
+ghost use Rattle.per_decoding.specs.Laws.Bags.{bags_well};
+ghost use Rattle.per_decoding.specs.Laws.Errors.{errors_well};
+ghost use Rattle.per_decoding.specs.Laws.Scopes.{scopes_well};
+ghost use Rattle.per_decoding.specs.Laws.Sets.{sets_well};
+ghost use Rattle.per_decoding.specs.Scopes.{Closes, Enters, LevelInside, Opens, no_record, with_outside_record};
 ghost use Rattle.per_decoding.specs.State.{State, Options, fresh, fresh_of, from_octet, reader_of, shown, with_last};
-ghost use Rattle.per_de.specs.Lists.{AmidList};
+ghost use Rattle.per_de.specs.Lists.{IsOpenList};
 ghost use Rattle.per_de.specs.Openings.{OpensRecord};
-ghost use Rattle.per_de.specs.Outsides.{choosing_of, outside_of, waiting_of};
+ghost use Rattle.per_de.specs.Outsides.{outside_choice_of, outside_record_of, outside_addition_of};
 ghost use Rattle.per_de.specs.Lending.{AreLent, ComeAlone};
 ghost use Rattle.per_de.specs.Sources.{bits_of, extension_in, flags_in, place_left, span_of, up_to, unread_of, AreOctetsOf, IsWithin};
 ghost use Rattle.per_de.specs.Steps.{AsksNext, EndsContents, EntersOpen, HasTwoLevels, IsRootRead, SkipsUnknown};
@@ -38,9 +39,10 @@ ghost use Rattle.per_de.specs.Steps.{ClosesContents, EntersAlternative, TakesInd
 ghost use Rattle.per_de.specs.Steps.{TakesBit, TakesBitmap, TakesExtensionBit, TakesFlags, TakesPresences};
 
 use per_bits::{BitList, BitReader};
+use per_core::lengths::FRAGMENT;
 pub use per_read::error;
 pub use per_read::error::{DecodeError, DecodeErrorKind, ParserFailCause};
-use per_read::lists::OpenList;
+use per_read::lists::UnreadElements;
 use per_read::{Reader, ReaderOptions};
 use per_read_types::bitmaps::{PresenceBits, skip_unknown, take_bitmap};
 use per_read_types::choices::take_choice_index;
@@ -116,7 +118,8 @@ impl DecoderOptions {
         }
     }
 
-    /// The same, but padding and spare bits must be zero (X.691 11.1, 11.2), and others are refused with `ParserFail`.
+    /// These options, but padding and spare bits must be zero (X.691 11.1, 11.2), and others are refused with
+    /// `ParserFail`.
     pub const fn zero_padding(self) -> Self
         ensures { result ≡ record self { zero_padding = true } }
     {
@@ -291,7 +294,7 @@ impl<'input> Decoder<'input> {
     /// be kept as long as the input. Those of an open type in fragments are `Owned`.
     pub fn decode_octet_string(
         &mut self,
-        tag: Tag,
+        _tag: Tag,
         constraints: &Constraints,
     ) -> Result<CowSlice<'input, u8>, DecodeError>
         ensures read { Reads decoder_rules (octet_schema constraints.now) (λ x. octets (cow_slice_items x))
@@ -309,10 +312,24 @@ impl<'input> Decoder<'input> {
             Err(kind) => return Err(self.refuse(kind)),
         };
         let Some(octets) = self.lent(constraints, count, left) else {
-            return decoder::Decoder::decode_octet_string(self, tag, constraints);
+            return self.copied(constraints);
         };
         self.keep_last(left);
         Ok(CowSlice::Borrowed(octets))
+    }
+
+    /// Reads an OCTET STRING under constraints, and answers a copy of its octets.
+    fn copied(&mut self, constraints: &Constraints) -> Result<CowSlice<'static, u8>, DecodeError>
+        ensures read { Reads decoder_rules (octet_schema constraints.now) (λ x. octets (cow_slice_items x))
+            self.old result self.new }
+        ensures owned { IfOk result (λ x. IsOwnedSlice x) }
+    {
+        self.check_unfailed()?;
+        let mut reader = self.reader();
+        let taken = reader.take_octet_string(constraints);
+        let left = reader.bits().len();
+        let octets = self.answer(taken, left)?;
+        Ok(CowSlice::Owned(octets))
     }
 
     /// The `count` octets under a size in front of the last `left` bits, where they can be lent.
@@ -459,7 +476,8 @@ impl<'input> Decoder<'input> {
     /// Enters a scope with other levels and another SEQUENCE to read, and answers what waits outside.
     #[inline(always)]
     fn enter(&mut self, inside: Scope) -> Scope
-        ensures { Enters (outside_of self.old.source inside) self.old (outside_of self.new.source result) self.new }
+        ensures { Enters (outside_record_of self.old.source inside) self.old
+            (outside_record_of self.new.source result) self.new }
     {
         Scope {
             levels: mem::replace(&mut self.levels, inside.levels),
@@ -472,7 +490,7 @@ impl<'input> Decoder<'input> {
     /// Leaves a scope: what waited outside is back.
     #[inline(always)]
     fn leave(&mut self, outside: Scope)
-        ensures { self.new ≡ with_outside self.old (outside_of self.old.source outside) }
+        ensures { self.new ≡ with_outside_record self.old (outside_record_of self.old.source outside) }
     {
         self.levels = outside.levels;
         self.presences = outside.presences;
@@ -583,8 +601,8 @@ impl<'input> Decoder<'input> {
     fn enter_contents(&mut self, contents: Span, total: WholeOctets) -> Addition<'input>
         requires within { IsWithin contents self.old.source.bits }
         requires whole { total ≡ length (span_of contents self.old.source.bits) }
-        ensures { EntersContents (span_of contents self.old.source.bits) self.old (waiting_of self.new.source result)
-            self.new }
+        ensures { EntersContents (span_of contents self.old.source.bits) self.old
+            (outside_addition_of self.new.source result) self.new }
     {
         Addition {
             bits: mem::replace(&mut self.bits, contents),
@@ -598,7 +616,7 @@ impl<'input> Decoder<'input> {
 
     /// Enters contents that were gathered, and answers what waits outside.
     fn enter_gathered(&mut self, octets: Vec<u8>) -> Addition<'input>
-        ensures { EntersContents (unpack octets.items) self.old (waiting_of self.new.source result) self.new }
+        ensures { EntersContents (unpack octets.items) self.old (outside_addition_of self.new.source result) self.new }
     {
         let end = 8 * octets.len() as u128;
         Addition {
@@ -646,7 +664,7 @@ impl<'input> Decoder<'input> {
     /// Leaves an open type: what waited outside is back.
     #[inline(always)]
     fn leave_contents(&mut self, outside: Addition<'input>)
-        ensures { self.new ≡ outside_open self.old (waiting_of self.old.source outside.entry) }
+        ensures { self.new ≡ with_outside_addition self.old (outside_addition_of self.old.source outside.entry) }
     {
         let source = outside.source;
         if let Some(source) = source {
@@ -661,7 +679,7 @@ impl<'input> Decoder<'input> {
     /// Leaves an open type where what is left of its contents ends them (X.691 11.1), and else refuses.
     #[inline(always)]
     fn close_contents(&mut self, outside: Addition<'input>) -> Result<(), DecodeError>
-        ensures { ClosesContents (waiting_of self.old.source outside.entry) self.old result self.new }
+        ensures { ClosesContents (outside_addition_of self.old.source outside.entry) self.old result self.new }
     {
         match self.end_of_contents(outside.total) {
             Ok(()) => {
@@ -718,7 +736,7 @@ fn come_alone(constraints: &Constraints, bits: &BitReader<'_>, count: usize) -> 
     ensures { let size = size_of constraints.now in let mark = is_size_marked constraints.now in
         (result ≡ true) ↔ ComeAlone size mark bits.now.bits count }
 {
-    if count < 16384 {
+    if count < FRAGMENT {
         return true;
     }
     let Some(size) = constraints.size() else {
@@ -779,7 +797,7 @@ impl Scope {
     /// So many levels, and nothing of a SEQUENCE to read.
     #[inline(always)]
     fn without_record(levels: u32) -> Self
-        ensures { (s : State) → outside_of s.source result ≡ no_record levels }
+        ensures { (s : State) → outside_record_of s.source result ≡ no_record levels }
     {
         Scope {
             levels,
@@ -815,12 +833,14 @@ pub struct Alternative<'input> {
 /// What is left of an open list, and what waits outside: the levels that may be entered there.
 #[derive(Drop)]
 pub struct ListScope {
-    list: OpenList,
+    list: UnreadElements,
     levels: u32,
 }
 
 impl<'input> decoder::Decoder for Decoder<'input> {
     type Error = DecodeError;
+
+    type Octets = CowSlice<'input, u8>;
 
     type Scope = Scope;
 
@@ -832,27 +852,29 @@ impl<'input> decoder::Decoder for Decoder<'input> {
 
     ghost rules = { decoder_rules };
 
-    ghost opens = { λ c s o i. Opens c s (outside_of i.source o) i };
+    ghost opens = { λ c s o i. Opens c s (outside_record_of i.source o) i };
 
-    ghost closes = { λ s o t. Closes s (outside_of s.source o) t };
+    ghost closes = { λ s o t. Closes s (outside_record_of s.source o) t };
 
     ghost unended = { λ o e s. Unended e s };
 
-    ghost opens_addition = { λ s o i. OpensAddition s (waiting_of i.source o) i };
+    ghost opens_addition = { λ s o i. OpensAddition s (outside_addition_of i.source o) i };
 
-    ghost closes_addition = { λ s o t. ClosesAddition s (waiting_of s.source o) t };
+    ghost closes_addition = { λ s o t. ClosesAddition s (outside_addition_of s.source o) t };
 
-    ghost unended_addition = { λ o e s. UnendedAddition (waiting_of s.source o) e s };
+    ghost unended_addition = { λ o e s. UnendedAddition (outside_addition_of s.source o) e s };
 
-    ghost opens_choice = { λ c d k s o i. OpensChoice c d k s (choosing_of i.source o) i };
+    ghost opens_choice = { λ c d k s o i. OpensChoice c d k s (outside_choice_of i.source o) i };
 
-    ghost closes_choice = { λ s o t. ClosesChoice s (choosing_of s.source o) t };
+    ghost closes_choice = { λ s o t. ClosesChoice s (outside_choice_of s.source o) t };
 
-    ghost unended_choice = { λ o e s. UnendedChoice (choosing_of s.source o).contents e s };
+    ghost unended_choice = { λ o e s. UnendedChoice (outside_choice_of s.source o).contents e s };
 
-    ghost amid = { AmidList };
+    ghost amid = { IsOpenList };
 
     ghost most = { λ l. most l.list };
+
+    ghost lends = { λ size mark s t n. AreLent size mark s (length t.bits) n };
 
     fn codec(&self) -> Codec {
         Decoder::codec(self)
@@ -915,15 +937,10 @@ impl<'input> decoder::Decoder for Decoder<'input> {
     #[inline(always)]
     fn decode_octet_string(
         &mut self,
-        _tag: Tag,
+        tag: Tag,
         constraints: &Constraints,
-    ) -> Result<CowSlice<'static, u8>, DecodeError> {
-        self.check_unfailed()?;
-        let mut reader = self.reader();
-        let taken = reader.take_octet_string(constraints);
-        let left = reader.bits().len();
-        let octets = self.answer(taken, left)?;
-        Ok(CowSlice::Owned(octets))
+    ) -> Result<CowSlice<'input, u8>, DecodeError> {
+        Decoder::decode_octet_string(self, tag, constraints)
     }
 
     fn decode_bit_string(
@@ -1038,10 +1055,6 @@ impl<'input> decoder::Decoder for Decoder<'input> {
         self.answer(taken, left)
     }
 
-    fn required_extension_not_present(&mut self, tag: Tag) -> DecodeError {
-        self.refuse(DecodeErrorKind::RequiredExtensionNotPresent(tag))
-    }
-
     #[inline(always)]
     fn open_sequence<C: Constructed>(&mut self, _tag: Tag) -> Result<Scope, DecodeError> {
         self.open_record::<C>()
@@ -1145,11 +1158,13 @@ impl<'input> decoder::Decoder for Decoder<'input> {
 
     ghost lawful = { decodes_well };
 
-    ghost scopes = { scopes_well outside_of };
+    ghost errors = { errors_well };
 
-    ghost additions = { additions_well waiting_of };
+    ghost scopes = { scopes_well outside_record_of };
 
-    ghost choices = { choices_well choosing_of };
+    ghost additions = { additions_well outside_addition_of };
+
+    ghost choices = { choices_well outside_choice_of };
 
     ghost sets = { sets_well };
 

@@ -9,7 +9,7 @@ ghost use Rattle.rasn_traits.specs.Lists.{ReadsNext};
 ghost use Rattle.per_read.specs.Lists.{most};
 ghost use Rattle.per_decoding.specs.Rules.{decoder_rules};
 ghost use Rattle.per_decoding.specs.State.{Spells, State};
-ghost use Rattle.per_de.specs.Lists.{AmidList};
+ghost use Rattle.per_de.specs.Lists.{IsOpenList};
 ghost use Rattle.per_de.specs.declared.ListScope.{ListScope};
 ghost use Rattle.per_core.specs.FewItems.{most_items};
 
@@ -18,10 +18,10 @@ ghost use Rattle.per_core.specs.FewItems.{most_items};
 /// with the element that is read where `next_element` answers that one follows (X.691, 11.9, 20).
 pub fn elements_of_an_open_list_are_few()
     ensures now { (e : Schema) (size : Size) (mark : Bool) (s i : State) (vs : List Value) (l : ListScope) →
-        is_lawful_size size.least size.most ≡ true → AmidList e size mark s vs l i →
+        is_lawful_size size.least size.most ≡ true → IsOpenList e size mark s vs l i →
         length vs ≤ most_items (length s.bits - length i.bits) }
     ensures with_another { (e : Schema) (size : Size) (mark : Bool) (s i j k : State) (vs : List Value)
-        (l m : ListScope) (v : Value) → is_lawful_size size.least size.most ≡ true → AmidList e size mark s vs l i →
-        ReadsNext decoder_rules AmidList (λ l. most l.list) l i (Ok true) m j → Spells e j v k →
+        (l m : ListScope) (v : Value) → is_lawful_size size.least size.most ≡ true → IsOpenList e size mark s vs l i →
+        ReadsNext decoder_rules IsOpenList (λ l. most l.list) l i (Ok true) m j → Spells e j v k →
         length (vs ++ v ∷ []) ≤ most_items (length s.bits - length k.bits) }
 {}

@@ -108,7 +108,7 @@ impl Span {
         }
     }
 
-    /// The same bits of a source, which has all of them.
+    /// A span of these bits of a source that lies within the source, whether this one does or not.
     pub(crate) fn within(self, source: &BitReader<'_>) -> Span
         ensures same { span_of result source.now.bits ≡ span_of self source.now.bits }
         ensures there { IsWithin result source.now.bits }

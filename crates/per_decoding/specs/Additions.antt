@@ -18,8 +18,7 @@ Shown a ahead flags = IsBitmap a flags
 Shown a (shown old) flags = When (flags ≡ old) (exactly [])
 
 -- X.691 19.7, 19.8: the next presence bit of the additions, where one of the type is still to be asked for. A bitmap
--- that
--- is still ahead is taken first, which stands behind the root components, so all their presence bits were read.
+-- that is still ahead is taken first, which stands behind the root components, so all their presence bits were read.
 pub record Asks (s : State) (flag : Option Bool) (m : State) : Type 0 where
   pub live : s.failed ≡ false
   pub done : s.presences ≡ []
@@ -31,9 +30,8 @@ pub record Asks (s : State) (flag : Option Bool) (m : State) : Type 0 where
   pub same : m ≡ record s { bits = m.bits; extension = shown rest; expected = m.expected }
 
 -- X.691 19.9: the next addition is there, a value in an open type. It has at most 65535 items, and 8192 for each bit
--- that was taken,
--- those of the bitmap among them, and so has each value within it, but for a default that stands for an absent part
--- (11.9, 19.5).
+-- that was taken, those of the bitmap among them, and so has each value within it, but for a default that stands for an
+-- absent part (11.9, 19.5).
 pub record AddsValue (c : Schema) (s : State) (v : Value) (t : State) : Type 0 where
   pub middle : State
   pub asks : Asks s (Some true) middle
@@ -50,7 +48,7 @@ Adds c s None t = Asks s (Some false) t ⊎ Asks s None t
 
 -- What waits outside while the open type of an addition is open: the bits behind it, those in which they stand, what is
 -- still to be read of the record, and how many bits the contents had.
-pub record Waiting : Type 0 where
+pub record OutsideAddition : Type 0 where
   pub bits : Bits
   pub source : Source
   pub presences : Bits
@@ -59,9 +57,8 @@ pub record Waiting : Type 0 where
   pub total : ℕ
 
 -- The contents of an open type are entered: what is still to be read of a record waits outside, and nothing of one is
--- read
--- inside (X.691 11.2).
-pub record EntersContents (contents : Bits) (s : State) (w : Waiting) (i : State) : Type 0 where
+-- read inside (X.691 11.2).
+pub record EntersContents (contents : Bits) (s : State) (w : OutsideAddition) (i : State) : Type 0 where
   pub inside : i.bits ≡ contents
   pub waits : w ≡ record {
     bits = s.bits;
@@ -74,15 +71,14 @@ pub record EntersContents (contents : Bits) (s : State) (w : Waiting) (i : State
   pub same : i ≡ record s { bits = i.bits; source = i.source; presences = []; extension = shown []; expected = 0 }
 
 -- an open type's contents are entered behind its length
-pub record OpensContents (s : State) (w : Waiting) (i : State) : Type 0 where
+pub record OpensContents (s : State) (w : OutsideAddition) (i : State) : Type 0 where
   pub octets : List ℕ
   pub took : Took (Octets (settings_of s) octets) s.bits w.bits
   pub enters : EntersContents (unpack octets) (with_bits s w.bits) w i
 
 -- Inside the contents of the next addition's open type, a complete encoding from its own start, nothing of the record
--- is
--- read (X.691 11.2, 19.9).
-pub record OpensAddition (s : State) (w : Waiting) (i : State) : Type 0 where
+-- is read (X.691 11.2, 19.9).
+pub record OpensAddition (s : State) (w : OutsideAddition) (i : State) : Type 0 where
   pub middle : State
   pub asks : Asks s (Some true) middle
   pub octets : List ℕ
@@ -99,8 +95,8 @@ pub record OpensAddition (s : State) (w : Waiting) (i : State) : Type 0 where
   pub same : i ≡ record middle { bits = i.bits; source = i.source; presences = []; extension = shown []; expected = 0 }
 
 -- behind an open type, with what waited outside
-abbrev pub outside_open : State → Waiting → State
-outside_open j w = record j {
+abbrev pub with_outside_addition : State → OutsideAddition → State
+with_outside_addition j w = record j {
   bits = w.bits;
   source = w.source;
   presences = w.presences;
@@ -109,13 +105,13 @@ outside_open j w = record j {
 }
 
 -- Behind the open type, where what is left of the contents ends them (X.691 11.1).
-pub record ClosesAddition (j : State) (w : Waiting) (t : State) : Type 0 where
+pub record ClosesAddition (j : State) (w : OutsideAddition) (t : State) : Type 0 where
   pub live : j.failed ≡ false
   pub ends : EndsAs (settings_of j) j.bits w.total
-  pub same : t ≡ outside_open j w
+  pub same : t ≡ with_outside_addition j w
 
 -- A value is what is read between opening and closing the open type of an addition.
-pub record InOpen (c : Schema) (i : State) (w : Waiting) (v : Value) (t : State) : Type 0 where
+pub record InOpen (c : Schema) (i : State) (w : OutsideAddition) (v : Value) (t : State) : Type 0 where
   pub end : State
   pub reads : Spells c i v end
   pub closes : ClosesAddition end w t

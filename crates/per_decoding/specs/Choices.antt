@@ -8,16 +8,16 @@ use Rattle.per_core.specs.Took.{Took}
 use Rattle.per_read_types.specs.Choices.{index_form}
 use Rattle.per_read.specs.declared.error.DecodeError.{DecodeError}
 use Rattle.per_read_types.specs.Ends.{EndsAs}
-use Rattle.per_decoding.specs.Additions.{OpensContents, Waiting, outside_open}
+use Rattle.per_decoding.specs.Additions.{OpensContents, OutsideAddition, with_outside_addition}
 use Rattle.per_decoding.specs.Faults.{UnendedAddition}
-use Rattle.per_decoding.specs.Scopes.{Enters, Outside, no_record, with_outside}
+use Rattle.per_decoding.specs.Scopes.{Enters, OutsideRecord, no_record, with_outside_record}
 use Rattle.per_decoding.specs.State.{State, Spells, settings_of, with_bits}
 
 -- What waits outside while a choice is open: around its level; and around the open type of an alternative that stands
 -- behind the extension marker.
-pub record Choosing : Type 0 where
-  pub outer : Outside
-  pub contents : Option Waiting
+pub record OutsideChoice : Type 0 where
+  pub outer : OutsideRecord
+  pub contents : Option OutsideAddition
 
 -- X.691 23.5 to 23.8: the extension bit of a choice, and the index of an alternative in the list that it tells
 abbrev pub index_in : Settings → Schema → Side × ℕ → Spelling
@@ -25,16 +25,15 @@ index_in a (Schema.choice ps qs marker) x = index_form a (length (tags_of ps)) (
 index_in a _ x = never
 
 -- Where an alternative is read, which an index told: at once, or behind an extension marker in an open type (X.691
--- 23.7,
--- 23.8).
-abbrev pub StandsFrom : Side → State → Option Waiting → State → Type 0
+-- 23.7, 23.8).
+abbrev pub StandsFrom : Side → State → Option OutsideAddition → State → Type 0
 StandsFrom root m None i = i ≡ m
 StandsFrom root m (Some w) i = ⊥
 StandsFrom added m None i = ⊥
 StandsFrom added m (Some w) i = OpensContents m w i
 
 -- Behind the index of a choice a level is entered, and nothing of a record is read.
-pub record OpensChoice (c : Schema) (d : Side) (k : ℕ) (s : State) (w : Choosing) (i : State) : Type 0 where
+pub record OpensChoice (c : Schema) (d : Side) (k : ℕ) (s : State) (w : OutsideChoice) (i : State) : Type 0 where
   pub live : s.failed ≡ false
   pub middle : State
   pub deeper : s.levels ≡ suc middle.levels
@@ -43,24 +42,24 @@ pub record OpensChoice (c : Schema) (d : Side) (k : ℕ) (s : State) (w : Choosi
   pub stands : StandsFrom d middle w.contents i
 
 -- Behind the alternative: at once, or where what is left of its open type ends that (X.691 11.1).
-abbrev pub EndsFrom : State → Option Waiting → State → Type 0
+abbrev pub EndsFrom : State → Option OutsideAddition → State → Type 0
 EndsFrom j None m = m ≡ j
-EndsFrom j (Some w) m = EndsAs (settings_of j) j.bits w.total × (m ≡ outside_open j w)
+EndsFrom j (Some w) m = EndsAs (settings_of j) j.bits w.total × (m ≡ with_outside_addition j w)
 
 -- There the level is given back, and what waited outside.
-pub record ClosesChoice (j : State) (w : Choosing) (t : State) : Type 0 where
+pub record ClosesChoice (j : State) (w : OutsideChoice) (t : State) : Type 0 where
   pub live : j.failed ≡ false
   pub middle : State
   pub ends : EndsFrom j w.contents middle
-  pub same : t ≡ with_outside middle w.outer
+  pub same : t ≡ with_outside_record middle w.outer
 
 -- What is left of an alternative's open type doesn't end it.
-abbrev pub UnendedChoice : Option Waiting → DecodeError → State → Type 0
+abbrev pub UnendedChoice : Option OutsideAddition → DecodeError → State → Type 0
 UnendedChoice None e j = ⊥
 UnendedChoice (Some w) e j = UnendedAddition w e j
 
 -- A value is the alternative at a place, which is read between opening and closing a choice.
-pub record Stands (a : Schema) (d : Side) (k : ℕ) (i : State) (w : Choosing) (v : Value) (t : State) : Type 0 where
+pub record Stands (a : Schema) (d : Side) (k : ℕ) (i : State) (w : OutsideChoice) (v : Value) (t : State) : Type 0 where
   pub value : Value
   pub is : v ≡ alternative d k value
   pub end : State

@@ -5,7 +5,7 @@ use Rattle.rasn_types.specs.declared.types.Tag.{Tag}
 use Rattle.rasn_constraints.specs.Bounds.{Size}
 use Rattle.rasn_types.specs.Values.{Value, root, added}
 use Rattle.rasn_schema.specs.Canonised.{canonised}
-use Rattle.rasn_schema.specs.Choices.{alternative_at, choice_of, tags_of}
+use Rattle.rasn_schema.specs.Choices.{alternative_at, choice_schema, tags_of}
 use Rattle.rasn_schema.specs.Fields.{field_tag, tag_of}
 use Rattle.rasn_schema.specs.Schemas
 use Rattle.rasn_schema.specs.Schemas.{TagTree, Presence, by_tag, required, Schema, Parts, no_parts, part}
@@ -17,7 +17,7 @@ use Rattle.per_core.specs.Took.{Took}
 use Rattle.per_read_types.specs.Choices.{IsOfIndex, index_form}
 use Rattle.per_read_types.specs.Enumerations.{IsOfItem}
 use Rattle.per_read.specs.Kinds.{IsShort, IsTested, NoneIn}
-use Rattle.per_read_types.specs.Moments.{IsOfIdentifier, IsOfTime}
+use Rattle.per_read_types.specs.Times.{IsOfIdentifier, IsOfTime}
 use Rattle.per_read.specs.Numbers.{IsOfNumber}
 use Rattle.per_read.specs.Sizes.{IsOfItems, IsOfSize}
 use Rattle.per_read.specs.Strings.{IsOfString, IsOfText}
@@ -29,7 +29,7 @@ use Rattle.per_read.specs.declared.error.DecodeErrorKind.TheVariants.{ExceedsMax
 use Rattle.per_read_types.specs.Additions.{Addition, NextFlag, rule_of}
 use Rattle.per_read_types.specs.Bitmaps.{skipped_unknown}
 use Rattle.per_read_types.specs.Ends.{IsOfEnd}
-use Rattle.per_decoding.specs.Additions.{Asks, Shown, Waiting}
+use Rattle.per_decoding.specs.Additions.{Asks, Shown, OutsideAddition}
 use Rattle.per_read_types.specs.Dates.{IsOfDate}
 use Rattle.per_decoding.specs.State.{Extension, ahead, State, extension_of, settings_of, with_last}
 
@@ -71,12 +71,9 @@ pub record IsOfLacking (t : Schemas.Tag) (k : DecodeErrorKind) : Type 0 where
 
 mutual
   -- The fault that a kind names stands in bits, as a schema reads them: at once, in a root component of a record, in
-  -- its
-  -- bitmap or behind that, in the alternative of a choice, behind an extension marker in its open type, or in an
-  -- element of a
-  -- list or a bag, behind others. In a SET it stands where it does in the SEQUENCE of its components in ascending order
-  -- of
-  -- their tags (X.691 21.1).
+  -- its bitmap or behind that, in the alternative of a choice, behind an extension marker in its open type, or in an
+  -- element of a list or a bag, behind others. In a SET it stands where it does in the SEQUENCE of its components in
+  -- ascending order of their tags (X.691 21.1).
   pub data IsInBits (a : Settings) (k : DecodeErrorKind) : Schema → Bits → Type 0 where
     at_once : {c : Schema} {s : Bits} → IsAt a c s k → IsInBits a k c s
     in_root : {ps qs : Parts} {marker : Bool} {s m n : Bits} (extends : Bool) (flags : List Bool)
@@ -90,10 +87,10 @@ mutual
         → IsInBits a k (Schema.sequence by_tag ps marker qs) s
     in_alternative : {ps qs : Parts} {marker : Bool} {n : ℕ} {c : Schema} {s m : Bits}
         → Took (index_form a (length (tags_of ps)) (length (tags_of qs)) marker (root, n)) s m
-        → alternative_at ps n ≡ Some c → IsInBits a k c m → IsInBits a k (choice_of ps marker qs) s
+        → alternative_at ps n ≡ Some c → IsInBits a k c m → IsInBits a k (choice_schema ps marker qs) s
     in_added_alternative : {ps qs : Parts} {marker : Bool} {n : ℕ} {c : Schema} {s m : Bits}
         → Took (index_form a (length (tags_of ps)) (length (tags_of qs)) marker (added, n)) s m
-        → alternative_at qs n ≡ Some c → IsInOpen a k c m → IsInBits a k (choice_of ps marker qs) s
+        → alternative_at qs n ≡ Some c → IsInOpen a k c m → IsInBits a k (choice_schema ps marker qs) s
     in_element : {e : Schema} {size : Size} {mark : Bool} {s m : Bits} (vs : List Value)
         → Took (UpTo a size mark (basic a e) vs) s m → IsInBits a k e m → IsInBits a k (Schema.list e size mark) s
     in_member : {e : Schema} {size : Size} {mark : Bool} {s m : Bits} (vs : List Value)
@@ -154,8 +151,7 @@ abbrev pub refusal : DecodeErrorKind → State → DecodeError
 refusal k s = record { kind = k; codec = s.codec }
 
 -- A decoder's answer to what a reader of its bits took that has so many bits left: the value, with these bits left; or
--- the
--- refusal of its kind, after which the decoder has failed.
+-- the refusal of its kind, after which the decoder has failed.
 abbrev pub Answered : {T : Type 0} → Result T DecodeErrorKind → ℕ → State → Result T DecodeError → State → Type 0
 Answered (Ok v) left s result t = (result ≡ Ok v) × (t ≡ with_last s left)
 Answered (Err k) left s result t = (result ≡ Err (refusal k s)) × (t ≡ record s { failed = true })
@@ -165,8 +161,7 @@ abbrev pub IsUnmarked : DecodeError → State → Type 0
 IsUnmarked e s = ((e ≡ refusal MissingTag s) × (s.presences ≡ [])) ⊎ ((e ≡ refusal AlreadyFailed s) × (s.failed ≡ true))
 
 -- The fault that a kind names stands in the next addition: it is asked for out of turn, before all presence bits of the
--- root
--- were read; none is expected; or it stands in the bitmap, or in the addition's open type.
+-- root were read; none is expected; or it stands in the bitmap, or in the addition's open type.
 pub data IsInNext (k : DecodeErrorKind) (c : Schema) (s : State) : Type 0 where
   out_of_turn : k ≡ MissingTag → (s.presences ≡ [] → ⊥) → IsInNext k c s
   not_expected : k ≡ TypeNotExtensible → s.expected ≡ 0 → IsInNext k c s
@@ -189,8 +184,7 @@ pub record Lacks (t : Schemas.Tag) (e : DecodeError) (s : State) : Type 0 where
   pub stands : IsOfLacking t e.kind
 
 -- What a kind says where a record can't end: a presence bit wasn't read, or an addition wasn't asked for; or it says it
--- of
--- the bitmap, or of an addition that the schema doesn't know.
+-- of the bitmap, or of an addition that the schema doesn't know.
 pub data IsOfEnding (k : DecodeErrorKind) (s : State) : Type 0 where
   unread : k ≡ MissingTag → (s.presences ≡ [] → s.expected ≡ 0 → ⊥) → IsOfEnding k s
   unskipped : s.presences ≡ [] → s.expected ≡ 0 → IsInTail (settings_of s) k no_parts s.extension s.bits
@@ -202,6 +196,6 @@ pub record Unended (e : DecodeError) (s : State) : Type 0 where
   pub stands : IsOfEnding e.kind s
 
 -- What is left of the contents of an open type doesn't end them (X.691 11.1): no more is left than they had.
-pub record UnendedAddition (w : Waiting) (e : DecodeError) (s : State) : Type 0 where
+pub record UnendedAddition (w : OutsideAddition) (e : DecodeError) (s : State) : Type 0 where
   pub codec : e.codec ≡ s.codec
   pub stands : length s.bits ≤ w.total → IsOfEnd (settings_of s) s.bits w.total e.kind

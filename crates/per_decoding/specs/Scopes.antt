@@ -19,19 +19,19 @@ use Rattle.per_decoding.specs.State.{Extension, State, extension_of, settings_of
 
 -- What waits outside while a scope is open: the levels that may be entered there, and what is still to be read of the
 -- record there.
-pub record Outside : Type 0 where
+pub record OutsideRecord : Type 0 where
   pub levels : ℕ
   pub presences : Bits
   pub extension : Extension
   pub expected : ℕ
 
 -- what a decoder has of it
-abbrev pub outside_of : State → Outside
-outside_of s = record { levels = s.levels; presences = s.presences; extension = s.extension; expected = s.expected }
+abbrev pub outside_record : State → OutsideRecord
+outside_record s = record { levels = s.levels; presences = s.presences; extension = s.extension; expected = s.expected }
 
 -- a decoder that has it
-abbrev pub with_outside : State → Outside → State
-with_outside s w = record s {
+abbrev pub with_outside_record : State → OutsideRecord → State
+with_outside_record s w = record s {
   levels = w.levels;
   presences = w.presences;
   extension = w.extension;
@@ -39,8 +39,8 @@ with_outside s w = record s {
       w.expected;
 }
 
--- so many levels, and nothing of a record to read
-abbrev pub no_record : ℕ → Outside
+-- what waits where so many levels are left and nothing of a record is to be read
+abbrev pub no_record : ℕ → OutsideRecord
 no_record n = record { levels = n; presences = []; extension = shown []; expected = 0 }
 
 -- how many levels may be entered one level deeper; at no level left the decoder refuses
@@ -50,9 +50,9 @@ LevelInside s (Err e) t = (s.levels ≡ 0) × (e ≡ refusal ExceedsMaxParseDept
 
 -- A scope is entered with other levels and another record to read: those from before wait outside, and all else is as
 -- before.
-pub record Enters (n : Outside) (s : State) (w : Outside) (i : State) : Type 0 where
-  pub waits : w ≡ outside_of s
-  pub same : i ≡ with_outside s n
+pub record Enters (n : OutsideRecord) (s : State) (w : OutsideRecord) (i : State) : Type 0 where
+  pub waits : w ≡ outside_record s
+  pub same : i ≡ with_outside_record s n
 
 -- whether a record has an extension marker
 abbrev pub is_extensible : Schema → Bool
@@ -60,9 +60,8 @@ is_extensible (Schema.sequence o ps marker qs) = marker
 is_extensible _ = false
 
 -- Inside a record a level is entered: the extension bit was taken, where there is a marker, and the presence bits of
--- the
--- root components (X.691 19.1, 19.2).
-pub record Opens (c : Schema) (s : State) (w : Outside) (i : State) : Type 0 where
+-- the root components (X.691 19.1, 19.2).
+pub record Opens (c : Schema) (s : State) (w : OutsideRecord) (i : State) : Type 0 where
   pub live : s.failed ≡ false
   pub deeper : s.levels ≡ suc i.levels
   pub extends : Bool
@@ -70,23 +69,21 @@ pub record Opens (c : Schema) (s : State) (w : Outside) (i : State) : Type 0 whe
   pub presence_count : length i.presences ≡ presence_bits (root_of c)
   pub shows : i.extension ≡ extension_of extends
   pub counts : i.expected ≡ count (additions_of c)
-  pub enters : Enters (outside_of i) (with_bits s i.bits) w i
+  pub enters : Enters (outside_record i) (with_bits s i.bits) w i
 
 -- Behind it, where each presence bit was read and each addition was asked for, the additions that the schema doesn't
--- know
--- were skipped, and the level is given back, and what waited outside (X.691 19.9). A bitmap that is still ahead is
--- taken
--- first.
-pub record Closes (s : State) (w : Outside) (t : State) : Type 0 where
+-- know were skipped, and the level is given back, and what waited outside (X.691 19.9). A bitmap that is still ahead is
+-- taken first.
+pub record Closes (s : State) (w : OutsideRecord) (t : State) : Type 0 where
   pub live : s.failed ≡ false
   pub done : s.presences ≡ []
   pub none : s.expected ≡ 0
   pub flags : List Bool
   pub skipped : Took (Then (Shown (settings_of s) s.extension flags) (Unknown (settings_of s) flags)) s.bits t.bits
-  pub same : t ≡ with_outside (with_bits s t.bits) w
+  pub same : t ≡ with_outside_record (with_bits s t.bits) w
 
 -- A value is what is read between opening and closing a record: its root components and its additions in turn.
-pub record InScope (ps qs : Parts) (i : State) (w : Outside) (v : Value) (t : State) : Type 0 where
+pub record InScope (ps qs : Parts) (i : State) (w : OutsideRecord) (v : Value) (t : State) : Type 0 where
   pub roots : List (Option Value)
   pub additions : List (Option Value)
   pub end : State

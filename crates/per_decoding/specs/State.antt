@@ -22,8 +22,7 @@ pub record Options : Type 0 where
 
 -- What is still to be read of the bitmap of an open record's additions (X.691 19.7 to 19.9): all of it, which stands
 -- behind the root components; or the presence bits that are left. There are none without an extension marker, nor
--- behind
--- an extension bit 0.
+-- behind an extension bit 0.
 pub data Extension : Type 0 where
   ahead : Extension
   shown : List Bool → Extension
@@ -34,10 +33,8 @@ extension_of true = ahead
 extension_of false = shown []
 
 -- The bits in which those stand that a decoder has left: those of the input, or of an open type in fragments; how many
--- of
--- them stand behind those that are left, which reading from the front doesn't change; how many bits of its octet stand
--- in
--- front of the first of them; and whether they are the input's, of which octets can be lent.
+-- of them stand behind those that are left, which reading from the front doesn't change; how many bits of its octet
+-- stand in front of the first of them; and whether they are the input's, of which octets can be lent.
 pub record Source : Type 0 where
   pub bits : Bits
   pub behind : ℕ
@@ -98,18 +95,17 @@ settings_of s = settings (options_of s)
 abbrev pub reader_of : State → Taking
 reader_of s = record { bits = s.bits; options = options_of s }
 
--- the same with other bits left
+-- a decoder's state with other bits left
 abbrev pub with_bits : State → Bits → State
 with_bits s b = record s { bits = b }
 
--- the same with the last so many bits left
+-- a decoder's state with the last so many bits left
 abbrev pub with_last : State → ℕ → State
 with_last s n = with_bits s (drop (length s.bits - n) s.bits)
 
 -- A front of the bits that are left spells a value, and the bits behind it are left. The value has at most 65535 items,
--- and 8192 for
--- each bit that was taken, and so has each value within it, but for a default that stands for an absent part (X.691
--- 11.9, 19.5).
+-- and 8192 for each bit that was taken, and so has each value within it, but for a default that stands for an absent
+-- part (X.691 11.9, 19.5).
 pub record Spells (c : Schema) (s : State) (v : Value) (t : State) : Type 0 where
   pub live : s.failed ≡ false
   pub took : Took (basic (settings_of s) c v) s.bits t.bits

@@ -11,16 +11,16 @@ ghost use Rattle.rasn_schema.specs.Schemas.{Parts, Schema, by_tag};
 ghost use Rattle.rasn_traits.specs.Additions.{extended};
 ghost use Rattle.per_core.specs.Spellings.{Settings};
 ghost use Rattle.per_read.specs.declared.error.DecodeErrorKind.{DecodeErrorKind};
-ghost use Rattle.per_decoding.specs.Additions.{AddsValue, InOpen, OpensAddition, Waiting};
-ghost use Rattle.per_decoding.specs.Choices.{Choosing, OpensChoice, Stands};
+ghost use Rattle.per_decoding.specs.Additions.{AddsValue, InOpen, OpensAddition, OutsideAddition};
+ghost use Rattle.per_decoding.specs.Choices.{OutsideChoice, OpensChoice, Stands};
 ghost use Rattle.per_decoding.specs.Faults.{IsInBits};
-ghost use Rattle.per_decoding.specs.Scopes.{InScope, Opens, Outside};
+ghost use Rattle.per_decoding.specs.Scopes.{InScope, Opens, OutsideRecord};
 ghost use Rattle.per_decoding.specs.State.{Spells, State};
 
 /// Where a record was opened, a value of its schema is read exactly where its root components and its additions are
 /// read in turn and the record is closed behind them (X.691 19).
 pub fn record_is_what_stands_in_its_scope()
-    ensures { (ps qs : Parts) (marker : Bool) (s i t : State) (w : Outside) (v : Value)
+    ensures { (ps qs : Parts) (marker : Bool) (s i t : State) (w : OutsideRecord) (v : Value)
         → Opens (extended ps marker qs) s w i
         → Spells (extended ps marker qs) s v t ↔ InScope ps qs i w v t }
 {}
@@ -29,26 +29,27 @@ pub fn record_is_what_stands_in_its_scope()
 pub fn record_can_be_opened()
     ensures { (ps qs : Parts) (marker : Bool) (s t : State) (v : Value) (n : ℕ) → s.levels ≡ suc n
         → Spells (extended ps marker qs) s v t
-        → (w : Outside) × (i : State) × Opens (extended ps marker qs) s w i }
+        → (w : OutsideRecord) × (i : State) × Opens (extended ps marker qs) s w i }
 {}
 
 /// Where the open type of an addition was opened, the addition is a value exactly where the value is read of the
 /// contents and they end behind it (X.691 11.2, 19.9).
 pub fn addition_is_what_stands_in_its_open_type()
-    ensures { (c : Schema) (s i t : State) (w : Waiting) (v : Value) → OpensAddition s w i
+    ensures { (c : Schema) (s i t : State) (w : OutsideAddition) (v : Value) → OpensAddition s w i
         → AddsValue c s v t ↔ InOpen c i w v t }
 {}
 
 /// Each addition that is there can be opened (X.691 19.9).
 pub fn addition_can_be_opened()
     ensures { (c : Schema) (s t : State) (v : Value) → AddsValue c s v t
-        → (w : Waiting) × (i : State) × OpensAddition s w i }
+        → (w : OutsideAddition) × (i : State) × OpensAddition s w i }
 {}
 
 /// Where a choice was opened, a value of its schema is read exactly where it is the alternative behind the index, its
 /// value is read there, and the choice is closed behind it (X.691 23).
 pub fn choice_is_what_stands_behind_its_index()
-    ensures { (c a : Schema) (d : Side) (k : ℕ) (s i t : State) (w : Choosing) (v : Value) → OpensChoice c d k s w i
+    ensures { (c a : Schema) (d : Side) (k : ℕ) (s i t : State) (w : OutsideChoice) (v : Value)
+        → OpensChoice c d k s w i
         → alternative_in c d k ≡ Some a → Spells c s v t ↔ Stands a d k i w v t }
 {}
 

@@ -3,5 +3,5 @@
 //! in a scope. A decoder of any making stands on them: it tells of its own state what is here the state.
 #![tactic(auto)]
 
-pub mod items;
+pub mod item_counts;
 pub mod laws;

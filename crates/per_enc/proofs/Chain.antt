@@ -12,8 +12,8 @@ use Rattle.rasn_traits.specs.Presences.{presence_bit}
 use Rattle.rasn_traits.specs.Scopes.{PresentsPart, presents_required, presents_there, presents_left_out, PresentsParts, presents_end, presents_next, refuses_required, refuses_there, refuses_bit, RefusesParts, refuses_here, refuses_behind}
 use Rattle.per_core.specs.Canon.{canon, members, flag, flagged, if_shown, flags_of, bodies_of, shown}
 use Rattle.per_core.specs.Writers.{Writer, ◌▹◌, join, go_on, after, pad}
-use Rattle.per_pieces.specs.Pieces.{Appends, Piece, bit, to_octet, MayBegin, bits_of, bit_count, plain, set_bit, settle, settled}
-use Rattle.per_pieces.proofs.Settling.{bits_of_append, bits_of_plain, plain_append, set_seam, settle_append, settle_plain, settled_then}
+use Rattle.per_pieces.specs.Pieces.{Appends, Piece, bit, to_octet, MayBegin, bits_of, bit_count, plain, set_bit, placed_bits, writer_of}
+use Rattle.per_pieces.proofs.Placed.{bits_of_append, bits_of_plain, plain_append, set_seam, settle_append, settle_plain, settled_then}
 use Rattle.per_write.specs.declared.error.EncodeError.{EncodeError}
 use Rattle.per_write.specs.Faults.{HasPart, part_here, part_behind, RefusesValue}
 use Rattle.per_write.specs.Presences.{Marks, IsUnmarked}
@@ -52,37 +52,37 @@ some_bit q r false e = (out_shown q r e).2
 
 -- the position behind what was written from another on
 abbrev pub end_of : State → ℕ → ℕ
-end_of x p = after p (settle x.pieces.list p)
+end_of x p = after p (placed_bits x.pieces.list p)
 
 -- what was written last, as it was to be written
-pub appended_at : (x y : State) (f : Writer) (h : Appends x.pieces f y.pieces) (p : ℕ) → MayBegin x.pieces p → f (end_of x p) ≡ Some (settle h.behind (end_of x p))
-appended_at x y f h p b = behind_at p x.pieces.list h.behind f (ap (λ (ps : List Piece). settled ps p) (sym h.list) ∙ h.written p b)
+pub appended_at : (x y : State) (f : Writer) (h : Appends x.pieces f y.pieces) (p : ℕ) → MayBegin x.pieces p → f (end_of x p) ≡ Some (placed_bits h.behind (end_of x p))
+appended_at x y f h p b = behind_at p x.pieces.list h.behind f (ap (λ (ps : List Piece). writer_of ps p) (sym h.list) ∙ h.written p b)
 
 -- the first of two writers, behind some pieces
-pub moved : (p : ℕ) (b c : List Piece) (w g : Writer) → w (after p (settle b p)) ≡ Some (settle c (after p (settle b p))) → (settled b ▹ (w ▹ g)) p ≡ (settled (b ++ c) ▹ g) p
-moved p b c w g e = then_assoc (settled b) w g p ∙ ap (λ o. go_on o g p) (ap (join (settle b p)) e ∙ sym (settled_then b c p))
+pub moved : (p : ℕ) (b c : List Piece) (w g : Writer) → w (after p (placed_bits b p)) ≡ Some (placed_bits c (after p (placed_bits b p))) → (writer_of b ▹ (w ▹ g)) p ≡ (writer_of (b ++ c) ▹ g) p
+moved p b c w g e = then_assoc (writer_of b) w g p ∙ ap (λ o. go_on o g p) (ap (join (placed_bits b p)) e ∙ sym (settled_then b c p))
 
-spread : (a : List Piece) (u : Bits) (r : List Piece) (p : ℕ) → settle (a ++ (plain u ++ r)) p ≡ settle a p ++ (u ++ settle r (after (after p (settle a p)) u))
+spread : (a : List Piece) (u : Bits) (r : List Piece) (p : ℕ) → placed_bits (a ++ (plain u ++ r)) p ≡ placed_bits a p ++ (u ++ placed_bits r (after (after p (placed_bits a p)) u))
 spread a u r p =
-    let q = after p (settle a p) in
-    settle_append a (plain u ++ r) p ∙ ap (λ (bs : Bits). settle a p ++ bs) (settle_append (plain u) r q ∙ ap (λ (bs : Bits). bs ++ settle r (after q bs)) (settle_plain u q))
+    let q = after p (placed_bits a p) in
+    settle_append a (plain u ++ r) p ∙ ap (λ (bs : Bits). placed_bits a p ++ bs) (settle_append (plain u) r q ∙ ap (λ (bs : Bits). bs ++ placed_bits r (after q bs)) (settle_plain u q))
 
 -- other bits, as many, move nothing
-pub bits_alike : (a : List Piece) (u v : Bits) (r : List Piece) (p : ℕ) → length u ≡ length v → after p (settle (a ++ (plain u ++ r)) p) ≡ after p (settle (a ++ (plain v ++ r)) p)
+pub bits_alike : (a : List Piece) (u v : Bits) (r : List Piece) (p : ℕ) → length u ≡ length v → after p (placed_bits (a ++ (plain u ++ r)) p) ≡ after p (placed_bits (a ++ (plain v ++ r)) p)
 bits_alike a u v r p e =
-    let q = after p (settle a p) in
-    let c = settle r (after q v) in
+    let q = after p (placed_bits a p) in
+    let c = placed_bits r (after q v) in
     let same : after q u ≡ after q v = ap (λ (n : ℕ). (q + n) % 8) e in
-    ap (after p) (spread a u r p ∙ ap (λ (n : ℕ). settle a p ++ (u ++ settle r n)) same)
-    ∙ ap (λ (n : ℕ). (p + n) % 8) (length-append (settle a p) (u ++ c) ∙ ap (λ (n : ℕ). length (settle a p) + n) (length-append u c ∙ ap (λ (n : ℕ). n + length c) e ∙ sym (length-append v c)) ∙ sym (length-append (settle a p) (v ++ c)))
+    ap (after p) (spread a u r p ∙ ap (λ (n : ℕ). placed_bits a p ++ (u ++ placed_bits r n)) same)
+    ∙ ap (λ (n : ℕ). (p + n) % 8) (length-append (placed_bits a p) (u ++ c) ∙ ap (λ (n : ℕ). length (placed_bits a p) + n) (length-append u c ∙ ap (λ (n : ℕ). n + length c) e ∙ sym (length-append v c)) ∙ sym (length-append (placed_bits a p) (v ++ c)))
     ∙ sym (ap (after p) (spread a v r p))
 
 -- nor does a bit that is set
-settle_set : (ps : List Piece) (i : ℕ) (b : Bool) (p : ℕ) → length (settle (set_bit ps i b) p) ≡ length (settle ps p)
+settle_set : (ps : List Piece) (i : ℕ) (b : Bool) (p : ℕ) → length (placed_bits (set_bit ps i b) p) ≡ length (placed_bits ps p)
 settle_set [] i b p = refl
 settle_set (to_octet ∷ ps) i b p =
     let z = replicate (pad aligned p) false in
-    length-append z (settle (set_bit ps i b) 0) ∙ ap (λ (n : ℕ). length z + n) (settle_set ps i b 0) ∙ sym (length-append z (settle ps 0))
+    length-append z (placed_bits (set_bit ps i b) 0) ∙ ap (λ (n : ℕ). length z + n) (settle_set ps i b 0) ∙ sym (length-append z (placed_bits ps 0))
 settle_set (bit c ∷ ps) zero b p = refl
 settle_set (bit c ∷ ps) (suc i) b p = ap suc (settle_set ps i b (p + 1))
 
@@ -109,7 +109,7 @@ record Step (x m : State) (codec : Codec) (q : Presence) (s : Schema) (r : Optio
   body : List Piece
   is_flagged : (p : ℕ) → flagged q (shown q r) p ≡ Some flags
   count : length flags ≡ has_bit q
-  is_body : (p : ℕ) → MayBegin x.pieces p → if_shown (shown q r) r (canon (variant_of codec) s) (end_of x p) ≡ Some (settle body (end_of x p))
+  is_body : (p : ℕ) → MayBegin x.pieces p → if_shown (shown q r) r (canon (variant_of codec) s) (end_of x p) ≡ Some (placed_bits body (end_of x p))
   steady : m.pieces.placed ≡ x.pieces.placed
   ready : Ready m codec (a ++ plain flags) (b ++ body) n
 
@@ -126,7 +126,7 @@ given {x} {y} {codec} {a} {b} {n} there h m = record {
 
 -- it moves nothing
 same_place : {x y : State} {there : Bool} → Marks x there y → (p : ℕ) → end_of y p ≡ end_of x p
-same_place {x} {y} {there} m p = ap (λ z. after p (settle z.pieces.list p)) m.same ∙ ap (λ (n : ℕ). (p + n) % 8) (settle_set x.pieces.list x.scope.presences.place there p)
+same_place {x} {y} {there} m p = ap (λ z. after p (placed_bits z.pieces.list p)) m.same ∙ ap (λ (n : ℕ). (p + n) % 8) (settle_set x.pieces.list x.scope.presences.place there p)
 
 -- a value that is refused has no encoding
 none_at : {e : EncodeError} {x : State} {codec : Codec} {s : Schema} {v : Value} → x.codec ≡ codec → RefusesValue e x s v → x.failed ≡ false → (p : ℕ) → canon (variant_of codec) s v p ≡ None
@@ -135,7 +135,7 @@ none_at {s = s} {v = v} e h f p = ap (λ c. canon (variant_of c) s v p) (sym e) 
 -- a value is put behind all that was there
 record PutBehind (x y : State) (codec : Codec) (s : Schema) (v : Value) (a b : List Piece) (n : ℕ) : Type 0 where
   body : List Piece
-  is_body : (p : ℕ) → MayBegin x.pieces p → canon (variant_of codec) s v (end_of x p) ≡ Some (settle body (end_of x p))
+  is_body : (p : ℕ) → MayBegin x.pieces p → canon (variant_of codec) s v (end_of x p) ≡ Some (placed_bits body (end_of x p))
   steady : y.pieces.placed ≡ x.pieces.placed
   ready : Ready y codec a (b ++ body) n
 
@@ -177,7 +177,7 @@ step {x} {m} {codec} {q} {s} {r} {a} {b} {n} h (presents_there {m = y} {v = v} e
       body = k.body;
       is_flagged = λ p. rw (i.0, i.1) refl;
       count = sym i.2;
-      is_body = λ p u. rw i.0 (subst (λ (o : ℕ). canon (variant_of codec) s v o ≡ Some (settle k.body o)) (same_place t p) (k.is_body p (λ f. u (sym same ∙ f))));
+      is_body = λ p u. rw i.0 (subst (λ (o : ℕ). canon (variant_of codec) s v o ≡ Some (placed_bits k.body o)) (same_place t p) (k.is_body p (λ f. u (sym same ∙ f))));
       steady = k.steady ∙ same;
       ready = k.ready;
     }
@@ -201,7 +201,7 @@ pub record Laid (x y : State) (codec : Codec) (ps : Parts) (rs : List (Option Va
   pub behind : List Piece
   pub list : y.pieces.list ≡ a ++ behind
   pub steady : y.pieces.placed ≡ x.pieces.placed
-  pub written : (p : ℕ) → MayBegin x.pieces p → settled y.pieces.list p ≡ (settled (a ++ (plain (flags ++ replicate k false) ++ b)) ▹ bodies_of (members (variant_of codec) ps) rs) p
+  pub written : (p : ℕ) → MayBegin x.pieces p → writer_of y.pieces.list p ≡ (writer_of (a ++ (plain (flags ++ replicate k false) ++ b)) ▹ bodies_of (members (variant_of codec) ps) rs) p
   pub left : y.scope.presences.left ≡ k
   pub unfailed : y.failed ≡ false
   pub same : y.codec ≡ codec
@@ -227,7 +227,7 @@ laid no_parts x y codec rs a b k h presents_end =
       behind = plain (replicate k false) ++ b;
       list = r.list;
       steady = refl;
-      written = λ p u. ap (λ (qs : List Piece). settled qs p) r.list ∙ sym (then_nothing (settled (a ++ (plain (replicate k false) ++ b))) p);
+      written = λ p u. ap (λ (qs : List Piece). writer_of qs p) r.list ∙ sym (then_nothing (writer_of (a ++ (plain (replicate k false) ++ b))) p);
       left = r.left;
       unfailed = r.unfailed;
       same = r.same;
@@ -242,8 +242,8 @@ laid (part t q s ps) x y codec (r ∷ rs) a b k h (presents_next {m = m} c d) =
     let all = a ++ (plain ((i.flags ++ l.flags) ++ z) ++ b) in
     let as_long : length ((i.flags ++ l.flags) ++ z) ≡ length (replicate total false) =
     omega (arith, length-append (i.flags ++ l.flags) z, length-append i.flags l.flags, length-replicate k false, length-replicate total false, i.count, l.count) in
-    let same_end : (p : ℕ) → after p (settle all p) ≡ end_of x p =
-    λ p. bits_alike a ((i.flags ++ l.flags) ++ z) (replicate total false) b p as_long ∙ ap (λ (qs : List Piece). after p (settle qs p)) (sym h.list) in
+    let same_end : (p : ℕ) → after p (placed_bits all p) ≡ end_of x p =
+    λ p. bits_alike a ((i.flags ++ l.flags) ++ z) (replicate total false) b p as_long ∙ ap (λ (qs : List Piece). after p (placed_bits qs p)) (sym h.list) in
     record {
       flags = i.flags ++ l.flags;
       are_flags = λ p. ap (λ o. go_on o (flags_of (members (variant_of codec) ps) rs) p) (i.is_flagged p) ∙ ap (join i.flags) (l.are_flags (after p i.flags));
@@ -251,8 +251,8 @@ laid (part t q s ps) x y codec (r ∷ rs) a b k h (presents_next {m = m} c d) =
       behind = plain i.flags ++ l.behind;
       list = l.list ∙ append_assoc a (plain i.flags) l.behind;
       steady = l.steady ∙ i.steady;
-      written = λ p u. l.written p (λ f. u (sym i.steady ∙ f)) ∙ ap (λ (qs : List Piece). (settled qs ▹ bodies) p) (sym (regrouped a i.flags l.flags z b i.body))
-          ∙ sym (moved p all i.body one bodies (subst (λ (o : ℕ). one o ≡ Some (settle i.body o)) (sym (same_end p)) (i.is_body p u)));
+      written = λ p u. l.written p (λ f. u (sym i.steady ∙ f)) ∙ ap (λ (qs : List Piece). (writer_of qs ▹ bodies) p) (sym (regrouped a i.flags l.flags z b i.body))
+          ∙ sym (moved p all i.body one bodies (subst (λ (o : ℕ). one o ≡ Some (placed_bits i.body o)) (sym (same_end p)) (i.is_body p u)));
       left = l.left;
       unfailed = l.unfailed;
       same = l.same;

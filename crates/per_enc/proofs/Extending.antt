@@ -18,7 +18,7 @@ use Rattle.per_write.specs.Rules.{encoder_rules}
 use Rattle.per_write.specs.State.{Additions, State}
 use Rattle.per_write.proofs.Gathering.{Gathers, gathers_none, gathers_absent, gathers_there}
 use Rattle.per_pieces.proofs.Writing.{none_behind}
-use Rattle.per_enc.specs.Opens.{part_count}
+use Rattle.per_enc.specs.Records.{part_count}
 
 inside : {A : Type 0} {s t : A} → Some s ≡ Some t → s ≡ t
 inside e = cc

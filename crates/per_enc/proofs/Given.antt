@@ -14,14 +14,14 @@ use Rattle.rasn_schema.specs.Records.{record_at}
 use Rattle.rasn_schema.specs.Schemas.{listed, Schema, Parts, no_parts, part, required, optional, group, default}
 use Rattle.rasn_traits.specs.Additions.{AdditionClosed, AdditionOpened, AdditionSkipped, extended}
 use Rattle.per_core.specs.Canon.{canon}
-use Rattle.per_pieces.specs.Pieces.{Pieces, settle as settle_pieces}
+use Rattle.per_pieces.specs.Pieces.{Pieces, placed_bits}
 use Rattle.per_write.specs.declared.error.EncodeError.{EncodeError}
 use Rattle.per_write.specs.declared.presences.Presences.{Presences}
-use Rattle.per_write.specs.Additions.{ClosesOrNot, has_required, is_group_there, open_if, Opens, OpensOrNot, Outside, SkipsOrNot, with_next}
+use Rattle.per_write.specs.Additions.{ClosesOrNot, has_required, is_group_there, open_if, Opens, OpensOrNot, OutsideAddition, SkipsOrNot, with_next}
 use Rattle.per_write.specs.Rules.{encoder_rules}
 use Rattle.per_write.specs.State.{Additions, AppendsBits, Scope, State, Presents}
 use Rattle.per_write.proofs.Vacant.{group_there}
-use Rattle.per_enc.specs.Opens.{part_count}
+use Rattle.per_enc.specs.Records.{part_count}
 use Rattle.per_enc.proofs.Presenting.{presents_first}
 
 inside : {A : Type 0} {s t : A} → Some s ≡ Some t → s ≡ t
@@ -31,16 +31,16 @@ pub skipped : (x y : State) (result : Result (Unit {0}) EncodeError) → SkipsOr
 skipped x y (Ok u) h = h.ok
 skipped x y (Err e) h = elim h.err [ inl m ↦ inl m | inr s ↦ inr (inl s) ]
 
-pub opened : (x y : State) (result : Result Outside EncodeError) → OpensOrNot x result y → AdditionOpened encoder_rules Opens x result y
+pub opened : (x y : State) (result : Result OutsideAddition EncodeError) → OpensOrNot x result y → AdditionOpened encoder_rules Opens x result y
 opened x y (Ok o) h = (h.ok, record { outside = o; opened = h.ok })
 opened x y (Err e) h = elim h.err [ inl m ↦ inl m | inr s ↦ inr (inl s) ]
 
 -- what was written inside an open type is the value's canonical bits
-contents_of : (x i j : State) (o : Outside) (s : Schema) (v : Value) → Opens x o i → Presents i s v j → canon (variant_of x.codec) s v 0 ≡ Some (settle_pieces j.pieces.list 0)
+contents_of : (x i j : State) (o : OutsideAddition) (s : Schema) (v : Value) → Opens x o i → Presents i s v j → canon (variant_of x.codec) s v 0 ≡ Some (placed_bits j.pieces.list 0)
 contents_of x i j o s v h w = ap (λ (c : Codec). canon (variant_of c) s v 0) (sym (ap (λ z. z.codec) h.same)) ∙ sym (presents_first i j s v (ap (λ z. z.pieces) h.same) w)
 
 -- what was before is there again, but for the additions
-restored : (x i j y : State) (o : Outside) (s : Schema) (v : Value) (k : Additions) → Opens x o i → Presents i s v j → y ≡ record j { pieces = o.pieces; scope = record { presences = o.presences; additions = Some k; is_open = j.scope.is_open } } →
+restored : (x i j y : State) (o : OutsideAddition) (s : Schema) (v : Value) (k : Additions) → Opens x o i → Presents i s v j → y ≡ record j { pieces = o.pieces; scope = record { presences = o.presences; additions = Some k; is_open = j.scope.is_open } } →
     y ≡ record x { scope = record x.scope { additions = Some k } }
 restored x i j y o s v k h w e =
     let codec : j.codec ≡ x.codec = w.same ∙ ap (λ z. z.codec) h.same in
@@ -53,14 +53,14 @@ restored x i j y o s v k h w e =
     ∙ ap (λ (b : Bool). record x { scope = record { presences = x.scope.presences; additions = Some k; is_open = b } }) open_still
 
 -- the value of an addition
-pub closed : (x i j y : State) (o : Outside) (s : Schema) (v : Value) (result : Result (Unit {0}) EncodeError) → Opens x o i → Presents i s v j → ClosesOrNot true o j result y → AdditionClosed encoder_rules s (Some v) x result y
+pub closed : (x i j y : State) (o : OutsideAddition) (s : Schema) (v : Value) (result : Result (Unit {0}) EncodeError) → Opens x o i → Presents i s v j → ClosesOrNot true o j result y → AdditionClosed encoder_rules s (Some v) x result y
 closed x i j y o s v (Ok u) h w c = record {
   before = o.additions;
   awaits = h.awaits;
-  contents = settle_pieces j.pieces.list 0;
+  contents = placed_bits j.pieces.list 0;
   complete = contents_of x i j o s v h w;
   opens = c.ok.opens;
-  appended = subst (λ (e : Codec). AppendsBits o.additions.opens (open_if (variant_of e) true (settle_pieces j.pieces.list 0)) c.ok.opens) codec c.ok.appended;
+  appended = subst (λ (e : Codec). AppendsBits o.additions.opens (open_if (variant_of e) true (placed_bits j.pieces.list 0)) c.ok.opens) codec c.ok.appended;
   same = restored x i j y o s v (with_next o.additions true c.ok.opens) h w c.ok.same;
 }
   where
@@ -74,7 +74,7 @@ unfolding canon is_vacant
 shown_group a ps marker qs (fields r x) written e = group_there a marker ps qs (slots r) (slots x) 0 written e
 shown_group a ps marker qs _ written e = absurd cc
 
-left_out : (x i j y : State) (o : Outside) (s : Schema) (v : Value) (result : Result (Unit {0}) EncodeError) → Opens x o i → Presents i s v j → ClosesOrNot false o j result y → AdditionClosed encoder_rules s None x result y
+left_out : (x i j y : State) (o : OutsideAddition) (s : Schema) (v : Value) (result : Result (Unit {0}) EncodeError) → Opens x o i → Presents i s v j → ClosesOrNot false o j result y → AdditionClosed encoder_rules s None x result y
 left_out x i j y o s v (Ok u) h w c =
     let opens : c.ok.opens ≡ o.additions.opens = inside c.ok.appended ∙ append-nil o.additions.opens in
     record {
@@ -85,13 +85,13 @@ left_out x i j y o s v (Ok u) h w c =
 left_out x i j y o s v (Err e) h w c = record { kind_is = c.err.kind_is; codec_is = c.err.codec_is ∙ w.same ∙ ap (λ z. z.codec) h.same }
 
 -- a group
-pub group_closed : (ps : Parts) (marker : Bool) (qs : Parts) (x i j y : State) (o : Outside) (v : Value) (has : Bool) (result : Result (Unit {0}) EncodeError) → has ≡ has_required ps → Opens x o i → Presents i (extended ps marker qs) v j →
-    ClosesOrNot (is_group_there has (settle_pieces j.pieces.list 0)) o j result y → AdditionClosed encoder_rules (extended ps marker qs) (settle group (extended ps marker qs) v) x result y
+pub group_closed : (ps : Parts) (marker : Bool) (qs : Parts) (x i j y : State) (o : OutsideAddition) (v : Value) (has : Bool) (result : Result (Unit {0}) EncodeError) → has ≡ has_required ps → Opens x o i → Presents i (extended ps marker qs) v j →
+    ClosesOrNot (is_group_there has (placed_bits j.pieces.list 0)) o j result y → AdditionClosed encoder_rules (extended ps marker qs) (settle group (extended ps marker qs) v) x result y
 unfolding settle
 group_closed ps marker qs x i j y o v has result e h w c = go (is_vacant (extended ps marker qs) v) refl
   where
-    there : is_group_there has (settle_pieces j.pieces.list 0) ≡ not (is_vacant (extended ps marker qs) v)
-    there = ap (λ (b : Bool). is_group_there b (settle_pieces j.pieces.list 0)) e ∙ shown_group (variant_of x.codec) ps marker qs v (settle_pieces j.pieces.list 0) (contents_of x i j o (extended ps marker qs) v h w)
+    there : is_group_there has (placed_bits j.pieces.list 0) ≡ not (is_vacant (extended ps marker qs) v)
+    there = ap (λ (b : Bool). is_group_there b (placed_bits j.pieces.list 0)) e ∙ shown_group (variant_of x.codec) ps marker qs v (placed_bits j.pieces.list 0) (contents_of x i j o (extended ps marker qs) v h w)
 
     go : (b : Bool) → is_vacant (extended ps marker qs) v ≡ b → AdditionClosed encoder_rules (extended ps marker qs) (settle group (extended ps marker qs) v) x result y
     go false n = rw n (closed x i j y o (extended ps marker qs) v result h w (subst (λ (b : Bool). ClosesOrNot b o j result y) (there ∙ ap not n) c))
@@ -100,11 +100,11 @@ group_closed ps marker qs x i j y o v has result e h w c = go (is_vacant (extend
 -- nothing was written where a tree is cut off
 none_cut : (i j : State) (v : Value) → Presents i Schema.cut v j → ⊥
 unfolding canon
-none_cut i j v w = let n : Some (settle_pieces j.pieces.list 0) ≡ None = w.appended.written 0 (λ t. refl) in absurd cc
+none_cut i j v w = let n : Some (placed_bits j.pieces.list 0) ≡ None = w.appended.written 0 (λ t. refl) in absurd cc
 
 -- the same by the group's own family of trees
-pub family_closed : (parts : ℕ → Parts) (marker : Bool) (additions : ℕ → Parts) (schema : ℕ → Schema) → schema ≡ record_at listed parts marker additions → (x i j y : State) (o : Outside) (n : ℕ) (v : Value) (has : Bool)
-    (result : Result (Unit {0}) EncodeError) → ((m : ℕ) → has ≡ has_required (parts m)) → Opens x o i → Presents i (schema n) v j → ClosesOrNot (is_group_there has (settle_pieces j.pieces.list 0)) o j result y
+pub family_closed : (parts : ℕ → Parts) (marker : Bool) (additions : ℕ → Parts) (schema : ℕ → Schema) → schema ≡ record_at listed parts marker additions → (x i j y : State) (o : OutsideAddition) (n : ℕ) (v : Value) (has : Bool)
+    (result : Result (Unit {0}) EncodeError) → ((m : ℕ) → has ≡ has_required (parts m)) → Opens x o i → Presents i (schema n) v j → ClosesOrNot (is_group_there has (placed_bits j.pieces.list 0)) o j result y
     → AdditionClosed encoder_rules (schema n) (settle group (schema n) v) x result y
 family_closed parts marker additions schema e x i j y o n v has result q h w c = rw e (at_each n (rw e at w))
   where

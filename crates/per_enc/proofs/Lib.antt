@@ -1,4 +1,4 @@
-pub mod Alternatives
+pub mod Choices
 pub mod Bags
 pub mod Chain
 pub mod Extending

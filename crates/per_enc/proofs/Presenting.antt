@@ -11,17 +11,17 @@ use Rattle.rasn_constraints.specs.Constraints.{bounds_in, is_marked}
 use Rattle.rasn_constraints.specs.declared.constraints.Bounded.{Bounded}
 use Rattle.rasn_constraints.specs.declared.constraints.Extensible.{Extensible}
 use Rattle.rasn_schema.specs.Schemas.{Schema}
-use Rattle.rasn_traits.specs.Calls.{Behaves, Written, Writes, freely}
+use Rattle.rasn_traits.specs.Calls.{Behaves, Written, Writes, without_memory}
 use Rattle.per_core.specs.Counts.{number_form, number_under, unconstrained_octets}
 use Rattle.per_core.specs.Writers.{Writer, join, just, written_if, ◌▹◌}
 use Rattle.per_core.specs.Canon.{canon}
-use Rattle.per_pieces.specs.Pieces.{Pieces, no_pieces, settled}
-use Rattle.per_pieces.proofs.Settling.{appends_none}
+use Rattle.per_pieces.specs.Pieces.{Pieces, no_pieces, writer_of}
+use Rattle.per_pieces.proofs.Placed.{appends_none}
 use Rattle.per_write.specs.declared.error.EncodeError.{EncodeError}
 use Rattle.per_write.specs.Faults.{IsMemory, IsAlready, RefusesValue, Stands}
 use Rattle.per_write.specs.Numbers.{unconstrained_whole}
 use Rattle.per_write.specs.Rules.{encoder_rules}
-use Rattle.per_write.specs.State.{State, Wrote, Puts, Presents, view}
+use Rattle.per_write.specs.State.{State, StateAppends, Puts, Presents, view}
 
 -- how a call behaves that an unfailed encoder makes
 pub behaves : (x y : State) (result : Result (Unit {0}) EncodeError) → x.failed ≡ false → OnErr result (y.failed ≡ true) → y.codec ≡ x.codec →
@@ -29,7 +29,7 @@ pub behaves : (x y : State) (result : Result (Unit {0}) EncodeError) → x.faile
 behaves x y result f e k = record { again = λ h. absurd cc; fails = e; kept = k }
 
 written : (x y : State) (w : Writer) (s : Schema) (v : Value) (result : Result (Unit {0}) EncodeError) → w ≡ canon (variant_of x.codec) s v → Puts IsMemory w x result y → Written encoder_rules s v x result y
-written x y w s v (Ok u) c p = subst (λ (g : Writer). Wrote x g y) c p.ok
+written x y w s v (Ok u) c p = subst (λ (g : Writer). StateAppends x g y) c p.ok
 written x y w s v (Err e) c p = inl p.err
 
 -- a call that put a value's canonical bits, or found no memory
@@ -94,18 +94,18 @@ presents_null x f = record { begun = f; left = f; same = refl; beside = refl; ap
 
 -- X.691 18: a NULL, where the encoder had not been refused
 null_written : (x : State) (result : Result (Unit {0}) EncodeError) → OnOk result (x.failed ≡ false) → IfErr result (λ e. IsAlready e x) → OnErr result (x.failed ≡ true) →
-    Written (freely encoder_rules) Schema.null nothing x result x
+    Written (without_memory encoder_rules) Schema.null nothing x result x
 null_written x (Ok u) h k f = presents_null x h
 null_written x (Err e) h k f = inr (refuses_again e x Schema.null nothing k f)
 
 pub null_law : (x : State) (result : Result (Unit {0}) EncodeError) → OnOk result (x.failed ≡ false) → IfErr result (λ e. IsAlready e x) → OnErr result (x.failed ≡ true) →
-    Writes (freely encoder_rules) Schema.null nothing x result x
+    Writes (without_memory encoder_rules) Schema.null nothing x result x
 null_law x result h k f = record { law = null_written x result h k f; behaves = search rules }
 
 -- the first value of an encoder stands alone
 pub presents_first : (x y : State) (s : Schema) (v : Value) → x.pieces ≡ no_pieces → Presents x s v y → view y 0 ≡ canon (variant_of x.codec) s v 0
 presents_first x y s v e h =
-    h.appended.written 0 (λ t. refl) ∙ ap (λ (z : Pieces). (settled z.list ▹ canon (variant_of x.codec) s v) 0) e ∙ alone (canon (variant_of x.codec) s v 0)
+    h.appended.written 0 (λ t. refl) ∙ ap (λ (z : Pieces). (writer_of z.list ▹ canon (variant_of x.codec) s v) 0) e ∙ alone (canon (variant_of x.codec) s v 0)
   where
     alone : (o : Option Bits) → join [] o ≡ o
     alone None = refl

@@ -15,8 +15,8 @@ use Rattle.rasn_schema.specs.Schemas.{Schema, Parts, no_parts}
 use Rattle.rasn_traits.specs.Scopes.{PresentsParts, PresentsFields, presents_fields, RefusesFields, refuses_root, refuses_behind_root, Passes, OpenedToWrite}
 use Rattle.per_core.specs.Canon.{canon, members, any_set, bitmap, bitmap_of, extension_bit, flags_of, bodies_of, opens_of, with_additions, record_of as record_writer}
 use Rattle.per_core.specs.Writers.{Writer, just, ◌▹◌, join, go_on, after}
-use Rattle.per_pieces.specs.Pieces.{Piece, bit, Pieces, MayBegin, bit_count, plain, set_bit, settle, settled}
-use Rattle.per_pieces.proofs.Settling.{set_seam, settle_plain}
+use Rattle.per_pieces.specs.Pieces.{Piece, bit, Pieces, MayBegin, bit_count, plain, set_bit, placed_bits, writer_of}
+use Rattle.per_pieces.proofs.Placed.{set_seam, settle_plain}
 use Rattle.per_write.specs.declared.error.EncodeError.{EncodeError}
 use Rattle.per_write.specs.declared.error.EncodeErrorKind.{EncodeErrorKind}
 use Rattle.per_write.specs.declared.error.EncodeErrorKind.TheVariants.{SizeConstraintNotSatisfied, ValueConstraintNotSatisfied, AlphabetConstraintNotSatisfied, IntegerTypeConversionFailed, VariantNotInChoice, RealNotSupported, TooManyAdditions, Below, AlreadyFailed, OutOfMemory, OutOfTurn}
@@ -24,7 +24,7 @@ use Rattle.per_write.specs.Faults.{HasPart, in_addition, in_part, IsError, IsMem
 use Rattle.per_write.specs.Records.{AreGiven, ClosedBehind, ExtendedBehind, IsUngiven, ClosesOrNot, OpensOrNot, Opens as OpensRecord, to_be_given}
 use Rattle.per_write.specs.Rules.{encoder_rules}
 use Rattle.per_write.specs.State.{Additions, Scope, State, Presents}
-use Rattle.per_enc.specs.Opens.{behind_marker, Opens, part_count}
+use Rattle.per_enc.specs.Records.{behind_marker, Opens, part_count}
 use Rattle.per_enc.proofs.Chain.{Laid, Ready, end_of, laid, moved, parts_keep, refused_part}
 use Rattle.per_enc.proofs.Extending.{GivenAll, Gathering, given_all, given_none, refused_addition}
 use Rattle.per_write.proofs.Gathering.{AppendsAt, closed_form}
@@ -168,8 +168,8 @@ root_laid {y = y} {codec} {ps} {rs} {front} e l p u =
     let bodies = bodies_of (members (variant_of codec) ps) rs in
     let alone : front ++ (plain (l.flags ++ []) ++ []) ≡ front ++ plain l.flags = ap (λ (qs : List Piece). front ++ qs) (append-nil (plain (l.flags ++ [])) ∙ ap plain (append-nil l.flags)) in
     subst (λ (a : Variant). AppendsAt p front (flags_of (members a ps) rs ▹ bodies_of (members a ps) rs) y.pieces.list) e
-    (l.written p u ∙ ap (λ (qs : List Piece). (settled qs ▹ bodies) p) alone
-    ∙ sym (moved p front (plain l.flags) flags bodies (l.are_flags (after p (settle front p)) ∙ ap Some (sym (settle_plain l.flags (after p (settle front p)))))))
+    (l.written p u ∙ ap (λ (qs : List Piece). (writer_of qs ▹ bodies) p) alone
+    ∙ sym (moved p front (plain l.flags) flags bodies (l.are_flags (after p (placed_bits front p)) ∙ ap Some (sym (settle_plain l.flags (after p (placed_bits front p)))))))
 
 -- what was written behind the pieces from before
 presents_appended : (x z : State) (s : Schema) (v : Value) (behind : List Piece) → x.failed ≡ false → z.failed ≡ false → z.codec ≡ x.codec → z.scope ≡ x.scope → z.pieces.list ≡ x.pieces.list ++ behind → z.pieces.placed ≡ x.pieces.placed →
@@ -185,8 +185,8 @@ presents_plain : (x i j z : State) (ps : Parts) (rs : List (Option Value)) → x
     → Presents x (extended ps false no_parts) (record_value rs []) z
 presents_plain x i j z ps rs f m l e g d u =
     presents_appended x z (extended ps false no_parts) (record_value rs []) l.behind f g d u (ap (λ q. q.list) e ∙ l.list) (ap (λ q. q.placed) e ∙ l.steady ∙ m)
-    (λ p b. ap (λ q. settled q.list p) e ∙ root_laid refl l p (λ t. b (sym m ∙ t))
-    ∙ ap (join (settle x.pieces.list p)) (all (end_of x p) (let n : (p + length (settle x.pieces.list p)) % 8 < 8 = omega arith in n)))
+    (λ p b. ap (λ q. writer_of q.list p) e ∙ root_laid refl l p (λ t. b (sym m ∙ t))
+    ∙ ap (join (placed_bits x.pieces.list p)) (all (end_of x p) (let n : (p + length (placed_bits x.pieces.list p)) % 8 < 8 = omega arith in n)))
   where
     root : Writer
     root = flags_of (members (variant_of x.codec) ps) rs ▹ bodies_of (members (variant_of x.codec) ps) rs
@@ -236,7 +236,7 @@ closes_extended ps qs x i m j y rs xs o (Ok u) h k b c =
     let all = extended_behind a g.kept (any_set g.kept.flags) front l.behind m.pieces y.pieces g.gathers.extension l.list closed in
     presents_appended x y (extended ps true qs) (record_value rs xs) all.0 h.begun (ap (λ z. z.failed) s ∙ g.gathering.unfailed) (ap (λ z. z.codec) s ∙ g.gathering.same) (ap (λ z. z.scope) s ∙ h.waits) all.1 (all.2 ∙ place)
     (λ p e. closed_form p a (members a qs) xs front l.behind m.pieces y.pieces (part_count qs) g.kept inner (λ t. e (sym place ∙ t)) g.gathers l.list (root_laid refl l p (λ t. e (sym (opened_place ps true qs h) ∙ t))) closed
-    ∙ ap (join (settle front p)) (record_form a ps true qs rs xs (end_of x p)))
+    ∙ ap (join (placed_bits front p)) (record_form a ps true qs rs xs (end_of x p)))
 closes_extended ps qs x i m j y rs xs o (Err d) h k b c = refused c.err
   where
     l : Laid i m x.codec ps rs (x.pieces.list ++ bit false ∷ []) [] 0

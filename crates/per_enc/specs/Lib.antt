@@ -1,5 +1,3 @@
 pub mod Choices
+pub mod Records
 pub mod Laws
-pub mod Opens
-pub mod SetLaws
-pub mod Vacant

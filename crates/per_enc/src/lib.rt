@@ -5,7 +5,7 @@ ghost use Rattle.std.specs.Prelude.{◌≡◌, [], true, false, Some, OnOk, OnEr
 ghost use Rattle.rasn_types.specs.declared.types.Codec.TheVariants.{Aper, Uper};
 ghost use Rattle.per_core.specs.Canon.{completed};
 ghost use Rattle.per_enc.specs.Choices.{counted_variants};
-ghost use Rattle.per_enc.specs.Opens.{counted_behind};
+ghost use Rattle.per_enc.specs.Records.{counted_behind};
 ghost use Rattle.per_pieces.specs.Pieces.{no_pieces};
 ghost use Rattle.per_write.specs.Faults.{RefusesOutput};
 ghost use Rattle.per_write.specs.Rules.{encoder_rules};
@@ -14,14 +14,14 @@ ghost use Rattle.per_write.specs.State.{fresh, view};
 use per_bits::BitList;
 pub use per_write::error;
 pub use per_write::error::{EncodeError, EncodeError as Error, EncodeErrorKind};
-use per_write::{Outside, Scope, Writer};
-use per_write_types::alternatives::{OpenChoice, close_alternative, known_place, open_alternative};
+use per_write::lists::{UnwrittenElements, close_list, next_element, open_list};
+use per_write::{OutsideAddition, Scope, Writer};
 use per_write_types::bags::OpenBag;
+use per_write_types::choices::{OutsideChoice, checked_place, close_choice, open_choice};
 use per_write_types::dates::put_date;
 use per_write_types::enumerated::put_enumerated;
 use per_write_types::identifiers::put_object_identifier;
 use per_write_types::integers::put_integer;
-use per_write_types::lists::{OpenList, close_list, next_element, open_list};
 use per_write_types::times::{put_generalized_time, put_utc_time};
 use rasn_schema::choices::Choice;
 use rasn_schema::enumerated::Enumerated;
@@ -149,23 +149,23 @@ impl<A: Allocator + Clone> Encoder<A> {
 }
 
 impl<A: Allocator + Clone> encoder::Encoder for Encoder<A> {
-    ghost use Rattle.per_enc.specs.Laws.{presents_well};
+    ghost use Rattle.per_enc.specs.Laws.Relations.{presents_well};
     ghost use Rattle.per_enc.specs.Choices.{OpensChoice};
-    ghost use Rattle.per_enc.specs.Opens.{Opens};
-    ghost use Rattle.per_enc.specs.SetLaws.{sets_written};
-    ghost use Rattle.per_write_types.specs.Bags.{AmidBag};
+    ghost use Rattle.per_enc.specs.Records.{Opens};
+    ghost use Rattle.per_enc.specs.Laws.Sets.{sets_written};
+    ghost use Rattle.per_write_types.specs.Bags.{IsOpenBag};
     ghost use Rattle.per_write.specs.Additions.{Opens as OpensOpenType};
-    ghost use Rattle.per_write_types.specs.Lists.{AmidList};
+    ghost use Rattle.per_write.specs.Lists.{IsOpenList};
 
     type Error = EncodeError;
 
     type Scope = Scope<A>;
 
-    type Addition = Outside<A>;
+    type Addition = OutsideAddition<A>;
 
-    type Alternative = OpenChoice<A>;
+    type Alternative = OutsideChoice<A>;
 
-    type List = OpenList;
+    type List = UnwrittenElements;
 
     type Bag = OpenBag<A>;
 
@@ -177,9 +177,9 @@ impl<A: Allocator + Clone> encoder::Encoder for Encoder<A> {
 
     ghost opens_choice = { OpensChoice };
 
-    ghost amid = { AmidList };
+    ghost amid = { IsOpenList };
 
-    ghost amid_bag = { AmidBag };
+    ghost amid_bag = { IsOpenBag };
 
     fn codec(&self) -> Codec {
         Encoder::codec(self)
@@ -402,22 +402,22 @@ impl<A: Allocator + Clone> encoder::Encoder for Encoder<A> {
         &mut self,
         _tag: Tag,
         _identifier: Identifier,
-    ) -> Result<OpenChoice<A>, EncodeError> {
+    ) -> Result<OutsideChoice<A>, EncodeError> {
         self.writer.check_unfailed()?;
-        open_alternative(&mut self.writer, C::VARIANTS.len(), added_count::<C>())
+        open_choice(&mut self.writer, C::VARIANTS.len(), added_count::<C>())
     }
 
     fn close_choice<C: Choice>(
         &mut self,
-        outside: OpenChoice<A>,
+        outside: OutsideChoice<A>,
         chosen: Tag,
     ) -> Result<(), EncodeError> {
         self.writer.check_unfailed()?;
         let variants = C::VARIANTS;
         let added = C::EXTENDED_VARIANTS;
         let found = variants.place_of(&added, chosen);
-        let place = known_place(&mut self.writer, found)?;
-        close_alternative(&mut self.writer, variants.len(), place, outside)
+        let place = checked_place(&mut self.writer, found)?;
+        close_choice(&mut self.writer, variants.len(), place, outside)
     }
 
     #[inline(always)]
@@ -431,17 +431,20 @@ impl<A: Allocator + Clone> encoder::Encoder for Encoder<A> {
         self.writer.skip_addition()
     }
 
-    fn open_addition(&mut self) -> Result<Outside<A>, EncodeError> {
+    fn open_addition(&mut self) -> Result<OutsideAddition<A>, EncodeError> {
         self.writer.check_unfailed()?;
         self.writer.open_addition()
     }
 
-    fn close_addition(&mut self, addition: Outside<A>) -> Result<(), EncodeError> {
+    fn close_addition(&mut self, addition: OutsideAddition<A>) -> Result<(), EncodeError> {
         self.writer.check_unfailed()?;
         self.writer.close_addition(addition)
     }
 
-    fn close_group<C: AdditionGroup>(&mut self, addition: Outside<A>) -> Result<(), EncodeError> {
+    fn close_group<C: AdditionGroup>(
+        &mut self,
+        addition: OutsideAddition<A>,
+    ) -> Result<(), EncodeError> {
         self.writer.check_unfailed()?;
         let fields = C::FIELDS;
         let has_required = fields.number_of_optional_and_default_fields() < fields.len();
@@ -454,17 +457,17 @@ impl<A: Allocator + Clone> encoder::Encoder for Encoder<A> {
         constraints: &Constraints,
         count: usize,
         _identifier: Identifier,
-    ) -> Result<OpenList, EncodeError> {
+    ) -> Result<UnwrittenElements, EncodeError> {
         self.writer.check_unfailed()?;
         open_list(&mut self.writer, constraints, count)
     }
 
-    fn next_element(&mut self, list: &mut OpenList) -> Result<(), EncodeError> {
+    fn next_element(&mut self, list: &mut UnwrittenElements) -> Result<(), EncodeError> {
         self.writer.check_unfailed()?;
         next_element(&mut self.writer, list)
     }
 
-    fn close_list(&mut self, list: OpenList) -> Result<(), EncodeError> {
+    fn close_list(&mut self, list: UnwrittenElements) -> Result<(), EncodeError> {
         self.writer.check_unfailed()?;
         close_list(&mut self.writer, list)
     }

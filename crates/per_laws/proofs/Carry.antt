@@ -3,11 +3,11 @@ use Rattle.std.proofs.Common.{◌≡◌, refl, ap, subst, ℕ, zero, suc, ◌+�
 use Rattle.rasn_types.specs.Bits.{Bits}
 use Rattle.rasn_types.specs.Values.{Value}
 use Rattle.rasn_constraints.specs.Bounds.{allows, Size, any_size}
-use Rattle.per_core.specs.Basic.{OneByOne, IsConstrainedWhole, LastCount, Fragment, InFragments, UnconstrainedLength, PaddingIf, length_form, Sized, Lengthy, Fills, Open, Rule, FlagOf, Flags, IsLeftOut, Holds, Body, Bodies, Root, Unknown, OpenOf, Additions, Fields}
-use Rattle.per_core.specs.Counts.{Counted, is_aligned}
+use Rattle.per_core.specs.Basic.{OneByOne, IsConstrainedWhole, LastCount, Fragment, InFragments, UnconstrainedLength, PaddingIf, length_form, Sized, Counted, Fills, Open, Rule, FlagOf, Flags, IsLeftOut, Holds, Body, Bodies, Root, Unknown, OpenOf, Additions, Record}
+use Rattle.per_core.specs.Counts.{ItemKind, is_aligned}
 use Rattle.per_core.specs.Spellings.{Settings, Spelling, Then, Either, When, AnyPadding}
 use Rattle.per_core.specs.Writers.{after}
-use Rattle.per_core.proofs.Lengths.{Zip}
+use Rattle.per_core.proofs.LengthForms.{Zip}
 use Rattle.per_core.proofs.Records.{SlotRel, Along}
 
 pub record Carry (f g : Spelling) : Type 0 where
@@ -77,7 +77,7 @@ module _ {X Y : Type 0} (R : X → Y → Type 0) (f : X → Spelling) (g : Y →
   unsized_carry : (a : Settings) (xs : List X) (ys : List Y) → Zip R xs ys → Carry (UnconstrainedLength a f xs) (UnconstrainedLength a g ys)
   unsized_carry a xs ys z = record { carry = λ p b x. record { fragments = x.fragments; spelled = (fragments_carry a x.fragments xs ys z).carry p b x.spelled } }
 
-  form_carry : (a : Settings) (l u : Option ℕ) (kind : Counted) (xs : List X) (ys : List Y) → Zip R xs ys → Carry (length_form a l u kind f xs) (length_form a l u kind g ys)
+  form_carry : (a : Settings) (l u : Option ℕ) (kind : ItemKind) (xs : List X) (ys : List Y) → Zip R xs ys → Carry (length_form a l u kind f xs) (length_form a l u kind g ys)
   form_carry a None u kind xs ys z = unsized_carry a xs ys z
   form_carry a (Some lb) None kind xs ys z = unsized_carry a xs ys z
   form_carry a (Some lb) (Some ub) kind xs ys z = choose (ltb ub 65536)
@@ -93,10 +93,10 @@ module _ {X Y : Type 0} (R : X → Y → Type 0) (f : X → Spelling) (g : Y →
       choose true = bounded_row
       choose false = unsized_carry a xs ys z
 
-  sized_carry : (a : Settings) (size : Size) (kind : Counted) (xs : List X) (ys : List Y) → Zip R xs ys → Carry (Sized a size kind f xs) (Sized a size kind g ys)
+  sized_carry : (a : Settings) (size : Size) (kind : ItemKind) (xs : List X) (ys : List Y) → Zip R xs ys → Carry (Sized a size kind f xs) (Sized a size kind g ys)
   sized_carry a size kind xs ys z = record { carry = λ p b x. record { allowed = subst (λ n. allows size n ≡ true) (zip-length xs ys z) x.allowed; spelled = (form_carry a size.least size.most kind xs ys z).carry p b x.spelled } }
 
-  pub lengthy_carry : (a : Settings) (size : Size) (mark : Bool) (kind : Counted) (xs : List X) (ys : List Y) → Zip R xs ys → Carry (Lengthy a size mark kind f xs) (Lengthy a size mark kind g ys)
+  pub lengthy_carry : (a : Settings) (size : Size) (mark : Bool) (kind : ItemKind) (xs : List X) (ys : List Y) → Zip R xs ys → Carry (Counted a size mark kind f xs) (Counted a size mark kind g ys)
   lengthy_carry a size false kind xs ys z = sized_carry a size kind xs ys z
   lengthy_carry a size true kind xs ys z = either_carry (then_carry kept (sized_carry a size kind xs ys z)) (then_carry kept (sized_carry a any_size kind xs ys z))
 
@@ -190,7 +190,7 @@ additions_carry a may (S ∷ Ss) (r' ∷ rs') [] k bs ss' ss l = absurd k
 
 -- A record that a reader of more additions takes is taken by one of fewer, in each of its parts.
 pub fields_carry : (a : Settings) (ext may : Bool) (Ss As : List SlotRel) (rs' rs adds' adds : List Rule) → AllLead false Ss rs' rs → AllLead may As adds' adds →
-    (ss' ss xs' xs : List (Option Value)) → Along false Ss ss' ss → Along may As xs' xs → Carry (Fields a ext rs' adds' ss' xs') (Fields a ext rs adds ss xs)
+    (ss' ss xs' xs : List (Option Value)) → Along false Ss ss' ss → Along may As xs' xs → Carry (Record a ext rs' adds' ss' xs') (Record a ext rs adds ss xs)
 fields_carry a false may Ss As rs' rs adds' adds k k' ss' ss xs' xs l m = then_carry (root_carry Ss rs' rs k ss' ss l) (additions_carry a may As adds' adds k' [] xs' xs m)
 fields_carry a true may Ss As rs' rs adds' adds k k' ss' ss xs' xs l m = either_carry
     (then_carry kept (then_carry (root_carry Ss rs' rs k ss' ss l) (additions_carry a may As adds' adds k' [] xs' xs m)))

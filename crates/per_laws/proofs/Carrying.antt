@@ -6,11 +6,11 @@ use Rattle.rasn_schema.specs.Orders.{ordered, by_tags, insert_at, how_many_less}
 use Rattle.rasn_constraints.specs.Bounds.{Size}
 use Rattle.rasn_schema.specs.Schemas.{Order, listed, by_tag, Tag}
 use Rattle.per_core.specs.Basic
-use Rattle.per_core.specs.Basic.{As, Lengthy, IsConstrainedWhole, Rule, Bodies, Root, OpenOf, Additions_in, Fields_in, Chosen}
+use Rattle.per_core.specs.Basic.{As, Counted, IsConstrainedWhole, Rule, Bodies, Root, OpenOf, Additions_in, Record_in, Chosen}
 use Rattle.per_core.specs.Counts.{list_items}
 use Rattle.per_core.specs.Spellings.{Settings, Spelling}
 use Rattle.per_core.specs.Writers.{after}
-use Rattle.per_core.proofs.Lengths.{Zip}
+use Rattle.per_core.proofs.LengthForms.{Zip}
 use Rattle.per_core.proofs.Records.{SlotRel, Along}
 use Rattle.per_core.proofs.Readings.{length-by_tags}
 use Rattle.per_laws.proofs.Carry.{Carry, kept, then_carry, either_carry, when_carry, fills_carry, open_carry, lengthy_carry, Leads, AllLead, held_carry, root_carry}
@@ -20,8 +20,8 @@ pub as_carry : {X Y : Type 0} (make : X → Value) (make' : Y → Value) (f : X 
 as_carry make make' f g v w h = record { carry = λ p b x. let r = h x.of p b x.is x.spelled in record { of = r.0; is = r.1; spelled = r.2 } }
 
 pub lengthy_as : (R : Value → Value → Type 0) (make make' : List Value → Value) (f g : Value → Spelling) → ((v w : Value) → R v w → Carry (f v) (g w)) → (a : Settings) (size : Size) (mark : Bool) (v w : Value) →
-    ((vs : List Value) → v ≡ make vs → (ws : List Value) × (w ≡ make' ws) × Zip R vs ws) → Carry (As make (Lengthy a size mark list_items f) v) (As make' (Lengthy a size mark list_items g) w)
-lengthy_as R make make' f g each a size mark v w h = as_carry make make' (Lengthy a size mark list_items f) (Lengthy a size mark list_items g) v w
+    ((vs : List Value) → v ≡ make vs → (ws : List Value) × (w ≡ make' ws) × Zip R vs ws) → Carry (As make (Counted a size mark list_items f) v) (As make' (Counted a size mark list_items g) w)
+lengthy_as R make make' f g each a size mark v w h = as_carry make make' (Counted a size mark list_items f) (Counted a size mark list_items g) v w
     (λ vs p b e x. let r = h vs e in (r.0, r.1, (lengthy_carry R f g each a size mark list_items vs r.0 r.2).carry p b x))
 
 -- the order of a Set
@@ -97,7 +97,7 @@ additions_length a u (r ∷ rs) (s ∷ ss) [] p b x = ap suc (additions_length a
 additions_length a u (r ∷ rs) (s ∷ ss) (false ∷ bs) p b x = ap suc (additions_length a u rs ss bs p b x.1)
 additions_length a u (r ∷ rs) (s ∷ ss) (true ∷ bs) p b x = ap suc (additions_length a u rs ss bs (after p x.front) x.rest x.is_rest)
 
-fields_length : (a : Settings) (u ext : Bool) (rs adds : List Rule) (ss xs : List (Option Value)) (p : ℕ) (b : Bits) → Fields_in a u ext rs adds ss xs p b → (length ss ≡ length rs) × (length xs ≡ length adds)
+fields_length : (a : Settings) (u ext : Bool) (rs adds : List Rule) (ss xs : List (Option Value)) (p : ℕ) (b : Bits) → Record_in a u ext rs adds ss xs p b → (length ss ≡ length rs) × (length xs ≡ length adds)
 fields_length a u false rs adds ss xs p b x = (root_length rs ss p x.front x.is_front, additions_length a u adds xs [] (after p x.front) x.rest x.is_rest)
 fields_length a u true rs adds ss xs p b (inl x) =
     let y = x.is_rest in
@@ -115,7 +115,7 @@ additions_step a u' u S r' r k s' s l rs' rs ss' ss h (true ∷ bs) = then_carry
 
 fields_carried : (a : Settings) (u' u ext : Bool) (Ss : List SlotRel) (rs' rs adds' adds : List Rule) → AllLead false Ss rs' rs →
     (ss' ss xs' xs : List (Option Value)) → Along false Ss ss' ss → ((bs : List Bool) → Carry (Additions_in a u' adds' xs' bs) (Additions_in a u adds xs bs)) →
-    Carry (Fields_in a u' ext rs' adds' ss' xs') (Fields_in a u ext rs adds ss xs)
+    Carry (Record_in a u' ext rs' adds' ss' xs') (Record_in a u ext rs adds ss xs)
 fields_carried a u' u false Ss rs' rs adds' adds k ss' ss xs' xs l h = then_carry (root_carry Ss rs' rs k ss' ss l) (h [])
 fields_carried a u' u true Ss rs' rs adds' adds k ss' ss xs' xs l h = either_carry
     (then_carry kept (then_carry (root_carry Ss rs' rs k ss' ss l) (h [])))
@@ -125,10 +125,10 @@ fields_carried a u' u true Ss rs' rs adds' adds k ss' ss xs' xs l h = either_car
 pub record_as : (a : Settings) (u' u : Bool) (o : Order) (ts : List Tag) (ext : Bool) (Ss : List SlotRel) (rs' rs adds' adds : List Rule) → AllLead false Ss rs' rs → (v w : Value) →
     ((x : List (Option Value) × List (Option Value)) → v ≡ fields (as_slots x.0) (as_slots x.1) → length x.0 ≡ length rs' → length x.1 ≡ length adds' →
     (y : List (Option Value) × List (Option Value)) × (w ≡ fields (as_slots y.0) (as_slots y.1)) × Along false Ss x.0 y.0 × ((bs : List Bool) → Carry (Additions_in a u' adds' x.1 bs) (Additions_in a u adds y.1 bs))) →
-    Carry (As (λ (x : List (Option Value) × List (Option Value)). fields (as_slots x.0) (as_slots x.1)) (λ x. Fields_in a u' ext (ordered o ts rs') adds' (ordered o ts x.0) x.1) v)
-    (As (λ (x : List (Option Value) × List (Option Value)). fields (as_slots x.0) (as_slots x.1)) (λ x. Fields_in a u ext (ordered o ts rs) adds (ordered o ts x.0) x.1) w)
+    Carry (As (λ (x : List (Option Value) × List (Option Value)). fields (as_slots x.0) (as_slots x.1)) (λ x. Record_in a u' ext (ordered o ts rs') adds' (ordered o ts x.0) x.1) v)
+    (As (λ (x : List (Option Value) × List (Option Value)). fields (as_slots x.0) (as_slots x.1)) (λ x. Record_in a u ext (ordered o ts rs) adds (ordered o ts x.0) x.1) w)
 record_as a u' u o ts ext Ss rs' rs adds' adds k v w h = as_carry (λ (x : List (Option Value) × List (Option Value)). fields (as_slots x.0) (as_slots x.1)) (λ (x : List (Option Value) × List (Option Value)). fields (as_slots x.0) (as_slots x.1))
-    (λ x. Fields_in a u' ext (ordered o ts rs') adds' (ordered o ts x.0) x.1) (λ x. Fields_in a u ext (ordered o ts rs) adds (ordered o ts x.0) x.1) v w
+    (λ x. Record_in a u' ext (ordered o ts rs') adds' (ordered o ts x.0) x.1) (λ x. Record_in a u ext (ordered o ts rs) adds (ordered o ts x.0) x.1) v w
     (λ x p b e s.
     let n = fields_length a u' ext (ordered o ts rs') adds' (ordered o ts x.0) x.1 p b s in
     let r = h x e (sym (length-ordered o ts x.0) ∙ n.0 ∙ length-ordered o ts rs') n.1 in (
@@ -145,13 +145,13 @@ rules_on added rs adds = adds
 
 pub choice_as : (a : Settings) (ext : Bool) (rs' rs adds' adds : List Rule) → length rs' ≡ length rs → (v w : Value) →
     ((d : Side) (i : ℕ) (x : Value) → v ≡ alternative d i x → (y : Value) × (w ≡ alternative d i y) × Carry (Chosen (rules_on d rs' adds') i x) (Chosen (rules_on d rs adds) i y)) →
-    Carry (As (λ (x : Side × ℕ × Value). alternative x.0 x.1 x.2) (λ x. Basic.Alternative a ext rs' adds' x.0 x.1 x.2) v)
-    (As (λ (x : Side × ℕ × Value). alternative x.0 x.1 x.2) (λ x. Basic.Alternative a ext rs adds x.0 x.1 x.2) w)
+    Carry (As (λ (x : Side × ℕ × Value). alternative x.0 x.1 x.2) (λ x. Basic.Choice a ext rs' adds' x.0 x.1 x.2) v)
+    (As (λ (x : Side × ℕ × Value). alternative x.0 x.1 x.2) (λ x. Basic.Choice a ext rs adds x.0 x.1 x.2) w)
 choice_as a ext rs' rs adds' adds l v w h = as_carry (λ (x : Side × ℕ × Value). alternative x.0 x.1 x.2) (λ (x : Side × ℕ × Value). alternative x.0 x.1 x.2)
-    (λ x. Basic.Alternative a ext rs' adds' x.0 x.1 x.2) (λ x. Basic.Alternative a ext rs adds x.0 x.1 x.2) v w
+    (λ x. Basic.Choice a ext rs' adds' x.0 x.1 x.2) (λ x. Basic.Choice a ext rs adds x.0 x.1 x.2) v w
     (λ x p b e s. let r = h x.0 x.1 x.2 e in ((x.0, x.1, r.0), r.1, (go x.0 x.1 x.2 r.0 r.2).carry p b s))
   where
-    go : (d : Side) (i : ℕ) (x y : Value) → Carry (Chosen (rules_on d rs' adds') i x) (Chosen (rules_on d rs adds) i y) → Carry (Basic.Alternative a ext rs' adds' d i x) (Basic.Alternative a ext rs adds d i y)
+    go : (d : Side) (i : ℕ) (x y : Value) → Carry (Chosen (rules_on d rs' adds') i x) (Chosen (rules_on d rs adds) i y) → Carry (Basic.Choice a ext rs' adds' d i x) (Basic.Choice a ext rs adds d i y)
     go root i x y c = then_carry kept (then_carry (subst (λ n. Carry (IsConstrainedWhole a (length rs') i) (IsConstrainedWhole a n i)) l kept) c)
     go added i x y c = then_carry kept (then_carry kept (open_carry a (λ os z. fills_carry a os c z)))
 

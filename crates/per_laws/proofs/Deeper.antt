@@ -7,11 +7,11 @@ use Rattle.rasn_schema.specs.Orders.{ordered}
 use Rattle.rasn_schema.specs.Schemas
 use Rattle.rasn_constraints.specs.Bounds.{Size}
 use Rattle.rasn_schema.specs.Schemas.{tags, count, Presence, Schema, Parts, no_parts, part}
-use Rattle.per_core.specs.Basic.{IsLeftOut, As, Lengthy, Unknown_in, Additions_in, Fields_in, Chosen, basic_in, rules_in}
+use Rattle.per_core.specs.Basic.{IsLeftOut, As, Counted, Unknown_in, Additions_in, Record_in, Chosen, basic_in, rules_in}
 use Rattle.per_core.specs.Counts.{list_items}
 use Rattle.per_core.specs.Spellings.{Settings, Spelling}
 use Rattle.per_core.proofs.Bags.{any_in_bag}
-use Rattle.per_core.proofs.Lengths.{Zip, or_left, or_right}
+use Rattle.per_core.proofs.LengthForms.{Zip, or_left, or_right}
 use Rattle.per_core.proofs.Records.{SlotRel, Along}
 use Rattle.per_core.proofs.Readings.{length-rules-in}
 use Rattle.per_laws.proofs.Carry.{Carry, kept, Leads, AllLead}
@@ -46,11 +46,11 @@ module _ (K : Value → Bool) (f g : Value → Spelling) (each : (v : Value) →
   each_kept v w h = subst (λ z. Carry (f v) (g z)) h.1 (each v h.0)
 
   pub list_kept : (a : Settings) (size : Size) (mark : Bool) (v : Value) → in_elements K v ≡ false →
-      Carry (As (λ vs. elements (as_values vs)) (Lengthy a size mark list_items f) v) (As (λ vs. elements (as_values vs)) (Lengthy a size mark list_items g) v)
+      Carry (As (λ vs. elements (as_values vs)) (Counted a size mark list_items f) v) (As (λ vs. elements (as_values vs)) (Counted a size mark list_items g) v)
   list_kept a size mark v m = lengthy_as Kept (λ vs. elements (as_values vs)) (λ vs. elements (as_values vs)) f g each_kept a size mark v v
       (λ vs i. (vs, i, zip_kept vs (subst (λ l. any_of K l ≡ false) (values-as_values vs) (subst (λ z. in_elements K z ≡ false) i m))))
 
-  pub bag_kept : (a : Settings) (size : Size) (mark : Bool) (v : Value) → in_elements K v ≡ false → Carry (As bag_of (Lengthy a size mark list_items f) v) (As bag_of (Lengthy a size mark list_items g) v)
+  pub bag_kept : (a : Settings) (size : Size) (mark : Bool) (v : Value) → in_elements K v ≡ false → Carry (As bag_of (Counted a size mark list_items f) v) (As bag_of (Counted a size mark list_items g) v)
   unfolding bag_of
   bag_kept a size mark v m = lengthy_as Kept bag_of bag_of f g each_kept a size mark v v
       (λ vs i.
@@ -118,7 +118,7 @@ mutual
   deeper a u' u l (cut_set_of {s = s} {t = t} {size = size} {mark = mark} c) v = bag_kept Nothing (basic_in a u' s) (basic_in a u t) (λ w m. deeper a u' u l c w) a size mark v (none_in v)
   deeper a u' u l (cut_sequence {o = o} {ext = ext} {ps = ps} {qs = qs} {adds = adds} {bdds = bdds} c d) v =
       subst (λ ts. Carry (basic_in a u' (Schema.sequence o ps ext adds) v) (As (λ (x : List (Option Value) × List (Option Value)). fields (as_slots x.0) (as_slots x.1))
-      (λ x. Fields_in a u ext (ordered o ts (rules_in a u qs)) (rules_in a u bdds) (ordered o ts x.0) x.1) v)) (same_cut_tags c)
+      (λ x. Record_in a u ext (ordered o ts (rules_in a u qs)) (rules_in a u bdds) (ordered o ts x.0) x.1) v)) (same_cut_tags c)
       (record_as a u' u o (tags ps) ext (equals ps) (rules_in a u' ps) (rules_in a u qs) (rules_in a u' adds) (rules_in a u bdds) (deeper_leads a u' u l c) v v
       (λ x i m n. (x, i, along_equal ps x.0 (m ∙ length-rules-in a u' ps), deeper_additions a u' u l d x.1)))
   deeper a u' u l (cut_choice {ext = ext} {ps = ps} {qs = qs} {adds = adds} {bdds = bdds} c d) v =
@@ -170,7 +170,7 @@ mutual
   shallower a u (cut_set_of {s = s} {t = t} {size = size} {mark = mark} c) v m = bag_kept (meets_cut s) (basic_in a u t) (basic_in a u s) (λ w m. shallower a u c w m) a size mark v m
   shallower a u (cut_sequence {o = o} {ext = ext} {ps = ps} {qs = qs} {adds = adds} {bdds = bdds} c d) v m =
       subst (λ ts. Carry (basic_in a u (Schema.sequence o qs ext bdds) v) (As (λ (x : List (Option Value) × List (Option Value)). fields (as_slots x.0) (as_slots x.1))
-      (λ x. Fields_in a u ext (ordered o ts (rules_in a u ps)) (rules_in a u adds) (ordered o ts x.0) x.1) v)) (sym (same_cut_tags c))
+      (λ x. Record_in a u ext (ordered o ts (rules_in a u ps)) (rules_in a u adds) (ordered o ts x.0) x.1) v)) (sym (same_cut_tags c))
       (record_as a u u o (tags qs) ext (uncuts ps) (rules_in a u qs) (rules_in a u ps) (rules_in a u bdds) (rules_in a u adds) (shallower_leads a u c) v v
       (λ x i l n.
       let m' = subst (λ z. meets_cut (Schema.sequence o ps ext adds) z ≡ false) i m in

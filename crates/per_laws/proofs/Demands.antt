@@ -9,7 +9,7 @@ use Rattle.rasn_constraints.specs.LawfulConstraints.{are_lawful_bounds}
 use Rattle.rasn_schema.specs.Lawful.{IsLawful, AreLawful, is_value}
 use Rattle.rasn_schema.specs.Normal.{normal}
 use Rattle.rasn_schema.specs.Schemas.{required, optional, group, default, Order, Schema, Parts, no_parts, part}
-use Rattle.per_core.proofs.Lengths.{and_left, and_right}
+use Rattle.per_core.proofs.LengthForms.{and_left, and_right}
 use Rattle.per_laws.specs.Listings.{HasDefault}
 use Rattle.per_laws.specs.Written.{is_written}
 use Rattle.per_laws.proofs.Reading.{same_self}

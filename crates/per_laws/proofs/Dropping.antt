@@ -10,7 +10,7 @@ use Rattle.rasn_schema.specs.Depth.{meets_cut, slots_meet_cut, meets_cut_at, any
 use Rattle.per_core.specs.Spellings.{Settings}
 use Rattle.per_core.specs.Basic.{As, Additions_in, Chosen, Rule, basic, basic_in, rules}
 use Rattle.per_core.specs.Versions.{project, project_slots, project_at, slot_through, all_of, NewerPresence, Newer, NewerParts, unchanged, newer_list, newer_set_of, newer_sequence, newer_choice, no_more, more_parts, also}
-use Rattle.per_core.proofs.Lengths.{Zip, or_left, or_right}
+use Rattle.per_core.proofs.LengthForms.{Zip, or_left, or_right}
 use Rattle.per_core.proofs.Records.{SlotRel, Along}
 use Rattle.per_core.proofs.Readings.{length-rules}
 use Rattle.per_core.proofs.Bags.{bag_source, any_in_bag, joined_of}
@@ -122,8 +122,8 @@ record_drops : (a : Settings) (r : Order) (ext : Bool) (tds ods sds : Parts) {ts
     DropsValue (Schema.sequence r ts ext tds) (Schema.sequence r os ext ods) (Schema.sequence r ss ext sds) v w → Carry (Writes a (Schema.sequence r ts ext tds) v) (basic a (Schema.sequence r ss ext sds) w)
 unfolding basic_in project meets_cut writes_cut
 record_drops a r ext tds ods sds {ts} {os} {ss} n c k k' v w h = carries (record_layer a true r ext ts tds v)
-    (subst (λ l. Carry (As (λ (x : List (Option Value) × List (Option Value)). fields (as_slots x.0) (as_slots x.1)) (λ x. Basic.Fields_in a true ext (ordered r (tags ts) (written_rules a ts)) (written_rules a tds) (ordered r (tags ts) x.0) x.1) v)
-    (As (λ (x : List (Option Value) × List (Option Value)). fields (as_slots x.0) (as_slots x.1)) (λ x. Basic.Fields_in a true ext (ordered r l (rules a ss)) (rules a sds) (ordered r l x.0) x.1) w)) (same_tags n ∙ sym (same_cut_tags c))
+    (subst (λ l. Carry (As (λ (x : List (Option Value) × List (Option Value)). fields (as_slots x.0) (as_slots x.1)) (λ x. Basic.Record_in a true ext (ordered r (tags ts) (written_rules a ts)) (written_rules a tds) (ordered r (tags ts) x.0) x.1) v)
+    (As (λ (x : List (Option Value) × List (Option Value)). fields (as_slots x.0) (as_slots x.1)) (λ x. Basic.Record_in a true ext (ordered r l (rules a ss)) (rules a sds) (ordered r l x.0) x.1) w)) (same_tags n ∙ sym (same_cut_tags c))
     (record_as a true true r (tags ts) ext (drops ts os ss) (written_rules a ts) (rules a ss) (written_rules a tds) (rules a sds) k v w
     (λ x i l l'.
     let e = subst (λ z. project (Schema.sequence r ts ext tds) (Schema.sequence r os ext ods) z ≡ Some w) i h.1 in

@@ -9,9 +9,9 @@ use Rattle.rasn_schema.specs.Orders.{ordered}
 use Rattle.rasn_schema.specs.Depth.{any_of, IsLeaf}
 use Rattle.per_core.specs.Spellings.{Settings}
 use Rattle.per_core.specs.Counts.{list_items}
-use Rattle.per_core.specs.Basic.{IsLeftOut, Fields, Lengthy, Rule, IsConstrainedWhole, Chosen, Open, Fills, basic, basic_in, rules}
+use Rattle.per_core.specs.Basic.{IsLeftOut, Record, Counted, Rule, IsConstrainedWhole, Chosen, Open, Fills, basic, basic_in, rules}
 use Rattle.per_core.proofs.Agree.{Agree, weaken, then_agree, never_agree, turned}
-use Rattle.per_core.proofs.Lengths.{Zip, bounded_agree, lengthy_agree, or_left, or_right, and_no}
+use Rattle.per_core.proofs.LengthForms.{Zip, bounded_agree, lengthy_agree, or_left, or_right, and_no}
 use Rattle.per_core.proofs.Unique.{as_agree, small_agree, open_agree, fills_agree}
 use Rattle.per_core.proofs.Records.{SlotRel, Kin, AllKin, Along, fields_agree}
 use Rattle.per_core.proofs.Bags.{any_in_bag}
@@ -51,7 +51,7 @@ list_few : (a : Settings) (n : ℕ) (s t : Schema) (size : Size) (mark : Bool) �
     Agree (Few (suc n) (Schema.list s size mark) v) (basic a (Schema.list t size mark) v) (basic a (Schema.list t size mark) w)
 unfolding basic_in writes_cut levels_of
 list_few a n s t size mark h v w = as_agree (λ v w. Few (suc n) (Schema.list s size mark) v) (λ vs. elements (as_values vs)) (λ vs. elements (as_values vs))
-    (Lengthy a size mark list_items (basic a t)) (Lengthy a size mark list_items (basic a t)) v w
+    (Counted a size mark list_items (basic a t)) (Counted a size mark list_items (basic a t)) v w
     (λ x y. weaken (λ z l. subst (λ k. any_of (writes_cut s s) k ≡ false) (sym (values-as_values x)) (zip_few n s x y z (none_over n x (omega arith))))
     (lengthy_agree (λ v w. Few n s v) (basic a t) (basic a t) h a size mark list_items x y))
 
@@ -59,7 +59,7 @@ bag_few : (a : Settings) (n : ℕ) (s t : Schema) (size : Size) (mark : Bool) �
     Agree (Few (suc n) (Schema.set_of s size mark) v) (basic a (Schema.set_of t size mark) v) (basic a (Schema.set_of t size mark) w)
 unfolding basic_in writes_cut levels_of bag_of
 bag_few a n s t size mark h v w = as_agree (λ v w. Few (suc n) (Schema.set_of s size mark) v) bag_of bag_of
-    (Lengthy a size mark list_items (basic a t)) (Lengthy a size mark list_items (basic a t)) v w
+    (Counted a size mark list_items (basic a t)) (Counted a size mark list_items (basic a t)) v w
     (λ x y. weaken (λ z l.
     let less : Value → Value → Bool = λ v w. before (code v) (code w) in
     subst (λ k. any_of (writes_cut s s) k ≡ false) (sym (values-as_values (sorted less x)))
@@ -100,8 +100,8 @@ record_few : (a : Settings) (n : ℕ) (o : Order) (ext : Bool) (ps qs adds bdds 
 unfolding basic_in writes_cut levels_of
 record_few a n o ext ps qs adds bdds k k' v w = as_agree (λ v w. Few (suc n) (Schema.sequence o ps ext adds) v)
     (λ x. fields (as_slots x.0) (as_slots x.1)) (λ x. fields (as_slots x.0) (as_slots x.1))
-    (λ x. Fields a ext (ordered o (tags qs) (rules a qs)) (rules a bdds) (ordered o (tags qs) x.0) x.1)
-    (λ x. Fields a ext (ordered o (tags qs) (rules a qs)) (rules a bdds) (ordered o (tags qs) x.0) x.1) v w
+    (λ x. Record a ext (ordered o (tags qs) (rules a qs)) (rules a bdds) (ordered o (tags qs) x.0) x.1)
+    (λ x. Record a ext (ordered o (tags qs) (rules a qs)) (rules a bdds) (ordered o (tags qs) x.0) x.1) v w
     (λ x y. weaken (λ r l. or_both (slots_write_cut ps ps (slots (as_slots x.0))) (slots_write_cut adds adds (slots (as_slots x.1)))
     (subst (λ z. slots_write_cut ps ps z ≡ false) (sym (slots-as_slots x.0)) (along_few n ps x.0 y.0 (along-listed o (tags qs) (few_slots n ps) x.0 y.0 r.0) (omega arith)))
     (subst (λ z. slots_write_cut adds adds z ≡ false) (sym (slots-as_slots x.1)) (along_few n adds x.1 y.1 r.1 (omega arith))))
@@ -116,11 +116,11 @@ choice_few : (a : Settings) (n : ℕ) (ext : Bool) (ps qs adds bdds : Parts) →
 unfolding basic_in writes_cut levels_of
 choice_few a n ext ps qs adds bdds h h' v w = as_agree (λ v w. Few (suc n) (Schema.choice ps adds ext) v)
     (λ x. alternative x.0 x.1 x.2) (λ x. alternative x.0 x.1 x.2)
-    (λ x. Basic.Alternative a ext (rules a qs) (rules a bdds) x.0 x.1 x.2) (λ x. Basic.Alternative a ext (rules a qs) (rules a bdds) x.0 x.1 x.2) v w
+    (λ x. Basic.Choice a ext (rules a qs) (rules a bdds) x.0 x.1 x.2) (λ x. Basic.Choice a ext (rules a qs) (rules a bdds) x.0 x.1 x.2) v w
     (λ x y. go x.0 x.1 x.2 y.0 y.1 y.2)
   where
     go : (d : Side) (i : ℕ) (v : Value) (e : Side) (j : ℕ) (w : Value) → Agree (Few (suc n) (Schema.choice ps adds ext) (alternative d i v))
-        (Basic.Alternative a ext (rules a qs) (rules a bdds) d i v) (Basic.Alternative a ext (rules a qs) (rules a bdds) e j w)
+        (Basic.Choice a ext (rules a qs) (rules a bdds) d i v) (Basic.Choice a ext (rules a qs) (rules a bdds) e j w)
     go root i v root j w = same_bit ext false (weaken (λ r l. r.1 (omega arith)) (then_agree (bounded_agree a (length (rules a qs)) i j) (λ e.
         subst (λ k. Agree (levels_of v ≤ n → writes_cut_at ps ps i v ≡ false) (Chosen (rules a qs) i v) (Chosen (rules a qs) k w)) e (h i v w))))
     go root i v added j w = root_added ext _ _

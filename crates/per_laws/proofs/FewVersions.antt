@@ -7,7 +7,7 @@ use Rattle.per_core.specs.Spellings.{Settings}
 use Rattle.per_core.specs.Canon.{bytes}
 use Rattle.per_core.specs.Basic.{read}
 use Rattle.per_core.specs.Versions.{project, widen, Newer, NewerParts, unchanged, more_items, newer_list, newer_set_of, newer_sequence, newer_choice, no_more, more_parts, also, NewerType}
-use Rattle.per_core.proofs.Lengths.{or_left, or_right}
+use Rattle.per_core.proofs.LengthForms.{or_left, or_right}
 use Rattle.per_laws.proofs.Transitive.{or_both}
 use Rattle.per_laws.proofs.Types.{elements_less, fields_less, alternative_less}
 use Rattle.rasn_schema.specs.Levels.{Levelled}

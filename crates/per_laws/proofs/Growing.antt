@@ -10,7 +10,7 @@ use Rattle.rasn_schema.specs.Depth.{meets_cut, slots_meet_cut, meets_cut_at, in_
 use Rattle.per_core.specs.Spellings.{Settings}
 use Rattle.per_core.specs.Basic.{IsLeftOut, As, Unknown_in, Additions_in, Chosen, basic_in, rules_in}
 use Rattle.per_core.specs.Versions.{widen, widen_slots, widen_at, filled_in, all_filled_in, slot_through, all_of, NewerPresence, Newer, NewerParts, unchanged, newer_list, newer_set_of, newer_sequence, newer_choice, no_more, more_parts, also}
-use Rattle.per_core.proofs.Lengths.{or_left, or_right}
+use Rattle.per_core.proofs.LengthForms.{or_left, or_right}
 use Rattle.per_core.proofs.Records.{SlotRel, Along}
 use Rattle.per_core.proofs.Readings.{length-rules-in}
 use Rattle.per_core.proofs.Bags.{bag_source, any_in_bag, joined_of}
@@ -128,8 +128,8 @@ record_grows : (a : Settings) (r : Order) (ext : Bool) (tds ods sds : Parts) {ts
     GrowsValue (Schema.sequence r ts ext tds) (Schema.sequence r os ext ods) (Schema.sequence r ss ext sds) v w → Carry (Writes a (Schema.sequence r ts ext tds) v) (basic_in a false (Schema.sequence r ss ext sds) w)
 unfolding basic_in widen meets_cut writes_cut
 record_grows a r ext tds ods sds {ts} {os} {ss} n c k k' v w h = carries (record_layer a false r ext ts tds v)
-    (subst (λ l. Carry (As (λ (x : List (Option Value) × List (Option Value)). fields (as_slots x.0) (as_slots x.1)) (λ x. Basic.Fields_in a false ext (ordered r (tags ts) (written_rules a ts)) (written_rules a tds) (ordered r (tags ts) x.0) x.1) v)
-    (As (λ (x : List (Option Value) × List (Option Value)). fields (as_slots x.0) (as_slots x.1)) (λ x. Basic.Fields_in a false ext (ordered r l (rules_in a false ss)) (rules_in a false sds) (ordered r l x.0) x.1) w)) (sym (same_tags n) ∙ sym (same_cut_tags c))
+    (subst (λ l. Carry (As (λ (x : List (Option Value) × List (Option Value)). fields (as_slots x.0) (as_slots x.1)) (λ x. Basic.Record_in a false ext (ordered r (tags ts) (written_rules a ts)) (written_rules a tds) (ordered r (tags ts) x.0) x.1) v)
+    (As (λ (x : List (Option Value) × List (Option Value)). fields (as_slots x.0) (as_slots x.1)) (λ x. Basic.Record_in a false ext (ordered r l (rules_in a false ss)) (rules_in a false sds) (ordered r l x.0) x.1) w)) (sym (same_tags n) ∙ sym (same_cut_tags c))
     (record_as a false false r (tags ts) ext (grows ts os ss) (written_rules a ts) (rules_in a false ss) (written_rules a tds) (rules_in a false sds) k v w
     (λ x i l l'.
     let e = subst (λ z. widen (Schema.sequence r os ext ods) (Schema.sequence r ts ext tds) z ≡ Some w) i h.1 in

@@ -8,7 +8,7 @@ use Rattle.rasn_schema.specs.Depth.{IsLeaf, CutOf, CutParts, cut_here, alike, cu
 use Rattle.rasn_schema.specs.Lawful.{IsLawful, AreLawful, IsLawfulPresence, IsLawfulType, all_pass, is_countable, if_elements, if_bag, if_fields, if_alternative, slot_passes, slots_pass, none_left, is_value, are_values, is_value_at}
 use Rattle.per_core.specs.Versions.{all_of, joined, made, made_both, through_elements, through_bag, through_fields, through_alternative, through_item, slot_through, slots_through, project, project_slots, project_at, widen, widen_slots, widen_at, IsWidened, NewerPresence, Newer, NewerParts, NewerType, unchanged, more_items, newer_list, newer_set_of, newer_sequence, newer_choice, no_more, also}
 use Rattle.per_core.proofs.Codes.{same_true}
-use Rattle.per_core.proofs.Lengths.{and_left, and_right, or_left, or_right}
+use Rattle.per_core.proofs.LengthForms.{and_left, and_right, or_left, or_right}
 use Rattle.per_laws.proofs.Takes.{some_is}
 use Rattle.per_laws.proofs.Types.{up_to, less_cut}
 

@@ -11,7 +11,7 @@ use Rattle.per_core.specs.Spellings.{Settings, Spelling}
 use Rattle.per_core.specs.Writers.{Writer, written_if}
 use Rattle.per_core.specs.Counts.{list_items}
 use Rattle.per_core.specs.Canon.{canon, members, Member, shown, record_of}
-use Rattle.per_core.specs.Basic.{As, Lengthy, Rule, Fields_in}
+use Rattle.per_core.specs.Basic.{As, Counted, Rule, Record_in}
 use Rattle.per_core.proofs.Within.{Within, refused_within, if_within}
 use Rattle.per_core.proofs.Presenting.{Pairs, record_within}
 use Rattle.per_core.proofs.Canonical.{as_within, ordered-pairs, list_within, bags_within, choices_within}
@@ -30,11 +30,11 @@ carried : {f : Writer} {g : Spelling} → Within f g → Carry (λ p b. f p ≡ 
 carried h = record { carry = λ p b e. h.within p b e }
 
 -- lists
-pub list_layer : (a : Settings) (t : Schema) (size : Size) (mark : Bool) (v : Value) → Carry (Writes a (Schema.list t size mark) v) (As (λ vs. elements (as_values vs)) (Lengthy a size mark list_items (Writes a t)) v)
+pub list_layer : (a : Settings) (t : Schema) (size : Size) (mark : Bool) (v : Value) → Carry (Writes a (Schema.list t size mark) v) (As (λ vs. elements (as_values vs)) (Counted a size mark list_items (Writes a t)) v)
 unfolding canon
 list_layer a t size mark v = carried (list_within a t (Writes a t) size mark (written_so a t) v)
 
-pub bag_layer : (a : Settings) (t : Schema) (size : Size) (mark : Bool) (v : Value) → Carry (Writes a (Schema.set_of t size mark) v) (As bag_of (Lengthy a size mark list_items (Writes a t)) v)
+pub bag_layer : (a : Settings) (t : Schema) (size : Size) (mark : Bool) (v : Value) → Carry (Writes a (Schema.set_of t size mark) v) (As bag_of (Counted a size mark list_items (Writes a t)) v)
 unfolding canon
 bag_layer a t size mark v = carried (bags_within a t (Writes a t) size mark (written_so a t) v)
 
@@ -67,25 +67,25 @@ guarded-pairs a no_parts = tt
 guarded-pairs a (part t p s ps) = (record { alike = refl; each = λ v. if_within (is_written p v) (λ h. record { within = λ q b e. (h, e) }) }, guarded-pairs a ps)
 
 record_written : (a : Settings) (u : Bool) (o : Order) (ts : List Tag) (ext : Bool) (ps adds : Parts) (r x : List (Option Value)) →
-    Within (record_of a.variant ext (ordered o ts (members a.variant ps)) (members a.variant adds) (ordered o ts r) x) (Fields_in a u ext (ordered o ts (written_rules a ps)) (written_rules a adds) (ordered o ts r) x)
+    Within (record_of a.variant ext (ordered o ts (members a.variant ps)) (members a.variant adds) (ordered o ts r) x) (Record_in a u ext (ordered o ts (written_rules a ps)) (written_rules a adds) (ordered o ts r) x)
 record_written a u o ts ext ps adds r x =
-    subst (λ w. Within w (Fields_in a u ext (ordered o ts (written_rules a ps)) (written_rules a adds) (ordered o ts r) x))
+    subst (λ w. Within w (Record_in a u ext (ordered o ts (written_rules a ps)) (written_rules a adds) (ordered o ts r) x))
     (sym (record_same a.variant ext (ordered o ts (members a.variant ps)) (ordered o ts (guarded a.variant ps)) (members a.variant adds) (guarded a.variant adds) (ordered o ts r) (ordered o ts r) x
     (ordered_root o ts (members a.variant ps) (guarded a.variant ps) (guarded-length a.variant ps) r (guarded-fits a.variant ps r)) (guarded-fits a.variant adds x)))
     (record_within a u ext (ordered o ts (guarded a.variant ps)) (guarded a.variant adds) (ordered o ts (written_rules a ps)) (written_rules a adds)
     (ordered-pairs o ts (guarded a.variant ps) (written_rules a ps) (guarded-pairs a ps)) (guarded-pairs a adds) (ordered o ts r) x)
 
 fields_within : (a : Settings) (u : Bool) (o : Order) (ext : Bool) (ps adds : Parts) (v : Value) → Within (canon a.variant (Schema.sequence o ps ext adds) v)
-    (As (λ (x : List (Option Value) × List (Option Value)). fields (as_slots x.0) (as_slots x.1)) (λ x. Fields_in a u ext (ordered o (tags ps) (written_rules a ps)) (written_rules a adds) (ordered o (tags ps) x.0) x.1) v)
+    (As (λ (x : List (Option Value) × List (Option Value)). fields (as_slots x.0) (as_slots x.1)) (λ x. Record_in a u ext (ordered o (tags ps) (written_rules a ps)) (written_rules a adds) (ordered o (tags ps) x.0) x.1) v)
 unfolding canon
 fields_within a u o ext ps adds (fields r x) = as_within (λ (x : List (Option Value) × List (Option Value)). fields (as_slots x.0) (as_slots x.1))
-    (λ x. Fields_in a u ext (ordered o (tags ps) (written_rules a ps)) (written_rules a adds) (ordered o (tags ps) x.0) x.1)
+    (λ x. Record_in a u ext (ordered o (tags ps) (written_rules a ps)) (written_rules a adds) (ordered o (tags ps) x.0) x.1)
     (slots r, slots x) (fields r x) (ap (λ z. fields z x) (sym (as_slots-slots r)) ∙ ap (λ z. fields (as_slots (slots r)) z) (sym (as_slots-slots x)))
     (record_written a u o (tags ps) ext ps adds (slots r) (slots x))
 fields_within a u o ext ps adds _ = refused_within
 
 pub record_layer : (a : Settings) (u : Bool) (o : Order) (ext : Bool) (ps adds : Parts) (v : Value) → Carry (Writes a (Schema.sequence o ps ext adds) v)
-    (As (λ (x : List (Option Value) × List (Option Value)). fields (as_slots x.0) (as_slots x.1)) (λ x. Fields_in a u ext (ordered o (tags ps) (written_rules a ps)) (written_rules a adds) (ordered o (tags ps) x.0) x.1) v)
+    (As (λ (x : List (Option Value) × List (Option Value)). fields (as_slots x.0) (as_slots x.1)) (λ x. Record_in a u ext (ordered o (tags ps) (written_rules a ps)) (written_rules a adds) (ordered o (tags ps) x.0) x.1) v)
 record_layer a u o ext ps adds v = carried (fields_within a u o ext ps adds v)
 
 -- choices
@@ -99,6 +99,6 @@ chosen-pairs a no_parts = tt
 chosen-pairs a (part t p s ps) = (record { alike = refl; each = written_so a s }, chosen-pairs a ps)
 
 pub choice_layer : (a : Settings) (ext : Bool) (ps adds : Parts) (v : Value) → Carry (Writes a (Schema.choice ps adds ext) v)
-    (As (λ (x : Side × ℕ × Value). alternative x.0 x.1 x.2) (λ x. Basic.Alternative a ext (chosen_rules a ps) (chosen_rules a adds) x.0 x.1 x.2) v)
+    (As (λ (x : Side × ℕ × Value). alternative x.0 x.1 x.2) (λ x. Basic.Choice a ext (chosen_rules a ps) (chosen_rules a adds) x.0 x.1 x.2) v)
 unfolding canon
 choice_layer a ext ps adds v = carried (choices_within a ext (members a.variant ps) (members a.variant adds) (chosen_rules a ps) (chosen_rules a adds) (chosen-pairs a ps) (chosen-pairs a adds) v)

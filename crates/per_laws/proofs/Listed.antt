@@ -8,7 +8,7 @@ use Rattle.rasn_schema.specs.Lawful.{IsLawful, leaves, leaves_of, same_tag, is_n
 use Rattle.rasn_schema.specs.Orders.{insert_at, how_many_less, by_tags}
 use Rattle.rasn_schema.specs.Schemas.{Tag, TagTree, TagTrees, leaf, one_of, no_trees, tree, tag_less, smallest, least_of, tags, required, optional, group, default, by_tag, Schema, Parts, no_parts, part}
 use Rattle.per_core.specs.Canon.{canon, members, record_of}
-use Rattle.per_core.proofs.Lengths.{and_left, and_right}
+use Rattle.per_core.proofs.LengthForms.{and_left, and_right}
 use Rattle.per_core.proofs.Readings.{length-by_tags}
 use Rattle.per_laws.specs.Listings.{Relisted, nothing_listed, kept, exchanged, in_turn}
 use Rattle.per_laws.proofs.Tagged.{one_tag, apart, found_left, found_right, distinct_left, distinct_right}

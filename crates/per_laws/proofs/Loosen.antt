@@ -8,10 +8,10 @@ use Rattle.rasn_constraints.specs.Bounds.{above, Bounds, Size, any_size, unbound
 use Rattle.rasn_schema.specs.Orders.{ordered}
 use Rattle.rasn_schema.specs.Schemas.{tags, Schema, Parts, no_parts, part}
 use Rattle.per_core.specs.Basic
-use Rattle.per_core.specs.Basic.{constrained_by, IsConstrainedWhole, InOctets, InFragments, UnconstrainedLength, PaddingIf, length_form, Sized, Marked, Lengthy, octet, bit, Octets, IsSemiConstrainedWhole, IsUnconstrainedWhole, number_spelling, IsNumber, IsNumberOf, at_least_zero, Small, Fills, Open, Rule, Unknown_in, Additions_in, IsBitmap, Fields_in, Chosen, Char, String, YearIn, year_form, IsDay, As, Proper, basic_in, rules_in, fills}
-use Rattle.per_core.specs.Counts.{Counted, list_items, octet_items, bit_items, char_items, is_aligned}
+use Rattle.per_core.specs.Basic.{constrained_by, IsConstrainedWhole, InOctets, InFragments, UnconstrainedLength, PaddingIf, length_form, Sized, Marked, Counted, octet, bit, Octets, IsSemiConstrainedWhole, IsUnconstrainedWhole, number_spelling, IsNumber, IsNumberOf, at_least_zero, Small, Fills, Open, Rule, Unknown_in, Additions_in, IsBitmap, Record_in, Chosen, Char, String, YearIn, year_form, IsDay, As, Proper, basic_in, rules_in, fills}
+use Rattle.per_core.specs.Counts.{ItemKind, list_items, octet_items, bit_items, char_items, is_aligned}
 use Rattle.per_core.specs.Spellings.{Settings, Spelling, exactly, Then, AnyPadding, Field}
-use Rattle.per_core.proofs.Lengths.{Zip}
+use Rattle.per_core.proofs.LengthForms.{Zip}
 use Rattle.per_core.proofs.Readings.{length-rules-in}
 use Rattle.per_laws.proofs.Carry.{Carry, kept, then_carry, either_carry, when_carry, fills_carry, lengthy_carry, AllLead, carries}
 use Rattle.per_laws.proofs.Carrying.{as_carry, additions_step, record_as, choice_as, rules_on}
@@ -53,20 +53,20 @@ module _ {X : Type 0} (f : X → Spelling) (a : Settings) where
   pads_if true = pads a
   pads_if false = kept
 
-  forms : (l u : Option ℕ) (kind : Counted) (xs : List X) → Carry (length_form a l u kind f xs) (length_form (loose a) l u kind f xs)
+  forms : (l u : Option ℕ) (kind : ItemKind) (xs : List X) → Carry (length_form a l u kind f xs) (length_form (loose a) l u kind f xs)
   forms None u kind xs = unsizeds xs
   forms (Some lb) None kind xs = unsizeds xs
   forms (Some lb) (Some ub) kind xs = cond_carry (ltb ub 65536)
       (then_carry (boundeds a (ub - lb + 1) (length xs - lb)) (then_carry (pads_if (ltb 0 (length xs) && is_aligned kind lb ub)) kept)) (unsizeds xs)
 
-  sizeds : (size : Size) (kind : Counted) (xs : List X) → Carry (Sized a size kind f xs) (Sized (loose a) size kind f xs)
+  sizeds : (size : Size) (kind : ItemKind) (xs : List X) → Carry (Sized a size kind f xs) (Sized (loose a) size kind f xs)
   sizeds size kind xs = record { carry = λ p b x. record { allowed = x.allowed; spelled = (forms size.least size.most kind xs).carry p b x.spelled } }
 
 marks : {X : Type 0} (mark : Bool) (f g f' g' : X → Spelling) (x : X) → Carry (f x) (f' x) → Carry (g x) (g' x) → Carry (Marked mark f g x) (Marked mark f' g' x)
 marks false f g f' g' x h k = h
 marks true f g f' g' x h k = either_carry (then_carry kept h) (then_carry kept k)
 
-lengthies : {X : Type 0} (f : X → Spelling) (a : Settings) (size : Size) (mark : Bool) (kind : Counted) (xs : List X) → Carry (Lengthy a size mark kind f xs) (Lengthy (loose a) size mark kind f xs)
+lengthies : {X : Type 0} (f : X → Spelling) (a : Settings) (size : Size) (mark : Bool) (kind : ItemKind) (xs : List X) → Carry (Counted a size mark kind f xs) (Counted (loose a) size mark kind f xs)
 lengthies f a size mark kind xs = marks mark (Sized a size kind f) (Sized a any_size kind f) (Sized (loose a) size kind f) (Sized (loose a) any_size kind f) xs (sizeds f a size kind xs) (sizeds f a any_size kind xs)
 
 octetses : (a : Settings) (os : List ℕ) → Carry (Octets a os) (Octets (loose a) os)
@@ -127,12 +127,12 @@ additions_loose a u (r ∷ rs) (s ∷ ss) (true ∷ bs) = then_carry
 bitmaps : (a : Settings) (bs : List Bool) → Carry (IsBitmap a bs) (IsBitmap (loose a) bs)
 bitmaps a bs = record { carry = λ p b x. record { some = x.some; spelled = (either_carry {f = Then (exactly (false ∷ [])) (Then (Field 6 (length bs - 1)) (exactly bs))} kept (then_carry kept (sizeds bit a any_size bit_items bs))).carry p b x.spelled } }
 
-fields_loose : (a : Settings) (u ext : Bool) (rs adds : List Rule) (ss xs : List (Option Value)) → Carry (Fields_in a u ext rs adds ss xs) (Fields_in (loose a) u ext rs adds ss xs)
+fields_loose : (a : Settings) (u ext : Bool) (rs adds : List Rule) (ss xs : List (Option Value)) → Carry (Record_in a u ext rs adds ss xs) (Record_in (loose a) u ext rs adds ss xs)
 fields_loose a u false rs adds ss xs = then_carry kept (additions_loose a u adds xs [])
 fields_loose a u true rs adds ss xs = either_carry (then_carry kept (then_carry kept (additions_loose a u adds xs [])))
     (record { carry = λ p b x. record { flags = x.flags; spelled = (then_carry kept (then_carry kept (then_carry (bitmaps a x.flags) (additions_loose a u adds xs x.flags)))).carry p b x.spelled } })
 
-alternative_loose : (a : Settings) (ext : Bool) (rs adds : List Rule) (d : Side) (i : ℕ) (v : Value) → Carry (Basic.Alternative a ext rs adds d i v) (Basic.Alternative (loose a) ext rs adds d i v)
+alternative_loose : (a : Settings) (ext : Bool) (rs adds : List Rule) (d : Side) (i : ℕ) (v : Value) → Carry (Basic.Choice a ext rs adds d i v) (Basic.Choice (loose a) ext rs adds d i v)
 alternative_loose a ext rs adds root i v = then_carry kept (then_carry (boundeds a (length rs) i) kept)
 alternative_loose a ext rs adds added i v = then_carry kept (then_carry (smalls a i) (opens a (Fills a (Chosen adds i v)) (Fills (loose a) (Chosen adds i v)) (fillses a (Chosen adds i v))))
 
@@ -141,7 +141,7 @@ items_loose a r e ext root i = then_carry kept (boundeds a r i)
 items_loose a r e ext added i = then_carry kept (record { carry = λ p b x. record { known = x.known; spelled = (smalls a i).carry p b x.spelled } })
 
 -- the same items, spelled otherwise
-lengthy_same : {X : Type 0} (f g : X → Spelling) → ((x : X) → Carry (f x) (g x)) → (a : Settings) (size : Size) (mark : Bool) (kind : Counted) (xs : List X) → Carry (Lengthy a size mark kind f xs) (Lengthy a size mark kind g xs)
+lengthy_same : {X : Type 0} (f g : X → Spelling) → ((x : X) → Carry (f x) (g x)) → (a : Settings) (size : Size) (mark : Bool) (kind : ItemKind) (xs : List X) → Carry (Counted a size mark kind f xs) (Counted a size mark kind g xs)
 lengthy_same {X} f g h a size mark kind xs = lengthy_carry (λ (x y : X). x ≡ y) f g (λ x y e. subst (λ z. Carry (f x) (g z)) e (h x)) a size mark kind xs xs (zip_self xs)
   where
     zip_self : (xs : List X) → Zip (λ (x y : X). x ≡ y) xs xs
@@ -187,27 +187,27 @@ mutual
   loosen a u Schema.date v = made_carry (λ (x : ℤ × ℕ × ℕ). day x.0 (suc x.1) (suc x.2)) (IsDay a) (IsDay (loose a)) (days a) v
   loosen a u (Schema.number bounds mark range) v = made_carry whole (IsNumberOf a bounds mark range) (IsNumberOf (loose a) bounds mark range) (numbers_of a bounds mark range) v
   loosen a u (Schema.items r e ext) v = made_carry (λ (x : Side × ℕ). Value.item x.0 x.1) (λ x. Basic.Item a r e ext x.0 x.1) (λ x. Basic.Item (loose a) r e ext x.0 x.1) (λ x. items_loose a r e ext x.0 x.1) v
-  loosen a u (Schema.octet_string size mark) v = made_carry Value.octets (Lengthy a size mark octet_items octet) (Lengthy (loose a) size mark octet_items octet) (lengthies octet a size mark octet_items) v
-  loosen a u (Schema.bit_string size mark) v = made_carry Value.bits (Lengthy a size mark bit_items bit) (Lengthy (loose a) size mark bit_items bit) (lengthies bit a size mark bit_items) v
+  loosen a u (Schema.octet_string size mark) v = made_carry Value.octets (Counted a size mark octet_items octet) (Counted (loose a) size mark octet_items octet) (lengthies octet a size mark octet_items) v
+  loosen a u (Schema.bit_string size mark) v = made_carry Value.bits (Counted a size mark bit_items bit) (Counted (loose a) size mark bit_items bit) (lengthies bit a size mark bit_items) v
   loosen a u (Schema.char_string alphabet size mark) v = made_carry characters (String a alphabet size mark) (String (loose a) alphabet size mark) (strings a alphabet size mark) v
   loosen a u (Schema.list e size mark) v = carries
       (list_kept Nothing (basic_in a u e) (basic_in (loose a) u e) (λ w m. loosen a u e w) a size mark v (none_in v))
-      (made_carry (λ vs. elements (as_values vs)) (Lengthy a size mark list_items (basic_in (loose a) u e)) (Lengthy (loose a) size mark list_items (basic_in (loose a) u e)) (lengthies (basic_in (loose a) u e) a size mark list_items) v)
+      (made_carry (λ vs. elements (as_values vs)) (Counted a size mark list_items (basic_in (loose a) u e)) (Counted (loose a) size mark list_items (basic_in (loose a) u e)) (lengthies (basic_in (loose a) u e) a size mark list_items) v)
   loosen a u (Schema.set_of e size mark) v = carries
       (bag_kept Nothing (basic_in a u e) (basic_in (loose a) u e) (λ w m. loosen a u e w) a size mark v (none_in v))
-      (made_carry bag_of (Lengthy a size mark list_items (basic_in (loose a) u e)) (Lengthy (loose a) size mark list_items (basic_in (loose a) u e)) (lengthies (basic_in (loose a) u e) a size mark list_items) v)
+      (made_carry bag_of (Counted a size mark list_items (basic_in (loose a) u e)) (Counted (loose a) size mark list_items (basic_in (loose a) u e)) (lengthies (basic_in (loose a) u e) a size mark list_items) v)
   loosen a u (Schema.sequence o ps ext adds) v = carries
       (record_as a u u o (tags ps) ext (equals ps) (rules_in a u ps) (rules_in (loose a) u ps) (rules_in a u adds) (rules_in (loose a) u adds) (loosen_leads a u ps) v v
       (λ x i m n. (x, i, along_equal ps x.0 (m ∙ length-rules-in a u ps), loosen_additions a u adds x.1)))
       (made_carry (λ (x : List (Option Value) × List (Option Value)). fields (as_slots x.0) (as_slots x.1))
-      (λ x. Fields_in a u ext (ordered o (tags ps) (rules_in (loose a) u ps)) (rules_in (loose a) u adds) (ordered o (tags ps) x.0) x.1)
-      (λ x. Fields_in (loose a) u ext (ordered o (tags ps) (rules_in (loose a) u ps)) (rules_in (loose a) u adds) (ordered o (tags ps) x.0) x.1)
+      (λ x. Record_in a u ext (ordered o (tags ps) (rules_in (loose a) u ps)) (rules_in (loose a) u adds) (ordered o (tags ps) x.0) x.1)
+      (λ x. Record_in (loose a) u ext (ordered o (tags ps) (rules_in (loose a) u ps)) (rules_in (loose a) u adds) (ordered o (tags ps) x.0) x.1)
       (λ x. fields_loose a u ext (ordered o (tags ps) (rules_in (loose a) u ps)) (rules_in (loose a) u adds) (ordered o (tags ps) x.0) x.1) v)
   loosen a u (Schema.choice ps adds ext) v = carries
       (choice_as a ext (rules_in a u ps) (rules_in (loose a) u ps) (rules_in a u adds) (rules_in (loose a) u adds) (length-rules-in a u ps ∙ sym (length-rules-in (loose a) u ps)) v v
       (λ d i x h. (x, h, on_either (λ side. Carry (Chosen (rules_on side (rules_in a u ps) (rules_in a u adds)) i x) (Chosen (rules_on side (rules_in (loose a) u ps) (rules_in (loose a) u adds)) i x)) (loosen_chosen a u ps i x) (loosen_chosen a u adds i x) d)))
-      (made_carry (λ (x : Side × ℕ × Value). alternative x.0 x.1 x.2) (λ x. Basic.Alternative a ext (rules_in (loose a) u ps) (rules_in (loose a) u adds) x.0 x.1 x.2)
-      (λ x. Basic.Alternative (loose a) ext (rules_in (loose a) u ps) (rules_in (loose a) u adds) x.0 x.1 x.2) (λ x. alternative_loose a ext (rules_in (loose a) u ps) (rules_in (loose a) u adds) x.0 x.1 x.2) v)
+      (made_carry (λ (x : Side × ℕ × Value). alternative x.0 x.1 x.2) (λ x. Basic.Choice a ext (rules_in (loose a) u ps) (rules_in (loose a) u adds) x.0 x.1 x.2)
+      (λ x. Basic.Choice (loose a) ext (rules_in (loose a) u ps) (rules_in (loose a) u adds) x.0 x.1 x.2) (λ x. alternative_loose a ext (rules_in (loose a) u ps) (rules_in (loose a) u adds) x.0 x.1 x.2) v)
 
   loosen_leads : (a : Settings) (u : Bool) (ps : Parts) → AllLead false (equals ps) (rules_in a u ps) (rules_in (loose a) u ps)
   loosen_leads a u no_parts = tt

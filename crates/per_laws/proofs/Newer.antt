@@ -7,13 +7,13 @@ use Rattle.rasn_schema.specs.Orders.{ordered}
 use Rattle.rasn_constraints.specs.Bounds.{Size}
 use Rattle.rasn_schema.specs.Schemas.{tags, count, Presence, required, optional, group, default, Order, Schema, Parts, no_parts, part}
 use Rattle.per_core.specs.Basic
-use Rattle.per_core.specs.Basic.{Rule, IsLeftOut, Fills, OpenOf, Root, IsBitmap, Unknown_in, Additions_in, Extended_in, Fields_in, As, Lengthy, basic, basic_in, rules, rules_in}
+use Rattle.per_core.specs.Basic.{Rule, IsLeftOut, Fills, OpenOf, Root, IsBitmap, Unknown_in, Additions_in, Extended_in, Record_in, As, Counted, basic, basic_in, rules, rules_in}
 use Rattle.per_core.specs.Counts.{list_items}
 use Rattle.per_core.specs.Spellings.{Settings, Then}
 use Rattle.per_core.specs.Versions.{widen, widen_slots, widen_at, filled_in, all_filled_in, slot_through, through_elements, through_fields, made, made_both, joined, all_of, IsPlain, NewerPresence, Newer, NewerParts, unchanged, more_items, newer_list, newer_set_of, newer_sequence, newer_choice, no_more, more_parts, also}
 use Rattle.per_core.proofs.Agree.{Agree, weaken, then_agree, either_agree, when_agree, never_agree, agree_never, empty_agree, no_yes, yes_no, behind}
 use Rattle.per_core.proofs.Bags.{bag_becomes, any_in_bag}
-use Rattle.per_core.proofs.Lengths.{Zip, lengthy_agree, or_left, or_right}
+use Rattle.per_core.proofs.LengthForms.{Zip, lengthy_agree, or_left, or_right}
 use Rattle.per_core.proofs.Records.{SlotRel, AllKin, Along, holds_agree, root_agree, bitmap_agree}
 use Rattle.per_core.proofs.Unique.{as_agree, fills_agree, open_agree}
 use Rattle.per_core.proofs.Readings.{one_reading, item_agree, alternative_agree, ordered-kin, along-listed, rel_at, length-rules-in, some_same}
@@ -81,7 +81,7 @@ module _ (a : Settings) (may : Bool) (Ss As : List SlotRel) (rs' rs adds' adds :
         let r = w.agree p b c s t x.spelled y.spelled e in ((r.0.0, r.0.1.1), r.1);
   }
 
-  wide_fields_agree : (ext : Bool) → Agree Both (Fields_in a true ext rs' adds' ss' xs') (Fields_in a false ext rs adds ss xs)
+  wide_fields_agree : (ext : Bool) → Agree Both (Record_in a true ext rs' adds' ss' xs') (Record_in a false ext rs adds ss xs)
   wide_fields_agree false = plain_agree
   wide_fields_agree true = either_agree (behind (false ∷ []) plain_agree)
       (record { agree = λ p b c s t x y e. (no_yes (Then (Root rs' ss') (Additions_in a true adds' xs' [])) (Then (Root rs ss) (Then (IsBitmap a y.flags) (Additions_in a false adds xs y.flags)))).agree p b c s t x y.spelled e })
@@ -234,14 +234,14 @@ list_reads : (a : Settings) (s' s : Schema) (size : Size) (mark : Bool) → ((v'
     Agree (WidensValue (Schema.list s' size mark) (Schema.list s size mark) v' v) (basic a (Schema.list s' size mark) v') (basic_in a false (Schema.list s size mark) v)
 unfolding basic_in widen meets_cut
 list_reads a s' s size mark h v' v = as_agree (WidensValue (Schema.list s' size mark) (Schema.list s size mark)) (λ vs. elements (as_values vs)) (λ vs. elements (as_values vs))
-    (Lengthy a size mark list_items (basic a s')) (Lengthy a size mark list_items (basic_in a false s)) v' v
+    (Counted a size mark list_items (basic a s')) (Counted a size mark list_items (basic_in a false s)) v' v
     (λ x y. weaken (λ z m. list_widen s' s x y z m) (lengthy_agree (WidensValue s' s) (basic a s') (basic_in a false s) h a size mark list_items x y))
 
 bag_reads : (a : Settings) (s' s : Schema) (size : Size) (mark : Bool) → ((v' v : Value) → Agree (WidensValue s' s v' v) (basic a s' v') (basic_in a false s v)) → (v' v : Value) →
     Agree (WidensValue (Schema.set_of s' size mark) (Schema.set_of s size mark) v' v) (basic a (Schema.set_of s' size mark) v') (basic_in a false (Schema.set_of s size mark) v)
 unfolding basic_in
 bag_reads a s' s size mark h v' v = as_agree (WidensValue (Schema.set_of s' size mark) (Schema.set_of s size mark)) bag_of bag_of
-    (Lengthy a size mark list_items (basic a s')) (Lengthy a size mark list_items (basic_in a false s)) v' v
+    (Counted a size mark list_items (basic a s')) (Counted a size mark list_items (basic_in a false s)) v' v
     (λ x y. weaken (λ z m. bag_widen s' s size mark x y z m) (lengthy_agree (WidensValue s' s) (basic a s') (basic_in a false s) h a size mark list_items x y))
 
 record_reads : (a : Settings) (o : Order) (ext : Bool) (ps' ps adds' adds : Parts) → NewerParts false ps' ps → NewerParts ext adds' adds →
@@ -250,11 +250,11 @@ record_reads : (a : Settings) (o : Order) (ext : Bool) (ps' ps adds' adds : Part
 unfolding basic_in widen meets_cut
 record_reads a o ext ps' ps adds' adds n ns k k' v' v = as_agree (WidensValue (Schema.sequence o ps' ext adds') (Schema.sequence o ps ext adds))
     (λ x. fields (as_slots x.0) (as_slots x.1)) (λ x. fields (as_slots x.0) (as_slots x.1))
-    (λ x. Fields_in a true ext (ordered o (tags ps') (rules a ps')) (rules a adds') (ordered o (tags ps') x.0) x.1)
-    (λ x. Fields_in a false ext (ordered o (tags ps) (rules_in a false ps)) (rules_in a false adds) (ordered o (tags ps) x.0) x.1) v' v
+    (λ x. Record_in a true ext (ordered o (tags ps') (rules a ps')) (rules a adds') (ordered o (tags ps') x.0) x.1)
+    (λ x. Record_in a false ext (ordered o (tags ps) (rules_in a false ps)) (rules_in a false adds) (ordered o (tags ps) x.0) x.1) v' v
     (λ x y. subst (λ ts. Agree
     (WidensValue (Schema.sequence o ps' ext adds') (Schema.sequence o ps ext adds) (fields (as_slots x.0) (as_slots x.1)) (fields (as_slots y.0) (as_slots y.1)))
-    (Fields_in a true ext (ordered o (tags ps') (rules a ps')) (rules a adds') (ordered o (tags ps') x.0) x.1) (Fields_in a false ext (ordered o ts (rules_in a false ps)) (rules_in a false adds) (ordered o ts y.0) y.1)) (same_tags n)
+    (Record_in a true ext (ordered o (tags ps') (rules a ps')) (rules a adds') (ordered o (tags ps') x.0) x.1) (Record_in a false ext (ordered o ts (rules_in a false ps)) (rules_in a false adds) (ordered o ts y.0) y.1)) (same_tags n)
     (weaken (λ r m. fields_widen a ext ps' ps adds' adds n ns x y (along-listed o (tags ps') (rels ps' ps) x.0 y.0 r.0) r.1 m)
     (wide_fields_agree a ext (ordered o (tags ps') (rels ps' ps)) (rels adds' adds) (ordered o (tags ps') (rules a ps')) (ordered o (tags ps') (rules_in a false ps)) (rules a adds') (rules_in a false adds)
     (ordered-kin o (tags ps') (rels ps' ps) (rules a ps') (rules_in a false ps) k) k' (ordered o (tags ps') x.0) (ordered o (tags ps') y.0) x.1 y.1 ext)))
@@ -265,7 +265,7 @@ choice_reads : (a : Settings) (ext : Bool) (ps' ps adds' adds : Parts) → Newer
 unfolding basic_in widen meets_cut
 choice_reads a ext ps' ps adds' adds n ns k k' v' v = as_agree (WidensValue (Schema.choice ps' adds' ext) (Schema.choice ps adds ext))
     (λ x. alternative x.0 x.1 x.2) (λ x. alternative x.0 x.1 x.2)
-    (λ x. Basic.Alternative a ext (rules a ps') (rules a adds') x.0 x.1 x.2) (λ x. Basic.Alternative a ext (rules_in a false ps) (rules_in a false adds) x.0 x.1 x.2) v' v
+    (λ x. Basic.Choice a ext (rules a ps') (rules a adds') x.0 x.1 x.2) (λ x. Basic.Choice a ext (rules_in a false ps) (rules_in a false adds) x.0 x.1 x.2) v' v
     (alternative_agree (WidensValue (Schema.choice ps' adds' ext) (Schema.choice ps adds ext)) a ext ext (rels ps' ps) (rels adds' adds) (rules a ps') (rules_in a false ps) (rules a adds') (rules_in a false adds) k k'
     (λ i w' w l e m. ap (made (alternative root i)) (at_widen n i w' w (subst (λ c. i < c) (length-rules-in a false ps) l) e m))
     (λ i w' w l e m. ap (made (alternative added i)) (at_widen ns i w' w (subst (λ c. i < c) (length-rules-in a false adds) l) e m)))

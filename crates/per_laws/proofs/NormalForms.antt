@@ -7,7 +7,7 @@ use Rattle.rasn_schema.specs.Schemas.{Presence, required, optional, group, defau
 use Rattle.rasn_schema.specs.Normal.{is_idle, are_idle, is_vacant, settle, each_slot, over_elements, over_bag, over_fields, over_alternative, normal, normals, normal_at}
 use Rattle.rasn_schema.specs.Depth.{meets_cut, slots_meet_cut, meets_cut_at, in_elements, in_fields, in_alternative, in_slots, any_of, CutOf, CutParts, cut_here, alike, cut_list, cut_set_of, cut_sequence, cut_choice, no_cut, cut_part, Unfolds}
 use Rattle.per_core.specs.Canon.{bytes}
-use Rattle.per_core.proofs.Lengths.{or_left, or_right}
+use Rattle.per_core.proofs.LengthForms.{or_left, or_right}
 use Rattle.per_laws.proofs.Types.{up_to}
 use Rattle.per_laws.proofs.Depths.{encodes_deeper, one_encoding}
 

@@ -9,13 +9,13 @@ use Rattle.rasn_schema.specs.Schemas
 use Rattle.rasn_constraints.specs.Bounds.{Size}
 use Rattle.rasn_schema.specs.Schemas.{tags, count, Presence, required, optional, group, default, Order, Schema, Parts, no_parts, part}
 use Rattle.per_core.specs.Basic
-use Rattle.per_core.specs.Basic.{FlagOf, IsLeftOut, Fields, Lengthy, basic, basic_in, rules}
+use Rattle.per_core.specs.Basic.{FlagOf, IsLeftOut, Record, Counted, basic, basic_in, rules}
 use Rattle.per_core.specs.Counts.{list_items}
 use Rattle.per_core.specs.Spellings.{Settings}
 use Rattle.per_core.specs.Versions.{project, project_slots, project_at, widen, widen_slots, widen_at, slot_through, slots_through, through_elements, through_bag, through_fields, through_alternative, through_item, made, made_both, joined, all_of, IsPlain, NewerPresence, Newer, NewerParts, unchanged, more_items, newer_list, newer_set_of, newer_sequence, newer_choice, no_more, more_parts, also}
 use Rattle.per_core.proofs.Agree.{Agree, weaken}
 use Rattle.per_core.proofs.Bags.{bag_becomes, any_in_bag, joined_of}
-use Rattle.per_core.proofs.Lengths.{Zip, lengthy_agree, or_left, or_right}
+use Rattle.per_core.proofs.LengthForms.{Zip, lengthy_agree, or_left, or_right}
 use Rattle.per_core.proofs.Records.{SlotRel, AllKin, Along, fields_agree}
 use Rattle.per_core.proofs.Unique.{as_agree}
 use Rattle.per_core.proofs.Readings.{one_reading, item_agree, alternative_agree, ordered-kin, along-listed, rel_at, length-rules, same_flags, some_same}
@@ -316,14 +316,14 @@ list_reads : (a : Settings) (s' s : Schema) (size : Size) (mark : Bool) → ((v'
     Agree (ProjectsValue (Schema.list s' size mark) (Schema.list s size mark) v' v) (basic a (Schema.list s' size mark) v') (basic a (Schema.list s size mark) v)
 unfolding basic_in project meets_cut
 list_reads a s' s size mark h v' v = as_agree (ProjectsValue (Schema.list s' size mark) (Schema.list s size mark)) (λ vs. elements (as_values vs)) (λ vs. elements (as_values vs))
-    (Lengthy a size mark list_items (basic a s')) (Lengthy a size mark list_items (basic a s)) v' v
+    (Counted a size mark list_items (basic a s')) (Counted a size mark list_items (basic a s)) v' v
     (λ x y. weaken (λ z m. list_project s' s x y z m) (lengthy_agree (ProjectsValue s' s) (basic a s') (basic a s) h a size mark list_items x y))
 
 bag_reads : (a : Settings) (s' s : Schema) (size : Size) (mark : Bool) → ((v' v : Value) → Agree (ProjectsValue s' s v' v) (basic a s' v') (basic a s v)) → (v' v : Value) →
     Agree (ProjectsValue (Schema.set_of s' size mark) (Schema.set_of s size mark) v' v) (basic a (Schema.set_of s' size mark) v') (basic a (Schema.set_of s size mark) v)
 unfolding basic_in
 bag_reads a s' s size mark h v' v = as_agree (ProjectsValue (Schema.set_of s' size mark) (Schema.set_of s size mark)) bag_of bag_of
-    (Lengthy a size mark list_items (basic a s')) (Lengthy a size mark list_items (basic a s)) v' v
+    (Counted a size mark list_items (basic a s')) (Counted a size mark list_items (basic a s)) v' v
     (λ x y. weaken (λ z m. bag_project s' s size mark x y z m) (lengthy_agree (ProjectsValue s' s) (basic a s') (basic a s) h a size mark list_items x y))
 
 record_reads : (a : Settings) (o : Order) (ext : Bool) {ps' ps adds' adds : Parts} → NewerParts false ps' ps → NewerParts ext adds' adds →
@@ -332,11 +332,11 @@ record_reads : (a : Settings) (o : Order) (ext : Bool) {ps' ps adds' adds : Part
 unfolding basic_in project meets_cut
 record_reads a o ext {ps'} {ps} {adds'} {adds} n ns k k' v' v = as_agree (ProjectsValue (Schema.sequence o ps' ext adds') (Schema.sequence o ps ext adds))
     (λ x. fields (as_slots x.0) (as_slots x.1)) (λ x. fields (as_slots x.0) (as_slots x.1))
-    (λ x. Fields a ext (ordered o (tags ps') (rules a ps')) (rules a adds') (ordered o (tags ps') x.0) x.1)
-    (λ x. Fields a ext (ordered o (tags ps) (rules a ps)) (rules a adds) (ordered o (tags ps) x.0) x.1) v' v
+    (λ x. Record a ext (ordered o (tags ps') (rules a ps')) (rules a adds') (ordered o (tags ps') x.0) x.1)
+    (λ x. Record a ext (ordered o (tags ps) (rules a ps)) (rules a adds) (ordered o (tags ps) x.0) x.1) v' v
     (λ x y. subst (λ ts. Agree
     (ProjectsValue (Schema.sequence o ps' ext adds') (Schema.sequence o ps ext adds) (fields (as_slots x.0) (as_slots x.1)) (fields (as_slots y.0) (as_slots y.1)))
-    (Fields a ext (ordered o (tags ps') (rules a ps')) (rules a adds') (ordered o (tags ps') x.0) x.1) (Fields a ext (ordered o ts (rules a ps)) (rules a adds) (ordered o ts y.0) y.1)) (same_tags n)
+    (Record a ext (ordered o (tags ps') (rules a ps')) (rules a adds') (ordered o (tags ps') x.0) x.1) (Record a ext (ordered o ts (rules a ps)) (rules a adds) (ordered o ts y.0) y.1)) (same_tags n)
     (weaken (λ r m. fields_project o ext n ns x y (along-listed o (tags ps') (rels ps' ps) x.0 y.0 r.0) r.1 m)
     (fields_agree a ext (ordered o (tags ps') (rels ps' ps)) (rels adds' adds) (ordered o (tags ps') (rules a ps')) (ordered o (tags ps') (rules a ps)) (rules a adds') (rules a adds)
     (ordered-kin o (tags ps') (rels ps' ps) (rules a ps') (rules a ps) k) k' (ordered o (tags ps') x.0) (ordered o (tags ps') y.0) x.1 y.1 ext)))
@@ -347,7 +347,7 @@ choice_reads : (a : Settings) (ext : Bool) {ps' ps adds' adds : Parts} → Newer
 unfolding basic_in project meets_cut
 choice_reads a ext {ps'} {ps} {adds'} {adds} n ns k k' v' v = as_agree (ProjectsValue (Schema.choice ps' adds' ext) (Schema.choice ps adds ext))
     (λ x. alternative x.0 x.1 x.2) (λ x. alternative x.0 x.1 x.2)
-    (λ x. Basic.Alternative a ext (rules a ps') (rules a adds') x.0 x.1 x.2) (λ x. Basic.Alternative a ext (rules a ps) (rules a adds) x.0 x.1 x.2) v' v
+    (λ x. Basic.Choice a ext (rules a ps') (rules a adds') x.0 x.1 x.2) (λ x. Basic.Choice a ext (rules a ps) (rules a adds) x.0 x.1 x.2) v' v
     (alternative_agree (ProjectsValue (Schema.choice ps' adds' ext) (Schema.choice ps adds ext)) a ext ext (rels ps' ps) (rels adds' adds) (rules a ps') (rules a ps) (rules a adds') (rules a adds) k k'
     (λ i w' w l e m. ap (made (alternative root i)) (at_project n i w' w (subst (λ c. i < c) (length-rules a ps) l) e m))
     (λ i w' w l e m. ap (made (alternative added i)) (at_project ns i w' w (subst (λ c. i < c) (length-rules a adds) l) e m)))

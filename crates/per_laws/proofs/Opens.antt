@@ -8,7 +8,7 @@ use Rattle.per_core.specs.Canon.{canon, bytes, completed}
 use Rattle.per_core.specs.Counts.{open_bits}
 use Rattle.per_core.specs.Spellings.{Settings}
 use Rattle.per_core.specs.Writers.{complete}
-use Rattle.per_core.proofs.Lengths.{same_octets}
+use Rattle.per_core.proofs.LengthForms.{same_octets}
 use Rattle.per_core.proofs.Presenting.{octets_within}
 
 pub open_is_complete : (a : Settings) (s : Schema) (v : Value) (os : List ℕ) (p : ℕ) (b : Bits) → Octets a os p b → OpenOf a (basic a s) v p b ↔ fills a s v os

@@ -16,7 +16,7 @@ use Rattle.per_core.proofs.Unique.{fills_agree}
 use Rattle.per_core.proofs.Within.{zero_if}
 use Rattle.per_core.proofs.Agree.{Agree}
 use Rattle.per_core.proofs.Laws.{written_is_read, fronts_agree}
-use Rattle.per_core.proofs.Lengths.{or_left, or_right, and_no}
+use Rattle.per_core.proofs.LengthForms.{or_left, or_right, and_no}
 use Rattle.per_laws.proofs.Transitive.{or_both}
 use Rattle.per_laws.proofs.Carry.{fills_carry}
 use Rattle.per_laws.proofs.Deeper.{looser, uncut}

@@ -10,9 +10,9 @@ use Rattle.rasn_schema.specs.Orders.{ordered}
 use Rattle.rasn_schema.specs.Depth.{any_of, IsLeaf}
 use Rattle.per_core.specs.Spellings.{Settings}
 use Rattle.per_core.specs.Counts.{list_items}
-use Rattle.per_core.specs.Basic.{FlagOf, IsLeftOut, Fields, Lengthy, Rule, IsConstrainedWhole, Chosen, Open, Fills, basic, basic_in, rules}
+use Rattle.per_core.specs.Basic.{FlagOf, IsLeftOut, Record, Counted, Rule, IsConstrainedWhole, Chosen, Open, Fills, basic, basic_in, rules}
 use Rattle.per_core.proofs.Agree.{Agree, weaken, then_agree, agree_never, never_agree, turned}
-use Rattle.per_core.proofs.Lengths.{Zip, bounded_agree, lengthy_agree, or_left, or_right, and_no}
+use Rattle.per_core.proofs.LengthForms.{Zip, bounded_agree, lengthy_agree, or_left, or_right, and_no}
 use Rattle.per_core.proofs.Unique.{as_agree, small_agree, open_agree, fills_agree}
 use Rattle.per_core.proofs.Records.{SlotRel, Kin, AllKin, Along, fields_agree}
 use Rattle.per_core.proofs.Readings.{one_reading, item_agree, ordered-kin, along-listed, length-rules, same_flags, same_bit, root_added}
@@ -147,7 +147,7 @@ list_kept : (a : Settings) (s t : Schema) (size : Size) (mark : Bool) → ((v w 
     Agree (writes_cut (Schema.list s size mark) (Schema.list t size mark) v ≡ false) (basic a (Schema.list t size mark) v) (basic a (Schema.list s size mark) w)
 unfolding basic_in writes_cut
 list_kept a s t size mark h v w = as_agree (λ v w. writes_cut (Schema.list s size mark) (Schema.list t size mark) v ≡ false) (λ vs. elements (as_values vs)) (λ vs. elements (as_values vs))
-    (Lengthy a size mark list_items (basic a t)) (Lengthy a size mark list_items (basic a s)) v w
+    (Counted a size mark list_items (basic a t)) (Counted a size mark list_items (basic a s)) v w
     (λ x y. weaken (λ z. subst (λ l. any_of (writes_cut s t) l ≡ false) (sym (values-as_values x)) (zip_kept (writes_cut s t) x y z))
     (lengthy_agree (λ v w. writes_cut s t v ≡ false) (basic a t) (basic a s) h a size mark list_items x y))
 
@@ -155,7 +155,7 @@ bag_kept : (a : Settings) (s t : Schema) (size : Size) (mark : Bool) → ((v w :
     Agree (writes_cut (Schema.set_of s size mark) (Schema.set_of t size mark) v ≡ false) (basic a (Schema.set_of t size mark) v) (basic a (Schema.set_of s size mark) w)
 unfolding basic_in writes_cut bag_of
 bag_kept a s t size mark h v w = as_agree (λ v w. writes_cut (Schema.set_of s size mark) (Schema.set_of t size mark) v ≡ false) bag_of bag_of
-    (Lengthy a size mark list_items (basic a t)) (Lengthy a size mark list_items (basic a s)) v w
+    (Counted a size mark list_items (basic a t)) (Counted a size mark list_items (basic a s)) v w
     (λ x y. weaken (λ z.
     let less : Value → Value → Bool = λ v w. before (code v) (code w) in
     subst (λ l. any_of (writes_cut s t) l ≡ false) (sym (values-as_values (sorted less x))) (any_sorted less (writes_cut s t) x (zip_kept (writes_cut s t) x y z)))
@@ -174,10 +174,10 @@ record_kept : (a : Settings) (o : Order) (ext : Bool) {ps qs adds bdds : Parts} 
 unfolding basic_in
 record_kept a o ext {ps} {qs} {adds} {bdds} n ns k k' v w = as_agree (λ v w. writes_cut (Schema.sequence o ps ext adds) (Schema.sequence o qs ext bdds) v ≡ false)
     (λ x. fields (as_slots x.0) (as_slots x.1)) (λ x. fields (as_slots x.0) (as_slots x.1))
-    (λ x. Fields a ext (ordered o (tags qs) (rules a qs)) (rules a bdds) (ordered o (tags qs) x.0) x.1)
-    (λ x. Fields a ext (ordered o (tags ps) (rules a ps)) (rules a adds) (ordered o (tags ps) x.0) x.1) v w
+    (λ x. Record a ext (ordered o (tags qs) (rules a qs)) (rules a bdds) (ordered o (tags qs) x.0) x.1)
+    (λ x. Record a ext (ordered o (tags ps) (rules a ps)) (rules a adds) (ordered o (tags ps) x.0) x.1) v w
     (λ x y. subst (λ ts. Agree (writes_cut (Schema.sequence o ps ext adds) (Schema.sequence o qs ext bdds) (fields (as_slots x.0) (as_slots x.1)) ≡ false)
-    (Fields a ext (ordered o ts (rules a qs)) (rules a bdds) (ordered o ts x.0) x.1) (Fields a ext (ordered o (tags ps) (rules a ps)) (rules a adds) (ordered o (tags ps) y.0) y.1)) (same_read_tags n)
+    (Record a ext (ordered o ts (rules a qs)) (rules a bdds) (ordered o ts x.0) x.1) (Record a ext (ordered o (tags ps) (rules a ps)) (rules a adds) (ordered o (tags ps) y.0) y.1)) (same_read_tags n)
     (weaken (λ r. slots_kept o ext ps qs adds bdds x.0 x.1 (along_kept n x.0 y.0 (along-listed o (tags ps) (kepts ps qs) x.0 y.0 r.0)) (along_kept ns x.1 y.1 r.1))
     (fields_agree a true (ordered o (tags ps) (kepts ps qs)) (kepts adds bdds) (ordered o (tags ps) (rules a qs)) (ordered o (tags ps) (rules a ps)) (rules a bdds) (rules a adds)
     (ordered-kin o (tags ps) (kepts ps qs) (rules a qs) (rules a ps) k) k' (ordered o (tags ps) x.0) (ordered o (tags ps) y.0) x.1 y.1 ext)))
@@ -188,10 +188,10 @@ older_record_kept : (a : Settings) (o : Order) (ext : Bool) {ps qs adds bdds : P
 unfolding basic_in
 older_record_kept a o ext {ps} {qs} {adds} {bdds} n ns k k' v w = turned (λ e. e) (as_agree (λ w v. writes_cut (Schema.sequence o ps ext adds) (Schema.sequence o qs ext bdds) v ≡ false)
     (λ x. fields (as_slots x.0) (as_slots x.1)) (λ x. fields (as_slots x.0) (as_slots x.1))
-    (λ x. Fields a ext (ordered o (tags ps) (rules a ps)) (rules a adds) (ordered o (tags ps) x.0) x.1)
-    (λ x. Fields a ext (ordered o (tags qs) (rules a qs)) (rules a bdds) (ordered o (tags qs) x.0) x.1) w v
+    (λ x. Record a ext (ordered o (tags ps) (rules a ps)) (rules a adds) (ordered o (tags ps) x.0) x.1)
+    (λ x. Record a ext (ordered o (tags qs) (rules a qs)) (rules a bdds) (ordered o (tags qs) x.0) x.1) w v
     (λ y x. subst (λ ts. Agree (writes_cut (Schema.sequence o ps ext adds) (Schema.sequence o qs ext bdds) (fields (as_slots x.0) (as_slots x.1)) ≡ false)
-    (Fields a ext (ordered o (tags ps) (rules a ps)) (rules a adds) (ordered o (tags ps) y.0) y.1) (Fields a ext (ordered o ts (rules a qs)) (rules a bdds) (ordered o ts x.0) x.1)) (same_read_tags n)
+    (Record a ext (ordered o (tags ps) (rules a ps)) (rules a adds) (ordered o (tags ps) y.0) y.1) (Record a ext (ordered o ts (rules a qs)) (rules a bdds) (ordered o ts x.0) x.1)) (same_read_tags n)
     (weaken (λ r. slots_kept o ext ps qs adds bdds x.0 x.1 (along_flipped n y.0 x.0 (along-listed o (tags ps) (flips ps qs) y.0 x.0 r.0)) (along_flipped ns y.1 x.1 r.1))
     (fields_agree a true (ordered o (tags ps) (flips ps qs)) (flips adds bdds) (ordered o (tags ps) (rules a ps)) (ordered o (tags ps) (rules a qs)) (rules a adds) (rules a bdds)
     (ordered-kin o (tags ps) (flips ps qs) (rules a ps) (rules a qs) k) k' (ordered o (tags ps) y.0) (ordered o (tags ps) x.0) y.1 x.1 ext))))
@@ -208,14 +208,14 @@ choice_kept : (a : Settings) (ext : Bool) (adds bdds : Parts) {ps qs : Parts} �
 unfolding basic_in writes_cut
 choice_kept a ext adds bdds {ps} {qs} n h h' v w = as_agree (λ v w. writes_cut (Schema.choice ps adds ext) (Schema.choice qs bdds ext) v ≡ false)
     (λ x. alternative x.0 x.1 x.2) (λ x. alternative x.0 x.1 x.2)
-    (λ x. Basic.Alternative a ext (rules a qs) (rules a bdds) x.0 x.1 x.2) (λ x. Basic.Alternative a ext (rules a ps) (rules a adds) x.0 x.1 x.2) v w
+    (λ x. Basic.Choice a ext (rules a qs) (rules a bdds) x.0 x.1 x.2) (λ x. Basic.Choice a ext (rules a ps) (rules a adds) x.0 x.1 x.2) v w
     (λ x y. go x.0 x.1 x.2 y.0 y.1 y.2)
   where
     place : (i j : ℕ) → Agree (i ≡ j) (IsConstrainedWhole a (length (rules a qs)) i) (IsConstrainedWhole a (length (rules a ps)) j)
     place i j = subst (λ k. Agree (i ≡ j) (IsConstrainedWhole a (length (rules a qs)) i) (IsConstrainedWhole a k j)) (length-rules a qs ∙ same_read_count n ∙ sym (length-rules a ps)) (bounded_agree a (length (rules a qs)) i j)
 
     go : (d : Side) (i : ℕ) (v : Value) (e : Side) (j : ℕ) (w : Value) → Agree (writes_cut (Schema.choice ps adds ext) (Schema.choice qs bdds ext) (alternative d i v) ≡ false)
-        (Basic.Alternative a ext (rules a qs) (rules a bdds) d i v) (Basic.Alternative a ext (rules a ps) (rules a adds) e j w)
+        (Basic.Choice a ext (rules a qs) (rules a bdds) d i v) (Basic.Choice a ext (rules a ps) (rules a adds) e j w)
     go root i v root j w = same_bit ext false (weaken (λ r. r.1) (then_agree (place i j) (λ e.
         subst (λ k. Agree (writes_cut_at ps qs i v ≡ false) (Chosen (rules a qs) i v) (Chosen (rules a ps) k w)) e (h i v w))))
     go root i v added j w = root_added ext _ _

@@ -12,7 +12,7 @@ use Rattle.per_core.specs.Writers.{Writer, just, refused, ◌▹◌, go_on, writ
 use Rattle.per_core.specs.Counts.{counted, list_items, open_bits, constrained_whole, small}
 use Rattle.per_core.specs.Canon.{canon, members, Member, shown, flagged, if_shown, flags_of, bodies_of, also_bit, bitmap_of, bitmap, any_set, opens_of, with_additions, record_of, chosen, extension_bit, ascending}
 use Rattle.per_core.proofs.Readings.{length-by_tags}
-use Rattle.per_core.proofs.Lengths.{or_left, or_right}
+use Rattle.per_core.proofs.LengthForms.{or_left, or_right}
 use Rattle.per_core.proofs.Presenting.{some_both}
 use Rattle.per_laws.proofs.Deeper.{same_cut_tags}
 use Rattle.per_laws.proofs.Takes.{some_is}

@@ -5,7 +5,7 @@ use Rattle.rasn_types.specs.Values.{Value, fields, as_slots}
 use Rattle.rasn_types.specs.Variants.{Variant, aligned, unaligned}
 use Rattle.rasn_schema.specs.Orders.{ordered}
 use Rattle.rasn_schema.specs.Schemas.{Order, Parts, Schema, tags, count}
-use Rattle.per_core.specs.Basic.{OneByOne, LastCount, InFragments, octet, Octets, Rule, Root, IsBitmap, Unknown_in, Additions_in, Fields_in, basic, basic_in, fills, rules}
+use Rattle.per_core.specs.Basic.{OneByOne, LastCount, InFragments, octet, Octets, Rule, Root, IsBitmap, Unknown_in, Additions_in, Record_in, basic, basic_in, fills, rules}
 use Rattle.per_core.specs.Spellings.{Settings, ZeroIf, Spelling, exactly, Then, AnyPadding}
 use Rattle.per_core.specs.Writers.{after, pad}
 use Rattle.per_core.proofs.Laws.{one_spelling, one_value}
@@ -244,7 +244,7 @@ pub unknown_behind : (a : Settings) (o : Order) (ps adds : Parts) (v : Value) (p
 unfolding basic_in
 unknown_behind a o ps adds v p b x = go x.of.0 x.of.1 x.is x.spelled
   where
-    go : (ss xs : List (Option Value)) → v ≡ fields (as_slots ss) (as_slots xs) → Fields_in a true true (ordered o (tags ps) (rules a ps)) (rules a adds) (ordered o (tags ps) ss) xs p (true ∷ b) → WithUnknown a o ps adds v p (true ∷ b)
+    go : (ss xs : List (Option Value)) → v ≡ fields (as_slots ss) (as_slots xs) → Record_in a true true (ordered o (tags ps) (rules a ps)) (rules a adds) (ordered o (tags ps) ss) xs p (true ∷ b) → WithUnknown a o ps adds v p (true ∷ b)
     go ss xs e (inl y) = let h : true ∷ b ≡ false ∷ y.rest = y.joins ∙ ap (λ z. z ++ y.rest) y.is_front in absurd (cc)
     go ss xs e (inr z) =
         let y = z.spelled in

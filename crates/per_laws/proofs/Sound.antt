@@ -5,7 +5,7 @@ use Rattle.rasn_types.specs.Values.{Value, elements, bag_of, fields, alternative
 use Rattle.rasn_constraints.specs.Bounds.{Size, any_size}
 use Rattle.rasn_schema.specs.Orders.{ordered, by_tags, insert_at, how_many_less}
 use Rattle.rasn_schema.specs.Schemas.{Order, listed, by_tag, Tag, tags, Schema, Parts, no_parts, part}
-use Rattle.per_core.specs.Basic.{OneByOne, LastCount, Fragment, InFragments, UnconstrainedLength, IsConstrainedWhole, PaddingIf, length_form, Sized, Lengthy, Octets, Small, Fills, Open, Flags, IsLeftOut, Holds, Body, Bodies, Root, Unknown_in, Additions_in, IsBitmap, Extended_in, Fields_in, ExtensionBit, Chosen, Alternative, As, basic, basic_in, rules_in, fills, front}
+use Rattle.per_core.specs.Basic.{OneByOne, LastCount, Fragment, InFragments, UnconstrainedLength, IsConstrainedWhole, PaddingIf, length_form, Sized, Counted, Octets, Small, Fills, Open, Flags, IsLeftOut, Holds, Body, Bodies, Root, Unknown_in, Additions_in, IsBitmap, Extended_in, Record_in, ExtensionBit, Chosen, Choice, As, basic, basic_in, rules_in, fills, front}
 use Rattle.per_core.specs.Counts.{list_items, is_aligned}
 use Rattle.per_core.specs.Spellings.{Settings, Spelling, exactly, Then, Either, When, never, AnyPadding}
 use Rattle.per_core.specs.Writers.{after}
@@ -103,7 +103,7 @@ module _ (a : Settings) (item : Value → Spelling) (pair : Value → Pair) (eac
     itself = λ p b x. record { allowed = x.allowed; alike = (form_sound size.least size.most vs).itself p b x.spelled };
   }
 
-  lengthy_sound : (size : Size) (mark : Bool) (vs : List Value) → Sound (Lengthy a size mark list_items item vs) (LengthyAlike a size mark pair vs)
+  lengthy_sound : (size : Size) (mark : Bool) (vs : List Value) → Sound (Counted a size mark list_items item vs) (LengthyAlike a size mark pair vs)
   lengthy_sound size false vs = sized_sound size vs
   lengthy_sound size true vs = either_sound (then_sound (same_sound (exactly (false ∷ []))) (sized_sound size vs)) (then_sound (same_sound (exactly (true ∷ []))) (sized_sound any_size vs))
 
@@ -198,7 +198,7 @@ extended_sound a ks adds h k ss xs = record {
         (Both (Same (exactly (true ∷ []))) (Both (RootAlike ks ss) (Both (Same (IsBitmap a flags)) (AdditionsAlike a adds xs flags))))
     one flags = then_sound (same_sound (exactly (true ∷ []))) (then_sound (root_sound ks h ss) (then_sound (same_sound (IsBitmap a flags)) (additions_sound a adds k xs flags)))
 
-fields_sound : (a : Settings) (ext : Bool) (ks adds : List Kin) → KinsSound ks → KinsSound adds → (ss xs : List (Option Value)) → Sound (Fields_in a true ext (rules_of ks) (rules_of adds) ss xs) (FieldsAlike a ext ks adds ss xs)
+fields_sound : (a : Settings) (ext : Bool) (ks adds : List Kin) → KinsSound ks → KinsSound adds → (ss xs : List (Option Value)) → Sound (Record_in a true ext (rules_of ks) (rules_of adds) ss xs) (FieldsAlike a ext ks adds ss xs)
 fields_sound a false ks adds h k ss xs = then_sound (root_sound ks h ss) (additions_sound a adds k xs [])
 fields_sound a true ks adds h k ss xs =
     either_sound (then_sound (same_sound (exactly (false ∷ []))) (then_sound (root_sound ks h ss) (additions_sound a adds k xs []))) (extended_sound a ks adds h k ss xs)
@@ -210,7 +210,7 @@ chosen_sound (k ∷ ks) h zero v = h.0 v
 chosen_sound (k ∷ ks) h (suc i) v = chosen_sound ks h.1 i v
 
 alternative_sound : (a : Settings) (ext : Bool) (ks adds : List Kin) → KinsSound ks → KinsSound adds → (d : Side) (i : ℕ) (v : Value) →
-    Sound (Alternative a ext (rules_of ks) (rules_of adds) d i v) (AlternativeAlike a ext ks adds d i v)
+    Sound (Choice a ext (rules_of ks) (rules_of adds) d i v) (AlternativeAlike a ext ks adds d i v)
 alternative_sound a ext ks adds h k root i v =
     then_sound (same_sound (ExtensionBit ext false)) (then_sound (same_sound (IsConstrainedWhole a (length (rules_of ks)) i)) (chosen_sound ks h i v))
 alternative_sound a ext ks adds h k added i v =
@@ -258,20 +258,20 @@ rules_kins a (part t p s ps) = ap (λ rs. record { presence = p; spells = basic_
 
 -- all kinds
 record_sound : (a : Settings) (o : Order) (ps : Parts) (ext : Bool) (adds : Parts) → KinsSound (kins a ps) → KinsSound (kins a adds) → (ss xs : List (Option Value)) →
-    Sound (Fields_in a true ext (ordered o (tags ps) (rules_in a true ps)) (rules_in a true adds) ss xs) (FieldsAlike a ext (ordered o (tags ps) (kins a ps)) (kins a adds) ss xs)
+    Sound (Record_in a true ext (ordered o (tags ps) (rules_in a true ps)) (rules_in a true adds) ss xs) (FieldsAlike a ext (ordered o (tags ps) (kins a ps)) (kins a adds) ss xs)
 record_sound a o ps ext adds h k ss xs =
     let e : rules_of (ordered o (tags ps) (kins a ps)) ≡ ordered o (tags ps) (rules_in a true ps) = rules_ordered o (tags ps) (kins a ps) ∙ ap (ordered o (tags ps)) (rules_kins a ps) in
     let F = FieldsAlike a ext (ordered o (tags ps) (kins a ps)) (kins a adds) ss xs in
-    subst (λ rs. Sound (Fields_in a true ext rs (rules_in a true adds) ss xs) F) e
-    (subst (λ rs. Sound (Fields_in a true ext (rules_of (ordered o (tags ps) (kins a ps))) rs ss xs) F) (rules_kins a adds)
+    subst (λ rs. Sound (Record_in a true ext rs (rules_in a true adds) ss xs) F) e
+    (subst (λ rs. Sound (Record_in a true ext (rules_of (ordered o (tags ps) (kins a ps))) rs ss xs) F) (rules_kins a adds)
     (fields_sound a ext (ordered o (tags ps) (kins a ps)) (kins a adds) (sound_ordered o (tags ps) (kins a ps) h) k ss xs))
 
 choice_sound : (a : Settings) (ps adds : Parts) (ext : Bool) → KinsSound (kins a ps) → KinsSound (kins a adds) → (d : Side) (i : ℕ) (v : Value) →
-    Sound (Alternative a ext (rules_in a true ps) (rules_in a true adds) d i v) (AlternativeAlike a ext (kins a ps) (kins a adds) d i v)
+    Sound (Choice a ext (rules_in a true ps) (rules_in a true adds) d i v) (AlternativeAlike a ext (kins a ps) (kins a adds) d i v)
 choice_sound a ps adds ext h k d i v =
     let F = AlternativeAlike a ext (kins a ps) (kins a adds) d i v in
-    subst (λ rs. Sound (Alternative a ext rs (rules_in a true adds) d i v) F) (rules_kins a ps)
-    (subst (λ rs. Sound (Alternative a ext (rules_of (kins a ps)) rs d i v) F) (rules_kins a adds) (alternative_sound a ext (kins a ps) (kins a adds) h k d i v))
+    subst (λ rs. Sound (Choice a ext rs (rules_in a true adds) d i v) F) (rules_kins a ps)
+    (subst (λ rs. Sound (Choice a ext (rules_of (kins a ps)) rs d i v) F) (rules_kins a adds) (alternative_sound a ext (kins a ps) (kins a adds) h k d i v))
 
 mutual
   unfolding alike_in kins basic_in

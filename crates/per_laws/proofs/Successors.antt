@@ -5,7 +5,7 @@ use Rattle.rasn_constraints.specs.Bounds.{Size}
 use Rattle.rasn_schema.specs.Depth.{meets_cut, slots_meet_cut, meets_cut_at, CutOf, CutParts, alike, cut_list, cut_set_of, cut_sequence, cut_choice, cut_part, Unfolds}
 use Rattle.rasn_schema.specs.Schemas.{Presence, required, optional, group, default, Order, TagTree, Schema, Parts, no_parts, part}
 use Rattle.per_core.specs.Versions.{IsWidened, NewerPresence, Newer, NewerParts, NewerType, unchanged, more_items, newer_list, newer_set_of, newer_sequence, newer_choice, no_more, more_parts, also}
-use Rattle.per_core.proofs.Lengths.{or_left, or_right}
+use Rattle.per_core.proofs.LengthForms.{or_left, or_right}
 use Rattle.per_laws.proofs.Takes.{some_is}
 use Rattle.per_laws.proofs.Types.{deep_enough, up_to}
 use Rattle.per_laws.proofs.Wider.{wider}

@@ -4,7 +4,7 @@ use Rattle.rasn_types.specs.Values.{Side, root, added}
 use Rattle.rasn_schema.specs.Depth.{any_of}
 use Rattle.rasn_schema.specs.Lawful.{IsLawful, leaves, same_tag, is_new, are_distinct, are_required, tags_below}
 use Rattle.rasn_schema.specs.Schemas.{Tag, required, optional, group, default, Schema, Parts, no_parts, part}
-use Rattle.per_core.proofs.Lengths.{and_left, and_right}
+use Rattle.per_core.proofs.LengthForms.{and_left, and_right}
 use Rattle.per_laws.specs.Listings.{tags_at, has_tag}
 
 -- tags that pass the test are one

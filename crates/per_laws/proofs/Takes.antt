@@ -9,12 +9,12 @@ use Rattle.rasn_schema.specs.Orders.{ordered}
 use Rattle.rasn_constraints.specs.Bounds.{Size}
 use Rattle.rasn_schema.specs.Schemas.{tags, count, Presence, required, optional, group, default, Order, Schema, Parts, no_parts, part}
 use Rattle.per_core.specs.Basic
-use Rattle.per_core.specs.Basic.{FlagOf, IsLeftOut, As, Lengthy, Additions_in, Chosen, basic, basic_in, rules}
+use Rattle.per_core.specs.Basic.{FlagOf, IsLeftOut, As, Counted, Additions_in, Chosen, basic, basic_in, rules}
 use Rattle.per_core.specs.Counts.{list_items}
 use Rattle.per_core.specs.Spellings.{Settings, Spelling}
 use Rattle.per_core.specs.Versions.{project, project_slots, project_at, slot_through, through_item, all_of, IsPlain, NewerPresence, Newer, NewerParts, no_more, also}
 use Rattle.per_core.proofs.Bags.{bag_source, any_in_bag, joined_of}
-use Rattle.per_core.proofs.Lengths.{Zip, or_left, or_right}
+use Rattle.per_core.proofs.LengthForms.{Zip, or_left, or_right}
 use Rattle.per_core.proofs.Records.{SlotRel, Along}
 use Rattle.per_core.proofs.Readings.{length-rules}
 use Rattle.per_laws.proofs.Carry.{Carry, kept, Leads, AllLead}
@@ -78,7 +78,7 @@ zip_first f K (v ∷ vs) ws e m =
 
 pub list_takes : (a : Settings) (s' s : Schema) (size : Size) (mark : Bool) (f g : Value → Spelling) → ((v' v : Value) → DropsValue s' s v' v → Carry (f v') (g v)) → (v' v : Value) →
     meets_cut (Schema.list s' size mark) v' ≡ false → project (Schema.list s' size mark) (Schema.list s size mark) v' ≡ Some v →
-    Carry (As (λ vs. elements (as_values vs)) (Lengthy a size mark list_items f) v') (As (λ vs. elements (as_values vs)) (Lengthy a size mark list_items g) v)
+    Carry (As (λ vs. elements (as_values vs)) (Counted a size mark list_items f) v') (As (λ vs. elements (as_values vs)) (Counted a size mark list_items g) v)
 unfolding project meets_cut
 list_takes a s' s size mark f g each v' v m e = lengthy_as (DropsValue s' s) (λ vs. elements (as_values vs)) (λ vs. elements (as_values vs)) f g each a size mark v' v
     (λ vs i.
@@ -89,7 +89,7 @@ list_takes a s' s size mark f g each v' v m e = lengthy_as (DropsValue s' s) (λ
 
 pub bag_takes : (a : Settings) (s' s : Schema) (size : Size) (mark : Bool) (f g : Value → Spelling) → ((v' v : Value) → DropsValue s' s v' v → Carry (f v') (g v)) → (v' v : Value) →
     meets_cut (Schema.set_of s' size mark) v' ≡ false → project (Schema.set_of s' size mark) (Schema.set_of s size mark) v' ≡ Some v →
-    Carry (As bag_of (Lengthy a size mark list_items f) v') (As bag_of (Lengthy a size mark list_items g) v)
+    Carry (As bag_of (Counted a size mark list_items f) v') (As bag_of (Counted a size mark list_items g) v)
 unfolding project meets_cut bag_of
 bag_takes a s' s size mark f g each v' v m e = lengthy_as (DropsValue s' s) bag_of bag_of f g each a size mark v' v
     (λ vs i.
@@ -151,7 +151,7 @@ pub record_takes : (a : Settings) (o : Order) (ext : Bool) (ps' ps adds' adds qs
 unfolding basic_in project meets_cut
 record_takes a o ext ps' ps adds' adds qs' qs bdds' bdds n n' c c' k k' v' v m e =
     subst (λ ts. Carry (basic a (Schema.sequence o ps' ext adds') v') (As (λ (x : List (Option Value) × List (Option Value)). fields (as_slots x.0) (as_slots x.1))
-    (λ x. Basic.Fields_in a true ext (ordered o ts (rules a ps)) (rules a adds) (ordered o ts x.0) x.1) v)) (same_tags n)
+    (λ x. Basic.Record_in a true ext (ordered o ts (rules a ps)) (rules a adds) (ordered o ts x.0) x.1) v)) (same_tags n)
     (record_as a true true o (tags ps') ext (drops qs' qs) (rules a ps') (rules a ps) (rules a adds') (rules a adds) k v' v
     (λ x i l l'.
     let e' = subst (λ z. project (Schema.sequence o qs' ext bdds') (Schema.sequence o qs ext bdds) z ≡ Some v) i e in

@@ -6,7 +6,7 @@ use Rattle.rasn_schema.specs.Schemas.{Schema, Parts}
 use Rattle.per_core.specs.Basic.{fills, fills_known, read}
 use Rattle.per_core.specs.Spellings.{Settings}
 use Rattle.per_core.specs.Versions.{project, widen, NewerType}
-use Rattle.per_core.proofs.Lengths.{or_left, or_right}
+use Rattle.per_core.proofs.LengthForms.{or_left, or_right}
 use Rattle.per_laws.proofs.Carry.{fills_carry}
 use Rattle.per_laws.proofs.Deeper.{deeper, looser, uncut}
 use Rattle.per_laws.proofs.Held.{older_holds, newer_holds}

@@ -8,7 +8,7 @@ use Rattle.rasn_schema.specs.Lawful.{all_pass, is_countable, if_elements, if_bag
 use Rattle.per_core.specs.Versions.{all_of, joined}
 use Rattle.per_core.proofs.Bags.{bag_becomes, sort, some_list}
 use Rattle.per_core.proofs.Counting.{length-map'}
-use Rattle.per_core.proofs.Lengths.{and_left, and_right}
+use Rattle.per_core.proofs.LengthForms.{and_left, and_right}
 use Rattle.per_laws.proofs.Reading.{same_self}
 
 -- what passes a test passes it still

@@ -9,12 +9,12 @@ use Rattle.rasn_schema.specs.Orders.{ordered}
 use Rattle.rasn_constraints.specs.Bounds.{Size}
 use Rattle.rasn_schema.specs.Schemas.{tags, count, Presence, required, optional, group, default, Order, Schema, Parts, no_parts, part}
 use Rattle.per_core.specs.Basic
-use Rattle.per_core.specs.Basic.{FlagOf, IsLeftOut, As, Unknown_in, Lengthy, Additions_in, Chosen, basic_in, rules_in}
+use Rattle.per_core.specs.Basic.{FlagOf, IsLeftOut, As, Unknown_in, Counted, Additions_in, Chosen, basic_in, rules_in}
 use Rattle.per_core.specs.Counts.{list_items}
 use Rattle.per_core.specs.Spellings.{Settings, Spelling}
 use Rattle.per_core.specs.Versions.{widen, widen_slots, widen_at, filled_in, all_filled_in, slot_through, all_of, NewerPresence, NewerParts, no_more, also}
 use Rattle.per_core.proofs.Bags.{bag_source, any_in_bag, joined_of}
-use Rattle.per_core.proofs.Lengths.{Zip, or_left, or_right}
+use Rattle.per_core.proofs.LengthForms.{Zip, or_left, or_right}
 use Rattle.per_core.proofs.Records.{SlotRel, Along}
 use Rattle.per_core.proofs.Readings.{length-rules-in}
 use Rattle.per_laws.proofs.Carry.{Carry, kept, Leads, AllLead}
@@ -74,7 +74,7 @@ zip_second f K (v ∷ vs) ws e m =
 
 pub list_grows : (a : Settings) (s' s : Schema) (size : Size) (mark : Bool) (f g : Value → Spelling) → ((v v' : Value) → GrowsValue s' s v v' → Carry (f v) (g v')) → (v v' : Value) →
     meets_cut (Schema.list s' size mark) v' ≡ false → widen (Schema.list s' size mark) (Schema.list s size mark) v ≡ Some v' →
-    Carry (As (λ vs. elements (as_values vs)) (Lengthy a size mark list_items f) v) (As (λ vs. elements (as_values vs)) (Lengthy a size mark list_items g) v')
+    Carry (As (λ vs. elements (as_values vs)) (Counted a size mark list_items f) v) (As (λ vs. elements (as_values vs)) (Counted a size mark list_items g) v')
 unfolding widen meets_cut
 list_grows a s' s size mark f g each v v' m e = lengthy_as (GrowsValue s' s) (λ vs. elements (as_values vs)) (λ vs. elements (as_values vs)) f g each a size mark v v'
     (λ vs i.
@@ -85,7 +85,7 @@ list_grows a s' s size mark f g each v v' m e = lengthy_as (GrowsValue s' s) (λ
 
 pub bag_grows : (a : Settings) (s' s : Schema) (size : Size) (mark : Bool) (f g : Value → Spelling) → ((v v' : Value) → GrowsValue s' s v v' → Carry (f v) (g v')) → (v v' : Value) →
     meets_cut (Schema.set_of s' size mark) v' ≡ false → widen (Schema.set_of s' size mark) (Schema.set_of s size mark) v ≡ Some v' →
-    Carry (As bag_of (Lengthy a size mark list_items f) v) (As bag_of (Lengthy a size mark list_items g) v')
+    Carry (As bag_of (Counted a size mark list_items f) v) (As bag_of (Counted a size mark list_items g) v')
 unfolding widen meets_cut bag_of
 bag_grows a s' s size mark f g each v v' m e = lengthy_as (GrowsValue s' s) bag_of bag_of f g each a size mark v v'
     (λ vs i.
@@ -149,7 +149,7 @@ pub record_grows : (a : Settings) (o : Order) (ext : Bool) (ps' ps adds' adds qs
 unfolding basic_in widen meets_cut
 record_grows a o ext ps' ps adds' adds qs' qs bdds' bdds n n' c c' k k' v v' m e =
     subst (λ ts. Carry (basic_in a false (Schema.sequence o ps ext adds) v) (As (λ (x : List (Option Value) × List (Option Value)). fields (as_slots x.0) (as_slots x.1))
-    (λ x. Basic.Fields_in a false ext (ordered o ts (rules_in a false ps')) (rules_in a false adds') (ordered o ts x.0) x.1) v')) (sym (same_tags n))
+    (λ x. Basic.Record_in a false ext (ordered o ts (rules_in a false ps')) (rules_in a false adds') (ordered o ts x.0) x.1) v')) (sym (same_tags n))
     (record_as a false false o (tags ps) ext (grows qs' qs) (rules_in a false ps) (rules_in a false ps') (rules_in a false adds) (rules_in a false adds') k v v'
     (λ x i l l'.
     let e' = subst (λ z. widen (Schema.sequence o qs' ext bdds') (Schema.sequence o qs ext bdds) z ≡ Some v') i e in

@@ -6,7 +6,7 @@ use Rattle.rasn_schema.specs.Depth.{meets_cut, slots_meet_cut, meets_cut_at, in_
 use Rattle.rasn_schema.specs.Schemas.{Schema, Parts}
 use Rattle.per_core.specs.Versions.{widen, widen_slots, widen_at, slot_through, slots_through, through_elements, through_bag, through_fields, through_alternative, made, made_both, joined, all_of, IsPlain}
 use Rattle.per_core.proofs.Bags.{joined_of}
-use Rattle.per_core.proofs.Lengths.{or_left, or_right}
+use Rattle.per_core.proofs.LengthForms.{or_left, or_right}
 use Rattle.per_core.proofs.Readings.{some_same}
 use Rattle.per_laws.proofs.Held.{plain_cut, same_filled}
 use Rattle.per_laws.proofs.Older.{made_of, made_both_of, slot_some}

@@ -15,7 +15,7 @@ use Rattle.per_core.specs.Writers.{after}
 abbrev pub Pair : Type 1
 Pair = ℕ → Bits → Bits → Type 0
 
--- the same bits, of one spelling
+-- two lists of bits are one, of one spelling
 abbrev pub Same : Spelling → Pair
 Same f p b c = f p b × (b ≡ c)
 
@@ -200,7 +200,7 @@ unfoldable mutual
       (λ x. AlternativeAlike a ext (kins a ps) (kins a adds) x.0 x.1 x.2)
   alike_in a s = λ v. Same (basic a s v)
 
-  -- the same of parts, additions or alternatives
+  -- two spellings of each of some parts, additions or alternatives, but for what stands unknown in open types
   pub kins : Settings → Parts → List Kin
   kins a no_parts = []
   kins a (part t p s ps) =

@@ -20,8 +20,7 @@ PresenceSucceeds s' s _ _ = ⊥
 
 mutual
   -- X.680 52: the first schema is an extension successor of the second: the same tree, in which more additions,
-  -- alternatives and items
-  -- may stand behind an extension marker
+  -- alternatives and items may stand behind an extension marker
   pub data Succeeds : Schema → Schema → Type 0 where
     succeeds_itself : {s : Schema} → IsPlain s → Succeeds s s
     succeeds_items : {r e e' : ℕ} → e ≤ e' → Succeeds (Schema.items r e' true) (Schema.items r e true)
@@ -36,7 +35,7 @@ mutual
         → SucceedsParts ext adds' adds
         → Succeeds (Schema.choice ps' adds' ext) (Schema.choice ps adds ext)
 
-  -- the same of members, the newer ones first; the truth value says whether some may have been added
+  -- the first members succeed the second ones; the truth value says whether some may have been added
   pub data SucceedsParts : Bool → Parts → Parts → Type 0 where
     none_succeed : {may : Bool} → SucceedsParts may no_parts no_parts
     added_parts : {t : TagTree} {p : Presence} {s : Schema} {ps : Parts} → SucceedsParts true (part t p s ps) no_parts

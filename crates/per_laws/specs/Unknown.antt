@@ -19,8 +19,8 @@ abbrev pub OpenTypes : Settings → List (List ℕ) → Spelling
 OpenTypes a = OneByOne (Octets a)
 
 -- X.691 19: a record with extension bit 1 up to its unknown additions: the root components, a bitmap, in which `more`
--- stands behind the
--- bits for the additions of the schema, and these additions. A bitmap may also be shorter than the schema's list
+-- stands behind the bits for the additions of the schema, and these additions. A bitmap may also be shorter than the
+-- schema's list
 pub record BeforeUnknown (a : Settings) (o : Order) (ps adds : Parts) (more : List Bool) (v : Value) (p : ℕ)
     (bits : Bits) : Type 0 where
   pub components : List (Option Value)

@@ -30,8 +30,8 @@ pub fn lawful_type_has_one_normal_form()
         (normal (family m) v ≡ normal (family n) v) × (normal (family m) (normal (family n) v) ≡ normal (family n) v) }
 {}
 
-/// And one canonical encoding: all depths that have one have the same, and once a depth that holds the value has one,
-/// so has each greater depth.
+/// A value of a lawful type has one canonical encoding: all depths that have one have the same, and once a depth that
+/// holds the value has one, so has each greater depth.
 pub fn lawful_type_has_one_encoding()
     ensures one { (a : Variant) (family : ℕ → Schema) → IsLawfulType family
         → (v : Value) (k l m n : ℕ) (os ps : List ℕ) → meets_cut (family k) v ≡ false → meets_cut (family l) v ≡ false →

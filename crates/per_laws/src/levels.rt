@@ -40,7 +40,8 @@ pub fn levelled_type_unfolds()
     ensures { (family : ℕ → Schema) → Levelled family → Unfolds family }
 {}
 
-/// And its trees of two levels more than a value has hold that value.
+/// Of a family of trees, each the next one to its number of levels, each tree of two levels more than a value has, or
+/// of more, holds that value.
 pub fn levelled_holds()
     ensures { (family : ℕ → Schema) → Levelled family → (v : Value) (n : ℕ) → levels_of v + 2 ≤ n
         → meets_cut (family n) v ≡ false }
@@ -52,7 +53,7 @@ pub fn deeper_writes()
         → (canon a t v p ≡ Some b) × (writes_cut s s v ≡ false) }
 {}
 
-/// And back: where nothing that is written stands at a Cut, both trees write the same, or both refuse.
+/// Where nothing that is written of a value stands at a Cut, a tree and a deeper one write it alike, or both refuse.
 pub fn shallower_writes()
     ensures { (a : Variant) (s t : Schema) → CutOf s t → (v : Value) (p : ℕ) → writes_cut s s v ≡ false
         → canon a s v p ≡ canon a t v p }
@@ -90,7 +91,7 @@ pub fn one_canonical_encoding()
         ≡ ps }
 {}
 
-/// And once a tree that holds the value gives it an encoding, every deeper tree gives it the same.
+/// Once a tree that holds a value gives it a canonical encoding, every deeper tree gives it the same.
 pub fn canonical_encoding_deeper()
     ensures { (a : Variant) (family : ℕ → Schema) → Unfolds family → (v : Value) (os : List ℕ) (m n : ℕ) → m ≤ n
         → meets_cut (family m) v ≡ false →
@@ -149,14 +150,16 @@ pub fn type_front()
         front a (family 128) w (os ++ rest) after → read a family w os × (after ≡ rest) }
 {}
 
-/// The same of an older type's reader.
+/// Of octets that begin with canonical bytes of a newer type an older type's reader reads what it reads of those bytes
+/// alone, with all that follows them.
 pub fn older_type_front()
     ensures { (a : Settings) (newer older : ℕ → Schema) → Unfolds newer → Unfolds older → NewerType newer older
         → (v w : Value) (os rest after : List ℕ) (n : ℕ) → bytes a.variant (newer n) v ≡ Some os →
         front a (older 128) w (os ++ rest) after → read a older w os × (after ≡ rest) }
 {}
 
-/// The same of a newer type's reader.
+/// Of octets that begin with canonical bytes of an older type a newer type's reader reads what it reads of those bytes
+/// alone, with all that follows them.
 pub fn newer_type_front()
     ensures { (a : Settings) (newer older : ℕ → Schema) → Unfolds newer → Unfolds older → NewerType newer older
         → (v w : Value) (os rest after : List ℕ) (n : ℕ) → bytes a.variant (older n) v ≡ Some os →

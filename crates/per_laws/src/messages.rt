@@ -18,7 +18,8 @@ pub fn whole_message_is_read_whatever_is_unknown()
         fills a s v octets ↔ fills a s v others }
 {}
 
-/// And with any octets behind them, as that value, and leave just these.
+/// Octets in front of others, in which any additions that the reader doesn't know are replaced by others, at any depth
+/// of what it knows, are read as the same value, and the same octets are left behind it (X.691, 19.9).
 pub fn message_in_front_is_read_whatever_is_unknown()
     ensures { (a : Settings) (s : Schema) (v : Value) (octets others rest after : List ℕ) → AreAlike a s octets others →
         front a s v (octets ++ rest) after ↔ front a s v (others ++ rest) after }

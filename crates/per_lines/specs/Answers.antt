@@ -146,8 +146,7 @@ pub record HasReplied (a : Arguments) (input rest before after : Option (List �
   pub printed : Appends before after texts
 
 -- what some turns do: they take at least one line, and an output gets the replies to all that they take; where there
--- are no more
--- lines, it has got those to all
+-- are no more lines, it has got those to all
 abbrev pub TakesTurns : Arguments → Bool → Option (List ℕ) → Option (List ℕ) → Option (List ℕ) → Option (List ℕ)
     → Type 0
 TakesTurns a true input rest before after = (replied : HasReplied a input rest before after) × (replied.lines ≢ [])

@@ -46,12 +46,9 @@ abbrev pub one_to : ℕ → Size
 one_to u = record { least = Some 1; most = Some u }
 
 -- what the name of a type means: BOOLEAN (X.680 18); NULL (X.680 24); INTEGER (X.680 19), alone and under value
--- constraints
--- (X.680 51.4); SEQUENCE (X.680 25), with a default, an ENUMERATED (X.680 20), itself or an extension marker in it;
--- SEQUENCE OF
--- (X.680 26); SET OF (X.680 28); CHOICE (X.680 29); BIT STRING (X.680 22); OCTET STRING (X.680 23); character strings
--- (X.680 41) by
--- their characters; UTCTime (X.680 47); and DATE (X.680 38.4)
+-- constraints (X.680 51.4); SEQUENCE (X.680 25), with a default, an ENUMERATED (X.680 20), itself or an extension
+-- marker in it; SEQUENCE OF (X.680 26); SET OF (X.680 28); CHOICE (X.680 29); BIT STRING (X.680 22); OCTET STRING
+-- (X.680 23); character strings (X.680 41) by their characters; UTCTime (X.680 47); and DATE (X.680 38.4)
 abbrev pub schema_of : TypeName → ℕ → Schema
 schema_of Boolean = always Schema.boolean
 schema_of Null = always Schema.null
@@ -147,8 +144,7 @@ IsRefusal a schema octets (Faults.Encode kind) = kind ≢ Encoding.OutOfMemory �
 IsRefusal a schema octets _ = ⊥
 
 -- Octets are read by a type and written; with `zero` their padding and spare bits are zero. Behind `as`, what was
--- written is read by the
--- other type and written.
+-- written is read by the other type and written.
 abbrev pub Converts : Variant → TypeName → Form → List ℕ → List ℕ → Type 0
 Converts a t OneLine octets canonical = Recodes (basically a) (schema_of t) octets canonical
 Converts a t Lines octets canonical = Recodes (basically a) (schema_of t) octets canonical

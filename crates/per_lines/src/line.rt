@@ -23,7 +23,7 @@ pub fn read_line<R: BufRead>(alloc: Global, input: &mut R) -> io::Result<Vec<u8>
     }
 }
 
-/// The same octets, or `None` at the end of the input.
+/// The octets of the next line, without its line feed, or `None` at the end of the input.
 pub fn next_line<R: BufRead>(alloc: Global, input: &mut R) -> io::Result<Option<Vec<u8>>>
     ensures ok { IfOk result (λ next. MatchOption next (IsAtEnd (R.remaining input.old))
         (λ line. TakesLine (R.remaining input.old) (R.remaining input.new) line.items)) }

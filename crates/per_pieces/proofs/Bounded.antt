@@ -9,7 +9,7 @@ use Rattle.rasn_types.proofs.Octets.{unpack-pack, length-pack, octets-pack}
 use Rattle.per_core.specs.Writers.{just, ◌▹◌, padding, written_if, one_by_one}
 use Rattle.per_core.specs.Counts.{constrained_whole, counted_octets, determinant, octet_items, octet_writers}
 use Rattle.per_pieces.specs.Pieces.{Appends, Pieces, with_bits}
-use Rattle.per_pieces.proofs.Settling.{appends_bits, appends_same, appends_then}
+use Rattle.per_pieces.proofs.Placed.{appends_bits, appends_same, appends_then}
 use Rattle.per_pieces.proofs.Writing.{then_same}
 use Rattle.per_pieces.proofs.Fragments.{fragments_of_few, in_their_fragments, octets_one_by_one, length-octet_writers}
 

@@ -8,7 +8,7 @@ use Rattle.rasn_constraints.specs.Bounds.{above}
 use Rattle.per_core.specs.Counts.{constrained_whole, counted_octets, number_under}
 use Rattle.per_core.specs.Writers.{written_if}
 use Rattle.per_pieces.specs.Pieces.{Appends, Pieces}
-use Rattle.per_pieces.proofs.Settling.{appends_same}
+use Rattle.per_pieces.proofs.Placed.{appends_same}
 
 -- X.691 13.2.2: both bounds
 pub appends_between : (a : Variant) (x y : Pieces) (l u v : ℤ) (m o : ℕ) → m ≡ above l u → o ≡ above l v → FitsSigned w128 v →

@@ -7,7 +7,7 @@ use Rattle.rasn_types.proofs.Bits.{to_bits-same, to_bits-split}
 use Rattle.per_core.specs.Writers.{just, padding, ◌▹◌}
 use Rattle.per_core.specs.Counts.{determinant}
 use Rattle.per_pieces.specs.Pieces.{Appends, Pieces, with_bits}
-use Rattle.per_pieces.proofs.Settling.{appends_bits, appends_then}
+use Rattle.per_pieces.proofs.Placed.{appends_bits, appends_then}
 use Rattle.per_pieces.proofs.Zeros.{with_both}
 use Rattle.per_pieces.proofs.Fragments.{appends_short}
 

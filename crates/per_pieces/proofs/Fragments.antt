@@ -7,11 +7,11 @@ use Rattle.std.proofs.Math.Seq.{take-length}
 use Rattle.rasn_types.specs.Bits.{to_bits, unpack}
 use Rattle.rasn_types.specs.Variants.{Variant, aligned, unaligned}
 use Rattle.per_core.specs.Writers.{Writer, just, ◌▹◌, join, go_on, after, one_by_one, padding, written_if}
-use Rattle.per_core.specs.Counts.{fragment_sizes, unless_zero, in_fragments, determinant, octet_writers, Counted, counted_in}
+use Rattle.per_core.specs.Counts.{fragment_sizes, unless_zero, in_fragments, determinant, octet_writers, ItemKind, counted_in}
 use Rattle.rasn_constraints.specs.Bounds.{any_size}
 use Rattle.per_pieces.specs.Fragments.{one_fragment}
 use Rattle.per_pieces.specs.Pieces.{Appends, Pieces, with_bits}
-use Rattle.per_pieces.proofs.Settling.{appends_bits, appends_none, appends_same, appends_then}
+use Rattle.per_pieces.proofs.Placed.{appends_bits, appends_none, appends_same, appends_then}
 use Rattle.per_pieces.proofs.Writing.{then_assoc, then_nothing}
 
 unless_zero-some : (m : ℕ) → 0 < m → unless_zero m ≡ m ∷ []
@@ -67,7 +67,7 @@ octets_one_by_one (o ∷ os) h p =
     ∙ ap (join (to_bits 8 o)) (octets_one_by_one os (λ k. h (suc k)) (after p (to_bits 8 o)))
 
 -- as many items as may be counted are written in fragment_sizes
-pub in_their_fragments : (a : Variant) (kind : Counted) (ws : List Writer) → length ws < 2 ^ 64 → (p : ℕ) → in_fragments a (fragment_sizes (length ws)) ws p ≡ counted_in a any_size kind ws p
+pub in_their_fragments : (a : Variant) (kind : ItemKind) (ws : List Writer) → length ws < 2 ^ 64 → (p : ℕ) → in_fragments a (fragment_sizes (length ws)) ws p ≡ counted_in a any_size kind ws p
 in_their_fragments a kind ws l p = ap (λ (b : Bool). written_if b (in_fragments a (fragment_sizes (length ws)) ws) p) (sym (lt-ltb (length ws) (2 ^ 64) l))
 
 -- many items are a fragment and the rest

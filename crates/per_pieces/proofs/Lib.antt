@@ -1,5 +1,5 @@
 pub mod Marking
-pub mod Settling
+pub mod Placed
 pub mod Writing
 pub mod Zeros
 pub mod Bounded

@@ -6,9 +6,9 @@ use Rattle.std.proofs.Math.Seq.{drop-cons, drop-append_seam, take-append_seam}
 use Rattle.rasn_types.specs.Bits.{Bits, to_bits}
 use Rattle.rasn_types.specs.Variants.{aligned}
 use Rattle.per_core.specs.Writers.{after, just, pad, padding, ◌▹◌}
-use Rattle.per_pieces.specs.Pieces.{Piece, bit, to_octet, Pieces, plain, with_bits, with_bit, bits_of, set_bit, settle, settled, Appends, Remains}
+use Rattle.per_pieces.specs.Pieces.{Piece, bit, to_octet, Pieces, plain, with_bits, with_bit, bits_of, set_bit, placed_bits, writer_of, Appends, Remains}
 use Rattle.per_pieces.specs.Places.{marked, AreInOrder, places_of, is_placed, pieces}
-use Rattle.per_pieces.proofs.Settling.{appends_bits, appends_mark, appends_padding, appends_then, bits_of_append, bits_of_plain, plain_append, remains_after, remains_all, remains_last, settle_append, settle_plain, settle_same}
+use Rattle.per_pieces.proofs.Placed.{appends_bits, appends_mark, appends_padding, appends_then, bits_of_append, bits_of_plain, plain_append, remains_after, remains_all, remains_last, settle_append, settle_plain, settle_same}
 use Rattle.per_pieces.proofs.Writing.{then_assoc}
 use Rattle.per_pieces.proofs.Zeros.{to_bits-zeros}
 
@@ -114,22 +114,22 @@ grown ms x y bs (Err d) h k e = subst (λ (z : Bits). AreInOrder 0 ms (length z)
 -- Bits between marks are written: those from the `done`th on are left.
 pub record Walks (x y : Pieces) (ms : List ℕ) (bs : Bits) (done index : ℕ) (rest : Bits) : Type 0 where
   pub order : AreInOrder done (drop index ms) (done + length rest)
-  pub remains : Remains x (settled (marked 0 ms bs)) y (settled (marked done (drop index ms) rest))
+  pub remains : Remains x (writer_of (marked 0 ms bs)) y (writer_of (marked done (drop index ms) rest))
 
 -- bits, and a mark behind them
-split_mark : (k m : ℕ) (ms : List ℕ) (front rest : Bits) → length front ≡ m - k → (p : ℕ) → settled (marked k (m ∷ ms) (front ++ rest)) p ≡ (just front ▹ (padding aligned ▹ settled (marked m ms rest))) p
+split_mark : (k m : ℕ) (ms : List ℕ) (front rest : Bits) → length front ≡ m - k → (p : ℕ) → writer_of (marked k (m ∷ ms) (front ++ rest)) p ≡ (just front ▹ (padding aligned ▹ writer_of (marked m ms rest))) p
 split_mark k m ms front rest e p =
     let t : take (m - k) (front ++ rest) ≡ front = ap (λ (n : ℕ). take n (front ++ rest)) (sym e) ∙ take-append_seam front rest in
     let d : drop (m - k) (front ++ rest) ≡ rest = ap (λ (n : ℕ). drop n (front ++ rest)) (sym e) ∙ drop-append_seam front rest in
     let r = marked m ms rest in
     let q = after p front in
     let z : 0 % 8 ≡ after q (replicate (pad aligned q) false) % 8 = omega (arith, length-replicate (pad aligned q) false) in
-    ap₂ (λ (xs ys : Bits). settled (plain xs ++ to_octet ∷ marked m ms ys) p) t d
-    ∙ ap Some (settle_append (plain front) (to_octet ∷ r) p ∙ ap (λ (bs : Bits). bs ++ settle (to_octet ∷ r) (after p bs)) (settle_plain front p)
+    ap₂ (λ (xs ys : Bits). writer_of (plain xs ++ to_octet ∷ marked m ms ys) p) t d
+    ∙ ap Some (settle_append (plain front) (to_octet ∷ r) p ∙ ap (λ (bs : Bits). bs ++ placed_bits (to_octet ∷ r) (after p bs)) (settle_plain front p)
     ∙ ap (λ (bs : Bits). front ++ (replicate (pad aligned q) false ++ bs)) (settle_same r 0 (after q (replicate (pad aligned q) false)) z))
 
 pub walks_first : (x : Pieces) (ms : List ℕ) (bs : Bits) → AreInOrder 0 ms (length bs) → Walks x x ms bs 0 0 bs
-walks_first x ms bs h = record { order = further 0 ms (length bs) (0 + length bs) (omega arith) h; remains = remains_all x (settled (marked 0 ms bs)) }
+walks_first x ms bs h = record { order = further 0 ms (length bs) (0 + length bs) (omega arith) h; remains = remains_all x (writer_of (marked 0 ms bs)) }
 
 -- the next mark is one of them, and so many bits stand in front of it
 pub walks_on : (x y : Pieces) (ms : List ℕ) (bs : Bits) (done index : ℕ) (rest : Bits) (m : ℕ) → Walks x y ms bs done index rest → index < length ms → m ≡ get_or ms index 0 → (done ≤ m) × (m - done ≤ length rest)
@@ -147,31 +147,31 @@ walks_next x y z w ms bs done index next rest front behind m h l i e c n d k =
     let o : AreInOrder done (m ∷ ns) (done + length rest) = subst (λ (js : List ℕ). AreInOrder done js (done + length rest)) cut h.order in
     let below : done ≤ m = o.0 in
     let all : done + length rest ≡ m + length behind = omega (arith, ap length c, length-append front behind) in
-    let first : (p : ℕ) → settled (marked done (drop index ms) rest) p ≡ ((just front ▹ padding aligned) ▹ settled (marked m ns behind)) p =
-    λ p. ap₂ (λ (js : List ℕ) (cs : Bits). settled (marked done js cs) p) cut c ∙ split_mark done m ns front behind n p ∙ then_assoc (just front) (padding aligned) (settled (marked m ns behind)) p in
+    let first : (p : ℕ) → writer_of (marked done (drop index ms) rest) p ≡ ((just front ▹ padding aligned) ▹ writer_of (marked m ns behind)) p =
+    λ p. ap₂ (λ (js : List ℕ) (cs : Bits). writer_of (marked done js cs) p) cut c ∙ split_mark done m ns front behind n p ∙ then_assoc (just front) (padding aligned) (writer_of (marked m ns behind)) p in
     rw i (record {
       order = subst (λ (j : ℕ). AreInOrder m ns j) all o.1;
-      remains = remains_after x y w (settled (marked 0 ms bs)) (settled (marked done (drop index ms) rest)) (just front ▹ padding aligned) (settled (marked m ns behind)) h.remains first
+      remains = remains_after x y w (writer_of (marked 0 ms bs)) (writer_of (marked done (drop index ms) rest)) (just front ▹ padding aligned) (writer_of (marked m ns behind)) h.remains first
           (appends_then y z w (just front) (padding aligned) (appends_bits y z front d) k);
     })
 
-pub walks_last : (x y z : Pieces) (ms : List ℕ) (bs : Bits) (done index : ℕ) (rest : Bits) → Walks x y ms bs done index rest → length ms ≤ index → z ≡ with_bits y rest → Appends x (settled (marked 0 ms bs)) z
+pub walks_last : (x y z : Pieces) (ms : List ℕ) (bs : Bits) (done index : ℕ) (rest : Bits) → Walks x y ms bs done index rest → length ms ≤ index → z ≡ with_bits y rest → Appends x (writer_of (marked 0 ms bs)) z
 walks_last x y z ms bs done index rest h l d =
-    remains_last x y z (settled (marked 0 ms bs)) (settled (marked done (drop index ms) rest)) (just rest) h.remains
-    (λ p. ap (λ (js : List ℕ). settled (marked done js rest) p) (drop_all index ms l) ∙ ap Some (settle_plain rest p)) (appends_bits y z rest d)
+    remains_last x y z (writer_of (marked 0 ms bs)) (writer_of (marked done (drop index ms) rest)) (just rest) h.remains
+    (λ p. ap (λ (js : List ℕ). writer_of (marked done js rest) p) (drop_all index ms l) ∙ ap Some (settle_plain rest p)) (appends_bits y z rest d)
 
 -- what stands alone from position 0 on
-pub settled_alone : (x y : Pieces) (o : Option (List ℕ)) (none bs : Bits) (ps : List Piece) → none ≡ [] → x ≡ record { list = plain none; placed = true } → Appends x (settled ps) y → pieces o bs ≡ y → bs ≡ settle ps 0
+pub settled_alone : (x y : Pieces) (o : Option (List ℕ)) (none bs : Bits) (ps : List Piece) → none ≡ [] → x ≡ record { list = plain none; placed = true } → Appends x (writer_of ps) y → pieces o bs ≡ y → bs ≡ placed_bits ps 0
 settled_alone x y (Some ms) none bs ps n d h e = absurd (let f = ap (λ (q : Pieces). q.placed) e ∙ h.place ∙ ap (λ (q : Pieces). q.placed) d in cc)
 settled_alone x y None none bs ps n d h e =
     let empty : x.list ≡ [] = ap (λ (q : Pieces). q.list) d ∙ ap plain n in
-    let w : settled y.list 0 ≡ (settled [] ▹ settled ps) 0 = h.written 0 (λ t. refl) ∙ ap (λ (qs : List Piece). (settled qs ▹ settled ps) 0) empty in
-    let v : settle y.list 0 ≡ settle ps (after 0 []) = cc in
-    sym (settle_plain bs 0) ∙ ap (λ (q : Pieces). settle q.list 0) e ∙ v ∙ settle_same ps (after 0 []) 0 (omega arith)
+    let w : writer_of y.list 0 ≡ (writer_of [] ▹ writer_of ps) 0 = h.written 0 (λ t. refl) ∙ ap (λ (qs : List Piece). (writer_of qs ▹ writer_of ps) 0) empty in
+    let v : placed_bits y.list 0 ≡ placed_bits ps (after 0 []) = cc in
+    sym (settle_plain bs 0) ∙ ap (λ (q : Pieces). placed_bits q.list 0) e ∙ v ∙ settle_same ps (after 0 []) 0 (omega arith)
 
 -- bits without marks
-pub settled_plain : (x : Pieces) (o : Option (List ℕ)) (bs : Bits) → pieces o bs ≡ x → o ≡ None → bs ≡ settle x.list 0
-settled_plain x o bs e n = sym (settle_plain bs 0) ∙ ap (λ (q : Pieces). settle q.list 0) (ap (λ (q : Option (List ℕ)). pieces q bs) (sym n) ∙ e)
+pub settled_plain : (x : Pieces) (o : Option (List ℕ)) (bs : Bits) → pieces o bs ≡ x → o ≡ None → bs ≡ placed_bits x.list 0
+settled_plain x o bs e n = sym (settle_plain bs 0) ∙ ap (λ (q : Pieces). placed_bits q.list 0) (ap (λ (q : Option (List ℕ)). pieces q bs) (sym n) ∙ e)
 
 -- as many are left as are taken
 pub is_taken : {T E : Type 0} (result : Result T E) (l n : ℕ) → OnErr result (l < n) → n ≤ l → IsOk result

@@ -6,7 +6,7 @@ use Rattle.rasn_types.specs.Variants.{Variant}
 use Rattle.per_core.specs.Counts.{number_under, small}
 use Rattle.per_core.specs.Writers.{just, ◌▹◌}
 use Rattle.per_pieces.specs.Pieces.{Appends, Pieces, with_bits}
-use Rattle.per_pieces.proofs.Settling.{appends_bits, appends_same, appends_then}
+use Rattle.per_pieces.proofs.Placed.{appends_bits, appends_same, appends_then}
 
 -- below 64
 pub appends_low : (a : Variant) (x y : Pieces) (n : ℕ) → n < 64 → y ≡ with_bits x (to_bits 7 n) → Appends x (small a n) y

@@ -4,7 +4,7 @@ use Rattle.std.proofs.lemmas.Bool.{lt-leb}
 use Rattle.std.proofs.lemmas.List.{replicate-append-replicate}
 use Rattle.rasn_types.specs.Bits.{Bits, to_bits}
 use Rattle.per_pieces.specs.Pieces.{Piece, Pieces, plain, with_bits}
-use Rattle.per_pieces.proofs.Settling.{plain_append}
+use Rattle.per_pieces.proofs.Placed.{plain_append}
 
 -- the bits of nothing
 pub to_bits-zeros : (w : ℕ) → to_bits w 0 ≡ replicate w false

@@ -19,8 +19,8 @@ abbrev pub no_pieces : Pieces
 no_pieces = record { list = []; placed = true }
 
 -- no pieces, whose place isn't known
-abbrev pub floating : Pieces
-floating = record { list = []; placed = false }
+abbrev pub unplaced : Pieces
+unplaced = record { list = []; placed = false }
 
 -- bits without a mark among them
 abbrev pub plain : Bits → List Piece
@@ -47,19 +47,19 @@ set_bit (to_octet ∷ ps) i b = to_octet ∷ set_bit ps i b
 set_bit (bit c ∷ ps) zero b = bit b ∷ ps
 set_bit (bit c ∷ ps) (suc i) b = bit c ∷ set_bit ps i b
 
--- the same where they stand
+-- pieces with another bit at a place among their bits
 abbrev pub with_bit : Pieces → ℕ → Bool → Pieces
 with_bit x i b = record { list = set_bit x.list i b; placed = x.placed }
 
 -- X.691 11.1: the bits that pieces are from a position on, with their padding
-abbrev pub settle : List Piece → ℕ → Bits
-settle [] p = []
-settle (bit b ∷ ps) p = b ∷ settle ps (p + 1)
-settle (to_octet ∷ ps) p = replicate (pad aligned p) false ++ settle ps 0
+abbrev pub placed_bits : List Piece → ℕ → Bits
+placed_bits [] p = []
+placed_bits (bit b ∷ ps) p = b ∷ placed_bits ps (p + 1)
+placed_bits (to_octet ∷ ps) p = replicate (pad aligned p) false ++ placed_bits ps 0
 
--- the same, as what is written
-abbrev pub settled : List Piece → Writer
-settled ps p = Some (settle ps p)
+-- what is written where pieces are, from a position on, with their padding
+abbrev pub writer_of : List Piece → Writer
+writer_of ps p = Some (placed_bits ps p)
 
 -- the positions that the first piece may stand at
 abbrev pub MayBegin : Pieces → ℕ → Type 0
@@ -70,11 +70,11 @@ pub record Appends (x : Pieces) (more : Writer) (y : Pieces) : Type 0 where
   pub behind : List Piece
   pub list : y.list ≡ x.list ++ behind
   pub place : y.placed ≡ x.placed
-  pub written : (p : ℕ) → MayBegin x p → settled y.list p ≡ (settled x.list ▹ more) p
+  pub written : (p : ℕ) → MayBegin x p → writer_of y.list p ≡ (writer_of x.list ▹ more) p
 
 -- the first of what was to be written was written behind some pieces, and so much remains
 pub record Remains (x : Pieces) (all : Writer) (y : Pieces) (rest : Writer) : Type 0 where
   pub behind : List Piece
   pub list : y.list ≡ x.list ++ behind
   pub place : y.placed ≡ x.placed
-  pub written : (p : ℕ) → MayBegin x p → (settled y.list ▹ rest) p ≡ (settled x.list ▹ all) p
+  pub written : (p : ℕ) → MayBegin x p → (writer_of y.list ▹ rest) p ≡ (writer_of x.list ▹ all) p

@@ -9,11 +9,9 @@ ghost use Rattle.per_pieces.specs.Pieces.{Appends};
 
 use crate::Pieces;
 use crate::numbers::push_constrained_whole;
+use per_core::lengths::FRAGMENT;
 use rasn_types::types::Codec;
 use std::alloc::{AllocError, Allocator};
-
-/// How many items the smallest fragment has (X.691 11.9.3.8).
-pub const FRAGMENT: usize = 16384;
 
 /// Writes how many items follow, which begins on an octet in the aligned variant (X.691 11.9.3.5 to 11.9.3.8).
 pub fn push_unconstrained_length<A: Allocator>(

@@ -6,14 +6,14 @@
 
 pub mod lengths;
 pub mod numbers;
-pub mod small;
+pub mod small_numbers;
 
 ghost use Rattle.std.specs.Prelude.{◌≡◌, ◌≤◌, ◌∷◌, [], ◌++◌, false, true, length, replicate, Some, OnOk, OnErr, IfOk};
 ghost use Rattle.rasn_types.specs.Bits.{to_bits, unpack};
 ghost use Rattle.rasn_types.specs.Variants.{aligned};
 ghost use Rattle.per_bits.specs.Octets.{low_bits_of};
 ghost use Rattle.per_core.specs.Writers.{just, padding};
-ghost use Rattle.per_pieces.specs.Pieces.{Appends, bit_count, bits_of, floating, plain, settle, settled, with_bit, with_bits};
+ghost use Rattle.per_pieces.specs.Pieces.{Appends, bit_count, bits_of, unplaced, plain, placed_bits, writer_of, with_bit, with_bits};
 ghost use Rattle.per_pieces.specs.Places.{AreInOrder, marked};
 
 use per_bits::{BitList, BitReader};
@@ -162,10 +162,10 @@ impl<A: Allocator> Pieces<A> {
         }
     }
 
-    /// Appends other pieces, settled where the place of these is known, and else with their marks. The only error is
-    /// want of memory.
+    /// Appends other pieces, with their padding as zero bits where the place of these pieces is known, and else with
+    /// their marks. The only error is want of memory.
     pub fn push_pieces(&mut self, other: &Pieces<A>) -> Result<(), AllocError>
-        ensures { OnOk result (Appends self.old (settled other.now.list) self.new) }
+        ensures { OnOk result (Appends self.old (writer_of other.now.list) self.new) }
     {
         match &other.marks {
             Some(marks) => self.push_marked(marks.places.as_slice(), &other.bits),
@@ -176,7 +176,7 @@ impl<A: Allocator> Pieces<A> {
     /// Appends bits with marks at some places among them.
     fn push_marked(&mut self, marks: &[u128], bits: &BitList<A>) -> Result<(), AllocError>
         requires { AreInOrder 0 marks.now (length bits.now) }
-        ensures { OnOk result (Appends self.old (settled (marked 0 marks.now bits.now)) self.new) }
+        ensures { OnOk result (Appends self.old (writer_of (marked 0 marks.now bits.now)) self.new) }
     {
         let mut rest = BitReader::new(bits);
         let mut done = 0;
@@ -194,8 +194,8 @@ impl<A: Allocator> Pieces<A> {
 impl<A: Allocator + Clone> Pieces<A> {
     /// No pieces, whose place isn't known. They take no memory yet. The only error is want of memory for a second
     /// allocator.
-    pub fn new_floating(alloc: A) -> Result<Self, AllocError>
-        ensures { IfOk result (λ none. none ≡ floating) }
+    pub fn new_unplaced(alloc: A) -> Result<Self, AllocError>
+        ensures { IfOk result (λ none. none ≡ unplaced) }
     {
         let places = Vec::new(alloc.clone()?);
         Ok(Pieces {
@@ -207,34 +207,35 @@ impl<A: Allocator + Clone> Pieces<A> {
     /// The bits that the pieces are from position 0 on, with their padding. Where there is no mark these are the bits
     /// themselves, and no memory is taken. The only error is want of memory.
     #[inline(always)]
-    pub fn into_settled(self) -> Result<BitList<A>, AllocError>
-        ensures { IfOk result (λ bits. bits ≡ settle self.list 0) }
+    pub fn into_placed(self) -> Result<BitList<A>, AllocError>
+        ensures { IfOk result (λ bits. bits ≡ placed_bits self.list 0) }
     {
         let Pieces { bits, marks } = self;
         match marks {
-            Some(marks) => settle_marked(marks.places.as_slice(), &bits),
+            Some(marks) => place_marked(marks.places.as_slice(), &bits),
             None => Ok(bits),
         }
     }
 
-    /// The same bits, beside the pieces. The only error is want of memory.
-    pub fn to_settled(&self) -> Result<BitList<A>, AllocError>
-        ensures { IfOk result (λ bits. bits ≡ settle self.now.list 0) }
+    /// The bits that the pieces are from position 0 on, with their padding, as a list of their own: the pieces stay.
+    /// The only error is want of memory.
+    pub fn to_placed(&self) -> Result<BitList<A>, AllocError>
+        ensures { IfOk result (λ bits. bits ≡ placed_bits self.now.list 0) }
     {
         match &self.marks {
-            Some(marks) => settle_marked(marks.places.as_slice(), &self.bits),
-            None => settle_marked(&[], &self.bits),
+            Some(marks) => place_marked(marks.places.as_slice(), &self.bits),
+            None => place_marked(&[], &self.bits),
         }
     }
 }
 
 /// The bits from position 0 on, with padding at some places among them. The only error is want of memory.
-fn settle_marked<A: Allocator + Clone>(
+fn place_marked<A: Allocator + Clone>(
     marks: &[u128],
     bits: &BitList<A>,
 ) -> Result<BitList<A>, AllocError>
     requires { AreInOrder 0 marks.now (length bits.now) }
-    ensures { IfOk result (λ all. all ≡ settle (marked 0 marks.now bits.now) 0) }
+    ensures { IfOk result (λ all. all ≡ placed_bits (marked 0 marks.now bits.now) 0) }
 {
     let mut all = Pieces::from_bits(BitList::new(bits.allocator().clone()?));
     all.push_marked(marks, bits)?;

@@ -14,9 +14,9 @@ use Rattle.per_core.specs.Counts.{char_items}
 use Rattle.per_core.specs.Spellings.{Settings, Field}
 use Rattle.per_core.specs.Took.{Took}
 use Rattle.per_core.proofs.Agree.{Agree, field_agree}
-use Rattle.per_core.proofs.Lengths.{Zip, lengthy_agree}
+use Rattle.per_core.proofs.LengthForms.{Zip, lengthy_agree}
 use Rattle.per_core.proofs.Took.{took_agree, took_map, took_nothing, took_then}
-use Rattle.per_read.specs.Items.{lengthy_items}
+use Rattle.per_read.specs.Items.{counted_items}
 use Rattle.per_read.specs.Kinds.{NoneIn}
 use Rattle.per_read.specs.Sizes.{IsOfItems}
 use Rattle.per_read.specs.Strings.{AreKnown, AreRead, HasUnknown, IsUnpermitted, IsOfString}
@@ -83,7 +83,7 @@ module _ (a : Settings) (alphabet : List ℕ) (size : Size) (mark : Bool) where
   IsCode n c = char_code a.variant alphabet c ≡ Some n
 
   -- characters where their codes are
-  pub characters_took : (characters codes : List ℕ) {s t : Bits} → map (char_code a.variant alphabet) characters ≡ map Some codes → Took (lengthy_items a size mark CharacterItem codes) s t
+  pub characters_took : (characters codes : List ℕ) {s t : Bits} → map (char_code a.variant alphabet) characters ≡ map Some codes → Took (counted_items a size mark CharacterItem codes) s t
       → Took (String a alphabet size mark characters) s t
   characters_took characters codes e b =
       took_map (λ p c h. lengthy_as IsCode (Field (char_width a.variant alphabet)) (Char a alphabet) (λ n c p b i f. record { index = n; is = i; spelled = f }) a size mark
@@ -107,7 +107,7 @@ module _ (a : Settings) (alphabet : List ℕ) (size : Size) (mark : Bool) where
   unfolding code_of code_in
   as_code c n p b e h = subst (λ z. Field (char_width a.variant alphabet) z p b) (sym (ap code_in h.is) ∙ e) h.spelled
 
-  pub none_of_characters : {s : Bits} → NoneIn (lengthy_items a size mark CharacterItem) s → NoneIn (String a alphabet size mark) s
+  pub none_of_characters : {s : Bits} → NoneIn (counted_items a size mark CharacterItem) s → NoneIn (String a alphabet size mark) s
   none_of_characters none cs t b =
       none (map code_of cs) t
       (took_map (λ p c h. lengthy_as (λ (x n : ℕ). code_of x ≡ n) (Char a alphabet) (Field (char_width a.variant alphabet)) as_code a size mark (char_items (char_width a.variant alphabet)) cs
@@ -125,7 +125,7 @@ module _ (a : Settings) (alphabet : List ℕ) (size : Size) (mark : Bool) where
         (y.is ∙ ap Some (sym r.0), r.1);
   }
 
-  pub unpermitted : (codes : List ℕ) {s t : Bits} → HasUnknown a.variant alphabet codes → Took (lengthy_items a size mark CharacterItem codes) s t
+  pub unpermitted : (codes : List ℕ) {s t : Bits} → HasUnknown a.variant alphabet codes → Took (counted_items a size mark CharacterItem codes) s t
       → IsUnpermitted a alphabet size mark s × NoneIn (String a alphabet size mark) s
   unpermitted codes {s} {t} u b = (
     record { codes = codes; rest = t; took = b; unknown = u },

@@ -2,14 +2,14 @@
 use Rattle.std.proofs.Common.{◌≡◌, ◌∙◌, ℕ, zero, suc, ◌+◌, ◌-◌, ◌&&◌, ltb, Bool, true, false, cond, List, [], ◌∷◌, ◌++◌, length, map, refl, sym, ap, subst, arith, Option, Some, None, inl, inr}
 use Rattle.rasn_types.specs.Bits.{Bits, number_of}
 use Rattle.rasn_constraints.specs.Bounds.{Size, any_size, allows}
-use Rattle.per_core.specs.Basic.{OneByOne, LastCount, Fragment, InFragments, UnconstrainedLength, PaddingIf, IsConstrainedWhole, length_form, Sized, Lengthy, bit}
-use Rattle.per_core.specs.Counts.{Counted, bit_items, is_aligned}
+use Rattle.per_core.specs.Basic.{OneByOne, LastCount, Fragment, InFragments, UnconstrainedLength, PaddingIf, IsConstrainedWhole, length_form, Sized, Counted, bit}
+use Rattle.per_core.specs.Counts.{ItemKind, bit_items, is_aligned}
 use Rattle.per_core.specs.Spellings.{Settings, Spelling, Then, Field}
 use Rattle.per_core.specs.Took.{Took}
 use Rattle.per_core.specs.Writers.{after}
-use Rattle.per_core.proofs.Lengths.{Zip}
+use Rattle.per_core.proofs.LengthForms.{Zip}
 use Rattle.per_core.proofs.Took.{took_map}
-use Rattle.per_read.specs.Items.{bit_code, lengthy_items}
+use Rattle.per_read.specs.Items.{bit_code, counted_items}
 use Rattle.per_read.specs.Kinds.{NoneIn}
 use Rattle.per_core.specs.declared.items.Item.TheVariants.{Bit}
 
@@ -88,7 +88,7 @@ module _ {X Y : Type 0} (R : X → Y → Type 0) (f : X → Spelling) (g : Y →
   unsized_as : (a : Settings) (xs : List X) (ys : List Y) (p : ℕ) (b : Bits) → Zip R xs ys → UnconstrainedLength a f xs p b → UnconstrainedLength a g ys p b
   unsized_as a xs ys p b z h = record { fragments = h.fragments; spelled = fragments_as a h.fragments xs ys p b z h.spelled }
 
-  form_as : (a : Settings) (l u : Option ℕ) (kind : Counted) (xs : List X) (ys : List Y) (p : ℕ) (b : Bits) → Zip R xs ys → length_form a l u kind f xs p b → length_form a l u kind g ys p b
+  form_as : (a : Settings) (l u : Option ℕ) (kind : ItemKind) (xs : List X) (ys : List Y) (p : ℕ) (b : Bits) → Zip R xs ys → length_form a l u kind f xs p b → length_form a l u kind g ys p b
   form_as a None u kind xs ys p b z h = unsized_as a xs ys p b z h
   form_as a (Some l) None kind xs ys p b z h = unsized_as a xs ys p b z h
   form_as a (Some l) (Some u) kind xs ys p b z h = go (ltb u 65536) h
@@ -114,11 +114,11 @@ module _ {X Y : Type 0} (R : X → Y → Type 0) (f : X → Spelling) (g : Y →
             joins = h.joins;
           }
 
-  sized_as : (a : Settings) (size : Size) (kind : Counted) (xs : List X) (ys : List Y) (p : ℕ) (b : Bits) → Zip R xs ys → Sized a size kind f xs p b → Sized a size kind g ys p b
+  sized_as : (a : Settings) (size : Size) (kind : ItemKind) (xs : List X) (ys : List Y) (p : ℕ) (b : Bits) → Zip R xs ys → Sized a size kind f xs p b → Sized a size kind g ys p b
   sized_as a size kind xs ys p b z h =
       record { allowed = ap (allows size) (sym (zip_length xs ys z)) ∙ h.allowed; spelled = form_as a size.least size.most kind xs ys p b z h.spelled }
 
-  pub lengthy_as : (a : Settings) (size : Size) (mark : Bool) (kind : Counted) (xs : List X) (ys : List Y) (p : ℕ) (b : Bits) → Zip R xs ys → Lengthy a size mark kind f xs p b → Lengthy a size mark kind g ys p b
+  pub lengthy_as : (a : Settings) (size : Size) (mark : Bool) (kind : ItemKind) (xs : List X) (ys : List Y) (p : ℕ) (b : Bits) → Zip R xs ys → Counted a size mark kind f xs p b → Counted a size mark kind g ys p b
   lengthy_as a size false kind xs ys p b z h = sized_as a size kind xs ys p b z h
   lengthy_as a size true kind xs ys p b z (inl h) =
       inl (record { front = h.front; rest = h.rest; is_front = h.is_front; is_rest = sized_as a size kind xs ys (after p h.front) h.rest z h.is_rest; joins = h.joins })
@@ -154,12 +154,12 @@ as_bit true n p c e h = record { wide = ap length h; means = ap number_of h ∙ 
 as_bit false n p c e h = record { wide = ap length h; means = ap number_of h ∙ e }
 
 module _ (a : Settings) (size : Size) (mark : Bool) where
-  pub bits_took : (bits : Bits) (codes : List ℕ) {s t : Bits} → map bit_code bits ≡ codes → Took (lengthy_items a size mark Bit codes) s t → Took (Lengthy a size mark bit_items bit bits) s t
+  pub bits_took : (bits : Bits) (codes : List ℕ) {s t : Bits} → map bit_code bits ≡ codes → Took (counted_items a size mark Bit codes) s t → Took (Counted a size mark bit_items bit bits) s t
   bits_took bits codes e b =
       let z : Zip (λ (n : ℕ) (x : Bool). bit_code x ≡ n) codes bits = subst (λ z. Zip (λ (n : ℕ) (x : Bool). bit_code x ≡ n) z bits) e (zip_from bit_code bits) in
       took_map (λ p c h. lengthy_as (λ (n : ℕ) (x : Bool). bit_code x ≡ n) (Field 1) bit bit_as a size mark bit_items codes bits p c z h) b
 
-  pub none_of_bits : {s : Bits} → NoneIn (lengthy_items a size mark Bit) s → NoneIn (Lengthy a size mark bit_items bit) s
+  pub none_of_bits : {s : Bits} → NoneIn (counted_items a size mark Bit) s → NoneIn (Counted a size mark bit_items bit) s
   none_of_bits none bits t b =
       none (map bit_code bits) t
       (took_map (λ p c h. lengthy_as (λ (x : Bool) (n : ℕ). bit_code x ≡ n) bit (Field 1) as_bit a size mark bit_items bits (map bit_code bits) p c (zip_to bit_code bits) h) b)

@@ -2,10 +2,10 @@
 use Rattle.std.proofs.Common.{◌≡◌, ◌∙◌, inr, ℕ, Bool, true, false, List, [], ◌∷◌, length, sym, ap, Option}
 use Rattle.rasn_types.specs.Bits.{Bits}
 use Rattle.rasn_constraints.specs.Bounds.{allows, Size, any_size}
-use Rattle.per_core.specs.Counts.{Counted}
+use Rattle.per_core.specs.Counts.{ItemKind}
 use Rattle.per_core.specs.Spellings.{Settings, Spelling, never}
 use Rattle.per_core.specs.Items.{bits_of, counted_of}
-use Rattle.per_read.specs.Items.{TookItems, coded, unconstrained_items, sized_items, lengthy_items}
+use Rattle.per_read.specs.Items.{TookItems, coded, unconstrained_items, sized_items, counted_items}
 use Rattle.per_read.specs.Kinds.{Faulty, IsTested, NoneIn, Refused, Stopped}
 use Rattle.per_read.specs.Sizes.{IsOfSize, IsOfItems, items_under}
 use Rattle.per_core.specs.declared.items.Item.{Item}
@@ -16,7 +16,7 @@ use Rattle.per_read.proofs.Marked.{mark_in, mark_past, in_mark, past_mark, no_ma
 use Rattle.per_read.proofs.SizeForms.{sized_of, of_sized, one_size}
 
 -- a kind that tests show may come with items
-pub tested_size : {X : Type 0} (a : Settings) (size : Size) (mark : Bool) (kind : Counted) (item : X → Spelling) (s : Bits) (k : DecodeErrorKind) → IsTested k → IsOfSize a size mark kind item s k
+pub tested_size : {X : Type 0} (a : Settings) (size : Size) (mark : Bool) (kind : ItemKind) (item : X → Spelling) (s : Bits) (k : DecodeErrorKind) → IsTested k → IsOfSize a size mark kind item s k
 tested_size a size mark kind item s (SizeConstraintNotSatisfied n least most) h = absurd h
 tested_size a size mark kind item s _ h = h
 
@@ -52,11 +52,11 @@ module _ (a : Settings) (i : Item) where
     -- behind an extension bit
     module _ {s m : Bits} where
       pub in_size : {C : Type 0} {holds : C → C → List ℕ → Type 0} {n : ℕ} {before after : C} {t : Bits} → s ≡ false ∷ m → TookItems holds (sized_items a size i) n before after m t
-          → TookItems holds (lengthy_items a size true i) n before after s t
+          → TookItems holds (counted_items a size true i) n before after s t
       in_size {t = t} e b = record { codes = b.codes; count = b.count; added = b.added; took = mark_in (sized_items a size i) (sized_items a any_size i) e b.codes t b.took }
 
       pub past_size : {C : Type 0} {holds : C → C → List ℕ → Type 0} {n : ℕ} {before after : C} {t : Bits} → s ≡ true ∷ m → TookItems holds (unconstrained_items a i) n before after m t
-          → TookItems holds (lengthy_items a size true i) n before after s t
+          → TookItems holds (counted_items a size true i) n before after s t
       past_size {t = t} e b = record {
         codes = b.codes;
         count = b.count;
@@ -76,13 +76,13 @@ module _ (a : Settings) (i : Item) where
       }
       in_kind _ e h = h
 
-      pub faulty_in : (k : DecodeErrorKind) → s ≡ false ∷ m → Faulty (IsOfItems a size false i m) (NoneIn (sized_items a size i) m) k → Faulty (IsOfItems a size true i s) (NoneIn (lengthy_items a size true i) s) k
+      pub faulty_in : (k : DecodeErrorKind) → s ≡ false ∷ m → Faulty (IsOfItems a size false i m) (NoneIn (sized_items a size i) m) k → Faulty (IsOfItems a size true i s) (NoneIn (counted_items a size true i) s) k
       faulty_in k e = faulty_map k (in_kind k e) (λ none xs t b. none xs t (in_mark (sized_items a size i) (sized_items a any_size i) e xs t b))
 
       pub faulty_past : (k : DecodeErrorKind) → s ≡ true ∷ m → Stopped (NoneIn (unconstrained_items a i) m) k
-          → Faulty (IsOfItems a size true i s) (NoneIn (lengthy_items a size true i) s) k
+          → Faulty (IsOfItems a size true i s) (NoneIn (counted_items a size true i) s) k
       faulty_past k e =
           faulty_map k (tested_size a size true (counted_of i) (coded i) s k) (λ none xs t b. none xs t (past_mark (sized_items a size i) (sized_items a any_size i) e xs t b))
 
-    pub no_bit : {s : Bits} (k : DecodeErrorKind) → Refused (s ≡ []) k → Faulty (IsOfItems a size true i s) (NoneIn (lengthy_items a size true i) s) k
+    pub no_bit : {s : Bits} (k : DecodeErrorKind) → Refused (s ≡ []) k → Faulty (IsOfItems a size true i s) (NoneIn (counted_items a size true i) s) k
     no_bit {s} k h = inr (tested_size a size true (counted_of i) (coded i) s k h.0, no_mark (sized_items a size i) (sized_items a any_size i) h.1)

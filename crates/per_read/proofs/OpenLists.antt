@@ -14,13 +14,13 @@ use Rattle.per_core.proofs.Agree.{Agree}
 use Rattle.per_core.proofs.Took.{took_then, then_took, took_map, took_agree, took_nothing, nothing_took}
 use Rattle.per_read.specs.Kinds.{NoneIn}
 use Rattle.per_read.specs.Lengths.{LengthOf, count_of, is_followed}
-use Rattle.per_read.specs.Lists.{AmidItems, AwaitsItem, IsLeft, ListRule, RefusesList, Rest, RestUpTo, list_form}
+use Rattle.per_read.specs.Lists.{AreOpenItems, AwaitsItem, IsLeft, ListRule, RefusesList, Rest, RestUpTo, list_form}
 use Rattle.per_read.specs.Sizes.{Miscounted}
 use Rattle.per_read.specs.UpTo.{UpTo, UpToFragment, UpToUnconstrained}
 use Rattle.per_read.specs.declared.error.DecodeErrorKind.TheVariants.{SizeConstraintNotSatisfied}
 use Rattle.per_read.specs.declared.lengths.Length.{Length}
 use Rattle.per_read.specs.declared.lengths.Length.TheVariants.{Last, Fragment}
-use Rattle.per_read.specs.declared.lists.OpenList.{OpenList}
+use Rattle.per_read.specs.declared.lists.UnreadElements.{UnreadElements}
 use Rattle.per_read.proofs.Parts.{Tail, first_part, last_part, more_parts, one_length}
 use Rattle.per_read.proofs.SizeForms.{countable}
 
@@ -135,8 +135,8 @@ module _ {X : Type 0} {a : Settings} {item : X → Spelling} {s m : Bits} where
 
 module _ {X : Type 0} (f : ListRule X) {start : Bits} {before : List X} where
   -- an open list with a length of its next fragment read
-  pub amid_fragment : {l : OpenList} {here m : Bits} (counts : Length) → l.left ≡ 0 → l.more ≡ true → Took (LengthOf f.settings counts) here m → AmidItems f start before l here
-      → AmidItems f start before (record l { left = count_of counts; more = is_followed counts }) m
+  pub amid_fragment : {l : UnreadElements} {here m : Bits} (counts : Length) → l.left ≡ 0 → l.more ≡ true → Took (LengthOf f.settings counts) here m → AreOpenItems f start before l here
+      → AreOpenItems f start before (record l { left = count_of counts; more = is_followed counts }) m
   amid_fragment {l} {here} {m} counts none another b h = record {
     count = h.count;
     on = λ xs t i. h.on xs t (record { others = i.others; all = i.all; allowed = i.allowed; took = forth i.others t i.took });
@@ -154,14 +154,14 @@ module _ {X : Type 0} (f : ListRule X) {start : Bits} {before : List X} where
       forth xs t c = subst (λ z. Took (Rest f.settings f.item z l.left xs) here t) (sym another) (subst (λ z. Took (Rest f.settings f.item true z xs) here t) (sym none) (on_length counts b xs t c))
 
   -- where no length is read, no list is
-  pub none_length : {l : OpenList} {here : Bits} → l.left ≡ 0 → l.more ≡ true → NoneIn (LengthOf f.settings) here → AmidItems f start before l here → NoneIn (list_form f) start
+  pub none_length : {l : UnreadElements} {here : Bits} → l.left ≡ 0 → l.more ≡ true → NoneIn (LengthOf f.settings) here → AreOpenItems f start before l here → NoneIn (list_form f) start
   none_length {l} {here} none another unread h xs t c =
       let i = h.back xs t c in
       let d = subst (λ z. Took (Rest f.settings f.item true z i.others) here t) none (subst (λ z. Took (Rest f.settings f.item z l.left i.others) here t) another i.took) in
       let p = first_part f.item f.settings i.others here t d in unread p.head p.behind p.is_length
 
   -- a further item, which is one reading of its bits
-  pub amid_item : {l : OpenList} {here : Bits} (n : ℕ) → l.left ≡ suc n → ((x y : X) → Agree (x ≡ y) (f.item x) (f.item y)) → AmidItems f start before l here
+  pub amid_item : {l : UnreadElements} {here : Bits} (n : ℕ) → l.left ≡ suc n → ((x y : X) → Agree (x ≡ y) (f.item x) (f.item y)) → AreOpenItems f start before l here
       → AwaitsItem f start before (record l { left = n; count = l.count + 1 }) here
   amid_item {l} {here} n some one h = record {
     behind = subst (λ z. Took (UpTo f.settings f.size f.mark f.item z) start here) (append-nil before) (h.up_to [] here (up_to [] here (took_nothing here)));
@@ -203,7 +203,7 @@ module _ {X : Type 0} (f : ListRule X) {start : Bits} {before : List X} where
       no_item unread (y ∷ ys) t c = let q = then_took c in unread y q.0 q.1
 
   -- there are no more items than can be counted
-  pub none_uncounted : {l : OpenList} {here : Bits} (n : ℕ) → l.left ≡ suc n → 2 ^ 64 ≤ l.count + 1 → AmidItems f start before l here → NoneIn (list_form f) start
+  pub none_uncounted : {l : UnreadElements} {here : Bits} (n : ℕ) → l.left ≡ suc n → 2 ^ 64 ≤ l.count + 1 → AreOpenItems f start before l here → NoneIn (list_form f) start
   none_uncounted {l} {here} n some many h xs t c =
       let i = h.back xs t c in
       let few : length xs < 2 ^ 64 = ltb-true (length xs) (2 ^ 64) (countable (size_between l.size) (length xs) i.allowed) in
@@ -211,7 +211,7 @@ module _ {X : Type 0} (f : ListRule X) {start : Bits} {before : List X} where
       omega (arith, few, many, some, h.count, ap length i.all, length-append before i.others, ap length s.all, length-append s.these s.others, s.many)
 
   -- behind the last item
-  module _ {l : OpenList} {here : Bits} (none : l.left ≡ 0) (last : l.more ≡ false) (h : AmidItems f start before l here) where
+  module _ {l : UnreadElements} {here : Bits} (none : l.left ≡ 0) (last : l.more ≡ false) (h : AreOpenItems f start before l here) where
     ended : Took (Rest f.settings f.item l.more l.left []) here here
     ended = subst (λ z. Took (Rest f.settings f.item z l.left []) here here) (sym last) (subst (λ z. Took (Rest f.settings f.item false z []) here here) (sym none) (took_nothing here))
 

@@ -14,15 +14,16 @@ use Rattle.per_core.specs.Spellings.{Settings, Spelling, never}
 use Rattle.per_core.specs.Took.{Took}
 use Rattle.per_core.proofs.Took.{took_then, then_took, took_map, took_agree, took_nothing, nothing_took}
 use Rattle.per_read.specs.Kinds.{NoneIn}
-use Rattle.per_read.specs.Lists.{AmidItems, Leaves, ListRule, OpensList, Rest, RestUpTo, list_form, list_rule}
+use Rattle.per_read.specs.Lists.{AreOpenItems, Leaves, ListRule, OpensList, Rest, RestUpTo, list_form, list_rule}
 use Rattle.per_read.specs.Sizes.{Between, CountFrom, under_size}
 use Rattle.per_read.specs.State.{State, settings_of}
 use Rattle.per_read.specs.UpTo.{UpToBetween, UpToSized, UpToUnconstrained}
 use Rattle.per_read.specs.declared.error.DecodeErrorKind.{DecodeErrorKind}
-use Rattle.per_read.specs.declared.lists.OpenList.{OpenList}
+use Rattle.per_read.specs.declared.lists.UnreadElements.{UnreadElements}
 use Rattle.per_read.proofs.Marked.{mark_in, mark_past, in_mark, past_mark, no_mark}
 use Rattle.per_read.proofs.OpenLists.{counted, of_counted, up_to_split}
-use Rattle.per_read.proofs.SizeForms.{IsConstrained, IsFree, countable, count_agree, no_count_between, of_sized, sized_of, under_constrained, under_free}
+use Rattle.per_core.proofs.ConstrainedLengths.{IsConstrained, IsFree}
+use Rattle.per_read.proofs.SizeForms.{countable, count_agree, no_count_between, of_sized, sized_of, under_constrained, under_free}
 
 module _ {X : Type 0} (a : Settings) (item : X → Spelling) where
   -- the forms up to a further item, by what bounds choose
@@ -51,7 +52,7 @@ module _ {X : Type 0} (a : Settings) (item : X → Spelling) where
     under = under_size a (start_of size) (end_of size) list_items item
 
     -- where its count isn't constrained, the first length is still to be read
-    pub amid_free : IsFree (start_of size) (end_of size) → (s : Bits) → AmidItems (rule (size_between size) false) s [] (record { size = size; count = 0; left = 0; more = true }) s
+    pub amid_free : IsFree (start_of size) (end_of size) → (s : Bits) → AreOpenItems (rule (size_between size) false) s [] (record { size = size; count = 0; left = 0; more = true }) s
     amid_free free s = record {
       count = refl;
       on = λ xs t i. sized_of a list_items item xs (size_between size) i.allowed
@@ -80,7 +81,7 @@ module _ {X : Type 0} (a : Settings) (item : X → Spelling) where
       is_between : (xs : List X) → under xs ≡ Between a lb ub list_items item xs
       is_between xs = under_constrained a list_items item xs bounds
 
-      pub amid_counted : (n : ℕ) {s m : Bits} → Took (CountFrom a lb ub n) s m → AmidItems (rule (size_between size) false) s [] (record { size = size; count = 0; left = n; more = false }) m
+      pub amid_counted : (n : ℕ) {s m : Bits} → Took (CountFrom a lb ub n) s m → AreOpenItems (rule (size_between size) false) s [] (record { size = size; count = 0; left = n; more = false }) m
       amid_counted n {s} {m} b = record {
         count = refl;
         on = λ xs t i. sized_of a list_items item xs (size_between size) i.allowed (as_under xs t (subst (λ z. Took (Rest a item false n z) m t) (sym i.all) i.took));
@@ -123,7 +124,7 @@ module _ {X : Type 0} (a : Settings) (item : X → Spelling) where
     none_marked e = no_mark inside outside e
 
     module _ {s m : Bits} where
-      pub amid_inside : {l : OpenList} {here : Bits} {before : List X} → s ≡ false ∷ m → AmidItems (rule size false) m before l here → AmidItems (rule size true) s before l here
+      pub amid_inside : {l : UnreadElements} {here : Bits} {before : List X} → s ≡ false ∷ m → AreOpenItems (rule size false) m before l here → AreOpenItems (rule size true) s before l here
       amid_inside {before = before} e h = record {
         count = h.count;
         on = λ xs t i. mark_in inside outside e xs t (h.on xs t i);
@@ -140,7 +141,7 @@ module _ {X : Type 0} (a : Settings) (item : X → Spelling) where
         up_to = λ xs t c. mark_in (UpToSized a size.least size.most item) (UpToUnconstrained a item) e (before ++ xs) t (h.up_to xs t c);
       }
 
-      pub amid_outside : {l : OpenList} {here : Bits} {before : List X} → s ≡ true ∷ m → AmidItems (rule any_size false) m before l here → AmidItems (rule size true) s before l here
+      pub amid_outside : {l : UnreadElements} {here : Bits} {before : List X} → s ≡ true ∷ m → AreOpenItems (rule any_size false) m before l here → AreOpenItems (rule size true) s before l here
       amid_outside {before = before} e h = record {
         count = h.count;
         on = λ xs t i. mark_past inside outside e xs t (h.on xs t i);
@@ -165,8 +166,8 @@ leaves_behind t (Ok v) a b = record { front = a.front ++ b.front; joins = a.join
 leaves_behind t (Err e) a b = tt
 
 -- what a call opens behind others that took the bit
-pub opens_behind : {size other : Size} {mark marked : Bool} {x m y : State} {r : Result OpenList DecodeErrorKind} → OpensList other marked m r y → m.options ≡ x.options → Leaves x.bits m.bits
-    → ((l : OpenList) (e : Schema) → AmidItems (list_rule (settings_of x) other marked e) m.bits [] l y.bits → AmidItems (list_rule (settings_of x) size mark e) x.bits [] l y.bits)
+pub opens_behind : {size other : Size} {mark marked : Bool} {x m y : State} {r : Result UnreadElements DecodeErrorKind} → OpensList other marked m r y → m.options ≡ x.options → Leaves x.bits m.bits
+    → ((l : UnreadElements) (e : Schema) → AreOpenItems (list_rule (settings_of x) other marked e) m.bits [] l y.bits → AreOpenItems (list_rule (settings_of x) size mark e) x.bits [] l y.bits)
     → ((e : Schema) → NoneIn (list_form (list_rule (settings_of x) other marked e)) m.bits → NoneIn (list_form (list_rule (settings_of x) size mark e)) x.bits)
     → OpensList size mark x r y
 opens_behind {y = y} {r = r} h same leaves f g = record {

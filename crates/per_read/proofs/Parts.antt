@@ -4,13 +4,13 @@ use Rattle.std.proofs.lemmas.List.{append-nil}
 use Rattle.std.proofs.lemmas.Bool.{lt-ltb, ltb-true}
 use Rattle.rasn_types.specs.Bits.{Bits}
 use Rattle.rasn_constraints.specs.Bounds.{allows, any_size}
-use Rattle.per_core.specs.Counts.{Counted}
+use Rattle.per_core.specs.Counts.{ItemKind}
 use Rattle.per_core.specs.Spellings.{Settings, Spelling, Field}
 use Rattle.per_core.specs.Basic
 use Rattle.per_core.specs.Basic.{OneByOne, Sized, UnconstrainedLength, InFragments, LastCount}
 use Rattle.per_core.specs.Took.{place, Took}
 use Rattle.per_core.proofs.Agree.{field_agree, weaken}
-use Rattle.per_core.proofs.Lengths.{row_agree, Zip-same}
+use Rattle.per_core.proofs.LengthForms.{row_agree, Zip-same}
 use Rattle.per_core.proofs.Took.{took_then, then_took, took_map, took_agree}
 use Rattle.per_read.specs.declared.lengths.Length.{Length}
 use Rattle.per_read.specs.declared.lengths.Length.TheVariants.{Last, Fragment}
@@ -151,7 +151,7 @@ module _ {C : Type 0} {holds : C → C → List ℕ → Type 0} {a : Settings} {
             subst (λ z. Took (UnconstrainedLength a (Field w) p.others) z t) y.1 (subst (λ z. Tail (Field w) a z p.others p.rest t) (x.0 ∙ e) p.tail),
           )
 
-  pub items_end : (kind : Counted) (count : ℕ) {l : Length} {k j : ℕ} {m t : Bits} {all : C} → Took (LengthOf a l) here m → l ≡ Last k → j ≡ count_of l → count ≡ n + j → count < 2 ^ 64
+  pub items_end : (kind : ItemKind) (count : ℕ) {l : Length} {k j : ℕ} {m t : Bits} {all : C} → Took (LengthOf a l) here m → l ≡ Last k → j ≡ count_of l → count ≡ n + j → count < 2 ^ 64
       → TookItems holds (OneByOne (Field w)) j items all m t → TookItems holds (Sized a any_size kind (Field w)) count before all start t
   items_end kind count {l} {k} {j} {m} {t} b e i f few c =
       let is : length (h.codes ++ c.codes) ≡ count = omega (arith, h.count, c.count, f, length-append h.codes c.codes) in
@@ -166,7 +166,7 @@ module _ {C : Type 0} {holds : C → C → List ℕ → Type 0} {a : Settings} {
       }
 
   -- nothing is spelled where there is no length, where its items end early, or where there are more items than can be counted
-  module _ (kind : Counted) where
+  module _ (kind : ItemKind) where
     pub no_items_length : NoneIn (LengthOf a) here → NoneIn (Sized a any_size kind (Field w)) start
     no_items_length none xs t b =
         let q = h.back xs t (took_map (λ p c x. x.spelled) b) in

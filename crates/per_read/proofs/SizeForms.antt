@@ -7,16 +7,17 @@ use Rattle.rasn_types.specs.Variants.{Variant, aligned, unaligned}
 use Rattle.rasn_types.proofs.Bits.{width_least}
 use Rattle.rasn_constraints.specs.Bounds.{allows, any_size, at_least, at_most, holds, Size}
 use Rattle.per_core.specs.Basic.{OneByOne, UnconstrainedLength, PaddingIf, Sized, InOctets, IsConstrainedWhole, length_form, constrained_by, constrained_form}
-use Rattle.per_core.specs.Counts.{Counted, is_aligned}
+use Rattle.per_core.specs.Counts.{ItemKind, is_aligned}
+use Rattle.per_core.proofs.ConstrainedLengths.{IsConstrained, IsFree}
 use Rattle.per_core.specs.Spellings.{Settings, Spelling, Then, AnyPadding, Field}
 use Rattle.per_core.specs.Took.{Took}
 use Rattle.per_core.proofs.Agree.{Agree, weaken, when_agree, padding_agree, field_agree}
-use Rattle.per_core.proofs.Lengths.{Zip-same, bounded_form_agree, unsized_agree, and_left, and_right}
+use Rattle.per_core.proofs.LengthForms.{Zip-same, bounded_form_agree, unsized_agree, and_left, and_right}
 use Rattle.per_core.proofs.Took.{took_then, then_took, took_map, took_agree, nothing_took}
 use Rattle.per_read.specs.Kinds.{NoneIn}
 use Rattle.per_read.specs.Items.{TookItems}
 use Rattle.per_read.specs.Takes.{alone}
-use Rattle.per_read.specs.Sizes.{CountFrom, Between, constrained_between, under_size}
+use Rattle.per_read.specs.Sizes.{CountFrom, Between, under_size}
 use Rattle.per_read.proofs.Fields.{when_took, field_below}
 use Rattle.per_read.proofs.OneByOne.{items_wide}
 
@@ -99,11 +100,11 @@ pub count_agree : (a : Settings) (lb ub n m : ℕ) → Agree (n ≡ m) (CountFro
 count_agree a lb ub n m = when_agree (λ h k. weaken (λ e. omega (arith, h, k, e)) (bounded_form_agree a (ub - lb + 1) (n - lb) (m - lb)))
 
 -- the count of what is spelled behind it
-pub count_between : {X : Type 0} (a : Settings) (lb ub : ℕ) (kind : Counted) (item : X → Spelling) (n : ℕ) {s m : Bits} → Took (CountFrom a lb ub n) s m
+pub count_between : {X : Type 0} (a : Settings) (lb ub : ℕ) (kind : ItemKind) (item : X → Spelling) (n : ℕ) {s m : Bits} → Took (CountFrom a lb ub n) s m
     → (xs : List X) (u : Bits) → Took (Between a lb ub kind item xs) s u → length xs ≡ n
 count_between a lb ub kind item n b xs u c = let r = then_took c in (took_agree (count_agree a lb ub (length xs) n) r.1 b).0
 
-module _ (a : Settings) (lb ub : ℕ) (kind : Counted) (w n : ℕ) {s m : Bits} (b : Took (CountFrom a lb ub n) s m) where
+module _ (a : Settings) (lb ub : ℕ) (kind : ItemKind) (w n : ℕ) {s m : Bits} (b : Took (CountFrom a lb ub n) s m) where
   pub between_took : {C : Type 0} {holds : C → C → List ℕ → Type 0} {before after : C} {l t : Bits} {test : Bool} → test ≡ (ltb 0 n && is_aligned kind lb ub) → Took (PaddingIf test a) m l
       → TookItems holds (OneByOne (Field w)) n before after l t → TookItems holds (Between a lb ub kind (Field w)) n before after s t
   between_took {l = l} {t = t} i p r = record {
@@ -136,49 +137,15 @@ module _ (a : Settings) (lb ub : ℕ) (kind : Counted) (w n : ℕ) {s m : Bits} 
       let j : (ltb 0 (length xs) && is_aligned kind lb ub) ≡ test = ap (λ (z : ℕ). ltb 0 z && is_aligned kind lb ub) z.0 ∙ sym i in
       none tt v.0 (subst (λ z. Took (PaddingIf test a) z v.0) z.1 (subst (λ z. Took (PaddingIf z a) r.0 v.0) j v.1))
 
-pub no_count_between : {X : Type 0} (a : Settings) (lb ub : ℕ) (kind : Counted) (item : X → Spelling) {s : Bits} → NoneIn (CountFrom a lb ub) s → NoneIn (Between a lb ub kind item) s
+pub no_count_between : {X : Type 0} (a : Settings) (lb ub : ℕ) (kind : ItemKind) (item : X → Spelling) {s : Bits} → NoneIn (CountFrom a lb ub) s → NoneIn (Between a lb ub kind item) s
 no_count_between a lb ub kind item none xs u c = let r = then_took c in none (length xs) r.0 r.1
-
--- both bounds are there, and the upper one is below 65536
-pub record IsConstrained (l u : Option ℕ) (lb ub : ℕ) : Type 0 where
-  pub lower : l ≡ Some lb
-  pub upper : u ≡ Some ub
-  pub few : ub < 65536
-
-pub constrained_is : (l u : Option ℕ) (lb ub : ℕ) → constrained_between l u ≡ Some (lb, ub) → IsConstrained l u lb ub
-constrained_is None u lb ub e = absurd cc
-constrained_is (Some l) None lb ub e = absurd cc
-constrained_is (Some l) (Some u) lb ub e = go (ltb u 65536) refl e
-  where
-    go : (b : Bool) → ltb u 65536 ≡ b → cond {A = Option (ℕ × ℕ)} b (Some (l, u)) None ≡ Some (lb, ub) → IsConstrained (Some l) (Some u) lb ub
-    go true h i =
-        let bounds : ℕ × ℕ = (l, u) in
-        let j : bounds ≡ (lb, ub) = cc in
-        let k : u ≡ ub = ap (λ (z : ℕ × ℕ). z.1) j in
-        record { lower = ap (λ (z : ℕ × ℕ). Some z.0) j; upper = ap Some k; few = omega (arith, ltb-true u 65536 h, k) }
-    go false h i = absurd cc
-
--- or they aren't
-abbrev pub IsFree : Option ℕ → Option ℕ → Type 0
-IsFree None u = Unit {0}
-IsFree (Some l) None = Unit {0}
-IsFree (Some l) (Some u) = 65536 ≤ u
-
-pub free_is : (l u : Option ℕ) → constrained_between l u ≡ None → IsFree l u
-free_is None u e = tt
-free_is (Some l) None e = tt
-free_is (Some l) (Some u) e = go (cases_lt u 65536)
-  where
-    go : (u < 65536) ⊎ (65536 ≤ u) → 65536 ≤ u
-    go (inl h) = let i : cond {A = Option (ℕ × ℕ)} true (Some (l, u)) None ≡ None = ap (λ b. cond {A = Option (ℕ × ℕ)} b (Some (l, u)) None) (sym (lt-ltb u 65536 h)) ∙ e in absurd cc
-    go (inr h) = h
 
 -- what a size allows can be counted
 pub countable : (size : Size) (n : ℕ) → allows size n ≡ true → ltb n (2 ^ 64) ≡ true
 countable size n h = and_right (at_most size.most n) (ltb n (2 ^ 64)) (and_right (at_least size.least n) (at_most size.most n && ltb n (2 ^ 64)) h)
 
 -- the forms under a size
-module _ {X : Type 0} (a : Settings) (kind : Counted) (item : X → Spelling) (xs : List X) where
+module _ {X : Type 0} (a : Settings) (kind : ItemKind) (item : X → Spelling) (xs : List X) where
   pub under_between : (lb ub : ℕ) → ub < 65536 → under_size a (Some lb) (Some ub) kind item xs ≡ Between a lb ub kind item xs
   under_between lb ub h = ap (λ z. cond z (Between a lb ub kind item xs) (Sized a any_size kind item xs)) (lt-ltb ub 65536 h)
 
@@ -237,7 +204,7 @@ module _ {X : Type 0} (a : Settings) (kind : Counted) (item : X → Spelling) (x
           (λ y. record { allowed = countable (record { least = Some l; most = Some u }) (length xs) h; spelled = y }) x
 
 -- there is one count under a size
-pub one_size : (a : Settings) (l u : Option ℕ) (kind : Counted) (w : ℕ) (xs ys : List ℕ) (s t v : Bits) → Took (under_size a l u kind (Field w) xs) s t → Took (under_size a l u kind (Field w) ys) s v → length xs ≡ length ys
+pub one_size : (a : Settings) (l u : Option ℕ) (kind : ItemKind) (w : ℕ) (xs ys : List ℕ) (s t v : Bits) → Took (under_size a l u kind (Field w) xs) s t → Took (under_size a l u kind (Field w) ys) s v → length xs ≡ length ys
 one_size a l u kind w xs ys s t v b c = go l u b c
   where
     plain : Took (Sized a any_size kind (Field w) xs) s t → Took (Sized a any_size kind (Field w) ys) s v → length xs ≡ length ys

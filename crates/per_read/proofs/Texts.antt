@@ -5,7 +5,7 @@ use Rattle.rasn_types.specs.Contents.{TextKind, is_text}
 use Rattle.per_core.specs.Basic.{Octets, Proper}
 use Rattle.per_core.specs.Spellings.{Settings}
 use Rattle.per_core.specs.Took.{Took}
-use Rattle.per_core.proofs.Lengths.{same_octets}
+use Rattle.per_core.proofs.LengthForms.{same_octets}
 use Rattle.per_core.proofs.Took.{took_map, took_agree}
 use Rattle.per_read.specs.Kinds.{IsTested, NoneIn}
 use Rattle.per_read.specs.Strings.{IsNoText, IsOfText}

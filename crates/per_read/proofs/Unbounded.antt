@@ -6,7 +6,7 @@ use Rattle.rasn_constraints.specs.Bounds.{Bounds, unbounded, holds}
 use Rattle.per_core.specs.Spellings.{Settings}
 use Rattle.per_core.specs.Basic.{Octets, IsNumberOf}
 use Rattle.per_core.specs.Took.{Took}
-use Rattle.per_core.proofs.Lengths.{same_octets}
+use Rattle.per_core.proofs.LengthForms.{same_octets}
 use Rattle.per_core.proofs.Took.{took_agree, took_map}
 
 -- the octets of a number

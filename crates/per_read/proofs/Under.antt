@@ -7,7 +7,7 @@ use Rattle.rasn_types.specs.Octets.{signed}
 use Rattle.per_core.specs.Spellings.{Settings}
 use Rattle.per_core.specs.Basic.{IsUnconstrainedWhole, IsSemiConstrainedWhole, Octets, constrained_form}
 use Rattle.per_core.specs.Took.{Took}
-use Rattle.per_core.proofs.Lengths.{same_octets}
+use Rattle.per_core.proofs.LengthForms.{same_octets}
 use Rattle.per_core.proofs.Took.{took_agree, took_map}
 use Rattle.per_read.specs.Numbers.{IsAbove, OfRead, under_bounds}
 use Rattle.per_read.specs.declared.numbers.ReadNumber.{ReadNumber}

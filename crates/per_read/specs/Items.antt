@@ -3,7 +3,7 @@
 use Rattle.std.specs.Prelude.{◌≡◌, ◌<◌, ◌≤◌, ◌+◌, ◌*◌, ℕ, Bool, if◌then◌else◌, List, ◌++◌, length, Result, IfOk, OnOk, IfErr}
 use Rattle.rasn_types.specs.Bits.{Bits}
 use Rattle.rasn_constraints.specs.Bounds.{Size, any_size}
-use Rattle.per_core.specs.Basic.{OneByOne, Sized, Lengthy}
+use Rattle.per_core.specs.Basic.{OneByOne, Sized, Counted}
 use Rattle.per_core.specs.Spellings.{Settings, Spelling, Field}
 use Rattle.per_core.specs.Took.{Took}
 use Rattle.per_read.specs.Kinds.{NoneIn, Stopped}
@@ -26,8 +26,8 @@ abbrev pub sized_items : Settings → Size → Item → List ℕ → Spelling
 sized_items a size i = Sized a size (counted_of i) (coded i)
 
 -- X.691 16, 17, 30.5: items under a size constraint
-abbrev pub lengthy_items : Settings → Size → Bool → Item → List ℕ → Spelling
-lengthy_items a size mark i = Lengthy a size mark (counted_of i) (coded i)
+abbrev pub counted_items : Settings → Size → Bool → Item → List ℕ → Spelling
+counted_items a size mark i = Counted a size mark (counted_of i) (coded i)
 
 -- items were appended: what was held before, since any start, is held with these behind it
 pub record Adds {C : Type 0} (holds : C → C → List ℕ → Type 0) (before : C) (codes : List ℕ) (after : C) : Type 0 where

@@ -2,6 +2,7 @@ pub mod Options
 pub mod FewOctets
 pub mod Items
 pub mod Kinds
+pub mod Lacking
 pub mod Lengths
 pub mod Lists
 pub mod Names

@@ -5,7 +5,7 @@ use Rattle.rasn_types.specs.Values.{Value}
 use Rattle.rasn_constraints.specs.Bounds.{allows, Size}
 use Rattle.rasn_constraints.specs.Constraints.{start_of, end_of, size_between}
 use Rattle.rasn_schema.specs.Schemas.{Schema}
-use Rattle.per_core.specs.Basic.{Lengthy, UnconstrainedLength, basic}
+use Rattle.per_core.specs.Basic.{Counted, UnconstrainedLength, basic}
 use Rattle.per_core.specs.Counts.{list_items}
 use Rattle.per_core.specs.Spellings.{Settings, Spelling, Then, exactly, never}
 use Rattle.per_core.specs.Took.{Took}
@@ -14,7 +14,7 @@ use Rattle.per_read.specs.Sizes.{IsOfSize, Miscounted}
 use Rattle.per_read.specs.State.{State, settings_of}
 use Rattle.per_read.specs.UpTo.{UpTo, UpToUnconstrained}
 use Rattle.per_read.specs.declared.error.DecodeErrorKind.{DecodeErrorKind}
-use Rattle.per_read.specs.declared.lists.OpenList.{OpenList}
+use Rattle.per_read.specs.declared.lists.UnreadElements.{UnreadElements}
 
 -- how lists are spelled: the settings, their size, whether that is extensible, and how an item is spelled
 pub record ListRule (X : Type 0) : Type 1 where
@@ -25,7 +25,7 @@ pub record ListRule (X : Type 0) : Type 1 where
 
 -- X.691 20: a list of items
 abbrev pub list_form : {X : Type 0} → ListRule X → List X → Spelling
-list_form f = Lengthy f.settings f.size f.mark list_items f.item
+list_form f = Counted f.settings f.size f.mark list_items f.item
 
 -- X.691 20: how a SEQUENCE OF is spelled whose elements have a schema
 abbrev pub list_rule : Settings → Size → Bool → Schema → ListRule Value
@@ -49,7 +49,7 @@ RestUpTo a item false zero xs = never
 
 -- What is still to be read of a list of items: others behind those that were read, with whose count the size allows
 -- that of all.
-pub record IsLeft {X : Type 0} (a : Settings) (item : X → Spelling) (before : List X) (l : OpenList) (here : Bits)
+pub record IsLeft {X : Type 0} (a : Settings) (item : X → Spelling) (before : List X) (l : UnreadElements) (here : Bits)
     (xs : List X) (t : Bits) : Type 0 where
   pub others : List X
   pub all : xs ≡ before ++ others
@@ -60,7 +60,7 @@ pub record IsLeft {X : Type 0} (a : Settings) (item : X → Spelling) (before : 
 -- start on exactly where the rest is read from here on, and the size allows the count
 -- of all; a count that the size doesn't allow is its fault; and where a further item is to be read, it stands behind
 -- others of the list.
-pub record AmidItems {X : Type 0} (f : ListRule X) (start : Bits) (before : List X) (l : OpenList)
+pub record AreOpenItems {X : Type 0} (f : ListRule X) (start : Bits) (before : List X) (l : UnreadElements)
     (here : Bits) : Type 0 where
   pub count : l.count ≡ length before
   pub on : (xs : List X) (t : Bits) → IsLeft f.settings f.item before l here xs t → Took (list_form f xs) start t
@@ -74,10 +74,10 @@ pub record AmidItems {X : Type 0} (f : ListRule X) (start : Bits) (before : List
 
 -- A further item of an open list is to be read here, behind those that were: with it, the list goes on; where none is
 -- read, the list isn't.
-pub record AwaitsItem {X : Type 0} (f : ListRule X) (start : Bits) (before : List X) (l : OpenList)
+pub record AwaitsItem {X : Type 0} (f : ListRule X) (start : Bits) (before : List X) (l : UnreadElements)
     (here : Bits) : Type 0 where
   pub behind : Took (UpTo f.settings f.size f.mark f.item before) start here
-  pub goes_on : (x : X) (t : Bits) → Took (f.item x) here t → AmidItems f start (before ++ x ∷ []) l t
+  pub goes_on : (x : X) (t : Bits) → Took (f.item x) here t → AreOpenItems f start (before ++ x ∷ []) l t
   pub none : NoneIn f.item here → NoneIn (list_form f) start
 
 -- A list isn't read, and a kind that says why.
@@ -87,7 +87,7 @@ pub record RefusesList {X : Type 0} (f : ListRule X) (start : Bits) (k : DecodeE
 
 -- Ok is at a further item, or behind the list; and Err comes only where that isn't read.
 abbrev pub NextRead : {X : Type 0} → ListRule X → (start : Bits) → (before : List X) → Result Bool DecodeErrorKind
-    → OpenList → Bits → Type 0
+    → UnreadElements → Bits → Type 0
 NextRead f start before (Ok true) l here = AwaitsItem f start before l here
 NextRead f start before (Ok false) l here = Took (list_form f before) start here
 NextRead f start before (Err k) l here = RefusesList f start k
@@ -98,34 +98,34 @@ pub record Leaves (s t : Bits) : Type 0 where
   pub joins : s ≡ front ++ t
 
 -- how many items may still be read, since no list has more than can be counted
-abbrev pub most : OpenList → ℕ
+abbrev pub most : UnreadElements → ℕ
 most l = 2 ^ 64 - l.count
 
 -- A call that opens a list of a size, of whatever elements: an error comes only where none is read.
-pub record OpensList (size : Size) (mark : Bool) (x : State) (result : Result OpenList DecodeErrorKind)
+pub record OpensList (size : Size) (mark : Bool) (x : State) (result : Result UnreadElements DecodeErrorKind)
     (y : State) : Type 0 where
-  pub ok : IfOk result (λ l. (e : Schema) → AmidItems (list_rule (settings_of x) size mark e) x.bits [] l y.bits)
+  pub ok : IfOk result (λ l. (e : Schema) → AreOpenItems (list_rule (settings_of x) size mark e) x.bits [] l y.bits)
   pub err : IfErr result (Refused ((e : Schema) → NoneIn (list_form (list_rule (settings_of x) size mark e)) x.bits))
   pub leaves : OnOk result (Leaves x.bits y.bits)
   pub kept : y.options ≡ x.options
 
 -- A call that takes the length of the next fragment of an open list, where one begins here. The list stays open, and
 -- where no item is left, it has ended.
-pub record BeginsFragment (l : OpenList) (x : State) (result : Result (Unit {0}) DecodeErrorKind) (m : OpenList)
-    (y : State) : Type 0 where
+pub record BeginsFragment (l : UnreadElements) (x : State) (result : Result (Unit {0}) DecodeErrorKind)
+    (m : UnreadElements) (y : State) : Type 0 where
   pub law : (size : Size) (mark : Bool) (e : Schema) (start : Bits) (before : List Value)
-      → (let f = list_rule (settings_of x) size mark e in AmidItems f start before l x.bits
-      → MatchResult result (λ u. AmidItems f start before m y.bits) (RefusesList f start))
+      → (let f = list_rule (settings_of x) size mark e in AreOpenItems f start before l x.bits
+      → MatchResult result (λ u. AreOpenItems f start before m y.bits) (RefusesList f start))
   pub ended : OnOk result (m.left ≡ 0 → m.more ≡ false)
   pub count : m.count ≡ l.count
   pub leaves : OnOk result (Leaves x.bits y.bits)
   pub kept : y.options ≡ x.options
 
 -- A call before each element of an open list, and behind the last. Each leaves fewer elements that may be read.
-pub record ReadsNext (l : OpenList) (x : State) (result : Result Bool DecodeErrorKind) (m : OpenList)
+pub record ReadsNext (l : UnreadElements) (x : State) (result : Result Bool DecodeErrorKind) (m : UnreadElements)
     (y : State) : Type 0 where
   pub law : (size : Size) (mark : Bool) (e : Schema) (start : Bits) (before : List Value)
-      → (let f = list_rule (settings_of x) size mark e in AmidItems f start before l x.bits
+      → (let f = list_rule (settings_of x) size mark e in AreOpenItems f start before l x.bits
       → NextRead f start before result m y.bits)
   pub fewer : IfOk result (λ another. another ≡ true → most m < most l)
   pub leaves : OnOk result (Leaves x.bits y.bits)

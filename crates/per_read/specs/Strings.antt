@@ -8,7 +8,7 @@ use Rattle.rasn_constraints.specs.Bounds.{Size}
 use Rattle.per_core.specs.Basic.{Octets}
 use Rattle.per_core.specs.Spellings.{Settings}
 use Rattle.per_core.specs.Took.{Took}
-use Rattle.per_read.specs.Items.{lengthy_items}
+use Rattle.per_read.specs.Items.{counted_items}
 use Rattle.per_read.specs.Kinds.{IsTested}
 use Rattle.per_read.specs.Sizes.{IsOfItems}
 use Rattle.per_core.specs.declared.items.Item.TheVariants.{Character}
@@ -38,7 +38,7 @@ AreRead a true characters codes = HasUnknown a.variant a.characters codes
 pub record IsUnpermitted (a : Settings) (alphabet : List ℕ) (size : Size) (mark : Bool) (s : Bits) : Type 0 where
   pub codes : List ℕ
   pub rest : Bits
-  pub took : Took (lengthy_items a size mark (Character (char_width a.variant alphabet)) codes) s rest
+  pub took : Took (counted_items a size mark (Character (char_width a.variant alphabet)) codes) s rest
   pub unknown : HasUnknown a.variant alphabet codes
 
 -- what a kind says of a known-multiplier string

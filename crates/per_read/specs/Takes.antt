@@ -39,13 +39,13 @@ itself P v = P v
 abbrev pub alone : (Settings → Spelling) → Settings → Unit {0} → Spelling
 alone form a u = form a
 
--- so many bits, whichever they are
+-- a front of so many bits, whichever they are
 abbrev pub Front : ℕ → Bits → Spelling
 Front n bits = When (length bits ≡ n) (exactly bits)
 
 -- A call that takes what a form spells: Ok answers what a front of the bits left spells, and the bits behind it are
--- left; Err comes only
--- where no front spells anything, for a reason; and how it reads stays. `of` says what of the form an answer is.
+-- left; Err comes only where no front spells anything, for a reason; and how it reads stays. `of` says what of the form
+-- an answer is.
 pub record Takes {T X : Type 0} (why : Reason) (form : Settings → X → Spelling) (of : (X → Type 0) → T → Type 0)
     (x : State)
     (result : Result T DecodeErrorKind) (y : State) : Type 0 where

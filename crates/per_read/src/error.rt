@@ -1,9 +1,11 @@
 //! Why a decoder refuses.
 
 ghost use Rattle.std.specs.Prelude.{◌≡◌};
+ghost use Rattle.per_read.specs.Lacking.{NamesLacking};
 ghost use Rattle.per_read.specs.Names.{name_of};
 ghost use Rattle.per_read.specs.declared.error.DecodeErrorKind.TheVariants.{OutOfMemory};
 
+use rasn_traits::de;
 use rasn_types::types::{Codec, Tag};
 use std::alloc::{AllocError, AllocFailed};
 use thiserror::Error;
@@ -16,6 +18,17 @@ pub struct DecodeError {
     pub kind: DecodeErrorKind,
     /// The variant in use.
     pub codec: Codec,
+}
+
+impl de::Error for DecodeError {
+    ghost lacks = { NamesLacking };
+
+    fn required_extension_not_present(tag: Tag, codec: Codec) -> DecodeError {
+        DecodeError {
+            kind: DecodeErrorKind::RequiredExtensionNotPresent(tag),
+            codec,
+        }
+    }
 }
 
 /// What was wrong with the bits, or with the decoder.

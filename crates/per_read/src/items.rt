@@ -81,7 +81,7 @@ pub(crate) trait Collector {
         self.push_each(word, length, many)
     }
 
-    /// The same, one item after another.
+    /// Appends the items that the low `length` bits of a word are, `many` of them, one after another.
     fn push_each(&mut self, word: u64, length: u32, many: usize) -> Result<(), AllocError>
         requires bits { length ≡ bits_of (item self.old) * many }
         requires few { length ≤ WORD_BITS }

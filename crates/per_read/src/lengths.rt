@@ -7,6 +7,7 @@ ghost use Rattle.per_read.specs.Takes.{Takes, alone, tested, itself};
 
 use crate::Reader;
 use crate::error::{DecodeErrorKind, ParserFailCause};
+use per_core::lengths::FRAGMENT;
 use rasn_types::types::Codec;
 
 /// How many items follow a length.
@@ -73,7 +74,7 @@ impl Reader<'_> {
             return Ok(Length::Last(self.take_bits(14)?));
         }
         match self.take_bits(6)? {
-            times @ 1..=4 => Ok(Length::Fragment(16384 * times)),
+            times @ 1..=4 => Ok(Length::Fragment(FRAGMENT as u128 * times)),
             _ => Err(DecodeErrorKind::ParserFail(ParserFailCause::FragmentCode)),
         }
     }

@@ -7,12 +7,12 @@ ghost use Rattle.per_read.specs.Lists.{BeginsFragment, OpensList, ReadsNext};
 
 use crate::Reader;
 use crate::error::DecodeErrorKind;
-use crate::sizes::{check_size, constrained_bounds};
+use crate::sizes::{check_size, constrained_size};
 use rasn_schema::constraints::{Bounded, Constraints, Extensible};
 
 /// What is left of an open list.
 #[derive(Drop)]
-pub struct OpenList {
+pub struct UnreadElements {
     // What the count of all elements has to meet: no bound behind an extension bit 1.
     size: Bounded<usize>,
     // How many elements were read.
@@ -27,7 +27,10 @@ impl Reader<'_> {
     /// Opens a SEQUENCE OF under the first size constraint (X.691 20): takes its extension bit, and a count from a
     /// lower to an upper bound. An unconstrained length is taken in front of the elements that it counts. Takes no
     /// memory.
-    pub fn open_list(&mut self, constraints: &Constraints) -> Result<OpenList, DecodeErrorKind>
+    pub fn open_list(
+        &mut self,
+        constraints: &Constraints,
+    ) -> Result<UnreadElements, DecodeErrorKind>
         ensures { OpensList (size_of constraints.now) (is_size_marked constraints.now) self.old result self.new }
     {
         match constraints.size() {
@@ -39,7 +42,7 @@ impl Reader<'_> {
     /// Goes on to the next element of an open list, where there is one, which is to be read from here on: takes the
     /// length of the next fragment, where one begins (X.691 11.9.3.8). Behind the last it answers `false`, or refuses
     /// a count that the size doesn't allow. Takes no memory.
-    pub fn next_element(&mut self, list: &mut OpenList) -> Result<bool, DecodeErrorKind>
+    pub fn next_element(&mut self, list: &mut UnreadElements) -> Result<bool, DecodeErrorKind>
         ensures { ReadsNext list.old self.old result list.new self.new }
     {
         self.begin_fragment(list)?;
@@ -60,7 +63,7 @@ impl Reader<'_> {
     fn open_extensible_list(
         &mut self,
         size: Extensible<Bounded<usize>>,
-    ) -> Result<OpenList, DecodeErrorKind>
+    ) -> Result<UnreadElements, DecodeErrorKind>
         ensures { OpensList (size_between size.constraint) size.extensible self.old result self.new }
     {
         if !size.extensible {
@@ -73,11 +76,11 @@ impl Reader<'_> {
     }
 
     /// Opens a list whose count a size has to allow (X.691 11.9.3.3, 11.9.4.1).
-    fn open_sized_list(&mut self, size: Bounded<usize>) -> Result<OpenList, DecodeErrorKind>
+    fn open_sized_list(&mut self, size: Bounded<usize>) -> Result<UnreadElements, DecodeErrorKind>
         ensures { OpensList (size_between size) false self.old result self.new }
     {
-        let Some((lower, upper)) = constrained_bounds(&size) else {
-            return Ok(OpenList {
+        let Some((lower, upper)) = constrained_size(&size) else {
+            return Ok(UnreadElements {
                 size,
                 count: 0,
                 left: 0,
@@ -85,7 +88,7 @@ impl Reader<'_> {
             });
         };
         let left = self.take_constrained_count(lower, upper)?;
-        Ok(OpenList {
+        Ok(UnreadElements {
             size,
             count: 0,
             left,
@@ -94,7 +97,7 @@ impl Reader<'_> {
     }
 
     /// Takes the length of the next fragment, where one begins here.
-    fn begin_fragment(&mut self, list: &mut OpenList) -> Result<(), DecodeErrorKind>
+    fn begin_fragment(&mut self, list: &mut UnreadElements) -> Result<(), DecodeErrorKind>
         ensures { BeginsFragment list.old self.old result list.new self.new }
     {
         if list.left > 0 || !list.more {

@@ -73,7 +73,7 @@ impl Reader<'_> {
         }
     }
 
-    /// Takes the same, of any count of octets, which are kept in memory.
+    /// Takes an unconstrained whole number of any count of octets, which are kept in memory (X.691 11.8).
     fn take_long_whole(&mut self) -> Result<ReadNumber, DecodeErrorKind>
         ensures { Takes (memory_or IsOfOctets) IsUnconstrainedWhole OfRead self.old result self.new }
     {
@@ -95,7 +95,8 @@ impl Reader<'_> {
         }
     }
 
-    /// Takes the same, of any count of octets, which are kept in memory.
+    /// Takes a semi-constrained whole number above its lower bound, of any count of octets, which are kept in memory
+    /// (X.691 11.7).
     fn take_long_natural(&mut self) -> Result<Option<u128>, DecodeErrorKind>
         ensures { Takes (memory_or IsOfOctets) IsSemiConstrainedWhole OfNatural self.old result self.new }
     {

@@ -4,11 +4,11 @@ ghost use Rattle.std.specs.Prelude.{◌≡◌, ◌<◌, ◌&&◌, nat_lt, true, 
 ghost use Rattle.rasn_constraints.specs.Bounds.{allows};
 ghost use Rattle.rasn_constraints.specs.Constraints.{start_of, end_of, size_between, size_in, is_marked};
 ghost use Rattle.per_core.specs.Basic.{PaddingIf};
-ghost use Rattle.per_core.specs.Counts.{is_aligned};
+ghost use Rattle.per_core.specs.Counts.{constrained_between, is_aligned};
 ghost use Rattle.per_core.specs.Items.{counted_of};
 ghost use Rattle.per_core.specs.Spellings.{Settings};
-ghost use Rattle.per_read.specs.Items.{unconstrained_items, sized_items, lengthy_items, TakesItems};
-ghost use Rattle.per_read.specs.Sizes.{CountFrom, constrained_between, items_between, items_under, IsOfItems};
+ghost use Rattle.per_read.specs.Items.{unconstrained_items, sized_items, counted_items, TakesItems};
+ghost use Rattle.per_read.specs.Sizes.{CountFrom, items_between, items_under, IsOfItems};
 ghost use Rattle.per_read.specs.Takes.{Takes, alone, itself, memory_or, stopped, tested};
 ghost use Rattle.per_read.specs.declared.error.DecodeErrorKind.TheVariants.{SizeConstraintNotSatisfied};
 
@@ -17,6 +17,7 @@ use crate::error::DecodeErrorKind;
 use crate::items::Collector;
 use crate::lengths::Length;
 use per_core::items::Item;
+use per_core::lengths::constrained_bounds;
 use rasn_schema::constraints::{Bounded, Extensible};
 
 impl Reader<'_> {
@@ -30,7 +31,7 @@ impl Reader<'_> {
     ) -> Result<usize, DecodeErrorKind>
         requires { C.count items.old ≡ 0 }
         ensures { let why = λ (a : Settings). IsOfItems a (size_in size) (is_marked size) (C.item items.old) in
-            let form = λ (a : Settings). lengthy_items a (size_in size) (is_marked size) (C.item items.old) in
+            let form = λ (a : Settings). counted_items a (size_in size) (is_marked size) (C.item items.old) in
             TakesItems C.holds (memory_or why) form items.old self.old result items.new self.new }
     {
         match size {
@@ -51,7 +52,7 @@ impl Reader<'_> {
         requires { C.count items.old ≡ 0 }
         ensures { let bounds = size_between size.constraint in
             let why = λ (a : Settings). IsOfItems a bounds size.extensible (C.item items.old) in
-            let form = λ (a : Settings). lengthy_items a bounds size.extensible (C.item items.old) in
+            let form = λ (a : Settings). counted_items a bounds size.extensible (C.item items.old) in
             TakesItems C.holds (memory_or why) form items.old self.old result items.new self.new }
     {
         if !size.extensible {
@@ -94,7 +95,7 @@ impl Reader<'_> {
         ensures { let form = λ (a : Settings). items_under a (size_between size.now) (C.item items.old) in
             TakesItems C.holds stopped form items.old self.old result items.new self.new }
     {
-        match constrained_bounds(size) {
+        match constrained_size(size) {
             Some((lower, upper)) => self.take_constrained_items(lower, upper, items),
             None => self.take_unconstrained_items(items),
         }
@@ -178,15 +179,12 @@ impl Reader<'_> {
     }
 }
 
-/// The least and the greatest count, where a size has a count written as one of the numbers between them: both are
-/// there and the greatest is below 65536 (X.691 11.9.4.1).
-pub(crate) fn constrained_bounds(size: &Bounded<usize>) -> Option<(usize, usize)>
+/// The bounds of a size, where it has a count written as a constrained whole number (X.691 11.9.4.1).
+pub(crate) fn constrained_size(size: &Bounded<usize>) -> Option<(usize, usize)>
     ensures { result ≡ constrained_between (start_of size.now) (end_of size.now) }
 {
-    match size.start_and_end() {
-        (Some(lower), Some(upper)) if upper < 65536 => Some((lower, upper)),
-        _ => None,
-    }
+    let (lower, upper) = size.start_and_end();
+    constrained_bounds(lower, upper)
 }
 
 /// Refuses a count that a size doesn't allow (X.680 51.5).

@@ -4,7 +4,7 @@ ghost use Rattle.std.specs.Prelude.{◌≡◌};
 ghost use Rattle.std.specs.String.{string_bytes};
 ghost use Rattle.rasn_types.specs.Contents.{utf8, is_text};
 ghost use Rattle.rasn_schema.specs.Forms.{size_of, is_size_marked, alphabet_of};
-ghost use Rattle.per_core.specs.Basic.{Octets, Lengthy, String, Proper, octet, bit};
+ghost use Rattle.per_core.specs.Basic.{Octets, Counted, String, Proper, octet, bit};
 ghost use Rattle.per_core.specs.Counts.{octet_items, bit_items};
 ghost use Rattle.per_core.specs.Spellings.{Settings};
 ghost use Rattle.per_core.specs.declared.items.Item.TheVariants.{Octet, Bit};
@@ -33,7 +33,7 @@ impl Reader<'_> {
     ) -> Result<Vec<u8>, DecodeErrorKind>
         ensures { let size = size_of constraints.now in let mark = is_size_marked constraints.now in
             let why = λ (a : Settings). IsOfItems a size mark Octet in
-            let form = λ (a : Settings). Lengthy a size mark octet_items octet in
+            let form = λ (a : Settings). Counted a size mark octet_items octet in
             Takes (memory_or why) form (λ P octets. P octets.items) self.old result self.new }
     {
         let mut octets = Vec::new(self.alloc);
@@ -46,7 +46,7 @@ impl Reader<'_> {
     pub fn skip_octet_string(&mut self, constraints: &Constraints) -> Result<usize, DecodeErrorKind>
         ensures { let size = size_of constraints.now in let mark = is_size_marked constraints.now in
             let why = λ (a : Settings). IsOfItems a size mark Octet in
-            let form = λ (a : Settings). Lengthy a size mark octet_items octet in
+            let form = λ (a : Settings). Counted a size mark octet_items octet in
             Takes (memory_or why) form HasCount self.old result self.new }
     {
         self.take_items(constraints.size(), &mut Skipped)
@@ -60,7 +60,7 @@ impl Reader<'_> {
     ) -> Result<BitString, DecodeErrorKind>
         ensures { let size = size_of constraints.now in let mark = is_size_marked constraints.now in
             let why = λ (a : Settings). IsOfItems a size mark Bit in
-            let form = λ (a : Settings). Lengthy a size mark bit_items bit in
+            let form = λ (a : Settings). Counted a size mark bit_items bit in
             Takes (memory_or why) form itself self.old result self.new }
     {
         let mut list = BitList::new(self.alloc);

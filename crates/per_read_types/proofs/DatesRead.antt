@@ -13,7 +13,7 @@ use Rattle.per_core.specs.Basic.{IsConstrainedWhole, IsNumberOf, Year, YearIn, b
 use Rattle.per_core.specs.Spellings.{Settings, Field, Then}
 use Rattle.per_core.specs.Took.{Took}
 use Rattle.per_core.proofs.Agree.{Agree, field_agree, never_agree, then_agree, weaken}
-use Rattle.per_core.proofs.Lengths.{and_left, bounded_agree}
+use Rattle.per_core.proofs.LengthForms.{and_left, bounded_agree}
 use Rattle.per_core.proofs.Took.{then_took, took_agree, took_map, took_then}
 use Rattle.per_core.proofs.Unique.{in_whole_agree}
 use Rattle.per_read.specs.Kinds.{Faulty, IsTested, NoneIn}

@@ -8,7 +8,7 @@ use Rattle.per_core.specs.Basic.{ExtensionBit, Item, IsNumber, IsSemiConstrained
 use Rattle.per_core.specs.Spellings.{Settings, Then, exactly, Field}
 use Rattle.per_core.specs.Took.{Took}
 use Rattle.per_core.proofs.Agree.{Agree, field_agree}
-use Rattle.per_core.proofs.Lengths.{bounded_form_agree}
+use Rattle.per_core.proofs.LengthForms.{bounded_form_agree}
 use Rattle.per_core.proofs.Took.{took_then, then_took, took_map, took_agree, nothing_took}
 use Rattle.per_core.proofs.Unique.{in_natural_agree, marked_agree}
 use Rattle.per_read_types.specs.Enumerations.{IsMissing, IsOfItem, IsOfPlace, IsPlace, IsThere, count_of, item_form, place_form, side_of}

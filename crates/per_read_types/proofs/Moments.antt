@@ -9,11 +9,11 @@ use Rattle.rasn_schema.specs.Schemas.{Schema}
 use Rattle.per_core.specs.Basic.{Octets, String, basic, basic_in}
 use Rattle.per_core.specs.Spellings.{Settings}
 use Rattle.per_core.specs.Took.{Took}
-use Rattle.per_core.proofs.Lengths.{same_octets}
+use Rattle.per_core.proofs.LengthForms.{same_octets}
 use Rattle.per_core.proofs.Readings.{one_reading}
 use Rattle.per_core.proofs.Took.{took_map, took_agree}
 use Rattle.per_read.specs.Kinds.{IsTested, NoneIn}
-use Rattle.per_read_types.specs.Moments.{IsNoObject, IsNoTime, IsOfIdentifier, IsOfTime, identifier_form, time_form}
+use Rattle.per_read_types.specs.Times.{IsNoObject, IsNoTime, IsOfIdentifier, IsOfTime, identifier_form, time_form}
 use Rattle.per_read.specs.Strings.{IsOfString}
 use Rattle.per_read.specs.declared.error.DecodeErrorKind.{DecodeErrorKind}
 use Rattle.per_read.specs.declared.error.DecodeErrorKind.TheVariants.{Below}

@@ -6,7 +6,7 @@ use Rattle.per_core.specs.Basic.{Fills, InFragments, Octets, OneByOne, Open, oct
 use Rattle.per_core.specs.Spellings.{Settings, Spelling}
 use Rattle.per_core.specs.Took.{Took}
 use Rattle.per_core.proofs.Agree.{Agree}
-use Rattle.per_core.proofs.Lengths.{same_octets}
+use Rattle.per_core.proofs.LengthForms.{same_octets}
 use Rattle.per_core.proofs.Took.{took_agree, took_map}
 use Rattle.per_read.specs.Kinds.{NoneIn}
 use Rattle.per_read_types.specs.Ends.{EndsAs}

@@ -5,7 +5,7 @@ use Rattle.rasn_types.specs.Bits.{Bits, pack, unpack}
 use Rattle.rasn_types.proofs.Octets.{length-pack, unpack-pack}
 use Rattle.rasn_constraints.specs.Bounds.{allows, any_size}
 use Rattle.per_core.specs.Basic.{Octets, OneByOne, Sized, octet}
-use Rattle.per_core.specs.Counts.{Counted, octet_items}
+use Rattle.per_core.specs.Counts.{ItemKind, octet_items}
 use Rattle.per_core.specs.Spellings.{Settings, Spelling}
 use Rattle.per_core.specs.Took.{Took}
 use Rattle.per_core.proofs.Took.{took_map}
@@ -30,7 +30,7 @@ pub skipped : (n : ℕ) (bits : Bits) {s t : Bits} → Took (Front (8 * n) bits)
 skipped n bits b = record { codes = pack n bits; count = length-pack n bits; added = record { behind = λ start xs h. tt }; took = octets_took n bits b }
 
 -- items behind one length
-pub one_piece : {X : Type 0} (a : Settings) (item : X → Spelling) (kind : Counted) (xs : List X) (n : ℕ) {s m t : Bits} → Took (LengthOf a (Last n)) s m → length xs ≡ n → Took (OneByOne item xs) m t
+pub one_piece : {X : Type 0} (a : Settings) (item : X → Spelling) (kind : ItemKind) (xs : List X) (n : ℕ) {s m t : Bits} → Took (LengthOf a (Last n)) s m → length xs ≡ n → Took (OneByOne item xs) m t
     → Took (Sized a any_size kind item xs) s t
 one_piece a item kind xs n b e c =
     let few = (small_length (Last n) b).0 in

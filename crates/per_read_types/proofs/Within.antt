@@ -8,7 +8,7 @@ use Rattle.per_core.specs.Spellings.{Settings}
 use Rattle.per_core.specs.Basic.{IsSemiConstrainedWhole, IsNumberOf, number_spelling}
 use Rattle.per_core.specs.Took.{Took}
 use Rattle.per_core.proofs.Agree.{Agree, weaken, when_agree}
-use Rattle.per_core.proofs.Lengths.{and_left, and_right, same_octets, bounded_form_agree}
+use Rattle.per_core.proofs.LengthForms.{and_left, and_right, same_octets, bounded_form_agree}
 use Rattle.per_core.proofs.Took.{took_map, took_agree}
 use Rattle.per_core.proofs.Unique.{above_same, in_whole_agree}
 use Rattle.per_read.specs.Numbers.{under_bounds}

@@ -19,8 +19,7 @@ index_of (Root i) = (root, i)
 index_of (Added i) = (added, i)
 
 -- X.691 23.5 to 23.8: the extension bit of a choice and an index in the list that it tells are written as those of an
--- ENUMERATED of as
--- many items, one that is known
+-- ENUMERATED of as many items, one that is known
 abbrev pub index_form : Settings → (roots addeds : ℕ) → (extensible : Bool) → Side × ℕ → Spelling
 index_form a r e ext x = Item a r e ext x.0 x.1
 

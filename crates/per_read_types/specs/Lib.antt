@@ -1,7 +1,7 @@
 pub mod Choices
 pub mod Enumerations
 pub mod Integers
-pub mod Moments
+pub mod Times
 pub mod SmallNumbers
 pub mod Additions
 pub mod Bitmaps

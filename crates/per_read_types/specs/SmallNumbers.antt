@@ -16,7 +16,7 @@ abbrev pub Means : Option ℕ → List ℕ → Type 0
 Means None octets = 2 ^ 64 ≤ unsigned octets
 Means (Some n) octets = n ≡ unsigned octets
 
--- the same, whatever number it began with
+-- X.691 11.3: a number is what octets mean without sign, whatever number it began with
 abbrev pub MeansSince : Option ℕ → Option ℕ → List ℕ → Type 0
 MeansSince start number octets = Means number octets
 

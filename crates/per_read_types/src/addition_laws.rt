@@ -6,7 +6,7 @@ ghost use Rattle.rasn_types.specs.Bits.{Bits};
 ghost use Rattle.rasn_types.specs.Values.{Value};
 ghost use Rattle.rasn_schema.specs.Orders.{ordered};
 ghost use Rattle.rasn_schema.specs.Schemas.{Order, Parts, Presence, Schema, tags};
-ghost use Rattle.per_core.specs.Basic.{Additions, Fields, Octets, OpenOf, Unknown, basic, rules};
+ghost use Rattle.per_core.specs.Basic.{Additions, Record, Octets, OpenOf, Unknown, basic, rules};
 ghost use Rattle.per_core.specs.Spellings.{Settings};
 ghost use Rattle.per_core.specs.Took.{Took};
 ghost use Rattle.per_read_types.specs.Additions.{FirstAddition, IsExtended, IsPlain, NextFlag, rule_of};
@@ -38,8 +38,8 @@ pub fn unknown_additions_stand_last()
 pub fn extension_bit_shows_a_bitmap()
     ensures none { (a : Settings) (o : Order) (ps adds : Parts) (ss xs : List (Option Value)) (s t : Bits)
         → let rs = ordered o (tags ps) (rules a ps) in
-        Took (Fields a true rs (rules a adds) ss xs) (false ∷ s) t ↔ IsPlain a rs (rules a adds) ss xs s t }
+        Took (Record a true rs (rules a adds) ss xs) (false ∷ s) t ↔ IsPlain a rs (rules a adds) ss xs s t }
     ensures some { (a : Settings) (o : Order) (ps adds : Parts) (ss xs : List (Option Value)) (s t : Bits)
         → let rs = ordered o (tags ps) (rules a ps) in
-        Took (Fields a true rs (rules a adds) ss xs) (true ∷ s) t ↔ IsExtended a rs (rules a adds) ss xs s t }
+        Took (Record a true rs (rules a adds) ss xs) (true ∷ s) t ↔ IsExtended a rs (rules a adds) ss xs s t }
 {}

@@ -25,7 +25,7 @@ pub fn take_choice_index(
     let extended = take_extension_bit(reader, has_marker(addeds))?;
     let count = alternative_count(roots, addeds, extended);
     let place = take_place(reader, count, extended)?;
-    known_place(place, count, extended)
+    place_at_index(place, count, extended)
 }
 
 /// Whether a CHOICE has an extension marker.
@@ -43,7 +43,11 @@ fn alternative_count(roots: usize, addeds: Option<usize>, extended: bool) -> usi
 }
 
 /// The place of the alternative that stands at an index of a list of `count`, where one does.
-fn known_place(place: Option<usize>, count: usize, extended: bool) -> Result<Place, DecodeErrorKind>
+fn place_at_index(
+    place: Option<usize>,
+    count: usize,
+    extended: bool,
+) -> Result<Place, DecodeErrorKind>
     ensures ok { IfOk result (λ x. IsKnown count extended place (index_of x)) }
     ensures err { IfErr result (IsUnknown count place) }
 {

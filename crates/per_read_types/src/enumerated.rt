@@ -6,7 +6,7 @@ ghost use Rattle.per_read_types.specs.Enumerations.{IsMissing, IsOfItem, IsOfPla
 ghost use Rattle.per_read_types.specs.SmallNumbers.{OfIndex};
 ghost use Rattle.per_read.specs.Takes.{Takes, itself, short, telling, tested};
 
-use crate::small::take_small;
+use crate::small_numbers::take_small;
 use per_read::Reader;
 use per_read::error::DecodeErrorKind;
 use rasn_schema::enumerated::Enumerated;

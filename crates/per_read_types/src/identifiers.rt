@@ -2,7 +2,7 @@
 
 ghost use Rattle.std.specs.Prelude.{◌≡◌};
 ghost use Rattle.rasn_types.specs.Identifiers.{contents};
-ghost use Rattle.per_read_types.specs.Moments.{IsOfIdentifier, identifier_form};
+ghost use Rattle.per_read_types.specs.Times.{IsOfIdentifier, identifier_form};
 ghost use Rattle.per_read.specs.Takes.{Takes, memory_or};
 
 use per_read::Reader;

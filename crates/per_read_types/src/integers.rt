@@ -89,7 +89,7 @@ fn take_unconstrained_integer<I: IntegerType>(reader: &mut Reader<'_>) -> Result
     }
 }
 
-/// Takes the same, of any count of octets, which are kept in memory.
+/// Takes an INTEGER without bounds, of any count of octets, which are kept in memory (X.691 13.2.4).
 #[inline(always)]
 fn take_long_integer<I: IntegerType>(reader: &mut Reader<'_>) -> Result<I, DecodeErrorKind>
     ensures { TakesInteger unbounded false I.range I.number reader.old result reader.new }

@@ -13,5 +13,5 @@ pub mod identifiers;
 mod in_place;
 pub mod integers;
 pub mod open_types;
-mod small;
+mod small_numbers;
 pub mod times;

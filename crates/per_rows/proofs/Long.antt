@@ -10,11 +10,11 @@ use Rattle.rasn_constraints.specs.Bounds.{any_size}
 use Rattle.per_core.specs.Writers.{Writer, just, padding, go_on, join, complete, after, written_if, ◌▹◌, one_by_one}
 use Rattle.per_core.specs.Counts.{determinant, fragment_sizes, in_fragments, counted, list_items}
 use Rattle.per_core.specs.Canon.{bytes, canon, completed}
-use Rattle.per_rows.specs.Build.{record_of, list_of, list}
+use Rattle.per_rows.specs.Build.{with_all, list_of, list}
 use Rattle.per_rows.specs.Samples.{byte}
 
 abbrev zero_byte : Value
-zero_byte = record_of (replicate 8 (truth false))
+zero_byte = with_all (replicate 8 (truth false))
 
 abbrev written : Writer
 written = canon unaligned byte zero_byte

@@ -13,7 +13,7 @@ use Rattle.per_rows.specs.Build.{numbered, all_required}
 use Rattle.per_core.specs.Spellings.{Settings, ZeroIf, Spelling, AnyPadding, Then, Either, exactly}
 use Rattle.per_core.proofs.Agree.{Agree, weaken, then_agree}
 use Rattle.per_core.proofs.Unique.{fills_agree}
-use Rattle.per_core.specs.Basic.{Fills, fills, front, Octets, octet, bit, Rule, Flags, Bodies, Root, Holds, Open, OpenOf, Additions_in, Fields_in, IsBitmap, basic, basic_in, rules}
+use Rattle.per_core.specs.Basic.{Fills, fills, front, Octets, octet, bit, Rule, Flags, Bodies, Root, Holds, Open, OpenOf, Additions_in, Record_in, IsBitmap, basic, basic_in, rules}
 use Rattle.per_core.specs.Canon.{bytes, canon}
 use Rattle.per_core.proofs.Within.{Within, relax, just_within, then_within, left_within, right_within, if_within, when_within, field_within, padding_within}
 use Rattle.per_core.proofs.Counting.{row_within, counted_within}
@@ -56,7 +56,7 @@ in_two_octets a os h l = relax (λ p b x. record { allowed = h; spelled = record
 
 -- a record's fields, and its root, of what shows these parts
 pub as_record : {w : Writer} (a : Settings) (ps adds : Parts) (ext : Bool) (ss xs : List (Option Value)) →
-    Within w (Fields_in a true ext (rules a ps) (rules a adds) ss xs) → Within w (basic a (Schema.sequence listed ps ext adds) (fields (as_slots ss) (as_slots xs)))
+    Within w (Record_in a true ext (rules a ps) (rules a adds) ss xs) → Within w (basic a (Schema.sequence listed ps ext adds) (fields (as_slots ss) (as_slots xs)))
 unfolding basic_in
 as_record a ps adds ext ss xs h = relax (λ p b x. record { of = (ss, xs); is = refl; spelled = x }) h
 
@@ -76,7 +76,7 @@ few a bs l h = relax (λ p b x. record { some = l; spelled = x }) (left_within (
 
 pub with_bitmap : {w v : Writer} (a : Settings) (rs adds : List Rule) (ss xs : List (Option Value)) (bs : List Bool) → 0 < length bs → length bs - 1 < 2 ^ 6 →
     Within w (Root rs ss) → Within v (Additions_in a true adds xs bs) →
-    Within (just (true ∷ []) ▹ (w ▹ ((just (false ∷ []) ▹ (just (to_bits 6 (length bs - 1)) ▹ just bs)) ▹ v))) (Fields_in a true true rs adds ss xs)
+    Within (just (true ∷ []) ▹ (w ▹ ((just (false ∷ []) ▹ (just (to_bits 6 (length bs - 1)) ▹ just bs)) ▹ v))) (Record_in a true true rs adds ss xs)
 with_bitmap a rs adds ss xs bs l m h k = right_within (relax (λ p b x. record { flags = bs; spelled = x })
     (then_within (just_within (true ∷ [])) (then_within h (then_within (few a bs l m) k))))
 
@@ -121,7 +121,7 @@ either_one {P} {f} {g} {h} w v = record { agree = λ p b c s t x y e. go p b c s
 -- a record with a bitmap of any length in its large form
 pub with_large_bitmap : {w v : Writer} (a : Settings) (rs adds : List Rule) (ss xs : List (Option Value)) (bs : List Bool) → 0 < length bs →
     Within w (Root rs ss) → Within v (Additions_in a true adds xs bs) →
-    Within (just (true ∷ []) ▹ (w ▹ ((just (true ∷ []) ▹ counted a.variant any_size false bit_items (bit_writers bs)) ▹ v))) (Fields_in a true true rs adds ss xs)
+    Within (just (true ∷ []) ▹ (w ▹ ((just (true ∷ []) ▹ counted a.variant any_size false bit_items (bit_writers bs)) ▹ v))) (Record_in a true true rs adds ss xs)
 with_large_bitmap a rs adds ss xs bs l h k =
     let large : Within (just (true ∷ []) ▹ counted a.variant any_size false bit_items (bit_writers bs)) (IsBitmap a bs) = relax (λ p b x. record { some = l; spelled = x })
     (right_within (then_within (just_within (true ∷ [])) (counted_within (λ b. just (b ∷ [])) bit (λ b. just_within (b ∷ [])) a any_size false bit_items bs))) in

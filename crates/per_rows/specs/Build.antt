@@ -84,8 +84,8 @@ abbrev pub private_tag : ℕ → TagTree
 private_tag n = leaf (record { class = 3; number = n })
 
 -- a record whose parts are all there, one whose parts may be absent, and one with its additions
-abbrev pub record_of : List Value → Value
-record_of vs = fields (as_slots (map Some vs)) (as_slots [])
+abbrev pub with_all : List Value → Value
+with_all vs = fields (as_slots (map Some vs)) (as_slots [])
 
 abbrev pub record_with : List (Option Value) → Value
 record_with ss = fields (as_slots ss) (as_slots [])

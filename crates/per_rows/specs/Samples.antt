@@ -94,11 +94,12 @@ connect = sequence (choice (Schema.identifier ∷ octet_string any_size ∷ []) 
 abbrev pub outer1 : Schema
 outer1 = extensible_sequence (Schema.boolean ∷ Schema.boolean ∷ []) []
 
--- the same with the addition group [[ flag BOOLEAN, octets OCTET STRING (SIZE (3)) ]]
+-- the extensible SEQUENCE of two BOOLEANs with the addition group [[ flag BOOLEAN, octets OCTET STRING (SIZE (3)) ]]
 abbrev pub outer2 : Schema
 outer2 = extensible_sequence (Schema.boolean ∷ Schema.boolean ∷ []) ((group, inner) ∷ [])
 
--- and with a further addition OCTET STRING (SIZE (3)) OPTIONAL
+-- the extensible SEQUENCE of two BOOLEANs with the addition group [[ flag BOOLEAN, octets OCTET STRING (SIZE (3)) ]]
+-- and the addition OCTET STRING (SIZE (3)) OPTIONAL
 abbrev pub outer3 : Schema
 outer3 = extensible_sequence (Schema.boolean ∷ Schema.boolean ∷ [])
     ((group, inner) ∷ (optional, octet_string (sized 3 3)) ∷ [])
@@ -178,8 +179,7 @@ deep_version zero = Schema.cut
 deep_version (suc n) = extensible_sequence (Schema.boolean ∷ []) ((optional, nest n) ∷ [])
 
 -- SEQUENCE { inner the same OPTIONAL, d DATE OPTIONAL }, unfolded to so many levels, of which a date takes two; and its
--- value with
--- so many records inside the first and a date in the last
+-- value with so many records inside the first and a date in the last
 abbrev pub date_at : ℕ → Schema
 date_at zero = Schema.cut
 date_at (suc zero) = Schema.cut

@@ -5,7 +5,7 @@ ghost use Rattle.std.specs.Prelude.{◌≡◌, List, [], ◌∷◌, true, false,
 ghost use Rattle.rasn_types.specs.Variants.{aligned, unaligned};
 ghost use Rattle.rasn_types.specs.Values.{whole, truth, nothing, octets, alternative, root, added};
 ghost use Rattle.per_core.specs.Canon.{bytes};
-ghost use Rattle.per_rows.specs.Build.{record_of};
+ghost use Rattle.per_rows.specs.Build.{with_all};
 ghost use Rattle.per_rows.specs.Samples.{x_y_or_z, alternatives, one_alternative, two_alternatives};
 
 /// CHOICE without a marker: the index in the fewest bits, then the value; an untagged choice is one alternative (X.691
@@ -33,10 +33,10 @@ pub fn uper_choice_addition_is_an_open_type()
 /// APER: a record in the root of a choice and the same as an addition, between a BOOLEAN and an INTEGER (0..255)
 /// (X.691 11.2, 23).
 pub fn aper_choice_aligns_its_open_type()
-    ensures { bytes aligned alternatives (record_of (
+    ensures { bytes aligned alternatives (with_all (
         truth true
-        ∷ alternative root 1 (record_of (truth true ∷ octets (1 ∷ 2 ∷ 3 ∷ []) ∷ []))
-        ∷ alternative added 0 (record_of (truth true ∷ octets (1 ∷ 2 ∷ 3 ∷ []) ∷ []))
+        ∷ alternative root 1 (with_all (truth true ∷ octets (1 ∷ 2 ∷ 3 ∷ []) ∷ []))
+        ∷ alternative added 0 (with_all (truth true ∷ octets (1 ∷ 2 ∷ 3 ∷ []) ∷ []))
         ∷ whole (pos 0xab)
         ∷ []))
         ≡ Some (0xb0 ∷ 0x01 ∷ 0x02 ∷ 0x03 ∷ 0x80 ∷ 0x04 ∷ 0x80 ∷ 0x01 ∷ 0x02 ∷ 0x03 ∷ 0xab ∷ []) }

@@ -6,17 +6,17 @@ ghost use Rattle.rasn_types.specs.Variants.{aligned, unaligned};
 ghost use Rattle.rasn_types.specs.Values.{whole, truth, octets};
 ghost use Rattle.rasn_schema.specs.Normal.{normal};
 ghost use Rattle.per_core.specs.Canon.{bytes};
-ghost use Rattle.per_rows.specs.Build.{extended, record_of, record_with};
+ghost use Rattle.per_rows.specs.Build.{extended, with_all, record_with};
 ghost use Rattle.per_rows.specs.Samples.{outer1, outer3, with_group, many, no_additions, required_addition, default_addition};
 
 /// Two BOOLEAN, an addition group and an OCTET STRING: the extension bit, the root, the number of additions and their
 /// presence bits, and each as an open type, which in APER is aligned from its own start (X.691 19.7 to 19.9).
 pub fn additions_are_open_types()
     ensures uper { bytes unaligned outer3 (extended (truth true ∷ truth false ∷ [])
-        (Some (record_of (truth true ∷ octets (1 ∷ 2 ∷ 3 ∷ []) ∷ [])) ∷ Some (octets (7 ∷ 8 ∷ 9 ∷ [])) ∷ []))
+        (Some (with_all (truth true ∷ octets (1 ∷ 2 ∷ 3 ∷ []) ∷ [])) ∷ Some (octets (7 ∷ 8 ∷ 9 ∷ [])) ∷ []))
         ≡ Some (0xc0 ∷ 0x70 ∷ 0x48 ∷ 0x08 ∷ 0x10 ∷ 0x18 ∷ 0x00 ∷ 0x30 ∷ 0x70 ∷ 0x80 ∷ 0x90 ∷ []) }
     ensures aper { bytes aligned outer3 (extended (truth true ∷ truth false ∷ [])
-        (Some (record_of (truth true ∷ octets (1 ∷ 2 ∷ 3 ∷ []) ∷ [])) ∷ Some (octets (7 ∷ 8 ∷ 9 ∷ [])) ∷ []))
+        (Some (with_all (truth true ∷ octets (1 ∷ 2 ∷ 3 ∷ []) ∷ [])) ∷ Some (octets (7 ∷ 8 ∷ 9 ∷ [])) ∷ []))
         ≡ Some (0xc0 ∷ 0x70 ∷ 0x04 ∷ 0x80 ∷ 0x01 ∷ 0x02 ∷ 0x03 ∷ 0x03 ∷ 0x07 ∷ 0x08 ∷ 0x09 ∷ []) }
 {}
 

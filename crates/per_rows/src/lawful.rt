@@ -68,8 +68,8 @@ pub fn default_is_a_value()
     ) ∷ []))) }
 {}
 
-/// And it is in normal form: not the value in which the group of SEQUENCE { first BOOLEAN, ..., [[ x BOOLEAN OPTIONAL
-/// ]] } is there with x absent (X.691, 19.9).
+/// A default is in normal form: not the value in which the group of SEQUENCE { first BOOLEAN, ..., [[ x BOOLEAN
+/// OPTIONAL ]] } is there with x absent (X.691, 19.9).
 pub fn default_is_in_normal_form()
     ensures absent_group { IsLawful (sequence_with ((
       default (extended_with (Some (truth true) ∷ []) (None ∷ [])),

@@ -8,7 +8,7 @@ ghost use Rattle.rasn_types.specs.Bits.{unpack};
 ghost use Rattle.rasn_constraints.specs.Bounds.{any_size};
 ghost use Rattle.rasn_schema.specs.Schemas.{Schema};
 ghost use Rattle.per_core.specs.Canon.{bytes};
-ghost use Rattle.per_rows.specs.Build.{bit_string, list_of, sized, record_of, list};
+ghost use Rattle.per_rows.specs.Build.{bit_string, list_of, sized, with_all, list};
 ghost use Rattle.per_rows.specs.Samples.{byte, element, with_lists, only_x};
 
 /// APER BIT STRING of 16384 bits: a fragment of all of them, and a last count of 0 (X.691 11.9.3.8).
@@ -19,10 +19,10 @@ pub fn aper_bit_string_of_one_fragment()
 
 /// APER: lists of a fixed and of a bounded count, between a BOOLEAN and an INTEGER (0..255) (X.691 20).
 pub fn aper_lists_of_fixed_and_bounded_count()
-    ensures { bytes aligned with_lists (record_of (
+    ensures { bytes aligned with_lists (with_all (
         truth true
-        ∷ list (record_of (octets (1 ∷ 2 ∷ 3 ∷ []) ∷ []) ∷ record_of (octets (4 ∷ 5 ∷ 6 ∷ []) ∷ []) ∷ [])
-        ∷ list (record_of (octets (7 ∷ 8 ∷ 9 ∷ []) ∷ []) ∷ [])
+        ∷ list (with_all (octets (1 ∷ 2 ∷ 3 ∷ []) ∷ []) ∷ with_all (octets (4 ∷ 5 ∷ 6 ∷ []) ∷ []) ∷ [])
+        ∷ list (with_all (octets (7 ∷ 8 ∷ 9 ∷ []) ∷ []) ∷ [])
         ∷ whole (pos 0xab)
         ∷ []))
         ≡ Some (0x80 ∷ 0x01 ∷ 0x02 ∷ 0x03 ∷ 0x04 ∷ 0x05 ∷ 0x06 ∷ 0x00 ∷ 0x07 ∷ 0x08 ∷ 0x09 ∷ 0xab ∷ []) }
@@ -41,7 +41,7 @@ pub fn list_of_null_is_its_count()
 
 /// UPER SEQUENCE OF SEQUENCE of eight BOOLEAN: a count in two octets, and an octet for each (X.691 11.9.3.7, 20).
 pub fn uper_list_of_bytes()
-    ensures { bytes unaligned (list_of byte any_size) (list (replicate 1000 (record_of (replicate 8 (truth false)))))
+    ensures { bytes unaligned (list_of byte any_size) (list (replicate 1000 (with_all (replicate 8 (truth false)))))
         ≡ Some (0x83 ∷ 0xe8 ∷ replicate 1000 0x00) }
 {}
 
@@ -58,6 +58,6 @@ pub fn uper_nulls_in_fragments()
 
 /// UPER: 99000 bytes, in fragments of 65536 and 32768 and a last count of 696 (X.691 11.9.3.8, 20).
 pub fn uper_long_list_of_bytes_in_fragments()
-    ensures { bytes unaligned (list_of byte any_size) (list (replicate 99000 (record_of (replicate 8 (truth false)))))
+    ensures { bytes unaligned (list_of byte any_size) (list (replicate 99000 (with_all (replicate 8 (truth false)))))
         ≡ Some (0xc4 ∷ (replicate 65536 0x00 ++ 0xc2 ∷ (replicate 32768 0x00 ++ 0x82 ∷ 0xb8 ∷ replicate 696 0x00))) }
 {}

@@ -7,7 +7,7 @@ ghost use Rattle.rasn_types.specs.Values.{Value, whole, truth, octets};
 ghost use Rattle.rasn_constraints.specs.Bounds.{any_size, between};
 ghost use Rattle.rasn_schema.specs.Schemas.{Schema};
 ghost use Rattle.per_core.specs.Basic.{fills, front};
-ghost use Rattle.per_rows.specs.Build.{aper, uper, zero_padded, integer, integer_in, extensible_integer, octet_string, extended, record_of, record_with};
+ghost use Rattle.per_rows.specs.Build.{aper, uper, zero_padded, integer, integer_in, extensible_integer, octet_string, extended, with_all, record_with};
 ghost use Rattle.per_rows.specs.Samples.{with_default, deep, nest, nested, shallow_version, with_group, required_addition, default_addition, no_additions, outer1, outer2, outer3};
 
 /// UPER INTEGER: a superfluous leading octet is read (X.691 11.8).
@@ -48,13 +48,13 @@ pub fn aper_wide_range_is_read_of_more_octets()
 
 /// UPER SEQUENCE { a INTEGER (0..7) DEFAULT 3 }: a default that is written is read (X.691 19.5).
 pub fn uper_default_is_read_where_it_is_written()
-    ensures { fills uper with_default (record_of (whole (pos 3) ∷ [])) (0xb0 ∷ []) }
+    ensures { fills uper with_default (with_all (whole (pos 3) ∷ [])) (0xb0 ∷ []) }
 {}
 
 /// UPER SEQUENCE { d Nest DEFAULT a value of 200 levels }: the default is read of a zero bit, though no level of it is
 /// left to read (X.691 19.5).
 pub fn uper_deep_default_is_read()
-    ensures { fills uper (deep 128) (record_of (nested 199 ∷ [])) (0x00 ∷ []) }
+    ensures { fills uper (deep 128) (with_all (nested 199 ∷ [])) (0x00 ∷ []) }
 {}
 
 /// UPER SEQUENCE { first BOOLEAN, ..., [[ x BOOLEAN OPTIONAL ]] }: a group that is present is read as there, though
@@ -89,7 +89,7 @@ pub fn aper_unknown_additions_are_skipped()
     ensures all { fills aper outer1 (extended (truth true ∷ truth false ∷ []) []) (0xc0 ∷ 0x70 ∷ 0x04 ∷ 0x80 ∷ 0x01
         ∷ 0x02 ∷ 0x03 ∷ 0x03 ∷ 0x07 ∷ 0x08 ∷ 0x09 ∷ []) }
     ensures last { fills aper outer2 (extended (truth true ∷ truth false
-        ∷ []) (Some (record_of (truth true ∷ octets (1 ∷ 2 ∷ 3 ∷ []) ∷ [])) ∷ []))
+        ∷ []) (Some (with_all (truth true ∷ octets (1 ∷ 2 ∷ 3 ∷ []) ∷ [])) ∷ []))
         (0xc0 ∷ 0x70 ∷ 0x04 ∷ 0x80 ∷ 0x01 ∷ 0x02 ∷ 0x03 ∷ 0x03 ∷ 0x07 ∷ 0x08 ∷ 0x09 ∷ []) }
 {}
 
@@ -97,7 +97,7 @@ pub fn aper_unknown_additions_are_skipped()
 /// 11.9.3.7).
 pub fn aper_open_type_is_read_with_a_length_of_two_octets()
     ensures known { fills aper outer3 (extended (truth true ∷ truth false
-        ∷ []) (Some (record_of (truth true ∷ octets (1 ∷ 2 ∷ 3 ∷ []) ∷ [])) ∷ Some (octets (7 ∷ 8 ∷ 9 ∷ [])) ∷ []))
+        ∷ []) (Some (with_all (truth true ∷ octets (1 ∷ 2 ∷ 3 ∷ []) ∷ [])) ∷ Some (octets (7 ∷ 8 ∷ 9 ∷ [])) ∷ []))
         (0xc0 ∷ 0x70 ∷ 0x80 ∷ 0x04 ∷ 0x80 ∷ 0x01 ∷ 0x02 ∷ 0x03 ∷ 0x03 ∷ 0x07 ∷ 0x08 ∷ 0x09 ∷ []) }
     ensures unknown { fills aper outer1 (extended (truth true ∷ truth false ∷ []) [])
         (0xc0 ∷ 0x70 ∷ 0x80 ∷ 0x04 ∷ 0x80 ∷ 0x01 ∷ 0x02 ∷ 0x03 ∷ 0x03 ∷ 0x07 ∷ 0x08 ∷ 0x09 ∷ []) }
@@ -106,7 +106,7 @@ pub fn aper_open_type_is_read_with_a_length_of_two_octets()
 /// APER: two additions with a bitmap in its large form, where all are known and where none is (X.691 11.9.3.4, 19.8).
 pub fn aper_bitmap_is_read_in_its_large_form()
     ensures known { fills aper outer3 (extended (truth true ∷ truth false
-        ∷ []) (Some (record_of (truth true ∷ octets (1 ∷ 2 ∷ 3 ∷ []) ∷ [])) ∷ Some (octets (7 ∷ 8 ∷ 9 ∷ [])) ∷ []))
+        ∷ []) (Some (with_all (truth true ∷ octets (1 ∷ 2 ∷ 3 ∷ []) ∷ [])) ∷ Some (octets (7 ∷ 8 ∷ 9 ∷ [])) ∷ []))
         (0xd0 ∷ 0x02 ∷ 0xc0 ∷ 0x04 ∷ 0x80 ∷ 0x01 ∷ 0x02 ∷ 0x03 ∷ 0x03 ∷ 0x07 ∷ 0x08 ∷ 0x09 ∷ []) }
     ensures unknown { fills aper outer1 (extended (truth true ∷ truth false ∷ []) [])
         (0xd0 ∷ 0x02 ∷ 0xc0 ∷ 0x04 ∷ 0x80 ∷ 0x01 ∷ 0x02 ∷ 0x03 ∷ 0x03 ∷ 0x07 ∷ 0x08 ∷ 0x09 ∷ []) }

@@ -7,14 +7,14 @@ ghost use Rattle.rasn_types.specs.Values.{whole, truth, nothing, alternative, ro
 ghost use Rattle.rasn_constraints.specs.Bounds.{any_size};
 ghost use Rattle.rasn_schema.specs.Schemas.{Schema};
 ghost use Rattle.per_core.specs.Canon.{bytes};
-ghost use Rattle.per_rows.specs.Build.{integer, record_of, record_with};
+ghost use Rattle.per_rows.specs.Build.{integer, with_all, record_with};
 ghost use Rattle.per_rows.specs.Samples.{b_before_a, optional_members, untagged_member};
 
 /// SET { b [1] INTEGER (0..255), a [0] BOOLEAN }: a is written first, since its tag is the smaller; padding follows
 /// that order (X.691 21).
 pub fn set_is_written_in_order_of_tags()
-    ensures uper { bytes unaligned b_before_a (record_of (whole (pos 5) ∷ truth true ∷ [])) ≡ Some (0x82 ∷ 0x80 ∷ []) }
-    ensures aper { bytes aligned b_before_a (record_of (whole (pos 5) ∷ truth true ∷ [])) ≡ Some (0x80 ∷ 0x05 ∷ []) }
+    ensures uper { bytes unaligned b_before_a (with_all (whole (pos 5) ∷ truth true ∷ [])) ≡ Some (0x82 ∷ 0x80 ∷ []) }
+    ensures aper { bytes aligned b_before_a (with_all (whole (pos 5) ∷ truth true ∷ [])) ≡ Some (0x80 ∷ 0x05 ∷ []) }
 {}
 
 /// SET of three optional members, a private tag being the greatest: the presence bits too stand in order of tags
@@ -33,13 +33,13 @@ pub fn set_presence_bits_are_in_order_of_tags()
 /// SET with an untagged choice of tags 3 and 9 beside a member of tag 5: the choice counts with its smallest tag,
 /// whichever is chosen (X.691 21).
 pub fn set_orders_an_untagged_choice_by_its_smallest_tag()
-    ensures uper_greater { bytes unaligned untagged_member (record_of (truth false ∷ alternative root 1 nothing ∷ []))
+    ensures uper_greater { bytes unaligned untagged_member (with_all (truth false ∷ alternative root 1 nothing ∷ []))
         ≡ Some (0x80 ∷ []) }
-    ensures aper_greater { bytes aligned untagged_member (record_of (truth false ∷ alternative root 1 nothing ∷ []))
+    ensures aper_greater { bytes aligned untagged_member (with_all (truth false ∷ alternative root 1 nothing ∷ []))
         ≡ Some (0x80 ∷ []) }
-    ensures uper_smaller { bytes unaligned untagged_member (record_of (truth true ∷ alternative root 0 (truth false)
+    ensures uper_smaller { bytes unaligned untagged_member (with_all (truth true ∷ alternative root 0 (truth false)
         ∷ [])) ≡ Some (0x20 ∷ []) }
-    ensures aper_smaller { bytes aligned untagged_member (record_of (truth true ∷ alternative root 0 (truth false)
+    ensures aper_smaller { bytes aligned untagged_member (with_all (truth true ∷ alternative root 0 (truth false)
         ∷ [])) ≡ Some (0x20 ∷ []) }
 {}
 

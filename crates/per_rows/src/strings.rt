@@ -9,7 +9,7 @@ ghost use Rattle.rasn_types.specs.Alphabets.{visible};
 ghost use Rattle.rasn_constraints.specs.Bounds.{any_size};
 ghost use Rattle.rasn_schema.specs.Schemas.{Schema};
 ghost use Rattle.per_core.specs.Canon.{bytes};
-ghost use Rattle.per_rows.specs.Build.{octet_string, bit_string, record_of};
+ghost use Rattle.per_rows.specs.Build.{octet_string, bit_string, with_all};
 ghost use Rattle.per_rows.specs.Samples.{short_visible, a_to_e, only_x, connect};
 
 /// VisibleString (SIZE (1..3, ...)) "abcd": bit 1, a count without bounds, and seven bits a character; in APER the
@@ -73,7 +73,7 @@ pub fn uper_utf8_string_is_octets()
 /// APER SEQUENCE of a chosen OBJECT IDENTIFIER 0.0.20.124.0.1 and an OCTET STRING: contents octets with a count (X.691
 /// 24).
 pub fn aper_object_identifier_is_its_contents()
-    ensures { bytes aligned connect (record_of (
+    ensures { bytes aligned connect (with_all (
         alternative root 0 (octets (0x00 ∷ 0x14 ∷ 0x7c ∷ 0x00 ∷ 0x01 ∷ []))
         ∷ octets (0 ∷ 1 ∷ 2 ∷ 3 ∷ [])
         ∷ []))

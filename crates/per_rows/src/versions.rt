@@ -8,13 +8,13 @@ ghost use Rattle.rasn_constraints.specs.Bounds.{any_size};
 ghost use Rattle.rasn_schema.specs.Normal.{normal};
 ghost use Rattle.per_core.specs.Canon.{bytes};
 ghost use Rattle.per_core.specs.Versions.{project, widen};
-ghost use Rattle.per_rows.specs.Build.{extended, extended_with, record_of, record_with, list_of, list};
+ghost use Rattle.per_rows.specs.Build.{extended, extended_with, with_all, record_with, list_of, list};
 ghost use Rattle.per_rows.specs.Samples.{outer1, outer2, outer3, one_color, two_colors, one_alternative, two_alternatives, no_additions, required_addition, default_addition, default1, default3, open_group, longer_group, shallow_version, deep_version, nested};
 
 /// A reader without the additions keeps the root, and writes it with extension bit 0 (X.691 19.1, 19.9).
 pub fn aper_reader_without_additions_keeps_the_root()
     ensures value { project outer3 outer1 (extended (truth true ∷ truth false ∷ [])
-        (Some (record_of (truth true ∷ octets (1 ∷ 2 ∷ 3 ∷ []) ∷ [])) ∷ Some (octets (7 ∷ 8 ∷ 9 ∷ [])) ∷ []))
+        (Some (with_all (truth true ∷ octets (1 ∷ 2 ∷ 3 ∷ []) ∷ [])) ∷ Some (octets (7 ∷ 8 ∷ 9 ∷ [])) ∷ []))
         ≡ Some (extended (truth true ∷ truth false ∷ []) []) }
     ensures octets { bytes aligned outer1 (extended (truth true ∷ truth false ∷ []) []) ≡ Some (0x40 ∷ []) }
 {}
@@ -22,22 +22,22 @@ pub fn aper_reader_without_additions_keeps_the_root()
 /// A reader of the version between keeps the first addition alone (X.691 19.7 to 19.9).
 pub fn aper_reader_between_keeps_what_it_knows()
     ensures value { project outer3 outer2 (extended (truth true ∷ truth false ∷ [])
-        (Some (record_of (truth true ∷ octets (1 ∷ 2 ∷ 3 ∷ []) ∷ [])) ∷ Some (octets (7 ∷ 8 ∷ 9 ∷ [])) ∷ []))
-        ≡ Some (extended (truth true ∷ truth false ∷ []) (Some (record_of (truth true ∷ octets (1 ∷ 2 ∷ 3 ∷ []) ∷ []))
+        (Some (with_all (truth true ∷ octets (1 ∷ 2 ∷ 3 ∷ []) ∷ [])) ∷ Some (octets (7 ∷ 8 ∷ 9 ∷ [])) ∷ []))
+        ≡ Some (extended (truth true ∷ truth false ∷ []) (Some (with_all (truth true ∷ octets (1 ∷ 2 ∷ 3 ∷ []) ∷ []))
         ∷ [])) }
     ensures octets { bytes aligned outer2 (extended (truth true ∷ truth false
-        ∷ []) (Some (record_of (truth true ∷ octets (1 ∷ 2 ∷ 3 ∷ []) ∷ [])) ∷ []))
+        ∷ []) (Some (with_all (truth true ∷ octets (1 ∷ 2 ∷ 3 ∷ []) ∷ [])) ∷ []))
         ≡ Some (0xc0 ∷ 0x20 ∷ 0x04 ∷ 0x80 ∷ 0x01 ∷ 0x02 ∷ 0x03 ∷ []) }
 {}
 
 /// A newer reader adds what is absent, and writes a presence bit for it (X.691 19.7 to 19.9).
 pub fn aper_newer_reader_finds_its_addition_absent()
     ensures value { widen outer3 outer2 (extended (truth true ∷ truth false
-        ∷ []) (Some (record_of (truth true ∷ octets (1 ∷ 2 ∷ 3 ∷ []) ∷ [])) ∷ []))
-        ≡ Some (extended (truth true ∷ truth false ∷ []) (Some (record_of (truth true ∷ octets (1 ∷ 2 ∷ 3 ∷ []) ∷ []))
+        ∷ []) (Some (with_all (truth true ∷ octets (1 ∷ 2 ∷ 3 ∷ []) ∷ [])) ∷ []))
+        ≡ Some (extended (truth true ∷ truth false ∷ []) (Some (with_all (truth true ∷ octets (1 ∷ 2 ∷ 3 ∷ []) ∷ []))
         ∷ None ∷ [])) }
     ensures octets { bytes aligned outer3 (extended (truth true ∷ truth false
-        ∷ []) (Some (record_of (truth true ∷ octets (1 ∷ 2 ∷ 3 ∷ []) ∷ [])) ∷ None ∷ []))
+        ∷ []) (Some (with_all (truth true ∷ octets (1 ∷ 2 ∷ 3 ∷ []) ∷ [])) ∷ None ∷ []))
         ≡ Some (0xc0 ∷ 0x60 ∷ 0x04 ∷ 0x80 ∷ 0x01 ∷ 0x02 ∷ 0x03 ∷ []) }
     ensures from_none { widen outer3 outer1 (extended (truth true ∷ truth false ∷ []) [])
         ≡ Some (extended (truth true ∷ truth false ∷ []) (None ∷ None ∷ [])) }
@@ -46,13 +46,13 @@ pub fn aper_newer_reader_finds_its_addition_absent()
 /// In a list each record is read by itself, those with additions and those without (X.691 19, 20).
 pub fn aper_list_of_two_versions()
     ensures newer { bytes aligned (list_of outer3 any_size) (list (
-        extended (truth true ∷ truth false ∷ []) (Some (record_of (truth true ∷ octets (1 ∷ 2 ∷ 3 ∷ []) ∷ []))
+        extended (truth true ∷ truth false ∷ []) (Some (with_all (truth true ∷ octets (1 ∷ 2 ∷ 3 ∷ []) ∷ []))
         ∷ Some (octets (7 ∷ 8 ∷ 9 ∷ [])) ∷ [])
         ∷ extended (truth false ∷ truth true ∷ []) (None ∷ None ∷ [])
         ∷ []))
         ≡ Some (0x02 ∷ 0xc0 ∷ 0x70 ∷ 0x04 ∷ 0x80 ∷ 0x01 ∷ 0x02 ∷ 0x03 ∷ 0x03 ∷ 0x07 ∷ 0x08 ∷ 0x09 ∷ 0x20 ∷ []) }
     ensures value { project (list_of outer3 any_size) (list_of outer1 any_size) (list (
-        extended (truth true ∷ truth false ∷ []) (Some (record_of (truth true ∷ octets (1 ∷ 2 ∷ 3 ∷ []) ∷ []))
+        extended (truth true ∷ truth false ∷ []) (Some (with_all (truth true ∷ octets (1 ∷ 2 ∷ 3 ∷ []) ∷ []))
         ∷ Some (octets (7 ∷ 8 ∷ 9 ∷ [])) ∷ [])
         ∷ extended (truth false ∷ truth true ∷ []) (None ∷ None ∷ [])
         ∷ []))
@@ -64,13 +64,13 @@ pub fn aper_list_of_two_versions()
 
 /// A part that is at its default once its additions are dropped is written as absent by the older version (X.691 19.5).
 pub fn aper_default_of_two_versions()
-    ensures newer { bytes aligned default3 (record_of (extended (truth true ∷ truth false ∷ []) (None
+    ensures newer { bytes aligned default3 (with_all (extended (truth true ∷ truth false ∷ []) (None
         ∷ Some (octets (7 ∷ 8 ∷ 9 ∷ [])) ∷ []) ∷ []))
         ≡ Some (0xe0 ∷ 0x28 ∷ 0x03 ∷ 0x07 ∷ 0x08 ∷ 0x09 ∷ []) }
-    ensures value { project default3 default1 (record_of (extended (truth true ∷ truth false ∷ []) (None
+    ensures value { project default3 default1 (with_all (extended (truth true ∷ truth false ∷ []) (None
         ∷ Some (octets (7 ∷ 8 ∷ 9 ∷ [])) ∷ []) ∷ []))
-        ≡ Some (record_of (extended (truth true ∷ truth false ∷ []) [] ∷ [])) }
-    ensures older { bytes aligned default1 (record_of (extended (truth true ∷ truth false ∷ []) [] ∷ []))
+        ≡ Some (with_all (extended (truth true ∷ truth false ∷ []) [] ∷ [])) }
+    ensures older { bytes aligned default1 (with_all (extended (truth true ∷ truth false ∷ []) [] ∷ []))
         ≡ Some (0x00 ∷ []) }
 {}
 

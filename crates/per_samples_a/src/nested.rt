@@ -9,7 +9,7 @@ ghost use Rattle.per_samples_a.specs.declared.nested.Nested.TheVariants.{Record,
 
 use crate::alternative::{ALTERNATIVE_TAGS, Alternative};
 use crate::pair::Pair;
-use rasn_below::codec::{Decode, DecodeChoice, Decoder, DecoderExt, Encode, Encoder, EncoderExt};
+use rasn_below::codec::{Decode, Decoder, DecoderExt, Encode, Encoder, EncoderExt, FromTag};
 use rasn_below::schema::{AsnType, Choice, Constraints, Variant, Variants};
 use rasn_below::types::{Class, Identifier, Tag};
 
@@ -122,7 +122,7 @@ impl Decode for Nested {
     }
 }
 
-impl DecodeChoice for Nested {
+impl FromTag for Nested {
     fn from_tag<D: Decoder>(decoder: &mut D, tag: Tag) -> Result<Nested, D::Error> {
         match Self::VARIANTS.index_of(tag) {
             Some(0) => {

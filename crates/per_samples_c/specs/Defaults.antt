@@ -8,7 +8,7 @@ use Rattle.per_samples_b.specs.Outers.{outer_root, outer3_additions}
 abbrev pub true_false : Value
 true_false = record_value (Some (truth true) ∷ Some (truth false) ∷ []) []
 
--- the same, and both additions absent
+-- TRUE and FALSE, and both additions absent
 abbrev pub true_false_alone : Value
 true_false_alone = record_value (Some (truth true) ∷ Some (truth false) ∷ []) (None ∷ None ∷ [])
 

@@ -1,6 +1,5 @@
 -- SEQUENCE { first BOOLEAN, ..., an addition group }, in two versions of the group's SEQUENCE, which has a marker of
--- its
--- own: SEQUENCE { x BOOLEAN OPTIONAL, ... } and SEQUENCE { x BOOLEAN OPTIONAL, ..., y BOOLEAN OPTIONAL }
+-- its own: SEQUENCE { x BOOLEAN OPTIONAL, ... } and SEQUENCE { x BOOLEAN OPTIONAL, ..., y BOOLEAN OPTIONAL }
 use Rattle.std.specs.Prelude.{List, [], ◌∷◌}
 use Rattle.rasn_below.specs.Components.{Component, automatic, automatic_from, boolean, optional, extended_sequence, group}
 

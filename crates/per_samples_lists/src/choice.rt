@@ -7,7 +7,7 @@ ghost use Rattle.per_samples_lists.specs.Choices.{inner_parts, inner_levelled, i
 ghost use Rattle.per_samples_lists.specs.declared.choice.Inner.TheVariants.{P, Q};
 ghost use Rattle.per_samples_lists.specs.declared.choice.Outer.TheVariants.{X, Y, Z};
 
-use rasn_below::codec::{Decode, DecodeChoice, Decoder, DecoderExt, Encode, Encoder, EncoderExt};
+use rasn_below::codec::{Decode, Decoder, DecoderExt, Encode, Encoder, EncoderExt, FromTag};
 use rasn_below::context_tag;
 use rasn_below::schema::{AsnType, Choice, Constraints, Variant, Variants};
 use rasn_below::types::{Identifier, Tag};
@@ -111,7 +111,7 @@ impl Decode for Inner {
     }
 }
 
-impl DecodeChoice for Inner {
+impl FromTag for Inner {
     fn from_tag<D: Decoder>(decoder: &mut D, tag: Tag) -> Result<Inner, D::Error> {
         match Self::VARIANTS.index_of(tag) {
             Some(0) => {
@@ -210,7 +210,7 @@ impl Decode for Outer {
     }
 }
 
-impl DecodeChoice for Outer {
+impl FromTag for Outer {
     fn from_tag<D: Decoder>(decoder: &mut D, tag: Tag) -> Result<Outer, D::Error> {
         match Self::VARIANTS.index_of(tag) {
             Some(0) => {

@@ -17,14 +17,14 @@ set_each =
 abbrev pub none : SetEach
 none = record { p = None; q = None; r = None }
 
--- the same, and a component
+-- a value with one component given
 abbrev pub with_item : SetEach → Item → SetEach
 with_item s x =
     if nat_eq x.index 0 then record { p = Some x.value; q = s.q; r = s.r }
     else if nat_eq x.index 1 then record { p = s.p; q = Some x.value; r = s.r }
     else record { p = s.p; q = s.q; r = Some x.value }
 
--- the same, and components
+-- a value with some components given, one after another
 abbrev pub with_items : SetEach → List Item → SetEach
 with_items s [] = s
 with_items s (x ∷ xs) = with_items (with_item s x) xs

@@ -113,7 +113,7 @@ impl SetEach {
         r: None,
     };
 
-    /// The same, and a component.
+    /// This value with one component given.
     fn with(self, item: Item) -> SetEach
         ensures { result ≡ with_item self item }
     {

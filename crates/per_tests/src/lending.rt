@@ -12,8 +12,8 @@ use std::borrow::CowSlice;
 use std::process::Abort;
 use std::test::Fail;
 
-/// Reads an OCTET STRING without constraints.
-fn take_octets<'input>(decoder: &mut Decoder<'input>) -> Result<CowSlice<'input, u8>, DecodeError> {
+/// Reads an OCTET STRING without constraints, of any decoder.
+fn take_octets<D: AnyDecoder>(decoder: &mut D) -> Result<D::Octets, D::Error> {
     decoder.decode_octet_string(Tag::OCTET_STRING, &Constraints::NONE)
 }
 

@@ -8,6 +8,8 @@ mod absences;
 #[cfg(test)]
 mod allocators;
 #[cfg(test)]
+mod alternatives;
+#[cfg(test)]
 mod calls;
 #[cfg(test)]
 mod decode_errors;

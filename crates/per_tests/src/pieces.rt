@@ -31,9 +31,9 @@ fn put_contents(writer: &mut Writer<Global>) -> Result<(), EncodeError> {
 /// The bit and the octet, written before their place is known.
 fn contents_of(writer: &mut Writer<Global>) -> Result<Pieces<Global>, EncodeError> {
     writer.check_unfailed()?;
-    let waiting = writer.open_floating()?;
+    let waiting = writer.open_unplaced()?;
     let written = put_contents(writer);
-    let contents = writer.close_floating(waiting);
+    let contents = writer.close_unplaced(waiting);
     written?;
     Ok(contents)
 }

@@ -17,7 +17,7 @@ use Rattle.per_core.specs.Basic.{Char, IsNumber, Marked, number_spelling, String
 use Rattle.per_core.specs.Counts.{char_items}
 use Rattle.per_core.specs.Spellings.{Settings}
 use Rattle.per_core.proofs.Counting.{length-map'}
-use Rattle.per_core.proofs.Lengths.{and_left, and_right}
+use Rattle.per_core.proofs.LengthForms.{and_left, and_right}
 use Rattle.per_core.specs.Within.{Each}
 use Rattle.per_write.specs.Faults.{IsInValue, Outside, OutsideSize, IsPast, has_bound, HasForeign, IsOutOfBounds, IsPastBounds, IsOutOfSize, IsForeign, IsUnlawful, IsReal, StandsIn, at_once, in_part, in_addition, in_set, in_element, in_member, in_alternative}
 use Rattle.per_write.specs.declared.error.EncodeErrorKind.{EncodeErrorKind}

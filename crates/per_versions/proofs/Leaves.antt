@@ -14,7 +14,7 @@ use Rattle.per_core.specs.Canon.{date_of, extension_bit, in_range, item_of, year
 use Rattle.per_core.specs.Counts.{counted_octets, marked_form, number_form, number_under}
 use Rattle.per_core.specs.Spellings.{Settings}
 use Rattle.per_core.specs.Writers.{written_if, Writer}
-use Rattle.per_core.proofs.Lengths.{and_left, and_right}
+use Rattle.per_core.proofs.LengthForms.{and_left, and_right}
 use Rattle.per_write.specs.Faults.{has_bound}
 use Rattle.per_versions.specs.Kept.{are_in_i128}
 use Rattle.per_versions.proofs.Faultless.{in_i128}

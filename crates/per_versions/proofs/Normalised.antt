@@ -10,7 +10,7 @@ use Rattle.rasn_schema.specs.Schemas.{Presence, required, optional, group, defau
 use Rattle.per_core.specs.Basic.{fills, read}
 use Rattle.per_core.specs.Spellings.{Settings}
 use Rattle.per_core.proofs.Codes.{same_true}
-use Rattle.per_core.proofs.Lengths.{or_left, or_right}
+use Rattle.per_core.proofs.LengthForms.{or_left, or_right}
 use Rattle.per_laws.proofs.Transitive.{or_both}
 use Rattle.per_laws.proofs.Types.{up_to}
 use Rattle.per_laws.specs.Written.{is_written, writes_cut, slots_write_cut, writes_cut_at}

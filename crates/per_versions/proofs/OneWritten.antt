@@ -6,13 +6,13 @@ use Rattle.rasn_types.specs.Values.{added, alternative, as_values, bag, bag_of, 
 use Rattle.rasn_types.specs.Variants.{Variant}
 use Rattle.rasn_types.proofs.Values.{values-as_values}
 use Rattle.rasn_constraints.specs.Bounds.{any_size, Size}
-use Rattle.rasn_schema.specs.Choices.{alternative_at, choice_of}
+use Rattle.rasn_schema.specs.Choices.{alternative_at, choice_schema}
 use Rattle.rasn_schema.specs.Depth.{meets_cut}
 use Rattle.rasn_schema.specs.Lawful.{AreLawful, IsLawful}
 use Rattle.rasn_schema.specs.Normal.{normal, normal_at, over_alternative, over_bag}
 use Rattle.rasn_schema.specs.Schemas
 use Rattle.rasn_schema.specs.Schemas.{by_tag, count, listed, no_parts, Order, part, Parts, Schema}
-use Rattle.per_core.specs.Basic.{Alternative, basic_in, bit, Chosen, fills, Rule, rules_in}
+use Rattle.per_core.specs.Basic.{Choice, basic_in, bit, Chosen, fills, Rule, rules_in}
 use Rattle.per_core.specs.Canon as Canon
 use Rattle.per_core.specs.Canon.{ascending, bytes, canon, chosen, completed, extension_bit, members, octet_key}
 use Rattle.per_core.specs.Counts.{bit_items, counted, list_items}
@@ -21,7 +21,7 @@ use Rattle.per_core.specs.Versions.{all_of, joined}
 use Rattle.per_core.specs.Writers.{complete, written_if, Writer}
 use Rattle.per_core.proofs.Bags.{bag_becomes, some_list}
 use Rattle.per_core.proofs.Counting.{length-map'}
-use Rattle.per_core.proofs.Lengths.{and_left, and_right}
+use Rattle.per_core.proofs.LengthForms.{and_left, and_right}
 use Rattle.per_core.proofs.Readings.{length-rules-in}
 use Rattle.per_core.specs.Within.{Each}
 use Rattle.per_versions.proofs.Faultless.{length-sorted, read_whole}
@@ -101,7 +101,7 @@ module _ (a : Settings) (u : Bool) (c : Variant) where
       let i : w ≡ over_alternative (normal_at ps) (normal_at adds) (alternative x.of.0 x.of.1 x.of.2) = r.is ∙ ap (normal s) x.is in
       subst (λ v. Total (canon c s v)) (sym i) (go r.where_it_is.at r.where_it_is.bits ext x.of.0 x.of.1 x.of.2 (record { lawful = l; kept = λ e. absurd (cc) }) x.spelled (subst (IsRead a u s) i r) (subst (AreShort c s) i z))
     where
-      go : (p : ℕ) (b : Bits) (ext : Bool) (d : Side) (i : ℕ) (v : Value) → IsGood false (choice_of ps ext adds) → Alternative a ext (rules_in a u ps) (rules_in a u adds) d i v p b → IsRead a u (Schema.choice ps adds ext) (over_alternative (normal_at ps) (normal_at adds) (alternative d i v)) →
+      go : (p : ℕ) (b : Bits) (ext : Bool) (d : Side) (i : ℕ) (v : Value) → IsGood false (choice_schema ps ext adds) → Choice a ext (rules_in a u ps) (rules_in a u adds) d i v p b → IsRead a u (Schema.choice ps adds ext) (over_alternative (normal_at ps) (normal_at adds) (alternative d i v)) →
           AreShort c (Schema.choice ps adds ext) (over_alternative (normal_at ps) (normal_at adds) (alternative d i v)) → Total (canon c (Schema.choice ps adds ext) (over_alternative (normal_at ps) (normal_at adds) (alternative d i v)))
       go p b ext root i v g x q y =
           let n : i < length (members c ps) = subst (λ k. i < k) (length-rules-in a u ps ∙ sym (length-members c ps)) x.is_rest.is_front.below in

@@ -13,7 +13,7 @@ use Rattle.per_core.specs.Canon.{also_bit, bitmap_of, bodies_of, canon, flag, fl
 use Rattle.per_core.specs.Counts.{open_bits}
 use Rattle.per_core.specs.Spellings.{Settings}
 use Rattle.per_core.specs.Writers.{complete, Writer}
-use Rattle.per_core.proofs.Lengths.{or_left, or_right}
+use Rattle.per_core.proofs.LengthForms.{or_left, or_right}
 use Rattle.per_versions.proofs.Read.{IsRead, left_out_hidden, settled_is}
 use Rattle.per_versions.proofs.Spelled.{SlotSpelled, SlotsSpelled, Somewhere}
 use Rattle.per_versions.specs.Short.{AreShort, IsShort, PartsShort}

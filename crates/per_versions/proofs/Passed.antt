@@ -10,7 +10,7 @@ use Rattle.rasn_schema.specs.Schemas.{Presence, required, optional, group, defau
 use Rattle.per_core.specs.Versions.{project, project_slots, project_at, slot_through, slots_through, through_elements, through_bag, through_fields, through_alternative, made, made_both, joined, all_of, IsPlain, NewerPresence, Newer, NewerParts, unchanged, more_items, newer_list, newer_set_of, newer_sequence, newer_choice, no_more, more_parts, also}
 use Rattle.per_core.proofs.Bags.{joined_of, sort}
 use Rattle.per_core.proofs.Codes.{same_true}
-use Rattle.per_core.proofs.Lengths.{and_left, and_right, or_left, or_right}
+use Rattle.per_core.proofs.LengthForms.{and_left, and_right, or_left, or_right}
 use Rattle.per_laws.proofs.Chains.{bag_through}
 use Rattle.per_laws.proofs.Normals.{bag_map}
 use Rattle.per_laws.proofs.Older.{made_of, made_both_of, slot_some, slot_meets, slot_back, in_slot}

@@ -5,18 +5,18 @@ use Rattle.rasn_types.specs.Values.{Value, elements, bag, bag_of, alternative, S
 use Rattle.rasn_types.proofs.Values.{values-as_values, slots-as_slots}
 use Rattle.rasn_constraints.specs.Bounds.{Size}
 use Rattle.rasn_schema.specs.Canonised.{canonised, canonised_slots}
-use Rattle.rasn_schema.specs.Choices.{alternative_at, alternative_in, choice_of}
+use Rattle.rasn_schema.specs.Choices.{alternative_at, alternative_in, choice_schema}
 use Rattle.rasn_schema.specs.Depth.{meets_cut, slots_meet_cut, meets_cut_at, in_slots, any_of, in_alternative}
 use Rattle.rasn_schema.specs.Lawful.{AreLawful, IsLawful, IsLawfulPresence}
 use Rattle.rasn_schema.specs.Lists.{list_value}
 use Rattle.rasn_schema.specs.Normal.{is_vacant, settle, each_slot, over_bag, over_alternative, normal, normals, normal_at}
 use Rattle.rasn_schema.specs.Records.{record_value}
 use Rattle.rasn_schema.specs.Schemas.{TagTree, Presence, required, optional, group, default, Schema, Parts, no_parts, part, listed, by_tag}
-use Rattle.per_core.specs.Basic.{IsLeftOut, Alternative, Chosen, basic_in, rules_in}
+use Rattle.per_core.specs.Basic.{IsLeftOut, Choice, Chosen, basic_in, rules_in}
 use Rattle.per_core.specs.Canon.{shown}
 use Rattle.per_core.specs.Counts.{list_items}
 use Rattle.per_core.specs.Spellings.{Settings}
-use Rattle.per_core.proofs.Lengths.{and_left, and_right, or_left, or_right}
+use Rattle.per_core.proofs.LengthForms.{and_left, and_right, or_left, or_right}
 use Rattle.per_core.specs.Within.{Each}
 use Rattle.per_core.proofs.SetReadings.{one_record, in_order, read_as_listed, normal_record, normal_in_order}
 use Rattle.per_versions.specs.Kept.{keeps_to_i128, keep_to_i128}
@@ -234,13 +234,13 @@ chosen_read {a} {u} {asked} {s} (part t p c ps) zero w x e g h m n =
     subst (λ z. IsGood asked z × IsRead a u z w) i ((good_first g).1, record { value = x; where_it_is = h; uncut = m; is = n })
 chosen_read (part t p c ps) (suc i) w x e g h m n = chosen_read ps i w x e (good_first g).2 h m n
 
-pub alternative_read : {a : Settings} {u asked : Bool} {s : Schema} {w : Value} {ps adds : Parts} {ext : Bool} {d : Side} {k : ℕ} → alternative_in (choice_of ps ext adds) d k ≡ Some s → IsGood asked (choice_of ps ext adds) →
-    IsRead a u (choice_of ps ext adds) (alternative d k w) → IsGood asked s × IsRead a u s w
+pub alternative_read : {a : Settings} {u asked : Bool} {s : Schema} {w : Value} {ps adds : Parts} {ext : Bool} {d : Side} {k : ℕ} → alternative_in (choice_schema ps ext adds) d k ≡ Some s → IsGood asked (choice_schema ps ext adds) →
+    IsRead a u (choice_schema ps ext adds) (alternative d k w) → IsGood asked s × IsRead a u s w
 unfolding basic_in meets_cut normal IsLawful keeps_to_i128
 alternative_read {a} {u} {asked} {s} {w} {ps} {adds} {ext} {d} {k} e g r =
     let y = r.where_it_is in
     let x = y.spelled in
-    go y.at y.bits x.of.0 x.of.1 x.of.2 x.spelled (subst (λ z. meets_cut (choice_of ps ext adds) z ≡ false) x.is r.uncut) (r.is ∙ ap (normal (choice_of ps ext adds)) x.is)
+    go y.at y.bits x.of.0 x.of.1 x.of.2 x.spelled (subst (λ z. meets_cut (choice_schema ps ext adds) z ≡ false) x.is r.uncut) (r.is ∙ ap (normal (choice_schema ps ext adds)) x.is)
   where
     root_good : AreGood asked ps
     root_good = record { lawful = g.lawful.1; kept = λ q. and_left (keep_to_i128 ps) (keep_to_i128 adds) (g.kept q) }
@@ -248,17 +248,17 @@ alternative_read {a} {u} {asked} {s} {w} {ps} {adds} {ext} {d} {k} e g r =
     added_good : AreGood asked adds
     added_good = record { lawful = g.lawful.2; kept = λ q. and_right (keep_to_i128 ps) (keep_to_i128 adds) (g.kept q) }
 
-    go : (p : ℕ) (b : Bits) (c : Side) (i : ℕ) (x : Value) → Alternative a ext (rules_in a u ps) (rules_in a u adds) c i x p b → in_alternative (meets_cut_at ps) (meets_cut_at adds) (alternative c i x) ≡ false →
+    go : (p : ℕ) (b : Bits) (c : Side) (i : ℕ) (x : Value) → Choice a ext (rules_in a u ps) (rules_in a u adds) c i x p b → in_alternative (meets_cut_at ps) (meets_cut_at adds) (alternative c i x) ≡ false →
         alternative d k w ≡ over_alternative (normal_at ps) (normal_at adds) (alternative c i x) → IsGood asked s × IsRead a u s w
     go p b root i x h m n =
         let f : d ≡ root = cc in
         let j : k ≡ i = cc in
         let v : w ≡ normal_at ps i x = cc in
-        let q : alternative_at ps i ≡ Some s = subst (λ z. alternative_at ps z ≡ Some s) j (subst (λ z. alternative_in (choice_of ps ext adds) z k ≡ Some s) f e) in
+        let q : alternative_at ps i ≡ Some s = subst (λ z. alternative_at ps z ≡ Some s) j (subst (λ z. alternative_in (choice_schema ps ext adds) z k ≡ Some s) f e) in
         chosen_read ps i w x q root_good (record { at = _; bits = h.is_rest.rest; spelled = h.is_rest.is_rest }) m v
     go p b added i x h m n =
         let f : d ≡ added = cc in
         let j : k ≡ i = cc in
         let v : w ≡ normal_at adds i x = cc in
-        let q : alternative_at adds i ≡ Some s = subst (λ z. alternative_at adds z ≡ Some s) j (subst (λ z. alternative_in (choice_of ps ext adds) z k ≡ Some s) f e) in
+        let q : alternative_at adds i ≡ Some s = subst (λ z. alternative_at adds z ≡ Some s) j (subst (λ z. alternative_in (choice_schema ps ext adds) z k ≡ Some s) f e) in
         chosen_read adds i w x q added_good (open_spelled a (Chosen (rules_in a u adds) i x) _ h.is_rest.rest h.is_rest.is_rest) m v

@@ -13,14 +13,14 @@ use Rattle.rasn_schema.specs.Normal.{normal, normals}
 use Rattle.rasn_schema.specs.Orders.{by_tags, how_many_less, insert_at}
 use Rattle.rasn_schema.specs.Records.{record_value}
 use Rattle.rasn_schema.specs.Schemas.{by_tag, count, listed, no_parts, part, Parts, Presence, Schema, smallest, tags, TagTree}
-use Rattle.per_core.specs.Basic.{basic_in, Fields_in, rules_in}
+use Rattle.per_core.specs.Basic.{basic_in, Record_in, rules_in}
 use Rattle.per_core.specs.Canon.{also_bit, any_set, ascending, bitmap, bitmap_of, bodies_of, canon, chosen, flags_of, members, octet_key, opens_of, record_of, shown, with_additions}
 use Rattle.per_core.specs.Canon as Canon
 use Rattle.per_core.specs.Counts.{counted, list_items}
 use Rattle.per_core.specs.Spellings.{Settings}
 use Rattle.per_core.specs.Writers.{just, ◌▹◌}
 use Rattle.per_core.proofs.Counting.{length-map'}
-use Rattle.per_core.proofs.Lengths.{or_left, or_right}
+use Rattle.per_core.proofs.LengthForms.{or_left, or_right}
 use Rattle.per_core.proofs.Presenting.{some_both}
 use Rattle.per_core.proofs.Readings.{length-by_tags}
 use Rattle.per_core.specs.Within.{Each, EachSlot}
@@ -113,7 +113,7 @@ module _ (a : Settings) (u : Bool) (c : Variant) (ps adds : Parts) (lawful : Are
       (subst (λ l. Total (record_of c ext (members c ps) (members c adds) l (slots (as_slots (normals adds xs))))) (sym (slots-as_slots (normals ps ss)))
       (subst (λ l. Total (record_of c ext (members c ps) (members c adds) (normals ps ss) l)) (sym (slots-as_slots (normals adds xs))) t))
     where
-      none : (p : ℕ) (b : Bits) (ext : Bool) (ss xs : List (Option Value)) → Fields_in a u ext (rules_in a u ps) (rules_in a u adds) ss xs p b → slots_meet_cut adds xs ≡ false → ext ≡ false → AllSlots IsHidden adds (normals adds xs)
+      none : (p : ℕ) (b : Bits) (ext : Bool) (ss xs : List (Option Value)) → Record_in a u ext (rules_in a u ps) (rules_in a u adds) ss xs p b → slots_meet_cut adds xs ≡ false → ext ≡ false → AllSlots IsHidden adds (normals adds xs)
       none p b true ss xs f m e = absurd (cc)
       none p b false ss xs f m e = all_hidden a u adds xs _ f.rest lawful_added f.is_rest m
 

@@ -3,8 +3,8 @@ use Rattle.std.proofs.Common.{◌≡◌, sym, subst, ℕ, zero, suc, ◌+◌, �
 use Rattle.rasn_types.specs.Bits.{Bits}
 use Rattle.rasn_types.specs.Values.{Value, put, sorted}
 use Rattle.rasn_constraints.specs.Bounds.{Size, any_size}
-use Rattle.per_core.specs.Basic.{OneByOne, InFragments, UnconstrainedLength, IsConstrainedWhole, PaddingIf, length_form, Lengthy, Fills, Open, Rule, IsLeftOut, Bodies, Root, Additions_in, Fields_in}
-use Rattle.per_core.specs.Counts.{Counted, is_aligned}
+use Rattle.per_core.specs.Basic.{OneByOne, InFragments, UnconstrainedLength, IsConstrainedWhole, PaddingIf, length_form, Counted, Fills, Open, Rule, IsLeftOut, Bodies, Root, Additions_in, Record_in}
+use Rattle.per_core.specs.Counts.{ItemKind, is_aligned}
 use Rattle.per_core.specs.Spellings.{Settings, Spelling, Then}
 use Rattle.per_core.specs.Within.{Each}
 
@@ -33,7 +33,7 @@ module _ {X : Type 0} (a : Settings) (item : X → Spelling) where
       let r = fragments_spelled k x.others _ w.rest w.is_rest in
       subst (λ ys. Each (λ y. Somewhere (item y)) ys) (sym x.all) (each_append (λ y. Somewhere (item y)) x.these x.others q r)
 
-  form_spelled : (l u : Option ℕ) (kind : Counted) (xs : List X) (p : ℕ) (b : Bits) → length_form a l u kind item xs p b → Each (λ x. Somewhere (item x)) xs
+  form_spelled : (l u : Option ℕ) (kind : ItemKind) (xs : List X) (p : ℕ) (b : Bits) → length_form a l u kind item xs p b → Each (λ x. Somewhere (item x)) xs
   form_spelled None u kind xs p b x = fragments_spelled x.fragments xs p b x.spelled
   form_spelled (Some lb) None kind xs p b x = fragments_spelled x.fragments xs p b x.spelled
   form_spelled (Some lb) (Some ub) kind xs p b x = choose (ltb ub 65536) x
@@ -43,7 +43,7 @@ module _ {X : Type 0} (a : Settings) (item : X → Spelling) where
       choose true y = let z = y.is_rest in each_spelled xs _ z.rest z.is_rest
       choose false y = fragments_spelled y.fragments xs p b y.spelled
 
-  pub lengthy_spelled : (size : Size) (mark : Bool) (kind : Counted) (xs : List X) (p : ℕ) (b : Bits) → Lengthy a size mark kind item xs p b → Each (λ x. Somewhere (item x)) xs
+  pub lengthy_spelled : (size : Size) (mark : Bool) (kind : ItemKind) (xs : List X) (p : ℕ) (b : Bits) → Counted a size mark kind item xs p b → Each (λ x. Somewhere (item x)) xs
   lengthy_spelled size false kind xs p b x = form_spelled size.least size.most kind xs p b x.spelled
   lengthy_spelled size true kind xs p b (inl x) = form_spelled size.least size.most kind xs _ x.rest x.is_rest.spelled
   lengthy_spelled size true kind xs p b (inr x) = form_spelled any_size.least any_size.most kind xs _ x.rest x.is_rest.spelled
@@ -88,7 +88,7 @@ additions_spelled a u (r ∷ rs) (s ∷ ss) (true ∷ bs) p b x =
     let y = x.is_front in (inr (y.held, y.is, open_spelled a (r.spells y.held) p x.front y.spelled), additions_spelled a u rs ss bs _ x.rest x.is_rest)
 
 -- all of a record
-pub fields_spelled : (a : Settings) (u ext : Bool) (rs adds : List Rule) (ss xs : List (Option Value)) (p : ℕ) (b : Bits) → Fields_in a u ext rs adds ss xs p b → SlotsSpelled rs ss × SlotsSpelled adds xs
+pub fields_spelled : (a : Settings) (u ext : Bool) (rs adds : List Rule) (ss xs : List (Option Value)) (p : ℕ) (b : Bits) → Record_in a u ext rs adds ss xs p b → SlotsSpelled rs ss × SlotsSpelled adds xs
 fields_spelled a u false rs adds ss xs p b x = (root_spelled rs ss p x.front x.is_front, additions_spelled a u adds xs [] _ x.rest x.is_rest)
 fields_spelled a u true rs adds ss xs p b (inl x) = let y = x.is_rest in (root_spelled rs ss _ y.front y.is_front, additions_spelled a u adds xs [] _ y.rest y.is_rest)
 fields_spelled a u true rs adds ss xs p b (inr z) =

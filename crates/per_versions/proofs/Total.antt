@@ -7,13 +7,13 @@ use Rattle.rasn_types.specs.Variants.{Variant, aligned, unaligned}
 use Rattle.rasn_types.proofs.Bits.{length-to_bits, length-unpack, number_below, width_least}
 use Rattle.rasn_types.proofs.Octets.{length-pack, length-whole_bits, octets-pack, octets_of_signed}
 use Rattle.rasn_constraints.specs.Bounds.{allows, above, any_size, at_least, at_most, Size}
-use Rattle.per_core.specs.Basic.{Char, IsSemiConstrainedWhole, IsUnconstrainedWhole, Lengthy, number_spelling, octet, Small, String}
+use Rattle.per_core.specs.Basic.{Char, IsSemiConstrainedWhole, IsUnconstrainedWhole, Counted, number_spelling, octet, Small, String}
 use Rattle.per_core.specs.Canon.{char_writers, coded}
-use Rattle.per_core.specs.Counts.{bit_items, bit_writers, char_items, constrained_whole, counted, counted_in, counted_octets, counted_under, Counted, determinant, fragment_sizes, in_fragments, is_aligned, marked_form, number_under, octet_items, octet_writers, padding_if, small, unconstrained_octets}
+use Rattle.per_core.specs.Counts.{bit_items, bit_writers, char_items, constrained_whole, counted, counted_in, counted_octets, counted_under, ItemKind, determinant, fragment_sizes, in_fragments, is_aligned, marked_form, number_under, octet_items, octet_writers, padding_if, small, unconstrained_octets}
 use Rattle.per_core.specs.Spellings.{Settings, Spelling}
 use Rattle.per_core.specs.Writers.{after, go_on, join, just, one_by_one, padding, written_if, Writer, ◌▹◌}
 use Rattle.per_core.proofs.Counting.{length-map'}
-use Rattle.per_core.proofs.Lengths.{and_left, and_right}
+use Rattle.per_core.proofs.LengthForms.{and_left, and_right}
 use Rattle.per_core.specs.Within.{Each}
 use Rattle.per_versions.proofs.Spelled.{lengthy_spelled, Somewhere}
 
@@ -69,7 +69,7 @@ fragments_total : (a : Variant) (ms : List ℕ) (ws : List Writer) → Each Tota
 fragments_total a [] ws h = just_total []
 fragments_total a (m ∷ ms) ws h = then_total (padding_total a) (then_total (just_total (determinant m)) (then_total (one_total (take m ws) (each_take m ws h)) (fragments_total a ms (drop m ws) (each_drop m ws h))))
 
-under_total : (a : Variant) (size : Size) (kind : Counted) (ws : List Writer) → allows size (length ws) ≡ true → Each Total ws → Total (counted_under a size.least size.most kind (length ws) ws)
+under_total : (a : Variant) (size : Size) (kind : ItemKind) (ws : List Writer) → allows size (length ws) ≡ true → Each Total ws → Total (counted_under a size.least size.most kind (length ws) ws)
 under_total a size kind ws e h = go size.least size.most (and_left (at_least size.least n) _ e) (and_left (at_most size.most n) (ltb n (2 ^ 64)) (and_right (at_least size.least n) _ e))
   where
     n : ℕ
@@ -92,12 +92,12 @@ abbrev pub IsCounted : Size → Bool → ℕ → Type 0
 IsCounted size false n = allows size n ≡ true
 IsCounted size true n = allows any_size n ≡ true
 
-pub is_counted : {X : Type 0} (a : Settings) (size : Size) (mark : Bool) (kind : Counted) (item : X → Spelling) (xs : List X) (p : ℕ) (b : Bits) → Lengthy a size mark kind item xs p b → IsCounted size mark (length xs)
+pub is_counted : {X : Type 0} (a : Settings) (size : Size) (mark : Bool) (kind : ItemKind) (item : X → Spelling) (xs : List X) (p : ℕ) (b : Bits) → Counted a size mark kind item xs p b → IsCounted size mark (length xs)
 is_counted a size false kind item xs p b x = x.allowed
 is_counted a size true kind item xs p b (inl x) = any_allowed size (length xs) x.is_rest.allowed
 is_counted a size true kind item xs p b (inr x) = x.is_rest.allowed
 
-pub counted_total : (a : Variant) (size : Size) (mark : Bool) (kind : Counted) (ws : List Writer) → IsCounted size mark (length ws) → Each Total ws → Total (counted a size mark kind ws)
+pub counted_total : (a : Variant) (size : Size) (mark : Bool) (kind : ItemKind) (ws : List Writer) → IsCounted size mark (length ws) → Each Total ws → Total (counted a size mark kind ws)
 counted_total a size false kind ws e h = if_total e (under_total a size kind ws e h)
 counted_total a size true kind ws e h = go (allows size (length ws)) refl
   where
@@ -114,7 +114,7 @@ each_of P Q f [] h = tt
 each_of P Q f (x ∷ xs) h = (f x h.0, each_of P Q f xs h.1)
 
 -- items that are written one by one
-pub items_total : {X : Type 0} (a : Variant) (size : Size) (mark : Bool) (kind : Counted) (f : X → Writer) (xs : List X) → IsCounted size mark (length xs) → Each (λ x. Total (f x)) xs → Total (counted a size mark kind (map f xs))
+pub items_total : {X : Type 0} (a : Variant) (size : Size) (mark : Bool) (kind : ItemKind) (f : X → Writer) (xs : List X) → IsCounted size mark (length xs) → Each (λ x. Total (f x)) xs → Total (counted a size mark kind (map f xs))
 items_total a size mark kind f xs e h = counted_total a size mark kind (map f xs) (subst (IsCounted size mark) (sym (length-map' f xs)) e) (each_mapped f xs h)
 
 -- octets
@@ -127,7 +127,7 @@ octet_below o x =
 octet_total : (o : ℕ) → o < 256 → Total (written_if (ltb o 256) (just (to_bits 8 o)))
 octet_total o h = if_total (lt-ltb o 256 h) (just_total (to_bits 8 o))
 
-pub octet_string_total : (a : Settings) (c : Variant) (size : Size) (mark : Bool) (os : List ℕ) (p : ℕ) (b : Bits) → Lengthy a size mark octet_items octet os p b → Total (counted c size mark octet_items (octet_writers os))
+pub octet_string_total : (a : Settings) (c : Variant) (size : Size) (mark : Bool) (os : List ℕ) (p : ℕ) (b : Bits) → Counted a size mark octet_items octet os p b → Total (counted c size mark octet_items (octet_writers os))
 octet_string_total a c size mark os p b x =
     items_total c size mark octet_items (λ o. written_if (ltb o 256) (just (to_bits 8 o))) os (is_counted a size mark octet_items octet os p b x)
     (each_of (λ o. Somewhere (octet o)) _ (λ o y. octet_total o (octet_below o y)) os (lengthy_spelled a octet size mark octet_items os p b x))

@@ -35,7 +35,7 @@ unfoldable mutual
   keeps_to_i128 (Schema.choice ps adds ext) = keep_to_i128 ps && keep_to_i128 adds
   keeps_to_i128 _ = true
 
-  -- the same of parts, additions or alternatives
+  -- whether each INTEGER in parts, additions or alternatives is so
   pub keep_to_i128 : Parts → Bool
   keep_to_i128 no_parts = true
   keep_to_i128 (part t p s ps) = keeps_to_i128 s && keep_to_i128 ps

@@ -44,7 +44,7 @@ pub record IsReadByOlder (newer older : ℕ → Schema) (v w : Value) : Type 0 w
   pub projection : IsProjection newer older (normal_form newer v) w
   pub in_reach : IsInReach older newer (normal_form newer v)
 
--- and by a newer type the widening of the normal form
+-- X.680 52: what is written is read by a newer type as the widening of the normal form
 pub record IsReadByNewer (newer older : ℕ → Schema) (v w : Value) : Type 0 where
   pub widening : IsWidening newer older (normal_form older v) w
   pub in_reach : IsInReach newer older (normal_form older v)

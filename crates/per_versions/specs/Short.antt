@@ -25,7 +25,7 @@ unfoldable mutual
   AreShort a (Schema.choice ps adds ext) v = OfAlternative (AlternativeShort a ps) (AddedShort a adds) v
   AreShort a _ v = Unit {0}
 
-  -- the same of a record's root parts
+  -- each open type in a record's root parts is so
   pub PartsShort : Variant → Parts → List (Option Value) → Type 0
   PartsShort a no_parts ss = Unit {0}
   PartsShort a (part t p s ps) ss = EachSlot (AreShort a s) (PartsShort a ps) ss
@@ -42,7 +42,7 @@ unfoldable mutual
   AlternativeShort a (part t p s ps) zero v = AreShort a s v
   AlternativeShort a (part t p s ps) (suc i) v = AlternativeShort a ps i v
 
-  -- and of the added one
+  -- the open type of the added alternative at a place is so, and so is each in its value
   pub AddedShort : Variant → Parts → ℕ → Value → Type 0
   AddedShort a no_parts i v = Unit {0}
   AddedShort a (part t p s ps) zero v = IsShort (canon a s v 0) × AreShort a s v

@@ -26,7 +26,7 @@ unfoldable mutual
   is_writable (Schema.choice ps adds ext) = are_writable ps && are_writable adds
   is_writable _ = true
 
-  -- the same of parts, additions or alternatives
+  -- whether each INTEGER and each record in parts, additions or alternatives is so
   pub are_writable : Parts → Bool
   are_writable no_parts = true
   are_writable (part t p s ps) = is_writable s && are_writable ps

@@ -33,7 +33,8 @@ pub fn what_was_read_has_one_fault_at_most()
         → kind ≡ IntegerTypeConversionFailed }
 {}
 
-/// And where the schema keeps to the numbers of an `i128`, it refuses the normal form for none.
+/// Of what a lawful schema reads that keeps to the numbers of an `i128`, in a tree that holds it, an encoder refuses
+/// the normal form for no fault.
 pub fn what_was_read_has_no_fault()
     ensures { (a : Settings) (s : Schema) (v : Value) (octets : List ℕ) (kind : EncodeErrorKind) → IsLawful s
         → keeps_to_i128 s ≡ true → meets_cut s v ≡ false → fills a s v octets

@@ -32,7 +32,7 @@ pub fn what_is_decoded_is_decoded_in_front<T: Decode>()
         → AnswersFront T.value (λ (w : Value). w ≡ T.value x) rest answer }
 {}
 
-/// And back: what `decode_with_remainder` answers, `decode` answers to the octets before those that it left; it refuses
+/// What `decode_with_remainder` answers to octets, `decode` answers to the octets before those that it left; it refuses
 /// for want of memory alone.
 pub fn what_is_decoded_in_front_is_decoded<T: Decode>()
     ensures { let type = T.schema T.CONSTRAINTS in
@@ -145,8 +145,9 @@ pub fn few_levels_are_read_back_in_front<T: Encode + Decode>()
         → AnswersFront T.value (λ (w : Value). w ≡ normal_form type (T.value x)) rest answer }
 {}
 
-/// The same of an older type's: it answers the projection and the rest, and refuses, memory aside, exactly where there
-/// is no projection (X.680, 52).
+/// Of the bytes of a newer type's value whose normal form has 128 levels or fewer, with any octets behind them, an
+/// older type's `decode_with_remainder` answers the projection and the rest, and refuses, memory aside, exactly where
+/// there is no projection (X.680, 52).
 pub fn few_levels_are_projected_in_front<New: Encode, Old: Decode>()
     ensures { let newer = New.schema New.CONSTRAINTS in let older = Old.schema Old.CONSTRAINTS in NewerType newer older
         → (codec : Codec) (x : New) (octets rest : List ℕ) (answer : Result (Old × Bor (List ℕ)) DecodeError)
@@ -156,8 +157,9 @@ pub fn few_levels_are_projected_in_front<New: Encode, Old: Decode>()
         → AnswersFront Old.value (IsProjection newer older (normal_form newer (New.value x))) rest answer }
 {}
 
-/// And of a newer type's: it answers the widening and the rest, and refuses, memory aside, exactly where there is no
-/// widening (X.680, 52).
+/// Of the bytes of an older type's value whose normal form has 128 levels or fewer, with any octets behind them, a
+/// newer type's `decode_with_remainder` answers the widening and the rest, and refuses, memory aside, exactly where
+/// there is no widening (X.680, 52).
 pub fn few_levels_are_widened_in_front<New: Decode, Old: Encode>()
     ensures { let newer = New.schema New.CONSTRAINTS in let older = Old.schema Old.CONSTRAINTS in NewerType newer older
         → (codec : Codec) (x : Old) (octets rest : List ℕ) (answer : Result (New × Bor (List ℕ)) DecodeError)

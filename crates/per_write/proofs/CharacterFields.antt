@@ -11,7 +11,7 @@ use Rattle.per_core.specs.Canon.{char_writers, coded}
 use Rattle.per_core.specs.Writers.{Writer, after, go_on, join, just, one_by_one, ◌▹◌}
 use Rattle.per_write.specs.Characters.{AreOwnBetween, IsField}
 use Rattle.per_write.specs.Remains.{Remains}
-use Rattle.per_write.specs.State.{State, Wrote}
+use Rattle.per_write.specs.State.{State, StateAppends}
 use Rattle.per_write.proofs.Fields.{field_more, one_more}
 use Rattle.per_write.proofs.OpenTypes.{IsStill, still_then}
 use Rattle.per_write.proofs.Steps.{next_between}
@@ -88,7 +88,7 @@ next_within at end most count h e = omega (arith, e)
 
 -- a field is written of what remains
 pub remains_field : (a : Alphabet) (cs : List ℕ) (at next end number bits n : ℕ) (all : Writer) (x y z : State) → next ≤ end → bits ≡ (next - at) * char_width a.variant a.characters → n ≡ number → IsField a cs at next number →
-    Remains x all y (one_by_one (slice_range (char_writers a.variant a.characters cs) at end)) → Wrote y (just (to_bits bits n)) z →
+    Remains x all y (one_by_one (slice_range (char_writers a.variant a.characters cs) at end)) → StateAppends y (just (to_bits bits n)) z →
     Remains x all z (one_by_one (slice_range (char_writers a.variant a.characters cs) next end))
 remains_field a cs at next end number bits n all x y z h e d f r w =
     let ws = char_writers a.variant a.characters cs in

@@ -12,7 +12,7 @@ use Rattle.rasn_constraints.specs.Constraints.{bounds_by, end_of, is_marked, siz
 use Rattle.rasn_constraints.specs.declared.constraints.Bounded.{Bounded}
 use Rattle.rasn_constraints.specs.declared.constraints.Bounded.TheVariants as Variants
 use Rattle.rasn_constraints.specs.declared.constraints.Extensible.{Extensible}
-use Rattle.per_core.specs.Counts.{constrained_whole, counted, Counted, marked_form, counted_in, counted_under, determinant, in_fragments, is_aligned, padding_if, fragment_sizes}
+use Rattle.per_core.specs.Counts.{constrained_whole, counted, ItemKind, marked_form, counted_in, counted_under, determinant, in_fragments, is_aligned, padding_if, fragment_sizes}
 use Rattle.per_core.specs.Writers.{Writer, just, ◌▹◌, one_by_one, padding, written_if}
 use Rattle.per_write.specs.declared.error.EncodeError.{EncodeError}
 use Rattle.per_write.specs.declared.error.EncodeErrorKind.{EncodeErrorKind}
@@ -20,8 +20,8 @@ use Rattle.per_write.specs.declared.error.EncodeErrorKind.TheVariants.{SizeConst
 use Rattle.per_write.specs.Faults.{IsError}
 use Rattle.per_write.specs.Items.{RefusesCounted, wrong_count}
 use Rattle.per_pieces.specs.Fragments.{one_fragment}
-use Rattle.per_write.specs.State.{State, Wrote}
-use Rattle.per_core.proofs.Lengths.{and_left, and_right}
+use Rattle.per_write.specs.State.{State, StateAppends}
+use Rattle.per_core.proofs.LengthForms.{and_left, and_right}
 use Rattle.per_pieces.proofs.Fragments.{first_fragment, in_their_fragments, fragments_of_few, fragments_of_many}
 use Rattle.per_write.specs.Remains.{Remains}
 use Rattle.per_pieces.proofs.Writing.{then_assoc}
@@ -33,19 +33,19 @@ length-slice ws start end h l = length-take (end - start) (drop start ws) ∙ om
 
 -- items behind their count
 pub wrote_fragment : (writers : Variant → List Writer) (x m y : State) (start end : ℕ) → start ≤ end → end ≤ length (writers (variant_of x.codec)) →
-    Wrote x (padding (variant_of x.codec) ▹ just (determinant (end - start))) m → Wrote m (one_by_one (slice_range (writers (variant_of m.codec)) start end)) y →
-    Wrote x (one_fragment (variant_of x.codec) (slice_range (writers (variant_of x.codec)) start end)) y
+    StateAppends x (padding (variant_of x.codec) ▹ just (determinant (end - start))) m → StateAppends m (one_by_one (slice_range (writers (variant_of m.codec)) start end)) y →
+    StateAppends x (one_fragment (variant_of x.codec) (slice_range (writers (variant_of x.codec)) start end)) y
 wrote_fragment writers x m y start end h l v w =
-    subst (λ (n : ℕ). Wrote x ((padding (variant_of x.codec) ▹ just (determinant n)) ▹ one_by_one (slice_range (writers (variant_of x.codec)) start end)) y)
+    subst (λ (n : ℕ). StateAppends x ((padding (variant_of x.codec) ▹ just (determinant n)) ▹ one_by_one (slice_range (writers (variant_of x.codec)) start end)) y)
     (sym (length-slice (writers (variant_of x.codec)) start end h l))
-    (wrote_then x m y _ _ v (subst (λ (c : Codec). Wrote m (one_by_one (slice_range (writers (variant_of c)) start end)) y) v.same w))
+    (wrote_then x m y _ _ v (subst (λ (c : Codec). StateAppends m (one_by_one (slice_range (writers (variant_of c)) start end)) y) v.same w))
 
 -- one fragment more
 pub fragment_written : (writers : Variant → List Writer) (x y z : State) (start end n : ℕ) →
     let all = writers (variant_of x.codec) in
     n ≡ length all → 16384 ≤ n - start → end ≡ start + first_fragment (n - start) →
     Remains x (in_fragments (variant_of x.codec) (fragment_sizes (length all)) all) y (in_fragments (variant_of x.codec) (fragment_sizes (length (drop start all))) (drop start all)) →
-    Wrote y (one_fragment (variant_of y.codec) (slice_range (writers (variant_of y.codec)) start end)) z →
+    StateAppends y (one_fragment (variant_of y.codec) (slice_range (writers (variant_of y.codec)) start end)) z →
     Remains x (in_fragments (variant_of x.codec) (fragment_sizes (length all)) all) z (in_fragments (variant_of x.codec) (fragment_sizes (length (drop end all))) (drop end all))
 fragment_written writers x y z start end n e h d r w =
     let a = variant_of x.codec in
@@ -58,15 +58,15 @@ fragment_written writers x y z start end n e h d r w =
     let many : 16384 ≤ length (drop start all) = omega arith in
     remains_after x y z _ _ (one_fragment a (slice_range all start end)) _ r
     (λ p. fragments_of_many a (drop start all) (end - start) many m p ∙ ap (λ (ws : List Writer). (one_fragment a (slice_range all start end) ▹ in_fragments a (fragment_sizes (length ws)) ws) p) behind)
-    (subst (λ (c : Codec). Wrote y (one_fragment (variant_of c) (slice_range (writers (variant_of c)) start end)) z) r.same w)
+    (subst (λ (c : Codec). StateAppends y (one_fragment (variant_of c) (slice_range (writers (variant_of c)) start end)) z) r.same w)
 
 -- the last fragment
-pub last_written : (writers : Variant → List Writer) (kind : Counted) (x y z : State) (start n : ℕ) →
+pub last_written : (writers : Variant → List Writer) (kind : ItemKind) (x y z : State) (start n : ℕ) →
     let all = writers (variant_of x.codec) in
     n ≡ length all → n < 2 ^ 64 → start ≤ n → n - start < 16384 →
     Remains x (in_fragments (variant_of x.codec) (fragment_sizes (length all)) all) y (in_fragments (variant_of x.codec) (fragment_sizes (length (drop start all))) (drop start all)) →
-    Wrote y (one_fragment (variant_of y.codec) (slice_range (writers (variant_of y.codec)) start n)) z →
-    Wrote x (counted_in (variant_of x.codec) any_size kind all) z
+    StateAppends y (one_fragment (variant_of y.codec) (slice_range (writers (variant_of y.codec)) start n)) z →
+    StateAppends x (counted_in (variant_of x.codec) any_size kind all) z
 last_written writers kind x y z start n e l h d r w =
     let a = variant_of x.codec in
     let all = writers a in
@@ -76,7 +76,7 @@ last_written writers kind x y z start n e l h d r w =
     wrote_same x z _ _ (in_their_fragments a kind all (omega arith))
     (remains_last x y z _ _ (one_fragment a (slice_range all start n)) r
     (λ p. fragments_of_few a (drop start all) few p ∙ ap (λ (ws : List Writer). one_fragment a ws p) (sym all_of_it))
-    (subst (λ (c : Codec). Wrote y (one_fragment (variant_of c) (slice_range (writers (variant_of c)) start n)) z) r.same w))
+    (subst (λ (c : Codec). StateAppends y (one_fragment (variant_of c) (slice_range (writers (variant_of c)) start n)) z) r.same w))
 
 -- a count that a size allows is within its bounds
 bounds_there : (least most : Option ℕ) (l u k : ℕ) → least ≡ Some l → most ≡ Some u → allows (record { least = least; most = most }) k ≡ true →
@@ -92,12 +92,12 @@ allowed_most least most l u n k e f d h =
     subst (λ (q : ℕ). q ≤ u) (sym d) (leb-true k u (and_left (leb k u) (ltb k (2 ^ 64)) (and_right (leb l k) (leb k u && ltb k (2 ^ 64)) (bounds_there least most l u k e f h))))
 
 -- items behind a count within bounds
-pub wrote_bounded : (writers : Variant → List Writer) (kind : Counted) (x m y : State) (least most : Option ℕ) (l u n : ℕ) (on_octet : Bool) →
+pub wrote_bounded : (writers : Variant → List Writer) (kind : ItemKind) (x m y : State) (least most : Option ℕ) (l u n : ℕ) (on_octet : Bool) →
     let all = writers (variant_of x.codec) in
     least ≡ Some l → most ≡ Some u → n ≡ length all → u < 65536 → allows (record { least = least; most = most }) (length all) ≡ true → on_octet ≡ (ltb 0 n && is_aligned kind l u) →
-    Wrote x (constrained_whole (variant_of x.codec) (u - l + 1) (n - l) ▹ padding_if on_octet (variant_of x.codec)) m →
-    Wrote m (one_by_one (slice_range (writers (variant_of m.codec)) 0 n)) y →
-    Wrote x (counted_in (variant_of x.codec) (record { least = least; most = most }) kind all) y
+    StateAppends x (constrained_whole (variant_of x.codec) (u - l + 1) (n - l) ▹ padding_if on_octet (variant_of x.codec)) m →
+    StateAppends m (one_by_one (slice_range (writers (variant_of m.codec)) 0 n)) y →
+    StateAppends x (counted_in (variant_of x.codec) (record { least = least; most = most }) kind all) y
 wrote_bounded writers kind x m y least most l u n on_octet f g e b h o v w =
     let a = variant_of x.codec in
     let all = writers a in
@@ -111,7 +111,7 @@ wrote_bounded writers kind x m y least most l u n on_octet f g e b h o v w =
     ∙ ap (λ (q : Option ℕ). counted_under a q most kind (length all) all p) (sym f)
     ∙ ap (λ (t : Bool). written_if t (counted_under a least most kind (length all) all) p) (sym h))
     (wrote_then x m y _ _ v
-    (subst (λ (ws : List Writer). Wrote m (one_by_one ws) y) all_of_it (subst (λ (c : Codec). Wrote m (one_by_one (slice_range (writers (variant_of c)) 0 n)) y) v.same w)))
+    (subst (λ (ws : List Writer). StateAppends m (one_by_one ws) y) all_of_it (subst (λ (c : Codec). StateAppends m (one_by_one (slice_range (writers (variant_of c)) 0 n)) y) v.same w)))
 
 -- whether padding stands in front of items
 pub pads_some : (n : ℕ) (o t : Bool) → 0 < n → o ≡ t → o ≡ (ltb 0 n && t)
@@ -152,29 +152,29 @@ allowed_is b lower upper n k t l u e h w =
     ∙ sym w
 
 -- a size's extension bit, and the items
-pub wrote_inside : (writers : Variant → List Writer) (kind : Counted) (size under : Size) (mark : Bool) (x m y : State) → mark ≡ true → size ≡ under →
-    allows under (length (writers (variant_of x.codec))) ≡ true → Wrote x (just (false ∷ [])) m → Wrote m (counted_in (variant_of m.codec) under kind (writers (variant_of m.codec))) y →
-    Wrote x (counted (variant_of x.codec) size mark kind (writers (variant_of x.codec))) y
+pub wrote_inside : (writers : Variant → List Writer) (kind : ItemKind) (size under : Size) (mark : Bool) (x m y : State) → mark ≡ true → size ≡ under →
+    allows under (length (writers (variant_of x.codec))) ≡ true → StateAppends x (just (false ∷ [])) m → StateAppends m (counted_in (variant_of m.codec) under kind (writers (variant_of m.codec))) y →
+    StateAppends x (counted (variant_of x.codec) size mark kind (writers (variant_of x.codec))) y
 wrote_inside writers kind size under mark x m y e d h v w =
     let a = variant_of x.codec in
     let all = writers a in
-    subst (λ (s : Size). Wrote x (counted a s mark kind all) y) (sym d)
-    (subst (λ (b : Bool). Wrote x (counted a under b kind all) y) (sym e)
+    subst (λ (s : Size). StateAppends x (counted a s mark kind all) y) (sym d)
+    (subst (λ (b : Bool). StateAppends x (counted a under b kind all) y) (sym e)
     (wrote_same x y (just (false ∷ []) ▹ counted_in a under kind all) (counted a under true kind all)
     (λ p. ap (λ (b : Bool). marked_form true b (counted_in a under kind all) (counted_in a any_size kind all) p) (sym h))
-    (wrote_then x m y _ _ v (subst (λ (c : Codec). Wrote m (counted_in (variant_of c) under kind (writers (variant_of c))) y) v.same w))))
+    (wrote_then x m y _ _ v (subst (λ (c : Codec). StateAppends m (counted_in (variant_of c) under kind (writers (variant_of c))) y) v.same w))))
 
-pub wrote_outside : (writers : Variant → List Writer) (kind : Counted) (size under : Size) (mark : Bool) (x m y : State) → mark ≡ true → size ≡ under →
-    allows under (length (writers (variant_of x.codec))) ≡ false → Wrote x (just (true ∷ [])) m → Wrote m (counted_in (variant_of m.codec) any_size kind (writers (variant_of m.codec))) y →
-    Wrote x (counted (variant_of x.codec) size mark kind (writers (variant_of x.codec))) y
+pub wrote_outside : (writers : Variant → List Writer) (kind : ItemKind) (size under : Size) (mark : Bool) (x m y : State) → mark ≡ true → size ≡ under →
+    allows under (length (writers (variant_of x.codec))) ≡ false → StateAppends x (just (true ∷ [])) m → StateAppends m (counted_in (variant_of m.codec) any_size kind (writers (variant_of m.codec))) y →
+    StateAppends x (counted (variant_of x.codec) size mark kind (writers (variant_of x.codec))) y
 wrote_outside writers kind size under mark x m y e d h v w =
     let a = variant_of x.codec in
     let all = writers a in
-    subst (λ (s : Size). Wrote x (counted a s mark kind all) y) (sym d)
-    (subst (λ (b : Bool). Wrote x (counted a under b kind all) y) (sym e)
+    subst (λ (s : Size). StateAppends x (counted a s mark kind all) y) (sym d)
+    (subst (λ (b : Bool). StateAppends x (counted a under b kind all) y) (sym e)
     (wrote_same x y (just (true ∷ []) ▹ counted_in a any_size kind all) (counted a under true kind all)
     (λ p. ap (λ (b : Bool). marked_form true b (counted_in a under kind all) (counted_in a any_size kind all) p) (sym h))
-    (wrote_then x m y _ _ v (subst (λ (c : Codec). Wrote m (counted_in (variant_of c) any_size kind (writers (variant_of c))) y) v.same w))))
+    (wrote_then x m y _ _ v (subst (λ (c : Codec). StateAppends m (counted_in (variant_of c) any_size kind (writers (variant_of c))) y) v.same w))))
 
 -- a count that is refused
 pub refuses_count : (size : Size) (mark : Bool) (fault : EncodeErrorKind → Type 0) (items : List Writer) (e : EncodeError) (x : State) (lower upper : Option ℕ) (n : ℕ) →

@@ -7,11 +7,11 @@ use Rattle.per_bits.proofs.Joins.{behind, put_behind}
 use Rattle.per_bits.proofs.Words.{to_bits-join}
 use Rattle.per_core.specs.Canon.{char_writers, coded}
 use Rattle.per_core.specs.Writers.{Writer, after, go_on, join, just, one_by_one, ◌▹◌}
-use Rattle.per_pieces.specs.Pieces.{settled}
-use Rattle.per_pieces.proofs.Settling.{begins_then}
+use Rattle.per_pieces.specs.Pieces.{writer_of}
+use Rattle.per_pieces.proofs.Placed.{begins_then}
 use Rattle.per_pieces.proofs.Writing.{then_assoc, then_nothing, then_same}
 use Rattle.per_write.specs.Remains.{Remains}
-use Rattle.per_write.specs.State.{State, Wrote}
+use Rattle.per_write.specs.State.{State, StateAppends}
 use Rattle.per_write.proofs.Steps.{next_between}
 use Rattle.per_write.proofs.Writing.{remains_last}
 
@@ -35,7 +35,7 @@ remains_first x all bits e f = record {
     behind = [];
     list = sym (append-nil x.pieces.list);
     place = refl;
-    written = λ p b. ap (λ (bs : Bits). (settled x.pieces.list ▹ (just bs ▹ all)) p) e ∙ then_assoc (settled x.pieces.list) (just []) all p ∙ ap (λ o. go_on o all p) (then_nothing (settled x.pieces.list) p);
+    written = λ p b. ap (λ (bs : Bits). (writer_of x.pieces.list ▹ (just bs ▹ all)) p) e ∙ then_assoc (writer_of x.pieces.list) (just []) all p ∙ ap (λ o. go_on o all p) (then_nothing (writer_of x.pieces.list) p);
   };
 }
 
@@ -51,9 +51,9 @@ remains_front x y z all f rest next h k = record {
     list = k.pieces.list ∙ ap (λ ps. ps ++ k.pieces.behind) h.pieces.list ∙ append_assoc x.pieces.list h.pieces.behind k.pieces.behind;
     place = k.pieces.place ∙ h.pieces.place;
     written = λ p b.
-        then_assoc (settled z.pieces.list) rest next p
+        then_assoc (writer_of z.pieces.list) rest next p
         ∙ ap (λ o. go_on o next p) (k.pieces.written p (begins_then x.pieces y.pieces h.pieces.place p b))
-        ∙ sym (then_assoc (settled y.pieces.list) f next p)
+        ∙ sym (then_assoc (writer_of y.pieces.list) f next p)
         ∙ h.pieces.written p b;
   };
 }
@@ -73,7 +73,7 @@ remains_same x y all rest same e h = record {
     behind = h.pieces.behind;
     list = h.pieces.list;
     place = h.pieces.place;
-    written = λ p b. then_same (settled y.pieces.list) (settled y.pieces.list) same rest (λ q. refl) e p ∙ h.pieces.written p b;
+    written = λ p b. then_same (writer_of y.pieces.list) (writer_of y.pieces.list) same rest (λ q. refl) e p ∙ h.pieces.written p b;
   };
 }
 
@@ -93,7 +93,7 @@ gathered_character a cs i e c code all x y z before behind h g k r w =
     ∙ sym (ap (λ (ws : List Writer). (just before ▹ one_by_one ws) p) (next_between f cs i e c h g))) r) w
 
 -- what was gathered of the last characters is written
-pub gathered_last : (ws : List Writer) (i e : ℕ) (all : Writer) (x y z : State) (bits : Bits) → e ≤ i → Remains x all y (just bits ▹ one_by_one (slice_range ws i e)) → Wrote y (just bits) z → Wrote x all z
+pub gathered_last : (ws : List Writer) (i e : ℕ) (all : Writer) (x y z : State) (bits : Bits) → e ≤ i → Remains x all y (just bits ▹ one_by_one (slice_range ws i e)) → StateAppends y (just bits) z → StateAppends x all z
 gathered_last ws i e all x y z bits h r w =
     remains_last x y z all (just bits ▹ one_by_one (slice_range ws i e)) (just bits) r
     (λ p. ap (λ (n : ℕ). (just bits ▹ one_by_one (take n (drop i ws))) p) (let d : e - i ≡ 0 = omega arith in d) ∙ then_nothing (just bits) p) w

@@ -2,7 +2,7 @@
 use Rattle.std.proofs.Common.{◌≡◌, refl, sym, ap, ap₂, ◌∙◌, subst, ℕ, zero, suc, ◌+◌, ◌-◌, ◌*◌, ◌<◌, ◌%◌, ◌^◌, Bool, false, List, [], ◌∷◌, ◌++◌, length, replicate, nat_le, arith, append-nil, append_assoc, length-append}
 use native.Mathlib.Numerals.{unary_clauses}
 use Rattle.per_pieces.specs.Pieces.{Piece, bit, plain, bits_of, bit_count, set_bit}
-use Rattle.per_pieces.proofs.Settling.{bits_of_append, plain_append, set_seam}
+use Rattle.per_pieces.proofs.Placed.{bits_of_append, plain_append, set_seam}
 use Rattle.rasn_types.specs.Bits.{Bits, to_bits}
 use Rattle.per_write.specs.Choices.{IsFilled}
 

@@ -6,8 +6,8 @@ use Rattle.rasn_types.specs.Variants.{Variant}
 use Rattle.per_core.specs.Canon.{Member, also_bit, any_set, bitmap, bitmap_of, opens_of, shown, with_additions}
 use Rattle.per_core.specs.Counts.{open_bits}
 use Rattle.per_core.specs.Writers.{Writer, after, go_on, join, just, padding, ◌▹◌}
-use Rattle.per_pieces.specs.Pieces.{Piece, bit, Pieces, MayBegin, bit_count, set_bit, settle, settled}
-use Rattle.per_pieces.proofs.Settling.{set_seam, settle_append, settled_then}
+use Rattle.per_pieces.specs.Pieces.{Piece, bit, Pieces, MayBegin, bit_count, set_bit, placed_bits, writer_of}
+use Rattle.per_pieces.proofs.Placed.{set_seam, settle_append, settled_then}
 use Rattle.per_write.specs.Additions.{open_if, with_next}
 use Rattle.per_write.specs.Records.{ExtendedBehind, behind_root, to_be_given}
 use Rattle.per_write.specs.State.{Additions, AppendsBits}
@@ -68,13 +68,13 @@ gathers_there a m ms v ss k l contents opens e w o h = record {
 
 -- what stands behind some pieces, from a position on
 abbrev pub AppendsAt : ℕ → List Piece → Writer → List Piece → Type 0
-AppendsAt p front f y = settled y p ≡ (settled front ▹ f) p
+AppendsAt p front f y = writer_of y p ≡ (writer_of front ▹ f) p
 
 pub at_then : (p : ℕ) (x y z : List Piece) (f g : Writer) → AppendsAt p x f y → AppendsAt p y g z → AppendsAt p x (f ▹ g) z
-at_then p x y z f g h k = k ∙ ap (λ o. go_on o g p) h ∙ sym (then_assoc (settled x) f g p)
+at_then p x y z f g h k = k ∙ ap (λ o. go_on o g p) h ∙ sym (then_assoc (writer_of x) f g p)
 
 at_same : (p : ℕ) (x y : List Piece) (f g : Writer) → ((q : ℕ) → f q ≡ g q) → AppendsAt p x f y → AppendsAt p x g y
-at_same p x y f g e h = h ∙ ap (join (settle x p)) (e (after p (settle x p)))
+at_same p x y f g e h = h ∙ ap (join (placed_bits x p)) (e (after p (placed_bits x p)))
 
 at_bit : (p : ℕ) (front : List Piece) (b : Bool) → AppendsAt p front (just (b ∷ [])) (front ++ bit b ∷ [])
 at_bit p front b = settled_then front (bit b ∷ []) p
@@ -84,27 +84,27 @@ same_behind [] ys zs e = e
 same_behind (x ∷ xs) ys zs e = same_behind xs ys zs cc
 
 -- the bits of pieces behind others, as they were to be written
-pub behind_at : (p : ℕ) (x ps : List Piece) (f : Writer) → AppendsAt p x f (x ++ ps) → f (after p (settle x p)) ≡ Some (settle ps (after p (settle x p)))
+pub behind_at : (p : ℕ) (x ps : List Piece) (f : Writer) → AppendsAt p x f (x ++ ps) → f (after p (placed_bits x p)) ≡ Some (placed_bits ps (after p (placed_bits x p)))
 behind_at p x ps f h =
-    let q = after p (settle x p) in
-    let j = joined (settle x p) (f q) (settle (x ++ ps) p) h in
-    j.1 ∙ ap Some (sym (same_behind (settle x p) (settle ps q) j.0 (sym (settle_append x ps p) ∙ j.2)))
+    let q = after p (placed_bits x p) in
+    let j = joined (placed_bits x p) (f q) (placed_bits (x ++ ps) p) h in
+    j.1 ∙ ap Some (sym (same_behind (placed_bits x p) (placed_bits ps q) j.0 (sym (settle_append x ps p) ∙ j.2)))
 
 -- a root behind the extension bit, whichever this is
 other_bit : (p : ℕ) (front root : List Piece) (inner : Writer) (b : Bool) → AppendsAt p (front ++ bit false ∷ []) inner ((front ++ bit false ∷ []) ++ root) → AppendsAt p (front ++ bit b ∷ []) inner ((front ++ bit b ∷ []) ++ root)
 other_bit p front root inner b h =
     let x = front ++ bit false ∷ [] in
     let y = front ++ bit b ∷ [] in
-    let same : after p (settle y p) ≡ after p (settle x p) = omega (
+    let same : after p (placed_bits y p) ≡ after p (placed_bits x p) = omega (
       arith,
       ap length (settle_append front (bit false ∷ []) p),
       ap length (settle_append front (bit b ∷ []) p),
-      length-append (settle front p) (false ∷ []),
-      length-append (settle front p) (b ∷ []),
+      length-append (placed_bits front p) (false ∷ []),
+      length-append (placed_bits front p) (b ∷ []),
     ) in
-    let root_is : inner (after p (settle y p)) ≡ Some (settle root (after p (settle y p))) =
-    subst (λ (q : ℕ). inner q ≡ Some (settle root q)) (sym same) (behind_at p x root inner h) in
-    settled_then y root p ∙ sym (ap (join (settle y p)) root_is)
+    let root_is : inner (after p (placed_bits y p)) ≡ Some (placed_bits root (after p (placed_bits y p))) =
+    subst (λ (q : ℕ). inner q ≡ Some (placed_bits root q)) (sym same) (behind_at p x root inner h) in
+    settled_then y root p ∙ sym (ap (join (placed_bits y p)) root_is)
 
 -- X.691 19.1: no addition is there
 closed_without : (p : ℕ) (a : Variant) (ms : List Member) (ss : List (Option Value)) (front j : List Piece) (bs : Bits) (inner : Writer) → any_set bs ≡ false → AppendsAt p (front ++ bit false ∷ []) inner j →

@@ -9,7 +9,7 @@ use Rattle.per_core.specs.Counts.{constrained_whole}
 use Rattle.per_core.specs.Writers.{pad, join}
 use Rattle.per_pieces.specs.Pieces.{Pieces, bit_count, with_bits}
 use Rattle.per_write.specs.Choices.{index_padding, index_width, OpensIndex}
-use Rattle.per_write.specs.State.{Scope, State, Wrote}
+use Rattle.per_write.specs.State.{Scope, State, StateAppends}
 
 inside : {s t : Bits} → Some s ≡ Some t → s ≡ t
 inside e = cc
@@ -25,7 +25,7 @@ no_padding unaligned n h p = refl
 no_padding aligned n h p = rw (le-leb n 255 (omega arith)) refl
 
 -- room is made behind padding
-pub index_opened : (n w : ℕ) (x m z y : State) (q : Pieces) (place : ℕ) (outside : Scope) → Wrote x (index_padding (variant_of x.codec) n) m
+pub index_opened : (n w : ℕ) (x m z y : State) (q : Pieces) (place : ℕ) (outside : Scope) → StateAppends x (index_padding (variant_of x.codec) n) m
     → w ≡ index_width (variant_of m.codec) n → q ≡ with_bits m.pieces (replicate w false) → z ≡ record m { pieces = q } → place ≡ bit_count m.pieces.list → outside ≡ z.scope
     → y ≡ record z { scope = record { presences = record { place = place; left = 0 }; additions = None; is_open = true } } → OpensIndex n x outside y
 index_opened n w x m z y q place outside h i k v l o e = record {

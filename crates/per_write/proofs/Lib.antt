@@ -1,4 +1,4 @@
-pub mod Bitmaps
+pub mod BitmapsWritten
 pub mod CharacterFields
 pub mod Counting
 pub mod Filling
@@ -6,9 +6,10 @@ pub mod Fields
 pub mod Gathering
 pub mod Indexes
 pub mod OpenTypes
-pub mod Records
+pub mod RecordsClosed
 pub mod Refusing
 pub mod Steps
 pub mod Vacant
 pub mod Writing
 pub mod Unbounded
+pub mod Elements

@@ -12,7 +12,7 @@ use Rattle.rasn_traits.specs.Calls.{Written}
 use Rattle.per_write.specs.Rules.{encoder_rules}
 use Rattle.rasn_schema.specs.Schemas.{Schema}
 use Rattle.per_core.specs.Canon.{canon, char_writers}
-use Rattle.per_core.specs.Counts.{constrained_whole, counted, Counted, counted_in, counted_under, determinant, in_fragments, is_aligned, marked_form, octet_items, octet_writers, padding_if, fragment_sizes, bit_items, bit_writers, char_items}
+use Rattle.per_core.specs.Counts.{constrained_whole, counted, ItemKind, counted_in, counted_under, determinant, in_fragments, is_aligned, marked_form, octet_items, octet_writers, padding_if, fragment_sizes, bit_items, bit_writers, char_items}
 use Rattle.per_core.specs.Writers.{Writer, go_on, one_by_one, just, padding, written_if, ◌▹◌}
 use Rattle.per_write.specs.declared.error.EncodeError.{EncodeError}
 use Rattle.per_write.specs.declared.error.EncodeErrorKind.{EncodeErrorKind}
@@ -20,7 +20,7 @@ use Rattle.per_write.specs.declared.error.EncodeErrorKind.TheVariants.{AlphabetC
 use Rattle.per_write.specs.Faults.{at_once, IsError, IsMemory, OutsideSize, RefusesValue, Stands, HasForeign}
 use Rattle.per_write.specs.Items.{HasRefused, refused_behind, refused_here, RefusesCounted, no_memory, wrong_count, wrong_item}
 use Rattle.per_pieces.specs.Fragments.{one_fragment}
-use Rattle.per_write.specs.State.{State, Wrote}
+use Rattle.per_write.specs.State.{State, StateAppends}
 use Rattle.per_pieces.proofs.Fragments.{first_fragment, length-octet_writers, fragments_of_few, fragments_of_many}
 use Rattle.per_write.proofs.Steps.{length-bit_writers, length-char_writers}
 use Rattle.per_pieces.proofs.Writing.{none_behind}
@@ -59,7 +59,7 @@ none_in_fragments (suc k) a ws l h p = go (ltb (length ws) 16384) refl (λ vs. n
         ]
 
 -- where an item is refused, nothing is written of all
-none_counted_under : (a : Variant) (least most : Option ℕ) (kind : Counted) (ws : List Writer) → HasRefused ws → (p : ℕ) → counted_under a least most kind (length ws) ws p ≡ None
+none_counted_under : (a : Variant) (least most : Option ℕ) (kind : ItemKind) (ws : List Writer) → HasRefused ws → (p : ℕ) → counted_under a least most kind (length ws) ws p ≡ None
 none_counted_under a None most kind ws h p = none_in_fragments (length ws) a ws (omega arith) h p
 none_counted_under a (Some l) None kind ws h p = none_in_fragments (length ws) a ws (omega arith) h p
 none_counted_under a (Some l) (Some u) kind ws h p = go (ltb u 65536)
@@ -78,7 +78,7 @@ none_written_if : (b : Bool) (w : Writer) (p : ℕ) → w p ≡ None → written
 none_written_if true w p h = h
 none_written_if false w p h = refl
 
-pub none_counted : (a : Variant) (size : Size) (mark : Bool) (kind : Counted) (ws : List Writer) → HasRefused ws → (p : ℕ) → counted a size mark kind ws p ≡ None
+pub none_counted : (a : Variant) (size : Size) (mark : Bool) (kind : ItemKind) (ws : List Writer) → HasRefused ws → (p : ℕ) → counted a size mark kind ws p ≡ None
 none_counted a size mark kind ws h p = go mark (allows size (length ws))
   where
     inside : (s : Size) (q : ℕ) → counted_in a s kind ws q ≡ None
@@ -90,12 +90,12 @@ none_counted a size mark kind ws h p = go mark (allows size (length ws))
     go true false = none_behind (just (true ∷ []) p) (counted_in a any_size kind ws) p (inside any_size)
 
 -- a count outside a size that isn't extensible
-pub none_outside : (a : Variant) (size : Size) (mark : Bool) (kind : Counted) (ws : List Writer) → mark ≡ false → allows size (length ws) ≡ false → (p : ℕ) → counted a size mark kind ws p ≡ None
+pub none_outside : (a : Variant) (size : Size) (mark : Bool) (kind : ItemKind) (ws : List Writer) → mark ≡ false → allows size (length ws) ≡ false → (p : ℕ) → counted a size mark kind ws p ≡ None
 none_outside a size true kind ws m h p = absurd cc
 none_outside a size false kind ws m h p = ap (λ (b : Bool). written_if b (counted_under a size.least size.most kind (length ws) ws) p) h
 
 -- what a call that writes counted items owes, where they are a value of a schema
-module _ (x y : State) (s : Schema) (v : Value) (size : Size) (mark : Bool) (kind : Counted) (fault : EncodeErrorKind → Type 0) (ws : List Writer)
+module _ (x y : State) (s : Schema) (v : Value) (size : Size) (mark : Bool) (kind : ItemKind) (fault : EncodeErrorKind → Type 0) (ws : List Writer)
     (same : (p : ℕ) → counted (variant_of x.codec) size mark kind ws p ≡ canon (variant_of x.codec) s v p)
     (of_count : (lower upper : Option ℕ) → mark ≡ false → OutsideSize size (length ws) (length ws) lower upper → Stands (SizeConstraintNotSatisfied (length ws) lower upper) x s v)
     (of_item : (k : EncodeErrorKind) → (mark || allows size (length ws)) ≡ true → fault k → Stands k x s v) where
@@ -112,7 +112,7 @@ module _ (x y : State) (s : Schema) (v : Value) (size : Size) (mark : Bool) (kin
     codec_is = h.codec_is;
   })
 
-  pub counted_law : (result : Result (Unit {0}) EncodeError) → OnOk result (Wrote x (counted (variant_of x.codec) size mark kind ws) y) → IfErr result (λ e. RefusesCounted size mark fault ws e x) →
+  pub counted_law : (result : Result (Unit {0}) EncodeError) → OnOk result (StateAppends x (counted (variant_of x.codec) size mark kind ws) y) → IfErr result (λ e. RefusesCounted size mark fault ws e x) →
       Written encoder_rules s v x result y
   counted_law (Ok u) w h = wrote_same x y (counted (variant_of x.codec) size mark kind ws) (canon (variant_of x.codec) s v) same w
   counted_law (Err e) w h = refuses_counted e h
@@ -128,7 +128,7 @@ octet_count x size true os lower upper m o = absurd cc
 octet_count x size false os lower upper m o = at_once (subst (λ (n : ℕ). OutsideSize size n (length (octet_writers os)) lower upper) (length-octet_writers os) o)
 
 pub octet_string_law : (x y : State) (size : Size) (mark : Bool) (os : List ℕ) (result : Result (Unit {0}) EncodeError) →
-    OnOk result (Wrote x (counted (variant_of x.codec) size mark octet_items (octet_writers os)) y) → IfErr result (λ e. RefusesCounted size mark (λ k. ⊥) (octet_writers os) e x) →
+    OnOk result (StateAppends x (counted (variant_of x.codec) size mark octet_items (octet_writers os)) y) → IfErr result (λ e. RefusesCounted size mark (λ k. ⊥) (octet_writers os) e x) →
     Written encoder_rules (Schema.octet_string size mark) (octets os) x result y
 octet_string_law x y size mark os =
     counted_law x y (Schema.octet_string size mark) (octets os) size mark octet_items (λ k. ⊥) (octet_writers os) (octet_string_form (variant_of x.codec) size mark os) (octet_count x size mark os) (λ k m h. absurd h)
@@ -144,7 +144,7 @@ bit_count x size true bs lower upper m o = absurd cc
 bit_count x size false bs lower upper m o = at_once (subst (λ (n : ℕ). OutsideSize size n (length (bit_writers bs)) lower upper) (length-bit_writers bs) o)
 
 pub bit_string_law : (x y : State) (size : Size) (mark : Bool) (bs : Bits) (result : Result (Unit {0}) EncodeError) →
-    OnOk result (Wrote x (counted (variant_of x.codec) size mark bit_items (bit_writers bs)) y) → IfErr result (λ e. RefusesCounted size mark (λ k. ⊥) (bit_writers bs) e x) →
+    OnOk result (StateAppends x (counted (variant_of x.codec) size mark bit_items (bit_writers bs)) y) → IfErr result (λ e. RefusesCounted size mark (λ k. ⊥) (bit_writers bs) e x) →
     Written encoder_rules (Schema.bit_string size mark) (bits bs) x result y
 bit_string_law x y size mark bs =
     counted_law x y (Schema.bit_string size mark) (bits bs) size mark bit_items (λ k. ⊥) (bit_writers bs) (bit_string_form (variant_of x.codec) size mark bs) (bit_count x size mark bs) (λ k m h. absurd h)
@@ -168,7 +168,7 @@ char_foreign x a alphabet size mark cs k m h =
     (at_once (subst (λ (n : ℕ). (mark || allows size n) ≡ true) (length-char_writers a alphabet cs) m, h.1))
 
 pub char_string_law : (x y : State) (alphabet : Alphabet) (own : List ℕ) (size : Size) (mark : Bool) (cs : List ℕ) (result : Result (Unit {0}) EncodeError) → alphabet.variant ≡ variant_of x.codec → alphabet.characters ≡ own →
-    OnOk result (Wrote x (counted (variant_of x.codec) size mark (char_items (char_width alphabet.variant alphabet.characters)) (char_writers alphabet.variant alphabet.characters cs)) y) →
+    OnOk result (StateAppends x (counted (variant_of x.codec) size mark (char_items (char_width alphabet.variant alphabet.characters)) (char_writers alphabet.variant alphabet.characters cs)) y) →
     IfErr result (λ e. RefusesCounted size mark (λ k. (k ≡ AlphabetConstraintNotSatisfied) × HasForeign alphabet.characters cs) (char_writers alphabet.variant alphabet.characters cs) e x) →
     Written encoder_rules (Schema.char_string own size mark) (characters cs) x result y
 char_string_law x y alphabet own size mark cs result v c w h =

@@ -9,7 +9,7 @@ use Rattle.rasn_schema.specs.Schemas.{Schema, Parts, no_parts, part, Presence, r
 use Rattle.per_core.specs.Canon.{any_set, canon}
 use Rattle.per_core.specs.Counts.{open_bits}
 use Rattle.per_core.specs.Writers.{Writer, just}
-use Rattle.per_pieces.specs.Pieces.{Pieces, no_pieces, settle}
+use Rattle.per_pieces.specs.Pieces.{Pieces, no_pieces, placed_bits}
 use Rattle.per_write.specs.declared.error.EncodeError.{EncodeError}
 use Rattle.per_write.specs.declared.error.EncodeErrorKind.TheVariants.{TooManyAdditions}
 use Rattle.per_write.specs.declared.presences.Presences.{Presences}
@@ -17,7 +17,7 @@ use Rattle.per_write.specs.Faults.{IsAlready, IsError, IsMemory}
 use Rattle.per_write.specs.State.{Additions, AppendsBits, State, empty_scope}
 
 -- what waits outside of an open type: what was written before, and what is kept of the open SEQUENCE
-pub record Outside : Type 0 where
+pub record OutsideAddition : Type 0 where
   pub pieces : Pieces
   pub presences : Presences
   pub additions : Additions
@@ -96,29 +96,29 @@ pub record SkipsOrNot (x : State) (result : Result (Unit {0}) EncodeError) (y : 
   pub kept : y.codec ≡ x.codec
 
 -- an open type begins at position 0, and what was there waits outside; what is open stays so
-pub record Opens (x : State) (outside : Outside) (y : State) : Type 0 where
+pub record Opens (x : State) (outside : OutsideAddition) (y : State) : Type 0 where
   pub awaits : Awaits x outside.additions
   pub waits : outside ≡ record { pieces = x.pieces; presences = x.scope.presences; additions = outside.additions }
   pub same : y ≡ record x { pieces = no_pieces; scope = empty_scope x.scope.is_open }
 
 -- the contents of the next addition's open type begin
 pub record Begins (x y : State) : Type 0 where
-  pub outside : Outside
+  pub outside : OutsideAddition
   pub opened : Opens x outside y
 
 -- A call that opens the open type of the next addition.
-pub record OpensOrNot (x : State) (result : Result Outside EncodeError) (y : State) : Type 0 where
+pub record OpensOrNot (x : State) (result : Result OutsideAddition EncodeError) (y : State) : Type 0 where
   pub ok : IfOk result (λ outside. Opens x outside y)
   pub err : IfErr result (λ e. RefusesAddition e x)
   pub fails : OnErr result (y.failed ≡ true)
   pub kept : y.codec ≡ x.codec
 
 -- an addition was given: where it is there, what was written is the contents of its open type, from position 0 on
-pub record Closes (is_there : Bool) (outside : Outside) (x y : State) : Type 0 where
+pub record Closes (is_there : Bool) (outside : OutsideAddition) (x y : State) : Type 0 where
   pub begun : x.failed ≡ false
   pub opens : Bits
   pub appended : AppendsBits outside.additions.opens (open_if (variant_of x.codec) is_there
-      (settle x.pieces.list 0)) opens
+      (placed_bits x.pieces.list 0)) opens
   pub same : y ≡ record x {
     pieces = outside.pieces;
     scope =
@@ -134,7 +134,7 @@ pub record Closes (is_there : Bool) (outside : Outside) (x y : State) : Type 0 w
 pub record PutsAddition (k : Additions) (before : Pieces) (x : State) (result : Result Additions EncodeError)
     (y : State) : Type 0 where
   pub opens : IfOk result (λ l. AppendsBits k.opens (open_bits (variant_of x.codec)
-      (Some (settle x.pieces.list 0))) l.opens)
+      (Some (placed_bits x.pieces.list 0))) l.opens)
   pub others : IfOk result (λ l. l ≡ record k { opens = l.opens })
   pub same : OnOk result (y ≡ record x { pieces = before })
   pub err : IfErr result (λ e. IsMemory e x)
@@ -142,8 +142,8 @@ pub record PutsAddition (k : Additions) (before : Pieces) (x : State) (result : 
   pub kept : y.codec ≡ x.codec
 
 -- A call that closes the open type of an addition.
-pub record ClosesOrNot (is_there : Bool) (outside : Outside) (x : State) (result : Result (Unit {0}) EncodeError)
-    (y : State) : Type 0 where
+pub record ClosesOrNot (is_there : Bool) (outside : OutsideAddition) (x : State)
+    (result : Result (Unit {0}) EncodeError) (y : State) : Type 0 where
   pub ok : OnOk result (Closes is_there outside x y)
   pub err : IfErr result (λ e. IsMemory e x)
   pub fails : OnErr result (y.failed ≡ true)

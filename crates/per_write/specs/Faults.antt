@@ -6,7 +6,7 @@ use Rattle.rasn_types.specs.Contents.{is_identifier, is_time}
 use Rattle.rasn_types.specs.Values.{Value, whole, octets, bits, characters, elements, bag, bag_of, values, alternative, Side}
 use Rattle.rasn_constraints.specs.Bounds.{allows, holds, fits_i128, Bounds, Size}
 use Rattle.rasn_schema.specs.Canonised.{canonised, canonised_slots}
-use Rattle.rasn_schema.specs.Choices.{alternative_in, choice_of}
+use Rattle.rasn_schema.specs.Choices.{alternative_in, choice_schema}
 use Rattle.rasn_schema.specs.Lists.{list_value}
 use Rattle.rasn_schema.specs.Records.{record_value}
 use Rattle.rasn_schema.specs.Schemas.{by_tag, Schema, Parts, part, Presence, TagTree}
@@ -65,8 +65,7 @@ IsPastBounds (Schema.number bounds mark range) (whole z) = IsPast bounds z
 IsPastBounds _ _ = ⊥
 
 -- X.691 16, 17, 20, 22, 30: the count of a string's items, of a list's elements or of a bag's members is outside a size
--- that isn't
--- extensible
+-- that isn't extensible
 abbrev pub IsOutOfSize : ℕ → Option ℕ → Option ℕ → Schema → Value → Type 0
 IsOutOfSize count lower upper (Schema.octet_string size false) (octets os) =
     OutsideSize size (length os) count lower upper
@@ -133,12 +132,11 @@ pub data StandsIn (fault : Schema → Value → Type 0) : Schema → Value → T
   in_member : {e : Schema} {size : Size} {mark : Bool} {v : Value} {vs : List Value} → HasElement v vs
       → StandsIn fault e v → StandsIn fault (Schema.set_of e size mark) (bag_of vs)
   in_alternative : {s : Schema} {v : Value} {ps qs : Parts} {marker : Bool} {d : Side} {k : ℕ}
-      → alternative_in (choice_of ps marker qs) d k ≡ Some s → StandsIn fault s v
-      → StandsIn fault (choice_of ps marker qs) (alternative d k v)
+      → alternative_in (choice_schema ps marker qs) d k ≡ Some s → StandsIn fault s v
+      → StandsIn fault (choice_schema ps marker qs) (alternative d k v)
 
 -- Where a kind's fault stands in a value. No list of additions is longer than its schema's, and no choice that a lawful
--- type
--- writes has a tag of none of its alternatives; the last three are none of a value.
+-- type writes has a tag of none of its alternatives; the last three are none of a value.
 abbrev pub IsInValue : EncodeErrorKind → Schema → Value → Type 0
 IsInValue (SizeConstraintNotSatisfied length lower upper) s v = StandsIn (IsOutOfSize length lower upper) s v
 IsInValue (ValueConstraintNotSatisfied value lower upper) s v = StandsIn (IsOutOfBounds value lower upper) s v

@@ -6,7 +6,7 @@ use Rattle.rasn_constraints.specs.Bounds.{allows, any_size, Size}
 use Rattle.rasn_constraints.specs.Constraints.{is_marked, size_in}
 use Rattle.rasn_constraints.specs.declared.constraints.Bounded.{Bounded}
 use Rattle.rasn_constraints.specs.declared.constraints.Extensible.{Extensible}
-use Rattle.per_core.specs.Counts.{counted, counted_in, Counted}
+use Rattle.per_core.specs.Counts.{counted, counted_in, ItemKind}
 use Rattle.per_core.specs.Writers.{Writer, one_by_one}
 use Rattle.per_write.specs.declared.error.EncodeError.{EncodeError}
 use Rattle.per_write.specs.declared.error.EncodeErrorKind.{EncodeErrorKind}
@@ -18,7 +18,7 @@ use Rattle.per_write.specs.State.{Puts, State}
 -- what a length counts: of which kind its items are, how each is written, and the fault that a kind of error names in
 -- them
 pub record CountedItems : Type 1 where
-  pub kind : Counted
+  pub kind : ItemKind
   pub writers : Variant → List Writer
   pub fault : EncodeErrorKind → Type 0
 
@@ -39,8 +39,7 @@ abbrev pub IsMemoryOrItem : (EncodeErrorKind → Type 0) → List Writer → Enc
 IsMemoryOrItem fault items e x = IsMemory e x ⊎ RefusesItem fault items e x
 
 -- why items under a size constraint are not written: want of memory; their count, where the constraint isn't
--- extensible; or, where
--- the count is allowed or the constraint is extensible, one of them
+-- extensible; or, where the count is allowed or the constraint is extensible, one of them
 pub data RefusesCounted (size : Size) (mark : Bool) (fault : EncodeErrorKind → Type 0) (items : List Writer)
     (e : EncodeError) (x : State) : Type 0 where
   no_memory : IsMemory e x → RefusesCounted size mark fault items e x

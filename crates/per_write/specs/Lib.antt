@@ -5,9 +5,10 @@ pub mod Faults
 pub mod Items
 pub mod Names
 pub mod Numbers
-pub mod Floating
+pub mod Unplaced
 pub mod Presences
 pub mod Records
 pub mod Remains
 pub mod Rules
 pub mod State
+pub mod Lists

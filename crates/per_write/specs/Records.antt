@@ -21,7 +21,7 @@ extension_room (Some n) = false ∷ []
 abbrev pub to_be_given : ℕ → ℕ → Additions
 to_be_given place n = record { extension = place; count = n; flags = []; opens = [] }
 
--- the same, where there is an extension marker
+-- the additions of a type, of which none is given yet, where it has an extension marker
 abbrev pub kept_additions : ℕ → Option ℕ → Option Additions
 kept_additions place None = None
 kept_additions place (Some n) = Some (to_be_given place n)
@@ -66,7 +66,8 @@ abbrev pub ExtendedBehind : Variant → Additions → Bool → Pieces → Pieces
 ExtendedBehind a k false x y = y ≡ x
 ExtendedBehind a k true x y = Appends (with_bit x k.extension true) (behind_root a k) y
 
--- the same, where there is an extension marker
+-- X.691 19.1, 19.7: a SEQUENCE is closed: where it has an extension marker and an addition is there, the additions
+-- stand behind its root
 abbrev pub ClosedBehind : Variant → Option Additions → Pieces → Pieces → Type 0
 ClosedBehind a None x y = y ≡ x
 ClosedBehind a (Some k) x y = ExtendedBehind a k (any_set k.flags) x y

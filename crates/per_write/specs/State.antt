@@ -8,12 +8,11 @@ use Rattle.rasn_types.specs.declared.types.Codec.{Codec}
 use Rattle.rasn_schema.specs.Schemas.{Schema}
 use Rattle.per_core.specs.Writers.{Writer, just, ◌▹◌}
 use Rattle.per_core.specs.Canon.{canon}
-use Rattle.per_pieces.specs.Pieces.{Appends, MayBegin as MayStand, Pieces, no_pieces, settled}
+use Rattle.per_pieces.specs.Pieces.{Appends, MayBegin as MayStand, Pieces, no_pieces, writer_of}
 use Rattle.per_write.specs.declared.presences.Presences.{Presences}
 
 -- what is kept of the additions of an open SEQUENCE: the place of its extension bit, how many additions its schema has,
--- a bit for each
--- that was given so far, and their open types, as written from position 0 on
+-- a bit for each that was given so far, and their open types, as written from position 0 on
 pub record Additions : Type 0 where
   pub extension : ℕ
   pub count : ℕ
@@ -21,8 +20,7 @@ pub record Additions : Type 0 where
   pub opens : Bits
 
 -- what is kept of an open SEQUENCE or CHOICE: its presence bits that are still to be given, and, behind an extension
--- marker, its additions;
--- and whether anything is open: a SEQUENCE, a SET, a CHOICE, a list or a bag
+-- marker, its additions; and whether anything is open: a SEQUENCE, a SET, a CHOICE, a list or a bag
 pub record Scope : Type 0 where
   pub presences : Presences
   pub additions : Option Additions
@@ -43,7 +41,7 @@ empty_scope is_open = record { presences = record { place = 0; left = 0 }; addit
 abbrev pub no_scope : Scope
 no_scope = empty_scope false
 
--- the same, where something is open or not
+-- a writer's state, where something is open or not
 abbrev pub within : Bool → State → State
 within is_open x = record x { scope = record x.scope { is_open = is_open } }
 
@@ -53,7 +51,7 @@ fresh codec = record { pieces = no_pieces; failed = false; codec = codec; scope 
 
 -- what the open scope holds, as written from a position on
 abbrev pub view : State → Writer
-view x = settled x.pieces.list
+view x = writer_of x.pieces.list
 
 -- the positions that the open scope may begin at: the start, unless its place isn't known
 abbrev pub MayBegin : State → ℕ → Type 0
@@ -64,7 +62,7 @@ abbrev pub AppendsBits : Bits → Writer → Bits → Type 0
 AppendsBits before more behind = Some behind ≡ (just before ▹ more) 0
 
 -- a call wrote one thing more
-pub record Wrote (x : State) (more : Writer) (y : State) : Type 0 where
+pub record StateAppends (x : State) (more : Writer) (y : State) : Type 0 where
   pub begun : x.failed ≡ false
   pub left : y.failed ≡ false
   pub same : y.codec ≡ x.codec
@@ -73,17 +71,17 @@ pub record Wrote (x : State) (more : Writer) (y : State) : Type 0 where
 
 -- one value more, in its canonical bits
 abbrev pub Presents : State → Schema → Value → State → Type 0
-Presents x s v y = Wrote x (canon (variant_of x.codec) s v) y
+Presents x s v y = StateAppends x (canon (variant_of x.codec) s v) y
 
 -- A call that writes one thing more: an error is one of some, and leaves the writer failed; and the variant stays.
 pub record Puts {E : Type 0} (errors : E → State → Type 0) (more : Writer) (x : State) (result : Result (Unit {0}) E)
     (y : State) : Type 0 where
-  pub ok : OnOk result (Wrote x more y)
+  pub ok : OnOk result (StateAppends x more y)
   pub err : IfErr result (λ e. errors e x)
   pub fails : OnErr result (y.failed ≡ true)
   pub kept : y.codec ≡ x.codec
 
--- the same of what is written in the variant in use
+-- A call that writes one thing more, as it is written in the variant in use.
 abbrev pub PutsIn : {E : Type 0} → (E → State → Type 0) → (Variant → Writer) → State → Result (Unit {0}) E → State
     → Type 0
 PutsIn errors more x result y = Puts errors (more (variant_of x.codec)) x result y

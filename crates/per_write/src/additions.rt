@@ -1,19 +1,17 @@
-//! SEQUENCE, and the additions behind its extension marker (X.691 19). They are gathered while its root is open, and
-//! stand behind the root when it is closed.
+//! The additions behind the extension marker of a SEQUENCE (X.691 19.7 to 19.9). They are gathered while its root is
+//! open, and stand behind the root when it is closed.
 
 ghost use Rattle.std.specs.Prelude.{◌≡◌, length, true, false, nat_lt, Some};
-ghost use Rattle.per_core.specs.Canon.{any_set, bitmap};
-ghost use Rattle.per_core.specs.Counts.{open_bits};
+ghost use Rattle.per_core.specs.Canon.{any_set};
 ghost use Rattle.per_core.specs.Writers.{padding};
-ghost use Rattle.per_pieces.specs.Pieces.{settle};
+ghost use Rattle.per_pieces.specs.Pieces.{placed_bits};
 ghost use Rattle.per_write.specs.Additions.{ClosesOrNot as ClosesOpenType, GivesOrNot, is_group_there, OpensOrNot as OpensOpenType, PutsAddition, SkipsOrNot, TakesOrNot};
 ghost use Rattle.per_write.specs.Faults.{IsMemory};
-ghost use Rattle.per_write.specs.Records.{ClosesOrNot, KeepsOrNot, OpensOrNot, PutsAdditions};
+ghost use Rattle.per_write.specs.Records.{KeepsOrNot, PutsAdditions};
 ghost use Rattle.per_write.specs.State.{PutsIn};
 
 use crate::error::{EncodeError, EncodeErrorKind};
-use crate::items::Flags;
-use crate::presences::{Presences, Scope};
+use crate::presences::Presences;
 use crate::{Writer, cleared_or_new, no_bits};
 use per_bits::{BitList, BitReader};
 use per_pieces::Pieces;
@@ -45,62 +43,21 @@ impl<A: Allocator + Clone> Model for Additions<A> {
 
 /// What waits outside of an open type until it is closed: what was written before, and what was open.
 #[derive(Drop)]
-pub struct Outside<A: Allocator + Clone> {
+pub struct OutsideAddition<A: Allocator + Clone> {
     pieces: Pieces<A>,
     presences: Presences,
     additions: Additions<A>,
 }
 
-impl<A: Allocator + Clone> Model for Outside<A> {
-    ghost use Rattle.per_write.specs.Additions.{Outside};
+impl<A: Allocator + Clone> Model for OutsideAddition<A> {
+    ghost use Rattle.per_write.specs.Additions.{OutsideAddition};
 
-    ghost Value = { Outside };
+    ghost Value = { OutsideAddition };
 
     ghost view = { λ a. record { pieces = a.pieces; presences = a.presences; additions = a.additions } };
 }
 
 impl<A: Allocator + Clone> Writer<A> {
-    /// Opens a SEQUENCE of so many presence bits, and, where it has an extension marker, of so many additions. The
-    /// places of its extension bit and presence bits are kept, so that giving them takes no memory. Answers what waits
-    /// outside until the SEQUENCE is closed.
-    #[inline(always)]
-    pub fn open_record(
-        &mut self,
-        presences: usize,
-        additions: Option<usize>,
-    ) -> Result<Scope<A>, EncodeError>
-        requires { self.old.failed ≡ false }
-        ensures { OpensOrNot presences additions self.old result self.new }
-    {
-        let kept = self.keep_additions(additions)?;
-        let place = self.pieces.len();
-        let zeros = self.pieces.push_zeros(presences);
-        self.unless_out_of_memory(zeros)?;
-        let first = Presences {
-            place,
-            left: presences,
-        };
-        Ok(self.enter(first, kept))
-    }
-
-    /// Closes a SEQUENCE of which each presence bit and each addition was given, else it refuses. Where an addition is
-    /// there, its extension bit becomes 1, and behind its root stand the bitmap and the open types. What waited outside
-    /// is there again.
-    #[inline(always)]
-    pub fn close_record(&mut self, outside: Scope<A>) -> Result<(), EncodeError>
-        requires { self.old.failed ≡ false }
-        ensures { ClosesOrNot outside self.old result self.new }
-    {
-        if self.presences.left > 0 {
-            return Err(self.refuse(EncodeErrorKind::OutOfTurn));
-        }
-        if let Some(additions) = self.additions.take() {
-            self.put_additions(additions)?;
-        }
-        self.leave(outside);
-        Ok(())
-    }
-
     /// Gives the next addition of the open SEQUENCE as absent. Where none is left it refuses.
     #[inline(always)]
     pub fn skip_addition(&mut self) -> Result<(), EncodeError>
@@ -114,7 +71,7 @@ impl<A: Allocator + Clone> Writer<A> {
     /// Opens the open type of the next addition of the open SEQUENCE: its contents are written from position 0 on.
     /// Where no addition is left it refuses. Answers what waits outside until the open type is closed.
     #[inline(always)]
-    pub fn open_addition(&mut self) -> Result<Outside<A>, EncodeError>
+    pub fn open_addition(&mut self) -> Result<OutsideAddition<A>, EncodeError>
         requires { self.old.failed ≡ false }
         ensures { OpensOpenType self.old result self.new }
     {
@@ -122,7 +79,7 @@ impl<A: Allocator + Clone> Writer<A> {
         let empty = cleared_or_new(self.scratch.take(), self.pieces.bits());
         let empty = self.unless_out_of_memory(empty)?;
         let nothing = Presences { place: 0, left: 0 };
-        Ok(Outside {
+        Ok(OutsideAddition {
             pieces: mem::replace(&mut self.pieces, Pieces::from_bits(empty)),
             presences: mem::replace(&mut self.presences, nothing),
             additions,
@@ -132,11 +89,11 @@ impl<A: Allocator + Clone> Writer<A> {
     /// Closes the open type of an addition (X.691 11.2): what was written in it becomes whole octets, behind their
     /// count. The bits from before are there again.
     #[inline(always)]
-    pub fn close_addition(&mut self, outside: Outside<A>) -> Result<(), EncodeError>
+    pub fn close_addition(&mut self, outside: OutsideAddition<A>) -> Result<(), EncodeError>
         requires { self.old.failed ≡ false }
         ensures { ClosesOpenType true outside self.old result self.new }
     {
-        let Outside {
+        let OutsideAddition {
             pieces,
             presences,
             additions,
@@ -151,22 +108,22 @@ impl<A: Allocator + Clone> Writer<A> {
     #[inline(always)]
     pub fn close_group(
         &mut self,
-        outside: Outside<A>,
+        outside: OutsideAddition<A>,
         has_required: bool,
     ) -> Result<(), EncodeError>
         requires { self.old.failed ≡ false }
-        ensures { ClosesOpenType (is_group_there has_required (settle self.old.pieces.list 0)) outside
+        ensures { ClosesOpenType (is_group_there has_required (placed_bits self.old.pieces.list 0)) outside
             self.old result self.new }
     {
         if has_required || has_one(self.pieces.bits()) {
             return self.close_addition(outside);
         }
-        let Outside {
+        let OutsideAddition {
             pieces,
             presences,
             additions,
         } = outside;
-        self.scratch = mem::replace(&mut self.pieces, pieces).into_settled().ok();
+        self.scratch = mem::replace(&mut self.pieces, pieces).into_placed().ok();
         self.presences = presences;
         self.give_addition(additions, false)
     }
@@ -187,11 +144,11 @@ impl<A: Allocator + Clone> Writer<A> {
             flags,
             opens,
         } = additions;
-        let contents = mem::replace(&mut self.pieces, Pieces::from_bits(opens)).into_settled();
+        let contents = mem::replace(&mut self.pieces, Pieces::from_bits(opens)).into_placed();
         let contents = self.unless_out_of_memory(contents)?;
         self.put_open_type(&contents)?;
         self.scratch = Some(contents);
-        let opens = mem::replace(&mut self.pieces, before).into_settled();
+        let opens = mem::replace(&mut self.pieces, before).into_placed();
         let opens = self.unless_out_of_memory(opens)?;
         Ok(Additions {
             extension,
@@ -204,7 +161,10 @@ impl<A: Allocator + Clone> Writer<A> {
     /// Where there is an extension marker, writes a zero for the extension bit, and keeps its place for so many
     /// additions.
     #[inline(always)]
-    fn keep_additions(&mut self, count: Option<usize>) -> Result<Option<Additions<A>>, EncodeError>
+    pub(crate) fn keep_additions(
+        &mut self,
+        count: Option<usize>,
+    ) -> Result<Option<Additions<A>>, EncodeError>
         requires { self.old.failed ≡ false }
         ensures { KeepsOrNot count self.old result self.new }
     {
@@ -254,7 +214,7 @@ impl<A: Allocator + Clone> Writer<A> {
     /// Writes the additions behind the root of a SEQUENCE (X.691 19.7 to 19.9), unless none is there. Where one wasn't
     /// given it refuses.
     #[inline(always)]
-    fn put_additions(&mut self, additions: Additions<A>) -> Result<(), EncodeError>
+    pub(crate) fn put_additions(&mut self, additions: Additions<A>) -> Result<(), EncodeError>
         requires { self.old.failed ≡ false }
         ensures { PutsAdditions additions self.old result self.new }
     {
@@ -268,33 +228,6 @@ impl<A: Allocator + Clone> Writer<A> {
         self.put_bitmap(&additions.flags, additions.count)?;
         self.put_padding()?;
         self.put_reader(&BitReader::new(&additions.opens))
-    }
-
-    /// Writes an open type of some contents (X.691 11.2): their complete encoding, behind the count of its octets.
-    #[inline(always)]
-    pub(crate) fn put_open_type(&mut self, contents: &BitList<A>) -> Result<(), EncodeError>
-        requires { self.old.failed ≡ false }
-        ensures { PutsIn IsMemory (λ a. open_bits a (Some contents.now)) self.old result self.new }
-    {
-        if contents.is_empty() {
-            return self.put_octets(&[0]);
-        }
-        self.put_octets(contents.as_octets())
-    }
-
-    /// Writes which additions are there, behind their count (X.691 19.7, 19.8, 11.9.3.4).
-    fn put_bitmap(&mut self, flags: &BitList<A>, count: usize) -> Result<(), EncodeError>
-        requires begun { self.old.failed ≡ false }
-        requires counted { length flags.now ≡ count }
-        ensures { PutsIn IsMemory (λ a. bitmap a flags.now) self.old result self.new }
-    {
-        if count > 64 {
-            self.put_bit(true)?;
-            return self.put_unconstrained_items(&Flags { bits: flags, count });
-        }
-        self.put_bit(false)?;
-        self.put_bits(count.saturating_sub(1) as u128, 6)?;
-        self.put_reader(&BitReader::new(flags))
     }
 
     /// Writes zero bits up to the next octet in the aligned variant.

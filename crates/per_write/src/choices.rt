@@ -19,7 +19,7 @@ use std::alloc::Allocator;
 impl<A: Allocator + Clone> Writer<A> {
     /// Opens a CHOICE of so many root alternatives: zeros stand for the index of the one that follows. Answers what
     /// waits outside until the CHOICE is closed.
-    pub fn open_choice(&mut self, count: usize) -> Result<Scope<A>, EncodeError>
+    pub fn open_index(&mut self, count: usize) -> Result<Scope<A>, EncodeError>
         requires { self.old.failed ≡ false }
         ensures { OpensIndexOrNot count self.old result self.new }
     {
@@ -33,7 +33,7 @@ impl<A: Allocator + Clone> Writer<A> {
 
     /// Closes a CHOICE of so many root alternatives by the index of the one that was written. What waited outside is
     /// there again. Where no index is kept it refuses.
-    pub fn close_choice(
+    pub fn close_index(
         &mut self,
         count: usize,
         index: usize,

@@ -1,5 +1,5 @@
-//! What the packed encoding rules write, bit by bit (ITU-T X.691): whole numbers, lengths, and counted strings in their
-//! canonical form, behind what was written before.
+//! What the packed encoding rules write, bit by bit (ITU-T X.691): whole numbers, lengths, counted strings, records and
+//! what stands between the elements of a list, in their canonical form, behind what was written before.
 #![tactic(auto)]
 
 ghost use Rattle.std.specs.Prelude.{◌≡◌, ◌≤◌, ◌∷◌, [], true, false, Some, OnOk, OnErr, IfOk, IfErr};
@@ -16,19 +16,22 @@ ghost use Rattle.per_write.specs.Rules.{encoder_rules};
 ghost use Rattle.per_write.specs.Faults.{IsError, IsMemory, IsAlready, RefusesOutput};
 
 mod additions;
+mod bitmaps;
 pub mod choices;
 pub mod error;
-mod floating;
 pub mod items;
+pub mod lists;
+pub mod numbers;
+mod open_types;
 mod presences;
+mod records;
 mod sizes;
 mod strings;
-pub mod wholes;
+mod unplaced;
 
 use additions::Additions;
-pub use additions::Outside;
+pub use additions::OutsideAddition;
 use error::{EncodeError, EncodeErrorKind};
-pub use floating::Waiting;
 use items::Octets;
 use per_bits::per::complete_in_place;
 use per_bits::{BitList, BitReader};
@@ -39,6 +42,7 @@ use rasn_types::types::Codec;
 use std::alloc::{AllocError, Allocator};
 use std::marker::Model;
 use std::mem;
+pub use unplaced::OutsideUnplaced;
 
 /// Writes numbers, lengths and strings, one after another, in their canonical bits. An error leaves it failed, and
 /// nothing more is written then.
@@ -122,7 +126,7 @@ impl<A: Allocator + Clone> Writer<A> {
         }
         let empty = no_bits(self.pieces.bits());
         let empty = self.unless_out_of_memory(empty)?;
-        let bits = mem::replace(&mut self.pieces, Pieces::from_bits(empty)).into_settled();
+        let bits = mem::replace(&mut self.pieces, Pieces::from_bits(empty)).into_placed();
         let bits = self.unless_out_of_memory(bits)?;
         let octets = complete_in_place(bits);
         self.unless_out_of_memory(octets)

@@ -10,7 +10,8 @@ ghost use Rattle.per_write.specs.State.{PutsIn};
 use crate::Writer;
 use crate::error::{EncodeError, EncodeErrorKind};
 use crate::items::Items;
-use per_pieces::lengths::{FRAGMENT, push_constrained_length, push_unconstrained_length};
+use per_core::lengths::FRAGMENT;
+use per_pieces::lengths::{push_constrained_length, push_unconstrained_length};
 use rasn_schema::constraints::{Bounded, Extensible};
 use std::alloc::Allocator;
 

@@ -9,7 +9,7 @@ use Rattle.rasn_schema.specs.Schemas.{Schema}
 use Rattle.per_core.specs.Canon.{ascending, canon, octet_key}
 use Rattle.per_core.specs.Counts.{counted, list_items}
 use Rattle.per_core.specs.Writers.{Writer}
-use Rattle.per_pieces.specs.Pieces.{Piece, settled}
+use Rattle.per_pieces.specs.Pieces.{Piece, writer_of}
 use Rattle.per_write_types.specs.Members.{writers_of}
 use Rattle.per_write_types.specs.Written.{AreWritten}
 use Rattle.per_write_types.proofs.MemberOrder.{bag_canon}
@@ -96,7 +96,7 @@ pub are_written : (f : Value → Writer) (vs : List Value) (ms : List (List Piec
 are_written f [] ms e = tt
 are_written f (v ∷ vs) [] e = absurd cc
 are_written f (v ∷ vs) (m ∷ ms) e =
-    let h : settled m ≡ f v = cc in
+    let h : writer_of m ≡ f v = cc in
     let t : writers_of ms ≡ map f vs = cc in
     (ap (λ (w : Writer). is_some (w 0)) (sym h), are_written f vs ms t)
 
@@ -111,8 +111,8 @@ list_is_bag a e size mark vs k p = listed a e size mark (in_order a e vs) p ∙ 
 
 -- the member at a place
 pub at_place : (ms : List (List Piece)) (f : Value → Writer) (vs : List Value) (i : ℕ) (d : List Piece) → writers_of ms ≡ map f vs → i < length ms
-    → (v : Value) × (drop i vs ≡ v ∷ drop (suc i) vs) × (settled (get_or ms i d) ≡ f v)
+    → (v : Value) × (drop i vs ≡ v ∷ drop (suc i) vs) × (writer_of (get_or ms i d) ≡ f v)
 at_place [] f vs i d e h = absurd (omega (arith, h))
 at_place (m ∷ ms) f [] i d e h = absurd cc
-at_place (m ∷ ms) f (v ∷ vs) zero d e h = let q : settled m ≡ f v = cc in (v, refl, q)
+at_place (m ∷ ms) f (v ∷ vs) zero d e h = let q : writer_of m ≡ f v = cc in (v, refl, q)
 at_place (m ∷ ms) f (v ∷ vs) (suc i) d e h = let t : writers_of ms ≡ map f vs = cc in at_place ms f vs i d t (omega (arith, h))

@@ -20,7 +20,7 @@ use Rattle.rasn_types.specs.Octets.{natural_bits}
 use Rattle.per_write.specs.declared.error.EncodeError.{EncodeError}
 use Rattle.per_write.specs.declared.error.EncodeErrorKind.TheVariants.{ValueConstraintNotSatisfied, IntegerTypeConversionFailed}
 use Rattle.per_write.specs.Faults.{at_once, has_bound, IsError, IsMemory, IsPast, Outside, RefusesValue, Stands}
-use Rattle.per_write.specs.State.{State, Wrote, Presents}
+use Rattle.per_write.specs.State.{State, StateAppends, Presents}
 use Rattle.per_write.proofs.Writing.{wrote_then, wrote_same}
 
 -- a number past an i128 has no form under a bound
@@ -67,21 +67,21 @@ number_canon : (a : Variant) (b : Bounds) (mark : Bool) (range : Bounds) (z : �
 unfolding canon number_form
 number_canon a b mark range z within h k p = sym (rw (h, k) refl)
 
-pub presents_within : (x y : State) (b range : Bounds) (z : ℤ) → holds range z ≡ true → holds b z ≡ true → Wrote x (number_under (variant_of x.codec) b.low b.high z) y →
+pub presents_within : (x y : State) (b range : Bounds) (z : ℤ) → holds range z ≡ true → holds b z ≡ true → StateAppends x (number_under (variant_of x.codec) b.low b.high z) y →
     Presents x (Schema.number b false range) (whole z) y
 presents_within x y b range z h k w = wrote_same x y _ _ (number_canon (variant_of x.codec) b false range z true h k) w
 
-pub presents_marked : (x m y : State) (b range : Bounds) (z : ℤ) → holds range z ≡ true → holds b z ≡ true → Wrote x (just (false ∷ [])) m →
-    Wrote m (number_under (variant_of m.codec) b.low b.high z) y → Presents x (Schema.number b true range) (whole z) y
+pub presents_marked : (x m y : State) (b range : Bounds) (z : ℤ) → holds range z ≡ true → holds b z ≡ true → StateAppends x (just (false ∷ [])) m →
+    StateAppends m (number_under (variant_of m.codec) b.low b.high z) y → Presents x (Schema.number b true range) (whole z) y
 presents_marked x m y b range z h k v w =
     wrote_same x y _ _ (number_canon (variant_of x.codec) b true range z true h k)
-    (wrote_then x m y _ _ v (subst (λ c. Wrote m (number_under (variant_of c) b.low b.high z) y) v.same w))
+    (wrote_then x m y _ _ v (subst (λ c. StateAppends m (number_under (variant_of c) b.low b.high z) y) v.same w))
 
-pub presents_outside : (x m y : State) (b range : Bounds) (z : ℤ) → holds range z ≡ true → holds b z ≡ false → Wrote x (just (true ∷ [])) m →
-    Wrote m (counted_octets (variant_of m.codec) (whole_bits z)) y → Presents x (Schema.number b true range) (whole z) y
+pub presents_outside : (x m y : State) (b range : Bounds) (z : ℤ) → holds range z ≡ true → holds b z ≡ false → StateAppends x (just (true ∷ [])) m →
+    StateAppends m (counted_octets (variant_of m.codec) (whole_bits z)) y → Presents x (Schema.number b true range) (whole z) y
 presents_outside x m y b range z h k v w =
     wrote_same x y _ _ (number_canon (variant_of x.codec) b true range z false h k)
-    (wrote_then x m y _ _ v (subst (λ c. Wrote m (counted_octets (variant_of c) (whole_bits z)) y) v.same w))
+    (wrote_then x m y _ _ v (subst (λ c. StateAppends m (counted_octets (variant_of c) (whole_bits z)) y) v.same w))
 
 past_none : (a : Variant) (b : Bounds) (mark : Bool) (range : Bounds) (z : ℤ) → holds range z ≡ true → IsPast b z → (p : ℕ) → canon a (Schema.number b mark range) (whole z) p ≡ None
 past_none a b false range z h k p = sym (number_canon a b false range z true h k.in_bounds p) ∙ under_past a b.low b.high z k.bound k.past p

@@ -14,11 +14,11 @@ use Rattle.per_core.specs.Canon.{canon, date_of, in_range, year_of, year_writer}
 use Rattle.per_core.specs.Counts.{constrained_whole, number_under}
 use Rattle.per_core.specs.Writers.{Writer, ◌▹◌, written_if}
 use Rattle.per_core.proofs.Fits.{fits_small}
-use Rattle.per_core.proofs.Lengths.{and_right}
+use Rattle.per_core.proofs.LengthForms.{and_right}
 use Rattle.per_write.specs.declared.error.EncodeError.{EncodeError}
 use Rattle.per_write.specs.Faults.{IsMemory}
 use Rattle.per_write.specs.Rules.{encoder_rules}
-use Rattle.per_write.specs.State.{Puts, State, Wrote}
+use Rattle.per_write.specs.State.{Puts, State, StateAppends}
 use Rattle.per_write.proofs.Writing.{wrote_then}
 use Rattle.per_write_types.specs.Dates.{put_within}
 
@@ -69,28 +69,28 @@ module _ (a : Variant) (y : ℤ) where
       ∙ ap (λ (b : Bool). cond b (ranged a 0 2005 16 y) (behind_first a y)) (sym n)
 
 -- the index of a range, and a year in it
-pub wrote_within : (x m z : State) (index first last year : ℤ) → Wrote x (number_under (variant_of x.codec) (Some (pos 0)) (Some (pos 3)) index) m
-    → Wrote m (number_under (variant_of m.codec) (Some first) (Some last) year) z → Wrote x (put_within (variant_of x.codec) index first last year) z
+pub wrote_within : (x m z : State) (index first last year : ℤ) → StateAppends x (number_under (variant_of x.codec) (Some (pos 0)) (Some (pos 3)) index) m
+    → StateAppends m (number_under (variant_of m.codec) (Some first) (Some last) year) z → StateAppends x (put_within (variant_of x.codec) index first last year) z
 wrote_within x m z index first last year wi wy =
-    wrote_then x m z _ _ wi (subst (λ c. Wrote m (number_under (variant_of c) (Some first) (Some last) year) z) wi.same wy)
+    wrote_then x m z _ _ wi (subst (λ c. StateAppends m (number_under (variant_of c) (Some first) (Some last) year) z) wi.same wy)
 
 -- the last index, and a year as a number
-pub wrote_number : (x m z : State) (year : ℤ) → Wrote x (number_under (variant_of x.codec) (Some (pos 0)) (Some (pos 3)) (pos 3)) m
-    → Wrote m (number_under (variant_of m.codec) None None year) z
-    → Wrote x (number_under (variant_of x.codec) (Some (pos 0)) (Some (pos 3)) (pos 3) ▹ number_under (variant_of x.codec) None None year) z
-wrote_number x m z year wi wy = wrote_then x m z _ _ wi (subst (λ c. Wrote m (number_under (variant_of c) None None year) z) wi.same wy)
+pub wrote_number : (x m z : State) (year : ℤ) → StateAppends x (number_under (variant_of x.codec) (Some (pos 0)) (Some (pos 3)) (pos 3)) m
+    → StateAppends m (number_under (variant_of m.codec) None None year) z
+    → StateAppends x (number_under (variant_of x.codec) (Some (pos 0)) (Some (pos 3)) (pos 3) ▹ number_under (variant_of x.codec) None None year) z
+wrote_number x m z year wi wy = wrote_then x m z _ _ wi (subst (λ c. StateAppends m (number_under (variant_of c) None None year) z) wi.same wy)
 
 -- a year, a month and a day, one after another
-pub wrote_numbers : (x m n z : State) (y : ℤ) (mo d : ℕ) → is_date y mo d ≡ true → mo < 65536 → d < 65536 → Wrote x (year_writer (variant_of x.codec) y) m
-    → Wrote m (number_under (variant_of m.codec) (Some (pos 1)) (Some (pos 12)) (pos mo)) n → Wrote n (number_under (variant_of n.codec) (Some (pos 1)) (Some (pos 31)) (pos d)) z
-    → Wrote x (date_of (variant_of x.codec) y mo d) z
+pub wrote_numbers : (x m n z : State) (y : ℤ) (mo d : ℕ) → is_date y mo d ≡ true → mo < 65536 → d < 65536 → StateAppends x (year_writer (variant_of x.codec) y) m
+    → StateAppends m (number_under (variant_of m.codec) (Some (pos 1)) (Some (pos 12)) (pos mo)) n → StateAppends n (number_under (variant_of n.codec) (Some (pos 1)) (Some (pos 31)) (pos d)) z
+    → StateAppends x (date_of (variant_of x.codec) y mo d) z
 unfolding date_of
 wrote_numbers x m n z y mo d l h k wy wm wd =
     let a = variant_of x.codec in
     let month = ap (λ c. number_under (variant_of c) (Some (pos 1)) (Some (pos 12)) (pos mo)) wy.same ∙ under_both a 1 12 mo h in
     let days = ap (λ c. number_under (variant_of c) (Some (pos 1)) (Some (pos 31)) (pos d)) (wm.same ∙ wy.same) ∙ under_both a 1 31 d k in
-    subst (λ (b : Bool). Wrote x (written_if b (year_writer a y ▹ constrained_whole a 12 (mo - 1) ▹ constrained_whole a 31 (d - 1))) z) (sym l)
-    (wrote_then x m z _ _ wy (wrote_then m n z _ _ (subst (λ (f : Writer). Wrote m f n) month wm) (subst (λ (f : Writer). Wrote n f z) days wd)))
+    subst (λ (b : Bool). StateAppends x (written_if b (year_writer a y ▹ constrained_whole a 12 (mo - 1) ▹ constrained_whole a 31 (d - 1))) z) (sym l)
+    (wrote_then x m z _ _ wy (wrote_then m n z _ _ (subst (λ (f : Writer). StateAppends m f n) month wm) (subst (λ (f : Writer). StateAppends n f z) days wd)))
 
 -- what writes the numbers of a day writes the day
 pub date_law : (x z : State) (y : ℤ) (mo d : ℕ) (result : Result (Unit {0}) EncodeError) → Puts IsMemory (date_of (variant_of x.codec) y mo d) x result z

@@ -8,7 +8,7 @@ use Rattle.std.proofs.lemmas.Fn.{always_returns_same}
 use Rattle.rasn_types.specs.Values.{before, put, sorted}
 use Rattle.per_core.specs.Canon.{ascending, octet_key}
 use Rattle.per_core.specs.Writers.{Writer, complete}
-use Rattle.per_pieces.specs.Pieces.{Piece, settle, settled}
+use Rattle.per_pieces.specs.Pieces.{Piece, placed_bits, writer_of}
 use Rattle.per_write_types.specs.declared.members.Member.{Member}
 use Rattle.per_write_types.specs.Members.{AreKeyed, Every, IsKeyed, comes_before, pieces_of, writers_of}
 use Rattle.per_write_types.proofs.MemberOrder.{before_is, weak}
@@ -47,15 +47,15 @@ module _ {X : Type 0} (P : X → Type 0) (less : X → X → Bool) where
 module _ {A : Type 0} where
   -- how a member is written
   abbrev written : Member A → Writer
-  written m = settled m.pieces.list
+  written m = writer_of m.pieces.list
 
   all_written : (ms : List (Member A)) → writers_of (pieces_of ms) ≡ map written ms
   all_written [] = refl
   all_written (m ∷ ms) = ap (λ l. written m ∷ l) (all_written ms)
 
-  same_order : (m n : Member A) → IsKeyed m → IsKeyed n → before (octet_key (settled m.pieces.list 0)) (octet_key (settled n.pieces.list 0)) ≡ comes_before m n
+  same_order : (m n : Member A) → IsKeyed m → IsKeyed n → before (octet_key (writer_of m.pieces.list 0)) (octet_key (writer_of n.pieces.list 0)) ≡ comes_before m n
   same_order m n h k =
-      ap (λ z. before z (complete (settle n.pieces.list 0))) (sym h) ∙ ap (λ z. before m.key.items z) (sym k)
+      ap (λ z. before z (complete (placed_bits n.pieces.list 0))) (sym h) ∙ ap (λ z. before m.key.items z) (sym k)
 
   module _ (ms ns : List (Member A)) (keyed : AreKeyed ms) (up : IsSortedBy comes_before ns) (stable : IsStableBy comes_before ms ns) where
     one_list : ns ≡ sorted comes_before ms

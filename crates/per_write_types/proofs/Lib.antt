@@ -1,5 +1,4 @@
 pub mod Constrained
-pub mod Elements
 pub mod Enumerations
 pub mod Moments
 pub mod Placing

@@ -22,9 +22,9 @@ use Rattle.rasn_times.specs.declared.error.TimeError.TheVariants.{Unrepresentabl
 use Rattle.per_write.specs.Characters.{text_characters}
 use Rattle.per_write.specs.Faults.{at_once, IsError, IsMemory, RefusesValue, Stands}
 use Rattle.per_write.specs.Items.{PutsItems, unconstrained_items}
-use Rattle.per_write_types.specs.Moments.{Unwritten}
+use Rattle.per_write_types.specs.Times.{Unwritten}
 use Rattle.per_write.specs.Rules.{encoder_rules}
-use Rattle.per_write.specs.State.{State, Wrote, Puts}
+use Rattle.per_write.specs.State.{State, StateAppends, Puts}
 use Rattle.per_write.proofs.Refusing.{none_counted}
 use Rattle.per_write.proofs.Writing.{wrote_same}
 
@@ -42,7 +42,7 @@ pub identifier_law : (x y : State) (arcs taken : List ℕ) (result : Result (Uni
     → Puts IsMemory (unconstrained_octets (variant_of x.codec) taken) x result y → Written encoder_rules Schema.identifier (identifier_value arcs) x result y
 identifier_law x y arcs taken (Ok u) t l p =
     let h = ap (unconstrained_octets (variant_of x.codec)) t ∙ identifier_bits (variant_of x.codec) (contents arcs) (is_identifier-contents arcs ∙ l) in
-    subst (λ (g : Writer). Wrote x g y) h p.ok
+    subst (λ (g : Writer). StateAppends x g y) h p.ok
 identifier_law x y arcs taken (Err e) t l p = inl p.err
 
 refused_identifier : (e : EncodeError) (x : State) (os : List ℕ) → IsError Below e x → is_identifier os ≡ false → RefusesValue e x Schema.identifier (octets os)

@@ -17,7 +17,7 @@ use Rattle.per_write.specs.declared.error.EncodeErrorKind.TheVariants.{SizeConst
 use Rattle.per_write.specs.Faults.{HasElement, element_here, element_behind, IsForeign, IsOutOfBounds, IsOutOfSize, IsPastBounds, IsReal, IsUnlawful, OutsideSize, RefusesValue, Stands, StandsIn, at_once, in_addition, in_alternative, in_element, in_member, in_part, in_set}
 use Rattle.per_write.specs.Items.{HasRefused, refused_behind, refused_here}
 use Rattle.per_write.specs.State.{State}
-use Rattle.per_write_types.proofs.Elements.{length-forms}
+use Rattle.per_write.proofs.Elements.{length-forms}
 use Rattle.per_write.proofs.Refusing.{none_counted, none_outside}
 use Rattle.per_write_types.proofs.BagOrder.{element_sorted, length_sorted}
 

@@ -1,7 +1,6 @@
-pub mod Alternatives
-pub mod Lists
-pub mod Moments
-pub mod Numbers
+pub mod Choices
+pub mod Times
+pub mod Integers
 pub mod Written
 pub mod Members
 pub mod Bags

@@ -2,19 +2,19 @@
 use Rattle.std.specs.Prelude.{◌≡◌, ℕ, Bool, List, [], ◌∷◌, map}
 use Rattle.rasn_types.specs.Values.{before}
 use Rattle.per_core.specs.Writers.{Writer, complete}
-use Rattle.per_pieces.specs.Pieces.{Piece, settle, settled}
+use Rattle.per_pieces.specs.Pieces.{Piece, placed_bits, writer_of}
 use Rattle.per_write_types.specs.declared.members.Member.{Member}
 
 -- X.691 22: what a member is sorted by is its complete encoding
 abbrev pub IsKeyed : {A : Type 0} → Member A → Type 0
-IsKeyed m = m.key.items ≡ complete (settle m.pieces.list 0)
+IsKeyed m = m.key.items ≡ complete (placed_bits m.pieces.list 0)
 
 -- a fact of each
 abbrev pub Every : {X : Type 0} → (X → Type 0) → List X → Type 0
 Every P [] = Unit {0}
 Every P (x ∷ xs) = P x × Every P xs
 
--- the same of each member
+-- each member is kept with its complete encoding
 abbrev pub AreKeyed : {A : Type 0} → List (Member A) → Type 0
 AreKeyed = Every IsKeyed
 
@@ -24,7 +24,7 @@ pieces_of = map (λ m. m.pieces.list)
 
 -- how the members are written
 abbrev pub writers_of : List (List Piece) → List Writer
-writers_of = map settled
+writers_of = map writer_of
 
 -- a member comes before another
 abbrev pub comes_before : {A : Type 0} → Member A → Member A → Bool

@@ -5,13 +5,13 @@ ghost use Rattle.std.specs.Prelude.{◌≡◌, false};
 ghost use Rattle.rasn_schema.specs.Forms.{is_size_marked, size_of};
 ghost use Rattle.rasn_traits.specs.Bags.{ClosesBag, OpensBag, WritesMember};
 ghost use Rattle.per_write_types.specs.Members.{writers_of};
-ghost use Rattle.per_write_types.specs.Bags.{AmidBag, KeepsMember, PutsMembers};
+ghost use Rattle.per_write_types.specs.Bags.{IsOpenBag, KeepsMember, PutsMembers};
 ghost use Rattle.per_write.specs.Rules.{encoder_rules};
 
-use crate::lists::{OpenList, begin_list, close_list, next_element};
 use crate::members::Members;
 use per_write::error::EncodeError;
-use per_write::{Waiting, Writer};
+use per_write::lists::{UnwrittenElements, begin_list, close_list, next_element};
+use per_write::{OutsideUnplaced, Writer};
 use rasn_schema::schema::Constraints;
 use std::alloc::Allocator;
 use std::marker::Model;
@@ -20,11 +20,11 @@ use std::marker::Model;
 #[derive(Drop)]
 pub struct OpenBag<A: Allocator + Clone> {
     /// The list that the members are to stand in.
-    list: OpenList,
+    list: UnwrittenElements,
     /// The members that were written.
     members: Members<A>,
     /// What waits outside, once a member is begun.
-    waiting: Option<Waiting<A>>,
+    waiting: Option<OutsideUnplaced<A>>,
 }
 
 impl<A: Allocator + Clone> Model for OpenBag<A> {
@@ -43,7 +43,7 @@ impl<A: Allocator + Clone> OpenBag<A> {
         count: usize,
     ) -> Result<Self, EncodeError>
         requires { writer.old.failed ≡ false }
-        ensures { OpensBag encoder_rules AmidBag (size_of constraints.now) (is_size_marked constraints.now) count
+        ensures { OpensBag encoder_rules IsOpenBag (size_of constraints.now) (is_size_marked constraints.now) count
             writer.old result writer.new }
     {
         let alloc = writer.allocator()?;
@@ -58,10 +58,10 @@ impl<A: Allocator + Clone> OpenBag<A> {
     /// Goes on to the next member, which is written before its place is known.
     pub fn next_member(&mut self, writer: &mut Writer<A>) -> Result<(), EncodeError>
         requires { writer.old.failed ≡ false }
-        ensures { WritesMember encoder_rules AmidBag self.old writer.old result self.new writer.new }
+        ensures { WritesMember encoder_rules IsOpenBag self.old writer.old result self.new writer.new }
     {
         self.keep_member(writer)?;
-        let waiting = writer.open_floating()?;
+        let waiting = writer.open_unplaced()?;
         self.waiting = Some(waiting);
         Ok(())
     }
@@ -69,7 +69,7 @@ impl<A: Allocator + Clone> OpenBag<A> {
     /// Closes a SET OF of which all members were written: they are put in ascending order of their complete encodings.
     pub fn close(mut self, writer: &mut Writer<A>) -> Result<(), EncodeError>
         requires { writer.old.failed ≡ false }
-        ensures { ClosesBag encoder_rules AmidBag self writer.old result writer.new }
+        ensures { ClosesBag encoder_rules IsOpenBag self writer.old result writer.new }
     {
         self.keep_member(writer)?;
         let sorted = self.members.sort();
@@ -84,7 +84,7 @@ impl<A: Allocator + Clone> OpenBag<A> {
         ensures { KeepsMember self.old writer.old result self.new writer.new }
     {
         if let Some(waiting) = self.waiting.take() {
-            let pieces = writer.close_floating(waiting);
+            let pieces = writer.close_unplaced(waiting);
             let pushed = self.members.push(pieces);
             writer.unless_out_of_memory(pushed)?;
         }
@@ -95,7 +95,7 @@ impl<A: Allocator + Clone> OpenBag<A> {
 /// Writes the members of a list that was opened, one after another, and closes it.
 fn put_members<A: Allocator + Clone>(
     writer: &mut Writer<A>,
-    mut list: OpenList,
+    mut list: UnwrittenElements,
     members: &Members<A>,
 ) -> Result<(), EncodeError>
     requires { writer.old.failed ≡ false }

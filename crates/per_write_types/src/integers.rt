@@ -7,12 +7,12 @@ ghost use Rattle.rasn_constraints.specs.Bounds.{holds};
 ghost use Rattle.rasn_traits.specs.Calls.{Writes};
 ghost use Rattle.rasn_constraints.specs.Constraints.{bounds_of};
 ghost use Rattle.per_write.specs.Rules.{encoder_rules};
-ghost use Rattle.per_write_types.specs.Numbers.{PutsWithin, stated_number};
+ghost use Rattle.per_write_types.specs.Integers.{PutsWithin, stated_number};
 
 use per_bits::BitList;
 use per_write::Writer;
 use per_write::error::{EncodeError, EncodeErrorKind};
-use per_write::wholes::number_octets;
+use per_write::numbers::number_octets;
 use rasn_schema::constraints::{Bounded, Extensible};
 use rasn_schema::schema::IntegerType;
 use std::alloc::{AllocError, Allocator};

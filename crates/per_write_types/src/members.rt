@@ -76,7 +76,7 @@ impl<A: Allocator + Clone> Members<A> {
     pub fn push(&mut self, pieces: Pieces<A>) -> Result<(), AllocError>
         ensures { OnOk result (self.new ≡ self.old ++ pieces.list ∷ []) }
     {
-        let bits = pieces.to_settled()?;
+        let bits = pieces.to_placed()?;
         let key = complete(pieces.bits().allocator().clone()?, BitReader::new(&bits))?;
         self.list.push(Member { pieces, key })?;
         Ok(())

@@ -7,10 +7,10 @@ ghost use Rattle.rasn_traits.specs.Calls.{Writes};
 ghost use Rattle.rasn_schema.specs.Schemas.{Schema};
 ghost use Rattle.per_write.specs.Items.{PutsItems, unconstrained_items};
 ghost use Rattle.per_write.specs.Characters.{text_characters};
-ghost use Rattle.per_write_types.specs.Moments.{Unwritten};
+ghost use Rattle.per_write_types.specs.Times.{Unwritten};
 ghost use Rattle.per_write.specs.Rules.{encoder_rules};
 
-use crate::gathered::{Gathered, gather, put_gathered};
+use crate::bit_fields::{BitField, push_to_field, put_bit_field};
 use per_core::items::Item;
 use per_write::Writer;
 use per_write::error::{EncodeError, EncodeErrorKind};
@@ -50,15 +50,15 @@ impl Items for Text<'_> {
         end: usize,
     ) -> Result<(), EncodeError> {
         let width = self.alphabet.width();
-        let mut gathered = Gathered::new();
+        let mut gathered = BitField::new();
         for index in start..end {
             let character = character_at(self.characters, index).unwrap();
             let Some(code) = self.alphabet.encode(character) else {
                 return Err(writer.refuse(EncodeErrorKind::AlphabetConstraintNotSatisfied));
             };
-            gather(writer, &mut gathered, code, width)?;
+            push_to_field(writer, &mut gathered, code, width)?;
         }
-        put_gathered(writer, &gathered)
+        put_bit_field(writer, &gathered)
     }
 }
 

@@ -30,4 +30,5 @@ pub use rasn_schema::kinds::OfKind;
 pub use rasn_schema::schema::{AsnType, Constraints};
 pub use rasn_schema::types::{Class, Tag};
 pub use rasn_sets::{SetComponents, SetKind, SetRecord, ordered};
+pub use rasn_traits::de;
 pub use rasn_traits::parts::NoAdditions;

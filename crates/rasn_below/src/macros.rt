@@ -134,7 +134,8 @@ macro_rules! encode_record {
     };
 }
 
-/// The same, each component also stated by itself: put it in the other's place where the check refuses that.
+/// Writes the components of a list as `encode_components` does, each also stated by itself: put it in the place of
+/// `encode_components` where the check refuses that.
 #[macro_export]
 macro_rules! encode_each_component {
     ([$of:ident $encoder:ident] $($list:tt)*) => {{
@@ -155,7 +156,8 @@ macro_rules! decode_components {
     };
 }
 
-/// The same, each component also stated by itself: put it in the other's place where the check refuses that.
+/// Reads the components of a list as `decode_components` does, each also stated by itself: put it in the place of
+/// `decode_components` where the check refuses that.
 #[macro_export]
 macro_rules! decode_each_component {
     ([$decoder:ident] $($list:tt)*) => {{
@@ -333,7 +335,7 @@ macro_rules! components_to_write {
     ($of:ident [$a:ident $a_field:ident $a_bounds:tt] [$b:ident $b_field:ident $b_bounds:tt]
         [$c:ident $c_field:ident $c_bounds:tt] [$d:ident $d_field:ident $d_bounds:tt] $($rest:tt)*
     ) => {
-        $crate::fours::Four {
+        $crate::fours::FourCells {
             first: $crate::component!($a $a_bounds, &$of.$a_field),
             second: $crate::component!($b $b_bounds, &$of.$b_field),
             third: $crate::component!($c $c_bounds, &$of.$c_field),
@@ -431,7 +433,7 @@ macro_rules! value_of_cells {
         $crate::value_of_cells!([$crate::cells::Cell<$($only)*, $($cells)*>] $($rest)*)
     };
     ([$($cells:tt)*] [[$($a:tt)*] [$($b:tt)*] [$($c:tt)*] [$($d:tt)*]] $($rest:tt)*) => {
-        $crate::value_of_cells!([$crate::fours::Four<$($a)*, $($b)*, $($c)*, $($d)*, $($cells)*>] $($rest)*)
+        $crate::value_of_cells!([$crate::fours::FourCells<$($a)*, $($b)*, $($c)*, $($d)*, $($cells)*>] $($rest)*)
     };
 }
 
@@ -442,7 +444,7 @@ macro_rules! values_in_fours {
     ([$a:ident [$a_type:ty] $a_bounds:tt] [$b:ident [$b_type:ty] $b_bounds:tt]
         [$c:ident [$c_type:ty] $c_bounds:tt] [$d:ident [$d_type:ty] $d_bounds:tt] $($rest:tt)*
     ) => {
-        $crate::fours::Four {
+        $crate::fours::FourCells {
             first: $crate::component!($a $a_bounds, std::marker::PhantomData::<$a_type>),
             second: $crate::component!($b $b_bounds, std::marker::PhantomData::<$b_type>),
             third: $crate::component!($c $c_bounds, std::marker::PhantomData::<$c_type>),

@@ -5,7 +5,7 @@ ghost use Rattle.rasn_schema.specs.Components.{chosen_value, components_behind, 
 ghost use Rattle.rasn_schema.specs.Fields.{tag_of};
 ghost use Rattle.rasn_traits.specs.Choices.{TakesAlternative, WritesChosen};
 
-use crate::codec::{DecodeChoice, Decoder, DecoderExt, Encoder};
+use crate::codec::{Decoder, DecoderExt, Encoder, FromTag};
 use crate::kinds::{DecodeKind, EncodeKind};
 use rasn_schema::alternatives::{Alternatives, ChoiceKind};
 use rasn_schema::kinds::OfKind;
@@ -29,7 +29,7 @@ pub trait CodedAlternatives: Alternatives + Sized + Drop {
             decoder.old result decoder.new };
 }
 
-impl<T: CodedAlternatives + OfKind<Kind = ChoiceKind>> DecodeChoice for T {
+impl<T: CodedAlternatives + OfKind<Kind = ChoiceKind>> FromTag for T {
     fn from_tag<D: Decoder>(decoder: &mut D, tag: Tag) -> Result<T, D::Error> {
         T::decode_alternative(decoder, tag)
     }

@@ -109,11 +109,16 @@ pub trait Decode: AsnType + Sized + Drop {
     }
 }
 
-/// A CHOICE that can be decoded.
-pub trait DecodeChoice: Choice + Sized + Drop {
+/// A CHOICE whose alternatives can be read, each by its tag.
+pub trait FromTag: Choice + Sized + Drop {
     /// Reads the alternative that goes by a tag: its own, or the smallest of a nested untagged choice, which is read
     /// whole. The tag is one of `VARIANTS` or of `EXTENDED_VARIANTS`.
     fn from_tag<D: Decoder>(decoder: &mut D, tag: Tag) -> Result<Self, D::Error>
         ensures { TakesAlternative D.rules (choices_of Self.alternatives Self.EXTENDED_VARIANTS Self.added)
             Self.VARIANTS Self.EXTENDED_VARIANTS (tag_of tag) Self.value decoder.old result decoder.new };
 }
+
+/// A CHOICE that can be decoded, also by the tag of an alternative: each type that has `FromTag` and `Decode`.
+pub trait DecodeChoice: FromTag + Decode {}
+
+impl<T: FromTag + Decode> DecodeChoice for T {}

@@ -9,7 +9,7 @@ ghost use Rattle.rasn_traits.specs.Presences.{slot_of};
 ghost use Rattle.rasn_traits.specs.Calls.{Reads};
 ghost use Rattle.rasn_schema.specs.Choices.{choice_at};
 
-use crate::codec::{Decode, DecodeChoice};
+use crate::codec::{Decode, FromTag};
 use rasn_schema::schema::Constraints;
 use rasn_traits::decoder::Decoder;
 use rasn_types::types::Tag;
@@ -140,7 +140,7 @@ pub trait DecoderExt: Decoder {
     }
 
     /// Reads a CHOICE (X.691 23): its index, and the alternative that goes by the tag at its place.
-    final fn decode_choice<C: DecodeChoice>(
+    final fn decode_choice<C: FromTag>(
         &mut self,
         _constraints: &Constraints,
     ) -> Result<C, Self::Error>

@@ -2,6 +2,7 @@
 
 use crate::codec::{Decode, Decoder, Encode, Encoder};
 use rasn_schema::schema::Constraints;
+use rasn_traits::de::Octets;
 use rasn_types::bit_string::BitString;
 use rasn_types::octet_strings::{Any, OctetString};
 use rasn_types::types::{Identifier, Tag};

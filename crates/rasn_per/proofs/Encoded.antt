@@ -11,7 +11,7 @@ use Rattle.rasn_schema.specs.Normal.{normal}
 use Rattle.rasn_traits.specs.Calls.{AtDepths}
 use Rattle.per_core.specs.Writers.{join, just, ◌▹◌}
 use Rattle.per_core.specs.Canon.{canon, bytes, completed}
-use Rattle.per_pieces.specs.Pieces.{Pieces, no_pieces, settled}
+use Rattle.per_pieces.specs.Pieces.{Pieces, no_pieces, writer_of}
 use Rattle.per_write.specs.State.{Scope, State, fresh, view, Presents}
 use Rattle.per_write.specs.Faults.{IsMemory, IsInValue, RefusesOutput, RefusesValue, Stands, output_fault}
 use Rattle.per_write.specs.declared.error.EncodeError.{EncodeError}
@@ -27,7 +27,7 @@ presented : (x : State) (s : Schema) (v : Value) (y : State) (octets : List ℕ)
 unfolding bytes
 presented x s v y octets e h k =
     let w : view y 0 ≡ (view x ▹ canon (variant_of x.codec) s v) 0 = h.appended.written 0 (λ t. refl) in
-    let z : view y 0 ≡ join [] (canon (variant_of x.codec) s v 0) = w ∙ ap (λ (u : Pieces). (settled u.list ▹ canon (variant_of x.codec) s v) 0) e in
+    let z : view y 0 ≡ join [] (canon (variant_of x.codec) s v 0) = w ∙ ap (λ (u : Pieces). (writer_of u.list ▹ canon (variant_of x.codec) s v) 0) e in
     ap completed (sym (z ∙ join-nil (canon (variant_of x.codec) s v 0))) ∙ k
 
 unfailed : true ≡ false → ⊥

@@ -16,8 +16,7 @@ use Rattle.rasn_per.specs.Complete.{AreBytes, HasNoBytes, reading, basically, Ar
 use Rattle.rasn_per.specs.Kinds.{IsInFront, IsInOctetsBy}
 
 -- A value is written by the schema of its type: its canonical bytes, or, memory aside, a refusal only where it has
--- none, whose kind
--- names a fault of the value.
+-- none, whose kind names a fault of the value.
 pub record Encoded {Z : Type 0} (codec : Codec) (schema : ℕ → Schema) (levels : ℕ) (v : Value)
     (result : Result (Vec ℕ Z) EncodeError) : Type 0 where
   pub ok : IfOk result (λ octets. AreBytes (variant_of codec) schema levels v octets.items)
@@ -26,7 +25,8 @@ pub record Encoded {Z : Type 0} (codec : Codec) (schema : ℕ → Schema) (level
       (λ s. IsInValue e.kind s (normal s v)))
   pub variant : IfErr result (λ e. e.codec ≡ codec)
 
--- The same where a buffer takes the bytes, in place of what it held. It is empty after a refusal.
+-- A value is written by the schema of its type into a buffer, in place of what it held: its canonical bytes, or, memory
+-- aside, a refusal only where it has none, whose kind names a fault of the value. The buffer is empty after a refusal.
 pub record EncodedInto (codec : Codec) (schema : ℕ → Schema) (levels : ℕ) (v : Value)
     (result : Result (Unit {0}) EncodeError) (buffer : List ℕ) : Type 0 where
   pub ok : OnOk result (AreBytes (variant_of codec) schema levels v buffer)
@@ -37,8 +37,7 @@ pub record EncodedInto (codec : Codec) (schema : ℕ → Schema) (levels : ℕ) 
   pub variant : IfErr result (λ e. e.codec ≡ codec)
 
 -- Octets are read by the schema of a type, padding being zero where it must: the value that they spell and no other,
--- or, memory aside, a
--- refusal only where they spell none, whose kind names a fault of the octets.
+-- or, memory aside, a refusal only where they spell none, whose kind names a fault of the octets.
 pub record DecodedBy {T : Type 0} (strict : Bool) (codec : Codec) (schema : ℕ → Schema) (value : T → Value)
     (octets : List ℕ) (result : Result T DecodeError) : Type 0 where
   pub ok : IfOk result (λ x. AreReadBy (reading strict (variant_of codec)) schema (value x) octets)
@@ -55,9 +54,8 @@ abbrev pub DecodedZeroPadded : {T : Type 0} → Codec → (ℕ → Schema) → (
     → Type 0
 DecodedZeroPadded = DecodedBy true
 
--- The same of octets that may go on behind a value, with padding of any value: the value that they begin with, and the
--- rest, and no other; or a refusal only where
--- they begin with none.
+-- Octets that may go on behind a value are read, with padding of any value: as the value that they begin with, and the
+-- rest, and no other; or, memory aside, they are refused only where they begin with none.
 pub record DecodedFront {T : Type 0} (codec : Codec) (schema : ℕ → Schema) (value : T → Value) (octets : List ℕ)
     (result : Result (T × Bor (List ℕ)) DecodeError) : Type 0 where
   pub ok : IfOk result (λ x. BeginWith (variant_of codec) schema (value x.0) octets x.1.now)

@@ -35,7 +35,7 @@ pub record AreReadBy (a : Settings) (schema : ℕ → Schema) (v : Value) (octet
 abbrev pub AreUnreadBy : Settings → (ℕ → Schema) → List ℕ → Type 0
 AreUnreadBy a schema octets = (v : Value) → read a schema v octets → ⊥
 
--- the same where padding has any value
+-- within 128 levels octets are read as a value, and as no other, where padding has any value
 abbrev pub AreReadAs : Variant → (ℕ → Schema) → Value → List ℕ → Type 0
 AreReadAs a = AreReadBy (basically a)
 

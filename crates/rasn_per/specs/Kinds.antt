@@ -32,20 +32,20 @@ pub record LeaveOver (a : Settings) (schema : ℕ → Schema) (octets : List ℕ
   pub zeros : ZeroIf a.strict (spare left)
 
 -- What a kind says of the octets, or of their front, as a type's schema reads them within 128 levels. That they end
--- early, or aren't as
--- they have to be, is shown by tests alone.
+-- early, or aren't as they have to be, is shown by tests alone.
 abbrev pub IsInFront : Settings → (ℕ → Schema) → List ℕ → DecodeErrorKind → Type 0
 IsInFront a schema octets (Incomplete missing) = Unit {0}
 IsInFront a schema octets (ParserFail cause) = Unit {0}
 IsInFront a schema octets OutOfMemory = Unit {0}
 IsInFront a schema octets k = IsInBits a k (schema 128) (unpack octets)
 
--- The same where all octets have to be read: octets are left over behind the value, or in the open type of an addition.
+-- What a kind says of the octets, as a type's schema reads them within 128 levels, where all of them have to be read:
+-- octets are left over behind the value, or in the open type of an addition.
 abbrev pub IsInOctetsBy : Settings → (ℕ → Schema) → List ℕ → DecodeErrorKind → Type 0
 IsInOctetsBy a schema octets (UnexpectedExtraData over) = LeaveOver a schema octets over
     ⊎ IsInBits a (UnexpectedExtraData over) (schema 128) (unpack octets)
 IsInOctetsBy a schema octets k = IsInFront a schema octets k
 
--- and where padding has any value
+-- what a kind says of octets that all have to be read, where padding has any value
 abbrev pub IsInOctets : Variant → (ℕ → Schema) → List ℕ → DecodeErrorKind → Type 0
 IsInOctets a = IsInOctetsBy (basically a)

@@ -18,7 +18,9 @@ pub fn decoded_items_are_few<T: Decode>()
         AnswersFew (T.schema constraints) T.value octets result }
 {}
 
-/// The same of what octets begin with, for each bit of the octets in front of the remainder (X.691, 11.9, 19.5).
+/// What is decoded of the octets that others begin with has at most 65535 items, and 8192 for each bit of the octets in
+/// front of the remainder; and so has each value within it, but for a default that stands for an absent part (X.691,
+/// 11.9, 19.5).
 pub fn decoded_items_in_front_are_few<T: Decode>()
     ensures { (codec : Codec) (octets : List ℕ) (result : Result (T × Bor (List ℕ)) DecodeError)
         → DecodedFront codec (T.schema T.CONSTRAINTS) T.value octets result →

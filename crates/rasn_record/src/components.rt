@@ -85,7 +85,7 @@ pub trait Defaulted: AsnType + Sized {
     fn is_default(&self, default: &Self) -> bool
         ensures { TellsSame Self.schema (Self.levels self.now) (Self.value self.now) (Self.value default.now) result };
 
-    /// The same value again, in memory of `alloc`.
+    /// A copy of this value, in memory of `alloc`.
     fn copied(&self, alloc: Global) -> Result<Self, AllocError>
         ensures { IfOk result (λ x. Self.value x ≡ Self.value self.now) };
 }

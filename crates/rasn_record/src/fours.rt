@@ -19,7 +19,7 @@ use rasn_schema::schema::AsnType;
 
 /// Four components, and those behind them.
 #[derive(Clone, Copy)]
-pub struct Four<A, B, C, D, N> {
+pub struct FourCells<A, B, C, D, N> {
     /// The first component.
     pub first: A,
     /// The second one.
@@ -32,8 +32,8 @@ pub struct Four<A, B, C, D, N> {
     pub next: N,
 }
 
-impl<A: ByType, B: ByType, C: ByType, D: ByType, N: ByType> ByType for Four<A, B, C, D, N> {
-    const VALUE: Four<A, B, C, D, N> = Four {
+impl<A: ByType, B: ByType, C: ByType, D: ByType, N: ByType> ByType for FourCells<A, B, C, D, N> {
+    const VALUE: FourCells<A, B, C, D, N> = FourCells {
         first: A::VALUE,
         second: B::VALUE,
         third: C::VALUE,
@@ -42,7 +42,7 @@ impl<A: ByType, B: ByType, C: ByType, D: ByType, N: ByType> ByType for Four<A, B
     };
 }
 
-impl<A, B, C, D, N> EncodeCells for Four<A, B, C, D, N>
+impl<A, B, C, D, N> EncodeCells for FourCells<A, B, C, D, N>
 where
     A: EncodeComponent,
     B: EncodeComponent,
@@ -97,7 +97,7 @@ where
     }
 }
 
-impl<A, B, C, D, N> DecodeCells for Four<A, B, C, D, N>
+impl<A, B, C, D, N> DecodeCells for FourCells<A, B, C, D, N>
 where
     A: DecodeComponent,
     B: DecodeComponent,

@@ -7,7 +7,7 @@ ghost use Rattle.rasn_traits.specs.Scopes.{TakesParts, WritesParts};
 ghost use Rattle.rasn_record.specs.Sixteens.{greatest, typed, typed_parts};
 
 use crate::cells::{DecodeCells, EncodeCells, GivesBounds, OfRecord};
-use crate::fours::Four;
+use crate::fours::FourCells;
 use crate::{read, write};
 use rasn_codec::codec::{Decode, Decoder, Encode, Encoder};
 use rasn_schema::components::Components;
@@ -81,22 +81,22 @@ where
     ensures { WritesParts X.rules (parts_of T.components) (T.depth of.now) (T.contents of.now)
         encoder.old result encoder.new }
 {
-    let cells = Four {
+    let cells = FourCells {
         first: a,
         second: b,
         third: c,
         fourth: d,
-        next: Four {
+        next: FourCells {
             first: e,
             second: f,
             third: g,
             fourth: h,
-            next: Four {
+            next: FourCells {
                 first: i,
                 second: j,
                 third: k,
                 fourth: l,
-                next: Four {
+                next: FourCells {
                     first: m,
                     second: n,
                     third: o,
@@ -161,22 +161,22 @@ where
         R.contents xs.1.1.1.1.1.1.1.1.1.1.1.1.1.1.1.1.0)
         decoder.old result decoder.new }
 {
-    let cells = Four {
+    let cells = FourCells {
         first: PhantomData::<A>,
         second: PhantomData::<B>,
         third: PhantomData::<C>,
         fourth: PhantomData::<D>,
-        next: Four {
+        next: FourCells {
             first: PhantomData::<E>,
             second: PhantomData::<F>,
             third: PhantomData::<G>,
             fourth: PhantomData::<H>,
-            next: Four {
+            next: FourCells {
                 first: PhantomData::<I>,
                 second: PhantomData::<J>,
                 third: PhantomData::<K>,
                 fourth: PhantomData::<L>,
-                next: Four {
+                next: FourCells {
                     first: PhantomData::<M>,
                     second: PhantomData::<N>,
                     third: PhantomData::<O>,

@@ -16,7 +16,7 @@ abbrev pub canonised : Parts → Parts
 canonised no_parts = no_parts
 canonised (part t p s ps) = put_part (how_many_less (smallest t) (tags ps)) t p s (canonised ps)
 
--- the same to each number of levels
+-- components in ascending order of their smallest tags, to each number of levels
 abbrev pub canonised_at : (ℕ → Parts) → ℕ → Parts
 canonised_at parts n = canonised (parts n)
 

@@ -1,6 +1,5 @@
 -- Choices (X.680 29): their alternatives, each by its list, before the extension marker or behind it, and its place
--- there; and their
--- schemas to a number of levels.
+-- there; and their schemas to a number of levels.
 use Rattle.std.specs.Prelude.{ℕ, zero, suc, ◌≡◌, Bool, true, false, nat_le, List, [], ◌∷◌, ◌++◌, length, map, Option, Some, None, refl}
 use Rattle.std.proofs.Common.{ap, ◌∙◌}
 use Rattle.std.specs.List.{position_from}
@@ -83,13 +82,13 @@ alternative_in (Schema.choice ps qs marker) added i = alternative_at qs i
 alternative_in _ d i = None
 
 -- X.680 29: a choice of the alternatives before an extension marker and those behind it
-abbrev pub choice_of : Parts → Bool → Parts → Schema
-choice_of ps marker qs = Schema.choice ps qs marker
+abbrev pub choice_schema : Parts → Bool → Parts → Schema
+choice_schema ps marker qs = Schema.choice ps qs marker
 
 -- a choice with these variants behind an extension marker, where there is one, to a number of levels of its
 -- alternatives
 abbrev pub choices_of : (ℕ → Parts) → Option (List VariantShape) → (ℕ → Parts) → ℕ → Schema
-choices_of alternatives xs behind n = choice_of (alternatives n) (is_extensible xs) (behind n)
+choices_of alternatives xs behind n = choice_schema (alternatives n) (is_extensible xs) (behind n)
 
 -- a family of trees one level further in; with no level left it is cut off
 abbrev pub one_level_in : (ℕ → Schema) → ℕ → Schema
@@ -101,8 +100,7 @@ abbrev pub choice_at : (ℕ → Parts) → Option (List VariantShape) → (ℕ �
 choice_at alternatives xs behind = one_level_in (choices_of alternatives xs behind)
 
 -- X.680 29.3: alternatives that are told apart by their tags, those of both lists, and at most 65536 of them before the
--- marker (this
--- project's limit)
+-- marker (this project's limit)
 pub record AreVariants (vs : List VariantShape) (xs : Option (List VariantShape)) : Type 0 where
   pub distinct : are_distinct (go_by vs ++ go_by (variants_behind xs)) ≡ true
   pub few : nat_le (length vs) 65536 ≡ true

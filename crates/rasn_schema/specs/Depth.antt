@@ -42,12 +42,12 @@ unfoldable mutual
   meets_cut (Schema.choice ps adds ext) = in_alternative (meets_cut_at ps) (meets_cut_at adds)
   meets_cut _ = λ v. false
 
-  -- the same of a record's parts
+  -- whether a record's components meet a branch that is cut off
   pub slots_meet_cut : Parts → List (Option Value) → Bool
   slots_meet_cut no_parts = λ ss. false
   slots_meet_cut (part t p s ps) = in_slots (meets_cut s) (slots_meet_cut ps)
 
-  -- the same of the alternative at a place
+  -- whether the value of the alternative at a place meets a branch that is cut off
   pub meets_cut_at : Parts → ℕ → Value → Bool
   meets_cut_at no_parts = λ i v. false
   meets_cut_at (part t p s ps) = elim [ zero ↦ meets_cut s | suc i ↦ meets_cut_at ps i ]
@@ -74,7 +74,7 @@ mutual
     cut_choice : {ext : Bool} {ps qs adds bdds : Parts} → CutParts ps qs → CutParts adds bdds
         → CutOf (Schema.choice ps adds ext) (Schema.choice qs bdds ext)
 
-  -- the same of parts, additions or alternatives
+  -- the first parts, additions or alternatives are the second ones with branches cut off
   pub data CutParts : Parts → Parts → Type 0 where
     no_cut : CutParts no_parts no_parts
     cut_part : {t : TagTree} {p : Presence} {s s' : Schema} {ps ps' : Parts} → CutOf s s' → CutParts ps ps'

@@ -32,11 +32,11 @@ abbrev pub is_extensible : Option ℕ → Bool
 is_extensible None = false
 is_extensible (Some n) = true
 
--- so many items, without an extension marker
+-- an ENUMERATED of so many items, without an extension marker
 abbrev pub all_items : ℕ → ItemCounts
 all_items roots = record { roots = roots; addeds = None }
 
--- so many items before an extension marker and after it
+-- an ENUMERATED of so many items before an extension marker and after it
 abbrev pub extensible_items : ℕ → ℕ → ItemCounts
 extensible_items roots addeds = record { roots = roots; addeds = Some addeds }
 

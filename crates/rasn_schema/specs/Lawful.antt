@@ -192,12 +192,12 @@ unfoldable mutual
   is_value (Schema.sequence o ps ext adds) = if_fields (are_values ps) (are_values adds)
   is_value (Schema.choice ps adds ext) = if_alternative (is_value_at ps) (is_value_at adds)
 
-  -- the same of a record's parts
+  -- whether a record's components are values of its parts
   pub are_values : Parts → List (Option Value) → Bool
   are_values no_parts = none_left
   are_values (part t p s ps) = slots_pass (slot_passes p (is_value s)) (are_values ps)
 
-  -- the same of the value of the alternative at a place
+  -- whether a value is one of the alternative at a place
   pub is_value_at : Parts → ℕ → Value → Bool
   is_value_at no_parts = λ i v. false
   is_value_at (part t p s ps) = elim [ zero ↦ is_value s | suc i ↦ is_value_at ps i ]
@@ -215,8 +215,7 @@ IsLawfulPresence s group = is_group_schema s ≡ true
 IsLawfulPresence s (default d) = IsLawfulDefault s d
 
 -- X.680 27.3: a SEQUENCE or SET, parts aside: no addition group in the root, fewer than 65536 root parts with a
--- presence bit (this
--- project's limit), and lawful tags
+-- presence bit (this project's limit), and lawful tags
 pub record IsLawfulRecord (o : Order) (ps adds : Parts) : Type 0 where
   pub root_groups : no_groups ps ≡ true
   pub few_bits : nat_lt (presence_bits ps) 65536 ≡ true
@@ -231,8 +230,7 @@ unfoldable mutual
   unfolding leaves is_value normal meets_cut
 
   -- X.680: a lawful schema: its bounds and sizes are in order, its tags differ where they have to, its defaults are
-  -- values of their
-  -- schemas in normal form, and it keeps within the limits of this project; so does each schema in it
+  -- values of their schemas in normal form, and it keeps within the limits of this project; so does each schema in it
   pub IsLawful : Schema → Type 0
   IsLawful (Schema.number bounds mark range) = are_lawful_bounds bounds.low bounds.high ≡ true
   IsLawful (Schema.octet_string size mark) = is_lawful_size size.least size.most ≡ true
@@ -244,7 +242,7 @@ unfoldable mutual
   IsLawful (Schema.choice ps adds ext) = IsLawfulChoice ps adds × AreLawful ps × AreLawful adds
   IsLawful _ = Unit {0}
 
-  -- the same of parts, additions or alternatives
+  -- parts, additions or alternatives are lawful, each with all schemas in it
   pub AreLawful : Parts → Type 0
   AreLawful no_parts = Unit {0}
   AreLawful (part t p s ps) = IsLawfulPresence s p × IsLawful s × AreLawful ps

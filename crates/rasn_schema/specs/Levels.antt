@@ -49,7 +49,7 @@ mutual
 abbrev pub Levelled : (ℕ → Schema) → Type 0
 Levelled family = (n : ℕ) → ToLevels n (family n) (family (suc n))
 
--- the same of the lists of a record's components
+-- each list of a record's components is the next one to its number of levels
 abbrev pub LevelledParts : (ℕ → Parts) → Type 0
 LevelledParts parts = (n : ℕ) → PartsToLevels n (parts n) (parts (suc n))
 

@@ -85,12 +85,12 @@ unfoldable mutual
   normal (Schema.choice ps adds ext) = over_alternative (normal_at ps) (normal_at adds)
   normal _ = λ v. v
 
-  -- the same of a record's parts; a group that then holds nothing becomes absent
+  -- the normal forms of a record's components; a group that then holds nothing becomes absent
   pub normals : Parts → List (Option Value) → List (Option Value)
   normals no_parts = λ ss. ss
   normals (part t p s ps) = each_slot (λ v. settle p s (normal s v)) (normals ps)
 
-  -- the same of the value of the alternative at a place
+  -- the normal form of the value of the alternative at a place
   pub normal_at : Parts → ℕ → Value → Value
   normal_at no_parts = λ i v. v
   normal_at (part t p s ps) = elim [ zero ↦ normal s | suc i ↦ normal_at ps i ]

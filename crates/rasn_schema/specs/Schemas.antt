@@ -55,12 +55,10 @@ pub data Order : Type 0 where
 
 mutual
   -- X.680 8.1, X.691 10.3: a type with its effective constraints. `marked` says that the constraint is extensible,
-  -- `extensible` that
-  -- the type has an extension marker.
+  -- `extensible` that the type has an extension marker.
   pub data Schema : Type 0 where
     -- X.691 12, 18, 15, 11.2, 24, 32: BOOLEAN; NULL; REAL; octets of a type that isn't known; OBJECT IDENTIFIER; DATE;
-    -- and `cut`, where
-    -- the tree is cut off and nothing has an encoding
+    -- and `cut`, where the tree is cut off and nothing has an encoding
     boolean null real any identifier date cut : Schema
     -- X.691 30.6: a string that isn't a known-multiplier string
     text : TextKind → Schema

@@ -11,8 +11,7 @@ use Rattle.rasn_schema.specs.Schemas.{Schema, Parts, Order, listed, by_tag}
 use Rattle.rasn_schema.specs.Records.{record_at}
 
 -- X.680 8.4, table 1: the universal numbers of the types of a kind. Several string types are of one kind. A CHOICE
--- (X.680 29) and a
--- type that isn't known have no tag of their own, and 0 stands for it.
+-- (X.680 29) and a type that isn't known have no tag of their own, and 0 stands for it.
 abbrev pub universal_numbers : Schema → List ℕ
 universal_numbers Schemas.boolean = 1 ∷ []
 universal_numbers (Schemas.number b m r) = 2 ∷ []

@@ -41,7 +41,7 @@ pub trait Alternatives {
     // The variants are those of the root alternatives.
     ghost described: { ALTERNATIVES ≡ variants_in alternatives };
 
-    // And those behind the marker are those of the alternatives there.
+    // The variants behind the marker are those of the added alternatives.
     ghost extends: { ADDED_ALTERNATIVES ≡ added_variants added };
 
     // No two alternatives go by one tag, and there aren't too many.

@@ -129,7 +129,7 @@ pub trait Choice: AsnType {
     // The variants are those of the root alternatives.
     ghost described: { (n : ℕ) → VARIANTS ≡ variants_of (alternatives n) };
 
-    // And those behind the marker are those of the alternatives there.
+    // The variants behind the marker are those of the alternatives there.
     ghost extends: { (n : ℕ) → variants_behind EXTENDED_VARIANTS ≡ variants_of (added n) };
 
     // No two alternatives go by one tag, and there aren't too many.

@@ -137,7 +137,7 @@ pub trait Constructed: AsnType {
     // The fields are those of the components.
     ghost described: { (n : ℕ) → FIELDS ≡ shapes_from 0 (parts n) };
 
-    // And the fields behind the marker those of the additions, which stand behind a marker alone.
+    // The fields behind the marker are those of the additions, which stand behind a marker alone.
     ghost extends: { Extends IS_EXTENSIBLE EXTENDED_FIELDS additions };
 
     // The schema is the record of the components.

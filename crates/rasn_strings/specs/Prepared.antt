@@ -26,8 +26,7 @@ is_in_order own None = false
 is_in_order own (Some some) = rises_from 0 some && has_all own some
 
 -- what is kept fits the alphabet: the bits of a character, whether each is written as its own value (X.691 30.5.4), an
--- interval
--- of permitted characters, and whether the list is in order
+-- interval of permitted characters, and whether the list is in order
 pub record IsPrepared (own : List Interval) (permitted_list : Option (List ℕ)) (alphabet : Alphabet)
     (width : ℕ) (own_values : Bool) (run : Interval) (ascending : Bool) : Type 0 where
   pub ascends : ascend_from 0 own ≡ true

@@ -131,7 +131,8 @@ impl CharacterAlphabet {
         self.run.contains(character) || self.is_listed(character)
     }
 
-    /// The same, by a search in the list where it ascends, else by a walk through the intervals and the list.
+    /// Whether a character is permitted, by a search in the list where it ascends, else by a walk through the intervals
+    /// and the list.
     #[inline(never)]
     fn is_listed(&self, character: u32) -> bool
         ensures { result ≡ has self.now.characters character }

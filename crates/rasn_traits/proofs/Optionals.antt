@@ -8,13 +8,13 @@ use Rattle.rasn_schema.specs.Lawful.{has_bit, presence_bits}
 use Rattle.rasn_schema.specs.Schemas.{Presence, required, optional, group, default, Schema, Parts, no_parts, part}
 use Rattle.rasn_traits.specs.Calls.{EncoderRules, Written, PresentsWell, DecoderRules, DecodesWell, Refuses, Answers}
 use Rattle.rasn_traits.specs.Presences.{presence_bit, left_out}
-use Rattle.rasn_traits.specs.Optionals.{Marked, WrittenFreely}
+use Rattle.rasn_traits.specs.Optionals.{GivesPresence, WrittenFreely}
 use Rattle.rasn_traits.specs.Scopes.{PresentsPart, presents_required, presents_there, presents_left_out, RefusesPart, refuses_required, refuses_there, refuses_bit, WrittenPart, ReadsPart, reads_there, FaultyPart, faulty_there, faulty_bit}
 use Rattle.rasn_traits.proofs.Reading.{there, missing, optional_of}
 
 module _ {E X : Type 0} (rules : EncoderRules E X) (s : Schema) (x y : X) where
   -- a component that isn't there is its presence bit
-  pub bit_written : (p : Presence) (r : Option Value) (result : Result (Unit {0}) E) → presence_bit p r ≡ Some false → Marked rules false x result y → WrittenFreely rules p s r x result y
+  pub bit_written : (p : Presence) (r : Option Value) (result : Result (Unit {0}) E) → presence_bit p r ≡ Some false → GivesPresence rules false x result y → WrittenFreely rules p s r x result y
   bit_written p r (Ok u) e h = presents_left_out e h
   bit_written p r (Err d) e h = refuses_bit e h
 

@@ -116,7 +116,8 @@ pub record ClosesAddition {E X O : Type 0} (rules : EncoderRules E X) (opens : X
       → AdditionClosed rules s (Some v) x result y
   pub behaves : Behaves rules.already rules.failed rules.codec j result y
 
--- The same of a group: one that holds nothing is given as absent (X.691 19.9).
+-- A call that closes an open type in which a group was presented: it answers as one call that gives the addition, and a
+-- group that holds nothing is given as absent (X.691 19.9).
 pub record ClosesGroup {E X O : Type 0} (rules : EncoderRules E X) (opens : X → O → X → Type 0) (schema : ℕ → Schema)
     (o : O) (j : X) (result : Result (Unit {0}) E) (y : X) : Type 0 where
   pub law : (x i : X) (n : ℕ) (v : Value) → opens x o i → rules.presents i (schema n) v j

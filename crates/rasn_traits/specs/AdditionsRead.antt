@@ -77,8 +77,8 @@ pub record OpensAdditionToRead {E S O : Type 0} (rules : DecoderRules E S) (open
   pub behaves : Behaves rules.already rules.failed rules.codec s result t
 
 -- What holds of a decoder's open types. An addition is the value in its open type, up to its end: what is read there is
--- the addition, none is read in another
--- way, it takes no level, and a fault in the value, or at the end, is one of the addition.
+-- the addition, none is read in another way, it takes no level, and a fault in the value, or at the end, is one of the
+-- addition.
 pub record AdditionsWell {E S O : Type 0} (rules : DecoderRules E S) (unended : O → E → S → Type 0)
     (opens : S → O → S → Type 0) (closes : S → O → S → Type 0) : Type 0 where
   pub inside : (s : S) (o : O) (i : S) → opens s o i → rules.failed i ≡ false

@@ -51,8 +51,8 @@ pub record EncoderRules (E X : Type 0) : Type 1 where
   pub codec : X → Codec
 
 -- the rules of a call that takes no memory
-abbrev pub freely : {E X : Type 0} → EncoderRules E X → EncoderRules E X
-freely rules = record rules { memory = takes_none }
+abbrev pub without_memory : {E X : Type 0} → EncoderRules E X → EncoderRules E X
+without_memory rules = record rules { memory = takes_none }
 
 -- Ok presents the value, and Err, memory aside, comes only where that is refused.
 abbrev pub Written : {E X : Type 0} → EncoderRules E X → Schema → Value → X → Result (Unit {0}) E → X → Type 0
@@ -66,7 +66,7 @@ pub record Writes {E X : Type 0} (rules : EncoderRules E X) (s : Schema) (v : Va
   pub law : Written rules s v x result y
   pub behaves : Behaves rules.already rules.failed rules.codec x result y
 
--- The same of a call that writes the normal form of a value by a family of schemas, at each depth that holds it.
+-- A call of an encoder that writes the normal form of a value by a family of schemas, at each depth that holds it.
 pub record Encodes {E X : Type 0} (rules : EncoderRules E X) (schema : ℕ → Schema) (k : ℕ) (v : Value) (x : X)
     (result : Result (Unit {0}) E) (y : X) : Type 0 where
   pub law : AtDepths schema k (λ s. Written rules s (normal s v) x result y)

@@ -1,8 +1,6 @@
 -- What a call owes that writes or reads a choice (X.680 29), and what stands in it, stated over any codec's relations.
--- `choice` is the choice by the number of
--- levels of its alternatives, `vs` and `xs` are its variants before an extension marker and behind one, and `d` and `k`
--- are the list and the place there in which
--- an alternative stands.
+-- `choice` is the choice by the number of levels of its alternatives, `vs` and `xs` are its variants before an
+-- extension marker and behind one, and `d` and `k` are the list and the place there in which an alternative stands.
 use Rattle.std.specs.Prelude.{◌≡◌, ℕ, suc, ◌≤◌, ◌⊎◌, true, false, Result, Ok, Err, OnErr, IsErr, IsErrAnd, IfOk, IfSome, List, Option, Some, None}
 use Rattle.rasn_types.specs.Values.{Value, alternative, Side, root, added}
 use Rattle.rasn_types.specs.declared.types.Tag.{Tag}
@@ -40,8 +38,7 @@ pub record OpensChoice {E X O : Type 0} (rules : EncoderRules E X) (opens : Sche
   pub behaves : Behaves rules.already rules.failed rules.codec x result y
 
 -- A call that closes one, in which the alternative was presented that goes by a tag: it answers as one call that writes
--- the whole choice. A tag by which none
--- goes is refused.
+-- the whole choice. A tag by which none goes is refused.
 pub record ClosesChoice {E X O : Type 0} (rules : EncoderRules E X) (opens : Schema → X → O → X → Type 0)
     (choice : ℕ → Schema) (vs : List VariantShape) (xs : Option (List VariantShape)) (o : O) (t : Schemas.Tag) (j : X)
     (result : Result (Unit {0}) E) (y : X) : Type 0 where
@@ -155,8 +152,8 @@ pub record OpensToChoose {E S O : Type 0} (rules : DecoderRules E S) (opens : Sc
   pub behaves : Behaves rules.already rules.failed rules.codec s result t
 
 -- What holds of a decoder's choices. A choice is the alternative behind its index, up to the end of its open type: what
--- is read there is the choice, no choice is
--- read in another way, and a fault in the alternative, or at the end, is one of the choice.
+-- is read there is the choice, no choice is read in another way, and a fault in the alternative, or at the end, is one
+-- of the choice.
 pub record ChoicesWell {E S O : Type 0} (rules : DecoderRules E S) (unended : O → E → S → Type 0)
     (opens : Schema → Side → ℕ → S → O → S → Type 0) (closes : S → O → S → Type 0) : Type 0 where
   pub inside : (c : Schema) (d : Side) (k : ℕ) (s : S) (o : O) (i : S) → opens c d k s o i → rules.failed i ≡ false

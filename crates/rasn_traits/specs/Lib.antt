@@ -5,6 +5,7 @@ pub mod BagsRead
 pub mod Boxes
 pub mod Calls
 pub mod Choices
+pub mod Errors
 pub mod Lists
 pub mod Moments
 pub mod Scopes

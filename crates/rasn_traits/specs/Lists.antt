@@ -66,8 +66,7 @@ pub record ClosesList {E X L : Type 0} (rules : EncoderRules E X) (amid : Amid X
   pub behaves : Behaves rules.already rules.failed rules.codec y result z
 
 -- A relation of a decoder: the schema of a list's elements, its size, and whether that is extensible; what was before
--- the list, its elements that were read,
--- what is left of it, and how the decoder is now.
+-- the list, its elements that were read, what is left of it, and how the decoder is now.
 abbrev pub AmidRead : Type 0 → Type 0 → Type 1
 AmidRead S L = Schema → Size → Bool → S → List Value → L → S → Type 0
 
@@ -90,8 +89,8 @@ pub record OpensListToRead {E S L : Type 0} (rules : DecoderRules E S) (amid : A
   pub behaves : Behaves rules.already rules.failed rules.codec s result i
 
 -- The next element of a list, which began at s, stands at i, one level deeper: where it is read, the others are still
--- to be read; where none is, no list is; its fault
--- is one of the list; and want of memory there is want of memory of the whole.
+-- to be read; where none is, no list is; its fault is one of the list; and want of memory there is want of memory of
+-- the whole.
 pub record HasElement {E S L : Type 0} (rules : DecoderRules E S) (amid : AmidRead S L) (e : Schema) (size : Size)
     (mark : Bool) (s : S) (vs : List Value) (l : L) (i : S) : Type 0 where
   pub deeper : rules.levels s ≡ suc (rules.levels i)

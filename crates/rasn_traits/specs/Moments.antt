@@ -9,8 +9,7 @@ abbrev pub identifier_value : List ℕ → Value
 identifier_value arcs = octets (contents arcs)
 
 -- X.691 32: a DATE to a number of levels, of which it takes two: that of its SEQUENCE and that of its year's CHOICE;
--- with fewer left
--- it is cut off
+-- with fewer left it is cut off
 abbrev pub date_at : ℕ → Schema
 date_at zero = Schema.cut
 date_at (suc zero) = Schema.cut

@@ -7,14 +7,14 @@ use Rattle.rasn_traits.specs.Calls.{AtDepths, Behaves, EncoderRules, DecoderRule
 use Rattle.rasn_traits.specs.Scopes.{PresentsPart, RefusesPart, WrittenPart, ReadsPart, FaultyPart}
 
 -- Ok gives the next presence bit, and Err comes only where it is refused.
-abbrev pub Marked : {E X : Type 0} → EncoderRules E X → Bool → X → Result (Unit {0}) E → X → Type 0
-Marked rules b x (Ok u) y = rules.marks x b y
-Marked rules b x (Err e) y = rules.unmarked e x
+abbrev pub GivesPresence : {E X : Type 0} → EncoderRules E X → Bool → X → Result (Unit {0}) E → X → Type 0
+GivesPresence rules b x (Ok u) y = rules.marks x b y
+GivesPresence rules b x (Err e) y = rules.unmarked e x
 
 -- A call of an encoder that gives the next presence bit. It takes no memory.
 pub record GivesBit {E X : Type 0} (rules : EncoderRules E X) (b : Bool) (x : X) (result : Result (Unit {0}) E)
     (y : X) : Type 0 where
-  pub law : Marked rules b x result y
+  pub law : GivesPresence rules b x result y
   pub behaves : Behaves rules.already rules.failed rules.codec x result y
 
 -- A call that writes an optional component which is there, at each depth that holds it.

@@ -11,12 +11,11 @@ use Rattle.rasn_traits.specs.Presences.{presence_bit, left_out}
 use Rattle.rasn_schema.specs.Records.{record_at, record_value, AtParts}
 
 -- a record of these root components, without an extension marker
-abbrev pub record_of : Parts → Schema
-record_of ps = Schema.sequence listed ps false no_parts
+abbrev pub schema_of_parts : Parts → Schema
+schema_of_parts ps = Schema.sequence listed ps false no_parts
 
 -- One component is presented: a required one as its value; one that may be absent as its presence bit, and behind a bit
--- 1 its value
--- (X.691 19.2, 19.5).
+-- 1 its value (X.691 19.2, 19.5).
 pub data PresentsPart {E X : Type 0} (rules : EncoderRules E X) : Presence → Schema → X → Option Value → X
     → Type 0 where
   presents_required : {s : Schema} {x y : X} {v : Value} → rules.presents x s v y
@@ -162,8 +161,7 @@ pub record WritesAround {E X : Type 0} (rules : EncoderRules E X) (parts : ℕ �
   pub kept : KeepsCodec rules.codec returns → rules.codec y ≡ rules.codec x
 
 -- One component is read: a required one as its value; one that may be absent by its presence bit, and behind a bit 1 as
--- its value
--- (X.691 19.2, 19.5).
+-- its value (X.691 19.2, 19.5).
 pub data ReadsPart {E S : Type 0} (rules : DecoderRules E S) : Presence → Schema → S → Option Value → S → Type 0 where
   reads_required : {c : Schema} {s t : S} {v : Value} → rules.spells c s v t → ReadsPart rules required c s (Some v) t
   reads_there : {p : Presence} {c : Schema} {s m t : S} {r : Option Value} {v : Value}
@@ -276,8 +274,7 @@ pub record ReadsAround {E S T : Type 0} (rules : DecoderRules E S) (parts : ℕ 
   pub kept : KeepsCodec rules.codec returns → rules.codec t ≡ rules.codec s
 
 -- What holds of a decoder's scopes. A record is what stands in its scope, up to its end: what is read there is the
--- record, no record is read in another way, and
--- a fault in a component, or at the end, is one of the record.
+-- record, no record is read in another way, and a fault in a component, or at the end, is one of the record.
 pub record ScopesWell {E S O : Type 0} (rules : DecoderRules E S) (unended : O → E → S → Type 0)
     (opens : Schema → S → O → S → Type 0) (closes : S → O → S → Type 0) : Type 0 where
   pub inside : (c : Schema) (s : S) (o : O) (i : S) → opens c s o i → rules.failed i ≡ false

@@ -1,6 +1,5 @@
 -- What stands in the scope of a SET, stated over any codec's relations: its root components stand there in ascending
--- order of their
--- smallest tags, and then its additions, as they are listed (ITU-T X.691, 21.1).
+-- order of their smallest tags, and then its additions, as they are listed (ITU-T X.691, 21.1).
 use Rattle.std.specs.Prelude.{◌≡◌, ℕ, suc, Bool, true, List, Option, Result, OnErr, IsErrAnd, length}
 use Rattle.rasn_types.specs.Values.{Value}
 use Rattle.rasn_schema.specs.Canonised.{canonised, canonised_at, canonised_slots}
@@ -16,8 +15,7 @@ pub record InTagOrder (parts : ℕ → Parts) (rs cs : List (Option Value)) : Ty
   pub placed : (n : ℕ) → cs ≡ canonised_slots (parts n) rs
 
 -- What holds of an encoder's SETs: a SET is written as the SEQUENCE of its components in ascending order of their tags
--- is, and
--- what refuses that SEQUENCE refuses the SET (X.691 21.1).
+-- is, and what refuses that SEQUENCE refuses the SET (X.691 21.1).
 pub record SetsWritten {E X : Type 0} (rules : EncoderRules E X) : Type 0 where
   pub presented : (ps : Parts) (marker : Bool) (qs : Parts) (x y : X) (rs xs : List (Option Value))
       → rules.presents x (Schema.sequence listed (canonised ps) marker qs) (record_value (canonised_slots ps rs) xs) y
@@ -27,8 +25,7 @@ pub record SetsWritten {E X : Type 0} (rules : EncoderRules E X) : Type 0 where
       → rules.refuses e x (Schema.sequence by_tag ps marker qs) (record_value rs xs)
 
 -- A call that writes a SET by a function that is lent the encoder, and presents the root components in ascending order
--- of their
--- tags.
+-- of their tags.
 pub record WritesSet {E X : Type 0} (rules : EncoderRules E X) (parts : ℕ → Parts) (marker : Bool)
     (additions : ℕ → Parts) (returns : X → Result (Unit {0}) E → X → Type 0) (x : X) (result : Result (Unit {0}) E)
     (y : X) : Type 0 where
@@ -42,8 +39,7 @@ pub record WritesSet {E X : Type 0} (rules : EncoderRules E X) (parts : ℕ → 
   pub kept : KeepsCodec rules.codec returns → rules.codec y ≡ rules.codec x
 
 -- What holds of a decoder's SETs: a SET is read as the SEQUENCE of its components in ascending order of their tags is;
--- where none
--- is read, no SET is; and a fault of that SEQUENCE is one of the SET (X.691 21.1).
+-- where none is read, no SET is; and a fault of that SEQUENCE is one of the SET (X.691 21.1).
 pub record SetsWell {E S : Type 0} (rules : DecoderRules E S) : Type 0 where
   pub set_read : (ps : Parts) (marker : Bool) (qs : Parts) (s t : S) (rs xs : List (Option Value))
       → rules.spells (Schema.sequence listed (canonised ps) marker qs) s (record_value (canonised_slots ps rs) xs) t

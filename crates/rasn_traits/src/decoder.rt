@@ -1,12 +1,12 @@
 //! The trait of decoders.
 
-ghost use Rattle.std.specs.Prelude.{◌≡◌, ℕ, suc, true, false, IfOk, []};
-ghost use Rattle.std.specs.Cow.{cow_slice_items, IsOwnedSlice};
+ghost use Rattle.std.specs.Prelude.{◌≡◌, ◌↔◌, ℕ, Bool, suc, true, false, length, IfOk, []};
 ghost use Rattle.std.specs.Fn.{FnOnceReturnsAtMut};
 ghost use Rattle.std.specs.String.{string_bytes};
 ghost use Rattle.rasn_types.specs.Alphabets.{visible, ia5, printable, numeric, bmp};
 ghost use Rattle.rasn_types.specs.Contents.{utf8, other, utc, generalized};
 ghost use Rattle.rasn_types.specs.Values.{Side, truth, nothing, whole, octets, bits, characters};
+ghost use Rattle.rasn_constraints.specs.Bounds.{Size};
 ghost use Rattle.rasn_schema.specs.Canonised.{canonised_at};
 ghost use Rattle.rasn_schema.specs.Schemas.{Schema, listed};
 ghost use Rattle.rasn_schema.specs.Forms.{number_schema, octet_schema, bit_schema, character_schema};
@@ -19,12 +19,14 @@ ghost use Rattle.rasn_traits.specs.BagsRead.{BagsWell};
 ghost use Rattle.rasn_traits.specs.Optionals.{ReadsBit};
 ghost use Rattle.rasn_traits.specs.Calls.{DecoderRules, freely_read, Reads, DecodesWell};
 ghost use Rattle.rasn_traits.specs.Choices.{ChoicesWell, OpensToChoose};
+ghost use Rattle.rasn_traits.specs.Errors.{ErrorsWell};
 ghost use Rattle.rasn_traits.specs.Reals.{ReadsNoReal};
 ghost use Rattle.rasn_traits.specs.Lists.{AmidRead, OpensListToRead, ReadsNext};
 ghost use Rattle.rasn_traits.specs.Moments.{date_at, identifier_value};
 ghost use Rattle.rasn_traits.specs.Scopes.{OpensToRead, ClosesRead, ReadsAround, ScopesWell};
 ghost use Rattle.rasn_traits.specs.Sets.{ReadsSet, SetsWell};
 
+use crate::de;
 use crate::parts::{DecodeAdditions, DecodeParts};
 use rasn_schema::choices::Choice;
 use rasn_schema::enumerated::Enumerated;
@@ -38,14 +40,17 @@ use rasn_types::bit_string::BitString;
 use rasn_types::octet_strings::{Any, GeneralString, GraphicString, TeletexString, Utf8String};
 use rasn_types::types::{Codec, Tag};
 use std::alloc::Global;
-use std::borrow::CowSlice;
 
 /// What reads values, one after another. Each call takes the front of what is left that spells one value of one
 /// schema, or refuses.
 ///
 /// A refused decoder refuses from then on, and says so before anything else.
 pub trait Decoder: Sized {
-    type Error: Drop;
+    /// What it refuses by.
+    type Error: de::Error;
+
+    /// The octets of an OCTET STRING, as it answers them.
+    type Octets: de::Octets;
 
     /// What waits outside while a record is open.
     type Scope: Drop;
@@ -95,6 +100,10 @@ pub trait Decoder: Sized {
     // The fault that an error names stands at the end of an open type.
     ghost unended_addition: { Self.Addition → Self.Error → Self → Type 0 };
 
+    // Octets of an OCTET STRING are lent: its size and whether that has an extension marker, what was before, what is
+    // left behind them, and how many they are.
+    ghost lends: { Size → Bool → Self → Self → ℕ → Type 0 };
+
     /// The variant in use.
     fn codec(&self) -> Codec
         ensures { result ≡ rules.codec self.now };
@@ -138,15 +147,18 @@ pub trait Decoder: Sized {
     fn decode_any(&mut self, tag: Tag) -> Result<Any, Self::Error>
         ensures { Reads rules Schema.any (λ x. octets x) self.old result self.new };
 
-    /// Reads an OCTET STRING under constraints (X.691 17). The octets are `Owned`.
+    /// Reads an OCTET STRING under constraints (X.691 17). Octets that are lent aren't copied; which ones are is each
+    /// decoder's own.
     fn decode_octet_string(
         &mut self,
         tag: Tag,
         constraints: &Constraints,
-    ) -> Result<CowSlice<'static, u8>, Self::Error>
-        ensures read { Reads rules (octet_schema constraints.now) (λ x. octets (cow_slice_items x))
+    ) -> Result<Self::Octets, Self::Error>
+        ensures read { Reads rules (octet_schema constraints.now) (λ x. octets (Self.Octets.octets x))
             self.old result self.new }
-        ensures owned { IfOk result (λ x. IsOwnedSlice x) };
+        ensures lent { let size = size_of constraints.now in let mark = is_size_marked constraints.now in
+            IfOk result (λ x.
+            Self.Octets.lent x ↔ lends size mark self.old self.new (length (Self.Octets.octets x))) };
 
     /// Reads a BIT STRING under constraints (X.691 16).
     fn decode_bit_string(
@@ -218,12 +230,6 @@ pub trait Decoder: Sized {
     fn decode_date<D: CivilDate>(&mut self, tag: Tag) -> Result<D, Self::Error>
         ensures { Reads rules (date_at (rules.levels self.old)) (λ x. D.value x) self.old result self.new };
 
-    /// Refuses from now on, and answers that a required addition, which has this tag, isn't there.
-    fn required_extension_not_present(&mut self, tag: Tag) -> Self::Error
-        ensures lacking { rules.lacking (tag_of tag) result self.old }
-        ensures fails { rules.failed self.new ≡ true }
-        ensures kept { rules.codec self.new ≡ rules.codec self.old };
-
     /// Opens a SEQUENCE (X.691 19), which takes a level: the calls from here to `close_sequence` read its root
     /// components, in the order of `FIELDS`, and then its additions, in the order of `EXTENDED_FIELDS`. At no level
     /// left it refuses.
@@ -282,6 +288,17 @@ pub trait Decoder: Sized {
     fn fail(&mut self)
         ensures fails { rules.failed self.new ≡ true }
         ensures kept { rules.codec self.new ≡ rules.codec self.old };
+
+    /// Refuses from now on, and answers that a required addition, which has this tag, isn't there.
+    final fn required_extension_not_present(&mut self, tag: Tag) -> Self::Error
+        ensures lacking { rules.lacking (tag_of tag) result self.old }
+        ensures fails { rules.failed self.new ≡ true }
+        ensures kept { rules.codec self.new ≡ rules.codec self.old }
+    {
+        let codec = self.codec();
+        self.fail();
+        <Self::Error as de::Error>::required_extension_not_present(tag, codec)
+    }
 
     /// Reads a VisibleString under constraints (X.691 30.5).
     final fn decode_visible_string(
@@ -408,6 +425,9 @@ pub trait Decoder: Sized {
 
     // What holds of each decoder's relations.
     ghost lawful: { DecodesWell rules };
+
+    // What holds of each decoder's errors.
+    ghost errors: { ErrorsWell rules Self.Error.lacks };
 
     // What holds of each decoder's scopes.
     ghost scopes: { ScopesWell rules unended opens closes };

@@ -13,7 +13,7 @@ ghost use Rattle.rasn_schema.specs.Records.{record_at, record_value};
 ghost use Rattle.rasn_traits.specs.Additions.{ClosesAddition, ClosesGroup, OpensAddition, SkipsAddition};
 ghost use Rattle.rasn_traits.specs.Bags.{ClosesBag, OpensBag, WritesMember};
 ghost use Rattle.rasn_traits.specs.Optionals.{GivesBit};
-ghost use Rattle.rasn_traits.specs.Calls.{EncoderRules, freely, Writes, Encodes, PresentsWell};
+ghost use Rattle.rasn_traits.specs.Calls.{EncoderRules, without_memory, Writes, Encodes, PresentsWell};
 ghost use Rattle.rasn_schema.specs.Choices.{choices_of};
 ghost use Rattle.rasn_schema.specs.Fields.{tag_of};
 ghost use Rattle.rasn_traits.specs.Choices.{ClosesChoice, OpensChoice, WritesChoice};
@@ -110,7 +110,7 @@ pub trait Encoder: Sized {
 
     /// Writes a NULL, no bits (X.691 18). Takes no memory.
     fn encode_null(&mut self, tag: Tag, identifier: Identifier) -> Result<(), Self::Error>
-        ensures { Writes (freely rules) Schema.null nothing self.old result self.new };
+        ensures { Writes (without_memory rules) Schema.null nothing self.old result self.new };
 
     /// Writes an item of an ENUMERATED (X.691 14).
     fn encode_enumerated<E: Enumerated>(

@@ -35,7 +35,7 @@ unfoldable pub char_code : Variant → List ℕ → ℕ → Option ℕ
 unfolding width
 char_code a alphabet c = keep_own (nat_lt (greatest alphabet) (2 ^ char_width a alphabet)) c (index_of c alphabet)
 
--- so many numbers in a interval_of from the second on
+-- so many numbers in a row, from the second argument on
 abbrev pub from_to : ℕ → ℕ → List ℕ
 from_to zero c = []
 from_to (suc n) c = c ∷ from_to n (suc c)
@@ -52,7 +52,7 @@ printable = 32 ∷ (from_to 3 39 ++ from_to 16 43 ++ 61 ∷ 63 ∷ (from_to 26 6
 abbrev pub numeric : List ℕ
 numeric = 32 ∷ from_to 10 48
 
--- so many numbers in a interval_of, as a word that is not written out unasked
+-- so many numbers in a row, from the second argument on, as a word that is not written out unasked
 unfoldable pub interval_of : ℕ → ℕ → List ℕ
 interval_of n c = from_to n c
 

@@ -139,8 +139,7 @@ sorted less [] = []
 sorted less (x ∷ xs) = put less x (sorted less xs)
 
 -- X.680 28: the bag with these elements. A bag is kept as its elements in one order, that of their lists: so equal bags
--- are equal
--- values (this project's choice)
+-- are equal values (this project's choice)
 unfoldable pub bag_of : List Value → Value
 unfolding code
 bag_of vs = bag (as_values (sorted (λ v w. before (code v) (code w)) vs))

@@ -8,7 +8,7 @@ use Rattle.rasn_schema.specs.Levels.{ToLevels, PartsToLevels, to_leaf, to_date, 
 use Rattle.rasn_schema.specs.Schemas.{TagTree, Presence, required, optional, group, default, Order, Schema, Parts, no_parts, part}
 use Rattle.per_core.specs.Versions.{widen}
 use Rattle.per_core.proofs.Codes.{equal_lists_same, same_true}
-use Rattle.per_core.proofs.Lengths.{and_left, and_right}
+use Rattle.per_core.proofs.LengthForms.{and_left, and_right}
 use Rattle.per_laws.specs.Successors.{DefaultSucceeds, PresenceSucceeds, Succeeds, SucceedsParts, succeeds_itself, succeeds_items, succeeds_list, succeeds_set_of, succeeds_sequence, succeeds_choice, none_succeed, added_parts, succeeds_part}
 use Rattle.rasn_versions.specs.Alike.{is_whole, same_bounds, same_order, same_size, same_text, same_time, same_tree, same_truth}
 use Rattle.rasn_versions.specs.Compared.{compare_leaf, compare_list, compare_set_of, compare_sequence, compare_choice, is_made, is_widened, compare_presence, compare_end, compare_part, compare, compare_parts}

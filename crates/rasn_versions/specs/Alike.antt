@@ -62,7 +62,7 @@ abbrev mutual
   is_whole (Schema.choice ps adds ext) = are_whole ps && are_whole adds
   is_whole _ = true
 
-  -- the same of parts
+  -- whether no branch of the schemas of parts is cut off
   pub are_whole : Parts → Bool
   are_whole no_parts = true
   are_whole (part t p s ps) = is_whole s && are_whole ps

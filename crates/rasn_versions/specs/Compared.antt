@@ -102,11 +102,12 @@ abbrev mutual
   compare (Schema.choice ps adds ext) = compare_choice ext (compare_parts false ps 0) (compare_parts ext adds 0)
   compare s = compare_leaf s
 
-  -- the same of components, counted from a number; the truth value says whether some may have been added
+  -- what isn't allowed in newer components beside older ones, counted from a number; the truth value says whether some
+  -- may have been added
   pub compare_parts : Bool → Parts → ℕ → Parts → Verdict
   compare_parts may no_parts = compare_end
   compare_parts may (part t p s ps) = compare_part may t p s (compare s) (compare_parts may ps)
 
--- the same of types, in their trees of 128 levels
+-- what isn't allowed in a newer type beside an older one, in their trees of 128 levels
 abbrev pub comparison : (ℕ → Schema) → (ℕ → Schema) → Verdict
 comparison newer older = compare (newer 128) (older 128)

@@ -21,7 +21,8 @@ pub record IsNewerComponent (new old : Component) : Type 0 where
   pub presence : (n : ℕ) → NewerPresence (new.schema n) (old.schema n) new.presence old.presence
   pub schema : NewerType new.schema old.schema
 
--- the same of lists; the truth value says whether some may have been added at the end
+-- components of the newer version, each in the place of one of the older version; the truth value says whether some may
+-- have been added at the end
 abbrev pub AreNewer : Bool → List Component → List Component → Type 0
 AreNewer may [] [] = Unit {0}
 AreNewer true (c ∷ cs) [] = Unit {0}

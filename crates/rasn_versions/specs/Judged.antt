@@ -60,12 +60,12 @@ abbrev mutual
       (both (within in_root (judge_parts 0 ps)) (within in_additions (judge_parts 0 adds)))
   judge _ = allowed
 
-  -- the same of components, counted from a number
+  -- what isn't lawful in components, counted from a number
   pub judge_parts : ℕ → Parts → Verdict
   judge_parts i no_parts = allowed
   judge_parts i (part t p s ps) =
       both (within (at_place i) (both (judge s) (judge_presence s p))) (judge_parts (suc i) ps)
 
--- the same of a type, in its tree of 128 levels
+-- what isn't lawful in a type, in its tree of 128 levels
 abbrev pub judgement : (ℕ → Schema) → Verdict
 judgement type = judge (type 128)

@@ -45,7 +45,8 @@ const BITS: Long = (&[0xc1], 2048, &[0x00]);
 /// An addition that isn't known, in an open type of a fragment of 16384 octets.
 const ALIGNED_ADDITION: Long = (&[0xc0, 0x20, 0xc1], 16384, &[0x00]);
 
-/// The same in the UNALIGNED variant, where no part of it is on the boundary of an octet.
+/// An addition that isn't known, in an open type of a fragment of 16384 octets, in the UNALIGNED variant, where no part
+/// of it is on the boundary of an octet.
 const ADDITION: Long = (&[0xc0, 0x70], 16384, &[0x40, 0x00]);
 
 /// A fragment of 16384 characters, and none more.

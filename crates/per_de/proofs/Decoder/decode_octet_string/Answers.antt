@@ -16,7 +16,7 @@ lent-requires c =
 pub returns-in_default-clause-lent : goal.returns-in_default-clause-lent
 returns-in_default-clause-lent c =
     copied_unlent c.args.self.now (size_of c.args.constraints.now) (is_size_marked c.args.constraints.now) c.len-left.result _ c.in_ok-check_unfailed.ensures.ok c.reader-reader.ensures (c.len-left.ensures ∙ ap length c.bits.ensures)
-    c.in-Ok.count c.in-Ok.ensures c.decode_octet_string.result c.decode_octet_string.ensures.read c.decode_octet_string.ensures.owned (λ a. let e : false ≡ true = c.in_default.ensures.lent.1 a in absurd cc)
+    c.in-Ok.count c.in-Ok.ensures c.copied.result c.copied.ensures.read c.copied.ensures.owned (λ a. let e : false ≡ true = c.in_default.ensures.lent.1 a in absurd cc)
 
 pub returns-clause-read : goal.returns-clause-read
 returns-clause-read c =

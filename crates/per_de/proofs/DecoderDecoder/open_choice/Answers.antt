@@ -1,10 +1,10 @@
 use Rattle.std.proofs.Common.{ℕ, refl, rules, inr, length}
 use Rattle.std.proofs.lemmas.Result.{err_from_is_err_and}
-use Rattle.rasn_schema.specs.Choices.{choices_of, choice_of, is_extensible, one_level_in, tags_of, variants_behind, variants_counted}
+use Rattle.rasn_schema.specs.Choices.{choices_of, choice_schema, is_extensible, one_level_in, tags_of, variants_behind, variants_counted}
 use Rattle.rasn_schema.specs.Fields.{tag_of}
 use Rattle.rasn_schema.specs.Schemas.{Schema}
 use Rattle.per_read_types.specs.Choices.{index_of}
-use Rattle.per_decoding.specs.ChoiceLaws.{level_inside}
+use Rattle.per_decoding.specs.Laws.Choices.{level_inside}
 use Rattle.per_de.proofs.Calls.{too_deep}
 use Rattle.per_de.proofs.Choosing.{alternative_there, at_level, below, below_variants, opens_choice, place_found, refused_contents, refused_index}
 use Rattle.per_de.proofs.DecoderDecoder.open_choice.Goals as goal
@@ -75,7 +75,7 @@ returns g c =
     let there = alternative_there ps marker qs place.0 place.1 within in
     record {
       law = record {
-        deeper = level_inside (choice_of ps marker qs) place.0 place.1 opened;
+        deeper = level_inside (choice_schema ps marker qs) place.0 place.1 opened;
         side = place.0;
         index = place.1;
         place = place_found g.C.Choice.VARIANTS g.C.Choice.EXTENDED_VARIANTS place.0 place.1 (tag_of c.tag_at.result) g.C.Choice.are_variants c.tag_at.ensures;

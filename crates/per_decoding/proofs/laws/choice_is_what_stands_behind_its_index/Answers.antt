@@ -1,5 +1,5 @@
 use Rattle.std.proofs.Common.{subst, sym}
-use Rattle.per_decoding.specs.ChoiceLaws.{back_to, spells_of}
+use Rattle.per_decoding.specs.Laws.Choices.{back_to, spells_of}
 use Rattle.per_decoding.specs.State.{Spells}
 use Rattle.per_decoding.proofs.laws.choice_is_what_stands_behind_its_index.Goals as goal
 

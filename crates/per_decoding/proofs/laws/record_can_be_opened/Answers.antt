@@ -3,9 +3,9 @@ use Rattle.rasn_schema.specs.Schemas.{count}
 use Rattle.per_core.specs.Basic.{ExtensionBit}
 use Rattle.per_core.specs.Took.{Took}
 use Rattle.per_core.proofs.Took.{then_took}
-use Rattle.per_decoding.specs.Records.{flags_bits}
-use Rattle.per_decoding.specs.Scopes.{outside_of}
-use Rattle.per_decoding.specs.ScopeLaws.{took_record}
+use Rattle.per_decoding.specs.Laws.Records.{flags_bits}
+use Rattle.per_decoding.specs.Scopes.{outside_record}
+use Rattle.per_decoding.specs.Laws.Scopes.{took_record}
 use Rattle.per_decoding.specs.State.{State, extension_of, settings_of}
 use Rattle.per_decoding.proofs.laws.record_can_be_opened.Goals as goal
 
@@ -15,7 +15,7 @@ returns c = λ ps qs marker s t v n e b.
     let f = then_took (record { front = q.root.front; joins = q.root.joins; spelled = q.root.spelled.spelled }) in
     let z = flags_bits (settings_of s) ps q.root.spelled.shown q.middle f.0 f.1 in
     let i : State = record s { bits = f.0; levels = n; presences = z.0; extension = extension_of q.extends; expected = count qs } in (
-      outside_of s,
+      outside_record s,
       i,
       record {
         live = b.live;

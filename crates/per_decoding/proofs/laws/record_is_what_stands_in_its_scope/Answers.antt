@@ -1,8 +1,8 @@
 use Rattle.std.proofs.Common.{sym, subst}
 use Rattle.rasn_schema.specs.Records.{record_value}
 use Rattle.rasn_traits.specs.Additions.{extended}
-use Rattle.per_decoding.specs.Laws.{reads_well}
-use Rattle.per_decoding.specs.ScopeLaws.{back_of, read_of}
+use Rattle.per_decoding.specs.Laws.Relations.{reads_well}
+use Rattle.per_decoding.specs.Laws.Scopes.{back_of, read_of}
 use Rattle.per_decoding.specs.State.{Spells}
 use Rattle.per_decoding.proofs.laws.record_is_what_stands_in_its_scope.Goals as goal
 

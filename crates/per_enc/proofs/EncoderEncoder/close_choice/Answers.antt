@@ -3,7 +3,7 @@ use Rattle.std.proofs.lemmas.Bool.{leb-true}
 use Rattle.rasn_schema.specs.Choices.{StandsAt, VariantShape, variants_counted}
 use Rattle.rasn_schema.specs.Fields.{tag_of}
 use Rattle.rasn_schema.specs.declared.items.Place.{Place}
-use Rattle.per_enc.proofs.Alternatives.{closes_choice, none_found, some_found}
+use Rattle.per_enc.proofs.Choices.{closes_choice, none_found, some_found}
 use Rattle.per_enc.proofs.EncoderEncoder.close_choice.Goals as goal
 
 pub returns-in_err-place : goal.returns-in_err-place
@@ -32,8 +32,8 @@ returns g c =
     let few : c.len.result ≤ 65536 = omega (arith, counted, leb-true (length C.VARIANTS) 65536 C.are_variants.few) in
     record {
       law = rw (← c.self.view_is) (λ x i n d k s v h p a w.
-          closes_choice C.EXTENDED_VARIANTS C.VARIANTS t x i c.self.inside.writer c.known_place.new.writer _ c.args.outside (C.alternatives n) (C.added n) c.len.result c.in_ok-place.place d k s v c.close_alternative.result
-          (counted ∙ variants_counted (C.alternatives n) (C.described n)) few (C.extends n) stands c.in_ok-place.ensures.stays c.close_alternative.ensures h p a w);
+          closes_choice C.EXTENDED_VARIANTS C.VARIANTS t x i c.self.inside.writer c.checked_place.new.writer _ c.args.outside (C.alternatives n) (C.added n) c.len.result c.in_ok-place.place d k s v c.close_choice.result
+          (counted ∙ variants_counted (C.alternatives n) (C.described n)) few (C.extends n) stands c.in_ok-place.ensures.stays c.close_choice.ensures h p a w);
       unknown = λ e f. absurd (some_found t C.VARIANTS C.EXTENDED_VARIANTS c.in_ok-place.place stands e f);
       behaves = search rules;
     }

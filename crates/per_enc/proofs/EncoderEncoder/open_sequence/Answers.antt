@@ -2,7 +2,7 @@ use Rattle.std.proofs.Common.{ap, ◌∙◌, length, rules}
 use Rattle.std.specs.Prelude.{count_by}
 use Rattle.rasn_schema.specs.Fields.{may_be_absent}
 use Rattle.rasn_traits.proofs.Optionals.{bits_counted}
-use Rattle.per_enc.specs.Opens.{behind_marker}
+use Rattle.per_enc.specs.Records.{behind_marker}
 use Rattle.per_enc.proofs.Given.{shapes_counted}
 use Rattle.per_enc.proofs.Records.{opens_record}
 use Rattle.per_enc.proofs.EncoderEncoder.open_sequence.Goals as goal

@@ -4,7 +4,7 @@ use Rattle.rasn_schema.specs.Canonised.{canonised_at}
 use Rattle.rasn_schema.specs.Fields.{may_be_absent}
 use Rattle.rasn_schema.proofs.Canonised.{bits_ordered}
 use Rattle.rasn_traits.proofs.Optionals.{bits_counted}
-use Rattle.per_enc.specs.Opens.{behind_marker}
+use Rattle.per_enc.specs.Records.{behind_marker}
 use Rattle.per_enc.proofs.Given.{shapes_counted}
 use Rattle.per_enc.proofs.Records.{opens_record}
 use Rattle.per_enc.proofs.EncoderEncoder.open_set.Goals as goal

@@ -3,7 +3,7 @@ use Rattle.std.proofs.lemmas.Result.{on_ok_weaker}
 use Rattle.per_pieces.specs.Pieces.{Pieces, with_bits}
 use Rattle.per_pieces.specs.Places.{places_of}
 use Rattle.per_pieces.proofs.Marking.{grown, pieces_bits}
-use Rattle.per_pieces.proofs.Settling.{appends_bits}
+use Rattle.per_pieces.proofs.Placed.{appends_bits}
 use Rattle.per_pieces.proofs.Pieces.push.Goals as goal
 
 pub invariant_of-self : goal.invariant_of-self

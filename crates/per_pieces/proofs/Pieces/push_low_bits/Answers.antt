@@ -4,7 +4,7 @@ use Rattle.per_bits.specs.Octets.{low_bits_of}
 use Rattle.per_pieces.specs.Pieces.{Pieces, with_bits}
 use Rattle.per_pieces.specs.Places.{places_of}
 use Rattle.per_pieces.proofs.Marking.{grown, pieces_bits}
-use Rattle.per_pieces.proofs.Settling.{appends_bits}
+use Rattle.per_pieces.proofs.Placed.{appends_bits}
 use Rattle.per_pieces.proofs.Pieces.push_low_bits.Goals as goal
 
 pub invariant_of-self : goal.invariant_of-self

@@ -2,7 +2,7 @@ use Rattle.std.proofs.lemmas.Result.{on_ok_weaker}
 use Rattle.rasn_types.specs.Bits.{to_bits}
 use Rattle.rasn_types.specs.Variants.{aligned}
 use Rattle.per_core.specs.Writers.{just, padding}
-use Rattle.per_pieces.proofs.Settling.{appends_then}
+use Rattle.per_pieces.proofs.Placed.{appends_then}
 use Rattle.per_pieces.proofs.numbers.push_on_octet.Goals as goal
 
 pub returns : goal.returns

@@ -2,7 +2,7 @@ use Rattle.std.proofs.Common.{◌≡◌, ◌∙◌, ◌+◌, ◌/◌, ap, length
 use Rattle.rasn_types.proofs.Octets.{length-pack}
 use Rattle.rasn_types.proofs.Packing.{viewed}
 use Rattle.rasn_schema.specs.Forms.{size_of, is_size_marked}
-use Rattle.per_core.specs.Basic.{Lengthy, bit}
+use Rattle.per_core.specs.Basic.{Counted, bit}
 use Rattle.per_core.specs.Counts.{bit_items}
 use Rattle.per_core.specs.Took.{Took}
 use Rattle.per_read.specs.Items.{bit_code}
@@ -34,5 +34,5 @@ returns c =
     let list = c.take_items.new.items in
     let count : length list ≡ c.in_ok-count.count = bits_counted took c.new-list.ensures in
     let same : c.from_vec.result ≡ list = c.from_vec.ensures ∙ viewed c.in_ok-count.count c.into_octets.result.items list count c.into_octets.ensures in
-    answers _ t.kept (subst (λ z. Took (Lengthy (settings_of c.args.self.now) (size_of c.args.constraints.now) (is_size_marked c.args.constraints.now) bit_items bit z) c.args.self.now.bits c.take_items.new.self.bits) (sym same)
+    answers _ t.kept (subst (λ z. Took (Counted (settings_of c.args.self.now) (size_of c.args.constraints.now) (is_size_marked c.args.constraints.now) bit_items bit z) c.args.self.now.bits c.take_items.new.self.bits) (sym same)
     (bits_took (settings_of c.args.self.now) (size_of c.args.constraints.now) (is_size_marked c.args.constraints.now) _ h.codes h.held h.took))

@@ -1,6 +1,6 @@
 use Rattle.std.proofs.Common.{sym, subst}
 use Rattle.rasn_schema.specs.Forms.{size_of, is_size_marked}
-use Rattle.per_core.specs.Basic.{Lengthy, octet}
+use Rattle.per_core.specs.Basic.{Counted, octet}
 use Rattle.per_core.specs.Counts.{octet_items}
 use Rattle.per_core.specs.Took.{Took}
 use Rattle.per_read.specs.State.{settings_of}
@@ -19,4 +19,4 @@ returns c =
     let t = c.in_ok-take_items.ensures in
     let h = are_gathered (rw c.size.ensures at t.ok) c.new-octets.ensures.items in
     answers _ t.kept
-    (subst (λ z. Took (Lengthy (settings_of x) (size_of c.args.constraints.now) (is_size_marked c.args.constraints.now) octet_items octet z) x.bits c.take_items.new.self.bits) (sym h.held) h.took)
+    (subst (λ z. Took (Counted (settings_of x) (size_of c.args.constraints.now) (is_size_marked c.args.constraints.now) octet_items octet z) x.bits c.take_items.new.self.bits) (sym h.held) h.took)

@@ -36,8 +36,8 @@ returns c =
     let h = c.in_ok-place.ensures in
     let few : count_of r e c.in_ok-extended.extended < 2 ^ 64 = omega (arith, c.alternative_count-count.ensures) in
     let place = rw (c.alternative_count-count.ensures, bit.kept) at h.ok in
-    let known = rw c.alternative_count-count.ensures at c.known_place.ensures.ok in
-    let missing = rw c.alternative_count-count.ensures at c.known_place.ensures.err in
+    let known = rw c.alternative_count-count.ensures at c.place_at_index.ensures.ok in
+    let missing = rw c.alternative_count-count.ensures at c.place_at_index.ensures.err in
     record {
       ok = IfOk-weaker _ _ _ (λ x i. index_there a r e ext c.in_ok-extended.extended bit.ok c.in_ok-place.place (index_of x) few place i) known;
       err = IfErr-weaker _ _ _ (λ k i. index_missing a r e ext c.in_ok-extended.extended bit.ok c.in_ok-place.place k _ few place i) missing;

@@ -4,7 +4,7 @@ use Rattle.rasn_schema.specs.Schemas.{Schema, group, optional, no_parts}
 use Rattle.per_core.specs.Basic.{basic_in, rules}
 use Rattle.per_core.specs.Canon.{canon}
 use Rattle.per_core.proofs.Within.{just_within, then_within}
-use Rattle.per_rows.specs.Build.{aper, numbered, all_required, record_of, octet_string, sized}
+use Rattle.per_rows.specs.Build.{aper, numbered, all_required, with_all, octet_string, sized}
 use Rattle.per_rows.specs.Samples.{inner}
 use Rattle.per_rows.proofs.Reading.{filled, as_record, with_large_bitmap, two_booleans, any_octets, in_open}
 use Rattle.per_rows.proofs.readings.aper_bitmap_is_read_in_its_large_form.Goals as goal
@@ -14,7 +14,7 @@ unfolding basic_in canon
 returns-clause-known c =
     let ps = numbered 0 (all_required (Schema.boolean ∷ Schema.boolean ∷ [])) in
     let adds = numbered 2 ((group, inner) ∷ (optional, octet_string (sized 3 3)) ∷ []) in
-    let v = record_of (truth true ∷ octets (1 ∷ 2 ∷ 3 ∷ []) ∷ []) in
+    let v = with_all (truth true ∷ octets (1 ∷ 2 ∷ 3 ∷ []) ∷ []) in
     let xs = Some v ∷ Some (octets (7 ∷ 8 ∷ 9 ∷ [])) ∷ [] in
     filled aper (as_record aper ps adds true (Some (truth true) ∷ Some (truth false) ∷ []) xs
     (with_large_bitmap aper (rules aper ps) (rules aper adds) (Some (truth true) ∷ Some (truth false) ∷ []) xs (true ∷ true ∷ []) (lit< tt) (two_booleans aper true false)

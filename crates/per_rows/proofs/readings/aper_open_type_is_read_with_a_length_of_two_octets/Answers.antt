@@ -5,7 +5,7 @@ use Rattle.per_core.specs.Basic.{basic_in, rules}
 use Rattle.per_core.specs.Canon.{bytes, canon}
 use Rattle.per_core.proofs.Within.{relax, just_within, then_within}
 use Rattle.per_core.proofs.Laws
-use Rattle.per_rows.specs.Build.{aper, numbered, all_required, record_of, octet_string, sized}
+use Rattle.per_rows.specs.Build.{aper, numbered, all_required, with_all, octet_string, sized}
 use Rattle.per_rows.specs.Samples.{inner}
 use Rattle.per_rows.proofs.Reading.{filled, as_record, with_bitmap, two_booleans, any_octets, in_open, in_two_octets}
 use Rattle.per_rows.proofs.readings.aper_open_type_is_read_with_a_length_of_two_octets.Goals as goal
@@ -15,7 +15,7 @@ unfolding basic_in bytes
 returns-clause-known c =
     let ps = numbered 0 (all_required (Schema.boolean ∷ Schema.boolean ∷ [])) in
     let adds = numbered 2 ((group, inner) ∷ (optional, octet_string (sized 3 3)) ∷ []) in
-    let v = record_of (truth true ∷ octets (1 ∷ 2 ∷ 3 ∷ []) ∷ []) in
+    let v = with_all (truth true ∷ octets (1 ∷ 2 ∷ 3 ∷ []) ∷ []) in
     let xs = Some v ∷ Some (octets (7 ∷ 8 ∷ 9 ∷ [])) ∷ [] in
     let contents = relax (λ p b x. record { held = v; is = refl; spelled = record { octets = 0x80 ∷ 1 ∷ 2 ∷ 3 ∷ []; are = Laws.written_is_read aper inner v (0x80 ∷ 1 ∷ 2 ∷ 3 ∷ []) refl; spelled = x } })
     (in_two_octets aper (0x80 ∷ 1 ∷ 2 ∷ 3 ∷ []) refl (lit< tt)) in

@@ -4,7 +4,7 @@ use Rattle.rasn_schema.specs.Schemas.{Schema, group, no_parts}
 use Rattle.per_core.specs.Basic.{basic_in, rules}
 use Rattle.per_core.specs.Canon.{canon}
 use Rattle.per_core.proofs.Within.{just_within, then_within}
-use Rattle.per_rows.specs.Build.{aper, numbered, all_required, record_of}
+use Rattle.per_rows.specs.Build.{aper, numbered, all_required, with_all}
 use Rattle.per_rows.specs.Samples.{inner}
 use Rattle.per_rows.proofs.Reading.{filled, as_record, with_bitmap, two_booleans, any_octets, in_open}
 use Rattle.per_rows.proofs.readings.aper_unknown_additions_are_skipped.Goals as goal
@@ -23,7 +23,7 @@ unfolding basic_in canon
 returns-clause-last c =
     let ps = numbered 0 (all_required (Schema.boolean ∷ Schema.boolean ∷ [])) in
     let adds = numbered 2 ((group, inner) ∷ []) in
-    let v = record_of (truth true ∷ octets (1 ∷ 2 ∷ 3 ∷ []) ∷ []) in
+    let v = with_all (truth true ∷ octets (1 ∷ 2 ∷ 3 ∷ []) ∷ []) in
     filled aper (as_record aper ps adds true (Some (truth true) ∷ Some (truth false) ∷ []) (Some v ∷ [])
     (with_bitmap aper (rules aper ps) (rules aper adds) (Some (truth true) ∷ Some (truth false) ∷ []) (Some v ∷ []) (true ∷ true ∷ []) (lit< tt) (lit< tt) (two_booleans aper true false)
     (then_within (in_open aper inner v) (then_within (any_octets aper (7 ∷ 8 ∷ 9 ∷ [])) (just_within [])))))

@@ -6,7 +6,7 @@ use Rattle.per_core.specs.Spellings.{Settings, Spelling, Then, Field, AnyPadding
 use Rattle.per_core.specs.Basic.{basic, basic_in, constrained_form, IsConstrainedWhole, Octets}
 use Rattle.per_core.specs.Canon.{canon}
 use Rattle.per_core.proofs.Agree.{Agree, field_agree}
-use Rattle.per_core.proofs.Lengths.{and_left, and_right, padded_field_agree, same_octets}
+use Rattle.per_core.proofs.LengthForms.{and_left, and_right, padded_field_agree, same_octets}
 use Rattle.per_core.proofs.Presenting.{octets_within}
 use Rattle.per_core.proofs.Within.{just_within, then_within, field_within, padding_within}
 use Rattle.per_rows.specs.Build.{uper, aper, list_of, octet_string, sized, sized_to}

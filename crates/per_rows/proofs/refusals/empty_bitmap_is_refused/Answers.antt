@@ -5,11 +5,11 @@ use Rattle.rasn_schema.specs.Schemas.{Schema, Parts}
 use Rattle.per_core.specs.Spellings.{Settings, Spelling, Then, exactly}
 use Rattle.per_core.specs.Writers.{just}
 use Rattle.per_core.specs.Counts.{bit_items}
-use Rattle.per_core.specs.Basic.{Rule, Root, IsBitmap, Fields_in, Sized, bit, basic, basic_in, rules}
+use Rattle.per_core.specs.Basic.{Rule, Root, IsBitmap, Record_in, Sized, bit, basic, basic_in, rules}
 use Rattle.per_core.specs.Canon.{canon}
 use Rattle.per_core.proofs.Agree.{Agree, weaken, then_agree, behind, no_yes}
 use Rattle.per_core.proofs.Counting.{counted_within}
-use Rattle.per_core.proofs.Lengths.{sized_agree, Zip-same}
+use Rattle.per_core.proofs.LengthForms.{sized_agree, Zip-same}
 use Rattle.per_core.proofs.Records.{root_agree}
 use Rattle.per_core.proofs.Readings.{sames, same_kin, same_bits}
 use Rattle.per_core.proofs.Within.{just_within, then_within, when_within}
@@ -35,7 +35,7 @@ no_bitmap a bs = record {
 abbrev Front : Settings → Spelling
 Front a = Then (exactly (true ∷ [])) (Then (Root (rules a parts) (Some (truth true) ∷ [])) (Then (Empty a) (exactly [])))
 
-none : (a : Settings) (adds : List Rule) (ss xs : List (Option Value)) → Agree ⊥ (Fields_in a true true (rules a parts) adds ss xs) (Front a)
+none : (a : Settings) (adds : List Rule) (ss xs : List (Option Value)) → Agree ⊥ (Record_in a true true (rules a parts) adds ss xs) (Front a)
 none a adds ss xs = either_one (no_yes _ _) (record {
   agree = λ p b c s t x y e.
       (behind (true ∷ []) (weaken (λ r. r.1) (then_agree (root_agree (sames parts) (rules a parts) (rules a parts) (same_kin a parts) ss (Some (truth true) ∷ [])) (λ u. first (no_bitmap a x.flags))))).agree p b c s t x.spelled y e;

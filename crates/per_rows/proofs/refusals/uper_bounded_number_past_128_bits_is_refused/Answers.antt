@@ -5,7 +5,7 @@ use Rattle.rasn_constraints.specs.Bounds.{above, fits_i128}
 use Rattle.per_core.specs.Basic.{basic, basic_in, Octets}
 use Rattle.per_core.specs.Canon.{canon}
 use Rattle.per_core.proofs.Agree.{Agree}
-use Rattle.per_core.proofs.Lengths.{same_octets}
+use Rattle.per_core.proofs.LengthForms.{same_octets}
 use Rattle.per_core.proofs.Presenting.{octets_within}
 use Rattle.per_rows.specs.Build.{uper, minus, integer_in, at_least}
 use Rattle.per_rows.proofs.Reading.{filled, not_both}

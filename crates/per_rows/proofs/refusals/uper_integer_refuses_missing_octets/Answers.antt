@@ -3,7 +3,7 @@ use Rattle.rasn_types.specs.Values.{Value, whole}
 use Rattle.per_core.specs.Basic.{basic, basic_in, Octets}
 use Rattle.per_core.specs.Canon.{bytes, canon}
 use Rattle.per_core.proofs.Agree.{Agree}
-use Rattle.per_core.proofs.Lengths.{same_octets}
+use Rattle.per_core.proofs.LengthForms.{same_octets}
 use Rattle.per_core.proofs.Presenting.{octets_within}
 use Rattle.per_rows.specs.Build.{uper, integer}
 use Rattle.per_rows.proofs.Reading.{filled, not_both, no_less}

@@ -3,10 +3,10 @@ use Rattle.rasn_types.specs.Bits.{Bits}
 use Rattle.rasn_types.specs.Values.{Value, truth}
 use Rattle.rasn_schema.specs.Schemas.{Schema, Parts, optional, group}
 use Rattle.per_core.specs.Spellings.{Settings, Spelling, Then, exactly}
-use Rattle.per_core.specs.Basic.{Root, IsBitmap, Fields_in, Additions_in, Octets, basic, basic_in, rules, fills}
+use Rattle.per_core.specs.Basic.{Root, IsBitmap, Record_in, Additions_in, Octets, basic, basic_in, rules, fills}
 use Rattle.per_core.specs.Canon.{bytes, canon}
 use Rattle.per_core.proofs.Agree.{Agree, weaken, then_agree, behind, cancel, no_yes}
-use Rattle.per_core.proofs.Lengths.{same_octets}
+use Rattle.per_core.proofs.LengthForms.{same_octets}
 use Rattle.per_core.proofs.Records.{root_agree, bitmap_agree}
 use Rattle.per_core.proofs.Readings.{sames, same_kin, one_reading}
 use Rattle.per_core.proofs.Canonical.{canonical}
@@ -40,7 +40,7 @@ module _ (a : Settings) (os : List ℕ) (h : (v : Value) → fills a the_group v
         (first held).agree p b c s t x y e;
   }
 
-  none : (ss xs : List (Option Value)) → Agree ⊥ (Fields_in a true true (rules a parts) (record { presence = group; spells = basic a the_group } ∷ []) ss xs) (Front a os)
+  none : (ss xs : List (Option Value)) → Agree ⊥ (Record_in a true true (rules a parts) (record { presence = group; spells = basic a the_group } ∷ []) ss xs) (Front a os)
   none ss xs = either_one (no_yes _ _) (record {
     agree = λ p b c s t x y e.
         (behind (true ∷ []) (weaken (λ r. r.1.1) (then_agree (root_agree (sames parts) (rules a parts) (rules a parts) (same_kin a parts) ss (Some (truth true) ∷ []))

@@ -3,7 +3,7 @@ use Rattle.rasn_types.specs.Bits.{Bits, unpack}
 use Rattle.rasn_types.specs.Values.{Value}
 use Rattle.rasn_schema.specs.Schemas.{required}
 use Rattle.per_core.specs.Spellings.{Spelling, Then, exactly}
-use Rattle.per_core.specs.Basic.{Rule, Root, IsBitmap, Additions_in, Fields_in, basic, basic_in, fills}
+use Rattle.per_core.specs.Basic.{Rule, Root, IsBitmap, Additions_in, Record_in, basic, basic_in, fills}
 use Rattle.per_core.proofs.Agree.{Agree, weaken, then_agree, behind}
 use Rattle.per_core.proofs.Records.{root_agree, bitmap_agree}
 use Rattle.per_core.proofs.Within.{just_within, then_within}
@@ -24,10 +24,10 @@ at_zero f rs (s ∷ ss) bs p b x = x.0
 abbrev With : List Bool → Bits → Spelling
 With bs rest = Then (exactly (true ∷ [])) (Then (Root [] []) (Then (IsBitmap uper bs) (exactly rest)))
 
-none : (f : Value → Spelling) (rs : List Rule) (ss xs : List (Option Value)) (bs : List Bool) (rest : Bits) → Agree ⊥ (Fields_in uper true true [] (record { presence = required; spells = f } ∷ rs) ss xs) (With (false ∷ bs) rest)
+none : (f : Value → Spelling) (rs : List Rule) (ss xs : List (Option Value)) (bs : List Bool) (rest : Bits) → Agree ⊥ (Record_in uper true true [] (record { presence = required; spells = f } ∷ rs) ss xs) (With (false ∷ bs) rest)
 none f rs ss xs bs rest = record { agree = λ p b c s t x y e. go p b c s t x y e }
   where
-    go : (p : ℕ) (b c s t : Bits) → Fields_in uper true true [] (record { presence = required; spells = f } ∷ rs) ss xs p b → With (false ∷ bs) rest p c → b ++ s ≡ c ++ t → ⊥ × (b ≡ c)
+    go : (p : ℕ) (b c s t : Bits) → Record_in uper true true [] (record { presence = required; spells = f } ∷ rs) ss xs p b → With (false ∷ bs) rest p c → b ++ s ≡ c ++ t → ⊥ × (b ≡ c)
     go p b c s t (inl x) y e = absurd (past f rs xs _ _ x.is_rest.is_rest)
     go p b c s t (inr x) y e =
         (behind (true ∷ []) (weaken (λ r. r.1.1) (then_agree (root_agree [] [] [] tt ss []) (λ u. then_agree (bitmap_agree uper x.flags (false ∷ bs)) (λ i. record {
@@ -38,11 +38,11 @@ refuse : (v : Value) (bs : List Bool) (rest : Bits) → Agree ⊥ (basic uper re
 unfolding basic_in
 refuse v bs rest = record { agree = λ p b c s t x y e. (none _ _ x.of.0 x.of.1 bs rest).agree p b c s t x.spelled y e }
 
-no_extension : (f : Value → Spelling) (rs : List Rule) (ss xs : List (Option Value)) (front spare rest : Bits) → Fields_in uper true true [] (record { presence = required; spells = f } ∷ rs) ss xs 0 front → false ∷ rest ≡ front ++ spare → ⊥
+no_extension : (f : Value → Spelling) (rs : List Rule) (ss xs : List (Option Value)) (front spare rest : Bits) → Record_in uper true true [] (record { presence = required; spells = f } ∷ rs) ss xs 0 front → false ∷ rest ≡ front ++ spare → ⊥
 no_extension f rs ss xs front spare rest (inl x) e = past f rs xs _ _ x.is_rest.is_rest
 no_extension f rs ss xs front spare rest (inr x) e = let r = begins spare x.spelled e in let f : false ∷ rest ≡ true ∷ r.0 = r.1 in cc
 
-nothing_read : (f : Value → Spelling) (rs : List Rule) (ss xs : List (Option Value)) → Fields_in uper true true [] (record { presence = required; spells = f } ∷ rs) ss xs 0 [] → ⊥
+nothing_read : (f : Value → Spelling) (rs : List Rule) (ss xs : List (Option Value)) → Record_in uper true true [] (record { presence = required; spells = f } ∷ rs) ss xs 0 [] → ⊥
 nothing_read f rs ss xs (inl x) = past f rs xs _ _ x.is_rest.is_rest
 nothing_read f rs ss xs (inr x) = let r = begins [] x.spelled refl in let f : [] ≡ true ∷ r.0 = r.1 in cc
 

@@ -2,7 +2,7 @@ use Rattle.std.proofs.Common.{◌≡◌, refl, sym, subst, lit<, ℕ, ◌++◌, 
 use Rattle.rasn_types.specs.Bits.{Bits}
 use Rattle.rasn_types.specs.Values.{Value, Side, root, added}
 use Rattle.per_core.specs.Spellings.{Then, Field, exactly}
-use Rattle.per_core.specs.Basic.{Alternative, Item, Rule, Fills, Chosen, basic, basic_in, fills, rules, IsConstrainedWhole}
+use Rattle.per_core.specs.Basic.{Choice, Item, Rule, Fills, Chosen, basic, basic_in, fills, rules, IsConstrainedWhole}
 use Rattle.per_core.specs.Versions.{alternatives_of}
 use Rattle.per_core.specs.Canon.{canon}
 use Rattle.per_core.proofs.Agree.{Agree, weaken, then_agree, field_agree, exactly_agree}
@@ -17,7 +17,7 @@ third : (i : ℕ) → Agree ⊥ (IsConstrainedWhole uper 3 i) (Field 2 3)
 unfolding canon
 third i = record { agree = λ p b c s t x y e. let r = (field_agree 2 i 3).agree p b c s t x.spelled y e in absurd (omega (arith, r.0, x.below)) }
 
-of_three : (rs adds : List Rule) → length rs ≡ 3 → (d : Side) (i : ℕ) (v : Value) → Agree ⊥ (Alternative uper false rs adds d i v) (Then (exactly []) (Then (Field 2 3) (exactly [])))
+of_three : (rs adds : List Rule) → length rs ≡ 3 → (d : Side) (i : ℕ) (v : Value) → Agree ⊥ (Choice uper false rs adds d i v) (Then (exactly []) (Then (Field 2 3) (exactly [])))
 of_three rs adds l root i v = weaken (λ r. r.1) (then_agree (exactly_agree [] [] refl) (λ e. first (subst (λ n. Agree ⊥ (IsConstrainedWhole uper n i) (Field 2 3)) (sym l) (third i))))
 of_three rs adds l added i v = record { agree = λ p b c s t x y e. absurd x.is_front }
 
@@ -33,7 +33,7 @@ closed : (i : ℕ) (v : Value) (os : List ℕ) → Fills uper (Chosen [] i v) os
 closed i v os (inl x) = x.spelled
 closed i v os (inr x) = x.0
 
-no_added : (rs : List Rule) (d : Side) (i : ℕ) (v : Value) (front spare rest : Bits) → Alternative uper true rs [] d i v 0 front → true ∷ rest ≡ front ++ spare → ⊥
+no_added : (rs : List Rule) (d : Side) (i : ℕ) (v : Value) (front spare rest : Bits) → Choice uper true rs [] d i v 0 front → true ∷ rest ≡ front ++ spare → ⊥
 no_added rs root i v front spare rest x e = let r = begins spare x e in let f : true ∷ rest ≡ false ∷ r.0 = r.1 in cc
 no_added rs added i v front spare rest x e = let o = x.is_rest.is_rest in closed i v o.octets o.are
 

@@ -1,7 +1,7 @@
 use Rattle.std.proofs.Common.{◌∙◌, ap, false, replicate, rules}
 use Rattle.per_pieces.specs.Pieces.{bit_count, with_bits}
 use Rattle.per_write.specs.State.{State}
-use Rattle.per_write.proofs.Records.{record_opened}
+use Rattle.per_write.proofs.RecordsClosed.{record_opened}
 use Rattle.per_write.proofs.Writer.open_record.Goals as goal
 
 pub returns : goal.returns

@@ -1,6 +1,6 @@
 use Rattle.std.proofs.Common.{◌≡◌, ◌∙◌, ap, sym, length, arith}
 use Rattle.per_write.specs.State.{State}
-use Rattle.per_write.proofs.Records.{additions_put}
+use Rattle.per_write.proofs.RecordsClosed.{additions_put}
 use Rattle.per_write.proofs.Writer.put_additions.Goals as goal
 
 pub returns : goal.returns

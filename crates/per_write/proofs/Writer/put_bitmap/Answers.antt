@@ -3,7 +3,7 @@ use Rattle.rasn_types.specs.Bits.{Bits}
 use Rattle.per_core.specs.Writers.{just}
 use Rattle.per_write.specs.Faults.{IsMemory}
 use Rattle.per_write.specs.State.{Puts}
-use Rattle.per_write.proofs.Bitmaps.{large_bitmap, small_bitmap}
+use Rattle.per_write.proofs.BitmapsWritten.{large_bitmap, small_bitmap}
 use Rattle.per_write.proofs.Writer.put_bitmap.Goals as goal
 
 pub returns-then-count-gt64 : goal.returns-then-count-gt64

@@ -2,7 +2,7 @@ use Rattle.std.proofs.Common.{◌≡◌, ◌∙◌, ◌&&◌, ap, ltb, rules}
 use Rattle.std.proofs.lemmas.Result.{on_ok_weaker}
 use Rattle.rasn_types.specs.Codecs.{variant_of}
 use Rattle.rasn_types.specs.Variants.{Variant}
-use Rattle.per_core.specs.Counts.{Counted, is_aligned}
+use Rattle.per_core.specs.Counts.{ItemKind, is_aligned}
 use Rattle.per_write.proofs.Counting.{allowed_least, allowed_most, pads_none, pads_some, wrote_bounded}
 use Rattle.per_write.proofs.Writer.put_sized.Goals as goal
 use Rattle.per_write.proofs.Writer.put_sized.Goals.{then-count-gt0, else-count-gt0}
@@ -27,7 +27,7 @@ returns-in_ok-put_constrained_length-in-Some-Some g c =
     let on_octet = is_aligned (g.I.Items.counted c.args.items.now).kind c.in-Some-Some.lower c.in-Some-Some.upper in
     let pads : c.if-count-gt0.on_octet ≡ (ltb 0 c.len-count.result && on_octet) =
     elim c.if-count-gt0.branch [
-      | then-count-gt0 w ↦ pads_some c.len-count.result c.if-count-gt0.on_octet on_octet w.if-count-gt0.true (w.on_octet-is ∙ w.is_aligned-on_octet.ensures ∙ ap (λ (k : Counted). is_aligned k c.in-Some-Some.lower c.in-Some-Some.upper) w.item.ensures)
+      | then-count-gt0 w ↦ pads_some c.len-count.result c.if-count-gt0.on_octet on_octet w.if-count-gt0.true (w.on_octet-is ∙ w.is_aligned-on_octet.ensures ∙ ap (λ (k : ItemKind). is_aligned k c.in-Some-Some.lower c.in-Some-Some.upper) w.item.ensures)
       | else-count-gt0 w ↦ pads_none c.len-count.result c.if-count-gt0.on_octet on_octet w.if-count-gt0.false w.on_octet-is
     ] in
     record {

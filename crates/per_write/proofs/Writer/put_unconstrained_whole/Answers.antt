@@ -4,7 +4,7 @@ use Rattle.std.proofs.lemmas.Result.{IfOk-at_ok}
 use Rattle.rasn_types.specs.Codecs.{variant_of}
 use Rattle.rasn_types.specs.Octets.{whole_bits}
 use Rattle.per_core.specs.Counts.{counted_octets}
-use Rattle.per_write.specs.State.{Wrote}
+use Rattle.per_write.specs.State.{StateAppends}
 use Rattle.per_write.proofs.Unbounded.{wrote_whole, wrote_number}
 use Rattle.per_write.proofs.Writer.put_unconstrained_whole.Goals as goal
 
@@ -28,7 +28,7 @@ returns g c =
     let y = c.unless_out_of_memory-2.new.self in
     let z = g.I.IntegerType.number c.args.value.now in
     let is : c.in-Some.number ≡ z = c.in-Some.ensures.number in
-    let written : OnOk c.unless_out_of_memory-2.result (Wrote x (counted_octets (variant_of x.codec) (whole_bits c.in-Some.number)) y) = search rules in
+    let written : OnOk c.unless_out_of_memory-2.result (StateAppends x (counted_octets (variant_of x.codec) (whole_bits c.in-Some.number)) y) = search rules in
     record {
       ok = wrote_number x y g.I.IntegerType.range z c.in-Some.number c.unless_out_of_memory-2.result is c.to_i128.ensures.held written;
       err = search rules;

@@ -4,7 +4,7 @@ use Rattle.std.proofs.lemmas.Result.{on_ok_weaker}
 use Rattle.rasn_types.specs.Codecs.{variant_of}
 use Rattle.per_core.specs.Writers.{Writer}
 use Rattle.per_write.specs.Faults.{IsMemory}
-use Rattle.per_write.specs.State.{Puts, Wrote}
+use Rattle.per_write.specs.State.{Puts, StateAppends}
 use Rattle.per_write_types.proofs.DatesWritten.{in_first, in_second, in_third, in_none, wrote_number}
 use Rattle.per_write_types.proofs.dates.put_year.Goals as goal
 
@@ -42,7 +42,7 @@ returns-in_ok-put_number g c =
     let is = in_none (variant_of c.args.writer.now.codec) c.args.year (sym first ∙ c.if-is_from_to.false) (sym second ∙ c.if-is_from_to-2.false) (sym third ∙ c.if-is_from_to-3.false) in
     let end = c.put_number-else-is_from_to-3 in
     record {
-      ok = on_ok_weaker _ (λ w. subst (λ (f : Writer). Wrote c.args.writer.now f end.new.self) is
+      ok = on_ok_weaker _ (λ w. subst (λ (f : Writer). StateAppends c.args.writer.now f end.new.self) is
           (wrote_number c.args.writer.now c.put_number.new.self end.new.self c.args.year c.in_ok-put_number.ensures.ok w)) (simp to_z-of_z at end.ensures.ok);
       err = search rules;
       fails = search rules;

@@ -2,7 +2,7 @@ use Rattle.std.specs.Prelude.{OnOk}
 use Rattle.std.proofs.Common.{◌≤◌, length, subst, List, arith, rules}
 use Rattle.rasn_types.specs.Variants.{unaligned}
 use Rattle.per_core.specs.Writers.{Writer, one_by_one}
-use Rattle.per_write.specs.State.{Wrote}
+use Rattle.per_write.specs.State.{StateAppends}
 use Rattle.per_pieces.proofs.Fragments.{length-octet_writers, octets_between}
 use Rattle.per_write.proofs.items.OctetsItems.put.Goals as goal
 
@@ -16,7 +16,7 @@ slice_bounds-put_bare_octets-end g c =
 pub returns : goal.returns
 returns g c =
     record {
-      ok = subst (λ (ws : List Writer). OnOk c.put_bare_octets.result (Wrote c.args.writer.now (one_by_one ws) c.put_bare_octets.new.self)) (octets_between c.args.self.now.0.now c.args.start c.args.end) c.put_bare_octets.ensures.ok;
+      ok = subst (λ (ws : List Writer). OnOk c.put_bare_octets.result (StateAppends c.args.writer.now (one_by_one ws) c.put_bare_octets.new.self)) (octets_between c.args.self.now.0.now c.args.start c.args.end) c.put_bare_octets.ensures.ok;
       err = search rules;
       fails = search rules;
       kept = search rules;

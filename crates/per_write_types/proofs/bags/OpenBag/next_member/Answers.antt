@@ -24,7 +24,7 @@ pub returns : goal.returns
 returns g c =
     let is = c.self.view_is ∙ c.in_ok-keep_member.ensures.is in
     record {
-      law = λ f x v vs h. member_awaited f x v vs c.args.self.now c.args.writer.now c.keep_member.new.writer c.open_floating.new.self c.self.inside.list c.self.inside.members c.in_ok-waiting.waiting
+      law = λ f x v vs h. member_awaited f x v vs c.args.self.now c.args.writer.now c.keep_member.new.writer c.open_unplaced.new.self c.self.inside.list c.self.inside.members c.in_ok-waiting.waiting
           h c.in_ok-keep_member.ensures.ok (ap (λ (q : OpenBag). q.list) is) (ap (λ (q : OpenBag). q.members) is) c.in_ok-waiting.ensures.ok;
       behaves = search rules;
     }

@@ -20,8 +20,8 @@ unwrap-character-requires g c =
     let bound : c.loop-index.index < length cs = omega arith in
     some_within cs c.loop-index.index c.character_at.result c.character_at.ensures bound
 
-pub gather-requires : goal.gather-requires
-gather-requires g c =
+pub push_to_field-requires : goal.push_to_field-requires
+push_to_field-requires g c =
     record {
       begun = c.loop-index.invariant.left;
       few = omega (arith, c.width-width.ensures.few);
@@ -37,9 +37,9 @@ loop-index-preserved g c =
     let cs = c.args.self.now.characters.now in
     let place : slice_get cs c.loop-index.index ≡ Some c.unwrap-character.result = sym c.character_at.ensures ∙ c.unwrap-character.ensures in
     let code : char_code a.variant a.characters c.unwrap-character.result ≡ Some c.in-Some.code = sym c.encode.ensures.code ∙ c.in-Some.is in
-    gathered_character a cs c.loop-index.index c.args.end c.unwrap-character.result c.in-Some.code _ c.args.writer.now c.loop-index.writer c.gather.new.writer c.loop-index.gathered c.gather.new.gathered
+    gathered_character a cs c.loop-index.index c.args.end c.unwrap-character.result c.in-Some.code _ c.args.writer.now c.loop-index.writer c.push_to_field.new.writer c.loop-index.gathered c.push_to_field.new.gathered
     (omega arith) place code c.loop-index.invariant
-    (subst (λ (w : ℕ). Remains c.loop-index.writer (just (c.loop-index.gathered ++ to_bits w c.in-Some.code)) c.gather.new.writer (just c.gather.new.gathered)) c.width-width.ensures.width c.in_ok-gather.ensures.ok)
+    (subst (λ (w : ℕ). Remains c.loop-index.writer (just (c.loop-index.gathered ++ to_bits w c.in-Some.code)) c.push_to_field.new.writer (just c.push_to_field.new.gathered)) c.width-width.ensures.width c.in_ok-push_to_field.ensures.ok)
 
 pub returns-in_default : goal.returns-in_default
 returns-in_default g c =
@@ -64,7 +64,7 @@ returns g c =
     let a = c.args.self.now.alphabet in
     let cs = c.args.self.now.characters.now in
     record {
-      ok = on_ok_weaker _ (gathered_last (char_writers a.variant a.characters cs) c.loop-index.index c.args.end _ c.args.writer.now c.loop-index.writer c.put_gathered.new.writer c.loop-index.gathered (omega arith) c.loop-index.invariant) c.put_gathered.ensures.ok;
+      ok = on_ok_weaker _ (gathered_last (char_writers a.variant a.characters cs) c.loop-index.index c.args.end _ c.args.writer.now c.loop-index.writer c.put_bit_field.new.writer c.loop-index.gathered (omega arith) c.loop-index.invariant) c.put_bit_field.ensures.ok;
       err = search rules;
       fails = search rules;
       kept = search rules;

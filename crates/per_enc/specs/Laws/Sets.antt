@@ -1,0 +1,54 @@
+-- What holds of an encoder's SETs.
+use Rattle.std.specs.Prelude.{Bool, List, Option}
+use Rattle.std.proofs.Common.{◌∙◌, ap, sym, subst}
+use Rattle.rasn_types.specs.Codecs.{variant_of}
+use Rattle.rasn_types.specs.Values.{Value}
+use Rattle.rasn_schema.specs.Canonised.{canonised, canonised_slots}
+use Rattle.rasn_schema.specs.Records.{record_value}
+use Rattle.rasn_schema.specs.Schemas.{by_tag, listed, Parts, Schema}
+use Rattle.rasn_traits.specs.Sets.{SetsWritten}
+use Rattle.per_core.proofs.SetReadings.{written}
+use Rattle.per_write.specs.declared.error.EncodeError.{EncodeError}
+use Rattle.per_write.specs.declared.error.EncodeErrorKind.{EncodeErrorKind}
+use Rattle.per_write.specs.declared.error.EncodeErrorKind.TheVariants.{SizeConstraintNotSatisfied, ValueConstraintNotSatisfied, AlphabetConstraintNotSatisfied, IntegerTypeConversionFailed, VariantNotInChoice, RealNotSupported, TooManyAdditions, Below, AlreadyFailed, OutOfMemory, OutOfTurn}
+use Rattle.per_write.specs.Faults.{in_set, RefusesValue, Stands}
+use Rattle.per_write.specs.Rules.{encoder_rules}
+use Rattle.per_write.specs.State.{Presents, State, StateAppends}
+
+-- a fault of the SEQUENCE of a SET's components in order is one of the SET
+stands_in_set : (kind : EncodeErrorKind) (x : State) (ps : Parts) (marker : Bool) (qs : Parts)
+    (rs xs : List (Option Value))
+    → Stands kind x (Schema.sequence listed (canonised ps) marker qs) (record_value (canonised_slots ps rs) xs)
+    → Stands kind x (Schema.sequence by_tag ps marker qs) (record_value rs xs)
+stands_in_set (SizeConstraintNotSatisfied n l u) x ps marker qs rs xs h = in_set rs xs h
+stands_in_set (ValueConstraintNotSatisfied n l u) x ps marker qs rs xs h = in_set rs xs h
+stands_in_set AlphabetConstraintNotSatisfied x ps marker qs rs xs h = in_set rs xs h
+stands_in_set IntegerTypeConversionFailed x ps marker qs rs xs h = in_set rs xs h
+stands_in_set VariantNotInChoice x ps marker qs rs xs h = h
+stands_in_set RealNotSupported x ps marker qs rs xs h = in_set rs xs h
+stands_in_set TooManyAdditions x ps marker qs rs xs h = h
+stands_in_set Below x ps marker qs rs xs h = in_set rs xs h
+stands_in_set AlreadyFailed x ps marker qs rs xs h = h
+stands_in_set OutOfMemory x ps marker qs rs xs h = h
+stands_in_set OutOfTurn x ps marker qs rs xs h = h
+
+-- a SET is refused where the SEQUENCE is
+refused_set : (ps : Parts) (marker : Bool) (qs : Parts) (x : State) (rs xs : List (Option Value)) (e : EncodeError)
+    → RefusesValue e x (Schema.sequence listed (canonised ps) marker qs) (record_value (canonised_slots ps rs) xs)
+    → RefusesValue e x (Schema.sequence by_tag ps marker qs) (record_value rs xs)
+refused_set ps marker qs x rs xs e h = record {
+  none = λ f p. ap (λ m. m p) (written (variant_of x.codec) ps marker qs rs xs) ∙ h.none f p;
+  stands = stands_in_set e.kind x ps marker qs rs xs h.stands;
+  codec_is = h.codec_is;
+}
+
+-- a SET is presented where the SEQUENCE is
+presented_set : (ps : Parts) (marker : Bool) (qs : Parts) (x y : State) (rs xs : List (Option Value))
+    → Presents x (Schema.sequence listed (canonised ps) marker qs) (record_value (canonised_slots ps rs) xs) y
+    → Presents x (Schema.sequence by_tag ps marker qs) (record_value rs xs) y
+presented_set ps marker qs x y rs xs w = subst (λ m. StateAppends x m y)
+    (sym (written (variant_of x.codec) ps marker qs rs xs)) w
+
+-- X.691 21.1: a SET is written as the SEQUENCE of its components in ascending order of their smallest tags
+pub sets_written : SetsWritten encoder_rules
+sets_written = record { presented = presented_set; refused = refused_set }

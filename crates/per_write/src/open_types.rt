@@ -1,0 +1,39 @@
+//! Open types (X.691 11.2).
+
+ghost use Rattle.std.specs.Prelude.{◌≡◌, false, Some};
+ghost use Rattle.per_core.specs.Counts.{open_bits};
+ghost use Rattle.per_write.specs.Faults.{IsMemory};
+ghost use Rattle.per_write.specs.State.{PutsIn};
+ghost use Rattle.per_pieces.specs.Pieces.{placed_bits};
+
+use crate::Writer;
+use crate::error::EncodeError;
+use per_bits::BitList;
+use per_pieces::Pieces;
+use std::alloc::Allocator;
+
+impl<A: Allocator + Clone> Writer<A> {
+    /// Writes an open type of some contents (X.691 11.2): their complete encoding, behind the count of its octets.
+    #[inline(always)]
+    pub(crate) fn put_open_type(&mut self, contents: &BitList<A>) -> Result<(), EncodeError>
+        requires { self.old.failed ≡ false }
+        ensures { PutsIn IsMemory (λ a. open_bits a (Some contents.now)) self.old result self.new }
+    {
+        if contents.is_empty() {
+            return self.put_octets(&[0]);
+        }
+        self.put_octets(contents.as_octets())
+    }
+
+    /// Writes an open type (X.691 11.2) whose contents were written before.
+    pub fn put_open_pieces(&mut self, contents: Pieces<A>) -> Result<(), EncodeError>
+        requires { self.old.failed ≡ false }
+        ensures { PutsIn IsMemory (λ a. open_bits a (Some (placed_bits contents.list 0))) self.old result self.new }
+    {
+        let bits = contents.into_placed();
+        let bits = self.unless_out_of_memory(bits)?;
+        self.put_open_type(&bits)?;
+        self.scratch = Some(bits);
+        Ok(())
+    }
+}
