@@ -20,11 +20,11 @@ day alternative fields_of parts_of variants_in all_items extensible_items slot_o
 record_value to minus size to_minus components contents""".split())
 # The names that a page's own text has from the library, and from Rust.
 TAKEN = """Alternatives AsnType Bounded ByKind ChoiceKind Class CodedAlternatives Components Constrained
-Constraint Constraints Constructed Decode Decoder Encode Encoder EnumeratedKind Extensible Field Fields
-Identifier ItemCounts Items Limits OfKind Place Presence Record Tag TagTree Variant Variants Any BitString
-OctetString Integer Ia5String VisibleString PrintableString NumericString BmpString Utf8String TeletexString
-GraphicString GeneralString ObjectIdentifier UtcTime GeneralizedTime Date SetOf SetKind SetComponents SetRecord
-Result Ok Err Vec String Box Drop Clone Copy Debug Eq PartialEq Self""".split()
+Constraint Constraints Constructed Decode Decoder Encode Encoder EnumeratedKind Extended ExtendedKind
+Extensible Field Fields Identifier ItemCounts Items Limits OfKind Place Presence Record Tag TagTree Variants
+Any BitString OctetString Integer Ia5String VisibleString PrintableString NumericString BmpString Utf8String
+TeletexString GraphicString GeneralString ObjectIdentifier UtcTime GeneralizedTime Date SetOf SetKind
+SetComponents SetRecord Result Ok Err Vec String Box Drop Clone Copy Debug Eq PartialEq Self""".split()
 NOT_ALONE = ("Self", "None", "Some", "Ok", "Err", "Vec", "Option", "Box")
 # The toolchain makes names of files of those of types.
 LONGEST = 56

@@ -226,20 +226,19 @@ class Page:
     def extended_record(self, values):
         item, imports = self.item, self.imports
         self.own_spec(item.behind)
-        imports.prelude("Some", "suc", "true")
-        for word in ("record_value", "deeper_of"):
-            self.value(word)
-        for word in ("fields_described", "parts_of", "extended_at", "extended_by", "extended_levelled"):
+        imports.prelude("Some", "true")
+        for word in ("fields_described", "parts_of", "extended_by"):
             imports.word(word)
-        for word in ("SEQUENCE", "no_constraints", "sequence_tag"):
-            imports.word(word, "Types")
         imports.use("rasn_below::types", "Identifier")
-        imports.use("rasn_below", "AsnType", "Constraint", "Constraints", "Constructed", "Decode", "Decoder", "Encode",
-                    "Encoder", "Fields", "Tag", "added_bounds", "added_fields", "decode_extended", "encode_extended",
-                    "root_bounds", "root_fields")
-        levels, added_levels = (indented(self.levels(it), 8) for it in (item.type.parts, item.type.added))
+        imports.use("rasn_below", "Constraint", "Constraints", "Constructed", "Decode", "Decoder", "Encode", "Encoder",
+                    "Extended", "ExtendedKind", "Fields", "OfKind", "Tag", "added_bounds", "added_fields",
+                    "decode_extended", "encode_extended", "root_bounds", "root_fields")
+        levels, depth = [self.levels(it) for it in (item.type.parts, item.type.added)], []
+        if levels != [["0"], ["0"]]:
+            depth = ["", f"    ghost depth = {{ λ x. {self.value('deeper_of')}", *indented(sum(levels, []), 8)]
+            depth[-1] += " };"
         return filled(templates.EXTENDED_RECORD, **values, behind=item.behind, added_slots=self.slots(item.type.added),
-                      levels=levels, added_levels=added_levels)
+                      depth=depth)
 
     # Choices.
 

@@ -60,30 +60,23 @@ const ADDED_FIELDS: Fields = components!(added_fields);
 
 const ADDED_BOUNDS: &[&[Constraint]] = components!(added_bounds);
 
-impl AsnType for @rust@ {
-    const TAG: Tag = Tag::SEQUENCE;
+impl OfKind for @rust@ {
+    type Kind = ExtendedKind;
+}
 
-    ghost TAG = { SEQUENCE };
+impl Extended for @rust@ {
+    ghost root = { @root@ };
 
-    const CONSTRAINTS: Constraints = Constraints::NONE;
+    ghost additions = { @behind@ };
 
-    ghost CONSTRAINTS = { no_constraints };
-
-    ghost schema = { λ _. extended_at @root@ @behind@ };
-
-    ghost value = { λ x. record_value (
+    ghost contents = { λ x.
 @slots@
-        []) (
+        [] };
+
+    ghost added = { λ x.
 @added_slots@
-        []) };
-
-    ghost levels = { λ x. suc (deeper_of
-@levels@
-@added_levels@) };
-
-    ghost levelled = { λ _. extended_levelled @root@ @behind@ };
-
-    ghost tag_fits = { λ _. sequence_tag (parts_of @root@) true (parts_of @behind@) };
+        [] };
+@depth@
 }
 
 impl Constructed for @rust@ {
@@ -103,13 +96,9 @@ impl Constructed for @rust@ {
 
     ghost additions = { parts_of @behind@ };
 
-    ghost contents = { λ x.
-@slots@
-        [] };
+    ghost contents = { ⟦<@rust@ as Extended>⟧.contents };
 
-    ghost added = { λ x.
-@added_slots@
-        [] };
+    ghost added = { ⟦<@rust@ as Extended>⟧.added };
 
     ghost described = { fields_described @root@ };
 

@@ -1,17 +1,17 @@
 //! BasicContainer, of the module CAM-PDU-Descriptions.
 
 ghost use Rattle.cam.specs.CamPduDescriptions.{basic_container_added, basic_container_root};
-ghost use Rattle.rasn_below.specs.Components.{extended_at, extended_by, extended_levelled, fields_described, fields_of, parts_of};
-ghost use Rattle.rasn_below.specs.Types.{SEQUENCE, no_constraints, sequence_tag};
-ghost use Rattle.rasn_below.specs.Values.{deeper_of, record_value, whole};
-ghost use Rattle.std.specs.Prelude.{Some, [], max, pos, refl, suc, true, ◌∷◌};
+ghost use Rattle.rasn_below.specs.Components.{extended_by, fields_described, fields_of, parts_of};
+ghost use Rattle.rasn_below.specs.Values.{deeper_of, whole};
+ghost use Rattle.std.specs.Prelude.{Some, [], max, pos, refl, true, ◌∷◌};
 
 use its_container::aliases::StationType;
 use its_container::reference_position::ReferencePosition;
 use rasn_below::types::Identifier;
 use rasn_below::{
-    AsnType, Constraint, Constraints, Constructed, Decode, Decoder, Encode, Encoder, Fields, Tag,
-    added_bounds, added_fields, decode_extended, encode_extended, root_bounds, root_fields,
+    AsnType, Constraint, Constraints, Constructed, Decode, Decoder, Encode, Encoder, Extended,
+    ExtendedKind, Fields, OfKind, Tag, added_bounds, added_fields, decode_extended,
+    encode_extended, root_bounds, root_fields,
 };
 
 /// BasicContainer ::= SEQUENCE {
@@ -43,31 +43,27 @@ const ADDED_FIELDS: Fields = components!(added_fields);
 
 const ADDED_BOUNDS: &[&[Constraint]] = components!(added_bounds);
 
-impl AsnType for BasicContainer {
-    const TAG: Tag = Tag::SEQUENCE;
+impl OfKind for BasicContainer {
+    type Kind = ExtendedKind;
+}
 
-    ghost TAG = { SEQUENCE };
+impl Extended for BasicContainer {
+    ghost root = { basic_container_root };
 
-    const CONSTRAINTS: Constraints = Constraints::NONE;
+    ghost additions = { basic_container_added };
 
-    ghost CONSTRAINTS = { no_constraints };
-
-    ghost schema = { λ _. extended_at basic_container_root basic_container_added };
-
-    ghost value = { λ x. record_value (
+    ghost contents = { λ x.
         Some (whole (pos x.station_type)) ∷
         Some (⟦<ReferencePosition as AsnType>⟧.value x.reference_position) ∷
-        []) (
-        []) };
+        [] };
 
-    ghost levels = { λ x. suc (deeper_of
+    ghost added = { λ x.
+        [] };
+
+    ghost depth = { λ x. deeper_of
         (max 0
         (max (⟦<ReferencePosition as AsnType>⟧.levels x.reference_position) 0))
-        0) };
-
-    ghost levelled = { λ _. extended_levelled basic_container_root basic_container_added };
-
-    ghost tag_fits = { λ _. sequence_tag (parts_of basic_container_root) true (parts_of basic_container_added) };
+        0 };
 }
 
 impl Constructed for BasicContainer {
@@ -87,13 +83,9 @@ impl Constructed for BasicContainer {
 
     ghost additions = { parts_of basic_container_added };
 
-    ghost contents = { λ x.
-        Some (whole (pos x.station_type)) ∷
-        Some (⟦<ReferencePosition as AsnType>⟧.value x.reference_position) ∷
-        [] };
+    ghost contents = { ⟦<BasicContainer as Extended>⟧.contents };
 
-    ghost added = { λ x.
-        [] };
+    ghost added = { ⟦<BasicContainer as Extended>⟧.added };
 
     ghost described = { fields_described basic_container_root };
 

@@ -1,10 +1,9 @@
 //! CamParameters, of the module CAM-PDU-Descriptions.
 
 ghost use Rattle.cam.specs.CamPduDescriptions.{cam_parameters_added, cam_parameters_root};
-ghost use Rattle.rasn_below.specs.Components.{extended_at, extended_by, extended_levelled, fields_described, fields_of, parts_of};
-ghost use Rattle.rasn_below.specs.Types.{SEQUENCE, no_constraints, sequence_tag};
-ghost use Rattle.rasn_below.specs.Values.{deeper_of, record_value, slot_levels, slot_of};
-ghost use Rattle.std.specs.Prelude.{Some, [], max, refl, suc, true, ◌∷◌};
+ghost use Rattle.rasn_below.specs.Components.{extended_by, fields_described, fields_of, parts_of};
+ghost use Rattle.rasn_below.specs.Values.{deeper_of, slot_levels, slot_of};
+ghost use Rattle.std.specs.Prelude.{Some, [], max, refl, true, ◌∷◌};
 
 use crate::basic_container::BasicContainer;
 use crate::low_frequency_container::LowFrequencyContainer;
@@ -12,8 +11,9 @@ use crate::special_vehicle_container::SpecialVehicleContainer;
 use cam_high_frequency::high_frequency_container::HighFrequencyContainer;
 use rasn_below::types::Identifier;
 use rasn_below::{
-    AsnType, Constraint, Constraints, Constructed, Decode, Decoder, Encode, Encoder, Fields, Tag,
-    added_bounds, added_fields, decode_extended, encode_extended, root_bounds, root_fields,
+    AsnType, Constraint, Constraints, Constructed, Decode, Decoder, Encode, Encoder, Extended,
+    ExtendedKind, Fields, OfKind, Tag, added_bounds, added_fields, decode_extended,
+    encode_extended, root_bounds, root_fields,
 };
 
 /// CamParameters ::= SEQUENCE {
@@ -51,35 +51,31 @@ const ADDED_FIELDS: Fields = components!(added_fields);
 
 const ADDED_BOUNDS: &[&[Constraint]] = components!(added_bounds);
 
-impl AsnType for CamParameters {
-    const TAG: Tag = Tag::SEQUENCE;
+impl OfKind for CamParameters {
+    type Kind = ExtendedKind;
+}
 
-    ghost TAG = { SEQUENCE };
+impl Extended for CamParameters {
+    ghost root = { cam_parameters_root };
 
-    const CONSTRAINTS: Constraints = Constraints::NONE;
+    ghost additions = { cam_parameters_added };
 
-    ghost CONSTRAINTS = { no_constraints };
-
-    ghost schema = { λ _. extended_at cam_parameters_root cam_parameters_added };
-
-    ghost value = { λ x. record_value (
+    ghost contents = { λ x.
         Some (⟦<BasicContainer as AsnType>⟧.value x.basic_container) ∷
         Some (⟦<HighFrequencyContainer as AsnType>⟧.value x.high_frequency_container) ∷
         slot_of ⟦<LowFrequencyContainer as AsnType>⟧.value x.low_frequency_container ∷
         slot_of ⟦<SpecialVehicleContainer as AsnType>⟧.value x.special_vehicle_container ∷
-        []) (
-        []) };
+        [] };
 
-    ghost levels = { λ x. suc (deeper_of
+    ghost added = { λ x.
+        [] };
+
+    ghost depth = { λ x. deeper_of
         (max (⟦<BasicContainer as AsnType>⟧.levels x.basic_container)
         (max (⟦<HighFrequencyContainer as AsnType>⟧.levels x.high_frequency_container)
         (max (slot_levels ⟦<LowFrequencyContainer as AsnType>⟧.levels x.low_frequency_container)
         (max (slot_levels ⟦<SpecialVehicleContainer as AsnType>⟧.levels x.special_vehicle_container) 0))))
-        0) };
-
-    ghost levelled = { λ _. extended_levelled cam_parameters_root cam_parameters_added };
-
-    ghost tag_fits = { λ _. sequence_tag (parts_of cam_parameters_root) true (parts_of cam_parameters_added) };
+        0 };
 }
 
 impl Constructed for CamParameters {
@@ -99,15 +95,9 @@ impl Constructed for CamParameters {
 
     ghost additions = { parts_of cam_parameters_added };
 
-    ghost contents = { λ x.
-        Some (⟦<BasicContainer as AsnType>⟧.value x.basic_container) ∷
-        Some (⟦<HighFrequencyContainer as AsnType>⟧.value x.high_frequency_container) ∷
-        slot_of ⟦<LowFrequencyContainer as AsnType>⟧.value x.low_frequency_container ∷
-        slot_of ⟦<SpecialVehicleContainer as AsnType>⟧.value x.special_vehicle_container ∷
-        [] };
+    ghost contents = { ⟦<CamParameters as Extended>⟧.contents };
 
-    ghost added = { λ x.
-        [] };
+    ghost added = { ⟦<CamParameters as Extended>⟧.added };
 
     ghost described = { fields_described cam_parameters_root };
 

@@ -1,16 +1,16 @@
 //! RsuContainerHighFrequency, of the module CAM-PDU-Descriptions.
 
 ghost use Rattle.cam_high_frequency.specs.CamPduDescriptions.{rsu_container_high_frequency_added, rsu_container_high_frequency_root};
-ghost use Rattle.rasn_below.specs.Components.{extended_at, extended_by, extended_levelled, fields_described, fields_of, parts_of};
-ghost use Rattle.rasn_below.specs.Types.{SEQUENCE, no_constraints, sequence_tag};
-ghost use Rattle.rasn_below.specs.Values.{deeper_of, record_value, slot_levels, slot_of};
-ghost use Rattle.std.specs.Prelude.{Some, [], max, refl, suc, true, ◌∷◌};
+ghost use Rattle.rasn_below.specs.Components.{extended_by, fields_described, fields_of, parts_of};
+ghost use Rattle.rasn_below.specs.Values.{deeper_of, slot_levels, slot_of};
+ghost use Rattle.std.specs.Prelude.{Some, [], max, refl, true, ◌∷◌};
 
 use its_container::aliases::ProtectedCommunicationZonesRsu;
 use rasn_below::types::Identifier;
 use rasn_below::{
-    AsnType, Constraint, Constraints, Constructed, Decode, Decoder, Encode, Encoder, Fields, Tag,
-    added_bounds, added_fields, decode_extended, encode_extended, root_bounds, root_fields,
+    AsnType, Constraint, Constraints, Constructed, Decode, Decoder, Encode, Encoder, Extended,
+    ExtendedKind, Fields, OfKind, Tag, added_bounds, added_fields, decode_extended,
+    encode_extended, root_bounds, root_fields,
 };
 
 /// RSUContainerHighFrequency ::= SEQUENCE {
@@ -40,30 +40,25 @@ const ADDED_FIELDS: Fields = components!(added_fields);
 
 const ADDED_BOUNDS: &[&[Constraint]] = components!(added_bounds);
 
-impl AsnType for RsuContainerHighFrequency {
-    const TAG: Tag = Tag::SEQUENCE;
+impl OfKind for RsuContainerHighFrequency {
+    type Kind = ExtendedKind;
+}
 
-    ghost TAG = { SEQUENCE };
+impl Extended for RsuContainerHighFrequency {
+    ghost root = { rsu_container_high_frequency_root };
 
-    const CONSTRAINTS: Constraints = Constraints::NONE;
+    ghost additions = { rsu_container_high_frequency_added };
 
-    ghost CONSTRAINTS = { no_constraints };
-
-    ghost schema = { λ _. extended_at rsu_container_high_frequency_root rsu_container_high_frequency_added };
-
-    ghost value = { λ x. record_value (
+    ghost contents = { λ x.
         slot_of ⟦<ProtectedCommunicationZonesRsu as AsnType>⟧.value x.protected_communication_zones_rsu ∷
-        []) (
-        []) };
+        [] };
 
-    ghost levels = { λ x. suc (deeper_of
+    ghost added = { λ x.
+        [] };
+
+    ghost depth = { λ x. deeper_of
         (max (slot_levels ⟦<ProtectedCommunicationZonesRsu as AsnType>⟧.levels x.protected_communication_zones_rsu) 0)
-        0) };
-
-    ghost levelled = { λ _. extended_levelled rsu_container_high_frequency_root rsu_container_high_frequency_added };
-
-    ghost tag_fits = { λ _. sequence_tag (parts_of rsu_container_high_frequency_root) true (parts_of
-        rsu_container_high_frequency_added) };
+        0 };
 }
 
 impl Constructed for RsuContainerHighFrequency {
@@ -83,12 +78,9 @@ impl Constructed for RsuContainerHighFrequency {
 
     ghost additions = { parts_of rsu_container_high_frequency_added };
 
-    ghost contents = { λ x.
-        slot_of ⟦<ProtectedCommunicationZonesRsu as AsnType>⟧.value x.protected_communication_zones_rsu ∷
-        [] };
+    ghost contents = { ⟦<RsuContainerHighFrequency as Extended>⟧.contents };
 
-    ghost added = { λ x.
-        [] };
+    ghost added = { ⟦<RsuContainerHighFrequency as Extended>⟧.added };
 
     ghost described = { fields_described rsu_container_high_frequency_root };
 

@@ -1,16 +1,16 @@
 //! CauseCode, of the module ITS-Container.
 
 ghost use Rattle.its_container.specs.ItsContainer.{cause_code_added, cause_code_root};
-ghost use Rattle.rasn_below.specs.Components.{extended_at, extended_by, extended_levelled, fields_described, fields_of, parts_of};
-ghost use Rattle.rasn_below.specs.Types.{SEQUENCE, no_constraints, sequence_tag};
-ghost use Rattle.rasn_below.specs.Values.{deeper_of, record_value, whole};
-ghost use Rattle.std.specs.Prelude.{Some, [], pos, refl, suc, true, ◌∷◌};
+ghost use Rattle.rasn_below.specs.Components.{extended_by, fields_described, fields_of, parts_of};
+ghost use Rattle.rasn_below.specs.Values.{whole};
+ghost use Rattle.std.specs.Prelude.{Some, [], pos, refl, true, ◌∷◌};
 
 use crate::aliases::{CauseCodeType, SubCauseCodeType};
 use rasn_below::types::Identifier;
 use rasn_below::{
-    AsnType, Constraint, Constraints, Constructed, Decode, Decoder, Encode, Encoder, Fields, Tag,
-    added_bounds, added_fields, decode_extended, encode_extended, root_bounds, root_fields,
+    Constraint, Constraints, Constructed, Decode, Decoder, Encode, Encoder, Extended, ExtendedKind,
+    Fields, OfKind, Tag, added_bounds, added_fields, decode_extended, encode_extended, root_bounds,
+    root_fields,
 };
 
 /// CauseCode ::= SEQUENCE {
@@ -42,30 +42,22 @@ const ADDED_FIELDS: Fields = components!(added_fields);
 
 const ADDED_BOUNDS: &[&[Constraint]] = components!(added_bounds);
 
-impl AsnType for CauseCode {
-    const TAG: Tag = Tag::SEQUENCE;
+impl OfKind for CauseCode {
+    type Kind = ExtendedKind;
+}
 
-    ghost TAG = { SEQUENCE };
+impl Extended for CauseCode {
+    ghost root = { cause_code_root };
 
-    const CONSTRAINTS: Constraints = Constraints::NONE;
+    ghost additions = { cause_code_added };
 
-    ghost CONSTRAINTS = { no_constraints };
-
-    ghost schema = { λ _. extended_at cause_code_root cause_code_added };
-
-    ghost value = { λ x. record_value (
+    ghost contents = { λ x.
         Some (whole (pos x.cause_code)) ∷
         Some (whole (pos x.sub_cause_code)) ∷
-        []) (
-        []) };
+        [] };
 
-    ghost levels = { λ x. suc (deeper_of
-        0
-        0) };
-
-    ghost levelled = { λ _. extended_levelled cause_code_root cause_code_added };
-
-    ghost tag_fits = { λ _. sequence_tag (parts_of cause_code_root) true (parts_of cause_code_added) };
+    ghost added = { λ x.
+        [] };
 }
 
 impl Constructed for CauseCode {
@@ -85,13 +77,9 @@ impl Constructed for CauseCode {
 
     ghost additions = { parts_of cause_code_added };
 
-    ghost contents = { λ x.
-        Some (whole (pos x.cause_code)) ∷
-        Some (whole (pos x.sub_cause_code)) ∷
-        [] };
+    ghost contents = { ⟦<CauseCode as Extended>⟧.contents };
 
-    ghost added = { λ x.
-        [] };
+    ghost added = { ⟦<CauseCode as Extended>⟧.added };
 
     ghost described = { fields_described cause_code_root };
 

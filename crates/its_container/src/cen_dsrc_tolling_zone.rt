@@ -1,16 +1,16 @@
 //! CenDsrcTollingZone, of the module ITS-Container.
 
 ghost use Rattle.its_container.specs.ItsContainer.{cen_dsrc_tolling_zone_added, cen_dsrc_tolling_zone_root};
-ghost use Rattle.rasn_below.specs.Components.{extended_at, extended_by, extended_levelled, fields_described, fields_of, parts_of};
-ghost use Rattle.rasn_below.specs.Types.{SEQUENCE, no_constraints, sequence_tag};
-ghost use Rattle.rasn_below.specs.Values.{deeper_of, record_value, slot_levels, slot_of, whole};
-ghost use Rattle.std.specs.Prelude.{Some, [], max, pos, refl, suc, true, ◌∷◌};
+ghost use Rattle.rasn_below.specs.Components.{extended_by, fields_described, fields_of, parts_of};
+ghost use Rattle.rasn_below.specs.Values.{deeper_of, slot_levels, slot_of, whole};
+ghost use Rattle.std.specs.Prelude.{Some, [], max, pos, refl, true, ◌∷◌};
 
 use crate::aliases::{CenDsrcTollingZoneId, Latitude, Longitude};
 use rasn_below::types::Identifier;
 use rasn_below::{
-    AsnType, Constraint, Constraints, Constructed, Decode, Decoder, Encode, Encoder, Fields, Tag,
-    added_bounds, added_fields, decode_extended, encode_extended, root_bounds, root_fields,
+    AsnType, Constraint, Constraints, Constructed, Decode, Decoder, Encode, Encoder, Extended,
+    ExtendedKind, Fields, OfKind, Tag, added_bounds, added_fields, decode_extended,
+    encode_extended, root_bounds, root_fields,
 };
 
 /// CenDsrcTollingZone ::= SEQUENCE {
@@ -45,34 +45,29 @@ const ADDED_FIELDS: Fields = components!(added_fields);
 
 const ADDED_BOUNDS: &[&[Constraint]] = components!(added_bounds);
 
-impl AsnType for CenDsrcTollingZone {
-    const TAG: Tag = Tag::SEQUENCE;
+impl OfKind for CenDsrcTollingZone {
+    type Kind = ExtendedKind;
+}
 
-    ghost TAG = { SEQUENCE };
+impl Extended for CenDsrcTollingZone {
+    ghost root = { cen_dsrc_tolling_zone_root };
 
-    const CONSTRAINTS: Constraints = Constraints::NONE;
+    ghost additions = { cen_dsrc_tolling_zone_added };
 
-    ghost CONSTRAINTS = { no_constraints };
-
-    ghost schema = { λ _. extended_at cen_dsrc_tolling_zone_root cen_dsrc_tolling_zone_added };
-
-    ghost value = { λ x. record_value (
+    ghost contents = { λ x.
         Some (whole x.protected_zone_latitude) ∷
         Some (whole x.protected_zone_longitude) ∷
         slot_of (λ v. whole (pos v)) x.cen_dsrc_tolling_zone_id ∷
-        []) (
-        []) };
+        [] };
 
-    ghost levels = { λ x. suc (deeper_of
+    ghost added = { λ x.
+        [] };
+
+    ghost depth = { λ x. deeper_of
         (max 0
         (max 0
         (max (slot_levels ⟦<CenDsrcTollingZoneId as AsnType>⟧.levels x.cen_dsrc_tolling_zone_id) 0)))
-        0) };
-
-    ghost levelled = { λ _. extended_levelled cen_dsrc_tolling_zone_root cen_dsrc_tolling_zone_added };
-
-    ghost tag_fits = { λ _. sequence_tag (parts_of cen_dsrc_tolling_zone_root) true (parts_of
-        cen_dsrc_tolling_zone_added) };
+        0 };
 }
 
 impl Constructed for CenDsrcTollingZone {
@@ -92,14 +87,9 @@ impl Constructed for CenDsrcTollingZone {
 
     ghost additions = { parts_of cen_dsrc_tolling_zone_added };
 
-    ghost contents = { λ x.
-        Some (whole x.protected_zone_latitude) ∷
-        Some (whole x.protected_zone_longitude) ∷
-        slot_of (λ v. whole (pos v)) x.cen_dsrc_tolling_zone_id ∷
-        [] };
+    ghost contents = { ⟦<CenDsrcTollingZone as Extended>⟧.contents };
 
-    ghost added = { λ x.
-        [] };
+    ghost added = { ⟦<CenDsrcTollingZone as Extended>⟧.added };
 
     ghost described = { fields_described cen_dsrc_tolling_zone_root };
 

@@ -1,17 +1,17 @@
 //! ClosedLanes, of the module ITS-Container.
 
 ghost use Rattle.its_container.specs.ItsContainer.{closed_lanes_added, closed_lanes_root};
-ghost use Rattle.rasn_below.specs.Components.{extended_at, extended_by, extended_levelled, fields_described, fields_of, parts_of};
-ghost use Rattle.rasn_below.specs.Types.{SEQUENCE, no_constraints, sequence_tag};
-ghost use Rattle.rasn_below.specs.Values.{bits, deeper_of, record_value, slot_levels, slot_of};
-ghost use Rattle.std.specs.Prelude.{Some, [], max, refl, suc, true, ◌∷◌};
+ghost use Rattle.rasn_below.specs.Components.{extended_by, fields_described, fields_of, parts_of};
+ghost use Rattle.rasn_below.specs.Values.{bits, deeper_of, slot_levels, slot_of};
+ghost use Rattle.std.specs.Prelude.{Some, [], max, refl, true, ◌∷◌};
 
 use crate::aliases::DrivingLaneStatus;
 use crate::hard_shoulder_status::HardShoulderStatus;
 use rasn_below::types::Identifier;
 use rasn_below::{
-    AsnType, Constraint, Constraints, Constructed, Decode, Decoder, Encode, Encoder, Fields, Tag,
-    added_bounds, added_fields, decode_extended, encode_extended, root_bounds, root_fields,
+    AsnType, Constraint, Constraints, Constructed, Decode, Decoder, Encode, Encoder, Extended,
+    ExtendedKind, Fields, OfKind, Tag, added_bounds, added_fields, decode_extended,
+    encode_extended, root_bounds, root_fields,
 };
 
 /// ClosedLanes ::= SEQUENCE {
@@ -46,33 +46,29 @@ const ADDED_FIELDS: Fields = components!(added_fields);
 
 const ADDED_BOUNDS: &[&[Constraint]] = components!(added_bounds);
 
-impl AsnType for ClosedLanes {
-    const TAG: Tag = Tag::SEQUENCE;
+impl OfKind for ClosedLanes {
+    type Kind = ExtendedKind;
+}
 
-    ghost TAG = { SEQUENCE };
+impl Extended for ClosedLanes {
+    ghost root = { closed_lanes_root };
 
-    const CONSTRAINTS: Constraints = Constraints::NONE;
+    ghost additions = { closed_lanes_added };
 
-    ghost CONSTRAINTS = { no_constraints };
-
-    ghost schema = { λ _. extended_at closed_lanes_root closed_lanes_added };
-
-    ghost value = { λ x. record_value (
+    ghost contents = { λ x.
         slot_of ⟦<HardShoulderStatus as AsnType>⟧.value x.innerhard_shoulder_status ∷
         slot_of ⟦<HardShoulderStatus as AsnType>⟧.value x.outerhard_shoulder_status ∷
         slot_of bits x.driving_lane_status ∷
-        []) (
-        []) };
+        [] };
 
-    ghost levels = { λ x. suc (deeper_of
+    ghost added = { λ x.
+        [] };
+
+    ghost depth = { λ x. deeper_of
         (max (slot_levels ⟦<HardShoulderStatus as AsnType>⟧.levels x.innerhard_shoulder_status)
         (max (slot_levels ⟦<HardShoulderStatus as AsnType>⟧.levels x.outerhard_shoulder_status)
         (max (slot_levels ⟦<DrivingLaneStatus as AsnType>⟧.levels x.driving_lane_status) 0)))
-        0) };
-
-    ghost levelled = { λ _. extended_levelled closed_lanes_root closed_lanes_added };
-
-    ghost tag_fits = { λ _. sequence_tag (parts_of closed_lanes_root) true (parts_of closed_lanes_added) };
+        0 };
 }
 
 impl Constructed for ClosedLanes {
@@ -92,14 +88,9 @@ impl Constructed for ClosedLanes {
 
     ghost additions = { parts_of closed_lanes_added };
 
-    ghost contents = { λ x.
-        slot_of ⟦<HardShoulderStatus as AsnType>⟧.value x.innerhard_shoulder_status ∷
-        slot_of ⟦<HardShoulderStatus as AsnType>⟧.value x.outerhard_shoulder_status ∷
-        slot_of bits x.driving_lane_status ∷
-        [] };
+    ghost contents = { ⟦<ClosedLanes as Extended>⟧.contents };
 
-    ghost added = { λ x.
-        [] };
+    ghost added = { ⟦<ClosedLanes as Extended>⟧.added };
 
     ghost described = { fields_described closed_lanes_root };
 

@@ -1,17 +1,17 @@
 //! ProtectedCommunicationZone, of the module ITS-Container.
 
 ghost use Rattle.its_container.specs.ItsContainer.{protected_communication_zone_added, protected_communication_zone_root};
-ghost use Rattle.rasn_below.specs.Components.{extended_at, extended_by, extended_levelled, fields_described, fields_of, parts_of};
-ghost use Rattle.rasn_below.specs.Types.{SEQUENCE, no_constraints, sequence_tag};
-ghost use Rattle.rasn_below.specs.Values.{deeper_of, record_value, slot_levels, slot_of, whole};
-ghost use Rattle.std.specs.Prelude.{Some, [], max, pos, refl, suc, true, ◌∷◌};
+ghost use Rattle.rasn_below.specs.Components.{extended_by, fields_described, fields_of, parts_of};
+ghost use Rattle.rasn_below.specs.Values.{deeper_of, slot_levels, slot_of, whole};
+ghost use Rattle.std.specs.Prelude.{Some, [], max, pos, refl, true, ◌∷◌};
 
 use crate::aliases::{Latitude, Longitude, ProtectedZoneId, ProtectedZoneRadius, TimestampIts};
 use crate::protected_zone_type::ProtectedZoneType;
 use rasn_below::types::Identifier;
 use rasn_below::{
-    AsnType, Constraint, Constraints, Constructed, Decode, Decoder, Encode, Encoder, Fields, Tag,
-    added_bounds, added_fields, decode_extended, encode_extended, root_bounds, root_fields,
+    AsnType, Constraint, Constraints, Constructed, Decode, Decoder, Encode, Encoder, Extended,
+    ExtendedKind, Fields, OfKind, Tag, added_bounds, added_fields, decode_extended,
+    encode_extended, root_bounds, root_fields,
 };
 
 /// ProtectedCommunicationZone ::= SEQUENCE {
@@ -55,40 +55,35 @@ const ADDED_FIELDS: Fields = components!(added_fields);
 
 const ADDED_BOUNDS: &[&[Constraint]] = components!(added_bounds);
 
-impl AsnType for ProtectedCommunicationZone {
-    const TAG: Tag = Tag::SEQUENCE;
+impl OfKind for ProtectedCommunicationZone {
+    type Kind = ExtendedKind;
+}
 
-    ghost TAG = { SEQUENCE };
+impl Extended for ProtectedCommunicationZone {
+    ghost root = { protected_communication_zone_root };
 
-    const CONSTRAINTS: Constraints = Constraints::NONE;
+    ghost additions = { protected_communication_zone_added };
 
-    ghost CONSTRAINTS = { no_constraints };
-
-    ghost schema = { λ _. extended_at protected_communication_zone_root protected_communication_zone_added };
-
-    ghost value = { λ x. record_value (
+    ghost contents = { λ x.
         Some (⟦<ProtectedZoneType as AsnType>⟧.value x.protected_zone_type) ∷
         slot_of (λ v. whole (pos v)) x.expiry_time ∷
         Some (whole x.protected_zone_latitude) ∷
         Some (whole x.protected_zone_longitude) ∷
         slot_of whole x.protected_zone_radius ∷
         slot_of (λ v. whole (pos v)) x.protected_zone_id ∷
-        []) (
-        []) };
+        [] };
 
-    ghost levels = { λ x. suc (deeper_of
+    ghost added = { λ x.
+        [] };
+
+    ghost depth = { λ x. deeper_of
         (max 0
         (max (slot_levels ⟦<TimestampIts as AsnType>⟧.levels x.expiry_time)
         (max 0
         (max 0
         (max (slot_levels ⟦<ProtectedZoneRadius as AsnType>⟧.levels x.protected_zone_radius)
         (max (slot_levels ⟦<ProtectedZoneId as AsnType>⟧.levels x.protected_zone_id) 0))))))
-        0) };
-
-    ghost levelled = { λ _. extended_levelled protected_communication_zone_root protected_communication_zone_added };
-
-    ghost tag_fits = { λ _. sequence_tag (parts_of protected_communication_zone_root) true (parts_of
-        protected_communication_zone_added) };
+        0 };
 }
 
 impl Constructed for ProtectedCommunicationZone {
@@ -108,17 +103,9 @@ impl Constructed for ProtectedCommunicationZone {
 
     ghost additions = { parts_of protected_communication_zone_added };
 
-    ghost contents = { λ x.
-        Some (⟦<ProtectedZoneType as AsnType>⟧.value x.protected_zone_type) ∷
-        slot_of (λ v. whole (pos v)) x.expiry_time ∷
-        Some (whole x.protected_zone_latitude) ∷
-        Some (whole x.protected_zone_longitude) ∷
-        slot_of whole x.protected_zone_radius ∷
-        slot_of (λ v. whole (pos v)) x.protected_zone_id ∷
-        [] };
+    ghost contents = { ⟦<ProtectedCommunicationZone as Extended>⟧.contents };
 
-    ghost added = { λ x.
-        [] };
+    ghost added = { ⟦<ProtectedCommunicationZone as Extended>⟧.added };
 
     ghost described = { fields_described protected_communication_zone_root };
 

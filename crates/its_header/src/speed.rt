@@ -1,14 +1,14 @@
 //! A speed: an INTEGER by hand, with the calls of an encoder and a decoder.
 
-ghost use Rattle.std.specs.Prelude.{refl};
+ghost use Rattle.std.specs.Prelude.{Some, refl};
 ghost use Rattle.rasn_below.specs.Values.{whole};
 ghost use Rattle.rasn_below.specs.Types.{INTEGER};
 ghost use Rattle.rasn_below.specs.Types.{i128_range, no_constraints};
 ghost use Rattle.rasn_below.specs.Types.{always, number_schema};
-ghost use Rattle.rasn_below.specs.Types.{simple_levelled};
+ghost use Rattle.rasn_below.specs.Types.{simple_levelled, tagged};
 
 use rasn_below::codec::{Decode, Decoder, Encode, Encoder};
-use rasn_below::schema::{AsnType, Constraints};
+use rasn_below::schema::{AsnType, Constraints, TagTree, TypeTree};
 use rasn_below::types::{Identifier, Tag};
 
 /// Speed ::= INTEGER
@@ -22,6 +22,12 @@ impl AsnType for Speed {
 
     ghost TAG = { INTEGER };
 
+    const TAG_TREE: TypeTree = TypeTree(TagTree::Leaf(Tag::INTEGER));
+
+    ghost TAG_TREE = { Some (tagged INTEGER) };
+
+    const IS_CHOICE: bool = false;
+
     const CONSTRAINTS: Constraints = Constraints::NONE;
 
     ghost CONSTRAINTS = { no_constraints };
@@ -33,6 +39,8 @@ impl AsnType for Speed {
     ghost levelled = { λ c. simple_levelled (number_schema c i128_range) tt };
 
     ghost tag_fits = { λ _ _. refl };
+
+    ghost tree_fits = { λ _ _. (refl, refl) };
 }
 
 impl Encode for Speed {

@@ -23,14 +23,14 @@ use Rattle.per_pieces.proofs.Writing.{none_behind, then_assoc, then_nothing}
 use Rattle.per_write.proofs.Gathering.{behind_at}
 
 -- X.691 19.2: the presence bit of a component
-there_shown : (q : Presence) (v : Value) → presence_bit q (Some v) ≡ Some true → (shown q (Some v) ≡ Some true) × (flag q true ≡ true ∷ []) × (has_bit q ≡ 1)
+pub there_shown : (q : Presence) (v : Value) → presence_bit q (Some v) ≡ Some true → (shown q (Some v) ≡ Some true) × (flag q true ≡ true ∷ []) × (has_bit q ≡ 1)
 unfolding shown
 there_shown required v e = absurd cc
 there_shown optional v e = (refl, refl, refl)
 there_shown group v e = (refl, refl, refl)
 there_shown (default d) v e = (e, refl, refl)
 
-out_shown : (q : Presence) (r : Option Value) → presence_bit q r ≡ Some false → (shown q r ≡ Some false) × (flag q false ≡ false ∷ []) × (has_bit q ≡ 1)
+pub out_shown : (q : Presence) (r : Option Value) → presence_bit q r ≡ Some false → (shown q r ≡ Some false) × (flag q false ≡ false ∷ []) × (has_bit q ≡ 1)
 unfolding shown
 out_shown required r e = absurd cc
 out_shown optional None e = (refl, refl, refl)

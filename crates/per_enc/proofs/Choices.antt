@@ -1,5 +1,5 @@
 -- What the scope of a choice presents, and how it refuses.
-use Rattle.std.specs.Prelude.{Result, Ok, Err}
+use Rattle.std.specs.Prelude.{OnErr, Result, Ok, Err}
 use Rattle.std.proofs.Common.{◌≡◌, refl, sym, ap, ap₂, ◌∙◌, subst, inl, ℕ, zero, suc, Bool, true, false, List, [], ◌∷◌, ◌++◌, length, replicate, Option, Some, None, arith, append_assoc, length-append, ◌+◌, ◌<◌, ◌≤◌}
 use Rattle.std.proofs.lemmas.List.{append_cancel_left, length-replicate}
 use Rattle.rasn_types.specs.Bits.{Bits, to_bits}
@@ -8,7 +8,8 @@ use Rattle.rasn_types.specs.Codecs.{variant_of}
 use Rattle.rasn_types.specs.Values.{Value, alternative, Side, root, added}
 use Rattle.rasn_types.specs.Variants.{Variant}
 use Rattle.rasn_types.specs.declared.types.Codec.{Codec}
-use Rattle.rasn_schema.specs.Choices.{StandsAt, VariantShape, alternative_at, alternative_in, choice_schema, choices_of, is_extensible, place_of, tags_of, variants_behind, variants_counted, variants_of, variants_on}
+use Rattle.rasn_schema.specs.Choices.{StandsAt, VariantShape, alternative_at, alternative_in, choice_schema, choices_of, is_extensible, place_of, tags_of, variants_behind, variants_of, variants_on}
+use Rattle.rasn_schema.specs.Laws.Choices.{variants_counted}
 use Rattle.rasn_schema.specs.Schemas
 use Rattle.rasn_schema.specs.Schemas.{Schema, Parts, no_parts, part}
 use Rattle.rasn_schema.specs.declared.items.Place.{Place}
@@ -338,3 +339,10 @@ closes_choice xs vs t x i j m y o ps qs count p d k s v result e few b h q c u f
     (subst (λ (n : ℕ). ClosesBehind o.before n (placed_at d k) o.scope j result y) e
     (subst (λ (r : Place). ClosesBehind o.before count r o.scope j result y) (same_place t vs xs d k p h f)
     (subst (λ (z : State). ClosesBehind o.before count p o.scope z result y) q c)))
+
+-- a call that closes a choice leaves an encoder that it refused failed, and the variant stays
+pub closes_well : (before : Option Pieces) (n : ℕ) (p : Place) (o : Scope) (x y : State) (result : Result (Unit {0}) EncodeError) → ClosesBehind before n p o x result y → OnErr result (y.failed ≡ true) × (y.codec ≡ x.codec)
+closes_well None n (Root i) o x y result c = (c.fails, c.kept)
+closes_well None n (Added i) o x y (Ok u) c = (tt, c.kept)
+closes_well None n (Added i) o x y (Err e) c = (c.fails, c.kept)
+closes_well (Some before) n p o x y result c = (c.fails, c.kept)

@@ -5,3 +5,10 @@ pub mod Extending
 pub mod Given
 pub mod Presenting
 pub mod Records
+pub mod Inside
+pub mod SetChain
+pub mod SetParts
+pub mod SetsClosed
+pub mod Noting
+pub mod Around
+pub mod SetCalls

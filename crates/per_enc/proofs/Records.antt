@@ -11,7 +11,7 @@ use Rattle.rasn_traits.specs.Additions.{extended, PresentsAdditions, RefusesAddi
 use Rattle.rasn_traits.specs.Calls.{Written}
 use Rattle.rasn_schema.specs.Lawful.{presence_bits}
 use Rattle.rasn_schema.specs.Records.{record_value}
-use Rattle.rasn_schema.specs.Schemas.{Schema, Parts, no_parts}
+use Rattle.rasn_schema.specs.Schemas.{listed, Schema, Parts, no_parts}
 use Rattle.rasn_traits.specs.Scopes.{PresentsParts, PresentsFields, presents_fields, RefusesFields, refuses_root, refuses_behind_root, Passes, OpenedToWrite}
 use Rattle.per_core.specs.Canon.{canon, members, any_set, bitmap, bitmap_of, extension_bit, flags_of, bodies_of, opens_of, with_additions, record_of as record_writer}
 use Rattle.per_core.specs.Writers.{Writer, just, ◌▹◌, join, go_on, after}
@@ -54,7 +54,7 @@ unfolding canon record_writer bitmap_of
 plain_form a ps rs p = rw (slots-as_slots rs) refl
 
 -- a fault of a component is one of the record
-stands_in : (kind : EncodeErrorKind) (x m : State) (s : Schema) (v : Value) (ps : Parts) (marker : Bool) (qs : Parts) (rs xs : List (Option Value)) → m.failed ≡ false → HasPart s v ps rs ⊎ HasPart s v qs xs → Stands kind m s v →
+pub stands_in : (kind : EncodeErrorKind) (x m : State) (s : Schema) (v : Value) (ps : Parts) (marker : Bool) (qs : Parts) (rs xs : List (Option Value)) → m.failed ≡ false → HasPart s v ps rs ⊎ HasPart s v qs xs → Stands kind m s v →
     Stands kind x (extended ps marker qs) (record_value rs xs)
 stands_in (ValueConstraintNotSatisfied value lower upper) x m s v ps marker qs rs xs f (inl h) k = in_part xs h k
 stands_in IntegerTypeConversionFailed x m s v ps marker qs rs xs f (inl h) k = in_part xs h k
@@ -111,7 +111,7 @@ gathering ps qs {x} {i} {m} rs h k =
     }
 
 -- a root without encoding
-root_none : (a : Variant) (ps : Parts) (marker : Bool) (qs : Parts) (rs xs : List (Option Value)) → ((p : ℕ) → bodies_of (members a ps) rs p ≡ None) → (p : ℕ) → canon a (extended ps marker qs) (record_value rs xs) p ≡ None
+pub root_none : (a : Variant) (ps : Parts) (marker : Bool) (qs : Parts) (rs xs : List (Option Value)) → ((p : ℕ) → bodies_of (members a ps) rs p ≡ None) → (p : ℕ) → canon a (extended ps marker qs) (record_value rs xs) p ≡ None
 root_none a ps marker qs rs xs n p = sym (record_form a ps marker qs rs xs p) ∙ go (bitmap_of (members a qs) xs)
   where
     go : (o : Option Bits) → with_additions a marker (members a qs) xs (flags_of (members a ps) rs ▹ bodies_of (members a ps) rs) o p ≡ None
@@ -120,7 +120,7 @@ root_none a ps marker qs rs xs n p = sym (record_form a ps marker qs rs xs p) �
         (λ q. ap (λ o. go_on o (cond (any_set bs) (bitmap a bs ▹ opens_of a (members a qs) xs bs) (just [])) q) (none_behind (flags_of (members a ps) rs q) (bodies_of (members a ps) rs) q n))
 
 -- an addition without encoding
-addition_none : (a : Variant) (ps : Parts) (marker : Bool) (qs : Parts) (rs xs : List (Option Value)) → ((bs : Bits) → bitmap_of (members a qs) xs ≡ Some bs → any_set bs ≡ true) →
+pub addition_none : (a : Variant) (ps : Parts) (marker : Bool) (qs : Parts) (rs xs : List (Option Value)) → ((bs : Bits) → bitmap_of (members a qs) xs ≡ Some bs → any_set bs ≡ true) →
     ((bs : Bits) → bitmap_of (members a qs) xs ≡ Some bs → (p : ℕ) → opens_of a (members a qs) xs bs p ≡ None) → (p : ℕ) → canon a (extended ps marker qs) (record_value rs xs) p ≡ None
 addition_none a ps marker qs rs xs t n p = sym (record_form a ps marker qs rs xs p) ∙ go (bitmap_of (members a qs) xs) refl
   where
@@ -132,7 +132,7 @@ addition_none a ps marker qs rs xs t n p = sym (record_form a ps marker qs rs xs
     go (Some bs) e = rw (t bs e) (none_behind (extension_bit marker true p) (inner ▹ (bitmap a bs ▹ opens_of a (members a qs) xs bs)) p
         (λ q. none_behind (inner q) (bitmap a bs ▹ opens_of a (members a qs) xs bs) q (λ r. none_behind (bitmap a bs r) (opens_of a (members a qs) xs bs) r (n bs e))))
 
-no_more_refused : {e : EncodeError} {x : State} {xs : List (Option Value)} → RefusesAdditions encoder_rules e no_parts x xs → ⊥
+pub no_more_refused : {e : EncodeError} {x : State} {xs : List (Option Value)} → RefusesAdditions encoder_rules e no_parts x xs → ⊥
 no_more_refused c = elim c [ ]
 
 refuses_record : (e : EncodeError) (x i : State) (o : Scope) (ps : Parts) (marker : Bool) (qs : Parts) (rs xs : List (Option Value)) → (marker ≡ false → qs ≡ no_parts) → Opens (extended ps marker qs) x o i → RefusesFields encoder_rules e ps qs i rs xs →
@@ -154,10 +154,10 @@ refuses_record e x i o ps true qs rs xs w h (refuses_behind_root {m = m} c k) =
 refuses_record e x i o ps false qs rs xs w h (refuses_behind_root {m = m} c k) = absurd (no_more_refused (subst (λ (q : Parts). RefusesAdditions encoder_rules e q m xs) (w refl) k))
 
 -- what passes out of a record that is opened
-pub passes : (x i : State) (o : Scope) (ps : Parts) (marker : Bool) (qs : Parts) → (marker ≡ false → qs ≡ no_parts) → Opens (extended ps marker qs) x o i → Passes encoder_rules ps marker qs x i
+pub passes : (x i : State) (o : Scope) (ps : Parts) (marker : Bool) (qs : Parts) → (marker ≡ false → qs ≡ no_parts) → Opens (extended ps marker qs) x o i → Passes encoder_rules listed ps marker qs x i
 passes x i o ps marker qs w h = record {
   room = λ e m. record { kind_is = m.kind_is; codec_is = m.codec_is ∙ h.same };
-  of_record = λ e rs xs r. refuses_record e x i o ps marker qs rs xs w h r;
+  of_record = λ e rs xs n r. refuses_record e x i o ps marker qs rs xs w h r;
 }
 
 -- the root behind what stands in front of it
@@ -172,7 +172,7 @@ root_laid {y = y} {codec} {ps} {rs} {front} e l p u =
     ∙ sym (moved p front (plain l.flags) flags bodies (l.are_flags (after p (placed_bits front p)) ∙ ap Some (sym (settle_plain l.flags (after p (placed_bits front p)))))))
 
 -- what was written behind the pieces from before
-presents_appended : (x z : State) (s : Schema) (v : Value) (behind : List Piece) → x.failed ≡ false → z.failed ≡ false → z.codec ≡ x.codec → z.scope ≡ x.scope → z.pieces.list ≡ x.pieces.list ++ behind → z.pieces.placed ≡ x.pieces.placed →
+pub presents_appended : (x z : State) (s : Schema) (v : Value) (behind : List Piece) → x.failed ≡ false → z.failed ≡ false → z.codec ≡ x.codec → z.scope ≡ x.scope → z.pieces.list ≡ x.pieces.list ++ behind → z.pieces.placed ≡ x.pieces.placed →
     ((p : ℕ) → MayBegin x.pieces p → AppendsAt p x.pieces.list (canon (variant_of x.codec) s v) z.pieces.list) → Presents x s v z
 presents_appended x z s v behind f g d u l m w = record { begun = f; left = g; same = d; beside = u; appended = record { behind = behind; list = l; place = m; written = w } }
 
@@ -212,7 +212,7 @@ closes_plain ps x i j y rs o (Err d) h k c = refused c.err
     refused (inr (e, inr n)) = absurd (n (subst AreGiven (sym (parts_keep ps i j rs k ∙ h.keeps)) tt))
 
 -- what stands behind the pieces from before, where the additions were put behind the root
-extended_behind : (a : Variant) (k : Additions) (there : Bool) (front root : List Piece) (j y : Pieces) → k.extension ≡ bit_count front → j.list ≡ (front ++ bit false ∷ []) ++ root → ExtendedBehind a k there j y →
+pub extended_behind : (a : Variant) (k : Additions) (there : Bool) (front root : List Piece) (j y : Pieces) → k.extension ≡ bit_count front → j.list ≡ (front ++ bit false ∷ []) ++ root → ExtendedBehind a k there j y →
     (behind : List Piece) × (y.list ≡ front ++ behind) × (y.placed ≡ j.placed)
 extended_behind a k false front root j y e l h = (bit false ∷ root, ap (λ q. q.list) h ∙ l ∙ append_assoc front (bit false ∷ []) root, ap (λ q. q.placed) h)
 extended_behind a k true front root j y e l h =
@@ -274,7 +274,7 @@ not_failed_inside ps false qs x i j rs xs o h (presents_fields {m = m} k b) f =
 
 -- a record that is opened with as many presence bits and additions as its components have
 pub opens_record : (parts : ℕ → Parts) (marker : Bool) (additions : ℕ → Parts) (count : ℕ) (behind : Option ℕ) (x i : State) (result : Result Scope EncodeError) → ((n : ℕ) → count ≡ presence_bits (parts n)) →
-    ((n : ℕ) → behind ≡ behind_marker marker (part_count (additions n))) → (marker ≡ false → (n : ℕ) → additions n ≡ no_parts) → OpensOrNot count behind x result i → OpenedToWrite encoder_rules Opens parts marker additions x result i
+    ((n : ℕ) → behind ≡ behind_marker marker (part_count (additions n))) → (marker ≡ false → (n : ℕ) → additions n ≡ no_parts) → OpensOrNot count behind x result i → OpenedToWrite encoder_rules Opens listed parts marker additions x result i
 opens_record parts marker additions count behind x i (Ok o) e d w c =
     λ n. let h = subst (λ k. OpensRecord k (behind_marker marker (part_count (additions n))) x o i) (e n) (subst (λ b. OpensRecord count b x o i) (d n) c.ok) in
     (h, passes x i o (parts n) marker (additions n) (λ m. w m n) h)

@@ -1,3 +1,5 @@
 pub mod Choices
-pub mod Records
 pub mod Laws
+pub mod Records
+pub mod Rules
+pub mod Scopes

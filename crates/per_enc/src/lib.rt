@@ -1,17 +1,17 @@
 //! The canonical encoder of the packed encoding rules (ITU-T X.691).
 #![tactic(auto)]
 
-ghost use Rattle.std.specs.Prelude.{◌≡◌, [], true, false, Some, OnOk, OnErr, IfOk, IfErr};
+ghost use Rattle.std.specs.Prelude.{◌≡◌, true, false, Some, None, OnOk, OnErr, IfOk, IfErr};
 ghost use Rattle.rasn_types.specs.declared.types.Codec.TheVariants.{Aper, Uper};
 ghost use Rattle.per_core.specs.Canon.{completed};
 ghost use Rattle.per_enc.specs.Choices.{counted_variants};
 ghost use Rattle.per_enc.specs.Records.{counted_behind};
-ghost use Rattle.per_pieces.specs.Pieces.{no_pieces};
-ghost use Rattle.per_write.specs.Faults.{RefusesOutput};
-ghost use Rattle.per_write.specs.Rules.{encoder_rules};
-ghost use Rattle.per_write.specs.State.{fresh, view};
+ghost use Rattle.per_enc.specs.Rules.{emptied, encoding_rules, fresh, noting};
+ghost use Rattle.per_write.specs.Faults.{IsAlready, RefusesOutput};
+ghost use Rattle.per_write.specs.State.{view};
 
 use per_bits::BitList;
+use per_pieces::open_sets::OpenSet;
 pub use per_write::error;
 pub use per_write::error::{EncodeError, EncodeError as Error, EncodeErrorKind};
 use per_write::lists::{UnwrittenElements, close_list, next_element, open_list};
@@ -80,14 +80,16 @@ impl Default for EncoderOptions {
 #[derive(Drop)]
 pub struct Encoder<A: Allocator + Clone> {
     writer: Writer<A>,
+    /// The open SET whose components are written at once; none where no SET is open, or inside one of them.
+    set: Option<OpenSet<A>>,
 }
 
 impl<A: Allocator + Clone> Model for Encoder<A> {
-    ghost use Rattle.per_write.specs.State.{State};
+    ghost use Rattle.per_write.specs.Components.{Encoding};
 
-    ghost Value = { State };
+    ghost Value = { Encoding };
 
-    ghost view = { λ a. a.writer };
+    ghost view = { λ a. record { writer = a.writer; set = a.set } };
 }
 
 impl<A: Allocator + Clone> Encoder<A> {
@@ -98,6 +100,7 @@ impl<A: Allocator + Clone> Encoder<A> {
     {
         Encoder {
             writer: Writer::new(alloc, options.codec),
+            set: None,
         }
     }
 
@@ -108,12 +111,13 @@ impl<A: Allocator + Clone> Encoder<A> {
     {
         Encoder {
             writer: Writer::new_with_output(options.codec, output),
+            set: None,
         }
     }
 
     /// The variant in use.
     pub fn codec(&self) -> Codec
-        ensures { result ≡ self.now.codec }
+        ensures { result ≡ self.now.writer.codec }
     {
         self.writer.codec()
     }
@@ -125,13 +129,13 @@ impl<A: Allocator + Clone> Encoder<A> {
     /// a bag is open, of which half a value was written, and else that memory ran out. The encoder has failed then.
     #[inline(always)]
     pub fn output(&mut self) -> Result<Vec<u8, A>, EncodeError>
-        ensures octets { IfOk result (λ octets. completed (view self.old 0) ≡ Some octets.items) }
-        ensures taken { OnOk result (self.new ≡ record self.old { pieces = no_pieces }) }
-        ensures begun { OnOk result (self.old.failed ≡ false) }
-        ensures outside { OnOk result (self.old.scope.is_open ≡ false) }
-        ensures err { IfErr result (λ e. RefusesOutput e self.old) }
-        ensures fails { OnErr result (self.new.failed ≡ true) }
-        ensures kept { self.new.codec ≡ self.old.codec }
+        ensures octets { IfOk result (λ octets. completed (view self.old.writer 0) ≡ Some octets.items) }
+        ensures taken { OnOk result (self.new ≡ emptied self.old) }
+        ensures begun { OnOk result (self.old.writer.failed ≡ false) }
+        ensures outside { OnOk result (self.old.writer.scope.is_open ≡ false) }
+        ensures err { IfErr result (λ e. RefusesOutput e self.old.writer) }
+        ensures fails { OnErr result (self.new.writer.failed ≡ true) }
+        ensures kept { self.new.writer.codec ≡ self.old.writer.codec }
     {
         self.writer.output()
     }
@@ -139,37 +143,63 @@ impl<A: Allocator + Clone> Encoder<A> {
     /// The complete encoding of what was written, as `output` gives it.
     #[inline(always)]
     pub fn output_into_vec(mut self) -> Result<Vec<u8, A>, EncodeError>
-        ensures octets { IfOk result (λ octets. completed (view self 0) ≡ Some octets.items) }
-        ensures begun { OnOk result (self.failed ≡ false) }
-        ensures outside { OnOk result (self.scope.is_open ≡ false) }
-        ensures err { IfErr result (λ e. RefusesOutput e self) }
+        ensures octets { IfOk result (λ octets. completed (view self.writer 0) ≡ Some octets.items) }
+        ensures begun { OnOk result (self.writer.failed ≡ false) }
+        ensures outside { OnOk result (self.writer.scope.is_open ≡ false) }
+        ensures err { IfErr result (λ e. RefusesOutput e self.writer) }
     {
         self.output()
+    }
+
+    /// Begins a value, unless a call was refused before: where the components of a SET are written at once, it is that
+    /// of one.
+    #[inline(always)]
+    fn begin_value(&mut self) -> Result<(), EncodeError>
+        ensures ok { OnOk result (self.old.writer.failed ≡ false) }
+        ensures noted { OnOk result (self.new ≡ noting self.old) }
+        ensures err { IfErr result (λ e. IsAlready e self.old.writer) }
+        ensures failed { OnErr result (self.old.writer.failed ≡ true) }
+        ensures stays { OnErr result (self.new ≡ self.old) }
+    {
+        self.writer.check_unfailed()?;
+        self.writer.note_value(&mut self.set);
+        Ok(())
+    }
+
+    /// Begins a value that others stand in, which no SET around it takes for its components. Answers what is kept of
+    /// that SET meanwhile.
+    #[inline(always)]
+    fn begin_outer_value(&mut self) -> Result<Option<OpenSet<A>>, EncodeError>
+        ensures ok { OnOk result (self.old.writer.failed ≡ false) }
+        ensures waits { IfOk result (λ set. set ≡ (noting self.old).set) }
+        ensures inside { OnOk result (self.new ≡ record { writer = (noting self.old).writer; set = None }) }
+        ensures err { IfErr result (λ e. IsAlready e self.old.writer) }
+        ensures failed { OnErr result (self.old.writer.failed ≡ true) }
+        ensures stays { OnErr result (self.new ≡ self.old) }
+    {
+        self.begin_value()?;
+        Ok(self.set.take())
     }
 }
 
 impl<A: Allocator + Clone> encoder::Encoder for Encoder<A> {
     ghost use Rattle.per_enc.specs.Laws.Relations.{presents_well};
-    ghost use Rattle.per_enc.specs.Choices.{OpensChoice};
-    ghost use Rattle.per_enc.specs.Records.{Opens};
     ghost use Rattle.per_enc.specs.Laws.Sets.{sets_written};
-    ghost use Rattle.per_write_types.specs.Bags.{IsOpenBag};
-    ghost use Rattle.per_write.specs.Additions.{Opens as OpensOpenType};
-    ghost use Rattle.per_write.specs.Lists.{IsOpenList};
+    ghost use Rattle.per_enc.specs.Scopes.{IsOpenBag, IsOpenList, Opens, OpensChoice, OpensOpenType};
 
     type Error = EncodeError;
 
-    type Scope = Scope<A>;
+    type Scope = (Scope<A>, Option<OpenSet<A>>);
 
-    type Addition = OutsideAddition<A>;
+    type Addition = (OutsideAddition<A>, Option<OpenSet<A>>);
 
-    type Alternative = OutsideChoice<A>;
+    type Alternative = (OutsideChoice<A>, Option<OpenSet<A>>);
 
-    type List = UnwrittenElements;
+    type List = (UnwrittenElements, Option<OpenSet<A>>);
 
-    type Bag = OpenBag<A>;
+    type Bag = (OpenBag<A>, Option<OpenSet<A>>);
 
-    ghost rules = { encoder_rules };
+    ghost rules = { encoding_rules };
 
     ghost opens = { Opens };
 
@@ -192,7 +222,7 @@ impl<A: Allocator + Clone> encoder::Encoder for Encoder<A> {
         value: bool,
         _identifier: Identifier,
     ) -> Result<(), EncodeError> {
-        self.writer.check_unfailed()?;
+        self.begin_value()?;
         self.writer.put_bit(value)
     }
 
@@ -204,7 +234,7 @@ impl<A: Allocator + Clone> encoder::Encoder for Encoder<A> {
         value: &I,
         _identifier: Identifier,
     ) -> Result<(), EncodeError> {
-        self.writer.check_unfailed()?;
+        self.begin_value()?;
         match constraints.value() {
             Some(stated) => put_integer(&mut self.writer, stated, value),
             None => self.writer.put_unconstrained_whole(value),
@@ -223,7 +253,7 @@ impl<A: Allocator + Clone> encoder::Encoder for Encoder<A> {
 
     #[inline(always)]
     fn encode_null(&mut self, _tag: Tag, _identifier: Identifier) -> Result<(), EncodeError> {
-        self.writer.check_unfailed()
+        self.begin_value()
     }
 
     #[inline(always)]
@@ -233,7 +263,7 @@ impl<A: Allocator + Clone> encoder::Encoder for Encoder<A> {
         value: &E,
         _identifier: Identifier,
     ) -> Result<(), EncodeError> {
-        self.writer.check_unfailed()?;
+        self.begin_value()?;
         put_enumerated(&mut self.writer, value)
     }
 
@@ -243,7 +273,7 @@ impl<A: Allocator + Clone> encoder::Encoder for Encoder<A> {
         value: &Any,
         _identifier: Identifier,
     ) -> Result<(), EncodeError> {
-        self.writer.check_unfailed()?;
+        self.begin_value()?;
         self.writer.put_octets(value.as_bytes())
     }
 
@@ -255,7 +285,7 @@ impl<A: Allocator + Clone> encoder::Encoder for Encoder<A> {
         value: &[u8],
         _identifier: Identifier,
     ) -> Result<(), EncodeError> {
-        self.writer.check_unfailed()?;
+        self.begin_value()?;
         self.writer.put_octet_string(constraints, value)
     }
 
@@ -267,7 +297,7 @@ impl<A: Allocator + Clone> encoder::Encoder for Encoder<A> {
         value: &BitString,
         _identifier: Identifier,
     ) -> Result<(), EncodeError> {
-        self.writer.check_unfailed()?;
+        self.begin_value()?;
         self.writer.put_bit_string(constraints, value)
     }
 
@@ -279,7 +309,7 @@ impl<A: Allocator + Clone> encoder::Encoder for Encoder<A> {
         value: &S,
         _identifier: Identifier,
     ) -> Result<(), EncodeError> {
-        self.writer.check_unfailed()?;
+        self.begin_value()?;
         self.writer.put_characters(constraints, value)
     }
 
@@ -290,7 +320,7 @@ impl<A: Allocator + Clone> encoder::Encoder for Encoder<A> {
         value: &str,
         _identifier: Identifier,
     ) -> Result<(), EncodeError> {
-        self.writer.check_unfailed()?;
+        self.begin_value()?;
         self.writer.put_octets(value.as_bytes())
     }
 
@@ -301,7 +331,7 @@ impl<A: Allocator + Clone> encoder::Encoder for Encoder<A> {
         value: &GeneralString,
         _identifier: Identifier,
     ) -> Result<(), EncodeError> {
-        self.writer.check_unfailed()?;
+        self.begin_value()?;
         self.writer.put_octets(value.as_bytes())
     }
 
@@ -312,7 +342,7 @@ impl<A: Allocator + Clone> encoder::Encoder for Encoder<A> {
         value: &GraphicString,
         _identifier: Identifier,
     ) -> Result<(), EncodeError> {
-        self.writer.check_unfailed()?;
+        self.begin_value()?;
         self.writer.put_octets(value.as_bytes())
     }
 
@@ -323,7 +353,7 @@ impl<A: Allocator + Clone> encoder::Encoder for Encoder<A> {
         value: &TeletexString,
         _identifier: Identifier,
     ) -> Result<(), EncodeError> {
-        self.writer.check_unfailed()?;
+        self.begin_value()?;
         self.writer.put_octets(value.as_bytes())
     }
 
@@ -333,7 +363,7 @@ impl<A: Allocator + Clone> encoder::Encoder for Encoder<A> {
         value: &[u32],
         _identifier: Identifier,
     ) -> Result<(), EncodeError> {
-        self.writer.check_unfailed()?;
+        self.begin_value()?;
         put_object_identifier(&mut self.writer, value)
     }
 
@@ -343,7 +373,7 @@ impl<A: Allocator + Clone> encoder::Encoder for Encoder<A> {
         value: &M,
         _identifier: Identifier,
     ) -> Result<(), EncodeError> {
-        self.writer.check_unfailed()?;
+        self.begin_value()?;
         put_utc_time(&mut self.writer, value)
     }
 
@@ -353,7 +383,7 @@ impl<A: Allocator + Clone> encoder::Encoder for Encoder<A> {
         value: &M,
         _identifier: Identifier,
     ) -> Result<(), EncodeError> {
-        self.writer.check_unfailed()?;
+        self.begin_value()?;
         put_generalized_time(&mut self.writer, value)
     }
 
@@ -363,7 +393,7 @@ impl<A: Allocator + Clone> encoder::Encoder for Encoder<A> {
         value: &D,
         _identifier: Identifier,
     ) -> Result<(), EncodeError> {
-        self.writer.check_unfailed()?;
+        self.begin_value()?;
         put_date(&mut self.writer, value)
     }
 
@@ -371,45 +401,84 @@ impl<A: Allocator + Clone> encoder::Encoder for Encoder<A> {
         &mut self,
         _tag: Tag,
         _identifier: Identifier,
-    ) -> Result<Scope<A>, EncodeError> {
-        self.writer.check_unfailed()?;
+    ) -> Result<(Scope<A>, Option<OpenSet<A>>), EncodeError> {
+        let set = self.begin_outer_value()?;
         let count = C::FIELDS.number_of_optional_and_default_fields();
-        self.writer.open_record(count, addition_count::<C>())
+        let scope = self.writer.open_record(count, addition_count::<C>())?;
+        Ok((scope, set))
     }
 
-    fn close_sequence<C: Constructed>(&mut self, outside: Scope<A>) -> Result<(), EncodeError> {
+    fn close_sequence<C: Constructed>(
+        &mut self,
+        outside: (Scope<A>, Option<OpenSet<A>>),
+    ) -> Result<(), EncodeError> {
         self.writer.check_unfailed()?;
-        self.writer.close_record(outside)
+        let (scope, set) = outside;
+        self.set = set;
+        self.writer.close_record(scope)
+    }
+
+    fn open_components<C: Constructed>(
+        &mut self,
+        _tag: Tag,
+        _identifier: Identifier,
+    ) -> Result<(Scope<A>, Option<OpenSet<A>>), EncodeError> {
+        let outer = self.begin_outer_value()?;
+        let scope = self.writer.open_record(0, addition_count::<C>())?;
+        let set = self.writer.open_components(C::FIELDS.len())?;
+        self.set = Some(set);
+        Ok((scope, outer))
+    }
+
+    fn close_components<C: Constructed>(
+        &mut self,
+        outside: (Scope<A>, Option<OpenSet<A>>),
+    ) -> Result<(), EncodeError> {
+        self.writer.check_unfailed()?;
+        let Some(set) = self.set.take() else {
+            return Err(self.writer.refuse(EncodeErrorKind::OutOfTurn));
+        };
+        self.writer.put_components(set, &C::FIELDS)?;
+        let (record, outer) = outside;
+        self.set = outer;
+        self.writer.close_record(record)
     }
 
     fn open_set<C: Constructed>(
         &mut self,
         _tag: Tag,
         _identifier: Identifier,
-    ) -> Result<Scope<A>, EncodeError> {
-        self.writer.check_unfailed()?;
+    ) -> Result<(Scope<A>, Option<OpenSet<A>>), EncodeError> {
+        let set = self.begin_outer_value()?;
         let bits = C::FIELDS.number_of_optional_and_default_fields();
         let added = addition_count::<C>();
-        self.writer.open_record(bits, added)
+        let scope = self.writer.open_record(bits, added)?;
+        Ok((scope, set))
     }
 
-    fn close_set<C: Constructed>(&mut self, scope: Scope<A>) -> Result<(), EncodeError> {
+    fn close_set<C: Constructed>(
+        &mut self,
+        outside: (Scope<A>, Option<OpenSet<A>>),
+    ) -> Result<(), EncodeError> {
         self.writer.check_unfailed()?;
-        self.writer.close_record(scope)
+        let (ordered, set) = outside;
+        self.set = set;
+        self.writer.close_record(ordered)
     }
 
     fn open_choice<C: Choice>(
         &mut self,
         _tag: Tag,
         _identifier: Identifier,
-    ) -> Result<OutsideChoice<A>, EncodeError> {
-        self.writer.check_unfailed()?;
-        open_choice(&mut self.writer, C::VARIANTS.len(), added_count::<C>())
+    ) -> Result<(OutsideChoice<A>, Option<OpenSet<A>>), EncodeError> {
+        let set = self.begin_outer_value()?;
+        let choice = open_choice(&mut self.writer, C::VARIANTS.len(), added_count::<C>())?;
+        Ok((choice, set))
     }
 
     fn close_choice<C: Choice>(
         &mut self,
-        outside: OutsideChoice<A>,
+        outside: (OutsideChoice<A>, Option<OpenSet<A>>),
         chosen: Tag,
     ) -> Result<(), EncodeError> {
         self.writer.check_unfailed()?;
@@ -417,13 +486,21 @@ impl<A: Allocator + Clone> encoder::Encoder for Encoder<A> {
         let added = C::EXTENDED_VARIANTS;
         let found = variants.place_of(&added, chosen);
         let place = checked_place(&mut self.writer, found)?;
-        close_choice(&mut self.writer, variants.len(), place, outside)
+        let (choice, set) = outside;
+        self.set = set;
+        close_choice(&mut self.writer, variants.len(), place, choice)
     }
 
     #[inline(always)]
     fn set_presence(&mut self, is_there: bool) -> Result<(), EncodeError> {
         self.writer.check_unfailed()?;
-        self.writer.set_presence(is_there)
+        match &mut self.set {
+            None => self.writer.set_presence(is_there),
+            Some(set) => {
+                self.writer.begin_component(set, is_there);
+                Ok(())
+            }
+        }
     }
 
     fn skip_addition(&mut self) -> Result<(), EncodeError> {
@@ -431,24 +508,32 @@ impl<A: Allocator + Clone> encoder::Encoder for Encoder<A> {
         self.writer.skip_addition()
     }
 
-    fn open_addition(&mut self) -> Result<OutsideAddition<A>, EncodeError> {
+    fn open_addition(&mut self) -> Result<(OutsideAddition<A>, Option<OpenSet<A>>), EncodeError> {
         self.writer.check_unfailed()?;
-        self.writer.open_addition()
+        let open_type = self.writer.open_addition()?;
+        Ok((open_type, self.set.take()))
     }
 
-    fn close_addition(&mut self, addition: OutsideAddition<A>) -> Result<(), EncodeError> {
+    fn close_addition(
+        &mut self,
+        addition: (OutsideAddition<A>, Option<OpenSet<A>>),
+    ) -> Result<(), EncodeError> {
         self.writer.check_unfailed()?;
-        self.writer.close_addition(addition)
+        let (open_type, set) = addition;
+        self.set = set;
+        self.writer.close_addition(open_type)
     }
 
     fn close_group<C: AdditionGroup>(
         &mut self,
-        addition: OutsideAddition<A>,
+        addition: (OutsideAddition<A>, Option<OpenSet<A>>),
     ) -> Result<(), EncodeError> {
         self.writer.check_unfailed()?;
         let fields = C::FIELDS;
         let has_required = fields.number_of_optional_and_default_fields() < fields.len();
-        self.writer.close_group(addition, has_required)
+        let (open_type, set) = addition;
+        self.set = set;
+        self.writer.close_group(open_type, has_required)
     }
 
     fn open_list(
@@ -457,19 +542,28 @@ impl<A: Allocator + Clone> encoder::Encoder for Encoder<A> {
         constraints: &Constraints,
         count: usize,
         _identifier: Identifier,
-    ) -> Result<UnwrittenElements, EncodeError> {
-        self.writer.check_unfailed()?;
-        open_list(&mut self.writer, constraints, count)
+    ) -> Result<(UnwrittenElements, Option<OpenSet<A>>), EncodeError> {
+        let set = self.begin_outer_value()?;
+        let list = open_list(&mut self.writer, constraints, count)?;
+        Ok((list, set))
     }
 
-    fn next_element(&mut self, list: &mut UnwrittenElements) -> Result<(), EncodeError> {
+    fn next_element(
+        &mut self,
+        list: &mut (UnwrittenElements, Option<OpenSet<A>>),
+    ) -> Result<(), EncodeError> {
         self.writer.check_unfailed()?;
-        next_element(&mut self.writer, list)
+        next_element(&mut self.writer, &mut list.0)
     }
 
-    fn close_list(&mut self, list: UnwrittenElements) -> Result<(), EncodeError> {
+    fn close_list(
+        &mut self,
+        list: (UnwrittenElements, Option<OpenSet<A>>),
+    ) -> Result<(), EncodeError> {
         self.writer.check_unfailed()?;
-        close_list(&mut self.writer, list)
+        let (elements, set) = list;
+        self.set = set;
+        close_list(&mut self.writer, elements)
     }
 
     fn open_set_of(
@@ -478,19 +572,25 @@ impl<A: Allocator + Clone> encoder::Encoder for Encoder<A> {
         constraints: &Constraints,
         count: usize,
         _identifier: Identifier,
-    ) -> Result<OpenBag<A>, EncodeError> {
-        self.writer.check_unfailed()?;
-        OpenBag::open(&mut self.writer, constraints, count)
+    ) -> Result<(OpenBag<A>, Option<OpenSet<A>>), EncodeError> {
+        let set = self.begin_outer_value()?;
+        let bag = OpenBag::open(&mut self.writer, constraints, count)?;
+        Ok((bag, set))
     }
 
-    fn next_member(&mut self, bag: &mut OpenBag<A>) -> Result<(), EncodeError> {
+    fn next_member(
+        &mut self,
+        bag: &mut (OpenBag<A>, Option<OpenSet<A>>),
+    ) -> Result<(), EncodeError> {
         self.writer.check_unfailed()?;
-        bag.next_member(&mut self.writer)
+        bag.0.next_member(&mut self.writer)
     }
 
-    fn close_set_of(&mut self, bag: OpenBag<A>) -> Result<(), EncodeError> {
+    fn close_set_of(&mut self, bag: (OpenBag<A>, Option<OpenSet<A>>)) -> Result<(), EncodeError> {
         self.writer.check_unfailed()?;
-        bag.close(&mut self.writer)
+        let (open, set) = bag;
+        self.set = set;
+        open.close(&mut self.writer)
     }
 
     fn fail(&mut self) {

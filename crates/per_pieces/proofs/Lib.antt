@@ -1,5 +1,9 @@
+pub mod Closing
 pub mod Marking
+pub mod Ordering
 pub mod Placed
+pub mod Presented
+pub mod Roots
 pub mod Writing
 pub mod Zeros
 pub mod Bounded

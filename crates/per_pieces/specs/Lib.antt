@@ -1,3 +1,4 @@
 pub mod Pieces
 pub mod Places
 pub mod Fragments
+pub mod OpenSets

@@ -1,11 +1,13 @@
 //! What is written before its place is known (ITU-T X.691, 11.1): bits, with marks where padding may stand, into which
-//! the padding goes once the place of the first bit is known; and whole numbers, lengths and normally small numbers as
-//! they are appended to these. Where the place is known from the start, padding is zero bits at once, and no mark is
-//! kept. A contract speaks of the pieces alone, as a list of bits and marks.
+//! the padding goes once the place of the first bit is known; whole numbers, lengths and normally small numbers as
+//! they are appended to these; and the components of an open SET, each in pieces of its own. Where the place is known
+//! from the start, padding is zero bits at once, and no mark is kept. A contract speaks of the pieces alone, as a list
+//! of bits and marks.
 #![tactic(auto)]
 
 pub mod lengths;
 pub mod numbers;
+pub mod open_sets;
 pub mod small_numbers;
 
 ghost use Rattle.std.specs.Prelude.{◌≡◌, ◌≤◌, ◌∷◌, [], ◌++◌, false, true, length, replicate, Some, OnOk, OnErr, IfOk};
@@ -13,7 +15,8 @@ ghost use Rattle.rasn_types.specs.Bits.{to_bits, unpack};
 ghost use Rattle.rasn_types.specs.Variants.{aligned};
 ghost use Rattle.per_bits.specs.Octets.{low_bits_of};
 ghost use Rattle.per_core.specs.Writers.{just, padding};
-ghost use Rattle.per_pieces.specs.Pieces.{Appends, bit_count, bits_of, unplaced, plain, placed_bits, writer_of, with_bit, with_bits};
+ghost use Rattle.per_pieces.specs.Pieces.{Appends, bit_count, bits_of, unplaced, plain, placed_bits, writer_of};
+ghost use Rattle.per_pieces.specs.Pieces.{with_bit, with_bits};
 ghost use Rattle.per_pieces.specs.Places.{AreInOrder, marked};
 
 use per_bits::{BitList, BitReader};

@@ -1,15 +1,17 @@
 //! A SEQUENCE of two required components of any types, by the cells of them.
 
-ghost use Rattle.std.specs.Prelude.{refl, None, [], false, suc, max};
+ghost use Rattle.std.specs.Prelude.{refl, None, Some, [], false, suc, max};
 ghost use Rattle.rasn_below.specs.Values.{record_value};
 ghost use Rattle.rasn_below.specs.Types.{SEQUENCE, no_constraints, unextended, shapes_from, no_additions};
-ghost use Rattle.rasn_below.specs.Types.{sequence_tag};
+ghost use Rattle.rasn_below.specs.Types.{sequence_stated, sequence_tag, tagged};
 ghost use Rattle.per_samples_a.specs.Boths.{both_parts, both_schema, both_levelled, both_contents};
 
 use rasn_below::NoAdditions;
 use rasn_below::cells::{Cell, End, Listed};
 use rasn_below::codec::{Decode, Decoder, Encode, Encoder};
-use rasn_below::schema::{AsnType, Constraints, Constructed, Field, Fields, Presence, TagTree};
+use rasn_below::schema::{
+    AsnType, Constraints, Constructed, Field, Fields, Presence, TagTree, TypeTree,
+};
 use rasn_below::types::{Class, Identifier, Tag};
 use std::marker::PhantomData;
 
@@ -25,6 +27,12 @@ impl<A: AsnType, B: AsnType> AsnType for Both<A, B> {
 
     ghost TAG = { SEQUENCE };
 
+    const TAG_TREE: TypeTree = TypeTree(TagTree::Leaf(Tag::SEQUENCE));
+
+    ghost TAG_TREE = { Some (tagged SEQUENCE) };
+
+    const IS_CHOICE: bool = false;
+
     const CONSTRAINTS: Constraints = Constraints::NONE;
 
     ghost CONSTRAINTS = { no_constraints };
@@ -39,6 +47,9 @@ impl<A: AsnType, B: AsnType> AsnType for Both<A, B> {
 
     ghost tag_fits = { λ _.
         sequence_tag (both_parts (A.schema A.CONSTRAINTS) (B.schema B.CONSTRAINTS)) false no_additions };
+
+    ghost tree_fits = { λ _.
+        sequence_stated (both_parts (A.schema A.CONSTRAINTS) (B.schema B.CONSTRAINTS)) false no_additions };
 }
 
 /// The tags of the components (AUTOMATIC TAGS).

@@ -1,16 +1,15 @@
 //! A CHOICE of a SEQUENCE, an untagged CHOICE and NULL.
 
-ghost use Rattle.std.specs.Prelude.{None, refl, true, [], ◌∷◌, pos};
-ghost use Rattle.rasn_below.specs.Types.{EOC, no_constraints, choice_at, no_additions, choice_tag};
-ghost use Rattle.rasn_below.specs.Rows.{aligned, unaligned, IsWrittenAs};
+ghost use Rattle.std.specs.Prelude.{None, refl, true};
+ghost use Rattle.rasn_below.specs.Types.{EOC, no_constraints, choice_at, no_additions, choice_stated, choice_tag, tree_with};
 ghost use Rattle.per_samples_a.specs.Nesteds.{nested_parts, nested_levelled, nested_variants, nested_described, nested_chosen, nested_levels};
-ghost use Rattle.per_samples_a.specs.declared.alternative.Alternative.TheVariants.{X, Y};
-ghost use Rattle.per_samples_a.specs.declared.nested.Nested.TheVariants.{Record, Inner, Last};
 
 use crate::alternative::{ALTERNATIVE_TAGS, Alternative};
 use crate::pair::Pair;
 use rasn_below::codec::{Decode, Decoder, DecoderExt, Encode, Encoder, EncoderExt, FromTag};
-use rasn_below::schema::{AsnType, Choice, Constraints, Variant, Variants};
+use rasn_below::schema::{
+    AsnType, Choice, Constraints, TagTree, TypeTree, Variants, variant_index,
+};
 use rasn_below::types::{Class, Identifier, Tag};
 
 /// CHOICE { record SEQUENCE { a BOOLEAN, b INTEGER }, inner Alternative, last [2] NULL }
@@ -26,6 +25,14 @@ impl AsnType for Nested {
 
     ghost TAG = { EOC };
 
+    const TAG_TREE: TypeTree = TypeTree(TagTree::Choice(VARIANTS));
+
+    ghost TAG_TREE = { tree_with nested_variants };
+
+    const IS_CHOICE: bool = true;
+
+    ghost IS_CHOICE = { true };
+
     const CONSTRAINTS: Constraints = Constraints::NONE;
 
     ghost CONSTRAINTS = { no_constraints };
@@ -39,6 +46,8 @@ impl AsnType for Nested {
     ghost levelled = { λ _. nested_levelled };
 
     ghost tag_fits = { λ _. choice_tag nested_parts None no_additions };
+
+    ghost tree_fits = { λ _. choice_stated nested_parts nested_described None no_additions };
 }
 
 /// The smallest tag of the inner choice.
@@ -53,19 +62,10 @@ const TAG_OF_LAST: Tag = Tag {
     value: 2,
 };
 
-const VARIANTS: &[Variant] = &[
-    Variant {
-        tag: Tag::SEQUENCE,
-        tag_tree: rasn_below::TagTree::Leaf(Tag::SEQUENCE),
-    },
-    Variant {
-        tag: TAG_OF_X,
-        tag_tree: ALTERNATIVE_TAGS,
-    },
-    Variant {
-        tag: TAG_OF_LAST,
-        tag_tree: rasn_below::TagTree::Leaf(TAG_OF_LAST),
-    },
+const VARIANTS: &[TagTree] = &[
+    TagTree::Leaf(Tag::SEQUENCE),
+    ALTERNATIVE_TAGS,
+    TagTree::Leaf(TAG_OF_LAST),
 ];
 
 impl Choice for Nested {
@@ -124,7 +124,7 @@ impl Decode for Nested {
 
 impl FromTag for Nested {
     fn from_tag<D: Decoder>(decoder: &mut D, tag: Tag) -> Result<Nested, D::Error> {
-        match Self::VARIANTS.index_of(tag) {
+        match variant_index::<Nested>(tag) {
             Some(0) => {
                 let record = Pair::decode_with_tag(decoder, tag)?;
                 Ok(Nested::Record(record))
@@ -140,18 +140,3 @@ impl FromTag for Nested {
         }
     }
 }
-
-/// The index in two bits, and behind that of the inner choice its own (X.691 23.6).
-#[tactic(auto, unfolding(rasn_below::specs::Rows::bytes, rasn_below::specs::Types::normal, rasn_below::specs::Types::settle))]
-pub fn inner_choice_is_written_behind_the_outer_index()
-    ensures record { let own = ⟦<Nested as AsnType>⟧ in
-        IsWrittenAs unaligned (own.schema own.CONSTRAINTS) own.levels own.value
-        (Record (record { a = true; b = pos 5 })) (0x20 ∷ 0x20 ∷ 0xa0 ∷ []) }
-    ensures inner_first { let own = ⟦<Nested as AsnType>⟧ in
-        IsWrittenAs unaligned (own.schema own.CONSTRAINTS) own.levels own.value (Inner (X true)) (0x50 ∷ []) }
-    ensures inner_second { let own = ⟦<Nested as AsnType>⟧ in
-        IsWrittenAs unaligned (own.schema own.CONSTRAINTS) own.levels own.value
-        (Inner (Y (record { value = 5; limits = record {} }))) (0x74 ∷ []) }
-    ensures last { let own = ⟦<Nested as AsnType>⟧ in
-        IsWrittenAs aligned (own.schema own.CONSTRAINTS) own.levels own.value Last (0x80 ∷ []) }
-{}

@@ -1,16 +1,15 @@
 //! A SEQUENCE with an addition that has a default.
 
-ghost use Rattle.std.specs.Prelude.{[], ◌∷◌, Some, pos, refl, suc, true};
-ghost use Rattle.rasn_below.specs.Values.{whole, record_value, deeper_of};
-ghost use Rattle.rasn_below.specs.Components.{fields_described, fields_of, parts_of, extended_at, extended_by};
-ghost use Rattle.rasn_below.specs.Components.{extended_levelled};
-ghost use Rattle.rasn_below.specs.Types.{SEQUENCE, no_constraints, sequence_tag};
+ghost use Rattle.std.specs.Prelude.{[], ◌∷◌, Some, pos, refl, true};
+ghost use Rattle.rasn_below.specs.Values.{whole};
+ghost use Rattle.rasn_below.specs.Components.{fields_described, fields_of, parts_of, extended_by};
 ghost use Rattle.per_samples_b.specs.Needs.{added_default};
 
 use rasn_below::types::Identifier;
 use rasn_below::{
-    AsnType, Constraint, Constraints, Constructed, Decode, Decoder, Encode, Encoder, Fields, Tag,
-    added_bounds, added_fields, decode_extended, encode_extended, root_bounds, root_fields,
+    Constraint, Constraints, Constructed, Decode, Decoder, Encode, Encoder, Extended, ExtendedKind,
+    Fields, OfKind, Tag, added_bounds, added_fields, decode_extended, encode_extended, root_bounds,
+    root_fields,
 };
 
 /// SEQUENCE { ..., a INTEGER (0..7) DEFAULT 3 }
@@ -36,24 +35,18 @@ const ADDED_FIELDS: Fields = components!(added_fields);
 
 const ADDED_BOUNDS: &[&[Constraint]] = components!(added_bounds);
 
-impl AsnType for AddedDefault {
-    const TAG: Tag = Tag::SEQUENCE;
+impl OfKind for AddedDefault {
+    type Kind = ExtendedKind;
+}
 
-    ghost TAG = { SEQUENCE };
+impl Extended for AddedDefault {
+    ghost root = { [] };
 
-    const CONSTRAINTS: Constraints = Constraints::NONE;
+    ghost additions = { added_default };
 
-    ghost CONSTRAINTS = { no_constraints };
+    ghost contents = { λ x. [] };
 
-    ghost schema = { λ _. extended_at [] added_default };
-
-    ghost value = { λ x. record_value ([]) (Some (whole (pos x.a)) ∷ []) };
-
-    ghost levels = { λ x. suc (deeper_of 0 0) };
-
-    ghost levelled = { λ _. extended_levelled [] added_default };
-
-    ghost tag_fits = { λ _. sequence_tag (parts_of []) true (parts_of added_default) };
+    ghost added = { λ x. Some (whole (pos x.a)) ∷ [] };
 }
 
 impl Constructed for AddedDefault {
@@ -73,9 +66,9 @@ impl Constructed for AddedDefault {
 
     ghost additions = { parts_of added_default };
 
-    ghost contents = { λ x. [] };
+    ghost contents = { ⟦<AddedDefault as Extended>⟧.contents };
 
-    ghost added = { λ x. Some (whole (pos x.a)) ∷ [] };
+    ghost added = { ⟦<AddedDefault as Extended>⟧.added };
 
     ghost described = { fields_described [] };
 

@@ -1,18 +1,16 @@
 //! A SEQUENCE of 65 optional additions, kept as an array.
 
-ghost use Rattle.std.specs.Prelude.{[], Some, map, refl, suc, true};
-ghost use Rattle.rasn_below.specs.Values.{truth, record_value, slot_of};
-ghost use Rattle.rasn_below.specs.Components.{fields_described, fields_of, parts_of, extended_at, extended_by};
-ghost use Rattle.rasn_below.specs.Components.{extended_levelled};
-ghost use Rattle.rasn_below.specs.Types.{SEQUENCE, no_constraints, sequence_tag};
+ghost use Rattle.std.specs.Prelude.{[], Some, map, refl, true};
+ghost use Rattle.rasn_below.specs.Values.{truth, slot_of};
+ghost use Rattle.rasn_below.specs.Components.{fields_described, fields_of, parts_of, extended_by};
 ghost use Rattle.per_samples_b.specs.Many.{many_additions, many_root};
 
 use crate::additions::{TruthsToRead, TruthsToWrite};
 use rasn_below::cells::{End, Listed};
 use rasn_below::types::Identifier;
 use rasn_below::{
-    AsnType, Constraints, Constructed, Decode, Decoder, Encode, Encoder, Field, Fields, Presence,
-    Tag, context_tag, tag_tree,
+    Constraints, Constructed, Decode, Decoder, Encode, Encoder, Extended, ExtendedKind, Field,
+    Fields, OfKind, Presence, Tag, context_tag, tag_tree,
 };
 
 /// SEQUENCE { ..., a0 BOOLEAN OPTIONAL, a1 BOOLEAN OPTIONAL, and so on up to a64 }
@@ -56,24 +54,18 @@ const ADDED_FIELDS: Fields = optional_fields!(
     56 "a56", 57 "a57", 58 "a58", 59 "a59", 60 "a60", 61 "a61", 62 "a62", 63 "a63", 64 "a64"
 );
 
-impl AsnType for Many {
-    const TAG: Tag = Tag::SEQUENCE;
+impl OfKind for Many {
+    type Kind = ExtendedKind;
+}
 
-    ghost TAG = { SEQUENCE };
+impl Extended for Many {
+    ghost root = { many_root };
 
-    const CONSTRAINTS: Constraints = Constraints::NONE;
+    ghost additions = { many_additions };
 
-    ghost CONSTRAINTS = { no_constraints };
+    ghost contents = { λ x. [] };
 
-    ghost schema = { λ _. extended_at many_root many_additions };
-
-    ghost value = { λ x. record_value [] (map (slot_of truth) x.options) };
-
-    ghost levels = { λ _. 1 };
-
-    ghost levelled = { λ _. extended_levelled many_root many_additions };
-
-    ghost tag_fits = { λ _. sequence_tag (parts_of many_root) true (parts_of many_additions) };
+    ghost added = { λ x. map (slot_of truth) x.options };
 }
 
 impl Constructed for Many {
@@ -93,9 +85,9 @@ impl Constructed for Many {
 
     ghost additions = { parts_of many_additions };
 
-    ghost contents = { λ x. [] };
+    ghost contents = { ⟦<Many as Extended>⟧.contents };
 
-    ghost added = { λ x. map (slot_of truth) x.options };
+    ghost added = { ⟦<Many as Extended>⟧.added };
 
     ghost described = { fields_described many_root };
 

@@ -1,15 +1,13 @@
 //! A SEQUENCE of an extension marker alone.
 
-ghost use Rattle.std.specs.Prelude.{[], Some, refl, suc, true};
-ghost use Rattle.rasn_below.specs.Values.{record_value, deeper_of};
-ghost use Rattle.rasn_below.specs.Components.{fields_described, fields_of, parts_of, extended_at, extended_by};
-ghost use Rattle.rasn_below.specs.Components.{extended_levelled};
-ghost use Rattle.rasn_below.specs.Types.{SEQUENCE, no_constraints, sequence_tag};
+ghost use Rattle.std.specs.Prelude.{[], Some, refl, true};
+ghost use Rattle.rasn_below.specs.Components.{fields_described, fields_of, parts_of, extended_by};
 
 use rasn_below::types::Identifier;
 use rasn_below::{
-    AsnType, Constraint, Constraints, Constructed, Decode, Decoder, Encode, Encoder, Fields, Tag,
-    added_bounds, added_fields, decode_extended, encode_extended, root_bounds, root_fields,
+    Constraint, Constraints, Constructed, Decode, Decoder, Encode, Encoder, Extended, ExtendedKind,
+    Fields, OfKind, Tag, added_bounds, added_fields, decode_extended, encode_extended, root_bounds,
+    root_fields,
 };
 
 /// SEQUENCE { ... }
@@ -32,24 +30,18 @@ const ADDED_FIELDS: Fields = components!(added_fields);
 
 const ADDED_BOUNDS: &[&[Constraint]] = components!(added_bounds);
 
-impl AsnType for NoneNeeded {
-    const TAG: Tag = Tag::SEQUENCE;
+impl OfKind for NoneNeeded {
+    type Kind = ExtendedKind;
+}
 
-    ghost TAG = { SEQUENCE };
+impl Extended for NoneNeeded {
+    ghost root = { [] };
 
-    const CONSTRAINTS: Constraints = Constraints::NONE;
+    ghost additions = { [] };
 
-    ghost CONSTRAINTS = { no_constraints };
+    ghost contents = { λ x. [] };
 
-    ghost schema = { λ _. extended_at [] [] };
-
-    ghost value = { λ x. record_value ([]) ([]) };
-
-    ghost levels = { λ x. suc (deeper_of 0 0) };
-
-    ghost levelled = { λ _. extended_levelled [] [] };
-
-    ghost tag_fits = { λ _. sequence_tag (parts_of []) true (parts_of []) };
+    ghost added = { λ x. [] };
 }
 
 impl Constructed for NoneNeeded {
@@ -69,9 +61,9 @@ impl Constructed for NoneNeeded {
 
     ghost additions = { parts_of [] };
 
-    ghost contents = { λ x. [] };
+    ghost contents = { ⟦<NoneNeeded as Extended>⟧.contents };
 
-    ghost added = { λ x. [] };
+    ghost added = { ⟦<NoneNeeded as Extended>⟧.added };
 
     ghost described = { fields_described [] };
 

@@ -1,16 +1,15 @@
 //! A SEQUENCE with a required addition and an optional one.
 
-ghost use Rattle.std.specs.Prelude.{[], ◌∷◌, Some, max, refl, suc, true};
-ghost use Rattle.rasn_below.specs.Values.{truth, record_value, slot_of, slot_levels, deeper_of};
-ghost use Rattle.rasn_below.specs.Components.{fields_described, fields_of, parts_of, extended_at, extended_by};
-ghost use Rattle.rasn_below.specs.Components.{extended_levelled};
-ghost use Rattle.rasn_below.specs.Types.{SEQUENCE, no_constraints, sequence_tag};
+ghost use Rattle.std.specs.Prelude.{[], ◌∷◌, Some, max, refl, true};
+ghost use Rattle.rasn_below.specs.Values.{truth, slot_of, slot_levels, deeper_of};
+ghost use Rattle.rasn_below.specs.Components.{fields_described, fields_of, parts_of, extended_by};
 ghost use Rattle.per_samples_b.specs.Needs.{one_needed};
 
 use rasn_below::types::Identifier;
 use rasn_below::{
-    AsnType, Constraint, Constraints, Constructed, Decode, Decoder, Encode, Encoder, Fields, Tag,
-    added_bounds, added_fields, decode_extended, encode_extended, root_bounds, root_fields,
+    AsnType, Constraint, Constraints, Constructed, Decode, Decoder, Encode, Encoder, Extended,
+    ExtendedKind, Fields, OfKind, Tag, added_bounds, added_fields, decode_extended,
+    encode_extended, root_bounds, root_fields,
 };
 
 /// SEQUENCE { ..., a BOOLEAN, b BOOLEAN OPTIONAL }
@@ -38,24 +37,20 @@ const ADDED_FIELDS: Fields = components!(added_fields);
 
 const ADDED_BOUNDS: &[&[Constraint]] = components!(added_bounds);
 
-impl AsnType for OneNeeded {
-    const TAG: Tag = Tag::SEQUENCE;
+impl OfKind for OneNeeded {
+    type Kind = ExtendedKind;
+}
 
-    ghost TAG = { SEQUENCE };
+impl Extended for OneNeeded {
+    ghost root = { [] };
 
-    const CONSTRAINTS: Constraints = Constraints::NONE;
+    ghost additions = { one_needed };
 
-    ghost CONSTRAINTS = { no_constraints };
+    ghost contents = { λ x. [] };
 
-    ghost schema = { λ _. extended_at [] one_needed };
+    ghost added = { λ x. Some (truth x.a) ∷ slot_of truth x.b ∷ [] };
 
-    ghost value = { λ x. record_value ([]) (Some (truth x.a) ∷ slot_of truth x.b ∷ []) };
-
-    ghost levels = { λ x. suc (deeper_of 0 (max 0 (max (slot_levels ⟦<bool as AsnType>⟧.levels x.b) 0))) };
-
-    ghost levelled = { λ _. extended_levelled [] one_needed };
-
-    ghost tag_fits = { λ _. sequence_tag (parts_of []) true (parts_of one_needed) };
+    ghost depth = { λ x. deeper_of 0 (max 0 (max (slot_levels ⟦<bool as AsnType>⟧.levels x.b) 0)) };
 }
 
 impl Constructed for OneNeeded {
@@ -75,9 +70,9 @@ impl Constructed for OneNeeded {
 
     ghost additions = { parts_of one_needed };
 
-    ghost contents = { λ x. [] };
+    ghost contents = { ⟦<OneNeeded as Extended>⟧.contents };
 
-    ghost added = { λ x. Some (truth x.a) ∷ slot_of truth x.b ∷ [] };
+    ghost added = { ⟦<OneNeeded as Extended>⟧.added };
 
     ghost described = { fields_described [] };
 

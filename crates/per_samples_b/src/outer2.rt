@@ -1,17 +1,16 @@
 //! A SEQUENCE with an addition group.
 
-ghost use Rattle.std.specs.Prelude.{[], ◌∷◌, Some, max, refl, suc, true};
-ghost use Rattle.rasn_below.specs.Values.{truth, record_value, slot_of, deeper_of, slot_levels};
-ghost use Rattle.rasn_below.specs.Components.{fields_described, fields_of, parts_of, extended_at, extended_by};
-ghost use Rattle.rasn_below.specs.Components.{extended_levelled};
-ghost use Rattle.rasn_below.specs.Types.{SEQUENCE, no_constraints, sequence_tag};
+ghost use Rattle.std.specs.Prelude.{[], ◌∷◌, Some, max, refl, true};
+ghost use Rattle.rasn_below.specs.Values.{truth, slot_of, deeper_of, slot_levels};
+ghost use Rattle.rasn_below.specs.Components.{fields_described, fields_of, parts_of, extended_by};
 ghost use Rattle.per_samples_b.specs.Outers.{outer_root, outer2_additions};
 
 use crate::flagged::Flagged;
 use rasn_below::types::Identifier;
 use rasn_below::{
-    AsnType, Constraint, Constraints, Constructed, Decode, Decoder, Encode, Encoder, Fields, Tag,
-    added_bounds, added_fields, decode_extended, encode_extended, root_bounds, root_fields,
+    AsnType, Constraint, Constraints, Constructed, Decode, Decoder, Encode, Encoder, Extended,
+    ExtendedKind, Fields, OfKind, Tag, added_bounds, added_fields, decode_extended,
+    encode_extended, root_bounds, root_fields,
 };
 
 /// SEQUENCE { first BOOLEAN, second BOOLEAN, ..., [[ flag BOOLEAN, octets OCTET STRING (SIZE (3)) ]] }
@@ -41,25 +40,20 @@ const ADDED_FIELDS: Fields = components!(added_fields);
 
 const ADDED_BOUNDS: &[&[Constraint]] = components!(added_bounds);
 
-impl AsnType for Outer2 {
-    const TAG: Tag = Tag::SEQUENCE;
+impl OfKind for Outer2 {
+    type Kind = ExtendedKind;
+}
 
-    ghost TAG = { SEQUENCE };
+impl Extended for Outer2 {
+    ghost root = { outer_root };
 
-    const CONSTRAINTS: Constraints = Constraints::NONE;
+    ghost additions = { outer2_additions };
 
-    ghost CONSTRAINTS = { no_constraints };
+    ghost contents = { λ x. Some (truth x.first) ∷ Some (truth x.second) ∷ [] };
 
-    ghost schema = { λ _. extended_at outer_root outer2_additions };
+    ghost added = { λ x. slot_of ⟦<Flagged as AsnType>⟧.value x.group ∷ [] };
 
-    ghost value = { λ x. record_value (Some (truth x.first) ∷ Some (truth x.second) ∷ [])
-        (slot_of ⟦<Flagged as AsnType>⟧.value x.group ∷ []) };
-
-    ghost levels = { λ x. suc (deeper_of 0 (max (slot_levels ⟦<Flagged as AsnType>⟧.levels x.group) 0)) };
-
-    ghost levelled = { λ _. extended_levelled outer_root outer2_additions };
-
-    ghost tag_fits = { λ _. sequence_tag (parts_of outer_root) true (parts_of outer2_additions) };
+    ghost depth = { λ x. deeper_of 0 (max (slot_levels ⟦<Flagged as AsnType>⟧.levels x.group) 0) };
 }
 
 impl Constructed for Outer2 {
@@ -79,9 +73,9 @@ impl Constructed for Outer2 {
 
     ghost additions = { parts_of outer2_additions };
 
-    ghost contents = { λ x. Some (truth x.first) ∷ Some (truth x.second) ∷ [] };
+    ghost contents = { ⟦<Outer2 as Extended>⟧.contents };
 
-    ghost added = { λ x. slot_of ⟦<Flagged as AsnType>⟧.value x.group ∷ [] };
+    ghost added = { ⟦<Outer2 as Extended>⟧.added };
 
     ghost described = { fields_described outer_root };
 

@@ -1,17 +1,16 @@
 //! A SEQUENCE with an addition group and an optional addition.
 
-ghost use Rattle.std.specs.Prelude.{[], ◌∷◌, Some, max, refl, suc, true};
-ghost use Rattle.rasn_below.specs.Values.{octets, truth, record_value, slot_of, deeper_of, slot_levels};
-ghost use Rattle.rasn_below.specs.Components.{fields_described, fields_of, parts_of, extended_at, extended_by};
-ghost use Rattle.rasn_below.specs.Components.{extended_levelled};
-ghost use Rattle.rasn_below.specs.Types.{SEQUENCE, no_constraints, sequence_tag};
+ghost use Rattle.std.specs.Prelude.{[], ◌∷◌, Some, max, refl, true};
+ghost use Rattle.rasn_below.specs.Values.{octets, truth, slot_of, deeper_of, slot_levels};
+ghost use Rattle.rasn_below.specs.Components.{fields_described, fields_of, parts_of, extended_by};
 ghost use Rattle.per_samples_b.specs.Outers.{outer_root, outer3_additions};
 
 use crate::flagged::Flagged;
 use rasn_below::types::{Identifier, OctetString};
 use rasn_below::{
-    AsnType, Constraint, Constraints, Constructed, Decode, Decoder, Encode, Encoder, Fields, Tag,
-    added_bounds, added_fields, decode_extended, encode_extended, root_bounds, root_fields,
+    AsnType, Constraint, Constraints, Constructed, Decode, Decoder, Encode, Encoder, Extended,
+    ExtendedKind, Fields, OfKind, Tag, added_bounds, added_fields, decode_extended,
+    encode_extended, root_bounds, root_fields,
 };
 
 /// SEQUENCE {
@@ -49,26 +48,21 @@ const ADDED_FIELDS: Fields = components!(added_fields);
 
 const ADDED_BOUNDS: &[&[Constraint]] = components!(added_bounds);
 
-impl AsnType for Outer3 {
-    const TAG: Tag = Tag::SEQUENCE;
+impl OfKind for Outer3 {
+    type Kind = ExtendedKind;
+}
 
-    ghost TAG = { SEQUENCE };
+impl Extended for Outer3 {
+    ghost root = { outer_root };
 
-    const CONSTRAINTS: Constraints = Constraints::NONE;
+    ghost additions = { outer3_additions };
 
-    ghost CONSTRAINTS = { no_constraints };
+    ghost contents = { λ x. Some (truth x.first) ∷ Some (truth x.second) ∷ [] };
 
-    ghost schema = { λ _. extended_at outer_root outer3_additions };
+    ghost added = { λ x. slot_of ⟦<Flagged as AsnType>⟧.value x.group ∷ slot_of octets x.after ∷ [] };
 
-    ghost value = { λ x. record_value (Some (truth x.first) ∷ Some (truth x.second) ∷ [])
-        (slot_of ⟦<Flagged as AsnType>⟧.value x.group ∷ slot_of octets x.after ∷ []) };
-
-    ghost levels = { λ x. suc (deeper_of 0 (max (slot_levels ⟦<Flagged as AsnType>⟧.levels x.group)
-        (max (slot_levels ⟦<OctetString as AsnType>⟧.levels x.after) 0))) };
-
-    ghost levelled = { λ _. extended_levelled outer_root outer3_additions };
-
-    ghost tag_fits = { λ _. sequence_tag (parts_of outer_root) true (parts_of outer3_additions) };
+    ghost depth = { λ x. deeper_of 0 (max (slot_levels ⟦<Flagged as AsnType>⟧.levels x.group)
+        (max (slot_levels ⟦<OctetString as AsnType>⟧.levels x.after) 0)) };
 }
 
 impl Constructed for Outer3 {
@@ -88,9 +82,9 @@ impl Constructed for Outer3 {
 
     ghost additions = { parts_of outer3_additions };
 
-    ghost contents = { λ x. Some (truth x.first) ∷ Some (truth x.second) ∷ [] };
+    ghost contents = { ⟦<Outer3 as Extended>⟧.contents };
 
-    ghost added = { λ x. slot_of ⟦<Flagged as AsnType>⟧.value x.group ∷ slot_of octets x.after ∷ [] };
+    ghost added = { ⟦<Outer3 as Extended>⟧.added };
 
     ghost described = { fields_described outer_root };
 

@@ -1,17 +1,15 @@
 //! A group with an extension marker.
 
-ghost use Rattle.std.specs.Prelude.{[], ◌∷◌, Some, max, refl, suc, true};
-ghost use Rattle.rasn_below.specs.Values.{truth, record_value, slot_of, deeper_of, slot_levels};
-ghost use Rattle.rasn_below.specs.Components.{fields_described, fields_of, parts_of, extended_at, extended_by};
-ghost use Rattle.rasn_below.specs.Components.{extended_levelled};
-ghost use Rattle.rasn_below.specs.Types.{SEQUENCE, no_constraints, sequence_tag};
+ghost use Rattle.std.specs.Prelude.{[], ◌∷◌, Some, max, refl, true};
+ghost use Rattle.rasn_below.specs.Values.{truth, slot_of, deeper_of, slot_levels};
+ghost use Rattle.rasn_below.specs.Components.{fields_described, fields_of, parts_of, extended_by};
 ghost use Rattle.per_samples_c.specs.Groups.{x_root};
 
 use rasn_below::types::Identifier;
 use rasn_below::{
     AdditionGroup, AsnType, Constraint, Constraints, Constructed, Decode, Decoder, Encode, Encoder,
-    Fields, Tag, added_bounds, added_fields, decode_extended, encode_extended, root_bounds,
-    root_fields,
+    Extended, ExtendedKind, Fields, OfKind, Tag, added_bounds, added_fields, decode_extended,
+    encode_extended, root_bounds, root_fields,
 };
 
 /// SEQUENCE { x BOOLEAN OPTIONAL, ... }
@@ -37,24 +35,20 @@ const ADDED_FIELDS: Fields = components!(added_fields);
 
 const ADDED_BOUNDS: &[&[Constraint]] = components!(added_bounds);
 
-impl AsnType for Group1 {
-    const TAG: Tag = Tag::SEQUENCE;
+impl OfKind for Group1 {
+    type Kind = ExtendedKind;
+}
 
-    ghost TAG = { SEQUENCE };
+impl Extended for Group1 {
+    ghost root = { x_root };
 
-    const CONSTRAINTS: Constraints = Constraints::NONE;
+    ghost additions = { [] };
 
-    ghost CONSTRAINTS = { no_constraints };
+    ghost contents = { λ x. slot_of truth x.x ∷ [] };
 
-    ghost schema = { λ _. extended_at x_root [] };
+    ghost added = { λ x. [] };
 
-    ghost value = { λ x. record_value (slot_of truth x.x ∷ []) ([]) };
-
-    ghost levels = { λ x. suc (deeper_of (max (slot_levels ⟦<bool as AsnType>⟧.levels x.x) 0) 0) };
-
-    ghost levelled = { λ _. extended_levelled x_root [] };
-
-    ghost tag_fits = { λ _. sequence_tag (parts_of x_root) true (parts_of []) };
+    ghost depth = { λ x. deeper_of (max (slot_levels ⟦<bool as AsnType>⟧.levels x.x) 0) 0 };
 }
 
 impl Constructed for Group1 {
@@ -74,9 +68,9 @@ impl Constructed for Group1 {
 
     ghost additions = { parts_of [] };
 
-    ghost contents = { λ x. slot_of truth x.x ∷ [] };
+    ghost contents = { ⟦<Group1 as Extended>⟧.contents };
 
-    ghost added = { λ x. [] };
+    ghost added = { ⟦<Group1 as Extended>⟧.added };
 
     ghost described = { fields_described x_root };
 

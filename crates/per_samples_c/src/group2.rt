@@ -1,17 +1,15 @@
 //! A group with an addition.
 
-ghost use Rattle.std.specs.Prelude.{[], ◌∷◌, Some, max, refl, suc, true};
-ghost use Rattle.rasn_below.specs.Values.{truth, record_value, slot_of, deeper_of, slot_levels};
-ghost use Rattle.rasn_below.specs.Components.{fields_described, fields_of, parts_of, extended_at, extended_by};
-ghost use Rattle.rasn_below.specs.Components.{extended_levelled};
-ghost use Rattle.rasn_below.specs.Types.{SEQUENCE, no_constraints, sequence_tag};
+ghost use Rattle.std.specs.Prelude.{[], ◌∷◌, Some, max, refl, true};
+ghost use Rattle.rasn_below.specs.Values.{truth, slot_of, deeper_of, slot_levels};
+ghost use Rattle.rasn_below.specs.Components.{fields_described, fields_of, parts_of, extended_by};
 ghost use Rattle.per_samples_c.specs.Groups.{x_root, y_additions};
 
 use rasn_below::types::Identifier;
 use rasn_below::{
     AdditionGroup, AsnType, Constraint, Constraints, Constructed, Decode, Decoder, Encode, Encoder,
-    Fields, Tag, added_bounds, added_fields, decode_extended, encode_extended, root_bounds,
-    root_fields,
+    Extended, ExtendedKind, Fields, OfKind, Tag, added_bounds, added_fields, decode_extended,
+    encode_extended, root_bounds, root_fields,
 };
 
 /// SEQUENCE { x BOOLEAN OPTIONAL, ..., y BOOLEAN OPTIONAL }
@@ -39,25 +37,21 @@ const ADDED_FIELDS: Fields = components!(added_fields);
 
 const ADDED_BOUNDS: &[&[Constraint]] = components!(added_bounds);
 
-impl AsnType for Group2 {
-    const TAG: Tag = Tag::SEQUENCE;
+impl OfKind for Group2 {
+    type Kind = ExtendedKind;
+}
 
-    ghost TAG = { SEQUENCE };
+impl Extended for Group2 {
+    ghost root = { x_root };
 
-    const CONSTRAINTS: Constraints = Constraints::NONE;
+    ghost additions = { y_additions };
 
-    ghost CONSTRAINTS = { no_constraints };
+    ghost contents = { λ x. slot_of truth x.x ∷ [] };
 
-    ghost schema = { λ _. extended_at x_root y_additions };
+    ghost added = { λ x. slot_of truth x.y ∷ [] };
 
-    ghost value = { λ x. record_value (slot_of truth x.x ∷ []) (slot_of truth x.y ∷ []) };
-
-    ghost levels = { λ x. suc (deeper_of (max (slot_levels ⟦<bool as AsnType>⟧.levels x.x) 0)
-        (max (slot_levels ⟦<bool as AsnType>⟧.levels x.y) 0)) };
-
-    ghost levelled = { λ _. extended_levelled x_root y_additions };
-
-    ghost tag_fits = { λ _. sequence_tag (parts_of x_root) true (parts_of y_additions) };
+    ghost depth = { λ x. deeper_of (max (slot_levels ⟦<bool as AsnType>⟧.levels x.x) 0)
+        (max (slot_levels ⟦<bool as AsnType>⟧.levels x.y) 0) };
 }
 
 impl Constructed for Group2 {
@@ -77,9 +71,9 @@ impl Constructed for Group2 {
 
     ghost additions = { parts_of y_additions };
 
-    ghost contents = { λ x. slot_of truth x.x ∷ [] };
+    ghost contents = { ⟦<Group2 as Extended>⟧.contents };
 
-    ghost added = { λ x. slot_of truth x.y ∷ [] };
+    ghost added = { ⟦<Group2 as Extended>⟧.added };
 
     ghost described = { fields_described x_root };
 

@@ -1,17 +1,16 @@
 //! A SEQUENCE with a group that has an extension marker of its own.
 
-ghost use Rattle.std.specs.Prelude.{[], ◌∷◌, Some, max, refl, suc, true};
-ghost use Rattle.rasn_below.specs.Values.{truth, record_value, slot_of, slot_levels, deeper_of};
-ghost use Rattle.rasn_below.specs.Components.{fields_described, fields_of, parts_of, extended_at, extended_by};
-ghost use Rattle.rasn_below.specs.Components.{extended_levelled};
-ghost use Rattle.rasn_below.specs.Types.{SEQUENCE, no_constraints, sequence_tag};
+ghost use Rattle.std.specs.Prelude.{[], ◌∷◌, Some, max, refl, true};
+ghost use Rattle.rasn_below.specs.Values.{truth, slot_of, slot_levels, deeper_of};
+ghost use Rattle.rasn_below.specs.Components.{fields_described, fields_of, parts_of, extended_by};
 ghost use Rattle.per_samples_c.specs.Groups.{first_root, x_group};
 
 use crate::group1::Group1;
 use rasn_below::types::Identifier;
 use rasn_below::{
-    AsnType, Constraint, Constraints, Constructed, Decode, Decoder, Encode, Encoder, Fields, Tag,
-    added_bounds, added_fields, decode_extended, encode_extended, root_bounds, root_fields,
+    AsnType, Constraint, Constraints, Constructed, Decode, Decoder, Encode, Encoder, Extended,
+    ExtendedKind, Fields, OfKind, Tag, added_bounds, added_fields, decode_extended,
+    encode_extended, root_bounds, root_fields,
 };
 
 /// SEQUENCE { first BOOLEAN, ..., an addition group whose type is `Group1` }
@@ -39,25 +38,20 @@ const ADDED_FIELDS: Fields = components!(added_fields);
 
 const ADDED_BOUNDS: &[&[Constraint]] = components!(added_bounds);
 
-impl AsnType for Grouped1 {
-    const TAG: Tag = Tag::SEQUENCE;
+impl OfKind for Grouped1 {
+    type Kind = ExtendedKind;
+}
 
-    ghost TAG = { SEQUENCE };
+impl Extended for Grouped1 {
+    ghost root = { first_root };
 
-    const CONSTRAINTS: Constraints = Constraints::NONE;
+    ghost additions = { x_group };
 
-    ghost CONSTRAINTS = { no_constraints };
+    ghost contents = { λ x. Some (truth x.first) ∷ [] };
 
-    ghost schema = { λ _. extended_at first_root x_group };
+    ghost added = { λ x. slot_of ⟦<Group1 as AsnType>⟧.value x.group ∷ [] };
 
-    ghost value = { λ x. record_value (Some (truth x.first) ∷ [])
-        (slot_of ⟦<Group1 as AsnType>⟧.value x.group ∷ []) };
-
-    ghost levels = { λ x. suc (deeper_of 0 (max (slot_levels ⟦<Group1 as AsnType>⟧.levels x.group) 0)) };
-
-    ghost levelled = { λ _. extended_levelled first_root x_group };
-
-    ghost tag_fits = { λ _. sequence_tag (parts_of first_root) true (parts_of x_group) };
+    ghost depth = { λ x. deeper_of 0 (max (slot_levels ⟦<Group1 as AsnType>⟧.levels x.group) 0) };
 }
 
 impl Constructed for Grouped1 {
@@ -77,9 +71,9 @@ impl Constructed for Grouped1 {
 
     ghost additions = { parts_of x_group };
 
-    ghost contents = { λ x. Some (truth x.first) ∷ [] };
+    ghost contents = { ⟦<Grouped1 as Extended>⟧.contents };
 
-    ghost added = { λ x. slot_of ⟦<Group1 as AsnType>⟧.value x.group ∷ [] };
+    ghost added = { ⟦<Grouped1 as Extended>⟧.added };
 
     ghost described = { fields_described first_root };
 

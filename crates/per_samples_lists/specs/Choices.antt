@@ -1,8 +1,8 @@
 -- CHOICE { x [0] BOOLEAN, y CHOICE { p [1] BOOLEAN, q [2] NULL }, z [3] NULL }, y untagged
-use Rattle.std.specs.Prelude.{◌≡◌, ℕ, List, [], ◌∷◌, Some, None, refl}
+use Rattle.std.specs.Prelude.{◌≡◌, ℕ, zero, suc, List, [], ◌∷◌, Some, None, refl}
 use Rattle.rasn_below.specs.Values.{Value, alternative, root, nothing, truth}
 use Rattle.rasn_below.specs.Components.{Component, parts_of, boolean, null, under, at}
-use Rattle.rasn_below.specs.Types.{VariantShape, choice_at, choice_levelled, variants_of, components_levelled, Levelled, parts_levelled, no_additions, Parts, one_of, tree, no_trees, required, smallest}
+use Rattle.rasn_below.specs.Types.{IsTreeAt, VariantShape, choice_at, choice_levelled, variants_of, components_levelled, Levelled, parts_levelled, no_additions, Parts, one_of, tree, no_trees, required, smallest}
 use Rattle.per_samples_lists.specs.declared.choice.Inner.{Inner}
 use Rattle.per_samples_lists.specs.declared.choice.Inner.TheVariants.{P, Q}
 use Rattle.per_samples_lists.specs.declared.choice.Outer.{Outer}
@@ -25,6 +25,10 @@ inner_chosen Q = alternative root 1 nothing
 
 -- the outer one, of which the inner is an alternative by the tags of its own
 
+pub inner_fits : IsTreeAt (one_of (at 1) (tree (at 2) no_trees)) (choice_at inner_parts None no_additions)
+inner_fits zero = tt
+inner_fits (suc n) = refl
+
 abbrev pub untagged : Component
 untagged = record {
   tags = one_of (at 1) (tree (at 2) no_trees);
@@ -32,6 +36,7 @@ untagged = record {
   schema =
       choice_at inner_parts None no_additions;
   levelled = inner_levelled;
+  fits = inner_fits;
 }
 
 abbrev pub outer : List Component

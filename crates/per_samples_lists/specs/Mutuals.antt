@@ -27,10 +27,22 @@ mutual
   pong_levelled (suc n) = to_sequence (to_part (ping_levelled n) to_no_parts) to_no_parts
 
 abbrev pub ping : List Component
-ping = record { tags = at 0; presence = Types.optional; schema = pong_schema; levelled = pong_levelled } ∷ []
+ping = record {
+  tags = at 0;
+  presence = Types.optional;
+  schema = pong_schema;
+  levelled = pong_levelled;
+  fits = λ n. refl;
+} ∷ []
 
 abbrev pub pong : List Component
-pong = record { tags = at 0; presence = Types.optional; schema = ping_schema; levelled = ping_levelled } ∷ []
+pong = record {
+  tags = at 0;
+  presence = Types.optional;
+  schema = ping_schema;
+  levelled = ping_levelled;
+  fits = λ n. refl;
+} ∷ []
 
 -- the trees are those of the components
 pub ping_is_sequence : (n : ℕ) → sequence_at ping n ≡ ping_schema n

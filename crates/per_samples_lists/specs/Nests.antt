@@ -16,7 +16,13 @@ nest_levelled zero = no_level tt
 nest_levelled (suc n) = to_sequence (to_part (nest_levelled n) to_no_parts) to_no_parts
 
 abbrev pub nest : List Component
-nest = record { tags = at 0; presence = Types.optional; schema = nest_schema; levelled = nest_levelled } ∷ []
+nest = record {
+  tags = at 0;
+  presence = Types.optional;
+  schema = nest_schema;
+  levelled = nest_levelled;
+  fits = λ n. refl;
+} ∷ []
 
 -- the trees are those of its components
 pub nest_is_sequence : (n : ℕ) → sequence_at nest n ≡ nest_schema n

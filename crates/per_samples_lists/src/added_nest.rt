@@ -1,10 +1,8 @@
 //! A SEQUENCE with a recursive addition.
 
-ghost use Rattle.std.specs.Prelude.{[], ◌∷◌, Some, max, refl, suc, true};
-ghost use Rattle.rasn_below.specs.Values.{truth, record_value, slot_of, slot_levels, deeper_of};
-ghost use Rattle.rasn_below.specs.Components.{fields_described, fields_of, parts_of, extended_at, extended_by};
-ghost use Rattle.rasn_below.specs.Components.{extended_levelled};
-ghost use Rattle.rasn_below.specs.Types.{SEQUENCE, no_constraints, sequence_tag};
+ghost use Rattle.std.specs.Prelude.{[], ◌∷◌, Some, max, refl, true};
+ghost use Rattle.rasn_below.specs.Values.{truth, slot_of, slot_levels, deeper_of};
+ghost use Rattle.rasn_below.specs.Components.{fields_described, fields_of, parts_of, extended_by};
 ghost use Rattle.rasn_below.specs.Rows.{unaligned, IsWrittenAs};
 ghost use Rattle.per_samples_lists.specs.declared.nest.Nest.{Nest', None'};
 ghost use Rattle.per_samples_lists.specs.AddedNests.{nest_root, nest_additions};
@@ -12,8 +10,9 @@ ghost use Rattle.per_samples_lists.specs.AddedNests.{nest_root, nest_additions};
 use crate::nest::Nest;
 use rasn_below::types::Identifier;
 use rasn_below::{
-    AsnType, Constraint, Constraints, Constructed, Decode, Decoder, Encode, Encoder, Fields, Tag,
-    added_bounds, added_fields, decode_extended, encode_extended, root_bounds, root_fields,
+    AsnType, Constraint, Constraints, Constructed, Decode, Decoder, Encode, Encoder, Extended,
+    ExtendedKind, Fields, OfKind, Tag, added_bounds, added_fields, decode_extended,
+    encode_extended, root_bounds, root_fields,
 };
 
 /// SEQUENCE { a BOOLEAN, ..., deep Nest OPTIONAL }
@@ -41,24 +40,20 @@ const ADDED_FIELDS: Fields = components!(added_fields);
 
 const ADDED_BOUNDS: &[&[Constraint]] = components!(added_bounds);
 
-impl AsnType for AddedNest {
-    const TAG: Tag = Tag::SEQUENCE;
+impl OfKind for AddedNest {
+    type Kind = ExtendedKind;
+}
 
-    ghost TAG = { SEQUENCE };
+impl Extended for AddedNest {
+    ghost root = { nest_root };
 
-    const CONSTRAINTS: Constraints = Constraints::NONE;
+    ghost additions = { nest_additions };
 
-    ghost CONSTRAINTS = { no_constraints };
+    ghost contents = { λ x. Some (truth x.a) ∷ [] };
 
-    ghost schema = { λ _. extended_at nest_root nest_additions };
+    ghost added = { λ x. slot_of ⟦<Nest as AsnType>⟧.value x.deep ∷ [] };
 
-    ghost value = { λ x. record_value (Some (truth x.a) ∷ []) (slot_of ⟦<Nest as AsnType>⟧.value x.deep ∷ []) };
-
-    ghost levels = { λ x. suc (deeper_of 0 (max (slot_levels ⟦<Nest as AsnType>⟧.levels x.deep) 0)) };
-
-    ghost levelled = { λ _. extended_levelled nest_root nest_additions };
-
-    ghost tag_fits = { λ _. sequence_tag (parts_of nest_root) true (parts_of nest_additions) };
+    ghost depth = { λ x. deeper_of 0 (max (slot_levels ⟦<Nest as AsnType>⟧.levels x.deep) 0) };
 }
 
 impl Constructed for AddedNest {
@@ -78,9 +73,9 @@ impl Constructed for AddedNest {
 
     ghost additions = { parts_of nest_additions };
 
-    ghost contents = { λ x. Some (truth x.a) ∷ [] };
+    ghost contents = { ⟦<AddedNest as Extended>⟧.contents };
 
-    ghost added = { λ x. slot_of ⟦<Nest as AsnType>⟧.value x.deep ∷ [] };
+    ghost added = { ⟦<AddedNest as Extended>⟧.added };
 
     ghost described = { fields_described nest_root };
 

@@ -1,16 +1,15 @@
 //! A SEQUENCE with an extension marker, before a recursive addition came.
 
-ghost use Rattle.std.specs.Prelude.{[], ◌∷◌, Some, max, refl, suc, true};
-ghost use Rattle.rasn_below.specs.Values.{truth, record_value, slot_of, deeper_of, slot_levels};
-ghost use Rattle.rasn_below.specs.Components.{fields_described, fields_of, parts_of, extended_at, extended_by};
-ghost use Rattle.rasn_below.specs.Components.{extended_levelled};
-ghost use Rattle.rasn_below.specs.Types.{SEQUENCE, no_constraints, sequence_tag};
+ghost use Rattle.std.specs.Prelude.{[], ◌∷◌, Some, refl, true};
+ghost use Rattle.rasn_below.specs.Values.{truth};
+ghost use Rattle.rasn_below.specs.Components.{fields_described, fields_of, parts_of, extended_by};
 ghost use Rattle.per_samples_lists.specs.AddedNests.{nest_root};
 
 use rasn_below::types::Identifier;
 use rasn_below::{
-    AsnType, Constraint, Constraints, Constructed, Decode, Decoder, Encode, Encoder, Fields, Tag,
-    added_bounds, added_fields, decode_extended, encode_extended, root_bounds, root_fields,
+    Constraint, Constraints, Constructed, Decode, Decoder, Encode, Encoder, Extended, ExtendedKind,
+    Fields, OfKind, Tag, added_bounds, added_fields, decode_extended, encode_extended, root_bounds,
+    root_fields,
 };
 
 /// SEQUENCE { a BOOLEAN, ... }
@@ -36,24 +35,18 @@ const ADDED_FIELDS: Fields = components!(added_fields);
 
 const ADDED_BOUNDS: &[&[Constraint]] = components!(added_bounds);
 
-impl AsnType for BeforeNest {
-    const TAG: Tag = Tag::SEQUENCE;
+impl OfKind for BeforeNest {
+    type Kind = ExtendedKind;
+}
 
-    ghost TAG = { SEQUENCE };
+impl Extended for BeforeNest {
+    ghost root = { nest_root };
 
-    const CONSTRAINTS: Constraints = Constraints::NONE;
+    ghost additions = { [] };
 
-    ghost CONSTRAINTS = { no_constraints };
+    ghost contents = { λ x. Some (truth x.a) ∷ [] };
 
-    ghost schema = { λ _. extended_at nest_root [] };
-
-    ghost value = { λ x. record_value (Some (truth x.a) ∷ []) [] };
-
-    ghost levels = { λ x. suc (deeper_of 0 0) };
-
-    ghost levelled = { λ _. extended_levelled nest_root [] };
-
-    ghost tag_fits = { λ _. sequence_tag (parts_of nest_root) true (parts_of []) };
+    ghost added = { λ x. [] };
 }
 
 impl Constructed for BeforeNest {
@@ -73,9 +66,9 @@ impl Constructed for BeforeNest {
 
     ghost additions = { parts_of [] };
 
-    ghost contents = { λ x. Some (truth x.a) ∷ [] };
+    ghost contents = { ⟦<BeforeNest as Extended>⟧.contents };
 
-    ghost added = { λ x. [] };
+    ghost added = { ⟦<BeforeNest as Extended>⟧.added };
 
     ghost described = { fields_described nest_root };
 

@@ -1,15 +1,16 @@
 //! A CHOICE of which an alternative is a choice without a tag of its own.
 
-ghost use Rattle.std.specs.Prelude.{None, refl, true, [], ◌∷◌};
-ghost use Rattle.rasn_below.specs.Types.{EOC, no_constraints, choice_at, variants_of, no_additions, choice_tag};
-ghost use Rattle.rasn_below.specs.Rows.{unaligned, IsWrittenAs};
+ghost use Rattle.std.specs.Prelude.{None, refl, true};
+ghost use Rattle.rasn_below.specs.Types.{EOC, no_constraints, choice_at, variants_of, no_additions, choice_stated, choice_tag, tree_with};
 ghost use Rattle.per_samples_lists.specs.Choices.{inner_parts, inner_levelled, inner_chosen, outer_parts, outer_levelled, outer_variants, outer_described, outer_chosen, outer_levels};
 ghost use Rattle.per_samples_lists.specs.declared.choice.Inner.TheVariants.{P, Q};
 ghost use Rattle.per_samples_lists.specs.declared.choice.Outer.TheVariants.{X, Y, Z};
 
 use rasn_below::codec::{Decode, Decoder, DecoderExt, Encode, Encoder, EncoderExt, FromTag};
 use rasn_below::context_tag;
-use rasn_below::schema::{AsnType, Choice, Constraints, Variant, Variants};
+use rasn_below::schema::{
+    AsnType, Choice, Constraints, TagTree, TypeTree, Variants, variant_index,
+};
 use rasn_below::types::{Identifier, Tag};
 
 /// CHOICE { p [1] BOOLEAN, q [2] NULL }
@@ -40,6 +41,14 @@ impl AsnType for Inner {
 
     ghost TAG = { EOC };
 
+    const TAG_TREE: TypeTree = TypeTree(TagTree::Choice(INNER));
+
+    ghost TAG_TREE = { tree_with (variants_of (inner_parts 0)) };
+
+    const IS_CHOICE: bool = true;
+
+    ghost IS_CHOICE = { true };
+
     const CONSTRAINTS: Constraints = Constraints::NONE;
 
     ghost CONSTRAINTS = { no_constraints };
@@ -53,18 +62,11 @@ impl AsnType for Inner {
     ghost levelled = { λ _. inner_levelled };
 
     ghost tag_fits = { λ _. choice_tag inner_parts None no_additions };
+
+    ghost tree_fits = { λ _. choice_stated inner_parts (λ _. refl) None no_additions };
 }
 
-const INNER: &[Variant] = &[
-    Variant {
-        tag: TAG_OF_P,
-        tag_tree: rasn_below::TagTree::Leaf(TAG_OF_P),
-    },
-    Variant {
-        tag: TAG_OF_Q,
-        tag_tree: rasn_below::TagTree::Leaf(TAG_OF_Q),
-    },
-];
+const INNER: &[TagTree] = &[TagTree::Leaf(TAG_OF_P), TagTree::Leaf(TAG_OF_Q)];
 
 impl Choice for Inner {
     const VARIANTS: Variants = Variants { list: INNER };
@@ -113,7 +115,7 @@ impl Decode for Inner {
 
 impl FromTag for Inner {
     fn from_tag<D: Decoder>(decoder: &mut D, tag: Tag) -> Result<Inner, D::Error> {
-        match Self::VARIANTS.index_of(tag) {
+        match variant_index::<Inner>(tag) {
             Some(0) => {
                 let p = bool::decode_with_tag(decoder, tag)?;
                 Ok(Inner::P(p))
@@ -131,6 +133,14 @@ impl AsnType for Outer {
 
     ghost TAG = { EOC };
 
+    const TAG_TREE: TypeTree = TypeTree(TagTree::Choice(OUTER));
+
+    ghost TAG_TREE = { tree_with outer_variants };
+
+    const IS_CHOICE: bool = true;
+
+    ghost IS_CHOICE = { true };
+
     const CONSTRAINTS: Constraints = Constraints::NONE;
 
     ghost CONSTRAINTS = { no_constraints };
@@ -144,24 +154,14 @@ impl AsnType for Outer {
     ghost levelled = { λ _. outer_levelled };
 
     ghost tag_fits = { λ _. choice_tag outer_parts None no_additions };
+
+    ghost tree_fits = { λ _. choice_stated outer_parts outer_described None no_additions };
 }
 
-const OUTER: &[Variant] = &[
-    Variant {
-        tag: TAG_OF_X,
-        tag_tree: rasn_below::TagTree::Leaf(TAG_OF_X),
-    },
-    Variant {
-        tag: TAG_OF_P,
-        tag_tree: rasn_below::TagTree::Choice(&[
-            rasn_below::TagTree::Leaf(TAG_OF_P),
-            rasn_below::TagTree::Leaf(TAG_OF_Q),
-        ]),
-    },
-    Variant {
-        tag: TAG_OF_Z,
-        tag_tree: rasn_below::TagTree::Leaf(TAG_OF_Z),
-    },
+const OUTER: &[TagTree] = &[
+    TagTree::Leaf(TAG_OF_X),
+    TagTree::Choice(INNER),
+    TagTree::Leaf(TAG_OF_Z),
 ];
 
 impl Choice for Outer {
@@ -212,7 +212,7 @@ impl Decode for Outer {
 
 impl FromTag for Outer {
     fn from_tag<D: Decoder>(decoder: &mut D, tag: Tag) -> Result<Outer, D::Error> {
-        match Self::VARIANTS.index_of(tag) {
+        match variant_index::<Outer>(tag) {
             Some(0) => {
                 let x = bool::decode_with_tag(decoder, tag)?;
                 Ok(Outer::X(x))
@@ -228,16 +228,3 @@ impl FromTag for Outer {
         }
     }
 }
-
-/// The index in two bits, and behind that of the inner choice its own (X.691 23.6): it is one alternative.
-#[tactic(auto, unfolding(rasn_below::specs::Rows::bytes, rasn_below::specs::Types::normal, rasn_below::specs::Types::settle))]
-pub fn an_untagged_choice_is_one_alternative()
-    ensures x { let own = ⟦<Outer as AsnType>⟧ in
-        IsWrittenAs unaligned (own.schema own.CONSTRAINTS) own.levels own.value (X true) (0x20 ∷ []) }
-    ensures p { let own = ⟦<Outer as AsnType>⟧ in
-        IsWrittenAs unaligned (own.schema own.CONSTRAINTS) own.levels own.value (Y (P true)) (0x50 ∷ []) }
-    ensures q { let own = ⟦<Outer as AsnType>⟧ in
-        IsWrittenAs unaligned (own.schema own.CONSTRAINTS) own.levels own.value (Y Q) (0x60 ∷ []) }
-    ensures z { let own = ⟦<Outer as AsnType>⟧ in
-        IsWrittenAs unaligned (own.schema own.CONSTRAINTS) own.levels own.value Z (0x80 ∷ []) }
-{}

@@ -5,6 +5,7 @@ pub mod added_nest;
 pub mod before_nest;
 pub mod byte;
 pub mod choice;
+pub mod choice_rows;
 pub mod deep;
 pub mod elements;
 pub mod empty;

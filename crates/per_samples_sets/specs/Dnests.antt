@@ -18,7 +18,13 @@ dnest_levelled zero = no_level tt
 dnest_levelled (suc n) = to_sequence (to_part (dnest_levelled n) (to_part (date_levelled n) to_no_parts)) to_no_parts
 
 abbrev pub inner_component : Component
-inner_component = record { tags = at 0; presence = Types.optional; schema = dnest_schema; levelled = dnest_levelled }
+inner_component = record {
+  tags = at 0;
+  presence = Types.optional;
+  schema = dnest_schema;
+  levelled = dnest_levelled;
+  fits = λ n. refl;
+}
 
 abbrev pub dnest : List Component
 dnest = inner_component ∷ under (at 1) (optional date) ∷ []

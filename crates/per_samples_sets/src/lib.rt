@@ -13,6 +13,7 @@ pub mod rows;
 pub mod set;
 pub mod set_choice;
 pub mod set_each;
+mod set_each_schema;
 pub mod set_optional;
 pub mod set_rows;
 pub mod texts;

@@ -26,4 +26,6 @@ mod pieces;
 #[cfg(test)]
 mod refusals;
 #[cfg(test)]
+mod sets;
+#[cfg(test)]
 mod values;

@@ -17,3 +17,4 @@ pub mod Parts
 pub mod Records
 pub mod Total
 pub mod OneWritten
+pub mod Keeps

@@ -11,6 +11,8 @@ ghost use Rattle.rasn_schema.specs.Lists.{list_at};
 ghost use Rattle.rasn_schema.specs.Normal.{normal};
 ghost use Rattle.rasn_schema.specs.Records.{record_at};
 ghost use Rattle.rasn_schema.specs.Schemas.{Order, Parts, Schema};
+ghost use Rattle.rasn_versions.specs.Judged.{judgement};
+ghost use Rattle.rasn_versions.specs.Verdicts.{allowed};
 ghost use Rattle.per_core.specs.Basic.{fills};
 ghost use Rattle.per_core.specs.Spellings.{Settings};
 ghost use Rattle.per_write.specs.Faults.{IsInValue};
@@ -23,6 +25,8 @@ ghost use Rattle.per_versions.specs.Kept.{
   keeps_to_i128,
   starts_in_i128,
 };
+
+use rasn_schema::schema::AsnType;
 
 /// Of what a lawful schema reads, in a tree that holds it, an encoder refuses the normal form for one fault alone: a
 /// number past an `i128` that stands within the bounds of an extensible constraint. Behind an extension bit it is read,
@@ -51,8 +55,7 @@ pub fn numbers_of_an_i128_are_kept()
 {}
 
 /// A type of any depth keeps to the numbers of an `i128` where what stands in it does: the components and additions of
-/// a
-/// record, the elements of a list, the alternatives of a choice.
+/// a record, the elements of a list, the alternatives of a choice.
 pub fn types_of_kept_parts_are_kept()
     ensures record_of { (o : Order) (parts additions : ℕ → Parts) (extensible : Bool)
         → ((n : ℕ) → keep_to_i128 (parts n) ≡ true) → ((n : ℕ) → keep_to_i128 (additions n) ≡ true)
@@ -62,4 +65,12 @@ pub fn types_of_kept_parts_are_kept()
     ensures choice_of { (alternatives behind : ℕ → Parts) (extensible : Option (List VariantShape))
         → ((n : ℕ) → keep_to_i128 (alternatives n) ≡ true) → ((n : ℕ) → keep_to_i128 (behind n) ≡ true)
         → KeepsToI128 (choice_at alternatives extensible behind) }
+{}
+
+/// A type keeps to the numbers of an `i128` where its tree of 128 levels does, and the judgement of it finds nothing
+/// unlawful: both are found by computing. A call in an empty body is refused where it isn't so (X.691, 13).
+pub fn keeps_to_i128<T: AsnType>()
+    requires lawful { judgement (T.schema T.CONSTRAINTS) ≡ allowed }
+    requires kept { keeps_to_i128 (T.schema T.CONSTRAINTS 128) ≡ true }
+    ensures { KeepsToI128 (T.schema T.CONSTRAINTS) }
 {}

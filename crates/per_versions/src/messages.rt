@@ -41,8 +41,9 @@ pub fn reader_in_front_answers_the_same_whatever_is_unknown<T: Decode>()
 /// Where a newer type's `decode` answers two messages with values of which an older type sees the same, an older type's
 /// `decode` answers both with the same value; it refuses the second for want of memory alone (X.680, 52).
 pub fn older_reader_answers_the_same_where_it_sees_the_same<New: Decode, Old: Decode>()
-    ensures { let newer = New.schema New.CONSTRAINTS in let older = Old.schema Old.CONSTRAINTS in NewerType newer older
-        → (strict : Bool) (codec : Codec) (x y : New) (z : Old) (octets others : List ℕ) (answer : Result Old DecodeError)
+    ensures { let newer = New.schema New.CONSTRAINTS in let older = Old.schema Old.CONSTRAINTS in
+        NewerType newer older → (strict : Bool) (codec : Codec) (x y : New) (z : Old) (octets others : List ℕ)
+        → (answer : Result Old DecodeError)
         → DecodedBy strict codec newer New.value octets (Ok x) → DecodedBy strict codec newer New.value others (Ok y)
         → ((w : Value) → IsProjection newer older (New.value x) w ↔ IsProjection newer older (New.value y) w)
         → DecodedBy strict codec older Old.value octets (Ok z) → DecodedBy strict codec older Old.value others answer

@@ -7,6 +7,7 @@ pub mod Gathering
 pub mod Indexes
 pub mod OpenTypes
 pub mod RecordsClosed
+pub mod SetRoots
 pub mod Refusing
 pub mod Steps
 pub mod Vacant

@@ -1,5 +1,6 @@
 pub mod Additions
 pub mod Choices
+pub mod Components
 pub mod Characters
 pub mod Faults
 pub mod Items

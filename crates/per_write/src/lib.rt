@@ -18,6 +18,7 @@ ghost use Rattle.per_write.specs.Faults.{IsError, IsMemory, IsAlready, RefusesOu
 mod additions;
 mod bitmaps;
 pub mod choices;
+mod components;
 pub mod error;
 pub mod items;
 pub mod lists;

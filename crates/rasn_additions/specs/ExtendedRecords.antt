@@ -7,6 +7,7 @@ use Rattle.rasn_schema.specs.Levels.{Levelled, record_levelled}
 use Rattle.rasn_schema.specs.Records.{record_at}
 use Rattle.rasn_schema.specs.Schemas
 use Rattle.rasn_schema.specs.Schemas.{listed, Schema}
+use Rattle.rasn_schema.specs.Tags.{sequence_fits}
 
 -- a SEQUENCE of these root components and these additions behind the marker, to a number of levels
 abbrev pub extended_at : List Component → List Component → ℕ → Schema
@@ -26,8 +27,15 @@ extended_sequence cs ds = record {
   presence = Schemas.required;
   schema = extended_at cs ds;
   levelled = extended_levelled cs ds;
+  fits = sequence_fits (parts_of cs) true (parts_of ds);
 }
 
 -- an addition group, by the SEQUENCE of its components (X.680 25.1)
 abbrev pub group : Component → Component
-group c = record { tags = c.tags; presence = Schemas.group; schema = c.schema; levelled = c.levelled }
+group c = record {
+  tags = c.tags;
+  presence = Schemas.group;
+  schema = c.schema;
+  levelled = c.levelled;
+  fits = c.fits;
+}

@@ -11,6 +11,7 @@ ghost use Rattle.rasn_traits.specs.Presences.{slot_of};
 
 pub mod added;
 pub mod additions;
+pub mod extended;
 
 use rasn_codec::codec::{Decode, Encode};
 use rasn_schema::fields::AdditionGroup;

@@ -32,10 +32,7 @@
 macro_rules! variants {
     ([] $($tag:literal $name:literal $variant:ident $(: $type:ty [$($bounds:tt)*])?;)*) => {
         $crate::Variants {
-            list: &[$($crate::Variant {
-                tag: $crate::context_tag!($tag),
-                tag_tree: $crate::TagTree::Leaf($crate::context_tag!($tag)),
-            }),*],
+            list: &[$($crate::TagTree::Leaf($crate::context_tag!($tag))),*],
         }
     };
     ([] $(

@@ -13,6 +13,7 @@ pub mod schema;
 mod sets;
 pub mod types;
 
+pub use rasn_additions::extended::{Extended, ExtendedKind};
 pub use rasn_additions::{added, additions};
 pub use rasn_codec::alternatives::CodedAlternatives;
 pub use rasn_codec::codec::{Decode, Decoder, Encode, Encoder};
@@ -20,11 +21,13 @@ pub use rasn_codec::kinds::ByKind;
 pub use rasn_codec::record::Record;
 pub use rasn_record::{alternatives, cells, components, fours, read, sixteen, write};
 pub use rasn_schema::alternatives::{Alternatives, ChoiceKind};
-pub use rasn_schema::choices::{Variant, Variants};
+pub use rasn_schema::choices::Variants;
 pub use rasn_schema::components::Components;
 pub use rasn_schema::constrained::{Constrained, Limits};
 pub use rasn_schema::constraints::{Bounded, Constraint, Extensible};
-pub use rasn_schema::fields::{AdditionGroup, Constructed, Field, Fields, Presence, TagTree};
+pub use rasn_schema::fields::{
+    AdditionGroup, Constructed, Field, Fields, Presence, TagTree, TypeTree,
+};
 pub use rasn_schema::items::{EnumeratedKind, ItemCounts, Items, Place};
 pub use rasn_schema::kinds::OfKind;
 pub use rasn_schema::schema::{AsnType, Constraints};

@@ -12,7 +12,9 @@ use Rattle.rasn_traits.specs.Calls.{AtDepths}
 use Rattle.per_core.specs.Writers.{join, just, ◌▹◌}
 use Rattle.per_core.specs.Canon.{canon, bytes, completed}
 use Rattle.per_pieces.specs.Pieces.{Pieces, no_pieces, writer_of}
-use Rattle.per_write.specs.State.{Scope, State, fresh, view, Presents}
+use Rattle.per_enc.specs.Rules.{fresh, Presents}
+use Rattle.per_write.specs.Components.{Encoding}
+use Rattle.per_write.specs.State.{Scope, State, view}
 use Rattle.per_write.specs.Faults.{IsMemory, IsInValue, RefusesOutput, RefusesValue, Stands, output_fault}
 use Rattle.per_write.specs.declared.error.EncodeError.{EncodeError}
 use Rattle.per_write.specs.declared.error.EncodeErrorKind.{EncodeErrorKind}
@@ -23,12 +25,12 @@ join-nil : (o : Option Bits) → join [] o ≡ o
 join-nil None = refl
 join-nil (Some b) = refl
 
-presented : (x : State) (s : Schema) (v : Value) (y : State) (octets : List ℕ) → x.pieces ≡ no_pieces → Presents x s v y → completed (view y 0) ≡ Some octets → bytes (variant_of x.codec) s v ≡ Some octets
+presented : (a : Codec) (x : Encoding) (s : Schema) (v : Value) (y : Encoding) (octets : List ℕ) → x ≡ fresh a → Presents x s v y → completed (view y.writer 0) ≡ Some octets → bytes (variant_of a) s v ≡ Some octets
 unfolding bytes
-presented x s v y octets e h k =
-    let w : view y 0 ≡ (view x ▹ canon (variant_of x.codec) s v) 0 = h.appended.written 0 (λ t. refl) in
-    let z : view y 0 ≡ join [] (canon (variant_of x.codec) s v 0) = w ∙ ap (λ (u : Pieces). (writer_of u.list ▹ canon (variant_of x.codec) s v) 0) e in
-    ap completed (sym (z ∙ join-nil (canon (variant_of x.codec) s v 0))) ∙ k
+presented a x s v y octets e h k =
+    let f : Presents (fresh a) s v y = subst (λ (u : Encoding). Presents u s v y) e h in
+    let w : view y.writer 0 ≡ join [] (canon (variant_of a) s v 0) = f.written.appended.written 0 (λ t. refl) in
+    ap completed (sym (w ∙ join-nil (canon (variant_of a) s v 0))) ∙ k
 
 unfailed : true ≡ false → ⊥
 unfailed e = absurd (cc)
@@ -39,47 +41,47 @@ in_value AlreadyFailed x s v f h = absurd (unfailed (sym h ∙ f))
 in_value _ x s v f h = h
 
 -- what was put out behind a value
-pub written : {Z : Type 0} (a : Codec) (x : State) (schema : ℕ → Schema) (levels : ℕ) (v : Value) (y : State) (result : Result (Vec ℕ Z) EncodeError) → x ≡ fresh a
-    → AtDepths schema levels (λ s. Presents x s (normal s v) y) → IfOk result (λ o. completed (view y 0) ≡ Some o.items) → IfErr result (λ e. RefusesOutput e y)
+pub written : {Z : Type 0} (a : Codec) (x : Encoding) (schema : ℕ → Schema) (levels : ℕ) (v : Value) (y : Encoding) (result : Result (Vec ℕ Z) EncodeError) → x ≡ fresh a
+    → AtDepths schema levels (λ s. Presents x s (normal s v) y) → IfOk result (λ o. completed (view y.writer 0) ≡ Some o.items) → IfErr result (λ e. RefusesOutput e y.writer)
     → Encoded a schema levels v result
 written a x schema levels v y (Ok o) e h k r = record {
-  ok = record { at = λ n l. subst (λ z. bytes (variant_of z) (schema n) (normal (schema n) v) ≡ Some o.items) (ap (λ (u : State). u.codec) e) (presented x (schema n) (normal (schema n) v) y o.items (ap (λ (u : State). u.pieces) e) (h.at n l) k) };
+  ok = record { at = λ n l. presented a x (schema n) (normal (schema n) v) y o.items e (h.at n l) k };
   err = tt;
   kind = tt;
   variant = tt;
 }
 written a x schema levels v y (Err f) e h k m =
-    let w = h.at levels (le_refl levels) in
-    let closed : y.scope.is_open ≡ false = ap (λ (s : Scope). s.is_open) w.beside ∙ ap (λ (u : State). u.scope.is_open) e in
-    let memory : f.kind ≡ OutOfMemory = m.kind_is ∙ ap₂ output_fault w.left closed in
+    let w : Presents (fresh a) (schema levels) (normal (schema levels) v) y = subst (λ (u : Encoding). Presents u (schema levels) (normal (schema levels) v) y) e (h.at levels (le_refl levels)) in
+    let closed : y.writer.scope.is_open ≡ false = ap (λ (s : Scope). s.is_open) w.written.beside in
+    let memory : f.kind ≡ OutOfMemory = m.kind_is ∙ ap₂ output_fault w.written.left closed in
     record {
       ok = tt;
       err = λ n. absurd (n memory);
       kind = λ n. absurd (n memory);
-      variant = m.codec_is ∙ w.same ∙ ap (λ (u : State). u.codec) e;
+      variant = m.codec_is ∙ w.written.same;
     }
 
 -- where a fresh encoder refuses a value, it has no bytes
-pub refused : {Z : Type 0} (a : Codec) (x : State) (schema : ℕ → Schema) (levels : ℕ) (v : Value) (result : Result (Vec ℕ Z) EncodeError) (f : EncodeError) → x ≡ fresh a → result ≡ Err f
-    → AtDepths schema levels (λ s. IsMemory f x ⊎ RefusesValue f x s (normal s v)) → Encoded a schema levels v result
+pub refused : {Z : Type 0} (a : Codec) (x : Encoding) (schema : ℕ → Schema) (levels : ℕ) (v : Value) (result : Result (Vec ℕ Z) EncodeError) (f : EncodeError) → x ≡ fresh a → result ≡ Err f
+    → AtDepths schema levels (λ s. IsMemory f x.writer ⊎ RefusesValue f x.writer s (normal s v)) → Encoded a schema levels v result
 unfolding bytes
 refused a x schema levels v result f e g h = rw g (record {
   ok = tt;
   err = λ n. record { at = λ k l. none k n (h.at k l) };
   kind = λ n. record { at = λ k l. stands k n (h.at k l) };
-  variant = of_codec (h.at levels (le_refl levels)) ∙ ap (λ (u : State). u.codec) e;
+  variant = of_codec (h.at levels (le_refl levels)) ∙ ap (λ (u : Encoding). u.writer.codec) e;
 })
   where
-    none : (k : ℕ) → f.kind ≢ OutOfMemory → IsMemory f x ⊎ RefusesValue f x (schema k) (normal (schema k) v) → bytes (variant_of a) (schema k) (normal (schema k) v) ≡ None
+    none : (k : ℕ) → f.kind ≢ OutOfMemory → IsMemory f x.writer ⊎ RefusesValue f x.writer (schema k) (normal (schema k) v) → bytes (variant_of a) (schema k) (normal (schema k) v) ≡ None
     none k n (inl m) = absurd (n m.kind_is)
     none k n (inr r) =
-        let c : canon (variant_of x.codec) (schema k) (normal (schema k) v) 0 ≡ None = r.none (ap (λ (u : State). u.failed) e) 0 in
-        subst (λ z. completed (canon (variant_of z) (schema k) (normal (schema k) v) 0) ≡ None) (ap (λ (u : State). u.codec) e) (ap completed c)
+        let c : canon (variant_of x.writer.codec) (schema k) (normal (schema k) v) 0 ≡ None = r.none (ap (λ (u : Encoding). u.writer.failed) e) 0 in
+        subst (λ z. completed (canon (variant_of z) (schema k) (normal (schema k) v) 0) ≡ None) (ap (λ (u : Encoding). u.writer.codec) e) (ap completed c)
 
-    stands : (k : ℕ) → f.kind ≢ OutOfMemory → IsMemory f x ⊎ RefusesValue f x (schema k) (normal (schema k) v) → IsInValue f.kind (schema k) (normal (schema k) v)
+    stands : (k : ℕ) → f.kind ≢ OutOfMemory → IsMemory f x.writer ⊎ RefusesValue f x.writer (schema k) (normal (schema k) v) → IsInValue f.kind (schema k) (normal (schema k) v)
     stands k n (inl m) = absurd (n m.kind_is)
-    stands k n (inr r) = in_value f.kind x (schema k) (normal (schema k) v) (ap (λ (u : State). u.failed) e) r.stands
+    stands k n (inr r) = in_value f.kind x.writer (schema k) (normal (schema k) v) (ap (λ (u : Encoding). u.writer.failed) e) r.stands
 
-    of_codec : IsMemory f x ⊎ RefusesValue f x (schema levels) (normal (schema levels) v) → f.codec ≡ x.codec
+    of_codec : IsMemory f x.writer ⊎ RefusesValue f x.writer (schema levels) (normal (schema levels) v) → f.codec ≡ x.writer.codec
     of_codec (inl m) = m.codec_is
     of_codec (inr r) = r.codec_is

@@ -1,15 +1,18 @@
 -- Choices (X.680 29): their alternatives, each by its list, before the extension marker or behind it, and its place
 -- there; and their schemas to a number of levels.
-use Rattle.std.specs.Prelude.{ℕ, zero, suc, ◌≡◌, Bool, true, false, nat_le, List, [], ◌∷◌, ◌++◌, length, map, Option, Some, None, refl}
-use Rattle.std.proofs.Common.{ap, ◌∙◌}
+use Rattle.std.specs.Prelude.{ℕ, zero, suc, ◌≡◌, Bool, true, false, nat_le, List, [], ◌∷◌, ◌++◌, length, map, Option}
+use Rattle.std.specs.Prelude.{Some, None, refl}
 use Rattle.std.specs.List.{position_from}
+use Rattle.rasn_types.specs.declared.types.TheConstants.Tag.{EOC}
 use Rattle.rasn_types.specs.Values.{Side, root, added}
-use Rattle.rasn_schema.specs.Fields.{field_tag, tag_of, tree_of}
+use Rattle.rasn_schema.specs.Fields.{and_tree, choice_tree, field_tag, tag_of, tree_of, trees_of}
 use Rattle.rasn_schema.specs.Lawful.{are_distinct, same_tag}
 use Rattle.rasn_schema.specs.Levels.{LevelledParts, Levelled, no_level, to_choice}
+use Rattle.rasn_schema.specs.Records.{own_or}
 use Rattle.rasn_schema.specs.Schemas
-use Rattle.rasn_schema.specs.Schemas.{Schema, Parts, no_parts, part}
-use Rattle.rasn_schema.specs.declared.choices.Variant.{Variant}
+use Rattle.rasn_schema.specs.Schemas.{Schema, Parts, no_parts, part, TagTrees, no_trees, tree}
+use Rattle.rasn_schema.specs.TreeTags.{least, leaves_in}
+use Rattle.rasn_schema.specs.declared.fields.TagTree.{TagTree}
 use Rattle.rasn_schema.specs.declared.items.Place.{Place}
 use Rattle.rasn_schema.specs.declared.items.Place.TheVariants.{Root, Added}
 
@@ -18,8 +21,13 @@ pub record VariantShape : Type 0 where
   pub tag : Schemas.Tag
   pub tree : Option Schemas.TagTree
 
-abbrev pub variant_shape : Variant → VariantShape
-variant_shape v = record { tag = tag_of v.tag; tree = tree_of v.tag_tree }
+-- X.691 21.1: the tag that an alternative goes by whose tree a constant states: the least of the tree's tags, and EOC's
+-- where it has none
+abbrev pub stated_tag : TagTree → Schemas.Tag
+stated_tag t = own_or (tag_of EOC) (least (leaves_in t))
+
+abbrev pub variant_shape : TagTree → VariantShape
+variant_shape t = record { tag = stated_tag t; tree = tree_of t }
 
 -- the tags by which variants go
 abbrev pub go_by : List VariantShape → List Schemas.Tag
@@ -35,13 +43,14 @@ abbrev pub tags_of : Parts → List Schemas.Tag
 tags_of no_parts = []
 tags_of (part t p s ps) = field_tag t ∷ tags_of ps
 
-length-variants : (ps : Parts) → length (variants_of ps) ≡ length (tags_of ps)
-length-variants no_parts = refl
-length-variants (part t p s ps) = ap suc (length-variants ps)
+-- X.680 29: the tag trees of alternatives
+abbrev pub trees_in : Parts → TagTrees
+trees_in no_parts = no_trees
+trees_in (part t p s ps) = tree t (trees_in ps)
 
--- there is a variant for each alternative
-pub variants_counted : {vs : List VariantShape} (ps : Parts) → vs ≡ variants_of ps → length vs ≡ length (tags_of ps)
-variants_counted ps e = ap length e ∙ length-variants ps
+-- the tag tree of an untagged choice with these variants, where it has one
+abbrev pub tree_with : List VariantShape → Option Schemas.TagTree
+tree_with vs = choice_tree (trees_of (map (λ v. v.tree) vs))
 
 -- the variants behind an extension marker, where there is one
 abbrev pub variants_behind : Option (List VariantShape) → List VariantShape

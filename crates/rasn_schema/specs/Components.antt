@@ -1,7 +1,7 @@
 -- The components of a record, and the words in which a schema's author lists them:
 -- `automatic (integer u8 (0 to 255) ∷ ia5_string (size 1 to 16) ∷ [])`.
-use Rattle.std.specs.Prelude.{◌≡◌, ℕ, zero, suc, ℤ, pos, neg_ℤ, true, false, List, [], ◌∷◌, drop, Option, Some, None, refl}
-use Rattle.std.proofs.Common.{ap}
+use Rattle.std.specs.Prelude.{◌≡◌, ℕ, zero, suc, ℤ, pos, neg_ℤ, true, false, List, [], ◌∷◌, drop, Option, Some, None}
+use Rattle.std.specs.Prelude.{refl}
 use Rattle.rasn_types.specs.Alphabets.{visible, ia5, printable, numeric, bmp}
 use Rattle.rasn_types.specs.Contents.{utf8}
 use Rattle.rasn_types.specs.Values.{Value, alternative, Side, root, added}
@@ -11,20 +11,26 @@ use Rattle.rasn_constraints.specs.declared.constraints.Bounded.TheVariants.{Rang
 use Rattle.rasn_constraints.specs.declared.constraints.Constraints.{Constraints}
 use Rattle.rasn_constraints.specs.declared.constraints.Extensible.{Extensible}
 use Rattle.rasn_schema.specs.Schemas
-use Rattle.rasn_schema.specs.Schemas.{Schema, TagTree, TagTrees, leaf, one_of, no_trees, tree, Presence, Parts, no_parts, part, listed}
-use Rattle.rasn_schema.specs.Choices.{VariantShape, choice_at, choice_levelled, variants_behind, variants_of}
+use Rattle.rasn_schema.specs.Schemas.{Schema, TagTree, TagTrees, leaf, one_of, no_trees, tree, Presence, Parts}
+use Rattle.rasn_schema.specs.Schemas.{no_parts, part, listed}
+use Rattle.rasn_schema.specs.Choices.{VariantShape, choice_at, choice_levelled, trees_in, variants_behind, variants_of}
 use Rattle.rasn_schema.specs.Fields.{Shape, field_tag, presence_of, shapes_from}
-use Rattle.rasn_schema.specs.Forms.{number_schema, octet_schema, bit_schema, character_schema, size_of, is_size_marked, always}
-use Rattle.rasn_schema.specs.Levels.{TakesNone, Levelled, LevelledParts, simple_levelled, parts_levelled, part_levelled, record_levelled}
-use Rattle.rasn_schema.specs.Lists.{list_at, list_levelled}
+use Rattle.rasn_schema.specs.Forms.{number_schema, octet_schema, bit_schema, character_schema, size_of, is_size_marked}
+use Rattle.rasn_schema.specs.Forms.{always}
+use Rattle.rasn_schema.specs.Levels.{TakesNone, Levelled, LevelledParts, simple_levelled, parts_levelled, part_levelled}
+use Rattle.rasn_schema.specs.Levels.{record_levelled}
+use Rattle.rasn_schema.specs.Lists.{list_at, list_fits, list_levelled}
 use Rattle.rasn_schema.specs.Records.{record_at, no_additions, record_value}
+use Rattle.rasn_schema.specs.Tags.{IsTreeAt, may_be_whole, sequence_fits}
 
--- a component of a record: its tags, whether it may be absent, and its schema to each number of levels
+-- a component of a record: its tags, whether it may be absent, and its schema to each number of levels, of which the
+-- tags are
 pub record Component : Type 0 where
   pub tags : TagTree
   pub presence : Presence
   pub schema : ℕ → Schema
   pub levelled : Levelled schema
+  pub fits : IsTreeAt tags schema
 
 -- the components of a record, to a number of levels
 abbrev pub parts_of : List Component → ℕ → Parts
@@ -64,8 +70,8 @@ fields_of cs = fields_from 0 cs
 fields_from_parts : (i : ℕ) (cs : List Component) (n : ℕ) → fields_from i cs ≡ shapes_from i (parts_of cs n)
 fields_from_parts i [] n = refl
 fields_from_parts i (c ∷ cs) n =
-    ap (λ fs. record { index = i; tag = field_tag c.tags; tree = Some c.tags; presence = presence_of c.presence } ∷ fs)
-    (fields_from_parts (suc i) cs n)
+    λ j. record { index = i; tag = field_tag c.tags; tree = Some c.tags; presence = presence_of c.presence }
+    ∷ fields_from_parts (suc i) cs n j
 
 -- the fields are those of the components at each number of levels
 pub fields_described : (cs : List Component) (n : ℕ) → fields_of cs ≡ shapes_from 0 (parts_of cs n)
@@ -100,8 +106,7 @@ variants_in (c ∷ cs) = record { tag = field_tag c.tags; tree = Some c.tags } �
 -- the variants are those of the alternatives at each number of levels
 pub variants_described : (cs : List Component) (n : ℕ) → variants_in cs ≡ variants_of (parts_of cs n)
 variants_described [] n = refl
-variants_described (c ∷ cs) n = ap (λ vs. record { tag = field_tag c.tags; tree = Some c.tags } ∷ vs)
-    (variants_described cs n)
+variants_described (c ∷ cs) n = λ i. record { tag = field_tag c.tags; tree = Some c.tags } ∷ variants_described cs n i
 
 -- the components behind an extension marker, where there is one
 abbrev pub components_behind : Option (List Component) → List Component
@@ -149,24 +154,6 @@ chosen_behind i v = record { side = added; place = i; value = v }
 -- the value of a choice
 abbrev pub chosen_value : Chosen → Value
 chosen_value c = alternative c.side c.place c.value
-
-some_is : {A : Type 0} (x y : A) → Some x ≡ Some y → x ≡ y
-some_is x y e = cc
-
--- the components from a place on are that one and those behind it
-pub parts_from : (cs : List Component) (i : ℕ) (t : TagTree) (p : Presence) (s : Schema) (n : ℕ)
-    → tags_at cs i ≡ Some t → presence_at cs i ≡ Some p → schema_at cs i n ≡ Some s
-    → parts_of (drop i cs) n ≡ part t p s (parts_of (drop (suc i) cs) n)
-parts_from [] i t p s n e f g = absurd (cc)
-parts_from (c ∷ cs) zero t p s n e f g = rw (some_is c.tags t e, some_is c.presence p f, some_is (c.schema n) s g) refl
-parts_from (c ∷ cs) (suc i) t p s n e f g = parts_from cs i t p s n e f g
-
--- what the components from a place on are
-pub contents_from : (rs : List (Option Value)) (i : ℕ) (r : Option Value) → content_at rs i ≡ Some r
-    → drop i rs ≡ r ∷ drop (suc i) rs
-contents_from [] i r e = absurd (cc)
-contents_from (x ∷ rs) zero r e = ap (λ y. y ∷ rs) (some_is x r e)
-contents_from (x ∷ rs) (suc i) r e = contents_from rs i r e
 
 -- What the words stand for.
 
@@ -289,67 +276,68 @@ of_characters cs c = record {
 abbrev pub universal : ℕ → TagTree
 universal i = leaf (record { class = 0; number = i })
 
--- a component of a kind that takes no level
-abbrev pub simple : ℕ → (s : Schema) → TakesNone s → Component
-simple i s h = record {
+-- a component of a kind that takes no level, by one of the kind's universal numbers
+abbrev pub simple : (i : ℕ) → (s : Schema) → TakesNone s → may_be_whole 0 i s ≡ true → Component
+simple i s h e = record {
   tags = universal i;
   presence = Schemas.required;
   schema = always s;
   levelled =
       simple_levelled s h;
+  fits = λ n. e;
 }
 
 -- BOOLEAN
 abbrev pub boolean : Component
-boolean = simple 1 Schemas.boolean tt
+boolean = simple 1 Schemas.boolean tt refl
 
 -- INTEGER under constraints, held by a number type
 abbrev pub integer : Bounds → Constraints → Component
-integer type c = simple 2 (number_schema c type) tt
+integer type c = simple 2 (number_schema c type) tt refl
 
 -- BIT STRING
 abbrev pub bit_string : Constraints → Component
-bit_string c = simple 3 (bit_schema c) tt
+bit_string c = simple 3 (bit_schema c) tt refl
 
 -- OCTET STRING
 abbrev pub octet_string : Constraints → Component
-octet_string c = simple 4 (octet_schema c) tt
+octet_string c = simple 4 (octet_schema c) tt refl
 
 -- NULL
 abbrev pub null : Component
-null = simple 5 Schemas.null tt
+null = simple 5 Schemas.null tt refl
 
 -- ENUMERATED of so many items
 abbrev pub enumerated : ℕ → Component
-enumerated roots = simple 10 (Schema.items roots 0 false) tt
+enumerated roots = simple 10 (Schema.items roots 0 false) tt refl
 
 -- ENUMERATED of so many items before an extension marker and after it
 abbrev pub extensible_enumerated : ℕ → ℕ → Component
-extensible_enumerated roots addeds = simple 10 (Schema.items roots addeds true) tt
+extensible_enumerated roots addeds = simple 10 (Schema.items roots addeds true) tt refl
 
 -- UTF8String, of which no constraint is visible (X.691 30.6)
 abbrev pub utf8_string : Component
-utf8_string = simple 12 (Schema.text utf8) tt
+utf8_string = simple 12 (Schema.text utf8) tt refl
 
 -- NumericString
 abbrev pub numeric_string : Constraints → Component
-numeric_string c = simple 18 (character_schema numeric c) tt
+numeric_string c = simple 18 (character_schema numeric c) tt refl
 
 -- PrintableString
 abbrev pub printable_string : Constraints → Component
-printable_string c = simple 19 (character_schema printable c) tt
+printable_string c = simple 19 (character_schema printable c) tt refl
 
 -- IA5String
 abbrev pub ia5_string : Constraints → Component
-ia5_string c = simple 22 (character_schema ia5 c) tt
+ia5_string c = simple 22 (character_schema ia5 c) tt refl
 
 -- VisibleString
 abbrev pub visible_string : Constraints → Component
-visible_string c = simple 26 (character_schema visible c) tt
+visible_string c = simple 26 (character_schema visible c) tt refl
 
 -- BMPString
 abbrev pub bmp_string : Constraints → Component
-bmp_string c = simple 30 (character_schema bmp c) tt
+bmp_string c = simple 30 (character_schema bmp c) tt refl
 
 -- SEQUENCE
 abbrev pub sequence : List Component → Component
@@ -358,6 +346,7 @@ sequence cs = record {
   presence = Schemas.required;
   schema = sequence_at cs;
   levelled = sequence_levelled cs;
+  fits = sequence_fits (parts_of cs) false no_additions;
 }
 
 -- SEQUENCE OF under a size, or none: `sequence_of (size 1 to 4) boolean` is SEQUENCE (SIZE (1..4)) OF BOOLEAN
@@ -367,6 +356,7 @@ sequence_of c element = record {
   presence = Schemas.required;
   schema = list_at element.schema (size_of c) (is_size_marked c);
   levelled = list_levelled (size_of c) (is_size_marked c) element.levelled;
+  fits = list_fits element.schema (size_of c) (is_size_marked c);
 }
 
 abbrev pub alternative_tags : List Component → TagTrees
@@ -379,6 +369,18 @@ abbrev pub choice_tags : List Component → TagTree
 choice_tags [] = universal 0
 choice_tags (c ∷ cs) = one_of c.tags (alternative_tags cs)
 
+tags_listed : (cs : List Component) (n : ℕ) → alternative_tags cs ≡ trees_in (parts_of cs n)
+tags_listed [] n = refl
+tags_listed (c ∷ cs) n = λ i. tree c.tags (tags_listed cs n i)
+
+-- they are those of the schema
+pub choice_fits : (cs : List Component) (xs : Option (List Component))
+    → IsTreeAt (choice_tags cs) (alternatives_at cs xs)
+choice_fits [] xs zero = refl
+choice_fits [] xs (suc n) = refl
+choice_fits (c ∷ cs) xs zero = tt
+choice_fits (c ∷ cs) xs (suc n) = tags_listed (c ∷ cs) n
+
 -- CHOICE, untagged
 abbrev pub choice : List Component → Component
 choice cs = record {
@@ -386,6 +388,7 @@ choice cs = record {
   presence = Schemas.required;
   schema = alternatives_at cs None;
   levelled = alternatives_levelled cs None;
+  fits = choice_fits cs None;
 }
 
 -- CHOICE with an extension marker, untagged; it goes by the tags of the alternatives before the marker
@@ -395,23 +398,48 @@ extensible_choice cs xs = record {
   presence = Schemas.required;
   schema = alternatives_at cs (Some xs);
   levelled = alternatives_levelled cs (Some xs);
+  fits = choice_fits cs (Some xs);
 }
 
 -- a component that may be absent (X.680 25.6)
 abbrev pub optional : Component → Component
-optional c = record { tags = c.tags; presence = Schemas.optional; schema = c.schema; levelled = c.levelled }
+optional c = record {
+  tags = c.tags;
+  presence = Schemas.optional;
+  schema = c.schema;
+  levelled = c.levelled;
+  fits = c.fits;
+}
 
 -- a component for which a value stands where it is absent (X.680 25.6)
 abbrev pub default : Value → Component → Component
-default d c = record { tags = c.tags; presence = Schemas.default d; schema = c.schema; levelled = c.levelled }
+default d c = record {
+  tags = c.tags;
+  presence = Schemas.default d;
+  schema = c.schema;
+  levelled = c.levelled;
+  fits = c.fits;
+}
 
 -- the tag of a component by its place
 abbrev pub at : ℕ → TagTree
 at i = leaf (record { class = 2; number = i })
 
--- a component under another tag
+-- a component under the tag of a class and a number
+abbrev pub under_tag : ℕ → ℕ → Component → Component
+under_tag zero i c = c
+under_tag (suc k) i c = record {
+  tags = leaf (record { class = suc k; number = i });
+  presence = c.presence;
+  schema = c.schema;
+  levelled = c.levelled;
+  fits = λ n. refl;
+}
+
+-- X.680 31.2: a component under another tag. No type is put under a universal one, nor under the tags of a CHOICE.
 abbrev pub under : TagTree → Component → Component
-under t c = record { tags = t; presence = c.presence; schema = c.schema; levelled = c.levelled }
+under (leaf t) c = under_tag t.class t.number c
+under (one_of t ts) c = c
 
 abbrev pub automatic_from : ℕ → List Component → List Component
 automatic_from i [] = []

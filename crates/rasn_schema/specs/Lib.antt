@@ -3,6 +3,7 @@ pub mod Choices
 pub mod Components
 pub mod Depth
 pub mod Enumerations
+pub mod Extensions
 pub mod Fields
 pub mod Forms
 pub mod Lawful
@@ -12,7 +13,6 @@ pub mod Normal
 pub mod Orders
 pub mod Records
 pub mod Schemas
-pub mod TagCodes
 pub mod Tags
-pub mod Extensions
 pub mod TreeTags
+pub mod Laws

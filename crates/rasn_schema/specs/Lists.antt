@@ -1,12 +1,14 @@
 -- SEQUENCE OF: its schemas to a number of levels, and its values (ITU-T X.680, 26).
-use Rattle.std.specs.Prelude.{ℕ, zero, suc, max, Bool, List, [], ◌∷◌, refl}
+use Rattle.std.specs.Prelude.{ℕ, zero, suc, max, Bool, false, List, [], ◌∷◌, Some, refl}
 use Rattle.rasn_types.specs.Values.{Value, elements, as_values}
 use Rattle.rasn_types.specs.declared.types.Class.TheVariants.{Universal}
+use Rattle.rasn_types.specs.declared.types.TheConstants.Tag.{SEQUENCE}
 use Rattle.rasn_constraints.specs.Bounds.{Size}
 use Rattle.rasn_schema.specs.Schemas
 use Rattle.rasn_schema.specs.Schemas.{Schema}
 use Rattle.rasn_schema.specs.Levels.{Levelled, no_level, to_list}
-use Rattle.rasn_schema.specs.Tags.{IsTagOf}
+use Rattle.rasn_schema.specs.Fields.{tagged}
+use Rattle.rasn_schema.specs.Tags.{AreTagsOf, IsTagOf, IsTreeAt}
 
 -- X.680 26: a SEQUENCE OF to a number of levels, of which it takes one; with none left it is cut off
 abbrev pub list_at : (ℕ → Schema) → Size → Bool → ℕ → Schema
@@ -33,3 +35,15 @@ pub list_tag : (element : ℕ → Schema) (size : Size) (mark : Bool) → IsTagO
     (list_at element size mark)
 list_tag element size mark zero = refl
 list_tag element size mark (suc n) = refl
+
+-- its tags are its own
+pub list_stated : (element : ℕ → Schema) (size : Size) (mark : Bool)
+    → AreTagsOf SEQUENCE (Some (tagged SEQUENCE)) false (list_at element size mark)
+list_stated element size mark zero = tt
+list_stated element size mark (suc n) = (refl, refl)
+
+-- SEQUENCE's tag is its tree
+pub list_fits : (element : ℕ → Schema) (size : Size) (mark : Bool)
+    → IsTreeAt (tagged SEQUENCE) (list_at element size mark)
+list_fits element size mark zero = refl
+list_fits element size mark (suc n) = refl

@@ -1,15 +1,16 @@
 //! CHOICE types that are stated by one list of their alternatives.
 
-ghost use Rattle.std.specs.Prelude.{◌≡◌, ℕ, suc, List, Option, None, refl};
+ghost use Rattle.std.specs.Prelude.{◌≡◌, ℕ, suc, true, List, Option, None, refl};
 ghost use Rattle.std.proofs.Common.{◌∙◌, ap, sym};
 ghost use Rattle.rasn_types.specs.declared.types.TheConstants.Tag.{EOC};
-ghost use Rattle.rasn_schema.specs.Choices.{AreVariants, VariantShape, variants_behind};
+ghost use Rattle.rasn_schema.specs.Choices.{AreVariants, VariantShape, tree_with, variants_behind};
 ghost use Rattle.rasn_schema.specs.Components.{Component, Chosen, chosen_value, parts_of, components_behind};
 ghost use Rattle.rasn_schema.specs.Components.{alternatives_at, alternatives_levelled, alternatives_of};
 ghost use Rattle.rasn_schema.specs.Components.{added_variants, added_described, variants_in, variants_described};
-ghost use Rattle.rasn_schema.specs.Tags.{choice_tag};
+ghost use Rattle.rasn_schema.specs.Tags.{choice_tag, choice_stated};
 
 use crate::choices::{Choice, Variants};
+use crate::fields::{TagTree, TypeTree};
 use crate::kinds::{Kind, OfKind};
 use rasn_types::types::Tag;
 
@@ -56,6 +57,14 @@ impl<T: Alternatives> Kind<T> for ChoiceKind {
 
     ghost TAG = { EOC };
 
+    const TAG_TREE: TypeTree = TypeTree(TagTree::Choice(T::ALTERNATIVES.list));
+
+    ghost TAG_TREE = { tree_with T.ALTERNATIVES };
+
+    const IS_CHOICE: bool = true;
+
+    ghost IS_CHOICE = { true };
+
     ghost schema = { alternatives_at T.alternatives T.added };
 
     ghost value = { λ x. chosen_value (T.chosen x) };
@@ -65,6 +74,10 @@ impl<T: Alternatives> Kind<T> for ChoiceKind {
     ghost levelled = { alternatives_levelled T.alternatives T.added };
 
     ghost tag_fits = { choice_tag (parts_of T.alternatives) (added_variants T.added)
+        (parts_of (components_behind T.added)) };
+
+    ghost tree_fits = { choice_stated (parts_of T.alternatives)
+        (λ n. T.described ∙ variants_described T.alternatives n) (added_variants T.added)
         (parts_of (components_behind T.added)) };
 }
 

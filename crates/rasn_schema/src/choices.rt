@@ -3,6 +3,7 @@
 ghost use Rattle.std.specs.Prelude.{◌≡◌, ◌<◌, ℕ, Some, length, map, slice_get};
 ghost use Rattle.std.specs.List.{position_from};
 ghost use Rattle.rasn_schema.specs.Choices.{AreVariants, StandsAt, VariantShape, choice_at, go_by, place_of};
+ghost use Rattle.rasn_schema.specs.Choices.{stated_tag};
 ghost use Rattle.rasn_schema.specs.Choices.{variant_shape, variants_behind, variants_of};
 ghost use Rattle.rasn_schema.specs.Fields.{tag_of};
 ghost use Rattle.rasn_schema.specs.Lawful.{same_tag};
@@ -14,27 +15,18 @@ use crate::schema::AsnType;
 use rasn_types::types::Tag;
 use std::marker::Model;
 
-/// An alternative of a CHOICE.
-#[derive(Clone, Copy)]
-pub struct Variant {
-    /// The tag that it goes by: the smallest of its tag tree.
-    pub tag: Tag,
-    /// Its tags.
-    pub tag_tree: TagTree,
-}
-
 /// The alternatives of a CHOICE that stand in one list, in their order. A nested untagged choice is one alternative.
 #[derive(Drop)]
 pub struct Variants {
-    /// The alternatives, each at its index.
-    pub list: &'static [Variant],
+    /// The tags of each alternative, at its index.
+    pub list: &'static [TagTree],
 }
 
 impl Model for Variants {
     ghost use Rattle.std.specs.Prelude.{List, map};
     ghost use Rattle.std.specs.Coded.{codes};
     ghost use Rattle.rasn_schema.specs.Choices.{VariantShape, variant_shape};
-    ghost use Rattle.rasn_schema.specs.TagCodes.{tree_code};
+    ghost use Rattle.rasn_schema.specs.Laws.TagCodes.{tree_code};
 
     ghost Value = { List VariantShape };
 
@@ -81,19 +73,35 @@ impl Variants {
 }
 
 /// The tag that the alternative at an index of a list goes by.
-fn tag_in(list: &[Variant], index: usize) -> Tag
+fn tag_in(list: &[TagTree], index: usize) -> Tag
     requires { index < length list.now }
     ensures { slice_get (go_by (map variant_shape list.now)) index ≡ Some (tag_of result) }
 {
-    list[index].tag
+    tag_by(&list[index])
+}
+
+/// The tag that an alternative goes by (X.691 21.1): the smallest of its tags, and EOC's where it has none.
+fn tag_by(tree: &TagTree) -> Tag
+    ensures { tag_of result ≡ stated_tag tree.now }
+{
+    match tree.smallest_tag() {
+        Some(tag) => tag,
+        None => Tag::EOC,
+    }
+}
+
+/// Whether an alternative goes by a tag.
+fn goes_by(tree: &TagTree, tag: Tag) -> bool
+    ensures { result ≡ same_tag (tag_of tag) (stated_tag tree.now) }
+{
+    is_same_tag(tag, tag_by(tree))
 }
 
 /// The index of the alternative of a list that goes by a tag, or none.
-fn index_in(list: &[Variant], tag: Tag) -> Option<usize>
-    ensures { result ≡ position_from (λ v. same_tag (tag_of tag) (tag_of v.tag)) 0 list.now }
+fn index_in(list: &[TagTree], tag: Tag) -> Option<usize>
+    ensures { result ≡ position_from (λ t. same_tag (tag_of tag) (stated_tag t)) 0 list.now }
 {
-    list.iter()
-        .position(|variant| is_same_tag(tag, variant.tag))
+    list.iter().position(|tree| goes_by(tree, tag))
 }
 
 /// Whether two tags are the same.

@@ -1,16 +1,16 @@
 //! Records that are stated by one list of their components.
 
-ghost use Rattle.std.specs.Prelude.{◌≡◌, ℕ, suc, false, List, Option, None, refl};
+ghost use Rattle.std.specs.Prelude.{◌≡◌, ℕ, suc, false, List, Option, None, refl, Some};
 ghost use Rattle.std.proofs.Common.{◌∙◌};
 ghost use Rattle.rasn_types.specs.Values.{Value};
 ghost use Rattle.rasn_types.specs.declared.types.TheConstants.Tag.{SEQUENCE};
 ghost use Rattle.rasn_schema.specs.Extensions.{unextended};
-ghost use Rattle.rasn_schema.specs.Fields.{Shape};
+ghost use Rattle.rasn_schema.specs.Fields.{Shape, tagged};
 ghost use Rattle.rasn_schema.specs.Records.{no_additions};
-ghost use Rattle.rasn_schema.specs.Tags.{sequence_tag};
+ghost use Rattle.rasn_schema.specs.Tags.{sequence_tag, sequence_stated};
 ghost use Rattle.rasn_schema.specs.Components.{Component, parts_of, sequence_at, sequence_value, sequence_levelled, fields_of, fields_described};
 
-use crate::fields::{AdditionGroup, Constructed, Fields};
+use crate::fields::{AdditionGroup, Constructed, Fields, TagTree, TypeTree};
 use crate::kinds::{Kind, OfKind};
 use rasn_types::types::Tag;
 
@@ -46,6 +46,12 @@ impl<T: Components> Kind<T> for SequenceKind {
 
     ghost TAG = { SEQUENCE };
 
+    const TAG_TREE: TypeTree = TypeTree(TagTree::Leaf(Tag::SEQUENCE));
+
+    ghost TAG_TREE = { Some (tagged SEQUENCE) };
+
+    const IS_CHOICE: bool = false;
+
     ghost schema = { sequence_at T.components };
 
     ghost value = { λ x. sequence_value (T.contents x) };
@@ -55,6 +61,8 @@ impl<T: Components> Kind<T> for SequenceKind {
     ghost levelled = { sequence_levelled T.components };
 
     ghost tag_fits = { sequence_tag (parts_of T.components) false no_additions };
+
+    ghost tree_fits = { sequence_stated (parts_of T.components) false no_additions };
 }
 
 impl<T: Components> Constructed for T {

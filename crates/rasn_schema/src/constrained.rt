@@ -2,6 +2,7 @@
 
 ghost use Rattle.std.specs.Prelude.{◌≡◌};
 
+use crate::fields::TypeTree;
 use crate::schema::{AsnType, Constraints};
 use rasn_types::types::Tag;
 use std::marker::PhantomData;
@@ -43,6 +44,14 @@ impl<T: AsnType, L: Limits> AsnType for Constrained<T, L> {
 
     ghost TAG = { T.TAG };
 
+    const TAG_TREE: TypeTree = T::TAG_TREE;
+
+    ghost TAG_TREE = { T.TAG_TREE };
+
+    const IS_CHOICE: bool = T::IS_CHOICE;
+
+    ghost IS_CHOICE = { T.IS_CHOICE };
+
     const CONSTRAINTS: Constraints = L::LIMITS;
 
     ghost CONSTRAINTS = { L.LIMITS };
@@ -56,4 +65,6 @@ impl<T: AsnType, L: Limits> AsnType for Constrained<T, L> {
     ghost levelled = { T.levelled };
 
     ghost tag_fits = { T.tag_fits };
+
+    ghost tree_fits = { T.tree_fits };
 }

@@ -19,6 +19,24 @@ pub enum TagTree {
     Choice(&'static [TagTree]),
 }
 
+/// The tags of a type, as it states them.
+#[derive(Drop)]
+pub struct TypeTree(pub TagTree);
+
+impl Model for TypeTree {
+    ghost use Rattle.std.specs.Prelude.{Option};
+    ghost use Rattle.std.specs.Coded.{codes};
+    ghost use Rattle.rasn_schema.specs.Fields.{tree_of};
+    ghost use Rattle.rasn_schema.specs.Schemas.{TagTree};
+    ghost use Rattle.rasn_schema.specs.Laws.TagCodes.{tree_code};
+
+    ghost Value = { Option TagTree };
+
+    ghost coded = { Prim.hlevel (codes, tree_code) };
+
+    ghost view = { λ t. tree_of t.0 };
+}
+
 /// Whether a component of a record may be absent (X.680 25.4).
 #[derive(Clone, Copy, Debug, PartialEq, Eq)]
 pub enum Presence {
@@ -56,7 +74,7 @@ impl Model for Fields {
     ghost use Rattle.std.specs.Prelude.{List, map};
     ghost use Rattle.std.specs.Coded.{codes};
     ghost use Rattle.rasn_schema.specs.Fields.{Shape, shape_of};
-    ghost use Rattle.rasn_schema.specs.TagCodes.{tree_code};
+    ghost use Rattle.rasn_schema.specs.Laws.TagCodes.{tree_code};
 
     ghost Value = { List Shape };
 

@@ -1,13 +1,15 @@
 //! The schemas of INTEGER as Rust's own number types, and as one that holds every number.
 
-ghost use Rattle.std.specs.Prelude.{pos, refl};
+ghost use Rattle.std.specs.Prelude.{pos, refl, Some};
 ghost use Rattle.rasn_types.specs.Values.{whole};
 ghost use Rattle.rasn_types.specs.declared.types.TheConstants.Tag.{INTEGER};
 ghost use Rattle.rasn_constraints.specs.Bounds.{unbounded};
 ghost use Rattle.rasn_constraints.specs.Ranges.{no_constraints, within, i128_range, signed_range, unsigned_range};
+ghost use Rattle.rasn_schema.specs.Fields.{tagged};
 ghost use Rattle.rasn_schema.specs.Forms.{number_schema, always};
 ghost use Rattle.rasn_schema.specs.Levels.{simple_levelled};
 
+use crate::fields::{TagTree, TypeTree};
 use crate::schema::AsnType;
 use rasn_constraints::constraints::{Bounded, Constraint, Constraints, Extensible};
 use rasn_types::big::Integer;
@@ -26,6 +28,12 @@ impl AsnType for i8 {
 
     ghost TAG = { INTEGER };
 
+    const TAG_TREE: TypeTree = TypeTree(TagTree::Leaf(Tag::INTEGER));
+
+    ghost TAG_TREE = { Some (tagged INTEGER) };
+
+    const IS_CHOICE: bool = false;
+
     const CONSTRAINTS: Constraints = Constraints(I8_RANGE);
 
     ghost CONSTRAINTS = { within (signed_range 8) };
@@ -37,6 +45,8 @@ impl AsnType for i8 {
     ghost levelled = { λ c. simple_levelled (number_schema c (signed_range 8)) tt };
 
     ghost tag_fits = { λ _ _. refl };
+
+    ghost tree_fits = { λ _ _. (refl, refl) };
 }
 
 const I16_RANGE: &[Constraint] = &[Constraint::Value(Extensible {
@@ -52,6 +62,12 @@ impl AsnType for i16 {
 
     ghost TAG = { INTEGER };
 
+    const TAG_TREE: TypeTree = TypeTree(TagTree::Leaf(Tag::INTEGER));
+
+    ghost TAG_TREE = { Some (tagged INTEGER) };
+
+    const IS_CHOICE: bool = false;
+
     const CONSTRAINTS: Constraints = Constraints(I16_RANGE);
 
     ghost CONSTRAINTS = { within (signed_range 16) };
@@ -63,6 +79,8 @@ impl AsnType for i16 {
     ghost levelled = { λ c. simple_levelled (number_schema c (signed_range 16)) tt };
 
     ghost tag_fits = { λ _ _. refl };
+
+    ghost tree_fits = { λ _ _. (refl, refl) };
 }
 
 const I32_RANGE: &[Constraint] = &[Constraint::Value(Extensible {
@@ -78,6 +96,12 @@ impl AsnType for i32 {
 
     ghost TAG = { INTEGER };
 
+    const TAG_TREE: TypeTree = TypeTree(TagTree::Leaf(Tag::INTEGER));
+
+    ghost TAG_TREE = { Some (tagged INTEGER) };
+
+    const IS_CHOICE: bool = false;
+
     const CONSTRAINTS: Constraints = Constraints(I32_RANGE);
 
     ghost CONSTRAINTS = { within (signed_range 32) };
@@ -89,6 +113,8 @@ impl AsnType for i32 {
     ghost levelled = { λ c. simple_levelled (number_schema c (signed_range 32)) tt };
 
     ghost tag_fits = { λ _ _. refl };
+
+    ghost tree_fits = { λ _ _. (refl, refl) };
 }
 
 const I64_RANGE: &[Constraint] = &[Constraint::Value(Extensible {
@@ -104,6 +130,12 @@ impl AsnType for i64 {
 
     ghost TAG = { INTEGER };
 
+    const TAG_TREE: TypeTree = TypeTree(TagTree::Leaf(Tag::INTEGER));
+
+    ghost TAG_TREE = { Some (tagged INTEGER) };
+
+    const IS_CHOICE: bool = false;
+
     const CONSTRAINTS: Constraints = Constraints(I64_RANGE);
 
     ghost CONSTRAINTS = { within (signed_range 64) };
@@ -115,12 +147,20 @@ impl AsnType for i64 {
     ghost levelled = { λ c. simple_levelled (number_schema c (signed_range 64)) tt };
 
     ghost tag_fits = { λ _ _. refl };
+
+    ghost tree_fits = { λ _ _. (refl, refl) };
 }
 
 impl AsnType for i128 {
     const TAG: Tag = Tag::INTEGER;
 
     ghost TAG = { INTEGER };
+
+    const TAG_TREE: TypeTree = TypeTree(TagTree::Leaf(Tag::INTEGER));
+
+    ghost TAG_TREE = { Some (tagged INTEGER) };
+
+    const IS_CHOICE: bool = false;
 
     const CONSTRAINTS: Constraints = Constraints::NONE;
 
@@ -133,6 +173,8 @@ impl AsnType for i128 {
     ghost levelled = { λ c. simple_levelled (number_schema c i128_range) tt };
 
     ghost tag_fits = { λ _ _. refl };
+
+    ghost tree_fits = { λ _ _. (refl, refl) };
 }
 
 const U8_RANGE: &[Constraint] = &[Constraint::Value(Extensible {
@@ -148,6 +190,12 @@ impl AsnType for u8 {
 
     ghost TAG = { INTEGER };
 
+    const TAG_TREE: TypeTree = TypeTree(TagTree::Leaf(Tag::INTEGER));
+
+    ghost TAG_TREE = { Some (tagged INTEGER) };
+
+    const IS_CHOICE: bool = false;
+
     const CONSTRAINTS: Constraints = Constraints(U8_RANGE);
 
     ghost CONSTRAINTS = { within (unsigned_range 8) };
@@ -159,6 +207,8 @@ impl AsnType for u8 {
     ghost levelled = { λ c. simple_levelled (number_schema c (unsigned_range 8)) tt };
 
     ghost tag_fits = { λ _ _. refl };
+
+    ghost tree_fits = { λ _ _. (refl, refl) };
 }
 
 const U16_RANGE: &[Constraint] = &[Constraint::Value(Extensible {
@@ -174,6 +224,12 @@ impl AsnType for u16 {
 
     ghost TAG = { INTEGER };
 
+    const TAG_TREE: TypeTree = TypeTree(TagTree::Leaf(Tag::INTEGER));
+
+    ghost TAG_TREE = { Some (tagged INTEGER) };
+
+    const IS_CHOICE: bool = false;
+
     const CONSTRAINTS: Constraints = Constraints(U16_RANGE);
 
     ghost CONSTRAINTS = { within (unsigned_range 16) };
@@ -185,6 +241,8 @@ impl AsnType for u16 {
     ghost levelled = { λ c. simple_levelled (number_schema c (unsigned_range 16)) tt };
 
     ghost tag_fits = { λ _ _. refl };
+
+    ghost tree_fits = { λ _ _. (refl, refl) };
 }
 
 const U32_RANGE: &[Constraint] = &[Constraint::Value(Extensible {
@@ -200,6 +258,12 @@ impl AsnType for u32 {
 
     ghost TAG = { INTEGER };
 
+    const TAG_TREE: TypeTree = TypeTree(TagTree::Leaf(Tag::INTEGER));
+
+    ghost TAG_TREE = { Some (tagged INTEGER) };
+
+    const IS_CHOICE: bool = false;
+
     const CONSTRAINTS: Constraints = Constraints(U32_RANGE);
 
     ghost CONSTRAINTS = { within (unsigned_range 32) };
@@ -211,6 +275,8 @@ impl AsnType for u32 {
     ghost levelled = { λ c. simple_levelled (number_schema c (unsigned_range 32)) tt };
 
     ghost tag_fits = { λ _ _. refl };
+
+    ghost tree_fits = { λ _ _. (refl, refl) };
 }
 
 const U64_RANGE: &[Constraint] = &[Constraint::Value(Extensible {
@@ -226,6 +292,12 @@ impl AsnType for u64 {
 
     ghost TAG = { INTEGER };
 
+    const TAG_TREE: TypeTree = TypeTree(TagTree::Leaf(Tag::INTEGER));
+
+    ghost TAG_TREE = { Some (tagged INTEGER) };
+
+    const IS_CHOICE: bool = false;
+
     const CONSTRAINTS: Constraints = Constraints(U64_RANGE);
 
     ghost CONSTRAINTS = { within (unsigned_range 64) };
@@ -237,12 +309,20 @@ impl AsnType for u64 {
     ghost levelled = { λ c. simple_levelled (number_schema c (unsigned_range 64)) tt };
 
     ghost tag_fits = { λ _ _. refl };
+
+    ghost tree_fits = { λ _ _. (refl, refl) };
 }
 
 impl AsnType for Integer {
     const TAG: Tag = Tag::INTEGER;
 
     ghost TAG = { INTEGER };
+
+    const TAG_TREE: TypeTree = TypeTree(TagTree::Leaf(Tag::INTEGER));
+
+    ghost TAG_TREE = { Some (tagged INTEGER) };
+
+    const IS_CHOICE: bool = false;
 
     const CONSTRAINTS: Constraints = Constraints::NONE;
 
@@ -255,4 +335,6 @@ impl AsnType for Integer {
     ghost levelled = { λ c. simple_levelled (number_schema c unbounded) tt };
 
     ghost tag_fits = { λ _ _. refl };
+
+    ghost tree_fits = { λ _ _. (refl, refl) };
 }

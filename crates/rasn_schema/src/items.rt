@@ -1,13 +1,15 @@
 //! ENUMERATED types that are stated by one list of their items.
 
-ghost use Rattle.std.specs.Prelude.{refl};
+ghost use Rattle.std.specs.Prelude.{refl, Some};
 ghost use Rattle.rasn_types.specs.Values.{Value};
 ghost use Rattle.rasn_types.specs.declared.types.TheConstants.Tag.{ENUMERATED};
+ghost use Rattle.rasn_schema.specs.Fields.{tagged};
 ghost use Rattle.rasn_schema.specs.Enumerations.{IsPlaced, FindsPlaced, items_of, addeds_of, is_extensible, addeds_marked};
 ghost use Rattle.rasn_schema.specs.Forms.{always};
 ghost use Rattle.rasn_schema.specs.Levels.{simple_levelled};
 
 use crate::enumerated::Enumerated;
+use crate::fields::{TagTree, TypeTree};
 use crate::kinds::{Kind, OfKind};
 use rasn_types::types::Tag;
 
@@ -59,6 +61,12 @@ impl<T: Items> Kind<T> for EnumeratedKind {
 
     ghost TAG = { ENUMERATED };
 
+    const TAG_TREE: TypeTree = TypeTree(TagTree::Leaf(Tag::ENUMERATED));
+
+    ghost TAG_TREE = { Some (tagged ENUMERATED) };
+
+    const IS_CHOICE: bool = false;
+
     ghost schema = { always (items_of T.ITEMS) };
 
     ghost value = { T.item };
@@ -68,6 +76,8 @@ impl<T: Items> Kind<T> for EnumeratedKind {
     ghost levelled = { simple_levelled (items_of T.ITEMS) tt };
 
     ghost tag_fits = { λ _. refl };
+
+    ghost tree_fits = { λ _. (refl, refl) };
 }
 
 impl<T: Items + OfKind<Kind = EnumeratedKind>> Enumerated for T {

@@ -4,14 +4,17 @@ ghost use Rattle.std.specs.Prelude.{ℕ};
 ghost use Rattle.rasn_types.specs.Values.{Value};
 ghost use Rattle.rasn_schema.specs.Schemas.{Schema};
 ghost use Rattle.rasn_schema.specs.Levels.{Levelled};
-ghost use Rattle.rasn_schema.specs.Tags.{IsTagOf};
+ghost use Rattle.rasn_schema.specs.Tags.{AreTagsOf, IsTagOf};
 
+use crate::fields::TypeTree;
 pub use rasn_constraints::constraints::Constraints;
 pub use rasn_constraints::integer_type::IntegerType;
 use rasn_types::types::{Identifier, Tag};
 
 /// A type of ASN.1: its tag, its constraints and its schema.
 pub trait AsnType {
+    ghost use Rattle.std.specs.Prelude.{Bool, false, Option};
+    ghost use Rattle.rasn_schema.specs.Schemas.{TagTree};
     ghost use Rattle.rasn_types.specs.declared.types.Tag.{Tag};
     ghost use Rattle.rasn_constraints.specs.declared.constraints.Constraints.{Constraints};
 
@@ -19,6 +22,17 @@ pub trait AsnType {
     const TAG: Tag;
 
     ghost TAG: { Tag };
+
+    /// The tags under which a component of the type stands: its own, or those of the root alternatives of an untagged
+    /// CHOICE (X.680 29).
+    const TAG_TREE: TypeTree;
+
+    ghost TAG_TREE: { Option TagTree };
+
+    /// Whether the type is a CHOICE (X.680 29).
+    const IS_CHOICE: bool;
+
+    ghost IS_CHOICE: { Bool } = { false };
 
     /// The constraints of the type.
     const CONSTRAINTS: Constraints;
@@ -44,4 +58,7 @@ pub trait AsnType {
 
     // A universal tag is one of the schema's kind.
     ghost tag_fits: { (c : Constraints) → IsTagOf TAG (schema c) };
+
+    // The tag tree is that of the tag and the schema, and the schema is a choice's where the type says so.
+    ghost tree_fits: { (c : Constraints) → AreTagsOf TAG TAG_TREE IS_CHOICE (schema c) };
 }

@@ -1,6 +1,7 @@
 pub mod Bags
-pub mod Equality
 pub mod Components
+pub mod Equality
 pub mod Made
-pub mod Turns
 pub mod SetRecords
+pub mod Turns
+pub mod Laws

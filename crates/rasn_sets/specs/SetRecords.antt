@@ -1,6 +1,6 @@
 -- A SET by the list of its components (ITU-T X.680, 27), and these in the order in which they are written (X.691,
 -- 21.1).
-use Rattle.std.specs.Prelude.{◌≡◌, ℕ, zero, suc, false, List, [], ◌∷◌, Option, refl}
+use Rattle.std.specs.Prelude.{◌≡◌, ℕ, zero, suc, false, List, [], ◌∷◌, Option, Some, refl}
 use Rattle.rasn_types.specs.Values.{Value}
 use Rattle.rasn_types.specs.declared.types.TheConstants.Tag.{SET}
 use Rattle.rasn_schema.specs.Canonised.{canonised_at, canonised_slots}
@@ -10,7 +10,8 @@ use Rattle.rasn_schema.specs.Orders.{how_many_less}
 use Rattle.rasn_schema.specs.Records.{no_additions, record_at, record_value}
 use Rattle.rasn_schema.specs.Schemas
 use Rattle.rasn_schema.specs.Schemas.{by_tag, Parts, Schema, Tag}
-use Rattle.rasn_schema.specs.Tags.{IsTagOf}
+use Rattle.rasn_schema.specs.Fields.{tagged}
+use Rattle.rasn_schema.specs.Tags.{AreTagsOf, IsTagOf, IsTreeAt}
 
 -- a SET of these components, to a number of levels
 abbrev pub set_at : List Component → ℕ → Schema
@@ -28,6 +29,16 @@ pub set_tag : (cs : List Component) → IsTagOf SET (set_at cs)
 set_tag cs zero = refl
 set_tag cs (suc n) = refl
 
+-- its tags are that one alone
+pub set_stated : (cs : List Component) → AreTagsOf SET (Some (tagged SET)) false (set_at cs)
+set_stated cs zero = tt
+set_stated cs (suc n) = (refl, refl)
+
+-- it is the tree of each
+pub set_fits : (cs : List Component) → IsTreeAt (tagged SET) (set_at cs)
+set_fits cs zero = refl
+set_fits cs (suc n) = refl
+
 -- a component that is a SET
 abbrev pub set : List Component → Component
 set cs = record {
@@ -35,6 +46,7 @@ set cs = record {
   presence = Schemas.required;
   schema = set_at cs;
   levelled = set_levelled cs;
+  fits = set_fits cs;
 }
 
 -- the components in ascending order of their smallest tags, to a number of levels

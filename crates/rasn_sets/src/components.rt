@@ -1,17 +1,17 @@
 //! SETs that are stated by one list of their components.
 
-ghost use Rattle.std.specs.Prelude.{◌≡◌, ℕ, suc, false, List, length, Option, None, refl};
+ghost use Rattle.std.specs.Prelude.{◌≡◌, ℕ, suc, false, List, length, Option, None, Some, refl};
 ghost use Rattle.std.proofs.Common.{◌∙◌};
 ghost use Rattle.rasn_types.specs.Values.{Value};
 ghost use Rattle.rasn_types.specs.declared.types.TheConstants.Tag.{SET};
 ghost use Rattle.rasn_constraints.specs.Ranges.{no_constraints};
 ghost use Rattle.rasn_schema.specs.Components.{Component, fields_described, fields_of, parts_of};
 ghost use Rattle.rasn_schema.specs.Extensions.{unextended};
-ghost use Rattle.rasn_schema.specs.Fields.{Shape};
+ghost use Rattle.rasn_schema.specs.Fields.{Shape, tagged};
 ghost use Rattle.rasn_schema.specs.Schemas.{by_tag};
-ghost use Rattle.rasn_sets.specs.SetRecords.{set_at, set_levelled, set_tag, set_value};
+ghost use Rattle.rasn_sets.specs.SetRecords.{set_at, set_levelled, set_stated, set_tag, set_value};
 
-use rasn_schema::fields::{Constructed, Fields};
+use rasn_schema::fields::{Constructed, Fields, TagTree, TypeTree};
 use rasn_schema::kinds::Kind;
 use rasn_schema::schema::{AsnType, Constraints};
 use rasn_types::types::Tag;
@@ -47,6 +47,12 @@ impl<T: SetComponents> Kind<T> for SetKind {
 
     ghost TAG = { SET };
 
+    const TAG_TREE: TypeTree = TypeTree(TagTree::Leaf(Tag::SET));
+
+    ghost TAG_TREE = { Some (tagged SET) };
+
+    const IS_CHOICE: bool = false;
+
     ghost schema = { set_at T.components };
 
     ghost value = { λ x. set_value (T.contents x) };
@@ -56,6 +62,8 @@ impl<T: SetComponents> Kind<T> for SetKind {
     ghost levelled = { set_levelled T.components };
 
     ghost tag_fits = { set_tag T.components };
+
+    ghost tree_fits = { set_stated T.components };
 }
 
 /// A SET of the components of `T`.
@@ -66,6 +74,12 @@ impl<T: SetComponents> AsnType for AsSet<T> {
     const TAG: Tag = Tag::SET;
 
     ghost TAG = { SET };
+
+    const TAG_TREE: TypeTree = TypeTree(TagTree::Leaf(Tag::SET));
+
+    ghost TAG_TREE = { Some (tagged SET) };
+
+    const IS_CHOICE: bool = false;
 
     const CONSTRAINTS: Constraints = Constraints::NONE;
 
@@ -80,6 +94,8 @@ impl<T: SetComponents> AsnType for AsSet<T> {
     ghost levelled = { λ _. set_levelled T.components };
 
     ghost tag_fits = { λ _. set_tag T.components };
+
+    ghost tree_fits = { λ _. set_stated T.components };
 }
 
 impl<T: SetComponents> Constructed for AsSet<T> {

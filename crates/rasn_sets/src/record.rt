@@ -31,7 +31,7 @@ impl<T: SetRecord> EncodeKind<T> for SetKind {
         tag: Tag,
         identifier: Identifier,
     ) -> Result<(), E::Error> {
-        encoder.encode_set::<AsSet<T>, _, _>(
+        encoder.encode_set_in_order::<AsSet<T>, _, _>(
             tag,
             |e: &mut E| -> Result<(), E::Error>
                 ensures law { AtParts (parts_in_order T.components) (T.depth value.entry.now) (λ ps.

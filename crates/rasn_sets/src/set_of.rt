@@ -1,15 +1,18 @@
 //! The type of bags (X.680 28).
 
-ghost use Rattle.std.specs.Prelude.{◌≡◌, ◌↔◌, [], IsTrue, suc, map, length};
+ghost use Rattle.std.specs.Prelude.{◌≡◌, ◌↔◌, [], IsTrue, Some, suc, map, length};
 ghost use Rattle.std.specs.Cmp.{partial_equiv_from_equiv};
 ghost use Rattle.rasn_types.specs.Values.{bag_of};
 ghost use Rattle.rasn_types.specs.declared.types.TheConstants.Tag.{SET};
 ghost use Rattle.rasn_constraints.specs.Ranges.{no_constraints};
+ghost use Rattle.rasn_schema.specs.Fields.{tagged};
 ghost use Rattle.rasn_schema.specs.Forms.{is_size_marked, size_of};
 ghost use Rattle.rasn_schema.specs.Lists.{deepest};
-ghost use Rattle.rasn_sets.specs.Bags.{set_at, set_levelled, set_tag};
-ghost use Rattle.rasn_sets.specs.Equality.{same_bag, same_bag_equiv, stand_alike, times};
+ghost use Rattle.rasn_sets.specs.Bags.{set_at, set_levelled, set_stated, set_tag};
+ghost use Rattle.rasn_sets.specs.Equality.{same_bag, stand_alike, times};
+ghost use Rattle.rasn_sets.specs.Laws.Equality.{same_bag_equiv};
 
+use rasn_schema::fields::{TagTree, TypeTree};
 use rasn_schema::schema::{AsnType, Constraints};
 use rasn_types::types::Tag;
 use std::marker::Model;
@@ -112,6 +115,12 @@ impl<T: AsnType> AsnType for SetOf<T> {
 
     ghost TAG = { SET };
 
+    const TAG_TREE: TypeTree = TypeTree(TagTree::Leaf(Tag::SET));
+
+    ghost TAG_TREE = { Some (tagged SET) };
+
+    const IS_CHOICE: bool = false;
+
     const CONSTRAINTS: Constraints = Constraints::NONE;
 
     ghost CONSTRAINTS = { no_constraints };
@@ -125,4 +134,6 @@ impl<T: AsnType> AsnType for SetOf<T> {
     ghost levelled = { λ c. set_levelled (size_of c) (is_size_marked c) (T.levelled T.CONSTRAINTS) };
 
     ghost tag_fits = { λ c. set_tag (T.schema T.CONSTRAINTS) (size_of c) (is_size_marked c) };
+
+    ghost tree_fits = { λ c. set_stated (T.schema T.CONSTRAINTS) (size_of c) (is_size_marked c) };
 }

@@ -1,8 +1,10 @@
 -- What stands in a scope, component after component, and what opening and closing one owe, stated over any codec's
 -- relations.
-use Rattle.std.specs.Prelude.{◌≡◌, ℕ, zero, suc, max, ◌≤◌, ◌⊎◌, Bool, true, false, Result, Ok, Err, OnErr, IsErr, IsErrAnd, List, [], ◌∷◌, Option, Some}
+use Rattle.std.specs.Prelude.{◌≡◌, ℕ, zero, suc, max, ◌≤◌, ◌⊎◌, Bool, true, false, Result, Ok, Err, OnErr, IsErr}
+use Rattle.std.specs.Prelude.{IsErrAnd, List, [], ◌∷◌, length, Option, Some}
 use Rattle.rasn_types.specs.Values.{Value}
-use Rattle.rasn_schema.specs.Schemas.{TagTree, Presence, required, listed, Schema, Parts, no_parts, part}
+use Rattle.rasn_schema.specs.Schemas.{TagTree, Presence, required, listed, by_tag, count, Order, Schema, Parts}
+use Rattle.rasn_schema.specs.Schemas.{no_parts, part}
 use Rattle.rasn_schema.specs.Normal.{normal, normals}
 use Rattle.rasn_traits.specs.Calls.{AtDepths, Behaves, EncoderRules, Written, DecoderRules, Refuses, Answers}
 use Rattle.rasn_traits.specs.Additions.{extended, PresentsAdditions, RefusesAdditions}
@@ -92,35 +94,45 @@ abbrev pub WrittenFields : {E X : Type 0} → EncoderRules E X → Parts → Par
 WrittenFields rules ps qs rs xs x (Ok u) y = PresentsFields rules ps qs x rs xs y
 WrittenFields rules ps qs rs xs x (Err e) y = rules.memory e x ⊎ RefusesFields rules e ps qs x rs xs
 
+-- Of a SET there is as much as it has components: without that, its values wouldn't hang on these (X.691 21.1).
+abbrev pub IsCounted : Order → Parts → List (Option Value) → Type 0
+IsCounted listed ps rs = Unit {0}
+IsCounted by_tag ps rs = length rs ≡ count ps
+
 -- What passes out of a scope of some components, which was opened at x and begins at i: want of memory, and the refusal
--- of a component, which is one of the record.
-pub record Passes {E X : Type 0} (rules : EncoderRules E X) (ps : Parts) (marker : Bool) (qs : Parts)
+-- of a component, which is one of the record: a SEQUENCE, or a SET.
+pub record Passes {E X : Type 0} (rules : EncoderRules E X) (order : Order) (ps : Parts) (marker : Bool) (qs : Parts)
     (x i : X) : Type 0 where
   pub room : (e : E) → rules.memory e i → rules.memory e x
-  pub of_record : (e : E) (rs xs : List (Option Value)) → RefusesFields rules e ps qs i rs xs
-      → rules.refuses e x (extended ps marker qs) (record_value rs xs)
+  pub of_record : (e : E) (rs xs : List (Option Value)) → IsCounted order ps rs → RefusesFields rules e ps qs i rs xs
+      → rules.refuses e x (Schema.sequence order ps marker qs) (record_value rs xs)
 
 -- Ok is inside a record, and Err, memory aside, refuses every record of these components.
-abbrev pub OpenedToWrite : {E X O : Type 0} → EncoderRules E X → (Schema → X → O → X → Type 0) → (ℕ → Parts) → Bool
-    → (ℕ → Parts) → X → Result O E → X → Type 0
-OpenedToWrite rules opens parts marker additions x (Ok o) i =
-    (n : ℕ) → opens (extended (parts n) marker (additions n)) x o i × Passes rules (parts n) marker (additions n) x i
-OpenedToWrite rules opens parts marker additions x (Err e) i =
-    rules.memory e x ⊎ ((n : ℕ) (v : Value) → rules.refuses e x (extended (parts n) marker (additions n)) v)
+abbrev pub OpenedToWrite : {E X O : Type 0} → EncoderRules E X → (Schema → X → O → X → Type 0) → Order → (ℕ → Parts)
+    → Bool → (ℕ → Parts) → X → Result O E → X → Type 0
+OpenedToWrite rules opens order parts marker additions x (Ok o) i =
+    (n : ℕ) → opens (Schema.sequence order (parts n) marker (additions n)) x o i
+    × Passes rules order (parts n) marker (additions n) x i
+OpenedToWrite rules opens order parts marker additions x (Err e) i =
+    rules.memory e x ⊎ ((n : ℕ) (v : Value)
+    → rules.refuses e x (Schema.sequence order (parts n) marker (additions n)) v)
 
 -- A call that opens a record to write.
 pub record OpensToWrite {E X O : Type 0} (rules : EncoderRules E X) (opens : Schema → X → O → X → Type 0)
-    (parts : ℕ → Parts) (marker : Bool) (additions : ℕ → Parts) (x : X) (result : Result O E) (y : X) : Type 0 where
-  pub law : OpenedToWrite rules opens parts marker additions x result y
+    (order : Order) (parts : ℕ → Parts) (marker : Bool) (additions : ℕ → Parts) (x : X) (result : Result O E)
+    (y : X) : Type 0 where
+  pub law : OpenedToWrite rules opens order parts marker additions x result y
   pub behaves : Behaves rules.already rules.failed rules.codec x result y
 
--- A call that closes one, in which its components were presented: it answers as one call that writes the whole record.
+-- A call that closes one, in which its components were presented as they are listed: it answers as one call that writes
+-- the whole record.
 pub record ClosesWritten {E X O : Type 0} (rules : EncoderRules E X) (opens : Schema → X → O → X → Type 0)
-    (parts : ℕ → Parts) (marker : Bool) (additions : ℕ → Parts) (o : O) (j : X) (result : Result (Unit {0}) E)
-    (y : X) : Type 0 where
-  pub law : (x i : X) (n : ℕ) (rs xs : List (Option Value)) → opens (extended (parts n) marker (additions n)) x o i
+    (order : Order) (parts : ℕ → Parts) (marker : Bool) (additions : ℕ → Parts) (o : O) (j : X)
+    (result : Result (Unit {0}) E) (y : X) : Type 0 where
+  pub law : (x i : X) (n : ℕ) (rs xs : List (Option Value))
+      → opens (Schema.sequence order (parts n) marker (additions n)) x o i
       → PresentsFields rules (parts n) (additions n) i rs xs j
-      → Written rules (extended (parts n) marker (additions n)) (record_value rs xs) x result y
+      → Written rules (Schema.sequence order (parts n) marker (additions n)) (record_value rs xs) x result y
   pub behaves : Behaves rules.already rules.failed rules.codec j result y
 
 -- What a function owes that is lent a codec: the variant stays.
@@ -148,12 +160,13 @@ pub record WritesScope {E X : Type 0} (rules : EncoderRules E X) (parts addition
   pub keeps : (x : X) (r : Result (Unit {0}) E) (y : X) → returns x r y → (n : ℕ) → k ≤ n
       → WrittenFields rules (parts n) (additions n) (normals (parts n) rs) (normals (additions n) xs) x r y
 
--- A call that writes a record by a function that is lent the encoder.
-pub record WritesAround {E X : Type 0} (rules : EncoderRules E X) (parts : ℕ → Parts) (marker : Bool)
+-- A call that writes a record, a SEQUENCE or a SET, by a function that is lent the encoder and presents the components
+-- as they are listed.
+pub record WritesAround {E X : Type 0} (rules : EncoderRules E X) (order : Order) (parts : ℕ → Parts) (marker : Bool)
     (additions : ℕ → Parts) (returns : X → Result (Unit {0}) E → X → Type 0) (x : X) (result : Result (Unit {0}) E)
     (y : X) : Type 0 where
-  pub law : (rs xs : List (Option Value)) (k : ℕ) → WritesScope rules parts additions rs xs k returns
-      → AtDepths (record_at listed parts marker additions) (suc k)
+  pub law : (rs xs : List (Option Value)) (k : ℕ) → ((n : ℕ) → IsCounted order (parts n) rs)
+      → WritesScope rules parts additions rs xs k returns → AtDepths (record_at order parts marker additions) (suc k)
       (λ s. Written rules s (normal s (record_value rs xs)) x result y)
   pub swallowed : Ends rules.already rules.failed returns result
   pub again : rules.failed x ≡ true → IsErrAnd result (λ e. rules.already e x)

@@ -6,7 +6,7 @@ ghost use Rattle.rasn_types.specs.Alphabets.{visible, ia5, printable, numeric, b
 ghost use Rattle.rasn_types.specs.Contents.{utf8, other, utc, generalized};
 ghost use Rattle.rasn_types.specs.Values.{truth, nothing, whole, octets, bits, characters};
 ghost use Rattle.rasn_schema.specs.Canonised.{canonised_at};
-ghost use Rattle.rasn_schema.specs.Schemas.{Schema, listed};
+ghost use Rattle.rasn_schema.specs.Schemas.{Schema, by_tag, listed};
 ghost use Rattle.rasn_schema.specs.Forms.{number_schema, octet_schema, bit_schema, character_schema};
 ghost use Rattle.rasn_schema.specs.Forms.{size_of, is_size_marked};
 ghost use Rattle.rasn_schema.specs.Records.{record_at, record_value};
@@ -250,25 +250,41 @@ pub trait Encoder: Sized {
         tag: Tag,
         identifier: Identifier,
     ) -> Result<Self::Scope, Self::Error>
-        ensures { OpensToWrite rules opens C.parts C.IS_EXTENSIBLE C.additions self.old result self.new };
+        ensures { OpensToWrite rules opens listed C.parts C.IS_EXTENSIBLE C.additions self.old result self.new };
 
     /// Closes a SEQUENCE in which its components were written and its additions given.
     fn close_sequence<C: Constructed>(&mut self, scope: Self::Scope) -> Result<(), Self::Error>
-        ensures { ClosesWritten rules opens C.parts C.IS_EXTENSIBLE C.additions scope self.old result self.new };
+        ensures { ClosesWritten rules opens listed C.parts C.IS_EXTENSIBLE C.additions scope
+            self.old result self.new };
+
+    /// Opens a SET (X.691 21): the calls from here to `close_components` write its root components, in the order of
+    /// `FIELDS`, and then give its additions, in the order of `EXTENDED_FIELDS`. The root components come to stand in
+    /// ascending order of their smallest tags.
+    fn open_components<C: Constructed>(
+        &mut self,
+        tag: Tag,
+        identifier: Identifier,
+    ) -> Result<Self::Scope, Self::Error>
+        ensures { OpensToWrite rules opens by_tag C.parts C.IS_EXTENSIBLE C.additions self.old result self.new };
+
+    /// Closes a SET in which its components were written and its additions given.
+    fn close_components<C: Constructed>(&mut self, scope: Self::Scope) -> Result<(), Self::Error>
+        ensures { ClosesWritten rules opens by_tag C.parts C.IS_EXTENSIBLE C.additions scope
+            self.old result self.new };
 
     /// Opens a SET (X.691 21): the calls from here to `close_set` write its root components, in ascending order of
-    /// their smallest tags, and then give its additions, in the order of `EXTENDED_FIELDS`.
+    /// their smallest tags, and then give its additions, in the order of `EXTENDED_FIELDS`. Nothing is moved then.
     fn open_set<C: Constructed>(
         &mut self,
         tag: Tag,
         identifier: Identifier,
     ) -> Result<Self::Scope, Self::Error>
-        ensures { OpensToWrite rules opens (canonised_at C.parts) C.IS_EXTENSIBLE C.additions
+        ensures { OpensToWrite rules opens listed (canonised_at C.parts) C.IS_EXTENSIBLE C.additions
             self.old result self.new };
 
     /// Closes a SET in which its components were written and its additions given.
     fn close_set<C: Constructed>(&mut self, scope: Self::Scope) -> Result<(), Self::Error>
-        ensures { ClosesWritten rules opens (canonised_at C.parts) C.IS_EXTENSIBLE C.additions scope
+        ensures { ClosesWritten rules opens listed (canonised_at C.parts) C.IS_EXTENSIBLE C.additions scope
             self.old result self.new };
 
     /// Opens a CHOICE (X.691 23): the calls from here to `close_choice` write the value of its alternative.
@@ -434,8 +450,8 @@ pub trait Encoder: Sized {
         I: Into<Identifier>,
     >(&mut self, tag: Tag, scope: F, identifier: I) -> Result<(), Self::Error>
         requires { F.IsAlwaysCallable scope }
-        ensures { WritesAround rules C.parts C.IS_EXTENSIBLE C.additions (FnOnceReturnsAtMut F.FnOnce scope)
-            self.old result self.new }
+        ensures { WritesAround rules listed C.parts C.IS_EXTENSIBLE C.additions
+            (FnOnceReturnsAtMut F.FnOnce scope) self.old result self.new }
     {
         let outside = self.open_sequence::<C>(tag, identifier.into())?;
         if let Err(error) = scope(self) {
@@ -445,9 +461,30 @@ pub trait Encoder: Sized {
         self.close_sequence::<C>(outside)
     }
 
-    /// Writes a SET (X.691 21). `scope` writes its root components, in ascending order of their smallest tags, and then
-    /// gives its additions, in the order of `EXTENDED_FIELDS`.
+    /// Writes a SET (X.691 21). `scope` writes its root components, in the order of `FIELDS`, and then gives its
+    /// additions, in the order of `EXTENDED_FIELDS`. The root components come to stand in ascending order of their
+    /// smallest tags.
     final fn encode_set<
+        C: Constructed,
+        F: FnOnce(&mut Self) -> Result<(), Self::Error>,
+        I: Into<Identifier>,
+    >(&mut self, tag: Tag, scope: F, identifier: I) -> Result<(), Self::Error>
+        requires { F.IsAlwaysCallable scope }
+        ensures { WritesAround rules by_tag C.parts C.IS_EXTENSIBLE C.additions
+            (FnOnceReturnsAtMut F.FnOnce scope) self.old result self.new }
+    {
+        let outside = self.open_components::<C>(tag, identifier.into())?;
+        if let Err(refused) = scope(self) {
+            self.fail();
+            return Err(refused);
+        }
+        self.close_components::<C>(outside)
+    }
+
+    /// Writes a SET (X.691 21). `scope` writes its root components, in ascending order of their smallest tags, and then
+    /// gives its additions, in the order of `EXTENDED_FIELDS`. It takes less time than `encode_set`, since nothing is
+    /// moved.
+    final fn encode_set_in_order<
         C: Constructed,
         F: FnOnce(&mut Self) -> Result<(), Self::Error>,
         I: Into<Identifier>,

@@ -1,14 +1,16 @@
 //! DATE (X.680 38.4).
 
-ghost use Rattle.std.specs.Prelude.{◌≡◌};
+ghost use Rattle.std.specs.Prelude.{◌≡◌, Some};
 ghost use Rattle.rasn_types.specs.declared.types.TheConstants.Tag.{DATE};
 ghost use Rattle.rasn_constraints.specs.Ranges.{no_constraints};
+ghost use Rattle.rasn_schema.specs.Fields.{tagged};
 ghost use Rattle.rasn_times.specs.Values.{date_value};
 ghost use Rattle.rasn_traits.specs.Moments.{date_at};
-ghost use Rattle.rasn_useful.specs.Dates.{date_levelled, date_tag};
+ghost use Rattle.rasn_useful.specs.Laws.Dates.{date_levelled, date_stated, date_tag};
 
 use jiff::civil;
 use rasn_codec::codec::{Decode, Decoder, Encode, Encoder};
+use rasn_schema::fields::{TagTree, TypeTree};
 use rasn_schema::schema::{AsnType, Constraints};
 use rasn_times::civil::CivilDate;
 use rasn_times::date::{date_from_parts, date_to_parts};
@@ -65,6 +67,12 @@ impl AsnType for Date {
 
     ghost TAG = { DATE };
 
+    const TAG_TREE: TypeTree = TypeTree(TagTree::Leaf(Tag::DATE));
+
+    ghost TAG_TREE = { Some (tagged DATE) };
+
+    const IS_CHOICE: bool = false;
+
     const CONSTRAINTS: Constraints = Constraints::NONE;
 
     ghost CONSTRAINTS = { no_constraints };
@@ -78,6 +86,8 @@ impl AsnType for Date {
     ghost levelled = { λ _. date_levelled };
 
     ghost tag_fits = { λ _. date_tag };
+
+    ghost tree_fits = { λ _. date_stated };
 }
 
 impl Encode for Date {

@@ -1,9 +1,10 @@
 //! GeneralizedTime (X.680 46).
 
-ghost use Rattle.std.specs.Prelude.{◌≡◌, refl};
+ghost use Rattle.std.specs.Prelude.{◌≡◌, refl, Some};
 ghost use Rattle.rasn_types.specs.Contents.{generalized};
 ghost use Rattle.rasn_types.specs.declared.types.TheConstants.Tag.{GENERALIZED_TIME};
 ghost use Rattle.rasn_constraints.specs.Ranges.{no_constraints};
+ghost use Rattle.rasn_schema.specs.Fields.{tagged};
 ghost use Rattle.rasn_schema.specs.Forms.{always};
 ghost use Rattle.rasn_schema.specs.Levels.{simple_levelled};
 ghost use Rattle.rasn_schema.specs.Schemas.{Schema};
@@ -12,6 +13,7 @@ ghost use Rattle.rasn_times.specs.Values.{generalized_value};
 
 use jiff::civil::DateTime;
 use rasn_codec::codec::{Decode, Decoder, Encode, Encoder};
+use rasn_schema::fields::{TagTree, TypeTree};
 use rasn_schema::schema::{AsnType, Constraints};
 use rasn_times::civil::GeneralizedMoment;
 use rasn_times::error::TimeError;
@@ -76,6 +78,12 @@ impl AsnType for GeneralizedTime {
 
     ghost TAG = { GENERALIZED_TIME };
 
+    const TAG_TREE: TypeTree = TypeTree(TagTree::Leaf(Tag::GENERALIZED_TIME));
+
+    ghost TAG_TREE = { Some (tagged GENERALIZED_TIME) };
+
+    const IS_CHOICE: bool = false;
+
     const CONSTRAINTS: Constraints = Constraints::NONE;
 
     ghost CONSTRAINTS = { no_constraints };
@@ -87,6 +95,8 @@ impl AsnType for GeneralizedTime {
     ghost levelled = { λ _. simple_levelled (Schema.time generalized) tt };
 
     ghost tag_fits = { λ _ _. refl };
+
+    ghost tree_fits = { λ _ _. (refl, refl) };
 }
 
 impl Encode for GeneralizedTime {

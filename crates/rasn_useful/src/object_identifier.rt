@@ -1,16 +1,18 @@
 //! OBJECT IDENTIFIER (X.680 32).
 
-ghost use Rattle.std.specs.Prelude.{◌≡◌, ◌↔◌, [], IsTrue, length, nat_eq, refl};
+ghost use Rattle.std.specs.Prelude.{◌≡◌, ◌↔◌, [], IsTrue, length, nat_eq, refl, Some};
 ghost use Rattle.std.specs.Cmp.{partial_equiv_from_equiv};
 ghost use Rattle.std.specs.Cmp.Lexicographic.{nat_list_eq_equiv, pointwise};
 ghost use Rattle.rasn_types.specs.declared.types.TheConstants.Tag.{OBJECT_IDENTIFIER};
 ghost use Rattle.rasn_constraints.specs.Ranges.{no_constraints};
+ghost use Rattle.rasn_schema.specs.Fields.{tagged};
 ghost use Rattle.rasn_schema.specs.Forms.{always};
 ghost use Rattle.rasn_schema.specs.Levels.{simple_levelled};
 ghost use Rattle.rasn_schema.specs.Schemas.{Schema};
 ghost use Rattle.rasn_traits.specs.Moments.{identifier_value};
 
 use rasn_codec::codec::{Decode, Decoder, Encode, Encoder};
+use rasn_schema::fields::{TagTree, TypeTree};
 use rasn_schema::schema::{AsnType, Constraints};
 use rasn_types::types::{Identifier, Tag};
 use std::marker::Model;
@@ -96,6 +98,12 @@ impl AsnType for ObjectIdentifier {
 
     ghost TAG = { OBJECT_IDENTIFIER };
 
+    const TAG_TREE: TypeTree = TypeTree(TagTree::Leaf(Tag::OBJECT_IDENTIFIER));
+
+    ghost TAG_TREE = { Some (tagged OBJECT_IDENTIFIER) };
+
+    const IS_CHOICE: bool = false;
+
     const CONSTRAINTS: Constraints = Constraints::NONE;
 
     ghost CONSTRAINTS = { no_constraints };
@@ -107,6 +115,8 @@ impl AsnType for ObjectIdentifier {
     ghost levelled = { λ _. simple_levelled Schema.identifier tt };
 
     ghost tag_fits = { λ _ _. refl };
+
+    ghost tree_fits = { λ _ _. (refl, refl) };
 }
 
 impl Encode for ObjectIdentifier {

@@ -1,9 +1,10 @@
 //! UTCTime (X.680 47).
 
-ghost use Rattle.std.specs.Prelude.{◌≡◌, refl};
+ghost use Rattle.std.specs.Prelude.{◌≡◌, refl, Some};
 ghost use Rattle.rasn_types.specs.Contents.{utc};
 ghost use Rattle.rasn_types.specs.declared.types.TheConstants.Tag.{UTC_TIME};
 ghost use Rattle.rasn_constraints.specs.Ranges.{no_constraints};
+ghost use Rattle.rasn_schema.specs.Fields.{tagged};
 ghost use Rattle.rasn_schema.specs.Forms.{always};
 ghost use Rattle.rasn_schema.specs.Levels.{simple_levelled};
 ghost use Rattle.rasn_schema.specs.Schemas.{Schema};
@@ -12,6 +13,7 @@ ghost use Rattle.rasn_times.specs.Values.{utc_value};
 
 use jiff::civil::DateTime;
 use rasn_codec::codec::{Decode, Decoder, Encode, Encoder};
+use rasn_schema::fields::{TagTree, TypeTree};
 use rasn_schema::schema::{AsnType, Constraints};
 use rasn_times::civil::UtcMoment;
 use rasn_times::error::TimeError;
@@ -69,6 +71,12 @@ impl AsnType for UtcTime {
 
     ghost TAG = { UTC_TIME };
 
+    const TAG_TREE: TypeTree = TypeTree(TagTree::Leaf(Tag::UTC_TIME));
+
+    ghost TAG_TREE = { Some (tagged UTC_TIME) };
+
+    const IS_CHOICE: bool = false;
+
     const CONSTRAINTS: Constraints = Constraints::NONE;
 
     ghost CONSTRAINTS = { no_constraints };
@@ -80,6 +88,8 @@ impl AsnType for UtcTime {
     ghost levelled = { λ _. simple_levelled (Schema.time utc) tt };
 
     ghost tag_fits = { λ _ _. refl };
+
+    ghost tree_fits = { λ _ _. (refl, refl) };
 }
 
 impl Encode for UtcTime {

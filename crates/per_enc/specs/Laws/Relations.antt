@@ -1,18 +1,45 @@
 -- What holds of an encoder's relations.
-use Rattle.std.proofs.Common.{◌∙◌, ap}
+use Rattle.std.specs.Prelude.{◌≡◌, Bool, Option, Some, None, refl}
+use Rattle.std.proofs.Common.{◌∙◌, ap, sym}
 use Rattle.rasn_traits.specs.Calls.{PresentsWell}
+use Rattle.per_enc.specs.Rules.{encoding_rules, MarksWhere, noting}
 use Rattle.per_enc.specs.Laws.Vacant.{none_in_vacant}
-use Rattle.per_write.specs.Rules.{encoder_rules}
+use Rattle.per_pieces.specs.OpenSets.{OpenSet}
+use Rattle.per_write.specs.Components.{Encoding, noted}
+use Rattle.per_write.specs.State.{State}
 
-pub presents_well : PresentsWell encoder_rules
+-- where a value begins, no more than the pieces differ
+pub noting_same : (x : Encoding) → (noting x).writer ≡ record x.writer { pieces = (noting x).writer.pieces }
+noting_same x = go x.set x.writer
+  where
+    go : (o : Option OpenSet) (w : State) → (noted o w).writer ≡ record w { pieces = (noted o w).writer.pieces }
+    go None w = refl
+    go (Some k) w = refl
+
+-- the variant stays where a presence bit is given
+marked_codec : (o : Option OpenSet) (w : State) (b : Bool) (y : Encoding) → MarksWhere o w b y
+    → y.writer.codec ≡ w.codec
+marked_codec None w b y m = ap (λ (z : State). z.codec) m.0.same
+marked_codec (Some k) w b y m = ap (λ (z : Encoding). z.writer.codec) m.1
+
+pub presents_well : PresentsWell encoding_rules
 presents_well = record {
-  begun = λ x s v y w. w.begun;
-  left = λ x s v y w. w.left;
-  room = λ x s v y e w m. record { kind_is = m.kind_is; codec_is = m.codec_is ∙ w.same };
-  skip_room = λ x y e w m. record { kind_is = m.kind_is; codec_is = m.codec_is ∙ ap (λ z. z.codec) w.same };
-  begin_room = λ x y e w m. record { kind_is = m.kind_is; codec_is = m.codec_is ∙ ap (λ z. z.codec) w.opened.same };
-  add_room = λ x s v y e w m. record { kind_is = m.kind_is; codec_is = m.codec_is ∙ ap (λ z. z.codec) w.same };
-  vacant = λ x i s v e w g h r. none_in_vacant e.kind i s v
-      (ap (λ z. z.failed) w.opened.same ∙ w.opened.awaits.begun) g h r.stands;
-  mark_room = λ x b y e w m. record { kind_is = m.kind_is; codec_is = m.codec_is ∙ ap (λ z. z.codec) w.same };
+  begun = λ x s v y w. sym (ap (λ (z : State). z.failed) (noting_same x)) ∙ w.written.begun;
+  left = λ x s v y w. w.written.left;
+  room = λ x s v y e w m. record {
+    kind_is = m.kind_is;
+    codec_is = m.codec_is ∙ w.written.same ∙ ap (λ (z : State). z.codec) (noting_same x);
+  };
+  skip_room = λ x y e w m. record { kind_is = m.kind_is; codec_is = m.codec_is ∙ ap (λ z. z.codec) w.given.same };
+  begin_room = λ x y e w m. record {
+    kind_is = m.kind_is;
+    codec_is = m.codec_is ∙ ap (λ z. z.codec) w.opened.opened.same;
+  };
+  add_room = λ x s v y e w m. record { kind_is = m.kind_is; codec_is = m.codec_is ∙ ap (λ z. z.codec) w.given.same };
+  vacant = λ x i s v e w g h r. none_in_vacant e.kind i.writer s v
+      (ap (λ z. z.failed) w.opened.opened.same ∙ w.opened.opened.awaits.begun) g h r.stands;
+  mark_room = λ x b y e w m. record {
+    kind_is = m.kind_is;
+    codec_is = m.codec_is ∙ marked_codec x.set x.writer b y w;
+  };
 }

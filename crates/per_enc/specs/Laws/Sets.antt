@@ -12,7 +12,7 @@ use Rattle.per_write.specs.declared.error.EncodeError.{EncodeError}
 use Rattle.per_write.specs.declared.error.EncodeErrorKind.{EncodeErrorKind}
 use Rattle.per_write.specs.declared.error.EncodeErrorKind.TheVariants.{SizeConstraintNotSatisfied, ValueConstraintNotSatisfied, AlphabetConstraintNotSatisfied, IntegerTypeConversionFailed, VariantNotInChoice, RealNotSupported, TooManyAdditions, Below, AlreadyFailed, OutOfMemory, OutOfTurn}
 use Rattle.per_write.specs.Faults.{in_set, RefusesValue, Stands}
-use Rattle.per_write.specs.Rules.{encoder_rules}
+use Rattle.per_enc.specs.Rules.{encoding_rules, noting}
 use Rattle.per_write.specs.State.{Presents, State, StateAppends}
 
 -- a fault of the SEQUENCE of a SET's components in order is one of the SET
@@ -33,7 +33,7 @@ stands_in_set OutOfMemory x ps marker qs rs xs h = h
 stands_in_set OutOfTurn x ps marker qs rs xs h = h
 
 -- a SET is refused where the SEQUENCE is
-refused_set : (ps : Parts) (marker : Bool) (qs : Parts) (x : State) (rs xs : List (Option Value)) (e : EncodeError)
+pub refused_set : (ps : Parts) (marker : Bool) (qs : Parts) (x : State) (rs xs : List (Option Value)) (e : EncodeError)
     → RefusesValue e x (Schema.sequence listed (canonised ps) marker qs) (record_value (canonised_slots ps rs) xs)
     → RefusesValue e x (Schema.sequence by_tag ps marker qs) (record_value rs xs)
 refused_set ps marker qs x rs xs e h = record {
@@ -50,5 +50,11 @@ presented_set ps marker qs x y rs xs w = subst (λ m. StateAppends x m y)
     (sym (written (variant_of x.codec) ps marker qs rs xs)) w
 
 -- X.691 21.1: a SET is written as the SEQUENCE of its components in ascending order of their smallest tags
-pub sets_written : SetsWritten encoder_rules
-sets_written = record { presented = presented_set; refused = refused_set }
+pub sets_written : SetsWritten encoding_rules
+sets_written = record {
+  presented = λ ps marker qs x y rs xs w. record {
+    written = presented_set ps marker qs (noting x).writer y.writer rs xs w.written;
+    set = w.set;
+  };
+  refused = λ ps marker qs x rs xs e h. refused_set ps marker qs x.writer rs xs e h;
+}

@@ -1,6 +1,7 @@
 use Rattle.std.proofs.Common.{ℕ, refl, rules, inr, length}
 use Rattle.std.proofs.lemmas.Result.{err_from_is_err_and}
-use Rattle.rasn_schema.specs.Choices.{choices_of, choice_schema, is_extensible, one_level_in, tags_of, variants_behind, variants_counted}
+use Rattle.rasn_schema.specs.Choices.{choices_of, choice_schema, is_extensible, one_level_in, tags_of, variants_behind}
+use Rattle.rasn_schema.specs.Laws.Choices.{variants_counted}
 use Rattle.rasn_schema.specs.Fields.{tag_of}
 use Rattle.rasn_schema.specs.Schemas.{Schema}
 use Rattle.per_read_types.specs.Choices.{index_of}

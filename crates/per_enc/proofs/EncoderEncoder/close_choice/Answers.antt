@@ -1,23 +1,43 @@
-use Rattle.std.proofs.Common.{◌≡◌, ◌≤◌, ap, ◌∙◌, subst, length, None, Some, Option, List, arith, rules}
+use Rattle.std.proofs.Common.{◌≡◌, ◌≤◌, ap, ◌∙◌, refl, sym, inl, inr, subst, length, true, false, None, Some, Option, List, arith}
 use Rattle.std.proofs.lemmas.Bool.{leb-true}
-use Rattle.rasn_schema.specs.Choices.{StandsAt, VariantShape, variants_counted}
+use Rattle.std.proofs.lemmas.Result.{err_from_is_err_and}
+use Rattle.rasn_schema.specs.Choices.{StandsAt, VariantShape}
 use Rattle.rasn_schema.specs.Fields.{tag_of}
 use Rattle.rasn_schema.specs.declared.items.Place.{Place}
-use Rattle.per_enc.proofs.Choices.{closes_choice, none_found, some_found}
+use Rattle.rasn_schema.specs.Laws.Choices.{variants_counted}
+use Rattle.per_enc.specs.Rules.{noting}
+use Rattle.per_write.specs.State.{State}
+use Rattle.per_enc.proofs.Choices.{closes_choice, closes_well, none_found, some_found}
+use Rattle.per_enc.proofs.Inside.{value_inside}
+use Rattle.per_enc.proofs.Noting.{written_noted}
 use Rattle.per_enc.proofs.EncoderEncoder.close_choice.Goals as goal
+
+pub returns-in_err-check_unfailed : goal.returns-in_err-check_unfailed
+returns-in_err-check_unfailed g c =
+    let p = err_from_is_err_and c.from_residual.result c.from_residual.ensures.1 in
+    record {
+      law = rw (← c.self.view_is) (λ x i n d k s v h f a w. absurd (let e : true ≡ false = sym c.in_err-check_unfailed.ensures.failed ∙ w.written.left in cc));
+      unknown = rw (p.1, p.2, ← c.self.view_is) (λ e f. inl c.in_err-check_unfailed.ensures.err);
+      behaves = rw (p.1, p.2, ← c.self.view_is) (record { again = λ q. c.in_err-check_unfailed.ensures.err; fails = c.in_err-check_unfailed.ensures.failed; kept = refl });
+    }
 
 pub returns-in_err-place : goal.returns-in_err-place
 returns-in_err-place g c =
     let C = g.C.Choice in
     let t = tag_of c.args.chosen in
+    let p = err_from_is_err_and c.from_residual-in_err-place.result c.from_residual-in_err-place.ensures.1 in
     let none : StandsAt t C.VARIANTS C.EXTENDED_VARIANTS None =
     subst (λ (q : Option Place). StandsAt t C.VARIANTS C.EXTENDED_VARIANTS q) c.in_err-place.ensures.none
     (subst (λ (xs : Option (List VariantShape)). StandsAt t C.VARIANTS xs c.place_of-found.result) c.EXTENDED_VARIANTS-added.ensures
     (subst (λ (vs : List VariantShape). StandsAt t vs c.EXTENDED_VARIANTS-added.result c.place_of-found.result) c.VARIANTS-variants.ensures c.place_of-found.ensures)) in
     record {
-      law = rw (← c.self.view_is) (λ x i n d k s v h p a w. absurd (none_found t C.VARIANTS C.EXTENDED_VARIANTS d k none p));
-      unknown = search rules;
-      behaves = search rules;
+      law = rw (← c.self.view_is) (λ x i n d k s v h f a w. absurd (none_found t C.VARIANTS C.EXTENDED_VARIANTS d k none f));
+      unknown = rw (p.1, p.2, ← c.self.view_is) (λ e f. inr c.in_err-place.ensures.err);
+      behaves = rw (p.1, p.2, ← c.self.view_is) (record {
+        again = λ q. absurd (let d : true ≡ false = sym q ∙ c.in_ok-check_unfailed.ensures.ok in cc);
+        fails = c.in_err-place.ensures.fails;
+        kept = c.in_err-place.ensures.kept;
+      });
     }
 
 pub returns : goal.returns
@@ -30,10 +50,15 @@ returns g c =
     (subst (λ (vs : List VariantShape). StandsAt t vs c.EXTENDED_VARIANTS-added.result c.place_of-found.result) c.VARIANTS-variants.ensures c.place_of-found.ensures)) in
     let counted : c.len.result ≡ length C.VARIANTS = c.len.ensures ∙ ap length c.VARIANTS-variants.ensures in
     let few : c.len.result ≤ 65536 = omega (arith, counted, leb-true (length C.VARIANTS) 65536 C.are_variants.few) in
+    let closes = closes_well c.args.outside.0.before c.len.result c.in_ok-place.place c.args.outside.0.scope c.checked_place.new.writer c.close_choice.new.writer c.close_choice.result c.close_choice.ensures in
     record {
-      law = rw (← c.self.view_is) (λ x i n d k s v h p a w.
-          closes_choice C.EXTENDED_VARIANTS C.VARIANTS t x i c.self.inside.writer c.checked_place.new.writer _ c.args.outside (C.alternatives n) (C.added n) c.len.result c.in_ok-place.place d k s v c.close_choice.result
-          (counted ∙ variants_counted (C.alternatives n) (C.described n)) few (C.extends n) stands c.in_ok-place.ensures.stays c.close_choice.ensures h p a w);
+      law = rw (← c.self.view_is) (λ x i n d k s v h p a w. written_noted x (record { writer = c.close_choice.new.writer; set = c.args.outside.1 }) _ _ c.close_choice.result
+          (closes_choice C.EXTENDED_VARIANTS C.VARIANTS t (noting x).writer i.writer c.self.inside.writer c.checked_place.new.writer _ c.args.outside.0 (C.alternatives n) (C.added n) c.len.result c.in_ok-place.place d k s v c.close_choice.result
+          (counted ∙ variants_counted (C.alternatives n) (C.described n)) few (C.extends n) stands c.in_ok-place.ensures.stays c.close_choice.ensures h.opened p a (value_inside i _ s v h.inside w).0) h.waits);
       unknown = λ e f. absurd (some_found t C.VARIANTS C.EXTENDED_VARIANTS c.in_ok-place.place stands e f);
-      behaves = search rules;
+      behaves = rw (← c.self.view_is) (record {
+        again = λ q. absurd (let d : true ≡ false = sym q ∙ c.in_ok-check_unfailed.ensures.ok in cc);
+        fails = closes.0;
+        kept = closes.1 ∙ ap (λ (z : State). z.codec) c.in_ok-place.ensures.stays;
+      });
     }

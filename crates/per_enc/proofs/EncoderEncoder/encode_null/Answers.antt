@@ -1,6 +1,5 @@
-use Rattle.per_enc.proofs.Presenting.{null_law}
+use Rattle.per_enc.proofs.Noting.{null_noted}
 use Rattle.per_enc.proofs.EncoderEncoder.encode_null.Goals as goal
 
 pub returns : goal.returns
-returns g c =
-    rw (← c.self.view_is) (null_law c.self.inside.writer c.check_unfailed.result c.check_unfailed.ensures.ok c.check_unfailed.ensures.err c.check_unfailed.ensures.failed)
+returns g c = null_noted c.args.self.now c.begin_value.new.self c.begin_value.result c.begin_value.ensures.ok c.begin_value.ensures.noted c.begin_value.ensures.err c.begin_value.ensures.failed c.begin_value.ensures.stays

@@ -1,4 +1,4 @@
-use Rattle.std.proofs.Common.{rules}
+use Rattle.std.proofs.Common.{refl}
 use Rattle.std.proofs.lemmas.Result.{err_from_is_err_and}
 use Rattle.rasn_schema.specs.Schemas.{Schema}
 use Rattle.per_enc.proofs.Presenting.{refuses_again}
@@ -7,10 +7,13 @@ use Rattle.per_enc.proofs.EncoderEncoder.encode_real.Goals as goal
 pub returns-in_err-check_unfailed : goal.returns-in_err-check_unfailed
 returns-in_err-check_unfailed g c =
     let p = err_from_is_err_and c.from_residual.result c.from_residual.ensures.1 in
-    record {
-      law = rw (p.1, p.2, ← c.self.view_is) (λ v. refuses_again _ c.self.inside.writer Schema.real v c.in_err-check_unfailed.ensures.err c.in_err-check_unfailed.ensures.failed);
-      behaves = search rules;
-    }
+    rw (p.1, p.2, ← c.self.view_is) (record {
+      law = λ v. refuses_again _ c.self.inside.writer Schema.real v c.in_err-check_unfailed.ensures.err c.in_err-check_unfailed.ensures.failed;
+      behaves = record { again = λ q. c.in_err-check_unfailed.ensures.err; fails = c.in_err-check_unfailed.ensures.failed; kept = refl };
+    })
 
 pub returns : goal.returns
-returns g c = rw (← c.self.view_is) c.refuse_real.ensures
+returns g c = rw (← c.self.view_is) (record {
+  law = c.refuse_real.ensures.law;
+  behaves = record { again = c.refuse_real.ensures.behaves.again; fails = c.refuse_real.ensures.behaves.fails; kept = c.refuse_real.ensures.behaves.kept };
+})

@@ -1,6 +1,6 @@
 use Rattle.std.proofs.lemmas.Result.{err_from_is_err_and}
 use Rattle.std.proofs.Common.{◌∙◌, ap, Err}
-use Rattle.per_write.specs.State.{fresh}
+use Rattle.per_enc.specs.Rules.{fresh}
 use Rattle.rasn_per.proofs.Encoded.{written, refused}
 use Rattle.rasn_per.proofs.complete.encode_over.Goals as goal
 

@@ -1,0 +1,46 @@
+use Rattle.std.proofs.Common.{refl, sym, ◌≡◌, ◌∙◌, true, false, rules}
+use Rattle.std.proofs.lemmas.Result.{err_from_is_err_and}
+use Rattle.per_enc.proofs.SetCalls.{set_closed, set_is_open, set_unput}
+use Rattle.per_enc.proofs.EncoderEncoder.close_components.Goals as goal
+
+pub returns-in_err-check_unfailed : goal.returns-in_err-check_unfailed
+returns-in_err-check_unfailed g c =
+    let C = g.C.Constructed in
+    let p = err_from_is_err_and c.from_residual.result c.from_residual.ensures.1 in
+    record {
+      law = rw (← c.self.view_is) (λ x i n rs xs h k. absurd (let u = (set_is_open (C.parts n) C.IS_EXTENSIBLE (C.additions n) x i _ rs xs c.args.outside h k).2 in let f = c.in_err-check_unfailed.ensures.failed in cc));
+      behaves = rw (p.1, p.2, ← c.self.view_is) (record { again = λ q. c.in_err-check_unfailed.ensures.err; fails = c.in_err-check_unfailed.ensures.failed; kept = refl });
+    }
+
+pub returns-in_default : goal.returns-in_default
+returns-in_default g c =
+    let C = g.C.Constructed in
+    record {
+      law = rw (← c.self.view_is) (λ x i n rs xs h k. absurd (let s = (set_is_open (C.parts n) C.IS_EXTENSIBLE (C.additions n) x i _ rs xs c.args.outside h k).1 in let t = c.take.ensures.value in let d = c.in_default.is in cc));
+      behaves = search rules;
+    }
+
+pub returns-in_err-put_components : goal.returns-in_err-put_components
+returns-in_err-put_components g c =
+    let C = g.C.Constructed in
+    let p = err_from_is_err_and c.from_residual-in_err-put_components.result c.from_residual-in_err-put_components.ensures.1 in
+    record {
+      law = rw (p.1, p.2, ← c.self.view_is) (λ x i n rs xs h k. set_unput (C.parts n) C.IS_EXTENSIBLE (C.additions n) x i _ (record { writer = c.put_components.new.self; set = c.take.new.self }) rs xs c.args.outside c.FIELDS.result c.in-Some.set _ (λ m. C.extends.marked m n) (c.FIELDS.ensures ∙ C.described n) h k (sym c.in-Some.ensures.value) c.in_err-put_components.ensures.err);
+      behaves = rw (p.1, p.2, ← c.self.view_is) (record {
+        again = λ q. absurd (let d : true ≡ false = sym q ∙ c.in_ok-check_unfailed.ensures.ok in cc);
+        fails = c.in_err-put_components.ensures.fails;
+        kept = c.in_err-put_components.ensures.kept;
+      });
+    }
+
+pub returns : goal.returns
+returns g c =
+    let C = g.C.Constructed in
+    record {
+      law = rw (← c.self.view_is) (λ x i n rs xs h k. set_closed (C.parts n) C.IS_EXTENSIBLE (C.additions n) x i _ (record { writer = c.close_record.new.self; set = c.args.outside.1 }) rs xs c.args.outside c.FIELDS.result c.in-Some.set c.put_components.new.self c.close_record.result (λ m. C.extends.marked m n) (c.FIELDS.ensures ∙ C.described n) h k (sym c.in-Some.ensures.value) c.in_ok-put_components.ensures.ok c.close_record.ensures refl);
+      behaves = rw (← c.self.view_is) (record {
+        again = λ q. absurd (let d : true ≡ false = sym q ∙ c.in_ok-check_unfailed.ensures.ok in cc);
+        fails = c.close_record.ensures.fails;
+        kept = c.close_record.ensures.kept ∙ c.in_ok-put_components.ensures.kept;
+      });
+    }

@@ -1,0 +1,94 @@
+-- What a writer puts where a value begins is a value of the encoder.
+use Rattle.std.specs.Prelude.{OnOk, OnErr, IfErr, Result, Ok, Err}
+use Rattle.std.proofs.Common.{◌≡◌, sym, ap, ◌∙◌, subst, inl, inr, true, false}
+use Rattle.rasn_types.specs.Codecs.{variant_of}
+use Rattle.rasn_types.specs.Values.{Value, nothing}
+use Rattle.rasn_types.specs.declared.types.Codec.{Codec}
+use Rattle.rasn_schema.specs.Schemas.{Schema}
+use Rattle.rasn_traits.specs.Calls.{without_memory, Written, Writes}
+use Rattle.per_core.specs.Canon.{canon}
+use Rattle.per_write.specs.Components.{Encoding}
+use Rattle.per_write.specs.declared.error.EncodeError.{EncodeError}
+use Rattle.per_write.specs.declared.error.EncodeErrorKind.{EncodeErrorKind}
+use Rattle.per_write.specs.declared.error.EncodeErrorKind.TheVariants.{SizeConstraintNotSatisfied, ValueConstraintNotSatisfied, AlphabetConstraintNotSatisfied, IntegerTypeConversionFailed, VariantNotInChoice, RealNotSupported, TooManyAdditions, Below, AlreadyFailed, OutOfMemory, OutOfTurn}
+use Rattle.per_write.specs.Faults.{IsAlready, RefusesValue, Stands}
+use Rattle.per_write.specs.Rules.{encoder_rules}
+use Rattle.per_write.specs.State.{Presents as PresentsIn, State}
+use Rattle.per_enc.specs.Laws.Relations.{noting_same}
+use Rattle.per_enc.specs.Rules.{encoding_rules, noting}
+use Rattle.per_enc.proofs.Presenting.{presents_null, refuses_again}
+
+pub noting_codec : (x : Encoding) → (noting x).writer.codec ≡ x.writer.codec
+noting_codec x = ap (λ (z : State). z.codec) (noting_same x)
+
+pub noting_failed : (x : Encoding) → (noting x).writer.failed ≡ x.writer.failed
+noting_failed x = ap (λ (z : State). z.failed) (noting_same x)
+
+-- a fault stands alike in what failed alike
+stands_alike : (kind : EncodeErrorKind) (x y : State) (s : Schema) (v : Value) → x.failed ≡ y.failed → Stands kind x s v → Stands kind y s v
+stands_alike AlreadyFailed x y s v f h = sym f ∙ h
+stands_alike (SizeConstraintNotSatisfied n l u) x y s v f h = h
+stands_alike (ValueConstraintNotSatisfied n l u) x y s v f h = h
+stands_alike AlphabetConstraintNotSatisfied x y s v f h = h
+stands_alike IntegerTypeConversionFailed x y s v f h = h
+stands_alike VariantNotInChoice x y s v f h = h
+stands_alike RealNotSupported x y s v f h = h
+stands_alike TooManyAdditions x y s v f h = h
+stands_alike Below x y s v f h = h
+stands_alike OutOfMemory x y s v f h = h
+stands_alike OutOfTurn x y s v f h = h
+
+-- a value is refused alike
+pub refuses_alike : (e : EncodeError) (x y : State) (s : Schema) (v : Value) → x.failed ≡ y.failed → x.codec ≡ y.codec → RefusesValue e x s v → RefusesValue e y s v
+refuses_alike e x y s v f c h = record {
+  none = λ g p. ap (λ (d : Codec). canon (variant_of d) s v p) (sym c) ∙ h.none (f ∙ g) p;
+  stands = stands_alike e.kind x y s v f h.stands;
+  codec_is = h.codec_is ∙ c;
+}
+
+pub refuses_noted : (e : EncodeError) (x : Encoding) (s : Schema) (v : Value) → RefusesValue e (noting x).writer s v → RefusesValue e x.writer s v
+refuses_noted e x s v h = refuses_alike e (noting x).writer x.writer s v (noting_failed x) (noting_codec x) h
+
+pub written_noted : (x y : Encoding) (s : Schema) (v : Value) (result : Result (Unit {0}) EncodeError) → Written encoder_rules s v (noting x).writer result y.writer → y.set ≡ (noting x).set → Written encoding_rules s v x result y
+written_noted x y s v (Ok u) w e = record { written = w; set = e }
+written_noted x y s v (Err d) (inl m) e = inl (record { kind_is = m.kind_is; codec_is = m.codec_is ∙ noting_codec x })
+written_noted x y s v (Err d) (inr r) e = inr (refuses_noted d x s v r)
+
+-- a call that puts a value where it begins
+pub writes_noted : (x m y : Encoding) (s : Schema) (v : Value) (result : Result (Unit {0}) EncodeError) → m ≡ noting x → x.writer.failed ≡ false → Writes encoder_rules s v m.writer result y.writer → y.set ≡ m.set → Writes encoding_rules s v x result y
+writes_noted x m y s v result e f w k = record {
+  law = written_noted x y s v result (subst (λ (z : Encoding). Written encoder_rules s v z.writer result y.writer) e w.law) (k ∙ ap (λ (z : Encoding). z.set) e);
+  behaves = record {
+    again = λ g. absurd (let d : true ≡ false = sym g ∙ f in cc);
+    fails = w.behaves.fails;
+    kept = w.behaves.kept ∙ ap (λ (z : Encoding). z.writer.codec) e ∙ noting_codec x;
+  };
+}
+
+-- where a value begins, nothing was refused
+pub unfailed_noted : (x m : Encoding) → m ≡ noting x → x.writer.failed ≡ false → m.writer.failed ≡ false
+unfailed_noted x m e f = ap (λ (z : Encoding). z.writer.failed) e ∙ noting_failed x ∙ f
+
+-- a call of an encoder that had been refused
+pub already_refused : (x y : Encoding) (s : Schema) (v : Value) (result : Result (Unit {0}) EncodeError) (e f : EncodeError) → result ≡ Err f → f ≡ e → IsAlready e x.writer → x.writer.failed ≡ true → y ≡ x → Writes encoding_rules s v x result y
+already_refused x y s v result e f p q a h k =
+    let b : IsAlready f x.writer = subst (λ (d : EncodeError). IsAlready d x.writer) (sym q) a in
+    rw p (record {
+      law = inr (refuses_again f x.writer s v b h);
+      behaves = record { again = λ g. b; fails = ap (λ (z : Encoding). z.writer.failed) k ∙ h; kept = ap (λ (z : Encoding). z.writer.codec) k };
+    })
+
+-- X.691 18: a NULL is no bits where it begins
+pub null_noted : (x y : Encoding) (result : Result (Unit {0}) EncodeError) → OnOk result (x.writer.failed ≡ false) → OnOk result (y ≡ noting x) → IfErr result (λ e. IsAlready e x.writer) → OnErr result (x.writer.failed ≡ true) → OnErr result (y ≡ x)
+    → Writes (without_memory encoding_rules) Schema.null nothing x result y
+null_noted x y (Ok u) f e a g s = record {
+  law = record {
+    written = subst (λ (z : Encoding). PresentsIn (noting x).writer Schema.null nothing z.writer) (sym e) (presents_null (noting x).writer (noting_failed x ∙ f));
+    set = ap (λ (z : Encoding). z.set) e;
+  };
+  behaves = record { again = λ q. absurd (let d : true ≡ false = sym q ∙ f in cc); fails = tt; kept = ap (λ (z : Encoding). z.writer.codec) e ∙ noting_codec x };
+}
+null_noted x y (Err d) f e a g s = record {
+  law = inr (refuses_again d x.writer Schema.null nothing a g);
+  behaves = record { again = λ q. a; fails = ap (λ (z : Encoding). z.writer.failed) s ∙ g; kept = ap (λ (z : Encoding). z.writer.codec) s };
+}

@@ -1,0 +1,60 @@
+-- What is open in an encoder. Inside all but a SET whose components are presented in the order of its fields, what is
+-- kept of such a SET around it waits (ITU-T X.691, 21.1).
+use Rattle.std.specs.Prelude.{ℕ, ◌≡◌, List, Option, None}
+use Rattle.rasn_types.specs.Values.{Value}
+use Rattle.rasn_schema.specs.Lawful.{presence_bits}
+use Rattle.rasn_schema.specs.Normal.{root_of}
+use Rattle.rasn_schema.specs.Schemas.{by_tag, count, Schema}
+use Rattle.rasn_traits.specs.Lists.{ListForm}
+use Rattle.per_pieces.specs.OpenSets.{opened, OpenSet}
+use Rattle.per_write.specs.Additions.{Opens as OpensOpenTypeIn, OutsideAddition}
+use Rattle.per_write.specs.Components.{Encoding, going_on}
+use Rattle.per_write.specs.declared.lists.UnwrittenElements.{UnwrittenElements}
+use Rattle.per_write.specs.Lists.{IsOpenList as IsOpenListIn}
+use Rattle.per_write.specs.Records.{Opens as OpensRecord}
+use Rattle.per_write.specs.State.{Scope, State}
+use Rattle.per_write_types.specs.Bags.{IsOpenBag as IsOpenBagIn, OpenBag}
+use Rattle.per_write_types.specs.Choices.{OutsideChoice}
+use Rattle.per_enc.specs.Choices.{OpensChoice as OpensChoiceIn}
+use Rattle.per_enc.specs.Records.{addition_count, behind_marker, part_count}
+use Rattle.per_enc.specs.Rules.{noting}
+
+-- Something is opened in which values stand, as a writer opens it: what is kept of a SET waits beside what the writer
+-- says.
+pub record OpensWithin {O : Type 0} (opens : State → O → State → Type 0) (x : Encoding) (o : O × Option OpenSet)
+    (y : Encoding) : Type 0 where
+  pub opened : opens (noting x).writer o.0 y.writer
+  pub waits : o.1 ≡ (noting x).set
+  pub inside : y.set ≡ None
+
+-- X.691 21: a SET of so many root components is opened, of which each is written before its place is known: a zero
+-- stands for its extension bit
+pub record OpensSet (parts : ℕ) (additions : Option ℕ) (x : Encoding) (o : Scope × Option OpenSet)
+    (y : Encoding) : Type 0 where
+  pub front : State
+  pub marked : OpensRecord 0 additions (noting x).writer o.0 front
+  pub waits : o.1 ≡ (noting x).set
+  pub inside : y ≡ going_on (opened parts front.pieces) front
+
+-- X.691 19, 21: a SEQUENCE or a SET is opened
+abbrev pub Opens : Schema → Encoding → (Scope × Option OpenSet) → Encoding → Type 0
+Opens (Schema.sequence by_tag ps marker qs) = OpensSet (count ps) (behind_marker marker (part_count qs))
+Opens s = OpensWithin (OpensRecord (presence_bits (root_of s)) (addition_count s))
+
+-- X.691 23: a CHOICE is opened
+abbrev pub OpensChoice : Schema → Encoding → (OutsideChoice × Option OpenSet) → Encoding → Type 0
+OpensChoice s = OpensWithin (OpensChoiceIn s)
+
+-- X.691 19.9: the open type of the next addition is opened
+pub record OpensOpenType (x : Encoding) (o : OutsideAddition × Option OpenSet) (y : Encoding) : Type 0 where
+  pub opened : OpensOpenTypeIn x.writer o.0 y.writer
+  pub waits : o.1 ≡ x.set
+  pub inside : y.set ≡ None
+
+-- X.691 20: a list is open
+abbrev pub IsOpenList : ListForm → Encoding → List Value → (UnwrittenElements × Option OpenSet) → Encoding → Type 0
+IsOpenList f x vs = OpensWithin (λ z l y. IsOpenListIn f z vs l y) x
+
+-- X.691 22: a bag is open
+abbrev pub IsOpenBag : ListForm → Encoding → List Value → (OpenBag × Option OpenSet) → Encoding → Type 0
+IsOpenBag f x vs = OpensWithin (λ z b y. IsOpenBagIn f z vs b y) x

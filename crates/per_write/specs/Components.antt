@@ -1,0 +1,62 @@
+-- A SET whose root components are presented in the order of its fields: each is written before its place is known, and
+-- they are put in ascending order of their smallest tags where the SET is closed (ITU-T X.691, 21.1).
+use Rattle.std.specs.Prelude.{ℕ, ◌≡◌, ◌⊎◌, Bool, true, List, length, Option, Some, None, Result, IfOk, IfErr, OnOk}
+use Rattle.std.specs.Prelude.{OnErr}
+use Rattle.rasn_schema.specs.Fields.{Shape, shapes_from}
+use Rattle.rasn_schema.specs.Schemas.{count, Parts}
+use Rattle.per_core.specs.Placed.{placed}
+use Rattle.per_core.specs.Writers.{◌▹◌}
+use Rattle.per_pieces.specs.OpenSets.{begins, begins_value, bit_writers, closed, Component, opened, OpenSet, Underway}
+use Rattle.per_pieces.specs.OpenSets.{value_writers}
+use Rattle.per_pieces.specs.Pieces.{Appends}
+use Rattle.per_write.specs.declared.error.EncodeError.{EncodeError}
+use Rattle.per_write.specs.declared.error.EncodeErrorKind.TheVariants.{OutOfTurn}
+use Rattle.per_write.specs.Faults.{IsError, IsMemory}
+use Rattle.per_write.specs.State.{State}
+
+-- a writer, and what is kept of the SET whose components it writes, where they are what it writes at once: inside one
+-- of them, or where no SET is open, there is none
+pub record Encoding : Type 0 where
+  pub writer : State
+  pub set : Option OpenSet
+
+-- an open SET, and the pieces of the component under way
+abbrev pub underway : OpenSet → State → Underway
+underway set x = record { set = set; pieces = x.pieces }
+
+-- a writer goes on with an open SET and the pieces of a component
+abbrev pub going_on : Underway → State → Encoding
+going_on u x = record { writer = record x { pieces = u.pieces }; set = Some u.set }
+
+-- a value begins: where a SET is open, it is that of a component
+abbrev pub noted : Option OpenSet → State → Encoding
+noted None x = record { writer = x; set = None }
+noted (Some set) x = going_on (begins_value (underway set x)) x
+
+-- a component begins with its presence bit
+abbrev pub begun_with : Bool → OpenSet → State → Encoding
+begun_with b set x = going_on (begins (Some b) (underway set x)) x
+
+-- A call that opens a SET of so many root components: what was written so far stands before it. Or it finds no memory.
+pub record OpensComponents (count : ℕ) (x : State) (result : Result OpenSet EncodeError) (y : State) : Type 0 where
+  pub ok : IfOk result (λ set. underway set y ≡ opened count x.pieces)
+  pub same : OnOk result (y ≡ record x { pieces = y.pieces })
+  pub err : IfErr result (λ e. IsMemory e x)
+  pub fails : OnErr result (y.failed ≡ true)
+  pub kept : y.codec ≡ x.codec
+
+-- the components of a SET with some fields stand behind what was before it, in ascending order of their smallest tags
+pub record PutsInOrder (fields : List Shape) (set : OpenSet) (x y : State) : Type 0 where
+  pub components : List Component
+  pub closed : closed fields (underway set x) ≡ Some components
+  pub appended : (ps : Parts) → fields ≡ shapes_from 0 ps → length components ≡ count ps
+      → Appends set.outer (placed ps (bit_writers components) ▹ placed ps (value_writers components)) y.pieces
+  pub same : y ≡ record x { pieces = y.pieces }
+
+-- A call that puts the components of a SET with some fields in order. It is refused where the SET isn't complete.
+pub record PutsComponents (fields : List Shape) (set : OpenSet) (x : State) (result : Result (Unit {0}) EncodeError)
+    (y : State) : Type 0 where
+  pub ok : OnOk result (PutsInOrder fields set x y)
+  pub err : IfErr result (λ e. IsMemory e x ⊎ (IsError OutOfTurn e x × (closed fields (underway set x) ≡ None)))
+  pub fails : OnErr result (y.failed ≡ true)
+  pub kept : y.codec ≡ x.codec
