@@ -64,17 +64,30 @@ class Definitions:
             else:
                 self.object_sets.add((self.home(reference["module"], reference["type"]), reference["type"]))
 
-    def objects(self, module, name):
-        """Gives the objects of a set, as asn1ct read them: the identifier, the type that it names, and what else it says."""
+    def rows(self, module, name):
+        """Gives the identifier and the fields of each object of a set, as asn1ct read them."""
         found = self.front[module]["checked"].get(name, {}).get("typespec", {})
         for row in found.get("set", []) if found.get("_") == "ObjectSet" else []:
             if isinstance(row, dict) and "t" in row and isinstance(row["t"][1], int):
-                yield row["t"][1], *self.fields_of_object(row["t"][2], row["t"][1])
+                yield row["t"][1], [field["t"] for field in row["t"][2]]
+
+    def objects(self, module, name):
+        """Gives the objects of a set: the identifier, the type that it names, and what else it says."""
+        for identifier, fields in self.rows(module, name):
+            yield identifier, *self.fields_of_object(fields, identifier)
+
+    def types_of(self, module, name):
+        """Gives the module and the name of a type, or of each that the objects of a set name."""
+        module = self.home(module, name)
+        if kind(self.defined[module, name].get("typespec")) != "ObjectSet":
+            yield module, name
+        for _, fields in sorted(self.rows(module, name), key=lambda row: row[0]):
+            yield from ((held["module"], held["type"]) for _, held in fields if kind(held) == "Externaltypereference")
 
     @staticmethod
     def fields_of_object(fields, identifier):
         what, more = "a type", []
-        for key, held in (field["t"] for field in fields):
+        for key, held in fields:
             if kind(held) == "Externaltypereference":
                 what = held["type"]
             elif kind(held) == "typedef":

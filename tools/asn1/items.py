@@ -26,7 +26,7 @@ class Item:
     text: list              # the lines of its definition
     target: Use = None      # of a definition that is another name
     needs: list = field(default_factory=list)
-    is_element: bool = False    # whether a list has it as its element, under its constraints
+    is_limited: bool = False    # whether it has a type under its constraints too
     is_default: bool = False    # whether a component of it has a default
     depth: object = 0       # the levels that the deepest component takes; None where that depends on the value
 
@@ -167,7 +167,7 @@ class Items:
                 text = definition(key[1].replace("/", "."), use)
                 found = self.items.get(key) or self.made(key, use.type, line, text, target)
                 item.needs.append(found)
-            found.is_element = True
+            found.is_limited = True
             use.limited = found
         return found
 

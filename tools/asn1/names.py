@@ -31,10 +31,11 @@ LONGEST = 56
 
 
 def words_of(name):
-    """Returns the words of a name: at dashes and underscores, and where a capital begins one."""
+    """Returns the words of a name: at dashes and underscores, and where a capital begins one. Of capitals in a row the first
+    may be a small letter (`pLMNIdentity`)."""
     found = []
     for piece in re.split(r"[-_./]", name):
-        found += re.findall(r"[A-Z]{2,}s(?![a-z])|[A-Z]+(?![a-z])\d*|[A-Z]?[a-z]+\d*|[A-Z][a-z0-9]*|\d+", piece) or [piece]
+        found += re.findall(r"^[a-z][A-Z]+(?![a-z])|[A-Z]{2,}s(?![a-z])|[A-Z]+(?![a-z])\d*|[A-Z]?[a-z]+\d*|[A-Z][a-z0-9]*|\d+", piece) or [piece]
     return [word for word in found if word]
 
 
@@ -48,7 +49,7 @@ def joined(words):
 
 def upper_camel(name):
     words = words_of(name)
-    text = joined(word[0].upper() + (word[1:].lower() if len(word) > 1 and word.isupper() else word[1:]) for word in words)
+    text = joined(word[0].upper() + (word[1:].lower() if re.search("[A-Z]", word[1:]) else word[1:]) for word in words)
     return f"{text}_" if text in NOT_ALONE else text
 
 

@@ -346,7 +346,7 @@ class Page:
         for name, number in of.names.items() if of.kind in ("INTEGER", "BIT STRING") and not is_named_elsewhere else []:
             what = f"`{name}` of {item.rust}." if is_number else f"The place of the bit `{name}` of {item.rust}."
             lines += [f"/// {what}", f"pub const {constant(item.rust)}_{constant(name)}: {width} = {grouped(number)};", ""]
-        if item.is_element:
+        if item.is_limited and of.limits:
             self.imports.use("rasn_below", "Constrained", "Constraint", "Constraints", "Limits", "constraints")
             bounds, words = self.bounds(of.limits), limit_words(of, self.imports)
             limits = filled(templates.LIMITS, rust=item.rust, constant=constant(item.rust), bounds=bounds, words=words)

@@ -89,7 +89,7 @@ stands_in_alternative RealNotSupported x m ps marker qs d k s v f h t = in_alter
 stands_in_alternative TooManyAdditions x m ps marker qs d k s v f h t = absurd t
 stands_in_alternative Below x m ps marker qs d k s v f h t = in_alternative h t
 stands_in_alternative OutOfMemory x m ps marker qs d k s v f h t = absurd t
-stands_in_alternative OutOfTurn x m ps marker qs d k s v f h t = absurd t
+stands_in_alternative OutOfTurn x m ps marker qs d k s v f h t = in_alternative h t
 
 -- a choice whose alternative has no encoding has none
 none_written : (a : Variant) (ps : Parts) (marker : Bool) (qs : Parts) (d : Side) (k : ℕ) (s : Schema) (v : Value) → alternative_in (choice_schema ps marker qs) d k ≡ Some s → ((q : ℕ) → canon a s v q ≡ None)

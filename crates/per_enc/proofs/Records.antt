@@ -61,18 +61,19 @@ stands_in IntegerTypeConversionFailed x m s v ps marker qs rs xs f (inl h) k = i
 stands_in (SizeConstraintNotSatisfied length lower upper) x m s v ps marker qs rs xs f (inl h) k = in_part xs h k
 stands_in AlphabetConstraintNotSatisfied x m s v ps marker qs rs xs f (inl h) k = in_part xs h k
 stands_in RealNotSupported x m s v ps marker qs rs xs f (inl h) k = in_part xs h k
+stands_in OutOfTurn x m s v ps marker qs rs xs f (inl h) k = in_part xs h k
 stands_in Below x m s v ps marker qs rs xs f (inl h) k = in_part xs h k
 stands_in (ValueConstraintNotSatisfied value lower upper) x m s v ps marker qs rs xs f (inr h) k = in_addition rs h k
 stands_in IntegerTypeConversionFailed x m s v ps marker qs rs xs f (inr h) k = in_addition rs h k
 stands_in (SizeConstraintNotSatisfied length lower upper) x m s v ps marker qs rs xs f (inr h) k = in_addition rs h k
 stands_in AlphabetConstraintNotSatisfied x m s v ps marker qs rs xs f (inr h) k = in_addition rs h k
 stands_in RealNotSupported x m s v ps marker qs rs xs f (inr h) k = in_addition rs h k
+stands_in OutOfTurn x m s v ps marker qs rs xs f (inr h) k = in_addition rs h k
 stands_in Below x m s v ps marker qs rs xs f (inr h) k = in_addition rs h k
 stands_in AlreadyFailed x m s v ps marker qs rs xs f h k = absurd cc
 stands_in VariantNotInChoice x m s v ps marker qs rs xs f h k = absurd k
 stands_in TooManyAdditions x m s v ps marker qs rs xs f h k = absurd k
 stands_in OutOfMemory x m s v ps marker qs rs xs f h k = absurd k
-stands_in OutOfTurn x m s v ps marker qs rs xs f h k = absurd k
 
 -- the pieces in front of the presence bits
 abbrev front_of : List Piece → Bool → List Piece

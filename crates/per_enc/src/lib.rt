@@ -251,6 +251,11 @@ impl<A: Allocator + Clone> encoder::Encoder for Encoder<A> {
         self.writer.refuse_real()
     }
 
+    fn encode_absent(&mut self, _tag: Tag, _identifier: Identifier) -> Result<(), EncodeError> {
+        self.writer.check_unfailed()?;
+        self.writer.refuse_absent()
+    }
+
     #[inline(always)]
     fn encode_null(&mut self, _tag: Tag, _identifier: Identifier) -> Result<(), EncodeError> {
         self.begin_value()

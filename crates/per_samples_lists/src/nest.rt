@@ -52,6 +52,7 @@ impl Components for Nest {
 }
 
 impl Encode for Nest {
+    #[cycle(write)]
     fn encode_with_tag_and_constraints<E: Encoder>(
         &self,
         encoder: &mut E,

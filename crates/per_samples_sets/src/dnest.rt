@@ -54,6 +54,7 @@ impl Components for Dnest {
 }
 
 impl Encode for Dnest {
+    #[cycle(write)]
     fn encode_with_tag_and_constraints<E: Encoder>(
         &self,
         encoder: &mut E,

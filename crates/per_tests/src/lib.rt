@@ -22,6 +22,8 @@ mod failures;
 #[cfg(test)]
 mod lending;
 #[cfg(test)]
+mod options;
+#[cfg(test)]
 mod pieces;
 #[cfg(test)]
 mod refusals;

@@ -4,13 +4,14 @@ use Rattle.std.proofs.Math.Nat.{le_trans}
 use lib.Signed.{le_z}
 use Rattle.rasn_types.specs.Alphabets.{index_of, keep_own, char_code, char_width, greatest, visible}
 use Rattle.rasn_types.specs.Bits.{Bits}
-use Rattle.rasn_types.specs.Values.{Value, bag_of, as_values, values, put, sorted, before, code}
+use Rattle.rasn_types.specs.Values.{Value, Side, root, added, whole, truth, nothing, item, octets, bits, characters, elements, fields, alternative, day, bag_of, as_values, as_slots, values, put, sorted, before, code}
 use Rattle.rasn_types.specs.Variants.{Variant}
 use Rattle.rasn_types.proofs.Values.{values-as_values}
 use Rattle.rasn_constraints.specs.Bounds.{allows, holds, not_below, not_above, fits_i128, Bounds, Size, any_size, unbounded}
+use Rattle.rasn_schema.specs.Absent.{no_value}
 use Rattle.rasn_schema.specs.Depth.{meets_cut}
 use Rattle.rasn_schema.specs.Lawful.{IsLawful}
-use Rattle.rasn_schema.specs.Normal.{normal, over_bag}
+use Rattle.rasn_schema.specs.Normal.{normal, normal_at, over_alternative, over_bag}
 use Rattle.rasn_schema.specs.Schemas
 use Rattle.rasn_schema.specs.Schemas.{Schema}
 use Rattle.per_core.specs.Basic.{Char, IsNumber, Marked, number_spelling, String, basic_in, fills}
@@ -19,7 +20,7 @@ use Rattle.per_core.specs.Spellings.{Settings}
 use Rattle.per_core.proofs.Counting.{length-map'}
 use Rattle.per_core.proofs.LengthForms.{and_left, and_right}
 use Rattle.per_core.specs.Within.{Each}
-use Rattle.per_write.specs.Faults.{IsInValue, Outside, OutsideSize, IsPast, has_bound, HasForeign, IsOutOfBounds, IsPastBounds, IsOutOfSize, IsForeign, IsUnlawful, IsReal, StandsIn, at_once, in_part, in_addition, in_set, in_element, in_member, in_alternative}
+use Rattle.per_write.specs.Faults.{IsInValue, Outside, OutsideSize, IsPast, has_bound, HasForeign, IsOutOfBounds, IsPastBounds, IsOutOfSize, IsForeign, IsUnlawful, IsReal, IsAbsent, StandsIn, at_once, in_part, in_addition, in_set, in_element, in_member, in_alternative}
 use Rattle.per_write.specs.declared.error.EncodeErrorKind.{EncodeErrorKind}
 use Rattle.per_write.specs.declared.error.EncodeErrorKind.TheVariants.{SizeConstraintNotSatisfied, ValueConstraintNotSatisfied, AlphabetConstraintNotSatisfied, IntegerTypeConversionFailed, VariantNotInChoice, RealNotSupported, TooManyAdditions, Below, AlreadyFailed, OutOfMemory, OutOfTurn}
 use Rattle.per_versions.specs.Kept.{starts_in_i128, ends_in_i128, are_in_i128, keeps_numbers, keeps_to_i128}
@@ -207,6 +208,32 @@ module _ (a : Settings) (u : Bool) where
   not_real Schema.real w r f = r.where_it_is.spelled
   not_real _ w r f = f
 
+  alternative_there : (g h : ℕ → Value → Value) (d : Side) (k : ℕ) (v : Value) → over_alternative g h (alternative d k v) ≡ no_value → ⊥
+  alternative_there g h root k v e = cc
+  alternative_there g h added k v e = cc
+
+  -- what was read isn't absent
+  not_absent : (s : Schema) (w : Value) → IsRead a u s w → IsAbsent s w → ⊥
+  unfolding basic_in normal over_bag bag_of
+  not_absent Schema.real w r f = r.where_it_is.spelled
+  not_absent Schema.cut w r f = r.where_it_is.spelled
+  not_absent Schema.boolean w r f = let x = r.where_it_is.spelled in let e : truth x.of ≡ no_value = sym (r.is ∙ x.is) ∙ f in cc
+  not_absent Schema.null w r f = let x = r.where_it_is.spelled in let e : nothing ≡ no_value = sym (r.is ∙ x.is) ∙ f in cc
+  not_absent Schema.any w r f = let x = r.where_it_is.spelled in let e : octets x.of ≡ no_value = sym (r.is ∙ x.is) ∙ f in cc
+  not_absent (Schema.text kind) w r f = let x = r.where_it_is.spelled in let e : octets x.of ≡ no_value = sym (r.is ∙ x.is) ∙ f in cc
+  not_absent Schema.identifier w r f = let x = r.where_it_is.spelled in let e : octets x.of ≡ no_value = sym (r.is ∙ x.is) ∙ f in cc
+  not_absent (Schema.time kind) w r f = let x = r.where_it_is.spelled in let e : characters x.of ≡ no_value = sym (r.is ∙ x.is) ∙ f in cc
+  not_absent Schema.date w r f = let x = r.where_it_is.spelled in let e : day x.of.0 (suc x.of.1) (suc x.of.2) ≡ no_value = sym (r.is ∙ x.is) ∙ f in cc
+  not_absent (Schema.number bounds mark range) w r f = let x = r.where_it_is.spelled in let e : whole x.of ≡ no_value = sym (r.is ∙ x.is) ∙ f in cc
+  not_absent (Schema.items n m ext) w r f = let x = r.where_it_is.spelled in let e : item x.of.0 x.of.1 ≡ no_value = sym (r.is ∙ x.is) ∙ f in cc
+  not_absent (Schema.octet_string size mark) w r f = let x = r.where_it_is.spelled in let e : octets x.of ≡ no_value = sym (r.is ∙ x.is) ∙ f in cc
+  not_absent (Schema.bit_string size mark) w r f = let x = r.where_it_is.spelled in let e : bits x.of ≡ no_value = sym (r.is ∙ x.is) ∙ f in cc
+  not_absent (Schema.char_string alphabet size mark) w r f = let x = r.where_it_is.spelled in let e : characters x.of ≡ no_value = sym (r.is ∙ x.is) ∙ f in cc
+  not_absent (Schema.list element size mark) w r f = let x = r.where_it_is.spelled in let e : normal (Schema.list element size mark) (elements (as_values x.of)) ≡ no_value = sym (r.is ∙ ap (normal (Schema.list element size mark)) x.is) ∙ f in cc
+  not_absent (Schema.set_of element size mark) w r f = let x = r.where_it_is.spelled in let e : normal (Schema.set_of element size mark) (bag_of x.of) ≡ no_value = sym (r.is ∙ ap (normal (Schema.set_of element size mark)) x.is) ∙ f in cc
+  not_absent (Schema.sequence o ps ext adds) w r f = let x = r.where_it_is.spelled in let e : normal (Schema.sequence o ps ext adds) (fields (as_slots x.of.0) (as_slots x.of.1)) ≡ no_value = sym (r.is ∙ ap (normal (Schema.sequence o ps ext adds)) x.is) ∙ f in cc
+  not_absent (Schema.choice ps adds ext) w r f = let x = r.where_it_is.spelled in alternative_there (normal_at ps) (normal_at adds) x.of.0 x.of.1 x.of.2 (sym (r.is ∙ ap (normal (Schema.choice ps adds ext)) x.is) ∙ f)
+
 -- ---- all kinds of refusal
 
 module _ (a : Settings) (u : Bool) (s : Schema) (w : Value) (r : IsRead a u s w) where
@@ -225,7 +252,7 @@ module _ (a : Settings) (u : Bool) (s : Schema) (w : Value) (r : IsRead a u s w)
   one_fault TooManyAdditions g f = absurd f
   one_fault AlreadyFailed g f = absurd f
   one_fault OutOfMemory g f = absurd f
-  one_fault OutOfTurn g f = absurd f
+  one_fault OutOfTurn g f = absurd (any_schema IsAbsent (not_absent a u) g f)
 
   -- and none where the schema keeps to an i128
   pub no_fault : (kind : EncodeErrorKind) → IsLawful s → keeps_to_i128 s ≡ true → IsInValue kind s w → ⊥

@@ -291,7 +291,7 @@ stands_in_element RealNotSupported x y e size mark v vs f h k = in_element h k
 stands_in_element TooManyAdditions x y e size mark v vs f h k = absurd k
 stands_in_element Below x y e size mark v vs f h k = in_element h k
 stands_in_element OutOfMemory x y e size mark v vs f h k = absurd k
-stands_in_element OutOfTurn x y e size mark v vs f h k = absurd k
+stands_in_element OutOfTurn x y e size mark v vs f h k = in_element h k
 
 refuses_element : (d : EncodeError) (x y : State) (e : Schema) (size : Size) (mark : Bool) (front : List Value) (v : Value) (vs : List Value) → y.failed ≡ false → y.codec ≡ x.codec → RefusesValue d y e v →
     RefusesValue d x (Schema.list e size mark) (list_value (front ++ v ∷ vs))

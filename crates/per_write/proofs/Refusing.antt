@@ -10,13 +10,14 @@ use Rattle.rasn_types.specs.Variants.{Variant}
 use Rattle.rasn_constraints.specs.Bounds.{allows, Size, any_size}
 use Rattle.rasn_traits.specs.Calls.{Written}
 use Rattle.per_write.specs.Rules.{encoder_rules}
+use Rattle.rasn_schema.specs.Absent.{no_value}
 use Rattle.rasn_schema.specs.Schemas.{Schema}
-use Rattle.per_core.specs.Canon.{canon, char_writers}
+use Rattle.per_core.specs.Canon.{canon, char_writers, date_of}
 use Rattle.per_core.specs.Counts.{constrained_whole, counted, ItemKind, counted_in, counted_under, determinant, in_fragments, is_aligned, marked_form, octet_items, octet_writers, padding_if, fragment_sizes, bit_items, bit_writers, char_items}
 use Rattle.per_core.specs.Writers.{Writer, go_on, one_by_one, just, padding, written_if, ◌▹◌}
 use Rattle.per_write.specs.declared.error.EncodeError.{EncodeError}
 use Rattle.per_write.specs.declared.error.EncodeErrorKind.{EncodeErrorKind}
-use Rattle.per_write.specs.declared.error.EncodeErrorKind.TheVariants.{AlphabetConstraintNotSatisfied, RealNotSupported, SizeConstraintNotSatisfied}
+use Rattle.per_write.specs.declared.error.EncodeErrorKind.TheVariants.{AlphabetConstraintNotSatisfied, OutOfTurn, RealNotSupported, SizeConstraintNotSatisfied}
 use Rattle.per_write.specs.Faults.{at_once, IsError, IsMemory, OutsideSize, RefusesValue, Stands, HasForeign}
 use Rattle.per_write.specs.Items.{HasRefused, refused_behind, refused_here, RefusesCounted, no_memory, wrong_count, wrong_item}
 use Rattle.per_pieces.specs.Fragments.{one_fragment}
@@ -185,5 +186,34 @@ unfolding canon
 real_refused e x h v = record {
   none = λ f p. refl;
   stands = subst (λ k. Stands k x Schema.real v) (sym h.kind_is) (at_once tt);
+  codec_is = h.codec_is;
+}
+
+-- X.680 25.6: what is absent has no encoding
+pub none_of_absent : (a : Variant) (s : Schema) (p : ℕ) → canon a s no_value p ≡ None
+unfolding canon date_of
+none_of_absent a Schema.boolean p = refl
+none_of_absent a Schema.null p = refl
+none_of_absent a Schema.real p = refl
+none_of_absent a Schema.cut p = refl
+none_of_absent a Schema.any p = refl
+none_of_absent a (Schema.text kind) p = refl
+none_of_absent a Schema.identifier p = refl
+none_of_absent a (Schema.time kind) p = refl
+none_of_absent a Schema.date p = refl
+none_of_absent a (Schema.number bounds mark range) p = refl
+none_of_absent a (Schema.items r e ext) p = refl
+none_of_absent a (Schema.octet_string size mark) p = refl
+none_of_absent a (Schema.bit_string size mark) p = refl
+none_of_absent a (Schema.char_string alphabet size mark) p = refl
+none_of_absent a (Schema.list e size mark) p = refl
+none_of_absent a (Schema.set_of e size mark) p = refl
+none_of_absent a (Schema.sequence o ps ext adds) p = refl
+none_of_absent a (Schema.choice ps adds ext) p = refl
+
+pub absent_refused : (e : EncodeError) (x : State) → IsError OutOfTurn e x → (s : Schema) → RefusesValue e x s no_value
+absent_refused e x h s = record {
+  none = λ f p. none_of_absent (variant_of x.codec) s p;
+  stands = subst (λ k. Stands k x s no_value) (sym h.kind_is) (at_once refl);
   codec_is = h.codec_is;
 }

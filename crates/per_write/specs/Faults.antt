@@ -5,6 +5,7 @@ use Rattle.rasn_types.specs.Codecs.{variant_of}
 use Rattle.rasn_types.specs.Contents.{is_identifier, is_time}
 use Rattle.rasn_types.specs.Values.{Value, whole, octets, bits, characters, elements, bag, bag_of, values, alternative, Side}
 use Rattle.rasn_constraints.specs.Bounds.{allows, holds, fits_i128, Bounds, Size}
+use Rattle.rasn_schema.specs.Absent.{no_value}
 use Rattle.rasn_schema.specs.Canonised.{canonised, canonised_slots}
 use Rattle.rasn_schema.specs.Choices.{alternative_in, choice_schema}
 use Rattle.rasn_schema.specs.Lists.{list_value}
@@ -102,6 +103,10 @@ abbrev pub IsReal : Schema → Value → Type 0
 IsReal Schema.real v = Unit {0}
 IsReal _ _ = ⊥
 
+-- X.680 25.6: a value is absent where one is asked for, as an element of a list
+abbrev pub IsAbsent : Schema → Value → Type 0
+IsAbsent s v = v ≡ no_value
+
 -- X.691 19.2, 19.8: a component that is written, by its schema
 pub data HasPart (s : Schema) (v : Value) : Parts → List (Option Value) → Type 0 where
   part_here : {t : TagTree} {p : Presence} {ps : Parts} {rs : List (Option Value)} → shown p (Some v) ≡ Some true
@@ -136,7 +141,7 @@ pub data StandsIn (fault : Schema → Value → Type 0) : Schema → Value → T
       → StandsIn fault (choice_schema ps marker qs) (alternative d k v)
 
 -- Where a kind's fault stands in a value. No list of additions is longer than its schema's, and no choice that a lawful
--- type writes has a tag of none of its alternatives; the last three are none of a value.
+-- type writes has a tag of none of its alternatives; want of memory and an earlier refusal are none of a value.
 abbrev pub IsInValue : EncodeErrorKind → Schema → Value → Type 0
 IsInValue (SizeConstraintNotSatisfied length lower upper) s v = StandsIn (IsOutOfSize length lower upper) s v
 IsInValue (ValueConstraintNotSatisfied value lower upper) s v = StandsIn (IsOutOfBounds value lower upper) s v
@@ -148,7 +153,7 @@ IsInValue TooManyAdditions s v = ⊥
 IsInValue Below s v = StandsIn IsUnlawful s v
 IsInValue AlreadyFailed s v = ⊥
 IsInValue OutOfMemory s v = ⊥
-IsInValue OutOfTurn s v = ⊥
+IsInValue OutOfTurn s v = StandsIn IsAbsent s v
 
 -- where a kind's fault stands: in the value, or in what the encoder was before
 abbrev pub Stands : EncodeErrorKind → State → Schema → Value → Type 0

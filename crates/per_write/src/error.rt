@@ -52,7 +52,8 @@ pub enum EncodeErrorKind {
     /// Memory ran out.
     #[error("out of memory")]
     OutOfMemory,
-    /// The parts of a record were presented otherwise than its schema lists them.
+    /// The parts of a record were presented otherwise than its schema lists them, or a value is absent where one is
+    /// asked for (X.680 25.6).
     #[error("a part was presented out of turn")]
     OutOfTurn,
 }

@@ -5,6 +5,7 @@
 ghost use Rattle.std.specs.Prelude.{◌≡◌, ◌≤◌, ◌∷◌, [], true, false, Some, OnOk, OnErr, IfOk, IfErr};
 ghost use Rattle.rasn_types.specs.Bits.{to_bits};
 ghost use Rattle.rasn_types.specs.Codecs.{variant_of};
+ghost use Rattle.rasn_traits.specs.Absent.{WritesAbsent};
 ghost use Rattle.rasn_traits.specs.Reals.{WritesNoReal};
 ghost use Rattle.per_bits.specs.Octets.{low_bits_of};
 ghost use Rattle.per_core.specs.Writers.{just, one_by_one};
@@ -182,6 +183,14 @@ impl<A: Allocator + Clone> Writer<A> {
         ensures { WritesNoReal encoder_rules self.old result self.new }
     {
         Err(self.refuse(EncodeErrorKind::RealNotSupported))
+    }
+
+    /// Refuses a value that is absent where one is asked for (X.680 25.6), whatever its schema. Takes no memory.
+    pub fn refuse_absent(&mut self) -> Result<(), EncodeError>
+        requires { self.old.failed ≡ false }
+        ensures { WritesAbsent encoder_rules self.old result self.new }
+    {
+        Err(self.refuse(EncodeErrorKind::OutOfTurn))
     }
 
     /// Refuses where a call was refused before.

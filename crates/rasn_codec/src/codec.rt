@@ -1,7 +1,8 @@
 //! The traits of values that can be encoded and decoded, and those of encoders and decoders.
 
-ghost use Rattle.std.specs.Prelude.{◌≡◌, true};
+ghost use Rattle.std.specs.Prelude.{◌≡◌, false};
 ghost use Rattle.rasn_traits.specs.Calls.{Encodes, Reads};
+ghost use Rattle.rasn_schema.specs.Absent.{no_value};
 ghost use Rattle.rasn_schema.specs.Choices.{choices_of};
 ghost use Rattle.rasn_schema.specs.Fields.{tag_of};
 ghost use Rattle.rasn_traits.specs.Choices.{TakesAlternative};
@@ -28,9 +29,9 @@ pub trait Encode: AsnType {
         ensures { Encodes E.rules (Self.schema constraints.now) (Self.levels self.now) (Self.value self.now)
             encoder.old result encoder.new };
 
-    /// Whether there is a value to write, as there is of each of these types.
-    final fn is_present(&self) -> bool
-        ensures { result ≡ true }
+    /// Whether there is a value to write: of an `Option`, whether it holds one, and of each other type true.
+    fn is_present(&self) -> bool
+        ensures { result ≡ false → Self.value self.now ≡ no_value }
     {
         true
     }

@@ -12,6 +12,7 @@ pub mod integers;
 pub mod kinds;
 pub mod lists;
 pub mod octets;
+pub mod options;
 pub mod plain;
 pub mod record;
 pub mod strings;

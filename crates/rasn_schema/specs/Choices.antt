@@ -1,11 +1,11 @@
 -- Choices (X.680 29): their alternatives, each by its list, before the extension marker or behind it, and its place
 -- there; and their schemas to a number of levels.
 use Rattle.std.specs.Prelude.{ℕ, zero, suc, ◌≡◌, Bool, true, false, nat_le, List, [], ◌∷◌, ◌++◌, length, map, Option}
-use Rattle.std.specs.Prelude.{Some, None, refl}
+use Rattle.std.specs.Prelude.{Some, None}
 use Rattle.std.specs.List.{position_from}
 use Rattle.rasn_types.specs.declared.types.TheConstants.Tag.{EOC}
 use Rattle.rasn_types.specs.Values.{Side, root, added}
-use Rattle.rasn_schema.specs.Fields.{and_tree, choice_tree, field_tag, tag_of, tree_of, trees_of}
+use Rattle.rasn_schema.specs.Fields.{choice_tree, field_tag, tag_of, tree_of, trees_of}
 use Rattle.rasn_schema.specs.Lawful.{are_distinct, same_tag}
 use Rattle.rasn_schema.specs.Levels.{LevelledParts, Levelled, no_level, to_choice}
 use Rattle.rasn_schema.specs.Records.{own_or}

@@ -1,3 +1,4 @@
+pub mod Absent
 pub mod Canonised
 pub mod Choices
 pub mod Components

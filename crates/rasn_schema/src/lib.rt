@@ -13,6 +13,7 @@ pub mod items;
 pub mod kinds;
 pub mod lists;
 pub mod octets;
+pub mod options;
 pub mod plain;
 pub mod schema;
 pub mod strings;

@@ -139,12 +139,27 @@ module _ {E X : Type 0} (rules : EncoderRules E X) where
       record_closed opens listed parts marker additions rs xs k x i j o tt h (λ n le. presents_fields (a n le) (w n le))
 
 -- a call that wrote a record by a function that keeps to its components and to the variant
-pub written_around : {E X : Type 0} {rules : EncoderRules E X} {parts : ℕ → Parts} {returns : X → Result (Unit {0}) E → X → Type 0} {x y : X} {r : Result (Unit {0}) E} (rs : List (Option Value)) (k : ℕ)
-    → WritesAround rules listed parts false no_additions returns x r y
+ordered_around : {E X : Type 0} {rules : EncoderRules E X} {parts : ℕ → Parts} {returns : X → Result (Unit {0}) E → X → Type 0}
+    {x y : X} {r : Result (Unit {0}) E} (order : Order) (rs : List (Option Value)) (k : ℕ) → ((n : ℕ) → IsCounted order (parts n) rs)
+    → WritesAround rules order parts false no_additions returns x r y
     → ((a : X) (q : Result (Unit {0}) E) (b : X) → returns a q b → AtParts parts k (λ ps. WrittenParts rules ps (normals ps rs) a q b)) → KeepsCodec rules.codec returns
-    → Encodes rules (record_at listed parts false no_additions) (suc k) (record_value rs []) x r y
+    → Encodes rules (record_at order parts false no_additions) (suc k) (record_value rs []) x r y
 unfolding normal
-written_around {rules = rules} {parts} rs k w s c = record {
-  law = w.law rs [] k (λ n. tt) (record { keeps = λ a q b z n le. plainly_written rules (parts n) a (normals (parts n) rs) q b ((s a q b z).at n le) });
+ordered_around {rules = rules} {parts} order rs k counted w s c = record {
+  law = w.law rs [] k counted (record { keeps = λ a q b z n le. plainly_written rules (parts n) a (normals (parts n) rs) q b ((s a q b z).at n le) });
   behaves = record { again = w.again; fails = w.fails; kept = w.kept c };
 }
+
+-- a SEQUENCE, and a SET, of which as many components as it has are given
+pub written_around : {E X : Type 0} {rules : EncoderRules E X} {parts : ℕ → Parts} {returns : X → Result (Unit {0}) E → X → Type 0}
+    {x y : X} {r : Result (Unit {0}) E} (rs : List (Option Value)) (k : ℕ) → WritesAround rules listed parts false no_additions returns x r y
+    → ((a : X) (q : Result (Unit {0}) E) (b : X) → returns a q b → AtParts parts k (λ ps. WrittenParts rules ps (normals ps rs) a q b)) → KeepsCodec rules.codec returns
+    → Encodes rules (record_at listed parts false no_additions) (suc k) (record_value rs []) x r y
+written_around rs k w s c = ordered_around listed rs k (λ n. tt) w s c
+
+pub set_around : {E X : Type 0} {rules : EncoderRules E X} {parts : ℕ → Parts} {returns : X → Result (Unit {0}) E → X → Type 0}
+    {x y : X} {r : Result (Unit {0}) E} (rs : List (Option Value)) (k : ℕ) → ((n : ℕ) → IsCounted by_tag (parts n) rs)
+    → WritesAround rules by_tag parts false no_additions returns x r y
+    → ((a : X) (q : Result (Unit {0}) E) (b : X) → returns a q b → AtParts parts k (λ ps. WrittenParts rules ps (normals ps rs) a q b)) → KeepsCodec rules.codec returns
+    → Encodes rules (record_at by_tag parts false no_additions) (suc k) (record_value rs []) x r y
+set_around rs k counted w s c = ordered_around by_tag rs k counted w s c

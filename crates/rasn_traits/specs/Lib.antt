@@ -1,3 +1,4 @@
+pub mod Absent
 pub mod Additions
 pub mod AdditionsRead
 pub mod Bags

@@ -10,6 +10,7 @@ ghost use Rattle.rasn_schema.specs.Schemas.{Schema, by_tag, listed};
 ghost use Rattle.rasn_schema.specs.Forms.{number_schema, octet_schema, bit_schema, character_schema};
 ghost use Rattle.rasn_schema.specs.Forms.{size_of, is_size_marked};
 ghost use Rattle.rasn_schema.specs.Records.{record_at, record_value};
+ghost use Rattle.rasn_traits.specs.Absent.{WritesAbsent};
 ghost use Rattle.rasn_traits.specs.Additions.{ClosesAddition, ClosesGroup, OpensAddition, SkipsAddition};
 ghost use Rattle.rasn_traits.specs.Bags.{ClosesBag, OpensBag, WritesMember};
 ghost use Rattle.rasn_traits.specs.Optionals.{GivesBit};
@@ -107,6 +108,10 @@ pub trait Encoder: Sized {
         identifier: Identifier,
     ) -> Result<(), Self::Error>
         ensures { WritesNoReal rules self.old result self.new };
+
+    /// Refuses a value that is absent where one is asked for (X.680 25.6), whatever its type. Takes no memory.
+    fn encode_absent(&mut self, tag: Tag, identifier: Identifier) -> Result<(), Self::Error>
+        ensures { WritesAbsent rules self.old result self.new };
 
     /// Writes a NULL, no bits (X.691 18). Takes no memory.
     fn encode_null(&mut self, tag: Tag, identifier: Identifier) -> Result<(), Self::Error>

@@ -30,7 +30,7 @@ stands_in_set TooManyAdditions x ps marker qs rs xs h = h
 stands_in_set Below x ps marker qs rs xs h = in_set rs xs h
 stands_in_set AlreadyFailed x ps marker qs rs xs h = h
 stands_in_set OutOfMemory x ps marker qs rs xs h = h
-stands_in_set OutOfTurn x ps marker qs rs xs h = h
+stands_in_set OutOfTurn x ps marker qs rs xs h = in_set rs xs h
 
 -- a SET is refused where the SEQUENCE is
 pub refused_set : (ps : Parts) (marker : Bool) (qs : Parts) (x : State) (rs xs : List (Option Value)) (e : EncodeError)

@@ -1,15 +1,16 @@
 -- No fault stands in an addition group that holds nothing (ITU-T X.691, 19.9).
 use Rattle.std.specs.Prelude.{◌≡◌, ℕ, Bool, true, false, ◌&&◌, not, List, [], ◌∷◌, Option, Some, ℤ, refl}
-use Rattle.std.proofs.Common.{◌∙◌, ap, sym}
+use Rattle.std.proofs.Common.{◌∙◌, ap, sym, subst}
 use Rattle.rasn_types.specs.Values.{Value, same}
 use Rattle.rasn_types.proofs.Values.{slots-as_slots}
+use Rattle.rasn_schema.specs.Absent.{no_value}
 use Rattle.rasn_schema.specs.Lawful.{is_group_schema}
 use Rattle.rasn_schema.specs.Normal.{are_idle, is_idle, is_vacant}
 use Rattle.rasn_schema.specs.Schemas.{Schema, Parts, no_parts, part, Presence, required, optional, group, default}
 use Rattle.per_core.specs.Canon.{shown}
 use Rattle.per_write.specs.declared.error.EncodeErrorKind.{EncodeErrorKind}
 use Rattle.per_write.specs.declared.error.EncodeErrorKind.TheVariants.{SizeConstraintNotSatisfied, ValueConstraintNotSatisfied, AlphabetConstraintNotSatisfied, IntegerTypeConversionFailed, VariantNotInChoice, RealNotSupported, TooManyAdditions, Below, AlreadyFailed, OutOfMemory, OutOfTurn}
-use Rattle.per_write.specs.Faults.{HasPart, part_here, part_behind, StandsIn, at_once, in_part, in_addition, in_element, in_member, in_alternative, in_set, IsForeign, IsOutOfBounds, IsOutOfSize, IsPastBounds, IsReal, IsUnlawful, Stands}
+use Rattle.per_write.specs.Faults.{HasPart, part_here, part_behind, StandsIn, at_once, in_part, in_addition, in_element, in_member, in_alternative, in_set, IsAbsent, IsForeign, IsOutOfBounds, IsOutOfSize, IsPastBounds, IsReal, IsUnlawful, Stands}
 use Rattle.per_write.specs.State.{State}
 
 -- a part that is written isn't idle
@@ -37,11 +38,12 @@ part_busy s v (part t q c ps) (r ∷ rs) (part_behind h) = ap (λ (b : Bool). is
     (part_busy s v ps rs h) ∙ and_nothing (is_idle q r)
 part_busy s v (part t q c ps) (Some w ∷ rs) (part_here e) = ap (λ (b : Bool). b && are_idle ps rs) (written_busy q w e)
 
--- of faults that stand in no group themselves
-none_stands : (fault : Schema → Value → Type 0) → ((s : Schema) (v : Value) → is_group_schema s ≡ true → fault s v → ⊥)
-    → (s : Schema) (v : Value) → is_group_schema s ≡ true → is_vacant s v ≡ true → StandsIn fault s v → ⊥
+-- of faults that stand in no group that holds nothing
+none_stands : (fault : Schema → Value → Type 0)
+    → ((s : Schema) (v : Value) → is_group_schema s ≡ true → is_vacant s v ≡ true → fault s v → ⊥) → (s : Schema)
+    (v : Value) → is_group_schema s ≡ true → is_vacant s v ≡ true → StandsIn fault s v → ⊥
 unfolding is_vacant
-none_stands fault f s v g i (at_once h) = f s v g h
+none_stands fault f s v g i (at_once h) = f s v g i h
 none_stands fault f s v g i (in_part {ps = ps} {qs = qs} {rs = rs} xs h k) =
     let b : are_idle ps rs ≡ false = part_busy _ _ ps rs h in
     let e : (are_idle ps rs && are_idle qs xs) ≡ true = (rw (slots-as_slots rs, slots-as_slots xs) at i) in
@@ -86,18 +88,27 @@ no_unlawful (Schema.sequence o ps m qs) v g h = h
 no_unlawful Schema.cut v g h = h
 no_unlawful _ v g h = absurd cc
 
+-- X.680 25.6: a group that holds nothing is there
+no_absent : (s : Schema) (v : Value) → is_group_schema s ≡ true → is_vacant s v ≡ true → IsAbsent s v → ⊥
+unfolding is_vacant
+no_absent s v g i h = let t : is_vacant s no_value ≡ true = subst (λ w. is_vacant s w ≡ true) h i in absurd cc
+
 pub none_in_vacant : (kind : EncodeErrorKind) (x : State) (s : Schema) (v : Value) → x.failed ≡ false
     → is_group_schema s ≡ true → is_vacant s v ≡ true → Stands kind x s v → ⊥
 none_in_vacant (SizeConstraintNotSatisfied n l u) x s v f g i h = none_stands (IsOutOfSize n l u)
-    (no_size n l u) s v g i h
+    (λ t w k _. no_size n l u t w k) s v g i h
 none_in_vacant (ValueConstraintNotSatisfied n l u) x s v f g i h = none_stands (IsOutOfBounds n l u)
-    (no_bounds n l u) s v g i h
-none_in_vacant AlphabetConstraintNotSatisfied x s v f g i h = none_stands IsForeign no_foreign s v g i h
-none_in_vacant IntegerTypeConversionFailed x s v f g i h = none_stands IsPastBounds no_past s v g i h
+    (λ t w k _. no_bounds n l u t w k) s v g i h
+none_in_vacant AlphabetConstraintNotSatisfied x s v f g i h = none_stands IsForeign
+    (λ t w k _. no_foreign t w k) s v g i h
+none_in_vacant IntegerTypeConversionFailed x s v f g i h = none_stands IsPastBounds
+    (λ t w k _. no_past t w k) s v g i h
 none_in_vacant VariantNotInChoice x s v f g i h = h
-none_in_vacant RealNotSupported x s v f g i h = none_stands IsReal no_real s v g i h
+none_in_vacant RealNotSupported x s v f g i h = none_stands IsReal
+    (λ t w k _. no_real t w k) s v g i h
 none_in_vacant TooManyAdditions x s v f g i h = h
-none_in_vacant Below x s v f g i h = none_stands IsUnlawful no_unlawful s v g i h
+none_in_vacant Below x s v f g i h = none_stands IsUnlawful
+    (λ t w k _. no_unlawful t w k) s v g i h
 none_in_vacant AlreadyFailed x s v f g i h = absurd cc
 none_in_vacant OutOfMemory x s v f g i h = h
-none_in_vacant OutOfTurn x s v f g i h = h
+none_in_vacant OutOfTurn x s v f g i h = none_stands IsAbsent no_absent s v g i h

@@ -1,0 +1,69 @@
+//! RelevanceDistance, of the module ITS-Container.
+
+ghost use Rattle.its_container_denm.specs.declared.relevance_distance.RelevanceDistance.TheVariants.{LessThan1000M, LessThan100M, LessThan10Km, LessThan200M, LessThan500M, LessThan50M, LessThan5Km, Over10Km};
+ghost use Rattle.rasn_below.specs.Components.{all_items};
+ghost use Rattle.rasn_below.specs.Values.{item, root};
+
+use rasn_below::{
+    ByKind, EnumeratedKind, ItemCounts, Items, OfKind, Place, item_at, item_counts, place_of_item,
+};
+
+/// RelevanceDistance ::= ENUMERATED { lessThan50m(0), lessThan100m(1), lessThan200m(2), lessThan500m(3),
+///     lessThan1000m(4), lessThan5km(5), lessThan10km(6), over10km(7) }
+#[derive(Clone, Copy, Debug, PartialEq, Eq)]
+pub enum RelevanceDistance {
+    LessThan50M,
+    LessThan100M,
+    LessThan200M,
+    LessThan500M,
+    LessThan1000M,
+    LessThan5Km,
+    LessThan10Km,
+    Over10Km,
+}
+
+macro_rules! items {
+    ($to:ident $($with:ident)*) => {
+        $to! { [$($with)*]
+            LessThan50M;
+            LessThan100M;
+            LessThan200M;
+            LessThan500M;
+            LessThan1000M;
+            LessThan5Km;
+            LessThan10Km;
+            Over10Km;
+        }
+    };
+}
+
+impl OfKind for RelevanceDistance {
+    type Kind = EnumeratedKind;
+}
+
+impl Items for RelevanceDistance {
+    const ITEMS: ItemCounts = items!(item_counts);
+
+    ghost ITEMS = { all_items 8 };
+
+    ghost item = { elim [
+      | LessThan50M ↦ item root 0
+      | LessThan100M ↦ item root 1
+      | LessThan200M ↦ item root 2
+      | LessThan500M ↦ item root 3
+      | LessThan1000M ↦ item root 4
+      | LessThan5Km ↦ item root 5
+      | LessThan10Km ↦ item root 6
+      | Over10Km ↦ item root 7
+    ] };
+
+    fn place(&self) -> Place {
+        items!(place_of_item self)
+    }
+
+    fn at(place: Place) -> Option<RelevanceDistance> {
+        items!(item_at place)
+    }
+}
+
+impl ByKind for RelevanceDistance {}

@@ -1,0 +1,57 @@
+//! RelevanceTrafficDirection, of the module ITS-Container.
+
+ghost use Rattle.its_container_denm.specs.declared.relevance_traffic_direction.RelevanceTrafficDirection.TheVariants.{AllTrafficDirections, DownstreamTraffic, OppositeTraffic, UpstreamTraffic};
+ghost use Rattle.rasn_below.specs.Components.{all_items};
+ghost use Rattle.rasn_below.specs.Values.{item, root};
+
+use rasn_below::{
+    ByKind, EnumeratedKind, ItemCounts, Items, OfKind, Place, item_at, item_counts, place_of_item,
+};
+
+/// RelevanceTrafficDirection ::= ENUMERATED { allTrafficDirections(0), upstreamTraffic(1), downstreamTraffic(2),
+///     oppositeTraffic(3) }
+#[derive(Clone, Copy, Debug, PartialEq, Eq)]
+pub enum RelevanceTrafficDirection {
+    AllTrafficDirections,
+    UpstreamTraffic,
+    DownstreamTraffic,
+    OppositeTraffic,
+}
+
+macro_rules! items {
+    ($to:ident $($with:ident)*) => {
+        $to! { [$($with)*]
+            AllTrafficDirections;
+            UpstreamTraffic;
+            DownstreamTraffic;
+            OppositeTraffic;
+        }
+    };
+}
+
+impl OfKind for RelevanceTrafficDirection {
+    type Kind = EnumeratedKind;
+}
+
+impl Items for RelevanceTrafficDirection {
+    const ITEMS: ItemCounts = items!(item_counts);
+
+    ghost ITEMS = { all_items 4 };
+
+    ghost item = { elim [
+      | AllTrafficDirections ↦ item root 0
+      | UpstreamTraffic ↦ item root 1
+      | DownstreamTraffic ↦ item root 2
+      | OppositeTraffic ↦ item root 3
+    ] };
+
+    fn place(&self) -> Place {
+        items!(place_of_item self)
+    }
+
+    fn at(place: Place) -> Option<RelevanceTrafficDirection> {
+        items!(item_at place)
+    }
+}
+
+impl ByKind for RelevanceTrafficDirection {}

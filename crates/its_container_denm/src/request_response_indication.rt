@@ -1,0 +1,50 @@
+//! RequestResponseIndication, of the module ITS-Container.
+
+ghost use Rattle.its_container_denm.specs.declared.request_response_indication.RequestResponseIndication.TheVariants.{Request, Response};
+ghost use Rattle.rasn_below.specs.Components.{all_items};
+ghost use Rattle.rasn_below.specs.Values.{item, root};
+
+use rasn_below::{
+    ByKind, EnumeratedKind, ItemCounts, Items, OfKind, Place, item_at, item_counts, place_of_item,
+};
+
+/// RequestResponseIndication ::= ENUMERATED { request(0), response(1) }
+#[derive(Clone, Copy, Debug, PartialEq, Eq)]
+pub enum RequestResponseIndication {
+    Request,
+    Response,
+}
+
+macro_rules! items {
+    ($to:ident $($with:ident)*) => {
+        $to! { [$($with)*]
+            Request;
+            Response;
+        }
+    };
+}
+
+impl OfKind for RequestResponseIndication {
+    type Kind = EnumeratedKind;
+}
+
+impl Items for RequestResponseIndication {
+    const ITEMS: ItemCounts = items!(item_counts);
+
+    ghost ITEMS = { all_items 2 };
+
+    ghost item = { elim [
+      | Request ↦ item root 0
+      | Response ↦ item root 1
+    ] };
+
+    fn place(&self) -> Place {
+        items!(place_of_item self)
+    }
+
+    fn at(place: Place) -> Option<RequestResponseIndication> {
+        items!(item_at place)
+    }
+}
+
+impl ByKind for RequestResponseIndication {}

@@ -1,0 +1,58 @@
+//! RoadType, of the module ITS-Container.
+
+ghost use Rattle.its_container_denm.specs.declared.road_type.RoadType.TheVariants.{NonUrbanNoStructuralSeparationToOppositeLanes, NonUrbanWithStructuralSeparationToOppositeLanes, UrbanNoStructuralSeparationToOppositeLanes, UrbanWithStructuralSeparationToOppositeLanes};
+ghost use Rattle.rasn_below.specs.Components.{all_items};
+ghost use Rattle.rasn_below.specs.Values.{item, root};
+
+use rasn_below::{
+    ByKind, EnumeratedKind, ItemCounts, Items, OfKind, Place, item_at, item_counts, place_of_item,
+};
+
+/// RoadType ::= ENUMERATED { urban-NoStructuralSeparationToOppositeLanes(0),
+///     urban-WithStructuralSeparationToOppositeLanes(1), nonUrban-NoStructuralSeparationToOppositeLanes(2),
+///     nonUrban-WithStructuralSeparationToOppositeLanes(3) }
+#[derive(Clone, Copy, Debug, PartialEq, Eq)]
+pub enum RoadType {
+    UrbanNoStructuralSeparationToOppositeLanes,
+    UrbanWithStructuralSeparationToOppositeLanes,
+    NonUrbanNoStructuralSeparationToOppositeLanes,
+    NonUrbanWithStructuralSeparationToOppositeLanes,
+}
+
+macro_rules! items {
+    ($to:ident $($with:ident)*) => {
+        $to! { [$($with)*]
+            UrbanNoStructuralSeparationToOppositeLanes;
+            UrbanWithStructuralSeparationToOppositeLanes;
+            NonUrbanNoStructuralSeparationToOppositeLanes;
+            NonUrbanWithStructuralSeparationToOppositeLanes;
+        }
+    };
+}
+
+impl OfKind for RoadType {
+    type Kind = EnumeratedKind;
+}
+
+impl Items for RoadType {
+    const ITEMS: ItemCounts = items!(item_counts);
+
+    ghost ITEMS = { all_items 4 };
+
+    ghost item = { elim [
+      | UrbanNoStructuralSeparationToOppositeLanes ↦ item root 0
+      | UrbanWithStructuralSeparationToOppositeLanes ↦ item root 1
+      | NonUrbanNoStructuralSeparationToOppositeLanes ↦ item root 2
+      | NonUrbanWithStructuralSeparationToOppositeLanes ↦ item root 3
+    ] };
+
+    fn place(&self) -> Place {
+        items!(place_of_item self)
+    }
+
+    fn at(place: Place) -> Option<RoadType> {
+        items!(item_at place)
+    }
+}
+
+impl ByKind for RoadType {}

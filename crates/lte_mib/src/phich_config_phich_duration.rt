@@ -1,0 +1,50 @@
+//! PhichConfigPhichDuration, of the module EUTRA-RRC-Definitions.
+
+ghost use Rattle.lte_mib.specs.declared.phich_config_phich_duration.PhichConfigPhichDuration.TheVariants.{Extended, Normal};
+ghost use Rattle.rasn_below.specs.Components.{all_items};
+ghost use Rattle.rasn_below.specs.Values.{item, root};
+
+use rasn_below::{
+    ByKind, EnumeratedKind, ItemCounts, Items, OfKind, Place, item_at, item_counts, place_of_item,
+};
+
+/// PHICH-Config.phich-Duration ::= ENUMERATED { normal(0), extended(1) }
+#[derive(Clone, Copy, Debug, PartialEq, Eq)]
+pub enum PhichConfigPhichDuration {
+    Normal,
+    Extended,
+}
+
+macro_rules! items {
+    ($to:ident $($with:ident)*) => {
+        $to! { [$($with)*]
+            Normal;
+            Extended;
+        }
+    };
+}
+
+impl OfKind for PhichConfigPhichDuration {
+    type Kind = EnumeratedKind;
+}
+
+impl Items for PhichConfigPhichDuration {
+    const ITEMS: ItemCounts = items!(item_counts);
+
+    ghost ITEMS = { all_items 2 };
+
+    ghost item = { elim [
+      | Normal ↦ item root 0
+      | Extended ↦ item root 1
+    ] };
+
+    fn place(&self) -> Place {
+        items!(place_of_item self)
+    }
+
+    fn at(place: Place) -> Option<PhichConfigPhichDuration> {
+        items!(item_at place)
+    }
+}
+
+impl ByKind for PhichConfigPhichDuration {}

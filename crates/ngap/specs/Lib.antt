@@ -1,0 +1,4 @@
+pub mod NgapCommonDataTypes
+pub mod NgapContainers
+pub mod NgapPduContents
+pub mod NgapPduDescriptions

@@ -1,0 +1,66 @@
+//! SuccessfulOutcome, of the module NGAP-PDU-Descriptions.
+
+ghost use Rattle.ngap.specs.NgapPduDescriptions.{successful_outcome_root};
+ghost use Rattle.rasn_below.specs.Components.{fields_of};
+ghost use Rattle.rasn_below.specs.Values.{octets, whole};
+ghost use Rattle.std.specs.Prelude.{Some, [], pos, refl, ◌∷◌};
+
+use crate::aliases::ProcedureCode;
+use crate::criticality::Criticality;
+use rasn_below::types::Any;
+use rasn_below::{
+    AsnType, Components, Constraint, Decoder, Encoder, Fields, Record, bounds, decode_components,
+    encode_components, fields,
+};
+
+/// SuccessfulOutcome ::= SEQUENCE {
+///     procedureCode ProcedureCode,
+///     criticality Criticality,
+///     value NGAP-ELEMENTARY-PROCEDURE.&SuccessfulOutcome
+/// }
+#[derive(Debug, Drop, PartialEq)]
+pub struct SuccessfulOutcome {
+    pub procedure_code: ProcedureCode,
+    pub criticality: Criticality,
+    pub value: Any,
+}
+
+macro_rules! components {
+    ($to:ident $($with:ident)*) => {
+        $to! { [$($with)*]
+            required 0 "procedureCode" procedure_code: ProcedureCode [0..=255];
+            required 1 "criticality" criticality: Criticality [];
+            required 2 "value" value: Any [];
+        }
+    };
+}
+
+const FIELDS: Fields = components!(fields);
+
+const BOUNDS: &[&[Constraint]] = components!(bounds);
+
+impl Components for SuccessfulOutcome {
+    const COMPONENTS: Fields = FIELDS;
+
+    ghost COMPONENTS = { fields_of successful_outcome_root };
+
+    ghost components = { successful_outcome_root };
+
+    ghost contents = { λ x.
+        Some (whole (pos x.procedure_code)) ∷
+        Some (⟦<Criticality as AsnType>⟧.value x.criticality) ∷
+        Some (octets x.value) ∷
+        [] };
+
+    ghost described = { refl };
+}
+
+impl Record for SuccessfulOutcome {
+    fn encode_components<E: Encoder>(&self, encoder: &mut E) -> Result<(), E::Error> {
+        components!(encode_components self encoder)
+    }
+
+    fn decode_components<D: Decoder>(decoder: &mut D) -> Result<Self, D::Error> {
+        components!(decode_components decoder)
+    }
+}

@@ -1,0 +1,51 @@
+//! CEmodeBrestricted, of the module NGAP-IEs.
+
+ghost use Rattle.ngap_downlink.specs.declared.c_emode_brestricted.CEmodeBrestricted.TheVariants.{NotRestricted, Restricted};
+ghost use Rattle.rasn_below.specs.Components.{extensible_items};
+ghost use Rattle.rasn_below.specs.Values.{item, root};
+
+use rasn_below::{
+    ByKind, EnumeratedKind, ItemCounts, Items, OfKind, Place, item_at, item_counts, place_of_item,
+};
+
+/// CEmodeBrestricted ::= ENUMERATED { restricted(0), not-restricted(1), ... }
+#[derive(Clone, Copy, Debug, PartialEq, Eq)]
+pub enum CEmodeBrestricted {
+    Restricted,
+    NotRestricted,
+}
+
+macro_rules! items {
+    ($to:ident $($with:ident)*) => {
+        $to! { [$($with)*]
+            Restricted;
+            NotRestricted;
+            ...;
+        }
+    };
+}
+
+impl OfKind for CEmodeBrestricted {
+    type Kind = EnumeratedKind;
+}
+
+impl Items for CEmodeBrestricted {
+    const ITEMS: ItemCounts = items!(item_counts);
+
+    ghost ITEMS = { extensible_items 2 0 };
+
+    ghost item = { elim [
+      | Restricted ↦ item root 0
+      | NotRestricted ↦ item root 1
+    ] };
+
+    fn place(&self) -> Place {
+        items!(place_of_item self)
+    }
+
+    fn at(place: Place) -> Option<CEmodeBrestricted> {
+        items!(item_at place)
+    }
+}
+
+impl ByKind for CEmodeBrestricted {}

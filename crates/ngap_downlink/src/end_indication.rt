@@ -1,0 +1,51 @@
+//! EndIndication, of the module NGAP-IEs.
+
+ghost use Rattle.ngap_downlink.specs.declared.end_indication.EndIndication.TheVariants.{FurtherDataExists, NoFurtherData};
+ghost use Rattle.rasn_below.specs.Components.{extensible_items};
+ghost use Rattle.rasn_below.specs.Values.{item, root};
+
+use rasn_below::{
+    ByKind, EnumeratedKind, ItemCounts, Items, OfKind, Place, item_at, item_counts, place_of_item,
+};
+
+/// EndIndication ::= ENUMERATED { no-further-data(0), further-data-exists(1), ... }
+#[derive(Clone, Copy, Debug, PartialEq, Eq)]
+pub enum EndIndication {
+    NoFurtherData,
+    FurtherDataExists,
+}
+
+macro_rules! items {
+    ($to:ident $($with:ident)*) => {
+        $to! { [$($with)*]
+            NoFurtherData;
+            FurtherDataExists;
+            ...;
+        }
+    };
+}
+
+impl OfKind for EndIndication {
+    type Kind = EnumeratedKind;
+}
+
+impl Items for EndIndication {
+    const ITEMS: ItemCounts = items!(item_counts);
+
+    ghost ITEMS = { extensible_items 2 0 };
+
+    ghost item = { elim [
+      | NoFurtherData ↦ item root 0
+      | FurtherDataExists ↦ item root 1
+    ] };
+
+    fn place(&self) -> Place {
+        items!(place_of_item self)
+    }
+
+    fn at(place: Place) -> Option<EndIndication> {
+        items!(item_at place)
+    }
+}
+
+impl ByKind for EndIndication {}

@@ -1,0 +1,48 @@
+//! EnhancedCoverageRestriction, of the module NGAP-IEs.
+
+ghost use Rattle.ngap_downlink.specs.declared.enhanced_coverage_restriction.EnhancedCoverageRestriction.TheVariants.{Restricted};
+ghost use Rattle.rasn_below.specs.Components.{extensible_items};
+ghost use Rattle.rasn_below.specs.Values.{item, root};
+
+use rasn_below::{
+    ByKind, EnumeratedKind, ItemCounts, Items, OfKind, Place, item_at, item_counts, place_of_item,
+};
+
+/// Enhanced-CoverageRestriction ::= ENUMERATED { restricted(0), ... }
+#[derive(Clone, Copy, Debug, PartialEq, Eq)]
+pub enum EnhancedCoverageRestriction {
+    Restricted,
+}
+
+macro_rules! items {
+    ($to:ident $($with:ident)*) => {
+        $to! { [$($with)*]
+            Restricted;
+            ...;
+        }
+    };
+}
+
+impl OfKind for EnhancedCoverageRestriction {
+    type Kind = EnumeratedKind;
+}
+
+impl Items for EnhancedCoverageRestriction {
+    const ITEMS: ItemCounts = items!(item_counts);
+
+    ghost ITEMS = { extensible_items 1 0 };
+
+    ghost item = { elim [
+      | Restricted ↦ item root 0
+    ] };
+
+    fn place(&self) -> Place {
+        items!(place_of_item self)
+    }
+
+    fn at(place: Place) -> Option<EnhancedCoverageRestriction> {
+        items!(item_at place)
+    }
+}
+
+impl ByKind for EnhancedCoverageRestriction {}

@@ -1,0 +1,51 @@
+//! SrvccOperationPossible, of the module NGAP-IEs.
+
+ghost use Rattle.ngap_downlink.specs.declared.srvcc_operation_possible.SrvccOperationPossible.TheVariants.{NotPossible, Possible};
+ghost use Rattle.rasn_below.specs.Components.{extensible_items};
+ghost use Rattle.rasn_below.specs.Values.{item, root};
+
+use rasn_below::{
+    ByKind, EnumeratedKind, ItemCounts, Items, OfKind, Place, item_at, item_counts, place_of_item,
+};
+
+/// SRVCCOperationPossible ::= ENUMERATED { possible(0), notPossible(1), ... }
+#[derive(Clone, Copy, Debug, PartialEq, Eq)]
+pub enum SrvccOperationPossible {
+    Possible,
+    NotPossible,
+}
+
+macro_rules! items {
+    ($to:ident $($with:ident)*) => {
+        $to! { [$($with)*]
+            Possible;
+            NotPossible;
+            ...;
+        }
+    };
+}
+
+impl OfKind for SrvccOperationPossible {
+    type Kind = EnumeratedKind;
+}
+
+impl Items for SrvccOperationPossible {
+    const ITEMS: ItemCounts = items!(item_counts);
+
+    ghost ITEMS = { extensible_items 2 0 };
+
+    ghost item = { elim [
+      | Possible ↦ item root 0
+      | NotPossible ↦ item root 1
+    ] };
+
+    fn place(&self) -> Place {
+        items!(place_of_item self)
+    }
+
+    fn at(place: Place) -> Option<SrvccOperationPossible> {
+        items!(item_at place)
+    }
+}
+
+impl ByKind for SrvccOperationPossible {}

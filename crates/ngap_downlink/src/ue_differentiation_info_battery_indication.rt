@@ -1,0 +1,55 @@
+//! UeDifferentiationInfoBatteryIndication, of the module NGAP-IEs.
+
+ghost use Rattle.ngap_downlink.specs.declared.ue_differentiation_info_battery_indication.UeDifferentiationInfoBatteryIndication.TheVariants.{BatteryPowered, BatteryPoweredNotRechargeableOrReplaceable, NotBatteryPowered};
+ghost use Rattle.rasn_below.specs.Components.{extensible_items};
+ghost use Rattle.rasn_below.specs.Values.{item, root};
+
+use rasn_below::{
+    ByKind, EnumeratedKind, ItemCounts, Items, OfKind, Place, item_at, item_counts, place_of_item,
+};
+
+/// UE-DifferentiationInfo.batteryIndication ::= ENUMERATED { battery-powered(0),
+///     battery-powered-not-rechargeable-or-replaceable(1), not-battery-powered(2), ... }
+#[derive(Clone, Copy, Debug, PartialEq, Eq)]
+pub enum UeDifferentiationInfoBatteryIndication {
+    BatteryPowered,
+    BatteryPoweredNotRechargeableOrReplaceable,
+    NotBatteryPowered,
+}
+
+macro_rules! items {
+    ($to:ident $($with:ident)*) => {
+        $to! { [$($with)*]
+            BatteryPowered;
+            BatteryPoweredNotRechargeableOrReplaceable;
+            NotBatteryPowered;
+            ...;
+        }
+    };
+}
+
+impl OfKind for UeDifferentiationInfoBatteryIndication {
+    type Kind = EnumeratedKind;
+}
+
+impl Items for UeDifferentiationInfoBatteryIndication {
+    const ITEMS: ItemCounts = items!(item_counts);
+
+    ghost ITEMS = { extensible_items 3 0 };
+
+    ghost item = { elim [
+      | BatteryPowered ↦ item root 0
+      | BatteryPoweredNotRechargeableOrReplaceable ↦ item root 1
+      | NotBatteryPowered ↦ item root 2
+    ] };
+
+    fn place(&self) -> Place {
+        items!(place_of_item self)
+    }
+
+    fn at(place: Place) -> Option<UeDifferentiationInfoBatteryIndication> {
+        items!(item_at place)
+    }
+}
+
+impl ByKind for UeDifferentiationInfoBatteryIndication {}

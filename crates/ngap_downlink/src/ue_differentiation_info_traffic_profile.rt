@@ -1,0 +1,55 @@
+//! UeDifferentiationInfoTrafficProfile, of the module NGAP-IEs.
+
+ghost use Rattle.ngap_downlink.specs.declared.ue_differentiation_info_traffic_profile.UeDifferentiationInfoTrafficProfile.TheVariants.{DualPackets, MultiplePackets, SinglePacket};
+ghost use Rattle.rasn_below.specs.Components.{extensible_items};
+ghost use Rattle.rasn_below.specs.Values.{item, root};
+
+use rasn_below::{
+    ByKind, EnumeratedKind, ItemCounts, Items, OfKind, Place, item_at, item_counts, place_of_item,
+};
+
+/// UE-DifferentiationInfo.trafficProfile ::= ENUMERATED { single-packet(0), dual-packets(1), multiple-packets(2),
+///     ... }
+#[derive(Clone, Copy, Debug, PartialEq, Eq)]
+pub enum UeDifferentiationInfoTrafficProfile {
+    SinglePacket,
+    DualPackets,
+    MultiplePackets,
+}
+
+macro_rules! items {
+    ($to:ident $($with:ident)*) => {
+        $to! { [$($with)*]
+            SinglePacket;
+            DualPackets;
+            MultiplePackets;
+            ...;
+        }
+    };
+}
+
+impl OfKind for UeDifferentiationInfoTrafficProfile {
+    type Kind = EnumeratedKind;
+}
+
+impl Items for UeDifferentiationInfoTrafficProfile {
+    const ITEMS: ItemCounts = items!(item_counts);
+
+    ghost ITEMS = { extensible_items 3 0 };
+
+    ghost item = { elim [
+      | SinglePacket ↦ item root 0
+      | DualPackets ↦ item root 1
+      | MultiplePackets ↦ item root 2
+    ] };
+
+    fn place(&self) -> Place {
+        items!(place_of_item self)
+    }
+
+    fn at(place: Place) -> Option<UeDifferentiationInfoTrafficProfile> {
+        items!(item_at place)
+    }
+}
+
+impl ByKind for UeDifferentiationInfoTrafficProfile {}

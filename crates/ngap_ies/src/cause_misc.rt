@@ -1,0 +1,64 @@
+//! CauseMisc, of the module NGAP-IEs.
+
+ghost use Rattle.ngap_ies.specs.declared.cause_misc.CauseMisc.TheVariants.{ControlProcessingOverload, HardwareFailure, NotEnoughUserPlaneProcessingResources, OmIntervention, UnknownPlmnOrSnpn, Unspecified};
+ghost use Rattle.rasn_below.specs.Components.{extensible_items};
+ghost use Rattle.rasn_below.specs.Values.{item, root};
+
+use rasn_below::{
+    ByKind, EnumeratedKind, ItemCounts, Items, OfKind, Place, item_at, item_counts, place_of_item,
+};
+
+/// CauseMisc ::= ENUMERATED { control-processing-overload(0), not-enough-user-plane-processing-resources(1),
+///     hardware-failure(2), om-intervention(3), unknown-PLMN-or-SNPN(4), unspecified(5), ... }
+#[derive(Clone, Copy, Debug, PartialEq, Eq)]
+pub enum CauseMisc {
+    ControlProcessingOverload,
+    NotEnoughUserPlaneProcessingResources,
+    HardwareFailure,
+    OmIntervention,
+    UnknownPlmnOrSnpn,
+    Unspecified,
+}
+
+macro_rules! items {
+    ($to:ident $($with:ident)*) => {
+        $to! { [$($with)*]
+            ControlProcessingOverload;
+            NotEnoughUserPlaneProcessingResources;
+            HardwareFailure;
+            OmIntervention;
+            UnknownPlmnOrSnpn;
+            Unspecified;
+            ...;
+        }
+    };
+}
+
+impl OfKind for CauseMisc {
+    type Kind = EnumeratedKind;
+}
+
+impl Items for CauseMisc {
+    const ITEMS: ItemCounts = items!(item_counts);
+
+    ghost ITEMS = { extensible_items 6 0 };
+
+    ghost item = { elim [
+      | ControlProcessingOverload ↦ item root 0
+      | NotEnoughUserPlaneProcessingResources ↦ item root 1
+      | HardwareFailure ↦ item root 2
+      | OmIntervention ↦ item root 3
+      | UnknownPlmnOrSnpn ↦ item root 4
+      | Unspecified ↦ item root 5
+    ] };
+
+    fn place(&self) -> Place {
+        items!(place_of_item self)
+    }
+
+    fn at(place: Place) -> Option<CauseMisc> {
+        items!(item_at place)
+    }
+}
+
+impl ByKind for CauseMisc {}

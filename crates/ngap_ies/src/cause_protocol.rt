@@ -1,0 +1,68 @@
+//! CauseProtocol, of the module NGAP-IEs.
+
+ghost use Rattle.ngap_ies.specs.declared.cause_protocol.CauseProtocol.TheVariants.{AbstractSyntaxErrorFalselyConstructedMessage, AbstractSyntaxErrorIgnoreAndNotify, AbstractSyntaxErrorReject, MessageNotCompatibleWithReceiverState, SemanticError, TransferSyntaxError, Unspecified};
+ghost use Rattle.rasn_below.specs.Components.{extensible_items};
+ghost use Rattle.rasn_below.specs.Values.{item, root};
+
+use rasn_below::{
+    ByKind, EnumeratedKind, ItemCounts, Items, OfKind, Place, item_at, item_counts, place_of_item,
+};
+
+/// CauseProtocol ::= ENUMERATED { transfer-syntax-error(0), abstract-syntax-error-reject(1),
+///     abstract-syntax-error-ignore-and-notify(2), message-not-compatible-with-receiver-state(3),
+///     semantic-error(4), abstract-syntax-error-falsely-constructed-message(5), unspecified(6), ... }
+#[derive(Clone, Copy, Debug, PartialEq, Eq)]
+pub enum CauseProtocol {
+    TransferSyntaxError,
+    AbstractSyntaxErrorReject,
+    AbstractSyntaxErrorIgnoreAndNotify,
+    MessageNotCompatibleWithReceiverState,
+    SemanticError,
+    AbstractSyntaxErrorFalselyConstructedMessage,
+    Unspecified,
+}
+
+macro_rules! items {
+    ($to:ident $($with:ident)*) => {
+        $to! { [$($with)*]
+            TransferSyntaxError;
+            AbstractSyntaxErrorReject;
+            AbstractSyntaxErrorIgnoreAndNotify;
+            MessageNotCompatibleWithReceiverState;
+            SemanticError;
+            AbstractSyntaxErrorFalselyConstructedMessage;
+            Unspecified;
+            ...;
+        }
+    };
+}
+
+impl OfKind for CauseProtocol {
+    type Kind = EnumeratedKind;
+}
+
+impl Items for CauseProtocol {
+    const ITEMS: ItemCounts = items!(item_counts);
+
+    ghost ITEMS = { extensible_items 7 0 };
+
+    ghost item = { elim [
+      | TransferSyntaxError ↦ item root 0
+      | AbstractSyntaxErrorReject ↦ item root 1
+      | AbstractSyntaxErrorIgnoreAndNotify ↦ item root 2
+      | MessageNotCompatibleWithReceiverState ↦ item root 3
+      | SemanticError ↦ item root 4
+      | AbstractSyntaxErrorFalselyConstructedMessage ↦ item root 5
+      | Unspecified ↦ item root 6
+    ] };
+
+    fn place(&self) -> Place {
+        items!(place_of_item self)
+    }
+
+    fn at(place: Place) -> Option<CauseProtocol> {
+        items!(item_at place)
+    }
+}
+
+impl ByKind for CauseProtocol {}

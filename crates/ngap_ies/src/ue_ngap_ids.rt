@@ -1,0 +1,87 @@
+//! UeNgapIds, of the module NGAP-IEs.
+
+ghost use Rattle.ngap_ies.specs.NgapIes.{ue_ngap_ids_root};
+ghost use Rattle.ngap_ies.specs.declared.ue_ngap_ids.UeNgapIds.TheVariants.{AmfUeNgapId, ChoiceExtensions, UeNgapIdPair};
+ghost use Rattle.rasn_below.specs.Components.{chosen, variants_in};
+ghost use Rattle.rasn_below.specs.Values.{whole};
+ghost use Rattle.std.specs.Prelude.{None, pos, refl};
+
+use crate::aliases::AmfUeNgapId;
+use crate::ue_ngap_id_pair::UeNgapIdPair;
+use ngap::aliases::ProtocolIeSingleContainer;
+use rasn_below::{
+    Alternatives, AsnType, ByKind, ChoiceKind, CodedAlternatives, Constraint, Decoder, Encoder,
+    OfKind, Tag, Variants, alternative_bounds, decode_alternative, encode_alternative, variants,
+};
+
+/// UE-NGAP-IDs ::= CHOICE {
+///     uE-NGAP-ID-pair UE-NGAP-ID-pair,
+///     aMF-UE-NGAP-ID AMF-UE-NGAP-ID,
+///     choice-Extensions ProtocolIE-SingleContainer
+/// }
+#[derive(Debug, Drop, PartialEq)]
+pub enum UeNgapIds {
+    UeNgapIdPair(UeNgapIdPair),
+    AmfUeNgapId(AmfUeNgapId),
+    ChoiceExtensions(ProtocolIeSingleContainer),
+}
+
+macro_rules! alternatives {
+    ($to:ident $($with:ident)*) => {
+        $to! { [$($with)*]
+            0 "uE-NGAP-ID-pair" UeNgapIdPair: UeNgapIdPair [];
+            1 "aMF-UE-NGAP-ID" AmfUeNgapId: AmfUeNgapId [0..=1_099_511_627_775];
+            2 "choice-Extensions" ChoiceExtensions: ProtocolIeSingleContainer [];
+        }
+    };
+}
+
+const VARIANTS: Variants = alternatives!(variants);
+
+const BOUNDS: &[&[Constraint]] = alternatives!(alternative_bounds);
+
+impl OfKind for UeNgapIds {
+    type Kind = ChoiceKind;
+}
+
+impl Alternatives for UeNgapIds {
+    const ALTERNATIVES: Variants = VARIANTS;
+
+    ghost ALTERNATIVES = { variants_in ue_ngap_ids_root };
+
+    const ADDED_ALTERNATIVES: Option<Variants> = None;
+
+    ghost ADDED_ALTERNATIVES = { None };
+
+    ghost alternatives = { ue_ngap_ids_root };
+
+    ghost chosen = { elim [
+      | UeNgapIdPair v ↦ chosen 0 (⟦<UeNgapIdPair as AsnType>⟧.value v)
+      | AmfUeNgapId v ↦ chosen 1 (whole (pos v))
+      | ChoiceExtensions v ↦ chosen 2 (⟦<ProtocolIeSingleContainer as AsnType>⟧.value v)
+    ] };
+
+    ghost depth = { elim [
+      | UeNgapIdPair v ↦ ⟦<UeNgapIdPair as AsnType>⟧.levels v
+      | AmfUeNgapId _ ↦ 0
+      | ChoiceExtensions _ ↦ 1
+    ] };
+
+    ghost described = { refl };
+
+    ghost extends = { refl };
+
+    ghost are_variants = { record { distinct = refl; few = refl } };
+}
+
+impl CodedAlternatives for UeNgapIds {
+    fn encode_alternative<E: Encoder>(&self, encoder: &mut E) -> Result<Tag, E::Error> {
+        alternatives!(encode_alternative self encoder)
+    }
+
+    fn decode_alternative<D: Decoder>(decoder: &mut D, tag: Tag) -> Result<Self, D::Error> {
+        alternatives!(decode_alternative decoder tag)
+    }
+}
+
+impl ByKind for UeNgapIds {}

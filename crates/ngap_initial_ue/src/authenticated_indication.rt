@@ -1,0 +1,48 @@
+//! AuthenticatedIndication, of the module NGAP-IEs.
+
+ghost use Rattle.ngap_initial_ue.specs.declared.authenticated_indication.AuthenticatedIndication.TheVariants.{True};
+ghost use Rattle.rasn_below.specs.Components.{extensible_items};
+ghost use Rattle.rasn_below.specs.Values.{item, root};
+
+use rasn_below::{
+    ByKind, EnumeratedKind, ItemCounts, Items, OfKind, Place, item_at, item_counts, place_of_item,
+};
+
+/// AuthenticatedIndication ::= ENUMERATED { true(0), ... }
+#[derive(Clone, Copy, Debug, PartialEq, Eq)]
+pub enum AuthenticatedIndication {
+    True,
+}
+
+macro_rules! items {
+    ($to:ident $($with:ident)*) => {
+        $to! { [$($with)*]
+            True;
+            ...;
+        }
+    };
+}
+
+impl OfKind for AuthenticatedIndication {
+    type Kind = EnumeratedKind;
+}
+
+impl Items for AuthenticatedIndication {
+    const ITEMS: ItemCounts = items!(item_counts);
+
+    ghost ITEMS = { extensible_items 1 0 };
+
+    ghost item = { elim [
+      | True ↦ item root 0
+    ] };
+
+    fn place(&self) -> Place {
+        items!(place_of_item self)
+    }
+
+    fn at(place: Place) -> Option<AuthenticatedIndication> {
+        items!(item_at place)
+    }
+}
+
+impl ByKind for AuthenticatedIndication {}

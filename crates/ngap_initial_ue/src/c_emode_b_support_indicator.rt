@@ -1,0 +1,48 @@
+//! CEmodeBSupportIndicator, of the module NGAP-IEs.
+
+ghost use Rattle.ngap_initial_ue.specs.declared.c_emode_b_support_indicator.CEmodeBSupportIndicator.TheVariants.{Supported};
+ghost use Rattle.rasn_below.specs.Components.{extensible_items};
+ghost use Rattle.rasn_below.specs.Values.{item, root};
+
+use rasn_below::{
+    ByKind, EnumeratedKind, ItemCounts, Items, OfKind, Place, item_at, item_counts, place_of_item,
+};
+
+/// CEmodeBSupport-Indicator ::= ENUMERATED { supported(0), ... }
+#[derive(Clone, Copy, Debug, PartialEq, Eq)]
+pub enum CEmodeBSupportIndicator {
+    Supported,
+}
+
+macro_rules! items {
+    ($to:ident $($with:ident)*) => {
+        $to! { [$($with)*]
+            Supported;
+            ...;
+        }
+    };
+}
+
+impl OfKind for CEmodeBSupportIndicator {
+    type Kind = EnumeratedKind;
+}
+
+impl Items for CEmodeBSupportIndicator {
+    const ITEMS: ItemCounts = items!(item_counts);
+
+    ghost ITEMS = { extensible_items 1 0 };
+
+    ghost item = { elim [
+      | Supported ↦ item root 0
+    ] };
+
+    fn place(&self) -> Place {
+        items!(place_of_item self)
+    }
+
+    fn at(place: Place) -> Option<CEmodeBSupportIndicator> {
+        items!(item_at place)
+    }
+}
+
+impl ByKind for CEmodeBSupportIndicator {}

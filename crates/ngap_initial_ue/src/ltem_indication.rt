@@ -1,0 +1,48 @@
+//! LtemIndication, of the module NGAP-IEs.
+
+ghost use Rattle.ngap_initial_ue.specs.declared.ltem_indication.LtemIndication.TheVariants.{LteM};
+ghost use Rattle.rasn_below.specs.Components.{extensible_items};
+ghost use Rattle.rasn_below.specs.Values.{item, root};
+
+use rasn_below::{
+    ByKind, EnumeratedKind, ItemCounts, Items, OfKind, Place, item_at, item_counts, place_of_item,
+};
+
+/// LTEM-Indication ::= ENUMERATED { lte-m(0), ... }
+#[derive(Clone, Copy, Debug, PartialEq, Eq)]
+pub enum LtemIndication {
+    LteM,
+}
+
+macro_rules! items {
+    ($to:ident $($with:ident)*) => {
+        $to! { [$($with)*]
+            LteM;
+            ...;
+        }
+    };
+}
+
+impl OfKind for LtemIndication {
+    type Kind = EnumeratedKind;
+}
+
+impl Items for LtemIndication {
+    const ITEMS: ItemCounts = items!(item_counts);
+
+    ghost ITEMS = { extensible_items 1 0 };
+
+    ghost item = { elim [
+      | LteM ↦ item root 0
+    ] };
+
+    fn place(&self) -> Place {
+        items!(place_of_item self)
+    }
+
+    fn at(place: Place) -> Option<LtemIndication> {
+        items!(item_at place)
+    }
+}
+
+impl ByKind for LtemIndication {}

@@ -1,0 +1,48 @@
+//! RedCapIndication, of the module NGAP-IEs.
+
+ghost use Rattle.ngap_initial_ue.specs.declared.red_cap_indication.RedCapIndication.TheVariants.{Redcap};
+ghost use Rattle.rasn_below.specs.Components.{extensible_items};
+ghost use Rattle.rasn_below.specs.Values.{item, root};
+
+use rasn_below::{
+    ByKind, EnumeratedKind, ItemCounts, Items, OfKind, Place, item_at, item_counts, place_of_item,
+};
+
+/// RedCapIndication ::= ENUMERATED { redcap(0), ... }
+#[derive(Clone, Copy, Debug, PartialEq, Eq)]
+pub enum RedCapIndication {
+    Redcap,
+}
+
+macro_rules! items {
+    ($to:ident $($with:ident)*) => {
+        $to! { [$($with)*]
+            Redcap;
+            ...;
+        }
+    };
+}
+
+impl OfKind for RedCapIndication {
+    type Kind = EnumeratedKind;
+}
+
+impl Items for RedCapIndication {
+    const ITEMS: ItemCounts = items!(item_counts);
+
+    ghost ITEMS = { extensible_items 1 0 };
+
+    ghost item = { elim [
+      | Redcap ↦ item root 0
+    ] };
+
+    fn place(&self) -> Place {
+        items!(place_of_item self)
+    }
+
+    fn at(place: Place) -> Option<RedCapIndication> {
+        items!(item_at place)
+    }
+}
+
+impl ByKind for RedCapIndication {}

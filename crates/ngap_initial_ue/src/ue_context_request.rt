@@ -1,0 +1,48 @@
+//! UeContextRequest, of the module NGAP-IEs.
+
+ghost use Rattle.ngap_initial_ue.specs.declared.ue_context_request.UeContextRequest.TheVariants.{Requested};
+ghost use Rattle.rasn_below.specs.Components.{extensible_items};
+ghost use Rattle.rasn_below.specs.Values.{item, root};
+
+use rasn_below::{
+    ByKind, EnumeratedKind, ItemCounts, Items, OfKind, Place, item_at, item_counts, place_of_item,
+};
+
+/// UEContextRequest ::= ENUMERATED { requested(0), ... }
+#[derive(Clone, Copy, Debug, PartialEq, Eq)]
+pub enum UeContextRequest {
+    Requested,
+}
+
+macro_rules! items {
+    ($to:ident $($with:ident)*) => {
+        $to! { [$($with)*]
+            Requested;
+            ...;
+        }
+    };
+}
+
+impl OfKind for UeContextRequest {
+    type Kind = EnumeratedKind;
+}
+
+impl Items for UeContextRequest {
+    const ITEMS: ItemCounts = items!(item_counts);
+
+    ghost ITEMS = { extensible_items 1 0 };
+
+    ghost item = { elim [
+      | Requested ↦ item root 0
+    ] };
+
+    fn place(&self) -> Place {
+        items!(place_of_item self)
+    }
+
+    fn at(place: Place) -> Option<UeContextRequest> {
+        items!(item_at place)
+    }
+}
+
+impl ByKind for UeContextRequest {}

@@ -1,0 +1,78 @@
+//! GnbId, of the module NGAP-IEs.
+
+ghost use Rattle.ngap_node.specs.NgapIes.{gnb_id_root};
+ghost use Rattle.ngap_node.specs.declared.gnb_id.GnbId.TheVariants.{ChoiceExtensions, GnbId};
+ghost use Rattle.rasn_below.specs.Components.{chosen, variants_in};
+ghost use Rattle.rasn_below.specs.Values.{bits};
+ghost use Rattle.std.specs.Prelude.{None, refl};
+
+use ngap::aliases::ProtocolIeSingleContainer;
+use rasn_below::types::BitString;
+use rasn_below::{
+    Alternatives, AsnType, ByKind, ChoiceKind, CodedAlternatives, Constraint, Decoder, Encoder,
+    OfKind, Tag, Variants, alternative_bounds, decode_alternative, encode_alternative, variants,
+};
+
+/// GNB-ID ::= CHOICE {
+///     gNB-ID BIT STRING (SIZE (22..32)),
+///     choice-Extensions ProtocolIE-SingleContainer
+/// }
+#[derive(Debug, Drop, PartialEq)]
+pub enum GnbId {
+    GnbId(BitString),
+    ChoiceExtensions(ProtocolIeSingleContainer),
+}
+
+macro_rules! alternatives {
+    ($to:ident $($with:ident)*) => {
+        $to! { [$($with)*]
+            0 "gNB-ID" GnbId: BitString [SIZE 22..=32];
+            1 "choice-Extensions" ChoiceExtensions: ProtocolIeSingleContainer [];
+        }
+    };
+}
+
+const VARIANTS: Variants = alternatives!(variants);
+
+const BOUNDS: &[&[Constraint]] = alternatives!(alternative_bounds);
+
+impl OfKind for GnbId {
+    type Kind = ChoiceKind;
+}
+
+impl Alternatives for GnbId {
+    const ALTERNATIVES: Variants = VARIANTS;
+
+    ghost ALTERNATIVES = { variants_in gnb_id_root };
+
+    const ADDED_ALTERNATIVES: Option<Variants> = None;
+
+    ghost ADDED_ALTERNATIVES = { None };
+
+    ghost alternatives = { gnb_id_root };
+
+    ghost chosen = { elim [
+      | GnbId v ↦ chosen 0 (bits v)
+      | ChoiceExtensions v ↦ chosen 1 (⟦<ProtocolIeSingleContainer as AsnType>⟧.value v)
+    ] };
+
+    ghost depth = { λ _. 1 };
+
+    ghost described = { refl };
+
+    ghost extends = { refl };
+
+    ghost are_variants = { record { distinct = refl; few = refl } };
+}
+
+impl CodedAlternatives for GnbId {
+    fn encode_alternative<E: Encoder>(&self, encoder: &mut E) -> Result<Tag, E::Error> {
+        alternatives!(encode_alternative self encoder)
+    }
+
+    fn decode_alternative<D: Decoder>(decoder: &mut D, tag: Tag) -> Result<Self, D::Error> {
+        alternatives!(decode_alternative decoder tag)
+    }
+}
+
+impl ByKind for GnbId {}

@@ -1,0 +1,57 @@
+//! NbIoTDefaultPagingDrx, of the module NGAP-IEs.
+
+ghost use Rattle.ngap_setup.specs.declared.nb_io_t_default_paging_drx.NbIoTDefaultPagingDrx.TheVariants.{Rf1024, Rf128, Rf256, Rf512};
+ghost use Rattle.rasn_below.specs.Components.{extensible_items};
+ghost use Rattle.rasn_below.specs.Values.{item, root};
+
+use rasn_below::{
+    ByKind, EnumeratedKind, ItemCounts, Items, OfKind, Place, item_at, item_counts, place_of_item,
+};
+
+/// NB-IoT-DefaultPagingDRX ::= ENUMERATED { rf128(0), rf256(1), rf512(2), rf1024(3), ... }
+#[derive(Clone, Copy, Debug, PartialEq, Eq)]
+pub enum NbIoTDefaultPagingDrx {
+    Rf128,
+    Rf256,
+    Rf512,
+    Rf1024,
+}
+
+macro_rules! items {
+    ($to:ident $($with:ident)*) => {
+        $to! { [$($with)*]
+            Rf128;
+            Rf256;
+            Rf512;
+            Rf1024;
+            ...;
+        }
+    };
+}
+
+impl OfKind for NbIoTDefaultPagingDrx {
+    type Kind = EnumeratedKind;
+}
+
+impl Items for NbIoTDefaultPagingDrx {
+    const ITEMS: ItemCounts = items!(item_counts);
+
+    ghost ITEMS = { extensible_items 4 0 };
+
+    ghost item = { elim [
+      | Rf128 ↦ item root 0
+      | Rf256 ↦ item root 1
+      | Rf512 ↦ item root 2
+      | Rf1024 ↦ item root 3
+    ] };
+
+    fn place(&self) -> Place {
+        items!(place_of_item self)
+    }
+
+    fn at(place: Place) -> Option<NbIoTDefaultPagingDrx> {
+        items!(item_at place)
+    }
+}
+
+impl ByKind for NbIoTDefaultPagingDrx {}

@@ -1,0 +1,57 @@
+//! PagingDrx, of the module NGAP-IEs.
+
+ghost use Rattle.ngap_setup.specs.declared.paging_drx.PagingDrx.TheVariants.{V128, V256, V32, V64};
+ghost use Rattle.rasn_below.specs.Components.{extensible_items};
+ghost use Rattle.rasn_below.specs.Values.{item, root};
+
+use rasn_below::{
+    ByKind, EnumeratedKind, ItemCounts, Items, OfKind, Place, item_at, item_counts, place_of_item,
+};
+
+/// PagingDRX ::= ENUMERATED { v32(0), v64(1), v128(2), v256(3), ... }
+#[derive(Clone, Copy, Debug, PartialEq, Eq)]
+pub enum PagingDrx {
+    V32,
+    V64,
+    V128,
+    V256,
+}
+
+macro_rules! items {
+    ($to:ident $($with:ident)*) => {
+        $to! { [$($with)*]
+            V32;
+            V64;
+            V128;
+            V256;
+            ...;
+        }
+    };
+}
+
+impl OfKind for PagingDrx {
+    type Kind = EnumeratedKind;
+}
+
+impl Items for PagingDrx {
+    const ITEMS: ItemCounts = items!(item_counts);
+
+    ghost ITEMS = { extensible_items 4 0 };
+
+    ghost item = { elim [
+      | V32 ↦ item root 0
+      | V64 ↦ item root 1
+      | V128 ↦ item root 2
+      | V256 ↦ item root 3
+    ] };
+
+    fn place(&self) -> Place {
+        items!(place_of_item self)
+    }
+
+    fn at(place: Place) -> Option<PagingDrx> {
+        items!(item_at place)
+    }
+}
+
+impl ByKind for PagingDrx {}

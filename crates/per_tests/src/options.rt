@@ -1,0 +1,42 @@
+//! An `Option` where a value is asked for, as an element of a list.
+//!
+//! The calls are made over any encoder: to prove them of one alone costs several times as much.
+
+use crate::expected::{expect_equal, expect_octets, expect_unwritten};
+use per_enc::{EncodeError, EncodeErrorKind, Encoder, EncoderOptions};
+use rasn_below::Constraints;
+use rasn_below::codec::{Encode, Encoder as AnyEncoder, EncoderExt as _};
+use rasn_below::types::{Identifier, Tag};
+use std::alloc::Global;
+
+fn put<E: AnyEncoder>(encoder: &mut E, values: &[Option<bool>]) -> Result<(), E::Error> {
+    let name = Identifier::EMPTY;
+    encoder.encode_sequence_of(Tag::SEQUENCE, values, &Constraints::NONE, name)
+}
+
+/// The octets of a SEQUENCE OF BOOLEAN.
+fn list_of(alloc: Global, values: &[Option<bool>]) -> Result<Vec<u8>, EncodeError> {
+    let mut encoder = Encoder::new(alloc, EncoderOptions::unaligned());
+    put(&mut encoder, values)?;
+    encoder.output_into_vec()
+}
+
+#[test]
+fn what_an_option_holds_is_written(rt: HostRuntime) -> Result<(), EncodeError> {
+    let written = list_of(rt.alloc(), &[Some(true), Some(false)])?;
+    expect_octets(&rt, &written, &[0x02, 0x80]);
+    Ok(())
+}
+
+#[test]
+fn an_element_that_is_absent_is_out_of_turn(rt: HostRuntime) {
+    let refused = list_of(rt.alloc(), &[Some(true), None]).err();
+    expect_unwritten(&rt, refused, EncodeErrorKind::OutOfTurn);
+}
+
+#[test]
+fn an_option_is_present_where_it_holds_a_value(rt: HostRuntime) {
+    let (held, none): (Option<bool>, Option<bool>) = (Some(true), None);
+    expect_equal(&rt, &held.is_present(), &true);
+    expect_equal(&rt, &none.is_present(), &false);
+}

@@ -1,0 +1,53 @@
+//! Criticality, of the module S1AP-CommonDataTypes.
+
+ghost use Rattle.rasn_below.specs.Components.{all_items};
+ghost use Rattle.rasn_below.specs.Values.{item, root};
+ghost use Rattle.s1ap.specs.declared.criticality.Criticality.TheVariants.{Ignore, Notify, Reject};
+
+use rasn_below::{
+    ByKind, EnumeratedKind, ItemCounts, Items, OfKind, Place, item_at, item_counts, place_of_item,
+};
+
+/// Criticality ::= ENUMERATED { reject(0), ignore(1), notify(2) }
+#[derive(Clone, Copy, Debug, PartialEq, Eq)]
+pub enum Criticality {
+    Reject,
+    Ignore,
+    Notify,
+}
+
+macro_rules! items {
+    ($to:ident $($with:ident)*) => {
+        $to! { [$($with)*]
+            Reject;
+            Ignore;
+            Notify;
+        }
+    };
+}
+
+impl OfKind for Criticality {
+    type Kind = EnumeratedKind;
+}
+
+impl Items for Criticality {
+    const ITEMS: ItemCounts = items!(item_counts);
+
+    ghost ITEMS = { all_items 3 };
+
+    ghost item = { elim [
+      | Reject ↦ item root 0
+      | Ignore ↦ item root 1
+      | Notify ↦ item root 2
+    ] };
+
+    fn place(&self) -> Place {
+        items!(place_of_item self)
+    }
+
+    fn at(place: Place) -> Option<Criticality> {
+        items!(item_at place)
+    }
+}
+
+impl ByKind for Criticality {}

@@ -1,0 +1,57 @@
+//! NbIoTDefaultPagingDrx, of the module S1AP-IEs.
+
+ghost use Rattle.rasn_below.specs.Components.{extensible_items};
+ghost use Rattle.rasn_below.specs.Values.{item, root};
+ghost use Rattle.s1ap.specs.declared.nb_io_t_default_paging_drx.NbIoTDefaultPagingDrx.TheVariants.{V1024, V128, V256, V512};
+
+use rasn_below::{
+    ByKind, EnumeratedKind, ItemCounts, Items, OfKind, Place, item_at, item_counts, place_of_item,
+};
+
+/// NB-IoT-DefaultPagingDRX ::= ENUMERATED { v128(0), v256(1), v512(2), v1024(3), ... }
+#[derive(Clone, Copy, Debug, PartialEq, Eq)]
+pub enum NbIoTDefaultPagingDrx {
+    V128,
+    V256,
+    V512,
+    V1024,
+}
+
+macro_rules! items {
+    ($to:ident $($with:ident)*) => {
+        $to! { [$($with)*]
+            V128;
+            V256;
+            V512;
+            V1024;
+            ...;
+        }
+    };
+}
+
+impl OfKind for NbIoTDefaultPagingDrx {
+    type Kind = EnumeratedKind;
+}
+
+impl Items for NbIoTDefaultPagingDrx {
+    const ITEMS: ItemCounts = items!(item_counts);
+
+    ghost ITEMS = { extensible_items 4 0 };
+
+    ghost item = { elim [
+      | V128 ↦ item root 0
+      | V256 ↦ item root 1
+      | V512 ↦ item root 2
+      | V1024 ↦ item root 3
+    ] };
+
+    fn place(&self) -> Place {
+        items!(place_of_item self)
+    }
+
+    fn at(place: Place) -> Option<NbIoTDefaultPagingDrx> {
+        items!(item_at place)
+    }
+}
+
+impl ByKind for NbIoTDefaultPagingDrx {}

@@ -1,0 +1,89 @@
+//! S1ApPdu, of the module S1AP-PDU-Descriptions.
+
+ghost use Rattle.rasn_below.specs.Components.{chosen, variants_in};
+ghost use Rattle.s1ap.specs.S1ApPduDescriptions.{s1_ap_pdu_added, s1_ap_pdu_root};
+ghost use Rattle.s1ap.specs.declared.s1_ap_pdu.S1ApPdu.TheVariants.{InitiatingMessage, SuccessfulOutcome, UnsuccessfulOutcome};
+ghost use Rattle.std.specs.Prelude.{Some, refl};
+
+use crate::initiating_message::InitiatingMessage;
+use crate::successful_outcome::SuccessfulOutcome;
+use crate::unsuccessful_outcome::UnsuccessfulOutcome;
+use rasn_below::{
+    Alternatives, AsnType, ByKind, ChoiceKind, CodedAlternatives, Constraint, Decoder, Encoder,
+    OfKind, Tag, Variants, added_variants, alternative_bounds, decode_alternative,
+    encode_alternative, variants,
+};
+
+/// S1AP-PDU ::= CHOICE {
+///     initiatingMessage InitiatingMessage,
+///     successfulOutcome SuccessfulOutcome,
+///     unsuccessfulOutcome UnsuccessfulOutcome,
+///     ...
+/// }
+#[derive(Debug, Drop, PartialEq)]
+pub enum S1ApPdu {
+    InitiatingMessage(InitiatingMessage),
+    SuccessfulOutcome(SuccessfulOutcome),
+    UnsuccessfulOutcome(UnsuccessfulOutcome),
+}
+
+macro_rules! alternatives {
+    ($to:ident $($with:ident)*) => {
+        $to! { [$($with)*]
+            0 "initiatingMessage" InitiatingMessage: InitiatingMessage [];
+            1 "successfulOutcome" SuccessfulOutcome: SuccessfulOutcome [];
+            2 "unsuccessfulOutcome" UnsuccessfulOutcome: UnsuccessfulOutcome [];
+            ...;
+        }
+    };
+}
+
+const VARIANTS: Variants = alternatives!(variants);
+
+const ADDED_VARIANTS: Option<Variants> = alternatives!(added_variants);
+
+const BOUNDS: &[&[Constraint]] = alternatives!(alternative_bounds);
+
+impl OfKind for S1ApPdu {
+    type Kind = ChoiceKind;
+}
+
+impl Alternatives for S1ApPdu {
+    const ALTERNATIVES: Variants = VARIANTS;
+
+    ghost ALTERNATIVES = { variants_in s1_ap_pdu_root };
+
+    const ADDED_ALTERNATIVES: Option<Variants> = ADDED_VARIANTS;
+
+    ghost ADDED_ALTERNATIVES = { Some (variants_in s1_ap_pdu_added) };
+
+    ghost alternatives = { s1_ap_pdu_root };
+
+    ghost added = { Some s1_ap_pdu_added };
+
+    ghost chosen = { elim [
+      | InitiatingMessage v ↦ chosen 0 (⟦<InitiatingMessage as AsnType>⟧.value v)
+      | SuccessfulOutcome v ↦ chosen 1 (⟦<SuccessfulOutcome as AsnType>⟧.value v)
+      | UnsuccessfulOutcome v ↦ chosen 2 (⟦<UnsuccessfulOutcome as AsnType>⟧.value v)
+    ] };
+
+    ghost depth = { λ _. 1 };
+
+    ghost described = { refl };
+
+    ghost extends = { refl };
+
+    ghost are_variants = { record { distinct = refl; few = refl } };
+}
+
+impl CodedAlternatives for S1ApPdu {
+    fn encode_alternative<E: Encoder>(&self, encoder: &mut E) -> Result<Tag, E::Error> {
+        alternatives!(encode_alternative self encoder)
+    }
+
+    fn decode_alternative<D: Decoder>(decoder: &mut D, tag: Tag) -> Result<Self, D::Error> {
+        alternatives!(decode_alternative decoder tag)
+    }
+}
+
+impl ByKind for S1ApPdu {}

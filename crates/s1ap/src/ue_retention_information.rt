@@ -1,0 +1,48 @@
+//! UeRetentionInformation, of the module S1AP-IEs.
+
+ghost use Rattle.rasn_below.specs.Components.{extensible_items};
+ghost use Rattle.rasn_below.specs.Values.{item, root};
+ghost use Rattle.s1ap.specs.declared.ue_retention_information.UeRetentionInformation.TheVariants.{UesRetained};
+
+use rasn_below::{
+    ByKind, EnumeratedKind, ItemCounts, Items, OfKind, Place, item_at, item_counts, place_of_item,
+};
+
+/// UE-RetentionInformation ::= ENUMERATED { ues-retained(0), ... }
+#[derive(Clone, Copy, Debug, PartialEq, Eq)]
+pub enum UeRetentionInformation {
+    UesRetained,
+}
+
+macro_rules! items {
+    ($to:ident $($with:ident)*) => {
+        $to! { [$($with)*]
+            UesRetained;
+            ...;
+        }
+    };
+}
+
+impl OfKind for UeRetentionInformation {
+    type Kind = EnumeratedKind;
+}
+
+impl Items for UeRetentionInformation {
+    const ITEMS: ItemCounts = items!(item_counts);
+
+    ghost ITEMS = { extensible_items 1 0 };
+
+    ghost item = { elim [
+      | UesRetained ↦ item root 0
+    ] };
+
+    fn place(&self) -> Place {
+        items!(place_of_item self)
+    }
+
+    fn at(place: Place) -> Option<UeRetentionInformation> {
+        items!(item_at place)
+    }
+}
+
+impl ByKind for UeRetentionInformation {}

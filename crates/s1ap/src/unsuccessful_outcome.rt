@@ -1,0 +1,66 @@
+//! UnsuccessfulOutcome, of the module S1AP-PDU-Descriptions.
+
+ghost use Rattle.rasn_below.specs.Components.{fields_of};
+ghost use Rattle.rasn_below.specs.Values.{octets, whole};
+ghost use Rattle.s1ap.specs.S1ApPduDescriptions.{unsuccessful_outcome_root};
+ghost use Rattle.std.specs.Prelude.{Some, [], pos, refl, ◌∷◌};
+
+use crate::aliases::ProcedureCode;
+use crate::criticality::Criticality;
+use rasn_below::types::Any;
+use rasn_below::{
+    AsnType, Components, Constraint, Decoder, Encoder, Fields, Record, bounds, decode_components,
+    encode_components, fields,
+};
+
+/// UnsuccessfulOutcome ::= SEQUENCE {
+///     procedureCode ProcedureCode,
+///     criticality Criticality,
+///     value S1AP-ELEMENTARY-PROCEDURE.&UnsuccessfulOutcome
+/// }
+#[derive(Debug, Drop, PartialEq)]
+pub struct UnsuccessfulOutcome {
+    pub procedure_code: ProcedureCode,
+    pub criticality: Criticality,
+    pub value: Any,
+}
+
+macro_rules! components {
+    ($to:ident $($with:ident)*) => {
+        $to! { [$($with)*]
+            required 0 "procedureCode" procedure_code: ProcedureCode [0..=255];
+            required 1 "criticality" criticality: Criticality [];
+            required 2 "value" value: Any [];
+        }
+    };
+}
+
+const FIELDS: Fields = components!(fields);
+
+const BOUNDS: &[&[Constraint]] = components!(bounds);
+
+impl Components for UnsuccessfulOutcome {
+    const COMPONENTS: Fields = FIELDS;
+
+    ghost COMPONENTS = { fields_of unsuccessful_outcome_root };
+
+    ghost components = { unsuccessful_outcome_root };
+
+    ghost contents = { λ x.
+        Some (whole (pos x.procedure_code)) ∷
+        Some (⟦<Criticality as AsnType>⟧.value x.criticality) ∷
+        Some (octets x.value) ∷
+        [] };
+
+    ghost described = { refl };
+}
+
+impl Record for UnsuccessfulOutcome {
+    fn encode_components<E: Encoder>(&self, encoder: &mut E) -> Result<(), E::Error> {
+        components!(encode_components self encoder)
+    }
+
+    fn decode_components<D: Decoder>(decoder: &mut D) -> Result<Self, D::Error> {
+        components!(decode_components decoder)
+    }
+}
