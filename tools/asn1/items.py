@@ -27,7 +27,6 @@ class Item:
     target: Use = None      # of a definition that is another name
     needs: list = field(default_factory=list)
     is_limited: bool = False    # whether it has a type under its constraints too
-    is_default: bool = False    # whether a component of it has a default
     depth: object = 0       # the levels that the deepest component takes; None where that depends on the value
 
     @property
@@ -43,12 +42,8 @@ class Item:
         return upper_camel(self.key[0])
 
     @property
-    def root(self):
-        return f"{self.word}_root"
-
-    @property
-    def behind(self):
-        return f"{self.word}_added"
+    def lists(self):
+        return f"{self.word}_lists"
 
     def variants(self):
         """Returns the variant of each alternative or item, none twice."""
@@ -136,9 +131,8 @@ class Items:
     def need_default(self, part):
         """Refuses a default that a list can't say."""
         of = part.use.type
-        if of.kind == "ENUMERATED":
-            self.owner(part.use).is_default = True
-        elif of.kind != "BOOLEAN" and not (of.kind == "INTEGER" and holder(of.limits).startswith("u")):
+        is_number = of.kind == "INTEGER" and holder(of.limits).startswith("u")
+        if of.kind not in ("BOOLEAN", "ENUMERATED") and not is_number:
             raise Refused(f"{part.name} has a DEFAULT of {of.kind}, which a list can't say")
 
     def need(self, item, use, path, line):

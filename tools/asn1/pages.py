@@ -1,4 +1,7 @@
 """The pages of types: for each a file of Rattle, as `docs/SCHEMAS.md` has them."""
+import re
+import textwrap
+
 import templates
 from constraints import LETTERS
 from names import constant, grouped, snake
@@ -16,8 +19,15 @@ HELD = {
 VALUES = {"BOOLEAN": "truth", "OCTET STRING": "octets", "OPEN": "octets", "BIT STRING": "bits", "NULL": "nothing",
           **dict.fromkeys(LETTERS, "characters")}
 
+# Those that the module of names doesn't pass on.
+TIMES = ("UTCTime", "GeneralizedTime", "DATE")
+# The names of these that the library has.
+LIBRARY = {HELD[kind] for kind in HELD if kind not in ("BOOLEAN", "NULL", *TIMES)} | {"Integer", "SetOf", "Constrained"}
+
 # Columns of a line.
 WIDEST = 120
+# The module with what a page names.
+PAGE = "rasn_below::page"
 
 
 def bounds_text(bounds):
@@ -59,7 +69,7 @@ class Page:
 
     def value(self, value):
         """Imports a word of values, and returns it."""
-        return self.imports.word(value, "Values")
+        return self.imports.word(value)
 
     # Types and their parts.
 
@@ -74,10 +84,9 @@ class Page:
             element = self.element(of.element)
             if of.kind == "SEQUENCE OF":
                 return f"Vec<{element}>"
-            self.imports.use("rasn_below::types", "SetOf")
             return f"SetOf<{element}>"
         name = holder(of.limits) if of.kind == "INTEGER" else HELD[of.kind]
-        if name[0].isupper():
+        if of.kind in TIMES:
             self.imports.use("rasn_below::types", name)
         return name
 
@@ -114,7 +123,6 @@ class Page:
             return self.value("nothing") if name else f"(λ _. {self.value('nothing')})"
         word = self.value("whole" if kind == "INTEGER" else VALUES[kind]) if kind == "INTEGER" or kind in VALUES else None
         if word is None:
-            self.imports.use("rasn_below", "AsnType")
             word = f"⟦<{self.rust(use)} as AsnType>⟧.value"
         return f"{word} {name}" if name else word
 
@@ -145,7 +153,6 @@ class Page:
     def levels_of(self, part):
         if not part.is_slot and self.items.levels(part.use) == 0:
             return "0"
-        self.imports.use("rasn_below", "AsnType")
         levels = f"⟦<{self.rust(part.use)} as AsnType>⟧.levels"
         return f"{self.value('slot_levels')} {levels} x.{snake(part.name)}" if part.is_slot else f"{levels} x.{snake(part.name)}"
 
@@ -189,7 +196,7 @@ class Page:
         if of.kind == "INTEGER":
             return f"{part.default}_{holder(of.limits)}"
         owner = self.items.owner(part.use)
-        return f"{self.brought(owner, owner.rust)}::{owner.variants()[part.default]}"
+        return f"Item({self.brought(owner, owner.rust)}::{owner.variants()[part.default]})"
 
     def record(self):
         """Returns the lines of a SEQUENCE's page."""
@@ -201,44 +208,32 @@ class Page:
         for part in of.all_parts:
             rust = self.rust(part.use)
             fields.append(f"    pub {snake(part.name)}: {f'Option<{rust}>' if part.is_slot else rust},")
-        self.own_spec(item.root)
+        self.own_spec(item.lists)
         imports.word("fields_of")
         imports.prelude("refl")
-        values = {
-            "doc": self.doc(), "derives": self.derives(), "rust": item.rust, "fields": fields, "root": item.root,
-            "letters": self.letter_lines(), "lines": indented(texts, 12), "slots": self.slots(of.parts),
-        }
-        return self.plain_record(values) if of.added is None else self.extended_record(values)
+        imports.use(PAGE, "*")
+        added = []
+        if of.added:
+            added = ["    ghost added = { λ x.", *self.slots(of.added), "        [] };", ""]
+        return filled(
+            templates.RECORD, doc=self.doc(), derives=self.derives(), rust=item.rust, fields=fields, lists=item.lists,
+            letters=self.letter_lines(), lines=indented(texts, 4), slots=self.slots(of.parts),
+            over="x" if of.parts else "_", added=added, depth=self.record_depth(),
+        )
 
-    def plain_record(self, values):
-        item, depth = self.item, []
-        self.imports.use("rasn_below", "Components", "Constraint", "Decoder", "Encoder", "Fields", "Record", "bounds",
-                         "decode_components", "encode_components", "fields")
-        if item.depth:
-            depth = [f"    ghost depth = {{ λ _. {item.depth} }};", ""]
-        elif item.depth is None:
-            lines = self.levels(item.type.parts)
-            if lines != ["0"]:
-                depth = ["    ghost depth = { λ x.", *indented(lines, 8), ""]
-                depth[-2] += " };"
-        return filled(templates.PLAIN_RECORD, **values, over="x" if item.type.parts else "_", depth=depth)
-
-    def extended_record(self, values):
-        item, imports = self.item, self.imports
-        self.own_spec(item.behind)
-        imports.prelude("Some", "true")
-        for word in ("fields_described", "parts_of", "extended_by"):
-            imports.word(word)
-        imports.use("rasn_below::types", "Identifier")
-        imports.use("rasn_below", "Constraint", "Constraints", "Constructed", "Decode", "Decoder", "Encode", "Encoder",
-                    "Extended", "ExtendedKind", "Fields", "OfKind", "Tag", "added_bounds", "added_fields",
-                    "decode_extended", "encode_extended", "root_bounds", "root_fields")
-        levels, depth = [self.levels(it) for it in (item.type.parts, item.type.added)], []
-        if levels != [["0"], ["0"]]:
-            depth = ["", f"    ghost depth = {{ λ x. {self.value('deeper_of')}", *indented(sum(levels, []), 8)]
-            depth[-1] += " };"
-        return filled(templates.EXTENDED_RECORD, **values, behind=item.behind, added_slots=self.slots(item.type.added),
-                      depth=depth)
+    def record_depth(self):
+        """Returns how many levels the deepest component takes."""
+        of, depth = self.item.type, self.item.depth
+        if depth is not None:
+            return [f"    ghost depth = {{ λ _. {depth} }};"] if depth else []
+        levels = [self.levels(parts) for parts in (of.parts, of.added or [])]
+        if levels == [["0"], ["0"]]:
+            return []
+        if of.added is None:
+            lines = ["    ghost depth = { λ x.", *indented(levels[0], 8)]
+        else:
+            lines = [f"    ghost depth = {{ λ x. {self.value('deeper_of')}", *indented(sum(levels, []), 8)]
+        return [*lines[:-1], f"{lines[-1]} }};"]
 
     # Choices.
 
@@ -260,8 +255,7 @@ class Page:
         lines = []
         for part, variant, levels in found:
             if levels is None:
-                self.imports.use("rasn_below", "AsnType")
-                lines.append(f"      | {variant} v ↦ ⟦<{self.rust(part.use)} as AsnType>⟧.levels v")
+                    lines.append(f"      | {variant} v ↦ ⟦<{self.rust(part.use)} as AsnType>⟧.levels v")
             else:
                 lines.append(f"      | {variant}{'' if part.use.type.kind == 'NULL' else ' _'} ↦ {levels}")
         return ["    ghost depth = { elim [", *lines, "    ] };", ""]
@@ -274,37 +268,18 @@ class Page:
         for chosen, side in (("chosen", of.parts), ("chosen_behind", of.added or [])):
             found += [self.alternative(part, names[part.name], chosen, place) for place, part in enumerate(side)]
         lines = [line for _, line, _ in found]
-        self.own_spec(item.root)
-        self.variants_spec(names.values())
-        imports.prelude("refl", "None" if of.added is None else "Some")
-        imports.word("variants_in")
-        imports.use("rasn_below", "Alternatives", "ByKind", "ChoiceKind", "CodedAlternatives", "Constraint", "Decoder",
-                    "Encoder", "OfKind", "Tag", "Variants", "alternative_bounds", "decode_alternative",
-                    "encode_alternative", "variants")
-        values = {"added": "None", "ghost_added": "None", "added_variants": "", "added_bounds": "", "behind": ""}
         if of.added is not None:
             lines.insert(len(of.parts), "...;")
-            values = self.choice_behind()
+        self.own_spec(item.lists)
+        self.variants_spec(names.values())
+        imports.prelude("refl")
+        imports.word("variants_listed")
+        imports.use(PAGE, "*")
         return filled(
-            templates.CHOICE, **values, doc=self.doc(), derives=self.derives(), rust=item.rust, root=item.root,
-            variants=indented([variant for variant, _, _ in found], 4), letters=self.letter_lines(), lines=indented(lines, 12),
+            templates.CHOICE, doc=self.doc(), derives=self.derives(), rust=item.rust, lists=item.lists,
+            variants=indented([variant for variant, _, _ in found], 4), letters=self.letter_lines(), lines=indented(lines, 4),
             chosen=indented([chosen for _, _, chosen in found], 6), depth=self.choice_depth(names),
         )
-
-    def choice_behind(self):
-        """Returns what a CHOICE with a marker has more."""
-        behind = self.item.behind
-        self.own_spec(behind)
-        self.imports.use("rasn_below", "added_variants")
-        values = {
-            "added": "ADDED_VARIANTS", "ghost_added": f"Some (variants_in {behind})",
-            "added_variants": ["const ADDED_VARIANTS: Option<Variants> = alternatives!(added_variants);", ""],
-            "behind": [f"    ghost added = {{ Some {behind} }};", ""], "added_bounds": "",
-        }
-        if self.item.type.added:
-            self.imports.use("rasn_below", "added_alternative_bounds")
-            values["added_bounds"] = ["const ADDED_BOUNDS: &[&[Constraint]] = alternatives!(added_alternative_bounds);", ""]
-        return values
 
     # ENUMERATED types.
 
@@ -321,17 +296,11 @@ class Page:
         counts = f"all_items {len(roots)}" if of.added_items is None else f"extensible_items {len(roots)} {len(added)}"
         imports.word(counts.split()[0])
         self.variants_spec(names.values())
-        imports.use("rasn_below", "ByKind", "EnumeratedKind", "ItemCounts", "Items", "OfKind", "Place", "item_at",
-                    "item_counts", "place_of_item")
-        page = filled(
+        imports.use(PAGE, "*")
+        return filled(
             templates.ENUMERATED, doc=self.doc(), rust=item.rust, counts=counts, items=items,
-            variants=[f"    {name}," for name in [*roots, *added]], lines=[f"            {name};" for name in lines],
+            variants=[f"    {name}," for name in [*roots, *added]], lines=[f"    {name};" for name in lines],
         )
-        if not item.is_default:
-            return page
-        imports.use("rasn_below::components", "Defaulted")
-        imports.use("std::alloc", "AllocError", "Global")
-        return [*page, "", *filled(templates.DEFAULTED, rust=item.rust)]
 
     # Names without a page.
 
@@ -340,6 +309,8 @@ class Page:
         item, of = self.item, self.item.type
         target = self.rust(item.target) if item.target else self.held(of)
         lines = [*self.doc(), f"pub type {item.rust} = {target};", ""]
+        if LIBRARY & set(re.findall(r"\w+", target)):
+            self.imports.use(PAGE, "*")
         is_number = of.kind == "INTEGER"
         width = holder(of.limits).replace("Integer", "i128") if is_number else "usize"
         is_named_elsewhere = item.target and "/" in item.key[1]
@@ -347,7 +318,7 @@ class Page:
             what = f"`{name}` of {item.rust}." if is_number else f"The place of the bit `{name}` of {item.rust}."
             lines += [f"/// {what}", f"pub const {constant(item.rust)}_{constant(name)}: {width} = {grouped(number)};", ""]
         if item.is_limited and of.limits:
-            self.imports.use("rasn_below", "Constrained", "Constraint", "Constraints", "Limits", "constraints")
+            self.imports.use(PAGE, "*")
             bounds, words = self.bounds(of.limits), limit_words(of, self.imports)
             limits = filled(templates.LIMITS, rust=item.rust, constant=constant(item.rust), bounds=bounds, words=words)
             lines += [*self.letter_lines(), *limits, ""]
@@ -367,7 +338,8 @@ def table_file(modules, of):
     lines = []
     for module, name in sorted(modules.object_sets):
         for number, what, more in sorted(modules.objects(module, name)) if module in of else []:
-            lines += [f"/// In {name}, {number} stands for {what}{f' ({more})' if more else ''}.",
+            about = f"In {name}, {number} stands for {what}{f' ({more})' if more else ''}."
+            lines += [*(f"/// {line}" for line in textwrap.wrap(about, WIDEST - len("/// "))),
                       f"pub const {constant(name)}_{constant(what)}: u32 = {grouped(number)};", ""]
     head = ["//! What the values whose types aren't known may hold: the identifiers of each object set, by their types.", ""]
     return "\n".join([*head, *lines]) if lines else None

@@ -10,34 +10,27 @@ pub struct @rust@ {
 }
 
 @letters@
-macro_rules! components {
-    ($to:ident $($with:ident)*) => {
-        $to! { [$($with)*]
+macro_rules! components { ($to:ident $($with:ident)*) => { $to! { [$($with)*]
 @lines@
-        }
-    };
-}
+} }; }
 
-"""
+const FIELDS: FieldLists = components!(fields);
 
-PLAIN_RECORD = RECORD + """
-const FIELDS: Fields = components!(fields);
-
-const BOUNDS: &[&[Constraint]] = components!(bounds);
+const BOUNDS: Bounds = components!(bounds);
 
 impl Components for @rust@ {
-    const COMPONENTS: Fields = FIELDS;
+    const COMPONENTS: FieldLists = FIELDS;
 
-    ghost COMPONENTS = { fields_of @root@ };
+    ghost COMPONENTS = { fields_of @lists@ };
 
-    ghost components = { @root@ };
+    ghost components = { (@lists@, refl) };
 
     ghost contents = { λ @over@.
 @slots@
         [] };
 
+@added@
 @depth@
-    ghost described = { refl };
 }
 
 impl Record for @rust@ {
@@ -51,85 +44,6 @@ impl Record for @rust@ {
 }
 """
 
-EXTENDED_RECORD = RECORD + """
-const FIELDS: Fields = components!(root_fields);
-
-const BOUNDS: &[&[Constraint]] = components!(root_bounds);
-
-const ADDED_FIELDS: Fields = components!(added_fields);
-
-const ADDED_BOUNDS: &[&[Constraint]] = components!(added_bounds);
-
-impl OfKind for @rust@ {
-    type Kind = ExtendedKind;
-}
-
-impl Extended for @rust@ {
-    ghost root = { @root@ };
-
-    ghost additions = { @behind@ };
-
-    ghost contents = { λ x.
-@slots@
-        [] };
-
-    ghost added = { λ x.
-@added_slots@
-        [] };
-@depth@
-}
-
-impl Constructed for @rust@ {
-    const FIELDS: Fields = FIELDS;
-
-    ghost FIELDS = { fields_of @root@ };
-
-    const EXTENDED_FIELDS: Option<Fields> = Some(ADDED_FIELDS);
-
-    ghost EXTENDED_FIELDS = { Some (fields_of @behind@) };
-
-    const IS_EXTENSIBLE: bool = true;
-
-    ghost IS_EXTENSIBLE = { true };
-
-    ghost parts = { parts_of @root@ };
-
-    ghost additions = { parts_of @behind@ };
-
-    ghost contents = { ⟦<@rust@ as Extended>⟧.contents };
-
-    ghost added = { ⟦<@rust@ as Extended>⟧.added };
-
-    ghost described = { fields_described @root@ };
-
-    ghost extends = { extended_by @behind@ };
-
-    ghost is_record = { λ _. refl };
-}
-
-impl Encode for @rust@ {
-    fn encode_with_tag_and_constraints<E: Encoder>(
-        &self,
-        encoder: &mut E,
-        tag: Tag,
-        _: &Constraints,
-        identifier: Identifier,
-    ) -> Result<(), E::Error> {
-        components!(encode_extended self encoder tag identifier)
-    }
-}
-
-impl Decode for @rust@ {
-    fn decode_with_tag_and_constraints<D: Decoder>(
-        decoder: &mut D,
-        tag: Tag,
-        _: &Constraints,
-    ) -> Result<@rust@, D::Error> {
-        components!(decode_extended decoder tag)
-    }
-}
-"""
-
 CHOICE = """
 @doc@
 @derives@
@@ -138,45 +52,30 @@ pub enum @rust@ {
 }
 
 @letters@
-macro_rules! alternatives {
-    ($to:ident $($with:ident)*) => {
-        $to! { [$($with)*]
+macro_rules! alternatives { ($to:ident $($with:ident)*) => { $to! { [$($with)*]
 @lines@
-        }
-    };
-}
+} }; }
 
-const VARIANTS: Variants = alternatives!(variants);
+const VARIANTS: VariantLists = alternatives!(variants);
 
-@added_variants@
-const BOUNDS: &[&[Constraint]] = alternatives!(alternative_bounds);
+const BOUNDS: Bounds = alternatives!(alternative_bounds);
 
-@added_bounds@
 impl OfKind for @rust@ {
     type Kind = ChoiceKind;
 }
 
 impl Alternatives for @rust@ {
-    const ALTERNATIVES: Variants = VARIANTS;
+    const ALTERNATIVES: VariantLists = VARIANTS;
 
-    ghost ALTERNATIVES = { variants_in @root@ };
+    ghost ALTERNATIVES = { variants_listed @lists@ };
 
-    const ADDED_ALTERNATIVES: Option<Variants> = @added@;
+    ghost alternatives = { (@lists@, refl) };
 
-    ghost ADDED_ALTERNATIVES = { @ghost_added@ };
-
-    ghost alternatives = { @root@ };
-
-@behind@
     ghost chosen = { elim [
 @chosen@
     ] };
 
 @depth@
-    ghost described = { refl };
-
-    ghost extends = { refl };
-
     ghost are_variants = { record { distinct = refl; few = refl } };
 }
 
@@ -200,13 +99,9 @@ pub enum @rust@ {
 @variants@
 }
 
-macro_rules! items {
-    ($to:ident $($with:ident)*) => {
-        $to! { [$($with)*]
+macro_rules! items { ($to:ident $($with:ident)*) => { $to! { [$($with)*]
 @lines@
-        }
-    };
-}
+} }; }
 
 impl OfKind for @rust@ {
     type Kind = EnumeratedKind;
@@ -231,24 +126,6 @@ impl Items for @rust@ {
 }
 
 impl ByKind for @rust@ {}
-"""
-
-# What an ENUMERATED owes that is a component with a default.
-DEFAULTED = """
-impl Defaulted for @rust@ {
-    #[tactic(auto, unfolding(rasn_below::specs::Types::normal, rasn_below::specs::Values::same))]
-    fn is_default(&self, default: &@rust@) -> bool {
-        match (self.place(), default.place()) {
-            (Place::Root(place), Place::Root(other)) => place == other,
-            (Place::Added(place), Place::Added(other)) => place == other,
-            _ => false,
-        }
-    }
-
-    fn copied(&self, _alloc: Global) -> Result<@rust@, AllocError> {
-        Ok(*self)
-    }
-}
 """
 
 LIMITS = """

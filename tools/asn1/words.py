@@ -2,7 +2,7 @@
 from constraints import LETTERS
 
 BELOW = "rasn_below.specs."
-PRELUDE = "std.specs.Prelude"
+PAGE = "Page"
 HOLDERS = [(f"u{bits}", 0, 2**bits - 1) for bits in (8, 16, 32, 64)] + [
     (f"i{bits}", -(2 ** (bits - 1)), 2 ** (bits - 1) - 1) for bits in (8, 16, 32, 64, 128)
 ]
@@ -16,6 +16,20 @@ SIZED = {
     "PrintableString": "printable_string", "NumericString": "numeric_string", "BMPString": "bmp_string",
 }
 
+COLUMNS = 120
+
+
+def rows_of(names, width):
+    """Returns names in rows of at most a width, with commas between them, or of one name."""
+    rows = []
+    for name in names:
+        if rows and len(", ".join([*rows[-1], name])) <= width:
+            rows[-1].append(name)
+        else:
+            rows.append([name])
+    return rows
+
+
 class Imports:
     """What a file names, by module: of specs (`ghost`) and of code."""
 
@@ -28,19 +42,29 @@ class Imports:
     def use(self, path, *names):
         self.code.setdefault(path, set()).update(names)
 
-    def word(self, name, module="Components"):
+    def word(self, name, module=PAGE):
         """Returns a word of the library's specs, which is imported."""
         self.spec(f"{BELOW}{module}", name)
         return name
 
     def prelude(self, *names):
-        self.spec(PRELUDE, *names)
+        self.spec("std.specs.Prelude", *names)
 
     def spec_lines(self):
-        return [f"use Rattle.{module}.{{{', '.join(sorted(names))}}}" for module, names in sorted(self.ghost.items())]
+        return [
+            f"use Rattle.{module}.{{{', '.join(row)}}}"
+            for module, names in sorted(self.ghost.items())
+            for row in rows_of(sorted(names), COLUMNS - len(f"use Rattle.{module}.{{}}"))
+        ]
 
     def ghost_lines(self):
-        return [f"ghost {line};" for line in self.spec_lines()]
+        lines = []
+        for module, names in sorted(self.ghost.items()):
+            head = f"ghost use Rattle.{module}."
+            for row in rows_of(sorted(names), COLUMNS - len(head) - len("{};")):
+                line = f"{head}{{{', '.join(row)}}};"
+                lines += [line] if len(line) <= COLUMNS else [f"{head}{{", *(f"  {name}," for name in row), "};"]
+        return lines
 
     def code_lines(self):
         return [
@@ -144,12 +168,12 @@ class Schemas:
         of, value = part.use.type, part.default
         if of.kind == "BOOLEAN":
             imports.prelude("true" if value else "false")
-            return f"({imports.word('truth', 'Values')} {'true' if value else 'false'})"
+            return f"({imports.word('truth')} {'true' if value else 'false'})"
         if of.kind == "INTEGER":
             imports.prelude("pos")
-            return f"({imports.word('whole', 'Values')} (pos {value}))"
+            return f"({imports.word('whole')} (pos {value}))"
         side, items = ("root", of.items) if value in of.items else ("added", of.added_items)
-        return f"({imports.word('item', 'Values')} {imports.word(side, 'Values')} {items.index(value)})"
+        return f"({imports.word('item')} {imports.word(side)} {items.index(value)})"
 
     def line(self, part, at, imports):
         """Returns the words of a component."""
@@ -162,24 +186,28 @@ class Schemas:
             return f"{imports.word('default')} {self.default(part, imports)} {bracketed(text)}"
         return text
 
-    def list(self, word, parts, first, at, imports):
-        """Returns a list of components as a definition, the first of which is the `first` of its type."""
-        imports.prelude("List", "[]")
-        head = f"abbrev pub {word} : List {imports.word('Component')}"
+    def list(self, parts, is_automatic, at, imports):
+        """Returns the lines of a list of components, which are in brackets, from the first bracket on."""
+        imports.prelude("[]", *["◌∷◌"] * bool(parts))
         if not parts:
-            return [head, f"{word} = []"]
-        imports.prelude("◌∷◌")
+            return ["[]"]
         texts = [self.line(part, at, imports) for part in parts]
-        is_automatic = [part.tag for part in parts] == [*range(first, first + len(parts))]
         if not is_automatic:
             under, tagged = imports.word("under"), imports.word("at")
             texts = [f"{under} ({tagged} {part.tag}) {bracketed(text)}" for part, text in zip(parts, texts)]
         names = [part.name if part.group is None else "[[ ]]" for part in parts]
-        body = [f"    {text} ∷  -- {name}" for text, name in zip(texts, names)]
-        if not is_automatic:
-            return [head, f"{word} =", *body, "    []"]
-        call = imports.word("automatic") if first == 0 else f"{imports.word('automatic_from')} {first}"
-        return [head, f"{word} = {call} (", *body, "    [])"]
+        return ["(", *[f"    {text} ∷  -- {name}" for text, name in zip(texts, names)], "    [])"]
+
+    def lists(self, item, imports):
+        """Returns the lists of an item's components, or alternatives, as a definition."""
+        of = item.type
+        is_automatic = [part.tag for part in of.all_parts] == [*range(len(of.all_parts))]
+        call = imports.word(f"{'' if of.added is None else 'extensible_'}{'automatic' if is_automatic else 'own_tags'}")
+        lines = [f"abbrev pub {item.lists} : {imports.word('TypeLists')}", f"{item.lists} = {call}"]
+        for parts in [of.parts] if of.added is None else [of.parts, of.added]:
+            first, *rest = self.list(parts, is_automatic, item, imports)
+            lines = [*lines[:-1], f"{lines[-1]} {first}", *rest]
+        return lines
 
     def lines(self, item, imports):
         """Returns the lines of an item in the file of its module, below its ASN.1."""
@@ -189,13 +217,8 @@ class Schemas:
         if of.parts is None or item.target:
             text = self.of_use(item.target, item, imports) if item.target else self.of_type(of, item, imports)
             return [*lines, head, f"{item.word} = {text}"]
-        lines += self.list(item.root, of.parts, 0, item, imports)
-        name = {"SEQUENCE": "sequence", "CHOICE": "choice"}[of.kind]
-        if of.added is None:
-            return [*lines, "", head, f"{item.word} = {imports.word(name)} {item.root}"]
-        lines += ["", *self.list(item.behind, of.added, len(of.parts), item, imports)]
-        name = {"SEQUENCE": "extended_sequence", "CHOICE": "extensible_choice"}[of.kind]
-        return [*lines, "", head, f"{item.word} = {imports.word(name)} {item.root} {item.behind}"]
+        name = imports.word({"SEQUENCE": "sequence", "CHOICE": "choice"}[of.kind])
+        return [*lines, *self.lists(item, imports), "", head, f"{item.word} = {name} {item.lists}"]
 
     def file(self, module, items):
         """Returns the schemas of the items of a module, in the order in which they need one another."""

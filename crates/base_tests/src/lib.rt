@@ -3,6 +3,8 @@
 #![tactic(auto)]
 
 #[cfg(test)]
+mod bit_strings;
+#[cfg(test)]
 mod bits;
 #[cfg(test)]
 mod expected;
@@ -14,5 +16,7 @@ mod numbers;
 mod octets;
 #[cfg(test)]
 mod strings;
+#[cfg(test)]
+mod tags;
 #[cfg(test)]
 mod times;

@@ -3,7 +3,9 @@
 use crate::expected::{expect_equal, expect_text};
 use rasn_constraints::integer_type::IntegerType;
 use rasn_types::big::Integer;
+use rasn_types::big::numbers::TryFromIntegerError;
 use std::alloc::{AllocError, Global};
+use std::process::Abort;
 use std::test::Fail;
 
 const FIVE: &[u8] = &[0x05];
@@ -47,4 +49,83 @@ fn prints_numbers(rt: HostRuntime) -> Result<(), Fail> {
         "Primitive(-5), Variable([0, 128, 0, 0, 0, 0, 0, 0, 0, 0, 0, 0, 0, 0, 0, 0, 0])",
     );
     Ok(())
+}
+
+// -2^127 - 1, which is next to the least number of an `i128`
+const BELOW: &[u8] = &[
+    0xff, 0x7f, 0xff, 0xff, 0xff, 0xff, 0xff, 0xff, 0xff, 0xff, 0xff, 0xff, 0xff, 0xff, 0xff, 0xff,
+    0xff,
+];
+
+// 2^160, of which one group of three digits, 019, begins with a zero
+const WIDE: &[u8] = &[
+    1, 0, 0, 0, 0, 0, 0, 0, 0, 0, 0, 0, 0, 0, 0, 0, 0, 0, 0, 0, 0,
+];
+
+/// Octets in two's complement are those of the number with this decimal text.
+fn expect_decimal(
+    rt: &impl Abort,
+    alloc: Global,
+    octets: &[u8],
+    text: &str,
+) -> Result<(), AllocError> {
+    assert!(rt; !octets.is_empty());
+    let number = Integer::from_signed_octets(alloc, octets)?;
+    let printed = format!(in alloc; "{number}")?;
+    expect_text(rt, printed.as_str(), text);
+    Ok(())
+}
+
+#[test]
+fn prints_numbers_in_decimal(rt: HostRuntime) -> Result<(), AllocError> {
+    let alloc = rt.alloc();
+    expect_decimal(&rt, alloc, &[0], "0")?;
+    expect_decimal(&rt, alloc, &[0xff, 0x7f], "-129")?;
+    expect_decimal(&rt, alloc, ABOVE, "170141183460469231731687303715884105728")?;
+    expect_decimal(
+        &rt,
+        alloc,
+        BELOW,
+        "-170141183460469231731687303715884105729",
+    )?;
+    expect_decimal(
+        &rt,
+        alloc,
+        WIDE,
+        "1461501637330902918203684832716283019655932542976",
+    )
+}
+
+#[test]
+fn prints_numbers_in_a_width(rt: HostRuntime) -> Result<(), AllocError> {
+    let number = Integer::from_signed_octets(rt.alloc(), BELOW)?;
+    let printed = format!(in rt.alloc(); "{number:>42}")?;
+    expect_text(
+        &rt,
+        printed.as_str(),
+        "  -170141183460469231731687303715884105729",
+    );
+    Ok(())
+}
+
+#[test]
+fn copies_are_equal(rt: HostRuntime) -> Result<(), AllocError> {
+    let large = Integer::from_signed_octets(rt.alloc(), ABOVE)?;
+    let small = Integer::from(7u8);
+    expect_equal(&rt, &large.clone()?, &large);
+    expect_equal(&rt, &small.clone()?, &small);
+    Ok(())
+}
+
+#[test]
+fn becomes_each_number_type(rt: HostRuntime) {
+    let number = Integer::from(200u8);
+    expect_equal(&rt, &i8::try_from(&number), &Err(TryFromIntegerError));
+    expect_equal(&rt, &u8::try_from(&number), &Ok(200));
+    expect_equal(&rt, &i16::try_from(&number), &Ok(200));
+    expect_equal(&rt, &u16::try_from(&number), &Ok(200));
+    expect_equal(&rt, &i32::try_from(&number), &Ok(200));
+    expect_equal(&rt, &u32::try_from(&number), &Ok(200));
+    expect_equal(&rt, &i64::try_from(&number), &Ok(200));
+    expect_equal(&rt, &u64::try_from(&number), &Ok(200));
 }

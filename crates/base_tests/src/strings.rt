@@ -2,7 +2,8 @@
 
 use crate::expected::{expect_equal, expect_text};
 use rasn_strings::strings::{
-    BmpString, Ia5String, NumericString, PrintableString, StaticPermittedAlphabet, VisibleString,
+    BmpString, Ia5String, NumericString, PrintableString, StaticPermittedAlphabet, StringError,
+    VisibleString,
 };
 use std::alloc::{AllocError, Global};
 use std::process::Abort;
@@ -63,5 +64,38 @@ fn prints_strings(rt: HostRuntime) -> Result<(), Fail> {
     let one: NumericString = built(rt.alloc(), 49)?;
     let text = format!(in rt.alloc(); "{one:?}")?;
     expect_text(&rt, text.as_str(), "NumericString { characters: [49] }");
+    Ok(())
+}
+
+#[test]
+fn makes_strings_of_texts(rt: HostRuntime) -> Result<(), Fail> {
+    let alloc = rt.alloc();
+    let name = PrintableString::from_str(alloc, "Ann-Marie")?;
+    let copy = name.clone()?;
+    expect_equal(&rt, &copy, &name);
+    let text = format!(in alloc; "{copy}")?;
+    expect_text(&rt, text.as_str(), "Ann-Marie");
+    Ok(())
+}
+
+/// Why a text is no NumericString.
+fn refusal(alloc: Global, text: &str) -> Option<StringError> {
+    NumericString::from_str(alloc, text).err()
+}
+
+#[test]
+fn names_foreign_characters(rt: HostRuntime) -> Result<(), Fail> {
+    let alloc = rt.alloc();
+    let foreign = StringError::ForeignCharacter {
+        character: 'ä',
+        index: 2,
+    };
+    expect_equal(&rt, &refusal(alloc, "12ä4"), &Some(foreign));
+    let text = format!(in alloc; "{foreign}, {}", StringError::OutOfMemory)?;
+    expect_text(
+        &rt,
+        text.as_str(),
+        "'ä' at index 2 is not a character of the type, out of memory",
+    );
     Ok(())
 }

@@ -1,16 +1,12 @@
 //! BasicVehicleContainerLowFrequency, of the module CAM-PDU-Descriptions.
 
-ghost use Rattle.cam.specs.CamPduDescriptions.{basic_vehicle_container_low_frequency_root};
-ghost use Rattle.rasn_below.specs.Components.{fields_of};
-ghost use Rattle.rasn_below.specs.Values.{bits};
+ghost use Rattle.cam.specs.CamPduDescriptions.{basic_vehicle_container_low_frequency_lists};
+ghost use Rattle.rasn_below.specs.Page.{bits, fields_of};
 ghost use Rattle.std.specs.Prelude.{Some, [], max, refl, ◌∷◌};
 
 use its_container::aliases::{ExteriorLights, PathHistory};
 use its_container::vehicle_role::VehicleRole;
-use rasn_below::{
-    AsnType, Components, Constraint, Decoder, Encoder, Fields, Record, bounds, decode_components,
-    encode_components, fields,
-};
+use rasn_below::page::*;
 
 /// BasicVehicleContainerLowFrequency ::= SEQUENCE {
 ///     vehicleRole VehicleRole,
@@ -24,26 +20,22 @@ pub struct BasicVehicleContainerLowFrequency {
     pub path_history: PathHistory,
 }
 
-macro_rules! components {
-    ($to:ident $($with:ident)*) => {
-        $to! { [$($with)*]
-            required 0 "vehicleRole" vehicle_role: VehicleRole [];
-            required 1 "exteriorLights" exterior_lights: ExteriorLights [SIZE 8..=8];
-            required 2 "pathHistory" path_history: PathHistory [SIZE 0..=40];
-        }
-    };
-}
+macro_rules! components { ($to:ident $($with:ident)*) => { $to! { [$($with)*]
+    required 0 "vehicleRole" vehicle_role: VehicleRole [];
+    required 1 "exteriorLights" exterior_lights: ExteriorLights [SIZE 8..=8];
+    required 2 "pathHistory" path_history: PathHistory [SIZE 0..=40];
+} }; }
 
-const FIELDS: Fields = components!(fields);
+const FIELDS: FieldLists = components!(fields);
 
-const BOUNDS: &[&[Constraint]] = components!(bounds);
+const BOUNDS: Bounds = components!(bounds);
 
 impl Components for BasicVehicleContainerLowFrequency {
-    const COMPONENTS: Fields = FIELDS;
+    const COMPONENTS: FieldLists = FIELDS;
 
-    ghost COMPONENTS = { fields_of basic_vehicle_container_low_frequency_root };
+    ghost COMPONENTS = { fields_of basic_vehicle_container_low_frequency_lists };
 
-    ghost components = { basic_vehicle_container_low_frequency_root };
+    ghost components = { (basic_vehicle_container_low_frequency_lists, refl) };
 
     ghost contents = { λ x.
         Some (⟦<VehicleRole as AsnType>⟧.value x.vehicle_role) ∷
@@ -55,8 +47,6 @@ impl Components for BasicVehicleContainerLowFrequency {
         (max 0
         (max 0
         (max (⟦<PathHistory as AsnType>⟧.levels x.path_history) 0))) };
-
-    ghost described = { refl };
 }
 
 impl Record for BasicVehicleContainerLowFrequency {

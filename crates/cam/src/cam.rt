@@ -1,15 +1,12 @@
 //! Cam, of the module CAM-PDU-Descriptions.
 
-ghost use Rattle.cam.specs.CamPduDescriptions.{cam_root};
-ghost use Rattle.rasn_below.specs.Components.{fields_of};
+ghost use Rattle.cam.specs.CamPduDescriptions.{cam_lists};
+ghost use Rattle.rasn_below.specs.Page.{fields_of};
 ghost use Rattle.std.specs.Prelude.{Some, [], max, refl, ◌∷◌};
 
 use crate::coop_awareness::CoopAwareness;
 use its_container::its_pdu_header::ItsPduHeader;
-use rasn_below::{
-    AsnType, Components, Constraint, Decoder, Encoder, Fields, Record, bounds, decode_components,
-    encode_components, fields,
-};
+use rasn_below::page::*;
 
 /// CAM ::= SEQUENCE {
 ///     header ItsPduHeader,
@@ -21,25 +18,21 @@ pub struct Cam {
     pub cam: CoopAwareness,
 }
 
-macro_rules! components {
-    ($to:ident $($with:ident)*) => {
-        $to! { [$($with)*]
-            required 0 "header" header: ItsPduHeader [];
-            required 1 "cam" cam: CoopAwareness [];
-        }
-    };
-}
+macro_rules! components { ($to:ident $($with:ident)*) => { $to! { [$($with)*]
+    required 0 "header" header: ItsPduHeader [];
+    required 1 "cam" cam: CoopAwareness [];
+} }; }
 
-const FIELDS: Fields = components!(fields);
+const FIELDS: FieldLists = components!(fields);
 
-const BOUNDS: &[&[Constraint]] = components!(bounds);
+const BOUNDS: Bounds = components!(bounds);
 
 impl Components for Cam {
-    const COMPONENTS: Fields = FIELDS;
+    const COMPONENTS: FieldLists = FIELDS;
 
-    ghost COMPONENTS = { fields_of cam_root };
+    ghost COMPONENTS = { fields_of cam_lists };
 
-    ghost components = { cam_root };
+    ghost components = { (cam_lists, refl) };
 
     ghost contents = { λ x.
         Some (⟦<ItsPduHeader as AsnType>⟧.value x.header) ∷
@@ -49,8 +42,6 @@ impl Components for Cam {
     ghost depth = { λ x.
         (max (⟦<ItsPduHeader as AsnType>⟧.levels x.header)
         (max (⟦<CoopAwareness as AsnType>⟧.levels x.cam) 0)) };
-
-    ghost described = { refl };
 }
 
 impl Record for Cam {

@@ -1,16 +1,12 @@
 //! CoopAwareness, of the module CAM-PDU-Descriptions.
 
-ghost use Rattle.cam.specs.CamPduDescriptions.{coop_awareness_root};
-ghost use Rattle.rasn_below.specs.Components.{fields_of};
-ghost use Rattle.rasn_below.specs.Values.{whole};
+ghost use Rattle.cam.specs.CamPduDescriptions.{coop_awareness_lists};
+ghost use Rattle.rasn_below.specs.Page.{fields_of, whole};
 ghost use Rattle.std.specs.Prelude.{Some, [], max, pos, refl, ◌∷◌};
 
 use crate::aliases::GenerationDeltaTime;
 use crate::cam_parameters::CamParameters;
-use rasn_below::{
-    AsnType, Components, Constraint, Decoder, Encoder, Fields, Record, bounds, decode_components,
-    encode_components, fields,
-};
+use rasn_below::page::*;
 
 /// CoopAwareness ::= SEQUENCE {
 ///     generationDeltaTime GenerationDeltaTime,
@@ -22,25 +18,21 @@ pub struct CoopAwareness {
     pub cam_parameters: CamParameters,
 }
 
-macro_rules! components {
-    ($to:ident $($with:ident)*) => {
-        $to! { [$($with)*]
-            required 0 "generationDeltaTime" generation_delta_time: GenerationDeltaTime [0..=65_535];
-            required 1 "camParameters" cam_parameters: CamParameters [];
-        }
-    };
-}
+macro_rules! components { ($to:ident $($with:ident)*) => { $to! { [$($with)*]
+    required 0 "generationDeltaTime" generation_delta_time: GenerationDeltaTime [0..=65_535];
+    required 1 "camParameters" cam_parameters: CamParameters [];
+} }; }
 
-const FIELDS: Fields = components!(fields);
+const FIELDS: FieldLists = components!(fields);
 
-const BOUNDS: &[&[Constraint]] = components!(bounds);
+const BOUNDS: Bounds = components!(bounds);
 
 impl Components for CoopAwareness {
-    const COMPONENTS: Fields = FIELDS;
+    const COMPONENTS: FieldLists = FIELDS;
 
-    ghost COMPONENTS = { fields_of coop_awareness_root };
+    ghost COMPONENTS = { fields_of coop_awareness_lists };
 
-    ghost components = { coop_awareness_root };
+    ghost components = { (coop_awareness_lists, refl) };
 
     ghost contents = { λ x.
         Some (whole (pos x.generation_delta_time)) ∷
@@ -50,8 +42,6 @@ impl Components for CoopAwareness {
     ghost depth = { λ x.
         (max 0
         (max (⟦<CamParameters as AsnType>⟧.levels x.cam_parameters) 0)) };
-
-    ghost described = { refl };
 }
 
 impl Record for CoopAwareness {

@@ -1,14 +1,11 @@
 //! DangerousGoodsContainer, of the module CAM-PDU-Descriptions.
 
-ghost use Rattle.cam.specs.CamPduDescriptions.{dangerous_goods_container_root};
-ghost use Rattle.rasn_below.specs.Components.{fields_of};
+ghost use Rattle.cam.specs.CamPduDescriptions.{dangerous_goods_container_lists};
+ghost use Rattle.rasn_below.specs.Page.{fields_of};
 ghost use Rattle.std.specs.Prelude.{Some, [], refl, ◌∷◌};
 
 use its_container::dangerous_goods_basic::DangerousGoodsBasic;
-use rasn_below::{
-    AsnType, Components, Constraint, Decoder, Encoder, Fields, Record, bounds, decode_components,
-    encode_components, fields,
-};
+use rasn_below::page::*;
 
 /// DangerousGoodsContainer ::= SEQUENCE {
 ///     dangerousGoodsBasic DangerousGoodsBasic
@@ -18,30 +15,24 @@ pub struct DangerousGoodsContainer {
     pub dangerous_goods_basic: DangerousGoodsBasic,
 }
 
-macro_rules! components {
-    ($to:ident $($with:ident)*) => {
-        $to! { [$($with)*]
-            required 0 "dangerousGoodsBasic" dangerous_goods_basic: DangerousGoodsBasic [];
-        }
-    };
-}
+macro_rules! components { ($to:ident $($with:ident)*) => { $to! { [$($with)*]
+    required 0 "dangerousGoodsBasic" dangerous_goods_basic: DangerousGoodsBasic [];
+} }; }
 
-const FIELDS: Fields = components!(fields);
+const FIELDS: FieldLists = components!(fields);
 
-const BOUNDS: &[&[Constraint]] = components!(bounds);
+const BOUNDS: Bounds = components!(bounds);
 
 impl Components for DangerousGoodsContainer {
-    const COMPONENTS: Fields = FIELDS;
+    const COMPONENTS: FieldLists = FIELDS;
 
-    ghost COMPONENTS = { fields_of dangerous_goods_container_root };
+    ghost COMPONENTS = { fields_of dangerous_goods_container_lists };
 
-    ghost components = { dangerous_goods_container_root };
+    ghost components = { (dangerous_goods_container_lists, refl) };
 
     ghost contents = { λ x.
         Some (⟦<DangerousGoodsBasic as AsnType>⟧.value x.dangerous_goods_basic) ∷
         [] };
-
-    ghost described = { refl };
 }
 
 impl Record for DangerousGoodsContainer {

@@ -1,16 +1,12 @@
 //! EmergencyContainer, of the module CAM-PDU-Descriptions.
 
-ghost use Rattle.cam.specs.CamPduDescriptions.{emergency_container_root};
-ghost use Rattle.rasn_below.specs.Components.{fields_of};
-ghost use Rattle.rasn_below.specs.Values.{bits, slot_levels, slot_of};
+ghost use Rattle.cam.specs.CamPduDescriptions.{emergency_container_lists};
+ghost use Rattle.rasn_below.specs.Page.{bits, fields_of, slot_levels, slot_of};
 ghost use Rattle.std.specs.Prelude.{Some, [], max, refl, ◌∷◌};
 
 use its_container::aliases::{EmergencyPriority, LightBarSirenInUse};
 use its_container::cause_code::CauseCode;
-use rasn_below::{
-    AsnType, Components, Constraint, Decoder, Encoder, Fields, Record, bounds, decode_components,
-    encode_components, fields,
-};
+use rasn_below::page::*;
 
 /// EmergencyContainer ::= SEQUENCE {
 ///     lightBarSirenInUse LightBarSirenInUse,
@@ -24,26 +20,22 @@ pub struct EmergencyContainer {
     pub emergency_priority: Option<EmergencyPriority>,
 }
 
-macro_rules! components {
-    ($to:ident $($with:ident)*) => {
-        $to! { [$($with)*]
-            required 0 "lightBarSirenInUse" light_bar_siren_in_use: LightBarSirenInUse [SIZE 2..=2];
-            optional 1 "incidentIndication" incident_indication: Option<CauseCode> [];
-            optional 2 "emergencyPriority" emergency_priority: Option<EmergencyPriority> [SIZE 2..=2];
-        }
-    };
-}
+macro_rules! components { ($to:ident $($with:ident)*) => { $to! { [$($with)*]
+    required 0 "lightBarSirenInUse" light_bar_siren_in_use: LightBarSirenInUse [SIZE 2..=2];
+    optional 1 "incidentIndication" incident_indication: Option<CauseCode> [];
+    optional 2 "emergencyPriority" emergency_priority: Option<EmergencyPriority> [SIZE 2..=2];
+} }; }
 
-const FIELDS: Fields = components!(fields);
+const FIELDS: FieldLists = components!(fields);
 
-const BOUNDS: &[&[Constraint]] = components!(bounds);
+const BOUNDS: Bounds = components!(bounds);
 
 impl Components for EmergencyContainer {
-    const COMPONENTS: Fields = FIELDS;
+    const COMPONENTS: FieldLists = FIELDS;
 
-    ghost COMPONENTS = { fields_of emergency_container_root };
+    ghost COMPONENTS = { fields_of emergency_container_lists };
 
-    ghost components = { emergency_container_root };
+    ghost components = { (emergency_container_lists, refl) };
 
     ghost contents = { λ x.
         Some (bits x.light_bar_siren_in_use) ∷
@@ -55,8 +47,6 @@ impl Components for EmergencyContainer {
         (max 0
         (max (slot_levels ⟦<CauseCode as AsnType>⟧.levels x.incident_indication)
         (max (slot_levels ⟦<EmergencyPriority as AsnType>⟧.levels x.emergency_priority) 0))) };
-
-    ghost described = { refl };
 }
 
 impl Record for EmergencyContainer {

@@ -1,16 +1,14 @@
 //! LowFrequencyContainer, of the module CAM-PDU-Descriptions.
 
-ghost use Rattle.cam.specs.CamPduDescriptions.{low_frequency_container_added, low_frequency_container_root};
-ghost use Rattle.cam.specs.declared.low_frequency_container.LowFrequencyContainer.TheVariants.{BasicVehicleContainerLowFrequency};
-ghost use Rattle.rasn_below.specs.Components.{chosen, variants_in};
-ghost use Rattle.std.specs.Prelude.{Some, refl};
+ghost use Rattle.cam.specs.CamPduDescriptions.{low_frequency_container_lists};
+ghost use Rattle.cam.specs.declared.low_frequency_container.LowFrequencyContainer.TheVariants.{
+  BasicVehicleContainerLowFrequency,
+};
+ghost use Rattle.rasn_below.specs.Page.{chosen, variants_listed};
+ghost use Rattle.std.specs.Prelude.{refl};
 
 use crate::basic_vehicle_container_low_frequency::BasicVehicleContainerLowFrequency;
-use rasn_below::{
-    Alternatives, AsnType, ByKind, ChoiceKind, CodedAlternatives, Constraint, Decoder, Encoder,
-    OfKind, Tag, Variants, added_variants, alternative_bounds, decode_alternative,
-    encode_alternative, variants,
-};
+use rasn_below::page::*;
 
 /// LowFrequencyContainer ::= CHOICE {
 ///     basicVehicleContainerLowFrequency BasicVehicleContainerLowFrequency,
@@ -21,38 +19,25 @@ pub enum LowFrequencyContainer {
     BasicVehicleContainerLowFrequency(BasicVehicleContainerLowFrequency),
 }
 
-macro_rules! alternatives {
-    ($to:ident $($with:ident)*) => {
-        $to! { [$($with)*]
-            0 "basicVehicleContainerLowFrequency" BasicVehicleContainerLowFrequency: BasicVehicleContainerLowFrequency
-                [];
-            ...;
-        }
-    };
-}
+macro_rules! alternatives { ($to:ident $($with:ident)*) => { $to! { [$($with)*]
+    0 "basicVehicleContainerLowFrequency" BasicVehicleContainerLowFrequency: BasicVehicleContainerLowFrequency [];
+    ...;
+} }; }
 
-const VARIANTS: Variants = alternatives!(variants);
+const VARIANTS: VariantLists = alternatives!(variants);
 
-const ADDED_VARIANTS: Option<Variants> = alternatives!(added_variants);
-
-const BOUNDS: &[&[Constraint]] = alternatives!(alternative_bounds);
+const BOUNDS: Bounds = alternatives!(alternative_bounds);
 
 impl OfKind for LowFrequencyContainer {
     type Kind = ChoiceKind;
 }
 
 impl Alternatives for LowFrequencyContainer {
-    const ALTERNATIVES: Variants = VARIANTS;
+    const ALTERNATIVES: VariantLists = VARIANTS;
 
-    ghost ALTERNATIVES = { variants_in low_frequency_container_root };
+    ghost ALTERNATIVES = { variants_listed low_frequency_container_lists };
 
-    const ADDED_ALTERNATIVES: Option<Variants> = ADDED_VARIANTS;
-
-    ghost ADDED_ALTERNATIVES = { Some (variants_in low_frequency_container_added) };
-
-    ghost alternatives = { low_frequency_container_root };
-
-    ghost added = { Some low_frequency_container_added };
+    ghost alternatives = { (low_frequency_container_lists, refl) };
 
     ghost chosen = { elim [
       | BasicVehicleContainerLowFrequency v ↦ chosen 0 (⟦<BasicVehicleContainerLowFrequency as AsnType>⟧.value v)
@@ -61,10 +46,6 @@ impl Alternatives for LowFrequencyContainer {
     ghost depth = { elim [
       | BasicVehicleContainerLowFrequency v ↦ ⟦<BasicVehicleContainerLowFrequency as AsnType>⟧.levels v
     ] };
-
-    ghost described = { refl };
-
-    ghost extends = { refl };
 
     ghost are_variants = { record { distinct = refl; few = refl } };
 }

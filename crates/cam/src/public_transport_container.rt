@@ -1,16 +1,12 @@
 //! PublicTransportContainer, of the module CAM-PDU-Descriptions.
 
-ghost use Rattle.cam.specs.CamPduDescriptions.{public_transport_container_root};
-ghost use Rattle.rasn_below.specs.Components.{fields_of};
-ghost use Rattle.rasn_below.specs.Values.{slot_levels, slot_of, truth};
+ghost use Rattle.cam.specs.CamPduDescriptions.{public_transport_container_lists};
+ghost use Rattle.rasn_below.specs.Page.{fields_of, slot_levels, slot_of, truth};
 ghost use Rattle.std.specs.Prelude.{Some, [], max, refl, ◌∷◌};
 
 use its_container::aliases::EmbarkationStatus;
 use its_container::pt_activation::PtActivation;
-use rasn_below::{
-    AsnType, Components, Constraint, Decoder, Encoder, Fields, Record, bounds, decode_components,
-    encode_components, fields,
-};
+use rasn_below::page::*;
 
 /// PublicTransportContainer ::= SEQUENCE {
 ///     embarkationStatus EmbarkationStatus,
@@ -22,25 +18,21 @@ pub struct PublicTransportContainer {
     pub pt_activation: Option<PtActivation>,
 }
 
-macro_rules! components {
-    ($to:ident $($with:ident)*) => {
-        $to! { [$($with)*]
-            required 0 "embarkationStatus" embarkation_status: EmbarkationStatus [];
-            optional 1 "ptActivation" pt_activation: Option<PtActivation> [];
-        }
-    };
-}
+macro_rules! components { ($to:ident $($with:ident)*) => { $to! { [$($with)*]
+    required 0 "embarkationStatus" embarkation_status: EmbarkationStatus [];
+    optional 1 "ptActivation" pt_activation: Option<PtActivation> [];
+} }; }
 
-const FIELDS: Fields = components!(fields);
+const FIELDS: FieldLists = components!(fields);
 
-const BOUNDS: &[&[Constraint]] = components!(bounds);
+const BOUNDS: Bounds = components!(bounds);
 
 impl Components for PublicTransportContainer {
-    const COMPONENTS: Fields = FIELDS;
+    const COMPONENTS: FieldLists = FIELDS;
 
-    ghost COMPONENTS = { fields_of public_transport_container_root };
+    ghost COMPONENTS = { fields_of public_transport_container_lists };
 
-    ghost components = { public_transport_container_root };
+    ghost components = { (public_transport_container_lists, refl) };
 
     ghost contents = { λ x.
         Some (truth x.embarkation_status) ∷
@@ -50,8 +42,6 @@ impl Components for PublicTransportContainer {
     ghost depth = { λ x.
         (max 0
         (max (slot_levels ⟦<PtActivation as AsnType>⟧.levels x.pt_activation) 0)) };
-
-    ghost described = { refl };
 }
 
 impl Record for PublicTransportContainer {

@@ -1,15 +1,11 @@
 //! RescueContainer, of the module CAM-PDU-Descriptions.
 
-ghost use Rattle.cam.specs.CamPduDescriptions.{rescue_container_root};
-ghost use Rattle.rasn_below.specs.Components.{fields_of};
-ghost use Rattle.rasn_below.specs.Values.{bits};
+ghost use Rattle.cam.specs.CamPduDescriptions.{rescue_container_lists};
+ghost use Rattle.rasn_below.specs.Page.{bits, fields_of};
 ghost use Rattle.std.specs.Prelude.{Some, [], refl, ◌∷◌};
 
 use its_container::aliases::LightBarSirenInUse;
-use rasn_below::{
-    Components, Constraint, Decoder, Encoder, Fields, Record, bounds, decode_components,
-    encode_components, fields,
-};
+use rasn_below::page::*;
 
 /// RescueContainer ::= SEQUENCE {
 ///     lightBarSirenInUse LightBarSirenInUse
@@ -19,30 +15,24 @@ pub struct RescueContainer {
     pub light_bar_siren_in_use: LightBarSirenInUse,
 }
 
-macro_rules! components {
-    ($to:ident $($with:ident)*) => {
-        $to! { [$($with)*]
-            required 0 "lightBarSirenInUse" light_bar_siren_in_use: LightBarSirenInUse [SIZE 2..=2];
-        }
-    };
-}
+macro_rules! components { ($to:ident $($with:ident)*) => { $to! { [$($with)*]
+    required 0 "lightBarSirenInUse" light_bar_siren_in_use: LightBarSirenInUse [SIZE 2..=2];
+} }; }
 
-const FIELDS: Fields = components!(fields);
+const FIELDS: FieldLists = components!(fields);
 
-const BOUNDS: &[&[Constraint]] = components!(bounds);
+const BOUNDS: Bounds = components!(bounds);
 
 impl Components for RescueContainer {
-    const COMPONENTS: Fields = FIELDS;
+    const COMPONENTS: FieldLists = FIELDS;
 
-    ghost COMPONENTS = { fields_of rescue_container_root };
+    ghost COMPONENTS = { fields_of rescue_container_lists };
 
-    ghost components = { rescue_container_root };
+    ghost components = { (rescue_container_lists, refl) };
 
     ghost contents = { λ x.
         Some (bits x.light_bar_siren_in_use) ∷
         [] };
-
-    ghost described = { refl };
 }
 
 impl Record for RescueContainer {

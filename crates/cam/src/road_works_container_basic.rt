@@ -1,16 +1,12 @@
 //! RoadWorksContainerBasic, of the module CAM-PDU-Descriptions.
 
-ghost use Rattle.cam.specs.CamPduDescriptions.{road_works_container_basic_root};
-ghost use Rattle.rasn_below.specs.Components.{fields_of};
-ghost use Rattle.rasn_below.specs.Values.{bits, slot_levels, slot_of, whole};
+ghost use Rattle.cam.specs.CamPduDescriptions.{road_works_container_basic_lists};
+ghost use Rattle.rasn_below.specs.Page.{bits, fields_of, slot_levels, slot_of, whole};
 ghost use Rattle.std.specs.Prelude.{Some, [], max, pos, refl, ◌∷◌};
 
 use its_container::aliases::{LightBarSirenInUse, RoadworksSubCauseCode};
 use its_container::closed_lanes::ClosedLanes;
-use rasn_below::{
-    AsnType, Components, Constraint, Decoder, Encoder, Fields, Record, bounds, decode_components,
-    encode_components, fields,
-};
+use rasn_below::page::*;
 
 /// RoadWorksContainerBasic ::= SEQUENCE {
 ///     roadworksSubCauseCode RoadworksSubCauseCode OPTIONAL,
@@ -24,26 +20,22 @@ pub struct RoadWorksContainerBasic {
     pub closed_lanes: Option<ClosedLanes>,
 }
 
-macro_rules! components {
-    ($to:ident $($with:ident)*) => {
-        $to! { [$($with)*]
-            optional 0 "roadworksSubCauseCode" roadworks_sub_cause_code: Option<RoadworksSubCauseCode> [0..=255];
-            required 1 "lightBarSirenInUse" light_bar_siren_in_use: LightBarSirenInUse [SIZE 2..=2];
-            optional 2 "closedLanes" closed_lanes: Option<ClosedLanes> [];
-        }
-    };
-}
+macro_rules! components { ($to:ident $($with:ident)*) => { $to! { [$($with)*]
+    optional 0 "roadworksSubCauseCode" roadworks_sub_cause_code: Option<RoadworksSubCauseCode> [0..=255];
+    required 1 "lightBarSirenInUse" light_bar_siren_in_use: LightBarSirenInUse [SIZE 2..=2];
+    optional 2 "closedLanes" closed_lanes: Option<ClosedLanes> [];
+} }; }
 
-const FIELDS: Fields = components!(fields);
+const FIELDS: FieldLists = components!(fields);
 
-const BOUNDS: &[&[Constraint]] = components!(bounds);
+const BOUNDS: Bounds = components!(bounds);
 
 impl Components for RoadWorksContainerBasic {
-    const COMPONENTS: Fields = FIELDS;
+    const COMPONENTS: FieldLists = FIELDS;
 
-    ghost COMPONENTS = { fields_of road_works_container_basic_root };
+    ghost COMPONENTS = { fields_of road_works_container_basic_lists };
 
-    ghost components = { road_works_container_basic_root };
+    ghost components = { (road_works_container_basic_lists, refl) };
 
     ghost contents = { λ x.
         slot_of (λ v. whole (pos v)) x.roadworks_sub_cause_code ∷
@@ -55,8 +47,6 @@ impl Components for RoadWorksContainerBasic {
         (max (slot_levels ⟦<RoadworksSubCauseCode as AsnType>⟧.levels x.roadworks_sub_cause_code)
         (max 0
         (max (slot_levels ⟦<ClosedLanes as AsnType>⟧.levels x.closed_lanes) 0))) };
-
-    ghost described = { refl };
 }
 
 impl Record for RoadWorksContainerBasic {

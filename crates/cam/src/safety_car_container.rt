@@ -1,17 +1,13 @@
 //! SafetyCarContainer, of the module CAM-PDU-Descriptions.
 
-ghost use Rattle.cam.specs.CamPduDescriptions.{safety_car_container_root};
-ghost use Rattle.rasn_below.specs.Components.{fields_of};
-ghost use Rattle.rasn_below.specs.Values.{bits, slot_levels, slot_of, whole};
+ghost use Rattle.cam.specs.CamPduDescriptions.{safety_car_container_lists};
+ghost use Rattle.rasn_below.specs.Page.{bits, fields_of, slot_levels, slot_of, whole};
 ghost use Rattle.std.specs.Prelude.{Some, [], max, pos, refl, ◌∷◌};
 
 use its_container::aliases::{LightBarSirenInUse, SpeedLimit};
 use its_container::cause_code::CauseCode;
 use its_container::traffic_rule::TrafficRule;
-use rasn_below::{
-    AsnType, Components, Constraint, Decoder, Encoder, Fields, Record, bounds, decode_components,
-    encode_components, fields,
-};
+use rasn_below::page::*;
 
 /// SafetyCarContainer ::= SEQUENCE {
 ///     lightBarSirenInUse LightBarSirenInUse,
@@ -27,27 +23,23 @@ pub struct SafetyCarContainer {
     pub speed_limit: Option<SpeedLimit>,
 }
 
-macro_rules! components {
-    ($to:ident $($with:ident)*) => {
-        $to! { [$($with)*]
-            required 0 "lightBarSirenInUse" light_bar_siren_in_use: LightBarSirenInUse [SIZE 2..=2];
-            optional 1 "incidentIndication" incident_indication: Option<CauseCode> [];
-            optional 2 "trafficRule" traffic_rule: Option<TrafficRule> [];
-            optional 3 "speedLimit" speed_limit: Option<SpeedLimit> [1..=255];
-        }
-    };
-}
+macro_rules! components { ($to:ident $($with:ident)*) => { $to! { [$($with)*]
+    required 0 "lightBarSirenInUse" light_bar_siren_in_use: LightBarSirenInUse [SIZE 2..=2];
+    optional 1 "incidentIndication" incident_indication: Option<CauseCode> [];
+    optional 2 "trafficRule" traffic_rule: Option<TrafficRule> [];
+    optional 3 "speedLimit" speed_limit: Option<SpeedLimit> [1..=255];
+} }; }
 
-const FIELDS: Fields = components!(fields);
+const FIELDS: FieldLists = components!(fields);
 
-const BOUNDS: &[&[Constraint]] = components!(bounds);
+const BOUNDS: Bounds = components!(bounds);
 
 impl Components for SafetyCarContainer {
-    const COMPONENTS: Fields = FIELDS;
+    const COMPONENTS: FieldLists = FIELDS;
 
-    ghost COMPONENTS = { fields_of safety_car_container_root };
+    ghost COMPONENTS = { fields_of safety_car_container_lists };
 
-    ghost components = { safety_car_container_root };
+    ghost components = { (safety_car_container_lists, refl) };
 
     ghost contents = { λ x.
         Some (bits x.light_bar_siren_in_use) ∷
@@ -61,8 +53,6 @@ impl Components for SafetyCarContainer {
         (max (slot_levels ⟦<CauseCode as AsnType>⟧.levels x.incident_indication)
         (max (slot_levels ⟦<TrafficRule as AsnType>⟧.levels x.traffic_rule)
         (max (slot_levels ⟦<SpeedLimit as AsnType>⟧.levels x.speed_limit) 0)))) };
-
-    ghost described = { refl };
 }
 
 impl Record for SafetyCarContainer {

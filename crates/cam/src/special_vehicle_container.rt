@@ -1,9 +1,23 @@
 //! SpecialVehicleContainer, of the module CAM-PDU-Descriptions.
 
-ghost use Rattle.cam.specs.CamPduDescriptions.{special_vehicle_container_added, special_vehicle_container_root};
-ghost use Rattle.cam.specs.declared.special_vehicle_container.SpecialVehicleContainer.TheVariants.{DangerousGoodsContainer, EmergencyContainer, PublicTransportContainer, RescueContainer, RoadWorksContainerBasic, SafetyCarContainer, SpecialTransportContainer};
-ghost use Rattle.rasn_below.specs.Components.{chosen, variants_in};
-ghost use Rattle.std.specs.Prelude.{Some, refl};
+ghost use Rattle.cam.specs.CamPduDescriptions.{special_vehicle_container_lists};
+ghost use Rattle.cam.specs.declared.special_vehicle_container.SpecialVehicleContainer.TheVariants.{
+  DangerousGoodsContainer,
+};
+ghost use Rattle.cam.specs.declared.special_vehicle_container.SpecialVehicleContainer.TheVariants.{EmergencyContainer};
+ghost use Rattle.cam.specs.declared.special_vehicle_container.SpecialVehicleContainer.TheVariants.{
+  PublicTransportContainer,
+};
+ghost use Rattle.cam.specs.declared.special_vehicle_container.SpecialVehicleContainer.TheVariants.{RescueContainer};
+ghost use Rattle.cam.specs.declared.special_vehicle_container.SpecialVehicleContainer.TheVariants.{
+  RoadWorksContainerBasic,
+};
+ghost use Rattle.cam.specs.declared.special_vehicle_container.SpecialVehicleContainer.TheVariants.{SafetyCarContainer};
+ghost use Rattle.cam.specs.declared.special_vehicle_container.SpecialVehicleContainer.TheVariants.{
+  SpecialTransportContainer,
+};
+ghost use Rattle.rasn_below.specs.Page.{chosen, variants_listed};
+ghost use Rattle.std.specs.Prelude.{refl};
 
 use crate::dangerous_goods_container::DangerousGoodsContainer;
 use crate::emergency_container::EmergencyContainer;
@@ -12,11 +26,7 @@ use crate::rescue_container::RescueContainer;
 use crate::road_works_container_basic::RoadWorksContainerBasic;
 use crate::safety_car_container::SafetyCarContainer;
 use crate::special_transport_container::SpecialTransportContainer;
-use rasn_below::{
-    Alternatives, AsnType, ByKind, ChoiceKind, CodedAlternatives, Constraint, Decoder, Encoder,
-    OfKind, Tag, Variants, added_variants, alternative_bounds, decode_alternative,
-    encode_alternative, variants,
-};
+use rasn_below::page::*;
 
 /// SpecialVehicleContainer ::= CHOICE {
 ///     publicTransportContainer PublicTransportContainer,
@@ -39,43 +49,31 @@ pub enum SpecialVehicleContainer {
     SafetyCarContainer(SafetyCarContainer),
 }
 
-macro_rules! alternatives {
-    ($to:ident $($with:ident)*) => {
-        $to! { [$($with)*]
-            0 "publicTransportContainer" PublicTransportContainer: PublicTransportContainer [];
-            1 "specialTransportContainer" SpecialTransportContainer: SpecialTransportContainer [];
-            2 "dangerousGoodsContainer" DangerousGoodsContainer: DangerousGoodsContainer [];
-            3 "roadWorksContainerBasic" RoadWorksContainerBasic: RoadWorksContainerBasic [];
-            4 "rescueContainer" RescueContainer: RescueContainer [];
-            5 "emergencyContainer" EmergencyContainer: EmergencyContainer [];
-            6 "safetyCarContainer" SafetyCarContainer: SafetyCarContainer [];
-            ...;
-        }
-    };
-}
+macro_rules! alternatives { ($to:ident $($with:ident)*) => { $to! { [$($with)*]
+    0 "publicTransportContainer" PublicTransportContainer: PublicTransportContainer [];
+    1 "specialTransportContainer" SpecialTransportContainer: SpecialTransportContainer [];
+    2 "dangerousGoodsContainer" DangerousGoodsContainer: DangerousGoodsContainer [];
+    3 "roadWorksContainerBasic" RoadWorksContainerBasic: RoadWorksContainerBasic [];
+    4 "rescueContainer" RescueContainer: RescueContainer [];
+    5 "emergencyContainer" EmergencyContainer: EmergencyContainer [];
+    6 "safetyCarContainer" SafetyCarContainer: SafetyCarContainer [];
+    ...;
+} }; }
 
-const VARIANTS: Variants = alternatives!(variants);
+const VARIANTS: VariantLists = alternatives!(variants);
 
-const ADDED_VARIANTS: Option<Variants> = alternatives!(added_variants);
-
-const BOUNDS: &[&[Constraint]] = alternatives!(alternative_bounds);
+const BOUNDS: Bounds = alternatives!(alternative_bounds);
 
 impl OfKind for SpecialVehicleContainer {
     type Kind = ChoiceKind;
 }
 
 impl Alternatives for SpecialVehicleContainer {
-    const ALTERNATIVES: Variants = VARIANTS;
+    const ALTERNATIVES: VariantLists = VARIANTS;
 
-    ghost ALTERNATIVES = { variants_in special_vehicle_container_root };
+    ghost ALTERNATIVES = { variants_listed special_vehicle_container_lists };
 
-    const ADDED_ALTERNATIVES: Option<Variants> = ADDED_VARIANTS;
-
-    ghost ADDED_ALTERNATIVES = { Some (variants_in special_vehicle_container_added) };
-
-    ghost alternatives = { special_vehicle_container_root };
-
-    ghost added = { Some special_vehicle_container_added };
+    ghost alternatives = { (special_vehicle_container_lists, refl) };
 
     ghost chosen = { elim [
       | PublicTransportContainer v ↦ chosen 0 (⟦<PublicTransportContainer as AsnType>⟧.value v)
@@ -96,10 +94,6 @@ impl Alternatives for SpecialVehicleContainer {
       | EmergencyContainer v ↦ ⟦<EmergencyContainer as AsnType>⟧.levels v
       | SafetyCarContainer v ↦ ⟦<SafetyCarContainer as AsnType>⟧.levels v
     ] };
-
-    ghost described = { refl };
-
-    ghost extends = { refl };
 
     ghost are_variants = { record { distinct = refl; few = refl } };
 }

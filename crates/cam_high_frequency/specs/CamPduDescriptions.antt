@@ -1,7 +1,11 @@
 -- The module CAM-PDU-Descriptions: below each definition in ASN.1 stands what the theorem takes it for.
-use Rattle.its_container.specs.ItsContainer.{acceleration_control, cen_dsrc_tolling_zone, curvature, curvature_calculation_mode, drive_direction, heading, lane_position, lateral_acceleration, longitudinal_acceleration, performance_class, protected_communication_zones_rsu, speed, steering_wheel_angle, vehicle_length, vehicle_width, vertical_acceleration, yaw_rate}
-use Rattle.rasn_below.specs.Components.{Component, automatic, extended_sequence, extensible_choice, optional, sequence}
-use Rattle.std.specs.Prelude.{List, [], ◌∷◌}
+use Rattle.its_container.specs.ItsContainer.{acceleration_control, cen_dsrc_tolling_zone, curvature}
+use Rattle.its_container.specs.ItsContainer.{curvature_calculation_mode, drive_direction, heading, lane_position}
+use Rattle.its_container.specs.ItsContainer.{lateral_acceleration, longitudinal_acceleration, performance_class}
+use Rattle.its_container.specs.ItsContainer.{protected_communication_zones_rsu, speed, steering_wheel_angle}
+use Rattle.its_container.specs.ItsContainer.{vehicle_length, vehicle_width, vertical_acceleration, yaw_rate}
+use Rattle.rasn_below.specs.Page.{Component, TypeLists, automatic, choice, extensible_automatic, optional, sequence}
+use Rattle.std.specs.Prelude.{[], ◌∷◌}
 
 -- BasicVehicleContainerHighFrequency ::= SEQUENCE {
 --     heading Heading,
@@ -21,8 +25,8 @@ use Rattle.std.specs.Prelude.{List, [], ◌∷◌}
 --     performanceClass PerformanceClass OPTIONAL,
 --     cenDsrcTollingZone CenDsrcTollingZone OPTIONAL
 -- }
-abbrev pub basic_vehicle_container_high_frequency_root : List Component
-basic_vehicle_container_high_frequency_root = automatic (
+abbrev pub basic_vehicle_container_high_frequency_lists : TypeLists
+basic_vehicle_container_high_frequency_lists = automatic (
     heading ∷  -- heading
     speed ∷  -- speed
     drive_direction ∷  -- driveDirection
@@ -42,36 +46,30 @@ basic_vehicle_container_high_frequency_root = automatic (
     [])
 
 abbrev pub basic_vehicle_container_high_frequency : Component
-basic_vehicle_container_high_frequency = sequence basic_vehicle_container_high_frequency_root
+basic_vehicle_container_high_frequency = sequence basic_vehicle_container_high_frequency_lists
 
 -- RSUContainerHighFrequency ::= SEQUENCE {
 --     protectedCommunicationZonesRSU ProtectedCommunicationZonesRSU OPTIONAL,
 --     ...
 -- }
-abbrev pub rsu_container_high_frequency_root : List Component
-rsu_container_high_frequency_root = automatic (
+abbrev pub rsu_container_high_frequency_lists : TypeLists
+rsu_container_high_frequency_lists = extensible_automatic (
     optional protected_communication_zones_rsu ∷  -- protectedCommunicationZonesRSU
-    [])
-
-abbrev pub rsu_container_high_frequency_added : List Component
-rsu_container_high_frequency_added = []
+    []) []
 
 abbrev pub rsu_container_high_frequency : Component
-rsu_container_high_frequency = extended_sequence rsu_container_high_frequency_root rsu_container_high_frequency_added
+rsu_container_high_frequency = sequence rsu_container_high_frequency_lists
 
 -- HighFrequencyContainer ::= CHOICE {
 --     basicVehicleContainerHighFrequency BasicVehicleContainerHighFrequency,
 --     rsuContainerHighFrequency RSUContainerHighFrequency,
 --     ...
 -- }
-abbrev pub high_frequency_container_root : List Component
-high_frequency_container_root = automatic (
+abbrev pub high_frequency_container_lists : TypeLists
+high_frequency_container_lists = extensible_automatic (
     basic_vehicle_container_high_frequency ∷  -- basicVehicleContainerHighFrequency
     rsu_container_high_frequency ∷  -- rsuContainerHighFrequency
-    [])
-
-abbrev pub high_frequency_container_added : List Component
-high_frequency_container_added = []
+    []) []
 
 abbrev pub high_frequency_container : Component
-high_frequency_container = extensible_choice high_frequency_container_root high_frequency_container_added
+high_frequency_container = choice high_frequency_container_lists

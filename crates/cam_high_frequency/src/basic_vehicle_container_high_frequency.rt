@@ -1,8 +1,7 @@
 //! BasicVehicleContainerHighFrequency, of the module CAM-PDU-Descriptions.
 
-ghost use Rattle.cam_high_frequency.specs.CamPduDescriptions.{basic_vehicle_container_high_frequency_root};
-ghost use Rattle.rasn_below.specs.Components.{fields_of};
-ghost use Rattle.rasn_below.specs.Values.{bits, slot_levels, slot_of, whole};
+ghost use Rattle.cam_high_frequency.specs.CamPduDescriptions.{basic_vehicle_container_high_frequency_lists};
+ghost use Rattle.rasn_below.specs.Page.{bits, fields_of, slot_levels, slot_of, whole};
 ghost use Rattle.std.specs.Prelude.{Some, [], max, pos, refl, ◌∷◌};
 
 use its_container::aliases::{AccelerationControl, LanePosition, PerformanceClass, VehicleWidth};
@@ -18,10 +17,7 @@ use its_container::steering_wheel_angle::SteeringWheelAngle;
 use its_container::vehicle_length::VehicleLength;
 use its_container::vertical_acceleration::VerticalAcceleration;
 use its_container::yaw_rate::YawRate;
-use rasn_below::{
-    AsnType, Components, Constraint, Decoder, Encoder, Fields, Record, bounds, decode_components,
-    encode_components, fields,
-};
+use rasn_below::page::*;
 
 /// BasicVehicleContainerHighFrequency ::= SEQUENCE {
 ///     heading Heading,
@@ -61,39 +57,35 @@ pub struct BasicVehicleContainerHighFrequency {
     pub cen_dsrc_tolling_zone: Option<CenDsrcTollingZone>,
 }
 
-macro_rules! components {
-    ($to:ident $($with:ident)*) => {
-        $to! { [$($with)*]
-            required 0 "heading" heading: Heading [];
-            required 1 "speed" speed: Speed [];
-            required 2 "driveDirection" drive_direction: DriveDirection [];
-            required 3 "vehicleLength" vehicle_length: VehicleLength [];
-            required 4 "vehicleWidth" vehicle_width: VehicleWidth [1..=62];
-            required 5 "longitudinalAcceleration" longitudinal_acceleration: LongitudinalAcceleration [];
-            required 6 "curvature" curvature: Curvature [];
-            required 7 "curvatureCalculationMode" curvature_calculation_mode: CurvatureCalculationMode [];
-            required 8 "yawRate" yaw_rate: YawRate [];
-            optional 9 "accelerationControl" acceleration_control: Option<AccelerationControl> [SIZE 7..=7];
-            optional 10 "lanePosition" lane_position: Option<LanePosition> [-1..=14];
-            optional 11 "steeringWheelAngle" steering_wheel_angle: Option<SteeringWheelAngle> [];
-            optional 12 "lateralAcceleration" lateral_acceleration: Option<LateralAcceleration> [];
-            optional 13 "verticalAcceleration" vertical_acceleration: Option<VerticalAcceleration> [];
-            optional 14 "performanceClass" performance_class: Option<PerformanceClass> [0..=7];
-            optional 15 "cenDsrcTollingZone" cen_dsrc_tolling_zone: Option<CenDsrcTollingZone> [];
-        }
-    };
-}
+macro_rules! components { ($to:ident $($with:ident)*) => { $to! { [$($with)*]
+    required 0 "heading" heading: Heading [];
+    required 1 "speed" speed: Speed [];
+    required 2 "driveDirection" drive_direction: DriveDirection [];
+    required 3 "vehicleLength" vehicle_length: VehicleLength [];
+    required 4 "vehicleWidth" vehicle_width: VehicleWidth [1..=62];
+    required 5 "longitudinalAcceleration" longitudinal_acceleration: LongitudinalAcceleration [];
+    required 6 "curvature" curvature: Curvature [];
+    required 7 "curvatureCalculationMode" curvature_calculation_mode: CurvatureCalculationMode [];
+    required 8 "yawRate" yaw_rate: YawRate [];
+    optional 9 "accelerationControl" acceleration_control: Option<AccelerationControl> [SIZE 7..=7];
+    optional 10 "lanePosition" lane_position: Option<LanePosition> [-1..=14];
+    optional 11 "steeringWheelAngle" steering_wheel_angle: Option<SteeringWheelAngle> [];
+    optional 12 "lateralAcceleration" lateral_acceleration: Option<LateralAcceleration> [];
+    optional 13 "verticalAcceleration" vertical_acceleration: Option<VerticalAcceleration> [];
+    optional 14 "performanceClass" performance_class: Option<PerformanceClass> [0..=7];
+    optional 15 "cenDsrcTollingZone" cen_dsrc_tolling_zone: Option<CenDsrcTollingZone> [];
+} }; }
 
-const FIELDS: Fields = components!(fields);
+const FIELDS: FieldLists = components!(fields);
 
-const BOUNDS: &[&[Constraint]] = components!(bounds);
+const BOUNDS: Bounds = components!(bounds);
 
 impl Components for BasicVehicleContainerHighFrequency {
-    const COMPONENTS: Fields = FIELDS;
+    const COMPONENTS: FieldLists = FIELDS;
 
-    ghost COMPONENTS = { fields_of basic_vehicle_container_high_frequency_root };
+    ghost COMPONENTS = { fields_of basic_vehicle_container_high_frequency_lists };
 
-    ghost components = { basic_vehicle_container_high_frequency_root };
+    ghost components = { (basic_vehicle_container_high_frequency_lists, refl) };
 
     ghost contents = { λ x.
         Some (⟦<Heading as AsnType>⟧.value x.heading) ∷
@@ -131,8 +123,6 @@ impl Components for BasicVehicleContainerHighFrequency {
         (max (slot_levels ⟦<VerticalAcceleration as AsnType>⟧.levels x.vertical_acceleration)
         (max (slot_levels ⟦<PerformanceClass as AsnType>⟧.levels x.performance_class)
         (max (slot_levels ⟦<CenDsrcTollingZone as AsnType>⟧.levels x.cen_dsrc_tolling_zone) 0)))))))))))))))) };
-
-    ghost described = { refl };
 }
 
 impl Record for BasicVehicleContainerHighFrequency {

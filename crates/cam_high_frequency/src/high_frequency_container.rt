@@ -1,17 +1,18 @@
 //! HighFrequencyContainer, of the module CAM-PDU-Descriptions.
 
-ghost use Rattle.cam_high_frequency.specs.CamPduDescriptions.{high_frequency_container_added, high_frequency_container_root};
-ghost use Rattle.cam_high_frequency.specs.declared.high_frequency_container.HighFrequencyContainer.TheVariants.{BasicVehicleContainerHighFrequency, RsuContainerHighFrequency};
-ghost use Rattle.rasn_below.specs.Components.{chosen, variants_in};
-ghost use Rattle.std.specs.Prelude.{Some, refl};
+ghost use Rattle.cam_high_frequency.specs.CamPduDescriptions.{high_frequency_container_lists};
+ghost use Rattle.cam_high_frequency.specs.declared.high_frequency_container.HighFrequencyContainer.TheVariants.{
+  BasicVehicleContainerHighFrequency,
+};
+ghost use Rattle.cam_high_frequency.specs.declared.high_frequency_container.HighFrequencyContainer.TheVariants.{
+  RsuContainerHighFrequency,
+};
+ghost use Rattle.rasn_below.specs.Page.{chosen, variants_listed};
+ghost use Rattle.std.specs.Prelude.{refl};
 
 use crate::basic_vehicle_container_high_frequency::BasicVehicleContainerHighFrequency;
 use crate::rsu_container_high_frequency::RsuContainerHighFrequency;
-use rasn_below::{
-    Alternatives, AsnType, ByKind, ChoiceKind, CodedAlternatives, Constraint, Decoder, Encoder,
-    OfKind, Tag, Variants, added_variants, alternative_bounds, decode_alternative,
-    encode_alternative, variants,
-};
+use rasn_below::page::*;
 
 /// HighFrequencyContainer ::= CHOICE {
 ///     basicVehicleContainerHighFrequency BasicVehicleContainerHighFrequency,
@@ -24,39 +25,26 @@ pub enum HighFrequencyContainer {
     RsuContainerHighFrequency(RsuContainerHighFrequency),
 }
 
-macro_rules! alternatives {
-    ($to:ident $($with:ident)*) => {
-        $to! { [$($with)*]
-            0 "basicVehicleContainerHighFrequency" BasicVehicleContainerHighFrequency:
-                BasicVehicleContainerHighFrequency [];
-            1 "rsuContainerHighFrequency" RsuContainerHighFrequency: RsuContainerHighFrequency [];
-            ...;
-        }
-    };
-}
+macro_rules! alternatives { ($to:ident $($with:ident)*) => { $to! { [$($with)*]
+    0 "basicVehicleContainerHighFrequency" BasicVehicleContainerHighFrequency: BasicVehicleContainerHighFrequency [];
+    1 "rsuContainerHighFrequency" RsuContainerHighFrequency: RsuContainerHighFrequency [];
+    ...;
+} }; }
 
-const VARIANTS: Variants = alternatives!(variants);
+const VARIANTS: VariantLists = alternatives!(variants);
 
-const ADDED_VARIANTS: Option<Variants> = alternatives!(added_variants);
-
-const BOUNDS: &[&[Constraint]] = alternatives!(alternative_bounds);
+const BOUNDS: Bounds = alternatives!(alternative_bounds);
 
 impl OfKind for HighFrequencyContainer {
     type Kind = ChoiceKind;
 }
 
 impl Alternatives for HighFrequencyContainer {
-    const ALTERNATIVES: Variants = VARIANTS;
+    const ALTERNATIVES: VariantLists = VARIANTS;
 
-    ghost ALTERNATIVES = { variants_in high_frequency_container_root };
+    ghost ALTERNATIVES = { variants_listed high_frequency_container_lists };
 
-    const ADDED_ALTERNATIVES: Option<Variants> = ADDED_VARIANTS;
-
-    ghost ADDED_ALTERNATIVES = { Some (variants_in high_frequency_container_added) };
-
-    ghost alternatives = { high_frequency_container_root };
-
-    ghost added = { Some high_frequency_container_added };
+    ghost alternatives = { (high_frequency_container_lists, refl) };
 
     ghost chosen = { elim [
       | BasicVehicleContainerHighFrequency v ↦ chosen 0 (⟦<BasicVehicleContainerHighFrequency as AsnType>⟧.value v)
@@ -67,10 +55,6 @@ impl Alternatives for HighFrequencyContainer {
       | BasicVehicleContainerHighFrequency v ↦ ⟦<BasicVehicleContainerHighFrequency as AsnType>⟧.levels v
       | RsuContainerHighFrequency v ↦ ⟦<RsuContainerHighFrequency as AsnType>⟧.levels v
     ] };
-
-    ghost described = { refl };
-
-    ghost extends = { refl };
 
     ghost are_variants = { record { distinct = refl; few = refl } };
 }

@@ -1,17 +1,11 @@
 //! RsuContainerHighFrequency, of the module CAM-PDU-Descriptions.
 
-ghost use Rattle.cam_high_frequency.specs.CamPduDescriptions.{rsu_container_high_frequency_added, rsu_container_high_frequency_root};
-ghost use Rattle.rasn_below.specs.Components.{extended_by, fields_described, fields_of, parts_of};
-ghost use Rattle.rasn_below.specs.Values.{deeper_of, slot_levels, slot_of};
-ghost use Rattle.std.specs.Prelude.{Some, [], max, refl, true, ◌∷◌};
+ghost use Rattle.cam_high_frequency.specs.CamPduDescriptions.{rsu_container_high_frequency_lists};
+ghost use Rattle.rasn_below.specs.Page.{deeper_of, fields_of, slot_levels, slot_of};
+ghost use Rattle.std.specs.Prelude.{[], max, refl, ◌∷◌};
 
 use its_container::aliases::ProtectedCommunicationZonesRsu;
-use rasn_below::types::Identifier;
-use rasn_below::{
-    AsnType, Constraint, Constraints, Constructed, Decode, Decoder, Encode, Encoder, Extended,
-    ExtendedKind, Fields, OfKind, Tag, added_bounds, added_fields, decode_extended,
-    encode_extended, root_bounds, root_fields,
-};
+use rasn_below::page::*;
 
 /// RSUContainerHighFrequency ::= SEQUENCE {
 ///     protectedCommunicationZonesRSU ProtectedCommunicationZonesRSU OPTIONAL,
@@ -22,38 +16,25 @@ pub struct RsuContainerHighFrequency {
     pub protected_communication_zones_rsu: Option<ProtectedCommunicationZonesRsu>,
 }
 
-macro_rules! components {
-    ($to:ident $($with:ident)*) => {
-        $to! { [$($with)*]
-            optional 0 "protectedCommunicationZonesRSU" protected_communication_zones_rsu:
-                Option<ProtectedCommunicationZonesRsu> [SIZE 1..=16];
-            ...;
-        }
-    };
-}
+macro_rules! components { ($to:ident $($with:ident)*) => { $to! { [$($with)*]
+    optional 0 "protectedCommunicationZonesRSU" protected_communication_zones_rsu:
+        Option<ProtectedCommunicationZonesRsu> [SIZE 1..=16];
+    ...;
+} }; }
 
-const FIELDS: Fields = components!(root_fields);
+const FIELDS: FieldLists = components!(fields);
 
-const BOUNDS: &[&[Constraint]] = components!(root_bounds);
+const BOUNDS: Bounds = components!(bounds);
 
-const ADDED_FIELDS: Fields = components!(added_fields);
+impl Components for RsuContainerHighFrequency {
+    const COMPONENTS: FieldLists = FIELDS;
 
-const ADDED_BOUNDS: &[&[Constraint]] = components!(added_bounds);
+    ghost COMPONENTS = { fields_of rsu_container_high_frequency_lists };
 
-impl OfKind for RsuContainerHighFrequency {
-    type Kind = ExtendedKind;
-}
-
-impl Extended for RsuContainerHighFrequency {
-    ghost root = { rsu_container_high_frequency_root };
-
-    ghost additions = { rsu_container_high_frequency_added };
+    ghost components = { (rsu_container_high_frequency_lists, refl) };
 
     ghost contents = { λ x.
         slot_of ⟦<ProtectedCommunicationZonesRsu as AsnType>⟧.value x.protected_communication_zones_rsu ∷
-        [] };
-
-    ghost added = { λ x.
         [] };
 
     ghost depth = { λ x. deeper_of
@@ -61,52 +42,12 @@ impl Extended for RsuContainerHighFrequency {
         0 };
 }
 
-impl Constructed for RsuContainerHighFrequency {
-    const FIELDS: Fields = FIELDS;
-
-    ghost FIELDS = { fields_of rsu_container_high_frequency_root };
-
-    const EXTENDED_FIELDS: Option<Fields> = Some(ADDED_FIELDS);
-
-    ghost EXTENDED_FIELDS = { Some (fields_of rsu_container_high_frequency_added) };
-
-    const IS_EXTENSIBLE: bool = true;
-
-    ghost IS_EXTENSIBLE = { true };
-
-    ghost parts = { parts_of rsu_container_high_frequency_root };
-
-    ghost additions = { parts_of rsu_container_high_frequency_added };
-
-    ghost contents = { ⟦<RsuContainerHighFrequency as Extended>⟧.contents };
-
-    ghost added = { ⟦<RsuContainerHighFrequency as Extended>⟧.added };
-
-    ghost described = { fields_described rsu_container_high_frequency_root };
-
-    ghost extends = { extended_by rsu_container_high_frequency_added };
-
-    ghost is_record = { λ _. refl };
-}
-
-impl Encode for RsuContainerHighFrequency {
-    fn encode_with_tag_and_constraints<E: Encoder>(
-        &self,
-        encoder: &mut E,
-        tag: Tag,
-        _: &Constraints,
-        identifier: Identifier,
-    ) -> Result<(), E::Error> {
-        components!(encode_extended self encoder tag identifier)
+impl Record for RsuContainerHighFrequency {
+    fn encode_components<E: Encoder>(&self, encoder: &mut E) -> Result<(), E::Error> {
+        components!(encode_components self encoder)
     }
-}
 
-impl Decode for RsuContainerHighFrequency {
-    fn decode_with_tag_and_constraints<D: Decoder>(
-        decoder: &mut D,
-        tag: Tag,
-        _: &Constraints,
-    ) -> Result<RsuContainerHighFrequency, D::Error> {
-        components!(decode_extended decoder tag)
+    fn decode_components<D: Decoder>(decoder: &mut D) -> Result<Self, D::Error> {
+        components!(decode_components decoder)
     }
 }

@@ -1,9 +1,19 @@
 -- The module DENM-PDU-Descriptions: below each definition in ASN.1 stands what the theorem takes it for.
-use Rattle.its_container.specs.ItsContainer.{cause_code, closed_lanes, delta_reference_position, heading, its_pdu_header, lane_position, light_bar_siren_in_use, reference_position, speed, speed_limit, station_type, timestamp_its, traffic_rule}
-use Rattle.its_container_denm.specs.ItsContainer.{action_id, dangerous_goods_extended, energy_storage_type, event_history, height_lon_carr, information_quality, itinerary_path, number_of_occupants, pos_cent_mass, pos_front_ax, pos_lon_carr, position_of_occupants, position_of_pillars, positioning_solution_type, relevance_distance, relevance_traffic_direction, request_response_indication, restricted_types, road_type, stationary_since, temperature, traces, transmission_interval, turning_radius, validity_duration, vehicle_identification, vehicle_mass, wheel_base_vehicle}
-use Rattle.rasn_below.specs.Components.{Component, automatic, default, enumerated, extended_sequence, extensible, optional, sequence, sequence_of, size◌to◌}
-use Rattle.rasn_below.specs.Values.{whole}
-use Rattle.std.specs.Prelude.{List, [], pos, ◌∷◌}
+use Rattle.its_container.specs.ItsContainer.{cause_code, closed_lanes, delta_reference_position, heading}
+use Rattle.its_container.specs.ItsContainer.{its_pdu_header, lane_position, light_bar_siren_in_use, reference_position}
+use Rattle.its_container.specs.ItsContainer.{speed, speed_limit, station_type, timestamp_its, traffic_rule}
+use Rattle.its_container_denm.specs.ItsContainer.{action_id, dangerous_goods_extended, energy_storage_type}
+use Rattle.its_container_denm.specs.ItsContainer.{event_history, height_lon_carr, information_quality, itinerary_path}
+use Rattle.its_container_denm.specs.ItsContainer.{number_of_occupants, pos_cent_mass, pos_front_ax, pos_lon_carr}
+use Rattle.its_container_denm.specs.ItsContainer.{position_of_occupants, position_of_pillars, positioning_solution_type}
+use Rattle.its_container_denm.specs.ItsContainer.{relevance_distance, relevance_traffic_direction}
+use Rattle.its_container_denm.specs.ItsContainer.{request_response_indication, restricted_types, road_type}
+use Rattle.its_container_denm.specs.ItsContainer.{stationary_since, temperature, traces, transmission_interval}
+use Rattle.its_container_denm.specs.ItsContainer.{turning_radius, validity_duration, vehicle_identification}
+use Rattle.its_container_denm.specs.ItsContainer.{vehicle_mass, wheel_base_vehicle}
+use Rattle.rasn_below.specs.Page.{Component, TypeLists, automatic, default, enumerated, extensible}
+use Rattle.rasn_below.specs.Page.{extensible_automatic, optional, sequence, sequence_of, size◌to◌, whole}
+use Rattle.std.specs.Prelude.{[], pos, ◌∷◌}
 
 -- Termination ::= ENUMERATED { isCancellation(0), isNegation(1) }
 abbrev pub termination : Component
@@ -22,8 +32,8 @@ termination = enumerated 2
 --     stationType StationType,
 --     ...
 -- }
-abbrev pub management_container_root : List Component
-management_container_root = automatic (
+abbrev pub management_container_lists : TypeLists
+management_container_lists = extensible_automatic (
     action_id ∷  -- actionID
     timestamp_its ∷  -- detectionTime
     timestamp_its ∷  -- referenceTime
@@ -34,13 +44,10 @@ management_container_root = automatic (
     default (whole (pos 600)) validity_duration ∷  -- validityDuration
     optional transmission_interval ∷  -- transmissionInterval
     station_type ∷  -- stationType
-    [])
-
-abbrev pub management_container_added : List Component
-management_container_added = []
+    []) []
 
 abbrev pub management_container : Component
-management_container = extended_sequence management_container_root management_container_added
+management_container = sequence management_container_lists
 
 -- SituationContainer ::= SEQUENCE {
 --     informationQuality InformationQuality,
@@ -49,19 +56,16 @@ management_container = extended_sequence management_container_root management_co
 --     eventHistory EventHistory OPTIONAL,
 --     ...
 -- }
-abbrev pub situation_container_root : List Component
-situation_container_root = automatic (
+abbrev pub situation_container_lists : TypeLists
+situation_container_lists = extensible_automatic (
     information_quality ∷  -- informationQuality
     cause_code ∷  -- eventType
     optional cause_code ∷  -- linkedCause
     optional event_history ∷  -- eventHistory
-    [])
-
-abbrev pub situation_container_added : List Component
-situation_container_added = []
+    []) []
 
 abbrev pub situation_container : Component
-situation_container = extended_sequence situation_container_root situation_container_added
+situation_container = sequence situation_container_lists
 
 -- LocationContainer ::= SEQUENCE {
 --     eventSpeed Speed OPTIONAL,
@@ -70,19 +74,16 @@ situation_container = extended_sequence situation_container_root situation_conta
 --     roadType RoadType OPTIONAL,
 --     ...
 -- }
-abbrev pub location_container_root : List Component
-location_container_root = automatic (
+abbrev pub location_container_lists : TypeLists
+location_container_lists = extensible_automatic (
     optional speed ∷  -- eventSpeed
     optional heading ∷  -- eventPositionHeading
     traces ∷  -- traces
     optional road_type ∷  -- roadType
-    [])
-
-abbrev pub location_container_added : List Component
-location_container_added = []
+    []) []
 
 abbrev pub location_container : Component
-location_container = extended_sequence location_container_root location_container_added
+location_container = sequence location_container_lists
 
 -- ImpactReductionContainer ::= SEQUENCE {
 --     heightLonCarrLeft HeightLonCarr,
@@ -98,8 +99,8 @@ location_container = extended_sequence location_container_root location_containe
 --     vehicleMass VehicleMass,
 --     requestResponseIndication RequestResponseIndication
 -- }
-abbrev pub impact_reduction_container_root : List Component
-impact_reduction_container_root = automatic (
+abbrev pub impact_reduction_container_lists : TypeLists
+impact_reduction_container_lists = automatic (
     height_lon_carr ∷  -- heightLonCarrLeft
     height_lon_carr ∷  -- heightLonCarrRight
     pos_lon_carr ∷  -- posLonCarrLeft
@@ -115,7 +116,7 @@ impact_reduction_container_root = automatic (
     [])
 
 abbrev pub impact_reduction_container : Component
-impact_reduction_container = sequence impact_reduction_container_root
+impact_reduction_container = sequence impact_reduction_container_lists
 
 -- ReferenceDenms ::= SEQUENCE (SIZE (1..8, ...)) OF ActionID
 abbrev pub reference_denms : Component
@@ -132,8 +133,8 @@ reference_denms = sequence_of (extensible (size 1 to 8)) action_id
 --     trafficFlowRule TrafficRule OPTIONAL,
 --     referenceDenms ReferenceDenms OPTIONAL
 -- }
-abbrev pub road_works_container_extended_root : List Component
-road_works_container_extended_root = automatic (
+abbrev pub road_works_container_extended_lists : TypeLists
+road_works_container_extended_lists = automatic (
     optional light_bar_siren_in_use ∷  -- lightBarSirenInUse
     optional closed_lanes ∷  -- closedLanes
     optional restricted_types ∷  -- restriction
@@ -146,7 +147,7 @@ road_works_container_extended_root = automatic (
     [])
 
 abbrev pub road_works_container_extended : Component
-road_works_container_extended = sequence road_works_container_extended_root
+road_works_container_extended = sequence road_works_container_extended_lists
 
 -- StationaryVehicleContainer ::= SEQUENCE {
 --     stationarySince StationarySince OPTIONAL,
@@ -156,8 +157,8 @@ road_works_container_extended = sequence road_works_container_extended_root
 --     vehicleIdentification VehicleIdentification OPTIONAL,
 --     energyStorageType EnergyStorageType OPTIONAL
 -- }
-abbrev pub stationary_vehicle_container_root : List Component
-stationary_vehicle_container_root = automatic (
+abbrev pub stationary_vehicle_container_lists : TypeLists
+stationary_vehicle_container_lists = automatic (
     optional stationary_since ∷  -- stationarySince
     optional cause_code ∷  -- stationaryCause
     optional dangerous_goods_extended ∷  -- carryingDangerousGoods
@@ -167,7 +168,7 @@ stationary_vehicle_container_root = automatic (
     [])
 
 abbrev pub stationary_vehicle_container : Component
-stationary_vehicle_container = sequence stationary_vehicle_container_root
+stationary_vehicle_container = sequence stationary_vehicle_container_lists
 
 -- AlacarteContainer ::= SEQUENCE {
 --     lanePosition LanePosition OPTIONAL,
@@ -178,21 +179,18 @@ stationary_vehicle_container = sequence stationary_vehicle_container_root
 --     stationaryVehicle StationaryVehicleContainer OPTIONAL,
 --     ...
 -- }
-abbrev pub alacarte_container_root : List Component
-alacarte_container_root = automatic (
+abbrev pub alacarte_container_lists : TypeLists
+alacarte_container_lists = extensible_automatic (
     optional lane_position ∷  -- lanePosition
     optional impact_reduction_container ∷  -- impactReduction
     optional temperature ∷  -- externalTemperature
     optional road_works_container_extended ∷  -- roadWorks
     optional positioning_solution_type ∷  -- positioningSolution
     optional stationary_vehicle_container ∷  -- stationaryVehicle
-    [])
-
-abbrev pub alacarte_container_added : List Component
-alacarte_container_added = []
+    []) []
 
 abbrev pub alacarte_container : Component
-alacarte_container = extended_sequence alacarte_container_root alacarte_container_added
+alacarte_container = sequence alacarte_container_lists
 
 -- DecentralizedEnvironmentalNotificationMessage ::= SEQUENCE {
 --     management ManagementContainer,
@@ -200,8 +198,8 @@ alacarte_container = extended_sequence alacarte_container_root alacarte_containe
 --     location LocationContainer OPTIONAL,
 --     alacarte AlacarteContainer OPTIONAL
 -- }
-abbrev pub decentralized_environmental_notification_message_root : List Component
-decentralized_environmental_notification_message_root = automatic (
+abbrev pub decentralized_environmental_notification_message_lists : TypeLists
+decentralized_environmental_notification_message_lists = automatic (
     management_container ∷  -- management
     optional situation_container ∷  -- situation
     optional location_container ∷  -- location
@@ -209,17 +207,17 @@ decentralized_environmental_notification_message_root = automatic (
     [])
 
 abbrev pub decentralized_environmental_notification_message : Component
-decentralized_environmental_notification_message = sequence decentralized_environmental_notification_message_root
+decentralized_environmental_notification_message = sequence decentralized_environmental_notification_message_lists
 
 -- DENM ::= SEQUENCE {
 --     header ItsPduHeader,
 --     denm DecentralizedEnvironmentalNotificationMessage
 -- }
-abbrev pub denm_root : List Component
-denm_root = automatic (
+abbrev pub denm_lists : TypeLists
+denm_lists = automatic (
     its_pdu_header ∷  -- header
     decentralized_environmental_notification_message ∷  -- denm
     [])
 
 abbrev pub denm : Component
-denm = sequence denm_root
+denm = sequence denm_lists

@@ -1,9 +1,8 @@
 //! AlacarteContainer, of the module DENM-PDU-Descriptions.
 
-ghost use Rattle.denm.specs.DenmPduDescriptions.{alacarte_container_added, alacarte_container_root};
-ghost use Rattle.rasn_below.specs.Components.{extended_by, fields_described, fields_of, parts_of};
-ghost use Rattle.rasn_below.specs.Values.{deeper_of, slot_levels, slot_of, whole};
-ghost use Rattle.std.specs.Prelude.{Some, [], max, refl, true, ◌∷◌};
+ghost use Rattle.denm.specs.DenmPduDescriptions.{alacarte_container_lists};
+ghost use Rattle.rasn_below.specs.Page.{deeper_of, fields_of, slot_levels, slot_of, whole};
+ghost use Rattle.std.specs.Prelude.{[], max, refl, ◌∷◌};
 
 use crate::impact_reduction_container::ImpactReductionContainer;
 use crate::road_works_container_extended::RoadWorksContainerExtended;
@@ -11,12 +10,7 @@ use crate::stationary_vehicle_container::StationaryVehicleContainer;
 use its_container::aliases::LanePosition;
 use its_container_denm::aliases::Temperature;
 use its_container_denm::positioning_solution_type::PositioningSolutionType;
-use rasn_below::types::Identifier;
-use rasn_below::{
-    AsnType, Constraint, Constraints, Constructed, Decode, Decoder, Encode, Encoder, Extended,
-    ExtendedKind, Fields, OfKind, Tag, added_bounds, added_fields, decode_extended,
-    encode_extended, root_bounds, root_fields,
-};
+use rasn_below::page::*;
 
 /// AlacarteContainer ::= SEQUENCE {
 ///     lanePosition LanePosition OPTIONAL,
@@ -37,36 +31,26 @@ pub struct AlacarteContainer {
     pub stationary_vehicle: Option<StationaryVehicleContainer>,
 }
 
-macro_rules! components {
-    ($to:ident $($with:ident)*) => {
-        $to! { [$($with)*]
-            optional 0 "lanePosition" lane_position: Option<LanePosition> [-1..=14];
-            optional 1 "impactReduction" impact_reduction: Option<ImpactReductionContainer> [];
-            optional 2 "externalTemperature" external_temperature: Option<Temperature> [-60..=67];
-            optional 3 "roadWorks" road_works: Option<RoadWorksContainerExtended> [];
-            optional 4 "positioningSolution" positioning_solution: Option<PositioningSolutionType> [];
-            optional 5 "stationaryVehicle" stationary_vehicle: Option<StationaryVehicleContainer> [];
-            ...;
-        }
-    };
-}
+macro_rules! components { ($to:ident $($with:ident)*) => { $to! { [$($with)*]
+    optional 0 "lanePosition" lane_position: Option<LanePosition> [-1..=14];
+    optional 1 "impactReduction" impact_reduction: Option<ImpactReductionContainer> [];
+    optional 2 "externalTemperature" external_temperature: Option<Temperature> [-60..=67];
+    optional 3 "roadWorks" road_works: Option<RoadWorksContainerExtended> [];
+    optional 4 "positioningSolution" positioning_solution: Option<PositioningSolutionType> [];
+    optional 5 "stationaryVehicle" stationary_vehicle: Option<StationaryVehicleContainer> [];
+    ...;
+} }; }
 
-const FIELDS: Fields = components!(root_fields);
+const FIELDS: FieldLists = components!(fields);
 
-const BOUNDS: &[&[Constraint]] = components!(root_bounds);
+const BOUNDS: Bounds = components!(bounds);
 
-const ADDED_FIELDS: Fields = components!(added_fields);
+impl Components for AlacarteContainer {
+    const COMPONENTS: FieldLists = FIELDS;
 
-const ADDED_BOUNDS: &[&[Constraint]] = components!(added_bounds);
+    ghost COMPONENTS = { fields_of alacarte_container_lists };
 
-impl OfKind for AlacarteContainer {
-    type Kind = ExtendedKind;
-}
-
-impl Extended for AlacarteContainer {
-    ghost root = { alacarte_container_root };
-
-    ghost additions = { alacarte_container_added };
+    ghost components = { (alacarte_container_lists, refl) };
 
     ghost contents = { λ x.
         slot_of whole x.lane_position ∷
@@ -75,9 +59,6 @@ impl Extended for AlacarteContainer {
         slot_of ⟦<RoadWorksContainerExtended as AsnType>⟧.value x.road_works ∷
         slot_of ⟦<PositioningSolutionType as AsnType>⟧.value x.positioning_solution ∷
         slot_of ⟦<StationaryVehicleContainer as AsnType>⟧.value x.stationary_vehicle ∷
-        [] };
-
-    ghost added = { λ x.
         [] };
 
     ghost depth = { λ x. deeper_of
@@ -90,52 +71,12 @@ impl Extended for AlacarteContainer {
         0 };
 }
 
-impl Constructed for AlacarteContainer {
-    const FIELDS: Fields = FIELDS;
-
-    ghost FIELDS = { fields_of alacarte_container_root };
-
-    const EXTENDED_FIELDS: Option<Fields> = Some(ADDED_FIELDS);
-
-    ghost EXTENDED_FIELDS = { Some (fields_of alacarte_container_added) };
-
-    const IS_EXTENSIBLE: bool = true;
-
-    ghost IS_EXTENSIBLE = { true };
-
-    ghost parts = { parts_of alacarte_container_root };
-
-    ghost additions = { parts_of alacarte_container_added };
-
-    ghost contents = { ⟦<AlacarteContainer as Extended>⟧.contents };
-
-    ghost added = { ⟦<AlacarteContainer as Extended>⟧.added };
-
-    ghost described = { fields_described alacarte_container_root };
-
-    ghost extends = { extended_by alacarte_container_added };
-
-    ghost is_record = { λ _. refl };
-}
-
-impl Encode for AlacarteContainer {
-    fn encode_with_tag_and_constraints<E: Encoder>(
-        &self,
-        encoder: &mut E,
-        tag: Tag,
-        _: &Constraints,
-        identifier: Identifier,
-    ) -> Result<(), E::Error> {
-        components!(encode_extended self encoder tag identifier)
+impl Record for AlacarteContainer {
+    fn encode_components<E: Encoder>(&self, encoder: &mut E) -> Result<(), E::Error> {
+        components!(encode_components self encoder)
     }
-}
 
-impl Decode for AlacarteContainer {
-    fn decode_with_tag_and_constraints<D: Decoder>(
-        decoder: &mut D,
-        tag: Tag,
-        _: &Constraints,
-    ) -> Result<AlacarteContainer, D::Error> {
-        components!(decode_extended decoder tag)
+    fn decode_components<D: Decoder>(decoder: &mut D) -> Result<Self, D::Error> {
+        components!(decode_components decoder)
     }
 }

@@ -1,18 +1,14 @@
 //! DecentralizedEnvironmentalNotificationMessage, of the module DENM-PDU-Descriptions.
 
-ghost use Rattle.denm.specs.DenmPduDescriptions.{decentralized_environmental_notification_message_root};
-ghost use Rattle.rasn_below.specs.Components.{fields_of};
-ghost use Rattle.rasn_below.specs.Values.{slot_levels, slot_of};
+ghost use Rattle.denm.specs.DenmPduDescriptions.{decentralized_environmental_notification_message_lists};
+ghost use Rattle.rasn_below.specs.Page.{fields_of, slot_levels, slot_of};
 ghost use Rattle.std.specs.Prelude.{Some, [], max, refl, ◌∷◌};
 
 use crate::alacarte_container::AlacarteContainer;
 use crate::location_container::LocationContainer;
 use crate::management_container::ManagementContainer;
 use crate::situation_container::SituationContainer;
-use rasn_below::{
-    AsnType, Components, Constraint, Decoder, Encoder, Fields, Record, bounds, decode_components,
-    encode_components, fields,
-};
+use rasn_below::page::*;
 
 /// DecentralizedEnvironmentalNotificationMessage ::= SEQUENCE {
 ///     management ManagementContainer,
@@ -28,27 +24,23 @@ pub struct DecentralizedEnvironmentalNotificationMessage {
     pub alacarte: Option<AlacarteContainer>,
 }
 
-macro_rules! components {
-    ($to:ident $($with:ident)*) => {
-        $to! { [$($with)*]
-            required 0 "management" management: ManagementContainer [];
-            optional 1 "situation" situation: Option<SituationContainer> [];
-            optional 2 "location" location: Option<LocationContainer> [];
-            optional 3 "alacarte" alacarte: Option<AlacarteContainer> [];
-        }
-    };
-}
+macro_rules! components { ($to:ident $($with:ident)*) => { $to! { [$($with)*]
+    required 0 "management" management: ManagementContainer [];
+    optional 1 "situation" situation: Option<SituationContainer> [];
+    optional 2 "location" location: Option<LocationContainer> [];
+    optional 3 "alacarte" alacarte: Option<AlacarteContainer> [];
+} }; }
 
-const FIELDS: Fields = components!(fields);
+const FIELDS: FieldLists = components!(fields);
 
-const BOUNDS: &[&[Constraint]] = components!(bounds);
+const BOUNDS: Bounds = components!(bounds);
 
 impl Components for DecentralizedEnvironmentalNotificationMessage {
-    const COMPONENTS: Fields = FIELDS;
+    const COMPONENTS: FieldLists = FIELDS;
 
-    ghost COMPONENTS = { fields_of decentralized_environmental_notification_message_root };
+    ghost COMPONENTS = { fields_of decentralized_environmental_notification_message_lists };
 
-    ghost components = { decentralized_environmental_notification_message_root };
+    ghost components = { (decentralized_environmental_notification_message_lists, refl) };
 
     ghost contents = { λ x.
         Some (⟦<ManagementContainer as AsnType>⟧.value x.management) ∷
@@ -62,8 +54,6 @@ impl Components for DecentralizedEnvironmentalNotificationMessage {
         (max (slot_levels ⟦<SituationContainer as AsnType>⟧.levels x.situation)
         (max (slot_levels ⟦<LocationContainer as AsnType>⟧.levels x.location)
         (max (slot_levels ⟦<AlacarteContainer as AsnType>⟧.levels x.alacarte) 0)))) };
-
-    ghost described = { refl };
 }
 
 impl Record for DecentralizedEnvironmentalNotificationMessage {

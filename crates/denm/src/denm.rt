@@ -1,15 +1,12 @@
 //! Denm, of the module DENM-PDU-Descriptions.
 
-ghost use Rattle.denm.specs.DenmPduDescriptions.{denm_root};
-ghost use Rattle.rasn_below.specs.Components.{fields_of};
+ghost use Rattle.denm.specs.DenmPduDescriptions.{denm_lists};
+ghost use Rattle.rasn_below.specs.Page.{fields_of};
 ghost use Rattle.std.specs.Prelude.{Some, [], max, refl, ◌∷◌};
 
 use crate::decentralized_environmental_notification_message::DecentralizedEnvironmentalNotificationMessage;
 use its_container::its_pdu_header::ItsPduHeader;
-use rasn_below::{
-    AsnType, Components, Constraint, Decoder, Encoder, Fields, Record, bounds, decode_components,
-    encode_components, fields,
-};
+use rasn_below::page::*;
 
 /// DENM ::= SEQUENCE {
 ///     header ItsPduHeader,
@@ -21,25 +18,21 @@ pub struct Denm {
     pub denm: DecentralizedEnvironmentalNotificationMessage,
 }
 
-macro_rules! components {
-    ($to:ident $($with:ident)*) => {
-        $to! { [$($with)*]
-            required 0 "header" header: ItsPduHeader [];
-            required 1 "denm" denm: DecentralizedEnvironmentalNotificationMessage [];
-        }
-    };
-}
+macro_rules! components { ($to:ident $($with:ident)*) => { $to! { [$($with)*]
+    required 0 "header" header: ItsPduHeader [];
+    required 1 "denm" denm: DecentralizedEnvironmentalNotificationMessage [];
+} }; }
 
-const FIELDS: Fields = components!(fields);
+const FIELDS: FieldLists = components!(fields);
 
-const BOUNDS: &[&[Constraint]] = components!(bounds);
+const BOUNDS: Bounds = components!(bounds);
 
 impl Components for Denm {
-    const COMPONENTS: Fields = FIELDS;
+    const COMPONENTS: FieldLists = FIELDS;
 
-    ghost COMPONENTS = { fields_of denm_root };
+    ghost COMPONENTS = { fields_of denm_lists };
 
-    ghost components = { denm_root };
+    ghost components = { (denm_lists, refl) };
 
     ghost contents = { λ x.
         Some (⟦<ItsPduHeader as AsnType>⟧.value x.header) ∷
@@ -49,8 +42,6 @@ impl Components for Denm {
     ghost depth = { λ x.
         (max (⟦<ItsPduHeader as AsnType>⟧.levels x.header)
         (max (⟦<DecentralizedEnvironmentalNotificationMessage as AsnType>⟧.levels x.denm) 0)) };
-
-    ghost described = { refl };
 }
 
 impl Record for Denm {

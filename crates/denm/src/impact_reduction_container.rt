@@ -1,8 +1,7 @@
 //! ImpactReductionContainer, of the module DENM-PDU-Descriptions.
 
-ghost use Rattle.denm.specs.DenmPduDescriptions.{impact_reduction_container_root};
-ghost use Rattle.rasn_below.specs.Components.{fields_of};
-ghost use Rattle.rasn_below.specs.Values.{bits, whole};
+ghost use Rattle.denm.specs.DenmPduDescriptions.{impact_reduction_container_lists};
+ghost use Rattle.rasn_below.specs.Page.{bits, fields_of, whole};
 ghost use Rattle.std.specs.Prelude.{Some, [], max, pos, refl, ◌∷◌};
 
 use its_container_denm::aliases::{
@@ -10,10 +9,7 @@ use its_container_denm::aliases::{
     TurningRadius, VehicleMass, WheelBaseVehicle,
 };
 use its_container_denm::request_response_indication::RequestResponseIndication;
-use rasn_below::{
-    AsnType, Components, Constraint, Decoder, Encoder, Fields, Record, bounds, decode_components,
-    encode_components, fields,
-};
+use rasn_below::page::*;
 
 /// ImpactReductionContainer ::= SEQUENCE {
 ///     heightLonCarrLeft HeightLonCarr,
@@ -45,35 +41,31 @@ pub struct ImpactReductionContainer {
     pub request_response_indication: RequestResponseIndication,
 }
 
-macro_rules! components {
-    ($to:ident $($with:ident)*) => {
-        $to! { [$($with)*]
-            required 0 "heightLonCarrLeft" height_lon_carr_left: HeightLonCarr [1..=100];
-            required 1 "heightLonCarrRight" height_lon_carr_right: HeightLonCarr [1..=100];
-            required 2 "posLonCarrLeft" pos_lon_carr_left: PosLonCarr [1..=127];
-            required 3 "posLonCarrRight" pos_lon_carr_right: PosLonCarr [1..=127];
-            required 4 "positionOfPillars" position_of_pillars: PositionOfPillars [SIZE 1..=3, ...];
-            required 5 "posCentMass" pos_cent_mass: PosCentMass [1..=63];
-            required 6 "wheelBaseVehicle" wheel_base_vehicle: WheelBaseVehicle [1..=127];
-            required 7 "turningRadius" turning_radius: TurningRadius [1..=255];
-            required 8 "posFrontAx" pos_front_ax: PosFrontAx [1..=20];
-            required 9 "positionOfOccupants" position_of_occupants: PositionOfOccupants [SIZE 20..=20];
-            required 10 "vehicleMass" vehicle_mass: VehicleMass [1..=1024];
-            required 11 "requestResponseIndication" request_response_indication: RequestResponseIndication [];
-        }
-    };
-}
+macro_rules! components { ($to:ident $($with:ident)*) => { $to! { [$($with)*]
+    required 0 "heightLonCarrLeft" height_lon_carr_left: HeightLonCarr [1..=100];
+    required 1 "heightLonCarrRight" height_lon_carr_right: HeightLonCarr [1..=100];
+    required 2 "posLonCarrLeft" pos_lon_carr_left: PosLonCarr [1..=127];
+    required 3 "posLonCarrRight" pos_lon_carr_right: PosLonCarr [1..=127];
+    required 4 "positionOfPillars" position_of_pillars: PositionOfPillars [SIZE 1..=3, ...];
+    required 5 "posCentMass" pos_cent_mass: PosCentMass [1..=63];
+    required 6 "wheelBaseVehicle" wheel_base_vehicle: WheelBaseVehicle [1..=127];
+    required 7 "turningRadius" turning_radius: TurningRadius [1..=255];
+    required 8 "posFrontAx" pos_front_ax: PosFrontAx [1..=20];
+    required 9 "positionOfOccupants" position_of_occupants: PositionOfOccupants [SIZE 20..=20];
+    required 10 "vehicleMass" vehicle_mass: VehicleMass [1..=1024];
+    required 11 "requestResponseIndication" request_response_indication: RequestResponseIndication [];
+} }; }
 
-const FIELDS: Fields = components!(fields);
+const FIELDS: FieldLists = components!(fields);
 
-const BOUNDS: &[&[Constraint]] = components!(bounds);
+const BOUNDS: Bounds = components!(bounds);
 
 impl Components for ImpactReductionContainer {
-    const COMPONENTS: Fields = FIELDS;
+    const COMPONENTS: FieldLists = FIELDS;
 
-    ghost COMPONENTS = { fields_of impact_reduction_container_root };
+    ghost COMPONENTS = { fields_of impact_reduction_container_lists };
 
-    ghost components = { impact_reduction_container_root };
+    ghost components = { (impact_reduction_container_lists, refl) };
 
     ghost contents = { λ x.
         Some (whole (pos x.height_lon_carr_left)) ∷
@@ -96,8 +88,6 @@ impl Components for ImpactReductionContainer {
         (max 0
         (max 0
         (max (⟦<PositionOfPillars as AsnType>⟧.levels x.position_of_pillars) 0))))) };
-
-    ghost described = { refl };
 }
 
 impl Record for ImpactReductionContainer {

@@ -1,9 +1,8 @@
 //! ManagementContainer, of the module DENM-PDU-Descriptions.
 
-ghost use Rattle.denm.specs.DenmPduDescriptions.{management_container_added, management_container_root};
-ghost use Rattle.rasn_below.specs.Components.{extended_by, fields_described, fields_of, parts_of};
-ghost use Rattle.rasn_below.specs.Values.{deeper_of, slot_levels, slot_of, whole};
-ghost use Rattle.std.specs.Prelude.{Some, [], max, pos, refl, true, ◌∷◌};
+ghost use Rattle.denm.specs.DenmPduDescriptions.{management_container_lists};
+ghost use Rattle.rasn_below.specs.Page.{deeper_of, fields_of, slot_levels, slot_of, whole};
+ghost use Rattle.std.specs.Prelude.{Some, [], max, pos, refl, ◌∷◌};
 
 use crate::termination::Termination;
 use its_container::aliases::{StationType, TimestampIts};
@@ -12,12 +11,7 @@ use its_container_denm::action_id::ActionId;
 use its_container_denm::aliases::{TransmissionInterval, ValidityDuration};
 use its_container_denm::relevance_distance::RelevanceDistance;
 use its_container_denm::relevance_traffic_direction::RelevanceTrafficDirection;
-use rasn_below::types::Identifier;
-use rasn_below::{
-    AsnType, Constraint, Constraints, Constructed, Decode, Decoder, Encode, Encoder, Extended,
-    ExtendedKind, Fields, OfKind, Tag, added_bounds, added_fields, decode_extended,
-    encode_extended, root_bounds, root_fields,
-};
+use rasn_below::page::*;
 
 /// ManagementContainer ::= SEQUENCE {
 ///     actionID ActionID,
@@ -46,40 +40,30 @@ pub struct ManagementContainer {
     pub station_type: StationType,
 }
 
-macro_rules! components {
-    ($to:ident $($with:ident)*) => {
-        $to! { [$($with)*]
-            required 0 "actionID" action_id: ActionId [];
-            required 1 "detectionTime" detection_time: TimestampIts [0..=4_398_046_511_103];
-            required 2 "referenceTime" reference_time: TimestampIts [0..=4_398_046_511_103];
-            optional 3 "termination" termination: Option<Termination> [];
-            required 4 "eventPosition" event_position: ReferencePosition [];
-            optional 5 "relevanceDistance" relevance_distance: Option<RelevanceDistance> [];
-            optional 6 "relevanceTrafficDirection" relevance_traffic_direction: Option<RelevanceTrafficDirection> [];
-            default 7 "validityDuration" validity_duration: ValidityDuration [0..=86_400 DEFAULT 600_u32];
-            optional 8 "transmissionInterval" transmission_interval: Option<TransmissionInterval> [1..=10_000];
-            required 9 "stationType" station_type: StationType [0..=255];
-            ...;
-        }
-    };
-}
+macro_rules! components { ($to:ident $($with:ident)*) => { $to! { [$($with)*]
+    required 0 "actionID" action_id: ActionId [];
+    required 1 "detectionTime" detection_time: TimestampIts [0..=4_398_046_511_103];
+    required 2 "referenceTime" reference_time: TimestampIts [0..=4_398_046_511_103];
+    optional 3 "termination" termination: Option<Termination> [];
+    required 4 "eventPosition" event_position: ReferencePosition [];
+    optional 5 "relevanceDistance" relevance_distance: Option<RelevanceDistance> [];
+    optional 6 "relevanceTrafficDirection" relevance_traffic_direction: Option<RelevanceTrafficDirection> [];
+    default 7 "validityDuration" validity_duration: ValidityDuration [0..=86_400 DEFAULT 600_u32];
+    optional 8 "transmissionInterval" transmission_interval: Option<TransmissionInterval> [1..=10_000];
+    required 9 "stationType" station_type: StationType [0..=255];
+    ...;
+} }; }
 
-const FIELDS: Fields = components!(root_fields);
+const FIELDS: FieldLists = components!(fields);
 
-const BOUNDS: &[&[Constraint]] = components!(root_bounds);
+const BOUNDS: Bounds = components!(bounds);
 
-const ADDED_FIELDS: Fields = components!(added_fields);
+impl Components for ManagementContainer {
+    const COMPONENTS: FieldLists = FIELDS;
 
-const ADDED_BOUNDS: &[&[Constraint]] = components!(added_bounds);
+    ghost COMPONENTS = { fields_of management_container_lists };
 
-impl OfKind for ManagementContainer {
-    type Kind = ExtendedKind;
-}
-
-impl Extended for ManagementContainer {
-    ghost root = { management_container_root };
-
-    ghost additions = { management_container_added };
+    ghost components = { (management_container_lists, refl) };
 
     ghost contents = { λ x.
         Some (⟦<ActionId as AsnType>⟧.value x.action_id) ∷
@@ -92,9 +76,6 @@ impl Extended for ManagementContainer {
         Some (whole (pos x.validity_duration)) ∷
         slot_of (λ v. whole (pos v)) x.transmission_interval ∷
         Some (whole (pos x.station_type)) ∷
-        [] };
-
-    ghost added = { λ x.
         [] };
 
     ghost depth = { λ x. deeper_of
@@ -110,52 +91,12 @@ impl Extended for ManagementContainer {
         0 };
 }
 
-impl Constructed for ManagementContainer {
-    const FIELDS: Fields = FIELDS;
-
-    ghost FIELDS = { fields_of management_container_root };
-
-    const EXTENDED_FIELDS: Option<Fields> = Some(ADDED_FIELDS);
-
-    ghost EXTENDED_FIELDS = { Some (fields_of management_container_added) };
-
-    const IS_EXTENSIBLE: bool = true;
-
-    ghost IS_EXTENSIBLE = { true };
-
-    ghost parts = { parts_of management_container_root };
-
-    ghost additions = { parts_of management_container_added };
-
-    ghost contents = { ⟦<ManagementContainer as Extended>⟧.contents };
-
-    ghost added = { ⟦<ManagementContainer as Extended>⟧.added };
-
-    ghost described = { fields_described management_container_root };
-
-    ghost extends = { extended_by management_container_added };
-
-    ghost is_record = { λ _. refl };
-}
-
-impl Encode for ManagementContainer {
-    fn encode_with_tag_and_constraints<E: Encoder>(
-        &self,
-        encoder: &mut E,
-        tag: Tag,
-        _: &Constraints,
-        identifier: Identifier,
-    ) -> Result<(), E::Error> {
-        components!(encode_extended self encoder tag identifier)
+impl Record for ManagementContainer {
+    fn encode_components<E: Encoder>(&self, encoder: &mut E) -> Result<(), E::Error> {
+        components!(encode_components self encoder)
     }
-}
 
-impl Decode for ManagementContainer {
-    fn decode_with_tag_and_constraints<D: Decoder>(
-        decoder: &mut D,
-        tag: Tag,
-        _: &Constraints,
-    ) -> Result<ManagementContainer, D::Error> {
-        components!(decode_extended decoder tag)
+    fn decode_components<D: Decoder>(decoder: &mut D) -> Result<Self, D::Error> {
+        components!(decode_components decoder)
     }
 }

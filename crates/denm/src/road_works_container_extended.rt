@@ -1,8 +1,7 @@
 //! RoadWorksContainerExtended, of the module DENM-PDU-Descriptions.
 
-ghost use Rattle.denm.specs.DenmPduDescriptions.{road_works_container_extended_root};
-ghost use Rattle.rasn_below.specs.Components.{fields_of};
-ghost use Rattle.rasn_below.specs.Values.{bits, slot_levels, slot_of, whole};
+ghost use Rattle.denm.specs.DenmPduDescriptions.{road_works_container_extended_lists};
+ghost use Rattle.rasn_below.specs.Page.{bits, fields_of, slot_levels, slot_of, whole};
 ghost use Rattle.std.specs.Prelude.{[], max, pos, refl, ◌∷◌};
 
 use crate::aliases::ReferenceDenms;
@@ -12,10 +11,7 @@ use its_container::closed_lanes::ClosedLanes;
 use its_container::delta_reference_position::DeltaReferencePosition;
 use its_container::traffic_rule::TrafficRule;
 use its_container_denm::aliases::{ItineraryPath, RestrictedTypes};
-use rasn_below::{
-    AsnType, Components, Constraint, Decoder, Encoder, Fields, Record, bounds, decode_components,
-    encode_components, fields,
-};
+use rasn_below::page::*;
 
 /// RoadWorksContainerExtended ::= SEQUENCE {
 ///     lightBarSirenInUse LightBarSirenInUse OPTIONAL,
@@ -41,32 +37,28 @@ pub struct RoadWorksContainerExtended {
     pub reference_denms: Option<ReferenceDenms>,
 }
 
-macro_rules! components {
-    ($to:ident $($with:ident)*) => {
-        $to! { [$($with)*]
-            optional 0 "lightBarSirenInUse" light_bar_siren_in_use: Option<LightBarSirenInUse> [SIZE 2..=2];
-            optional 1 "closedLanes" closed_lanes: Option<ClosedLanes> [];
-            optional 2 "restriction" restriction: Option<RestrictedTypes> [SIZE 1..=3, ...];
-            optional 3 "speedLimit" speed_limit: Option<SpeedLimit> [1..=255];
-            optional 4 "incidentIndication" incident_indication: Option<CauseCode> [];
-            optional 5 "recommendedPath" recommended_path: Option<ItineraryPath> [SIZE 1..=40];
-            optional 6 "startingPointSpeedLimit" starting_point_speed_limit: Option<DeltaReferencePosition> [];
-            optional 7 "trafficFlowRule" traffic_flow_rule: Option<TrafficRule> [];
-            optional 8 "referenceDenms" reference_denms: Option<ReferenceDenms> [SIZE 1..=8, ...];
-        }
-    };
-}
+macro_rules! components { ($to:ident $($with:ident)*) => { $to! { [$($with)*]
+    optional 0 "lightBarSirenInUse" light_bar_siren_in_use: Option<LightBarSirenInUse> [SIZE 2..=2];
+    optional 1 "closedLanes" closed_lanes: Option<ClosedLanes> [];
+    optional 2 "restriction" restriction: Option<RestrictedTypes> [SIZE 1..=3, ...];
+    optional 3 "speedLimit" speed_limit: Option<SpeedLimit> [1..=255];
+    optional 4 "incidentIndication" incident_indication: Option<CauseCode> [];
+    optional 5 "recommendedPath" recommended_path: Option<ItineraryPath> [SIZE 1..=40];
+    optional 6 "startingPointSpeedLimit" starting_point_speed_limit: Option<DeltaReferencePosition> [];
+    optional 7 "trafficFlowRule" traffic_flow_rule: Option<TrafficRule> [];
+    optional 8 "referenceDenms" reference_denms: Option<ReferenceDenms> [SIZE 1..=8, ...];
+} }; }
 
-const FIELDS: Fields = components!(fields);
+const FIELDS: FieldLists = components!(fields);
 
-const BOUNDS: &[&[Constraint]] = components!(bounds);
+const BOUNDS: Bounds = components!(bounds);
 
 impl Components for RoadWorksContainerExtended {
-    const COMPONENTS: Fields = FIELDS;
+    const COMPONENTS: FieldLists = FIELDS;
 
-    ghost COMPONENTS = { fields_of road_works_container_extended_root };
+    ghost COMPONENTS = { fields_of road_works_container_extended_lists };
 
-    ghost components = { road_works_container_extended_root };
+    ghost components = { (road_works_container_extended_lists, refl) };
 
     ghost contents = { λ x.
         slot_of bits x.light_bar_siren_in_use ∷
@@ -90,8 +82,6 @@ impl Components for RoadWorksContainerExtended {
         (max (slot_levels ⟦<DeltaReferencePosition as AsnType>⟧.levels x.starting_point_speed_limit)
         (max (slot_levels ⟦<TrafficRule as AsnType>⟧.levels x.traffic_flow_rule)
         (max (slot_levels ⟦<ReferenceDenms as AsnType>⟧.levels x.reference_denms) 0))))))))) };
-
-    ghost described = { refl };
 }
 
 impl Record for RoadWorksContainerExtended {

@@ -1,18 +1,12 @@
 //! SituationContainer, of the module DENM-PDU-Descriptions.
 
-ghost use Rattle.denm.specs.DenmPduDescriptions.{situation_container_added, situation_container_root};
-ghost use Rattle.rasn_below.specs.Components.{extended_by, fields_described, fields_of, parts_of};
-ghost use Rattle.rasn_below.specs.Values.{deeper_of, slot_levels, slot_of, whole};
-ghost use Rattle.std.specs.Prelude.{Some, [], max, pos, refl, true, ◌∷◌};
+ghost use Rattle.denm.specs.DenmPduDescriptions.{situation_container_lists};
+ghost use Rattle.rasn_below.specs.Page.{deeper_of, fields_of, slot_levels, slot_of, whole};
+ghost use Rattle.std.specs.Prelude.{Some, [], max, pos, refl, ◌∷◌};
 
 use its_container::cause_code::CauseCode;
 use its_container_denm::aliases::{EventHistory, InformationQuality};
-use rasn_below::types::Identifier;
-use rasn_below::{
-    AsnType, Constraint, Constraints, Constructed, Decode, Decoder, Encode, Encoder, Extended,
-    ExtendedKind, Fields, OfKind, Tag, added_bounds, added_fields, decode_extended,
-    encode_extended, root_bounds, root_fields,
-};
+use rasn_below::page::*;
 
 /// SituationContainer ::= SEQUENCE {
 ///     informationQuality InformationQuality,
@@ -29,43 +23,30 @@ pub struct SituationContainer {
     pub event_history: Option<EventHistory>,
 }
 
-macro_rules! components {
-    ($to:ident $($with:ident)*) => {
-        $to! { [$($with)*]
-            required 0 "informationQuality" information_quality: InformationQuality [0..=7];
-            required 1 "eventType" event_type: CauseCode [];
-            optional 2 "linkedCause" linked_cause: Option<CauseCode> [];
-            optional 3 "eventHistory" event_history: Option<EventHistory> [SIZE 1..=23];
-            ...;
-        }
-    };
-}
+macro_rules! components { ($to:ident $($with:ident)*) => { $to! { [$($with)*]
+    required 0 "informationQuality" information_quality: InformationQuality [0..=7];
+    required 1 "eventType" event_type: CauseCode [];
+    optional 2 "linkedCause" linked_cause: Option<CauseCode> [];
+    optional 3 "eventHistory" event_history: Option<EventHistory> [SIZE 1..=23];
+    ...;
+} }; }
 
-const FIELDS: Fields = components!(root_fields);
+const FIELDS: FieldLists = components!(fields);
 
-const BOUNDS: &[&[Constraint]] = components!(root_bounds);
+const BOUNDS: Bounds = components!(bounds);
 
-const ADDED_FIELDS: Fields = components!(added_fields);
+impl Components for SituationContainer {
+    const COMPONENTS: FieldLists = FIELDS;
 
-const ADDED_BOUNDS: &[&[Constraint]] = components!(added_bounds);
+    ghost COMPONENTS = { fields_of situation_container_lists };
 
-impl OfKind for SituationContainer {
-    type Kind = ExtendedKind;
-}
-
-impl Extended for SituationContainer {
-    ghost root = { situation_container_root };
-
-    ghost additions = { situation_container_added };
+    ghost components = { (situation_container_lists, refl) };
 
     ghost contents = { λ x.
         Some (whole (pos x.information_quality)) ∷
         Some (⟦<CauseCode as AsnType>⟧.value x.event_type) ∷
         slot_of ⟦<CauseCode as AsnType>⟧.value x.linked_cause ∷
         slot_of ⟦<EventHistory as AsnType>⟧.value x.event_history ∷
-        [] };
-
-    ghost added = { λ x.
         [] };
 
     ghost depth = { λ x. deeper_of
@@ -76,52 +57,12 @@ impl Extended for SituationContainer {
         0 };
 }
 
-impl Constructed for SituationContainer {
-    const FIELDS: Fields = FIELDS;
-
-    ghost FIELDS = { fields_of situation_container_root };
-
-    const EXTENDED_FIELDS: Option<Fields> = Some(ADDED_FIELDS);
-
-    ghost EXTENDED_FIELDS = { Some (fields_of situation_container_added) };
-
-    const IS_EXTENSIBLE: bool = true;
-
-    ghost IS_EXTENSIBLE = { true };
-
-    ghost parts = { parts_of situation_container_root };
-
-    ghost additions = { parts_of situation_container_added };
-
-    ghost contents = { ⟦<SituationContainer as Extended>⟧.contents };
-
-    ghost added = { ⟦<SituationContainer as Extended>⟧.added };
-
-    ghost described = { fields_described situation_container_root };
-
-    ghost extends = { extended_by situation_container_added };
-
-    ghost is_record = { λ _. refl };
-}
-
-impl Encode for SituationContainer {
-    fn encode_with_tag_and_constraints<E: Encoder>(
-        &self,
-        encoder: &mut E,
-        tag: Tag,
-        _: &Constraints,
-        identifier: Identifier,
-    ) -> Result<(), E::Error> {
-        components!(encode_extended self encoder tag identifier)
+impl Record for SituationContainer {
+    fn encode_components<E: Encoder>(&self, encoder: &mut E) -> Result<(), E::Error> {
+        components!(encode_components self encoder)
     }
-}
 
-impl Decode for SituationContainer {
-    fn decode_with_tag_and_constraints<D: Decoder>(
-        decoder: &mut D,
-        tag: Tag,
-        _: &Constraints,
-    ) -> Result<SituationContainer, D::Error> {
-        components!(decode_extended decoder tag)
+    fn decode_components<D: Decoder>(decoder: &mut D) -> Result<Self, D::Error> {
+        components!(decode_components decoder)
     }
 }

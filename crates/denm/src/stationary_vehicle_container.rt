@@ -1,8 +1,7 @@
 //! StationaryVehicleContainer, of the module DENM-PDU-Descriptions.
 
-ghost use Rattle.denm.specs.DenmPduDescriptions.{stationary_vehicle_container_root};
-ghost use Rattle.rasn_below.specs.Components.{fields_of};
-ghost use Rattle.rasn_below.specs.Values.{bits, slot_levels, slot_of, whole};
+ghost use Rattle.denm.specs.DenmPduDescriptions.{stationary_vehicle_container_lists};
+ghost use Rattle.rasn_below.specs.Page.{bits, fields_of, slot_levels, slot_of, whole};
 ghost use Rattle.std.specs.Prelude.{[], max, pos, refl, ◌∷◌};
 
 use its_container::cause_code::CauseCode;
@@ -10,10 +9,7 @@ use its_container_denm::aliases::{EnergyStorageType, NumberOfOccupants};
 use its_container_denm::dangerous_goods_extended::DangerousGoodsExtended;
 use its_container_denm::stationary_since::StationarySince;
 use its_container_denm::vehicle_identification::VehicleIdentification;
-use rasn_below::{
-    AsnType, Components, Constraint, Decoder, Encoder, Fields, Record, bounds, decode_components,
-    encode_components, fields,
-};
+use rasn_below::page::*;
 
 /// StationaryVehicleContainer ::= SEQUENCE {
 ///     stationarySince StationarySince OPTIONAL,
@@ -33,29 +29,25 @@ pub struct StationaryVehicleContainer {
     pub energy_storage_type: Option<EnergyStorageType>,
 }
 
-macro_rules! components {
-    ($to:ident $($with:ident)*) => {
-        $to! { [$($with)*]
-            optional 0 "stationarySince" stationary_since: Option<StationarySince> [];
-            optional 1 "stationaryCause" stationary_cause: Option<CauseCode> [];
-            optional 2 "carryingDangerousGoods" carrying_dangerous_goods: Option<DangerousGoodsExtended> [];
-            optional 3 "numberOfOccupants" number_of_occupants: Option<NumberOfOccupants> [0..=127];
-            optional 4 "vehicleIdentification" vehicle_identification: Option<VehicleIdentification> [];
-            optional 5 "energyStorageType" energy_storage_type: Option<EnergyStorageType> [SIZE 7..=7];
-        }
-    };
-}
+macro_rules! components { ($to:ident $($with:ident)*) => { $to! { [$($with)*]
+    optional 0 "stationarySince" stationary_since: Option<StationarySince> [];
+    optional 1 "stationaryCause" stationary_cause: Option<CauseCode> [];
+    optional 2 "carryingDangerousGoods" carrying_dangerous_goods: Option<DangerousGoodsExtended> [];
+    optional 3 "numberOfOccupants" number_of_occupants: Option<NumberOfOccupants> [0..=127];
+    optional 4 "vehicleIdentification" vehicle_identification: Option<VehicleIdentification> [];
+    optional 5 "energyStorageType" energy_storage_type: Option<EnergyStorageType> [SIZE 7..=7];
+} }; }
 
-const FIELDS: Fields = components!(fields);
+const FIELDS: FieldLists = components!(fields);
 
-const BOUNDS: &[&[Constraint]] = components!(bounds);
+const BOUNDS: Bounds = components!(bounds);
 
 impl Components for StationaryVehicleContainer {
-    const COMPONENTS: Fields = FIELDS;
+    const COMPONENTS: FieldLists = FIELDS;
 
-    ghost COMPONENTS = { fields_of stationary_vehicle_container_root };
+    ghost COMPONENTS = { fields_of stationary_vehicle_container_lists };
 
-    ghost components = { stationary_vehicle_container_root };
+    ghost components = { (stationary_vehicle_container_lists, refl) };
 
     ghost contents = { λ x.
         slot_of ⟦<StationarySince as AsnType>⟧.value x.stationary_since ∷
@@ -73,8 +65,6 @@ impl Components for StationaryVehicleContainer {
         (max (slot_levels ⟦<NumberOfOccupants as AsnType>⟧.levels x.number_of_occupants)
         (max (slot_levels ⟦<VehicleIdentification as AsnType>⟧.levels x.vehicle_identification)
         (max (slot_levels ⟦<EnergyStorageType as AsnType>⟧.levels x.energy_storage_type) 0)))))) };
-
-    ghost described = { refl };
 }
 
 impl Record for StationaryVehicleContainer {

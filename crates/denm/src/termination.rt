@@ -1,12 +1,9 @@
 //! Termination, of the module DENM-PDU-Descriptions.
 
 ghost use Rattle.denm.specs.declared.termination.Termination.TheVariants.{IsCancellation, IsNegation};
-ghost use Rattle.rasn_below.specs.Components.{all_items};
-ghost use Rattle.rasn_below.specs.Values.{item, root};
+ghost use Rattle.rasn_below.specs.Page.{all_items, item, root};
 
-use rasn_below::{
-    ByKind, EnumeratedKind, ItemCounts, Items, OfKind, Place, item_at, item_counts, place_of_item,
-};
+use rasn_below::page::*;
 
 /// Termination ::= ENUMERATED { isCancellation(0), isNegation(1) }
 #[derive(Clone, Copy, Debug, PartialEq, Eq)]
@@ -15,14 +12,10 @@ pub enum Termination {
     IsNegation,
 }
 
-macro_rules! items {
-    ($to:ident $($with:ident)*) => {
-        $to! { [$($with)*]
-            IsCancellation;
-            IsNegation;
-        }
-    };
-}
+macro_rules! items { ($to:ident $($with:ident)*) => { $to! { [$($with)*]
+    IsCancellation;
+    IsNegation;
+} }; }
 
 impl OfKind for Termination {
     type Kind = EnumeratedKind;

@@ -1,6 +1,8 @@
 -- The module ITS-Container: below each definition in ASN.1 stands what the theorem takes it for.
-use Rattle.rasn_below.specs.Components.{Component, automatic, big, bit_string, boolean, enumerated, extended_sequence, extensible, extensible_enumerated, i16, i32, i8, integer, minus◌to◌, octet_string, optional, sequence, sequence_of, size◌to◌, u16, u32, u64, u8, ◌to◌}
-use Rattle.std.specs.Prelude.{List, [], ◌∷◌}
+use Rattle.rasn_below.specs.Page.{Component, TypeLists, automatic, big, bit_string, boolean, enumerated, extensible}
+use Rattle.rasn_below.specs.Page.{extensible_automatic, extensible_enumerated, i16, i32, i8, integer, minus◌to◌}
+use Rattle.rasn_below.specs.Page.{octet_string, optional, sequence, sequence_of, size◌to◌, u16, u32, u64, u8, ◌to◌}
+use Rattle.std.specs.Prelude.{[], ◌∷◌}
 
 -- HeadingValue ::= INTEGER { wgs84North(0), wgs84East(900), wgs84South(1800), wgs84West(2700), unavailable(3601) }
 --     (0..3601)
@@ -16,14 +18,14 @@ heading_confidence = integer u8 (1 to 127)
 --     headingValue HeadingValue,
 --     headingConfidence HeadingConfidence
 -- }
-abbrev pub heading_root : List Component
-heading_root = automatic (
+abbrev pub heading_lists : TypeLists
+heading_lists = automatic (
     heading_value ∷  -- headingValue
     heading_confidence ∷  -- headingConfidence
     [])
 
 abbrev pub heading : Component
-heading = sequence heading_root
+heading = sequence heading_lists
 
 -- SpeedValue ::= INTEGER { standstill(0), oneCentimeterPerSec(1), unavailable(16383) } (0..16383)
 abbrev pub speed_value : Component
@@ -38,14 +40,14 @@ speed_confidence = integer u8 (1 to 127)
 --     speedValue SpeedValue,
 --     speedConfidence SpeedConfidence
 -- }
-abbrev pub speed_root : List Component
-speed_root = automatic (
+abbrev pub speed_lists : TypeLists
+speed_lists = automatic (
     speed_value ∷  -- speedValue
     speed_confidence ∷  -- speedConfidence
     [])
 
 abbrev pub speed : Component
-speed = sequence speed_root
+speed = sequence speed_lists
 
 -- DriveDirection ::= ENUMERATED { forward(0), backward(1), unavailable(2) }
 abbrev pub drive_direction : Component
@@ -64,14 +66,14 @@ vehicle_length_confidence_indication = enumerated 5
 --     vehicleLengthValue VehicleLengthValue,
 --     vehicleLengthConfidenceIndication VehicleLengthConfidenceIndication
 -- }
-abbrev pub vehicle_length_root : List Component
-vehicle_length_root = automatic (
+abbrev pub vehicle_length_lists : TypeLists
+vehicle_length_lists = automatic (
     vehicle_length_value ∷  -- vehicleLengthValue
     vehicle_length_confidence_indication ∷  -- vehicleLengthConfidenceIndication
     [])
 
 abbrev pub vehicle_length : Component
-vehicle_length = sequence vehicle_length_root
+vehicle_length = sequence vehicle_length_lists
 
 -- VehicleWidth ::= INTEGER { tenCentimeters(1), outOfRange(61), unavailable(62) } (1..62)
 abbrev pub vehicle_width : Component
@@ -90,14 +92,14 @@ acceleration_confidence = integer u8 (0 to 102)
 --     longitudinalAccelerationValue LongitudinalAccelerationValue,
 --     longitudinalAccelerationConfidence AccelerationConfidence
 -- }
-abbrev pub longitudinal_acceleration_root : List Component
-longitudinal_acceleration_root = automatic (
+abbrev pub longitudinal_acceleration_lists : TypeLists
+longitudinal_acceleration_lists = automatic (
     longitudinal_acceleration_value ∷  -- longitudinalAccelerationValue
     acceleration_confidence ∷  -- longitudinalAccelerationConfidence
     [])
 
 abbrev pub longitudinal_acceleration : Component
-longitudinal_acceleration = sequence longitudinal_acceleration_root
+longitudinal_acceleration = sequence longitudinal_acceleration_lists
 
 -- CurvatureValue ::= INTEGER { straight(0), unavailable(1023) } (-1023..1023)
 abbrev pub curvature_value : Component
@@ -112,14 +114,14 @@ curvature_confidence = enumerated 8
 --     curvatureValue CurvatureValue,
 --     curvatureConfidence CurvatureConfidence
 -- }
-abbrev pub curvature_root : List Component
-curvature_root = automatic (
+abbrev pub curvature_lists : TypeLists
+curvature_lists = automatic (
     curvature_value ∷  -- curvatureValue
     curvature_confidence ∷  -- curvatureConfidence
     [])
 
 abbrev pub curvature : Component
-curvature = sequence curvature_root
+curvature = sequence curvature_lists
 
 -- CurvatureCalculationMode ::= ENUMERATED { yawRateUsed(0), yawRateNotUsed(1), unavailable(2), ... }
 abbrev pub curvature_calculation_mode : Component
@@ -139,14 +141,14 @@ yaw_rate_confidence = enumerated 9
 --     yawRateValue YawRateValue,
 --     yawRateConfidence YawRateConfidence
 -- }
-abbrev pub yaw_rate_root : List Component
-yaw_rate_root = automatic (
+abbrev pub yaw_rate_lists : TypeLists
+yaw_rate_lists = automatic (
     yaw_rate_value ∷  -- yawRateValue
     yaw_rate_confidence ∷  -- yawRateConfidence
     [])
 
 abbrev pub yaw_rate : Component
-yaw_rate = sequence yaw_rate_root
+yaw_rate = sequence yaw_rate_lists
 
 -- AccelerationControl ::= BIT STRING { brakePedalEngaged(0), gasPedalEngaged(1), emergencyBrakeEngaged(2),
 --     collisionWarningEngaged(3), accEngaged(4), cruiseControlEngaged(5), speedLimiterEngaged(6) } (SIZE (7))
@@ -172,14 +174,14 @@ steering_wheel_angle_confidence = integer u8 (1 to 127)
 --     steeringWheelAngleValue SteeringWheelAngleValue,
 --     steeringWheelAngleConfidence SteeringWheelAngleConfidence
 -- }
-abbrev pub steering_wheel_angle_root : List Component
-steering_wheel_angle_root = automatic (
+abbrev pub steering_wheel_angle_lists : TypeLists
+steering_wheel_angle_lists = automatic (
     steering_wheel_angle_value ∷  -- steeringWheelAngleValue
     steering_wheel_angle_confidence ∷  -- steeringWheelAngleConfidence
     [])
 
 abbrev pub steering_wheel_angle : Component
-steering_wheel_angle = sequence steering_wheel_angle_root
+steering_wheel_angle = sequence steering_wheel_angle_lists
 
 -- LateralAccelerationValue ::= INTEGER { pointOneMeterPerSecSquaredToRight(-1),
 --     pointOneMeterPerSecSquaredToLeft(1), unavailable(161) } (-160..161)
@@ -190,14 +192,14 @@ lateral_acceleration_value = integer i16 (minus 160 to 161)
 --     lateralAccelerationValue LateralAccelerationValue,
 --     lateralAccelerationConfidence AccelerationConfidence
 -- }
-abbrev pub lateral_acceleration_root : List Component
-lateral_acceleration_root = automatic (
+abbrev pub lateral_acceleration_lists : TypeLists
+lateral_acceleration_lists = automatic (
     lateral_acceleration_value ∷  -- lateralAccelerationValue
     acceleration_confidence ∷  -- lateralAccelerationConfidence
     [])
 
 abbrev pub lateral_acceleration : Component
-lateral_acceleration = sequence lateral_acceleration_root
+lateral_acceleration = sequence lateral_acceleration_lists
 
 -- VerticalAccelerationValue ::= INTEGER { pointOneMeterPerSecSquaredUp(1), pointOneMeterPerSecSquaredDown(-1),
 --     unavailable(161) } (-160..161)
@@ -208,14 +210,14 @@ vertical_acceleration_value = integer i16 (minus 160 to 161)
 --     verticalAccelerationValue VerticalAccelerationValue,
 --     verticalAccelerationConfidence AccelerationConfidence
 -- }
-abbrev pub vertical_acceleration_root : List Component
-vertical_acceleration_root = automatic (
+abbrev pub vertical_acceleration_lists : TypeLists
+vertical_acceleration_lists = automatic (
     vertical_acceleration_value ∷  -- verticalAccelerationValue
     acceleration_confidence ∷  -- verticalAccelerationConfidence
     [])
 
 abbrev pub vertical_acceleration : Component
-vertical_acceleration = sequence vertical_acceleration_root
+vertical_acceleration = sequence vertical_acceleration_lists
 
 -- PerformanceClass ::= INTEGER { unavailable(0), performanceClassA(1), performanceClassB(2) } (0..7)
 abbrev pub performance_class : Component
@@ -245,18 +247,15 @@ cen_dsrc_tolling_zone_id = protected_zone_id
 --     cenDsrcTollingZoneID CenDsrcTollingZoneID OPTIONAL,
 --     ...
 -- }
-abbrev pub cen_dsrc_tolling_zone_root : List Component
-cen_dsrc_tolling_zone_root = automatic (
+abbrev pub cen_dsrc_tolling_zone_lists : TypeLists
+cen_dsrc_tolling_zone_lists = extensible_automatic (
     latitude ∷  -- protectedZoneLatitude
     longitude ∷  -- protectedZoneLongitude
     optional cen_dsrc_tolling_zone_id ∷  -- cenDsrcTollingZoneID
-    [])
-
-abbrev pub cen_dsrc_tolling_zone_added : List Component
-cen_dsrc_tolling_zone_added = []
+    []) []
 
 abbrev pub cen_dsrc_tolling_zone : Component
-cen_dsrc_tolling_zone = extended_sequence cen_dsrc_tolling_zone_root cen_dsrc_tolling_zone_added
+cen_dsrc_tolling_zone = sequence cen_dsrc_tolling_zone_lists
 
 -- ProtectedZoneType ::= ENUMERATED { permanentCenDsrcTolling(0), ..., temporaryCenDsrcTolling(1) }
 abbrev pub protected_zone_type : Component
@@ -279,21 +278,18 @@ protected_zone_radius = integer big (extensible (1 to 255))
 --     protectedZoneID ProtectedZoneID OPTIONAL,
 --     ...
 -- }
-abbrev pub protected_communication_zone_root : List Component
-protected_communication_zone_root = automatic (
+abbrev pub protected_communication_zone_lists : TypeLists
+protected_communication_zone_lists = extensible_automatic (
     protected_zone_type ∷  -- protectedZoneType
     optional timestamp_its ∷  -- expiryTime
     latitude ∷  -- protectedZoneLatitude
     longitude ∷  -- protectedZoneLongitude
     optional protected_zone_radius ∷  -- protectedZoneRadius
     optional protected_zone_id ∷  -- protectedZoneID
-    [])
-
-abbrev pub protected_communication_zone_added : List Component
-protected_communication_zone_added = []
+    []) []
 
 abbrev pub protected_communication_zone : Component
-protected_communication_zone = extended_sequence protected_communication_zone_root protected_communication_zone_added
+protected_communication_zone = sequence protected_communication_zone_lists
 
 -- ProtectedCommunicationZonesRSU ::= SEQUENCE (SIZE (1..16)) OF ProtectedCommunicationZone
 abbrev pub protected_communication_zones_rsu : Component
@@ -309,15 +305,15 @@ station_id = integer u32 (0 to 4294967295)
 --         srem(9), ssem(10), evcsn(11), saem(12), rtcmem(13), cpm(14) } (0..255),
 --     stationID StationID
 -- }
-abbrev pub its_pdu_header_root : List Component
-its_pdu_header_root = automatic (
+abbrev pub its_pdu_header_lists : TypeLists
+its_pdu_header_lists = automatic (
     integer u8 (0 to 255) ∷  -- protocolVersion
     integer u8 (0 to 255) ∷  -- messageID
     station_id ∷  -- stationID
     [])
 
 abbrev pub its_pdu_header : Component
-its_pdu_header = sequence its_pdu_header_root
+its_pdu_header = sequence its_pdu_header_lists
 
 -- StationType ::= INTEGER { unknown(0), pedestrian(1), cyclist(2), moped(3), motorcycle(4), passengerCar(5),
 --     bus(6), lightTruck(7), heavyTruck(8), trailer(9), specialVehicles(10), tram(11), roadSideUnit(15) } (0..255)
@@ -333,15 +329,15 @@ semi_axis_length = integer u16 (0 to 4095)
 --     semiMinorConfidence SemiAxisLength,
 --     semiMajorOrientation HeadingValue
 -- }
-abbrev pub pos_confidence_ellipse_root : List Component
-pos_confidence_ellipse_root = automatic (
+abbrev pub pos_confidence_ellipse_lists : TypeLists
+pos_confidence_ellipse_lists = automatic (
     semi_axis_length ∷  -- semiMajorConfidence
     semi_axis_length ∷  -- semiMinorConfidence
     heading_value ∷  -- semiMajorOrientation
     [])
 
 abbrev pub pos_confidence_ellipse : Component
-pos_confidence_ellipse = sequence pos_confidence_ellipse_root
+pos_confidence_ellipse = sequence pos_confidence_ellipse_lists
 
 -- AltitudeValue ::= INTEGER { referenceEllipsoidSurface(0), oneCentimeter(1), unavailable(800001) }
 --     (-100000..800001)
@@ -358,14 +354,14 @@ altitude_confidence = enumerated 16
 --     altitudeValue AltitudeValue,
 --     altitudeConfidence AltitudeConfidence
 -- }
-abbrev pub altitude_root : List Component
-altitude_root = automatic (
+abbrev pub altitude_lists : TypeLists
+altitude_lists = automatic (
     altitude_value ∷  -- altitudeValue
     altitude_confidence ∷  -- altitudeConfidence
     [])
 
 abbrev pub altitude : Component
-altitude = sequence altitude_root
+altitude = sequence altitude_lists
 
 -- ReferencePosition ::= SEQUENCE {
 --     latitude Latitude,
@@ -373,8 +369,8 @@ altitude = sequence altitude_root
 --     positionConfidenceEllipse PosConfidenceEllipse,
 --     altitude Altitude
 -- }
-abbrev pub reference_position_root : List Component
-reference_position_root = automatic (
+abbrev pub reference_position_lists : TypeLists
+reference_position_lists = automatic (
     latitude ∷  -- latitude
     longitude ∷  -- longitude
     pos_confidence_ellipse ∷  -- positionConfidenceEllipse
@@ -382,7 +378,7 @@ reference_position_root = automatic (
     [])
 
 abbrev pub reference_position : Component
-reference_position = sequence reference_position_root
+reference_position = sequence reference_position_lists
 
 -- VehicleRole ::= ENUMERATED { default(0), publicTransport(1), specialTransport(2), dangerousGoods(3),
 --     roadWork(4), rescue(5), emergency(6), safetyCar(7), agriculture(8), commercial(9), military(10),
@@ -415,15 +411,15 @@ delta_altitude = integer i16 (minus 12700 to 12800)
 --     deltaLongitude DeltaLongitude,
 --     deltaAltitude DeltaAltitude
 -- }
-abbrev pub delta_reference_position_root : List Component
-delta_reference_position_root = automatic (
+abbrev pub delta_reference_position_lists : TypeLists
+delta_reference_position_lists = automatic (
     delta_latitude ∷  -- deltaLatitude
     delta_longitude ∷  -- deltaLongitude
     delta_altitude ∷  -- deltaAltitude
     [])
 
 abbrev pub delta_reference_position : Component
-delta_reference_position = sequence delta_reference_position_root
+delta_reference_position = sequence delta_reference_position_lists
 
 -- PathDeltaTime ::= INTEGER { tenMilliSecondsInPast(1) } (1..65535, ...)
 abbrev pub path_delta_time : Component
@@ -433,14 +429,14 @@ path_delta_time = integer big (extensible (1 to 65535))
 --     pathPosition DeltaReferencePosition,
 --     pathDeltaTime PathDeltaTime OPTIONAL
 -- }
-abbrev pub path_point_root : List Component
-path_point_root = automatic (
+abbrev pub path_point_lists : TypeLists
+path_point_lists = automatic (
     delta_reference_position ∷  -- pathPosition
     optional path_delta_time ∷  -- pathDeltaTime
     [])
 
 abbrev pub path_point : Component
-path_point = sequence path_point_root
+path_point = sequence path_point_lists
 
 -- PathHistory ::= SEQUENCE (SIZE (0..40)) OF PathPoint
 abbrev pub path_history : Component
@@ -462,14 +458,14 @@ pt_activation_data = octet_string (size 1 to 20)
 --     ptActivationType PtActivationType,
 --     ptActivationData PtActivationData
 -- }
-abbrev pub pt_activation_root : List Component
-pt_activation_root = automatic (
+abbrev pub pt_activation_lists : TypeLists
+pt_activation_lists = automatic (
     pt_activation_type ∷  -- ptActivationType
     pt_activation_data ∷  -- ptActivationData
     [])
 
 abbrev pub pt_activation : Component
-pt_activation = sequence pt_activation_root
+pt_activation = sequence pt_activation_lists
 
 -- SpecialTransportType ::= BIT STRING { heavyLoad(0), excessWidth(1), excessLength(2), excessHeight(3) } (SIZE
 --     (4))
@@ -509,18 +505,15 @@ driving_lane_status = bit_string (size 1 to 13)
 --     drivingLaneStatus DrivingLaneStatus OPTIONAL,
 --     ...
 -- }
-abbrev pub closed_lanes_root : List Component
-closed_lanes_root = automatic (
+abbrev pub closed_lanes_lists : TypeLists
+closed_lanes_lists = extensible_automatic (
     optional hard_shoulder_status ∷  -- innerhardShoulderStatus
     optional hard_shoulder_status ∷  -- outerhardShoulderStatus
     optional driving_lane_status ∷  -- drivingLaneStatus
-    [])
-
-abbrev pub closed_lanes_added : List Component
-closed_lanes_added = []
+    []) []
 
 abbrev pub closed_lanes : Component
-closed_lanes = extended_sequence closed_lanes_root closed_lanes_added
+closed_lanes = sequence closed_lanes_lists
 
 -- CauseCodeType ::= INTEGER { reserved(0), trafficCondition(1), accident(2), roadworks(3), impassability(5),
 --     adverseWeatherCondition-Adhesion(6), aquaplannning(7), hazardousLocation-SurfaceCondition(9),
@@ -543,17 +536,14 @@ sub_cause_code_type = integer u8 (0 to 255)
 --     subCauseCode SubCauseCodeType,
 --     ...
 -- }
-abbrev pub cause_code_root : List Component
-cause_code_root = automatic (
+abbrev pub cause_code_lists : TypeLists
+cause_code_lists = extensible_automatic (
     cause_code_type ∷  -- causeCode
     sub_cause_code_type ∷  -- subCauseCode
-    [])
-
-abbrev pub cause_code_added : List Component
-cause_code_added = []
+    []) []
 
 abbrev pub cause_code : Component
-cause_code = extended_sequence cause_code_root cause_code_added
+cause_code = sequence cause_code_lists
 
 -- EmergencyPriority ::= BIT STRING { requestForRightOfWay(0), requestForFreeCrossingAtATrafficLight(1) } (SIZE
 --     (2))

@@ -2,7 +2,7 @@
 
 use crate::path_point::PathPoint;
 use crate::protected_communication_zone::ProtectedCommunicationZone;
-use rasn_below::types::{BitString, Integer, OctetString};
+use rasn_below::page::*;
 
 /// HeadingValue ::= INTEGER { wgs84North(0), wgs84East(900), wgs84South(1800), wgs84West(2700), unavailable(3601) }
 ///     (0..3601)

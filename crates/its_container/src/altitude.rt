@@ -1,16 +1,12 @@
 //! Altitude, of the module ITS-Container.
 
-ghost use Rattle.its_container.specs.ItsContainer.{altitude_root};
-ghost use Rattle.rasn_below.specs.Components.{fields_of};
-ghost use Rattle.rasn_below.specs.Values.{whole};
+ghost use Rattle.its_container.specs.ItsContainer.{altitude_lists};
+ghost use Rattle.rasn_below.specs.Page.{fields_of, whole};
 ghost use Rattle.std.specs.Prelude.{Some, [], refl, ◌∷◌};
 
 use crate::aliases::AltitudeValue;
 use crate::altitude_confidence::AltitudeConfidence;
-use rasn_below::{
-    AsnType, Components, Constraint, Decoder, Encoder, Fields, Record, bounds, decode_components,
-    encode_components, fields,
-};
+use rasn_below::page::*;
 
 /// Altitude ::= SEQUENCE {
 ///     altitudeValue AltitudeValue,
@@ -22,32 +18,26 @@ pub struct Altitude {
     pub altitude_confidence: AltitudeConfidence,
 }
 
-macro_rules! components {
-    ($to:ident $($with:ident)*) => {
-        $to! { [$($with)*]
-            required 0 "altitudeValue" altitude_value: AltitudeValue [-100_000..=800_001];
-            required 1 "altitudeConfidence" altitude_confidence: AltitudeConfidence [];
-        }
-    };
-}
+macro_rules! components { ($to:ident $($with:ident)*) => { $to! { [$($with)*]
+    required 0 "altitudeValue" altitude_value: AltitudeValue [-100_000..=800_001];
+    required 1 "altitudeConfidence" altitude_confidence: AltitudeConfidence [];
+} }; }
 
-const FIELDS: Fields = components!(fields);
+const FIELDS: FieldLists = components!(fields);
 
-const BOUNDS: &[&[Constraint]] = components!(bounds);
+const BOUNDS: Bounds = components!(bounds);
 
 impl Components for Altitude {
-    const COMPONENTS: Fields = FIELDS;
+    const COMPONENTS: FieldLists = FIELDS;
 
-    ghost COMPONENTS = { fields_of altitude_root };
+    ghost COMPONENTS = { fields_of altitude_lists };
 
-    ghost components = { altitude_root };
+    ghost components = { (altitude_lists, refl) };
 
     ghost contents = { λ x.
         Some (whole x.altitude_value) ∷
         Some (⟦<AltitudeConfidence as AsnType>⟧.value x.altitude_confidence) ∷
         [] };
-
-    ghost described = { refl };
 }
 
 impl Record for Altitude {

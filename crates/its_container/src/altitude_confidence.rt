@@ -1,12 +1,17 @@
 //! AltitudeConfidence, of the module ITS-Container.
 
-ghost use Rattle.its_container.specs.declared.altitude_confidence.AltitudeConfidence.TheVariants.{Alt000_01, Alt000_02, Alt000_05, Alt000_10, Alt000_20, Alt000_50, Alt001_00, Alt002_00, Alt005_00, Alt010_00, Alt020_00, Alt050_00, Alt100_00, Alt200_00, OutOfRange, Unavailable};
-ghost use Rattle.rasn_below.specs.Components.{all_items};
-ghost use Rattle.rasn_below.specs.Values.{item, root};
+ghost use Rattle.its_container.specs.declared.altitude_confidence.AltitudeConfidence.TheVariants.{Alt000_01, Alt000_02};
+ghost use Rattle.its_container.specs.declared.altitude_confidence.AltitudeConfidence.TheVariants.{Alt000_05, Alt000_10};
+ghost use Rattle.its_container.specs.declared.altitude_confidence.AltitudeConfidence.TheVariants.{Alt000_20, Alt000_50};
+ghost use Rattle.its_container.specs.declared.altitude_confidence.AltitudeConfidence.TheVariants.{Alt001_00, Alt002_00};
+ghost use Rattle.its_container.specs.declared.altitude_confidence.AltitudeConfidence.TheVariants.{Alt005_00, Alt010_00};
+ghost use Rattle.its_container.specs.declared.altitude_confidence.AltitudeConfidence.TheVariants.{Alt020_00, Alt050_00};
+ghost use Rattle.its_container.specs.declared.altitude_confidence.AltitudeConfidence.TheVariants.{Alt100_00, Alt200_00};
+ghost use Rattle.its_container.specs.declared.altitude_confidence.AltitudeConfidence.TheVariants.{OutOfRange};
+ghost use Rattle.its_container.specs.declared.altitude_confidence.AltitudeConfidence.TheVariants.{Unavailable};
+ghost use Rattle.rasn_below.specs.Page.{all_items, item, root};
 
-use rasn_below::{
-    ByKind, EnumeratedKind, ItemCounts, Items, OfKind, Place, item_at, item_counts, place_of_item,
-};
+use rasn_below::page::*;
 
 /// AltitudeConfidence ::= ENUMERATED { alt-000-01(0), alt-000-02(1), alt-000-05(2), alt-000-10(3), alt-000-20(4),
 ///     alt-000-50(5), alt-001-00(6), alt-002-00(7), alt-005-00(8), alt-010-00(9), alt-020-00(10), alt-050-00(11),
@@ -31,28 +36,24 @@ pub enum AltitudeConfidence {
     Unavailable,
 }
 
-macro_rules! items {
-    ($to:ident $($with:ident)*) => {
-        $to! { [$($with)*]
-            Alt000_01;
-            Alt000_02;
-            Alt000_05;
-            Alt000_10;
-            Alt000_20;
-            Alt000_50;
-            Alt001_00;
-            Alt002_00;
-            Alt005_00;
-            Alt010_00;
-            Alt020_00;
-            Alt050_00;
-            Alt100_00;
-            Alt200_00;
-            OutOfRange;
-            Unavailable;
-        }
-    };
-}
+macro_rules! items { ($to:ident $($with:ident)*) => { $to! { [$($with)*]
+    Alt000_01;
+    Alt000_02;
+    Alt000_05;
+    Alt000_10;
+    Alt000_20;
+    Alt000_50;
+    Alt001_00;
+    Alt002_00;
+    Alt005_00;
+    Alt010_00;
+    Alt020_00;
+    Alt050_00;
+    Alt100_00;
+    Alt200_00;
+    OutOfRange;
+    Unavailable;
+} }; }
 
 impl OfKind for AltitudeConfidence {
     type Kind = EnumeratedKind;

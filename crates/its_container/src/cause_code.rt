@@ -1,17 +1,11 @@
 //! CauseCode, of the module ITS-Container.
 
-ghost use Rattle.its_container.specs.ItsContainer.{cause_code_added, cause_code_root};
-ghost use Rattle.rasn_below.specs.Components.{extended_by, fields_described, fields_of, parts_of};
-ghost use Rattle.rasn_below.specs.Values.{whole};
-ghost use Rattle.std.specs.Prelude.{Some, [], pos, refl, true, ◌∷◌};
+ghost use Rattle.its_container.specs.ItsContainer.{cause_code_lists};
+ghost use Rattle.rasn_below.specs.Page.{fields_of, whole};
+ghost use Rattle.std.specs.Prelude.{Some, [], pos, refl, ◌∷◌};
 
 use crate::aliases::{CauseCodeType, SubCauseCodeType};
-use rasn_below::types::Identifier;
-use rasn_below::{
-    Constraint, Constraints, Constructed, Decode, Decoder, Encode, Encoder, Extended, ExtendedKind,
-    Fields, OfKind, Tag, added_bounds, added_fields, decode_extended, encode_extended, root_bounds,
-    root_fields,
-};
+use rasn_below::page::*;
 
 /// CauseCode ::= SEQUENCE {
 ///     causeCode CauseCodeType,
@@ -24,88 +18,35 @@ pub struct CauseCode {
     pub sub_cause_code: SubCauseCodeType,
 }
 
-macro_rules! components {
-    ($to:ident $($with:ident)*) => {
-        $to! { [$($with)*]
-            required 0 "causeCode" cause_code: CauseCodeType [0..=255];
-            required 1 "subCauseCode" sub_cause_code: SubCauseCodeType [0..=255];
-            ...;
-        }
-    };
-}
+macro_rules! components { ($to:ident $($with:ident)*) => { $to! { [$($with)*]
+    required 0 "causeCode" cause_code: CauseCodeType [0..=255];
+    required 1 "subCauseCode" sub_cause_code: SubCauseCodeType [0..=255];
+    ...;
+} }; }
 
-const FIELDS: Fields = components!(root_fields);
+const FIELDS: FieldLists = components!(fields);
 
-const BOUNDS: &[&[Constraint]] = components!(root_bounds);
+const BOUNDS: Bounds = components!(bounds);
 
-const ADDED_FIELDS: Fields = components!(added_fields);
+impl Components for CauseCode {
+    const COMPONENTS: FieldLists = FIELDS;
 
-const ADDED_BOUNDS: &[&[Constraint]] = components!(added_bounds);
+    ghost COMPONENTS = { fields_of cause_code_lists };
 
-impl OfKind for CauseCode {
-    type Kind = ExtendedKind;
-}
-
-impl Extended for CauseCode {
-    ghost root = { cause_code_root };
-
-    ghost additions = { cause_code_added };
+    ghost components = { (cause_code_lists, refl) };
 
     ghost contents = { λ x.
         Some (whole (pos x.cause_code)) ∷
         Some (whole (pos x.sub_cause_code)) ∷
         [] };
-
-    ghost added = { λ x.
-        [] };
 }
 
-impl Constructed for CauseCode {
-    const FIELDS: Fields = FIELDS;
-
-    ghost FIELDS = { fields_of cause_code_root };
-
-    const EXTENDED_FIELDS: Option<Fields> = Some(ADDED_FIELDS);
-
-    ghost EXTENDED_FIELDS = { Some (fields_of cause_code_added) };
-
-    const IS_EXTENSIBLE: bool = true;
-
-    ghost IS_EXTENSIBLE = { true };
-
-    ghost parts = { parts_of cause_code_root };
-
-    ghost additions = { parts_of cause_code_added };
-
-    ghost contents = { ⟦<CauseCode as Extended>⟧.contents };
-
-    ghost added = { ⟦<CauseCode as Extended>⟧.added };
-
-    ghost described = { fields_described cause_code_root };
-
-    ghost extends = { extended_by cause_code_added };
-
-    ghost is_record = { λ _. refl };
-}
-
-impl Encode for CauseCode {
-    fn encode_with_tag_and_constraints<E: Encoder>(
-        &self,
-        encoder: &mut E,
-        tag: Tag,
-        _: &Constraints,
-        identifier: Identifier,
-    ) -> Result<(), E::Error> {
-        components!(encode_extended self encoder tag identifier)
+impl Record for CauseCode {
+    fn encode_components<E: Encoder>(&self, encoder: &mut E) -> Result<(), E::Error> {
+        components!(encode_components self encoder)
     }
-}
 
-impl Decode for CauseCode {
-    fn decode_with_tag_and_constraints<D: Decoder>(
-        decoder: &mut D,
-        tag: Tag,
-        _: &Constraints,
-    ) -> Result<CauseCode, D::Error> {
-        components!(decode_extended decoder tag)
+    fn decode_components<D: Decoder>(decoder: &mut D) -> Result<Self, D::Error> {
+        components!(decode_components decoder)
     }
 }

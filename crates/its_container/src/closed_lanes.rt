@@ -1,18 +1,12 @@
 //! ClosedLanes, of the module ITS-Container.
 
-ghost use Rattle.its_container.specs.ItsContainer.{closed_lanes_added, closed_lanes_root};
-ghost use Rattle.rasn_below.specs.Components.{extended_by, fields_described, fields_of, parts_of};
-ghost use Rattle.rasn_below.specs.Values.{bits, deeper_of, slot_levels, slot_of};
-ghost use Rattle.std.specs.Prelude.{Some, [], max, refl, true, ◌∷◌};
+ghost use Rattle.its_container.specs.ItsContainer.{closed_lanes_lists};
+ghost use Rattle.rasn_below.specs.Page.{bits, deeper_of, fields_of, slot_levels, slot_of};
+ghost use Rattle.std.specs.Prelude.{[], max, refl, ◌∷◌};
 
 use crate::aliases::DrivingLaneStatus;
 use crate::hard_shoulder_status::HardShoulderStatus;
-use rasn_below::types::Identifier;
-use rasn_below::{
-    AsnType, Constraint, Constraints, Constructed, Decode, Decoder, Encode, Encoder, Extended,
-    ExtendedKind, Fields, OfKind, Tag, added_bounds, added_fields, decode_extended,
-    encode_extended, root_bounds, root_fields,
-};
+use rasn_below::page::*;
 
 /// ClosedLanes ::= SEQUENCE {
 ///     innerhardShoulderStatus HardShoulderStatus OPTIONAL,
@@ -27,41 +21,28 @@ pub struct ClosedLanes {
     pub driving_lane_status: Option<DrivingLaneStatus>,
 }
 
-macro_rules! components {
-    ($to:ident $($with:ident)*) => {
-        $to! { [$($with)*]
-            optional 0 "innerhardShoulderStatus" innerhard_shoulder_status: Option<HardShoulderStatus> [];
-            optional 1 "outerhardShoulderStatus" outerhard_shoulder_status: Option<HardShoulderStatus> [];
-            optional 2 "drivingLaneStatus" driving_lane_status: Option<DrivingLaneStatus> [SIZE 1..=13];
-            ...;
-        }
-    };
-}
+macro_rules! components { ($to:ident $($with:ident)*) => { $to! { [$($with)*]
+    optional 0 "innerhardShoulderStatus" innerhard_shoulder_status: Option<HardShoulderStatus> [];
+    optional 1 "outerhardShoulderStatus" outerhard_shoulder_status: Option<HardShoulderStatus> [];
+    optional 2 "drivingLaneStatus" driving_lane_status: Option<DrivingLaneStatus> [SIZE 1..=13];
+    ...;
+} }; }
 
-const FIELDS: Fields = components!(root_fields);
+const FIELDS: FieldLists = components!(fields);
 
-const BOUNDS: &[&[Constraint]] = components!(root_bounds);
+const BOUNDS: Bounds = components!(bounds);
 
-const ADDED_FIELDS: Fields = components!(added_fields);
+impl Components for ClosedLanes {
+    const COMPONENTS: FieldLists = FIELDS;
 
-const ADDED_BOUNDS: &[&[Constraint]] = components!(added_bounds);
+    ghost COMPONENTS = { fields_of closed_lanes_lists };
 
-impl OfKind for ClosedLanes {
-    type Kind = ExtendedKind;
-}
-
-impl Extended for ClosedLanes {
-    ghost root = { closed_lanes_root };
-
-    ghost additions = { closed_lanes_added };
+    ghost components = { (closed_lanes_lists, refl) };
 
     ghost contents = { λ x.
         slot_of ⟦<HardShoulderStatus as AsnType>⟧.value x.innerhard_shoulder_status ∷
         slot_of ⟦<HardShoulderStatus as AsnType>⟧.value x.outerhard_shoulder_status ∷
         slot_of bits x.driving_lane_status ∷
-        [] };
-
-    ghost added = { λ x.
         [] };
 
     ghost depth = { λ x. deeper_of
@@ -71,52 +52,12 @@ impl Extended for ClosedLanes {
         0 };
 }
 
-impl Constructed for ClosedLanes {
-    const FIELDS: Fields = FIELDS;
-
-    ghost FIELDS = { fields_of closed_lanes_root };
-
-    const EXTENDED_FIELDS: Option<Fields> = Some(ADDED_FIELDS);
-
-    ghost EXTENDED_FIELDS = { Some (fields_of closed_lanes_added) };
-
-    const IS_EXTENSIBLE: bool = true;
-
-    ghost IS_EXTENSIBLE = { true };
-
-    ghost parts = { parts_of closed_lanes_root };
-
-    ghost additions = { parts_of closed_lanes_added };
-
-    ghost contents = { ⟦<ClosedLanes as Extended>⟧.contents };
-
-    ghost added = { ⟦<ClosedLanes as Extended>⟧.added };
-
-    ghost described = { fields_described closed_lanes_root };
-
-    ghost extends = { extended_by closed_lanes_added };
-
-    ghost is_record = { λ _. refl };
-}
-
-impl Encode for ClosedLanes {
-    fn encode_with_tag_and_constraints<E: Encoder>(
-        &self,
-        encoder: &mut E,
-        tag: Tag,
-        _: &Constraints,
-        identifier: Identifier,
-    ) -> Result<(), E::Error> {
-        components!(encode_extended self encoder tag identifier)
+impl Record for ClosedLanes {
+    fn encode_components<E: Encoder>(&self, encoder: &mut E) -> Result<(), E::Error> {
+        components!(encode_components self encoder)
     }
-}
 
-impl Decode for ClosedLanes {
-    fn decode_with_tag_and_constraints<D: Decoder>(
-        decoder: &mut D,
-        tag: Tag,
-        _: &Constraints,
-    ) -> Result<ClosedLanes, D::Error> {
-        components!(decode_extended decoder tag)
+    fn decode_components<D: Decoder>(decoder: &mut D) -> Result<Self, D::Error> {
+        components!(decode_components decoder)
     }
 }

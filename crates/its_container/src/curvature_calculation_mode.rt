@@ -1,12 +1,17 @@
 //! CurvatureCalculationMode, of the module ITS-Container.
 
-ghost use Rattle.its_container.specs.declared.curvature_calculation_mode.CurvatureCalculationMode.TheVariants.{Unavailable, YawRateNotUsed, YawRateUsed};
-ghost use Rattle.rasn_below.specs.Components.{extensible_items};
-ghost use Rattle.rasn_below.specs.Values.{item, root};
-
-use rasn_below::{
-    ByKind, EnumeratedKind, ItemCounts, Items, OfKind, Place, item_at, item_counts, place_of_item,
+ghost use Rattle.its_container.specs.declared.curvature_calculation_mode.CurvatureCalculationMode.TheVariants.{
+  Unavailable,
 };
+ghost use Rattle.its_container.specs.declared.curvature_calculation_mode.CurvatureCalculationMode.TheVariants.{
+  YawRateNotUsed,
+};
+ghost use Rattle.its_container.specs.declared.curvature_calculation_mode.CurvatureCalculationMode.TheVariants.{
+  YawRateUsed,
+};
+ghost use Rattle.rasn_below.specs.Page.{extensible_items, item, root};
+
+use rasn_below::page::*;
 
 /// CurvatureCalculationMode ::= ENUMERATED { yawRateUsed(0), yawRateNotUsed(1), unavailable(2), ... }
 #[derive(Clone, Copy, Debug, PartialEq, Eq)]
@@ -16,16 +21,12 @@ pub enum CurvatureCalculationMode {
     Unavailable,
 }
 
-macro_rules! items {
-    ($to:ident $($with:ident)*) => {
-        $to! { [$($with)*]
-            YawRateUsed;
-            YawRateNotUsed;
-            Unavailable;
-            ...;
-        }
-    };
-}
+macro_rules! items { ($to:ident $($with:ident)*) => { $to! { [$($with)*]
+    YawRateUsed;
+    YawRateNotUsed;
+    Unavailable;
+    ...;
+} }; }
 
 impl OfKind for CurvatureCalculationMode {
     type Kind = EnumeratedKind;

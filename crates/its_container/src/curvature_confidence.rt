@@ -1,12 +1,16 @@
 //! CurvatureConfidence, of the module ITS-Container.
 
-ghost use Rattle.its_container.specs.declared.curvature_confidence.CurvatureConfidence.TheVariants.{OnePerMeter0_00002, OnePerMeter0_0001, OnePerMeter0_0005, OnePerMeter0_002, OnePerMeter0_01, OnePerMeter0_1, OutOfRange, Unavailable};
-ghost use Rattle.rasn_below.specs.Components.{all_items};
-ghost use Rattle.rasn_below.specs.Values.{item, root};
+ghost use Rattle.its_container.specs.declared.curvature_confidence.CurvatureConfidence.TheVariants.{OnePerMeter0_00002};
+ghost use Rattle.its_container.specs.declared.curvature_confidence.CurvatureConfidence.TheVariants.{OnePerMeter0_0001};
+ghost use Rattle.its_container.specs.declared.curvature_confidence.CurvatureConfidence.TheVariants.{OnePerMeter0_0005};
+ghost use Rattle.its_container.specs.declared.curvature_confidence.CurvatureConfidence.TheVariants.{OnePerMeter0_002};
+ghost use Rattle.its_container.specs.declared.curvature_confidence.CurvatureConfidence.TheVariants.{OnePerMeter0_01};
+ghost use Rattle.its_container.specs.declared.curvature_confidence.CurvatureConfidence.TheVariants.{OnePerMeter0_1};
+ghost use Rattle.its_container.specs.declared.curvature_confidence.CurvatureConfidence.TheVariants.{OutOfRange};
+ghost use Rattle.its_container.specs.declared.curvature_confidence.CurvatureConfidence.TheVariants.{Unavailable};
+ghost use Rattle.rasn_below.specs.Page.{all_items, item, root};
 
-use rasn_below::{
-    ByKind, EnumeratedKind, ItemCounts, Items, OfKind, Place, item_at, item_counts, place_of_item,
-};
+use rasn_below::page::*;
 
 /// CurvatureConfidence ::= ENUMERATED { onePerMeter-0-00002(0), onePerMeter-0-0001(1), onePerMeter-0-0005(2),
 ///     onePerMeter-0-002(3), onePerMeter-0-01(4), onePerMeter-0-1(5), outOfRange(6), unavailable(7) }
@@ -22,20 +26,16 @@ pub enum CurvatureConfidence {
     Unavailable,
 }
 
-macro_rules! items {
-    ($to:ident $($with:ident)*) => {
-        $to! { [$($with)*]
-            OnePerMeter0_00002;
-            OnePerMeter0_0001;
-            OnePerMeter0_0005;
-            OnePerMeter0_002;
-            OnePerMeter0_01;
-            OnePerMeter0_1;
-            OutOfRange;
-            Unavailable;
-        }
-    };
-}
+macro_rules! items { ($to:ident $($with:ident)*) => { $to! { [$($with)*]
+    OnePerMeter0_00002;
+    OnePerMeter0_0001;
+    OnePerMeter0_0005;
+    OnePerMeter0_002;
+    OnePerMeter0_01;
+    OnePerMeter0_1;
+    OutOfRange;
+    Unavailable;
+} }; }
 
 impl OfKind for CurvatureConfidence {
     type Kind = EnumeratedKind;

@@ -1,12 +1,42 @@
 //! DangerousGoodsBasic, of the module ITS-Container.
 
-ghost use Rattle.its_container.specs.declared.dangerous_goods_basic.DangerousGoodsBasic.TheVariants.{CorrosiveSubstances, Explosives1, Explosives2, Explosives3, Explosives4, Explosives5, Explosives6, FlammableGases, FlammableLiquids, FlammableSolids, InfectiousSubstances, MiscellaneousDangerousSubstances, NonFlammableGases, OrganicPeroxides, OxidizingSubstances, RadioactiveMaterial, SubstancesEmittingFlammableGasesUponContactWithWater, SubstancesLiableToSpontaneousCombustion, ToxicGases, ToxicSubstances};
-ghost use Rattle.rasn_below.specs.Components.{all_items};
-ghost use Rattle.rasn_below.specs.Values.{item, root};
-
-use rasn_below::{
-    ByKind, EnumeratedKind, ItemCounts, Items, OfKind, Place, item_at, item_counts, place_of_item,
+ghost use Rattle.its_container.specs.declared.dangerous_goods_basic.DangerousGoodsBasic.TheVariants.{
+  CorrosiveSubstances,
 };
+ghost use Rattle.its_container.specs.declared.dangerous_goods_basic.DangerousGoodsBasic.TheVariants.{Explosives1};
+ghost use Rattle.its_container.specs.declared.dangerous_goods_basic.DangerousGoodsBasic.TheVariants.{Explosives2};
+ghost use Rattle.its_container.specs.declared.dangerous_goods_basic.DangerousGoodsBasic.TheVariants.{Explosives3};
+ghost use Rattle.its_container.specs.declared.dangerous_goods_basic.DangerousGoodsBasic.TheVariants.{Explosives4};
+ghost use Rattle.its_container.specs.declared.dangerous_goods_basic.DangerousGoodsBasic.TheVariants.{Explosives5};
+ghost use Rattle.its_container.specs.declared.dangerous_goods_basic.DangerousGoodsBasic.TheVariants.{Explosives6};
+ghost use Rattle.its_container.specs.declared.dangerous_goods_basic.DangerousGoodsBasic.TheVariants.{FlammableGases};
+ghost use Rattle.its_container.specs.declared.dangerous_goods_basic.DangerousGoodsBasic.TheVariants.{FlammableLiquids};
+ghost use Rattle.its_container.specs.declared.dangerous_goods_basic.DangerousGoodsBasic.TheVariants.{FlammableSolids};
+ghost use Rattle.its_container.specs.declared.dangerous_goods_basic.DangerousGoodsBasic.TheVariants.{
+  InfectiousSubstances,
+};
+ghost use Rattle.its_container.specs.declared.dangerous_goods_basic.DangerousGoodsBasic.TheVariants.{
+  MiscellaneousDangerousSubstances,
+};
+ghost use Rattle.its_container.specs.declared.dangerous_goods_basic.DangerousGoodsBasic.TheVariants.{NonFlammableGases};
+ghost use Rattle.its_container.specs.declared.dangerous_goods_basic.DangerousGoodsBasic.TheVariants.{OrganicPeroxides};
+ghost use Rattle.its_container.specs.declared.dangerous_goods_basic.DangerousGoodsBasic.TheVariants.{
+  OxidizingSubstances,
+};
+ghost use Rattle.its_container.specs.declared.dangerous_goods_basic.DangerousGoodsBasic.TheVariants.{
+  RadioactiveMaterial,
+};
+ghost use Rattle.its_container.specs.declared.dangerous_goods_basic.DangerousGoodsBasic.TheVariants.{
+  SubstancesEmittingFlammableGasesUponContactWithWater,
+};
+ghost use Rattle.its_container.specs.declared.dangerous_goods_basic.DangerousGoodsBasic.TheVariants.{
+  SubstancesLiableToSpontaneousCombustion,
+};
+ghost use Rattle.its_container.specs.declared.dangerous_goods_basic.DangerousGoodsBasic.TheVariants.{ToxicGases};
+ghost use Rattle.its_container.specs.declared.dangerous_goods_basic.DangerousGoodsBasic.TheVariants.{ToxicSubstances};
+ghost use Rattle.rasn_below.specs.Page.{all_items, item, root};
+
+use rasn_below::page::*;
 
 /// DangerousGoodsBasic ::= ENUMERATED { explosives1(0), explosives2(1), explosives3(2), explosives4(3),
 ///     explosives5(4), explosives6(5), flammableGases(6), nonFlammableGases(7), toxicGases(8), flammableLiquids(9),
@@ -38,32 +68,28 @@ pub enum DangerousGoodsBasic {
     MiscellaneousDangerousSubstances,
 }
 
-macro_rules! items {
-    ($to:ident $($with:ident)*) => {
-        $to! { [$($with)*]
-            Explosives1;
-            Explosives2;
-            Explosives3;
-            Explosives4;
-            Explosives5;
-            Explosives6;
-            FlammableGases;
-            NonFlammableGases;
-            ToxicGases;
-            FlammableLiquids;
-            FlammableSolids;
-            SubstancesLiableToSpontaneousCombustion;
-            SubstancesEmittingFlammableGasesUponContactWithWater;
-            OxidizingSubstances;
-            OrganicPeroxides;
-            ToxicSubstances;
-            InfectiousSubstances;
-            RadioactiveMaterial;
-            CorrosiveSubstances;
-            MiscellaneousDangerousSubstances;
-        }
-    };
-}
+macro_rules! items { ($to:ident $($with:ident)*) => { $to! { [$($with)*]
+    Explosives1;
+    Explosives2;
+    Explosives3;
+    Explosives4;
+    Explosives5;
+    Explosives6;
+    FlammableGases;
+    NonFlammableGases;
+    ToxicGases;
+    FlammableLiquids;
+    FlammableSolids;
+    SubstancesLiableToSpontaneousCombustion;
+    SubstancesEmittingFlammableGasesUponContactWithWater;
+    OxidizingSubstances;
+    OrganicPeroxides;
+    ToxicSubstances;
+    InfectiousSubstances;
+    RadioactiveMaterial;
+    CorrosiveSubstances;
+    MiscellaneousDangerousSubstances;
+} }; }
 
 impl OfKind for DangerousGoodsBasic {
     type Kind = EnumeratedKind;

@@ -1,12 +1,10 @@
 //! DriveDirection, of the module ITS-Container.
 
-ghost use Rattle.its_container.specs.declared.drive_direction.DriveDirection.TheVariants.{Backward, Forward, Unavailable};
-ghost use Rattle.rasn_below.specs.Components.{all_items};
-ghost use Rattle.rasn_below.specs.Values.{item, root};
+ghost use Rattle.its_container.specs.declared.drive_direction.DriveDirection.TheVariants.{Backward, Forward};
+ghost use Rattle.its_container.specs.declared.drive_direction.DriveDirection.TheVariants.{Unavailable};
+ghost use Rattle.rasn_below.specs.Page.{all_items, item, root};
 
-use rasn_below::{
-    ByKind, EnumeratedKind, ItemCounts, Items, OfKind, Place, item_at, item_counts, place_of_item,
-};
+use rasn_below::page::*;
 
 /// DriveDirection ::= ENUMERATED { forward(0), backward(1), unavailable(2) }
 #[derive(Clone, Copy, Debug, PartialEq, Eq)]
@@ -16,15 +14,11 @@ pub enum DriveDirection {
     Unavailable,
 }
 
-macro_rules! items {
-    ($to:ident $($with:ident)*) => {
-        $to! { [$($with)*]
-            Forward;
-            Backward;
-            Unavailable;
-        }
-    };
-}
+macro_rules! items { ($to:ident $($with:ident)*) => { $to! { [$($with)*]
+    Forward;
+    Backward;
+    Unavailable;
+} }; }
 
 impl OfKind for DriveDirection {
     type Kind = EnumeratedKind;

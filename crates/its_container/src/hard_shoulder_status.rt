@@ -1,12 +1,13 @@
 //! HardShoulderStatus, of the module ITS-Container.
 
-ghost use Rattle.its_container.specs.declared.hard_shoulder_status.HardShoulderStatus.TheVariants.{AvailableForDriving, AvailableForStopping, Closed};
-ghost use Rattle.rasn_below.specs.Components.{all_items};
-ghost use Rattle.rasn_below.specs.Values.{item, root};
-
-use rasn_below::{
-    ByKind, EnumeratedKind, ItemCounts, Items, OfKind, Place, item_at, item_counts, place_of_item,
+ghost use Rattle.its_container.specs.declared.hard_shoulder_status.HardShoulderStatus.TheVariants.{AvailableForDriving};
+ghost use Rattle.its_container.specs.declared.hard_shoulder_status.HardShoulderStatus.TheVariants.{
+  AvailableForStopping,
 };
+ghost use Rattle.its_container.specs.declared.hard_shoulder_status.HardShoulderStatus.TheVariants.{Closed};
+ghost use Rattle.rasn_below.specs.Page.{all_items, item, root};
+
+use rasn_below::page::*;
 
 /// HardShoulderStatus ::= ENUMERATED { availableForStopping(0), closed(1), availableForDriving(2) }
 #[derive(Clone, Copy, Debug, PartialEq, Eq)]
@@ -16,15 +17,11 @@ pub enum HardShoulderStatus {
     AvailableForDriving,
 }
 
-macro_rules! items {
-    ($to:ident $($with:ident)*) => {
-        $to! { [$($with)*]
-            AvailableForStopping;
-            Closed;
-            AvailableForDriving;
-        }
-    };
-}
+macro_rules! items { ($to:ident $($with:ident)*) => { $to! { [$($with)*]
+    AvailableForStopping;
+    Closed;
+    AvailableForDriving;
+} }; }
 
 impl OfKind for HardShoulderStatus {
     type Kind = EnumeratedKind;

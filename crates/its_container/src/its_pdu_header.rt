@@ -1,15 +1,11 @@
 //! ItsPduHeader, of the module ITS-Container.
 
-ghost use Rattle.its_container.specs.ItsContainer.{its_pdu_header_root};
-ghost use Rattle.rasn_below.specs.Components.{fields_of};
-ghost use Rattle.rasn_below.specs.Values.{whole};
+ghost use Rattle.its_container.specs.ItsContainer.{its_pdu_header_lists};
+ghost use Rattle.rasn_below.specs.Page.{fields_of, whole};
 ghost use Rattle.std.specs.Prelude.{Some, [], pos, refl, ◌∷◌};
 
 use crate::aliases::StationId;
-use rasn_below::{
-    Components, Constraint, Decoder, Encoder, Fields, Record, bounds, decode_components,
-    encode_components, fields,
-};
+use rasn_below::page::*;
 
 /// ItsPduHeader ::= SEQUENCE {
 ///     protocolVersion INTEGER (0..255),
@@ -24,34 +20,28 @@ pub struct ItsPduHeader {
     pub station_id: StationId,
 }
 
-macro_rules! components {
-    ($to:ident $($with:ident)*) => {
-        $to! { [$($with)*]
-            required 0 "protocolVersion" protocol_version: u8 [0..=255];
-            required 1 "messageID" message_id: u8 [0..=255];
-            required 2 "stationID" station_id: StationId [0..=4_294_967_295];
-        }
-    };
-}
+macro_rules! components { ($to:ident $($with:ident)*) => { $to! { [$($with)*]
+    required 0 "protocolVersion" protocol_version: u8 [0..=255];
+    required 1 "messageID" message_id: u8 [0..=255];
+    required 2 "stationID" station_id: StationId [0..=4_294_967_295];
+} }; }
 
-const FIELDS: Fields = components!(fields);
+const FIELDS: FieldLists = components!(fields);
 
-const BOUNDS: &[&[Constraint]] = components!(bounds);
+const BOUNDS: Bounds = components!(bounds);
 
 impl Components for ItsPduHeader {
-    const COMPONENTS: Fields = FIELDS;
+    const COMPONENTS: FieldLists = FIELDS;
 
-    ghost COMPONENTS = { fields_of its_pdu_header_root };
+    ghost COMPONENTS = { fields_of its_pdu_header_lists };
 
-    ghost components = { its_pdu_header_root };
+    ghost components = { (its_pdu_header_lists, refl) };
 
     ghost contents = { λ x.
         Some (whole (pos x.protocol_version)) ∷
         Some (whole (pos x.message_id)) ∷
         Some (whole (pos x.station_id)) ∷
         [] };
-
-    ghost described = { refl };
 }
 
 impl Record for ItsPduHeader {

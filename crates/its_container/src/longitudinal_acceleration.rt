@@ -1,15 +1,11 @@
 //! LongitudinalAcceleration, of the module ITS-Container.
 
-ghost use Rattle.its_container.specs.ItsContainer.{longitudinal_acceleration_root};
-ghost use Rattle.rasn_below.specs.Components.{fields_of};
-ghost use Rattle.rasn_below.specs.Values.{whole};
+ghost use Rattle.its_container.specs.ItsContainer.{longitudinal_acceleration_lists};
+ghost use Rattle.rasn_below.specs.Page.{fields_of, whole};
 ghost use Rattle.std.specs.Prelude.{Some, [], pos, refl, ◌∷◌};
 
 use crate::aliases::{AccelerationConfidence, LongitudinalAccelerationValue};
-use rasn_below::{
-    Components, Constraint, Decoder, Encoder, Fields, Record, bounds, decode_components,
-    encode_components, fields,
-};
+use rasn_below::page::*;
 
 /// LongitudinalAcceleration ::= SEQUENCE {
 ///     longitudinalAccelerationValue LongitudinalAccelerationValue,
@@ -21,34 +17,28 @@ pub struct LongitudinalAcceleration {
     pub longitudinal_acceleration_confidence: AccelerationConfidence,
 }
 
-macro_rules! components {
-    ($to:ident $($with:ident)*) => {
-        $to! { [$($with)*]
-            required 0 "longitudinalAccelerationValue" longitudinal_acceleration_value: LongitudinalAccelerationValue
-                [-160..=161];
-            required 1 "longitudinalAccelerationConfidence" longitudinal_acceleration_confidence:
-                AccelerationConfidence [0..=102];
-        }
-    };
-}
+macro_rules! components { ($to:ident $($with:ident)*) => { $to! { [$($with)*]
+    required 0 "longitudinalAccelerationValue" longitudinal_acceleration_value: LongitudinalAccelerationValue
+        [-160..=161];
+    required 1 "longitudinalAccelerationConfidence" longitudinal_acceleration_confidence: AccelerationConfidence
+        [0..=102];
+} }; }
 
-const FIELDS: Fields = components!(fields);
+const FIELDS: FieldLists = components!(fields);
 
-const BOUNDS: &[&[Constraint]] = components!(bounds);
+const BOUNDS: Bounds = components!(bounds);
 
 impl Components for LongitudinalAcceleration {
-    const COMPONENTS: Fields = FIELDS;
+    const COMPONENTS: FieldLists = FIELDS;
 
-    ghost COMPONENTS = { fields_of longitudinal_acceleration_root };
+    ghost COMPONENTS = { fields_of longitudinal_acceleration_lists };
 
-    ghost components = { longitudinal_acceleration_root };
+    ghost components = { (longitudinal_acceleration_lists, refl) };
 
     ghost contents = { λ x.
         Some (whole x.longitudinal_acceleration_value) ∷
         Some (whole (pos x.longitudinal_acceleration_confidence)) ∷
         [] };
-
-    ghost described = { refl };
 }
 
 impl Record for LongitudinalAcceleration {

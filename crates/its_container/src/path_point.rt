@@ -1,16 +1,12 @@
 //! PathPoint, of the module ITS-Container.
 
-ghost use Rattle.its_container.specs.ItsContainer.{path_point_root};
-ghost use Rattle.rasn_below.specs.Components.{fields_of};
-ghost use Rattle.rasn_below.specs.Values.{slot_levels, slot_of, whole};
+ghost use Rattle.its_container.specs.ItsContainer.{path_point_lists};
+ghost use Rattle.rasn_below.specs.Page.{fields_of, slot_levels, slot_of, whole};
 ghost use Rattle.std.specs.Prelude.{Some, [], max, refl, ◌∷◌};
 
 use crate::aliases::PathDeltaTime;
 use crate::delta_reference_position::DeltaReferencePosition;
-use rasn_below::{
-    AsnType, Components, Constraint, Decoder, Encoder, Fields, Record, bounds, decode_components,
-    encode_components, fields,
-};
+use rasn_below::page::*;
 
 /// PathPoint ::= SEQUENCE {
 ///     pathPosition DeltaReferencePosition,
@@ -22,25 +18,21 @@ pub struct PathPoint {
     pub path_delta_time: Option<PathDeltaTime>,
 }
 
-macro_rules! components {
-    ($to:ident $($with:ident)*) => {
-        $to! { [$($with)*]
-            required 0 "pathPosition" path_position: DeltaReferencePosition [];
-            optional 1 "pathDeltaTime" path_delta_time: Option<PathDeltaTime> [1..=65_535, ...];
-        }
-    };
-}
+macro_rules! components { ($to:ident $($with:ident)*) => { $to! { [$($with)*]
+    required 0 "pathPosition" path_position: DeltaReferencePosition [];
+    optional 1 "pathDeltaTime" path_delta_time: Option<PathDeltaTime> [1..=65_535, ...];
+} }; }
 
-const FIELDS: Fields = components!(fields);
+const FIELDS: FieldLists = components!(fields);
 
-const BOUNDS: &[&[Constraint]] = components!(bounds);
+const BOUNDS: Bounds = components!(bounds);
 
 impl Components for PathPoint {
-    const COMPONENTS: Fields = FIELDS;
+    const COMPONENTS: FieldLists = FIELDS;
 
-    ghost COMPONENTS = { fields_of path_point_root };
+    ghost COMPONENTS = { fields_of path_point_lists };
 
-    ghost components = { path_point_root };
+    ghost components = { (path_point_lists, refl) };
 
     ghost contents = { λ x.
         Some (⟦<DeltaReferencePosition as AsnType>⟧.value x.path_position) ∷
@@ -50,8 +42,6 @@ impl Components for PathPoint {
     ghost depth = { λ x.
         (max (⟦<DeltaReferencePosition as AsnType>⟧.levels x.path_position)
         (max (slot_levels ⟦<PathDeltaTime as AsnType>⟧.levels x.path_delta_time) 0)) };
-
-    ghost described = { refl };
 }
 
 impl Record for PathPoint {

@@ -1,18 +1,12 @@
 //! ProtectedCommunicationZone, of the module ITS-Container.
 
-ghost use Rattle.its_container.specs.ItsContainer.{protected_communication_zone_added, protected_communication_zone_root};
-ghost use Rattle.rasn_below.specs.Components.{extended_by, fields_described, fields_of, parts_of};
-ghost use Rattle.rasn_below.specs.Values.{deeper_of, slot_levels, slot_of, whole};
-ghost use Rattle.std.specs.Prelude.{Some, [], max, pos, refl, true, ◌∷◌};
+ghost use Rattle.its_container.specs.ItsContainer.{protected_communication_zone_lists};
+ghost use Rattle.rasn_below.specs.Page.{deeper_of, fields_of, slot_levels, slot_of, whole};
+ghost use Rattle.std.specs.Prelude.{Some, [], max, pos, refl, ◌∷◌};
 
 use crate::aliases::{Latitude, Longitude, ProtectedZoneId, ProtectedZoneRadius, TimestampIts};
 use crate::protected_zone_type::ProtectedZoneType;
-use rasn_below::types::Identifier;
-use rasn_below::{
-    AsnType, Constraint, Constraints, Constructed, Decode, Decoder, Encode, Encoder, Extended,
-    ExtendedKind, Fields, OfKind, Tag, added_bounds, added_fields, decode_extended,
-    encode_extended, root_bounds, root_fields,
-};
+use rasn_below::page::*;
 
 /// ProtectedCommunicationZone ::= SEQUENCE {
 ///     protectedZoneType ProtectedZoneType,
@@ -33,36 +27,26 @@ pub struct ProtectedCommunicationZone {
     pub protected_zone_id: Option<ProtectedZoneId>,
 }
 
-macro_rules! components {
-    ($to:ident $($with:ident)*) => {
-        $to! { [$($with)*]
-            required 0 "protectedZoneType" protected_zone_type: ProtectedZoneType [];
-            optional 1 "expiryTime" expiry_time: Option<TimestampIts> [0..=4_398_046_511_103];
-            required 2 "protectedZoneLatitude" protected_zone_latitude: Latitude [-900_000_000..=900_000_001];
-            required 3 "protectedZoneLongitude" protected_zone_longitude: Longitude [-1_800_000_000..=1_800_000_001];
-            optional 4 "protectedZoneRadius" protected_zone_radius: Option<ProtectedZoneRadius> [1..=255, ...];
-            optional 5 "protectedZoneID" protected_zone_id: Option<ProtectedZoneId> [0..=134_217_727];
-            ...;
-        }
-    };
-}
+macro_rules! components { ($to:ident $($with:ident)*) => { $to! { [$($with)*]
+    required 0 "protectedZoneType" protected_zone_type: ProtectedZoneType [];
+    optional 1 "expiryTime" expiry_time: Option<TimestampIts> [0..=4_398_046_511_103];
+    required 2 "protectedZoneLatitude" protected_zone_latitude: Latitude [-900_000_000..=900_000_001];
+    required 3 "protectedZoneLongitude" protected_zone_longitude: Longitude [-1_800_000_000..=1_800_000_001];
+    optional 4 "protectedZoneRadius" protected_zone_radius: Option<ProtectedZoneRadius> [1..=255, ...];
+    optional 5 "protectedZoneID" protected_zone_id: Option<ProtectedZoneId> [0..=134_217_727];
+    ...;
+} }; }
 
-const FIELDS: Fields = components!(root_fields);
+const FIELDS: FieldLists = components!(fields);
 
-const BOUNDS: &[&[Constraint]] = components!(root_bounds);
+const BOUNDS: Bounds = components!(bounds);
 
-const ADDED_FIELDS: Fields = components!(added_fields);
+impl Components for ProtectedCommunicationZone {
+    const COMPONENTS: FieldLists = FIELDS;
 
-const ADDED_BOUNDS: &[&[Constraint]] = components!(added_bounds);
+    ghost COMPONENTS = { fields_of protected_communication_zone_lists };
 
-impl OfKind for ProtectedCommunicationZone {
-    type Kind = ExtendedKind;
-}
-
-impl Extended for ProtectedCommunicationZone {
-    ghost root = { protected_communication_zone_root };
-
-    ghost additions = { protected_communication_zone_added };
+    ghost components = { (protected_communication_zone_lists, refl) };
 
     ghost contents = { λ x.
         Some (⟦<ProtectedZoneType as AsnType>⟧.value x.protected_zone_type) ∷
@@ -71,9 +55,6 @@ impl Extended for ProtectedCommunicationZone {
         Some (whole x.protected_zone_longitude) ∷
         slot_of whole x.protected_zone_radius ∷
         slot_of (λ v. whole (pos v)) x.protected_zone_id ∷
-        [] };
-
-    ghost added = { λ x.
         [] };
 
     ghost depth = { λ x. deeper_of
@@ -86,52 +67,12 @@ impl Extended for ProtectedCommunicationZone {
         0 };
 }
 
-impl Constructed for ProtectedCommunicationZone {
-    const FIELDS: Fields = FIELDS;
-
-    ghost FIELDS = { fields_of protected_communication_zone_root };
-
-    const EXTENDED_FIELDS: Option<Fields> = Some(ADDED_FIELDS);
-
-    ghost EXTENDED_FIELDS = { Some (fields_of protected_communication_zone_added) };
-
-    const IS_EXTENSIBLE: bool = true;
-
-    ghost IS_EXTENSIBLE = { true };
-
-    ghost parts = { parts_of protected_communication_zone_root };
-
-    ghost additions = { parts_of protected_communication_zone_added };
-
-    ghost contents = { ⟦<ProtectedCommunicationZone as Extended>⟧.contents };
-
-    ghost added = { ⟦<ProtectedCommunicationZone as Extended>⟧.added };
-
-    ghost described = { fields_described protected_communication_zone_root };
-
-    ghost extends = { extended_by protected_communication_zone_added };
-
-    ghost is_record = { λ _. refl };
-}
-
-impl Encode for ProtectedCommunicationZone {
-    fn encode_with_tag_and_constraints<E: Encoder>(
-        &self,
-        encoder: &mut E,
-        tag: Tag,
-        _: &Constraints,
-        identifier: Identifier,
-    ) -> Result<(), E::Error> {
-        components!(encode_extended self encoder tag identifier)
+impl Record for ProtectedCommunicationZone {
+    fn encode_components<E: Encoder>(&self, encoder: &mut E) -> Result<(), E::Error> {
+        components!(encode_components self encoder)
     }
-}
 
-impl Decode for ProtectedCommunicationZone {
-    fn decode_with_tag_and_constraints<D: Decoder>(
-        decoder: &mut D,
-        tag: Tag,
-        _: &Constraints,
-    ) -> Result<ProtectedCommunicationZone, D::Error> {
-        components!(decode_extended decoder tag)
+    fn decode_components<D: Decoder>(decoder: &mut D) -> Result<Self, D::Error> {
+        components!(decode_components decoder)
     }
 }

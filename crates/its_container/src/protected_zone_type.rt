@@ -1,12 +1,14 @@
 //! ProtectedZoneType, of the module ITS-Container.
 
-ghost use Rattle.its_container.specs.declared.protected_zone_type.ProtectedZoneType.TheVariants.{PermanentCenDsrcTolling, TemporaryCenDsrcTolling};
-ghost use Rattle.rasn_below.specs.Components.{extensible_items};
-ghost use Rattle.rasn_below.specs.Values.{added, item, root};
-
-use rasn_below::{
-    ByKind, EnumeratedKind, ItemCounts, Items, OfKind, Place, item_at, item_counts, place_of_item,
+ghost use Rattle.its_container.specs.declared.protected_zone_type.ProtectedZoneType.TheVariants.{
+  PermanentCenDsrcTolling,
 };
+ghost use Rattle.its_container.specs.declared.protected_zone_type.ProtectedZoneType.TheVariants.{
+  TemporaryCenDsrcTolling,
+};
+ghost use Rattle.rasn_below.specs.Page.{added, extensible_items, item, root};
+
+use rasn_below::page::*;
 
 /// ProtectedZoneType ::= ENUMERATED { permanentCenDsrcTolling(0), ..., temporaryCenDsrcTolling(1) }
 #[derive(Clone, Copy, Debug, PartialEq, Eq)]
@@ -15,15 +17,11 @@ pub enum ProtectedZoneType {
     TemporaryCenDsrcTolling,
 }
 
-macro_rules! items {
-    ($to:ident $($with:ident)*) => {
-        $to! { [$($with)*]
-            PermanentCenDsrcTolling;
-            ...;
-            TemporaryCenDsrcTolling;
-        }
-    };
-}
+macro_rules! items { ($to:ident $($with:ident)*) => { $to! { [$($with)*]
+    PermanentCenDsrcTolling;
+    ...;
+    TemporaryCenDsrcTolling;
+} }; }
 
 impl OfKind for ProtectedZoneType {
     type Kind = EnumeratedKind;

@@ -1,17 +1,13 @@
 //! ReferencePosition, of the module ITS-Container.
 
-ghost use Rattle.its_container.specs.ItsContainer.{reference_position_root};
-ghost use Rattle.rasn_below.specs.Components.{fields_of};
-ghost use Rattle.rasn_below.specs.Values.{whole};
+ghost use Rattle.its_container.specs.ItsContainer.{reference_position_lists};
+ghost use Rattle.rasn_below.specs.Page.{fields_of, whole};
 ghost use Rattle.std.specs.Prelude.{Some, [], refl, ◌∷◌};
 
 use crate::aliases::{Latitude, Longitude};
 use crate::altitude::Altitude;
 use crate::pos_confidence_ellipse::PosConfidenceEllipse;
-use rasn_below::{
-    AsnType, Components, Constraint, Decoder, Encoder, Fields, Record, bounds, decode_components,
-    encode_components, fields,
-};
+use rasn_below::page::*;
 
 /// ReferencePosition ::= SEQUENCE {
 ///     latitude Latitude,
@@ -27,27 +23,23 @@ pub struct ReferencePosition {
     pub altitude: Altitude,
 }
 
-macro_rules! components {
-    ($to:ident $($with:ident)*) => {
-        $to! { [$($with)*]
-            required 0 "latitude" latitude: Latitude [-900_000_000..=900_000_001];
-            required 1 "longitude" longitude: Longitude [-1_800_000_000..=1_800_000_001];
-            required 2 "positionConfidenceEllipse" position_confidence_ellipse: PosConfidenceEllipse [];
-            required 3 "altitude" altitude: Altitude [];
-        }
-    };
-}
+macro_rules! components { ($to:ident $($with:ident)*) => { $to! { [$($with)*]
+    required 0 "latitude" latitude: Latitude [-900_000_000..=900_000_001];
+    required 1 "longitude" longitude: Longitude [-1_800_000_000..=1_800_000_001];
+    required 2 "positionConfidenceEllipse" position_confidence_ellipse: PosConfidenceEllipse [];
+    required 3 "altitude" altitude: Altitude [];
+} }; }
 
-const FIELDS: Fields = components!(fields);
+const FIELDS: FieldLists = components!(fields);
 
-const BOUNDS: &[&[Constraint]] = components!(bounds);
+const BOUNDS: Bounds = components!(bounds);
 
 impl Components for ReferencePosition {
-    const COMPONENTS: Fields = FIELDS;
+    const COMPONENTS: FieldLists = FIELDS;
 
-    ghost COMPONENTS = { fields_of reference_position_root };
+    ghost COMPONENTS = { fields_of reference_position_lists };
 
-    ghost components = { reference_position_root };
+    ghost components = { (reference_position_lists, refl) };
 
     ghost contents = { λ x.
         Some (whole x.latitude) ∷
@@ -57,8 +49,6 @@ impl Components for ReferencePosition {
         [] };
 
     ghost depth = { λ _. 1 };
-
-    ghost described = { refl };
 }
 
 impl Record for ReferencePosition {

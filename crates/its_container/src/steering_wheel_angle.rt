@@ -1,15 +1,11 @@
 //! SteeringWheelAngle, of the module ITS-Container.
 
-ghost use Rattle.its_container.specs.ItsContainer.{steering_wheel_angle_root};
-ghost use Rattle.rasn_below.specs.Components.{fields_of};
-ghost use Rattle.rasn_below.specs.Values.{whole};
+ghost use Rattle.its_container.specs.ItsContainer.{steering_wheel_angle_lists};
+ghost use Rattle.rasn_below.specs.Page.{fields_of, whole};
 ghost use Rattle.std.specs.Prelude.{Some, [], pos, refl, ◌∷◌};
 
 use crate::aliases::{SteeringWheelAngleConfidence, SteeringWheelAngleValue};
-use rasn_below::{
-    Components, Constraint, Decoder, Encoder, Fields, Record, bounds, decode_components,
-    encode_components, fields,
-};
+use rasn_below::page::*;
 
 /// SteeringWheelAngle ::= SEQUENCE {
 ///     steeringWheelAngleValue SteeringWheelAngleValue,
@@ -21,33 +17,26 @@ pub struct SteeringWheelAngle {
     pub steering_wheel_angle_confidence: SteeringWheelAngleConfidence,
 }
 
-macro_rules! components {
-    ($to:ident $($with:ident)*) => {
-        $to! { [$($with)*]
-            required 0 "steeringWheelAngleValue" steering_wheel_angle_value: SteeringWheelAngleValue [-511..=512];
-            required 1 "steeringWheelAngleConfidence" steering_wheel_angle_confidence: SteeringWheelAngleConfidence
-                [1..=127];
-        }
-    };
-}
+macro_rules! components { ($to:ident $($with:ident)*) => { $to! { [$($with)*]
+    required 0 "steeringWheelAngleValue" steering_wheel_angle_value: SteeringWheelAngleValue [-511..=512];
+    required 1 "steeringWheelAngleConfidence" steering_wheel_angle_confidence: SteeringWheelAngleConfidence [1..=127];
+} }; }
 
-const FIELDS: Fields = components!(fields);
+const FIELDS: FieldLists = components!(fields);
 
-const BOUNDS: &[&[Constraint]] = components!(bounds);
+const BOUNDS: Bounds = components!(bounds);
 
 impl Components for SteeringWheelAngle {
-    const COMPONENTS: Fields = FIELDS;
+    const COMPONENTS: FieldLists = FIELDS;
 
-    ghost COMPONENTS = { fields_of steering_wheel_angle_root };
+    ghost COMPONENTS = { fields_of steering_wheel_angle_lists };
 
-    ghost components = { steering_wheel_angle_root };
+    ghost components = { (steering_wheel_angle_lists, refl) };
 
     ghost contents = { λ x.
         Some (whole x.steering_wheel_angle_value) ∷
         Some (whole (pos x.steering_wheel_angle_confidence)) ∷
         [] };
-
-    ghost described = { refl };
 }
 
 impl Record for SteeringWheelAngle {

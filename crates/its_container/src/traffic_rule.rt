@@ -1,12 +1,10 @@
 //! TrafficRule, of the module ITS-Container.
 
-ghost use Rattle.its_container.specs.declared.traffic_rule.TrafficRule.TheVariants.{NoPassing, NoPassingForTrucks, PassToLeft, PassToRight};
-ghost use Rattle.rasn_below.specs.Components.{extensible_items};
-ghost use Rattle.rasn_below.specs.Values.{item, root};
+ghost use Rattle.its_container.specs.declared.traffic_rule.TrafficRule.TheVariants.{NoPassing, NoPassingForTrucks};
+ghost use Rattle.its_container.specs.declared.traffic_rule.TrafficRule.TheVariants.{PassToLeft, PassToRight};
+ghost use Rattle.rasn_below.specs.Page.{extensible_items, item, root};
 
-use rasn_below::{
-    ByKind, EnumeratedKind, ItemCounts, Items, OfKind, Place, item_at, item_counts, place_of_item,
-};
+use rasn_below::page::*;
 
 /// TrafficRule ::= ENUMERATED { noPassing(0), noPassingForTrucks(1), passToRight(2), passToLeft(3), ... }
 #[derive(Clone, Copy, Debug, PartialEq, Eq)]
@@ -17,17 +15,13 @@ pub enum TrafficRule {
     PassToLeft,
 }
 
-macro_rules! items {
-    ($to:ident $($with:ident)*) => {
-        $to! { [$($with)*]
-            NoPassing;
-            NoPassingForTrucks;
-            PassToRight;
-            PassToLeft;
-            ...;
-        }
-    };
-}
+macro_rules! items { ($to:ident $($with:ident)*) => { $to! { [$($with)*]
+    NoPassing;
+    NoPassingForTrucks;
+    PassToRight;
+    PassToLeft;
+    ...;
+} }; }
 
 impl OfKind for TrafficRule {
     type Kind = EnumeratedKind;

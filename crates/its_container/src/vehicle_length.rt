@@ -1,16 +1,12 @@
 //! VehicleLength, of the module ITS-Container.
 
-ghost use Rattle.its_container.specs.ItsContainer.{vehicle_length_root};
-ghost use Rattle.rasn_below.specs.Components.{fields_of};
-ghost use Rattle.rasn_below.specs.Values.{whole};
+ghost use Rattle.its_container.specs.ItsContainer.{vehicle_length_lists};
+ghost use Rattle.rasn_below.specs.Page.{fields_of, whole};
 ghost use Rattle.std.specs.Prelude.{Some, [], pos, refl, ◌∷◌};
 
 use crate::aliases::VehicleLengthValue;
 use crate::vehicle_length_confidence_indication::VehicleLengthConfidenceIndication;
-use rasn_below::{
-    AsnType, Components, Constraint, Decoder, Encoder, Fields, Record, bounds, decode_components,
-    encode_components, fields,
-};
+use rasn_below::page::*;
 
 /// VehicleLength ::= SEQUENCE {
 ///     vehicleLengthValue VehicleLengthValue,
@@ -22,33 +18,27 @@ pub struct VehicleLength {
     pub vehicle_length_confidence_indication: VehicleLengthConfidenceIndication,
 }
 
-macro_rules! components {
-    ($to:ident $($with:ident)*) => {
-        $to! { [$($with)*]
-            required 0 "vehicleLengthValue" vehicle_length_value: VehicleLengthValue [1..=1023];
-            required 1 "vehicleLengthConfidenceIndication" vehicle_length_confidence_indication:
-                VehicleLengthConfidenceIndication [];
-        }
-    };
-}
+macro_rules! components { ($to:ident $($with:ident)*) => { $to! { [$($with)*]
+    required 0 "vehicleLengthValue" vehicle_length_value: VehicleLengthValue [1..=1023];
+    required 1 "vehicleLengthConfidenceIndication" vehicle_length_confidence_indication:
+        VehicleLengthConfidenceIndication [];
+} }; }
 
-const FIELDS: Fields = components!(fields);
+const FIELDS: FieldLists = components!(fields);
 
-const BOUNDS: &[&[Constraint]] = components!(bounds);
+const BOUNDS: Bounds = components!(bounds);
 
 impl Components for VehicleLength {
-    const COMPONENTS: Fields = FIELDS;
+    const COMPONENTS: FieldLists = FIELDS;
 
-    ghost COMPONENTS = { fields_of vehicle_length_root };
+    ghost COMPONENTS = { fields_of vehicle_length_lists };
 
-    ghost components = { vehicle_length_root };
+    ghost components = { (vehicle_length_lists, refl) };
 
     ghost contents = { λ x.
         Some (whole (pos x.vehicle_length_value)) ∷
         Some (⟦<VehicleLengthConfidenceIndication as AsnType>⟧.value x.vehicle_length_confidence_indication) ∷
         [] };
-
-    ghost described = { refl };
 }
 
 impl Record for VehicleLength {

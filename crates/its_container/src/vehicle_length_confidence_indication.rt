@@ -1,12 +1,23 @@
 //! VehicleLengthConfidenceIndication, of the module ITS-Container.
 
-ghost use Rattle.its_container.specs.declared.vehicle_length_confidence_indication.VehicleLengthConfidenceIndication.TheVariants.{NoTrailerPresent, TrailerPresenceIsUnknown, TrailerPresentWithKnownLength, TrailerPresentWithUnknownLength, Unavailable};
-ghost use Rattle.rasn_below.specs.Components.{all_items};
-ghost use Rattle.rasn_below.specs.Values.{item, root};
-
-use rasn_below::{
-    ByKind, EnumeratedKind, ItemCounts, Items, OfKind, Place, item_at, item_counts, place_of_item,
+ghost use Rattle.its_container.specs.declared.vehicle_length_confidence_indication.VehicleLengthConfidenceIndication.TheVariants.{
+  NoTrailerPresent,
 };
+ghost use Rattle.its_container.specs.declared.vehicle_length_confidence_indication.VehicleLengthConfidenceIndication.TheVariants.{
+  TrailerPresenceIsUnknown,
+};
+ghost use Rattle.its_container.specs.declared.vehicle_length_confidence_indication.VehicleLengthConfidenceIndication.TheVariants.{
+  TrailerPresentWithKnownLength,
+};
+ghost use Rattle.its_container.specs.declared.vehicle_length_confidence_indication.VehicleLengthConfidenceIndication.TheVariants.{
+  TrailerPresentWithUnknownLength,
+};
+ghost use Rattle.its_container.specs.declared.vehicle_length_confidence_indication.VehicleLengthConfidenceIndication.TheVariants.{
+  Unavailable,
+};
+ghost use Rattle.rasn_below.specs.Page.{all_items, item, root};
+
+use rasn_below::page::*;
 
 /// VehicleLengthConfidenceIndication ::= ENUMERATED { noTrailerPresent(0), trailerPresentWithKnownLength(1),
 ///     trailerPresentWithUnknownLength(2), trailerPresenceIsUnknown(3), unavailable(4) }
@@ -19,17 +30,13 @@ pub enum VehicleLengthConfidenceIndication {
     Unavailable,
 }
 
-macro_rules! items {
-    ($to:ident $($with:ident)*) => {
-        $to! { [$($with)*]
-            NoTrailerPresent;
-            TrailerPresentWithKnownLength;
-            TrailerPresentWithUnknownLength;
-            TrailerPresenceIsUnknown;
-            Unavailable;
-        }
-    };
-}
+macro_rules! items { ($to:ident $($with:ident)*) => { $to! { [$($with)*]
+    NoTrailerPresent;
+    TrailerPresentWithKnownLength;
+    TrailerPresentWithUnknownLength;
+    TrailerPresenceIsUnknown;
+    Unavailable;
+} }; }
 
 impl OfKind for VehicleLengthConfidenceIndication {
     type Kind = EnumeratedKind;

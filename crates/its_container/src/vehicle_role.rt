@@ -1,12 +1,14 @@
 //! VehicleRole, of the module ITS-Container.
 
-ghost use Rattle.its_container.specs.declared.vehicle_role.VehicleRole.TheVariants.{Agriculture, Commercial, DangerousGoods, Default, Emergency, Military, PublicTransport, Rescue, Reserved1, Reserved2, Reserved3, RoadOperator, RoadWork, SafetyCar, SpecialTransport, Taxi};
-ghost use Rattle.rasn_below.specs.Components.{all_items};
-ghost use Rattle.rasn_below.specs.Values.{item, root};
+ghost use Rattle.its_container.specs.declared.vehicle_role.VehicleRole.TheVariants.{Agriculture, Commercial};
+ghost use Rattle.its_container.specs.declared.vehicle_role.VehicleRole.TheVariants.{DangerousGoods, Default, Emergency};
+ghost use Rattle.its_container.specs.declared.vehicle_role.VehicleRole.TheVariants.{Military, PublicTransport, Rescue};
+ghost use Rattle.its_container.specs.declared.vehicle_role.VehicleRole.TheVariants.{Reserved1, Reserved2, Reserved3};
+ghost use Rattle.its_container.specs.declared.vehicle_role.VehicleRole.TheVariants.{RoadOperator, RoadWork, SafetyCar};
+ghost use Rattle.its_container.specs.declared.vehicle_role.VehicleRole.TheVariants.{SpecialTransport, Taxi};
+ghost use Rattle.rasn_below.specs.Page.{all_items, item, root};
 
-use rasn_below::{
-    ByKind, EnumeratedKind, ItemCounts, Items, OfKind, Place, item_at, item_counts, place_of_item,
-};
+use rasn_below::page::*;
 
 /// VehicleRole ::= ENUMERATED { default(0), publicTransport(1), specialTransport(2), dangerousGoods(3),
 ///     roadWork(4), rescue(5), emergency(6), safetyCar(7), agriculture(8), commercial(9), military(10),
@@ -31,28 +33,24 @@ pub enum VehicleRole {
     Reserved3,
 }
 
-macro_rules! items {
-    ($to:ident $($with:ident)*) => {
-        $to! { [$($with)*]
-            Default;
-            PublicTransport;
-            SpecialTransport;
-            DangerousGoods;
-            RoadWork;
-            Rescue;
-            Emergency;
-            SafetyCar;
-            Agriculture;
-            Commercial;
-            Military;
-            RoadOperator;
-            Taxi;
-            Reserved1;
-            Reserved2;
-            Reserved3;
-        }
-    };
-}
+macro_rules! items { ($to:ident $($with:ident)*) => { $to! { [$($with)*]
+    Default;
+    PublicTransport;
+    SpecialTransport;
+    DangerousGoods;
+    RoadWork;
+    Rescue;
+    Emergency;
+    SafetyCar;
+    Agriculture;
+    Commercial;
+    Military;
+    RoadOperator;
+    Taxi;
+    Reserved1;
+    Reserved2;
+    Reserved3;
+} }; }
 
 impl OfKind for VehicleRole {
     type Kind = EnumeratedKind;

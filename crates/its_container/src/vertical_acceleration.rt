@@ -1,15 +1,11 @@
 //! VerticalAcceleration, of the module ITS-Container.
 
-ghost use Rattle.its_container.specs.ItsContainer.{vertical_acceleration_root};
-ghost use Rattle.rasn_below.specs.Components.{fields_of};
-ghost use Rattle.rasn_below.specs.Values.{whole};
+ghost use Rattle.its_container.specs.ItsContainer.{vertical_acceleration_lists};
+ghost use Rattle.rasn_below.specs.Page.{fields_of, whole};
 ghost use Rattle.std.specs.Prelude.{Some, [], pos, refl, ◌∷◌};
 
 use crate::aliases::{AccelerationConfidence, VerticalAccelerationValue};
-use rasn_below::{
-    Components, Constraint, Decoder, Encoder, Fields, Record, bounds, decode_components,
-    encode_components, fields,
-};
+use rasn_below::page::*;
 
 /// VerticalAcceleration ::= SEQUENCE {
 ///     verticalAccelerationValue VerticalAccelerationValue,
@@ -21,33 +17,26 @@ pub struct VerticalAcceleration {
     pub vertical_acceleration_confidence: AccelerationConfidence,
 }
 
-macro_rules! components {
-    ($to:ident $($with:ident)*) => {
-        $to! { [$($with)*]
-            required 0 "verticalAccelerationValue" vertical_acceleration_value: VerticalAccelerationValue [-160..=161];
-            required 1 "verticalAccelerationConfidence" vertical_acceleration_confidence: AccelerationConfidence
-                [0..=102];
-        }
-    };
-}
+macro_rules! components { ($to:ident $($with:ident)*) => { $to! { [$($with)*]
+    required 0 "verticalAccelerationValue" vertical_acceleration_value: VerticalAccelerationValue [-160..=161];
+    required 1 "verticalAccelerationConfidence" vertical_acceleration_confidence: AccelerationConfidence [0..=102];
+} }; }
 
-const FIELDS: Fields = components!(fields);
+const FIELDS: FieldLists = components!(fields);
 
-const BOUNDS: &[&[Constraint]] = components!(bounds);
+const BOUNDS: Bounds = components!(bounds);
 
 impl Components for VerticalAcceleration {
-    const COMPONENTS: Fields = FIELDS;
+    const COMPONENTS: FieldLists = FIELDS;
 
-    ghost COMPONENTS = { fields_of vertical_acceleration_root };
+    ghost COMPONENTS = { fields_of vertical_acceleration_lists };
 
-    ghost components = { vertical_acceleration_root };
+    ghost components = { (vertical_acceleration_lists, refl) };
 
     ghost contents = { λ x.
         Some (whole x.vertical_acceleration_value) ∷
         Some (whole (pos x.vertical_acceleration_confidence)) ∷
         [] };
-
-    ghost described = { refl };
 }
 
 impl Record for VerticalAcceleration {

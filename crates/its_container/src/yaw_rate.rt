@@ -1,16 +1,12 @@
 //! YawRate, of the module ITS-Container.
 
-ghost use Rattle.its_container.specs.ItsContainer.{yaw_rate_root};
-ghost use Rattle.rasn_below.specs.Components.{fields_of};
-ghost use Rattle.rasn_below.specs.Values.{whole};
+ghost use Rattle.its_container.specs.ItsContainer.{yaw_rate_lists};
+ghost use Rattle.rasn_below.specs.Page.{fields_of, whole};
 ghost use Rattle.std.specs.Prelude.{Some, [], refl, ◌∷◌};
 
 use crate::aliases::YawRateValue;
 use crate::yaw_rate_confidence::YawRateConfidence;
-use rasn_below::{
-    AsnType, Components, Constraint, Decoder, Encoder, Fields, Record, bounds, decode_components,
-    encode_components, fields,
-};
+use rasn_below::page::*;
 
 /// YawRate ::= SEQUENCE {
 ///     yawRateValue YawRateValue,
@@ -22,32 +18,26 @@ pub struct YawRate {
     pub yaw_rate_confidence: YawRateConfidence,
 }
 
-macro_rules! components {
-    ($to:ident $($with:ident)*) => {
-        $to! { [$($with)*]
-            required 0 "yawRateValue" yaw_rate_value: YawRateValue [-32_766..=32_767];
-            required 1 "yawRateConfidence" yaw_rate_confidence: YawRateConfidence [];
-        }
-    };
-}
+macro_rules! components { ($to:ident $($with:ident)*) => { $to! { [$($with)*]
+    required 0 "yawRateValue" yaw_rate_value: YawRateValue [-32_766..=32_767];
+    required 1 "yawRateConfidence" yaw_rate_confidence: YawRateConfidence [];
+} }; }
 
-const FIELDS: Fields = components!(fields);
+const FIELDS: FieldLists = components!(fields);
 
-const BOUNDS: &[&[Constraint]] = components!(bounds);
+const BOUNDS: Bounds = components!(bounds);
 
 impl Components for YawRate {
-    const COMPONENTS: Fields = FIELDS;
+    const COMPONENTS: FieldLists = FIELDS;
 
-    ghost COMPONENTS = { fields_of yaw_rate_root };
+    ghost COMPONENTS = { fields_of yaw_rate_lists };
 
-    ghost components = { yaw_rate_root };
+    ghost components = { (yaw_rate_lists, refl) };
 
     ghost contents = { λ x.
         Some (whole x.yaw_rate_value) ∷
         Some (⟦<YawRateConfidence as AsnType>⟧.value x.yaw_rate_confidence) ∷
         [] };
-
-    ghost described = { refl };
 }
 
 impl Record for YawRate {

@@ -1,12 +1,17 @@
 //! YawRateConfidence, of the module ITS-Container.
 
-ghost use Rattle.its_container.specs.declared.yaw_rate_confidence.YawRateConfidence.TheVariants.{DegSec000_01, DegSec000_05, DegSec000_10, DegSec001_00, DegSec005_00, DegSec010_00, DegSec100_00, OutOfRange, Unavailable};
-ghost use Rattle.rasn_below.specs.Components.{all_items};
-ghost use Rattle.rasn_below.specs.Values.{item, root};
+ghost use Rattle.its_container.specs.declared.yaw_rate_confidence.YawRateConfidence.TheVariants.{DegSec000_01};
+ghost use Rattle.its_container.specs.declared.yaw_rate_confidence.YawRateConfidence.TheVariants.{DegSec000_05};
+ghost use Rattle.its_container.specs.declared.yaw_rate_confidence.YawRateConfidence.TheVariants.{DegSec000_10};
+ghost use Rattle.its_container.specs.declared.yaw_rate_confidence.YawRateConfidence.TheVariants.{DegSec001_00};
+ghost use Rattle.its_container.specs.declared.yaw_rate_confidence.YawRateConfidence.TheVariants.{DegSec005_00};
+ghost use Rattle.its_container.specs.declared.yaw_rate_confidence.YawRateConfidence.TheVariants.{DegSec010_00};
+ghost use Rattle.its_container.specs.declared.yaw_rate_confidence.YawRateConfidence.TheVariants.{DegSec100_00};
+ghost use Rattle.its_container.specs.declared.yaw_rate_confidence.YawRateConfidence.TheVariants.{OutOfRange};
+ghost use Rattle.its_container.specs.declared.yaw_rate_confidence.YawRateConfidence.TheVariants.{Unavailable};
+ghost use Rattle.rasn_below.specs.Page.{all_items, item, root};
 
-use rasn_below::{
-    ByKind, EnumeratedKind, ItemCounts, Items, OfKind, Place, item_at, item_counts, place_of_item,
-};
+use rasn_below::page::*;
 
 /// YawRateConfidence ::= ENUMERATED { degSec-000-01(0), degSec-000-05(1), degSec-000-10(2), degSec-001-00(3),
 ///     degSec-005-00(4), degSec-010-00(5), degSec-100-00(6), outOfRange(7), unavailable(8) }
@@ -23,21 +28,17 @@ pub enum YawRateConfidence {
     Unavailable,
 }
 
-macro_rules! items {
-    ($to:ident $($with:ident)*) => {
-        $to! { [$($with)*]
-            DegSec000_01;
-            DegSec000_05;
-            DegSec000_10;
-            DegSec001_00;
-            DegSec005_00;
-            DegSec010_00;
-            DegSec100_00;
-            OutOfRange;
-            Unavailable;
-        }
-    };
-}
+macro_rules! items { ($to:ident $($with:ident)*) => { $to! { [$($with)*]
+    DegSec000_01;
+    DegSec000_05;
+    DegSec000_10;
+    DegSec001_00;
+    DegSec005_00;
+    DegSec010_00;
+    DegSec100_00;
+    OutOfRange;
+    Unavailable;
+} }; }
 
 impl OfKind for YawRateConfidence {
     type Kind = EnumeratedKind;

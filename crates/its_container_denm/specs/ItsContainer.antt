@@ -1,7 +1,11 @@
 -- The module ITS-Container: below each definition in ASN.1 stands what the theorem takes it for.
-use Rattle.its_container.specs.ItsContainer.{dangerous_goods_basic, delta_reference_position, path_delta_time, path_history, reference_position, station_id, station_type}
-use Rattle.rasn_below.specs.Components.{Component, automatic, bit_string, boolean, enumerated, extended_sequence, extensible, extensible_enumerated, i8, ia5_string, integer, minus◌to◌, numeric_string, optional, sequence, sequence_of, size◌to◌, u16, u32, u8, utf8_string, ◌to◌}
-use Rattle.std.specs.Prelude.{List, [], ◌∷◌}
+use Rattle.its_container.specs.ItsContainer.{dangerous_goods_basic, delta_reference_position, path_delta_time}
+use Rattle.its_container.specs.ItsContainer.{path_history, reference_position, station_id, station_type}
+use Rattle.rasn_below.specs.Page.{Component, TypeLists, automatic, bit_string, boolean, enumerated, extensible}
+use Rattle.rasn_below.specs.Page.{extensible_automatic, extensible_enumerated, i8, ia5_string, integer, minus◌to◌}
+use Rattle.rasn_below.specs.Page.{numeric_string, optional, sequence, sequence_of, size◌to◌, u16, u32, u8, utf8_string}
+use Rattle.rasn_below.specs.Page.{◌to◌}
+use Rattle.std.specs.Prelude.{[], ◌∷◌}
 
 -- SequenceNumber ::= INTEGER (0..65535)
 abbrev pub sequence_number : Component
@@ -11,14 +15,14 @@ sequence_number = integer u16 (0 to 65535)
 --     originatingStationID StationID,
 --     sequenceNumber SequenceNumber
 -- }
-abbrev pub action_id_root : List Component
-action_id_root = automatic (
+abbrev pub action_id_lists : TypeLists
+action_id_lists = automatic (
     station_id ∷  -- originatingStationID
     sequence_number ∷  -- sequenceNumber
     [])
 
 abbrev pub action_id : Component
-action_id = sequence action_id_root
+action_id = sequence action_id_lists
 
 -- RelevanceDistance ::= ENUMERATED { lessThan50m(0), lessThan100m(1), lessThan200m(2), lessThan500m(3),
 --     lessThan1000m(4), lessThan5km(5), lessThan10km(6), over10km(7) }
@@ -47,15 +51,15 @@ information_quality = integer u8 (0 to 7)
 --     eventDeltaTime PathDeltaTime OPTIONAL,
 --     informationQuality InformationQuality
 -- }
-abbrev pub event_point_root : List Component
-event_point_root = automatic (
+abbrev pub event_point_lists : TypeLists
+event_point_lists = automatic (
     delta_reference_position ∷  -- eventPosition
     optional path_delta_time ∷  -- eventDeltaTime
     information_quality ∷  -- informationQuality
     [])
 
 abbrev pub event_point : Component
-event_point = sequence event_point_root
+event_point = sequence event_point_lists
 
 -- EventHistory ::= SEQUENCE (SIZE (1..23)) OF EventPoint
 abbrev pub event_history : Component
@@ -165,8 +169,8 @@ phone_number = numeric_string (size 1 to 16)
 --     companyName UTF8String (SIZE (1..24)) OPTIONAL,
 --     ...
 -- }
-abbrev pub dangerous_goods_extended_root : List Component
-dangerous_goods_extended_root = automatic (
+abbrev pub dangerous_goods_extended_lists : TypeLists
+dangerous_goods_extended_lists = extensible_automatic (
     dangerous_goods_basic ∷  -- dangerousGoodsType
     integer u16 (0 to 9999) ∷  -- unNumber
     boolean ∷  -- elevatedTemperature
@@ -175,13 +179,10 @@ dangerous_goods_extended_root = automatic (
     optional (ia5_string (size 1 to 24)) ∷  -- emergencyActionCode
     optional phone_number ∷  -- phoneNumber
     optional utf8_string ∷  -- companyName
-    [])
-
-abbrev pub dangerous_goods_extended_added : List Component
-dangerous_goods_extended_added = []
+    []) []
 
 abbrev pub dangerous_goods_extended : Component
-dangerous_goods_extended = extended_sequence dangerous_goods_extended_root dangerous_goods_extended_added
+dangerous_goods_extended = sequence dangerous_goods_extended_lists
 
 -- NumberOfOccupants ::= INTEGER { oneOccupant(1), unavailable(127) } (0..127)
 abbrev pub number_of_occupants : Component
@@ -200,17 +201,14 @@ vds = ia5_string (size 6 to 6)
 --     vDS VDS OPTIONAL,
 --     ...
 -- }
-abbrev pub vehicle_identification_root : List Component
-vehicle_identification_root = automatic (
+abbrev pub vehicle_identification_lists : TypeLists
+vehicle_identification_lists = extensible_automatic (
     optional wm_inumber ∷  -- wMInumber
     optional vds ∷  -- vDS
-    [])
-
-abbrev pub vehicle_identification_added : List Component
-vehicle_identification_added = []
+    []) []
 
 abbrev pub vehicle_identification : Component
-vehicle_identification = extended_sequence vehicle_identification_root vehicle_identification_added
+vehicle_identification = sequence vehicle_identification_lists
 
 -- EnergyStorageType ::= BIT STRING { hydrogenStorage(0), electricEnergyStorage(1), liquidPropaneGas(2),
 --     compressedNaturalGas(3), diesel(4), gasoline(5), ammonia(6) } (SIZE (7))

@@ -1,16 +1,12 @@
 //! ActionId, of the module ITS-Container.
 
-ghost use Rattle.its_container_denm.specs.ItsContainer.{action_id_root};
-ghost use Rattle.rasn_below.specs.Components.{fields_of};
-ghost use Rattle.rasn_below.specs.Values.{whole};
+ghost use Rattle.its_container_denm.specs.ItsContainer.{action_id_lists};
+ghost use Rattle.rasn_below.specs.Page.{fields_of, whole};
 ghost use Rattle.std.specs.Prelude.{Some, [], pos, refl, ◌∷◌};
 
 use crate::aliases::SequenceNumber;
 use its_container::aliases::StationId;
-use rasn_below::{
-    Components, Constraint, Decoder, Encoder, Fields, Record, bounds, decode_components,
-    encode_components, fields,
-};
+use rasn_below::page::*;
 
 /// ActionID ::= SEQUENCE {
 ///     originatingStationID StationID,
@@ -22,32 +18,26 @@ pub struct ActionId {
     pub sequence_number: SequenceNumber,
 }
 
-macro_rules! components {
-    ($to:ident $($with:ident)*) => {
-        $to! { [$($with)*]
-            required 0 "originatingStationID" originating_station_id: StationId [0..=4_294_967_295];
-            required 1 "sequenceNumber" sequence_number: SequenceNumber [0..=65_535];
-        }
-    };
-}
+macro_rules! components { ($to:ident $($with:ident)*) => { $to! { [$($with)*]
+    required 0 "originatingStationID" originating_station_id: StationId [0..=4_294_967_295];
+    required 1 "sequenceNumber" sequence_number: SequenceNumber [0..=65_535];
+} }; }
 
-const FIELDS: Fields = components!(fields);
+const FIELDS: FieldLists = components!(fields);
 
-const BOUNDS: &[&[Constraint]] = components!(bounds);
+const BOUNDS: Bounds = components!(bounds);
 
 impl Components for ActionId {
-    const COMPONENTS: Fields = FIELDS;
+    const COMPONENTS: FieldLists = FIELDS;
 
-    ghost COMPONENTS = { fields_of action_id_root };
+    ghost COMPONENTS = { fields_of action_id_lists };
 
-    ghost components = { action_id_root };
+    ghost components = { (action_id_lists, refl) };
 
     ghost contents = { λ x.
         Some (whole (pos x.originating_station_id)) ∷
         Some (whole (pos x.sequence_number)) ∷
         [] };
-
-    ghost described = { refl };
 }
 
 impl Record for ActionId {

@@ -1,12 +1,11 @@
 //! Names for types under constraints, for lists, and for numbers and bits.
 
-ghost use Rattle.rasn_below.specs.Components.{size◌to◌, ◌to◌};
+ghost use Rattle.rasn_below.specs.Page.{size◌to◌, ◌to◌};
 
 use crate::event_point::EventPoint;
 use its_container::aliases::{PathHistory, StationType};
 use its_container::reference_position::ReferencePosition;
-use rasn_below::types::{BitString, Ia5String, NumericString};
-use rasn_below::{Constrained, Constraint, Constraints, Limits, constraints};
+use rasn_below::page::*;
 
 /// SequenceNumber ::= INTEGER (0..65535)
 pub type SequenceNumber = u16;

@@ -1,17 +1,13 @@
 //! EventPoint, of the module ITS-Container.
 
-ghost use Rattle.its_container_denm.specs.ItsContainer.{event_point_root};
-ghost use Rattle.rasn_below.specs.Components.{fields_of};
-ghost use Rattle.rasn_below.specs.Values.{slot_levels, slot_of, whole};
+ghost use Rattle.its_container_denm.specs.ItsContainer.{event_point_lists};
+ghost use Rattle.rasn_below.specs.Page.{fields_of, slot_levels, slot_of, whole};
 ghost use Rattle.std.specs.Prelude.{Some, [], max, pos, refl, ◌∷◌};
 
 use crate::aliases::InformationQuality;
 use its_container::aliases::PathDeltaTime;
 use its_container::delta_reference_position::DeltaReferencePosition;
-use rasn_below::{
-    AsnType, Components, Constraint, Decoder, Encoder, Fields, Record, bounds, decode_components,
-    encode_components, fields,
-};
+use rasn_below::page::*;
 
 /// EventPoint ::= SEQUENCE {
 ///     eventPosition DeltaReferencePosition,
@@ -25,26 +21,22 @@ pub struct EventPoint {
     pub information_quality: InformationQuality,
 }
 
-macro_rules! components {
-    ($to:ident $($with:ident)*) => {
-        $to! { [$($with)*]
-            required 0 "eventPosition" event_position: DeltaReferencePosition [];
-            optional 1 "eventDeltaTime" event_delta_time: Option<PathDeltaTime> [1..=65_535, ...];
-            required 2 "informationQuality" information_quality: InformationQuality [0..=7];
-        }
-    };
-}
+macro_rules! components { ($to:ident $($with:ident)*) => { $to! { [$($with)*]
+    required 0 "eventPosition" event_position: DeltaReferencePosition [];
+    optional 1 "eventDeltaTime" event_delta_time: Option<PathDeltaTime> [1..=65_535, ...];
+    required 2 "informationQuality" information_quality: InformationQuality [0..=7];
+} }; }
 
-const FIELDS: Fields = components!(fields);
+const FIELDS: FieldLists = components!(fields);
 
-const BOUNDS: &[&[Constraint]] = components!(bounds);
+const BOUNDS: Bounds = components!(bounds);
 
 impl Components for EventPoint {
-    const COMPONENTS: Fields = FIELDS;
+    const COMPONENTS: FieldLists = FIELDS;
 
-    ghost COMPONENTS = { fields_of event_point_root };
+    ghost COMPONENTS = { fields_of event_point_lists };
 
-    ghost components = { event_point_root };
+    ghost components = { (event_point_lists, refl) };
 
     ghost contents = { λ x.
         Some (⟦<DeltaReferencePosition as AsnType>⟧.value x.event_position) ∷
@@ -55,8 +47,6 @@ impl Components for EventPoint {
     ghost depth = { λ x.
         (max (⟦<DeltaReferencePosition as AsnType>⟧.levels x.event_position)
         (max (slot_levels ⟦<PathDeltaTime as AsnType>⟧.levels x.event_delta_time) 0)) };
-
-    ghost described = { refl };
 }
 
 impl Record for EventPoint {

@@ -1,12 +1,24 @@
 //! PositioningSolutionType, of the module ITS-Container.
 
-ghost use Rattle.its_container_denm.specs.declared.positioning_solution_type.PositioningSolutionType.TheVariants.{DgnsSplusDr, Dgnss, Dr, NoPositioningSolution, SgnsSplusDr, Sgnss};
-ghost use Rattle.rasn_below.specs.Components.{extensible_items};
-ghost use Rattle.rasn_below.specs.Values.{item, root};
-
-use rasn_below::{
-    ByKind, EnumeratedKind, ItemCounts, Items, OfKind, Place, item_at, item_counts, place_of_item,
+ghost use Rattle.its_container_denm.specs.declared.positioning_solution_type.PositioningSolutionType.TheVariants.{
+  DgnsSplusDr,
 };
+ghost use Rattle.its_container_denm.specs.declared.positioning_solution_type.PositioningSolutionType.TheVariants.{
+  Dgnss,
+};
+ghost use Rattle.its_container_denm.specs.declared.positioning_solution_type.PositioningSolutionType.TheVariants.{Dr};
+ghost use Rattle.its_container_denm.specs.declared.positioning_solution_type.PositioningSolutionType.TheVariants.{
+  NoPositioningSolution,
+};
+ghost use Rattle.its_container_denm.specs.declared.positioning_solution_type.PositioningSolutionType.TheVariants.{
+  SgnsSplusDr,
+};
+ghost use Rattle.its_container_denm.specs.declared.positioning_solution_type.PositioningSolutionType.TheVariants.{
+  Sgnss,
+};
+ghost use Rattle.rasn_below.specs.Page.{extensible_items, item, root};
+
+use rasn_below::page::*;
 
 /// PositioningSolutionType ::= ENUMERATED { noPositioningSolution(0), sGNSS(1), dGNSS(2), sGNSSplusDR(3),
 ///     dGNSSplusDR(4), dR(5), ... }
@@ -20,19 +32,15 @@ pub enum PositioningSolutionType {
     Dr,
 }
 
-macro_rules! items {
-    ($to:ident $($with:ident)*) => {
-        $to! { [$($with)*]
-            NoPositioningSolution;
-            Sgnss;
-            Dgnss;
-            SgnsSplusDr;
-            DgnsSplusDr;
-            Dr;
-            ...;
-        }
-    };
-}
+macro_rules! items { ($to:ident $($with:ident)*) => { $to! { [$($with)*]
+    NoPositioningSolution;
+    Sgnss;
+    Dgnss;
+    SgnsSplusDr;
+    DgnsSplusDr;
+    Dr;
+    ...;
+} }; }
 
 impl OfKind for PositioningSolutionType {
     type Kind = EnumeratedKind;

@@ -1,12 +1,16 @@
 //! RelevanceDistance, of the module ITS-Container.
 
-ghost use Rattle.its_container_denm.specs.declared.relevance_distance.RelevanceDistance.TheVariants.{LessThan1000M, LessThan100M, LessThan10Km, LessThan200M, LessThan500M, LessThan50M, LessThan5Km, Over10Km};
-ghost use Rattle.rasn_below.specs.Components.{all_items};
-ghost use Rattle.rasn_below.specs.Values.{item, root};
+ghost use Rattle.its_container_denm.specs.declared.relevance_distance.RelevanceDistance.TheVariants.{LessThan1000M};
+ghost use Rattle.its_container_denm.specs.declared.relevance_distance.RelevanceDistance.TheVariants.{LessThan100M};
+ghost use Rattle.its_container_denm.specs.declared.relevance_distance.RelevanceDistance.TheVariants.{LessThan10Km};
+ghost use Rattle.its_container_denm.specs.declared.relevance_distance.RelevanceDistance.TheVariants.{LessThan200M};
+ghost use Rattle.its_container_denm.specs.declared.relevance_distance.RelevanceDistance.TheVariants.{LessThan500M};
+ghost use Rattle.its_container_denm.specs.declared.relevance_distance.RelevanceDistance.TheVariants.{LessThan50M};
+ghost use Rattle.its_container_denm.specs.declared.relevance_distance.RelevanceDistance.TheVariants.{LessThan5Km};
+ghost use Rattle.its_container_denm.specs.declared.relevance_distance.RelevanceDistance.TheVariants.{Over10Km};
+ghost use Rattle.rasn_below.specs.Page.{all_items, item, root};
 
-use rasn_below::{
-    ByKind, EnumeratedKind, ItemCounts, Items, OfKind, Place, item_at, item_counts, place_of_item,
-};
+use rasn_below::page::*;
 
 /// RelevanceDistance ::= ENUMERATED { lessThan50m(0), lessThan100m(1), lessThan200m(2), lessThan500m(3),
 ///     lessThan1000m(4), lessThan5km(5), lessThan10km(6), over10km(7) }
@@ -22,20 +26,16 @@ pub enum RelevanceDistance {
     Over10Km,
 }
 
-macro_rules! items {
-    ($to:ident $($with:ident)*) => {
-        $to! { [$($with)*]
-            LessThan50M;
-            LessThan100M;
-            LessThan200M;
-            LessThan500M;
-            LessThan1000M;
-            LessThan5Km;
-            LessThan10Km;
-            Over10Km;
-        }
-    };
-}
+macro_rules! items { ($to:ident $($with:ident)*) => { $to! { [$($with)*]
+    LessThan50M;
+    LessThan100M;
+    LessThan200M;
+    LessThan500M;
+    LessThan1000M;
+    LessThan5Km;
+    LessThan10Km;
+    Over10Km;
+} }; }
 
 impl OfKind for RelevanceDistance {
     type Kind = EnumeratedKind;

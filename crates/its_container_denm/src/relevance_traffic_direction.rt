@@ -1,12 +1,20 @@
 //! RelevanceTrafficDirection, of the module ITS-Container.
 
-ghost use Rattle.its_container_denm.specs.declared.relevance_traffic_direction.RelevanceTrafficDirection.TheVariants.{AllTrafficDirections, DownstreamTraffic, OppositeTraffic, UpstreamTraffic};
-ghost use Rattle.rasn_below.specs.Components.{all_items};
-ghost use Rattle.rasn_below.specs.Values.{item, root};
-
-use rasn_below::{
-    ByKind, EnumeratedKind, ItemCounts, Items, OfKind, Place, item_at, item_counts, place_of_item,
+ghost use Rattle.its_container_denm.specs.declared.relevance_traffic_direction.RelevanceTrafficDirection.TheVariants.{
+  AllTrafficDirections,
 };
+ghost use Rattle.its_container_denm.specs.declared.relevance_traffic_direction.RelevanceTrafficDirection.TheVariants.{
+  DownstreamTraffic,
+};
+ghost use Rattle.its_container_denm.specs.declared.relevance_traffic_direction.RelevanceTrafficDirection.TheVariants.{
+  OppositeTraffic,
+};
+ghost use Rattle.its_container_denm.specs.declared.relevance_traffic_direction.RelevanceTrafficDirection.TheVariants.{
+  UpstreamTraffic,
+};
+ghost use Rattle.rasn_below.specs.Page.{all_items, item, root};
+
+use rasn_below::page::*;
 
 /// RelevanceTrafficDirection ::= ENUMERATED { allTrafficDirections(0), upstreamTraffic(1), downstreamTraffic(2),
 ///     oppositeTraffic(3) }
@@ -18,16 +26,12 @@ pub enum RelevanceTrafficDirection {
     OppositeTraffic,
 }
 
-macro_rules! items {
-    ($to:ident $($with:ident)*) => {
-        $to! { [$($with)*]
-            AllTrafficDirections;
-            UpstreamTraffic;
-            DownstreamTraffic;
-            OppositeTraffic;
-        }
-    };
-}
+macro_rules! items { ($to:ident $($with:ident)*) => { $to! { [$($with)*]
+    AllTrafficDirections;
+    UpstreamTraffic;
+    DownstreamTraffic;
+    OppositeTraffic;
+} }; }
 
 impl OfKind for RelevanceTrafficDirection {
     type Kind = EnumeratedKind;

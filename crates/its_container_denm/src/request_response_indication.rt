@@ -1,12 +1,14 @@
 //! RequestResponseIndication, of the module ITS-Container.
 
-ghost use Rattle.its_container_denm.specs.declared.request_response_indication.RequestResponseIndication.TheVariants.{Request, Response};
-ghost use Rattle.rasn_below.specs.Components.{all_items};
-ghost use Rattle.rasn_below.specs.Values.{item, root};
-
-use rasn_below::{
-    ByKind, EnumeratedKind, ItemCounts, Items, OfKind, Place, item_at, item_counts, place_of_item,
+ghost use Rattle.its_container_denm.specs.declared.request_response_indication.RequestResponseIndication.TheVariants.{
+  Request,
 };
+ghost use Rattle.its_container_denm.specs.declared.request_response_indication.RequestResponseIndication.TheVariants.{
+  Response,
+};
+ghost use Rattle.rasn_below.specs.Page.{all_items, item, root};
+
+use rasn_below::page::*;
 
 /// RequestResponseIndication ::= ENUMERATED { request(0), response(1) }
 #[derive(Clone, Copy, Debug, PartialEq, Eq)]
@@ -15,14 +17,10 @@ pub enum RequestResponseIndication {
     Response,
 }
 
-macro_rules! items {
-    ($to:ident $($with:ident)*) => {
-        $to! { [$($with)*]
-            Request;
-            Response;
-        }
-    };
-}
+macro_rules! items { ($to:ident $($with:ident)*) => { $to! { [$($with)*]
+    Request;
+    Response;
+} }; }
 
 impl OfKind for RequestResponseIndication {
     type Kind = EnumeratedKind;

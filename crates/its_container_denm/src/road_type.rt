@@ -1,12 +1,20 @@
 //! RoadType, of the module ITS-Container.
 
-ghost use Rattle.its_container_denm.specs.declared.road_type.RoadType.TheVariants.{NonUrbanNoStructuralSeparationToOppositeLanes, NonUrbanWithStructuralSeparationToOppositeLanes, UrbanNoStructuralSeparationToOppositeLanes, UrbanWithStructuralSeparationToOppositeLanes};
-ghost use Rattle.rasn_below.specs.Components.{all_items};
-ghost use Rattle.rasn_below.specs.Values.{item, root};
-
-use rasn_below::{
-    ByKind, EnumeratedKind, ItemCounts, Items, OfKind, Place, item_at, item_counts, place_of_item,
+ghost use Rattle.its_container_denm.specs.declared.road_type.RoadType.TheVariants.{
+  NonUrbanNoStructuralSeparationToOppositeLanes,
 };
+ghost use Rattle.its_container_denm.specs.declared.road_type.RoadType.TheVariants.{
+  NonUrbanWithStructuralSeparationToOppositeLanes,
+};
+ghost use Rattle.its_container_denm.specs.declared.road_type.RoadType.TheVariants.{
+  UrbanNoStructuralSeparationToOppositeLanes,
+};
+ghost use Rattle.its_container_denm.specs.declared.road_type.RoadType.TheVariants.{
+  UrbanWithStructuralSeparationToOppositeLanes,
+};
+ghost use Rattle.rasn_below.specs.Page.{all_items, item, root};
+
+use rasn_below::page::*;
 
 /// RoadType ::= ENUMERATED { urban-NoStructuralSeparationToOppositeLanes(0),
 ///     urban-WithStructuralSeparationToOppositeLanes(1), nonUrban-NoStructuralSeparationToOppositeLanes(2),
@@ -19,16 +27,12 @@ pub enum RoadType {
     NonUrbanWithStructuralSeparationToOppositeLanes,
 }
 
-macro_rules! items {
-    ($to:ident $($with:ident)*) => {
-        $to! { [$($with)*]
-            UrbanNoStructuralSeparationToOppositeLanes;
-            UrbanWithStructuralSeparationToOppositeLanes;
-            NonUrbanNoStructuralSeparationToOppositeLanes;
-            NonUrbanWithStructuralSeparationToOppositeLanes;
-        }
-    };
-}
+macro_rules! items { ($to:ident $($with:ident)*) => { $to! { [$($with)*]
+    UrbanNoStructuralSeparationToOppositeLanes;
+    UrbanWithStructuralSeparationToOppositeLanes;
+    NonUrbanNoStructuralSeparationToOppositeLanes;
+    NonUrbanWithStructuralSeparationToOppositeLanes;
+} }; }
 
 impl OfKind for RoadType {
     type Kind = EnumeratedKind;

@@ -1,12 +1,14 @@
 //! StationarySince, of the module ITS-Container.
 
-ghost use Rattle.its_container_denm.specs.declared.stationary_since.StationarySince.TheVariants.{EqualOrGreater15Minutes, LessThan15Minutes, LessThan1Minute, LessThan2Minutes};
-ghost use Rattle.rasn_below.specs.Components.{all_items};
-ghost use Rattle.rasn_below.specs.Values.{item, root};
-
-use rasn_below::{
-    ByKind, EnumeratedKind, ItemCounts, Items, OfKind, Place, item_at, item_counts, place_of_item,
+ghost use Rattle.its_container_denm.specs.declared.stationary_since.StationarySince.TheVariants.{
+  EqualOrGreater15Minutes,
 };
+ghost use Rattle.its_container_denm.specs.declared.stationary_since.StationarySince.TheVariants.{LessThan15Minutes};
+ghost use Rattle.its_container_denm.specs.declared.stationary_since.StationarySince.TheVariants.{LessThan1Minute};
+ghost use Rattle.its_container_denm.specs.declared.stationary_since.StationarySince.TheVariants.{LessThan2Minutes};
+ghost use Rattle.rasn_below.specs.Page.{all_items, item, root};
+
+use rasn_below::page::*;
 
 /// StationarySince ::= ENUMERATED { lessThan1Minute(0), lessThan2Minutes(1), lessThan15Minutes(2),
 ///     equalOrGreater15Minutes(3) }
@@ -18,16 +20,12 @@ pub enum StationarySince {
     EqualOrGreater15Minutes,
 }
 
-macro_rules! items {
-    ($to:ident $($with:ident)*) => {
-        $to! { [$($with)*]
-            LessThan1Minute;
-            LessThan2Minutes;
-            LessThan15Minutes;
-            EqualOrGreater15Minutes;
-        }
-    };
-}
+macro_rules! items { ($to:ident $($with:ident)*) => { $to! { [$($with)*]
+    LessThan1Minute;
+    LessThan2Minutes;
+    LessThan15Minutes;
+    EqualOrGreater15Minutes;
+} }; }
 
 impl OfKind for StationarySince {
     type Kind = EnumeratedKind;

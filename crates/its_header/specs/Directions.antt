@@ -1,5 +1,5 @@
 -- DriveDirection ::= ENUMERATED { forward, backward, unavailable }
-use Rattle.rasn_below.specs.Values.{Value, item, root}
+use Rattle.rasn_below.specs.Page.{Value, item, root}
 use Rattle.its_header.specs.declared.direction.DriveDirection.{DriveDirection}
 use Rattle.its_header.specs.declared.direction.DriveDirection.TheVariants.{Forward, Backward, Unavailable}
 

@@ -1,8 +1,8 @@
 -- VehicleState ::= SEQUENCE { heading INTEGER (0..3601), .. }: the components stand in the order of the type
-use Rattle.std.specs.Prelude.{List, [], ◌∷◌}
-use Rattle.rasn_below.specs.Components.{Component, automatic, integer, boolean, i16, i32, i8, u16, u32, u8, ◌to◌, minus◌to◌}
+use Rattle.std.specs.Prelude.{[], ◌∷◌}
+use Rattle.rasn_below.specs.Page.{automatic, integer, boolean, i16, i32, i8, u16, u32, u8, ◌to◌, minus◌to◌, TypeLists}
 
-abbrev pub vehicle_state : List Component
+abbrev pub vehicle_state : TypeLists
 vehicle_state = automatic (
     integer u16 (0 to 3601) ∷
     integer u16 (0 to 16383) ∷

@@ -1,17 +1,13 @@
 //! ActionArea.
 
-ghost use Rattle.std.specs.Prelude.{None, pos, refl};
-ghost use Rattle.rasn_below.specs.Values.{whole, nothing};
-ghost use Rattle.rasn_below.specs.Components.{chosen, variants_in};
+ghost use Rattle.std.specs.Prelude.{pos, refl};
+ghost use Rattle.rasn_below.specs.Page.{whole, nothing, chosen, variants_listed};
 ghost use Rattle.its_header.specs.Areas.{area};
 ghost use Rattle.its_header.specs.declared.area.ActionArea.TheVariants.{Radius, Corner, Everywhere};
 
 use crate::position::ReferencePositionLite;
-use rasn_below::{
-    Alternatives, AsnType, ByKind, ChoiceKind, CodedAlternatives, Constraint, Decoder, Encoder,
-    OfKind, Tag, TagTree, Variants, alternative_bounds, decode_alternative, encode_alternative,
-    tags_of_choice, variants,
-};
+use rasn_below::TagTree;
+use rasn_below::page::*;
 
 /// ActionArea ::= CHOICE { radius INTEGER (1..1000), corner ReferencePositionLite, everywhere NULL }
 #[derive(Clone, Copy, Debug, PartialEq, Eq)]
@@ -21,19 +17,15 @@ pub enum ActionArea {
     Everywhere,
 }
 
-macro_rules! alternatives {
-    ($to:ident $($with:ident)*) => {
-        $to! { [$($with)*]
-            0 "radius" Radius: u16 [1..=1000];
-            1 "corner" Corner: ReferencePositionLite [];
-            2 "everywhere" Everywhere;
-        }
-    };
-}
+macro_rules! alternatives { ($to:ident $($with:ident)*) => { $to! { [$($with)*]
+    0 "radius" Radius: u16 [1..=1000];
+    1 "corner" Corner: ReferencePositionLite [];
+    2 "everywhere" Everywhere;
+} }; }
 
-const VARIANTS: Variants = alternatives!(variants);
+const VARIANTS: VariantLists = alternatives!(variants);
 
-const BOUNDS: &[&[Constraint]] = alternatives!(alternative_bounds);
+const BOUNDS: Bounds = alternatives!(alternative_bounds);
 
 /// The tags of an untagged `ActionArea`.
 pub(crate) const AREA_TAGS: TagTree = alternatives!(tags_of_choice);
@@ -43,15 +35,11 @@ impl OfKind for ActionArea {
 }
 
 impl Alternatives for ActionArea {
-    const ALTERNATIVES: Variants = VARIANTS;
+    const ALTERNATIVES: VariantLists = VARIANTS;
 
-    ghost ALTERNATIVES = { variants_in area };
+    ghost ALTERNATIVES = { variants_listed area };
 
-    const ADDED_ALTERNATIVES: Option<Variants> = None;
-
-    ghost ADDED_ALTERNATIVES = { None };
-
-    ghost alternatives = { area };
+    ghost alternatives = { (area, refl) };
 
     ghost chosen = { elim [
       | Radius r ↦ chosen 0 (whole (pos r))
@@ -60,10 +48,6 @@ impl Alternatives for ActionArea {
     ] };
 
     ghost depth = { λ _. 1 };
-
-    ghost described = { refl };
-
-    ghost extends = { refl };
 
     ghost are_variants = { record { distinct = refl; few = refl } };
 }

@@ -1,11 +1,9 @@
 //! DriveDirection.
 
-ghost use Rattle.rasn_below.specs.Components.{all_items};
+ghost use Rattle.rasn_below.specs.Page.{all_items};
 ghost use Rattle.its_header.specs.Directions.{direction};
 
-use rasn_below::{
-    ByKind, EnumeratedKind, ItemCounts, Items, OfKind, Place, item_at, item_counts, place_of_item,
-};
+use rasn_below::page::*;
 
 /// DriveDirection ::= ENUMERATED { forward, backward, unavailable }
 #[derive(Clone, Copy, Debug, PartialEq, Eq)]
@@ -15,9 +13,7 @@ pub enum DriveDirection {
     Unavailable,
 }
 
-macro_rules! items {
-    ($to:ident $($with:ident)*) => { $to! { [$($with)*] Forward; Backward; Unavailable; } };
-}
+macro_rules! items { ($to:ident $($with:ident)*) => { $to! { [$($with)*] Forward; Backward; Unavailable; } }; }
 
 impl OfKind for DriveDirection {
     type Kind = EnumeratedKind;

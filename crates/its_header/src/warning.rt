@@ -1,19 +1,14 @@
 //! Warning.
 
 ghost use Rattle.std.specs.Prelude.{[], ◌∷◌, Some, max, pos, refl};
-ghost use Rattle.rasn_below.specs.Values.{whole};
-ghost use Rattle.rasn_below.specs.Components.{fields_of};
-ghost use Rattle.rasn_below.specs.Values.{slot_of};
+ghost use Rattle.rasn_below.specs.Page.{whole, fields_of, slot_of};
 ghost use Rattle.its_header.specs.Directions.{direction};
 ghost use Rattle.its_header.specs.Warnings.{warning};
 
 use crate::area::ActionArea;
 use crate::direction::DriveDirection;
 use crate::position::ReferencePositionLite;
-use rasn_below::{
-    AsnType, Components, Constraint, Decoder, Encoder, Fields, Record, bounds, decode_components,
-    encode_components, fields,
-};
+use rasn_below::page::*;
 
 /// Warning ::= SEQUENCE {
 ///     direction DriveDirection OPTIONAL, area ActionArea,
@@ -27,34 +22,28 @@ pub struct Warning {
     pub lane: u8,
 }
 
-macro_rules! components {
-    ($to:ident $($with:ident)*) => {
-        $to! { [$($with)*]
-            optional 0 "direction" direction: Option<DriveDirection> [];
-            required 1 "area" area: ActionArea [];
-            required 2 "positions" positions: Vec<ReferencePositionLite> [SIZE 1..=4];
-            default 3 "lane" lane: u8 [0..=7 DEFAULT 1_u8];
-        }
-    };
-}
+macro_rules! components { ($to:ident $($with:ident)*) => { $to! { [$($with)*]
+    optional 0 "direction" direction: Option<DriveDirection> [];
+    required 1 "area" area: ActionArea [];
+    required 2 "positions" positions: Vec<ReferencePositionLite> [SIZE 1..=4];
+    default 3 "lane" lane: u8 [0..=7 DEFAULT 1_u8];
+} }; }
 
-const FIELDS: Fields = components!(fields);
+const FIELDS: FieldLists = components!(fields);
 
-const BOUNDS: &[&[Constraint]] = components!(bounds);
+const BOUNDS: Bounds = components!(bounds);
 
 impl Components for Warning {
-    const COMPONENTS: Fields = FIELDS;
+    const COMPONENTS: FieldLists = FIELDS;
 
     ghost COMPONENTS = { fields_of warning };
 
-    ghost components = { warning };
+    ghost components = { (warning, refl) };
 
     ghost contents = { λ x. slot_of direction x.direction ∷ Some (⟦<ActionArea as AsnType>⟧.value x.area) ∷
         Some (⟦<Vec<ReferencePositionLite> as AsnType>⟧.value x.positions) ∷ Some (whole (pos x.lane)) ∷ [] };
 
     ghost depth = { λ x. max 2 (⟦<Vec<ReferencePositionLite> as AsnType>⟧.levels x.positions) };
-
-    ghost described = { refl };
 }
 
 impl Record for Warning {

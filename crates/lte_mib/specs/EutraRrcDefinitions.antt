@@ -1,6 +1,7 @@
 -- The module EUTRA-RRC-Definitions: below each definition in ASN.1 stands what the theorem takes it for.
-use Rattle.rasn_below.specs.Components.{Component, automatic, bit_string, boolean, choice, enumerated, integer, sequence, size◌to◌, u8, ◌to◌}
-use Rattle.std.specs.Prelude.{List, [], ◌∷◌}
+use Rattle.rasn_below.specs.Page.{Component, TypeLists, automatic, bit_string, boolean, choice, enumerated, integer}
+use Rattle.rasn_below.specs.Page.{sequence, size◌to◌, u8, ◌to◌}
+use Rattle.std.specs.Prelude.{[], ◌∷◌}
 
 -- MasterInformationBlock.dl-Bandwidth ::= ENUMERATED { n6(0), n15(1), n25(2), n50(3), n75(4), n100(5) }
 abbrev pub master_information_block_dl_bandwidth : Component
@@ -18,27 +19,27 @@ phich_config_phich_resource = enumerated 4
 --     phich-Duration ENUMERATED { normal(0), extended(1) },
 --     phich-Resource ENUMERATED { oneSixth(0), half(1), one(2), two(3) }
 -- }
-abbrev pub phich_config_root : List Component
-phich_config_root = automatic (
+abbrev pub phich_config_lists : TypeLists
+phich_config_lists = automatic (
     phich_config_phich_duration ∷  -- phich-Duration
     phich_config_phich_resource ∷  -- phich-Resource
     [])
 
 abbrev pub phich_config : Component
-phich_config = sequence phich_config_root
+phich_config = sequence phich_config_lists
 
 -- MasterInformationBlock.partEARFCN-17 ::= CHOICE {
 --     spare BIT STRING (SIZE (2)),
 --     earfcn-LSB BIT STRING (SIZE (2))
 -- }
-abbrev pub master_information_block_part_earfcn_17_root : List Component
-master_information_block_part_earfcn_17_root = automatic (
+abbrev pub master_information_block_part_earfcn_17_lists : TypeLists
+master_information_block_part_earfcn_17_lists = automatic (
     bit_string (size 2 to 2) ∷  -- spare
     bit_string (size 2 to 2) ∷  -- earfcn-LSB
     [])
 
 abbrev pub master_information_block_part_earfcn_17 : Component
-master_information_block_part_earfcn_17 = choice master_information_block_part_earfcn_17_root
+master_information_block_part_earfcn_17 = choice master_information_block_part_earfcn_17_lists
 
 -- MasterInformationBlock ::= SEQUENCE {
 --     dl-Bandwidth ENUMERATED { n6(0), n15(1), n25(2), n50(3), n75(4), n100(5) },
@@ -52,8 +53,8 @@ master_information_block_part_earfcn_17 = choice master_information_block_part_e
 --     },
 --     spare BIT STRING (SIZE (1))
 -- }
-abbrev pub master_information_block_root : List Component
-master_information_block_root = automatic (
+abbrev pub master_information_block_lists : TypeLists
+master_information_block_lists = automatic (
     master_information_block_dl_bandwidth ∷  -- dl-Bandwidth
     phich_config ∷  -- phich-Config
     bit_string (size 8 to 8) ∷  -- systemFrameNumber
@@ -64,7 +65,7 @@ master_information_block_root = automatic (
     [])
 
 abbrev pub master_information_block : Component
-master_information_block = sequence master_information_block_root
+master_information_block = sequence master_information_block_lists
 
 -- BCCH-BCH-MessageType ::= MasterInformationBlock
 abbrev pub bcch_bch_message_type : Component
@@ -73,10 +74,10 @@ bcch_bch_message_type = master_information_block
 -- BCCH-BCH-Message ::= SEQUENCE {
 --     message BCCH-BCH-MessageType
 -- }
-abbrev pub bcch_bch_message_root : List Component
-bcch_bch_message_root = automatic (
+abbrev pub bcch_bch_message_lists : TypeLists
+bcch_bch_message_lists = automatic (
     bcch_bch_message_type ∷  -- message
     [])
 
 abbrev pub bcch_bch_message : Component
-bcch_bch_message = sequence bcch_bch_message_root
+bcch_bch_message = sequence bcch_bch_message_lists

@@ -1,14 +1,11 @@
 //! BcchBchMessage, of the module EUTRA-RRC-Definitions.
 
-ghost use Rattle.lte_mib.specs.EutraRrcDefinitions.{bcch_bch_message_root};
-ghost use Rattle.rasn_below.specs.Components.{fields_of};
+ghost use Rattle.lte_mib.specs.EutraRrcDefinitions.{bcch_bch_message_lists};
+ghost use Rattle.rasn_below.specs.Page.{fields_of};
 ghost use Rattle.std.specs.Prelude.{Some, [], refl, ◌∷◌};
 
 use crate::aliases::BcchBchMessageType;
-use rasn_below::{
-    AsnType, Components, Constraint, Decoder, Encoder, Fields, Record, bounds, decode_components,
-    encode_components, fields,
-};
+use rasn_below::page::*;
 
 /// BCCH-BCH-Message ::= SEQUENCE {
 ///     message BCCH-BCH-MessageType
@@ -18,32 +15,26 @@ pub struct BcchBchMessage {
     pub message: BcchBchMessageType,
 }
 
-macro_rules! components {
-    ($to:ident $($with:ident)*) => {
-        $to! { [$($with)*]
-            required 0 "message" message: BcchBchMessageType [];
-        }
-    };
-}
+macro_rules! components { ($to:ident $($with:ident)*) => { $to! { [$($with)*]
+    required 0 "message" message: BcchBchMessageType [];
+} }; }
 
-const FIELDS: Fields = components!(fields);
+const FIELDS: FieldLists = components!(fields);
 
-const BOUNDS: &[&[Constraint]] = components!(bounds);
+const BOUNDS: Bounds = components!(bounds);
 
 impl Components for BcchBchMessage {
-    const COMPONENTS: Fields = FIELDS;
+    const COMPONENTS: FieldLists = FIELDS;
 
-    ghost COMPONENTS = { fields_of bcch_bch_message_root };
+    ghost COMPONENTS = { fields_of bcch_bch_message_lists };
 
-    ghost components = { bcch_bch_message_root };
+    ghost components = { (bcch_bch_message_lists, refl) };
 
     ghost contents = { λ x.
         Some (⟦<BcchBchMessageType as AsnType>⟧.value x.message) ∷
         [] };
 
     ghost depth = { λ _. 2 };
-
-    ghost described = { refl };
 }
 
 impl Record for BcchBchMessage {

@@ -1,18 +1,13 @@
 //! MasterInformationBlock, of the module EUTRA-RRC-Definitions.
 
-ghost use Rattle.lte_mib.specs.EutraRrcDefinitions.{master_information_block_root};
-ghost use Rattle.rasn_below.specs.Components.{fields_of};
-ghost use Rattle.rasn_below.specs.Values.{bits, truth, whole};
+ghost use Rattle.lte_mib.specs.EutraRrcDefinitions.{master_information_block_lists};
+ghost use Rattle.rasn_below.specs.Page.{bits, fields_of, truth, whole};
 ghost use Rattle.std.specs.Prelude.{Some, [], pos, refl, ◌∷◌};
 
 use crate::master_information_block_dl_bandwidth::MasterInformationBlockDlBandwidth;
 use crate::master_information_block_part_earfcn17::MasterInformationBlockPartEarfcn17;
 use crate::phich_config::PhichConfig;
-use rasn_below::types::BitString;
-use rasn_below::{
-    AsnType, Components, Constraint, Decoder, Encoder, Fields, Record, bounds, decode_components,
-    encode_components, fields,
-};
+use rasn_below::page::*;
 
 /// MasterInformationBlock ::= SEQUENCE {
 ///     dl-Bandwidth ENUMERATED { n6(0), n15(1), n25(2), n50(3), n75(4), n100(5) },
@@ -37,30 +32,26 @@ pub struct MasterInformationBlock {
     pub spare: BitString,
 }
 
-macro_rules! components {
-    ($to:ident $($with:ident)*) => {
-        $to! { [$($with)*]
-            required 0 "dl-Bandwidth" dl_bandwidth: MasterInformationBlockDlBandwidth [];
-            required 1 "phich-Config" phich_config: PhichConfig [];
-            required 2 "systemFrameNumber" system_frame_number: BitString [SIZE 8..=8];
-            required 3 "schedulingInfoSIB1-BR-r13" scheduling_info_sib1_br_r13: u8 [0..=31];
-            required 4 "systemInfoUnchanged-BR-r15" system_info_unchanged_br_r15: bool [];
-            required 5 "partEARFCN-17" part_earfcn_17: MasterInformationBlockPartEarfcn17 [];
-            required 6 "spare" spare: BitString [SIZE 1..=1];
-        }
-    };
-}
+macro_rules! components { ($to:ident $($with:ident)*) => { $to! { [$($with)*]
+    required 0 "dl-Bandwidth" dl_bandwidth: MasterInformationBlockDlBandwidth [];
+    required 1 "phich-Config" phich_config: PhichConfig [];
+    required 2 "systemFrameNumber" system_frame_number: BitString [SIZE 8..=8];
+    required 3 "schedulingInfoSIB1-BR-r13" scheduling_info_sib1_br_r13: u8 [0..=31];
+    required 4 "systemInfoUnchanged-BR-r15" system_info_unchanged_br_r15: bool [];
+    required 5 "partEARFCN-17" part_earfcn_17: MasterInformationBlockPartEarfcn17 [];
+    required 6 "spare" spare: BitString [SIZE 1..=1];
+} }; }
 
-const FIELDS: Fields = components!(fields);
+const FIELDS: FieldLists = components!(fields);
 
-const BOUNDS: &[&[Constraint]] = components!(bounds);
+const BOUNDS: Bounds = components!(bounds);
 
 impl Components for MasterInformationBlock {
-    const COMPONENTS: Fields = FIELDS;
+    const COMPONENTS: FieldLists = FIELDS;
 
-    ghost COMPONENTS = { fields_of master_information_block_root };
+    ghost COMPONENTS = { fields_of master_information_block_lists };
 
-    ghost components = { master_information_block_root };
+    ghost components = { (master_information_block_lists, refl) };
 
     ghost contents = { λ x.
         Some (⟦<MasterInformationBlockDlBandwidth as AsnType>⟧.value x.dl_bandwidth) ∷
@@ -73,8 +64,6 @@ impl Components for MasterInformationBlock {
         [] };
 
     ghost depth = { λ _. 1 };
-
-    ghost described = { refl };
 }
 
 impl Record for MasterInformationBlock {

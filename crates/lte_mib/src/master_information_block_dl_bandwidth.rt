@@ -1,12 +1,26 @@
 //! MasterInformationBlockDlBandwidth, of the module EUTRA-RRC-Definitions.
 
-ghost use Rattle.lte_mib.specs.declared.master_information_block_dl_bandwidth.MasterInformationBlockDlBandwidth.TheVariants.{N100, N15, N25, N50, N6, N75};
-ghost use Rattle.rasn_below.specs.Components.{all_items};
-ghost use Rattle.rasn_below.specs.Values.{item, root};
-
-use rasn_below::{
-    ByKind, EnumeratedKind, ItemCounts, Items, OfKind, Place, item_at, item_counts, place_of_item,
+ghost use Rattle.lte_mib.specs.declared.master_information_block_dl_bandwidth.MasterInformationBlockDlBandwidth.TheVariants.{
+  N100,
 };
+ghost use Rattle.lte_mib.specs.declared.master_information_block_dl_bandwidth.MasterInformationBlockDlBandwidth.TheVariants.{
+  N15,
+};
+ghost use Rattle.lte_mib.specs.declared.master_information_block_dl_bandwidth.MasterInformationBlockDlBandwidth.TheVariants.{
+  N25,
+};
+ghost use Rattle.lte_mib.specs.declared.master_information_block_dl_bandwidth.MasterInformationBlockDlBandwidth.TheVariants.{
+  N50,
+};
+ghost use Rattle.lte_mib.specs.declared.master_information_block_dl_bandwidth.MasterInformationBlockDlBandwidth.TheVariants.{
+  N6,
+};
+ghost use Rattle.lte_mib.specs.declared.master_information_block_dl_bandwidth.MasterInformationBlockDlBandwidth.TheVariants.{
+  N75,
+};
+ghost use Rattle.rasn_below.specs.Page.{all_items, item, root};
+
+use rasn_below::page::*;
 
 /// MasterInformationBlock.dl-Bandwidth ::= ENUMERATED { n6(0), n15(1), n25(2), n50(3), n75(4), n100(5) }
 #[derive(Clone, Copy, Debug, PartialEq, Eq)]
@@ -19,18 +33,14 @@ pub enum MasterInformationBlockDlBandwidth {
     N100,
 }
 
-macro_rules! items {
-    ($to:ident $($with:ident)*) => {
-        $to! { [$($with)*]
-            N6;
-            N15;
-            N25;
-            N50;
-            N75;
-            N100;
-        }
-    };
-}
+macro_rules! items { ($to:ident $($with:ident)*) => { $to! { [$($with)*]
+    N6;
+    N15;
+    N25;
+    N50;
+    N75;
+    N100;
+} }; }
 
 impl OfKind for MasterInformationBlockDlBandwidth {
     type Kind = EnumeratedKind;

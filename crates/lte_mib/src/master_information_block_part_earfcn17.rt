@@ -1,16 +1,16 @@
 //! MasterInformationBlockPartEarfcn17, of the module EUTRA-RRC-Definitions.
 
-ghost use Rattle.lte_mib.specs.EutraRrcDefinitions.{master_information_block_part_earfcn_17_root};
-ghost use Rattle.lte_mib.specs.declared.master_information_block_part_earfcn17.MasterInformationBlockPartEarfcn17.TheVariants.{EarfcnLsb, Spare};
-ghost use Rattle.rasn_below.specs.Components.{chosen, variants_in};
-ghost use Rattle.rasn_below.specs.Values.{bits};
-ghost use Rattle.std.specs.Prelude.{None, refl};
-
-use rasn_below::types::BitString;
-use rasn_below::{
-    Alternatives, ByKind, ChoiceKind, CodedAlternatives, Constraint, Decoder, Encoder, OfKind, Tag,
-    Variants, alternative_bounds, decode_alternative, encode_alternative, variants,
+ghost use Rattle.lte_mib.specs.EutraRrcDefinitions.{master_information_block_part_earfcn_17_lists};
+ghost use Rattle.lte_mib.specs.declared.master_information_block_part_earfcn17.MasterInformationBlockPartEarfcn17.TheVariants.{
+  EarfcnLsb,
 };
+ghost use Rattle.lte_mib.specs.declared.master_information_block_part_earfcn17.MasterInformationBlockPartEarfcn17.TheVariants.{
+  Spare,
+};
+ghost use Rattle.rasn_below.specs.Page.{bits, chosen, variants_listed};
+ghost use Rattle.std.specs.Prelude.{refl};
+
+use rasn_below::page::*;
 
 /// MasterInformationBlock.partEARFCN-17 ::= CHOICE {
 ///     spare BIT STRING (SIZE (2)),
@@ -22,42 +22,30 @@ pub enum MasterInformationBlockPartEarfcn17 {
     EarfcnLsb(BitString),
 }
 
-macro_rules! alternatives {
-    ($to:ident $($with:ident)*) => {
-        $to! { [$($with)*]
-            0 "spare" Spare: BitString [SIZE 2..=2];
-            1 "earfcn-LSB" EarfcnLsb: BitString [SIZE 2..=2];
-        }
-    };
-}
+macro_rules! alternatives { ($to:ident $($with:ident)*) => { $to! { [$($with)*]
+    0 "spare" Spare: BitString [SIZE 2..=2];
+    1 "earfcn-LSB" EarfcnLsb: BitString [SIZE 2..=2];
+} }; }
 
-const VARIANTS: Variants = alternatives!(variants);
+const VARIANTS: VariantLists = alternatives!(variants);
 
-const BOUNDS: &[&[Constraint]] = alternatives!(alternative_bounds);
+const BOUNDS: Bounds = alternatives!(alternative_bounds);
 
 impl OfKind for MasterInformationBlockPartEarfcn17 {
     type Kind = ChoiceKind;
 }
 
 impl Alternatives for MasterInformationBlockPartEarfcn17 {
-    const ALTERNATIVES: Variants = VARIANTS;
+    const ALTERNATIVES: VariantLists = VARIANTS;
 
-    ghost ALTERNATIVES = { variants_in master_information_block_part_earfcn_17_root };
+    ghost ALTERNATIVES = { variants_listed master_information_block_part_earfcn_17_lists };
 
-    const ADDED_ALTERNATIVES: Option<Variants> = None;
-
-    ghost ADDED_ALTERNATIVES = { None };
-
-    ghost alternatives = { master_information_block_part_earfcn_17_root };
+    ghost alternatives = { (master_information_block_part_earfcn_17_lists, refl) };
 
     ghost chosen = { elim [
       | Spare v ↦ chosen 0 (bits v)
       | EarfcnLsb v ↦ chosen 1 (bits v)
     ] };
-
-    ghost described = { refl };
-
-    ghost extends = { refl };
 
     ghost are_variants = { record { distinct = refl; few = refl } };
 }

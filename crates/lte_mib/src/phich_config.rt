@@ -1,15 +1,12 @@
 //! PhichConfig, of the module EUTRA-RRC-Definitions.
 
-ghost use Rattle.lte_mib.specs.EutraRrcDefinitions.{phich_config_root};
-ghost use Rattle.rasn_below.specs.Components.{fields_of};
+ghost use Rattle.lte_mib.specs.EutraRrcDefinitions.{phich_config_lists};
+ghost use Rattle.rasn_below.specs.Page.{fields_of};
 ghost use Rattle.std.specs.Prelude.{Some, [], refl, ◌∷◌};
 
 use crate::phich_config_phich_duration::PhichConfigPhichDuration;
 use crate::phich_config_phich_resource::PhichConfigPhichResource;
-use rasn_below::{
-    AsnType, Components, Constraint, Decoder, Encoder, Fields, Record, bounds, decode_components,
-    encode_components, fields,
-};
+use rasn_below::page::*;
 
 /// PHICH-Config ::= SEQUENCE {
 ///     phich-Duration ENUMERATED { normal(0), extended(1) },
@@ -21,32 +18,26 @@ pub struct PhichConfig {
     pub phich_resource: PhichConfigPhichResource,
 }
 
-macro_rules! components {
-    ($to:ident $($with:ident)*) => {
-        $to! { [$($with)*]
-            required 0 "phich-Duration" phich_duration: PhichConfigPhichDuration [];
-            required 1 "phich-Resource" phich_resource: PhichConfigPhichResource [];
-        }
-    };
-}
+macro_rules! components { ($to:ident $($with:ident)*) => { $to! { [$($with)*]
+    required 0 "phich-Duration" phich_duration: PhichConfigPhichDuration [];
+    required 1 "phich-Resource" phich_resource: PhichConfigPhichResource [];
+} }; }
 
-const FIELDS: Fields = components!(fields);
+const FIELDS: FieldLists = components!(fields);
 
-const BOUNDS: &[&[Constraint]] = components!(bounds);
+const BOUNDS: Bounds = components!(bounds);
 
 impl Components for PhichConfig {
-    const COMPONENTS: Fields = FIELDS;
+    const COMPONENTS: FieldLists = FIELDS;
 
-    ghost COMPONENTS = { fields_of phich_config_root };
+    ghost COMPONENTS = { fields_of phich_config_lists };
 
-    ghost components = { phich_config_root };
+    ghost components = { (phich_config_lists, refl) };
 
     ghost contents = { λ x.
         Some (⟦<PhichConfigPhichDuration as AsnType>⟧.value x.phich_duration) ∷
         Some (⟦<PhichConfigPhichResource as AsnType>⟧.value x.phich_resource) ∷
         [] };
-
-    ghost described = { refl };
 }
 
 impl Record for PhichConfig {

@@ -1,12 +1,10 @@
 //! PhichConfigPhichDuration, of the module EUTRA-RRC-Definitions.
 
-ghost use Rattle.lte_mib.specs.declared.phich_config_phich_duration.PhichConfigPhichDuration.TheVariants.{Extended, Normal};
-ghost use Rattle.rasn_below.specs.Components.{all_items};
-ghost use Rattle.rasn_below.specs.Values.{item, root};
+ghost use Rattle.lte_mib.specs.declared.phich_config_phich_duration.PhichConfigPhichDuration.TheVariants.{Extended};
+ghost use Rattle.lte_mib.specs.declared.phich_config_phich_duration.PhichConfigPhichDuration.TheVariants.{Normal};
+ghost use Rattle.rasn_below.specs.Page.{all_items, item, root};
 
-use rasn_below::{
-    ByKind, EnumeratedKind, ItemCounts, Items, OfKind, Place, item_at, item_counts, place_of_item,
-};
+use rasn_below::page::*;
 
 /// PHICH-Config.phich-Duration ::= ENUMERATED { normal(0), extended(1) }
 #[derive(Clone, Copy, Debug, PartialEq, Eq)]
@@ -15,14 +13,10 @@ pub enum PhichConfigPhichDuration {
     Extended,
 }
 
-macro_rules! items {
-    ($to:ident $($with:ident)*) => {
-        $to! { [$($with)*]
-            Normal;
-            Extended;
-        }
-    };
-}
+macro_rules! items { ($to:ident $($with:ident)*) => { $to! { [$($with)*]
+    Normal;
+    Extended;
+} }; }
 
 impl OfKind for PhichConfigPhichDuration {
     type Kind = EnumeratedKind;

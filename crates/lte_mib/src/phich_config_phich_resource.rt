@@ -1,12 +1,11 @@
 //! PhichConfigPhichResource, of the module EUTRA-RRC-Definitions.
 
-ghost use Rattle.lte_mib.specs.declared.phich_config_phich_resource.PhichConfigPhichResource.TheVariants.{Half, One, OneSixth, Two};
-ghost use Rattle.rasn_below.specs.Components.{all_items};
-ghost use Rattle.rasn_below.specs.Values.{item, root};
+ghost use Rattle.lte_mib.specs.declared.phich_config_phich_resource.PhichConfigPhichResource.TheVariants.{Half, One};
+ghost use Rattle.lte_mib.specs.declared.phich_config_phich_resource.PhichConfigPhichResource.TheVariants.{OneSixth};
+ghost use Rattle.lte_mib.specs.declared.phich_config_phich_resource.PhichConfigPhichResource.TheVariants.{Two};
+ghost use Rattle.rasn_below.specs.Page.{all_items, item, root};
 
-use rasn_below::{
-    ByKind, EnumeratedKind, ItemCounts, Items, OfKind, Place, item_at, item_counts, place_of_item,
-};
+use rasn_below::page::*;
 
 /// PHICH-Config.phich-Resource ::= ENUMERATED { oneSixth(0), half(1), one(2), two(3) }
 #[derive(Clone, Copy, Debug, PartialEq, Eq)]
@@ -17,16 +16,12 @@ pub enum PhichConfigPhichResource {
     Two,
 }
 
-macro_rules! items {
-    ($to:ident $($with:ident)*) => {
-        $to! { [$($with)*]
-            OneSixth;
-            Half;
-            One;
-            Two;
-        }
-    };
-}
+macro_rules! items { ($to:ident $($with:ident)*) => { $to! { [$($with)*]
+    OneSixth;
+    Half;
+    One;
+    Two;
+} }; }
 
 impl OfKind for PhichConfigPhichResource {
     type Kind = EnumeratedKind;

@@ -1,22 +1,22 @@
 -- The module NGAP-Containers: below each definition in ASN.1 stands what the theorem takes it for.
 use Rattle.ngap.specs.NgapCommonDataTypes.{criticality, protocol_extension_id, protocol_ie_id}
-use Rattle.rasn_below.specs.Components.{Component, automatic, open_type, sequence, sequence_of, size◌to◌}
-use Rattle.std.specs.Prelude.{List, [], ◌∷◌}
+use Rattle.rasn_below.specs.Page.{Component, TypeLists, automatic, open_type, sequence, sequence_of, size◌to◌}
+use Rattle.std.specs.Prelude.{[], ◌∷◌}
 
 -- ProtocolExtensionField ::= SEQUENCE {
 --     id ProtocolExtensionID,
 --     criticality Criticality,
 --     extensionValue NGAP-PROTOCOL-EXTENSION.&Extension
 -- }
-abbrev pub protocol_extension_field_root : List Component
-protocol_extension_field_root = automatic (
+abbrev pub protocol_extension_field_lists : TypeLists
+protocol_extension_field_lists = automatic (
     protocol_extension_id ∷  -- id
     criticality ∷  -- criticality
     open_type ∷  -- extensionValue
     [])
 
 abbrev pub protocol_extension_field : Component
-protocol_extension_field = sequence protocol_extension_field_root
+protocol_extension_field = sequence protocol_extension_field_lists
 
 -- ProtocolExtensionContainer ::= SEQUENCE (SIZE (1..65535)) OF ProtocolExtensionField
 abbrev pub protocol_extension_container : Component
@@ -27,15 +27,15 @@ protocol_extension_container = sequence_of (size 1 to 65535) protocol_extension_
 --     criticality Criticality,
 --     value NGAP-PROTOCOL-IES.&Value
 -- }
-abbrev pub protocol_ie_field_root : List Component
-protocol_ie_field_root = automatic (
+abbrev pub protocol_ie_field_lists : TypeLists
+protocol_ie_field_lists = automatic (
     protocol_ie_id ∷  -- id
     criticality ∷  -- criticality
     open_type ∷  -- value
     [])
 
 abbrev pub protocol_ie_field : Component
-protocol_ie_field = sequence protocol_ie_field_root
+protocol_ie_field = sequence protocol_ie_field_lists
 
 -- ProtocolIE-SingleContainer ::= ProtocolIE-Field
 abbrev pub protocol_ie_single_container : Component

@@ -1,12 +1,9 @@
 //! Criticality, of the module NGAP-CommonDataTypes.
 
 ghost use Rattle.ngap.specs.declared.criticality.Criticality.TheVariants.{Ignore, Notify, Reject};
-ghost use Rattle.rasn_below.specs.Components.{all_items};
-ghost use Rattle.rasn_below.specs.Values.{item, root};
+ghost use Rattle.rasn_below.specs.Page.{all_items, item, root};
 
-use rasn_below::{
-    ByKind, EnumeratedKind, ItemCounts, Items, OfKind, Place, item_at, item_counts, place_of_item,
-};
+use rasn_below::page::*;
 
 /// Criticality ::= ENUMERATED { reject(0), ignore(1), notify(2) }
 #[derive(Clone, Copy, Debug, PartialEq, Eq)]
@@ -16,15 +13,11 @@ pub enum Criticality {
     Notify,
 }
 
-macro_rules! items {
-    ($to:ident $($with:ident)*) => {
-        $to! { [$($with)*]
-            Reject;
-            Ignore;
-            Notify;
-        }
-    };
-}
+macro_rules! items { ($to:ident $($with:ident)*) => { $to! { [$($with)*]
+    Reject;
+    Ignore;
+    Notify;
+} }; }
 
 impl OfKind for Criticality {
     type Kind = EnumeratedKind;

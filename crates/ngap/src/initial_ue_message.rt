@@ -1,17 +1,11 @@
 //! InitialUeMessage, of the module NGAP-PDU-Contents.
 
-ghost use Rattle.ngap.specs.NgapPduContents.{initial_ue_message_added, initial_ue_message_root};
-ghost use Rattle.rasn_below.specs.Components.{extended_by, fields_described, fields_of, parts_of};
-ghost use Rattle.rasn_below.specs.Values.{deeper_of};
-ghost use Rattle.std.specs.Prelude.{Some, [], max, refl, true, ◌∷◌};
+ghost use Rattle.ngap.specs.NgapPduContents.{initial_ue_message_lists};
+ghost use Rattle.rasn_below.specs.Page.{deeper_of, fields_of};
+ghost use Rattle.std.specs.Prelude.{Some, [], max, refl, ◌∷◌};
 
 use crate::aliases::ProtocolIeContainer;
-use rasn_below::types::Identifier;
-use rasn_below::{
-    AsnType, Constraint, Constraints, Constructed, Decode, Decoder, Encode, Encoder, Extended,
-    ExtendedKind, Fields, OfKind, Tag, added_bounds, added_fields, decode_extended,
-    encode_extended, root_bounds, root_fields,
-};
+use rasn_below::page::*;
 
 /// InitialUEMessage ::= SEQUENCE {
 ///     protocolIEs ProtocolIE-Container,
@@ -22,37 +16,24 @@ pub struct InitialUeMessage {
     pub protocol_ies: ProtocolIeContainer,
 }
 
-macro_rules! components {
-    ($to:ident $($with:ident)*) => {
-        $to! { [$($with)*]
-            required 0 "protocolIEs" protocol_ies: ProtocolIeContainer [SIZE 0..=65_535];
-            ...;
-        }
-    };
-}
+macro_rules! components { ($to:ident $($with:ident)*) => { $to! { [$($with)*]
+    required 0 "protocolIEs" protocol_ies: ProtocolIeContainer [SIZE 0..=65_535];
+    ...;
+} }; }
 
-const FIELDS: Fields = components!(root_fields);
+const FIELDS: FieldLists = components!(fields);
 
-const BOUNDS: &[&[Constraint]] = components!(root_bounds);
+const BOUNDS: Bounds = components!(bounds);
 
-const ADDED_FIELDS: Fields = components!(added_fields);
+impl Components for InitialUeMessage {
+    const COMPONENTS: FieldLists = FIELDS;
 
-const ADDED_BOUNDS: &[&[Constraint]] = components!(added_bounds);
+    ghost COMPONENTS = { fields_of initial_ue_message_lists };
 
-impl OfKind for InitialUeMessage {
-    type Kind = ExtendedKind;
-}
-
-impl Extended for InitialUeMessage {
-    ghost root = { initial_ue_message_root };
-
-    ghost additions = { initial_ue_message_added };
+    ghost components = { (initial_ue_message_lists, refl) };
 
     ghost contents = { λ x.
         Some (⟦<ProtocolIeContainer as AsnType>⟧.value x.protocol_ies) ∷
-        [] };
-
-    ghost added = { λ x.
         [] };
 
     ghost depth = { λ x. deeper_of
@@ -60,52 +41,12 @@ impl Extended for InitialUeMessage {
         0 };
 }
 
-impl Constructed for InitialUeMessage {
-    const FIELDS: Fields = FIELDS;
-
-    ghost FIELDS = { fields_of initial_ue_message_root };
-
-    const EXTENDED_FIELDS: Option<Fields> = Some(ADDED_FIELDS);
-
-    ghost EXTENDED_FIELDS = { Some (fields_of initial_ue_message_added) };
-
-    const IS_EXTENSIBLE: bool = true;
-
-    ghost IS_EXTENSIBLE = { true };
-
-    ghost parts = { parts_of initial_ue_message_root };
-
-    ghost additions = { parts_of initial_ue_message_added };
-
-    ghost contents = { ⟦<InitialUeMessage as Extended>⟧.contents };
-
-    ghost added = { ⟦<InitialUeMessage as Extended>⟧.added };
-
-    ghost described = { fields_described initial_ue_message_root };
-
-    ghost extends = { extended_by initial_ue_message_added };
-
-    ghost is_record = { λ _. refl };
-}
-
-impl Encode for InitialUeMessage {
-    fn encode_with_tag_and_constraints<E: Encoder>(
-        &self,
-        encoder: &mut E,
-        tag: Tag,
-        _: &Constraints,
-        identifier: Identifier,
-    ) -> Result<(), E::Error> {
-        components!(encode_extended self encoder tag identifier)
+impl Record for InitialUeMessage {
+    fn encode_components<E: Encoder>(&self, encoder: &mut E) -> Result<(), E::Error> {
+        components!(encode_components self encoder)
     }
-}
 
-impl Decode for InitialUeMessage {
-    fn decode_with_tag_and_constraints<D: Decoder>(
-        decoder: &mut D,
-        tag: Tag,
-        _: &Constraints,
-    ) -> Result<InitialUeMessage, D::Error> {
-        components!(decode_extended decoder tag)
+    fn decode_components<D: Decoder>(decoder: &mut D) -> Result<Self, D::Error> {
+        components!(decode_components decoder)
     }
 }

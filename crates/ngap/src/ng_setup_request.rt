@@ -1,17 +1,11 @@
 //! NgSetupRequest, of the module NGAP-PDU-Contents.
 
-ghost use Rattle.ngap.specs.NgapPduContents.{ng_setup_request_added, ng_setup_request_root};
-ghost use Rattle.rasn_below.specs.Components.{extended_by, fields_described, fields_of, parts_of};
-ghost use Rattle.rasn_below.specs.Values.{deeper_of};
-ghost use Rattle.std.specs.Prelude.{Some, [], max, refl, true, ◌∷◌};
+ghost use Rattle.ngap.specs.NgapPduContents.{ng_setup_request_lists};
+ghost use Rattle.rasn_below.specs.Page.{deeper_of, fields_of};
+ghost use Rattle.std.specs.Prelude.{Some, [], max, refl, ◌∷◌};
 
 use crate::aliases::ProtocolIeContainer;
-use rasn_below::types::Identifier;
-use rasn_below::{
-    AsnType, Constraint, Constraints, Constructed, Decode, Decoder, Encode, Encoder, Extended,
-    ExtendedKind, Fields, OfKind, Tag, added_bounds, added_fields, decode_extended,
-    encode_extended, root_bounds, root_fields,
-};
+use rasn_below::page::*;
 
 /// NGSetupRequest ::= SEQUENCE {
 ///     protocolIEs ProtocolIE-Container,
@@ -22,37 +16,24 @@ pub struct NgSetupRequest {
     pub protocol_ies: ProtocolIeContainer,
 }
 
-macro_rules! components {
-    ($to:ident $($with:ident)*) => {
-        $to! { [$($with)*]
-            required 0 "protocolIEs" protocol_ies: ProtocolIeContainer [SIZE 0..=65_535];
-            ...;
-        }
-    };
-}
+macro_rules! components { ($to:ident $($with:ident)*) => { $to! { [$($with)*]
+    required 0 "protocolIEs" protocol_ies: ProtocolIeContainer [SIZE 0..=65_535];
+    ...;
+} }; }
 
-const FIELDS: Fields = components!(root_fields);
+const FIELDS: FieldLists = components!(fields);
 
-const BOUNDS: &[&[Constraint]] = components!(root_bounds);
+const BOUNDS: Bounds = components!(bounds);
 
-const ADDED_FIELDS: Fields = components!(added_fields);
+impl Components for NgSetupRequest {
+    const COMPONENTS: FieldLists = FIELDS;
 
-const ADDED_BOUNDS: &[&[Constraint]] = components!(added_bounds);
+    ghost COMPONENTS = { fields_of ng_setup_request_lists };
 
-impl OfKind for NgSetupRequest {
-    type Kind = ExtendedKind;
-}
-
-impl Extended for NgSetupRequest {
-    ghost root = { ng_setup_request_root };
-
-    ghost additions = { ng_setup_request_added };
+    ghost components = { (ng_setup_request_lists, refl) };
 
     ghost contents = { λ x.
         Some (⟦<ProtocolIeContainer as AsnType>⟧.value x.protocol_ies) ∷
-        [] };
-
-    ghost added = { λ x.
         [] };
 
     ghost depth = { λ x. deeper_of
@@ -60,52 +41,12 @@ impl Extended for NgSetupRequest {
         0 };
 }
 
-impl Constructed for NgSetupRequest {
-    const FIELDS: Fields = FIELDS;
-
-    ghost FIELDS = { fields_of ng_setup_request_root };
-
-    const EXTENDED_FIELDS: Option<Fields> = Some(ADDED_FIELDS);
-
-    ghost EXTENDED_FIELDS = { Some (fields_of ng_setup_request_added) };
-
-    const IS_EXTENSIBLE: bool = true;
-
-    ghost IS_EXTENSIBLE = { true };
-
-    ghost parts = { parts_of ng_setup_request_root };
-
-    ghost additions = { parts_of ng_setup_request_added };
-
-    ghost contents = { ⟦<NgSetupRequest as Extended>⟧.contents };
-
-    ghost added = { ⟦<NgSetupRequest as Extended>⟧.added };
-
-    ghost described = { fields_described ng_setup_request_root };
-
-    ghost extends = { extended_by ng_setup_request_added };
-
-    ghost is_record = { λ _. refl };
-}
-
-impl Encode for NgSetupRequest {
-    fn encode_with_tag_and_constraints<E: Encoder>(
-        &self,
-        encoder: &mut E,
-        tag: Tag,
-        _: &Constraints,
-        identifier: Identifier,
-    ) -> Result<(), E::Error> {
-        components!(encode_extended self encoder tag identifier)
+impl Record for NgSetupRequest {
+    fn encode_components<E: Encoder>(&self, encoder: &mut E) -> Result<(), E::Error> {
+        components!(encode_components self encoder)
     }
-}
 
-impl Decode for NgSetupRequest {
-    fn decode_with_tag_and_constraints<D: Decoder>(
-        decoder: &mut D,
-        tag: Tag,
-        _: &Constraints,
-    ) -> Result<NgSetupRequest, D::Error> {
-        components!(decode_extended decoder tag)
+    fn decode_components<D: Decoder>(decoder: &mut D) -> Result<Self, D::Error> {
+        components!(decode_components decoder)
     }
 }

@@ -1,18 +1,15 @@
 //! NgapPdu, of the module NGAP-PDU-Descriptions.
 
-ghost use Rattle.ngap.specs.NgapPduDescriptions.{ngap_pdu_added, ngap_pdu_root};
-ghost use Rattle.ngap.specs.declared.ngap_pdu.NgapPdu.TheVariants.{InitiatingMessage, SuccessfulOutcome, UnsuccessfulOutcome};
-ghost use Rattle.rasn_below.specs.Components.{chosen, variants_in};
-ghost use Rattle.std.specs.Prelude.{Some, refl};
+ghost use Rattle.ngap.specs.NgapPduDescriptions.{ngap_pdu_lists};
+ghost use Rattle.ngap.specs.declared.ngap_pdu.NgapPdu.TheVariants.{InitiatingMessage, SuccessfulOutcome};
+ghost use Rattle.ngap.specs.declared.ngap_pdu.NgapPdu.TheVariants.{UnsuccessfulOutcome};
+ghost use Rattle.rasn_below.specs.Page.{chosen, variants_listed};
+ghost use Rattle.std.specs.Prelude.{refl};
 
 use crate::initiating_message::InitiatingMessage;
 use crate::successful_outcome::SuccessfulOutcome;
 use crate::unsuccessful_outcome::UnsuccessfulOutcome;
-use rasn_below::{
-    Alternatives, AsnType, ByKind, ChoiceKind, CodedAlternatives, Constraint, Decoder, Encoder,
-    OfKind, Tag, Variants, added_variants, alternative_bounds, decode_alternative,
-    encode_alternative, variants,
-};
+use rasn_below::page::*;
 
 /// NGAP-PDU ::= CHOICE {
 ///     initiatingMessage InitiatingMessage,
@@ -27,39 +24,27 @@ pub enum NgapPdu {
     UnsuccessfulOutcome(UnsuccessfulOutcome),
 }
 
-macro_rules! alternatives {
-    ($to:ident $($with:ident)*) => {
-        $to! { [$($with)*]
-            0 "initiatingMessage" InitiatingMessage: InitiatingMessage [];
-            1 "successfulOutcome" SuccessfulOutcome: SuccessfulOutcome [];
-            2 "unsuccessfulOutcome" UnsuccessfulOutcome: UnsuccessfulOutcome [];
-            ...;
-        }
-    };
-}
+macro_rules! alternatives { ($to:ident $($with:ident)*) => { $to! { [$($with)*]
+    0 "initiatingMessage" InitiatingMessage: InitiatingMessage [];
+    1 "successfulOutcome" SuccessfulOutcome: SuccessfulOutcome [];
+    2 "unsuccessfulOutcome" UnsuccessfulOutcome: UnsuccessfulOutcome [];
+    ...;
+} }; }
 
-const VARIANTS: Variants = alternatives!(variants);
+const VARIANTS: VariantLists = alternatives!(variants);
 
-const ADDED_VARIANTS: Option<Variants> = alternatives!(added_variants);
-
-const BOUNDS: &[&[Constraint]] = alternatives!(alternative_bounds);
+const BOUNDS: Bounds = alternatives!(alternative_bounds);
 
 impl OfKind for NgapPdu {
     type Kind = ChoiceKind;
 }
 
 impl Alternatives for NgapPdu {
-    const ALTERNATIVES: Variants = VARIANTS;
+    const ALTERNATIVES: VariantLists = VARIANTS;
 
-    ghost ALTERNATIVES = { variants_in ngap_pdu_root };
+    ghost ALTERNATIVES = { variants_listed ngap_pdu_lists };
 
-    const ADDED_ALTERNATIVES: Option<Variants> = ADDED_VARIANTS;
-
-    ghost ADDED_ALTERNATIVES = { Some (variants_in ngap_pdu_added) };
-
-    ghost alternatives = { ngap_pdu_root };
-
-    ghost added = { Some ngap_pdu_added };
+    ghost alternatives = { (ngap_pdu_lists, refl) };
 
     ghost chosen = { elim [
       | InitiatingMessage v ↦ chosen 0 (⟦<InitiatingMessage as AsnType>⟧.value v)
@@ -68,10 +53,6 @@ impl Alternatives for NgapPdu {
     ] };
 
     ghost depth = { λ _. 1 };
-
-    ghost described = { refl };
-
-    ghost extends = { refl };
 
     ghost are_variants = { record { distinct = refl; few = refl } };
 }

@@ -1,17 +1,12 @@
 //! ProtocolExtensionField, of the module NGAP-Containers.
 
-ghost use Rattle.ngap.specs.NgapContainers.{protocol_extension_field_root};
-ghost use Rattle.rasn_below.specs.Components.{fields_of};
-ghost use Rattle.rasn_below.specs.Values.{octets, whole};
+ghost use Rattle.ngap.specs.NgapContainers.{protocol_extension_field_lists};
+ghost use Rattle.rasn_below.specs.Page.{fields_of, octets, whole};
 ghost use Rattle.std.specs.Prelude.{Some, [], pos, refl, ◌∷◌};
 
 use crate::aliases::ProtocolExtensionId;
 use crate::criticality::Criticality;
-use rasn_below::types::Any;
-use rasn_below::{
-    AsnType, Components, Constraint, Decoder, Encoder, Fields, Record, bounds, decode_components,
-    encode_components, fields,
-};
+use rasn_below::page::*;
 
 /// ProtocolExtensionField ::= SEQUENCE {
 ///     id ProtocolExtensionID,
@@ -25,34 +20,28 @@ pub struct ProtocolExtensionField {
     pub extension_value: Any,
 }
 
-macro_rules! components {
-    ($to:ident $($with:ident)*) => {
-        $to! { [$($with)*]
-            required 0 "id" id: ProtocolExtensionId [0..=65_535];
-            required 1 "criticality" criticality: Criticality [];
-            required 2 "extensionValue" extension_value: Any [];
-        }
-    };
-}
+macro_rules! components { ($to:ident $($with:ident)*) => { $to! { [$($with)*]
+    required 0 "id" id: ProtocolExtensionId [0..=65_535];
+    required 1 "criticality" criticality: Criticality [];
+    required 2 "extensionValue" extension_value: Any [];
+} }; }
 
-const FIELDS: Fields = components!(fields);
+const FIELDS: FieldLists = components!(fields);
 
-const BOUNDS: &[&[Constraint]] = components!(bounds);
+const BOUNDS: Bounds = components!(bounds);
 
 impl Components for ProtocolExtensionField {
-    const COMPONENTS: Fields = FIELDS;
+    const COMPONENTS: FieldLists = FIELDS;
 
-    ghost COMPONENTS = { fields_of protocol_extension_field_root };
+    ghost COMPONENTS = { fields_of protocol_extension_field_lists };
 
-    ghost components = { protocol_extension_field_root };
+    ghost components = { (protocol_extension_field_lists, refl) };
 
     ghost contents = { λ x.
         Some (whole (pos x.id)) ∷
         Some (⟦<Criticality as AsnType>⟧.value x.criticality) ∷
         Some (octets x.extension_value) ∷
         [] };
-
-    ghost described = { refl };
 }
 
 impl Record for ProtocolExtensionField {

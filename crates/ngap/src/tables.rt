@@ -81,7 +81,8 @@ pub const INITIAL_UE_MESSAGE_IES_UE_CONTEXT_REQUEST: u32 = 112;
 /// In InitialUEMessage-IEs, 121 stands for UserLocationInformation (criticality reject, presence mandatory).
 pub const INITIAL_UE_MESSAGE_IES_USER_LOCATION_INFORMATION: u32 = 121;
 
-/// In InitialUEMessage-IEs, 171 stands for SourceToTarget-AMFInformationReroute (criticality ignore, presence optional).
+/// In InitialUEMessage-IEs, 171 stands for SourceToTarget-AMFInformationReroute (criticality ignore, presence
+/// optional).
 pub const INITIAL_UE_MESSAGE_IES_SOURCE_TO_TARGET_AMF_INFORMATION_REROUTE: u32 = 171;
 
 /// In InitialUEMessage-IEs, 174 stands for PLMNIdentity (criticality ignore, presence optional).

@@ -1,17 +1,11 @@
 //! UeContextReleaseCommand, of the module NGAP-PDU-Contents.
 
-ghost use Rattle.ngap.specs.NgapPduContents.{ue_context_release_command_added, ue_context_release_command_root};
-ghost use Rattle.rasn_below.specs.Components.{extended_by, fields_described, fields_of, parts_of};
-ghost use Rattle.rasn_below.specs.Values.{deeper_of};
-ghost use Rattle.std.specs.Prelude.{Some, [], max, refl, true, ◌∷◌};
+ghost use Rattle.ngap.specs.NgapPduContents.{ue_context_release_command_lists};
+ghost use Rattle.rasn_below.specs.Page.{deeper_of, fields_of};
+ghost use Rattle.std.specs.Prelude.{Some, [], max, refl, ◌∷◌};
 
 use crate::aliases::ProtocolIeContainer;
-use rasn_below::types::Identifier;
-use rasn_below::{
-    AsnType, Constraint, Constraints, Constructed, Decode, Decoder, Encode, Encoder, Extended,
-    ExtendedKind, Fields, OfKind, Tag, added_bounds, added_fields, decode_extended,
-    encode_extended, root_bounds, root_fields,
-};
+use rasn_below::page::*;
 
 /// UEContextReleaseCommand ::= SEQUENCE {
 ///     protocolIEs ProtocolIE-Container,
@@ -22,37 +16,24 @@ pub struct UeContextReleaseCommand {
     pub protocol_ies: ProtocolIeContainer,
 }
 
-macro_rules! components {
-    ($to:ident $($with:ident)*) => {
-        $to! { [$($with)*]
-            required 0 "protocolIEs" protocol_ies: ProtocolIeContainer [SIZE 0..=65_535];
-            ...;
-        }
-    };
-}
+macro_rules! components { ($to:ident $($with:ident)*) => { $to! { [$($with)*]
+    required 0 "protocolIEs" protocol_ies: ProtocolIeContainer [SIZE 0..=65_535];
+    ...;
+} }; }
 
-const FIELDS: Fields = components!(root_fields);
+const FIELDS: FieldLists = components!(fields);
 
-const BOUNDS: &[&[Constraint]] = components!(root_bounds);
+const BOUNDS: Bounds = components!(bounds);
 
-const ADDED_FIELDS: Fields = components!(added_fields);
+impl Components for UeContextReleaseCommand {
+    const COMPONENTS: FieldLists = FIELDS;
 
-const ADDED_BOUNDS: &[&[Constraint]] = components!(added_bounds);
+    ghost COMPONENTS = { fields_of ue_context_release_command_lists };
 
-impl OfKind for UeContextReleaseCommand {
-    type Kind = ExtendedKind;
-}
-
-impl Extended for UeContextReleaseCommand {
-    ghost root = { ue_context_release_command_root };
-
-    ghost additions = { ue_context_release_command_added };
+    ghost components = { (ue_context_release_command_lists, refl) };
 
     ghost contents = { λ x.
         Some (⟦<ProtocolIeContainer as AsnType>⟧.value x.protocol_ies) ∷
-        [] };
-
-    ghost added = { λ x.
         [] };
 
     ghost depth = { λ x. deeper_of
@@ -60,52 +41,12 @@ impl Extended for UeContextReleaseCommand {
         0 };
 }
 
-impl Constructed for UeContextReleaseCommand {
-    const FIELDS: Fields = FIELDS;
-
-    ghost FIELDS = { fields_of ue_context_release_command_root };
-
-    const EXTENDED_FIELDS: Option<Fields> = Some(ADDED_FIELDS);
-
-    ghost EXTENDED_FIELDS = { Some (fields_of ue_context_release_command_added) };
-
-    const IS_EXTENSIBLE: bool = true;
-
-    ghost IS_EXTENSIBLE = { true };
-
-    ghost parts = { parts_of ue_context_release_command_root };
-
-    ghost additions = { parts_of ue_context_release_command_added };
-
-    ghost contents = { ⟦<UeContextReleaseCommand as Extended>⟧.contents };
-
-    ghost added = { ⟦<UeContextReleaseCommand as Extended>⟧.added };
-
-    ghost described = { fields_described ue_context_release_command_root };
-
-    ghost extends = { extended_by ue_context_release_command_added };
-
-    ghost is_record = { λ _. refl };
-}
-
-impl Encode for UeContextReleaseCommand {
-    fn encode_with_tag_and_constraints<E: Encoder>(
-        &self,
-        encoder: &mut E,
-        tag: Tag,
-        _: &Constraints,
-        identifier: Identifier,
-    ) -> Result<(), E::Error> {
-        components!(encode_extended self encoder tag identifier)
+impl Record for UeContextReleaseCommand {
+    fn encode_components<E: Encoder>(&self, encoder: &mut E) -> Result<(), E::Error> {
+        components!(encode_components self encoder)
     }
-}
 
-impl Decode for UeContextReleaseCommand {
-    fn decode_with_tag_and_constraints<D: Decoder>(
-        decoder: &mut D,
-        tag: Tag,
-        _: &Constraints,
-    ) -> Result<UeContextReleaseCommand, D::Error> {
-        components!(decode_extended decoder tag)
+    fn decode_components<D: Decoder>(decoder: &mut D) -> Result<Self, D::Error> {
+        components!(decode_components decoder)
     }
 }

@@ -1,17 +1,12 @@
 //! UnsuccessfulOutcome, of the module NGAP-PDU-Descriptions.
 
-ghost use Rattle.ngap.specs.NgapPduDescriptions.{unsuccessful_outcome_root};
-ghost use Rattle.rasn_below.specs.Components.{fields_of};
-ghost use Rattle.rasn_below.specs.Values.{octets, whole};
+ghost use Rattle.ngap.specs.NgapPduDescriptions.{unsuccessful_outcome_lists};
+ghost use Rattle.rasn_below.specs.Page.{fields_of, octets, whole};
 ghost use Rattle.std.specs.Prelude.{Some, [], pos, refl, ◌∷◌};
 
 use crate::aliases::ProcedureCode;
 use crate::criticality::Criticality;
-use rasn_below::types::Any;
-use rasn_below::{
-    AsnType, Components, Constraint, Decoder, Encoder, Fields, Record, bounds, decode_components,
-    encode_components, fields,
-};
+use rasn_below::page::*;
 
 /// UnsuccessfulOutcome ::= SEQUENCE {
 ///     procedureCode ProcedureCode,
@@ -25,34 +20,28 @@ pub struct UnsuccessfulOutcome {
     pub value: Any,
 }
 
-macro_rules! components {
-    ($to:ident $($with:ident)*) => {
-        $to! { [$($with)*]
-            required 0 "procedureCode" procedure_code: ProcedureCode [0..=255];
-            required 1 "criticality" criticality: Criticality [];
-            required 2 "value" value: Any [];
-        }
-    };
-}
+macro_rules! components { ($to:ident $($with:ident)*) => { $to! { [$($with)*]
+    required 0 "procedureCode" procedure_code: ProcedureCode [0..=255];
+    required 1 "criticality" criticality: Criticality [];
+    required 2 "value" value: Any [];
+} }; }
 
-const FIELDS: Fields = components!(fields);
+const FIELDS: FieldLists = components!(fields);
 
-const BOUNDS: &[&[Constraint]] = components!(bounds);
+const BOUNDS: Bounds = components!(bounds);
 
 impl Components for UnsuccessfulOutcome {
-    const COMPONENTS: Fields = FIELDS;
+    const COMPONENTS: FieldLists = FIELDS;
 
-    ghost COMPONENTS = { fields_of unsuccessful_outcome_root };
+    ghost COMPONENTS = { fields_of unsuccessful_outcome_lists };
 
-    ghost components = { unsuccessful_outcome_root };
+    ghost components = { (unsuccessful_outcome_lists, refl) };
 
     ghost contents = { λ x.
         Some (whole (pos x.procedure_code)) ∷
         Some (⟦<Criticality as AsnType>⟧.value x.criticality) ∷
         Some (octets x.value) ∷
         [] };
-
-    ghost described = { refl };
 }
 
 impl Record for UnsuccessfulOutcome {

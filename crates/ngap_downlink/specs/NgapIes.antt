@@ -1,8 +1,10 @@
 -- The module NGAP-IEs: below each definition in ASN.1 stands what the theorem takes it for.
 use Rattle.ngap.specs.NgapContainers.{protocol_extension_container}
 use Rattle.ngap_ies.specs.NgapIes.{plmn_identity, s_nssai, tac}
-use Rattle.rasn_below.specs.Components.{Component, any, automatic, big, bit_string, extended_sequence, extensible, extensible_enumerated, integer, octet_string, optional, printable_string, sequence_of, size◌to◌, u16, u8, ◌to◌}
-use Rattle.std.specs.Prelude.{List, [], ◌∷◌}
+use Rattle.rasn_below.specs.Page.{Component, TypeLists, any, big, bit_string, extensible, extensible_automatic}
+use Rattle.rasn_below.specs.Page.{extensible_enumerated, integer, octet_string, optional, printable_string, sequence}
+use Rattle.rasn_below.specs.Page.{sequence_of, size◌to◌, u16, u8, ◌to◌}
+use Rattle.std.specs.Prelude.{[], ◌∷◌}
 
 -- IndexToRFSP ::= INTEGER (1..256, ...)
 abbrev pub index_to_rfsp : Component
@@ -26,18 +28,15 @@ rat_restriction_information = bit_string (extensible (size 8 to 8))
 --     iE-Extensions ProtocolExtensionContainer OPTIONAL,
 --     ...
 -- }
-abbrev pub rat_restrictions_item_root : List Component
-rat_restrictions_item_root = automatic (
+abbrev pub rat_restrictions_item_lists : TypeLists
+rat_restrictions_item_lists = extensible_automatic (
     plmn_identity ∷  -- pLMNIdentity
     rat_restriction_information ∷  -- rATRestrictionInformation
     optional protocol_extension_container ∷  -- iE-Extensions
-    [])
-
-abbrev pub rat_restrictions_item_added : List Component
-rat_restrictions_item_added = []
+    []) []
 
 abbrev pub rat_restrictions_item : Component
-rat_restrictions_item = extended_sequence rat_restrictions_item_root rat_restrictions_item_added
+rat_restrictions_item = sequence rat_restrictions_item_lists
 
 -- RATRestrictions ::= SEQUENCE (SIZE (1..16)) OF RATRestrictions-Item
 abbrev pub rat_restrictions : Component
@@ -57,18 +56,15 @@ forbidden_tacs = sequence_of (size 1 to 4096) tac
 --     iE-Extensions ProtocolExtensionContainer OPTIONAL,
 --     ...
 -- }
-abbrev pub forbidden_area_information_item_root : List Component
-forbidden_area_information_item_root = automatic (
+abbrev pub forbidden_area_information_item_lists : TypeLists
+forbidden_area_information_item_lists = extensible_automatic (
     plmn_identity ∷  -- pLMNIdentity
     forbidden_tacs ∷  -- forbiddenTACs
     optional protocol_extension_container ∷  -- iE-Extensions
-    [])
-
-abbrev pub forbidden_area_information_item_added : List Component
-forbidden_area_information_item_added = []
+    []) []
 
 abbrev pub forbidden_area_information_item : Component
-forbidden_area_information_item = extended_sequence forbidden_area_information_item_root forbidden_area_information_item_added
+forbidden_area_information_item = sequence forbidden_area_information_item_lists
 
 -- ForbiddenAreaInformation ::= SEQUENCE (SIZE (1..16)) OF ForbiddenAreaInformation-Item
 abbrev pub forbidden_area_information : Component
@@ -97,19 +93,16 @@ not_allowed_tacs = sequence_of (size 1 to 16) tac
 --     iE-Extensions ProtocolExtensionContainer OPTIONAL,
 --     ...
 -- }
-abbrev pub service_area_information_item_root : List Component
-service_area_information_item_root = automatic (
+abbrev pub service_area_information_item_lists : TypeLists
+service_area_information_item_lists = extensible_automatic (
     plmn_identity ∷  -- pLMNIdentity
     optional allowed_tacs ∷  -- allowedTACs
     optional not_allowed_tacs ∷  -- notAllowedTACs
     optional protocol_extension_container ∷  -- iE-Extensions
-    [])
-
-abbrev pub service_area_information_item_added : List Component
-service_area_information_item_added = []
+    []) []
 
 abbrev pub service_area_information_item : Component
-service_area_information_item = extended_sequence service_area_information_item_root service_area_information_item_added
+service_area_information_item = sequence service_area_information_item_lists
 
 -- ServiceAreaInformation ::= SEQUENCE (SIZE (1..16)) OF ServiceAreaInformation-Item
 abbrev pub service_area_information : Component
@@ -124,21 +117,18 @@ service_area_information = sequence_of (size 1 to 16) service_area_information_i
 --     iE-Extensions ProtocolExtensionContainer OPTIONAL,
 --     ...
 -- }
-abbrev pub mobility_restriction_list_root : List Component
-mobility_restriction_list_root = automatic (
+abbrev pub mobility_restriction_list_lists : TypeLists
+mobility_restriction_list_lists = extensible_automatic (
     plmn_identity ∷  -- servingPLMN
     optional equivalent_plmns ∷  -- equivalentPLMNs
     optional rat_restrictions ∷  -- rATRestrictions
     optional forbidden_area_information ∷  -- forbiddenAreaInformation
     optional service_area_information ∷  -- serviceAreaInformation
     optional protocol_extension_container ∷  -- iE-Extensions
-    [])
-
-abbrev pub mobility_restriction_list_added : List Component
-mobility_restriction_list_added = []
+    []) []
 
 abbrev pub mobility_restriction_list : Component
-mobility_restriction_list = extended_sequence mobility_restriction_list_root mobility_restriction_list_added
+mobility_restriction_list = sequence mobility_restriction_list_lists
 
 -- AMFName ::= PrintableString (SIZE (1..150, ...))
 abbrev pub amf_name : Component
@@ -158,18 +148,15 @@ bit_rate = integer big (extensible (0 to 4000000000000))
 --     iE-Extensions ProtocolExtensionContainer OPTIONAL,
 --     ...
 -- }
-abbrev pub ue_aggregate_maximum_bit_rate_root : List Component
-ue_aggregate_maximum_bit_rate_root = automatic (
+abbrev pub ue_aggregate_maximum_bit_rate_lists : TypeLists
+ue_aggregate_maximum_bit_rate_lists = extensible_automatic (
     bit_rate ∷  -- uEAggregateMaximumBitRateDL
     bit_rate ∷  -- uEAggregateMaximumBitRateUL
     optional protocol_extension_container ∷  -- iE-Extensions
-    [])
-
-abbrev pub ue_aggregate_maximum_bit_rate_added : List Component
-ue_aggregate_maximum_bit_rate_added = []
+    []) []
 
 abbrev pub ue_aggregate_maximum_bit_rate : Component
-ue_aggregate_maximum_bit_rate = extended_sequence ue_aggregate_maximum_bit_rate_root ue_aggregate_maximum_bit_rate_added
+ue_aggregate_maximum_bit_rate = sequence ue_aggregate_maximum_bit_rate_lists
 
 -- UERadioCapability ::= OCTET STRING
 abbrev pub ue_radio_capability : Component
@@ -198,19 +185,16 @@ ue_differentiation_info_periodic_communication_indicator = extensible_enumerated
 --     iE-Extensions ProtocolExtensionContainer OPTIONAL,
 --     ...
 -- }
-abbrev pub scheduled_communication_time_root : List Component
-scheduled_communication_time_root = automatic (
+abbrev pub scheduled_communication_time_lists : TypeLists
+scheduled_communication_time_lists = extensible_automatic (
     optional (bit_string (size 7 to 7)) ∷  -- dayofWeek
     optional (integer big (extensible (0 to 86399))) ∷  -- timeofDayStart
     optional (integer big (extensible (0 to 86399))) ∷  -- timeofDayEnd
     optional protocol_extension_container ∷  -- iE-Extensions
-    [])
-
-abbrev pub scheduled_communication_time_added : List Component
-scheduled_communication_time_added = []
+    []) []
 
 abbrev pub scheduled_communication_time : Component
-scheduled_communication_time = extended_sequence scheduled_communication_time_root scheduled_communication_time_added
+scheduled_communication_time = sequence scheduled_communication_time_lists
 
 -- UE-DifferentiationInfo.stationaryIndication ::= ENUMERATED { stationary(0), mobile(1), ... }
 abbrev pub ue_differentiation_info_stationary_indication : Component
@@ -237,8 +221,8 @@ ue_differentiation_info_battery_indication = extensible_enumerated 3 0
 --     iE-Extensions ProtocolExtensionContainer OPTIONAL,
 --     ...
 -- }
-abbrev pub ue_differentiation_info_root : List Component
-ue_differentiation_info_root = automatic (
+abbrev pub ue_differentiation_info_lists : TypeLists
+ue_differentiation_info_lists = extensible_automatic (
     optional ue_differentiation_info_periodic_communication_indicator ∷  -- periodicCommunicationIndicator
     optional (integer big (extensible (1 to 3600))) ∷  -- periodicTime
     optional scheduled_communication_time ∷  -- scheduledCommunicationTime
@@ -246,13 +230,10 @@ ue_differentiation_info_root = automatic (
     optional ue_differentiation_info_traffic_profile ∷  -- trafficProfile
     optional ue_differentiation_info_battery_indication ∷  -- batteryIndication
     optional protocol_extension_container ∷  -- iE-Extensions
-    [])
-
-abbrev pub ue_differentiation_info_added : List Component
-ue_differentiation_info_added = []
+    []) []
 
 abbrev pub ue_differentiation_info : Component
-ue_differentiation_info = extended_sequence ue_differentiation_info_root ue_differentiation_info_added
+ue_differentiation_info = sequence ue_differentiation_info_lists
 
 -- CEmodeBrestricted ::= ENUMERATED { restricted(0), not-restricted(1), ... }
 abbrev pub c_emode_brestricted : Component
@@ -275,17 +256,14 @@ ue_radio_capability_id = octet_string any
 --     iE-Extensions ProtocolExtensionContainer OPTIONAL,
 --     ...
 -- }
-abbrev pub target_nssai_item_root : List Component
-target_nssai_item_root = automatic (
+abbrev pub target_nssai_item_lists : TypeLists
+target_nssai_item_lists = extensible_automatic (
     s_nssai ∷  -- s-NSSAI
     optional protocol_extension_container ∷  -- iE-Extensions
-    [])
-
-abbrev pub target_nssai_item_added : List Component
-target_nssai_item_added = []
+    []) []
 
 abbrev pub target_nssai_item : Component
-target_nssai_item = extended_sequence target_nssai_item_root target_nssai_item_added
+target_nssai_item = sequence target_nssai_item_lists
 
 -- TargetNSSAI ::= SEQUENCE (SIZE (1..8)) OF TargetNSSAI-Item
 abbrev pub target_nssai : Component
@@ -297,15 +275,12 @@ target_nssai = sequence_of (size 1 to 8) target_nssai_item
 --     iE-Extensions ProtocolExtensionContainer OPTIONAL,
 --     ...
 -- }
-abbrev pub target_nssai_information_root : List Component
-target_nssai_information_root = automatic (
+abbrev pub target_nssai_information_lists : TypeLists
+target_nssai_information_lists = extensible_automatic (
     target_nssai ∷  -- targetNSSAI
     index_to_rfsp ∷  -- indexToRFSP
     optional protocol_extension_container ∷  -- iE-Extensions
-    [])
-
-abbrev pub target_nssai_information_added : List Component
-target_nssai_information_added = []
+    []) []
 
 abbrev pub target_nssai_information : Component
-target_nssai_information = extended_sequence target_nssai_information_root target_nssai_information_added
+target_nssai_information = sequence target_nssai_information_lists

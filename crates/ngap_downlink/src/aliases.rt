@@ -1,14 +1,13 @@
 //! Names for types under constraints, for lists, and for numbers and bits.
 
-ghost use Rattle.rasn_below.specs.Components.{extensible, size◌to◌, ◌to◌};
+ghost use Rattle.rasn_below.specs.Page.{extensible, size◌to◌, ◌to◌};
 
 use crate::forbidden_area_information_item::ForbiddenAreaInformationItem;
 use crate::rat_restrictions_item::RatRestrictionsItem;
 use crate::service_area_information_item::ServiceAreaInformationItem;
 use crate::target_nssai_item::TargetNssaiItem;
 use ngap_ies::aliases::{PlmnIdentity, Tac};
-use rasn_below::types::{BitString, Integer, OctetString, PrintableString};
-use rasn_below::{Constrained, Constraint, Constraints, Limits, constraints};
+use rasn_below::page::*;
 
 /// IndexToRFSP ::= INTEGER (1..256, ...)
 pub type IndexToRfsp = Integer;

@@ -1,12 +1,10 @@
 //! CEmodeBrestricted, of the module NGAP-IEs.
 
-ghost use Rattle.ngap_downlink.specs.declared.c_emode_brestricted.CEmodeBrestricted.TheVariants.{NotRestricted, Restricted};
-ghost use Rattle.rasn_below.specs.Components.{extensible_items};
-ghost use Rattle.rasn_below.specs.Values.{item, root};
+ghost use Rattle.ngap_downlink.specs.declared.c_emode_brestricted.CEmodeBrestricted.TheVariants.{NotRestricted};
+ghost use Rattle.ngap_downlink.specs.declared.c_emode_brestricted.CEmodeBrestricted.TheVariants.{Restricted};
+ghost use Rattle.rasn_below.specs.Page.{extensible_items, item, root};
 
-use rasn_below::{
-    ByKind, EnumeratedKind, ItemCounts, Items, OfKind, Place, item_at, item_counts, place_of_item,
-};
+use rasn_below::page::*;
 
 /// CEmodeBrestricted ::= ENUMERATED { restricted(0), not-restricted(1), ... }
 #[derive(Clone, Copy, Debug, PartialEq, Eq)]
@@ -15,15 +13,11 @@ pub enum CEmodeBrestricted {
     NotRestricted,
 }
 
-macro_rules! items {
-    ($to:ident $($with:ident)*) => {
-        $to! { [$($with)*]
-            Restricted;
-            NotRestricted;
-            ...;
-        }
-    };
-}
+macro_rules! items { ($to:ident $($with:ident)*) => { $to! { [$($with)*]
+    Restricted;
+    NotRestricted;
+    ...;
+} }; }
 
 impl OfKind for CEmodeBrestricted {
     type Kind = EnumeratedKind;

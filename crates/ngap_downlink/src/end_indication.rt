@@ -1,12 +1,10 @@
 //! EndIndication, of the module NGAP-IEs.
 
-ghost use Rattle.ngap_downlink.specs.declared.end_indication.EndIndication.TheVariants.{FurtherDataExists, NoFurtherData};
-ghost use Rattle.rasn_below.specs.Components.{extensible_items};
-ghost use Rattle.rasn_below.specs.Values.{item, root};
+ghost use Rattle.ngap_downlink.specs.declared.end_indication.EndIndication.TheVariants.{FurtherDataExists};
+ghost use Rattle.ngap_downlink.specs.declared.end_indication.EndIndication.TheVariants.{NoFurtherData};
+ghost use Rattle.rasn_below.specs.Page.{extensible_items, item, root};
 
-use rasn_below::{
-    ByKind, EnumeratedKind, ItemCounts, Items, OfKind, Place, item_at, item_counts, place_of_item,
-};
+use rasn_below::page::*;
 
 /// EndIndication ::= ENUMERATED { no-further-data(0), further-data-exists(1), ... }
 #[derive(Clone, Copy, Debug, PartialEq, Eq)]
@@ -15,15 +13,11 @@ pub enum EndIndication {
     FurtherDataExists,
 }
 
-macro_rules! items {
-    ($to:ident $($with:ident)*) => {
-        $to! { [$($with)*]
-            NoFurtherData;
-            FurtherDataExists;
-            ...;
-        }
-    };
-}
+macro_rules! items { ($to:ident $($with:ident)*) => { $to! { [$($with)*]
+    NoFurtherData;
+    FurtherDataExists;
+    ...;
+} }; }
 
 impl OfKind for EndIndication {
     type Kind = EnumeratedKind;

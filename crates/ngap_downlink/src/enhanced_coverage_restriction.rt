@@ -1,12 +1,11 @@
 //! EnhancedCoverageRestriction, of the module NGAP-IEs.
 
-ghost use Rattle.ngap_downlink.specs.declared.enhanced_coverage_restriction.EnhancedCoverageRestriction.TheVariants.{Restricted};
-ghost use Rattle.rasn_below.specs.Components.{extensible_items};
-ghost use Rattle.rasn_below.specs.Values.{item, root};
-
-use rasn_below::{
-    ByKind, EnumeratedKind, ItemCounts, Items, OfKind, Place, item_at, item_counts, place_of_item,
+ghost use Rattle.ngap_downlink.specs.declared.enhanced_coverage_restriction.EnhancedCoverageRestriction.TheVariants.{
+  Restricted,
 };
+ghost use Rattle.rasn_below.specs.Page.{extensible_items, item, root};
+
+use rasn_below::page::*;
 
 /// Enhanced-CoverageRestriction ::= ENUMERATED { restricted(0), ... }
 #[derive(Clone, Copy, Debug, PartialEq, Eq)]
@@ -14,14 +13,10 @@ pub enum EnhancedCoverageRestriction {
     Restricted,
 }
 
-macro_rules! items {
-    ($to:ident $($with:ident)*) => {
-        $to! { [$($with)*]
-            Restricted;
-            ...;
-        }
-    };
-}
+macro_rules! items { ($to:ident $($with:ident)*) => { $to! { [$($with)*]
+    Restricted;
+    ...;
+} }; }
 
 impl OfKind for EnhancedCoverageRestriction {
     type Kind = EnumeratedKind;

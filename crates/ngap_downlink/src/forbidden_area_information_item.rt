@@ -1,19 +1,13 @@
 //! ForbiddenAreaInformationItem, of the module NGAP-IEs.
 
-ghost use Rattle.ngap_downlink.specs.NgapIes.{forbidden_area_information_item_added, forbidden_area_information_item_root};
-ghost use Rattle.rasn_below.specs.Components.{extended_by, fields_described, fields_of, parts_of};
-ghost use Rattle.rasn_below.specs.Values.{deeper_of, octets, slot_levels, slot_of};
-ghost use Rattle.std.specs.Prelude.{Some, [], max, refl, true, ◌∷◌};
+ghost use Rattle.ngap_downlink.specs.NgapIes.{forbidden_area_information_item_lists};
+ghost use Rattle.rasn_below.specs.Page.{deeper_of, fields_of, octets, slot_levels, slot_of};
+ghost use Rattle.std.specs.Prelude.{Some, [], max, refl, ◌∷◌};
 
 use crate::aliases::ForbiddenTacs;
 use ngap::aliases::ProtocolExtensionContainer;
 use ngap_ies::aliases::PlmnIdentity;
-use rasn_below::types::Identifier;
-use rasn_below::{
-    AsnType, Constraint, Constraints, Constructed, Decode, Decoder, Encode, Encoder, Extended,
-    ExtendedKind, Fields, OfKind, Tag, added_bounds, added_fields, decode_extended,
-    encode_extended, root_bounds, root_fields,
-};
+use rasn_below::page::*;
 
 /// ForbiddenAreaInformation-Item ::= SEQUENCE {
 ///     pLMNIdentity PLMNIdentity,
@@ -28,41 +22,28 @@ pub struct ForbiddenAreaInformationItem {
     pub ie_extensions: Option<ProtocolExtensionContainer>,
 }
 
-macro_rules! components {
-    ($to:ident $($with:ident)*) => {
-        $to! { [$($with)*]
-            required 0 "pLMNIdentity" plmn_identity: PlmnIdentity [SIZE 3..=3];
-            required 1 "forbiddenTACs" forbidden_tacs: ForbiddenTacs [SIZE 1..=4096];
-            optional 2 "iE-Extensions" ie_extensions: Option<ProtocolExtensionContainer> [SIZE 1..=65_535];
-            ...;
-        }
-    };
-}
+macro_rules! components { ($to:ident $($with:ident)*) => { $to! { [$($with)*]
+    required 0 "pLMNIdentity" plmn_identity: PlmnIdentity [SIZE 3..=3];
+    required 1 "forbiddenTACs" forbidden_tacs: ForbiddenTacs [SIZE 1..=4096];
+    optional 2 "iE-Extensions" ie_extensions: Option<ProtocolExtensionContainer> [SIZE 1..=65_535];
+    ...;
+} }; }
 
-const FIELDS: Fields = components!(root_fields);
+const FIELDS: FieldLists = components!(fields);
 
-const BOUNDS: &[&[Constraint]] = components!(root_bounds);
+const BOUNDS: Bounds = components!(bounds);
 
-const ADDED_FIELDS: Fields = components!(added_fields);
+impl Components for ForbiddenAreaInformationItem {
+    const COMPONENTS: FieldLists = FIELDS;
 
-const ADDED_BOUNDS: &[&[Constraint]] = components!(added_bounds);
+    ghost COMPONENTS = { fields_of forbidden_area_information_item_lists };
 
-impl OfKind for ForbiddenAreaInformationItem {
-    type Kind = ExtendedKind;
-}
-
-impl Extended for ForbiddenAreaInformationItem {
-    ghost root = { forbidden_area_information_item_root };
-
-    ghost additions = { forbidden_area_information_item_added };
+    ghost components = { (forbidden_area_information_item_lists, refl) };
 
     ghost contents = { λ x.
         Some (octets x.plmn_identity) ∷
         Some (⟦<ForbiddenTacs as AsnType>⟧.value x.forbidden_tacs) ∷
         slot_of ⟦<ProtocolExtensionContainer as AsnType>⟧.value x.ie_extensions ∷
-        [] };
-
-    ghost added = { λ x.
         [] };
 
     ghost depth = { λ x. deeper_of
@@ -72,52 +53,12 @@ impl Extended for ForbiddenAreaInformationItem {
         0 };
 }
 
-impl Constructed for ForbiddenAreaInformationItem {
-    const FIELDS: Fields = FIELDS;
-
-    ghost FIELDS = { fields_of forbidden_area_information_item_root };
-
-    const EXTENDED_FIELDS: Option<Fields> = Some(ADDED_FIELDS);
-
-    ghost EXTENDED_FIELDS = { Some (fields_of forbidden_area_information_item_added) };
-
-    const IS_EXTENSIBLE: bool = true;
-
-    ghost IS_EXTENSIBLE = { true };
-
-    ghost parts = { parts_of forbidden_area_information_item_root };
-
-    ghost additions = { parts_of forbidden_area_information_item_added };
-
-    ghost contents = { ⟦<ForbiddenAreaInformationItem as Extended>⟧.contents };
-
-    ghost added = { ⟦<ForbiddenAreaInformationItem as Extended>⟧.added };
-
-    ghost described = { fields_described forbidden_area_information_item_root };
-
-    ghost extends = { extended_by forbidden_area_information_item_added };
-
-    ghost is_record = { λ _. refl };
-}
-
-impl Encode for ForbiddenAreaInformationItem {
-    fn encode_with_tag_and_constraints<E: Encoder>(
-        &self,
-        encoder: &mut E,
-        tag: Tag,
-        _: &Constraints,
-        identifier: Identifier,
-    ) -> Result<(), E::Error> {
-        components!(encode_extended self encoder tag identifier)
+impl Record for ForbiddenAreaInformationItem {
+    fn encode_components<E: Encoder>(&self, encoder: &mut E) -> Result<(), E::Error> {
+        components!(encode_components self encoder)
     }
-}
 
-impl Decode for ForbiddenAreaInformationItem {
-    fn decode_with_tag_and_constraints<D: Decoder>(
-        decoder: &mut D,
-        tag: Tag,
-        _: &Constraints,
-    ) -> Result<ForbiddenAreaInformationItem, D::Error> {
-        components!(decode_extended decoder tag)
+    fn decode_components<D: Decoder>(decoder: &mut D) -> Result<Self, D::Error> {
+        components!(decode_components decoder)
     }
 }

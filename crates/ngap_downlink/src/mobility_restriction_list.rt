@@ -1,21 +1,15 @@
 //! MobilityRestrictionList, of the module NGAP-IEs.
 
-ghost use Rattle.ngap_downlink.specs.NgapIes.{mobility_restriction_list_added, mobility_restriction_list_root};
-ghost use Rattle.rasn_below.specs.Components.{extended_by, fields_described, fields_of, parts_of};
-ghost use Rattle.rasn_below.specs.Values.{deeper_of, octets, slot_levels, slot_of};
-ghost use Rattle.std.specs.Prelude.{Some, [], max, refl, true, ◌∷◌};
+ghost use Rattle.ngap_downlink.specs.NgapIes.{mobility_restriction_list_lists};
+ghost use Rattle.rasn_below.specs.Page.{deeper_of, fields_of, octets, slot_levels, slot_of};
+ghost use Rattle.std.specs.Prelude.{Some, [], max, refl, ◌∷◌};
 
 use crate::aliases::{
     EquivalentPlmns, ForbiddenAreaInformation, RatRestrictions, ServiceAreaInformation,
 };
 use ngap::aliases::ProtocolExtensionContainer;
 use ngap_ies::aliases::PlmnIdentity;
-use rasn_below::types::Identifier;
-use rasn_below::{
-    AsnType, Constraint, Constraints, Constructed, Decode, Decoder, Encode, Encoder, Extended,
-    ExtendedKind, Fields, OfKind, Tag, added_bounds, added_fields, decode_extended,
-    encode_extended, root_bounds, root_fields,
-};
+use rasn_below::page::*;
 
 /// MobilityRestrictionList ::= SEQUENCE {
 ///     servingPLMN PLMNIdentity,
@@ -36,37 +30,26 @@ pub struct MobilityRestrictionList {
     pub ie_extensions: Option<ProtocolExtensionContainer>,
 }
 
-macro_rules! components {
-    ($to:ident $($with:ident)*) => {
-        $to! { [$($with)*]
-            required 0 "servingPLMN" serving_plmn: PlmnIdentity [SIZE 3..=3];
-            optional 1 "equivalentPLMNs" equivalent_plmns: Option<EquivalentPlmns> [SIZE 1..=15];
-            optional 2 "rATRestrictions" rat_restrictions: Option<RatRestrictions> [SIZE 1..=16];
-            optional 3 "forbiddenAreaInformation" forbidden_area_information: Option<ForbiddenAreaInformation> [SIZE
-                1..=16];
-            optional 4 "serviceAreaInformation" service_area_information: Option<ServiceAreaInformation> [SIZE 1..=16];
-            optional 5 "iE-Extensions" ie_extensions: Option<ProtocolExtensionContainer> [SIZE 1..=65_535];
-            ...;
-        }
-    };
-}
+macro_rules! components { ($to:ident $($with:ident)*) => { $to! { [$($with)*]
+    required 0 "servingPLMN" serving_plmn: PlmnIdentity [SIZE 3..=3];
+    optional 1 "equivalentPLMNs" equivalent_plmns: Option<EquivalentPlmns> [SIZE 1..=15];
+    optional 2 "rATRestrictions" rat_restrictions: Option<RatRestrictions> [SIZE 1..=16];
+    optional 3 "forbiddenAreaInformation" forbidden_area_information: Option<ForbiddenAreaInformation> [SIZE 1..=16];
+    optional 4 "serviceAreaInformation" service_area_information: Option<ServiceAreaInformation> [SIZE 1..=16];
+    optional 5 "iE-Extensions" ie_extensions: Option<ProtocolExtensionContainer> [SIZE 1..=65_535];
+    ...;
+} }; }
 
-const FIELDS: Fields = components!(root_fields);
+const FIELDS: FieldLists = components!(fields);
 
-const BOUNDS: &[&[Constraint]] = components!(root_bounds);
+const BOUNDS: Bounds = components!(bounds);
 
-const ADDED_FIELDS: Fields = components!(added_fields);
+impl Components for MobilityRestrictionList {
+    const COMPONENTS: FieldLists = FIELDS;
 
-const ADDED_BOUNDS: &[&[Constraint]] = components!(added_bounds);
+    ghost COMPONENTS = { fields_of mobility_restriction_list_lists };
 
-impl OfKind for MobilityRestrictionList {
-    type Kind = ExtendedKind;
-}
-
-impl Extended for MobilityRestrictionList {
-    ghost root = { mobility_restriction_list_root };
-
-    ghost additions = { mobility_restriction_list_added };
+    ghost components = { (mobility_restriction_list_lists, refl) };
 
     ghost contents = { λ x.
         Some (octets x.serving_plmn) ∷
@@ -75,9 +58,6 @@ impl Extended for MobilityRestrictionList {
         slot_of ⟦<ForbiddenAreaInformation as AsnType>⟧.value x.forbidden_area_information ∷
         slot_of ⟦<ServiceAreaInformation as AsnType>⟧.value x.service_area_information ∷
         slot_of ⟦<ProtocolExtensionContainer as AsnType>⟧.value x.ie_extensions ∷
-        [] };
-
-    ghost added = { λ x.
         [] };
 
     ghost depth = { λ x. deeper_of
@@ -90,52 +70,12 @@ impl Extended for MobilityRestrictionList {
         0 };
 }
 
-impl Constructed for MobilityRestrictionList {
-    const FIELDS: Fields = FIELDS;
-
-    ghost FIELDS = { fields_of mobility_restriction_list_root };
-
-    const EXTENDED_FIELDS: Option<Fields> = Some(ADDED_FIELDS);
-
-    ghost EXTENDED_FIELDS = { Some (fields_of mobility_restriction_list_added) };
-
-    const IS_EXTENSIBLE: bool = true;
-
-    ghost IS_EXTENSIBLE = { true };
-
-    ghost parts = { parts_of mobility_restriction_list_root };
-
-    ghost additions = { parts_of mobility_restriction_list_added };
-
-    ghost contents = { ⟦<MobilityRestrictionList as Extended>⟧.contents };
-
-    ghost added = { ⟦<MobilityRestrictionList as Extended>⟧.added };
-
-    ghost described = { fields_described mobility_restriction_list_root };
-
-    ghost extends = { extended_by mobility_restriction_list_added };
-
-    ghost is_record = { λ _. refl };
-}
-
-impl Encode for MobilityRestrictionList {
-    fn encode_with_tag_and_constraints<E: Encoder>(
-        &self,
-        encoder: &mut E,
-        tag: Tag,
-        _: &Constraints,
-        identifier: Identifier,
-    ) -> Result<(), E::Error> {
-        components!(encode_extended self encoder tag identifier)
+impl Record for MobilityRestrictionList {
+    fn encode_components<E: Encoder>(&self, encoder: &mut E) -> Result<(), E::Error> {
+        components!(encode_components self encoder)
     }
-}
 
-impl Decode for MobilityRestrictionList {
-    fn decode_with_tag_and_constraints<D: Decoder>(
-        decoder: &mut D,
-        tag: Tag,
-        _: &Constraints,
-    ) -> Result<MobilityRestrictionList, D::Error> {
-        components!(decode_extended decoder tag)
+    fn decode_components<D: Decoder>(decoder: &mut D) -> Result<Self, D::Error> {
+        components!(decode_components decoder)
     }
 }

@@ -1,12 +1,10 @@
 //! SrvccOperationPossible, of the module NGAP-IEs.
 
-ghost use Rattle.ngap_downlink.specs.declared.srvcc_operation_possible.SrvccOperationPossible.TheVariants.{NotPossible, Possible};
-ghost use Rattle.rasn_below.specs.Components.{extensible_items};
-ghost use Rattle.rasn_below.specs.Values.{item, root};
+ghost use Rattle.ngap_downlink.specs.declared.srvcc_operation_possible.SrvccOperationPossible.TheVariants.{NotPossible};
+ghost use Rattle.ngap_downlink.specs.declared.srvcc_operation_possible.SrvccOperationPossible.TheVariants.{Possible};
+ghost use Rattle.rasn_below.specs.Page.{extensible_items, item, root};
 
-use rasn_below::{
-    ByKind, EnumeratedKind, ItemCounts, Items, OfKind, Place, item_at, item_counts, place_of_item,
-};
+use rasn_below::page::*;
 
 /// SRVCCOperationPossible ::= ENUMERATED { possible(0), notPossible(1), ... }
 #[derive(Clone, Copy, Debug, PartialEq, Eq)]
@@ -15,15 +13,11 @@ pub enum SrvccOperationPossible {
     NotPossible,
 }
 
-macro_rules! items {
-    ($to:ident $($with:ident)*) => {
-        $to! { [$($with)*]
-            Possible;
-            NotPossible;
-            ...;
-        }
-    };
-}
+macro_rules! items { ($to:ident $($with:ident)*) => { $to! { [$($with)*]
+    Possible;
+    NotPossible;
+    ...;
+} }; }
 
 impl OfKind for SrvccOperationPossible {
     type Kind = EnumeratedKind;

@@ -1,18 +1,12 @@
 //! TargetNssaiInformation, of the module NGAP-IEs.
 
-ghost use Rattle.ngap_downlink.specs.NgapIes.{target_nssai_information_added, target_nssai_information_root};
-ghost use Rattle.rasn_below.specs.Components.{extended_by, fields_described, fields_of, parts_of};
-ghost use Rattle.rasn_below.specs.Values.{deeper_of, slot_levels, slot_of, whole};
-ghost use Rattle.std.specs.Prelude.{Some, [], max, refl, true, ◌∷◌};
+ghost use Rattle.ngap_downlink.specs.NgapIes.{target_nssai_information_lists};
+ghost use Rattle.rasn_below.specs.Page.{deeper_of, fields_of, slot_levels, slot_of, whole};
+ghost use Rattle.std.specs.Prelude.{Some, [], max, refl, ◌∷◌};
 
 use crate::aliases::{IndexToRfsp, TargetNssai};
 use ngap::aliases::ProtocolExtensionContainer;
-use rasn_below::types::Identifier;
-use rasn_below::{
-    AsnType, Constraint, Constraints, Constructed, Decode, Decoder, Encode, Encoder, Extended,
-    ExtendedKind, Fields, OfKind, Tag, added_bounds, added_fields, decode_extended,
-    encode_extended, root_bounds, root_fields,
-};
+use rasn_below::page::*;
 
 /// TargetNSSAIInformation ::= SEQUENCE {
 ///     targetNSSAI TargetNSSAI,
@@ -27,41 +21,28 @@ pub struct TargetNssaiInformation {
     pub ie_extensions: Option<ProtocolExtensionContainer>,
 }
 
-macro_rules! components {
-    ($to:ident $($with:ident)*) => {
-        $to! { [$($with)*]
-            required 0 "targetNSSAI" target_nssai: TargetNssai [SIZE 1..=8];
-            required 1 "indexToRFSP" index_to_rfsp: IndexToRfsp [1..=256, ...];
-            optional 2 "iE-Extensions" ie_extensions: Option<ProtocolExtensionContainer> [SIZE 1..=65_535];
-            ...;
-        }
-    };
-}
+macro_rules! components { ($to:ident $($with:ident)*) => { $to! { [$($with)*]
+    required 0 "targetNSSAI" target_nssai: TargetNssai [SIZE 1..=8];
+    required 1 "indexToRFSP" index_to_rfsp: IndexToRfsp [1..=256, ...];
+    optional 2 "iE-Extensions" ie_extensions: Option<ProtocolExtensionContainer> [SIZE 1..=65_535];
+    ...;
+} }; }
 
-const FIELDS: Fields = components!(root_fields);
+const FIELDS: FieldLists = components!(fields);
 
-const BOUNDS: &[&[Constraint]] = components!(root_bounds);
+const BOUNDS: Bounds = components!(bounds);
 
-const ADDED_FIELDS: Fields = components!(added_fields);
+impl Components for TargetNssaiInformation {
+    const COMPONENTS: FieldLists = FIELDS;
 
-const ADDED_BOUNDS: &[&[Constraint]] = components!(added_bounds);
+    ghost COMPONENTS = { fields_of target_nssai_information_lists };
 
-impl OfKind for TargetNssaiInformation {
-    type Kind = ExtendedKind;
-}
-
-impl Extended for TargetNssaiInformation {
-    ghost root = { target_nssai_information_root };
-
-    ghost additions = { target_nssai_information_added };
+    ghost components = { (target_nssai_information_lists, refl) };
 
     ghost contents = { λ x.
         Some (⟦<TargetNssai as AsnType>⟧.value x.target_nssai) ∷
         Some (whole x.index_to_rfsp) ∷
         slot_of ⟦<ProtocolExtensionContainer as AsnType>⟧.value x.ie_extensions ∷
-        [] };
-
-    ghost added = { λ x.
         [] };
 
     ghost depth = { λ x. deeper_of
@@ -71,52 +52,12 @@ impl Extended for TargetNssaiInformation {
         0 };
 }
 
-impl Constructed for TargetNssaiInformation {
-    const FIELDS: Fields = FIELDS;
-
-    ghost FIELDS = { fields_of target_nssai_information_root };
-
-    const EXTENDED_FIELDS: Option<Fields> = Some(ADDED_FIELDS);
-
-    ghost EXTENDED_FIELDS = { Some (fields_of target_nssai_information_added) };
-
-    const IS_EXTENSIBLE: bool = true;
-
-    ghost IS_EXTENSIBLE = { true };
-
-    ghost parts = { parts_of target_nssai_information_root };
-
-    ghost additions = { parts_of target_nssai_information_added };
-
-    ghost contents = { ⟦<TargetNssaiInformation as Extended>⟧.contents };
-
-    ghost added = { ⟦<TargetNssaiInformation as Extended>⟧.added };
-
-    ghost described = { fields_described target_nssai_information_root };
-
-    ghost extends = { extended_by target_nssai_information_added };
-
-    ghost is_record = { λ _. refl };
-}
-
-impl Encode for TargetNssaiInformation {
-    fn encode_with_tag_and_constraints<E: Encoder>(
-        &self,
-        encoder: &mut E,
-        tag: Tag,
-        _: &Constraints,
-        identifier: Identifier,
-    ) -> Result<(), E::Error> {
-        components!(encode_extended self encoder tag identifier)
+impl Record for TargetNssaiInformation {
+    fn encode_components<E: Encoder>(&self, encoder: &mut E) -> Result<(), E::Error> {
+        components!(encode_components self encoder)
     }
-}
 
-impl Decode for TargetNssaiInformation {
-    fn decode_with_tag_and_constraints<D: Decoder>(
-        decoder: &mut D,
-        tag: Tag,
-        _: &Constraints,
-    ) -> Result<TargetNssaiInformation, D::Error> {
-        components!(decode_extended decoder tag)
+    fn decode_components<D: Decoder>(decoder: &mut D) -> Result<Self, D::Error> {
+        components!(decode_components decoder)
     }
 }

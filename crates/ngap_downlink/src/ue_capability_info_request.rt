@@ -1,12 +1,11 @@
 //! UeCapabilityInfoRequest, of the module NGAP-IEs.
 
-ghost use Rattle.ngap_downlink.specs.declared.ue_capability_info_request.UeCapabilityInfoRequest.TheVariants.{Requested};
-ghost use Rattle.rasn_below.specs.Components.{extensible_items};
-ghost use Rattle.rasn_below.specs.Values.{item, root};
-
-use rasn_below::{
-    ByKind, EnumeratedKind, ItemCounts, Items, OfKind, Place, item_at, item_counts, place_of_item,
+ghost use Rattle.ngap_downlink.specs.declared.ue_capability_info_request.UeCapabilityInfoRequest.TheVariants.{
+  Requested,
 };
+ghost use Rattle.rasn_below.specs.Page.{extensible_items, item, root};
+
+use rasn_below::page::*;
 
 /// UECapabilityInfoRequest ::= ENUMERATED { requested(0), ... }
 #[derive(Clone, Copy, Debug, PartialEq, Eq)]
@@ -14,14 +13,10 @@ pub enum UeCapabilityInfoRequest {
     Requested,
 }
 
-macro_rules! items {
-    ($to:ident $($with:ident)*) => {
-        $to! { [$($with)*]
-            Requested;
-            ...;
-        }
-    };
-}
+macro_rules! items { ($to:ident $($with:ident)*) => { $to! { [$($with)*]
+    Requested;
+    ...;
+} }; }
 
 impl OfKind for UeCapabilityInfoRequest {
     type Kind = EnumeratedKind;

@@ -1,9 +1,8 @@
 //! UeDifferentiationInfo, of the module NGAP-IEs.
 
-ghost use Rattle.ngap_downlink.specs.NgapIes.{ue_differentiation_info_added, ue_differentiation_info_root};
-ghost use Rattle.rasn_below.specs.Components.{extended_by, fields_described, fields_of, parts_of};
-ghost use Rattle.rasn_below.specs.Values.{deeper_of, slot_levels, slot_of, whole};
-ghost use Rattle.std.specs.Prelude.{Some, [], max, refl, true, ◌∷◌};
+ghost use Rattle.ngap_downlink.specs.NgapIes.{ue_differentiation_info_lists};
+ghost use Rattle.rasn_below.specs.Page.{deeper_of, fields_of, slot_levels, slot_of, whole};
+ghost use Rattle.std.specs.Prelude.{[], max, refl, ◌∷◌};
 
 use crate::scheduled_communication_time::ScheduledCommunicationTime;
 use crate::ue_differentiation_info_battery_indication::UeDifferentiationInfoBatteryIndication;
@@ -11,12 +10,7 @@ use crate::ue_differentiation_info_periodic_communication_indicator::UeDifferent
 use crate::ue_differentiation_info_stationary_indication::UeDifferentiationInfoStationaryIndication;
 use crate::ue_differentiation_info_traffic_profile::UeDifferentiationInfoTrafficProfile;
 use ngap::aliases::ProtocolExtensionContainer;
-use rasn_below::types::{Identifier, Integer};
-use rasn_below::{
-    AsnType, Constraint, Constraints, Constructed, Decode, Decoder, Encode, Encoder, Extended,
-    ExtendedKind, Fields, OfKind, Tag, added_bounds, added_fields, decode_extended,
-    encode_extended, root_bounds, root_fields,
-};
+use rasn_below::page::*;
 
 /// UE-DifferentiationInfo ::= SEQUENCE {
 ///     periodicCommunicationIndicator ENUMERATED { periodically(0), ondemand(1), ... } OPTIONAL,
@@ -42,39 +36,28 @@ pub struct UeDifferentiationInfo {
     pub ie_extensions: Option<ProtocolExtensionContainer>,
 }
 
-macro_rules! components {
-    ($to:ident $($with:ident)*) => {
-        $to! { [$($with)*]
-            optional 0 "periodicCommunicationIndicator" periodic_communication_indicator:
-                Option<UeDifferentiationInfoPeriodicCommunicationIndicator> [];
-            optional 1 "periodicTime" periodic_time: Option<Integer> [1..=3600, ...];
-            optional 2 "scheduledCommunicationTime" scheduled_communication_time: Option<ScheduledCommunicationTime> [];
-            optional 3 "stationaryIndication" stationary_indication: Option<UeDifferentiationInfoStationaryIndication>
-                [];
-            optional 4 "trafficProfile" traffic_profile: Option<UeDifferentiationInfoTrafficProfile> [];
-            optional 5 "batteryIndication" battery_indication: Option<UeDifferentiationInfoBatteryIndication> [];
-            optional 6 "iE-Extensions" ie_extensions: Option<ProtocolExtensionContainer> [SIZE 1..=65_535];
-            ...;
-        }
-    };
-}
+macro_rules! components { ($to:ident $($with:ident)*) => { $to! { [$($with)*]
+    optional 0 "periodicCommunicationIndicator" periodic_communication_indicator:
+        Option<UeDifferentiationInfoPeriodicCommunicationIndicator> [];
+    optional 1 "periodicTime" periodic_time: Option<Integer> [1..=3600, ...];
+    optional 2 "scheduledCommunicationTime" scheduled_communication_time: Option<ScheduledCommunicationTime> [];
+    optional 3 "stationaryIndication" stationary_indication: Option<UeDifferentiationInfoStationaryIndication> [];
+    optional 4 "trafficProfile" traffic_profile: Option<UeDifferentiationInfoTrafficProfile> [];
+    optional 5 "batteryIndication" battery_indication: Option<UeDifferentiationInfoBatteryIndication> [];
+    optional 6 "iE-Extensions" ie_extensions: Option<ProtocolExtensionContainer> [SIZE 1..=65_535];
+    ...;
+} }; }
 
-const FIELDS: Fields = components!(root_fields);
+const FIELDS: FieldLists = components!(fields);
 
-const BOUNDS: &[&[Constraint]] = components!(root_bounds);
+const BOUNDS: Bounds = components!(bounds);
 
-const ADDED_FIELDS: Fields = components!(added_fields);
+impl Components for UeDifferentiationInfo {
+    const COMPONENTS: FieldLists = FIELDS;
 
-const ADDED_BOUNDS: &[&[Constraint]] = components!(added_bounds);
+    ghost COMPONENTS = { fields_of ue_differentiation_info_lists };
 
-impl OfKind for UeDifferentiationInfo {
-    type Kind = ExtendedKind;
-}
-
-impl Extended for UeDifferentiationInfo {
-    ghost root = { ue_differentiation_info_root };
-
-    ghost additions = { ue_differentiation_info_added };
+    ghost components = { (ue_differentiation_info_lists, refl) };
 
     ghost contents = { λ x.
         slot_of ⟦<UeDifferentiationInfoPeriodicCommunicationIndicator as AsnType>⟧.value
@@ -85,9 +68,6 @@ impl Extended for UeDifferentiationInfo {
         slot_of ⟦<UeDifferentiationInfoTrafficProfile as AsnType>⟧.value x.traffic_profile ∷
         slot_of ⟦<UeDifferentiationInfoBatteryIndication as AsnType>⟧.value x.battery_indication ∷
         slot_of ⟦<ProtocolExtensionContainer as AsnType>⟧.value x.ie_extensions ∷
-        [] };
-
-    ghost added = { λ x.
         [] };
 
     ghost depth = { λ x. deeper_of
@@ -102,52 +82,12 @@ impl Extended for UeDifferentiationInfo {
         0 };
 }
 
-impl Constructed for UeDifferentiationInfo {
-    const FIELDS: Fields = FIELDS;
-
-    ghost FIELDS = { fields_of ue_differentiation_info_root };
-
-    const EXTENDED_FIELDS: Option<Fields> = Some(ADDED_FIELDS);
-
-    ghost EXTENDED_FIELDS = { Some (fields_of ue_differentiation_info_added) };
-
-    const IS_EXTENSIBLE: bool = true;
-
-    ghost IS_EXTENSIBLE = { true };
-
-    ghost parts = { parts_of ue_differentiation_info_root };
-
-    ghost additions = { parts_of ue_differentiation_info_added };
-
-    ghost contents = { ⟦<UeDifferentiationInfo as Extended>⟧.contents };
-
-    ghost added = { ⟦<UeDifferentiationInfo as Extended>⟧.added };
-
-    ghost described = { fields_described ue_differentiation_info_root };
-
-    ghost extends = { extended_by ue_differentiation_info_added };
-
-    ghost is_record = { λ _. refl };
-}
-
-impl Encode for UeDifferentiationInfo {
-    fn encode_with_tag_and_constraints<E: Encoder>(
-        &self,
-        encoder: &mut E,
-        tag: Tag,
-        _: &Constraints,
-        identifier: Identifier,
-    ) -> Result<(), E::Error> {
-        components!(encode_extended self encoder tag identifier)
+impl Record for UeDifferentiationInfo {
+    fn encode_components<E: Encoder>(&self, encoder: &mut E) -> Result<(), E::Error> {
+        components!(encode_components self encoder)
     }
-}
 
-impl Decode for UeDifferentiationInfo {
-    fn decode_with_tag_and_constraints<D: Decoder>(
-        decoder: &mut D,
-        tag: Tag,
-        _: &Constraints,
-    ) -> Result<UeDifferentiationInfo, D::Error> {
-        components!(decode_extended decoder tag)
+    fn decode_components<D: Decoder>(decoder: &mut D) -> Result<Self, D::Error> {
+        components!(decode_components decoder)
     }
 }

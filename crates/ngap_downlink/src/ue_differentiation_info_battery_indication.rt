@@ -1,12 +1,17 @@
 //! UeDifferentiationInfoBatteryIndication, of the module NGAP-IEs.
 
-ghost use Rattle.ngap_downlink.specs.declared.ue_differentiation_info_battery_indication.UeDifferentiationInfoBatteryIndication.TheVariants.{BatteryPowered, BatteryPoweredNotRechargeableOrReplaceable, NotBatteryPowered};
-ghost use Rattle.rasn_below.specs.Components.{extensible_items};
-ghost use Rattle.rasn_below.specs.Values.{item, root};
-
-use rasn_below::{
-    ByKind, EnumeratedKind, ItemCounts, Items, OfKind, Place, item_at, item_counts, place_of_item,
+ghost use Rattle.ngap_downlink.specs.declared.ue_differentiation_info_battery_indication.UeDifferentiationInfoBatteryIndication.TheVariants.{
+  BatteryPowered,
 };
+ghost use Rattle.ngap_downlink.specs.declared.ue_differentiation_info_battery_indication.UeDifferentiationInfoBatteryIndication.TheVariants.{
+  BatteryPoweredNotRechargeableOrReplaceable,
+};
+ghost use Rattle.ngap_downlink.specs.declared.ue_differentiation_info_battery_indication.UeDifferentiationInfoBatteryIndication.TheVariants.{
+  NotBatteryPowered,
+};
+ghost use Rattle.rasn_below.specs.Page.{extensible_items, item, root};
+
+use rasn_below::page::*;
 
 /// UE-DifferentiationInfo.batteryIndication ::= ENUMERATED { battery-powered(0),
 ///     battery-powered-not-rechargeable-or-replaceable(1), not-battery-powered(2), ... }
@@ -17,16 +22,12 @@ pub enum UeDifferentiationInfoBatteryIndication {
     NotBatteryPowered,
 }
 
-macro_rules! items {
-    ($to:ident $($with:ident)*) => {
-        $to! { [$($with)*]
-            BatteryPowered;
-            BatteryPoweredNotRechargeableOrReplaceable;
-            NotBatteryPowered;
-            ...;
-        }
-    };
-}
+macro_rules! items { ($to:ident $($with:ident)*) => { $to! { [$($with)*]
+    BatteryPowered;
+    BatteryPoweredNotRechargeableOrReplaceable;
+    NotBatteryPowered;
+    ...;
+} }; }
 
 impl OfKind for UeDifferentiationInfoBatteryIndication {
     type Kind = EnumeratedKind;

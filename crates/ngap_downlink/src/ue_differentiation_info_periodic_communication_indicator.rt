@@ -1,12 +1,14 @@
 //! UeDifferentiationInfoPeriodicCommunicationIndicator, of the module NGAP-IEs.
 
-ghost use Rattle.ngap_downlink.specs.declared.ue_differentiation_info_periodic_communication_indicator.UeDifferentiationInfoPeriodicCommunicationIndicator.TheVariants.{Ondemand, Periodically};
-ghost use Rattle.rasn_below.specs.Components.{extensible_items};
-ghost use Rattle.rasn_below.specs.Values.{item, root};
-
-use rasn_below::{
-    ByKind, EnumeratedKind, ItemCounts, Items, OfKind, Place, item_at, item_counts, place_of_item,
+ghost use Rattle.ngap_downlink.specs.declared.ue_differentiation_info_periodic_communication_indicator.UeDifferentiationInfoPeriodicCommunicationIndicator.TheVariants.{
+  Ondemand,
 };
+ghost use Rattle.ngap_downlink.specs.declared.ue_differentiation_info_periodic_communication_indicator.UeDifferentiationInfoPeriodicCommunicationIndicator.TheVariants.{
+  Periodically,
+};
+ghost use Rattle.rasn_below.specs.Page.{extensible_items, item, root};
+
+use rasn_below::page::*;
 
 /// UE-DifferentiationInfo.periodicCommunicationIndicator ::= ENUMERATED { periodically(0), ondemand(1), ... }
 #[derive(Clone, Copy, Debug, PartialEq, Eq)]
@@ -15,15 +17,11 @@ pub enum UeDifferentiationInfoPeriodicCommunicationIndicator {
     Ondemand,
 }
 
-macro_rules! items {
-    ($to:ident $($with:ident)*) => {
-        $to! { [$($with)*]
-            Periodically;
-            Ondemand;
-            ...;
-        }
-    };
-}
+macro_rules! items { ($to:ident $($with:ident)*) => { $to! { [$($with)*]
+    Periodically;
+    Ondemand;
+    ...;
+} }; }
 
 impl OfKind for UeDifferentiationInfoPeriodicCommunicationIndicator {
     type Kind = EnumeratedKind;

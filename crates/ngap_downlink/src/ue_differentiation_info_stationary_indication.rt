@@ -1,12 +1,14 @@
 //! UeDifferentiationInfoStationaryIndication, of the module NGAP-IEs.
 
-ghost use Rattle.ngap_downlink.specs.declared.ue_differentiation_info_stationary_indication.UeDifferentiationInfoStationaryIndication.TheVariants.{Mobile, Stationary};
-ghost use Rattle.rasn_below.specs.Components.{extensible_items};
-ghost use Rattle.rasn_below.specs.Values.{item, root};
-
-use rasn_below::{
-    ByKind, EnumeratedKind, ItemCounts, Items, OfKind, Place, item_at, item_counts, place_of_item,
+ghost use Rattle.ngap_downlink.specs.declared.ue_differentiation_info_stationary_indication.UeDifferentiationInfoStationaryIndication.TheVariants.{
+  Mobile,
 };
+ghost use Rattle.ngap_downlink.specs.declared.ue_differentiation_info_stationary_indication.UeDifferentiationInfoStationaryIndication.TheVariants.{
+  Stationary,
+};
+ghost use Rattle.rasn_below.specs.Page.{extensible_items, item, root};
+
+use rasn_below::page::*;
 
 /// UE-DifferentiationInfo.stationaryIndication ::= ENUMERATED { stationary(0), mobile(1), ... }
 #[derive(Clone, Copy, Debug, PartialEq, Eq)]
@@ -15,15 +17,11 @@ pub enum UeDifferentiationInfoStationaryIndication {
     Mobile,
 }
 
-macro_rules! items {
-    ($to:ident $($with:ident)*) => {
-        $to! { [$($with)*]
-            Stationary;
-            Mobile;
-            ...;
-        }
-    };
-}
+macro_rules! items { ($to:ident $($with:ident)*) => { $to! { [$($with)*]
+    Stationary;
+    Mobile;
+    ...;
+} }; }
 
 impl OfKind for UeDifferentiationInfoStationaryIndication {
     type Kind = EnumeratedKind;

@@ -1,12 +1,17 @@
 //! UeDifferentiationInfoTrafficProfile, of the module NGAP-IEs.
 
-ghost use Rattle.ngap_downlink.specs.declared.ue_differentiation_info_traffic_profile.UeDifferentiationInfoTrafficProfile.TheVariants.{DualPackets, MultiplePackets, SinglePacket};
-ghost use Rattle.rasn_below.specs.Components.{extensible_items};
-ghost use Rattle.rasn_below.specs.Values.{item, root};
-
-use rasn_below::{
-    ByKind, EnumeratedKind, ItemCounts, Items, OfKind, Place, item_at, item_counts, place_of_item,
+ghost use Rattle.ngap_downlink.specs.declared.ue_differentiation_info_traffic_profile.UeDifferentiationInfoTrafficProfile.TheVariants.{
+  DualPackets,
 };
+ghost use Rattle.ngap_downlink.specs.declared.ue_differentiation_info_traffic_profile.UeDifferentiationInfoTrafficProfile.TheVariants.{
+  MultiplePackets,
+};
+ghost use Rattle.ngap_downlink.specs.declared.ue_differentiation_info_traffic_profile.UeDifferentiationInfoTrafficProfile.TheVariants.{
+  SinglePacket,
+};
+ghost use Rattle.rasn_below.specs.Page.{extensible_items, item, root};
+
+use rasn_below::page::*;
 
 /// UE-DifferentiationInfo.trafficProfile ::= ENUMERATED { single-packet(0), dual-packets(1), multiple-packets(2),
 ///     ... }
@@ -17,16 +22,12 @@ pub enum UeDifferentiationInfoTrafficProfile {
     MultiplePackets,
 }
 
-macro_rules! items {
-    ($to:ident $($with:ident)*) => {
-        $to! { [$($with)*]
-            SinglePacket;
-            DualPackets;
-            MultiplePackets;
-            ...;
-        }
-    };
-}
+macro_rules! items { ($to:ident $($with:ident)*) => { $to! { [$($with)*]
+    SinglePacket;
+    DualPackets;
+    MultiplePackets;
+    ...;
+} }; }
 
 impl OfKind for UeDifferentiationInfoTrafficProfile {
     type Kind = EnumeratedKind;

@@ -1,7 +1,9 @@
 -- The module NGAP-IEs: below each definition in ASN.1 stands what the theorem takes it for.
 use Rattle.ngap.specs.NgapContainers.{protocol_extension_container, protocol_ie_single_container}
-use Rattle.rasn_below.specs.Components.{Component, any, automatic, choice, extended_sequence, extensible_enumerated, integer, octet_string, optional, sequence_of, size◌to◌, u32, u64, ◌to◌}
-use Rattle.std.specs.Prelude.{List, [], ◌∷◌}
+use Rattle.rasn_below.specs.Page.{Component, TypeLists, any, automatic, choice, extensible_automatic}
+use Rattle.rasn_below.specs.Page.{extensible_enumerated, integer, octet_string, optional, sequence, sequence_of}
+use Rattle.rasn_below.specs.Page.{size◌to◌, u32, u64, ◌to◌}
+use Rattle.std.specs.Prelude.{[], ◌∷◌}
 
 -- SST ::= OCTET STRING (SIZE (1))
 abbrev pub sst : Component
@@ -17,35 +19,29 @@ sd = octet_string (size 3 to 3)
 --     iE-Extensions ProtocolExtensionContainer OPTIONAL,
 --     ...
 -- }
-abbrev pub s_nssai_root : List Component
-s_nssai_root = automatic (
+abbrev pub s_nssai_lists : TypeLists
+s_nssai_lists = extensible_automatic (
     sst ∷  -- sST
     optional sd ∷  -- sD
     optional protocol_extension_container ∷  -- iE-Extensions
-    [])
-
-abbrev pub s_nssai_added : List Component
-s_nssai_added = []
+    []) []
 
 abbrev pub s_nssai : Component
-s_nssai = extended_sequence s_nssai_root s_nssai_added
+s_nssai = sequence s_nssai_lists
 
 -- AllowedNSSAI-Item ::= SEQUENCE {
 --     s-NSSAI S-NSSAI,
 --     iE-Extensions ProtocolExtensionContainer OPTIONAL,
 --     ...
 -- }
-abbrev pub allowed_nssai_item_root : List Component
-allowed_nssai_item_root = automatic (
+abbrev pub allowed_nssai_item_lists : TypeLists
+allowed_nssai_item_lists = extensible_automatic (
     s_nssai ∷  -- s-NSSAI
     optional protocol_extension_container ∷  -- iE-Extensions
-    [])
-
-abbrev pub allowed_nssai_item_added : List Component
-allowed_nssai_item_added = []
+    []) []
 
 abbrev pub allowed_nssai_item : Component
-allowed_nssai_item = extended_sequence allowed_nssai_item_root allowed_nssai_item_added
+allowed_nssai_item = sequence allowed_nssai_item_lists
 
 -- AllowedNSSAI ::= SEQUENCE (SIZE (1..8)) OF AllowedNSSAI-Item
 abbrev pub allowed_nssai : Component
@@ -118,8 +114,8 @@ cause_misc = extensible_enumerated 6 0
 --     misc CauseMisc,
 --     choice-Extensions ProtocolIE-SingleContainer
 -- }
-abbrev pub cause_root : List Component
-cause_root = automatic (
+abbrev pub cause_lists : TypeLists
+cause_lists = automatic (
     cause_radio_network ∷  -- radioNetwork
     cause_transport ∷  -- transport
     cause_nas ∷  -- nas
@@ -129,7 +125,7 @@ cause_root = automatic (
     [])
 
 abbrev pub cause : Component
-cause = choice cause_root
+cause = choice cause_lists
 
 -- AMF-UE-NGAP-ID ::= INTEGER (0..1099511627775)
 abbrev pub amf_ue_ngap_id : Component
@@ -141,30 +137,27 @@ amf_ue_ngap_id = integer u64 (0 to 1099511627775)
 --     iE-Extensions ProtocolExtensionContainer OPTIONAL,
 --     ...
 -- }
-abbrev pub ue_ngap_id_pair_root : List Component
-ue_ngap_id_pair_root = automatic (
+abbrev pub ue_ngap_id_pair_lists : TypeLists
+ue_ngap_id_pair_lists = extensible_automatic (
     amf_ue_ngap_id ∷  -- aMF-UE-NGAP-ID
     ran_ue_ngap_id ∷  -- rAN-UE-NGAP-ID
     optional protocol_extension_container ∷  -- iE-Extensions
-    [])
-
-abbrev pub ue_ngap_id_pair_added : List Component
-ue_ngap_id_pair_added = []
+    []) []
 
 abbrev pub ue_ngap_id_pair : Component
-ue_ngap_id_pair = extended_sequence ue_ngap_id_pair_root ue_ngap_id_pair_added
+ue_ngap_id_pair = sequence ue_ngap_id_pair_lists
 
 -- UE-NGAP-IDs ::= CHOICE {
 --     uE-NGAP-ID-pair UE-NGAP-ID-pair,
 --     aMF-UE-NGAP-ID AMF-UE-NGAP-ID,
 --     choice-Extensions ProtocolIE-SingleContainer
 -- }
-abbrev pub ue_ngap_ids_root : List Component
-ue_ngap_ids_root = automatic (
+abbrev pub ue_ngap_ids_lists : TypeLists
+ue_ngap_ids_lists = automatic (
     ue_ngap_id_pair ∷  -- uE-NGAP-ID-pair
     amf_ue_ngap_id ∷  -- aMF-UE-NGAP-ID
     protocol_ie_single_container ∷  -- choice-Extensions
     [])
 
 abbrev pub ue_ngap_ids : Component
-ue_ngap_ids = choice ue_ngap_ids_root
+ue_ngap_ids = choice ue_ngap_ids_lists

@@ -1,10 +1,9 @@
 //! Names for types under constraints, for lists, and for numbers and bits.
 
-ghost use Rattle.rasn_below.specs.Components.{size◌to◌, ◌to◌};
+ghost use Rattle.rasn_below.specs.Page.{size◌to◌, ◌to◌};
 
 use crate::allowed_nssai_item::AllowedNssaiItem;
-use rasn_below::types::OctetString;
-use rasn_below::{Constrained, Constraint, Constraints, Limits, constraints};
+use rasn_below::page::*;
 
 /// SST ::= OCTET STRING (SIZE (1))
 pub type Sst = OctetString;

@@ -1,18 +1,12 @@
 //! AllowedNssaiItem, of the module NGAP-IEs.
 
-ghost use Rattle.ngap_ies.specs.NgapIes.{allowed_nssai_item_added, allowed_nssai_item_root};
-ghost use Rattle.rasn_below.specs.Components.{extended_by, fields_described, fields_of, parts_of};
-ghost use Rattle.rasn_below.specs.Values.{deeper_of, slot_levels, slot_of};
-ghost use Rattle.std.specs.Prelude.{Some, [], max, refl, true, ◌∷◌};
+ghost use Rattle.ngap_ies.specs.NgapIes.{allowed_nssai_item_lists};
+ghost use Rattle.rasn_below.specs.Page.{deeper_of, fields_of, slot_levels, slot_of};
+ghost use Rattle.std.specs.Prelude.{Some, [], max, refl, ◌∷◌};
 
 use crate::s_nssai::SNssai;
 use ngap::aliases::ProtocolExtensionContainer;
-use rasn_below::types::Identifier;
-use rasn_below::{
-    AsnType, Constraint, Constraints, Constructed, Decode, Decoder, Encode, Encoder, Extended,
-    ExtendedKind, Fields, OfKind, Tag, added_bounds, added_fields, decode_extended,
-    encode_extended, root_bounds, root_fields,
-};
+use rasn_below::page::*;
 
 /// AllowedNSSAI-Item ::= SEQUENCE {
 ///     s-NSSAI S-NSSAI,
@@ -25,39 +19,26 @@ pub struct AllowedNssaiItem {
     pub ie_extensions: Option<ProtocolExtensionContainer>,
 }
 
-macro_rules! components {
-    ($to:ident $($with:ident)*) => {
-        $to! { [$($with)*]
-            required 0 "s-NSSAI" s_nssai: SNssai [];
-            optional 1 "iE-Extensions" ie_extensions: Option<ProtocolExtensionContainer> [SIZE 1..=65_535];
-            ...;
-        }
-    };
-}
+macro_rules! components { ($to:ident $($with:ident)*) => { $to! { [$($with)*]
+    required 0 "s-NSSAI" s_nssai: SNssai [];
+    optional 1 "iE-Extensions" ie_extensions: Option<ProtocolExtensionContainer> [SIZE 1..=65_535];
+    ...;
+} }; }
 
-const FIELDS: Fields = components!(root_fields);
+const FIELDS: FieldLists = components!(fields);
 
-const BOUNDS: &[&[Constraint]] = components!(root_bounds);
+const BOUNDS: Bounds = components!(bounds);
 
-const ADDED_FIELDS: Fields = components!(added_fields);
+impl Components for AllowedNssaiItem {
+    const COMPONENTS: FieldLists = FIELDS;
 
-const ADDED_BOUNDS: &[&[Constraint]] = components!(added_bounds);
+    ghost COMPONENTS = { fields_of allowed_nssai_item_lists };
 
-impl OfKind for AllowedNssaiItem {
-    type Kind = ExtendedKind;
-}
-
-impl Extended for AllowedNssaiItem {
-    ghost root = { allowed_nssai_item_root };
-
-    ghost additions = { allowed_nssai_item_added };
+    ghost components = { (allowed_nssai_item_lists, refl) };
 
     ghost contents = { λ x.
         Some (⟦<SNssai as AsnType>⟧.value x.s_nssai) ∷
         slot_of ⟦<ProtocolExtensionContainer as AsnType>⟧.value x.ie_extensions ∷
-        [] };
-
-    ghost added = { λ x.
         [] };
 
     ghost depth = { λ x. deeper_of
@@ -66,52 +47,12 @@ impl Extended for AllowedNssaiItem {
         0 };
 }
 
-impl Constructed for AllowedNssaiItem {
-    const FIELDS: Fields = FIELDS;
-
-    ghost FIELDS = { fields_of allowed_nssai_item_root };
-
-    const EXTENDED_FIELDS: Option<Fields> = Some(ADDED_FIELDS);
-
-    ghost EXTENDED_FIELDS = { Some (fields_of allowed_nssai_item_added) };
-
-    const IS_EXTENSIBLE: bool = true;
-
-    ghost IS_EXTENSIBLE = { true };
-
-    ghost parts = { parts_of allowed_nssai_item_root };
-
-    ghost additions = { parts_of allowed_nssai_item_added };
-
-    ghost contents = { ⟦<AllowedNssaiItem as Extended>⟧.contents };
-
-    ghost added = { ⟦<AllowedNssaiItem as Extended>⟧.added };
-
-    ghost described = { fields_described allowed_nssai_item_root };
-
-    ghost extends = { extended_by allowed_nssai_item_added };
-
-    ghost is_record = { λ _. refl };
-}
-
-impl Encode for AllowedNssaiItem {
-    fn encode_with_tag_and_constraints<E: Encoder>(
-        &self,
-        encoder: &mut E,
-        tag: Tag,
-        _: &Constraints,
-        identifier: Identifier,
-    ) -> Result<(), E::Error> {
-        components!(encode_extended self encoder tag identifier)
+impl Record for AllowedNssaiItem {
+    fn encode_components<E: Encoder>(&self, encoder: &mut E) -> Result<(), E::Error> {
+        components!(encode_components self encoder)
     }
-}
 
-impl Decode for AllowedNssaiItem {
-    fn decode_with_tag_and_constraints<D: Decoder>(
-        decoder: &mut D,
-        tag: Tag,
-        _: &Constraints,
-    ) -> Result<AllowedNssaiItem, D::Error> {
-        components!(decode_extended decoder tag)
+    fn decode_components<D: Decoder>(decoder: &mut D) -> Result<Self, D::Error> {
+        components!(decode_components decoder)
     }
 }

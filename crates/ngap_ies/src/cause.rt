@@ -1,9 +1,10 @@
 //! Cause, of the module NGAP-IEs.
 
-ghost use Rattle.ngap_ies.specs.NgapIes.{cause_root};
-ghost use Rattle.ngap_ies.specs.declared.cause.Cause.TheVariants.{ChoiceExtensions, Misc, Nas, Protocol, RadioNetwork, Transport};
-ghost use Rattle.rasn_below.specs.Components.{chosen, variants_in};
-ghost use Rattle.std.specs.Prelude.{None, refl};
+ghost use Rattle.ngap_ies.specs.NgapIes.{cause_lists};
+ghost use Rattle.ngap_ies.specs.declared.cause.Cause.TheVariants.{ChoiceExtensions, Misc, Nas, Protocol, RadioNetwork};
+ghost use Rattle.ngap_ies.specs.declared.cause.Cause.TheVariants.{Transport};
+ghost use Rattle.rasn_below.specs.Page.{chosen, variants_listed};
+ghost use Rattle.std.specs.Prelude.{refl};
 
 use crate::cause_misc::CauseMisc;
 use crate::cause_nas::CauseNas;
@@ -11,10 +12,7 @@ use crate::cause_protocol::CauseProtocol;
 use crate::cause_radio_network::CauseRadioNetwork;
 use crate::cause_transport::CauseTransport;
 use ngap::aliases::ProtocolIeSingleContainer;
-use rasn_below::{
-    Alternatives, AsnType, ByKind, ChoiceKind, CodedAlternatives, Constraint, Decoder, Encoder,
-    OfKind, Tag, Variants, alternative_bounds, decode_alternative, encode_alternative, variants,
-};
+use rasn_below::page::*;
 
 /// Cause ::= CHOICE {
 ///     radioNetwork CauseRadioNetwork,
@@ -34,37 +32,29 @@ pub enum Cause {
     ChoiceExtensions(ProtocolIeSingleContainer),
 }
 
-macro_rules! alternatives {
-    ($to:ident $($with:ident)*) => {
-        $to! { [$($with)*]
-            0 "radioNetwork" RadioNetwork: CauseRadioNetwork [];
-            1 "transport" Transport: CauseTransport [];
-            2 "nas" Nas: CauseNas [];
-            3 "protocol" Protocol: CauseProtocol [];
-            4 "misc" Misc: CauseMisc [];
-            5 "choice-Extensions" ChoiceExtensions: ProtocolIeSingleContainer [];
-        }
-    };
-}
+macro_rules! alternatives { ($to:ident $($with:ident)*) => { $to! { [$($with)*]
+    0 "radioNetwork" RadioNetwork: CauseRadioNetwork [];
+    1 "transport" Transport: CauseTransport [];
+    2 "nas" Nas: CauseNas [];
+    3 "protocol" Protocol: CauseProtocol [];
+    4 "misc" Misc: CauseMisc [];
+    5 "choice-Extensions" ChoiceExtensions: ProtocolIeSingleContainer [];
+} }; }
 
-const VARIANTS: Variants = alternatives!(variants);
+const VARIANTS: VariantLists = alternatives!(variants);
 
-const BOUNDS: &[&[Constraint]] = alternatives!(alternative_bounds);
+const BOUNDS: Bounds = alternatives!(alternative_bounds);
 
 impl OfKind for Cause {
     type Kind = ChoiceKind;
 }
 
 impl Alternatives for Cause {
-    const ALTERNATIVES: Variants = VARIANTS;
+    const ALTERNATIVES: VariantLists = VARIANTS;
 
-    ghost ALTERNATIVES = { variants_in cause_root };
+    ghost ALTERNATIVES = { variants_listed cause_lists };
 
-    const ADDED_ALTERNATIVES: Option<Variants> = None;
-
-    ghost ADDED_ALTERNATIVES = { None };
-
-    ghost alternatives = { cause_root };
+    ghost alternatives = { (cause_lists, refl) };
 
     ghost chosen = { elim [
       | RadioNetwork v ↦ chosen 0 (⟦<CauseRadioNetwork as AsnType>⟧.value v)
@@ -76,10 +66,6 @@ impl Alternatives for Cause {
     ] };
 
     ghost depth = { λ _. 1 };
-
-    ghost described = { refl };
-
-    ghost extends = { refl };
 
     ghost are_variants = { record { distinct = refl; few = refl } };
 }

@@ -1,12 +1,12 @@
 //! CauseMisc, of the module NGAP-IEs.
 
-ghost use Rattle.ngap_ies.specs.declared.cause_misc.CauseMisc.TheVariants.{ControlProcessingOverload, HardwareFailure, NotEnoughUserPlaneProcessingResources, OmIntervention, UnknownPlmnOrSnpn, Unspecified};
-ghost use Rattle.rasn_below.specs.Components.{extensible_items};
-ghost use Rattle.rasn_below.specs.Values.{item, root};
+ghost use Rattle.ngap_ies.specs.declared.cause_misc.CauseMisc.TheVariants.{ControlProcessingOverload, HardwareFailure};
+ghost use Rattle.ngap_ies.specs.declared.cause_misc.CauseMisc.TheVariants.{NotEnoughUserPlaneProcessingResources};
+ghost use Rattle.ngap_ies.specs.declared.cause_misc.CauseMisc.TheVariants.{OmIntervention, UnknownPlmnOrSnpn};
+ghost use Rattle.ngap_ies.specs.declared.cause_misc.CauseMisc.TheVariants.{Unspecified};
+ghost use Rattle.rasn_below.specs.Page.{extensible_items, item, root};
 
-use rasn_below::{
-    ByKind, EnumeratedKind, ItemCounts, Items, OfKind, Place, item_at, item_counts, place_of_item,
-};
+use rasn_below::page::*;
 
 /// CauseMisc ::= ENUMERATED { control-processing-overload(0), not-enough-user-plane-processing-resources(1),
 ///     hardware-failure(2), om-intervention(3), unknown-PLMN-or-SNPN(4), unspecified(5), ... }
@@ -20,19 +20,15 @@ pub enum CauseMisc {
     Unspecified,
 }
 
-macro_rules! items {
-    ($to:ident $($with:ident)*) => {
-        $to! { [$($with)*]
-            ControlProcessingOverload;
-            NotEnoughUserPlaneProcessingResources;
-            HardwareFailure;
-            OmIntervention;
-            UnknownPlmnOrSnpn;
-            Unspecified;
-            ...;
-        }
-    };
-}
+macro_rules! items { ($to:ident $($with:ident)*) => { $to! { [$($with)*]
+    ControlProcessingOverload;
+    NotEnoughUserPlaneProcessingResources;
+    HardwareFailure;
+    OmIntervention;
+    UnknownPlmnOrSnpn;
+    Unspecified;
+    ...;
+} }; }
 
 impl OfKind for CauseMisc {
     type Kind = EnumeratedKind;

@@ -1,12 +1,11 @@
 //! CauseNas, of the module NGAP-IEs.
 
-ghost use Rattle.ngap_ies.specs.declared.cause_nas.CauseNas.TheVariants.{AuthenticationFailure, Deregister, NormalRelease, UeNotInPlmnServingArea, Unspecified};
-ghost use Rattle.rasn_below.specs.Components.{extensible_items};
-ghost use Rattle.rasn_below.specs.Values.{added, item, root};
+ghost use Rattle.ngap_ies.specs.declared.cause_nas.CauseNas.TheVariants.{AuthenticationFailure, Deregister};
+ghost use Rattle.ngap_ies.specs.declared.cause_nas.CauseNas.TheVariants.{NormalRelease, UeNotInPlmnServingArea};
+ghost use Rattle.ngap_ies.specs.declared.cause_nas.CauseNas.TheVariants.{Unspecified};
+ghost use Rattle.rasn_below.specs.Page.{added, extensible_items, item, root};
 
-use rasn_below::{
-    ByKind, EnumeratedKind, ItemCounts, Items, OfKind, Place, item_at, item_counts, place_of_item,
-};
+use rasn_below::page::*;
 
 /// CauseNas ::= ENUMERATED { normal-release(0), authentication-failure(1), deregister(2), unspecified(3), ...,
 ///     uE-not-in-PLMN-serving-area(4) }
@@ -19,18 +18,14 @@ pub enum CauseNas {
     UeNotInPlmnServingArea,
 }
 
-macro_rules! items {
-    ($to:ident $($with:ident)*) => {
-        $to! { [$($with)*]
-            NormalRelease;
-            AuthenticationFailure;
-            Deregister;
-            Unspecified;
-            ...;
-            UeNotInPlmnServingArea;
-        }
-    };
-}
+macro_rules! items { ($to:ident $($with:ident)*) => { $to! { [$($with)*]
+    NormalRelease;
+    AuthenticationFailure;
+    Deregister;
+    Unspecified;
+    ...;
+    UeNotInPlmnServingArea;
+} }; }
 
 impl OfKind for CauseNas {
     type Kind = EnumeratedKind;

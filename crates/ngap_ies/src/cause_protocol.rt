@@ -1,12 +1,18 @@
 //! CauseProtocol, of the module NGAP-IEs.
 
-ghost use Rattle.ngap_ies.specs.declared.cause_protocol.CauseProtocol.TheVariants.{AbstractSyntaxErrorFalselyConstructedMessage, AbstractSyntaxErrorIgnoreAndNotify, AbstractSyntaxErrorReject, MessageNotCompatibleWithReceiverState, SemanticError, TransferSyntaxError, Unspecified};
-ghost use Rattle.rasn_below.specs.Components.{extensible_items};
-ghost use Rattle.rasn_below.specs.Values.{item, root};
-
-use rasn_below::{
-    ByKind, EnumeratedKind, ItemCounts, Items, OfKind, Place, item_at, item_counts, place_of_item,
+ghost use Rattle.ngap_ies.specs.declared.cause_protocol.CauseProtocol.TheVariants.{
+  AbstractSyntaxErrorFalselyConstructedMessage,
 };
+ghost use Rattle.ngap_ies.specs.declared.cause_protocol.CauseProtocol.TheVariants.{AbstractSyntaxErrorIgnoreAndNotify};
+ghost use Rattle.ngap_ies.specs.declared.cause_protocol.CauseProtocol.TheVariants.{AbstractSyntaxErrorReject};
+ghost use Rattle.ngap_ies.specs.declared.cause_protocol.CauseProtocol.TheVariants.{
+  MessageNotCompatibleWithReceiverState,
+};
+ghost use Rattle.ngap_ies.specs.declared.cause_protocol.CauseProtocol.TheVariants.{SemanticError, TransferSyntaxError};
+ghost use Rattle.ngap_ies.specs.declared.cause_protocol.CauseProtocol.TheVariants.{Unspecified};
+ghost use Rattle.rasn_below.specs.Page.{extensible_items, item, root};
+
+use rasn_below::page::*;
 
 /// CauseProtocol ::= ENUMERATED { transfer-syntax-error(0), abstract-syntax-error-reject(1),
 ///     abstract-syntax-error-ignore-and-notify(2), message-not-compatible-with-receiver-state(3),
@@ -22,20 +28,16 @@ pub enum CauseProtocol {
     Unspecified,
 }
 
-macro_rules! items {
-    ($to:ident $($with:ident)*) => {
-        $to! { [$($with)*]
-            TransferSyntaxError;
-            AbstractSyntaxErrorReject;
-            AbstractSyntaxErrorIgnoreAndNotify;
-            MessageNotCompatibleWithReceiverState;
-            SemanticError;
-            AbstractSyntaxErrorFalselyConstructedMessage;
-            Unspecified;
-            ...;
-        }
-    };
-}
+macro_rules! items { ($to:ident $($with:ident)*) => { $to! { [$($with)*]
+    TransferSyntaxError;
+    AbstractSyntaxErrorReject;
+    AbstractSyntaxErrorIgnoreAndNotify;
+    MessageNotCompatibleWithReceiverState;
+    SemanticError;
+    AbstractSyntaxErrorFalselyConstructedMessage;
+    Unspecified;
+    ...;
+} }; }
 
 impl OfKind for CauseProtocol {
     type Kind = EnumeratedKind;

@@ -1,12 +1,101 @@
 //! CauseRadioNetwork, of the module NGAP-IEs.
 
-ghost use Rattle.ngap_ies.specs.declared.cause_radio_network.CauseRadioNetwork.TheVariants.{CagOnlyAccessDenied, CellNotAvailable, EncryptionAndOrIntegrityProtectionAlgorithmsNotSupported, FailureInRadioInterfaceProcedure, HandoverCancelled, HandoverDesirableForRadioReason, HoFailureInTarget5GcNgranNodeOrTargetSystem, HoTargetNotAllowed, ImsVoiceEpsFallbackOrRatFallbackTriggered, InconsistentRemoteUeNgapId, InsufficientUeCapabilities, InteractionWithOtherProcedure, InvalidQosCombination, MultipleLocationReportingReferenceIdInstances, MultiplePduSessionIdInstances, MultipleQosFlowIdInstances, N26InterfaceNotAvailable, NgInterSystemHandoverTriggered, NgIntraSystemHandoverTriggered, NoRadioResourcesAvailableInTargetCell, NotSupported5QiValue, NpnAccessDenied, PartialHandover, RadioConnectionWithUeLost, RadioResourcesNotAvailable, RedcapUeNotSupported, Redirection, ReduceLoadInServingCell, ReleaseDueTo5GcGeneratedReason, ReleaseDueToCnDetectedMobility, ReleaseDueToNgranGeneratedReason, ReleaseDueToPreEmption, ResourceOptimisationHandover, ResourcesNotAvailableForTheSlice, RsnNotAvailableForTheUp, SliceNotSupported, SuccessfulHandover, TimeCriticalHandover, TngrelocoverallExpiry, TngrelocprepExpiry, TxnrelocoverallExpiry, UeContextTransfer, UeInRrcInactiveStateNotReachable, UeMaxIntegrityProtectedDataRateReason, UnknownLocalUeNgapId, UnknownPduSessionId, UnknownTargetId, UnkownQosFlowId, Unspecified, UpConfidentialityProtectionNotPossible, UpIntegrityProtectionNotPossible, UserInactivity, XnHandoverTriggered};
-ghost use Rattle.rasn_below.specs.Components.{extensible_items};
-ghost use Rattle.rasn_below.specs.Values.{added, item, root};
-
-use rasn_below::{
-    ByKind, EnumeratedKind, ItemCounts, Items, OfKind, Place, item_at, item_counts, place_of_item,
+ghost use Rattle.ngap_ies.specs.declared.cause_radio_network.CauseRadioNetwork.TheVariants.{CagOnlyAccessDenied};
+ghost use Rattle.ngap_ies.specs.declared.cause_radio_network.CauseRadioNetwork.TheVariants.{CellNotAvailable};
+ghost use Rattle.ngap_ies.specs.declared.cause_radio_network.CauseRadioNetwork.TheVariants.{
+  EncryptionAndOrIntegrityProtectionAlgorithmsNotSupported,
 };
+ghost use Rattle.ngap_ies.specs.declared.cause_radio_network.CauseRadioNetwork.TheVariants.{
+  FailureInRadioInterfaceProcedure,
+};
+ghost use Rattle.ngap_ies.specs.declared.cause_radio_network.CauseRadioNetwork.TheVariants.{HandoverCancelled};
+ghost use Rattle.ngap_ies.specs.declared.cause_radio_network.CauseRadioNetwork.TheVariants.{
+  HandoverDesirableForRadioReason,
+};
+ghost use Rattle.ngap_ies.specs.declared.cause_radio_network.CauseRadioNetwork.TheVariants.{
+  HoFailureInTarget5GcNgranNodeOrTargetSystem,
+};
+ghost use Rattle.ngap_ies.specs.declared.cause_radio_network.CauseRadioNetwork.TheVariants.{HoTargetNotAllowed};
+ghost use Rattle.ngap_ies.specs.declared.cause_radio_network.CauseRadioNetwork.TheVariants.{
+  ImsVoiceEpsFallbackOrRatFallbackTriggered,
+};
+ghost use Rattle.ngap_ies.specs.declared.cause_radio_network.CauseRadioNetwork.TheVariants.{InconsistentRemoteUeNgapId};
+ghost use Rattle.ngap_ies.specs.declared.cause_radio_network.CauseRadioNetwork.TheVariants.{InsufficientUeCapabilities};
+ghost use Rattle.ngap_ies.specs.declared.cause_radio_network.CauseRadioNetwork.TheVariants.{
+  InteractionWithOtherProcedure,
+};
+ghost use Rattle.ngap_ies.specs.declared.cause_radio_network.CauseRadioNetwork.TheVariants.{InvalidQosCombination};
+ghost use Rattle.ngap_ies.specs.declared.cause_radio_network.CauseRadioNetwork.TheVariants.{
+  MultipleLocationReportingReferenceIdInstances,
+};
+ghost use Rattle.ngap_ies.specs.declared.cause_radio_network.CauseRadioNetwork.TheVariants.{
+  MultiplePduSessionIdInstances,
+};
+ghost use Rattle.ngap_ies.specs.declared.cause_radio_network.CauseRadioNetwork.TheVariants.{MultipleQosFlowIdInstances};
+ghost use Rattle.ngap_ies.specs.declared.cause_radio_network.CauseRadioNetwork.TheVariants.{N26InterfaceNotAvailable};
+ghost use Rattle.ngap_ies.specs.declared.cause_radio_network.CauseRadioNetwork.TheVariants.{
+  NgInterSystemHandoverTriggered,
+};
+ghost use Rattle.ngap_ies.specs.declared.cause_radio_network.CauseRadioNetwork.TheVariants.{
+  NgIntraSystemHandoverTriggered,
+};
+ghost use Rattle.ngap_ies.specs.declared.cause_radio_network.CauseRadioNetwork.TheVariants.{
+  NoRadioResourcesAvailableInTargetCell,
+};
+ghost use Rattle.ngap_ies.specs.declared.cause_radio_network.CauseRadioNetwork.TheVariants.{NotSupported5QiValue};
+ghost use Rattle.ngap_ies.specs.declared.cause_radio_network.CauseRadioNetwork.TheVariants.{NpnAccessDenied};
+ghost use Rattle.ngap_ies.specs.declared.cause_radio_network.CauseRadioNetwork.TheVariants.{PartialHandover};
+ghost use Rattle.ngap_ies.specs.declared.cause_radio_network.CauseRadioNetwork.TheVariants.{RadioConnectionWithUeLost};
+ghost use Rattle.ngap_ies.specs.declared.cause_radio_network.CauseRadioNetwork.TheVariants.{RadioResourcesNotAvailable};
+ghost use Rattle.ngap_ies.specs.declared.cause_radio_network.CauseRadioNetwork.TheVariants.{RedcapUeNotSupported};
+ghost use Rattle.ngap_ies.specs.declared.cause_radio_network.CauseRadioNetwork.TheVariants.{Redirection};
+ghost use Rattle.ngap_ies.specs.declared.cause_radio_network.CauseRadioNetwork.TheVariants.{ReduceLoadInServingCell};
+ghost use Rattle.ngap_ies.specs.declared.cause_radio_network.CauseRadioNetwork.TheVariants.{
+  ReleaseDueTo5GcGeneratedReason,
+};
+ghost use Rattle.ngap_ies.specs.declared.cause_radio_network.CauseRadioNetwork.TheVariants.{
+  ReleaseDueToCnDetectedMobility,
+};
+ghost use Rattle.ngap_ies.specs.declared.cause_radio_network.CauseRadioNetwork.TheVariants.{
+  ReleaseDueToNgranGeneratedReason,
+};
+ghost use Rattle.ngap_ies.specs.declared.cause_radio_network.CauseRadioNetwork.TheVariants.{ReleaseDueToPreEmption};
+ghost use Rattle.ngap_ies.specs.declared.cause_radio_network.CauseRadioNetwork.TheVariants.{
+  ResourceOptimisationHandover,
+};
+ghost use Rattle.ngap_ies.specs.declared.cause_radio_network.CauseRadioNetwork.TheVariants.{
+  ResourcesNotAvailableForTheSlice,
+};
+ghost use Rattle.ngap_ies.specs.declared.cause_radio_network.CauseRadioNetwork.TheVariants.{RsnNotAvailableForTheUp};
+ghost use Rattle.ngap_ies.specs.declared.cause_radio_network.CauseRadioNetwork.TheVariants.{SliceNotSupported};
+ghost use Rattle.ngap_ies.specs.declared.cause_radio_network.CauseRadioNetwork.TheVariants.{SuccessfulHandover};
+ghost use Rattle.ngap_ies.specs.declared.cause_radio_network.CauseRadioNetwork.TheVariants.{TimeCriticalHandover};
+ghost use Rattle.ngap_ies.specs.declared.cause_radio_network.CauseRadioNetwork.TheVariants.{TngrelocoverallExpiry};
+ghost use Rattle.ngap_ies.specs.declared.cause_radio_network.CauseRadioNetwork.TheVariants.{TngrelocprepExpiry};
+ghost use Rattle.ngap_ies.specs.declared.cause_radio_network.CauseRadioNetwork.TheVariants.{TxnrelocoverallExpiry};
+ghost use Rattle.ngap_ies.specs.declared.cause_radio_network.CauseRadioNetwork.TheVariants.{UeContextTransfer};
+ghost use Rattle.ngap_ies.specs.declared.cause_radio_network.CauseRadioNetwork.TheVariants.{
+  UeInRrcInactiveStateNotReachable,
+};
+ghost use Rattle.ngap_ies.specs.declared.cause_radio_network.CauseRadioNetwork.TheVariants.{
+  UeMaxIntegrityProtectedDataRateReason,
+};
+ghost use Rattle.ngap_ies.specs.declared.cause_radio_network.CauseRadioNetwork.TheVariants.{UnknownLocalUeNgapId};
+ghost use Rattle.ngap_ies.specs.declared.cause_radio_network.CauseRadioNetwork.TheVariants.{UnknownPduSessionId};
+ghost use Rattle.ngap_ies.specs.declared.cause_radio_network.CauseRadioNetwork.TheVariants.{UnknownTargetId};
+ghost use Rattle.ngap_ies.specs.declared.cause_radio_network.CauseRadioNetwork.TheVariants.{UnkownQosFlowId};
+ghost use Rattle.ngap_ies.specs.declared.cause_radio_network.CauseRadioNetwork.TheVariants.{Unspecified};
+ghost use Rattle.ngap_ies.specs.declared.cause_radio_network.CauseRadioNetwork.TheVariants.{
+  UpConfidentialityProtectionNotPossible,
+};
+ghost use Rattle.ngap_ies.specs.declared.cause_radio_network.CauseRadioNetwork.TheVariants.{
+  UpIntegrityProtectionNotPossible,
+};
+ghost use Rattle.ngap_ies.specs.declared.cause_radio_network.CauseRadioNetwork.TheVariants.{UserInactivity};
+ghost use Rattle.ngap_ies.specs.declared.cause_radio_network.CauseRadioNetwork.TheVariants.{XnHandoverTriggered};
+ghost use Rattle.rasn_below.specs.Page.{added, extensible_items, item, root};
+
+use rasn_below::page::*;
 
 /// CauseRadioNetwork ::= ENUMERATED { unspecified(0), txnrelocoverall-expiry(1), successful-handover(2),
 ///     release-due-to-ngran-generated-reason(3), release-due-to-5gc-generated-reason(4), handover-cancelled(5),
@@ -85,66 +174,62 @@ pub enum CauseRadioNetwork {
     RedcapUeNotSupported,
 }
 
-macro_rules! items {
-    ($to:ident $($with:ident)*) => {
-        $to! { [$($with)*]
-            Unspecified;
-            TxnrelocoverallExpiry;
-            SuccessfulHandover;
-            ReleaseDueToNgranGeneratedReason;
-            ReleaseDueTo5GcGeneratedReason;
-            HandoverCancelled;
-            PartialHandover;
-            HoFailureInTarget5GcNgranNodeOrTargetSystem;
-            HoTargetNotAllowed;
-            TngrelocoverallExpiry;
-            TngrelocprepExpiry;
-            CellNotAvailable;
-            UnknownTargetId;
-            NoRadioResourcesAvailableInTargetCell;
-            UnknownLocalUeNgapId;
-            InconsistentRemoteUeNgapId;
-            HandoverDesirableForRadioReason;
-            TimeCriticalHandover;
-            ResourceOptimisationHandover;
-            ReduceLoadInServingCell;
-            UserInactivity;
-            RadioConnectionWithUeLost;
-            RadioResourcesNotAvailable;
-            InvalidQosCombination;
-            FailureInRadioInterfaceProcedure;
-            InteractionWithOtherProcedure;
-            UnknownPduSessionId;
-            UnkownQosFlowId;
-            MultiplePduSessionIdInstances;
-            MultipleQosFlowIdInstances;
-            EncryptionAndOrIntegrityProtectionAlgorithmsNotSupported;
-            NgIntraSystemHandoverTriggered;
-            NgInterSystemHandoverTriggered;
-            XnHandoverTriggered;
-            NotSupported5QiValue;
-            UeContextTransfer;
-            ImsVoiceEpsFallbackOrRatFallbackTriggered;
-            UpIntegrityProtectionNotPossible;
-            UpConfidentialityProtectionNotPossible;
-            SliceNotSupported;
-            UeInRrcInactiveStateNotReachable;
-            Redirection;
-            ResourcesNotAvailableForTheSlice;
-            UeMaxIntegrityProtectedDataRateReason;
-            ReleaseDueToCnDetectedMobility;
-            ...;
-            N26InterfaceNotAvailable;
-            ReleaseDueToPreEmption;
-            MultipleLocationReportingReferenceIdInstances;
-            RsnNotAvailableForTheUp;
-            NpnAccessDenied;
-            CagOnlyAccessDenied;
-            InsufficientUeCapabilities;
-            RedcapUeNotSupported;
-        }
-    };
-}
+macro_rules! items { ($to:ident $($with:ident)*) => { $to! { [$($with)*]
+    Unspecified;
+    TxnrelocoverallExpiry;
+    SuccessfulHandover;
+    ReleaseDueToNgranGeneratedReason;
+    ReleaseDueTo5GcGeneratedReason;
+    HandoverCancelled;
+    PartialHandover;
+    HoFailureInTarget5GcNgranNodeOrTargetSystem;
+    HoTargetNotAllowed;
+    TngrelocoverallExpiry;
+    TngrelocprepExpiry;
+    CellNotAvailable;
+    UnknownTargetId;
+    NoRadioResourcesAvailableInTargetCell;
+    UnknownLocalUeNgapId;
+    InconsistentRemoteUeNgapId;
+    HandoverDesirableForRadioReason;
+    TimeCriticalHandover;
+    ResourceOptimisationHandover;
+    ReduceLoadInServingCell;
+    UserInactivity;
+    RadioConnectionWithUeLost;
+    RadioResourcesNotAvailable;
+    InvalidQosCombination;
+    FailureInRadioInterfaceProcedure;
+    InteractionWithOtherProcedure;
+    UnknownPduSessionId;
+    UnkownQosFlowId;
+    MultiplePduSessionIdInstances;
+    MultipleQosFlowIdInstances;
+    EncryptionAndOrIntegrityProtectionAlgorithmsNotSupported;
+    NgIntraSystemHandoverTriggered;
+    NgInterSystemHandoverTriggered;
+    XnHandoverTriggered;
+    NotSupported5QiValue;
+    UeContextTransfer;
+    ImsVoiceEpsFallbackOrRatFallbackTriggered;
+    UpIntegrityProtectionNotPossible;
+    UpConfidentialityProtectionNotPossible;
+    SliceNotSupported;
+    UeInRrcInactiveStateNotReachable;
+    Redirection;
+    ResourcesNotAvailableForTheSlice;
+    UeMaxIntegrityProtectedDataRateReason;
+    ReleaseDueToCnDetectedMobility;
+    ...;
+    N26InterfaceNotAvailable;
+    ReleaseDueToPreEmption;
+    MultipleLocationReportingReferenceIdInstances;
+    RsnNotAvailableForTheUp;
+    NpnAccessDenied;
+    CagOnlyAccessDenied;
+    InsufficientUeCapabilities;
+    RedcapUeNotSupported;
+} }; }
 
 impl OfKind for CauseRadioNetwork {
     type Kind = EnumeratedKind;

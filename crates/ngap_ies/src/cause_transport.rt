@@ -1,12 +1,10 @@
 //! CauseTransport, of the module NGAP-IEs.
 
-ghost use Rattle.ngap_ies.specs.declared.cause_transport.CauseTransport.TheVariants.{TransportResourceUnavailable, Unspecified};
-ghost use Rattle.rasn_below.specs.Components.{extensible_items};
-ghost use Rattle.rasn_below.specs.Values.{item, root};
+ghost use Rattle.ngap_ies.specs.declared.cause_transport.CauseTransport.TheVariants.{TransportResourceUnavailable};
+ghost use Rattle.ngap_ies.specs.declared.cause_transport.CauseTransport.TheVariants.{Unspecified};
+ghost use Rattle.rasn_below.specs.Page.{extensible_items, item, root};
 
-use rasn_below::{
-    ByKind, EnumeratedKind, ItemCounts, Items, OfKind, Place, item_at, item_counts, place_of_item,
-};
+use rasn_below::page::*;
 
 /// CauseTransport ::= ENUMERATED { transport-resource-unavailable(0), unspecified(1), ... }
 #[derive(Clone, Copy, Debug, PartialEq, Eq)]
@@ -15,15 +13,11 @@ pub enum CauseTransport {
     Unspecified,
 }
 
-macro_rules! items {
-    ($to:ident $($with:ident)*) => {
-        $to! { [$($with)*]
-            TransportResourceUnavailable;
-            Unspecified;
-            ...;
-        }
-    };
-}
+macro_rules! items { ($to:ident $($with:ident)*) => { $to! { [$($with)*]
+    TransportResourceUnavailable;
+    Unspecified;
+    ...;
+} }; }
 
 impl OfKind for CauseTransport {
     type Kind = EnumeratedKind;

@@ -21,16 +21,19 @@ pub const GLOBAL_RAN_NODE_ID_EXT_IES_GLOBAL_W_AGF_ID: u32 = 242;
 /// In MobilityRestrictionList-ExtIEs, 150 stands for PLMNIdentity (criticality ignore, presence optional).
 pub const MOBILITY_RESTRICTION_LIST_EXT_IES_PLMN_IDENTITY: u32 = 150;
 
-/// In MobilityRestrictionList-ExtIEs, 160 stands for CNTypeRestrictionsForEquivalent (criticality ignore, presence optional).
+/// In MobilityRestrictionList-ExtIEs, 160 stands for CNTypeRestrictionsForEquivalent (criticality ignore, presence
+/// optional).
 pub const MOBILITY_RESTRICTION_LIST_EXT_IES_CN_TYPE_RESTRICTIONS_FOR_EQUIVALENT: u32 = 160;
 
-/// In MobilityRestrictionList-ExtIEs, 161 stands for CNTypeRestrictionsForServing (criticality ignore, presence optional).
+/// In MobilityRestrictionList-ExtIEs, 161 stands for CNTypeRestrictionsForServing (criticality ignore, presence
+/// optional).
 pub const MOBILITY_RESTRICTION_LIST_EXT_IES_CN_TYPE_RESTRICTIONS_FOR_SERVING: u32 = 161;
 
 /// In MobilityRestrictionList-ExtIEs, 261 stands for NPN-MobilityInformation (criticality reject, presence optional).
 pub const MOBILITY_RESTRICTION_LIST_EXT_IES_NPN_MOBILITY_INFORMATION: u32 = 261;
 
-/// In RATRestrictions-Item-ExtIEs, 180 stands for ExtendedRATRestrictionInformation (criticality ignore, presence optional).
+/// In RATRestrictions-Item-ExtIEs, 180 stands for ExtendedRATRestrictionInformation (criticality ignore, presence
+/// optional).
 pub const RAT_RESTRICTIONS_ITEM_EXT_IES_EXTENDED_RAT_RESTRICTION_INFORMATION: u32 = 180;
 
 /// In SupportedTAItem-ExtIEs, 179 stands for RAT-Information (criticality reject, presence optional).
@@ -39,13 +42,16 @@ pub const SUPPORTED_TA_ITEM_EXT_IES_RAT_INFORMATION: u32 = 179;
 /// In SupportedTAItem-ExtIEs, 272 stands for ConfiguredTACIndication (criticality ignore, presence optional).
 pub const SUPPORTED_TA_ITEM_EXT_IES_CONFIGURED_TAC_INDICATION: u32 = 272;
 
-/// In UserLocationInformation-ExtIEs, 243 stands for UserLocationInformationW-AGF (criticality ignore, presence mandatory).
+/// In UserLocationInformation-ExtIEs, 243 stands for UserLocationInformationW-AGF (criticality ignore, presence
+/// mandatory).
 pub const USER_LOCATION_INFORMATION_EXT_IES_USER_LOCATION_INFORMATION_W_AGF: u32 = 243;
 
-/// In UserLocationInformation-ExtIEs, 244 stands for UserLocationInformationTNGF (criticality ignore, presence mandatory).
+/// In UserLocationInformation-ExtIEs, 244 stands for UserLocationInformationTNGF (criticality ignore, presence
+/// mandatory).
 pub const USER_LOCATION_INFORMATION_EXT_IES_USER_LOCATION_INFORMATION_TNGF: u32 = 244;
 
-/// In UserLocationInformation-ExtIEs, 248 stands for UserLocationInformationTWIF (criticality ignore, presence mandatory).
+/// In UserLocationInformation-ExtIEs, 248 stands for UserLocationInformationTWIF (criticality ignore, presence
+/// mandatory).
 pub const USER_LOCATION_INFORMATION_EXT_IES_USER_LOCATION_INFORMATION_TWIF: u32 = 248;
 
 /// In UserLocationInformationEUTRA-ExtIEs, 149 stands for NGRAN-CGI (criticality ignore, presence optional).

@@ -1,18 +1,12 @@
 //! UeNgapIdPair, of the module NGAP-IEs.
 
-ghost use Rattle.ngap_ies.specs.NgapIes.{ue_ngap_id_pair_added, ue_ngap_id_pair_root};
-ghost use Rattle.rasn_below.specs.Components.{extended_by, fields_described, fields_of, parts_of};
-ghost use Rattle.rasn_below.specs.Values.{deeper_of, slot_levels, slot_of, whole};
-ghost use Rattle.std.specs.Prelude.{Some, [], max, pos, refl, true, ◌∷◌};
+ghost use Rattle.ngap_ies.specs.NgapIes.{ue_ngap_id_pair_lists};
+ghost use Rattle.rasn_below.specs.Page.{deeper_of, fields_of, slot_levels, slot_of, whole};
+ghost use Rattle.std.specs.Prelude.{Some, [], max, pos, refl, ◌∷◌};
 
 use crate::aliases::{AmfUeNgapId, RanUeNgapId};
 use ngap::aliases::ProtocolExtensionContainer;
-use rasn_below::types::Identifier;
-use rasn_below::{
-    AsnType, Constraint, Constraints, Constructed, Decode, Decoder, Encode, Encoder, Extended,
-    ExtendedKind, Fields, OfKind, Tag, added_bounds, added_fields, decode_extended,
-    encode_extended, root_bounds, root_fields,
-};
+use rasn_below::page::*;
 
 /// UE-NGAP-ID-pair ::= SEQUENCE {
 ///     aMF-UE-NGAP-ID AMF-UE-NGAP-ID,
@@ -27,41 +21,28 @@ pub struct UeNgapIdPair {
     pub ie_extensions: Option<ProtocolExtensionContainer>,
 }
 
-macro_rules! components {
-    ($to:ident $($with:ident)*) => {
-        $to! { [$($with)*]
-            required 0 "aMF-UE-NGAP-ID" amf_ue_ngap_id: AmfUeNgapId [0..=1_099_511_627_775];
-            required 1 "rAN-UE-NGAP-ID" ran_ue_ngap_id: RanUeNgapId [0..=4_294_967_295];
-            optional 2 "iE-Extensions" ie_extensions: Option<ProtocolExtensionContainer> [SIZE 1..=65_535];
-            ...;
-        }
-    };
-}
+macro_rules! components { ($to:ident $($with:ident)*) => { $to! { [$($with)*]
+    required 0 "aMF-UE-NGAP-ID" amf_ue_ngap_id: AmfUeNgapId [0..=1_099_511_627_775];
+    required 1 "rAN-UE-NGAP-ID" ran_ue_ngap_id: RanUeNgapId [0..=4_294_967_295];
+    optional 2 "iE-Extensions" ie_extensions: Option<ProtocolExtensionContainer> [SIZE 1..=65_535];
+    ...;
+} }; }
 
-const FIELDS: Fields = components!(root_fields);
+const FIELDS: FieldLists = components!(fields);
 
-const BOUNDS: &[&[Constraint]] = components!(root_bounds);
+const BOUNDS: Bounds = components!(bounds);
 
-const ADDED_FIELDS: Fields = components!(added_fields);
+impl Components for UeNgapIdPair {
+    const COMPONENTS: FieldLists = FIELDS;
 
-const ADDED_BOUNDS: &[&[Constraint]] = components!(added_bounds);
+    ghost COMPONENTS = { fields_of ue_ngap_id_pair_lists };
 
-impl OfKind for UeNgapIdPair {
-    type Kind = ExtendedKind;
-}
-
-impl Extended for UeNgapIdPair {
-    ghost root = { ue_ngap_id_pair_root };
-
-    ghost additions = { ue_ngap_id_pair_added };
+    ghost components = { (ue_ngap_id_pair_lists, refl) };
 
     ghost contents = { λ x.
         Some (whole (pos x.amf_ue_ngap_id)) ∷
         Some (whole (pos x.ran_ue_ngap_id)) ∷
         slot_of ⟦<ProtocolExtensionContainer as AsnType>⟧.value x.ie_extensions ∷
-        [] };
-
-    ghost added = { λ x.
         [] };
 
     ghost depth = { λ x. deeper_of
@@ -71,52 +52,12 @@ impl Extended for UeNgapIdPair {
         0 };
 }
 
-impl Constructed for UeNgapIdPair {
-    const FIELDS: Fields = FIELDS;
-
-    ghost FIELDS = { fields_of ue_ngap_id_pair_root };
-
-    const EXTENDED_FIELDS: Option<Fields> = Some(ADDED_FIELDS);
-
-    ghost EXTENDED_FIELDS = { Some (fields_of ue_ngap_id_pair_added) };
-
-    const IS_EXTENSIBLE: bool = true;
-
-    ghost IS_EXTENSIBLE = { true };
-
-    ghost parts = { parts_of ue_ngap_id_pair_root };
-
-    ghost additions = { parts_of ue_ngap_id_pair_added };
-
-    ghost contents = { ⟦<UeNgapIdPair as Extended>⟧.contents };
-
-    ghost added = { ⟦<UeNgapIdPair as Extended>⟧.added };
-
-    ghost described = { fields_described ue_ngap_id_pair_root };
-
-    ghost extends = { extended_by ue_ngap_id_pair_added };
-
-    ghost is_record = { λ _. refl };
-}
-
-impl Encode for UeNgapIdPair {
-    fn encode_with_tag_and_constraints<E: Encoder>(
-        &self,
-        encoder: &mut E,
-        tag: Tag,
-        _: &Constraints,
-        identifier: Identifier,
-    ) -> Result<(), E::Error> {
-        components!(encode_extended self encoder tag identifier)
+impl Record for UeNgapIdPair {
+    fn encode_components<E: Encoder>(&self, encoder: &mut E) -> Result<(), E::Error> {
+        components!(encode_components self encoder)
     }
-}
 
-impl Decode for UeNgapIdPair {
-    fn decode_with_tag_and_constraints<D: Decoder>(
-        decoder: &mut D,
-        tag: Tag,
-        _: &Constraints,
-    ) -> Result<UeNgapIdPair, D::Error> {
-        components!(decode_extended decoder tag)
+    fn decode_components<D: Decoder>(decoder: &mut D) -> Result<Self, D::Error> {
+        components!(decode_components decoder)
     }
 }

@@ -1,18 +1,15 @@
 //! UeNgapIds, of the module NGAP-IEs.
 
-ghost use Rattle.ngap_ies.specs.NgapIes.{ue_ngap_ids_root};
-ghost use Rattle.ngap_ies.specs.declared.ue_ngap_ids.UeNgapIds.TheVariants.{AmfUeNgapId, ChoiceExtensions, UeNgapIdPair};
-ghost use Rattle.rasn_below.specs.Components.{chosen, variants_in};
-ghost use Rattle.rasn_below.specs.Values.{whole};
-ghost use Rattle.std.specs.Prelude.{None, pos, refl};
+ghost use Rattle.ngap_ies.specs.NgapIes.{ue_ngap_ids_lists};
+ghost use Rattle.ngap_ies.specs.declared.ue_ngap_ids.UeNgapIds.TheVariants.{AmfUeNgapId, ChoiceExtensions};
+ghost use Rattle.ngap_ies.specs.declared.ue_ngap_ids.UeNgapIds.TheVariants.{UeNgapIdPair};
+ghost use Rattle.rasn_below.specs.Page.{chosen, variants_listed, whole};
+ghost use Rattle.std.specs.Prelude.{pos, refl};
 
 use crate::aliases::AmfUeNgapId;
 use crate::ue_ngap_id_pair::UeNgapIdPair;
 use ngap::aliases::ProtocolIeSingleContainer;
-use rasn_below::{
-    Alternatives, AsnType, ByKind, ChoiceKind, CodedAlternatives, Constraint, Decoder, Encoder,
-    OfKind, Tag, Variants, alternative_bounds, decode_alternative, encode_alternative, variants,
-};
+use rasn_below::page::*;
 
 /// UE-NGAP-IDs ::= CHOICE {
 ///     uE-NGAP-ID-pair UE-NGAP-ID-pair,
@@ -26,34 +23,26 @@ pub enum UeNgapIds {
     ChoiceExtensions(ProtocolIeSingleContainer),
 }
 
-macro_rules! alternatives {
-    ($to:ident $($with:ident)*) => {
-        $to! { [$($with)*]
-            0 "uE-NGAP-ID-pair" UeNgapIdPair: UeNgapIdPair [];
-            1 "aMF-UE-NGAP-ID" AmfUeNgapId: AmfUeNgapId [0..=1_099_511_627_775];
-            2 "choice-Extensions" ChoiceExtensions: ProtocolIeSingleContainer [];
-        }
-    };
-}
+macro_rules! alternatives { ($to:ident $($with:ident)*) => { $to! { [$($with)*]
+    0 "uE-NGAP-ID-pair" UeNgapIdPair: UeNgapIdPair [];
+    1 "aMF-UE-NGAP-ID" AmfUeNgapId: AmfUeNgapId [0..=1_099_511_627_775];
+    2 "choice-Extensions" ChoiceExtensions: ProtocolIeSingleContainer [];
+} }; }
 
-const VARIANTS: Variants = alternatives!(variants);
+const VARIANTS: VariantLists = alternatives!(variants);
 
-const BOUNDS: &[&[Constraint]] = alternatives!(alternative_bounds);
+const BOUNDS: Bounds = alternatives!(alternative_bounds);
 
 impl OfKind for UeNgapIds {
     type Kind = ChoiceKind;
 }
 
 impl Alternatives for UeNgapIds {
-    const ALTERNATIVES: Variants = VARIANTS;
+    const ALTERNATIVES: VariantLists = VARIANTS;
 
-    ghost ALTERNATIVES = { variants_in ue_ngap_ids_root };
+    ghost ALTERNATIVES = { variants_listed ue_ngap_ids_lists };
 
-    const ADDED_ALTERNATIVES: Option<Variants> = None;
-
-    ghost ADDED_ALTERNATIVES = { None };
-
-    ghost alternatives = { ue_ngap_ids_root };
+    ghost alternatives = { (ue_ngap_ids_lists, refl) };
 
     ghost chosen = { elim [
       | UeNgapIdPair v ↦ chosen 0 (⟦<UeNgapIdPair as AsnType>⟧.value v)
@@ -66,10 +55,6 @@ impl Alternatives for UeNgapIds {
       | AmfUeNgapId _ ↦ 0
       | ChoiceExtensions _ ↦ 1
     ] };
-
-    ghost described = { refl };
-
-    ghost extends = { refl };
 
     ghost are_variants = { record { distinct = refl; few = refl } };
 }

@@ -1,8 +1,9 @@
 -- The module NGAP-IEs: below each definition in ASN.1 stands what the theorem takes it for.
 use Rattle.ngap.specs.NgapContainers.{protocol_extension_container, protocol_ie_single_container}
 use Rattle.ngap_ies.specs.NgapIes.{plmn_identity, tac}
-use Rattle.rasn_below.specs.Components.{Component, automatic, bit_string, choice, extended_sequence, extensible, extensible_enumerated, octet_string, optional, sequence_of, size◌to◌}
-use Rattle.std.specs.Prelude.{List, [], ◌∷◌}
+use Rattle.rasn_below.specs.Page.{Component, TypeLists, automatic, bit_string, choice, extensible, extensible_automatic}
+use Rattle.rasn_below.specs.Page.{extensible_enumerated, octet_string, optional, sequence, sequence_of, size◌to◌}
+use Rattle.std.specs.Prelude.{[], ◌∷◌}
 
 -- AMFSetID ::= BIT STRING (SIZE (10))
 abbrev pub amf_set_id : Component
@@ -23,19 +24,16 @@ five_g_tmsi = octet_string (size 4 to 4)
 --     iE-Extensions ProtocolExtensionContainer OPTIONAL,
 --     ...
 -- }
-abbrev pub five_g_s_tmsi_root : List Component
-five_g_s_tmsi_root = automatic (
+abbrev pub five_g_s_tmsi_lists : TypeLists
+five_g_s_tmsi_lists = extensible_automatic (
     amf_set_id ∷  -- aMFSetID
     amf_pointer ∷  -- aMFPointer
     five_g_tmsi ∷  -- fiveG-TMSI
     optional protocol_extension_container ∷  -- iE-Extensions
-    [])
-
-abbrev pub five_g_s_tmsi_added : List Component
-five_g_s_tmsi_added = []
+    []) []
 
 abbrev pub five_g_s_tmsi : Component
-five_g_s_tmsi = extended_sequence five_g_s_tmsi_root five_g_s_tmsi_added
+five_g_s_tmsi = sequence five_g_s_tmsi_lists
 
 -- RRCEstablishmentCause ::= ENUMERATED { emergency(0), highPriorityAccess(1), mt-Access(2), mo-Signalling(3),
 --     mo-Data(4), mo-VoiceCall(5), mo-VideoCall(6), mo-SMS(7), mps-PriorityAccess(8), mcs-PriorityAccess(9), ...,
@@ -57,18 +55,15 @@ eutra_cell_identity = bit_string (size 28 to 28)
 --     iE-Extensions ProtocolExtensionContainer OPTIONAL,
 --     ...
 -- }
-abbrev pub eutra_cgi_root : List Component
-eutra_cgi_root = automatic (
+abbrev pub eutra_cgi_lists : TypeLists
+eutra_cgi_lists = extensible_automatic (
     plmn_identity ∷  -- pLMNIdentity
     eutra_cell_identity ∷  -- eUTRACellIdentity
     optional protocol_extension_container ∷  -- iE-Extensions
-    [])
-
-abbrev pub eutra_cgi_added : List Component
-eutra_cgi_added = []
+    []) []
 
 abbrev pub eutra_cgi : Component
-eutra_cgi = extended_sequence eutra_cgi_root eutra_cgi_added
+eutra_cgi = sequence eutra_cgi_lists
 
 -- TAI ::= SEQUENCE {
 --     pLMNIdentity PLMNIdentity,
@@ -76,18 +71,15 @@ eutra_cgi = extended_sequence eutra_cgi_root eutra_cgi_added
 --     iE-Extensions ProtocolExtensionContainer OPTIONAL,
 --     ...
 -- }
-abbrev pub tai_root : List Component
-tai_root = automatic (
+abbrev pub tai_lists : TypeLists
+tai_lists = extensible_automatic (
     plmn_identity ∷  -- pLMNIdentity
     tac ∷  -- tAC
     optional protocol_extension_container ∷  -- iE-Extensions
-    [])
-
-abbrev pub tai_added : List Component
-tai_added = []
+    []) []
 
 abbrev pub tai : Component
-tai = extended_sequence tai_root tai_added
+tai = sequence tai_lists
 
 -- TimeStamp ::= OCTET STRING (SIZE (4))
 abbrev pub time_stamp : Component
@@ -100,19 +92,16 @@ time_stamp = octet_string (size 4 to 4)
 --     iE-Extensions ProtocolExtensionContainer OPTIONAL,
 --     ...
 -- }
-abbrev pub user_location_information_eutra_root : List Component
-user_location_information_eutra_root = automatic (
+abbrev pub user_location_information_eutra_lists : TypeLists
+user_location_information_eutra_lists = extensible_automatic (
     eutra_cgi ∷  -- eUTRA-CGI
     tai ∷  -- tAI
     optional time_stamp ∷  -- timeStamp
     optional protocol_extension_container ∷  -- iE-Extensions
-    [])
-
-abbrev pub user_location_information_eutra_added : List Component
-user_location_information_eutra_added = []
+    []) []
 
 abbrev pub user_location_information_eutra : Component
-user_location_information_eutra = extended_sequence user_location_information_eutra_root user_location_information_eutra_added
+user_location_information_eutra = sequence user_location_information_eutra_lists
 
 -- NRCellIdentity ::= BIT STRING (SIZE (36))
 abbrev pub nr_cell_identity : Component
@@ -124,18 +113,15 @@ nr_cell_identity = bit_string (size 36 to 36)
 --     iE-Extensions ProtocolExtensionContainer OPTIONAL,
 --     ...
 -- }
-abbrev pub nr_cgi_root : List Component
-nr_cgi_root = automatic (
+abbrev pub nr_cgi_lists : TypeLists
+nr_cgi_lists = extensible_automatic (
     plmn_identity ∷  -- pLMNIdentity
     nr_cell_identity ∷  -- nRCellIdentity
     optional protocol_extension_container ∷  -- iE-Extensions
-    [])
-
-abbrev pub nr_cgi_added : List Component
-nr_cgi_added = []
+    []) []
 
 abbrev pub nr_cgi : Component
-nr_cgi = extended_sequence nr_cgi_root nr_cgi_added
+nr_cgi = sequence nr_cgi_lists
 
 -- UserLocationInformationNR ::= SEQUENCE {
 --     nR-CGI NR-CGI,
@@ -144,19 +130,16 @@ nr_cgi = extended_sequence nr_cgi_root nr_cgi_added
 --     iE-Extensions ProtocolExtensionContainer OPTIONAL,
 --     ...
 -- }
-abbrev pub user_location_information_nr_root : List Component
-user_location_information_nr_root = automatic (
+abbrev pub user_location_information_nr_lists : TypeLists
+user_location_information_nr_lists = extensible_automatic (
     nr_cgi ∷  -- nR-CGI
     tai ∷  -- tAI
     optional time_stamp ∷  -- timeStamp
     optional protocol_extension_container ∷  -- iE-Extensions
-    [])
-
-abbrev pub user_location_information_nr_added : List Component
-user_location_information_nr_added = []
+    []) []
 
 abbrev pub user_location_information_nr : Component
-user_location_information_nr = extended_sequence user_location_information_nr_root user_location_information_nr_added
+user_location_information_nr = sequence user_location_information_nr_lists
 
 -- TransportLayerAddress ::= BIT STRING (SIZE (1..160, ...))
 abbrev pub transport_layer_address : Component
@@ -172,18 +155,15 @@ port_number = octet_string (size 2 to 2)
 --     iE-Extensions ProtocolExtensionContainer OPTIONAL,
 --     ...
 -- }
-abbrev pub user_location_information_n3_iwf_root : List Component
-user_location_information_n3_iwf_root = automatic (
+abbrev pub user_location_information_n3_iwf_lists : TypeLists
+user_location_information_n3_iwf_lists = extensible_automatic (
     transport_layer_address ∷  -- iPAddress
     port_number ∷  -- portNumber
     optional protocol_extension_container ∷  -- iE-Extensions
-    [])
-
-abbrev pub user_location_information_n3_iwf_added : List Component
-user_location_information_n3_iwf_added = []
+    []) []
 
 abbrev pub user_location_information_n3_iwf : Component
-user_location_information_n3_iwf = extended_sequence user_location_information_n3_iwf_root user_location_information_n3_iwf_added
+user_location_information_n3_iwf = sequence user_location_information_n3_iwf_lists
 
 -- UserLocationInformation ::= CHOICE {
 --     userLocationInformationEUTRA UserLocationInformationEUTRA,
@@ -191,8 +171,8 @@ user_location_information_n3_iwf = extended_sequence user_location_information_n
 --     userLocationInformationN3IWF UserLocationInformationN3IWF,
 --     choice-Extensions ProtocolIE-SingleContainer
 -- }
-abbrev pub user_location_information_root : List Component
-user_location_information_root = automatic (
+abbrev pub user_location_information_lists : TypeLists
+user_location_information_lists = automatic (
     user_location_information_eutra ∷  -- userLocationInformationEUTRA
     user_location_information_nr ∷  -- userLocationInformationNR
     user_location_information_n3_iwf ∷  -- userLocationInformationN3IWF
@@ -200,7 +180,7 @@ user_location_information_root = automatic (
     [])
 
 abbrev pub user_location_information : Component
-user_location_information = choice user_location_information_root
+user_location_information = choice user_location_information_lists
 
 -- ConfiguredNSSAI ::= OCTET STRING (SIZE (128))
 abbrev pub configured_nssai : Component
@@ -221,19 +201,16 @@ rejected_nssa_iin_ta = octet_string (size 32 to 32)
 --     iE-Extensions ProtocolExtensionContainer OPTIONAL,
 --     ...
 -- }
-abbrev pub source_to_target_amf_information_reroute_root : List Component
-source_to_target_amf_information_reroute_root = automatic (
+abbrev pub source_to_target_amf_information_reroute_lists : TypeLists
+source_to_target_amf_information_reroute_lists = extensible_automatic (
     optional configured_nssai ∷  -- configuredNSSAI
     optional rejected_nssa_iin_plmn ∷  -- rejectedNSSAIinPLMN
     optional rejected_nssa_iin_ta ∷  -- rejectedNSSAIinTA
     optional protocol_extension_container ∷  -- iE-Extensions
-    [])
-
-abbrev pub source_to_target_amf_information_reroute_added : List Component
-source_to_target_amf_information_reroute_added = []
+    []) []
 
 abbrev pub source_to_target_amf_information_reroute : Component
-source_to_target_amf_information_reroute = extended_sequence source_to_target_amf_information_reroute_root source_to_target_amf_information_reroute_added
+source_to_target_amf_information_reroute = sequence source_to_target_amf_information_reroute_lists
 
 -- IABNodeIndication ::= ENUMERATED { true(0), ... }
 abbrev pub iab_node_indication : Component
@@ -267,14 +244,14 @@ cell_cag_list = sequence_of (size 1 to 64) cag_id
 --     pNI-NPN-Access-Information CellCAGList,
 --     choice-Extensions ProtocolIE-SingleContainer
 -- }
-abbrev pub npn_access_information_root : List Component
-npn_access_information_root = automatic (
+abbrev pub npn_access_information_lists : TypeLists
+npn_access_information_lists = automatic (
     cell_cag_list ∷  -- pNI-NPN-Access-Information
     protocol_ie_single_container ∷  -- choice-Extensions
     [])
 
 abbrev pub npn_access_information : Component
-npn_access_information = choice npn_access_information_root
+npn_access_information = choice npn_access_information_lists
 
 -- RedCapIndication ::= ENUMERATED { redcap(0), ... }
 abbrev pub red_cap_indication : Component

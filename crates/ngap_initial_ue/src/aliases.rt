@@ -1,9 +1,8 @@
 //! Names for types under constraints, for lists, and for numbers and bits.
 
-ghost use Rattle.rasn_below.specs.Components.{size◌to◌};
+ghost use Rattle.rasn_below.specs.Page.{size◌to◌};
 
-use rasn_below::types::{BitString, OctetString};
-use rasn_below::{Constrained, Constraint, Constraints, Limits, constraints};
+use rasn_below::page::*;
 
 /// AMFSetID ::= BIT STRING (SIZE (10))
 pub type AmfSetId = BitString;

@@ -1,12 +1,11 @@
 //! CEmodeBSupportIndicator, of the module NGAP-IEs.
 
-ghost use Rattle.ngap_initial_ue.specs.declared.c_emode_b_support_indicator.CEmodeBSupportIndicator.TheVariants.{Supported};
-ghost use Rattle.rasn_below.specs.Components.{extensible_items};
-ghost use Rattle.rasn_below.specs.Values.{item, root};
-
-use rasn_below::{
-    ByKind, EnumeratedKind, ItemCounts, Items, OfKind, Place, item_at, item_counts, place_of_item,
+ghost use Rattle.ngap_initial_ue.specs.declared.c_emode_b_support_indicator.CEmodeBSupportIndicator.TheVariants.{
+  Supported,
 };
+ghost use Rattle.rasn_below.specs.Page.{extensible_items, item, root};
+
+use rasn_below::page::*;
 
 /// CEmodeBSupport-Indicator ::= ENUMERATED { supported(0), ... }
 #[derive(Clone, Copy, Debug, PartialEq, Eq)]
@@ -14,14 +13,10 @@ pub enum CEmodeBSupportIndicator {
     Supported,
 }
 
-macro_rules! items {
-    ($to:ident $($with:ident)*) => {
-        $to! { [$($with)*]
-            Supported;
-            ...;
-        }
-    };
-}
+macro_rules! items { ($to:ident $($with:ident)*) => { $to! { [$($with)*]
+    Supported;
+    ...;
+} }; }
 
 impl OfKind for CEmodeBSupportIndicator {
     type Kind = EnumeratedKind;

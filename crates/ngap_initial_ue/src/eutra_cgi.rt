@@ -1,19 +1,13 @@
 //! EutraCgi, of the module NGAP-IEs.
 
-ghost use Rattle.ngap_initial_ue.specs.NgapIes.{eutra_cgi_added, eutra_cgi_root};
-ghost use Rattle.rasn_below.specs.Components.{extended_by, fields_described, fields_of, parts_of};
-ghost use Rattle.rasn_below.specs.Values.{bits, deeper_of, octets, slot_levels, slot_of};
-ghost use Rattle.std.specs.Prelude.{Some, [], max, refl, true, ◌∷◌};
+ghost use Rattle.ngap_initial_ue.specs.NgapIes.{eutra_cgi_lists};
+ghost use Rattle.rasn_below.specs.Page.{bits, deeper_of, fields_of, octets, slot_levels, slot_of};
+ghost use Rattle.std.specs.Prelude.{Some, [], max, refl, ◌∷◌};
 
 use crate::aliases::EutraCellIdentity;
 use ngap::aliases::ProtocolExtensionContainer;
 use ngap_ies::aliases::PlmnIdentity;
-use rasn_below::types::Identifier;
-use rasn_below::{
-    AsnType, Constraint, Constraints, Constructed, Decode, Decoder, Encode, Encoder, Extended,
-    ExtendedKind, Fields, OfKind, Tag, added_bounds, added_fields, decode_extended,
-    encode_extended, root_bounds, root_fields,
-};
+use rasn_below::page::*;
 
 /// EUTRA-CGI ::= SEQUENCE {
 ///     pLMNIdentity PLMNIdentity,
@@ -28,41 +22,28 @@ pub struct EutraCgi {
     pub ie_extensions: Option<ProtocolExtensionContainer>,
 }
 
-macro_rules! components {
-    ($to:ident $($with:ident)*) => {
-        $to! { [$($with)*]
-            required 0 "pLMNIdentity" plmn_identity: PlmnIdentity [SIZE 3..=3];
-            required 1 "eUTRACellIdentity" eutra_cell_identity: EutraCellIdentity [SIZE 28..=28];
-            optional 2 "iE-Extensions" ie_extensions: Option<ProtocolExtensionContainer> [SIZE 1..=65_535];
-            ...;
-        }
-    };
-}
+macro_rules! components { ($to:ident $($with:ident)*) => { $to! { [$($with)*]
+    required 0 "pLMNIdentity" plmn_identity: PlmnIdentity [SIZE 3..=3];
+    required 1 "eUTRACellIdentity" eutra_cell_identity: EutraCellIdentity [SIZE 28..=28];
+    optional 2 "iE-Extensions" ie_extensions: Option<ProtocolExtensionContainer> [SIZE 1..=65_535];
+    ...;
+} }; }
 
-const FIELDS: Fields = components!(root_fields);
+const FIELDS: FieldLists = components!(fields);
 
-const BOUNDS: &[&[Constraint]] = components!(root_bounds);
+const BOUNDS: Bounds = components!(bounds);
 
-const ADDED_FIELDS: Fields = components!(added_fields);
+impl Components for EutraCgi {
+    const COMPONENTS: FieldLists = FIELDS;
 
-const ADDED_BOUNDS: &[&[Constraint]] = components!(added_bounds);
+    ghost COMPONENTS = { fields_of eutra_cgi_lists };
 
-impl OfKind for EutraCgi {
-    type Kind = ExtendedKind;
-}
-
-impl Extended for EutraCgi {
-    ghost root = { eutra_cgi_root };
-
-    ghost additions = { eutra_cgi_added };
+    ghost components = { (eutra_cgi_lists, refl) };
 
     ghost contents = { λ x.
         Some (octets x.plmn_identity) ∷
         Some (bits x.eutra_cell_identity) ∷
         slot_of ⟦<ProtocolExtensionContainer as AsnType>⟧.value x.ie_extensions ∷
-        [] };
-
-    ghost added = { λ x.
         [] };
 
     ghost depth = { λ x. deeper_of
@@ -72,52 +53,12 @@ impl Extended for EutraCgi {
         0 };
 }
 
-impl Constructed for EutraCgi {
-    const FIELDS: Fields = FIELDS;
-
-    ghost FIELDS = { fields_of eutra_cgi_root };
-
-    const EXTENDED_FIELDS: Option<Fields> = Some(ADDED_FIELDS);
-
-    ghost EXTENDED_FIELDS = { Some (fields_of eutra_cgi_added) };
-
-    const IS_EXTENSIBLE: bool = true;
-
-    ghost IS_EXTENSIBLE = { true };
-
-    ghost parts = { parts_of eutra_cgi_root };
-
-    ghost additions = { parts_of eutra_cgi_added };
-
-    ghost contents = { ⟦<EutraCgi as Extended>⟧.contents };
-
-    ghost added = { ⟦<EutraCgi as Extended>⟧.added };
-
-    ghost described = { fields_described eutra_cgi_root };
-
-    ghost extends = { extended_by eutra_cgi_added };
-
-    ghost is_record = { λ _. refl };
-}
-
-impl Encode for EutraCgi {
-    fn encode_with_tag_and_constraints<E: Encoder>(
-        &self,
-        encoder: &mut E,
-        tag: Tag,
-        _: &Constraints,
-        identifier: Identifier,
-    ) -> Result<(), E::Error> {
-        components!(encode_extended self encoder tag identifier)
+impl Record for EutraCgi {
+    fn encode_components<E: Encoder>(&self, encoder: &mut E) -> Result<(), E::Error> {
+        components!(encode_components self encoder)
     }
-}
 
-impl Decode for EutraCgi {
-    fn decode_with_tag_and_constraints<D: Decoder>(
-        decoder: &mut D,
-        tag: Tag,
-        _: &Constraints,
-    ) -> Result<EutraCgi, D::Error> {
-        components!(decode_extended decoder tag)
+    fn decode_components<D: Decoder>(decoder: &mut D) -> Result<Self, D::Error> {
+        components!(decode_components decoder)
     }
 }

@@ -1,18 +1,12 @@
 //! FiveGSTmsi, of the module NGAP-IEs.
 
-ghost use Rattle.ngap_initial_ue.specs.NgapIes.{five_g_s_tmsi_added, five_g_s_tmsi_root};
-ghost use Rattle.rasn_below.specs.Components.{extended_by, fields_described, fields_of, parts_of};
-ghost use Rattle.rasn_below.specs.Values.{bits, deeper_of, octets, slot_levels, slot_of};
-ghost use Rattle.std.specs.Prelude.{Some, [], max, refl, true, ◌∷◌};
+ghost use Rattle.ngap_initial_ue.specs.NgapIes.{five_g_s_tmsi_lists};
+ghost use Rattle.rasn_below.specs.Page.{bits, deeper_of, fields_of, octets, slot_levels, slot_of};
+ghost use Rattle.std.specs.Prelude.{Some, [], max, refl, ◌∷◌};
 
 use crate::aliases::{AmfPointer, AmfSetId, FiveGTmsi};
 use ngap::aliases::ProtocolExtensionContainer;
-use rasn_below::types::Identifier;
-use rasn_below::{
-    AsnType, Constraint, Constraints, Constructed, Decode, Decoder, Encode, Encoder, Extended,
-    ExtendedKind, Fields, OfKind, Tag, added_bounds, added_fields, decode_extended,
-    encode_extended, root_bounds, root_fields,
-};
+use rasn_below::page::*;
 
 /// FiveG-S-TMSI ::= SEQUENCE {
 ///     aMFSetID AMFSetID,
@@ -29,43 +23,30 @@ pub struct FiveGSTmsi {
     pub ie_extensions: Option<ProtocolExtensionContainer>,
 }
 
-macro_rules! components {
-    ($to:ident $($with:ident)*) => {
-        $to! { [$($with)*]
-            required 0 "aMFSetID" amf_set_id: AmfSetId [SIZE 10..=10];
-            required 1 "aMFPointer" amf_pointer: AmfPointer [SIZE 6..=6];
-            required 2 "fiveG-TMSI" five_g_tmsi: FiveGTmsi [SIZE 4..=4];
-            optional 3 "iE-Extensions" ie_extensions: Option<ProtocolExtensionContainer> [SIZE 1..=65_535];
-            ...;
-        }
-    };
-}
+macro_rules! components { ($to:ident $($with:ident)*) => { $to! { [$($with)*]
+    required 0 "aMFSetID" amf_set_id: AmfSetId [SIZE 10..=10];
+    required 1 "aMFPointer" amf_pointer: AmfPointer [SIZE 6..=6];
+    required 2 "fiveG-TMSI" five_g_tmsi: FiveGTmsi [SIZE 4..=4];
+    optional 3 "iE-Extensions" ie_extensions: Option<ProtocolExtensionContainer> [SIZE 1..=65_535];
+    ...;
+} }; }
 
-const FIELDS: Fields = components!(root_fields);
+const FIELDS: FieldLists = components!(fields);
 
-const BOUNDS: &[&[Constraint]] = components!(root_bounds);
+const BOUNDS: Bounds = components!(bounds);
 
-const ADDED_FIELDS: Fields = components!(added_fields);
+impl Components for FiveGSTmsi {
+    const COMPONENTS: FieldLists = FIELDS;
 
-const ADDED_BOUNDS: &[&[Constraint]] = components!(added_bounds);
+    ghost COMPONENTS = { fields_of five_g_s_tmsi_lists };
 
-impl OfKind for FiveGSTmsi {
-    type Kind = ExtendedKind;
-}
-
-impl Extended for FiveGSTmsi {
-    ghost root = { five_g_s_tmsi_root };
-
-    ghost additions = { five_g_s_tmsi_added };
+    ghost components = { (five_g_s_tmsi_lists, refl) };
 
     ghost contents = { λ x.
         Some (bits x.amf_set_id) ∷
         Some (bits x.amf_pointer) ∷
         Some (octets x.five_g_tmsi) ∷
         slot_of ⟦<ProtocolExtensionContainer as AsnType>⟧.value x.ie_extensions ∷
-        [] };
-
-    ghost added = { λ x.
         [] };
 
     ghost depth = { λ x. deeper_of
@@ -76,52 +57,12 @@ impl Extended for FiveGSTmsi {
         0 };
 }
 
-impl Constructed for FiveGSTmsi {
-    const FIELDS: Fields = FIELDS;
-
-    ghost FIELDS = { fields_of five_g_s_tmsi_root };
-
-    const EXTENDED_FIELDS: Option<Fields> = Some(ADDED_FIELDS);
-
-    ghost EXTENDED_FIELDS = { Some (fields_of five_g_s_tmsi_added) };
-
-    const IS_EXTENSIBLE: bool = true;
-
-    ghost IS_EXTENSIBLE = { true };
-
-    ghost parts = { parts_of five_g_s_tmsi_root };
-
-    ghost additions = { parts_of five_g_s_tmsi_added };
-
-    ghost contents = { ⟦<FiveGSTmsi as Extended>⟧.contents };
-
-    ghost added = { ⟦<FiveGSTmsi as Extended>⟧.added };
-
-    ghost described = { fields_described five_g_s_tmsi_root };
-
-    ghost extends = { extended_by five_g_s_tmsi_added };
-
-    ghost is_record = { λ _. refl };
-}
-
-impl Encode for FiveGSTmsi {
-    fn encode_with_tag_and_constraints<E: Encoder>(
-        &self,
-        encoder: &mut E,
-        tag: Tag,
-        _: &Constraints,
-        identifier: Identifier,
-    ) -> Result<(), E::Error> {
-        components!(encode_extended self encoder tag identifier)
+impl Record for FiveGSTmsi {
+    fn encode_components<E: Encoder>(&self, encoder: &mut E) -> Result<(), E::Error> {
+        components!(encode_components self encoder)
     }
-}
 
-impl Decode for FiveGSTmsi {
-    fn decode_with_tag_and_constraints<D: Decoder>(
-        decoder: &mut D,
-        tag: Tag,
-        _: &Constraints,
-    ) -> Result<FiveGSTmsi, D::Error> {
-        components!(decode_extended decoder tag)
+    fn decode_components<D: Decoder>(decoder: &mut D) -> Result<Self, D::Error> {
+        components!(decode_components decoder)
     }
 }

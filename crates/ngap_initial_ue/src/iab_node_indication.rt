@@ -1,12 +1,9 @@
 //! IabNodeIndication, of the module NGAP-IEs.
 
 ghost use Rattle.ngap_initial_ue.specs.declared.iab_node_indication.IabNodeIndication.TheVariants.{True};
-ghost use Rattle.rasn_below.specs.Components.{extensible_items};
-ghost use Rattle.rasn_below.specs.Values.{item, root};
+ghost use Rattle.rasn_below.specs.Page.{extensible_items, item, root};
 
-use rasn_below::{
-    ByKind, EnumeratedKind, ItemCounts, Items, OfKind, Place, item_at, item_counts, place_of_item,
-};
+use rasn_below::page::*;
 
 /// IABNodeIndication ::= ENUMERATED { true(0), ... }
 #[derive(Clone, Copy, Debug, PartialEq, Eq)]
@@ -14,14 +11,10 @@ pub enum IabNodeIndication {
     True,
 }
 
-macro_rules! items {
-    ($to:ident $($with:ident)*) => {
-        $to! { [$($with)*]
-            True;
-            ...;
-        }
-    };
-}
+macro_rules! items { ($to:ident $($with:ident)*) => { $to! { [$($with)*]
+    True;
+    ...;
+} }; }
 
 impl OfKind for IabNodeIndication {
     type Kind = EnumeratedKind;

@@ -1,12 +1,9 @@
 //! LtemIndication, of the module NGAP-IEs.
 
 ghost use Rattle.ngap_initial_ue.specs.declared.ltem_indication.LtemIndication.TheVariants.{LteM};
-ghost use Rattle.rasn_below.specs.Components.{extensible_items};
-ghost use Rattle.rasn_below.specs.Values.{item, root};
+ghost use Rattle.rasn_below.specs.Page.{extensible_items, item, root};
 
-use rasn_below::{
-    ByKind, EnumeratedKind, ItemCounts, Items, OfKind, Place, item_at, item_counts, place_of_item,
-};
+use rasn_below::page::*;
 
 /// LTEM-Indication ::= ENUMERATED { lte-m(0), ... }
 #[derive(Clone, Copy, Debug, PartialEq, Eq)]
@@ -14,14 +11,10 @@ pub enum LtemIndication {
     LteM,
 }
 
-macro_rules! items {
-    ($to:ident $($with:ident)*) => {
-        $to! { [$($with)*]
-            LteM;
-            ...;
-        }
-    };
-}
+macro_rules! items { ($to:ident $($with:ident)*) => { $to! { [$($with)*]
+    LteM;
+    ...;
+} }; }
 
 impl OfKind for LtemIndication {
     type Kind = EnumeratedKind;

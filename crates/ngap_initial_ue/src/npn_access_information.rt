@@ -1,16 +1,18 @@
 //! NpnAccessInformation, of the module NGAP-IEs.
 
-ghost use Rattle.ngap_initial_ue.specs.NgapIes.{npn_access_information_root};
-ghost use Rattle.ngap_initial_ue.specs.declared.npn_access_information.NpnAccessInformation.TheVariants.{ChoiceExtensions, PniNpnAccessInformation};
-ghost use Rattle.rasn_below.specs.Components.{chosen, variants_in};
-ghost use Rattle.std.specs.Prelude.{None, refl};
+ghost use Rattle.ngap_initial_ue.specs.NgapIes.{npn_access_information_lists};
+ghost use Rattle.ngap_initial_ue.specs.declared.npn_access_information.NpnAccessInformation.TheVariants.{
+  ChoiceExtensions,
+};
+ghost use Rattle.ngap_initial_ue.specs.declared.npn_access_information.NpnAccessInformation.TheVariants.{
+  PniNpnAccessInformation,
+};
+ghost use Rattle.rasn_below.specs.Page.{chosen, variants_listed};
+ghost use Rattle.std.specs.Prelude.{refl};
 
 use crate::aliases::CellCagList;
 use ngap::aliases::ProtocolIeSingleContainer;
-use rasn_below::{
-    Alternatives, AsnType, ByKind, ChoiceKind, CodedAlternatives, Constraint, Decoder, Encoder,
-    OfKind, Tag, Variants, alternative_bounds, decode_alternative, encode_alternative, variants,
-};
+use rasn_below::page::*;
 
 /// NPN-AccessInformation ::= CHOICE {
 ///     pNI-NPN-Access-Information CellCAGList,
@@ -22,33 +24,25 @@ pub enum NpnAccessInformation {
     ChoiceExtensions(ProtocolIeSingleContainer),
 }
 
-macro_rules! alternatives {
-    ($to:ident $($with:ident)*) => {
-        $to! { [$($with)*]
-            0 "pNI-NPN-Access-Information" PniNpnAccessInformation: CellCagList [SIZE 1..=64];
-            1 "choice-Extensions" ChoiceExtensions: ProtocolIeSingleContainer [];
-        }
-    };
-}
+macro_rules! alternatives { ($to:ident $($with:ident)*) => { $to! { [$($with)*]
+    0 "pNI-NPN-Access-Information" PniNpnAccessInformation: CellCagList [SIZE 1..=64];
+    1 "choice-Extensions" ChoiceExtensions: ProtocolIeSingleContainer [];
+} }; }
 
-const VARIANTS: Variants = alternatives!(variants);
+const VARIANTS: VariantLists = alternatives!(variants);
 
-const BOUNDS: &[&[Constraint]] = alternatives!(alternative_bounds);
+const BOUNDS: Bounds = alternatives!(alternative_bounds);
 
 impl OfKind for NpnAccessInformation {
     type Kind = ChoiceKind;
 }
 
 impl Alternatives for NpnAccessInformation {
-    const ALTERNATIVES: Variants = VARIANTS;
+    const ALTERNATIVES: VariantLists = VARIANTS;
 
-    ghost ALTERNATIVES = { variants_in npn_access_information_root };
+    ghost ALTERNATIVES = { variants_listed npn_access_information_lists };
 
-    const ADDED_ALTERNATIVES: Option<Variants> = None;
-
-    ghost ADDED_ALTERNATIVES = { None };
-
-    ghost alternatives = { npn_access_information_root };
+    ghost alternatives = { (npn_access_information_lists, refl) };
 
     ghost chosen = { elim [
       | PniNpnAccessInformation v ↦ chosen 0 (⟦<CellCagList as AsnType>⟧.value v)
@@ -59,10 +53,6 @@ impl Alternatives for NpnAccessInformation {
       | PniNpnAccessInformation v ↦ ⟦<CellCagList as AsnType>⟧.levels v
       | ChoiceExtensions _ ↦ 1
     ] };
-
-    ghost described = { refl };
-
-    ghost extends = { refl };
 
     ghost are_variants = { record { distinct = refl; few = refl } };
 }

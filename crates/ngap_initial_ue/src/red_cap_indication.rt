@@ -1,12 +1,9 @@
 //! RedCapIndication, of the module NGAP-IEs.
 
 ghost use Rattle.ngap_initial_ue.specs.declared.red_cap_indication.RedCapIndication.TheVariants.{Redcap};
-ghost use Rattle.rasn_below.specs.Components.{extensible_items};
-ghost use Rattle.rasn_below.specs.Values.{item, root};
+ghost use Rattle.rasn_below.specs.Page.{extensible_items, item, root};
 
-use rasn_below::{
-    ByKind, EnumeratedKind, ItemCounts, Items, OfKind, Place, item_at, item_counts, place_of_item,
-};
+use rasn_below::page::*;
 
 /// RedCapIndication ::= ENUMERATED { redcap(0), ... }
 #[derive(Clone, Copy, Debug, PartialEq, Eq)]
@@ -14,14 +11,10 @@ pub enum RedCapIndication {
     Redcap,
 }
 
-macro_rules! items {
-    ($to:ident $($with:ident)*) => {
-        $to! { [$($with)*]
-            Redcap;
-            ...;
-        }
-    };
-}
+macro_rules! items { ($to:ident $($with:ident)*) => { $to! { [$($with)*]
+    Redcap;
+    ...;
+} }; }
 
 impl OfKind for RedCapIndication {
     type Kind = EnumeratedKind;

@@ -1,12 +1,32 @@
 //! RrcEstablishmentCause, of the module NGAP-IEs.
 
-ghost use Rattle.ngap_initial_ue.specs.declared.rrc_establishment_cause.RrcEstablishmentCause.TheVariants.{Emergency, HighPriorityAccess, McsPriorityAccess, MoData, MoExceptionData, MoSignalling, MoSms, MoVideoCall, MoVoiceCall, MpsPriorityAccess, MtAccess, NotAvailable};
-ghost use Rattle.rasn_below.specs.Components.{extensible_items};
-ghost use Rattle.rasn_below.specs.Values.{added, item, root};
-
-use rasn_below::{
-    ByKind, EnumeratedKind, ItemCounts, Items, OfKind, Place, item_at, item_counts, place_of_item,
+ghost use Rattle.ngap_initial_ue.specs.declared.rrc_establishment_cause.RrcEstablishmentCause.TheVariants.{Emergency};
+ghost use Rattle.ngap_initial_ue.specs.declared.rrc_establishment_cause.RrcEstablishmentCause.TheVariants.{
+  HighPriorityAccess,
 };
+ghost use Rattle.ngap_initial_ue.specs.declared.rrc_establishment_cause.RrcEstablishmentCause.TheVariants.{
+  McsPriorityAccess,
+};
+ghost use Rattle.ngap_initial_ue.specs.declared.rrc_establishment_cause.RrcEstablishmentCause.TheVariants.{MoData};
+ghost use Rattle.ngap_initial_ue.specs.declared.rrc_establishment_cause.RrcEstablishmentCause.TheVariants.{
+  MoExceptionData,
+};
+ghost use Rattle.ngap_initial_ue.specs.declared.rrc_establishment_cause.RrcEstablishmentCause.TheVariants.{
+  MoSignalling,
+};
+ghost use Rattle.ngap_initial_ue.specs.declared.rrc_establishment_cause.RrcEstablishmentCause.TheVariants.{MoSms};
+ghost use Rattle.ngap_initial_ue.specs.declared.rrc_establishment_cause.RrcEstablishmentCause.TheVariants.{MoVideoCall};
+ghost use Rattle.ngap_initial_ue.specs.declared.rrc_establishment_cause.RrcEstablishmentCause.TheVariants.{MoVoiceCall};
+ghost use Rattle.ngap_initial_ue.specs.declared.rrc_establishment_cause.RrcEstablishmentCause.TheVariants.{
+  MpsPriorityAccess,
+};
+ghost use Rattle.ngap_initial_ue.specs.declared.rrc_establishment_cause.RrcEstablishmentCause.TheVariants.{MtAccess};
+ghost use Rattle.ngap_initial_ue.specs.declared.rrc_establishment_cause.RrcEstablishmentCause.TheVariants.{
+  NotAvailable,
+};
+ghost use Rattle.rasn_below.specs.Page.{added, extensible_items, item, root};
+
+use rasn_below::page::*;
 
 /// RRCEstablishmentCause ::= ENUMERATED { emergency(0), highPriorityAccess(1), mt-Access(2), mo-Signalling(3),
 ///     mo-Data(4), mo-VoiceCall(5), mo-VideoCall(6), mo-SMS(7), mps-PriorityAccess(8), mcs-PriorityAccess(9), ...,
@@ -27,25 +47,21 @@ pub enum RrcEstablishmentCause {
     MoExceptionData,
 }
 
-macro_rules! items {
-    ($to:ident $($with:ident)*) => {
-        $to! { [$($with)*]
-            Emergency;
-            HighPriorityAccess;
-            MtAccess;
-            MoSignalling;
-            MoData;
-            MoVoiceCall;
-            MoVideoCall;
-            MoSms;
-            MpsPriorityAccess;
-            McsPriorityAccess;
-            ...;
-            NotAvailable;
-            MoExceptionData;
-        }
-    };
-}
+macro_rules! items { ($to:ident $($with:ident)*) => { $to! { [$($with)*]
+    Emergency;
+    HighPriorityAccess;
+    MtAccess;
+    MoSignalling;
+    MoData;
+    MoVoiceCall;
+    MoVideoCall;
+    MoSms;
+    MpsPriorityAccess;
+    McsPriorityAccess;
+    ...;
+    NotAvailable;
+    MoExceptionData;
+} }; }
 
 impl OfKind for RrcEstablishmentCause {
     type Kind = EnumeratedKind;

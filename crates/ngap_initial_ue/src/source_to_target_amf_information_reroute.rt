@@ -1,18 +1,12 @@
 //! SourceToTargetAmfInformationReroute, of the module NGAP-IEs.
 
-ghost use Rattle.ngap_initial_ue.specs.NgapIes.{source_to_target_amf_information_reroute_added, source_to_target_amf_information_reroute_root};
-ghost use Rattle.rasn_below.specs.Components.{extended_by, fields_described, fields_of, parts_of};
-ghost use Rattle.rasn_below.specs.Values.{deeper_of, octets, slot_levels, slot_of};
-ghost use Rattle.std.specs.Prelude.{Some, [], max, refl, true, ◌∷◌};
+ghost use Rattle.ngap_initial_ue.specs.NgapIes.{source_to_target_amf_information_reroute_lists};
+ghost use Rattle.rasn_below.specs.Page.{deeper_of, fields_of, octets, slot_levels, slot_of};
+ghost use Rattle.std.specs.Prelude.{[], max, refl, ◌∷◌};
 
 use crate::aliases::{ConfiguredNssai, RejectedNssaIinPlmn, RejectedNssaIinTa};
 use ngap::aliases::ProtocolExtensionContainer;
-use rasn_below::types::Identifier;
-use rasn_below::{
-    AsnType, Constraint, Constraints, Constructed, Decode, Decoder, Encode, Encoder, Extended,
-    ExtendedKind, Fields, OfKind, Tag, added_bounds, added_fields, decode_extended,
-    encode_extended, root_bounds, root_fields,
-};
+use rasn_below::page::*;
 
 /// SourceToTarget-AMFInformationReroute ::= SEQUENCE {
 ///     configuredNSSAI ConfiguredNSSAI OPTIONAL,
@@ -29,43 +23,30 @@ pub struct SourceToTargetAmfInformationReroute {
     pub ie_extensions: Option<ProtocolExtensionContainer>,
 }
 
-macro_rules! components {
-    ($to:ident $($with:ident)*) => {
-        $to! { [$($with)*]
-            optional 0 "configuredNSSAI" configured_nssai: Option<ConfiguredNssai> [SIZE 128..=128];
-            optional 1 "rejectedNSSAIinPLMN" rejected_nssa_iin_plmn: Option<RejectedNssaIinPlmn> [SIZE 32..=32];
-            optional 2 "rejectedNSSAIinTA" rejected_nssa_iin_ta: Option<RejectedNssaIinTa> [SIZE 32..=32];
-            optional 3 "iE-Extensions" ie_extensions: Option<ProtocolExtensionContainer> [SIZE 1..=65_535];
-            ...;
-        }
-    };
-}
+macro_rules! components { ($to:ident $($with:ident)*) => { $to! { [$($with)*]
+    optional 0 "configuredNSSAI" configured_nssai: Option<ConfiguredNssai> [SIZE 128..=128];
+    optional 1 "rejectedNSSAIinPLMN" rejected_nssa_iin_plmn: Option<RejectedNssaIinPlmn> [SIZE 32..=32];
+    optional 2 "rejectedNSSAIinTA" rejected_nssa_iin_ta: Option<RejectedNssaIinTa> [SIZE 32..=32];
+    optional 3 "iE-Extensions" ie_extensions: Option<ProtocolExtensionContainer> [SIZE 1..=65_535];
+    ...;
+} }; }
 
-const FIELDS: Fields = components!(root_fields);
+const FIELDS: FieldLists = components!(fields);
 
-const BOUNDS: &[&[Constraint]] = components!(root_bounds);
+const BOUNDS: Bounds = components!(bounds);
 
-const ADDED_FIELDS: Fields = components!(added_fields);
+impl Components for SourceToTargetAmfInformationReroute {
+    const COMPONENTS: FieldLists = FIELDS;
 
-const ADDED_BOUNDS: &[&[Constraint]] = components!(added_bounds);
+    ghost COMPONENTS = { fields_of source_to_target_amf_information_reroute_lists };
 
-impl OfKind for SourceToTargetAmfInformationReroute {
-    type Kind = ExtendedKind;
-}
-
-impl Extended for SourceToTargetAmfInformationReroute {
-    ghost root = { source_to_target_amf_information_reroute_root };
-
-    ghost additions = { source_to_target_amf_information_reroute_added };
+    ghost components = { (source_to_target_amf_information_reroute_lists, refl) };
 
     ghost contents = { λ x.
         slot_of octets x.configured_nssai ∷
         slot_of octets x.rejected_nssa_iin_plmn ∷
         slot_of octets x.rejected_nssa_iin_ta ∷
         slot_of ⟦<ProtocolExtensionContainer as AsnType>⟧.value x.ie_extensions ∷
-        [] };
-
-    ghost added = { λ x.
         [] };
 
     ghost depth = { λ x. deeper_of
@@ -76,52 +57,12 @@ impl Extended for SourceToTargetAmfInformationReroute {
         0 };
 }
 
-impl Constructed for SourceToTargetAmfInformationReroute {
-    const FIELDS: Fields = FIELDS;
-
-    ghost FIELDS = { fields_of source_to_target_amf_information_reroute_root };
-
-    const EXTENDED_FIELDS: Option<Fields> = Some(ADDED_FIELDS);
-
-    ghost EXTENDED_FIELDS = { Some (fields_of source_to_target_amf_information_reroute_added) };
-
-    const IS_EXTENSIBLE: bool = true;
-
-    ghost IS_EXTENSIBLE = { true };
-
-    ghost parts = { parts_of source_to_target_amf_information_reroute_root };
-
-    ghost additions = { parts_of source_to_target_amf_information_reroute_added };
-
-    ghost contents = { ⟦<SourceToTargetAmfInformationReroute as Extended>⟧.contents };
-
-    ghost added = { ⟦<SourceToTargetAmfInformationReroute as Extended>⟧.added };
-
-    ghost described = { fields_described source_to_target_amf_information_reroute_root };
-
-    ghost extends = { extended_by source_to_target_amf_information_reroute_added };
-
-    ghost is_record = { λ _. refl };
-}
-
-impl Encode for SourceToTargetAmfInformationReroute {
-    fn encode_with_tag_and_constraints<E: Encoder>(
-        &self,
-        encoder: &mut E,
-        tag: Tag,
-        _: &Constraints,
-        identifier: Identifier,
-    ) -> Result<(), E::Error> {
-        components!(encode_extended self encoder tag identifier)
+impl Record for SourceToTargetAmfInformationReroute {
+    fn encode_components<E: Encoder>(&self, encoder: &mut E) -> Result<(), E::Error> {
+        components!(encode_components self encoder)
     }
-}
 
-impl Decode for SourceToTargetAmfInformationReroute {
-    fn decode_with_tag_and_constraints<D: Decoder>(
-        decoder: &mut D,
-        tag: Tag,
-        _: &Constraints,
-    ) -> Result<SourceToTargetAmfInformationReroute, D::Error> {
-        components!(decode_extended decoder tag)
+    fn decode_components<D: Decoder>(decoder: &mut D) -> Result<Self, D::Error> {
+        components!(decode_components decoder)
     }
 }

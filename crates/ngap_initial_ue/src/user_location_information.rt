@@ -1,18 +1,26 @@
 //! UserLocationInformation, of the module NGAP-IEs.
 
-ghost use Rattle.ngap_initial_ue.specs.NgapIes.{user_location_information_root};
-ghost use Rattle.ngap_initial_ue.specs.declared.user_location_information.UserLocationInformation.TheVariants.{ChoiceExtensions, UserLocationInformationEutra, UserLocationInformationN3Iwf, UserLocationInformationNr};
-ghost use Rattle.rasn_below.specs.Components.{chosen, variants_in};
-ghost use Rattle.std.specs.Prelude.{None, refl};
+ghost use Rattle.ngap_initial_ue.specs.NgapIes.{user_location_information_lists};
+ghost use Rattle.ngap_initial_ue.specs.declared.user_location_information.UserLocationInformation.TheVariants.{
+  ChoiceExtensions,
+};
+ghost use Rattle.ngap_initial_ue.specs.declared.user_location_information.UserLocationInformation.TheVariants.{
+  UserLocationInformationEutra,
+};
+ghost use Rattle.ngap_initial_ue.specs.declared.user_location_information.UserLocationInformation.TheVariants.{
+  UserLocationInformationN3Iwf,
+};
+ghost use Rattle.ngap_initial_ue.specs.declared.user_location_information.UserLocationInformation.TheVariants.{
+  UserLocationInformationNr,
+};
+ghost use Rattle.rasn_below.specs.Page.{chosen, variants_listed};
+ghost use Rattle.std.specs.Prelude.{refl};
 
 use crate::user_location_information_eutra::UserLocationInformationEutra;
 use crate::user_location_information_n3_iwf::UserLocationInformationN3Iwf;
 use crate::user_location_information_nr::UserLocationInformationNr;
 use ngap::aliases::ProtocolIeSingleContainer;
-use rasn_below::{
-    Alternatives, AsnType, ByKind, ChoiceKind, CodedAlternatives, Constraint, Decoder, Encoder,
-    OfKind, Tag, Variants, alternative_bounds, decode_alternative, encode_alternative, variants,
-};
+use rasn_below::page::*;
 
 /// UserLocationInformation ::= CHOICE {
 ///     userLocationInformationEUTRA UserLocationInformationEUTRA,
@@ -28,35 +36,27 @@ pub enum UserLocationInformation {
     ChoiceExtensions(ProtocolIeSingleContainer),
 }
 
-macro_rules! alternatives {
-    ($to:ident $($with:ident)*) => {
-        $to! { [$($with)*]
-            0 "userLocationInformationEUTRA" UserLocationInformationEutra: UserLocationInformationEutra [];
-            1 "userLocationInformationNR" UserLocationInformationNr: UserLocationInformationNr [];
-            2 "userLocationInformationN3IWF" UserLocationInformationN3Iwf: UserLocationInformationN3Iwf [];
-            3 "choice-Extensions" ChoiceExtensions: ProtocolIeSingleContainer [];
-        }
-    };
-}
+macro_rules! alternatives { ($to:ident $($with:ident)*) => { $to! { [$($with)*]
+    0 "userLocationInformationEUTRA" UserLocationInformationEutra: UserLocationInformationEutra [];
+    1 "userLocationInformationNR" UserLocationInformationNr: UserLocationInformationNr [];
+    2 "userLocationInformationN3IWF" UserLocationInformationN3Iwf: UserLocationInformationN3Iwf [];
+    3 "choice-Extensions" ChoiceExtensions: ProtocolIeSingleContainer [];
+} }; }
 
-const VARIANTS: Variants = alternatives!(variants);
+const VARIANTS: VariantLists = alternatives!(variants);
 
-const BOUNDS: &[&[Constraint]] = alternatives!(alternative_bounds);
+const BOUNDS: Bounds = alternatives!(alternative_bounds);
 
 impl OfKind for UserLocationInformation {
     type Kind = ChoiceKind;
 }
 
 impl Alternatives for UserLocationInformation {
-    const ALTERNATIVES: Variants = VARIANTS;
+    const ALTERNATIVES: VariantLists = VARIANTS;
 
-    ghost ALTERNATIVES = { variants_in user_location_information_root };
+    ghost ALTERNATIVES = { variants_listed user_location_information_lists };
 
-    const ADDED_ALTERNATIVES: Option<Variants> = None;
-
-    ghost ADDED_ALTERNATIVES = { None };
-
-    ghost alternatives = { user_location_information_root };
+    ghost alternatives = { (user_location_information_lists, refl) };
 
     ghost chosen = { elim [
       | UserLocationInformationEutra v ↦ chosen 0 (⟦<UserLocationInformationEutra as AsnType>⟧.value v)
@@ -71,10 +71,6 @@ impl Alternatives for UserLocationInformation {
       | UserLocationInformationN3Iwf v ↦ ⟦<UserLocationInformationN3Iwf as AsnType>⟧.levels v
       | ChoiceExtensions _ ↦ 1
     ] };
-
-    ghost described = { refl };
-
-    ghost extends = { refl };
 
     ghost are_variants = { record { distinct = refl; few = refl } };
 }

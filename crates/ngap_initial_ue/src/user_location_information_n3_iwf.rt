@@ -1,18 +1,12 @@
 //! UserLocationInformationN3Iwf, of the module NGAP-IEs.
 
-ghost use Rattle.ngap_initial_ue.specs.NgapIes.{user_location_information_n3_iwf_added, user_location_information_n3_iwf_root};
-ghost use Rattle.rasn_below.specs.Components.{extended_by, fields_described, fields_of, parts_of};
-ghost use Rattle.rasn_below.specs.Values.{bits, deeper_of, octets, slot_levels, slot_of};
-ghost use Rattle.std.specs.Prelude.{Some, [], max, refl, true, ◌∷◌};
+ghost use Rattle.ngap_initial_ue.specs.NgapIes.{user_location_information_n3_iwf_lists};
+ghost use Rattle.rasn_below.specs.Page.{bits, deeper_of, fields_of, octets, slot_levels, slot_of};
+ghost use Rattle.std.specs.Prelude.{Some, [], max, refl, ◌∷◌};
 
 use crate::aliases::{PortNumber, TransportLayerAddress};
 use ngap::aliases::ProtocolExtensionContainer;
-use rasn_below::types::Identifier;
-use rasn_below::{
-    AsnType, Constraint, Constraints, Constructed, Decode, Decoder, Encode, Encoder, Extended,
-    ExtendedKind, Fields, OfKind, Tag, added_bounds, added_fields, decode_extended,
-    encode_extended, root_bounds, root_fields,
-};
+use rasn_below::page::*;
 
 /// UserLocationInformationN3IWF ::= SEQUENCE {
 ///     iPAddress TransportLayerAddress,
@@ -27,41 +21,28 @@ pub struct UserLocationInformationN3Iwf {
     pub ie_extensions: Option<ProtocolExtensionContainer>,
 }
 
-macro_rules! components {
-    ($to:ident $($with:ident)*) => {
-        $to! { [$($with)*]
-            required 0 "iPAddress" ip_address: TransportLayerAddress [SIZE 1..=160, ...];
-            required 1 "portNumber" port_number: PortNumber [SIZE 2..=2];
-            optional 2 "iE-Extensions" ie_extensions: Option<ProtocolExtensionContainer> [SIZE 1..=65_535];
-            ...;
-        }
-    };
-}
+macro_rules! components { ($to:ident $($with:ident)*) => { $to! { [$($with)*]
+    required 0 "iPAddress" ip_address: TransportLayerAddress [SIZE 1..=160, ...];
+    required 1 "portNumber" port_number: PortNumber [SIZE 2..=2];
+    optional 2 "iE-Extensions" ie_extensions: Option<ProtocolExtensionContainer> [SIZE 1..=65_535];
+    ...;
+} }; }
 
-const FIELDS: Fields = components!(root_fields);
+const FIELDS: FieldLists = components!(fields);
 
-const BOUNDS: &[&[Constraint]] = components!(root_bounds);
+const BOUNDS: Bounds = components!(bounds);
 
-const ADDED_FIELDS: Fields = components!(added_fields);
+impl Components for UserLocationInformationN3Iwf {
+    const COMPONENTS: FieldLists = FIELDS;
 
-const ADDED_BOUNDS: &[&[Constraint]] = components!(added_bounds);
+    ghost COMPONENTS = { fields_of user_location_information_n3_iwf_lists };
 
-impl OfKind for UserLocationInformationN3Iwf {
-    type Kind = ExtendedKind;
-}
-
-impl Extended for UserLocationInformationN3Iwf {
-    ghost root = { user_location_information_n3_iwf_root };
-
-    ghost additions = { user_location_information_n3_iwf_added };
+    ghost components = { (user_location_information_n3_iwf_lists, refl) };
 
     ghost contents = { λ x.
         Some (bits x.ip_address) ∷
         Some (octets x.port_number) ∷
         slot_of ⟦<ProtocolExtensionContainer as AsnType>⟧.value x.ie_extensions ∷
-        [] };
-
-    ghost added = { λ x.
         [] };
 
     ghost depth = { λ x. deeper_of
@@ -71,52 +52,12 @@ impl Extended for UserLocationInformationN3Iwf {
         0 };
 }
 
-impl Constructed for UserLocationInformationN3Iwf {
-    const FIELDS: Fields = FIELDS;
-
-    ghost FIELDS = { fields_of user_location_information_n3_iwf_root };
-
-    const EXTENDED_FIELDS: Option<Fields> = Some(ADDED_FIELDS);
-
-    ghost EXTENDED_FIELDS = { Some (fields_of user_location_information_n3_iwf_added) };
-
-    const IS_EXTENSIBLE: bool = true;
-
-    ghost IS_EXTENSIBLE = { true };
-
-    ghost parts = { parts_of user_location_information_n3_iwf_root };
-
-    ghost additions = { parts_of user_location_information_n3_iwf_added };
-
-    ghost contents = { ⟦<UserLocationInformationN3Iwf as Extended>⟧.contents };
-
-    ghost added = { ⟦<UserLocationInformationN3Iwf as Extended>⟧.added };
-
-    ghost described = { fields_described user_location_information_n3_iwf_root };
-
-    ghost extends = { extended_by user_location_information_n3_iwf_added };
-
-    ghost is_record = { λ _. refl };
-}
-
-impl Encode for UserLocationInformationN3Iwf {
-    fn encode_with_tag_and_constraints<E: Encoder>(
-        &self,
-        encoder: &mut E,
-        tag: Tag,
-        _: &Constraints,
-        identifier: Identifier,
-    ) -> Result<(), E::Error> {
-        components!(encode_extended self encoder tag identifier)
+impl Record for UserLocationInformationN3Iwf {
+    fn encode_components<E: Encoder>(&self, encoder: &mut E) -> Result<(), E::Error> {
+        components!(encode_components self encoder)
     }
-}
 
-impl Decode for UserLocationInformationN3Iwf {
-    fn decode_with_tag_and_constraints<D: Decoder>(
-        decoder: &mut D,
-        tag: Tag,
-        _: &Constraints,
-    ) -> Result<UserLocationInformationN3Iwf, D::Error> {
-        components!(decode_extended decoder tag)
+    fn decode_components<D: Decoder>(decoder: &mut D) -> Result<Self, D::Error> {
+        components!(decode_components decoder)
     }
 }

@@ -1,20 +1,14 @@
 //! UserLocationInformationNr, of the module NGAP-IEs.
 
-ghost use Rattle.ngap_initial_ue.specs.NgapIes.{user_location_information_nr_added, user_location_information_nr_root};
-ghost use Rattle.rasn_below.specs.Components.{extended_by, fields_described, fields_of, parts_of};
-ghost use Rattle.rasn_below.specs.Values.{deeper_of, octets, slot_levels, slot_of};
-ghost use Rattle.std.specs.Prelude.{Some, [], max, refl, true, ◌∷◌};
+ghost use Rattle.ngap_initial_ue.specs.NgapIes.{user_location_information_nr_lists};
+ghost use Rattle.rasn_below.specs.Page.{deeper_of, fields_of, octets, slot_levels, slot_of};
+ghost use Rattle.std.specs.Prelude.{Some, [], max, refl, ◌∷◌};
 
 use crate::aliases::TimeStamp;
 use crate::nr_cgi::NrCgi;
 use crate::tai::Tai;
 use ngap::aliases::ProtocolExtensionContainer;
-use rasn_below::types::Identifier;
-use rasn_below::{
-    AsnType, Constraint, Constraints, Constructed, Decode, Decoder, Encode, Encoder, Extended,
-    ExtendedKind, Fields, OfKind, Tag, added_bounds, added_fields, decode_extended,
-    encode_extended, root_bounds, root_fields,
-};
+use rasn_below::page::*;
 
 /// UserLocationInformationNR ::= SEQUENCE {
 ///     nR-CGI NR-CGI,
@@ -31,43 +25,30 @@ pub struct UserLocationInformationNr {
     pub ie_extensions: Option<ProtocolExtensionContainer>,
 }
 
-macro_rules! components {
-    ($to:ident $($with:ident)*) => {
-        $to! { [$($with)*]
-            required 0 "nR-CGI" nr_cgi: NrCgi [];
-            required 1 "tAI" tai: Tai [];
-            optional 2 "timeStamp" time_stamp: Option<TimeStamp> [SIZE 4..=4];
-            optional 3 "iE-Extensions" ie_extensions: Option<ProtocolExtensionContainer> [SIZE 1..=65_535];
-            ...;
-        }
-    };
-}
+macro_rules! components { ($to:ident $($with:ident)*) => { $to! { [$($with)*]
+    required 0 "nR-CGI" nr_cgi: NrCgi [];
+    required 1 "tAI" tai: Tai [];
+    optional 2 "timeStamp" time_stamp: Option<TimeStamp> [SIZE 4..=4];
+    optional 3 "iE-Extensions" ie_extensions: Option<ProtocolExtensionContainer> [SIZE 1..=65_535];
+    ...;
+} }; }
 
-const FIELDS: Fields = components!(root_fields);
+const FIELDS: FieldLists = components!(fields);
 
-const BOUNDS: &[&[Constraint]] = components!(root_bounds);
+const BOUNDS: Bounds = components!(bounds);
 
-const ADDED_FIELDS: Fields = components!(added_fields);
+impl Components for UserLocationInformationNr {
+    const COMPONENTS: FieldLists = FIELDS;
 
-const ADDED_BOUNDS: &[&[Constraint]] = components!(added_bounds);
+    ghost COMPONENTS = { fields_of user_location_information_nr_lists };
 
-impl OfKind for UserLocationInformationNr {
-    type Kind = ExtendedKind;
-}
-
-impl Extended for UserLocationInformationNr {
-    ghost root = { user_location_information_nr_root };
-
-    ghost additions = { user_location_information_nr_added };
+    ghost components = { (user_location_information_nr_lists, refl) };
 
     ghost contents = { λ x.
         Some (⟦<NrCgi as AsnType>⟧.value x.nr_cgi) ∷
         Some (⟦<Tai as AsnType>⟧.value x.tai) ∷
         slot_of octets x.time_stamp ∷
         slot_of ⟦<ProtocolExtensionContainer as AsnType>⟧.value x.ie_extensions ∷
-        [] };
-
-    ghost added = { λ x.
         [] };
 
     ghost depth = { λ x. deeper_of
@@ -78,52 +59,12 @@ impl Extended for UserLocationInformationNr {
         0 };
 }
 
-impl Constructed for UserLocationInformationNr {
-    const FIELDS: Fields = FIELDS;
-
-    ghost FIELDS = { fields_of user_location_information_nr_root };
-
-    const EXTENDED_FIELDS: Option<Fields> = Some(ADDED_FIELDS);
-
-    ghost EXTENDED_FIELDS = { Some (fields_of user_location_information_nr_added) };
-
-    const IS_EXTENSIBLE: bool = true;
-
-    ghost IS_EXTENSIBLE = { true };
-
-    ghost parts = { parts_of user_location_information_nr_root };
-
-    ghost additions = { parts_of user_location_information_nr_added };
-
-    ghost contents = { ⟦<UserLocationInformationNr as Extended>⟧.contents };
-
-    ghost added = { ⟦<UserLocationInformationNr as Extended>⟧.added };
-
-    ghost described = { fields_described user_location_information_nr_root };
-
-    ghost extends = { extended_by user_location_information_nr_added };
-
-    ghost is_record = { λ _. refl };
-}
-
-impl Encode for UserLocationInformationNr {
-    fn encode_with_tag_and_constraints<E: Encoder>(
-        &self,
-        encoder: &mut E,
-        tag: Tag,
-        _: &Constraints,
-        identifier: Identifier,
-    ) -> Result<(), E::Error> {
-        components!(encode_extended self encoder tag identifier)
+impl Record for UserLocationInformationNr {
+    fn encode_components<E: Encoder>(&self, encoder: &mut E) -> Result<(), E::Error> {
+        components!(encode_components self encoder)
     }
-}
 
-impl Decode for UserLocationInformationNr {
-    fn decode_with_tag_and_constraints<D: Decoder>(
-        decoder: &mut D,
-        tag: Tag,
-        _: &Constraints,
-    ) -> Result<UserLocationInformationNr, D::Error> {
-        components!(decode_extended decoder tag)
+    fn decode_components<D: Decoder>(decoder: &mut D) -> Result<Self, D::Error> {
+        components!(decode_components decoder)
     }
 }

@@ -1,18 +1,17 @@
 //! GlobalRanNodeId, of the module NGAP-IEs.
 
-ghost use Rattle.ngap_node.specs.NgapIes.{global_ran_node_id_root};
-ghost use Rattle.ngap_node.specs.declared.global_ran_node_id.GlobalRanNodeId.TheVariants.{ChoiceExtensions, GlobalGnbId, GlobalN3IwfId, GlobalNgEnbId};
-ghost use Rattle.rasn_below.specs.Components.{chosen, variants_in};
-ghost use Rattle.std.specs.Prelude.{None, refl};
+ghost use Rattle.ngap_node.specs.NgapIes.{global_ran_node_id_lists};
+ghost use Rattle.ngap_node.specs.declared.global_ran_node_id.GlobalRanNodeId.TheVariants.{ChoiceExtensions};
+ghost use Rattle.ngap_node.specs.declared.global_ran_node_id.GlobalRanNodeId.TheVariants.{GlobalGnbId, GlobalN3IwfId};
+ghost use Rattle.ngap_node.specs.declared.global_ran_node_id.GlobalRanNodeId.TheVariants.{GlobalNgEnbId};
+ghost use Rattle.rasn_below.specs.Page.{chosen, variants_listed};
+ghost use Rattle.std.specs.Prelude.{refl};
 
 use crate::global_gnb_id::GlobalGnbId;
 use crate::global_n3_iwf_id::GlobalN3IwfId;
 use crate::global_ng_enb_id::GlobalNgEnbId;
 use ngap::aliases::ProtocolIeSingleContainer;
-use rasn_below::{
-    Alternatives, AsnType, ByKind, ChoiceKind, CodedAlternatives, Constraint, Decoder, Encoder,
-    OfKind, Tag, Variants, alternative_bounds, decode_alternative, encode_alternative, variants,
-};
+use rasn_below::page::*;
 
 /// GlobalRANNodeID ::= CHOICE {
 ///     globalGNB-ID GlobalGNB-ID,
@@ -28,35 +27,27 @@ pub enum GlobalRanNodeId {
     ChoiceExtensions(ProtocolIeSingleContainer),
 }
 
-macro_rules! alternatives {
-    ($to:ident $($with:ident)*) => {
-        $to! { [$($with)*]
-            0 "globalGNB-ID" GlobalGnbId: GlobalGnbId [];
-            1 "globalNgENB-ID" GlobalNgEnbId: GlobalNgEnbId [];
-            2 "globalN3IWF-ID" GlobalN3IwfId: GlobalN3IwfId [];
-            3 "choice-Extensions" ChoiceExtensions: ProtocolIeSingleContainer [];
-        }
-    };
-}
+macro_rules! alternatives { ($to:ident $($with:ident)*) => { $to! { [$($with)*]
+    0 "globalGNB-ID" GlobalGnbId: GlobalGnbId [];
+    1 "globalNgENB-ID" GlobalNgEnbId: GlobalNgEnbId [];
+    2 "globalN3IWF-ID" GlobalN3IwfId: GlobalN3IwfId [];
+    3 "choice-Extensions" ChoiceExtensions: ProtocolIeSingleContainer [];
+} }; }
 
-const VARIANTS: Variants = alternatives!(variants);
+const VARIANTS: VariantLists = alternatives!(variants);
 
-const BOUNDS: &[&[Constraint]] = alternatives!(alternative_bounds);
+const BOUNDS: Bounds = alternatives!(alternative_bounds);
 
 impl OfKind for GlobalRanNodeId {
     type Kind = ChoiceKind;
 }
 
 impl Alternatives for GlobalRanNodeId {
-    const ALTERNATIVES: Variants = VARIANTS;
+    const ALTERNATIVES: VariantLists = VARIANTS;
 
-    ghost ALTERNATIVES = { variants_in global_ran_node_id_root };
+    ghost ALTERNATIVES = { variants_listed global_ran_node_id_lists };
 
-    const ADDED_ALTERNATIVES: Option<Variants> = None;
-
-    ghost ADDED_ALTERNATIVES = { None };
-
-    ghost alternatives = { global_ran_node_id_root };
+    ghost alternatives = { (global_ran_node_id_lists, refl) };
 
     ghost chosen = { elim [
       | GlobalGnbId v ↦ chosen 0 (⟦<GlobalGnbId as AsnType>⟧.value v)
@@ -71,10 +62,6 @@ impl Alternatives for GlobalRanNodeId {
       | GlobalN3IwfId v ↦ ⟦<GlobalN3IwfId as AsnType>⟧.levels v
       | ChoiceExtensions _ ↦ 1
     ] };
-
-    ghost described = { refl };
-
-    ghost extends = { refl };
 
     ghost are_variants = { record { distinct = refl; few = refl } };
 }

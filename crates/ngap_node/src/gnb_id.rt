@@ -1,17 +1,12 @@
 //! GnbId, of the module NGAP-IEs.
 
-ghost use Rattle.ngap_node.specs.NgapIes.{gnb_id_root};
+ghost use Rattle.ngap_node.specs.NgapIes.{gnb_id_lists};
 ghost use Rattle.ngap_node.specs.declared.gnb_id.GnbId.TheVariants.{ChoiceExtensions, GnbId};
-ghost use Rattle.rasn_below.specs.Components.{chosen, variants_in};
-ghost use Rattle.rasn_below.specs.Values.{bits};
-ghost use Rattle.std.specs.Prelude.{None, refl};
+ghost use Rattle.rasn_below.specs.Page.{bits, chosen, variants_listed};
+ghost use Rattle.std.specs.Prelude.{refl};
 
 use ngap::aliases::ProtocolIeSingleContainer;
-use rasn_below::types::BitString;
-use rasn_below::{
-    Alternatives, AsnType, ByKind, ChoiceKind, CodedAlternatives, Constraint, Decoder, Encoder,
-    OfKind, Tag, Variants, alternative_bounds, decode_alternative, encode_alternative, variants,
-};
+use rasn_below::page::*;
 
 /// GNB-ID ::= CHOICE {
 ///     gNB-ID BIT STRING (SIZE (22..32)),
@@ -23,33 +18,25 @@ pub enum GnbId {
     ChoiceExtensions(ProtocolIeSingleContainer),
 }
 
-macro_rules! alternatives {
-    ($to:ident $($with:ident)*) => {
-        $to! { [$($with)*]
-            0 "gNB-ID" GnbId: BitString [SIZE 22..=32];
-            1 "choice-Extensions" ChoiceExtensions: ProtocolIeSingleContainer [];
-        }
-    };
-}
+macro_rules! alternatives { ($to:ident $($with:ident)*) => { $to! { [$($with)*]
+    0 "gNB-ID" GnbId: BitString [SIZE 22..=32];
+    1 "choice-Extensions" ChoiceExtensions: ProtocolIeSingleContainer [];
+} }; }
 
-const VARIANTS: Variants = alternatives!(variants);
+const VARIANTS: VariantLists = alternatives!(variants);
 
-const BOUNDS: &[&[Constraint]] = alternatives!(alternative_bounds);
+const BOUNDS: Bounds = alternatives!(alternative_bounds);
 
 impl OfKind for GnbId {
     type Kind = ChoiceKind;
 }
 
 impl Alternatives for GnbId {
-    const ALTERNATIVES: Variants = VARIANTS;
+    const ALTERNATIVES: VariantLists = VARIANTS;
 
-    ghost ALTERNATIVES = { variants_in gnb_id_root };
+    ghost ALTERNATIVES = { variants_listed gnb_id_lists };
 
-    const ADDED_ALTERNATIVES: Option<Variants> = None;
-
-    ghost ADDED_ALTERNATIVES = { None };
-
-    ghost alternatives = { gnb_id_root };
+    ghost alternatives = { (gnb_id_lists, refl) };
 
     ghost chosen = { elim [
       | GnbId v ↦ chosen 0 (bits v)
@@ -57,10 +44,6 @@ impl Alternatives for GnbId {
     ] };
 
     ghost depth = { λ _. 1 };
-
-    ghost described = { refl };
-
-    ghost extends = { refl };
 
     ghost are_variants = { record { distinct = refl; few = refl } };
 }

@@ -1,17 +1,12 @@
 //! N3IwfId, of the module NGAP-IEs.
 
-ghost use Rattle.ngap_node.specs.NgapIes.{n3_iwf_id_root};
+ghost use Rattle.ngap_node.specs.NgapIes.{n3_iwf_id_lists};
 ghost use Rattle.ngap_node.specs.declared.n3_iwf_id.N3IwfId.TheVariants.{ChoiceExtensions, N3IwfId};
-ghost use Rattle.rasn_below.specs.Components.{chosen, variants_in};
-ghost use Rattle.rasn_below.specs.Values.{bits};
-ghost use Rattle.std.specs.Prelude.{None, refl};
+ghost use Rattle.rasn_below.specs.Page.{bits, chosen, variants_listed};
+ghost use Rattle.std.specs.Prelude.{refl};
 
 use ngap::aliases::ProtocolIeSingleContainer;
-use rasn_below::types::BitString;
-use rasn_below::{
-    Alternatives, AsnType, ByKind, ChoiceKind, CodedAlternatives, Constraint, Decoder, Encoder,
-    OfKind, Tag, Variants, alternative_bounds, decode_alternative, encode_alternative, variants,
-};
+use rasn_below::page::*;
 
 /// N3IWF-ID ::= CHOICE {
 ///     n3IWF-ID BIT STRING (SIZE (16)),
@@ -23,33 +18,25 @@ pub enum N3IwfId {
     ChoiceExtensions(ProtocolIeSingleContainer),
 }
 
-macro_rules! alternatives {
-    ($to:ident $($with:ident)*) => {
-        $to! { [$($with)*]
-            0 "n3IWF-ID" N3IwfId: BitString [SIZE 16..=16];
-            1 "choice-Extensions" ChoiceExtensions: ProtocolIeSingleContainer [];
-        }
-    };
-}
+macro_rules! alternatives { ($to:ident $($with:ident)*) => { $to! { [$($with)*]
+    0 "n3IWF-ID" N3IwfId: BitString [SIZE 16..=16];
+    1 "choice-Extensions" ChoiceExtensions: ProtocolIeSingleContainer [];
+} }; }
 
-const VARIANTS: Variants = alternatives!(variants);
+const VARIANTS: VariantLists = alternatives!(variants);
 
-const BOUNDS: &[&[Constraint]] = alternatives!(alternative_bounds);
+const BOUNDS: Bounds = alternatives!(alternative_bounds);
 
 impl OfKind for N3IwfId {
     type Kind = ChoiceKind;
 }
 
 impl Alternatives for N3IwfId {
-    const ALTERNATIVES: Variants = VARIANTS;
+    const ALTERNATIVES: VariantLists = VARIANTS;
 
-    ghost ALTERNATIVES = { variants_in n3_iwf_id_root };
+    ghost ALTERNATIVES = { variants_listed n3_iwf_id_lists };
 
-    const ADDED_ALTERNATIVES: Option<Variants> = None;
-
-    ghost ADDED_ALTERNATIVES = { None };
-
-    ghost alternatives = { n3_iwf_id_root };
+    ghost alternatives = { (n3_iwf_id_lists, refl) };
 
     ghost chosen = { elim [
       | N3IwfId v ↦ chosen 0 (bits v)
@@ -57,10 +44,6 @@ impl Alternatives for N3IwfId {
     ] };
 
     ghost depth = { λ _. 1 };
-
-    ghost described = { refl };
-
-    ghost extends = { refl };
 
     ghost are_variants = { record { distinct = refl; few = refl } };
 }

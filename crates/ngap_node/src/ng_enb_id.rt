@@ -1,17 +1,13 @@
 //! NgEnbId, of the module NGAP-IEs.
 
-ghost use Rattle.ngap_node.specs.NgapIes.{ng_enb_id_root};
-ghost use Rattle.ngap_node.specs.declared.ng_enb_id.NgEnbId.TheVariants.{ChoiceExtensions, LongMacroNgEnbId, MacroNgEnbId, ShortMacroNgEnbId};
-ghost use Rattle.rasn_below.specs.Components.{chosen, variants_in};
-ghost use Rattle.rasn_below.specs.Values.{bits};
-ghost use Rattle.std.specs.Prelude.{None, refl};
+ghost use Rattle.ngap_node.specs.NgapIes.{ng_enb_id_lists};
+ghost use Rattle.ngap_node.specs.declared.ng_enb_id.NgEnbId.TheVariants.{ChoiceExtensions, LongMacroNgEnbId};
+ghost use Rattle.ngap_node.specs.declared.ng_enb_id.NgEnbId.TheVariants.{MacroNgEnbId, ShortMacroNgEnbId};
+ghost use Rattle.rasn_below.specs.Page.{bits, chosen, variants_listed};
+ghost use Rattle.std.specs.Prelude.{refl};
 
 use ngap::aliases::ProtocolIeSingleContainer;
-use rasn_below::types::BitString;
-use rasn_below::{
-    Alternatives, AsnType, ByKind, ChoiceKind, CodedAlternatives, Constraint, Decoder, Encoder,
-    OfKind, Tag, Variants, alternative_bounds, decode_alternative, encode_alternative, variants,
-};
+use rasn_below::page::*;
 
 /// NgENB-ID ::= CHOICE {
 ///     macroNgENB-ID BIT STRING (SIZE (20)),
@@ -27,35 +23,27 @@ pub enum NgEnbId {
     ChoiceExtensions(ProtocolIeSingleContainer),
 }
 
-macro_rules! alternatives {
-    ($to:ident $($with:ident)*) => {
-        $to! { [$($with)*]
-            0 "macroNgENB-ID" MacroNgEnbId: BitString [SIZE 20..=20];
-            1 "shortMacroNgENB-ID" ShortMacroNgEnbId: BitString [SIZE 18..=18];
-            2 "longMacroNgENB-ID" LongMacroNgEnbId: BitString [SIZE 21..=21];
-            3 "choice-Extensions" ChoiceExtensions: ProtocolIeSingleContainer [];
-        }
-    };
-}
+macro_rules! alternatives { ($to:ident $($with:ident)*) => { $to! { [$($with)*]
+    0 "macroNgENB-ID" MacroNgEnbId: BitString [SIZE 20..=20];
+    1 "shortMacroNgENB-ID" ShortMacroNgEnbId: BitString [SIZE 18..=18];
+    2 "longMacroNgENB-ID" LongMacroNgEnbId: BitString [SIZE 21..=21];
+    3 "choice-Extensions" ChoiceExtensions: ProtocolIeSingleContainer [];
+} }; }
 
-const VARIANTS: Variants = alternatives!(variants);
+const VARIANTS: VariantLists = alternatives!(variants);
 
-const BOUNDS: &[&[Constraint]] = alternatives!(alternative_bounds);
+const BOUNDS: Bounds = alternatives!(alternative_bounds);
 
 impl OfKind for NgEnbId {
     type Kind = ChoiceKind;
 }
 
 impl Alternatives for NgEnbId {
-    const ALTERNATIVES: Variants = VARIANTS;
+    const ALTERNATIVES: VariantLists = VARIANTS;
 
-    ghost ALTERNATIVES = { variants_in ng_enb_id_root };
+    ghost ALTERNATIVES = { variants_listed ng_enb_id_lists };
 
-    const ADDED_ALTERNATIVES: Option<Variants> = None;
-
-    ghost ADDED_ALTERNATIVES = { None };
-
-    ghost alternatives = { ng_enb_id_root };
+    ghost alternatives = { (ng_enb_id_lists, refl) };
 
     ghost chosen = { elim [
       | MacroNgEnbId v ↦ chosen 0 (bits v)
@@ -65,10 +53,6 @@ impl Alternatives for NgEnbId {
     ] };
 
     ghost depth = { λ _. 1 };
-
-    ghost described = { refl };
-
-    ghost extends = { refl };
 
     ghost are_variants = { record { distinct = refl; few = refl } };
 }

@@ -1,8 +1,10 @@
 -- The module NGAP-IEs: below each definition in ASN.1 stands what the theorem takes it for.
 use Rattle.ngap.specs.NgapContainers.{protocol_extension_container}
 use Rattle.ngap_ies.specs.NgapIes.{plmn_identity, s_nssai, tac}
-use Rattle.rasn_below.specs.Components.{Component, automatic, extended_sequence, extensible, extensible_enumerated, optional, printable_string, sequence_of, size◌to◌, utf8_string, visible_string}
-use Rattle.std.specs.Prelude.{List, [], ◌∷◌}
+use Rattle.rasn_below.specs.Page.{Component, TypeLists, extensible, extensible_automatic, extensible_enumerated}
+use Rattle.rasn_below.specs.Page.{optional, printable_string, sequence, sequence_of, size◌to◌, utf8_string}
+use Rattle.rasn_below.specs.Page.{visible_string}
+use Rattle.std.specs.Prelude.{[], ◌∷◌}
 
 -- PagingDRX ::= ENUMERATED { v32(0), v64(1), v128(2), v256(3), ... }
 abbrev pub paging_drx : Component
@@ -17,17 +19,14 @@ ran_node_name = printable_string (extensible (size 1 to 150))
 --     iE-Extensions ProtocolExtensionContainer OPTIONAL,
 --     ...
 -- }
-abbrev pub slice_support_item_root : List Component
-slice_support_item_root = automatic (
+abbrev pub slice_support_item_lists : TypeLists
+slice_support_item_lists = extensible_automatic (
     s_nssai ∷  -- s-NSSAI
     optional protocol_extension_container ∷  -- iE-Extensions
-    [])
-
-abbrev pub slice_support_item_added : List Component
-slice_support_item_added = []
+    []) []
 
 abbrev pub slice_support_item : Component
-slice_support_item = extended_sequence slice_support_item_root slice_support_item_added
+slice_support_item = sequence slice_support_item_lists
 
 -- SliceSupportList ::= SEQUENCE (SIZE (1..1024)) OF SliceSupportItem
 abbrev pub slice_support_list : Component
@@ -39,18 +38,15 @@ slice_support_list = sequence_of (size 1 to 1024) slice_support_item
 --     iE-Extensions ProtocolExtensionContainer OPTIONAL,
 --     ...
 -- }
-abbrev pub broadcast_plmn_item_root : List Component
-broadcast_plmn_item_root = automatic (
+abbrev pub broadcast_plmn_item_lists : TypeLists
+broadcast_plmn_item_lists = extensible_automatic (
     plmn_identity ∷  -- pLMNIdentity
     slice_support_list ∷  -- tAISliceSupportList
     optional protocol_extension_container ∷  -- iE-Extensions
-    [])
-
-abbrev pub broadcast_plmn_item_added : List Component
-broadcast_plmn_item_added = []
+    []) []
 
 abbrev pub broadcast_plmn_item : Component
-broadcast_plmn_item = extended_sequence broadcast_plmn_item_root broadcast_plmn_item_added
+broadcast_plmn_item = sequence broadcast_plmn_item_lists
 
 -- BroadcastPLMNList ::= SEQUENCE (SIZE (1..12)) OF BroadcastPLMNItem
 abbrev pub broadcast_plmn_list : Component
@@ -62,18 +58,15 @@ broadcast_plmn_list = sequence_of (size 1 to 12) broadcast_plmn_item
 --     iE-Extensions ProtocolExtensionContainer OPTIONAL,
 --     ...
 -- }
-abbrev pub supported_ta_item_root : List Component
-supported_ta_item_root = automatic (
+abbrev pub supported_ta_item_lists : TypeLists
+supported_ta_item_lists = extensible_automatic (
     tac ∷  -- tAC
     broadcast_plmn_list ∷  -- broadcastPLMNList
     optional protocol_extension_container ∷  -- iE-Extensions
-    [])
-
-abbrev pub supported_ta_item_added : List Component
-supported_ta_item_added = []
+    []) []
 
 abbrev pub supported_ta_item : Component
-supported_ta_item = extended_sequence supported_ta_item_root supported_ta_item_added
+supported_ta_item = sequence supported_ta_item_lists
 
 -- SupportedTAList ::= SEQUENCE (SIZE (1..256)) OF SupportedTAItem
 abbrev pub supported_ta_list : Component
@@ -101,15 +94,12 @@ ran_node_name_utf8_string = utf8_string
 --     iE-Extensions ProtocolExtensionContainer OPTIONAL,
 --     ...
 -- }
-abbrev pub extended_ran_node_name_root : List Component
-extended_ran_node_name_root = automatic (
+abbrev pub extended_ran_node_name_lists : TypeLists
+extended_ran_node_name_lists = extensible_automatic (
     optional ran_node_name_visible_string ∷  -- rANNodeNameVisibleString
     optional ran_node_name_utf8_string ∷  -- rANNodeNameUTF8String
     optional protocol_extension_container ∷  -- iE-Extensions
-    [])
-
-abbrev pub extended_ran_node_name_added : List Component
-extended_ran_node_name_added = []
+    []) []
 
 abbrev pub extended_ran_node_name : Component
-extended_ran_node_name = extended_sequence extended_ran_node_name_root extended_ran_node_name_added
+extended_ran_node_name = sequence extended_ran_node_name_lists

@@ -1,12 +1,11 @@
 //! Names for types under constraints, for lists, and for numbers and bits.
 
-ghost use Rattle.rasn_below.specs.Components.{extensible, size◌to◌};
+ghost use Rattle.rasn_below.specs.Page.{extensible, size◌to◌};
 
 use crate::broadcast_plmn_item::BroadcastPlmnItem;
 use crate::slice_support_item::SliceSupportItem;
 use crate::supported_ta_item::SupportedTaItem;
-use rasn_below::types::{PrintableString, Utf8String, VisibleString};
-use rasn_below::{Constrained, Constraint, Constraints, Limits, constraints};
+use rasn_below::page::*;
 
 /// RANNodeName ::= PrintableString (SIZE (1..150, ...))
 pub type RanNodeName = PrintableString;

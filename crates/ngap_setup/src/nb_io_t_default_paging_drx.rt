@@ -1,12 +1,10 @@
 //! NbIoTDefaultPagingDrx, of the module NGAP-IEs.
 
-ghost use Rattle.ngap_setup.specs.declared.nb_io_t_default_paging_drx.NbIoTDefaultPagingDrx.TheVariants.{Rf1024, Rf128, Rf256, Rf512};
-ghost use Rattle.rasn_below.specs.Components.{extensible_items};
-ghost use Rattle.rasn_below.specs.Values.{item, root};
+ghost use Rattle.ngap_setup.specs.declared.nb_io_t_default_paging_drx.NbIoTDefaultPagingDrx.TheVariants.{Rf1024, Rf128};
+ghost use Rattle.ngap_setup.specs.declared.nb_io_t_default_paging_drx.NbIoTDefaultPagingDrx.TheVariants.{Rf256, Rf512};
+ghost use Rattle.rasn_below.specs.Page.{extensible_items, item, root};
 
-use rasn_below::{
-    ByKind, EnumeratedKind, ItemCounts, Items, OfKind, Place, item_at, item_counts, place_of_item,
-};
+use rasn_below::page::*;
 
 /// NB-IoT-DefaultPagingDRX ::= ENUMERATED { rf128(0), rf256(1), rf512(2), rf1024(3), ... }
 #[derive(Clone, Copy, Debug, PartialEq, Eq)]
@@ -17,17 +15,13 @@ pub enum NbIoTDefaultPagingDrx {
     Rf1024,
 }
 
-macro_rules! items {
-    ($to:ident $($with:ident)*) => {
-        $to! { [$($with)*]
-            Rf128;
-            Rf256;
-            Rf512;
-            Rf1024;
-            ...;
-        }
-    };
-}
+macro_rules! items { ($to:ident $($with:ident)*) => { $to! { [$($with)*]
+    Rf128;
+    Rf256;
+    Rf512;
+    Rf1024;
+    ...;
+} }; }
 
 impl OfKind for NbIoTDefaultPagingDrx {
     type Kind = EnumeratedKind;

@@ -1,12 +1,9 @@
 //! PagingDrx, of the module NGAP-IEs.
 
 ghost use Rattle.ngap_setup.specs.declared.paging_drx.PagingDrx.TheVariants.{V128, V256, V32, V64};
-ghost use Rattle.rasn_below.specs.Components.{extensible_items};
-ghost use Rattle.rasn_below.specs.Values.{item, root};
+ghost use Rattle.rasn_below.specs.Page.{extensible_items, item, root};
 
-use rasn_below::{
-    ByKind, EnumeratedKind, ItemCounts, Items, OfKind, Place, item_at, item_counts, place_of_item,
-};
+use rasn_below::page::*;
 
 /// PagingDRX ::= ENUMERATED { v32(0), v64(1), v128(2), v256(3), ... }
 #[derive(Clone, Copy, Debug, PartialEq, Eq)]
@@ -17,17 +14,13 @@ pub enum PagingDrx {
     V256,
 }
 
-macro_rules! items {
-    ($to:ident $($with:ident)*) => {
-        $to! { [$($with)*]
-            V32;
-            V64;
-            V128;
-            V256;
-            ...;
-        }
-    };
-}
+macro_rules! items { ($to:ident $($with:ident)*) => { $to! { [$($with)*]
+    V32;
+    V64;
+    V128;
+    V256;
+    ...;
+} }; }
 
 impl OfKind for PagingDrx {
     type Kind = EnumeratedKind;

@@ -1,19 +1,13 @@
 //! SupportedTaItem, of the module NGAP-IEs.
 
-ghost use Rattle.ngap_setup.specs.NgapIes.{supported_ta_item_added, supported_ta_item_root};
-ghost use Rattle.rasn_below.specs.Components.{extended_by, fields_described, fields_of, parts_of};
-ghost use Rattle.rasn_below.specs.Values.{deeper_of, octets, slot_levels, slot_of};
-ghost use Rattle.std.specs.Prelude.{Some, [], max, refl, true, ◌∷◌};
+ghost use Rattle.ngap_setup.specs.NgapIes.{supported_ta_item_lists};
+ghost use Rattle.rasn_below.specs.Page.{deeper_of, fields_of, octets, slot_levels, slot_of};
+ghost use Rattle.std.specs.Prelude.{Some, [], max, refl, ◌∷◌};
 
 use crate::aliases::BroadcastPlmnList;
 use ngap::aliases::ProtocolExtensionContainer;
 use ngap_ies::aliases::Tac;
-use rasn_below::types::Identifier;
-use rasn_below::{
-    AsnType, Constraint, Constraints, Constructed, Decode, Decoder, Encode, Encoder, Extended,
-    ExtendedKind, Fields, OfKind, Tag, added_bounds, added_fields, decode_extended,
-    encode_extended, root_bounds, root_fields,
-};
+use rasn_below::page::*;
 
 /// SupportedTAItem ::= SEQUENCE {
 ///     tAC TAC,
@@ -28,41 +22,28 @@ pub struct SupportedTaItem {
     pub ie_extensions: Option<ProtocolExtensionContainer>,
 }
 
-macro_rules! components {
-    ($to:ident $($with:ident)*) => {
-        $to! { [$($with)*]
-            required 0 "tAC" tac: Tac [SIZE 3..=3];
-            required 1 "broadcastPLMNList" broadcast_plmn_list: BroadcastPlmnList [SIZE 1..=12];
-            optional 2 "iE-Extensions" ie_extensions: Option<ProtocolExtensionContainer> [SIZE 1..=65_535];
-            ...;
-        }
-    };
-}
+macro_rules! components { ($to:ident $($with:ident)*) => { $to! { [$($with)*]
+    required 0 "tAC" tac: Tac [SIZE 3..=3];
+    required 1 "broadcastPLMNList" broadcast_plmn_list: BroadcastPlmnList [SIZE 1..=12];
+    optional 2 "iE-Extensions" ie_extensions: Option<ProtocolExtensionContainer> [SIZE 1..=65_535];
+    ...;
+} }; }
 
-const FIELDS: Fields = components!(root_fields);
+const FIELDS: FieldLists = components!(fields);
 
-const BOUNDS: &[&[Constraint]] = components!(root_bounds);
+const BOUNDS: Bounds = components!(bounds);
 
-const ADDED_FIELDS: Fields = components!(added_fields);
+impl Components for SupportedTaItem {
+    const COMPONENTS: FieldLists = FIELDS;
 
-const ADDED_BOUNDS: &[&[Constraint]] = components!(added_bounds);
+    ghost COMPONENTS = { fields_of supported_ta_item_lists };
 
-impl OfKind for SupportedTaItem {
-    type Kind = ExtendedKind;
-}
-
-impl Extended for SupportedTaItem {
-    ghost root = { supported_ta_item_root };
-
-    ghost additions = { supported_ta_item_added };
+    ghost components = { (supported_ta_item_lists, refl) };
 
     ghost contents = { λ x.
         Some (octets x.tac) ∷
         Some (⟦<BroadcastPlmnList as AsnType>⟧.value x.broadcast_plmn_list) ∷
         slot_of ⟦<ProtocolExtensionContainer as AsnType>⟧.value x.ie_extensions ∷
-        [] };
-
-    ghost added = { λ x.
         [] };
 
     ghost depth = { λ x. deeper_of
@@ -72,52 +53,12 @@ impl Extended for SupportedTaItem {
         0 };
 }
 
-impl Constructed for SupportedTaItem {
-    const FIELDS: Fields = FIELDS;
-
-    ghost FIELDS = { fields_of supported_ta_item_root };
-
-    const EXTENDED_FIELDS: Option<Fields> = Some(ADDED_FIELDS);
-
-    ghost EXTENDED_FIELDS = { Some (fields_of supported_ta_item_added) };
-
-    const IS_EXTENSIBLE: bool = true;
-
-    ghost IS_EXTENSIBLE = { true };
-
-    ghost parts = { parts_of supported_ta_item_root };
-
-    ghost additions = { parts_of supported_ta_item_added };
-
-    ghost contents = { ⟦<SupportedTaItem as Extended>⟧.contents };
-
-    ghost added = { ⟦<SupportedTaItem as Extended>⟧.added };
-
-    ghost described = { fields_described supported_ta_item_root };
-
-    ghost extends = { extended_by supported_ta_item_added };
-
-    ghost is_record = { λ _. refl };
-}
-
-impl Encode for SupportedTaItem {
-    fn encode_with_tag_and_constraints<E: Encoder>(
-        &self,
-        encoder: &mut E,
-        tag: Tag,
-        _: &Constraints,
-        identifier: Identifier,
-    ) -> Result<(), E::Error> {
-        components!(encode_extended self encoder tag identifier)
+impl Record for SupportedTaItem {
+    fn encode_components<E: Encoder>(&self, encoder: &mut E) -> Result<(), E::Error> {
+        components!(encode_components self encoder)
     }
-}
 
-impl Decode for SupportedTaItem {
-    fn decode_with_tag_and_constraints<D: Decoder>(
-        decoder: &mut D,
-        tag: Tag,
-        _: &Constraints,
-    ) -> Result<SupportedTaItem, D::Error> {
-        components!(decode_extended decoder tag)
+    fn decode_components<D: Decoder>(decoder: &mut D) -> Result<Self, D::Error> {
+        components!(decode_components decoder)
     }
 }

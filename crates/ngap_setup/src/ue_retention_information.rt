@@ -1,12 +1,9 @@
 //! UeRetentionInformation, of the module NGAP-IEs.
 
 ghost use Rattle.ngap_setup.specs.declared.ue_retention_information.UeRetentionInformation.TheVariants.{UesRetained};
-ghost use Rattle.rasn_below.specs.Components.{extensible_items};
-ghost use Rattle.rasn_below.specs.Values.{item, root};
+ghost use Rattle.rasn_below.specs.Page.{extensible_items, item, root};
 
-use rasn_below::{
-    ByKind, EnumeratedKind, ItemCounts, Items, OfKind, Place, item_at, item_counts, place_of_item,
-};
+use rasn_below::page::*;
 
 /// UERetentionInformation ::= ENUMERATED { ues-retained(0), ... }
 #[derive(Clone, Copy, Debug, PartialEq, Eq)]
@@ -14,14 +11,10 @@ pub enum UeRetentionInformation {
     UesRetained,
 }
 
-macro_rules! items {
-    ($to:ident $($with:ident)*) => {
-        $to! { [$($with)*]
-            UesRetained;
-            ...;
-        }
-    };
-}
+macro_rules! items { ($to:ident $($with:ident)*) => { $to! { [$($with)*]
+    UesRetained;
+    ...;
+} }; }
 
 impl OfKind for UeRetentionInformation {
     type Kind = EnumeratedKind;

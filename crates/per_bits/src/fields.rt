@@ -4,7 +4,8 @@
 //! Octets that are written to have spare bits: fewer than eight at the end of the last octet, which are zeros and no
 //! bits of what is kept. Each function that writes answers how many bits are spare then.
 
-ghost use Rattle.std.specs.Prelude.{◌≡◌, ◌+◌, ◌*◌, ◌%◌, ◌^◌, ◌<◌, ◌≤◌, ◌++◌, length, take, drop, set, vec_len, vec_capacity};
+ghost use Rattle.std.specs.Prelude.{◌≡◌, ◌+◌, ◌*◌, ◌%◌, ◌^◌, ◌<◌, ◌≤◌, ◌++◌, length, take, drop, set, vec_len};
+ghost use Rattle.std.specs.Prelude.{vec_capacity};
 ghost use Rattle.rasn_types.specs.Bits.{to_bits, number_of, unpack};
 ghost use Rattle.per_bits.specs.Octets.{word_size, first_word, filled, low_bits_of, AreFilledBy, ArePadded, AreWithin};
 

@@ -5,7 +5,9 @@
 //! bits alone, as a list of truth values, and not of how they are kept: eight to an octet, the first highest.
 #![tactic(auto)]
 
-ghost use Rattle.std.specs.Prelude.{◌≡◌, ◌+◌, ◌-◌, ◌*◌, ◌/◌, ◌%◌, ◌^◌, ◌<◌, ◌≤◌, List, [], ◌∷◌, ◌++◌, Bool, length, take, drop, set, slice_get, vec_len, vec_capacity, OnOk, OnErr, IfOk, IfErr, IfSome, IsSome, IsTrue, ◌↔◌, ⊤};
+ghost use Rattle.std.specs.Prelude.{◌≡◌, ◌+◌, ◌-◌, ◌*◌, ◌/◌, ◌%◌, ◌^◌, ◌<◌, ◌≤◌, List, [], ◌∷◌, ◌++◌, Bool, length};
+ghost use Rattle.std.specs.Prelude.{take, drop, set, slice_get, vec_len, vec_capacity, OnOk, OnErr, IfOk, IfErr};
+ghost use Rattle.std.specs.Prelude.{IfSome, IsSome, IsTrue, ◌↔◌, ⊤};
 ghost use Rattle.rasn_types.specs.Bits.{to_bits, number_of, unpack};
 ghost use Rattle.rasn_types.specs.Packed.{packed};
 ghost use Rattle.per_bits.specs.Octets.{filled, low_bits_of, AreFilledBy, ArePadded, AreWholeOctets};

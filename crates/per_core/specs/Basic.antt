@@ -1,12 +1,14 @@
 -- All encodings that a basic decoder takes (ITU-T X.691, 12 to 24, 30 and 32). Where it takes more than X.691 allows a
 -- sender, that is this project's choice: any padding, superfluous octets and large forms, and additions that it doesn't
 -- know.
-use Rattle.std.specs.Prelude.{ℕ, zero, suc, ◌+◌, ◌-◌, ◌*◌, ◌/◌, ◌<◌, ◌≡◌, ◌⊎◌, Bool, true, false, cond, ◌&&◌, nat_le, nat_lt, ◌==◌, List, [], ◌∷◌, ◌++◌, length, Option, Some, None, ℤ, pos}
+use Rattle.std.specs.Prelude.{ℕ, zero, suc, ◌+◌, ◌-◌, ◌*◌, ◌/◌, ◌<◌, ◌≡◌, ◌⊎◌, Bool, true, false, cond, ◌&&◌, nat_le}
+use Rattle.std.specs.Prelude.{nat_lt, ◌==◌, List, [], ◌∷◌, ◌++◌, length, Option, Some, None, ℤ, pos}
 use Rattle.rasn_types.specs.Alphabets.{char_width, char_code, visible}
 use Rattle.rasn_types.specs.Bits.{Bits, width, unpack}
 use Rattle.rasn_types.specs.Contents.{is_text, is_time, is_identifier, is_date}
 use Rattle.rasn_types.specs.Octets.{unsigned, signed}
-use Rattle.rasn_types.specs.Values.{Value, whole, truth, nothing, characters, elements, bag_of, fields, alternative, day, Side, root, added, as_values, as_slots}
+use Rattle.rasn_types.specs.Values.{Value, whole, truth, nothing, characters, elements, bag_of, fields, alternative}
+use Rattle.rasn_types.specs.Values.{day, Side, root, added, as_values, as_slots}
 use Rattle.rasn_types.specs.Variants.{Variant, aligned, unaligned}
 use Rattle.rasn_constraints.specs.Bounds.{allows, holds, fits_i128, above, Bounds, Size, any_size, unbounded}
 use Rattle.rasn_schema.specs.Orders.{ordered}

@@ -1,16 +1,20 @@
 -- The canonical encoding of a value in normal form (ITU-T X.691, 12 to 24, 30 and 32).
-use Rattle.std.specs.Prelude.{ℕ, zero, suc, ◌-◌, Bool, true, false, if◌then◌else◌, not, ◌&&◌, ◌||◌, nat_le, nat_lt, List, [], ◌∷◌, map, length, Option, Some, None, ℤ, pos, negsuc}
+use Rattle.std.specs.Prelude.{ℕ, zero, suc, ◌-◌, Bool, true, false, if◌then◌else◌, not, ◌&&◌, ◌||◌, nat_le, nat_lt}
+use Rattle.std.specs.Prelude.{List, [], ◌∷◌, map, length, Option, Some, None, ℤ, pos, negsuc}
 use lib.Signed.{le_z}
 use Rattle.rasn_types.specs.Alphabets.{char_width, char_code, visible}
 use Rattle.rasn_types.specs.Bits.{Bits, to_bits}
 use Rattle.rasn_types.specs.Contents.{is_text, is_time, is_identifier, is_date}
-use Rattle.rasn_types.specs.Values.{Value, whole, truth, nothing, item, octets, bits, characters, elements, bag, fields, alternative, day, Side, root, added, values, slots, same, sorted, before, bag_of}
+use Rattle.rasn_types.specs.Values.{Value, whole, truth, nothing, item, octets, bits, characters, elements, bag, fields}
+use Rattle.rasn_types.specs.Values.{alternative, day, Side, root, added, values, slots, same, sorted, before, bag_of}
 use Rattle.rasn_types.specs.Variants.{Variant}
 use Rattle.rasn_constraints.specs.Bounds.{holds, any_size}
 use Rattle.rasn_schema.specs.Orders.{ordered}
 use Rattle.rasn_schema.specs.Schemas
 use Rattle.rasn_schema.specs.Schemas.{tags, Presence, required, optional, group, default, Schema, Parts, no_parts, part}
-use Rattle.per_core.specs.Counts.{list_items, octet_items, bit_items, char_items, counted, octet_writers, bit_writers, unconstrained_octets, number_form, number_under, open_bits, small, constrained_whole, determinant}
+use Rattle.per_core.specs.Counts.{list_items, octet_items, bit_items, char_items, counted, octet_writers, bit_writers}
+use Rattle.per_core.specs.Counts.{unconstrained_octets, number_form, number_under, open_bits, small, constrained_whole}
+use Rattle.per_core.specs.Counts.{determinant}
 use Rattle.per_core.specs.Writers.{Writer, just, refused, ◌▹◌, written_if, complete}
 
 -- a code in w bits, where there is one

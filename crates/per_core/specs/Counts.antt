@@ -1,5 +1,7 @@
 -- Constrained whole numbers, lengths, numbers, and open types as they are written (ITU-T X.691, 11.2 and 11.5 to 11.9).
-use Rattle.std.specs.Prelude.{ℕ, zero, suc, ◌+◌, ◌-◌, ◌*◌, ◌/◌, ◌%◌, Bool, true, false, if◌then◌else◌, not, ◌&&◌, nat_le, nat_lt, ◌==◌, List, [], ◌∷◌, ◌++◌, map, length, take, drop, replicate, Option, Some, None, ℤ, pos}
+use Rattle.std.specs.Prelude.{ℕ, zero, suc, ◌+◌, ◌-◌, ◌*◌, ◌/◌, ◌%◌, Bool, true, false, if◌then◌else◌, not, ◌&&◌}
+use Rattle.std.specs.Prelude.{nat_le, nat_lt, ◌==◌, List, [], ◌∷◌, ◌++◌, map, length, take, drop, replicate, Option}
+use Rattle.std.specs.Prelude.{Some, None, ℤ, pos}
 use Rattle.rasn_types.specs.Bits.{Bits, width, to_bits, pack}
 use Rattle.rasn_types.specs.Octets.{octets_of_natural, natural_bits, whole_bits}
 use Rattle.rasn_types.specs.Variants.{Variant, aligned, unaligned}

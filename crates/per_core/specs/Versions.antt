@@ -1,11 +1,14 @@
 -- Versions of a schema behind extension markers (ITU-T X.680, 52): which is newer, and what a value of one is in the
 -- other.
-use Rattle.std.specs.Prelude.{ℕ, zero, suc, ◌≤◌, ◌≡◌, Bool, true, false, if◌then◌else◌, nat_lt, List, [], ◌∷◌, Option, Some, None}
-use Rattle.rasn_types.specs.Values.{Value, item, elements, bag, bag_of, fields, alternative, root, added, values, as_values, slots, as_slots}
+use Rattle.std.specs.Prelude.{ℕ, zero, suc, ◌≤◌, ◌≡◌, Bool, true, false, if◌then◌else◌, nat_lt, List, [], ◌∷◌, Option}
+use Rattle.std.specs.Prelude.{Some, None}
+use Rattle.rasn_types.specs.Values.{Value, item, elements, bag, bag_of, fields, alternative, root, added, values}
+use Rattle.rasn_types.specs.Values.{as_values, slots, as_slots}
 use Rattle.rasn_schema.specs.Depth.{meets_cut}
 use Rattle.rasn_schema.specs.Normal.{root_of, additions_of}
 use Rattle.rasn_constraints.specs.Bounds.{Size}
-use Rattle.rasn_schema.specs.Schemas.{Presence, required, optional, group, default, Order, TagTree, Schema, Parts, no_parts, part}
+use Rattle.rasn_schema.specs.Schemas.{Presence, required, optional, group, default, Order, TagTree, Schema, Parts}
+use Rattle.rasn_schema.specs.Schemas.{no_parts, part}
 
 -- the element's schema of a list or bag
 abbrev pub element_of : Schema → Schema

@@ -1,5 +1,6 @@
 -- What is written: bits that depend on the position where they begin (ITU-T X.691, 11.1 and 11.2).
-use Rattle.std.specs.Prelude.{ℕ, ◌+◌, ◌-◌, ◌/◌, ◌%◌, max, Bool, true, false, List, [], ◌∷◌, ◌++◌, length, replicate, Option, Some, None}
+use Rattle.std.specs.Prelude.{ℕ, ◌+◌, ◌-◌, ◌/◌, ◌%◌, max, Bool, true, false, List, [], ◌∷◌, ◌++◌, length, replicate}
+use Rattle.std.specs.Prelude.{Option, Some, None}
 use Rattle.rasn_types.specs.Bits.{Bits, pack}
 use Rattle.rasn_types.specs.Variants.{Variant, aligned, unaligned}
 

@@ -1,5 +1,6 @@
 -- The steps of a decoder's calls: what each takes off the front of the bits left, or why it refuses.
-use Rattle.std.specs.Prelude.{◌≡◌, ◌-◌, ◌<◌, ◌≤◌, ◌⊎◌, ℕ, true, List, [], Bool, Option, length, Result, Ok, Err, OnOk, IfErr}
+use Rattle.std.specs.Prelude.{◌≡◌, ◌-◌, ◌<◌, ◌≤◌, ◌⊎◌, ℕ, true, List, [], Bool, Option, length, Result, Ok, Err, OnOk}
+use Rattle.std.specs.Prelude.{IfErr}
 use Rattle.rasn_types.specs.Values.{Side, added}
 use Rattle.rasn_schema.specs.Schemas.{Schema}
 use Rattle.rasn_schema.specs.declared.items.Place.{Place}
@@ -10,7 +11,8 @@ use Rattle.per_read.specs.Kinds.{IsTested, NoneIn, Stopped}
 use Rattle.per_read.specs.Takes.{Front}
 use Rattle.per_read.specs.declared.error.DecodeError.{DecodeError}
 use Rattle.per_read.specs.declared.error.DecodeErrorKind.{DecodeErrorKind}
-use Rattle.per_read.specs.declared.error.DecodeErrorKind.TheVariants.{ExceedsMaxParseDepth, Incomplete, MissingTag, OutOfMemory}
+use Rattle.per_read.specs.declared.error.DecodeErrorKind.TheVariants.{ExceedsMaxParseDepth, Incomplete, MissingTag}
+use Rattle.per_read.specs.declared.error.DecodeErrorKind.TheVariants.{OutOfMemory}
 use Rattle.per_read_types.specs.Bitmaps.{skipped_unknown}
 use Rattle.per_read_types.specs.Ends.{EndsAs, IsOfEnd}
 use Rattle.per_decoding.specs.Additions.{Asks, OpensContents, Shown, OutsideAddition, with_outside_addition}

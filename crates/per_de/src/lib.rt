@@ -1,7 +1,8 @@
 //! The decoder of the packed encoding rules: it reads every basic encoding.
 #![tactic(auto)]
 
-ghost use Rattle.std.specs.Prelude.{◌≡◌, ◌<◌, ◌≤◌, ◌+◌, ◌-◌, ◌*◌, ◌%◌, true, false, length, slice_get, Some, MatchOption};
+ghost use Rattle.std.specs.Prelude.{◌≡◌, ◌<◌, ◌≤◌, ◌+◌, ◌-◌, ◌*◌, ◌%◌, true, false, length, slice_get, Some};
+ghost use Rattle.std.specs.Prelude.{MatchOption};
 ghost use Rattle.std.specs.Prelude.{◌↔◌, IfOk, IfSome, IsSome, OnOk, OnErr, IfErr};
 ghost use Rattle.std.specs.Cow.{cow_slice_items, IsBorrowedSlice, IsOwnedSlice};
 ghost use Rattle.rasn_types.specs.Bits.{unpack};
@@ -33,7 +34,8 @@ ghost use Rattle.per_de.specs.Lists.{IsOpenList};
 ghost use Rattle.per_de.specs.Openings.{OpensRecord};
 ghost use Rattle.per_de.specs.Outsides.{outside_choice_of, outside_record_of, outside_addition_of};
 ghost use Rattle.per_de.specs.Lending.{AreLent, ComeAlone};
-ghost use Rattle.per_de.specs.Sources.{bits_of, extension_in, flags_in, place_left, span_of, up_to, unread_of, AreOctetsOf, IsWithin};
+ghost use Rattle.per_de.specs.Sources.{bits_of, extension_in, flags_in, place_left, span_of, up_to, unread_of};
+ghost use Rattle.per_de.specs.Sources.{AreOctetsOf, IsWithin};
 ghost use Rattle.per_de.specs.Steps.{AsksNext, EndsContents, EntersOpen, HasTwoLevels, IsRootRead, SkipsUnknown};
 ghost use Rattle.per_de.specs.Steps.{ClosesContents, EntersAlternative, TakesIndex};
 ghost use Rattle.per_de.specs.Steps.{TakesBit, TakesBitmap, TakesExtensionBit, TakesFlags, TakesPresences};

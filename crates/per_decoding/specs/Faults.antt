@@ -1,5 +1,6 @@
 -- The fault that a refusal names, where it stands.
-use Rattle.std.specs.Prelude.{◌≡◌, ◌≤◌, ◌⊎◌, ℕ, Bool, true, false, List, [], ◌∷◌, length, Option, Some, None, Result, Ok, Err}
+use Rattle.std.specs.Prelude.{◌≡◌, ◌≤◌, ◌⊎◌, ℕ, Bool, true, false, List, [], ◌∷◌, length, Option, Some, None, Result}
+use Rattle.std.specs.Prelude.{Ok, Err}
 use Rattle.rasn_types.specs.Bits.{Bits, unpack}
 use Rattle.rasn_types.specs.declared.types.Tag.{Tag}
 use Rattle.rasn_constraints.specs.Bounds.{Size}
@@ -25,7 +26,9 @@ use Rattle.per_read.specs.UpTo.{UpTo}
 use Rattle.per_core.specs.declared.items.Item.TheVariants.{Octet, Bit}
 use Rattle.per_read.specs.declared.error.DecodeError.{DecodeError}
 use Rattle.per_read.specs.declared.error.DecodeErrorKind.{DecodeErrorKind}
-use Rattle.per_read.specs.declared.error.DecodeErrorKind.TheVariants.{ExceedsMaxParseDepth, AlreadyFailed, MissingTag, RealNotSupported, RequiredExtensionNotPresent, TypeNotExtensible}
+use Rattle.per_read.specs.declared.error.DecodeErrorKind.TheVariants.{ExceedsMaxParseDepth, AlreadyFailed, MissingTag}
+use Rattle.per_read.specs.declared.error.DecodeErrorKind.TheVariants.{RealNotSupported, RequiredExtensionNotPresent}
+use Rattle.per_read.specs.declared.error.DecodeErrorKind.TheVariants.{TypeNotExtensible}
 use Rattle.per_read_types.specs.Additions.{Addition, NextFlag, rule_of}
 use Rattle.per_read_types.specs.Bitmaps.{skipped_unknown}
 use Rattle.per_read_types.specs.Ends.{IsOfEnd}

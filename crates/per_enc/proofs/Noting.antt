@@ -5,7 +5,7 @@ use Rattle.rasn_types.specs.Codecs.{variant_of}
 use Rattle.rasn_types.specs.Values.{Value, nothing}
 use Rattle.rasn_types.specs.declared.types.Codec.{Codec}
 use Rattle.rasn_schema.specs.Schemas.{Schema}
-use Rattle.rasn_traits.specs.Calls.{without_memory, Written, Writes}
+use Rattle.rasn_traits.specs.Calls.{Behaves, without_memory, Written, Writes}
 use Rattle.per_core.specs.Canon.{canon}
 use Rattle.per_write.specs.Components.{Encoding}
 use Rattle.per_write.specs.declared.error.EncodeError.{EncodeError}
@@ -23,6 +23,15 @@ noting_codec x = ap (λ (z : State). z.codec) (noting_same x)
 
 pub noting_failed : (x : Encoding) → (noting x).writer.failed ≡ x.writer.failed
 noting_failed x = ap (λ (z : State). z.failed) (noting_same x)
+
+-- how a call behaves by which a value is begun, and one that had been refused
+pub behaves_begun : {T : Type 0} {x y : Encoding} {result : Result T EncodeError} → x.writer.failed ≡ false → OnErr result (y.writer.failed ≡ true) → y.writer.codec ≡ x.writer.codec
+    → Behaves encoding_rules.already encoding_rules.failed encoding_rules.codec x result y
+behaves_begun f e k = record { again = λ q. absurd (let d : true ≡ false = sym q ∙ f in cc); fails = e; kept = k }
+
+pub behaves_refused : {T : Type 0} {x y : Encoding} {e : EncodeError} → IsAlready e x.writer → x.writer.failed ≡ true → y ≡ x
+    → Behaves {T = T} encoding_rules.already encoding_rules.failed encoding_rules.codec x (Err e) y
+behaves_refused a f s = record { again = λ q. a; fails = ap (λ (z : Encoding). z.writer.failed) s ∙ f; kept = ap (λ (z : Encoding). z.writer.codec) s }
 
 -- a fault stands alike in what failed alike
 stands_alike : (kind : EncodeErrorKind) (x y : State) (s : Schema) (v : Value) → x.failed ≡ y.failed → Stands kind x s v → Stands kind y s v
@@ -58,11 +67,7 @@ written_noted x y s v (Err d) (inr r) e = inr (refuses_noted d x s v r)
 pub writes_noted : (x m y : Encoding) (s : Schema) (v : Value) (result : Result (Unit {0}) EncodeError) → m ≡ noting x → x.writer.failed ≡ false → Writes encoder_rules s v m.writer result y.writer → y.set ≡ m.set → Writes encoding_rules s v x result y
 writes_noted x m y s v result e f w k = record {
   law = written_noted x y s v result (subst (λ (z : Encoding). Written encoder_rules s v z.writer result y.writer) e w.law) (k ∙ ap (λ (z : Encoding). z.set) e);
-  behaves = record {
-    again = λ g. absurd (let d : true ≡ false = sym g ∙ f in cc);
-    fails = w.behaves.fails;
-    kept = w.behaves.kept ∙ ap (λ (z : Encoding). z.writer.codec) e ∙ noting_codec x;
-  };
+  behaves = behaves_begun f w.behaves.fails (w.behaves.kept ∙ ap (λ (z : Encoding). z.writer.codec) e ∙ noting_codec x);
 }
 
 -- where a value begins, nothing was refused
@@ -75,7 +80,7 @@ already_refused x y s v result e f p q a h k =
     let b : IsAlready f x.writer = subst (λ (d : EncodeError). IsAlready d x.writer) (sym q) a in
     rw p (record {
       law = inr (refuses_again f x.writer s v b h);
-      behaves = record { again = λ g. b; fails = ap (λ (z : Encoding). z.writer.failed) k ∙ h; kept = ap (λ (z : Encoding). z.writer.codec) k };
+      behaves = behaves_refused b h k;
     })
 
 -- X.691 18: a NULL is no bits where it begins
@@ -86,9 +91,9 @@ null_noted x y (Ok u) f e a g s = record {
     written = subst (λ (z : Encoding). PresentsIn (noting x).writer Schema.null nothing z.writer) (sym e) (presents_null (noting x).writer (noting_failed x ∙ f));
     set = ap (λ (z : Encoding). z.set) e;
   };
-  behaves = record { again = λ q. absurd (let d : true ≡ false = sym q ∙ f in cc); fails = tt; kept = ap (λ (z : Encoding). z.writer.codec) e ∙ noting_codec x };
+  behaves = behaves_begun f tt (ap (λ (z : Encoding). z.writer.codec) e ∙ noting_codec x);
 }
 null_noted x y (Err d) f e a g s = record {
   law = inr (refuses_again d x.writer Schema.null nothing a g);
-  behaves = record { again = λ q. a; fails = ap (λ (z : Encoding). z.writer.failed) s ∙ g; kept = ap (λ (z : Encoding). z.writer.codec) s };
+  behaves = behaves_refused a g s;
 }

@@ -1,12 +1,15 @@
 -- Two encodings that are the same but for additions that the schema doesn't know, at any depth (ITU-T X.691, 19.9).
-use Rattle.std.specs.Prelude.{ℕ, zero, suc, ◌+◌, ◌-◌, ◌≡◌, ◌⊎◌, Bool, true, false, cond, ◌&&◌, nat_lt, List, [], ◌∷◌, ◌++◌, length, Option, Some, None}
+use Rattle.std.specs.Prelude.{ℕ, zero, suc, ◌+◌, ◌-◌, ◌≡◌, ◌⊎◌, Bool, true, false, cond, ◌&&◌, nat_lt, List, [], ◌∷◌}
+use Rattle.std.specs.Prelude.{◌++◌, length, Option, Some, None}
 use Rattle.rasn_types.specs.Bits.{Bits}
-use Rattle.rasn_types.specs.Values.{Value, elements, bag_of, fields, alternative, Side, root, added, as_values, as_slots}
+use Rattle.rasn_types.specs.Values.{Value, elements, bag_of, fields, alternative, Side, root, added, as_values}
+use Rattle.rasn_types.specs.Values.{as_slots}
 use Rattle.rasn_constraints.specs.Bounds.{allows, Size, any_size}
 use Rattle.rasn_schema.specs.Orders.{ordered}
 use Rattle.rasn_schema.specs.Schemas
 use Rattle.rasn_schema.specs.Schemas.{tags, Presence, Schema, Parts, no_parts, part}
-use Rattle.per_core.specs.Basic.{IsConstrainedWhole, LastCount, Fragment, PaddingIf, Small, Fills, Open, Rule, Flags, IsLeftOut, IsBitmap, ExtensionBit, basic}
+use Rattle.per_core.specs.Basic.{IsConstrainedWhole, LastCount, Fragment, PaddingIf, Small, Fills, Open, Rule, Flags}
+use Rattle.per_core.specs.Basic.{IsLeftOut, IsBitmap, ExtensionBit, basic}
 use Rattle.per_core.specs.Counts.{list_items, is_aligned}
 use Rattle.per_core.specs.Spellings.{Settings, Spelling, exactly, When, AnyPadding}
 use Rattle.per_core.specs.Writers.{after}

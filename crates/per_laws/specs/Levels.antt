@@ -1,6 +1,7 @@
 -- How many levels a value has, and how deep a tree of kinds is cut off.
 use Rattle.std.specs.Prelude.{ℕ, zero, suc, max}
-use Rattle.rasn_types.specs.Values.{Value, elements, bag, fields, alternative, day, Values, no_values, value, Slots, no_slots, absent, there}
+use Rattle.rasn_types.specs.Values.{Value, elements, bag, fields, alternative, day, Values, no_values, value, Slots}
+use Rattle.rasn_types.specs.Values.{no_slots, absent, there}
 use Rattle.rasn_schema.specs.Schemas.{Schema, Parts, no_parts, part}
 
 -- A list, a bag, a record and an alternative are one level above what stands in them; a date is a record that holds a

@@ -1,5 +1,6 @@
 -- What the program answers to its words and its input.
-use Rattle.std.specs.Prelude.{ℕ, ◌≡◌, ◌≢◌, ◌⊎◌, Bool, true, false, ⊤, List, [], ◌∷◌, ◌++◌, Option, IfSome, IsSomeAnd, Ok, codes}
+use Rattle.std.specs.Prelude.{ℕ, ◌≡◌, ◌≢◌, ◌⊎◌, Bool, true, false, ⊤, List, [], ◌∷◌, ◌++◌, Option, IfSome, IsSomeAnd}
+use Rattle.std.specs.Prelude.{Ok, codes}
 use Rattle.std.specs.Io.KnownBytes.{Appends, Keeps, IsAtEnd}
 use Rattle.rasn_below.specs.Rows.{variant_of}
 use Rattle.hex.specs.Hex.{decode_of, encode_lower}
@@ -7,7 +8,8 @@ use Rattle.per_lines.specs.declared.arguments.Form.{Form}
 use Rattle.per_lines.specs.declared.arguments.Form.TheVariants.{OneLine, Lines, Zero, As}
 use Rattle.per_lines.specs.declared.arguments.Arguments.{Arguments}
 use Rattle.per_lines.specs.declared.fault.Fault.{Fault}
-use Rattle.per_lines.specs.declared.fault.Fault.TheVariants.{WrongArguments, CannotRead, BadHexadecimal, Decode, Encode, CannotWrite, OutOfMemory}
+use Rattle.per_lines.specs.declared.fault.Fault.TheVariants.{WrongArguments, CannotRead, BadHexadecimal, Decode, Encode}
+use Rattle.per_lines.specs.declared.fault.Fault.TheVariants.{CannotWrite, OutOfMemory}
 use Rattle.per_lines.specs.Words.{words_of}
 use Rattle.per_lines.specs.Faults.{text_of}
 use Rattle.per_lines.specs.Lines.{IsLineOf, lines_of, TakesLine}

@@ -8,7 +8,8 @@ use Rattle.std.specs.declared.io.ErrorKind.TheVariants as Kinds
 use Rattle.hex.specs.declared.error.FromHexError.{FromHexError}
 use Rattle.hex.specs.declared.error.FromHexError.TheVariants as Errors
 use Rattle.per_lines.specs.declared.fault.Fault.{Fault}
-use Rattle.per_lines.specs.declared.fault.Fault.TheVariants.{WrongArguments, CannotRead, BadHexadecimal, Decode, Encode, CannotWrite, OutOfMemory}
+use Rattle.per_lines.specs.declared.fault.Fault.TheVariants.{WrongArguments, CannotRead, BadHexadecimal, Decode, Encode}
+use Rattle.per_lines.specs.declared.fault.Fault.TheVariants.{CannotWrite, OutOfMemory}
 
 -- what is said of a fault
 abbrev pub text_of : Fault → List ℕ

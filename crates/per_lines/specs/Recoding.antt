@@ -1,8 +1,9 @@
 -- From the octets of a value to the canonical octets of the same value.
 use Rattle.std.specs.Prelude.{ℕ, Bool, ◌≢◌, ◌⊎◌, List, [], ◌∷◌, Some, None, true, false, pos, negsuc}
 use Rattle.rasn_below.specs.Values.{utc, Value}
-use Rattle.rasn_below.specs.Components.{extended_at}
-use Rattle.rasn_below.specs.Types.{visible, from_to, unbounded, between, Size, any_size, Schema, choice_at, always, list_at, lower_bound, upper_bound, sequence_at, alternatives_at, no_additions, set_of_at, date_at, set_at}
+use Rattle.rasn_below.specs.Types.{visible, from_to, unbounded, between, Size, any_size, Schema, choice_at, always}
+use Rattle.rasn_below.specs.Types.{list_at, lower_bound, upper_bound, sequence_at, alternatives_at, no_additions}
+use Rattle.rasn_below.specs.Types.{set_of_at, date_at, set_at}
 use Rattle.rasn_below.specs.Rows.{Codec, variant_of, Variant}
 use Rattle.per_samples_a.specs.Absents.{one_default}
 use Rattle.per_samples_a.specs.Fours.{four}
@@ -14,16 +15,16 @@ use Rattle.per_samples_lists.specs.Deeps.{deep}
 use Rattle.per_samples_lists.specs.Elements.{elements}
 use Rattle.per_samples_lists.specs.Empties.{maybe_empty}
 use Rattle.per_samples_lists.specs.Nests.{nest}
-use Rattle.per_samples_lists.specs.AddedNests.{nest_root, nest_additions}
-use Rattle.per_samples_b.specs.Groups.{grouped_root, grouped_additions}
-use Rattle.per_samples_b.specs.Needs.{one_needed, added_default}
-use Rattle.per_samples_b.specs.Outers.{outer_root, outer2_additions, outer3_additions}
+use Rattle.per_samples_lists.specs.AddedNests.{added_nest, before_nest}
+use Rattle.per_samples_b.specs.Groups.{grouped}
+use Rattle.per_samples_b.specs.Needs.{added_default, none_needed, one_needed}
+use Rattle.per_samples_b.specs.Outers.{outer1, outer2, outer3}
 use Rattle.per_samples_c.specs.Defaults.{default_outer1, default_outer3}
-use Rattle.per_samples_c.specs.Groups.{first_root, x_group, x_y_group}
+use Rattle.per_samples_c.specs.Groups.{grouped_1, grouped_2}
 use Rattle.per_samples_b.specs.Alternatives.{two_alternatives}
-use Rattle.per_samples_b.specs.First.{in_root}
-use Rattle.per_samples_b.specs.Second.{behind_marker}
-use Rattle.per_samples_b.specs.Many.{many_root, many_additions}
+use Rattle.per_samples_b.specs.First.{alt1}
+use Rattle.per_samples_b.specs.Second.{alt2}
+use Rattle.per_samples_b.specs.Many.{many}
 use Rattle.per_core.specs.Spellings.{Settings}
 use Rattle.rasn_per.specs.Complete.{AreBytes, HasNoBytes, AreReadBy, AreUnreadBy, reading, basically}
 use Rattle.per_samples_sets.specs.Connects.{connect}
@@ -33,7 +34,18 @@ use Rattle.rasn_per.specs.Kinds.{IsInOctetsBy}
 use Rattle.per_write.specs.declared.error.EncodeErrorKind.TheVariants as Encoding
 use Rattle.per_read.specs.declared.error.DecodeErrorKind.TheVariants as Decoding
 use Rattle.per_lines.specs.declared.arguments.TypeName.{TypeName}
-use Rattle.per_lines.specs.declared.arguments.TypeName.TheVariants.{Boolean, Null, Integer, UpTo65535, FromMinusOne, Natural, ZeroTo65536, OneToTenExtensible, Four, Seven, OneDefault, ShortVisible, LettersAToE, BitString, OctetString, OnlyX, Items, Byte, MaybeEmpty, Nested, Nest, Deep, Bytes, Nulls, NullList, Elements, Outer1, Outer2, Outer3, Grouped, NoneNeeded, OneNeeded, AddedDefault, Outers1, Outers3, BeforeNest, AddedNest, Grouped1, Grouped2, OneColor, TwoColors, DefaultOuter1, DefaultOuter3, OneAlternative, TwoAlternatives, Alternatives, Many, Bag, UtcTime, Connect, Set, SetOptional, SetChoice, Date, DatedNest}
+use Rattle.per_lines.specs.declared.arguments.TypeName.TheVariants.{Boolean, Null, Integer, UpTo65535, FromMinusOne}
+use Rattle.per_lines.specs.declared.arguments.TypeName.TheVariants.{Natural, ZeroTo65536, OneToTenExtensible, Four}
+use Rattle.per_lines.specs.declared.arguments.TypeName.TheVariants.{Seven, OneDefault, ShortVisible, LettersAToE}
+use Rattle.per_lines.specs.declared.arguments.TypeName.TheVariants.{BitString, OctetString, OnlyX, Items, Byte}
+use Rattle.per_lines.specs.declared.arguments.TypeName.TheVariants.{MaybeEmpty, Nested, Nest, Deep, Bytes, Nulls}
+use Rattle.per_lines.specs.declared.arguments.TypeName.TheVariants.{NullList, Elements, Outer1, Outer2, Outer3, Grouped}
+use Rattle.per_lines.specs.declared.arguments.TypeName.TheVariants.{NoneNeeded, OneNeeded, AddedDefault, Outers1}
+use Rattle.per_lines.specs.declared.arguments.TypeName.TheVariants.{Outers3, BeforeNest, AddedNest, Grouped1, Grouped2}
+use Rattle.per_lines.specs.declared.arguments.TypeName.TheVariants.{OneColor, TwoColors, DefaultOuter1, DefaultOuter3}
+use Rattle.per_lines.specs.declared.arguments.TypeName.TheVariants.{OneAlternative, TwoAlternatives, Alternatives, Many}
+use Rattle.per_lines.specs.declared.arguments.TypeName.TheVariants.{Bag, UtcTime, Connect, Set, SetOptional, SetChoice}
+use Rattle.per_lines.specs.declared.arguments.TypeName.TheVariants.{Date, DatedNest}
 use Rattle.per_lines.specs.declared.arguments.Form.{Form}
 use Rattle.per_lines.specs.declared.arguments.Form.TheVariants.{OneLine, Lines, Zero, As}
 use Rattle.per_lines.specs.declared.arguments.Padding.{Padding}
@@ -76,27 +88,27 @@ schema_of Bytes = list_at (sequence_at byte) any_size false
 schema_of Nulls = list_at (always Schema.null) (one_to 300) false
 schema_of NullList = list_at (always Schema.null) any_size false
 schema_of Elements = sequence_at elements
-schema_of Outer1 = extended_at outer_root []
-schema_of Outer2 = extended_at outer_root outer2_additions
-schema_of Outer3 = extended_at outer_root outer3_additions
-schema_of Grouped = extended_at grouped_root grouped_additions
-schema_of NoneNeeded = extended_at [] []
-schema_of OneNeeded = extended_at [] one_needed
-schema_of AddedDefault = extended_at [] added_default
-schema_of Outers1 = list_at (extended_at outer_root []) any_size false
-schema_of Outers3 = list_at (extended_at outer_root outer3_additions) any_size false
-schema_of BeforeNest = extended_at nest_root []
-schema_of AddedNest = extended_at nest_root nest_additions
-schema_of Grouped1 = extended_at first_root x_group
-schema_of Grouped2 = extended_at first_root x_y_group
+schema_of Outer1 = sequence_at outer1
+schema_of Outer2 = sequence_at outer2
+schema_of Outer3 = sequence_at outer3
+schema_of Grouped = sequence_at grouped
+schema_of NoneNeeded = sequence_at none_needed
+schema_of OneNeeded = sequence_at one_needed
+schema_of AddedDefault = sequence_at added_default
+schema_of Outers1 = list_at (sequence_at outer1) any_size false
+schema_of Outers3 = list_at (sequence_at outer3) any_size false
+schema_of BeforeNest = sequence_at before_nest
+schema_of AddedNest = sequence_at added_nest
+schema_of Grouped1 = sequence_at grouped_1
+schema_of Grouped2 = sequence_at grouped_2
 schema_of OneColor = always (Schema.items 1 0 true)
 schema_of TwoColors = always (Schema.items 1 1 true)
 schema_of DefaultOuter1 = sequence_at default_outer1
 schema_of DefaultOuter3 = sequence_at default_outer3
-schema_of OneAlternative = alternatives_at in_root (Some [])
-schema_of TwoAlternatives = alternatives_at in_root (Some behind_marker)
+schema_of OneAlternative = alternatives_at alt1.before alt1.behind
+schema_of TwoAlternatives = alternatives_at alt2.before alt2.behind
 schema_of Alternatives = sequence_at two_alternatives
-schema_of Many = extended_at many_root many_additions
+schema_of Many = sequence_at many
 schema_of Bag = set_of_at (always (Schema.number unbounded false unbounded)) any_size false
 schema_of UtcTime = always (Schema.time utc)
 schema_of Connect = sequence_at connect

@@ -2,7 +2,18 @@
 use Rattle.std.specs.Prelude.{ℕ, List, [], ◌∷◌, String, codes, map, string_bytes}
 use Rattle.rasn_below.specs.Rows.{Codec, Aper, Uper}
 use Rattle.per_lines.specs.declared.arguments.TypeName.{TypeName}
-use Rattle.per_lines.specs.declared.arguments.TypeName.TheVariants.{Boolean, Null, Integer, UpTo65535, FromMinusOne, Natural, ZeroTo65536, OneToTenExtensible, Four, Seven, OneDefault, ShortVisible, LettersAToE, BitString, OctetString, OnlyX, Items, Byte, MaybeEmpty, Nested, Nest, Deep, Bytes, Nulls, NullList, Elements, Outer1, Outer2, Outer3, Grouped, NoneNeeded, OneNeeded, AddedDefault, Outers1, Outers3, BeforeNest, AddedNest, Grouped1, Grouped2, OneColor, TwoColors, DefaultOuter1, DefaultOuter3, OneAlternative, TwoAlternatives, Alternatives, Many, Bag, UtcTime, Connect, Set, SetOptional, SetChoice, Date, DatedNest}
+use Rattle.per_lines.specs.declared.arguments.TypeName.TheVariants.{Boolean, Null, Integer, UpTo65535, FromMinusOne}
+use Rattle.per_lines.specs.declared.arguments.TypeName.TheVariants.{Natural, ZeroTo65536, OneToTenExtensible, Four}
+use Rattle.per_lines.specs.declared.arguments.TypeName.TheVariants.{Seven, OneDefault, ShortVisible, LettersAToE}
+use Rattle.per_lines.specs.declared.arguments.TypeName.TheVariants.{BitString, OctetString, OnlyX, Items, Byte}
+use Rattle.per_lines.specs.declared.arguments.TypeName.TheVariants.{MaybeEmpty, Nested, Nest, Deep, Bytes, Nulls}
+use Rattle.per_lines.specs.declared.arguments.TypeName.TheVariants.{NullList, Elements, Outer1, Outer2, Outer3, Grouped}
+use Rattle.per_lines.specs.declared.arguments.TypeName.TheVariants.{NoneNeeded, OneNeeded, AddedDefault, Outers1}
+use Rattle.per_lines.specs.declared.arguments.TypeName.TheVariants.{Outers3, BeforeNest, AddedNest, Grouped1, Grouped2}
+use Rattle.per_lines.specs.declared.arguments.TypeName.TheVariants.{OneColor, TwoColors, DefaultOuter1, DefaultOuter3}
+use Rattle.per_lines.specs.declared.arguments.TypeName.TheVariants.{OneAlternative, TwoAlternatives, Alternatives, Many}
+use Rattle.per_lines.specs.declared.arguments.TypeName.TheVariants.{Bag, UtcTime, Connect, Set, SetOptional, SetChoice}
+use Rattle.per_lines.specs.declared.arguments.TypeName.TheVariants.{Date, DatedNest}
 use Rattle.per_lines.specs.declared.arguments.Form.{Form}
 use Rattle.per_lines.specs.declared.arguments.Form.TheVariants.{OneLine, Lines, Zero, As}
 use Rattle.per_lines.specs.declared.arguments.Arguments.{Arguments}

@@ -4,7 +4,8 @@ use Rattle.rasn_types.specs.Bits.{Bits}
 use Rattle.per_core.specs.Spellings.{Spelling}
 use Rattle.per_core.specs.Took.{Took}
 use Rattle.per_read.specs.declared.error.DecodeErrorKind.{DecodeErrorKind}
-use Rattle.per_read.specs.declared.error.DecodeErrorKind.TheVariants.{Incomplete, ParserFail, ExceedsMaxLength, OutOfMemory}
+use Rattle.per_read.specs.declared.error.DecodeErrorKind.TheVariants.{Incomplete, ParserFail, ExceedsMaxLength}
+use Rattle.per_read.specs.declared.error.DecodeErrorKind.TheVariants.{OutOfMemory}
 
 -- nothing stands in some form at the front of bits
 abbrev pub NoneIn : {X : Type 0} → (X → Spelling) → Bits → Type 0

@@ -1,7 +1,16 @@
 -- The names of the kinds of refusals.
 use Rattle.std.specs.Prelude.{ℕ, List, codes}
 use Rattle.per_read.specs.declared.error.DecodeErrorKind.{DecodeErrorKind}
-use Rattle.per_read.specs.declared.error.DecodeErrorKind.TheVariants.{Incomplete, ParserFail, UnexpectedExtraData, MissingTag, TypeNotExtensible, ExceedsMaxLength, IntegerOverflow, SizeConstraintNotSatisfied, ValueConstraintNotSatisfied, PermittedAlphabet, EnumerationIndexNotFound, ChoiceIndexNotFound, ChoiceIndexExceedsPlatformWidth, RequiredExtensionNotPresent, ExceedsMaxParseDepth, StringConversionFailed, InvalidDate, RealNotSupported, Below, UnexpectedEmptyInput, AlreadyFailed, OutOfMemory}
+use Rattle.per_read.specs.declared.error.DecodeErrorKind.TheVariants.{Incomplete, ParserFail, UnexpectedExtraData}
+use Rattle.per_read.specs.declared.error.DecodeErrorKind.TheVariants.{MissingTag, TypeNotExtensible, ExceedsMaxLength}
+use Rattle.per_read.specs.declared.error.DecodeErrorKind.TheVariants.{IntegerOverflow, SizeConstraintNotSatisfied}
+use Rattle.per_read.specs.declared.error.DecodeErrorKind.TheVariants.{ValueConstraintNotSatisfied, PermittedAlphabet}
+use Rattle.per_read.specs.declared.error.DecodeErrorKind.TheVariants.{EnumerationIndexNotFound, ChoiceIndexNotFound}
+use Rattle.per_read.specs.declared.error.DecodeErrorKind.TheVariants.{ChoiceIndexExceedsPlatformWidth}
+use Rattle.per_read.specs.declared.error.DecodeErrorKind.TheVariants.{RequiredExtensionNotPresent, ExceedsMaxParseDepth}
+use Rattle.per_read.specs.declared.error.DecodeErrorKind.TheVariants.{StringConversionFailed, InvalidDate}
+use Rattle.per_read.specs.declared.error.DecodeErrorKind.TheVariants.{RealNotSupported, Below, UnexpectedEmptyInput}
+use Rattle.per_read.specs.declared.error.DecodeErrorKind.TheVariants.{AlreadyFailed, OutOfMemory}
 
 -- the octets of a kind's name
 abbrev pub name_of : DecodeErrorKind → List ℕ

@@ -1,7 +1,8 @@
 //! What is counted in strings, and what gathers it: octets, bits and characters, each of as many bits (X.691 11.9, 16,
 //! 17, 30.5).
 
-ghost use Rattle.std.specs.Prelude.{◌≡◌, ℕ, ◌+◌, ◌*◌, ◌/◌, ◌%◌, ◌^◌, ◌<◌, ◌≤◌, [], ◌∷◌, List, length, map, take, true, OnOk};
+ghost use Rattle.std.specs.Prelude.{◌≡◌, ℕ, ◌+◌, ◌*◌, ◌/◌, ◌%◌, ◌^◌, ◌<◌, ◌≤◌, [], ◌∷◌, List, length, map, take, true};
+ghost use Rattle.std.specs.Prelude.{OnOk};
 ghost use Rattle.rasn_types.specs.Alphabets.{has, char_width};
 ghost use Rattle.rasn_types.specs.Bits.{to_bits};
 ghost use Rattle.per_bits.specs.Octets.{low_bits_of};

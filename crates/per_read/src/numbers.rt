@@ -4,9 +4,11 @@ ghost use Rattle.std.specs.Prelude.{◌≡◌, ◌+◌, ◌/◌, ◌^◌, ◌<�
 ghost use Rattle.rasn_types.specs.Octets.{signed, unsigned};
 ghost use Rattle.rasn_types.specs.Variants.{aligned};
 ghost use Rattle.rasn_constraints.specs.Bounds.{above};
-ghost use Rattle.per_core.specs.Basic.{InOctets, IsSemiConstrainedWhole, IsUnconstrainedWhole, constrained_by, constrained_form};
+ghost use Rattle.per_core.specs.Basic.{InOctets, IsSemiConstrainedWhole, IsUnconstrainedWhole, constrained_by};
+ghost use Rattle.per_core.specs.Basic.{constrained_form};
 ghost use Rattle.per_core.specs.Spellings.{Settings, Field};
-ghost use Rattle.per_read.specs.Numbers.{OfNatural, OfRead, IsAbove, IsOfOctets, IsOfForm, padded_field, count_width, under_bounds};
+ghost use Rattle.per_read.specs.Numbers.{OfNatural, OfRead, IsAbove, IsOfOctets, IsOfForm, padded_field, count_width};
+ghost use Rattle.per_read.specs.Numbers.{under_bounds};
 ghost use Rattle.per_read.specs.Takes.{Takes, short, tested, memory_or, itself};
 
 use crate::Reader;

@@ -11,7 +11,8 @@ use Rattle.per_read_types.specs.Enumerations.{IsPlace, count_of, side_of}
 use Rattle.per_read.specs.Kinds.{IsTested}
 use Rattle.per_read_types.specs.SmallNumbers.{empty_form}
 use Rattle.per_read.specs.declared.error.DecodeErrorKind.{DecodeErrorKind}
-use Rattle.per_read.specs.declared.error.DecodeErrorKind.TheVariants.{ChoiceIndexExceedsPlatformWidth, ChoiceIndexNotFound, UnexpectedEmptyInput}
+use Rattle.per_read.specs.declared.error.DecodeErrorKind.TheVariants.{ChoiceIndexExceedsPlatformWidth}
+use Rattle.per_read.specs.declared.error.DecodeErrorKind.TheVariants.{ChoiceIndexNotFound, UnexpectedEmptyInput}
 
 -- the list of an alternative, and its index there
 abbrev pub index_of : Place → Side × ℕ

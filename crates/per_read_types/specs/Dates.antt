@@ -9,7 +9,8 @@ use Rattle.per_core.specs.Took.{Took}
 use Rattle.per_read.specs.Kinds.{IsTested}
 use Rattle.per_read.specs.Numbers.{IsOutside}
 use Rattle.per_read.specs.declared.error.DecodeErrorKind.{DecodeErrorKind}
-use Rattle.per_read.specs.declared.error.DecodeErrorKind.TheVariants.{IntegerOverflow, InvalidDate, UnexpectedEmptyInput, ValueConstraintNotSatisfied}
+use Rattle.per_read.specs.declared.error.DecodeErrorKind.TheVariants.{IntegerOverflow, InvalidDate}
+use Rattle.per_read.specs.declared.error.DecodeErrorKind.TheVariants.{UnexpectedEmptyInput, ValueConstraintNotSatisfied}
 
 -- X.691 32: a year, a month and a day, whether they are a day of the calendar or not; month and day are counted from 0
 abbrev pub numbers_form : Settings → ℤ → ℕ → ℕ → Spelling

@@ -8,7 +8,8 @@ use Rattle.per_core.specs.Took.{Took}
 use Rattle.per_read.specs.Kinds.{IsTested}
 use Rattle.per_read_types.specs.SmallNumbers.{IsOfSmall, empty_form, small_form}
 use Rattle.per_read.specs.declared.error.DecodeErrorKind.{DecodeErrorKind}
-use Rattle.per_read.specs.declared.error.DecodeErrorKind.TheVariants.{EnumerationIndexNotFound, IntegerOverflow, UnexpectedEmptyInput}
+use Rattle.per_read.specs.declared.error.DecodeErrorKind.TheVariants.{EnumerationIndexNotFound, IntegerOverflow}
+use Rattle.per_read.specs.declared.error.DecodeErrorKind.TheVariants.{UnexpectedEmptyInput}
 
 -- X.691 14: an item of an ENUMERATED, as a value
 abbrev pub item_form : Settings → (roots addeds : ℕ) → (extensible : Bool) → Value → Spelling

@@ -1,5 +1,6 @@
 -- Numbers without sign that are read octet by octet, and normally small numbers (X.691 11.6, 11.7).
-use Rattle.std.specs.Prelude.{◌≡◌, ◌<◌, ◌≤◌, ◌*◌, ◌^◌, ℕ, true, [], ◌∷◌, List, Option, Some, None, length, Result, OnOk, IfErr}
+use Rattle.std.specs.Prelude.{◌≡◌, ◌<◌, ◌≤◌, ◌*◌, ◌^◌, ℕ, true, [], ◌∷◌, List, Option, Some, None, length, Result, OnOk}
+use Rattle.std.specs.Prelude.{IfErr}
 use Rattle.rasn_types.specs.Bits.{Bits}
 use Rattle.rasn_types.specs.Octets.{unsigned}
 use Rattle.per_core.specs.Basic.{IsSemiConstrainedWhole, Marked, Octets, OneByOne, octet}

@@ -5,7 +5,8 @@ use Rattle.rasn_types.specs.Contents.{is_date}
 use Rattle.per_core.specs.Spellings.{Settings}
 use Rattle.per_read.specs.Kinds.{IsTested}
 use Rattle.per_read.specs.declared.error.DecodeErrorKind.{DecodeErrorKind}
-use Rattle.per_read.specs.declared.error.DecodeErrorKind.TheVariants.{IntegerOverflow, InvalidDate, OutOfMemory, UnexpectedEmptyInput}
+use Rattle.per_read.specs.declared.error.DecodeErrorKind.TheVariants.{IntegerOverflow, InvalidDate, OutOfMemory}
+use Rattle.per_read.specs.declared.error.DecodeErrorKind.TheVariants.{UnexpectedEmptyInput}
 use Rattle.per_read_types.specs.Dates.{IsEmptyYear}
 
 -- What a kind says of a year. That no number is named as one past its type is tested.

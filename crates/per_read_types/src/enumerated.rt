@@ -2,7 +2,8 @@
 
 ghost use Rattle.std.specs.Prelude.{◌≡◌, IfErr, IfOk};
 ghost use Rattle.per_core.specs.Basic.{ExtensionBit, constrained_form};
-ghost use Rattle.per_read_types.specs.Enumerations.{IsMissing, IsOfItem, IsOfPlace, IsThere, count_of, item_form, place_form};
+ghost use Rattle.per_read_types.specs.Enumerations.{IsMissing, IsOfItem, IsOfPlace, IsThere, count_of, item_form};
+ghost use Rattle.per_read_types.specs.Enumerations.{place_form};
 ghost use Rattle.per_read_types.specs.SmallNumbers.{OfIndex};
 ghost use Rattle.per_read.specs.Takes.{Takes, itself, short, telling, tested};
 

@@ -1,5 +1,6 @@
 -- Types and values in few words.
-use Rattle.std.specs.Prelude.{ℕ, zero, suc, ◌+◌, false, true, List, [], ◌∷◌, map, length, Option, Some, None, ℤ, pos, negsuc}
+use Rattle.std.specs.Prelude.{ℕ, zero, suc, ◌+◌, false, true, List, [], ◌∷◌, map, length, Option, Some, None, ℤ, pos}
+use Rattle.std.specs.Prelude.{negsuc}
 use Rattle.rasn_types.specs.Variants.{aligned, unaligned}
 use Rattle.per_core.specs.Spellings.{Settings}
 use Rattle.rasn_types.specs.Values.{Value, elements, fields, as_values, as_slots}

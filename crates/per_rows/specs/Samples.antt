@@ -3,8 +3,11 @@ use Rattle.std.specs.Prelude.{ℕ, zero, suc, false, true, List, [], ◌∷◌, 
 use Rattle.rasn_types.specs.Values.{Value, whole, truth, day}
 use Rattle.rasn_types.specs.Alphabets.{visible, from_to}
 use Rattle.rasn_constraints.specs.Bounds.{any_size, between}
-use Rattle.rasn_schema.specs.Schemas.{one_of, tree, no_trees, Presence, required, optional, group, default, listed, Schema, no_parts}
-use Rattle.per_rows.specs.Build.{minus, integer, integer_in, sized, octet_string, list_of, numbered, sequence, sequence_with, extensible_sequence, choice, extensible_choice, members, set, context, private_tag, record_with, extended}
+use Rattle.rasn_schema.specs.Schemas.{one_of, tree, no_trees, Presence, required, optional, group, default, listed}
+use Rattle.rasn_schema.specs.Schemas.{Schema, no_parts}
+use Rattle.per_rows.specs.Build.{minus, integer, integer_in, sized, octet_string, list_of, numbered, sequence}
+use Rattle.per_rows.specs.Build.{sequence_with, extensible_sequence, choice, extensible_choice, members, set, context}
+use Rattle.per_rows.specs.Build.{private_tag, record_with, extended}
 
 -- SEQUENCE { a BOOLEAN, b INTEGER, c BOOLEAN, d INTEGER (-10..400) }
 abbrev pub four : Schema

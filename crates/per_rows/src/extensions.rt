@@ -7,7 +7,8 @@ ghost use Rattle.rasn_types.specs.Values.{whole, truth, octets};
 ghost use Rattle.rasn_schema.specs.Normal.{normal};
 ghost use Rattle.per_core.specs.Canon.{bytes};
 ghost use Rattle.per_rows.specs.Build.{extended, with_all, record_with};
-ghost use Rattle.per_rows.specs.Samples.{outer1, outer3, with_group, many, no_additions, required_addition, default_addition};
+ghost use Rattle.per_rows.specs.Samples.{outer1, outer3, with_group, many, no_additions, required_addition};
+ghost use Rattle.per_rows.specs.Samples.{default_addition};
 
 /// Two BOOLEAN, an addition group and an OCTET STRING: the extension bit, the root, the number of additions and their
 /// presence bits, and each as an open type, which in APER is aligned from its own start (X.691 19.7 to 19.9).

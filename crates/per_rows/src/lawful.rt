@@ -7,9 +7,12 @@ ghost use Rattle.rasn_constraints.specs.Ranges.{unsigned_range};
 ghost use Rattle.rasn_schema.specs.Forms.{always};
 ghost use Rattle.rasn_schema.specs.Lawful.{IsLawful, IsLawfulType};
 ghost use Rattle.rasn_constraints.specs.Bounds.{between};
-ghost use Rattle.rasn_schema.specs.Schemas.{Schema, one_of, tree, no_trees, required, optional, group, default, listed, no_parts};
-ghost use Rattle.per_rows.specs.Build.{integer, integer_in, sized, octet_string, sequence_with, extensible_sequence, members, set, context, extended_with, record_with};
-ghost use Rattle.per_rows.specs.Samples.{with_default, b_before_a, untagged_member, x_y_or_z, outer3, with_group, nest, deep};
+ghost use Rattle.rasn_schema.specs.Schemas.{Schema, one_of, tree, no_trees, required, optional, group, default, listed};
+ghost use Rattle.rasn_schema.specs.Schemas.{no_parts};
+ghost use Rattle.per_rows.specs.Build.{integer, integer_in, sized, octet_string, sequence_with, extensible_sequence};
+ghost use Rattle.per_rows.specs.Build.{members, set, context, extended_with, record_with};
+ghost use Rattle.per_rows.specs.Samples.{with_default, b_before_a, untagged_member, x_y_or_z, outer3, with_group, nest};
+ghost use Rattle.per_rows.specs.Samples.{deep};
 
 /// BOOLEAN, NULL, INTEGER and OCTET STRING (SIZE (3)) are lawful.
 pub fn plain_types_are_lawful()

@@ -7,8 +7,10 @@ ghost use Rattle.rasn_types.specs.Values.{Value, whole, truth, octets};
 ghost use Rattle.rasn_constraints.specs.Bounds.{any_size, between};
 ghost use Rattle.rasn_schema.specs.Schemas.{Schema};
 ghost use Rattle.per_core.specs.Basic.{fills, front};
-ghost use Rattle.per_rows.specs.Build.{aper, uper, zero_padded, integer, integer_in, extensible_integer, octet_string, extended, with_all, record_with};
-ghost use Rattle.per_rows.specs.Samples.{with_default, deep, nest, nested, shallow_version, with_group, required_addition, default_addition, no_additions, outer1, outer2, outer3};
+ghost use Rattle.per_rows.specs.Build.{aper, uper, zero_padded, integer, integer_in, extensible_integer, octet_string};
+ghost use Rattle.per_rows.specs.Build.{extended, with_all, record_with};
+ghost use Rattle.per_rows.specs.Samples.{with_default, deep, nest, nested, shallow_version, with_group};
+ghost use Rattle.per_rows.specs.Samples.{required_addition, default_addition, no_additions, outer1, outer2, outer3};
 
 /// UPER INTEGER: a superfluous leading octet is read (X.691 11.8).
 pub fn uper_integer_is_read_of_superfluous_octets()

@@ -9,8 +9,10 @@ ghost use Rattle.rasn_types.specs.Alphabets.{visible};
 ghost use Rattle.rasn_constraints.specs.Bounds.{between};
 ghost use Rattle.rasn_schema.specs.Schemas.{Schema};
 ghost use Rattle.per_core.specs.Canon.{bytes};
-ghost use Rattle.per_rows.specs.Build.{integer_in, octet_string, bit_string, list_of, sized, sequence, with_all, record_with, list, minus};
-ghost use Rattle.per_rows.specs.Samples.{four, empty_middle, with_item, with_default, nest, nested, deep, dated, dated_value};
+ghost use Rattle.per_rows.specs.Build.{integer_in, octet_string, bit_string, list_of, sized, sequence, with_all};
+ghost use Rattle.per_rows.specs.Build.{record_with, list, minus};
+ghost use Rattle.per_rows.specs.Samples.{four, empty_middle, with_item, with_default, nest, nested, deep, dated};
+ghost use Rattle.per_rows.specs.Samples.{dated_value};
 
 /// SEQUENCE of required parts: one after the other; in APER the length of b and the two octets of d on octet
 /// boundaries (X.691 19).

@@ -9,7 +9,8 @@ ghost use Rattle.rasn_schema.specs.Schemas.{Schema};
 ghost use Rattle.per_core.specs.Spellings.{Settings};
 ghost use Rattle.per_core.specs.Basic.{fills};
 ghost use Rattle.per_core.specs.Canon.{bytes};
-ghost use Rattle.per_rows.specs.Build.{aper, uper, zero_padded, integer, integer_in, extensible_integer, at_least, minus, octet_string, list_of, sized, sized_to};
+ghost use Rattle.per_rows.specs.Build.{aper, uper, zero_padded, integer, integer_in, extensible_integer, at_least};
+ghost use Rattle.per_rows.specs.Build.{minus, octet_string, list_of, sized, sized_to};
 ghost use Rattle.per_rows.specs.Samples.{one_alternative, one_color, x_y_or_z, required_addition, with_group, a_to_e};
 
 /// A complete encoding with more octets behind it is none (X.691 11.1).

@@ -9,7 +9,9 @@ ghost use Rattle.rasn_schema.specs.Normal.{normal};
 ghost use Rattle.per_core.specs.Canon.{bytes};
 ghost use Rattle.per_core.specs.Versions.{project, widen};
 ghost use Rattle.per_rows.specs.Build.{extended, extended_with, with_all, record_with, list_of, list};
-ghost use Rattle.per_rows.specs.Samples.{outer1, outer2, outer3, one_color, two_colors, one_alternative, two_alternatives, no_additions, required_addition, default_addition, default1, default3, open_group, longer_group, shallow_version, deep_version, nested};
+ghost use Rattle.per_rows.specs.Samples.{outer1, outer2, outer3, one_color, two_colors, one_alternative};
+ghost use Rattle.per_rows.specs.Samples.{two_alternatives, no_additions, required_addition, default_addition, default1};
+ghost use Rattle.per_rows.specs.Samples.{default3, open_group, longer_group, shallow_version, deep_version, nested};
 
 /// A reader without the additions keeps the root, and writes it with extension bit 0 (X.691 19.1, 19.9).
 pub fn aper_reader_without_additions_keeps_the_root()

@@ -1,8 +1,9 @@
 -- SEQUENCE { a A, b B }
-use Rattle.std.specs.Prelude.{ℕ, List, [], ◌∷◌, Option, Some, false}
-use Rattle.rasn_below.specs.Values.{Value}
-use Rattle.rasn_below.specs.Components.{at}
-use Rattle.rasn_below.specs.Types.{Levelled, part_levelled, parts_levelled, record_levelled, no_additions, record_at, Schema, Parts, listed, no_parts, part, required}
+use Rattle.std.specs.Prelude.{ℕ}
+use Rattle.std.specs.Prelude.{List, [], ◌∷◌, Option, Some, false}
+use Rattle.rasn_below.specs.Page.{Value, at}
+use Rattle.rasn_below.specs.Types.{Levelled, part_levelled, parts_levelled, record_levelled, no_additions, record_at}
+use Rattle.rasn_below.specs.Types.{Schema, Parts, listed, no_parts, part, required}
 
 abbrev pub both_parts : (ℕ → Schema) → (ℕ → Schema) → ℕ → Parts
 both_parts a b n = part (at 0) required (a n) (part (at 1) required (b n) no_parts)

@@ -1,9 +1,8 @@
 -- SEQUENCE { a BOOLEAN, b BOOLEAN, .., p BOOLEAN, q INTEGER (0..7) OPTIONAL, r INTEGER (0..7) DEFAULT 3 }
-use Rattle.std.specs.Prelude.{List, [], ◌∷◌, pos}
-use Rattle.rasn_below.specs.Values.{whole}
-use Rattle.rasn_below.specs.Components.{Component, automatic, boolean, integer, optional, default, u8, ◌to◌}
+use Rattle.std.specs.Prelude.{[], ◌∷◌, pos}
+use Rattle.rasn_below.specs.Page.{whole, automatic, boolean, integer, optional, default, u8, ◌to◌, TypeLists}
 
-abbrev pub eighteen : List Component
+abbrev pub eighteen : TypeLists
 eighteen = automatic (
     boolean ∷ boolean ∷ boolean ∷ boolean ∷ boolean ∷ boolean ∷ boolean ∷ boolean ∷
     boolean ∷ boolean ∷ boolean ∷ boolean ∷ boolean ∷ boolean ∷ boolean ∷ boolean ∷

@@ -1,8 +1,8 @@
 -- SEQUENCE { a BOOLEAN, b INTEGER, c NULL, d BOOLEAN, e INTEGER, f BOOLEAN, g NULL, h INTEGER }
-use Rattle.std.specs.Prelude.{List, [], ◌∷◌}
-use Rattle.rasn_below.specs.Components.{Component, automatic, boolean, integer, null, i128, any}
+use Rattle.std.specs.Prelude.{[], ◌∷◌}
+use Rattle.rasn_below.specs.Page.{automatic, boolean, integer, null, i128, any, TypeLists}
 
-abbrev pub eight : List Component
+abbrev pub eight : TypeLists
 eight = automatic (
     boolean ∷
     integer i128 any ∷

@@ -1,8 +1,8 @@
 -- SEQUENCE { a BOOLEAN, b INTEGER, c BOOLEAN, d INTEGER (-10..400) }
-use Rattle.std.specs.Prelude.{List, [], ◌∷◌}
-use Rattle.rasn_below.specs.Components.{Component, automatic, boolean, integer, big, any, minus◌to◌}
+use Rattle.std.specs.Prelude.{[], ◌∷◌}
+use Rattle.rasn_below.specs.Page.{automatic, boolean, integer, big, any, minus◌to◌, TypeLists}
 
-abbrev pub four : List Component
+abbrev pub four : TypeLists
 four = automatic (
     boolean ∷
     integer big any ∷

@@ -7,3 +7,6 @@ pub mod Pairs
 pub mod Sevens
 pub mod Alternatives
 pub mod Nesteds
+pub mod Brackets
+pub mod Defaults
+pub mod Optionals

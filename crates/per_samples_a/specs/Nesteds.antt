@@ -1,9 +1,11 @@
 -- CHOICE { record SEQUENCE { a BOOLEAN, b INTEGER }, inner CHOICE { x [0] BOOLEAN, y [1] INTEGER (0..7) }, last [2]
 -- NULL }
-use Rattle.std.specs.Prelude.{◌≡◌, ℕ, List, [], ◌∷◌, Some, None, refl}
-use Rattle.rasn_below.specs.Values.{Value, alternative, root, nothing, chosen_value, sequence_value}
-use Rattle.rasn_below.specs.Components.{Component, parts_of, choice, sequence, null, under, at}
-use Rattle.rasn_below.specs.Types.{VariantShape, choice_at, choice_levelled, variants_of, components_levelled, Levelled, parts_levelled, no_additions, Parts, leaf, one_of, tree, no_trees, smallest}
+use Rattle.std.specs.Prelude.{◌≡◌, ℕ}
+use Rattle.std.specs.Prelude.{List, [], ◌∷◌, Some, None, refl}
+use Rattle.rasn_below.specs.Page.{Value, alternative, root, nothing, chosen_value, sequence_value, Component, parts_of}
+use Rattle.rasn_below.specs.Page.{choice, sequence, null, under, at}
+use Rattle.rasn_below.specs.Types.{VariantShape, choice_at, choice_levelled, variants_of, components_levelled, Levelled}
+use Rattle.rasn_below.specs.Types.{parts_levelled, no_additions, Parts, leaf, one_of, tree, no_trees, smallest}
 use Rattle.per_samples_a.specs.Pairs.{pair, pair_contents}
 use Rattle.per_samples_a.specs.Alternatives.{alternatives, alternative_of}
 use Rattle.per_samples_a.specs.declared.nested.Nested.{Nested}

@@ -1,6 +1,6 @@
 -- SEQUENCE { a INTEGER (7..7) }
-use Rattle.std.specs.Prelude.{List, [], ◌∷◌}
-use Rattle.rasn_below.specs.Components.{Component, automatic, integer, big, ◌to◌}
+use Rattle.std.specs.Prelude.{[], ◌∷◌}
+use Rattle.rasn_below.specs.Page.{automatic, integer, big, ◌to◌, TypeLists}
 
-abbrev pub seven : List Component
+abbrev pub seven : TypeLists
 seven = automatic (integer big (7 to 7) ∷ [])

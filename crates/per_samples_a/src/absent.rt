@@ -1,15 +1,11 @@
 //! A SEQUENCE of a component with a default.
 
 ghost use Rattle.std.specs.Prelude.{refl, [], ◌∷◌, Some, pos};
-ghost use Rattle.rasn_below.specs.Values.{whole};
-ghost use Rattle.rasn_below.specs.Components.{fields_of};
+ghost use Rattle.rasn_below.specs.Page.{whole, fields_of};
 ghost use Rattle.rasn_below.specs.Rows.{unaligned, IsWrittenAs, IsUnwritten};
 ghost use Rattle.per_samples_a.specs.Absents.{one_default};
 
-use rasn_below::{
-    AsnType, Components, Constraint, Decoder, Encoder, Fields, Record, bounds, decode_components,
-    encode_components, fields,
-};
+use rasn_below::page::*;
 
 /// SEQUENCE { a INTEGER (0..7) DEFAULT 3 }
 #[derive(Clone, Copy, Debug, PartialEq)]
@@ -17,28 +13,22 @@ pub struct OneDefault {
     pub a: u8,
 }
 
-macro_rules! components {
-    ($to:ident $($with:ident)*) => {
-        $to! { [$($with)*]
-            default 0 "a" a: u8 [0..=7 DEFAULT 3_u8];
-        }
-    };
-}
+macro_rules! components { ($to:ident $($with:ident)*) => { $to! { [$($with)*]
+    default 0 "a" a: u8 [0..=7 DEFAULT 3_u8];
+} }; }
 
-const FIELDS: Fields = components!(fields);
+const FIELDS: FieldLists = components!(fields);
 
-const BOUNDS: &[&[Constraint]] = components!(bounds);
+const BOUNDS: Bounds = components!(bounds);
 
 impl Components for OneDefault {
-    const COMPONENTS: Fields = FIELDS;
+    const COMPONENTS: FieldLists = FIELDS;
 
     ghost COMPONENTS = { fields_of one_default };
 
-    ghost components = { one_default };
+    ghost components = { (one_default, refl) };
 
     ghost contents = { λ x. Some (whole (pos x.a)) ∷ [] };
-
-    ghost described = { refl };
 }
 
 impl Record for OneDefault {

@@ -1,16 +1,12 @@
 //! A CHOICE of two alternatives.
 
-ghost use Rattle.std.specs.Prelude.{None, refl, true, [], ◌∷◌};
-ghost use Rattle.rasn_below.specs.Components.{variants_in, ◌to◌};
+ghost use Rattle.std.specs.Prelude.{refl, true, [], ◌∷◌};
+ghost use Rattle.rasn_below.specs.Page.{variants_listed, ◌to◌};
 ghost use Rattle.rasn_below.specs.Rows.{aligned, unaligned, IsWrittenAs};
 ghost use Rattle.per_samples_a.specs.Alternatives.{alternatives, alternative_of};
 ghost use Rattle.per_samples_a.specs.declared.alternative.Alternative.TheVariants.{X, Y};
 
-use rasn_below::{
-    Alternatives, AsnType, ByKind, ChoiceKind, CodedAlternatives, Constrained, Constraint,
-    Constraints, Decoder, Encoder, Limits, OfKind, Tag, Variants, alternative_bounds, constraints,
-    decode_alternative, encode_alternative, tags_of_choice, variants,
-};
+use rasn_below::page::*;
 
 /// INTEGER (0..7)
 pub type ZeroTo7 = Constrained<u8, ZeroTo7Limits>;
@@ -34,18 +30,14 @@ pub enum Alternative {
     Y(ZeroTo7),
 }
 
-macro_rules! alternatives {
-    ($to:ident $($with:ident)*) => {
-        $to! { [$($with)*]
-            0 "x" X: bool [];
-            1 "y" Y: ZeroTo7 [];
-        }
-    };
-}
+macro_rules! alternatives { ($to:ident $($with:ident)*) => { $to! { [$($with)*]
+    0 "x" X: bool [];
+    1 "y" Y: ZeroTo7 [];
+} }; }
 
-const VARIANTS: Variants = alternatives!(variants);
+const VARIANTS: VariantLists = alternatives!(variants);
 
-const BOUNDS: &[&[Constraint]] = alternatives!(alternative_bounds);
+const BOUNDS: Bounds = alternatives!(alternative_bounds);
 
 /// The tags of an untagged `Alternative`.
 pub(crate) const ALTERNATIVE_TAGS: rasn_below::TagTree = alternatives!(tags_of_choice);
@@ -55,21 +47,13 @@ impl OfKind for Alternative {
 }
 
 impl Alternatives for Alternative {
-    const ALTERNATIVES: Variants = VARIANTS;
+    const ALTERNATIVES: VariantLists = VARIANTS;
 
-    ghost ALTERNATIVES = { variants_in alternatives };
+    ghost ALTERNATIVES = { variants_listed alternatives };
 
-    const ADDED_ALTERNATIVES: Option<Variants> = None;
-
-    ghost ADDED_ALTERNATIVES = { None };
-
-    ghost alternatives = { alternatives };
+    ghost alternatives = { (alternatives, refl) };
 
     ghost chosen = { alternative_of };
-
-    ghost described = { refl };
-
-    ghost extends = { refl };
 
     ghost are_variants = { record { distinct = refl; few = refl } };
 }

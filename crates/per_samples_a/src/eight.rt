@@ -1,14 +1,10 @@
 //! A SEQUENCE of eight required components.
 
 ghost use Rattle.std.specs.Prelude.{refl, [], ◌∷◌, Some};
-ghost use Rattle.rasn_below.specs.Values.{truth, nothing, whole};
-ghost use Rattle.rasn_below.specs.Components.{fields_of};
+ghost use Rattle.rasn_below.specs.Page.{truth, nothing, whole, fields_of};
 ghost use Rattle.per_samples_a.specs.Eights.{eight};
 
-use rasn_below::{
-    Components, Constraint, Decoder, Encoder, Fields, Record, bounds, decode_components,
-    encode_components, fields,
-};
+use rasn_below::page::*;
 
 /// SEQUENCE { a BOOLEAN, b INTEGER, c NULL, d BOOLEAN, e INTEGER, f BOOLEAN, g NULL, h INTEGER }
 #[derive(Clone, Copy, Debug, PartialEq)]
@@ -23,37 +19,31 @@ pub struct Eight {
     pub h: i128,
 }
 
-macro_rules! components {
-    ($to:ident $($with:ident)*) => {
-        $to! { [$($with)*]
-            required 0 "a" a: bool [];
-            required 1 "b" b: i128 [];
-            required 2 "c" c: () [];
-            required 3 "d" d: bool [];
-            required 4 "e" e: i128 [];
-            required 5 "f" f: bool [];
-            required 6 "g" g: () [];
-            required 7 "h" h: i128 [];
-        }
-    };
-}
+macro_rules! components { ($to:ident $($with:ident)*) => { $to! { [$($with)*]
+    required 0 "a" a: bool [];
+    required 1 "b" b: i128 [];
+    required 2 "c" c: () [];
+    required 3 "d" d: bool [];
+    required 4 "e" e: i128 [];
+    required 5 "f" f: bool [];
+    required 6 "g" g: () [];
+    required 7 "h" h: i128 [];
+} }; }
 
-const FIELDS: Fields = components!(fields);
+const FIELDS: FieldLists = components!(fields);
 
-const BOUNDS: &[&[Constraint]] = components!(bounds);
+const BOUNDS: Bounds = components!(bounds);
 
 impl Components for Eight {
-    const COMPONENTS: Fields = FIELDS;
+    const COMPONENTS: FieldLists = FIELDS;
 
     ghost COMPONENTS = { fields_of eight };
 
-    ghost components = { eight };
+    ghost components = { (eight, refl) };
 
     ghost contents = { λ x.
         Some (truth x.a) ∷ Some (whole x.b) ∷ Some nothing ∷ Some (truth x.d) ∷
         Some (whole x.e) ∷ Some (truth x.f) ∷ Some nothing ∷ Some (whole x.h) ∷ [] };
-
-    ghost described = { refl };
 }
 
 impl Record for Eight {

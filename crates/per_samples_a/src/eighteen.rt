@@ -1,15 +1,11 @@
 //! A SEQUENCE of eighteen components, of which sixteen are required.
 
 ghost use Rattle.std.specs.Prelude.{refl, true, false, [], ◌∷◌, Some, None, pos};
-ghost use Rattle.rasn_below.specs.Values.{truth, whole, slot_of};
-ghost use Rattle.rasn_below.specs.Components.{fields_of};
+ghost use Rattle.rasn_below.specs.Page.{truth, whole, slot_of, fields_of};
 ghost use Rattle.rasn_below.specs.Rows.{unaligned, IsWrittenAs};
 ghost use Rattle.per_samples_a.specs.Eighteens.{eighteen};
 
-use rasn_below::{
-    AsnType, Components, Constraint, Decoder, Encoder, Fields, Record, bounds, decode_components,
-    encode_components, fields,
-};
+use rasn_below::page::*;
 
 /// SEQUENCE { a BOOLEAN, b BOOLEAN, .., p BOOLEAN, q INTEGER (0..7) OPTIONAL, r INTEGER (0..7) DEFAULT 3 }
 #[derive(Clone, Copy, Debug, PartialEq)]
@@ -34,41 +30,37 @@ pub struct Eighteen {
     pub r: u8,
 }
 
-macro_rules! components {
-    ($to:ident $($with:ident)*) => {
-        $to! { [$($with)*]
-            required 0 "a" a: bool [];
-            required 1 "b" b: bool [];
-            required 2 "c" c: bool [];
-            required 3 "d" d: bool [];
-            required 4 "e" e: bool [];
-            required 5 "f" f: bool [];
-            required 6 "g" g: bool [];
-            required 7 "h" h: bool [];
-            required 8 "i" i: bool [];
-            required 9 "j" j: bool [];
-            required 10 "k" k: bool [];
-            required 11 "l" l: bool [];
-            required 12 "m" m: bool [];
-            required 13 "n" n: bool [];
-            required 14 "o" o: bool [];
-            required 15 "p" p: bool [];
-            optional 16 "q" q: Option<u8> [0..=7];
-            default 17 "r" r: u8 [0..=7 DEFAULT 3_u8];
-        }
-    };
-}
+macro_rules! components { ($to:ident $($with:ident)*) => { $to! { [$($with)*]
+    required 0 "a" a: bool [];
+    required 1 "b" b: bool [];
+    required 2 "c" c: bool [];
+    required 3 "d" d: bool [];
+    required 4 "e" e: bool [];
+    required 5 "f" f: bool [];
+    required 6 "g" g: bool [];
+    required 7 "h" h: bool [];
+    required 8 "i" i: bool [];
+    required 9 "j" j: bool [];
+    required 10 "k" k: bool [];
+    required 11 "l" l: bool [];
+    required 12 "m" m: bool [];
+    required 13 "n" n: bool [];
+    required 14 "o" o: bool [];
+    required 15 "p" p: bool [];
+    optional 16 "q" q: Option<u8> [0..=7];
+    default 17 "r" r: u8 [0..=7 DEFAULT 3_u8];
+} }; }
 
-const FIELDS: Fields = components!(fields);
+const FIELDS: FieldLists = components!(fields);
 
-const BOUNDS: &[&[Constraint]] = components!(bounds);
+const BOUNDS: Bounds = components!(bounds);
 
 impl Components for Eighteen {
-    const COMPONENTS: Fields = FIELDS;
+    const COMPONENTS: FieldLists = FIELDS;
 
     ghost COMPONENTS = { fields_of eighteen };
 
-    ghost components = { eighteen };
+    ghost components = { (eighteen, refl) };
 
     ghost contents = { λ x.
         Some (truth x.a) ∷ Some (truth x.b) ∷ Some (truth x.c) ∷ Some (truth x.d) ∷
@@ -76,8 +68,6 @@ impl Components for Eighteen {
         Some (truth x.i) ∷ Some (truth x.j) ∷ Some (truth x.k) ∷ Some (truth x.l) ∷
         Some (truth x.m) ∷ Some (truth x.n) ∷ Some (truth x.o) ∷ Some (truth x.p) ∷
         slot_of (λ n. whole (pos n)) x.q ∷ Some (whole (pos x.r)) ∷ [] };
-
-    ghost described = { refl };
 }
 
 impl Record for Eighteen {

@@ -1,16 +1,11 @@
 //! A SEQUENCE of which one component is bounded.
 
 ghost use Rattle.std.specs.Prelude.{refl, [], ◌∷◌, Some, true, false, pos, negsuc};
-ghost use Rattle.rasn_below.specs.Values.{truth, whole};
-ghost use Rattle.rasn_below.specs.Components.{fields_of};
+ghost use Rattle.rasn_below.specs.Page.{truth, whole, fields_of};
 ghost use Rattle.rasn_below.specs.Rows.{aligned, unaligned, IsWrittenAs, IsUnwritten};
 ghost use Rattle.per_samples_a.specs.Fours.{four};
 
-use rasn_below::types::Integer;
-use rasn_below::{
-    AsnType, Components, Constraint, Decoder, Encoder, Fields, Record, bounds, decode_components,
-    encode_components, fields,
-};
+use rasn_below::page::*;
 
 /// SEQUENCE { a BOOLEAN, b INTEGER, c BOOLEAN, d INTEGER (-10..400) }
 #[derive(Debug, Drop, PartialEq, Eq)]
@@ -21,31 +16,25 @@ pub struct Four {
     pub d: Integer,
 }
 
-macro_rules! components {
-    ($to:ident $($with:ident)*) => {
-        $to! { [$($with)*]
-            required 0 "a" a: bool [];
-            required 1 "b" b: Integer [];
-            required 2 "c" c: bool [];
-            required 3 "d" d: Integer [-10..=400];
-        }
-    };
-}
+macro_rules! components { ($to:ident $($with:ident)*) => { $to! { [$($with)*]
+    required 0 "a" a: bool [];
+    required 1 "b" b: Integer [];
+    required 2 "c" c: bool [];
+    required 3 "d" d: Integer [-10..=400];
+} }; }
 
-const FIELDS: Fields = components!(fields);
+const FIELDS: FieldLists = components!(fields);
 
-const BOUNDS: &[&[Constraint]] = components!(bounds);
+const BOUNDS: Bounds = components!(bounds);
 
 impl Components for Four {
-    const COMPONENTS: Fields = FIELDS;
+    const COMPONENTS: FieldLists = FIELDS;
 
     ghost COMPONENTS = { fields_of four };
 
-    ghost components = { four };
+    ghost components = { (four, refl) };
 
     ghost contents = { λ x. Some (truth x.a) ∷ Some (whole x.b) ∷ Some (truth x.c) ∷ Some (whole x.d) ∷ [] };
-
-    ghost described = { refl };
 }
 
 impl Record for Four {

@@ -1,8 +1,10 @@
 //! A CHOICE of a SEQUENCE, an untagged CHOICE and NULL.
 
 ghost use Rattle.std.specs.Prelude.{None, refl, true};
-ghost use Rattle.rasn_below.specs.Types.{EOC, no_constraints, choice_at, no_additions, choice_stated, choice_tag, tree_with};
-ghost use Rattle.per_samples_a.specs.Nesteds.{nested_parts, nested_levelled, nested_variants, nested_described, nested_chosen, nested_levels};
+ghost use Rattle.rasn_below.specs.Types.{EOC, no_constraints, choice_at, no_additions, choice_stated, choice_tag};
+ghost use Rattle.rasn_below.specs.Types.{tree_with};
+ghost use Rattle.per_samples_a.specs.Nesteds.{nested_parts, nested_levelled, nested_variants, nested_described};
+ghost use Rattle.per_samples_a.specs.Nesteds.{nested_chosen, nested_levels};
 
 use crate::alternative::{ALTERNATIVE_TAGS, Alternative};
 use crate::pair::Pair;

@@ -3,7 +3,8 @@
 ghost use Rattle.std.specs.Prelude.{refl, None, Some, [], false};
 ghost use Rattle.rasn_below.specs.Values.{record_value};
 ghost use Rattle.rasn_below.specs.Types.{SEQUENCE, listed, no_constraints, unextended, shapes_from};
-ghost use Rattle.rasn_below.specs.Types.{record_at, no_additions, sequence_levelled, sequence_stated, sequence_tag, tagged};
+ghost use Rattle.rasn_below.specs.Types.{record_at, no_additions, sequence_levelled, sequence_stated, sequence_tag};
+ghost use Rattle.rasn_below.specs.Types.{tagged};
 ghost use Rattle.per_samples_a.specs.Pairs.{pair, pair_parts, pair_contents};
 
 use crate::pair::Pair;

@@ -1,16 +1,11 @@
 //! A SEQUENCE of which each value takes no bits.
 
 ghost use Rattle.std.specs.Prelude.{refl, [], ◌∷◌, Some, pos};
-ghost use Rattle.rasn_below.specs.Values.{whole};
-ghost use Rattle.rasn_below.specs.Components.{fields_of};
+ghost use Rattle.rasn_below.specs.Page.{whole, fields_of};
 ghost use Rattle.rasn_below.specs.Rows.{aligned, unaligned, IsWrittenAs, IsUnwritten};
 ghost use Rattle.per_samples_a.specs.Sevens.{seven};
 
-use rasn_below::types::Integer;
-use rasn_below::{
-    AsnType, Components, Constraint, Decoder, Encoder, Fields, Record, bounds, decode_components,
-    encode_components, fields,
-};
+use rasn_below::page::*;
 
 /// SEQUENCE { a INTEGER (7..7) }
 #[derive(Debug, Drop, PartialEq, Eq)]
@@ -18,28 +13,22 @@ pub struct Seven {
     pub a: Integer,
 }
 
-macro_rules! components {
-    ($to:ident $($with:ident)*) => {
-        $to! { [$($with)*]
-            required 0 "a" a: Integer [7..=7];
-        }
-    };
-}
+macro_rules! components { ($to:ident $($with:ident)*) => { $to! { [$($with)*]
+    required 0 "a" a: Integer [7..=7];
+} }; }
 
-const FIELDS: Fields = components!(fields);
+const FIELDS: FieldLists = components!(fields);
 
-const BOUNDS: &[&[Constraint]] = components!(bounds);
+const BOUNDS: Bounds = components!(bounds);
 
 impl Components for Seven {
-    const COMPONENTS: Fields = FIELDS;
+    const COMPONENTS: FieldLists = FIELDS;
 
     ghost COMPONENTS = { fields_of seven };
 
-    ghost components = { seven };
+    ghost components = { (seven, refl) };
 
     ghost contents = { λ x. Some (whole x.a) ∷ [] };
-
-    ghost described = { refl };
 }
 
 impl Record for Seven {

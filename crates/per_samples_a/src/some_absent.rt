@@ -1,15 +1,11 @@
 //! A SEQUENCE of a required component, an optional one, and one with a default.
 
 ghost use Rattle.std.specs.Prelude.{refl, true, [], ◌∷◌, Some, None, pos};
-ghost use Rattle.rasn_below.specs.Values.{truth, whole, slot_of};
-ghost use Rattle.rasn_below.specs.Components.{fields_of};
+ghost use Rattle.rasn_below.specs.Page.{truth, whole, slot_of, fields_of};
 ghost use Rattle.rasn_below.specs.Rows.{unaligned, IsWrittenAs};
 ghost use Rattle.per_samples_a.specs.Absents.{some_absent};
 
-use rasn_below::{
-    AsnType, Components, Constraint, Decoder, Encoder, Fields, Record, bounds, decode_components,
-    encode_components, fields,
-};
+use rasn_below::page::*;
 
 /// SEQUENCE { a BOOLEAN, b INTEGER (0..7) OPTIONAL, c INTEGER (0..7) DEFAULT 3 }
 #[derive(Clone, Copy, Debug, PartialEq)]
@@ -19,30 +15,24 @@ pub struct SomeAbsent {
     pub c: u8,
 }
 
-macro_rules! components {
-    ($to:ident $($with:ident)*) => {
-        $to! { [$($with)*]
-            required 0 "a" a: bool [];
-            optional 1 "b" b: Option<u8> [0..=7];
-            default 2 "c" c: u8 [0..=7 DEFAULT 3_u8];
-        }
-    };
-}
+macro_rules! components { ($to:ident $($with:ident)*) => { $to! { [$($with)*]
+    required 0 "a" a: bool [];
+    optional 1 "b" b: Option<u8> [0..=7];
+    default 2 "c" c: u8 [0..=7 DEFAULT 3_u8];
+} }; }
 
-const FIELDS: Fields = components!(fields);
+const FIELDS: FieldLists = components!(fields);
 
-const BOUNDS: &[&[Constraint]] = components!(bounds);
+const BOUNDS: Bounds = components!(bounds);
 
 impl Components for SomeAbsent {
-    const COMPONENTS: Fields = FIELDS;
+    const COMPONENTS: FieldLists = FIELDS;
 
     ghost COMPONENTS = { fields_of some_absent };
 
-    ghost components = { some_absent };
+    ghost components = { (some_absent, refl) };
 
     ghost contents = { λ x. Some (truth x.a) ∷ slot_of (λ n. whole (pos n)) x.b ∷ Some (whole (pos x.c)) ∷ [] };
-
-    ghost described = { refl };
 }
 
 impl Record for SomeAbsent {

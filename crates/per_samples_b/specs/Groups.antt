@@ -1,13 +1,10 @@
 -- SEQUENCE { first BOOLEAN, ..., [[ x BOOLEAN OPTIONAL ]] }
-use Rattle.std.specs.Prelude.{List, [], ◌∷◌}
-use Rattle.rasn_below.specs.Components.{Component, automatic, automatic_from, boolean, optional, sequence, group}
-
-abbrev pub grouped_root : List Component
-grouped_root = automatic (boolean ∷ [])
+use Rattle.std.specs.Prelude.{[], ◌∷◌}
+use Rattle.rasn_below.specs.Page.{TypeLists, automatic, extensible_automatic, boolean, optional, sequence, group}
 
 -- the components of the group
-abbrev pub possible : List Component
+abbrev pub possible : TypeLists
 possible = automatic (optional boolean ∷ [])
 
-abbrev pub grouped_additions : List Component
-grouped_additions = automatic_from 1 (group (sequence possible) ∷ [])
+abbrev pub grouped : TypeLists
+grouped = extensible_automatic (boolean ∷ []) (group (sequence possible) ∷ [])

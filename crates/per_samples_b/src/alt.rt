@@ -1,17 +1,12 @@
 //! A CHOICE with a SEQUENCE before its extension marker and behind it.
 
-ghost use Rattle.std.specs.Prelude.{Some, refl};
-ghost use Rattle.rasn_below.specs.Values.{truth};
-ghost use Rattle.rasn_below.specs.Components.{chosen, chosen_behind, variants_in};
-ghost use Rattle.per_samples_b.specs.Alternatives.{alt_added, alt_root};
+ghost use Rattle.std.specs.Prelude.{refl, []};
+ghost use Rattle.rasn_below.specs.Page.{truth, chosen, chosen_behind, variants_listed};
+ghost use Rattle.per_samples_b.specs.Alternatives.{alt};
 ghost use Rattle.per_samples_b.specs.declared.alt.Alt.TheVariants.{Added, Inner, Plain};
 
 use crate::inner::Inner;
-use rasn_below::{
-    Alternatives, AsnType, ByKind, ChoiceKind, CodedAlternatives, Constraint, Decoder, Encoder,
-    OfKind, Tag, Variants, added_alternative_bounds, added_variants, alternative_bounds,
-    decode_alternative, encode_alternative, variants,
-};
+use rasn_below::page::*;
 
 /// Alt ::= CHOICE { plain BOOLEAN, inner Inner, ..., added Inner }
 #[derive(Debug, Drop, PartialEq)]
@@ -21,41 +16,27 @@ pub enum Alt {
     Added(Inner),
 }
 
-macro_rules! alternatives {
-    ($to:ident $($with:ident)*) => {
-        $to! { [$($with)*]
-            0 "plain" Plain: bool [];
-            1 "inner" Inner: Inner [];
-            ...;
-            2 "added" Added: Inner [];
-        }
-    };
-}
+macro_rules! alternatives { ($to:ident $($with:ident)*) => { $to! { [$($with)*]
+    0 "plain" Plain: bool [];
+    1 "inner" Inner: Inner [];
+    ...;
+    2 "added" Added: Inner [];
+} }; }
 
-const VARIANTS: Variants = alternatives!(variants);
+const VARIANTS: VariantLists = alternatives!(variants);
 
-const ADDED_VARIANTS: Option<Variants> = alternatives!(added_variants);
-
-const BOUNDS: &[&[Constraint]] = alternatives!(alternative_bounds);
-
-const ADDED_BOUNDS: &[&[Constraint]] = alternatives!(added_alternative_bounds);
+const BOUNDS: Bounds = alternatives!(alternative_bounds);
 
 impl OfKind for Alt {
     type Kind = ChoiceKind;
 }
 
 impl Alternatives for Alt {
-    const ALTERNATIVES: Variants = VARIANTS;
+    const ALTERNATIVES: VariantLists = VARIANTS;
 
-    ghost ALTERNATIVES = { variants_in alt_root };
+    ghost ALTERNATIVES = { variants_listed alt };
 
-    const ADDED_ALTERNATIVES: Option<Variants> = ADDED_VARIANTS;
-
-    ghost ADDED_ALTERNATIVES = { Some (variants_in alt_added) };
-
-    ghost alternatives = { alt_root };
-
-    ghost added = { Some alt_added };
+    ghost alternatives = { (alt, refl) };
 
     ghost chosen = { elim [
       | Plain p ↦ chosen 0 (truth p)
@@ -64,10 +45,6 @@ impl Alternatives for Alt {
     ] };
 
     ghost depth = { λ _. 1 };
-
-    ghost described = { refl };
-
-    ghost extends = { refl };
 
     ghost are_variants = { record { distinct = refl; few = refl } };
 }

@@ -1,13 +1,10 @@
 //! A CHOICE with an extension marker, and nothing behind it.
 
-ghost use Rattle.std.specs.Prelude.{[], Some, refl};
-ghost use Rattle.rasn_below.specs.Components.{variants_in};
-ghost use Rattle.per_samples_b.specs.First.{alt1_chosen, in_root};
+ghost use Rattle.std.specs.Prelude.{[], refl};
+ghost use Rattle.rasn_below.specs.Page.{variants_listed};
+ghost use Rattle.per_samples_b.specs.First.{alt1, alt1_chosen};
 
-use rasn_below::{
-    Alternatives, ByKind, ChoiceKind, CodedAlternatives, Constraint, Decoder, Encoder, OfKind, Tag,
-    Variants, added_variants, alternative_bounds, decode_alternative, encode_alternative, variants,
-};
+use rasn_below::page::*;
 
 /// Alt1 ::= CHOICE { a BOOLEAN, ... }
 #[derive(Clone, Copy, Debug, PartialEq, Eq)]
@@ -15,43 +12,27 @@ pub enum Alt1 {
     A(bool),
 }
 
-macro_rules! alternatives {
-    ($to:ident $($with:ident)*) => {
-        $to! { [$($with)*]
-            0 "a" A: bool [];
-            ...;
-        }
-    };
-}
+macro_rules! alternatives { ($to:ident $($with:ident)*) => { $to! { [$($with)*]
+    0 "a" A: bool [];
+    ...;
+} }; }
 
-const VARIANTS: Variants = alternatives!(variants);
+const VARIANTS: VariantLists = alternatives!(variants);
 
-const ADDED_VARIANTS: Option<Variants> = alternatives!(added_variants);
-
-const BOUNDS: &[&[Constraint]] = alternatives!(alternative_bounds);
+const BOUNDS: Bounds = alternatives!(alternative_bounds);
 
 impl OfKind for Alt1 {
     type Kind = ChoiceKind;
 }
 
 impl Alternatives for Alt1 {
-    const ALTERNATIVES: Variants = VARIANTS;
+    const ALTERNATIVES: VariantLists = VARIANTS;
 
-    ghost ALTERNATIVES = { variants_in in_root };
+    ghost ALTERNATIVES = { variants_listed alt1 };
 
-    const ADDED_ALTERNATIVES: Option<Variants> = ADDED_VARIANTS;
-
-    ghost ADDED_ALTERNATIVES = { Some [] };
-
-    ghost alternatives = { in_root };
-
-    ghost added = { Some [] };
+    ghost alternatives = { (alt1, refl) };
 
     ghost chosen = { alt1_chosen };
-
-    ghost described = { refl };
-
-    ghost extends = { refl };
 
     ghost are_variants = { record { distinct = refl; few = refl } };
 }

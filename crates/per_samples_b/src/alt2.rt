@@ -1,15 +1,10 @@
 //! A CHOICE with an extension marker, and one alternative behind it.
 
-ghost use Rattle.std.specs.Prelude.{Some, refl};
-ghost use Rattle.rasn_below.specs.Components.{variants_in};
-ghost use Rattle.per_samples_b.specs.First.{in_root};
-ghost use Rattle.per_samples_b.specs.Second.{alt2_chosen, behind_marker};
+ghost use Rattle.std.specs.Prelude.{refl, []};
+ghost use Rattle.rasn_below.specs.Page.{variants_listed};
+ghost use Rattle.per_samples_b.specs.Second.{alt2, alt2_chosen};
 
-use rasn_below::{
-    Alternatives, ByKind, ChoiceKind, CodedAlternatives, Constraint, Decoder, Encoder, OfKind, Tag,
-    Variants, added_alternative_bounds, added_variants, alternative_bounds, decode_alternative,
-    encode_alternative, variants,
-};
+use rasn_below::page::*;
 
 /// Alt2 ::= CHOICE { a BOOLEAN, ..., b BOOLEAN }
 #[derive(Clone, Copy, Debug, PartialEq, Eq)]
@@ -18,46 +13,28 @@ pub enum Alt2 {
     B(bool),
 }
 
-macro_rules! alternatives {
-    ($to:ident $($with:ident)*) => {
-        $to! { [$($with)*]
-            0 "a" A: bool [];
-            ...;
-            1 "b" B: bool [];
-        }
-    };
-}
+macro_rules! alternatives { ($to:ident $($with:ident)*) => { $to! { [$($with)*]
+    0 "a" A: bool [];
+    ...;
+    1 "b" B: bool [];
+} }; }
 
-const VARIANTS: Variants = alternatives!(variants);
+const VARIANTS: VariantLists = alternatives!(variants);
 
-const ADDED_VARIANTS: Option<Variants> = alternatives!(added_variants);
-
-const BOUNDS: &[&[Constraint]] = alternatives!(alternative_bounds);
-
-const ADDED_BOUNDS: &[&[Constraint]] = alternatives!(added_alternative_bounds);
+const BOUNDS: Bounds = alternatives!(alternative_bounds);
 
 impl OfKind for Alt2 {
     type Kind = ChoiceKind;
 }
 
 impl Alternatives for Alt2 {
-    const ALTERNATIVES: Variants = VARIANTS;
+    const ALTERNATIVES: VariantLists = VARIANTS;
 
-    ghost ALTERNATIVES = { variants_in in_root };
+    ghost ALTERNATIVES = { variants_listed alt2 };
 
-    const ADDED_ALTERNATIVES: Option<Variants> = ADDED_VARIANTS;
-
-    ghost ADDED_ALTERNATIVES = { Some (variants_in behind_marker) };
-
-    ghost alternatives = { in_root };
-
-    ghost added = { Some behind_marker };
+    ghost alternatives = { (alt2, refl) };
 
     ghost chosen = { alt2_chosen };
-
-    ghost described = { refl };
-
-    ghost extends = { refl };
 
     ghost are_variants = { record { distinct = refl; few = refl } };
 }

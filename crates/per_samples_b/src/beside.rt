@@ -2,15 +2,11 @@
 #![tactic(auto, unfolding(rasn_below::specs::Types::smallest, rasn_below::specs::Types::least_of))]
 
 ghost use Rattle.std.specs.Prelude.{refl, [], ◌∷◌, Some, pos};
-ghost use Rattle.rasn_below.specs.Values.{whole};
-ghost use Rattle.rasn_below.specs.Components.{fields_of};
+ghost use Rattle.rasn_below.specs.Page.{whole, fields_of};
 ghost use Rattle.per_samples_b.specs.Several.{beside_several};
 
 use crate::several::{SEVERAL_TAGS, Several};
-use rasn_below::{
-    AsnType, Components, Constraint, Decoder, Encoder, Fields, Record, bounds, decode_components,
-    encode_components, fields,
-};
+use rasn_below::page::*;
 
 /// SEQUENCE { choice Several, lane [4] INTEGER (0..7) }, whose tags are its own
 #[derive(Clone, Copy, Debug, PartialEq, Eq)]
@@ -19,31 +15,25 @@ pub struct BesideSeveral {
     pub lane: u8,
 }
 
-macro_rules! components {
-    ($to:ident $($with:ident)*) => {
-        $to! { [$($with)*]
-            required 0 of SEVERAL_TAGS "choice" choice: Several [];
-            required 4 "lane" lane: u8 [0..=7];
-        }
-    };
-}
+macro_rules! components { ($to:ident $($with:ident)*) => { $to! { [$($with)*]
+    required 0 of SEVERAL_TAGS "choice" choice: Several [];
+    required 4 "lane" lane: u8 [0..=7];
+} }; }
 
-const FIELDS: Fields = components!(fields);
+const FIELDS: FieldLists = components!(fields);
 
-const BOUNDS: &[&[Constraint]] = components!(bounds);
+const BOUNDS: Bounds = components!(bounds);
 
 impl Components for BesideSeveral {
-    const COMPONENTS: Fields = FIELDS;
+    const COMPONENTS: FieldLists = FIELDS;
 
     ghost COMPONENTS = { fields_of beside_several };
 
-    ghost components = { beside_several };
+    ghost components = { (beside_several, refl) };
 
     ghost contents = { λ x. Some (⟦<Several as AsnType>⟧.value x.choice) ∷ Some (whole (pos x.lane)) ∷ [] };
 
     ghost depth = { λ _. 1 };
-
-    ghost described = { refl };
 }
 
 impl Record for BesideSeveral {

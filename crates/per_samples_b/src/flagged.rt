@@ -1,15 +1,10 @@
 //! A group of additions.
 
 ghost use Rattle.std.specs.Prelude.{[], ◌∷◌, Some, refl};
-ghost use Rattle.rasn_below.specs.Values.{octets, truth};
-ghost use Rattle.rasn_below.specs.Components.{fields_of};
+ghost use Rattle.rasn_below.specs.Page.{octets, truth, fields_of};
 ghost use Rattle.per_samples_b.specs.Outers.{flagged};
 
-use rasn_below::types::OctetString;
-use rasn_below::{
-    Components, Constraint, Decoder, Encoder, Fields, Record, bounds, decode_components,
-    encode_components, fields,
-};
+use rasn_below::page::*;
 
 /// [[ flag BOOLEAN, octets OCTET STRING (SIZE (3)) ]]
 #[derive(Debug, Drop, PartialEq)]
@@ -18,29 +13,23 @@ pub struct Flagged {
     pub octets: OctetString,
 }
 
-macro_rules! components {
-    ($to:ident $($with:ident)*) => {
-        $to! { [$($with)*]
-            required 0 "flag" flag: bool [];
-            required 1 "octets" octets: OctetString [SIZE 3..=3];
-        }
-    };
-}
+macro_rules! components { ($to:ident $($with:ident)*) => { $to! { [$($with)*]
+    required 0 "flag" flag: bool [];
+    required 1 "octets" octets: OctetString [SIZE 3..=3];
+} }; }
 
-const FIELDS: Fields = components!(fields);
+const FIELDS: FieldLists = components!(fields);
 
-const BOUNDS: &[&[Constraint]] = components!(bounds);
+const BOUNDS: Bounds = components!(bounds);
 
 impl Components for Flagged {
-    const COMPONENTS: Fields = FIELDS;
+    const COMPONENTS: FieldLists = FIELDS;
 
     ghost COMPONENTS = { fields_of flagged };
 
-    ghost components = { flagged };
+    ghost components = { (flagged, refl) };
 
     ghost contents = { λ x. Some (truth x.flag) ∷ Some (octets x.octets) ∷ [] };
-
-    ghost described = { refl };
 }
 
 impl Record for Flagged {

@@ -1,17 +1,11 @@
 //! A SEQUENCE with a group that may hold nothing.
 
-ghost use Rattle.std.specs.Prelude.{[], ◌∷◌, Some, max, refl, true};
-ghost use Rattle.rasn_below.specs.Values.{truth, slot_of, slot_levels, deeper_of};
-ghost use Rattle.rasn_below.specs.Components.{fields_described, fields_of, parts_of, extended_by};
-ghost use Rattle.per_samples_b.specs.Groups.{grouped_root, grouped_additions};
+ghost use Rattle.std.specs.Prelude.{[], ◌∷◌, Some, max, refl};
+ghost use Rattle.rasn_below.specs.Page.{truth, slot_of, slot_levels, deeper_of, fields_of};
+ghost use Rattle.per_samples_b.specs.Groups.{grouped};
 
 use crate::possible::Possible;
-use rasn_below::types::Identifier;
-use rasn_below::{
-    AsnType, Constraint, Constraints, Constructed, Decode, Decoder, Encode, Encoder, Extended,
-    ExtendedKind, Fields, OfKind, Tag, added_bounds, added_fields, decode_extended,
-    encode_extended, root_bounds, root_fields,
-};
+use rasn_below::page::*;
 
 /// SEQUENCE { first BOOLEAN, ..., [[ x BOOLEAN OPTIONAL ]] }
 #[derive(Clone, Copy, Debug, PartialEq)]
@@ -20,32 +14,22 @@ pub struct Grouped {
     pub group: Option<Possible>,
 }
 
-macro_rules! components {
-    ($to:ident $($with:ident)*) => {
-        $to! { [$($with)*]
-            required 0 "first" first: bool [];
-            ...;
-            group 1 "group" group: Option<Possible> [];
-        }
-    };
-}
+macro_rules! components { ($to:ident $($with:ident)*) => { $to! { [$($with)*]
+    required 0 "first" first: bool [];
+    ...;
+    group 1 "group" group: Option<Possible> [];
+} }; }
 
-const FIELDS: Fields = components!(root_fields);
+const FIELDS: FieldLists = components!(fields);
 
-const BOUNDS: &[&[Constraint]] = components!(root_bounds);
+const BOUNDS: Bounds = components!(bounds);
 
-const ADDED_FIELDS: Fields = components!(added_fields);
+impl Components for Grouped {
+    const COMPONENTS: FieldLists = FIELDS;
 
-const ADDED_BOUNDS: &[&[Constraint]] = components!(added_bounds);
+    ghost COMPONENTS = { fields_of grouped };
 
-impl OfKind for Grouped {
-    type Kind = ExtendedKind;
-}
-
-impl Extended for Grouped {
-    ghost root = { grouped_root };
-
-    ghost additions = { grouped_additions };
+    ghost components = { (grouped, refl) };
 
     ghost contents = { λ x. Some (truth x.first) ∷ [] };
 
@@ -54,52 +38,12 @@ impl Extended for Grouped {
     ghost depth = { λ x. deeper_of 0 (max (slot_levels ⟦<Possible as AsnType>⟧.levels x.group) 0) };
 }
 
-impl Constructed for Grouped {
-    const FIELDS: Fields = FIELDS;
-
-    ghost FIELDS = { fields_of grouped_root };
-
-    const EXTENDED_FIELDS: Option<Fields> = Some(ADDED_FIELDS);
-
-    ghost EXTENDED_FIELDS = { Some (fields_of grouped_additions) };
-
-    const IS_EXTENSIBLE: bool = true;
-
-    ghost IS_EXTENSIBLE = { true };
-
-    ghost parts = { parts_of grouped_root };
-
-    ghost additions = { parts_of grouped_additions };
-
-    ghost contents = { ⟦<Grouped as Extended>⟧.contents };
-
-    ghost added = { ⟦<Grouped as Extended>⟧.added };
-
-    ghost described = { fields_described grouped_root };
-
-    ghost extends = { extended_by grouped_additions };
-
-    ghost is_record = { λ _. refl };
-}
-
-impl Encode for Grouped {
-    fn encode_with_tag_and_constraints<E: Encoder>(
-        &self,
-        encoder: &mut E,
-        tag: Tag,
-        _: &Constraints,
-        identifier: Identifier,
-    ) -> Result<(), E::Error> {
-        components!(encode_extended self encoder tag identifier)
+impl Record for Grouped {
+    fn encode_components<E: Encoder>(&self, encoder: &mut E) -> Result<(), E::Error> {
+        components!(encode_components self encoder)
     }
-}
 
-impl Decode for Grouped {
-    fn decode_with_tag_and_constraints<D: Decoder>(
-        decoder: &mut D,
-        tag: Tag,
-        _: &Constraints,
-    ) -> Result<Grouped, D::Error> {
-        components!(decode_extended decoder tag)
+    fn decode_components<D: Decoder>(decoder: &mut D) -> Result<Self, D::Error> {
+        components!(decode_components decoder)
     }
 }

@@ -1,17 +1,11 @@
 //! A SEQUENCE with an addition group.
 
-ghost use Rattle.std.specs.Prelude.{[], ◌∷◌, Some, max, refl, true};
-ghost use Rattle.rasn_below.specs.Values.{truth, slot_of, deeper_of, slot_levels};
-ghost use Rattle.rasn_below.specs.Components.{fields_described, fields_of, parts_of, extended_by};
-ghost use Rattle.per_samples_b.specs.Outers.{outer_root, outer2_additions};
+ghost use Rattle.std.specs.Prelude.{[], ◌∷◌, Some, max, refl};
+ghost use Rattle.rasn_below.specs.Page.{truth, slot_of, deeper_of, slot_levels, fields_of};
+ghost use Rattle.per_samples_b.specs.Outers.{outer2};
 
 use crate::flagged::Flagged;
-use rasn_below::types::Identifier;
-use rasn_below::{
-    AsnType, Constraint, Constraints, Constructed, Decode, Decoder, Encode, Encoder, Extended,
-    ExtendedKind, Fields, OfKind, Tag, added_bounds, added_fields, decode_extended,
-    encode_extended, root_bounds, root_fields,
-};
+use rasn_below::page::*;
 
 /// SEQUENCE { first BOOLEAN, second BOOLEAN, ..., [[ flag BOOLEAN, octets OCTET STRING (SIZE (3)) ]] }
 #[derive(Debug, Drop, PartialEq)]
@@ -21,33 +15,23 @@ pub struct Outer2 {
     pub group: Option<Flagged>,
 }
 
-macro_rules! components {
-    ($to:ident $($with:ident)*) => {
-        $to! { [$($with)*]
-            required 0 "first" first: bool [];
-            required 1 "second" second: bool [];
-            ...;
-            group 2 "group" group: Option<Flagged> [];
-        }
-    };
-}
+macro_rules! components { ($to:ident $($with:ident)*) => { $to! { [$($with)*]
+    required 0 "first" first: bool [];
+    required 1 "second" second: bool [];
+    ...;
+    group 2 "group" group: Option<Flagged> [];
+} }; }
 
-const FIELDS: Fields = components!(root_fields);
+const FIELDS: FieldLists = components!(fields);
 
-const BOUNDS: &[&[Constraint]] = components!(root_bounds);
+const BOUNDS: Bounds = components!(bounds);
 
-const ADDED_FIELDS: Fields = components!(added_fields);
+impl Components for Outer2 {
+    const COMPONENTS: FieldLists = FIELDS;
 
-const ADDED_BOUNDS: &[&[Constraint]] = components!(added_bounds);
+    ghost COMPONENTS = { fields_of outer2 };
 
-impl OfKind for Outer2 {
-    type Kind = ExtendedKind;
-}
-
-impl Extended for Outer2 {
-    ghost root = { outer_root };
-
-    ghost additions = { outer2_additions };
+    ghost components = { (outer2, refl) };
 
     ghost contents = { λ x. Some (truth x.first) ∷ Some (truth x.second) ∷ [] };
 
@@ -56,52 +40,12 @@ impl Extended for Outer2 {
     ghost depth = { λ x. deeper_of 0 (max (slot_levels ⟦<Flagged as AsnType>⟧.levels x.group) 0) };
 }
 
-impl Constructed for Outer2 {
-    const FIELDS: Fields = FIELDS;
-
-    ghost FIELDS = { fields_of outer_root };
-
-    const EXTENDED_FIELDS: Option<Fields> = Some(ADDED_FIELDS);
-
-    ghost EXTENDED_FIELDS = { Some (fields_of outer2_additions) };
-
-    const IS_EXTENSIBLE: bool = true;
-
-    ghost IS_EXTENSIBLE = { true };
-
-    ghost parts = { parts_of outer_root };
-
-    ghost additions = { parts_of outer2_additions };
-
-    ghost contents = { ⟦<Outer2 as Extended>⟧.contents };
-
-    ghost added = { ⟦<Outer2 as Extended>⟧.added };
-
-    ghost described = { fields_described outer_root };
-
-    ghost extends = { extended_by outer2_additions };
-
-    ghost is_record = { λ _. refl };
-}
-
-impl Encode for Outer2 {
-    fn encode_with_tag_and_constraints<E: Encoder>(
-        &self,
-        encoder: &mut E,
-        tag: Tag,
-        _: &Constraints,
-        identifier: Identifier,
-    ) -> Result<(), E::Error> {
-        components!(encode_extended self encoder tag identifier)
+impl Record for Outer2 {
+    fn encode_components<E: Encoder>(&self, encoder: &mut E) -> Result<(), E::Error> {
+        components!(encode_components self encoder)
     }
-}
 
-impl Decode for Outer2 {
-    fn decode_with_tag_and_constraints<D: Decoder>(
-        decoder: &mut D,
-        tag: Tag,
-        _: &Constraints,
-    ) -> Result<Outer2, D::Error> {
-        components!(decode_extended decoder tag)
+    fn decode_components<D: Decoder>(decoder: &mut D) -> Result<Self, D::Error> {
+        components!(decode_components decoder)
     }
 }

@@ -1,17 +1,11 @@
 //! A SEQUENCE with an addition group and an optional addition.
 
-ghost use Rattle.std.specs.Prelude.{[], ◌∷◌, Some, max, refl, true};
-ghost use Rattle.rasn_below.specs.Values.{octets, truth, slot_of, deeper_of, slot_levels};
-ghost use Rattle.rasn_below.specs.Components.{fields_described, fields_of, parts_of, extended_by};
-ghost use Rattle.per_samples_b.specs.Outers.{outer_root, outer3_additions};
+ghost use Rattle.std.specs.Prelude.{[], ◌∷◌, Some, max, refl};
+ghost use Rattle.rasn_below.specs.Page.{octets, truth, slot_of, deeper_of, slot_levels, fields_of};
+ghost use Rattle.per_samples_b.specs.Outers.{outer3};
 
 use crate::flagged::Flagged;
-use rasn_below::types::{Identifier, OctetString};
-use rasn_below::{
-    AsnType, Constraint, Constraints, Constructed, Decode, Decoder, Encode, Encoder, Extended,
-    ExtendedKind, Fields, OfKind, Tag, added_bounds, added_fields, decode_extended,
-    encode_extended, root_bounds, root_fields,
-};
+use rasn_below::page::*;
 
 /// SEQUENCE {
 ///     first BOOLEAN, second BOOLEAN, ..., [[ flag BOOLEAN, octets OCTET STRING (SIZE (3)) ]],
@@ -28,34 +22,24 @@ pub struct Outer3 {
 /// SEQUENCE OF outer3
 pub type Outers3 = Vec<Outer3>;
 
-macro_rules! components {
-    ($to:ident $($with:ident)*) => {
-        $to! { [$($with)*]
-            required 0 "first" first: bool [];
-            required 1 "second" second: bool [];
-            ...;
-            group 2 "group" group: Option<Flagged> [];
-            optional 3 "after" after: Option<OctetString> [SIZE 3..=3];
-        }
-    };
-}
+macro_rules! components { ($to:ident $($with:ident)*) => { $to! { [$($with)*]
+    required 0 "first" first: bool [];
+    required 1 "second" second: bool [];
+    ...;
+    group 2 "group" group: Option<Flagged> [];
+    optional 3 "after" after: Option<OctetString> [SIZE 3..=3];
+} }; }
 
-const FIELDS: Fields = components!(root_fields);
+const FIELDS: FieldLists = components!(fields);
 
-const BOUNDS: &[&[Constraint]] = components!(root_bounds);
+const BOUNDS: Bounds = components!(bounds);
 
-const ADDED_FIELDS: Fields = components!(added_fields);
+impl Components for Outer3 {
+    const COMPONENTS: FieldLists = FIELDS;
 
-const ADDED_BOUNDS: &[&[Constraint]] = components!(added_bounds);
+    ghost COMPONENTS = { fields_of outer3 };
 
-impl OfKind for Outer3 {
-    type Kind = ExtendedKind;
-}
-
-impl Extended for Outer3 {
-    ghost root = { outer_root };
-
-    ghost additions = { outer3_additions };
+    ghost components = { (outer3, refl) };
 
     ghost contents = { λ x. Some (truth x.first) ∷ Some (truth x.second) ∷ [] };
 
@@ -65,52 +49,12 @@ impl Extended for Outer3 {
         (max (slot_levels ⟦<OctetString as AsnType>⟧.levels x.after) 0)) };
 }
 
-impl Constructed for Outer3 {
-    const FIELDS: Fields = FIELDS;
-
-    ghost FIELDS = { fields_of outer_root };
-
-    const EXTENDED_FIELDS: Option<Fields> = Some(ADDED_FIELDS);
-
-    ghost EXTENDED_FIELDS = { Some (fields_of outer3_additions) };
-
-    const IS_EXTENSIBLE: bool = true;
-
-    ghost IS_EXTENSIBLE = { true };
-
-    ghost parts = { parts_of outer_root };
-
-    ghost additions = { parts_of outer3_additions };
-
-    ghost contents = { ⟦<Outer3 as Extended>⟧.contents };
-
-    ghost added = { ⟦<Outer3 as Extended>⟧.added };
-
-    ghost described = { fields_described outer_root };
-
-    ghost extends = { extended_by outer3_additions };
-
-    ghost is_record = { λ _. refl };
-}
-
-impl Encode for Outer3 {
-    fn encode_with_tag_and_constraints<E: Encoder>(
-        &self,
-        encoder: &mut E,
-        tag: Tag,
-        _: &Constraints,
-        identifier: Identifier,
-    ) -> Result<(), E::Error> {
-        components!(encode_extended self encoder tag identifier)
+impl Record for Outer3 {
+    fn encode_components<E: Encoder>(&self, encoder: &mut E) -> Result<(), E::Error> {
+        components!(encode_components self encoder)
     }
-}
 
-impl Decode for Outer3 {
-    fn decode_with_tag_and_constraints<D: Decoder>(
-        decoder: &mut D,
-        tag: Tag,
-        _: &Constraints,
-    ) -> Result<Outer3, D::Error> {
-        components!(decode_extended decoder tag)
+    fn decode_components<D: Decoder>(decoder: &mut D) -> Result<Self, D::Error> {
+        components!(decode_components decoder)
     }
 }

@@ -1,14 +1,10 @@
 //! A group of additions that may hold nothing.
 
 ghost use Rattle.std.specs.Prelude.{[], ◌∷◌, refl};
-ghost use Rattle.rasn_below.specs.Values.{truth, slot_of};
-ghost use Rattle.rasn_below.specs.Components.{fields_of};
+ghost use Rattle.rasn_below.specs.Page.{truth, slot_of, fields_of};
 ghost use Rattle.per_samples_b.specs.Groups.{possible};
 
-use rasn_below::{
-    Components, Constraint, Decoder, Encoder, Fields, Record, bounds, decode_components,
-    encode_components, fields,
-};
+use rasn_below::page::*;
 
 /// [[ x BOOLEAN OPTIONAL ]]
 #[derive(Clone, Copy, Debug, PartialEq)]
@@ -16,28 +12,22 @@ pub struct Possible {
     pub x: Option<bool>,
 }
 
-macro_rules! components {
-    ($to:ident $($with:ident)*) => {
-        $to! { [$($with)*]
-            optional 0 "x" x: Option<bool> [];
-        }
-    };
-}
+macro_rules! components { ($to:ident $($with:ident)*) => { $to! { [$($with)*]
+    optional 0 "x" x: Option<bool> [];
+} }; }
 
-const FIELDS: Fields = components!(fields);
+const FIELDS: FieldLists = components!(fields);
 
-const BOUNDS: &[&[Constraint]] = components!(bounds);
+const BOUNDS: Bounds = components!(bounds);
 
 impl Components for Possible {
-    const COMPONENTS: Fields = FIELDS;
+    const COMPONENTS: FieldLists = FIELDS;
 
     ghost COMPONENTS = { fields_of possible };
 
-    ghost components = { possible };
+    ghost components = { (possible, refl) };
 
     ghost contents = { λ x. slot_of truth x.x ∷ [] };
-
-    ghost described = { refl };
 }
 
 impl Record for Possible {

@@ -1,15 +1,11 @@
 //! A SEQUENCE with an alternative before the extension marker of a CHOICE, and one behind it.
 
 ghost use Rattle.std.specs.Prelude.{refl, [], ◌∷◌, Some, pos};
-ghost use Rattle.rasn_below.specs.Values.{truth, whole};
-ghost use Rattle.rasn_below.specs.Components.{fields_of};
+ghost use Rattle.rasn_below.specs.Page.{truth, whole, fields_of};
 ghost use Rattle.per_samples_b.specs.Alternatives.{two_alternatives};
 
 use crate::alt::Alt;
-use rasn_below::{
-    AsnType, Components, Constraint, Decoder, Encoder, Fields, Record, bounds, decode_components,
-    encode_components, fields,
-};
+use rasn_below::page::*;
 
 /// SEQUENCE { first BOOLEAN, root Alt, extension Alt, trailer INTEGER (0..255) }
 #[derive(Debug, Drop, PartialEq)]
@@ -20,35 +16,29 @@ pub struct TwoAlternatives {
     pub trailer: u8,
 }
 
-macro_rules! components {
-    ($to:ident $($with:ident)*) => {
-        $to! { [$($with)*]
-            required 0 "first" first: bool [];
-            required 1 "root" root: Alt [];
-            required 2 "extension" extension: Alt [];
-            required 3 "trailer" trailer: u8 [0..=255];
-        }
-    };
-}
+macro_rules! components { ($to:ident $($with:ident)*) => { $to! { [$($with)*]
+    required 0 "first" first: bool [];
+    required 1 "root" root: Alt [];
+    required 2 "extension" extension: Alt [];
+    required 3 "trailer" trailer: u8 [0..=255];
+} }; }
 
-const FIELDS: Fields = components!(fields);
+const FIELDS: FieldLists = components!(fields);
 
-const BOUNDS: &[&[Constraint]] = components!(bounds);
+const BOUNDS: Bounds = components!(bounds);
 
 impl Components for TwoAlternatives {
-    const COMPONENTS: Fields = FIELDS;
+    const COMPONENTS: FieldLists = FIELDS;
 
     ghost COMPONENTS = { fields_of two_alternatives };
 
-    ghost components = { two_alternatives };
+    ghost components = { (two_alternatives, refl) };
 
     ghost contents = { λ x.
         Some (truth x.first) ∷ Some (⟦<Alt as AsnType>⟧.value x.root) ∷
         Some (⟦<Alt as AsnType>⟧.value x.extension) ∷ Some (whole (pos x.trailer)) ∷ [] };
 
     ghost depth = { λ _. 2 };
-
-    ghost described = { refl };
 }
 
 impl Record for TwoAlternatives {

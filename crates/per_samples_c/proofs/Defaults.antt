@@ -2,10 +2,9 @@
 use Rattle.std.proofs.Common.{◌≡◌, refl, ℕ, zero, suc, Bool, true, false, not, ◌&&◌, List, [], ◌∷◌, Option, Some, None}
 use Rattle.std.specs.Option.{is_none, is_some}
 use Rattle.rasn_below.specs.Values.{Value, octets, same, truth, sequence_value, slot_of, record_value}
-use Rattle.rasn_below.specs.Components.{extended_at}
-use Rattle.rasn_below.specs.Types.{normal, settle}
+use Rattle.rasn_below.specs.Types.{normal, sequence_at, settle}
 use Rattle.per_samples_b.specs.declared.flagged.Flagged.{Flagged}
-use Rattle.per_samples_b.specs.Outers.{outer_root, outer3_additions}
+use Rattle.per_samples_b.specs.Outers.{outer1, outer3}
 use Rattle.per_samples_c.specs.Defaults.{true_false, true_false_alone}
 
 -- outer1 as a value, and outer3
@@ -22,7 +21,7 @@ same_outer1 true true = refl
 same_outer1 true false = refl
 
 -- an outer1 in its normal form, at each depth of its tree
-pub normal_outer1 : (n : ℕ) (a b : Bool) → normal (extended_at outer_root [] n) (outer1_value a b) ≡ outer1_value a b
+pub normal_outer1 : (n : ℕ) (a b : Bool) → normal (sequence_at outer1 n) (outer1_value a b) ≡ outer1_value a b
 unfolding normal settle
 normal_outer1 zero a b = refl
 normal_outer1 (suc n) a b = refl
@@ -44,7 +43,7 @@ same_outer3 true false None (Some os) = refl
 same_outer3 true false (Some y) x = refl
 
 -- an outer3 in its normal form, at each depth of its tree
-pub normal_outer3 : (n : ℕ) (a b : Bool) (g : Option Flagged) (x : Option (List ℕ)) → normal (extended_at outer_root outer3_additions n) (outer3_of a b g x) ≡ outer3_of a b g x
+pub normal_outer3 : (n : ℕ) (a b : Bool) (g : Option Flagged) (x : Option (List ℕ)) → normal (sequence_at outer3 n) (outer3_of a b g x) ≡ outer3_of a b g x
 unfolding normal settle
 normal_outer3 zero a b g x = refl
 normal_outer3 (suc n) a b None None = refl

@@ -1,5 +1,5 @@
 -- ENUMERATED { a, ..., b }
-use Rattle.rasn_below.specs.Values.{Value, item, root, added}
+use Rattle.rasn_below.specs.Page.{Value, item, root, added}
 use Rattle.per_samples_c.specs.declared.colors.TwoColors.{TwoColors}
 use Rattle.per_samples_c.specs.declared.colors.TwoColors.TheVariants.{A, B}
 

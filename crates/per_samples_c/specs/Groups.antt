@@ -1,23 +1,18 @@
 -- SEQUENCE { first BOOLEAN, ..., an addition group }, in two versions of the group's SEQUENCE, which has a marker of
 -- its own: SEQUENCE { x BOOLEAN OPTIONAL, ... } and SEQUENCE { x BOOLEAN OPTIONAL, ..., y BOOLEAN OPTIONAL }
-use Rattle.std.specs.Prelude.{List, [], ◌∷◌}
-use Rattle.rasn_below.specs.Components.{Component, automatic, automatic_from, boolean, optional, extended_sequence, group}
+use Rattle.std.specs.Prelude.{[], ◌∷◌}
+use Rattle.rasn_below.specs.Page.{TypeLists, extensible_automatic, boolean, optional, sequence, group}
 
--- the root components of the record
-abbrev pub first_root : List Component
-first_root = automatic (boolean ∷ [])
+-- the group in both versions
+abbrev pub group_1 : TypeLists
+group_1 = extensible_automatic (optional boolean ∷ []) []
 
--- the root components of the group
-abbrev pub x_root : List Component
-x_root = automatic (optional boolean ∷ [])
+abbrev pub group_2 : TypeLists
+group_2 = extensible_automatic (optional boolean ∷ []) (optional boolean ∷ [])
 
--- the additions of the newer group
-abbrev pub y_additions : List Component
-y_additions = automatic_from 1 (optional boolean ∷ [])
+-- the record in both versions
+abbrev pub grouped_1 : TypeLists
+grouped_1 = extensible_automatic (boolean ∷ []) (group (sequence group_1) ∷ [])
 
--- the group in both versions of the record
-abbrev pub x_group : List Component
-x_group = automatic_from 1 (group (extended_sequence x_root []) ∷ [])
-
-abbrev pub x_y_group : List Component
-x_y_group = automatic_from 1 (group (extended_sequence x_root y_additions) ∷ [])
+abbrev pub grouped_2 : TypeLists
+grouped_2 = extensible_automatic (boolean ∷ []) (group (sequence group_2) ∷ [])

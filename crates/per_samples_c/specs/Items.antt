@@ -1,6 +1,6 @@
 -- SEQUENCE { a BOOLEAN, e ENUMERATED of 256 items }
-use Rattle.std.specs.Prelude.{List, [], ◌∷◌}
-use Rattle.rasn_below.specs.Components.{Component, automatic, boolean, enumerated}
+use Rattle.std.specs.Prelude.{[], ◌∷◌}
+use Rattle.rasn_below.specs.Page.{automatic, boolean, enumerated, TypeLists}
 
-abbrev pub with_item : List Component
+abbrev pub with_item : TypeLists
 with_item = automatic (boolean ∷ enumerated 256 ∷ [])

@@ -3,3 +3,4 @@ pub mod Items
 pub mod OneColors
 pub mod Defaults
 pub mod Groups
+pub mod Levels

@@ -1,5 +1,5 @@
 -- ENUMERATED { a, ... }
-use Rattle.rasn_below.specs.Values.{Value, item, root}
+use Rattle.rasn_below.specs.Page.{Value, item, root}
 use Rattle.per_samples_c.specs.declared.one_color.OneColor.{OneColor}
 use Rattle.per_samples_c.specs.declared.one_color.OneColor.TheVariants.{A}
 

@@ -1,15 +1,12 @@
 //! An ENUMERATED with an item after its extension marker.
 
 ghost use Rattle.std.specs.Prelude.{[], ◌∷◌};
-ghost use Rattle.rasn_below.specs.Components.{extensible_items};
+ghost use Rattle.rasn_below.specs.Page.{extensible_items};
 ghost use Rattle.rasn_below.specs.Rows.{aligned, unaligned, IsWrittenAs};
 ghost use Rattle.per_samples_c.specs.Colors.{color};
 ghost use Rattle.per_samples_c.specs.declared.colors.TwoColors.TheVariants.{A, B};
 
-use rasn_below::{
-    AsnType, ByKind, EnumeratedKind, ItemCounts, Items, OfKind, Place, item_at, item_counts,
-    place_of_item,
-};
+use rasn_below::page::*;
 
 /// ENUMERATED { a, ..., b }
 #[derive(Clone, Copy, Debug, PartialEq, Eq)]
@@ -18,9 +15,7 @@ pub enum TwoColors {
     B,
 }
 
-macro_rules! items {
-    ($to:ident $($with:ident)*) => { $to! { [$($with)*] A; ...; B; } };
-}
+macro_rules! items { ($to:ident $($with:ident)*) => { $to! { [$($with)*] A; ...; B; } }; }
 
 impl OfKind for TwoColors {
     type Kind = EnumeratedKind;

@@ -1,16 +1,10 @@
 //! A group with an extension marker.
 
-ghost use Rattle.std.specs.Prelude.{[], ◌∷◌, Some, max, refl, true};
-ghost use Rattle.rasn_below.specs.Values.{truth, slot_of, deeper_of, slot_levels};
-ghost use Rattle.rasn_below.specs.Components.{fields_described, fields_of, parts_of, extended_by};
-ghost use Rattle.per_samples_c.specs.Groups.{x_root};
+ghost use Rattle.std.specs.Prelude.{[], ◌∷◌, max, refl};
+ghost use Rattle.rasn_below.specs.Page.{truth, slot_of, deeper_of, slot_levels, fields_of};
+ghost use Rattle.per_samples_c.specs.Groups.{group_1};
 
-use rasn_below::types::Identifier;
-use rasn_below::{
-    AdditionGroup, AsnType, Constraint, Constraints, Constructed, Decode, Decoder, Encode, Encoder,
-    Extended, ExtendedKind, Fields, OfKind, Tag, added_bounds, added_fields, decode_extended,
-    encode_extended, root_bounds, root_fields,
-};
+use rasn_below::page::*;
 
 /// SEQUENCE { x BOOLEAN OPTIONAL, ... }
 #[derive(Clone, Copy, Debug, PartialEq)]
@@ -18,89 +12,33 @@ pub struct Group1 {
     pub x: Option<bool>,
 }
 
-macro_rules! components {
-    ($to:ident $($with:ident)*) => {
-        $to! { [$($with)*]
-            optional 0 "x" x: Option<bool> [];
-            ...;
-        }
-    };
-}
+macro_rules! components { ($to:ident $($with:ident)*) => { $to! { [$($with)*]
+    optional 0 "x" x: Option<bool> [];
+    ...;
+} }; }
 
-const FIELDS: Fields = components!(root_fields);
+const FIELDS: FieldLists = components!(fields);
 
-const BOUNDS: &[&[Constraint]] = components!(root_bounds);
+const BOUNDS: Bounds = components!(bounds);
 
-const ADDED_FIELDS: Fields = components!(added_fields);
+impl Components for Group1 {
+    const COMPONENTS: FieldLists = FIELDS;
 
-const ADDED_BOUNDS: &[&[Constraint]] = components!(added_bounds);
+    ghost COMPONENTS = { fields_of group_1 };
 
-impl OfKind for Group1 {
-    type Kind = ExtendedKind;
-}
-
-impl Extended for Group1 {
-    ghost root = { x_root };
-
-    ghost additions = { [] };
+    ghost components = { (group_1, refl) };
 
     ghost contents = { λ x. slot_of truth x.x ∷ [] };
-
-    ghost added = { λ x. [] };
 
     ghost depth = { λ x. deeper_of (max (slot_levels ⟦<bool as AsnType>⟧.levels x.x) 0) 0 };
 }
 
-impl Constructed for Group1 {
-    const FIELDS: Fields = FIELDS;
-
-    ghost FIELDS = { fields_of x_root };
-
-    const EXTENDED_FIELDS: Option<Fields> = Some(ADDED_FIELDS);
-
-    ghost EXTENDED_FIELDS = { Some (fields_of []) };
-
-    const IS_EXTENSIBLE: bool = true;
-
-    ghost IS_EXTENSIBLE = { true };
-
-    ghost parts = { parts_of x_root };
-
-    ghost additions = { parts_of [] };
-
-    ghost contents = { ⟦<Group1 as Extended>⟧.contents };
-
-    ghost added = { ⟦<Group1 as Extended>⟧.added };
-
-    ghost described = { fields_described x_root };
-
-    ghost extends = { extended_by [] };
-
-    ghost is_record = { λ _. refl };
-}
-
-impl AdditionGroup for Group1 {
-    ghost is_sequence = { λ _. refl };
-}
-
-impl Encode for Group1 {
-    fn encode_with_tag_and_constraints<E: Encoder>(
-        &self,
-        encoder: &mut E,
-        tag: Tag,
-        _: &Constraints,
-        identifier: Identifier,
-    ) -> Result<(), E::Error> {
-        components!(encode_extended self encoder tag identifier)
+impl Record for Group1 {
+    fn encode_components<E: Encoder>(&self, encoder: &mut E) -> Result<(), E::Error> {
+        components!(encode_components self encoder)
     }
-}
 
-impl Decode for Group1 {
-    fn decode_with_tag_and_constraints<D: Decoder>(
-        decoder: &mut D,
-        tag: Tag,
-        _: &Constraints,
-    ) -> Result<Group1, D::Error> {
-        components!(decode_extended decoder tag)
+    fn decode_components<D: Decoder>(decoder: &mut D) -> Result<Self, D::Error> {
+        components!(decode_components decoder)
     }
 }

@@ -1,17 +1,11 @@
 //! A SEQUENCE with a group that has an extension marker of its own.
 
-ghost use Rattle.std.specs.Prelude.{[], ◌∷◌, Some, max, refl, true};
-ghost use Rattle.rasn_below.specs.Values.{truth, slot_of, slot_levels, deeper_of};
-ghost use Rattle.rasn_below.specs.Components.{fields_described, fields_of, parts_of, extended_by};
-ghost use Rattle.per_samples_c.specs.Groups.{first_root, x_group};
+ghost use Rattle.std.specs.Prelude.{[], ◌∷◌, Some, max, refl};
+ghost use Rattle.rasn_below.specs.Page.{truth, slot_of, slot_levels, deeper_of, fields_of};
+ghost use Rattle.per_samples_c.specs.Groups.{grouped_1};
 
 use crate::group1::Group1;
-use rasn_below::types::Identifier;
-use rasn_below::{
-    AsnType, Constraint, Constraints, Constructed, Decode, Decoder, Encode, Encoder, Extended,
-    ExtendedKind, Fields, OfKind, Tag, added_bounds, added_fields, decode_extended,
-    encode_extended, root_bounds, root_fields,
-};
+use rasn_below::page::*;
 
 /// SEQUENCE { first BOOLEAN, ..., an addition group whose type is `Group1` }
 #[derive(Clone, Copy, Debug, PartialEq)]
@@ -20,32 +14,22 @@ pub struct Grouped1 {
     pub group: Option<Group1>,
 }
 
-macro_rules! components {
-    ($to:ident $($with:ident)*) => {
-        $to! { [$($with)*]
-            required 0 "first" first: bool [];
-            ...;
-            group 1 "group" group: Option<Group1> [];
-        }
-    };
-}
+macro_rules! components { ($to:ident $($with:ident)*) => { $to! { [$($with)*]
+    required 0 "first" first: bool [];
+    ...;
+    group 1 "group" group: Option<Group1> [];
+} }; }
 
-const FIELDS: Fields = components!(root_fields);
+const FIELDS: FieldLists = components!(fields);
 
-const BOUNDS: &[&[Constraint]] = components!(root_bounds);
+const BOUNDS: Bounds = components!(bounds);
 
-const ADDED_FIELDS: Fields = components!(added_fields);
+impl Components for Grouped1 {
+    const COMPONENTS: FieldLists = FIELDS;
 
-const ADDED_BOUNDS: &[&[Constraint]] = components!(added_bounds);
+    ghost COMPONENTS = { fields_of grouped_1 };
 
-impl OfKind for Grouped1 {
-    type Kind = ExtendedKind;
-}
-
-impl Extended for Grouped1 {
-    ghost root = { first_root };
-
-    ghost additions = { x_group };
+    ghost components = { (grouped_1, refl) };
 
     ghost contents = { λ x. Some (truth x.first) ∷ [] };
 
@@ -54,52 +38,12 @@ impl Extended for Grouped1 {
     ghost depth = { λ x. deeper_of 0 (max (slot_levels ⟦<Group1 as AsnType>⟧.levels x.group) 0) };
 }
 
-impl Constructed for Grouped1 {
-    const FIELDS: Fields = FIELDS;
-
-    ghost FIELDS = { fields_of first_root };
-
-    const EXTENDED_FIELDS: Option<Fields> = Some(ADDED_FIELDS);
-
-    ghost EXTENDED_FIELDS = { Some (fields_of x_group) };
-
-    const IS_EXTENSIBLE: bool = true;
-
-    ghost IS_EXTENSIBLE = { true };
-
-    ghost parts = { parts_of first_root };
-
-    ghost additions = { parts_of x_group };
-
-    ghost contents = { ⟦<Grouped1 as Extended>⟧.contents };
-
-    ghost added = { ⟦<Grouped1 as Extended>⟧.added };
-
-    ghost described = { fields_described first_root };
-
-    ghost extends = { extended_by x_group };
-
-    ghost is_record = { λ _. refl };
-}
-
-impl Encode for Grouped1 {
-    fn encode_with_tag_and_constraints<E: Encoder>(
-        &self,
-        encoder: &mut E,
-        tag: Tag,
-        _: &Constraints,
-        identifier: Identifier,
-    ) -> Result<(), E::Error> {
-        components!(encode_extended self encoder tag identifier)
+impl Record for Grouped1 {
+    fn encode_components<E: Encoder>(&self, encoder: &mut E) -> Result<(), E::Error> {
+        components!(encode_components self encoder)
     }
-}
 
-impl Decode for Grouped1 {
-    fn decode_with_tag_and_constraints<D: Decoder>(
-        decoder: &mut D,
-        tag: Tag,
-        _: &Constraints,
-    ) -> Result<Grouped1, D::Error> {
-        components!(decode_extended decoder tag)
+    fn decode_components<D: Decoder>(decoder: &mut D) -> Result<Self, D::Error> {
+        components!(decode_components decoder)
     }
 }

@@ -1,15 +1,11 @@
 //! An ENUMERATED of 256 items, and a SEQUENCE with one of them.
 
 ghost use Rattle.std.specs.Prelude.{refl, true, [], ◌∷◌, Some};
-ghost use Rattle.rasn_below.specs.Values.{item, root, truth};
-ghost use Rattle.rasn_below.specs.Components.{fields_of, all_items};
+ghost use Rattle.rasn_below.specs.Page.{item, root, truth, fields_of, all_items};
 ghost use Rattle.rasn_below.specs.Rows.{aligned, unaligned, IsWrittenAs};
 ghost use Rattle.per_samples_c.specs.Items.{with_item};
 
-use rasn_below::{
-    AsnType, ByKind, Components, Constraint, Decoder, Encoder, EnumeratedKind, Fields, ItemCounts,
-    Items, OfKind, Place, Record, bounds, decode_components, encode_components, fields,
-};
+use rasn_below::page::*;
 
 /// ENUMERATED of 256 items, none of them after an extension marker
 #[derive(Clone, Copy, Debug, PartialEq, Eq)]
@@ -54,29 +50,23 @@ pub struct WithItem {
     pub e: ItemOf256,
 }
 
-macro_rules! components {
-    ($to:ident $($with:ident)*) => {
-        $to! { [$($with)*]
-            required 0 "a" a: bool [];
-            required 1 "e" e: ItemOf256 [];
-        }
-    };
-}
+macro_rules! components { ($to:ident $($with:ident)*) => { $to! { [$($with)*]
+    required 0 "a" a: bool [];
+    required 1 "e" e: ItemOf256 [];
+} }; }
 
-const FIELDS: Fields = components!(fields);
+const FIELDS: FieldLists = components!(fields);
 
-const BOUNDS: &[&[Constraint]] = components!(bounds);
+const BOUNDS: Bounds = components!(bounds);
 
 impl Components for WithItem {
-    const COMPONENTS: Fields = FIELDS;
+    const COMPONENTS: FieldLists = FIELDS;
 
     ghost COMPONENTS = { fields_of with_item };
 
-    ghost components = { with_item };
+    ghost components = { (with_item, refl) };
 
     ghost contents = { λ x. Some (truth x.a) ∷ Some (item root x.e.index) ∷ [] };
-
-    ghost described = { refl };
 }
 
 impl Record for WithItem {

@@ -2,6 +2,7 @@
 #![tactic(auto)]
 
 pub mod colors;
+pub mod default_color;
 pub mod default_outer1;
 pub mod default_outer3;
 pub mod group1;
@@ -9,5 +10,6 @@ pub mod group2;
 pub mod grouped1;
 pub mod grouped2;
 pub mod items;
+pub mod levels;
 pub mod one_color;
 pub mod rows;

@@ -1,11 +1,9 @@
 //! An ENUMERATED with an extension marker and no item after it.
 
-ghost use Rattle.rasn_below.specs.Components.{extensible_items};
+ghost use Rattle.rasn_below.specs.Page.{extensible_items};
 ghost use Rattle.per_samples_c.specs.OneColors.{only_color};
 
-use rasn_below::{
-    ByKind, EnumeratedKind, ItemCounts, Items, OfKind, Place, item_at, item_counts, place_of_item,
-};
+use rasn_below::page::*;
 
 /// ENUMERATED { a, ... }
 #[derive(Clone, Copy, Debug, PartialEq, Eq)]
@@ -13,9 +11,7 @@ pub enum OneColor {
     A,
 }
 
-macro_rules! items {
-    ($to:ident $($with:ident)*) => { $to! { [$($with)*] A; ...; } };
-}
+macro_rules! items { ($to:ident $($with:ident)*) => { $to! { [$($with)*] A; ...; } }; }
 
 impl OfKind for OneColor {
     type Kind = EnumeratedKind;

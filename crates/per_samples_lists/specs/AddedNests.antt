@@ -1,10 +1,10 @@
 -- SEQUENCE { a BOOLEAN, ..., deep Nest OPTIONAL }, and without the addition
-use Rattle.std.specs.Prelude.{List, [], ◌∷◌}
-use Rattle.rasn_below.specs.Components.{Component, automatic, automatic_from, boolean, optional, sequence}
+use Rattle.std.specs.Prelude.{[], ◌∷◌}
+use Rattle.rasn_below.specs.Page.{TypeLists, extensible_automatic, boolean, optional, sequence}
 use Rattle.per_samples_lists.specs.Nests.{nest}
 
-abbrev pub nest_root : List Component
-nest_root = automatic (boolean ∷ [])
+abbrev pub before_nest : TypeLists
+before_nest = extensible_automatic (boolean ∷ []) []
 
-abbrev pub nest_additions : List Component
-nest_additions = automatic_from 1 (optional (sequence nest) ∷ [])
+abbrev pub added_nest : TypeLists
+added_nest = extensible_automatic (boolean ∷ []) (optional (sequence nest) ∷ [])

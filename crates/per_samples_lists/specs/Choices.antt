@@ -1,8 +1,11 @@
 -- CHOICE { x [0] BOOLEAN, y CHOICE { p [1] BOOLEAN, q [2] NULL }, z [3] NULL }, y untagged
-use Rattle.std.specs.Prelude.{◌≡◌, ℕ, zero, suc, List, [], ◌∷◌, Some, None, refl}
-use Rattle.rasn_below.specs.Values.{Value, alternative, root, nothing, truth}
-use Rattle.rasn_below.specs.Components.{Component, parts_of, boolean, null, under, at}
-use Rattle.rasn_below.specs.Types.{IsTreeAt, VariantShape, choice_at, choice_levelled, variants_of, components_levelled, Levelled, parts_levelled, no_additions, Parts, one_of, tree, no_trees, required, smallest}
+use Rattle.std.specs.Prelude.{◌≡◌, ℕ, zero, suc}
+use Rattle.std.specs.Prelude.{List, [], ◌∷◌, Some, None, refl}
+use Rattle.rasn_below.specs.Page.{Value, alternative, root, nothing, truth, Component, parts_of, boolean, null, under}
+use Rattle.rasn_below.specs.Page.{at}
+use Rattle.rasn_below.specs.Types.{IsTreeAt, VariantShape, choice_at, choice_levelled, variants_of, components_levelled}
+use Rattle.rasn_below.specs.Types.{Levelled, parts_levelled, no_additions, Parts, one_of, tree, no_trees, required}
+use Rattle.rasn_below.specs.Types.{smallest}
 use Rattle.per_samples_lists.specs.declared.choice.Inner.{Inner}
 use Rattle.per_samples_lists.specs.declared.choice.Inner.TheVariants.{P, Q}
 use Rattle.per_samples_lists.specs.declared.choice.Outer.{Outer}

@@ -1,13 +1,14 @@
 -- SEQUENCE {
 -- flag BOOLEAN, fixed SEQUENCE (SIZE (2)) OF Triple, ranged SEQUENCE (SIZE (1..4)) OF Triple, trailer INTEGER (0..255)
 -- }, and Triple ::= SEQUENCE { octets OCTET STRING (SIZE (3)) }
-use Rattle.std.specs.Prelude.{List, [], ◌∷◌}
-use Rattle.rasn_below.specs.Components.{Component, automatic, boolean, integer, octet_string, sequence, sequence_of, u8, ◌to◌, size◌to◌}
+use Rattle.std.specs.Prelude.{[], ◌∷◌}
+use Rattle.rasn_below.specs.Page.{automatic, boolean, integer, octet_string, sequence, sequence_of, u8, ◌to◌, size◌to◌}
+use Rattle.rasn_below.specs.Page.{TypeLists}
 
-abbrev pub triple : List Component
+abbrev pub triple : TypeLists
 triple = automatic (octet_string (size 3 to 3) ∷ [])
 
-abbrev pub elements : List Component
+abbrev pub elements : TypeLists
 elements = automatic (
     boolean ∷
     sequence_of (size 2 to 2) (sequence triple) ∷

@@ -1,8 +1,9 @@
 -- Ping ::= SEQUENCE { pong Pong OPTIONAL } and Pong ::= SEQUENCE { ping Ping OPTIONAL }
-use Rattle.std.specs.Prelude.{◌≡◌, ℕ, zero, suc, List, [], ◌∷◌, Option, Some, None, false, refl}
-use Rattle.rasn_below.specs.Values.{Value, sequence_value}
-use Rattle.rasn_below.specs.Components.{Component, at}
-use Rattle.rasn_below.specs.Types.{Schema, listed, no_parts, part, Levelled, no_level, to_sequence, to_part, to_no_parts, sequence_at}
+use Rattle.std.specs.Prelude.{◌≡◌, ℕ, zero, suc}
+use Rattle.std.specs.Prelude.{List, [], ◌∷◌, Option, Some, None, false, refl}
+use Rattle.rasn_below.specs.Page.{Value, sequence_value, at, TypeLists, own_tags}
+use Rattle.rasn_below.specs.Types.{Schema, listed, no_parts, part, Levelled, no_level, to_sequence, to_part}
+use Rattle.rasn_below.specs.Types.{to_no_parts, sequence_at}
 use Rattle.rasn_below.specs.Types
 use Rattle.per_samples_lists.specs.declared.ping.Ping.{Ping, Ping', Held-Ping-pong, Ping-pong-None', Ping-pong-Some'}
 use Rattle.per_samples_lists.specs.declared.pong.Pong.{Pong, Pong', Held-Pong-ping, Pong-ping-None', Pong-ping-Some'}
@@ -26,23 +27,23 @@ mutual
   pong_levelled zero = no_level tt
   pong_levelled (suc n) = to_sequence (to_part (ping_levelled n) to_no_parts) to_no_parts
 
-abbrev pub ping : List Component
-ping = record {
+abbrev pub ping : TypeLists
+ping = own_tags (record {
   tags = at 0;
   presence = Types.optional;
   schema = pong_schema;
   levelled = pong_levelled;
   fits = λ n. refl;
-} ∷ []
+} ∷ [])
 
-abbrev pub pong : List Component
-pong = record {
+abbrev pub pong : TypeLists
+pong = own_tags (record {
   tags = at 0;
   presence = Types.optional;
   schema = ping_schema;
   levelled = ping_levelled;
   fits = λ n. refl;
-} ∷ []
+} ∷ [])
 
 -- the trees are those of the components
 pub ping_is_sequence : (n : ℕ) → sequence_at ping n ≡ ping_schema n

@@ -1,8 +1,9 @@
 -- Nest ::= SEQUENCE { inner Nest OPTIONAL }
-use Rattle.std.specs.Prelude.{◌≡◌, ℕ, zero, suc, List, [], ◌∷◌, Option, Some, None, false, refl}
-use Rattle.rasn_below.specs.Values.{Value, sequence_value}
-use Rattle.rasn_below.specs.Components.{Component, at}
-use Rattle.rasn_below.specs.Types.{Schema, listed, no_parts, part, Levelled, no_level, to_sequence, to_part, to_no_parts, sequence_at}
+use Rattle.std.specs.Prelude.{◌≡◌, ℕ, zero, suc}
+use Rattle.std.specs.Prelude.{List, [], ◌∷◌, Option, Some, None, false, refl}
+use Rattle.rasn_below.specs.Page.{Value, sequence_value, at, TypeLists, own_tags}
+use Rattle.rasn_below.specs.Types.{Schema, listed, no_parts, part, Levelled, no_level, to_sequence, to_part}
+use Rattle.rasn_below.specs.Types.{to_no_parts, sequence_at}
 use Rattle.rasn_below.specs.Types
 use Rattle.per_samples_lists.specs.declared.nest.Nest.{Nest, Nest', Held-Nest-inner, None', Some'}
 
@@ -15,14 +16,14 @@ pub nest_levelled : Levelled nest_schema
 nest_levelled zero = no_level tt
 nest_levelled (suc n) = to_sequence (to_part (nest_levelled n) to_no_parts) to_no_parts
 
-abbrev pub nest : List Component
-nest = record {
+abbrev pub nest : TypeLists
+nest = own_tags (record {
   tags = at 0;
   presence = Types.optional;
   schema = nest_schema;
   levelled = nest_levelled;
   fits = λ n. refl;
-} ∷ []
+} ∷ [])
 
 -- the trees are those of its components
 pub nest_is_sequence : (n : ℕ) → sequence_at nest n ≡ nest_schema n

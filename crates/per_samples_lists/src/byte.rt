@@ -1,15 +1,11 @@
 //! A SEQUENCE of eight BOOLEAN.
 
 ghost use Rattle.std.specs.Prelude.{refl, true, false, [], ◌∷◌, Some};
-ghost use Rattle.rasn_below.specs.Values.{truth};
-ghost use Rattle.rasn_below.specs.Components.{fields_of};
+ghost use Rattle.rasn_below.specs.Page.{truth, fields_of};
 ghost use Rattle.rasn_below.specs.Rows.{unaligned, IsWrittenAs};
 ghost use Rattle.per_samples_lists.specs.Bytes.{byte};
 
-use rasn_below::{
-    AsnType, Components, Constraint, Decoder, Encoder, Fields, Record, bounds, decode_components,
-    encode_components, fields,
-};
+use rasn_below::page::*;
 
 /// SEQUENCE {
 ///     b0 BOOLEAN, b1 BOOLEAN, b2 BOOLEAN, b3 BOOLEAN, b4 BOOLEAN, b5 BOOLEAN, b6 BOOLEAN, b7 BOOLEAN
@@ -26,37 +22,31 @@ pub struct Byte {
     pub b7: bool,
 }
 
-macro_rules! components {
-    ($to:ident $($with:ident)*) => {
-        $to! { [$($with)*]
-            required 0 "b0" b0: bool [];
-            required 1 "b1" b1: bool [];
-            required 2 "b2" b2: bool [];
-            required 3 "b3" b3: bool [];
-            required 4 "b4" b4: bool [];
-            required 5 "b5" b5: bool [];
-            required 6 "b6" b6: bool [];
-            required 7 "b7" b7: bool [];
-        }
-    };
-}
+macro_rules! components { ($to:ident $($with:ident)*) => { $to! { [$($with)*]
+    required 0 "b0" b0: bool [];
+    required 1 "b1" b1: bool [];
+    required 2 "b2" b2: bool [];
+    required 3 "b3" b3: bool [];
+    required 4 "b4" b4: bool [];
+    required 5 "b5" b5: bool [];
+    required 6 "b6" b6: bool [];
+    required 7 "b7" b7: bool [];
+} }; }
 
-const FIELDS: Fields = components!(fields);
+const FIELDS: FieldLists = components!(fields);
 
-const BOUNDS: &[&[Constraint]] = components!(bounds);
+const BOUNDS: Bounds = components!(bounds);
 
 impl Components for Byte {
-    const COMPONENTS: Fields = FIELDS;
+    const COMPONENTS: FieldLists = FIELDS;
 
     ghost COMPONENTS = { fields_of byte };
 
-    ghost components = { byte };
+    ghost components = { (byte, refl) };
 
     ghost contents = { λ x.
         Some (truth x.b0) ∷ Some (truth x.b1) ∷ Some (truth x.b2) ∷ Some (truth x.b3) ∷
         Some (truth x.b4) ∷ Some (truth x.b5) ∷ Some (truth x.b6) ∷ Some (truth x.b7) ∷ [] };
-
-    ghost described = { refl };
 }
 
 impl Record for Byte {

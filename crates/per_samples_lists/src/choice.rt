@@ -1,8 +1,11 @@
 //! A CHOICE of which an alternative is a choice without a tag of its own.
 
 ghost use Rattle.std.specs.Prelude.{None, refl, true};
-ghost use Rattle.rasn_below.specs.Types.{EOC, no_constraints, choice_at, variants_of, no_additions, choice_stated, choice_tag, tree_with};
-ghost use Rattle.per_samples_lists.specs.Choices.{inner_parts, inner_levelled, inner_chosen, outer_parts, outer_levelled, outer_variants, outer_described, outer_chosen, outer_levels};
+ghost use Rattle.rasn_below.specs.Types.{EOC, no_constraints, choice_at, variants_of, no_additions, choice_stated};
+ghost use Rattle.rasn_below.specs.Types.{choice_tag, tree_with};
+ghost use Rattle.per_samples_lists.specs.Choices.{inner_parts, inner_levelled, inner_chosen, outer_parts};
+ghost use Rattle.per_samples_lists.specs.Choices.{outer_levelled, outer_variants, outer_described, outer_chosen};
+ghost use Rattle.per_samples_lists.specs.Choices.{outer_levels};
 ghost use Rattle.per_samples_lists.specs.declared.choice.Inner.TheVariants.{P, Q};
 ghost use Rattle.per_samples_lists.specs.declared.choice.Outer.TheVariants.{X, Y, Z};
 

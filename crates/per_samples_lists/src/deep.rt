@@ -1,14 +1,16 @@
 //! A SEQUENCE of a component whose default has more levels than a decoder reads.
 
-ghost use Rattle.std.specs.Prelude.{◌≡◌, refl, IfOk, [], ◌∷◌, Some};
+ghost use Rattle.std.specs.Prelude.{◌≡◌, IfOk};
 ghost use Rattle.rasn_below.specs.Values.{same};
-ghost use Rattle.rasn_below.specs.Components.{fields_of};
+ghost use Rattle.std.specs.Prelude.{refl, [], ◌∷◌, Some};
+ghost use Rattle.rasn_below.specs.Page.{fields_of};
 ghost use Rattle.per_samples_lists.specs.Deeps.{deep, nest_with};
 
 use crate::nest::Nest;
 use rasn_below::codec::{DecoderExt, EncoderExt};
+use rasn_below::context_tag;
+use rasn_below::page::*;
 use rasn_below::types::Identifier;
-use rasn_below::{AsnType, Components, Decoder, Encoder, Fields, Record, Tag, context_tag, fields};
 use std::alloc::{AllocError, Global};
 
 /// SEQUENCE { d Nest DEFAULT a value of 200 levels }
@@ -17,15 +19,11 @@ pub struct Deep {
     pub d: Nest,
 }
 
-macro_rules! components {
-    ($to:ident $($with:ident)*) => {
-        $to! { [$($with)*]
-            default 0 "d" d: Nest [];
-        }
-    };
-}
+macro_rules! components { ($to:ident $($with:ident)*) => { $to! { [$($with)*]
+    default 0 "d" d: Nest [];
+} }; }
 
-const FIELDS: Fields = components!(fields);
+const FIELDS: FieldLists = components!(fields);
 
 /// The tag of the component (AUTOMATIC TAGS).
 const D_TAG: Tag = context_tag!(0);
@@ -34,17 +32,15 @@ const D_TAG: Tag = context_tag!(0);
 const FURTHER: usize = 199;
 
 impl Components for Deep {
-    const COMPONENTS: Fields = FIELDS;
+    const COMPONENTS: FieldLists = FIELDS;
 
     ghost COMPONENTS = { fields_of deep };
 
-    ghost components = { deep };
+    ghost components = { (deep, refl) };
 
     ghost contents = { λ x. Some (⟦<Nest as AsnType>⟧.value x.d) ∷ [] };
 
     ghost depth = { λ x. ⟦<Nest as AsnType>⟧.levels x.d };
-
-    ghost described = { refl };
 }
 
 impl Record for Deep {

@@ -1,15 +1,11 @@
 //! A SEQUENCE with lists in it.
 
 ghost use Rattle.std.specs.Prelude.{refl, max, [], ◌∷◌, Some, pos};
-ghost use Rattle.rasn_below.specs.Values.{truth, whole};
-ghost use Rattle.rasn_below.specs.Components.{fields_of};
+ghost use Rattle.rasn_below.specs.Page.{truth, whole, fields_of};
 ghost use Rattle.per_samples_lists.specs.Elements.{elements};
 
 use crate::triple::Triple;
-use rasn_below::{
-    AsnType, Components, Constraint, Decoder, Encoder, Fields, Record, bounds, decode_components,
-    encode_components, fields,
-};
+use rasn_below::page::*;
 
 /// SEQUENCE {
 ///     flag BOOLEAN, fixed SEQUENCE (SIZE (2)) OF Triple, ranged SEQUENCE (SIZE (1..4)) OF Triple,
@@ -23,27 +19,23 @@ pub struct Elements {
     pub trailer: u8,
 }
 
-macro_rules! components {
-    ($to:ident $($with:ident)*) => {
-        $to! { [$($with)*]
-            required 0 "flag" flag: bool [];
-            required 1 "fixed" fixed: Vec<Triple> [SIZE 2..=2];
-            required 2 "ranged" ranged: Vec<Triple> [SIZE 1..=4];
-            required 3 "trailer" trailer: u8 [0..=255];
-        }
-    };
-}
+macro_rules! components { ($to:ident $($with:ident)*) => { $to! { [$($with)*]
+    required 0 "flag" flag: bool [];
+    required 1 "fixed" fixed: Vec<Triple> [SIZE 2..=2];
+    required 2 "ranged" ranged: Vec<Triple> [SIZE 1..=4];
+    required 3 "trailer" trailer: u8 [0..=255];
+} }; }
 
-const FIELDS: Fields = components!(fields);
+const FIELDS: FieldLists = components!(fields);
 
-const BOUNDS: &[&[Constraint]] = components!(bounds);
+const BOUNDS: Bounds = components!(bounds);
 
 impl Components for Elements {
-    const COMPONENTS: Fields = FIELDS;
+    const COMPONENTS: FieldLists = FIELDS;
 
     ghost COMPONENTS = { fields_of elements };
 
-    ghost components = { elements };
+    ghost components = { (elements, refl) };
 
     ghost contents = { λ x.
         Some (truth x.flag) ∷ Some (⟦<Vec<Triple> as AsnType>⟧.value x.fixed) ∷
@@ -51,8 +43,6 @@ impl Components for Elements {
 
     ghost depth = { λ x.
         max (⟦<Vec<Triple> as AsnType>⟧.levels x.fixed) (⟦<Vec<Triple> as AsnType>⟧.levels x.ranged) };
-
-    ghost described = { refl };
 }
 
 impl Record for Elements {

@@ -1,16 +1,11 @@
 //! A SEQUENCE of a component between others that may have no octets.
 
 ghost use Rattle.std.specs.Prelude.{refl, true, [], ◌∷◌, Some};
-ghost use Rattle.rasn_below.specs.Values.{octets, truth};
-ghost use Rattle.rasn_below.specs.Components.{fields_of};
+ghost use Rattle.rasn_below.specs.Page.{octets, truth, fields_of};
 ghost use Rattle.rasn_below.specs.Rows.{aligned, unaligned, IsWrittenAs};
 ghost use Rattle.per_samples_lists.specs.Empties.{maybe_empty};
 
-use rasn_below::types::OctetString;
-use rasn_below::{
-    AsnType, Components, Constraint, Decoder, Encoder, Fields, Record, bounds, decode_components,
-    encode_components, fields,
-};
+use rasn_below::page::*;
 
 /// SEQUENCE { a BOOLEAN, b OCTET STRING (SIZE (0..3)), c BOOLEAN }
 #[derive(Debug, Drop, PartialEq)]
@@ -20,30 +15,24 @@ pub struct MaybeEmpty {
     pub c: bool,
 }
 
-macro_rules! components {
-    ($to:ident $($with:ident)*) => {
-        $to! { [$($with)*]
-            required 0 "a" a: bool [];
-            required 1 "b" b: OctetString [SIZE 0..=3];
-            required 2 "c" c: bool [];
-        }
-    };
-}
+macro_rules! components { ($to:ident $($with:ident)*) => { $to! { [$($with)*]
+    required 0 "a" a: bool [];
+    required 1 "b" b: OctetString [SIZE 0..=3];
+    required 2 "c" c: bool [];
+} }; }
 
-const FIELDS: Fields = components!(fields);
+const FIELDS: FieldLists = components!(fields);
 
-const BOUNDS: &[&[Constraint]] = components!(bounds);
+const BOUNDS: Bounds = components!(bounds);
 
 impl Components for MaybeEmpty {
-    const COMPONENTS: Fields = FIELDS;
+    const COMPONENTS: FieldLists = FIELDS;
 
     ghost COMPONENTS = { fields_of maybe_empty };
 
-    ghost components = { maybe_empty };
+    ghost components = { (maybe_empty, refl) };
 
     ghost contents = { λ x. Some (truth x.a) ∷ Some (octets x.b) ∷ Some (truth x.c) ∷ [] };
-
-    ghost described = { refl };
 }
 
 impl Record for MaybeEmpty {

@@ -1,20 +1,16 @@
 //! A SEQUENCE that holds itself.
 
 ghost use Rattle.std.specs.Prelude.{refl, [], ◌∷◌};
-ghost use Rattle.rasn_below.specs.Values.{slot_of};
-ghost use Rattle.rasn_below.specs.Components.{fields_of};
-ghost use Rattle.rasn_below.specs.Types.{optional};
-ghost use Rattle.rasn_below.specs.Calls.{ReadsComponent};
+ghost use Rattle.rasn_below.specs.Page.{fields_of};
 ghost use Rattle.rasn_below.specs.Rows.{unaligned, IsWrittenAs};
 ghost use Rattle.per_samples_lists.specs.declared.nest.Nest.{Nest', None', Some'};
-ghost use Rattle.per_samples_lists.specs.Nests.{nest, nest_contents, nest_depth, nest_schema};
+ghost use Rattle.per_samples_lists.specs.Nests.{nest, nest_contents, nest_depth};
 
-use rasn_below::codec::{Decode, Encode, boxed};
+use rasn_below::codec::{Decode, Encode};
+use rasn_below::page::*;
+use rasn_below::recursive::{Holds, Same, decode};
 use rasn_below::types::Identifier;
-use rasn_below::{
-    AsnType, Components, Constraint, Constraints, Decoder, Encoder, Fields, Tag, bounds,
-    context_tag, encode_record, fields,
-};
+use rasn_below::{decode_record, encode_record};
 
 /// Nest ::= SEQUENCE { inner Nest OPTIONAL }
 #[derive(Debug, Drop, PartialEq)]
@@ -22,33 +18,24 @@ pub struct Nest {
     pub inner: Option<Box<Nest>>,
 }
 
-macro_rules! components {
-    ($to:ident $($with:ident)*) => {
-        $to! { [$($with)*]
-            optional 0 "inner" inner: Option<Box<Nest>> [];
-        }
-    };
-}
+macro_rules! components { ($to:ident $($with:ident)*) => { $to! { [$($with)*]
+    optional 0 "inner" inner: Option<Box<Nest>> [RECURSIVE];
+} }; }
 
-const FIELDS: Fields = components!(fields);
+const FIELDS: FieldLists = components!(fields);
 
-/// The tag of the component (AUTOMATIC TAGS).
-const INNER: Tag = context_tag!(0);
-
-const BOUNDS: &[&[Constraint]] = components!(bounds);
+const BOUNDS: Bounds = components!(bounds);
 
 impl Components for Nest {
-    const COMPONENTS: Fields = FIELDS;
+    const COMPONENTS: FieldLists = FIELDS;
 
     ghost COMPONENTS = { fields_of nest };
 
-    ghost components = { nest };
+    ghost components = { (nest, refl) };
 
     ghost contents = { nest_contents };
 
     ghost depth = { nest_depth };
-
-    ghost described = { refl };
 }
 
 impl Encode for Nest {
@@ -64,37 +51,23 @@ impl Encode for Nest {
     }
 }
 
-impl Decode for Nest {
-    #[cycle(nest)]
-    fn decode_with_tag_and_constraints<D: Decoder>(
+impl Holds<Nest> for Nest {
+    fn decode_holding<H: Same<Nest>, D: Decoder, F: Fn(&mut D, Tag) -> Result<H, D::Error>>(
         decoder: &mut D,
         tag: Tag,
-        constraints: &Constraints,
+        held: &F,
     ) -> Result<Nest, D::Error> {
-        let outside = decoder.open_sequence::<Nest>(tag)?;
-        let inner = Nest::decode_inner(decoder, constraints)?;
-        decoder.close_sequence(outside)?;
-        Ok(Nest { inner })
+        components!(decode_record decoder tag held Nest)
     }
 }
 
-impl Nest {
-    /// Reads the component.
-    #[cycle(nest)]
-    fn decode_inner<D: Decoder>(
+impl Decode for Nest {
+    fn decode_with_tag_and_constraints<D: Decoder>(
         decoder: &mut D,
-        constraints: &Constraints,
-    ) -> Result<Option<Box<Nest>>, D::Error>
-        ensures { let boxed = ⟦<Box<Nest> as AsnType>⟧ in
-            ReadsComponent D.rules optional (nest_schema (D.rules.levels decoder.old)) (slot_of boxed.value)
-            decoder.old result decoder.new }
-    {
-        if !decoder.next_presence()? {
-            return Ok(None);
-        }
-        let inner = Nest::decode_with_tag_and_constraints(decoder, INNER, constraints)?;
-        let inner = boxed(decoder, inner)?;
-        Ok(Some(inner))
+        tag: Tag,
+        _: &Constraints,
+    ) -> Result<Nest, D::Error> {
+        decode::<Nest, Nest, D>(decoder, tag)
     }
 }
 

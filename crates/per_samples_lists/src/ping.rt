@@ -1,19 +1,15 @@
 //! The first of two SEQUENCEs that hold one another.
 
 ghost use Rattle.std.specs.Prelude.{refl};
-ghost use Rattle.rasn_below.specs.Values.{slot_of};
-ghost use Rattle.rasn_below.specs.Components.{fields_of};
-ghost use Rattle.rasn_below.specs.Types.{optional};
-ghost use Rattle.rasn_below.specs.Calls.{ReadsComponent};
-ghost use Rattle.per_samples_lists.specs.Mutuals.{ping, ping_contents, ping_depth, pong_schema};
+ghost use Rattle.rasn_below.specs.Page.{fields_of};
+ghost use Rattle.per_samples_lists.specs.Mutuals.{ping, ping_contents, ping_depth};
 
 use crate::pong::Pong;
-use rasn_below::codec::{Decode, Encode, boxed};
+use rasn_below::codec::{Decode, Encode};
+use rasn_below::page::*;
+use rasn_below::recursive::{Holds, Same, decode};
 use rasn_below::types::Identifier;
-use rasn_below::{
-    AsnType, Components, Constraint, Constraints, Decoder, Encoder, Fields, Tag, bounds,
-    context_tag, encode_record, fields,
-};
+use rasn_below::{decode_record, encode_record};
 
 /// Ping ::= SEQUENCE { pong Pong OPTIONAL }
 #[cycle(hold)]
@@ -22,33 +18,24 @@ pub struct Ping {
     pub pong: Option<Box<Pong>>,
 }
 
-macro_rules! components {
-    ($to:ident $($with:ident)*) => {
-        $to! { [$($with)*]
-            optional 0 "pong" pong: Option<Box<Pong>> [];
-        }
-    };
-}
+macro_rules! components { ($to:ident $($with:ident)*) => { $to! { [$($with)*]
+    optional 0 "pong" pong: Option<Box<Pong>> [RECURSIVE];
+} }; }
 
-const FIELDS: Fields = components!(fields);
+const FIELDS: FieldLists = components!(fields);
 
-const BOUNDS: &[&[Constraint]] = components!(bounds);
-
-/// The tag of the component (AUTOMATIC TAGS).
-const PONG: Tag = context_tag!(0);
+const BOUNDS: Bounds = components!(bounds);
 
 impl Components for Ping {
-    const COMPONENTS: Fields = FIELDS;
+    const COMPONENTS: FieldLists = FIELDS;
 
     ghost COMPONENTS = { fields_of ping };
 
-    ghost components = { ping };
+    ghost components = { (ping, refl) };
 
     ghost contents = { ping_contents };
 
     ghost depth = { ping_depth };
-
-    ghost described = { refl };
 }
 
 impl Encode for Ping {
@@ -64,36 +51,22 @@ impl Encode for Ping {
     }
 }
 
-impl Decode for Ping {
-    #[cycle(read)]
-    fn decode_with_tag_and_constraints<D: Decoder>(
+impl Holds<Pong> for Ping {
+    fn decode_holding<H: Same<Pong>, D: Decoder, F: Fn(&mut D, Tag) -> Result<H, D::Error>>(
         decoder: &mut D,
         tag: Tag,
-        constraints: &Constraints,
+        held: &F,
     ) -> Result<Ping, D::Error> {
-        let outside = decoder.open_sequence::<Ping>(tag)?;
-        let pong = Ping::decode_pong(decoder, constraints)?;
-        decoder.close_sequence(outside)?;
-        Ok(Ping { pong })
+        components!(decode_record decoder tag held Pong)
     }
 }
 
-impl Ping {
-    /// Reads the component.
-    #[cycle(read)]
-    fn decode_pong<D: Decoder>(
+impl Decode for Ping {
+    fn decode_with_tag_and_constraints<D: Decoder>(
         decoder: &mut D,
-        constraints: &Constraints,
-    ) -> Result<Option<Box<Pong>>, D::Error>
-        ensures { let boxed = ⟦<Box<Pong> as AsnType>⟧ in
-            ReadsComponent D.rules optional (pong_schema (D.rules.levels decoder.old)) (slot_of boxed.value)
-            decoder.old result decoder.new }
-    {
-        if !decoder.next_presence()? {
-            return Ok(None);
-        }
-        let pong = Pong::decode_with_tag_and_constraints(decoder, PONG, constraints)?;
-        let pong = boxed(decoder, pong)?;
-        Ok(Some(pong))
+        tag: Tag,
+        _: &Constraints,
+    ) -> Result<Ping, D::Error> {
+        decode::<Ping, Pong, D>(decoder, tag)
     }
 }

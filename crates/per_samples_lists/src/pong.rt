@@ -1,19 +1,15 @@
 //! The second of two SEQUENCEs that hold one another.
 
 ghost use Rattle.std.specs.Prelude.{refl};
-ghost use Rattle.rasn_below.specs.Values.{slot_of};
-ghost use Rattle.rasn_below.specs.Components.{fields_of};
-ghost use Rattle.rasn_below.specs.Types.{optional};
-ghost use Rattle.rasn_below.specs.Calls.{ReadsComponent};
-ghost use Rattle.per_samples_lists.specs.Mutuals.{pong, pong_contents, pong_depth, ping_schema};
+ghost use Rattle.rasn_below.specs.Page.{fields_of};
+ghost use Rattle.per_samples_lists.specs.Mutuals.{pong, pong_contents, pong_depth};
 
 use crate::ping::Ping;
-use rasn_below::codec::{Decode, Encode, boxed};
+use rasn_below::codec::{Decode, Encode};
+use rasn_below::page::*;
+use rasn_below::recursive::{Holds, Same, decode};
 use rasn_below::types::Identifier;
-use rasn_below::{
-    AsnType, Components, Constraint, Constraints, Decoder, Encoder, Fields, Tag, bounds,
-    context_tag, encode_record, fields,
-};
+use rasn_below::{decode_record, encode_record};
 
 /// Pong ::= SEQUENCE { ping Ping OPTIONAL }
 #[cycle(hold)]
@@ -22,33 +18,24 @@ pub struct Pong {
     pub ping: Option<Box<Ping>>,
 }
 
-macro_rules! components {
-    ($to:ident $($with:ident)*) => {
-        $to! { [$($with)*]
-            optional 0 "ping" ping: Option<Box<Ping>> [];
-        }
-    };
-}
+macro_rules! components { ($to:ident $($with:ident)*) => { $to! { [$($with)*]
+    optional 0 "ping" ping: Option<Box<Ping>> [RECURSIVE];
+} }; }
 
-const FIELDS: Fields = components!(fields);
+const FIELDS: FieldLists = components!(fields);
 
-const BOUNDS: &[&[Constraint]] = components!(bounds);
-
-/// The tag of the component (AUTOMATIC TAGS).
-const PING: Tag = context_tag!(0);
+const BOUNDS: Bounds = components!(bounds);
 
 impl Components for Pong {
-    const COMPONENTS: Fields = FIELDS;
+    const COMPONENTS: FieldLists = FIELDS;
 
     ghost COMPONENTS = { fields_of pong };
 
-    ghost components = { pong };
+    ghost components = { (pong, refl) };
 
     ghost contents = { pong_contents };
 
     ghost depth = { pong_depth };
-
-    ghost described = { refl };
 }
 
 impl Encode for Pong {
@@ -64,36 +51,22 @@ impl Encode for Pong {
     }
 }
 
-impl Decode for Pong {
-    #[cycle(read)]
-    fn decode_with_tag_and_constraints<D: Decoder>(
+impl Holds<Ping> for Pong {
+    fn decode_holding<H: Same<Ping>, D: Decoder, F: Fn(&mut D, Tag) -> Result<H, D::Error>>(
         decoder: &mut D,
         tag: Tag,
-        constraints: &Constraints,
+        held: &F,
     ) -> Result<Pong, D::Error> {
-        let outside = decoder.open_sequence::<Pong>(tag)?;
-        let ping = Pong::decode_ping(decoder, constraints)?;
-        decoder.close_sequence(outside)?;
-        Ok(Pong { ping })
+        components!(decode_record decoder tag held Ping)
     }
 }
 
-impl Pong {
-    /// Reads the component.
-    #[cycle(read)]
-    fn decode_ping<D: Decoder>(
+impl Decode for Pong {
+    fn decode_with_tag_and_constraints<D: Decoder>(
         decoder: &mut D,
-        constraints: &Constraints,
-    ) -> Result<Option<Box<Ping>>, D::Error>
-        ensures { let boxed = ⟦<Box<Ping> as AsnType>⟧ in
-            ReadsComponent D.rules optional (ping_schema (D.rules.levels decoder.old)) (slot_of boxed.value)
-            decoder.old result decoder.new }
-    {
-        if !decoder.next_presence()? {
-            return Ok(None);
-        }
-        let ping = Ping::decode_with_tag_and_constraints(decoder, PING, constraints)?;
-        let ping = boxed(decoder, ping)?;
-        Ok(Some(ping))
+        tag: Tag,
+        _: &Constraints,
+    ) -> Result<Pong, D::Error> {
+        decode::<Pong, Ping, D>(decoder, tag)
     }
 }

@@ -1,15 +1,10 @@
 //! A SEQUENCE of three octets.
 
 ghost use Rattle.std.specs.Prelude.{refl, [], ◌∷◌, Some};
-ghost use Rattle.rasn_below.specs.Values.{octets};
-ghost use Rattle.rasn_below.specs.Components.{fields_of};
+ghost use Rattle.rasn_below.specs.Page.{octets, fields_of};
 ghost use Rattle.per_samples_lists.specs.Elements.{triple};
 
-use rasn_below::types::OctetString;
-use rasn_below::{
-    Components, Constraint, Decoder, Encoder, Fields, Record, bounds, decode_components,
-    encode_components, fields,
-};
+use rasn_below::page::*;
 
 /// SEQUENCE { octets OCTET STRING (SIZE (3)) }
 #[derive(Debug, Drop, PartialEq)]
@@ -17,28 +12,22 @@ pub struct Triple {
     pub octets: OctetString,
 }
 
-macro_rules! components {
-    ($to:ident $($with:ident)*) => {
-        $to! { [$($with)*]
-            required 0 "octets" octets: OctetString [SIZE 3..=3];
-        }
-    };
-}
+macro_rules! components { ($to:ident $($with:ident)*) => { $to! { [$($with)*]
+    required 0 "octets" octets: OctetString [SIZE 3..=3];
+} }; }
 
-const FIELDS: Fields = components!(fields);
+const FIELDS: FieldLists = components!(fields);
 
-const BOUNDS: &[&[Constraint]] = components!(bounds);
+const BOUNDS: Bounds = components!(bounds);
 
 impl Components for Triple {
-    const COMPONENTS: Fields = FIELDS;
+    const COMPONENTS: FieldLists = FIELDS;
 
     ghost COMPONENTS = { fields_of triple };
 
-    ghost components = { triple };
+    ghost components = { (triple, refl) };
 
     ghost contents = { λ x. Some (octets x.octets) ∷ [] };
-
-    ghost described = { refl };
 }
 
 impl Record for Triple {

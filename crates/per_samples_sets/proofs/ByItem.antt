@@ -1,7 +1,7 @@
 -- What is read of each component, and the SET that is made of the items.
 use Rattle.std.proofs.Common.{◌≡◌, refl, sym, ap, subst, ◌∙◌, ℕ, List, [], ◌∷◌, ◌++◌, append-nil, map, Result, Ok, Option, Some, None}
 use Rattle.rasn_below.specs.Values.{Value, truth}
-use Rattle.rasn_below.specs.Components.{fields_of, parts_of}
+use Rattle.rasn_below.specs.Components.{fields_in, parts_of}
 use Rattle.rasn_below.specs.Types.{canonised, canonised_slots, in_tag_order, TagTree, smallest, Presence, optional, Schema, no_parts}
 use Rattle.rasn_below.specs.Calls.{DecoderRules, left_out, Gathers, gathers_end, gathers_gap, gathers_item, IsMade, StandsAt, stands_behind, stands_first}
 use Rattle.per_samples_sets.specs.Each.{none, set_each, set_each_contents, with_items}
@@ -31,7 +31,7 @@ left_out_is : (r : Option Value) → left_out optional ≡ Some r → r ≡ None
 left_out_is r h = cc
 
 -- what the items make
-made_of : (n : ℕ) {xs : List Item} {rs : List (Option Value)} → Gathers place slot (in_tag_order (fields_of set_each)) (canonised (parts_of set_each n)) xs rs
+made_of : (n : ℕ) {xs : List Item} {rs : List (Option Value)} → Gathers place slot (in_tag_order (fields_in set_each)) (canonised (parts_of set_each n)) xs rs
     → canonised_slots (parts_of set_each n) (set_each_contents (with_items none xs)) ≡ rs
 unfolding smallest
 made_of n (gathers_item e (gathers_item f (gathers_item g gathers_end))) = rw (e, f, g) refl
@@ -44,7 +44,7 @@ made_of n (gathers_gap {r = t} i (gathers_gap {r = u} j (gathers_item g gathers_
 made_of n (gathers_gap {r = t} i (gathers_gap {r = u} j (gathers_gap {r = v} k gathers_end))) = rw (left_out_is t i, left_out_is u j, left_out_is v k) refl
 
 pub made : {E S : Type 0} (rules : DecoderRules E S) (n : ℕ) (xs ys zs : List Item) (rs : List (Option Value)) (r : Result SetEach E)
-    → Gathers place slot (in_tag_order (fields_of set_each)) (canonised (parts_of set_each n)) xs rs → map place ys ≡ [] → zs ≡ xs ++ ys
+    → Gathers place slot (in_tag_order (fields_in set_each)) (canonised (parts_of set_each n)) xs rs → map place ys ≡ [] → zs ≡ xs ++ ys
     → r ≡ Ok (with_items none zs) → IsMade rules (parts_of set_each n) set_each_contents (λ (x : SetEach). []) rs (map slot ys) r
 made rules n xs [] zs rs r a d e f =
     subst (λ q. IsMade rules (parts_of set_each n) set_each_contents (λ (x : SetEach). []) rs [] q) (sym f)

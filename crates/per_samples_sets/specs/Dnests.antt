@@ -1,9 +1,11 @@
 -- Dnest ::= SEQUENCE { inner Dnest OPTIONAL, d DATE OPTIONAL }
-use Rattle.std.specs.Prelude.{◌≡◌, ℕ, zero, suc, max, List, [], ◌∷◌, Option, Some, None, false, refl}
+use Rattle.std.specs.Prelude.{◌≡◌, ℕ, zero, suc}
+use Rattle.std.specs.Prelude.{max, List, [], ◌∷◌, Option, Some, None, false, refl}
+use Rattle.rasn_below.specs.Page.{Value, sequence_value, slot_of, slot_levels, Component, at, optional, under, date}
+use Rattle.rasn_below.specs.Page.{TypeLists, own_tags}
 use Rattle.rasn_below.specs.Times.{date_value}
-use Rattle.rasn_below.specs.Values.{Value, sequence_value, slot_of, slot_levels}
-use Rattle.rasn_below.specs.Components.{Component, at, optional, under, date}
-use Rattle.rasn_below.specs.Types.{Schema, listed, no_parts, part, Levelled, no_level, to_sequence, to_part, to_no_parts, sequence_at, date_at, date_levelled}
+use Rattle.rasn_below.specs.Types.{Schema, listed, no_parts, part, Levelled, no_level, to_sequence, to_part}
+use Rattle.rasn_below.specs.Types.{to_no_parts, sequence_at, date_at, date_levelled}
 use Rattle.rasn_below.specs.Types
 use Rattle.per_samples_sets.specs.declared.dnest.Dnest.{Dnest, Dnest', Held-Dnest-inner, None', Some'}
 
@@ -26,8 +28,8 @@ inner_component = record {
   fits = λ n. refl;
 }
 
-abbrev pub dnest : List Component
-dnest = inner_component ∷ under (at 1) (optional date) ∷ []
+abbrev pub dnest : TypeLists
+dnest = own_tags (inner_component ∷ under (at 1) (optional date) ∷ [])
 
 -- the trees are those of its components
 pub dnest_is_sequence : (n : ℕ) → sequence_at dnest n ≡ dnest_schema n

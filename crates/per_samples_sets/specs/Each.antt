@@ -1,7 +1,7 @@
 -- A SET, and how it is made of its components, one after another.
-use Rattle.std.specs.Prelude.{ℕ, Bool, nat_eq, if◌then◌else◌, List, [], ◌∷◌, Option, Some, None}
-use Rattle.rasn_below.specs.Values.{Value, truth, slot_of}
-use Rattle.rasn_below.specs.Components.{Component, at, boolean, optional, under}
+use Rattle.std.specs.Prelude.{nat_eq, if◌then◌else◌}
+use Rattle.std.specs.Prelude.{List, [], ◌∷◌, Option, Some, None}
+use Rattle.rasn_below.specs.Page.{Value, truth, slot_of, Component, at, boolean, optional, under}
 use Rattle.rasn_below.specs.Types.{leaf}
 use Rattle.per_samples_sets.specs.declared.set_each.Item.{Item}
 use Rattle.per_samples_sets.specs.declared.set_each.SetEach.{SetEach}

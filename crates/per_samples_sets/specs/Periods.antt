@@ -1,7 +1,7 @@
 -- SEQUENCE { since UTCTime, until GeneralizedTime OPTIONAL }, with automatic tags
-use Rattle.std.specs.Prelude.{List, [], ◌∷◌}
-use Rattle.rasn_below.specs.Components.{Component, automatic, generalized_time, optional, utc_time}
+use Rattle.std.specs.Prelude.{[], ◌∷◌}
+use Rattle.rasn_below.specs.Page.{automatic, generalized_time, optional, utc_time, TypeLists}
 
 -- the components of the SEQUENCE
-abbrev pub period : List Component
+abbrev pub period : TypeLists
 period = automatic (utc_time ∷ optional generalized_time ∷ [])

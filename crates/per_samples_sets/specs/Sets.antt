@@ -1,7 +1,8 @@
 -- SETs, each with its components in the order of its type.
-use Rattle.std.specs.Prelude.{ℕ, Bool, List, [], ◌∷◌, Option, Some}
-use Rattle.rasn_below.specs.Values.{Value, nothing, truth}
-use Rattle.rasn_below.specs.Components.{Component, Chosen, at, boolean, choice, chosen, integer, null, optional, u8, under, ◌to◌}
+use Rattle.std.specs.Prelude.{ℕ, Bool}
+use Rattle.std.specs.Prelude.{List, [], ◌∷◌, Option, Some}
+use Rattle.rasn_below.specs.Page.{Value, nothing, truth, Component, Chosen, at, boolean, choice, chosen, integer, null}
+use Rattle.rasn_below.specs.Page.{optional, u8, under, ◌to◌, TypeLists, own_tags}
 use Rattle.rasn_below.specs.Types.{leaf, TagTree}
 use Rattle.per_samples_sets.specs.declared.truth_or_none.TruthOrNone.{TruthOrNone}
 use Rattle.per_samples_sets.specs.declared.truth_or_none.TruthOrNone.TheVariants.{M, N}
@@ -22,8 +23,8 @@ set_optional =
     under (at 1) (optional boolean) ∷ []
 
 -- CHOICE { m [3] BOOLEAN, n [9] NULL }
-abbrev pub truth_or_none : List Component
-truth_or_none = under (at 3) boolean ∷ under (at 9) null ∷ []
+abbrev pub truth_or_none : TypeLists
+truth_or_none = own_tags (under (at 3) boolean ∷ under (at 9) null ∷ [])
 
 -- the alternative that a value is
 abbrev pub truth_or_none_chosen : TruthOrNone → Chosen

@@ -1,16 +1,11 @@
 //! A SEQUENCE with a key that is an object identifier or octets.
 
 ghost use Rattle.std.specs.Prelude.{[], ◌∷◌, Some, refl};
-ghost use Rattle.rasn_below.specs.Values.{octets};
-ghost use Rattle.rasn_below.specs.Components.{fields_of};
+ghost use Rattle.rasn_below.specs.Page.{octets, fields_of};
 ghost use Rattle.per_samples_sets.specs.Connects.{connect};
 
 use crate::key::Key;
-use rasn_below::types::OctetString;
-use rasn_below::{
-    AsnType, Components, Constraint, Decoder, Encoder, Fields, Record, bounds, decode_components,
-    encode_components, fields,
-};
+use rasn_below::page::*;
 
 /// SEQUENCE { key CHOICE { object OBJECT IDENTIFIER, other OCTET STRING }, pdu OCTET STRING }
 #[derive(Debug, Drop, PartialEq)]
@@ -19,31 +14,25 @@ pub struct Connect {
     pub pdu: OctetString,
 }
 
-macro_rules! components {
-    ($to:ident $($with:ident)*) => {
-        $to! { [$($with)*]
-            required 0 "key" key: Key [];
-            required 1 "pdu" pdu: OctetString [];
-        }
-    };
-}
+macro_rules! components { ($to:ident $($with:ident)*) => { $to! { [$($with)*]
+    required 0 "key" key: Key [];
+    required 1 "pdu" pdu: OctetString [];
+} }; }
 
-const FIELDS: Fields = components!(fields);
+const FIELDS: FieldLists = components!(fields);
 
-const BOUNDS: &[&[Constraint]] = components!(bounds);
+const BOUNDS: Bounds = components!(bounds);
 
 impl Components for Connect {
-    const COMPONENTS: Fields = FIELDS;
+    const COMPONENTS: FieldLists = FIELDS;
 
     ghost COMPONENTS = { fields_of connect };
 
-    ghost components = { connect };
+    ghost components = { (connect, refl) };
 
     ghost contents = { λ x. Some (⟦<Key as AsnType>⟧.value x.key) ∷ Some (octets x.pdu) ∷ [] };
 
     ghost depth = { λ _. 1 };
-
-    ghost described = { refl };
 }
 
 impl Record for Connect {

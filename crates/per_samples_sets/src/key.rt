@@ -1,16 +1,11 @@
 //! The key of a `Connect`.
 
-ghost use Rattle.std.specs.Prelude.{None, refl};
-ghost use Rattle.rasn_below.specs.Values.{identifier_value, octets};
-ghost use Rattle.rasn_below.specs.Components.{chosen, variants_in};
+ghost use Rattle.std.specs.Prelude.{refl};
+ghost use Rattle.rasn_below.specs.Page.{identifier_value, octets, chosen, variants_listed};
 ghost use Rattle.per_samples_sets.specs.Connects.{key};
 ghost use Rattle.per_samples_sets.specs.declared.key.Key.TheVariants.{Object, Other};
 
-use rasn_below::types::{ObjectIdentifier, OctetString};
-use rasn_below::{
-    Alternatives, ByKind, ChoiceKind, CodedAlternatives, Constraint, Decoder, Encoder, OfKind, Tag,
-    Variants, alternative_bounds, decode_alternative, encode_alternative, variants,
-};
+use rasn_below::page::*;
 
 /// CHOICE { object OBJECT IDENTIFIER, other OCTET STRING }
 #[derive(Debug, Drop, PartialEq)]
@@ -19,42 +14,30 @@ pub enum Key {
     Other(OctetString),
 }
 
-macro_rules! alternatives {
-    ($to:ident $($with:ident)*) => {
-        $to! { [$($with)*]
-            0 "object" Object: ObjectIdentifier [];
-            1 "other" Other: OctetString [];
-        }
-    };
-}
+macro_rules! alternatives { ($to:ident $($with:ident)*) => { $to! { [$($with)*]
+    0 "object" Object: ObjectIdentifier [];
+    1 "other" Other: OctetString [];
+} }; }
 
-const VARIANTS: Variants = alternatives!(variants);
+const VARIANTS: VariantLists = alternatives!(variants);
 
-const BOUNDS: &[&[Constraint]] = alternatives!(alternative_bounds);
+const BOUNDS: Bounds = alternatives!(alternative_bounds);
 
 impl OfKind for Key {
     type Kind = ChoiceKind;
 }
 
 impl Alternatives for Key {
-    const ALTERNATIVES: Variants = VARIANTS;
+    const ALTERNATIVES: VariantLists = VARIANTS;
 
-    ghost ALTERNATIVES = { variants_in key };
+    ghost ALTERNATIVES = { variants_listed key };
 
-    const ADDED_ALTERNATIVES: Option<Variants> = None;
-
-    ghost ADDED_ALTERNATIVES = { None };
-
-    ghost alternatives = { key };
+    ghost alternatives = { (key, refl) };
 
     ghost chosen = { elim [
       | Object arcs ↦ chosen 0 (identifier_value arcs)
       | Other bytes ↦ chosen 1 (octets bytes)
     ] };
-
-    ghost described = { refl };
-
-    ghost extends = { refl };
 
     ghost are_variants = { record { distinct = refl; few = refl } };
 }

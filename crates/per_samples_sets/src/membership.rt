@@ -1,15 +1,10 @@
 //! A SEQUENCE with an object identifier and a SET OF.
 
 ghost use Rattle.std.specs.Prelude.{[], ◌∷◌, Some, refl};
-ghost use Rattle.rasn_below.specs.Values.{identifier_value};
-ghost use Rattle.rasn_below.specs.Components.{fields_of};
+ghost use Rattle.rasn_below.specs.Page.{identifier_value, fields_of};
 ghost use Rattle.per_samples_sets.specs.Memberships.{membership};
 
-use rasn_below::types::{Integer, ObjectIdentifier, SetOf};
-use rasn_below::{
-    AsnType, Components, Constraint, Decoder, Encoder, Fields, Record, bounds, decode_components,
-    encode_components, fields,
-};
+use rasn_below::page::*;
 
 /// SEQUENCE { group OBJECT IDENTIFIER, members SET (SIZE (1..4)) OF INTEGER }
 #[derive(Drop, PartialEq)]
@@ -18,32 +13,26 @@ pub struct Membership {
     pub members: SetOf<Integer>,
 }
 
-macro_rules! components {
-    ($to:ident $($with:ident)*) => {
-        $to! { [$($with)*]
-            required 0 "group" group: ObjectIdentifier [];
-            required 1 "members" members: SetOf<Integer> [SIZE 1..=4];
-        }
-    };
-}
+macro_rules! components { ($to:ident $($with:ident)*) => { $to! { [$($with)*]
+    required 0 "group" group: ObjectIdentifier [];
+    required 1 "members" members: SetOf<Integer> [SIZE 1..=4];
+} }; }
 
-const FIELDS: Fields = components!(fields);
+const FIELDS: FieldLists = components!(fields);
 
-const BOUNDS: &[&[Constraint]] = components!(bounds);
+const BOUNDS: Bounds = components!(bounds);
 
 impl Components for Membership {
-    const COMPONENTS: Fields = FIELDS;
+    const COMPONENTS: FieldLists = FIELDS;
 
     ghost COMPONENTS = { fields_of membership };
 
-    ghost components = { membership };
+    ghost components = { (membership, refl) };
 
     ghost contents = { λ x. Some (identifier_value x.group) ∷
         Some (⟦<SetOf<Integer> as AsnType>⟧.value x.members) ∷ [] };
 
     ghost depth = { λ x. ⟦<SetOf<Integer> as AsnType>⟧.levels x.members };
-
-    ghost described = { refl };
 }
 
 impl Record for Membership {

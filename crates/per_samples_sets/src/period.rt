@@ -1,16 +1,12 @@
 //! A SEQUENCE with a UTCTime and a GeneralizedTime.
 
 ghost use Rattle.std.specs.Prelude.{[], ◌∷◌, Some, refl};
+ghost use Rattle.rasn_below.specs.Page.{slot_of, fields_of};
 ghost use Rattle.rasn_below.specs.Times.{generalized_value, utc_value};
-ghost use Rattle.rasn_below.specs.Values.{slot_of};
-ghost use Rattle.rasn_below.specs.Components.{fields_of};
 ghost use Rattle.per_samples_sets.specs.Periods.{period};
 
+use rasn_below::page::*;
 use rasn_below::types::{GeneralizedTime, UtcTime};
-use rasn_below::{
-    Components, Constraint, Decoder, Encoder, Fields, Record, bounds, decode_components,
-    encode_components, fields,
-};
 
 /// SEQUENCE { since UTCTime, until GeneralizedTime OPTIONAL }
 #[derive(Clone, Copy, Debug, PartialEq, Eq)]
@@ -19,29 +15,23 @@ pub struct Period {
     pub until: Option<GeneralizedTime>,
 }
 
-macro_rules! components {
-    ($to:ident $($with:ident)*) => {
-        $to! { [$($with)*]
-            required 0 "since" since: UtcTime [];
-            optional 1 "until" until: Option<GeneralizedTime> [];
-        }
-    };
-}
+macro_rules! components { ($to:ident $($with:ident)*) => { $to! { [$($with)*]
+    required 0 "since" since: UtcTime [];
+    optional 1 "until" until: Option<GeneralizedTime> [];
+} }; }
 
-const FIELDS: Fields = components!(fields);
+const FIELDS: FieldLists = components!(fields);
 
-const BOUNDS: &[&[Constraint]] = components!(bounds);
+const BOUNDS: Bounds = components!(bounds);
 
 impl Components for Period {
-    const COMPONENTS: Fields = FIELDS;
+    const COMPONENTS: FieldLists = FIELDS;
 
     ghost COMPONENTS = { fields_of period };
 
-    ghost components = { period };
+    ghost components = { (period, refl) };
 
     ghost contents = { λ x. Some (utc_value x.since) ∷ slot_of generalized_value x.until ∷ [] };
-
-    ghost described = { refl };
 }
 
 impl Record for Period {

@@ -2,14 +2,10 @@
 #![tactic(auto, unfolding(rasn_below::specs::Types::smallest))]
 
 ghost use Rattle.std.specs.Prelude.{[], ◌∷◌, Some, pos, refl};
-ghost use Rattle.rasn_below.specs.Values.{truth, whole};
-ghost use Rattle.rasn_below.specs.Components.{fields_of};
+ghost use Rattle.rasn_below.specs.Page.{truth, whole, fields_in};
 ghost use Rattle.per_samples_sets.specs.Sets.{set};
 
-use rasn_below::{
-    ByKind, Constraint, Decoder, Encoder, Fields, OfKind, SetComponents, SetKind, SetRecord,
-    bounds, decode_set_components, encode_set_components, fields,
-};
+use rasn_below::page::*;
 
 /// SET { b [1] INTEGER (0..255), a [0] BOOLEAN }
 #[derive(Clone, Copy, Debug, PartialEq, Eq)]
@@ -27,11 +23,11 @@ macro_rules! components {
     };
 }
 
-const FIELDS: Fields = components!(fields);
+const FIELDS: Fields = components!(set_fields);
 
-const BOUNDS: &[&[Constraint]] = components!(bounds);
+const BOUNDS: &[&[Constraint]] = components!(set_bounds);
 
-const COMPONENTS: Fields = fields! { []
+const COMPONENTS: Fields = set_fields! { []
     required 1 "b" b: u8 [0..=255];
     required 0 "a" a: bool [];
 };
@@ -43,7 +39,7 @@ impl OfKind for Set {
 impl SetComponents for Set {
     const COMPONENTS: Fields = COMPONENTS;
 
-    ghost COMPONENTS = { fields_of set };
+    ghost COMPONENTS = { fields_in set };
 
     ghost components = { set };
 

@@ -3,14 +3,11 @@
 #![tactic(auto, unfolding(rasn_below::specs::Types::smallest, rasn_below::specs::Types::least_of))]
 
 ghost use Rattle.std.specs.Prelude.{refl};
-ghost use Rattle.rasn_below.specs.Components.{fields_of};
+ghost use Rattle.rasn_below.specs.Page.{fields_in};
 ghost use Rattle.per_samples_sets.specs.Sets.{set_choice, set_choice_contents};
 
 use crate::truth_or_none::{TAGS, TruthOrNone};
-use rasn_below::{
-    AsnType, ByKind, Constraint, Decoder, Encoder, Fields, OfKind, SetComponents, SetKind,
-    SetRecord, bounds, decode_set_components, encode_set_components, fields,
-};
+use rasn_below::page::*;
 
 /// SET { k [5] BOOLEAN, c CHOICE { m [3] BOOLEAN, n [9] NULL } }, whose choice has no tag of its own
 #[derive(Clone, Copy, Debug, PartialEq, Eq)]
@@ -28,11 +25,11 @@ macro_rules! components {
     };
 }
 
-const FIELDS: Fields = components!(fields);
+const FIELDS: Fields = components!(set_fields);
 
-const BOUNDS: &[&[Constraint]] = components!(bounds);
+const BOUNDS: &[&[Constraint]] = components!(set_bounds);
 
-const COMPONENTS: Fields = fields! { []
+const COMPONENTS: Fields = set_fields! { []
     required 5 "k" k: bool [];
     required 3 of TAGS "c" c: TruthOrNone [];
 };
@@ -44,7 +41,7 @@ impl OfKind for SetChoice {
 impl SetComponents for SetChoice {
     const COMPONENTS: Fields = COMPONENTS;
 
-    ghost COMPONENTS = { fields_of set_choice };
+    ghost COMPONENTS = { fields_in set_choice };
 
     ghost components = { set_choice };
 

@@ -3,7 +3,7 @@
 
 ghost use Rattle.std.specs.Prelude.{[], false, None, Some, refl};
 ghost use Rattle.rasn_below.specs.Values.{set_value};
-ghost use Rattle.rasn_below.specs.Components.{fields_described, fields_of, parts_of};
+ghost use Rattle.rasn_below.specs.Components.{fields_in, parts_of};
 ghost use Rattle.rasn_below.specs.Types.{SET, no_constraints, unextended, by_tag, set_at, set_levelled};
 ghost use Rattle.rasn_below.specs.Types.{set_stated, set_tag, tagged};
 ghost use Rattle.per_samples_sets.specs.Each.{set_each, set_each_contents};
@@ -65,7 +65,7 @@ impl AsnType for SetEach {
 impl Constructed for SetEach {
     const FIELDS: Fields = COMPONENTS;
 
-    ghost FIELDS = { fields_of set_each };
+    ghost FIELDS = { fields_in set_each };
 
     const EXTENDED_FIELDS: Option<Fields> = None;
 
@@ -81,7 +81,7 @@ impl Constructed for SetEach {
 
     ghost contents = { set_each_contents };
 
-    ghost described = { fields_described set_each };
+    ghost described = { λ _. refl };
 
     ghost extends = { unextended };
 

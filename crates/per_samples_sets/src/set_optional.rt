@@ -2,14 +2,11 @@
 #![tactic(auto, unfolding(rasn_below::specs::Types::smallest))]
 
 ghost use Rattle.std.specs.Prelude.{[], ◌∷◌, refl};
-ghost use Rattle.rasn_below.specs.Values.{truth, slot_of};
-ghost use Rattle.rasn_below.specs.Components.{fields_of};
+ghost use Rattle.rasn_below.specs.Page.{truth, slot_of, fields_in};
 ghost use Rattle.per_samples_sets.specs.Sets.{set_optional};
 
-use rasn_below::{
-    ByKind, Class, Constraint, Decoder, Encoder, Field, Fields, OfKind, Presence, SetComponents,
-    SetKind, SetRecord, Tag, TagTree, bounds, decode_set_components, encode_set_components,
-};
+use rasn_below::page::*;
+use rasn_below::{Class, Field, Presence};
 
 /// SET { p [PRIVATE 0] BOOLEAN OPTIONAL, q [0] BOOLEAN OPTIONAL, r [1] BOOLEAN OPTIONAL }
 #[derive(Clone, Copy, Debug, PartialEq, Eq)]
@@ -34,7 +31,7 @@ macro_rules! field {
         Field {
             index: $index,
             tag: Tag { class: Class::$class, value: $number },
-            tag_tree: TagTree::Leaf(Tag { class: Class::$class, value: $number }),
+            tag_tree: rasn_below::TagTree::Leaf(Tag { class: Class::$class, value: $number }),
             presence: Presence::Optional,
             name: $name,
         }
@@ -50,7 +47,7 @@ const FIELDS: Fields = Fields {
     ],
 };
 
-const BOUNDS: &[&[Constraint]] = components!(bounds);
+const BOUNDS: &[&[Constraint]] = components!(set_bounds);
 
 /// The components in the order of the type.
 const COMPONENTS: Fields = Fields {
@@ -68,7 +65,7 @@ impl OfKind for SetOptional {
 impl SetComponents for SetOptional {
     const COMPONENTS: Fields = COMPONENTS;
 
-    ghost COMPONENTS = { fields_of set_optional };
+    ghost COMPONENTS = { fields_in set_optional };
 
     ghost components = { set_optional };
 

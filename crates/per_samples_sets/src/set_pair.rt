@@ -1,4 +1,5 @@
-//! A SET of two required components, by a scope that writes them in the order of its fields, which isn't that of its tags.
+//! A SET of two required components, by a scope that writes them in the order of its fields, which isn't that of its
+//! tags.
 
 ghost use Rattle.std.specs.Prelude.{◌≡◌};
 ghost use Rattle.rasn_below.specs.Types.{AtParts, normals};

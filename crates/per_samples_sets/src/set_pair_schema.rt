@@ -3,7 +3,7 @@
 
 ghost use Rattle.std.specs.Prelude.{false, None, Some, refl};
 ghost use Rattle.rasn_below.specs.Values.{set_value};
-ghost use Rattle.rasn_below.specs.Components.{fields_described, fields_of};
+ghost use Rattle.rasn_below.specs.Components.{fields_in};
 ghost use Rattle.rasn_below.specs.Types.{SET, no_constraints, unextended, by_tag, set_at, set_levelled};
 ghost use Rattle.rasn_below.specs.Types.{set_stated, set_tag, tagged};
 ghost use Rattle.per_samples_sets.specs.SetPairs.{set_pair, set_pair_parts, set_pair_contents};
@@ -68,7 +68,7 @@ impl AsnType for SetPair {
 impl Constructed for SetPair {
     const FIELDS: Fields = COMPONENTS;
 
-    ghost FIELDS = { fields_of set_pair };
+    ghost FIELDS = { fields_in set_pair };
 
     const EXTENDED_FIELDS: Option<Fields> = None;
 
@@ -84,7 +84,7 @@ impl Constructed for SetPair {
 
     ghost contents = { λ x. set_pair_contents x.b x.a };
 
-    ghost described = { fields_described set_pair };
+    ghost described = { λ _. refl };
 
     ghost extends = { unextended };
 

@@ -1,15 +1,10 @@
 //! A SEQUENCE of strings of any octets and of a value whose type isn't known.
 
 ghost use Rattle.std.specs.Prelude.{[], ◌∷◌, Some, refl};
-ghost use Rattle.rasn_below.specs.Values.{octets, slot_of};
-ghost use Rattle.rasn_below.specs.Components.{fields_of};
+ghost use Rattle.rasn_below.specs.Page.{octets, slot_of, fields_of};
 ghost use Rattle.per_samples_sets.specs.Texts.{texts};
 
-use rasn_below::types::{Any, GeneralString, GraphicString, TeletexString};
-use rasn_below::{
-    Components, Constraint, Decoder, Encoder, Fields, Record, bounds, decode_components,
-    encode_components, fields,
-};
+use rasn_below::page::*;
 
 /// SEQUENCE { title TeletexString, figure GraphicString, note GeneralString OPTIONAL, rest ANY }
 #[derive(Debug, Drop, PartialEq)]
@@ -20,32 +15,26 @@ pub struct SomeTexts {
     pub rest: Any,
 }
 
-macro_rules! components {
-    ($to:ident $($with:ident)*) => {
-        $to! { [$($with)*]
-            required 0 "title" title: TeletexString [];
-            required 1 "figure" figure: GraphicString [];
-            optional 2 "note" note: Option<GeneralString> [];
-            required 3 "rest" rest: Any [];
-        }
-    };
-}
+macro_rules! components { ($to:ident $($with:ident)*) => { $to! { [$($with)*]
+    required 0 "title" title: TeletexString [];
+    required 1 "figure" figure: GraphicString [];
+    optional 2 "note" note: Option<GeneralString> [];
+    required 3 "rest" rest: Any [];
+} }; }
 
-const FIELDS: Fields = components!(fields);
+const FIELDS: FieldLists = components!(fields);
 
-const BOUNDS: &[&[Constraint]] = components!(bounds);
+const BOUNDS: Bounds = components!(bounds);
 
 impl Components for SomeTexts {
-    const COMPONENTS: Fields = FIELDS;
+    const COMPONENTS: FieldLists = FIELDS;
 
     ghost COMPONENTS = { fields_of texts };
 
-    ghost components = { texts };
+    ghost components = { (texts, refl) };
 
     ghost contents = { λ x. Some (octets x.title) ∷ Some (octets x.figure) ∷ slot_of octets x.note ∷
         Some (octets x.rest) ∷ [] };
-
-    ghost described = { refl };
 }
 
 impl Record for SomeTexts {

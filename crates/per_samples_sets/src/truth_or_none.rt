@@ -1,14 +1,11 @@
 //! A CHOICE that has no tag of its own.
 
-ghost use Rattle.std.specs.Prelude.{None, refl};
-ghost use Rattle.rasn_below.specs.Components.{variants_in};
+ghost use Rattle.std.specs.Prelude.{refl};
+ghost use Rattle.rasn_below.specs.Page.{variants_listed};
 ghost use Rattle.per_samples_sets.specs.Sets.{truth_or_none, truth_or_none_chosen};
 
-use rasn_below::{
-    Alternatives, ByKind, ChoiceKind, CodedAlternatives, Constraint, Decoder, Encoder, OfKind, Tag,
-    TagTree, Variants, alternative_bounds, decode_alternative, encode_alternative, tags_of_choice,
-    variants,
-};
+use rasn_below::TagTree;
+use rasn_below::page::*;
 
 /// CHOICE { m [3] BOOLEAN, n [9] NULL }
 #[derive(Clone, Copy, Debug, PartialEq, Eq)]
@@ -17,18 +14,14 @@ pub enum TruthOrNone {
     N,
 }
 
-macro_rules! alternatives {
-    ($to:ident $($with:ident)*) => {
-        $to! { [$($with)*]
-            3 "m" M: bool [];
-            9 "n" N;
-        }
-    };
-}
+macro_rules! alternatives { ($to:ident $($with:ident)*) => { $to! { [$($with)*]
+    3 "m" M: bool [];
+    9 "n" N;
+} }; }
 
-const VARIANTS: Variants = alternatives!(variants);
+const VARIANTS: VariantLists = alternatives!(variants);
 
-const BOUNDS: &[&[Constraint]] = alternatives!(alternative_bounds);
+const BOUNDS: Bounds = alternatives!(alternative_bounds);
 
 /// The tags of a `TruthOrNone`.
 pub(crate) const TAGS: TagTree = alternatives!(tags_of_choice);
@@ -38,21 +31,13 @@ impl OfKind for TruthOrNone {
 }
 
 impl Alternatives for TruthOrNone {
-    const ALTERNATIVES: Variants = VARIANTS;
+    const ALTERNATIVES: VariantLists = VARIANTS;
 
-    ghost ALTERNATIVES = { variants_in truth_or_none };
+    ghost ALTERNATIVES = { variants_listed truth_or_none };
 
-    const ADDED_ALTERNATIVES: Option<Variants> = None;
-
-    ghost ADDED_ALTERNATIVES = { None };
-
-    ghost alternatives = { truth_or_none };
+    ghost alternatives = { (truth_or_none, refl) };
 
     ghost chosen = { truth_or_none_chosen };
-
-    ghost described = { refl };
-
-    ghost extends = { refl };
 
     ghost are_variants = { record { distinct = refl; few = refl } };
 }

@@ -8,7 +8,7 @@ use Rattle.rasn_schema.specs.Orders.{insert_at, how_many_less, by_tags}
 use Rattle.rasn_schema.specs.Schemas.{TagTree, Presence, required, optional, group, default, Schema, Parts, no_parts, part, smallest, tags, count, listed, by_tag}
 use Rattle.per_core.proofs.LengthForms.{and_left, and_right, or_left, or_right}
 use Rattle.per_core.proofs.Readings.{length-by_tags}
-use Rattle.per_core.proofs.SetOrders.{count_ordered, bits_ordered}
+use Rattle.rasn_schema.proofs.Canonised.{count_ordered, bits_ordered}
 use Rattle.per_versions.specs.Kept.{keeps_to_i128, keep_to_i128}
 
 -- lawful parts

@@ -24,7 +24,7 @@ use Rattle.per_core.proofs.LengthForms.{or_left, or_right}
 use Rattle.per_core.proofs.Presenting.{some_both}
 use Rattle.per_core.proofs.Readings.{length-by_tags}
 use Rattle.per_core.specs.Within.{Each, EachSlot}
-use Rattle.per_core.proofs.SetOrders.{count_ordered}
+use Rattle.rasn_schema.proofs.Canonised.{count_ordered}
 use Rattle.per_core.proofs.SetReadings.{normal_record, read_as_listed, written}
 use Rattle.per_write.specs.Faults.{element_behind, element_here, HasElement}
 use Rattle.per_versions.proofs.Ordered.{lawful_in_order}

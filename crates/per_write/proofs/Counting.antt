@@ -1,13 +1,13 @@
 -- Items under a size constraint, as they are written and refused.
 use Rattle.std.specs.Prelude.{option_map, slice_range}
 use Rattle.std.specs.Option.{unwrap_or}
-use Rattle.std.proofs.Common.{◌≡◌, refl, sym, ap, ap₂, ◌∙◌, subst, ℕ, ◌+◌, ◌-◌, ◌^◌, ◌<◌, ◌≤◌, Bool, true, false, ◌&&◌, cond, ltb, leb, lt-ltb, leb-true, List, [], ◌∷◌, length, drop, drop-drop, take_all, length-take, length-drop, arith, Option, Some, None, pos}
+use Rattle.std.proofs.Common.{◌≡◌, refl, sym, ap, ap₂, ◌∙◌, subst, ℕ, ◌+◌, ◌-◌, ◌^◌, ◌<◌, ◌≤◌, Bool, true, false, ◌&&◌, cond, ltb, leb, lt-ltb, leb-true, ltb-true, List, [], ◌∷◌, length, drop, drop-drop, take_all, length-take, length-drop, arith, Option, Some, None, pos}
 use Rattle.std.proofs.lemmas.Bool.{le-ltb}
 use Rattle.std.proofs.Math.Bool.{and-true}
 use Rattle.rasn_types.specs.Codecs.{variant_of}
 use Rattle.rasn_types.specs.Variants.{Variant}
 use Rattle.rasn_types.specs.declared.types.Codec.{Codec}
-use Rattle.rasn_constraints.specs.Bounds.{allows, holds, Size, any_size}
+use Rattle.rasn_constraints.specs.Bounds.{allows, any_size, at_least, at_most, holds, Size}
 use Rattle.rasn_constraints.specs.Constraints.{bounds_by, end_of, is_marked, size_between, size_in, start_of}
 use Rattle.rasn_constraints.specs.declared.constraints.Bounded.{Bounded}
 use Rattle.rasn_constraints.specs.declared.constraints.Bounded.TheVariants as Variants
@@ -21,6 +21,7 @@ use Rattle.per_write.specs.Faults.{IsError}
 use Rattle.per_write.specs.Items.{RefusesCounted, wrong_count}
 use Rattle.per_pieces.specs.Fragments.{one_fragment}
 use Rattle.per_write.specs.State.{State, StateAppends}
+use Rattle.per_core.proofs.ConstrainedLengths.{IsConstrained, IsFree}
 use Rattle.per_core.proofs.LengthForms.{and_left, and_right}
 use Rattle.per_pieces.proofs.Fragments.{first_fragment, in_their_fragments, fragments_of_few, fragments_of_many}
 use Rattle.per_write.specs.Remains.{Remains}
@@ -91,27 +92,57 @@ pub allowed_most : (least most : Option ℕ) (l u n k : ℕ) → least ≡ Some 
 allowed_most least most l u n k e f d h =
     subst (λ (q : ℕ). q ≤ u) (sym d) (leb-true k u (and_left (leb k u) (ltb k (2 ^ 64)) (and_right (leb l k) (leb k u && ltb k (2 ^ 64)) (bounds_there least most l u k e f h))))
 
+-- a size allows no greater count
+pub allowed_small : (least most : Option ℕ) (k : ℕ) → allows (record { least = least; most = most }) k ≡ true → k < 2 ^ 64
+allowed_small least most k h = ltb-true k (2 ^ 64) (and_right (at_most most k) (ltb k (2 ^ 64)) (and_right (at_least least k) (at_most most k && ltb k (2 ^ 64)) h))
+
+-- X.691 11.9.4.1: the form of items whose count is within bounds that constrain it, and within others
+pub counted_constrained : (a : Variant) (least most : Option ℕ) (l u n : ℕ) (on_octet : Bool) (kind : ItemKind) (items : List Writer) → IsConstrained least most l u → n ≡ length items
+    → allows (record { least = least; most = most }) (length items) ≡ true → on_octet ≡ (ltb 0 n && is_aligned kind l u) → (p : ℕ)
+    → ((constrained_whole a (u - l + 1) (n - l) ▹ padding_if on_octet a) ▹ one_by_one items) p ≡ counted_in a (record { least = least; most = most }) kind items p
+counted_constrained a least most l u n on_octet kind items b e h o p =
+    sym (then_assoc (constrained_whole a (u - l + 1) (n - l)) (padding_if on_octet a) (one_by_one items) p)
+    ∙ ap (λ (t : Bool). (constrained_whole a (u - l + 1) (n - l) ▹ padding_if t a ▹ one_by_one items) p) o
+    ∙ ap (λ (k : ℕ). (constrained_whole a (u - l + 1) (k - l) ▹ padding_if (ltb 0 k && is_aligned kind l u) a ▹ one_by_one items) p) e
+    ∙ ap (λ (t : Bool). cond t (constrained_whole a (u - l + 1) (length items - l) ▹ padding_if (ltb 0 (length items) && is_aligned kind l u) a ▹ one_by_one items) (in_fragments a (fragment_sizes (length items)) items) p) (sym (lt-ltb u 65536 b.few))
+    ∙ ap (λ (q : Option ℕ). counted_under a (Some l) q kind (length items) items p) (sym b.upper)
+    ∙ ap (λ (q : Option ℕ). counted_under a q most kind (length items) items p) (sym b.lower)
+    ∙ ap (λ (t : Bool). written_if t (counted_under a least most kind (length items) items) p) (sym h)
+
+under_free : (a : Variant) (least most : Option ℕ) (kind : ItemKind) (n : ℕ) (items : List Writer) → IsFree least most → counted_under a least most kind n items ≡ in_fragments a (fragment_sizes n) items
+under_free a None most kind n items f = refl
+under_free a (Some l) None kind n items f = refl
+under_free a (Some l) (Some u) kind n items f =
+    ap (λ (t : Bool). cond t (constrained_whole a (u - l + 1) (n - l) ▹ padding_if (ltb 0 n && is_aligned kind l u) a ▹ one_by_one items) (in_fragments a (fragment_sizes n) items)) (le-ltb u 65536 f)
+
+pub counted_free : (a : Variant) (least most : Option ℕ) (kind : ItemKind) (items : List Writer) → IsFree least most → allows (record { least = least; most = most }) (length items) ≡ true → (p : ℕ)
+    → in_fragments a (fragment_sizes (length items)) items p ≡ counted_in a (record { least = least; most = most }) kind items p
+counted_free a least most kind items f h p =
+    ap (λ (w : Writer). w p) (sym (under_free a least most kind (length items) items f)) ∙ ap (λ (t : Bool). written_if t (counted_under a least most kind (length items) items) p) (sym h)
+
 -- items behind a count within bounds
 pub wrote_bounded : (writers : Variant → List Writer) (kind : ItemKind) (x m y : State) (least most : Option ℕ) (l u n : ℕ) (on_octet : Bool) →
     let all = writers (variant_of x.codec) in
-    least ≡ Some l → most ≡ Some u → n ≡ length all → u < 65536 → allows (record { least = least; most = most }) (length all) ≡ true → on_octet ≡ (ltb 0 n && is_aligned kind l u) →
+    IsConstrained least most l u → n ≡ length all → allows (record { least = least; most = most }) (length all) ≡ true → on_octet ≡ (ltb 0 n && is_aligned kind l u) →
     StateAppends x (constrained_whole (variant_of x.codec) (u - l + 1) (n - l) ▹ padding_if on_octet (variant_of x.codec)) m →
     StateAppends m (one_by_one (slice_range (writers (variant_of m.codec)) 0 n)) y →
     StateAppends x (counted_in (variant_of x.codec) (record { least = least; most = most }) kind all) y
-wrote_bounded writers kind x m y least most l u n on_octet f g e b h o v w =
+wrote_bounded writers kind x m y least most l u n on_octet b e h o v w =
     let a = variant_of x.codec in
     let all = writers a in
     let all_of_it : slice_range all 0 n ≡ all = take_all (n - 0) all (omega arith) in
     wrote_same x y ((constrained_whole a (u - l + 1) (n - l) ▹ padding_if on_octet a) ▹ one_by_one all) (counted_in a (record { least = least; most = most }) kind all)
-    (λ p. sym (then_assoc (constrained_whole a (u - l + 1) (n - l)) (padding_if on_octet a) (one_by_one all) p)
-    ∙ ap (λ (t : Bool). (constrained_whole a (u - l + 1) (n - l) ▹ padding_if t a ▹ one_by_one all) p) o
-    ∙ ap (λ (k : ℕ). (constrained_whole a (u - l + 1) (k - l) ▹ padding_if (ltb 0 k && is_aligned kind l u) a ▹ one_by_one all) p) e
-    ∙ ap (λ (t : Bool). cond t (constrained_whole a (u - l + 1) (length all - l) ▹ padding_if (ltb 0 (length all) && is_aligned kind l u) a ▹ one_by_one all) (in_fragments a (fragment_sizes (length all)) all) p) (sym (lt-ltb u 65536 b))
-    ∙ ap (λ (q : Option ℕ). counted_under a (Some l) q kind (length all) all p) (sym g)
-    ∙ ap (λ (q : Option ℕ). counted_under a q most kind (length all) all p) (sym f)
-    ∙ ap (λ (t : Bool). written_if t (counted_under a least most kind (length all) all) p) (sym h))
+    (counted_constrained a least most l u n on_octet kind all b e h o)
     (wrote_then x m y _ _ v
     (subst (λ (ws : List Writer). StateAppends m (one_by_one ws) y) all_of_it (subst (λ (c : Codec). StateAppends m (one_by_one (slice_range (writers (variant_of c)) 0 n)) y) v.same w)))
+
+-- items whose count no bounds constrain
+pub wrote_free : (items : List Writer) (kind : ItemKind) (x y : State) (least most : Option ℕ) → IsFree least most → allows (record { least = least; most = most }) (length items) ≡ true
+    → StateAppends x (counted_in (variant_of x.codec) any_size kind items) y → StateAppends x (counted_in (variant_of x.codec) (record { least = least; most = most }) kind items) y
+wrote_free items kind x y least most f h w =
+    let a = variant_of x.codec in
+    wrote_same x y (counted_in a any_size kind items) (counted_in a (record { least = least; most = most }) kind items)
+    (λ p. sym (in_their_fragments a kind items (allowed_small least most (length items) h) p) ∙ counted_free a least most kind items f h p) w
 
 -- whether padding stands in front of items
 pub pads_some : (n : ℕ) (o t : Bool) → 0 < n → o ≡ t → o ≡ (ltb 0 n && t)

@@ -1,7 +1,7 @@
 -- Lists that are written element by element.
 use Rattle.std.specs.Prelude.{Result, Ok, Err}
 use Rattle.std.specs.Option.{unwrap_or}
-use Rattle.std.proofs.Common.{◌≡◌, ◌⊎◌, refl, sym, ap, ap₂, ◌∙◌, subst, ℕ, zero, suc, ◌-◌, ◌%◌, ◌<◌, ◌≤◌, Bool, true, false, List, [], ◌∷◌, ◌++◌, map, length, take, drop, length-take, length-drop, replicate, append_assoc, ◌^◌, arith, Option, Some, None, inl, inr}
+use Rattle.std.proofs.Common.{◌≡◌, ◌⊎◌, refl, sym, ap, ap₂, ◌∙◌, subst, ℕ, zero, suc, ◌-◌, ◌%◌, ◌<◌, ◌≤◌, Bool, true, false, ◌&&◌, ltb, List, [], ◌∷◌, ◌++◌, map, length, take, drop, length-take, length-drop, replicate, append_assoc, ◌^◌, arith, Option, Some, None, inl, inr}
 use Rattle.std.proofs.lemmas.List.{length-replicate}
 use Rattle.rasn_types.specs.Bits.{Bits}
 use Rattle.rasn_types.specs.Codecs.{variant_of}
@@ -22,7 +22,7 @@ use Rattle.per_write.specs.declared.error.EncodeErrorKind.{EncodeErrorKind}
 use Rattle.per_write.specs.declared.error.EncodeErrorKind.TheVariants.{SizeConstraintNotSatisfied, ValueConstraintNotSatisfied, AlphabetConstraintNotSatisfied, IntegerTypeConversionFailed, VariantNotInChoice, RealNotSupported, TooManyAdditions, Below, AlreadyFailed, OutOfMemory, OutOfTurn}
 use Rattle.per_write.specs.declared.lists.UnwrittenElements.{UnwrittenElements}
 use Rattle.per_write.specs.Faults.{at_once, element_behind, element_here, HasElement, in_element, IsError, IsMemory, OutsideSize, RefusesValue, Stands}
-use Rattle.per_pieces.specs.Fragments.{one_fragment, unconstrained_length}
+use Rattle.per_pieces.specs.Fragments.{constrained_length, one_fragment, unconstrained_length}
 use Rattle.per_write.specs.Items.{HasRefused, refused_behind, refused_here}
 use Rattle.per_write.specs.Lists.{count_left, IsOpenList, Begins, BeginsItems, Enters, EntersItems, count_behind, count_memory, count_outside, fragment_and, RefusesCount, still}
 use Rattle.per_write.specs.Remains.{Remains}
@@ -30,6 +30,8 @@ use Rattle.per_write.specs.Rules.{encoder_rules}
 use Rattle.per_pieces.proofs.Placed.{remains_behind as pieces_behind, remains_none, remains_same as pieces_same, remains_then as pieces_then}
 use Rattle.per_write.specs.State.{Puts, Scope, State, StateAppends, within}
 use Rattle.per_pieces.proofs.Fragments.{first_fragment, fragments_of_few, fragments_of_many, in_their_fragments}
+use Rattle.per_core.proofs.ConstrainedLengths.{IsConstrained, IsFree}
+use Rattle.per_write.proofs.Counting.{counted_constrained, counted_free}
 use Rattle.per_write.proofs.Refusing.{none_counted, none_outside}
 use Rattle.per_pieces.proofs.Writing.{then_assoc, then_nothing, then_same}
 use Rattle.per_write.proofs.Writing.{remains_after, remains_all, remains_last}
@@ -131,6 +133,33 @@ remains_then x y z all rest more h k = record {
   beside = k.beside ∙ h.beside;
   pieces = pieces_then x.pieces y.pieces z.pieces all rest more h.pieces k.pieces;
 }
+
+none_aligned : (b : Bool) → false ≡ (b && false)
+none_aligned true = refl
+none_aligned false = refl
+
+-- X.691 11.9.4.1: a count within bounds that constrain it stands in front of all elements
+pub begins_constrained : (x y : State) (least most : Option ℕ) (l u count : ℕ) (around : Bool) → IsConstrained least most l u → allows (record { least = least; most = most }) count ≡ true
+    → StateAppends x (constrained_length (variant_of x.codec) l u count false) y
+    → Begins (λ a ws. counted_in a (record { least = least; most = most }) list_items ws) count x (record { fragment = count; behind = None; around = around }) y
+begins_constrained x y least most l u count around b h w = record { counted = omega arith; some = λ z. z; remains = λ ws e. each ws e }
+  where
+    each : (ws : List Writer) → length ws ≡ count → Remains x (counted_in (variant_of x.codec) (record { least = least; most = most }) list_items ws) y (one_by_one ws)
+    each ws e =
+        let a = variant_of x.codec in
+        remains_after x x y _ _ (constrained_length a l u count false) (one_by_one ws) (remains_all x (counted_in a (record { least = least; most = most }) list_items ws) w.begun)
+        (λ p. sym (counted_constrained a least most l u count false list_items ws b (sym e) (ap (allows (record { least = least; most = most })) e ∙ h) (none_aligned (ltb 0 count)) p)) w
+
+-- X.691 11.9.3.5 to 11.9.3.8: within others, the first fragment begins
+pub begins_free : (x y : State) (least most : Option ℕ) (count : ℕ) (l : UnwrittenElements) → IsFree least most → allows (record { least = least; most = most }) count ≡ true
+    → Begins (λ a ws. in_fragments a (fragment_sizes count) ws) count x l y → Begins (λ a ws. counted_in a (record { least = least; most = most }) list_items ws) count x l y
+begins_free x y least most count l f h w = record { counted = w.counted; some = w.some; remains = λ ws e. each ws e }
+  where
+    each : (ws : List Writer) → length ws ≡ count → Remains x (counted_in (variant_of x.codec) (record { least = least; most = most }) list_items ws) y (still (variant_of x.codec) l.behind l.fragment ws)
+    each ws e =
+        let a = variant_of x.codec in
+        remains_same x y (in_fragments a (fragment_sizes count) ws) (counted_in a (record { least = least; most = most }) list_items ws) (still a l.behind l.fragment ws)
+        (λ p. ap (λ (n : ℕ). in_fragments a (fragment_sizes n) ws p) (sym e) ∙ counted_free a least most list_items ws f (ap (allows (record { least = least; most = most })) e ∙ h) p) (w.remains ws e)
 
 -- without an extension marker no bit stands in front
 pub begins_bare : (size under : Size) (mark : Bool) (x y : State) (count : ℕ) (l : UnwrittenElements) → mark ≡ false → size ≡ under →

@@ -1,6 +1,7 @@
 -- The index of a CHOICE: zeros that are kept for it where the choice is opened, and given where it is closed (ITU-T
 -- X.691, 23.6).
-use Rattle.std.specs.Prelude.{ℕ, ◌+◌, ◌≡◌, ◌<◌, true, false, if◌then◌else◌, nat_le, List, [], ◌++◌, replicate, None, Result, IfOk, IfErr, OnOk, OnErr}
+use Rattle.std.specs.Prelude.{ℕ, ◌+◌, ◌≡◌, ◌<◌, true, false, if◌then◌else◌, nat_le, List, [], ◌++◌, replicate, None}
+use Rattle.std.specs.Prelude.{Result, IfOk, IfErr, OnOk, OnErr}
 use Rattle.rasn_types.specs.Bits.{to_bits, width}
 use Rattle.rasn_types.specs.Codecs.{variant_of}
 use Rattle.rasn_types.specs.Variants.{Variant, aligned, unaligned}

@@ -1,9 +1,11 @@
 -- What the errors of an encoder say.
-use Rattle.std.specs.Prelude.{ℕ, ◌≡◌, ◌<◌, Bool, true, false, ◌||◌, List, ◌∷◌, length, get_or, Option, Some, None, is_some, MatchOption, ℤ}
+use Rattle.std.specs.Prelude.{ℕ, ◌≡◌, ◌<◌, Bool, true, false, ◌||◌, List, ◌∷◌, length, get_or, Option, Some, None}
+use Rattle.std.specs.Prelude.{is_some, MatchOption, ℤ}
 use Rattle.rasn_types.specs.Alphabets.{index_of, visible}
 use Rattle.rasn_types.specs.Codecs.{variant_of}
 use Rattle.rasn_types.specs.Contents.{is_identifier, is_time}
-use Rattle.rasn_types.specs.Values.{Value, whole, octets, bits, characters, elements, bag, bag_of, values, alternative, Side}
+use Rattle.rasn_types.specs.Values.{Value, whole, octets, bits, characters, elements, bag, bag_of, values, alternative}
+use Rattle.rasn_types.specs.Values.{Side}
 use Rattle.rasn_constraints.specs.Bounds.{allows, holds, fits_i128, Bounds, Size}
 use Rattle.rasn_schema.specs.Absent.{no_value}
 use Rattle.rasn_schema.specs.Canonised.{canonised, canonised_slots}
@@ -16,7 +18,12 @@ use Rattle.per_core.specs.Canon.{canon, shown}
 use Rattle.per_write.specs.State.{State}
 use Rattle.per_write.specs.declared.error.EncodeError.{EncodeError}
 use Rattle.per_write.specs.declared.error.EncodeErrorKind.{EncodeErrorKind}
-use Rattle.per_write.specs.declared.error.EncodeErrorKind.TheVariants.{SizeConstraintNotSatisfied, ValueConstraintNotSatisfied, AlphabetConstraintNotSatisfied, IntegerTypeConversionFailed, VariantNotInChoice, RealNotSupported, TooManyAdditions, Below, AlreadyFailed, OutOfMemory, OutOfTurn}
+use Rattle.per_write.specs.declared.error.EncodeErrorKind.TheVariants.{SizeConstraintNotSatisfied}
+use Rattle.per_write.specs.declared.error.EncodeErrorKind.TheVariants.{ValueConstraintNotSatisfied}
+use Rattle.per_write.specs.declared.error.EncodeErrorKind.TheVariants.{AlphabetConstraintNotSatisfied}
+use Rattle.per_write.specs.declared.error.EncodeErrorKind.TheVariants.{IntegerTypeConversionFailed, VariantNotInChoice}
+use Rattle.per_write.specs.declared.error.EncodeErrorKind.TheVariants.{RealNotSupported, TooManyAdditions, Below}
+use Rattle.per_write.specs.declared.error.EncodeErrorKind.TheVariants.{AlreadyFailed, OutOfMemory, OutOfTurn}
 
 -- an error of a kind, under the variant in use
 pub record IsError (kind : EncodeErrorKind) (e : EncodeError) (x : State) : Type 0 where

@@ -1,7 +1,12 @@
 -- The names of the kinds of errors, as a program prints them.
 use Rattle.std.specs.Prelude.{ℕ, List, codes}
 use Rattle.per_write.specs.declared.error.EncodeErrorKind.{EncodeErrorKind}
-use Rattle.per_write.specs.declared.error.EncodeErrorKind.TheVariants.{SizeConstraintNotSatisfied, ValueConstraintNotSatisfied, AlphabetConstraintNotSatisfied, IntegerTypeConversionFailed, VariantNotInChoice, RealNotSupported, TooManyAdditions, Below, AlreadyFailed, OutOfMemory, OutOfTurn}
+use Rattle.per_write.specs.declared.error.EncodeErrorKind.TheVariants.{SizeConstraintNotSatisfied}
+use Rattle.per_write.specs.declared.error.EncodeErrorKind.TheVariants.{ValueConstraintNotSatisfied}
+use Rattle.per_write.specs.declared.error.EncodeErrorKind.TheVariants.{AlphabetConstraintNotSatisfied}
+use Rattle.per_write.specs.declared.error.EncodeErrorKind.TheVariants.{IntegerTypeConversionFailed, VariantNotInChoice}
+use Rattle.per_write.specs.declared.error.EncodeErrorKind.TheVariants.{RealNotSupported, TooManyAdditions, Below}
+use Rattle.per_write.specs.declared.error.EncodeErrorKind.TheVariants.{AlreadyFailed, OutOfMemory, OutOfTurn}
 
 abbrev pub name_of : EncodeErrorKind → List ℕ
 name_of (SizeConstraintNotSatisfied length lower upper) = codes "SizeConstraintNotSatisfied"

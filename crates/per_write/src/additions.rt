@@ -5,7 +5,8 @@ ghost use Rattle.std.specs.Prelude.{◌≡◌, length, true, false, nat_lt, Some
 ghost use Rattle.per_core.specs.Canon.{any_set};
 ghost use Rattle.per_core.specs.Writers.{padding};
 ghost use Rattle.per_pieces.specs.Pieces.{placed_bits};
-ghost use Rattle.per_write.specs.Additions.{ClosesOrNot as ClosesOpenType, GivesOrNot, is_group_there, OpensOrNot as OpensOpenType, PutsAddition, SkipsOrNot, TakesOrNot};
+ghost use Rattle.per_write.specs.Additions.{ClosesOrNot as ClosesOpenType, GivesOrNot, is_group_there};
+ghost use Rattle.per_write.specs.Additions.{OpensOrNot as OpensOpenType, PutsAddition, SkipsOrNot, TakesOrNot};
 ghost use Rattle.per_write.specs.Faults.{IsMemory};
 ghost use Rattle.per_write.specs.Records.{KeepsOrNot, PutsAdditions};
 ghost use Rattle.per_write.specs.State.{PutsIn};

@@ -12,7 +12,7 @@ ghost use Rattle.per_write.specs.Rules.{encoder_rules};
 
 use crate::Writer;
 use crate::error::{EncodeError, EncodeErrorKind};
-use per_core::lengths::FRAGMENT;
+use per_core::lengths::{FRAGMENT, constrained_bounds};
 use rasn_schema::constraints::{Bounded, Extensible};
 use rasn_schema::schema::Constraints;
 use std::alloc::Allocator;
@@ -138,8 +138,8 @@ fn begin_sized<A: Allocator + Clone>(
     ensures { BeginsItems IsMemory (λ a ws. counted_in a (record { least = lower; most = upper }) list_items ws)
         count around writer.old result writer.new }
 {
-    match (lower, upper) {
-        (Some(lower), Some(upper)) if upper < 65536 => {
+    match constrained_bounds(lower, upper) {
+        Some((lower, upper)) => {
             writer.put_constrained_length(lower, upper, count, false)?;
             Ok(UnwrittenElements {
                 fragment: count,
@@ -147,7 +147,7 @@ fn begin_sized<A: Allocator + Clone>(
                 around,
             })
         }
-        _ => begin_fragment(writer, count, around),
+        None => begin_fragment(writer, count, around),
     }
 }
 

@@ -4,13 +4,14 @@ ghost use Rattle.std.specs.Prelude.{◌≡◌, ◌≤◌, length, false};
 ghost use Rattle.rasn_types.specs.Variants.{Variant};
 ghost use Rattle.per_write.specs.Faults.{IsMemory};
 ghost use Rattle.per_pieces.specs.Fragments.{constrained_length, unconstrained_length};
-ghost use Rattle.per_write.specs.Items.{AllowsItems, PutsCounted, PutsItems, fragment_between, sized_items, unconstrained_items};
+ghost use Rattle.per_write.specs.Items.{AllowsItems, PutsCounted, PutsItems, fragment_between, sized_items};
+ghost use Rattle.per_write.specs.Items.{unconstrained_items};
 ghost use Rattle.per_write.specs.State.{PutsIn};
 
 use crate::Writer;
 use crate::error::{EncodeError, EncodeErrorKind};
 use crate::items::Items;
-use per_core::lengths::FRAGMENT;
+use per_core::lengths::{FRAGMENT, constrained_bounds};
 use per_pieces::lengths::{push_constrained_length, push_unconstrained_length};
 use rasn_schema::constraints::{Bounded, Extensible};
 use std::alloc::Allocator;
@@ -58,14 +59,14 @@ impl<A: Allocator + Clone> Writer<A> {
         requires within { AllowsItems lower upper (I.counted items.now) }
         ensures { PutsItems (I.counted items.now) (sized_items lower upper) self.old result self.new }
     {
-        match (lower, upper) {
-            (Some(lower), Some(upper)) if upper < 65536 => {
+        match constrained_bounds(lower, upper) {
+            Some((lower, upper)) => {
                 let count = items.len();
                 let on_octet = count > 0 && items.item().is_aligned(lower, upper);
                 self.put_constrained_length(lower, upper, count, on_octet)?;
                 items.put(self, 0, count)
             }
-            _ => self.put_unconstrained_items(items),
+            None => self.put_unconstrained_items(items),
         }
     }
 

@@ -1,5 +1,6 @@
 -- An open SET OF, of which each member is written before its place is known (ITU-T X.691, 22).
-use Rattle.std.specs.Prelude.{◌≡◌, true, List, [], ◌∷◌, ◌++◌, map, length, Option, Some, None, Result, OnOk, OnErr, IfErr}
+use Rattle.std.specs.Prelude.{◌≡◌, true, List, [], ◌∷◌, ◌++◌, map, length, Option, Some, None, Result, OnOk, OnErr}
+use Rattle.std.specs.Prelude.{IfErr}
 use Rattle.rasn_types.specs.Codecs.{variant_of}
 use Rattle.rasn_types.specs.Values.{Value}
 use Rattle.rasn_schema.specs.Lists.{list_value}

@@ -1,6 +1,7 @@
 -- A CHOICE that may have an extension marker. Where there are added alternatives, which one was written, and so what
 -- stands in front of it, is known behind it alone: it is written before its place is known (ITU-T X.691, 23).
-use Rattle.std.specs.Prelude.{ℕ, zero, suc, ◌≡◌, Bool, true, false, Option, Some, None, Result, IfOk, IfErr, OnErr, OnOk, IsErrAnd}
+use Rattle.std.specs.Prelude.{ℕ, zero, suc, ◌≡◌, Bool, true, false, Option, Some, None, Result, IfOk, IfErr, OnErr}
+use Rattle.std.specs.Prelude.{OnOk, IsErrAnd}
 use Rattle.rasn_types.specs.Bits.{to_bits}
 use Rattle.rasn_types.specs.Codecs.{variant_of}
 use Rattle.rasn_types.specs.Variants.{Variant}

@@ -1,6 +1,7 @@
 //! Small numbers in one field, so that several of them are written at once.
 
-ghost use Rattle.std.specs.Prelude.{◌≡◌, ◌+◌, ◌^◌, ◌<◌, ◌≤◌, ◌++◌, [], length, false, true, OnOk, OnErr, IfErr, IsTrue, ◌↔◌};
+ghost use Rattle.std.specs.Prelude.{◌≡◌, ◌+◌, ◌^◌, ◌<◌, ◌≤◌, ◌++◌, [], length, false, true, OnOk, OnErr, IfErr, IsTrue};
+ghost use Rattle.std.specs.Prelude.{◌↔◌};
 ghost use Rattle.rasn_types.specs.Bits.{to_bits};
 ghost use Rattle.per_core.specs.Writers.{just};
 ghost use Rattle.per_write.specs.Faults.{IsMemory};

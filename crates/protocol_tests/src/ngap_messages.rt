@@ -1,5 +1,5 @@
-//! The messages of `rows/protocols/ngap.tsv`, in the ALIGNED variant: the frame, in it the message of the procedure, and in
-//! this each element as the type that its identifier stands for.
+//! The messages of `rows/protocols/ngap.tsv`, in the ALIGNED variant: the frame, in it the message of the procedure,
+//! and in this each element as the type that its identifier stands for.
 
 ghost use Rattle.std.specs.Prelude.{◌≤◌, ◌*◌, length};
 
@@ -574,7 +574,7 @@ fn expect_rights(rt: &impl Abort, alloc: Global, all: &[ProtocolIeField]) -> Res
         &profile,
     );
     let rate = UeAggregateMaximumBitRate {
-        ue_aggregate_maximum_bit_rate_dl: Integer::from(4_000_000_000_000),
+        ue_aggregate_maximum_bit_rate_dl: Integer::from(4_000_000_000_000_i64),
         ue_aggregate_maximum_bit_rate_ul: Integer::from(1_000_000),
         ie_extensions: None,
     };

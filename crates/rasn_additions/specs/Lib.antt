@@ -1,2 +1,2 @@
-pub mod ExtendedRecords
+pub mod Groups
 pub mod OneAddition

@@ -6,6 +6,7 @@ ghost use Rattle.rasn_types.specs.Values.{Value};
 ghost use Rattle.rasn_constraints.specs.declared.constraints.Constraint.{Constraint};
 ghost use Rattle.rasn_schema.specs.Schemas.{leaf, Parts, no_parts, part};
 ghost use Rattle.rasn_schema.specs.Records.{own_or};
+ghost use Rattle.rasn_schema.specs.Extensions.{fields_behind};
 ghost use Rattle.rasn_schema.specs.Fields.{Shape, shape_of, tag_of};
 ghost use Rattle.rasn_traits.specs.Additions.{WritesAdditions};
 ghost use Rattle.rasn_traits.specs.AdditionsRead.{TakesAdditions};
@@ -14,10 +15,13 @@ ghost use Rattle.rasn_record.specs.Lists.{behind, first_tag, first_given};
 use crate::additions::{DecodeAddition, EncodeAddition};
 use rasn_codec::codec::{Decoder, Encoder};
 use rasn_record::cells::{Cell, End, behind, first_tag, given_or_own};
+use rasn_record::fields::added;
+use rasn_schema::components::Components;
 use rasn_schema::constraints::Constraint;
 use rasn_schema::fields::Field;
 use rasn_schema::schema::AsnType;
 use rasn_traits::parts::{DecodeAdditions, EncodeAdditions};
+use std::marker::PhantomData;
 
 /// Additions of a record that are still to be given, of which lists state the tags and the constraints.
 pub trait EncodeAdditionCells {
@@ -63,12 +67,12 @@ pub trait DecodeAdditionCells {
             Self.contents decoder.old result decoder.new };
 }
 
-/// Additions of a record, and the lists that state their tags and constraints. An addition that isn't in a list has its
-/// type's own tag; one that isn't in a list, or has none there, has its type's own constraints.
+/// Additions of a record as cells, and the list that states their constraints. Their tags are those of the record's own
+/// fields. One that has no constraints in the list has its type's own.
 #[derive(Clone, Copy)]
-pub struct ListedAdditions<P> {
-    /// The fields of the additions, in their order.
-    pub fields: &'static [Field],
+pub struct AddedTo<T, P> {
+    /// The record.
+    pub of: PhantomData<T>,
     /// The constraints of the additions, in their order.
     pub constraints: &'static [&'static [Constraint]],
     /// The additions.
@@ -115,8 +119,8 @@ impl<C: EncodeAddition, N: EncodeAdditionCells> EncodeAdditionCells for Cell<C, 
     }
 }
 
-impl<P: EncodeAdditionCells> EncodeAdditions for ListedAdditions<P> {
-    ghost additions = { λ p. P.additions p.cells (map shape_of p.fields.now) p.constraints.now };
+impl<T: Components, P: EncodeAdditionCells> EncodeAdditions for AddedTo<T, P> {
+    ghost additions = { λ p. P.additions p.cells (fields_behind T.COMPONENTS.behind) p.constraints.now };
 
     ghost contents = { λ p. P.contents p.cells };
 
@@ -124,7 +128,7 @@ impl<P: EncodeAdditionCells> EncodeAdditions for ListedAdditions<P> {
 
     fn encode_additions<E: Encoder>(&self, encoder: &mut E) -> Result<(), E::Error> {
         self.cells
-            .encode_addition_cells(self.fields, self.constraints, encoder)
+            .encode_addition_cells(added::<T>(), self.constraints, encoder)
     }
 }
 
@@ -170,15 +174,15 @@ impl<C: DecodeAddition, N: DecodeAdditionCells> DecodeAdditionCells for Cell<C, 
     }
 }
 
-impl<P: DecodeAdditionCells> DecodeAdditions for ListedAdditions<P> {
+impl<T: Components, P: DecodeAdditionCells> DecodeAdditions for AddedTo<T, P> {
     type Values = P::Values;
 
-    ghost additions = { λ p. P.additions p.cells (map shape_of p.fields.now) p.constraints.now };
+    ghost additions = { λ p. P.additions p.cells (fields_behind T.COMPONENTS.behind) p.constraints.now };
 
     ghost contents = { P.contents };
 
     fn decode_additions<D: Decoder>(&self, decoder: &mut D) -> Result<P::Values, D::Error> {
         self.cells
-            .decode_addition_cells(self.fields, self.constraints, decoder)
+            .decode_addition_cells(added::<T>(), self.constraints, decoder)
     }
 }

@@ -10,8 +10,9 @@ ghost use Rattle.rasn_record.specs.Slots.{slot_levels};
 
 use crate::{ExtensionDecoder, ExtensionEncoder};
 use rasn_codec::codec::{Decode, Decoder, DecoderExt, Encode, Encoder};
+use rasn_defaults::DefaultOf;
 use rasn_record::cells::ByType;
-use rasn_record::components::{Default, Defaulted, Optional};
+use rasn_record::components::{Default, Optional};
 use rasn_schema::fields::AdditionGroup;
 use rasn_schema::schema::{AsnType, Constraints};
 use rasn_types::types::Tag;
@@ -120,10 +121,10 @@ impl<'a, H: Encode> EncodeAddition for Optional<&'a Option<H>> {
     }
 }
 
-impl<'a, H: Encode + Defaulted> EncodeAddition for Default<&'a H, H> {
+impl<'a, H: Encode, K: DefaultOf<H>> EncodeAddition for Default<&'a H, K> {
     type Of = H;
 
-    ghost presence = { λ c. Presence.default (H.value c.default) };
+    ghost presence = { λ c. Presence.default (K.default c.default) };
 
     ghost slot = { λ c. Some (H.value c.value.now) };
 
@@ -135,7 +136,7 @@ impl<'a, H: Encode + Defaulted> EncodeAddition for Default<&'a H, H> {
         tag: Tag,
         constraints: &Constraints,
     ) -> Result<(), E::Error> {
-        if self.value.is_default(&self.default) {
+        if self.default.stands_for(self.value) {
             return encoder.skip_addition();
         }
         encoder.encode_extension_addition(tag, constraints, self.value, H::IDENTIFIER)
@@ -210,12 +211,12 @@ impl<H: Decode> DecodeAddition for Optional<PhantomData<Option<H>>> {
     }
 }
 
-impl<H: Decode + Defaulted> DecodeAddition for Default<PhantomData<H>, H> {
+impl<H: Decode, K: DefaultOf<H>> DecodeAddition for Default<PhantomData<H>, K> {
     type Of = H;
 
     type Value = H;
 
-    ghost presence = { λ c. Presence.default (H.value c.default) };
+    ghost presence = { λ c. Presence.default (K.default c.default) };
 
     ghost slot = { λ x. Some (H.value x) };
 
@@ -231,7 +232,7 @@ impl<H: Decode + Defaulted> DecodeAddition for Default<PhantomData<H>, H> {
         )?;
         match read {
             Some(value) => Ok(value),
-            None => match self.default.copied(decoder.alloc()) {
+            None => match self.default.made(decoder.alloc()) {
                 Ok(value) => Ok(value),
                 Err(_) => Err(decoder.out_of_memory()),
             },

@@ -11,7 +11,6 @@ ghost use Rattle.rasn_traits.specs.Presences.{slot_of};
 
 pub mod added;
 pub mod additions;
-pub mod extended;
 
 use rasn_codec::codec::{Decode, Encode};
 use rasn_schema::fields::AdditionGroup;

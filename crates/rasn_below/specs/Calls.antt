@@ -4,7 +4,11 @@ pub use Rattle.rasn_traits.specs.Calls.{AtDepths, DecoderRules, DecodesWell, Enc
 pub use Rattle.rasn_traits.specs.Presences.{left_out}
 pub use Rattle.rasn_traits.specs.Optionals.{ReadsComponent}
 pub use Rattle.rasn_traits.specs.Scopes.{WrittenPart, WrittenParts, presents_end, presents_next, refuses_here}
-pub use Rattle.rasn_traits.specs.Scopes.{AnswersParts, reads_end, reads_left_out, reads_next, reads_required, reads_there}
+pub use Rattle.rasn_traits.specs.Scopes.{WrittenFields, presents_fields, refuses_root}
+pub use Rattle.rasn_traits.specs.Scopes.{AnswersParts, reads_end, reads_left_out, reads_next, reads_required}
+pub use Rattle.rasn_traits.specs.Scopes.{reads_there}
 pub use Rattle.rasn_traits.specs.Additions.{WritesAdditions, presents_no_more}
-pub use Rattle.rasn_traits.specs.AdditionsRead.{AnswersAdditions, ReadsAddition, ReadsAdditions, TakesAdditions, reads_further, reads_no_more}
-pub use Rattle.rasn_sets.specs.Components.{Gathers, gathers_end, gathers_gap, gathers_item, IsMade, ItemAnswered, StandsAt, stands_behind, stands_first}
+pub use Rattle.rasn_traits.specs.AdditionsRead.{AnswersAdditions, ReadsAddition, ReadsAdditions, TakesAdditions}
+pub use Rattle.rasn_traits.specs.AdditionsRead.{reads_further, reads_no_more}
+pub use Rattle.rasn_sets.specs.Components.{Gathers, gathers_end, gathers_gap, gathers_item, IsMade, ItemAnswered}
+pub use Rattle.rasn_sets.specs.Components.{StandsAt, stands_behind, stands_first}

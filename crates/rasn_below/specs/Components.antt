@@ -9,21 +9,21 @@ use Rattle.rasn_schema.specs.Forms.{is_size_marked, size_of}
 use Rattle.rasn_traits.specs.Moments.{date_at}
 use Rattle.rasn_sets.specs.Bags.{set_at, set_fits, set_levelled}
 use Rattle.rasn_useful.specs.Laws.Dates.{date_fits, date_levelled}
-pub use Rattle.rasn_schema.specs.Components.{Component, Chosen, chosen, chosen_behind, fields_of, parts_of, variants_in}
-pub use Rattle.rasn_schema.specs.Components.{fields_described}
+pub use Rattle.rasn_schema.specs.Components.{Component, TypeLists, Chosen, chosen, chosen_behind, fields_in, fields_of}
+pub use Rattle.rasn_schema.specs.Components.{added_parts, parts_of, root_parts, variants_listed}
 pub use Rattle.rasn_schema.specs.Components.{u8, u16, u32, u64, i8, i16, i32, i64, i128, big}
 pub use Rattle.rasn_schema.specs.Components.{any, ◌to◌, minus◌to◌, minus◌to_minus◌, from, from_minus, up_to}
 pub use Rattle.rasn_schema.specs.Components.{up_to_minus, size◌to◌, size_from, size_up_to, extensible, of_characters}
-pub use Rattle.rasn_schema.specs.Components.{universal, simple, at, under, automatic, automatic_from, optional, default}
+pub use Rattle.rasn_schema.specs.Components.{universal, simple, at, under, own_tags, automatic, automatic_from}
+pub use Rattle.rasn_schema.specs.Components.{extensible_own_tags, extensible_automatic, optional, default}
 pub use Rattle.rasn_schema.specs.Components.{boolean, null, integer, bit_string, octet_string, enumerated}
 pub use Rattle.rasn_schema.specs.Components.{extensible_enumerated}
 pub use Rattle.rasn_schema.specs.Components.{utf8_string, numeric_string, printable_string, ia5_string, visible_string}
 pub use Rattle.rasn_schema.specs.Components.{bmp_string}
-pub use Rattle.rasn_schema.specs.Components.{sequence, sequence_of, choice, extensible_choice}
+pub use Rattle.rasn_schema.specs.Components.{sequence, sequence_of, choice}
 pub use Rattle.rasn_schema.specs.Enumerations.{all_items, extensible_items}
 pub use Rattle.rasn_sets.specs.SetRecords.{set}
-pub use Rattle.rasn_additions.specs.ExtendedRecords.{extended_at, extended_by, extended_levelled, extended_sequence}
-pub use Rattle.rasn_additions.specs.ExtendedRecords.{group}
+pub use Rattle.rasn_additions.specs.Groups.{group}
 
 -- OBJECT IDENTIFIER (X.680 32)
 abbrev pub object_identifier : Component

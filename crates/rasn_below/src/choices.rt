@@ -1,7 +1,7 @@
 //! What an author's list of alternatives is handed to.
 //!
-//! The list is a macro of the author's file, which hands itself on. It has a line for each alternative, at most 48: its
-//! context-specific tag, its name, its variant and the type of the value in it, and its constraints in brackets. A
+//! The list is a macro of the author's file, which hands itself on. It has a line for each alternative, at most 32:
+//! its context-specific tag, its name, its variant and the type of the value in it, and its constraints in brackets. A
 //! variant without a value, which has no type, is NULL.
 //!
 //! ```text
@@ -16,7 +16,7 @@
 //! }
 //! ```
 //!
-//! Behind the marker `...;` stand the alternatives after it, at most 48 of them, or none:
+//! Behind the marker `...;` stand the alternatives after it, at most 32 of them, or none:
 //!
 //! ```text
 //! 0 "a" A: bool [];
@@ -24,32 +24,46 @@
 //! 1 "b" B: bool [];
 //! ```
 //!
-//! `variants`, `added_variants`, `tags_of_choice`, `alternative_bounds`, `added_alternative_bounds`,
-//! `encode_alternative` and `decode_alternative` are for authors. What the others write is part of these.
+//! `variants`, `tags_of_choice`, `alternative_bounds`, `encode_alternative` and `decode_alternative` are for authors.
+//! What the others write is part of these.
 
-/// The tags of the root alternatives of a list, as `Variants`.
+/// The tags of the alternatives of a list, as `VariantLists`.
 #[macro_export]
 macro_rules! variants {
     ([] $($tag:literal $name:literal $variant:ident $(: $type:ty [$($bounds:tt)*])?;)*) => {
-        $crate::Variants {
-            list: &[$($crate::TagTree::Leaf($crate::context_tag!($tag))),*],
+        $crate::VariantLists {
+            root: &[$($crate::TagTree::Leaf($crate::context_tag!($tag))),*],
+            added: None,
         }
     };
-    ([] $(
-        $tag:literal $name:literal $variant:ident $(: $type:ty [$($bounds:tt)*])?;
-    )* ...; $($behind:tt)*) => {
-        $crate::variants!([] $($tag $name $variant $(: $type [$($bounds)*])?;)*)
+    ([] $($tag:literal $name:literal $variant:ident $(: $type:ty [$($bounds:tt)*])?;)* ...; $(
+        $added_tag:literal $added_name:literal $added:ident $(: $added_type:ty [$($added_bounds:tt)*])?;
+    )*) => {
+        $crate::VariantLists {
+            root: &[$($crate::TagTree::Leaf($crate::context_tag!($tag))),*],
+            added: Some(&[$($crate::TagTree::Leaf($crate::context_tag!($added_tag))),*]),
+        }
     };
+    ([] $($list:tt)*) => { $crate::wrong_alternative!($($list)*) };
 }
 
-/// The tags of the alternatives of a list behind its marker, as `Option<Variants>`; none where there is no marker.
+/// Says which line of a list of alternatives is the first that isn't in its form.
 #[macro_export]
-macro_rules! added_variants {
-    ([] $($tag:literal $name:literal $variant:ident $(: $type:ty [$($bounds:tt)*])?;)*) => { None };
-    ([] $(
-        $tag:literal $name:literal $variant:ident $(: $type:ty [$($bounds:tt)*])?;
-    )* ...; $($behind:tt)*) => {
-        Some($crate::variants!([] $($behind)*))
+macro_rules! wrong_alternative {
+    () => { compile_error!("a list of alternatives has one marker `...;` at most") };
+    (...; $($rest:tt)*) => { $crate::wrong_alternative!($($rest)*) };
+    ($tag:literal $name:literal $variant:ident $(: $type:ty [$($bounds:tt)*])?; $($rest:tt)*) => {
+        $crate::wrong_alternative!($($rest)*)
+    };
+    ($tag:literal $name:literal $($rest:tt)*) => {
+        compile_error!(concat!(
+            "the line of `", $name, "` isn't `tag \"name\" Variant: Type [constraints];` or `tag \"name\" Variant;`"
+        ))
+    };
+    ($first:tt $($rest:tt)*) => {
+        compile_error!(concat!(
+            "a line is `tag \"name\" Variant: Type [constraints];`, where one begins with `", stringify!($first), "`"
+        ))
     };
 }
 
@@ -66,39 +80,48 @@ macro_rules! tags_of_choice {
     };
 }
 
-/// The constraints of the root alternatives of a list, as `&[&[Constraint]]`.
+/// The constraints of the alternatives of a list, as `Bounds`.
 #[macro_export]
 macro_rules! alternative_bounds {
-    ([] $($tag:literal $name:literal $variant:ident $(: $type:ty [$($bounds:tt)*])?;)*) => {
-        &[$($crate::constraints!($($($bounds)*)?)),*]
-    };
-    ([] $(
-        $tag:literal $name:literal $variant:ident $(: $type:ty [$($bounds:tt)*])?;
-    )* ...; $($behind:tt)*) => {
-        $crate::alternative_bounds!([] $($tag $name $variant $(: $type [$($bounds)*])?;)*)
-    };
+    ([] $($list:tt)*) => { $crate::alternative_bounds_in_turn!([] [] $($list)*) };
 }
 
-/// The constraints of the alternatives of a list behind its marker, as `&[&[Constraint]]`.
+/// The constraints of alternatives in turn, in the second brackets behind those that are done; in the first ones stand
+/// those before the marker, once it is passed.
 #[macro_export]
-macro_rules! added_alternative_bounds {
-    ([] $(
-        $tag:literal $name:literal $variant:ident $(: $type:ty [$($bounds:tt)*])?;
-    )* ...; $($behind:tt)*) => {
-        $crate::alternative_bounds!([] $($behind)*)
+macro_rules! alternative_bounds_in_turn {
+    ([] [$($done:tt)*]) => { $crate::Bounds { root: &[$($done)*], added: &[] } };
+    ([[$($root:tt)*]] [$($done:tt)*]) => { $crate::Bounds { root: &[$($root)*], added: &[$($done)*] } };
+    ([] $done:tt ...; $($rest:tt)*) => { $crate::alternative_bounds_in_turn!([$done] [] $($rest)*) };
+    ($root:tt [$($done:tt)*] $tag:literal $name:literal $variant:ident; $($rest:tt)*) => {
+        $crate::alternative_bounds_in_turn!($root [$($done)* &[],] $($rest)*)
     };
+    ($root:tt [$($done:tt)*]
+        $tag:literal $name:literal $variant:ident: $type:tt [$($bounds:tt)*]; $($rest:tt)*
+    ) => {
+        $crate::alternative_bounds_in_turn!($root [
+            $($done)* $crate::bounds_of_type!($name $type $($bounds)*),
+        ] $($rest)*)
+    };
+    ($root:tt [$($done:tt)*]
+        $tag:literal $name:literal $variant:ident: $type:ty [$($bounds:tt)*]; $($rest:tt)*
+    ) => {
+        $crate::alternative_bounds_in_turn!($root [
+            $($done)* $crate::before_default!($name [] $($bounds)*),
+        ] $($rest)*)
+    };
+    ($root:tt $done:tt $($list:tt)*) => { $crate::wrong_alternative!($($list)*) };
 }
 
-/// Writes the alternative of a list that is chosen. The constraints of the root alternatives are in the constant
-/// `BOUNDS`, and those behind the marker in `ADDED_BOUNDS`.
+/// Writes the alternative of a list that is chosen. Their constraints are in the constant `BOUNDS`.
 #[macro_export]
 macro_rules! encode_alternative {
     ([$of:ident $encoder:ident] $($list:tt)*) => {
-        $crate::with_places!(alternatives_to_write write BOUNDS [$of $encoder]; $($list)*)
+        $crate::with_places!(alternatives_to_write write root [$of $encoder]; $($list)*)
     };
 }
 
-/// Reads the alternative of a list that goes by a tag. The constants are those of `encode_alternative`.
+/// Reads the alternative of a list that goes by a tag. Their constraints are in the constant `BOUNDS`.
 #[macro_export]
 macro_rules! decode_alternative {
     ([$decoder:ident $by:ident] $(
@@ -109,7 +132,7 @@ macro_rules! decode_alternative {
         )
     };
     ([$decoder:ident $by:ident] $($list:tt)*) => {
-        $crate::with_places!(marked_alternatives_to_read Root BOUNDS [$decoder $by]; $($list)*)
+        $crate::with_places!(marked_alternatives_to_read Root root [$decoder $by]; $($list)*)
     };
 }
 
@@ -120,7 +143,7 @@ macro_rules! alternatives_to_write {
         match $of { $($done)* }
     };
     ($places:tt $write:ident $limits:ident $done:tt; ...; $($rest:tt)*) => {
-        $crate::with_places!(alternatives_to_write write_behind ADDED_BOUNDS $done; $($rest)*)
+        $crate::with_places!(alternatives_to_write write_behind added $done; $($rest)*)
     };
     ([$place:literal $($places:tt)*] $write:ident $limits:ident [$of:ident $encoder:ident $($done:tt)*];
         $tag:literal $name:literal $variant:ident; $($rest:tt)*
@@ -128,7 +151,7 @@ macro_rules! alternatives_to_write {
         $crate::alternatives_to_write!([$($places)*] $write $limits [$of $encoder
             $($done)*
             Self::$variant => $crate::alternatives::$write(
-                $of, $place, $crate::context_tag!($tag), $limits[$place], &(), $encoder,
+                $of, $place, $crate::context_tag!($tag), BOUNDS.$limits[$place], &(), $encoder,
             ),
         ]; $($rest)*)
     };
@@ -138,7 +161,7 @@ macro_rules! alternatives_to_write {
         $crate::alternatives_to_write!([$($places)*] $write $limits [$of $encoder
             $($done)*
             Self::$variant(value) => $crate::alternatives::$write::<Self, $type, _>(
-                $of, $place, $crate::context_tag!($tag), $limits[$place], value, $encoder,
+                $of, $place, $crate::context_tag!($tag), BOUNDS.$limits[$place], value, $encoder,
             ),
         ]; $($rest)*)
     };
@@ -150,9 +173,9 @@ macro_rules! alternatives_to_read {
     ([$place:literal $($places:tt)*] [$decoder:ident $by:ident $($done:tt)*];
         $tag:literal $name:literal $variant:ident $(: $type:ty [$($bounds:tt)*])?;
     ) => {
-        match Self::ALTERNATIVES.index_of($by) {
+        match <Self as $crate::schema::Choice>::VARIANTS.index_of($by) {
             $($done)*
-            _ => $crate::alternative_to_read!($decoder $by BOUNDS $place $variant $($type)?),
+            _ => $crate::alternative_to_read!($decoder $by root $place $variant $($type)?),
         }
     };
     ([$place:literal $($places:tt)*] [$decoder:ident $by:ident $($done:tt)*];
@@ -160,7 +183,7 @@ macro_rules! alternatives_to_read {
     ) => {
         $crate::alternatives_to_read!([$($places)*] [$decoder $by
             $($done)*
-            Some($place) => $crate::alternative_to_read!($decoder $by BOUNDS $place $variant $($type)?),
+            Some($place) => $crate::alternative_to_read!($decoder $by root $place $variant $($type)?),
         ]; $($rest)+)
     };
 }
@@ -171,8 +194,8 @@ macro_rules! marked_alternatives_to_read {
     ([$place:literal $($places:tt)*] $side:ident $limits:ident [$decoder:ident $by:ident $($done:tt)*];
         $tag:literal $name:literal $variant:ident $(: $type:ty [$($bounds:tt)*])?;
     ) => {{
-        let added = Self::ADDED_ALTERNATIVES;
-        match Self::ALTERNATIVES.place_of(&added, $by) {
+        let added = <Self as $crate::schema::Choice>::EXTENDED_VARIANTS;
+        match <Self as $crate::schema::Choice>::VARIANTS.place_of(&added, $by) {
             $($done)*
             _ => $crate::alternative_to_read!($decoder $by $limits $place $variant $($type)?),
         }
@@ -185,7 +208,7 @@ macro_rules! marked_alternatives_to_read {
         )
     };
     ($places:tt $side:ident $limits:ident $done:tt; ...; $($rest:tt)+) => {
-        $crate::with_places!(marked_alternatives_to_read Added ADDED_BOUNDS $done; $($rest)+)
+        $crate::with_places!(marked_alternatives_to_read Added added $done; $($rest)+)
     };
     ([$place:literal $($places:tt)*] $side:ident $limits:ident [$decoder:ident $by:ident $($done:tt)*];
         $tag:literal $name:literal $variant:ident $(: $type:ty [$($bounds:tt)*])?; $($rest:tt)+
@@ -199,15 +222,15 @@ macro_rules! marked_alternatives_to_read {
     };
 }
 
-/// The alternative at a place, to read. The constraints of its list are in a constant of this name.
+/// The alternative at a place, to read. The constraints of its list are those of this name.
 #[macro_export]
 macro_rules! alternative_to_read {
     ($decoder:ident $by:ident $limits:ident $place:literal $variant:ident) => {{
-        $crate::alternatives::read::<(), _>($decoder, $by, $limits[$place])?;
+        $crate::alternatives::read::<(), _>($decoder, $by, BOUNDS.$limits[$place])?;
         Ok(Self::$variant)
     }};
     ($decoder:ident $by:ident $limits:ident $place:literal $variant:ident $type:ty) => {{
-        let value = $crate::alternatives::read::<$type, _>($decoder, $by, $limits[$place])?;
+        let value = $crate::alternatives::read::<$type, _>($decoder, $by, BOUNDS.$limits[$place])?;
         Ok(Self::$variant(value))
     }};
 }

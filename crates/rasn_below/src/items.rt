@@ -1,7 +1,7 @@
 //! What an author's list of items is handed to.
 //!
 //! The list is a macro of the author's file, which hands itself on. It has the variants of the type in the order of the
-//! items (X.680 20), at most 48: those before the extension marker, and behind `...` those after it.
+//! items (X.680 20), at most 256 on either side: those before the extension marker, and behind `...` those after it.
 //!
 //! ```text
 //! macro_rules! items {
@@ -22,6 +22,20 @@ macro_rules! item_counts {
             roots: 0 $(+ $crate::one!($root))*,
             addeds: Some(0 $(+ $crate::one!($added))*),
         }
+    };
+    ([] $($list:tt)*) => { $crate::wrong_item!($($list)*) };
+}
+
+/// Says which line of a list of items is the first that isn't in its form.
+#[macro_export]
+macro_rules! wrong_item {
+    () => { compile_error!("a list of items has one marker `...;` at most") };
+    (...; $($rest:tt)*) => { $crate::wrong_item!($($rest)*) };
+    ($item:ident; $($rest:tt)*) => { $crate::wrong_item!($($rest)*) };
+    ($first:tt $($rest:tt)*) => {
+        compile_error!(concat!(
+            "a line of items is `Variant;` or `...;`, where one begins with `", stringify!($first), "`"
+        ))
     };
 }
 
@@ -50,6 +64,17 @@ macro_rules! placed_items {
     ($places:tt $side:ident $done:tt; ...; $($rest:tt)*) => {
         $crate::with_places!(placed_items Added $done; $($rest)*)
     };
+    ([$a:literal $b:literal $c:literal $d:literal $($places:tt)*] $side:ident [$($done:tt)*];
+        $first:ident; $second:ident; $third:ident; $fourth:ident; $($rest:tt)*
+    ) => {
+        $crate::placed_items!([$($places)*] $side [
+            $($done)*
+            Self::$first => $crate::Place::$side($a),
+            Self::$second => $crate::Place::$side($b),
+            Self::$third => $crate::Place::$side($c),
+            Self::$fourth => $crate::Place::$side($d),
+        ]; $($rest)*)
+    };
     ([$place:literal $($places:tt)*] $side:ident [$($done:tt)*]; $item:ident; $($rest:tt)*) => {
         $crate::placed_items!([$($places)*] $side [
             $($done)* Self::$item => $crate::Place::$side($place),
@@ -63,6 +88,17 @@ macro_rules! items_placed {
     ($places:tt $side:ident [$of:ident $($done:tt)*];) => { match $of { $($done)* _ => None } };
     ($places:tt $side:ident $done:tt; ...; $($rest:tt)*) => {
         $crate::with_places!(items_placed Added $done; $($rest)*)
+    };
+    ([$a:literal $b:literal $c:literal $d:literal $($places:tt)*] $side:ident [$($done:tt)*];
+        $first:ident; $second:ident; $third:ident; $fourth:ident; $($rest:tt)*
+    ) => {
+        $crate::items_placed!([$($places)*] $side [
+            $($done)*
+            $crate::Place::$side($a) => Some(Self::$first),
+            $crate::Place::$side($b) => Some(Self::$second),
+            $crate::Place::$side($c) => Some(Self::$third),
+            $crate::Place::$side($d) => Some(Self::$fourth),
+        ]; $($rest)*)
     };
     ([$place:literal $($places:tt)*] $side:ident [$($done:tt)*]; $item:ident; $($rest:tt)*) => {
         $crate::items_placed!([$($places)*] $side [

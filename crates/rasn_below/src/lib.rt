@@ -6,27 +6,33 @@
 pub mod ber;
 mod choices;
 pub mod codec;
-mod extended;
 mod items;
 mod macros;
+pub mod page;
+pub mod recursive;
+mod recursive_lists;
 pub mod schema;
 mod sets;
 pub mod types;
 
-pub use rasn_additions::extended::{Extended, ExtendedKind};
 pub use rasn_additions::{added, additions};
 pub use rasn_codec::alternatives::CodedAlternatives;
 pub use rasn_codec::codec::{Decode, Decoder, Encode, Encoder};
 pub use rasn_codec::kinds::ByKind;
-pub use rasn_codec::record::Record;
+pub use rasn_codec::record::{Bounds, Record};
+pub use rasn_defaults::DefaultOf;
+pub use rasn_defaults::items::Item;
+pub use rasn_defaults::lists::EmptyList;
+pub use rasn_defaults::octets::Octets;
+pub use rasn_defaults::texts::{Text, Utf8Text};
 pub use rasn_record::{alternatives, cells, components, fours, read, sixteen, write};
 pub use rasn_schema::alternatives::{Alternatives, ChoiceKind};
-pub use rasn_schema::choices::Variants;
+pub use rasn_schema::choices::{VariantLists, Variants};
 pub use rasn_schema::components::Components;
 pub use rasn_schema::constrained::{Constrained, Limits};
 pub use rasn_schema::constraints::{Bounded, Constraint, Extensible};
 pub use rasn_schema::fields::{
-    AdditionGroup, Constructed, Field, Fields, Presence, TagTree, TypeTree,
+    AdditionGroup, Constructed, Field, FieldLists, Fields, Presence, TagTree, TypeTree,
 };
 pub use rasn_schema::items::{EnumeratedKind, ItemCounts, Items, Place};
 pub use rasn_schema::kinds::OfKind;

@@ -1,8 +1,8 @@
 //! What an author's list of components is handed to.
 //!
-//! The list is a macro of the author's file, which hands itself on. It has a line for each component, at most 48:
+//! The list is a macro of the author's file, which hands itself on. It has a line for each component, at most 40:
 //! whether it may be absent, its context-specific tag, its name, its field and the field's type, and its constraints in
-//! brackets.
+//! brackets, behind which a default stands.
 //!
 //! ```text
 //! macro_rules! components {
@@ -21,58 +21,182 @@
 //! A component that is an untagged choice has the smallest of its tags, and behind `of` a constant of all of them, as
 //! `tags_of_choice` gives it: `required 0 of AREA_TAGS "area" area: ActionArea [];`.
 //!
+//! Behind a marker `...;` stand the additions, at most 40, in the order of the type: `required`, `optional` and
+//! `default` as before it, and `group` for an addition group, whose field is an `Option` of its SEQUENCE and whose
+//! brackets are empty.
+//!
+//! ```text
+//! required 0 "first" first: bool [];
+//! ...;
+//! group 1 "group" group: Option<Group> [];
+//! optional 2 "after" after: Option<OctetString> [SIZE 3..=3];
+//! ```
+//!
 //! `fields`, `bounds`, `constraints`, `encode_components` and `decode_components` are for authors, and so are
 //! `encode_each_component` and `decode_each_component`, by which a mistake is found. What the others write is part of
 //! these.
 
-/// The fields of a list of components, as `Fields`.
+/// The fields of a list of components, as `FieldLists`.
 #[macro_export]
 macro_rules! fields {
     ([] $(
         $presence:ident $tag:literal $(of $tree:ident)? $name:literal
         $field:ident: $type:ty [$($bounds:tt)*];
     )*) => {
-        $crate::with_places!(placed_fields []; $([$presence $tag $($tree)?; $name])*)
+        $crate::FieldLists {
+            root: $crate::with_places!(placed_fields []; $([$presence $tag $($tree)?; $name])*),
+            added: None,
+        }
     };
-}
-
-/// The constraints of a list of components, as `&[&[Constraint]]`.
-#[macro_export]
-macro_rules! bounds {
     ([] $(
         $presence:ident $tag:literal $(of $tree:ident)? $name:literal
         $field:ident: $type:ty [$($bounds:tt)*];
+    )* ...; $(
+        $added:ident $added_tag:literal $added_name:literal
+        $added_field:ident: $added_type:ty [$($added_bounds:tt)*];
     )*) => {
-        &[$($crate::constraints!($($bounds)*)),*]
+        $crate::FieldLists {
+            root: $crate::with_places!(placed_fields []; $([$presence $tag $($tree)?; $name])*),
+            added: Some($crate::with_places!(placed_fields []; $([$added $added_tag; $added_name])*)),
+        }
+    };
+    ([] $($list:tt)*) => { $crate::wrong_line!($($list)*) };
+}
+
+/// Says which line of a list of components is the first that isn't in its form.
+#[macro_export]
+macro_rules! wrong_line {
+    () => { compile_error!("a list has one marker `...;` at most, and no `of` behind it") };
+    (...; $($rest:tt)*) => { $crate::wrong_line!($($rest)*) };
+    ($presence:ident $tag:literal $(of $tree:ident)? $name:literal
+        $field:ident: $type:ty [$($bounds:tt)*]; $($rest:tt)*
+    ) => { $crate::wrong_line!($($rest)*) };
+    ($presence:ident $tag:literal $(of $tree:ident)? $name:literal $($rest:tt)*) => {
+        compile_error!(concat!(
+            "the line of `", $name, "` isn't `presence tag \"name\" field: Type [constraints];`"
+        ))
+    };
+    ($first:tt $($rest:tt)*) => {
+        compile_error!(concat!(
+            "a line is `presence tag \"name\" field: Type [constraints];`, where one begins with `",
+            stringify!($first), "`"
+        ))
     };
 }
 
-/// The constraints in brackets, as `&[Constraint]`: none; the bounds of a value (X.680 51.4); SIZE and the bounds of a
-/// size (X.680 51.5); FROM and a constant of characters (X.680 51.7), alone or before a size.
+/// The constraints of a list of components, as `Bounds`.
+#[macro_export]
+macro_rules! bounds {
+    ([] $($list:tt)*) => { $crate::bounds_in_turn!([] [] $($list)*) };
+}
+
+/// The constraints of components in turn, in the second brackets behind those that are done; in the first ones stand
+/// those before the marker, once it is passed.
+#[macro_export]
+macro_rules! bounds_in_turn {
+    ([] [$($done:tt)*]) => { $crate::Bounds { root: &[$($done)*], added: &[] } };
+    ([[$($root:tt)*]] [$($done:tt)*]) => { $crate::Bounds { root: &[$($root)*], added: &[$($done)*] } };
+    ([] $done:tt ...; $($rest:tt)*) => { $crate::bounds_in_turn!([$done] [] $($rest)*) };
+    ($root:tt [$($done:tt)*]
+        $presence:ident $tag:literal $(of $tree:ident)? $name:literal
+        $field:ident: $type:tt [$($bounds:tt)*]; $($rest:tt)*
+    ) => {
+        $crate::bounds_in_turn!($root [$($done)* $crate::bounds_of_type!($name $type $($bounds)*),] $($rest)*)
+    };
+    ($root:tt [$($done:tt)*]
+        $presence:ident $tag:literal $(of $tree:ident)? $name:literal
+        $field:ident: Option<$type:tt> [$($bounds:tt)*]; $($rest:tt)*
+    ) => {
+        $crate::bounds_in_turn!($root [$($done)* $crate::bounds_of_type!($name $type $($bounds)*),] $($rest)*)
+    };
+    ($root:tt [$($done:tt)*]
+        $presence:ident $tag:literal $(of $tree:ident)? $name:literal
+        $field:ident: $type:ty [$($bounds:tt)*]; $($rest:tt)*
+    ) => {
+        $crate::bounds_in_turn!($root [$($done)* $crate::before_default!($name [] $($bounds)*),] $($rest)*)
+    };
+    ($root:tt $done:tt $($list:tt)*) => { $crate::wrong_line!($($list)*) };
+}
+
+/// The constraints in the brackets of this name, of a type. Behind an extension marker a number may be any, so a number
+/// type of the machine has none.
+#[macro_export]
+macro_rules! bounds_of_type {
+    ($name:literal u8 $($bounds:tt)*) => { $crate::unmarked_bounds!($name [] $($bounds)*) };
+    ($name:literal u16 $($bounds:tt)*) => { $crate::unmarked_bounds!($name [] $($bounds)*) };
+    ($name:literal u32 $($bounds:tt)*) => { $crate::unmarked_bounds!($name [] $($bounds)*) };
+    ($name:literal u64 $($bounds:tt)*) => { $crate::unmarked_bounds!($name [] $($bounds)*) };
+    ($name:literal i8 $($bounds:tt)*) => { $crate::unmarked_bounds!($name [] $($bounds)*) };
+    ($name:literal i16 $($bounds:tt)*) => { $crate::unmarked_bounds!($name [] $($bounds)*) };
+    ($name:literal i32 $($bounds:tt)*) => { $crate::unmarked_bounds!($name [] $($bounds)*) };
+    ($name:literal i64 $($bounds:tt)*) => { $crate::unmarked_bounds!($name [] $($bounds)*) };
+    ($name:literal i128 $($bounds:tt)*) => { $crate::unmarked_bounds!($name [] $($bounds)*) };
+    ($name:literal $type:tt $($bounds:tt)*) => { $crate::before_default!($name [] $($bounds)*) };
+}
+
+/// The constraints in the brackets of this name, which have no extension marker, behind what is done of them.
+#[macro_export]
+macro_rules! unmarked_bounds {
+    ($name:literal [$($done:tt)*]) => { $crate::before_default!($name [] $($done)*) };
+    ($name:literal [$($done:tt)*], ... $($rest:tt)*) => {
+        compile_error!(concat!(
+            "`", $name, "` has an extension marker, so a newer peer may send any number: its type is `Integer`"
+        ))
+    };
+    ($name:literal [$($done:tt)*] $next:tt $($rest:tt)*) => {
+        $crate::unmarked_bounds!($name [$($done)* $next] $($rest)*)
+    };
+}
+
+/// The constraints in brackets, as `&[Constraint]`: none; the bounds of a value (X.680 51.2, 51.4); SIZE and the bounds
+/// of a size (X.680 51.5), and FROM and a constant of characters (X.680 51.7), alone or both.
 #[macro_export]
 macro_rules! constraints {
-    () => { &[] };
-    (FROM $alphabet:ident) => { &[$crate::permitted!($alphabet)] };
-    (FROM $alphabet:ident, SIZE $($bounds:tt)+) => {
-        &[$crate::permitted!($alphabet), $crate::Constraint::Size($crate::bounded!($($bounds)+))]
-    };
-    (SIZE $($bounds:tt)+) => { &[$crate::Constraint::Size($crate::bounded!($($bounds)+))] };
-    (DEFAULT $default:expr) => { &[] };
-    ($low:literal ..= $high:literal $(, $mark:tt)? DEFAULT $default:expr) => {
-        $crate::constraints!($low ..= $high $(, $mark)?)
-    };
-    ($low:literal .. $(, $mark:tt)? DEFAULT $default:expr) => { $crate::constraints!($low .. $(, $mark)?) };
-    (..= $high:literal $(, $mark:tt)? DEFAULT $default:expr) => { $crate::constraints!(..= $high $(, $mark)?) };
-    ($($bounds:tt)+) => { &[$crate::Constraint::Value($crate::bounded!($($bounds)+))] };
+    ($($constraints:tt)*) => { $crate::before_default!("constraints" [] $($constraints)*) };
 }
 
-/// The default behind the bounds of a component.
+/// The constraints in the brackets of this name, before a default, behind those that are done.
+#[macro_export]
+macro_rules! before_default {
+    ($name:literal [$($done:tt)*]) => { $crate::constraint_list!($name $($done)*) };
+    ($name:literal [$($done:tt)*] DEFAULT $($default:tt)+) => { $crate::constraint_list!($name $($done)*) };
+    ($name:literal [$($done:tt)*] $next:tt $($rest:tt)*) => {
+        $crate::before_default!($name [$($done)* $next] $($rest)*)
+    };
+}
+
+/// The constraints in the brackets of this name, which have no default.
+#[macro_export]
+macro_rules! constraint_list {
+    ($name:literal) => { &[] };
+    ($name:literal RECURSIVE) => { &[] };
+    ($name:literal RECURSIVE, $($bounds:tt)+) => { $crate::constraint_list!($name $($bounds)+) };
+    ($name:literal FROM $alphabet:ident) => { &[$crate::permitted!($alphabet)] };
+    ($name:literal FROM $alphabet:ident, SIZE $($size:tt)+) => {
+        &[$crate::permitted!($alphabet), $crate::Constraint::Size($crate::bounded!($name $($size)+))]
+    };
+    ($name:literal SIZE $($size:tt)+) => { $crate::size_first!($name [] $($size)+) };
+    ($name:literal $($bounds:tt)+) => { &[$crate::Constraint::Value($crate::bounded!($name $($bounds)+))] };
+}
+
+/// A size, alone or before a permitted alphabet, behind what is done of it.
+#[macro_export]
+macro_rules! size_first {
+    ($name:literal [$($size:tt)+]) => { &[$crate::Constraint::Size($crate::bounded!($name $($size)+))] };
+    ($name:literal [$($size:tt)+], FROM $alphabet:ident) => {
+        &[$crate::Constraint::Size($crate::bounded!($name $($size)+)), $crate::permitted!($alphabet)]
+    };
+    ($name:literal [$($size:tt)*] $next:tt $($rest:tt)*) => {
+        $crate::size_first!($name [$($size)* $next] $($rest)*)
+    };
+}
+
+/// The default behind the constraints of a component.
 #[macro_export]
 macro_rules! default_of {
+    () => { compile_error!("a component that is `default` has `DEFAULT value` in its brackets") };
     (DEFAULT $default:expr) => { $default };
-    ($low:literal ..= $high:literal $(, $mark:tt)? DEFAULT $default:expr) => { $default };
-    ($low:literal .. $(, $mark:tt)? DEFAULT $default:expr) => { $default };
-    (..= $high:literal $(, $mark:tt)? DEFAULT $default:expr) => { $default };
+    ($next:tt $($rest:tt)*) => { $crate::default_of!($($rest)*) };
 }
 
 /// The permitted alphabet of a constant of characters, `&[u32]` in ascending order.
@@ -86,19 +210,30 @@ macro_rules! permitted {
     };
 }
 
-/// Bounds: `low..=high`, `low..` or `..=high`, each with `, ...` where they are extensible (X.680 52).
+/// Bounds in the brackets of this name: `low..=high`, `low..`, `..=high` or `value`, each with `, ...` where they are
+/// extensible (X.680 52). MIN and MAX stand for no bound.
 #[macro_export]
 macro_rules! bounded {
-    ($low:literal ..= $high:literal $(, $mark:tt)?) => {
+    ($name:literal MIN ..= MAX $(, $mark:tt)?) => { $crate::bounded!(@ None, None, $($mark)?) };
+    ($name:literal MIN ..= $high:literal $(, $mark:tt)?) => { $crate::bounded!(@ None, Some($high), $($mark)?) };
+    ($name:literal $low:literal ..= MAX $(, $mark:tt)?) => { $crate::bounded!(@ Some($low), None, $($mark)?) };
+    ($name:literal $low:literal ..= $high:literal $(, $mark:tt)?) => {
         $crate::bounded!(@ Some($low), Some($high), $($mark)?)
     };
-    ($low:literal .. $(, $mark:tt)?) => { $crate::bounded!(@ Some($low), None, $($mark)?) };
-    (..= $high:literal $(, $mark:tt)?) => { $crate::bounded!(@ None, Some($high), $($mark)?) };
+    ($name:literal $low:literal .. $(, $mark:tt)?) => { $crate::bounded!(@ Some($low), None, $($mark)?) };
+    ($name:literal ..= $high:literal $(, $mark:tt)?) => { $crate::bounded!(@ None, Some($high), $($mark)?) };
+    ($name:literal $only:literal $(, $mark:tt)?) => { $crate::bounded!(@ Some($only), Some($only), $($mark)?) };
     (@ $low:expr, $high:expr, $($mark:tt)?) => {
         $crate::Extensible {
             constraint: $crate::Bounded::Range { start: $low, end: $high },
             extensible: $crate::is_marked!($($mark)?),
         }
+    };
+    ($name:literal $($other:tt)*) => {
+        compile_error!(concat!(
+            "the bounds of `", $name, "` are `low..=high`, `low..`, `..=high` or `value`, not `",
+            stringify!($($other)*), "`"
+        ))
     };
 }
 
@@ -109,8 +244,8 @@ macro_rules! is_marked {
     (...) => { true };
 }
 
-/// Writes the components of a list in turn. Their fields are those that the record states as its `COMPONENTS`, their
-/// constraints are in the constant `BOUNDS`.
+/// Writes the components of a list in turn, and then gives its additions. Their fields are those that the record states
+/// as its `COMPONENTS`, their constraints are in the constant `BOUNDS`.
 #[macro_export]
 macro_rules! encode_components {
     ([$of:ident $encoder:ident] $(
@@ -118,6 +253,23 @@ macro_rules! encode_components {
         $field:ident: $type:ty [$($bounds:tt)*];
     )*) => {
         $crate::write_components!([$of $encoder] $([$presence $field [$($bounds)*]])*)
+    };
+    ([$of:ident $encoder:ident] $(
+        $presence:ident $tag:literal $(of $tree:ident)? $name:literal
+        $field:ident: $type:ty [$($bounds:tt)*];
+    )* ...;) => {
+        $crate::write_components!([$of $encoder] $([$presence $field [$($bounds)*]])*)
+    };
+    ([$of:ident $encoder:ident] $(
+        $presence:ident $tag:literal $(of $tree:ident)? $name:literal
+        $field:ident: $type:ty [$($bounds:tt)*];
+    )* ...; $($behind:tt)*) => {
+        $crate::write::all(
+            $of,
+            &$crate::of_record!($crate::components_to_write!($of $([$presence $field [$($bounds)*]])*)),
+            &$crate::added_to!($crate::additions_to_write!($of $($behind)*)),
+            $encoder,
+        )
     };
 }
 
@@ -127,7 +279,11 @@ macro_rules! encode_record {
     ([$of:ident $encoder:ident $tag:ident $identifier:ident] $($list:tt)*) => {
         $encoder.encode_record::<Self, _, _, _>(
             $tag,
-            &$crate::listed!($crate::cells_to_write!($of $($list)*)),
+            &$crate::cells::Listed {
+                fields: FIELDS.root,
+                constraints: BOUNDS.root,
+                cells: $crate::cells_to_write!($of $($list)*),
+            },
             &$crate::NoAdditions,
             $identifier,
         )
@@ -144,8 +300,8 @@ macro_rules! encode_each_component {
     }};
 }
 
-/// Reads the components of a list in turn. Their fields are those that the record states as its `COMPONENTS`, their
-/// constraints are in the constant `BOUNDS`.
+/// Reads the components of a list in turn, and then its additions. Their fields are those that the record states as its
+/// `COMPONENTS`, their constraints are in the constant `BOUNDS`.
 #[macro_export]
 macro_rules! decode_components {
     ([$decoder:ident] $(
@@ -154,6 +310,19 @@ macro_rules! decode_components {
     )*) => {
         $crate::read_components!([$decoder] $([$presence $field [$type] [$($bounds)*]])*)
     };
+    ([$decoder:ident] $(
+        $presence:ident $tag:literal $(of $tree:ident)? $name:literal
+        $field:ident: $type:ty [$($bounds:tt)*];
+    )* ...; $(
+        $added:ident $added_tag:literal $added_name:literal
+        $added_field:ident: $added_type:ty [$($added_bounds:tt)*];
+    )*) => {{
+        let root = $crate::cells_to_read!($($presence $type [$($bounds)*];)*);
+        let behind = $crate::added_to!($crate::additions_to_read!($($added $added_type [$($added_bounds)*];)*));
+        let ($crate::fours!($($field)*), $crate::pairs!($($added_field)*)) =
+            $crate::read::all::<Self, _, _, _>(&root, BOUNDS.root, &behind, $decoder)?;
+        Ok(Self { $($field,)* $($added_field,)* })
+    }};
 }
 
 /// Reads the components of a list as `decode_components` does, each also stated by itself: put it in the place of
@@ -176,6 +345,15 @@ macro_rules! with_places {
         $crate::$name!([
             0 1 2 3 4 5 6 7 8 9 10 11 12 13 14 15 16 17 18 19 20 21 22 23
             24 25 26 27 28 29 30 31 32 33 34 35 36 37 38 39 40 41 42 43 44 45 46 47
+            48 49 50 51 52 53 54 55 56 57 58 59 60 61 62 63 64 65 66 67 68 69 70 71
+            72 73 74 75 76 77 78 79 80 81 82 83 84 85 86 87 88 89 90 91 92 93 94 95
+            96 97 98 99 100 101 102 103 104 105 106 107 108 109 110 111 112 113 114 115 116 117 118 119
+            120 121 122 123 124 125 126 127 128 129 130 131 132 133 134 135 136 137 138 139 140 141 142 143
+            144 145 146 147 148 149 150 151 152 153 154 155 156 157 158 159 160 161 162 163 164 165 166 167
+            168 169 170 171 172 173 174 175 176 177 178 179 180 181 182 183 184 185 186 187 188 189 190 191
+            192 193 194 195 196 197 198 199 200 201 202 203 204 205 206 207 208 209 210 211 212 213 214 215
+            216 217 218 219 220 221 222 223 224 225 226 227 228 229 230 231 232 233 234 235 236 237 238 239
+            240 241 242 243 244 245 246 247 248 249 250 251 252 253 254 255
         ] $($arguments)*)
     };
 }
@@ -205,36 +383,35 @@ macro_rules! presence {
     (optional) => { $crate::Presence::Optional };
     (default) => { $crate::Presence::Default };
     (group) => { $crate::Presence::Optional };
+    ($other:ident) => {
+        compile_error!(concat!(
+            "a component is `required`, `optional`, `default` or, behind `...;`, `group`, not `",
+            stringify!($other), "`"
+        ))
+    };
 }
 
 /// The fields of components at their places, behind those that are done.
 #[macro_export]
 macro_rules! placed_fields {
     ($places:tt [$([$place:literal $presence:ident $tag:literal $($tree:ident)?; $name:literal])*];) => {
-        $crate::Fields {
-            list: &[$($crate::Field {
-                index: $place,
-                tag: $crate::context_tag!($tag),
-                tag_tree: $crate::tag_tree!($tag $($tree)?),
-                presence: $crate::presence!($presence),
-                name: $name,
-            }),*],
-        }
+        &[$($crate::Field {
+            index: $place,
+            tag: $crate::context_tag!($tag),
+            tag_tree: $crate::tag_tree!($tag $($tree)?),
+            presence: $crate::presence!($presence),
+            name: $name,
+        }),*]
+    };
+    ([$a:literal $b:literal $c:literal $d:literal $($places:tt)*] [$($done:tt)*];
+        [$($first:tt)*] [$($second:tt)*] [$($third:tt)*] [$($fourth:tt)*] $($rest:tt)*
+    ) => {
+        $crate::placed_fields!([$($places)*] [
+            $($done)* [$a $($first)*] [$b $($second)*] [$c $($third)*] [$d $($fourth)*]
+        ]; $($rest)*)
     };
     ([$place:literal $($places:tt)*] [$($done:tt)*]; [$($field:tt)*] $($rest:tt)*) => {
         $crate::placed_fields!([$($places)*] [$($done)* [$place $($field)*]]; $($rest)*)
-    };
-}
-
-/// Cells with the lists that state them.
-#[macro_export]
-macro_rules! listed {
-    ($cells:expr) => {
-        $crate::cells::Listed {
-            fields: FIELDS.list,
-            constraints: BOUNDS,
-            cells: $cells,
-        }
     };
 }
 
@@ -244,7 +421,19 @@ macro_rules! of_record {
     ($cells:expr) => {
         $crate::cells::OfRecord {
             of: std::marker::PhantomData::<Self>,
-            constraints: BOUNDS,
+            constraints: BOUNDS.root,
+            cells: $cells,
+        }
+    };
+}
+
+/// Cells of additions of a record, whose fields are its own, with the list of their constraints.
+#[macro_export]
+macro_rules! added_to {
+    ($cells:expr) => {
+        $crate::added::AddedTo {
+            of: std::marker::PhantomData::<Self>,
+            constraints: BOUNDS.added,
             cells: $cells,
         }
     };
@@ -268,12 +457,16 @@ macro_rules! write_components {
             &$of.$a, &$of.$b, &$of.$c, &$of.$d, &$of.$e, &$of.$f, &$of.$g, &$of.$h,
             &$of.$i, &$of.$j, &$of.$k, &$of.$l, &$of.$m, &$of.$n, &$of.$o, &$of.$p,
             &$crate::components_to_write!($of $($rest)*),
-            &$crate::cells::Bounds { list: BOUNDS },
+            &BOUNDS,
             $encoder,
         )
     };
     ([$of:ident $encoder:ident] $($list:tt)*) => {
-        $crate::write::all($of, &$crate::of_record!($crate::components_to_write!($of $($list)*)), $encoder)
+        $crate::write::plain(
+            $of,
+            &$crate::of_record!($crate::components_to_write!($of $($list)*)),
+            $encoder,
+        )
     };
 }
 
@@ -312,7 +505,7 @@ macro_rules! read_components {
     };
     ([$decoder:ident] $([$presence:ident $field:ident [$type:ty] $bounds:tt])*) => {{
         let cells = $crate::cells_to_read!($($presence $type $bounds;)*);
-        let $crate::fours!($($field)*) = $crate::read::all::<Self, _, _>(&cells, BOUNDS, $decoder)?;
+        let $crate::fours!($($field)*) = $crate::read::plain::<Self, _, _>(cells, BOUNDS, $decoder)?;
         Ok(Self { $($field),* })
     }};
 }
@@ -503,6 +696,7 @@ macro_rules! component {
 #[macro_export]
 macro_rules! stated_to_write {
     ($places:tt [$of:ident];) => { () };
+    ($places:tt [$of:ident]; ...; $($behind:tt)*) => { () };
     ([$place:literal $($places:tt)*] [$of:ident];
         optional $tag:literal $(of $tree:ident)? $name:literal $field:ident: $type:ty [$($bounds:tt)*]; $($rest:tt)*
     ) => { $crate::stated_to_write!([$($places)*] [$of]; $($rest)*) };
@@ -513,7 +707,7 @@ macro_rules! stated_to_write {
         $presence:ident $tag:literal $(of $tree:ident)? $name:literal
         $field:ident: $type:ty [$($bounds:tt)*]; $($rest:tt)*
     ) => {{
-        let $field = $crate::write::component::<Self, $type>($of, $place, $tag, BOUNDS, &$of.$field);
+        let $field = $crate::write::component::<Self, $type>($of, $place, $tag, BOUNDS.root, &$of.$field);
         let _ = $field;
         $crate::stated_to_write!([$($places)*] [$of]; $($rest)*)
     }};
@@ -523,6 +717,7 @@ macro_rules! stated_to_write {
 #[macro_export]
 macro_rules! stated_to_read {
     ($places:tt [];) => { () };
+    ($places:tt []; ...; $($behind:tt)*) => { () };
     ([$place:literal $($places:tt)*] [];
         optional $tag:literal $(of $tree:ident)? $name:literal $field:ident: $type:ty [$($bounds:tt)*]; $($rest:tt)*
     ) => { $crate::stated_to_read!([$($places)*] []; $($rest)*) };
@@ -533,7 +728,7 @@ macro_rules! stated_to_read {
         $presence:ident $tag:literal $(of $tree:ident)? $name:literal
         $field:ident: $type:ty [$($bounds:tt)*]; $($rest:tt)*
     ) => {{
-        let $field = $crate::read::component::<Self, $type>($place, $tag, BOUNDS);
+        let $field = $crate::read::component::<Self, $type>($place, $tag, BOUNDS.root);
         let _ = $field;
         $crate::stated_to_read!([$($places)*] []; $($rest)*)
     }};
@@ -543,6 +738,7 @@ macro_rules! stated_to_read {
 #[macro_export]
 macro_rules! stated_as_read {
     ($places:tt [$of:ident];) => { () };
+    ($places:tt [$of:ident]; ...; $($behind:tt)*) => { () };
     ([$place:literal $($places:tt)*] [$of:ident];
         optional $tag:literal $(of $tree:ident)? $name:literal $field:ident: $type:ty [$($bounds:tt)*]; $($rest:tt)*
     ) => { $crate::stated_as_read!([$($places)*] [$of]; $($rest)*) };

@@ -2,8 +2,10 @@
 
 pub use rasn_sets::set_of::SetOf;
 pub use rasn_strings::strings::{
-    BmpString, Ia5String, NumericString, PrintableString, VisibleString,
+    BmpString, Ia5String, NumericString, PrintableString, StringError, VisibleString,
 };
+pub use rasn_types::big::numbers::TryFromIntegerError;
+pub use rasn_types::bit_string::BitIter;
 pub use rasn_types::types::{
     Any, BitString, Class, Codec, GeneralString, GraphicString, Identifier, Integer, OctetString,
     Tag, TeletexString, Utf8String,

@@ -1,7 +1,7 @@
 //! How CHOICE types that are stated by one list of their alternatives are written and read.
 
 ghost use Rattle.rasn_schema.specs.Choices.{choices_of};
-ghost use Rattle.rasn_schema.specs.Components.{chosen_value, components_behind, parts_of};
+ghost use Rattle.rasn_schema.specs.Components.{added_parts, chosen_value, root_parts};
 ghost use Rattle.rasn_schema.specs.Fields.{tag_of};
 ghost use Rattle.rasn_traits.specs.Choices.{TakesAlternative, WritesChosen};
 
@@ -17,15 +17,15 @@ pub trait CodedAlternatives: Alternatives + Sized + Drop {
     /// Writes the value of the alternative, and answers the tag that this goes by.
     fn encode_alternative<E: Encoder>(&self, encoder: &mut E) -> Result<Tag, E::Error>
         ensures { WritesChosen E.rules
-            (choices_of (parts_of Self.alternatives) Self.ADDED_ALTERNATIVES (parts_of (components_behind Self.added)))
-            Self.ALTERNATIVES Self.ADDED_ALTERNATIVES (Self.chosen self.now) (Self.depth self.now)
+            (choices_of (root_parts Self.alternatives.0) Self.ALTERNATIVES.behind (added_parts Self.alternatives.0))
+            Self.ALTERNATIVES.before Self.ALTERNATIVES.behind (Self.chosen self.now) (Self.depth self.now)
             encoder.old result encoder.new };
 
-    /// Reads the alternative that goes by a tag. The tag is one of `ALTERNATIVES` or of `ADDED_ALTERNATIVES`.
+    /// Reads the alternative that goes by a tag. The tag is one of `ALTERNATIVES`.
     fn decode_alternative<D: Decoder>(decoder: &mut D, tag: Tag) -> Result<Self, D::Error>
         ensures { TakesAlternative D.rules
-            (choices_of (parts_of Self.alternatives) Self.ADDED_ALTERNATIVES (parts_of (components_behind Self.added)))
-            Self.ALTERNATIVES Self.ADDED_ALTERNATIVES (tag_of tag) (λ x. chosen_value (Self.chosen x))
+            (choices_of (root_parts Self.alternatives.0) Self.ALTERNATIVES.behind (added_parts Self.alternatives.0))
+            Self.ALTERNATIVES.before Self.ALTERNATIVES.behind (tag_of tag) (λ x. chosen_value (Self.chosen x))
             decoder.old result decoder.new };
 }
 

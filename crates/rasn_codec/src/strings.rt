@@ -2,11 +2,12 @@
 
 use crate::codec::{Decode, Decoder, Encode, Encoder};
 use rasn_schema::schema::Constraints;
-use rasn_strings::strings::{BmpString, Ia5String, NumericString, PrintableString, VisibleString};
+use rasn_schema::strings::TaggedCharacters;
+use rasn_strings::strings::{BmpString, CharactersOf};
 use rasn_types::octet_strings::{GeneralString, GraphicString, TeletexString, Utf8String};
 use rasn_types::types::{Identifier, Tag};
 
-impl Encode for VisibleString {
+impl<K: TaggedCharacters> Encode for CharactersOf<K> {
     #[tactic(auto, unfolding(rasn_schema::specs::Normal::normal))]
     fn encode_with_tag_and_constraints<E: Encoder>(
         &self,
@@ -15,86 +16,17 @@ impl Encode for VisibleString {
         constraints: &Constraints,
         identifier: Identifier,
     ) -> Result<(), E::Error> {
-        encoder.encode_visible_string(tag, constraints, self, identifier)
+        encoder.encode_known_multiplier_string(tag, constraints, self, identifier)
     }
 }
 
-impl Decode for VisibleString {
+impl<K: TaggedCharacters> Decode for CharactersOf<K> {
     fn decode_with_tag_and_constraints<D: Decoder>(
         decoder: &mut D,
         tag: Tag,
         constraints: &Constraints,
-    ) -> Result<VisibleString, D::Error> {
-        decoder.decode_visible_string(tag, constraints)
-    }
-}
-
-impl Encode for Ia5String {
-    #[tactic(auto, unfolding(rasn_schema::specs::Normal::normal))]
-    fn encode_with_tag_and_constraints<E: Encoder>(
-        &self,
-        encoder: &mut E,
-        tag: Tag,
-        constraints: &Constraints,
-        identifier: Identifier,
-    ) -> Result<(), E::Error> {
-        encoder.encode_ia5_string(tag, constraints, self, identifier)
-    }
-}
-
-impl Decode for Ia5String {
-    fn decode_with_tag_and_constraints<D: Decoder>(
-        decoder: &mut D,
-        tag: Tag,
-        constraints: &Constraints,
-    ) -> Result<Ia5String, D::Error> {
-        decoder.decode_ia5_string(tag, constraints)
-    }
-}
-
-impl Encode for PrintableString {
-    #[tactic(auto, unfolding(rasn_schema::specs::Normal::normal))]
-    fn encode_with_tag_and_constraints<E: Encoder>(
-        &self,
-        encoder: &mut E,
-        tag: Tag,
-        constraints: &Constraints,
-        identifier: Identifier,
-    ) -> Result<(), E::Error> {
-        encoder.encode_printable_string(tag, constraints, self, identifier)
-    }
-}
-
-impl Decode for PrintableString {
-    fn decode_with_tag_and_constraints<D: Decoder>(
-        decoder: &mut D,
-        tag: Tag,
-        constraints: &Constraints,
-    ) -> Result<PrintableString, D::Error> {
-        decoder.decode_printable_string(tag, constraints)
-    }
-}
-
-impl Encode for NumericString {
-    #[tactic(auto, unfolding(rasn_schema::specs::Normal::normal))]
-    fn encode_with_tag_and_constraints<E: Encoder>(
-        &self,
-        encoder: &mut E,
-        tag: Tag,
-        constraints: &Constraints,
-        identifier: Identifier,
-    ) -> Result<(), E::Error> {
-        encoder.encode_numeric_string(tag, constraints, self, identifier)
-    }
-}
-
-impl Decode for NumericString {
-    fn decode_with_tag_and_constraints<D: Decoder>(
-        decoder: &mut D,
-        tag: Tag,
-        constraints: &Constraints,
-    ) -> Result<NumericString, D::Error> {
-        decoder.decode_numeric_string(tag, constraints)
+    ) -> Result<CharactersOf<K>, D::Error> {
+        decoder.decode_known_multiplier_string(tag, constraints)
     }
 }
 

@@ -1,5 +1,6 @@
 -- Bounds of numbers and of counts: which numbers stand within bounds, and which counts a size allows (ITU-T X.680, 51).
-use Rattle.std.specs.Prelude.{ℕ, suc, ◌+◌, ◌-◌, ◌^◌, Bool, true, ◌&&◌, nat_le, nat_lt, Option, Some, None, ℤ, pos, negsuc}
+use Rattle.std.specs.Prelude.{ℕ, suc, ◌+◌, ◌-◌, ◌^◌, Bool, true, ◌&&◌, nat_le, nat_lt, Option, Some, None, ℤ, pos}
+use Rattle.std.specs.Prelude.{negsuc}
 use lib.Signed.{le_z}
 
 -- X.680 51.4: the least and the greatest number of a value constraint, each where there is one

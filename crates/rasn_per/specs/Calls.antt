@@ -12,7 +12,8 @@ use Rattle.per_write.specs.declared.error.EncodeError.{EncodeError}
 use Rattle.per_write.specs.declared.error.EncodeErrorKind.TheVariants.{OutOfMemory as no_room_to_write}
 use Rattle.per_read.specs.declared.error.DecodeError.{DecodeError}
 use Rattle.per_read.specs.declared.error.DecodeErrorKind.TheVariants.{OutOfMemory as no_room_to_read}
-use Rattle.rasn_per.specs.Complete.{AreBytes, HasNoBytes, reading, basically, AreReadBy, AreUnreadBy, BeginWith, BeginWithNone}
+use Rattle.rasn_per.specs.Complete.{AreBytes, HasNoBytes, reading, basically, AreReadBy, AreUnreadBy, BeginWith}
+use Rattle.rasn_per.specs.Complete.{BeginWithNone}
 use Rattle.rasn_per.specs.Kinds.{IsInFront, IsInOctetsBy}
 
 -- A value is written by the schema of its type: its canonical bytes, or, memory aside, a refusal only where it has

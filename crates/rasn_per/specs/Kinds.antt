@@ -12,7 +12,8 @@ use Rattle.per_bits.specs.declared.ended.Surplus.{Surplus}
 use Rattle.per_bits.specs.declared.ended.Surplus.TheVariants.{Missing, NonzeroOctet, NonzeroSpareBits, ExtraOctets}
 use Rattle.per_decoding.specs.Faults.{IsInBits}
 use Rattle.per_read.specs.declared.error.DecodeErrorKind.{DecodeErrorKind}
-use Rattle.per_read.specs.declared.error.DecodeErrorKind.TheVariants.{Incomplete, ParserFail, UnexpectedExtraData, OutOfMemory}
+use Rattle.per_read.specs.declared.error.DecodeErrorKind.TheVariants.{Incomplete, ParserFail, UnexpectedExtraData}
+use Rattle.per_read.specs.declared.error.DecodeErrorKind.TheVariants.{OutOfMemory}
 use Rattle.per_read.specs.declared.error.ParserFailCause.TheVariants.{NonzeroEmptyValue, NonzeroPadding}
 use Rattle.rasn_per.specs.Complete.{basically}
 

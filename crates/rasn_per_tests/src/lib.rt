@@ -12,6 +12,8 @@ mod bags;
 #[cfg(test)]
 mod calls;
 #[cfg(test)]
+mod copies;
+#[cfg(test)]
 mod expected;
 #[cfg(test)]
 mod header;
@@ -23,5 +25,7 @@ mod records;
 mod runs;
 #[cfg(test)]
 mod streams;
+#[cfg(test)]
+mod texts;
 #[cfg(test)]
 mod values;

@@ -1,2 +1,4 @@
 pub mod Behind
 pub mod Slots
+mod BothRead
+pub mod Within

@@ -1,9 +1,10 @@
 -- What the lists of a record's fields and constraints state of its components, from one of these on.
-use Rattle.std.specs.Prelude.{List, [], ◌∷◌, Option, Some, None}
+use Rattle.std.specs.Prelude.{◌≡◌, ◌≤◌, ℕ, max, List, [], ◌∷◌, Option, Some, None}
 use Rattle.std.specs.Borrow.{Bor}
 use Rattle.rasn_constraints.specs.Constraints.{Effective, effective}
 use Rattle.rasn_constraints.specs.declared.constraints.Constraint.{Constraint}
-use Rattle.rasn_schema.specs.Schemas.{Tag, TagTree}
+use Rattle.rasn_schema.specs.Components.{TypeLists, added_parts, root_parts}
+use Rattle.rasn_schema.specs.Schemas.{Parts, Tag, TagTree, no_parts}
 use Rattle.rasn_schema.specs.Fields.{Shape}
 
 -- those behind the first
@@ -35,3 +36,17 @@ given (c ∷ cs) = Some (effective (c ∷ cs))
 abbrev pub first_given : List (Bor (List Constraint)) → Option Effective
 first_given [] = None
 first_given (b ∷ bs) = given b.now
+
+-- root components are these, and there are no additions
+abbrev pub ArePlain : TypeLists → (ℕ → Parts) → Type 0
+ArePlain cs parts = (n : ℕ) → (root_parts cs n ≡ parts n) × (added_parts cs n ≡ no_parts)
+
+-- the greatest of some numbers of levels
+abbrev pub deepest : List ℕ → ℕ
+deepest [] = 0
+deepest (l ∷ ls) = max l (deepest ls)
+
+-- each of some numbers of levels is at most this one
+abbrev pub AreWithin : ℕ → List ℕ → Type 0
+AreWithin depth [] = Unit {0}
+AreWithin depth (l ∷ ls) = (l ≤ depth) × AreWithin depth ls

@@ -1,5 +1,5 @@
 -- Many required components, each by what its type states.
-use Rattle.std.specs.Prelude.{ℕ, max, List, [], ◌∷◌}
+use Rattle.std.specs.Prelude.{ℕ, List, [], ◌∷◌}
 use Rattle.std.specs.Borrow.{Bor}
 use Rattle.rasn_types.specs.declared.types.Tag.{Tag}
 use Rattle.rasn_constraints.specs.Constraints.{Effective}
@@ -26,8 +26,3 @@ typed_parts [] next fs cs n = next fs cs n
 typed_parts (t ∷ ts) next fs cs n =
     part (first_tree (tagged t.tag) fs) required (t.schema (own_or t.own (first_given cs)) n)
     (typed_parts ts next (behind fs) (behind cs) n)
-
--- the greatest of some numbers and one more
-abbrev pub greatest : List ℕ → ℕ → ℕ
-greatest [] k = k
-greatest (l ∷ ls) k = max l (greatest ls k)

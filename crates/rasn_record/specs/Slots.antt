@@ -1,6 +1,6 @@
 -- One component of a record, as a cell writes it.
-use Rattle.std.specs.Prelude.{◌≡◌, ℕ, Bool, Result, Option, Some, None}
-use Rattle.rasn_types.specs.Values.{Value, same}
+use Rattle.std.specs.Prelude.{ℕ, Result, Option, Some, None}
+use Rattle.rasn_types.specs.Values.{Value}
 use Rattle.rasn_schema.specs.Schemas.{Presence, group, Schema}
 use Rattle.rasn_schema.specs.Normal.{normal}
 use Rattle.rasn_traits.specs.Calls.{AtDepths, Behaves, EncoderRules}
@@ -26,7 +26,3 @@ pub record WritesComponent {E X : Type 0} (rules : EncoderRules E X) (p : Presen
     (r : Option Value) (x : X) (result : Result (Unit {0}) E) (y : X) : Type 0 where
   pub law : AtDepths schema k (λ s. WrittenPart rules p s (normal_slot s r) x result y)
   pub behaves : Behaves rules.already rules.failed rules.codec x result y
-
--- a test of whether two values are one: at each depth that holds the first, its normal form is the second
-pub record TellsSame {C : Type 0} (schema : C → ℕ → Schema) (k : ℕ) (v d : Value) (b : Bool) : Type 0 where
-  pub at : (c : C) → AtDepths (schema c) k (λ s. b ≡ same (normal s v) d)

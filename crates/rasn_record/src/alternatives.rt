@@ -2,7 +2,7 @@
 
 ghost use Rattle.std.specs.Prelude.{◌≡◌, ◌≤◌, ℕ, Some};
 ghost use Rattle.rasn_schema.specs.Choices.{alternative_at, choices_of, place_of, variants_behind};
-ghost use Rattle.rasn_schema.specs.Components.{chosen, chosen_behind, components_behind, parts_of};
+ghost use Rattle.rasn_schema.specs.Components.{added_parts, chosen, chosen_behind, root_parts};
 ghost use Rattle.rasn_schema.specs.Fields.{tag_of};
 ghost use Rattle.rasn_schema.specs.Records.{own_or};
 ghost use Rattle.rasn_traits.specs.Calls.{Reads};
@@ -25,14 +25,14 @@ pub fn write<T: Alternatives, H: Encode, E: Encoder>(
     value: &H,
     encoder: &mut E,
 ) -> Result<Tag, E::Error>
-    requires tag { place_of (tag_of tag) T.ALTERNATIVES ≡ Some place }
-    requires schema { (n : ℕ) → alternative_at (parts_of T.alternatives n) place
+    requires tag { place_of (tag_of tag) T.ALTERNATIVES.before ≡ Some place }
+    requires schema { (n : ℕ) → alternative_at (root_parts T.alternatives.0 n) place
         ≡ Some (H.schema (own_or H.CONSTRAINTS (given constraints.now)) n) }
     requires value { T.chosen of.now ≡ chosen place (H.value value.now) }
     requires levels { H.levels value.now ≤ T.depth of.now }
     ensures { WritesChosen E.rules
-        (choices_of (parts_of T.alternatives) T.ADDED_ALTERNATIVES (parts_of (components_behind T.added)))
-        T.ALTERNATIVES T.ADDED_ALTERNATIVES (T.chosen of.now) (T.depth of.now) encoder.old result encoder.new }
+        (choices_of (root_parts T.alternatives.0) T.ALTERNATIVES.behind (added_parts T.alternatives.0))
+        T.ALTERNATIVES.before T.ALTERNATIVES.behind (T.chosen of.now) (T.depth of.now) encoder.old result encoder.new }
 {
     let _ = of;
     let _ = place;
@@ -51,14 +51,14 @@ pub fn write_behind<T: Alternatives, H: Encode, E: Encoder>(
     value: &H,
     encoder: &mut E,
 ) -> Result<Tag, E::Error>
-    requires tag { place_of (tag_of tag) (variants_behind T.ADDED_ALTERNATIVES) ≡ Some place }
-    requires schema { (n : ℕ) → alternative_at (parts_of (components_behind T.added) n) place
+    requires tag { place_of (tag_of tag) (variants_behind T.ALTERNATIVES.behind) ≡ Some place }
+    requires schema { (n : ℕ) → alternative_at (added_parts T.alternatives.0 n) place
         ≡ Some (H.schema (own_or H.CONSTRAINTS (given constraints.now)) n) }
     requires value { T.chosen of.now ≡ chosen_behind place (H.value value.now) }
     requires levels { H.levels value.now ≤ T.depth of.now }
     ensures { WritesChosen E.rules
-        (choices_of (parts_of T.alternatives) T.ADDED_ALTERNATIVES (parts_of (components_behind T.added)))
-        T.ALTERNATIVES T.ADDED_ALTERNATIVES (T.chosen of.now) (T.depth of.now) encoder.old result encoder.new }
+        (choices_of (root_parts T.alternatives.0) T.ALTERNATIVES.behind (added_parts T.alternatives.0))
+        T.ALTERNATIVES.before T.ALTERNATIVES.behind (T.chosen of.now) (T.depth of.now) encoder.old result encoder.new }
 {
     let _ = of;
     let _ = place;

@@ -1,17 +1,21 @@
 //! Cells, of which the list of a record's components is made. Their tags and constraints stand in lists beside them.
 
-ghost use Rattle.std.specs.Prelude.{◌≡◌, ℕ, max, List, [], ◌∷◌, Option, map};
+ghost use Rattle.std.specs.Prelude.{◌≡◌, ℕ, List, [], ◌∷◌, Option, map, refl};
 ghost use Rattle.std.specs.Borrow.{Bor};
 ghost use Rattle.rasn_types.specs.Values.{Value};
 ghost use Rattle.rasn_constraints.specs.declared.constraints.Constraint.{Constraint};
 ghost use Rattle.rasn_schema.specs.Schemas.{Parts, no_parts, part};
 ghost use Rattle.rasn_schema.specs.Records.{own_or};
 ghost use Rattle.rasn_schema.specs.Fields.{Shape, shape_of, tag_of, tagged};
+ghost use Rattle.rasn_traits.specs.Optionals.{ReadsComponent};
 ghost use Rattle.rasn_traits.specs.Scopes.{WritesParts, TakesParts};
-ghost use Rattle.rasn_record.specs.Lists.{behind, first_tag, first_tree, first_given, given};
+ghost use Rattle.rasn_record.specs.Lists.{behind, deepest, first_tag, first_tree, first_given, given};
+ghost use Rattle.rasn_record.specs.Slots.{WritesComponent};
 
 use crate::components::{DecodeComponent, EncodeComponent, Optional};
+use crate::fields::root;
 use rasn_codec::codec::{Decoder, Encoder};
+use rasn_codec::record::Bounds;
 use rasn_schema::components::Components;
 use rasn_schema::constraints::Constraint;
 use rasn_schema::fields::Field;
@@ -28,8 +32,8 @@ pub trait EncodeCells {
     // What they are.
     ghost contents: { Self → List (Option Value) };
 
-    // How many levels they take.
-    ghost levels: { Self → ℕ };
+    // How many levels each takes.
+    ghost levels: { Self → List ℕ };
 
     /// Writes the components in turn.
     fn encode_cells<E: Encoder>(
@@ -39,7 +43,16 @@ pub trait EncodeCells {
         encoder: &mut E,
     ) -> Result<(), E::Error>
         ensures { WritesParts E.rules (Self.parts self.now (map shape_of fields.now) constraints.now)
-            (Self.levels self.now) (Self.contents self.now) encoder.old result encoder.new };
+            (deepest (Self.levels self.now)) (Self.contents self.now) encoder.old result encoder.new };
+}
+
+/// Components of a record that are still to be written, of which each says how many levels it takes.
+pub trait EncodeEach: EncodeParts {
+    // How many levels each takes.
+    ghost each: { Self → List ℕ };
+
+    // They take as many as the deepest.
+    ghost is_deepest: { (p : Self) → Self.levels p ≡ deepest (each p) };
 }
 
 /// Components of a record that are still to be read, of which lists state the tags and the constraints.
@@ -107,13 +120,6 @@ pub struct OfRecord<T, P> {
     pub cells: P,
 }
 
-/// The constraints of a record's components, in their order.
-#[derive(Clone, Copy)]
-pub struct Bounds {
-    /// Those of each component.
-    pub list: &'static [&'static [Constraint]],
-}
-
 /// What gives the constraints of a record's components: `Bounds`, for a call whose other types name references.
 pub trait GivesBounds {
     // The constraints.
@@ -125,10 +131,10 @@ pub trait GivesBounds {
 }
 
 impl GivesBounds for Bounds {
-    ghost list = { λ b. b.list.now };
+    ghost list = { λ b. b.root.now };
 
     fn list(&self) -> &'static [&'static [Constraint]] {
-        self.list
+        self.root
     }
 }
 
@@ -172,6 +178,40 @@ pub fn behind<T>(list: &[T]) -> &[T]
     }
 }
 
+/// Writes a component by the first field's tag and under the first constraints, where lists state them.
+#[inline(always)]
+pub(crate) fn write_first<C: EncodeComponent, E: Encoder>(
+    component: &C,
+    fields: &[Field],
+    constraints: &[&'static [Constraint]],
+    encoder: &mut E,
+) -> Result<(), E::Error>
+    ensures { WritesComponent E.rules (C.presence component.now)
+        (C.Of.schema (own_or C.Of.CONSTRAINTS (first_given constraints.now))) (C.levels component.now)
+        (C.slot component.now) encoder.old result encoder.new }
+{
+    let tag = first_tag(fields, <C::Of as AsnType>::TAG);
+    let in_use = given_or_own(constraints, <C::Of as AsnType>::CONSTRAINTS);
+    component.encode_component(encoder, tag, &in_use)
+}
+
+/// Reads a component by the first field's tag and under the first constraints, where lists state them.
+#[inline(always)]
+pub(crate) fn read_first<C: DecodeComponent, D: Decoder>(
+    component: &C,
+    fields: &[Field],
+    constraints: &[&'static [Constraint]],
+    decoder: &mut D,
+) -> Result<C::Value, D::Error>
+    ensures { ReadsComponent D.rules (C.presence component.now)
+        (C.Of.schema (own_or C.Of.CONSTRAINTS (first_given constraints.now)) (D.rules.levels decoder.old)) C.slot
+        decoder.old result decoder.new }
+{
+    let tag = first_tag(fields, <C::Of as AsnType>::TAG);
+    let in_use = given_or_own(constraints, <C::Of as AsnType>::CONSTRAINTS);
+    component.decode_component(decoder, tag, &in_use)
+}
+
 impl ByType for End {
     const VALUE: End = End {};
 }
@@ -196,7 +236,7 @@ impl EncodeCells for End {
 
     ghost contents = { λ p. [] };
 
-    ghost levels = { λ p. 0 };
+    ghost levels = { λ p. [] };
 
     #[tactic(auto, unfolding(rasn_schema::specs::Normal::normal))]
     fn encode_cells<E: Encoder>(
@@ -216,7 +256,7 @@ impl<C: EncodeComponent, N: EncodeCells> EncodeCells for Cell<C, N> {
 
     ghost contents = { λ p. C.slot p.component ∷ N.contents p.next };
 
-    ghost levels = { λ p. max (C.levels p.component) (N.levels p.next) };
+    ghost levels = { λ p. C.levels p.component ∷ N.levels p.next };
 
     #[inline(always)]
     fn encode_cells<E: Encoder>(
@@ -225,9 +265,7 @@ impl<C: EncodeComponent, N: EncodeCells> EncodeCells for Cell<C, N> {
         constraints: &[&'static [Constraint]],
         encoder: &mut E,
     ) -> Result<(), E::Error> {
-        let tag = first_tag(fields, <C::Of as AsnType>::TAG);
-        let in_use = given_or_own(constraints, <C::Of as AsnType>::CONSTRAINTS);
-        self.component.encode_component(encoder, tag, &in_use)?;
+        write_first(&self.component, fields, constraints, encoder)?;
         self.next
             .encode_cells(behind(fields), behind(constraints), encoder)
     }
@@ -257,7 +295,7 @@ impl<P: EncodeCells> EncodeParts for Listed<P> {
 
     ghost contents = { λ p. P.contents p.cells };
 
-    ghost levels = { λ p. P.levels p.cells };
+    ghost levels = { λ p. deepest (P.levels p.cells) };
 
     fn encode_parts<E: Encoder>(&self, encoder: &mut E) -> Result<(), E::Error> {
         self.cells
@@ -266,17 +304,22 @@ impl<P: EncodeCells> EncodeParts for Listed<P> {
 }
 
 impl<T: Components, P: EncodeCells> EncodeParts for OfRecord<T, P> {
-    ghost parts = { λ p. P.parts p.cells T.COMPONENTS p.constraints.now };
+    ghost parts = { λ p. P.parts p.cells T.COMPONENTS.before p.constraints.now };
 
     ghost contents = { λ p. P.contents p.cells };
 
-    ghost levels = { λ p. P.levels p.cells };
+    ghost levels = { λ p. deepest (P.levels p.cells) };
 
     fn encode_parts<E: Encoder>(&self, encoder: &mut E) -> Result<(), E::Error> {
-        let fields = T::COMPONENTS;
         self.cells
-            .encode_cells(fields.list, self.constraints, encoder)
+            .encode_cells(root::<T>(), self.constraints, encoder)
     }
+}
+
+impl<T: Components, P: EncodeCells> EncodeEach for OfRecord<T, P> {
+    ghost each = { λ p. P.levels p.cells };
+
+    ghost is_deepest = { λ p. refl };
 }
 
 impl DecodeCells for End {
@@ -312,9 +355,7 @@ impl<C: DecodeComponent, N: DecodeCells> DecodeCells for Cell<C, N> {
         constraints: &[&'static [Constraint]],
         decoder: &mut D,
     ) -> Result<(C::Value, N::Values), D::Error> {
-        let tag = first_tag(fields, <C::Of as AsnType>::TAG);
-        let in_use = given_or_own(constraints, <C::Of as AsnType>::CONSTRAINTS);
-        let value = self.component.decode_component(decoder, tag, &in_use)?;
+        let value = read_first(&self.component, fields, constraints, decoder)?;
         let next = self
             .next
             .decode_cells(behind(fields), behind(constraints), decoder)?;

@@ -1,16 +1,16 @@
 //! One component of a record: required, optional, or with a default.
 
-ghost use Rattle.std.specs.Prelude.{◌≡◌, ℕ, Option, Some, IfOk};
+ghost use Rattle.std.specs.Prelude.{ℕ, Option, Some};
 ghost use Rattle.rasn_types.specs.Values.{Value};
 ghost use Rattle.rasn_schema.specs.Schemas.{Presence, required, optional};
 ghost use Rattle.rasn_traits.specs.Optionals.{ReadsComponent};
 ghost use Rattle.rasn_traits.specs.Presences.{slot_of};
-ghost use Rattle.rasn_record.specs.Slots.{IsComponent, TellsSame, WritesComponent, slot_levels};
+ghost use Rattle.rasn_record.specs.Slots.{IsComponent, WritesComponent, slot_levels};
 
 use rasn_codec::codec::{Decode, Decoder, DecoderExt, Encode, Encoder, EncoderExt};
+use rasn_defaults::DefaultOf;
 use rasn_schema::schema::{AsnType, Constraints};
 use rasn_types::types::Tag;
-use std::alloc::{AllocError, Global};
 use std::marker::PhantomData;
 
 /// A component of a record that is still to be written.
@@ -72,22 +72,11 @@ pub struct Optional<V>(pub V);
 
 /// A component with a default.
 #[derive(Clone, Copy)]
-pub struct Default<V, H> {
+pub struct Default<V, K> {
     /// To write, a reference to the component; to read, `PhantomData` of its type.
     pub value: V,
     /// What stands for it where it is absent.
-    pub default: H,
-}
-
-/// A type of which a value can be a default: it is compared, and copied.
-pub trait Defaulted: AsnType + Sized {
-    /// Whether a component that is this is at a default.
-    fn is_default(&self, default: &Self) -> bool
-        ensures { TellsSame Self.schema (Self.levels self.now) (Self.value self.now) (Self.value default.now) result };
-
-    /// A copy of this value, in memory of `alloc`.
-    fn copied(&self, alloc: Global) -> Result<Self, AllocError>
-        ensures { IfOk result (λ x. Self.value x ≡ Self.value self.now) };
+    pub default: K,
 }
 
 /// A required component is a reference to it.
@@ -144,10 +133,10 @@ impl<'a, H: Encode> EncodeComponent for Optional<&'a Option<H>> {
     ghost is_component = { λ c. tt };
 }
 
-impl<'a, H: Encode + Defaulted> EncodeComponent for Default<&'a H, H> {
+impl<'a, H: Encode, K: DefaultOf<H>> EncodeComponent for Default<&'a H, K> {
     type Of = H;
 
-    ghost presence = { λ c. Presence.default (H.value c.default) };
+    ghost presence = { λ c. Presence.default (K.default c.default) };
 
     ghost slot = { λ c. Some (H.value c.value.now) };
 
@@ -160,7 +149,7 @@ impl<'a, H: Encode + Defaulted> EncodeComponent for Default<&'a H, H> {
         tag: Tag,
         constraints: &Constraints,
     ) -> Result<(), E::Error> {
-        if self.value.is_default(&self.default) {
+        if self.default.stands_for(self.value) {
             return encoder.set_presence(false);
         }
         encoder.encode_some_with_tag_and_constraints(tag, constraints, self.value, H::IDENTIFIER)
@@ -210,12 +199,12 @@ impl<H: Decode> DecodeComponent for Optional<PhantomData<Option<H>>> {
     }
 }
 
-impl<H: Decode + Defaulted> DecodeComponent for Default<PhantomData<H>, H> {
+impl<H: Decode, K: DefaultOf<H>> DecodeComponent for Default<PhantomData<H>, K> {
     type Of = H;
 
     type Value = H;
 
-    ghost presence = { λ c. Presence.default (H.value c.default) };
+    ghost presence = { λ c. Presence.default (K.default c.default) };
 
     ghost slot = { λ x. Some (H.value x) };
 
@@ -229,59 +218,9 @@ impl<H: Decode + Defaulted> DecodeComponent for Default<PhantomData<H>, H> {
         if decoder.next_presence()? {
             return H::decode_with_tag_and_constraints(decoder, tag, constraints);
         }
-        match self.default.copied(decoder.alloc()) {
+        match self.default.made(decoder.alloc()) {
             Ok(value) => Ok(value),
             Err(_) => Err(decoder.out_of_memory()),
         }
-    }
-}
-
-impl Defaulted for bool {
-    fn is_default(&self, default: &bool) -> bool {
-        *self == *default
-    }
-
-    fn copied(&self, _alloc: Global) -> Result<bool, AllocError> {
-        Ok(*self)
-    }
-}
-
-impl Defaulted for u8 {
-    fn is_default(&self, default: &u8) -> bool {
-        *self == *default
-    }
-
-    fn copied(&self, _alloc: Global) -> Result<u8, AllocError> {
-        Ok(*self)
-    }
-}
-
-impl Defaulted for u16 {
-    fn is_default(&self, default: &u16) -> bool {
-        *self == *default
-    }
-
-    fn copied(&self, _alloc: Global) -> Result<u16, AllocError> {
-        Ok(*self)
-    }
-}
-
-impl Defaulted for u32 {
-    fn is_default(&self, default: &u32) -> bool {
-        *self == *default
-    }
-
-    fn copied(&self, _alloc: Global) -> Result<u32, AllocError> {
-        Ok(*self)
-    }
-}
-
-impl Defaulted for u64 {
-    fn is_default(&self, default: &u64) -> bool {
-        *self == *default
-    }
-
-    fn copied(&self, _alloc: Global) -> Result<u64, AllocError> {
-        Ok(*self)
     }
 }

@@ -1,6 +1,6 @@
 //! Four components at a time, so that the types of long lists stay short.
 
-ghost use Rattle.std.specs.Prelude.{ℕ, max, List, ◌∷◌, Option};
+ghost use Rattle.std.specs.Prelude.{ℕ, List, ◌∷◌, Option};
 ghost use Rattle.std.specs.Borrow.{Bor};
 ghost use Rattle.rasn_types.specs.Values.{Value};
 ghost use Rattle.rasn_constraints.specs.declared.constraints.Constraint.{Constraint};
@@ -10,12 +10,11 @@ ghost use Rattle.rasn_schema.specs.Fields.{Shape, tagged};
 ghost use Rattle.rasn_traits.specs.Scopes.{TakesParts, WritesParts};
 ghost use Rattle.rasn_record.specs.Lists.{behind, first_given, first_tree};
 
-use crate::cells::{ByType, DecodeCells, EncodeCells, behind, first_tag, given_or_own};
+use crate::cells::{ByType, DecodeCells, EncodeCells, behind, read_first, write_first};
 use crate::components::{DecodeComponent, EncodeComponent};
 use rasn_codec::codec::{Decoder, Encoder};
 use rasn_schema::constraints::Constraint;
 use rasn_schema::fields::Field;
-use rasn_schema::schema::AsnType;
 
 /// Four components, and those behind them.
 #[derive(Clone, Copy)]
@@ -63,8 +62,8 @@ where
 
     ghost contents = { λ p. A.slot p.first ∷ B.slot p.second ∷ C.slot p.third ∷ D.slot p.fourth ∷ N.contents p.next };
 
-    ghost levels = { λ p. max (A.levels p.first) (max (B.levels p.second) (max (C.levels p.third)
-        (max (D.levels p.fourth) (N.levels p.next)))) };
+    ghost levels = { λ p.
+        A.levels p.first ∷ B.levels p.second ∷ C.levels p.third ∷ D.levels p.fourth ∷ N.levels p.next };
 
     #[inline(always)]
     fn encode_cells<E: Encoder>(
@@ -73,24 +72,16 @@ where
         constraints: &[&'static [Constraint]],
         encoder: &mut E,
     ) -> Result<(), E::Error> {
-        let tag = first_tag(fields, <A::Of as AsnType>::TAG);
-        let in_use = given_or_own(constraints, <A::Of as AsnType>::CONSTRAINTS);
-        self.first.encode_component(encoder, tag, &in_use)?;
+        write_first(&self.first, fields, constraints, encoder)?;
         let fields_2 = behind(fields);
         let constraints_2 = behind(constraints);
-        let tag_2 = first_tag(fields_2, <B::Of as AsnType>::TAG);
-        let in_use_2 = given_or_own(constraints_2, <B::Of as AsnType>::CONSTRAINTS);
-        self.second.encode_component(encoder, tag_2, &in_use_2)?;
+        write_first(&self.second, fields_2, constraints_2, encoder)?;
         let fields_3 = behind(fields_2);
         let constraints_3 = behind(constraints_2);
-        let tag_3 = first_tag(fields_3, <C::Of as AsnType>::TAG);
-        let in_use_3 = given_or_own(constraints_3, <C::Of as AsnType>::CONSTRAINTS);
-        self.third.encode_component(encoder, tag_3, &in_use_3)?;
+        write_first(&self.third, fields_3, constraints_3, encoder)?;
         let fields_4 = behind(fields_3);
         let constraints_4 = behind(constraints_3);
-        let tag_4 = first_tag(fields_4, <D::Of as AsnType>::TAG);
-        let in_use_4 = given_or_own(constraints_4, <D::Of as AsnType>::CONSTRAINTS);
-        self.fourth.encode_component(encoder, tag_4, &in_use_4)?;
+        write_first(&self.fourth, fields_4, constraints_4, encoder)?;
         let fields_5 = behind(fields_4);
         let constraints_5 = behind(constraints_4);
         self.next.encode_cells(fields_5, constraints_5, encoder)
@@ -127,24 +118,16 @@ where
         constraints: &[&'static [Constraint]],
         decoder: &mut R,
     ) -> Result<(A::Value, B::Value, C::Value, D::Value, N::Values), R::Error> {
-        let tag = first_tag(fields, <A::Of as AsnType>::TAG);
-        let in_use = given_or_own(constraints, <A::Of as AsnType>::CONSTRAINTS);
-        let a = self.first.decode_component(decoder, tag, &in_use)?;
+        let a = read_first(&self.first, fields, constraints, decoder)?;
         let fields_2 = behind(fields);
         let constraints_2 = behind(constraints);
-        let tag_2 = first_tag(fields_2, <B::Of as AsnType>::TAG);
-        let in_use_2 = given_or_own(constraints_2, <B::Of as AsnType>::CONSTRAINTS);
-        let b = self.second.decode_component(decoder, tag_2, &in_use_2)?;
+        let b = read_first(&self.second, fields_2, constraints_2, decoder)?;
         let fields_3 = behind(fields_2);
         let constraints_3 = behind(constraints_2);
-        let tag_3 = first_tag(fields_3, <C::Of as AsnType>::TAG);
-        let in_use_3 = given_or_own(constraints_3, <C::Of as AsnType>::CONSTRAINTS);
-        let c = self.third.decode_component(decoder, tag_3, &in_use_3)?;
+        let c = read_first(&self.third, fields_3, constraints_3, decoder)?;
         let fields_4 = behind(fields_3);
         let constraints_4 = behind(constraints_3);
-        let tag_4 = first_tag(fields_4, <D::Of as AsnType>::TAG);
-        let in_use_4 = given_or_own(constraints_4, <D::Of as AsnType>::CONSTRAINTS);
-        let d = self.fourth.decode_component(decoder, tag_4, &in_use_4)?;
+        let d = read_first(&self.fourth, fields_4, constraints_4, decoder)?;
         let fields_5 = behind(fields_4);
         let constraints_5 = behind(constraints_4);
         let rest = self.next.decode_cells(fields_5, constraints_5, decoder)?;

@@ -1,17 +1,21 @@
 //! The components of a record as cells to read, and each stated at its place.
 
-ghost use Rattle.std.specs.Prelude.{◌≡◌, ℕ, Some, drop};
+ghost use Rattle.std.specs.Prelude.{◌≡◌, ℕ, [], Some, drop};
 ghost use Rattle.rasn_schema.specs.Schemas.{required};
 ghost use Rattle.rasn_schema.specs.Records.{own_or};
-ghost use Rattle.rasn_schema.specs.Components.{parts_of, tags_at, presence_at, schema_at, content_at, at};
-ghost use Rattle.rasn_traits.specs.Scopes.{TakesParts};
-ghost use Rattle.rasn_record.specs.Lists.{first_given};
+ghost use Rattle.rasn_schema.specs.Components.{added_parts, root_parts, tags_at, presence_at, schema_at, content_at};
+ghost use Rattle.rasn_schema.specs.Components.{at};
+ghost use Rattle.rasn_traits.specs.Scopes.{TakesFields};
+ghost use Rattle.rasn_record.specs.Lists.{ArePlain, first_given};
 
 use crate::cells::DecodeCells;
+use crate::fields::root;
 use rasn_codec::codec::Decoder;
+use rasn_codec::record::Bounds;
 use rasn_schema::components::Components;
 use rasn_schema::constraints::Constraint;
 use rasn_schema::schema::AsnType;
+use rasn_traits::parts::{DecodeAdditions, NoAdditions};
 
 /// A required component of a record, as a list states it at its place.
 pub fn component<T: Components, H: AsnType>(
@@ -19,9 +23,9 @@ pub fn component<T: Components, H: AsnType>(
     tag: u32,
     constraints: &[&'static [Constraint]],
 )
-    requires tag { tags_at T.components place ≡ Some (at tag) }
-    requires presence { presence_at T.components place ≡ Some required }
-    requires schema { (n : ℕ) → schema_at T.components place n
+    requires tag { tags_at T.components.0.before place ≡ Some (at tag) }
+    requires presence { presence_at T.components.0.before place ≡ Some required }
+    requires schema { (n : ℕ) → schema_at T.components.0.before place n
         ≡ Some (H.schema (own_or H.CONSTRAINTS (first_given (drop place constraints.now))) n) }
 {
     let _ = place;
@@ -38,15 +42,36 @@ pub fn value<T: Components, H: AsnType>(of: &T, place: usize, value: &H)
     let _ = value;
 }
 
-/// Reads all components of a record in turn, by the record's own fields and the constraints of a list.
-pub fn all<T: Components, P: DecodeCells, D: Decoder>(
+/// Reads all components of a record in turn, by the record's own fields and the constraints of a list, and then its
+/// additions.
+pub fn all<T: Components, P: DecodeCells, Q: DecodeAdditions, D: Decoder>(
     cells: &P,
     constraints: &[&'static [Constraint]],
+    additions: &Q,
+    decoder: &mut D,
+) -> Result<(P::Values, Q::Values), D::Error>
+    requires components { (n : ℕ) → root_parts T.components.0 n
+        ≡ P.parts cells.now T.COMPONENTS.before constraints.now n }
+    requires additions { (n : ℕ) → added_parts T.components.0 n ≡ Q.additions additions.now n }
+    ensures { TakesFields D.rules (root_parts T.components.0) (added_parts T.components.0)
+        (λ values. P.contents values.0) (λ values. Q.contents values.1) decoder.old result decoder.new }
+{
+    let before = cells.decode_cells(root::<T>(), constraints, decoder)?;
+    let behind = additions.decode_additions(decoder)?;
+    Ok((before, behind))
+}
+
+/// Reads all components of a record without additions in turn, by the record's own fields and the constraints of a
+/// list. It takes no references beside the decoder, each of which costs a page's check.
+pub fn plain<T: Components, P: DecodeCells + Drop, D: Decoder>(
+    cells: P,
+    bounds: Bounds,
     decoder: &mut D,
 ) -> Result<P::Values, D::Error>
-    requires components { (n : ℕ) → parts_of T.components n ≡ P.parts cells.now T.COMPONENTS constraints.now n }
-    ensures { TakesParts D.rules (parts_of T.components) P.contents decoder.old result decoder.new }
+    requires { ArePlain T.components.0 (P.parts cells T.COMPONENTS.before bounds.root.now) }
+    ensures { TakesFields D.rules (root_parts T.components.0) (added_parts T.components.0) P.contents (λ _. [])
+        decoder.old result decoder.new }
 {
-    let fields = T::COMPONENTS;
-    cells.decode_cells(fields.list, constraints, decoder)
+    let (before, ()) = all::<T, _, _, _>(&cells, bounds.root, &NoAdditions, decoder)?;
+    Ok(before)
 }

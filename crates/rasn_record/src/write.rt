@@ -1,17 +1,19 @@
 //! The components of a record as cells to write, and each stated at its place.
 
-ghost use Rattle.std.specs.Prelude.{◌≡◌, ◌≤◌, ℕ, Some, drop};
-ghost use Rattle.rasn_schema.specs.Schemas.{required};
+ghost use Rattle.std.specs.Prelude.{◌≡◌, ◌≤◌, ℕ, [], Some, drop};
+ghost use Rattle.rasn_schema.specs.Schemas.{no_parts, required};
 ghost use Rattle.rasn_schema.specs.Records.{own_or};
-ghost use Rattle.rasn_schema.specs.Components.{parts_of, tags_at, presence_at, schema_at, content_at, at};
-ghost use Rattle.rasn_traits.specs.Scopes.{WritesParts};
-ghost use Rattle.rasn_record.specs.Lists.{first_given};
+ghost use Rattle.rasn_schema.specs.Components.{added_parts, root_parts, tags_at, presence_at, schema_at, content_at};
+ghost use Rattle.rasn_schema.specs.Components.{at};
+ghost use Rattle.rasn_traits.specs.Scopes.{WritesFields, deeper_of};
+ghost use Rattle.rasn_record.specs.Lists.{AreWithin, first_given};
 
+use crate::cells::EncodeEach;
 use rasn_codec::codec::Encoder;
 use rasn_schema::components::Components;
 use rasn_schema::constraints::Constraint;
 use rasn_schema::schema::AsnType;
-use rasn_traits::parts::EncodeParts;
+use rasn_traits::parts::{EncodeAdditions, EncodeParts, NoAdditions};
 
 /// A required component of a record, as a list states it at its place.
 pub fn component<T: Components, H: AsnType>(
@@ -21,9 +23,9 @@ pub fn component<T: Components, H: AsnType>(
     constraints: &[&'static [Constraint]],
     value: &H,
 )
-    requires tag { tags_at T.components place ≡ Some (at tag) }
-    requires presence { presence_at T.components place ≡ Some required }
-    requires schema { (n : ℕ) → schema_at T.components place n
+    requires tag { tags_at T.components.0.before place ≡ Some (at tag) }
+    requires presence { presence_at T.components.0.before place ≡ Some required }
+    requires schema { (n : ℕ) → schema_at T.components.0.before place n
         ≡ Some (H.schema (own_or H.CONSTRAINTS (first_given (drop place constraints.now))) n) }
     requires value { content_at (T.contents of.now) place ≡ Some (Some (H.value value.now)) }
     requires levels { H.levels value.now ≤ T.depth of.now }
@@ -35,18 +37,40 @@ pub fn component<T: Components, H: AsnType>(
     let _ = value;
 }
 
-/// Writes all components of a record in turn.
-pub fn all<T: Components, P: EncodeParts, E: Encoder>(
+/// Writes all components of a record in turn, and then gives its additions.
+pub fn all<T: Components, P: EncodeParts, Q: EncodeAdditions, E: Encoder>(
+    of: &T,
+    cells: &P,
+    additions: &Q,
+    encoder: &mut E,
+) -> Result<(), E::Error>
+    requires components { (n : ℕ) → root_parts T.components.0 n ≡ P.parts cells.now n }
+    requires additions { (n : ℕ) → added_parts T.components.0 n ≡ Q.additions additions.now n }
+    requires values { T.contents of.now ≡ P.contents cells.now }
+    requires added { T.added of.now ≡ Q.contents additions.now }
+    requires depth { deeper_of (P.levels cells.now) (Q.levels additions.now) ≤ T.depth of.now }
+    ensures { WritesFields E.rules (root_parts T.components.0) (added_parts T.components.0) (T.depth of.now)
+        (T.contents of.now) (T.added of.now) encoder.old result encoder.new }
+{
+    let _ = of;
+    cells.encode_parts(encoder)?;
+    additions.encode_additions(encoder)
+}
+
+/// Writes all components of a record without additions in turn. That the record states enough levels is asked of each
+/// component by itself.
+pub fn plain<T: Components, P: EncodeEach, E: Encoder>(
     of: &T,
     cells: &P,
     encoder: &mut E,
 ) -> Result<(), E::Error>
-    requires components { (n : ℕ) → parts_of T.components n ≡ P.parts cells.now n }
+    requires components { (n : ℕ) → root_parts T.components.0 n ≡ P.parts cells.now n }
+    requires additions { (n : ℕ) → added_parts T.components.0 n ≡ no_parts }
     requires values { T.contents of.now ≡ P.contents cells.now }
-    requires depth { P.levels cells.now ≤ T.depth of.now }
-    ensures { WritesParts E.rules (parts_of T.components) (T.depth of.now) (T.contents of.now)
-        encoder.old result encoder.new }
+    requires added { T.added of.now ≡ [] }
+    requires depth { AreWithin (T.depth of.now) (P.each cells.now) }
+    ensures { WritesFields E.rules (root_parts T.components.0) (added_parts T.components.0) (T.depth of.now)
+        (T.contents of.now) (T.added of.now) encoder.old result encoder.new }
 {
-    let _ = of;
-    cells.encode_parts(encoder)
+    all(of, cells, &NoAdditions, encoder)
 }

@@ -21,6 +21,12 @@ pub record VariantShape : Type 0 where
   pub tag : Schemas.Tag
   pub tree : Option Schemas.TagTree
 
+-- the variants of a choice as its type lists them (X.680 29.1): those before its extension marker, and those behind it,
+-- where it has one
+pub record VariantShapes : Type 0 where
+  pub before : List VariantShape
+  pub behind : Option (List VariantShape)
+
 -- X.691 21.1: the tag that an alternative goes by whose tree a constant states: the least of the tree's tags, and EOC's
 -- where it has none
 abbrev pub stated_tag : TagTree → Schemas.Tag

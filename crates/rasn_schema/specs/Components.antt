@@ -1,7 +1,8 @@
 -- The components of a record, and the words in which a schema's author lists them:
 -- `automatic (integer u8 (0 to 255) ∷ ia5_string (size 1 to 16) ∷ [])`.
-use Rattle.std.specs.Prelude.{◌≡◌, ℕ, zero, suc, ℤ, pos, neg_ℤ, true, false, List, [], ◌∷◌, Option, Some, None}
-use Rattle.std.specs.Prelude.{refl}
+use Rattle.std.specs.Prelude.{◌≡◌, ℕ, zero, suc, ℤ, pos, neg_ℤ, Bool, true, false, List, [], ◌∷◌, drop, length, Option}
+use Rattle.std.specs.Prelude.{Some, None, refl}
+use Rattle.std.proofs.Common.{subst, sym}
 use Rattle.rasn_types.specs.Alphabets.{visible, ia5, printable, numeric, bmp}
 use Rattle.rasn_types.specs.Contents.{utf8}
 use Rattle.rasn_types.specs.Values.{Value, alternative, Side, root, added}
@@ -13,14 +14,16 @@ use Rattle.rasn_constraints.specs.declared.constraints.Extensible.{Extensible}
 use Rattle.rasn_schema.specs.Schemas
 use Rattle.rasn_schema.specs.Schemas.{Schema, TagTree, TagTrees, leaf, one_of, no_trees, tree, Presence, Parts}
 use Rattle.rasn_schema.specs.Schemas.{no_parts, part, listed}
-use Rattle.rasn_schema.specs.Choices.{VariantShape, choice_at, choice_levelled, trees_in, variants_behind, variants_of}
-use Rattle.rasn_schema.specs.Fields.{Shape, field_tag, presence_of, shapes_from}
+use Rattle.rasn_schema.specs.Choices.{VariantShape, VariantShapes, choice_at, choice_levelled, trees_in}
+use Rattle.rasn_schema.specs.Choices.{variants_behind, variants_of}
+use Rattle.rasn_schema.specs.Extensions.{Extends, fields_behind}
+use Rattle.rasn_schema.specs.Fields.{Shape, Shapes, field_tag, presence_of, shapes_from}
 use Rattle.rasn_schema.specs.Forms.{number_schema, octet_schema, bit_schema, character_schema, size_of, is_size_marked}
 use Rattle.rasn_schema.specs.Forms.{always}
 use Rattle.rasn_schema.specs.Levels.{TakesNone, Levelled, LevelledParts, simple_levelled, parts_levelled, part_levelled}
 use Rattle.rasn_schema.specs.Levels.{record_levelled}
 use Rattle.rasn_schema.specs.Lists.{list_at, list_fits, list_levelled}
-use Rattle.rasn_schema.specs.Records.{record_at, no_additions, record_value}
+use Rattle.rasn_schema.specs.Records.{record_at, record_value}
 use Rattle.rasn_schema.specs.Tags.{IsTreeAt, may_be_whole, sequence_fits}
 
 -- a component of a record: its tags, whether it may be absent, and its schema to each number of levels, of which the
@@ -37,11 +40,35 @@ abbrev pub parts_of : List Component → ℕ → Parts
 parts_of [] n = no_parts
 parts_of (c ∷ cs) n = part c.tags c.presence (c.schema n) (parts_of cs n)
 
--- a SEQUENCE of these components, to a number of levels
-abbrev pub sequence_at : List Component → ℕ → Schema
-sequence_at cs = record_at listed (parts_of cs) false no_additions
+-- X.680 25.1, 29.1: the components of a record, or the alternatives of a choice, as a type lists them: those before its
+-- extension marker, and those behind it, where it has one
+pub record TypeLists : Type 0 where
+  pub before : List Component
+  pub behind : Option (List Component)
 
--- what such a SEQUENCE is, of what its components are
+-- the components behind an extension marker, where there is one
+abbrev pub components_behind : Option (List Component) → List Component
+components_behind None = []
+components_behind (Some cs) = cs
+
+-- whether there is a marker
+abbrev pub has_marker : Option (List Component) → Bool
+has_marker None = false
+has_marker (Some cs) = true
+
+-- the root components, to a number of levels
+abbrev pub root_parts : TypeLists → ℕ → Parts
+root_parts cs = parts_of cs.before
+
+-- the additions, to a number of levels
+abbrev pub added_parts : TypeLists → ℕ → Parts
+added_parts cs = parts_of (components_behind cs.behind)
+
+-- a SEQUENCE of these components, to a number of levels
+abbrev pub sequence_at : TypeLists → ℕ → Schema
+sequence_at cs = record_at listed (root_parts cs) (has_marker cs.behind) (added_parts cs)
+
+-- what a SEQUENCE without additions is, of what its components are
 abbrev pub sequence_value : List (Option Value) → Value
 sequence_value rs = record_value rs []
 
@@ -49,8 +76,9 @@ pub components_levelled : (cs : List Component) → LevelledParts (parts_of cs)
 components_levelled [] = parts_levelled
 components_levelled (c ∷ cs) = part_levelled c.levelled (components_levelled cs)
 
-pub sequence_levelled : (cs : List Component) → Levelled (sequence_at cs)
-sequence_levelled cs = record_levelled (components_levelled cs) parts_levelled
+pub sequence_levelled : (cs : TypeLists) → Levelled (sequence_at cs)
+sequence_levelled cs = record_levelled (components_levelled cs.before)
+    (components_levelled (components_behind cs.behind))
 
 -- the fields of components, in order, counted from a number
 abbrev pub fields_from : ℕ → List Component → List Shape
@@ -64,8 +92,17 @@ fields_from i (c ∷ cs) = record {
 } ∷ fields_from (suc i) cs
 
 -- the fields of components, in order
-abbrev pub fields_of : List Component → List Shape
-fields_of cs = fields_from 0 cs
+abbrev pub fields_in : List Component → List Shape
+fields_in cs = fields_from 0 cs
+
+-- the fields behind an extension marker, where there is one
+abbrev pub added_fields : Option (List Component) → Option (List Shape)
+added_fields None = None
+added_fields (Some cs) = Some (fields_in cs)
+
+-- the fields of a record's components
+abbrev pub fields_of : TypeLists → Shapes
+fields_of cs = record { before = fields_in cs.before; behind = added_fields cs.behind }
 
 fields_from_parts : (i : ℕ) (cs : List Component) (n : ℕ) → fields_from i cs ≡ shapes_from i (parts_of cs n)
 fields_from_parts i [] n = refl
@@ -74,8 +111,19 @@ fields_from_parts i (c ∷ cs) n =
     ∷ fields_from_parts (suc i) cs n j
 
 -- the fields are those of the components at each number of levels
-pub fields_described : (cs : List Component) (n : ℕ) → fields_of cs ≡ shapes_from 0 (parts_of cs n)
+pub fields_described : (cs : List Component) (n : ℕ) → fields_in cs ≡ shapes_from 0 (parts_of cs n)
 fields_described cs n = fields_from_parts 0 cs n
+
+fields_extend : (xs : Option (List Component))
+    → Extends (has_marker xs) (added_fields xs) (parts_of (components_behind xs))
+fields_extend None = record { described = λ n. refl; marked = λ e n. refl }
+fields_extend (Some cs) = record { described = fields_described cs; marked = λ e n. absurd cc }
+
+-- the fields behind the marker are those of the additions
+pub lists_extend : {fs : Shapes} (cs : TypeLists) → fs ≡ fields_of cs
+    → Extends (has_marker cs.behind) fs.behind (added_parts cs)
+lists_extend cs e = subst (λ (s : Shapes). Extends (has_marker cs.behind) s.behind (added_parts cs)) (sym e)
+    (fields_extend cs.behind)
 
 -- What stands at a place, from 0.
 abbrev pub tags_at : List Component → ℕ → Option TagTree
@@ -108,17 +156,16 @@ pub variants_described : (cs : List Component) (n : ℕ) → variants_in cs ≡ 
 variants_described [] n = refl
 variants_described (c ∷ cs) n = λ i. record { tag = field_tag c.tags; tree = Some c.tags } ∷ variants_described cs n i
 
--- the components behind an extension marker, where there is one
-abbrev pub components_behind : Option (List Component) → List Component
-components_behind None = []
-components_behind (Some cs) = cs
-
 -- the variants of alternatives behind an extension marker, where there is one
 abbrev pub added_variants : Option (List Component) → Option (List VariantShape)
 added_variants None = None
 added_variants (Some cs) = Some (variants_in cs)
 
--- they are those of the alternatives at each number of levels
+-- the variants of a choice's alternatives
+abbrev pub variants_listed : TypeLists → VariantShapes
+variants_listed cs = record { before = variants_in cs.before; behind = added_variants cs.behind }
+
+-- those behind the marker are those of the alternatives at each number of levels
 pub added_described : (xs : Option (List Component)) (n : ℕ) → variants_behind (added_variants xs)
     ≡ variants_of (parts_of (components_behind xs) n)
 added_described None n = refl
@@ -339,14 +386,14 @@ visible_string c = simple 26 (character_schema visible c) tt refl
 abbrev pub bmp_string : Constraints → Component
 bmp_string c = simple 30 (character_schema bmp c) tt refl
 
--- SEQUENCE
-abbrev pub sequence : List Component → Component
+-- SEQUENCE, with an extension marker or without one
+abbrev pub sequence : TypeLists → Component
 sequence cs = record {
   tags = universal 16;
   presence = Schemas.required;
   schema = sequence_at cs;
   levelled = sequence_levelled cs;
-  fits = sequence_fits (parts_of cs) false no_additions;
+  fits = sequence_fits (root_parts cs) (has_marker cs.behind) (added_parts cs);
 }
 
 -- SEQUENCE OF under a size, or none: `sequence_of (size 1 to 4) boolean` is SEQUENCE (SIZE (1..4)) OF BOOLEAN
@@ -381,24 +428,14 @@ choice_fits [] xs (suc n) = refl
 choice_fits (c ∷ cs) xs zero = tt
 choice_fits (c ∷ cs) xs (suc n) = tags_listed (c ∷ cs) n
 
--- CHOICE, untagged
-abbrev pub choice : List Component → Component
+-- CHOICE, untagged; it goes by the tags of the alternatives before its extension marker, where it has one
+abbrev pub choice : TypeLists → Component
 choice cs = record {
-  tags = choice_tags cs;
+  tags = choice_tags cs.before;
   presence = Schemas.required;
-  schema = alternatives_at cs None;
-  levelled = alternatives_levelled cs None;
-  fits = choice_fits cs None;
-}
-
--- CHOICE with an extension marker, untagged; it goes by the tags of the alternatives before the marker
-abbrev pub extensible_choice : List Component → List Component → Component
-extensible_choice cs xs = record {
-  tags = choice_tags cs;
-  presence = Schemas.required;
-  schema = alternatives_at cs (Some xs);
-  levelled = alternatives_levelled cs (Some xs);
-  fits = choice_fits cs (Some xs);
+  schema = alternatives_at cs.before cs.behind;
+  levelled = alternatives_levelled cs.before cs.behind;
+  fits = choice_fits cs.before cs.behind;
 }
 
 -- a component that may be absent (X.680 25.6)
@@ -445,6 +482,18 @@ abbrev pub automatic_from : ℕ → List Component → List Component
 automatic_from i [] = []
 automatic_from i (c ∷ cs) = under (at i) c ∷ automatic_from (suc i) cs
 
--- AUTOMATIC TAGS (X.680 25.7)
-abbrev pub automatic : List Component → List Component
-automatic cs = automatic_from 0 cs
+-- components, or alternatives, that stand under the tags that they are written with
+abbrev pub own_tags : List Component → TypeLists
+own_tags cs = record { before = cs; behind = None }
+
+-- those before an extension marker, and those behind it
+abbrev pub extensible_own_tags : List Component → List Component → TypeLists
+extensible_own_tags cs xs = record { before = cs; behind = Some xs }
+
+-- AUTOMATIC TAGS (X.680 25.7, 29.2)
+abbrev pub automatic : List Component → TypeLists
+automatic cs = own_tags (automatic_from 0 cs)
+
+-- those before an extension marker, and those behind it, which are counted on
+abbrev pub extensible_automatic : List Component → List Component → TypeLists
+extensible_automatic cs xs = extensible_own_tags (automatic_from 0 cs) (automatic_from (length cs) xs)

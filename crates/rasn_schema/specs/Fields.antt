@@ -69,6 +69,12 @@ pub record Shape : Type 0 where
 abbrev pub shape_of : Field → Shape
 shape_of f = record { index = f.index; tag = tag_of f.tag; tree = tree_of f.tag_tree; presence = f.presence }
 
+-- the fields of a record as its type lists them (X.680 25.1): those of its root, and those behind its extension marker,
+-- where it has one
+pub record Shapes : Type 0 where
+  pub before : List Shape
+  pub behind : Option (List Shape)
+
 -- an addition group counts as optional
 abbrev pub presence_of : Schemas.Presence → Presence
 presence_of Schemas.required = Required

@@ -1,12 +1,15 @@
 -- What a lawful schema is: what ITU-T X.680 asks of a type, and the limits of this project.
-use Rattle.std.specs.Prelude.{ℕ, zero, suc, ◌+◌, ◌^◌, ◌≡◌, Bool, true, false, not, ◌&&◌, nat_lt, ◌==◌, List, [], ◌∷◌, ◌++◌, length, Option, Some, None}
+use Rattle.std.specs.Prelude.{ℕ, zero, suc, ◌+◌, ◌^◌, ◌≡◌, Bool, true, false, not, ◌&&◌, nat_lt, ◌==◌, List, [], ◌∷◌}
+use Rattle.std.specs.Prelude.{◌++◌, length, Option, Some, None}
 use Rattle.rasn_types.specs.Contents.{is_text, is_time, is_identifier, is_date}
-use Rattle.rasn_types.specs.Values.{Value, whole, truth, nothing, item, octets, bits, characters, elements, bag, fields, alternative, day, root, added, values, slots, same, bag_of}
+use Rattle.rasn_types.specs.Values.{Value, whole, truth, nothing, item, octets, bits, characters, elements, bag, fields}
+use Rattle.rasn_types.specs.Values.{alternative, day, root, added, values, slots, same, bag_of}
 use Rattle.rasn_constraints.specs.Bounds.{holds, Bounds}
 use Rattle.rasn_constraints.specs.LawfulConstraints.{are_lawful_bounds, is_lawful_size}
 use Rattle.rasn_schema.specs.Depth.{Unfolds, meets_cut}
 use Rattle.rasn_schema.specs.Normal.{normal}
-use Rattle.rasn_schema.specs.Schemas.{Tag, TagTree, leaf, one_of, TagTrees, no_trees, tree, Presence, required, optional, group, default, Order, listed, by_tag, Schema, Parts, no_parts, part}
+use Rattle.rasn_schema.specs.Schemas.{Tag, TagTree, leaf, one_of, TagTrees, no_trees, tree, Presence, required}
+use Rattle.rasn_schema.specs.Schemas.{optional, group, default, Order, listed, by_tag, Schema, Parts, no_parts, part}
 
 unfoldable mutual
   -- X.680 29.3: all tags of a tree

@@ -1,6 +1,8 @@
 -- The normal form of a value: no addition group that holds nothing (ITU-T X.691, 19.9), and the same at every depth.
-use Rattle.std.specs.Prelude.{ℕ, zero, suc, Bool, true, false, if◌then◌else◌, ◌&&◌, List, [], ◌∷◌, map, Option, Some, None}
-use Rattle.rasn_types.specs.Values.{Value, elements, bag, fields, alternative, root, added, values, as_values, slots, as_slots, same, bag_of}
+use Rattle.std.specs.Prelude.{ℕ, zero, suc, Bool, true, false, if◌then◌else◌, ◌&&◌, List, [], ◌∷◌, map, Option, Some}
+use Rattle.std.specs.Prelude.{None}
+use Rattle.rasn_types.specs.Values.{Value, elements, bag, fields, alternative, root, added, values, as_values, slots}
+use Rattle.rasn_types.specs.Values.{as_slots, same, bag_of}
 use Rattle.rasn_schema.specs.Schemas.{Presence, required, optional, group, default, Schema, Parts, no_parts, part}
 
 -- X.691 19.5, 19.9: whether a part in normal form is absent, or at its default; a required part never is

@@ -35,6 +35,32 @@ impl Model for Variants {
     ghost view = { λ variants. map variant_shape variants.list.now };
 }
 
+/// The alternatives of a CHOICE as its type lists them (X.680 29.1).
+#[derive(Drop)]
+pub struct VariantLists {
+    /// The tags of each root alternative, at its index.
+    pub root: &'static [TagTree],
+    /// The tags of each alternative behind the extension marker, at its index. There is a marker exactly where this is
+    /// `Some`.
+    pub added: Option<&'static [TagTree]>,
+}
+
+impl Model for VariantLists {
+    ghost use Rattle.std.specs.Prelude.{map, option_map};
+    ghost use Rattle.std.specs.Coded.{codes};
+    ghost use Rattle.rasn_schema.specs.Choices.{VariantShapes, variant_shape};
+    ghost use Rattle.rasn_schema.specs.Laws.TagCodes.{tree_code};
+
+    ghost Value = { VariantShapes };
+
+    ghost coded = { Prim.hlevel (codes, tree_code) };
+
+    ghost view = { λ variants. record {
+      before = map variant_shape variants.root.now;
+      behind = option_map (λ list. map variant_shape list.now) variants.added;
+    } };
+}
+
 impl Variants {
     /// How many alternatives there are.
     pub fn len(&self) -> usize

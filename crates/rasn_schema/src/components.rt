@@ -1,37 +1,38 @@
 //! Records that are stated by one list of their components.
 
-ghost use Rattle.std.specs.Prelude.{◌≡◌, ℕ, suc, false, List, Option, None, refl, Some};
-ghost use Rattle.std.proofs.Common.{◌∙◌};
+ghost use Rattle.std.specs.Prelude.{◌≡◌, ℕ, suc, List, [], Option, refl, Some};
+ghost use Rattle.std.proofs.Common.{◌∙◌, ap};
 ghost use Rattle.rasn_types.specs.Values.{Value};
 ghost use Rattle.rasn_types.specs.declared.types.TheConstants.Tag.{SEQUENCE};
-ghost use Rattle.rasn_schema.specs.Extensions.{unextended};
-ghost use Rattle.rasn_schema.specs.Fields.{Shape, tagged};
-ghost use Rattle.rasn_schema.specs.Records.{no_additions};
+ghost use Rattle.rasn_schema.specs.Fields.{Shapes, tagged};
+ghost use Rattle.rasn_schema.specs.Records.{record_value};
 ghost use Rattle.rasn_schema.specs.Tags.{sequence_tag, sequence_stated};
-ghost use Rattle.rasn_schema.specs.Components.{Component, parts_of, sequence_at, sequence_value, sequence_levelled, fields_of, fields_described};
+ghost use Rattle.rasn_schema.specs.Components.{TypeLists, added_parts, has_marker, root_parts, sequence_at};
+ghost use Rattle.rasn_schema.specs.Components.{sequence_levelled};
+ghost use Rattle.rasn_schema.specs.Components.{fields_of, fields_described, lists_extend};
 
-use crate::fields::{AdditionGroup, Constructed, Fields, TagTree, TypeTree};
+use crate::fields::{AdditionGroup, Constructed, FieldLists, Fields, TagTree, TypeTree};
 use crate::kinds::{Kind, OfKind};
 use rasn_types::types::Tag;
 
-/// The components of a SEQUENCE (X.680 25).
+/// The components of a SEQUENCE (X.680 25), with an extension marker or without one.
 pub trait Components {
     /// The components, in their order.
-    const COMPONENTS: Fields;
+    const COMPONENTS: FieldLists;
 
-    ghost COMPONENTS: { List Shape };
+    ghost COMPONENTS: { Shapes };
 
-    // The components.
-    ghost components: { List Component };
+    // The components, and that the fields are theirs.
+    ghost components: { (cs : TypeLists) × (COMPONENTS ≡ fields_of cs) };
 
-    // What the components of a value are, each absent or there.
+    // What the root components of a value are, each absent or there.
     ghost contents: { Self → List (Option Value) };
+
+    // What its additions are, each absent or there.
+    ghost added: { Self → List (Option Value) } = { λ _. [] };
 
     // How many levels the deepest component takes.
     ghost depth: { Self → ℕ } = { λ _. 0 };
-
-    // The fields are those of the components.
-    ghost described: { COMPONENTS ≡ fields_of components };
 }
 
 /// The kind of a SEQUENCE (X.680 25).
@@ -52,39 +53,54 @@ impl<T: Components> Kind<T> for SequenceKind {
 
     const IS_CHOICE: bool = false;
 
-    ghost schema = { sequence_at T.components };
+    ghost schema = { sequence_at T.components.0 };
 
-    ghost value = { λ x. sequence_value (T.contents x) };
+    ghost value = { λ x. record_value (T.contents x) (T.added x) };
 
     ghost levels = { λ x. suc (T.depth x) };
 
-    ghost levelled = { sequence_levelled T.components };
+    ghost levelled = { sequence_levelled T.components.0 };
 
-    ghost tag_fits = { sequence_tag (parts_of T.components) false no_additions };
+    ghost tag_fits = { let cs = T.components.0 in
+        sequence_tag (root_parts cs) (has_marker cs.behind) (added_parts cs) };
 
-    ghost tree_fits = { sequence_stated (parts_of T.components) false no_additions };
+    ghost tree_fits = { let cs = T.components.0 in
+        sequence_stated (root_parts cs) (has_marker cs.behind) (added_parts cs) };
 }
 
 impl<T: Components> Constructed for T {
-    const FIELDS: Fields = T::COMPONENTS;
+    const FIELDS: Fields = Fields {
+        list: T::COMPONENTS.root,
+    };
 
-    ghost FIELDS = { T.COMPONENTS };
+    ghost FIELDS = { T.COMPONENTS.before };
 
-    const EXTENDED_FIELDS: Option<Fields> = None;
+    const EXTENDED_FIELDS: Option<Fields> = match T::COMPONENTS.added {
+        Some(list) => Some(Fields { list }),
+        None => None,
+    };
 
-    ghost EXTENDED_FIELDS = { None };
+    ghost EXTENDED_FIELDS = { T.COMPONENTS.behind };
 
-    const IS_EXTENSIBLE: bool = false;
+    const IS_EXTENSIBLE: bool = match T::COMPONENTS.added {
+        Some(_) => true,
+        None => false,
+    };
 
-    ghost IS_EXTENSIBLE = { false };
+    ghost IS_EXTENSIBLE = { has_marker T.components.0.behind };
 
-    ghost parts = { parts_of T.components };
+    ghost parts = { root_parts T.components.0 };
 
-    ghost contents = { T.contents };
+    ghost additions = { added_parts T.components.0 };
 
-    ghost described = { λ n. T.described ∙ fields_described T.components n };
+    ghost contents = { T.Components.contents };
 
-    ghost extends = { unextended };
+    ghost added = { T.Components.added };
+
+    ghost described = { λ n. ap (λ (s : Shapes). s.before) T.components.1
+        ∙ fields_described T.components.0.before n };
+
+    ghost extends = { lists_extend T.components.0 T.components.1 };
 
     ghost is_record = { λ _. refl };
 }

@@ -83,6 +83,31 @@ impl Model for Fields {
     ghost view = { λ fields. map shape_of fields.list.now };
 }
 
+/// The components of a record as its type lists them (X.680 25.1).
+#[derive(Drop)]
+pub struct FieldLists {
+    /// The root components, each at its index.
+    pub root: &'static [Field],
+    /// The additions behind the extension marker, each at its index. There is a marker exactly where this is `Some`.
+    pub added: Option<&'static [Field]>,
+}
+
+impl Model for FieldLists {
+    ghost use Rattle.std.specs.Prelude.{map, option_map};
+    ghost use Rattle.std.specs.Coded.{codes};
+    ghost use Rattle.rasn_schema.specs.Fields.{Shapes, shape_of};
+    ghost use Rattle.rasn_schema.specs.Laws.TagCodes.{tree_code};
+
+    ghost Value = { Shapes };
+
+    ghost coded = { Prim.hlevel (codes, tree_code) };
+
+    ghost view = { λ fields. record {
+      before = map shape_of fields.root.now;
+      behind = option_map (λ list. map shape_of list.now) fields.added;
+    } };
+}
+
 impl Fields {
     ghost use Rattle.std.specs.Prelude.{map, IfOk};
     ghost use Rattle.rasn_schema.specs.Fields.{in_tag_order, may_be_absent, shape_of};

@@ -4,7 +4,8 @@ ghost use Rattle.std.specs.Prelude.{refl, Some};
 ghost use Rattle.rasn_types.specs.Values.{Value};
 ghost use Rattle.rasn_types.specs.declared.types.TheConstants.Tag.{ENUMERATED};
 ghost use Rattle.rasn_schema.specs.Fields.{tagged};
-ghost use Rattle.rasn_schema.specs.Enumerations.{IsPlaced, FindsPlaced, items_of, addeds_of, is_extensible, addeds_marked};
+ghost use Rattle.rasn_schema.specs.Enumerations.{IsPlaced, FindsPlaced, items_of, addeds_of, is_extensible};
+ghost use Rattle.rasn_schema.specs.Enumerations.{addeds_marked};
 ghost use Rattle.rasn_schema.specs.Forms.{always};
 ghost use Rattle.rasn_schema.specs.Levels.{simple_levelled};
 

@@ -1,25 +1,28 @@
 //! The schemas of character strings (X.680 41).
 
-ghost use Rattle.std.specs.Prelude.{◌≡◌, ℕ, true, refl, Some};
+ghost use Rattle.std.specs.Prelude.{◌≡◌, ℕ, List, true, refl, Some};
 ghost use Rattle.std.specs.String.{string_bytes};
-ghost use Rattle.rasn_types.specs.Alphabets.{has, visible, ia5, printable, numeric, bmp};
+ghost use Rattle.rasn_types.specs.Alphabets.{has, bmp};
 ghost use Rattle.rasn_types.specs.Codecs.{variant_of};
-ghost use Rattle.rasn_types.specs.Contents.{utf8, other};
+ghost use Rattle.rasn_types.specs.Contents.{utf8};
 ghost use Rattle.rasn_types.specs.Values.{characters, octets};
-ghost use Rattle.rasn_types.specs.declared.types.TheConstants.Tag.{BMP_STRING, GENERAL_STRING, GRAPHIC_STRING, IA5_STRING, NUMERIC_STRING, PRINTABLE_STRING, TELETEX_STRING, UTF8_STRING, VISIBLE_STRING};
+ghost use Rattle.rasn_types.specs.declared.types.TheConstants.Tag.{BMP_STRING, IA5_STRING, NUMERIC_STRING};
+ghost use Rattle.rasn_types.specs.declared.types.TheConstants.Tag.{PRINTABLE_STRING, UTF8_STRING, VISIBLE_STRING};
 ghost use Rattle.rasn_schema.specs.Fields.{tagged};
 ghost use Rattle.rasn_schema.specs.Schemas.{Schema};
 ghost use Rattle.rasn_constraints.specs.Ranges.{no_constraints};
 ghost use Rattle.rasn_schema.specs.Forms.{alphabet_of, character_schema, always};
 ghost use Rattle.rasn_schema.specs.Levels.{simple_levelled};
+ghost use Rattle.rasn_schema.specs.Tags.{IsTagOf};
 
 use crate::fields::{TagTree, TypeTree};
 use crate::schema::{AsnType, Constraints};
 use rasn_strings::alphabet::CharacterAlphabet;
 use rasn_strings::strings::{
-    BmpString, Ia5String, NumericString, PrintableString, StaticPermittedAlphabet, VisibleString,
+    BmpString, CharacterKind, CharactersOf, Ia5Kind, NumericKind, PrintableKind,
+    StaticPermittedAlphabet, VisibleKind,
 };
-use rasn_types::octet_strings::{GeneralString, GraphicString, TeletexString, Utf8String};
+use rasn_types::octet_strings::Utf8String;
 use rasn_types::types::{Codec, Tag};
 
 /// The alphabet of a string type under the first permitted alphabet of constraints: those of its characters that are
@@ -39,92 +42,60 @@ pub fn alphabet_under<S: StaticPermittedAlphabet>(
     CharacterAlphabet::new::<S>(permitted, codec == Codec::Aper)
 }
 
-impl AsnType for VisibleString {
+/// The kind of a type of characters, with the type's tag.
+pub trait TaggedCharacters: CharacterKind {
+    ghost use Rattle.rasn_types.specs.declared.types.Tag.{Tag};
+    ghost use Rattle.rasn_constraints.specs.declared.constraints.Constraints.{Constraints};
+
+    /// The tag of the type (X.680 8.4).
+    const TAG: Tag;
+
+    ghost TAG: { Tag };
+
+    // The tag is one of a string of characters.
+    ghost tag_fits: { (own : List ℕ) (c : Constraints) → IsTagOf TAG (always (character_schema own c)) };
+}
+
+impl TaggedCharacters for VisibleKind {
     const TAG: Tag = Tag::VISIBLE_STRING;
 
     ghost TAG = { VISIBLE_STRING };
 
-    const TAG_TREE: TypeTree = TypeTree(TagTree::Leaf(Tag::VISIBLE_STRING));
-
-    ghost TAG_TREE = { Some (tagged VISIBLE_STRING) };
-
-    const IS_CHOICE: bool = false;
-
-    const CONSTRAINTS: Constraints = Constraints::NONE;
-
-    ghost CONSTRAINTS = { no_constraints };
-
-    ghost schema = { λ c. always (character_schema visible c) };
-
-    ghost value = { characters };
-
-    ghost levelled = { λ c. simple_levelled (character_schema visible c) tt };
-
-    ghost tag_fits = { λ _ _. refl };
-
-    ghost tree_fits = { λ _ _. (refl, refl) };
+    ghost tag_fits = { λ _ _ _. refl };
 }
 
-impl AsnType for Ia5String {
+impl TaggedCharacters for Ia5Kind {
     const TAG: Tag = Tag::IA5_STRING;
 
     ghost TAG = { IA5_STRING };
 
-    const TAG_TREE: TypeTree = TypeTree(TagTree::Leaf(Tag::IA5_STRING));
-
-    ghost TAG_TREE = { Some (tagged IA5_STRING) };
-
-    const IS_CHOICE: bool = false;
-
-    const CONSTRAINTS: Constraints = Constraints::NONE;
-
-    ghost CONSTRAINTS = { no_constraints };
-
-    ghost schema = { λ c. always (character_schema ia5 c) };
-
-    ghost value = { characters };
-
-    ghost levelled = { λ c. simple_levelled (character_schema ia5 c) tt };
-
-    ghost tag_fits = { λ _ _. refl };
-
-    ghost tree_fits = { λ _ _. (refl, refl) };
+    ghost tag_fits = { λ _ _ _. refl };
 }
 
-impl AsnType for PrintableString {
+impl TaggedCharacters for PrintableKind {
     const TAG: Tag = Tag::PRINTABLE_STRING;
 
     ghost TAG = { PRINTABLE_STRING };
 
-    const TAG_TREE: TypeTree = TypeTree(TagTree::Leaf(Tag::PRINTABLE_STRING));
-
-    ghost TAG_TREE = { Some (tagged PRINTABLE_STRING) };
-
-    const IS_CHOICE: bool = false;
-
-    const CONSTRAINTS: Constraints = Constraints::NONE;
-
-    ghost CONSTRAINTS = { no_constraints };
-
-    ghost schema = { λ c. always (character_schema printable c) };
-
-    ghost value = { characters };
-
-    ghost levelled = { λ c. simple_levelled (character_schema printable c) tt };
-
-    ghost tag_fits = { λ _ _. refl };
-
-    ghost tree_fits = { λ _ _. (refl, refl) };
+    ghost tag_fits = { λ _ _ _. refl };
 }
 
-impl AsnType for NumericString {
+impl TaggedCharacters for NumericKind {
     const TAG: Tag = Tag::NUMERIC_STRING;
 
     ghost TAG = { NUMERIC_STRING };
 
-    const TAG_TREE: TypeTree = TypeTree(TagTree::Leaf(Tag::NUMERIC_STRING));
+    ghost tag_fits = { λ _ _ _. refl };
+}
 
-    ghost TAG_TREE = { Some (tagged NUMERIC_STRING) };
+impl<K: TaggedCharacters> AsnType for CharactersOf<K> {
+    const TAG: Tag = K::TAG;
+
+    ghost TAG = { K.TAG };
+
+    const TAG_TREE: TypeTree = TypeTree(TagTree::Leaf(K::TAG));
+
+    ghost TAG_TREE = { Some (tagged K.TAG) };
 
     const IS_CHOICE: bool = false;
 
@@ -132,13 +103,13 @@ impl AsnType for NumericString {
 
     ghost CONSTRAINTS = { no_constraints };
 
-    ghost schema = { λ c. always (character_schema numeric c) };
+    ghost schema = { λ c. always (character_schema K.alphabet c) };
 
     ghost value = { characters };
 
-    ghost levelled = { λ c. simple_levelled (character_schema numeric c) tt };
+    ghost levelled = { λ c. simple_levelled (character_schema K.alphabet c) tt };
 
-    ghost tag_fits = { λ _ _. refl };
+    ghost tag_fits = { K.tag_fits K.alphabet };
 
     ghost tree_fits = { λ _ _. (refl, refl) };
 }
@@ -189,84 +160,6 @@ impl AsnType for Utf8String {
     ghost value = { λ s. octets (string_bytes s) };
 
     ghost levelled = { λ _. simple_levelled (Schema.text utf8) tt };
-
-    ghost tag_fits = { λ _ _. refl };
-
-    ghost tree_fits = { λ _ _. (refl, refl) };
-}
-
-impl AsnType for GeneralString {
-    const TAG: Tag = Tag::GENERAL_STRING;
-
-    ghost TAG = { GENERAL_STRING };
-
-    const TAG_TREE: TypeTree = TypeTree(TagTree::Leaf(Tag::GENERAL_STRING));
-
-    ghost TAG_TREE = { Some (tagged GENERAL_STRING) };
-
-    const IS_CHOICE: bool = false;
-
-    const CONSTRAINTS: Constraints = Constraints::NONE;
-
-    ghost CONSTRAINTS = { no_constraints };
-
-    ghost schema = { λ _. always (Schema.text other) };
-
-    ghost value = { octets };
-
-    ghost levelled = { λ _. simple_levelled (Schema.text other) tt };
-
-    ghost tag_fits = { λ _ _. refl };
-
-    ghost tree_fits = { λ _ _. (refl, refl) };
-}
-
-impl AsnType for GraphicString {
-    const TAG: Tag = Tag::GRAPHIC_STRING;
-
-    ghost TAG = { GRAPHIC_STRING };
-
-    const TAG_TREE: TypeTree = TypeTree(TagTree::Leaf(Tag::GRAPHIC_STRING));
-
-    ghost TAG_TREE = { Some (tagged GRAPHIC_STRING) };
-
-    const IS_CHOICE: bool = false;
-
-    const CONSTRAINTS: Constraints = Constraints::NONE;
-
-    ghost CONSTRAINTS = { no_constraints };
-
-    ghost schema = { λ _. always (Schema.text other) };
-
-    ghost value = { octets };
-
-    ghost levelled = { λ _. simple_levelled (Schema.text other) tt };
-
-    ghost tag_fits = { λ _ _. refl };
-
-    ghost tree_fits = { λ _ _. (refl, refl) };
-}
-
-impl AsnType for TeletexString {
-    const TAG: Tag = Tag::TELETEX_STRING;
-
-    ghost TAG = { TELETEX_STRING };
-
-    const TAG_TREE: TypeTree = TypeTree(TagTree::Leaf(Tag::TELETEX_STRING));
-
-    ghost TAG_TREE = { Some (tagged TELETEX_STRING) };
-
-    const IS_CHOICE: bool = false;
-
-    const CONSTRAINTS: Constraints = Constraints::NONE;
-
-    ghost CONSTRAINTS = { no_constraints };
-
-    ghost schema = { λ _. always (Schema.text other) };
-
-    ghost value = { octets };
-
-    ghost levelled = { λ _. simple_levelled (Schema.text other) tt };
 
     ghost tag_fits = { λ _ _. refl };
 

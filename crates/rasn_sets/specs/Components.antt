@@ -1,7 +1,8 @@
 -- How a SET is read by a function for each component and one that makes the SET of what the first answered, stated over
 -- any decoder's
 -- relations (ITU-T X.691, 21).
-use Rattle.std.specs.Prelude.{◌≡◌, ℕ, suc, ◌+◌, ◌⊎◌, true, false, Bool, Result, Ok, Err, OnErr, IfOk, IsErrAnd, List, [], ◌∷◌, ◌++◌, length, map, Option, Some}
+use Rattle.std.specs.Prelude.{◌≡◌, ℕ, suc, ◌+◌, ◌⊎◌, true, false, Bool, Result, Ok, Err, OnErr, IfOk, IsErrAnd, List}
+use Rattle.std.specs.Prelude.{[], ◌∷◌, ◌++◌, length, map, Option, Some}
 use Rattle.std.specs.Fn.{Once, Shared}
 use denote.Ref.{MutBor}
 use Rattle.rasn_types.specs.Values.{Value}

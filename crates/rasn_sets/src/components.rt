@@ -5,7 +5,7 @@ ghost use Rattle.std.proofs.Common.{◌∙◌};
 ghost use Rattle.rasn_types.specs.Values.{Value};
 ghost use Rattle.rasn_types.specs.declared.types.TheConstants.Tag.{SET};
 ghost use Rattle.rasn_constraints.specs.Ranges.{no_constraints};
-ghost use Rattle.rasn_schema.specs.Components.{Component, fields_described, fields_of, parts_of};
+ghost use Rattle.rasn_schema.specs.Components.{Component, fields_described, fields_in, parts_of};
 ghost use Rattle.rasn_schema.specs.Extensions.{unextended};
 ghost use Rattle.rasn_schema.specs.Fields.{Shape, tagged};
 ghost use Rattle.rasn_schema.specs.Schemas.{by_tag};
@@ -33,7 +33,7 @@ pub trait SetComponents {
     ghost depth: { Self → ℕ } = { λ _. 0 };
 
     // The fields are those of the components.
-    ghost described: { COMPONENTS ≡ fields_of components };
+    ghost described: { COMPONENTS ≡ fields_in components };
 
     // There are as many as there are components.
     ghost counted: { (x : Self) → length (contents x) ≡ length components };

@@ -2,6 +2,7 @@
 
 ghost use Rattle.std.specs.Prelude.{◌≡◌, ◌↔◌, [], IsTrue, Some, suc, map, length};
 ghost use Rattle.std.specs.Cmp.{partial_equiv_from_equiv};
+ghost use Rattle.std.specs.List.{AllZip};
 ghost use Rattle.rasn_types.specs.Values.{bag_of};
 ghost use Rattle.rasn_types.specs.declared.types.TheConstants.Tag.{SET};
 ghost use Rattle.rasn_constraints.specs.Ranges.{no_constraints};
@@ -15,10 +16,11 @@ ghost use Rattle.rasn_sets.specs.Laws.Equality.{same_bag_equiv};
 use rasn_schema::fields::{TagTree, TypeTree};
 use rasn_schema::schema::{AsnType, Constraints};
 use rasn_types::types::Tag;
+use std::alloc::AllocError;
 use std::marker::Model;
 
 /// The members of a SET OF (X.680 28), in whatever order.
-#[derive(Drop)]
+#[derive(Drop, Debug)]
 pub struct SetOf<T> {
     members: Vec<T>,
 }
@@ -65,6 +67,16 @@ impl<T> SetOf<T> {
         ensures { IsTrue result ↔ (self.now ≡ []) }
     {
         self.members.is_empty()
+    }
+}
+
+/// Clones of the members, in the order in which these are kept.
+impl<T: Clone> Clone for SetOf<T> {
+    ghost is_clone = { λ members clones. AllZip T.is_clone members clones };
+
+    fn clone(&self) -> Result<SetOf<T>, AllocError> {
+        let members = Vec::from_clones(*self.members.allocator(), self.as_slice())?;
+        Ok(SetOf::from_vec(members))
     }
 }
 

@@ -1,5 +1,6 @@
 -- Strings of a type's own characters.
-use Rattle.std.proofs.Common.{◌≡◌, refl, sym, ◌∙◌, ℕ, zero, suc, ◌+◌, ◌<◌, ◌≤◌, true, eqb, List, [], ◌∷◌, ◌++◌, get_or, slice_get, IfSome, Fits, w16, arith, inl, inr}
+use Rattle.std.proofs.Common.{◌≡◌, refl, sym, ◌∙◌, ℕ, zero, suc, ◌+◌, ◌<◌, ◌≤◌, true, nat_lt, eqb, List, [], ◌∷◌, ◌++◌, get_or, slice_get, IfSome, Fits, w16, arith, inl, inr}
+use Rattle.std.specs.Str.{IsAscii}
 use Rattle.std.proofs.lemmas.Bool.{eqb-true, and_parts, and_from, or_cases, le-leb, lt-ltb, ltb-true}
 use Rattle.rasn_types.specs.Alphabets.{has, has_all, interval_of, greatest, visible, ia5, printable, numeric, bmp}
 use Rattle.rasn_strings.specs.Intervals.{expand}
@@ -48,6 +49,15 @@ own_get own (d ∷ cs) (suc i) h = own_get own cs i (and_parts (has own d) (has_
 pub own_units : (us : List ℕ) → ((i : ℕ) → Fits w16 (get_or us i 0)) → has_all bmp us ≡ true
 own_units [] h = refl
 own_units (u ∷ us) h = and_from (has bmp u) _ (has-interval_of 65536 0 u ∙ and_from _ _ (le-leb 0 u (omega arith)) (lt-ltb u 65536 (h 0).fits)) (own_units us (λ i. h (suc i)))
+
+-- characters below 128 are ASCII
+pub own_ascii : (own cs : List ℕ) → nat_lt (greatest own) 128 ≡ true → has_all own cs ≡ true → IsAscii cs
+own_ascii own [] f h i = omega arith
+own_ascii own (c ∷ cs) f h zero =
+    let own_c = has_below own c (and_parts (has own c) (has_all own cs) h).0 in
+    let few = ltb-true (greatest own) 128 f in
+    omega arith
+own_ascii own (c ∷ cs) f h (suc i) = own_ascii own cs f (and_parts (has own c) (has_all own cs) h).1 i
 
 -- more characters
 pub own_append : (own cs ds : List ℕ) → has_all own cs ≡ true → has_all own ds ≡ true → has_all own (cs ++ ds) ≡ true

@@ -1,3 +1,4 @@
+pub mod Foreign
 pub mod Intervals
 pub mod Prepared
 pub mod Walks

@@ -1,5 +1,6 @@
 -- What a `CharacterAlphabet` keeps, and the alphabet that it stands for.
-use Rattle.std.specs.Prelude.{ℕ, ◌≡◌, ◌≤◌, ◌^◌, Bool, true, false, nat_le, nat_lt, ◌&&◌, List, map, Option, None, Some, option_map}
+use Rattle.std.specs.Prelude.{ℕ, ◌≡◌, ◌≤◌, ◌^◌, Bool, true, false, nat_le, nat_lt, ◌&&◌, List, map, Option, None, Some}
+use Rattle.std.specs.Prelude.{option_map}
 use Rattle.std.specs.Borrow.{Bor}
 use Rattle.rasn_types.specs.Alphabets.{Alphabet, char_code, char_width, greatest, has, has_all, restricted_to}
 use Rattle.rasn_strings.specs.Intervals.{expand, ascend_from}

@@ -1,6 +1,7 @@
 //! The permitted alphabet of a character string, and the numbers that its characters are written as (X.691 30.4, 30.5).
 
-ghost use Rattle.std.specs.Prelude.{◌≡◌, ℕ, List, ◌^◌, ◌<◌, ◌≤◌, true, Some, length, slice_get, IsSome, IfSome, IsTrue, ◌↔◌};
+ghost use Rattle.std.specs.Prelude.{◌≡◌, ℕ, List, ◌^◌, ◌<◌, ◌≤◌, true, Some, length, slice_get, IsSome, IfSome, IsTrue};
+ghost use Rattle.std.specs.Prelude.{◌↔◌};
 ghost use Rattle.rasn_types.specs.Alphabets.{Alphabet, char_width, char_code, has, index_of, restricted_to};
 ghost use Rattle.rasn_strings.specs.Prepared.{AreOwn, listed};
 ghost use Rattle.rasn_types.specs.Variants.{variant_when};

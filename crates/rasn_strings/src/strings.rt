@@ -1,16 +1,27 @@
 //! The character strings whose characters all take as many bits, the known-multiplier strings (X.691 30.1), and their
 //! alphabets (X.680 41).
 
-ghost use Rattle.std.specs.Prelude.{◌≡◌, ℕ, ◌+◌, ◌≤◌, List, [], ◌∷◌, ◌++◌, true, false, length, slice_get, vec_len, vec_capacity, IfSome, IfNone, OnOk, OnErr, IsTrue, ◌↔◌, ◌==◌};
-ghost use Rattle.std.specs.Cmp.Lexicographic.{pointwise};
-ghost use Rattle.std.specs.Cmp.Rules.{comparing};
+ghost use Rattle.std.specs.Prelude.{◌≡◌, ℕ, ◌+◌, ◌≤◌, List, [], ◌∷◌, ◌++◌, true, false, nat_lt, refl, Some, length};
+ghost use Rattle.std.specs.Prelude.{slice_get, vec_len, vec_capacity, IfSome, IfNone, IfOk, Err, OnOk, OnErr, IsTrue};
+ghost use Rattle.std.specs.Prelude.{◌↔◌, ◌==◌};
+ghost use Rattle.std.specs.Cmp.Lexicographic.{nat_list_cmp_total, pointwise, slice_cmp, texts_po, texts_ties};
+ghost use Rattle.std.specs.Cmp.Rules.{comparing, hashing};
+ghost use Rattle.std.specs.Hash as fed;
+ghost use Rattle.std.specs.Ordering.{nat_cmp};
+ghost use Rattle.std.specs.Str.{chars};
 ghost use Rattle.std.proofs.Common.{rules};
-ghost use Rattle.rasn_types.specs.Alphabets.{has, has_all, visible, ia5, printable, numeric, bmp};
-ghost use Rattle.rasn_strings.specs.Intervals.{expand, ascend_from};
+ghost use Rattle.rasn_types.specs.Alphabets.{greatest, has, has_all, visible, ia5, printable, numeric, bmp};
+ghost use Rattle.rasn_strings.specs.Intervals.{expand, ascend_from, ia5_ascii};
+ghost use Rattle.rasn_strings.specs.Foreign.{IsFirstForeign};
+ghost use Rattle.rasn_strings.specs.declared.strings.StringError.TheVariants.{ForeignCharacter};
 
 use crate::intervals::{self, Interval};
 use std::alloc::{AllocError, Global};
-use std::marker::Model;
+use std::cmp::Ordering;
+use std::fmt;
+use std::hash::{Hash, Hasher};
+use std::marker::{Model, PhantomData};
+use thiserror::Error;
 
 /// A character string type with a fixed alphabet. A character is given by its value.
 pub trait StaticPermittedAlphabet: Drop {
@@ -71,42 +82,58 @@ pub trait StaticPermittedAlphabet: Drop {
 }
 
 /// A VisibleString (X.680 41): the characters 32 to 126.
-#[derive(Debug, Drop)]
-pub struct VisibleString {
-    characters: Vec<u8>,
+pub type VisibleString = CharactersOf<VisibleKind>;
+
+/// An IA5String (X.680 41): the characters 0 to 127.
+pub type Ia5String = CharactersOf<Ia5Kind>;
+
+/// A PrintableString (X.680 41): space, `' ( ) + , - . / : = ?`, digits and letters.
+pub type PrintableString = CharactersOf<PrintableKind>;
+
+/// A NumericString (X.680 41): space and digits.
+pub type NumericString = CharactersOf<NumericKind>;
+
+/// Why a text is no string of a type.
+#[derive(Clone, Copy, Debug, PartialEq, Error)]
+pub enum StringError {
+    /// A character that isn't one of the type, and its index among the text's, from 0.
+    #[error("{character:?} at index {index} is not a character of the type")]
+    ForeignCharacter {
+        /// The character.
+        character: char,
+        /// Its index.
+        index: usize,
+    },
+    /// Memory ran out.
+    #[error("out of memory")]
+    OutOfMemory,
 }
 
-impl Model for VisibleString {
-    ghost use Rattle.std.specs.Prelude.{◌≡◌, ℕ, List, true};
-    ghost use Rattle.rasn_types.specs.Alphabets.{has_all, visible};
+impl From<AllocError> for StringError {
+    ghost use Rattle.rasn_strings.specs.declared.strings.StringError.TheVariants.{OutOfMemory};
 
-    ghost Value = { List ℕ };
+    ghost from_gives = { λ _ error. error ≡ OutOfMemory };
 
-    ghost view = { λ a. a.characters.items };
-
-    ghost invariant = { λ a. has_all visible a.characters.items ≡ true };
+    fn from(_: AllocError) -> StringError {
+        StringError::OutOfMemory
+    }
 }
 
-impl VisibleString {
-    /// The string of these characters; `None` where one of them isn't a character of the type.
-    pub fn from_iso646_bytes(characters: Vec<u8>) -> Option<Self>
-        ensures some { IfSome result (λ string. string ≡ characters.items) }
-        ensures none { IfNone result (has_all visible characters.items ≡ false) }
-    {
-        if are_characters::<Self>(&characters) {
-            Some(VisibleString { characters })
-        } else {
-            None
-        }
-    }
+/// A type of strings whose characters are octets.
+pub trait CharacterKind {
+    /// The name of the type, as `Debug` writes it.
+    const NAME: &'static str;
 
-    /// The characters.
-    pub fn as_iso646_bytes(&self) -> &[u8]
-        ensures characters { result.now ≡ self.now }
-        ensures own { has_all visible self.now ≡ true }
-    {
-        self.characters.as_slice()
-    }
+    // The type's characters in ascending order, each once (X.680 41).
+    ghost alphabet: { List ℕ };
+
+    /// The type's characters, as intervals in ascending order.
+    fn intervals() -> &'static [Interval]
+        ensures expands { expand result.now ≡ alphabet }
+        ensures ascends { ascend_from 0 result.now ≡ true };
+
+    // Each character is one of ISO 646.
+    ghost are_ascii: { nat_lt (greatest alphabet) 128 ≡ true };
 }
 
 const VISIBLE: &[Interval] = &[Interval {
@@ -114,95 +141,19 @@ const VISIBLE: &[Interval] = &[Interval {
     last: 126,
 }];
 
-impl StaticPermittedAlphabet for VisibleString {
-    ghost alphabet = { visible };
+/// The kind of VisibleString (X.680 41).
+pub struct VisibleKind {}
 
-    ghost characters = { λ s. s };
+impl CharacterKind for VisibleKind {
+    const NAME: &'static str = "VisibleString";
+
+    ghost alphabet = { visible };
 
     fn intervals() -> &'static [Interval] {
         VISIBLE
     }
 
-    fn new(alloc: Global) -> Self {
-        VisibleString {
-            characters: Vec::new(alloc),
-        }
-    }
-
-    fn push(&mut self, character: u32) -> Result<(), AllocError> {
-        self.characters.push(character as u8)?;
-        Ok(())
-    }
-
-    fn push_octets(&mut self, octets: &[u8]) -> Result<(), AllocError> {
-        self.characters.extend_from_slice(octets)?;
-        Ok(())
-    }
-
-    fn octets(&self) -> Option<&[u8]> {
-        Some(self.characters.as_slice())
-    }
-
-    fn len(&self) -> usize {
-        self.characters.len()
-    }
-
-    fn character(&self, index: usize) -> Option<u32> {
-        character_at(&self.characters, index)
-    }
-}
-
-impl PartialEq for VisibleString {
-    ghost eq = { pointwise ◌==◌ };
-
-    ghost laws = { Prim.search (comparing, rules) };
-
-    fn eq(&self, other: &VisibleString) -> bool {
-        self.as_iso646_bytes() == other.as_iso646_bytes()
-    }
-}
-
-impl Eq for VisibleString {
-    ghost laws = { Prim.search (comparing, rules) };
-}
-
-/// A IA5String (X.680 41): the characters 0 to 127.
-#[derive(Debug, Drop)]
-pub struct Ia5String {
-    characters: Vec<u8>,
-}
-
-impl Model for Ia5String {
-    ghost use Rattle.std.specs.Prelude.{◌≡◌, ℕ, List, true};
-    ghost use Rattle.rasn_types.specs.Alphabets.{has_all, ia5};
-
-    ghost Value = { List ℕ };
-
-    ghost view = { λ a. a.characters.items };
-
-    ghost invariant = { λ a. has_all ia5 a.characters.items ≡ true };
-}
-
-impl Ia5String {
-    /// The string of these characters; `None` where one of them isn't a character of the type.
-    pub fn from_iso646_bytes(characters: Vec<u8>) -> Option<Self>
-        ensures some { IfSome result (λ string. string ≡ characters.items) }
-        ensures none { IfNone result (has_all ia5 characters.items ≡ false) }
-    {
-        if are_characters::<Self>(&characters) {
-            Some(Ia5String { characters })
-        } else {
-            None
-        }
-    }
-
-    /// The characters.
-    pub fn as_iso646_bytes(&self) -> &[u8]
-        ensures characters { result.now ≡ self.now }
-        ensures own { has_all ia5 self.now ≡ true }
-    {
-        self.characters.as_slice()
-    }
+    ghost are_ascii = { refl };
 }
 
 const IA5: &[Interval] = &[Interval {
@@ -210,95 +161,19 @@ const IA5: &[Interval] = &[Interval {
     last: 127,
 }];
 
-impl StaticPermittedAlphabet for Ia5String {
-    ghost alphabet = { ia5 };
+/// The kind of IA5String (X.680 41).
+pub struct Ia5Kind {}
 
-    ghost characters = { λ s. s };
+impl CharacterKind for Ia5Kind {
+    const NAME: &'static str = "Ia5String";
+
+    ghost alphabet = { ia5 };
 
     fn intervals() -> &'static [Interval] {
         IA5
     }
 
-    fn new(alloc: Global) -> Self {
-        Ia5String {
-            characters: Vec::new(alloc),
-        }
-    }
-
-    fn push(&mut self, character: u32) -> Result<(), AllocError> {
-        self.characters.push(character as u8)?;
-        Ok(())
-    }
-
-    fn push_octets(&mut self, octets: &[u8]) -> Result<(), AllocError> {
-        self.characters.extend_from_slice(octets)?;
-        Ok(())
-    }
-
-    fn octets(&self) -> Option<&[u8]> {
-        Some(self.characters.as_slice())
-    }
-
-    fn len(&self) -> usize {
-        self.characters.len()
-    }
-
-    fn character(&self, index: usize) -> Option<u32> {
-        character_at(&self.characters, index)
-    }
-}
-
-impl PartialEq for Ia5String {
-    ghost eq = { pointwise ◌==◌ };
-
-    ghost laws = { Prim.search (comparing, rules) };
-
-    fn eq(&self, other: &Ia5String) -> bool {
-        self.as_iso646_bytes() == other.as_iso646_bytes()
-    }
-}
-
-impl Eq for Ia5String {
-    ghost laws = { Prim.search (comparing, rules) };
-}
-
-/// A PrintableString (X.680 41): space, `' ( ) + , - . / : = ?`, digits and letters.
-#[derive(Debug, Drop)]
-pub struct PrintableString {
-    characters: Vec<u8>,
-}
-
-impl Model for PrintableString {
-    ghost use Rattle.std.specs.Prelude.{◌≡◌, ℕ, List, true};
-    ghost use Rattle.rasn_types.specs.Alphabets.{has_all, printable};
-
-    ghost Value = { List ℕ };
-
-    ghost view = { λ a. a.characters.items };
-
-    ghost invariant = { λ a. has_all printable a.characters.items ≡ true };
-}
-
-impl PrintableString {
-    /// The string of these characters; `None` where one of them isn't a character of the type.
-    pub fn from_bytes(characters: Vec<u8>) -> Option<Self>
-        ensures some { IfSome result (λ string. string ≡ characters.items) }
-        ensures none { IfNone result (has_all printable characters.items ≡ false) }
-    {
-        if are_characters::<Self>(&characters) {
-            Some(PrintableString { characters })
-        } else {
-            None
-        }
-    }
-
-    /// The characters.
-    pub fn as_bytes(&self) -> &[u8]
-        ensures characters { result.now ≡ self.now }
-        ensures own { has_all printable self.now ≡ true }
-    {
-        self.characters.as_slice()
-    }
+    ghost are_ascii = { ia5_ascii };
 }
 
 const PRINTABLE: &[Interval] = &[
@@ -332,95 +207,19 @@ const PRINTABLE: &[Interval] = &[
     },
 ];
 
-impl StaticPermittedAlphabet for PrintableString {
-    ghost alphabet = { printable };
+/// The kind of PrintableString (X.680 41).
+pub struct PrintableKind {}
 
-    ghost characters = { λ s. s };
+impl CharacterKind for PrintableKind {
+    const NAME: &'static str = "PrintableString";
+
+    ghost alphabet = { printable };
 
     fn intervals() -> &'static [Interval] {
         PRINTABLE
     }
 
-    fn new(alloc: Global) -> Self {
-        PrintableString {
-            characters: Vec::new(alloc),
-        }
-    }
-
-    fn push(&mut self, character: u32) -> Result<(), AllocError> {
-        self.characters.push(character as u8)?;
-        Ok(())
-    }
-
-    fn push_octets(&mut self, octets: &[u8]) -> Result<(), AllocError> {
-        self.characters.extend_from_slice(octets)?;
-        Ok(())
-    }
-
-    fn octets(&self) -> Option<&[u8]> {
-        Some(self.characters.as_slice())
-    }
-
-    fn len(&self) -> usize {
-        self.characters.len()
-    }
-
-    fn character(&self, index: usize) -> Option<u32> {
-        character_at(&self.characters, index)
-    }
-}
-
-impl PartialEq for PrintableString {
-    ghost eq = { pointwise ◌==◌ };
-
-    ghost laws = { Prim.search (comparing, rules) };
-
-    fn eq(&self, other: &PrintableString) -> bool {
-        self.as_bytes() == other.as_bytes()
-    }
-}
-
-impl Eq for PrintableString {
-    ghost laws = { Prim.search (comparing, rules) };
-}
-
-/// A NumericString (X.680 41): space and digits.
-#[derive(Debug, Drop)]
-pub struct NumericString {
-    characters: Vec<u8>,
-}
-
-impl Model for NumericString {
-    ghost use Rattle.std.specs.Prelude.{◌≡◌, ℕ, List, true};
-    ghost use Rattle.rasn_types.specs.Alphabets.{has_all, numeric};
-
-    ghost Value = { List ℕ };
-
-    ghost view = { λ a. a.characters.items };
-
-    ghost invariant = { λ a. has_all numeric a.characters.items ≡ true };
-}
-
-impl NumericString {
-    /// The string of these characters; `None` where one of them isn't a character of the type.
-    pub fn from_bytes(characters: Vec<u8>) -> Option<Self>
-        ensures some { IfSome result (λ string. string ≡ characters.items) }
-        ensures none { IfNone result (has_all numeric characters.items ≡ false) }
-    {
-        if are_characters::<Self>(&characters) {
-            Some(NumericString { characters })
-        } else {
-            None
-        }
-    }
-
-    /// The characters.
-    pub fn as_bytes(&self) -> &[u8]
-        ensures characters { result.now ≡ self.now }
-        ensures own { has_all numeric self.now ≡ true }
-    {
-        self.characters.as_slice()
-    }
+    ghost are_ascii = { refl };
 }
 
 const NUMERIC: &[Interval] = &[
@@ -434,18 +233,128 @@ const NUMERIC: &[Interval] = &[
     },
 ];
 
-impl StaticPermittedAlphabet for NumericString {
-    ghost alphabet = { numeric };
+/// The kind of NumericString (X.680 41).
+pub struct NumericKind {}
 
-    ghost characters = { λ s. s };
+impl CharacterKind for NumericKind {
+    const NAME: &'static str = "NumericString";
+
+    ghost alphabet = { numeric };
 
     fn intervals() -> &'static [Interval] {
         NUMERIC
     }
 
+    ghost are_ascii = { refl };
+}
+
+/// A kind whose characters are those of ISO 646, by which name they are given and taken.
+pub trait Iso646Kind: CharacterKind {}
+
+impl Iso646Kind for VisibleKind {}
+
+impl Iso646Kind for Ia5Kind {}
+
+/// A string of characters of a kind.
+#[derive(Drop)]
+pub struct CharactersOf<K: CharacterKind> {
+    characters: Vec<u8>,
+    kind: PhantomData<K>,
+}
+
+impl<K: CharacterKind> Model for CharactersOf<K> {
+    ghost use Rattle.std.specs.Prelude.{◌≡◌, ℕ, List, true};
+    ghost use Rattle.rasn_types.specs.Alphabets.{has_all};
+
+    ghost Value = { List ℕ };
+
+    ghost view = { λ a. a.characters.items };
+
+    ghost invariant = { λ a. has_all K.alphabet a.characters.items ≡ true };
+}
+
+impl<K: CharacterKind> CharactersOf<K> {
+    /// The string of these characters; `None` where one of them isn't a character of the type.
+    pub fn from_bytes(characters: Vec<u8>) -> Option<Self>
+        ensures some { IfSome result (λ string. string ≡ characters.items) }
+        ensures none { IfNone result (has_all K.alphabet characters.items ≡ false) }
+    {
+        if are_characters(K::intervals(), &characters) {
+            Some(CharactersOf {
+                characters,
+                kind: PhantomData::<K>,
+            })
+        } else {
+            None
+        }
+    }
+
+    /// The characters.
+    pub fn as_bytes(&self) -> &[u8]
+        ensures characters { result.now ≡ self.now }
+        ensures own { has_all K.alphabet self.now ≡ true }
+    {
+        self.characters.as_slice()
+    }
+
+    /// The string of a text's characters.
+    pub fn from_str(alloc: Global, text: &str) -> Result<Self, StringError>
+        ensures ok { IfOk result (λ string. string ≡ chars text.now) }
+        ensures foreign { (character index : ℕ) → result ≡ Err (ForeignCharacter character index)
+            → IsFirstForeign K.alphabet (chars text.now) character index }
+    {
+        let intervals = K::intervals();
+        let mut string = <Self as StaticPermittedAlphabet>::new(alloc);
+        for character in text.chars() {
+            let value = u32::from(character);
+            if !intervals::contains(intervals, value) {
+                let index = string.len();
+                return Err(StringError::ForeignCharacter { character, index });
+            }
+            string.push(value)?;
+        }
+        Ok(string)
+    }
+
+    /// The characters as text.
+    pub fn as_str(&self) -> &str
+        ensures { result.now ≡ self.now }
+    {
+        str::from_utf8(self.characters.as_slice()).unwrap()
+    }
+}
+
+impl<K: Iso646Kind> CharactersOf<K> {
+    /// The string of these characters; `None` where one of them isn't a character of the type.
+    pub fn from_iso646_bytes(characters: Vec<u8>) -> Option<Self>
+        ensures some { IfSome result (λ string. string ≡ characters.items) }
+        ensures none { IfNone result (has_all K.alphabet characters.items ≡ false) }
+    {
+        CharactersOf::from_bytes(characters)
+    }
+
+    /// The characters.
+    pub fn as_iso646_bytes(&self) -> &[u8]
+        ensures characters { result.now ≡ self.now }
+        ensures own { has_all K.alphabet self.now ≡ true }
+    {
+        self.as_bytes()
+    }
+}
+
+impl<K: CharacterKind> StaticPermittedAlphabet for CharactersOf<K> {
+    ghost alphabet = { K.alphabet };
+
+    ghost characters = { λ s. s };
+
+    fn intervals() -> &'static [Interval] {
+        K::intervals()
+    }
+
     fn new(alloc: Global) -> Self {
-        NumericString {
+        CharactersOf {
             characters: Vec::new(alloc),
+            kind: PhantomData::<K>,
         }
     }
 
@@ -472,18 +381,83 @@ impl StaticPermittedAlphabet for NumericString {
     }
 }
 
-impl PartialEq for NumericString {
+/// The characters as text.
+impl<K: CharacterKind> fmt::Display for CharactersOf<K> {
+    ghost output = { λ string. Some string };
+
+    fn fmt<W: fmt::Write>(&self, f: &mut fmt::Formatter<W>) -> fmt::Result {
+        f.write_str(self.as_str())
+    }
+}
+
+impl<K: CharacterKind> fmt::Debug for CharactersOf<K> {
+    fn fmt<W: fmt::Write>(&self, f: &mut fmt::Formatter<W>) -> fmt::Result {
+        f.debug_struct(K::NAME)
+            .field("characters", &self.characters)
+            .finish()
+    }
+}
+
+impl<K: CharacterKind> PartialEq for CharactersOf<K> {
     ghost eq = { pointwise ◌==◌ };
 
     ghost laws = { Prim.search (comparing, rules) };
 
-    fn eq(&self, other: &NumericString) -> bool {
-        self.as_bytes() == other.as_bytes()
+    fn eq(&self, other: &Self) -> bool {
+        self.characters == other.characters
     }
 }
 
-impl Eq for NumericString {
+impl<K: CharacterKind> Eq for CharactersOf<K> {
     ghost laws = { Prim.search (comparing, rules) };
+}
+
+/// The characters, one by one: what begins another stands before it.
+impl<K: CharacterKind> PartialOrd for CharactersOf<K> {
+    ghost partial_cmp = { λ a b. Some (slice_cmp nat_cmp a b) };
+
+    ghost laws = { texts_po };
+
+    fn partial_cmp(&self, other: &Self) -> Option<Ordering> {
+        Some(self.cmp(other))
+    }
+}
+
+impl<K: CharacterKind> Ord for CharactersOf<K> {
+    ghost cmp = { slice_cmp nat_cmp };
+
+    ghost total = { nat_list_cmp_total };
+
+    ghost matches_partial_cmp = { λ _ _. refl };
+
+    ghost matches_eq = { texts_ties };
+
+    fn cmp(&self, other: &Self) -> Ordering {
+        self.characters.as_slice().cmp(other.characters.as_slice())
+    }
+}
+
+/// The hash of the characters.
+impl<K: CharacterKind> Hash for CharactersOf<K> {
+    ghost hash_input = { fed.slice fed.u8 };
+
+    ghost respects_eq = { Prim.search (hashing, rules) };
+
+    fn hash<H: Hasher>(&self, state: &mut H) {
+        self.characters.as_slice().hash(state);
+    }
+}
+
+/// The same characters, in memory of their own.
+impl<K: CharacterKind> Clone for CharactersOf<K> {
+    ghost is_clone = { λ held copy. copy ≡ held };
+
+    fn clone(&self) -> Result<Self, AllocError> {
+        Ok(CharactersOf {
+            characters: self.characters.clone()?,
+            kind: PhantomData::<K>,
+        })
+    }
 }
 
 /// A BMPString (X.680 41): the characters 0 to 65535, surrogates among them (this project's choice).
@@ -580,11 +554,55 @@ impl Eq for BmpString {
     ghost laws = { Prim.search (comparing, rules) };
 }
 
-/// Whether all octets are characters of a type.
-fn are_characters<S: StaticPermittedAlphabet>(octets: &[u8]) -> bool
-    ensures { result ≡ has_all S.alphabet octets.now }
+/// The characters, one by one: what begins another stands before it.
+impl PartialOrd for BmpString {
+    ghost partial_cmp = { λ a b. Some (slice_cmp nat_cmp a b) };
+
+    ghost laws = { texts_po };
+
+    fn partial_cmp(&self, other: &Self) -> Option<Ordering> {
+        Some(self.cmp(other))
+    }
+}
+
+impl Ord for BmpString {
+    ghost cmp = { slice_cmp nat_cmp };
+
+    ghost total = { nat_list_cmp_total };
+
+    ghost matches_partial_cmp = { λ _ _. refl };
+
+    ghost matches_eq = { texts_ties };
+
+    fn cmp(&self, other: &Self) -> Ordering {
+        self.units.as_slice().cmp(other.units.as_slice())
+    }
+}
+
+/// The hash of the characters.
+impl Hash for BmpString {
+    ghost hash_input = { fed.slice fed.u16 };
+
+    ghost respects_eq = { Prim.search (hashing, rules) };
+
+    fn hash<H: Hasher>(&self, state: &mut H) {
+        self.units.as_slice().hash(state);
+    }
+}
+
+/// The same characters, in memory of their own.
+impl Clone for BmpString {
+    ghost is_clone = { λ held copy. copy ≡ held };
+
+    fn clone(&self) -> Result<Self, AllocError> {
+        Ok(BmpString::from_units(self.units.clone()?))
+    }
+}
+
+/// Whether all octets are within intervals.
+fn are_characters(intervals: &[Interval], octets: &[u8]) -> bool
+    ensures { result ≡ has_all (expand intervals.now) octets.now }
 {
-    let intervals = S::intervals();
     for octet in octets {
         if !intervals::contains(intervals, u32::from(*octet)) {
             return false;

@@ -1,5 +1,6 @@
 -- The texts of moments (ITU-T X.680, 46 and 47; X.690, 11.7 and 11.8).
-use Rattle.std.specs.Prelude.{◌≡◌, ◌<◌, ◌^◌, zero, suc, ℕ, ◌+◌, ◌/◌, ◌%◌, Bool, true, if◌then◌else◌, ◌&&◌, ◌==◌, List, [], ◌∷◌, ◌++◌, ℤ, pos}
+use Rattle.std.specs.Prelude.{◌≡◌, ◌<◌, ◌^◌, zero, suc, ℕ, ◌+◌, ◌/◌, ◌%◌, Bool, true, if◌then◌else◌, ◌&&◌, ◌==◌, List}
+use Rattle.std.specs.Prelude.{[], ◌∷◌, ◌++◌, ℤ, pos}
 use lib.Signed.{le_z}
 use Rattle.rasn_types.specs.Contents.{year_size, is_moment, two, ends_well, is_fraction}
 use Rattle.jiff.specs.Types.{DateTime}

@@ -1,6 +1,7 @@
 //! UTCTime and its canonical text (X.680 47, X.690 11.8).
 
-ghost use Rattle.std.specs.Prelude.{◌≡◌, ◌↔◌, ◌≤ℤ◌, pos, ◌++◌, ◌∷◌, [], Err, true, false, length, IsOk, IfOk, MatchOption};
+ghost use Rattle.std.specs.Prelude.{◌≡◌, ◌↔◌, ◌≤ℤ◌, pos, ◌++◌, ◌∷◌, [], Err, true, false, length, IsOk, IfOk};
+ghost use Rattle.std.specs.Prelude.{MatchOption};
 ghost use Rattle.rasn_types.specs.Contents.{TimeKind, is_time, are_digits as all_are_digits};
 ghost use Rattle.jiff.specs.Types.{DateTime as Plain};
 ghost use Rattle.rasn_times.specs.Moments.{is_utc_moment, utc_characters, utc_text, IsSameMoment, IsUtcMomentOf};

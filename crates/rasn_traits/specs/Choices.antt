@@ -1,12 +1,14 @@
 -- What a call owes that writes or reads a choice (X.680 29), and what stands in it, stated over any codec's relations.
 -- `choice` is the choice by the number of levels of its alternatives, `vs` and `xs` are its variants before an
 -- extension marker and behind one, and `d` and `k` are the list and the place there in which an alternative stands.
-use Rattle.std.specs.Prelude.{◌≡◌, ℕ, suc, ◌≤◌, ◌⊎◌, true, false, Result, Ok, Err, OnErr, IsErr, IsErrAnd, IfOk, IfSome, List, Option, Some, None}
+use Rattle.std.specs.Prelude.{◌≡◌, ℕ, suc, ◌≤◌, ◌⊎◌, true, false, Result, Ok, Err, OnErr, IsErr, IsErrAnd, IfOk, IfSome}
+use Rattle.std.specs.Prelude.{List, Option, Some, None}
 use Rattle.rasn_types.specs.Values.{Value, alternative, Side, root, added}
 use Rattle.rasn_types.specs.declared.types.Tag.{Tag}
 use Rattle.rasn_schema.specs.Schemas
 use Rattle.rasn_schema.specs.Schemas.{Schema}
-use Rattle.rasn_schema.specs.Choices.{VariantShape, alternative_in, one_level_in, place_of, variants_behind, variants_on}
+use Rattle.rasn_schema.specs.Choices.{VariantShape, alternative_in, one_level_in, place_of, variants_behind}
+use Rattle.rasn_schema.specs.Choices.{variants_on}
 use Rattle.rasn_schema.specs.Components.{Chosen}
 use Rattle.rasn_schema.specs.Fields.{tag_of}
 use Rattle.rasn_schema.specs.Normal.{normal}

@@ -99,6 +99,18 @@ abbrev pub IsCounted : Order → Parts → List (Option Value) → Type 0
 IsCounted listed ps rs = Unit {0}
 IsCounted by_tag ps rs = length rs ≡ count ps
 
+-- a fact at each unfolding of root components and of additions that is deep enough for values of k levels
+pub record AtFields (parts additions : ℕ → Parts) (k : ℕ) (P : Parts → Parts → Type 0) : Type 0 where
+  pub at : (n : ℕ) → k ≤ n → P (parts n) (additions n)
+
+-- A call that writes root components and then gives additions, at each depth that holds them: an error leaves the
+-- encoder failed, and the variant stays.
+pub record WritesFields {E X : Type 0} (rules : EncoderRules E X) (parts additions : ℕ → Parts) (k : ℕ)
+    (rs xs : List (Option Value)) (x : X) (result : Result (Unit {0}) E) (y : X) : Type 0 where
+  pub law : AtFields parts additions k (λ ps qs. WrittenFields rules ps qs (normals ps rs) (normals qs xs) x result y)
+  pub fails : OnErr result (rules.failed y ≡ true)
+  pub kept : rules.codec y ≡ rules.codec x
+
 -- What passes out of a scope of some components, which was opened at x and begins at i: want of memory, and the refusal
 -- of a component, which is one of the record: a SEQUENCE, or a SET.
 pub record Passes {E X : Type 0} (rules : EncoderRules E X) (order : Order) (ps : Parts) (marker : Bool) (qs : Parts)
@@ -238,6 +250,25 @@ abbrev pub AnswersFields : {S T E : Type 0} → DecoderRules E S → Parts → P
     → (T → List (Option Value)) → S → Result T E → S → Type 0
 AnswersFields rules ps qs contents added s (Ok v) t = ReadsFields rules ps qs s (contents v) (added v) t
 AnswersFields rules ps qs contents added s (Err e) t = rules.memory e s ⊎ ReadsNoFields rules ps qs e s
+
+-- Components are read. A search takes this as one word, and doesn't look for the state in front of the additions.
+unfoldable pub AreRead : {E S : Type 0} → DecoderRules E S → Parts → Parts → S → List (Option Value)
+    → List (Option Value) → S → Type 0
+AreRead rules ps qs s rs xs t = ReadsFields rules ps qs s rs xs t
+
+-- The same in that word.
+abbrev pub AnswersRecord : {S T E : Type 0} → DecoderRules E S → Parts → Parts → (T → List (Option Value))
+    → (T → List (Option Value)) → S → Result T E → S → Type 0
+AnswersRecord rules ps qs contents added s (Ok v) t = AreRead rules ps qs s (contents v) (added v) t
+AnswersRecord rules ps qs contents added s (Err e) t = rules.memory e s ⊎ ReadsNoFields rules ps qs e s
+
+-- A call that reads root components and then additions, to the levels left: an error leaves the decoder failed, and the
+-- variant stays.
+pub record TakesFields {S T E : Type 0} (rules : DecoderRules E S) (parts additions : ℕ → Parts)
+    (contents added : T → List (Option Value)) (s : S) (result : Result T E) (t : S) : Type 0 where
+  pub law : AnswersRecord rules (parts (rules.levels s)) (additions (rules.levels s)) contents added s result t
+  pub fails : OnErr result (rules.failed t ≡ true)
+  pub kept : rules.codec t ≡ rules.codec s
 
 -- Ok is inside a record, one level deeper, and Err, memory aside, comes only where no such record is read.
 abbrev pub OpenedToRead : {E S O : Type 0} → DecoderRules E S → (Schema → S → O → S → Type 0) → (ℕ → Parts) → Bool

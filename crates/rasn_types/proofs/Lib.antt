@@ -10,3 +10,5 @@ pub mod Widths
 pub mod ContentsRead
 pub mod Walking
 pub mod Writing
+pub mod Iterating
+pub mod Orders

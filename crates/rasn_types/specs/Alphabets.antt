@@ -1,6 +1,7 @@
 -- The known-multiplier character strings: how wide a character is, and its code (ITU-T X.691, 30.5).
 -- An alphabet is its characters' values in ascending order, each once.
-use Rattle.std.specs.Prelude.{ℕ, zero, suc, ◌+◌, ◌^◌, max, Bool, true, false, if◌then◌else◌, nat_le, nat_lt, ◌==◌, ◌&&◌, ◌||◌, List, [], ◌∷◌, ◌++◌, length, filter, Option, Some, None}
+use Rattle.std.specs.Prelude.{ℕ, zero, suc, ◌+◌, ◌^◌, max, Bool, true, false, if◌then◌else◌, nat_le, nat_lt, ◌==◌, ◌&&◌}
+use Rattle.std.specs.Prelude.{◌||◌, List, [], ◌∷◌, ◌++◌, length, filter, Option, Some, None}
 use Rattle.rasn_types.specs.Bits.{width}
 use Rattle.rasn_types.specs.Variants.{Variant, aligned, unaligned}
 

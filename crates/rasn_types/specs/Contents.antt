@@ -1,6 +1,8 @@
 -- Which contents a text, an identifier, a date and a time may have (ITU-T X.680, 32, 41, 46, 47; X.690, 8.19, 11.7,
 -- 11.8).
-use Rattle.std.specs.Prelude.{ℕ, zero, suc, ◌+◌, ◌-◌, ◌*◌, ◌%◌, ◌^◌, Bool, true, false, if◌then◌else◌, not, ◌&&◌, ◌||◌, nat_le, nat_lt, ◌==◌, List, [], ◌∷◌, length, take, drop, Option, Some, None, ℤ, pos, negsuc}
+use Rattle.std.specs.Prelude.{ℕ, zero, suc, ◌+◌, ◌-◌, ◌*◌, ◌%◌, ◌^◌, Bool, true, false, if◌then◌else◌, not, ◌&&◌, ◌||◌}
+use Rattle.std.specs.Prelude.{nat_le, nat_lt, ◌==◌, List, [], ◌∷◌, length, take, drop, Option, Some, None, ℤ, pos}
+use Rattle.std.specs.Prelude.{negsuc}
 use lib.Signed.{le_z}
 
 -- X.680 41: a UTF8String; or a GeneralString, GraphicString or TeletexString, which is any octets (this project's

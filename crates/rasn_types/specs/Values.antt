@@ -1,5 +1,6 @@
 -- The values of the types of ITU-T X.680, without their types.
-use Rattle.std.specs.Prelude.{ℕ, Bool, true, false, cond, if◌then◌else◌, nat_lt, ◌==◌, List, [], ◌∷◌, ◌++◌, map, length, Option, Some, None, ℤ, pos, negsuc}
+use Rattle.std.specs.Prelude.{ℕ, Bool, true, false, cond, if◌then◌else◌, nat_lt, ◌==◌, List, [], ◌∷◌, ◌++◌, map, length}
+use Rattle.std.specs.Prelude.{Option, Some, None, ℤ, pos, negsuc}
 
 -- X.680 52: which of two lists an item or an alternative stands in: that before the extension marker, or that after it
 pub data Side : Type 0 where

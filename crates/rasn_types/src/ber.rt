@@ -1,8 +1,11 @@
 //! The contents octets of OBJECT IDENTIFIER (X.690 8.19).
 
-ghost use Rattle.std.specs.Prelude.{◌≡◌, ◌↔◌, ◌<◌, ◌≤◌, ◌++◌, ℕ, List, None, Err, true, false, length, take, IfOk, OnOk, OnErr, MatchOption};
+ghost use Rattle.std.specs.Prelude.{◌≡◌, ◌↔◌, ◌<◌, ◌≤◌, ◌++◌, ℕ, List, None, Err, true, false, length, take, IfOk};
+ghost use Rattle.std.specs.Prelude.{OnOk, OnErr, MatchOption};
 ghost use Rattle.rasn_types.specs.Contents.{is_identifier, next_arc};
-ghost use Rattle.rasn_types.specs.Identifiers.{are_arcs, are_arcs_so_far, begun_arc, contents, leading_octets, limit_behind, subidentifier, subidentifiers, IsFirstSubidentifier, IsReadOn};
+ghost use Rattle.rasn_types.specs.Identifiers.{are_arcs, are_arcs_so_far, begun_arc, contents, leading_octets};
+ghost use Rattle.rasn_types.specs.Identifiers.{limit_behind, subidentifier, subidentifiers, IsFirstSubidentifier};
+ghost use Rattle.rasn_types.specs.Identifiers.{IsReadOn};
 ghost use Rattle.rasn_types.specs.declared.ber.BerError.TheVariants.{InvalidObjectIdentifier};
 
 use std::alloc::{AllocError, Allocator, Global};

@@ -1,9 +1,11 @@
 //! Bits kept in octets (X.680 22).
 
-ghost use Rattle.std.specs.Prelude.{◌≡◌, ◌+◌, ◌-◌, ◌*◌, ◌^◌, ◌<◌, ◌≤◌, [], ◌∷◌, ◌++◌, length, take, slice_get, false, replicate, IfOk, OnOk, OnErr, IsTrue, ◌↔◌};
+ghost use Rattle.std.specs.Prelude.{◌≡◌, ◌+◌, ◌-◌, ◌*◌, ◌^◌, ◌<◌, ◌≤◌, [], ◌∷◌, ◌++◌, length, take, slice_get, false};
+ghost use Rattle.std.specs.Prelude.{replicate, IfOk, OnOk, OnErr, IsTrue, ◌↔◌};
 ghost use Rattle.std.specs.Bool.{beq};
 ghost use Rattle.std.specs.Cmp.{bool_eq_equiv, partial_equiv_from_equiv};
 ghost use Rattle.std.specs.Cmp.Lexicographic.{lists_equiv, pointwise};
+ghost use Rattle.std.specs.Iterator.{YieldsFirst, item_count};
 ghost use Rattle.rasn_types.specs.Bits.{AreOctets, number_of, to_bits, unpack};
 ghost use Rattle.rasn_types.specs.Packed.{packed, ArePacked};
 
@@ -55,13 +57,20 @@ impl BitString {
         requires { len ≤ 8 * length octets.items }
         ensures { result ≡ take len (unpack octets.items) }
     {
-        note_octets(octets.as_slice());
         let mut kept = octets;
-        kept.truncate(len.div_ceil(8));
-        if len % 8 > 0 {
-            kept[len / 8] = first_bits(kept[len / 8], len % 8);
-        }
+        keep_bits(&mut kept, len);
         BitString { octets: kept, len }
+    }
+
+    /// These bits. The only error is want of memory.
+    pub fn from_slice(alloc: Global, bits: &[bool]) -> Result<BitString, AllocError>
+        ensures { IfOk result (λ kept. kept ≡ bits.now) }
+    {
+        let mut kept = BitString::new(alloc);
+        for bit in bits {
+            kept.push(*bit)?;
+        }
+        Ok(kept)
     }
 
     /// How many bits there are.
@@ -107,6 +116,70 @@ impl BitString {
         self.len += 1;
         Ok(())
     }
+
+    /// Keeps the first `len` bits, where there are more.
+    pub fn truncate(&mut self, len: usize)
+        ensures { self.new ≡ take len self.old }
+    {
+        if len < self.len {
+            keep_bits(&mut self.octets, len);
+            self.len = len;
+        }
+    }
+
+    /// The bits in their order.
+    pub fn iter(&self) -> BitIter<'_>
+        ensures { result ≡ self.now }
+    {
+        BitIter {
+            bits: self,
+            index: 0,
+        }
+    }
+}
+
+/// Bits of a `BitString` that are still to come.
+#[derive(Drop)]
+pub struct BitIter<'bits> {
+    bits: &'bits BitString,
+    index: usize,
+}
+
+impl<'bits> Model for BitIter<'bits> {
+    ghost use Rattle.std.specs.Prelude.{List, Bool, drop};
+
+    ghost Value = { List Bool };
+
+    ghost view = { λ a. drop a.index a.bits.now };
+}
+
+impl<'bits> Iterator for BitIter<'bits> {
+    type Item = bool;
+
+    ghost next_gives = { YieldsFirst (λ bits. bits) };
+
+    ghost remaining = { item_count (λ bits. bits) };
+
+    fn next(&mut self) -> Option<bool> {
+        if self.bits.len() <= self.index {
+            return None;
+        }
+        self.index += 1;
+        self.bits.get(self.index - 1)
+    }
+}
+
+/// The bits in memory of their own.
+impl Clone for BitString {
+    ghost is_clone = { λ bits copy. copy ≡ bits };
+
+    fn clone(&self) -> Result<BitString, AllocError> {
+        let octets = Vec::from_slice(*self.octets.allocator(), &self.octets)?;
+        Ok(BitString {
+            octets,
+            len: self.len,
+        })
+    }
 }
 
 /// Equality of the bits.
@@ -124,6 +197,17 @@ impl Eq for BitString {
     ghost laws = { lists_equiv bool_eq_equiv };
 }
 
+/// Prints the bits as a value of ASN.1, such as `'0110'B` (X.680 22.9).
+impl fmt::Display for BitString {
+    fn fmt<W: fmt::Write>(&self, f: &mut fmt::Formatter<W>) -> fmt::Result {
+        f.write_str("'")?;
+        for bit in self.iter() {
+            f.write_str(if bit { "1" } else { "0" })?;
+        }
+        f.write_str("'B")
+    }
+}
+
 /// Prints the octets, and how many bits of them count.
 impl fmt::Debug for BitString {
     fn fmt<W: fmt::Write>(&self, f: &mut fmt::Formatter<W>) -> fmt::Result {
@@ -131,6 +215,18 @@ impl fmt::Debug for BitString {
             .field("octets", &self.octets)
             .field("len", &self.len)
             .finish()
+    }
+}
+
+/// Keeps the first `len` bits of octets, in the fewest octets.
+fn keep_bits(octets: &mut Vec<u8>, len: usize)
+    requires { len ≤ 8 * length octets.old.items }
+    ensures { octets.new.items ≡ packed (take len (unpack octets.old.items)) }
+{
+    note_octets(octets.as_slice());
+    octets.truncate(len.div_ceil(8));
+    if len % 8 > 0 {
+        octets[len / 8] = first_bits(octets[len / 8], len % 8);
     }
 }
 

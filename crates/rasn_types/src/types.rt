@@ -7,6 +7,7 @@ pub use crate::bit_string::BitString;
 pub use crate::octet_strings::{
     Any, GeneralString, GraphicString, OctetString, TeletexString, Utf8String,
 };
+use std::fmt;
 
 /// A variant of the packed encoding rules (X.691 7).
 #[derive(Clone, Copy, Debug, PartialEq, Eq)]
@@ -18,7 +19,7 @@ pub enum Codec {
 }
 
 /// A class of tags (X.680 8.1), in ascending order.
-#[derive(Clone, Copy, Debug, PartialEq, Eq, PartialOrd, Ord)]
+#[derive(Clone, Copy, Debug, PartialEq, Eq, PartialOrd, Ord, Hash)]
 pub enum Class {
     Universal,
     Application,
@@ -26,9 +27,21 @@ pub enum Class {
     Private,
 }
 
+/// Prints the class as a tag names it (X.680 31.2), and a context-specific one, which has no name there, as `CONTEXT`.
+impl fmt::Display for Class {
+    fn fmt<W: fmt::Write>(&self, f: &mut fmt::Formatter<W>) -> fmt::Result {
+        f.write_str(match *self {
+            Class::Universal => "UNIVERSAL",
+            Class::Application => "APPLICATION",
+            Class::Context => "CONTEXT",
+            Class::Private => "PRIVATE",
+        })
+    }
+}
+
 /// A tag (X.680 8.1). Tags are ordered by class, then by value (X.680 8.6). The constants are universal tags (X.680
 /// 8.4).
-#[derive(Clone, Copy, Debug, PartialEq, Eq, PartialOrd, Ord)]
+#[derive(Clone, Copy, Debug, PartialEq, Eq, PartialOrd, Ord, Hash)]
 pub struct Tag {
     /// The class.
     pub class: Class,
@@ -184,11 +197,29 @@ impl Tag {
     }
 }
 
+/// Prints the tag in ASN.1's notation (X.680 31.2), such as `[UNIVERSAL 2]`, or `[2]` where it is context-specific.
+impl fmt::Display for Tag {
+    fn fmt<W: fmt::Write>(&self, f: &mut fmt::Formatter<W>) -> fmt::Result {
+        let (class, value) = (self.class, self.value);
+        match class {
+            Class::Context => write!(f, "[{value}]"),
+            _ => write!(f, "[{class} {value}]"),
+        }
+    }
+}
+
 /// The name that a value is given in its schema, where it has one. The packed encoding rules write no names.
-#[derive(Clone, Copy)]
+#[derive(Clone, Copy, Debug, PartialEq, Eq, PartialOrd, Ord, Hash)]
 pub struct Identifier(pub Option<&'static str>);
 
 impl Identifier {
     /// No name.
     pub const EMPTY: Identifier = Identifier(None);
+}
+
+/// Prints the name, or nothing where there is none.
+impl fmt::Display for Identifier {
+    fn fmt<W: fmt::Write>(&self, f: &mut fmt::Formatter<W>) -> fmt::Result {
+        f.write_str(self.0.unwrap_or(""))
+    }
 }

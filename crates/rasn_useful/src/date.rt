@@ -16,10 +16,11 @@ use rasn_times::civil::CivilDate;
 use rasn_times::date::{date_from_parts, date_to_parts};
 use rasn_times::error::TimeError;
 use rasn_types::types::{Identifier, Tag};
+use std::fmt;
 use std::marker::Model;
 
 /// A DATE (X.680 38.4): a day of the calendar, of a year from -9999 to 9999.
-#[derive(Clone, Copy, Debug, PartialEq, Eq)]
+#[derive(Clone, Copy, Debug, PartialEq, Eq, PartialOrd, Ord, Hash)]
 pub struct Date {
     day: civil::Date,
 }
@@ -47,6 +48,14 @@ impl Date {
         ensures { result ≡ self }
     {
         self.day
+    }
+}
+
+/// Prints the day as year, month and day, such as `2024-02-29` (X.680 38.4); a year before 0 with six digits, as `jiff`
+/// prints it.
+impl fmt::Display for Date {
+    fn fmt<W: fmt::Write>(&self, f: &mut fmt::Formatter<W>) -> fmt::Result {
+        fmt::Display::fmt(&self.day, f)
     }
 }
 

@@ -11,6 +11,7 @@ ghost use Rattle.rasn_schema.specs.Schemas.{Schema};
 ghost use Rattle.rasn_times.specs.Moments.{generalized_text};
 ghost use Rattle.rasn_times.specs.Values.{generalized_value};
 
+use crate::moment::{write_fraction, write_moment};
 use jiff::civil::DateTime;
 use rasn_codec::codec::{Decode, Decoder, Encode, Encoder};
 use rasn_schema::fields::{TagTree, TypeTree};
@@ -22,10 +23,11 @@ use rasn_times::generalized_time::{
 };
 use rasn_types::types::{Identifier, Tag};
 use std::alloc::Allocator;
+use std::fmt;
 use std::marker::Model;
 
 /// A GeneralizedTime (X.680 46): a civil moment, meant in UTC.
-#[derive(Clone, Copy, Debug, PartialEq, Eq)]
+#[derive(Clone, Copy, Debug, PartialEq, Eq, PartialOrd, Ord, Hash)]
 pub struct GeneralizedTime {
     moment: DateTime,
 }
@@ -53,6 +55,21 @@ impl GeneralizedTime {
         ensures { result ≡ self }
     {
         self.moment
+    }
+}
+
+/// Prints the time's text, YYYYMMDDhhmmss, a fraction if there is one, and Z (X.690 11.7); a moment of a year before 0
+/// as `jiff` prints it.
+impl fmt::Display for GeneralizedTime {
+    fn fmt<W: fmt::Write>(&self, f: &mut fmt::Formatter<W>) -> fmt::Result {
+        let year = self.moment.year();
+        if year < 0 {
+            return fmt::Display::fmt(&self.moment, f);
+        }
+        write!(f, "{year:04}")?;
+        write_moment(f, self.moment)?;
+        write_fraction(f, self.moment.subsec_nanosecond())?;
+        f.write_str("Z")
     }
 }
 

@@ -3,5 +3,6 @@
 
 pub mod date;
 pub mod generalized_time;
+mod moment;
 pub mod object_identifier;
 pub mod utc_time;

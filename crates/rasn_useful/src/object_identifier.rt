@@ -1,8 +1,16 @@
 //! OBJECT IDENTIFIER (X.680 32).
 
-ghost use Rattle.std.specs.Prelude.{◌≡◌, ◌↔◌, [], IsTrue, length, nat_eq, refl, Some};
+ghost use Rattle.std.specs.Prelude.{◌≡◌, ◌≢◌, ◌↔◌, ◌<◌, ◌^◌, ℕ, [], IsTrue, length, map, nat_eq, refl};
+ghost use Rattle.std.specs.Prelude.{IfOk, MatchOption, Err, Some};
 ghost use Rattle.std.specs.Cmp.{partial_equiv_from_equiv};
-ghost use Rattle.std.specs.Cmp.Lexicographic.{nat_list_eq_equiv, pointwise};
+ghost use Rattle.std.specs.Cmp.Lexicographic.{nat_list_cmp_total, nat_list_eq_equiv, pointwise, slice_cmp};
+ghost use Rattle.std.specs.Cmp.Lexicographic.{texts_po, texts_ties};
+ghost use Rattle.std.specs.Fmt.{decimal};
+ghost use Rattle.std.specs.Hash as fed;
+ghost use Rattle.std.specs.Ordering.{nat_cmp};
+ghost use Rattle.std.proofs.Common.{rules};
+ghost use Rattle.std.specs.Cmp.Rules.{comparing, hashing};
+ghost use Rattle.rasn_types.specs.declared.ber.BerError.TheVariants.{InvalidObjectIdentifier};
 ghost use Rattle.rasn_types.specs.declared.types.TheConstants.Tag.{OBJECT_IDENTIFIER};
 ghost use Rattle.rasn_constraints.specs.Ranges.{no_constraints};
 ghost use Rattle.rasn_schema.specs.Fields.{tagged};
@@ -10,11 +18,17 @@ ghost use Rattle.rasn_schema.specs.Forms.{always};
 ghost use Rattle.rasn_schema.specs.Levels.{simple_levelled};
 ghost use Rattle.rasn_schema.specs.Schemas.{Schema};
 ghost use Rattle.rasn_traits.specs.Moments.{identifier_value};
+ghost use Rattle.rasn_useful.specs.Texts.{HasNoArcs, begins_well, numbers_in};
 
 use rasn_codec::codec::{Decode, Decoder, Encode, Encoder};
 use rasn_schema::fields::{TagTree, TypeTree};
 use rasn_schema::schema::{AsnType, Constraints};
+use rasn_types::ber::BerError;
 use rasn_types::types::{Identifier, Tag};
+use std::alloc::{AllocError, Global};
+use std::cmp::Ordering;
+use std::fmt;
+use std::hash::{Hash, Hasher};
 use std::marker::Model;
 
 /// The arcs of an OBJECT IDENTIFIER (X.680 32), the root's first. Any list of numbers may be held; one that names no
@@ -38,6 +52,26 @@ impl ObjectIdentifier {
         ensures { result ≡ arcs.items }
     {
         ObjectIdentifier { arcs }
+    }
+
+    /// The identifier of these arcs, in memory of its own. The only error is want of memory.
+    pub fn from_slice(alloc: Global, arcs: &[u32]) -> Result<ObjectIdentifier, AllocError>
+        ensures { IfOk result (λ identifier. identifier ≡ arcs.now) }
+    {
+        Ok(ObjectIdentifier::new(Vec::from_slice(alloc, arcs)?))
+    }
+
+    /// The identifier whose arcs stand in a text as decimal numbers with full stops between them, such as `1.2.840`.
+    /// Refused as no object identifier is any other text, also one with a sign, with superfluous zeros, or with a
+    /// number past 32 bits.
+    pub fn from_text(alloc: Global, text: &str) -> Result<ObjectIdentifier, BerError>
+        ensures read { IfOk result (λ arcs. map decimal arcs ≡ numbers_in text.now) }
+        ensures refused { result ≡ Err InvalidObjectIdentifier → HasNoArcs text.now }
+    {
+        match arcs_of(alloc, text)? {
+            Some(arcs) => Ok(ObjectIdentifier::new(arcs)),
+            None => Err(BerError::InvalidObjectIdentifier),
+        }
     }
 
     /// The arcs.
@@ -78,6 +112,22 @@ impl From<Vec<u32>> for ObjectIdentifier {
     }
 }
 
+/// The arcs in memory of their own.
+impl Clone for ObjectIdentifier {
+    ghost is_clone = { λ arcs copy. copy ≡ arcs };
+
+    fn clone(&self) -> Result<ObjectIdentifier, AllocError> {
+        ObjectIdentifier::from_slice(*self.arcs.allocator(), self.as_arcs())
+    }
+}
+
+/// Prints the arcs as decimal numbers with full stops between them, such as `1.2.840`.
+impl fmt::Display for ObjectIdentifier {
+    fn fmt<W: fmt::Write>(&self, f: &mut fmt::Formatter<W>) -> fmt::Result {
+        f.write_joined(self.arcs.iter(), ".")
+    }
+}
+
 /// Equality of the arcs.
 impl PartialEq for ObjectIdentifier {
     ghost eq = { pointwise nat_eq };
@@ -91,6 +141,77 @@ impl PartialEq for ObjectIdentifier {
 
 impl Eq for ObjectIdentifier {
     ghost laws = { nat_list_eq_equiv };
+}
+
+/// The order of the first arcs that differ. An identifier stands before those that it begins.
+impl PartialOrd for ObjectIdentifier {
+    ghost partial_cmp = { λ arcs others. Some (slice_cmp nat_cmp arcs others) };
+
+    ghost laws = { texts_po };
+
+    fn partial_cmp(&self, other: &ObjectIdentifier) -> Option<Ordering> {
+        Some(self.cmp(other))
+    }
+}
+
+impl Ord for ObjectIdentifier {
+    ghost cmp = { slice_cmp nat_cmp };
+
+    ghost total = { nat_list_cmp_total };
+
+    ghost matches_partial_cmp = { Prim.search (comparing, rules) };
+
+    ghost matches_eq = { texts_ties };
+
+    fn cmp(&self, other: &ObjectIdentifier) -> Ordering {
+        self.arcs.cmp(&other.arcs)
+    }
+}
+
+impl Hash for ObjectIdentifier {
+    ghost hash_input = { fed.slice fed.u32 };
+
+    ghost respects_eq = { Prim.search (hashing, rules) };
+
+    fn hash<H: Hasher>(&self, state: &mut H) {
+        self.arcs.hash(state);
+    }
+}
+
+/// The numbers that stand in a text with full stops between them; `None` where not all are arcs. The only error is want
+/// of memory.
+fn arcs_of(alloc: Global, text: &str) -> Result<Option<Vec<u32>>, AllocError>
+    ensures { IfOk result (λ read. MatchOption read (HasNoArcs text.now)
+        (λ arcs. map decimal arcs.items ≡ numbers_in text.now)) }
+{
+    let mut arcs = Vec::new(alloc);
+    for number in text.split('.') {
+        match arc_of(number) {
+            Some(arc) => arcs.push(arc)?,
+            None => return Ok(None),
+        }
+    }
+    Ok(Some(arcs))
+}
+
+/// The number below 2^32 that a decimal text means, where it has no sign and no superfluous zeros (X.680 12.8).
+fn arc_of(text: &str) -> Option<u32>
+    ensures { MatchOption result ((arc : ℕ) → arc < 2 ^ 32 → decimal arc ≢ text.now) (λ arc. decimal arc ≡ text.now) }
+{
+    if !is_plain(text.as_bytes()) {
+        return None;
+    }
+    match text.parse::<u32>() {
+        Ok(arc) => Some(arc),
+        Err(_) => None,
+    }
+}
+
+/// Whether a text begins with no sign and no superfluous zero, and with something.
+fn is_plain(text: &[u8]) -> bool
+    ensures { result ≡ begins_well text.now }
+{
+    !text.is_empty() && text[0] != b'+' && (text[0] != b'0' || text.len() == 1)
 }
 
 impl AsnType for ObjectIdentifier {

@@ -11,6 +11,7 @@ ghost use Rattle.rasn_schema.specs.Schemas.{Schema};
 ghost use Rattle.rasn_times.specs.Moments.{utc_text};
 ghost use Rattle.rasn_times.specs.Values.{utc_value};
 
+use crate::moment::write_moment;
 use jiff::civil::DateTime;
 use rasn_codec::codec::{Decode, Decoder, Encode, Encoder};
 use rasn_schema::fields::{TagTree, TypeTree};
@@ -20,10 +21,11 @@ use rasn_times::error::TimeError;
 use rasn_times::utc_time::{datetime_to_canonical_utc_time_bytes, parse_canonical_utc_time_string};
 use rasn_types::types::{Identifier, Tag};
 use std::alloc::Allocator;
+use std::fmt;
 use std::marker::Model;
 
 /// A UTCTime (X.680 47): a civil moment, meant in UTC.
-#[derive(Clone, Copy, Debug, PartialEq, Eq)]
+#[derive(Clone, Copy, Debug, PartialEq, Eq, PartialOrd, Ord, Hash)]
 pub struct UtcTime {
     moment: DateTime,
 }
@@ -51,6 +53,20 @@ impl UtcTime {
         ensures { result ≡ self }
     {
         self.moment
+    }
+}
+
+/// Prints the time's text, YYMMDDhhmmssZ (X.690 11.8); a moment that it can't hold as `jiff` prints it.
+impl fmt::Display for UtcTime {
+    fn fmt<W: fmt::Write>(&self, f: &mut fmt::Formatter<W>) -> fmt::Result {
+        let year = self.moment.year();
+        if year < 1950 || year > 2049 || self.moment.subsec_nanosecond() != 0 {
+            return fmt::Display::fmt(&self.moment, f);
+        }
+        let short = year % 100;
+        write!(f, "{short:02}")?;
+        write_moment(f, self.moment)?;
+        f.write_str("Z")
     }
 }
 

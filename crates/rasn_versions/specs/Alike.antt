@@ -4,7 +4,8 @@ use Rattle.rasn_types.specs.Contents.{TextKind, TimeKind}
 use Rattle.rasn_types.specs.Values.{whole_code, equal_lists}
 use Rattle.rasn_constraints.specs.Bounds.{Bounds, Size}
 use Rattle.rasn_schema.specs.Lawful.{same_tag}
-use Rattle.rasn_schema.specs.Schemas.{TagTree, TagTrees, leaf, one_of, no_trees, tree, Order, listed, by_tag, Schema, Parts, no_parts, part}
+use Rattle.rasn_schema.specs.Schemas.{TagTree, TagTrees, leaf, one_of, no_trees, tree, Order, listed, by_tag, Schema}
+use Rattle.rasn_schema.specs.Schemas.{Parts, no_parts, part}
 
 abbrev pub same_truth : Bool → Bool → Bool
 same_truth true b = b

@@ -3,10 +3,15 @@
 use Rattle.std.specs.Prelude.{ℕ, suc, Bool, false, cond, ◌&&◌, nat_le, ◌==◌, Option, Some, None}
 use Rattle.rasn_types.specs.Values.{Value, equal_lists, same}
 use Rattle.rasn_constraints.specs.Bounds.{Size}
-use Rattle.rasn_schema.specs.Schemas.{TagTree, Presence, required, optional, group, default, Order, Schema, Parts, no_parts, part}
+use Rattle.rasn_schema.specs.Schemas.{TagTree, Presence, required, optional, group, default, Order, Schema, Parts}
+use Rattle.rasn_schema.specs.Schemas.{no_parts, part}
 use Rattle.per_core.specs.Versions.{widen}
-use Rattle.rasn_versions.specs.Alike.{is_whole, same_bounds, same_order, same_size, same_text, same_time, same_tree, same_truth}
-use Rattle.rasn_versions.specs.Verdicts.{Verdict, allowed, other_kind, other_bounds, other_range, other_size, other_alphabet, other_items, other_marker, other_order, other_tag, other_presence, other_default, left_out, put_in, no_end, in_element, in_root, in_additions, at_place, both, unless, within}
+use Rattle.rasn_versions.specs.Alike.{is_whole, same_bounds, same_order, same_size, same_text, same_time, same_tree}
+use Rattle.rasn_versions.specs.Alike.{same_truth}
+use Rattle.rasn_versions.specs.Verdicts.{Verdict, allowed, other_kind, other_bounds, other_range, other_size}
+use Rattle.rasn_versions.specs.Verdicts.{other_alphabet, other_items, other_marker, other_order, other_tag}
+use Rattle.rasn_versions.specs.Verdicts.{other_presence, other_default, left_out, put_in, no_end, in_element, in_root}
+use Rattle.rasn_versions.specs.Verdicts.{in_additions, at_place, both, unless, within}
 
 -- kinds in which no schema stands: the same, save that items may be added behind a marker
 abbrev pub compare_leaf : Schema → Schema → Verdict

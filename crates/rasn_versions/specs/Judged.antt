@@ -2,11 +2,15 @@
 use Rattle.std.specs.Prelude.{ℕ, suc, Bool, ◌&&◌, nat_lt, ◌++◌}
 use Rattle.rasn_types.specs.Values.{Value, same}
 use Rattle.rasn_constraints.specs.LawfulConstraints.{are_lawful_bounds, is_lawful_size}
-use Rattle.rasn_schema.specs.Lawful.{leaves, are_distinct, are_required, is_group_schema, is_value, no_groups, presence_bits, tags_below}
+use Rattle.rasn_schema.specs.Lawful.{leaves, are_distinct, are_required, is_group_schema, is_value, no_groups}
+use Rattle.rasn_schema.specs.Lawful.{presence_bits, tags_below}
 use Rattle.rasn_schema.specs.Normal.{normal}
-use Rattle.rasn_schema.specs.Schemas.{Presence, required, optional, group, default, Order, listed, by_tag, Schema, Parts, no_parts, part}
+use Rattle.rasn_schema.specs.Schemas.{Presence, required, optional, group, default, Order, listed, by_tag, Schema}
+use Rattle.rasn_schema.specs.Schemas.{Parts, no_parts, part}
 use Rattle.rasn_versions.specs.Alike.{is_whole}
-use Rattle.rasn_versions.specs.Verdicts.{Verdict, allowed, bad_bounds, bad_size, root_group, bad_group, many_bits, repeated_tag, bad_alternative, bad_default, no_end, in_element, in_root, in_additions, at_place, both, unless, within}
+use Rattle.rasn_versions.specs.Verdicts.{Verdict, allowed, bad_bounds, bad_size, root_group, bad_group, many_bits}
+use Rattle.rasn_versions.specs.Verdicts.{repeated_tag, bad_alternative, bad_default, no_end, in_element, in_root}
+use Rattle.rasn_versions.specs.Verdicts.{in_additions, at_place, both, unless, within}
 
 -- X.680 25.9: whether a default is a value of its schema, and in normal form
 unfoldable pub is_good_default : Schema → Value → Bool

@@ -1,5 +1,5 @@
 -- The module S1AP-CommonDataTypes: below each definition in ASN.1 stands what the theorem takes it for.
-use Rattle.rasn_below.specs.Components.{Component, enumerated, integer, u16, u8, ◌to◌}
+use Rattle.rasn_below.specs.Page.{Component, enumerated, integer, u16, u8, ◌to◌}
 
 -- ProcedureCode ::= INTEGER (0..255)
 abbrev pub procedure_code : Component

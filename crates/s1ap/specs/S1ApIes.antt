@@ -1,7 +1,9 @@
 -- The module S1AP-IEs: below each definition in ASN.1 stands what the theorem takes it for.
-use Rattle.rasn_below.specs.Components.{Component, automatic, automatic_from, bit_string, extended_sequence, extensible, extensible_choice, extensible_enumerated, octet_string, optional, printable_string, sequence_of, size◌to◌}
+use Rattle.rasn_below.specs.Page.{Component, TypeLists, bit_string, choice, extensible, extensible_automatic}
+use Rattle.rasn_below.specs.Page.{extensible_enumerated, octet_string, optional, printable_string, sequence}
+use Rattle.rasn_below.specs.Page.{sequence_of, size◌to◌}
 use Rattle.s1ap.specs.S1ApContainers.{protocol_extension_container}
-use Rattle.std.specs.Prelude.{List, [], ◌∷◌}
+use Rattle.std.specs.Prelude.{[], ◌∷◌}
 
 -- TBCD-STRING ::= OCTET STRING (SIZE (3))
 abbrev pub tbcd_string : Component
@@ -18,20 +20,17 @@ plm_nidentity = tbcd_string
 --     short-macroENB-ID BIT STRING (SIZE (18)),
 --     long-macroENB-ID BIT STRING (SIZE (21))
 -- }
-abbrev pub enb_id_root : List Component
-enb_id_root = automatic (
+abbrev pub enb_id_lists : TypeLists
+enb_id_lists = extensible_automatic (
     bit_string (size 20 to 20) ∷  -- macroENB-ID
     bit_string (size 28 to 28) ∷  -- homeENB-ID
-    [])
-
-abbrev pub enb_id_added : List Component
-enb_id_added = automatic_from 2 (
+    []) (
     bit_string (size 18 to 18) ∷  -- short-macroENB-ID
     bit_string (size 21 to 21) ∷  -- long-macroENB-ID
     [])
 
 abbrev pub enb_id : Component
-enb_id = extensible_choice enb_id_root enb_id_added
+enb_id = choice enb_id_lists
 
 -- Global-ENB-ID ::= SEQUENCE {
 --     pLMNidentity PLMNidentity,
@@ -39,18 +38,15 @@ enb_id = extensible_choice enb_id_root enb_id_added
 --     iE-Extensions ProtocolExtensionContainer OPTIONAL,
 --     ...
 -- }
-abbrev pub global_enb_id_root : List Component
-global_enb_id_root = automatic (
+abbrev pub global_enb_id_lists : TypeLists
+global_enb_id_lists = extensible_automatic (
     plm_nidentity ∷  -- pLMNidentity
     enb_id ∷  -- eNB-ID
     optional protocol_extension_container ∷  -- iE-Extensions
-    [])
-
-abbrev pub global_enb_id_added : List Component
-global_enb_id_added = []
+    []) []
 
 abbrev pub global_enb_id : Component
-global_enb_id = extended_sequence global_enb_id_root global_enb_id_added
+global_enb_id = sequence global_enb_id_lists
 
 -- ENBname ::= PrintableString (SIZE (1..150, ...))
 abbrev pub en_bname : Component
@@ -70,18 +66,15 @@ bplmns = sequence_of (size 1 to 6) plm_nidentity
 --     iE-Extensions ProtocolExtensionContainer OPTIONAL,
 --     ...
 -- }
-abbrev pub supported_tas_item_root : List Component
-supported_tas_item_root = automatic (
+abbrev pub supported_tas_item_lists : TypeLists
+supported_tas_item_lists = extensible_automatic (
     tac ∷  -- tAC
     bplmns ∷  -- broadcastPLMNs
     optional protocol_extension_container ∷  -- iE-Extensions
-    [])
-
-abbrev pub supported_tas_item_added : List Component
-supported_tas_item_added = []
+    []) []
 
 abbrev pub supported_tas_item : Component
-supported_tas_item = extended_sequence supported_tas_item_root supported_tas_item_added
+supported_tas_item = sequence supported_tas_item_lists
 
 -- SupportedTAs ::= SEQUENCE (SIZE (1..256)) OF SupportedTAs-Item
 abbrev pub supported_tas : Component
@@ -96,17 +89,14 @@ csg_id = bit_string (size 27 to 27)
 --     iE-Extensions ProtocolExtensionContainer OPTIONAL,
 --     ...
 -- }
-abbrev pub csg_id_list_item_root : List Component
-csg_id_list_item_root = automatic (
+abbrev pub csg_id_list_item_lists : TypeLists
+csg_id_list_item_lists = extensible_automatic (
     csg_id ∷  -- cSG-Id
     optional protocol_extension_container ∷  -- iE-Extensions
-    [])
-
-abbrev pub csg_id_list_item_added : List Component
-csg_id_list_item_added = []
+    []) []
 
 abbrev pub csg_id_list_item : Component
-csg_id_list_item = extended_sequence csg_id_list_item_root csg_id_list_item_added
+csg_id_list_item = sequence csg_id_list_item_lists
 
 -- CSG-IdList ::= SEQUENCE (SIZE (1..256)) OF CSG-IdList-Item
 abbrev pub csg_id_list : Component
@@ -134,18 +124,15 @@ en_gnb_id = bit_string (extensible (size 22 to 32))
 --     iE-Extensions ProtocolExtensionContainer OPTIONAL,
 --     ...
 -- }
-abbrev pub connectedeng_nb_item_root : List Component
-connectedeng_nb_item_root = automatic (
+abbrev pub connectedeng_nb_item_lists : TypeLists
+connectedeng_nb_item_lists = extensible_automatic (
     en_gnb_id ∷  -- en-gNB-ID
     supported_tas ∷  -- supportedTAs
     optional protocol_extension_container ∷  -- iE-Extensions
-    [])
-
-abbrev pub connectedeng_nb_item_added : List Component
-connectedeng_nb_item_added = []
+    []) []
 
 abbrev pub connectedeng_nb_item : Component
-connectedeng_nb_item = extended_sequence connectedeng_nb_item_root connectedeng_nb_item_added
+connectedeng_nb_item = sequence connectedeng_nb_item_lists
 
 -- ConnectedengNBList ::= SEQUENCE (SIZE (1..256)) OF ConnectedengNBItem
 abbrev pub connectedeng_nb_list : Component

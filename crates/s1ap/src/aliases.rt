@@ -1,14 +1,13 @@
 //! Names for types under constraints, for lists, and for numbers and bits.
 
-ghost use Rattle.rasn_below.specs.Components.{extensible, size◌to◌};
+ghost use Rattle.rasn_below.specs.Page.{extensible, size◌to◌};
 
 use crate::connectedeng_nb_item::ConnectedengNbItem;
 use crate::csg_id_list_item::CsgIdListItem;
 use crate::protocol_extension_field::ProtocolExtensionField;
 use crate::protocol_ie_field::ProtocolIeField;
 use crate::supported_tas_item::SupportedTasItem;
-use rasn_below::types::{BitString, OctetString, PrintableString};
-use rasn_below::{Constrained, Constraint, Constraints, Limits, constraints};
+use rasn_below::page::*;
 
 /// ProcedureCode ::= INTEGER (0..255)
 pub type ProcedureCode = u8;

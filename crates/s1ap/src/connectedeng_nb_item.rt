@@ -1,17 +1,11 @@
 //! ConnectedengNbItem, of the module S1AP-IEs.
 
-ghost use Rattle.rasn_below.specs.Components.{extended_by, fields_described, fields_of, parts_of};
-ghost use Rattle.rasn_below.specs.Values.{bits, deeper_of, slot_levels, slot_of};
-ghost use Rattle.s1ap.specs.S1ApIes.{connectedeng_nb_item_added, connectedeng_nb_item_root};
-ghost use Rattle.std.specs.Prelude.{Some, [], max, refl, true, ◌∷◌};
+ghost use Rattle.rasn_below.specs.Page.{bits, deeper_of, fields_of, slot_levels, slot_of};
+ghost use Rattle.s1ap.specs.S1ApIes.{connectedeng_nb_item_lists};
+ghost use Rattle.std.specs.Prelude.{Some, [], max, refl, ◌∷◌};
 
 use crate::aliases::{EnGnbId, ProtocolExtensionContainer, SupportedTas};
-use rasn_below::types::Identifier;
-use rasn_below::{
-    AsnType, Constraint, Constraints, Constructed, Decode, Decoder, Encode, Encoder, Extended,
-    ExtendedKind, Fields, OfKind, Tag, added_bounds, added_fields, decode_extended,
-    encode_extended, root_bounds, root_fields,
-};
+use rasn_below::page::*;
 
 /// ConnectedengNBItem ::= SEQUENCE {
 ///     en-gNB-ID En-gNB-ID,
@@ -26,41 +20,28 @@ pub struct ConnectedengNbItem {
     pub ie_extensions: Option<ProtocolExtensionContainer>,
 }
 
-macro_rules! components {
-    ($to:ident $($with:ident)*) => {
-        $to! { [$($with)*]
-            required 0 "en-gNB-ID" en_gnb_id: EnGnbId [SIZE 22..=32, ...];
-            required 1 "supportedTAs" supported_tas: SupportedTas [SIZE 1..=256];
-            optional 2 "iE-Extensions" ie_extensions: Option<ProtocolExtensionContainer> [SIZE 1..=65_535];
-            ...;
-        }
-    };
-}
+macro_rules! components { ($to:ident $($with:ident)*) => { $to! { [$($with)*]
+    required 0 "en-gNB-ID" en_gnb_id: EnGnbId [SIZE 22..=32, ...];
+    required 1 "supportedTAs" supported_tas: SupportedTas [SIZE 1..=256];
+    optional 2 "iE-Extensions" ie_extensions: Option<ProtocolExtensionContainer> [SIZE 1..=65_535];
+    ...;
+} }; }
 
-const FIELDS: Fields = components!(root_fields);
+const FIELDS: FieldLists = components!(fields);
 
-const BOUNDS: &[&[Constraint]] = components!(root_bounds);
+const BOUNDS: Bounds = components!(bounds);
 
-const ADDED_FIELDS: Fields = components!(added_fields);
+impl Components for ConnectedengNbItem {
+    const COMPONENTS: FieldLists = FIELDS;
 
-const ADDED_BOUNDS: &[&[Constraint]] = components!(added_bounds);
+    ghost COMPONENTS = { fields_of connectedeng_nb_item_lists };
 
-impl OfKind for ConnectedengNbItem {
-    type Kind = ExtendedKind;
-}
-
-impl Extended for ConnectedengNbItem {
-    ghost root = { connectedeng_nb_item_root };
-
-    ghost additions = { connectedeng_nb_item_added };
+    ghost components = { (connectedeng_nb_item_lists, refl) };
 
     ghost contents = { λ x.
         Some (bits x.en_gnb_id) ∷
         Some (⟦<SupportedTas as AsnType>⟧.value x.supported_tas) ∷
         slot_of ⟦<ProtocolExtensionContainer as AsnType>⟧.value x.ie_extensions ∷
-        [] };
-
-    ghost added = { λ x.
         [] };
 
     ghost depth = { λ x. deeper_of
@@ -70,52 +51,12 @@ impl Extended for ConnectedengNbItem {
         0 };
 }
 
-impl Constructed for ConnectedengNbItem {
-    const FIELDS: Fields = FIELDS;
-
-    ghost FIELDS = { fields_of connectedeng_nb_item_root };
-
-    const EXTENDED_FIELDS: Option<Fields> = Some(ADDED_FIELDS);
-
-    ghost EXTENDED_FIELDS = { Some (fields_of connectedeng_nb_item_added) };
-
-    const IS_EXTENSIBLE: bool = true;
-
-    ghost IS_EXTENSIBLE = { true };
-
-    ghost parts = { parts_of connectedeng_nb_item_root };
-
-    ghost additions = { parts_of connectedeng_nb_item_added };
-
-    ghost contents = { ⟦<ConnectedengNbItem as Extended>⟧.contents };
-
-    ghost added = { ⟦<ConnectedengNbItem as Extended>⟧.added };
-
-    ghost described = { fields_described connectedeng_nb_item_root };
-
-    ghost extends = { extended_by connectedeng_nb_item_added };
-
-    ghost is_record = { λ _. refl };
-}
-
-impl Encode for ConnectedengNbItem {
-    fn encode_with_tag_and_constraints<E: Encoder>(
-        &self,
-        encoder: &mut E,
-        tag: Tag,
-        _: &Constraints,
-        identifier: Identifier,
-    ) -> Result<(), E::Error> {
-        components!(encode_extended self encoder tag identifier)
+impl Record for ConnectedengNbItem {
+    fn encode_components<E: Encoder>(&self, encoder: &mut E) -> Result<(), E::Error> {
+        components!(encode_components self encoder)
     }
-}
 
-impl Decode for ConnectedengNbItem {
-    fn decode_with_tag_and_constraints<D: Decoder>(
-        decoder: &mut D,
-        tag: Tag,
-        _: &Constraints,
-    ) -> Result<ConnectedengNbItem, D::Error> {
-        components!(decode_extended decoder tag)
+    fn decode_components<D: Decoder>(decoder: &mut D) -> Result<Self, D::Error> {
+        components!(decode_components decoder)
     }
 }

@@ -1,12 +1,10 @@
 //! NbIoTDefaultPagingDrx, of the module S1AP-IEs.
 
-ghost use Rattle.rasn_below.specs.Components.{extensible_items};
-ghost use Rattle.rasn_below.specs.Values.{item, root};
-ghost use Rattle.s1ap.specs.declared.nb_io_t_default_paging_drx.NbIoTDefaultPagingDrx.TheVariants.{V1024, V128, V256, V512};
+ghost use Rattle.rasn_below.specs.Page.{extensible_items, item, root};
+ghost use Rattle.s1ap.specs.declared.nb_io_t_default_paging_drx.NbIoTDefaultPagingDrx.TheVariants.{V1024, V128, V256};
+ghost use Rattle.s1ap.specs.declared.nb_io_t_default_paging_drx.NbIoTDefaultPagingDrx.TheVariants.{V512};
 
-use rasn_below::{
-    ByKind, EnumeratedKind, ItemCounts, Items, OfKind, Place, item_at, item_counts, place_of_item,
-};
+use rasn_below::page::*;
 
 /// NB-IoT-DefaultPagingDRX ::= ENUMERATED { v128(0), v256(1), v512(2), v1024(3), ... }
 #[derive(Clone, Copy, Debug, PartialEq, Eq)]
@@ -17,17 +15,13 @@ pub enum NbIoTDefaultPagingDrx {
     V1024,
 }
 
-macro_rules! items {
-    ($to:ident $($with:ident)*) => {
-        $to! { [$($with)*]
-            V128;
-            V256;
-            V512;
-            V1024;
-            ...;
-        }
-    };
-}
+macro_rules! items { ($to:ident $($with:ident)*) => { $to! { [$($with)*]
+    V128;
+    V256;
+    V512;
+    V1024;
+    ...;
+} }; }
 
 impl OfKind for NbIoTDefaultPagingDrx {
     type Kind = EnumeratedKind;

@@ -1,17 +1,12 @@
 //! ProtocolIeField, of the module S1AP-Containers.
 
-ghost use Rattle.rasn_below.specs.Components.{fields_of};
-ghost use Rattle.rasn_below.specs.Values.{octets, whole};
-ghost use Rattle.s1ap.specs.S1ApContainers.{protocol_ie_field_root};
+ghost use Rattle.rasn_below.specs.Page.{fields_of, octets, whole};
+ghost use Rattle.s1ap.specs.S1ApContainers.{protocol_ie_field_lists};
 ghost use Rattle.std.specs.Prelude.{Some, [], pos, refl, ◌∷◌};
 
 use crate::aliases::ProtocolIeId;
 use crate::criticality::Criticality;
-use rasn_below::types::Any;
-use rasn_below::{
-    AsnType, Components, Constraint, Decoder, Encoder, Fields, Record, bounds, decode_components,
-    encode_components, fields,
-};
+use rasn_below::page::*;
 
 /// ProtocolIE-Field ::= SEQUENCE {
 ///     id ProtocolIE-ID,
@@ -25,34 +20,28 @@ pub struct ProtocolIeField {
     pub value: Any,
 }
 
-macro_rules! components {
-    ($to:ident $($with:ident)*) => {
-        $to! { [$($with)*]
-            required 0 "id" id: ProtocolIeId [0..=65_535];
-            required 1 "criticality" criticality: Criticality [];
-            required 2 "value" value: Any [];
-        }
-    };
-}
+macro_rules! components { ($to:ident $($with:ident)*) => { $to! { [$($with)*]
+    required 0 "id" id: ProtocolIeId [0..=65_535];
+    required 1 "criticality" criticality: Criticality [];
+    required 2 "value" value: Any [];
+} }; }
 
-const FIELDS: Fields = components!(fields);
+const FIELDS: FieldLists = components!(fields);
 
-const BOUNDS: &[&[Constraint]] = components!(bounds);
+const BOUNDS: Bounds = components!(bounds);
 
 impl Components for ProtocolIeField {
-    const COMPONENTS: Fields = FIELDS;
+    const COMPONENTS: FieldLists = FIELDS;
 
-    ghost COMPONENTS = { fields_of protocol_ie_field_root };
+    ghost COMPONENTS = { fields_of protocol_ie_field_lists };
 
-    ghost components = { protocol_ie_field_root };
+    ghost components = { (protocol_ie_field_lists, refl) };
 
     ghost contents = { λ x.
         Some (whole (pos x.id)) ∷
         Some (⟦<Criticality as AsnType>⟧.value x.criticality) ∷
         Some (octets x.value) ∷
         [] };
-
-    ghost described = { refl };
 }
 
 impl Record for ProtocolIeField {

@@ -1,18 +1,15 @@
 //! S1ApPdu, of the module S1AP-PDU-Descriptions.
 
-ghost use Rattle.rasn_below.specs.Components.{chosen, variants_in};
-ghost use Rattle.s1ap.specs.S1ApPduDescriptions.{s1_ap_pdu_added, s1_ap_pdu_root};
-ghost use Rattle.s1ap.specs.declared.s1_ap_pdu.S1ApPdu.TheVariants.{InitiatingMessage, SuccessfulOutcome, UnsuccessfulOutcome};
-ghost use Rattle.std.specs.Prelude.{Some, refl};
+ghost use Rattle.rasn_below.specs.Page.{chosen, variants_listed};
+ghost use Rattle.s1ap.specs.S1ApPduDescriptions.{s1_ap_pdu_lists};
+ghost use Rattle.s1ap.specs.declared.s1_ap_pdu.S1ApPdu.TheVariants.{InitiatingMessage, SuccessfulOutcome};
+ghost use Rattle.s1ap.specs.declared.s1_ap_pdu.S1ApPdu.TheVariants.{UnsuccessfulOutcome};
+ghost use Rattle.std.specs.Prelude.{refl};
 
 use crate::initiating_message::InitiatingMessage;
 use crate::successful_outcome::SuccessfulOutcome;
 use crate::unsuccessful_outcome::UnsuccessfulOutcome;
-use rasn_below::{
-    Alternatives, AsnType, ByKind, ChoiceKind, CodedAlternatives, Constraint, Decoder, Encoder,
-    OfKind, Tag, Variants, added_variants, alternative_bounds, decode_alternative,
-    encode_alternative, variants,
-};
+use rasn_below::page::*;
 
 /// S1AP-PDU ::= CHOICE {
 ///     initiatingMessage InitiatingMessage,
@@ -27,39 +24,27 @@ pub enum S1ApPdu {
     UnsuccessfulOutcome(UnsuccessfulOutcome),
 }
 
-macro_rules! alternatives {
-    ($to:ident $($with:ident)*) => {
-        $to! { [$($with)*]
-            0 "initiatingMessage" InitiatingMessage: InitiatingMessage [];
-            1 "successfulOutcome" SuccessfulOutcome: SuccessfulOutcome [];
-            2 "unsuccessfulOutcome" UnsuccessfulOutcome: UnsuccessfulOutcome [];
-            ...;
-        }
-    };
-}
+macro_rules! alternatives { ($to:ident $($with:ident)*) => { $to! { [$($with)*]
+    0 "initiatingMessage" InitiatingMessage: InitiatingMessage [];
+    1 "successfulOutcome" SuccessfulOutcome: SuccessfulOutcome [];
+    2 "unsuccessfulOutcome" UnsuccessfulOutcome: UnsuccessfulOutcome [];
+    ...;
+} }; }
 
-const VARIANTS: Variants = alternatives!(variants);
+const VARIANTS: VariantLists = alternatives!(variants);
 
-const ADDED_VARIANTS: Option<Variants> = alternatives!(added_variants);
-
-const BOUNDS: &[&[Constraint]] = alternatives!(alternative_bounds);
+const BOUNDS: Bounds = alternatives!(alternative_bounds);
 
 impl OfKind for S1ApPdu {
     type Kind = ChoiceKind;
 }
 
 impl Alternatives for S1ApPdu {
-    const ALTERNATIVES: Variants = VARIANTS;
+    const ALTERNATIVES: VariantLists = VARIANTS;
 
-    ghost ALTERNATIVES = { variants_in s1_ap_pdu_root };
+    ghost ALTERNATIVES = { variants_listed s1_ap_pdu_lists };
 
-    const ADDED_ALTERNATIVES: Option<Variants> = ADDED_VARIANTS;
-
-    ghost ADDED_ALTERNATIVES = { Some (variants_in s1_ap_pdu_added) };
-
-    ghost alternatives = { s1_ap_pdu_root };
-
-    ghost added = { Some s1_ap_pdu_added };
+    ghost alternatives = { (s1_ap_pdu_lists, refl) };
 
     ghost chosen = { elim [
       | InitiatingMessage v ↦ chosen 0 (⟦<InitiatingMessage as AsnType>⟧.value v)
@@ -68,10 +53,6 @@ impl Alternatives for S1ApPdu {
     ] };
 
     ghost depth = { λ _. 1 };
-
-    ghost described = { refl };
-
-    ghost extends = { refl };
 
     ghost are_variants = { record { distinct = refl; few = refl } };
 }

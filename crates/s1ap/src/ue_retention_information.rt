@@ -1,12 +1,9 @@
 //! UeRetentionInformation, of the module S1AP-IEs.
 
-ghost use Rattle.rasn_below.specs.Components.{extensible_items};
-ghost use Rattle.rasn_below.specs.Values.{item, root};
+ghost use Rattle.rasn_below.specs.Page.{extensible_items, item, root};
 ghost use Rattle.s1ap.specs.declared.ue_retention_information.UeRetentionInformation.TheVariants.{UesRetained};
 
-use rasn_below::{
-    ByKind, EnumeratedKind, ItemCounts, Items, OfKind, Place, item_at, item_counts, place_of_item,
-};
+use rasn_below::page::*;
 
 /// UE-RetentionInformation ::= ENUMERATED { ues-retained(0), ... }
 #[derive(Clone, Copy, Debug, PartialEq, Eq)]
@@ -14,14 +11,10 @@ pub enum UeRetentionInformation {
     UesRetained,
 }
 
-macro_rules! items {
-    ($to:ident $($with:ident)*) => {
-        $to! { [$($with)*]
-            UesRetained;
-            ...;
-        }
-    };
-}
+macro_rules! items { ($to:ident $($with:ident)*) => { $to! { [$($with)*]
+    UesRetained;
+    ...;
+} }; }
 
 impl OfKind for UeRetentionInformation {
     type Kind = EnumeratedKind;

@@ -7,10 +7,9 @@ use Rattle.rasn_schema.specs.Lawful.{IsLawful, IsLawfulType, is_value}
 use Rattle.rasn_schema.specs.Levels.{Levelled}
 use Rattle.rasn_schema.specs.Normal.{normal}
 use Rattle.rasn_schema.specs.Schemas.{Schema}
-use Rattle.rasn_below.specs.Components.{extended_at, extended_levelled}
 use Rattle.rasn_below.specs.Types.{date_at}
 use Rattle.per_laws.proofs.Levelled.{levelled_type_unfolds}
-use Rattle.per_samples_lists.specs.AddedNests.{nest_additions, nest_root}
+use Rattle.per_samples_lists.specs.AddedNests.{added_nest}
 use Rattle.per_samples_lists.specs.Deeps.{deep, nest_with}
 use Rattle.per_samples_lists.specs.Mutuals.{ping, ping_schema, pong, pong_schema}
 use Rattle.per_samples_lists.specs.Nests.{nest, nest_schema}
@@ -79,13 +78,13 @@ pub dnest_is_lawful : IsLawfulType (sequence_at dnest)
 dnest_is_lawful = of_levels (sequence_at dnest) (sequence_levelled dnest) dnests_lawful
 
 -- with such a component as an addition
-added_lawful : (n : ℕ) → IsLawful (extended_at nest_root nest_additions n)
+added_lawful : (n : ℕ) → IsLawful (sequence_at added_nest n)
 unfolding IsLawful
 added_lawful zero = tt
 added_lawful (suc n) = (record { root_groups = refl; few_bits = refl; lawful_tags = refl }, (tt, tt, tt), (tt, nests_lawful n, tt))
 
-pub added_nest_is_lawful : IsLawfulType (extended_at nest_root nest_additions)
-added_nest_is_lawful = of_levels (extended_at nest_root nest_additions) (extended_levelled nest_root nest_additions) added_lawful
+pub added_nest_is_lawful : IsLawfulType (sequence_at added_nest)
+added_nest_is_lawful = of_levels (sequence_at added_nest) (sequence_levelled added_nest) added_lawful
 
 -- the default is a value wherever it is whole, and in normal form
 or_first : (b : Bool) → (b || false) ≡ false → b ≡ false

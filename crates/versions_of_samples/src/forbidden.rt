@@ -1,47 +1,48 @@
 //! What isn't allowed between two versions has a name and a place (X.680, 52).
 #![tactic(auto)]
 
-ghost use Rattle.std.specs.Prelude.{◌≡◌, ◌++◌, [], ◌∷◌, None, Some, pos, true};
-ghost use Rattle.rasn_below.specs.Components.{at, automatic, automatic_from, boolean, default, integer, null};
-ghost use Rattle.rasn_below.specs.Components.{octet_string, optional, sequence, size◌to◌, u8, u16, under, ◌to◌, extended_at};
-ghost use Rattle.rasn_below.specs.Types.{alternatives_at, always, any_size, list_at, sequence_at, Schema};
+ghost use Rattle.std.specs.Prelude.{◌≡◌, [], ◌∷◌, pos, true};
+ghost use Rattle.rasn_below.specs.Components.{at, automatic, boolean, choice, default, extensible_automatic, integer};
+ghost use Rattle.rasn_below.specs.Components.{null, own_tags};
+ghost use Rattle.rasn_below.specs.Components.{octet_string, optional, sequence, size◌to◌, u8, u16, under, ◌to◌};
+ghost use Rattle.rasn_below.specs.Types.{always, any_size, list_at, sequence_at, Schema};
 ghost use Rattle.rasn_below.specs.Values.{whole};
 ghost use Rattle.per_core.specs.Versions.{NewerType};
 ghost use Rattle.rasn_versions.specs.Compared.{comparison};
 ghost use Rattle.rasn_versions.specs.Verdicts.{allowed, at_place, in_additions, in_element, in_root, left_out};
 ghost use Rattle.rasn_versions.specs.Verdicts.{other_bounds, other_default, other_items, other_kind, other_marker};
 ghost use Rattle.rasn_versions.specs.Verdicts.{other_presence, other_range, other_size, other_tag, put_in};
-ghost use Rattle.per_samples_b.specs.Outers.{flagged, outer_root, outer2_additions, outer3_additions};
+ghost use Rattle.per_samples_b.specs.Outers.{outer1, outer2, outer3};
 
 /// An addition is left out at the end, or of the middle, so that the next one stands in its place; and one is put in
 /// front of others.
 pub fn additions_stay_in_their_order()
-    ensures at_the_end { comparison (extended_at outer_root outer2_additions) (extended_at outer_root outer3_additions)
-        ≡ in_additions (at_place 1 left_out) }
+    ensures at_the_end { comparison (sequence_at outer2) (sequence_at outer3) ≡ in_additions (at_place 1 left_out) }
     ensures of_the_middle { comparison
-        (extended_at outer_root (automatic_from 2 (optional (octet_string (size 3 to 3)) ∷ [])))
-        (extended_at outer_root outer3_additions) ≡ in_additions (at_place 0 other_kind) }
-    ensures in_front { comparison (extended_at outer_root (automatic_from 2 (optional boolean ∷ optional null ∷ [])))
-        (extended_at outer_root (automatic_from 2 (optional null ∷ []))) ≡ in_additions (at_place 0 other_kind) }
-    ensures no_version { ¬ (NewerType (extended_at outer_root outer2_additions)
-        (extended_at outer_root outer3_additions)) }
+        (sequence_at (extensible_automatic (boolean ∷ boolean ∷ []) (optional (octet_string (size 3 to 3)) ∷ [])))
+        (sequence_at outer3) ≡ in_additions (at_place 0 other_kind) }
+    ensures in_front { comparison
+        (sequence_at (extensible_automatic (boolean ∷ boolean ∷ []) (optional boolean ∷ optional null ∷ [])))
+        (sequence_at (extensible_automatic (boolean ∷ boolean ∷ []) (optional null ∷ [])))
+        ≡ in_additions (at_place 0 other_kind) }
+    ensures no_version { ¬ (NewerType (sequence_at outer2) (sequence_at outer3)) }
 {}
 
 /// A component is put into the root, or left out of it; and a marker is put in.
 pub fn root_stays_as_it_is()
-    ensures more { comparison (extended_at (automatic (boolean ∷ boolean ∷ boolean ∷ [])) [])
-        (extended_at outer_root []) ≡ in_root (at_place 2 put_in) }
-    ensures fewer { comparison (extended_at (automatic (boolean ∷ [])) []) (extended_at outer_root [])
+    ensures more { comparison (sequence_at (extensible_automatic (boolean ∷ boolean ∷ boolean ∷ []) []))
+        (sequence_at outer1) ≡ in_root (at_place 2 put_in) }
+    ensures fewer { comparison (sequence_at (extensible_automatic (boolean ∷ []) [])) (sequence_at outer1)
         ≡ in_root (at_place 1 left_out) }
-    ensures marker { comparison (extended_at outer_root []) (sequence_at outer_root) ≡ other_marker }
-    ensures alternative { comparison (alternatives_at (automatic (boolean ∷ null ∷ [])) (Some []))
-        (alternatives_at (automatic (boolean ∷ [])) (Some [])) ≡ in_root (at_place 1 put_in) }
+    ensures marker { comparison (sequence_at outer1) (sequence_at (automatic (boolean ∷ boolean ∷ []))) ≡ other_marker }
+    ensures alternative { comparison (choice (extensible_automatic (boolean ∷ null ∷ []) [])).schema
+        (choice (extensible_automatic (boolean ∷ []) [])).schema ≡ in_root (at_place 1 put_in) }
 {}
 
 /// A component has another tag, may be absent now, or is under other constraints; in a list too.
 pub fn components_stay_as_they_are()
-    ensures tag { comparison (sequence_at (under (at 1) boolean ∷ [])) (sequence_at (under (at 0) boolean ∷ []))
-        ≡ in_root (at_place 0 other_tag) }
+    ensures tag { comparison (sequence_at (own_tags (under (at 1) boolean ∷ [])))
+        (sequence_at (own_tags (under (at 0) boolean ∷ []))) ≡ in_root (at_place 0 other_tag) }
     ensures presence { comparison (sequence_at (automatic (optional boolean ∷ [])))
         (sequence_at (automatic (boolean ∷ []))) ≡ in_root (at_place 0 other_presence) }
     ensures bounds { comparison (sequence_at (automatic (integer u8 (0 to 8) ∷ [])))

@@ -1,5 +1,6 @@
 -- The laws of the decoder's open types: an addition is the value in its open type, up to its end (X.691 11.2, 19.9).
-use Rattle.std.proofs.Common.{◌≡◌, ◌∙◌, ◌≤◌, inl, inr, refl, sym, ap, subst, ℕ, true, false, length, length-append, arith, Option, Some, None}
+use Rattle.std.proofs.Common.{◌≡◌, ◌∙◌, ◌≤◌, inl, inr, refl, sym, ap, subst, ℕ, true, false, length, length-append}
+use Rattle.std.proofs.Common.{arith, Option, Some, None}
 use Rattle.rasn_types.specs.Bits.{unpack}
 use Rattle.rasn_types.specs.Values.{Value}
 use Rattle.rasn_schema.specs.Schemas.{Schema}
@@ -14,7 +15,8 @@ use Rattle.per_bits.specs.declared.ended.Surplus.TheVariants.{Missing, NonzeroOc
 use Rattle.per_read_types.specs.Ends.{EndsAs, IsOfEnd, kind_of}
 use Rattle.per_read_types.proofs.Opened.{open_took, took_open}
 use Rattle.per_decoding.specs.Additions.{Adds, ClosesAddition, OpensAddition, OutsideAddition, with_outside_addition}
-use Rattle.per_decoding.specs.Faults.{Fault, IsInBits, IsInNext, IsInOpen, in_contents, at_their_end, in_open, IsOfNext, Misadds, UnendedAddition, refusal}
+use Rattle.per_decoding.specs.Faults.{Fault, IsInBits, IsInNext, IsInOpen, in_contents, at_their_end, in_open, IsOfNext}
+use Rattle.per_decoding.specs.Faults.{Misadds, UnendedAddition, refusal}
 use Rattle.per_decoding.specs.Laws.Records.{IsNew, in_bits, is_new}
 use Rattle.per_decoding.specs.Rules.{decoder_rules}
 use Rattle.per_decoding.specs.Laws.Spelled.{added, spelled}

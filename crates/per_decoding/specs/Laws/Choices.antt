@@ -1,13 +1,15 @@
 -- The laws of the decoder's choices: a choice is its index, and the alternative at that place, which stands behind an
 -- extension marker in an open type (X.691 23).
-use Rattle.std.proofs.Common.{◌≡◌, ◌∙◌, ◌<◌, ◌≤◌, inl, inr, refl, sym, ap, subst, arith, ℕ, zero, suc, Bool, false, List, length, length-append, Option, Some, None}
+use Rattle.std.proofs.Common.{◌≡◌, ◌∙◌, ◌<◌, ◌≤◌, inl, inr, refl, sym, ap, subst, arith, ℕ, zero, suc, Bool, false}
+use Rattle.std.proofs.Common.{List, length, length-append, Option, Some, None}
 use Rattle.rasn_types.specs.Bits.{Bits, unpack}
 use Rattle.rasn_types.specs.Values.{Value, alternative, item, Side, root, added}
 use Rattle.rasn_schema.specs.Choices.{alternative_at, alternative_in, choice_schema, tags_of}
 use Rattle.rasn_schema.specs.Schemas.{Schema, Parts, no_parts, part}
 use Rattle.rasn_traits.specs.Choices.{ChoicesWell, ReadsAlternative}
 use Rattle.per_core.specs.Spellings.{Settings, Spelling}
-use Rattle.per_core.specs.Basic.{basic, basic_in, rules, rules_in, Choice, Chosen, Fills, IsConstrainedWhole, Octets, Open, Small}
+use Rattle.per_core.specs.Basic.{basic, basic_in, rules, rules_in, Choice, Chosen, Fills, IsConstrainedWhole, Octets}
+use Rattle.per_core.specs.Basic.{Open, Small}
 use Rattle.per_core.specs.Took.{Took}
 use Rattle.per_core.proofs.Readings.{one_reading}
 use Rattle.per_core.proofs.Took.{took_then, then_took, took_map, took_agree}
@@ -21,7 +23,8 @@ use Rattle.per_read_types.proofs.Opened.{no_open, open_took, took_open}
 use Rattle.per_decoding.specs.Laws.Additions.{new_why}
 use Rattle.per_decoding.specs.Additions.{OpensContents, OutsideAddition, with_outside_addition}
 use Rattle.per_decoding.specs.Choices.{OutsideChoice, ClosesChoice, EndsFrom, OpensChoice, StandsFrom, UnendedChoice}
-use Rattle.per_decoding.specs.Faults.{Fault, IsInBits, IsInOpen, UnendedAddition, at_their_end, in_added_alternative, in_alternative, in_contents}
+use Rattle.per_decoding.specs.Faults.{Fault, IsInBits, IsInOpen, UnendedAddition, at_their_end, in_added_alternative}
+use Rattle.per_decoding.specs.Faults.{in_alternative, in_contents}
 use Rattle.per_decoding.specs.Laws.Records.{IsNew, in_bits, is_new, of_bits}
 use Rattle.per_decoding.specs.Rules.{decoder_rules}
 use Rattle.per_decoding.specs.Scopes.{with_outside_record}

@@ -1,12 +1,15 @@
 -- How the calls read the root components of a record: its presence bits, and its components one after another (X.691
 -- 19).
-use Rattle.std.proofs.Common.{◌≡◌, ◌∙◌, refl, sym, ap, subst, inl, inr, ℕ, suc, ◌+◌, Bool, true, false, List, [], ◌∷◌, ◌++◌, length, Option, Some, None, arith, append_assoc, length-append}
+use Rattle.std.proofs.Common.{◌≡◌, ◌∙◌, refl, sym, ap, subst, inl, inr, ℕ, suc, ◌+◌, Bool, true, false, List, [], ◌∷◌}
+use Rattle.std.proofs.Common.{◌++◌, length, Option, Some, None, arith, append_assoc, length-append}
 use Rattle.rasn_types.specs.Bits.{Bits}
 use Rattle.rasn_types.specs.Values.{Value}
 use Rattle.rasn_schema.specs.Lawful.{has_bit, presence_bits}
 use Rattle.rasn_schema.specs.Schemas.{Presence, required, optional, group, default, Schema, Parts, no_parts, part}
 use Rattle.rasn_traits.specs.Presences.{left_out}
-use Rattle.rasn_traits.specs.Scopes.{ReadsPart, reads_required, reads_there, reads_left_out, ReadsParts, reads_end, reads_next, FaultyParts, faulty_required, faulty_there, faulty_bit, faulty_here, faulty_behind}
+use Rattle.rasn_traits.specs.Scopes.{ReadsPart, reads_required, reads_there, reads_left_out, ReadsParts, reads_end}
+use Rattle.rasn_traits.specs.Scopes.{reads_next, FaultyParts, faulty_required, faulty_there, faulty_bit, faulty_here}
+use Rattle.rasn_traits.specs.Scopes.{faulty_behind}
 use Rattle.per_core.specs.Spellings.{Settings, Spelling, exactly}
 use Rattle.per_core.specs.Basic.{basic, rules, rules_in, Body, Flags, FlagOf, Bodies, IsLeftOut}
 use Rattle.per_core.specs.Took.{place, Took}

@@ -1,15 +1,18 @@
 -- The laws of the decoder's scopes: a record is its extension bit and its presence bits, its root components one after
 -- another, the bitmap of its additions, these, and those that the schema doesn't know (X.691 19).
-use Rattle.std.proofs.Common.{◌≡◌, ◌∙◌, ◌⊎◌, inl, inr, refl, sym, ap, subst, Bool, true, false, List, [], ◌∷◌, ◌++◌, Option, arith}
+use Rattle.std.proofs.Common.{◌≡◌, ◌∙◌, ◌⊎◌, inl, inr, refl, sym, ap, subst, Bool, true, false, List, [], ◌∷◌, ◌++◌}
+use Rattle.std.proofs.Common.{Option, arith}
 use Rattle.rasn_types.specs.Bits.{Bits}
 use Rattle.rasn_types.specs.Values.{Value}
 use Rattle.rasn_schema.specs.Records.{record_value}
 use Rattle.rasn_schema.specs.Schemas.{Parts, no_parts, count}
 use Rattle.rasn_traits.specs.Additions.{extended}
 use Rattle.rasn_traits.specs.AdditionsRead.{ReadsAdditions}
-use Rattle.rasn_traits.specs.Scopes.{ReadsParts, ReadsFields, reads_fields, FaultyFields, faulty_root, faulty_behind_root, ScopesWell}
+use Rattle.rasn_traits.specs.Scopes.{ReadsParts, ReadsFields, reads_fields, FaultyFields, faulty_root}
+use Rattle.rasn_traits.specs.Scopes.{faulty_behind_root, ScopesWell}
 use Rattle.per_core.specs.Spellings.{Settings, Then, exactly}
-use Rattle.per_core.specs.Basic.{basic, basic_in, rules, rules_in, Additions, Bodies, Extended, ExtensionBit, Record, Flags, Root, Rule, Unknown}
+use Rattle.per_core.specs.Basic.{basic, basic_in, rules, rules_in, Additions, Bodies, Extended, ExtensionBit, Record}
+use Rattle.per_core.specs.Basic.{Flags, Root, Rule, Unknown}
 use Rattle.per_core.specs.Took.{Took}
 use Rattle.per_core.proofs.Agree.{Agree, weaken, agree_never, empty_agree, exactly_agree, never_agree}
 use Rattle.per_core.proofs.Took.{took_then, then_took, took_map, took_nothing, nothing_took, took_agree}
@@ -18,13 +21,16 @@ use Rattle.per_read.specs.declared.error.DecodeError.{DecodeError}
 use Rattle.per_read.specs.declared.error.DecodeErrorKind.TheVariants.{OutOfMemory}
 use Rattle.per_read_types.proofs.Records.{extended_took, plain_took}
 use Rattle.per_decoding.specs.Additions.{Shown}
-use Rattle.per_decoding.specs.Faults.{Fault, IsInTail, in_root, behind_root, IsOfEnding, unread, unskipped, Unended, refusal}
-use Rattle.per_decoding.specs.Laws.Records.{IsNew, exact_took, faulty_in, flags_off, no_more, of_bits, parts_back, read, with_rest}
+use Rattle.per_decoding.specs.Faults.{Fault, IsInTail, in_root, behind_root, IsOfEnding, unread, unskipped, Unended}
+use Rattle.per_decoding.specs.Faults.{refusal}
+use Rattle.per_decoding.specs.Laws.Records.{IsNew, exact_took, faulty_in, flags_off, no_more, of_bits, parts_back, read}
+use Rattle.per_decoding.specs.Laws.Records.{with_rest}
 use Rattle.per_decoding.specs.Rules.{decoder_rules}
 use Rattle.per_decoding.specs.Scopes.{OutsideRecord, with_outside_record, Opens, Closes}
 use Rattle.per_decoding.specs.Laws.Spelled.{spelled}
 use Rattle.per_decoding.specs.State.{State, Spells, extension_of, settings_of, with_bits, Source}
-use Rattle.per_decoding.specs.Laws.Tails.{ending_new, Left, Tail, behind_additions, faulty_tail, left_of, tail_of, turns_of}
+use Rattle.per_decoding.specs.Laws.Tails.{ending_new, Left, Tail, behind_additions, faulty_tail, left_of, tail_of}
+use Rattle.per_decoding.specs.Laws.Tails.{turns_of}
 
 -- a record behind its extension bit
 fields_took : (a : Settings) (marker extends : Bool) (rs adds : List Rule) (ss xs : List (Option Value))

@@ -1,12 +1,15 @@
 -- How the calls read the additions of a record, one after another, behind its bitmap (X.691 19.7 to 19.9): what they
 -- read, up to where the record is closed, is what the additions and the unknown ones behind them spell, and the other
 -- way round.
-use Rattle.std.proofs.Common.{◌≡◌, ◌∙◌, refl, sym, ap, subst, inl, inr, ℕ, suc, ◌+◌, Bool, true, false, List, [], ◌∷◌, Option, Some, None, arith}
+use Rattle.std.proofs.Common.{◌≡◌, ◌∙◌, refl, sym, ap, subst, inl, inr, ℕ, suc, ◌+◌, Bool, true, false, List, [], ◌∷◌}
+use Rattle.std.proofs.Common.{Option, Some, None, arith}
 use Rattle.rasn_types.specs.Bits.{Bits}
 use Rattle.rasn_types.specs.Values.{Value}
 use Rattle.rasn_schema.specs.Fields.{field_tag}
 use Rattle.rasn_schema.specs.Schemas.{TagTree, Presence, required, Schema, Parts, no_parts, part, count}
-use Rattle.rasn_traits.specs.AdditionsRead.{ReadsAddition, reads_added, reads_lacking, ReadsAdditions, reads_no_more, reads_further, faulty_added, faulty_lacking, FaultyAdditions, faulty_addition, faulty_further}
+use Rattle.rasn_traits.specs.AdditionsRead.{ReadsAddition, reads_added, reads_lacking, ReadsAdditions, reads_no_more}
+use Rattle.rasn_traits.specs.AdditionsRead.{reads_further, faulty_added, faulty_lacking, FaultyAdditions}
+use Rattle.rasn_traits.specs.AdditionsRead.{faulty_addition, faulty_further}
 use Rattle.per_core.specs.Spellings.{Settings, Then}
 use Rattle.per_core.specs.Basic.{Additions, IsBitmap, OpenOf, Unknown, basic, rules, rules_in}
 use Rattle.per_core.specs.Took.{Took}
@@ -21,7 +24,9 @@ use Rattle.per_read.specs.declared.error.DecodeErrorKind.TheVariants.{AlreadyFai
 use Rattle.per_read_types.specs.Additions.{Addition, NextFlag, rule_of}
 use Rattle.per_read_types.proofs.Additions.{additions_took, took_additions, took_unknown}
 use Rattle.per_decoding.specs.Additions.{Adds, Asks, Shown}
-use Rattle.per_decoding.specs.Faults.{IsInTail, in_bitmap, behind_bitmap, IsInAdditions, in_addition, lacking, further, in_unknown, IsInNext, IsInOpen, IsOfLacking, out_of_turn, not_expected, at_bitmap, in_open, IsOfNext}
+use Rattle.per_decoding.specs.Faults.{IsInTail, in_bitmap, behind_bitmap, IsInAdditions, in_addition, lacking, further}
+use Rattle.per_decoding.specs.Faults.{in_unknown, IsInNext, IsInOpen, IsOfLacking, out_of_turn, not_expected, at_bitmap}
+use Rattle.per_decoding.specs.Faults.{in_open, IsOfNext}
 use Rattle.per_decoding.specs.Laws.Records.{IsNew, is_left_out, left_out_is}
 use Rattle.per_decoding.specs.Rules.{decoder_rules}
 use Rattle.per_decoding.specs.Laws.Spelled.{added}

@@ -9,8 +9,15 @@ use Rattle.rasn_schema.specs.Normal.{are_idle, is_idle, is_vacant}
 use Rattle.rasn_schema.specs.Schemas.{Schema, Parts, no_parts, part, Presence, required, optional, group, default}
 use Rattle.per_core.specs.Canon.{shown}
 use Rattle.per_write.specs.declared.error.EncodeErrorKind.{EncodeErrorKind}
-use Rattle.per_write.specs.declared.error.EncodeErrorKind.TheVariants.{SizeConstraintNotSatisfied, ValueConstraintNotSatisfied, AlphabetConstraintNotSatisfied, IntegerTypeConversionFailed, VariantNotInChoice, RealNotSupported, TooManyAdditions, Below, AlreadyFailed, OutOfMemory, OutOfTurn}
-use Rattle.per_write.specs.Faults.{HasPart, part_here, part_behind, StandsIn, at_once, in_part, in_addition, in_element, in_member, in_alternative, in_set, IsAbsent, IsForeign, IsOutOfBounds, IsOutOfSize, IsPastBounds, IsReal, IsUnlawful, Stands}
+use Rattle.per_write.specs.declared.error.EncodeErrorKind.TheVariants.{SizeConstraintNotSatisfied}
+use Rattle.per_write.specs.declared.error.EncodeErrorKind.TheVariants.{ValueConstraintNotSatisfied}
+use Rattle.per_write.specs.declared.error.EncodeErrorKind.TheVariants.{AlphabetConstraintNotSatisfied}
+use Rattle.per_write.specs.declared.error.EncodeErrorKind.TheVariants.{IntegerTypeConversionFailed, VariantNotInChoice}
+use Rattle.per_write.specs.declared.error.EncodeErrorKind.TheVariants.{RealNotSupported, TooManyAdditions, Below}
+use Rattle.per_write.specs.declared.error.EncodeErrorKind.TheVariants.{AlreadyFailed, OutOfMemory, OutOfTurn}
+use Rattle.per_write.specs.Faults.{HasPart, part_here, part_behind, StandsIn, at_once, in_part, in_addition, in_element}
+use Rattle.per_write.specs.Faults.{in_member, in_alternative, in_set, IsAbsent, IsForeign, IsOutOfBounds, IsOutOfSize}
+use Rattle.per_write.specs.Faults.{IsPastBounds, IsReal, IsUnlawful, Stands}
 use Rattle.per_write.specs.State.{State}
 
 -- a part that is written isn't idle

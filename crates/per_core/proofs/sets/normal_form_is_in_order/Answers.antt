@@ -1,10 +1,10 @@
 use Rattle.rasn_schema.specs.Schemas.{by_tag}
 use Rattle.per_core.proofs.sets.normal_form_is_in_order.Goals as goal
-use Rattle.per_core.proofs.SetOrders
+use Rattle.rasn_schema.proofs.Canonised
 use Rattle.per_core.proofs.SetReadings
 
 pub returns-clause-parts : goal.returns-clause-parts
-returns-clause-parts c = SetOrders.normals_ordered
+returns-clause-parts c = Canonised.normals_ordered
 
 pub returns-clause-set : goal.returns-clause-set
 returns-clause-set c = SetReadings.normal_record by_tag

@@ -1,4 +1,5 @@
 use Rattle.per_core.proofs.sets.parts_in_order.Goals as goal
+use Rattle.rasn_schema.proofs.Canonised
 use Rattle.per_core.proofs.SetOrders
 
 pub returns-clause-writes : goal.returns-clause-writes
@@ -8,7 +9,7 @@ pub returns-clause-named : goal.returns-clause-named
 returns-clause-named c = SetOrders.tags_ordered
 
 pub returns-clause-counted : goal.returns-clause-counted
-returns-clause-counted c = SetOrders.count_ordered
+returns-clause-counted c = Canonised.count_ordered
 
 pub returns-clause-flagged : goal.returns-clause-flagged
-returns-clause-flagged c = SetOrders.bits_ordered
+returns-clause-flagged c = Canonised.bits_ordered

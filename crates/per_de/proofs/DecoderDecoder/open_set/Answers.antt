@@ -1,5 +1,5 @@
 use Rattle.rasn_schema.specs.Canonised.{canonised_at}
-use Rattle.per_core.proofs.SetOrders.{bits_ordered}
+use Rattle.rasn_schema.proofs.Canonised.{bits_ordered}
 use Rattle.per_de.proofs.DecoderDecoder.open_set.Goals as goal
 
 pub returns : goal.returns

@@ -9,7 +9,7 @@ use Rattle.per_enc.specs.Rules.{noting}
 use Rattle.per_write.specs.State.{State}
 use Rattle.per_enc.proofs.Choices.{closes_choice, closes_well, none_found, some_found}
 use Rattle.per_enc.proofs.Inside.{value_inside}
-use Rattle.per_enc.proofs.Noting.{written_noted}
+use Rattle.per_enc.proofs.Noting.{behaves_begun, written_noted}
 use Rattle.per_enc.proofs.EncoderEncoder.close_choice.Goals as goal
 
 pub returns-in_err-check_unfailed : goal.returns-in_err-check_unfailed
@@ -33,11 +33,7 @@ returns-in_err-place g c =
     record {
       law = rw (← c.self.view_is) (λ x i n d k s v h f a w. absurd (none_found t C.VARIANTS C.EXTENDED_VARIANTS d k none f));
       unknown = rw (p.1, p.2, ← c.self.view_is) (λ e f. inr c.in_err-place.ensures.err);
-      behaves = rw (p.1, p.2, ← c.self.view_is) (record {
-        again = λ q. absurd (let d : true ≡ false = sym q ∙ c.in_ok-check_unfailed.ensures.ok in cc);
-        fails = c.in_err-place.ensures.fails;
-        kept = c.in_err-place.ensures.kept;
-      });
+      behaves = rw (p.1, p.2, ← c.self.view_is) (behaves_begun c.in_ok-check_unfailed.ensures.ok c.in_err-place.ensures.fails c.in_err-place.ensures.kept);
     }
 
 pub returns : goal.returns
@@ -56,9 +52,5 @@ returns g c =
           (closes_choice C.EXTENDED_VARIANTS C.VARIANTS t (noting x).writer i.writer c.self.inside.writer c.checked_place.new.writer _ c.args.outside.0 (C.alternatives n) (C.added n) c.len.result c.in_ok-place.place d k s v c.close_choice.result
           (counted ∙ variants_counted (C.alternatives n) (C.described n)) few (C.extends n) stands c.in_ok-place.ensures.stays c.close_choice.ensures h.opened p a (value_inside i _ s v h.inside w).0) h.waits);
       unknown = λ e f. absurd (some_found t C.VARIANTS C.EXTENDED_VARIANTS c.in_ok-place.place stands e f);
-      behaves = rw (← c.self.view_is) (record {
-        again = λ q. absurd (let d : true ≡ false = sym q ∙ c.in_ok-check_unfailed.ensures.ok in cc);
-        fails = closes.0;
-        kept = closes.1 ∙ ap (λ (z : State). z.codec) c.in_ok-place.ensures.stays;
-      });
+      behaves = rw (← c.self.view_is) (behaves_begun c.in_ok-check_unfailed.ensures.ok closes.0 (closes.1 ∙ ap (λ (z : State). z.codec) c.in_ok-place.ensures.stays));
     }

@@ -1,6 +1,7 @@
-use Rattle.std.proofs.Common.{refl, sym, ◌≡◌, ◌∙◌, true, false, rules}
+use Rattle.std.proofs.Common.{refl, sym, ◌∙◌, rules}
 use Rattle.std.proofs.lemmas.Result.{err_from_is_err_and}
 use Rattle.per_enc.proofs.SetCalls.{set_closed, set_is_open, set_unput}
+use Rattle.per_enc.proofs.Noting.{behaves_begun}
 use Rattle.per_enc.proofs.EncoderEncoder.close_components.Goals as goal
 
 pub returns-in_err-check_unfailed : goal.returns-in_err-check_unfailed
@@ -26,11 +27,7 @@ returns-in_err-put_components g c =
     let p = err_from_is_err_and c.from_residual-in_err-put_components.result c.from_residual-in_err-put_components.ensures.1 in
     record {
       law = rw (p.1, p.2, ← c.self.view_is) (λ x i n rs xs h k. set_unput (C.parts n) C.IS_EXTENSIBLE (C.additions n) x i _ (record { writer = c.put_components.new.self; set = c.take.new.self }) rs xs c.args.outside c.FIELDS.result c.in-Some.set _ (λ m. C.extends.marked m n) (c.FIELDS.ensures ∙ C.described n) h k (sym c.in-Some.ensures.value) c.in_err-put_components.ensures.err);
-      behaves = rw (p.1, p.2, ← c.self.view_is) (record {
-        again = λ q. absurd (let d : true ≡ false = sym q ∙ c.in_ok-check_unfailed.ensures.ok in cc);
-        fails = c.in_err-put_components.ensures.fails;
-        kept = c.in_err-put_components.ensures.kept;
-      });
+      behaves = rw (p.1, p.2, ← c.self.view_is) (behaves_begun c.in_ok-check_unfailed.ensures.ok c.in_err-put_components.ensures.fails c.in_err-put_components.ensures.kept);
     }
 
 pub returns : goal.returns
@@ -38,9 +35,5 @@ returns g c =
     let C = g.C.Constructed in
     record {
       law = rw (← c.self.view_is) (λ x i n rs xs h k. set_closed (C.parts n) C.IS_EXTENSIBLE (C.additions n) x i _ (record { writer = c.close_record.new.self; set = c.args.outside.1 }) rs xs c.args.outside c.FIELDS.result c.in-Some.set c.put_components.new.self c.close_record.result (λ m. C.extends.marked m n) (c.FIELDS.ensures ∙ C.described n) h k (sym c.in-Some.ensures.value) c.in_ok-put_components.ensures.ok c.close_record.ensures refl);
-      behaves = rw (← c.self.view_is) (record {
-        again = λ q. absurd (let d : true ≡ false = sym q ∙ c.in_ok-check_unfailed.ensures.ok in cc);
-        fails = c.close_record.ensures.fails;
-        kept = c.close_record.ensures.kept ∙ c.in_ok-put_components.ensures.kept;
-      });
+      behaves = rw (← c.self.view_is) (behaves_begun c.in_ok-check_unfailed.ensures.ok c.close_record.ensures.fails (c.close_record.ensures.kept ∙ c.in_ok-put_components.ensures.kept));
     }

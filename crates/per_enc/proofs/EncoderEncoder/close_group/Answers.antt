@@ -8,6 +8,7 @@ use Rattle.rasn_traits.proofs.Optionals.{bits_counted}
 use Rattle.per_enc.proofs.Around.{addition_closed}
 use Rattle.per_enc.proofs.Given.{family_closed, required_counted, shapes_counted}
 use Rattle.per_enc.proofs.Inside.{value_inside}
+use Rattle.per_enc.proofs.Noting.{behaves_begun}
 use Rattle.per_enc.proofs.EncoderEncoder.close_group.Goals as goal
 
 pub returns-in_err-check_unfailed : goal.returns-in_err-check_unfailed
@@ -27,9 +28,5 @@ returns g c =
           (family_closed C.parts C.IS_EXTENSIBLE C.additions schema (g.met.C.AdditionGroup.is_sequence g.C.AsnType.CONSTRAINTS) x.writer i.writer c.self.inside.writer _ c.args.addition.0 n v _ c.close_group.result
           (λ m. ap₂ nat_lt (c.number_of_optional_and_default_fields.ensures ∙ ap (count_by may_be_absent) (c.FIELDS-fields.ensures ∙ C.described m) ∙ bits_counted 0 (C.parts m))
           (c.len.ensures ∙ ap length (c.FIELDS-fields.ensures ∙ C.described m) ∙ shapes_counted 0 (C.parts m)) ∙ required_counted (C.parts m)) h.opened (value_inside i _ (schema n) v h.inside w).0 c.close_group.ensures));
-      behaves = rw (← c.self.view_is) (record {
-        again = λ q. absurd (let d : true ≡ false = sym q ∙ c.in_ok-check_unfailed.ensures.ok in cc);
-        fails = c.close_group.ensures.fails;
-        kept = c.close_group.ensures.kept;
-      });
+      behaves = rw (← c.self.view_is) (behaves_begun c.in_ok-check_unfailed.ensures.ok c.close_group.ensures.fails c.close_group.ensures.kept);
     }

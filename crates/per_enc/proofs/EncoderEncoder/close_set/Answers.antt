@@ -1,10 +1,11 @@
-use Rattle.std.proofs.Common.{refl, sym, ◌≡◌, ◌∙◌, true, false}
+use Rattle.std.proofs.Common.{refl}
 use Rattle.std.proofs.lemmas.Result.{err_from_is_err_and}
 use Rattle.rasn_schema.specs.Canonised.{canonised}
 use Rattle.per_enc.specs.Rules.{noting}
 use Rattle.per_enc.proofs.Around.{sequence_closed}
 use Rattle.per_enc.proofs.Inside.{fields_inside}
 use Rattle.per_enc.proofs.Records.{closes_record, not_failed_inside}
+use Rattle.per_enc.proofs.Noting.{behaves_begun}
 use Rattle.per_enc.proofs.EncoderEncoder.close_set.Goals as goal
 
 pub returns-in_err-check_unfailed : goal.returns-in_err-check_unfailed
@@ -23,9 +24,5 @@ returns g c =
     record {
       law = rw (← c.self.view_is) (λ x i n rs xs h k. sequence_closed (canonised (C.parts n)) C.IS_EXTENSIBLE (C.additions n) x i _ (record { writer = c.close_record.new.self; set = c.args.outside.1 }) rs xs c.args.outside c.close_record.result refl
           (λ f o. closes_record (canonised (C.parts n)) C.IS_EXTENSIBLE (C.additions n) (noting x).writer i.writer c.self.inside.writer _ rs xs c.args.outside.0 c.close_record.result (λ m. C.extends.marked m n) o f c.close_record.ensures) h k);
-      behaves = rw (← c.self.view_is) (record {
-        again = λ q. absurd (let d : true ≡ false = sym q ∙ c.in_ok-check_unfailed.ensures.ok in cc);
-        fails = c.close_record.ensures.fails;
-        kept = c.close_record.ensures.kept;
-      });
+      behaves = rw (← c.self.view_is) (behaves_begun c.in_ok-check_unfailed.ensures.ok c.close_record.ensures.fails c.close_record.ensures.kept);
     }

@@ -2,17 +2,13 @@ use Rattle.std.proofs.Common.{refl, sym, ◌≡◌, ◌∙◌, true, false}
 use Rattle.std.proofs.lemmas.Result.{err_from_is_err_and}
 use Rattle.per_enc.specs.Rules.{noting}
 use Rattle.per_enc.proofs.Bags.{bag_left}
-use Rattle.per_enc.proofs.Noting.{written_noted}
+use Rattle.per_enc.proofs.Noting.{behaves_begun, written_noted}
 use Rattle.per_enc.proofs.EncoderEncoder.close_set_of.Goals as goal
 
 pub returns : goal.returns
 returns g c = record {
   law = rw (← c.self.view_is) (λ f x h. written_noted x (record { writer = c.close.new.writer; set = c.args.bag.1 }) _ _ c.close.result (c.close.ensures.law f (noting x).writer h.opened) h.waits);
-  behaves = rw (← c.self.view_is) (record {
-    again = λ q. absurd (let d : true ≡ false = sym q ∙ c.in_ok-check_unfailed.ensures.ok in cc);
-    fails = c.close.ensures.behaves.fails;
-    kept = c.close.ensures.behaves.kept;
-  });
+  behaves = rw (← c.self.view_is) (behaves_begun c.in_ok-check_unfailed.ensures.ok c.close.ensures.behaves.fails c.close.ensures.behaves.kept);
 }
 
 pub returns-in_err-check_unfailed : goal.returns-in_err-check_unfailed

@@ -1,16 +1,13 @@
 use Rattle.std.proofs.Common.{refl, sym, ◌≡◌, ◌∙◌, true, false}
 use Rattle.std.proofs.lemmas.Result.{err_from_is_err_and}
 use Rattle.per_enc.proofs.Around.{element_awaited}
+use Rattle.per_enc.proofs.Noting.{behaves_begun}
 use Rattle.per_enc.proofs.EncoderEncoder.next_element.Goals as goal
 
 pub returns : goal.returns
 returns g c = record {
   law = rw (← c.self.view_is) (λ f x v vs h. element_awaited f x v vs c.args.list.now.0 c.next_element.new.list c.args.list.now.1 (record { writer = c.self.inside.writer; set = c.self.inside.set }) (record { writer = c.next_element.new.writer; set = c.self.inside.set }) c.next_element.result refl c.next_element.ensures.next h);
-  behaves = rw (← c.self.view_is) (record {
-    again = λ q. absurd (let d : true ≡ false = sym q ∙ c.in_ok-check_unfailed.ensures.ok in cc);
-    fails = c.next_element.ensures.next.behaves.fails;
-    kept = c.next_element.ensures.next.behaves.kept;
-  });
+  behaves = rw (← c.self.view_is) (behaves_begun c.in_ok-check_unfailed.ensures.ok c.next_element.ensures.next.behaves.fails c.next_element.ensures.next.behaves.kept);
 }
 
 pub returns-in_err-check_unfailed : goal.returns-in_err-check_unfailed

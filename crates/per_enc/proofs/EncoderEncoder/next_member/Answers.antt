@@ -2,16 +2,13 @@ use Rattle.std.proofs.Common.{refl, sym, ◌≡◌, ◌∙◌, true, false}
 use Rattle.std.proofs.lemmas.Result.{err_from_is_err_and}
 use Rattle.per_enc.proofs.Around.{member_awaited}
 use Rattle.per_enc.proofs.Bags.{bag_left}
+use Rattle.per_enc.proofs.Noting.{behaves_begun}
 use Rattle.per_enc.proofs.EncoderEncoder.next_member.Goals as goal
 
 pub returns : goal.returns
 returns g c = record {
   law = rw (← c.self.view_is) (λ f x v vs h. member_awaited f x v vs c.args.bag.now.0 c.next_member.new.self c.args.bag.now.1 (record { writer = c.self.inside.writer; set = c.self.inside.set }) (record { writer = c.next_member.new.writer; set = c.self.inside.set }) c.next_member.result refl c.next_member.ensures h);
-  behaves = rw (← c.self.view_is) (record {
-    again = λ q. absurd (let d : true ≡ false = sym q ∙ c.in_ok-check_unfailed.ensures.ok in cc);
-    fails = c.next_member.ensures.behaves.fails;
-    kept = c.next_member.ensures.behaves.kept;
-  });
+  behaves = rw (← c.self.view_is) (behaves_begun c.in_ok-check_unfailed.ensures.ok c.next_member.ensures.behaves.fails c.next_member.ensures.behaves.kept);
 }
 
 pub returns-in_err-check_unfailed : goal.returns-in_err-check_unfailed

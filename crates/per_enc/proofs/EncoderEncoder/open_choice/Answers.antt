@@ -1,4 +1,4 @@
-use Rattle.std.proofs.Common.{ap, inl, inr, sym, ◌≡◌, ◌∙◌, subst, true, false, Ok}
+use Rattle.std.proofs.Common.{ap, inl, inr, ◌∙◌, subst, Ok}
 use Rattle.std.proofs.lemmas.Result.{err_from_is_err_and}
 use Rattle.rasn_schema.specs.Choices.{choices_of}
 use Rattle.rasn_schema.specs.Laws.Choices.{variants_counted}
@@ -8,7 +8,7 @@ use Rattle.per_write.specs.Rules.{encoder_rules}
 use Rattle.per_enc.specs.Choices.{OpensChoice}
 use Rattle.per_enc.proofs.Around.{choice_opened}
 use Rattle.per_enc.proofs.Choices.{added_counted, opens_choice}
-use Rattle.per_enc.proofs.Noting.{noting_codec}
+use Rattle.per_enc.proofs.Noting.{behaves_begun, behaves_refused, noting_codec}
 use Rattle.per_enc.proofs.Presenting.{refuses_again}
 use Rattle.per_enc.proofs.EncoderEncoder.open_choice.Goals as goal
 
@@ -22,11 +22,7 @@ returns g c =
           (opens_choice C.alternatives C.EXTENDED_VARIANTS C.added _ _ c.self.inside.writer _ (Ok c.in_ok-choice.choice)
           (λ n. c.len.ensures ∙ variants_counted (C.alternatives n) (c.VARIANTS.ensures ∙ C.described n))
           (λ n. c.added_count.ensures ∙ added_counted C.EXTENDED_VARIANTS (C.added n) (C.extends n)) c.in_ok-choice.ensures));
-      behaves = record {
-        again = λ q. absurd (let d : true ≡ false = sym q ∙ c.in_ok-set.ensures.ok in cc);
-        fails = tt;
-        kept = c.in_ok-choice.ensures.kept ∙ ap (λ (z : Encoding). z.writer.codec) m ∙ noting_codec c.args.self.now;
-      };
+      behaves = behaves_begun c.in_ok-set.ensures.ok tt (c.in_ok-choice.ensures.kept ∙ ap (λ (z : Encoding). z.writer.codec) m ∙ noting_codec c.args.self.now);
     }
 
 pub returns-in_err-set : goal.returns-in_err-set
@@ -34,11 +30,7 @@ returns-in_err-set g c =
     let p = err_from_is_err_and c.from_residual.result c.from_residual.ensures.1 in
     rw (p.1, p.2) (record {
       law = inr (λ n v. refuses_again _ c.args.self.now.writer _ v c.in_err-set.ensures.err c.in_err-set.ensures.failed);
-      behaves = record {
-        again = λ q. c.in_err-set.ensures.err;
-        fails = ap (λ (z : Encoding). z.writer.failed) c.in_err-set.ensures.stays ∙ c.in_err-set.ensures.failed;
-        kept = ap (λ (z : Encoding). z.writer.codec) c.in_err-set.ensures.stays;
-      };
+      behaves = behaves_refused c.in_err-set.ensures.err c.in_err-set.ensures.failed c.in_err-set.ensures.stays;
     })
 
 pub returns-in_err-choice : goal.returns-in_err-choice
@@ -48,9 +40,5 @@ returns-in_err-choice g c =
     let codec = ap (λ (z : Encoding). z.writer.codec) m ∙ noting_codec c.args.self.now in
     rw (p.1, p.2) (record {
       law = inl (record { kind_is = c.in_err-choice.ensures.err.kind_is; codec_is = c.in_err-choice.ensures.err.codec_is ∙ codec });
-      behaves = record {
-        again = λ q. absurd (let d : true ≡ false = sym q ∙ c.in_ok-set.ensures.ok in cc);
-        fails = c.in_err-choice.ensures.fails;
-        kept = c.in_err-choice.ensures.kept ∙ codec;
-      };
+      behaves = behaves_begun c.in_ok-set.ensures.ok c.in_err-choice.ensures.fails (c.in_err-choice.ensures.kept ∙ codec);
     })

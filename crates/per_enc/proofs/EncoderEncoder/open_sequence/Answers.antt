@@ -1,4 +1,4 @@
-use Rattle.std.proofs.Common.{ap, inl, inr, sym, ◌≡◌, ◌∙◌, subst, true, false, length, Ok}
+use Rattle.std.proofs.Common.{ap, inl, inr, ◌∙◌, subst, length, Ok}
 use Rattle.std.specs.Prelude.{count_by}
 use Rattle.std.proofs.lemmas.Result.{err_from_is_err_and}
 use Rattle.rasn_schema.specs.Fields.{may_be_absent}
@@ -10,7 +10,7 @@ use Rattle.per_write.specs.Rules.{encoder_rules}
 use Rattle.per_enc.specs.Records.{behind_marker, Opens}
 use Rattle.per_enc.proofs.Around.{sequence_opened}
 use Rattle.per_enc.proofs.Given.{shapes_counted}
-use Rattle.per_enc.proofs.Noting.{noting_codec}
+use Rattle.per_enc.proofs.Noting.{behaves_begun, behaves_refused, noting_codec}
 use Rattle.per_enc.proofs.Presenting.{refuses_again}
 use Rattle.per_enc.proofs.Records.{opens_record}
 use Rattle.per_enc.proofs.EncoderEncoder.open_sequence.Goals as goal
@@ -25,11 +25,7 @@ returns g c =
           (opens_record C.parts C.IS_EXTENSIBLE C.additions _ _ c.self.inside.writer _ (Ok c.in_ok-scope.scope)
           (λ n. c.number_of_optional_and_default_fields-count.ensures ∙ ap (count_by may_be_absent) (c.FIELDS.ensures ∙ C.described n) ∙ bits_counted 0 (C.parts n))
           (λ n. c.addition_count.ensures ∙ ap (behind_marker C.IS_EXTENSIBLE) (ap length (C.extends.described n) ∙ shapes_counted 0 (C.additions n))) C.extends.marked c.in_ok-scope.ensures));
-      behaves = record {
-        again = λ q. absurd (let d : true ≡ false = sym q ∙ c.in_ok-set.ensures.ok in cc);
-        fails = tt;
-        kept = c.in_ok-scope.ensures.kept ∙ ap (λ (z : Encoding). z.writer.codec) m ∙ noting_codec c.args.self.now;
-      };
+      behaves = behaves_begun c.in_ok-set.ensures.ok tt (c.in_ok-scope.ensures.kept ∙ ap (λ (z : Encoding). z.writer.codec) m ∙ noting_codec c.args.self.now);
     }
 
 pub returns-in_err-set : goal.returns-in_err-set
@@ -37,11 +33,7 @@ returns-in_err-set g c =
     let p = err_from_is_err_and c.from_residual.result c.from_residual.ensures.1 in
     rw (p.1, p.2) (record {
       law = inr (λ n v. refuses_again _ c.args.self.now.writer _ v c.in_err-set.ensures.err c.in_err-set.ensures.failed);
-      behaves = record {
-        again = λ q. c.in_err-set.ensures.err;
-        fails = ap (λ (z : Encoding). z.writer.failed) c.in_err-set.ensures.stays ∙ c.in_err-set.ensures.failed;
-        kept = ap (λ (z : Encoding). z.writer.codec) c.in_err-set.ensures.stays;
-      };
+      behaves = behaves_refused c.in_err-set.ensures.err c.in_err-set.ensures.failed c.in_err-set.ensures.stays;
     })
 
 pub returns-in_err-scope : goal.returns-in_err-scope
@@ -51,9 +43,5 @@ returns-in_err-scope g c =
     let codec = ap (λ (z : Encoding). z.writer.codec) m ∙ noting_codec c.args.self.now in
     rw (p.1, p.2) (record {
       law = inl (record { kind_is = c.in_err-scope.ensures.err.kind_is; codec_is = c.in_err-scope.ensures.err.codec_is ∙ codec });
-      behaves = record {
-        again = λ q. absurd (let d : true ≡ false = sym q ∙ c.in_ok-set.ensures.ok in cc);
-        fails = c.in_err-scope.ensures.fails;
-        kept = c.in_err-scope.ensures.kept ∙ codec;
-      };
+      behaves = behaves_begun c.in_ok-set.ensures.ok c.in_err-scope.ensures.fails (c.in_err-scope.ensures.kept ∙ codec);
     })

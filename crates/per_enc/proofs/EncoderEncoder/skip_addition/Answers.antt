@@ -1,17 +1,14 @@
-use Rattle.std.proofs.Common.{inr, refl, sym, ◌≡◌, ◌∙◌, true, false}
+use Rattle.std.proofs.Common.{inr, refl}
 use Rattle.std.proofs.lemmas.Result.{err_from_is_err_and}
 use Rattle.per_enc.proofs.Around.{addition_skipped}
 use Rattle.per_enc.proofs.Given.{skipped}
+use Rattle.per_enc.proofs.Noting.{behaves_begun}
 use Rattle.per_enc.proofs.EncoderEncoder.skip_addition.Goals as goal
 
 pub returns : goal.returns
 returns g c = rw (← c.self.view_is) (record {
   law = addition_skipped _ (record { writer = c.skip_addition.new.self; set = c.self.inside.set }) c.skip_addition.result refl (skipped c.self.inside.writer _ c.skip_addition.result c.skip_addition.ensures);
-  behaves = record {
-    again = λ q. absurd (let d : true ≡ false = sym q ∙ c.in_ok-check_unfailed.ensures.ok in cc);
-    fails = c.skip_addition.ensures.fails;
-    kept = c.skip_addition.ensures.kept;
-  };
+  behaves = behaves_begun c.in_ok-check_unfailed.ensures.ok c.skip_addition.ensures.fails c.skip_addition.ensures.kept;
 })
 
 pub returns-in_err-check_unfailed : goal.returns-in_err-check_unfailed

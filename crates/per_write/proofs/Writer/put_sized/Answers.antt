@@ -1,9 +1,10 @@
-use Rattle.std.proofs.Common.{◌≡◌, ◌∙◌, ◌&&◌, ap, ltb, rules}
+use Rattle.std.proofs.Common.{◌≡◌, ◌∙◌, ◌&&◌, sym, ap, ltb, rules}
 use Rattle.std.proofs.lemmas.Result.{on_ok_weaker}
 use Rattle.rasn_types.specs.Codecs.{variant_of}
 use Rattle.rasn_types.specs.Variants.{Variant}
 use Rattle.per_core.specs.Counts.{ItemKind, is_aligned}
-use Rattle.per_write.proofs.Counting.{allowed_least, allowed_most, pads_none, pads_some, wrote_bounded}
+use Rattle.per_core.proofs.ConstrainedLengths.{constrained_is, free_is}
+use Rattle.per_write.proofs.Counting.{allowed_least, allowed_most, pads_none, pads_some, wrote_bounded, wrote_free}
 use Rattle.per_write.proofs.Writer.put_sized.Goals as goal
 use Rattle.per_write.proofs.Writer.put_sized.Goals.{then-count-gt0, else-count-gt0}
 
@@ -11,29 +12,45 @@ pub put_constrained_length-requires-clause-lower :
     goal.put_constrained_length-requires-clause-lower
 put_constrained_length-requires-clause-lower g c =
     let a = variant_of c.args.self.now.codec in
-    allowed_least c.args.lower c.args.upper _ _ _ _ c.in-Some-Some.is-0 c.in-Some-Some.is-1 (c.len-count.ensures a) (c.requires.within a)
+    let b = constrained_is c.args.lower c.args.upper c.in-Some.lower c.in-Some.upper (sym c.constrained_bounds.ensures ∙ c.in-Some.is) in
+    allowed_least c.args.lower c.args.upper _ _ _ _ b.lower b.upper (c.len-count.ensures a) (c.requires.within a)
 
 pub put_constrained_length-requires-clause-upper :
     goal.put_constrained_length-requires-clause-upper
 put_constrained_length-requires-clause-upper g c =
     let a = variant_of c.args.self.now.codec in
-    allowed_most c.args.lower c.args.upper c.in-Some-Some.lower _ _ _ c.in-Some-Some.is-0 c.in-Some-Some.is-1 (c.len-count.ensures a) (c.requires.within a)
+    let b = constrained_is c.args.lower c.args.upper c.in-Some.lower c.in-Some.upper (sym c.constrained_bounds.ensures ∙ c.in-Some.is) in
+    allowed_most c.args.lower c.args.upper c.in-Some.lower _ _ _ b.lower b.upper (c.len-count.ensures a) (c.requires.within a)
 
-pub returns-in_ok-put_constrained_length-in-Some-Some :
-    goal.returns-in_ok-put_constrained_length-in-Some-Some
-returns-in_ok-put_constrained_length-in-Some-Some g c =
+pub returns-in_ok-put_constrained_length-in-Some :
+    goal.returns-in_ok-put_constrained_length-in-Some
+returns-in_ok-put_constrained_length-in-Some g c =
     let x = c.args.self.now in
     let a = variant_of x.codec in
-    let on_octet = is_aligned (g.I.Items.counted c.args.items.now).kind c.in-Some-Some.lower c.in-Some-Some.upper in
+    let b = constrained_is c.args.lower c.args.upper c.in-Some.lower c.in-Some.upper (sym c.constrained_bounds.ensures ∙ c.in-Some.is) in
+    let on_octet = is_aligned (g.I.Items.counted c.args.items.now).kind c.in-Some.lower c.in-Some.upper in
     let pads : c.if-count-gt0.on_octet ≡ (ltb 0 c.len-count.result && on_octet) =
     elim c.if-count-gt0.branch [
-      | then-count-gt0 w ↦ pads_some c.len-count.result c.if-count-gt0.on_octet on_octet w.if-count-gt0.true (w.on_octet-is ∙ w.is_aligned-on_octet.ensures ∙ ap (λ (k : ItemKind). is_aligned k c.in-Some-Some.lower c.in-Some-Some.upper) w.item.ensures)
+      | then-count-gt0 w ↦ pads_some c.len-count.result c.if-count-gt0.on_octet on_octet w.if-count-gt0.true (w.on_octet-is ∙ w.is_aligned-on_octet.ensures ∙ ap (λ (k : ItemKind). is_aligned k c.in-Some.lower c.in-Some.upper) w.item.ensures)
       | else-count-gt0 w ↦ pads_none c.len-count.result c.if-count-gt0.on_octet on_octet w.if-count-gt0.false w.on_octet-is
     ] in
     record {
       ok = on_ok_weaker _ (wrote_bounded (λ (b : Variant). (g.I.Items.counted c.args.items.now).writers b) (g.I.Items.counted c.args.items.now).kind x c.put_constrained_length.new.self c.put.new.writer c.args.lower c.args.upper
-          c.in-Some-Some.lower c.in-Some-Some.upper c.len-count.result c.if-count-gt0.on_octet c.in-Some-Some.is-0 c.in-Some-Some.is-1 (c.len-count.ensures a) c.if-upper-lt65536.true (c.requires.within a) pads c.in_ok-put_constrained_length-in-Some-Some.ensures.ok)
+          c.in-Some.lower c.in-Some.upper c.len-count.result c.if-count-gt0.on_octet b (c.len-count.ensures a) (c.requires.within a) pads c.in_ok-put_constrained_length-in-Some.ensures.ok)
           c.put.ensures.ok;
+      err = search rules;
+      fails = search rules;
+      kept = search rules;
+    }
+
+pub returns-in-None : goal.returns-in-None
+returns-in-None g c =
+    let x = c.args.self.now in
+    let a = variant_of x.codec in
+    let items = g.I.Items.counted c.args.items.now in
+    let free = free_is c.args.lower c.args.upper (sym c.constrained_bounds.ensures ∙ c.in-None.is) in
+    record {
+      ok = on_ok_weaker _ (wrote_free (items.writers a) items.kind x c.put_unconstrained_items.new.self c.args.lower c.args.upper free (c.requires.within a)) c.put_unconstrained_items.ensures.ok;
       err = search rules;
       fails = search rules;
       kept = search rules;

@@ -4,13 +4,13 @@ use Rattle.rasn_schema.specs.Schemas.{default}
 use Rattle.rasn_additions.proofs.OneAddition.{given_absent, given_there}
 use Rattle.rasn_additions.proofs.additions.DefaultRefEncodeAddition.encode_addition.Goals as goal
 
-pub returns-then-is_default : goal.returns-then-is_default
+pub returns-then-stands_for : goal.returns-then-stands_for
 unfolding settle
-returns-then-is_default g c = record {
+returns-then-stands_for g c = record {
   law = record {
     at = λ n le.
-        let e = ap (λ b. Some (not b)) (sym ((c.is_default.ensures.at _).at n le) ∙ c.if-is_default.true) in
-        given_absent g.E.Encoder.rules (default (g.H.AsnType.value c.args.self.now.default)) _ _ _ _ _ e c.skip_addition.ensures.law;
+        let e = ap (λ b. Some (not b)) (sym ((c.stands_for.ensures.at _).at n le) ∙ c.if-stands_for.true) in
+        given_absent g.E.Encoder.rules (default (g.K.DefaultOf.default c.args.self.now.default)) _ _ _ _ _ e c.skip_addition.ensures.law;
   };
   behaves = c.skip_addition.ensures.behaves;
 }
@@ -20,8 +20,8 @@ unfolding settle
 returns g c = record {
   law = record {
     at = λ n le.
-        let e = ap (λ b. Some (not b)) (sym ((c.is_default.ensures.at _).at n le) ∙ c.if-is_default.false) in
-        given_there g.E.Encoder.rules (default (g.H.AsnType.value c.args.self.now.default)) _ _ _ _ _ e (c.encode_extension_addition.ensures.law.at n le);
+        let e = ap (λ b. Some (not b)) (sym ((c.stands_for.ensures.at _).at n le) ∙ c.if-stands_for.false) in
+        given_there g.E.Encoder.rules (default (g.K.DefaultOf.default c.args.self.now.default)) _ _ _ _ _ e (c.encode_extension_addition.ensures.law.at n le);
   };
   behaves = c.encode_extension_addition.ensures.behaves;
 }

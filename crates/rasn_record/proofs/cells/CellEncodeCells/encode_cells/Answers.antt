@@ -1,26 +1,24 @@
-use Rattle.std.proofs.Common.{arith, rules}
+use Rattle.std.proofs.Common.{rules}
 use Rattle.std.proofs.lemmas.Result.{err_from_is_err_and}
 use Rattle.rasn_schema.specs.Fields.{shape_of}
 use Rattle.rasn_record.proofs.Behind.{behind-map}
-use Rattle.rasn_record.proofs.Slots.{part_normal, part_refused, part_written}
+use Rattle.rasn_record.proofs.Slots.{next_refused, next_written}
 use Rattle.rasn_record.proofs.cells.CellEncodeCells.encode_cells.Goals as goal
 
-pub returns-in_err-encode_component : goal.returns-in_err-encode_component
-returns-in_err-encode_component g c =
+pub returns-in_err-write_first : goal.returns-in_err-write_first
+returns-in_err-write_first g c =
     let p = err_from_is_err_and c.from_residual.result c.from_residual.ensures.1 in
-    let w = rw (c.given_or_own-in_use.ensures, c.CONSTRAINTS.ensures) at c.in_err-encode_component.ensures.law in
     record {
-      law = rw (p.1, p.2) (record { at = λ n le. rw (part_normal _ _ _ _ _ _ (g.met.C.EncodeComponent.is_component c.args.self.now.component)) (part_refused g.E.Encoder.rules _ _ _ _ _ c.encode_component.new.encoder _ _ _ (w.at n (omega arith))) });
+      law = rw (p.1, p.2) (next_refused _ _ _ _ _ _ _ c.write_first.new.encoder _ _ _ (g.met.C.EncodeComponent.is_component c.args.self.now.component) c.in_err-write_first.ensures.law);
       fails = search rules;
       kept = search rules;
     }
 
 pub returns : goal.returns
 returns g c =
-    let w = rw (c.given_or_own-in_use.ensures, c.CONSTRAINTS.ensures) at c.in_ok-encode_component.ensures.law in
-    let v = rw (c.behind.ensures, c.behind-2.ensures, ← behind-map shape_of c.args.fields.now) at c.encode_cells.ensures.law in
+    let next = rw (c.behind.ensures, c.behind-2.ensures, ← behind-map shape_of c.args.fields.now) at c.encode_cells.ensures.law in
     record {
-      law = record { at = λ n le. rw (part_normal _ _ _ _ _ _ (g.met.C.EncodeComponent.is_component c.args.self.now.component)) (part_written g.E.Encoder.rules g.met.E.Encoder.lawful _ _ _ _ _ _ _ _ (w.at n (omega arith)) _ _ (v.at n (omega arith))) };
+      law = next_written g.met.E.Encoder.lawful _ _ _ _ _ _ _ _ _ _ (g.met.C.EncodeComponent.is_component c.args.self.now.component) c.in_ok-write_first.ensures.law c.encode_cells.result c.encode_cells.new.encoder next;
       fails = search rules;
       kept = search rules;
     }

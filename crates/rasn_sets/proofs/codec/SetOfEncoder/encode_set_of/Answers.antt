@@ -1,47 +1,44 @@
-use Rattle.std.proofs.Common.{refl, ◌∙◌, rules}
+use Rattle.std.proofs.Common.{◌∙◌, rules}
 use Rattle.std.proofs.lemmas.Result.{err_from_is_err_and}
-use Rattle.rasn_sets.proofs.Members.{at_item, bag_closed, bag_opened, bag_unopened, member_presented, member_refused, next_refused}
+use Rattle.rasn_codec.proofs.Elements.{closed, element_presented, element_refused, next_refused, opened, unopened}
+use Rattle.rasn_sets.proofs.Members.{awaits_member, bags}
 use Rattle.rasn_sets.proofs.codec.SetOfEncoder.encode_set_of.Goals as goal
 
 pub returns-in_err-bag : goal.returns-in_err-bag
 returns-in_err-bag g c =
     let p = err_from_is_err_and c.from_residual.result c.from_residual.ensures.1 in
     record {
-      law = rw (p.1, p.2, ← c.as_slice-members.ensures) (bag_unopened g.Self.Encoder.rules g.Self.Encoder.amid_bag _ _ _ g.T.AsnType.levels g.T.AsnType.value c.as_slice-members.result.now c.args.self.now _ c.in_err-bag.field-0.0 c.open_set_of.new.self refl c.in_err-bag.ensures.law);
+      law = rw (p.1, p.2, ← c.as_slice-members.ensures) (unopened bags g.Self.Encoder.rules g.Self.Encoder.amid_bag _ _ _ g.T.AsnType.levels g.T.AsnType.value c.as_slice-members.result.now c.args.self.now _ c.open_set_of.new.self c.in_err-bag.ensures.law);
       behaves = search rules;
     }
 
 pub loop-member-init : goal.loop-member-init
 loop-member-init g c =
-    bag_opened g.Self.Encoder.rules g.Self.Encoder.amid_bag _ _ _ g.T.AsnType.levels g.T.AsnType.value c.as_slice-members.result.now c.args.self.now _ c.in_ok-bag.bag c.open_set_of.new.self refl c.in_ok-bag.ensures.law c.open_set_of.ensures.behaves.kept
+    opened bags g.Self.Encoder.rules g.Self.Encoder.amid_bag _ _ _ g.T.AsnType.levels g.T.AsnType.value c.as_slice-members.result.now c.args.self.now _ c.open_set_of.new.self c.in_ok-bag.ensures.law c.open_set_of.ensures.behaves.kept
 
 pub returns-in_err-next_member : goal.returns-in_err-next_member
 returns-in_err-next_member g c =
     let p = err_from_is_err_and c.from_residual-in_err-next_member.result c.from_residual-in_err-next_member.ensures.1 in
-    let e = at_item c.as_slice-members.result.now c.loop-member.member-index c.member-item.result c.loop-member-test.true c.member-item.is in
     record {
-      law = rw (p.1, p.2, ← c.as_slice-members.ensures) (next_refused g.Self.Encoder.rules g.Self.Encoder.amid_bag _ _ _ g.T.AsnType.levels g.T.AsnType.value c.as_slice-members.result.now c.args.self.now _ _ _ _ _ _ _ _ e c.loop-member.invariant c.in_err-next_member.ensures);
+      law = rw (p.1, p.2, ← c.as_slice-members.ensures) (next_refused c.loop-member.invariant _ _ c.next_member.new.self c.loop-member-test.true c.member-item.is c.in_err-next_member.ensures.law);
       behaves = search rules;
     }
 
 pub returns-in_err-encode : goal.returns-in_err-encode
 returns-in_err-encode g c =
     let p = err_from_is_err_and c.from_residual-in_err-encode.result c.from_residual-in_err-encode.ensures.1 in
-    let e = at_item c.as_slice-members.result.now c.loop-member.member-index c.member-item.result c.loop-member-test.true c.member-item.is in
     record {
-      law = rw (p.1, p.2, ← c.as_slice-members.ensures) (member_refused g.Self.Encoder.rules g.Self.Encoder.amid_bag _ _ _ g.T.AsnType.levels g.T.AsnType.value c.as_slice-members.result.now c.args.self.now _ _ _ _ _ _ _ c.encode.new.encoder _ _ e c.loop-member.invariant c.in_ok-next_member.ensures c.in_err-encode.ensures.law);
+      law = rw (p.1, p.2, ← c.as_slice-members.ensures) (element_refused c.loop-member.invariant _ _ _ c.encode.new.encoder _ c.loop-member-test.true c.member-item.is (awaits_member c.in_ok-next_member.ensures) c.in_err-encode.ensures.law);
       behaves = search rules;
     }
 
 pub loop-member-preserved : goal.loop-member-preserved
 loop-member-preserved g c =
-    let e = at_item c.as_slice-members.result.now c.loop-member.member-index c.member-item.result c.loop-member-test.true c.member-item.is in
-    member_presented g.Self.Encoder.rules g.Self.Encoder.amid_bag _ _ _ g.T.AsnType.levels g.T.AsnType.value c.as_slice-members.result.now c.args.self.now _ _ _ _ _ _ _ _ _ _ e c.loop-member.invariant c.in_ok-next_member.ensures c.in_ok-encode.ensures.law
-    (c.encode.ensures.behaves.kept ∙ c.next_member.ensures.behaves.kept ∙ c.loop-member.invariant.kept)
+    element_presented c.loop-member.invariant _ _ _ _ _ c.loop-member-test.true c.member-item.is (awaits_member c.in_ok-next_member.ensures) c.in_ok-encode.ensures.law (c.encode.ensures.behaves.kept ∙ c.next_member.ensures.behaves.kept)
 
 pub returns : goal.returns
 returns g c =
     record {
-      law = rw (← c.as_slice-members.ensures) (bag_closed g.Self.Encoder.rules g.Self.Encoder.amid_bag _ _ _ g.T.AsnType.levels g.T.AsnType.value c.as_slice-members.result.now c.args.self.now _ _ _ _ _ c.loop-member-test.false c.loop-member.invariant c.close_set_of.ensures);
+      law = rw (← c.as_slice-members.ensures) (closed c.loop-member.invariant _ _ c.loop-member-test.false c.close_set_of.ensures.law);
       behaves = search rules;
     }

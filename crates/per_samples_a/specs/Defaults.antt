@@ -1,0 +1,21 @@
+-- SEQUENCE {
+--     signed INTEGER (-8..7) DEFAULT -5, any INTEGER DEFAULT 0, octets OCTET STRING (SIZE (0..15)) DEFAULT '0102'H,
+--     text VisibleString (SIZE (0..15)) DEFAULT "hi", last BOOLEAN
+-- }
+use Rattle.std.specs.Prelude.{[], ◌∷◌, codes, negsuc, pos}
+use Rattle.rasn_below.specs.Page.{automatic, default, whole, octets, characters, list_value, TypeLists}
+use Rattle.rasn_below.specs.Page.{boolean, integer, octet_string, visible_string, sequence_of, big, i8, any, minus◌to◌, size◌to◌}
+
+abbrev pub defaults : TypeLists
+defaults = automatic (
+    default (whole (negsuc 4)) (integer i8 (minus 8 to 7)) ∷
+    default (whole (pos 0)) (integer big any) ∷
+    default (octets (1 ∷ 2 ∷ [])) (octet_string (size 0 to 15)) ∷
+    default (characters (codes "hi")) (visible_string (size 0 to 15)) ∷
+    boolean ∷ [])
+
+-- SEQUENCE { list SEQUENCE (SIZE (0..3)) OF BOOLEAN DEFAULT {}, last BOOLEAN }
+abbrev pub default_list : TypeLists
+default_list = automatic (
+    default (list_value []) (sequence_of (size 0 to 3) boolean) ∷
+    boolean ∷ [])

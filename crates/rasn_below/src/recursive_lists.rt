@@ -1,0 +1,144 @@
+//! What an author's list of components or alternatives is handed to, where the type holds itself.
+//!
+//! A component or an alternative that holds the type itself, or another type that holds it, has the word `RECURSIVE` in
+//! brackets, before its constraints, and is a box of that type, an `Option` of one, or a list.
+//!
+//! ```text
+//! macro_rules! components {
+//!     ($to:ident $($with:ident)*) => {
+//!         $to! { [$($with)*]
+//!             required 0 "value" value: u8 [0..=255];
+//!             required 1 "children" children: Vec<Tree> [RECURSIVE];
+//!         }
+//!     };
+//! }
+//! ```
+//!
+//! `decode_record`, `encode_choice` and `decode_recursive_alternative` are for authors, as is `encode_record`. What the
+//! others write is part of these.
+
+/// Reads a record of these components, which holds values of a type that `held` reads: the body of its `Holds`.
+#[macro_export]
+macro_rules! decode_record {
+    ([$decoder:ident $tag:ident $held:ident $of:ident] $(
+        $presence:ident $number:literal $name:literal $field:ident: $type:ty [$($bounds:tt)*];
+    )*) => {{
+        let cells = $crate::with_places!(holding_cells $([$presence $number [$type] [$($bounds)*]])*);
+        let $crate::pairs!($($field)*) =
+            $crate::recursive::record::<Self, $of, _, H, D, F>(&cells, $decoder, $tag, $held)?;
+        Ok(Self { $($field),* })
+    }};
+}
+
+/// Components as cells to read, each its presence, its tag, its type and its constraints in brackets, which are those
+/// of its place in the constant `BOUNDS`.
+#[macro_export]
+macro_rules! holding_cells {
+    ($places:tt) => { $crate::cells::End {} };
+    ([$place:literal $($places:tt)*] [$presence:ident $number:literal [$type:ty] $bounds:tt] $($rest:tt)*) => {
+        $crate::cells::Cell {
+            component: $crate::recursive::Tagged {
+                tag: $crate::context_tag!($number),
+                constraints: BOUNDS.root[$place],
+                component: $crate::holding_component!($presence [$type] $bounds),
+            },
+            next: $crate::holding_cells!([$($places)*] $($rest)*),
+        }
+    };
+}
+
+/// One component to read.
+#[macro_export]
+macro_rules! holding_component {
+    ($presence:ident [$type:ty] [RECURSIVE $($bounds:tt)*]) => {
+        $crate::recursive::Holding($crate::component!($presence [], std::marker::PhantomData::<$type>))
+    };
+    ($presence:ident [$type:ty] $bounds:tt) => {
+        $crate::recursive::Plain($crate::component!($presence $bounds, std::marker::PhantomData::<$type>))
+    };
+}
+
+/// Writes the alternative of a list that is chosen, under a tag and a name: the body of the `Encode` of a CHOICE that
+/// holds itself. Its alternatives have the constraints of their types.
+#[macro_export]
+macro_rules! encode_choice {
+    ([$of:ident $encoder:ident $tag:ident $identifier:ident] $($list:tt)*) => {
+        $crate::choice_to_write!([$of $encoder $tag $identifier]; $($list)*)
+    };
+}
+
+/// The alternatives of a list to write, behind those that are done.
+#[macro_export]
+macro_rules! choice_to_write {
+    ([$of:ident $encoder:ident $tag:ident $identifier:ident $($done:tt)*];) => {
+        match $of { $($done)* }
+    };
+    ([$of:ident $encoder:ident $tag:ident $identifier:ident $($done:tt)*];
+        $number:literal $name:literal $variant:ident; $($rest:tt)*
+    ) => {
+        $crate::choice_to_write!([$of $encoder $tag $identifier
+            $($done)*
+            Self::$variant => $encoder.encode_alternative::<Self, _>(
+                $tag, $crate::context_tag!($number), &(), $identifier,
+            ),
+        ]; $($rest)*)
+    };
+    ([$of:ident $encoder:ident $tag:ident $identifier:ident $($done:tt)*];
+        $number:literal $name:literal $variant:ident: $type:ty [$($bounds:tt)*]; $($rest:tt)*
+    ) => {
+        $crate::choice_to_write!([$of $encoder $tag $identifier
+            $($done)*
+            Self::$variant(value) => $encoder.encode_alternative::<Self, _>(
+                $tag, $crate::context_tag!($number), value, $identifier,
+            ),
+        ]; $($rest)*)
+    };
+}
+
+/// Reads the alternative of a list that goes by a tag, of a CHOICE which holds values of a type that `held` reads. The
+/// constraints are in the constant `BOUNDS`.
+#[macro_export]
+macro_rules! decode_recursive_alternative {
+    ([$decoder:ident $by:ident $held:ident $of:ident] $($list:tt)*) => {
+        $crate::with_places!(recursive_alternatives [$decoder $by $held $of]; $($list)*)
+    };
+}
+
+/// The alternatives to read, behind those that are done.
+#[macro_export]
+macro_rules! recursive_alternatives {
+    ([$place:literal $($places:tt)*] [$decoder:ident $by:ident $held:ident $of:ident $($done:tt)*];
+        $tag:literal $name:literal $variant:ident $(: $type:ty [$($bounds:tt)*])?;
+    ) => {
+        match <Self as $crate::schema::Choice>::VARIANTS.index_of($by) {
+            $($done)*
+            _ => $crate::recursive_alternative!(
+                $decoder $by $held $of $place $variant $([$type] [$($bounds)*])?
+            ),
+        }
+    };
+    ([$place:literal $($places:tt)*] [$decoder:ident $by:ident $held:ident $of:ident $($done:tt)*];
+        $tag:literal $name:literal $variant:ident $(: $type:ty [$($bounds:tt)*])?; $($rest:tt)+
+    ) => {
+        $crate::recursive_alternatives!([$($places)*] [$decoder $by $held $of
+            $($done)*
+            Some($place) => $crate::recursive_alternative!(
+                $decoder $by $held $of $place $variant $([$type] [$($bounds)*])?
+            ),
+        ]; $($rest)+)
+    };
+}
+
+/// The alternative at a place, to read.
+#[macro_export]
+macro_rules! recursive_alternative {
+    ($decoder:ident $by:ident $held:ident $of:ident $place:literal $variant:ident
+        [$type:ty] [RECURSIVE]
+    ) => {{
+        let value = $crate::recursive::alternative::<$type, $of, H, D, F>($decoder, $by, $held)?;
+        Ok(Self::$variant(value))
+    }};
+    ($decoder:ident $by:ident $held:ident $of:ident $place:literal $variant:ident $([$type:ty] $bounds:tt)?) => {
+        $crate::alternative_to_read!($decoder $by root $place $variant $($type)?)
+    };
+}

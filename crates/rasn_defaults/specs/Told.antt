@@ -1,0 +1,19 @@
+-- Whether a component is at its default.
+use Rattle.std.specs.Prelude.{◌≡◌, ℕ, Bool, true, cond, ◌&&◌, List, [], ◌∷◌}
+use Rattle.rasn_types.specs.Values.{Value, same}
+use Rattle.rasn_schema.specs.Schemas.{Schema}
+use Rattle.rasn_schema.specs.Normal.{normal}
+use Rattle.rasn_traits.specs.Calls.{AtDepths}
+
+-- a test of whether two values are one: at each depth that holds the first, its normal form is the second
+pub record TellsSame {C : Type 0} (schema : C → ℕ → Schema) (k : ℕ) (v d : Value) (b : Bool) : Type 0 where
+  pub at : (c : C) → AtDepths (schema c) k (λ s. b ≡ same (normal s v) d)
+
+-- whether all characters are some of those that a test takes
+abbrev pub are_all : (ℕ → Bool) → List ℕ → Bool
+are_all takes [] = true
+are_all takes (c ∷ cs) = takes c && are_all takes cs
+
+-- the characters, where a test takes each, else none
+abbrev pub kept : (ℕ → Bool) → List ℕ → List ℕ
+kept takes cs = cond (are_all takes cs) cs []

@@ -1,0 +1,21 @@
+-- Root components of a record, and the additions behind them, over any decoder.
+use Rattle.std.proofs.Common.{ℕ, ◌⊎◌, subst, List, Option}
+use Rattle.rasn_types.specs.Values.{Value}
+use Rattle.rasn_schema.specs.Schemas.{Parts}
+use Rattle.rasn_traits.specs.AdditionsRead.{FaultyAdditions, ReadsAdditions}
+use Rattle.rasn_traits.specs.Calls.{DecoderRules, DecodesWell, Refuses}
+use Rattle.rasn_traits.specs.Scopes.{ReadsFields, ReadsNoFields, ReadsParts, reads_fields}
+use Rattle.rasn_traits.proofs.Reading.{fails_behind_root, parts_level}
+
+module _ {E S : Type 0} {rules : DecoderRules E S} (L : DecodesWell rules) (parts additions : ℕ → Parts) {s m : S} (rs : List (Option Value))
+    (a : ReadsParts rules (parts (rules.levels s)) s rs m) where
+  -- both are read, to the levels left
+  pub fields_read : (xs : List (Option Value)) (t : S) → ReadsAdditions rules (additions (rules.levels m)) m xs t
+      → ReadsFields rules (parts (rules.levels s)) (additions (rules.levels s)) s rs xs t
+  fields_read xs t b = reads_fields a (subst (λ n. ReadsAdditions rules (additions n) m xs t) (parts_level L (parts (rules.levels s)) s rs m a) b)
+
+  -- an addition isn't read
+  pub addition_unread : {e : E} → rules.memory e m ⊎ Refuses (ReadsAdditions rules (additions (rules.levels m))) (λ e. FaultyAdditions rules e (additions (rules.levels m))) e m
+      → rules.memory e s ⊎ ReadsNoFields rules (parts (rules.levels s)) (additions (rules.levels s)) e s
+  addition_unread {e} r = fails_behind_root L rs m a
+      (subst (λ n. rules.memory e m ⊎ Refuses (ReadsAdditions rules (additions n)) (λ e. FaultyAdditions rules e (additions n)) e m) (parts_level L (parts (rules.levels s)) s rs m a) r)

@@ -1,0 +1,4 @@
+use Rattle.rasn_record.proofs.cells.write_first.Goals as goal
+
+pub returns : goal.returns
+returns g c = rw (c.given_or_own-in_use.ensures, c.CONSTRAINTS.ensures) at c.encode_component.ensures

@@ -1,6 +1,0 @@
-use Rattle.rasn_types.specs.Alphabets.{numeric}
-use Rattle.rasn_strings.proofs.Own.{own_append}
-use Rattle.rasn_strings.proofs.strings.NumericStringStaticPermittedAlphabet.push_octets.Goals as goal
-
-pub invariant_of-self-2 : goal.invariant_of-self-2
-invariant_of-self-2 c = rw c.in_ok-extend_from_slice.ensures.items (own_append numeric c.self.inside.characters.items c.args.octets.now c.self.invariant c.requires)

@@ -1,5 +1,0 @@
-use Rattle.rasn_strings.proofs.Own.{expand-printable}
-use Rattle.rasn_strings.proofs.strings.PrintableStringStaticPermittedAlphabet.intervals.Goals as goal
-
-pub returns-clause-expands : goal.returns-clause-expands
-returns-clause-expands c = expand-printable

@@ -1,6 +1,0 @@
-use Rattle.rasn_types.specs.Alphabets.{visible}
-use Rattle.rasn_strings.proofs.Own.{own_get}
-use Rattle.rasn_strings.proofs.strings.VisibleStringStaticPermittedAlphabet.character.Goals as goal
-
-pub returns-clause-own : goal.returns-clause-own
-returns-clause-own c = rw (c.character_at.ensures, c.deref.ensures.value) (own_get visible c.self.inside.characters.items c.args.index c.self.invariant)
