@@ -6,7 +6,7 @@ import templates
 from constraints import LETTERS
 from names import constant, grouped, snake
 from templates import filled
-from words import Imports, holder, limit_words
+from words import COLUMNS, Imports, fitted, holder, limit_words
 
 # The types of the library that hold those of ASN.1, and the words of their values.
 HELD = {
@@ -24,8 +24,6 @@ TIMES = ("UTCTime", "GeneralizedTime", "DATE")
 # The names of these that the library has.
 LIBRARY = {HELD[kind] for kind in HELD if kind not in ("BOOLEAN", "NULL", *TIMES)} | {"Integer", "SetOf", "Constrained"}
 
-# Columns of a line.
-WIDEST = 120
 # The module with what a page names.
 PAGE = "rasn_below::page"
 
@@ -34,15 +32,6 @@ def bounds_text(bounds):
     low, high, marked = bounds
     text = f"{'' if low is None else grouped(low)}..{'' if high is None else '=' + grouped(high)}"
     return f"{text}, ..." if marked else text
-
-
-def fitted(line):
-    """Returns a line in as many as are needed, broken at blanks, those behind the first indented further."""
-    indent = line[: len(line) - len(line.lstrip())]
-    if len(line) <= WIDEST or line.startswith("///"):
-        return [line]
-    place = line.rindex(" ", len(indent), WIDEST)
-    return [line[:place], *fitted(f"{indent}    {line[place + 1 :]}")]
 
 
 def indented(lines, columns):
@@ -339,7 +328,7 @@ def table_file(modules, of):
     for module, name in sorted(modules.object_sets):
         for number, what, more in sorted(modules.objects(module, name)) if module in of else []:
             about = f"In {name}, {number} stands for {what}{f' ({more})' if more else ''}."
-            lines += [*(f"/// {line}" for line in textwrap.wrap(about, WIDEST - len("/// "))),
+            lines += [*(f"/// {line}" for line in textwrap.wrap(about, COLUMNS - len("/// "))),
                       f"pub const {constant(name)}_{constant(what)}: u32 = {grouped(number)};", ""]
     head = ["//! What the values whose types aren't known may hold: the identifiers of each object set, by their types.", ""]
     return "\n".join([*head, *lines]) if lines else None

@@ -1,4 +1,6 @@
 """Schemas in the words of ASN.1, as `docs/SCHEMAS.md` has them, and what a file imports for them."""
+import re
+
 from constraints import LETTERS
 
 BELOW = "rasn_below.specs."
@@ -16,7 +18,25 @@ SIZED = {
     "PrintableString": "printable_string", "NumericString": "numeric_string", "BMPString": "bmp_string",
 }
 
+# Columns of a line.
 COLUMNS = 120
+
+
+def fitted(line):
+    """Returns a line in as many as are needed, broken at blanks outside of types and comments, those behind the first
+    indented further."""
+    indent = len(line) - len(line.lstrip())
+    blanks = [found.start() for found in re.finditer(r"⟦[^⟧]*⟧|--.*|///.*|( )", line) if found[1]]
+    places = [place for place in blanks if indent < place <= COLUMNS]
+    if len(line) <= COLUMNS or not places:
+        return [line]
+    return [line[: places[-1]], *fitted(f"{' ' * (indent + 4)}{line[places[-1] + 1 :]}")]
+
+
+def with_name(line, name):
+    """Returns a line with a name as a comment behind it, or above it where there is no room."""
+    found = f"{line}  -- {name}"
+    return [found] if len(found) <= COLUMNS else [f"    -- {name}", line]
 
 
 def rows_of(names, width):
@@ -28,6 +48,11 @@ def rows_of(names, width):
         else:
             rows.append([name])
     return rows
+
+
+def in_rows(head, names, tail):
+    """Returns lines of names between a head and a tail, each of as many as its columns hold."""
+    return [f"{head}{', '.join(row)}{tail}" for row in rows_of(names, COLUMNS - len(head) - len(tail))]
 
 
 class Imports:
@@ -51,26 +76,30 @@ class Imports:
         self.spec("std.specs.Prelude", *names)
 
     def spec_lines(self):
-        return [
-            f"use Rattle.{module}.{{{', '.join(row)}}}"
-            for module, names in sorted(self.ghost.items())
-            for row in rows_of(sorted(names), COLUMNS - len(f"use Rattle.{module}.{{}}"))
-        ]
+        found = sorted(self.ghost.items())
+        return [line for module, names in found for line in in_rows(f"use Rattle.{module}.{{", sorted(names), "}")]
 
     def ghost_lines(self):
         lines = []
         for module, names in sorted(self.ghost.items()):
-            head = f"ghost use Rattle.{module}."
-            for row in rows_of(sorted(names), COLUMNS - len(head) - len("{};")):
-                line = f"{head}{{{', '.join(row)}}};"
-                lines += [line] if len(line) <= COLUMNS else [f"{head}{{", *(f"  {name}," for name in row), "};"]
+            found = in_rows(f"ghost use Rattle.{module}.{{", sorted(names), "};")
+            if max(map(len, found)) > COLUMNS:
+                outer, *inner = module.rsplit(".", 2)
+                nested = in_rows(f"  {'.'.join(inner)}.{{", sorted(names), "},")
+                found = [f"ghost use Rattle.{outer}.{{", *nested, "};"]
+            lines += found
         return lines
 
     def code_lines(self):
-        return [
-            f"use {path}::{{{', '.join(sorted(names))}}};" if len(names) > 1 else f"use {path}::{min(names)};"
-            for path, names in sorted(self.code.items())
-        ]
+        lines = []
+        for path, names in sorted(self.code.items()):
+            line = f"use {path}::{min(names)};"
+            if len(names) > 1:
+                line = f"use {path}::{{{', '.join(sorted(names))}}};"
+            elif len(line) > COLUMNS:
+                line = f"use {path}::*;"
+            lines.append(line)
+        return lines
 
 
 def holder(limits):
@@ -196,7 +225,8 @@ class Schemas:
             under, tagged = imports.word("under"), imports.word("at")
             texts = [f"{under} ({tagged} {part.tag}) {bracketed(text)}" for part, text in zip(parts, texts)]
         names = [part.name if part.group is None else "[[ ]]" for part in parts]
-        return ["(", *[f"    {text} ∷  -- {name}" for text, name in zip(texts, names)], "    [])"]
+        lines = [line for text, name in zip(texts, names) for line in with_name(f"    {text} ∷", name)]
+        return ["(", *lines, "    [])"]
 
     def lists(self, item, imports):
         """Returns the lists of an item's components, or alternatives, as a definition."""
@@ -224,6 +254,6 @@ class Schemas:
         """Returns the schemas of the items of a module, in the order in which they need one another."""
         imports, lines = Imports(), []
         for item in items:
-            lines += ["", *self.lines(item, imports)]
+            lines += ["", *(piece for line in self.lines(item, imports) for piece in fitted(line))]
         head = f"-- The module {module}: below each definition in ASN.1 stands what the theorem takes it for."
         return "\n".join([head, *imports.spec_lines(), *lines, ""])

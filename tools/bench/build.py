@@ -4,14 +4,19 @@ import re
 import shutil
 import subprocess
 
-from inputs import kinds, line_of, octets_line
+from inputs import MESSAGES, lines, octets_line
 from program import built_program
 from repository import TOP, Failure, below, read_crates
 
 HERE = os.path.dirname(os.path.realpath(__file__))
 VARIANTS = ("uper", "aper")
 # The libraries that the program in Rattle names.
-LIBRARIES = ["rasn_below", "rasn_per", "per_samples_a", "per_samples_b"]
+LIBRARIES = ["rasn_below", "rasn_per", "per_samples_a", "per_samples_b", "its_container", "cam", "ngap_setup"]
+# The modules of ASN.1 of the messages, each in a file of its name.
+MODULES = {
+    "uper": {"ITS-Container": "its/ITS-Container", "CAM-PDU-Descriptions": "its/CAM"},
+    "aper": {f"NGAP-{it}": f"ngap/NGAP-{it}" for it in ("CommonDataTypes", "Constants", "Containers", "IEs")},
+}
 SIZES = {"1k": 1 << 10, "64k": 1 << 16, "1m": 1 << 20, "16m": 1 << 24}
 # asn1c knows no addition groups: an optional addition of the group's type has the same encoding (X.691 19.9).
 GROUP = (r"\[\[.*\]\]", "group Inner OPTIONAL")
@@ -83,9 +88,9 @@ class Folder:
 
 
 def write_inputs(folder):
-    for kind, (_, put) in kinds().items():
-        for variant in VARIANTS:
-            folder.written(f"inputs/{variant}.{kind}", line_of(put, variant == "aper"))
+    for variant in VARIANTS:
+        for kind, line in lines(variant).items():
+            folder.written(f"inputs/{variant}.{kind}", line)
     for name, size in SIZES.items():
         folder.written(f"inputs/growth.{name}", octets_line(size))
 
@@ -112,13 +117,25 @@ def build_this_project(folder):
     shutil.copy(f"{crate}/out/bench_rasn", f"{folder.path}/bin/rasn")
 
 
+def fetch_modules(folder):
+    """Has the modules in the folder, each in a file of its own name."""
+    fetched, made = f"{folder.path}/fetched", f"{folder.path}/modules"
+    if not os.path.isdir(made):
+        ran([f"{TOP}/tools/asn1/fetch_modules", fetched], folder.path)
+        os.makedirs(made)
+        for module, file in [it for found in MODULES.values() for it in found.items()]:
+            shutil.copy(f"{fetched}/asn1/{file}.asn", f"{made}/{module}.asn")
+    return made
+
+
 def build_asn1c(folder):
     made = f"{folder.path}/asn1c"
     shutil.rmtree(made, ignore_errors=True)
     os.makedirs(made)
     with open(f"{HERE}/Bench.asn1", encoding="utf-8") as it:
         folder.written("asn1c/Bench.asn1", re.sub(*GROUP, it.read()))
-    ran(["asn1c", "-gen-PER", "-pdu=all", "Bench.asn1"], made)
+    modules = [f"{folder.path}/modules/{it}.asn" for it in MODULES["uper"]]
+    ran(["asn1c", "-gen-PER", "-pdu=all", "Bench.asn1", *modules], made)
     sources = sorted(it for it in os.listdir(made) if it.endswith(".c") and it != "converter-sample.c")
     words = ["gcc", "-O2", "-w", "-I.", f"-I{HERE}/c", "-o", f"{folder.path}/bin/asn1c", f"{HERE}/c/with_asn1c.c"]
     ran([*words, *sources], made)
@@ -129,7 +146,10 @@ def build_erlang(folder):
         made = f"{folder.path}/erlang_{variant}"
         os.makedirs(made, exist_ok=True)
         shutil.copy(f"{HERE}/Bench.asn1", made)
-        ran(["erl", "-noshell", "-eval", f'ok = asn1ct:compile("Bench.asn1", [{rules}]), halt().'], made)
+        for module in MODULES[variant]:
+            shutil.copy(f"{folder.path}/modules/{module}.asn", made)
+        for module in ("Bench.asn1", *MODULES[variant]):
+            ran(["erl", "-noshell", "-eval", f'ok = asn1ct:compile("{module}", [{rules}]), halt().'], made)
         ran(["erlc", f"{HERE}/erlang/bench.erl"], made)
 
 
@@ -137,7 +157,7 @@ def check(folder):
     """Has each program encode what it decoded, which must be the line that it was given."""
     told = []
     for name, variant in programs():
-        for kind in kinds():
+        for kind in [it for it in lines(variant) if knows(name, it)]:
             with open(folder.input(variant, kind), encoding="utf-8") as line:
                 if name == "erlang":
                     answer = folder.erlang(variant, "check", kind, 1)
@@ -157,8 +177,14 @@ def programs():
     return [(name, it) for name in ("rasn", "asn1c", "erlang", "c") for it in VARIANTS if (name, it) != ("asn1c", "aper")]
 
 
+def knows(name, kind):
+    """Returns whether a program has a kind: the C by hand has no messages."""
+    return name != "c" or kind not in MESSAGES
+
+
 def build(folder):
     write_inputs(folder)
+    fetch_modules(folder)
     build_asn1c(folder)
     build_erlang(folder)
     ran(["gcc", "-O2", "-Wall", "-o", f"{folder.path}/bin/c", f"{HERE}/c/by_hand.c"], folder.path)

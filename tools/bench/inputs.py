@@ -1,5 +1,8 @@
-"""The encodings that every program of the benchmark reads, made by the rules of X.691 here and by no program under test."""
+"""The encodings that every program of the benchmark reads, made by the rules of X.691 here and by no program under test, and
+messages of protocols, as rows/protocols has them."""
 import random
+
+from repository import TOP
 
 OCTETS_1K = 1024
 OCTETS_1M = 1 << 20
@@ -150,6 +153,37 @@ def kinds():
         "group": ("extensible record with a group", put_group),
         "choice": ("CHOICE", put_choice),
     }
+
+
+def message(protocol, name):
+    """Returns the octets of a row of rows/protocols."""
+    with open(f"{TOP}/rows/protocols/{protocol}.tsv", encoding="utf-8") as it:
+        rows = [line.split("\t") for line in it]
+    return bytes.fromhex(next(row[5] for row in rows if row[3:4] == [name]))
+
+
+def element(octets, identifier):
+    """Returns the value of an element of a NGAP message: behind its identifier, its criticality and a short length."""
+    at = octets.index(identifier.to_bytes(2, "big") + b"\0") + 4
+    return octets[at : at + octets[at - 1]]
+
+
+# The messages: what each is, in which variant, and its octets.
+MESSAGES = {
+    "cam": ("CAM (ITS)", "uper", message("cam", "cam_high_frequency_all")),
+    "areas": ("SupportedTAList (NGAP)", "aper", element(message("ngap", "ng_setup_request"), 102)),
+}
+
+
+def titles():
+    """Returns what each kind is."""
+    return {kind: it[0] for kind, it in [*kinds().items(), *MESSAGES.items()]}
+
+
+def lines(variant):
+    """Returns the line of hexadecimal of each kind that is written in a variant."""
+    found = {kind: line_of(put, variant == "aper") for kind, (_, put) in kinds().items()}
+    return found | {kind: f"{octets.hex()}\n" for kind, (_, it, octets) in MESSAGES.items() if it == variant}
 
 
 def line_of(put, aligned):

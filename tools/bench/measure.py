@@ -6,8 +6,8 @@ import re
 import statistics
 import subprocess
 
-from build import SIZES, VARIANTS, programs
-from inputs import kinds
+from build import SIZES, VARIANTS, knows, programs
+from inputs import lines
 from repository import Failure
 
 REPEATS = int(os.environ.get("REPEATS", "3"))
@@ -69,8 +69,8 @@ def rows():
     for variant in VARIANTS:
         for operation in OPERATIONS if variant == "uper" else IN_APER:
             names = [name for name, it in programs() if it == variant and (name != "erlang" or operation != "enc")]
-            for kind in kinds():
-                yield variant, operation, kind, names
+            for kind in lines(variant):
+                yield variant, operation, kind, [it for it in names if knows(it, kind)]
 
 
 def time_rows(folder):
@@ -121,7 +121,8 @@ def count_cell(folder, name, operation, kind):
 
 def count_instructions(folder):
     """Counts the instructions of an operation in UPER. They don't depend on other work, so the runs go side by side."""
-    cells = [(name, it, kind) for kind in kinds() for it in IN_APER for name in ("rasn", "asn1c", "c")]
+    names = ("rasn", "asn1c", "c")
+    cells = [(name, it, kind) for kind in lines("uper") for it in IN_APER for name in names if knows(name, kind)]
     with concurrent.futures.ThreadPoolExecutor(WORKERS) as pool:
         found = list(pool.map(lambda cell: count_cell(folder, *cell), cells))
     folder.written("instructions.json", json.dumps({" ".join(cell): it for cell, it in zip(cells, found)}, indent=1))

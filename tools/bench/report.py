@@ -5,7 +5,7 @@ import platform
 import re
 import subprocess
 
-from inputs import kinds
+from inputs import titles
 from repository import TOP
 
 SIDES = {"enc": "encode_buf", "new": "encode", "dec": "decode"}
@@ -48,12 +48,12 @@ def time_table(times, variant):
         columns += [(operation, name) for name in found]
     head = [variant.upper()] + [f"{SIDES[it]} ns" if name == "rasn" else f"/ {OTHERS[name]}" for it, name in columns]
     rows = []
-    for kind, (title, _) in kinds().items():
+    for kind, title in titles().items():
         row = [title]
         for operation, name in columns:
-            nanoseconds, ratio = times[f"{variant} {operation} {kind}"][name]
-            row.append(f"{nanoseconds:,.0f}" if name == "rasn" else f"{ratio:.2f}")
-        rows.append(row)
+            nanoseconds, ratio = times.get(f"{variant} {operation} {kind}", {}).get(name, (None, None))
+            row.append("" if ratio is None else f"{nanoseconds:,.0f}" if name == "rasn" else f"{ratio:.2f}")
+        rows += [row] if any(row[1:]) else []
     return table(head, rows)
 
 
@@ -85,7 +85,7 @@ def behind(times):
         variant, operation, kind = key.split()
         for name in ("asn1c", "erlang"):
             if name in row and row[name][1] >= 1:
-                found.append(f"{variant.upper()} {SIDES[operation]} of {kinds()[kind][0]}: {row[name][1]:.2f} of {OTHERS[name]}'s time")
+                found.append(f"{variant.upper()} {SIDES[operation]} of {titles()[kind]}: {row[name][1]:.2f} of {OTHERS[name]}'s time")
     return found
 
 
@@ -96,10 +96,13 @@ def plain(function):
 
 def instruction_rows(counted):
     rows, most = [], []
-    for kind, (title, _) in kinds().items():
+    for kind, title in titles().items():
+        if f"rasn new {kind}" not in counted:
+            continue
         row = [title]
         for operation in ("new", "dec"):
-            row += [f"{sum(counted[f'{name} {operation} {kind}'].values()):,.0f}" for name in ("rasn", "asn1c", "c")]
+            found = [counted.get(f"{name} {operation} {kind}") for name in ("rasn", "asn1c", "c")]
+            row += [f"{sum(it.values()):,.0f}" if it else "" for it in found]
             own = counted[f"rasn {operation} {kind}"]
             total = sum(own.values()) or 1
             first = sorted(own, key=own.get, reverse=True)[:MOST]

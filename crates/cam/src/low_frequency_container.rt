@@ -1,8 +1,8 @@
 //! LowFrequencyContainer, of the module CAM-PDU-Descriptions.
 
 ghost use Rattle.cam.specs.CamPduDescriptions.{low_frequency_container_lists};
-ghost use Rattle.cam.specs.declared.low_frequency_container.LowFrequencyContainer.TheVariants.{
-  BasicVehicleContainerLowFrequency,
+ghost use Rattle.cam.specs.declared.low_frequency_container.{
+  LowFrequencyContainer.TheVariants.{BasicVehicleContainerLowFrequency},
 };
 ghost use Rattle.rasn_below.specs.Page.{chosen, variants_listed};
 ghost use Rattle.std.specs.Prelude.{refl};

@@ -1,20 +1,10 @@
 //! SpecialVehicleContainer, of the module CAM-PDU-Descriptions.
 
 ghost use Rattle.cam.specs.CamPduDescriptions.{special_vehicle_container_lists};
-ghost use Rattle.cam.specs.declared.special_vehicle_container.SpecialVehicleContainer.TheVariants.{
-  DangerousGoodsContainer,
-};
-ghost use Rattle.cam.specs.declared.special_vehicle_container.SpecialVehicleContainer.TheVariants.{EmergencyContainer};
-ghost use Rattle.cam.specs.declared.special_vehicle_container.SpecialVehicleContainer.TheVariants.{
-  PublicTransportContainer,
-};
-ghost use Rattle.cam.specs.declared.special_vehicle_container.SpecialVehicleContainer.TheVariants.{RescueContainer};
-ghost use Rattle.cam.specs.declared.special_vehicle_container.SpecialVehicleContainer.TheVariants.{
-  RoadWorksContainerBasic,
-};
-ghost use Rattle.cam.specs.declared.special_vehicle_container.SpecialVehicleContainer.TheVariants.{SafetyCarContainer};
-ghost use Rattle.cam.specs.declared.special_vehicle_container.SpecialVehicleContainer.TheVariants.{
-  SpecialTransportContainer,
+ghost use Rattle.cam.specs.declared.special_vehicle_container.{
+  SpecialVehicleContainer.TheVariants.{DangerousGoodsContainer, EmergencyContainer, PublicTransportContainer},
+  SpecialVehicleContainer.TheVariants.{RescueContainer, RoadWorksContainerBasic, SafetyCarContainer},
+  SpecialVehicleContainer.TheVariants.{SpecialTransportContainer},
 };
 ghost use Rattle.rasn_below.specs.Page.{chosen, variants_listed};
 ghost use Rattle.std.specs.Prelude.{refl};

@@ -1,11 +1,8 @@
 //! HighFrequencyContainer, of the module CAM-PDU-Descriptions.
 
 ghost use Rattle.cam_high_frequency.specs.CamPduDescriptions.{high_frequency_container_lists};
-ghost use Rattle.cam_high_frequency.specs.declared.high_frequency_container.HighFrequencyContainer.TheVariants.{
-  BasicVehicleContainerHighFrequency,
-};
-ghost use Rattle.cam_high_frequency.specs.declared.high_frequency_container.HighFrequencyContainer.TheVariants.{
-  RsuContainerHighFrequency,
+ghost use Rattle.cam_high_frequency.specs.declared.high_frequency_container.{
+  HighFrequencyContainer.TheVariants.{BasicVehicleContainerHighFrequency, RsuContainerHighFrequency},
 };
 ghost use Rattle.rasn_below.specs.Page.{chosen, variants_listed};
 ghost use Rattle.std.specs.Prelude.{refl};

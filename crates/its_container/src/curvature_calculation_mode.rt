@@ -1,13 +1,7 @@
 //! CurvatureCalculationMode, of the module ITS-Container.
 
-ghost use Rattle.its_container.specs.declared.curvature_calculation_mode.CurvatureCalculationMode.TheVariants.{
-  Unavailable,
-};
-ghost use Rattle.its_container.specs.declared.curvature_calculation_mode.CurvatureCalculationMode.TheVariants.{
-  YawRateNotUsed,
-};
-ghost use Rattle.its_container.specs.declared.curvature_calculation_mode.CurvatureCalculationMode.TheVariants.{
-  YawRateUsed,
+ghost use Rattle.its_container.specs.declared.curvature_calculation_mode.{
+  CurvatureCalculationMode.TheVariants.{Unavailable, YawRateNotUsed, YawRateUsed},
 };
 ghost use Rattle.rasn_below.specs.Page.{extensible_items, item, root};
 

@@ -1,39 +1,13 @@
 //! DangerousGoodsBasic, of the module ITS-Container.
 
-ghost use Rattle.its_container.specs.declared.dangerous_goods_basic.DangerousGoodsBasic.TheVariants.{
-  CorrosiveSubstances,
+ghost use Rattle.its_container.specs.declared.dangerous_goods_basic.{
+  DangerousGoodsBasic.TheVariants.{CorrosiveSubstances, Explosives1, Explosives2, Explosives3, Explosives4},
+  DangerousGoodsBasic.TheVariants.{Explosives5, Explosives6, FlammableGases, FlammableLiquids, FlammableSolids},
+  DangerousGoodsBasic.TheVariants.{InfectiousSubstances, MiscellaneousDangerousSubstances, NonFlammableGases},
+  DangerousGoodsBasic.TheVariants.{OrganicPeroxides, OxidizingSubstances, RadioactiveMaterial},
+  DangerousGoodsBasic.TheVariants.{SubstancesEmittingFlammableGasesUponContactWithWater},
+  DangerousGoodsBasic.TheVariants.{SubstancesLiableToSpontaneousCombustion, ToxicGases, ToxicSubstances},
 };
-ghost use Rattle.its_container.specs.declared.dangerous_goods_basic.DangerousGoodsBasic.TheVariants.{Explosives1};
-ghost use Rattle.its_container.specs.declared.dangerous_goods_basic.DangerousGoodsBasic.TheVariants.{Explosives2};
-ghost use Rattle.its_container.specs.declared.dangerous_goods_basic.DangerousGoodsBasic.TheVariants.{Explosives3};
-ghost use Rattle.its_container.specs.declared.dangerous_goods_basic.DangerousGoodsBasic.TheVariants.{Explosives4};
-ghost use Rattle.its_container.specs.declared.dangerous_goods_basic.DangerousGoodsBasic.TheVariants.{Explosives5};
-ghost use Rattle.its_container.specs.declared.dangerous_goods_basic.DangerousGoodsBasic.TheVariants.{Explosives6};
-ghost use Rattle.its_container.specs.declared.dangerous_goods_basic.DangerousGoodsBasic.TheVariants.{FlammableGases};
-ghost use Rattle.its_container.specs.declared.dangerous_goods_basic.DangerousGoodsBasic.TheVariants.{FlammableLiquids};
-ghost use Rattle.its_container.specs.declared.dangerous_goods_basic.DangerousGoodsBasic.TheVariants.{FlammableSolids};
-ghost use Rattle.its_container.specs.declared.dangerous_goods_basic.DangerousGoodsBasic.TheVariants.{
-  InfectiousSubstances,
-};
-ghost use Rattle.its_container.specs.declared.dangerous_goods_basic.DangerousGoodsBasic.TheVariants.{
-  MiscellaneousDangerousSubstances,
-};
-ghost use Rattle.its_container.specs.declared.dangerous_goods_basic.DangerousGoodsBasic.TheVariants.{NonFlammableGases};
-ghost use Rattle.its_container.specs.declared.dangerous_goods_basic.DangerousGoodsBasic.TheVariants.{OrganicPeroxides};
-ghost use Rattle.its_container.specs.declared.dangerous_goods_basic.DangerousGoodsBasic.TheVariants.{
-  OxidizingSubstances,
-};
-ghost use Rattle.its_container.specs.declared.dangerous_goods_basic.DangerousGoodsBasic.TheVariants.{
-  RadioactiveMaterial,
-};
-ghost use Rattle.its_container.specs.declared.dangerous_goods_basic.DangerousGoodsBasic.TheVariants.{
-  SubstancesEmittingFlammableGasesUponContactWithWater,
-};
-ghost use Rattle.its_container.specs.declared.dangerous_goods_basic.DangerousGoodsBasic.TheVariants.{
-  SubstancesLiableToSpontaneousCombustion,
-};
-ghost use Rattle.its_container.specs.declared.dangerous_goods_basic.DangerousGoodsBasic.TheVariants.{ToxicGases};
-ghost use Rattle.its_container.specs.declared.dangerous_goods_basic.DangerousGoodsBasic.TheVariants.{ToxicSubstances};
 ghost use Rattle.rasn_below.specs.Page.{all_items, item, root};
 
 use rasn_below::page::*;

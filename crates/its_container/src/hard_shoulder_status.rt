@@ -1,10 +1,8 @@
 //! HardShoulderStatus, of the module ITS-Container.
 
-ghost use Rattle.its_container.specs.declared.hard_shoulder_status.HardShoulderStatus.TheVariants.{AvailableForDriving};
-ghost use Rattle.its_container.specs.declared.hard_shoulder_status.HardShoulderStatus.TheVariants.{
-  AvailableForStopping,
+ghost use Rattle.its_container.specs.declared.hard_shoulder_status.{
+  HardShoulderStatus.TheVariants.{AvailableForDriving, AvailableForStopping, Closed},
 };
-ghost use Rattle.its_container.specs.declared.hard_shoulder_status.HardShoulderStatus.TheVariants.{Closed};
 ghost use Rattle.rasn_below.specs.Page.{all_items, item, root};
 
 use rasn_below::page::*;

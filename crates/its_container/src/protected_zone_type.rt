@@ -1,10 +1,7 @@
 //! ProtectedZoneType, of the module ITS-Container.
 
-ghost use Rattle.its_container.specs.declared.protected_zone_type.ProtectedZoneType.TheVariants.{
-  PermanentCenDsrcTolling,
-};
-ghost use Rattle.its_container.specs.declared.protected_zone_type.ProtectedZoneType.TheVariants.{
-  TemporaryCenDsrcTolling,
+ghost use Rattle.its_container.specs.declared.protected_zone_type.{
+  ProtectedZoneType.TheVariants.{PermanentCenDsrcTolling, TemporaryCenDsrcTolling},
 };
 ghost use Rattle.rasn_below.specs.Page.{added, extensible_items, item, root};
 

@@ -1,19 +1,9 @@
 //! VehicleLengthConfidenceIndication, of the module ITS-Container.
 
-ghost use Rattle.its_container.specs.declared.vehicle_length_confidence_indication.VehicleLengthConfidenceIndication.TheVariants.{
-  NoTrailerPresent,
-};
-ghost use Rattle.its_container.specs.declared.vehicle_length_confidence_indication.VehicleLengthConfidenceIndication.TheVariants.{
-  TrailerPresenceIsUnknown,
-};
-ghost use Rattle.its_container.specs.declared.vehicle_length_confidence_indication.VehicleLengthConfidenceIndication.TheVariants.{
-  TrailerPresentWithKnownLength,
-};
-ghost use Rattle.its_container.specs.declared.vehicle_length_confidence_indication.VehicleLengthConfidenceIndication.TheVariants.{
-  TrailerPresentWithUnknownLength,
-};
-ghost use Rattle.its_container.specs.declared.vehicle_length_confidence_indication.VehicleLengthConfidenceIndication.TheVariants.{
-  Unavailable,
+ghost use Rattle.its_container.specs.declared.vehicle_length_confidence_indication.{
+  VehicleLengthConfidenceIndication.TheVariants.{NoTrailerPresent, TrailerPresenceIsUnknown},
+  VehicleLengthConfidenceIndication.TheVariants.{TrailerPresentWithKnownLength, TrailerPresentWithUnknownLength},
+  VehicleLengthConfidenceIndication.TheVariants.{Unavailable},
 };
 ghost use Rattle.rasn_below.specs.Page.{all_items, item, root};
 

@@ -1,20 +1,7 @@
 //! PositioningSolutionType, of the module ITS-Container.
 
-ghost use Rattle.its_container_denm.specs.declared.positioning_solution_type.PositioningSolutionType.TheVariants.{
-  DgnsSplusDr,
-};
-ghost use Rattle.its_container_denm.specs.declared.positioning_solution_type.PositioningSolutionType.TheVariants.{
-  Dgnss,
-};
-ghost use Rattle.its_container_denm.specs.declared.positioning_solution_type.PositioningSolutionType.TheVariants.{Dr};
-ghost use Rattle.its_container_denm.specs.declared.positioning_solution_type.PositioningSolutionType.TheVariants.{
-  NoPositioningSolution,
-};
-ghost use Rattle.its_container_denm.specs.declared.positioning_solution_type.PositioningSolutionType.TheVariants.{
-  SgnsSplusDr,
-};
-ghost use Rattle.its_container_denm.specs.declared.positioning_solution_type.PositioningSolutionType.TheVariants.{
-  Sgnss,
+ghost use Rattle.its_container_denm.specs.declared.positioning_solution_type.{
+  PositioningSolutionType.TheVariants.{DgnsSplusDr, Dgnss, Dr, NoPositioningSolution, SgnsSplusDr, Sgnss},
 };
 ghost use Rattle.rasn_below.specs.Page.{extensible_items, item, root};
 

@@ -1,16 +1,7 @@
 //! RelevanceTrafficDirection, of the module ITS-Container.
 
-ghost use Rattle.its_container_denm.specs.declared.relevance_traffic_direction.RelevanceTrafficDirection.TheVariants.{
-  AllTrafficDirections,
-};
-ghost use Rattle.its_container_denm.specs.declared.relevance_traffic_direction.RelevanceTrafficDirection.TheVariants.{
-  DownstreamTraffic,
-};
-ghost use Rattle.its_container_denm.specs.declared.relevance_traffic_direction.RelevanceTrafficDirection.TheVariants.{
-  OppositeTraffic,
-};
-ghost use Rattle.its_container_denm.specs.declared.relevance_traffic_direction.RelevanceTrafficDirection.TheVariants.{
-  UpstreamTraffic,
+ghost use Rattle.its_container_denm.specs.declared.relevance_traffic_direction.{
+  RelevanceTrafficDirection.TheVariants.{AllTrafficDirections, DownstreamTraffic, OppositeTraffic, UpstreamTraffic},
 };
 ghost use Rattle.rasn_below.specs.Page.{all_items, item, root};
 

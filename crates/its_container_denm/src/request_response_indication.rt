@@ -1,10 +1,7 @@
 //! RequestResponseIndication, of the module ITS-Container.
 
-ghost use Rattle.its_container_denm.specs.declared.request_response_indication.RequestResponseIndication.TheVariants.{
-  Request,
-};
-ghost use Rattle.its_container_denm.specs.declared.request_response_indication.RequestResponseIndication.TheVariants.{
-  Response,
+ghost use Rattle.its_container_denm.specs.declared.request_response_indication.{
+  RequestResponseIndication.TheVariants.{Request, Response},
 };
 ghost use Rattle.rasn_below.specs.Page.{all_items, item, root};
 

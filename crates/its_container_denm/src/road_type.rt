@@ -1,16 +1,8 @@
 //! RoadType, of the module ITS-Container.
 
-ghost use Rattle.its_container_denm.specs.declared.road_type.RoadType.TheVariants.{
-  NonUrbanNoStructuralSeparationToOppositeLanes,
-};
-ghost use Rattle.its_container_denm.specs.declared.road_type.RoadType.TheVariants.{
-  NonUrbanWithStructuralSeparationToOppositeLanes,
-};
-ghost use Rattle.its_container_denm.specs.declared.road_type.RoadType.TheVariants.{
-  UrbanNoStructuralSeparationToOppositeLanes,
-};
-ghost use Rattle.its_container_denm.specs.declared.road_type.RoadType.TheVariants.{
-  UrbanWithStructuralSeparationToOppositeLanes,
+ghost use Rattle.its_container_denm.specs.declared.road_type.{
+  RoadType.TheVariants.{NonUrbanNoStructuralSeparationToOppositeLanes, NonUrbanWithStructuralSeparationToOppositeLanes},
+  RoadType.TheVariants.{UrbanNoStructuralSeparationToOppositeLanes, UrbanWithStructuralSeparationToOppositeLanes},
 };
 ghost use Rattle.rasn_below.specs.Page.{all_items, item, root};
 

@@ -1,11 +1,8 @@
 //! StationarySince, of the module ITS-Container.
 
-ghost use Rattle.its_container_denm.specs.declared.stationary_since.StationarySince.TheVariants.{
-  EqualOrGreater15Minutes,
+ghost use Rattle.its_container_denm.specs.declared.stationary_since.{
+  StationarySince.TheVariants.{EqualOrGreater15Minutes, LessThan15Minutes, LessThan1Minute, LessThan2Minutes},
 };
-ghost use Rattle.its_container_denm.specs.declared.stationary_since.StationarySince.TheVariants.{LessThan15Minutes};
-ghost use Rattle.its_container_denm.specs.declared.stationary_since.StationarySince.TheVariants.{LessThan1Minute};
-ghost use Rattle.its_container_denm.specs.declared.stationary_since.StationarySince.TheVariants.{LessThan2Minutes};
 ghost use Rattle.rasn_below.specs.Page.{all_items, item, root};
 
 use rasn_below::page::*;

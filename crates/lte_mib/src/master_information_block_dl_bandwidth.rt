@@ -1,22 +1,7 @@
 //! MasterInformationBlockDlBandwidth, of the module EUTRA-RRC-Definitions.
 
-ghost use Rattle.lte_mib.specs.declared.master_information_block_dl_bandwidth.MasterInformationBlockDlBandwidth.TheVariants.{
-  N100,
-};
-ghost use Rattle.lte_mib.specs.declared.master_information_block_dl_bandwidth.MasterInformationBlockDlBandwidth.TheVariants.{
-  N15,
-};
-ghost use Rattle.lte_mib.specs.declared.master_information_block_dl_bandwidth.MasterInformationBlockDlBandwidth.TheVariants.{
-  N25,
-};
-ghost use Rattle.lte_mib.specs.declared.master_information_block_dl_bandwidth.MasterInformationBlockDlBandwidth.TheVariants.{
-  N50,
-};
-ghost use Rattle.lte_mib.specs.declared.master_information_block_dl_bandwidth.MasterInformationBlockDlBandwidth.TheVariants.{
-  N6,
-};
-ghost use Rattle.lte_mib.specs.declared.master_information_block_dl_bandwidth.MasterInformationBlockDlBandwidth.TheVariants.{
-  N75,
+ghost use Rattle.lte_mib.specs.declared.master_information_block_dl_bandwidth.{
+  MasterInformationBlockDlBandwidth.TheVariants.{N100, N15, N25, N50, N6, N75},
 };
 ghost use Rattle.rasn_below.specs.Page.{all_items, item, root};
 

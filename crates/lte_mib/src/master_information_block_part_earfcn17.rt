@@ -1,11 +1,8 @@
 //! MasterInformationBlockPartEarfcn17, of the module EUTRA-RRC-Definitions.
 
 ghost use Rattle.lte_mib.specs.EutraRrcDefinitions.{master_information_block_part_earfcn_17_lists};
-ghost use Rattle.lte_mib.specs.declared.master_information_block_part_earfcn17.MasterInformationBlockPartEarfcn17.TheVariants.{
-  EarfcnLsb,
-};
-ghost use Rattle.lte_mib.specs.declared.master_information_block_part_earfcn17.MasterInformationBlockPartEarfcn17.TheVariants.{
-  Spare,
+ghost use Rattle.lte_mib.specs.declared.master_information_block_part_earfcn17.{
+  MasterInformationBlockPartEarfcn17.TheVariants.{EarfcnLsb, Spare},
 };
 ghost use Rattle.rasn_below.specs.Page.{bits, chosen, variants_listed};
 ghost use Rattle.std.specs.Prelude.{refl};

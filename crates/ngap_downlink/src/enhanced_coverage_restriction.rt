@@ -1,7 +1,7 @@
 //! EnhancedCoverageRestriction, of the module NGAP-IEs.
 
-ghost use Rattle.ngap_downlink.specs.declared.enhanced_coverage_restriction.EnhancedCoverageRestriction.TheVariants.{
-  Restricted,
+ghost use Rattle.ngap_downlink.specs.declared.enhanced_coverage_restriction.{
+  EnhancedCoverageRestriction.TheVariants.{Restricted},
 };
 ghost use Rattle.rasn_below.specs.Page.{extensible_items, item, root};
 

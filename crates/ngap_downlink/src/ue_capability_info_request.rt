@@ -1,7 +1,7 @@
 //! UeCapabilityInfoRequest, of the module NGAP-IEs.
 
-ghost use Rattle.ngap_downlink.specs.declared.ue_capability_info_request.UeCapabilityInfoRequest.TheVariants.{
-  Requested,
+ghost use Rattle.ngap_downlink.specs.declared.ue_capability_info_request.{
+  UeCapabilityInfoRequest.TheVariants.{Requested},
 };
 ghost use Rattle.rasn_below.specs.Page.{extensible_items, item, root};
 

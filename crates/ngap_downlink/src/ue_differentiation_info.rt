@@ -6,7 +6,7 @@ ghost use Rattle.std.specs.Prelude.{[], max, refl, ◌∷◌};
 
 use crate::scheduled_communication_time::ScheduledCommunicationTime;
 use crate::ue_differentiation_info_battery_indication::UeDifferentiationInfoBatteryIndication;
-use crate::ue_differentiation_info_periodic_communication_indicator::UeDifferentiationInfoPeriodicCommunicationIndicator;
+use crate::ue_differentiation_info_periodic_communication_indicator::*;
 use crate::ue_differentiation_info_stationary_indication::UeDifferentiationInfoStationaryIndication;
 use crate::ue_differentiation_info_traffic_profile::UeDifferentiationInfoTrafficProfile;
 use ngap::aliases::ProtocolExtensionContainer;

@@ -1,13 +1,8 @@
 //! UeDifferentiationInfoBatteryIndication, of the module NGAP-IEs.
 
-ghost use Rattle.ngap_downlink.specs.declared.ue_differentiation_info_battery_indication.UeDifferentiationInfoBatteryIndication.TheVariants.{
-  BatteryPowered,
-};
-ghost use Rattle.ngap_downlink.specs.declared.ue_differentiation_info_battery_indication.UeDifferentiationInfoBatteryIndication.TheVariants.{
-  BatteryPoweredNotRechargeableOrReplaceable,
-};
-ghost use Rattle.ngap_downlink.specs.declared.ue_differentiation_info_battery_indication.UeDifferentiationInfoBatteryIndication.TheVariants.{
-  NotBatteryPowered,
+ghost use Rattle.ngap_downlink.specs.declared.ue_differentiation_info_battery_indication.{
+  UeDifferentiationInfoBatteryIndication.TheVariants.{BatteryPowered, BatteryPoweredNotRechargeableOrReplaceable},
+  UeDifferentiationInfoBatteryIndication.TheVariants.{NotBatteryPowered},
 };
 ghost use Rattle.rasn_below.specs.Page.{extensible_items, item, root};
 

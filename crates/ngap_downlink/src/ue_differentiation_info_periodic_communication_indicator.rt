@@ -1,10 +1,7 @@
 //! UeDifferentiationInfoPeriodicCommunicationIndicator, of the module NGAP-IEs.
 
-ghost use Rattle.ngap_downlink.specs.declared.ue_differentiation_info_periodic_communication_indicator.UeDifferentiationInfoPeriodicCommunicationIndicator.TheVariants.{
-  Ondemand,
-};
-ghost use Rattle.ngap_downlink.specs.declared.ue_differentiation_info_periodic_communication_indicator.UeDifferentiationInfoPeriodicCommunicationIndicator.TheVariants.{
-  Periodically,
+ghost use Rattle.ngap_downlink.specs.declared.ue_differentiation_info_periodic_communication_indicator.{
+  UeDifferentiationInfoPeriodicCommunicationIndicator.TheVariants.{Ondemand, Periodically},
 };
 ghost use Rattle.rasn_below.specs.Page.{extensible_items, item, root};
 

@@ -1,10 +1,7 @@
 //! UeDifferentiationInfoStationaryIndication, of the module NGAP-IEs.
 
-ghost use Rattle.ngap_downlink.specs.declared.ue_differentiation_info_stationary_indication.UeDifferentiationInfoStationaryIndication.TheVariants.{
-  Mobile,
-};
-ghost use Rattle.ngap_downlink.specs.declared.ue_differentiation_info_stationary_indication.UeDifferentiationInfoStationaryIndication.TheVariants.{
-  Stationary,
+ghost use Rattle.ngap_downlink.specs.declared.ue_differentiation_info_stationary_indication.{
+  UeDifferentiationInfoStationaryIndication.TheVariants.{Mobile, Stationary},
 };
 ghost use Rattle.rasn_below.specs.Page.{extensible_items, item, root};
 

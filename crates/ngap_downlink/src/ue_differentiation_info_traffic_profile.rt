@@ -1,13 +1,7 @@
 //! UeDifferentiationInfoTrafficProfile, of the module NGAP-IEs.
 
-ghost use Rattle.ngap_downlink.specs.declared.ue_differentiation_info_traffic_profile.UeDifferentiationInfoTrafficProfile.TheVariants.{
-  DualPackets,
-};
-ghost use Rattle.ngap_downlink.specs.declared.ue_differentiation_info_traffic_profile.UeDifferentiationInfoTrafficProfile.TheVariants.{
-  MultiplePackets,
-};
-ghost use Rattle.ngap_downlink.specs.declared.ue_differentiation_info_traffic_profile.UeDifferentiationInfoTrafficProfile.TheVariants.{
-  SinglePacket,
+ghost use Rattle.ngap_downlink.specs.declared.ue_differentiation_info_traffic_profile.{
+  UeDifferentiationInfoTrafficProfile.TheVariants.{DualPackets, MultiplePackets, SinglePacket},
 };
 ghost use Rattle.rasn_below.specs.Page.{extensible_items, item, root};
 

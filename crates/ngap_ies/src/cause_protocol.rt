@@ -1,15 +1,10 @@
 //! CauseProtocol, of the module NGAP-IEs.
 
-ghost use Rattle.ngap_ies.specs.declared.cause_protocol.CauseProtocol.TheVariants.{
-  AbstractSyntaxErrorFalselyConstructedMessage,
+ghost use Rattle.ngap_ies.specs.declared.cause_protocol.{
+  CauseProtocol.TheVariants.{AbstractSyntaxErrorFalselyConstructedMessage, AbstractSyntaxErrorIgnoreAndNotify},
+  CauseProtocol.TheVariants.{AbstractSyntaxErrorReject, MessageNotCompatibleWithReceiverState, SemanticError},
+  CauseProtocol.TheVariants.{TransferSyntaxError, Unspecified},
 };
-ghost use Rattle.ngap_ies.specs.declared.cause_protocol.CauseProtocol.TheVariants.{AbstractSyntaxErrorIgnoreAndNotify};
-ghost use Rattle.ngap_ies.specs.declared.cause_protocol.CauseProtocol.TheVariants.{AbstractSyntaxErrorReject};
-ghost use Rattle.ngap_ies.specs.declared.cause_protocol.CauseProtocol.TheVariants.{
-  MessageNotCompatibleWithReceiverState,
-};
-ghost use Rattle.ngap_ies.specs.declared.cause_protocol.CauseProtocol.TheVariants.{SemanticError, TransferSyntaxError};
-ghost use Rattle.ngap_ies.specs.declared.cause_protocol.CauseProtocol.TheVariants.{Unspecified};
 ghost use Rattle.rasn_below.specs.Page.{extensible_items, item, root};
 
 use rasn_below::page::*;

@@ -1,98 +1,27 @@
 //! CauseRadioNetwork, of the module NGAP-IEs.
 
-ghost use Rattle.ngap_ies.specs.declared.cause_radio_network.CauseRadioNetwork.TheVariants.{CagOnlyAccessDenied};
-ghost use Rattle.ngap_ies.specs.declared.cause_radio_network.CauseRadioNetwork.TheVariants.{CellNotAvailable};
-ghost use Rattle.ngap_ies.specs.declared.cause_radio_network.CauseRadioNetwork.TheVariants.{
-  EncryptionAndOrIntegrityProtectionAlgorithmsNotSupported,
+ghost use Rattle.ngap_ies.specs.declared.cause_radio_network.{
+  CauseRadioNetwork.TheVariants.{CagOnlyAccessDenied, CellNotAvailable},
+  CauseRadioNetwork.TheVariants.{EncryptionAndOrIntegrityProtectionAlgorithmsNotSupported},
+  CauseRadioNetwork.TheVariants.{FailureInRadioInterfaceProcedure, HandoverCancelled, HandoverDesirableForRadioReason},
+  CauseRadioNetwork.TheVariants.{HoFailureInTarget5GcNgranNodeOrTargetSystem, HoTargetNotAllowed},
+  CauseRadioNetwork.TheVariants.{ImsVoiceEpsFallbackOrRatFallbackTriggered, InconsistentRemoteUeNgapId},
+  CauseRadioNetwork.TheVariants.{InsufficientUeCapabilities, InteractionWithOtherProcedure, InvalidQosCombination},
+  CauseRadioNetwork.TheVariants.{MultipleLocationReportingReferenceIdInstances, MultiplePduSessionIdInstances},
+  CauseRadioNetwork.TheVariants.{MultipleQosFlowIdInstances, N26InterfaceNotAvailable, NgInterSystemHandoverTriggered},
+  CauseRadioNetwork.TheVariants.{NgIntraSystemHandoverTriggered, NoRadioResourcesAvailableInTargetCell},
+  CauseRadioNetwork.TheVariants.{NotSupported5QiValue, NpnAccessDenied, PartialHandover, RadioConnectionWithUeLost},
+  CauseRadioNetwork.TheVariants.{RadioResourcesNotAvailable, RedcapUeNotSupported, Redirection},
+  CauseRadioNetwork.TheVariants.{ReduceLoadInServingCell, ReleaseDueTo5GcGeneratedReason},
+  CauseRadioNetwork.TheVariants.{ReleaseDueToCnDetectedMobility, ReleaseDueToNgranGeneratedReason},
+  CauseRadioNetwork.TheVariants.{ReleaseDueToPreEmption, ResourceOptimisationHandover},
+  CauseRadioNetwork.TheVariants.{ResourcesNotAvailableForTheSlice, RsnNotAvailableForTheUp, SliceNotSupported},
+  CauseRadioNetwork.TheVariants.{SuccessfulHandover, TimeCriticalHandover, TngrelocoverallExpiry, TngrelocprepExpiry},
+  CauseRadioNetwork.TheVariants.{TxnrelocoverallExpiry, UeContextTransfer, UeInRrcInactiveStateNotReachable},
+  CauseRadioNetwork.TheVariants.{UeMaxIntegrityProtectedDataRateReason, UnknownLocalUeNgapId, UnknownPduSessionId},
+  CauseRadioNetwork.TheVariants.{UnknownTargetId, UnkownQosFlowId, Unspecified, UpConfidentialityProtectionNotPossible},
+  CauseRadioNetwork.TheVariants.{UpIntegrityProtectionNotPossible, UserInactivity, XnHandoverTriggered},
 };
-ghost use Rattle.ngap_ies.specs.declared.cause_radio_network.CauseRadioNetwork.TheVariants.{
-  FailureInRadioInterfaceProcedure,
-};
-ghost use Rattle.ngap_ies.specs.declared.cause_radio_network.CauseRadioNetwork.TheVariants.{HandoverCancelled};
-ghost use Rattle.ngap_ies.specs.declared.cause_radio_network.CauseRadioNetwork.TheVariants.{
-  HandoverDesirableForRadioReason,
-};
-ghost use Rattle.ngap_ies.specs.declared.cause_radio_network.CauseRadioNetwork.TheVariants.{
-  HoFailureInTarget5GcNgranNodeOrTargetSystem,
-};
-ghost use Rattle.ngap_ies.specs.declared.cause_radio_network.CauseRadioNetwork.TheVariants.{HoTargetNotAllowed};
-ghost use Rattle.ngap_ies.specs.declared.cause_radio_network.CauseRadioNetwork.TheVariants.{
-  ImsVoiceEpsFallbackOrRatFallbackTriggered,
-};
-ghost use Rattle.ngap_ies.specs.declared.cause_radio_network.CauseRadioNetwork.TheVariants.{InconsistentRemoteUeNgapId};
-ghost use Rattle.ngap_ies.specs.declared.cause_radio_network.CauseRadioNetwork.TheVariants.{InsufficientUeCapabilities};
-ghost use Rattle.ngap_ies.specs.declared.cause_radio_network.CauseRadioNetwork.TheVariants.{
-  InteractionWithOtherProcedure,
-};
-ghost use Rattle.ngap_ies.specs.declared.cause_radio_network.CauseRadioNetwork.TheVariants.{InvalidQosCombination};
-ghost use Rattle.ngap_ies.specs.declared.cause_radio_network.CauseRadioNetwork.TheVariants.{
-  MultipleLocationReportingReferenceIdInstances,
-};
-ghost use Rattle.ngap_ies.specs.declared.cause_radio_network.CauseRadioNetwork.TheVariants.{
-  MultiplePduSessionIdInstances,
-};
-ghost use Rattle.ngap_ies.specs.declared.cause_radio_network.CauseRadioNetwork.TheVariants.{MultipleQosFlowIdInstances};
-ghost use Rattle.ngap_ies.specs.declared.cause_radio_network.CauseRadioNetwork.TheVariants.{N26InterfaceNotAvailable};
-ghost use Rattle.ngap_ies.specs.declared.cause_radio_network.CauseRadioNetwork.TheVariants.{
-  NgInterSystemHandoverTriggered,
-};
-ghost use Rattle.ngap_ies.specs.declared.cause_radio_network.CauseRadioNetwork.TheVariants.{
-  NgIntraSystemHandoverTriggered,
-};
-ghost use Rattle.ngap_ies.specs.declared.cause_radio_network.CauseRadioNetwork.TheVariants.{
-  NoRadioResourcesAvailableInTargetCell,
-};
-ghost use Rattle.ngap_ies.specs.declared.cause_radio_network.CauseRadioNetwork.TheVariants.{NotSupported5QiValue};
-ghost use Rattle.ngap_ies.specs.declared.cause_radio_network.CauseRadioNetwork.TheVariants.{NpnAccessDenied};
-ghost use Rattle.ngap_ies.specs.declared.cause_radio_network.CauseRadioNetwork.TheVariants.{PartialHandover};
-ghost use Rattle.ngap_ies.specs.declared.cause_radio_network.CauseRadioNetwork.TheVariants.{RadioConnectionWithUeLost};
-ghost use Rattle.ngap_ies.specs.declared.cause_radio_network.CauseRadioNetwork.TheVariants.{RadioResourcesNotAvailable};
-ghost use Rattle.ngap_ies.specs.declared.cause_radio_network.CauseRadioNetwork.TheVariants.{RedcapUeNotSupported};
-ghost use Rattle.ngap_ies.specs.declared.cause_radio_network.CauseRadioNetwork.TheVariants.{Redirection};
-ghost use Rattle.ngap_ies.specs.declared.cause_radio_network.CauseRadioNetwork.TheVariants.{ReduceLoadInServingCell};
-ghost use Rattle.ngap_ies.specs.declared.cause_radio_network.CauseRadioNetwork.TheVariants.{
-  ReleaseDueTo5GcGeneratedReason,
-};
-ghost use Rattle.ngap_ies.specs.declared.cause_radio_network.CauseRadioNetwork.TheVariants.{
-  ReleaseDueToCnDetectedMobility,
-};
-ghost use Rattle.ngap_ies.specs.declared.cause_radio_network.CauseRadioNetwork.TheVariants.{
-  ReleaseDueToNgranGeneratedReason,
-};
-ghost use Rattle.ngap_ies.specs.declared.cause_radio_network.CauseRadioNetwork.TheVariants.{ReleaseDueToPreEmption};
-ghost use Rattle.ngap_ies.specs.declared.cause_radio_network.CauseRadioNetwork.TheVariants.{
-  ResourceOptimisationHandover,
-};
-ghost use Rattle.ngap_ies.specs.declared.cause_radio_network.CauseRadioNetwork.TheVariants.{
-  ResourcesNotAvailableForTheSlice,
-};
-ghost use Rattle.ngap_ies.specs.declared.cause_radio_network.CauseRadioNetwork.TheVariants.{RsnNotAvailableForTheUp};
-ghost use Rattle.ngap_ies.specs.declared.cause_radio_network.CauseRadioNetwork.TheVariants.{SliceNotSupported};
-ghost use Rattle.ngap_ies.specs.declared.cause_radio_network.CauseRadioNetwork.TheVariants.{SuccessfulHandover};
-ghost use Rattle.ngap_ies.specs.declared.cause_radio_network.CauseRadioNetwork.TheVariants.{TimeCriticalHandover};
-ghost use Rattle.ngap_ies.specs.declared.cause_radio_network.CauseRadioNetwork.TheVariants.{TngrelocoverallExpiry};
-ghost use Rattle.ngap_ies.specs.declared.cause_radio_network.CauseRadioNetwork.TheVariants.{TngrelocprepExpiry};
-ghost use Rattle.ngap_ies.specs.declared.cause_radio_network.CauseRadioNetwork.TheVariants.{TxnrelocoverallExpiry};
-ghost use Rattle.ngap_ies.specs.declared.cause_radio_network.CauseRadioNetwork.TheVariants.{UeContextTransfer};
-ghost use Rattle.ngap_ies.specs.declared.cause_radio_network.CauseRadioNetwork.TheVariants.{
-  UeInRrcInactiveStateNotReachable,
-};
-ghost use Rattle.ngap_ies.specs.declared.cause_radio_network.CauseRadioNetwork.TheVariants.{
-  UeMaxIntegrityProtectedDataRateReason,
-};
-ghost use Rattle.ngap_ies.specs.declared.cause_radio_network.CauseRadioNetwork.TheVariants.{UnknownLocalUeNgapId};
-ghost use Rattle.ngap_ies.specs.declared.cause_radio_network.CauseRadioNetwork.TheVariants.{UnknownPduSessionId};
-ghost use Rattle.ngap_ies.specs.declared.cause_radio_network.CauseRadioNetwork.TheVariants.{UnknownTargetId};
-ghost use Rattle.ngap_ies.specs.declared.cause_radio_network.CauseRadioNetwork.TheVariants.{UnkownQosFlowId};
-ghost use Rattle.ngap_ies.specs.declared.cause_radio_network.CauseRadioNetwork.TheVariants.{Unspecified};
-ghost use Rattle.ngap_ies.specs.declared.cause_radio_network.CauseRadioNetwork.TheVariants.{
-  UpConfidentialityProtectionNotPossible,
-};
-ghost use Rattle.ngap_ies.specs.declared.cause_radio_network.CauseRadioNetwork.TheVariants.{
-  UpIntegrityProtectionNotPossible,
-};
-ghost use Rattle.ngap_ies.specs.declared.cause_radio_network.CauseRadioNetwork.TheVariants.{UserInactivity};
-ghost use Rattle.ngap_ies.specs.declared.cause_radio_network.CauseRadioNetwork.TheVariants.{XnHandoverTriggered};
 ghost use Rattle.rasn_below.specs.Page.{added, extensible_items, item, root};
 
 use rasn_below::page::*;

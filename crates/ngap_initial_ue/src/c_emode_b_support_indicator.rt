@@ -1,7 +1,7 @@
 //! CEmodeBSupportIndicator, of the module NGAP-IEs.
 
-ghost use Rattle.ngap_initial_ue.specs.declared.c_emode_b_support_indicator.CEmodeBSupportIndicator.TheVariants.{
-  Supported,
+ghost use Rattle.ngap_initial_ue.specs.declared.c_emode_b_support_indicator.{
+  CEmodeBSupportIndicator.TheVariants.{Supported},
 };
 ghost use Rattle.rasn_below.specs.Page.{extensible_items, item, root};
 

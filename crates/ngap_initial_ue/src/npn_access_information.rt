@@ -1,11 +1,8 @@
 //! NpnAccessInformation, of the module NGAP-IEs.
 
 ghost use Rattle.ngap_initial_ue.specs.NgapIes.{npn_access_information_lists};
-ghost use Rattle.ngap_initial_ue.specs.declared.npn_access_information.NpnAccessInformation.TheVariants.{
-  ChoiceExtensions,
-};
-ghost use Rattle.ngap_initial_ue.specs.declared.npn_access_information.NpnAccessInformation.TheVariants.{
-  PniNpnAccessInformation,
+ghost use Rattle.ngap_initial_ue.specs.declared.npn_access_information.{
+  NpnAccessInformation.TheVariants.{ChoiceExtensions, PniNpnAccessInformation},
 };
 ghost use Rattle.rasn_below.specs.Page.{chosen, variants_listed};
 ghost use Rattle.std.specs.Prelude.{refl};

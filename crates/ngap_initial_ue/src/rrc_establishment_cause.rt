@@ -1,28 +1,9 @@
 //! RrcEstablishmentCause, of the module NGAP-IEs.
 
-ghost use Rattle.ngap_initial_ue.specs.declared.rrc_establishment_cause.RrcEstablishmentCause.TheVariants.{Emergency};
-ghost use Rattle.ngap_initial_ue.specs.declared.rrc_establishment_cause.RrcEstablishmentCause.TheVariants.{
-  HighPriorityAccess,
-};
-ghost use Rattle.ngap_initial_ue.specs.declared.rrc_establishment_cause.RrcEstablishmentCause.TheVariants.{
-  McsPriorityAccess,
-};
-ghost use Rattle.ngap_initial_ue.specs.declared.rrc_establishment_cause.RrcEstablishmentCause.TheVariants.{MoData};
-ghost use Rattle.ngap_initial_ue.specs.declared.rrc_establishment_cause.RrcEstablishmentCause.TheVariants.{
-  MoExceptionData,
-};
-ghost use Rattle.ngap_initial_ue.specs.declared.rrc_establishment_cause.RrcEstablishmentCause.TheVariants.{
-  MoSignalling,
-};
-ghost use Rattle.ngap_initial_ue.specs.declared.rrc_establishment_cause.RrcEstablishmentCause.TheVariants.{MoSms};
-ghost use Rattle.ngap_initial_ue.specs.declared.rrc_establishment_cause.RrcEstablishmentCause.TheVariants.{MoVideoCall};
-ghost use Rattle.ngap_initial_ue.specs.declared.rrc_establishment_cause.RrcEstablishmentCause.TheVariants.{MoVoiceCall};
-ghost use Rattle.ngap_initial_ue.specs.declared.rrc_establishment_cause.RrcEstablishmentCause.TheVariants.{
-  MpsPriorityAccess,
-};
-ghost use Rattle.ngap_initial_ue.specs.declared.rrc_establishment_cause.RrcEstablishmentCause.TheVariants.{MtAccess};
-ghost use Rattle.ngap_initial_ue.specs.declared.rrc_establishment_cause.RrcEstablishmentCause.TheVariants.{
-  NotAvailable,
+ghost use Rattle.ngap_initial_ue.specs.declared.rrc_establishment_cause.{
+  RrcEstablishmentCause.TheVariants.{Emergency, HighPriorityAccess, McsPriorityAccess, MoData, MoExceptionData},
+  RrcEstablishmentCause.TheVariants.{MoSignalling, MoSms, MoVideoCall, MoVoiceCall, MpsPriorityAccess, MtAccess},
+  RrcEstablishmentCause.TheVariants.{NotAvailable},
 };
 ghost use Rattle.rasn_below.specs.Page.{added, extensible_items, item, root};
 

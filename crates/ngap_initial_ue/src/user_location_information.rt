@@ -1,17 +1,9 @@
 //! UserLocationInformation, of the module NGAP-IEs.
 
 ghost use Rattle.ngap_initial_ue.specs.NgapIes.{user_location_information_lists};
-ghost use Rattle.ngap_initial_ue.specs.declared.user_location_information.UserLocationInformation.TheVariants.{
-  ChoiceExtensions,
-};
-ghost use Rattle.ngap_initial_ue.specs.declared.user_location_information.UserLocationInformation.TheVariants.{
-  UserLocationInformationEutra,
-};
-ghost use Rattle.ngap_initial_ue.specs.declared.user_location_information.UserLocationInformation.TheVariants.{
-  UserLocationInformationN3Iwf,
-};
-ghost use Rattle.ngap_initial_ue.specs.declared.user_location_information.UserLocationInformation.TheVariants.{
-  UserLocationInformationNr,
+ghost use Rattle.ngap_initial_ue.specs.declared.user_location_information.{
+  UserLocationInformation.TheVariants.{ChoiceExtensions, UserLocationInformationEutra, UserLocationInformationN3Iwf},
+  UserLocationInformation.TheVariants.{UserLocationInformationNr},
 };
 ghost use Rattle.rasn_below.specs.Page.{chosen, variants_listed};
 ghost use Rattle.std.specs.Prelude.{refl};

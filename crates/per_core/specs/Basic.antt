@@ -230,8 +230,7 @@ abbrev pub OpenOf : Settings → (Value → Spelling) → Value → Spelling
 OpenOf a spells v = Open a (Fills a (spells v))
 
 -- X.691 19.7 to 19.9: additions as a bitmap shows them: of the schema those with a bit 1, and behind them those that it
--- doesn't know.
--- A bitmap may be shorter or longer than the schema's list
+-- doesn't know. A bitmap may be shorter or longer than the schema's list
 abbrev pub Additions_in : Settings → Bool → List Rule → List (Option Value) → List Bool → Spelling
 Additions_in a u [] [] bs = Unknown_in a u bs
 Additions_in a u [] (s ∷ ss) bs = never

@@ -78,8 +78,7 @@ counted_in a size kind items = written_if (allows size (length items))
     (counted_under a size.least size.most kind (length items) items)
 
 -- X.691 13.1, 16.6, 17.3, 20.4, 30.4: an extensible constraint's bit, 0 and the form under the constraint, or 1 and the
--- form without;
--- a constraint that isn't extensible has no bit
+-- form without; a constraint that isn't extensible has no bit
 abbrev pub marked_form : Bool → Bool → Writer → Writer → Writer
 marked_form false is_inside inside outside = inside
 marked_form true true inside outside = just (false ∷ []) ▹ inside

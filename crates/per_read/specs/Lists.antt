@@ -58,9 +58,8 @@ pub record IsLeft {X : Type 0} (a : Settings) (item : X → Spelling) (before : 
   pub took : Took (Rest a item l.more l.left others) here t
 
 -- A list is open: it began at `start`, the items `before` were read, and the reader is `here`. It is read from its
--- start on exactly where the rest is read from here on, and the size allows the count
--- of all; a count that the size doesn't allow is its fault; and where a further item is to be read, it stands behind
--- others of the list.
+-- start on exactly where the rest is read from here on, and the size allows the count of all; a count that the size
+-- doesn't allow is its fault; and where a further item is to be read, it stands behind others of the list.
 pub record AreOpenItems {X : Type 0} (f : ListRule X) (start : Bits) (before : List X) (l : UnreadElements)
     (here : Bits) : Type 0 where
   pub count : l.count ≡ length before

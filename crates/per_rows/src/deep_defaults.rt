@@ -1,5 +1,7 @@
 //! Two versions of a type with a default of many levels, of which a reader reads nothing where it is left out.
-#![tactic(auto, unfolding(per_core::specs::Versions::project, per_core::specs::Versions::widen, rasn_schema::specs::Depth::meets_cut))]
+#![tactic(auto, unfolding(
+// Words that these schemas unfold.
+per_core::specs::Versions::project, per_core::specs::Versions::widen, rasn_schema::specs::Depth::meets_cut))]
 
 ghost use Rattle.std.specs.Prelude.{◌≡◌, [], ◌∷◌, true, Some, None, pos};
 ghost use Rattle.rasn_types.specs.Values.{whole, truth};

@@ -1,5 +1,9 @@
 //! Which schemas are lawful, and which demand refuses those that aren't.
-#![tactic(auto, unfolding(rasn_schema::specs::Lawful::IsLawful, rasn_schema::specs::Depth::meets_cut, rasn_schema::specs::Lawful::is_value, rasn_schema::specs::Normal::normal))]
+#![tactic(auto, unfolding(
+// Words that these schemas unfold.
+rasn_schema::specs::Lawful::IsLawful, rasn_schema::specs::Depth::meets_cut,
+// More words.
+rasn_schema::specs::Lawful::is_value, rasn_schema::specs::Normal::normal))]
 
 ghost use Rattle.std.specs.Prelude.{◌^◌, ◌-◌, [], ◌∷◌, false, true, Some, None, pos};
 ghost use Rattle.rasn_types.specs.Values.{whole, truth};

@@ -1,5 +1,9 @@
 //! Two versions of a type: what the older reader answers is the projection, what the newer one answers the widening.
-#![tactic(auto, unfolding(per_core::specs::Canon::bytes, rasn_schema::specs::Normal::normal, per_core::specs::Versions::project, per_core::specs::Versions::widen))]
+#![tactic(auto, unfolding(
+// Words that these rows unfold.
+per_core::specs::Canon::bytes, rasn_schema::specs::Normal::normal, per_core::specs::Versions::project,
+// More words.
+per_core::specs::Versions::widen))]
 
 ghost use Rattle.std.specs.Prelude.{◌≡◌, List, [], ◌∷◌, ◌++◌, replicate, true, false, Some, None, pos};
 ghost use Rattle.rasn_types.specs.Variants.{aligned, unaligned};

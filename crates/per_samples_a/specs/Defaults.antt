@@ -4,7 +4,8 @@
 -- }
 use Rattle.std.specs.Prelude.{[], ◌∷◌, codes, negsuc, pos}
 use Rattle.rasn_below.specs.Page.{automatic, default, whole, octets, characters, list_value, TypeLists}
-use Rattle.rasn_below.specs.Page.{boolean, integer, octet_string, visible_string, sequence_of, big, i8, any, minus◌to◌, size◌to◌}
+use Rattle.rasn_below.specs.Page.{boolean, integer, octet_string, visible_string, sequence_of, big, i8, any, minus◌to◌}
+use Rattle.rasn_below.specs.Page.{size◌to◌}
 
 abbrev pub defaults : TypeLists
 defaults = automatic (

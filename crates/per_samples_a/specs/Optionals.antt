@@ -1,6 +1,7 @@
 -- Records of many optional components.
 use Rattle.std.specs.Prelude.{[], ◌∷◌}
-use Rattle.rasn_below.specs.Page.{automatic, optional, boolean, integer, null, octet_string, bit_string, sequence, sequence_of, TypeLists}
+use Rattle.rasn_below.specs.Page.{automatic, optional, boolean, integer, null, octet_string, bit_string, sequence}
+use Rattle.rasn_below.specs.Page.{sequence_of, TypeLists}
 use Rattle.rasn_below.specs.Page.{big, u8, i8, any, ◌to◌, minus◌to◌, size◌to◌}
 
 -- SEQUENCE {

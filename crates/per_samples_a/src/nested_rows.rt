@@ -9,7 +9,9 @@ use crate::nested::Nested;
 use rasn_below::schema::AsnType;
 
 /// The index in two bits, and behind that of the inner choice its own (X.691 23.6).
-#[tactic(auto, unfolding(rasn_below::specs::Rows::bytes, rasn_below::specs::Types::normal, rasn_below::specs::Types::settle))]
+#[tactic(auto, unfolding(
+// Words that these rows unfold.
+rasn_below::specs::Rows::bytes, rasn_below::specs::Types::normal, rasn_below::specs::Types::settle))]
 pub fn inner_choice_is_written_behind_the_outer_index()
     ensures record { let own = ⟦<Nested as AsnType>⟧ in
         IsWrittenAs unaligned (own.schema own.CONSTRAINTS) own.levels own.value

@@ -88,7 +88,9 @@ impl Limits for OnlyXLimits {
 }
 
 /// IA5String (FROM ("x")): a character takes no bits, so its count is all (X.691 30.5.2).
-#[tactic(auto, unfolding(rasn_below::specs::Rows::bytes, rasn_below::specs::Types::normal, rasn_below::specs::Types::interval_of))]
+#[tactic(auto, unfolding(
+// Words that these rows unfold.
+rasn_below::specs::Rows::bytes, rasn_below::specs::Types::normal, rasn_below::specs::Types::interval_of))]
 pub fn only_x_is_written_as_its_count()
     ensures uper { let own = ⟦<OnlyX as AsnType>⟧ in
         IsWrittenAs unaligned (own.schema own.CONSTRAINTS) own.levels own.value

@@ -42,7 +42,9 @@ pub fn added_alternatives_are_open_types()
 
 /// One of the root and one behind the marker, in a SEQUENCE: the open type begins where an octet does in the ALIGNED
 /// variant, and its contents are counted from there.
-#[tactic(auto, unfolding(rasn_below::specs::Rows::bytes, rasn_below::specs::Types::normal, rasn_below::specs::Types::settle))]
+#[tactic(auto, unfolding(
+// Words that these rows unfold.
+rasn_below::specs::Rows::bytes, rasn_below::specs::Types::normal, rasn_below::specs::Types::settle))]
 pub fn alternatives_stand_in_a_sequence()
     ensures aligned { let own = ⟦<TwoAlternatives as AsnType>⟧ in
         IsWrittenAs aligned (own.schema own.CONSTRAINTS) own.levels own.value
@@ -65,7 +67,9 @@ pub fn alternatives_stand_in_a_sequence()
 {}
 
 /// A choice without a tag of its own is written as any other.
-#[tactic(auto, unfolding(rasn_below::specs::Rows::bytes, rasn_below::specs::Types::normal, rasn_below::specs::Types::settle))]
+#[tactic(auto, unfolding(
+// Words that these rows unfold.
+rasn_below::specs::Rows::bytes, rasn_below::specs::Types::normal, rasn_below::specs::Types::settle))]
 pub fn an_untagged_choice_has_its_marker()
     ensures root { let own = ⟦<BesideSeveral as AsnType>⟧ in
         IsWrittenAs unaligned (own.schema own.CONSTRAINTS) own.levels own.value

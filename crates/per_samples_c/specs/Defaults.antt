@@ -1,6 +1,7 @@
 -- SEQUENCE { o outer1 DEFAULT (TRUE, FALSE) } and SEQUENCE { o outer3 DEFAULT (TRUE, FALSE, both additions absent) }
 use Rattle.std.specs.Prelude.{[], ◌∷◌, true, false, Some, None}
-use Rattle.rasn_below.specs.Page.{TypeLists, Value, item, added, truth, record_value, automatic, default, boolean, extensible_enumerated, sequence}
+use Rattle.rasn_below.specs.Page.{TypeLists, Value, item, added, truth, record_value, automatic, default, boolean}
+use Rattle.rasn_below.specs.Page.{extensible_enumerated, sequence}
 use Rattle.per_samples_b.specs.Outers.{outer1, outer3}
 
 -- TRUE and FALSE

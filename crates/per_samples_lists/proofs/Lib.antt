@@ -1,3 +1,4 @@
 pub mod Alone
 pub mod Contents
 pub mod Defaults
+pub mod Trees

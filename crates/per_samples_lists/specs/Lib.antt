@@ -6,3 +6,4 @@ pub mod Elements
 pub mod Empties
 pub mod Mutuals
 pub mod Nests
+pub mod Trees

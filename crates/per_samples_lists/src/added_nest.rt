@@ -51,7 +51,9 @@ impl Record for AddedNest {
 }
 
 /// An addition of one level, whose open type holds a presence bit.
-#[tactic(auto, unfolding(rasn_below::specs::Rows::bytes, rasn_below::specs::Types::normal, rasn_below::specs::Types::settle))]
+#[tactic(auto, unfolding(
+// Words that these rows unfold.
+rasn_below::specs::Rows::bytes, rasn_below::specs::Types::normal, rasn_below::specs::Types::settle))]
 pub fn recursive_additions_are_open_types()
     ensures one { let own = ⟦<AddedNest as AsnType>⟧ in
         IsWrittenAs unaligned (own.schema own.CONSTRAINTS) own.levels own.value

@@ -9,7 +9,9 @@ use crate::choice::Outer;
 use rasn_below::schema::AsnType;
 
 /// The index in two bits, and behind that of the inner choice its own (X.691 23.6): it is one alternative.
-#[tactic(auto, unfolding(rasn_below::specs::Rows::bytes, rasn_below::specs::Types::normal, rasn_below::specs::Types::settle))]
+#[tactic(auto, unfolding(
+// Words that these rows unfold.
+rasn_below::specs::Rows::bytes, rasn_below::specs::Types::normal, rasn_below::specs::Types::settle))]
 pub fn an_untagged_choice_is_one_alternative()
     ensures x { let own = ⟦<Outer as AsnType>⟧ in
         IsWrittenAs unaligned (own.schema own.CONSTRAINTS) own.levels own.value (X true) (0x20 ∷ []) }

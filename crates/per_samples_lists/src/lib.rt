@@ -13,4 +13,5 @@ pub mod lists;
 pub mod nest;
 pub mod ping;
 pub mod pong;
+pub mod tree;
 pub mod triple;

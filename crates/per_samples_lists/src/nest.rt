@@ -72,7 +72,9 @@ impl Decode for Nest {
 }
 
 /// A bit for each level (X.691 19.2): 1 where a further one is inside, at last 0.
-#[tactic(auto, unfolding(rasn_below::specs::Rows::bytes, rasn_below::specs::Types::normal, rasn_below::specs::Types::settle))]
+#[tactic(auto, unfolding(
+// Words that these rows unfold.
+rasn_below::specs::Rows::bytes, rasn_below::specs::Types::normal, rasn_below::specs::Types::settle))]
 pub fn a_level_is_a_bit()
     ensures one { let own = ⟦<Nest as AsnType>⟧ in
         IsWrittenAs unaligned (own.schema own.CONSTRAINTS) own.levels own.value (Nest' None') (0x00 ∷ []) }

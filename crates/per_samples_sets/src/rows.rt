@@ -11,7 +11,11 @@ use rasn_below::AsnType;
 
 /// A key by an object identifier, and one by octets: the index in one bit, and a length in front of each (X.691 23.6,
 /// 24, 17).
-#[tactic(auto, unfolding(rasn_below::specs::Rows::bytes, rasn_below::specs::Types::normal, rasn_below::specs::Rows::contents, rasn_below::specs::Rows::subidentifier))]
+#[tactic(auto, unfolding(
+// Words that these rows unfold.
+rasn_below::specs::Rows::bytes, rasn_below::specs::Types::normal, rasn_below::specs::Rows::contents,
+// More words.
+rasn_below::specs::Rows::subidentifier))]
 pub fn key_is_written_behind_its_index()
     ensures object { let own = ⟦<Connect as AsnType>⟧ in
         IsWrittenAs aligned (own.schema own.CONSTRAINTS) own.levels own.value
@@ -23,7 +27,11 @@ pub fn key_is_written_behind_its_index()
 {}
 
 /// The members of a bag stand in the order of their encodings, behind their count in two bits (X.691 22, 11.5.7).
-#[tactic(auto, unfolding(rasn_below::specs::Rows::bytes, rasn_below::specs::Types::normal, rasn_below::specs::Types::over_bag, rasn_below::specs::Values::bag_of, rasn_below::specs::Rows::contents, rasn_below::specs::Rows::subidentifier))]
+#[tactic(auto, unfolding(
+// Words that these rows unfold.
+rasn_below::specs::Rows::bytes, rasn_below::specs::Types::normal, rasn_below::specs::Types::over_bag,
+// More words.
+rasn_below::specs::Values::bag_of, rasn_below::specs::Rows::contents, rasn_below::specs::Rows::subidentifier))]
 pub fn members_are_written_in_order()
     ensures { let own = ⟦<Membership as AsnType>⟧ in
         IsWrittenAs aligned (own.schema own.CONSTRAINTS) own.levels own.value
@@ -33,7 +41,9 @@ pub fn members_are_written_in_order()
 
 /// Strings of any octets and a value whose type isn't known have a length in front (X.691 30.6, 11.2), behind the
 /// presence bit.
-#[tactic(auto, unfolding(rasn_below::specs::Rows::bytes, rasn_below::specs::Types::normal, rasn_below::specs::Types::settle))]
+#[tactic(auto, unfolding(
+// Words that these rows unfold.
+rasn_below::specs::Rows::bytes, rasn_below::specs::Types::normal, rasn_below::specs::Types::settle))]
 pub fn texts_are_octets_behind_their_lengths()
     ensures { let own = ⟦<SomeTexts as AsnType>⟧ in
         IsWrittenAs aligned (own.schema own.CONSTRAINTS) own.levels own.value

@@ -10,7 +10,9 @@ use crate::set_optional::SetOptional;
 use rasn_below::AsnType;
 
 /// The component with the smaller tag stands first (X.691 21.1), and padding is decided in that order.
-#[tactic(auto, unfolding(rasn_below::specs::Rows::bytes, rasn_below::specs::Types::normal, rasn_below::specs::Types::smallest))]
+#[tactic(auto, unfolding(
+// Words that these rows unfold.
+rasn_below::specs::Rows::bytes, rasn_below::specs::Types::normal, rasn_below::specs::Types::smallest))]
 pub fn components_are_in_the_order_of_their_tags()
     ensures aligned { let own = ⟦<Set as AsnType>⟧ in
         IsWrittenAs aligned (own.schema own.CONSTRAINTS) own.levels own.value
@@ -21,7 +23,9 @@ pub fn components_are_in_the_order_of_their_tags()
 {}
 
 /// Presence bits stand in the order of the tags, too (X.691 21.1).
-#[tactic(auto, unfolding(rasn_below::specs::Rows::bytes, rasn_below::specs::Types::normal, rasn_below::specs::Types::smallest))]
+#[tactic(auto, unfolding(
+// Words that these rows unfold.
+rasn_below::specs::Rows::bytes, rasn_below::specs::Types::normal, rasn_below::specs::Types::smallest))]
 pub fn presence_bits_are_in_the_order_of_the_tags()
     ensures first_listed { let own = ⟦<SetOptional as AsnType>⟧ in
         IsWrittenAs unaligned (own.schema own.CONSTRAINTS) own.levels own.value
@@ -38,7 +42,11 @@ pub fn presence_bits_are_in_the_order_of_the_tags()
 {}
 
 /// A choice without a tag of its own counts with the smallest of its alternatives', whichever is chosen (X.691 21.1).
-#[tactic(auto, unfolding(rasn_below::specs::Rows::bytes, rasn_below::specs::Types::normal, rasn_below::specs::Types::smallest, rasn_below::specs::Types::least_of))]
+#[tactic(auto, unfolding(
+// Words that these rows unfold.
+rasn_below::specs::Rows::bytes, rasn_below::specs::Types::normal, rasn_below::specs::Types::smallest,
+// More words.
+rasn_below::specs::Types::least_of))]
 pub fn a_choice_counts_with_its_smallest_tag()
     ensures smallest { let own = ⟦<SetChoice as AsnType>⟧ in
         IsWrittenAs unaligned (own.schema own.CONSTRAINTS) own.levels own.value

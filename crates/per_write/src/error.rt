@@ -26,7 +26,9 @@ pub enum EncodeErrorKind {
     SizeConstraintNotSatisfied(usize, Option<usize>, Option<usize>),
     /// A number is outside bounds that aren't extensible (X.691 13): the number, absent where it passes an `i128`, and
     /// the bounds.
-    #[error("{number} is not in {lower}..{upper}", number = Known(*.0, "a number past 128 bits"), lower = Known(*.1, "MIN"), upper = Known(*.2, "MAX"))]
+    #[error("{number} is not in {lower}..{upper}", number = Known(*.0, "a number past 128 bits"),
+    // The bounds.
+    lower = Known(*.1, "MIN"), upper = Known(*.2, "MAX"))]
     ValueConstraintNotSatisfied(Option<i128>, Option<i128>, Option<i128>),
     /// A character is not permitted (X.691 30.5).
     #[error("a character is not in the permitted alphabet")]

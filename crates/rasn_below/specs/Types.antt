@@ -13,14 +13,15 @@ unfoldable pub use Rattle.rasn_schema.specs.Schemas.{smallest, least_of}
 unfoldable pub use Rattle.rasn_schema.specs.Normal.{normal, normals, settle, over_bag}
 pub use Rattle.rasn_schema.specs.Forms.{always, number_schema, octet_schema, bit_schema, character_schema}
 pub use Rattle.rasn_schema.specs.Levels.{Levelled, no_level, simple_levelled, part_levelled, parts_levelled}
-pub use Rattle.rasn_schema.specs.Levels.{record_levelled, to_choice, to_leaf, to_list, to_no_parts, to_part, to_sequence}
+pub use Rattle.rasn_schema.specs.Levels.{record_levelled, to_choice, to_leaf, to_list, to_no_parts, to_part}
+pub use Rattle.rasn_schema.specs.Levels.{to_sequence}
 pub use Rattle.rasn_schema.specs.Tags.{IsTreeAt, choice_stated, choice_tag, sequence_stated, sequence_tag}
 pub use Rattle.rasn_schema.specs.Components.{alternatives_at, components_levelled, sequence_at, sequence_levelled}
 pub use Rattle.rasn_schema.specs.Components.{lower_bound, upper_bound}
 pub use Rattle.rasn_schema.specs.Records.{AtParts, no_additions, record_at}
 pub use Rattle.rasn_schema.specs.Extensions.{unextended}
 pub use Rattle.rasn_schema.specs.Choices.{VariantShape, choice_at, choice_levelled, tree_with, variants_of}
-pub use Rattle.rasn_schema.specs.Lists.{list_at, list_levelled}
+pub use Rattle.rasn_schema.specs.Lists.{deepest, list_at, list_levelled}
 pub use Rattle.rasn_schema.specs.Fields.{in_tag_order, shapes_from, tagged}
 pub use Rattle.rasn_schema.specs.Canonised.{canonised, canonised_slots}
 pub use Rattle.rasn_traits.specs.Moments.{date_at}

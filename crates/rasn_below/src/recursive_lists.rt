@@ -14,8 +14,51 @@
 //! }
 //! ```
 //!
-//! `decode_record`, `encode_choice` and `decode_recursive_alternative` are for authors, as is `encode_record`. What the
-//! others write is part of these.
+//! `decode_record`, `encode_holding_record`, `encode_choice` and `decode_recursive_alternative` are for authors, as is
+//! `encode_record`. What the others write is part of these.
+
+/// Writes a record of these components, of which one is `required` and holds the type itself, under a tag and a name:
+/// the body of its `Encode`. Where those that hold it are all `optional`, that is `encode_record`.
+#[macro_export]
+macro_rules! encode_holding_record {
+    ([$of:ident $encoder:ident $tag:ident $identifier:ident] $(
+        $presence:ident $number:literal $name:literal $field:ident: $type:ty [$($bounds:tt)*];
+    )*) => {
+        $crate::recursive::write_record::<Self, _, _, _, _>(
+            &$crate::cells_beside_held!($of $([$presence $field [$($bounds)*]])*),
+            $crate::held_component!($of $([$presence $field [$($bounds)*]])*),
+            &BOUNDS,
+            $encoder,
+            $tag,
+            $identifier,
+        )
+    };
+}
+
+/// Components as cells to write beside the one that holds the type.
+#[macro_export]
+macro_rules! cells_beside_held {
+    ($of:ident) => { $crate::cells::End {} };
+    ($of:ident [required $field:ident [RECURSIVE $($bounds:tt)*]] $($rest:tt)*) => {
+        $crate::cells::Cell {
+            component: $crate::recursive::Held {},
+            next: $crate::cells_beside_held!($of $($rest)*),
+        }
+    };
+    ($of:ident [$presence:ident $field:ident $bounds:tt] $($rest:tt)*) => {
+        $crate::cells::Cell {
+            component: $crate::recursive::Plain($crate::component!($presence $bounds, &$of.$field)),
+            next: $crate::cells_beside_held!($of $($rest)*),
+        }
+    };
+}
+
+/// The component that holds the type.
+#[macro_export]
+macro_rules! held_component {
+    ($of:ident [required $field:ident [RECURSIVE $($bounds:tt)*]] $($rest:tt)*) => { &$of.$field };
+    ($of:ident $first:tt $($rest:tt)*) => { $crate::held_component!($of $($rest)*) };
+}
 
 /// Reads a record of these components, which holds values of a type that `held` reads: the body of its `Holds`.
 #[macro_export]

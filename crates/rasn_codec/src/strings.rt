@@ -3,7 +3,7 @@
 use crate::codec::{Decode, Decoder, Encode, Encoder};
 use rasn_schema::schema::Constraints;
 use rasn_schema::strings::TaggedCharacters;
-use rasn_strings::strings::{BmpString, CharactersOf};
+use rasn_strings::strings::CharactersOf;
 use rasn_types::octet_strings::{GeneralString, GraphicString, TeletexString, Utf8String};
 use rasn_types::types::{Identifier, Tag};
 
@@ -27,29 +27,6 @@ impl<K: TaggedCharacters> Decode for CharactersOf<K> {
         constraints: &Constraints,
     ) -> Result<CharactersOf<K>, D::Error> {
         decoder.decode_known_multiplier_string(tag, constraints)
-    }
-}
-
-impl Encode for BmpString {
-    #[tactic(auto, unfolding(rasn_schema::specs::Normal::normal))]
-    fn encode_with_tag_and_constraints<E: Encoder>(
-        &self,
-        encoder: &mut E,
-        tag: Tag,
-        constraints: &Constraints,
-        identifier: Identifier,
-    ) -> Result<(), E::Error> {
-        encoder.encode_bmp_string(tag, constraints, self, identifier)
-    }
-}
-
-impl Decode for BmpString {
-    fn decode_with_tag_and_constraints<D: Decoder>(
-        decoder: &mut D,
-        tag: Tag,
-        constraints: &Constraints,
-    ) -> Result<BmpString, D::Error> {
-        decoder.decode_bmp_string(tag, constraints)
     }
 }
 

@@ -1,3 +1,4 @@
 pub mod Lists
 pub mod Sixteens
 pub mod Slots
+pub mod Told

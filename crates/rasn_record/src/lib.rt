@@ -5,6 +5,7 @@
 pub mod alternatives;
 pub mod cells;
 pub mod components;
+pub mod defaults;
 pub mod fields;
 pub mod fours;
 pub mod read;

@@ -2,7 +2,6 @@
 -- `automatic (integer u8 (0 to 255) ∷ ia5_string (size 1 to 16) ∷ [])`.
 use Rattle.std.specs.Prelude.{◌≡◌, ℕ, zero, suc, ℤ, pos, neg_ℤ, Bool, true, false, List, [], ◌∷◌, drop, length, Option}
 use Rattle.std.specs.Prelude.{Some, None, refl}
-use Rattle.std.proofs.Common.{subst, sym}
 use Rattle.rasn_types.specs.Alphabets.{visible, ia5, printable, numeric, bmp}
 use Rattle.rasn_types.specs.Contents.{utf8}
 use Rattle.rasn_types.specs.Values.{Value, alternative, Side, root, added}
@@ -16,7 +15,6 @@ use Rattle.rasn_schema.specs.Schemas.{Schema, TagTree, TagTrees, leaf, one_of, n
 use Rattle.rasn_schema.specs.Schemas.{no_parts, part, listed}
 use Rattle.rasn_schema.specs.Choices.{VariantShape, VariantShapes, choice_at, choice_levelled, trees_in}
 use Rattle.rasn_schema.specs.Choices.{variants_behind, variants_of}
-use Rattle.rasn_schema.specs.Extensions.{Extends, fields_behind}
 use Rattle.rasn_schema.specs.Fields.{Shape, Shapes, field_tag, presence_of, shapes_from}
 use Rattle.rasn_schema.specs.Forms.{number_schema, octet_schema, bit_schema, character_schema, size_of, is_size_marked}
 use Rattle.rasn_schema.specs.Forms.{always}
@@ -113,17 +111,6 @@ fields_from_parts i (c ∷ cs) n =
 -- the fields are those of the components at each number of levels
 pub fields_described : (cs : List Component) (n : ℕ) → fields_in cs ≡ shapes_from 0 (parts_of cs n)
 fields_described cs n = fields_from_parts 0 cs n
-
-fields_extend : (xs : Option (List Component))
-    → Extends (has_marker xs) (added_fields xs) (parts_of (components_behind xs))
-fields_extend None = record { described = λ n. refl; marked = λ e n. refl }
-fields_extend (Some cs) = record { described = fields_described cs; marked = λ e n. absurd cc }
-
--- the fields behind the marker are those of the additions
-pub lists_extend : {fs : Shapes} (cs : TypeLists) → fs ≡ fields_of cs
-    → Extends (has_marker cs.behind) fs.behind (added_parts cs)
-lists_extend cs e = subst (λ (s : Shapes). Extends (has_marker cs.behind) s.behind (added_parts cs)) (sym e)
-    (fields_extend cs.behind)
 
 -- What stands at a place, from 0.
 abbrev pub tags_at : List Component → ℕ → Option TagTree

@@ -9,7 +9,8 @@ ghost use Rattle.rasn_schema.specs.Records.{record_value};
 ghost use Rattle.rasn_schema.specs.Tags.{sequence_tag, sequence_stated};
 ghost use Rattle.rasn_schema.specs.Components.{TypeLists, added_parts, has_marker, root_parts, sequence_at};
 ghost use Rattle.rasn_schema.specs.Components.{sequence_levelled};
-ghost use Rattle.rasn_schema.specs.Components.{fields_of, fields_described, lists_extend};
+ghost use Rattle.rasn_schema.specs.Components.{fields_of, fields_described};
+ghost use Rattle.rasn_schema.specs.Laws.Fields.{lists_extend};
 
 use crate::fields::{AdditionGroup, Constructed, FieldLists, Fields, TagTree, TypeTree};
 use crate::kinds::{Kind, OfKind};

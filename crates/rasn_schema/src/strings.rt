@@ -2,7 +2,7 @@
 
 ghost use Rattle.std.specs.Prelude.{◌≡◌, ℕ, List, true, refl, Some};
 ghost use Rattle.std.specs.String.{string_bytes};
-ghost use Rattle.rasn_types.specs.Alphabets.{has, bmp};
+ghost use Rattle.rasn_types.specs.Alphabets.{has};
 ghost use Rattle.rasn_types.specs.Codecs.{variant_of};
 ghost use Rattle.rasn_types.specs.Contents.{utf8};
 ghost use Rattle.rasn_types.specs.Values.{characters, octets};
@@ -19,7 +19,7 @@ use crate::fields::{TagTree, TypeTree};
 use crate::schema::{AsnType, Constraints};
 use rasn_strings::alphabet::CharacterAlphabet;
 use rasn_strings::strings::{
-    BmpString, CharacterKind, CharactersOf, Ia5Kind, NumericKind, PrintableKind,
+    BmpKind, CharacterKind, CharactersOf, Ia5Kind, NumericKind, PrintableKind,
     StaticPermittedAlphabet, VisibleKind,
 };
 use rasn_types::octet_strings::Utf8String;
@@ -88,6 +88,14 @@ impl TaggedCharacters for NumericKind {
     ghost tag_fits = { λ _ _ _. refl };
 }
 
+impl TaggedCharacters for BmpKind {
+    const TAG: Tag = Tag::BMP_STRING;
+
+    ghost TAG = { BMP_STRING };
+
+    ghost tag_fits = { λ _ _ _. refl };
+}
+
 impl<K: TaggedCharacters> AsnType for CharactersOf<K> {
     const TAG: Tag = K::TAG;
 
@@ -110,32 +118,6 @@ impl<K: TaggedCharacters> AsnType for CharactersOf<K> {
     ghost levelled = { λ c. simple_levelled (character_schema K.alphabet c) tt };
 
     ghost tag_fits = { K.tag_fits K.alphabet };
-
-    ghost tree_fits = { λ _ _. (refl, refl) };
-}
-
-impl AsnType for BmpString {
-    const TAG: Tag = Tag::BMP_STRING;
-
-    ghost TAG = { BMP_STRING };
-
-    const TAG_TREE: TypeTree = TypeTree(TagTree::Leaf(Tag::BMP_STRING));
-
-    ghost TAG_TREE = { Some (tagged BMP_STRING) };
-
-    const IS_CHOICE: bool = false;
-
-    const CONSTRAINTS: Constraints = Constraints::NONE;
-
-    ghost CONSTRAINTS = { no_constraints };
-
-    ghost schema = { λ c. always (character_schema bmp c) };
-
-    ghost value = { characters };
-
-    ghost levelled = { λ c. simple_levelled (character_schema bmp c) tt };
-
-    ghost tag_fits = { λ _ _. refl };
 
     ghost tree_fits = { λ _ _. (refl, refl) };
 }

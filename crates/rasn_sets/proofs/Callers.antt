@@ -3,14 +3,13 @@ use Rattle.std.specs.Prelude.{IfOk}
 use Rattle.std.proofs.Common.{◌≡◌, refl, ◌⊎◌, inl, inr, ℕ, Bool, Result, Ok, Err, List, length, Option, Some, None}
 use Rattle.rasn_types.specs.Values.{Value}
 use Rattle.rasn_types.specs.declared.types.Tag.{Tag}
-use Rattle.rasn_schema.specs.Fields.{Shape}
 use Rattle.rasn_schema.specs.Records.{record_at, record_value}
 use Rattle.rasn_schema.specs.Schemas.{TagTree, Presence, by_tag, Schema, Parts}
 use Rattle.rasn_traits.specs.AdditionsRead.{FaultyAddition, faulty_added, ReadsAddition, reads_added, reads_lacking, TakesAddition}
 use Rattle.rasn_traits.specs.Calls.{DecoderRules, Reads, Refuses}
 use Rattle.rasn_traits.specs.Presences.{left_out}
 use Rattle.rasn_traits.proofs.Reading.{addition_of, given, lacking}
-use Rattle.rasn_sets.specs.Components.{AdditionAnswered, ItemAnswered, KeepsEach, MakesSet, ReadsEach, ReadsSetEach}
+use Rattle.rasn_sets.specs.Components.{AdditionAnswered, ItemAnswered, KeepsEach, MakesSet, ReadsEach, ReadsSetEach, StatedSet}
 
 module _ {E S : Type 0} (rules : DecoderRules E S) where
   -- the item of a root component, by a call that reads its value
@@ -38,12 +37,12 @@ module _ {E S : Type 0} (rules : DecoderRules E S) where
   addition_answered k p c place slot i s (Err e) t l h w = slot_refused k p c s e l h.law
 
 -- a call that read a SET by functions that keep to their part and to the variant
-pub set_read_each : {E S I T : Type 0} {rules : DecoderRules E S} {fields behind : List Shape} {parts additions : ℕ → Parts} {marker : Bool} {contents added : T → List (Option Value)}
+pub set_read_each : {E S I T : Type 0} {rules : DecoderRules E S} {set : StatedSet} {contents added : T → List (Option Value)}
     {gives : S → ℕ → Tag → Result I E → S → Type 0} {makes : List I → Result T E → Type 0} {s t : S} {r : Result T E}
-    → ReadsSetEach rules fields behind parts marker additions contents added gives makes s r t → (place : I → ℕ) (slot : I → Option Value)
-    → ((n : ℕ) → ReadsEach rules (parts n) (additions n) (length fields) place slot n gives)
-    → ((n : ℕ) → MakesSet rules fields behind (parts n) contents added place slot makes) → KeepsEach rules gives
-    → Reads rules (record_at by_tag parts marker additions (rules.levels s)) (λ x. record_value (contents x) (added x)) s r t
+    → ReadsSetEach rules set contents added gives makes s r t → (place : I → ℕ) (slot : I → Option Value)
+    → ((n : ℕ) → ReadsEach rules (set.parts n) (set.additions n) (length set.fields) place slot n gives)
+    → ((n : ℕ) → MakesSet rules set.fields set.behind (set.parts n) contents added place slot makes) → KeepsEach rules gives
+    → Reads rules (record_at by_tag set.parts set.marker set.additions (rules.levels s)) (λ x. record_value (contents x) (added x)) s r t
 set_read_each w place slot each made kept = record {
   law = w.law place slot (λ n l. each n) (λ n l. made n);
   behaves = record { again = w.again; fails = w.fails; kept = w.kept kept };

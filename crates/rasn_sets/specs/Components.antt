@@ -1,6 +1,5 @@
 -- How a SET is read by a function for each component and one that makes the SET of what the first answered, stated over
--- any decoder's
--- relations (ITU-T X.691, 21).
+-- any decoder's relations (ITU-T X.691, 21).
 use Rattle.std.specs.Prelude.{◌≡◌, ℕ, suc, ◌+◌, ◌⊎◌, true, false, Bool, Result, Ok, Err, OnErr, IfOk, IsErrAnd, List}
 use Rattle.std.specs.Prelude.{[], ◌∷◌, ◌++◌, length, map, Option, Some}
 use Rattle.std.specs.Fn.{Once, Shared}
@@ -52,8 +51,7 @@ AdditionAnswered rules k p c place slot i s (Err e) t = rules.memory e s
     ⊎ Refuses (ReadsAddition rules p c) (λ e. FaultyAddition rules e k p c) e s
 
 -- What a function owes that reads a component by its index and its tag: one of the root, which is there, or an
--- addition, which may not
--- be. The indices of the additions are counted on from those of the root.
+-- addition, which may not be. The indices of the additions are counted on from those of the root.
 pub record ReadsEach {E S I : Type 0} (rules : DecoderRules E S) (ps qs : Parts) (first : ℕ) (place : I → ℕ)
     (slot : I → Option Value) (inner : ℕ) (gives : S → ℕ → Tag → Result I E → S → Type 0) : Type 0 where
   pub root : (i : ℕ) (k : TagTree) (p : Presence) (c : Schema) (s : S) (tag : Tag) (r : Result I E) (t : S)
@@ -70,8 +68,7 @@ pub record KeepsEach {E S I : Type 0} (rules : DecoderRules E S) (gives : S → 
   pub stays : (s : S) (i : ℕ) (tag : Tag) (r : Result I E) (t : S) → gives s i tag r t → rules.codec t ≡ rules.codec s
 
 -- The items of components in turn, each by the index of its field: of each that is there, and none of one that is left
--- out; and what
--- the components are.
+-- out; and what the components are.
 pub data Gathers {I : Type 0} (place : I → ℕ) (slot : I → Option Value) : List Shape → Parts → List I
     → List (Option Value) → Type 0 where
   gathers_end : Gathers place slot [] no_parts [] []
@@ -90,8 +87,7 @@ IsMade rules ps contents added rs xs (Ok v) = (canonised_slots ps (contents v) �
 IsMade {S = S} rules ps contents added rs xs (Err e) = (s : S) → rules.memory e s
 
 -- What a function owes that makes a SET of items: of those of the root components that are there, in ascending order of
--- their tags, and
--- behind them of those of all additions, in the order of the type.
+-- their tags, and behind them of those of all additions, in the order of the type.
 pub record MakesSet {E S I T : Type 0} (rules : DecoderRules E S) (fields behind : List Shape) (ps : Parts)
     (contents added : T → List (Option Value)) (place : I → ℕ) (slot : I → Option Value)
     (gives : List I → Result T E → Type 0) : Type 0 where
@@ -113,15 +109,30 @@ abbrev pub MadeUnfailed : {S I T E : Type 0} → (S → Bool) → (S → ℕ →
     → (List I → Result T E → Type 0) → T → Type 0
 MadeUnfailed {I = I} failed gives makes v = (xs : List I) × makes xs (Ok v) × EndsUnfailed failed gives xs
 
+-- A SET as its type states it: the fields of its root and those behind its marker, its components and additions to a
+-- number of levels, and whether it has a marker.
+pub record StatedSet : Type 0 where
+  pub fields : List Shape
+  pub behind : List Shape
+  pub parts : ℕ → Parts
+  pub marker : Bool
+  pub additions : ℕ → Parts
+
+-- A SET by its fields, those behind its marker, its components, its marker and its additions.
+abbrev pub stated_set : List Shape → List Shape → (ℕ → Parts) → Bool → (ℕ → Parts) → StatedSet
+stated_set fs behind ps marker adds =
+    record { fields = fs; behind = behind; parts = ps; marker = marker; additions = adds }
+
 -- A call that reads a SET by a function that reads each component and one that makes the SET of what it answered.
-pub record ReadsSetEach {E S I T : Type 0} (rules : DecoderRules E S) (fields behind : List Shape) (parts : ℕ → Parts)
-    (marker : Bool) (additions : ℕ → Parts) (contents added : T → List (Option Value))
-    (gives : S → ℕ → Tag → Result I E → S → Type 0) (makes : List I → Result T E → Type 0) (s : S)
-    (result : Result T E) (t : S) : Type 0 where
+pub record ReadsSetEach {E S I T : Type 0} (rules : DecoderRules E S) (set : StatedSet)
+    (contents added : T → List (Option Value)) (gives : S → ℕ → Tag → Result I E → S → Type 0)
+    (makes : List I → Result T E → Type 0) (s : S) (result : Result T E) (t : S) : Type 0 where
   pub law : (place : I → ℕ) (slot : I → Option Value)
-      → ((n : ℕ) → rules.levels s ≡ suc n → ReadsEach rules (parts n) (additions n) (length fields) place slot n gives)
-      → ((n : ℕ) → rules.levels s ≡ suc n → MakesSet rules fields behind (parts n) contents added place slot makes)
-      → (let c = record_at by_tag parts marker additions (rules.levels s) in
+      → ((n : ℕ) → rules.levels s ≡ suc n
+      → ReadsEach rules (set.parts n) (set.additions n) (length set.fields) place slot n gives)
+      → ((n : ℕ) → rules.levels s ≡ suc n
+      → MakesSet rules set.fields set.behind (set.parts n) contents added place slot makes)
+      → (let c = record_at by_tag set.parts set.marker set.additions (rules.levels s) in
       Answers rules.memory (rules.fault c) (rules.spells c) (λ x. record_value (contents x) (added x)) s result t)
   pub swallowed : IfOk result (MadeUnfailed rules.failed gives makes)
   pub again : rules.failed s ≡ true → IsErrAnd result (λ e. rules.already e s)

@@ -1,7 +1,7 @@
 //! The call of every decoder that reads a SET by a function for each component (X.691 21).
 
 ghost use Rattle.rasn_schema.specs.Extensions.{fields_behind};
-ghost use Rattle.rasn_sets.specs.Components.{GivesItem, GivesSet, ReadsSetEach};
+ghost use Rattle.rasn_sets.specs.Components.{GivesItem, GivesSet, ReadsSetEach, stated_set};
 
 use crate::items::read_set;
 use rasn_schema::fields::Constructed;
@@ -23,7 +23,8 @@ pub trait SetDecoder: Decoder {
     >(&mut self, tag: Tag, decode: D, make: F) -> Result<C, Self::Error>
         requires decode { D.IsAlwaysCallable decode }
         requires make { F.IsAlwaysCallable make }
-        ensures { ReadsSetEach Self.rules C.FIELDS (fields_behind C.EXTENDED_FIELDS) C.parts C.IS_EXTENSIBLE C.additions
+        ensures { ReadsSetEach Self.rules
+            (stated_set C.FIELDS (fields_behind C.EXTENDED_FIELDS) C.parts C.IS_EXTENSIBLE C.additions)
             C.contents C.added (GivesItem D.Fn decode) (GivesSet F.FnOnce (λ xs. xs.items) make)
             self.old result self.new }
     {

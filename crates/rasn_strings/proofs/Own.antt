@@ -1,5 +1,5 @@
 -- Strings of a type's own characters.
-use Rattle.std.proofs.Common.{◌≡◌, refl, sym, ◌∙◌, ℕ, zero, suc, ◌+◌, ◌<◌, ◌≤◌, true, nat_lt, eqb, List, [], ◌∷◌, ◌++◌, get_or, slice_get, IfSome, Fits, w16, arith, inl, inr}
+use Rattle.std.proofs.Common.{◌≡◌, refl, ◌∙◌, ℕ, zero, suc, ◌≤◌, true, nat_lt, eqb, List, [], ◌∷◌, ◌++◌, get_or, slice_get, IfSome, Fits, w16, arith, inl, inr}
 use Rattle.std.specs.Str.{IsAscii}
 use Rattle.std.proofs.lemmas.Bool.{eqb-true, and_parts, and_from, or_cases, le-leb, lt-ltb, ltb-true}
 use Rattle.rasn_types.specs.Alphabets.{has, has_all, interval_of, greatest, visible, ia5, printable, numeric, bmp}
@@ -30,9 +30,6 @@ has_below (x ∷ xs) c e = elim (or_cases (eqb x c) (has xs c) e) [
   | inl h ↦ let s = eqb-true x c h in omega arith
   | inr h ↦ let s = has_below xs c h in omega arith
 ]
-
-pub row_below : (n f c : ℕ) → has (interval_of n f) c ≡ true → c < f + n
-row_below n f c e = let p = and_parts _ _ (sym (has-interval_of n f c) ∙ e) in ltb-true c (f + n) p.1
 
 -- one character more
 pub own_push : (own cs : List ℕ) (c : ℕ) → has_all own cs ≡ true → has own c ≡ true → has_all own (cs ++ c ∷ []) ≡ true

@@ -1,6 +1,6 @@
 -- Alphabets as intervals of characters (this project's choice).
-use Rattle.std.specs.Prelude.{ℕ, ◌+◌, ◌-◌, ◌^◌, ◌≡◌, refl, Bool, true, nat_le, nat_lt, ◌&&◌, List, [], ◌∷◌, ◌++◌}
-use Rattle.rasn_types.specs.Alphabets.{greatest, ia5, interval_of}
+use Rattle.std.specs.Prelude.{ℕ, ◌+◌, ◌-◌, ◌^◌, Bool, true, nat_le, nat_lt, ◌&&◌, List, [], ◌∷◌, ◌++◌}
+use Rattle.rasn_types.specs.Alphabets.{interval_of}
 use Rattle.rasn_strings.specs.declared.intervals.Interval.{Interval}
 
 -- the characters from the first to the last, both included
@@ -22,8 +22,3 @@ ascend_from n (i ∷ is) = nat_le n i.first && (nat_le i.first i.last &&
 abbrev pub all_within : Interval → List ℕ → Bool
 all_within i [] = true
 all_within i (c ∷ cs) = (nat_le i.first c && nat_le c i.last) && all_within i cs
-
--- each character of IA5String is one of ISO 646
-pub ia5_ascii : nat_lt (greatest ia5) 128 ≡ true
-unfolding interval_of
-ia5_ascii = refl

@@ -5,3 +5,4 @@ pub mod alphabet;
 pub mod intervals;
 mod permitted;
 pub mod strings;
+pub mod units;

@@ -1,9 +1,8 @@
 //! The character strings whose characters all take as many bits, the known-multiplier strings (X.691 30.1), and their
 //! alphabets (X.680 41).
 
-ghost use Rattle.std.specs.Prelude.{◌≡◌, ℕ, ◌+◌, ◌≤◌, List, [], ◌∷◌, ◌++◌, true, false, nat_lt, refl, Some, length};
-ghost use Rattle.std.specs.Prelude.{slice_get, vec_len, vec_capacity, IfSome, IfNone, IfOk, Err, OnOk, OnErr, IsTrue};
-ghost use Rattle.std.specs.Prelude.{◌↔◌, ◌==◌};
+ghost use Rattle.std.specs.Prelude.{◌≡◌, ◌↔◌, ◌==◌, ℕ, List, [], ◌∷◌, ◌++◌, true, false, nat_lt, refl, Some, length};
+ghost use Rattle.std.specs.Prelude.{map, slice_get, IfSome, IfNone, IfOk, Err, OnOk, OnErr, IsTrue};
 ghost use Rattle.std.specs.Cmp.Lexicographic.{nat_list_cmp_total, pointwise, slice_cmp, texts_po, texts_ties};
 ghost use Rattle.std.specs.Cmp.Rules.{comparing, hashing};
 ghost use Rattle.std.specs.Hash as fed;
@@ -11,11 +10,13 @@ ghost use Rattle.std.specs.Ordering.{nat_cmp};
 ghost use Rattle.std.specs.Str.{chars};
 ghost use Rattle.std.proofs.Common.{rules};
 ghost use Rattle.rasn_types.specs.Alphabets.{greatest, has, has_all, visible, ia5, printable, numeric, bmp};
-ghost use Rattle.rasn_strings.specs.Intervals.{expand, ascend_from, ia5_ascii};
+ghost use Rattle.rasn_strings.specs.Intervals.{expand, ascend_from};
+ghost use Rattle.rasn_strings.specs.Laws.{bmp_held, ia5_ascii};
 ghost use Rattle.rasn_strings.specs.Foreign.{IsFirstForeign};
 ghost use Rattle.rasn_strings.specs.declared.strings.StringError.TheVariants.{ForeignCharacter};
 
 use crate::intervals::{self, Interval};
+use crate::units::CharacterUnit;
 use std::alloc::{AllocError, Global};
 use std::cmp::Ordering;
 use std::fmt;
@@ -93,6 +94,9 @@ pub type PrintableString = CharactersOf<PrintableKind>;
 /// A NumericString (X.680 41): space and digits.
 pub type NumericString = CharactersOf<NumericKind>;
 
+/// A BMPString (X.680 41): the characters 0 to 65535, surrogates among them (this project's choice).
+pub type BmpString = CharactersOf<BmpKind>;
+
 /// Why a text is no string of a type.
 #[derive(Clone, Copy, Debug, PartialEq, Error)]
 pub enum StringError {
@@ -119,8 +123,11 @@ impl From<AllocError> for StringError {
     }
 }
 
-/// A type of strings whose characters are octets.
+/// A type of character strings.
 pub trait CharacterKind {
+    /// What holds one of its characters.
+    type Unit: CharacterUnit;
+
     /// The name of the type, as `Debug` writes it.
     const NAME: &'static str;
 
@@ -132,8 +139,8 @@ pub trait CharacterKind {
         ensures expands { expand result.now ≡ alphabet }
         ensures ascends { ascend_from 0 result.now ≡ true };
 
-    // Each character is one of ISO 646.
-    ghost are_ascii: { nat_lt (greatest alphabet) 128 ≡ true };
+    // Each character can be held.
+    ghost are_held: { nat_lt (greatest alphabet) Self.Unit.limit ≡ true };
 }
 
 const VISIBLE: &[Interval] = &[Interval {
@@ -145,6 +152,8 @@ const VISIBLE: &[Interval] = &[Interval {
 pub struct VisibleKind {}
 
 impl CharacterKind for VisibleKind {
+    type Unit = u8;
+
     const NAME: &'static str = "VisibleString";
 
     ghost alphabet = { visible };
@@ -153,7 +162,7 @@ impl CharacterKind for VisibleKind {
         VISIBLE
     }
 
-    ghost are_ascii = { refl };
+    ghost are_held = { refl };
 }
 
 const IA5: &[Interval] = &[Interval {
@@ -165,6 +174,8 @@ const IA5: &[Interval] = &[Interval {
 pub struct Ia5Kind {}
 
 impl CharacterKind for Ia5Kind {
+    type Unit = u8;
+
     const NAME: &'static str = "Ia5String";
 
     ghost alphabet = { ia5 };
@@ -173,7 +184,7 @@ impl CharacterKind for Ia5Kind {
         IA5
     }
 
-    ghost are_ascii = { ia5_ascii };
+    ghost are_held = { ia5_ascii };
 }
 
 const PRINTABLE: &[Interval] = &[
@@ -211,6 +222,8 @@ const PRINTABLE: &[Interval] = &[
 pub struct PrintableKind {}
 
 impl CharacterKind for PrintableKind {
+    type Unit = u8;
+
     const NAME: &'static str = "PrintableString";
 
     ghost alphabet = { printable };
@@ -219,7 +232,7 @@ impl CharacterKind for PrintableKind {
         PRINTABLE
     }
 
-    ghost are_ascii = { refl };
+    ghost are_held = { refl };
 }
 
 const NUMERIC: &[Interval] = &[
@@ -237,6 +250,8 @@ const NUMERIC: &[Interval] = &[
 pub struct NumericKind {}
 
 impl CharacterKind for NumericKind {
+    type Unit = u8;
+
     const NAME: &'static str = "NumericString";
 
     ghost alphabet = { numeric };
@@ -245,11 +260,33 @@ impl CharacterKind for NumericKind {
         NUMERIC
     }
 
-    ghost are_ascii = { refl };
+    ghost are_held = { refl };
+}
+
+const BMP: &[Interval] = &[Interval {
+    first: 0,
+    last: 65535,
+}];
+
+/// The kind of BMPString (X.680 41).
+pub struct BmpKind {}
+
+impl CharacterKind for BmpKind {
+    type Unit = u16;
+
+    const NAME: &'static str = "BmpString";
+
+    ghost alphabet = { bmp };
+
+    fn intervals() -> &'static [Interval] {
+        BMP
+    }
+
+    ghost are_held = { bmp_held };
 }
 
 /// A kind whose characters are those of ISO 646, by which name they are given and taken.
-pub trait Iso646Kind: CharacterKind {}
+pub trait Iso646Kind: CharacterKind<Unit = u8> {}
 
 impl Iso646Kind for VisibleKind {}
 
@@ -258,22 +295,43 @@ impl Iso646Kind for Ia5Kind {}
 /// A string of characters of a kind.
 #[derive(Drop)]
 pub struct CharactersOf<K: CharacterKind> {
-    characters: Vec<u8>,
+    characters: Vec<K::Unit>,
     kind: PhantomData<K>,
 }
 
 impl<K: CharacterKind> Model for CharactersOf<K> {
-    ghost use Rattle.std.specs.Prelude.{◌≡◌, ℕ, List, true};
+    ghost use Rattle.std.specs.Prelude.{◌≡◌, ℕ, List, map, true};
     ghost use Rattle.rasn_types.specs.Alphabets.{has_all};
 
     ghost Value = { List ℕ };
 
-    ghost view = { λ a. a.characters.items };
+    ghost view = { λ a. map K.Unit.value a.characters.items };
 
-    ghost invariant = { λ a. has_all K.alphabet a.characters.items ≡ true };
+    ghost invariant = { λ a. has_all K.alphabet (map K.Unit.value a.characters.items) ≡ true };
 }
 
 impl<K: CharacterKind> CharactersOf<K> {
+    /// The string of a text's characters.
+    pub fn from_str(alloc: Global, text: &str) -> Result<Self, StringError>
+        ensures ok { IfOk result (λ string. string ≡ chars text.now) }
+        ensures foreign { (character index : ℕ) → result ≡ Err (ForeignCharacter character index)
+            → IsFirstForeign K.alphabet (chars text.now) character index }
+    {
+        let intervals = K::intervals();
+        let mut string = <Self as StaticPermittedAlphabet>::new(alloc);
+        for character in text.chars() {
+            let value = u32::from(character);
+            if !intervals::contains(intervals, value) {
+                let index = string.len();
+                return Err(StringError::ForeignCharacter { character, index });
+            }
+            string.push(value)?;
+        }
+        Ok(string)
+    }
+}
+
+impl<K: CharacterKind<Unit = u8>> CharactersOf<K> {
     /// The string of these characters; `None` where one of them isn't a character of the type.
     pub fn from_bytes(characters: Vec<u8>) -> Option<Self>
         ensures some { IfSome result (λ string. string ≡ characters.items) }
@@ -297,30 +355,32 @@ impl<K: CharacterKind> CharactersOf<K> {
         self.characters.as_slice()
     }
 
-    /// The string of a text's characters.
-    pub fn from_str(alloc: Global, text: &str) -> Result<Self, StringError>
-        ensures ok { IfOk result (λ string. string ≡ chars text.now) }
-        ensures foreign { (character index : ℕ) → result ≡ Err (ForeignCharacter character index)
-            → IsFirstForeign K.alphabet (chars text.now) character index }
-    {
-        let intervals = K::intervals();
-        let mut string = <Self as StaticPermittedAlphabet>::new(alloc);
-        for character in text.chars() {
-            let value = u32::from(character);
-            if !intervals::contains(intervals, value) {
-                let index = string.len();
-                return Err(StringError::ForeignCharacter { character, index });
-            }
-            string.push(value)?;
-        }
-        Ok(string)
-    }
-
     /// The characters as text.
     pub fn as_str(&self) -> &str
         ensures { result.now ≡ self.now }
     {
         str::from_utf8(self.characters.as_slice()).unwrap()
+    }
+}
+
+impl CharactersOf<BmpKind> {
+    /// The string of these characters.
+    pub fn from_units(units: Vec<u16>) -> Self
+        ensures { result ≡ units.items }
+    {
+        all_are_own(&units);
+        CharactersOf {
+            characters: units,
+            kind: PhantomData::<BmpKind>,
+        }
+    }
+
+    /// The characters.
+    pub fn as_units(&self) -> &[u16]
+        ensures characters { result.now ≡ self.now }
+        ensures own { has_all bmp self.now ≡ true }
+    {
+        self.characters.as_slice()
     }
 }
 
@@ -359,17 +419,17 @@ impl<K: CharacterKind> StaticPermittedAlphabet for CharactersOf<K> {
     }
 
     fn push(&mut self, character: u32) -> Result<(), AllocError> {
-        self.characters.push(character as u8)?;
+        self.characters.push(K::Unit::holding(character))?;
         Ok(())
     }
 
     fn push_octets(&mut self, octets: &[u8]) -> Result<(), AllocError> {
-        self.characters.extend_from_slice(octets)?;
+        K::Unit::append(&mut self.characters, octets)?;
         Ok(())
     }
 
     fn octets(&self) -> Option<&[u8]> {
-        Some(self.characters.as_slice())
+        K::Unit::as_octets(&self.characters)
     }
 
     fn len(&self) -> usize {
@@ -382,7 +442,7 @@ impl<K: CharacterKind> StaticPermittedAlphabet for CharactersOf<K> {
 }
 
 /// The characters as text.
-impl<K: CharacterKind> fmt::Display for CharactersOf<K> {
+impl<K: CharacterKind<Unit = u8>> fmt::Display for CharactersOf<K> {
     ghost output = { λ string. Some string };
 
     fn fmt<W: fmt::Write>(&self, f: &mut fmt::Formatter<W>) -> fmt::Result {
@@ -439,7 +499,7 @@ impl<K: CharacterKind> Ord for CharactersOf<K> {
 
 /// The hash of the characters.
 impl<K: CharacterKind> Hash for CharactersOf<K> {
-    ghost hash_input = { fed.slice fed.u8 };
+    ghost hash_input = { fed.slice K.Unit.fed };
 
     ghost respects_eq = { Prim.search (hashing, rules) };
 
@@ -454,148 +514,9 @@ impl<K: CharacterKind> Clone for CharactersOf<K> {
 
     fn clone(&self) -> Result<Self, AllocError> {
         Ok(CharactersOf {
-            characters: self.characters.clone()?,
+            characters: Vec::from_slice(*self.characters.allocator(), &self.characters)?,
             kind: PhantomData::<K>,
         })
-    }
-}
-
-/// A BMPString (X.680 41): the characters 0 to 65535, surrogates among them (this project's choice).
-#[derive(Debug, Drop)]
-pub struct BmpString {
-    units: Vec<u16>,
-}
-
-impl Model for BmpString {
-    ghost use Rattle.std.specs.Prelude.{◌≡◌, ℕ, List, true};
-    ghost use Rattle.rasn_types.specs.Alphabets.{has_all, bmp};
-
-    ghost Value = { List ℕ };
-
-    ghost view = { λ a. a.units.items };
-
-    ghost invariant = { λ a. has_all bmp a.units.items ≡ true };
-}
-
-impl BmpString {
-    /// The string of these characters.
-    pub fn from_units(units: Vec<u16>) -> Self
-        ensures { result ≡ units.items }
-    {
-        all_are_own(&units);
-        BmpString { units }
-    }
-
-    /// The characters.
-    pub fn as_units(&self) -> &[u16]
-        ensures characters { result.now ≡ self.now }
-        ensures own { has_all bmp self.now ≡ true }
-    {
-        self.units.as_slice()
-    }
-}
-
-const BMP: &[Interval] = &[Interval {
-    first: 0,
-    last: 65535,
-}];
-
-impl StaticPermittedAlphabet for BmpString {
-    ghost alphabet = { bmp };
-
-    ghost characters = { λ s. s };
-
-    fn intervals() -> &'static [Interval] {
-        BMP
-    }
-
-    fn new(alloc: Global) -> Self {
-        BmpString {
-            units: Vec::new(alloc),
-        }
-    }
-
-    fn push(&mut self, character: u32) -> Result<(), AllocError> {
-        self.units.push(character as u16)?;
-        Ok(())
-    }
-
-    fn push_octets(&mut self, octets: &[u8]) -> Result<(), AllocError> {
-        self.units.reserve(octets.len())?;
-        append_units(&mut self.units, octets);
-        Ok(())
-    }
-
-    fn octets(&self) -> Option<&[u8]> {
-        // each character takes two
-        None
-    }
-
-    fn len(&self) -> usize {
-        self.units.len()
-    }
-
-    fn character(&self, index: usize) -> Option<u32> {
-        unit_at(&self.units, index)
-    }
-}
-
-impl PartialEq for BmpString {
-    ghost eq = { pointwise ◌==◌ };
-
-    ghost laws = { Prim.search (comparing, rules) };
-
-    fn eq(&self, other: &BmpString) -> bool {
-        self.as_units() == other.as_units()
-    }
-}
-
-impl Eq for BmpString {
-    ghost laws = { Prim.search (comparing, rules) };
-}
-
-/// The characters, one by one: what begins another stands before it.
-impl PartialOrd for BmpString {
-    ghost partial_cmp = { λ a b. Some (slice_cmp nat_cmp a b) };
-
-    ghost laws = { texts_po };
-
-    fn partial_cmp(&self, other: &Self) -> Option<Ordering> {
-        Some(self.cmp(other))
-    }
-}
-
-impl Ord for BmpString {
-    ghost cmp = { slice_cmp nat_cmp };
-
-    ghost total = { nat_list_cmp_total };
-
-    ghost matches_partial_cmp = { λ _ _. refl };
-
-    ghost matches_eq = { texts_ties };
-
-    fn cmp(&self, other: &Self) -> Ordering {
-        self.units.as_slice().cmp(other.units.as_slice())
-    }
-}
-
-/// The hash of the characters.
-impl Hash for BmpString {
-    ghost hash_input = { fed.slice fed.u16 };
-
-    ghost respects_eq = { Prim.search (hashing, rules) };
-
-    fn hash<H: Hasher>(&self, state: &mut H) {
-        self.units.as_slice().hash(state);
-    }
-}
-
-/// The same characters, in memory of their own.
-impl Clone for BmpString {
-    ghost is_clone = { λ held copy. copy ≡ held };
-
-    fn clone(&self) -> Result<Self, AllocError> {
-        Ok(BmpString::from_units(self.units.clone()?))
     }
 }
 
@@ -611,31 +532,14 @@ fn are_characters(intervals: &[Interval], octets: &[u8]) -> bool
     true
 }
 
-/// The octet at an index, as a character; `None` from the count on.
-fn character_at(octets: &[u8], index: usize) -> Option<u32>
-    ensures { result ≡ slice_get octets.now index }
+/// The character that is held at an index; `None` from the count on.
+fn character_at<U: CharacterUnit>(units: &[U], index: usize) -> Option<u32>
+    ensures { result ≡ slice_get (map U.value units.now) index }
 {
-    octets.get(index).map(|octet| u32::from(*octet))
+    Some(units.get(index)?.held())
 }
 
 /// States that any 16 bits are a character of BMPString.
 fn all_are_own(units: &[u16])
     ensures { has_all bmp units.now ≡ true }
 {}
-
-/// Appends octets, each as 16 bits, for which there is room.
-fn append_units(units: &mut Vec<u16>, octets: &[u8])
-    requires { vec_len units.old + length octets.now ≤ vec_capacity units.old }
-    ensures { units.new.items ≡ units.old.items ++ octets.now }
-{
-    for octet in octets {
-        units.push(u16::from(*octet)).unwrap();
-    }
-}
-
-/// The 16 bits at an index, as a character; `None` from the count on.
-fn unit_at(units: &[u16], index: usize) -> Option<u32>
-    ensures { result ≡ slice_get units.now index }
-{
-    units.get(index).map(|unit| u32::from(*unit))
-}

@@ -256,7 +256,7 @@ unfoldable pub AreRead : {E S : Type 0} → DecoderRules E S → Parts → Parts
     → List (Option Value) → S → Type 0
 AreRead rules ps qs s rs xs t = ReadsFields rules ps qs s rs xs t
 
--- The same in that word.
+-- Ok answers components and then additions that are read, and Err, memory aside, comes only where none are.
 abbrev pub AnswersRecord : {S T E : Type 0} → DecoderRules E S → Parts → Parts → (T → List (Option Value))
     → (T → List (Option Value)) → S → Result T E → S → Type 0
 AnswersRecord rules ps qs contents added s (Ok v) t = AreRead rules ps qs s (contents v) (added v) t

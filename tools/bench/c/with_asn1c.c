@@ -2,6 +2,7 @@
 #include "bench.h"
 #include <Alt.h>
 #include <Behind.h>
+#include <CAM.h>
 #include <Four.h>
 #include <Fours.h>
 #include <Octets.h>
@@ -54,6 +55,12 @@ static uint64_t of_alt(const void *value)
     return alt->present == Alt_PR_inner ? of_octets(&alt->choice.inner.octets) : 0;
 }
 
+static uint64_t of_cam(const void *value)
+{
+    const CAM_t *cam = value;
+    return (uint64_t)cam->header.stationID & 255;
+}
+
 static const struct kind {
     const char *name;
     asn_TYPE_descriptor_t *type;
@@ -71,6 +78,7 @@ static const struct kind {
     {"list", &asn_DEF_Fours, of_fours},
     {"group", &asn_DEF_Outer, of_outer},
     {"choice", &asn_DEF_Alt, of_alt},
+    {"cam", &asn_DEF_CAM, of_cam},
 };
 
 static const struct kind *kind_named(const char *name)

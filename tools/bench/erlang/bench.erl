@@ -23,11 +23,11 @@ answer_lines() ->
     end.
 
 answer(<<"check">>, Type, _, Octets) ->
-    {ok, Value} = 'Bench':decode(Type, Octets),
-    {ok, Canonical} = 'Bench':encode(Type, Value),
+    {ok, Value} = decoded(Type, Octets),
+    {ok, Canonical} = encoded(Type, Value),
     io:put_chars([string:lowercase(binary:encode_hex(Canonical)), $\n]);
 answer(<<"enc">>, Type, Times, Octets) ->
-    {ok, Value} = 'Bench':decode(Type, Octets),
+    {ok, Value} = decoded(Type, Octets),
     timed(fun() -> encode(Type, Value, Times, 0) end);
 answer(<<"dec">>, Type, Times, Octets) ->
     timed(fun() -> decode(Type, Octets, Times, 0) end).
@@ -57,18 +57,27 @@ type(<<"optional">>) -> 'Report';
 type(<<"list">>) -> 'Fours';
 type(<<"group">>) -> 'Outer';
 type(<<"choice">>) -> 'Alt';
+type(<<"cam">>) -> {'CAM-PDU-Descriptions', 'CAM'};
+type(<<"areas">>) -> {'NGAP-IEs', 'SupportedTAList'};
 type(_) -> 'Octets'.
+
+%% A type is one of Bench, or a module and its type.
+decoded({Module, Type}, Octets) -> Module:decode(Type, Octets);
+decoded(Type, Octets) -> 'Bench':decode(Type, Octets).
+
+encoded({Module, Type}, Value) -> Module:encode(Type, Value);
+encoded(Type, Value) -> 'Bench':encode(Type, Value).
 
 encode(_, _, 0, Sum) ->
     Sum;
 encode(Type, Value, Times, Sum) ->
-    {ok, Octets} = 'Bench':encode(Type, Value),
+    {ok, Octets} = encoded(Type, Value),
     encode(Type, Value, Times - 1, (Sum + byte_size(Octets)) band 16#ffffffff).
 
 decode(_, _, 0, Sum) ->
     Sum;
 decode(Type, Octets, Times, Sum) ->
-    {ok, Value} = 'Bench':decode(Type, Octets),
+    {ok, Value} = decoded(Type, Octets),
     decode(Type, Octets, Times - 1, (Sum + digest(Value)) band 16#ffffffff).
 
 digest(Number) when is_integer(Number) -> Number band 255;
