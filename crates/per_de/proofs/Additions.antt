@@ -12,8 +12,8 @@ use Rattle.per_read.specs.Kinds.{NoneIn, Stopped}
 use Rattle.per_read.specs.declared.error.DecodeError.{DecodeError}
 use Rattle.per_read.specs.declared.error.DecodeErrorKind.{DecodeErrorKind}
 use Rattle.per_read.specs.declared.error.DecodeErrorKind.TheVariants.{MissingTag, OutOfMemory}
-use Rattle.per_read_types.specs.Bitmaps.{skipped_unknown}
-use Rattle.per_read_types.proofs.Opened.{no_open}
+use Rattle.per_read.specs.Bitmaps.{skipped_unknown}
+use Rattle.per_read.proofs.Opened.{no_open}
 use Rattle.per_decoding.specs.Laws.Additions.{of_next}
 use Rattle.per_decoding.specs.Additions.{Adds, Asks, OpensAddition, OpensContents, Shown, OutsideAddition}
 use Rattle.per_decoding.specs.Faults.{IsInTail, behind_bitmap, in_bitmap, in_octets, in_open, in_unknown, refusal, unread, unskipped, IsOfNext, Unended}

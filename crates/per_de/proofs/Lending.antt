@@ -27,7 +27,7 @@ use Rattle.per_read.specs.State.{State as Taking, settings_of as read_by}
 use Rattle.per_read.specs.Takes.{Takes, memory_or}
 use Rattle.per_read.specs.declared.error.DecodeError.{DecodeError}
 use Rattle.per_read.specs.declared.error.DecodeErrorKind.{DecodeErrorKind}
-use Rattle.per_read_types.specs.Stands.{LastTaken}
+use Rattle.per_read.specs.Stands.{LastTaken}
 use Rattle.per_decoding.specs.Faults.{refusal}
 use Rattle.per_decoding.specs.Rules.{decoder_rules}
 use Rattle.per_decoding.specs.State.{State, reader_of, settings_of, with_last}

@@ -5,7 +5,7 @@ use Rattle.std.proofs.lemmas.List.{take_all, take_min, drop_min, drop-take}
 use Rattle.rasn_types.specs.Bits.{Bits, number_of}
 use Rattle.per_core.specs.Basic.{bit}
 use Rattle.per_read.specs.Kinds.{NoneIn}
-use Rattle.per_read_types.proofs.Turns.{one_bit}
+use Rattle.per_read.proofs.Turns.{one_bit}
 use Rattle.per_de.specs.Sources.{span_of, IsWithin}
 use Rattle.per_decoding.specs.State.{State, with_bits, with_last}
 use Rattle.per_de.specs.declared.source.Span.{Span}

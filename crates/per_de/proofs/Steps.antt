@@ -16,15 +16,15 @@ use Rattle.per_read.specs.Takes.{Reason, Takes, itself, telling, tested}
 use Rattle.per_read.specs.declared.error.DecodeError.{DecodeError}
 use Rattle.per_read.specs.declared.error.DecodeErrorKind.{DecodeErrorKind}
 use Rattle.per_read.specs.declared.error.DecodeErrorKind.TheVariants.{Incomplete, OutOfMemory}
-use Rattle.per_read_types.specs.Bitmaps.{large_fragments_of, skipped_unknown}
-use Rattle.per_read_types.specs.Flags.{HasFlags}
-use Rattle.per_read_types.specs.OpenTypes.{HasOctets, fragments_of}
-use Rattle.per_read_types.specs.Reasons.{gathering}
-use Rattle.per_read_types.specs.Stands.{LastTaken}
-use Rattle.per_read_types.specs.declared.bitmaps.PresenceBits.{PresenceBits}
-use Rattle.per_read_types.specs.declared.bitmaps.PresenceBits.TheVariants as Taken
-use Rattle.per_read_types.specs.declared.open_types.Contents.{Contents}
-use Rattle.per_read_types.specs.declared.open_types.Contents.TheVariants as Open
+use Rattle.per_read.specs.Bitmaps.{large_fragments_of, skipped_unknown}
+use Rattle.per_read.specs.Flags.{HasFlags}
+use Rattle.per_read.specs.OpenTypes.{HasOctets, fragments_of}
+use Rattle.per_read.specs.Reasons.{gathering}
+use Rattle.per_read.specs.Stands.{LastTaken}
+use Rattle.per_read.specs.declared.bitmaps.PresenceBits.{PresenceBits}
+use Rattle.per_read.specs.declared.bitmaps.PresenceBits.TheVariants as Taken
+use Rattle.per_read.specs.declared.open_types.Contents.{Contents}
+use Rattle.per_read.specs.declared.open_types.Contents.TheVariants as Open
 use Rattle.per_decoding.specs.Laws.Additions.{of_next}
 use Rattle.per_decoding.specs.Additions.{EntersContents, OpensContents, Shown, OutsideAddition}
 use Rattle.per_decoding.specs.Faults.{Answered, IsOfNext, at_bitmap, refusal}

@@ -13,8 +13,8 @@ use Rattle.per_read.specs.declared.error.DecodeError.{DecodeError}
 use Rattle.per_read.specs.declared.error.DecodeErrorKind.{DecodeErrorKind}
 use Rattle.per_read.specs.declared.error.DecodeErrorKind.TheVariants.{ExceedsMaxParseDepth, Incomplete, MissingTag}
 use Rattle.per_read.specs.declared.error.DecodeErrorKind.TheVariants.{OutOfMemory}
-use Rattle.per_read_types.specs.Bitmaps.{skipped_unknown}
-use Rattle.per_read_types.specs.Ends.{EndsAs, IsOfEnd}
+use Rattle.per_read.specs.Bitmaps.{skipped_unknown}
+use Rattle.per_read.specs.Ends.{EndsAs, IsOfEnd}
 use Rattle.per_decoding.specs.Additions.{Asks, OpensContents, Shown, OutsideAddition, with_outside_addition}
 use Rattle.per_decoding.specs.Choices.{StandsFrom}
 use Rattle.per_decoding.specs.Faults.{IsOfNext, refusal}

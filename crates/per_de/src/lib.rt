@@ -42,17 +42,17 @@ ghost use Rattle.per_de.specs.Steps.{TakesBit, TakesBitmap, TakesExtensionBit, T
 
 use per_bits::{BitList, BitReader};
 use per_core::lengths::FRAGMENT;
+use per_read::bitmaps::{PresenceBits, skip_unknown, take_bitmap};
 pub use per_read::error;
 pub use per_read::error::{DecodeError, DecodeErrorKind, ParserFailCause};
 use per_read::lists::UnreadElements;
+use per_read::open_types::{Contents, end_of_open, take_open};
 use per_read::{Reader, ReaderOptions};
-use per_read_types::bitmaps::{PresenceBits, skip_unknown, take_bitmap};
 use per_read_types::choices::take_choice_index;
 use per_read_types::dates::take_date;
 use per_read_types::enumerated::take_enumerated;
 use per_read_types::identifiers::take_object_identifier;
 use per_read_types::integers::take_integer;
-use per_read_types::open_types::{Contents, end_of_open, take_open};
 use per_read_types::times::{take_generalized_time, take_utc_time};
 use rasn_schema::choices::Choice;
 use rasn_schema::constraints::Constraints;

@@ -2,13 +2,13 @@
 
 ghost use Rattle.std.specs.Prelude.{◌≡◌, ◌≤◌, ◌+◌, ◌-◌, ◌*◌, ◌%◌, ◌↔◌, true, [], length, IfSome, IsSome, IsTrue};
 ghost use Rattle.rasn_types.specs.Bits.{Bits};
-ghost use Rattle.per_read_types.specs.Additions.{NextFlag};
+ghost use Rattle.per_read.specs.Additions.{NextFlag};
 ghost use Rattle.per_decoding.specs.State.{extension_of};
 ghost use Rattle.per_de.specs.Sources.{bits_of, extension_in, flags_in, lends, place_of, span_of, AreOctetsOf};
 ghost use Rattle.per_de.specs.Sources.{IsWithin};
 
 use per_bits::BitReader;
-use per_read_types::bitmaps::{Bitmap, next_flag};
+use per_read::bitmaps::{Bitmap, next_flag};
 use rasn_types::bit_string::{BitString, note_octets};
 
 /// Where the bits come from that a decoder reads.

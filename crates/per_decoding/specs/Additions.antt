@@ -8,8 +8,8 @@ use Rattle.per_core.specs.Spellings.{Settings, Spelling, When, exactly}
 use Rattle.per_core.specs.Took.{Took}
 use Rattle.per_core.specs.FewItems.{item_count, most_items}
 use Rattle.per_core.specs.Within.{HasAtMost}
-use Rattle.per_read_types.specs.Additions.{NextFlag}
-use Rattle.per_read_types.specs.Ends.{EndsAs}
+use Rattle.per_read.specs.Additions.{NextFlag}
+use Rattle.per_read.specs.Ends.{EndsAs}
 use Rattle.per_decoding.specs.State.{Extension, ahead, shown, Source, Spells, State, settings_of, with_bits}
 
 -- X.691 19.7, 19.8: the presence bits that are still to be read, where the bitmap is still ahead behind the bits of it

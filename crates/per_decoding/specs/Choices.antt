@@ -7,7 +7,7 @@ use Rattle.per_core.specs.Spellings.{Settings, Spelling, never}
 use Rattle.per_core.specs.Took.{Took}
 use Rattle.per_read_types.specs.Choices.{index_form}
 use Rattle.per_read.specs.declared.error.DecodeError.{DecodeError}
-use Rattle.per_read_types.specs.Ends.{EndsAs}
+use Rattle.per_read.specs.Ends.{EndsAs}
 use Rattle.per_decoding.specs.Additions.{OpensContents, OutsideAddition, with_outside_addition}
 use Rattle.per_decoding.specs.Faults.{UnendedAddition}
 use Rattle.per_decoding.specs.Scopes.{Enters, OutsideRecord, no_record, with_outside_record}

@@ -29,9 +29,9 @@ use Rattle.per_read.specs.declared.error.DecodeErrorKind.{DecodeErrorKind}
 use Rattle.per_read.specs.declared.error.DecodeErrorKind.TheVariants.{ExceedsMaxParseDepth, AlreadyFailed, MissingTag}
 use Rattle.per_read.specs.declared.error.DecodeErrorKind.TheVariants.{RealNotSupported, RequiredExtensionNotPresent}
 use Rattle.per_read.specs.declared.error.DecodeErrorKind.TheVariants.{TypeNotExtensible}
-use Rattle.per_read_types.specs.Additions.{Addition, NextFlag, rule_of}
-use Rattle.per_read_types.specs.Bitmaps.{skipped_unknown}
-use Rattle.per_read_types.specs.Ends.{IsOfEnd}
+use Rattle.per_read.specs.Additions.{Addition, NextFlag, rule_of}
+use Rattle.per_read.specs.Bitmaps.{skipped_unknown}
+use Rattle.per_read.specs.Ends.{IsOfEnd}
 use Rattle.per_decoding.specs.Additions.{Asks, Shown, OutsideAddition}
 use Rattle.per_read_types.specs.Dates.{IsOfDate}
 use Rattle.per_decoding.specs.State.{Extension, ahead, State, extension_of, settings_of, with_last}

@@ -21,3 +21,14 @@ pub mod CharacterCodes
 pub mod Texts
 pub mod Padding
 pub mod Fronts
+pub mod InPlace
+pub mod SmallForms
+pub mod Additions
+pub mod Filled
+pub mod Opened
+pub mod Records
+pub mod FrontItems
+pub mod Pieces
+pub mod Maps
+pub mod Skipped
+pub mod Turns

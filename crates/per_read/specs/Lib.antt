@@ -12,3 +12,11 @@ pub mod State
 pub mod Strings
 pub mod Takes
 pub mod UpTo
+pub mod SmallNumbers
+pub mod Additions
+pub mod Bitmaps
+pub mod Ends
+pub mod Flags
+pub mod OpenTypes
+pub mod Reasons
+pub mod Stands

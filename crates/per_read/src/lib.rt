@@ -1,5 +1,6 @@
-//! What the packed encoding rules read, bit by bit (ITU-T X.691): whole numbers, lengths, counted strings, and what
-//! stands between the elements of a list, in every form that a basic decoder takes, off the front of the bits left.
+//! What the packed encoding rules read, bit by bit (ITU-T X.691): whole numbers, lengths, counted strings, what stands
+//! between the elements of a list and what stands behind an extension marker, in every form that a basic decoder takes,
+//! off the front of the bits left.
 #![tactic(auto)]
 
 ghost use Rattle.std.specs.Prelude.{◌≡◌, ◌≤◌};
@@ -7,14 +8,20 @@ ghost use Rattle.per_core.specs.Basic.{Octets, bit};
 ghost use Rattle.per_core.specs.Spellings.{Field};
 ghost use Rattle.per_read.specs.Takes.{Front, Takes, short, stopped, itself};
 
+pub mod addition_laws;
+mod ahead;
 mod alphabet;
+pub mod bitmaps;
 pub mod error;
 pub mod few_octets;
+mod in_place;
 mod items;
 pub mod lengths;
 pub mod lists;
 pub mod numbers;
+pub mod open_types;
 mod sizes;
+pub mod small_numbers;
 mod strings;
 
 use error::DecodeErrorKind;

@@ -1,4 +1,4 @@
--- Normally small numbers, and items of an ENUMERATED, seen from the bits that are left (X.691 11.6, 14).
+-- Items of an ENUMERATED, seen from the bits that are left (X.691 14).
 use Rattle.std.proofs.Common.{◌≡◌, ◌∙◌, ◌⊎◌, ◌&&◌, refl, sym, ap, subst, ℕ, zero, suc, ◌+◌, ◌-◌, ◌^◌, ◌<◌, ◌≤◌, Bool, true, false, [], ◌∷◌, Option, arith, inl, inr, le-leb, pos}
 use Rattle.rasn_types.specs.Bits.{Bits, width, width_from}
 use Rattle.rasn_types.specs.Values.{Value, item, Side, root, added}
@@ -14,27 +14,19 @@ use Rattle.per_core.proofs.Unique.{in_natural_agree, marked_agree}
 use Rattle.per_read_types.specs.Enumerations.{IsMissing, IsOfItem, IsOfPlace, IsPlace, IsThere, count_of, item_form, place_form, side_of}
 use Rattle.per_read.specs.Kinds.{IsTested, NoneIn}
 use Rattle.per_read.specs.Numbers.{IsOfOctets}
-use Rattle.per_read_types.specs.SmallNumbers.{IsOfSmall, OfIndex, small_form}
+use Rattle.per_read.specs.SmallNumbers.{IsOfSmall, OfIndex, small_form}
 use Rattle.per_read.specs.declared.error.DecodeErrorKind.{DecodeErrorKind}
 use Rattle.per_read.specs.declared.error.DecodeErrorKind.TheVariants.{EnumerationIndexNotFound, IntegerOverflow, UnexpectedEmptyInput}
 use Rattle.per_read.proofs.Fields.{exactly_took, either_took}
 use Rattle.per_read.proofs.Marked.{behind_bit}
+use Rattle.per_read.proofs.SmallForms.{small_took, took_small}
 
--- a kind that tests show may come with these
-pub tested_small : (a : Settings) (s : Bits) (k : DecodeErrorKind) → IsTested k → IsOfSmall a s k
-tested_small a s UnexpectedEmptyInput h = absurd h
-tested_small a s _ h = h
-
+-- a kind that tests show may come with an item
 pub tested_item : (a : Settings) (r e : ℕ) (ext : Bool) (s : Bits) (k : DecodeErrorKind) → IsTested k → IsOfItem a r e ext s k
 tested_item a r e ext s UnexpectedEmptyInput h = absurd h
 tested_item a r e ext s (EnumerationIndexNotFound i b) h = absurd h
 tested_item a r e ext s (IntegerOverflow w) h = absurd h
 tested_item a r e ext s _ h = h
-
--- the octets of a large form
-pub octets_small : (a : Settings) (s m : Bits) (k : DecodeErrorKind) → s ≡ true ∷ m → IsOfOctets a m k → IsOfSmall a s k
-octets_small a s m UnexpectedEmptyInput e h = (h.0, behind_bit true e h.0 h.1)
-octets_small a s m _ e h = h
 
 -- one of no numbers is written as one of one
 no_numbers : (v : Variant) (a : Settings) (o : ℕ) → constrained_by v a 1 o ≡ constrained_by v a 0 o
@@ -45,39 +37,6 @@ no_numbers aligned a o = refl
 pub root_form : (a : Settings) (n g o : ℕ) → g ≡ n - 1 → constrained_form a (g + 1) o ≡ constrained_form a n o
 root_form a zero g o e = ap (λ (k : ℕ). constrained_form a (k + 1) o) {x = g} {y = 0} (omega arith) ∙ no_numbers a.variant a o
 root_form a (suc n) g o e = ap (λ (k : ℕ). constrained_form a k o) (omega arith)
-
--- a number that 64 bits hold is within an i128
-fits_small : (i : ℕ) → i < 2 ^ 64 → fits_i128 (pos i) ≡ true
-fits_small i h = le-leb i (2 ^ 127 - 1) (omega arith)
-
-not_negative : (a : Settings) (i p : ℕ) (b : Bits) → i < 2 ^ 64 → IsSemiConstrainedWhole a i p b → IsNumber a at_least_zero (pos i) p b
-not_negative a i p b h x = record {
-  within = ap (λ (c : Bool). c && true) (le-leb 0 i (omega arith));
-  spelled = (fits_small i h, subst (λ (n : ℕ). IsSemiConstrainedWhole a n p b) {x = i} {y = i - 0} (omega arith) x);
-}
-
-natural : (a : Settings) (i p : ℕ) (b : Bits) → IsNumber a at_least_zero (pos i) p b → IsSemiConstrainedWhole a i p b
-natural a i p b x = subst (λ (n : ℕ). IsSemiConstrainedWhole a n p b) {x = i - 0} {y = i} (omega arith) x.spelled.1
-
-small_took : (a : Settings) (i : ℕ) {m t : Bits} → i < 2 ^ 64 → Took (small_form a i) m t → Took (Small a i) m t
-small_took a i {m} {t} h b = go (either_took b)
-  where
-    go : Took (Then (exactly (false ∷ [])) (Field 6 i)) m t ⊎ Took (Then (exactly (true ∷ [])) (IsSemiConstrainedWhole a i)) m t → Took (Small a i) m t
-    go (inl d) = record { front = d.front; joins = d.joins; spelled = inl d.spelled }
-    go (inr d) =
-        let q = then_took d in
-        let w : Took (Then (exactly (true ∷ [])) (IsNumber a at_least_zero (pos i))) m t = took_then q.1 (took_map (λ p c x. not_negative a i p c h x) q.2) in
-        record { front = w.front; joins = w.joins; spelled = inr w.spelled }
-
-took_small : (a : Settings) (i : ℕ) {m t : Bits} → Took (Small a i) m t → Took (small_form a i) m t
-took_small a i {m} {t} b = go (either_took b)
-  where
-    go : Took (Then (exactly (false ∷ [])) (Field 6 i)) m t ⊎ Took (Then (exactly (true ∷ [])) (IsNumber a at_least_zero (pos i))) m t → Took (small_form a i) m t
-    go (inl d) = record { front = d.front; joins = d.joins; spelled = inl d.spelled }
-    go (inr d) =
-        let q = then_took d in
-        let w : Took (Then (exactly (true ∷ [])) (IsSemiConstrainedWhole a i)) m t = took_then q.1 (took_map (λ p c x. natural a i p c x) q.2) in
-        record { front = w.front; joins = w.joins; spelled = inr w.spelled }
 
 -- a place is read in one way
 place_agree : (a : Settings) (n : ℕ) (b : Bool) (i j : ℕ) → Agree (i ≡ j) (place_form a n b i) (place_form a n b j)

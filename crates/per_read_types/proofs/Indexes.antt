@@ -9,7 +9,7 @@ use Rattle.per_core.proofs.Took.{took_then, took_map}
 use Rattle.per_read_types.specs.Choices.{IsKnown, IsOfIndex, IsUnknown, index_form}
 use Rattle.per_read_types.specs.Enumerations.{IsOfPlace, count_of, item_form, place_form, side_of}
 use Rattle.per_read.specs.Kinds.{IsTested, NoneIn}
-use Rattle.per_read_types.specs.SmallNumbers.{OfIndex}
+use Rattle.per_read.specs.SmallNumbers.{OfIndex}
 use Rattle.per_read.specs.declared.error.DecodeErrorKind.{DecodeErrorKind}
 use Rattle.per_read.specs.declared.error.DecodeErrorKind.TheVariants.{ChoiceIndexExceedsPlatformWidth, ChoiceIndexNotFound, UnexpectedEmptyInput}
 use Rattle.per_read_types.proofs.Enumerations.{item_on, no_extension as no_item_bit, no_item, no_place as no_item_place}

@@ -1,17 +1,7 @@
 pub mod Enumerations
 pub mod Fits
-pub mod InPlace
 pub mod Indexes
 pub mod Marks
 pub mod Moments
 pub mod Within
-pub mod Additions
-pub mod Filled
-pub mod Opened
-pub mod Records
-pub mod Fronts
-pub mod Pieces
-pub mod Maps
-pub mod Skipped
-pub mod Turns
 pub mod DatesRead

@@ -9,7 +9,7 @@ use Rattle.per_core.specs.Spellings.{Settings, Spelling, Then}
 use Rattle.per_core.specs.Took.{Took}
 use Rattle.per_read_types.specs.Enumerations.{IsPlace, count_of, side_of}
 use Rattle.per_read.specs.Kinds.{IsTested}
-use Rattle.per_read_types.specs.SmallNumbers.{empty_form}
+use Rattle.per_read.specs.SmallNumbers.{empty_form}
 use Rattle.per_read.specs.declared.error.DecodeErrorKind.{DecodeErrorKind}
 use Rattle.per_read.specs.declared.error.DecodeErrorKind.TheVariants.{ChoiceIndexExceedsPlatformWidth}
 use Rattle.per_read.specs.declared.error.DecodeErrorKind.TheVariants.{ChoiceIndexNotFound, UnexpectedEmptyInput}

@@ -6,7 +6,7 @@ use Rattle.per_core.specs.Basic.{As, ExtensionBit, Item, constrained_form}
 use Rattle.per_core.specs.Spellings.{Settings, Spelling, Then}
 use Rattle.per_core.specs.Took.{Took}
 use Rattle.per_read.specs.Kinds.{IsTested}
-use Rattle.per_read_types.specs.SmallNumbers.{IsOfSmall, empty_form, small_form}
+use Rattle.per_read.specs.SmallNumbers.{IsOfSmall, empty_form, small_form}
 use Rattle.per_read.specs.declared.error.DecodeErrorKind.{DecodeErrorKind}
 use Rattle.per_read.specs.declared.error.DecodeErrorKind.TheVariants.{EnumerationIndexNotFound, IntegerOverflow}
 use Rattle.per_read.specs.declared.error.DecodeErrorKind.TheVariants.{UnexpectedEmptyInput}

@@ -2,13 +2,5 @@ pub mod Choices
 pub mod Enumerations
 pub mod Integers
 pub mod Times
-pub mod SmallNumbers
-pub mod Additions
-pub mod Bitmaps
-pub mod Ends
-pub mod Flags
-pub mod OpenTypes
-pub mod Reasons
-pub mod Stands
 pub mod Dates
 pub mod Years

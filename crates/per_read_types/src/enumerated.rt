@@ -4,12 +4,12 @@ ghost use Rattle.std.specs.Prelude.{◌≡◌, IfErr, IfOk};
 ghost use Rattle.per_core.specs.Basic.{ExtensionBit, constrained_form};
 ghost use Rattle.per_read_types.specs.Enumerations.{IsMissing, IsOfItem, IsOfPlace, IsThere, count_of, item_form};
 ghost use Rattle.per_read_types.specs.Enumerations.{place_form};
-ghost use Rattle.per_read_types.specs.SmallNumbers.{OfIndex};
+ghost use Rattle.per_read.specs.SmallNumbers.{OfIndex};
 ghost use Rattle.per_read.specs.Takes.{Takes, itself, short, telling, tested};
 
-use crate::small_numbers::take_small;
 use per_read::Reader;
 use per_read::error::DecodeErrorKind;
+use per_read::small_numbers::take_small;
 use rasn_schema::enumerated::Enumerated;
 
 /// Takes an item of an ENUMERATED (X.691 14): the extension bit, and the place in the list that it tells.

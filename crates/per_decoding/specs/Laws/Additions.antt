@@ -12,8 +12,8 @@ use Rattle.per_read.specs.declared.error.DecodeErrorKind.{DecodeErrorKind}
 use Rattle.per_read.specs.declared.error.DecodeErrorKind.TheVariants.{AlreadyFailed, OutOfMemory}
 use Rattle.per_bits.specs.declared.ended.Surplus.{Surplus}
 use Rattle.per_bits.specs.declared.ended.Surplus.TheVariants.{Missing, NonzeroOctet, NonzeroSpareBits, ExtraOctets}
-use Rattle.per_read_types.specs.Ends.{EndsAs, IsOfEnd, kind_of}
-use Rattle.per_read_types.proofs.Opened.{open_took, took_open}
+use Rattle.per_read.specs.Ends.{EndsAs, IsOfEnd, kind_of}
+use Rattle.per_read.proofs.Opened.{open_took, took_open}
 use Rattle.per_decoding.specs.Additions.{Adds, ClosesAddition, OpensAddition, OutsideAddition, with_outside_addition}
 use Rattle.per_decoding.specs.Faults.{Fault, IsInBits, IsInNext, IsInOpen, in_contents, at_their_end, in_open, IsOfNext}
 use Rattle.per_decoding.specs.Faults.{Misadds, UnendedAddition, refusal}

@@ -18,8 +18,8 @@ use Rattle.per_read.specs.Kinds.{NoneIn}
 use Rattle.per_read.specs.declared.error.DecodeError.{DecodeError}
 use Rattle.per_read.specs.declared.error.DecodeErrorKind.{DecodeErrorKind}
 use Rattle.per_read.specs.declared.error.DecodeErrorKind.TheVariants.{OutOfMemory}
-use Rattle.per_read_types.specs.Ends.{EndsAs, IsOfEnd}
-use Rattle.per_read_types.proofs.Opened.{no_open, open_took, took_open}
+use Rattle.per_read.specs.Ends.{EndsAs, IsOfEnd}
+use Rattle.per_read.proofs.Opened.{no_open, open_took, took_open}
 use Rattle.per_decoding.specs.Laws.Additions.{new_why}
 use Rattle.per_decoding.specs.Additions.{OpensContents, OutsideAddition, with_outside_addition}
 use Rattle.per_decoding.specs.Choices.{OutsideChoice, ClosesChoice, EndsFrom, OpensChoice, StandsFrom, UnendedChoice}

@@ -19,7 +19,7 @@ use Rattle.per_core.proofs.Took.{took_then, then_took, took_map, took_nothing, n
 use Rattle.per_read.proofs.Fields.{either_took, when_took}
 use Rattle.per_read.specs.declared.error.DecodeError.{DecodeError}
 use Rattle.per_read.specs.declared.error.DecodeErrorKind.TheVariants.{OutOfMemory}
-use Rattle.per_read_types.proofs.Records.{extended_took, plain_took}
+use Rattle.per_read.proofs.Records.{extended_took, plain_took}
 use Rattle.per_decoding.specs.Additions.{Shown}
 use Rattle.per_decoding.specs.Faults.{Fault, IsInTail, in_root, behind_root, IsOfEnding, unread, unskipped, Unended}
 use Rattle.per_decoding.specs.Faults.{refusal}

@@ -21,8 +21,8 @@ use Rattle.per_read.specs.Kinds.{IsTested, NoneIn}
 use Rattle.per_read.specs.declared.error.DecodeError.{DecodeError}
 use Rattle.per_read.specs.declared.error.DecodeErrorKind.{DecodeErrorKind}
 use Rattle.per_read.specs.declared.error.DecodeErrorKind.TheVariants.{AlreadyFailed}
-use Rattle.per_read_types.specs.Additions.{Addition, NextFlag, rule_of}
-use Rattle.per_read_types.proofs.Additions.{additions_took, took_additions, took_unknown}
+use Rattle.per_read.specs.Additions.{Addition, NextFlag, rule_of}
+use Rattle.per_read.proofs.Additions.{additions_took, took_additions, took_unknown}
 use Rattle.per_decoding.specs.Additions.{Adds, Asks, Shown}
 use Rattle.per_decoding.specs.Faults.{IsInTail, in_bitmap, behind_bitmap, IsInAdditions, in_addition, lacking, further}
 use Rattle.per_decoding.specs.Faults.{in_unknown, IsInNext, IsInOpen, IsOfLacking, out_of_turn, not_expected, at_bitmap}

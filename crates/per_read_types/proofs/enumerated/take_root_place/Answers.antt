@@ -3,7 +3,7 @@ use Rattle.per_read.specs.State.{settings_of}
 use Rattle.per_read.proofs.Calls.{answers, passes_on}
 use Rattle.per_read_types.proofs.Enumerations.{root_form}
 use Rattle.per_read.proofs.Forms.{as_form, no_form}
-use Rattle.per_read_types.proofs.InPlace.{as_index}
+use Rattle.per_read.proofs.InPlace.{as_index}
 use Rattle.per_read_types.proofs.enumerated.take_root_place.Goals as goal
 
 pub returns-in_err-code : goal.returns-in_err-code

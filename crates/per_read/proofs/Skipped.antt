@@ -1,0 +1,41 @@
+-- Unknown additions are skipped one after another (X.691 19.9).
+use Rattle.std.proofs.Common.{◌≡◌, sym, subst, List, [], ◌∷◌, Bool, true, false}
+use Rattle.rasn_types.specs.Bits.{Bits}
+use Rattle.per_core.specs.Basic.{Unknown}
+use Rattle.per_core.specs.Spellings.{Settings}
+use Rattle.per_core.specs.Took.{Took}
+use Rattle.per_core.proofs.Took.{then_took, took_agree, took_nothing, took_then}
+use Rattle.per_core.proofs.Unique.{open_agree}
+use Rattle.per_read.specs.Kinds.{NoneIn}
+use Rattle.per_read.specs.Bitmaps.{skipped_unknown}
+use Rattle.per_read.specs.OpenTypes.{skipped_open}
+
+-- The additions from `start` on are those that were skipped and those from here.
+pub record SkippedSoFar (a : Settings) (flags left : List Bool) (start here : Bits) : Type 0 where
+  pub on : (t : Bits) → Took (Unknown a left) here t → Took (Unknown a flags) start t
+  pub back : (t : Bits) → Took (Unknown a flags) start t → Took (Unknown a left) here t
+
+pub skip_begins : (a : Settings) (flags : List Bool) (s : Bits) → SkippedSoFar a flags flags s s
+skip_begins a flags s = record { on = λ t b. b; back = λ t b. b }
+
+module _ {a : Settings} {flags left : List Bool} {start here : Bits} (h : SkippedSoFar a flags left start here) where
+  pub skip_ends : left ≡ [] → Took (Unknown a flags) start here
+  skip_ends e = h.on here (subst (λ z. Took (Unknown a z) here here) (sym e) (took_nothing here))
+
+module _ {a : Settings} {flags left rest : List Bool} {start here : Bits} (h : SkippedSoFar a flags left start here) where
+  pub skip_absent : left ≡ false ∷ rest → SkippedSoFar a flags rest start here
+  skip_absent e = record {
+    on = λ t b. h.on t (subst (λ z. Took (Unknown a z) here t) (sym e) b);
+    back = λ t b. subst (λ z. Took (Unknown a z) here t) e (h.back t b);
+  }
+
+  pub skip_present : {m : Bits} → left ≡ true ∷ rest → Took (skipped_open a tt) here m → SkippedSoFar a flags rest start m
+  skip_present {m} e o = record {
+    on = λ t b. h.on t (subst (λ z. Took (Unknown a z) here t) (sym e) (took_then o b));
+    back = λ t b.
+        let q = then_took (subst (λ z. Took (Unknown a z) here t) e (h.back t b)) in
+        subst (λ z. Took (Unknown a rest) z t) (took_agree (open_agree {P = Unit {0}} a (λ os. Unit {0}) (λ os. Unit {0}) (λ os x y. tt)) q.1 o).1 q.2;
+  }
+
+  pub none_skipped : left ≡ true ∷ rest → NoneIn (skipped_open a) here → NoneIn (skipped_unknown flags a) start
+  none_skipped e none u t b = let q = then_took (subst (λ z. Took (Unknown a z) here t) e (h.back t b)) in none tt q.0 q.1

@@ -1,0 +1,62 @@
+use Rattle.std.proofs.Common.{◌≡◌, ◌∙◌, ◌+◌, ◌*◌, ◌<◌, refl, ap, arith, length, length-append, subst, ℕ}
+use Rattle.per_core.specs.Counts.{octet_items}
+use Rattle.per_core.proofs.Took.{took_map}
+use Rattle.per_read.proofs.Calls.{answers, of_short, passes_on}
+use Rattle.per_read.proofs.Parts.{items_begin, items_end, items_go_on, no_items_length, no_items_short, small_length}
+use Rattle.per_read.proofs.Opened.{no_open}
+use Rattle.per_read.proofs.Pieces.{Anything, skipped}
+use Rattle.per_read.proofs.Fronts.{no_front}
+use Rattle.per_read.proofs.open_types.skip_open.Goals as goal
+
+pub loop-length-init : goal.loop-length-init
+loop-length-init c = (items_begin Anything _ 8 _ tt, refl)
+
+pub returns-in_err-length : goal.returns-in_err-length
+returns-in_err-length c =
+    let h = c.loop-length.invariant in
+    let t = c.in_err-length.ensures in
+    passes_on _ _ c.from_residual.ensures.1 (t.kept ∙ h.1) (t.err.0, λ u. no_open _ _ (no_items_length h.0 octet_items (rw h.1 at t.err.1)))
+
+pub overflow_cast-more : goal.overflow_cast-more
+overflow_cast-more c = omega (arith, (small_length _ c.in_ok-length.ensures.ok).0, c.count-more.ensures)
+
+pub returns-in-None : goal.returns-in-None
+returns-in-None c =
+    let h = c.loop-length.invariant in
+    let t = c.in_ok-length.ensures in
+    record {
+      ok = tt;
+      err = (tt, λ u. no_open _ _ (no_items_short h.0 octet_items c.in_ok-length.length _ (rw h.1 at t.ok) (λ few. absurd (omega (arith, few, c.in-None.ensures, c.count-more.ensures)))));
+      kept = t.kept ∙ h.1;
+    }
+
+pub returns-in_err-take_front : goal.returns-in_err-take_front
+returns-in_err-take_front c =
+    let h = c.loop-length.invariant in
+    let t = c.in_ok-length.ensures in
+    let b = c.in_err-take_front.ensures in
+    let m = c.take_unconstrained_length.new.self.bits in
+    passes_on _ _ c.from_residual-in_err-take_front.ensures.1 (b.kept ∙ t.kept ∙ h.1)
+    (of_short _ b.err.0, λ u. no_open _ _ (no_items_short h.0 octet_items c.in_ok-length.length _ (rw h.1 at t.ok) (λ few. subst (λ (n : ℕ). length m < 8 * n) c.count-more.ensures (no_front b.err.1))))
+
+pub returns-in-Last : goal.returns-in-Last
+returns-in-Last c =
+    let h = c.loop-length.invariant in
+    let t = c.in_ok-length.ensures in
+    let b = c.in_ok-take_front.ensures in
+    let e : c.in-Some.all ≡ c.loop-length.count + c.count-more.result = omega (arith, c.in-Some.ensures) in
+    let all = items_end h.0 octet_items c.in-Some.all (rw h.1 at t.ok) c.in-Last.is c.count-more.ensures e (omega (arith, c.in-Some.ensures)) (skipped _ _ b.ok) in
+    answers _ (b.kept ∙ t.kept ∙ h.1) (took_map (λ p x y. record { octets = all.codes; are = tt; spelled = y }) all.took)
+
+pub loop-length-smaller : goal.loop-length-smaller
+loop-length-smaller c =
+    let r = c.in_ok-take_front.ensures.ok in
+    omega (arith, (small_length _ c.in_ok-length.ensures.ok).1, ap length r.joins, length-append r.front c.take_front.new.self.bits)
+
+pub loop-length-preserved : goal.loop-length-preserved
+loop-length-preserved c =
+    let h = c.loop-length.invariant in
+    let t = c.in_ok-length.ensures in
+    let b = c.in_ok-take_front.ensures in
+    let e : c.in-Some.all ≡ c.loop-length.count + c.count-more.result = omega (arith, c.in-Some.ensures) in
+    (rw e (items_go_on h.0 (rw h.1 at t.ok) c.in_default.is c.count-more.ensures (skipped _ _ b.ok)), b.kept ∙ t.kept ∙ h.1)
