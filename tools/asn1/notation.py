@@ -33,9 +33,13 @@ def placed(module, line):
         raise
 
 
-def plain(text):
-    """Returns the text with what asn1ct's tokens don't take put otherwise: characters that aren't ASCII, and a sign that
-    stands apart from its number (X.680 12.1 allows both, in comments and between lexical items)."""
+def plain(name, text):
+    """Returns the text of a module with what asn1ct's tokens don't take put otherwise: characters that aren't ASCII, and a
+    sign that stands apart from its number (X.680 12.1 allows both, in comments and between lexical items)."""
+    for line, found in enumerate(without_comments(text).split("\n"), 1):
+        if re.search(r'"[^"]*[^\x00-\x7f]', found):
+            with placed(name, line):
+                raise Refused("a text with a character that isn't ASCII isn't taken")
     text = text.replace("\u00a0", " ").replace("\t", "    ")
     text = "".join(it if ord(it) < 128 else "?" for it in text)
     return re.sub(r"([(.{,|]\s*)-\s+(\d)", r"\1-\2", text)
@@ -63,7 +67,7 @@ def read_modules(paths):
     for path in paths:
         try:
             with open(path, encoding="utf-8", errors="replace") as file:
-                modules = [*modules_of(plain(file.read()))]
+                modules = [*modules_of(file.read())]
         except OSError as error:
             raise Refused(f"{path} can't be read: {error.strerror}") from error
         if not modules:
@@ -71,7 +75,7 @@ def read_modules(paths):
         for name, text in modules:
             if name in found:
                 raise Refused(f"the module {name} stands in {files[name]} and in {path}")
-            found[name], files[name] = text, path
+            found[name], files[name] = plain(name, text), path
     return found
 
 
