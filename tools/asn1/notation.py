@@ -8,6 +8,7 @@ import subprocess
 
 HERE = os.path.dirname(os.path.realpath(__file__))
 HEADER = re.compile(r"^\s*([A-Z][A-Za-z0-9-]*)\s*(?:\{[^{}]*\}\s*)?DEFINITIONS\b", re.M)
+IMPORTS = re.compile(r"\bIMPORTS\b([^;]*);")
 # What front.escript ends with where there is no asn1ct.
 NO_COMPILER = 3
 
@@ -77,6 +78,18 @@ def read_modules(paths):
                 raise Refused(f"the module {name} stands in {files[name]} and in {path}")
             found[name], files[name] = plain(name, text), path
     return found
+
+
+def needed(modules, wanted):
+    """Returns of the modules those that are wanted, with those from which they import, one after another."""
+    found, left = set(), [*wanted]
+    while left:
+        name = left.pop()
+        if name in modules and name not in found:
+            found.add(name)
+            imports = IMPORTS.search(without_comments(modules[name]))
+            left += re.findall(r"\bFROM\s+([A-Z][A-Za-z0-9-]*)", imports[1]) if imports else []
+    return {name: text for name, text in modules.items() if name in found}
 
 
 def parsed(modules, folder):
