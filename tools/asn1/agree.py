@@ -46,6 +46,15 @@ def presence_of(prop):
     return "optional" if prop == "OPTIONAL" else "default" if kind(prop) == "DEFAULT" else "required"
 
 
+def default_of(default):
+    """Returns a default as asn1ct has it."""
+    if isinstance(default, bool):
+        return str(default).lower()
+    if isinstance(default, bytes):
+        return {"b": default.hex().upper()}
+    return [*default] if isinstance(default, tuple) else default
+
+
 class Agreement:
     """Differences, each a line, and how many parts were compared."""
 
@@ -112,8 +121,7 @@ class Agreement:
         presence = presence_of(node["prop"])
         self.say(at, "the presence", part.presence, presence)
         if presence == "default":
-            default = str(part.default).lower() if isinstance(part.default, bool) else part.default
-            self.say(at, "the default", default, parts(node["prop"])[0])
+            self.say(at, "the default", default_of(part.default), parts(node["prop"])[0])
         self.use(part.use, node["typespec"], at)
 
 

@@ -25,6 +25,18 @@ class Limits:
     def __bool__(self):
         return self != Limits()
 
+    def hold(self, value):
+        """Returns whether they allow a number, octets, code points or elements."""
+        if self.value and not allowed(self.value, value) or self.size and not allowed(self.size, len(value)):
+            return False
+        return self.alphabet is None or set(value) <= set(self.alphabet)
+
+
+def allowed(bounds, number):
+    """Returns whether bounds allow a number; those with a marker allow any."""
+    low, high, marked = bounds
+    return marked or (low is None or low <= number) and (high is None or number <= high)
+
 
 def merged(ranges):
     """Returns the ranges in ascending order, none beside another."""

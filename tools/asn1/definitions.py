@@ -31,6 +31,14 @@ class Definitions:
     def find(self, module, name):
         return self.defined[self.home(module, name), name]
 
+    def value(self, node, names=()):
+        """Returns a value behind the names that stand for it, or the first of these names that does."""
+        while kind(node) == "Externalvaluereference":
+            if node["value"] in names:
+                return node["value"]
+            node = self.find(node["module"], node["value"])["value"]
+        return node
+
     def number(self, node, given):
         """Returns the number that a value is, or None for MIN and MAX. What is `given` stands for the names of parameters."""
         if isinstance(node, int):
@@ -40,18 +48,27 @@ class Definitions:
         if kind(node) == "Externalvaluereference":
             if node["value"] in given:
                 return self.number(*given[node["value"]][::2])
-            return self.number(self.find(node["module"], node["value"])["value"], {})
+            return self.number(self.value(node), {})
         if isinstance(node, list) and len(node) == 1:
             return node[0]
         raise Refused(f"{node} is no number")
 
     def text(self, node):
         """Returns the code points of a string."""
-        if isinstance(node, list) and all(isinstance(it, int) for it in node):
-            return node
-        if kind(node) == "Externalvaluereference":
-            return self.text(self.find(node["module"], node["value"])["value"])
+        found = self.value(node)
+        if isinstance(found, list) and all(isinstance(it, int) for it in found):
+            return found
         raise Refused(f"{node} is no string")
+
+    def octets(self, node):
+        """Returns the octets of a string of digits, filled up with bits that are 0 (X.680 23)."""
+        found = self.value(node)
+        if kind(found) not in ("bstring", "hstring"):
+            raise Refused(f"{node} is no string of octets")
+        digits = "".join(map(chr, parts(found)[0]))
+        bits = digits if kind(found) == "bstring" else "".join(f"{int(digit, 16):04b}" for digit in digits)
+        bits += "0" * (-len(bits) % 8)
+        return bytes(int(bits[at : at + 8], 2) for at in range(0, len(bits), 8))
 
     def note_set(self, node, module, given):
         """Keeps the name of an object set that is given for a parameter."""

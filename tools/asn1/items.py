@@ -3,9 +3,8 @@ from dataclasses import dataclass, field
 
 from names import TAKEN, shorter, snake, spec_word, upper_camel
 from notation import Refused, placed
-from resolve import Type, Use
+from resolve import TEXTS, Type, Use
 from spelling import definition
-from words import holder
 
 # Lines of a list on one side of its marker.
 MOST = 48
@@ -128,12 +127,18 @@ class Items:
                     self.need_default(part)
         item.depth = self.depth_of(item)
 
-    def need_default(self, part):
-        """Refuses a default that a list can't say."""
-        of = part.use.type
-        is_number = of.kind == "INTEGER" and holder(of.limits).startswith("u")
-        if of.kind not in ("BOOLEAN", "ENUMERATED") and not is_number:
+    @staticmethod
+    def need_default(part):
+        """Refuses a default that a list can't say, or that isn't of its type."""
+        of, default = part.use.type, part.default
+        is_text = of.kind in TEXTS and of.kind != "BMPString"
+        is_empty = of.kind == "SEQUENCE OF" and not default
+        if of.kind not in ("BOOLEAN", "ENUMERATED", "INTEGER", "OCTET STRING") and not is_text and not is_empty:
             raise Refused(f"{part.name} has a DEFAULT of {of.kind}, which a list can't say")
+        if is_text and not all(32 <= code < 127 and chr(code) not in '"\\' for code in default):
+            raise Refused(f"{part.name} has a DEFAULT with a character that a list can't say")
+        if not of.limits.hold(default):
+            raise Refused(f"{part.name} has a DEFAULT that its constraints don't allow")
 
     def need(self, item, use, path, line):
         """Gives the type of a use its item, where it has one."""

@@ -7,7 +7,7 @@ for gen if impl in let loop macro match mod move mut override priv pub ref retur
 true try type typeof unsafe unsized use virtual where while yield union ghost ensures requires prove old new now
 result rt""".split())
 ANTT = frozenset("""data record deriving module where use mod pub package open as unfoldable abbrev axiom unfold
-unfolding ruleset mutual infix infixl infixr elim let in do rw simp search grind grw cc omega hlevel assumption
+unfolding ruleset mutual infix infixl infixr elim let in do codes negsuc rw simp search grind grw cc omega hlevel assumption
 first_of cap yes no refl tt absurd x n zero suc pos max length sum map fst snd""".split())
 # The words that a page or a schema names itself.
 WORDS = frozenset("""automatic automatic_from own_tags extensible_own_tags extensible_automatic boolean null integer bit_string octet_string enumerated
@@ -17,14 +17,14 @@ generalized_time teletex_string graphic_string general_string open_type optional
 from_minus up_to up_to_minus size_from size_up_to extensible of_characters from_to u8 u16 u32 u64 i8 i16 i32 i64
 i128 big universal simple chosen chosen_behind whole truth nothing item root added octets bits characters code
 day alternative fields_in fields_of parts_of variants_listed all_items extensible_items slot_of slot_levels deeper_of
-record_value to minus size to_minus components contents""".split())
+record_value list_value to minus size to_minus components contents""".split())
 # The names that a page's own text has from the library, and from Rust.
 TAKEN = """Alternatives AsnType Bounded Bounds ByKind ChoiceKind Class CodedAlternatives Components Constrained
 Constraint Constraints Constructed Decode Decoder Encode Encoder EnumeratedKind Extensible
 Field FieldLists Fields Identifier ItemCounts Items Limits OfKind Place Presence Record Tag TagTree VariantLists Variants
 Any BitString OctetString Integer Ia5String VisibleString PrintableString NumericString BmpString Utf8String
 TeletexString GraphicString GeneralString ObjectIdentifier UtcTime GeneralizedTime Date SetOf SetKind
-SetComponents SetRecord Result Ok Err Vec String Box Drop Clone Copy Debug Eq PartialEq Self""".split()
+SetComponents SetRecord EmptyList Item Octets Text Utf8Text Result Ok Err Vec String Box Drop Clone Copy Debug Eq PartialEq Self""".split()
 NOT_ALONE = ("Self", "None", "Some", "Ok", "Err", "Vec", "Option", "Box")
 # The toolchain makes names of files of those of types.
 LONGEST = 56

@@ -8,6 +8,7 @@ import subprocess
 
 HERE = os.path.dirname(os.path.realpath(__file__))
 HEADER = re.compile(r"^\s*([A-Z][A-Za-z0-9-]*)\s*(?:\{[^{}]*\}\s*)?DEFINITIONS\b", re.M)
+IMPORTS = re.compile(r"\bIMPORTS\b([^;]*);")
 # What front.escript ends with where there is no asn1ct.
 NO_COMPILER = 3
 
@@ -33,9 +34,13 @@ def placed(module, line):
         raise
 
 
-def plain(text):
-    """Returns the text with what asn1ct's tokens don't take put otherwise: characters that aren't ASCII, and a sign that
-    stands apart from its number (X.680 12.1 allows both, in comments and between lexical items)."""
+def plain(name, text):
+    """Returns the text of a module with what asn1ct's tokens don't take put otherwise: characters that aren't ASCII, and a
+    sign that stands apart from its number (X.680 12.1 allows both, in comments and between lexical items)."""
+    for line, found in enumerate(without_comments(text).split("\n"), 1):
+        if re.search(r'"[^"]*[^\x00-\x7f]', found):
+            with placed(name, line):
+                raise Refused("a text with a character that isn't ASCII isn't taken")
     text = text.replace("\u00a0", " ").replace("\t", "    ")
     text = "".join(it if ord(it) < 128 else "?" for it in text)
     return re.sub(r"([(.{,|]\s*)-\s+(\d)", r"\1-\2", text)
@@ -63,7 +68,7 @@ def read_modules(paths):
     for path in paths:
         try:
             with open(path, encoding="utf-8", errors="replace") as file:
-                modules = [*modules_of(plain(file.read()))]
+                modules = [*modules_of(file.read())]
         except OSError as error:
             raise Refused(f"{path} can't be read: {error.strerror}") from error
         if not modules:
@@ -71,8 +76,20 @@ def read_modules(paths):
         for name, text in modules:
             if name in found:
                 raise Refused(f"the module {name} stands in {files[name]} and in {path}")
-            found[name], files[name] = text, path
+            found[name], files[name] = plain(name, text), path
     return found
+
+
+def needed(modules, wanted):
+    """Returns of the modules those that are wanted, with those from which they import, one after another."""
+    found, left = set(), [*wanted]
+    while left:
+        name = left.pop()
+        if name in modules and name not in found:
+            found.add(name)
+            imports = IMPORTS.search(without_comments(modules[name]))
+            left += re.findall(r"\bFROM\s+([A-Z][A-Za-z0-9-]*)", imports[1]) if imports else []
+    return {name: text for name, text in modules.items() if name in found}
 
 
 def parsed(modules, folder):

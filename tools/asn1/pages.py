@@ -5,6 +5,7 @@ import textwrap
 import templates
 from constraints import LETTERS
 from names import constant, grouped, snake
+from resolve import TEXTS
 from templates import filled
 from words import COLUMNS, Imports, fitted, holder, limit_words
 
@@ -183,7 +184,14 @@ class Page:
         if of.kind == "BOOLEAN":
             return "true" if part.default else "false"
         if of.kind == "INTEGER":
-            return f"{part.default}_{holder(of.limits)}"
+            return f"{grouped(part.default)}_{holder(of.limits).replace('Integer', 'i128')}"
+        if of.kind == "OCTET STRING":
+            return f"Octets([{', '.join(map(str, part.default))}])"
+        if of.kind in TEXTS:
+            text = f"\"{''.join(map(chr, part.default))}\""
+            return f"Utf8Text({text})" if of.kind == "UTF8String" else f"Text(*b{text})"
+        if of.kind == "SEQUENCE OF":
+            return "EmptyList"
         owner = self.items.owner(part.use)
         return f"Item({self.brought(owner, owner.rust)}::{owner.variants()[part.default]})"
 

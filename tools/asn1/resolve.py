@@ -9,6 +9,8 @@ from notation import Refused, kind, parts, placed
 
 PLAIN = {"BOOLEAN", "NULL", "OBJECT IDENTIFIER", "UTCTime", "GeneralizedTime", "UTF8String", "TeletexString", "GraphicString",
          "GeneralString", "DATE", "OCTET STRING", *LETTERS}
+# Those whose values are texts.
+TEXTS = ("UTF8String", *LETTERS)
 OTHER_NAMES = {"ISO646String": "VisibleString", "T61String": "TeletexString"}
 MOST_NUMBER = 1 << 31
 
@@ -216,15 +218,15 @@ class Modules(Constraints):
         return part
 
     def default(self, node, of):
+        """Returns a default: a bool, a number, an item's name, octets, or code points; of other types what was parsed."""
+        found = self.value(node, of.names)
         if of.kind == "BOOLEAN":
-            return node == "true"
-        if of.kind == "ENUMERATED":
-            return node["value"] if kind(node) == "Externalvaluereference" else node
+            return found == "true"
         if of.kind == "INTEGER":
-            if kind(node) == "Externalvaluereference" and node["value"] in of.names:
-                return of.names[node["value"]]
-            return self.number(node, {})
-        return node
+            return of.names[found] if isinstance(found, str) and found in of.names else self.number(found, {})
+        if of.kind == "OCTET STRING":
+            return self.octets(found)
+        return tuple(self.text(found)) if of.kind in TEXTS else found
 
     def numbered(self, root, added, module, path):
         """Gives tags: by place where none is written (X.680 25.7), else those that are."""

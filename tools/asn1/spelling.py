@@ -70,6 +70,17 @@ def spelled(use, indent=""):
     return of.kind + named(of.names) + constraint(of.limits, of.kind)
 
 
+def value(default):
+    """Spells a default."""
+    if isinstance(default, bool):
+        return str(default).upper()
+    if isinstance(default, bytes):
+        return f"'{default.hex().upper()}'H"
+    if isinstance(default, tuple):
+        return f'"{"".join(map(chr, default))}"'
+    return "{}" if default == [] else str(default)
+
+
 def line_of(part, indent):
     """Spells a component, an alternative or a group."""
     if part.group is not None:
@@ -79,7 +90,7 @@ def line_of(part, indent):
     if part.presence == "optional":
         return f"{text} OPTIONAL"
     if part.presence == "default":
-        return f"{text} DEFAULT {str(part.default).upper() if isinstance(part.default, bool) else part.default}"
+        return f"{text} DEFAULT {value(part.default)}"
     return text
 
 

@@ -2,6 +2,7 @@
 import re
 
 from constraints import LETTERS
+from resolve import TEXTS
 
 BELOW = "rasn_below.specs."
 PAGE = "Page"
@@ -199,8 +200,18 @@ class Schemas:
             imports.prelude("true" if value else "false")
             return f"({imports.word('truth')} {'true' if value else 'false'})"
         if of.kind == "INTEGER":
-            imports.prelude("pos")
-            return f"({imports.word('whole')} (pos {value}))"
+            imports.prelude("pos" if value >= 0 else "negsuc")
+            return f"({imports.word('whole')} ({f'pos {value}' if value >= 0 else f'negsuc {-value - 1}'}))"
+        if of.kind == "OCTET STRING":
+            imports.prelude("[]", *["◌∷◌"] * bool(value))
+            return f"({imports.word('octets')} {bracketed(' ∷ '.join([*map(str, value), '[]']))})"
+        if of.kind in TEXTS:
+            imports.prelude("codes")
+            word = imports.word("octets" if of.kind == "UTF8String" else "characters")
+            return f"({word} (codes \"{''.join(map(chr, value))}\"))"
+        if of.kind == "SEQUENCE OF":
+            imports.prelude("[]")
+            return f"({imports.word('list_value')} [])"
         side, items = ("root", of.items) if value in of.items else ("added", of.added_items)
         return f"({imports.word('item')} {imports.word(side)} {items.index(value)})"
 

@@ -1,6 +1,6 @@
 //! The messages of `rows/protocols/cam.tsv`, in the UNALIGNED variant.
 
-use crate::expected::{bits, expect_coded, expect_written};
+use crate::expected::Trial;
 use cam::basic_container::BasicContainer;
 use cam::basic_vehicle_container_low_frequency::BasicVehicleContainerLowFrequency;
 use cam::cam::Cam;
@@ -36,10 +36,7 @@ use its_container::vertical_acceleration::VerticalAcceleration;
 use its_container::yaw_rate::YawRate;
 use its_container::yaw_rate_confidence::YawRateConfidence;
 use rasn_below::types::{Codec, Integer};
-use rasn_per::uper;
-use std::alloc::Global;
 use std::process::Abort;
-use std::test::Fail;
 
 const HIGH_FREQUENCY_ALL: &[u8] = &[
     0x02, 0x02, 0xde, 0xad, 0xbe, 0xef, 0xff, 0xff, 0x00, 0x59, 0xf3, 0x5b, 0x9d, 0x0e, 0x2d, 0xc1,
@@ -96,21 +93,14 @@ const ROAD_SIDE_UNIT_ZONES: &[u8] = &[
     0x20, 0x1d, 0x69, 0x3a, 0x40, 0x18, 0x10, 0x1f, 0x40,
 ];
 
-/// Octets spell a message, which is written as they are.
-fn expect_again(rt: &impl Abort, alloc: Global, octets: &[u8]) {
-    match uper::decode::<Cam>(alloc, octets) {
-        Ok(message) => expect_written(rt, alloc, Codec::Uper, &message, octets),
-        Err(error) => assert!(rt; false, "{octets:?}: {error:?}"),
-    }
-}
-
 #[test]
 fn messages_are_written_as_they_were_read(rt: HostRuntime) {
-    expect_again(&rt, rt.alloc(), HIGH_FREQUENCY_ALL);
-    expect_again(&rt, rt.alloc(), LOW_FREQUENCY_HISTORY_40);
-    expect_again(&rt, rt.alloc(), DANGEROUS_GOODS);
-    expect_again(&rt, rt.alloc(), EMERGENCY);
-    expect_again(&rt, rt.alloc(), ROAD_SIDE_UNIT_ZONES);
+    let trial = Trial::new(&rt, rt.alloc(), Codec::Uper);
+    trial.expect_again::<Cam>(HIGH_FREQUENCY_ALL);
+    trial.expect_again::<Cam>(LOW_FREQUENCY_HISTORY_40);
+    trial.expect_again::<Cam>(DANGEROUS_GOODS);
+    trial.expect_again::<Cam>(EMERGENCY);
+    trial.expect_again::<Cam>(ROAD_SIDE_UNIT_ZONES);
 }
 
 const POSITION: ReferencePosition = ReferencePosition {
@@ -196,10 +186,10 @@ fn message(
     }
 }
 
-#[test]
-fn a_vehicle_says_all_of_its_motion(rt: HostRuntime) -> Result<(), Fail> {
-    let all = BasicVehicleContainerHighFrequency {
-        acceleration_control: Some(bits(rt.alloc(), &[0xaa], 7)?),
+/// A motion of which all is said.
+fn all_of_a_motion<R: Abort>(trial: &Trial<R>) -> BasicVehicleContainerHighFrequency {
+    BasicVehicleContainerHighFrequency {
+        acceleration_control: Some(trial.bits(&[0xaa], 7)),
         lane_position: Some(-1),
         steering_wheel_angle: Some(SteeringWheelAngle {
             steering_wheel_angle_value: -511,
@@ -220,14 +210,18 @@ fn a_vehicle_says_all_of_its_motion(rt: HostRuntime) -> Result<(), Fail> {
             cen_dsrc_tolling_zone_id: Some(134_217_727),
         }),
         ..motion()
-    };
-    let message = message(all, None, None);
-    expect_coded(&rt, rt.alloc(), Codec::Uper, &message, HIGH_FREQUENCY_ALL);
-    Ok(())
+    }
+}
+
+#[test]
+fn a_vehicle_says_all_of_its_motion(rt: HostRuntime) {
+    let trial = Trial::new(&rt, rt.alloc(), Codec::Uper);
+    let message = message(all_of_a_motion(&trial), None, None);
+    trial.expect_coded(&message, HIGH_FREQUENCY_ALL);
 }
 
 /// The way of a vehicle so far, and its lights.
-fn way(alloc: Global) -> Result<LowFrequencyContainer, Fail> {
+fn way<R: Abort>(trial: &Trial<R>) -> LowFrequencyContainer {
     let point = PathPoint {
         path_position: DeltaReferencePosition {
             delta_latitude: 50,
@@ -236,32 +230,28 @@ fn way(alloc: Global) -> Result<LowFrequencyContainer, Fail> {
         },
         path_delta_time: Some(Integer::from(10_i128)),
     };
-    Ok(LowFrequencyContainer::BasicVehicleContainerLowFrequency(
-        BasicVehicleContainerLowFrequency {
-            vehicle_role: VehicleRole::Default,
-            exterior_lights: bits(alloc, &[0x90], 8)?,
-            path_history: Vec::from_array(alloc, [point])?,
-        },
-    ))
+    LowFrequencyContainer::BasicVehicleContainerLowFrequency(BasicVehicleContainerLowFrequency {
+        vehicle_role: VehicleRole::Default,
+        exterior_lights: trial.bits(&[0x90], 8),
+        path_history: trial.one(point),
+    })
 }
 
 /// An accident, to which a vehicle drives with its siren.
-fn emergency(alloc: Global) -> Result<SpecialVehicleContainer, Fail> {
-    Ok(SpecialVehicleContainer::EmergencyContainer(EmergencyContainer {
-        light_bar_siren_in_use: bits(alloc, &[0x40], 2)?,
+fn emergency<R: Abort>(trial: &Trial<R>) -> SpecialVehicleContainer {
+    SpecialVehicleContainer::EmergencyContainer(EmergencyContainer {
+        light_bar_siren_in_use: trial.bits(&[0x40], 2),
         incident_indication: Some(CauseCode {
             cause_code: 95,
             sub_cause_code: 1,
         }),
-        emergency_priority: Some(bits(alloc, &[0x80], 2)?),
-    }))
+        emergency_priority: Some(trial.bits(&[0x80], 2)),
+    })
 }
 
 #[test]
-fn a_vehicle_drives_to_an_accident(rt: HostRuntime) -> Result<(), Fail> {
-    let way = way(rt.alloc())?;
-    let emergency = emergency(rt.alloc())?;
-    let message = message(motion(), Some(way), Some(emergency));
-    expect_coded(&rt, rt.alloc(), Codec::Uper, &message, EMERGENCY);
-    Ok(())
+fn a_vehicle_drives_to_an_accident(rt: HostRuntime) {
+    let trial = Trial::new(&rt, rt.alloc(), Codec::Uper);
+    let message = message(motion(), Some(way(&trial)), Some(emergency(&trial)));
+    trial.expect_coded(&message, EMERGENCY);
 }

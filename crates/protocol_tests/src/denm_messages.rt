@@ -1,6 +1,6 @@
 //! The messages of `rows/protocols/denm.tsv`, in the UNALIGNED variant.
 
-use crate::expected::{expect_again, expect_coded};
+use crate::expected::Trial;
 use denm::alacarte_container::AlacarteContainer;
 use denm::decentralized_environmental_notification_message::DecentralizedEnvironmentalNotificationMessage;
 use denm::denm::Denm;
@@ -18,7 +18,7 @@ use its_container_denm::dangerous_goods_extended::DangerousGoodsExtended;
 use its_container_denm::relevance_distance::RelevanceDistance;
 use its_container_denm::relevance_traffic_direction::RelevanceTrafficDirection;
 use rasn_below::types::Codec;
-use std::test::Fail;
+use std::process::Abort;
 
 const TERMINATION: &[u8] = &[
     0x02, 0x01, 0xde, 0xad, 0xbe, 0xef, 0x0f, 0xef, 0x56, 0xdf, 0x77, 0xff, 0xff, 0x8c, 0xe2, 0xda,
@@ -46,7 +46,8 @@ const COMPANY_NAME: &[u8] = &[
 
 #[test]
 fn a_message_is_written_as_it_was_read(rt: HostRuntime) {
-    expect_again::<Denm>(&rt, rt.alloc(), Codec::Uper, ALACARTE_ROAD_WORKS);
+    let trial = Trial::new(&rt, rt.alloc(), Codec::Uper);
+    trial.expect_again::<Denm>(ALACARTE_ROAD_WORKS);
 }
 
 const POSITION: ReferencePosition = ReferencePosition {
@@ -107,17 +108,12 @@ fn an_event_is_over(rt: HostRuntime) {
         transmission_interval: Some(1),
         ..MANAGEMENT
     };
-    expect_coded(
-        &rt,
-        rt.alloc(),
-        Codec::Uper,
-        &message(over, None),
-        TERMINATION,
-    );
+    let trial = Trial::new(&rt, rt.alloc(), Codec::Uper);
+    trial.expect_coded(&message(over, None), TERMINATION);
 }
 
-#[test]
-fn a_vehicle_with_dangerous_goods_stands(rt: HostRuntime) -> Result<(), Fail> {
+/// A vehicle with acids.
+fn vehicle<R: Abort>(trial: &Trial<R>) -> StationaryVehicleContainer {
     let goods = DangerousGoodsExtended {
         dangerous_goods_type: DangerousGoodsBasic::CorrosiveSubstances,
         un_number: 0,
@@ -126,29 +122,28 @@ fn a_vehicle_with_dangerous_goods_stands(rt: HostRuntime) -> Result<(), Fail> {
         limited_quantity: false,
         emergency_action_code: None,
         phone_number: None,
-        company_name: Some(String::from_str(rt.alloc(), "Müller")?),
+        company_name: Some(trial.text("Müller")),
     };
+    StationaryVehicleContainer {
+        stationary_since: None,
+        stationary_cause: None,
+        carrying_dangerous_goods: Some(goods),
+        number_of_occupants: Some(0),
+        vehicle_identification: None,
+        energy_storage_type: None,
+    }
+}
+
+#[test]
+fn a_vehicle_with_dangerous_goods_stands(rt: HostRuntime) {
+    let trial = Trial::new(&rt, rt.alloc(), Codec::Uper);
     let alacarte = AlacarteContainer {
         lane_position: None,
         impact_reduction: None,
         external_temperature: None,
         road_works: None,
         positioning_solution: None,
-        stationary_vehicle: Some(StationaryVehicleContainer {
-            stationary_since: None,
-            stationary_cause: None,
-            carrying_dangerous_goods: Some(goods),
-            number_of_occupants: Some(0),
-            vehicle_identification: None,
-            energy_storage_type: None,
-        }),
+        stationary_vehicle: Some(vehicle(&trial)),
     };
-    expect_coded(
-        &rt,
-        rt.alloc(),
-        Codec::Uper,
-        &message(MANAGEMENT, Some(alacarte)),
-        COMPANY_NAME,
-    );
-    Ok(())
+    trial.expect_coded(&message(MANAGEMENT, Some(alacarte)), COMPANY_NAME);
 }

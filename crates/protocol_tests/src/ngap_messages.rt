@@ -3,16 +3,14 @@
 
 ghost use Rattle.std.specs.Prelude.{◌≤◌, ◌*◌, length};
 
-use crate::expected::{
-    bits, expect_again, expect_coded, expect_equal, expect_octets, read, string,
-};
+use crate::expected::Trial;
 use ngap::criticality::Criticality;
 use ngap::downlink_nas_transport::DownlinkNasTransport;
 use ngap::initial_ue_message::InitialUeMessage;
 use ngap::ng_setup_request::NgSetupRequest;
 use ngap::ngap_pdu::NgapPdu;
 use ngap::protocol_ie_field::ProtocolIeField;
-use ngap::tables;
+use ngap::tables::*;
 use ngap::ue_context_release_command::UeContextReleaseCommand;
 use ngap_downlink::aliases::{
     LimitedAllowedTacsElement, LimitedAmfName, LimitedEquivalentPlmnsElement,
@@ -46,10 +44,8 @@ use ngap_setup::slice_support_item::SliceSupportItem;
 use ngap_setup::supported_ta_item::SupportedTaItem;
 use rasn_below::types::{Any, Codec, Integer};
 use rasn_below::{Decode, Encode};
-use std::alloc::Global;
 use std::fmt::Debug;
 use std::process::Abort;
-use std::test::Fail;
 
 const SETUP_REQUEST: &[u8] = &[
     0x00, 0x15, 0x00, 0x3a, 0x00, 0x00, 0x04, 0x00, 0x1b, 0x00, 0x08, 0x00, 0x62, 0xf2, 0x10, 0x00,
@@ -142,27 +138,19 @@ const PLMN: &[u8] = &[0x62, 0xf2, 0x10];
 const TAC: &[u8] = &[0x00, 0x01, 0x02];
 
 /// The message of this procedure, in a frame that is written as it was read.
-fn message<T: Encode + Decode>(
-    rt: &impl Abort,
-    alloc: Global,
-    octets: &[u8],
-    procedure: u8,
-) -> Option<T> {
-    match read::<NgapPdu>(rt, alloc, Codec::Aper, octets) {
-        Some(NgapPdu::InitiatingMessage(message)) => {
-            expect_equal(rt, &message.procedure_code, &procedure);
-            read::<T>(rt, alloc, Codec::Aper, message.value.as_bytes())
+fn message<T: Encode + Decode, R: Abort>(trial: &Trial<R>, octets: &[u8], procedure: u8) -> T {
+    match trial.read::<NgapPdu>(octets) {
+        NgapPdu::InitiatingMessage(message) => {
+            trial.expect_equal(&message.procedure_code, &procedure);
+            trial.read::<T>(message.value.as_bytes())
         }
-        _ => {
-            assert!(rt; false, "{octets:?}");
-            None
-        }
+        _ => trial.fail(octets),
     }
 }
 
 /// The octets of the element at a place of a message, which has this identifier and criticality.
-fn element<'a>(
-    rt: &impl Abort,
+fn element<'a, R: Abort>(
+    trial: &Trial<R>,
     elements: &'a [ProtocolIeField],
     place: usize,
     id: u32,
@@ -170,53 +158,57 @@ fn element<'a>(
 ) -> &'a [u8] {
     match elements.get(place) {
         Some(element) => {
-            expect_equal(rt, &u32::from(element.id), &id);
-            expect_equal(rt, &element.criticality, &criticality);
+            trial.expect_equal(&u32::from(element.id), &id);
+            trial.expect_equal(&element.criticality, &criticality);
             element.value.as_bytes()
         }
-        None => {
-            assert!(rt; false, "{id}");
-            &[]
-        }
+        None => trial.fail(&[]),
     }
 }
 
 /// An element that has to be understood has this value.
-fn expect_reject<T: Encode + Decode + PartialEq + Debug>(
-    rt: &impl Abort,
-    alloc: Global,
+fn expect_reject<T: Encode + Decode + PartialEq + Debug, R: Abort>(
+    trial: &Trial<R>,
     elements: &[ProtocolIeField],
     place: usize,
     id: u32,
     value: &T,
 ) {
-    let octets = element(rt, elements, place, id, Criticality::Reject);
-    expect_coded(rt, alloc, Codec::Aper, value, octets);
+    trial.expect_coded(
+        value,
+        element(trial, elements, place, id, Criticality::Reject),
+    );
 }
 
 /// An element that may be ignored has this value.
-fn expect_ignore<T: Encode + Decode + PartialEq + Debug>(
-    rt: &impl Abort,
-    alloc: Global,
+fn expect_ignore<T: Encode + Decode + PartialEq + Debug, R: Abort>(
+    trial: &Trial<R>,
     elements: &[ProtocolIeField],
     place: usize,
     id: u32,
     value: &T,
 ) {
-    let octets = element(rt, elements, place, id, Criticality::Ignore);
-    expect_coded(rt, alloc, Codec::Aper, value, octets);
+    trial.expect_coded(
+        value,
+        element(trial, elements, place, id, Criticality::Ignore),
+    );
 }
 
-fn slice(alloc: Global, sst: &[u8], sd: Option<&[u8]>) -> Result<SNssai, Fail> {
-    let sd = match sd {
-        Some(octets) => Some(string(alloc, octets)?),
-        None => None,
-    };
-    Ok(SNssai {
-        sst: string(alloc, sst)?,
-        sd,
+fn slice<R: Abort>(trial: &Trial<R>, sst: &[u8]) -> SNssai {
+    SNssai {
+        sst: trial.string(sst),
+        sd: None,
         ie_extensions: None,
-    })
+    }
+}
+
+/// What the second slice is.
+fn second_slice<R: Abort>(trial: &Trial<R>) -> SNssai {
+    SNssai {
+        sst: trial.string(&[0x02]),
+        sd: Some(trial.string(&[0x0a, 0x0b, 0x0c])),
+        ie_extensions: None,
+    }
 }
 
 /// What a slice supports.
@@ -228,164 +220,132 @@ fn supported(s_nssai: SNssai) -> SliceSupportItem {
 }
 
 /// The node with this number.
-fn gnb(alloc: Global, octets: &[u8], len: usize) -> Result<GlobalRanNodeId, Fail>
+fn gnb<R: Abort>(trial: &Trial<R>, octets: &[u8], len: usize) -> GlobalRanNodeId
     requires { len ≤ 8 * length octets.now }
 {
-    Ok(GlobalRanNodeId::GlobalGnbId(GlobalGnbId {
-        plmn_identity: string(alloc, PLMN)?,
-        gnb_id: GnbId::GnbId(bits(alloc, octets, len)?),
+    GlobalRanNodeId::GlobalGnbId(GlobalGnbId {
+        plmn_identity: trial.string(PLMN),
+        gnb_id: GnbId::GnbId(trial.bits(octets, len)),
         ie_extensions: None,
-    }))
+    })
 }
 
 /// The area, where the network has these slices.
-fn area(alloc: Global, slices: Vec<SliceSupportItem>) -> Result<LimitedSupportedTaList, Fail> {
+fn area<R: Abort>(trial: &Trial<R>, slices: Vec<SliceSupportItem>) -> LimitedSupportedTaList {
     let network = BroadcastPlmnItem {
-        plmn_identity: string(alloc, PLMN)?,
+        plmn_identity: trial.string(PLMN),
         tai_slice_support_list: slices,
         ie_extensions: None,
     };
     let area = SupportedTaItem {
-        tac: string(alloc, TAC)?,
-        broadcast_plmn_list: Vec::from_array(alloc, [network])?,
+        tac: trial.string(TAC),
+        broadcast_plmn_list: trial.one(network),
         ie_extensions: None,
     };
-    Ok(LimitedSupportedTaList::new(Vec::from_array(alloc, [area])?))
+    LimitedSupportedTaList::new(trial.one(area))
 }
 
-fn two_slices(alloc: Global) -> Result<Vec<SliceSupportItem>, Fail> {
-    let first = supported(slice(alloc, &[0x01], None)?);
-    let second = supported(slice(alloc, &[0x02], Some(&[0x0a, 0x0b, 0x0c]))?);
-    Ok(Vec::from_array(alloc, [first, second])?)
-}
-
-/// A name is this text.
-fn expect_name(rt: &impl Abort, name: Option<LimitedRanNodeName>, text: &[u8]) {
-    match name {
-        Some(name) => expect_octets(rt, name.value.as_bytes(), text),
-        None => assert!(rt; false, "{text:?}"),
-    }
-}
-
-fn expect_setup(rt: &impl Abort, alloc: Global, all: &[ProtocolIeField]) -> Result<(), Fail> {
-    let node = gnb(alloc, &[0xea, 0xf3, 0x44], 22)?;
+fn expect_setup<R: Abort>(trial: &Trial<R>, all: &[ProtocolIeField]) {
+    let node = gnb(trial, &[0xea, 0xf3, 0x44], 22);
     expect_reject(
-        rt,
-        alloc,
+        trial,
         all,
         0,
-        tables::NG_SETUP_REQUEST_IES_GLOBAL_RAN_NODE_ID,
+        NG_SETUP_REQUEST_IES_GLOBAL_RAN_NODE_ID,
         &node,
     );
-    let name = element(
-        rt,
-        all,
-        1,
-        tables::NG_SETUP_REQUEST_IES_RAN_NODE_NAME,
-        Criticality::Ignore,
+    let id = NG_SETUP_REQUEST_IES_RAN_NODE_NAME;
+    let name: LimitedRanNodeName = trial.read(element(trial, all, 1, id, Criticality::Ignore));
+    trial.expect_octets(name.value.as_bytes(), "gnb-west 7".as_bytes());
+    let slices = trial.two(
+        supported(slice(trial, &[0x01])),
+        supported(second_slice(trial)),
     );
-    expect_name(
-        rt,
-        read(rt, alloc, Codec::Aper, name),
-        "gnb-west 7".as_bytes(),
-    );
-    let area = area(alloc, two_slices(alloc)?)?;
     expect_reject(
-        rt,
-        alloc,
+        trial,
         all,
         2,
-        tables::NG_SETUP_REQUEST_IES_SUPPORTED_TA_LIST,
-        &area,
+        NG_SETUP_REQUEST_IES_SUPPORTED_TA_LIST,
+        &area(trial, slices),
     );
     expect_ignore(
-        rt,
-        alloc,
+        trial,
         all,
         3,
-        tables::NG_SETUP_REQUEST_IES_PAGING_DRX,
+        NG_SETUP_REQUEST_IES_PAGING_DRX,
         &PagingDrx::V128,
     );
-    Ok(())
 }
 
 #[test]
-fn a_node_sets_up_its_interface(rt: HostRuntime) -> Result<(), Fail> {
-    match message::<NgSetupRequest>(&rt, rt.alloc(), SETUP_REQUEST, 21) {
-        Some(message) => expect_setup(&rt, rt.alloc(), message.protocol_ies.as_slice()),
-        None => Ok(()),
-    }
+fn a_node_sets_up_its_interface(rt: HostRuntime) {
+    let trial = Trial::new(&rt, rt.alloc(), Codec::Aper);
+    let message: NgSetupRequest = message(&trial, SETUP_REQUEST, 21);
+    expect_setup(&trial, message.protocol_ies.as_slice());
 }
 
-fn expect_other_setup(rt: &impl Abort, alloc: Global, all: &[ProtocolIeField]) -> Result<(), Fail> {
-    let node = gnb(alloc, &[0x00, 0x00, 0x01], 24)?;
+fn expect_other_setup<R: Abort>(trial: &Trial<R>, all: &[ProtocolIeField]) {
+    let node = gnb(trial, &[0x00, 0x00, 0x01], 24);
     expect_reject(
-        rt,
-        alloc,
+        trial,
         all,
         0,
-        tables::NG_SETUP_REQUEST_IES_GLOBAL_RAN_NODE_ID,
+        NG_SETUP_REQUEST_IES_GLOBAL_RAN_NODE_ID,
         &node,
     );
-    let slice = supported(slice(alloc, &[0x01], None)?);
-    let area = area(alloc, Vec::from_array(alloc, [slice])?)?;
+    let slices = trial.one(supported(slice(trial, &[0x01])));
     expect_reject(
-        rt,
-        alloc,
+        trial,
         all,
         1,
-        tables::NG_SETUP_REQUEST_IES_SUPPORTED_TA_LIST,
-        &area,
+        NG_SETUP_REQUEST_IES_SUPPORTED_TA_LIST,
+        &area(trial, slices),
     );
     expect_ignore(
-        rt,
-        alloc,
+        trial,
         all,
         2,
-        tables::NG_SETUP_REQUEST_IES_PAGING_DRX,
+        NG_SETUP_REQUEST_IES_PAGING_DRX,
         &PagingDrx::V128,
     );
     let name = ExtendedRanNodeName {
         ran_node_name_visible_string: None,
-        ran_node_name_utf8_string: Some(String::from_str(alloc, "gnb-ü")?),
+        ran_node_name_utf8_string: Some(trial.text("gnb-ü")),
         ie_extensions: None,
     };
     expect_ignore(
-        rt,
-        alloc,
+        trial,
         all,
         3,
-        tables::NG_SETUP_REQUEST_IES_EXTENDED_RAN_NODE_NAME,
+        NG_SETUP_REQUEST_IES_EXTENDED_RAN_NODE_NAME,
         &name,
     );
-    Ok(())
 }
 
 #[test]
-fn a_node_has_a_name_in_utf8(rt: HostRuntime) -> Result<(), Fail> {
-    match message::<NgSetupRequest>(&rt, rt.alloc(), SETUP_REQUEST_UTF8_NAME, 21) {
-        Some(message) => expect_other_setup(&rt, rt.alloc(), message.protocol_ies.as_slice()),
-        None => Ok(()),
-    }
+fn a_node_has_a_name_in_utf8(rt: HostRuntime) {
+    let trial = Trial::new(&rt, rt.alloc(), Codec::Aper);
+    let message: NgSetupRequest = message(&trial, SETUP_REQUEST_UTF8_NAME, 21);
+    expect_other_setup(&trial, message.protocol_ies.as_slice());
 }
 
-fn location(alloc: Global) -> Result<UserLocationInformation, Fail> {
+fn location<R: Abort>(trial: &Trial<R>) -> UserLocationInformation {
     let nr_cgi = NrCgi {
-        plmn_identity: string(alloc, PLMN)?,
-        nr_cell_identity: bits(alloc, &[0x12, 0x34, 0x56, 0x78, 0x90], 36)?,
+        plmn_identity: trial.string(PLMN),
+        nr_cell_identity: trial.bits(&[0x12, 0x34, 0x56, 0x78, 0x90], 36),
         ie_extensions: None,
     };
     let tai = Tai {
-        plmn_identity: string(alloc, PLMN)?,
-        tac: string(alloc, TAC)?,
+        plmn_identity: trial.string(PLMN),
+        tac: trial.string(TAC),
         ie_extensions: None,
     };
-    Ok(UserLocationInformation::UserLocationInformationNr(UserLocationInformationNr {
+    UserLocationInformation::UserLocationInformationNr(UserLocationInformationNr {
         nr_cgi,
         tai,
-        time_stamp: Some(string(alloc, &[0xe5, 0xa1, 0xb2, 0xc3])?),
+        time_stamp: Some(trial.string(&[0xe5, 0xa1, 0xb2, 0xc3])),
         ie_extensions: None,
-    }))
+    })
 }
 
 /// What a terminal says to the network, in octets that aren't looked into.
@@ -394,183 +354,148 @@ const REGISTRATION: &[u8] = &[
     0x00, 0x00, 0x10, 0x2e, 0x02, 0xf0, 0xf0,
 ];
 
-fn expect_initial(rt: &impl Abort, alloc: Global, all: &[ProtocolIeField]) -> Result<(), Fail> {
+fn expect_initial<R: Abort>(trial: &Trial<R>, all: &[ProtocolIeField]) {
     let number = LimitedRanUeNgapId::new(1);
     expect_reject(
-        rt,
-        alloc,
+        trial,
         all,
         0,
-        tables::INITIAL_UE_MESSAGE_IES_RAN_UE_NGAP_ID,
+        INITIAL_UE_MESSAGE_IES_RAN_UE_NGAP_ID,
         &number,
     );
-    let said: NasPdu = string(alloc, REGISTRATION)?;
+    let said: NasPdu = trial.string(REGISTRATION);
+    expect_reject(trial, all, 1, INITIAL_UE_MESSAGE_IES_NAS_PDU, &said);
+    let place = location(trial);
     expect_reject(
-        rt,
-        alloc,
-        all,
-        1,
-        tables::INITIAL_UE_MESSAGE_IES_NAS_PDU,
-        &said,
-    );
-    let place = location(alloc)?;
-    expect_reject(
-        rt,
-        alloc,
+        trial,
         all,
         2,
-        tables::INITIAL_UE_MESSAGE_IES_USER_LOCATION_INFORMATION,
+        INITIAL_UE_MESSAGE_IES_USER_LOCATION_INFORMATION,
         &place,
     );
     let cause = RrcEstablishmentCause::MoSignalling;
     expect_ignore(
-        rt,
-        alloc,
+        trial,
         all,
         3,
-        tables::INITIAL_UE_MESSAGE_IES_RRC_ESTABLISHMENT_CAUSE,
+        INITIAL_UE_MESSAGE_IES_RRC_ESTABLISHMENT_CAUSE,
         &cause,
     );
     let context = UeContextRequest::Requested;
     expect_ignore(
-        rt,
-        alloc,
+        trial,
         all,
         4,
-        tables::INITIAL_UE_MESSAGE_IES_UE_CONTEXT_REQUEST,
+        INITIAL_UE_MESSAGE_IES_UE_CONTEXT_REQUEST,
         &context,
     );
-    Ok(())
 }
 
 #[test]
-fn a_terminal_says_its_first_word(rt: HostRuntime) -> Result<(), Fail> {
-    match message::<InitialUeMessage>(&rt, rt.alloc(), INITIAL_UE_MESSAGE, 15) {
-        Some(message) => expect_initial(&rt, rt.alloc(), message.protocol_ies.as_slice()),
-        None => Ok(()),
+fn a_terminal_says_its_first_word(rt: HostRuntime) {
+    let trial = Trial::new(&rt, rt.alloc(), Codec::Aper);
+    let message: InitialUeMessage = message(&trial, INITIAL_UE_MESSAGE, 15);
+    expect_initial(&trial, message.protocol_ies.as_slice());
+}
+
+/// The area that is forbidden.
+fn forbidden<R: Abort>(trial: &Trial<R>) -> ForbiddenAreaInformationItem {
+    let first = LimitedForbiddenTacsElement::new(trial.string(&[0x00, 0x00, 0x03]));
+    let second = LimitedForbiddenTacsElement::new(trial.string(&[0x00, 0x00, 0x04]));
+    ForbiddenAreaInformationItem {
+        plmn_identity: trial.string(PLMN),
+        forbidden_tacs: trial.two(first, second),
+        ie_extensions: None,
     }
 }
 
-/// The areas that are forbidden, and the one that is served.
-fn areas(
-    alloc: Global,
-) -> Result<(ForbiddenAreaInformationItem, ServiceAreaInformationItem), Fail> {
-    let first = LimitedForbiddenTacsElement::new(string(alloc, &[0x00, 0x00, 0x03])?);
-    let second = LimitedForbiddenTacsElement::new(string(alloc, &[0x00, 0x00, 0x04])?);
-    let forbidden = ForbiddenAreaInformationItem {
-        plmn_identity: string(alloc, PLMN)?,
-        forbidden_tacs: Vec::from_array(alloc, [first, second])?,
-        ie_extensions: None,
-    };
-    let allowed = LimitedAllowedTacsElement::new(string(alloc, &[0x00, 0x00, 0x01])?);
-    let served = ServiceAreaInformationItem {
-        plmn_identity: string(alloc, PLMN)?,
-        allowed_tacs: Some(Vec::from_array(alloc, [allowed])?),
+/// The area that is served.
+fn served<R: Abort>(trial: &Trial<R>) -> ServiceAreaInformationItem {
+    let allowed = LimitedAllowedTacsElement::new(trial.string(&[0x00, 0x00, 0x01]));
+    ServiceAreaInformationItem {
+        plmn_identity: trial.string(PLMN),
+        allowed_tacs: Some(trial.one(allowed)),
         not_allowed_tacs: None,
         ie_extensions: None,
-    };
-    Ok((forbidden, served))
+    }
+}
+
+/// The radio that isn't allowed.
+fn radio<R: Abort>(trial: &Trial<R>) -> RatRestrictionsItem {
+    RatRestrictionsItem {
+        plmn_identity: trial.string(PLMN),
+        rat_restriction_information: trial.bits(&[0x40], 8),
+        ie_extensions: None,
+    }
 }
 
 /// Where a terminal may move.
-fn mobility(alloc: Global) -> Result<MobilityRestrictionList, Fail> {
-    let (forbidden, served) = areas(alloc)?;
-    let first = LimitedEquivalentPlmnsElement::new(string(alloc, &[0x21, 0xf3, 0x54])?);
-    let second = LimitedEquivalentPlmnsElement::new(string(alloc, &[0x13, 0x00, 0x62])?);
-    let radio = RatRestrictionsItem {
-        plmn_identity: string(alloc, PLMN)?,
-        rat_restriction_information: bits(alloc, &[0x40], 8)?,
+fn mobility<R: Abort>(trial: &Trial<R>) -> MobilityRestrictionList {
+    let first = LimitedEquivalentPlmnsElement::new(trial.string(&[0x21, 0xf3, 0x54]));
+    let second = LimitedEquivalentPlmnsElement::new(trial.string(&[0x13, 0x00, 0x62]));
+    MobilityRestrictionList {
+        serving_plmn: trial.string(PLMN),
+        equivalent_plmns: Some(trial.two(first, second)),
+        rat_restrictions: Some(trial.one(radio(trial))),
+        forbidden_area_information: Some(trial.one(forbidden(trial))),
+        service_area_information: Some(trial.one(served(trial))),
         ie_extensions: None,
-    };
-    Ok(MobilityRestrictionList {
-        serving_plmn: string(alloc, PLMN)?,
-        equivalent_plmns: Some(Vec::from_array(alloc, [first, second])?),
-        rat_restrictions: Some(Vec::from_array(alloc, [radio])?),
-        forbidden_area_information: Some(Vec::from_array(alloc, [forbidden])?),
-        service_area_information: Some(Vec::from_array(alloc, [served])?),
-        ie_extensions: None,
-    })
+    }
 }
 
 /// The slice that a terminal may use.
-fn allowed(alloc: Global) -> Result<LimitedAllowedNssai, Fail> {
+fn allowed<R: Abort>(trial: &Trial<R>) -> LimitedAllowedNssai {
     let item = AllowedNssaiItem {
-        s_nssai: slice(alloc, &[0x02], Some(&[0x0a, 0x0b, 0x0c]))?,
+        s_nssai: second_slice(trial),
         ie_extensions: None,
     };
-    Ok(LimitedAllowedNssai::new(Vec::from_array(alloc, [item])?))
+    LimitedAllowedNssai::new(trial.one(item))
 }
 
 /// The identifiers of a terminal at both ends, who had it before, and how it is paged.
-fn expect_terminal(rt: &impl Abort, alloc: Global, all: &[ProtocolIeField]) {
+fn expect_terminal<R: Abort>(trial: &Trial<R>, all: &[ProtocolIeField]) {
     let above = LimitedAmfUeNgapId::new(1_099_511_627_775);
     expect_reject(
-        rt,
-        alloc,
+        trial,
         all,
         0,
-        tables::DOWNLINK_NAS_TRANSPORT_IES_AMF_UE_NGAP_ID,
+        DOWNLINK_NAS_TRANSPORT_IES_AMF_UE_NGAP_ID,
         &above,
     );
     let below = LimitedRanUeNgapId::new(4_294_967_295);
     expect_reject(
-        rt,
-        alloc,
+        trial,
         all,
         1,
-        tables::DOWNLINK_NAS_TRANSPORT_IES_RAN_UE_NGAP_ID,
+        DOWNLINK_NAS_TRANSPORT_IES_RAN_UE_NGAP_ID,
         &below,
     );
-    let old = element(
-        rt,
-        all,
-        2,
-        tables::DOWNLINK_NAS_TRANSPORT_IES_AMF_NAME,
-        Criticality::Reject,
-    );
-    match read::<LimitedAmfName>(rt, alloc, Codec::Aper, old) {
-        Some(name) => expect_octets(rt, name.value.as_bytes(), "old-amf".as_bytes()),
-        None => assert!(rt; false),
-    }
+    let id = DOWNLINK_NAS_TRANSPORT_IES_AMF_NAME;
+    let old: LimitedAmfName = trial.read(element(trial, all, 2, id, Criticality::Reject));
+    trial.expect_octets(old.value.as_bytes(), "old-amf".as_bytes());
     let priority = LimitedRanPagingPriority::new(256);
     expect_ignore(
-        rt,
-        alloc,
+        trial,
         all,
         3,
-        tables::DOWNLINK_NAS_TRANSPORT_IES_RAN_PAGING_PRIORITY,
+        DOWNLINK_NAS_TRANSPORT_IES_RAN_PAGING_PRIORITY,
         &priority,
     );
-    let said = element(
-        rt,
-        all,
-        4,
-        tables::DOWNLINK_NAS_TRANSPORT_IES_NAS_PDU,
-        Criticality::Reject,
-    );
-    match read::<NasPdu>(rt, alloc, Codec::Aper, said) {
-        Some(said) => expect_equal(rt, &said.len(), &300),
-        None => assert!(rt; false),
-    }
+    let id = DOWNLINK_NAS_TRANSPORT_IES_NAS_PDU;
+    let said: NasPdu = trial.read(element(trial, all, 4, id, Criticality::Reject));
+    trial.expect_equal(&said.len(), &300);
 }
 
-fn expect_rights(rt: &impl Abort, alloc: Global, all: &[ProtocolIeField]) -> Result<(), Fail> {
-    let mobility = mobility(alloc)?;
-    expect_ignore(
-        rt,
-        alloc,
-        all,
-        5,
-        tables::DOWNLINK_NAS_TRANSPORT_IES_MOBILITY_RESTRICTION_LIST,
-        &mobility,
-    );
+fn expect_rights<R: Abort>(trial: &Trial<R>, all: &[ProtocolIeField]) {
+    let mobility = mobility(trial);
+    let id = DOWNLINK_NAS_TRANSPORT_IES_MOBILITY_RESTRICTION_LIST;
+    expect_ignore(trial, all, 5, id, &mobility);
     let profile = LimitedIndexToRfsp::new(Integer::from(256));
     expect_ignore(
-        rt,
-        alloc,
+        trial,
         all,
         6,
-        tables::DOWNLINK_NAS_TRANSPORT_IES_INDEX_TO_RFSP,
+        DOWNLINK_NAS_TRANSPORT_IES_INDEX_TO_RFSP,
         &profile,
     );
     let rate = UeAggregateMaximumBitRate {
@@ -578,84 +503,66 @@ fn expect_rights(rt: &impl Abort, alloc: Global, all: &[ProtocolIeField]) -> Res
         ue_aggregate_maximum_bit_rate_ul: Integer::from(1_000_000),
         ie_extensions: None,
     };
-    expect_ignore(
-        rt,
-        alloc,
-        all,
-        7,
-        tables::DOWNLINK_NAS_TRANSPORT_IES_UE_AGGREGATE_MAXIMUM_BIT_RATE,
-        &rate,
-    );
-    let allowed = allowed(alloc)?;
+    let id = DOWNLINK_NAS_TRANSPORT_IES_UE_AGGREGATE_MAXIMUM_BIT_RATE;
+    expect_ignore(trial, all, 7, id, &rate);
+    let allowed = allowed(trial);
     expect_reject(
-        rt,
-        alloc,
+        trial,
         all,
         8,
-        tables::DOWNLINK_NAS_TRANSPORT_IES_ALLOWED_NSSAI,
+        DOWNLINK_NAS_TRANSPORT_IES_ALLOWED_NSSAI,
         &allowed,
     );
-    Ok(())
 }
 
 #[test]
-fn a_terminal_is_told_something(rt: HostRuntime) -> Result<(), Fail> {
-    match message::<DownlinkNasTransport>(&rt, rt.alloc(), DOWNLINK_NAS_TRANSPORT_MORE, 4) {
-        Some(message) => {
-            expect_terminal(&rt, rt.alloc(), message.protocol_ies.as_slice());
-            expect_rights(&rt, rt.alloc(), message.protocol_ies.as_slice())
-        }
-        None => Ok(()),
-    }
+fn a_terminal_is_told_something(rt: HostRuntime) {
+    let trial = Trial::new(&rt, rt.alloc(), Codec::Aper);
+    let message: DownlinkNasTransport = message(&trial, DOWNLINK_NAS_TRANSPORT_MORE, 4);
+    expect_terminal(&trial, message.protocol_ies.as_slice());
+    expect_rights(&trial, message.protocol_ies.as_slice());
 }
 
 #[test]
 fn a_terminal_is_let_go(rt: HostRuntime) {
+    let trial = Trial::new(&rt, rt.alloc(), Codec::Aper);
     let octets = UE_CONTEXT_RELEASE_COMMAND_AMF;
-    if let Some(message) = message::<UeContextReleaseCommand>(&rt, rt.alloc(), octets, 41) {
-        let all = message.protocol_ies.as_slice();
-        let number = UeNgapIds::AmfUeNgapId(4_294_967_296);
-        expect_reject(
-            &rt,
-            rt.alloc(),
-            all,
-            0,
-            tables::UE_CONTEXT_RELEASE_COMMAND_IES_UE_NGAP_IDS,
-            &number,
-        );
-        let cause = Cause::RadioNetwork(CauseRadioNetwork::RedcapUeNotSupported);
-        expect_ignore(
-            &rt,
-            rt.alloc(),
-            all,
-            1,
-            tables::UE_CONTEXT_RELEASE_COMMAND_IES_CAUSE,
-            &cause,
-        );
-    }
+    let message: UeContextReleaseCommand = message(&trial, octets, 41);
+    let all = message.protocol_ies.as_slice();
+    let number = UeNgapIds::AmfUeNgapId(4_294_967_296);
+    expect_reject(
+        &trial,
+        all,
+        0,
+        UE_CONTEXT_RELEASE_COMMAND_IES_UE_NGAP_IDS,
+        &number,
+    );
+    let cause = Cause::RadioNetwork(CauseRadioNetwork::RedcapUeNotSupported);
+    expect_ignore(&trial, all, 1, UE_CONTEXT_RELEASE_COMMAND_IES_CAUSE, &cause);
 }
 
 /// Frames whose procedures have no type here, so that what is in them stays octets.
 #[test]
 fn other_procedures_are_passed_on(rt: HostRuntime) {
-    expect_again::<NgapPdu>(&rt, rt.alloc(), Codec::Aper, INITIAL_CONTEXT_SETUP_REQUEST);
-    expect_again::<NgapPdu>(&rt, rt.alloc(), Codec::Aper, PAGING);
-    expect_again::<NgapPdu>(&rt, rt.alloc(), Codec::Aper, ERROR_INDICATION);
+    let trial = Trial::new(&rt, rt.alloc(), Codec::Aper);
+    trial.expect_again::<NgapPdu>(INITIAL_CONTEXT_SETUP_REQUEST);
+    trial.expect_again::<NgapPdu>(PAGING);
+    trial.expect_again::<NgapPdu>(ERROR_INDICATION);
 }
 
 /// A request with an element whose identifier no release knows (X.691 22, 11.2).
 const UNKNOWN_ELEMENT: &[u8] = &[0x00, 0x00, 0x01, 0x27, 0x0f, 0x40, 0x03, 0xaa, 0xbb, 0xcc];
 
 #[test]
-fn an_element_of_another_release_keeps_its_octets(rt: HostRuntime) -> Result<(), Fail> {
+fn an_element_of_another_release_keeps_its_octets(rt: HostRuntime) {
+    let trial = Trial::new(&rt, rt.alloc(), Codec::Aper);
     let unknown = ProtocolIeField {
         id: 9999,
         criticality: Criticality::Ignore,
-        value: Any::new(Vec::from_slice(rt.alloc(), &[0xaa, 0xbb, 0xcc])?),
+        value: Any::new(trial.octets(&[0xaa, 0xbb, 0xcc])),
     };
     let message = NgSetupRequest {
-        protocol_ies: Vec::from_array(rt.alloc(), [unknown])?,
+        protocol_ies: trial.one(unknown),
     };
-    expect_coded(&rt, rt.alloc(), Codec::Aper, &message, UNKNOWN_ELEMENT);
-    Ok(())
+    trial.expect_coded(&message, UNKNOWN_ELEMENT);
 }

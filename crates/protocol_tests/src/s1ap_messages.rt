@@ -1,8 +1,6 @@
 //! The messages of `rows/protocols/s1ap.tsv`, in the ALIGNED variant.
 
-use crate::expected::{
-    bits, expect_again, expect_coded, expect_equal, expect_octets, read, string,
-};
+use crate::expected::Trial;
 use rasn_below::types::Codec;
 use s1ap::aliases::{LimitedEnBname, LimitedPlmNidentity, LimitedSupportedTas};
 use s1ap::criticality::Criticality;
@@ -13,10 +11,8 @@ use s1ap::protocol_ie_field::ProtocolIeField;
 use s1ap::s1_ap_pdu::S1ApPdu;
 use s1ap::s1_setup_request::S1SetupRequest;
 use s1ap::supported_tas_item::SupportedTasItem;
-use s1ap::tables;
-use std::alloc::Global;
+use s1ap::tables::*;
 use std::process::Abort;
-use std::test::Fail;
 
 const SETUP_REQUEST: &[u8] = &[
     0x00, 0x11, 0x00, 0x3a, 0x00, 0x00, 0x04, 0x00, 0x3b, 0x00, 0x08, 0x00, 0x62, 0xf2, 0x10, 0x00,
@@ -53,22 +49,19 @@ const RESET_PART: &[u8] = &[
 ];
 
 /// The request of a base station, in a frame that is written as it was read.
-fn request(rt: &impl Abort, alloc: Global) -> Option<S1SetupRequest> {
-    match read::<S1ApPdu>(rt, alloc, Codec::Aper, SETUP_REQUEST) {
-        Some(S1ApPdu::InitiatingMessage(message)) => {
-            expect_equal(rt, &message.procedure_code, &17);
-            read(rt, alloc, Codec::Aper, message.value.as_bytes())
+fn request<R: Abort>(trial: &Trial<R>) -> S1SetupRequest {
+    match trial.read::<S1ApPdu>(SETUP_REQUEST) {
+        S1ApPdu::InitiatingMessage(message) => {
+            trial.expect_equal(&message.procedure_code, &17);
+            trial.read(message.value.as_bytes())
         }
-        _ => {
-            assert!(rt; false);
-            None
-        }
+        _ => trial.fail(SETUP_REQUEST),
     }
 }
 
 /// The octets of the element at a place of a message, which has this identifier and criticality.
-fn element<'a>(
-    rt: &impl Abort,
+fn element<'a, R: Abort>(
+    trial: &Trial<R>,
     elements: &'a [ProtocolIeField],
     place: usize,
     id: u32,
@@ -76,80 +69,63 @@ fn element<'a>(
 ) -> &'a [u8] {
     match elements.get(place) {
         Some(element) => {
-            expect_equal(rt, &u32::from(element.id), &id);
-            expect_equal(rt, &element.criticality, &criticality);
+            trial.expect_equal(&u32::from(element.id), &id);
+            trial.expect_equal(&element.criticality, &criticality);
             element.value.as_bytes()
         }
-        None => {
-            assert!(rt; false, "{id}");
-            &[]
-        }
+        None => trial.fail(&[]),
     }
 }
 
 /// The base station with this number.
-fn station(alloc: Global) -> Result<GlobalEnbId, Fail> {
-    Ok(GlobalEnbId {
-        plm_nidentity: string(alloc, &[0x62, 0xf2, 0x10])?,
-        enb_id: EnbId::MacroEnbId(bits(alloc, &[0x12, 0x34, 0x50], 20)?),
+fn station<R: Abort>(trial: &Trial<R>) -> GlobalEnbId {
+    GlobalEnbId {
+        plm_nidentity: trial.string(&[0x62, 0xf2, 0x10]),
+        enb_id: EnbId::MacroEnbId(trial.bits(&[0x12, 0x34, 0x50], 20)),
         ie_extensions: None,
-    })
+    }
 }
 
 /// The area of two networks.
-fn area(alloc: Global) -> Result<LimitedSupportedTas, Fail> {
-    let first = LimitedPlmNidentity::new(string(alloc, &[0x62, 0xf2, 0x10])?);
-    let second = LimitedPlmNidentity::new(string(alloc, &[0x21, 0xf3, 0x54])?);
+fn area<R: Abort>(trial: &Trial<R>) -> LimitedSupportedTas {
+    let first = LimitedPlmNidentity::new(trial.string(&[0x62, 0xf2, 0x10]));
+    let second = LimitedPlmNidentity::new(trial.string(&[0x21, 0xf3, 0x54]));
     let area = SupportedTasItem {
-        tac: string(alloc, &[0x00, 0x07])?,
-        broadcast_plmns: Vec::from_array(alloc, [first, second])?,
+        tac: trial.string(&[0x00, 0x07]),
+        broadcast_plmns: trial.two(first, second),
         ie_extensions: None,
     };
-    Ok(LimitedSupportedTas::new(Vec::from_array(alloc, [area])?))
+    LimitedSupportedTas::new(trial.one(area))
 }
 
-fn expect_setup(rt: &impl Abort, alloc: Global, all: &[ProtocolIeField]) -> Result<(), Fail> {
-    let id = tables::S1_SETUP_REQUEST_IES_GLOBAL_ENB_ID;
-    let octets = element(rt, all, 0, id, Criticality::Reject);
-    expect_coded(rt, alloc, Codec::Aper, &station(alloc)?, octets);
-    let octets = element(
-        rt,
-        all,
-        1,
-        tables::S1_SETUP_REQUEST_IES_EN_BNAME,
-        Criticality::Ignore,
-    );
-    match read::<LimitedEnBname>(rt, alloc, Codec::Aper, octets) {
-        Some(name) => expect_octets(rt, name.value.as_bytes(), "eNB Eurecom LTEBox".as_bytes()),
-        None => assert!(rt; false),
-    }
-    let id = tables::S1_SETUP_REQUEST_IES_SUPPORTED_TAS;
-    let octets = element(rt, all, 2, id, Criticality::Reject);
-    expect_coded(rt, alloc, Codec::Aper, &area(alloc)?, octets);
-    let octets = element(
-        rt,
-        all,
-        3,
-        tables::S1_SETUP_REQUEST_IES_PAGING_DRX,
-        Criticality::Ignore,
-    );
-    expect_coded(rt, alloc, Codec::Aper, &PagingDrx::V128, octets);
-    Ok(())
+fn expect_setup<R: Abort>(trial: &Trial<R>, all: &[ProtocolIeField]) {
+    let id = S1_SETUP_REQUEST_IES_GLOBAL_ENB_ID;
+    let octets = element(trial, all, 0, id, Criticality::Reject);
+    trial.expect_coded(&station(trial), octets);
+    let id = S1_SETUP_REQUEST_IES_EN_BNAME;
+    let octets = element(trial, all, 1, id, Criticality::Ignore);
+    let name: LimitedEnBname = trial.read(octets);
+    trial.expect_octets(name.value.as_bytes(), "eNB Eurecom LTEBox".as_bytes());
+    let id = S1_SETUP_REQUEST_IES_SUPPORTED_TAS;
+    let octets = element(trial, all, 2, id, Criticality::Reject);
+    trial.expect_coded(&area(trial), octets);
+    let id = S1_SETUP_REQUEST_IES_PAGING_DRX;
+    let octets = element(trial, all, 3, id, Criticality::Ignore);
+    trial.expect_coded(&PagingDrx::V128, octets);
 }
 
 #[test]
-fn a_base_station_sets_up_its_interface(rt: HostRuntime) -> Result<(), Fail> {
-    match request(&rt, rt.alloc()) {
-        Some(message) => expect_setup(&rt, rt.alloc(), message.protocol_ies.as_slice()),
-        None => Ok(()),
-    }
+fn a_base_station_sets_up_its_interface(rt: HostRuntime) {
+    let trial = Trial::new(&rt, rt.alloc(), Codec::Aper);
+    expect_setup(&trial, request(&trial).protocol_ies.as_slice());
 }
 
 /// Frames whose messages have no type here, so that what is in them stays octets.
 #[test]
 fn other_procedures_are_passed_on(rt: HostRuntime) {
-    expect_again::<S1ApPdu>(&rt, rt.alloc(), Codec::Aper, SETUP_FAILURE);
-    expect_again::<S1ApPdu>(&rt, rt.alloc(), Codec::Aper, DOWNLINK_NAS_TRANSPORT);
-    expect_again::<S1ApPdu>(&rt, rt.alloc(), Codec::Aper, INITIAL_CONTEXT_SETUP_REQUEST);
-    expect_again::<S1ApPdu>(&rt, rt.alloc(), Codec::Aper, RESET_PART);
+    let trial = Trial::new(&rt, rt.alloc(), Codec::Aper);
+    trial.expect_again::<S1ApPdu>(SETUP_FAILURE);
+    trial.expect_again::<S1ApPdu>(DOWNLINK_NAS_TRANSPORT);
+    trial.expect_again::<S1ApPdu>(INITIAL_CONTEXT_SETUP_REQUEST);
+    trial.expect_again::<S1ApPdu>(RESET_PART);
 }
