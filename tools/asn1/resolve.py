@@ -55,6 +55,7 @@ class Part:
     tags: list = None       # those written here
     tag: int = None         # that which it has
     group: list = None      # of an addition group: its components
+    place: int = 0          # in the text, among the parts of its list
 
     @property
     def is_slot(self):
@@ -204,6 +205,8 @@ class Modules(Constraints):
                 raise Refused(f"{'.'.join(path)} has a part {head}, which isn't taken")
         if len(sides) > 3:
             raise Refused(f"{'.'.join(path)} has more than two markers")
+        for place, part in enumerate(sum(sides, [])):
+            part.place = place
         return sides[0] + sum(sides[2:], []), sides[1] if len(sides) > 1 else None
 
     def part(self, node, module, given, path):
