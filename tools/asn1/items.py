@@ -6,8 +6,9 @@ from notation import Refused, placed
 from resolve import TEXTS, Type, Use
 from spelling import definition
 
-# Lines of a list on one side of its marker.
+# Lines of a list on one side of its marker, and items of an ENUMERATED.
 MOST = 48
+MOST_ITEMS = 256
 WITH_PAGE = ("SEQUENCE", "CHOICE", "ENUMERATED")
 LISTS = ("SEQUENCE OF", "SET OF")
 OTHER_FILES = ("lib", "aliases", "tables")
@@ -93,7 +94,7 @@ class Items:
         elif of.kind in LISTS:
             self.need_element(item, of.element, name, line)
         elif of.kind == "ENUMERATED":
-            self.expect_few(of.items, of.added_items)
+            self.expect_few(of.items, of.added_items, MOST_ITEMS)
         elif of.parts is not None:
             self.need_parts(item)
         else:
@@ -109,13 +110,13 @@ class Items:
             raise Refused(f"{path.replace('/', '.')} has named bits and no fixed size, which isn't taken")
 
     @staticmethod
-    def expect_few(root, added):
-        if max(len(root), len(added or [])) > MOST:
-            raise Refused(f"more than {MOST} lines of a list on one side of its marker aren't taken")
+    def expect_few(root, added, most):
+        if max(len(root), len(added or [])) > most:
+            raise Refused(f"more than {most} lines of a list on one side of its marker aren't taken")
 
     def need_parts(self, item):
         """Gives the types of a record's or a choice's parts their items."""
-        self.expect_few(item.type.parts, item.type.added)
+        self.expect_few(item.type.parts, item.type.added, MOST)
         for number, part in enumerate(item.type.all_parts):
             with placed(part.module, part.line):
                 if part.group is not None:
