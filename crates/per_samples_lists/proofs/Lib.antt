@@ -1,4 +1,5 @@
 pub mod Alone
 pub mod Contents
 pub mod Defaults
+pub mod Filters
 pub mod Trees

@@ -4,6 +4,7 @@ pub mod Choices
 pub mod Deeps
 pub mod Elements
 pub mod Empties
+pub mod Filters
 pub mod Mutuals
 pub mod Nests
 pub mod Trees

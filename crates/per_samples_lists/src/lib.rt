@@ -9,6 +9,8 @@ pub mod choice_rows;
 pub mod deep;
 pub mod elements;
 pub mod empty;
+pub mod filter;
+pub mod filter_rows;
 pub mod lists;
 pub mod nest;
 pub mod ping;

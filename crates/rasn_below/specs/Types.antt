@@ -15,7 +15,8 @@ pub use Rattle.rasn_schema.specs.Forms.{always, number_schema, octet_schema, bit
 pub use Rattle.rasn_schema.specs.Levels.{Levelled, no_level, simple_levelled, part_levelled, parts_levelled}
 pub use Rattle.rasn_schema.specs.Levels.{record_levelled, to_choice, to_leaf, to_list, to_no_parts, to_part}
 pub use Rattle.rasn_schema.specs.Levels.{to_sequence}
-pub use Rattle.rasn_schema.specs.Tags.{IsTreeAt, choice_stated, choice_tag, sequence_stated, sequence_tag}
+pub use Rattle.rasn_schema.specs.Tags.{AreTagsOf, IsTagOf, IsTreeAt}
+pub use Rattle.rasn_schema.specs.Tags.{choice_stated, choice_tag, sequence_stated, sequence_tag}
 pub use Rattle.rasn_schema.specs.Components.{alternatives_at, components_levelled, sequence_at, sequence_levelled}
 pub use Rattle.rasn_schema.specs.Components.{lower_bound, upper_bound}
 pub use Rattle.rasn_schema.specs.Records.{AtParts, no_additions, record_at}

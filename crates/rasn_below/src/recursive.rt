@@ -4,11 +4,11 @@
 
 ghost use Rattle.std.specs.Prelude.{◌≡◌, ℕ, suc, List, [], ◌∷◌, Option, Some, map, refl};
 ghost use Rattle.std.specs.Borrow.{Bor};
-ghost use Rattle.rasn_types.specs.Values.{Value};
+ghost use Rattle.rasn_types.specs.Values.{Value, alternative, root};
 ghost use Rattle.rasn_constraints.specs.declared.constraints.Constraint.{Constraint};
 ghost use Rattle.rasn_constraints.specs.declared.constraints.Constraints.{Constraints};
-ghost use Rattle.rasn_schema.specs.Choices.{choice_at, choices_of};
-ghost use Rattle.rasn_schema.specs.Components.{added_parts, chosen_value, root_parts, sequence_at, sequence_value};
+ghost use Rattle.rasn_schema.specs.Choices.{alternative_at, choice_at, choices_of, place_of};
+ghost use Rattle.rasn_schema.specs.Components.{sequence_at, sequence_value};
 ghost use Rattle.rasn_schema.specs.Schemas.{Parts, Presence, leaf, no_parts, optional, part, required};
 ghost use Rattle.rasn_schema.specs.Records.{own_or};
 ghost use Rattle.rasn_schema.specs.Fields.{Shape, shape_of, tag_of, tagged};
@@ -21,10 +21,10 @@ ghost use Rattle.rasn_record.specs.Lists.{ArePlain, behind, deepest, first_given
 ghost use Rattle.rasn_below.specs.Recursive.{ReadsHeld};
 
 use rasn_codec::boxed::boxed;
-use rasn_codec::codec::{Decoder, Encode, Encoder};
+use rasn_codec::codec::{Decoder, Encode, Encoder, EncoderExt};
 use rasn_record::cells::{Cell, EncodeCells, End, GivesBounds, OfRecord, given_or_own};
 use rasn_record::components::{DecodeComponent, EncodeComponent, Optional};
-use rasn_schema::alternatives::{Alternatives, ChoiceKind};
+use rasn_schema::choices::Choice;
 use rasn_schema::components::Components;
 use rasn_schema::constraints::Constraint;
 use rasn_schema::fields::Field;
@@ -450,19 +450,18 @@ pub fn record<
     )
 }
 
-/// The alternatives of a CHOICE that holds values of `T`.
-pub trait HoldsAlternatives<T: AsnType>: Alternatives + Sized + Drop {
-    /// Reads the alternative that goes by a tag, values of `T` by `held`. The tag is one of `ALTERNATIVES`.
+/// A CHOICE of which alternatives hold values of `T`.
+pub trait HoldsAlternatives<T: AsnType>: Choice + Sized + Drop {
+    /// Reads the alternative that goes by a tag, values of `T` by `held`. The tag is one of `VARIANTS` or of
+    /// `EXTENDED_VARIANTS`.
     fn decode_alternative<H: Same<T>, D: Decoder, F: Fn(&mut D, Tag) -> Result<H, D::Error>>(
         decoder: &mut D,
         tag: Tag,
         held: &F,
     ) -> Result<Self, D::Error>
         requires { ReadsHeld D.rules (H.schema H.CONSTRAINTS) H.value F.Fn held.now (D.rules.levels decoder.old) }
-        ensures { TakesAlternative D.rules
-            (choices_of (root_parts Self.alternatives.0) Self.ALTERNATIVES.behind (added_parts Self.alternatives.0))
-            Self.ALTERNATIVES.before Self.ALTERNATIVES.behind (tag_of tag) (λ x. chosen_value (Self.chosen x))
-            decoder.old result decoder.new };
+        ensures { TakesAlternative D.rules (choices_of Self.alternatives Self.EXTENDED_VARIANTS Self.added)
+            Self.VARIANTS Self.EXTENDED_VARIANTS (tag_of tag) Self.value decoder.old result decoder.new };
 }
 
 /// Reads a value under a tag that holds values of `T`, by the function for these.
@@ -502,8 +501,8 @@ pub fn alternative<
 }
 
 /// Reads a CHOICE that holds values of `T`: its index, and the alternative that goes by the tag at its place.
-pub fn choice<
-    C: HoldsAlternatives<T> + OfKind<Kind = ChoiceKind>,
+fn choice<
+    C: HoldsAlternatives<T>,
     T: AsnType,
     H: Same<T>,
     D: Decoder,
@@ -511,14 +510,42 @@ pub fn choice<
 >(decoder: &mut D, held: &F) -> Result<C, D::Error>
     requires { (n : ℕ) → D.rules.levels decoder.old ≡ suc n
         → ReadsHeld D.rules (H.schema H.CONSTRAINTS) H.value F.Fn held.now n }
-    ensures { Reads D.rules
-        (choice_at (root_parts C.alternatives.0) C.ALTERNATIVES.behind (added_parts C.alternatives.0)
-        (D.rules.levels decoder.old)) (λ x. chosen_value (C.chosen x)) decoder.old result decoder.new }
+    ensures { Reads D.rules (choice_at C.alternatives C.EXTENDED_VARIANTS C.added (D.rules.levels decoder.old)) C.value
+        decoder.old result decoder.new }
 {
     let (tag, outside) = decoder.open_choice::<C>()?;
     let value = C::decode_alternative::<H, D, F>(decoder, tag, held)?;
     decoder.close_choice(outside)?;
     Ok(value)
+}
+
+impl<T: AsnType, C: HoldsAlternatives<T>> Holds<T> for C {
+    fn decode_holding<H: Same<T>, D: Decoder, F: Fn(&mut D, Tag) -> Result<H, D::Error>>(
+        decoder: &mut D,
+        _: Tag,
+        held: &F,
+    ) -> Result<C, D::Error> {
+        choice::<C, T, H, D, F>(decoder, held)
+    }
+}
+
+/// Writes a CHOICE under a tag and a name by the value of one alternative, which stands at a place before the extension
+/// marker and goes by the tag `by`.
+pub fn write_alternative<C: Choice, H: Encode, E: Encoder>(
+    value: &H,
+    place: usize,
+    by: Tag,
+    encoder: &mut E,
+    tag: Tag,
+    identifier: Identifier,
+) -> Result<(), E::Error>
+    requires tag { place_of (tag_of by) C.VARIANTS ≡ Some place }
+    requires schema { (n : ℕ) → alternative_at (C.alternatives n) place ≡ Some (H.schema H.CONSTRAINTS n) }
+    ensures { Encodes E.rules (C.schema C.CONSTRAINTS) (suc (H.levels value.now))
+        (alternative root place (H.value value.now)) encoder.old result encoder.new }
+{
+    let _ = place;
+    encoder.encode_alternative::<C, H>(tag, by, value, identifier)
 }
 
 /// In a list of components to write, the place of the one that holds values of the record's type.

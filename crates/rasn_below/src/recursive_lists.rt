@@ -14,8 +14,8 @@
 //! }
 //! ```
 //!
-//! `decode_record`, `encode_holding_record`, `encode_choice` and `decode_recursive_alternative` are for authors, as is
-//! `encode_record`. What the others write is part of these.
+//! `decode_record`, `encode_holding_record`, `tags_of_alternatives`, `encode_choice` and `decode_recursive_alternative`
+//! are for authors, as is `encode_record`. What the others write is part of these.
 
 /// Writes a record of these components, of which one is `required` and holds the type itself, under a tag and a name:
 /// the body of its `Encode`. Where those that hold it are all `optional`, that is `encode_record`.
@@ -101,38 +101,49 @@ macro_rules! holding_component {
     };
 }
 
+/// The tags of the alternatives of a list, of a CHOICE that holds itself.
+#[macro_export]
+macro_rules! tags_of_alternatives {
+    ([] $($tag:literal $name:literal $variant:ident $(: $type:ty [$($bounds:tt)*])?;)*) => {
+        &[$($crate::TagTree::Leaf($crate::context_tag!($tag))),*]
+    };
+    ([] $($list:tt)*) => { $crate::wrong_alternative!($($list)*) };
+}
+
 /// Writes the alternative of a list that is chosen, under a tag and a name: the body of the `Encode` of a CHOICE that
-/// holds itself. Its alternatives have the constraints of their types.
+/// holds itself, by a type of these alternatives alone. They have the constraints of their types.
 #[macro_export]
 macro_rules! encode_choice {
-    ([$of:ident $encoder:ident $tag:ident $identifier:ident] $($list:tt)*) => {
-        $crate::choice_to_write!([$of $encoder $tag $identifier]; $($list)*)
+    ([$listing:ident $of:ident $encoder:ident $tag:ident $identifier:ident] $($list:tt)*) => {
+        $crate::with_places!(choice_to_write [$listing $of $encoder $tag $identifier]; $($list)*)
     };
 }
 
 /// The alternatives of a list to write, behind those that are done.
 #[macro_export]
 macro_rules! choice_to_write {
-    ([$of:ident $encoder:ident $tag:ident $identifier:ident $($done:tt)*];) => {
+    ($places:tt [$listing:ident $of:ident $encoder:ident $tag:ident $identifier:ident $($done:tt)*];) => {
         match $of { $($done)* }
     };
-    ([$of:ident $encoder:ident $tag:ident $identifier:ident $($done:tt)*];
+    ([$place:literal $($places:tt)*]
+        [$listing:ident $of:ident $encoder:ident $tag:ident $identifier:ident $($done:tt)*];
         $number:literal $name:literal $variant:ident; $($rest:tt)*
     ) => {
-        $crate::choice_to_write!([$of $encoder $tag $identifier
+        $crate::choice_to_write!([$($places)*] [$listing $of $encoder $tag $identifier
             $($done)*
-            Self::$variant => $encoder.encode_alternative::<Self, _>(
-                $tag, $crate::context_tag!($number), &(), $identifier,
+            Self::$variant => $crate::recursive::write_alternative::<$listing, (), _>(
+                &(), $place, $crate::context_tag!($number), $encoder, $tag, $identifier,
             ),
         ]; $($rest)*)
     };
-    ([$of:ident $encoder:ident $tag:ident $identifier:ident $($done:tt)*];
+    ([$place:literal $($places:tt)*]
+        [$listing:ident $of:ident $encoder:ident $tag:ident $identifier:ident $($done:tt)*];
         $number:literal $name:literal $variant:ident: $type:ty [$($bounds:tt)*]; $($rest:tt)*
     ) => {
-        $crate::choice_to_write!([$of $encoder $tag $identifier
+        $crate::choice_to_write!([$($places)*] [$listing $of $encoder $tag $identifier
             $($done)*
-            Self::$variant(value) => $encoder.encode_alternative::<Self, _>(
-                $tag, $crate::context_tag!($number), value, $identifier,
+            Self::$variant(value) => $crate::recursive::write_alternative::<$listing, $type, _>(
+                value, $place, $crate::context_tag!($number), $encoder, $tag, $identifier,
             ),
         ]; $($rest)*)
     };
