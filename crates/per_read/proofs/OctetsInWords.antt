@@ -1,20 +1,23 @@
 -- Octets whose low bits are those of a word.
-use Rattle.std.proofs.Common.{◌≡◌, refl, sym, ap, ap₂, ◌∙◌, subst, ℕ, zero, suc, ◌+◌, ◌-◌, ◌*◌, ◌/◌, ◌%◌, ◌^◌, ◌<◌, ◌≤◌, List, [], ◌∷◌, ◌++◌, length, length-take, take, drop, arith, pow_mono, pow_pos, mod-eq_of_lt, mod-lt}
+use Rattle.std.proofs.Common.{◌≡◌, refl, sym, ap, ap₂, ◌∙◌, subst, ℕ, zero, suc, ◌+◌, ◌-◌, ◌*◌, ◌/◌, ◌%◌, ◌^◌, ◌<◌, ◌≤◌, List, [], ◌∷◌, ◌++◌, append_assoc, length, length-append, length-take, take, drop, arith, pow_mono, pow_pos, mod-eq_of_lt, mod-lt}
 use Rattle.std.proofs.Math.Nat.{mul-add, suc-mul}
 use Rattle.std.proofs.Math.Pow.{mod-mod-pow}
-use Rattle.std.proofs.lemmas.List.{take_at}
+use Rattle.std.proofs.Math.Seq.{take-append-add}
+use Rattle.std.proofs.lemmas.List.{append-nil, length-drop, take_at, take-append-le}
+use borrow.Rule.Slice.PartMut.{put_mid, post_of}
 use Rattle.std.proofs.lemmas.Nat.{mul-le}
 use Rattle.rasn_types.specs.Alphabets.{Alphabet, char_width}
 use Rattle.rasn_types.specs.Bits.{Bits, to_bits}
 use Rattle.rasn_types.proofs.Bits.{length-to_bits, to_bits-same, to_bits-split}
 use Rattle.rasn_strings.specs.Prepared.{AreOwn}
 use Rattle.per_bits.specs.Octets.{low_bits_of}
-use Rattle.per_bits.proofs.LowBits.{length-low, low-split}
+use Rattle.per_bits.proofs.LowBits.{length-low, low-append, low-split}
 use Rattle.per_bits.proofs.Words.{to_bits-join}
 use Rattle.per_core.specs.Basic.{OneByOne}
 use Rattle.per_core.specs.Spellings.{Field}
 use Rattle.per_core.specs.Took.{Took}
 use Rattle.per_read.proofs.CharacterCodes.{own_took}
+use Rattle.per_read.proofs.OneByOne.{no_more}
 
 pub part_small : (w n part : ℕ) → w ≤ 8 → part ≡ n % 2 ^ w → part < 256
 part_small w n part h e = let m = mod-lt n (pow_pos w) in let p : 2 ^ w ≤ 2 ^ 8 = pow_mono {i = w} {j = 8} h in omega (arith, m, p, e)
@@ -59,10 +62,47 @@ parts_in_word w many s word high os f m e h l =
     whole = to_bits-same (8 * w) high (word * 2 ^ s) (ap (λ (n : ℕ). n % 2 ^ (8 * w)) h ∙ ap (λ (n : ℕ). word * 2 ^ s % 2 ^ n % 2 ^ (8 * w)) (let i : 64 ≡ 64 - 8 * w + 8 * w = omega arith in i) ∙ mod-mod-pow (word * 2 ^ s) (64 - 8 * w) (8 * w))
         ∙ ap₂ to_bits all (let i : word * 2 ^ s ≡ word * 2 ^ s + 0 = omega arith in i) ∙ to_bits-join (w * many) s word 0 (pow_pos s)
 
--- octets that are each written as their own value are spelled by the word
-pub own_word : (a : Alphabet) (octets os : List ℕ) (width many count word : ℕ) → width ≡ char_width a.variant a.characters → count ≡ char_width a.variant a.characters * many → os ≡ take many octets →
-    low_bits_of width (take many octets) ≡ to_bits (width * many) word → AreOwn a os → Took (OneByOne (Field (char_width a.variant a.characters)) os) (to_bits count word) []
-own_word a octets os width many count word e l t b h =
+-- octets that are each written as their own value are spelled by their low bits
+pub own_bits : (a : Alphabet) (os : List ℕ) (width : ℕ) (bits : Bits) → width ≡ char_width a.variant a.characters → low_bits_of width os ≡ bits → AreOwn a os →
+    Took (OneByOne (Field (char_width a.variant a.characters)) os) bits []
+own_bits a os width bits e b h =
     let w = char_width a.variant a.characters in
-    let same : low_bits_of w os ≡ to_bits count word = ap₂ (λ (n : ℕ) qs. low_bits_of n qs) (sym e) t ∙ b ∙ ap (λ (n : ℕ). to_bits (n * many) word) e ∙ ap (λ (n : ℕ). to_bits n word) (sym l) in
-    subst (λ (bits : Bits). Took (OneByOne (Field w) os) bits []) same (own_took a os h.codes)
+    subst (λ (z : Bits). Took (OneByOne (Field w) os) z []) (ap (λ (n : ℕ). low_bits_of n os) (sym e) ∙ b) (own_took a os h.codes)
+
+-- the octets of one word more
+pub more_octets : (w at count k word : ℕ) (octets part : List ℕ) (here rest all : Bits) → low_bits_of w (take at octets) ++ here ≡ all → at ≤ length octets → count ≤ length part →
+    low_bits_of w (take count part) ≡ to_bits (w * count) word → here ≡ to_bits (w * count) word ++ rest → low_bits_of w (take (at + count) (put_mid at k octets part)) ++ rest ≡ all
+more_octets w at count k word octets part here rest all h within few bits e =
+    ap (λ os. low_bits_of w os ++ rest) front ∙ ap (λ bs. bs ++ rest) (low-append w (take at octets) (take count part) ∙ ap (λ bs. low_bits_of w (take at octets) ++ bs) bits)
+    ∙ append_assoc (low_bits_of w (take at octets)) (to_bits (w * count) word) rest ∙ ap (λ bs. low_bits_of w (take at octets) ++ bs) (sym e) ∙ h
+  where
+    behind : List ℕ
+    behind = part ++ post_of at k octets
+
+    at_is : length (take at octets) ≡ at
+    at_is = length-take at octets ∙ omega arith
+
+    front : take (at + count) (put_mid at k octets part) ≡ take at octets ++ take count part
+    front = ap (λ (n : ℕ). take (n + count) (take at octets ++ behind)) (sym at_is) ∙ take-append-add (take at octets) behind count
+        ∙ ap (λ os. take at octets ++ os) (take-append-le count part (post_of at k octets) few)
+
+-- octets of which some are written again are as many
+pub length_put : (at k : ℕ) (octets part : List ℕ) → length part ≡ k → at + k ≤ length octets → length (put_mid at k octets part) ≡ length octets
+length_put at k octets part e h = length-append (take at octets) (part ++ drop k (drop at octets))
+    ∙ omega (arith, length-append part (drop k (drop at octets)), length-take at octets, length-drop k (drop at octets), length-drop at octets, e, h)
+
+-- the bits of those before, and those that are left
+counted : (w at many : ℕ) (octets : List ℕ) (here all : Bits) → low_bits_of w (take at octets) ++ here ≡ all → length all ≡ w * many → at ≤ length octets → w * at + length here ≡ w * many
+counted w at many octets here all h l within =
+    ap (λ (n : ℕ). n + length here) (ap (λ (n : ℕ). w * n) (sym (length-take at octets ∙ omega arith)) ∙ sym (length-low w (take at octets)))
+    ∙ sym (length-append (low_bits_of w (take at octets)) here) ∙ ap length h ∙ l
+
+pub octets_left : (w at count many : ℕ) (octets : List ℕ) (here all : Bits) → low_bits_of w (take at octets) ++ here ≡ all → length all ≡ w * many → at ≤ length octets → at + count ≤ many → w * count ≤ length here
+octets_left w at count many octets here all h l within few =
+    let m : w * (at + count) ≤ w * many = mul-le w (at + count) w many (omega arith) few in
+    omega (arith, counted w at many octets here all h l within, m, mul-add w at count)
+
+pub octets_all : (w at many : ℕ) (octets : List ℕ) (here all : Bits) → low_bits_of w (take at octets) ++ here ≡ all → length all ≡ w * many → at ≤ length octets → at ≡ many → low_bits_of w (take many octets) ≡ all
+octets_all w at many octets here all h l within e =
+    let none : here ≡ [] = no_more here (let c = counted w at many octets here all h l within in let s : w * at ≡ w * many = ap (λ (n : ℕ). w * n) e in omega (arith, c, s)) in
+    ap (λ (n : ℕ). low_bits_of w (take n octets)) (sym e) ∙ sym (append-nil (low_bits_of w (take at octets))) ∙ ap (λ bs. low_bits_of w (take at octets) ++ bs) (sym none) ∙ h

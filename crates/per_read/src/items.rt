@@ -55,6 +55,40 @@ pub(crate) trait Collector {
         ensures item { OnOk result (item self.new ≡ item self.old) }
         ensures count { OnOk result (count self.new ≤ count self.old + many) }
     {
+        let width = self.item().width();
+        let mut left = bits;
+        let mut done = 0;
+        while done < many {
+            let count = BLOCK.min(many - done);
+            let block = left.take(width * count as u128).unwrap();
+            self.push_block(block, count)?;
+            done += count;
+        }
+        Ok(())
+    }
+
+    /// Appends the items that some bits are, `many` of them, no more than a block has.
+    fn push_block(&mut self, bits: BitReader<'_>, many: usize) -> Result<(), AllocError>
+        requires bits { length bits.bits ≡ bits_of (item self.old) * many }
+        requires few { many ≤ BLOCK }
+        requires room { count self.old + many ≤ usize.MAX }
+        ensures ok { let form = OneByOne (coded (item self.old)) in
+            OnOk result (TookItems holds form many self.old self.new bits.entry.bits []) }
+        ensures item { OnOk result (item self.new ≡ item self.old) }
+        ensures count { OnOk result (count self.new ≤ count self.old + many) }
+    {
+        self.push_words(bits, many)
+    }
+
+    /// Appends the items that some bits are, `many` of them, as many at a time as one word has.
+    fn push_words(&mut self, bits: BitReader<'_>, many: usize) -> Result<(), AllocError>
+        requires bits { length bits.bits ≡ bits_of (item self.old) * many }
+        requires room { count self.old + many ≤ usize.MAX }
+        ensures ok { let form = OneByOne (coded (item self.old)) in
+            OnOk result (TookItems holds form many self.old self.new bits.entry.bits []) }
+        ensures item { OnOk result (item self.new ≡ item self.old) }
+        ensures count { OnOk result (count self.new ≤ count self.old + many) }
+    {
         let width = self.item().width() as u32;
         let most = items_in_word(width);
         let mut left = bits;
@@ -63,23 +97,10 @@ pub(crate) trait Collector {
             let count = most.min(many - done);
             let length = width * count as u32;
             let word = left.take_field(length);
-            self.push_word(word, length, count)?;
+            self.push_each(word, length, count)?;
             done += count;
         }
         Ok(())
-    }
-
-    /// Appends the items that the low `length` bits of a word are, `many` of them.
-    fn push_word(&mut self, word: u64, length: u32, many: usize) -> Result<(), AllocError>
-        requires bits { length ≡ bits_of (item self.old) * many }
-        requires few { length ≤ WORD_BITS }
-        requires room { count self.old + many ≤ usize.MAX }
-        ensures ok { let form = OneByOne (coded (item self.old)) in
-            OnOk result (TookItems holds form many self.old self.new (to_bits length word) []) }
-        ensures item { OnOk result (item self.new ≡ item self.old) }
-        ensures count { OnOk result (count self.new ≤ count self.old + many) }
-    {
-        self.push_each(word, length, many)
     }
 
     /// Appends the items that the low `length` bits of a word are, `many` of them, one after another.
@@ -104,6 +125,9 @@ pub(crate) trait Collector {
 
 /// The most bits that are read at once: those of a word less an octet, as the bits of an octet before them may be gone.
 const WORD_BITS: u32 = 56;
+
+/// The most items that are read before it is asked what they are.
+const BLOCK: usize = 64;
 
 /// How many items of so many bits one word has at most; at least one.
 fn items_in_word(width: u32) -> usize
@@ -134,6 +158,27 @@ fn octets_in_word(word: u64, width: u32, many: usize) -> [u8; 8]
         octet_between(high, width, width),
         octet_between(high, 0, width),
     ]
+}
+
+/// Octets of which the low `width` bits of each of the first `many` are those that a reader has left, no more of them
+/// than a block has. Eight octets are written for each word, of which those past its own are written again.
+fn octets_of(bits: BitReader<'_>, width: u32, many: usize) -> [u8; 72]
+    requires width { width ≤ 8 }
+    requires many { many ≤ BLOCK }
+    requires bits { length bits.bits ≡ width * many }
+    ensures { low_bits_of width (take many result) ≡ bits.entry.bits }
+{
+    let most = items_in_word(width).min(8);
+    let mut octets = [0; 72];
+    let mut left = bits;
+    let mut at = 0;
+    while at < many {
+        let count = most.min(many - at);
+        let word = left.take_field(width * count as u32);
+        octets[at..at + 8].copy_from_slice(&octets_in_word(word, width, count));
+        at += count;
+    }
+    octets
 }
 
 /// The number that `width` bits of a word mean, with `behind` others behind them, as an octet.
@@ -256,16 +301,16 @@ impl<S: StaticPermittedAlphabet> Collector for Characters<S> {
         Ok(())
     }
 
-    fn push_word(&mut self, word: u64, length: u32, many: usize) -> Result<(), AllocError> {
+    fn push_block(&mut self, bits: BitReader<'_>, many: usize) -> Result<(), AllocError> {
         let width = self.alphabet.width();
-        if width <= 8 && 0 < many && many <= 8 {
-            let octets = octets_in_word(word, width, many);
+        if width <= 8 {
+            let octets = octets_of(bits.clone().unwrap(), width, many);
             if self.alphabet.are_own(&octets[..many]) {
                 self.string.push_octets(&octets[..many])?;
                 return Ok(());
             }
         }
-        self.push_each(word, length, many)
+        self.push_words(bits, many)
     }
 }
 

@@ -1,8 +1,6 @@
 use Rattle.std.proofs.Common.{◌≡◌, ◌∙◌, ◌*◌, [], length, arith, ap, refl, sym, subst, ℕ}
-use Rattle.std.proofs.Math.Nat.{mul-le-mul_left}
 use Rattle.std.proofs.lemmas.List.{append-nil}
-use Rattle.rasn_types.specs.Bits.{to_bits}
-use Rattle.rasn_types.proofs.Bits.{length-to_bits}
+use Rattle.per_bits.proofs.Readers.{ok_unless}
 use Rattle.per_core.specs.Items.{bits_of}
 use Rattle.per_core.specs.Basic.{OneByOne}
 use Rattle.per_core.specs.Spellings.{Field}
@@ -19,34 +17,30 @@ loop-done-init g c =
       few = omega arith;
     }
 
-pub take_field-word-requires-clause-few : goal.take_field-word-requires-clause-few
-take_field-word-requires-clause-few g c = omega (arith, c.items_in_word-most.ensures.few, mul-le-mul_left {m = c.min-count.result} {n = c.items_in_word-most.result} c.width-width.result (omega arith))
-
-pub take_field-word-requires-clause-left : goal.take_field-word-requires-clause-left
-take_field-word-requires-clause-left g c = omega (arith, word_left c.min-count.result c.loop-done.invariant.first (omega arith))
+pub unwrap-block-requires : goal.unwrap-block-requires
+unwrap-block-requires g c =
+    let enough = word_left c.min-count.result c.loop-done.invariant.first (omega arith) in
+    ok_unless c.take.result c.take.ensures.short (λ h. omega (arith, h, enough))
 
 -- the items stay what they are
-pub push_word-requires-clause-bits : goal.push_word-requires-clause-bits
-push_word-requires-clause-bits g c =
+pub push_block-requires-clause-bits : goal.push_block-requires-clause-bits
+push_block-requires-clause-bits g c =
     let e : c.width-width.result ≡ bits_of (g.Self.Collector.item c.loop-done.self) = c.width-width.ensures ∙ ap bits_of (c.item.ensures.item ∙ sym c.loop-done.invariant.same) in
-    ap (λ (w : ℕ). w * c.min-count.result) e
+    let taken = rw c.unwrap-block.ensures at c.take.ensures in
+    taken.count ∙ ap (λ (w : ℕ). w * c.min-count.result) e
 
-pub push_word-requires-clause-few : goal.push_word-requires-clause-few
-push_word-requires-clause-few g c = omega (arith, c.items_in_word-most.ensures.few, mul-le-mul_left {m = c.min-count.result} {n = c.items_in_word-most.result} c.width-width.result (omega arith))
-
-pub push_word-requires-clause-room : goal.push_word-requires-clause-room
-push_word-requires-clause-room g c = omega (arith, c.loop-done.invariant.few, c.requires.room)
+pub push_block-requires-clause-room : goal.push_block-requires-clause-room
+push_block-requires-clause-room g c = omega (arith, c.loop-done.invariant.few, c.requires.room)
 
 pub loop-done-preserved : goal.loop-done-preserved
 loop-done-preserved g c =
     let e : bits_of (g.Self.Collector.item c.loop-done.self) ≡ c.width-width.result = ap bits_of (c.loop-done.invariant.same ∙ sym c.item.ensures.item) ∙ sym c.width-width.ensures in
-    let length = c.width-width.result * c.min-count.result in
-    let bits = to_bits length c.take_field-word.result in
-    let more = subst (λ (w : ℕ). TookItems g.Self.Collector.holds (OneByOne (Field w)) c.min-count.result c.loop-done.self c.push_word.new.self bits []) e c.in_ok-push_word.ensures.ok in
+    let taken = rw c.unwrap-block.ensures at c.take.ensures in
+    let more = subst (λ (w : ℕ). TookItems g.Self.Collector.holds (OneByOne (Field w)) c.min-count.result c.loop-done.self c.push_block.new.self c.unwrap-block.result.bits []) e c.in_ok-push_block.ensures.ok in
     record {
-      first = first_go_far c.loop-done.invariant.first (omega arith) c.take_field-word.ensures.bits (length-to_bits length c.take_field-word.result) more;
-      same = c.in_ok-push_word.ensures.item ∙ c.loop-done.invariant.same;
-      few = omega (arith, c.in_ok-push_word.ensures.count, c.loop-done.invariant.few);
+      first = first_go_far c.loop-done.invariant.first (omega arith) taken.ok taken.count more;
+      same = c.in_ok-push_block.ensures.item ∙ c.loop-done.invariant.same;
+      few = omega (arith, c.in_ok-push_block.ensures.count, c.loop-done.invariant.few);
     }
 
 pub returns-clause-ok : goal.returns-clause-ok
