@@ -16,6 +16,7 @@ use std::alloc::Allocator;
 pub(crate) const FIELD_BITS: u32 = 56;
 
 /// The first 64 bits of the octets, the first the highest; zeros behind them where there are fewer.
+#[inline(always)]
 fn load_word(octets: &[u8]) -> u64
     ensures { to_bits word_size result ≡ first_word octets.now }
 {
@@ -53,6 +54,7 @@ pub(crate) fn low_field(value: u128) -> u64
 }
 
 /// The number that `count` bits of the octets mean, behind `skip` others.
+#[inline(always)]
 pub(crate) fn read_field(octets: &[u8], skip: u32, count: u32) -> u64
     requires within { AreWithin skip count octets.now }
     requires few { count ≤ FIELD_BITS }

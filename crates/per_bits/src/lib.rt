@@ -122,6 +122,7 @@ impl<A: Allocator> BitList<A> {
 
     /// Sets the bit at an index, the first at 0; from the list's length on there is none. Every other bit stays, and no
     /// memory is taken.
+    #[inline(always)]
     pub fn set(&mut self, index: u128, bit: bool)
         ensures { self.new ≡ set self.old index bit }
     {
@@ -296,6 +297,7 @@ impl<'input> BitReader<'input> {
 
     /// A reader of the first `count` bits, which are no longer left here. Where fewer are left, the error is how many
     /// bits are missing, and nothing changes.
+    #[inline(always)]
     pub fn take(&mut self, count: u128) -> Result<BitReader<'input>, u128>
         ensures ok { IfOk result (λ front. self.old.bits ≡ front.bits ++ self.new.bits) }
         ensures count { IfOk result (λ front. length front.bits ≡ count) }
@@ -321,6 +323,7 @@ impl<'input> BitReader<'input> {
     }
 
     /// A reader of `count` bits behind the first `begin`, all of which are still left here.
+    #[inline(always)]
     pub fn part(&self, begin: u128, count: u128) -> BitReader<'input>
         requires { begin + count ≤ length self.now.bits }
         ensures bits { result.bits ≡ take count (drop begin self.now.bits) }
@@ -336,6 +339,7 @@ impl<'input> BitReader<'input> {
 
     /// The number that the first `count` bits mean as a non-negative-binary-integer (ITU-T X.691, 11.3), the first bit
     /// the highest. They are still left.
+    #[inline(always)]
     pub fn first_bits(&self, count: u128) -> u128
         requires few { count ≤ 128 }
         requires left { count ≤ length self.now.bits }

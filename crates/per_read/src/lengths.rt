@@ -40,6 +40,7 @@ impl Length {
 impl Reader<'_> {
     /// Takes the padding before what begins on an octet in the aligned variant: the bits that are left beyond whole
     /// octets. Where padding must be zero, other bits are refused.
+    #[inline(always)]
     pub(crate) fn take_padding(&mut self) -> Result<(), DecodeErrorKind>
         ensures { Takes tested (alone AnyPadding) itself self.old result self.new }
     {
@@ -55,6 +56,7 @@ impl Reader<'_> {
     }
 
     /// Takes how many items follow, which begins on an octet in the aligned variant (X.691 11.9.3.5 to 11.9.3.8).
+    #[inline(always)]
     pub fn take_unconstrained_length(&mut self) -> Result<Length, DecodeErrorKind>
         ensures { Takes tested LengthOf itself self.old result self.new }
     {
@@ -64,6 +66,7 @@ impl Reader<'_> {
 
     /// Takes how many items follow: a count below 128 in one octet, one below 16384 in two, or how many times 16384
     /// (X.691 11.9.3.6 to 11.9.3.8).
+    #[inline(always)]
     fn take_determinant(&mut self) -> Result<Length, DecodeErrorKind>
         ensures { Takes tested (λ a. CountOf) itself self.old result self.new }
     {

@@ -88,6 +88,7 @@ impl<'input> Reader<'input> {
     }
 
     /// Takes a bit.
+    #[inline(always)]
     pub fn take_bit(&mut self) -> Result<bool, DecodeErrorKind>
         ensures { Takes short (λ a. bit) itself self.old result self.new }
     {
@@ -102,6 +103,7 @@ impl<'input> Reader<'input> {
     }
 
     /// Takes the next `width` bits, highest first: the number that they mean (X.691 11.3).
+    #[inline(always)]
     pub fn take_bits(&mut self, width: u128) -> Result<u128, DecodeErrorKind>
         requires { width ≤ 128 }
         ensures { Takes short (λ a. Field width) itself self.old result self.new }

@@ -47,6 +47,7 @@ impl Reader<'_> {
     }
 
     /// Takes a number with both bounds: how far it is above the lower one (X.691 11.5).
+    #[inline(always)]
     fn take_between(&mut self, lower: i128, upper: i128) -> Result<ReadNumber, DecodeErrorKind>
         ensures { Takes tested (λ a. under_bounds a (Some lower) (Some upper)) OfRead self.old result self.new }
     {
@@ -55,6 +56,7 @@ impl Reader<'_> {
     }
 
     /// Takes a number with a lower bound alone: how far it is above the bound (X.691 11.7).
+    #[inline(always)]
     fn take_from(&mut self, lower: i128) -> Result<ReadNumber, DecodeErrorKind>
         ensures { Takes (memory_or IsOfOctets) (λ a. under_bounds a (Some lower) None) OfRead self.old result self.new }
     {
@@ -111,6 +113,7 @@ impl Reader<'_> {
 
     /// Takes one of the numbers from 0 to `greatest`, a constrained whole number above its lower bound (X.691 11.5). A
     /// code past `greatest` has no meaning: it is answered as it stands, since its caller names what it would be.
+    #[inline(always)]
     pub fn take_constrained_whole(&mut self, greatest: u128) -> Result<u128, DecodeErrorKind>
         ensures { Takes tested (λ a. constrained_form a (greatest + 1)) itself self.old result self.new }
     {

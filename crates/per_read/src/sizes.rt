@@ -123,6 +123,7 @@ impl Reader<'_> {
 
     /// Takes a count from `lower` on, as one of the numbers from `lower` to `upper` (X.691 11.9.3.3). It may be past
     /// `upper`.
+    #[inline(always)]
     pub(crate) fn take_constrained_count(
         &mut self,
         lower: usize,
@@ -137,6 +138,7 @@ impl Reader<'_> {
 
     /// Takes the padding between a constrained count and its items, where there is some (X.691 16.9 to 16.11, 17.6 to
     /// 17.8, 30.5.6, 30.5.7).
+    #[inline(always)]
     fn take_padding_between(
         &mut self,
         count: usize,
@@ -188,6 +190,7 @@ pub(crate) fn constrained_size(size: &Bounded<usize>) -> Option<(usize, usize)>
 }
 
 /// Refuses a count that a size doesn't allow (X.680 51.5).
+#[inline(always)]
 pub(crate) fn check_size(size: &Bounded<usize>, count: usize) -> Result<(), DecodeErrorKind>
     ensures ok { OnOk result (allows (size_between size.now) count ≡ true) }
     ensures err { IfErr result (λ kind. kind ≡ SizeConstraintNotSatisfied count (start_of size.now) (end_of size.now)) }

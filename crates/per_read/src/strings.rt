@@ -43,6 +43,7 @@ impl Reader<'_> {
 
     /// Skips an OCTET STRING under the first size constraint (X.691 17), and answers how many octets it has. It takes
     /// no memory.
+    #[inline(always)]
     pub fn skip_octet_string(&mut self, constraints: &Constraints) -> Result<usize, DecodeErrorKind>
         ensures { let size = size_of constraints.now in let mark = is_size_marked constraints.now in
             let why = λ (a : Settings). IsOfItems a size mark Octet in
