@@ -321,6 +321,7 @@ impl<'input> Decoder<'input> {
     }
 
     /// Reads an OCTET STRING under constraints, and answers a copy of its octets.
+    #[inline(always)]
     fn copied(&mut self, constraints: &Constraints) -> Result<CowSlice<'static, u8>, DecodeError>
         ensures read { Reads decoder_rules (octet_schema constraints.now) (λ x. octets (cow_slice_items x))
             self.old result self.new }
@@ -335,6 +336,7 @@ impl<'input> Decoder<'input> {
     }
 
     /// The `count` octets under a size in front of the last `left` bits, where they can be lent.
+    #[inline(always)]
     fn lent(&self, constraints: &Constraints, count: usize, left: u128) -> Option<&'input [u8]>
         requires { ComeAlone (size_of constraints.now) (is_size_marked constraints.now) self.now.bits count
             → 8 * count + left ≤ length self.now.bits }

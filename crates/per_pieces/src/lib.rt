@@ -93,6 +93,7 @@ impl<A: Allocator> Pieces<A> {
 
     /// Sets the bit at a place among the bits, the first at 0; behind the last there is none. Every other piece stays,
     /// and no memory is taken.
+    #[inline(always)]
     pub fn set(&mut self, place: u128, bit: bool)
         ensures { self.new ≡ with_bit self.old place bit }
     {

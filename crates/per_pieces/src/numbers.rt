@@ -18,6 +18,7 @@ use rasn_types::width::{width_of, width_to};
 use std::alloc::{AllocError, Allocator};
 
 /// Writes a number within bounds of which the lower one is there (X.691 13.2.2, 13.2.3).
+#[inline(always)]
 pub fn push_above<A: Allocator>(
     pieces: &mut Pieces<A>,
     codec: Codec,
@@ -127,6 +128,7 @@ pub fn push_unconstrained_whole<A: Allocator>(
 
 /// Writes so many octets of a number, behind their count as an unconstrained length (X.691 11.9.3.6): up to 6 of them
 /// in one field with the octet of their count, which is then of 56 bits at most.
+#[inline(always)]
 fn push_counted<A: Allocator>(
     pieces: &mut Pieces<A>,
     codec: Codec,

@@ -23,6 +23,7 @@ pub enum Contents {
 }
 
 /// Takes the octets of an open type (X.691 11.2), behind an unconstrained length. Only those in fragments take memory.
+#[inline(always)]
 pub fn take_open(reader: &mut Reader<'_>) -> Result<Contents, DecodeErrorKind>
     ensures { Takes (gathering fragments_of) Octets (HasOctets reader.old.bits reader.new.bits) reader.old result
         reader.new }

@@ -106,6 +106,7 @@ fn take_long_integer<I: IntegerType>(reader: &mut Reader<'_>) -> Result<I, Decod
 
 /// The value that a number is, first by the bounds and then by the type. A number that no `i128` holds is none, also
 /// where it is within the bounds.
+#[inline(always)]
 fn fit<I: IntegerType>(number: ReadNumber, bounds: &Bounded<i128>) -> Result<I, DecodeErrorKind>
     ensures ok { IfOk result (λ x. IsFit (bounds_of bounds.now) I.range number (I.number x)) }
     ensures err { IfErr result (λ kind. OfEach (Misfit (bounds_of bounds.now) I.range I.WIDTH kind) number) }

@@ -40,6 +40,7 @@ impl<A: Allocator + Clone> Model for Scope<A> {
 
 impl<A: Allocator + Clone> Writer<A> {
     /// Gives the next presence bit of the open SEQUENCE; where none is left it refuses.
+    #[inline(always)]
     pub fn set_presence(&mut self, is_there: bool) -> Result<(), EncodeError>
         requires { self.old.failed ≡ false }
         ensures { MarksOrNot is_there self.old result self.new }

@@ -74,6 +74,7 @@ pub fn put_integer<A: Allocator + Clone, I: IntegerType>(
 
 /// Whether a number is within bounds. Memory, from where that of the bits is, is taken only where an `i128` doesn't
 /// hold the number.
+#[inline(always)]
 fn is_within<A: Allocator + Clone, I: IntegerType>(
     bits: &BitList<A>,
     bounds: &Bounded<i128>,

@@ -44,6 +44,7 @@ pub fn value<T: Components, H: AsnType>(of: &T, place: usize, value: &H)
 
 /// Reads all components of a record in turn, by the record's own fields and the constraints of a list, and then its
 /// additions.
+#[inline(always)]
 pub fn all<T: Components, P: DecodeCells, Q: DecodeAdditions, D: Decoder>(
     cells: &P,
     constraints: &[&'static [Constraint]],
@@ -63,6 +64,7 @@ pub fn all<T: Components, P: DecodeCells, Q: DecodeAdditions, D: Decoder>(
 
 /// Reads all components of a record without additions in turn, by the record's own fields and the constraints of a
 /// list. It takes no references beside the decoder, each of which costs a page's check.
+#[inline(always)]
 pub fn plain<T: Components, P: DecodeCells + Drop, D: Decoder>(
     cells: P,
     bounds: Bounds,
