@@ -8,10 +8,10 @@ ghost use Rattle.per_samples_lists.specs.Filters.{filter_schema, filter_tag, fil
 
 use rasn_below::codec::{Decode, Encode};
 use rasn_below::page::*;
-use rasn_below::recursive::{HoldsAlternatives, Same, Unconstrained, decode};
+use rasn_below::recursive::{HoldsAlternatives, Same, Unconstrained, decode, write_alternative};
 use rasn_below::schema::{Choice, TagTree, TypeTree, Variants};
 use rasn_below::types::Identifier;
-use rasn_below::{decode_recursive_alternative, encode_choice, tags_of_alternatives};
+use rasn_below::{context_tag, decode_recursive_alternative, tags_of_alternatives};
 
 /// Filter ::= CHOICE { and SEQUENCE OF Filter, or SEQUENCE OF Filter, not Filter, present OCTET STRING }
 #[derive(Debug, Drop, PartialEq)]
@@ -119,7 +119,40 @@ impl Encode for Filter {
         _: &Constraints,
         identifier: Identifier,
     ) -> Result<(), E::Error> {
-        alternatives!(encode_choice Listing self encoder tag identifier)
+        match self {
+            Self::And(value) => write_alternative::<Listing, Vec<Filter>, _>(
+                value,
+                0,
+                context_tag!(0),
+                encoder,
+                tag,
+                identifier,
+            ),
+            Self::Or(value) => write_alternative::<Listing, Vec<Filter>, _>(
+                value,
+                1,
+                context_tag!(1),
+                encoder,
+                tag,
+                identifier,
+            ),
+            Self::Not(value) => write_alternative::<Listing, Box<Filter>, _>(
+                value,
+                2,
+                context_tag!(2),
+                encoder,
+                tag,
+                identifier,
+            ),
+            Self::Present(value) => write_alternative::<Listing, OctetString, _>(
+                value,
+                3,
+                context_tag!(3),
+                encoder,
+                tag,
+                identifier,
+            ),
+        }
     }
 }
 

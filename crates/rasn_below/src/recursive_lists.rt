@@ -14,8 +14,8 @@
 //! }
 //! ```
 //!
-//! `decode_record`, `encode_holding_record`, `tags_of_alternatives`, `encode_choice` and `decode_recursive_alternative`
-//! are for authors, as is `encode_record`. What the others write is part of these.
+//! `decode_record`, `encode_holding_record`, `tags_of_alternatives` and `decode_recursive_alternative` are for authors, as
+//! is `encode_record`. What the others write is part of these.
 
 /// Writes a record of these components, of which one is `required` and holds the type itself, under a tag and a name:
 /// the body of its `Encode`. Where those that hold it are all `optional`, that is `encode_record`.
@@ -108,45 +108,6 @@ macro_rules! tags_of_alternatives {
         &[$($crate::TagTree::Leaf($crate::context_tag!($tag))),*]
     };
     ([] $($list:tt)*) => { $crate::wrong_alternative!($($list)*) };
-}
-
-/// Writes the alternative of a list that is chosen, under a tag and a name: the body of the `Encode` of a CHOICE that
-/// holds itself, by a type of these alternatives alone. They have the constraints of their types.
-#[macro_export]
-macro_rules! encode_choice {
-    ([$listing:ident $of:ident $encoder:ident $tag:ident $identifier:ident] $($list:tt)*) => {
-        $crate::with_places!(choice_to_write [$listing $of $encoder $tag $identifier]; $($list)*)
-    };
-}
-
-/// The alternatives of a list to write, behind those that are done.
-#[macro_export]
-macro_rules! choice_to_write {
-    ($places:tt [$listing:ident $of:ident $encoder:ident $tag:ident $identifier:ident $($done:tt)*];) => {
-        match $of { $($done)* }
-    };
-    ([$place:literal $($places:tt)*]
-        [$listing:ident $of:ident $encoder:ident $tag:ident $identifier:ident $($done:tt)*];
-        $number:literal $name:literal $variant:ident; $($rest:tt)*
-    ) => {
-        $crate::choice_to_write!([$($places)*] [$listing $of $encoder $tag $identifier
-            $($done)*
-            Self::$variant => $crate::recursive::write_alternative::<$listing, (), _>(
-                &(), $place, $crate::context_tag!($number), $encoder, $tag, $identifier,
-            ),
-        ]; $($rest)*)
-    };
-    ([$place:literal $($places:tt)*]
-        [$listing:ident $of:ident $encoder:ident $tag:ident $identifier:ident $($done:tt)*];
-        $number:literal $name:literal $variant:ident: $type:ty [$($bounds:tt)*]; $($rest:tt)*
-    ) => {
-        $crate::choice_to_write!([$($places)*] [$listing $of $encoder $tag $identifier
-            $($done)*
-            Self::$variant(value) => $crate::recursive::write_alternative::<$listing, $type, _>(
-                value, $place, $crate::context_tag!($number), $encoder, $tag, $identifier,
-            ),
-        ]; $($rest)*)
-    };
 }
 
 /// Reads the alternative of a list that goes by a tag, of a CHOICE which holds values of a type that `held` reads. The
