@@ -1,0 +1,39 @@
+#!/usr/bin/env escript
+%% Encodes values, or reads octets and encodes what they spell, by what Erlang/OTP's compiler makes of ASN.1 modules.
+%%
+%% usage: asn1ct.escript compile FOLDER RULE MODULE..
+%%        asn1ct.escript encode FOLDER VALUES OUT
+%%        asn1ct.escript recode FOLDER LINES OUT
+%%
+%% FOLDER has MODULE.asn1 of all modules; `compile` puts what it makes of them beside them. RULE is uper or per. VALUES has a
+%% term {Module, Type, Value} for each encoding, LINES a line MODULE TYPE HEXADECIMAL. OUT gets a line for each: hexadecimal
+%% digits, or `!` and what was said.
+-mode(compile).
+
+main(["compile", Folder, Rule | Modules]) ->
+    ok = file:set_cwd(Folder),
+    [ok = asn1ct:compile(Module ++ ".asn1", [list_to_atom(Rule), {i, "."}]) || Module <- Modules];
+main(["encode", Folder, Values, Out]) ->
+    true = code:add_patha(Folder),
+    {ok, Terms} = file:consult(Values),
+    ok = file:write_file(Out, [[line(fun() -> encoded(Module, Type, Value) end), $\n] || {Module, Type, Value} <- Terms]);
+main(["recode", Folder, Lines, Out]) ->
+    true = code:add_patha(Folder),
+    {ok, Text} = file:read_file(Lines),
+    Split = [binary:split(Line, <<" ">>, [global]) || Line <- binary:split(Text, <<"\n">>, [global, trim_all])],
+    ok = file:write_file(Out, [[line(fun() -> recoded(Words) end), $\n] || Words <- Split]).
+
+recoded([Name, TypeName, Digits]) ->
+    {Module, Type} = {binary_to_atom(Name), binary_to_atom(TypeName)},
+    {ok, Value} = Module:decode(Type, binary:decode_hex(Digits)),
+    encoded(Module, Type, Value).
+
+encoded(Module, Type, Value) ->
+    {ok, Octets} = Module:encode(Type, Value),
+    string:lowercase(binary:encode_hex(Octets)).
+
+line(Make) ->
+    try Make()
+    catch
+        _:Why -> [C || C <- lists:flatten(io_lib:format("! ~0P", [Why, 12])), C >= 32, C < 127]
+    end.

@@ -1,0 +1,123 @@
+"""What tshark makes of messages: names and values, held against those of their terms."""
+import os
+import re
+import struct
+import subprocess
+import xml.etree.ElementTree as ElementTree
+
+from messages import Atom, Bits, leaves
+from repository import Failure
+
+# The dissector of each type of a message.
+DISSECTORS = {"CAM": "its", "DENM": "its", "NGAP-PDU": "ngap", "S1AP-PDU": "s1ap", "BCCH-BCH-Message": "lte_rrc.bcch_bch"}
+# What the messages carry is no real message of these.
+CARRIED = ("nas-5gs", "nas-eps")
+# A capture's head: microseconds, version 2.4, packets of any size, of the link type of exported PDUs.
+HEAD = struct.pack("<IHHiIII", 0xA1B2C3D4, 2, 4, 0, 0, 1 << 18, 252)
+# The tag of a packet's dissector, by its name.
+BY_NAME = 12
+
+
+def packet(dissector, octets):
+    """Returns a packet of a capture: what dissects it, and the octets."""
+    name = dissector.encode() + b"\0" * (-len(dissector) % 4)
+    body = struct.pack(">HH", BY_NAME, len(name)) + name + struct.pack(">HH", 0, 0) + octets
+    return struct.pack("<IIII", 0, 0, len(body), len(body)) + body
+
+
+def dissections(folder, messages):
+    """Returns the tree that tshark makes of each message."""
+    capture = f"{folder}/messages.pcap"
+    with open(capture, "wb") as it:
+        it.write(HEAD + b"".join(packet(DISSECTORS[one.type], bytes.fromhex(one.octets)) for one in messages))
+    words = ["tshark", "-r", capture, "-T", "pdml", *(word for it in CARRIED for word in ("--disable-protocol", it))]
+    ran = subprocess.run(words, capture_output=True, encoding="utf-8", errors="replace", check=False)
+    if ran.returncode:
+        raise Failure(f"tshark: status {ran.returncode}\n{ran.stderr[-2000:]}")
+    os.remove(capture)
+    found = ElementTree.fromstring(ran.stdout).findall("packet")
+    if len(found) != len(messages):
+        raise Failure(f"tshark shows {len(found)} packets of {len(messages)}")
+    return found
+
+
+def plain(text):
+    """Returns a name in small letters and digits alone, since tshark writes names in several ways."""
+    return re.sub(r"[^a-z0-9]", "", text.lower())
+
+
+class Node:
+    """A field of tshark's tree: its names, and what is shown of it."""
+
+    def __init__(self, field):
+        shown = re.sub(r"^[.01 ]+ = ", "", field.get("showname") or field.get("show") or "")
+        last = (field.get("name") or "").split(".")[-1]
+        self.names = {plain(shown.split(":")[0].split(" (")[0]), plain(re.sub(r"_element$", "", last))}
+        self.show, self.octets = field.get("show") or "", (field.get("value") or "").lower()
+        self.told = shown.split(":", 1)[-1]
+
+    def is_value(self, value):
+        """Tells whether this is what is shown of a leaf's value."""
+        if isinstance(value, Bits):
+            return self.is_binary(value)
+        if isinstance(value, Atom):
+            return value == "NULL" or plain(self.told.split("(")[0]) == plain(value)
+        if isinstance(value, str):
+            return self.show == value
+        return str(value) in (self.show, *re.findall(r"\((-?\d+)\)", self.told)) or self.show == f"0x{value:08x}"
+
+    def is_binary(self, bits):
+        """Tells whether octets or bits are shown: as octets, as digits behind a colon, or as text."""
+        octets = bytes(int(bits[place : place + 8].ljust(8, "0"), 2) for place in range(0, len(bits), 8))
+        number = octets.hex()
+        if number in (self.octets, self.show.replace(":", "").lower()):
+            return True
+        found = re.match(r"\s*([0-9a-f]+)\b", self.told)
+        return bool(found) and found[1] == number or self.show.encode() == octets
+
+
+def faults(tree):
+    """Gives what tshark finds wrong with a message."""
+    texts = {(field.get("name"), field.get("showname") or "") for field in tree.iter("field")}
+    if any(name == "_ws.expert.severity" and "Error" in text for name, text in texts):
+        yield "an error"
+    if any(name == "_ws.malformed" for name in [it.get("name") for it in tree.iter()]):
+        yield "malformed"
+    if any(proto.get("name") == "data" for proto in tree.findall("proto")):
+        yield "octets are left over"
+
+
+def unused(value, name, nodes, used):
+    """Returns the place of a node that shows a value, under a name or any, and no other leaf has; None where there is none."""
+    for place, node in enumerate(nodes):
+        if place not in used and (name is None or plain(name) in node.names) and node.is_value(value):
+            return place
+    return None
+
+
+def compared(value, tree):
+    """Returns how many leaves a value has, how many are shown by value alone, and those that aren't shown. The value of an
+    open type, and an item of a list, stand under their types' names. No two leaves have one node."""
+    nodes, used = [Node(field) for field in tree.findall("proto")[-1].iter("field")], set()
+    lacking = [*leaves(value)]
+    count = len(lacking)
+    for is_named in (True, False):
+        rest = []
+        for name, held in lacking:
+            place = unused(held, name if is_named else None, nodes, used)
+            used.add(place)
+            rest += [(name, held)] * (place is None)
+        by_value, lacking = len(lacking) - len(rest), rest
+    return count, by_value, lacking
+
+
+def judged(folder, messages):
+    """Returns each difference, as the place of the message and a text, and how many leaves were compared and how many of them
+    by value alone."""
+    differences, count, by_value = [], 0, 0
+    for place, (message, tree) in enumerate(zip(messages, dissections(folder, messages))):
+        differences += [(place, fault) for fault in faults(tree)]
+        leaves_here, by_value_here, lacking = compared(message.value, tree)
+        differences += [(place, f"{name} {value} isn't shown") for name, value in lacking]
+        count, by_value = count + leaves_here, by_value + by_value_here
+    return differences, count, by_value
