@@ -90,8 +90,10 @@ macro_rules! alternative_bounds {
 /// those before the marker, once it is passed.
 #[macro_export]
 macro_rules! alternative_bounds_in_turn {
-    ([] [$($done:tt)*]) => { $crate::Bounds { root: &[$($done)*], added: &[] } };
-    ([[$($root:tt)*]] [$($done:tt)*]) => { $crate::Bounds { root: &[$($root)*], added: &[$($done)*] } };
+    ([] $done:tt) => { $crate::alternative_bounds_in_turn!([$done] []) };
+    ([[$($root:tt)*]] [$($done:tt)*]) => {
+        $crate::Bounds { lists: &$crate::BoundLists { root: &[$($root)*], added: &[$($done)*] } }
+    };
     ([] $done:tt ...; $($rest:tt)*) => { $crate::alternative_bounds_in_turn!([$done] [] $($rest)*) };
     ($root:tt [$($done:tt)*] $tag:literal $name:literal $variant:ident; $($rest:tt)*) => {
         $crate::alternative_bounds_in_turn!($root [$($done)* &[],] $($rest)*)
@@ -116,9 +118,10 @@ macro_rules! alternative_bounds_in_turn {
 /// Writes the alternative of a list that is chosen. Their constraints are in the constant `BOUNDS`.
 #[macro_export]
 macro_rules! encode_alternative {
-    ([$of:ident $encoder:ident] $($list:tt)*) => {
-        $crate::with_places!(alternatives_to_write write root [$of $encoder]; $($list)*)
-    };
+    ([$of:ident $encoder:ident] $($list:tt)*) => {{
+        let limits = BOUNDS;
+        $crate::with_places!(alternatives_to_write write [$of $encoder limits]; $($list)*)
+    }};
 }
 
 /// Reads the alternative of a list that goes by a tag. Their constraints are in the constant `BOUNDS`.
@@ -126,42 +129,44 @@ macro_rules! encode_alternative {
 macro_rules! decode_alternative {
     ([$decoder:ident $by:ident] $(
         $tag:literal $name:literal $variant:ident $(: $type:ty [$($bounds:tt)*])?;
-    )*) => {
-        $crate::with_places!(alternatives_to_read [$decoder $by];
+    )*) => {{
+        let limits = BOUNDS;
+        $crate::with_places!(alternatives_to_read [$decoder $by limits];
             $($tag $name $variant $(: $type [$($bounds)*])?;)*
         )
-    };
-    ([$decoder:ident $by:ident] $($list:tt)*) => {
-        $crate::with_places!(marked_alternatives_to_read Root root [$decoder $by]; $($list)*)
-    };
+    }};
+    ([$decoder:ident $by:ident] $($list:tt)*) => {{
+        let limits = BOUNDS;
+        $crate::with_places!(marked_alternatives_to_read Root read [$decoder $by limits]; $($list)*)
+    }};
 }
 
 /// The alternatives of a list to write, behind those that are done.
 #[macro_export]
 macro_rules! alternatives_to_write {
-    ($places:tt $write:ident $limits:ident [$of:ident $encoder:ident $($done:tt)*];) => {
+    ($places:tt $write:ident [$of:ident $encoder:ident $limits:ident $($done:tt)*];) => {
         match $of { $($done)* }
     };
-    ($places:tt $write:ident $limits:ident $done:tt; ...; $($rest:tt)*) => {
-        $crate::with_places!(alternatives_to_write write_behind added $done; $($rest)*)
+    ($places:tt $write:ident $done:tt; ...; $($rest:tt)*) => {
+        $crate::with_places!(alternatives_to_write write_behind $done; $($rest)*)
     };
-    ([$place:literal $($places:tt)*] $write:ident $limits:ident [$of:ident $encoder:ident $($done:tt)*];
+    ([$place:literal $($places:tt)*] $write:ident [$of:ident $encoder:ident $limits:ident $($done:tt)*];
         $tag:literal $name:literal $variant:ident; $($rest:tt)*
     ) => {
-        $crate::alternatives_to_write!([$($places)*] $write $limits [$of $encoder
+        $crate::alternatives_to_write!([$($places)*] $write [$of $encoder $limits
             $($done)*
-            Self::$variant => $crate::alternatives::$write(
-                $of, $place, $crate::context_tag!($tag), BOUNDS.$limits[$place], &(), $encoder,
+            Self::$variant => $crate::by_place::$write(
+                $of, $place, $crate::context_tag!($tag), $limits, &(), $encoder,
             ),
         ]; $($rest)*)
     };
-    ([$place:literal $($places:tt)*] $write:ident $limits:ident [$of:ident $encoder:ident $($done:tt)*];
+    ([$place:literal $($places:tt)*] $write:ident [$of:ident $encoder:ident $limits:ident $($done:tt)*];
         $tag:literal $name:literal $variant:ident: $type:ty [$($bounds:tt)*]; $($rest:tt)*
     ) => {
-        $crate::alternatives_to_write!([$($places)*] $write $limits [$of $encoder
+        $crate::alternatives_to_write!([$($places)*] $write [$of $encoder $limits
             $($done)*
-            Self::$variant(value) => $crate::alternatives::$write::<Self, $type, _>(
-                $of, $place, $crate::context_tag!($tag), BOUNDS.$limits[$place], value, $encoder,
+            Self::$variant(value) => $crate::by_place::$write::<Self, $type, _>(
+                $of, $place, $crate::context_tag!($tag), $limits, value, $encoder,
             ),
         ]; $($rest)*)
     };
@@ -170,20 +175,20 @@ macro_rules! alternatives_to_write {
 /// The alternatives to read of a list without a marker, behind those that are done.
 #[macro_export]
 macro_rules! alternatives_to_read {
-    ([$place:literal $($places:tt)*] [$decoder:ident $by:ident $($done:tt)*];
+    ([$place:literal $($places:tt)*] [$decoder:ident $by:ident $limits:ident $($done:tt)*];
         $tag:literal $name:literal $variant:ident $(: $type:ty [$($bounds:tt)*])?;
     ) => {
         match <Self as $crate::schema::Choice>::VARIANTS.index_of($by) {
             $($done)*
-            _ => $crate::alternative_to_read!($decoder $by root $place $variant $($type)?),
+            _ => $crate::alternative_to_read!($decoder $by $limits read $place $variant $($type)?),
         }
     };
-    ([$place:literal $($places:tt)*] [$decoder:ident $by:ident $($done:tt)*];
+    ([$place:literal $($places:tt)*] [$decoder:ident $by:ident $limits:ident $($done:tt)*];
         $tag:literal $name:literal $variant:ident $(: $type:ty [$($bounds:tt)*])?; $($rest:tt)+
     ) => {
-        $crate::alternatives_to_read!([$($places)*] [$decoder $by
+        $crate::alternatives_to_read!([$($places)*] [$decoder $by $limits
             $($done)*
-            Some($place) => $crate::alternative_to_read!($decoder $by root $place $variant $($type)?),
+            Some($place) => $crate::alternative_to_read!($decoder $by $limits read $place $variant $($type)?),
         ]; $($rest)+)
     };
 }
@@ -191,46 +196,46 @@ macro_rules! alternatives_to_read {
 /// The alternatives to read of a list with a marker, behind those that are done.
 #[macro_export]
 macro_rules! marked_alternatives_to_read {
-    ([$place:literal $($places:tt)*] $side:ident $limits:ident [$decoder:ident $by:ident $($done:tt)*];
+    ([$place:literal $($places:tt)*] $side:ident $read:ident [$decoder:ident $by:ident $limits:ident $($done:tt)*];
         $tag:literal $name:literal $variant:ident $(: $type:ty [$($bounds:tt)*])?;
     ) => {{
         let added = <Self as $crate::schema::Choice>::EXTENDED_VARIANTS;
         match <Self as $crate::schema::Choice>::VARIANTS.place_of(&added, $by) {
             $($done)*
-            _ => $crate::alternative_to_read!($decoder $by $limits $place $variant $($type)?),
+            _ => $crate::alternative_to_read!($decoder $by $limits $read $place $variant $($type)?),
         }
     }};
-    ($places:tt $side:ident $limits:ident $done:tt;
+    ($places:tt $side:ident $read:ident $done:tt;
         $tag:literal $name:literal $variant:ident $(: $type:ty [$($bounds:tt)*])?; ...;
     ) => {
-        $crate::marked_alternatives_to_read!($places $side $limits $done;
+        $crate::marked_alternatives_to_read!($places $side $read $done;
             $tag $name $variant $(: $type [$($bounds)*])?;
         )
     };
-    ($places:tt $side:ident $limits:ident $done:tt; ...; $($rest:tt)+) => {
-        $crate::with_places!(marked_alternatives_to_read Added added $done; $($rest)+)
+    ($places:tt $side:ident $read:ident $done:tt; ...; $($rest:tt)+) => {
+        $crate::with_places!(marked_alternatives_to_read Added read_behind $done; $($rest)+)
     };
-    ([$place:literal $($places:tt)*] $side:ident $limits:ident [$decoder:ident $by:ident $($done:tt)*];
+    ([$place:literal $($places:tt)*] $side:ident $read:ident [$decoder:ident $by:ident $limits:ident $($done:tt)*];
         $tag:literal $name:literal $variant:ident $(: $type:ty [$($bounds:tt)*])?; $($rest:tt)+
     ) => {
-        $crate::marked_alternatives_to_read!([$($places)*] $side $limits [$decoder $by
+        $crate::marked_alternatives_to_read!([$($places)*] $side $read [$decoder $by $limits
             $($done)*
             Some($crate::Place::$side($place)) => $crate::alternative_to_read!(
-                $decoder $by $limits $place $variant $($type)?
+                $decoder $by $limits $read $place $variant $($type)?
             ),
         ]; $($rest)+)
     };
 }
 
-/// The alternative at a place, to read. The constraints of its list are those of this name.
+/// The alternative at a place, to read, by a function for those before the marker or behind it.
 #[macro_export]
 macro_rules! alternative_to_read {
-    ($decoder:ident $by:ident $limits:ident $place:literal $variant:ident) => {{
-        $crate::alternatives::read::<(), _>($decoder, $by, BOUNDS.$limits[$place])?;
+    ($decoder:ident $by:ident $limits:ident $read:ident $place:literal $variant:ident) => {{
+        $crate::by_place::$read::<(), _>($decoder, $by, $limits, $place)?;
         Ok(Self::$variant)
     }};
-    ($decoder:ident $by:ident $limits:ident $place:literal $variant:ident $type:ty) => {{
-        let value = $crate::alternatives::read::<$type, _>($decoder, $by, BOUNDS.$limits[$place])?;
+    ($decoder:ident $by:ident $limits:ident $read:ident $place:literal $variant:ident $type:ty) => {{
+        let value = $crate::by_place::$read::<$type, _>($decoder, $by, $limits, $place)?;
         Ok(Self::$variant(value))
     }};
 }

@@ -19,13 +19,16 @@ pub use rasn_additions::{added, additions};
 pub use rasn_codec::alternatives::CodedAlternatives;
 pub use rasn_codec::codec::{Decode, Decoder, Encode, Encoder};
 pub use rasn_codec::kinds::ByKind;
-pub use rasn_codec::record::{Bounds, Record};
+pub use rasn_codec::record::Record;
+pub use rasn_record::bounds::{BoundLists, Bounds};
 pub use rasn_record::defaults::DefaultOf;
 pub use rasn_record::defaults::items::Item;
 pub use rasn_record::defaults::lists::EmptyList;
 pub use rasn_record::defaults::octets::Octets;
 pub use rasn_record::defaults::texts::{Text, Utf8Text};
-pub use rasn_record::{alternatives, cells, components, fours, read, sixteen, write};
+pub use rasn_record::{
+    alternatives, by_place, cells, components, few, fours, read, sixteen, write,
+};
 pub use rasn_schema::alternatives::{Alternatives, ChoiceKind};
 pub use rasn_schema::choices::{VariantLists, Variants};
 pub use rasn_schema::components::Components;

@@ -94,8 +94,10 @@ macro_rules! bounds {
 /// those before the marker, once it is passed.
 #[macro_export]
 macro_rules! bounds_in_turn {
-    ([] [$($done:tt)*]) => { $crate::Bounds { root: &[$($done)*], added: &[] } };
-    ([[$($root:tt)*]] [$($done:tt)*]) => { $crate::Bounds { root: &[$($root)*], added: &[$($done)*] } };
+    ([] $done:tt) => { $crate::bounds_in_turn!([$done] []) };
+    ([[$($root:tt)*]] [$($done:tt)*]) => {
+        $crate::Bounds { lists: &$crate::BoundLists { root: &[$($root)*], added: &[$($done)*] } }
+    };
     ([] $done:tt ...; $($rest:tt)*) => { $crate::bounds_in_turn!([$done] [] $($rest)*) };
     ($root:tt [$($done:tt)*]
         $presence:ident $tag:literal $(of $tree:ident)? $name:literal
@@ -281,7 +283,7 @@ macro_rules! encode_record {
             $tag,
             &$crate::cells::Listed {
                 fields: FIELDS.root,
-                constraints: BOUNDS.root,
+                constraints: BOUNDS.lists.root,
                 cells: $crate::cells_to_write!($of $($list)*),
             },
             &$crate::NoAdditions,
@@ -320,7 +322,7 @@ macro_rules! decode_components {
         let root = $crate::cells_to_read!($($presence $type [$($bounds)*];)*);
         let behind = $crate::added_to!($crate::additions_to_read!($($added $added_type [$($added_bounds)*];)*));
         let ($crate::fours!($($field)*), $crate::pairs!($($added_field)*)) =
-            $crate::read::all::<Self, _, _, _>(&root, BOUNDS.root, &behind, $decoder)?;
+            $crate::read::all::<Self, _, _, _>(&root, BOUNDS.lists.root, &behind, $decoder)?;
         Ok(Self { $($field,)* $($added_field,)* })
     }};
 }
@@ -421,7 +423,7 @@ macro_rules! of_record {
     ($cells:expr) => {
         $crate::cells::OfRecord {
             of: std::marker::PhantomData::<Self>,
-            constraints: BOUNDS.root,
+            constraints: BOUNDS.lists.root,
             cells: $cells,
         }
     };
@@ -433,16 +435,60 @@ macro_rules! added_to {
     ($cells:expr) => {
         $crate::added::AddedTo {
             of: std::marker::PhantomData::<Self>,
-            constraints: BOUNDS.added,
+            constraints: BOUNDS.lists.added,
             cells: $cells,
         }
     };
 }
 
-/// Writes components in turn, each its presence, its field and its constraints in brackets: sixteen that are required,
-/// and then others, in one call.
+/// Writes components in turn, each its presence, its field and its constraints in brackets: four at most, or sixteen
+/// that are required and then others, in one call.
 #[macro_export]
 macro_rules! write_components {
+    ([$of:ident $encoder:ident] [$a:ident $a_field:ident $a_bounds:tt]) => {
+        $crate::few::one_to_write(
+            $of,
+            $crate::component!($a $a_bounds, &$of.$a_field),
+            BOUNDS,
+            $encoder,
+        )
+    };
+    ([$of:ident $encoder:ident] [$a:ident $a_field:ident $a_bounds:tt] [$b:ident $b_field:ident $b_bounds:tt]) => {
+        $crate::few::two_to_write(
+            $of,
+            $crate::component!($a $a_bounds, &$of.$a_field),
+            $crate::component!($b $b_bounds, &$of.$b_field),
+            BOUNDS,
+            $encoder,
+        )
+    };
+    ([$of:ident $encoder:ident]
+        [$a:ident $a_field:ident $a_bounds:tt] [$b:ident $b_field:ident $b_bounds:tt]
+        [$c:ident $c_field:ident $c_bounds:tt]
+    ) => {
+        $crate::few::three_to_write(
+            $of,
+            $crate::component!($a $a_bounds, &$of.$a_field),
+            $crate::component!($b $b_bounds, &$of.$b_field),
+            $crate::component!($c $c_bounds, &$of.$c_field),
+            BOUNDS,
+            $encoder,
+        )
+    };
+    ([$of:ident $encoder:ident]
+        [$a:ident $a_field:ident $a_bounds:tt] [$b:ident $b_field:ident $b_bounds:tt]
+        [$c:ident $c_field:ident $c_bounds:tt] [$d:ident $d_field:ident $d_bounds:tt]
+    ) => {
+        $crate::few::four_to_write(
+            $of,
+            $crate::component!($a $a_bounds, &$of.$a_field),
+            $crate::component!($b $b_bounds, &$of.$b_field),
+            $crate::component!($c $c_bounds, &$of.$c_field),
+            $crate::component!($d $d_bounds, &$of.$d_field),
+            BOUNDS,
+            $encoder,
+        )
+    };
     ([$of:ident $encoder:ident]
         [required $a:ident $a_bounds:tt] [required $b:ident $b_bounds:tt] [required $c:ident $c_bounds:tt]
         [required $d:ident $d_bounds:tt] [required $e:ident $e_bounds:tt] [required $f:ident $f_bounds:tt]
@@ -470,10 +516,70 @@ macro_rules! write_components {
     };
 }
 
-/// Reads components in turn, each its presence, its field, its type and its constraints in brackets: sixteen that are
-/// required, and then others, in one call.
+/// Reads components in turn, each its presence, its field, its type and its constraints in brackets: four at most, or
+/// sixteen that are required and then others, in one call.
 #[macro_export]
 macro_rules! read_components {
+    ([$decoder:ident]
+        [$a:ident $a_field:ident [$a_type:ty] $a_bounds:tt]
+    ) => {
+        match $crate::few::one_to_read::<Self, _, _>(
+            $crate::component!($a $a_bounds, std::marker::PhantomData::<$a_type>),
+            BOUNDS,
+            $decoder,
+        ) {
+            Ok(read) => Ok(Self { $a_field: read }),
+            Err(error) => Err(error),
+        }
+    };
+    ([$decoder:ident]
+        [$a:ident $a_field:ident [$a_type:ty] $a_bounds:tt]
+        [$b:ident $b_field:ident [$b_type:ty] $b_bounds:tt]
+    ) => {
+        match $crate::few::two_to_read::<Self, _, _, _>(
+            $crate::component!($a $a_bounds, std::marker::PhantomData::<$a_type>),
+            $crate::component!($b $b_bounds, std::marker::PhantomData::<$b_type>),
+            BOUNDS,
+            $decoder,
+        ) {
+            Ok(read) => Ok(Self { $a_field: read.0, $b_field: read.1 }),
+            Err(error) => Err(error),
+        }
+    };
+    ([$decoder:ident]
+        [$a:ident $a_field:ident [$a_type:ty] $a_bounds:tt]
+        [$b:ident $b_field:ident [$b_type:ty] $b_bounds:tt]
+        [$c:ident $c_field:ident [$c_type:ty] $c_bounds:tt]
+    ) => {
+        match $crate::few::three_to_read::<Self, _, _, _, _>(
+            $crate::component!($a $a_bounds, std::marker::PhantomData::<$a_type>),
+            $crate::component!($b $b_bounds, std::marker::PhantomData::<$b_type>),
+            $crate::component!($c $c_bounds, std::marker::PhantomData::<$c_type>),
+            BOUNDS,
+            $decoder,
+        ) {
+            Ok(read) => Ok(Self { $a_field: read.0, $b_field: read.1, $c_field: read.2 }),
+            Err(error) => Err(error),
+        }
+    };
+    ([$decoder:ident]
+        [$a:ident $a_field:ident [$a_type:ty] $a_bounds:tt]
+        [$b:ident $b_field:ident [$b_type:ty] $b_bounds:tt]
+        [$c:ident $c_field:ident [$c_type:ty] $c_bounds:tt]
+        [$d:ident $d_field:ident [$d_type:ty] $d_bounds:tt]
+    ) => {
+        match $crate::few::four_to_read::<Self, _, _, _, _, _>(
+            $crate::component!($a $a_bounds, std::marker::PhantomData::<$a_type>),
+            $crate::component!($b $b_bounds, std::marker::PhantomData::<$b_type>),
+            $crate::component!($c $c_bounds, std::marker::PhantomData::<$c_type>),
+            $crate::component!($d $d_bounds, std::marker::PhantomData::<$d_type>),
+            BOUNDS,
+            $decoder,
+        ) {
+            Ok(read) => Ok(Self { $a_field: read.0, $b_field: read.1, $c_field: read.2, $d_field: read.3 }),
+            Err(error) => Err(error),
+        }
+    };
     ([$decoder:ident]
         [required $a:ident [$a_type:ty] $a_bounds:tt] [required $b:ident [$b_type:ty] $b_bounds:tt]
         [required $c:ident [$c_type:ty] $c_bounds:tt] [required $d:ident [$d_type:ty] $d_bounds:tt]
@@ -707,7 +813,7 @@ macro_rules! stated_to_write {
         $presence:ident $tag:literal $(of $tree:ident)? $name:literal
         $field:ident: $type:ty [$($bounds:tt)*]; $($rest:tt)*
     ) => {{
-        let $field = $crate::write::component::<Self, $type>($of, $place, $tag, BOUNDS.root, &$of.$field);
+        let $field = $crate::write::component::<Self, $type>($of, $place, $tag, BOUNDS.lists.root, &$of.$field);
         let _ = $field;
         $crate::stated_to_write!([$($places)*] [$of]; $($rest)*)
     }};
@@ -728,7 +834,7 @@ macro_rules! stated_to_read {
         $presence:ident $tag:literal $(of $tree:ident)? $name:literal
         $field:ident: $type:ty [$($bounds:tt)*]; $($rest:tt)*
     ) => {{
-        let $field = $crate::read::component::<Self, $type>($place, $tag, BOUNDS.root);
+        let $field = $crate::read::component::<Self, $type>($place, $tag, BOUNDS.lists.root);
         let _ = $field;
         $crate::stated_to_read!([$($places)*] []; $($rest)*)
     }};

@@ -82,7 +82,7 @@ macro_rules! holding_cells {
         $crate::cells::Cell {
             component: $crate::recursive::Tagged {
                 tag: $crate::context_tag!($number),
-                constraints: BOUNDS.root[$place],
+                constraints: BOUNDS.lists.root[$place],
                 component: $crate::holding_component!($presence [$type] $bounds),
             },
             next: $crate::holding_cells!([$($places)*] $($rest)*),
@@ -154,6 +154,6 @@ macro_rules! recursive_alternative {
         Ok(Self::$variant(value))
     }};
     ($decoder:ident $by:ident $held:ident $of:ident $place:literal $variant:ident $([$type:ty] $bounds:tt)?) => {
-        $crate::alternative_to_read!($decoder $by root $place $variant $($type)?)
+        $crate::alternative_to_read!($decoder $by BOUNDS read $place $variant $($type)?)
     };
 }

@@ -6,18 +6,7 @@ ghost use Rattle.rasn_traits.specs.Scopes.{TakesFields, WritesFields};
 use crate::codec::{Decoder, Encoder};
 use crate::kinds::{DecodeKind, EncodeKind};
 use rasn_schema::components::{Components, SequenceKind};
-use rasn_schema::constraints::Constraint;
 use rasn_types::types::{Identifier, Tag};
-
-/// The constraints of a record's components, or of a choice's alternatives, in their order: none where its type's own
-/// hold.
-#[derive(Clone, Copy)]
-pub struct Bounds {
-    /// Those of each root component, or alternative.
-    pub root: &'static [&'static [Constraint]],
-    /// Those of each behind the extension marker.
-    pub added: &'static [&'static [Constraint]],
-}
 
 /// The components of a SEQUENCE that can be encoded and decoded.
 pub trait Record: Components + Sized + Drop {

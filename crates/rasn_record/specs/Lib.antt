@@ -1,4 +1,6 @@
+pub mod Few
 pub mod Lists
+pub mod Places
 pub mod Sixteens
 pub mod Slots
 pub mod Told

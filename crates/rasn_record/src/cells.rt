@@ -12,10 +12,10 @@ ghost use Rattle.rasn_traits.specs.Scopes.{WritesParts, TakesParts};
 ghost use Rattle.rasn_record.specs.Lists.{behind, deepest, first_tag, first_tree, first_given, given};
 ghost use Rattle.rasn_record.specs.Slots.{WritesComponent};
 
+use crate::bounds::Bounds;
 use crate::components::{DecodeComponent, EncodeComponent, Optional};
 use crate::fields::root;
 use rasn_codec::codec::{Decoder, Encoder};
-use rasn_codec::record::Bounds;
 use rasn_schema::components::Components;
 use rasn_schema::constraints::Constraint;
 use rasn_schema::fields::Field;
@@ -131,10 +131,10 @@ pub trait GivesBounds {
 }
 
 impl GivesBounds for Bounds {
-    ghost list = { λ b. b.root.now };
+    ghost list = { λ b. b.lists.now.root.now };
 
     fn list(&self) -> &'static [&'static [Constraint]] {
-        self.root
+        self.lists.root
     }
 }
 

@@ -3,9 +3,12 @@
 #![tactic(auto)]
 
 pub mod alternatives;
+pub mod bounds;
+pub mod by_place;
 pub mod cells;
 pub mod components;
 pub mod defaults;
+pub mod few;
 pub mod fields;
 pub mod fours;
 pub mod read;

@@ -8,10 +8,10 @@ ghost use Rattle.rasn_schema.specs.Components.{at};
 ghost use Rattle.rasn_traits.specs.Scopes.{TakesFields};
 ghost use Rattle.rasn_record.specs.Lists.{ArePlain, first_given};
 
+use crate::bounds::Bounds;
 use crate::cells::DecodeCells;
 use crate::fields::root;
 use rasn_codec::codec::Decoder;
-use rasn_codec::record::Bounds;
 use rasn_schema::components::Components;
 use rasn_schema::constraints::Constraint;
 use rasn_schema::schema::AsnType;
@@ -70,10 +70,10 @@ pub fn plain<T: Components, P: DecodeCells + Drop, D: Decoder>(
     bounds: Bounds,
     decoder: &mut D,
 ) -> Result<P::Values, D::Error>
-    requires { ArePlain T.components.0 (P.parts cells T.COMPONENTS.before bounds.root.now) }
+    requires { ArePlain T.components.0 (P.parts cells T.COMPONENTS.before bounds.lists.now.root.now) }
     ensures { TakesFields D.rules (root_parts T.components.0) (added_parts T.components.0) P.contents (λ _. [])
         decoder.old result decoder.new }
 {
-    let (before, ()) = all::<T, _, _, _>(&cells, bounds.root, &NoAdditions, decoder)?;
+    let (before, ()) = all::<T, _, _, _>(&cells, bounds.lists.root, &NoAdditions, decoder)?;
     Ok(before)
 }

@@ -8,11 +8,11 @@ ghost use Rattle.rasn_traits.specs.Scopes.{TakesFields, WritesFields};
 ghost use Rattle.rasn_record.specs.Lists.{AreWithin};
 ghost use Rattle.rasn_record.specs.Sixteens.{typed, typed_parts};
 
+use crate::bounds::Bounds;
 use crate::cells::{DecodeCells, EncodeCells, GivesBounds, OfRecord};
 use crate::fours::FourCells;
 use crate::{read, write};
 use rasn_codec::codec::{Decode, Decoder, Encode, Encoder};
-use rasn_codec::record::Bounds;
 use rasn_schema::components::Components;
 use std::marker::PhantomData;
 
@@ -151,7 +151,7 @@ where
         typed J.TAG J.CONSTRAINTS J.schema ∷ typed K.TAG K.CONSTRAINTS K.schema ∷ typed L.TAG L.CONSTRAINTS L.schema ∷
         typed M.TAG M.CONSTRAINTS M.schema ∷ typed N.TAG N.CONSTRAINTS N.schema ∷ typed O.TAG O.CONSTRAINTS O.schema ∷
         typed P.TAG P.CONSTRAINTS P.schema ∷ [])
-        (R.parts rest) T.COMPONENTS.before bounds.root.now n }
+        (R.parts rest) T.COMPONENTS.before bounds.lists.now.root.now n }
     requires additions { (n : ℕ) → added_parts T.components.0 n ≡ no_parts }
     ensures { TakesFields X.rules (root_parts T.components.0) (added_parts T.components.0) (λ xs.
         Some (A.value xs.0) ∷ Some (B.value xs.1.0) ∷

@@ -1,0 +1,104 @@
+//! One alternative of a CHOICE, as a list states it, whose constraints stand at its place in another.
+
+ghost use Rattle.std.specs.Prelude.{◌≡◌, ◌≤◌, ℕ, Some};
+ghost use Rattle.rasn_schema.specs.Choices.{alternative_at, choices_of, place_of, variants_behind};
+ghost use Rattle.rasn_schema.specs.Components.{added_parts, chosen, chosen_behind, root_parts};
+ghost use Rattle.rasn_schema.specs.Fields.{tag_of};
+ghost use Rattle.rasn_schema.specs.Records.{own_or};
+ghost use Rattle.rasn_traits.specs.Calls.{Reads};
+ghost use Rattle.rasn_traits.specs.Choices.{WritesChosen};
+ghost use Rattle.rasn_record.specs.Lists.{given};
+ghost use Rattle.rasn_record.specs.Places.{given_at};
+
+use crate::alternatives;
+use crate::bounds::Bounds;
+use rasn_codec::codec::{Decode, Decoder, Encode, Encoder};
+use rasn_schema::alternatives::Alternatives;
+use rasn_schema::constraints::Constraint;
+use rasn_types::types::Tag;
+
+/// The constraints at a place of a list: none where it has none there.
+fn limits_at(list: &[&'static [Constraint]], place: usize) -> &'static [Constraint]
+    ensures { given result.now ≡ given_at list.now place }
+{
+    match list.get(place) {
+        Some(limits) => *limits,
+        None => &[],
+    }
+}
+
+/// Writes the alternative at a place before the extension marker, which goes by a tag, and answers that. Its
+/// constraints stand at its place in a list, or are its type's own where none are given.
+pub fn write<T: Alternatives, H: Encode, E: Encoder>(
+    of: &T,
+    place: usize,
+    tag: Tag,
+    bounds: Bounds,
+    value: &H,
+    encoder: &mut E,
+) -> Result<Tag, E::Error>
+    requires tag { place_of (tag_of tag) T.ALTERNATIVES.before ≡ Some place }
+    requires schema { (n : ℕ) → alternative_at (root_parts T.alternatives.0 n) place
+        ≡ Some (H.schema (own_or H.CONSTRAINTS (given_at bounds.lists.now.root.now place)) n) }
+    requires value { T.chosen of.now ≡ chosen place (H.value value.now) }
+    requires levels { H.levels value.now ≤ T.depth of.now }
+    ensures { WritesChosen E.rules
+        (choices_of (root_parts T.alternatives.0) T.ALTERNATIVES.behind (added_parts T.alternatives.0))
+        T.ALTERNATIVES.before T.ALTERNATIVES.behind (T.chosen of.now) (T.depth of.now) encoder.old result encoder.new }
+{
+    let limits = limits_at(bounds.lists.root, place);
+    alternatives::write(of, place, tag, limits, value, encoder)
+}
+
+/// Writes the alternative at a place behind the extension marker, which goes by a tag, and answers that. Its
+/// constraints stand at its place in a list, or are its type's own where none are given.
+pub fn write_behind<T: Alternatives, H: Encode, E: Encoder>(
+    of: &T,
+    place: usize,
+    tag: Tag,
+    bounds: Bounds,
+    value: &H,
+    encoder: &mut E,
+) -> Result<Tag, E::Error>
+    requires tag { place_of (tag_of tag) (variants_behind T.ALTERNATIVES.behind) ≡ Some place }
+    requires schema { (n : ℕ) → alternative_at (added_parts T.alternatives.0 n) place
+        ≡ Some (H.schema (own_or H.CONSTRAINTS (given_at bounds.lists.now.added.now place)) n) }
+    requires value { T.chosen of.now ≡ chosen_behind place (H.value value.now) }
+    requires levels { H.levels value.now ≤ T.depth of.now }
+    ensures { WritesChosen E.rules
+        (choices_of (root_parts T.alternatives.0) T.ALTERNATIVES.behind (added_parts T.alternatives.0))
+        T.ALTERNATIVES.before T.ALTERNATIVES.behind (T.chosen of.now) (T.depth of.now) encoder.old result encoder.new }
+{
+    let limits = limits_at(bounds.lists.added, place);
+    alternatives::write_behind(of, place, tag, limits, value, encoder)
+}
+
+/// Reads the alternative at a place before the extension marker under a tag. Its constraints stand at its place in a
+/// list, or are its type's own where none are given.
+pub fn read<H: Decode, D: Decoder>(
+    decoder: &mut D,
+    tag: Tag,
+    bounds: Bounds,
+    place: usize,
+) -> Result<H, D::Error>
+    ensures { Reads D.rules (H.schema (own_or H.CONSTRAINTS (given_at bounds.lists.now.root.now place))
+        (D.rules.levels decoder.old)) H.value decoder.old result decoder.new }
+{
+    let limits = limits_at(bounds.lists.root, place);
+    alternatives::read::<H, D>(decoder, tag, limits)
+}
+
+/// Reads the alternative at a place behind the extension marker under a tag. Its constraints stand at its place in a
+/// list, or are its type's own where none are given.
+pub fn read_behind<H: Decode, D: Decoder>(
+    decoder: &mut D,
+    tag: Tag,
+    bounds: Bounds,
+    place: usize,
+) -> Result<H, D::Error>
+    ensures { Reads D.rules (H.schema (own_or H.CONSTRAINTS (given_at bounds.lists.now.added.now place))
+        (D.rules.levels decoder.old)) H.value decoder.old result decoder.new }
+{
+    let limits = limits_at(bounds.lists.added, place);
+    alternatives::read::<H, D>(decoder, tag, limits)
+}

@@ -1,0 +1,290 @@
+//! A few components in one call, so that a page names no cells, whose types a check would spell out at each step.
+
+ghost use Rattle.std.specs.Prelude.{◌≡◌, ℕ, [], ◌∷◌};
+ghost use Rattle.rasn_schema.specs.Components.{added_parts, root_parts};
+ghost use Rattle.rasn_schema.specs.Schemas.{no_parts};
+ghost use Rattle.rasn_traits.specs.Scopes.{TakesFields, WritesFields};
+ghost use Rattle.rasn_record.specs.Lists.{AreWithin};
+ghost use Rattle.rasn_record.specs.Few.{kept, kept_parts};
+
+use crate::bounds::Bounds;
+use crate::cells::{Cell, End, OfRecord};
+use crate::components::{DecodeComponent, EncodeComponent};
+use crate::{read, write};
+use rasn_codec::codec::{Decoder, Encoder};
+use rasn_schema::components::Components;
+use std::marker::PhantomData;
+
+/// Writes all components of a record: one. Its tag is that of the record's own field.
+pub fn one_to_write<T: Components, A: EncodeComponent + Drop, X: Encoder>(
+    of: &T,
+    a: A,
+    bounds: Bounds,
+    encoder: &mut X,
+) -> Result<(), X::Error>
+    requires components { (n : ℕ) → root_parts T.components.0 n ≡ kept_parts (
+        kept A.Of.TAG (A.presence a) A.Of.CONSTRAINTS A.Of.schema ∷ [])
+        T.COMPONENTS.before bounds.lists.now.root.now n }
+    requires additions { (n : ℕ) → added_parts T.components.0 n ≡ no_parts }
+    requires added { T.added of.now ≡ [] }
+    requires values { T.contents of.now ≡ A.slot a ∷ [] }
+    requires depth { AreWithin (T.depth of.now) (A.levels a ∷ []) }
+    ensures { WritesFields X.rules (root_parts T.components.0) (added_parts T.components.0) (T.depth of.now)
+        (T.contents of.now) (T.added of.now) encoder.old result encoder.new }
+{
+    let of_record = OfRecord {
+        of: PhantomData::<T>,
+        constraints: bounds.lists.root,
+        cells: Cell {
+            component: a,
+            next: End {},
+        },
+    };
+    write::plain(of, &of_record, encoder)
+}
+
+/// Reads all components of a record: one. Its tag is that of the record's own field, its constraints those of a list.
+pub fn one_to_read<T, A, X>(a: A, bounds: Bounds, decoder: &mut X) -> Result<A::Value, X::Error>
+where
+    T: Components,
+    A: DecodeComponent + Drop,
+    X: Decoder,
+    requires components { (n : ℕ) → root_parts T.components.0 n ≡ kept_parts (
+        kept A.Of.TAG (A.presence a) A.Of.CONSTRAINTS A.Of.schema ∷ [])
+        T.COMPONENTS.before bounds.lists.now.root.now n }
+    requires additions { (n : ℕ) → added_parts T.components.0 n ≡ no_parts }
+    ensures { TakesFields X.rules (root_parts T.components.0) (added_parts T.components.0)
+        (λ xs. A.slot xs ∷ []) (λ _. []) decoder.old result decoder.new }
+{
+    let cells = Cell {
+        component: a,
+        next: End {},
+    };
+    let (a, ()) = read::plain::<T, _, _>(cells, bounds, decoder)?;
+    Ok(a)
+}
+
+/// Writes all components of a record: two. Their tags are those of the record's own fields.
+pub fn two_to_write<
+    T: Components,
+    A: EncodeComponent + Drop,
+    B: EncodeComponent + Drop,
+    X: Encoder,
+>(of: &T, a: A, b: B, bounds: Bounds, encoder: &mut X) -> Result<(), X::Error>
+    requires components { (n : ℕ) → root_parts T.components.0 n ≡ kept_parts (
+        kept A.Of.TAG (A.presence a) A.Of.CONSTRAINTS A.Of.schema ∷
+        kept B.Of.TAG (B.presence b) B.Of.CONSTRAINTS B.Of.schema ∷ [])
+        T.COMPONENTS.before bounds.lists.now.root.now n }
+    requires additions { (n : ℕ) → added_parts T.components.0 n ≡ no_parts }
+    requires added { T.added of.now ≡ [] }
+    requires values { T.contents of.now ≡ A.slot a ∷ B.slot b ∷ [] }
+    requires depth { AreWithin (T.depth of.now) (A.levels a ∷ B.levels b ∷ []) }
+    ensures { WritesFields X.rules (root_parts T.components.0) (added_parts T.components.0) (T.depth of.now)
+        (T.contents of.now) (T.added of.now) encoder.old result encoder.new }
+{
+    let of_record = OfRecord {
+        of: PhantomData::<T>,
+        constraints: bounds.lists.root,
+        cells: Cell {
+            component: a,
+            next: Cell {
+                component: b,
+                next: End {},
+            },
+        },
+    };
+    write::plain(of, &of_record, encoder)
+}
+
+/// Reads all components of a record: two. Their tags are those of the record's own fields, their constraints those of a
+/// list.
+pub fn two_to_read<T, A, B, X>(
+    a: A,
+    b: B,
+    bounds: Bounds,
+    decoder: &mut X,
+) -> Result<(A::Value, B::Value), X::Error>
+where
+    T: Components,
+    A: DecodeComponent + Drop,
+    B: DecodeComponent + Drop,
+    X: Decoder,
+    requires components { (n : ℕ) → root_parts T.components.0 n ≡ kept_parts (
+        kept A.Of.TAG (A.presence a) A.Of.CONSTRAINTS A.Of.schema ∷
+        kept B.Of.TAG (B.presence b) B.Of.CONSTRAINTS B.Of.schema ∷ [])
+        T.COMPONENTS.before bounds.lists.now.root.now n }
+    requires additions { (n : ℕ) → added_parts T.components.0 n ≡ no_parts }
+    ensures { TakesFields X.rules (root_parts T.components.0) (added_parts T.components.0)
+        (λ xs. A.slot xs.0 ∷ B.slot xs.1 ∷ []) (λ _. []) decoder.old result decoder.new }
+{
+    let cells = Cell {
+        component: a,
+        next: Cell {
+            component: b,
+            next: End {},
+        },
+    };
+    let (a, (b, ())) = read::plain::<T, _, _>(cells, bounds, decoder)?;
+    Ok((a, b))
+}
+
+/// Writes all components of a record: three. Their tags are those of the record's own fields.
+pub fn three_to_write<
+    T: Components,
+    A: EncodeComponent + Drop,
+    B: EncodeComponent + Drop,
+    C: EncodeComponent + Drop,
+    X: Encoder,
+>(of: &T, a: A, b: B, c: C, bounds: Bounds, encoder: &mut X) -> Result<(), X::Error>
+    requires components { (n : ℕ) → root_parts T.components.0 n ≡ kept_parts (
+        kept A.Of.TAG (A.presence a) A.Of.CONSTRAINTS A.Of.schema ∷
+        kept B.Of.TAG (B.presence b) B.Of.CONSTRAINTS B.Of.schema ∷
+        kept C.Of.TAG (C.presence c) C.Of.CONSTRAINTS C.Of.schema ∷ [])
+        T.COMPONENTS.before bounds.lists.now.root.now n }
+    requires additions { (n : ℕ) → added_parts T.components.0 n ≡ no_parts }
+    requires added { T.added of.now ≡ [] }
+    requires values { T.contents of.now ≡ A.slot a ∷ B.slot b ∷ C.slot c ∷ [] }
+    requires depth { AreWithin (T.depth of.now) (A.levels a ∷ B.levels b ∷ C.levels c ∷ []) }
+    ensures { WritesFields X.rules (root_parts T.components.0) (added_parts T.components.0) (T.depth of.now)
+        (T.contents of.now) (T.added of.now) encoder.old result encoder.new }
+{
+    let of_record = OfRecord {
+        of: PhantomData::<T>,
+        constraints: bounds.lists.root,
+        cells: Cell {
+            component: a,
+            next: Cell {
+                component: b,
+                next: Cell {
+                    component: c,
+                    next: End {},
+                },
+            },
+        },
+    };
+    write::plain(of, &of_record, encoder)
+}
+
+/// Reads all components of a record: three. Their tags are those of the record's own fields, their constraints those of a
+/// list.
+pub fn three_to_read<T, A, B, C, X>(
+    a: A,
+    b: B,
+    c: C,
+    bounds: Bounds,
+    decoder: &mut X,
+) -> Result<(A::Value, B::Value, C::Value), X::Error>
+where
+    T: Components,
+    A: DecodeComponent + Drop,
+    B: DecodeComponent + Drop,
+    C: DecodeComponent + Drop,
+    X: Decoder,
+    requires components { (n : ℕ) → root_parts T.components.0 n ≡ kept_parts (
+        kept A.Of.TAG (A.presence a) A.Of.CONSTRAINTS A.Of.schema ∷
+        kept B.Of.TAG (B.presence b) B.Of.CONSTRAINTS B.Of.schema ∷
+        kept C.Of.TAG (C.presence c) C.Of.CONSTRAINTS C.Of.schema ∷ [])
+        T.COMPONENTS.before bounds.lists.now.root.now n }
+    requires additions { (n : ℕ) → added_parts T.components.0 n ≡ no_parts }
+    ensures { TakesFields X.rules (root_parts T.components.0) (added_parts T.components.0)
+        (λ xs. A.slot xs.0 ∷ B.slot xs.1 ∷ C.slot xs.2 ∷ []) (λ _. []) decoder.old result decoder.new }
+{
+    let cells = Cell {
+        component: a,
+        next: Cell {
+            component: b,
+            next: Cell {
+                component: c,
+                next: End {},
+            },
+        },
+    };
+    let (a, (b, (c, ()))) = read::plain::<T, _, _>(cells, bounds, decoder)?;
+    Ok((a, b, c))
+}
+
+/// Writes all components of a record: four. Their tags are those of the record's own fields.
+pub fn four_to_write<
+    T: Components,
+    A: EncodeComponent + Drop,
+    B: EncodeComponent + Drop,
+    C: EncodeComponent + Drop,
+    D: EncodeComponent + Drop,
+    X: Encoder,
+>(of: &T, a: A, b: B, c: C, d: D, bounds: Bounds, encoder: &mut X) -> Result<(), X::Error>
+    requires components { (n : ℕ) → root_parts T.components.0 n ≡ kept_parts (
+        kept A.Of.TAG (A.presence a) A.Of.CONSTRAINTS A.Of.schema ∷
+        kept B.Of.TAG (B.presence b) B.Of.CONSTRAINTS B.Of.schema ∷
+        kept C.Of.TAG (C.presence c) C.Of.CONSTRAINTS C.Of.schema ∷
+        kept D.Of.TAG (D.presence d) D.Of.CONSTRAINTS D.Of.schema ∷ [])
+        T.COMPONENTS.before bounds.lists.now.root.now n }
+    requires additions { (n : ℕ) → added_parts T.components.0 n ≡ no_parts }
+    requires added { T.added of.now ≡ [] }
+    requires values { T.contents of.now ≡ A.slot a ∷ B.slot b ∷ C.slot c ∷ D.slot d ∷ [] }
+    requires depth { AreWithin (T.depth of.now) (A.levels a ∷ B.levels b ∷ C.levels c ∷ D.levels d ∷ []) }
+    ensures { WritesFields X.rules (root_parts T.components.0) (added_parts T.components.0) (T.depth of.now)
+        (T.contents of.now) (T.added of.now) encoder.old result encoder.new }
+{
+    let of_record = OfRecord {
+        of: PhantomData::<T>,
+        constraints: bounds.lists.root,
+        cells: Cell {
+            component: a,
+            next: Cell {
+                component: b,
+                next: Cell {
+                    component: c,
+                    next: Cell {
+                        component: d,
+                        next: End {},
+                    },
+                },
+            },
+        },
+    };
+    write::plain(of, &of_record, encoder)
+}
+
+/// Reads all components of a record: four. Their tags are those of the record's own fields, their constraints those of a
+/// list.
+pub fn four_to_read<T, A, B, C, D, X>(
+    a: A,
+    b: B,
+    c: C,
+    d: D,
+    bounds: Bounds,
+    decoder: &mut X,
+) -> Result<(A::Value, B::Value, C::Value, D::Value), X::Error>
+where
+    T: Components,
+    A: DecodeComponent + Drop,
+    B: DecodeComponent + Drop,
+    C: DecodeComponent + Drop,
+    D: DecodeComponent + Drop,
+    X: Decoder,
+    requires components { (n : ℕ) → root_parts T.components.0 n ≡ kept_parts (
+        kept A.Of.TAG (A.presence a) A.Of.CONSTRAINTS A.Of.schema ∷
+        kept B.Of.TAG (B.presence b) B.Of.CONSTRAINTS B.Of.schema ∷
+        kept C.Of.TAG (C.presence c) C.Of.CONSTRAINTS C.Of.schema ∷
+        kept D.Of.TAG (D.presence d) D.Of.CONSTRAINTS D.Of.schema ∷ [])
+        T.COMPONENTS.before bounds.lists.now.root.now n }
+    requires additions { (n : ℕ) → added_parts T.components.0 n ≡ no_parts }
+    ensures { TakesFields X.rules (root_parts T.components.0) (added_parts T.components.0)
+        (λ xs. A.slot xs.0 ∷ B.slot xs.1 ∷ C.slot xs.2 ∷ D.slot xs.3 ∷ []) (λ _. []) decoder.old result decoder.new }
+{
+    let cells = Cell {
+        component: a,
+        next: Cell {
+            component: b,
+            next: Cell {
+                component: c,
+                next: Cell {
+                    component: d,
+                    next: End {},
+                },
+            },
+        },
+    };
+    let (a, (b, (c, (d, ())))) = read::plain::<T, _, _>(cells, bounds, decoder)?;
+    Ok((a, b, c, d))
+}
