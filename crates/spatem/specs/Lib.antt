@@ -1,0 +1,2 @@
+pub mod Dsrc
+pub mod SpatemPduDescriptions

@@ -1,0 +1,95 @@
+//! TypeOfMsgT30Indicator, of the module T38.
+
+ghost use Rattle.rasn_below.specs.Page.{extensible_items, item, root};
+ghost use Rattle.t38_1998.specs.declared.type_of_msg_t30_indicator.{
+  TypeOfMsgT30Indicator.TheVariants.{Ced, Cng, NoSignal, V17_12000LongTraining, V17_12000ShortTraining},
+  TypeOfMsgT30Indicator.TheVariants.{V17_14400LongTraining, V17_14400ShortTraining, V17_7200LongTraining},
+  TypeOfMsgT30Indicator.TheVariants.{V17_7200ShortTraining, V17_9600LongTraining, V17_9600ShortTraining, V21Preamble},
+  TypeOfMsgT30Indicator.TheVariants.{V27_2400Training, V27_4800Training, V29_7200Training, V29_9600Training},
+};
+
+use rasn_below::page::*;
+
+/// Type-of-msg.t30-indicator ::= ENUMERATED { no-signal(0), cng(1), ced(2), v21-preamble(3), v27-2400-training(4),
+///     v27-4800-training(5), v29-7200-training(6), v29-9600-training(7), v17-7200-short-training(8),
+///     v17-7200-long-training(9), v17-9600-short-training(10), v17-9600-long-training(11),
+///     v17-12000-short-training(12), v17-12000-long-training(13), v17-14400-short-training(14),
+///     v17-14400-long-training(15), ... }
+#[derive(Clone, Copy, Debug, PartialEq, Eq)]
+pub enum TypeOfMsgT30Indicator {
+    NoSignal,
+    Cng,
+    Ced,
+    V21Preamble,
+    V27_2400Training,
+    V27_4800Training,
+    V29_7200Training,
+    V29_9600Training,
+    V17_7200ShortTraining,
+    V17_7200LongTraining,
+    V17_9600ShortTraining,
+    V17_9600LongTraining,
+    V17_12000ShortTraining,
+    V17_12000LongTraining,
+    V17_14400ShortTraining,
+    V17_14400LongTraining,
+}
+
+macro_rules! items { ($to:ident $($with:ident)*) => { $to! { [$($with)*]
+    NoSignal;
+    Cng;
+    Ced;
+    V21Preamble;
+    V27_2400Training;
+    V27_4800Training;
+    V29_7200Training;
+    V29_9600Training;
+    V17_7200ShortTraining;
+    V17_7200LongTraining;
+    V17_9600ShortTraining;
+    V17_9600LongTraining;
+    V17_12000ShortTraining;
+    V17_12000LongTraining;
+    V17_14400ShortTraining;
+    V17_14400LongTraining;
+    ...;
+} }; }
+
+impl OfKind for TypeOfMsgT30Indicator {
+    type Kind = EnumeratedKind;
+}
+
+impl Items for TypeOfMsgT30Indicator {
+    const ITEMS: ItemCounts = items!(item_counts);
+
+    ghost ITEMS = { extensible_items 16 0 };
+
+    ghost item = { elim [
+      | NoSignal ↦ item root 0
+      | Cng ↦ item root 1
+      | Ced ↦ item root 2
+      | V21Preamble ↦ item root 3
+      | V27_2400Training ↦ item root 4
+      | V27_4800Training ↦ item root 5
+      | V29_7200Training ↦ item root 6
+      | V29_9600Training ↦ item root 7
+      | V17_7200ShortTraining ↦ item root 8
+      | V17_7200LongTraining ↦ item root 9
+      | V17_9600ShortTraining ↦ item root 10
+      | V17_9600LongTraining ↦ item root 11
+      | V17_12000ShortTraining ↦ item root 12
+      | V17_12000LongTraining ↦ item root 13
+      | V17_14400ShortTraining ↦ item root 14
+      | V17_14400LongTraining ↦ item root 15
+    ] };
+
+    fn place(&self) -> Place {
+        items!(place_of_item self)
+    }
+
+    fn at(place: Place) -> Option<TypeOfMsgT30Indicator> {
+        items!(item_at place)
+    }
+}
+
+impl ByKind for TypeOfMsgT30Indicator {}
