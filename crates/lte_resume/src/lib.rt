@@ -1,0 +1,26 @@
+//! Types of EUTRA-RRC-Definitions.
+#![tactic(auto)]
+
+pub mod aliases;
+pub mod critical_extensions_critical_extensions_future;
+pub mod critical_extensions_future_critical_extensions_future_r16;
+pub mod resume_cause;
+pub mod resume_cause_r15;
+pub mod rrc_connection_resume_request5_gc_r15_ies;
+pub mod rrc_connection_resume_request5_gc_r15_ies_resume_identity_r15;
+pub mod rrc_connection_resume_request_r13;
+pub mod rrc_connection_resume_request_r13_critical_extensions;
+pub mod rrc_connection_resume_request_r13_ies;
+pub mod rrc_connection_resume_request_r13_ies_resume_identity_r13;
+pub mod rrc_early_data_request5_gc_r16_ies;
+pub mod rrc_early_data_request5_gc_r16_ies_establishment_cause_r16;
+pub mod rrc_early_data_request5_gc_r16_ies_non_critical_extension;
+pub mod rrc_early_data_request_r15;
+pub mod rrc_early_data_request_r15_critical_extensions;
+pub mod rrc_early_data_request_r15_ies;
+pub mod rrc_early_data_request_r15_ies_establishment_cause_r15;
+pub mod rrc_early_data_request_v1590_ies;
+pub mod rrc_early_data_request_v1610_ies;
+pub mod rrc_early_data_request_v1610_ies_establishment_cause_v1610;
+pub mod rrc_early_data_request_v1610_ies_non_critical_extension;
+pub mod s_tmsi;

@@ -1,0 +1,57 @@
+//! RrcSetupRequestIes, of the module NR-RRC-Definitions.
+
+ghost use Rattle.nr_access.specs.NrRrcDefinitions.{rrc_setup_request_ies_lists};
+ghost use Rattle.rasn_below.specs.Page.{bits, fields_of};
+ghost use Rattle.std.specs.Prelude.{Some, [], refl, ◌∷◌};
+
+use crate::establishment_cause::EstablishmentCause;
+use crate::initial_ue_identity::InitialUeIdentity;
+use rasn_below::page::*;
+
+/// RRCSetupRequest-IEs ::= SEQUENCE {
+///     ue-Identity InitialUE-Identity,
+///     establishmentCause EstablishmentCause,
+///     spare BIT STRING (SIZE (1))
+/// }
+#[derive(Debug, Drop, PartialEq)]
+pub struct RrcSetupRequestIes {
+    pub ue_identity: InitialUeIdentity,
+    pub establishment_cause: EstablishmentCause,
+    pub spare: BitString,
+}
+
+macro_rules! components { ($to:ident $($with:ident)*) => { $to! { [$($with)*]
+    required 0 "ue-Identity" ue_identity: InitialUeIdentity [];
+    required 1 "establishmentCause" establishment_cause: EstablishmentCause [];
+    required 2 "spare" spare: BitString [SIZE 1..=1];
+} }; }
+
+const FIELDS: FieldLists = components!(fields);
+
+const BOUNDS: Bounds = components!(bounds);
+
+impl Components for RrcSetupRequestIes {
+    const COMPONENTS: FieldLists = FIELDS;
+
+    ghost COMPONENTS = { fields_of rrc_setup_request_ies_lists };
+
+    ghost components = { (rrc_setup_request_ies_lists, refl) };
+
+    ghost contents = { λ x.
+        Some (⟦<InitialUeIdentity as AsnType>⟧.value x.ue_identity) ∷
+        Some (⟦<EstablishmentCause as AsnType>⟧.value x.establishment_cause) ∷
+        Some (bits x.spare) ∷
+        [] };
+
+    ghost depth = { λ _. 1 };
+}
+
+impl Record for RrcSetupRequestIes {
+    fn encode_components<E: Encoder>(&self, encoder: &mut E) -> Result<(), E::Error> {
+        components!(encode_components self encoder)
+    }
+
+    fn decode_components<D: Decoder>(decoder: &mut D) -> Result<Self, D::Error> {
+        components!(decode_components decoder)
+    }
+}

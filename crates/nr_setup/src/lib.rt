@@ -1,0 +1,31 @@
+//! Types of NR-RRC-Definitions.
+#![tactic(auto)]
+
+pub mod aliases;
+pub mod critical_extensions_critical_extensions_future;
+pub mod group5_success_ho_info_available_r17;
+pub mod plmn_identity;
+pub mod registered_amf;
+pub mod rrc_setup_complete;
+pub mod rrc_setup_complete_critical_extensions;
+pub mod rrc_setup_complete_ies;
+pub mod rrc_setup_complete_ies_guami_type;
+pub mod rrc_setup_complete_ies_ng5_gs_tmsi_value;
+pub mod rrc_setup_complete_v1610_ies;
+pub mod rrc_setup_complete_v1610_ies_iab_node_indication_r16;
+pub mod rrc_setup_complete_v1610_ies_idle_meas_available_r16;
+pub mod rrc_setup_complete_v1610_ies_mobility_history_avail_r16;
+pub mod rrc_setup_complete_v1610_ies_mobility_state_r16;
+pub mod rrc_setup_complete_v1690_ies;
+pub mod rrc_setup_complete_v1690_ies_ul_rrc_segmentation_r16;
+pub mod rrc_setup_complete_v1700_ies;
+pub mod rrc_setup_complete_v1700_ies_non_critical_extension;
+pub mod rrc_setup_complete_v1700_ies_onboarding_request_r17;
+pub mod s_nssai;
+pub mod ue_measurements_available_r16;
+pub mod ue_measurements_available_r16_conn_est_fail_info_available_r16;
+pub mod ue_measurements_available_r16_group5;
+pub mod ue_measurements_available_r16_log_meas_available_bt_r16;
+pub mod ue_measurements_available_r16_log_meas_available_r16;
+pub mod ue_measurements_available_r16_log_meas_available_wlan_r16;
+pub mod ue_measurements_available_r16_rlf_info_available_r16;

@@ -1,0 +1,42 @@
+//! RrcSetupCompleteV1690IesUlRrcSegmentationR16, of the module NR-RRC-Definitions.
+
+ghost use Rattle.nr_setup.specs.declared.rrc_setup_complete_v1690_ies_ul_rrc_segmentation_r16.{
+  RrcSetupCompleteV1690IesUlRrcSegmentationR16.TheVariants.{True},
+};
+ghost use Rattle.rasn_below.specs.Page.{all_items, item, root};
+
+use rasn_below::page::*;
+
+/// RRCSetupComplete-v1690-IEs.ul-RRC-Segmentation-r16 ::= ENUMERATED { true(0) }
+#[derive(Clone, Copy, Debug, PartialEq, Eq)]
+pub enum RrcSetupCompleteV1690IesUlRrcSegmentationR16 {
+    True,
+}
+
+macro_rules! items { ($to:ident $($with:ident)*) => { $to! { [$($with)*]
+    True;
+} }; }
+
+impl OfKind for RrcSetupCompleteV1690IesUlRrcSegmentationR16 {
+    type Kind = EnumeratedKind;
+}
+
+impl Items for RrcSetupCompleteV1690IesUlRrcSegmentationR16 {
+    const ITEMS: ItemCounts = items!(item_counts);
+
+    ghost ITEMS = { all_items 1 };
+
+    ghost item = { elim [
+      | True ↦ item root 0
+    ] };
+
+    fn place(&self) -> Place {
+        items!(place_of_item self)
+    }
+
+    fn at(place: Place) -> Option<RrcSetupCompleteV1690IesUlRrcSegmentationR16> {
+        items!(item_at place)
+    }
+}
+
+impl ByKind for RrcSetupCompleteV1690IesUlRrcSegmentationR16 {}

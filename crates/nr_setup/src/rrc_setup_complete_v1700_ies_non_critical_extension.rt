@@ -1,0 +1,39 @@
+//! RrcSetupCompleteV1700IesNonCriticalExtension, of the module NR-RRC-Definitions.
+
+ghost use Rattle.nr_setup.specs.NrRrcDefinitions.{rrc_setup_complete_v1700_ies_non_critical_extension_lists};
+ghost use Rattle.rasn_below.specs.Page.{fields_of};
+ghost use Rattle.std.specs.Prelude.{[], refl};
+
+use rasn_below::page::*;
+
+/// RRCSetupComplete-v1700-IEs.nonCriticalExtension ::= SEQUENCE {}
+#[derive(Clone, Copy, Debug, PartialEq, Eq)]
+pub struct RrcSetupCompleteV1700IesNonCriticalExtension {}
+
+macro_rules! components { ($to:ident $($with:ident)*) => { $to! { [$($with)*]
+} }; }
+
+const FIELDS: FieldLists = components!(fields);
+
+const BOUNDS: Bounds = components!(bounds);
+
+impl Components for RrcSetupCompleteV1700IesNonCriticalExtension {
+    const COMPONENTS: FieldLists = FIELDS;
+
+    ghost COMPONENTS = { fields_of rrc_setup_complete_v1700_ies_non_critical_extension_lists };
+
+    ghost components = { (rrc_setup_complete_v1700_ies_non_critical_extension_lists, refl) };
+
+    ghost contents = { λ _.
+        [] };
+}
+
+impl Record for RrcSetupCompleteV1700IesNonCriticalExtension {
+    fn encode_components<E: Encoder>(&self, encoder: &mut E) -> Result<(), E::Error> {
+        components!(encode_components self encoder)
+    }
+
+    fn decode_components<D: Decoder>(decoder: &mut D) -> Result<Self, D::Error> {
+        components!(decode_components decoder)
+    }
+}
