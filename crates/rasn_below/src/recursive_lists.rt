@@ -14,8 +14,8 @@
 //! }
 //! ```
 //!
-//! `decode_record`, `encode_holding_record`, `tags_of_alternatives` and `decode_recursive_alternative` are for authors, as
-//! is `encode_record`. What the others write is part of these.
+//! `decode_record`, `encode_holding_record`, `tags_of_alternatives` and `decode_recursive_alternative` are for authors,
+//! as is `encode_record`. What the others write is part of these.
 
 /// Writes a record of these components, of which one is `required` and holds the type itself, under a tag and a name:
 /// the body of its `Encode`. Where those that hold it are all `optional`, that is `encode_record`.

@@ -165,8 +165,8 @@ pub fn three_to_write<
     write::plain(of, &of_record, encoder)
 }
 
-/// Reads all components of a record: three. Their tags are those of the record's own fields, their constraints those of a
-/// list.
+/// Reads all components of a record: three. Their tags are those of the record's own fields, their constraints those of
+/// a list.
 pub fn three_to_read<T, A, B, C, X>(
     a: A,
     b: B,
@@ -245,8 +245,8 @@ pub fn four_to_write<
     write::plain(of, &of_record, encoder)
 }
 
-/// Reads all components of a record: four. Their tags are those of the record's own fields, their constraints those of a
-/// list.
+/// Reads all components of a record: four. Their tags are those of the record's own fields, their constraints those of
+/// a list.
 pub fn four_to_read<T, A, B, C, D, X>(
     a: A,
     b: B,
