@@ -1,5 +1,6 @@
 //! Which messages of protocols are newer versions of those of an earlier release: Type-of-msg of ITU-T T.38 (fax over
-//! IP), of 1998 and of 2002. IFPPacket, which holds it, is none, since a field's type has an extension marker from 2002 on.
+//! IP), of 1998 and of 2002. IFPPacket, which holds it, is none, since a field's type has an extension marker from 2002
+//! on.
 #![tactic(auto)]
 
 ghost use Rattle.per_core.specs.Versions.{NewerType};
