@@ -12,9 +12,7 @@ from repository import Failure
 HERE = os.path.dirname(os.path.realpath(__file__))
 VARIANTS = ("aper", "uper")
 # The files of rows/protocols with the messages of each protocol.
-FILES = {
-    "its": ("cam", "denm", "spatem"), "ngap": ("ngap",), "s1ap": ("s1ap",), "lte_rrc": ("lte_rrc",), "nr_rrc": ("nr_rrc",),
-}
+FILES = {"its": ("cam", "denm", "spatem"), "ngap": ("ngap",), "s1ap": ("s1ap",), "lte_rrc": ("lte_rrc",)}
 # Octets of a message are tried at each place.
 EACH = 1 << 20
 # What a difference is.

@@ -12,8 +12,6 @@ mod lte_messages;
 #[cfg(test)]
 mod ngap_messages;
 #[cfg(test)]
-mod nr_messages;
-#[cfg(test)]
 mod s1ap_messages;
 #[cfg(test)]
 mod spatem_messages;
