@@ -22,6 +22,8 @@ mod moments;
 #[cfg(test)]
 mod records;
 #[cfg(test)]
+mod recursive;
+#[cfg(test)]
 mod runs;
 #[cfg(test)]
 mod streams;
