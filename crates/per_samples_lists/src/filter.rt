@@ -7,11 +7,13 @@ ghost use Rattle.per_samples_lists.specs.Filters.{filter, filter_is_choice, filt
 ghost use Rattle.per_samples_lists.specs.Filters.{filter_schema, filter_tag, filter_tree, filter_value};
 
 use rasn_below::codec::{Decode, Encode};
+use rasn_below::context_tag;
 use rasn_below::page::*;
-use rasn_below::recursive::{HoldsAlternatives, Same, Unconstrained, decode, write_alternative};
 use rasn_below::schema::{Choice, TagTree, TypeTree, Variants};
 use rasn_below::types::Identifier;
-use rasn_below::{context_tag, decode_recursive_alternative, tags_of_alternatives};
+use rasn_recursive::read::{HoldsAlternatives, Same, Unconstrained, decode};
+use rasn_recursive::write::write_alternative;
+use rasn_recursive::{decode_recursive_alternative, tags_of_alternatives};
 
 /// Filter ::= CHOICE { and SEQUENCE OF Filter, or SEQUENCE OF Filter, not Filter, present OCTET STRING }
 #[derive(Debug, Drop, PartialEq)]

@@ -8,9 +8,9 @@ ghost use Rattle.per_samples_lists.specs.Nests.{nest, nest_contents, nest_depth}
 
 use rasn_below::codec::{Decode, Encode};
 use rasn_below::page::*;
-use rasn_below::recursive::{Holds, Same, decode};
 use rasn_below::types::Identifier;
-use rasn_below::{decode_record, encode_record};
+use rasn_recursive::read::{Holds, Same, decode};
+use rasn_recursive::{decode_record, encode_record};
 
 /// Nest ::= SEQUENCE { inner Nest OPTIONAL }
 #[derive(Debug, Drop, PartialEq)]

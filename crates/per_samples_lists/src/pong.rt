@@ -7,9 +7,9 @@ ghost use Rattle.per_samples_lists.specs.Mutuals.{pong, pong_contents, pong_dept
 use crate::ping::Ping;
 use rasn_below::codec::{Decode, Encode};
 use rasn_below::page::*;
-use rasn_below::recursive::{Holds, Same, decode};
 use rasn_below::types::Identifier;
-use rasn_below::{decode_record, encode_record};
+use rasn_recursive::read::{Holds, Same, decode};
+use rasn_recursive::{decode_record, encode_record};
 
 /// Pong ::= SEQUENCE { ping Ping OPTIONAL }
 #[cycle(hold)]

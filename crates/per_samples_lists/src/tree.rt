@@ -7,9 +7,9 @@ ghost use Rattle.per_samples_lists.specs.Trees.{branch, tree, tree_contents, tre
 
 use rasn_below::codec::{Decode, Encode};
 use rasn_below::page::*;
-use rasn_below::recursive::{Holds, Same, decode};
 use rasn_below::types::Identifier;
-use rasn_below::{decode_record, encode_holding_record};
+use rasn_recursive::read::{Holds, Same, decode};
+use rasn_recursive::{decode_record, encode_holding_record};
 
 /// Tree ::= SEQUENCE { value INTEGER (0..255), children SEQUENCE OF Tree }
 #[derive(Debug, Drop, PartialEq)]

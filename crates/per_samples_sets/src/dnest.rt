@@ -6,9 +6,9 @@ ghost use Rattle.per_samples_sets.specs.Dnests.{dnest, dnest_contents, dnest_dep
 
 use rasn_below::codec::{Decode, Encode};
 use rasn_below::page::*;
-use rasn_below::recursive::{Holds, Same, decode};
 use rasn_below::types::{Date, Identifier};
-use rasn_below::{decode_record, encode_record};
+use rasn_recursive::read::{Holds, Same, decode};
+use rasn_recursive::{decode_record, encode_record};
 
 /// Dnest ::= SEQUENCE { inner Dnest OPTIONAL, d DATE OPTIONAL }
 #[derive(Debug, Drop, PartialEq)]

@@ -1,7 +1,6 @@
 pub mod Calls
 pub mod Components
 pub mod Page
-pub mod Recursive
 pub mod Rows
 pub mod Times
 pub mod Types

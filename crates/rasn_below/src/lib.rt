@@ -9,8 +9,6 @@ pub mod codec;
 mod items;
 mod macros;
 pub mod page;
-pub mod recursive;
-mod recursive_lists;
 pub mod schema;
 mod sets;
 pub mod types;

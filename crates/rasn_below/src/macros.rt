@@ -275,23 +275,6 @@ macro_rules! encode_components {
     };
 }
 
-/// Writes a record of these components, whose type holds itself, under a tag and a name: the body of its `Encode`.
-#[macro_export]
-macro_rules! encode_record {
-    ([$of:ident $encoder:ident $tag:ident $identifier:ident] $($list:tt)*) => {
-        $encoder.encode_record::<Self, _, _, _>(
-            $tag,
-            &$crate::cells::Listed {
-                fields: FIELDS.root,
-                constraints: BOUNDS.lists.root,
-                cells: $crate::cells_to_write!($of $($list)*),
-            },
-            &$crate::NoAdditions,
-            $identifier,
-        )
-    };
-}
-
 /// Writes the components of a list as `encode_components` does, each also stated by itself: put it in the place of
 /// `encode_components` where the check refuses that.
 #[macro_export]
@@ -340,11 +323,12 @@ macro_rules! decode_each_component {
     }};
 }
 
-/// A callback's call with the places from 0 in brackets before its arguments.
+/// A callback's call with the places from 0 in brackets before its arguments. It is a macro of this crate, or of the one
+/// that is named behind `in`.
 #[macro_export]
 macro_rules! with_places {
-    ($name:ident $($arguments:tt)*) => {
-        $crate::$name!([
+    ($name:ident in $of:tt $($arguments:tt)*) => {
+        $of::$name!([
             0 1 2 3 4 5 6 7 8 9 10 11 12 13 14 15 16 17 18 19 20 21 22 23
             24 25 26 27 28 29 30 31 32 33 34 35 36 37 38 39 40 41 42 43 44 45 46 47
             48 49 50 51 52 53 54 55 56 57 58 59 60 61 62 63 64 65 66 67 68 69 70 71
@@ -358,6 +342,7 @@ macro_rules! with_places {
             240 241 242 243 244 245 246 247 248 249 250 251 252 253 254 255
         ] $($arguments)*)
     };
+    ($name:ident $($arguments:tt)*) => { $crate::with_places!($name in $crate $($arguments)*) };
 }
 
 /// The context-specific tag of a number (X.680 25.7, AUTOMATIC TAGS).
