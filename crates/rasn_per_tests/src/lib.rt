@@ -20,6 +20,8 @@ mod header;
 #[cfg(test)]
 mod moments;
 #[cfg(test)]
+mod own_tags;
+#[cfg(test)]
 mod records;
 #[cfg(test)]
 mod runs;
