@@ -3,9 +3,9 @@
 //! a type of the same file is written as.
 
 pub use crate::types::{
-    Any, BitString, BmpString, GeneralString, GraphicString, Ia5String, Integer, NumericString,
-    ObjectIdentifier, OctetString, PrintableString, SetOf, TeletexString, Utf8String,
-    VisibleString,
+    Any, BitString, BmpString, Contains, GeneralString, GraphicString, Ia5String, Integer,
+    NumericString, ObjectIdentifier, OctetString, OpenType, PrintableString, SetOf, TeletexString,
+    Utf8String, VisibleString,
 };
 pub use crate::{
     Alternatives, AsnType, Bounds, ByKind, ChoiceKind, CodedAlternatives, Components, Constrained,

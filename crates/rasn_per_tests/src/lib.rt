@@ -12,6 +12,8 @@ mod bags;
 #[cfg(test)]
 mod calls;
 #[cfg(test)]
+mod contents;
+#[cfg(test)]
 mod copies;
 #[cfg(test)]
 mod expected;
