@@ -1,8 +1,8 @@
 -- From the octets of a value to the canonical octets of the same value.
-use Rattle.std.specs.Prelude.{ℕ, Bool, ◌≢◌, ◌⊎◌, List, [], ◌∷◌, Some, None, true, false, pos, negsuc}
+use Rattle.std.specs.Prelude.{ℕ, Bool, ◌≢◌, ◌⊎◌, List, [], ◌∷◌, Some, true, false, pos, negsuc}
 use Rattle.rasn_below.specs.Values.{utc, Value}
-use Rattle.rasn_below.specs.Types.{visible, from_to, unbounded, between, Size, any_size, Schema, choice_at, always}
-use Rattle.rasn_below.specs.Types.{list_at, lower_bound, upper_bound, sequence_at, alternatives_at, no_additions}
+use Rattle.rasn_below.specs.Types.{visible, from_to, unbounded, between, Size, any_size, Schema, always}
+use Rattle.rasn_below.specs.Types.{list_at, lower_bound, upper_bound, sequence_at, alternatives_at}
 use Rattle.rasn_below.specs.Types.{set_of_at, date_at, set_at}
 use Rattle.rasn_below.specs.Rows.{Codec, variant_of, Variant}
 use Rattle.per_samples_a.specs.Absents.{one_default}
@@ -10,7 +10,7 @@ use Rattle.per_samples_a.specs.Fours.{four}
 use Rattle.per_samples_a.specs.Sevens.{seven}
 use Rattle.per_samples_c.specs.Items.{with_item}
 use Rattle.per_samples_lists.specs.Bytes.{byte}
-use Rattle.per_samples_lists.specs.Choices.{outer_parts}
+use Rattle.per_samples_lists.specs.Choices.{outer}
 use Rattle.per_samples_lists.specs.Deeps.{deep}
 use Rattle.per_samples_lists.specs.Elements.{elements}
 use Rattle.per_samples_lists.specs.Empties.{maybe_empty}
@@ -81,7 +81,7 @@ schema_of OnlyX = always (Schema.char_string (120 ∷ []) any_size false)
 schema_of Items = sequence_at with_item
 schema_of Byte = sequence_at byte
 schema_of MaybeEmpty = sequence_at maybe_empty
-schema_of Nested = choice_at outer_parts None no_additions
+schema_of Nested = alternatives_at outer.before outer.behind
 schema_of Nest = sequence_at nest
 schema_of Deep = sequence_at deep
 schema_of Bytes = list_at (sequence_at byte) any_size false

@@ -8,5 +8,6 @@ pub mod Sevens
 pub mod Alternatives
 pub mod Nesteds
 pub mod Brackets
+pub mod Carriers
 pub mod Defaults
 pub mod Optionals

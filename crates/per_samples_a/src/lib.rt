@@ -6,6 +6,7 @@ pub mod alternative;
 pub mod both;
 pub mod bounded;
 pub mod brackets;
+pub mod carrier;
 pub mod default_list;
 pub mod defaults;
 pub mod eight;

@@ -1,20 +1,16 @@
 //! A CHOICE of a SEQUENCE, an untagged CHOICE and NULL.
+#![tactic(auto, unfolding(rasn_below::specs::Types::smallest, rasn_below::specs::Types::least_of))]
 
-ghost use Rattle.std.specs.Prelude.{None, refl, true};
-ghost use Rattle.rasn_below.specs.Types.{EOC, no_constraints, choice_at, no_additions, choice_stated, choice_tag};
-ghost use Rattle.rasn_below.specs.Types.{tree_with};
-ghost use Rattle.per_samples_a.specs.Nesteds.{nested_parts, nested_levelled, nested_variants, nested_described};
-ghost use Rattle.per_samples_a.specs.Nesteds.{nested_chosen, nested_levels};
+ghost use Rattle.std.specs.Prelude.{refl};
+ghost use Rattle.rasn_below.specs.Page.{chosen, nothing, variants_listed};
+ghost use Rattle.per_samples_a.specs.Nesteds.{nested, nested_apart};
+ghost use Rattle.per_samples_a.specs.declared.nested.Nested.TheVariants.{Record, Inner, Last};
 
 use crate::alternative::{ALTERNATIVE_TAGS, Alternative};
 use crate::pair::Pair;
-use rasn_below::codec::{Decode, Decoder, DecoderExt, Encode, Encoder, EncoderExt, FromTag};
-use rasn_below::schema::{
-    AsnType, Choice, Constraints, TagTree, TypeTree, Variants, variant_index,
-};
-use rasn_below::types::{Class, Identifier, Tag};
+use rasn_below::page::*;
 
-/// CHOICE { record SEQUENCE { a BOOLEAN, b INTEGER }, inner Alternative, last [2] NULL }
+/// CHOICE { record SEQUENCE { a BOOLEAN, b INTEGER }, inner Alternative, last [2] NULL }, whose tags are its own
 #[derive(Clone, Copy, Debug, PartialEq)]
 pub enum Nested {
     Record(Pair),
@@ -22,123 +18,46 @@ pub enum Nested {
     Last,
 }
 
-impl AsnType for Nested {
-    const TAG: Tag = Tag::EOC;
+macro_rules! alternatives { ($to:ident $($with:ident)*) => { $to! { [$($with)*]
+    SEQUENCE "record" Record: Pair [];
+    0 of ALTERNATIVE_TAGS "inner" Inner: Alternative [];
+    2 "last" Last;
+} }; }
 
-    ghost TAG = { EOC };
+const VARIANTS: VariantLists = alternatives!(own_variants);
 
-    const TAG_TREE: TypeTree = TypeTree(TagTree::Choice(VARIANTS));
+const BOUNDS: Bounds = alternatives!(own_alternative_bounds);
 
-    ghost TAG_TREE = { tree_with nested_variants };
-
-    const IS_CHOICE: bool = true;
-
-    ghost IS_CHOICE = { true };
-
-    const CONSTRAINTS: Constraints = Constraints::NONE;
-
-    ghost CONSTRAINTS = { no_constraints };
-
-    ghost schema = { λ _. choice_at nested_parts None no_additions };
-
-    ghost value = { nested_chosen };
-
-    ghost levels = { nested_levels };
-
-    ghost levelled = { λ _. nested_levelled };
-
-    ghost tag_fits = { λ _. choice_tag nested_parts None no_additions };
-
-    ghost tree_fits = { λ _. choice_stated nested_parts nested_described None no_additions };
+impl OfKind for Nested {
+    type Kind = ChoiceKind;
 }
 
-/// The smallest tag of the inner choice.
-const TAG_OF_X: Tag = Tag {
-    class: Class::Context,
-    value: 0,
-};
+impl Alternatives for Nested {
+    const ALTERNATIVES: VariantLists = VARIANTS;
 
-/// The tag of the last alternative.
-const TAG_OF_LAST: Tag = Tag {
-    class: Class::Context,
-    value: 2,
-};
+    ghost ALTERNATIVES = { variants_listed nested };
 
-const VARIANTS: &[TagTree] = &[
-    TagTree::Leaf(Tag::SEQUENCE),
-    ALTERNATIVE_TAGS,
-    TagTree::Leaf(TAG_OF_LAST),
-];
+    ghost alternatives = { (nested, refl) };
 
-impl Choice for Nested {
-    const VARIANTS: Variants = Variants { list: VARIANTS };
+    ghost chosen = { elim [
+      | Record r ↦ chosen 0 (⟦<Pair as AsnType>⟧.value r)
+      | Inner c ↦ chosen 1 (⟦<Alternative as AsnType>⟧.value c)
+      | Last ↦ chosen 2 nothing
+    ] };
 
-    ghost VARIANTS = { nested_variants };
+    ghost depth = { λ _. 1 };
 
-    const EXTENDED_VARIANTS: Option<Variants> = None;
-
-    ghost EXTENDED_VARIANTS = { None };
-
-    ghost alternatives = { nested_parts };
-
-    ghost described = { nested_described };
-
-    ghost extends = { λ _. refl };
-
-    ghost are_variants = { record { distinct = refl; few = refl } };
-
-    ghost is_choice = { λ _. refl };
+    ghost are_variants = { nested_apart };
 }
 
-impl Encode for Nested {
-    fn encode_with_tag_and_constraints<E: Encoder>(
-        &self,
-        encoder: &mut E,
-        tag: Tag,
-        constraints: &Constraints,
-        identifier: Identifier,
-    ) -> Result<(), E::Error> {
-        let _ = constraints;
-        match self {
-            Nested::Record(record) => {
-                encoder.encode_alternative::<Nested, _>(tag, Tag::SEQUENCE, record, identifier)
-            }
-            Nested::Inner(inner) => {
-                encoder.encode_alternative::<Nested, _>(tag, TAG_OF_X, inner, identifier)
-            }
-            Nested::Last => {
-                encoder.encode_alternative::<Nested, _>(tag, TAG_OF_LAST, &(), identifier)
-            }
-        }
+impl CodedAlternatives for Nested {
+    fn encode_alternative<E: Encoder>(&self, encoder: &mut E) -> Result<Tag, E::Error> {
+        alternatives!(encode_own_alternative self encoder)
+    }
+
+    fn decode_alternative<D: Decoder>(decoder: &mut D, tag: Tag) -> Result<Self, D::Error> {
+        alternatives!(decode_own_alternative decoder tag)
     }
 }
 
-impl Decode for Nested {
-    fn decode_with_tag_and_constraints<D: Decoder>(
-        decoder: &mut D,
-        tag: Tag,
-        constraints: &Constraints,
-    ) -> Result<Nested, D::Error> {
-        let _ = tag;
-        decoder.decode_choice(constraints)
-    }
-}
-
-impl FromTag for Nested {
-    fn from_tag<D: Decoder>(decoder: &mut D, tag: Tag) -> Result<Nested, D::Error> {
-        match variant_index::<Nested>(tag) {
-            Some(0) => {
-                let record = Pair::decode_with_tag(decoder, tag)?;
-                Ok(Nested::Record(record))
-            }
-            Some(1) => {
-                let inner = Alternative::decode_with_tag(decoder, tag)?;
-                Ok(Nested::Inner(inner))
-            }
-            _ => {
-                <()>::decode_with_tag(decoder, tag)?;
-                Ok(Nested::Last)
-            }
-        }
-    }
-}
+impl ByKind for Nested {}

@@ -6,3 +6,4 @@ pub mod First
 pub mod Second
 pub mod Several
 pub mod Many
+pub mod Picks

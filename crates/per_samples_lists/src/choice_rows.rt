@@ -2,7 +2,7 @@
 
 ghost use Rattle.std.specs.Prelude.{true, [], ◌∷◌};
 ghost use Rattle.rasn_below.specs.Rows.{unaligned, IsWrittenAs};
-ghost use Rattle.per_samples_lists.specs.declared.choice.Inner.TheVariants.{P, Q};
+ghost use Rattle.per_samples_lists.specs.declared.inner_choice.Inner.TheVariants.{P, Q};
 ghost use Rattle.per_samples_lists.specs.declared.choice.Outer.TheVariants.{X, Y, Z};
 
 use crate::choice::Outer;

@@ -11,6 +11,7 @@ pub mod elements;
 pub mod empty;
 pub mod filter;
 pub mod filter_rows;
+pub mod inner_choice;
 pub mod lists;
 pub mod nest;
 pub mod ping;

@@ -4,13 +4,14 @@ ghost use Rattle.std.specs.Prelude.{ℕ, max, List, [], ◌∷◌, Option, map};
 ghost use Rattle.std.specs.Borrow.{Bor};
 ghost use Rattle.rasn_types.specs.Values.{Value};
 ghost use Rattle.rasn_constraints.specs.declared.constraints.Constraint.{Constraint};
-ghost use Rattle.rasn_schema.specs.Schemas.{leaf, Parts, no_parts, part};
+ghost use Rattle.rasn_schema.specs.Schemas.{Parts, no_parts, part};
 ghost use Rattle.rasn_schema.specs.Records.{own_or};
 ghost use Rattle.rasn_schema.specs.Extensions.{fields_behind};
 ghost use Rattle.rasn_schema.specs.Fields.{Shape, shape_of, tag_of};
 ghost use Rattle.rasn_traits.specs.Additions.{WritesAdditions};
 ghost use Rattle.rasn_traits.specs.AdditionsRead.{TakesAdditions};
-ghost use Rattle.rasn_record.specs.Lists.{behind, first_tag, first_given};
+ghost use Rattle.rasn_record.specs.Lists.{behind, first_given};
+ghost use Rattle.rasn_additions.specs.Trees.{first_tree_by};
 
 use crate::additions::{DecodeAddition, EncodeAddition};
 use rasn_codec::codec::{Decoder, Encoder};
@@ -98,7 +99,7 @@ impl EncodeAdditionCells for End {
 }
 
 impl<C: EncodeAddition, N: EncodeAdditionCells> EncodeAdditionCells for Cell<C, N> {
-    ghost additions = { λ p fs cs n. part (leaf (first_tag (tag_of C.Of.TAG) fs)) (C.presence p.component)
+    ghost additions = { λ p fs cs n. part (first_tree_by (tag_of C.Of.TAG) fs) (C.presence p.component)
         (C.Of.schema (own_or C.Of.CONSTRAINTS (first_given cs)) n) (N.additions p.next (behind fs) (behind cs) n) };
 
     ghost contents = { λ p. C.slot p.component ∷ N.contents p.next };
@@ -153,7 +154,7 @@ impl DecodeAdditionCells for End {
 impl<C: DecodeAddition, N: DecodeAdditionCells> DecodeAdditionCells for Cell<C, N> {
     type Values = (C::Value, N::Values);
 
-    ghost additions = { λ p fs cs n. part (leaf (first_tag (tag_of C.Of.TAG) fs)) (C.presence p.component)
+    ghost additions = { λ p fs cs n. part (first_tree_by (tag_of C.Of.TAG) fs) (C.presence p.component)
         (C.Of.schema (own_or C.Of.CONSTRAINTS (first_given cs)) n) (N.additions p.next (behind fs) (behind cs) n) };
 
     ghost contents = { λ values. C.slot values.0 ∷ N.contents values.1 };

@@ -1,5 +1,6 @@
 pub mod Calls
 pub mod Components
+pub mod OwnTags
 pub mod Page
 pub mod Rows
 pub mod Times

@@ -8,6 +8,7 @@ mod choices;
 pub mod codec;
 mod items;
 mod macros;
+pub mod own_tags;
 pub mod page;
 pub mod schema;
 mod sets;

@@ -18,8 +18,9 @@
 //! }
 //! ```
 //!
-//! A component that is an untagged choice has the smallest of its tags, and behind `of` a constant of all of them, as
-//! `tags_of_choice` gives it: `required 0 of AREA_TAGS "area" area: ActionArea [];`.
+//! A component under its type's own tag has the name of a constant of `Tag` in the place of a number: `required BOOL
+//! "flag" flag: bool [];`. One that is an untagged choice has the smallest of its tags, and behind `of` a constant of
+//! all of them, as `tags_of_choice` gives it: `required 0 of AREA_TAGS "area" area: ActionArea [];`.
 //!
 //! Behind a marker `...;` stand the additions, at most 40, in the order of the type: `required`, `optional` and
 //! `default` as before it, and `group` for an addition group, whose field is an `Option` of its SEQUENCE and whose
@@ -40,7 +41,7 @@
 #[macro_export]
 macro_rules! fields {
     ([] $(
-        $presence:ident $tag:literal $(of $tree:ident)? $name:literal
+        $presence:ident $tag:tt $(of $tree:ident)? $name:literal
         $field:ident: $type:ty [$($bounds:tt)*];
     )*) => {
         $crate::FieldLists {
@@ -49,15 +50,17 @@ macro_rules! fields {
         }
     };
     ([] $(
-        $presence:ident $tag:literal $(of $tree:ident)? $name:literal
+        $presence:ident $tag:tt $(of $tree:ident)? $name:literal
         $field:ident: $type:ty [$($bounds:tt)*];
     )* ...; $(
-        $added:ident $added_tag:literal $added_name:literal
+        $added:ident $added_tag:tt $(of $added_tree:ident)? $added_name:literal
         $added_field:ident: $added_type:ty [$($added_bounds:tt)*];
     )*) => {
         $crate::FieldLists {
             root: $crate::with_places!(placed_fields []; $([$presence $tag $($tree)?; $name])*),
-            added: Some($crate::with_places!(placed_fields []; $([$added $added_tag; $added_name])*)),
+            added: Some($crate::with_places!(placed_fields [];
+                $([$added $added_tag $($added_tree)?; $added_name])*
+            )),
         }
     };
     ([] $($list:tt)*) => { $crate::wrong_line!($($list)*) };
@@ -66,12 +69,12 @@ macro_rules! fields {
 /// Says which line of a list of components is the first that isn't in its form.
 #[macro_export]
 macro_rules! wrong_line {
-    () => { compile_error!("a list has one marker `...;` at most, and no `of` behind it") };
+    () => { compile_error!("a list has one marker `...;` at most") };
     (...; $($rest:tt)*) => { $crate::wrong_line!($($rest)*) };
-    ($presence:ident $tag:literal $(of $tree:ident)? $name:literal
+    ($presence:ident $tag:tt $(of $tree:ident)? $name:literal
         $field:ident: $type:ty [$($bounds:tt)*]; $($rest:tt)*
     ) => { $crate::wrong_line!($($rest)*) };
-    ($presence:ident $tag:literal $(of $tree:ident)? $name:literal $($rest:tt)*) => {
+    ($presence:ident $tag:tt $(of $tree:ident)? $name:literal $($rest:tt)*) => {
         compile_error!(concat!(
             "the line of `", $name, "` isn't `presence tag \"name\" field: Type [constraints];`"
         ))
@@ -100,19 +103,19 @@ macro_rules! bounds_in_turn {
     };
     ([] $done:tt ...; $($rest:tt)*) => { $crate::bounds_in_turn!([$done] [] $($rest)*) };
     ($root:tt [$($done:tt)*]
-        $presence:ident $tag:literal $(of $tree:ident)? $name:literal
+        $presence:ident $tag:tt $(of $tree:ident)? $name:literal
         $field:ident: $type:tt [$($bounds:tt)*]; $($rest:tt)*
     ) => {
         $crate::bounds_in_turn!($root [$($done)* $crate::bounds_of_type!($name $type $($bounds)*),] $($rest)*)
     };
     ($root:tt [$($done:tt)*]
-        $presence:ident $tag:literal $(of $tree:ident)? $name:literal
+        $presence:ident $tag:tt $(of $tree:ident)? $name:literal
         $field:ident: Option<$type:tt> [$($bounds:tt)*]; $($rest:tt)*
     ) => {
         $crate::bounds_in_turn!($root [$($done)* $crate::bounds_of_type!($name $type $($bounds)*),] $($rest)*)
     };
     ($root:tt [$($done:tt)*]
-        $presence:ident $tag:literal $(of $tree:ident)? $name:literal
+        $presence:ident $tag:tt $(of $tree:ident)? $name:literal
         $field:ident: $type:ty [$($bounds:tt)*]; $($rest:tt)*
     ) => {
         $crate::bounds_in_turn!($root [$($done)* $crate::before_default!($name [] $($bounds)*),] $($rest)*)
@@ -251,19 +254,19 @@ macro_rules! is_marked {
 #[macro_export]
 macro_rules! encode_components {
     ([$of:ident $encoder:ident] $(
-        $presence:ident $tag:literal $(of $tree:ident)? $name:literal
+        $presence:ident $tag:tt $(of $tree:ident)? $name:literal
         $field:ident: $type:ty [$($bounds:tt)*];
     )*) => {
         $crate::write_components!([$of $encoder] $([$presence $field [$($bounds)*]])*)
     };
     ([$of:ident $encoder:ident] $(
-        $presence:ident $tag:literal $(of $tree:ident)? $name:literal
+        $presence:ident $tag:tt $(of $tree:ident)? $name:literal
         $field:ident: $type:ty [$($bounds:tt)*];
     )* ...;) => {
         $crate::write_components!([$of $encoder] $([$presence $field [$($bounds)*]])*)
     };
     ([$of:ident $encoder:ident] $(
-        $presence:ident $tag:literal $(of $tree:ident)? $name:literal
+        $presence:ident $tag:tt $(of $tree:ident)? $name:literal
         $field:ident: $type:ty [$($bounds:tt)*];
     )* ...; $($behind:tt)*) => {
         $crate::write::all(
@@ -290,16 +293,16 @@ macro_rules! encode_each_component {
 #[macro_export]
 macro_rules! decode_components {
     ([$decoder:ident] $(
-        $presence:ident $tag:literal $(of $tree:ident)? $name:literal
+        $presence:ident $tag:tt $(of $tree:ident)? $name:literal
         $field:ident: $type:ty [$($bounds:tt)*];
     )*) => {
         $crate::read_components!([$decoder] $([$presence $field [$type] [$($bounds)*]])*)
     };
     ([$decoder:ident] $(
-        $presence:ident $tag:literal $(of $tree:ident)? $name:literal
+        $presence:ident $tag:tt $(of $tree:ident)? $name:literal
         $field:ident: $type:ty [$($bounds:tt)*];
     )* ...; $(
-        $added:ident $added_tag:literal $added_name:literal
+        $added:ident $added_tag:tt $(of $added_tree:ident)? $added_name:literal
         $added_field:ident: $added_type:ty [$($added_bounds:tt)*];
     )*) => {{
         let root = $crate::cells_to_read!($($presence $type [$($bounds)*];)*);
@@ -356,11 +359,11 @@ macro_rules! context_tag {
     };
 }
 
-/// The tags of a component: its context-specific tag, or those of an untagged choice.
+/// The tags of a component, or of an alternative: its tag, or those of an untagged choice.
 #[macro_export]
 macro_rules! tag_tree {
-    ($tag:literal) => { $crate::TagTree::Leaf($crate::context_tag!($tag)) };
-    ($tag:literal $tree:ident) => { $tree };
+    ($tag:tt) => { $crate::TagTree::Leaf($crate::own_tag!($tag)) };
+    ($tag:tt $tree:ident) => { $tree };
 }
 
 /// Whether a component may be absent.
@@ -381,10 +384,10 @@ macro_rules! presence {
 /// The fields of components at their places, behind those that are done.
 #[macro_export]
 macro_rules! placed_fields {
-    ($places:tt [$([$place:literal $presence:ident $tag:literal $($tree:ident)?; $name:literal])*];) => {
+    ($places:tt [$([$place:literal $presence:ident $tag:tt $($tree:ident)?; $name:literal])*];) => {
         &[$($crate::Field {
             index: $place,
-            tag: $crate::context_tag!($tag),
+            tag: $crate::own_tag!($tag),
             tag_tree: $crate::tag_tree!($tag $($tree)?),
             presence: $crate::presence!($presence),
             name: $name,
@@ -605,7 +608,7 @@ macro_rules! read_components {
 #[macro_export]
 macro_rules! cells_to_write {
     ($of:ident $(
-        $presence:ident $tag:literal $(of $tree:ident)? $name:literal
+        $presence:ident $tag:tt $(of $tree:ident)? $name:literal
         $field:ident: $type:ty [$($bounds:tt)*];
     )*) => {
         $crate::components_to_write!($of $([$presence $field [$($bounds)*]])*)
@@ -637,7 +640,7 @@ macro_rules! components_to_write {
 macro_rules! additions_to_write {
     ($of:ident) => { $crate::cells::End {} };
     ($of:ident
-        $presence:ident $tag:literal $(of $tree:ident)? $name:literal
+        $presence:ident $tag:tt $(of $tree:ident)? $name:literal
         $field:ident: $type:ty [$($bounds:tt)*]; $($rest:tt)*
     ) => {
         $crate::cell!(
@@ -789,13 +792,16 @@ macro_rules! stated_to_write {
     ($places:tt [$of:ident];) => { () };
     ($places:tt [$of:ident]; ...; $($behind:tt)*) => { () };
     ([$place:literal $($places:tt)*] [$of:ident];
-        optional $tag:literal $(of $tree:ident)? $name:literal $field:ident: $type:ty [$($bounds:tt)*]; $($rest:tt)*
+        optional $tag:tt $(of $tree:ident)? $name:literal $field:ident: $type:ty [$($bounds:tt)*]; $($rest:tt)*
     ) => { $crate::stated_to_write!([$($places)*] [$of]; $($rest)*) };
     ([$place:literal $($places:tt)*] [$of:ident];
-        default $tag:literal $(of $tree:ident)? $name:literal $field:ident: $type:ty [$($bounds:tt)*]; $($rest:tt)*
+        default $tag:tt $(of $tree:ident)? $name:literal $field:ident: $type:ty [$($bounds:tt)*]; $($rest:tt)*
     ) => { $crate::stated_to_write!([$($places)*] [$of]; $($rest)*) };
     ([$place:literal $($places:tt)*] [$of:ident];
-        $presence:ident $tag:literal $(of $tree:ident)? $name:literal
+        required $tag:ident $(of $tree:ident)? $name:literal $field:ident: $type:ty [$($bounds:tt)*]; $($rest:tt)*
+    ) => { $crate::stated_to_write!([$($places)*] [$of]; $($rest)*) };
+    ([$place:literal $($places:tt)*] [$of:ident];
+        $presence:ident $tag:tt $(of $tree:ident)? $name:literal
         $field:ident: $type:ty [$($bounds:tt)*]; $($rest:tt)*
     ) => {{
         let $field = $crate::write::component::<Self, $type>($of, $place, $tag, BOUNDS.lists.root, &$of.$field);
@@ -810,13 +816,16 @@ macro_rules! stated_to_read {
     ($places:tt [];) => { () };
     ($places:tt []; ...; $($behind:tt)*) => { () };
     ([$place:literal $($places:tt)*] [];
-        optional $tag:literal $(of $tree:ident)? $name:literal $field:ident: $type:ty [$($bounds:tt)*]; $($rest:tt)*
+        optional $tag:tt $(of $tree:ident)? $name:literal $field:ident: $type:ty [$($bounds:tt)*]; $($rest:tt)*
     ) => { $crate::stated_to_read!([$($places)*] []; $($rest)*) };
     ([$place:literal $($places:tt)*] [];
-        default $tag:literal $(of $tree:ident)? $name:literal $field:ident: $type:ty [$($bounds:tt)*]; $($rest:tt)*
+        default $tag:tt $(of $tree:ident)? $name:literal $field:ident: $type:ty [$($bounds:tt)*]; $($rest:tt)*
     ) => { $crate::stated_to_read!([$($places)*] []; $($rest)*) };
     ([$place:literal $($places:tt)*] [];
-        $presence:ident $tag:literal $(of $tree:ident)? $name:literal
+        required $tag:ident $(of $tree:ident)? $name:literal $field:ident: $type:ty [$($bounds:tt)*]; $($rest:tt)*
+    ) => { $crate::stated_to_read!([$($places)*] []; $($rest)*) };
+    ([$place:literal $($places:tt)*] [];
+        $presence:ident $tag:tt $(of $tree:ident)? $name:literal
         $field:ident: $type:ty [$($bounds:tt)*]; $($rest:tt)*
     ) => {{
         let $field = $crate::read::component::<Self, $type>($place, $tag, BOUNDS.lists.root);
@@ -831,13 +840,13 @@ macro_rules! stated_as_read {
     ($places:tt [$of:ident];) => { () };
     ($places:tt [$of:ident]; ...; $($behind:tt)*) => { () };
     ([$place:literal $($places:tt)*] [$of:ident];
-        optional $tag:literal $(of $tree:ident)? $name:literal $field:ident: $type:ty [$($bounds:tt)*]; $($rest:tt)*
+        optional $tag:tt $(of $tree:ident)? $name:literal $field:ident: $type:ty [$($bounds:tt)*]; $($rest:tt)*
     ) => { $crate::stated_as_read!([$($places)*] [$of]; $($rest)*) };
     ([$place:literal $($places:tt)*] [$of:ident];
-        default $tag:literal $(of $tree:ident)? $name:literal $field:ident: $type:ty [$($bounds:tt)*]; $($rest:tt)*
+        default $tag:tt $(of $tree:ident)? $name:literal $field:ident: $type:ty [$($bounds:tt)*]; $($rest:tt)*
     ) => { $crate::stated_as_read!([$($places)*] [$of]; $($rest)*) };
     ([$place:literal $($places:tt)*] [$of:ident];
-        $presence:ident $tag:literal $(of $tree:ident)? $name:literal
+        $presence:ident $tag:tt $(of $tree:ident)? $name:literal
         $field:ident: $type:ty [$($bounds:tt)*]; $($rest:tt)*
     ) => {{
         let $field = $crate::read::value::<Self, $type>(&$of, $place, &$of.$field);

@@ -5,7 +5,7 @@
 #[macro_export]
 macro_rules! set_fields {
     ([] $(
-        $presence:ident $tag:literal $(of $tree:ident)? $name:literal
+        $presence:ident $tag:tt $(of $tree:ident)? $name:literal
         $field:ident: $type:ty [$($bounds:tt)*];
     )*) => {
         $crate::Fields {
@@ -19,7 +19,7 @@ macro_rules! set_fields {
 #[macro_export]
 macro_rules! set_bounds {
     ([] $(
-        $presence:ident $tag:literal $(of $tree:ident)? $name:literal
+        $presence:ident $tag:tt $(of $tree:ident)? $name:literal
         $field:ident: $type:ty [$($bounds:tt)*];
     )*) => {
         &[$($crate::before_default!($name [] $($bounds)*)),*]
@@ -55,7 +55,7 @@ macro_rules! encode_set_components {
 #[macro_export]
 macro_rules! decode_set_components {
     ([$decoder:ident] $(
-        $presence:ident $tag:literal $(of $tree:ident)? $name:literal
+        $presence:ident $tag:tt $(of $tree:ident)? $name:literal
         $field:ident: $type:ty [$($bounds:tt)*];
     )*) => {{
         let cells = $crate::listed!($crate::cells_to_read!($($presence $type [$($bounds)*];)*));

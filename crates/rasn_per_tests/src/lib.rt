@@ -12,6 +12,8 @@ mod bags;
 #[cfg(test)]
 mod calls;
 #[cfg(test)]
+mod contents;
+#[cfg(test)]
 mod copies;
 #[cfg(test)]
 mod expected;
@@ -19,6 +21,8 @@ mod expected;
 mod header;
 #[cfg(test)]
 mod moments;
+#[cfg(test)]
+mod own_tags;
 #[cfg(test)]
 mod records;
 #[cfg(test)]

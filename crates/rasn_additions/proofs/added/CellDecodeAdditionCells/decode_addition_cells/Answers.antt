@@ -1,16 +1,19 @@
-use Rattle.std.proofs.Common.{rules}
+use Rattle.std.proofs.Common.{rules, sym}
+use Rattle.std.specs.Prelude.{map}
 use Rattle.std.proofs.lemmas.Result.{err_from_is_err_and}
-use Rattle.rasn_schema.specs.Fields.{shape_of}
+use Rattle.rasn_schema.specs.Fields.{shape_of, tag_of}
 use Rattle.rasn_traits.specs.AdditionsRead.{reads_further}
 use Rattle.rasn_traits.proofs.Reading.{addition_reads_well, fails_addition, fails_further}
 use Rattle.rasn_record.proofs.Behind.{behind-map}
+use Rattle.rasn_additions.proofs.Trees.{first_tree_by-tag, unread_by}
 use Rattle.rasn_additions.proofs.added.CellDecodeAdditionCells.decode_addition_cells.Goals as goal
 
 pub returns-in_err-value : goal.returns-in_err-value
 returns-in_err-value g c =
     let p = err_from_is_err_and c.from_residual.result c.from_residual.ensures.1 in
     let a = rw (c.given_or_own-in_use.ensures, c.CONSTRAINTS.ensures, c.first_tag-tag.ensures, c.TAG.ensures) at c.in_err-value.ensures.law in
-    record { law = rw (p.1, p.2) (fails_addition g.met.D.Decoder.lawful a); fails = search rules; kept = search rules }
+    let b = unread_by g.D.Decoder.rules _ _ (sym (first_tree_by-tag (tag_of g.C.Of.AsnType.TAG) (map shape_of c.args.fields.now))) a in
+    record { law = rw (p.1, p.2) (fails_addition g.met.D.Decoder.lawful b); fails = search rules; kept = search rules }
 
 pub returns-in_err-next : goal.returns-in_err-next
 returns-in_err-next g c =
