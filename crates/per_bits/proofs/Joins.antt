@@ -62,7 +62,7 @@ last_filled spare ps last h = ap₂ (λ (n : ℕ) bs. take n bs) (let e : 8 * le
         ∙ take_at (to_bits (8 - spare) (last / 2 ^ spare)) (to_bits spare last) (8 - spare) (length-to_bits (8 - spare) (last / 2 ^ spare))
 
 -- the word of some bits, a number behind them, and zeros
-word_bits : (used width value bits low word : ℕ) → used < 8 → width ≤ 56 → bits < 2 ^ used → low ≡ value % 2 ^ width →
+pub word_bits : (used width value bits low word : ℕ) → used < 8 → width ≤ 56 → bits < 2 ^ used → low ≡ value % 2 ^ width →
     word ≡ bit_or (bits * 2 ^ width % 2 ^ 64) low * 2 % 2 ^ 64 * 2 ^ (63 - (used + width)) % 2 ^ 64 →
     to_bits word_size word ≡ (to_bits used bits ++ to_bits width value) ++ replicate (64 - (used + width)) false
 word_bits used width value bits low word h f l e w = ap (to_bits word_size) (w ∙ ap (λ (m : ℕ). m * 2 % 2 ^ 64 * 2 ^ (63 - all) % 2 ^ 64) (put_behind 64 bits low used width l small (omega arith))

@@ -2,6 +2,7 @@ pub mod Joins
 pub mod Loops
 pub mod Packs
 pub mod Readers
+pub mod Room
 pub mod Sets
 pub mod Shifts
 pub mod Words

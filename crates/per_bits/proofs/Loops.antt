@@ -57,5 +57,8 @@ filled_more spare unused os qs bs h f =
     omega (arith, length-append (filled spare os) bs, filled_length spare os, spare_there spare os h)
 
 -- what follows the bits that were put, and those
+pub put_on : (spare unused : ℕ) (os qs : List ℕ) (front rest all total : Bits) → filled unused qs ≡ filled spare os ++ front → front ++ rest ≡ all → filled spare os ++ all ≡ total → filled unused qs ++ rest ≡ total
+put_on spare unused os qs front rest all total h f i = ap (λ bs. bs ++ rest) h ∙ append_assoc (filled spare os) front rest ∙ ap (λ bs. filled spare os ++ bs) f ∙ i
+
 pub put_before : (spare unused : ℕ) (os qs : List ℕ) (front rest all total : Bits) → AreFilledBy (filled spare os ++ front) unused qs → front ++ rest ≡ all → filled spare os ++ all ≡ total → filled unused qs ++ rest ≡ total
-put_before spare unused os qs front rest all total h f i = ap (λ bs. bs ++ rest) (filled_by h) ∙ append_assoc (filled spare os) front rest ∙ ap (λ bs. filled spare os ++ bs) f ∙ i
+put_before spare unused os qs front rest all total h = put_on spare unused os qs front rest all total (filled_by h)

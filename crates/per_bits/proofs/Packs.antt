@@ -1,7 +1,7 @@
 -- Octets that bits fill up to the spare ones are these bits, packed.
-use Rattle.std.proofs.Common.{Fits, w8, get_or, length-append, subst, ◌≡◌, refl, sym, ap, ap₂, ◌∙◌, ℕ, zero, suc, ◌+◌, ◌-◌, ◌*◌, ◌/◌, ◌<◌, ◌≤◌, false, inl, inr, List, ◌∷◌, ◌++◌, length, take, drop, replicate, arith, length-drop, append_assoc}
+use Rattle.std.proofs.Common.{Fits, w8, get_or, length-append, subst, ◌≡◌, refl, sym, ap, ap₂, ◌∙◌, ℕ, zero, suc, ◌+◌, ◌-◌, ◌*◌, ◌/◌, ◌%◌, ◌<◌, ◌≤◌, false, inl, inr, List, ◌∷◌, ◌++◌, length, take, drop, replicate, arith, length-drop, append_assoc}
 use Rattle.std.proofs.lemmas.Bool.{cases_lt}
-use Rattle.std.proofs.lemmas.List.{get_or_past, take-append-le, drop-append-le, take-replicate, replicate-append-replicate}
+use Rattle.std.proofs.lemmas.List.{get_or_past, take-append-le, drop-append-le, take-replicate, take_at, replicate-append-replicate}
 use Rattle.std.proofs.Math.Seq.{take-append-add}
 use Rattle.rasn_types.specs.Bits.{Bits, number_of, pack, unpack, AreOctets}
 use Rattle.rasn_types.specs.Packed.{packed}
@@ -9,8 +9,9 @@ use Rattle.rasn_types.proofs.Bits.{length-unpack}
 use Rattle.rasn_types.proofs.Fewest.{pack-unpack}
 use Rattle.rasn_types.proofs.Reading.{are_octets}
 use Rattle.rasn_types.proofs.Packing.{pack-append}
-use Rattle.per_bits.specs.Octets.{filled, AreFilledBy, ArePadded}
+use Rattle.per_bits.specs.Octets.{filled, AreFilledBy, AreKept, ArePadded}
 use Rattle.per_bits.proofs.Readers.{filled_by, filled_length, padded_by, spare_there}
+use Rattle.per_bits.proofs.Room.{cut}
 
 front_same : (s : ℕ) (bs : Bits) → take 8 ((bs ++ replicate s false) ++ replicate 8 false) ≡ take 8 (bs ++ replicate 8 false)
 front_same s bs = ap (λ cs. take 8 cs) (append_assoc bs (replicate s false) (replicate 8 false) ∙ ap (λ cs. bs ++ cs) (replicate-append-replicate s 8 false)) ∙ elim (cases_lt (length bs) 8) [
@@ -40,6 +41,13 @@ packed_by spare os h a = sym (ap (λ (n : ℕ). pack n bs) fewest ∙ sym (pack-
 
     fewest : (length bs + 7) / 8 ≡ length os
     fewest = omega (arith, filled_length spare os, spare_there spare os h, h.few)
+
+-- octets with room, of which those that are in use are taken
+pub packed_front : (spare n : ℕ) (os qs : List ℕ) → AreKept spare os → n ≡ length os - spare / 8 → qs ≡ take n os → AreOctets qs → qs ≡ packed (filled spare os)
+packed_front spare n os qs h e q a = let c = cut spare n os qs h e q in packed_by (spare % 8) qs (padded_by c) a ∙ ap packed (filled_by c)
+
+pub front_bits : (spare n : ℕ) (os qs : List ℕ) (bs : Bits) → AreKept spare os → n ≡ length os - spare / 8 → qs ≡ take n os → filled spare os ≡ bs → take (length bs) (unpack qs) ≡ bs
+front_bits spare n os qs bs h e q i = ap (λ cs. take (length bs) cs) ((cut spare n os qs h e q).zeros ∙ ap (λ cs. cs ++ replicate (spare % 8) false) i) ∙ take_at bs (replicate (spare % 8) false) (length bs) refl
 
 -- octets behind which bits were put, and zeros up to the end of an octet
 pub octets_grown : (spare : ℕ) (os qs : List ℕ) (bs : Bits) → AreOctets os → AreOctets qs → AreFilledBy (unpack os ++ bs) spare qs → qs ≡ os ++ packed bs

@@ -7,7 +7,7 @@ use Rattle.std.specs.List.{between}
 use Rattle.rasn_types.specs.Bits.{Bits, unpack}
 use Rattle.rasn_types.proofs.Bits.{length-unpack}
 use Rattle.rasn_types.proofs.Packing.{unpack-take}
-use Rattle.per_bits.specs.Octets.{filled, AreFilledBy, ArePadded, AreWithin, AreWholeOctets, Reading}
+use Rattle.per_bits.specs.Octets.{filled, AreFilledBy, AreKept, ArePadded, AreWithin, AreWholeOctets, HaveRoom, Reading}
 use Rattle.per_bits.proofs.Words.{unpack-drop}
 
 -- ---- readers
@@ -74,18 +74,35 @@ filled_length spare os = length-take (8 * length os - spare) (unpack os) ∙ ome
 pub filled_all : (os : List ℕ) → filled 0 os ≡ unpack os
 filled_all os = take_all (8 * length os - 0) (unpack os) (omega (arith, length-unpack os))
 
--- octets that some bits and the spare ones fill
+-- octets that some bits and zeros behind them fill
+pub filled_zeros : (spare : ℕ) (os : List ℕ) (bs : Bits) → unpack os ≡ bs ++ replicate spare false → filled spare os ≡ bs
+filled_zeros spare os bs h = ap (λ cs. take (8 * length os - spare) cs) h ∙ take_at bs (replicate spare false) (8 * length os - spare) (let l : 8 * length os ≡ length bs + spare = sym (length-unpack os) ∙ ap length h ∙ length-append bs (replicate spare false) ∙ ap (λ (n : ℕ). length bs + n) (length-replicate spare false) in omega arith)
+
 pub filled_by : {spare : ℕ} {os : List ℕ} {bs : Bits} → AreFilledBy bs spare os → filled spare os ≡ bs
-filled_by {spare} {os} {bs} h = ap (λ cs. take (8 * length os - spare) cs) h.zeros ∙ take_at bs (replicate spare false) (8 * length os - spare) (let l : 8 * length os ≡ length bs + spare = sym (length-unpack os) ∙ ap length h.zeros ∙ length-append bs (replicate spare false) ∙ ap (λ (n : ℕ). length bs + n) (length-replicate spare false) in omega arith)
+filled_by {spare} {os} {bs} h = filled_zeros spare os bs h.zeros
 
 pub padded_by : {spare : ℕ} {os : List ℕ} {bs : Bits} → AreFilledBy bs spare os → ArePadded spare os
 padded_by {spare} h = record { few = h.few; zeros = h.zeros ∙ ap (λ cs. cs ++ replicate spare false) (sym (filled_by h)) }
 
-pub spare_there : (spare : ℕ) (os : List ℕ) → ArePadded spare os → spare ≤ 8 * length os
-spare_there spare os h = let l : 8 * length os ≡ length (filled spare os) + spare = sym (length-unpack os) ∙ ap length h.zeros ∙ length-append (filled spare os) (replicate spare false) ∙ ap (λ (n : ℕ). length (filled spare os) + n) (length-replicate spare false) in omega arith
+pub zeros_there : (spare : ℕ) (os : List ℕ) → unpack os ≡ filled spare os ++ replicate spare false → spare ≤ 8 * length os
+zeros_there spare os h = let l : 8 * length os ≡ length (filled spare os) + spare = sym (length-unpack os) ∙ ap length h ∙ length-append (filled spare os) (replicate spare false) ∙ ap (λ (n : ℕ). length (filled spare os) + n) (length-replicate spare false) in omega arith
 
-pub empty_octets : (spare n : ℕ) (os : List ℕ) → length os ≡ n → ArePadded spare os → (IsTrue (nat_eq n 0) → filled spare os ≡ []) × (filled spare os ≡ [] → IsTrue (nat_eq n 0))
-empty_octets spare n os e h = (λ t. nil_from_length (filled spare os) (let i = eqb-true n 0 t in omega (arith, filled_length spare os)), λ t. eq-eqb n 0 (let i : length (filled spare os) ≡ 0 = ap length t in omega (arith, h.few, spare_there spare os h, filled_length spare os)))
+pub spare_there : (spare : ℕ) (os : List ℕ) → ArePadded spare os → spare ≤ 8 * length os
+spare_there spare os h = zeros_there spare os h.zeros
+
+-- the same of octets with room
+pub filled_room : {spare : ℕ} {os : List ℕ} {bs : Bits} → HaveRoom bs spare os → filled spare os ≡ bs
+filled_room {spare} {os} {bs} h = filled_zeros spare os bs h.zeros
+
+pub kept_by : {spare : ℕ} {os : List ℕ} {bs : Bits} → HaveRoom bs spare os → AreKept spare os
+kept_by {spare} h = record { few = h.few; zeros = h.zeros ∙ ap (λ cs. cs ++ replicate spare false) (sym (filled_room h)) }
+
+pub room_there : {spare : ℕ} {os : List ℕ} → AreKept spare os → spare ≤ 8 * length os
+room_there {spare} {os} h = zeros_there spare os h.zeros
+
+-- fewer than eight spare bits are room too
+pub room_by : {spare : ℕ} {os : List ℕ} {bs : Bits} → AreFilledBy bs spare os → AreKept spare os
+room_by h = kept_by (record { few = omega (arith, h.few); zeros = h.zeros })
 
 -- ---- octets in one piece
 

@@ -8,7 +8,7 @@ use Rattle.std.proofs.lemmas.List.{set-append_left, set-append_right}
 use Rattle.std.proofs.lemmas.Nat.{shr_below, shr-shr}
 use Rattle.rasn_types.specs.Bits.{to_bits, unpack}
 use Rattle.rasn_types.proofs.Bits.{length-to_bits, to_bits-same, to_bits-split}
-use Rattle.per_bits.specs.Octets.{filled, AreFilledBy, ArePadded}
+use Rattle.per_bits.specs.Octets.{filled, AreKept, HaveRoom}
 use Rattle.per_bits.proofs.Joins.{behind, put_behind}
 use Rattle.per_bits.proofs.Readers.{filled_length}
 use Rattle.per_bits.proofs.Words.{to_bits-join}
@@ -83,8 +83,8 @@ unpack-set (o ∷ os) i v b h e = elim (cases_lt i 8) [
         ∙ sym (set-append_right (to_bits 8 o) (unpack os) 8 i b (length-to_bits 8 o) l)
 
 -- the same of octets with spare bits
-pub filled_set : (spare : ℕ) (os : List ℕ) (i v : ℕ) (b : Bool) → ArePadded spare os → i < length (filled spare os) → to_bits 8 v ≡ set (to_bits 8 (get_or os (i / 8) 0)) (i % 8) b
-    → AreFilledBy (set (filled spare os) i b) spare (set os (i / 8) v)
+pub filled_set : (spare : ℕ) (os : List ℕ) (i v : ℕ) (b : Bool) → AreKept spare os → i < length (filled spare os) → to_bits 8 v ≡ set (to_bits 8 (get_or os (i / 8) 0)) (i % 8) b
+    → HaveRoom (set (filled spare os) i b) spare (set os (i / 8) v)
 filled_set spare os i v b h l e = record {
   few = h.few;
   zeros = unpack-set os i v b (omega (arith, filled_length spare os)) e ∙ ap (λ bs. set bs i b) h.zeros ∙ set-append_left (filled spare os) (replicate spare false) i b l;

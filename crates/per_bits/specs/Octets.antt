@@ -23,6 +23,15 @@ pub record AreFilledBy (bits : Bits) (spare : ℕ) (octets : List ℕ) : Type 0 
 abbrev pub ArePadded : ℕ → List ℕ → Type 0
 ArePadded spare octets = AreFilledBy (filled spare octets) spare octets
 
+-- octets that are these bits, and behind them spare ones, fewer than 512 zeros: room for later bits
+pub record HaveRoom (bits : Bits) (spare : ℕ) (octets : List ℕ) : Type 0 where
+  pub few : spare < 512
+  pub zeros : unpack octets ≡ bits ++ replicate spare false
+
+-- fewer than 512 bits are spare, and they are zeros
+abbrev pub AreKept : ℕ → List ℕ → Type 0
+AreKept spare octets = HaveRoom (filled spare octets) spare octets
+
 -- `count` bits stand in octets behind `skip` others
 pub record AreWithin (skip count : ℕ) (octets : List ℕ) : Type 0 where
   pub few : skip < 8

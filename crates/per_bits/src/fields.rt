@@ -1,16 +1,18 @@
 //! Fields of bits in octets. A field is a number of bits that one word reads or writes, at whichever bit of an octet
 //! it begins; a wide field has up to 128 bits, and moves as several fields.
 //!
-//! Octets that are written to have spare bits: fewer than eight at the end of the last octet, which are zeros and no
-//! bits of what is kept. Each function that writes answers how many bits are spare then.
+//! Octets that are written to have spare bits at their end, which are zeros and no bits of what is kept. What is put
+//! takes their place; what is appended stands behind fewer than eight of them, and the function answers how many bits
+//! are spare then.
 
-ghost use Rattle.std.specs.Prelude.{◌≡◌, ◌+◌, ◌*◌, ◌%◌, ◌^◌, ◌<◌, ◌≤◌, ◌++◌, length, take, drop, set, vec_len};
-ghost use Rattle.std.specs.Prelude.{vec_capacity};
+ghost use Rattle.std.specs.Prelude.{◌≡◌, ◌+◌, ◌-◌, ◌*◌, ◌%◌, ◌^◌, ◌<◌, ◌≤◌, ◌++◌, length, take, drop, set, vec_len};
+ghost use Rattle.std.specs.Prelude.{vec_capacity, replicate, IfOk, OnOk, OnErr};
 ghost use Rattle.rasn_types.specs.Bits.{to_bits, number_of, unpack};
-ghost use Rattle.per_bits.specs.Octets.{word_size, first_word, filled, low_bits_of, AreFilledBy, ArePadded, AreWithin};
+ghost use Rattle.per_bits.specs.Octets.{word_size, first_word, filled, low_bits_of, AreFilledBy, AreKept, ArePadded};
+ghost use Rattle.per_bits.specs.Octets.{AreWithin, HaveRoom};
 
 use rasn_types::bit_string::note_octets;
-use std::alloc::Allocator;
+use std::alloc::{AllocError, Allocator};
 
 /// The most bits of a field: those of a word less an octet, since up to seven other bits stand in its first octet.
 pub(crate) const FIELD_BITS: u32 = 56;
@@ -47,7 +49,7 @@ fn low_bits(word: u64, width: u32) -> u64
 }
 
 /// As many low bits of a number as a field has at most.
-pub(crate) fn low_field(value: u128) -> u64
+fn low_field(value: u128) -> u64
     ensures { result ≡ value % 2 ^ FIELD_BITS }
 {
     (value & ((1 << FIELD_BITS) - 1)) as u64
@@ -85,18 +87,67 @@ pub(crate) fn read_wide_field(octets: &[u8], skip: u32, count: u32) -> u128
     value
 }
 
-/// How many octets to ask memory for before a field is written: eight, for the word that is written before it is cut
-/// back, and where there is no memory yet as many as a small message takes.
+/// Answers how many bits are spare once there are enough for 128 more, of which the last are written as a word. The only
+/// error is want of memory, and then nothing changes.
 #[inline(always)]
-pub(crate) fn room_of_field<A: Allocator>(octets: &Vec<u8, A>) -> usize
-    ensures { 8 ≤ result }
+pub(crate) fn with_room<A: Allocator>(
+    octets: &mut Vec<u8, A>,
+    spare: u32,
+) -> Result<u32, AllocError>
+    requires { AreKept spare octets.old.items }
+    ensures ok { IfOk result (λ more. HaveRoom (filled spare octets.old.items) more octets.new.items) }
+    ensures enough { IfOk result (λ more. 192 ≤ more) }
+    ensures err { OnErr result (octets.new.items ≡ octets.old.items) }
 {
-    if octets.capacity() == 0 { 32 } else { 8 }
+    if spare >= 192 {
+        return Ok(spare);
+    }
+    add_zeros(octets)?;
+    Ok(spare + 320)
+}
+
+/// Appends 40 octets of zeros. The only error is want of memory, and then nothing changes.
+#[inline(never)]
+fn add_zeros<A: Allocator>(octets: &mut Vec<u8, A>) -> Result<(), AllocError>
+    ensures ok { OnOk result (octets.new.items ≡ octets.old.items ++ replicate 40 0) }
+    ensures err { OnErr result (octets.new.items ≡ octets.old.items) }
+{
+    octets.resize(octets.len() + 40, 0)
+}
+
+/// Cuts off the octets all bits of which are spare, and answers how many bits are spare then.
+pub(crate) fn cut_back<A: Allocator>(octets: &mut Vec<u8, A>, spare: u32) -> u32
+    requires { AreKept spare octets.old.items }
+    ensures bits { AreFilledBy (filled spare octets.old.items) result octets.new.items }
+    ensures shorter { vec_len octets.new ≤ vec_len octets.old }
+    ensures room { vec_capacity octets.new ≡ vec_capacity octets.old }
+{
+    octets.truncate(octets.len() - (spare / 8) as usize);
+    spare % 8
+}
+
+/// Puts the low `width` bits of `value` in the place of the first spare bits. A word of eight octets is written over the
+/// octet in which the first of these stands and those behind it.
+#[inline(never)]
+fn put_field<A: Allocator>(octets: &mut Vec<u8, A>, spare: u32, value: u64, width: u32)
+    requires kept { AreKept spare octets.old.items }
+    requires enough { 64 ≤ spare }
+    requires few { width ≤ FIELD_BITS }
+    ensures { HaveRoom (filled spare octets.old.items ++ to_bits width value) (spare - width) octets.new.items }
+{
+    note_octets(octets.as_slice());
+    let free = spare.div_ceil(8);
+    let used = 8 * free - spare;
+    let place = octets.len() - free as usize;
+    let front = u64::from(octets[place]) >> (8 - used);
+    let all = used + width;
+    let word = (front << width | low_bits(value, width)) << 1 << (63 - all);
+    octets[place..place + 8].copy_from_slice(&word.to_be_bytes());
 }
 
 /// Appends the low `width` bits of `value` to octets of which the last `spare` bits are spare, and answers how many are
 /// spare then. A word of eight octets is written behind the last full octet, and cut back to those in use.
-#[inline(never)]
+#[inline(always)]
 pub(crate) fn append_field<A: Allocator>(
     octets: &mut Vec<u8, A>,
     spare: u32,
@@ -161,26 +212,35 @@ pub(crate) fn with_bit(octet: u8, place: u32, bit: bool) -> u8
     (front << below | low_bits(word, below)) as u8
 }
 
-/// Appends as `append_field` does, of a number that may be wider.
-pub(crate) fn append_wide_field<A: Allocator>(
-    octets: &mut Vec<u8, A>,
-    spare: u32,
-    value: u128,
-    width: u32,
-) -> u32
-    requires padded { ArePadded spare octets.old.items }
+/// Puts as `put_field` does, of a number that may be wider.
+#[inline(always)]
+pub(crate) fn put_number<A: Allocator>(octets: &mut Vec<u8, A>, spare: u32, value: u128, width: u32)
+    requires kept { AreKept spare octets.old.items }
+    requires enough { 192 ≤ spare }
     requires few { width ≤ 128 }
-    requires room { vec_len octets.old + 25 ≤ vec_capacity octets.old }
-    ensures { AreFilledBy (filled spare octets.old.items ++ to_bits width value) result octets.new.items }
+    ensures { HaveRoom (filled spare octets.old.items ++ to_bits width value) (spare - width) octets.new.items }
 {
-    let mut unused = spare;
+    if width <= FIELD_BITS {
+        put_field(octets, spare, low_field(value), width)
+    } else {
+        put_wide_field(octets, spare, value, width)
+    }
+}
+
+/// Puts the low `width` bits of `value` field by field.
+fn put_wide_field<A: Allocator>(octets: &mut Vec<u8, A>, spare: u32, value: u128, width: u32)
+    requires kept { AreKept spare octets.old.items }
+    requires enough { 192 ≤ spare }
+    requires few { width ≤ 128 }
+    ensures { HaveRoom (filled spare octets.old.items ++ to_bits width value) (spare - width) octets.new.items }
+{
     let mut left = width;
     while left > 0 {
         let count = left.min(FIELD_BITS);
+        let unused = spare - (width - left);
         left -= count;
-        unused = append_field(octets, unused, low_field(value >> left), count);
+        put_field(octets, unused, low_field(value >> left), count);
     }
-    unused
 }
 
 /// The number whose bits are the low `width` ones of each of some octets, no more than a field has. Eight octets are

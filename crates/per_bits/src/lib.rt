@@ -13,8 +13,8 @@ ghost use Rattle.rasn_types.specs.Packed.{packed};
 ghost use Rattle.per_bits.specs.Octets.{filled, low_bits_of, AreFilledBy, ArePadded, AreWholeOctets};
 
 use crate::fields::{
-    FIELD_BITS, append_field, append_low_bits, append_octets_behind, append_wide_field,
-    fill_last_octet, low_field, read_field, read_wide_field, room_of_field, with_bit,
+    FIELD_BITS, append_field, append_low_bits, append_octets_behind, cut_back, fill_last_octet,
+    put_number, read_field, read_wide_field, with_bit, with_room,
 };
 use rasn_types::bit_string::note_octets;
 use std::alloc::{AllocError, Allocator};
@@ -28,19 +28,19 @@ pub mod per;
 #[derive(Drop)]
 pub struct BitList<A: Allocator> {
     octets: Vec<u8, A>,
-    /// How many bits of the last octet are no bits of the list: fewer than eight, all zero.
+    /// How many bits at the end of the octets are no bits of the list: zeros, in whose place later bits are put.
     spare: u32,
 }
 
 impl<A: Allocator> Model for BitList<A> {
     ghost use Rattle.std.specs.Prelude.{List, Bool};
-    ghost use Rattle.per_bits.specs.Octets.{filled, ArePadded};
+    ghost use Rattle.per_bits.specs.Octets.{filled, AreKept};
 
     ghost Value = { List Bool };
 
     ghost view = { λ a. filled a.spare a.octets.items };
 
-    ghost invariant = { λ a. ArePadded a.spare a.octets.items };
+    ghost invariant = { λ a. AreKept a.spare a.octets.items };
 }
 
 impl<A: Allocator> BitList<A> {
@@ -87,7 +87,7 @@ impl<A: Allocator> BitList<A> {
     pub fn is_empty(&self) -> bool
         ensures { IsTrue result ↔ (self.now ≡ []) }
     {
-        self.octets.is_empty()
+        self.len() == 0
     }
 
     /// The bits in the fewest octets, the first bit highest. Spare bits of the last octet are zero.
@@ -95,7 +95,7 @@ impl<A: Allocator> BitList<A> {
         ensures octets { result.now ≡ packed self.now }
         ensures bits { take (length self.now) (unpack result.now) ≡ self.now }
     {
-        let octets = self.octets.as_slice();
+        let octets = &self.octets[..self.octets.len() - (self.spare / 8) as usize];
         note_octets(octets);
         octets
     }
@@ -104,8 +104,10 @@ impl<A: Allocator> BitList<A> {
     pub fn into_octets(self) -> Vec<u8, A>
         ensures { result.items ≡ packed self }
     {
-        note_octets(self.octets.as_slice());
-        self.octets
+        let BitList { mut octets, spare } = self;
+        cut_back(&mut octets, spare);
+        note_octets(octets.as_slice());
+        octets
     }
 
     /// The bit at an index, the first at 0; `None` from the list's length on.
@@ -148,21 +150,9 @@ impl<A: Allocator> BitList<A> {
         ensures ok { OnOk result (self.new ≡ self.old ++ to_bits width value) }
         ensures err { OnErr result (self.new ≡ self.old) }
     {
-        if self.spare > 0 && width <= u128::from(self.spare) {
-            self.spare = fill_last_octet(
-                &mut self.octets,
-                self.spare,
-                low_field(value),
-                width as u32,
-            );
-        } else if width <= u128::from(FIELD_BITS) {
-            self.octets.reserve(room_of_field(&self.octets))?;
-            self.spare = append_field(&mut self.octets, self.spare, low_field(value), width as u32);
-        } else {
-            // 128 bits behind spare ones begin at most 17 octets, and the last word has eight
-            self.octets.reserve(25)?;
-            self.spare = append_wide_field(&mut self.octets, self.spare, value, width as u32);
-        }
+        let spare = with_room(&mut self.octets, self.spare)?;
+        put_number(&mut self.octets, spare, value, width as u32);
+        self.spare = spare - width as u32;
         Ok(())
     }
 
@@ -187,7 +177,8 @@ impl<A: Allocator> BitList<A> {
         }
         // an octet for bits that stood there, and the word that is written before it is cut back
         self.octets.reserve(octets.len() + 9)?;
-        self.spare = append_low_bits(&mut self.octets, self.spare, octets, width);
+        let spare = cut_back(&mut self.octets, self.spare);
+        self.spare = append_low_bits(&mut self.octets, spare, octets, width);
         Ok(())
     }
 
@@ -201,7 +192,8 @@ impl<A: Allocator> BitList<A> {
             return self.push_bits(reader.first_bits(width), width);
         }
         self.octets.reserve(reader.octet_room())?;
-        self.spare = append_reader(&mut self.octets, self.spare, reader.clone().unwrap());
+        let spare = cut_back(&mut self.octets, self.spare);
+        self.spare = append_reader(&mut self.octets, spare, reader.clone().unwrap());
         Ok(())
     }
 
