@@ -10,3 +10,4 @@ pub mod Nesteds
 pub mod Brackets
 pub mod Defaults
 pub mod Optionals
+pub mod Signals

@@ -3,7 +3,8 @@
 //! a type of the same file is written as.
 
 pub use crate::types::{
-    Any, BitString, BmpString, GeneralString, GraphicString, Ia5String, Integer, NumericString,
+    Any, BitString, BmpString, GeneralString, GraphicString, Ia5String, Integer, NamedBits,
+    NumericString,
     ObjectIdentifier, OctetString, PrintableString, SetOf, TeletexString, Utf8String,
     VisibleString,
 };
