@@ -2,7 +2,8 @@
 use Rattle.std.proofs.Common.{◌≡◌, ◌↔◌, refl, sym, ap, subst, ◌∙◌, ℕ, ◌+◌, ◌-◌, ◌^◌, ◌<◌, ◌≤◌, Bool, true, false, cond, ltb, leb, ◌&&◌, List, ◌++◌, length, replicate, arith, Option, Some, None, append_assoc, ltb-true, lt-ltb, leb-true, le-leb, ap₂}
 use Rattle.std.proofs.Math.Nat.{lt_of_le_of_lt}
 use Rattle.std.proofs.lemmas.List.{replicate-append-replicate}
-use Rattle.rasn_types.specs.Bits.{Bits, filled_up, trimmed}
+use Rattle.rasn_types.specs.Bits.{Bits}
+use Rattle.rasn_types.specs.Trimmed.{filled_up, trimmed}
 use Rattle.rasn_types.specs.Values.{Value}
 use Rattle.rasn_types.proofs.Trimming.{trimmed-few, trimmed-filled, trimmed-split, trimmed-trimmed, trimmed-zeros, length-filled}
 use Rattle.rasn_constraints.specs.Bounds.{allows, at_least, at_most, Size}
@@ -34,7 +35,7 @@ trimmed_alike bs cs e =
     let x = trimmed-split bs in
     let y = trimmed-split cs in
     let swap : replicate x.0 false ++ replicate y.0 false ≡ replicate y.0 false ++ replicate x.0 false =
-        replicate-append-replicate x.0 y.0 false ∙ ap (λ (n : ℕ). replicate n false) (let c : x.0 + y.0 ≡ y.0 + x.0 = omega arith in c) ∙ sym (replicate-append-replicate y.0 x.0 false) in
+    replicate-append-replicate x.0 y.0 false ∙ ap (λ (n : ℕ). replicate n false) (let c : x.0 + y.0 ≡ y.0 + x.0 = omega arith in c) ∙ sym (replicate-append-replicate y.0 x.0 false) in
     record {
       here = y.0;
       there = x.0;
@@ -49,9 +50,10 @@ bits_of bs cs e = cc
 -- normal forms are equal exactly where bits mean the same
 pub told_apart : (size : Size) (mark : Bool) (bs cs : Bits) → normal (Schema.bit_string size mark true) (Value.bits bs) ≡ normal (Schema.bit_string size mark true) (Value.bits cs) ↔ MeanTheSame bs cs
 unfolding normal
-told_apart size mark bs cs =
-    (λ e. trimmed_alike bs cs (sym (trimmed-normal size.least bs) ∙ ap trimmed (bits_of (normal_bits size.least bs) (normal_bits size.least cs) e) ∙ trimmed-normal size.least cs),
-    λ m. ap Value.bits (normal-trimmed size.least bs cs (alike_trimmed bs cs m)))
+told_apart size mark bs cs = (
+  λ e. trimmed_alike bs cs (sym (trimmed-normal size.least bs) ∙ ap trimmed (bits_of (normal_bits size.least bs) (normal_bits size.least cs) e) ∙ trimmed-normal size.least cs),
+  λ m. ap Value.bits (normal-trimmed size.least bs cs (alike_trimmed bs cs m)),
+)
 
 -- so many bits, where the trimmed ones are no more than c and the least count isn't either
 fewest : (l : Option ℕ) (bs : Bits) (c : ℕ) → at_least l c ≡ true → c < 2 ^ 64 → length (trimmed bs) ≤ c → at_least l (length (normal_bits l bs)) ≡ true × (length (normal_bits l bs) ≤ c)
@@ -60,9 +62,10 @@ fewest (Some l) bs c h k t =
     let few : l ≤ c = leb-true l c h in
     let small : ltb l (2 ^ 64) ≡ true = lt-ltb l (2 ^ 64) (let i : l < 2 ^ 64 = omega arith in i) in
     let e : length (normal_bits (Some l) bs) ≡ length (trimmed bs) + (l - length (trimmed bs)) =
-        ap (λ b. length (cond b (filled_up l (trimmed bs)) (trimmed bs))) small ∙ length-filled l (trimmed bs) in
-    (le-leb l (length (normal_bits (Some l) bs)) (let i : l ≤ length (normal_bits (Some l) bs) = omega arith in i),
-    let i : length (normal_bits (Some l) bs) ≤ c = omega arith in i)
+    ap (λ b. length (cond b (filled_up l (trimmed bs)) (trimmed bs))) small ∙ length-filled l (trimmed bs) in (
+      le-leb l (length (normal_bits (Some l) bs)) (let i : l ≤ length (normal_bits (Some l) bs) = omega arith in i),
+      let i : length (normal_bits (Some l) bs) ≤ c = omega arith in i,
+    )
 
 still_most : (u : Option ℕ) (n c : ℕ) → n ≤ c → at_most u c ≡ true → at_most u n ≡ true
 still_most None n c h e = refl

@@ -63,23 +63,23 @@ pub fn named_bits_are_written_without_zeros_at_their_end()
     ensures uper { let own = ⟦<Signals as AsnType>⟧ in
         IsWrittenAs unaligned (own.schema own.CONSTRAINTS) own.levels own.value
         (record {
-            any = false ∷ true ∷ false ∷ false ∷ [];
-            bounded = false ∷ false ∷ true ∷ replicate 5 false;
-            marked = Some (true ∷ false ∷ false ∷ false ∷ []);
+          any = false ∷ true ∷ false ∷ false ∷ [];
+          bounded = false ∷ false ∷ true ∷ replicate 5 false;
+          marked = Some (true ∷ false ∷ false ∷ false ∷ []);
         }) (0x81 ∷ 0x24 ∷ 0xa0 ∷ []) }
     ensures aper { let own = ⟦<Signals as AsnType>⟧ in
         IsWrittenAs aligned (own.schema own.CONSTRAINTS) own.levels own.value
         (record {
-            any = false ∷ true ∷ false ∷ false ∷ [];
-            bounded = false ∷ false ∷ true ∷ replicate 5 false;
-            marked = Some (true ∷ false ∷ false ∷ false ∷ []);
+          any = false ∷ true ∷ false ∷ false ∷ [];
+          bounded = false ∷ false ∷ true ∷ replicate 5 false;
+          marked = Some (true ∷ false ∷ false ∷ false ∷ []);
         }) (0x80 ∷ 0x02 ∷ 0x48 ∷ 0x28 ∷ []) }
     ensures past_the_size { let own = ⟦<Signals as AsnType>⟧ in
         IsWrittenAs unaligned (own.schema own.CONSTRAINTS) own.levels own.value
         (record {
-            any = true ∷ replicate 7 false;
-            bounded = replicate 5 false ++ true ∷ false ∷ false ∷ [];
-            marked = Some (replicate 5 false ++ true ∷ replicate 3 false);
+          any = true ∷ replicate 7 false;
+          bounded = replicate 5 false ++ true ∷ false ∷ false ∷ [];
+          marked = Some (replicate 5 false ++ true ∷ replicate 3 false);
         }) (0x80 ∷ 0xe0 ∷ 0x30 ∷ 0x60 ∷ 0x40 ∷ []) }
     ensures filled_up { let own = ⟦<Signals as AsnType>⟧ in
         IsWrittenAs unaligned (own.schema own.CONSTRAINTS) own.levels own.value

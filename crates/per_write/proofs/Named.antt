@@ -2,7 +2,8 @@
 use Rattle.std.proofs.Common.{◌≡◌, refl, sym, ap, ◌∙◌, subst, ℕ, ◌-◌, ◌^◌, ◌<◌, Bool, true, false, cond, ltb, lt-ltb, List, ◌++◌, length, replicate, append-nil, arith, Option, Some, None}
 use Rattle.std.specs.Prelude.{OnOk, IfErr, Result}
 use Rattle.std.specs.Option.{unwrap_or}
-use Rattle.rasn_types.specs.Bits.{Bits, filled_up, trimmed}
+use Rattle.rasn_types.specs.Bits.{Bits}
+use Rattle.rasn_types.specs.Trimmed.{filled_up, trimmed}
 use Rattle.rasn_types.specs.Codecs.{variant_of}
 use Rattle.rasn_types.specs.Values.{bits}
 use Rattle.rasn_constraints.specs.Bounds.{Size}
@@ -36,3 +37,12 @@ pub named_law : (x y : State) (size : Size) (mark : Bool) (n : ℕ) (bs cs : Bit
 named_law x y size mark n bs cs result e h i w r =
     let k : normal (Schema.bit_string size mark true) (bits bs) ≡ bits cs = normal_is size mark bs ∙ ap bits (sym (i ∙ normal_form size.least n bs e h)) in
     subst (λ v. Written encoder_rules (Schema.bit_string size mark true) v x result y) (sym k) (bit_string_law x y size mark true cs result w r)
+
+-- the same, where the state between is the one before
+pub named_put : (x z y : State) (size : Size) (mark : Bool) (n : ℕ) (bs cs : Bits) (result : Result (Unit {0}) EncodeError) → z ≡ x → n ≡ unwrap_or size.least 0 → n < 2 ^ 64 → cs ≡ filled_up n (trimmed bs) →
+    OnOk result (StateAppends z (counted (variant_of z.codec) size mark bit_items (bit_writers cs)) y) → IfErr result (λ e. RefusesCounted size mark (λ k. ⊥) (bit_writers cs) e z) →
+    Written encoder_rules (Schema.bit_string size mark true) (normal (Schema.bit_string size mark true) (bits bs)) x result y
+named_put x z y size mark n bs cs result k e h i w r =
+    named_law x y size mark n bs cs result e h i
+    (subst (λ (s : State). OnOk result (StateAppends s (counted (variant_of s.codec) size mark bit_items (bit_writers cs)) y)) k w)
+    (subst (λ (s : State). IfErr result (λ e. RefusesCounted size mark (λ k. ⊥) (bit_writers cs) e s)) k r)

@@ -4,9 +4,8 @@
 
 pub use crate::types::{
     Any, BitString, BmpString, GeneralString, GraphicString, Ia5String, Integer, NamedBits,
-    NumericString,
-    ObjectIdentifier, OctetString, PrintableString, SetOf, TeletexString, Utf8String,
-    VisibleString,
+    NumericString, ObjectIdentifier, OctetString, PrintableString, SetOf, TeletexString,
+    Utf8String, VisibleString,
 };
 pub use crate::{
     Alternatives, AsnType, Bounds, ByKind, ChoiceKind, CodedAlternatives, Components, Constrained,

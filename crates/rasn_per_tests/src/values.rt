@@ -42,7 +42,13 @@ fn writes_and_reads_named_bits(rt: HostRuntime) {
     expect_value::<Signals>(&rt, rt.alloc(), Codec::Aper, past_the_size);
     expect_value::<Signals>(&rt, rt.alloc(), Codec::Aper, &[0x80, 0x02, 0x48, 0x28]);
     let with_zeros = &[0x82, 0x26, 0x20, 0x40];
-    expect_recoded::<Signals>(&rt, rt.alloc(), Codec::Uper, with_zeros, &[0x81, 0x24, 0xa0]);
+    expect_recoded::<Signals>(
+        &rt,
+        rt.alloc(),
+        Codec::Uper,
+        with_zeros,
+        &[0x81, 0x24, 0xa0],
+    );
     expect_recoded::<NamedBits>(&rt, rt.alloc(), Codec::Uper, &[0x04, 0x40], &[0x02, 0x40]);
 }
 

@@ -2,7 +2,8 @@
 -- their end but those that the size asks for (16.2), and the same at every depth.
 use Rattle.std.specs.Prelude.{ℕ, zero, suc, ◌^◌, Bool, true, false, if◌then◌else◌, ◌&&◌, nat_lt, List, [], ◌∷◌, map}
 use Rattle.std.specs.Prelude.{Option, Some, None}
-use Rattle.rasn_types.specs.Bits.{Bits, filled_up, trimmed}
+use Rattle.rasn_types.specs.Bits.{Bits}
+use Rattle.rasn_types.specs.Trimmed.{filled_up, trimmed}
 use Rattle.rasn_types.specs.Values.{Value, bits, elements, bag, fields, alternative, root, added, values, as_values}
 use Rattle.rasn_types.specs.Values.{slots, as_slots, same, bag_of}
 use Rattle.rasn_constraints.specs.Bounds.{Size}

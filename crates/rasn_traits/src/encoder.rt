@@ -157,8 +157,8 @@ pub trait Encoder: Sized {
     ) -> Result<(), Self::Error>
         ensures { Writes rules (bit_schema constraints.now) (bits value.now) self.old result self.new };
 
-    /// Writes a BIT STRING under constraints whose bits have names: without the zero bits at its end, and then with zero
-    /// bits up to the size's lower bound (X.680 22.7; X.691 16.2). The size counts these bits.
+    /// Writes a BIT STRING under constraints whose bits have names: without the zero bits at its end, and then with
+    /// zero bits up to the size's lower bound (X.680 22.7; X.691 16.2). The size counts these bits.
     fn encode_named_bits(
         &mut self,
         tag: Tag,

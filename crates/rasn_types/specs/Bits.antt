@@ -1,5 +1,5 @@
 -- Bits, octets, and the numbers that bits mean (ITU-T X.691, 11.3).
-use Rattle.std.specs.Prelude.{ℕ, zero, suc, ◌+◌, ◌-◌, ◌%◌, ◌^◌, ◌<◌, Bool, true, false, if◌then◌else◌, nat_le, List, [], ◌∷◌}
+use Rattle.std.specs.Prelude.{ℕ, zero, suc, ◌+◌, ◌%◌, ◌^◌, ◌<◌, Bool, true, false, if◌then◌else◌, nat_le, List, [], ◌∷◌}
 use Rattle.std.specs.Prelude.{◌++◌, length, take, drop, replicate}
 
 -- a list of truth values, the first bit first
@@ -35,21 +35,6 @@ unpack (o ∷ os) = to_bits 8 o ++ unpack os
 abbrev pub pack : ℕ → Bits → List ℕ
 pack zero bits = []
 pack (suc n) bits = number_of (take 8 (bits ++ replicate 8 false)) ∷ pack n (drop 8 bits)
-
--- a bit in front of others, where one of them isn't zero
-abbrev pub unless_zeros : Bool → Bits → Bits
-unless_zeros true bs = true ∷ bs
-unless_zeros false [] = []
-unless_zeros false (b ∷ bs) = false ∷ b ∷ bs
-
--- X.680 22.7: bits without the zero bits at their end
-abbrev pub trimmed : Bits → Bits
-trimmed [] = []
-trimmed (b ∷ bs) = unless_zeros b (trimmed bs)
-
--- X.691 16.2: bits with as many zero bits at their end as make them n bits, where they are fewer
-abbrev pub filled_up : ℕ → Bits → Bits
-filled_up n bs = bs ++ replicate (n - length bs) false
 
 -- numbers that are octets, each below 256
 abbrev pub AreOctets : List ℕ → Type 0
