@@ -97,17 +97,8 @@ class Items:
             self.expect_few(of.items, of.added_items, MOST_ITEMS)
         elif of.parts is not None:
             self.need_parts(item)
-        else:
-            self.expect_plain_bits(of, name)
         self.order.append(item)
         return item
-
-    @staticmethod
-    def expect_plain_bits(of, path):
-        """Refuses named bits of which PER leaves out 0 bits at the end (X.691 16), since the library doesn't."""
-        low, high, marked = of.limits.size or (None, None, True)
-        if of.kind == "BIT STRING" and of.names and (low != high or marked):
-            raise Refused(f"{path.replace('/', '.')} has named bits and no fixed size, which isn't taken")
 
     @staticmethod
     def expect_few(root, added, most):
@@ -152,7 +143,7 @@ class Items:
         elif use.type.kind in LISTS:
             return self.need_element(item, use.type.element, path, line)
         else:
-            return self.expect_plain_bits(use.type, path)
+            return None
         item.needs.append(found)
         return found
 

@@ -14,8 +14,8 @@ HELD = {
     "BOOLEAN": "bool", "NULL": "()", "OBJECT IDENTIFIER": "ObjectIdentifier", "UTCTime": "UtcTime",
     "GeneralizedTime": "GeneralizedTime", "DATE": "Date", "UTF8String": "Utf8String", "TeletexString": "TeletexString",
     "GraphicString": "GraphicString", "GeneralString": "GeneralString", "OPEN": "Any", "OCTET STRING": "OctetString",
-    "BIT STRING": "BitString", "IA5String": "Ia5String", "VisibleString": "VisibleString", "PrintableString": "PrintableString",
-    "NumericString": "NumericString", "BMPString": "BmpString",
+    "BIT STRING": "BitString", "NAMED BITS": "NamedBits", "IA5String": "Ia5String", "VisibleString": "VisibleString",
+    "PrintableString": "PrintableString", "NumericString": "NumericString", "BMPString": "BmpString",
 }
 VALUES = {"BOOLEAN": "truth", "OCTET STRING": "octets", "OPEN": "octets", "BIT STRING": "bits", "NULL": "nothing",
           **dict.fromkeys(LETTERS, "characters")}
@@ -75,7 +75,7 @@ class Page:
             if of.kind == "SEQUENCE OF":
                 return f"Vec<{element}>"
             return f"SetOf<{element}>"
-        name = holder(of.limits) if of.kind == "INTEGER" else HELD[of.kind]
+        name = holder(of.limits) if of.kind == "INTEGER" else HELD[of.held_kind]
         if of.kind in TIMES:
             self.imports.use("rasn_below::types", name)
         return name

@@ -31,6 +31,14 @@ class Type:
     def all_parts(self):
         return [*(self.parts or []), *(self.added or [])]
 
+    @property
+    def held_kind(self):
+        """Its kind; 'NAMED BITS' for bits with names of which PER leaves out 0 bits at the end (X.680 22.7, X.691 16.2),
+        which changes nothing under a size that is one number."""
+        low, high, marked = self.limits.size or (None, None, True)
+        is_trimmed = self.kind == "BIT STRING" and self.names and (low != high or marked)
+        return "NAMED BITS" if is_trimmed else self.kind
+
 
 @dataclass
 class Use:

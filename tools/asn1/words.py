@@ -15,8 +15,9 @@ PLAIN = {
     "GraphicString": "graphic_string", "GeneralString": "general_string", "OPEN": "open_type",
 }
 SIZED = {
-    "OCTET STRING": "octet_string", "BIT STRING": "bit_string", "IA5String": "ia5_string", "VisibleString": "visible_string",
-    "PrintableString": "printable_string", "NumericString": "numeric_string", "BMPString": "bmp_string",
+    "OCTET STRING": "octet_string", "BIT STRING": "bit_string", "NAMED BITS": "named_bits", "IA5String": "ia5_string",
+    "VisibleString": "visible_string", "PrintableString": "printable_string", "NumericString": "numeric_string",
+    "BMPString": "bmp_string",
 }
 
 # Columns of a line.
@@ -183,7 +184,7 @@ class Schemas:
             name = holder(of.limits)
             return f"{imports.word('integer')} {imports.word('big' if name == 'Integer' else name)} {limit_words(of, imports)}"
         if of.kind in SIZED:
-            return f"{imports.word(SIZED[of.kind])} {limit_words(of, imports)}"
+            return f"{imports.word(SIZED[of.held_kind])} {limit_words(of, imports)}"
         if of.kind in PLAIN:
             return imports.word(PLAIN[of.kind])
         if of.kind == "ENUMERATED":

@@ -171,7 +171,7 @@ mutual
   canonical a u (Schema.number bounds mark range) v = numbers_within a bounds mark range v
   canonical a u (Schema.items r e ext) v = items_within a r e ext v
   canonical a u (Schema.octet_string size mark) v = sized_octets a size mark v
-  canonical a u (Schema.bit_string size mark) v = bits_within a size mark v
+  canonical a u (Schema.bit_string size mark named) v = bits_within a size mark v
   canonical a u (Schema.char_string alphabet size mark) v = strings_within a alphabet size mark v
   canonical a u (Schema.list e size mark) v = list_within a e (basic_in a u e) size mark (canonical a u e) v
   canonical a u (Schema.set_of e size mark) v = bags_within a e (basic_in a u e) size mark (canonical a u e) v

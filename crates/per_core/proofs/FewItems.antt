@@ -92,7 +92,7 @@ items_few a u Schema.date v p b x = let e = ap item_count x.is in omega arith
 items_few a u (Schema.number bounds mark range) v p b x = let e = ap item_count x.is in omega arith
 items_few a u (Schema.items r e ext) v p b x = let f = ap item_count x.is in omega arith
 items_few a u (Schema.octet_string size mark) v p b x = let e = ap item_count x.is in let r = lengthy_few a _ size mark _ x.of p b x.spelled in omega arith
-items_few a u (Schema.bit_string size mark) v p b x = let e = ap item_count x.is in let r = lengthy_few a _ size mark _ x.of p b x.spelled in omega arith
+items_few a u (Schema.bit_string size mark named) v p b x = let e = ap item_count x.is in let r = lengthy_few a _ size mark _ x.of p b x.spelled in omega arith
 items_few a u (Schema.char_string alphabet size mark) v p b x = let e = ap item_count x.is in let r = lengthy_few a _ size mark _ x.of p b x.spelled in omega arith
 items_few a u (Schema.list e size mark) v p b x = let f = ap item_count x.is ∙ list_count x.of in let r = lengthy_few a _ size mark _ x.of p b x.spelled in omega arith
 items_few a u (Schema.set_of e size mark) v p b x = let f = ap item_count x.is ∙ bag_count x.of in let r = lengthy_few a _ size mark _ x.of p b x.spelled in omega arith

@@ -86,7 +86,7 @@ mutual
   few_within n m a u (Schema.number bounds mark range) v h x = own_few n m a u (Schemas.number bounds mark range) v h x
   few_within n m a u (Schema.items r e ext) v h x = own_few n m a u (Schemas.items r e ext) v h x
   few_within n m a u (Schema.octet_string size mark) v h x = own_few n m a u (Schemas.octet_string size mark) v h x
-  few_within n m a u (Schema.bit_string size mark) v h x = own_few n m a u (Schemas.bit_string size mark) v h x
+  few_within n m a u (Schema.bit_string size mark named) v h x = own_few n m a u (Schemas.bit_string size mark named) v h x
   few_within n m a u (Schema.char_string alphabet size mark) v h x = own_few n m a u (Schemas.char_string alphabet size mark) v h x
 
   -- parts and additions

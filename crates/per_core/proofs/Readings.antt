@@ -347,7 +347,7 @@ mutual
       (λ x y. weaken (λ e. ap whole e) (is_number_of_agree a bounds mark range x y))
   one_reading a (Schema.items r e ext) v w = as_agree SameValue (λ x. Value.item x.0 x.1) (λ x. Value.item x.0 x.1) (λ x. Basic.Item a r e ext x.0 x.1) (λ x. Basic.Item a r e ext x.0 x.1) v w (item_value a r e ext)
   one_reading a (Schema.octet_string size mark) v w = sized_octets_value a size mark v w
-  one_reading a (Schema.bit_string size mark) v w = bits_value a size mark v w
+  one_reading a (Schema.bit_string size mark named) v w = bits_value a size mark v w
   one_reading a (Schema.char_string alphabet size mark) v w = string_value a alphabet size mark v w
   one_reading a (Schema.list e size mark) v w = list_value a (λ vs. elements (as_values vs)) (basic a e) size mark (one_reading a e) v w
   one_reading a (Schema.set_of e size mark) v w = list_value a bag_of (basic a e) size mark (one_reading a e) v w

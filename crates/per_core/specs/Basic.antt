@@ -374,7 +374,7 @@ unfoldable mutual
   basic_in a u (Schema.number bounds mark range) = As whole (IsNumberOf a bounds mark range)
   basic_in a u (Schema.items r e ext) = As (λ (x : Side × ℕ). Value.item x.0 x.1) (λ x. Item a r e ext x.0 x.1)
   basic_in a u (Schema.octet_string size mark) = As Value.octets (Counted a size mark octet_items octet)
-  basic_in a u (Schema.bit_string size mark) = As Value.bits (Counted a size mark bit_items bit)
+  basic_in a u (Schema.bit_string size mark named) = As Value.bits (Counted a size mark bit_items bit)
   basic_in a u (Schema.char_string alphabet size mark) = As characters (String a alphabet size mark)
   basic_in a u (Schema.list e size mark) = As (λ vs. elements (as_values vs))
       (Counted a size mark list_items (basic_in a u e))

@@ -263,7 +263,7 @@ unfoldable mutual
   canon a (Schema.number bounds mark range) = on_whole (λ z. written_if (holds range z) (number_form a bounds mark z))
   canon a (Schema.items r e ext) = on_item (item_of a r e ext)
   canon a (Schema.octet_string size mark) = on_octets (λ os. counted a size mark octet_items (octet_writers os))
-  canon a (Schema.bit_string size mark) = on_bits (λ bs. counted a size mark bit_items (bit_writers bs))
+  canon a (Schema.bit_string size mark named) = on_bits (λ bs. counted a size mark bit_items (bit_writers bs))
   canon a (Schema.char_string alphabet size mark) =
       on_characters (λ cs. counted a size mark (char_items (char_width a alphabet)) (char_writers a alphabet cs))
   canon a (Schema.list e size mark) = on_elements (λ vs. counted a size mark list_items (map (canon a e) vs))

@@ -1,12 +1,13 @@
 //! The laws of canonical and basic encodings. Each is the contract of a function that does nothing.
 
-ghost use Rattle.std.specs.Prelude.{◌≡◌, ◌↔◌, ◌++◌, ◌+◌, ◌<◌, length, ℕ, List, Some};
+ghost use Rattle.std.specs.Prelude.{◌≡◌, ◌↔◌, ◌++◌, ◌+◌, ◌<◌, length, ℕ, Bool, true, false, List, Some};
 ghost use Rattle.rasn_types.specs.Bits.{Bits, AreOctets};
 ghost use Rattle.rasn_types.specs.Values.{Value};
 ghost use Rattle.rasn_types.specs.Variants.{Variant};
+ghost use Rattle.rasn_constraints.specs.Bounds.{Size};
 ghost use Rattle.rasn_schema.specs.Normal.{normal};
 ghost use Rattle.rasn_schema.specs.Schemas.{Schema};
-ghost use Rattle.per_core.specs.Basic.{basic, fills, front};
+ghost use Rattle.per_core.specs.Basic.{basic, basic_in, fills, front};
 ghost use Rattle.per_core.specs.Canon.{canon, bytes};
 ghost use Rattle.per_core.specs.Spellings.{Settings};
 
@@ -67,6 +68,14 @@ pub fn equal_bytes_exactly_where_normal_forms_are_equal()
     ensures { (a : Variant) (s : Schema) (v w : Value) (b c : List ℕ) →
         bytes a s (normal s v) ≡ Some b → bytes a s (normal s w) ≡ Some c →
         (b ≡ c) ↔ (normal s v ≡ normal s w) }
+{}
+
+/// Bits that have names are written and read as they stand, as those without names are (X.691, 16).
+pub fn named_bits_are_bits()
+    ensures written { (a : Variant) (size : Size) (mark : Bool) (v : Value) →
+        canon a (Schema.bit_string size mark true) v ≡ canon a (Schema.bit_string size mark false) v }
+    ensures read { (a : Settings) (u : Bool) (size : Size) (mark : Bool) (v : Value) →
+        basic_in a u (Schema.bit_string size mark true) v ≡ basic_in a u (Schema.bit_string size mark false) v }
 {}
 
 /// What is written depends on its position modulo 8 alone: so the bits for eight positions are the bits for all

@@ -59,14 +59,14 @@ module _ (a : Settings) where
     faulty_octets s k = faulty_map k (λ h. h) (λ none v t b. none b.spelled.of t (record { front = b.front; joins = b.joins; spelled = b.spelled.spelled }))
 
     -- BIT STRING
-    pub reads_bits : (bs : Bits) {s t : Bits} → Took (Counted a size mark bit_items bit bs) s t → Took (basic a (Schemas.bit_string size mark) (bits bs)) s t
+    pub reads_bits : (named : Bool) (bs : Bits) {s t : Bits} → Took (Counted a size mark bit_items bit bs) s t → Took (basic a (Schemas.bit_string size mark named) (bits bs)) s t
     unfolding basic_in
-    reads_bits bs b = took_map (λ p c i. record { of = bs; is = refl; spelled = i }) b
+    reads_bits named bs b = took_map (λ p c i. record { of = bs; is = refl; spelled = i }) b
 
-    pub faulty_bits : (s : Bits) (k : DecodeErrorKind) → Faulty (IsOfItems a size mark Bit s) (NoneIn (Counted a size mark bit_items bit) s) k
-        → Faulty (IsAt a (Schemas.bit_string size mark) s) (NoneIn (basic a (Schemas.bit_string size mark)) s) k
+    pub faulty_bits : (named : Bool) (s : Bits) (k : DecodeErrorKind) → Faulty (IsOfItems a size mark Bit s) (NoneIn (Counted a size mark bit_items bit) s) k
+        → Faulty (IsAt a (Schemas.bit_string size mark named) s) (NoneIn (basic a (Schemas.bit_string size mark named)) s) k
     unfolding basic_in
-    faulty_bits s k = faulty_map k (λ h. h) (λ none v t b. none b.spelled.of t (record { front = b.front; joins = b.joins; spelled = b.spelled.spelled }))
+    faulty_bits named s k = faulty_map k (λ h. h) (λ none v t b. none b.spelled.of t (record { front = b.front; joins = b.joins; spelled = b.spelled.spelled }))
 
     -- the strings of known multiplier
     module _ (alphabet : List ℕ) where

@@ -959,6 +959,18 @@ impl<'input> decoder::Decoder for Decoder<'input> {
         self.answer(taken, left)
     }
 
+    fn decode_named_bits(
+        &mut self,
+        _tag: Tag,
+        constraints: &Constraints,
+    ) -> Result<BitString, DecodeError> {
+        self.check_unfailed()?;
+        let mut reader = self.reader();
+        let named = reader.take_bit_string(constraints);
+        let left = reader.bits().len();
+        self.answer(named, left)
+    }
+
     #[inline(always)]
     fn decode_known_multiplier_string<S: StaticPermittedAlphabet>(
         &mut self,

@@ -306,6 +306,17 @@ impl<A: Allocator + Clone> encoder::Encoder for Encoder<A> {
         self.writer.put_bit_string(constraints, value)
     }
 
+    fn encode_named_bits(
+        &mut self,
+        _tag: Tag,
+        constraints: &Constraints,
+        value: &BitString,
+        _identifier: Identifier,
+    ) -> Result<(), EncodeError> {
+        self.begin_value()?;
+        self.writer.put_named_bits(constraints, value)
+    }
+
     #[inline(always)]
     fn encode_known_multiplier_string<S: StaticPermittedAlphabet>(
         &mut self,

@@ -40,3 +40,4 @@ pub mod Tagged
 pub mod Valued
 pub mod Replaced
 pub mod Sound
+pub mod Named

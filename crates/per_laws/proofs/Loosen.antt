@@ -188,7 +188,7 @@ mutual
   loosen a u (Schema.number bounds mark range) v = made_carry whole (IsNumberOf a bounds mark range) (IsNumberOf (loose a) bounds mark range) (numbers_of a bounds mark range) v
   loosen a u (Schema.items r e ext) v = made_carry (λ (x : Side × ℕ). Value.item x.0 x.1) (λ x. Basic.Item a r e ext x.0 x.1) (λ x. Basic.Item (loose a) r e ext x.0 x.1) (λ x. items_loose a r e ext x.0 x.1) v
   loosen a u (Schema.octet_string size mark) v = made_carry Value.octets (Counted a size mark octet_items octet) (Counted (loose a) size mark octet_items octet) (lengthies octet a size mark octet_items) v
-  loosen a u (Schema.bit_string size mark) v = made_carry Value.bits (Counted a size mark bit_items bit) (Counted (loose a) size mark bit_items bit) (lengthies bit a size mark bit_items) v
+  loosen a u (Schema.bit_string size mark named) v = made_carry Value.bits (Counted a size mark bit_items bit) (Counted (loose a) size mark bit_items bit) (lengthies bit a size mark bit_items) v
   loosen a u (Schema.char_string alphabet size mark) v = made_carry characters (String a alphabet size mark) (String (loose a) alphabet size mark) (strings a alphabet size mark) v
   loosen a u (Schema.list e size mark) v = carries
       (list_kept Nothing (basic_in a u e) (basic_in (loose a) u e) (λ w m. loosen a u e w) a size mark v (none_in v))

@@ -1,8 +1,12 @@
 -- The normal form of a normal form is itself.
-use Rattle.std.proofs.Common.{◌≡◌, refl, sym, ap, ◌∙◌, ℕ, zero, suc, Bool, true, false, cond, List, [], ◌∷◌, map, Option, Some, None}
+use Rattle.std.proofs.Common.{◌≡◌, refl, sym, ap, ◌∙◌, ℕ, zero, suc, ◌^◌, Bool, true, false, cond, ltb, List, [], ◌∷◌, map, Option, Some, None}
 use Rattle.rasn_types.specs.Values.{Value, elements, bag, bag_of, fields, alternative, root, added, as_values, as_slots, values, slots}
+use Rattle.rasn_types.specs.Bits.{Bits}
+use Rattle.rasn_types.specs.Trimmed.{filled_up, trimmed}
+use Rattle.rasn_types.proofs.Trimming.{trimmed-trimmed, trimmed-filled}
 use Rattle.rasn_types.proofs.Values.{slots-as_slots, values-as_values}
-use Rattle.rasn_schema.specs.Normal.{is_vacant, settle, each_slot, over_elements, over_bag, over_fields, over_alternative, normal, normals, normal_at}
+use Rattle.rasn_constraints.specs.Bounds.{Size}
+use Rattle.rasn_schema.specs.Normal.{is_vacant, settle, each_slot, normal_bits, over_bits, if_named, over_elements, over_bag, over_fields, over_alternative, normal, normals, normal_at}
 use Rattle.rasn_schema.specs.Schemas.{Presence, required, optional, group, default, Schema, Parts, no_parts, part}
 use Rattle.per_core.specs.Versions.{all_of, joined}
 use Rattle.per_core.proofs.Bags.{bag_becomes, sort, some_list}
@@ -13,6 +17,22 @@ Still {X} f = (v : X) → f (f v) ≡ f v
 map_still : (f : Value → Value) → Still f → (vs : List Value) → map f (map f vs) ≡ map f vs
 map_still f h [] = refl
 map_still f h (v ∷ vs) = let a : f (f v) ≡ f v = h v in let b : map f (map f vs) ≡ map f vs = map_still f h vs in cc
+
+trimmed_still : (l : Option ℕ) → Still (normal_bits l)
+trimmed_still None bs = trimmed-trimmed bs
+trimmed_still (Some l) bs = go (ltb l (2 ^ 64))
+  where
+    go : (t : Bool) → cond t (filled_up l (trimmed (cond t (filled_up l (trimmed bs)) (trimmed bs)))) (trimmed (cond t (filled_up l (trimmed bs)) (trimmed bs))) ≡ cond t (filled_up l (trimmed bs)) (trimmed bs)
+    go true = ap (filled_up l) (trimmed-filled l bs)
+    go false = trimmed-trimmed bs
+
+bits_still : (f : Bits → Bits) → Still f → Still (over_bits f)
+bits_still f h (Value.bits bs) = ap Value.bits (h bs)
+bits_still f h _ = refl
+
+pub named_still : (named : Bool) (size : Size) → Still (if_named named size)
+named_still false size = λ v. refl
+named_still true size = bits_still (normal_bits size.least) (trimmed_still size.least)
 
 elements_still : (f : Value → Value) → Still f → Still (over_elements f)
 elements_still f h (elements vs) = ap (λ l. elements (as_values (map f l))) (values-as_values (map f (values vs))) ∙ ap (λ l. elements (as_values l)) (map_still f h (values vs))
@@ -72,6 +92,7 @@ mutual
   still (Schema.set_of e size mark) = bags_still (normal e) (still e)
   still (Schema.sequence o ps ext adds) = fields_still (normals ps) (normals adds) (stills ps) (stills adds)
   still (Schema.choice ps adds ext) = alternative_still (normal_at ps) (normal_at adds) (still_at ps) (still_at adds)
+  still (Schema.bit_string size mark named) = named_still named size
   still _ = λ v. refl
 
   stills : (ps : Parts) → Still (normals ps)

@@ -1,10 +1,15 @@
 -- The normal form of a schema's value is a value of that schema.
-use Rattle.std.proofs.Common.{◌≡◌, refl, sym, ap, ◌∙◌, ap₂, ℕ, zero, suc, ◌^◌, Bool, true, false, cond, ltb, ◌&&◌, List, [], ◌∷◌, map, length, Option, Some, None}
+use Rattle.std.proofs.Common.{◌≡◌, refl, sym, ap, ◌∙◌, ap₂, ℕ, zero, suc, ◌^◌, Bool, true, false, cond, ltb, ◌&&◌, ◌+◌, ◌-◌, ◌<◌, List, [], ◌∷◌, map, length, Option, Some, None, ltb-true, lt-ltb, arith}
+use Rattle.std.proofs.Math.Nat.{lt_of_le_of_lt}
 use Rattle.rasn_types.specs.Values.{Value, code, before, put, sorted, same, elements, bag, bag_of, fields, alternative, root, added, as_values, values, slots}
+use Rattle.rasn_types.specs.Bits.{Bits}
+use Rattle.rasn_types.specs.Trimmed.{filled_up, trimmed}
+use Rattle.rasn_types.proofs.Trimming.{trimmed-few, length-filled}
 use Rattle.rasn_types.proofs.Values.{slots-as_slots, values-as_values}
+use Rattle.rasn_constraints.specs.Bounds.{Size}
 use Rattle.rasn_schema.specs.Schemas.{Presence, required, optional, group, default, Schema, Parts, no_parts, part}
-use Rattle.rasn_schema.specs.Normal.{is_vacant, settle, each_slot, over_elements, over_bag, over_fields, over_alternative, normal, normals, normal_at}
-use Rattle.rasn_schema.specs.Lawful.{all_pass, is_countable, if_elements, if_bag, if_fields, if_alternative, slot_passes, slots_pass, is_value, are_values, is_value_at}
+use Rattle.rasn_schema.specs.Normal.{is_vacant, settle, each_slot, normal_bits, over_bits, if_named, over_elements, over_bag, over_fields, over_alternative, normal, normals, normal_at}
+use Rattle.rasn_schema.specs.Lawful.{all_pass, is_countable, if_bits, if_elements, if_bag, if_fields, if_alternative, slot_passes, slots_pass, is_value, are_values, is_value_at}
 use Rattle.per_core.specs.Versions.{all_of, joined}
 use Rattle.per_core.proofs.Bags.{bag_becomes, sort, some_list}
 use Rattle.per_core.proofs.Counting.{length-map'}
@@ -21,6 +26,22 @@ all_stay f g h (v ∷ vs) e = ap₂ (λ a b. a && b) (h v (and_left (f v) (all_p
 
 still_countable : (g : Value → Value) (vs : List Value) → is_countable vs ≡ true → is_countable (map g vs) ≡ true
 still_countable g vs e = ap (λ (n : ℕ). ltb n (2 ^ 64)) (length-map' g vs) ∙ e
+
+both_few : (t l n m : ℕ) → t < m → l < m → n ≡ t + (l - t) → n < m
+both_few t l n m h k e = omega arith
+
+pub bits_countable : (l : Option ℕ) (bs : Bits) → is_countable bs ≡ true → is_countable (normal_bits l bs) ≡ true
+bits_countable None bs e = lt-ltb (length (trimmed bs)) (2 ^ 64) (lt_of_le_of_lt (trimmed-few bs) (ltb-true (length bs) (2 ^ 64) e))
+bits_countable (Some l) bs e = go (ltb l (2 ^ 64)) refl
+  where
+    go : (t : Bool) → ltb l (2 ^ 64) ≡ t → is_countable (cond t (filled_up l (trimmed bs)) (trimmed bs)) ≡ true
+    go true k = lt-ltb (length (filled_up l (trimmed bs))) (2 ^ 64) (both_few (length (trimmed bs)) l (length (filled_up l (trimmed bs))) (2 ^ 64) (lt_of_le_of_lt (trimmed-few bs) (ltb-true (length bs) (2 ^ 64) e)) (ltb-true l (2 ^ 64) k) (length-filled l (trimmed bs)))
+    go false k = lt-ltb (length (trimmed bs)) (2 ^ 64) (lt_of_le_of_lt (trimmed-few bs) (ltb-true (length bs) (2 ^ 64) e))
+
+named_stay : (named : Bool) (size : Size) → Stays if_bits (if_named named size)
+named_stay false size v e = e
+named_stay true size (Value.bits bs) e = bits_countable size.least bs e
+named_stay true size _ e = absurd (cc)
 
 elements_stay : (f : Value → Bool) (g : Value → Value) → Stays f g → Stays (if_elements f) (over_elements g)
 elements_stay f g h (elements vs) e =
@@ -130,6 +151,7 @@ mutual
   stays (Schema.set_of e size mark) = bags_stay (is_value e) (normal e) (stays e)
   stays (Schema.sequence o ps ext adds) = fields_stay (are_values ps) (are_values adds) (normals ps) (normals adds) (parts_stay ps) (parts_stay adds)
   stays (Schema.choice ps adds ext) = alternative_stays (is_value_at ps) (is_value_at adds) (normal_at ps) (normal_at adds) (place_stays ps) (place_stays adds)
+  stays (Schema.bit_string size mark named) = named_stay named size
   stays _ = λ v e. e
 
   parts_stay : (ps : Parts) → Stays (are_values ps) (normals ps)

@@ -4,3 +4,4 @@ pub mod Levels
 pub mod Listings
 pub mod Written
 pub mod Alike
+pub mod Named

@@ -40,7 +40,7 @@ abbrev pub octet_string : Size → Schema
 octet_string size = Schema.octet_string size false
 
 abbrev pub bit_string : Size → Schema
-bit_string size = Schema.bit_string size false
+bit_string size = Schema.bit_string size false false
 
 abbrev pub list_of : Schema → Size → Schema
 list_of s size = Schema.list s size false

@@ -57,7 +57,7 @@ pub fn uper_octet_string_takes_its_largest_fragment()
 
 /// UPER BIT STRING (SIZE (2, ...)) of three ones: bit 1 and a count without bounds (X.691 16.6).
 pub fn uper_bit_string_past_its_fixed_size()
-    ensures { bytes unaligned (Schema.bit_string (record { least = Some 2; most = Some 2 }) true)
+    ensures { bytes unaligned (Schema.bit_string (record { least = Some 2; most = Some 2 }) true false)
         (bits (replicate 3 true)) ≡ Some (0x81 ∷ 0xf0 ∷ []) }
 {}
 

@@ -11,3 +11,4 @@ pub mod Brackets
 pub mod Carriers
 pub mod Defaults
 pub mod Optionals
+pub mod Signals

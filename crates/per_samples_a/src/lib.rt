@@ -18,6 +18,7 @@ pub mod nested_rows;
 pub mod pair;
 mod pair_schema;
 pub mod seven;
+pub mod signals;
 pub mod six;
 pub mod some_absent;
 pub mod strings;

@@ -11,7 +11,8 @@ use Rattle.rasn_constraints.specs.Bounds.{allows, holds, not_below, not_above, f
 use Rattle.rasn_schema.specs.Absent.{no_value}
 use Rattle.rasn_schema.specs.Depth.{meets_cut}
 use Rattle.rasn_schema.specs.Lawful.{IsLawful}
-use Rattle.rasn_schema.specs.Normal.{normal, normal_at, over_alternative, over_bag}
+use Rattle.per_laws.proofs.Named.{normal_allowed}
+use Rattle.rasn_schema.specs.Normal.{normal, normal_at, normal_bits, over_alternative, over_bag}
 use Rattle.rasn_schema.specs.Schemas
 use Rattle.rasn_schema.specs.Schemas.{Schema}
 use Rattle.per_core.specs.Basic.{Char, IsNumber, Marked, number_spelling, String, basic_in, fills}
@@ -158,9 +159,13 @@ module _ (a : Settings) (u : Bool) where
   within_size n l h (Schema.octet_string size false) w r f =
       let x = r.where_it_is.spelled in
       in_size refl x.spelled.allowed (subst (IsOutOfSize n l h (Schema.octet_string size false)) (r.is ∙ x.is) f)
-  within_size n l h (Schema.bit_string size false) w r f =
+  within_size n l h (Schema.bit_string size false false) w r f =
       let x = r.where_it_is.spelled in
-      in_size refl x.spelled.allowed (subst (IsOutOfSize n l h (Schema.bit_string size false)) (r.is ∙ x.is) f)
+      in_size refl x.spelled.allowed (subst (IsOutOfSize n l h (Schema.bit_string size false false)) (r.is ∙ x.is) f)
+  within_size n l h (Schema.bit_string size false true) w r f =
+      let x = r.where_it_is.spelled in
+      in_size refl (normal_allowed size x.of x.spelled.allowed)
+      (subst (IsOutOfSize n l h (Schema.bit_string size false true)) (r.is ∙ ap (normal (Schema.bit_string size false true)) x.is) f)
   within_size n l h (Schema.char_string alphabet size false) w r f =
       let x = r.where_it_is.spelled in
       in_size refl x.spelled.allowed (subst (IsOutOfSize n l h (Schema.char_string alphabet size false)) (r.is ∙ x.is) f)
@@ -227,7 +232,9 @@ module _ (a : Settings) (u : Bool) where
   not_absent (Schema.number bounds mark range) w r f = let x = r.where_it_is.spelled in let e : whole x.of ≡ no_value = sym (r.is ∙ x.is) ∙ f in cc
   not_absent (Schema.items n m ext) w r f = let x = r.where_it_is.spelled in let e : item x.of.0 x.of.1 ≡ no_value = sym (r.is ∙ x.is) ∙ f in cc
   not_absent (Schema.octet_string size mark) w r f = let x = r.where_it_is.spelled in let e : octets x.of ≡ no_value = sym (r.is ∙ x.is) ∙ f in cc
-  not_absent (Schema.bit_string size mark) w r f = let x = r.where_it_is.spelled in let e : bits x.of ≡ no_value = sym (r.is ∙ x.is) ∙ f in cc
+  not_absent (Schema.bit_string size mark false) w r f = let x = r.where_it_is.spelled in let e : bits x.of ≡ no_value = sym (r.is ∙ x.is) ∙ f in cc
+  not_absent (Schema.bit_string size mark true) w r f = let x = r.where_it_is.spelled in
+      let e : bits (normal_bits size.least x.of) ≡ no_value = sym (r.is ∙ ap (normal (Schema.bit_string size mark true)) x.is) ∙ f in cc
   not_absent (Schema.char_string alphabet size mark) w r f = let x = r.where_it_is.spelled in let e : characters x.of ≡ no_value = sym (r.is ∙ x.is) ∙ f in cc
   not_absent (Schema.list element size mark) w r f = let x = r.where_it_is.spelled in let e : normal (Schema.list element size mark) (elements (as_values x.of)) ≡ no_value = sym (r.is ∙ ap (normal (Schema.list element size mark)) x.is) ∙ f in cc
   not_absent (Schema.set_of element size mark) w r f = let x = r.where_it_is.spelled in let e : normal (Schema.set_of element size mark) (bag_of x.of) ≡ no_value = sym (r.is ∙ ap (normal (Schema.set_of element size mark)) x.is) ∙ f in cc

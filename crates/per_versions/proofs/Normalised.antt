@@ -99,11 +99,12 @@ slots_low p s t K M g l h h' (Some v ∷ xs) m e =
     (h' xs (or_right (meets_cut t v) (M xs) m) (or_right (is_written p v && writes_cut s t v) (K xs) e))
 
 leaf_low : (s : Schema) → IsLeaf s → Low (writes_cut s s) (meets_cut s) (normal s)
-unfolding normal
+unfolding normal writes_cut
 leaf_low (Schema.list e size mark) h = absurd h
 leaf_low (Schema.set_of e size mark) h = absurd h
 leaf_low (Schema.sequence o ps ext adds) h = absurd h
 leaf_low (Schema.choice ps adds ext) h = absurd h
+leaf_low (Schema.bit_string size mark named) h = λ v m e. refl
 leaf_low _ h = λ v m e. e
 
 mutual

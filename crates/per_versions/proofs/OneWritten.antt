@@ -9,7 +9,7 @@ use Rattle.rasn_constraints.specs.Bounds.{any_size, Size}
 use Rattle.rasn_schema.specs.Choices.{alternative_at, choice_schema}
 use Rattle.rasn_schema.specs.Depth.{meets_cut}
 use Rattle.rasn_schema.specs.Lawful.{AreLawful, IsLawful}
-use Rattle.rasn_schema.specs.Normal.{normal, normal_at, over_alternative, over_bag}
+use Rattle.rasn_schema.specs.Normal.{normal, normal_at, normal_bits, over_alternative, over_bag}
 use Rattle.rasn_schema.specs.Schemas
 use Rattle.rasn_schema.specs.Schemas.{by_tag, count, listed, no_parts, Order, part, Parts, Schema}
 use Rattle.per_core.specs.Basic.{Choice, basic_in, bit, Chosen, fills, Rule, rules_in}
@@ -32,7 +32,7 @@ use Rattle.per_versions.specs.Writable.{are_writable, is_writable}
 use Rattle.per_versions.proofs.Leaves.{bit_total, date_total, item_total, marked_total}
 use Rattle.per_versions.proofs.Parts.{EachPart, open_total, Writes}
 use Rattle.per_versions.proofs.Records.{each_both, each_has, list_total, record_total, set_total}
-use Rattle.per_versions.proofs.Total.{bit_string_total, characters_total, counted_total, each_mapped, if_total, is_counted, IsCounted, just_total, octet_string_total, small_total, then_total, Total, whole_number_total}
+use Rattle.per_versions.proofs.Total.{bit_string_total, characters_total, counted_total, each_mapped, if_total, is_counted, IsCounted, just_total, normal_counted, octet_string_total, small_total, then_total, Total, whole_number_total}
 
 -- ---- bags
 all_some : (vs : List Value) → all_of (λ v. Some v) vs ≡ Some vs
@@ -146,8 +146,11 @@ module _ (a : Settings) (u : Bool) (c : Variant) where
         subst (λ v. Total (canon c (Schemas.items n e ext) v)) (sym (r.is ∙ x.is)) (item_total a c n e ext x.of.0 x.of.1 r.where_it_is.at r.where_it_is.bits x.spelled)
     total (Schema.octet_string size mark) l k = λ w r z. let x = r.where_it_is.spelled in
         subst (λ v. Total (canon c (Schemas.octet_string size mark) v)) (sym (r.is ∙ x.is)) (octet_string_total a c size mark x.of r.where_it_is.at r.where_it_is.bits x.spelled)
-    total (Schema.bit_string size mark) l k = λ w r z. let x = r.where_it_is.spelled in
-        subst (λ v. Total (canon c (Schemas.bit_string size mark) v)) (sym (r.is ∙ x.is)) (bit_string_total c size mark x.of (is_counted a size mark bit_items bit x.of r.where_it_is.at r.where_it_is.bits x.spelled))
+    total (Schema.bit_string size mark true) l k = λ w r z. let x = r.where_it_is.spelled in
+        subst (λ v. Total (canon c (Schemas.bit_string size mark true) v)) (sym (r.is ∙ ap (normal (Schemas.bit_string size mark true)) x.is))
+        (bit_string_total c size mark (normal_bits size.least x.of) (normal_counted size mark x.of (is_counted a size mark bit_items bit x.of r.where_it_is.at r.where_it_is.bits x.spelled)))
+    total (Schema.bit_string size mark false) l k = λ w r z. let x = r.where_it_is.spelled in
+        subst (λ v. Total (canon c (Schemas.bit_string size mark false) v)) (sym (r.is ∙ x.is)) (bit_string_total c size mark x.of (is_counted a size mark bit_items bit x.of r.where_it_is.at r.where_it_is.bits x.spelled))
     total (Schema.char_string alphabet size mark) l k = λ w r z. let x = r.where_it_is.spelled in
         subst (λ v. Total (canon c (Schemas.char_string alphabet size mark) v)) (sym (r.is ∙ x.is)) (characters_total a c alphabet size mark x.of r.where_it_is.at r.where_it_is.bits x.spelled)
     total (Schema.list e size mark) l k = list_total a u c e (total e l.1 k) size mark

@@ -5,7 +5,8 @@ use Rattle.rasn_types.specs.Values.{Value, same, elements, bag, bag_of, fields, 
 use Rattle.rasn_types.proofs.Values.{slots-as_slots, values-as_values}
 use Rattle.rasn_schema.specs.Depth.{meets_cut, slots_meet_cut, meets_cut_at, in_slots, in_elements, in_fields, in_alternative, any_of}
 use Rattle.rasn_schema.specs.Lawful.{AreLawful, IsLawful, IsLawfulPresence, is_group_schema}
-use Rattle.rasn_schema.specs.Normal.{is_idle, are_idle, is_vacant, settle, each_slot, over_elements, over_bag, over_fields, over_alternative, normal, normals, normal_at}
+use Rattle.per_laws.proofs.Normals.{named_still}
+use Rattle.rasn_schema.specs.Normal.{is_idle, are_idle, is_vacant, settle, each_slot, if_named, over_elements, over_bag, over_fields, over_alternative, normal, normals, normal_at}
 use Rattle.rasn_schema.specs.Schemas.{Presence, required, optional, group, default, Schema, Parts, no_parts, part}
 use Rattle.per_core.specs.Versions.{project, project_slots, project_at, slot_through, slots_through, through_elements, through_bag, through_fields, through_alternative, made, made_both, joined, all_of, IsPlain, NewerPresence, Newer, NewerParts, unchanged, more_items, newer_list, newer_set_of, newer_sequence, newer_choice, no_more, more_parts, also}
 use Rattle.per_core.proofs.Bags.{joined_of, sort}
@@ -50,6 +51,7 @@ mutual
   whole (Schema.set_of e size mark) = bags_low (meets_cut e) (meets_cut e) (normal e) (whole e)
   whole (Schema.sequence o ps ext adds) = fields_low (slots_meet_cut ps) (slots_meet_cut ps) (normals ps) (slots_meet_cut adds) (slots_meet_cut adds) (normals adds) (wholes ps) (wholes adds)
   whole (Schema.choice ps adds ext) = alternative_low (meets_cut_at ps) (meets_cut_at ps) (normal_at ps) (meets_cut_at adds) (meets_cut_at adds) (normal_at adds) (whole_at ps) (whole_at adds)
+  whole (Schema.bit_string size mark named) = λ v m m'. refl
   whole _ = λ v m m'. m
 
   wholes : (ps : Parts) → Whole (slots_meet_cut ps) (normals ps)
@@ -260,12 +262,16 @@ slots_commute {s'} {s} n l p' p k lp h F f' f L r (Some v ∷ xs) w m e =
       each_one g f a.0 b.0 ∙ ap₂ (λ z t. z ∷ t) a.2 b.2 ∙ sym (ap (each_slot g f) (q.4 ∙ ap (λ z. z ∷ q.1) t.2)),
     )
 
+same_some : (v w : Value) → ◌≡◌ {A = Option Value} (Some v) (Some w) → v ≡ w
+same_some v w e = cc
+
 plain_commute : (s : Schema) → IsPlain s → Commutes (project s s) (normal s) (normal s) (meets_cut s)
-unfolding normal
+unfolding normal project
 plain_commute (Schema.list e size mark) h v w m k = absurd h
 plain_commute (Schema.set_of e size mark) h v w m k = absurd h
 plain_commute (Schema.sequence o ps ext adds) h v w m k = absurd h
 plain_commute (Schema.choice ps adds ext) h v w m k = absurd h
+plain_commute (Schema.bit_string size mark named) h v w m k = (if_named named size v, refl, named_still named size v ∙ ap (if_named named size) (same_some v w k))
 plain_commute _ h v w m k = (w, k, refl)
 
 mutual

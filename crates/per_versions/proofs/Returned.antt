@@ -134,11 +134,12 @@ slots_return {s'} {s} n p' p k lp h F f' L r (Some v ∷ xs) u m e =
     (a.0 ∷ b.0, ap (λ o. joined o (F xs)) a.1 ∙ ap (λ o. joined (Some a.0) o) b.1)
 
 plain_returns : (s : Schema) → IsPlain s → Returns (project s s) (normal s) (meets_cut s)
-unfolding normal
+unfolding normal project
 plain_returns (Schema.list e size mark) h v u m k = absurd h
 plain_returns (Schema.set_of e size mark) h v u m k = absurd h
 plain_returns (Schema.sequence o ps ext adds) h v u m k = absurd h
 plain_returns (Schema.choice ps adds ext) h v u m k = absurd h
+plain_returns (Schema.bit_string size mark named) h v u m k = (v, refl)
 plain_returns _ h v u m k = (u, k)
 
 mutual

@@ -16,6 +16,9 @@ use Rattle.per_core.proofs.Counting.{length-map'}
 use Rattle.per_core.proofs.LengthForms.{and_left, and_right}
 use Rattle.per_core.specs.Within.{Each}
 use Rattle.per_versions.proofs.Spelled.{lengthy_spelled, Somewhere}
+use Rattle.rasn_schema.specs.Normal.{normal_bits}
+use Rattle.per_laws.proofs.Named.{normal_allowed}
+use Rattle.per_laws.proofs.Valued.{bits_countable}
 
 pub record Total (w : Writer) : Type 0 where
   pub at : (p : ℕ) → (b : Bits) × (w p ≡ Some b)
@@ -140,6 +143,11 @@ pub few_octets_total : (a : Variant) (os : List ℕ) → AreOctets os → allows
 few_octets_total a os h e = items_total a any_size false octet_items (λ o. written_if (ltb o 256) (just (to_bits 8 o))) os e (each_of (λ o. o < 256) _ octet_total os (each_octet os h))
 
 -- bits
+-- bits in normal form are as many as may be written
+pub normal_counted : (size : Size) (mark : Bool) (bs : Bits) → IsCounted size mark (length bs) → IsCounted size mark (length (normal_bits size.least bs))
+normal_counted size false bs h = normal_allowed size bs h
+normal_counted size true bs h = bits_countable size.least bs h
+
 pub bit_string_total : (a : Variant) (size : Size) (mark : Bool) (bs : Bits) → IsCounted size mark (length bs) → Total (counted a size mark bit_items (bit_writers bs))
 bit_string_total a size mark bs e = items_total a size mark bit_items (λ b. just (b ∷ [])) bs e (all bs)
   where

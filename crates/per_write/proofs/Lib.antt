@@ -14,3 +14,4 @@ pub mod Vacant
 pub mod Writing
 pub mod Unbounded
 pub mod Elements
+pub mod Named

@@ -135,20 +135,20 @@ octet_string_law x y size mark os =
     counted_law x y (Schema.octet_string size mark) (octets os) size mark octet_items (λ k. ⊥) (octet_writers os) (octet_string_form (variant_of x.codec) size mark os) (octet_count x size mark os) (λ k m h. absurd h)
 
 -- X.691 16: a BIT STRING
-bit_string_form : (a : Variant) (size : Size) (mark : Bool) (bs : Bits) (p : ℕ) → counted a size mark bit_items (bit_writers bs) p ≡ canon a (Schema.bit_string size mark) (bits bs) p
+bit_string_form : (a : Variant) (size : Size) (mark named : Bool) (bs : Bits) (p : ℕ) → counted a size mark bit_items (bit_writers bs) p ≡ canon a (Schema.bit_string size mark named) (bits bs) p
 unfolding canon
-bit_string_form a size mark bs p = refl
+bit_string_form a size mark named bs p = refl
 
-bit_count : (x : State) (size : Size) (mark : Bool) (bs : Bits) (lower upper : Option ℕ) → mark ≡ false → OutsideSize size (length (bit_writers bs)) (length (bit_writers bs)) lower upper →
-    Stands (SizeConstraintNotSatisfied (length (bit_writers bs)) lower upper) x (Schema.bit_string size mark) (bits bs)
-bit_count x size true bs lower upper m o = absurd cc
-bit_count x size false bs lower upper m o = at_once (subst (λ (n : ℕ). OutsideSize size n (length (bit_writers bs)) lower upper) (length-bit_writers bs) o)
+bit_count : (x : State) (size : Size) (mark named : Bool) (bs : Bits) (lower upper : Option ℕ) → mark ≡ false → OutsideSize size (length (bit_writers bs)) (length (bit_writers bs)) lower upper →
+    Stands (SizeConstraintNotSatisfied (length (bit_writers bs)) lower upper) x (Schema.bit_string size mark named) (bits bs)
+bit_count x size true named bs lower upper m o = absurd cc
+bit_count x size false named bs lower upper m o = at_once (subst (λ (n : ℕ). OutsideSize size n (length (bit_writers bs)) lower upper) (length-bit_writers bs) o)
 
-pub bit_string_law : (x y : State) (size : Size) (mark : Bool) (bs : Bits) (result : Result (Unit {0}) EncodeError) →
+pub bit_string_law : (x y : State) (size : Size) (mark named : Bool) (bs : Bits) (result : Result (Unit {0}) EncodeError) →
     OnOk result (StateAppends x (counted (variant_of x.codec) size mark bit_items (bit_writers bs)) y) → IfErr result (λ e. RefusesCounted size mark (λ k. ⊥) (bit_writers bs) e x) →
-    Written encoder_rules (Schema.bit_string size mark) (bits bs) x result y
-bit_string_law x y size mark bs =
-    counted_law x y (Schema.bit_string size mark) (bits bs) size mark bit_items (λ k. ⊥) (bit_writers bs) (bit_string_form (variant_of x.codec) size mark bs) (bit_count x size mark bs) (λ k m h. absurd h)
+    Written encoder_rules (Schema.bit_string size mark named) (bits bs) x result y
+bit_string_law x y size mark named bs =
+    counted_law x y (Schema.bit_string size mark named) (bits bs) size mark bit_items (λ k. ⊥) (bit_writers bs) (bit_string_form (variant_of x.codec) size mark named bs) (bit_count x size mark named bs) (λ k m h. absurd h)
 
 -- X.691 30.5: a known-multiplier string
 char_string_form : (a : Variant) (alphabet : List ℕ) (size : Size) (mark : Bool) (cs : List ℕ) (p : ℕ) →
@@ -204,7 +204,7 @@ none_of_absent a Schema.date p = refl
 none_of_absent a (Schema.number bounds mark range) p = refl
 none_of_absent a (Schema.items r e ext) p = refl
 none_of_absent a (Schema.octet_string size mark) p = refl
-none_of_absent a (Schema.bit_string size mark) p = refl
+none_of_absent a (Schema.bit_string size mark named) p = refl
 none_of_absent a (Schema.char_string alphabet size mark) p = refl
 none_of_absent a (Schema.list e size mark) p = refl
 none_of_absent a (Schema.set_of e size mark) p = refl

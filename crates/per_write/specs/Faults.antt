@@ -77,7 +77,8 @@ IsPastBounds _ _ = ⊥
 abbrev pub IsOutOfSize : ℕ → Option ℕ → Option ℕ → Schema → Value → Type 0
 IsOutOfSize count lower upper (Schema.octet_string size false) (octets os) =
     OutsideSize size (length os) count lower upper
-IsOutOfSize count lower upper (Schema.bit_string size false) (bits bs) = OutsideSize size (length bs) count lower upper
+IsOutOfSize count lower upper (Schema.bit_string size false named) (bits bs) =
+    OutsideSize size (length bs) count lower upper
 IsOutOfSize count lower upper (Schema.char_string alphabet size false)
     (characters cs) = OutsideSize size (length cs) count lower upper
 IsOutOfSize count lower upper (Schema.list e size false) (elements vs) =

@@ -17,8 +17,8 @@ pub use Rattle.rasn_schema.specs.Components.{any, ◌to◌, minus◌to◌, minus
 pub use Rattle.rasn_schema.specs.Components.{up_to_minus, size◌to◌, size_from, size_up_to, extensible, of_characters}
 pub use Rattle.rasn_schema.specs.Components.{universal, simple, at, under, own_tags, automatic, automatic_from}
 pub use Rattle.rasn_schema.specs.Components.{extensible_own_tags, extensible_automatic, optional, default}
-pub use Rattle.rasn_schema.specs.Components.{boolean, null, integer, bit_string, octet_string, enumerated}
-pub use Rattle.rasn_schema.specs.Components.{extensible_enumerated}
+pub use Rattle.rasn_schema.specs.Components.{boolean, null, integer, bit_string, named_bits, octet_string}
+pub use Rattle.rasn_schema.specs.Components.{enumerated, extensible_enumerated}
 pub use Rattle.rasn_schema.specs.Components.{utf8_string, numeric_string, printable_string, ia5_string, visible_string}
 pub use Rattle.rasn_schema.specs.Components.{bmp_string}
 pub use Rattle.rasn_schema.specs.Components.{sequence, sequence_of, choice}

@@ -4,7 +4,8 @@
 
 pub use crate::types::{
     Any, BitString, BmpString, Contains, GeneralString, GraphicString, Ia5String, Integer,
-    NumericString, ObjectIdentifier, OctetString, OpenType, PrintableString, SetOf, TeletexString,
+    NamedBits, NumericString, ObjectIdentifier, OctetString, OpenType, PrintableString, SetOf,
+    TeletexString,
     Utf8String, VisibleString,
 };
 pub use crate::{

@@ -8,8 +8,8 @@ pub use rasn_strings::strings::{
 pub use rasn_types::big::numbers::TryFromIntegerError;
 pub use rasn_types::bit_string::BitIter;
 pub use rasn_types::types::{
-    Any, BitString, Class, Codec, GeneralString, GraphicString, Identifier, Integer, OctetString,
-    Tag, TeletexString, Utf8String,
+    Any, BitString, Class, Codec, GeneralString, GraphicString, Identifier, Integer, NamedBits,
+    OctetString, Tag, TeletexString, Utf8String,
 };
 pub use rasn_useful::date::Date;
 pub use rasn_useful::generalized_time::GeneralizedTime;

@@ -4,6 +4,7 @@ use crate::codec::{Decode, Decoder, Encode, Encoder};
 use rasn_schema::schema::Constraints;
 use rasn_traits::de::Octets;
 use rasn_types::bit_string::BitString;
+use rasn_types::named_bits::NamedBits;
 use rasn_types::octet_strings::{Any, OctetString};
 use rasn_types::types::{Identifier, Tag};
 
@@ -58,6 +59,31 @@ impl Decode for BitString {
         constraints: &Constraints,
     ) -> Result<BitString, D::Error> {
         decoder.decode_bit_string(tag, constraints)
+    }
+}
+
+impl Encode for NamedBits {
+    #[inline(always)]
+    fn encode_with_tag_and_constraints<E: Encoder>(
+        &self,
+        encoder: &mut E,
+        tag: Tag,
+        constraints: &Constraints,
+        identifier: Identifier,
+    ) -> Result<(), E::Error> {
+        encoder.encode_named_bits(tag, constraints, self.bits(), identifier)
+    }
+}
+
+impl Decode for NamedBits {
+    #[inline(always)]
+    fn decode_with_tag_and_constraints<D: Decoder>(
+        decoder: &mut D,
+        tag: Tag,
+        constraints: &Constraints,
+    ) -> Result<NamedBits, D::Error> {
+        let bits = decoder.decode_named_bits(tag, constraints)?;
+        Ok(NamedBits::new(bits))
     }
 }
 

@@ -100,6 +100,20 @@ pub(crate) fn expect_rows<T: Encode + Decode + PartialEq + Debug>(
     }
 }
 
+/// Some value of the type is read from these octets, and written as others, in the variant of a codec.
+pub(crate) fn expect_recoded<T: Encode + Decode>(
+    rt: &impl Abort,
+    alloc: Global,
+    codec: Codec,
+    octets: &[u8],
+    written: &[u8],
+) {
+    match decode::<T>(alloc, codec, octets) {
+        Ok(value) => expect_written(rt, alloc, codec, &value, written),
+        Err(error) => assert!(rt; false, "{octets:?}: {error:?}"),
+    }
+}
+
 /// Some value of the type is read from these octets, and written as them, in the variant of a codec.
 pub(crate) fn expect_value<T: Encode + Decode>(
     rt: &impl Abort,
@@ -107,10 +121,7 @@ pub(crate) fn expect_value<T: Encode + Decode>(
     codec: Codec,
     octets: &[u8],
 ) {
-    match decode::<T>(alloc, codec, octets) {
-        Ok(value) => expect_written(rt, alloc, codec, &value, octets),
-        Err(error) => assert!(rt; false, "{octets:?}: {error:?}"),
-    }
+    expect_recoded::<T>(rt, alloc, codec, octets, octets);
 }
 
 /// These octets are refused in the variant of a codec, each for the reason beside it.

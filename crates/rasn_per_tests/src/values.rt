@@ -1,14 +1,15 @@
 //! Values of types that the program doesn't take, and the octets of their complete encodings.
 
-use crate::expected::{BOTH, expect_rows, expect_value, expect_variants};
+use crate::expected::{BOTH, expect_recoded, expect_rows, expect_value, expect_variants};
 use its_header::speed::Speed;
 use per_samples_a::alternative::{Alternative, ZeroTo7};
 use per_samples_a::nested::Nested;
 use per_samples_a::pair::Pair;
+use per_samples_a::signals::Signals;
 use per_samples_a::some_absent::SomeAbsent;
 use rasn_below::types::{
-    Any, BmpString, Codec, GeneralString, GraphicString, Ia5String, NumericString, PrintableString,
-    TeletexString, Utf8String, VisibleString,
+    Any, BmpString, Codec, GeneralString, GraphicString, Ia5String, NamedBits, NumericString,
+    PrintableString, TeletexString, Utf8String, VisibleString,
 };
 
 #[test]
@@ -32,6 +33,23 @@ fn writes_and_reads_characters(rt: HostRuntime) {
     expect_value::<NumericString>(&rt, rt.alloc(), Codec::Uper, &[0x02, 0x1a]);
     expect_value::<BmpString>(&rt, rt.alloc(), Codec::Uper, &[0x01, 0x04, 0x16]);
     expect_value::<BmpString>(&rt, rt.alloc(), Codec::Aper, &[0x01, 0x20, 0xac]);
+}
+
+/// Bits that have names are written without the zero bits at their end, as another compiler writes them (X.691 16.2).
+#[test]
+fn writes_and_reads_named_bits(rt: HostRuntime) {
+    let past_the_size = &[0x80, 0x01, 0xc0, 0x06, 0x06, 0x04];
+    expect_value::<Signals>(&rt, rt.alloc(), Codec::Aper, past_the_size);
+    expect_value::<Signals>(&rt, rt.alloc(), Codec::Aper, &[0x80, 0x02, 0x48, 0x28]);
+    let with_zeros = &[0x82, 0x26, 0x20, 0x40];
+    expect_recoded::<Signals>(
+        &rt,
+        rt.alloc(),
+        Codec::Uper,
+        with_zeros,
+        &[0x81, 0x24, 0xa0],
+    );
+    expect_recoded::<NamedBits>(&rt, rt.alloc(), Codec::Uper, &[0x04, 0x40], &[0x02, 0x40]);
 }
 
 /// The length of an INTEGER is padded before in the ALIGNED variant (X.691 11.9.3.5).

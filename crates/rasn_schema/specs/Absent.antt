@@ -1,5 +1,5 @@
 -- What an `Option` is as a value: what it holds, or no value of any type.
-use Rattle.std.specs.Prelude.{◌≡◌, refl, ℕ, false, Option, Some, None, pos}
+use Rattle.std.specs.Prelude.{◌≡◌, refl, ℕ, true, false, Option, Some, None, pos}
 use Rattle.rasn_types.specs.Values.{Value, day}
 use Rattle.rasn_schema.specs.Lawful.{if_bag, is_value}
 use Rattle.rasn_schema.specs.Normal.{normal, over_bag}
@@ -27,6 +27,8 @@ normal_none (Schema.list e size mark) = refl
 normal_none (Schema.set_of e size mark) = refl
 normal_none (Schema.sequence o ps ext adds) = refl
 normal_none (Schema.choice ps adds ext) = refl
+normal_none (Schema.bit_string size mark false) = refl
+normal_none (Schema.bit_string size mark true) = refl
 normal_none _ = refl
 
 -- and is no value of any schema
@@ -44,7 +46,7 @@ none_is_none Schema.date = refl
 none_is_none (Schema.number bounds mark range) = refl
 none_is_none (Schema.items r e ext) = refl
 none_is_none (Schema.octet_string size mark) = refl
-none_is_none (Schema.bit_string size mark) = refl
+none_is_none (Schema.bit_string size mark named) = refl
 none_is_none (Schema.char_string alphabet size mark) = refl
 none_is_none (Schema.list e size mark) = refl
 none_is_none (Schema.set_of e size mark) = refl

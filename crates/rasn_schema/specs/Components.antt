@@ -16,8 +16,8 @@ use Rattle.rasn_schema.specs.Schemas.{no_parts, part, listed}
 use Rattle.rasn_schema.specs.Choices.{VariantShape, VariantShapes, choice_at, choice_levelled, trees_in}
 use Rattle.rasn_schema.specs.Choices.{variants_behind, variants_of}
 use Rattle.rasn_schema.specs.Fields.{Shape, Shapes, field_tag, presence_of, shapes_from}
-use Rattle.rasn_schema.specs.Forms.{number_schema, octet_schema, bit_schema, character_schema, size_of, is_size_marked}
-use Rattle.rasn_schema.specs.Forms.{always}
+use Rattle.rasn_schema.specs.Forms.{number_schema, octet_schema, bit_schema, named_bit_schema, character_schema}
+use Rattle.rasn_schema.specs.Forms.{size_of, is_size_marked, always}
 use Rattle.rasn_schema.specs.Levels.{TakesNone, Levelled, LevelledParts, simple_levelled, parts_levelled, part_levelled}
 use Rattle.rasn_schema.specs.Levels.{record_levelled}
 use Rattle.rasn_schema.specs.Lists.{list_at, list_fits, list_levelled}
@@ -332,6 +332,10 @@ integer type c = simple 2 (number_schema c type) tt refl
 -- BIT STRING
 abbrev pub bit_string : Constraints → Component
 bit_string c = simple 3 (bit_schema c) tt refl
+
+-- BIT STRING whose bits have names (X.680 22.7)
+abbrev pub named_bits : Constraints → Component
+named_bits c = simple 3 (named_bit_schema c) tt refl
 
 -- OCTET STRING
 abbrev pub octet_string : Constraints → Component

@@ -1,10 +1,9 @@
 -- The schemas that the constraints of a type make of its kind, and families of schemas in which no other stands.
-use Rattle.std.specs.Prelude.{ℕ, ◌≡◌, Bool, false, List, refl}
+use Rattle.std.specs.Prelude.{ℕ, ◌≡◌, Bool, true, false, List, refl}
 use Rattle.rasn_types.specs.Values.{Value}
 use Rattle.rasn_schema.specs.Schemas
 use Rattle.rasn_constraints.specs.Bounds.{Bounds, Size}
 use Rattle.rasn_schema.specs.Schemas.{Schema}
-use Rattle.rasn_schema.specs.Normal.{normal}
 use Rattle.rasn_schema.specs.Depth.{IsLeaf, CutOf, Unfolds, meets_cut}
 use Rattle.rasn_constraints.specs.Constraints.{bounds_in, size_in, is_marked, permitted}
 use Rattle.rasn_constraints.specs.declared.constraints.Constraints.{Constraints}
@@ -33,7 +32,11 @@ octet_schema c = Schema.octet_string (size_of c) (is_size_marked c)
 
 -- X.691 16: BIT STRING under the first size constraint, with its mark
 abbrev pub bit_schema : Constraints → Schema
-bit_schema c = Schema.bit_string (size_of c) (is_size_marked c)
+bit_schema c = Schema.bit_string (size_of c) (is_size_marked c) false
+
+-- X.680 22.7, X.691 16.2: BIT STRING whose bits have names, under the first size constraint, with its mark
+abbrev pub named_bit_schema : Constraints → Schema
+named_bit_schema c = Schema.bit_string (size_of c) (is_size_marked c) true
 
 -- X.691 30.5: a known-multiplier string of a type with these characters, under the first size constraint, with its
 -- mark, and the first permitted alphabet
@@ -66,34 +69,13 @@ simple_uncut (Schemas.time k) h v = refl
 simple_uncut (Schemas.number b m r) h v = refl
 simple_uncut (Schemas.items r e x) h v = refl
 simple_uncut (Schemas.octet_string z m) h v = refl
-simple_uncut (Schemas.bit_string z m) h v = refl
+simple_uncut (Schemas.bit_string z m n) h v = refl
 simple_uncut (Schemas.char_string a z m) h v = refl
 simple_uncut Schemas.cut h v = absurd h
 simple_uncut (Schemas.list e z m) h v = absurd h
 simple_uncut (Schemas.set_of e z m) h v = absurd h
 simple_uncut (Schemas.sequence o p x a) h v = absurd h
 simple_uncut (Schemas.choice p a x) h v = absurd h
-
-pub simple_normal : (s : Schema) → IsSimple s → (v : Value) → normal s v ≡ v
-unfolding normal
-simple_normal Schemas.boolean h v = refl
-simple_normal Schemas.null h v = refl
-simple_normal Schemas.real h v = refl
-simple_normal Schemas.any h v = refl
-simple_normal Schemas.identifier h v = refl
-simple_normal Schemas.date h v = refl
-simple_normal (Schemas.text k) h v = refl
-simple_normal (Schemas.time k) h v = refl
-simple_normal (Schemas.number b m r) h v = refl
-simple_normal (Schemas.items r e x) h v = refl
-simple_normal (Schemas.octet_string z m) h v = refl
-simple_normal (Schemas.bit_string z m) h v = refl
-simple_normal (Schemas.char_string a z m) h v = refl
-simple_normal Schemas.cut h v = absurd h
-simple_normal (Schemas.list e z m) h v = absurd h
-simple_normal (Schemas.set_of e z m) h v = absurd h
-simple_normal (Schemas.sequence o p x a) h v = absurd h
-simple_normal (Schemas.choice p a x) h v = absurd h
 
 -- what such a family owes
 pub simple_unfolds : (s : Schema) → IsSimple s → Unfolds (always s)

@@ -188,7 +188,7 @@ unfoldable mutual
   is_value (Schema.number bounds mark range) = if_whole range
   is_value (Schema.items r e ext) = if_item r e
   is_value (Schema.octet_string size mark) = if_octets (λ os. true)
-  is_value (Schema.bit_string size mark) = if_bits
+  is_value (Schema.bit_string size mark named) = if_bits
   is_value (Schema.char_string alphabet size mark) = if_characters (λ cs. true)
   is_value (Schema.list e size mark) = if_elements (is_value e)
   is_value (Schema.set_of e size mark) = if_bag (is_value e)
@@ -237,7 +237,7 @@ unfoldable mutual
   pub IsLawful : Schema → Type 0
   IsLawful (Schema.number bounds mark range) = are_lawful_bounds bounds.low bounds.high ≡ true
   IsLawful (Schema.octet_string size mark) = is_lawful_size size.least size.most ≡ true
-  IsLawful (Schema.bit_string size mark) = is_lawful_size size.least size.most ≡ true
+  IsLawful (Schema.bit_string size mark named) = is_lawful_size size.least size.most ≡ true
   IsLawful (Schema.char_string alphabet size mark) = is_lawful_size size.least size.most ≡ true
   IsLawful (Schema.list e size mark) = (is_lawful_size size.least size.most ≡ true) × IsLawful e
   IsLawful (Schema.set_of e size mark) = (is_lawful_size size.least size.most ≡ true) × IsLawful e

@@ -1,8 +1,12 @@
--- The normal form of a value: no addition group that holds nothing (ITU-T X.691, 19.9), and the same at every depth.
-use Rattle.std.specs.Prelude.{ℕ, zero, suc, Bool, true, false, if◌then◌else◌, ◌&&◌, List, [], ◌∷◌, map, Option, Some}
-use Rattle.std.specs.Prelude.{None}
-use Rattle.rasn_types.specs.Values.{Value, elements, bag, fields, alternative, root, added, values, as_values, slots}
-use Rattle.rasn_types.specs.Values.{as_slots, same, bag_of}
+-- The normal form of a value: no addition group that holds nothing (ITU-T X.691, 19.9), named bits without zero bits at
+-- their end but those that the size asks for (16.2), and the same at every depth.
+use Rattle.std.specs.Prelude.{ℕ, zero, suc, ◌^◌, Bool, true, false, if◌then◌else◌, ◌&&◌, nat_lt, List, [], ◌∷◌, map}
+use Rattle.std.specs.Prelude.{Option, Some, None}
+use Rattle.rasn_types.specs.Bits.{Bits}
+use Rattle.rasn_types.specs.Trimmed.{filled_up, trimmed}
+use Rattle.rasn_types.specs.Values.{Value, bits, elements, bag, fields, alternative, root, added, values, as_values}
+use Rattle.rasn_types.specs.Values.{slots, as_slots, same, bag_of}
+use Rattle.rasn_constraints.specs.Bounds.{Size}
 use Rattle.rasn_schema.specs.Schemas.{Presence, required, optional, group, default, Schema, Parts, no_parts, part}
 
 -- X.691 19.5, 19.9: whether a part in normal form is absent, or at its default; a required part never is
@@ -53,6 +57,22 @@ each_slot f g [] = []
 each_slot f g (None ∷ xs) = None ∷ g xs
 each_slot f g (Some v ∷ xs) = f v ∷ g xs
 
+-- X.680 22.7, X.691 16.2: named bits without the zero bits at their end, and then with zero bits up to the least count,
+-- where that is no more than `usize::MAX` (this project's limit)
+abbrev pub normal_bits : Option ℕ → Bits → Bits
+normal_bits None bs = trimmed bs
+normal_bits (Some l) bs = if nat_lt l (2 ^ 64) then filled_up l (trimmed bs) else trimmed bs
+
+-- the bits of a BIT STRING
+abbrev pub over_bits : (Bits → Bits) → Value → Value
+over_bits f (bits bs) = bits (f bs)
+over_bits f v = v
+
+-- X.680 22.7: the bits of a BIT STRING, where they have names
+abbrev pub if_named : Bool → Size → Value → Value
+if_named false size = λ v. v
+if_named true size = over_bits (normal_bits size.least)
+
 -- each element of a list
 abbrev pub over_elements : (Value → Value) → Value → Value
 over_elements f (elements vs) = elements (as_values (map f (values vs)))
@@ -79,8 +99,9 @@ over_alternative f g v = v
 unfoldable mutual
   unfolding settle over_bag
 
-  -- X.691 19.9: the normal form of a value along its schema, made from the innermost outwards
+  -- X.691 16.2, 19.9: the normal form of a value along its schema, made from the innermost outwards
   pub normal : Schema → Value → Value
+  normal (Schema.bit_string size mark named) = if_named named size
   normal (Schema.list e size mark) = over_elements (normal e)
   normal (Schema.set_of e size mark) = over_bag (normal e)
   normal (Schema.sequence o ps ext adds) = over_fields (normals ps) (normals adds)

@@ -55,7 +55,7 @@ pub data Order : Type 0 where
 
 mutual
   -- X.680 8.1, X.691 10.3: a type with its effective constraints. `marked` says that the constraint is extensible,
-  -- `extensible` that the type has an extension marker.
+  -- `extensible` that the type has an extension marker, `named` that bits have names (X.680 22.1).
   pub data Schema : Type 0 where
     -- X.691 12, 18, 15, 11.2, 24, 32: BOOLEAN; NULL; REAL; octets of a type that isn't known; OBJECT IDENTIFIER; DATE;
     -- and `cut`, where the tree is cut off and nothing has an encoding
@@ -71,7 +71,7 @@ mutual
     -- X.691 17: OCTET STRING
     octet_string : Size → (marked : Bool) → Schema
     -- X.691 16: BIT STRING
-    bit_string : Size → (marked : Bool) → Schema
+    bit_string : Size → (marked named : Bool) → Schema
     -- X.691 30.5: a known-multiplier string over its permitted characters, in ascending order
     char_string : (alphabet : List ℕ) → Size → (marked : Bool) → Schema
     -- X.691 20: SEQUENCE OF

@@ -17,7 +17,7 @@ use Rattle.rasn_schema.specs.Records.{record_at}
 abbrev pub universal_numbers : Schema → List ℕ
 universal_numbers Schemas.boolean = 1 ∷ []
 universal_numbers (Schemas.number b m r) = 2 ∷ []
-universal_numbers (Schemas.bit_string z m) = 3 ∷ []
+universal_numbers (Schemas.bit_string z m n) = 3 ∷ []
 universal_numbers (Schemas.octet_string z m) = 4 ∷ []
 universal_numbers Schemas.null = 5 ∷ []
 universal_numbers Schemas.identifier = 6 ∷ []

@@ -9,13 +9,14 @@ ghost use Rattle.rasn_types.specs.declared.types.TheConstants.Tag.{OCTET_STRING,
 ghost use Rattle.rasn_schema.specs.Fields.{tagged};
 ghost use Rattle.rasn_schema.specs.Schemas.{Schema};
 ghost use Rattle.rasn_constraints.specs.Ranges.{no_constraints};
-ghost use Rattle.rasn_schema.specs.Forms.{octet_schema, bit_schema, always};
+ghost use Rattle.rasn_schema.specs.Forms.{octet_schema, bit_schema, named_bit_schema, always};
 ghost use Rattle.rasn_schema.specs.Levels.{TakesNone, simple_levelled};
 ghost use Rattle.rasn_schema.specs.Tags.{AreTagsOf, IsTagOf};
 
 use crate::fields::{TagTree, TypeTree};
 use crate::schema::{AsnType, Constraints};
 use rasn_types::bit_string::BitString;
+use rasn_types::named_bits::NamedBits;
 use rasn_types::octet_strings::{
     AnyKind, GeneralKind, GraphicKind, OctetStringKind, OctetsOf, TeletexKind,
 };
@@ -160,6 +161,32 @@ impl AsnType for BitString {
     ghost value = { bits };
 
     ghost levelled = { λ c. simple_levelled (bit_schema c) tt };
+
+    ghost tag_fits = { λ _ _. refl };
+
+    ghost tree_fits = { λ _ _. (refl, refl) };
+}
+
+impl AsnType for NamedBits {
+    const TAG: Tag = Tag::BIT_STRING;
+
+    ghost TAG = { BIT_STRING };
+
+    const TAG_TREE: TypeTree = TypeTree(TagTree::Leaf(Tag::BIT_STRING));
+
+    ghost TAG_TREE = { Some (tagged BIT_STRING) };
+
+    const IS_CHOICE: bool = false;
+
+    const CONSTRAINTS: Constraints = Constraints::NONE;
+
+    ghost CONSTRAINTS = { no_constraints };
+
+    ghost schema = { λ c. always (named_bit_schema c) };
+
+    ghost value = { bits };
+
+    ghost levelled = { λ c. simple_levelled (named_bit_schema c) tt };
 
     ghost tag_fits = { λ _ _. refl };
 

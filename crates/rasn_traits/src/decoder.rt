@@ -9,8 +9,8 @@ ghost use Rattle.rasn_types.specs.Values.{Side, truth, nothing, whole, octets, b
 ghost use Rattle.rasn_constraints.specs.Bounds.{Size};
 ghost use Rattle.rasn_schema.specs.Canonised.{canonised_at};
 ghost use Rattle.rasn_schema.specs.Schemas.{Schema, listed};
-ghost use Rattle.rasn_schema.specs.Forms.{number_schema, octet_schema, bit_schema, character_schema};
-ghost use Rattle.rasn_schema.specs.Forms.{size_of, is_size_marked};
+ghost use Rattle.rasn_schema.specs.Forms.{number_schema, octet_schema, bit_schema, named_bit_schema};
+ghost use Rattle.rasn_schema.specs.Forms.{character_schema, size_of, is_size_marked};
 ghost use Rattle.rasn_schema.specs.Choices.{choices_of};
 ghost use Rattle.rasn_schema.specs.Fields.{tag_of};
 ghost use Rattle.rasn_schema.specs.Records.{record_at, record_value};
@@ -167,6 +167,14 @@ pub trait Decoder: Sized {
         constraints: &Constraints,
     ) -> Result<BitString, Self::Error>
         ensures { Reads rules (bit_schema constraints.now) (λ x. bits x) self.old result self.new };
+
+    /// Reads a BIT STRING under constraints whose bits have names, with the zero bits at its end (X.691 16).
+    fn decode_named_bits(
+        &mut self,
+        tag: Tag,
+        constraints: &Constraints,
+    ) -> Result<BitString, Self::Error>
+        ensures { Reads rules (named_bit_schema constraints.now) (λ x. bits x) self.old result self.new };
 
     /// Reads a string of a known-multiplier type under constraints (X.691 30.5).
     fn decode_known_multiplier_string<S: StaticPermittedAlphabet>(

@@ -7,8 +7,9 @@ ghost use Rattle.rasn_types.specs.Contents.{utf8, other, utc, generalized};
 ghost use Rattle.rasn_types.specs.Values.{truth, nothing, whole, octets, bits, characters};
 ghost use Rattle.rasn_schema.specs.Canonised.{canonised_at};
 ghost use Rattle.rasn_schema.specs.Schemas.{Schema, by_tag, listed};
-ghost use Rattle.rasn_schema.specs.Forms.{number_schema, octet_schema, bit_schema, character_schema};
-ghost use Rattle.rasn_schema.specs.Forms.{size_of, is_size_marked};
+ghost use Rattle.rasn_schema.specs.Forms.{number_schema, octet_schema, bit_schema, named_bit_schema};
+ghost use Rattle.rasn_schema.specs.Forms.{character_schema, size_of, is_size_marked};
+ghost use Rattle.rasn_schema.specs.Normal.{normal};
 ghost use Rattle.rasn_schema.specs.Records.{record_at, record_value};
 ghost use Rattle.rasn_traits.specs.Absent.{WritesAbsent};
 ghost use Rattle.rasn_traits.specs.Additions.{ClosesAddition, ClosesGroup, OpensAddition, SkipsAddition};
@@ -155,6 +156,18 @@ pub trait Encoder: Sized {
         identifier: Identifier,
     ) -> Result<(), Self::Error>
         ensures { Writes rules (bit_schema constraints.now) (bits value.now) self.old result self.new };
+
+    /// Writes a BIT STRING under constraints whose bits have names: without the zero bits at its end, and then with
+    /// zero bits up to the size's lower bound (X.680 22.7; X.691 16.2). The size counts these bits.
+    fn encode_named_bits(
+        &mut self,
+        tag: Tag,
+        constraints: &Constraints,
+        value: &BitString,
+        identifier: Identifier,
+    ) -> Result<(), Self::Error>
+        ensures { let schema = named_bit_schema constraints.now in
+            Writes rules schema (normal schema (bits value.now)) self.old result self.new };
 
     /// Writes a string of a known-multiplier type under constraints: of each character its code among those that the
     /// type and its permitted alphabet leave (X.691 30.5). The size counts characters.

@@ -12,3 +12,4 @@ pub mod Walking
 pub mod Writing
 pub mod Iterating
 pub mod Orders
+pub mod Trimming

@@ -9,3 +9,4 @@ pub mod Packed
 pub mod Values
 pub mod Variants
 pub mod Identifiers
+pub mod Trimmed

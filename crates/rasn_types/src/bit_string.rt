@@ -1,12 +1,13 @@
 //! Bits kept in octets (X.680 22).
 
 ghost use Rattle.std.specs.Prelude.{◌≡◌, ◌+◌, ◌-◌, ◌*◌, ◌^◌, ◌<◌, ◌≤◌, [], ◌∷◌, ◌++◌, length, take, slice_get, false};
-ghost use Rattle.std.specs.Prelude.{replicate, IfOk, OnOk, OnErr, IsTrue, ◌↔◌};
+ghost use Rattle.std.specs.Prelude.{get_or, replicate, IfOk, OnOk, OnErr, IsTrue, ◌↔◌};
 ghost use Rattle.std.specs.Bool.{beq};
 ghost use Rattle.std.specs.Cmp.{bool_eq_equiv, partial_equiv_from_equiv};
 ghost use Rattle.std.specs.Cmp.Lexicographic.{lists_equiv, pointwise};
 ghost use Rattle.std.specs.Iterator.{YieldsFirst, item_count};
 ghost use Rattle.rasn_types.specs.Bits.{AreOctets, number_of, to_bits, unpack};
+ghost use Rattle.rasn_types.specs.Trimmed.{filled_up, trimmed};
 ghost use Rattle.rasn_types.specs.Packed.{packed, ArePacked};
 
 use std::alloc::{AllocError, Global};
@@ -125,6 +126,38 @@ impl BitString {
             keep_bits(&mut self.octets, len);
             self.len = len;
         }
+    }
+
+    /// Whether the bit at an index is one, the first at 0; no bit is from the length on.
+    pub fn is_set(&self, index: usize) -> bool
+        ensures { result ≡ get_or self.now index false }
+    {
+        self.get(index).unwrap_or(false)
+    }
+
+    /// How many bits there are without the zero bits at their end, which are no part of a value whose bits are named
+    /// (X.680 22.7).
+    pub fn trimmed_len(&self) -> usize
+        ensures { result ≡ length (trimmed self.now) }
+    {
+        let mut len = self.len();
+        while len > 0 && !self.is_set(len - 1) {
+            len -= 1;
+        }
+        len
+    }
+
+    /// The bits without the zero bits at their end, and then with zero bits up to `least` bits, in memory of their own
+    /// (X.680 22.7; X.691 16.2). The only error is want of memory.
+    pub fn trimmed_to(&self, least: usize) -> Result<BitString, AllocError>
+        ensures { IfOk result (λ bits. bits ≡ filled_up least (trimmed self.now)) }
+    {
+        let len = self.trimmed_len();
+        let mut bits = BitString::from_octets(*self.octets.allocator(), self.as_octets(), len)?;
+        for _ in len..least {
+            bits.push(false)?;
+        }
+        Ok(bits)
     }
 
     /// The bits in their order.

@@ -7,6 +7,7 @@ pub mod big;
 pub mod bit_string;
 pub mod integer;
 pub mod laws;
+pub mod named_bits;
 pub mod octet_strings;
 pub mod types;
 pub mod width;

@@ -4,6 +4,7 @@ ghost use Rattle.std.specs.Prelude.{◌≡◌};
 
 pub use crate::big::Integer;
 pub use crate::bit_string::BitString;
+pub use crate::named_bits::NamedBits;
 pub use crate::octet_strings::{
     Any, GeneralString, GraphicString, OctetString, TeletexString, Utf8String,
 };

@@ -68,10 +68,11 @@ leaf_pass (Schema.octet_string z' m') (Schema.octet_string z m) h =
     let a = passed (same_size z' z) other_size (unless (same_truth m' m) other_marker allowed) refl h in
     let c = passed (same_truth m' m) other_marker allowed refl a.1 in
     record { newer = tt; older = tt; succeeds = rw (one_size z' z a.0, one_truth m' m c.0) (succeeds_itself tt) }
-leaf_pass (Schema.bit_string z' m') (Schema.bit_string z m) h =
-    let a = passed (same_size z' z) other_size (unless (same_truth m' m) other_marker allowed) refl h in
+leaf_pass (Schema.bit_string z' m' n') (Schema.bit_string z m n) h =
+    let b = passed (same_truth n' n) other_kind (unless (same_size z' z) other_size (unless (same_truth m' m) other_marker allowed)) refl h in
+    let a = passed (same_size z' z) other_size (unless (same_truth m' m) other_marker allowed) refl b.1 in
     let c = passed (same_truth m' m) other_marker allowed refl a.1 in
-    record { newer = tt; older = tt; succeeds = rw (one_size z' z a.0, one_truth m' m c.0) (succeeds_itself tt) }
+    record { newer = tt; older = tt; succeeds = rw (one_truth n' n b.0, one_size z' z a.0, one_truth m' m c.0) (succeeds_itself tt) }
 leaf_pass (Schema.char_string a' z' m') (Schema.char_string a z m) h =
     let b = passed (equal_lists a' a) other_alphabet (unless (same_size z' z) other_size (unless (same_truth m' m) other_marker allowed)) refl h in
     let c = passed (same_size z' z) other_size (unless (same_truth m' m) other_marker allowed) refl b.1 in

@@ -65,7 +65,7 @@ mutual
   judged_is_lawful Schema.cut h = absurd (cc)
   judged_is_lawful (Schema.number b m r) h = ((passed (are_lawful_bounds b.low b.high) bad_bounds allowed refl h).0, refl)
   judged_is_lawful (Schema.octet_string z m) h = ((passed (is_lawful_size z.least z.most) bad_size allowed refl h).0, refl)
-  judged_is_lawful (Schema.bit_string z m) h = ((passed (is_lawful_size z.least z.most) bad_size allowed refl h).0, refl)
+  judged_is_lawful (Schema.bit_string z m n) h = ((passed (is_lawful_size z.least z.most) bad_size allowed refl h).0, refl)
   judged_is_lawful (Schema.char_string cs z m) h = ((passed (is_lawful_size z.least z.most) bad_size allowed refl h).0, refl)
   judged_is_lawful (Schema.list e z m) h =
       let a = passed (is_lawful_size z.least z.most) bad_size (within in_element (judge e)) refl h in

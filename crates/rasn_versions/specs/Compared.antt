@@ -32,8 +32,9 @@ compare_leaf (Schema.items r' e' x') (Schema.items r e x) =
     (unless (same_truth x' x) other_marker (unless (cond x (nat_le e e') (e' == e)) other_items allowed))
 compare_leaf (Schema.octet_string z' m') (Schema.octet_string z m) =
     unless (same_size z' z) other_size (unless (same_truth m' m) other_marker allowed)
-compare_leaf (Schema.bit_string z' m') (Schema.bit_string z m) =
-    unless (same_size z' z) other_size (unless (same_truth m' m) other_marker allowed)
+compare_leaf (Schema.bit_string z' m' n') (Schema.bit_string z m n) =
+    unless (same_truth n' n) other_kind
+    (unless (same_size z' z) other_size (unless (same_truth m' m) other_marker allowed))
 compare_leaf (Schema.char_string a' z' m') (Schema.char_string a z m) =
     unless (equal_lists a' a) other_alphabet
     (unless (same_size z' z) other_size (unless (same_truth m' m) other_marker allowed))

@@ -50,7 +50,7 @@ abbrev mutual
   judge Schema.cut = no_end
   judge (Schema.number bounds mark range) = unless (are_lawful_bounds bounds.low bounds.high) bad_bounds allowed
   judge (Schema.octet_string size mark) = unless (is_lawful_size size.least size.most) bad_size allowed
-  judge (Schema.bit_string size mark) = unless (is_lawful_size size.least size.most) bad_size allowed
+  judge (Schema.bit_string size mark named) = unless (is_lawful_size size.least size.most) bad_size allowed
   judge (Schema.char_string alphabet size mark) = unless (is_lawful_size size.least size.most) bad_size allowed
   judge (Schema.list e size mark) =
       unless (is_lawful_size size.least size.most) bad_size (within in_element (judge e))
