@@ -5,8 +5,7 @@
 pub use crate::types::{
     Any, BitString, BmpString, Contains, GeneralString, GraphicString, Ia5String, Integer,
     NamedBits, NumericString, ObjectIdentifier, OctetString, OpenType, PrintableString, SetOf,
-    TeletexString,
-    Utf8String, VisibleString,
+    TeletexString, Utf8String, VisibleString,
 };
 pub use crate::{
     Alternatives, AsnType, Bounds, ByKind, ChoiceKind, CodedAlternatives, Components, Constrained,
