@@ -74,8 +74,9 @@ pub fn equal_bytes_exactly_where_normal_forms_are_equal()
 pub fn named_bits_are_bits()
     ensures written { (a : Variant) (size : Size) (mark : Bool) (v : Value) →
         canon a (Schema.bit_string size mark true) v ≡ canon a (Schema.bit_string size mark false) v }
-    ensures read { (a : Settings) (u : Bool) (size : Size) (mark : Bool) (v : Value) →
-        basic_in a u (Schema.bit_string size mark true) v ≡ basic_in a u (Schema.bit_string size mark false) v }
+    ensures read { (a : Settings) (u : Bool) (size : Size) (mark : Bool) (v : Value) (p : ℕ) (b : Bits) →
+        basic_in a u (Schema.bit_string size mark true) v p b
+        ↔ basic_in a u (Schema.bit_string size mark false) v p b }
 {}
 
 /// What is written depends on its position modulo 8 alone: so the bits for eight positions are the bits for all

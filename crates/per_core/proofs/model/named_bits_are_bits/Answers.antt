@@ -9,4 +9,4 @@ returns-clause-written c = λ a size mark v. refl
 
 pub returns-clause-read : goal.returns-clause-read
 unfolding basic_in
-returns-clause-read c = λ a u size mark v. refl
+returns-clause-read c = λ a u size mark v p b. (λ h. h, λ h. h)
