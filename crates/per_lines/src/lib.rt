@@ -6,6 +6,6 @@ pub mod arguments;
 pub mod fault;
 mod line;
 mod output;
-mod recode;
+pub mod recode;
 pub mod replies;
 pub mod run;

@@ -69,7 +69,7 @@ pub fn converted(alloc: Global, arguments: Arguments, octets: &[u8]) -> Result<V
 
 /// The canonical octets of the value that octets spell, of a type and in the variant of a codec.
 #[tactic(auto, unfolding(rasn_below::specs::Types::interval_of))]
-fn recoded(
+pub fn recoded(
     alloc: Global,
     codec: Codec,
     padding: Padding,

@@ -1,0 +1,59 @@
+#!/usr/bin/env python3
+"""Prints the canonical encoding of each message in a file, or why there is none.
+
+usage: recode.py LIBRARY FILE
+
+The lines of the file and the replies are those of check.c. The library is a shared object, made of libper_c.a from `rt
+lib` in crates/per_c, KIT being the folder of the toolchain:
+    cc -shared -o libper.so -Wl,--whole-archive crates/per_c/out/libper_c.a -Wl,--no-whole-archive KIT/c/liblibc_c.a
+"""
+import ctypes
+import os
+import sys
+
+OPTIONS = ("uper", "aper", "uper_zero", "aper_zero")
+OK, NO_ROOM = 0, 4
+u32, size = ctypes.c_uint32, ctypes.c_size_t
+
+
+class Name(ctypes.Structure):
+    """struct per_name"""
+    _fields_ = [("text", ctypes.c_char * 32)]
+
+
+class Codec:
+    """The calls of per.h."""
+
+    def __init__(self, file):
+        self.calls = ctypes.CDLL(os.path.abspath(file))
+        self.calls.per_recode.argtypes = u32, u32, ctypes.c_char_p, size, ctypes.c_char_p, size, ctypes.POINTER(size)
+        self.calls.per_recode.restype = u32
+        for call in (self.calls.per_type_name, self.calls.per_refusal_name):
+            call.argtypes, call.restype = [u32], Name
+        self.types = {}
+        while name := self.calls.per_type_name(len(self.types)).text:
+            self.types[name.decode()] = len(self.types)
+
+    def recode(self, options, type_name, octets, capacity=256):
+        """Returns the canonical encoding of the value that octets spell, or the refusal's name."""
+        asked = OPTIONS.index(options), self.types[type_name], octets, len(octets)
+        out, written = ctypes.create_string_buffer(capacity), size()
+        refusal = self.calls.per_recode(*asked, out, capacity, written)
+        if refusal == NO_ROOM:
+            return self.recode(options, type_name, octets, written.value)
+        return out.raw[:written.value] if refusal == OK else self.calls.per_refusal_name(refusal).text.decode()
+
+
+def main():
+    if len(sys.argv) != 3:
+        sys.exit("usage: recode.py LIBRARY FILE")
+    codec = Codec(sys.argv[1])
+    with open(sys.argv[2], encoding="ascii") as it:
+        for line in it:
+            options, type_name, digits = line.rstrip("\n").split(" ")
+            found = codec.recode(options, type_name, bytes.fromhex(digits))
+            print(found.hex() if isinstance(found, bytes) else f"! {found}")
+
+
+if __name__ == "__main__":
+    main()

@@ -1,0 +1,174 @@
+/*
+ * per.h: a codec for ASN.1's Packed Encoding Rules (ITU-T X.691, 02/2021; sections in parentheses are its own).
+ *
+ * Octets of a stranger go in; out comes whether they are an encoding of a value of a type, and the one canonical
+ * encoding of that value, or why not. Each call is proved to answer so, for any octets (crates/per_c/src/calls.rt).
+ *
+ * Of a caller:
+ * - A pointer with a count points to so many octets that nothing else changes during the call; with a count of 0 it may
+ *   be NULL. A count is at most PTRDIFF_MAX. What a call writes to overlaps nothing else that it is given.
+ * - Calls take memory by `malloc` and `realloc`, those of the C library, and give all of it back by `free` before they
+ *   return. Where memory runs out, they answer PER_OUT_OF_MEMORY.
+ * - Calls keep no state, so several threads may make them at once; but no signal handler may, nor the forked child of a
+ *   process with threads.
+ */
+#ifndef PER_H
+#define PER_H
+
+#include <stddef.h>
+#include <stdint.h>
+
+#ifdef __cplusplus
+extern "C" {
+#endif
+
+/** The variant (7), and which padding and spare bits are read. A canonical encoding has zeros there. */
+enum per_options {
+    PER_UNALIGNED = 0, /* UNALIGNED; padding of any value. */
+    PER_ALIGNED = 1, /* ALIGNED; padding of any value. */
+    PER_UNALIGNED_ZERO_PADDED = 2, /* UNALIGNED; padding must be zero, else PER_DECODE_PARSER_FAIL. */
+    PER_ALIGNED_ZERO_PADDED = 3 /* ALIGNED; padding must be zero, else PER_DECODE_PARSER_FAIL. */
+};
+
+/** Why a call has no answer. A later version may add codes behind these, and changes none. */
+enum per_refusal {
+    PER_OK = 0, /* There is an answer. */
+    PER_OUT_OF_MEMORY = 1, /* Memory ran out. */
+    PER_UNKNOWN_OPTIONS = 2, /* The options are none of `enum per_options`. */
+    PER_UNKNOWN_TYPE = 3, /* The number is none of `enum per_type`'s. */
+    PER_NO_ROOM = 4, /* The canonical encoding is longer than the room for it. */
+
+    /* Octets are no encoding of a value of the type. */
+    PER_DECODE_INCOMPLETE = 5, /* The octets end within a field. */
+    PER_DECODE_PARSER_FAIL = 6, /* The bits spell no value of any type. */
+    PER_DECODE_UNEXPECTED_EXTRA_DATA = 7, /* Whole octets are left over, at the end or in an open type (11.1, 11.2). */
+    PER_DECODE_MISSING_TAG = 8, /* A part was asked for out of turn. */
+    PER_DECODE_TYPE_NOT_EXTENSIBLE = 9, /* An addition was asked for in a type that has none. */
+    PER_DECODE_EXCEEDS_MAX_LENGTH = 10, /* There are more items than can be counted. */
+    PER_DECODE_INTEGER_OVERFLOW = 11, /* A number doesn't fit its type. */
+    PER_DECODE_SIZE_CONSTRAINT_NOT_SATISFIED = 12, /* The size of a string or a list is outside its bounds. */
+    PER_DECODE_VALUE_CONSTRAINT_NOT_SATISFIED = 13, /* A number is outside its bounds. */
+    PER_DECODE_PERMITTED_ALPHABET = 14, /* No permitted character has the code (30.5). */
+    PER_DECODE_ENUMERATION_INDEX_NOT_FOUND = 15, /* The type has no such item (14). */
+    PER_DECODE_CHOICE_INDEX_NOT_FOUND = 16, /* The type has no such alternative (23). */
+    PER_DECODE_CHOICE_INDEX_EXCEEDS_PLATFORM_WIDTH = 17, /* The index of an alternative is past 64 bits (23). */
+    PER_DECODE_REQUIRED_EXTENSION_NOT_PRESENT = 18, /* A required addition is absent (19). */
+    PER_DECODE_EXCEEDS_MAX_PARSE_DEPTH = 19, /* Values stand deeper inside one another than 128 levels. */
+    PER_DECODE_STRING_CONVERSION_FAILED = 20, /* The octets of a UTF8String aren't UTF-8. */
+    PER_DECODE_INVALID_DATE = 21, /* There is no such day. */
+    PER_DECODE_REAL_NOT_SUPPORTED = 22, /* REAL is not supported. */
+    PER_DECODE_BELOW = 23, /* An object identifier or a time is malformed. */
+    PER_DECODE_UNEXPECTED_EMPTY_INPUT = 24, /* A number has no octets (11.8). */
+    PER_DECODE_ALREADY_FAILED = 25, /* The decoder had refused before. */
+
+    /* A value has no canonical encoding. */
+    PER_ENCODE_SIZE_CONSTRAINT_NOT_SATISFIED = 26, /* The size of a string or a list is outside its bounds. */
+    PER_ENCODE_VALUE_CONSTRAINT_NOT_SATISFIED = 27, /* A number is outside its bounds (13). */
+    PER_ENCODE_ALPHABET_CONSTRAINT_NOT_SATISFIED = 28, /* A character is not permitted (30.5). */
+    PER_ENCODE_INTEGER_TYPE_CONVERSION_FAILED = 29, /* A number lies within its bounds but is past 128 bits. */
+    PER_ENCODE_VARIANT_NOT_IN_CHOICE = 30, /* A tag is none of an alternative's (23). */
+    PER_ENCODE_REAL_NOT_SUPPORTED = 31, /* REAL is not supported. */
+    PER_ENCODE_TOO_MANY_ADDITIONS = 32, /* A record has more additions than its schema lists (19). */
+    PER_ENCODE_BELOW = 33, /* An identifier or a time has no encoding. */
+    PER_ENCODE_ALREADY_FAILED = 34, /* The encoder had refused before. */
+    PER_ENCODE_OUT_OF_TURN = 35 /* A part was presented out of turn. */
+};
+
+/** The types, as docs/TYPES.md describes them. A later version may add types behind these, and changes none. */
+enum per_type {
+    PER_TYPE_BOOLEAN = 0,
+    PER_TYPE_NULL = 1,
+    PER_TYPE_INTEGER = 2,
+    PER_TYPE_UPTO = 3,
+    PER_TYPE_FROM = 4,
+    PER_TYPE_NATURAL = 5,
+    PER_TYPE_I65536 = 6,
+    PER_TYPE_IEXT = 7,
+    PER_TYPE_FOUR = 8,
+    PER_TYPE_SEVEN = 9,
+    PER_TYPE_DEFAULT = 10,
+    PER_TYPE_VIS = 11,
+    PER_TYPE_FIVE = 12,
+    PER_TYPE_BITS = 13,
+    PER_TYPE_OCTETS = 14,
+    PER_TYPE_ONLYX = 15,
+    PER_TYPE_ITEMS = 16,
+    PER_TYPE_BYTE = 17,
+    PER_TYPE_EMPTY = 18,
+    PER_TYPE_NESTED = 19,
+    PER_TYPE_NEST = 20,
+    PER_TYPE_DEEP = 21,
+    PER_TYPE_BYTES = 22,
+    PER_TYPE_NULLS = 23,
+    PER_TYPE_NULLLIST = 24,
+    PER_TYPE_ELEMENTS = 25,
+    PER_TYPE_OUTER1 = 26,
+    PER_TYPE_OUTER2 = 27,
+    PER_TYPE_OUTER3 = 28,
+    PER_TYPE_GROUP = 29,
+    PER_TYPE_NEED0 = 30,
+    PER_TYPE_NEED = 31,
+    PER_TYPE_ADDD = 32,
+    PER_TYPE_REL1 = 33,
+    PER_TYPE_REL3 = 34,
+    PER_TYPE_DV1 = 35,
+    PER_TYPE_DV2 = 36,
+    PER_TYPE_GRP1 = 37,
+    PER_TYPE_GRP2 = 38,
+    PER_TYPE_COL1 = 39,
+    PER_TYPE_COL2 = 40,
+    PER_TYPE_DEF1 = 41,
+    PER_TYPE_DEF3 = 42,
+    PER_TYPE_ALT1 = 43,
+    PER_TYPE_ALT2 = 44,
+    PER_TYPE_ALTERNATIVES = 45,
+    PER_TYPE_MANY = 46,
+    PER_TYPE_BAG = 47,
+    PER_TYPE_UTC = 48,
+    PER_TYPE_CONNECT = 49,
+    PER_TYPE_SET = 50,
+    PER_TYPE_SETOPT = 51,
+    PER_TYPE_SETCHOICE = 52,
+    PER_TYPE_DATE = 53,
+    PER_TYPE_DNEST = 54
+};
+
+/** How many types there are. */
+#define PER_TYPES 55
+
+/** A text of at most 31 octets, with zeros behind it. */
+struct per_name {
+    char text[32];
+};
+
+/**
+ * Whether `count` octets are a complete encoding (11.1), canonical or not, of a value of a type, and this value has a
+ * canonical encoding.
+ *
+ * Returns PER_OK where they are, else the code of a refusal that stands: of `enum per_refusal`, but PER_NO_ROOM.
+ * `options` is one of `enum per_options`, `type` of `enum per_type`.
+ */
+uint32_t per_check(uint32_t options, uint32_t type, const uint8_t *octets, size_t count);
+
+/**
+ * The canonical encoding of the value that `count` octets spell, as `per_check` reads them.
+ *
+ * Returns PER_OK, with the encoding in the first `*written` of the `capacity` octets at `out`; or PER_NO_ROOM, where
+ * it has `*written` octets, which are more than `capacity`; or the code of another refusal, with 0 in `*written`. The
+ * other octets at `out`, and in these two cases all of them, stay as they were. With a `capacity` of 0 only the length
+ * is asked for.
+ */
+uint32_t per_recode(uint32_t options, uint32_t type, const uint8_t *octets, size_t count, uint8_t *out, size_t capacity,
+                    size_t *written);
+
+/** The word that names a type in docs/TYPES.md, by its number, as "integer"; empty where there is no such type. */
+struct per_name per_type_name(uint32_t type);
+
+/** The name of a refusal, by its code, as "OutOfMemory"; empty where it is the code of none. */
+struct per_name per_refusal_name(uint32_t code);
+
+#ifdef __cplusplus
+}
+#endif
+
+#endif

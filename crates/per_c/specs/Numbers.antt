@@ -1,0 +1,115 @@
+-- The numbers by which a caller in C says what it asks for, and those of refusals.
+use Rattle.std.specs.Prelude.{ℕ, ◌-◌, List, [], ◌∷◌, ◌++◌, length, replicate, codes}
+use Rattle.rasn_below.specs.Rows.{Codec, Aper, Uper}
+use Rattle.per_lines.specs.declared.arguments.TypeName.TheVariants.{Boolean, Null, Integer, UpTo65535, FromMinusOne}
+use Rattle.per_lines.specs.declared.arguments.TypeName.TheVariants.{Natural, ZeroTo65536, OneToTenExtensible, Four}
+use Rattle.per_lines.specs.declared.arguments.TypeName.TheVariants.{Seven, OneDefault, ShortVisible, LettersAToE}
+use Rattle.per_lines.specs.declared.arguments.TypeName.TheVariants.{BitString, OctetString, OnlyX, Items, Byte}
+use Rattle.per_lines.specs.declared.arguments.TypeName.TheVariants.{MaybeEmpty, Nested, Nest, Deep, Bytes, Nulls}
+use Rattle.per_lines.specs.declared.arguments.TypeName.TheVariants.{NullList, Elements, Outer1, Outer2, Outer3}
+use Rattle.per_lines.specs.declared.arguments.TypeName.TheVariants.{Grouped, NoneNeeded, OneNeeded, AddedDefault}
+use Rattle.per_lines.specs.declared.arguments.TypeName.TheVariants.{Outers1, Outers3, BeforeNest, AddedNest, Grouped1}
+use Rattle.per_lines.specs.declared.arguments.TypeName.TheVariants.{Grouped2, OneColor, TwoColors, DefaultOuter1}
+use Rattle.per_lines.specs.declared.arguments.TypeName.TheVariants.{DefaultOuter3, OneAlternative, TwoAlternatives}
+use Rattle.per_lines.specs.declared.arguments.TypeName.TheVariants.{Alternatives, Many, Bag, UtcTime, Connect, Set}
+use Rattle.per_lines.specs.declared.arguments.TypeName.TheVariants.{SetOptional, SetChoice, Date, DatedNest}
+use Rattle.per_lines.specs.declared.arguments.TypeName.{TypeName}
+use Rattle.per_lines.specs.declared.arguments.Padding.{Padding}
+use Rattle.per_lines.specs.declared.arguments.Padding.TheVariants as Paddings
+use Rattle.per_lines.specs.declared.fault.Fault.{Fault}
+use Rattle.per_lines.specs.declared.fault.Fault.TheVariants as Faults
+use Rattle.per_read.specs.Names.{name_of as decode_name}
+use Rattle.per_read.specs.declared.error.DecodeErrorKind.{DecodeErrorKind}
+use Rattle.per_read.specs.declared.error.DecodeErrorKind.TheVariants as Decoding
+use Rattle.per_write.specs.Names.{name_of as encode_name}
+use Rattle.per_write.specs.declared.error.EncodeErrorKind.{EncodeErrorKind}
+use Rattle.per_write.specs.declared.error.EncodeErrorKind.TheVariants as Encoding
+use Rattle.per_c.specs.declared.refusal.Refusal.{Refusal}
+use Rattle.per_c.specs.declared.refusal.Refusal.TheVariants.{OutOfMemory, UnknownOptions, UnknownType, NoRoom, Decode, Encode}
+
+-- X.691 7: a variant, and padding and spare bits of any value or of zeros alone
+abbrev pub options_number : Codec → Padding → ℕ
+options_number Uper Paddings.Any = 0
+options_number Aper Paddings.Any = 1
+options_number Uper Paddings.Zero = 2
+options_number Aper Paddings.Zero = 3
+
+-- the types, each at its number, from 0 on
+abbrev pub types : List TypeName
+types =
+    Boolean ∷ Null ∷ Integer ∷ UpTo65535 ∷ FromMinusOne ∷ Natural ∷ ZeroTo65536 ∷ OneToTenExtensible ∷ Four ∷ Seven ∷
+    OneDefault ∷ ShortVisible ∷ LettersAToE ∷ BitString ∷ OctetString ∷ OnlyX ∷ Items ∷ Byte ∷ MaybeEmpty ∷ Nested ∷
+    Nest ∷ Deep ∷ Bytes ∷ Nulls ∷ NullList ∷ Elements ∷ Outer1 ∷ Outer2 ∷ Outer3 ∷ Grouped ∷ NoneNeeded ∷ OneNeeded ∷
+    AddedDefault ∷ Outers1 ∷ Outers3 ∷ BeforeNest ∷ AddedNest ∷ Grouped1 ∷ Grouped2 ∷ OneColor ∷ TwoColors ∷
+    DefaultOuter1 ∷ DefaultOuter3 ∷ OneAlternative ∷ TwoAlternatives ∷ Alternatives ∷ Many ∷ Bag ∷ UtcTime ∷ Connect ∷
+    Set ∷ SetOptional ∷ SetChoice ∷ Date ∷ DatedNest ∷ []
+
+-- the code of a kind of refusal, where a decoder refuses
+abbrev pub decode_code : DecodeErrorKind → ℕ
+decode_code Decoding.OutOfMemory = 1
+decode_code (Decoding.Incomplete missing) = 5
+decode_code (Decoding.ParserFail cause) = 6
+decode_code (Decoding.UnexpectedExtraData octets) = 7
+decode_code Decoding.MissingTag = 8
+decode_code Decoding.TypeNotExtensible = 9
+decode_code Decoding.ExceedsMaxLength = 10
+decode_code (Decoding.IntegerOverflow width) = 11
+decode_code (Decoding.SizeConstraintNotSatisfied count least most) = 12
+decode_code (Decoding.ValueConstraintNotSatisfied number least most) = 13
+decode_code Decoding.PermittedAlphabet = 14
+decode_code (Decoding.EnumerationIndexNotFound index added) = 15
+decode_code (Decoding.ChoiceIndexNotFound index) = 16
+decode_code Decoding.ChoiceIndexExceedsPlatformWidth = 17
+decode_code (Decoding.RequiredExtensionNotPresent tag) = 18
+decode_code Decoding.ExceedsMaxParseDepth = 19
+decode_code Decoding.StringConversionFailed = 20
+decode_code Decoding.InvalidDate = 21
+decode_code Decoding.RealNotSupported = 22
+decode_code Decoding.Below = 23
+decode_code Decoding.UnexpectedEmptyInput = 24
+decode_code Decoding.AlreadyFailed = 25
+
+-- where an encoder does
+abbrev pub encode_code : EncodeErrorKind → ℕ
+encode_code Encoding.OutOfMemory = 1
+encode_code (Encoding.SizeConstraintNotSatisfied count least most) = 26
+encode_code (Encoding.ValueConstraintNotSatisfied number least most) = 27
+encode_code Encoding.AlphabetConstraintNotSatisfied = 28
+encode_code Encoding.IntegerTypeConversionFailed = 29
+encode_code Encoding.VariantNotInChoice = 30
+encode_code Encoding.RealNotSupported = 31
+encode_code Encoding.TooManyAdditions = 32
+encode_code Encoding.Below = 33
+encode_code Encoding.AlreadyFailed = 34
+encode_code Encoding.OutOfTurn = 35
+
+-- the code of a refusal, from 1 on
+abbrev pub code_of : Refusal → ℕ
+code_of OutOfMemory = 1
+code_of UnknownOptions = 2
+code_of UnknownType = 3
+code_of NoRoom = 4
+code_of (Decode kind) = decode_code kind
+code_of (Encode kind) = encode_code kind
+
+abbrev pub last_code : ℕ
+last_code = 35
+
+-- its name, as the program prints a kind's
+abbrev pub name_of : Refusal → List ℕ
+name_of OutOfMemory = codes "OutOfMemory"
+name_of UnknownOptions = codes "UnknownOptions"
+name_of UnknownType = codes "UnknownType"
+name_of NoRoom = codes "NoRoom"
+name_of (Decode kind) = decode_name kind
+name_of (Encode kind) = encode_name kind
+
+-- the refusal of a fault; no others are faults of octets
+abbrev pub refusal_of : Fault → Refusal
+refusal_of (Faults.Decode kind) = Decode kind
+refusal_of (Faults.Encode kind) = Encode kind
+refusal_of _ = OutOfMemory
+
+-- a name as C has it: zeros behind it, 32 octets in all
+abbrev pub in_c : List ℕ → List ℕ
+in_c name = name ++ replicate (32 - length name) 0

@@ -1,0 +1,8 @@
+//! The codec for callers in C: `include/per.h` tells each call.
+#![tactic(auto)]
+
+pub mod answer;
+pub mod calls;
+pub mod name;
+pub mod refusal;
+pub mod request;
