@@ -28,10 +28,10 @@ def functions_in(crate):
     return [f"{crate}::{it.replace('.', '::')}" for it in found]
 
 
-def read_crates():
-    """Returns the crates of crates.txt with the libraries that each names."""
+def read_crates(path=f"{TOP}/crates.txt"):
+    """Returns the crates of a list such as crates.txt with the libraries that each names."""
     crates = {}
-    with open(f"{TOP}/crates.txt", encoding="utf-8") as it:
+    with open(path, encoding="utf-8") as it:
         for line in it:
             head, _, names = line.partition("#")[0].partition(":")
             if head.split():

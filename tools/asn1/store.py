@@ -1,4 +1,5 @@
 """Puts crates into a repository: what this tool wrote there it may write again, and what a person changed it leaves."""
+import collections
 import hashlib
 import os
 import shutil
@@ -8,6 +9,12 @@ from notation import Refused
 
 # The file of a crate that says what the tool wrote there, as `sha256sum` does.
 SUMS = "asn1.sums"
+
+# Where crates stand in a repository: their folder, the list of their lines, and what their files' names end with beside
+# their kind. `rt ci` proves those of CRATES. It stops at .rt and .antt files elsewhere, so those of FURTHER end with .txt.
+Place = collections.namedtuple("Place", "folder lines ending")
+CRATES = Place("crates", "crates.txt", "")
+FURTHER = Place("further", "further/CRATES", ".txt")
 
 
 def read(path):
@@ -40,8 +47,8 @@ def sums_kept(folder):
     return {path: digits for digits, path in (line.split("  ", 1) for line in lines)}
 
 
-def formatted(room, files):
-    """Writes files of crates, by crate and path, into a room of their own, and formats them."""
+def formatted(room, files, ending):
+    """Writes files of crates, by crate and path, into a room of their own, formats them, and puts this behind their names."""
     if not shutil.which("rt"):
         raise Refused("there is no `rt` on the path")
     write(f"{room}/crates.txt", "".join(f"{crate}:\n" for crate in files))
@@ -52,20 +59,22 @@ def formatted(room, files):
         ran = subprocess.run(["rt", "fmt"], cwd=f"{room}/crates/{crate}", **how)
         if ran.returncode:
             raise Refused(f"`rt fmt` refuses the pages of {crate}:\n{ran.stdout.strip()}")
+        for path in texts if ending else ():
+            os.rename(f"{room}/crates/{crate}/{path}", f"{room}/crates/{crate}/{path}{ending}")
 
 
-def expect_unchanged(room, top, crates):
+def expect_unchanged(room, top, crates, place):
     """Refuses where a file of these crates is neither as the tool wrote it nor as it would now."""
     for crate in crates:
-        folder = f"{top}/crates/{crate}"
+        folder = f"{top}/{place.folder}/{crate}"
         kept, now = sums_kept(folder), sums_of(f"{room}/crates/{crate}")
         for path, digits in sorted(sums_of(folder).items()):
             if digits not in (kept.get(path), now.get(path)):
-                raise Refused(f"crates/{crate}/{path} was written or changed by hand: nothing is written")
+                raise Refused(f"{place.folder}/{crate}/{path} was written or changed by hand: nothing is written")
 
 
 def add_lines(path, lines):
-    """Puts lines of crates into crates.txt: in place of those of the same crates, or at its end."""
+    """Puts lines of crates into a list of them: in place of those of the same crates, or at its end."""
     texts = read(path).splitlines() if os.path.exists(path) else []
     for crate, line in lines.items():
         places = [place for place, text in enumerate(texts) if text.split(":")[0].strip() == crate]
@@ -74,12 +83,12 @@ def add_lines(path, lines):
     write(path, "\n".join([*texts, ""]))
 
 
-def put(room, top, files, lines):
-    """Formats the files of crates, and puts them into the repository with their lines of crates.txt."""
-    formatted(room, files)
-    expect_unchanged(room, top, files)
+def put(room, top, files, lines, place=CRATES):
+    """Formats the files of crates, and puts them and their lines into this place of the repository."""
+    formatted(room, files, place.ending)
+    expect_unchanged(room, top, files, place)
     for crate in files:
-        folder, new = f"{top}/crates/{crate}", f"{room}/crates/{crate}"
+        folder, new = f"{top}/{place.folder}/{crate}", f"{room}/crates/{crate}"
         before, now = sums_of(folder), sums_of(new)
         for path in before.keys() - now.keys():
             os.remove(f"{folder}/{path}")
@@ -87,4 +96,4 @@ def put(room, top, files, lines):
             os.makedirs(os.path.dirname(f"{folder}/{path}"), exist_ok=True)
             shutil.copyfile(f"{new}/{path}", f"{folder}/{path}")
         write(f"{folder}/{SUMS}", "".join(f"{digits}  {path}\n" for path, digits in sorted(now.items())))
-    add_lines(f"{top}/crates.txt", lines)
+    add_lines(f"{top}/{place.lines}", lines)
