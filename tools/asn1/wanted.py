@@ -2,7 +2,7 @@
 import collections
 
 from items import Items
-from notation import Refused
+from notation import Refused, needed, read_modules
 
 
 def name_of(word):
@@ -19,6 +19,12 @@ def crate_word(word):
     if not equals or not crate.isidentifier():
         raise Refused(f"--crate {word} isn't written MODULE=CRATE or MODULE.NAME=CRATE")
     return (*name_of(where), crate) if "." in where else (where, "", crate)
+
+
+def modules_wanted(files, types, crates):
+    """Returns the texts of the modules of these files that the words of a call need, by their names."""
+    wanted = [name_of(word)[0] for word in types.split(",")] + [crate_word(word)[0] for word in crates]
+    return needed(read_modules(files), wanted)
 
 
 def wanted_items(modules, types, crates):

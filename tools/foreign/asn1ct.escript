@@ -7,7 +7,7 @@
 %%
 %% FOLDER has MODULE.asn1 of all modules; `compile` puts what it makes of them beside them. RULE is uper or per. VALUES has a
 %% term {Module, Type, Value} for each encoding, LINES a line MODULE TYPE HEXADECIMAL. OUT gets a line for each: hexadecimal
-%% digits, or `!` and what was said.
+%% digits, or `!`, `read` or `write`, and what was said.
 -mode(compile).
 
 main(["compile", Folder, Rule | Modules]) ->
@@ -25,15 +25,22 @@ main(["recode", Folder, Lines, Out]) ->
 
 recoded([Name, TypeName, Digits]) ->
     {Module, Type} = {binary_to_atom(Name), binary_to_atom(TypeName)},
-    {ok, Value} = Module:decode(Type, binary:decode_hex(Digits)),
-    encoded(Module, Type, Value).
+    encoded(Module, Type, did(read, fun() -> Module:decode(Type, binary:decode_hex(Digits)) end)).
 
 encoded(Module, Type, Value) ->
-    {ok, Octets} = Module:encode(Type, Value),
-    string:lowercase(binary:encode_hex(Octets)).
+    string:lowercase(binary:encode_hex(did(write, fun() -> Module:encode(Type, Value) end))).
+
+%% What comes of a call, or what it refuses with its name in front.
+did(What, Call) ->
+    try Call() of
+        {ok, Made} -> Made;
+        {error, Why} -> throw({What, Why})
+    catch
+        error:Why -> throw({What, Why})
+    end.
 
 line(Make) ->
     try Make()
     catch
-        _:Why -> [C || C <- lists:flatten(io_lib:format("! ~0P", [Why, 12])), C >= 32, C < 127]
+        throw:{What, Why} -> [C || C <- lists:flatten(io_lib:format("! ~s ~0P", [What, Why, 12])), C >= 32, C < 127]
     end.

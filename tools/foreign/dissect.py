@@ -9,17 +9,27 @@ from messages import Atom, Bits, leaves
 from repository import Failure
 
 # The dissector of each type of a message.
-DISSECTORS = {"CAM": "its", "DENM": "its", "NGAP-PDU": "ngap", "S1AP-PDU": "s1ap", "BCCH-BCH-Message": "lte_rrc.bcch_bch"}
+DISSECTORS = {
+    "CAM": "its", "DENM": "its", "SPATEM": "its", "NGAP-PDU": "ngap", "S1AP-PDU": "s1ap", "BCCH-BCH-Message": "lte_rrc.bcch_bch",
+    "IFPPacket": "t38_udp",
+}
+# What stands around a message, where that has no dissector of its own: T.38's packet has a number, the message in an open
+# type, and no packet that was sent before.
+AROUND = {"IFPPacket": lambda octets: b"\0\1" + bytes([len(octets)]) + octets + b"\0\0"}
 # What the messages carry is no real message of these.
 CARRIED = ("nas-5gs", "nas-eps")
+# T.38 of 2002, and not of 1998.
+T38 = "t38.use_pre_corrigendum_asn1_specification:FALSE"
 # A capture's head: microseconds, version 2.4, packets of any size, of the link type of exported PDUs.
 HEAD = struct.pack("<IHHiIII", 0xA1B2C3D4, 2, 4, 0, 0, 1 << 18, 252)
 # The tag of a packet's dissector, by its name.
 BY_NAME = 12
 
 
-def packet(dissector, octets):
-    """Returns a packet of a capture: what dissects it, and the octets."""
+def packet(message):
+    """Returns a packet of a capture: what dissects it, and its octets."""
+    dissector, octets = DISSECTORS[message.type], bytes.fromhex(message.octets)
+    octets = AROUND.get(message.type, bytes)(octets)
     name = dissector.encode() + b"\0" * (-len(dissector) % 4)
     body = struct.pack(">HH", BY_NAME, len(name)) + name + struct.pack(">HH", 0, 0) + octets
     return struct.pack("<IIII", 0, 0, len(body), len(body)) + body
@@ -29,8 +39,8 @@ def dissections(folder, messages):
     """Returns the tree that tshark makes of each message."""
     capture = f"{folder}/messages.pcap"
     with open(capture, "wb") as it:
-        it.write(HEAD + b"".join(packet(DISSECTORS[one.type], bytes.fromhex(one.octets)) for one in messages))
-    words = ["tshark", "-r", capture, "-T", "pdml", *(word for it in CARRIED for word in ("--disable-protocol", it))]
+        it.write(HEAD + b"".join(map(packet, messages)))
+    words = ["tshark", "-r", capture, "-T", "pdml", "-o", T38, *(word for it in CARRIED for word in ("--disable-protocol", it))]
     ran = subprocess.run(words, capture_output=True, encoding="utf-8", errors="replace", check=False)
     if ran.returncode:
         raise Failure(f"tshark: status {ran.returncode}\n{ran.stderr[-2000:]}")
@@ -61,7 +71,8 @@ class Node:
         if isinstance(value, Bits):
             return self.is_binary(value)
         if isinstance(value, Atom):
-            return value == "NULL" or plain(self.told.split("(")[0]) == plain(value)
+            is_bit = plain(value) in self.names and self.told.strip() == "True"
+            return is_bit or value == "NULL" or plain(self.told.split("(")[0]) == plain(value)
         if isinstance(value, str):
             return self.show == value
         return str(value) in (self.show, *re.findall(r"\((-?\d+)\)", self.told)) or self.show == f"0x{value:08x}"
@@ -112,12 +123,7 @@ def compared(value, tree):
 
 
 def judged(folder, messages):
-    """Returns each difference, as the place of the message and a text, and how many leaves were compared and how many of them
-    by value alone."""
-    differences, count, by_value = [], 0, 0
-    for place, (message, tree) in enumerate(zip(messages, dissections(folder, messages))):
-        differences += [(place, fault) for fault in faults(tree)]
-        leaves_here, by_value_here, lacking = compared(message.value, tree)
-        differences += [(place, f"{name} {value} isn't shown") for name, value in lacking]
-        count, by_value = count + leaves_here, by_value + by_value_here
-    return differences, count, by_value
+    """Gives of each message how many leaves were compared, how many of them are shown by value alone, and what differs."""
+    for message, tree in zip(messages, dissections(folder, messages) if messages else []):
+        leaves_here, by_value, lacking = compared(message.value, tree)
+        yield leaves_here, by_value, [*faults(tree), *(f"{name} {value} isn't shown" for name, value in lacking)]

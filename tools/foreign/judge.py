@@ -1,47 +1,41 @@
-"""What is compared, and what came of it."""
+"""What is compared of a protocol, and where the others differ."""
 import collections
-import os
-import re
 from dataclasses import dataclass
 
 import dissect
 from hostile import BIT, END_ALONE, FRONT, LONGER, changed, is_right, refusals
-from messages import messages
-from repository import Failure
+from messages import messages_of
 
-HERE = os.path.dirname(os.path.realpath(__file__))
 VARIANTS = ("aper", "uper")
-# The files of rows/protocols with the messages of each protocol.
-FILES = {"its": ("cam", "denm", "spatem"), "ngap": ("ngap",), "s1ap": ("s1ap",), "lte_rrc": ("lte_rrc",)}
 # Octets of a message are tried at each place.
 EACH = 1 << 20
-# What a difference is.
-REFUSED_HERE, REFUSED_THERE, OCTETS, VALUE = "refused here", "refused by asn1ct", "octets", "value"
-HOSTILE, CHANGED, SHOWN = "hostile", "changed", "tshark"
-# An encoding of asn1ct that wasn't changed.
+# What was given, where it wasn't changed.
 WHOLE = "values"
-# Who read octets with a bit turned: the program, asn1ct.
-READ_BY = {(True, True): "both", (True, False): "here alone", (False, True): "asn1ct alone", (False, False): "neither"}
-FIGURES = ("types", WHOLE, "octets", FRONT, BIT, LONGER, "differences", "explained")
-# How many differences of one kind and type are told.
-TOLD = 3
-
-
-def explanations():
-    """Returns the rows of explained.tsv: a pattern of differences, the section of X.691, and why."""
-    with open(f"{HERE}/explained.tsv", encoding="utf-8") as it:
-        rows = [line.rstrip("\n").split("\t") for line in it if not line.startswith("#")]
-    if any(len(row) != 3 for row in rows):
-        raise Failure("a row of explained.tsv hasn't three columns")
-    return [(re.compile(pattern), section, why) for pattern, section, why in rows]
+# What a difference is: a value that asn1ct doesn't encode; octets of its that aren't read here, are written otherwise, or show
+# another value; a reply that no changed octets have; octets that asn1ct doesn't read as what it wrote; octets with a bit turned
+# that one alone reads, or of which asn1ct writes the same value otherwise, or another value; a leaf that tshark doesn't show.
+NOT_ENCODED, REFUSED, OCTETS, VALUE = "not encoded", "refused", "octets", "value"
+REPLY, MISREAD, HERE_ALONE, THERE_ALONE = "reply", "misread", "here alone", "asn1ct alone"
+SPELLED, CHANGED, SHOWN = "spelled", "changed", "tshark"
+READ_BY = {(True, True): "both", (True, False): HERE_ALONE, (False, True): THERE_ALONE, (False, False): "neither"}
+FIGURES = ("types", WHOLE, "octets", "messages", FRONT, BIT, LONGER, *READ_BY.values(), "leaves", "by value")
 
 
 @dataclass(frozen=True)
-class Try:
-    """What the program is given: octets of a type in a variant, and what they are."""
-    protocol: object
+class Difference:
+    """A difference: of what protocol, variant, kind and type, and what there is on both sides."""
+    protocol: str
     variant: str
-    number: int
+    what: str
+    type: str
+    text: str
+
+
+@dataclass(frozen=True)
+class Given:
+    """What the program is given: octets of a type in a variant, and what they are."""
+    variant: str
+    known: object
     octets: bytes
     what: str
     base: str           # the encoding that was changed
@@ -50,7 +44,7 @@ class Try:
 
     @property
     def line(self):
-        return f"{self.variant} {self.number} {self.octets.hex()}{' show' if self.what == WHOLE else ''}"
+        return f"{self.variant} {self.known.number} {self.octets.hex()}{' show' if self.what == WHOLE else ''}"
 
     @property
     def room(self):
@@ -59,136 +53,118 @@ class Try:
 
 
 class Judge:
-    """What was compared of some types, by protocol and variant, and the differences."""
+    """What was compared of a protocol in each variant, and the differences."""
 
-    def __init__(self, folder, known):
-        self.folder, self.known = folder, known
-        self.protocols = [*dict.fromkeys(it for it, _ in known)]
-        self.explained, self.refusals = explanations(), refusals()
-        self.counts = collections.defaultdict(collections.Counter)
-        self.told, self.alone = collections.Counter(), []
+    def __init__(self, protocol, asn1ct):
+        self.protocol, self.asn1ct, self.refusals = protocol, asn1ct, refusals()
+        self.figures = {variant: collections.Counter() for variant in VARIANTS}
+        self.messages = [*messages_of(protocol)]
+        self.differences = []
 
-    def differ(self, protocol, variant, what, place, text):
-        """Counts a difference, and tells the first of each kind and place."""
-        line = f"{protocol.name} {variant} {what}: {place}: {text}"
-        found = next((it for it in self.explained if it[0].search(line)), None)
-        is_so = "explained" if found else "differences"
-        self.counts[protocol.name, variant][is_so] += 1
-        key = found[0].pattern if found else (protocol, variant, what, place)
-        self.told[key] += 1
-        if self.told[key] <= TOLD:
-            print(f"{line[:600]}{f' (explained: X.691 {found[1]}: {found[2]})' if found else ''}", flush=True)
+    def differ(self, variant, what, type_name, text):
+        self.differences.append(Difference(self.protocol.name, variant, what, type_name, text))
 
-    def name_of(self, number):
-        return self.known[number][1].there[1]
-
-    def encoded(self, protocol, variant, count):
-        """Gives what asn1ct encodes of values of a protocol's types."""
-        rows = []
-        for number, (of, known) in enumerate(self.known):
-            if of is protocol:
-                rows += [(number, *it) for it in protocol.values(known, count)]
-        there = [self.known[number][1].there for number, _, _ in rows]
-        terms = [f"{{'{module}','{name}',{text}}}." for (module, name), (_, _, text) in zip(there, rows)]
-        self.counts[protocol.name, variant]["types"] = len({number for number, _, _ in rows})
-        for (number, value, text), said in zip(rows, protocol.asked(variant, "encode", terms)):
-            if said.startswith("!"):
-                self.differ(protocol, variant, REFUSED_THERE, self.name_of(number), f"{text[:200]}: {said[:200]}")
-            else:
-                yield Try(protocol, variant, number, bytes.fromhex(said), WHOLE, said, row=(value, text))
-
-    def messages(self):
-        """Gives the messages of the protocols, each with its protocol and the number of its type."""
-        numbers = {(of, known.there[1]): number for number, (of, known) in enumerate(self.known)}
-        for protocol in self.protocols:
-            for file in FILES.get(protocol.name, ()):
-                yield from ((protocol, numbers[protocol, it.type], it) for it in messages(file))
-
-    def tries(self, count, changed_ones):
+    def given(self, count, changed_ones):
         """Gives what the program is given: encodings of asn1ct, and the first of each type and the messages changed."""
-        bases, taken = {}, collections.Counter()
-        for protocol in self.protocols:
-            for variant in VARIANTS:
-                for one in self.encoded(protocol, variant, count):
-                    yield one
-                    taken[variant, one.number] += 1
-                    if taken[variant, one.number] <= changed_ones:
-                        bases[protocol, variant, one.number, one.base] = END_ALONE
-        for protocol, number, message in self.messages():
-            bases[protocol, message.variant, number, message.octets] = EACH
-        for (protocol, variant, number, base), whole in bases.items():
-            for what, which, octets in changed(bytes.fromhex(base), whole):
-                yield Try(protocol, variant, number, octets, what, base, which)
+        for variant in VARIANTS:
+            taken = collections.Counter()
+            for one in self.encoded(variant, count):
+                yield one
+                taken[one.known] += 1
+                if taken[one.known] <= changed_ones:
+                    yield from self.changed(one, END_ALONE)
+        for known, message in self.messages:
+            self.figures[message.variant]["messages"] += 1
+            octets = bytes.fromhex(message.octets)
+            yield from self.changed(Given(message.variant, known, octets, "message", message.octets), EACH)
 
-    def judge(self, tries, replies):
+    def encoded(self, variant, count):
+        """Gives what asn1ct encodes of values of the protocol's types."""
+        rows = [(known, *row) for known in self.protocol.known for row in self.protocol.values(known, count)]
+        self.figures[variant]["types"] = len({known for known, _, _ in rows})
+        answers = self.asn1ct.encoded(variant, [(known.there, term) for known, _, term in rows])
+        for (known, value, term), said in zip(rows, answers):
+            if said.startswith("!"):
+                self.differ(variant, NOT_ENCODED, known.name, f"{term[:200]}: {said}")
+            else:
+                yield Given(variant, known, bytes.fromhex(said), WHOLE, said, row=(value, term))
+
+    @staticmethod
+    def changed(one, whole):
+        for what, which, octets in changed(one.octets, whole):
+            yield Given(one.variant, one.known, octets, what, one.base, which)
+
+    def judge(self, every, program):
         """Judges the program's replies, and what asn1ct makes of octets with a bit turned. What is made of an encoding that is
         another here is left out."""
-        turned, others = collections.defaultdict(list), set()
-        for one, reply in zip(tries, replies):
-            counts, key = self.counts[one.protocol.name, one.variant], (one.variant, one.number, one.base)
-            if one.what == WHOLE:
-                counts["octets"] += len(one.octets)
-                if not self.is_same(one, reply):
-                    others.add(key)
-            elif key in others:
-                continue
-            elif not is_right(one.what, reply, self.refusals):
-                text = f"{one.base}, {one.what} {one.which}: {reply}"
-                self.differ(one.protocol, one.variant, HOSTILE, self.name_of(one.number), text)
-            counts[one.what] += 1
-            if one.what == BIT:
-                turned[one.protocol, one.variant].append((one, reply))
-        for (protocol, variant), found in turned.items():
-            self.compare_turned(protocol, variant, found)
+        turned, others = {variant: [] for variant in VARIANTS}, set()
+        for one, reply in zip(every, program.replies([it.line for it in every], [it.room for it in every])):
+            key = one.variant, one.known, one.base
+            if one.what == WHOLE and not self.is_same(one, reply):
+                others.add(key)
+            elif one.what != WHOLE and key not in others:
+                self.judge_changed(one, reply)
+                turned[one.variant] += [(one, reply)] * (one.what == BIT)
+        self.compare_otherwise(program, [it for row in turned.items() for it in self.compare_turned(*row)])
 
     def is_same(self, one, reply):
         """Tells whether the octets that are written here of what asn1ct wrote, and the value that is shown, are its."""
-        (value, text), (ours, _, shown) = one.row, reply.partition(" ")
-        place, known = self.name_of(one.number), self.known[one.number][1]
+        (value, term), (ours, _, shown) = one.row, reply.partition(" ")
+        self.figures[one.variant][WHOLE] += 1
+        self.figures[one.variant]["octets"] += len(one.octets)
+        expected = one.known.shown(self.protocol.shown, value)
         if ours == "!":
-            self.differ(one.protocol, one.variant, REFUSED_HERE, place, f"{one.base}: {shown}: {text}")
+            self.differ(one.variant, REFUSED, one.known.name, f"{one.base}: {reply} here: {term}")
         elif ours != one.base:
-            self.differ(one.protocol, one.variant, OCTETS, place, f"{ours} here, {one.base} of asn1ct: {text}")
-        elif shown != known.shown(one.protocol.shown, value):
-            expected = known.shown(one.protocol.shown, value)
-            self.differ(one.protocol, one.variant, VALUE, place, f"{one.base}: {shown} here, and not {expected}")
-        else:
-            return True
-        return False
+            self.differ(one.variant, OCTETS, one.known.name, f"{ours} here, {one.base} of asn1ct: {term}")
+        elif shown != expected:
+            self.differ(one.variant, VALUE, one.known.name, f"{one.base}: {shown} here, and not {expected}")
+        return ours == one.base and shown == expected
 
-    def compare_turned(self, protocol, variant, found):
-        """Compares what asn1ct writes of octets with a bit turned, where both read them."""
-        counts = self.counts[protocol.name, variant]
-        there = [self.known[one.number][1].there for one, _ in found]
-        lines = [f"{module} {name} {one.octets.hex()}" for (module, name), (one, _) in zip(there, found)]
-        for (one, ours), theirs in zip(found, protocol.asked(variant, "recode", lines)):
-            is_here, is_there = ours[0] != "!", theirs[0] != "!"
-            counts[READ_BY[is_here, is_there]] += 1
-            if is_here != is_there:
-                self.alone.append((protocol.name, variant, self.name_of(one.number), one.octets.hex(), ours, theirs))
-            if is_here and is_there and ours != theirs:
-                text = f"{one.octets.hex()}: {ours} here, {theirs} of asn1ct"
-                self.differ(protocol, variant, CHANGED, self.name_of(one.number), text)
+    def judge_changed(self, one, reply):
+        self.figures[one.variant][one.what] += 1
+        if not is_right(one.what, reply, self.refusals):
+            self.differ(one.variant, REPLY, one.known.name, f"{one.base}, {one.what} {one.which}: {reply}")
 
-    def dissect(self):
+    def is_read_there(self, variant, found):
+        """Returns the encodings, by their types, that asn1ct reads as what it wrote, of those of which bits were turned."""
+        bases = [*dict.fromkeys((one.known, one.base) for one, _ in found)]
+        answers = self.asn1ct.recoded(variant, [(known.there, bytes.fromhex(base)) for known, base in bases])
+        for (known, base), theirs in zip(bases, answers):
+            if theirs != base:
+                self.differ(variant, MISREAD, known.name, f"{base}: {theirs} of asn1ct")
+        return {it for it, theirs in zip(bases, answers) if theirs == it[1]}
+
+    def compare_turned(self, variant, found):
+        """Compares what asn1ct makes of octets with a bit turned, and gives what both read and write otherwise. Where it doesn't
+        read what was changed, its answers say nothing."""
+        read = self.is_read_there(variant, found)
+        found = [it for it in found if (it[0].known, it[0].base) in read]
+        answers = self.asn1ct.recoded(variant, [(one.known.there, one.octets) for one, _ in found])
+        for (one, ours), theirs in zip(found, answers):
+            read_by = READ_BY[ours[0] != "!", theirs[0] != "!"]
+            self.figures[variant][read_by] += 1
+            if read_by in (HERE_ALONE, THERE_ALONE):
+                self.differ(variant, read_by, one.known.name, two_answers(one, ours, theirs))
+            elif read_by == "both" and ours != theirs:
+                yield one, ours, theirs
+
+    def compare_otherwise(self, program, found):
+        """Tells of octets that asn1ct writes otherwise whether these spell the same value here."""
+        lines = [f"{one.variant} {one.known.number} {theirs}" for one, _, theirs in found]
+        for (one, ours, theirs), reply in zip(found, program.replies(lines, [4 * len(line) + 200 for line in lines])):
+            what = SPELLED if reply.split()[0] == ours else CHANGED
+            self.differ(one.variant, what, one.known.name, two_answers(one, ours, theirs))
+
+    def dissect(self, folder):
         """Has the messages dissected by tshark."""
-        found = [*self.messages()]
-        if not found:
-            return
-        lines, leaves, by_value = dissect.judged(self.folder, [message for _, _, message in found])
-        for place, text in lines:
-            protocol, _, message = found[place]
-            self.differ(protocol, message.variant, SHOWN, message.name, text)
-        print(f"tshark: {len(found)} messages, {leaves} leaves, {by_value} of them by value alone, {len(lines)} differences")
+        found = [(known, message) for known, message in self.messages if message.type in dissect.DISSECTORS]
+        for (known, message), (leaves, by_value, lines) in zip(found, dissect.judged(folder, [it for _, it in found])):
+            self.figures[message.variant]["leaves"] += leaves
+            self.figures[message.variant]["by value"] += by_value
+            for line in lines:
+                self.differ(message.variant, SHOWN, known.name, f"{message.name}: {line}")
 
-    def report(self):
-        """Prints the tables, and returns the status."""
-        with open(f"{self.folder}/alone.tsv", "w", encoding="utf-8") as it:
-            it.writelines("\t".join(row) + "\n" for row in self.alone)
-        for head, columns in (("", FIGURES), ("with a bit turned: ", READ_BY.values())):
-            print(f"| {head}protocol | variant | {' | '.join(columns)} |\n|---|---|{'---|' * len(columns)}")
-            for (protocol, variant), counts in self.counts.items():
-                print(f"| {protocol} | {variant} | {' | '.join(f'{counts[it]:,}' for it in columns)} |")
-        explained, not_so = (sum(it[name] for it in self.counts.values()) for name in ("explained", "differences"))
-        print(f"foreign: {explained} differences explained, {not_so} not")
-        return 1 if not_so or not sum(it[WHOLE] for it in self.counts.values()) else 0
+
+def two_answers(one, ours, theirs):
+    return f"{one.octets.hex()} of {one.base}: {ours} here, {theirs} of asn1ct"

@@ -1,11 +1,11 @@
 """The messages of rows/protocols, and their values, which stand there as terms of Erlang."""
 import collections
-import glob
-import os
 import re
 
 from repository import TOP, Failure
 
+# The files of rows/protocols with the messages of each protocol.
+FILES = {"its": ("cam", "denm", "spatem"), "ngap": ("ngap",), "s1ap": ("s1ap",), "lte_rrc": ("lte_rrc",), "t38_2002": ("t38",)}
 Message = collections.namedtuple("Message", "protocol variant type name value octets")
 # A term: an atom, a string, a number, or a mark of a list, a tuple, a map or a binary.
 TOKEN = re.compile(r"""\s*(?:(?P<mark>\#\{|<<|>>|=>|[\[\]{},:/])|'(?P<quoted>(?:[^'\\]|\\.)*)'|"(?P<text>(?:[^"\\]|\\.)*)"
@@ -21,16 +21,18 @@ class Bits(str):
     """A binary, as a text of the bits 0 and 1."""
 
 
-def messages(protocol):
+def messages(file):
     """Returns the messages of a file of rows/protocols."""
-    with open(f"{TOP}/rows/protocols/{protocol}.tsv", encoding="utf-8") as it:
+    with open(f"{TOP}/rows/protocols/{file}.tsv", encoding="utf-8") as it:
         rows = [line.rstrip("\n").split("\t") for line in it if not line.startswith("#")]
     return [Message(*row[:4], Term(row[4]).read(), row[5]) for row in rows]
 
 
-def files():
-    """Returns the names of the files of rows/protocols, less their endings."""
-    return sorted(os.path.basename(it).removesuffix(".tsv") for it in glob.glob(f"{TOP}/rows/protocols/*.tsv"))
+def messages_of(protocol):
+    """Gives the messages of a protocol, each with its type."""
+    known = {it.name: it for it in protocol.known}
+    for file in FILES.get(protocol.name, ()):
+        yield from ((known[it.type], it) for it in messages(file))
 
 
 class Term:

@@ -1,9 +1,10 @@
-"""The program in Rattle that reads octets of the types of protocols and writes them again. `rt try` runs it, unproved."""
+"""The program in Rattle that reads octets of a protocol's types and writes them again. `rt try` runs it, unproved."""
+import glob
 import os
-import re
 import shutil
 import subprocess
 
+from kept import Kept, read, sum_of, written
 from repository import TOP, Failure, below, folder_of, read_crates
 
 # Octets of replies to a file of lines, of which `rt try` prints 1 MiB, and seconds that it lets a file take.
@@ -25,22 +26,17 @@ ARMS
 """
 
 
-def written(path, text):
-    os.makedirs(os.path.dirname(path), exist_ok=True)
-    with open(path, "w", encoding="utf-8") as it:
-        it.write(text)
-
-
 def copied(crate, to):
-    """Copies the files of a crate of this repository."""
+    """Copies what `rt try` reads of a crate of this repository, as it takes none that lies elsewhere."""
     shutil.rmtree(to, ignore_errors=True)
-    for part in ("src", "specs", "proofs"):
+    for part in ("src", "specs"):
         if os.path.isdir(f"{folder_of(crate)}/{part}"):
             shutil.copytree(f"{folder_of(crate)}/{part}", f"{to}/{part}")
 
 
 def written_program(top, paths, crates):
-    """Writes the program of these types, by their paths, and the crates below it into a folder with a list of crates."""
+    """Writes the program of these types, by their paths, into a folder with the list of the crates that it needs, and returns
+    its folder. `crates` says of those crates that stand there what each needs; the others are this repository's."""
     lines = {**read_crates(), **crates}
     needed = ["rasn_below", "rasn_per", *sorted({it.split("::")[0] for it in paths})]
     for name in below(needed, lines):
@@ -55,48 +51,67 @@ def written_program(top, paths, crates):
     return f"{top}/crates/foreign"
 
 
+def sources(crate):
+    """Gives the texts of the crates that stand beside one."""
+    for path in sorted(glob.glob(f"{os.path.dirname(crate)}/*/src/**/*.rt", recursive=True)):
+        yield read(path)
+
+
 class Program:
-    """The program. It runs once for all lines, since it is made anew where it runs."""
+    """The program. `rt try` makes it anew where it runs, so it runs once for all lines to which no reply is kept."""
 
     def __init__(self, crate):
         self.crate = crate
+        self.kept = Kept(f"{os.path.dirname(os.path.dirname(os.path.dirname(crate)))}/replies", sum_of(*sources(crate)))
 
     def replies(self, lines, room):
         """Returns the reply to each line; `room` says how long each may be."""
+        files = [*files_of(lines, room)]
+        left = [file for file in files if self.kept.lines(*file) is None]
+        if left:
+            self.run(left)
+        return [reply for file in files for reply in self.kept.lines(*file)]
+
+    def run(self, files):
+        """Runs the program for files of lines, and keeps the replies to each as it ends."""
         folder = f"{self.crate}/cases"
         shutil.rmtree(folder, ignore_errors=True)
-        os.makedirs(folder)
-        counts = [*chunks(room)]
-        start = 0
-        for number, count in enumerate(counts):
-            written(f"{folder}/{number:04}", "".join(f"{line}\n" for line in lines[start : start + count]))
-            start += count
+        for number, lines in enumerate(files):
+            written(f"{folder}/{number:04}", "".join(f"{line}\n" for line in lines))
         words = ["rt", "try", "--steps", "1", "--seconds", SECONDS, "--cases", "cases"]
-        ran = subprocess.run(words, cwd=self.crate, capture_output=True, text=True, check=False)
-        return self.found(ran, counts)
-
-    def found(self, ran, counts):
-        """Returns the replies that stand in what `rt try` prints: those to each file behind its name."""
-        found, replies = {}, []
-        for text in re.split(r"^== ", ran.stdout, flags=re.MULTILINE)[1:]:
-            name, _, rest = text.partition("\n")
-            found[name.split()[0]] = rest.splitlines()
-        for number, count in enumerate(counts):
-            lines = found.get(f"{number:04}", [])
-            if len(lines) != count:
-                said = f"{ran.stdout[-300:]}{ran.stderr[-2000:]}"
-                raise Failure(f"the program replies to {len(lines)} lines of the {count} of cases/{number:04}:\n{said}")
-            replies += lines
-        return replies
+        with open(f"{self.crate}/said", "w+", encoding="utf-8") as said:
+            with subprocess.Popen(words, cwd=self.crate, stdout=subprocess.PIPE, stderr=said, text=True) as ran:
+                for number, replies in cases(ran.stdout):
+                    if len(replies) == len(files[number]):
+                        self.kept.keep(replies, *files[number])
+            said.seek(0)
+            lacking = [number for number, lines in enumerate(files) if self.kept.lines(*lines) is None]
+            if lacking:
+                raise Failure(f"the program doesn't reply to each line of cases/{lacking[0]:04}:\n{said.read()[-2000:]}")
 
 
-def chunks(sizes):
-    """Gives how many lines go into each file, so that no file's replies are past what `rt try` prints."""
-    count = total = 0
-    for size in sizes:
-        if count and total + size > MOST:
-            yield count
-            count = total = 0
-        count, total = count + 1, total + size
-    if count:
-        yield count
+def cases(output):
+    """Gives the number of each file of lines, and the replies that stand behind its name in what `rt try` prints."""
+    number, replies = None, []
+    for line in output:
+        if line.startswith("== "):
+            if number is not None:
+                yield number, replies
+            number, replies = int(line.split()[1]), []
+        else:
+            replies.append(line.rstrip("\n"))
+    if number is not None:
+        yield number, replies
+
+
+def files_of(lines, sizes):
+    """Gives lines file by file, so that the replies to none are past what `rt try` prints."""
+    file, total = [], 0
+    for line, size in zip(lines, sizes):
+        if file and total + size > MOST:
+            yield file
+            file, total = [], 0
+        file.append(line)
+        total += size
+    if file:
+        yield file

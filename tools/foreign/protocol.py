@@ -1,4 +1,4 @@
-"""The types of a protocol: as the compiler of pages knows them, and as asn1ct does."""
+"""The types of a protocol, as the compiler of pages knows them."""
 import argparse
 import os
 import re
@@ -6,28 +6,48 @@ import subprocess
 import tempfile
 from dataclasses import dataclass
 
-from notation import kind, parsed, read_modules
+from kept import read
+from notation import kind, parsed
 from repository import TOP, Failure, folder_of
 from resolve import Modules, Use
-from store import read
 from terms import Shown, term
 from values import ANY, LEAST, MOST, Chooser
-from wanted import wanted_items
+from wanted import modules_wanted, wanted_items
 
 ASN1 = f"{TOP}/tools/asn1"
 # The sample with a type of each kind, which is no protocol of a standard.
 SAMPLE = "kinds"
-SAMPLE_WORDS = ["--types", "Kinds.Message,Kinds.Beside,Kinds.Serial,Kinds.Based", f"{ASN1}/samples/Kinds.asn"]
-# The rules of asn1ct for each variant.
-RULES = {"aper": "per", "uper": "uper"}
+SAMPLE_TYPES = ",".join(f"Kinds.{name}" for name in ("Message", "Beside", "Serial", "Based", "Defaults"))
 
 
-def ran(words, **how):
+def ran(words):
     """Runs a command and returns what it prints."""
-    done = subprocess.run(words, capture_output=True, text=True, check=False, **how)
+    done = subprocess.run(words, capture_output=True, text=True, check=False)
     if done.returncode:
         raise Failure(f"{' '.join(words)[:200]}: status {done.returncode}\n{(done.stdout + done.stderr)[-2000:]}")
     return done.stdout
+
+
+def calls(name, fetched):
+    """Returns the words of each call of the compiler for a protocol, by its name. A protocol with several, one for each
+    release, has them by the names of their crates."""
+    if name == SAMPLE:
+        return {name: ["--types", SAMPLE_TYPES, f"{ASN1}/samples/Kinds.asn"]}
+    words = ran([f"{ASN1}/protocols", "--words", fetched, name]).splitlines()
+    starts = [place for place, word in enumerate(words) if word == "--types"]
+    found = [words[start:end] for start, end in zip(starts, [*starts[1:], None])]
+    if len(found) == 1:
+        return {name: found[0]}
+    return {given(call).crate[0].partition("=")[2]: call for call in found}
+
+
+def given(words):
+    """Returns what the words of a call of the compiler give it."""
+    parser = argparse.ArgumentParser()
+    parser.add_argument("--types")
+    parser.add_argument("--crate", action="append", default=[])
+    parser.add_argument("files", nargs="+")
+    return parser.parse_args(words)
 
 
 def references(node):
@@ -42,9 +62,10 @@ def references(node):
             yield from references(one)
 
 
-@dataclass
+@dataclass(frozen=True, eq=False)
 class Known:
-    """A type that both know: by its path here, and by its module and name there."""
+    """A type that both know: by its number and its path here, and by its module and name there."""
+    number: int
     item: object
     path: str
     is_limited: bool
@@ -52,6 +73,10 @@ class Known:
     @property
     def there(self):
         return self.item.key
+
+    @property
+    def name(self):
+        return self.item.key[1]
 
     def shown(self, shown, value):
         """Returns the text of a value of it."""
@@ -64,22 +89,20 @@ class Known:
 
 
 class Protocol:
-    """A protocol, of which all is kept in a folder of its own."""
+    """A protocol, or a release of it: the items of a call of the compiler, and the modules that these stand on."""
 
-    def __init__(self, name, folder, fetched):
-        self.name, self.folder = name, f"{folder}/{name}"
-        self.words = SAMPLE_WORDS
-        if name != SAMPLE:
-            self.words = ran([f"{ASN1}/protocols", "--words", fetched, name]).splitlines()
-        given = self.given()
-        texts = read_modules(given.files)
+    def __init__(self, name, words):
+        self.name, self.words = name, words
+        call = given(words)
+        texts = modules_wanted(call.files, call.types, call.crate)
         with tempfile.TemporaryDirectory() as room:
             self.modules = Modules(parsed(texts, room))
-        self.items = wanted_items(self.modules, given.types, given.crate)
+        self.items = wanted_items(self.modules, call.types, call.crate)
         self.shown = Shown(self.items)
         needed = self.needed()
         self.texts = {name: self.without_others(name, text, needed) for name, text in texts.items()}
         self.identifiers = frozenset(self.taken_identifiers())
+        self.known = [*self.known_types()]
 
     def taken_identifiers(self):
         """Gives the identifiers of the objects of all sets."""
@@ -114,15 +137,8 @@ class Protocol:
                 lines[start - 1 : end - 1] = [""] * (end - start)
         return "\n".join([*lines, ""])
 
-    def given(self):
-        parser = argparse.ArgumentParser()
-        parser.add_argument("--types")
-        parser.add_argument("--crate", action="append", default=[])
-        parser.add_argument("files", nargs="+")
-        return parser.parse_args(self.words)
-
     def write_crates(self, top):
-        """Has the pages of a protocol that isn't kept in a folder of crates. Returns the lines of these in its list."""
+        """Has the pages of a protocol that isn't kept in a folder of crates. Returns what each of these crates needs."""
         if all(os.path.isdir(folder_of(it.crate)) for it in self.items.order):
             return {}
         os.makedirs(top, exist_ok=True)
@@ -131,18 +147,18 @@ class Protocol:
         own = {it.crate for it in self.items.order}
         return {name.strip(): needed.split() for name, _, needed in lines if name.strip() in own}
 
-    def known(self):
-        """Returns the types that both know. asn1ct has no name for one that is written within another, or has parameters; and a
+    def known_types(self):
+        """Gives the types that both know. asn1ct has no name for one that is written within another, or has parameters; and a
         name here may be without its constraints. All these stand in others."""
-        found = []
+        number = 0
         for item in self.items.order:
             is_limited = not item.has_page and item.is_limited and bool(item.type.limits)
             is_whole = item.has_page or is_limited or not item.type.limits
             is_named = "/" not in item.key[1] and self.modules.defined[item.key]["_"] == "typedef"
             if is_whole and is_named:
                 name = f"Limited{item.rust}" if is_limited else item.rust
-                found.append(Known(item, f"{item.crate}::{item.file}::{name}", is_limited))
-        return found
+                yield Known(number, item, f"{item.crate}::{item.file}::{name}", is_limited)
+                number += 1
 
     def values(self, known, count):
         """Returns values of a type, none twice: the least, the most, and some others, each with its term."""
@@ -152,33 +168,3 @@ class Protocol:
             value = Chooser(manner, f"{known.there} {number}", self.identifiers).value(Use(known.item.type, known.item.key))
             found.setdefault(term(known.item.type, value), value)
         return [(value, text) for text, value in found.items()]
-
-    def compiled(self, variant):
-        """Returns the folder of what asn1ct makes of the modules, which is made where it isn't there."""
-        folder = f"{self.folder}/{RULES[variant]}"
-        if not os.path.exists(f"{folder}/compiled"):
-            os.makedirs(folder, exist_ok=True)
-            for name, text in self.texts.items():
-                write(f"{folder}/{name}.asn1", text)
-            self.asn1ct("compile", folder, RULES[variant], *self.texts)
-            write(f"{folder}/compiled", "")
-        return folder
-
-    @staticmethod
-    def asn1ct(*words):
-        ran(["escript", f"{TOP}/tools/foreign/asn1ct.escript", *words])
-
-    def asked(self, variant, operation, lines):
-        """Returns what asn1ct answers to lines, each to be encoded or to be read and encoded again."""
-        folder = self.compiled(variant)
-        write(f"{self.folder}/asked", "".join(f"{line}\n" for line in lines))
-        self.asn1ct(operation, folder, f"{self.folder}/asked", f"{self.folder}/answered")
-        answers = read(f"{self.folder}/answered").splitlines()
-        if len(answers) != len(lines):
-            raise Failure(f"asn1ct answers {len(answers)} lines of {len(lines)}")
-        return answers
-
-
-def write(path, text):
-    with open(path, "w", encoding="utf-8") as it:
-        it.write(text)

@@ -2,6 +2,7 @@
 from constraints import LETTERS
 from names import snake
 from pages import HELD
+from values import default_of
 from words import holder
 
 LISTS = ("SEQUENCE OF", "SET OF")
@@ -82,7 +83,7 @@ class Shown:
         is_there = part.name in value
         if part.is_slot:
             return f"Some({self.of_use(part.use, value[part.name])})" if is_there else "None"
-        return self.of_use(part.use, value[part.name] if is_there else part.default)
+        return self.of_use(part.use, value[part.name] if is_there else default_of(part))
 
     def text(self, of, value):
         """Returns the text of a value of a type without a page."""

@@ -7,6 +7,7 @@ its name among them.
 import random
 
 from constraints import LETTERS
+from resolve import TEXTS
 
 LEAST, MOST, ANY = "least", "most", "any"
 # How far a number without a bound goes from its other bound.
@@ -102,7 +103,7 @@ class Chooser:
             elif part.presence == "required" or self.is_there():
                 found[part.name] = self.value(part.use)
             elif part.presence == "default":
-                found[part.name] = part.default
+                found[part.name] = default_of(part)
         for part in of.added or []:
             if part.presence == "required" and part.group is None or self.is_there():
                 held = self.value(part.use)
@@ -119,8 +120,13 @@ def is_left_out(part, value):
     """Tells whether an addition is left out: at its default, which asn1ct writes nevertheless, or a group of which no
     component is there (X.691 19.9)."""
     if part.group is None:
-        return part.presence == "default" and value == part.default
-    return all(it.name not in value or it.presence == "default" and value[it.name] == it.default for it in part.group)
+        return part.presence == "default" and value == default_of(part)
+    return all(it.name not in value or it.presence == "default" and value[it.name] == default_of(it) for it in part.group)
+
+
+def default_of(part):
+    """Returns a default as a value: of a text the resolver has its code points."""
+    return "".join(map(chr, part.default)) if part.use.type.kind in TEXTS else part.default
 
 
 CHOSEN = {
