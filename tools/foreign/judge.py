@@ -9,8 +9,8 @@ from messages import messages_of
 VARIANTS = ("aper", "uper")
 # Octets of a message are tried at each place.
 EACH = 1 << 20
-# What was given, where it wasn't changed.
-WHOLE = "values"
+# What was given, where it wasn't changed: an encoding of asn1ct, and what it makes of one where that is another.
+WHOLE, AGAIN = "values", "again"
 # What a difference is: a value that asn1ct doesn't encode; octets of its that aren't read here, are written otherwise, or show
 # another value; a reply that no changed octets have; octets that asn1ct doesn't read as what it wrote; octets with a bit turned
 # that one alone reads, or of which asn1ct writes the same value otherwise, or another value; a leaf that tshark doesn't show.
@@ -47,6 +47,10 @@ class Given:
         return f"{self.variant} {self.known.number} {self.octets.hex()}{' show' if self.what == WHOLE else ''}"
 
     @property
+    def key(self):
+        return self.variant, self.known, self.base
+
+    @property
     def room(self):
         """How long the reply may be, and more."""
         return (40 if self.what == WHOLE else 4) * len(self.octets) + 200
@@ -59,24 +63,44 @@ class Judge:
         self.protocol, self.asn1ct, self.refusals = protocol, asn1ct, refusals()
         self.figures = {variant: collections.Counter() for variant in VARIANTS}
         self.messages = [*messages_of(protocol)]
-        self.differences = []
+        self.differences, self.misread = [], set()
 
     def differ(self, variant, what, type_name, text):
         self.differences.append(Difference(self.protocol.name, variant, what, type_name, text))
 
     def given(self, count, changed_ones):
-        """Gives what the program is given: encodings of asn1ct, and the first of each type and the messages changed."""
+        """Gives what the program is given: encodings of asn1ct, and the first of each type and the messages changed; last what
+        asn1ct makes of these, where that is another."""
+        bases = []
         for variant in VARIANTS:
             taken = collections.Counter()
             for one in self.encoded(variant, count):
                 yield one
                 taken[one.known] += 1
                 if taken[one.known] <= changed_ones:
+                    bases.append(one)
                     yield from self.changed(one, END_ALONE)
         for known, message in self.messages:
             self.figures[message.variant]["messages"] += 1
-            octets = bytes.fromhex(message.octets)
-            yield from self.changed(Given(message.variant, known, octets, "message", message.octets), EACH)
+            one = Given(message.variant, known, bytes.fromhex(message.octets), "message", message.octets)
+            bases.append(one)
+            yield from self.changed(one, EACH)
+        for variant in VARIANTS:
+            yield from self.again(variant, [one for one in bases if one.variant == variant])
+
+    def again(self, variant, bases):
+        """Gives what asn1ct makes of encodings that it read, where that is another."""
+        answers = self.asn1ct.recoded(variant, [(one.known.there, one.octets) for one in bases])
+        for one, theirs in zip(bases, answers):
+            if theirs.startswith("!"):
+                self.tell_misread(one, theirs)
+            elif theirs != one.base:
+                yield Given(variant, one.known, bytes.fromhex(theirs), AGAIN, one.base)
+
+    def tell_misread(self, one, theirs):
+        """Tells of an encoding that asn1ct doesn't read as its value, so that its other answers say nothing either."""
+        self.misread.add(one.key)
+        self.differ(one.variant, MISREAD, one.known.name, f"{one.base}: {theirs} of asn1ct")
 
     def encoded(self, variant, count):
         """Gives what asn1ct encodes of values of the protocol's types."""
@@ -99,10 +123,11 @@ class Judge:
         another here is left out."""
         turned, others = {variant: [] for variant in VARIANTS}, set()
         for one, reply in zip(every, program.replies([it.line for it in every], [it.room for it in every])):
-            key = one.variant, one.known, one.base
             if one.what == WHOLE and not self.is_same(one, reply):
-                others.add(key)
-            elif one.what != WHOLE and key not in others:
+                others.add(one.key)
+            elif one.what == AGAIN and reply != one.base and one.key not in others:
+                self.tell_misread(one, one.octets.hex())
+            elif one.what not in (WHOLE, AGAIN) and one.key not in others:
                 self.judge_changed(one, reply)
                 turned[one.variant] += [(one, reply)] * (one.what == BIT)
         self.compare_otherwise(program, [it for row in turned.items() for it in self.compare_turned(*row)])
@@ -126,20 +151,9 @@ class Judge:
         if not is_right(one.what, reply, self.refusals):
             self.differ(one.variant, REPLY, one.known.name, f"{one.base}, {one.what} {one.which}: {reply}")
 
-    def is_read_there(self, variant, found):
-        """Returns the encodings, by their types, that asn1ct reads as what it wrote, of those of which bits were turned."""
-        bases = [*dict.fromkeys((one.known, one.base) for one, _ in found)]
-        answers = self.asn1ct.recoded(variant, [(known.there, bytes.fromhex(base)) for known, base in bases])
-        for (known, base), theirs in zip(bases, answers):
-            if theirs != base:
-                self.differ(variant, MISREAD, known.name, f"{base}: {theirs} of asn1ct")
-        return {it for it, theirs in zip(bases, answers) if theirs == it[1]}
-
     def compare_turned(self, variant, found):
-        """Compares what asn1ct makes of octets with a bit turned, and gives what both read and write otherwise. Where it doesn't
-        read what was changed, its answers say nothing."""
-        read = self.is_read_there(variant, found)
-        found = [it for it in found if (it[0].known, it[0].base) in read]
+        """Compares what asn1ct makes of octets with a bit turned, and gives what both read and write otherwise."""
+        found = [it for it in found if it[0].key not in self.misread]
         answers = self.asn1ct.recoded(variant, [(one.known.there, one.octets) for one, _ in found])
         for (one, ours), theirs in zip(found, answers):
             read_by = READ_BY[ours[0] != "!", theirs[0] != "!"]
