@@ -1,0 +1,135 @@
+-- What the trait asks of calls, of what the encoder's own calls do.
+use Rattle.std.proofs.Common.{◌≡◌, Bool, true, false, List, Option, Result, Ok, Err, refl, sym, ap, ◌∙◌, subst, inl, inr, ℕ}
+use Rattle.std.specs.Prelude.{◌⊎◌, if◌then◌else◌, IfOk, OnErr, OnOk}
+use Rattle.rasn_types.specs.Values.{Value, nothing}
+use Rattle.rasn_schema.specs.Records.{record_value}
+use Rattle.rasn_schema.specs.Schemas.{Order, Schema, Parts}
+use Rattle.rasn_traits.specs.Calls.{without_memory, Writes, Written}
+use Rattle.rasn_traits.specs.Scopes.{OpenedToWrite, PresentsFields}
+use Rattle.json.specs.Json.{Json, object}
+use Rattle.rasn_jer.proofs.Fields.{record_shown}
+use Rattle.rasn_jer.proofs.Refusing.{Inside, refused_record, unclosed}
+use Rattle.rasn_jer.specs.Places.{inside, is_complete_of, Place, State, Takes, unfailed_at, vacant_place}
+use Rattle.rasn_jer.specs.Rules.{BehavesSo, Closed, EntersPlace, fault_of, IsRefused, jer_rules, Opens, Refuses, WritesText}
+use Rattle.rasn_jer.specs.Shown.{at_once, HasNoJson, is_null, Shows, StandsIn}
+use Rattle.rasn_jer.specs.Texts.{enclosed, text_of}
+use Rattle.rasn_jer.specs.declared.error.EncodeError.{EncodeError}
+use Rattle.rasn_jer.specs.declared.error.EncodeError.TheVariants.{AlreadyFailed, NoJson, OutOfMemory}
+use Rattle.rasn_jer.specs.declared.place.Kind.{Kind}
+use Rattle.rasn_jer.specs.declared.place.Kind.TheVariants as Kinds
+
+-- what holds of an answer holds of what follows from it
+pub over_ok : {T E : Type 0} {P Q : T → Type 0} (r : Result T E) → IfOk r P → ((t : T) → P t → Q t) → IfOk r Q
+over_ok (Ok t) h f = f t h
+over_ok (Err e) h f = tt
+
+-- a text shows a value
+pub record ShowsText (s : Schema) (v : Value) (text : List ℕ) : Type 0 where
+  pub json : Json
+  pub is_text : text ≡ text_of json
+  pub shows : Shows s v json
+
+-- a call that writes a text which shows a value
+pub leaf : {T E : Type 0} (text : Result T E) (items : T → List ℕ) (x : State) (s : Schema) (v : Value) (r : Result (Unit {0}) EncodeError) (y : State)
+    → WritesText text items x r y → IfOk text (λ t. ShowsText s v (items t)) → Writes jer_rules s v x r y
+leaf (Ok t) items x s v (Ok u) y w h = record {
+  law = record { begun = w.written.0; left = w.written.1; json = h.json; shows = h.shows; taken = subst (λ (l : List ℕ). Takes x.place l y.place) h.is_text w.written.2 };
+  behaves = w.behaves;
+}
+leaf (Err n) items x s v (Ok u) y w h = absurd w.written
+leaf (Ok t) items x s v (Err e) y w h = record { law = elim w.written [ inl m ↦ inl m | inr q ↦ inr (inl q) ]; behaves = w.behaves }
+leaf (Err n) items x s v (Err e) y w h = record { law = elim w.written [ inl m ↦ inl m | inr q ↦ inr (inl q) ]; behaves = w.behaves }
+
+-- and one that writes a text of one form
+pub leaf_as : {T E : Type 0} (text : Result T E) (items : T → List ℕ) (x : State) (s : Schema) (v : Value) (r : Result (Unit {0}) EncodeError) (y : State) (j : Json)
+    → WritesText text items x r y → IfOk text (λ t. items t ≡ text_of j) → Shows s v j → Writes jer_rules s v x r y
+leaf_as text items x s v r y j w h k = leaf text items x s v r y w (over_ok text h (λ t e. record { json = j; is_text = e; shows = k }))
+
+lacks : (e : EncodeError) → e ≡ OutOfMemory → StandsIn (fault_of e) Schema.null nothing
+lacks e m = subst (λ (f : EncodeError). StandsIn (fault_of f) Schema.null nothing) (sym m) (at_once is_null)
+
+-- NULL, for which the traits take no memory
+pub null_leaf : {T E : Type 0} (text : Result T E) (items : T → List ℕ) (x : State) (r : Result (Unit {0}) EncodeError) (y : State) (j : Json)
+    → WritesText text items x r y → IfOk text (λ t. items t ≡ text_of j) → Shows Schema.null nothing j → Writes (without_memory jer_rules) Schema.null nothing x r y
+null_leaf (Ok t) items x (Ok u) y j w h k = record {
+  law = record { begun = w.written.0; left = w.written.1; json = j; shows = k; taken = subst (λ (l : List ℕ). Takes x.place l y.place) h w.written.2 };
+  behaves = w.behaves;
+}
+null_leaf (Err n) items x (Ok u) y j w h k = absurd w.written
+null_leaf (Ok t) items x (Err e) y j w h k = record { law = inr (elim w.written [ inl m ↦ inr (lacks e m) | inr q ↦ inl q ]); behaves = w.behaves }
+null_leaf (Err n) items x (Err e) y j w h k = record { law = inr (elim w.written [ inl m ↦ inr (lacks e m) | inr q ↦ inl q ]); behaves = w.behaves }
+
+-- how a refusing call behaves, by the error that it answers
+pub refused_behaves : {T : Type 0} (x y : State) (e : EncodeError) (f : EncodeError) → e ≡ (if x.failed then AlreadyFailed else f) → y.failed ≡ true → BehavesSo {T = T} x (Err e) y
+refused_behaves x y e f h k = record { again = λ q. h ∙ ap (λ (b : Bool). if b then AlreadyFailed else f) q; fails = k; kept = refl }
+
+-- a refusing call names a fault that stands, or that there was an earlier one
+pub refused_why : (b : Bool) (x : State) (e f : EncodeError) (s : Schema) (v : Value) → x.failed ≡ b → e ≡ (if b then AlreadyFailed else f)
+    → StandsIn (fault_of f) s v → Refuses e x s v
+refused_why true x e f s v q h k = subst (λ (z : EncodeError). Refuses z x s v) (sym h) (inl q)
+refused_why false x e f s v q h k = subst (λ (z : EncodeError). Refuses z x s v) (sym h) (inr k)
+
+pub already : (e : EncodeError) (x : State) → e ≡ AlreadyFailed → x.failed ≡ true → IsRefused e x
+already e x m f = subst (λ (z : EncodeError). IsRefused z x) (sym m) f
+
+-- a record is opened
+pub record_opened : (order : Order) (parts additions : ℕ → Parts) (marker : Bool) {E : Type 0} (place : Result Place E) (x : State) (r : Result Place EncodeError) (y : State)
+    → EntersPlace place x r y → IfOk place (λ p. p ≡ vacant_place Kinds.Members) → OpenedToWrite jer_rules (λ s. Opens Kinds.Members) order parts marker additions x r y
+record_opened order parts additions marker (Ok p) x (Ok o) y w h = λ n.
+    let within : y ≡ inside Kinds.Members = w.entered.2 ∙ ap unfailed_at h in
+    let in_it : Inside y = record { unfailed = ap (λ (z : State). z.failed) within; members = ap (λ (z : State). z.place.kind) within } in
+    (record { begun = w.entered.0; outer = w.entered.1; within = within }, record { room = λ e m. m; of_record = λ e rs xs c k. refused_record order marker x in_it k })
+record_opened order parts additions marker (Err n) x (Ok o) y w h = absurd w.entered
+record_opened order parts additions marker (Ok p) x (Err e) y w h = elim w.entered [ inl m ↦ inl m | inr q ↦ inr (λ n v. inl (already e x q.0 q.1)) ]
+record_opened order parts additions marker (Err n) x (Err e) y w h = elim w.entered [ inl m ↦ inl m | inr q ↦ inr (λ n v. inl (already e x q.0 q.1)) ]
+
+-- what was presented inside shows the whole, between two characters
+pub closed : (kind : Kind) (opening closing : ℕ) (o : Place) (x j : State) (s : Schema) (v : Value) (json : Json) (r : Result (Unit {0}) EncodeError) (y : State)
+    → is_complete_of kind j.place.is_empty ≡ true → x.failed ≡ false → o ≡ x.place → j.failed ≡ false → j.place.kind ≡ kind → Shows s v json
+    → enclosed opening j.place.text closing ≡ text_of json → Closed kind opening closing o j r y → Written jer_rules s v x r y
+closed kind opening closing o x j s v json (Ok u) y c b w f k h e q = record {
+  begun = b;
+  left = q.2;
+  json = json;
+  shows = h;
+  taken = subst (λ (p : Place). Takes p (text_of json) y.place) w (subst (λ (l : List ℕ). Takes o l y.place) e q.3);
+}
+closed kind opening closing o x j s v json (Err e) y c b w f k h t q = elim q [
+  | inl m ↦ inl m
+  | inr z ↦ inr (inl (unclosed e kind o j x w f k (ap (λ (i : Kind). is_complete_of i j.place.is_empty) k ∙ c) z))
+]
+
+-- a record is closed
+pub record_closed : (order : Order) (ps : Parts) (marker : Bool) (qs : Parts) (x i j : State) (rs xs : List (Option Value)) (o : Place) (r : Result (Unit {0}) EncodeError) (y : State)
+    → Closed Kinds.Members 123 125 o j r y → Opens Kinds.Members x o i → PresentsFields jer_rules ps qs i rs xs j
+    → Written jer_rules (Schema.sequence order ps marker qs) (record_value rs xs) x r y
+record_closed order ps marker qs x i j rs xs o r y q h k =
+    let shown = record_shown order marker h.within k in
+    closed Kinds.Members 123 125 o x j _ _ (object shown.members) r y refl h.begun h.outer shown.within.unfailed shown.within.members shown.shown (ap (λ (l : List ℕ). enclosed 123 l 125) shown.written) q
+
+-- what holds of a success holds of what follows from it
+pub over_unit : {T E : Type 0} {P Q : Type 0} (r : Result T E) → OnOk r P → (P → Q) → OnOk r Q
+over_unit (Ok t) h f = f h
+over_unit (Err e) h f = tt
+
+-- a refusing call of a value in which a fault stands, or for which memory ran out
+pub refused_leaf : (b : Bool) (x y : State) (e f : EncodeError) (s : Schema) (v : Value) → x.failed ≡ b → e ≡ (if b then AlreadyFailed else f) → y.failed ≡ true
+    → ((f ≡ OutOfMemory) ⊎ StandsIn (fault_of f) s v) → Writes jer_rules s v x (Err e) y
+refused_leaf true x y e f s v q h k w = record {
+  law = inr (inl (already e x h q));
+  behaves = record { again = λ _. h; fails = k; kept = refl };
+}
+refused_leaf false x y e f s v q h k w = record {
+  law = elim w [ inl m ↦ inl (h ∙ m) | inr z ↦ inr (inr (subst (λ (i : EncodeError). StandsIn (fault_of i) s v) (sym h) z)) ];
+  behaves = record { again = λ a. absurd (let t : true ≡ false = sym a ∙ q in cc); fails = k; kept = refl };
+}
+
+-- how a call behaves where no call was refused before
+pub unrefused_behaves : {T : Type 0} (x y : State) (r : Result T EncodeError) → x.failed ≡ false → OnErr r (y.failed ≡ true) → BehavesSo x r y
+unrefused_behaves x y r f k = record { again = λ a. absurd (let t : true ≡ false = sym a ∙ f in cc); fails = k; kept = refl }
+
+-- an error of a text says that memory ran out, or that the value has no JSON
+pub no_json : {K : Type 0} (f : EncodeError) (s : Schema) (v : Value) → ((f ≡ OutOfMemory) ⊎ ((f ≡ NoJson) × K)) → (K → HasNoJson s v)
+    → (f ≡ OutOfMemory) ⊎ StandsIn (fault_of f) s v
+no_json f s v (inl m) h = inl m
+no_json f s v (inr q) h = inr (subst (λ (z : EncodeError). StandsIn (fault_of z) s v) (sym q.0) (at_once (h q.1)))

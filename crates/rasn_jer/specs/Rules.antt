@@ -1,0 +1,187 @@
+-- The rules of an encoder that writes JSON.
+use Rattle.std.specs.Prelude.{ℕ, ◌≡◌, ◌≢◌, ◌⊎◌, Bool, true, false, List, ◌++◌, Result, Ok, Err}
+use Rattle.rasn_types.specs.Values.{Value}
+use Rattle.rasn_types.specs.declared.types.Codec.TheVariants.{Uper}
+use Rattle.rasn_schema.specs.Schemas.{Schema}
+use Rattle.rasn_traits.specs.Calls.{Behaves, EncoderRules}
+use Rattle.rasn_traits.specs.Lists.{ListForm}
+use Rattle.json.specs.Json.{Json, object, Items, Members}
+use Rattle.rasn_jer.specs.Places.{behind, behind_all, inside, is_complete, is_full, Place, State}
+use Rattle.rasn_jer.specs.Places.{Takes, unfailed_at}
+use Rattle.rasn_jer.specs.Shown.{HasElement, HasNoJson, IsNull, Shows, ShowsAll, StandsIn}
+use Rattle.rasn_jer.specs.Texts.{enclosed, items_text, member_text, text_of}
+use Rattle.rasn_jer.specs.declared.error.EncodeError.{EncodeError}
+use Rattle.rasn_jer.specs.declared.error.EncodeError.TheVariants.{AlreadyFailed, NoJson, OutOfMemory, OutOfTurn}
+use Rattle.rasn_jer.specs.declared.error.EncodeError.TheVariants.{VariantNotInChoice}
+use Rattle.rasn_jer.specs.declared.place.Kind.{Kind}
+use Rattle.rasn_jer.specs.declared.place.Kind.TheVariants as Kinds
+
+-- one value is written where one is awaited, by a JSON value that shows it
+pub record Presents (x : State) (s : Schema) (v : Value) (y : State) : Type 0 where
+  pub begun : x.failed ≡ false
+  pub left : y.failed ≡ false
+  pub json : Json
+  pub shows : Shows s v json
+  pub taken : Takes x.place (text_of json) y.place
+
+-- inside a record nothing is written
+pub record Stays (x y : State) : Type 0 where
+  pub begun : x.failed ≡ false
+  pub members : x.place.kind ≡ Kinds.Members
+  pub same : y ≡ x
+
+-- an addition as a member, or the members of a group among the others
+abbrev pub IsAdded : Place → Json → Place → Type 0
+IsAdded p j q = ((name : List ℕ) × (q ≡ behind p (member_text name (text_of j))))
+    ⊎ ((gs : Members) × (j ≡ object gs) × (q ≡ behind_all p gs))
+
+-- inside a record an addition is written
+pub record Adds (x : State) (s : Schema) (v : Value) (y : State) : Type 0 where
+  pub begun : x.failed ≡ false
+  pub members : x.place.kind ≡ Kinds.Members
+  pub left : y.failed ≡ false
+  pub json : Json
+  pub shows : Shows s v json
+  pub added : IsAdded x.place json y.place
+
+-- something is opened: what was open waits outside
+pub record Opens (kind : Kind) (x : State) (o : Place) (i : State) : Type 0 where
+  pub begun : x.failed ≡ false
+  pub outer : o ≡ x.place
+  pub within : i ≡ inside kind
+
+-- the value of an addition is awaited, by itself
+pub record Begins (x i : State) : Type 0 where
+  pub begun : x.failed ≡ false
+  pub within : i ≡ inside Kinds.One
+
+-- the value of an addition of a record is awaited: what was open waits outside
+pub record OpensAddition (x : State) (o : Place) (i : State) : Type 0 where
+  pub opened : Opens Kinds.One x o i
+  pub members : x.place.kind ≡ Kinds.Members
+
+-- A list or a bag is open: whatever items show the elements that are left, those that were written and these are the
+-- text of items that show all.
+pub record IsOpenList (f : ListForm) (x : State) (vs : List Value) (o : Place) (y : State) : Type 0 where
+  pub begun : x.failed ≡ false
+  pub outer : o ≡ x.place
+  pub left : y.failed ≡ false
+  pub items : y.place.kind ≡ Kinds.Items
+  pub whole : (js : Items) → ShowsAll f.element vs js → (all : Items) × ShowsAll f.element f.all all
+      × (items_text true all ≡ y.place.text ++ items_text y.place.is_empty js)
+  pub member : (v : Value) → HasElement v vs → HasElement v f.all
+
+-- why nothing is written at a place: a call was refused before, or no value is awaited
+abbrev pub IsRefused : EncodeError → State → Type 0
+IsRefused AlreadyFailed x = x.failed ≡ true
+IsRefused OutOfTurn x = is_full x.place ≡ true
+IsRefused _ x = ⊥
+
+-- the fault that an error names: a value without JSON; want of memory is one of a NULL, for which the traits take none
+abbrev pub fault_of : EncodeError → Schema → Value → Type 0
+fault_of NoJson = HasNoJson
+fault_of OutOfMemory = IsNull
+fault_of _ = λ s v. ⊥
+
+-- why a value is refused: nothing is written where it is, or a fault stands in it
+abbrev pub Refuses : EncodeError → State → Schema → Value → Type 0
+Refuses e x s v = IsRefused e x ⊎ StandsIn (fault_of e) s v
+
+-- why nothing is given that only a record has: a call was refused before, or no record is open
+abbrev pub IsOutside : EncodeError → State → Type 0
+IsOutside AlreadyFailed x = x.failed ≡ true
+IsOutside OutOfTurn x = x.place.kind ≢ Kinds.Members
+IsOutside _ x = ⊥
+
+abbrev pub jer_rules : EncoderRules EncodeError State
+jer_rules = record {
+  presents = Presents;
+  marks = λ x b y. Stays x y;
+  skips = Stays;
+  begins = Begins;
+  adds = Adds;
+  refuses = Refuses;
+  unmarked = IsOutside;
+  surplus = IsOutside;
+  unchosen = λ e x. e ≡ VariantNotInChoice;
+  memory = λ e x. e ≡ OutOfMemory;
+  already = λ e x. e ≡ AlreadyFailed;
+  failed = λ x. x.failed;
+  codec = λ x. Uper;
+}
+
+-- how each call behaves
+abbrev pub BehavesSo : {T : Type 0} → State → Result T EncodeError → State → Type 0
+BehavesSo x result y = Behaves jer_rules.already jer_rules.failed jer_rules.codec x result y
+
+-- a text for which memory was taken is written where one is awaited
+abbrev pub TextWritten : {T E U : Type 0} → Result U EncodeError → Result T E → (T → List ℕ) → State → State → Type 0
+TextWritten (Err e) text items x y = (e ≡ OutOfMemory) ⊎ IsRefused e x
+TextWritten (Ok u) (Ok t) items x y = (x.failed ≡ false) × (y.failed ≡ false) × Takes x.place (items t) y.place
+TextWritten (Ok u) (Err n) items x y = ⊥
+
+-- a call that writes a text, for which memory may not have been taken
+pub record WritesText {T E : Type 0} (text : Result T E) (items : T → List ℕ) (x : State)
+    (result : Result (Unit {0}) EncodeError) (y : State) : Type 0 where
+  pub written : TextWritten result text items x y
+  pub behaves : BehavesSo x result y
+
+-- a place is opened, and what was open is answered
+abbrev pub Entered : {E : Type 0} → Result Place EncodeError → Result Place E → State → State → Type 0
+Entered (Err e) p x y = (e ≡ OutOfMemory) ⊎ ((e ≡ AlreadyFailed) × (x.failed ≡ true))
+Entered (Ok o) (Ok p) x y = (x.failed ≡ false) × (o ≡ x.place) × (y ≡ unfailed_at p)
+Entered (Ok o) (Err n) x y = ⊥
+
+-- a call that opens a place
+pub record EntersPlace {E : Type 0} (place : Result Place E) (x : State) (result : Result Place EncodeError)
+    (y : State) : Type 0 where
+  pub entered : Entered result place x y
+  pub behaves : BehavesSo x result y
+
+-- why a place of a kind isn't closed: a call was refused before; it is of another kind, or its one value is lacking; or
+-- outside no value is awaited
+abbrev pub IsUnclosed : Kind → Bool → State → EncodeError → Type 0
+IsUnclosed kind is_full_outside j AlreadyFailed = j.failed ≡ true
+IsUnclosed kind is_full_outside j OutOfTurn =
+    (j.place.kind ≢ kind) ⊎ ((is_complete j.place ≡ false) ⊎ (is_full_outside ≡ true))
+IsUnclosed kind is_full_outside j _ = ⊥
+
+-- what is inside a place of a kind is taken out, and what waited outside is open again
+abbrev pub Left : Kind → Place → State → Result Place EncodeError → State → Type 0
+Left kind o j (Ok p) y = (j.failed ≡ false) × (j.place.kind ≡ kind) × (p ≡ j.place)
+    × (y ≡ unfailed_at o)
+Left kind o j (Err e) y = IsUnclosed kind false j e
+
+-- a call that takes out what is inside a place
+pub record LeavesPlace (kind : Kind) (o : Place) (j : State) (result : Result Place EncodeError)
+    (y : State) : Type 0 where
+  pub left : Left kind o j result y
+  pub behaves : BehavesSo j result y
+
+-- a place of a kind is closed: what was written in it is written outside, between two characters
+abbrev pub Closed : Kind → ℕ → ℕ → Place → State → Result (Unit {0}) EncodeError → State → Type 0
+Closed kind opening closing o j (Ok u) y = (j.failed ≡ false) × (j.place.kind ≡ kind) × (y.failed ≡ false)
+    × Takes o (enclosed opening j.place.text closing) y.place
+Closed kind opening closing o j (Err e) y = (e ≡ OutOfMemory) ⊎ IsUnclosed kind (is_full o) j e
+
+-- a call that closes a place
+pub record ClosesPlace (kind : Kind) (opening closing : ℕ) (o : Place) (j : State)
+    (result : Result (Unit {0}) EncodeError) (y : State) : Type 0 where
+  pub closed : Closed kind opening closing o j result y
+  pub behaves : BehavesSo j result y
+
+-- a record is open, or why none is
+abbrev pub InRecord : State → Result (Unit {0}) EncodeError → State → Type 0
+InRecord x (Ok u) y = Stays x y
+InRecord x (Err e) y = IsOutside e x
+
+-- a call that is made in a record alone
+pub record NeedsRecord (x : State) (result : Result (Unit {0}) EncodeError) (y : State) : Type 0 where
+  pub inside : InRecord x result y
+  pub behaves : BehavesSo x result y
+
+-- an addition is written in the record that is open: Ok has written what P says, and Err, memory aside, comes only
+-- outside of one
+abbrev pub AddedSo : (Place → Type 0) → State → Result (Unit {0}) EncodeError → State → Type 0
+AddedSo P x (Ok u) y = (x.failed ≡ false) × (x.place.kind ≡ Kinds.Members) × (y.failed ≡ false) × P y.place
+AddedSo P x (Err e) y = (e ≡ OutOfMemory) ⊎ IsOutside e x

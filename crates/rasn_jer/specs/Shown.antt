@@ -1,0 +1,175 @@
+-- Which JSON value shows a value of a schema (ITU-T X.697). The names of members are any: a schema has none.
+use Rattle.std.specs.Prelude.{ℕ, ℤ, ◌≡◌, Bool, true, false, List, [], ◌∷◌, length, slice_get, Option, Some}
+use Rattle.std.specs.Prelude.{codes, decimal}
+use Rattle.std.specs.Char.{OutOfScalarRange}
+use Rattle.rasn_types.specs.Packed.{packed}
+use Rattle.rasn_types.specs.Contents.{TimeKind, is_time}
+use Rattle.rasn_types.specs.Values.{Value, truth, nothing, whole, octets, bits, characters, alternative}
+use Rattle.rasn_types.specs.Values.{bag_of, Side}
+use Rattle.rasn_constraints.specs.Bounds.{Bounds, Size, fits_i128}
+use Rattle.rasn_schema.specs.Absent.{no_value}
+use Rattle.rasn_schema.specs.Canonised.{canonised, canonised_slots}
+use Rattle.rasn_schema.specs.Choices.{alternative_in, choice_schema}
+use Rattle.rasn_schema.specs.Lists.{list_value}
+use Rattle.rasn_schema.specs.Records.{record_value}
+use Rattle.rasn_schema.specs.Schemas.{Schema, Parts, no_parts, part, Presence, Order, by_tag, listed, TagTree}
+use Rattle.rasn_traits.specs.Additions.{addition_bit}
+use Rattle.rasn_traits.specs.Presences.{presence_bit}
+use Rattle.json.specs.Json.{Json, null, boolean, number, string, array, object, Items, no_items, item}
+use Rattle.json.specs.Json.{Members, no_members, member}
+use Rattle.json.specs.Print.{IsNumber}
+use Rattle.hex.specs.Hex.{encode_upper}
+use Rattle.std.specs.Fmt.{signed_decimal}
+use Rattle.rasn_jer.specs.Texts.{join, text_of}
+
+-- the text of a whole number is a number of JSON, and its decimal digits where an i128 holds it
+pub record IsWhole (z : ℤ) (s : List ℕ) : Type 0 where
+  pub is_number : IsNumber s
+  pub digits : fits_i128 z ≡ true → s ≡ signed_decimal z
+
+-- X.697: bits are the hexadecimal digits of their octets, and an object that also tells how many there are, where the
+-- size doesn't say it
+pub data IsBits (bs : List Bool) : Json → Type 0 where
+  fixed_bits : IsBits bs (string (encode_upper (packed bs)))
+  counted_bits : IsNumber (decimal (length bs))
+      → IsBits bs (object (member (codes "value") (string (encode_upper (packed bs)))
+      (member (codes "length") (number (decimal (length bs))) no_members)))
+
+-- a text shows bits
+pub record ShowsBits (bs : List Bool) (text : List ℕ) : Type 0 where
+  pub json : Json
+  pub are_bits : IsBits bs json
+  pub is_text : text ≡ text_of json
+
+-- a text is a string of JSON
+abbrev pub IsQuoted : List ℕ → Type 0
+IsQuoted text = (s : List ℕ) × (text ≡ text_of (string s))
+
+-- a character isn't a scalar value of Unicode
+pub record HasNoScalar (cs : List ℕ) : Type 0 where
+  pub index : ℕ
+  pub code : ℕ
+  pub found : slice_get cs index ≡ Some code
+  pub foreign : OutOfScalarRange code
+
+-- X.697: the kinds whose JSON is a string of any characters
+abbrev pub IsString : Schema → Type 0
+IsString (Schema.text kind) = Unit {0}
+IsString Schema.identifier = Unit {0}
+IsString (Schema.time kind) = Unit {0}
+IsString Schema.date = Unit {0}
+IsString (Schema.char_string alphabet size mark) = Unit {0}
+IsString _ = ⊥
+
+-- a root component is there, and not at its default
+pub data IsThere : Presence → Value → Type 0 where
+  is_required : {v : Value} → IsThere Presence.required v
+  is_present : {p : Presence} {v : Value} → presence_bit p (Some v) ≡ Some true → IsThere p v
+
+mutual
+  -- a JSON value shows a value
+  pub data Shows : Schema → Value → Json → Type 0 where
+    shows_truth : {b : Bool} → Shows Schema.boolean (truth b) (boolean b)
+    shows_nothing : Shows Schema.null nothing null
+    shows_whole : {bounds range : Bounds} {mark : Bool} {z : ℤ} {s : List ℕ} → IsWhole z s
+        → Shows (Schema.number bounds mark range) (whole z) (number s)
+    -- by the number of the item
+    shows_item : {roots addeds : ℕ} {extensible : Bool} {v : Value} {s : List ℕ} → IsNumber s
+        → Shows (Schema.items roots addeds extensible) v (number s)
+    shows_octets : {size : Size} {mark : Bool} {os : List ℕ}
+        → Shows (Schema.octet_string size mark) (octets os) (string (encode_upper os))
+    shows_any : {os : List ℕ} → Shows Schema.any (octets os) (string (encode_upper os))
+    shows_bits : {size : Size} {mark : Bool} {bs : List Bool} {j : Json} → IsBits bs j
+        → Shows (Schema.bit_string size mark) (bits bs) j
+    shows_string : {c : Schema} {v : Value} {s : List ℕ} → IsString c → Shows c v (string s)
+    shows_list : {e : Schema} {size : Size} {mark : Bool} {vs : List Value} {js : Items} → ShowsAll e vs js
+        → Shows (Schema.list e size mark) (list_value vs) (array js)
+    -- in any order
+    shows_bag : {e : Schema} {size : Size} {mark : Bool} {vs : List Value} {js : Items} → ShowsAll e vs js
+        → Shows (Schema.set_of e size mark) (bag_of vs) (array js)
+    shows_record : {o : Order} {ps qs : Parts} {marker : Bool} {rs xs : List (Option Value)} {ms ns : Members}
+        → ShowsParts ps rs ns ms → ShowsAdditions qs xs ns
+        → Shows (Schema.sequence o ps marker qs) (record_value rs xs) (object ms)
+    -- as the SEQUENCE of its components in ascending order of their smallest tags
+    shows_ordered : {ps qs : Parts} {marker : Bool} {j : Json} (rs xs : List (Option Value))
+        → Shows (Schema.sequence listed (canonised ps) marker qs) (record_value (canonised_slots ps rs) xs) j
+        → Shows (Schema.sequence by_tag ps marker qs) (record_value rs xs) j
+    shows_alternative : {s : Schema} {ps qs : Parts} {marker : Bool} {d : Side} {k : ℕ} {v : Value} {j : Json}
+        {name : List ℕ} → alternative_in (choice_schema ps marker qs) d k ≡ Some s → Shows s v j
+        → Shows (choice_schema ps marker qs) (alternative d k v) (object (member name j no_members))
+
+  -- items show elements
+  pub data ShowsAll : Schema → List Value → Items → Type 0 where
+    shows_end : {e : Schema} → ShowsAll e [] no_items
+    shows_next : {e : Schema} {v : Value} {vs : List Value} {j : Json} {js : Items} → Shows e v j → ShowsAll e vs js
+        → ShowsAll e (v ∷ vs) (item j js)
+
+  -- members show root components, in front of further ones: one that is absent or at its default is left out
+  pub data ShowsParts : Parts → List (Option Value) → Members → Members → Type 0 where
+    parts_end : {ns : Members} → ShowsParts no_parts [] ns ns
+    part_there : {t : TagTree} {p : Presence} {s : Schema} {ps : Parts} {v : Value} {rs : List (Option Value)}
+        {name : List ℕ} {j : Json} {ns ms : Members} → IsThere p v → Shows s v j → ShowsParts ps rs ns ms
+        → ShowsParts (part t p s ps) (Some v ∷ rs) ns (member name j ms)
+    part_left_out : {t : TagTree} {p : Presence} {s : Schema} {ps : Parts} {r : Option Value}
+        {rs : List (Option Value)} {ns ms : Members} → presence_bit p r ≡ Some false → ShowsParts ps rs ns ms
+        → ShowsParts (part t p s ps) (r ∷ rs) ns ms
+
+  -- members show additions: those of a group stand among the others
+  pub data ShowsAdditions : Parts → List (Option Value) → Members → Type 0 where
+    additions_end : ShowsAdditions no_parts [] no_members
+    addition_there : {t : TagTree} {p : Presence} {s : Schema} {ps : Parts} {v : Value} {xs : List (Option Value)}
+        {name : List ℕ} {j : Json} {ms : Members} → addition_bit p (Some v) ≡ Some true → Shows s v j
+        → ShowsAdditions ps xs ms → ShowsAdditions (part t p s ps) (Some v ∷ xs) (member name j ms)
+    addition_spread : {t : TagTree} {p : Presence} {s : Schema} {ps : Parts} {v : Value} {xs : List (Option Value)}
+        {gs ms : Members} → addition_bit p (Some v) ≡ Some true → Shows s v (object gs)
+        → ShowsAdditions ps xs ms → ShowsAdditions (part t p s ps) (Some v ∷ xs) (join gs ms)
+    addition_left_out : {t : TagTree} {p : Presence} {s : Schema} {ps : Parts} {x : Option Value}
+        {xs : List (Option Value)} {ms : Members} → addition_bit p x ≡ Some false → ShowsAdditions ps xs ms
+        → ShowsAdditions (part t p s ps) (x ∷ xs) ms
+
+-- a component that is there, by its schema
+pub data HasPart (s : Schema) (v : Value) : Parts → List (Option Value) → Type 0 where
+  part_here : {t : TagTree} {p : Presence} {ps : Parts} {rs : List (Option Value)}
+      → addition_bit p (Some v) ≡ Some true → HasPart s v (part t p s ps) (Some v ∷ rs)
+  part_behind : {t : TagTree} {p : Presence} {c : Schema} {r : Option Value} {ps : Parts} {rs : List (Option Value)}
+      → HasPart s v ps rs → HasPart s v (part t p c ps) (r ∷ rs)
+
+-- an element of a list, or a member of a bag
+pub data HasElement (v : Value) : List Value → Type 0 where
+  element_here : {vs : List Value} → HasElement v (v ∷ vs)
+  element_behind : {w : Value} {vs : List Value} → HasElement v vs → HasElement v (w ∷ vs)
+
+-- A value has no JSON: a REAL, which isn't supported; a value that is absent where one is asked for (X.680 25.6); a
+-- time that no text of its type holds; or characters that aren't all scalar values of Unicode.
+pub data HasNoJson : Schema → Value → Type 0 where
+  is_real : {v : Value} → HasNoJson Schema.real v
+  is_absent : {s : Schema} → HasNoJson s no_value
+  is_untimely : {kind : TimeKind} {cs : List ℕ} → is_time kind cs ≡ false
+      → HasNoJson (Schema.time kind) (characters cs)
+  is_no_text : {alphabet : List ℕ} {size : Size} {mark : Bool} {cs : List ℕ} → HasNoScalar cs
+      → HasNoJson (Schema.char_string alphabet size mark) (characters cs)
+
+-- a value is NULL, whose encoding takes no memory by the traits, but whose JSON does
+pub data IsNull : Schema → Value → Type 0 where
+  is_null : {v : Value} → IsNull Schema.null v
+
+-- a fault stands in a value: at once, in a component, an addition, an element or a member of it, or in its alternative
+pub data StandsIn (fault : Schema → Value → Type 0) : Schema → Value → Type 0 where
+  at_once : {s : Schema} {v : Value} → fault s v → StandsIn fault s v
+  in_part : {s : Schema} {v : Value} {o : Order} {ps qs : Parts} {marker : Bool} {rs : List (Option Value)}
+      (xs : List (Option Value)) → HasPart s v ps rs → StandsIn fault s v
+      → StandsIn fault (Schema.sequence o ps marker qs) (record_value rs xs)
+  in_addition : {s : Schema} {v : Value} {o : Order} {ps qs : Parts} {marker : Bool} {xs : List (Option Value)}
+      (rs : List (Option Value)) → HasPart s v qs xs → StandsIn fault s v
+      → StandsIn fault (Schema.sequence o ps marker qs) (record_value rs xs)
+  -- X.691 21.1: in the SEQUENCE of a SET's components in ascending order of their smallest tags
+  in_set : {ps qs : Parts} {marker : Bool} (rs xs : List (Option Value))
+      → StandsIn fault (Schema.sequence listed (canonised ps) marker qs) (record_value (canonised_slots ps rs) xs)
+      → StandsIn fault (Schema.sequence by_tag ps marker qs) (record_value rs xs)
+  in_element : {e : Schema} {size : Size} {mark : Bool} {v : Value} {vs : List Value} → HasElement v vs
+      → StandsIn fault e v → StandsIn fault (Schema.list e size mark) (list_value vs)
+  in_member : {e : Schema} {size : Size} {mark : Bool} {v : Value} {vs : List Value} → HasElement v vs
+      → StandsIn fault e v → StandsIn fault (Schema.set_of e size mark) (bag_of vs)
+  in_alternative : {s : Schema} {v : Value} {ps qs : Parts} {marker : Bool} {d : Side} {k : ℕ}
+      → alternative_in (choice_schema ps marker qs) d k ≡ Some s → StandsIn fault s v
+      → StandsIn fault (choice_schema ps marker qs) (alternative d k v)

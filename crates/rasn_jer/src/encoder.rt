@@ -1,0 +1,643 @@
+//! The encoder of JSON, behind the trait of encoders.
+
+ghost use Rattle.std.specs.Prelude.{◌≡◌, ◌⊎◌, ℕ, List, None, true, false, if◌then◌else◌, IfOk, IfErr, OnOk, OnErr};
+ghost use Rattle.json.specs.Json.{Members, object as the_object};
+ghost use Rattle.rasn_schema.specs.Choices.{place_of, variants_behind};
+ghost use Rattle.rasn_schema.specs.Fields.{tag_of};
+ghost use Rattle.rasn_jer.specs.Places.{behind, behind_all, inside, is_full, vacant_place};
+ghost use Rattle.rasn_jer.specs.Rules.{AddedSo, BehavesSo, ClosesPlace, EntersPlace, LeavesPlace, NeedsRecord};
+ghost use Rattle.rasn_jer.specs.Rules.{WritesText, jer_rules};
+ghost use Rattle.rasn_jer.specs.Texts.{enclosed as enclosed_text, member_text, text_of};
+ghost use Rattle.rasn_jer.specs.declared.error.EncodeError.TheVariants.{AlreadyFailed};
+ghost use Rattle.rasn_jer.specs.declared.place.Kind.TheVariants.{Members as members_kind, One};
+
+use crate::error::EncodeError;
+use crate::place::{Kind, Names, Place};
+use crate::texts::{
+    bits, chosen_member, day, enclosed, generalized_time, hexadecimal, identifier, item, latin,
+    nothing, quoted, scalars, truth, utc_time, whole,
+};
+use rasn_schema::choices::Choice;
+use rasn_schema::enumerated::Enumerated;
+use rasn_schema::fields::{AdditionGroup, Constructed};
+use rasn_schema::schema::{Constraints, IntegerType};
+use rasn_strings::strings::StaticPermittedAlphabet;
+use rasn_times::civil::{CivilDate, GeneralizedMoment, UtcMoment};
+use rasn_traits::encoder;
+use rasn_types::bit_string::BitString;
+use rasn_types::octet_strings::{Any, GeneralString, GraphicString, TeletexString};
+use rasn_types::types::{Codec, Identifier, Tag};
+use std::alloc::{AllocError, Allocator};
+use std::marker::Model;
+use std::mem;
+
+/// Writes a value as JSON.
+#[derive(Drop)]
+pub struct Encoder<A: Allocator + Copy> {
+    alloc: A,
+    place: Place<A>,
+    failed: bool,
+}
+
+impl<A: Allocator + Copy> Model for Encoder<A> {
+    ghost use Rattle.rasn_jer.specs.Places.{State};
+
+    ghost Value = { State };
+
+    ghost view = { λ a. record { place = a.place; failed = a.failed } };
+}
+
+impl<A: Allocator + Copy> Encoder<A> {
+    /// An encoder that has written nothing. It takes no memory yet; its text is kept in memory of `alloc`.
+    pub fn new(alloc: A) -> Self
+        ensures { result ≡ inside One }
+    {
+        Encoder {
+            alloc,
+            place: Place::new(alloc, Kind::One),
+            failed: false,
+        }
+    }
+
+    /// The text of the value that was written; `OutOfTurn` where none was, or where something is still open.
+    pub fn output(self) -> Result<Vec<u8, A>, EncodeError>
+        ensures ok { IfOk result (λ text. text.items ≡ self.place.text) }
+        ensures err { OnErr result ((self.failed ≡ true) ⊎ (is_full self.place ≡ false)) }
+    {
+        let Encoder { place, failed, .. } = self;
+        if failed {
+            return Err(EncodeError::AlreadyFailed);
+        }
+        if !place.is_full() {
+            return Err(EncodeError::OutOfTurn);
+        }
+        Ok(place.into_text())
+    }
+
+    /// Refuses, from now on too. A failed encoder answers that it had failed.
+    fn refuse(&mut self, error: EncodeError) -> EncodeError
+        ensures answers { result ≡ if self.old.failed then AlreadyFailed else error }
+        ensures fails { self.new.failed ≡ true }
+    {
+        if self.failed {
+            return EncodeError::AlreadyFailed;
+        }
+        self.refuse_now(error)
+    }
+
+    /// Refuses, from now on too.
+    fn refuse_now(&mut self, error: EncodeError) -> EncodeError
+        ensures answers { result ≡ error }
+        ensures fails { self.new ≡ record self.old { failed = true } }
+    {
+        self.failed = true;
+        error
+    }
+
+    /// Writes a value's text where one is awaited.
+    fn write(&mut self, text: Result<Vec<u8, A>, AllocError>) -> Result<(), EncodeError>
+        ensures { WritesText text (λ t. t.items) self.old result self.new }
+    {
+        if self.failed {
+            return Err(EncodeError::AlreadyFailed);
+        }
+        if self.place.is_full() {
+            return Err(self.refuse_now(EncodeError::OutOfTurn));
+        }
+        match text {
+            Ok(text) => match self.place.take(text.as_slice()) {
+                Ok(()) => Ok(()),
+                Err(_) => Err(self.refuse_now(EncodeError::OutOfMemory)),
+            },
+            Err(_) => Err(self.refuse_now(EncodeError::OutOfMemory)),
+        }
+    }
+
+    /// Opens a place, and answers what was open.
+    fn enter(&mut self, place: Result<Place<A>, AllocError>) -> Result<Place<A>, EncodeError>
+        ensures { EntersPlace place self.old result self.new }
+    {
+        if self.failed {
+            return Err(EncodeError::AlreadyFailed);
+        }
+        match place {
+            Ok(place) => Ok(mem::replace(&mut self.place, place)),
+            Err(_) => Err(self.refuse_now(EncodeError::OutOfMemory)),
+        }
+    }
+
+    /// Takes out what is inside a place of a kind, and opens what waited outside again.
+    fn leave(&mut self, outer: Place<A>, kind: Kind) -> Result<Place<A>, EncodeError>
+        ensures { LeavesPlace kind outer self.old result self.new }
+    {
+        if self.failed {
+            return Err(EncodeError::AlreadyFailed);
+        }
+        if !self.place.is_of(kind) || !self.place.is_complete() {
+            return Err(self.refuse_now(EncodeError::OutOfTurn));
+        }
+        Ok(mem::replace(&mut self.place, outer))
+    }
+
+    /// Closes a place of a kind: what was written in it is written outside, between two characters.
+    fn close(
+        &mut self,
+        outer: Place<A>,
+        kind: Kind,
+        opening: u8,
+        closing: u8,
+    ) -> Result<(), EncodeError>
+        ensures { ClosesPlace kind opening closing outer self.old result self.new }
+    {
+        match self.leave(outer, kind) {
+            Ok(inner) => {
+                let text = enclosed(self.alloc, opening, inner.text(), closing);
+                self.write(text)
+            }
+            Err(error) => Err(error),
+        }
+    }
+
+    /// Answers an error where a call was refused before.
+    fn check_unfailed(&self) -> Result<(), EncodeError>
+        ensures ok { OnOk result (self.now.failed ≡ false) }
+        ensures err { IfErr result (λ e. (e ≡ AlreadyFailed) × (self.now.failed ≡ true)) }
+    {
+        if self.failed {
+            return Err(EncodeError::AlreadyFailed);
+        }
+        Ok(())
+    }
+
+    /// Answers an error where no record is open, or a call was refused before.
+    fn check_members(&mut self) -> Result<(), EncodeError>
+        ensures { NeedsRecord self.old result self.new }
+    {
+        if self.failed {
+            return Err(EncodeError::AlreadyFailed);
+        }
+        if !self.place.is_of(Kind::Members) {
+            return Err(self.refuse_now(EncodeError::OutOfTurn));
+        }
+        Ok(())
+    }
+
+    /// Writes the text of an addition as a member of the open record.
+    fn add(&mut self, text: &[u8]) -> Result<(), EncodeError>
+        ensures added { AddedSo (λ q. (name : List ℕ) × (q ≡ behind self.old.place (member_text name text.now)))
+            self.old result self.new }
+        ensures behaves { BehavesSo self.old result self.new }
+    {
+        match self.check_members() {
+            Ok(()) => match self.place.add(text) {
+                Ok(()) => Ok(()),
+                Err(_) => Err(self.refuse_now(EncodeError::OutOfMemory)),
+            },
+            Err(error) => Err(error),
+        }
+    }
+
+    /// Writes the members of an object's text among those of the open record.
+    fn add_all(&mut self, object: &[u8]) -> Result<(), EncodeError>
+        ensures added { (gs : Members) → object.now ≡ text_of (the_object gs)
+            → AddedSo (λ q. q ≡ behind_all self.old.place gs) self.old result self.new }
+        ensures behaves { BehavesSo self.old result self.new }
+    {
+        match self.check_members() {
+            Ok(()) => match self.place.add_all(without_ends(object)) {
+                Ok(()) => Ok(()),
+                Err(_) => Err(self.refuse_now(EncodeError::OutOfMemory)),
+            },
+            Err(error) => Err(error),
+        }
+    }
+}
+
+impl<A: Allocator + Copy> encoder::Encoder for Encoder<A> {
+    ghost use Rattle.rasn_jer.specs.Rules.{IsOpenList, Opens, OpensAddition};
+    ghost use Rattle.rasn_jer.specs.Laws.Relations.{presents_well, sets_written};
+    ghost use Rattle.rasn_jer.specs.declared.place.Kind.TheVariants as Kinds;
+
+    type Error = EncodeError;
+
+    type Scope = Place<A>;
+
+    type Addition = Place<A>;
+
+    type Alternative = Place<A>;
+
+    type List = Place<A>;
+
+    type Bag = Place<A>;
+
+    ghost rules = { jer_rules };
+
+    ghost opens = { λ s. Opens Kinds.Members };
+
+    ghost opens_addition = { OpensAddition };
+
+    ghost opens_choice = { λ s. Opens Kinds.One };
+
+    ghost amid = { IsOpenList };
+
+    ghost amid_bag = { IsOpenList };
+
+    /// No variant of PER writes JSON: the UNALIGNED one stands for it.
+    fn codec(&self) -> Codec {
+        Codec::Uper
+    }
+
+    fn encode_bool(
+        &mut self,
+        _tag: Tag,
+        value: bool,
+        _identifier: Identifier,
+    ) -> Result<(), EncodeError> {
+        let text = truth(self.alloc, value);
+        self.write(text)
+    }
+
+    fn encode_integer<I: IntegerType>(
+        &mut self,
+        _tag: Tag,
+        _constraints: &Constraints,
+        value: &I,
+        _identifier: Identifier,
+    ) -> Result<(), EncodeError> {
+        let text = whole(self.alloc, value);
+        self.write(text)
+    }
+
+    fn encode_real(
+        &mut self,
+        _tag: Tag,
+        _constraints: &Constraints,
+        _identifier: Identifier,
+    ) -> Result<(), EncodeError> {
+        Err(self.refuse(EncodeError::NoJson))
+    }
+
+    fn encode_absent(&mut self, _tag: Tag, _identifier: Identifier) -> Result<(), EncodeError> {
+        Err(self.refuse(EncodeError::NoJson))
+    }
+
+    fn encode_null(&mut self, _tag: Tag, _identifier: Identifier) -> Result<(), EncodeError> {
+        let text = nothing(self.alloc);
+        self.write(text)
+    }
+
+    fn encode_enumerated<E: Enumerated>(
+        &mut self,
+        _tag: Tag,
+        value: &E,
+        _identifier: Identifier,
+    ) -> Result<(), EncodeError> {
+        let text = item(self.alloc, value);
+        self.write(text)
+    }
+
+    fn encode_any(
+        &mut self,
+        _tag: Tag,
+        value: &Any,
+        _identifier: Identifier,
+    ) -> Result<(), EncodeError> {
+        let text = hexadecimal(self.alloc, value.as_bytes());
+        self.write(text)
+    }
+
+    fn encode_octet_string(
+        &mut self,
+        _tag: Tag,
+        _constraints: &Constraints,
+        value: &[u8],
+        _identifier: Identifier,
+    ) -> Result<(), EncodeError> {
+        let text = hexadecimal(self.alloc, value);
+        self.write(text)
+    }
+
+    fn encode_bit_string(
+        &mut self,
+        _tag: Tag,
+        constraints: &Constraints,
+        value: &BitString,
+        _identifier: Identifier,
+    ) -> Result<(), EncodeError> {
+        let text = bits(self.alloc, value, is_of_fixed_size(constraints));
+        self.write(text)
+    }
+
+    fn encode_known_multiplier_string<S: StaticPermittedAlphabet>(
+        &mut self,
+        _tag: Tag,
+        _constraints: &Constraints,
+        value: &S,
+        _identifier: Identifier,
+    ) -> Result<(), EncodeError> {
+        match scalars(self.alloc, value) {
+            Ok(text) => self.write(Ok(text)),
+            Err(error) => Err(self.refuse(error)),
+        }
+    }
+
+    fn encode_utf8_string(
+        &mut self,
+        _tag: Tag,
+        _constraints: &Constraints,
+        value: &str,
+        _identifier: Identifier,
+    ) -> Result<(), EncodeError> {
+        let text = quoted(self.alloc, value);
+        self.write(text)
+    }
+
+    fn encode_general_string(
+        &mut self,
+        _tag: Tag,
+        _constraints: &Constraints,
+        value: &GeneralString,
+        _identifier: Identifier,
+    ) -> Result<(), EncodeError> {
+        let text = latin(self.alloc, value.as_bytes());
+        self.write(text)
+    }
+
+    fn encode_graphic_string(
+        &mut self,
+        _tag: Tag,
+        _constraints: &Constraints,
+        value: &GraphicString,
+        _identifier: Identifier,
+    ) -> Result<(), EncodeError> {
+        let text = latin(self.alloc, value.as_bytes());
+        self.write(text)
+    }
+
+    fn encode_teletex_string(
+        &mut self,
+        _tag: Tag,
+        _constraints: &Constraints,
+        value: &TeletexString,
+        _identifier: Identifier,
+    ) -> Result<(), EncodeError> {
+        let text = latin(self.alloc, value.as_bytes());
+        self.write(text)
+    }
+
+    fn encode_object_identifier(
+        &mut self,
+        _tag: Tag,
+        value: &[u32],
+        _identifier: Identifier,
+    ) -> Result<(), EncodeError> {
+        let text = identifier(self.alloc, value);
+        self.write(text)
+    }
+
+    fn encode_utc_time<M: UtcMoment>(
+        &mut self,
+        _tag: Tag,
+        value: &M,
+        _identifier: Identifier,
+    ) -> Result<(), EncodeError> {
+        match utc_time(self.alloc, value) {
+            Ok(text) => self.write(Ok(text)),
+            Err(error) => Err(self.refuse(error)),
+        }
+    }
+
+    fn encode_generalized_time<M: GeneralizedMoment>(
+        &mut self,
+        _tag: Tag,
+        value: &M,
+        _identifier: Identifier,
+    ) -> Result<(), EncodeError> {
+        match generalized_time(self.alloc, value) {
+            Ok(text) => self.write(Ok(text)),
+            Err(error) => Err(self.refuse(error)),
+        }
+    }
+
+    fn encode_date<D: CivilDate>(
+        &mut self,
+        _tag: Tag,
+        value: &D,
+        _identifier: Identifier,
+    ) -> Result<(), EncodeError> {
+        let (year, month, day_of_month) = value.to_parts();
+        let text = day(self.alloc, year, month, day_of_month);
+        self.write(text)
+    }
+
+    fn open_sequence<C: Constructed>(
+        &mut self,
+        _tag: Tag,
+        _identifier: Identifier,
+    ) -> Result<Place<A>, EncodeError> {
+        let place = members_of::<C, A>(self.alloc);
+        self.enter(place)
+    }
+
+    fn close_sequence<C: Constructed>(&mut self, scope: Place<A>) -> Result<(), EncodeError> {
+        self.close(scope, Kind::Members, b'{', b'}')
+    }
+
+    fn open_components<C: Constructed>(
+        &mut self,
+        _tag: Tag,
+        _identifier: Identifier,
+    ) -> Result<Place<A>, EncodeError> {
+        let place = members_of::<C, A>(self.alloc);
+        self.enter(place)
+    }
+
+    fn close_components<C: Constructed>(&mut self, scope: Place<A>) -> Result<(), EncodeError> {
+        self.close(scope, Kind::Members, b'{', b'}')
+    }
+
+    fn open_set<C: Constructed>(
+        &mut self,
+        _tag: Tag,
+        _identifier: Identifier,
+    ) -> Result<Place<A>, EncodeError> {
+        let place = ordered_members_of::<C, A>(self.alloc);
+        self.enter(place)
+    }
+
+    fn close_set<C: Constructed>(&mut self, scope: Place<A>) -> Result<(), EncodeError> {
+        self.close(scope, Kind::Members, b'{', b'}')
+    }
+
+    fn open_choice<C: Choice>(
+        &mut self,
+        _tag: Tag,
+        _identifier: Identifier,
+    ) -> Result<Place<A>, EncodeError> {
+        let place = Place::new(self.alloc, Kind::One);
+        self.enter(Ok(place))
+    }
+
+    fn close_choice<C: Choice>(
+        &mut self,
+        outside: Place<A>,
+        chosen: Tag,
+    ) -> Result<(), EncodeError> {
+        let is_known = has_alternative::<C>(chosen);
+        if !is_known {
+            return Err(self.refuse(EncodeError::VariantNotInChoice));
+        }
+        match self.leave(outside, Kind::One) {
+            Ok(inner) => {
+                let text = chosen_member(self.alloc, chosen, inner.text());
+                self.write(text)
+            }
+            Err(error) => Err(error),
+        }
+    }
+
+    fn set_presence(&mut self, is_there: bool) -> Result<(), EncodeError> {
+        if !is_there {
+            self.place.skip_root();
+        }
+        self.check_members()
+    }
+
+    fn skip_addition(&mut self) -> Result<(), EncodeError> {
+        self.place.skip_added();
+        self.check_members()
+    }
+
+    fn open_addition(&mut self) -> Result<Place<A>, EncodeError> {
+        match self.check_members() {
+            Ok(()) => {
+                let place = Place::new(self.alloc, Kind::One);
+                self.enter(Ok(place))
+            }
+            Err(error) => Err(error),
+        }
+    }
+
+    fn close_addition(&mut self, addition: Place<A>) -> Result<(), EncodeError> {
+        match self.leave(addition, Kind::One) {
+            Ok(inner) => self.add(inner.text()),
+            Err(error) => Err(error),
+        }
+    }
+
+    fn close_group<C: AdditionGroup>(&mut self, addition: Place<A>) -> Result<(), EncodeError> {
+        match self.leave(addition, Kind::One) {
+            Ok(inner) => self.add_all(inner.text()),
+            Err(error) => Err(error),
+        }
+    }
+
+    fn open_list(
+        &mut self,
+        _tag: Tag,
+        _constraints: &Constraints,
+        _count: usize,
+        _identifier: Identifier,
+    ) -> Result<Place<A>, EncodeError> {
+        let place = Place::new(self.alloc, Kind::Items);
+        self.enter(Ok(place))
+    }
+
+    fn next_element(&mut self, _list: &mut Place<A>) -> Result<(), EncodeError> {
+        self.check_unfailed()
+    }
+
+    fn close_list(&mut self, list: Place<A>) -> Result<(), EncodeError> {
+        self.close(list, Kind::Items, b'[', b']')
+    }
+
+    fn open_set_of(
+        &mut self,
+        _tag: Tag,
+        _constraints: &Constraints,
+        _count: usize,
+        _identifier: Identifier,
+    ) -> Result<Place<A>, EncodeError> {
+        let place = Place::new(self.alloc, Kind::Items);
+        self.enter(Ok(place))
+    }
+
+    fn next_member(&mut self, _bag: &mut Place<A>) -> Result<(), EncodeError> {
+        self.check_unfailed()
+    }
+
+    fn close_set_of(&mut self, bag: Place<A>) -> Result<(), EncodeError> {
+        self.close(bag, Kind::Items, b'[', b']')
+    }
+
+    fn fail(&mut self) {
+        self.failed = true;
+    }
+
+    ghost lawful = { presents_well };
+
+    ghost sets = { sets_written };
+}
+
+/// The place of a record's members, by the names of its fields as they are listed.
+fn members_of<C: Constructed, A: Allocator + Copy>(alloc: A) -> Result<Place<A>, AllocError>
+    ensures { IfOk result (λ place. place ≡ vacant_place members_kind) }
+{
+    let root = C::FIELDS;
+    let root = Names::of_fields(alloc, root.list)?;
+    let added = added_names::<C, A>(alloc)?;
+    Ok(Place::of_members(alloc, root, added))
+}
+
+/// The place of a SET's members, by the names of its fields in ascending order of their smallest tags.
+fn ordered_members_of<C: Constructed, A: Allocator + Copy>(alloc: A) -> Result<Place<A>, AllocError>
+    ensures { IfOk result (λ place. place ≡ vacant_place members_kind) }
+{
+    let fields = C::FIELDS.canonised(alloc)?;
+    let root = Names::of_fields(alloc, fields.as_slice())?;
+    let added = added_names::<C, A>(alloc)?;
+    Ok(Place::of_members(alloc, root, added))
+}
+
+/// The names of a record's additions.
+fn added_names<C: Constructed, A: Allocator + Copy>(alloc: A) -> Result<Names<A>, AllocError> {
+    match C::EXTENDED_FIELDS {
+        Some(fields) => Names::of_fields(alloc, fields.list),
+        None => Ok(Names::none(alloc)),
+    }
+}
+
+/// Whether an alternative of a choice goes by a tag.
+fn has_alternative<C: Choice>(tag: Tag) -> bool
+    ensures none { result ≡ false → (place_of (tag_of tag) C.VARIANTS ≡ None)
+        × (place_of (tag_of tag) (variants_behind C.EXTENDED_VARIANTS) ≡ None) }
+    ensures some { result ≡ true → place_of (tag_of tag) C.VARIANTS ≡ None
+        → place_of (tag_of tag) (variants_behind C.EXTENDED_VARIANTS) ≡ None → ⊥ }
+{
+    let variants = C::VARIANTS;
+    let added = C::EXTENDED_VARIANTS;
+    let place = variants.place_of(&added, tag);
+    place.is_some()
+}
+
+/// Whether constraints say how many items there are.
+fn is_of_fixed_size(constraints: &Constraints) -> bool {
+    match constraints.size() {
+        Some(size) => {
+            let (least, most) = size.constraint.start_and_end();
+            !size.extensible && least.is_some() && least == most
+        }
+        None => false,
+    }
+}
+
+/// A text without its first and its last character.
+fn without_ends(text: &[u8]) -> &[u8]
+    ensures { (opening closing : ℕ) (inner : List ℕ) → text.now ≡ enclosed_text opening inner closing
+        → result.now ≡ inner }
+{
+    if text.len() < 2 {
+        return text;
+    }
+    &text[1..text.len() - 1]
+}

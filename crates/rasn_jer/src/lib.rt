@@ -1,0 +1,61 @@
+//! Values as JSON, by the JSON Encoding Rules (ITU-T X.697).
+//!
+//! Each type that implements `Encode` is shown with no line in its crate: `Encoder` is one more implementation of the
+//! trait of encoders. The definitions are `specs/Shown.antt`, which JSON value shows a value, and `specs/Texts.antt`,
+//! its text.
+//!
+//! **Proved**: a call returns. What `encode` answers is the text of one JSON value, which shows the normal form of the
+//! value by its schema, and which the toolchain's reader (`json`) reads back as that JSON value where it nests no
+//! deeper than 128 levels. It refuses, memory aside, only a value in which the fault stands that its error names.
+//!
+//! How a value is shown:
+//! - SEQUENCE and SET: an object. What is absent, or at its default, is left out. An addition is a member, and the
+//!   components of a group stand among the others, as a group has no name in ASN.1.
+//! - SEQUENCE OF and SET OF: an array, in the order of the value.
+//! - CHOICE: an object of one member.
+//! - BOOLEAN, NULL and INTEGER: these of JSON, a number in its decimal digits.
+//! - ENUMERATED: the number of the item, as its names aren't known: items before the extension marker count from 0, and
+//!   those behind it go on.
+//! - OCTET STRING and open types: a string of hexadecimal digits.
+//! - BIT STRING: such a string where the size is fixed, and else an object of `value` and `length`.
+//! - Strings of characters: a string. In GeneralString, GraphicString and TeletexString each octet is the character
+//!   with its number.
+//! - OBJECT IDENTIFIER: a string, such as `"1.2.840"`. Times: their canonical text. DATE: such as `"2026-11-27"`.
+//!
+//! **Only tested**: the names of members, which no proof ties to anything: those of a record's `FIELDS` and
+//! `EXTENDED_FIELDS`, and the tag of a CHOICE's alternative, spelled as `[2]` or `[UNIVERSAL 1]`, as its name isn't
+//! known; the characters of strings; the digits of a number that no `i128` holds; the number of an item; and that the
+//! text is UTF-8. **Neither**: that two values of a type with equal JSON have equal normal forms.
+#![tactic(auto)]
+
+pub mod encoder;
+pub mod error;
+mod large;
+pub mod place;
+mod texts;
+
+ghost use Rattle.std.specs.Prelude.{IfOk, IfErr};
+ghost use Rattle.rasn_jer.specs.Calls.{AreText, IsRefusedBy};
+
+pub use crate::encoder::Encoder;
+pub use crate::error::EncodeError;
+use rasn_codec::codec::Encode;
+use std::alloc::Allocator;
+
+/// The JSON text of a value, in UTF-8 and without spaces (X.697).
+///
+/// Refuses with `OutOfMemory` where memory ran out, and else only a value that has no JSON.
+pub fn encode<T: Encode, A: Allocator + Copy>(
+    alloc: A,
+    value: &T,
+) -> Result<Vec<u8, A>, EncodeError>
+    ensures ok { IfOk result (λ text.
+        AreText (T.schema T.CONSTRAINTS) (T.levels value.now) (T.value value.now) text.items) }
+    ensures err { IfErr result (IsRefusedBy (T.schema T.CONSTRAINTS) (T.levels value.now) (T.value value.now)) }
+{
+    let mut encoder = Encoder::new(alloc);
+    match value.encode(&mut encoder) {
+        Ok(()) => encoder.output(),
+        Err(error) => Err(error),
+    }
+}

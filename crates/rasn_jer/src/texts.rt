@@ -1,0 +1,277 @@
+//! The texts of values, and of parts of them.
+
+ghost use Rattle.std.specs.Prelude.{◌≡◌, ℕ, List, ◌⊎◌, false, IfOk, IfErr};
+ghost use Rattle.std.specs.Fmt.{signed_decimal};
+ghost use Rattle.rasn_types.specs.Contents.{generalized, is_time, utc};
+ghost use Rattle.hex.specs.Hex.{encode_upper};
+ghost use Rattle.json.specs.Json.{boolean, null, string};
+ghost use Rattle.json.specs.Print.{IsNumber};
+ghost use Rattle.rasn_jer.specs.Shown.{HasNoScalar, IsQuoted, IsWhole, ShowsBits};
+ghost use Rattle.rasn_jer.specs.Texts.{enclosed as enclosed_text, member_text, text_of};
+ghost use Rattle.rasn_jer.specs.declared.error.EncodeError.TheVariants.{NoJson, OutOfMemory};
+
+use crate::error::EncodeError;
+use crate::large::large;
+use itoa::Buffer;
+use json::Writer;
+use rasn_schema::enumerated::Enumerated;
+use rasn_schema::schema::IntegerType;
+use rasn_strings::strings::StaticPermittedAlphabet;
+use rasn_times::civil::{GeneralizedMoment, UtcMoment};
+use rasn_times::error::TimeError;
+use rasn_types::bit_string::BitString;
+use rasn_types::types::{Class, Tag};
+use std::alloc::{AllocError, Allocator};
+
+/// `true` or `false` (X.697, BOOLEAN).
+pub fn truth<A: Allocator>(alloc: A, value: bool) -> Result<Vec<u8, A>, AllocError>
+    ensures { IfOk result (λ text. text.items ≡ text_of (boolean value)) }
+{
+    let text: &[u8] = if value { b"true" } else { b"false" };
+    Vec::from_slice(alloc, text)
+}
+
+/// `null` (X.697, NULL).
+pub fn nothing<A: Allocator>(alloc: A) -> Result<Vec<u8, A>, AllocError>
+    ensures { IfOk result (λ text. text.items ≡ text_of null) }
+{
+    Vec::from_slice(alloc, b"null")
+}
+
+/// A string of JSON, in which quotation marks, backslashes and control characters are escaped (RFC 8259 7).
+pub fn quoted<A: Allocator>(alloc: A, characters: &str) -> Result<Vec<u8, A>, AllocError>
+    ensures { IfOk result (λ text. text.items ≡ text_of (string characters.now)) }
+{
+    let mut writer = Writer::new(Vec::new(alloc));
+    writer.string(characters)?;
+    Ok(writer.into_inner())
+}
+
+/// A member of an object: its name and the text of its value (RFC 8259 4).
+pub fn member<A: Allocator>(alloc: A, name: &str, text: &[u8]) -> Result<Vec<u8, A>, AllocError>
+    ensures { IfOk result (λ named. named.items ≡ member_text name.now text.now) }
+{
+    let mut writer = Writer::new(Vec::new(alloc));
+    writer.key(name)?;
+    let mut named = writer.into_inner();
+    named.extend_from_slice(text)?;
+    Ok(named)
+}
+
+/// A text between an opening and a closing character.
+pub fn enclosed<A: Allocator>(
+    alloc: A,
+    opening: u8,
+    text: &[u8],
+    closing: u8,
+) -> Result<Vec<u8, A>, AllocError>
+    ensures { IfOk result (λ whole. whole.items ≡ enclosed_text opening text.now closing) }
+{
+    let mut whole = Vec::new(alloc);
+    whole.push(opening)?;
+    whole.extend_from_slice(text)?;
+    whole.push(closing)?;
+    Ok(whole)
+}
+
+/// The decimal digits of a whole number of any size (X.697, INTEGER).
+pub fn whole<A: Allocator + Copy, I: IntegerType>(
+    alloc: A,
+    value: &I,
+) -> Result<Vec<u8, A>, AllocError>
+    ensures { IfOk result (λ text. IsWhole (I.number value.now) text.items) }
+{
+    match value.to_i128() {
+        Some(number) => decimal(alloc, number),
+        None => {
+            let octets = value.to_signed_bytes_be(alloc)?;
+            large(alloc, octets.as_slice())
+        }
+    }
+}
+
+/// The decimal digits of a number.
+pub fn decimal<A: Allocator>(alloc: A, number: i128) -> Result<Vec<u8, A>, AllocError>
+    ensures digits { IfOk result (λ text. text.items ≡ signed_decimal number) }
+    ensures number { IfOk result (λ text. IsNumber text.items) }
+{
+    let mut buffer = Buffer::new();
+    Vec::from_slice(alloc, buffer.format(number).as_bytes())
+}
+
+/// The number of an item of an ENUMERATED: those before the extension marker count from 0, those behind it go on.
+pub fn item<A: Allocator, E: Enumerated>(alloc: A, value: &E) -> Result<Vec<u8, A>, AllocError>
+    ensures { IfOk result (λ text. IsNumber text.items) }
+{
+    let place = value.enumeration_index() as i128;
+    let before = if value.is_extended_variant() {
+        E::variance() as i128
+    } else {
+        0
+    };
+    decimal(alloc, before + place)
+}
+
+/// Octets as a string of hexadecimal digits (X.697, OCTET STRING).
+pub fn hexadecimal<A: Allocator + Copy>(alloc: A, octets: &[u8]) -> Result<Vec<u8, A>, AllocError>
+    ensures { IfOk result (λ text. text.items ≡ text_of (string (encode_upper octets.now))) }
+{
+    let digits = hex::encode_upper(alloc, octets)?;
+    quoted(alloc, digits.as_str())
+}
+
+/// Bits by the hexadecimal digits of their octets, spare bits zero: alone where the type says how many bits there are,
+/// else as an object that tells this too (X.697, BIT STRING).
+pub fn bits<A: Allocator + Copy>(
+    alloc: A,
+    value: &BitString,
+    is_fixed: bool,
+) -> Result<Vec<u8, A>, AllocError>
+    ensures { IfOk result (λ text. ShowsBits value.now text.items) }
+{
+    if is_fixed {
+        return hexadecimal(alloc, value.as_octets());
+    }
+    let digits = hex::encode_upper(alloc, value.as_octets())?;
+    let mut writer = Writer::new(Vec::new(alloc));
+    writer.begin_object()?;
+    writer.key("value")?;
+    writer.string(digits.as_str())?;
+    writer.key("length")?;
+    writer.u64(value.len() as u64)?;
+    writer.end_object()?;
+    Ok(writer.into_inner())
+}
+
+/// Octets as a string, each as the character with its number.
+pub fn latin<A: Allocator + Copy>(alloc: A, octets: &[u8]) -> Result<Vec<u8, A>, AllocError>
+    ensures { IfOk result (λ text. IsQuoted text.items) }
+{
+    let mut text = String::new(alloc);
+    for octet in octets {
+        text.push(char::from(*octet))?;
+    }
+    quoted(alloc, text.as_str())
+}
+
+/// The characters of a string as a string. One that isn't a scalar value of Unicode has no JSON.
+pub fn scalars<A: Allocator + Copy, S: StaticPermittedAlphabet>(
+    alloc: A,
+    value: &S,
+) -> Result<Vec<u8, A>, EncodeError>
+    ensures ok { IfOk result (λ text. IsQuoted text.items) }
+    ensures err { IfErr result (λ e.
+        (e ≡ OutOfMemory) ⊎ ((e ≡ NoJson) × HasNoScalar (S.characters value.now))) }
+{
+    let text = characters(alloc, value)?;
+    let text = quoted(alloc, text.as_str())?;
+    Ok(text)
+}
+
+/// The characters of a string.
+fn characters<A: Allocator, S: StaticPermittedAlphabet>(
+    alloc: A,
+    value: &S,
+) -> Result<String<A>, EncodeError>
+    ensures { IfErr result (λ e.
+        (e ≡ OutOfMemory) ⊎ ((e ≡ NoJson) × HasNoScalar (S.characters value.now))) }
+{
+    let mut text = String::new(alloc);
+    for index in 0..value.len() {
+        if let Some(code) = value.character(index) {
+            match char::from_u32(code) {
+                Some(character) => text.push(character)?,
+                None => return Err(EncodeError::NoJson),
+            }
+        }
+    }
+    Ok(text)
+}
+
+/// The canonical text of a UTCTime as a string (X.690 11.8). A moment that it can't hold has no JSON.
+pub fn utc_time<A: Allocator + Copy, M: UtcMoment>(
+    alloc: A,
+    value: &M,
+) -> Result<Vec<u8, A>, EncodeError>
+    ensures ok { IfOk result (λ text. IsQuoted text.items) }
+    ensures err { IfErr result (λ e.
+        (e ≡ OutOfMemory) ⊎ ((e ≡ NoJson) × (is_time utc (M.text value.now) ≡ false))) }
+{
+    match value.to_canonical_utc_time_bytes(alloc) {
+        Ok(time) => {
+            let text = latin(alloc, time.as_slice())?;
+            Ok(text)
+        }
+        Err(TimeError::Unrepresentable) => Err(EncodeError::NoJson),
+        Err(_) => Err(EncodeError::OutOfMemory),
+    }
+}
+
+/// The canonical text of a GeneralizedTime as a string (X.690 11.7). A moment that it can't hold has no JSON.
+pub fn generalized_time<A: Allocator + Copy, M: GeneralizedMoment>(
+    alloc: A,
+    value: &M,
+) -> Result<Vec<u8, A>, EncodeError>
+    ensures ok { IfOk result (λ text. IsQuoted text.items) }
+    ensures err { IfErr result (λ e.
+        (e ≡ OutOfMemory) ⊎ ((e ≡ NoJson) × (is_time generalized (M.text value.now) ≡ false))) }
+{
+    match value.to_canonical_generalized_time_bytes(alloc) {
+        Ok(time) => {
+            let text = latin(alloc, time.as_slice())?;
+            Ok(text)
+        }
+        Err(TimeError::Unrepresentable) => Err(EncodeError::NoJson),
+        Err(_) => Err(EncodeError::OutOfMemory),
+    }
+}
+
+/// Arcs as a string of numbers with dots between them (X.697, OBJECT IDENTIFIER).
+pub fn identifier<A: Allocator + Copy>(alloc: A, arcs: &[u32]) -> Result<Vec<u8, A>, AllocError>
+    ensures { IfOk result (λ text. IsQuoted text.items) }
+{
+    let mut text = String::new(alloc);
+    for arc in arcs {
+        if !text.is_empty() {
+            text.push('.')?;
+        }
+        let mut buffer = Buffer::new();
+        text.push_str(buffer.format(*arc))?;
+    }
+    quoted(alloc, text.as_str())
+}
+
+/// A day as a string, such as `"2026-11-27"` (X.680 38.4).
+pub fn day<A: Allocator + Copy>(
+    alloc: A,
+    year: i16,
+    month: u8,
+    day: u8,
+) -> Result<Vec<u8, A>, AllocError>
+    ensures { IfOk result (λ text. IsQuoted text.items) }
+{
+    let text = format!(in alloc; "{year:04}-{month:02}-{day:02}")?;
+    quoted(alloc, text.as_str())
+}
+
+/// An object of one member: the text of a choice's alternative by the tag that it goes by.
+pub fn chosen_member<A: Allocator + Copy>(
+    alloc: A,
+    chosen: Tag,
+    text: &[u8],
+) -> Result<Vec<u8, A>, AllocError>
+    ensures { IfOk result (λ whole. (name : List ℕ)
+        × (whole.items ≡ enclosed_text 123 (member_text name text.now) 125)) }
+{
+    let name = tag_name(alloc, chosen)?;
+    let named = member(alloc, name.as_str(), text)?;
+    enclosed(alloc, b'{', named.as_slice(), b'}')
+}
+
+/// The name of an alternative that goes by a tag: the tag, such as `[2]` or `[UNIVERSAL 1]` (X.680 31.2).
+fn tag_name<A: Allocator>(alloc: A, tag: Tag) -> Result<String<A>, AllocError> {
+    match tag.class {
+        Class::Context => format!(in alloc; "[{}]", tag.value),
+        class => format!(in alloc; "[{} {}]", class, tag.value),
+    }
+}
