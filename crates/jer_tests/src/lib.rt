@@ -1,0 +1,10 @@
+//! Tests of values as JSON, of what no clause says: names of members, items' numbers, characters, numbers past 128
+//! bits. The expected texts are X.697's, and `serde_json` reads each.
+#![tactic(auto)]
+
+#[cfg(test)]
+mod expected;
+#[cfg(test)]
+mod records;
+#[cfg(test)]
+mod texts;
