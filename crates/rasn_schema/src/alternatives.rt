@@ -81,6 +81,8 @@ impl<T: Alternatives + OfKind<Kind = ChoiceKind>> Choice for T {
 
     ghost EXTENDED_VARIANTS = { T.ALTERNATIVES.behind };
 
+    const IDENTIFIERS: &'static [&'static str] = T::ALTERNATIVES.identifiers;
+
     ghost alternatives = { root_parts T.Alternatives.alternatives.0 };
 
     ghost added = { added_parts T.Alternatives.alternatives.0 };

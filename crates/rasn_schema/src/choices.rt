@@ -43,6 +43,8 @@ pub struct VariantLists {
     /// The tags of each alternative behind the extension marker, at its index. There is a marker exactly where this is
     /// `Some`.
     pub added: Option<&'static [TagTree]>,
+    /// The identifier of each alternative, in the order of the lists: the root's, and behind them those behind the marker.
+    pub identifiers: &'static [&'static str],
 }
 
 impl Model for VariantLists {
@@ -153,6 +155,10 @@ pub trait Choice: AsnType {
     const EXTENDED_VARIANTS: Option<Variants>;
 
     ghost EXTENDED_VARIANTS: { Option (List VariantShape) };
+
+    /// The identifier of each alternative (X.680 29.1): the root's, and behind them those behind the marker. No clause
+    /// ties them to the alternatives.
+    const IDENTIFIERS: &'static [&'static str];
 
     // The root alternatives, to a number of levels.
     ghost alternatives: { ℕ → Parts };

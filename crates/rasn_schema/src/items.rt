@@ -13,6 +13,7 @@ use crate::enumerated::Enumerated;
 use crate::fields::{TagTree, TypeTree};
 use crate::kinds::{Kind, OfKind};
 use rasn_types::types::Tag;
+use std::marker::Model;
 
 /// How many items an ENUMERATED has (X.680 20).
 #[derive(Clone, Copy, Debug, PartialEq, Eq)]
@@ -21,6 +22,24 @@ pub struct ItemCounts {
     pub roots: usize,
     /// How many stand after it, where there is one.
     pub addeds: Option<usize>,
+}
+
+/// The items of an ENUMERATED as its type lists them (X.680 20).
+#[derive(Drop)]
+pub struct ItemLists {
+    /// How many they are.
+    pub counts: ItemCounts,
+    /// The identifier of each item, in the order of the lists: those before the extension marker, and behind them those
+    /// after it.
+    pub identifiers: &'static [&'static str],
+}
+
+impl Model for ItemLists {
+    ghost use Rattle.rasn_schema.specs.declared.items.ItemCounts.{ItemCounts};
+
+    ghost Value = { ItemCounts };
+
+    ghost view = { λ items. items.counts };
 }
 
 /// Where an item of an ENUMERATED stands, or an alternative of a CHOICE: its list, and its place there, from 0 (X.691
@@ -35,8 +54,8 @@ pub enum Place {
 
 /// The items of an ENUMERATED (X.680 20).
 pub trait Items: Sized + Drop {
-    /// How many they are.
-    const ITEMS: ItemCounts;
+    /// How many they are, and their identifiers, of which no clause says more.
+    const ITEMS: ItemLists;
 
     ghost use Rattle.rasn_schema.specs.declared.items.ItemCounts.{ItemCounts};
 
@@ -82,23 +101,25 @@ impl<T: Items> Kind<T> for EnumeratedKind {
 }
 
 impl<T: Items + OfKind<Kind = EnumeratedKind>> Enumerated for T {
-    const EXTENSIBLE: bool = match T::ITEMS.addeds {
+    const EXTENSIBLE: bool = match T::ITEMS.counts.addeds {
         Some(_) => true,
         None => false,
     };
 
     ghost EXTENSIBLE = { is_extensible T.ITEMS.addeds };
 
+    const IDENTIFIERS: &'static [&'static str] = T::ITEMS.identifiers;
+
     ghost roots = { T.ITEMS.roots };
 
     ghost addeds = { addeds_of T.ITEMS.addeds };
 
     fn variance() -> usize {
-        T::ITEMS.roots
+        T::ITEMS.counts.roots
     }
 
     fn extended_variance() -> usize {
-        T::ITEMS.addeds.unwrap_or(0)
+        T::ITEMS.counts.addeds.unwrap_or(0)
     }
 
     fn enumeration_index(&self) -> usize {
