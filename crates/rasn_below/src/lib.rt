@@ -36,7 +36,7 @@ pub use rasn_schema::constraints::{Bounded, Constraint, Extensible};
 pub use rasn_schema::fields::{
     AdditionGroup, Constructed, Field, FieldLists, Fields, Presence, TagTree, TypeTree,
 };
-pub use rasn_schema::items::{EnumeratedKind, ItemCounts, Items, Place};
+pub use rasn_schema::items::{EnumeratedKind, ItemCounts, ItemLists, Items, Place};
 pub use rasn_schema::kinds::OfKind;
 pub use rasn_schema::schema::{AsnType, Constraints};
 pub use rasn_schema::types::{Class, Tag};
