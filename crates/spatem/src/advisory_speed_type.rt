@@ -16,10 +16,10 @@ pub enum AdvisorySpeedType {
 }
 
 macro_rules! items { ($to:ident $($with:ident)*) => { $to! { [$($with)*]
-    None_;
-    Greenwave;
-    EcoDrive;
-    Transit;
+    "none" None_;
+    "greenwave" Greenwave;
+    "ecoDrive" EcoDrive;
+    "transit" Transit;
     ...;
 } }; }
 
@@ -28,7 +28,7 @@ impl OfKind for AdvisorySpeedType {
 }
 
 impl Items for AdvisorySpeedType {
-    const ITEMS: ItemCounts = items!(item_counts);
+    const ITEMS: ItemLists = items!(item_lists);
 
     ghost ITEMS = { extensible_items 4 0 };
 

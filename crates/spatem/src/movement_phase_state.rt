@@ -31,16 +31,16 @@ pub enum MovementPhaseState {
 }
 
 macro_rules! items { ($to:ident $($with:ident)*) => { $to! { [$($with)*]
-    Unavailable;
-    Dark;
-    StopThenProceed;
-    StopAndRemain;
-    PreMovement;
-    PermissiveMovementAllowed;
-    ProtectedMovementAllowed;
-    PermissiveClearance;
-    ProtectedClearance;
-    CautionConflictingTraffic;
+    "unavailable" Unavailable;
+    "dark" Dark;
+    "stop-Then-Proceed" StopThenProceed;
+    "stop-And-Remain" StopAndRemain;
+    "pre-Movement" PreMovement;
+    "permissive-Movement-Allowed" PermissiveMovementAllowed;
+    "protected-Movement-Allowed" ProtectedMovementAllowed;
+    "permissive-clearance" PermissiveClearance;
+    "protected-clearance" ProtectedClearance;
+    "caution-Conflicting-Traffic" CautionConflictingTraffic;
 } }; }
 
 impl OfKind for MovementPhaseState {
@@ -48,7 +48,7 @@ impl OfKind for MovementPhaseState {
 }
 
 impl Items for MovementPhaseState {
-    const ITEMS: ItemCounts = items!(item_counts);
+    const ITEMS: ItemLists = items!(item_lists);
 
     ghost ITEMS = { all_items 10 };
 

@@ -23,14 +23,14 @@ pub enum SpeedConfidenceDsrc {
 }
 
 macro_rules! items { ($to:ident $($with:ident)*) => { $to! { [$($with)*]
-    Unavailable;
-    Prec100Ms;
-    Prec10Ms;
-    Prec5Ms;
-    Prec1Ms;
-    Prec0_1Ms;
-    Prec0_05Ms;
-    Prec0_01Ms;
+    "unavailable" Unavailable;
+    "prec100ms" Prec100Ms;
+    "prec10ms" Prec10Ms;
+    "prec5ms" Prec5Ms;
+    "prec1ms" Prec1Ms;
+    "prec0-1ms" Prec0_1Ms;
+    "prec0-05ms" Prec0_05Ms;
+    "prec0-01ms" Prec0_01Ms;
 } }; }
 
 impl OfKind for SpeedConfidenceDsrc {
@@ -38,7 +38,7 @@ impl OfKind for SpeedConfidenceDsrc {
 }
 
 impl Items for SpeedConfidenceDsrc {
-    const ITEMS: ItemCounts = items!(item_counts);
+    const ITEMS: ItemLists = items!(item_lists);
 
     ghost ITEMS = { all_items 8 };
 

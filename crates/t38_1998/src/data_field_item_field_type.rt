@@ -23,14 +23,14 @@ pub enum DataFieldItemFieldType {
 }
 
 macro_rules! items { ($to:ident $($with:ident)*) => { $to! { [$($with)*]
-    HdlcData;
-    HdlcSigEnd;
-    HdlcFcsOk;
-    HdlcFcsBad;
-    HdlcFcsOkSigEnd;
-    HdlcFcsBadSigEnd;
-    T4NonEcmData;
-    T4NonEcmSigEnd;
+    "hdlc-data" HdlcData;
+    "hdlc-sig-end" HdlcSigEnd;
+    "hdlc-fcs-OK" HdlcFcsOk;
+    "hdlc-fcs-BAD" HdlcFcsBad;
+    "hdlc-fcs-OK-sig-end" HdlcFcsOkSigEnd;
+    "hdlc-fcs-BAD-sig-end" HdlcFcsBadSigEnd;
+    "t4-non-ecm-data" T4NonEcmData;
+    "t4-non-ecm-sig-end" T4NonEcmSigEnd;
 } }; }
 
 impl OfKind for DataFieldItemFieldType {
@@ -38,7 +38,7 @@ impl OfKind for DataFieldItemFieldType {
 }
 
 impl Items for DataFieldItemFieldType {
-    const ITEMS: ItemCounts = items!(item_counts);
+    const ITEMS: ItemLists = items!(item_lists);
 
     ghost ITEMS = { all_items 8 };
 

@@ -23,15 +23,15 @@ pub enum TypeOfMsgData {
 }
 
 macro_rules! items { ($to:ident $($with:ident)*) => { $to! { [$($with)*]
-    V21;
-    V27_2400;
-    V27_4800;
-    V29_7200;
-    V29_9600;
-    V17_7200;
-    V17_9600;
-    V17_12000;
-    V17_14400;
+    "v21" V21;
+    "v27-2400" V27_2400;
+    "v27-4800" V27_4800;
+    "v29-7200" V29_7200;
+    "v29-9600" V29_9600;
+    "v17-7200" V17_7200;
+    "v17-9600" V17_9600;
+    "v17-12000" V17_12000;
+    "v17-14400" V17_14400;
     ...;
 } }; }
 
@@ -40,7 +40,7 @@ impl OfKind for TypeOfMsgData {
 }
 
 impl Items for TypeOfMsgData {
-    const ITEMS: ItemCounts = items!(item_counts);
+    const ITEMS: ItemLists = items!(item_lists);
 
     ghost ITEMS = { extensible_items 9 0 };
 

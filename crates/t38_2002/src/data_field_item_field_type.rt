@@ -28,19 +28,19 @@ pub enum DataFieldItemFieldType {
 }
 
 macro_rules! items { ($to:ident $($with:ident)*) => { $to! { [$($with)*]
-    HdlcData;
-    HdlcSigEnd;
-    HdlcFcsOk;
-    HdlcFcsBad;
-    HdlcFcsOkSigEnd;
-    HdlcFcsBadSigEnd;
-    T4NonEcmData;
-    T4NonEcmSigEnd;
+    "hdlc-data" HdlcData;
+    "hdlc-sig-end" HdlcSigEnd;
+    "hdlc-fcs-OK" HdlcFcsOk;
+    "hdlc-fcs-BAD" HdlcFcsBad;
+    "hdlc-fcs-OK-sig-end" HdlcFcsOkSigEnd;
+    "hdlc-fcs-BAD-sig-end" HdlcFcsBadSigEnd;
+    "t4-non-ecm-data" T4NonEcmData;
+    "t4-non-ecm-sig-end" T4NonEcmSigEnd;
     ...;
-    CmMessage;
-    JmMessage;
-    CiMessage;
-    V34Rate;
+    "cm-message" CmMessage;
+    "jm-message" JmMessage;
+    "ci-message" CiMessage;
+    "v34rate" V34Rate;
 } }; }
 
 impl OfKind for DataFieldItemFieldType {
@@ -48,7 +48,7 @@ impl OfKind for DataFieldItemFieldType {
 }
 
 impl Items for DataFieldItemFieldType {
-    const ITEMS: ItemCounts = items!(item_counts);
+    const ITEMS: ItemLists = items!(item_lists);
 
     ghost ITEMS = { extensible_items 8 4 };
 

@@ -34,22 +34,22 @@ pub enum TypeOfMsgT30Data {
 }
 
 macro_rules! items { ($to:ident $($with:ident)*) => { $to! { [$($with)*]
-    V21;
-    V27_2400;
-    V27_4800;
-    V29_7200;
-    V29_9600;
-    V17_7200;
-    V17_9600;
-    V17_12000;
-    V17_14400;
+    "v21" V21;
+    "v27-2400" V27_2400;
+    "v27-4800" V27_4800;
+    "v29-7200" V29_7200;
+    "v29-9600" V29_9600;
+    "v17-7200" V17_7200;
+    "v17-9600" V17_9600;
+    "v17-12000" V17_12000;
+    "v17-14400" V17_14400;
     ...;
-    V8;
-    V34PriRate;
-    V34Cc1200;
-    V34PriCh;
-    V33_12000;
-    V33_14400;
+    "v8" V8;
+    "v34-pri-rate" V34PriRate;
+    "v34-CC-1200" V34Cc1200;
+    "v34-pri-ch" V34PriCh;
+    "v33-12000" V33_12000;
+    "v33-14400" V33_14400;
 } }; }
 
 impl OfKind for TypeOfMsgT30Data {
@@ -57,7 +57,7 @@ impl OfKind for TypeOfMsgT30Data {
 }
 
 impl Items for TypeOfMsgT30Data {
-    const ITEMS: ItemCounts = items!(item_counts);
+    const ITEMS: ItemLists = items!(item_lists);
 
     ghost ITEMS = { extensible_items 9 6 };
 

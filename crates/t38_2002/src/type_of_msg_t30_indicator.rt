@@ -46,30 +46,30 @@ pub enum TypeOfMsgT30Indicator {
 }
 
 macro_rules! items { ($to:ident $($with:ident)*) => { $to! { [$($with)*]
-    NoSignal;
-    Cng;
-    Ced;
-    V21Preamble;
-    V27_2400Training;
-    V27_4800Training;
-    V29_7200Training;
-    V29_9600Training;
-    V17_7200ShortTraining;
-    V17_7200LongTraining;
-    V17_9600ShortTraining;
-    V17_9600LongTraining;
-    V17_12000ShortTraining;
-    V17_12000LongTraining;
-    V17_14400ShortTraining;
-    V17_14400LongTraining;
+    "no-signal" NoSignal;
+    "cng" Cng;
+    "ced" Ced;
+    "v21-preamble" V21Preamble;
+    "v27-2400-training" V27_2400Training;
+    "v27-4800-training" V27_4800Training;
+    "v29-7200-training" V29_7200Training;
+    "v29-9600-training" V29_9600Training;
+    "v17-7200-short-training" V17_7200ShortTraining;
+    "v17-7200-long-training" V17_7200LongTraining;
+    "v17-9600-short-training" V17_9600ShortTraining;
+    "v17-9600-long-training" V17_9600LongTraining;
+    "v17-12000-short-training" V17_12000ShortTraining;
+    "v17-12000-long-training" V17_12000LongTraining;
+    "v17-14400-short-training" V17_14400ShortTraining;
+    "v17-14400-long-training" V17_14400LongTraining;
     ...;
-    V8Ansam;
-    V8Signal;
-    V34CntlChannel1200;
-    V34PriChannel;
-    V34CcRetrain;
-    V33_12000Training;
-    V33_14400Training;
+    "v8-ansam" V8Ansam;
+    "v8-signal" V8Signal;
+    "v34-cntl-channel-1200" V34CntlChannel1200;
+    "v34-pri-channel" V34PriChannel;
+    "v34-CC-retrain" V34CcRetrain;
+    "v33-12000-training" V33_12000Training;
+    "v33-14400-training" V33_14400Training;
 } }; }
 
 impl OfKind for TypeOfMsgT30Indicator {
@@ -77,7 +77,7 @@ impl OfKind for TypeOfMsgT30Indicator {
 }
 
 impl Items for TypeOfMsgT30Indicator {
-    const ITEMS: ItemCounts = items!(item_counts);
+    const ITEMS: ItemLists = items!(item_lists);
 
     ghost ITEMS = { extensible_items 16 7 };
 
