@@ -21,6 +21,7 @@ pub use rasn_codec::kinds::ByKind;
 pub use rasn_codec::record::Record;
 pub use rasn_record::bounds::{BoundLists, Bounds};
 pub use rasn_record::defaults::DefaultOf;
+pub use rasn_record::defaults::bits::Bits;
 pub use rasn_record::defaults::items::Item;
 pub use rasn_record::defaults::lists::EmptyList;
 pub use rasn_record::defaults::octets::Octets;

@@ -8,9 +8,9 @@ pub use crate::types::{
     TeletexString, Utf8String, VisibleString,
 };
 pub use crate::{
-    Alternatives, AsnType, Bounds, ByKind, ChoiceKind, CodedAlternatives, Components, Constrained,
-    Constraint, Constraints, Decoder, DefaultOf, EmptyList, Encoder, EnumeratedKind, FieldLists,
-    Fields, Item, ItemCounts, ItemLists, Items, Limits, Octets, OfKind, Place, Record,
+    Alternatives, AsnType, Bits, Bounds, ByKind, ChoiceKind, CodedAlternatives, Components,
+    Constrained, Constraint, Constraints, Decoder, DefaultOf, EmptyList, Encoder, EnumeratedKind,
+    FieldLists, Fields, Item, ItemCounts, ItemLists, Items, Limits, Octets, OfKind, Place, Record,
     SetComponents, SetKind, SetRecord, Tag, Text, Utf8Text, VariantLists, alternative_bounds,
     bounds, constraints, decode_alternative, decode_components, decode_each_component,
     decode_own_alternative, decode_set_components, encode_alternative, encode_components,
