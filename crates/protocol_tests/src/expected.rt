@@ -58,7 +58,7 @@ impl<'a, R: Abort> Trial<'a, R> {
     }
 
     /// A list with one more behind it.
-    fn followed<T: Drop>(&self, mut list: Vec<T>, last: T) -> Vec<T> {
+    pub(crate) fn followed<T: Drop>(&self, mut list: Vec<T>, last: T) -> Vec<T> {
         if list.push(last).is_err() {
             panic!(self.rt; "memory")
         }
