@@ -1,5 +1,5 @@
 -- What is read, in the words of the calls, where bits have names in one of two versions alone.
-use Rattle.std.proofs.Common.{◌≡◌, ◌↔◌, ℕ, List, []}
+use Rattle.std.proofs.Common.{◌↔◌, ℕ, List, []}
 use Rattle.rasn_types.specs.Values.{Value}
 use Rattle.rasn_schema.specs.Levels.{Levelled}
 use Rattle.rasn_schema.specs.Schemas.{Schema}
