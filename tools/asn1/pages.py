@@ -185,6 +185,8 @@ class Page:
             return "true" if part.default else "false"
         if of.kind == "INTEGER":
             return f"{grouped(part.default)}_{holder(of.limits).replace('Integer', 'i128')}"
+        if of.kind == "BIT STRING":
+            return f"Bits([{', '.join('true' if bit == '1' else 'false' for bit in part.default)}])"
         if of.kind == "OCTET STRING":
             return f"Octets([{', '.join(map(str, part.default))}])"
         if of.kind in TEXTS:
@@ -284,19 +286,20 @@ class Page:
         """Returns the lines of an ENUMERATED's page."""
         of, item, imports = self.item.type, self.item, self.imports
         names = item.variants()
-        roots, added = [names[it] for it in of.items], [names[it] for it in of.added_items or []]
+        roots, added = of.items, of.added_items or []
         items = []
-        for side, variants in (("root", roots), ("added", added)):
-            for place, name in enumerate(variants):
-                items.append(f"      | {name} ↦ {self.value('item')} {self.value(side)} {place}")
-        lines = [*roots, *["..."] * (of.added_items is not None), *added]
+        for side, identifiers in (("root", roots), ("added", added)):
+            for place, name in enumerate(identifiers):
+                items.append(f"      | {names[name]} ↦ {self.value('item')} {self.value(side)} {place}")
+        lines = [[f'    "{name}" {names[name]};' for name in side] for side in (roots, added)]
+        marker = ["    ...;"] * (of.added_items is not None)
         counts = f"all_items {len(roots)}" if of.added_items is None else f"extensible_items {len(roots)} {len(added)}"
         imports.word(counts.split()[0])
         self.variants_spec(names.values())
         imports.use(PAGE, "*")
         return filled(
             templates.ENUMERATED, doc=self.doc(), rust=item.rust, counts=counts, items=items,
-            variants=[f"    {name}," for name in [*roots, *added]], lines=[f"    {name};" for name in lines],
+            variants=[f"    {names[name]}," for name in [*roots, *added]], lines=[*lines[0], *marker, *lines[1]],
         )
 
     # Names without a page.

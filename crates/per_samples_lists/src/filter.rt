@@ -13,7 +13,7 @@ use rasn_below::schema::{Choice, TagTree, TypeTree, Variants};
 use rasn_below::types::Identifier;
 use rasn_recursive::read::{HoldsAlternatives, Same, Unconstrained, decode};
 use rasn_recursive::write::write_alternative;
-use rasn_recursive::{decode_recursive_alternative, tags_of_alternatives};
+use rasn_recursive::{decode_recursive_alternative, names_of_alternatives, tags_of_alternatives};
 
 /// Filter ::= CHOICE { and SEQUENCE OF Filter, or SEQUENCE OF Filter, not Filter, present OCTET STRING }
 #[derive(Debug, Drop, PartialEq)]
@@ -32,6 +32,8 @@ macro_rules! alternatives { ($to:ident $($with:ident)*) => { $to! { [$($with)*]
 } }; }
 
 const TAGS: &[TagTree] = alternatives!(tags_of_alternatives);
+
+const NAMES: &[&str] = alternatives!(names_of_alternatives);
 
 const BOUNDS: Bounds = alternatives!(alternative_bounds);
 
@@ -74,6 +76,8 @@ impl Choice for Filter {
 
     ghost EXTENDED_VARIANTS = { None };
 
+    const IDENTIFIERS: &'static [&'static str] = NAMES;
+
     ghost alternatives = { root_parts filter };
 
     ghost described = { λ _. refl };
@@ -101,6 +105,7 @@ impl Alternatives for Listing {
     const ALTERNATIVES: VariantLists = VariantLists {
         root: TAGS,
         added: None,
+        identifiers: NAMES,
     };
 
     ghost ALTERNATIVES = { variants_listed filter };
