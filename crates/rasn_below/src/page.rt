@@ -16,5 +16,5 @@ pub use crate::{
     decode_own_alternative, decode_set_components, encode_alternative, encode_components,
     encode_each_component, encode_own_alternative, encode_set_components, fields, item_at,
     item_lists, own_alternative_bounds, own_tags_of_choice, own_variants, place_of_item,
-    set_bounds, set_fields, tags_of_choice, variants,
+    tags_of_choice, variants,
 };
