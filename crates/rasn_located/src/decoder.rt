@@ -354,11 +354,14 @@ impl<D: Positioned> Decoder for Located<D> {
 
     fn open_addition(&mut self) -> Result<Option<D::Addition>, D::Error> {
         let bitmap = self.trail.has_bitmap_ahead();
+        let before = self.inner.left();
         let open = self.inner.addition_ahead(bitmap);
         self.trail.begin_addition();
         let answer = self.inner.open_addition();
-        if let Ok(Some(_)) = &answer {
-            self.trail.enter_addition(open);
+        match &answer {
+            Ok(Some(_)) => self.trail.enter_addition(open),
+            Err(_) if bitmap && self.inner.left() == before => self.trail.pause(),
+            _ => {}
         }
         self.seen(answer)
     }
