@@ -1,4 +1,4 @@
-"""What the tools run of the program per_check, and the encodings of vectors/ that they give to it."""
+"""What the tools run of the programs, and the encodings of vectors/ that they give to it."""
 import os
 import re
 import subprocess
@@ -24,14 +24,14 @@ def rows_of(name):
                 yield line.rstrip("\n").split("\t")
 
 
-def built_program(built):
-    """Returns the program's file: as the gate left it, or else proved and built here."""
+def built_program(built, name="per_check"):
+    """Returns the file of a program: as the gate left it, or else proved and built here."""
     if not built:
         words = ["rt", "run", "--", "uper", "octets"]
-        ran = subprocess.run(words, cwd=folder_of("per_check"), input="00\n", capture_output=True, text=True)
+        ran = subprocess.run(words, cwd=folder_of(name), input="00\n", capture_output=True, text=True)
         if ran.returncode:
             raise Failure(f"the program isn't built:\n{ran.stderr[-2000:]}")
-    program = f"{folder_of('per_check')}/out/per_check"
+    program = f"{folder_of(name)}/out/{name}"
     if not os.path.isfile(program):
         raise Failure(f"there is no program {os.path.relpath(program, TOP)}")
     return program

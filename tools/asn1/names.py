@@ -10,7 +10,7 @@ ANTT = frozenset("""data record deriving module where use mod pub package open a
 unfolding ruleset mutual infix infixl infixr elim let in do codes negsuc rw simp search grind grw cc omega hlevel assumption
 first_of cap yes no refl tt absurd x n zero suc pos max length sum map fst snd""".split())
 # The words that a page or a schema names itself.
-WORDS = frozenset("""automatic automatic_from own_tags extensible_own_tags extensible_automatic boolean null integer bit_string octet_string enumerated
+WORDS = frozenset("""automatic automatic_from own_tags extensible_own_tags extensible_automatic boolean null integer bit_string named_bits octet_string enumerated
 extensible_enumerated utf8_string numeric_string printable_string ia5_string visible_string bmp_string sequence
 sequence_of choice set set_of object_identifier date utc_time
 generalized_time teletex_string graphic_string general_string open_type optional default group at under any from
@@ -21,8 +21,8 @@ record_value list_value to minus size to_minus components contents""".split())
 # The names that a page's own text has from the library, and from Rust.
 TAKEN = """Alternatives AsnType Bounded Bounds ByKind ChoiceKind Class CodedAlternatives Components Constrained
 Constraint Constraints Constructed Decode Decoder Encode Encoder EnumeratedKind Extensible
-Field FieldLists Fields Identifier ItemCounts Items Limits OfKind Place Presence Record Tag TagTree VariantLists Variants
-Any BitString OctetString Integer Ia5String VisibleString PrintableString NumericString BmpString Utf8String
+Field FieldLists Fields Identifier ItemCounts ItemLists Items Limits OfKind Place Presence Record Tag TagTree VariantLists Variants
+Any BitString NamedBits OctetString Integer Ia5String VisibleString PrintableString NumericString BmpString Utf8String
 TeletexString GraphicString GeneralString ObjectIdentifier UtcTime GeneralizedTime Date SetOf SetKind
 SetComponents SetRecord EmptyList Item Octets Text Utf8Text Result Ok Err Vec String Box Drop Clone Copy Debug Eq PartialEq Self""".split()
 NOT_ALONE = ("Self", "None", "Some", "Ok", "Err", "Vec", "Option", "Box")

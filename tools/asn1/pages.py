@@ -284,19 +284,20 @@ class Page:
         """Returns the lines of an ENUMERATED's page."""
         of, item, imports = self.item.type, self.item, self.imports
         names = item.variants()
-        roots, added = [names[it] for it in of.items], [names[it] for it in of.added_items or []]
+        roots, added = of.items, of.added_items or []
         items = []
-        for side, variants in (("root", roots), ("added", added)):
-            for place, name in enumerate(variants):
-                items.append(f"      | {name} ↦ {self.value('item')} {self.value(side)} {place}")
-        lines = [*roots, *["..."] * (of.added_items is not None), *added]
+        for side, identifiers in (("root", roots), ("added", added)):
+            for place, name in enumerate(identifiers):
+                items.append(f"      | {names[name]} ↦ {self.value('item')} {self.value(side)} {place}")
+        lines = [[f'    "{name}" {names[name]};' for name in side] for side in (roots, added)]
+        marker = ["    ...;"] * (of.added_items is not None)
         counts = f"all_items {len(roots)}" if of.added_items is None else f"extensible_items {len(roots)} {len(added)}"
         imports.word(counts.split()[0])
         self.variants_spec(names.values())
         imports.use(PAGE, "*")
         return filled(
             templates.ENUMERATED, doc=self.doc(), rust=item.rust, counts=counts, items=items,
-            variants=[f"    {name}," for name in [*roots, *added]], lines=[f"    {name};" for name in lines],
+            variants=[f"    {names[name]}," for name in [*roots, *added]], lines=[*lines[0], *marker, *lines[1]],
         )
 
     # Names without a page.

@@ -47,8 +47,9 @@ def sums_kept(folder):
     return {path: digits for digits, path in (line.split("  ", 1) for line in lines)}
 
 
-def formatted(room, files, ending):
-    """Writes files of crates, by crate and path, into a room of their own, formats them, and puts this behind their names."""
+def formatted(room, files, places):
+    """Writes files of crates, by crate and path, into a room of their own, formats them, and ends their names as at their
+    places."""
     if not shutil.which("rt"):
         raise Refused("there is no `rt` on the path")
     write(f"{room}/crates.txt", "".join(f"{crate}:\n" for crate in files))
@@ -59,13 +60,13 @@ def formatted(room, files, ending):
         ran = subprocess.run(["rt", "fmt"], cwd=f"{room}/crates/{crate}", **how)
         if ran.returncode:
             raise Refused(f"`rt fmt` refuses the pages of {crate}:\n{ran.stdout.strip()}")
-        for path in texts if ending else ():
-            os.rename(f"{room}/crates/{crate}/{path}", f"{room}/crates/{crate}/{path}{ending}")
+        for path in texts:
+            os.rename(f"{room}/crates/{crate}/{path}", f"{room}/crates/{crate}/{path}{places[crate].ending}")
 
 
-def expect_unchanged(room, top, crates, place):
+def expect_unchanged(room, top, places):
     """Refuses where a file of these crates is neither as the tool wrote it nor as it would now."""
-    for crate in crates:
+    for crate, place in places.items():
         folder = f"{top}/{place.folder}/{crate}"
         kept, now = sums_kept(folder), sums_of(f"{room}/crates/{crate}")
         for path, digits in sorted(sums_of(folder).items()):
@@ -83,12 +84,12 @@ def add_lines(path, lines):
     write(path, "\n".join([*texts, ""]))
 
 
-def put(room, top, files, lines, place=CRATES):
-    """Formats the files of crates, and puts them and their lines into this place of the repository."""
-    formatted(room, files, place.ending)
-    expect_unchanged(room, top, files, place)
+def put(room, top, files, lines, places):
+    """Formats the files of crates, and puts them and their lines into their places of the repository."""
+    formatted(room, files, places)
+    expect_unchanged(room, top, places)
     for crate in files:
-        folder, new = f"{top}/{place.folder}/{crate}", f"{room}/crates/{crate}"
+        folder, new = f"{top}/{places[crate].folder}/{crate}", f"{room}/crates/{crate}"
         before, now = sums_of(folder), sums_of(new)
         for path in before.keys() - now.keys():
             os.remove(f"{folder}/{path}")
@@ -96,4 +97,4 @@ def put(room, top, files, lines, place=CRATES):
             os.makedirs(os.path.dirname(f"{folder}/{path}"), exist_ok=True)
             shutil.copyfile(f"{new}/{path}", f"{folder}/{path}")
         write(f"{folder}/{SUMS}", "".join(f"{digits}  {path}\n" for path, digits in sorted(now.items())))
-    add_lines(f"{top}/{place.lines}", lines)
+        add_lines(f"{top}/{places[crate].lines}", {crate: lines[crate]})

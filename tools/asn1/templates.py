@@ -108,7 +108,7 @@ impl OfKind for @rust@ {
 }
 
 impl Items for @rust@ {
-    const ITEMS: ItemCounts = items!(item_counts);
+    const ITEMS: ItemLists = items!(item_lists);
 
     ghost ITEMS = { @counts@ };
 

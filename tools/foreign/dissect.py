@@ -8,14 +8,30 @@ import xml.etree.ElementTree as ElementTree
 from messages import Atom, Bits, leaves
 from repository import Failure
 
-# The dissector of each type of a message.
+# The dissector of each type of a message; of RRC for each protocol too, since both have types of one name.
 DISSECTORS = {
-    "CAM": "its", "DENM": "its", "SPATEM": "its", "NGAP-PDU": "ngap", "S1AP-PDU": "s1ap", "BCCH-BCH-Message": "lte_rrc.bcch_bch",
-    "IFPPacket": "t38_udp",
+    **dict.fromkeys(("CAM", "DENM", "SPATEM", "MAPEM"), "its"), "NGAP-PDU": "ngap", "S1AP-PDU": "s1ap", "IFPPacket": "t38_udp",
+    "BCCH-BCH-Message": "lte_rrc.bcch_bch", "PCCH-Message": "lte_rrc.pcch", "SystemInformationBlockType1": "lte_rrc.bcch_dl_sch",
+    "RRCConnectionSetupComplete": "lte_rrc.ul_dcch", "lte-rrc UL-CCCH-Message": "lte_rrc.ul_ccch",
+    "nr-rrc UL-CCCH-Message": "nr-rrc.ul.ccch", "RRCSetupComplete": "nr-rrc.ul.dcch",
 }
+
+
+def behind(bits):
+    """Returns what puts octets behind these bits."""
+    def shifted(octets):
+        text = bits + "".join(f"{octet:08b}" for octet in octets)
+        return bytes(int(text[place : place + 8].ljust(8, "0"), 2) for place in range(0, len(text), 8))
+
+    return shifted
+
+
 # What stands around a message, where that has no dissector of its own: T.38's packet has a number, the message in an open
-# type, and no packet that was sent before.
-AROUND = {"IFPPacket": lambda octets: b"\0\1" + bytes([len(octets)]) + octets + b"\0\0"}
+# type, and no packet that was sent before; the others are alternatives of an alternative.
+AROUND = {
+    "IFPPacket": lambda octets: b"\0\1" + bytes([len(octets)]) + octets + b"\0\0",
+    "SystemInformationBlockType1": behind("01"), "RRCConnectionSetupComplete": behind("00100"), "RRCSetupComplete": behind("00010"),
+}
 # What the messages carry is no real message of these.
 CARRIED = ("nas-5gs", "nas-eps")
 # T.38 of 2002, and not of 1998.
@@ -26,9 +42,14 @@ HEAD = struct.pack("<IHHiIII", 0xA1B2C3D4, 2, 4, 0, 0, 1 << 18, 252)
 BY_NAME = 12
 
 
+def dissector_of(message):
+    """Returns the dissector of a message, or None."""
+    return DISSECTORS.get(message.type) or DISSECTORS.get(f"{message.protocol} {message.type}")
+
+
 def packet(message):
     """Returns a packet of a capture: what dissects it, and its octets."""
-    dissector, octets = DISSECTORS[message.type], bytes.fromhex(message.octets)
+    dissector, octets = dissector_of(message), bytes.fromhex(message.octets)
     octets = AROUND.get(message.type, bytes)(octets)
     name = dissector.encode() + b"\0" * (-len(dissector) % 4)
     body = struct.pack(">HH", BY_NAME, len(name)) + name + struct.pack(">HH", 0, 0) + octets
@@ -108,9 +129,10 @@ def unused(value, name, nodes, used):
 
 def compared(value, tree):
     """Returns how many leaves a value has, how many are shown by value alone, and those that aren't shown. The value of an
-    open type, and an item of a list, stand under their types' names. No two leaves have one node."""
+    open type, and an item of a list, stand under their types' names. No two leaves have one node; numbers come last, since
+    an item is shown with its number too."""
     nodes, used = [Node(field) for field in tree.findall("proto")[-1].iter("field")], set()
-    lacking = [*leaves(value)]
+    lacking = sorted(leaves(value), key=lambda leaf: isinstance(leaf[1], int))
     count = len(lacking)
     for is_named in (True, False):
         rest = []

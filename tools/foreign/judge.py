@@ -172,7 +172,7 @@ class Judge:
 
     def dissect(self, folder):
         """Has the messages dissected by tshark."""
-        found = [(known, message) for known, message in self.messages if message.type in dissect.DISSECTORS]
+        found = [(known, message) for known, message in self.messages if dissect.dissector_of(message)]
         for (known, message), (leaves, by_value, lines) in zip(found, dissect.judged(folder, [it for _, it in found])):
             self.figures[message.variant]["leaves"] += leaves
             self.figures[message.variant]["by value"] += by_value

@@ -5,7 +5,10 @@ import re
 from repository import TOP, Failure
 
 # The files of rows/protocols with the messages of each protocol.
-FILES = {"its": ("cam", "denm", "spatem"), "ngap": ("ngap",), "s1ap": ("s1ap",), "lte_rrc": ("lte_rrc",), "t38_2002": ("t38",)}
+FILES = {
+    "its": ("cam", "denm", "spatem", "mapem"), "t38_2002": ("t38",),
+    **{name: (name,) for name in ("ngap", "s1ap", "lte_rrc", "lte_rrc_more", "nr_rrc")},
+}
 Message = collections.namedtuple("Message", "protocol variant type name value octets")
 # A term: an atom, a string, a number, or a mark of a list, a tuple, a map or a binary.
 TOKEN = re.compile(r"""\s*(?:(?P<mark>\#\{|<<|>>|=>|[\[\]{},:/])|'(?P<quoted>(?:[^'\\]|\\.)*)'|"(?P<text>(?:[^"\\]|\\.)*)"

@@ -12,7 +12,7 @@ from repository import TOP, Failure, folder_of
 from resolve import Modules, Use
 from terms import Shown, term
 from values import ANY, LEAST, MOST, Chooser
-from wanted import modules_wanted, wanted_items
+from wanted import crate_word, modules_wanted, wanted_items
 
 ASN1 = f"{TOP}/tools/asn1"
 # The sample with a type of each kind, which is no protocol of a standard.
@@ -38,7 +38,7 @@ def calls(name, fetched):
     found = [words[start:end] for start, end in zip(starts, [*starts[1:], None])]
     if len(found) == 1:
         return {name: found[0]}
-    return {given(call).crate[0].partition("=")[2]: call for call in found}
+    return {crate_word(given(call).crate[0])[2]: call for call in found}
 
 
 def given(words):

@@ -13,8 +13,8 @@ pub enum Termination {
 }
 
 macro_rules! items { ($to:ident $($with:ident)*) => { $to! { [$($with)*]
-    IsCancellation;
-    IsNegation;
+    "isCancellation" IsCancellation;
+    "isNegation" IsNegation;
 } }; }
 
 impl OfKind for Termination {
@@ -22,7 +22,7 @@ impl OfKind for Termination {
 }
 
 impl Items for Termination {
-    const ITEMS: ItemCounts = items!(item_counts);
+    const ITEMS: ItemLists = items!(item_lists);
 
     ghost ITEMS = { all_items 2 };
 

@@ -37,22 +37,22 @@ pub enum AltitudeConfidence {
 }
 
 macro_rules! items { ($to:ident $($with:ident)*) => { $to! { [$($with)*]
-    Alt000_01;
-    Alt000_02;
-    Alt000_05;
-    Alt000_10;
-    Alt000_20;
-    Alt000_50;
-    Alt001_00;
-    Alt002_00;
-    Alt005_00;
-    Alt010_00;
-    Alt020_00;
-    Alt050_00;
-    Alt100_00;
-    Alt200_00;
-    OutOfRange;
-    Unavailable;
+    "alt-000-01" Alt000_01;
+    "alt-000-02" Alt000_02;
+    "alt-000-05" Alt000_05;
+    "alt-000-10" Alt000_10;
+    "alt-000-20" Alt000_20;
+    "alt-000-50" Alt000_50;
+    "alt-001-00" Alt001_00;
+    "alt-002-00" Alt002_00;
+    "alt-005-00" Alt005_00;
+    "alt-010-00" Alt010_00;
+    "alt-020-00" Alt020_00;
+    "alt-050-00" Alt050_00;
+    "alt-100-00" Alt100_00;
+    "alt-200-00" Alt200_00;
+    "outOfRange" OutOfRange;
+    "unavailable" Unavailable;
 } }; }
 
 impl OfKind for AltitudeConfidence {
@@ -60,7 +60,7 @@ impl OfKind for AltitudeConfidence {
 }
 
 impl Items for AltitudeConfidence {
-    const ITEMS: ItemCounts = items!(item_counts);
+    const ITEMS: ItemLists = items!(item_lists);
 
     ghost ITEMS = { all_items 16 };
 

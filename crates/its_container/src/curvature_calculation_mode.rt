@@ -16,9 +16,9 @@ pub enum CurvatureCalculationMode {
 }
 
 macro_rules! items { ($to:ident $($with:ident)*) => { $to! { [$($with)*]
-    YawRateUsed;
-    YawRateNotUsed;
-    Unavailable;
+    "yawRateUsed" YawRateUsed;
+    "yawRateNotUsed" YawRateNotUsed;
+    "unavailable" Unavailable;
     ...;
 } }; }
 
@@ -27,7 +27,7 @@ impl OfKind for CurvatureCalculationMode {
 }
 
 impl Items for CurvatureCalculationMode {
-    const ITEMS: ItemCounts = items!(item_counts);
+    const ITEMS: ItemLists = items!(item_lists);
 
     ghost ITEMS = { extensible_items 3 0 };
 

@@ -27,14 +27,14 @@ pub enum CurvatureConfidence {
 }
 
 macro_rules! items { ($to:ident $($with:ident)*) => { $to! { [$($with)*]
-    OnePerMeter0_00002;
-    OnePerMeter0_0001;
-    OnePerMeter0_0005;
-    OnePerMeter0_002;
-    OnePerMeter0_01;
-    OnePerMeter0_1;
-    OutOfRange;
-    Unavailable;
+    "onePerMeter-0-00002" OnePerMeter0_00002;
+    "onePerMeter-0-0001" OnePerMeter0_0001;
+    "onePerMeter-0-0005" OnePerMeter0_0005;
+    "onePerMeter-0-002" OnePerMeter0_002;
+    "onePerMeter-0-01" OnePerMeter0_01;
+    "onePerMeter-0-1" OnePerMeter0_1;
+    "outOfRange" OutOfRange;
+    "unavailable" Unavailable;
 } }; }
 
 impl OfKind for CurvatureConfidence {
@@ -42,7 +42,7 @@ impl OfKind for CurvatureConfidence {
 }
 
 impl Items for CurvatureConfidence {
-    const ITEMS: ItemCounts = items!(item_counts);
+    const ITEMS: ItemLists = items!(item_lists);
 
     ghost ITEMS = { all_items 8 };
 

@@ -43,26 +43,26 @@ pub enum DangerousGoodsBasic {
 }
 
 macro_rules! items { ($to:ident $($with:ident)*) => { $to! { [$($with)*]
-    Explosives1;
-    Explosives2;
-    Explosives3;
-    Explosives4;
-    Explosives5;
-    Explosives6;
-    FlammableGases;
-    NonFlammableGases;
-    ToxicGases;
-    FlammableLiquids;
-    FlammableSolids;
-    SubstancesLiableToSpontaneousCombustion;
-    SubstancesEmittingFlammableGasesUponContactWithWater;
-    OxidizingSubstances;
-    OrganicPeroxides;
-    ToxicSubstances;
-    InfectiousSubstances;
-    RadioactiveMaterial;
-    CorrosiveSubstances;
-    MiscellaneousDangerousSubstances;
+    "explosives1" Explosives1;
+    "explosives2" Explosives2;
+    "explosives3" Explosives3;
+    "explosives4" Explosives4;
+    "explosives5" Explosives5;
+    "explosives6" Explosives6;
+    "flammableGases" FlammableGases;
+    "nonFlammableGases" NonFlammableGases;
+    "toxicGases" ToxicGases;
+    "flammableLiquids" FlammableLiquids;
+    "flammableSolids" FlammableSolids;
+    "substancesLiableToSpontaneousCombustion" SubstancesLiableToSpontaneousCombustion;
+    "substancesEmittingFlammableGasesUponContactWithWater" SubstancesEmittingFlammableGasesUponContactWithWater;
+    "oxidizingSubstances" OxidizingSubstances;
+    "organicPeroxides" OrganicPeroxides;
+    "toxicSubstances" ToxicSubstances;
+    "infectiousSubstances" InfectiousSubstances;
+    "radioactiveMaterial" RadioactiveMaterial;
+    "corrosiveSubstances" CorrosiveSubstances;
+    "miscellaneousDangerousSubstances" MiscellaneousDangerousSubstances;
 } }; }
 
 impl OfKind for DangerousGoodsBasic {
@@ -70,7 +70,7 @@ impl OfKind for DangerousGoodsBasic {
 }
 
 impl Items for DangerousGoodsBasic {
-    const ITEMS: ItemCounts = items!(item_counts);
+    const ITEMS: ItemLists = items!(item_lists);
 
     ghost ITEMS = { all_items 20 };
 

@@ -15,9 +15,9 @@ pub enum DriveDirection {
 }
 
 macro_rules! items { ($to:ident $($with:ident)*) => { $to! { [$($with)*]
-    Forward;
-    Backward;
-    Unavailable;
+    "forward" Forward;
+    "backward" Backward;
+    "unavailable" Unavailable;
 } }; }
 
 impl OfKind for DriveDirection {
@@ -25,7 +25,7 @@ impl OfKind for DriveDirection {
 }
 
 impl Items for DriveDirection {
-    const ITEMS: ItemCounts = items!(item_counts);
+    const ITEMS: ItemLists = items!(item_lists);
 
     ghost ITEMS = { all_items 3 };
 

@@ -16,9 +16,9 @@ pub enum HardShoulderStatus {
 }
 
 macro_rules! items { ($to:ident $($with:ident)*) => { $to! { [$($with)*]
-    AvailableForStopping;
-    Closed;
-    AvailableForDriving;
+    "availableForStopping" AvailableForStopping;
+    "closed" Closed;
+    "availableForDriving" AvailableForDriving;
 } }; }
 
 impl OfKind for HardShoulderStatus {
@@ -26,7 +26,7 @@ impl OfKind for HardShoulderStatus {
 }
 
 impl Items for HardShoulderStatus {
-    const ITEMS: ItemCounts = items!(item_counts);
+    const ITEMS: ItemLists = items!(item_lists);
 
     ghost ITEMS = { all_items 3 };
 

@@ -15,9 +15,9 @@ pub enum ProtectedZoneType {
 }
 
 macro_rules! items { ($to:ident $($with:ident)*) => { $to! { [$($with)*]
-    PermanentCenDsrcTolling;
+    "permanentCenDsrcTolling" PermanentCenDsrcTolling;
     ...;
-    TemporaryCenDsrcTolling;
+    "temporaryCenDsrcTolling" TemporaryCenDsrcTolling;
 } }; }
 
 impl OfKind for ProtectedZoneType {
@@ -25,7 +25,7 @@ impl OfKind for ProtectedZoneType {
 }
 
 impl Items for ProtectedZoneType {
-    const ITEMS: ItemCounts = items!(item_counts);
+    const ITEMS: ItemLists = items!(item_lists);
 
     ghost ITEMS = { extensible_items 1 1 };
 

@@ -16,10 +16,10 @@ pub enum TrafficRule {
 }
 
 macro_rules! items { ($to:ident $($with:ident)*) => { $to! { [$($with)*]
-    NoPassing;
-    NoPassingForTrucks;
-    PassToRight;
-    PassToLeft;
+    "noPassing" NoPassing;
+    "noPassingForTrucks" NoPassingForTrucks;
+    "passToRight" PassToRight;
+    "passToLeft" PassToLeft;
     ...;
 } }; }
 
@@ -28,7 +28,7 @@ impl OfKind for TrafficRule {
 }
 
 impl Items for TrafficRule {
-    const ITEMS: ItemCounts = items!(item_counts);
+    const ITEMS: ItemLists = items!(item_lists);
 
     ghost ITEMS = { extensible_items 4 0 };
 

@@ -21,11 +21,11 @@ pub enum VehicleLengthConfidenceIndication {
 }
 
 macro_rules! items { ($to:ident $($with:ident)*) => { $to! { [$($with)*]
-    NoTrailerPresent;
-    TrailerPresentWithKnownLength;
-    TrailerPresentWithUnknownLength;
-    TrailerPresenceIsUnknown;
-    Unavailable;
+    "noTrailerPresent" NoTrailerPresent;
+    "trailerPresentWithKnownLength" TrailerPresentWithKnownLength;
+    "trailerPresentWithUnknownLength" TrailerPresentWithUnknownLength;
+    "trailerPresenceIsUnknown" TrailerPresenceIsUnknown;
+    "unavailable" Unavailable;
 } }; }
 
 impl OfKind for VehicleLengthConfidenceIndication {
@@ -33,7 +33,7 @@ impl OfKind for VehicleLengthConfidenceIndication {
 }
 
 impl Items for VehicleLengthConfidenceIndication {
-    const ITEMS: ItemCounts = items!(item_counts);
+    const ITEMS: ItemLists = items!(item_lists);
 
     ghost ITEMS = { all_items 5 };
 

@@ -34,22 +34,22 @@ pub enum VehicleRole {
 }
 
 macro_rules! items { ($to:ident $($with:ident)*) => { $to! { [$($with)*]
-    Default;
-    PublicTransport;
-    SpecialTransport;
-    DangerousGoods;
-    RoadWork;
-    Rescue;
-    Emergency;
-    SafetyCar;
-    Agriculture;
-    Commercial;
-    Military;
-    RoadOperator;
-    Taxi;
-    Reserved1;
-    Reserved2;
-    Reserved3;
+    "default" Default;
+    "publicTransport" PublicTransport;
+    "specialTransport" SpecialTransport;
+    "dangerousGoods" DangerousGoods;
+    "roadWork" RoadWork;
+    "rescue" Rescue;
+    "emergency" Emergency;
+    "safetyCar" SafetyCar;
+    "agriculture" Agriculture;
+    "commercial" Commercial;
+    "military" Military;
+    "roadOperator" RoadOperator;
+    "taxi" Taxi;
+    "reserved1" Reserved1;
+    "reserved2" Reserved2;
+    "reserved3" Reserved3;
 } }; }
 
 impl OfKind for VehicleRole {
@@ -57,7 +57,7 @@ impl OfKind for VehicleRole {
 }
 
 impl Items for VehicleRole {
-    const ITEMS: ItemCounts = items!(item_counts);
+    const ITEMS: ItemLists = items!(item_lists);
 
     ghost ITEMS = { all_items 16 };
 

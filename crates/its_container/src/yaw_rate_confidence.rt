@@ -29,15 +29,15 @@ pub enum YawRateConfidence {
 }
 
 macro_rules! items { ($to:ident $($with:ident)*) => { $to! { [$($with)*]
-    DegSec000_01;
-    DegSec000_05;
-    DegSec000_10;
-    DegSec001_00;
-    DegSec005_00;
-    DegSec010_00;
-    DegSec100_00;
-    OutOfRange;
-    Unavailable;
+    "degSec-000-01" DegSec000_01;
+    "degSec-000-05" DegSec000_05;
+    "degSec-000-10" DegSec000_10;
+    "degSec-001-00" DegSec001_00;
+    "degSec-005-00" DegSec005_00;
+    "degSec-010-00" DegSec010_00;
+    "degSec-100-00" DegSec100_00;
+    "outOfRange" OutOfRange;
+    "unavailable" Unavailable;
 } }; }
 
 impl OfKind for YawRateConfidence {
@@ -45,7 +45,7 @@ impl OfKind for YawRateConfidence {
 }
 
 impl Items for YawRateConfidence {
-    const ITEMS: ItemCounts = items!(item_counts);
+    const ITEMS: ItemLists = items!(item_lists);
 
     ghost ITEMS = { all_items 9 };
 

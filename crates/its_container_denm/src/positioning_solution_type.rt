@@ -20,12 +20,12 @@ pub enum PositioningSolutionType {
 }
 
 macro_rules! items { ($to:ident $($with:ident)*) => { $to! { [$($with)*]
-    NoPositioningSolution;
-    Sgnss;
-    Dgnss;
-    SgnsSplusDr;
-    DgnsSplusDr;
-    Dr;
+    "noPositioningSolution" NoPositioningSolution;
+    "sGNSS" Sgnss;
+    "dGNSS" Dgnss;
+    "sGNSSplusDR" SgnsSplusDr;
+    "dGNSSplusDR" DgnsSplusDr;
+    "dR" Dr;
     ...;
 } }; }
 
@@ -34,7 +34,7 @@ impl OfKind for PositioningSolutionType {
 }
 
 impl Items for PositioningSolutionType {
-    const ITEMS: ItemCounts = items!(item_counts);
+    const ITEMS: ItemLists = items!(item_lists);
 
     ghost ITEMS = { extensible_items 6 0 };
 

@@ -27,14 +27,14 @@ pub enum RelevanceDistance {
 }
 
 macro_rules! items { ($to:ident $($with:ident)*) => { $to! { [$($with)*]
-    LessThan50M;
-    LessThan100M;
-    LessThan200M;
-    LessThan500M;
-    LessThan1000M;
-    LessThan5Km;
-    LessThan10Km;
-    Over10Km;
+    "lessThan50m" LessThan50M;
+    "lessThan100m" LessThan100M;
+    "lessThan200m" LessThan200M;
+    "lessThan500m" LessThan500M;
+    "lessThan1000m" LessThan1000M;
+    "lessThan5km" LessThan5Km;
+    "lessThan10km" LessThan10Km;
+    "over10km" Over10Km;
 } }; }
 
 impl OfKind for RelevanceDistance {
@@ -42,7 +42,7 @@ impl OfKind for RelevanceDistance {
 }
 
 impl Items for RelevanceDistance {
-    const ITEMS: ItemCounts = items!(item_counts);
+    const ITEMS: ItemLists = items!(item_lists);
 
     ghost ITEMS = { all_items 8 };
 

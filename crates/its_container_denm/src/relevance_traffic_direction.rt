@@ -18,10 +18,10 @@ pub enum RelevanceTrafficDirection {
 }
 
 macro_rules! items { ($to:ident $($with:ident)*) => { $to! { [$($with)*]
-    AllTrafficDirections;
-    UpstreamTraffic;
-    DownstreamTraffic;
-    OppositeTraffic;
+    "allTrafficDirections" AllTrafficDirections;
+    "upstreamTraffic" UpstreamTraffic;
+    "downstreamTraffic" DownstreamTraffic;
+    "oppositeTraffic" OppositeTraffic;
 } }; }
 
 impl OfKind for RelevanceTrafficDirection {
@@ -29,7 +29,7 @@ impl OfKind for RelevanceTrafficDirection {
 }
 
 impl Items for RelevanceTrafficDirection {
-    const ITEMS: ItemCounts = items!(item_counts);
+    const ITEMS: ItemLists = items!(item_lists);
 
     ghost ITEMS = { all_items 4 };
 

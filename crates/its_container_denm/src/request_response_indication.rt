@@ -15,8 +15,8 @@ pub enum RequestResponseIndication {
 }
 
 macro_rules! items { ($to:ident $($with:ident)*) => { $to! { [$($with)*]
-    Request;
-    Response;
+    "request" Request;
+    "response" Response;
 } }; }
 
 impl OfKind for RequestResponseIndication {
@@ -24,7 +24,7 @@ impl OfKind for RequestResponseIndication {
 }
 
 impl Items for RequestResponseIndication {
-    const ITEMS: ItemCounts = items!(item_counts);
+    const ITEMS: ItemLists = items!(item_lists);
 
     ghost ITEMS = { all_items 2 };
 

@@ -20,10 +20,10 @@ pub enum RoadType {
 }
 
 macro_rules! items { ($to:ident $($with:ident)*) => { $to! { [$($with)*]
-    UrbanNoStructuralSeparationToOppositeLanes;
-    UrbanWithStructuralSeparationToOppositeLanes;
-    NonUrbanNoStructuralSeparationToOppositeLanes;
-    NonUrbanWithStructuralSeparationToOppositeLanes;
+    "urban-NoStructuralSeparationToOppositeLanes" UrbanNoStructuralSeparationToOppositeLanes;
+    "urban-WithStructuralSeparationToOppositeLanes" UrbanWithStructuralSeparationToOppositeLanes;
+    "nonUrban-NoStructuralSeparationToOppositeLanes" NonUrbanNoStructuralSeparationToOppositeLanes;
+    "nonUrban-WithStructuralSeparationToOppositeLanes" NonUrbanWithStructuralSeparationToOppositeLanes;
 } }; }
 
 impl OfKind for RoadType {
@@ -31,7 +31,7 @@ impl OfKind for RoadType {
 }
 
 impl Items for RoadType {
-    const ITEMS: ItemCounts = items!(item_counts);
+    const ITEMS: ItemLists = items!(item_lists);
 
     ghost ITEMS = { all_items 4 };
 

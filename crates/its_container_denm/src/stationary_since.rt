@@ -18,10 +18,10 @@ pub enum StationarySince {
 }
 
 macro_rules! items { ($to:ident $($with:ident)*) => { $to! { [$($with)*]
-    LessThan1Minute;
-    LessThan2Minutes;
-    LessThan15Minutes;
-    EqualOrGreater15Minutes;
+    "lessThan1Minute" LessThan1Minute;
+    "lessThan2Minutes" LessThan2Minutes;
+    "lessThan15Minutes" LessThan15Minutes;
+    "equalOrGreater15Minutes" EqualOrGreater15Minutes;
 } }; }
 
 impl OfKind for StationarySince {
@@ -29,7 +29,7 @@ impl OfKind for StationarySince {
 }
 
 impl Items for StationarySince {
-    const ITEMS: ItemCounts = items!(item_counts);
+    const ITEMS: ItemLists = items!(item_lists);
 
     ghost ITEMS = { all_items 4 };
 

@@ -13,14 +13,18 @@ pub enum DriveDirection {
     Unavailable,
 }
 
-macro_rules! items { ($to:ident $($with:ident)*) => { $to! { [$($with)*] Forward; Backward; Unavailable; } }; }
+macro_rules! items { ($to:ident $($with:ident)*) => { $to! { [$($with)*]
+    "forward" Forward;
+    "backward" Backward;
+    "unavailable" Unavailable;
+} }; }
 
 impl OfKind for DriveDirection {
     type Kind = EnumeratedKind;
 }
 
 impl Items for DriveDirection {
-    const ITEMS: ItemCounts = items!(item_counts);
+    const ITEMS: ItemLists = items!(item_lists);
 
     ghost ITEMS = { all_items 3 };
 

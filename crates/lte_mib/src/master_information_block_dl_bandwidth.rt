@@ -19,12 +19,12 @@ pub enum MasterInformationBlockDlBandwidth {
 }
 
 macro_rules! items { ($to:ident $($with:ident)*) => { $to! { [$($with)*]
-    N6;
-    N15;
-    N25;
-    N50;
-    N75;
-    N100;
+    "n6" N6;
+    "n15" N15;
+    "n25" N25;
+    "n50" N50;
+    "n75" N75;
+    "n100" N100;
 } }; }
 
 impl OfKind for MasterInformationBlockDlBandwidth {
@@ -32,7 +32,7 @@ impl OfKind for MasterInformationBlockDlBandwidth {
 }
 
 impl Items for MasterInformationBlockDlBandwidth {
-    const ITEMS: ItemCounts = items!(item_counts);
+    const ITEMS: ItemLists = items!(item_lists);
 
     ghost ITEMS = { all_items 6 };
 

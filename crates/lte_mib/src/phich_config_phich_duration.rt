@@ -14,8 +14,8 @@ pub enum PhichConfigPhichDuration {
 }
 
 macro_rules! items { ($to:ident $($with:ident)*) => { $to! { [$($with)*]
-    Normal;
-    Extended;
+    "normal" Normal;
+    "extended" Extended;
 } }; }
 
 impl OfKind for PhichConfigPhichDuration {
@@ -23,7 +23,7 @@ impl OfKind for PhichConfigPhichDuration {
 }
 
 impl Items for PhichConfigPhichDuration {
-    const ITEMS: ItemCounts = items!(item_counts);
+    const ITEMS: ItemLists = items!(item_lists);
 
     ghost ITEMS = { all_items 2 };
 

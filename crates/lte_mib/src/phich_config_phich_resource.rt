@@ -17,10 +17,10 @@ pub enum PhichConfigPhichResource {
 }
 
 macro_rules! items { ($to:ident $($with:ident)*) => { $to! { [$($with)*]
-    OneSixth;
-    Half;
-    One;
-    Two;
+    "oneSixth" OneSixth;
+    "half" Half;
+    "one" One;
+    "two" Two;
 } }; }
 
 impl OfKind for PhichConfigPhichResource {
@@ -28,7 +28,7 @@ impl OfKind for PhichConfigPhichResource {
 }
 
 impl Items for PhichConfigPhichResource {
-    const ITEMS: ItemCounts = items!(item_counts);
+    const ITEMS: ItemLists = items!(item_lists);
 
     ghost ITEMS = { all_items 4 };
 

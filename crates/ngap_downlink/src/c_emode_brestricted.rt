@@ -14,8 +14,8 @@ pub enum CEmodeBrestricted {
 }
 
 macro_rules! items { ($to:ident $($with:ident)*) => { $to! { [$($with)*]
-    Restricted;
-    NotRestricted;
+    "restricted" Restricted;
+    "not-restricted" NotRestricted;
     ...;
 } }; }
 
@@ -24,7 +24,7 @@ impl OfKind for CEmodeBrestricted {
 }
 
 impl Items for CEmodeBrestricted {
-    const ITEMS: ItemCounts = items!(item_counts);
+    const ITEMS: ItemLists = items!(item_lists);
 
     ghost ITEMS = { extensible_items 2 0 };
 

@@ -14,8 +14,8 @@ pub enum EndIndication {
 }
 
 macro_rules! items { ($to:ident $($with:ident)*) => { $to! { [$($with)*]
-    NoFurtherData;
-    FurtherDataExists;
+    "no-further-data" NoFurtherData;
+    "further-data-exists" FurtherDataExists;
     ...;
 } }; }
 
@@ -24,7 +24,7 @@ impl OfKind for EndIndication {
 }
 
 impl Items for EndIndication {
-    const ITEMS: ItemCounts = items!(item_counts);
+    const ITEMS: ItemLists = items!(item_lists);
 
     ghost ITEMS = { extensible_items 2 0 };
 

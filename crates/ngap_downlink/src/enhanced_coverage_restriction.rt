@@ -14,7 +14,7 @@ pub enum EnhancedCoverageRestriction {
 }
 
 macro_rules! items { ($to:ident $($with:ident)*) => { $to! { [$($with)*]
-    Restricted;
+    "restricted" Restricted;
     ...;
 } }; }
 
@@ -23,7 +23,7 @@ impl OfKind for EnhancedCoverageRestriction {
 }
 
 impl Items for EnhancedCoverageRestriction {
-    const ITEMS: ItemCounts = items!(item_counts);
+    const ITEMS: ItemLists = items!(item_lists);
 
     ghost ITEMS = { extensible_items 1 0 };
 

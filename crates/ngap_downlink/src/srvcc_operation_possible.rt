@@ -14,8 +14,8 @@ pub enum SrvccOperationPossible {
 }
 
 macro_rules! items { ($to:ident $($with:ident)*) => { $to! { [$($with)*]
-    Possible;
-    NotPossible;
+    "possible" Possible;
+    "notPossible" NotPossible;
     ...;
 } }; }
 
@@ -24,7 +24,7 @@ impl OfKind for SrvccOperationPossible {
 }
 
 impl Items for SrvccOperationPossible {
-    const ITEMS: ItemCounts = items!(item_counts);
+    const ITEMS: ItemLists = items!(item_lists);
 
     ghost ITEMS = { extensible_items 2 0 };
 

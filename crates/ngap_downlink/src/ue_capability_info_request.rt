@@ -14,7 +14,7 @@ pub enum UeCapabilityInfoRequest {
 }
 
 macro_rules! items { ($to:ident $($with:ident)*) => { $to! { [$($with)*]
-    Requested;
+    "requested" Requested;
     ...;
 } }; }
 
@@ -23,7 +23,7 @@ impl OfKind for UeCapabilityInfoRequest {
 }
 
 impl Items for UeCapabilityInfoRequest {
-    const ITEMS: ItemCounts = items!(item_counts);
+    const ITEMS: ItemLists = items!(item_lists);
 
     ghost ITEMS = { extensible_items 1 0 };
 

@@ -18,9 +18,9 @@ pub enum UeDifferentiationInfoBatteryIndication {
 }
 
 macro_rules! items { ($to:ident $($with:ident)*) => { $to! { [$($with)*]
-    BatteryPowered;
-    BatteryPoweredNotRechargeableOrReplaceable;
-    NotBatteryPowered;
+    "battery-powered" BatteryPowered;
+    "battery-powered-not-rechargeable-or-replaceable" BatteryPoweredNotRechargeableOrReplaceable;
+    "not-battery-powered" NotBatteryPowered;
     ...;
 } }; }
 
@@ -29,7 +29,7 @@ impl OfKind for UeDifferentiationInfoBatteryIndication {
 }
 
 impl Items for UeDifferentiationInfoBatteryIndication {
-    const ITEMS: ItemCounts = items!(item_counts);
+    const ITEMS: ItemLists = items!(item_lists);
 
     ghost ITEMS = { extensible_items 3 0 };
 

@@ -15,8 +15,8 @@ pub enum UeDifferentiationInfoPeriodicCommunicationIndicator {
 }
 
 macro_rules! items { ($to:ident $($with:ident)*) => { $to! { [$($with)*]
-    Periodically;
-    Ondemand;
+    "periodically" Periodically;
+    "ondemand" Ondemand;
     ...;
 } }; }
 
@@ -25,7 +25,7 @@ impl OfKind for UeDifferentiationInfoPeriodicCommunicationIndicator {
 }
 
 impl Items for UeDifferentiationInfoPeriodicCommunicationIndicator {
-    const ITEMS: ItemCounts = items!(item_counts);
+    const ITEMS: ItemLists = items!(item_lists);
 
     ghost ITEMS = { extensible_items 2 0 };
 

@@ -15,8 +15,8 @@ pub enum UeDifferentiationInfoStationaryIndication {
 }
 
 macro_rules! items { ($to:ident $($with:ident)*) => { $to! { [$($with)*]
-    Stationary;
-    Mobile;
+    "stationary" Stationary;
+    "mobile" Mobile;
     ...;
 } }; }
 
@@ -25,7 +25,7 @@ impl OfKind for UeDifferentiationInfoStationaryIndication {
 }
 
 impl Items for UeDifferentiationInfoStationaryIndication {
-    const ITEMS: ItemCounts = items!(item_counts);
+    const ITEMS: ItemLists = items!(item_lists);
 
     ghost ITEMS = { extensible_items 2 0 };
 

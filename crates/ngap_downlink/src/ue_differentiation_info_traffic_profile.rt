@@ -17,9 +17,9 @@ pub enum UeDifferentiationInfoTrafficProfile {
 }
 
 macro_rules! items { ($to:ident $($with:ident)*) => { $to! { [$($with)*]
-    SinglePacket;
-    DualPackets;
-    MultiplePackets;
+    "single-packet" SinglePacket;
+    "dual-packets" DualPackets;
+    "multiple-packets" MultiplePackets;
     ...;
 } }; }
 
@@ -28,7 +28,7 @@ impl OfKind for UeDifferentiationInfoTrafficProfile {
 }
 
 impl Items for UeDifferentiationInfoTrafficProfile {
-    const ITEMS: ItemCounts = items!(item_counts);
+    const ITEMS: ItemLists = items!(item_lists);
 
     ghost ITEMS = { extensible_items 3 0 };
 

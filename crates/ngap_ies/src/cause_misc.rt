@@ -21,12 +21,12 @@ pub enum CauseMisc {
 }
 
 macro_rules! items { ($to:ident $($with:ident)*) => { $to! { [$($with)*]
-    ControlProcessingOverload;
-    NotEnoughUserPlaneProcessingResources;
-    HardwareFailure;
-    OmIntervention;
-    UnknownPlmnOrSnpn;
-    Unspecified;
+    "control-processing-overload" ControlProcessingOverload;
+    "not-enough-user-plane-processing-resources" NotEnoughUserPlaneProcessingResources;
+    "hardware-failure" HardwareFailure;
+    "om-intervention" OmIntervention;
+    "unknown-PLMN-or-SNPN" UnknownPlmnOrSnpn;
+    "unspecified" Unspecified;
     ...;
 } }; }
 
@@ -35,7 +35,7 @@ impl OfKind for CauseMisc {
 }
 
 impl Items for CauseMisc {
-    const ITEMS: ItemCounts = items!(item_counts);
+    const ITEMS: ItemLists = items!(item_lists);
 
     ghost ITEMS = { extensible_items 6 0 };
 

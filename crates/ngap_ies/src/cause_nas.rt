@@ -19,12 +19,12 @@ pub enum CauseNas {
 }
 
 macro_rules! items { ($to:ident $($with:ident)*) => { $to! { [$($with)*]
-    NormalRelease;
-    AuthenticationFailure;
-    Deregister;
-    Unspecified;
+    "normal-release" NormalRelease;
+    "authentication-failure" AuthenticationFailure;
+    "deregister" Deregister;
+    "unspecified" Unspecified;
     ...;
-    UeNotInPlmnServingArea;
+    "uE-not-in-PLMN-serving-area" UeNotInPlmnServingArea;
 } }; }
 
 impl OfKind for CauseNas {
@@ -32,7 +32,7 @@ impl OfKind for CauseNas {
 }
 
 impl Items for CauseNas {
-    const ITEMS: ItemCounts = items!(item_counts);
+    const ITEMS: ItemLists = items!(item_lists);
 
     ghost ITEMS = { extensible_items 4 1 };
 

@@ -24,13 +24,13 @@ pub enum CauseProtocol {
 }
 
 macro_rules! items { ($to:ident $($with:ident)*) => { $to! { [$($with)*]
-    TransferSyntaxError;
-    AbstractSyntaxErrorReject;
-    AbstractSyntaxErrorIgnoreAndNotify;
-    MessageNotCompatibleWithReceiverState;
-    SemanticError;
-    AbstractSyntaxErrorFalselyConstructedMessage;
-    Unspecified;
+    "transfer-syntax-error" TransferSyntaxError;
+    "abstract-syntax-error-reject" AbstractSyntaxErrorReject;
+    "abstract-syntax-error-ignore-and-notify" AbstractSyntaxErrorIgnoreAndNotify;
+    "message-not-compatible-with-receiver-state" MessageNotCompatibleWithReceiverState;
+    "semantic-error" SemanticError;
+    "abstract-syntax-error-falsely-constructed-message" AbstractSyntaxErrorFalselyConstructedMessage;
+    "unspecified" Unspecified;
     ...;
 } }; }
 
@@ -39,7 +39,7 @@ impl OfKind for CauseProtocol {
 }
 
 impl Items for CauseProtocol {
-    const ITEMS: ItemCounts = items!(item_counts);
+    const ITEMS: ItemLists = items!(item_lists);
 
     ghost ITEMS = { extensible_items 7 0 };
 

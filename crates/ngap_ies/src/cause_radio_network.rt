@@ -104,60 +104,61 @@ pub enum CauseRadioNetwork {
 }
 
 macro_rules! items { ($to:ident $($with:ident)*) => { $to! { [$($with)*]
-    Unspecified;
-    TxnrelocoverallExpiry;
-    SuccessfulHandover;
-    ReleaseDueToNgranGeneratedReason;
-    ReleaseDueTo5GcGeneratedReason;
-    HandoverCancelled;
-    PartialHandover;
-    HoFailureInTarget5GcNgranNodeOrTargetSystem;
-    HoTargetNotAllowed;
-    TngrelocoverallExpiry;
-    TngrelocprepExpiry;
-    CellNotAvailable;
-    UnknownTargetId;
-    NoRadioResourcesAvailableInTargetCell;
-    UnknownLocalUeNgapId;
-    InconsistentRemoteUeNgapId;
-    HandoverDesirableForRadioReason;
-    TimeCriticalHandover;
-    ResourceOptimisationHandover;
-    ReduceLoadInServingCell;
-    UserInactivity;
-    RadioConnectionWithUeLost;
-    RadioResourcesNotAvailable;
-    InvalidQosCombination;
-    FailureInRadioInterfaceProcedure;
-    InteractionWithOtherProcedure;
-    UnknownPduSessionId;
-    UnkownQosFlowId;
-    MultiplePduSessionIdInstances;
-    MultipleQosFlowIdInstances;
-    EncryptionAndOrIntegrityProtectionAlgorithmsNotSupported;
-    NgIntraSystemHandoverTriggered;
-    NgInterSystemHandoverTriggered;
-    XnHandoverTriggered;
-    NotSupported5QiValue;
-    UeContextTransfer;
-    ImsVoiceEpsFallbackOrRatFallbackTriggered;
-    UpIntegrityProtectionNotPossible;
-    UpConfidentialityProtectionNotPossible;
-    SliceNotSupported;
-    UeInRrcInactiveStateNotReachable;
-    Redirection;
-    ResourcesNotAvailableForTheSlice;
-    UeMaxIntegrityProtectedDataRateReason;
-    ReleaseDueToCnDetectedMobility;
+    "unspecified" Unspecified;
+    "txnrelocoverall-expiry" TxnrelocoverallExpiry;
+    "successful-handover" SuccessfulHandover;
+    "release-due-to-ngran-generated-reason" ReleaseDueToNgranGeneratedReason;
+    "release-due-to-5gc-generated-reason" ReleaseDueTo5GcGeneratedReason;
+    "handover-cancelled" HandoverCancelled;
+    "partial-handover" PartialHandover;
+    "ho-failure-in-target-5GC-ngran-node-or-target-system" HoFailureInTarget5GcNgranNodeOrTargetSystem;
+    "ho-target-not-allowed" HoTargetNotAllowed;
+    "tngrelocoverall-expiry" TngrelocoverallExpiry;
+    "tngrelocprep-expiry" TngrelocprepExpiry;
+    "cell-not-available" CellNotAvailable;
+    "unknown-targetID" UnknownTargetId;
+    "no-radio-resources-available-in-target-cell" NoRadioResourcesAvailableInTargetCell;
+    "unknown-local-UE-NGAP-ID" UnknownLocalUeNgapId;
+    "inconsistent-remote-UE-NGAP-ID" InconsistentRemoteUeNgapId;
+    "handover-desirable-for-radio-reason" HandoverDesirableForRadioReason;
+    "time-critical-handover" TimeCriticalHandover;
+    "resource-optimisation-handover" ResourceOptimisationHandover;
+    "reduce-load-in-serving-cell" ReduceLoadInServingCell;
+    "user-inactivity" UserInactivity;
+    "radio-connection-with-ue-lost" RadioConnectionWithUeLost;
+    "radio-resources-not-available" RadioResourcesNotAvailable;
+    "invalid-qos-combination" InvalidQosCombination;
+    "failure-in-radio-interface-procedure" FailureInRadioInterfaceProcedure;
+    "interaction-with-other-procedure" InteractionWithOtherProcedure;
+    "unknown-PDU-session-ID" UnknownPduSessionId;
+    "unkown-qos-flow-ID" UnkownQosFlowId;
+    "multiple-PDU-session-ID-instances" MultiplePduSessionIdInstances;
+    "multiple-qos-flow-ID-instances" MultipleQosFlowIdInstances;
+    "encryption-and-or-integrity-protection-algorithms-not-supported"
+        EncryptionAndOrIntegrityProtectionAlgorithmsNotSupported;
+    "ng-intra-system-handover-triggered" NgIntraSystemHandoverTriggered;
+    "ng-inter-system-handover-triggered" NgInterSystemHandoverTriggered;
+    "xn-handover-triggered" XnHandoverTriggered;
+    "not-supported-5QI-value" NotSupported5QiValue;
+    "ue-context-transfer" UeContextTransfer;
+    "ims-voice-eps-fallback-or-rat-fallback-triggered" ImsVoiceEpsFallbackOrRatFallbackTriggered;
+    "up-integrity-protection-not-possible" UpIntegrityProtectionNotPossible;
+    "up-confidentiality-protection-not-possible" UpConfidentialityProtectionNotPossible;
+    "slice-not-supported" SliceNotSupported;
+    "ue-in-rrc-inactive-state-not-reachable" UeInRrcInactiveStateNotReachable;
+    "redirection" Redirection;
+    "resources-not-available-for-the-slice" ResourcesNotAvailableForTheSlice;
+    "ue-max-integrity-protected-data-rate-reason" UeMaxIntegrityProtectedDataRateReason;
+    "release-due-to-cn-detected-mobility" ReleaseDueToCnDetectedMobility;
     ...;
-    N26InterfaceNotAvailable;
-    ReleaseDueToPreEmption;
-    MultipleLocationReportingReferenceIdInstances;
-    RsnNotAvailableForTheUp;
-    NpnAccessDenied;
-    CagOnlyAccessDenied;
-    InsufficientUeCapabilities;
-    RedcapUeNotSupported;
+    "n26-interface-not-available" N26InterfaceNotAvailable;
+    "release-due-to-pre-emption" ReleaseDueToPreEmption;
+    "multiple-location-reporting-reference-ID-instances" MultipleLocationReportingReferenceIdInstances;
+    "rsn-not-available-for-the-up" RsnNotAvailableForTheUp;
+    "npn-access-denied" NpnAccessDenied;
+    "cag-only-access-denied" CagOnlyAccessDenied;
+    "insufficient-ue-capabilities" InsufficientUeCapabilities;
+    "redcap-ue-not-supported" RedcapUeNotSupported;
 } }; }
 
 impl OfKind for CauseRadioNetwork {
@@ -165,7 +166,7 @@ impl OfKind for CauseRadioNetwork {
 }
 
 impl Items for CauseRadioNetwork {
-    const ITEMS: ItemCounts = items!(item_counts);
+    const ITEMS: ItemLists = items!(item_lists);
 
     ghost ITEMS = { extensible_items 45 8 };
 

@@ -14,8 +14,8 @@ pub enum CauseTransport {
 }
 
 macro_rules! items { ($to:ident $($with:ident)*) => { $to! { [$($with)*]
-    TransportResourceUnavailable;
-    Unspecified;
+    "transport-resource-unavailable" TransportResourceUnavailable;
+    "unspecified" Unspecified;
     ...;
 } }; }
 
@@ -24,7 +24,7 @@ impl OfKind for CauseTransport {
 }
 
 impl Items for CauseTransport {
-    const ITEMS: ItemCounts = items!(item_counts);
+    const ITEMS: ItemLists = items!(item_lists);
 
     ghost ITEMS = { extensible_items 2 0 };
 

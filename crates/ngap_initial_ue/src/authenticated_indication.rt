@@ -12,7 +12,7 @@ pub enum AuthenticatedIndication {
 }
 
 macro_rules! items { ($to:ident $($with:ident)*) => { $to! { [$($with)*]
-    True;
+    "true" True;
     ...;
 } }; }
 
@@ -21,7 +21,7 @@ impl OfKind for AuthenticatedIndication {
 }
 
 impl Items for AuthenticatedIndication {
-    const ITEMS: ItemCounts = items!(item_counts);
+    const ITEMS: ItemLists = items!(item_lists);
 
     ghost ITEMS = { extensible_items 1 0 };
 

@@ -14,7 +14,7 @@ pub enum CEmodeBSupportIndicator {
 }
 
 macro_rules! items { ($to:ident $($with:ident)*) => { $to! { [$($with)*]
-    Supported;
+    "supported" Supported;
     ...;
 } }; }
 
@@ -23,7 +23,7 @@ impl OfKind for CEmodeBSupportIndicator {
 }
 
 impl Items for CEmodeBSupportIndicator {
-    const ITEMS: ItemCounts = items!(item_counts);
+    const ITEMS: ItemLists = items!(item_lists);
 
     ghost ITEMS = { extensible_items 1 0 };
 

@@ -12,7 +12,7 @@ pub enum LtemIndication {
 }
 
 macro_rules! items { ($to:ident $($with:ident)*) => { $to! { [$($with)*]
-    LteM;
+    "lte-m" LteM;
     ...;
 } }; }
 
@@ -21,7 +21,7 @@ impl OfKind for LtemIndication {
 }
 
 impl Items for LtemIndication {
-    const ITEMS: ItemCounts = items!(item_counts);
+    const ITEMS: ItemLists = items!(item_lists);
 
     ghost ITEMS = { extensible_items 1 0 };
 

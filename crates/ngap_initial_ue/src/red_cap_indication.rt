@@ -12,7 +12,7 @@ pub enum RedCapIndication {
 }
 
 macro_rules! items { ($to:ident $($with:ident)*) => { $to! { [$($with)*]
-    Redcap;
+    "redcap" Redcap;
     ...;
 } }; }
 
@@ -21,7 +21,7 @@ impl OfKind for RedCapIndication {
 }
 
 impl Items for RedCapIndication {
-    const ITEMS: ItemCounts = items!(item_counts);
+    const ITEMS: ItemLists = items!(item_lists);
 
     ghost ITEMS = { extensible_items 1 0 };
 

@@ -29,19 +29,19 @@ pub enum RrcEstablishmentCause {
 }
 
 macro_rules! items { ($to:ident $($with:ident)*) => { $to! { [$($with)*]
-    Emergency;
-    HighPriorityAccess;
-    MtAccess;
-    MoSignalling;
-    MoData;
-    MoVoiceCall;
-    MoVideoCall;
-    MoSms;
-    MpsPriorityAccess;
-    McsPriorityAccess;
+    "emergency" Emergency;
+    "highPriorityAccess" HighPriorityAccess;
+    "mt-Access" MtAccess;
+    "mo-Signalling" MoSignalling;
+    "mo-Data" MoData;
+    "mo-VoiceCall" MoVoiceCall;
+    "mo-VideoCall" MoVideoCall;
+    "mo-SMS" MoSms;
+    "mps-PriorityAccess" MpsPriorityAccess;
+    "mcs-PriorityAccess" McsPriorityAccess;
     ...;
-    NotAvailable;
-    MoExceptionData;
+    "notAvailable" NotAvailable;
+    "mo-ExceptionData" MoExceptionData;
 } }; }
 
 impl OfKind for RrcEstablishmentCause {
@@ -49,7 +49,7 @@ impl OfKind for RrcEstablishmentCause {
 }
 
 impl Items for RrcEstablishmentCause {
-    const ITEMS: ItemCounts = items!(item_counts);
+    const ITEMS: ItemLists = items!(item_lists);
 
     ghost ITEMS = { extensible_items 10 2 };
 

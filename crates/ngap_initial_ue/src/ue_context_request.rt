@@ -12,7 +12,7 @@ pub enum UeContextRequest {
 }
 
 macro_rules! items { ($to:ident $($with:ident)*) => { $to! { [$($with)*]
-    Requested;
+    "requested" Requested;
     ...;
 } }; }
 
@@ -21,7 +21,7 @@ impl OfKind for UeContextRequest {
 }
 
 impl Items for UeContextRequest {
-    const ITEMS: ItemCounts = items!(item_counts);
+    const ITEMS: ItemLists = items!(item_lists);
 
     ghost ITEMS = { extensible_items 1 0 };
 

@@ -16,10 +16,10 @@ pub enum NbIoTDefaultPagingDrx {
 }
 
 macro_rules! items { ($to:ident $($with:ident)*) => { $to! { [$($with)*]
-    Rf128;
-    Rf256;
-    Rf512;
-    Rf1024;
+    "rf128" Rf128;
+    "rf256" Rf256;
+    "rf512" Rf512;
+    "rf1024" Rf1024;
     ...;
 } }; }
 
@@ -28,7 +28,7 @@ impl OfKind for NbIoTDefaultPagingDrx {
 }
 
 impl Items for NbIoTDefaultPagingDrx {
-    const ITEMS: ItemCounts = items!(item_counts);
+    const ITEMS: ItemLists = items!(item_lists);
 
     ghost ITEMS = { extensible_items 4 0 };
 

@@ -12,7 +12,7 @@ pub enum UeRetentionInformation {
 }
 
 macro_rules! items { ($to:ident $($with:ident)*) => { $to! { [$($with)*]
-    UesRetained;
+    "ues-retained" UesRetained;
     ...;
 } }; }
 
@@ -21,7 +21,7 @@ impl OfKind for UeRetentionInformation {
 }
 
 impl Items for UeRetentionInformation {
-    const ITEMS: ItemCounts = items!(item_counts);
+    const ITEMS: ItemLists = items!(item_lists);
 
     ghost ITEMS = { extensible_items 1 0 };
 

@@ -128,7 +128,7 @@ pub(crate) fn cut_back<A: Allocator>(octets: &mut Vec<u8, A>, spare: u32) -> u32
 
 /// Puts the low `width` bits of `value` in the place of the first spare bits. A word of eight octets is written over the
 /// octet in which the first of these stands and those behind it.
-#[inline(never)]
+#[inline(always)]
 fn put_field<A: Allocator>(octets: &mut Vec<u8, A>, spare: u32, value: u64, width: u32)
     requires kept { AreKept spare octets.old.items }
     requires enough { 64 ≤ spare }

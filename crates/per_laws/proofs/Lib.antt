@@ -41,3 +41,4 @@ pub mod Valued
 pub mod Replaced
 pub mod Sound
 pub mod Named
+pub mod Nameless

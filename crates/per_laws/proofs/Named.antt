@@ -1,5 +1,5 @@
 -- Bits that have names: their normal forms are equal exactly where they mean the same, and are the fewest.
-use Rattle.std.proofs.Common.{◌≡◌, ◌↔◌, refl, sym, ap, subst, ◌∙◌, ℕ, ◌+◌, ◌-◌, ◌^◌, ◌<◌, ◌≤◌, Bool, true, false, cond, ltb, leb, ◌&&◌, List, ◌++◌, length, replicate, arith, Option, Some, None, append_assoc, ltb-true, lt-ltb, leb-true, le-leb, ap₂}
+use Rattle.std.proofs.Common.{◌≡◌, ◌↔◌, refl, sym, ap, subst, ◌∙◌, ℕ, ◌+◌, ◌-◌, ◌^◌, ◌<◌, ◌≤◌, Bool, true, false, cond, ltb, ◌&&◌, ◌++◌, length, replicate, arith, Option, Some, None, append_assoc, ltb-true, lt-ltb, leb-true, le-leb, ap₂}
 use Rattle.std.proofs.Math.Nat.{lt_of_le_of_lt}
 use Rattle.std.proofs.lemmas.List.{replicate-append-replicate}
 use Rattle.rasn_types.specs.Bits.{Bits}
@@ -54,6 +54,12 @@ told_apart size mark bs cs = (
   λ e. trimmed_alike bs cs (sym (trimmed-normal size.least bs) ∙ ap trimmed (bits_of (normal_bits size.least bs) (normal_bits size.least cs) e) ∙ trimmed-normal size.least cs),
   λ m. ap Value.bits (normal-trimmed size.least bs cs (alike_trimmed bs cs m)),
 )
+
+-- the normal form means the same
+pub mean_the_same : (size : Size) (mark : Bool) (bs ns : Bits) → normal (Schema.bit_string size mark true) (Value.bits bs) ≡ Value.bits ns → MeanTheSame bs ns
+unfolding normal
+mean_the_same size mark bs ns e =
+    trimmed_alike bs ns (sym (trimmed-normal size.least bs) ∙ ap trimmed (bits_of (normal_bits size.least bs) ns e))
 
 -- so many bits, where the trimmed ones are no more than c and the least count isn't either
 fewest : (l : Option ℕ) (bs : Bits) (c : ℕ) → at_least l c ≡ true → c < 2 ^ 64 → length (trimmed bs) ≤ c → at_least l (length (normal_bits l bs)) ≡ true × (length (normal_bits l bs) ≤ c)

@@ -7,6 +7,7 @@ pub mod depth;
 pub mod lawful;
 pub mod levels;
 pub mod messages;
+pub mod named_bits;
 pub mod normal_form;
 pub mod open_types;
 pub mod padding;

@@ -2,9 +2,9 @@
 --     signed INTEGER (-8..7) DEFAULT -5, any INTEGER DEFAULT 0, octets OCTET STRING (SIZE (0..15)) DEFAULT '0102'H,
 --     text VisibleString (SIZE (0..15)) DEFAULT "hi", last BOOLEAN
 -- }
-use Rattle.std.specs.Prelude.{[], ◌∷◌, codes, negsuc, pos}
-use Rattle.rasn_below.specs.Page.{automatic, default, whole, octets, characters, list_value, TypeLists}
-use Rattle.rasn_below.specs.Page.{boolean, integer, octet_string, visible_string, sequence_of, big, i8, any, minus◌to◌}
+use Rattle.std.specs.Prelude.{[], ◌∷◌, true, false, codes, negsuc, pos}
+use Rattle.rasn_below.specs.Page.{automatic, default, whole, octets, bits, characters, list_value}
+use Rattle.rasn_below.specs.Page.{TypeLists, boolean, integer, bit_string, octet_string, visible_string, sequence_of, big, i8, any, minus◌to◌}
 use Rattle.rasn_below.specs.Page.{size◌to◌}
 
 abbrev pub defaults : TypeLists
@@ -19,4 +19,10 @@ defaults = automatic (
 abbrev pub default_list : TypeLists
 default_list = automatic (
     default (list_value []) (sequence_of (size 0 to 3) boolean) ∷
+    boolean ∷ [])
+
+-- SEQUENCE { bits BIT STRING (SIZE (0..7)) DEFAULT '101'B, last BOOLEAN }
+abbrev pub default_bits : TypeLists
+default_bits = automatic (
+    default (bits (true ∷ false ∷ true ∷ [])) (bit_string (size 0 to 7)) ∷
     boolean ∷ [])

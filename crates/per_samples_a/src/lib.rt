@@ -7,6 +7,7 @@ pub mod both;
 pub mod bounded;
 pub mod brackets;
 pub mod carrier;
+pub mod default_bits;
 pub mod default_list;
 pub mod defaults;
 pub mod eight;

@@ -15,14 +15,14 @@ pub enum TwoColors {
     B,
 }
 
-macro_rules! items { ($to:ident $($with:ident)*) => { $to! { [$($with)*] A; ...; B; } }; }
+macro_rules! items { ($to:ident $($with:ident)*) => { $to! { [$($with)*] "a" A; ...; "b" B; } }; }
 
 impl OfKind for TwoColors {
     type Kind = EnumeratedKind;
 }
 
 impl Items for TwoColors {
-    const ITEMS: ItemCounts = items!(item_counts);
+    const ITEMS: ItemLists = items!(item_lists);
 
     ghost ITEMS = { extensible_items 1 1 };
 

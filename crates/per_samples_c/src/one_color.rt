@@ -11,14 +11,14 @@ pub enum OneColor {
     A,
 }
 
-macro_rules! items { ($to:ident $($with:ident)*) => { $to! { [$($with)*] A; ...; } }; }
+macro_rules! items { ($to:ident $($with:ident)*) => { $to! { [$($with)*] "a" A; ...; } }; }
 
 impl OfKind for OneColor {
     type Kind = EnumeratedKind;
 }
 
 impl Items for OneColor {
-    const ITEMS: ItemCounts = items!(item_counts);
+    const ITEMS: ItemLists = items!(item_lists);
 
     ghost ITEMS = { extensible_items 1 0 };
 

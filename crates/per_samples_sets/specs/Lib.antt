@@ -6,3 +6,4 @@ pub mod SetPairs
 pub mod Sets
 pub mod Each
 pub mod Dnests
+pub mod Holders

@@ -2,7 +2,7 @@
 use Rattle.std.specs.Prelude.{ℕ, Bool}
 use Rattle.std.specs.Prelude.{List, [], ◌∷◌, Option, Some}
 use Rattle.rasn_below.specs.Page.{Value, nothing, truth, Component, Chosen, at, boolean, choice, chosen, integer, null}
-use Rattle.rasn_below.specs.Page.{optional, u8, under, ◌to◌, TypeLists, own_tags}
+use Rattle.rasn_below.specs.Page.{optional, u8, under, ◌to◌, TypeLists, own_tags, extensible_own_tags}
 use Rattle.rasn_below.specs.Types.{leaf, TagTree}
 use Rattle.per_samples_sets.specs.declared.truth_or_none.TruthOrNone.{TruthOrNone}
 use Rattle.per_samples_sets.specs.declared.truth_or_none.TruthOrNone.TheVariants.{M, N}
@@ -12,15 +12,21 @@ abbrev pub private : ℕ → TagTree
 private i = leaf (record { class = 3; number = i })
 
 -- SET { b [1] INTEGER (0..255), a [0] BOOLEAN }
-abbrev pub set : List Component
-set = under (at 1) (integer u8 (0 to 255)) ∷ under (at 0) boolean ∷ []
+abbrev pub set : TypeLists
+set = own_tags (under (at 1) (integer u8 (0 to 255)) ∷ under (at 0) boolean ∷ [])
+
+-- SET { b [1] INTEGER (0..255), a [0] BOOLEAN, ..., d [3] BOOLEAN, c [2] INTEGER (0..7) OPTIONAL }
+abbrev pub extended_set : TypeLists
+extended_set = extensible_own_tags
+    (under (at 1) (integer u8 (0 to 255)) ∷ under (at 0) boolean ∷ [])
+    (under (at 3) boolean ∷ under (at 2) (optional (integer u8 (0 to 7))) ∷ [])
 
 -- SET { p [PRIVATE 0] BOOLEAN OPTIONAL, q [0] BOOLEAN OPTIONAL, r [1] BOOLEAN OPTIONAL }
-abbrev pub set_optional : List Component
-set_optional =
+abbrev pub set_optional : TypeLists
+set_optional = own_tags (
     under (private 0) (optional boolean) ∷
     under (at 0) (optional boolean) ∷
-    under (at 1) (optional boolean) ∷ []
+    under (at 1) (optional boolean) ∷ [])
 
 -- CHOICE { m [3] BOOLEAN, n [9] NULL }
 abbrev pub truth_or_none : TypeLists
@@ -32,8 +38,8 @@ truth_or_none_chosen (M m) = chosen 0 (truth m)
 truth_or_none_chosen N = chosen 1 nothing
 
 -- SET { k [5] BOOLEAN, c CHOICE { m [3] BOOLEAN, n [9] NULL } }, whose choice has no tag of its own
-abbrev pub set_choice : List Component
-set_choice = under (at 5) boolean ∷ choice truth_or_none ∷ []
+abbrev pub set_choice : TypeLists
+set_choice = own_tags (under (at 5) boolean ∷ choice truth_or_none ∷ [])
 
 -- what its components are
 abbrev pub set_choice_contents : Bool → Value → List (Option Value)

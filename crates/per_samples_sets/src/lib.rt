@@ -5,6 +5,8 @@
 pub mod connect;
 pub mod date_rows;
 pub mod dnest;
+pub mod extended_set;
+pub mod holder;
 pub mod key;
 pub mod membership;
 pub mod period;

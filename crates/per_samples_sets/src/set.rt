@@ -2,7 +2,7 @@
 #![tactic(auto, unfolding(rasn_below::specs::Types::smallest))]
 
 ghost use Rattle.std.specs.Prelude.{[], ◌∷◌, Some, pos, refl};
-ghost use Rattle.rasn_below.specs.Page.{truth, whole, fields_in};
+ghost use Rattle.rasn_below.specs.Page.{truth, whole, fields_of};
 ghost use Rattle.per_samples_sets.specs.Sets.{set};
 
 use rasn_below::page::*;
@@ -23,11 +23,11 @@ macro_rules! components {
     };
 }
 
-const FIELDS: Fields = components!(set_fields);
+const FIELDS: FieldLists = components!(fields);
 
-const BOUNDS: &[&[Constraint]] = components!(set_bounds);
+const BOUNDS: Bounds = components!(bounds);
 
-const COMPONENTS: Fields = set_fields! { []
+const COMPONENTS: FieldLists = fields! { []
     required 1 "b" b: u8 [0..=255];
     required 0 "a" a: bool [];
 };
@@ -37,15 +37,13 @@ impl OfKind for Set {
 }
 
 impl SetComponents for Set {
-    const COMPONENTS: Fields = COMPONENTS;
+    const COMPONENTS: FieldLists = COMPONENTS;
 
-    ghost COMPONENTS = { fields_in set };
+    ghost COMPONENTS = { fields_of set };
 
-    ghost components = { set };
+    ghost components = { (set, refl) };
 
     ghost contents = { λ x. Some (whole (pos x.b)) ∷ Some (truth x.a) ∷ [] };
-
-    ghost described = { refl };
 
     ghost counted = { λ _. refl };
 }

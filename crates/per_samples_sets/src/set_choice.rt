@@ -3,7 +3,7 @@
 #![tactic(auto, unfolding(rasn_below::specs::Types::smallest, rasn_below::specs::Types::least_of))]
 
 ghost use Rattle.std.specs.Prelude.{refl};
-ghost use Rattle.rasn_below.specs.Page.{fields_in};
+ghost use Rattle.rasn_below.specs.Page.{fields_of};
 ghost use Rattle.per_samples_sets.specs.Sets.{set_choice, set_choice_contents};
 
 use crate::truth_or_none::{TAGS, TruthOrNone};
@@ -25,11 +25,11 @@ macro_rules! components {
     };
 }
 
-const FIELDS: Fields = components!(set_fields);
+const FIELDS: FieldLists = components!(fields);
 
-const BOUNDS: &[&[Constraint]] = components!(set_bounds);
+const BOUNDS: Bounds = components!(bounds);
 
-const COMPONENTS: Fields = set_fields! { []
+const COMPONENTS: FieldLists = fields! { []
     required 5 "k" k: bool [];
     required 3 of TAGS "c" c: TruthOrNone [];
 };
@@ -39,17 +39,15 @@ impl OfKind for SetChoice {
 }
 
 impl SetComponents for SetChoice {
-    const COMPONENTS: Fields = COMPONENTS;
+    const COMPONENTS: FieldLists = COMPONENTS;
 
-    ghost COMPONENTS = { fields_in set_choice };
+    ghost COMPONENTS = { fields_of set_choice };
 
-    ghost components = { set_choice };
+    ghost components = { (set_choice, refl) };
 
     ghost contents = { λ x. set_choice_contents x.k (⟦<TruthOrNone as AsnType>⟧.value x.c) };
 
     ghost depth = { λ _. 1 };
-
-    ghost described = { refl };
 
     ghost counted = { λ _. refl };
 }

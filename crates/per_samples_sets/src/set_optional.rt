@@ -2,7 +2,7 @@
 #![tactic(auto, unfolding(rasn_below::specs::Types::smallest))]
 
 ghost use Rattle.std.specs.Prelude.{[], ◌∷◌, refl};
-ghost use Rattle.rasn_below.specs.Page.{truth, slot_of, fields_in};
+ghost use Rattle.rasn_below.specs.Page.{truth, slot_of, fields_of};
 ghost use Rattle.per_samples_sets.specs.Sets.{set_optional};
 
 use rasn_below::page::*;
@@ -39,23 +39,25 @@ macro_rules! field {
 }
 
 /// The components in ascending order of their tags: a private one stands behind those of other classes (X.680 8.6).
-const FIELDS: Fields = Fields {
-    list: &[
+const FIELDS: FieldLists = FieldLists {
+    root: &[
         field!(0 Context 0 "q"),
         field!(1 Context 1 "r"),
         field!(2 Private 0 "p"),
     ],
+    added: None,
 };
 
-const BOUNDS: &[&[Constraint]] = components!(set_bounds);
+const BOUNDS: Bounds = components!(bounds);
 
 /// The components in the order of the type.
-const COMPONENTS: Fields = Fields {
-    list: &[
+const COMPONENTS: FieldLists = FieldLists {
+    root: &[
         field!(0 Private 0 "p"),
         field!(1 Context 0 "q"),
         field!(2 Context 1 "r"),
     ],
+    added: None,
 };
 
 impl OfKind for SetOptional {
@@ -63,15 +65,13 @@ impl OfKind for SetOptional {
 }
 
 impl SetComponents for SetOptional {
-    const COMPONENTS: Fields = COMPONENTS;
+    const COMPONENTS: FieldLists = COMPONENTS;
 
-    ghost COMPONENTS = { fields_in set_optional };
+    ghost COMPONENTS = { fields_of set_optional };
 
-    ghost components = { set_optional };
+    ghost components = { (set_optional, refl) };
 
     ghost contents = { λ x. slot_of truth x.p ∷ slot_of truth x.q ∷ slot_of truth x.r ∷ [] };
-
-    ghost described = { refl };
 
     ghost counted = { λ _. refl };
 }

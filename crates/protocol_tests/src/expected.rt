@@ -58,7 +58,7 @@ impl<'a, R: Abort> Trial<'a, R> {
     }
 
     /// A list with one more behind it.
-    fn followed<T: Drop>(&self, mut list: Vec<T>, last: T) -> Vec<T> {
+    pub(crate) fn followed<T: Drop>(&self, mut list: Vec<T>, last: T) -> Vec<T> {
         if list.push(last).is_err() {
             panic!(self.rt; "memory")
         }
@@ -80,9 +80,25 @@ impl<'a, R: Abort> Trial<'a, R> {
         panic!(self.rt; "{about:?}")
     }
 
+    /// The octets of a value.
+    pub(crate) fn encode<T: Encode>(&self, value: &T) -> Result<Vec<u8>, EncodeError> {
+        match self.codec {
+            Codec::Aper => aper::encode(self.alloc, value),
+            Codec::Uper => uper::encode(self.alloc, value),
+        }
+    }
+
+    /// The value of octets.
+    pub(crate) fn decode<T: Decode>(&self, octets: &[u8]) -> Result<T, DecodeError> {
+        match self.codec {
+            Codec::Aper => aper::decode(self.alloc, octets),
+            Codec::Uper => uper::decode(self.alloc, octets),
+        }
+    }
+
     /// A value is written as these octets.
     pub(crate) fn expect_written<T: Encode>(&self, value: &T, octets: &[u8]) {
-        match encode(self.alloc, self.codec, value) {
+        match self.encode(value) {
             Ok(written) => self.expect_octets(written.as_slice(), octets),
             Err(error) => panic!(self.rt; "{octets:?}: {error:?}"),
         }
@@ -90,7 +106,7 @@ impl<'a, R: Abort> Trial<'a, R> {
 
     /// The value that octets spell.
     fn value<T: Decode>(&self, octets: &[u8]) -> T {
-        match decode(self.alloc, self.codec, octets) {
+        match self.decode(octets) {
             Ok(value) => value,
             Err(error) => panic!(self.rt; "{octets:?}: {error:?}"),
         }
@@ -116,21 +132,5 @@ impl<'a, R: Abort> Trial<'a, R> {
     ) {
         self.expect_written(value, octets);
         self.expect_equal(&self.value::<T>(octets), value);
-    }
-}
-
-/// The octets of a value, in the variant of a codec.
-fn encode<T: Encode>(alloc: Global, codec: Codec, value: &T) -> Result<Vec<u8>, EncodeError> {
-    match codec {
-        Codec::Aper => aper::encode(alloc, value),
-        Codec::Uper => uper::encode(alloc, value),
-    }
-}
-
-/// The value of octets, in the variant of a codec.
-fn decode<T: Decode>(alloc: Global, codec: Codec, octets: &[u8]) -> Result<T, DecodeError> {
-    match codec {
-        Codec::Aper => aper::decode(alloc, octets),
-        Codec::Uper => uper::decode(alloc, octets),
     }
 }

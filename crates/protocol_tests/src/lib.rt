@@ -13,7 +13,3 @@ mod lte_messages;
 mod ngap_messages;
 #[cfg(test)]
 mod s1ap_messages;
-#[cfg(test)]
-mod spatem_messages;
-#[cfg(test)]
-mod t38_messages;

@@ -1,6 +1,6 @@
 //! Cells, of which the list of a record's additions is made. Their tags and constraints stand in lists beside them.
 
-ghost use Rattle.std.specs.Prelude.{ℕ, max, List, [], ◌∷◌, Option, map};
+ghost use Rattle.std.specs.Prelude.{◌≡◌, ℕ, max, List, [], ◌∷◌, Option, map};
 ghost use Rattle.std.specs.Borrow.{Bor};
 ghost use Rattle.rasn_types.specs.Values.{Value};
 ghost use Rattle.rasn_constraints.specs.declared.constraints.Constraint.{Constraint};
@@ -19,7 +19,7 @@ use rasn_record::cells::{Cell, End, behind, first_tag, given_or_own};
 use rasn_record::fields::added;
 use rasn_schema::components::Components;
 use rasn_schema::constraints::Constraint;
-use rasn_schema::fields::Field;
+use rasn_schema::fields::{Field, FieldLists};
 use rasn_schema::schema::AsnType;
 use rasn_traits::parts::{DecodeAdditions, EncodeAdditions};
 use std::marker::PhantomData;
@@ -80,6 +80,28 @@ pub struct AddedTo<T, P> {
     pub cells: P,
 }
 
+/// Additions of a record, and the lists that state their tags and constraints. One that has no constraints in the list has
+/// its type's own.
+#[derive(Drop)]
+pub struct ListedAdditions<P> {
+    /// The lists of the record's fields.
+    pub fields: FieldLists,
+    /// The constraints of the additions, in their order.
+    pub constraints: &'static [&'static [Constraint]],
+    /// The additions.
+    pub cells: P,
+}
+
+/// The fields behind the extension marker, of which there are none without one.
+fn behind_marker(fields: &FieldLists) -> &'static [Field]
+    ensures { map shape_of result.now ≡ fields_behind fields.now.behind }
+{
+    match fields.added {
+        Some(list) => list,
+        None => &[],
+    }
+}
+
 impl EncodeAdditionCells for End {
     ghost additions = { λ p fs cs n. no_parts };
 
@@ -130,6 +152,19 @@ impl<T: Components, P: EncodeAdditionCells> EncodeAdditions for AddedTo<T, P> {
     fn encode_additions<E: Encoder>(&self, encoder: &mut E) -> Result<(), E::Error> {
         self.cells
             .encode_addition_cells(added::<T>(), self.constraints, encoder)
+    }
+}
+
+impl<P: EncodeAdditionCells> EncodeAdditions for ListedAdditions<P> {
+    ghost additions = { λ p. P.additions p.cells (fields_behind p.fields.behind) p.constraints.now };
+
+    ghost contents = { λ p. P.contents p.cells };
+
+    ghost levels = { λ p. P.levels p.cells };
+
+    fn encode_additions<E: Encoder>(&self, encoder: &mut E) -> Result<(), E::Error> {
+        self.cells
+            .encode_addition_cells(behind_marker(&self.fields), self.constraints, encoder)
     }
 }
 
@@ -185,5 +220,18 @@ impl<T: Components, P: DecodeAdditionCells> DecodeAdditions for AddedTo<T, P> {
     fn decode_additions<D: Decoder>(&self, decoder: &mut D) -> Result<P::Values, D::Error> {
         self.cells
             .decode_addition_cells(added::<T>(), self.constraints, decoder)
+    }
+}
+
+impl<P: DecodeAdditionCells> DecodeAdditions for ListedAdditions<P> {
+    type Values = P::Values;
+
+    ghost additions = { λ p. P.additions p.cells (fields_behind p.fields.behind) p.constraints.now };
+
+    ghost contents = { P.contents };
+
+    fn decode_additions<D: Decoder>(&self, decoder: &mut D) -> Result<P::Values, D::Error> {
+        self.cells
+            .decode_addition_cells(behind_marker(&self.fields), self.constraints, decoder)
     }
 }

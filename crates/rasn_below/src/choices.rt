@@ -27,13 +27,14 @@
 //! `variants`, `tags_of_choice`, `alternative_bounds`, `encode_alternative` and `decode_alternative` are for authors.
 //! What the others write is part of these.
 
-/// The tags of the alternatives of a list, as `VariantLists`.
+/// The tags and names of the alternatives of a list, as `VariantLists`.
 #[macro_export]
 macro_rules! variants {
     ([] $($tag:literal $name:literal $variant:ident $(: $type:ty [$($bounds:tt)*])?;)*) => {
         $crate::VariantLists {
             root: &[$($crate::TagTree::Leaf($crate::context_tag!($tag))),*],
             added: None,
+            identifiers: &[$($name),*],
         }
     };
     ([] $($tag:literal $name:literal $variant:ident $(: $type:ty [$($bounds:tt)*])?;)* ...; $(
@@ -42,6 +43,7 @@ macro_rules! variants {
         $crate::VariantLists {
             root: &[$($crate::TagTree::Leaf($crate::context_tag!($tag))),*],
             added: Some(&[$($crate::TagTree::Leaf($crate::context_tag!($added_tag))),*]),
+            identifiers: &[$($name,)* $($added_name),*],
         }
     };
     ([] $($list:tt)*) => { $crate::wrong_alternative!($($list)*) };

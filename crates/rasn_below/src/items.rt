@@ -1,26 +1,33 @@
 //! What an author's list of items is handed to.
 //!
-//! The list is a macro of the author's file, which hands itself on. It has the variants of the type in the order of the
-//! items (X.680 20), at most 256 on either side: those before the extension marker, and behind `...` those after it.
+//! The list is a macro of the author's file, which hands itself on. It has a line for each item, its name and its
+//! variant, in the order of the items (X.680 20), at most 256 on either side: those before the extension marker, and
+//! behind `...;` those after it.
 //!
 //! ```text
 //! macro_rules! items {
-//!     ($to:ident $($with:ident)*) => { $to! { [$($with)*] Red; Green; ...; Blue; } };
+//!     ($to:ident $($with:ident)*) => { $to! { [$($with)*] "red" Red; "green" Green; ...; "blue" Blue; } };
 //! }
 //! ```
 //!
-//! `item_counts`, `place_of_item` and `item_at` are for authors. What the others write is part of these.
+//! `item_lists`, `place_of_item` and `item_at` are for authors. What the others write is part of these.
 
-/// How many items a list has, as `ItemCounts`.
+/// The items of a list, as `ItemLists`.
 #[macro_export]
-macro_rules! item_counts {
-    ([] $($root:ident;)*) => {
-        $crate::ItemCounts { roots: 0 $(+ $crate::one!($root))*, addeds: None }
+macro_rules! item_lists {
+    ([] $($name:literal $root:ident;)*) => {
+        $crate::ItemLists {
+            counts: $crate::ItemCounts { roots: 0 $(+ $crate::one!($root))*, addeds: None },
+            identifiers: &[$($name),*],
+        }
     };
-    ([] $($root:ident;)* ...; $($added:ident;)*) => {
-        $crate::ItemCounts {
-            roots: 0 $(+ $crate::one!($root))*,
-            addeds: Some(0 $(+ $crate::one!($added))*),
+    ([] $($name:literal $root:ident;)* ...; $($added_name:literal $added:ident;)*) => {
+        $crate::ItemLists {
+            counts: $crate::ItemCounts {
+                roots: 0 $(+ $crate::one!($root))*,
+                addeds: Some(0 $(+ $crate::one!($added))*),
+            },
+            identifiers: &[$($name,)* $($added_name),*],
         }
     };
     ([] $($list:tt)*) => { $crate::wrong_item!($($list)*) };
@@ -31,10 +38,13 @@ macro_rules! item_counts {
 macro_rules! wrong_item {
     () => { compile_error!("a list of items has one marker `...;` at most") };
     (...; $($rest:tt)*) => { $crate::wrong_item!($($rest)*) };
-    ($item:ident; $($rest:tt)*) => { $crate::wrong_item!($($rest)*) };
+    ($name:literal $item:ident; $($rest:tt)*) => { $crate::wrong_item!($($rest)*) };
+    ($name:literal $($rest:tt)*) => {
+        compile_error!(concat!("the line of `", $name, "` isn't `\"name\" Variant;`"))
+    };
     ($first:tt $($rest:tt)*) => {
         compile_error!(concat!(
-            "a line of items is `Variant;` or `...;`, where one begins with `", stringify!($first), "`"
+            "a line of items is `\"name\" Variant;` or `...;`, where one begins with `", stringify!($first), "`"
         ))
     };
 }
@@ -65,7 +75,8 @@ macro_rules! placed_items {
         $crate::with_places!(placed_items Added $done; $($rest)*)
     };
     ([$a:literal $b:literal $c:literal $d:literal $($places:tt)*] $side:ident [$($done:tt)*];
-        $first:ident; $second:ident; $third:ident; $fourth:ident; $($rest:tt)*
+        $first_name:literal $first:ident; $second_name:literal $second:ident;
+        $third_name:literal $third:ident; $fourth_name:literal $fourth:ident; $($rest:tt)*
     ) => {
         $crate::placed_items!([$($places)*] $side [
             $($done)*
@@ -75,7 +86,9 @@ macro_rules! placed_items {
             Self::$fourth => $crate::Place::$side($d),
         ]; $($rest)*)
     };
-    ([$place:literal $($places:tt)*] $side:ident [$($done:tt)*]; $item:ident; $($rest:tt)*) => {
+    ([$place:literal $($places:tt)*] $side:ident [$($done:tt)*];
+        $name:literal $item:ident; $($rest:tt)*
+    ) => {
         $crate::placed_items!([$($places)*] $side [
             $($done)* Self::$item => $crate::Place::$side($place),
         ]; $($rest)*)
@@ -90,7 +103,8 @@ macro_rules! items_placed {
         $crate::with_places!(items_placed Added $done; $($rest)*)
     };
     ([$a:literal $b:literal $c:literal $d:literal $($places:tt)*] $side:ident [$($done:tt)*];
-        $first:ident; $second:ident; $third:ident; $fourth:ident; $($rest:tt)*
+        $first_name:literal $first:ident; $second_name:literal $second:ident;
+        $third_name:literal $third:ident; $fourth_name:literal $fourth:ident; $($rest:tt)*
     ) => {
         $crate::items_placed!([$($places)*] $side [
             $($done)*
@@ -100,7 +114,9 @@ macro_rules! items_placed {
             $crate::Place::$side($d) => Some(Self::$fourth),
         ]; $($rest)*)
     };
-    ([$place:literal $($places:tt)*] $side:ident [$($done:tt)*]; $item:ident; $($rest:tt)*) => {
+    ([$place:literal $($places:tt)*] $side:ident [$($done:tt)*];
+        $name:literal $item:ident; $($rest:tt)*
+    ) => {
         $crate::items_placed!([$($places)*] $side [
             $($done)* $crate::Place::$side($place) => Some(Self::$item),
         ]; $($rest)*)

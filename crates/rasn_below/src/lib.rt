@@ -21,6 +21,7 @@ pub use rasn_codec::kinds::ByKind;
 pub use rasn_codec::record::Record;
 pub use rasn_record::bounds::{BoundLists, Bounds};
 pub use rasn_record::defaults::DefaultOf;
+pub use rasn_record::defaults::bits::Bits;
 pub use rasn_record::defaults::items::Item;
 pub use rasn_record::defaults::lists::EmptyList;
 pub use rasn_record::defaults::octets::Octets;
@@ -36,7 +37,7 @@ pub use rasn_schema::constraints::{Bounded, Constraint, Extensible};
 pub use rasn_schema::fields::{
     AdditionGroup, Constructed, Field, FieldLists, Fields, Presence, TagTree, TypeTree,
 };
-pub use rasn_schema::items::{EnumeratedKind, ItemCounts, Items, Place};
+pub use rasn_schema::items::{EnumeratedKind, ItemCounts, ItemLists, Items, Place};
 pub use rasn_schema::kinds::OfKind;
 pub use rasn_schema::schema::{AsnType, Constraints};
 pub use rasn_schema::types::{Class, Tag};

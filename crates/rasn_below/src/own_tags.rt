@@ -33,16 +33,16 @@ pub fn stand_in_order<T: Alternatives>()
     requires { ascend (go_by T.ALTERNATIVES.before) ≡ true }
 {}
 
-/// The tags of the alternatives of a list, as `VariantLists`.
+/// The tags and names of the alternatives of a list, as `VariantLists`.
 #[macro_export]
 macro_rules! own_variants {
-    ([] $($list:tt)*) => { $crate::own_trees!(own_variant_lists [] [] $($list)*) };
+    ([] $($list:tt)*) => { $crate::own_trees!(own_variant_lists [] [] [] $($list)*) };
 }
 
 /// The tags of the root alternatives of a list, as the `TagTree` of an untagged choice.
 #[macro_export]
 macro_rules! own_tags_of_choice {
-    ([] $($list:tt)*) => { $crate::own_trees!(own_choice_tree [] [] $($list)*) };
+    ([] $($list:tt)*) => { $crate::own_trees!(own_choice_tree [] [] [] $($list)*) };
 }
 
 /// The constraints of the alternatives of a list, as `Bounds`.
@@ -76,34 +76,38 @@ macro_rules! own_tag {
     ($kind:ident) => { $crate::Tag::$kind };
 }
 
-/// The trees of the alternatives of a list, in the second brackets behind those that are done, for a callback; in the
-/// first ones stand those before the marker, once it is passed.
+/// The names and the trees of the alternatives of a list, in the first and the third brackets behind those that are
+/// done, for a callback; in the second ones stand the trees before the marker, once it is passed.
 #[macro_export]
 macro_rules! own_trees {
-    ($to:ident $root:tt $done:tt) => { $crate::$to!($root $done) };
-    ($to:ident [] $done:tt ...; $($rest:tt)*) => { $crate::own_trees!($to [$done] [] $($rest)*) };
-    ($to:ident $root:tt [$($done:tt)*]
+    ($to:ident $names:tt $root:tt $done:tt) => { $crate::$to!($names $root $done) };
+    ($to:ident $names:tt [] $done:tt ...; $($rest:tt)*) => {
+        $crate::own_trees!($to $names [$done] [] $($rest)*)
+    };
+    ($to:ident [$($names:tt)*] $root:tt [$($done:tt)*]
         $tag:tt $(of $tree:ident)? $name:literal $variant:ident $(: $type:ty [$($bounds:tt)*])?; $($rest:tt)*
     ) => {
-        $crate::own_trees!($to $root [$($done)* $crate::tag_tree!($tag $($tree)?),] $($rest)*)
+        $crate::own_trees!($to [$($names)* $name,] $root [$($done)* $crate::tag_tree!($tag $($tree)?),] $($rest)*)
     };
-    ($to:ident $root:tt $done:tt $($list:tt)*) => { $crate::wrong_own_alternative!($($list)*) };
+    ($to:ident $names:tt $root:tt $done:tt $($list:tt)*) => { $crate::wrong_own_alternative!($($list)*) };
 }
 
-/// The tags of alternatives, before a marker and behind it, as `VariantLists`.
+/// The names of alternatives and their tags, before a marker and behind it, as `VariantLists`.
 #[macro_export]
 macro_rules! own_variant_lists {
-    ([] [$($done:tt)*]) => { $crate::VariantLists { root: &[$($done)*], added: None } };
-    ([[$($root:tt)*]] [$($done:tt)*]) => {
-        $crate::VariantLists { root: &[$($root)*], added: Some(&[$($done)*]) }
+    ([$($names:tt)*] [] [$($done:tt)*]) => {
+        $crate::VariantLists { root: &[$($done)*], added: None, identifiers: &[$($names)*] }
+    };
+    ([$($names:tt)*] [[$($root:tt)*]] [$($done:tt)*]) => {
+        $crate::VariantLists { root: &[$($root)*], added: Some(&[$($done)*]), identifiers: &[$($names)*] }
     };
 }
 
 /// The tags of alternatives before a marker, as those of an untagged choice.
 #[macro_export]
 macro_rules! own_choice_tree {
-    ([] [$($done:tt)*]) => { $crate::TagTree::Choice(&[$($done)*]) };
-    ([[$($root:tt)*]] $behind:tt) => { $crate::TagTree::Choice(&[$($root)*]) };
+    ($names:tt [] [$($done:tt)*]) => { $crate::TagTree::Choice(&[$($done)*]) };
+    ($names:tt [[$($root:tt)*]] $behind:tt) => { $crate::TagTree::Choice(&[$($root)*]) };
 }
 
 /// Says which line of a list of alternatives is the first that isn't in its form.

@@ -8,13 +8,13 @@ pub use crate::types::{
     TeletexString, Utf8String, VisibleString,
 };
 pub use crate::{
-    Alternatives, AsnType, Bounds, ByKind, ChoiceKind, CodedAlternatives, Components, Constrained,
-    Constraint, Constraints, Decoder, DefaultOf, EmptyList, Encoder, EnumeratedKind, FieldLists,
-    Fields, Item, ItemCounts, Items, Limits, Octets, OfKind, Place, Record, SetComponents, SetKind,
-    SetRecord, Tag, Text, Utf8Text, VariantLists, alternative_bounds, bounds, constraints,
-    decode_alternative, decode_components, decode_each_component, decode_own_alternative,
-    decode_set_components, encode_alternative, encode_components, encode_each_component,
-    encode_own_alternative, encode_set_components, fields, item_at, item_counts,
-    own_alternative_bounds, own_tags_of_choice, own_variants, place_of_item, set_bounds,
-    set_fields, tags_of_choice, variants,
+    Alternatives, AsnType, Bits, Bounds, ByKind, ChoiceKind, CodedAlternatives, Components,
+    Constrained, Constraint, Constraints, Decoder, DefaultOf, EmptyList, Encoder, EnumeratedKind,
+    FieldLists, Fields, Item, ItemCounts, ItemLists, Items, Limits, Octets, OfKind, Place, Record,
+    SetComponents, SetKind, SetRecord, Tag, Text, Utf8Text, VariantLists, alternative_bounds,
+    bounds, constraints, decode_alternative, decode_components, decode_each_component,
+    decode_own_alternative, decode_set_components, encode_alternative, encode_components,
+    encode_each_component, encode_own_alternative, encode_set_components, fields, item_at,
+    item_lists, own_alternative_bounds, own_tags_of_choice, own_variants, place_of_item,
+    tags_of_choice, variants,
 };

@@ -1,65 +1,65 @@
-//! What an author's list of the components of a SET is handed to. Its lines are those of a SEQUENCE's list, and stand
-//! in ascending order of the components' smallest tags (X.680 8.6): the order in which they are written (X.691 21.1).
+//! What an author's list of the components of a SET is handed to, beside `fields` and `bounds`. Its lines are those of a
+//! SEQUENCE's list, and those of the root stand in ascending order of the components' smallest tags (X.680 8.6): the order
+//! in which they are written (X.691 21.1).
 
-/// The fields of a list of components, as `Fields`.
-#[macro_export]
-macro_rules! set_fields {
-    ([] $(
-        $presence:ident $tag:tt $(of $tree:ident)? $name:literal
-        $field:ident: $type:ty [$($bounds:tt)*];
-    )*) => {
-        $crate::Fields {
-            list: $crate::with_places!(placed_fields []; $([$presence $tag $($tree)?; $name])*),
-        }
-    };
-    ([] $($list:tt)*) => { $crate::wrong_line!($($list)*) };
-}
-
-/// The constraints of a list of components, as `&[&[Constraint]]`.
-#[macro_export]
-macro_rules! set_bounds {
-    ([] $(
-        $presence:ident $tag:tt $(of $tree:ident)? $name:literal
-        $field:ident: $type:ty [$($bounds:tt)*];
-    )*) => {
-        &[$($crate::before_default!($name [] $($bounds)*)),*]
-    };
-    ([] $($list:tt)*) => { $crate::wrong_line!($($list)*) };
-}
-
-/// Cells with the lists that state them.
+/// Root components as cells, with the lists that state them.
 #[macro_export]
 macro_rules! listed {
     ($cells:expr) => {
         $crate::cells::Listed {
-            fields: FIELDS.list,
-            constraints: BOUNDS,
+            fields: FIELDS.root,
+            constraints: BOUNDS.lists.root,
             cells: $cells,
         }
     };
 }
 
-/// Writes the components of a list in turn. Their fields are in the constant `FIELDS`, their constraints in `BOUNDS`.
+/// Additions as cells, with the lists that state them.
+#[macro_export]
+macro_rules! listed_additions {
+    ($cells:expr) => {
+        $crate::added::ListedAdditions {
+            fields: FIELDS,
+            constraints: BOUNDS.lists.added,
+            cells: $cells,
+        }
+    };
+}
+
+/// Writes the root components of a list in turn, and then gives its additions. Their fields are in the constant `FIELDS`,
+/// their constraints in `BOUNDS`.
 #[macro_export]
 macro_rules! encode_set_components {
-    ([$of:ident $encoder:ident] $($list:tt)*) => {
+    ([$of:ident $encoder:ident] $(
+        $presence:ident $tag:tt $(of $tree:ident)? $name:literal
+        $field:ident: $type:ty [$($bounds:tt)*];
+    )* $(...; $($behind:tt)*)?) => {
         $crate::ordered::write_all(
             $of,
-            &$crate::listed!($crate::cells_to_write!($of $($list)*)),
+            &$crate::listed!($crate::components_to_write!($of $([$presence $field [$($bounds)*]])*)),
+            &$crate::listed_additions!($crate::additions_to_write!($of $($($behind)*)?)),
             $encoder,
         )
     };
 }
 
-/// Reads the components of a list in turn. Their fields are in the constant `FIELDS`, their constraints in `BOUNDS`.
+/// Reads the root components of a list in turn, and then its additions. Their fields are in the constant `FIELDS`, their
+/// constraints in `BOUNDS`.
 #[macro_export]
 macro_rules! decode_set_components {
     ([$decoder:ident] $(
         $presence:ident $tag:tt $(of $tree:ident)? $name:literal
         $field:ident: $type:ty [$($bounds:tt)*];
-    )*) => {{
-        let cells = $crate::listed!($crate::cells_to_read!($($presence $type [$($bounds)*];)*));
-        let $crate::fours!($($field)*) = $crate::ordered::read_all::<Self, _, _>(&cells, $decoder)?;
-        Ok(Self { $($field),* })
+    )* $(...; $(
+        $added:ident $added_tag:tt $(of $added_tree:ident)? $added_name:literal
+        $added_field:ident: $added_type:ty [$($added_bounds:tt)*];
+    )*)?) => {{
+        let root = $crate::listed!($crate::cells_to_read!($($presence $type [$($bounds)*];)*));
+        let behind = $crate::listed_additions!(
+            $crate::additions_to_read!($($($added $added_type [$($added_bounds)*];)*)?)
+        );
+        let ($crate::fours!($($field)*), $crate::pairs!($($($added_field)*)?)) =
+            $crate::ordered::read_all::<Self, _, _, _>(&root, &behind, $decoder)?;
+        Ok(Self { $($field,)* $($($added_field,)*)? })
     }};
 }

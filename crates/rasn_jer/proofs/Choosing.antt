@@ -182,7 +182,7 @@ unfolding is_vacant
 group_shown s v j g shows_truth = absurd cc
 group_shown s v j g shows_nothing = absurd cc
 group_shown s v j g (shows_whole h) = absurd cc
-group_shown s v j g (shows_item h) = absurd cc
+group_shown s v j g (shows_item names h) = absurd cc
 group_shown s v j g shows_octets = absurd cc
 group_shown s v j g shows_any = absurd cc
 group_shown s v j g (shows_bits h) = absurd cc

@@ -1,7 +1,9 @@
 pub mod Choosing
 pub mod Digits
 pub mod Fields
+pub mod Items
 pub mod Listing
+pub mod Named
 pub mod Numbered
 pub mod Printed
 pub mod Refusing

@@ -21,7 +21,7 @@ mutual
   numbered shows_truth = tt
   numbered shows_nothing = tt
   numbered (shows_whole h) = h.is_number
-  numbered (shows_item h) = h
+  numbered (shows_item names h) = h
   numbered shows_octets = tt
   numbered shows_any = tt
   numbered (shows_bits h) = bits_numbered h

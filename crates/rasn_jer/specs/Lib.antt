@@ -1,6 +1,7 @@
 pub mod Calls
 pub mod Digits
 pub mod Laws
+pub mod Names
 pub mod Places
 pub mod Rules
 pub mod Shown

@@ -18,8 +18,10 @@ use Rattle.rasn_traits.specs.Presences.{presence_bit}
 use Rattle.json.specs.Json.{Json, null, boolean, number, string, array, object, Items, no_items, item}
 use Rattle.json.specs.Json.{Members, no_members, member}
 use Rattle.json.specs.Print.{IsNumber}
+use Rattle.json.specs.Tree.{HasNumbers}
 use Rattle.hex.specs.Hex.{encode_upper}
 use Rattle.std.specs.Fmt.{signed_decimal}
+use Rattle.rasn_jer.specs.Names.{item_by, number_of_item}
 use Rattle.rasn_jer.specs.Texts.{join, text_of}
 
 -- the text of a whole number is a number of JSON, and its decimal digits where an i128 holds it
@@ -34,6 +36,11 @@ pub data IsBits (bs : List Bool) : Json → Type 0 where
   counted_bits : IsNumber (decimal (length bs))
       → IsBits bs (object (member (codes "value") (string (encode_upper (packed bs)))
       (member (codes "length") (number (decimal (length bs))) no_members)))
+
+-- a text is that of a JSON value, whose numbers are numbers
+pub record ShowsJson (j : Json) (text : List ℕ) : Type 0 where
+  pub has_numbers : HasNumbers j
+  pub is_text : text ≡ text_of j
 
 -- a text shows bits
 pub record ShowsBits (bs : List Bool) (text : List ℕ) : Type 0 where
@@ -73,14 +80,15 @@ mutual
     shows_nothing : Shows Schema.null nothing null
     shows_whole : {bounds range : Bounds} {mark : Bool} {z : ℤ} {s : List ℕ} → IsWhole z s
         → Shows (Schema.number bounds mark range) (whole z) (number s)
-    -- by the number of the item
-    shows_item : {roots addeds : ℕ} {extensible : Bool} {v : Value} {s : List ℕ} → IsNumber s
-        → Shows (Schema.items roots addeds extensible) v (number s)
+    -- by a list of identifiers, which is any: a schema has none
+    shows_item : {roots addeds : ℕ} {extensible : Bool} {v : Value} (names : List (List ℕ))
+        → HasNumbers (item_by names (number_of_item roots v))
+        → Shows (Schema.items roots addeds extensible) v (item_by names (number_of_item roots v))
     shows_octets : {size : Size} {mark : Bool} {os : List ℕ}
         → Shows (Schema.octet_string size mark) (octets os) (string (encode_upper os))
     shows_any : {os : List ℕ} → Shows Schema.any (octets os) (string (encode_upper os))
-    shows_bits : {size : Size} {mark : Bool} {bs : List Bool} {j : Json} → IsBits bs j
-        → Shows (Schema.bit_string size mark) (bits bs) j
+    shows_bits : {size : Size} {mark named : Bool} {bs : List Bool} {j : Json} → IsBits bs j
+        → Shows (Schema.bit_string size mark named) (bits bs) j
     shows_string : {c : Schema} {v : Value} {s : List ℕ} → IsString c → Shows c v (string s)
     shows_list : {e : Schema} {size : Size} {mark : Bool} {vs : List Value} {js : Items} → ShowsAll e vs js
         → Shows (Schema.list e size mark) (list_value vs) (array js)

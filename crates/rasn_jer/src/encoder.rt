@@ -1,9 +1,11 @@
 //! The encoder of JSON, behind the trait of encoders.
 
 ghost use Rattle.std.specs.Prelude.{◌≡◌, ◌⊎◌, ℕ, List, None, true, false, if◌then◌else◌, IfOk, IfErr, OnOk, OnErr};
+ghost use Rattle.std.specs.Option.{unwrap_or};
 ghost use Rattle.json.specs.Json.{Members, object as the_object};
 ghost use Rattle.rasn_schema.specs.Choices.{place_of, variants_behind};
 ghost use Rattle.rasn_schema.specs.Fields.{tag_of};
+ghost use Rattle.rasn_schema.specs.Forms.{size_of};
 ghost use Rattle.rasn_jer.specs.Places.{behind, behind_all, inside, is_full, vacant_place};
 ghost use Rattle.rasn_jer.specs.Rules.{AddedSo, BehavesSo, ClosesPlace, EntersPlace, LeavesPlace, NeedsRecord};
 ghost use Rattle.rasn_jer.specs.Rules.{WritesText, jer_rules};
@@ -15,7 +17,7 @@ use crate::error::EncodeError;
 use crate::place::{Kind, Names, Place};
 use crate::texts::{
     bits, chosen_member, day, enclosed, generalized_time, hexadecimal, identifier, item, latin,
-    nothing, quoted, scalars, truth, utc_time, whole,
+    named_bits, nothing, quoted, scalars, truth, utc_time, whole,
 };
 use rasn_schema::choices::Choice;
 use rasn_schema::enumerated::Enumerated;
@@ -292,7 +294,7 @@ impl<A: Allocator + Copy> encoder::Encoder for Encoder<A> {
         value: &E,
         _identifier: Identifier,
     ) -> Result<(), EncodeError> {
-        let text = item(self.alloc, value);
+        let text = item(self.alloc, E::IDENTIFIERS, value);
         self.write(text)
     }
 
@@ -325,6 +327,18 @@ impl<A: Allocator + Copy> encoder::Encoder for Encoder<A> {
         _identifier: Identifier,
     ) -> Result<(), EncodeError> {
         let text = bits(self.alloc, value, is_of_fixed_size(constraints));
+        self.write(text)
+    }
+
+    fn encode_named_bits(
+        &mut self,
+        _tag: Tag,
+        constraints: &Constraints,
+        value: &BitString,
+        _identifier: Identifier,
+    ) -> Result<(), EncodeError> {
+        let least = least_count(constraints);
+        let text = named_bits(self.alloc, value, least, is_of_fixed_size(constraints));
         self.write(text)
     }
 
@@ -489,7 +503,7 @@ impl<A: Allocator + Copy> encoder::Encoder for Encoder<A> {
         }
         match self.leave(outside, Kind::One) {
             Ok(inner) => {
-                let text = chosen_member(self.alloc, chosen, inner.text());
+                let text = chosen_member::<C, A>(self.alloc, C::IDENTIFIERS, chosen, inner.text());
                 self.write(text)
             }
             Err(error) => Err(error),
@@ -618,6 +632,16 @@ fn has_alternative<C: Choice>(tag: Tag) -> bool
     let added = C::EXTENDED_VARIANTS;
     let place = variants.place_of(&added, tag);
     place.is_some()
+}
+
+/// The least count that constraints leave, 0 where they don't say one.
+fn least_count(constraints: &Constraints) -> usize
+    ensures { result ≡ unwrap_or (size_of constraints.now).least 0 }
+{
+    match constraints.size() {
+        Some(size) => size.constraint.start_and_end().0.unwrap_or(0),
+        None => 0,
+    }
 }
 
 /// Whether constraints say how many items there are.

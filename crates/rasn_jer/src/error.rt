@@ -1,6 +1,7 @@
 //! Why a value was not written as JSON.
 
 ghost use Rattle.std.specs.Prelude.{◌≡◌};
+ghost use Rattle.rasn_jer.specs.Names.{name_of};
 ghost use Rattle.rasn_jer.specs.declared.error.EncodeError.TheVariants.{OutOfMemory};
 
 use std::alloc::AllocError;
@@ -29,7 +30,9 @@ pub enum EncodeError {
 
 impl EncodeError {
     /// The error's name, as `OutOfMemory`.
-    pub fn name(&self) -> &'static str {
+    pub fn name(&self) -> &'static str
+        ensures { result.now ≡ name_of self.now }
+    {
         match self {
             EncodeError::OutOfMemory => "OutOfMemory",
             EncodeError::NoJson => "NoJson",

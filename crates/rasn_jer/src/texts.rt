@@ -1,12 +1,15 @@
 //! The texts of values, and of parts of them.
 
-ghost use Rattle.std.specs.Prelude.{◌≡◌, ℕ, List, ◌⊎◌, false, IfOk, IfErr};
+ghost use Rattle.std.specs.Prelude.{◌≡◌, ◌+◌, ℕ, List, ◌⊎◌, false, map, option_map, slice_get, IfOk, IfErr};
+ghost use Rattle.rasn_types.specs.Trimmed.{filled_up, trimmed};
 ghost use Rattle.std.specs.Fmt.{signed_decimal};
 ghost use Rattle.rasn_types.specs.Contents.{generalized, is_time, utc};
+ghost use Rattle.rasn_schema.specs.Fields.{tag_of};
 ghost use Rattle.hex.specs.Hex.{encode_upper};
 ghost use Rattle.json.specs.Json.{boolean, null, string};
 ghost use Rattle.json.specs.Print.{IsNumber};
-ghost use Rattle.rasn_jer.specs.Shown.{HasNoScalar, IsQuoted, IsWhole, ShowsBits};
+ghost use Rattle.rasn_jer.specs.Names.{IdentifierOf, NamesAlternative, item_by, number_of_item};
+ghost use Rattle.rasn_jer.specs.Shown.{HasNoScalar, IsQuoted, IsWhole, ShowsBits, ShowsJson};
 ghost use Rattle.rasn_jer.specs.Texts.{enclosed as enclosed_text, member_text, text_of};
 ghost use Rattle.rasn_jer.specs.declared.error.EncodeError.TheVariants.{NoJson, OutOfMemory};
 
@@ -14,7 +17,9 @@ use crate::error::EncodeError;
 use crate::large::large;
 use itoa::Buffer;
 use json::Writer;
+use rasn_schema::choices::Choice;
 use rasn_schema::enumerated::Enumerated;
+use rasn_schema::items::Place;
 use rasn_schema::schema::IntegerType;
 use rasn_strings::strings::StaticPermittedAlphabet;
 use rasn_times::civil::{GeneralizedMoment, UtcMoment};
@@ -99,17 +104,48 @@ pub fn decimal<A: Allocator>(alloc: A, number: i128) -> Result<Vec<u8, A>, Alloc
     Vec::from_slice(alloc, buffer.format(number).as_bytes())
 }
 
-/// The number of an item of an ENUMERATED: those before the extension marker count from 0, those behind it go on.
-pub fn item<A: Allocator, E: Enumerated>(alloc: A, value: &E) -> Result<Vec<u8, A>, AllocError>
-    ensures { IfOk result (λ text. IsNumber text.items) }
+/// An item of an ENUMERATED by its identifier among those of its type (X.697, ENUMERATED). Where the type gives none, by
+/// its number: the items before the extension marker count from 0, and those behind it go on.
+pub fn item<A: Allocator, E: Enumerated>(
+    alloc: A,
+    identifiers: &[&str],
+    value: &E,
+) -> Result<Vec<u8, A>, AllocError>
+    ensures { IfOk result (λ text. ShowsJson
+        (item_by (map (λ s. s.now) identifiers.now) (number_of_item E.roots (E.value value.now))) text.items) }
 {
-    let place = value.enumeration_index() as i128;
-    let before = if value.is_extended_variant() {
-        E::variance() as i128
+    let place = value.enumeration_index();
+    if value.is_extended_variant() {
+        item_text(alloc, identifiers, E::variance(), place)
     } else {
-        0
-    };
-    decimal(alloc, before + place)
+        item_text(alloc, identifiers, 0, place)
+    }
+}
+
+/// An item by the identifiers of its type: how many items stand before its list, and its place there.
+fn item_text<A: Allocator>(
+    alloc: A,
+    identifiers: &[&str],
+    before: usize,
+    place: usize,
+) -> Result<Vec<u8, A>, AllocError>
+    ensures { IfOk result (λ text. ShowsJson (item_by (map (λ s. s.now) identifiers.now) (before + place)) text.items) }
+{
+    match identifier_at(identifiers, before, place) {
+        Some(identifier) => quoted(alloc, identifier),
+        None => decimal(alloc, before as i128 + place as i128),
+    }
+}
+
+/// The identifier of what stands at a place of a list, where so many stand before the list.
+fn identifier_at<'a>(identifiers: &[&'a str], before: usize, place: usize) -> Option<&'a str>
+    ensures { option_map (λ s. s.now) result ≡ slice_get (map (λ s. s.now) identifiers.now) (before + place) }
+{
+    let index = before.checked_add(place)?;
+    match identifiers.get(index) {
+        Some(identifier) => Some(*identifier),
+        None => None,
+    }
 }
 
 /// Octets as a string of hexadecimal digits (X.697, OCTET STRING).
@@ -141,6 +177,20 @@ pub fn bits<A: Allocator + Copy>(
     writer.u64(value.len() as u64)?;
     writer.end_object()?;
     Ok(writer.into_inner())
+}
+
+/// Bits that have names, in their normal form: without the zero bits at their end, and then with zero bits up to `least`
+/// bits (X.680 22.7; X.691 16.2).
+pub fn named_bits<A: Allocator + Copy>(
+    alloc: A,
+    value: &BitString,
+    least: usize,
+    is_fixed: bool,
+) -> Result<Vec<u8, A>, AllocError>
+    ensures { IfOk result (λ text. ShowsBits (filled_up least (trimmed value.now)) text.items) }
+{
+    let normal = value.trimmed_to(least)?;
+    bits(alloc, &normal, is_fixed)
 }
 
 /// Octets as a string, each as the character with its number.
@@ -254,21 +304,53 @@ pub fn day<A: Allocator + Copy>(
     quoted(alloc, text.as_str())
 }
 
-/// An object of one member: the text of a choice's alternative by the tag that it goes by.
-pub fn chosen_member<A: Allocator + Copy>(
+/// An object of one member: the text of a choice's alternative by its identifier among those of the type (X.697,
+/// CHOICE), and where the type gives none, by the tag that it goes by.
+pub fn chosen_member<C: Choice, A: Allocator + Copy>(
     alloc: A,
+    identifiers: &[&str],
     chosen: Tag,
     text: &[u8],
 ) -> Result<Vec<u8, A>, AllocError>
     ensures { IfOk result (λ whole. (name : List ℕ)
+        × NamesAlternative (map (λ s. s.now) identifiers.now) (tag_of chosen) C.VARIANTS C.EXTENDED_VARIANTS name
         × (whole.items ≡ enclosed_text 123 (member_text name text.now) 125)) }
 {
-    let name = tag_name(alloc, chosen)?;
-    let named = member(alloc, name.as_str(), text)?;
+    match identifier_of::<C>(identifiers, chosen) {
+        Some(identifier) => one_member(alloc, identifier, text),
+        None => {
+            let name = tag_name(alloc, chosen)?;
+            one_member(alloc, name.as_str(), text)
+        }
+    }
+}
+
+/// An object of one member.
+fn one_member<A: Allocator + Copy>(
+    alloc: A,
+    name: &str,
+    text: &[u8],
+) -> Result<Vec<u8, A>, AllocError>
+    ensures { IfOk result (λ whole. whole.items ≡ enclosed_text 123 (member_text name.now text.now) 125) }
+{
+    let named = member(alloc, name, text)?;
     enclosed(alloc, b'{', named.as_slice(), b'}')
 }
 
-/// The name of an alternative that goes by a tag: the tag, such as `[2]` or `[UNIVERSAL 1]` (X.680 31.2).
+/// The identifier of the alternative that goes by a tag, among those of its type.
+fn identifier_of<'a, C: Choice>(identifiers: &[&'a str], chosen: Tag) -> Option<&'a str>
+    ensures { IdentifierOf (map (λ s. s.now) identifiers.now) (tag_of chosen) C.VARIANTS C.EXTENDED_VARIANTS
+        (option_map (λ s. s.now) result) }
+{
+    let variants = C::VARIANTS;
+    let added = C::EXTENDED_VARIANTS;
+    match variants.place_of(&added, chosen)? {
+        Place::Root(index) => identifier_at(identifiers, 0, index),
+        Place::Added(index) => identifier_at(identifiers, variants.len(), index),
+    }
+}
+
+/// The tag that an alternative goes by, such as `[2]` or `[UNIVERSAL 1]` (X.680 31.2).
 fn tag_name<A: Allocator>(alloc: A, tag: Tag) -> Result<String<A>, AllocError> {
     match tag.class {
         Class::Context => format!(in alloc; "[{}]", tag.value),

@@ -30,6 +30,8 @@ mod recursive;
 #[cfg(test)]
 mod runs;
 #[cfg(test)]
+mod sets;
+#[cfg(test)]
 mod streams;
 #[cfg(test)]
 mod texts;

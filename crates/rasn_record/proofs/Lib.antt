@@ -1,6 +1,6 @@
 pub mod Behind
 pub mod Slots
-mod BothRead
+pub mod BothRead
 pub mod Within
 pub mod Same
 pub mod Kept

@@ -1,5 +1,5 @@
 -- Whether two values of a type are one, by what they are made of.
-use Rattle.std.proofs.Common.{◌≡◌, refl, sym, ap, ◌∙◌, ℕ, zero, suc, ◌≤◌, Bool, true, false, cond, nat_eq, eqb, if◌then◌else◌, List, [], ◌∷◌, map, length, eqb-true, arith, ℤ, pos, negsuc, FitsSigned, of_z, to_z, to_z-of_z}
+use Rattle.std.proofs.Common.{◌≡◌, refl, sym, ap, ◌∙◌, ℕ, zero, suc, ◌+◌, ◌<◌, ◌≤◌, Bool, true, false, cond, not, nat_eq, eqb, if◌then◌else◌, List, [], ◌∷◌, map, length, drop, get_or, eqb-true, arith, ℤ, pos, negsuc, FitsSigned, of_z, to_z, to_z-of_z}
 use mir.Syntax.{Width}
 use mathlib.Core.Bool.{beq}
 use Rattle.std.specs.Ordering.{int_eq}
@@ -8,7 +8,7 @@ use Rattle.std.specs.Cmp.Lexicographic.{pointwise}
 use Rattle.std.proofs.lemmas.Bool.{eq-eqb, ne_eqb}
 use Rattle.std.proofs.lemmas.Bool.Decides.{same_from_decides, Decides-eqb, Decides-int_eq}
 use Rattle.std.proofs.lemmas.Slice.Eq.{slice_eq-Decides}
-use Rattle.rasn_types.specs.Values.{Value, truth, whole, item, octets, characters, root, added, same, code, equal_lists}
+use Rattle.rasn_types.specs.Values.{Value, truth, whole, item, octets, bits, characters, root, added, same, code, equal_lists, bool_code}
 use Rattle.rasn_constraints.specs.Bounds.{Size}
 use Rattle.rasn_schema.specs.Schemas.{Schema}
 use Rattle.rasn_schema.specs.Lists.{list_at, list_value}
@@ -107,3 +107,50 @@ unfolding same code normal
 same_empty value element size mark xs zero le = absurd (omega arith)
 same_empty value element size mark [] (suc n) le = refl
 same_empty value element size mark (x ∷ xs) (suc n) le = ne_eqb (suc (length xs)) 0 (λ e. omega arith)
+
+-- of bits
+bool_codes : (xs ys : List Bool) → map bool_code xs ≡ map bool_code ys → xs ≡ ys
+bool_codes [] [] e = refl
+bool_codes [] (y ∷ ys) e = absurd (cc)
+bool_codes (x ∷ xs) [] e = absurd (cc)
+bool_codes (true ∷ xs) (true ∷ ys) e = ap (λ zs. true ∷ zs) (bool_codes xs ys (cc))
+bool_codes (true ∷ xs) (false ∷ ys) e = absurd (cc)
+bool_codes (false ∷ xs) (true ∷ ys) e = absurd (cc)
+bool_codes (false ∷ xs) (false ∷ ys) e = ap (λ zs. false ∷ zs) (bool_codes xs ys (cc))
+
+bits_of : (xs ys : List Bool) → code (bits xs) ≡ code (bits ys) → xs ≡ ys
+unfolding code
+bits_of xs ys e = bool_codes xs ys (cc)
+
+bools_decide : (a b : Bool) → Decides (beq a b) (a ≡ b)
+bools_decide true true = (λ e. refl, λ e. refl)
+bools_decide true false = (λ e. absurd (cc), λ e. absurd (cc))
+bools_decide false true = (λ e. absurd (cc), λ e. absurd (cc))
+bools_decide false false = (λ e. refl, λ e. refl)
+
+pub same_bits : (xs ys : List Bool) → pointwise beq ys xs ≡ same (bits ys) (bits xs)
+same_bits xs ys = same_from_decides _ _ (slice_eq-Decides bools_decide ys xs (pointwise beq ys xs) refl) (code_decides bits ys xs (bits_of ys xs))
+
+-- bits from a place on are the same exactly where those at the place and those behind it are
+head_bit : (i : ℕ) (xs ys : List Bool) → i < length xs → i < length ys → pointwise beq (drop i xs) (drop i ys) ≡ cond (beq (get_or xs i false) (get_or ys i false)) (pointwise beq (drop (suc i) xs) (drop (suc i) ys)) false
+head_bit i [] ys p q = absurd (omega (arith, p))
+head_bit i (x ∷ xs) [] p q = absurd (omega (arith, q))
+head_bit zero (true ∷ xs) (true ∷ ys) p q = refl
+head_bit zero (true ∷ xs) (false ∷ ys) p q = refl
+head_bit zero (false ∷ xs) (true ∷ ys) p q = refl
+head_bit zero (false ∷ xs) (false ∷ ys) p q = refl
+head_bit (suc i) (x ∷ xs) (y ∷ ys) p q = head_bit i xs ys (omega (arith, p)) (omega (arith, q))
+
+pub next_bit : (i : ℕ) (xs ys : List Bool) (b r : Bool) → length xs ≡ length ys → i < length ys → b ≡ get_or xs i false → not (beq b (get_or ys i false)) ≡ false → pointwise beq (drop i xs) (drop i ys) ≡ r → pointwise beq (drop (i + 1) xs) (drop (i + 1) ys) ≡ r
+next_bit i xs ys b r e l g n h = go (beq (get_or xs i false) (get_or ys i false)) (rw (sym g) n) (sym (head_bit i xs ys (omega (arith, e, l)) l) ∙ h)
+  where
+    go : (t : Bool) → not t ≡ false → cond t (pointwise beq (drop (suc i) xs) (drop (suc i) ys)) false ≡ r → pointwise beq (drop (i + 1) xs) (drop (i + 1) ys) ≡ r
+    go true n h = let e : i + 1 ≡ suc i = omega arith in rw e h
+    go false n h = absurd (cc)
+
+pub other_bit : (i : ℕ) (xs ys : List Bool) (b r : Bool) → length xs ≡ length ys → i < length ys → b ≡ get_or xs i false → not (beq b (get_or ys i false)) ≡ true → pointwise beq (drop i xs) (drop i ys) ≡ r → false ≡ r
+other_bit i xs ys b r e l g n h = go (beq (get_or xs i false) (get_or ys i false)) (rw (sym g) n) (sym (head_bit i xs ys (omega (arith, e, l)) l) ∙ h)
+  where
+    go : (t : Bool) → not t ≡ true → cond t (pointwise beq (drop (suc i) xs) (drop (suc i) ys)) false ≡ r → false ≡ r
+    go true n h = absurd (cc)
+    go false n h = h

@@ -29,6 +29,7 @@ fn limits_at(list: &[&'static [Constraint]], place: usize) -> &'static [Constrai
 
 /// Writes the alternative at a place before the extension marker, which goes by a tag, and answers that. Its
 /// constraints stand at its place in a list, or are its type's own where none are given.
+#[inline(always)]
 pub fn write<T: Alternatives, H: Encode, E: Encoder>(
     of: &T,
     place: usize,
@@ -52,6 +53,7 @@ pub fn write<T: Alternatives, H: Encode, E: Encoder>(
 
 /// Writes the alternative at a place behind the extension marker, which goes by a tag, and answers that. Its
 /// constraints stand at its place in a list, or are its type's own where none are given.
+#[inline(always)]
 pub fn write_behind<T: Alternatives, H: Encode, E: Encoder>(
     of: &T,
     place: usize,
@@ -75,6 +77,7 @@ pub fn write_behind<T: Alternatives, H: Encode, E: Encoder>(
 
 /// Reads the alternative at a place before the extension marker under a tag. Its constraints stand at its place in a
 /// list, or are its type's own where none are given.
+#[inline(always)]
 pub fn read<H: Decode, D: Decoder>(
     decoder: &mut D,
     tag: Tag,
@@ -90,6 +93,7 @@ pub fn read<H: Decode, D: Decoder>(
 
 /// Reads the alternative at a place behind the extension marker under a tag. Its constraints stand at its place in a
 /// list, or are its type's own where none are given.
+#[inline(always)]
 pub fn read_behind<H: Decode, D: Decoder>(
     decoder: &mut D,
     tag: Tag,

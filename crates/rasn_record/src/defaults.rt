@@ -6,6 +6,7 @@ ghost use Rattle.std.specs.Prelude.{◌≡◌, IfOk};
 ghost use Rattle.rasn_types.specs.Values.{Value};
 ghost use Rattle.rasn_record.specs.Told.{TellsSame};
 
+pub mod bits;
 pub mod items;
 pub mod lists;
 pub mod numbers;

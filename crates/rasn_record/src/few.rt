@@ -16,6 +16,7 @@ use rasn_schema::components::Components;
 use std::marker::PhantomData;
 
 /// Writes all components of a record: one. Its tag is that of the record's own field.
+#[inline(always)]
 pub fn one_to_write<T: Components, A: EncodeComponent + Drop, X: Encoder>(
     of: &T,
     a: A,
@@ -44,6 +45,7 @@ pub fn one_to_write<T: Components, A: EncodeComponent + Drop, X: Encoder>(
 }
 
 /// Reads all components of a record: one. Its tag is that of the record's own field, its constraints those of a list.
+#[inline(always)]
 pub fn one_to_read<T, A, X>(a: A, bounds: Bounds, decoder: &mut X) -> Result<A::Value, X::Error>
 where
     T: Components,
@@ -65,6 +67,7 @@ where
 }
 
 /// Writes all components of a record: two. Their tags are those of the record's own fields.
+#[inline(always)]
 pub fn two_to_write<
     T: Components,
     A: EncodeComponent + Drop,
@@ -98,6 +101,7 @@ pub fn two_to_write<
 
 /// Reads all components of a record: two. Their tags are those of the record's own fields, their constraints those of a
 /// list.
+#[inline(always)]
 pub fn two_to_read<T, A, B, X>(
     a: A,
     b: B,
@@ -129,6 +133,7 @@ where
 }
 
 /// Writes all components of a record: three. Their tags are those of the record's own fields.
+#[inline(always)]
 pub fn three_to_write<
     T: Components,
     A: EncodeComponent + Drop,
@@ -167,6 +172,7 @@ pub fn three_to_write<
 
 /// Reads all components of a record: three. Their tags are those of the record's own fields, their constraints those of
 /// a list.
+#[inline(always)]
 pub fn three_to_read<T, A, B, C, X>(
     a: A,
     b: B,
@@ -204,6 +210,7 @@ where
 }
 
 /// Writes all components of a record: four. Their tags are those of the record's own fields.
+#[inline(always)]
 pub fn four_to_write<
     T: Components,
     A: EncodeComponent + Drop,
@@ -247,6 +254,7 @@ pub fn four_to_write<
 
 /// Reads all components of a record: four. Their tags are those of the record's own fields, their constraints those of
 /// a list.
+#[inline(always)]
 pub fn four_to_read<T, A, B, C, D, X>(
     a: A,
     b: B,

@@ -2,7 +2,7 @@
 use Rattle.std.proofs.Common.{◌≡◌, refl, sym, ap, ℕ, ◌+◌, List, [], ◌∷◌, length, Option, arith}
 use Rattle.rasn_types.specs.Values.{Value}
 use Rattle.rasn_schema.specs.Canonised.{canonised, canonised_slots}
-use Rattle.rasn_schema.specs.Components.{Component, parts_of}
+use Rattle.rasn_schema.specs.Components.{Component, TypeLists, parts_of, root_parts}
 use Rattle.rasn_schema.specs.Orders.{by_tags}
 use Rattle.rasn_schema.specs.Schemas.{count, no_parts, part, Parts, smallest, Tag, tags}
 use Rattle.rasn_traits.specs.Sets.{InTagOrder}
@@ -17,12 +17,12 @@ count_of [] n = refl
 count_of (c ∷ cs) n = let h = count_of cs n in omega arith
 
 -- what components are is in the order of the tags
-pub slots_alike : (cs : List Component) (rs : List (Option Value)) (n : ℕ) → slots_in_order cs rs ≡ canonised_slots (parts_of cs n) rs
-slots_alike cs rs n = ap (λ ts. by_tags ts rs) (sym (tags_alike cs n))
+pub slots_alike : (cs : TypeLists) (rs : List (Option Value)) (n : ℕ) → slots_in_order cs rs ≡ canonised_slots (root_parts cs n) rs
+slots_alike cs rs n = ap (λ ts. by_tags ts rs) (sym (tags_alike cs.before n))
 
 -- and there is as much as there are components
-pub are_in_order : (cs : List Component) (rs : List (Option Value)) → length rs ≡ length cs → InTagOrder (parts_of cs) rs (slots_in_order cs rs)
-are_in_order cs rs e = record { counted = λ n. rw (count_of cs n) e; placed = λ n. slots_alike cs rs n }
+pub are_in_order : (cs : TypeLists) (rs : List (Option Value)) → length rs ≡ length cs.before → InTagOrder (root_parts cs) rs (slots_in_order cs rs)
+are_in_order cs rs e = record { counted = λ n. rw (count_of cs.before n) e; placed = λ n. slots_alike cs rs n }
 
 -- what is listed in ascending order of tags is in that order
 pub ascending_slots : (ts : List Tag) (rs : List (Option Value)) → AreAscending ts → by_tags ts rs ≡ rs

@@ -14,9 +14,9 @@ pub enum Criticality {
 }
 
 macro_rules! items { ($to:ident $($with:ident)*) => { $to! { [$($with)*]
-    Reject;
-    Ignore;
-    Notify;
+    "reject" Reject;
+    "ignore" Ignore;
+    "notify" Notify;
 } }; }
 
 impl OfKind for Criticality {
@@ -24,7 +24,7 @@ impl OfKind for Criticality {
 }
 
 impl Items for Criticality {
-    const ITEMS: ItemCounts = items!(item_counts);
+    const ITEMS: ItemLists = items!(item_lists);
 
     ghost ITEMS = { all_items 3 };
 

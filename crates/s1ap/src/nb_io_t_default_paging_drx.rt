@@ -16,10 +16,10 @@ pub enum NbIoTDefaultPagingDrx {
 }
 
 macro_rules! items { ($to:ident $($with:ident)*) => { $to! { [$($with)*]
-    V128;
-    V256;
-    V512;
-    V1024;
+    "v128" V128;
+    "v256" V256;
+    "v512" V512;
+    "v1024" V1024;
     ...;
 } }; }
 
@@ -28,7 +28,7 @@ impl OfKind for NbIoTDefaultPagingDrx {
 }
 
 impl Items for NbIoTDefaultPagingDrx {
-    const ITEMS: ItemCounts = items!(item_counts);
+    const ITEMS: ItemLists = items!(item_lists);
 
     ghost ITEMS = { extensible_items 4 0 };
 

@@ -15,10 +15,10 @@ pub enum PagingDrx {
 }
 
 macro_rules! items { ($to:ident $($with:ident)*) => { $to! { [$($with)*]
-    V32;
-    V64;
-    V128;
-    V256;
+    "v32" V32;
+    "v64" V64;
+    "v128" V128;
+    "v256" V256;
     ...;
 } }; }
 
@@ -27,7 +27,7 @@ impl OfKind for PagingDrx {
 }
 
 impl Items for PagingDrx {
-    const ITEMS: ItemCounts = items!(item_counts);
+    const ITEMS: ItemLists = items!(item_lists);
 
     ghost ITEMS = { extensible_items 4 0 };
 

@@ -1,0 +1,5 @@
+use Rattle.per_laws.proofs.named_bits.older_reader_reads_the_projection_whichever_bits_have_names.Goals as goal
+use Rattle.per_laws.proofs.Nameless
+
+pub returns : goal.returns
+returns c = Nameless.older_reader_answers
