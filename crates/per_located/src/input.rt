@@ -1,11 +1,12 @@
 //! Where a decoder of the packed encoding rules stands in a message.
 
+use crate::decoder::Positioned;
+use crate::extents::OpenAhead;
 use per_de::Decoder;
 use per_read::bitmaps::take_bitmap;
 use per_read::open_types::{Contents, take_open};
 use per_read::{Reader, ReaderOptions};
 use per_read_types::choices::take_choice_index;
-use rasn_located::{OpenAhead, Positioned};
 use rasn_schema::choices::Choice;
 use rasn_traits::decoder;
 

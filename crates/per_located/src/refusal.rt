@@ -1,7 +1,7 @@
 //! What is told of octets that are refused.
 
+use crate::path::Path;
 use per_read::error::DecodeErrorKind;
-use rasn_located::Path;
 use std::fmt;
 
 /// Why octets were refused, and where. Where memory for the path ran out, path and bit are those where that happened.

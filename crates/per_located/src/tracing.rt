@@ -2,12 +2,12 @@
 
 ghost use Rattle.std.specs.Prelude.{◌≡◌, ◌≤◌, ◌*◌, length};
 
+use crate::decoder::Located;
 use crate::refusal::Refusal;
 use per_bits::BitReader;
 use per_de::{Decoder, DecoderOptions};
 use per_read::error::DecodeErrorKind;
 use rasn_codec::codec::Decode;
-use rasn_located::Located;
 use std::alloc::Global;
 
 /// The refusal of octets for what was wrong with them, with the place where a decoder stands when it refuses them.
