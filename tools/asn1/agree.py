@@ -1,5 +1,6 @@
 """Holds what resolve.py makes of definitions against what asn1ct made of the same text, part by part."""
 from constraints import LETTERS
+from definitions import Bits
 from notation import kind, parts
 from resolve import OTHER_NAMES
 
@@ -50,6 +51,12 @@ def default_of(default):
     """Returns a default as asn1ct has it."""
     if isinstance(default, bool):
         return str(default).lower()
+    if isinstance(default, Bits):
+        *whole, last = default.octets() or [0]
+        rest = len(default) % 8
+        if rest:
+            return f"<<{','.join([*map(str, whole), f'{last >> 8 - rest}:{rest}'])}>>"
+        return {"b": default.octets().hex().upper()}
     if isinstance(default, bytes):
         return {"b": default.hex().upper()}
     return [*default] if isinstance(default, tuple) else default
@@ -121,7 +128,11 @@ class Agreement:
         presence = presence_of(node["prop"])
         self.say(at, "the presence", part.presence, presence)
         if presence == "default":
-            self.say(at, "the default", default_of(part.default), parts(node["prop"])[0])
+            ours, theirs = default_of(part.default), parts(node["prop"])[0]
+            if part.use.type.kind == "BIT STRING" and isinstance(theirs, list):
+                ours = [name for name, place in part.use.type.names.items() if part.default[place : place + 1] == "1"]
+                theirs = [name for name in part.use.type.names if name in theirs]
+            self.say(at, "the default", ours, theirs)
         self.use(part.use, node["typespec"], at)
 
 

@@ -6,6 +6,14 @@ def module_name(node):
     return node if isinstance(node, str) else node["type"]
 
 
+class Bits(str):
+    """The bits of a string, as a text of the digits 0 and 1."""
+
+    def octets(self):
+        """Returns them as octets, filled up with bits that are 0."""
+        return bytes(int(self[place : place + 8].ljust(8, "0"), 2) for place in range(0, len(self), 8))
+
+
 class Definitions:
     """All definitions of the modules that were read, and the object sets that were given for a parameter."""
 
@@ -60,15 +68,17 @@ class Definitions:
             return found
         raise Refused(f"{node} is no string")
 
-    def octets(self, node):
-        """Returns the octets of a string of digits, filled up with bits that are 0 (X.680 23)."""
+    def bits(self, node):
+        """Returns the bits of a string of digits."""
         found = self.value(node)
         if kind(found) not in ("bstring", "hstring"):
-            raise Refused(f"{node} is no string of octets")
+            raise Refused(f"{node} is no string of bits or octets")
         digits = "".join(map(chr, parts(found)[0]))
-        bits = digits if kind(found) == "bstring" else "".join(f"{int(digit, 16):04b}" for digit in digits)
-        bits += "0" * (-len(bits) % 8)
-        return bytes(int(bits[at : at + 8], 2) for at in range(0, len(bits), 8))
+        return Bits(digits if kind(found) == "bstring" else "".join(f"{int(digit, 16):04b}" for digit in digits))
+
+    def octets(self, node):
+        """Returns the octets of a string of digits, filled up with bits that are 0 (X.680 23)."""
+        return self.bits(node).octets()
 
     def note_set(self, node, module, given):
         """Keeps the name of an object set that is given for a parameter."""

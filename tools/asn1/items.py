@@ -11,6 +11,8 @@ MOST = 48
 MOST_ITEMS = 256
 WITH_PAGE = ("SEQUENCE", "CHOICE", "ENUMERATED")
 LISTS = ("SEQUENCE OF", "SET OF")
+# Those of which a list can say each default.
+DEFAULTS = ("BOOLEAN", "ENUMERATED", "INTEGER", "BIT STRING", "OCTET STRING")
 OTHER_FILES = ("lib", "aliases", "tables")
 
 
@@ -125,8 +127,8 @@ class Items:
         of, default = part.use.type, part.default
         is_text = of.kind in TEXTS and of.kind != "BMPString"
         is_empty = of.kind == "SEQUENCE OF" and not default
-        if of.kind not in ("BOOLEAN", "ENUMERATED", "INTEGER", "OCTET STRING") and not is_text and not is_empty:
-            raise Refused(f"{part.name} has a DEFAULT of {of.kind}, which a list can't say")
+        if of.held_kind not in DEFAULTS and not is_text and not is_empty:
+            raise Refused(f"{part.name} has a DEFAULT of {of.held_kind}, which a list can't say")
         if is_text and not all(32 <= code < 127 and chr(code) not in '"\\' for code in default):
             raise Refused(f"{part.name} has a DEFAULT with a character that a list can't say")
         if not of.limits.hold(default):

@@ -185,6 +185,8 @@ class Page:
             return "true" if part.default else "false"
         if of.kind == "INTEGER":
             return f"{grouped(part.default)}_{holder(of.limits).replace('Integer', 'i128')}"
+        if of.kind == "BIT STRING":
+            return f"Bits([{', '.join('true' if bit == '1' else 'false' for bit in part.default)}])"
         if of.kind == "OCTET STRING":
             return f"Octets([{', '.join(map(str, part.default))}])"
         if of.kind in TEXTS:

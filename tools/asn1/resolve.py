@@ -5,6 +5,7 @@ from copy import deepcopy
 from dataclasses import dataclass, field, replace
 
 from constraints import LETTERS, Constraints, Limits
+from definitions import Bits
 from notation import Refused, kind, parts, placed
 
 PLAIN = {"BOOLEAN", "NULL", "OBJECT IDENTIFIER", "UTCTime", "GeneralizedTime", "UTF8String", "TeletexString", "GraphicString",
@@ -229,15 +230,24 @@ class Modules(Constraints):
         return part
 
     def default(self, node, of):
-        """Returns a default: a bool, a number, an item's name, octets, or code points; of other types what was parsed."""
+        """Returns a default: a bool, a number, an item's name, bits, octets, or code points; of other types what was parsed."""
         found = self.value(node, of.names)
         if of.kind == "BOOLEAN":
             return found == "true"
         if of.kind == "INTEGER":
             return of.names[found] if isinstance(found, str) and found in of.names else self.number(found, {})
+        if of.kind == "BIT STRING":
+            return self.named_bits(found, of) if isinstance(found, list) else self.bits(found)
         if of.kind == "OCTET STRING":
             return self.octets(found)
         return tuple(self.text(found)) if of.kind in TEXTS else found
+
+    @staticmethod
+    def named_bits(nodes, of):
+        """Returns the bits that are set by their names, and as many that aren't as the size asks for."""
+        places = {of.names[node["value"]] for node in nodes}
+        length = max([*(place + 1 for place in places), of.limits.size[0] if of.limits.size else 0])
+        return Bits("".join("01"[place in places] for place in range(length)))
 
     def numbered(self, root, added, module, path):
         """Gives tags: by place where none is written (X.680 25.7), else those that are."""

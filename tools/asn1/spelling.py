@@ -3,6 +3,7 @@ range. It is made from what was resolved; no text of a module is in it."""
 import textwrap
 
 from constraints import LETTERS
+from definitions import Bits
 
 WIDE = 112  # columns of a line
 STEP = "    "
@@ -74,6 +75,8 @@ def value(default):
     """Spells a default."""
     if isinstance(default, bool):
         return str(default).upper()
+    if isinstance(default, Bits):
+        return f"'{default}'B"
     if isinstance(default, bytes):
         return f"'{default.hex().upper()}'H"
     if isinstance(default, tuple):

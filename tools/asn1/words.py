@@ -203,9 +203,11 @@ class Schemas:
         if of.kind == "INTEGER":
             imports.prelude("pos" if value >= 0 else "negsuc")
             return f"({imports.word('whole')} ({f'pos {value}' if value >= 0 else f'negsuc {-value - 1}'}))"
-        if of.kind == "OCTET STRING":
-            imports.prelude("[]", *["◌∷◌"] * bool(value))
-            return f"({imports.word('octets')} {bracketed(' ∷ '.join([*map(str, value), '[]']))})"
+        if of.kind in ("BIT STRING", "OCTET STRING"):
+            names = [{"0": "false", "1": "true"}[bit] for bit in value] if of.kind == "BIT STRING" else [*map(str, value)]
+            imports.prelude("[]", *["◌∷◌"] * bool(value), *{"false", "true"} & {*names})
+            word = imports.word("bits" if of.kind == "BIT STRING" else "octets")
+            return f"({word} {bracketed(' ∷ '.join([*names, '[]']))})"
         if of.kind in TEXTS:
             imports.prelude("codes")
             word = imports.word("octets" if of.kind == "UTF8String" else "characters")

@@ -99,7 +99,8 @@ class Shown:
         if kind == "BIT STRING":
             padded = value + "0" * (-len(value) % 8)
             octets = [int(padded[place : place + 8], 2) for place in range(0, len(padded), 8)]
-            return f"BitString {{ octets: {octets}, len: {len(value)} }}"
+            bits = f"BitString {{ octets: {octets}, len: {len(value)} }}"
+            return f"NamedBits {{ bits: {bits} }}" if of.held_kind == "NAMED BITS" else bits
         if kind in LETTERS:
             return f"{HELD[kind]} {{ characters: {[ord(it) for it in value]} }}"
         if kind == "UTF8String":

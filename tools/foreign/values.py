@@ -80,7 +80,12 @@ class Chooser:
         return bytes(self.random.randrange(256) for _ in range(self.random.choice((1, 2, 5, 130))))
 
     def bits(self, of):
-        return "".join(self.random.choice("01") for _ in range(self.size(of, 9)))
+        """Returns bits; of those that have names those that PER writes, with no more zero bits at the end than the size asks
+        for (X.691 16.2)."""
+        found = "".join(self.random.choice("01") for _ in range(self.size(of, 9)))
+        if of.held_kind == "NAMED BITS":
+            found = found.rstrip("0").ljust(of.limits.size[0] if of.limits.size else 0, "0")
+        return found
 
     def item(self, of):
         every = [*of.items, *(of.added_items or [])]

@@ -11,9 +11,9 @@ use rasn_below::context_tag;
 use rasn_below::page::*;
 use rasn_below::schema::{Choice, TagTree, TypeTree, Variants};
 use rasn_below::types::Identifier;
-use rasn_recursive::decode_recursive_alternative;
 use rasn_recursive::read::{HoldsAlternatives, Same, Unconstrained, decode};
 use rasn_recursive::write::write_alternative;
+use rasn_recursive::{decode_recursive_alternative, names_of_alternatives, tags_of_alternatives};
 
 /// Filter ::= CHOICE { and SEQUENCE OF Filter, or SEQUENCE OF Filter, not Filter, present OCTET STRING }
 #[derive(Debug, Drop, PartialEq)]
@@ -31,7 +31,9 @@ macro_rules! alternatives { ($to:ident $($with:ident)*) => { $to! { [$($with)*]
     3 "present" Present: OctetString [];
 } }; }
 
-const VARIANTS: VariantLists = alternatives!(variants);
+const TAGS: &[TagTree] = alternatives!(tags_of_alternatives);
+
+const NAMES: &[&str] = alternatives!(names_of_alternatives);
 
 const BOUNDS: Bounds = alternatives!(alternative_bounds);
 
@@ -40,7 +42,7 @@ impl AsnType for Filter {
 
     ghost TAG = { EOC };
 
-    const TAG_TREE: TypeTree = TypeTree(TagTree::Choice(VARIANTS.root));
+    const TAG_TREE: TypeTree = TypeTree(TagTree::Choice(TAGS));
 
     ghost TAG_TREE = { tree_with (variants_listed filter).before };
 
@@ -66,9 +68,7 @@ impl AsnType for Filter {
 }
 
 impl Choice for Filter {
-    const VARIANTS: Variants = Variants {
-        list: VARIANTS.root,
-    };
+    const VARIANTS: Variants = Variants { list: TAGS };
 
     ghost VARIANTS = { (variants_listed filter).before };
 
@@ -76,7 +76,7 @@ impl Choice for Filter {
 
     ghost EXTENDED_VARIANTS = { None };
 
-    const IDENTIFIERS: &'static [&'static str] = VARIANTS.identifiers;
+    const IDENTIFIERS: &'static [&'static str] = NAMES;
 
     ghost alternatives = { root_parts filter };
 
@@ -102,7 +102,11 @@ impl OfKind for Listing {
 }
 
 impl Alternatives for Listing {
-    const ALTERNATIVES: VariantLists = VARIANTS;
+    const ALTERNATIVES: VariantLists = VariantLists {
+        root: TAGS,
+        added: None,
+        identifiers: NAMES,
+    };
 
     ghost ALTERNATIVES = { variants_listed filter };
 

@@ -14,8 +14,8 @@
 //! }
 //! ```
 //!
-//! `decode_record`, `encode_record`, `encode_holding_record`, `tags_of_alternatives` and `decode_recursive_alternative`
-//! are for authors. What the others write is part of these.
+//! `decode_record`, `encode_record`, `encode_holding_record`, `tags_of_alternatives`, `names_of_alternatives` and
+//! `decode_recursive_alternative` are for authors. What the others write is part of these.
 
 /// Writes a record of these components, whose type holds itself, under a tag and a name: the body of its `Encode`.
 #[macro_export]
@@ -124,6 +124,13 @@ macro_rules! tags_of_alternatives {
     ([] $($tag:literal $name:literal $variant:ident $(: $type:ty [$($bounds:tt)*])?;)*) => {
         &[$(rasn_below::TagTree::Leaf(rasn_below::context_tag!($tag))),*]
     };
+    ([] $($list:tt)*) => { rasn_below::wrong_alternative!($($list)*) };
+}
+
+/// The names of the alternatives of a list, of a CHOICE that holds itself.
+#[macro_export]
+macro_rules! names_of_alternatives {
+    ([] $($tag:literal $name:literal $variant:ident $(: $type:ty [$($bounds:tt)*])?;)*) => { &[$($name),*] };
     ([] $($list:tt)*) => { rasn_below::wrong_alternative!($($list)*) };
 }
 
