@@ -32,19 +32,20 @@ fn an_element_is_named_by_its_number(rt: HostRuntime) {
 
 #[test]
 fn a_count_is_of_the_list(rt: HostRuntime) {
+    // A count that the size refuses is refused behind the last element; these have no bits.
     expect_refused::<Nulls>(
         &rt,
         rt.alloc(),
         Codec::Uper,
         "9600",
-        "SizeConstraintNotSatisfied at bit 0 of 16",
+        "SizeConstraintNotSatisfied at bit 9 of 16",
     );
     expect_refused::<Nulls>(
         &rt,
         rt.alloc(),
         Codec::Aper,
         "012c",
-        "SizeConstraintNotSatisfied at bit 0 of 16",
+        "SizeConstraintNotSatisfied at bit 16 of 16",
     );
     expect_refused::<NullList>(
         &rt,
