@@ -51,7 +51,7 @@ fn what_is_left_over_in_an_open_type_is_of_the_alternative(rt: HostRuntime) {
 
 #[test]
 fn alternatives_stand_in_components(rt: HostRuntime) {
-    // Rows that are changed. An open type of three octets in place of four: 40 bits in front of it, its length, and one bit of the value.
+    // Rows that are changed. An open type of three octets in place of four: 40 bits, its length, and one bit.
     expect_refused::<TwoAlternatives>(
         &rt,
         rt.alloc(),

@@ -1,5 +1,5 @@
-//! Tests of where octets are refused. Most are refusals of `rows/`; the path and the bit of each were worked out by hand
-//! from X.691.
+//! Tests of where octets are refused. Most are refusals of `rows/`; the path and the bit of each were worked out by
+//! hand from X.691.
 #![tactic(auto)]
 
 #[cfg(test)]
