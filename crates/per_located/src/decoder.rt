@@ -2,7 +2,7 @@
 
 ghost use Rattle.std.specs.Prelude.{◌≡◌};
 
-use crate::extents::OpenAhead;
+pub use crate::extents::OpenAhead;
 use crate::path::Path;
 use crate::trail::{Frame, ListFrame, RecordFrame, Trail};
 use rasn_schema::choices::Choice;
