@@ -1,7 +1,10 @@
 //! Why the program prints no JSON, and what it says then.
 
-ghost use Rattle.std.specs.Prelude.{◌≡◌, ◌≤◌};
+ghost use Rattle.std.specs.Prelude.{◌≡◌, ◌++◌, ◌≤◌};
+ghost use Rattle.std.specs.IoError.{error_kind};
+ghost use Rattle.show_lines.specs.Told.{hexadecimal_fault, io_fault, status_of, text_of};
 ghost use Rattle.show_lines.specs.declared.fault.Fault.TheVariants.{OutOfMemory};
+ghost use Rattle.show_lines.specs.declared.fault.Fault.TheVariants.{Decode as decode_fault, Encode as encode_fault};
 
 use hex::FromHexError;
 use rasn_jer::error::EncodeError;
@@ -33,21 +36,25 @@ pub enum Fault {
 
 impl Fault {
     /// The fault of an error of a reader or a writer: want of memory, or else `other`.
-    pub fn of_io(error: &io::Error, other: Fault) -> Fault {
+    pub fn of_io(error: &io::Error, other: Fault) -> Fault
+        ensures { result ≡ io_fault (error_kind error.now) other }
+    {
         match error.kind() {
             ErrorKind::OutOfMemory => Fault::OutOfMemory,
             _ => other,
         }
     }
 
-    /// What is said of the fault, and behind it the word that is meant, if any.
-    pub fn text(&self) -> (&'static str, &'static str) {
+    /// What is said of the fault, and behind it the word that goes with it, if any.
+    pub fn text(&self) -> (&'static str, &'static str)
+        ensures { result.0.now ++ result.1.now ≡ text_of self.now }
+    {
         match self {
             Fault::WrongArguments => (
                 "usage: per_show (aper|uper) TYPE [lines] [--pretty] | per_show --help",
                 "",
             ),
-            Fault::UnknownType(name) => ("unknown type; the nearest is ", *name),
+            Fault::UnknownType(nearest) => ("unknown type; the nearest is ", *nearest),
             Fault::CannotRead => ("cannot read input", ""),
             Fault::BadHexadecimal => ("bad hexadecimal", ""),
             Fault::Decode(kind) => (kind.name(), ""),
@@ -59,7 +66,8 @@ impl Fault {
 
     /// The status that the program ends with.
     pub fn status(&self) -> u8
-        ensures { result ≤ 2 }
+        ensures value { result ≡ status_of self.now }
+        ensures range { result ≤ 2 }
     {
         match self {
             Fault::Decode(_) | Fault::Encode(_) | Fault::OutOfMemory => 1,
@@ -73,6 +81,8 @@ impl Fault {
 }
 
 impl From<FromHexError> for Fault {
+    ghost from_gives = { λ e f. f ≡ hexadecimal_fault e };
+
     fn from(error: FromHexError) -> Fault {
         match error {
             FromHexError::OutOfMemory => Fault::OutOfMemory,
@@ -84,20 +94,18 @@ impl From<FromHexError> for Fault {
 }
 
 impl From<DecodeError> for Fault {
+    ghost from_gives = { λ e f. f ≡ decode_fault e.kind };
+
     fn from(error: DecodeError) -> Fault {
-        match error.kind {
-            DecodeErrorKind::OutOfMemory => Fault::OutOfMemory,
-            kind => Fault::Decode(kind),
-        }
+        Fault::Decode(error.kind)
     }
 }
 
 impl From<EncodeError> for Fault {
+    ghost from_gives = { λ e f. f ≡ encode_fault e };
+
     fn from(error: EncodeError) -> Fault {
-        match error {
-            EncodeError::OutOfMemory => Fault::OutOfMemory,
-            error => Fault::Encode(error),
-        }
+        Fault::Encode(error)
     }
 }
 
