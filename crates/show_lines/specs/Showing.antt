@@ -4,6 +4,7 @@ use Rattle.hex.specs.Hex.{decode_of}
 use Rattle.json.specs.Lex.{tokens}
 use Rattle.per_lines.specs.Recoding.{schema_of}
 use Rattle.per_lines.specs.declared.arguments.Arguments.{Arguments}
+use Rattle.per_located.specs.Placed.{IsPlaced}
 use Rattle.per_read.specs.declared.error.DecodeErrorKind.TheVariants as Decoding
 use Rattle.rasn_below.specs.Rows.{Codec, variant_of}
 use Rattle.rasn_jer.specs.Calls.{AreText, IsRefusedBy}
@@ -12,7 +13,7 @@ use Rattle.rasn_per.specs.Complete.{AreReadAs, AreUnread}
 use Rattle.rasn_per.specs.Kinds.{IsInOctets}
 use Rattle.rasn_schema.specs.Schemas.{Schema}
 use Rattle.rasn_types.specs.Values.{Value}
-use Rattle.show_lines.specs.Told.{text_of}
+use Rattle.show_lines.specs.Told.{IsToldAs}
 use Rattle.show_lines.specs.declared.arguments.Layout.{Layout}
 use Rattle.show_lines.specs.declared.arguments.Layout.TheVariants.{Compact, Pretty}
 use Rattle.show_lines.specs.declared.fault.Fault.{Fault}
@@ -32,12 +33,12 @@ pub record IsUnshown (codec : Codec) (schema : ℕ → Schema) (octets : List �
   pub is_read : AreReadAs (variant_of codec) schema value octets
   pub is_refused : IsRefusedBy schema levels value e
 
--- Why octets have no JSON: they are read as no value, and what the kind says is in them; or as one that has none; or
--- memory ran out.
+-- Why octets have no JSON: they are read as no value, what the kind says is in them, and the place is one of theirs; or
+-- they are read as a value that has none; or memory ran out.
 abbrev pub IsRefusal : Codec → (ℕ → Schema) → List ℕ → Fault → Type 0
-IsRefusal codec schema octets (Decode kind) =
-    (kind ≢ Decoding.OutOfMemory → AreUnread (variant_of codec) schema octets)
-    × IsInOctets (variant_of codec) schema octets kind
+IsRefusal codec schema octets (Decode refusal) =
+    (refusal.kind ≢ Decoding.OutOfMemory → AreUnread (variant_of codec) schema octets)
+    × IsInOctets (variant_of codec) schema octets refusal.kind × IsPlaced octets refusal
 IsRefusal codec schema octets (Encode e) = IsUnshown codec schema octets e
 IsRefusal codec schema octets OutOfMemory = ⊤
 IsRefusal codec schema octets _ = ⊥
@@ -69,7 +70,11 @@ IsUnanswered a line BadHexadecimal = (octets : List ℕ) → decode_of line ≢ 
 IsUnanswered a line OutOfMemory = ⊤
 IsUnanswered a line fault = AreRefused a line fault
 
--- a text is the reply to a line: its answer, or `! `, why it has none, and a line feed
+-- `! `, what is said of a fault, and a line feed
+abbrev pub AreTold : Fault → List ℕ → Type 0
+AreTold fault reply = (told : List ℕ) × IsToldAs fault told × (reply ≡ codes "! " ++ told ++ 10 ∷ [])
+
+-- a text is the reply to a line: its answer, or why it has none
 abbrev pub IsReply : Arguments → Layout → List ℕ → List ℕ → Type 0
 IsReply a layout line reply = IsAnswer a layout line reply
-    ⊎ ((fault : Fault) × IsUnanswered a line fault × (reply ≡ codes "! " ++ text_of fault ++ 10 ∷ []))
+    ⊎ ((fault : Fault) × IsUnanswered a line fault × AreTold fault reply)

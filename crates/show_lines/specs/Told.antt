@@ -1,5 +1,5 @@
 -- What the program says of a fault, and the status that it ends with.
-use Rattle.std.specs.Prelude.{ℕ, List, ◌++◌, codes}
+use Rattle.std.specs.Prelude.{ℕ, ◌≡◌, List, ◌++◌, codes}
 use Rattle.std.specs.declared.io.ErrorKind.{ErrorKind}
 use Rattle.std.specs.declared.io.ErrorKind.TheVariants as Kinds
 use Rattle.hex.specs.declared.error.FromHexError.{FromHexError}
@@ -10,16 +10,21 @@ use Rattle.show_lines.specs.declared.fault.Fault.{Fault}
 use Rattle.show_lines.specs.declared.fault.Fault.TheVariants.{WrongArguments, UnknownType, CannotRead, BadHexadecimal}
 use Rattle.show_lines.specs.declared.fault.Fault.TheVariants.{Decode, Encode, CannotWrite, OutOfMemory}
 
--- what is said of a fault
+-- what is said of a fault but its place
 abbrev pub text_of : Fault → List ℕ
 text_of WrongArguments = codes "usage: per_show (aper|uper) TYPE [lines] [--pretty] | per_show --help"
 text_of (UnknownType nearest) = codes "unknown type; the nearest is " ++ nearest.now
 text_of CannotRead = codes "cannot read input"
 text_of BadHexadecimal = codes "bad hexadecimal"
-text_of (Decode kind) = decode_name kind
+text_of (Decode refusal) = decode_name refusal.kind
 text_of (Encode e) = encode_name e
 text_of CannotWrite = codes "cannot write output"
 text_of OutOfMemory = codes "OutOfMemory"
+
+-- what is said of a fault: behind the name of a refusal stands its place, of which it isn't said how it is spelled
+abbrev pub IsToldAs : Fault → List ℕ → Type 0
+IsToldAs (Decode refusal) told = (place : List ℕ) × (told ≡ decode_name refusal.kind ++ place)
+IsToldAs fault told = told ≡ text_of fault
 
 -- 1: octets or a value are refused, or memory ran out; 2: the program can't do its work
 abbrev pub status_of : Fault → ℕ
@@ -27,7 +32,7 @@ status_of WrongArguments = 2
 status_of (UnknownType nearest) = 2
 status_of CannotRead = 2
 status_of BadHexadecimal = 2
-status_of (Decode kind) = 1
+status_of (Decode refusal) = 1
 status_of (Encode e) = 1
 status_of CannotWrite = 2
 status_of OutOfMemory = 1

@@ -4,8 +4,8 @@ ghost use Rattle.std.specs.Prelude.{◌≡◌, ◌++◌, IfOk, map, string_bytes
 ghost use Rattle.show_lines.specs.Requests.{layout_words, request_words};
 
 use crate::fault::Fault;
-use crate::names::{NAMES, is_among, nearest};
-use per_lines::arguments::{Arguments, Form};
+use crate::names::{NAMES, nearest};
+use per_lines::arguments::{Arguments, Form, TypeName};
 use std::alloc::Global;
 
 /// How the JSON is laid out.
@@ -63,7 +63,7 @@ fn layout_of_words(words: &[String]) -> (Layout, &[String])
 fn fault_of_words(alloc: Global, words: &[String]) -> Fault {
     match words {
         [_, name, ..] => {
-            if is_among(NAMES, name.as_str()) {
+            if TypeName::of_word(name.as_str()).is_some() {
                 return Fault::WrongArguments;
             }
             match nearest(alloc, "boolean", NAMES, name.as_str()) {

@@ -1,20 +1,20 @@
 //! Why the program prints no JSON, and what it says then.
 
-ghost use Rattle.std.specs.Prelude.{◌≡◌, ◌++◌, ◌≤◌};
+ghost use Rattle.std.specs.Prelude.{◌≡◌, ◌++◌, ◌≤◌, IfOk, string_bytes};
 ghost use Rattle.std.specs.IoError.{error_kind};
-ghost use Rattle.show_lines.specs.Told.{hexadecimal_fault, io_fault, status_of, text_of};
+ghost use Rattle.show_lines.specs.Told.{IsToldAs, hexadecimal_fault, io_fault, status_of, text_of};
 ghost use Rattle.show_lines.specs.declared.fault.Fault.TheVariants.{OutOfMemory};
 ghost use Rattle.show_lines.specs.declared.fault.Fault.TheVariants.{Decode as decode_fault, Encode as encode_fault};
 
 use hex::FromHexError;
+use per_located::Refusal;
 use rasn_jer::error::EncodeError;
-use rasn_per::uper::{DecodeError, DecodeErrorKind};
-use std::alloc::AllocError;
+use std::alloc::{AllocError, Global};
 use std::io;
 use std::io::ErrorKind;
 
 /// Why the program prints no JSON.
-#[derive(Clone, Copy, Debug, PartialEq)]
+#[derive(Drop)]
 pub enum Fault {
     /// The words are not a variant, a type and a form that the program knows.
     WrongArguments,
@@ -24,8 +24,8 @@ pub enum Fault {
     CannotRead,
     /// The line isn't pairs of hexadecimal digits.
     BadHexadecimal,
-    /// The octets are no encoding of a value of the type.
-    Decode(DecodeErrorKind),
+    /// The octets are no encoding of a value of the type; and where they are refused.
+    Decode(Refusal),
     /// The value has no JSON.
     Encode(EncodeError),
     /// The output can't be written.
@@ -45,7 +45,7 @@ impl Fault {
         }
     }
 
-    /// What is said of the fault, and behind it the word that goes with it, if any.
+    /// What is said of the fault but its place, and behind it the word that goes with it, if any.
     pub fn text(&self) -> (&'static str, &'static str)
         ensures { result.0.now ++ result.1.now ≡ text_of self.now }
     {
@@ -57,10 +57,27 @@ impl Fault {
             Fault::UnknownType(nearest) => ("unknown type; the nearest is ", *nearest),
             Fault::CannotRead => ("cannot read input", ""),
             Fault::BadHexadecimal => ("bad hexadecimal", ""),
-            Fault::Decode(kind) => (kind.name(), ""),
+            Fault::Decode(refusal) => (refusal.kind.name(), ""),
             Fault::Encode(error) => (error.name(), ""),
             Fault::CannotWrite => ("cannot write output", ""),
             Fault::OutOfMemory => ("OutOfMemory", ""),
+        }
+    }
+
+    /// What is said of the fault, such as `Incomplete at inner.inner, bit 7 of 8`. The only error is want of memory.
+    pub fn told(&self, alloc: Global) -> Result<String, AllocError>
+        ensures { IfOk result (λ told. IsToldAs self.now (string_bytes told)) }
+    {
+        let (text, word) = self.text();
+        let mut told = String::from_str(alloc, text)?;
+        told.push_str(word)?;
+        match self {
+            Fault::Decode(refusal) => {
+                let place = place_of(alloc, refusal)?;
+                told.push_str(place.as_str())?;
+                Ok(told)
+            }
+            _ => Ok(told),
         }
     }
 
@@ -80,6 +97,15 @@ impl Fault {
     }
 }
 
+/// Where octets are refused: the path to the component, and the bit.
+fn place_of(alloc: Global, refusal: &Refusal) -> Result<String, AllocError> {
+    let (bit, bits) = (refusal.bit, refusal.bits);
+    if refusal.path.steps.is_empty() {
+        return format!(in alloc; " at bit {bit} of {bits}");
+    }
+    format!(in alloc; " at {}, bit {bit} of {bits}", refusal.path)
+}
+
 impl From<FromHexError> for Fault {
     ghost from_gives = { λ e f. f ≡ hexadecimal_fault e };
 
@@ -93,11 +119,11 @@ impl From<FromHexError> for Fault {
     }
 }
 
-impl From<DecodeError> for Fault {
-    ghost from_gives = { λ e f. f ≡ decode_fault e.kind };
+impl From<Refusal> for Fault {
+    ghost from_gives = { λ r f. f ≡ decode_fault r };
 
-    fn from(error: DecodeError) -> Fault {
-        Fault::Decode(error.kind)
+    fn from(refusal: Refusal) -> Fault {
+        Fault::Decode(refusal)
     }
 }
 

@@ -7,4 +7,3 @@ mod layout;
 pub mod names;
 pub mod run;
 mod show;
-mod streams;

@@ -65,13 +65,8 @@ pub const NAMES: &[&str] = &[
     "dnest",
 ];
 
-/// Whether a word is one of some names.
-pub fn is_among(names: &[&str], word: &str) -> bool {
-    names.iter().any(|name| *name == word)
-}
-
-/// The name that is the fewest edits from a word, of a first one and of others: the first such. The only error is want of
-/// memory.
+/// The name that is the fewest edits from a word, of a first one and of others: the first such. The only error is want
+/// of memory.
 pub fn nearest(
     alloc: Global,
     first: &'static str,

@@ -4,14 +4,16 @@ ghost use Rattle.std.specs.Prelude.{◌≡◌, ◌≢◌, ◌≤◌, IfOk, OnOk}
 ghost use Rattle.std.specs.Io.Buffered.{reader_remaining};
 ghost use Rattle.std.specs.Io.KnownBytes.{Appends, Keeps};
 ghost use Rattle.per_lines.specs.Words.{words};
+ghost use Rattle.show_lines.specs.Told.{status_of};
 ghost use Rattle.show_lines.specs.Printing.{Prints, PrintsAnswer, PrintsReplies, TakesTurn};
 
 use crate::arguments::{Layout, Request};
 use crate::fault::Fault;
 use crate::names::NAMES;
 use crate::show::{reply, show};
-use crate::streams::{next_line, read_line, write};
 use per_lines::arguments::{Arguments, Form};
+use per_lines::line::{next_line, read_line};
+use per_lines::output::write_line;
 use std::alloc::{AllocError, Global};
 use std::io::{BufRead, BufReader, Read, Write};
 
@@ -38,20 +40,20 @@ pub fn run<R: BufRead, W: Write, F: Write>(
 {
     match print_asked(alloc, arguments, input, output) {
         Ok(()) => 0,
-        Err(fault) => report(fault, faults),
+        Err(fault) => report(alloc, &fault, faults),
     }
 }
 
-/// Tells a fault on a line. Answers the status that the program ends with.
-pub fn report<F: Write>(fault: Fault, faults: &mut F) -> u8
-    ensures status { result ≤ 2 }
+/// Tells a fault on a line, without its place where memory ran out. Answers the status that the program ends with.
+pub fn report<F: Write>(alloc: Global, fault: &Fault, faults: &mut F) -> u8
+    ensures status { result ≡ status_of fault.now }
+    ensures range { result ≤ 2 }
     ensures some { result ≢ 0 }
 {
-    let (text, word) = fault.text();
-    let _ = faults.write_all(text.as_bytes());
-    let _ = faults.write_all(word.as_bytes());
-    let _ = faults.write_all(b"\n");
-    let _ = faults.flush();
+    let _ = match fault.told(alloc) {
+        Ok(told) => write_line(told.as_str(), faults),
+        Err(_) => write_line(fault.text().0, faults),
+    };
     fault.status()
 }
 
@@ -72,7 +74,9 @@ fn print_asked<R: BufRead, W: Write>(
         }
         Request::Show(arguments, layout) => match arguments.form {
             Form::Lines => reply_to_lines(alloc, arguments, layout, input, output),
-            Form::OneLine | Form::Zero | Form::As(_) => print_answer(alloc, arguments, layout, input, output),
+            Form::OneLine | Form::Zero | Form::As(_) => print_answer(
+                alloc, arguments, layout, input, output,
+            ),
         },
     }
 }
@@ -162,12 +166,14 @@ fn reply_to_next<R: BufRead, W: Write>(
     Ok(true)
 }
 
-/// Prints octets.
+/// Prints octets, through to where the output goes.
 fn print<W: Write>(octets: &[u8], output: &mut W) -> Result<(), Fault>
     ensures { OnOk result (Appends (W.contents output.old) (W.contents output.new) octets.now) }
 {
-    match write(octets, output) {
-        Ok(()) => Ok(()),
-        Err(error) => Err(Fault::of_io(&error, Fault::CannotWrite)),
-    }
+    output
+        .write_all(octets)
+        .map_err(|error| Fault::of_io(&error, Fault::CannotWrite))?;
+    output
+        .flush()
+        .map_err(|error| Fault::of_io(&error, Fault::CannotWrite))
 }

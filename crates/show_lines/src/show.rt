@@ -1,15 +1,16 @@
 //! From the octets of a value to its JSON.
 
-ghost use Rattle.std.specs.Prelude.{◌≡◌, ◌++◌, ◌∷◌, [], IfOk, IfErr, codes};
+ghost use Rattle.std.specs.Prelude.{◌≡◌, IfOk, IfErr};
 ghost use Rattle.per_lines.specs.Recoding.{schema_of};
+ghost use Rattle.per_located.specs.Placed.{IsPlaced, unplaced};
 ghost use Rattle.rasn_per.specs.Calls.{Decoded};
-ghost use Rattle.show_lines.specs.Showing.{IsAnswer, IsLaidOut, IsRefusal, IsReply, IsShown, IsUnanswered};
-ghost use Rattle.show_lines.specs.Told.{text_of};
+ghost use Rattle.show_lines.specs.Showing.{AreTold, IsAnswer, IsLaidOut, IsRefusal, IsReply, IsShown, IsUnanswered};
 
 use crate::arguments::Layout;
 use crate::fault::Fault;
 use crate::layout::pretty;
 use per_lines::arguments::{Arguments, TypeName};
+use per_located::{Refusal, aper, uper};
 use per_samples_a::absent::OneDefault;
 use per_samples_a::bounded::{OneToTenExtensible, ZeroTo65536};
 use per_samples_a::four::Four;
@@ -51,8 +52,6 @@ use per_samples_sets::set_optional::SetOptional;
 use rasn_below::codec::{Decode, Encode};
 use rasn_below::types::{BitString, Codec, Date, Integer, OctetString, SetOf, UtcTime};
 use rasn_jer::encode;
-use rasn_per::uper::DecodeError;
-use rasn_per::{aper, uper};
 use std::alloc::{AllocError, Global};
 
 /// The JSON of the value that a line of hexadecimal spells, with a line feed.
@@ -88,19 +87,18 @@ pub fn reply(
 {
     match show(alloc, arguments, layout, line) {
         Ok(text) => Ok(text),
-        Err(fault) => refusal(alloc, fault),
+        Err(fault) => refusal(alloc, &fault),
     }
 }
 
 /// Why a line has no JSON, behind `! ` and with a line feed.
-fn refusal(alloc: Global, fault: Fault) -> Result<Vec<u8>, AllocError>
-    ensures { IfOk result (λ text. text.items ≡ codes "! " ++ text_of fault ++ 10 ∷ []) }
+fn refusal(alloc: Global, fault: &Fault) -> Result<Vec<u8>, AllocError>
+    ensures { IfOk result (λ text. AreTold fault.now text.items) }
 {
-    let (text, word) = fault.text();
+    let told = fault.told(alloc)?;
     let mut line = Vec::from_slice(alloc, b"! ")?;
-    line.extend_from_slice(text.as_bytes())?;
-    line.extend_from_slice(word.as_bytes())?;
-    line.push(b'\n')?;
+    line.extend_from_slice(told.as_bytes())?;
+    line.extend_from_slice(b"\n")?;
     Ok(line)
 }
 
@@ -196,9 +194,10 @@ fn shown_as<T: Encode + Decode>(
     Ok(text)
 }
 
-/// The value that all octets spell in the variant of a codec. Where a refusal stands, its path and its bit, is found here.
-fn read<T: Decode>(alloc: Global, codec: Codec, octets: &[u8]) -> Result<T, DecodeError>
-    ensures { Decoded codec (T.schema T.CONSTRAINTS) T.value octets.now result }
+/// The value that all octets spell in the variant of a codec, or why they are refused, and where.
+fn read<T: Decode>(alloc: Global, codec: Codec, octets: &[u8]) -> Result<T, Refusal>
+    ensures decoded { Decoded codec (T.schema T.CONSTRAINTS) T.value octets.now (unplaced codec result) }
+    ensures place { IfErr result (IsPlaced octets.now) }
 {
     match codec {
         Codec::Aper => aper::decode(alloc, octets),
