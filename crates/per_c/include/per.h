@@ -130,11 +130,15 @@ enum per_type {
     PER_TYPE_SETOPT = 51,
     PER_TYPE_SETCHOICE = 52,
     PER_TYPE_DATE = 53,
-    PER_TYPE_DNEST = 54
+    PER_TYPE_DNEST = 54,
+    PER_TYPE_SPARE = 55,
+    PER_TYPE_PICK = 56,
+    PER_TYPE_PICKED = 57,
+    PER_TYPE_SIGNALS = 58
 };
 
 /** How many types there are. */
-#define PER_TYPES 55
+#define PER_TYPES 59
 
 /** A text of at most 31 octets, with zeros behind it. */
 struct per_name {

@@ -12,7 +12,8 @@ use Rattle.per_lines.specs.declared.arguments.TypeName.TheVariants.{Outers1, Out
 use Rattle.per_lines.specs.declared.arguments.TypeName.TheVariants.{Grouped2, OneColor, TwoColors, DefaultOuter1}
 use Rattle.per_lines.specs.declared.arguments.TypeName.TheVariants.{DefaultOuter3, OneAlternative, TwoAlternatives}
 use Rattle.per_lines.specs.declared.arguments.TypeName.TheVariants.{Alternatives, Many, Bag, UtcTime, Connect, Set}
-use Rattle.per_lines.specs.declared.arguments.TypeName.TheVariants.{SetOptional, SetChoice, Date, DatedNest}
+use Rattle.per_lines.specs.declared.arguments.TypeName.TheVariants.{SetOptional, SetChoice, Date, DatedNest, Spare, Pick}
+use Rattle.per_lines.specs.declared.arguments.TypeName.TheVariants.{Picked, Signals}
 use Rattle.per_lines.specs.declared.arguments.TypeName.{TypeName}
 use Rattle.per_lines.specs.declared.arguments.Padding.{Padding}
 use Rattle.per_lines.specs.declared.arguments.Padding.TheVariants as Paddings
@@ -42,7 +43,7 @@ types =
     Nest ∷ Deep ∷ Bytes ∷ Nulls ∷ NullList ∷ Elements ∷ Outer1 ∷ Outer2 ∷ Outer3 ∷ Grouped ∷ NoneNeeded ∷ OneNeeded ∷
     AddedDefault ∷ Outers1 ∷ Outers3 ∷ BeforeNest ∷ AddedNest ∷ Grouped1 ∷ Grouped2 ∷ OneColor ∷ TwoColors ∷
     DefaultOuter1 ∷ DefaultOuter3 ∷ OneAlternative ∷ TwoAlternatives ∷ Alternatives ∷ Many ∷ Bag ∷ UtcTime ∷ Connect ∷
-    Set ∷ SetOptional ∷ SetChoice ∷ Date ∷ DatedNest ∷ []
+    Set ∷ SetOptional ∷ SetChoice ∷ Date ∷ DatedNest ∷ Spare ∷ Pick ∷ Picked ∷ Signals ∷ []
 
 -- the code of a kind of refusal, where a decoder refuses
 abbrev pub decode_code : DecodeErrorKind → ℕ

@@ -10,7 +10,7 @@ use per_lines::arguments::{Padding, TypeName};
 use rasn_below::types::Codec;
 
 /// The types, each at its number.
-static TYPES: [TypeName; 55] = [
+static TYPES: [TypeName; 59] = [
     TypeName::Boolean,
     TypeName::Null,
     TypeName::Integer,
@@ -66,6 +66,10 @@ static TYPES: [TypeName; 55] = [
     TypeName::SetChoice,
     TypeName::Date,
     TypeName::DatedNest,
+    TypeName::Spare,
+    TypeName::Pick,
+    TypeName::Picked,
+    TypeName::Signals,
 ];
 
 /// The variant and the padding that a number stands for.
@@ -154,5 +158,9 @@ pub fn word_of(type_name: TypeName) -> &'static str
         TypeName::SetChoice => "setchoice",
         TypeName::Date => "date",
         TypeName::DatedNest => "dnest",
+        TypeName::Spare => "spare",
+        TypeName::Pick => "pick",
+        TypeName::Picked => "picked",
+        TypeName::Signals => "signals",
     }
 }

@@ -5,7 +5,7 @@ use Rattle.std.specs.Prelude.{option_map, codes}
 use Rattle.std.specs.Str.{bytes_eq}
 use Rattle.rasn_below.specs.Rows.{Codec, Aper, Uper}
 use Rattle.per_lines.specs.declared.arguments.TypeName.{TypeName}
-use Rattle.per_lines.specs.declared.arguments.TypeName.TheVariants.{Boolean, Null, Integer, UpTo65535, FromMinusOne, Natural, ZeroTo65536, OneToTenExtensible, Four, Seven, OneDefault, ShortVisible, LettersAToE, BitString, OctetString, OnlyX, Items, Byte, MaybeEmpty, Nested, Nest, Deep, Bytes, Nulls, NullList, Elements, Outer1, Outer2, Outer3, Grouped, NoneNeeded, OneNeeded, AddedDefault, Outers1, Outers3, BeforeNest, AddedNest, Grouped1, Grouped2, OneColor, TwoColors, DefaultOuter1, DefaultOuter3, OneAlternative, TwoAlternatives, Alternatives, Many, Bag, UtcTime, Connect, Set, SetOptional, SetChoice, Date, DatedNest}
+use Rattle.per_lines.specs.declared.arguments.TypeName.TheVariants.{Boolean, Null, Integer, UpTo65535, FromMinusOne, Natural, ZeroTo65536, OneToTenExtensible, Four, Seven, OneDefault, ShortVisible, LettersAToE, BitString, OctetString, OnlyX, Items, Byte, MaybeEmpty, Nested, Nest, Deep, Bytes, Nulls, NullList, Elements, Outer1, Outer2, Outer3, Grouped, NoneNeeded, OneNeeded, AddedDefault, Outers1, Outers3, BeforeNest, AddedNest, Grouped1, Grouped2, OneColor, TwoColors, DefaultOuter1, DefaultOuter3, OneAlternative, TwoAlternatives, Alternatives, Many, Bag, UtcTime, Connect, Set, SetOptional, SetChoice, Date, DatedNest, Spare, Pick, Picked, Signals}
 use Rattle.per_lines.specs.declared.arguments.Form.{Form}
 use Rattle.per_lines.specs.declared.arguments.Form.TheVariants.{OneLine, Lines, Zero, As}
 use Rattle.per_lines.specs.declared.arguments.Arguments.{Arguments}
@@ -19,7 +19,7 @@ all_types = Boolean ∷ Null ∷ Integer ∷ UpTo65535 ∷ FromMinusOne ∷ Natu
     ∷ Byte ∷ MaybeEmpty ∷ Nested ∷ Nest ∷ Deep ∷ Bytes ∷ Nulls ∷ NullList ∷ Elements
     ∷ Outer1 ∷ Outer2 ∷ Outer3 ∷ Grouped ∷ NoneNeeded ∷ OneNeeded ∷ AddedDefault ∷ Outers1 ∷ Outers3 ∷ BeforeNest ∷ AddedNest
     ∷ Grouped1 ∷ Grouped2 ∷ OneColor ∷ TwoColors ∷ DefaultOuter1 ∷ DefaultOuter3 ∷ OneAlternative ∷ TwoAlternatives ∷ Alternatives ∷ Many
-    ∷ Bag ∷ UtcTime ∷ Connect ∷ Set ∷ SetOptional ∷ SetChoice ∷ Date ∷ DatedNest ∷ []
+    ∷ Bag ∷ UtcTime ∷ Connect ∷ Set ∷ SetOptional ∷ SetChoice ∷ Date ∷ DatedNest ∷ Spare ∷ Pick ∷ Picked ∷ Signals ∷ []
 
 -- the first of some things that a word names
 abbrev named : {X : Type 0} → (X → List ℕ) → List ℕ → List X → Option X
@@ -90,6 +90,10 @@ type_of-word SetOptional = refl
 type_of-word SetChoice = refl
 type_of-word Date = refl
 type_of-word DatedNest = refl
+type_of-word Spare = refl
+type_of-word Pick = refl
+type_of-word Picked = refl
+type_of-word Signals = refl
 
 abbrev type_of : List (List ℕ) → Option TypeName
 type_of (v ∷ w ∷ ws) = named type_word w all_types

@@ -8,6 +8,7 @@ use Rattle.rasn_below.specs.Rows.{Codec, variant_of, Variant}
 use Rattle.per_samples_a.specs.Absents.{one_default}
 use Rattle.per_samples_a.specs.Fours.{four}
 use Rattle.per_samples_a.specs.Sevens.{seven}
+use Rattle.per_samples_a.specs.Signals.{signals}
 use Rattle.per_samples_c.specs.Items.{with_item}
 use Rattle.per_samples_lists.specs.Bytes.{byte}
 use Rattle.per_samples_lists.specs.Choices.{outer}
@@ -25,6 +26,7 @@ use Rattle.per_samples_b.specs.Alternatives.{two_alternatives}
 use Rattle.per_samples_b.specs.First.{alt1}
 use Rattle.per_samples_b.specs.Second.{alt2}
 use Rattle.per_samples_b.specs.Many.{many}
+use Rattle.per_samples_b.specs.Picks.{spare, pick, picked}
 use Rattle.per_core.specs.Spellings.{Settings}
 use Rattle.rasn_per.specs.Complete.{AreBytes, HasNoBytes, AreReadBy, AreUnreadBy, reading, basically}
 use Rattle.per_samples_sets.specs.Connects.{connect}
@@ -45,7 +47,7 @@ use Rattle.per_lines.specs.declared.arguments.TypeName.TheVariants.{Outers3, Bef
 use Rattle.per_lines.specs.declared.arguments.TypeName.TheVariants.{OneColor, TwoColors, DefaultOuter1, DefaultOuter3}
 use Rattle.per_lines.specs.declared.arguments.TypeName.TheVariants.{OneAlternative, TwoAlternatives, Alternatives, Many}
 use Rattle.per_lines.specs.declared.arguments.TypeName.TheVariants.{Bag, UtcTime, Connect, Set, SetOptional, SetChoice}
-use Rattle.per_lines.specs.declared.arguments.TypeName.TheVariants.{Date, DatedNest}
+use Rattle.per_lines.specs.declared.arguments.TypeName.TheVariants.{Date, DatedNest, Spare, Pick, Picked, Signals}
 use Rattle.per_lines.specs.declared.arguments.Form.{Form}
 use Rattle.per_lines.specs.declared.arguments.Form.TheVariants.{OneLine, Lines, Zero, As}
 use Rattle.per_lines.specs.declared.arguments.Padding.{Padding}
@@ -117,6 +119,10 @@ schema_of SetOptional = set_at set_optional
 schema_of SetChoice = set_at set_choice
 schema_of Date = date_at
 schema_of DatedNest = sequence_at dnest
+schema_of Spare = alternatives_at spare.before spare.behind
+schema_of Pick = alternatives_at pick.before pick.behind
+schema_of Picked = sequence_at picked
+schema_of Signals = sequence_at signals
 
 -- `zero` asks that padding is zero; behind `as` what is written needs no such check
 abbrev pub padding_of : Form → Padding

@@ -13,7 +13,7 @@ use Rattle.per_lines.specs.declared.arguments.TypeName.TheVariants.{Outers3, Bef
 use Rattle.per_lines.specs.declared.arguments.TypeName.TheVariants.{OneColor, TwoColors, DefaultOuter1, DefaultOuter3}
 use Rattle.per_lines.specs.declared.arguments.TypeName.TheVariants.{OneAlternative, TwoAlternatives, Alternatives, Many}
 use Rattle.per_lines.specs.declared.arguments.TypeName.TheVariants.{Bag, UtcTime, Connect, Set, SetOptional, SetChoice}
-use Rattle.per_lines.specs.declared.arguments.TypeName.TheVariants.{Date, DatedNest}
+use Rattle.per_lines.specs.declared.arguments.TypeName.TheVariants.{Date, DatedNest, Spare, Pick, Picked, Signals}
 use Rattle.per_lines.specs.declared.arguments.Form.{Form}
 use Rattle.per_lines.specs.declared.arguments.Form.TheVariants.{OneLine, Lines, Zero, As}
 use Rattle.per_lines.specs.declared.arguments.Arguments.{Arguments}
@@ -82,6 +82,10 @@ type_word SetOptional = codes "setopt"
 type_word SetChoice = codes "setchoice"
 type_word Date = codes "date"
 type_word DatedNest = codes "dnest"
+type_word Spare = codes "spare"
+type_word Pick = codes "pick"
+type_word Picked = codes "picked"
+type_word Signals = codes "signals"
 
 -- nothing, `lines`, `zero`, or `as` and another type
 abbrev pub form_words : Form → List (List ℕ)

@@ -127,6 +127,16 @@ pub enum TypeName {
     Date,
     /// Dnest ::= SEQUENCE { inner Dnest OPTIONAL, d DATE OPTIONAL }.
     DatedNest,
+    /// CHOICE { low [2] INTEGER (0..7), empty [3] NULL }.
+    Spare,
+    /// CHOICE { flag BOOLEAN, octets OCTET STRING (SIZE (2)), ..., spare Spare, inner Inner }, whose tags are its own.
+    Pick,
+    /// SEQUENCE { first [9] BOOLEAN, ..., pick Pick, last [5] INTEGER (0..7) OPTIONAL }, whose choice has no tag of its
+    /// own.
+    Picked,
+    /// SEQUENCE { any Lights, bounded Lights (SIZE (2..8)), marked Lights (SIZE (4, ...)) OPTIONAL }, Lights being
+    /// BIT STRING { red(0), yellow(1), green(2) }.
+    Signals,
 }
 
 /// How much is read, and what is printed.
@@ -236,6 +246,10 @@ impl TypeName {
             "setchoice" => Some(TypeName::SetChoice),
             "date" => Some(TypeName::Date),
             "dnest" => Some(TypeName::DatedNest),
+            "spare" => Some(TypeName::Spare),
+            "pick" => Some(TypeName::Pick),
+            "picked" => Some(TypeName::Picked),
+            "signals" => Some(TypeName::Signals),
             _ => None,
         }
     }

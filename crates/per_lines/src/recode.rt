@@ -13,6 +13,7 @@ use per_samples_a::bounded::{OneToTenExtensible, ZeroTo65536};
 use per_samples_a::four::Four;
 use per_samples_a::half_bounded::{FromMinusOne, Natural, UpTo65535};
 use per_samples_a::seven::Seven;
+use per_samples_a::signals::Signals;
 use per_samples_a::strings::{LettersAToE, OnlyX, ShortVisible};
 use per_samples_b::added_default::AddedDefault;
 use per_samples_b::alt1::Alt1;
@@ -24,6 +25,9 @@ use per_samples_b::one_needed::OneNeeded;
 use per_samples_b::outer1::{Outer1, Outers1};
 use per_samples_b::outer2::Outer2;
 use per_samples_b::outer3::{Outer3, Outers3};
+use per_samples_b::pick::Pick;
+use per_samples_b::picked::Picked;
+use per_samples_b::spare::Spare;
 use per_samples_b::two_alternatives::TwoAlternatives;
 use per_samples_c::colors::TwoColors;
 use per_samples_c::default_outer1::DefaultOuter1;
@@ -138,6 +142,10 @@ pub fn recoded(
         TypeName::SetChoice => recoded_as::<SetChoice>(alloc, codec, padding, octets),
         TypeName::Date => recoded_as::<Date>(alloc, codec, padding, octets),
         TypeName::DatedNest => recoded_as::<Dnest>(alloc, codec, padding, octets),
+        TypeName::Spare => recoded_as::<Spare>(alloc, codec, padding, octets),
+        TypeName::Pick => recoded_as::<Pick>(alloc, codec, padding, octets),
+        TypeName::Picked => recoded_as::<Picked>(alloc, codec, padding, octets),
+        TypeName::Signals => recoded_as::<Signals>(alloc, codec, padding, octets),
     }
 }
 

@@ -63,6 +63,10 @@ pub const NAMES: &[&str] = &[
     "setchoice",
     "date",
     "dnest",
+    "spare",
+    "pick",
+    "picked",
+    "signals",
 ];
 
 /// The name that is the fewest edits from a word, of a first one and of others: the first such. The only error is want

@@ -16,6 +16,7 @@ use per_samples_a::bounded::{OneToTenExtensible, ZeroTo65536};
 use per_samples_a::four::Four;
 use per_samples_a::half_bounded::{FromMinusOne, Natural, UpTo65535};
 use per_samples_a::seven::Seven;
+use per_samples_a::signals::Signals;
 use per_samples_a::strings::{LettersAToE, OnlyX, ShortVisible};
 use per_samples_b::added_default::AddedDefault;
 use per_samples_b::alt1::Alt1;
@@ -27,6 +28,9 @@ use per_samples_b::one_needed::OneNeeded;
 use per_samples_b::outer1::{Outer1, Outers1};
 use per_samples_b::outer2::Outer2;
 use per_samples_b::outer3::{Outer3, Outers3};
+use per_samples_b::pick::Pick;
+use per_samples_b::picked::Picked;
+use per_samples_b::spare::Spare;
 use per_samples_b::two_alternatives::TwoAlternatives;
 use per_samples_c::colors::TwoColors;
 use per_samples_c::default_outer1::DefaultOuter1;
@@ -177,6 +181,10 @@ fn shown(alloc: Global, codec: Codec, type_name: TypeName, octets: &[u8]) -> Res
         TypeName::SetChoice => shown_as::<SetChoice>(alloc, codec, octets),
         TypeName::Date => shown_as::<Date>(alloc, codec, octets),
         TypeName::DatedNest => shown_as::<Dnest>(alloc, codec, octets),
+        TypeName::Spare => shown_as::<Spare>(alloc, codec, octets),
+        TypeName::Pick => shown_as::<Pick>(alloc, codec, octets),
+        TypeName::Picked => shown_as::<Picked>(alloc, codec, octets),
+        TypeName::Signals => shown_as::<Signals>(alloc, codec, octets),
     }
 }
 

@@ -7,7 +7,7 @@ use Rattle.per_c.proofs.request.type_of.Goals as goal
 pub returns-in-Some : goal.returns-in-Some
 returns-in-Some c =
     let at = c.in-Some.ensures.lookup in
-    sym (slice_get_read types 55 c.args.number c.in-Some.type_name.now refl (ltb-true c.args.number 55 (sym at.0)) at.1)
+    sym (slice_get_read types 59 c.args.number c.in-Some.type_name.now refl (ltb-true c.args.number 59 (sym at.0)) at.1)
 
 pub returns-in-None : goal.returns-in-None
-returns-in-None c = sym (slice_get_past types c.args.number (ltb-false c.args.number 55 (sym c.in-None.ensures.lookup.0)))
+returns-in-None c = sym (slice_get_past types c.args.number (ltb-false c.args.number 59 (sym c.in-None.ensures.lookup.0)))

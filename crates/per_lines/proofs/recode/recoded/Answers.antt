@@ -113,3 +113,15 @@ returns-in-SetChoice-clause-err c = rw c.in-SetChoice.is c.recoded_as-in-SetChoi
 
 pub returns-in-DatedNest-clause-err : goal.returns-in-DatedNest-clause-err
 returns-in-DatedNest-clause-err c = rw c.in-DatedNest.is c.recoded_as-in-DatedNest.ensures.err
+
+pub returns-in-Spare-clause-err : goal.returns-in-Spare-clause-err
+returns-in-Spare-clause-err c = rw c.in-Spare.is c.recoded_as-in-Spare.ensures.err
+
+pub returns-in-Pick-clause-err : goal.returns-in-Pick-clause-err
+returns-in-Pick-clause-err c = rw c.in-Pick.is c.recoded_as-in-Pick.ensures.err
+
+pub returns-in-Picked-clause-err : goal.returns-in-Picked-clause-err
+returns-in-Picked-clause-err c = rw c.in-Picked.is c.recoded_as-in-Picked.ensures.err
+
+pub returns-in-Signals-clause-err : goal.returns-in-Signals-clause-err
+returns-in-Signals-clause-err c = rw c.in-Signals.is c.recoded_as-in-Signals.ensures.err
