@@ -42,6 +42,9 @@ octet_string size = Schema.octet_string size false
 abbrev pub bit_string : Size → Schema
 bit_string size = Schema.bit_string size false false
 
+abbrev pub named_bits : Size → Schema
+named_bits size = Schema.bit_string size false true
+
 abbrev pub list_of : Schema → Size → Schema
 list_of s size = Schema.list s size false
 

@@ -8,6 +8,7 @@ pub mod extensions;
 pub mod integers;
 pub mod lawful;
 pub mod lists;
+pub mod named_bits;
 pub mod readings;
 pub mod records;
 pub mod refusals;

@@ -18,3 +18,4 @@ pub mod Records
 pub mod Total
 pub mod OneWritten
 pub mod Keeps
+pub mod ButForNames

@@ -11,6 +11,7 @@ pub mod depth;
 pub mod exchange;
 pub mod faults;
 pub mod messages;
+pub mod named_bits;
 pub mod padding;
 pub mod relays;
 pub mod remainders;

@@ -2,12 +2,13 @@
 #![tactic(auto)]
 
 ghost use Rattle.std.specs.Prelude.{◌≡◌, [], ◌∷◌, pos, true};
-ghost use Rattle.rasn_below.specs.Components.{at, automatic, boolean, choice, default, extensible_automatic, integer};
-ghost use Rattle.rasn_below.specs.Components.{null, own_tags};
+ghost use Rattle.rasn_below.specs.Components.{any, at, automatic, bit_string, boolean, choice, default};
+ghost use Rattle.rasn_below.specs.Components.{extensible_automatic, integer, named_bits, null, own_tags};
 ghost use Rattle.rasn_below.specs.Components.{octet_string, optional, sequence, size◌to◌, u8, u16, under, ◌to◌};
 ghost use Rattle.rasn_below.specs.Types.{always, any_size, list_at, sequence_at, Schema};
 ghost use Rattle.rasn_below.specs.Values.{whole};
 ghost use Rattle.per_core.specs.Versions.{NewerType};
+ghost use Rattle.per_laws.specs.Named.{NewerTypeButForNames};
 ghost use Rattle.rasn_versions.specs.Compared.{comparison};
 ghost use Rattle.rasn_versions.specs.Verdicts.{allowed, at_place, in_additions, in_element, in_root, left_out};
 ghost use Rattle.rasn_versions.specs.Verdicts.{other_bounds, other_default, other_items, other_kind, other_marker};
@@ -52,6 +53,21 @@ pub fn components_stay_as_they_are()
     ensures size { comparison (list_at (sequence_at (automatic (octet_string (size 3 to 4) ∷ []))) any_size true)
         (list_at (sequence_at (automatic (octet_string (size 3 to 3) ∷ []))) any_size true)
         ≡ in_element (in_root (at_place 0 other_size)) }
+{}
+
+/// Bits have names now, or have none now: of what is passed on zero bits at the end then go, which an older reader tells
+/// apart (X.680, 22.7). It still reads the same bits, by the laws of `named_bits`.
+pub fn bits_stay_with_names_or_without()
+    ensures put_in { comparison (sequence_at (automatic (named_bits any ∷ [])))
+        (sequence_at (automatic (bit_string any ∷ []))) ≡ in_root (at_place 0 other_kind) }
+    ensures left_out { comparison (sequence_at (automatic (bit_string any ∷ [])))
+        (sequence_at (automatic (named_bits any ∷ []))) ≡ in_root (at_place 0 other_kind) }
+    ensures size { comparison (sequence_at (automatic (named_bits (size 2 to 9) ∷ [])))
+        (sequence_at (automatic (named_bits (size 2 to 8) ∷ []))) ≡ in_root (at_place 0 other_size) }
+    ensures same { comparison (sequence_at (automatic (named_bits (size 2 to 8) ∷ [])))
+        (sequence_at (automatic (named_bits (size 2 to 8) ∷ []))) ≡ allowed }
+    ensures but_for_names { NewerTypeButForNames (sequence_at (automatic (named_bits any ∷ [])))
+        (sequence_at (automatic (bit_string any ∷ []))) }
 {}
 
 /// A default is another one.

@@ -7,15 +7,16 @@ use per_samples_a::bounded::{MinusOneTo254, OneToTenExtensible, ZeroTo65536};
 use per_samples_a::half_bounded::{FromMinusOne, Natural, UpTo65535};
 use per_samples_a::strings::{LettersAToE, OnlyX, ShortVisible};
 use rasn_below::AsnType;
-use rasn_below::types::{BitString, Date, Integer, OctetString, SetOf, UtcTime};
+use rasn_below::types::{BitString, Date, Integer, NamedBits, OctetString, SetOf, UtcTime};
 use rasn_versions::is_lawful;
 
-/// BOOLEAN, NULL, INTEGER, BIT STRING, OCTET STRING, UTCTime, DATE, and a SET OF.
+/// BOOLEAN, NULL, INTEGER, BIT STRING with and without names, OCTET STRING, UTCTime, DATE, and a SET OF.
 pub fn library_types_are_lawful()
     ensures truth { let own = ⟦<bool as AsnType>⟧ in IsLawfulType (own.schema own.CONSTRAINTS) }
     ensures null { let own = ⟦<() as AsnType>⟧ in IsLawfulType (own.schema own.CONSTRAINTS) }
     ensures integer { let own = ⟦<Integer as AsnType>⟧ in IsLawfulType (own.schema own.CONSTRAINTS) }
     ensures bits { let own = ⟦<BitString as AsnType>⟧ in IsLawfulType (own.schema own.CONSTRAINTS) }
+    ensures named_bits { let own = ⟦<NamedBits as AsnType>⟧ in IsLawfulType (own.schema own.CONSTRAINTS) }
     ensures octets { let own = ⟦<OctetString as AsnType>⟧ in IsLawfulType (own.schema own.CONSTRAINTS) }
     ensures time { let own = ⟦<UtcTime as AsnType>⟧ in IsLawfulType (own.schema own.CONSTRAINTS) }
     ensures date { let own = ⟦<Date as AsnType>⟧ in IsLawfulType (own.schema own.CONSTRAINTS) }
@@ -25,6 +26,7 @@ pub fn library_types_are_lawful()
     is_lawful::<()>();
     is_lawful::<Integer>();
     is_lawful::<BitString>();
+    is_lawful::<NamedBits>();
     is_lawful::<OctetString>();
     is_lawful::<UtcTime>();
     is_lawful::<Date>();

@@ -6,6 +6,7 @@ ghost use Rattle.rasn_schema.specs.Lawful.{IsLawfulType};
 use per_samples_a::absent::OneDefault;
 use per_samples_a::four::Four;
 use per_samples_a::seven::Seven;
+use per_samples_a::signals::Signals;
 use per_samples_b::added_default::AddedDefault;
 use per_samples_b::grouped::Grouped;
 use per_samples_b::many::Many;
@@ -27,16 +28,18 @@ use per_samples_lists::lists::{Bytes, NullList, Nulls};
 use rasn_below::AsnType;
 use rasn_versions::is_lawful;
 
-/// Records of numbers, items and strings.
+/// Records of numbers, items, strings, and bits that have names.
 pub fn records_are_lawful()
     ensures four { let own = ⟦<Four as AsnType>⟧ in IsLawfulType (own.schema own.CONSTRAINTS) }
     ensures seven { let own = ⟦<Seven as AsnType>⟧ in IsLawfulType (own.schema own.CONSTRAINTS) }
+    ensures signals { let own = ⟦<Signals as AsnType>⟧ in IsLawfulType (own.schema own.CONSTRAINTS) }
     ensures byte { let own = ⟦<Byte as AsnType>⟧ in IsLawfulType (own.schema own.CONSTRAINTS) }
     ensures items { let own = ⟦<WithItem as AsnType>⟧ in IsLawfulType (own.schema own.CONSTRAINTS) }
     ensures empty { let own = ⟦<MaybeEmpty as AsnType>⟧ in IsLawfulType (own.schema own.CONSTRAINTS) }
 {
     is_lawful::<Four>();
     is_lawful::<Seven>();
+    is_lawful::<Signals>();
     is_lawful::<Byte>();
     is_lawful::<WithItem>();
     is_lawful::<MaybeEmpty>();
