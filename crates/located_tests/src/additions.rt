@@ -1,6 +1,8 @@
 //! Additions and groups of additions, which stand in open types.
 
-use crate::expected::{expect_refused, expect_refused_deep, expect_refused_in_both};
+use crate::expected::{
+    expect_refused, expect_refused_deep, expect_refused_in_both, expect_refused_long,
+};
 use per_samples_b::grouped::Grouped;
 use per_samples_b::one_needed::OneNeeded;
 use per_samples_b::outer1::Outer1;
@@ -84,6 +86,24 @@ fn a_component_of_a_group_stands_behind_its_group(rt: HostRuntime) {
         Codec::Aper,
         "c0700480010203030708",
         "Incomplete at after, bit 56 of 80",
+    );
+}
+
+#[test]
+fn an_open_type_in_fragments_stands_at_its_first_length(rt: HostRuntime) {
+    // The extension bit, `first`, seven bits that say one, and one.
+    expect_refused_long::<Grouped>(
+        &rt,
+        rt.alloc(),
+        ("c040c1", 16384, "00"),
+        "UnexpectedExtraData at group, bit 10 of 131104",
+    );
+    // An unknown addition is of the record.
+    expect_refused_long::<Outer1>(
+        &rt,
+        rt.alloc(),
+        ("c020c1", 16383, ""),
+        "Incomplete at bit 11 of 131088",
     );
 }
 

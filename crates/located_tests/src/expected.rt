@@ -49,6 +49,23 @@ pub(crate) fn expect_refused_in_both<T: Decode>(
     expect_refused::<T>(rt, alloc, Codec::Uper, digits, text);
 }
 
+/// Octets in hexadecimal, of which so many are 55 in the middle, are refused in the ALIGNED variant.
+pub(crate) fn expect_refused_long<T: Decode>(
+    rt: &impl Abort,
+    alloc: Global,
+    (front, count, behind): (&str, usize, &str),
+    text: &str,
+) {
+    let mut digits = String::new(alloc);
+    let mut is_whole = digits.push_str(front).is_ok();
+    for _ in 0..count {
+        is_whole = is_whole && digits.push_str("55").is_ok();
+    }
+    is_whole = is_whole && digits.push_str(behind).is_ok();
+    assert!(rt; is_whole);
+    expect_refused::<T>(rt, alloc, Codec::Aper, digits.as_str(), text);
+}
+
 /// Octets in hexadecimal, in the UNALIGNED variant, are refused so many steps deep, with so many bits in front.
 pub(crate) fn expect_refused_deep<T: Decode>(
     rt: &impl Abort,
