@@ -1,8 +1,10 @@
 //! Records, choices, lists, and values of other kinds, by their octets.
 
-use crate::expected::expect_shown;
+use crate::expected::{expect_json, expect_shown};
 use its_header::header::ItsPduHeader;
+use per_samples_a::signals::Signals;
 use per_samples_b::added_default::AddedDefault;
+use per_samples_b::alt2::Alt2;
 use per_samples_b::one_needed::OneNeeded;
 use per_samples_b::outer3::Outer3;
 use per_samples_c::colors::TwoColors;
@@ -10,7 +12,8 @@ use per_samples_lists::filter::Filter;
 use per_samples_lists::nest::Nest;
 use per_samples_lists::tree::Tree;
 use per_samples_sets::set::Set;
-use rasn_below::types::{BitString, Date, OctetString, SetOf};
+use rasn_below::types::{BitString, Date, NamedBits, OctetString, SetOf};
+use std::test::Fail;
 
 #[test]
 fn components_stand_under_their_names(rt: HostRuntime) {
@@ -61,10 +64,13 @@ fn lists_choices_and_items_are_shown(rt: HostRuntime) {
         &rt,
         rt.alloc(),
         &[0x00, 0xb0, 0x16, 0x19, 0x00],
-        "{\"[0]\":[{\"[3]\":\"61\"},{\"[2]\":{\"[1]\":[]}}]}",
+        "{\"and\":[{\"present\":\"61\"},{\"not\":{\"or\":[]}}]}",
     );
     expect_shown::<Nest>(&rt, rt.alloc(), &[0xc0], "{\"inner\":{\"inner\":{}}}");
-    expect_shown::<TwoColors>(&rt, rt.alloc(), &[0x80], "1");
+    expect_shown::<TwoColors>(&rt, rt.alloc(), &[0x00], "\"a\"");
+    expect_shown::<TwoColors>(&rt, rt.alloc(), &[0x80], "\"b\"");
+    expect_shown::<Alt2>(&rt, rt.alloc(), &[0x40], "{\"a\":true}");
+    expect_shown::<Alt2>(&rt, rt.alloc(), &[0x80, 0x01, 0x80], "{\"b\":true}");
 }
 
 #[test]
@@ -78,4 +84,17 @@ fn octets_bits_bags_and_dates_are_shown(rt: HostRuntime) {
     );
     expect_shown::<SetOf<u8>>(&rt, rt.alloc(), &[0x00], "[]");
     expect_shown::<Date>(&rt, rt.alloc(), &[0x14, 0x00], "\"2010-01-01\"");
+}
+
+#[test]
+fn named_bits_are_shown_in_their_normal_form(rt: HostRuntime) -> Result<(), Fail> {
+    let value = Signals {
+        any: NamedBits::new(BitString::from_slice(rt.alloc(), &[true, false, false])?),
+        bounded: NamedBits::new(BitString::from_slice(rt.alloc(), &[true])?),
+        marked: None,
+    };
+    let json =
+        "{\"any\":{\"value\":\"80\",\"length\":1},\"bounded\":{\"value\":\"80\",\"length\":2}}";
+    expect_json(&rt, rt.alloc(), &value, json);
+    Ok(())
 }

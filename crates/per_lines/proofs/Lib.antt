@@ -3,3 +3,4 @@ pub mod AnswerLaws
 pub mod LineLaws
 pub mod ReplyLaws
 pub mod FormLaws
+pub mod OutputLaws

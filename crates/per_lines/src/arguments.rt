@@ -175,8 +175,8 @@ fn codec_of_word(word: &str) -> Option<Codec>
 }
 
 impl TypeName {
-    /// The type that a word names.
-    fn of_word(word: &str) -> Option<TypeName>
+    /// The type that a word of `docs/TYPES.md` names.
+    pub fn of_word(word: &str) -> Option<TypeName>
         ensures named { IfSome result (λ t. word.now ≡ type_word t) }
         ensures unknown { IfNone result ((t : a_name) → word.now ≢ type_word t) }
     {

@@ -4,8 +4,8 @@
 pub mod answer;
 pub mod arguments;
 pub mod fault;
-mod line;
-mod output;
+pub mod line;
+pub mod output;
 pub mod recode;
 pub mod replies;
 pub mod run;

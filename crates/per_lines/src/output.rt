@@ -7,11 +7,13 @@ ghost use Rattle.per_lines.specs.Faults.{AppendsFront};
 use std::io;
 use std::io::{ErrorKind, Write};
 
-/// Writes a text through to where the output goes.
+/// Writes a text through to where the output goes, and nothing else. Where writing fails, a front of it was written.
 pub fn write<W: Write>(text: &str, output: &mut W) -> io::Result<()>
-    ensures { OnOk result (Appends (W.contents output.old) (W.contents output.new) text.now) }
+    ensures ok { OnOk result (Appends (W.contents output.old) (W.contents output.new) text.now) }
+    ensures front { AppendsFront (W.contents output.old) (W.contents output.new) text.now }
 {
-    output.write_all(text.as_bytes())?;
+    let octets = text.as_bytes();
+    write_front(octets, output)?;
     output.flush()
 }
 

@@ -3,9 +3,9 @@
 --     text VisibleString (SIZE (0..15)) DEFAULT "hi", last BOOLEAN
 -- }
 use Rattle.std.specs.Prelude.{[], ◌∷◌, true, false, codes, negsuc, pos}
-use Rattle.rasn_below.specs.Page.{automatic, default, whole, octets, bits, characters, list_value}
-use Rattle.rasn_below.specs.Page.{TypeLists, boolean, integer, bit_string, octet_string, visible_string, sequence_of, big, i8, any, minus◌to◌}
-use Rattle.rasn_below.specs.Page.{size◌to◌}
+use Rattle.rasn_below.specs.Page.{automatic, default, whole, octets, bits, characters, list_value, TypeLists}
+use Rattle.rasn_below.specs.Page.{boolean, integer, bit_string, octet_string, visible_string, sequence_of}
+use Rattle.rasn_below.specs.Page.{big, i8, any, minus◌to◌, size◌to◌}
 
 abbrev pub defaults : TypeLists
 defaults = automatic (

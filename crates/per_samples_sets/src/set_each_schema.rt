@@ -3,7 +3,7 @@
 
 ghost use Rattle.std.specs.Prelude.{[], false, None, Some, refl};
 ghost use Rattle.rasn_below.specs.Values.{set_value};
-ghost use Rattle.rasn_below.specs.Components.{fields_in, parts_of};
+ghost use Rattle.rasn_below.specs.Components.{fields_in, own_tags, parts_of};
 ghost use Rattle.rasn_below.specs.Types.{SET, no_constraints, unextended, by_tag, set_at, set_levelled};
 ghost use Rattle.rasn_below.specs.Types.{set_stated, set_tag, tagged};
 ghost use Rattle.per_samples_sets.specs.Each.{set_each, set_each_contents};
@@ -49,17 +49,17 @@ impl AsnType for SetEach {
 
     ghost CONSTRAINTS = { no_constraints };
 
-    ghost schema = { λ _. set_at set_each };
+    ghost schema = { λ _. set_at (own_tags set_each) };
 
     ghost value = { λ x. set_value (set_each_contents x) };
 
     ghost levels = { λ _. 1 };
 
-    ghost levelled = { λ _. set_levelled set_each };
+    ghost levelled = { λ _. set_levelled (own_tags set_each) };
 
-    ghost tag_fits = { λ _. set_tag set_each };
+    ghost tag_fits = { λ _. set_tag (own_tags set_each) };
 
-    ghost tree_fits = { λ _. set_stated set_each };
+    ghost tree_fits = { λ _. set_stated (own_tags set_each) };
 }
 
 impl Constructed for SetEach {

@@ -3,7 +3,7 @@
 
 ghost use Rattle.std.specs.Prelude.{false, None, Some, refl};
 ghost use Rattle.rasn_below.specs.Values.{set_value};
-ghost use Rattle.rasn_below.specs.Components.{fields_in};
+ghost use Rattle.rasn_below.specs.Components.{fields_in, own_tags};
 ghost use Rattle.rasn_below.specs.Types.{SET, no_constraints, unextended, by_tag, set_at, set_levelled};
 ghost use Rattle.rasn_below.specs.Types.{set_stated, set_tag, tagged};
 ghost use Rattle.per_samples_sets.specs.SetPairs.{set_pair, set_pair_parts, set_pair_contents};
@@ -52,17 +52,17 @@ impl AsnType for SetPair {
 
     ghost CONSTRAINTS = { no_constraints };
 
-    ghost schema = { λ _. set_at set_pair };
+    ghost schema = { λ _. set_at (own_tags set_pair) };
 
     ghost value = { λ x. set_value (set_pair_contents x.b x.a) };
 
     ghost levels = { λ _. 1 };
 
-    ghost levelled = { λ _. set_levelled set_pair };
+    ghost levelled = { λ _. set_levelled (own_tags set_pair) };
 
-    ghost tag_fits = { λ _. set_tag set_pair };
+    ghost tag_fits = { λ _. set_tag (own_tags set_pair) };
 
-    ghost tree_fits = { λ _. set_stated set_pair };
+    ghost tree_fits = { λ _. set_stated (own_tags set_pair) };
 }
 
 impl Constructed for SetPair {

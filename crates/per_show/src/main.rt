@@ -1,7 +1,7 @@
 //! Reads a value of a type in hexadecimal and prints it as JSON (X.697).
 //!
 //! `per_show (aper|uper) TYPE` reads the first line of its standard input. With `lines` behind the type it replies to
-//! every line: by the JSON, or by `! ` and why there is none. With `--pretty` at the end the JSON is indented.
+//! every line: by the JSON, or by `! `, why there is none, and where. With `--pretty` at the end the JSON is indented.
 //! `per_show --help` names the types.
 #![tactic(auto)]
 
@@ -23,7 +23,7 @@ fn main(rt: HostRuntime) -> ExitCode {
             &mut rt.stdout(),
             &mut faults,
         ),
-        Err(fault) => report(fault, &mut faults),
+        Err(fault) => report(rt.alloc(), &fault, &mut faults),
     };
     ExitCode::from(status)
 }

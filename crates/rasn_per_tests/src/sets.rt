@@ -42,12 +42,13 @@ fn writes_and_reads_a_set_among_components(rt: HostRuntime) {
     expect_variants(&rt, rt.alloc(), &absent, &[0x40], &[0x40]);
 }
 
+/// No padding stands before a string of no bits (X.691 11.9.3.3), where the other encoder has some.
 const ALIGNED_BITS: &[&[u8]] = &[
     &[0x40],
     &[0x90, 0xc0],
     &[0xb0, 0x50],
     &[0xf0, 0xab],
-    &[0x80, 0x80],
+    &[0x88],
 ];
 
 const UNALIGNED_BITS: &[&[u8]] = &[&[0x40], &[0x9c], &[0xb5], &[0xfa, 0xb0], &[0x88]];

@@ -1,8 +1,11 @@
 //! What the program is asked to do.
 
+ghost use Rattle.std.specs.Prelude.{◌≡◌, ◌++◌, IfOk, map, string_bytes};
+ghost use Rattle.show_lines.specs.Requests.{layout_words, request_words};
+
 use crate::fault::Fault;
-use crate::names::{is_name, nearest};
-use per_lines::arguments::{Arguments, Form};
+use crate::names::{NAMES, nearest};
+use per_lines::arguments::{Arguments, Form, TypeName};
 use std::alloc::Global;
 
 /// How the JSON is laid out.
@@ -19,13 +22,15 @@ pub enum Layout {
 pub enum Request {
     /// To name its words and the types.
     Help,
-    /// To show what the lines spell. The form is one line or all.
+    /// To show what the input's first line spells, or all lines.
     Show(Arguments, Layout),
 }
 
 impl Request {
     /// What the words after the program's name ask for. A word that is no type's is told with the nearest that is.
-    pub fn of_words(alloc: Global, words: &[String]) -> Result<Request, Fault> {
+    pub fn of_words(alloc: Global, words: &[String]) -> Result<Request, Fault>
+        ensures { IfOk result (λ q. map string_bytes words.now ≡ request_words q) }
+    {
         if let [word] = words
             && word.as_str() == "--help"
         {
@@ -43,27 +48,25 @@ impl Request {
 }
 
 /// The layout that the last word asks for, and the words before it.
-fn layout_of_words(words: &[String]) -> (Layout, &[String]) {
-    match words.split_last() {
-        Some((last, others)) => {
-            if last.as_str() == "--pretty" {
-                (Layout::Pretty, others)
-            } else {
-                (Layout::Compact, words)
-            }
-        }
-        None => (Layout::Compact, words),
+fn layout_of_words(words: &[String]) -> (Layout, &[String])
+    ensures { map string_bytes words.now ≡ map string_bytes result.1.now ++ layout_words result.0 }
+{
+    if let [others @ .., last] = words
+        && last.as_str() == "--pretty"
+    {
+        return (Layout::Pretty, others);
     }
+    (Layout::Compact, words)
 }
 
 /// Why words ask for nothing.
 fn fault_of_words(alloc: Global, words: &[String]) -> Fault {
     match words {
         [_, name, ..] => {
-            if is_name(name.as_str()) {
+            if TypeName::of_word(name.as_str()).is_some() {
                 return Fault::WrongArguments;
             }
-            match nearest(alloc, name.as_str()) {
+            match nearest(alloc, "boolean", NAMES, name.as_str()) {
                 Ok(name) => Fault::UnknownType(name),
                 Err(_) => Fault::OutOfMemory,
             }

@@ -4,7 +4,6 @@
 pub mod arguments;
 pub mod fault;
 mod layout;
-mod names;
+pub mod names;
 pub mod run;
 mod show;
-mod streams;

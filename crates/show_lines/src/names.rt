@@ -1,5 +1,8 @@
 //! The words of the types that the program knows.
 
+ghost use Rattle.std.specs.Prelude.{◌∷◌, IfOk, map};
+ghost use Rattle.show_lines.specs.Nearest.{IsNearest};
+
 use std::alloc::{AllocError, Global};
 use strsim::levenshtein;
 
@@ -62,20 +65,22 @@ pub const NAMES: &[&str] = &[
     "dnest",
 ];
 
-/// Whether a word is one of the types'.
-pub fn is_name(word: &str) -> bool {
-    NAMES.iter().any(|name| *name == word)
-}
-
-/// The type's word that takes the fewest edits from another word, the first of several. The only error is want of
-/// memory.
-pub fn nearest(alloc: Global, word: &str) -> Result<&'static str, AllocError> {
-    let mut best = "boolean";
-    let mut fewest = usize::MAX;
-    for name in NAMES {
-        let edits = levenshtein(alloc, word, name)?;
+/// The name that is the fewest edits from a word, of a first one and of others: the first such. The only error is want
+/// of memory.
+pub fn nearest(
+    alloc: Global,
+    first: &'static str,
+    others: &[&'static str],
+    word: &str,
+) -> Result<&'static str, AllocError>
+    ensures { IfOk result (λ name. IsNearest (first.now ∷ map (λ s. s.now) others.now) word.now name.now) }
+{
+    let mut best = first;
+    let mut fewest = levenshtein(alloc, first, word)?;
+    for name in others {
+        let edits = levenshtein(alloc, name, word)?;
         if edits < fewest {
-            best = name;
+            best = *name;
             fewest = edits;
         }
     }

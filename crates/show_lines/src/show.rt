@@ -1,13 +1,16 @@
 //! From the octets of a value to its JSON.
 
-ghost use Rattle.std.specs.Prelude.{IfOk};
+ghost use Rattle.std.specs.Prelude.{◌≡◌, IfOk, IfErr};
 ghost use Rattle.per_lines.specs.Recoding.{schema_of};
-ghost use Rattle.show_lines.specs.Showing.{IsShown};
+ghost use Rattle.per_located.specs.Placed.{IsPlaced, unplaced};
+ghost use Rattle.rasn_per.specs.Calls.{Decoded};
+ghost use Rattle.show_lines.specs.Showing.{AreTold, IsAnswer, IsLaidOut, IsRefusal, IsReply, IsShown, IsUnanswered};
 
 use crate::arguments::Layout;
 use crate::fault::Fault;
 use crate::layout::pretty;
 use per_lines::arguments::{Arguments, TypeName};
+use per_located::{Refusal, aper, uper};
 use per_samples_a::absent::OneDefault;
 use per_samples_a::bounded::{OneToTenExtensible, ZeroTo65536};
 use per_samples_a::four::Four;
@@ -49,8 +52,7 @@ use per_samples_sets::set_optional::SetOptional;
 use rasn_below::codec::{Decode, Encode};
 use rasn_below::types::{BitString, Codec, Date, Integer, OctetString, SetOf, UtcTime};
 use rasn_jer::encode;
-use rasn_per::{aper, uper};
-use std::alloc::Global;
+use std::alloc::{AllocError, Global};
 
 /// The JSON of the value that a line of hexadecimal spells, with a line feed.
 pub fn show(
@@ -58,7 +60,10 @@ pub fn show(
     arguments: Arguments,
     layout: Layout,
     line: &[u8],
-) -> Result<Vec<u8>, Fault> {
+) -> Result<Vec<u8>, Fault>
+    ensures ok { IfOk result (λ answer. IsAnswer arguments layout line.now answer.items) }
+    ensures err { IfErr result (IsUnanswered arguments line.now) }
+{
     let octets = hex::decode(alloc, line)?;
     let text = shown(
         alloc,
@@ -66,21 +71,55 @@ pub fn show(
         arguments.type_name,
         octets.as_slice(),
     )?;
-    let mut text = match layout {
-        Layout::Compact => text,
-        Layout::Pretty => match std::str::from_utf8(text.as_slice()) {
-            Ok(characters) => pretty(alloc, characters)?,
-            Err(_) => text,
+    let mut answer = laid_out(alloc, layout, text)?;
+    answer.extend_from_slice(b"\n")?;
+    Ok(answer)
+}
+
+/// The reply to a line: its JSON, or `! ` and why it has none, and a line feed. The only error is want of memory.
+pub fn reply(
+    alloc: Global,
+    arguments: Arguments,
+    layout: Layout,
+    line: &[u8],
+) -> Result<Vec<u8>, AllocError>
+    ensures { IfOk result (λ text. IsReply arguments layout line.now text.items) }
+{
+    match show(alloc, arguments, layout, line) {
+        Ok(text) => Ok(text),
+        Err(fault) => refusal(alloc, &fault),
+    }
+}
+
+/// Why a line has no JSON, behind `! ` and with a line feed.
+fn refusal(alloc: Global, fault: &Fault) -> Result<Vec<u8>, AllocError>
+    ensures { IfOk result (λ text. AreTold fault.now text.items) }
+{
+    let told = fault.told(alloc)?;
+    let mut line = Vec::from_slice(alloc, b"! ")?;
+    line.extend_from_slice(told.as_bytes())?;
+    line.extend_from_slice(b"\n")?;
+    Ok(line)
+}
+
+/// A JSON text in a layout.
+fn laid_out(alloc: Global, layout: Layout, text: Vec<u8>) -> Result<Vec<u8>, AllocError>
+    ensures { IfOk result (λ laid. IsLaidOut layout text.items laid.items) }
+{
+    match layout {
+        Layout::Compact => Ok(text),
+        Layout::Pretty => match str::from_utf8(text.as_slice()) {
+            Ok(characters) => pretty(alloc, characters),
+            Err(_) => Ok(text),
         },
-    };
-    text.extend_from_slice(b"\n")?;
-    Ok(text)
+    }
 }
 
 /// The JSON of the value that octets spell, of a type and in the variant of a codec.
 #[tactic(auto, unfolding(rasn_below::specs::Types::interval_of))]
 fn shown(alloc: Global, codec: Codec, type_name: TypeName, octets: &[u8]) -> Result<Vec<u8>, Fault>
-    ensures { IfOk result (λ text. IsShown codec (schema_of type_name) octets.now text.items) }
+    ensures ok { IfOk result (λ text. IsShown codec (schema_of type_name) octets.now text.items) }
+    ensures err { IfErr result (IsRefusal codec (schema_of type_name) octets.now) }
 {
     match type_name {
         TypeName::Boolean => shown_as::<bool>(alloc, codec, octets),
@@ -147,12 +186,21 @@ fn shown_as<T: Encode + Decode>(
     codec: Codec,
     octets: &[u8],
 ) -> Result<Vec<u8>, Fault>
-    ensures { IfOk result (λ text. IsShown codec (T.schema T.CONSTRAINTS) octets.now text.items) }
+    ensures ok { IfOk result (λ text. IsShown codec (T.schema T.CONSTRAINTS) octets.now text.items) }
+    ensures err { IfErr result (IsRefusal codec (T.schema T.CONSTRAINTS) octets.now) }
 {
-    let value: T = match codec {
-        Codec::Aper => aper::decode(alloc, octets)?,
-        Codec::Uper => uper::decode(alloc, octets)?,
-    };
+    let value: T = read(alloc, codec, octets)?;
     let text = encode(alloc, &value)?;
     Ok(text)
+}
+
+/// The value that all octets spell in the variant of a codec, or why they are refused, and where.
+fn read<T: Decode>(alloc: Global, codec: Codec, octets: &[u8]) -> Result<T, Refusal>
+    ensures decoded { Decoded codec (T.schema T.CONSTRAINTS) T.value octets.now (unplaced codec result) }
+    ensures place { IfErr result (IsPlaced octets.now) }
+{
+    match codec {
+        Codec::Aper => aper::decode(alloc, octets),
+        Codec::Uper => uper::decode(alloc, octets),
+    }
 }

@@ -1,7 +1,8 @@
-use Rattle.std.proofs.Common.{ℕ, List, [], ◌∷◌, ◌++◌, Option, sym, ap, ◌∙◌, subst, append_assoc, append-nil, Result, Ok, Err, OnOk}
+use Rattle.std.proofs.Common.{ℕ, List, [], ◌∷◌, ◌++◌, Option, sym, ap, ◌∙◌, subst, append_assoc, append-nil}
 use Rattle.std.specs.Io.KnownBytes.{Appends}
 use Rattle.std.proofs.KnownBytes.{Appends-trans, Appends-kept}
 use Rattle.per_lines.specs.Faults.{AppendsFront}
+use Rattle.per_lines.proofs.OutputLaws.{on_ok}
 use Rattle.per_lines.proofs.output.write_line.Goals as goal
 
 -- a front of a text is one of its line
@@ -13,11 +14,6 @@ in_text a b text (front, rest, split, appended) =
 in_feed : (a b c : Option (List ℕ)) (text : List ℕ) → Appends a b text → AppendsFront b c (10 ∷ []) → AppendsFront a c (text ++ 10 ∷ [])
 in_feed a b c text whole (front, rest, split, appended) =
     (text ++ front, rest, ap (λ l. text ++ l) split ∙ sym (append_assoc text front rest), Appends-trans a b c text front whole appended)
-
--- what holds whatever a result is holds of a success
-on_ok : {A E : Type 0} {P : Type 0} (r : Result A E) → P → OnOk r P
-on_ok (Ok x) p = p
-on_ok (Err e) p = tt
 
 pub returns-in_err-write_front-clause-front : goal.returns-in_err-write_front-clause-front
 returns-in_err-write_front-clause-front g c =

@@ -1,0 +1,411 @@
+//! A decoder that knows where it stood when it refused.
+
+ghost use Rattle.std.specs.Prelude.{◌≡◌};
+
+pub use crate::extents::OpenAhead;
+use crate::path::Path;
+use crate::trail::{Frame, ListFrame, RecordFrame, Trail};
+use rasn_schema::choices::Choice;
+use rasn_schema::enumerated::Enumerated;
+use rasn_schema::fields::Constructed;
+use rasn_schema::schema::{Constraints, IntegerType};
+use rasn_strings::strings::StaticPermittedAlphabet;
+use rasn_times::civil::{CivilDate, GeneralizedMoment, UtcMoment};
+use rasn_traits::decoder::Decoder;
+use rasn_types::bit_string::BitString;
+use rasn_types::octet_strings::{Any, GeneralString, GraphicString, TeletexString, Utf8String};
+use rasn_types::types::{Codec, Tag};
+use std::alloc::Global;
+use std::marker::Model;
+
+/// A decoder of which shows where in a message it stands.
+pub trait Positioned: Decoder + Drop {
+    /// How many bits are left. Within an open type they are those of its contents.
+    fn left(&self) -> u128;
+
+    /// Whether the extension bit that is ahead is 1 (X.691 19.1, 23.5).
+    fn is_extended(&self) -> bool;
+
+    /// The open type of the next addition of a SEQUENCE, behind the bitmap of its additions where that is still ahead
+    /// (X.691 19.7 to 19.9).
+    fn addition_ahead(&self, bitmap: bool) -> OpenAhead;
+
+    /// The open type of an alternative behind the extension marker, behind the index of its CHOICE (X.691 23.8).
+    fn alternative_ahead<C: Choice>(&self) -> OpenAhead;
+}
+
+/// A decoder that knows where it stood when it refused. Each call is that of the decoder that it holds.
+#[derive(Drop)]
+pub struct Located<D: Positioned> {
+    inner: D,
+    trail: Trail,
+}
+
+impl<D: Positioned> Model for Located<D> {
+    ghost Value = { D };
+
+    ghost view = { λ l. l.inner };
+}
+
+impl<D: Positioned> Located<D> {
+    /// Holds a decoder that has read nothing of a message of so many bits.
+    pub fn new(inner: D, bits: u128) -> Self
+        ensures { result ≡ inner }
+    {
+        let trail = Trail::new(inner.alloc(), bits);
+        Located { inner, trail }
+    }
+
+    /// The way to the value that was refused, and how many bits stand in front of where the decoder stood then; or
+    /// where it stands, if none was refused.
+    pub fn into_place(mut self) -> (Path, u128) {
+        let left = self.inner.left();
+        self.trail.stop(left);
+        let bit = self.trail.bit();
+        let alloc = self.inner.alloc();
+        (self.trail.into_path(alloc), bit)
+    }
+
+    /// Answers what a call of the decoder answered, and stops where that is a refusal.
+    fn seen<T: Drop>(&mut self, answer: Result<T, D::Error>) -> Result<T, D::Error>
+        ensures same { result ≡ answer }
+        ensures state { self.new ≡ self.old }
+    {
+        if answer.is_err() {
+            let left = self.inner.left();
+            self.trail.stop(left);
+        }
+        answer
+    }
+
+    /// Enters a record of which the preamble was read, unless it was refused.
+    fn enter_record<C: Constructed>(
+        &mut self,
+        opened: &Result<D::Scope, D::Error>,
+        in_tag_order: bool,
+        extended: bool,
+    )
+        ensures { self.new ≡ self.old }
+    {
+        if opened.is_ok() {
+            let left = self.inner.left();
+            let frame = RecordFrame::new::<C>(in_tag_order, extended);
+            self.trail.enter(Frame::Record(frame), left);
+        }
+    }
+}
+
+impl<D: Positioned> Decoder for Located<D> {
+    type Error = D::Error;
+
+    type Octets = D::Octets;
+
+    type Scope = D::Scope;
+
+    type List = D::List;
+
+    type Addition = D::Addition;
+
+    type Alternative = D::Alternative;
+
+    ghost rules = { D.rules };
+
+    ghost opens = { D.opens };
+
+    ghost closes = { D.closes };
+
+    ghost opens_choice = { D.opens_choice };
+
+    ghost closes_choice = { D.closes_choice };
+
+    ghost unended_choice = { D.unended_choice };
+
+    ghost amid = { D.amid };
+
+    ghost most = { D.most };
+
+    ghost unended = { D.unended };
+
+    ghost opens_addition = { D.opens_addition };
+
+    ghost closes_addition = { D.closes_addition };
+
+    ghost unended_addition = { D.unended_addition };
+
+    ghost lends = { D.lends };
+
+    fn codec(&self) -> Codec {
+        self.inner.codec()
+    }
+
+    fn alloc(&self) -> Global {
+        self.inner.alloc()
+    }
+
+    fn out_of_memory(&mut self) -> D::Error {
+        let left = self.inner.left();
+        self.trail.stop(left);
+        self.inner.out_of_memory()
+    }
+
+    fn fail(&mut self) {
+        let left = self.inner.left();
+        self.trail.stop(left);
+        self.inner.fail()
+    }
+
+    fn decode_bool(&mut self, tag: Tag) -> Result<bool, D::Error> {
+        self.trail.begin();
+        let answer = self.inner.decode_bool(tag);
+        self.seen(answer)
+    }
+
+    fn decode_integer<I: IntegerType>(
+        &mut self,
+        tag: Tag,
+        constraints: &Constraints,
+    ) -> Result<I, D::Error> {
+        self.trail.begin();
+        let answer = self.inner.decode_integer(tag, constraints);
+        self.seen(answer)
+    }
+
+    fn decode_real(&mut self, tag: Tag, constraints: &Constraints) -> Result<(), D::Error> {
+        self.trail.begin();
+        let answer = self.inner.decode_real(tag, constraints);
+        self.seen(answer)
+    }
+
+    fn decode_null(&mut self, tag: Tag) -> Result<(), D::Error> {
+        self.trail.begin();
+        let answer = self.inner.decode_null(tag);
+        self.seen(answer)
+    }
+
+    fn decode_enumerated<E: Enumerated>(&mut self, tag: Tag) -> Result<E, D::Error> {
+        self.trail.begin();
+        let answer = self.inner.decode_enumerated(tag);
+        self.seen(answer)
+    }
+
+    fn decode_any(&mut self, tag: Tag) -> Result<Any, D::Error> {
+        self.trail.begin();
+        let answer = self.inner.decode_any(tag);
+        self.seen(answer)
+    }
+
+    fn decode_octet_string(
+        &mut self,
+        tag: Tag,
+        constraints: &Constraints,
+    ) -> Result<D::Octets, D::Error> {
+        self.trail.begin();
+        let answer = self.inner.decode_octet_string(tag, constraints);
+        self.seen(answer)
+    }
+
+    fn decode_bit_string(
+        &mut self,
+        tag: Tag,
+        constraints: &Constraints,
+    ) -> Result<BitString, D::Error> {
+        self.trail.begin();
+        let answer = self.inner.decode_bit_string(tag, constraints);
+        self.seen(answer)
+    }
+
+    fn decode_named_bits(
+        &mut self,
+        tag: Tag,
+        constraints: &Constraints,
+    ) -> Result<BitString, D::Error> {
+        self.trail.begin();
+        let answer = self.inner.decode_named_bits(tag, constraints);
+        self.seen(answer)
+    }
+
+    fn decode_known_multiplier_string<S: StaticPermittedAlphabet>(
+        &mut self,
+        tag: Tag,
+        constraints: &Constraints,
+    ) -> Result<S, D::Error> {
+        self.trail.begin();
+        let answer = self.inner.decode_known_multiplier_string(tag, constraints);
+        self.seen(answer)
+    }
+
+    fn decode_utf8_string(
+        &mut self,
+        tag: Tag,
+        constraints: &Constraints,
+    ) -> Result<Utf8String, D::Error> {
+        self.trail.begin();
+        let answer = self.inner.decode_utf8_string(tag, constraints);
+        self.seen(answer)
+    }
+
+    fn decode_general_string(
+        &mut self,
+        tag: Tag,
+        constraints: &Constraints,
+    ) -> Result<GeneralString, D::Error> {
+        self.trail.begin();
+        let answer = self.inner.decode_general_string(tag, constraints);
+        self.seen(answer)
+    }
+
+    fn decode_graphic_string(
+        &mut self,
+        tag: Tag,
+        constraints: &Constraints,
+    ) -> Result<GraphicString, D::Error> {
+        self.trail.begin();
+        let answer = self.inner.decode_graphic_string(tag, constraints);
+        self.seen(answer)
+    }
+
+    fn decode_teletex_string(
+        &mut self,
+        tag: Tag,
+        constraints: &Constraints,
+    ) -> Result<TeletexString, D::Error> {
+        self.trail.begin();
+        let answer = self.inner.decode_teletex_string(tag, constraints);
+        self.seen(answer)
+    }
+
+    fn decode_object_identifier(&mut self, tag: Tag) -> Result<Vec<u32>, D::Error> {
+        self.trail.begin();
+        let answer = self.inner.decode_object_identifier(tag);
+        self.seen(answer)
+    }
+
+    fn decode_utc_time<M: UtcMoment>(&mut self, tag: Tag) -> Result<M, D::Error> {
+        self.trail.begin();
+        let answer = self.inner.decode_utc_time(tag);
+        self.seen(answer)
+    }
+
+    fn decode_generalized_time<M: GeneralizedMoment>(&mut self, tag: Tag) -> Result<M, D::Error> {
+        self.trail.begin();
+        let answer = self.inner.decode_generalized_time(tag);
+        self.seen(answer)
+    }
+
+    fn decode_date<C: CivilDate>(&mut self, tag: Tag) -> Result<C, D::Error> {
+        self.trail.begin();
+        let answer = self.inner.decode_date(tag);
+        self.seen(answer)
+    }
+
+    fn open_sequence<C: Constructed>(&mut self, tag: Tag) -> Result<D::Scope, D::Error> {
+        self.trail.begin();
+        let extended = C::IS_EXTENSIBLE && self.inner.is_extended();
+        let answer = self.inner.open_sequence::<C>(tag);
+        self.enter_record::<C>(&answer, false, extended);
+        self.seen(answer)
+    }
+
+    fn close_sequence(&mut self, scope: D::Scope) -> Result<(), D::Error> {
+        self.trail.pause();
+        let answer = self.inner.close_sequence(scope);
+        if answer.is_ok() {
+            self.trail.leave();
+        }
+        self.seen(answer)
+    }
+
+    fn open_set<C: Constructed>(&mut self, tag: Tag) -> Result<D::Scope, D::Error> {
+        self.trail.begin();
+        let extended = C::IS_EXTENSIBLE && self.inner.is_extended();
+        let answer = self.inner.open_set::<C>(tag);
+        self.enter_record::<C>(&answer, true, extended);
+        self.seen(answer)
+    }
+
+    fn open_choice<C: Choice>(&mut self) -> Result<(Tag, D::Alternative), D::Error> {
+        self.trail.begin();
+        let open = self.inner.alternative_ahead::<C>();
+        let answer = self.inner.open_choice::<C>();
+        if let Ok(opened) = &answer {
+            let place = C::VARIANTS.place_of(&C::EXTENDED_VARIANTS, opened.0);
+            let left = self.inner.left();
+            self.trail.enter_alternative::<C>(&place, open, left);
+        }
+        self.seen(answer)
+    }
+
+    fn close_choice(&mut self, alternative: D::Alternative) -> Result<(), D::Error> {
+        let answer = self.inner.close_choice(alternative);
+        if answer.is_ok() {
+            self.trail.leave();
+        }
+        self.seen(answer)
+    }
+
+    fn next_presence(&mut self) -> Result<bool, D::Error> {
+        self.trail.pause();
+        let answer = self.inner.next_presence();
+        if let Ok(false) = &answer {
+            self.trail.skip();
+        }
+        self.seen(answer)
+    }
+
+    fn open_addition(&mut self) -> Result<Option<D::Addition>, D::Error> {
+        let bitmap = self.trail.has_bitmap_ahead();
+        let before = self.inner.left();
+        let open = self.inner.addition_ahead(bitmap);
+        self.trail.begin_addition();
+        let answer = self.inner.open_addition();
+        match &answer {
+            Ok(Some(_)) => self.trail.enter_addition(open),
+            Err(_) if bitmap && self.inner.left() == before => self.trail.pause(),
+            _ => {}
+        }
+        self.seen(answer)
+    }
+
+    fn close_addition(&mut self, addition: D::Addition) -> Result<(), D::Error> {
+        let answer = self.inner.close_addition(addition);
+        if answer.is_ok() {
+            self.trail.leave_addition();
+        }
+        self.seen(answer)
+    }
+
+    fn open_list(&mut self, tag: Tag, constraints: &Constraints) -> Result<D::List, D::Error> {
+        self.trail.begin();
+        let answer = self.inner.open_list(tag, constraints);
+        if answer.is_ok() {
+            let left = self.inner.left();
+            self.trail.enter(Frame::List(ListFrame::new()), left);
+        }
+        self.seen(answer)
+    }
+
+    fn next_element(&mut self, list: &mut D::List) -> Result<bool, D::Error> {
+        self.trail.pause();
+        let answer = self.inner.next_element(list);
+        match &answer {
+            Ok(true) => self.trail.begin_element(),
+            Ok(false) => self.trail.leave(),
+            Err(_) => {}
+        }
+        self.seen(answer)
+    }
+
+    ghost lawful = { D.lawful };
+
+    ghost errors = { D.errors };
+
+    ghost scopes = { D.scopes };
+
+    ghost additions = { D.additions };
+
+    ghost choices = { D.choices };
+
+    ghost sets = { D.sets };
+
+    ghost bags = { D.bags };
+}

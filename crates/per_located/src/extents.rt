@@ -1,0 +1,42 @@
+//! Which bits of a message a decoder has left, whose open types hide what stands behind them.
+
+/// An open type that is still to be read (X.691 11.2).
+#[derive(Clone, Copy)]
+pub enum OpenAhead {
+    /// So many bits stand behind its contents.
+    InPlace(u128),
+    /// Its contents are in fragments, or there are none, and from its first length on there are so many bits.
+    Gathered(u128),
+}
+
+/// Where the bits end that a decoder has left.
+#[derive(Clone, Copy)]
+pub(crate) enum Extent {
+    /// In front of so many last bits of the message.
+    Before(u128),
+    /// They are those of an open type in fragments, in front of which so many bits stand.
+    Gathered(u128),
+}
+
+impl Extent {
+    /// How many of the message's bits stand in front of the last `left` ones here.
+    pub(crate) fn position(self, bits: u128, left: u128) -> u128 {
+        match self {
+            Extent::Before(behind) => bits.saturating_sub(behind).saturating_sub(left),
+            Extent::Gathered(bit) => bit,
+        }
+    }
+
+    /// Where the contents of an open type end that stands here, in a message of so many bits.
+    pub(crate) fn of_contents(self, bits: u128, open: OpenAhead) -> Extent {
+        match (self, open) {
+            (Extent::Before(behind), OpenAhead::InPlace(left)) => {
+                Extent::Before(behind.saturating_add(left))
+            }
+            (Extent::Before(_), OpenAhead::Gathered(left)) => {
+                Extent::Gathered(self.position(bits, left))
+            }
+            (Extent::Gathered(bit), _) => Extent::Gathered(bit),
+        }
+    }
+}

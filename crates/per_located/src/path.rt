@@ -1,0 +1,44 @@
+//! Where a value stands in another.
+
+use std::fmt;
+
+/// A step from a value to one that stands in it (X.680 15).
+#[derive(Clone, Copy, Debug, PartialEq, Eq)]
+pub enum Step {
+    /// To the component of a SEQUENCE or a SET, or the alternative of a CHOICE, by its identifier. An addition group,
+    /// which has none in ASN.1, goes by its name in the type's list.
+    Named(&'static str),
+    /// To the element of a SEQUENCE OF or a SET OF, by its number from 1 on.
+    Element(usize),
+}
+
+impl fmt::Display for Step {
+    fn fmt<W: fmt::Write>(&self, f: &mut fmt::Formatter<W>) -> fmt::Result {
+        match self {
+            Step::Named(name) => f.write_str(name),
+            Step::Element(number) => write!(f, "{number}"),
+        }
+    }
+}
+
+/// The steps from a whole message to a value in it: none to the message itself.
+#[derive(Debug, Drop, PartialEq, Eq)]
+pub struct Path {
+    /// The steps, the first one from the message.
+    pub steps: Vec<Step>,
+}
+
+/// Prints the steps with a full stop between two of them (X.680 15), such as `protocolIEs.3.value`.
+impl fmt::Display for Path {
+    fn fmt<W: fmt::Write>(&self, f: &mut fmt::Formatter<W>) -> fmt::Result {
+        let mut is_first = true;
+        for step in &self.steps {
+            if !is_first {
+                f.write_str(".")?;
+            }
+            is_first = false;
+            write!(f, "{step}")?;
+        }
+        Ok(())
+    }
+}

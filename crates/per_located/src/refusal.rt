@@ -1,0 +1,33 @@
+//! What is told of octets that are refused.
+
+use crate::path::Path;
+use per_read::error::DecodeErrorKind;
+use std::fmt;
+
+/// Why octets were refused, and where. Where memory for the path ran out, path and bit are those where that happened.
+#[derive(Debug, Drop, PartialEq, Eq)]
+pub struct Refusal {
+    /// What was wrong.
+    pub kind: DecodeErrorKind,
+    /// The component that was refused: the innermost one that had begun.
+    pub path: Path,
+    /// How many bits stand in front of where the reader stood: of the field that was refused, of what is left over
+    /// behind the last one, or of the end of a list whose size doesn't allow its count. Within an open type in
+    /// fragments, which stands nowhere as a whole, they are those in front of its first length.
+    pub bit: u128,
+    /// How many bits the octets have.
+    pub bits: u128,
+}
+
+/// Prints the kind's name and the place, such as `Incomplete at nas-PDU, bit 1190 of 1200`.
+impl fmt::Display for Refusal {
+    fn fmt<W: fmt::Write>(&self, f: &mut fmt::Formatter<W>) -> fmt::Result {
+        let (bit, bits) = (self.bit, self.bits);
+        f.write_str(self.kind.name())?;
+        f.write_str(" at ")?;
+        if !self.path.steps.is_empty() {
+            write!(f, "{}, ", self.path)?;
+        }
+        write!(f, "bit {bit} of {bits}")
+    }
+}
