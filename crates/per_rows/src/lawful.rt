@@ -6,14 +6,15 @@ rasn_schema::specs::Lawful::IsLawful, rasn_schema::specs::Depth::meets_cut,
 rasn_schema::specs::Lawful::is_value, rasn_schema::specs::Normal::normal))]
 
 ghost use Rattle.std.specs.Prelude.{◌^◌, ◌-◌, [], ◌∷◌, false, true, Some, None, pos};
-ghost use Rattle.rasn_types.specs.Values.{whole, truth};
+ghost use Rattle.rasn_types.specs.Values.{whole, truth, bits};
 ghost use Rattle.rasn_constraints.specs.Ranges.{unsigned_range};
 ghost use Rattle.rasn_schema.specs.Forms.{always};
 ghost use Rattle.rasn_schema.specs.Lawful.{IsLawful, IsLawfulType};
-ghost use Rattle.rasn_constraints.specs.Bounds.{between};
+ghost use Rattle.rasn_constraints.specs.Bounds.{any_size, between};
 ghost use Rattle.rasn_schema.specs.Schemas.{Schema, one_of, tree, no_trees, required, optional, group, default, listed};
 ghost use Rattle.rasn_schema.specs.Schemas.{no_parts};
-ghost use Rattle.per_rows.specs.Build.{integer, integer_in, sized, octet_string, sequence_with, extensible_sequence};
+ghost use Rattle.per_rows.specs.Build.{integer, integer_in, sized, octet_string, bit_string, named_bits};
+ghost use Rattle.per_rows.specs.Build.{sequence_with, extensible_sequence};
 ghost use Rattle.per_rows.specs.Build.{members, set, context, extended_with, record_with};
 ghost use Rattle.per_rows.specs.Samples.{with_default, b_before_a, untagged_member, x_y_or_z, outer3, with_group, nest};
 ghost use Rattle.per_rows.specs.Samples.{deep};
@@ -87,6 +88,18 @@ pub fn default_is_in_normal_form()
           (extended_with (Some (truth true) ∷ []) (Some (record_with (None ∷ [])) ∷ [])),
       with_group,
     ) ∷ []))) }
+{}
+
+/// A default is in normal form: 01 of BIT STRING { a(0), b(1) }, and not 010, which only bits without names may have.
+pub fn default_of_named_bits_ends_with_a_one()
+    ensures shortest { IsLawful (sequence_with ((default (bits (false ∷ true ∷ [])), named_bits any_size) ∷ [])) }
+    ensures longer { ¬ (IsLawful (sequence_with ((
+      default (bits (false ∷ true ∷ false
+          ∷ [])),
+      named_bits any_size,
+    ) ∷ []))) }
+    ensures without_names { IsLawful (sequence_with ((default (bits (false ∷ true ∷ false ∷ [])), bit_string any_size)
+        ∷ [])) }
 {}
 
 /// An addition group is a SEQUENCE, and stands among the additions (X.680, 25.1).

@@ -6,11 +6,10 @@ ghost use Rattle.std.specs.Prelude.{◌≡◌, [], ◌∷◌, ◌++◌, replicat
 ghost use Rattle.rasn_types.specs.Values.{bits};
 ghost use Rattle.rasn_types.specs.Variants.{aligned, unaligned};
 ghost use Rattle.rasn_constraints.specs.Bounds.{any_size};
-ghost use Rattle.rasn_schema.specs.Lawful.{IsLawful};
 ghost use Rattle.rasn_schema.specs.Normal.{normal};
-ghost use Rattle.rasn_schema.specs.Schemas.{Schema, default};
+ghost use Rattle.rasn_schema.specs.Schemas.{Schema};
 ghost use Rattle.per_core.specs.Canon.{bytes};
-ghost use Rattle.per_rows.specs.Build.{bit_string, named_bits, sequence_with, sized};
+ghost use Rattle.per_rows.specs.Build.{bit_string, named_bits, sized};
 
 /// BIT STRING { a(0), b(1) }: of 0100 the two bits 01, and of 000 none; without names all four.
 pub fn named_bits_end_with_a_one()
@@ -52,17 +51,4 @@ pub fn named_bits_past_an_extensible_size()
         bytes unaligned s (normal s (bits (false ∷ true ∷ replicate 7 false))) ≡ Some (0x20 ∷ []) }
     ensures past { let s = Schema.bit_string (sized 4 4) true true in
         bytes unaligned s (normal s (bits (replicate 4 false ++ true ∷ false ∷ []))) ≡ Some (0x82 ∷ 0x84 ∷ []) }
-{}
-
-/// A default is in normal form: 01 of BIT STRING { a(0), b(1) }, and not 010, which only bits without names may have.
-#[tactic(auto, unfolding(rasn_schema::specs::Lawful::IsLawful, rasn_schema::specs::Lawful::is_value, rasn_schema::specs::Depth::meets_cut, rasn_schema::specs::Normal::normal))]
-pub fn default_of_named_bits_ends_with_a_one()
-    ensures shortest { IsLawful (sequence_with ((default (bits (false ∷ true ∷ [])), named_bits any_size) ∷ [])) }
-    ensures longer { ¬ (IsLawful (sequence_with ((
-      default (bits (false ∷ true ∷ false
-          ∷ [])),
-      named_bits any_size,
-    ) ∷ []))) }
-    ensures without_names { IsLawful (sequence_with ((default (bits (false ∷ true ∷ false ∷ [])), bit_string any_size)
-        ∷ [])) }
 {}

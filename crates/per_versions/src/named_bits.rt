@@ -1,5 +1,6 @@
-//! What an older and a newer type's `decode` answer to the same octets where bits have names in either alone (X.680, 22,
-//! 52). Of what is encoded again there are no such laws, since the zero bits at the end of bits that have names then go.
+//! What an older and a newer type's `decode` answer to the same octets where bits have names in either alone (X.680,
+//! 22, 52). Of what is encoded again there are no such laws, since zero bits at the end of bits that have names then
+//! go.
 
 ghost use Rattle.std.specs.Prelude.{Bool, List, ℕ, Result, Ok};
 ghost use Rattle.rasn_types.specs.declared.types.Codec.{Codec};

@@ -55,8 +55,8 @@ pub fn components_stay_as_they_are()
         ≡ in_element (in_root (at_place 0 other_size)) }
 {}
 
-/// Bits have names now, or have none now: of what is passed on zero bits at the end then go, which an older reader tells
-/// apart (X.680, 22.7). It still reads the same bits, by the laws of `named_bits`.
+/// Bits have names now, or have none now: of what is passed on zero bits at the end then go, which an older reader
+/// tells apart (X.680, 22.7). It still reads the same bits, by the laws of `named_bits`.
 pub fn bits_stay_with_names_or_without()
     ensures put_in { comparison (sequence_at (automatic (named_bits any ∷ [])))
         (sequence_at (automatic (bit_string any ∷ []))) ≡ in_root (at_place 0 other_kind) }
