@@ -8,7 +8,13 @@ use std::process::Abort;
 
 /// Arguments, the input, and what is printed, told and answered.
 const ROWS: &[(&str, &str, &str, &str, u8)] = &[
-    ("uper outer1", "40\nzz\n", "{\"first\":true,\"second\":false}\n", "", 0),
+    (
+        "uper outer1",
+        "40\nzz\n",
+        "{\"first\":true,\"second\":false}\n",
+        "",
+        0,
+    ),
     (
         "uper outer1 lines",
         "40\r\nzz\n\n40",
@@ -23,9 +29,27 @@ const ROWS: &[(&str, &str, &str, &str, u8)] = &[
         "",
         0,
     ),
-    ("aper null lines --pretty", "00\n00\n", "null\nnull\n", "", 0),
-    ("uper bolean", "80", "", "unknown type; the nearest is boolean\n", 2),
-    ("uper setchoise lines", "80", "", "unknown type; the nearest is setchoice\n", 2),
+    (
+        "aper null lines --pretty",
+        "00\n00\n",
+        "null\nnull\n",
+        "",
+        0,
+    ),
+    (
+        "uper bolean",
+        "80",
+        "",
+        "unknown type; the nearest is boolean\n",
+        2,
+    ),
+    (
+        "uper setchoise lines",
+        "80",
+        "",
+        "unknown type; the nearest is setchoice\n",
+        2,
+    ),
     ("per boolean", "80", "", USAGE, 2),
     ("uper boolean zero", "80", "", USAGE, 2),
     ("uper", "80", "", USAGE, 2),

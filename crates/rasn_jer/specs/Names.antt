@@ -1,5 +1,5 @@
--- The names of errors; and the identifiers of items and alternatives, in the order of a type's lists (ITU-T X.697): those before an extension
--- marker, and behind them those after it.
+-- The names of errors; and the identifiers of items and alternatives, in the order of a type's lists (ITU-T X.697):
+-- those before an extension marker, and behind them those after it.
 use Rattle.std.specs.Prelude.{ℕ, ◌≡◌, ◌+◌, List, length, slice_get, Option, Some, None, codes, decimal}
 use Rattle.rasn_types.specs.Values.{Value, item, root, added}
 use Rattle.rasn_schema.specs.Choices.{place_of, VariantShape, variants_behind}

@@ -104,8 +104,8 @@ pub fn decimal<A: Allocator>(alloc: A, number: i128) -> Result<Vec<u8, A>, Alloc
     Vec::from_slice(alloc, buffer.format(number).as_bytes())
 }
 
-/// An item of an ENUMERATED by its identifier among those of its type (X.697, ENUMERATED). Where the type gives none, by
-/// its number: the items before the extension marker count from 0, and those behind it go on.
+/// An item of an ENUMERATED by its identifier among those of its type (X.697, ENUMERATED). Where the type gives none,
+/// by its number: the items before the extension marker count from 0, and those behind it go on.
 pub fn item<A: Allocator, E: Enumerated>(
     alloc: A,
     identifiers: &[&str],
@@ -179,8 +179,8 @@ pub fn bits<A: Allocator + Copy>(
     Ok(writer.into_inner())
 }
 
-/// Bits that have names, in their normal form: without the zero bits at their end, and then with zero bits up to `least`
-/// bits (X.680 22.7; X.691 16.2).
+/// Bits that have names, in their normal form: without the zero bits at their end, and then with zero bits up to
+/// `least` bits (X.680 22.7; X.691 16.2).
 pub fn named_bits<A: Allocator + Copy>(
     alloc: A,
     value: &BitString,
