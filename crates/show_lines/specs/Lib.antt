@@ -1,5 +1,0 @@
-pub mod Nearest
-pub mod Printing
-pub mod Requests
-pub mod Showing
-pub mod Told
