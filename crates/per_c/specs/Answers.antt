@@ -7,7 +7,8 @@ use Rattle.per_lines.specs.declared.fault.Fault.{Fault}
 use Rattle.per_lines.specs.declared.fault.Fault.TheVariants as Faults
 use Rattle.per_lines.specs.Recoding.{Recodes, IsRefusal, schema_of, reader_of}
 use Rattle.per_c.specs.declared.refusal.Refusal.{Refusal}
-use Rattle.per_c.specs.declared.refusal.Refusal.TheVariants.{OutOfMemory, UnknownOptions, UnknownType, NoRoom, Decode, Encode}
+use Rattle.per_c.specs.declared.refusal.Refusal.TheVariants.{OutOfMemory, UnknownOptions, UnknownType, NoRoom}
+use Rattle.per_c.specs.declared.refusal.Refusal.TheVariants.{Decode, Encode}
 use Rattle.per_c.specs.Numbers.{options_number, types, code_of}
 
 -- the numbers ask for this

@@ -26,7 +26,8 @@ use Rattle.per_write.specs.Names.{name_of as encode_name}
 use Rattle.per_write.specs.declared.error.EncodeErrorKind.{EncodeErrorKind}
 use Rattle.per_write.specs.declared.error.EncodeErrorKind.TheVariants as Encoding
 use Rattle.per_c.specs.declared.refusal.Refusal.{Refusal}
-use Rattle.per_c.specs.declared.refusal.Refusal.TheVariants.{OutOfMemory, UnknownOptions, UnknownType, NoRoom, Decode, Encode}
+use Rattle.per_c.specs.declared.refusal.Refusal.TheVariants.{OutOfMemory, UnknownOptions, UnknownType, NoRoom}
+use Rattle.per_c.specs.declared.refusal.Refusal.TheVariants.{Decode, Encode}
 
 -- X.691 7: a variant, and padding and spare bits of any value or of zeros alone
 abbrev pub options_number : Codec → Padding → ℕ
