@@ -4,6 +4,7 @@ ghost use Rattle.std.specs.Prelude.{◌≡◌, ◌≤◌, ◌*◌, length};
 
 use crate::decoder::Located;
 use crate::refusal::Refusal;
+use per_bits::BitReader;
 use per_de::{Decoder, DecoderOptions};
 use per_read::error::DecodeErrorKind;
 use rasn_codec::codec::Decode;
@@ -20,7 +21,7 @@ pub(crate) fn refusal<T: Decode>(
     ensures bits { result.bits ≡ 8 * length octets.now }
     ensures within { result.bit ≤ result.bits }
 {
-    let bits = 8 * octets.len() as u128;
+    let bits = BitReader::from_octets(octets).len();
     let inner = Decoder::from_octets(alloc, octets, options);
     let mut decoder = Located::new(inner, bits);
     let _ = T::decode(&mut decoder);
