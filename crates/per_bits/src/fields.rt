@@ -87,8 +87,8 @@ pub(crate) fn read_wide_field(octets: &[u8], skip: u32, count: u32) -> u128
     value
 }
 
-/// Answers how many bits are spare once there are enough for 128 more, of which the last are written as a word. The only
-/// error is want of memory, and then nothing changes.
+/// Answers how many bits are spare once there are enough for 128 more, of which the last are written as a word. The
+/// only error is want of memory, and then nothing changes.
 #[inline(always)]
 pub(crate) fn with_room<A: Allocator>(
     octets: &mut Vec<u8, A>,
@@ -126,8 +126,8 @@ pub(crate) fn cut_back<A: Allocator>(octets: &mut Vec<u8, A>, spare: u32) -> u32
     spare % 8
 }
 
-/// Puts the low `width` bits of `value` in the place of the first spare bits. A word of eight octets is written over the
-/// octet in which the first of these stands and those behind it.
+/// Puts the low `width` bits of `value` in the place of the first spare bits. A word of eight octets is written over
+/// the octet in which the first of these stands and those behind it.
 #[inline(always)]
 fn put_field<A: Allocator>(octets: &mut Vec<u8, A>, spare: u32, value: u64, width: u32)
     requires kept { AreKept spare octets.old.items }

@@ -22,8 +22,8 @@ pub fn named_bits_are_told_apart_without_zeros_at_their_ends()
         ↔ MeanTheSame bs cs }
 {}
 
-/// The normal form of bits that have names is the same but for zero bits at its end, and the shortest of those bits that
-/// mean the same and whose count the size allows, wherever there are any (X.691, 16.2).
+/// The normal form of bits that have names is the same but for zero bits at its end, and the shortest of those bits
+/// that mean the same and whose count the size allows, wherever there are any (X.691, 16.2).
 pub fn normal_form_of_named_bits_is_the_shortest_that_the_size_allows()
     ensures same { (size : Size) (mark : Bool) (bs ns : Bits) →
         normal (Schema.bit_string size mark true) (bits bs) ≡ bits ns → MeanTheSame bs ns }

@@ -80,8 +80,8 @@ pub struct AddedTo<T, P> {
     pub cells: P,
 }
 
-/// Additions of a record, and the lists that state their tags and constraints. One that has no constraints in the list has
-/// its type's own.
+/// Additions of a record, and the lists that state their tags and constraints. One that has no constraints in the list
+/// has its type's own.
 #[derive(Drop)]
 pub struct ListedAdditions<P> {
     /// The lists of the record's fields.

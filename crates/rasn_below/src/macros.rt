@@ -326,8 +326,8 @@ macro_rules! decode_each_component {
     }};
 }
 
-/// A callback's call with the places from 0 in brackets before its arguments. It is a macro of this crate, or of the one
-/// that is named behind `in`.
+/// A callback's call with the places from 0 in brackets before its arguments. It is a macro of this crate, or of the
+/// one that is named behind `in`.
 #[macro_export]
 macro_rules! with_places {
     ($name:ident in $of:tt $($arguments:tt)*) => {

@@ -1,6 +1,6 @@
-//! What an author's list of the components of a SET is handed to, beside `fields` and `bounds`. Its lines are those of a
-//! SEQUENCE's list, and those of the root stand in ascending order of the components' smallest tags (X.680 8.6): the order
-//! in which they are written (X.691 21.1).
+//! What an author's list of the components of a SET is handed to, beside `fields` and `bounds`. Its lines are those of
+//! a SEQUENCE's list, and those of the root stand in ascending order of the components' smallest tags (X.680 8.6): the
+//! order in which they are written (X.691 21.1).
 
 /// Root components as cells, with the lists that state them.
 #[macro_export]
@@ -26,8 +26,8 @@ macro_rules! listed_additions {
     };
 }
 
-/// Writes the root components of a list in turn, and then gives its additions. Their fields are in the constant `FIELDS`,
-/// their constraints in `BOUNDS`.
+/// Writes the root components of a list in turn, and then gives its additions. Their fields are in the constant
+/// `FIELDS`, their constraints in `BOUNDS`.
 #[macro_export]
 macro_rules! encode_set_components {
     ([$of:ident $encoder:ident] $(
@@ -43,8 +43,8 @@ macro_rules! encode_set_components {
     };
 }
 
-/// Reads the root components of a list in turn, and then its additions. Their fields are in the constant `FIELDS`, their
-/// constraints in `BOUNDS`.
+/// Reads the root components of a list in turn, and then its additions. Their fields are in the constant `FIELDS`,
+/// their constraints in `BOUNDS`.
 #[macro_export]
 macro_rules! decode_set_components {
     ([$decoder:ident] $(

@@ -5,7 +5,7 @@ use Rattle.std.proofs.lemmas.List.{drop_more}
 use Rattle.rasn_schema.specs.Fields.{and_tree, choice_tree, tag_of, tree_of, tree_step, trees_of}
 use Rattle.rasn_schema.specs.Lawful.{leaves, leaves_of, same_tag}
 use Rattle.rasn_schema.specs.Schemas
-use Rattle.rasn_schema.specs.Schemas.{Tag, TagTrees, leaf, one_of, no_trees, tree, tag_less, lesser, smallest, least_of}
+use Rattle.rasn_schema.specs.Schemas.{Tag, TagTrees, leaf, one_of, no_trees, tree, lesser, smallest, least_of}
 use Rattle.rasn_schema.specs.TreeTags.{has_tag, least, leaves_in, leaves_step, lesser_there, one_after_another}
 use Rattle.rasn_schema.specs.declared.fields.TagTree.{TagTree}
 use Rattle.rasn_schema.specs.declared.fields.TagTree.TheViews.{roll-TagTree}

@@ -1,6 +1,6 @@
 -- The components of a record, and the words in which a schema's author lists them:
 -- `automatic (integer u8 (0 to 255) ∷ ia5_string (size 1 to 16) ∷ [])`.
-use Rattle.std.specs.Prelude.{◌≡◌, ℕ, zero, suc, ℤ, pos, neg_ℤ, Bool, true, false, List, [], ◌∷◌, drop, length, Option}
+use Rattle.std.specs.Prelude.{◌≡◌, ℕ, zero, suc, ℤ, pos, neg_ℤ, Bool, true, false, List, [], ◌∷◌, length, Option}
 use Rattle.std.specs.Prelude.{Some, None, refl}
 use Rattle.rasn_types.specs.Alphabets.{visible, ia5, printable, numeric, bmp}
 use Rattle.rasn_types.specs.Contents.{utf8}

@@ -9,7 +9,7 @@ use Rattle.rasn_schema.specs.Choices.{VariantShape, choice_at, tree_with, trees_
 use Rattle.rasn_schema.specs.Laws.Choices.{tree_described}
 use Rattle.rasn_schema.specs.Fields.{choice_tree, tagged}
 use Rattle.rasn_schema.specs.Schemas
-use Rattle.rasn_schema.specs.Schemas.{Schema, Parts, Order, listed, by_tag, part, leaf, one_of, tree}
+use Rattle.rasn_schema.specs.Schemas.{Schema, Parts, listed, by_tag, part, leaf, one_of, tree}
 use Rattle.rasn_schema.specs.Records.{record_at}
 
 -- X.680 8.4, table 1: the universal numbers of the types of a kind. Several string types are of one kind. A CHOICE

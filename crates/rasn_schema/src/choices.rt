@@ -43,7 +43,7 @@ pub struct VariantLists {
     /// The tags of each alternative behind the extension marker, at its index. There is a marker exactly where this is
     /// `Some`.
     pub added: Option<&'static [TagTree]>,
-    /// The identifier of each alternative, in the order of the lists: the root's, and behind them those behind the marker.
+    /// The identifier of each alternative, in the order of the lists: the root's, and then those behind the marker.
     pub identifiers: &'static [&'static str],
 }
 

@@ -1,5 +1,5 @@
 -- How the law of a SET follows from that of the SEQUENCE of its components in the order of their tags, over any encoder.
-use Rattle.std.proofs.Common.{◌≡◌, refl, sym, ap, ◌∙◌, subst, ℕ, suc, inl, inr, Bool, Result, Ok, Err, List, length, Option, arith}
+use Rattle.std.proofs.Common.{◌≡◌, sym, ap, ◌∙◌, subst, ℕ, suc, inl, inr, Bool, Result, Ok, Err, List, length, Option, arith}
 use Rattle.rasn_types.specs.Values.{Value}
 use Rattle.rasn_schema.specs.Canonised.{canonised, canonised_at, canonised_slots}
 use Rattle.rasn_schema.specs.Normal.{normal, normals}

@@ -1,5 +1,5 @@
 -- How the law of a record follows from those of its components and of its scope, over any encoder.
-use Rattle.std.proofs.Common.{◌≡◌, refl, ap, ℕ, zero, suc, ◌≤◌, ◌⊎◌, inl, inr, Bool, true, false, Result, Ok, Err, List, [], ◌∷◌, length, Option, Some, None, arith, le_trans}
+use Rattle.std.proofs.Common.{◌≡◌, refl, ℕ, zero, suc, ◌≤◌, ◌⊎◌, inl, inr, Bool, true, false, Result, Ok, Err, List, [], ◌∷◌, length, Option, Some, None, arith, le_trans}
 use Rattle.rasn_types.specs.Values.{Value}
 use Rattle.rasn_types.proofs.Values.{slots-as_slots}
 use Rattle.rasn_schema.specs.Schemas.{TagTree, Presence, required, listed, by_tag, count, Order, Schema, Parts, no_parts, part}
