@@ -10,9 +10,9 @@ ghost use Rattle.rasn_record.specs.Slots.{slot_levels};
 
 use crate::{ExtensionDecoder, ExtensionEncoder};
 use rasn_codec::codec::{Decode, Decoder, DecoderExt, Encode, Encoder};
+use rasn_defaults::DefaultOf;
 use rasn_record::cells::ByType;
 use rasn_record::components::{Default, Optional};
-use rasn_record::defaults::DefaultOf;
 use rasn_schema::fields::AdditionGroup;
 use rasn_schema::schema::{AsnType, Constraints};
 use rasn_types::types::Tag;

@@ -19,13 +19,13 @@ pub use rasn_codec::alternatives::CodedAlternatives;
 pub use rasn_codec::codec::{Decode, Decoder, Encode, Encoder};
 pub use rasn_codec::kinds::ByKind;
 pub use rasn_codec::record::Record;
+pub use rasn_defaults::DefaultOf;
+pub use rasn_defaults::bits::Bits;
+pub use rasn_defaults::items::Item;
+pub use rasn_defaults::lists::EmptyList;
+pub use rasn_defaults::octets::Octets;
+pub use rasn_defaults::texts::{Text, Utf8Text};
 pub use rasn_record::bounds::{BoundLists, Bounds};
-pub use rasn_record::defaults::DefaultOf;
-pub use rasn_record::defaults::bits::Bits;
-pub use rasn_record::defaults::items::Item;
-pub use rasn_record::defaults::lists::EmptyList;
-pub use rasn_record::defaults::octets::Octets;
-pub use rasn_record::defaults::texts::{Text, Utf8Text};
 pub use rasn_record::{
     alternatives, by_place, cells, components, few, fours, read, sixteen, write,
 };

@@ -3,4 +3,3 @@ pub mod Lists
 pub mod Places
 pub mod Sixteens
 pub mod Slots
-pub mod Told

@@ -7,8 +7,8 @@ ghost use Rattle.rasn_traits.specs.Optionals.{ReadsComponent};
 ghost use Rattle.rasn_traits.specs.Presences.{slot_of};
 ghost use Rattle.rasn_record.specs.Slots.{IsComponent, WritesComponent, slot_levels};
 
-use crate::defaults::DefaultOf;
 use rasn_codec::codec::{Decode, Decoder, DecoderExt, Encode, Encoder, EncoderExt};
+use rasn_defaults::DefaultOf;
 use rasn_schema::schema::{AsnType, Constraints};
 use rasn_types::types::Tag;
 use std::marker::PhantomData;

@@ -7,7 +7,6 @@ pub mod bounds;
 pub mod by_place;
 pub mod cells;
 pub mod components;
-pub mod defaults;
 pub mod few;
 pub mod fields;
 pub mod fours;
