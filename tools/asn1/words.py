@@ -25,10 +25,10 @@ COLUMNS = 120
 
 
 def fitted(line):
-    """Returns a line in as many as are needed, broken at blanks outside of types and comments, those behind the first
-    indented further."""
+    """Returns a line in as many as are needed, broken at blanks outside of types and comments and not before a closing
+    brace alone, those behind the first indented further."""
     indent = len(line) - len(line.lstrip())
-    blanks = [found.start() for found in re.finditer(r"⟦[^⟧]*⟧|--.*|///.*|( )", line) if found[1]]
+    blanks = [found.start() for found in re.finditer(r"⟦[^⟧]*⟧|--.*|///.*|( )(?!};$)", line) if found[1]]
     places = [place for place in blanks if indent < place <= COLUMNS]
     if len(line) <= COLUMNS or not places:
         return [line]
