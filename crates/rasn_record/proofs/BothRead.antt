@@ -1,10 +1,10 @@
 -- Root components of a record, and the additions behind them, over any decoder.
-use Rattle.std.proofs.Common.{ℕ, ◌⊎◌, subst, List, Option}
+use Rattle.std.proofs.Common.{◌≡◌, ℕ, ◌⊎◌, subst, Result, List, Option}
 use Rattle.rasn_types.specs.Values.{Value}
 use Rattle.rasn_schema.specs.Schemas.{Parts}
 use Rattle.rasn_traits.specs.AdditionsRead.{FaultyAdditions, ReadsAdditions}
 use Rattle.rasn_traits.specs.Calls.{DecoderRules, DecodesWell, Refuses}
-use Rattle.rasn_traits.specs.Scopes.{ReadsFields, ReadsNoFields, ReadsParts, reads_fields}
+use Rattle.rasn_traits.specs.Scopes.{ReadsFields, ReadsNoFields, ReadsParts, TakesFields, reads_fields}
 use Rattle.rasn_traits.proofs.Reading.{fails_behind_root, parts_level}
 
 module _ {E S : Type 0} {rules : DecoderRules E S} (L : DecodesWell rules) (parts additions : ℕ → Parts) {s m : S} (rs : List (Option Value))
@@ -19,3 +19,8 @@ module _ {E S : Type 0} {rules : DecoderRules E S} (L : DecodesWell rules) (part
       → rules.memory e s ⊎ ReadsNoFields rules (parts (rules.levels s)) (additions (rules.levels s)) e s
   addition_unread {e} r = fails_behind_root L rs m a
       (subst (λ n. rules.memory e m ⊎ Refuses (ReadsAdditions rules (additions n)) (λ e. FaultyAdditions rules e (additions n)) e m) (parts_level L (parts (rules.levels s)) s rs m a) r)
+
+-- the same components and additions
+pub fields_taken_as : {S T E : Type 0} {rules : DecoderRules E S} {ps ps' qs qs' : ℕ → Parts} {contents added : T → List (Option Value)} {s : S} {result : Result T E} {t : S}
+    → ((n : ℕ) → ps n ≡ ps' n) → ((n : ℕ) → qs n ≡ qs' n) → TakesFields rules ps' qs' contents added s result t → TakesFields rules ps qs contents added s result t
+fields_taken_as {rules = rules} {s = s} p q w = record { law = rw (p (rules.levels s), q (rules.levels s)) w.law; fails = w.fails; kept = w.kept }

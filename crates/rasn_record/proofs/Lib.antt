@@ -1,4 +1,5 @@
 pub mod Behind
 pub mod Slots
 pub mod BothRead
+pub mod BothWritten
 pub mod Within

@@ -363,6 +363,25 @@ impl<C: DecodeComponent, N: DecodeCells> DecodeCells for Cell<C, N> {
     }
 }
 
+impl<'a, N: DecodeCells> DecodeCells for &'a N {
+    type Values = N::Values;
+
+    ghost parts = { λ p. N.parts p.now };
+
+    ghost contents = { N.contents };
+
+    #[inline(always)]
+    fn decode_cells<D: Decoder>(
+        &self,
+        fields: &[Field],
+        constraints: &[&'static [Constraint]],
+        decoder: &mut D,
+    ) -> Result<N::Values, D::Error> {
+        let cells: &N = *self;
+        cells.decode_cells(fields, constraints, decoder)
+    }
+}
+
 impl<P: DecodeCells> DecodeParts for Listed<P> {
     type Values = P::Values;
 
@@ -370,6 +389,7 @@ impl<P: DecodeCells> DecodeParts for Listed<P> {
 
     ghost contents = { P.contents };
 
+    #[inline(always)]
     fn decode_parts<D: Decoder>(&self, decoder: &mut D) -> Result<P::Values, D::Error> {
         self.cells
             .decode_cells(self.fields, self.constraints, decoder)

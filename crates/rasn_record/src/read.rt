@@ -9,13 +9,13 @@ ghost use Rattle.rasn_traits.specs.Scopes.{TakesFields};
 ghost use Rattle.rasn_record.specs.Lists.{ArePlain, first_given};
 
 use crate::bounds::Bounds;
-use crate::cells::DecodeCells;
+use crate::cells::{DecodeCells, Listed};
 use crate::fields::root;
 use rasn_codec::codec::Decoder;
 use rasn_schema::components::Components;
 use rasn_schema::constraints::Constraint;
 use rasn_schema::schema::AsnType;
-use rasn_traits::parts::{DecodeAdditions, NoAdditions};
+use rasn_traits::parts::{DecodeAdditions, DecodeParts, NoAdditions};
 
 /// A required component of a record, as a list states it at its place.
 pub fn component<T: Components, H: AsnType>(
@@ -42,12 +42,28 @@ pub fn value<T: Components, H: AsnType>(of: &T, place: usize, value: &H)
     let _ = value;
 }
 
+/// Reads components in turn, those that the cells state, and then the additions, and answers both. An error is a
+/// decoder's, and leaves this one failed.
+#[inline(always)]
+pub fn cells_and_additions<P: DecodeParts, Q: DecodeAdditions, D: Decoder>(
+    cells: &P,
+    additions: &Q,
+    decoder: &mut D,
+) -> Result<(P::Values, Q::Values), D::Error>
+    ensures { TakesFields D.rules (P.parts cells.now) (Q.additions additions.now)
+        (λ values. P.contents values.0) (λ values. Q.contents values.1) decoder.old result decoder.new }
+{
+    let before = cells.decode_parts(decoder)?;
+    let behind = additions.decode_additions(decoder)?;
+    Ok((before, behind))
+}
+
 /// Reads all components of a record in turn, by the record's own fields and the constraints of a list, and then its
 /// additions.
 #[inline(always)]
 pub fn all<T: Components, P: DecodeCells, Q: DecodeAdditions, D: Decoder>(
     cells: &P,
-    constraints: &[&'static [Constraint]],
+    constraints: &'static [&'static [Constraint]],
     additions: &Q,
     decoder: &mut D,
 ) -> Result<(P::Values, Q::Values), D::Error>
@@ -57,9 +73,12 @@ pub fn all<T: Components, P: DecodeCells, Q: DecodeAdditions, D: Decoder>(
     ensures { TakesFields D.rules (root_parts T.components.0) (added_parts T.components.0)
         (λ values. P.contents values.0) (λ values. Q.contents values.1) decoder.old result decoder.new }
 {
-    let before = cells.decode_cells(root::<T>(), constraints, decoder)?;
-    let behind = additions.decode_additions(decoder)?;
-    Ok((before, behind))
+    let listed = Listed {
+        fields: root::<T>(),
+        constraints,
+        cells,
+    };
+    cells_and_additions(&listed, additions, decoder)
 }
 
 /// Reads all components of a record without additions in turn, by the record's own fields and the constraints of a

@@ -37,6 +37,21 @@ pub fn component<T: Components, H: AsnType>(
     let _ = value;
 }
 
+/// Writes components in turn, those that the cells state, and then gives the additions. An error is an encoder's, and
+/// leaves this one failed.
+pub fn cells_and_additions<P: EncodeParts, Q: EncodeAdditions, E: Encoder>(
+    cells: &P,
+    additions: &Q,
+    encoder: &mut E,
+) -> Result<(), E::Error>
+    ensures { WritesFields E.rules (P.parts cells.now) (Q.additions additions.now)
+        (deeper_of (P.levels cells.now) (Q.levels additions.now)) (P.contents cells.now) (Q.contents additions.now)
+        encoder.old result encoder.new }
+{
+    cells.encode_parts(encoder)?;
+    additions.encode_additions(encoder)
+}
+
 /// Writes all components of a record in turn, and then gives its additions.
 pub fn all<T: Components, P: EncodeParts, Q: EncodeAdditions, E: Encoder>(
     of: &T,
@@ -53,8 +68,7 @@ pub fn all<T: Components, P: EncodeParts, Q: EncodeAdditions, E: Encoder>(
         (T.contents of.now) (T.added of.now) encoder.old result encoder.new }
 {
     let _ = of;
-    cells.encode_parts(encoder)?;
-    additions.encode_additions(encoder)
+    cells_and_additions(cells, additions, encoder)
 }
 
 /// Writes all components of a record without additions in turn. That the record states enough levels is asked of each

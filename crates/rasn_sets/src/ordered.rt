@@ -7,6 +7,7 @@ ghost use Rattle.rasn_sets.specs.SetRecords.{parts_in_order, slots_in_order};
 
 use crate::components::SetComponents;
 use rasn_codec::codec::{Decoder, Encoder};
+use rasn_record::{read, write};
 use rasn_traits::parts::{DecodeAdditions, DecodeParts, EncodeAdditions, EncodeParts};
 
 /// Writes all root components of a SET in turn, and then gives its additions.
@@ -25,8 +26,7 @@ pub fn write_all<T: SetComponents, P: EncodeParts, Q: EncodeAdditions, E: Encode
         (slots_in_order T.components.0 (T.contents of.now)) (T.added of.now) encoder.old result encoder.new }
 {
     let _ = of;
-    cells.encode_parts(encoder)?;
-    additions.encode_additions(encoder)
+    write::cells_and_additions(cells, additions, encoder)
 }
 
 /// Reads all root components of a SET in turn, and then its additions.
@@ -40,7 +40,5 @@ pub fn read_all<T: SetComponents, P: DecodeParts, Q: DecodeAdditions, D: Decoder
     ensures { TakesFields D.rules (parts_in_order T.components.0) (added_parts T.components.0)
         (λ values. P.contents values.0) (λ values. Q.contents values.1) decoder.old result decoder.new }
 {
-    let before = cells.decode_parts(decoder)?;
-    let behind = additions.decode_additions(decoder)?;
-    Ok((before, behind))
+    read::cells_and_additions(cells, additions, decoder)
 }
