@@ -6,7 +6,7 @@ use Rattle.rasn_types.specs.Bits.{Bits}
 use Rattle.rasn_constraints.specs.Bounds.{allows}
 use Rattle.rasn_constraints.specs.Constraints.{start_of, end_of, size_between}
 use Rattle.per_core.specs.Basic
-use Rattle.per_core.specs.Basic.{Fragmented, OneByOne, UnconstrainedLength}
+use Rattle.per_core.specs.Basic.{OneByOne, UnconstrainedLength}
 use Rattle.per_core.specs.Counts.{list_items}
 use Rattle.per_core.specs.Spellings.{Settings, Spelling}
 use Rattle.per_core.specs.Took.{Took}

@@ -1,5 +1,5 @@
 -- Normally small numbers, seen from the bits that are left (X.691 11.6).
-use Rattle.std.proofs.Common.{◌≡◌, ◌∙◌, ◌⊎◌, ◌&&◌, sym, ap, subst, ℕ, ◌+◌, ◌-◌, ◌^◌, ◌<◌, Bool, true, false, [], ◌∷◌, arith, inl, inr, le-leb, pos}
+use Rattle.std.proofs.Common.{◌≡◌, ◌⊎◌, ◌&&◌, ap, subst, ℕ, ◌-◌, ◌^◌, ◌<◌, Bool, true, false, [], ◌∷◌, arith, inl, inr, le-leb, pos}
 use Rattle.rasn_types.specs.Bits.{Bits}
 use Rattle.rasn_constraints.specs.Bounds.{fits_i128}
 use Rattle.per_core.specs.Basic.{IsNumber, IsSemiConstrainedWhole, Small, at_least_zero}

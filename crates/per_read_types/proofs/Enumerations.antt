@@ -1,11 +1,10 @@
 -- Items of an ENUMERATED, seen from the bits that are left (X.691 14).
-use Rattle.std.proofs.Common.{◌≡◌, ◌∙◌, ◌⊎◌, ◌&&◌, refl, sym, ap, subst, ℕ, zero, suc, ◌+◌, ◌-◌, ◌^◌, ◌<◌, ◌≤◌, Bool, true, false, [], ◌∷◌, Option, arith, inl, inr, le-leb, pos}
+use Rattle.std.proofs.Common.{◌≡◌, ◌∙◌, refl, sym, ap, subst, ℕ, zero, suc, ◌+◌, ◌-◌, ◌^◌, ◌<◌, ◌≤◌, Bool, true, false, [], ◌∷◌, Option, arith}
 use Rattle.rasn_types.specs.Bits.{Bits, width, width_from}
 use Rattle.rasn_types.specs.Values.{Value, item, Side, root, added}
 use Rattle.rasn_types.specs.Variants.{Variant, aligned, unaligned}
-use Rattle.rasn_constraints.specs.Bounds.{fits_i128}
-use Rattle.per_core.specs.Basic.{ExtensionBit, Item, IsNumber, IsSemiConstrainedWhole, Small, at_least_zero, constrained_by, constrained_form}
-use Rattle.per_core.specs.Spellings.{Settings, Then, exactly, Field}
+use Rattle.per_core.specs.Basic.{ExtensionBit, Item, IsSemiConstrainedWhole, Small, constrained_by, constrained_form}
+use Rattle.per_core.specs.Spellings.{Settings, Field}
 use Rattle.per_core.specs.Took.{Took}
 use Rattle.per_core.proofs.Agree.{Agree, field_agree}
 use Rattle.per_core.proofs.LengthForms.{bounded_form_agree}
@@ -13,12 +12,10 @@ use Rattle.per_core.proofs.Took.{took_then, then_took, took_map, took_agree, not
 use Rattle.per_core.proofs.Unique.{in_natural_agree, marked_agree}
 use Rattle.per_read_types.specs.Enumerations.{IsMissing, IsOfItem, IsOfPlace, IsPlace, IsThere, count_of, item_form, place_form, side_of}
 use Rattle.per_read.specs.Kinds.{IsTested, NoneIn}
-use Rattle.per_read.specs.Numbers.{IsOfOctets}
-use Rattle.per_read.specs.SmallNumbers.{IsOfSmall, OfIndex, small_form}
+use Rattle.per_read.specs.SmallNumbers.{OfIndex, small_form}
 use Rattle.per_read.specs.declared.error.DecodeErrorKind.{DecodeErrorKind}
 use Rattle.per_read.specs.declared.error.DecodeErrorKind.TheVariants.{EnumerationIndexNotFound, IntegerOverflow, UnexpectedEmptyInput}
-use Rattle.per_read.proofs.Fields.{exactly_took, either_took}
-use Rattle.per_read.proofs.Marked.{behind_bit}
+use Rattle.per_read.proofs.Fields.{exactly_took}
 use Rattle.per_read.proofs.SmallForms.{small_took, took_small}
 
 -- a kind that tests show may come with an item

@@ -1,7 +1,7 @@
 -- SETs, each with its components in the order of its type.
 use Rattle.std.specs.Prelude.{ℕ, Bool}
 use Rattle.std.specs.Prelude.{List, [], ◌∷◌, Option, Some}
-use Rattle.rasn_below.specs.Page.{Value, nothing, truth, Component, Chosen, at, boolean, choice, chosen, integer, null}
+use Rattle.rasn_below.specs.Page.{Value, nothing, truth, Chosen, at, boolean, choice, chosen, integer, null}
 use Rattle.rasn_below.specs.Page.{optional, u8, under, ◌to◌, TypeLists, own_tags, extensible_own_tags}
 use Rattle.rasn_below.specs.Types.{leaf, TagTree}
 use Rattle.per_samples_sets.specs.declared.truth_or_none.TruthOrNone.{TruthOrNone}

@@ -14,7 +14,7 @@ use Rattle.rasn_schema.specs.Schemas
 use Rattle.rasn_schema.specs.Schemas.{by_tag, count, listed, no_parts, Order, part, Parts, Schema}
 use Rattle.per_core.specs.Basic.{Choice, basic_in, bit, Chosen, fills, Rule, rules_in}
 use Rattle.per_core.specs.Canon as Canon
-use Rattle.per_core.specs.Canon.{ascending, bytes, canon, chosen, completed, extension_bit, members, octet_key}
+use Rattle.per_core.specs.Canon.{ascending, bytes, canon, chosen, completed, members, octet_key}
 use Rattle.per_core.specs.Counts.{bit_items, counted, list_items}
 use Rattle.per_core.specs.Spellings.{Settings}
 use Rattle.per_core.specs.Versions.{all_of, joined}

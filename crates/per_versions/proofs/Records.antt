@@ -14,7 +14,7 @@ use Rattle.rasn_schema.specs.Orders.{by_tags, how_many_less, insert_at}
 use Rattle.rasn_schema.specs.Records.{record_value}
 use Rattle.rasn_schema.specs.Schemas.{by_tag, count, listed, no_parts, part, Parts, Presence, Schema, smallest, tags, TagTree}
 use Rattle.per_core.specs.Basic.{basic_in, Record_in, rules_in}
-use Rattle.per_core.specs.Canon.{also_bit, any_set, ascending, bitmap, bitmap_of, bodies_of, canon, chosen, flags_of, members, octet_key, opens_of, record_of, shown, with_additions}
+use Rattle.per_core.specs.Canon.{any_set, bitmap, bitmap_of, bodies_of, canon, flags_of, members, opens_of, record_of, shown, with_additions}
 use Rattle.per_core.specs.Canon as Canon
 use Rattle.per_core.specs.Counts.{counted, list_items}
 use Rattle.per_core.specs.Spellings.{Settings}

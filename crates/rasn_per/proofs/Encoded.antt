@@ -9,9 +9,8 @@ use Rattle.rasn_types.specs.Values.{Value}
 use Rattle.rasn_schema.specs.Schemas.{Schema}
 use Rattle.rasn_schema.specs.Normal.{normal}
 use Rattle.rasn_traits.specs.Calls.{AtDepths}
-use Rattle.per_core.specs.Writers.{join, just, ◌▹◌}
+use Rattle.per_core.specs.Writers.{join}
 use Rattle.per_core.specs.Canon.{canon, bytes, completed}
-use Rattle.per_pieces.specs.Pieces.{Pieces, no_pieces, writer_of}
 use Rattle.per_enc.specs.Rules.{fresh, Presents}
 use Rattle.per_write.specs.Components.{Encoding}
 use Rattle.per_write.specs.State.{Scope, State, view}

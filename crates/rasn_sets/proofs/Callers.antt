@@ -1,10 +1,10 @@
 -- What a caller of `decode_set` owes, from what the calls of a decoder answer, and what it gets.
 use Rattle.std.specs.Prelude.{IfOk}
-use Rattle.std.proofs.Common.{◌≡◌, refl, ◌⊎◌, inl, inr, ℕ, Bool, Result, Ok, Err, List, length, Option, Some, None}
+use Rattle.std.proofs.Common.{◌≡◌, refl, ◌⊎◌, inl, inr, ℕ, Result, Ok, Err, List, length, Option, Some, None}
 use Rattle.rasn_types.specs.Values.{Value}
 use Rattle.rasn_types.specs.declared.types.Tag.{Tag}
 use Rattle.rasn_schema.specs.Records.{record_at, record_value}
-use Rattle.rasn_schema.specs.Schemas.{TagTree, Presence, by_tag, Schema, Parts}
+use Rattle.rasn_schema.specs.Schemas.{TagTree, Presence, by_tag, Schema}
 use Rattle.rasn_traits.specs.AdditionsRead.{FaultyAddition, faulty_added, ReadsAddition, reads_added, reads_lacking, TakesAddition}
 use Rattle.rasn_traits.specs.Calls.{DecoderRules, Reads, Refuses}
 use Rattle.rasn_traits.specs.Presences.{left_out}

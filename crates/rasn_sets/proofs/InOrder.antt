@@ -1,5 +1,5 @@
 -- What stands in ascending order of tags does so at each number of levels.
-use Rattle.std.proofs.Common.{◌≡◌, refl, sym, ap, ℕ, ◌+◌, List, [], ◌∷◌, length, Option, arith}
+use Rattle.std.proofs.Common.{◌≡◌, refl, sym, ap, ℕ, List, [], ◌∷◌, length, Option, arith}
 use Rattle.rasn_types.specs.Values.{Value}
 use Rattle.rasn_schema.specs.Canonised.{canonised, canonised_slots}
 use Rattle.rasn_schema.specs.Components.{Component, TypeLists, parts_of, root_parts}
