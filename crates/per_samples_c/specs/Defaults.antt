@@ -2,7 +2,9 @@
 use Rattle.std.specs.Prelude.{[], ◌∷◌, true, false, Some, None}
 use Rattle.rasn_below.specs.Page.{TypeLists, Value, item, added, truth, record_value, automatic, default, boolean}
 use Rattle.rasn_below.specs.Page.{extensible_enumerated, sequence}
+use Rattle.rasn_below.specs.Page.{choice, chosen, chosen_behind, chosen_value, list_value, sequence_of, any, size◌to◌}
 use Rattle.per_samples_b.specs.Outers.{outer1, outer3}
+use Rattle.per_samples_b.specs.Second.{alt2}
 
 -- TRUE and FALSE
 abbrev pub true_false : Value
@@ -24,3 +26,21 @@ default_color = automatic (
     default (item added 0) (extensible_enumerated 1 1) ∷
     default true_false (sequence outer1) ∷
     boolean ∷ [])
+
+-- SEQUENCE { flags SEQUENCE (SIZE (0..3)) OF BOOLEAN DEFAULT { TRUE, FALSE },
+--   outers SEQUENCE OF outer1 DEFAULT { (TRUE, FALSE) } }
+abbrev pub default_elements : TypeLists
+default_elements = automatic (
+    default (list_value (truth true ∷ truth false ∷ [])) (sequence_of (size 0 to 3) boolean) ∷
+    default (list_value (true_false ∷ [])) (sequence_of any (sequence outer1)) ∷ [])
+
+-- a : TRUE and b : FALSE
+abbrev pub a_true : Value
+a_true = chosen_value (chosen 0 (truth true))
+
+abbrev pub b_false : Value
+b_false = chosen_value (chosen_behind 0 (truth false))
+
+-- SEQUENCE { first Alt2 DEFAULT a : TRUE, second Alt2 DEFAULT b : FALSE }
+abbrev pub default_choice : TypeLists
+default_choice = automatic (default a_true (choice alt2) ∷ default b_false (choice alt2) ∷ [])

@@ -6,6 +6,7 @@ ghost use Rattle.per_samples_c.specs.Defaults.{default_outer1, true_false};
 
 use per_samples_b::outer1::Outer1;
 use rasn_below::page::*;
+use rasn_constructed_defaults::{made_record, stands_for_record};
 use std::alloc::{AllocError, Global};
 
 /// SEQUENCE { o outer1 DEFAULT (TRUE, FALSE) }
@@ -48,17 +49,19 @@ impl Record for DefaultOuter1 {
 #[derive(Clone, Copy, Debug)]
 pub struct TrueFalse;
 
+macro_rules! true_false { ($to:ident $($with:ident)*) => { $to! { [$($with)*]
+    required first: bool [true];
+    required second: bool [false];
+} }; }
+
 impl DefaultOf<Outer1> for TrueFalse {
     ghost default = { λ _. true_false };
 
     fn stands_for(&self, component: &Outer1) -> bool {
-        component.first && !component.second
+        true_false!(stands_for_record component)
     }
 
-    fn made(&self, _alloc: Global) -> Result<Outer1, AllocError> {
-        Ok(Outer1 {
-            first: true,
-            second: false,
-        })
+    fn made(&self, alloc: Global) -> Result<Outer1, AllocError> {
+        true_false!(made_record alloc Outer1)
     }
 }

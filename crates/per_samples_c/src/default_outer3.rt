@@ -1,12 +1,13 @@
 //! A SEQUENCE of a component with additions, which has a default.
 
-ghost use Rattle.std.specs.Prelude.{◌≡◌, [], ◌∷◌, Some, refl};
-ghost use Rattle.rasn_below.specs.Values.{same};
+ghost use Rattle.std.specs.Prelude.{[], ◌∷◌, Some, refl};
 ghost use Rattle.rasn_below.specs.Page.{fields_of};
 ghost use Rattle.per_samples_c.specs.Defaults.{default_outer3, true_false_alone};
 
+use per_samples_b::flagged::Flagged;
 use per_samples_b::outer3::Outer3;
 use rasn_below::page::*;
+use rasn_constructed_defaults::{made_record, stands_for_record};
 use std::alloc::{AllocError, Global};
 
 /// SEQUENCE { o outer3 DEFAULT (TRUE, FALSE, both additions absent) }
@@ -49,35 +50,22 @@ impl Record for DefaultOuter3 {
 #[derive(Clone, Copy, Debug)]
 pub struct TrueFalseAlone;
 
+macro_rules! true_false_alone { ($to:ident $($with:ident)*) => { $to! { [$($with)*]
+    required first: bool [true];
+    required second: bool [false];
+    ...;
+    group group: Option<Flagged> [ABSENT];
+    optional after: Option<OctetString> [ABSENT];
+} }; }
+
 impl DefaultOf<Outer3> for TrueFalseAlone {
     ghost default = { λ _. true_false_alone };
 
     fn stands_for(&self, component: &Outer3) -> bool {
-        is_true_false_alone(component)
+        true_false_alone!(stands_for_record component)
     }
 
-    fn made(&self, _alloc: Global) -> Result<Outer3, AllocError> {
-        Ok(Outer3 {
-            first: true,
-            second: false,
-            group: None,
-            after: None,
-        })
+    fn made(&self, alloc: Global) -> Result<Outer3, AllocError> {
+        true_false_alone!(made_record alloc Outer3)
     }
-}
-
-/// Whether a value is (TRUE, FALSE, both additions absent).
-fn is_true_false_alone(outer: &Outer3) -> bool
-    ensures { result ≡ same (⟦<Outer3 as AsnType>⟧.value outer.now) true_false_alone }
-{
-    if !outer.first {
-        return false;
-    }
-    if outer.second {
-        return false;
-    }
-    if outer.group.is_some() {
-        return false;
-    }
-    outer.after.is_none()
 }

@@ -1,0 +1,3 @@
+pub mod Alternatives
+pub mod Listed
+pub mod Parts
