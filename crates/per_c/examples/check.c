@@ -1,9 +1,9 @@
 /*
- * check FILE: prints the canonical encoding of each message in a file, or why there is none.
+ * check FILE [json]: prints the canonical encoding of each message in a file, or its JSON, or why there is none.
  *
  * A line of the file is a variant, a type of docs/TYPES.md and the octets of a message in hexadecimal, as
- * "uper integer 021000"; behind a variant "_zero" asks that padding is zero. Its reply is a line of hexadecimal, or "!"
- * and the refusal's name. The status is 0 where each line has such words.
+ * "uper integer 021000"; behind a variant "_zero" asks that padding is zero. Its reply is a line of hexadecimal or of
+ * JSON, or "!" and the refusal's name. The status is 0 where each line has such words.
  *
  * With libper_c.a from `rt lib` in crates/per_c, and KIT the folder of the toolchain:
  *     cc -std=c99 -Icrates/per_c/include -o check crates/per_c/examples/check.c crates/per_c/out/libper_c.a \
@@ -92,21 +92,36 @@ static long octets_of(char *digits) {
     return count;
 }
 
-/* Writes the canonical encoding of a message to `out`, in as much memory as it takes. Returns PER_OK or a refusal. */
-static uint32_t recode(uint32_t options, uint32_t type, const uint8_t *octets, size_t count, struct octets *out) {
-    uint32_t refusal = per_recode(options, type, octets, count, out->at, out->capacity, &out->count);
+/* per_recode or per_json. */
+typedef uint32_t call(uint32_t options, uint32_t type, const uint8_t *octets, size_t count, uint8_t *out,
+                      size_t capacity, size_t *written);
+
+/* Writes what a call answers to `out`, in as much memory as it takes. Returns PER_OK or a refusal. */
+static uint32_t answer(call *ask, uint32_t options, uint32_t type, const uint8_t *octets, size_t count,
+                       struct octets *out) {
+    uint32_t refusal = ask(options, type, octets, count, out->at, out->capacity, &out->count);
     if (refusal != PER_NO_ROOM)
         return refusal;
     if (!grow(out, out->count))
         return PER_OUT_OF_MEMORY;
-    return per_recode(options, type, octets, count, out->at, out->capacity, &out->count);
+    return ask(options, type, octets, count, out->at, out->capacity, &out->count);
+}
+
+/* Prints what a call answered on a line: JSON as it is, octets in hexadecimal. */
+static void print(call *ask, const struct octets *out) {
+    size_t i;
+    if (ask == per_json)
+        fwrite(out->at, 1, out->count, stdout);
+    else
+        for (i = 0; i < out->count; i++)
+            printf("%02x", out->at[i]);
+    putchar('\n');
 }
 
 /* Replies to a line. Returns 0 where it has other words than a line should. */
-static int reply(char *line, struct octets *out) {
+static int reply(call *ask, char *line, struct octets *out) {
     char *variant = line, *type = strchr(line, ' '), *digits = type ? strchr(type + 1, ' ') : NULL;
     uint32_t options, number, refusal;
-    size_t i;
     long count;
     if (!digits)
         return 0;
@@ -119,28 +134,28 @@ static int reply(char *line, struct octets *out) {
         return 0;
     refusal = per_check(options, number, (const uint8_t *)digits, (size_t)count);
     if (refusal == PER_OK)
-        refusal = recode(options, number, (const uint8_t *)digits, (size_t)count, out);
+        refusal = answer(ask, options, number, (const uint8_t *)digits, (size_t)count, out);
     if (refusal != PER_OK) {
         struct per_name name = per_refusal_name(refusal);
         printf("! %s\n", name.text);
         return 1;
     }
-    for (i = 0; i < out->count; i++)
-        printf("%02x", out->at[i]);
-    putchar('\n');
+    print(ask, out);
     return 1;
 }
 
 int main(int argc, char **argv) {
     struct octets line = {NULL, 0, 0}, out = {NULL, 0, 0};
-    FILE *file = argc == 2 ? fopen(argv[1], "rb") : NULL;
+    call *ask = argc == 3 ? per_json : per_recode;
+    int is_asked = argc == 2 || (argc == 3 && strcmp(argv[2], "json") == 0);
+    FILE *file = is_asked ? fopen(argv[1], "rb") : NULL;
     int status = 0;
     if (!file) {
-        fprintf(stderr, "usage: check FILE\n");
+        fprintf(stderr, "usage: check FILE [json]\n");
         return 2;
     }
     while (read_line(file, &line)) {
-        if (!reply((char *)line.at, &out)) {
+        if (!reply(ask, (char *)line.at, &out)) {
             fprintf(stderr, "check: no message: %.60s\n", (char *)line.at);
             status = 2;
         }

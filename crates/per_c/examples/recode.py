@@ -1,7 +1,7 @@
 #!/usr/bin/env python3
-"""Prints the canonical encoding of each message in a file, or why there is none.
+"""Prints the canonical encoding of each message in a file, or its JSON, or why there is none.
 
-usage: recode.py LIBRARY FILE
+usage: recode.py LIBRARY FILE [json]
 
 The lines of the file and the replies are those of check.c. The library is a shared object, made of libper_c.a from `rt
 lib` in crates/per_c, KIT being the folder of the toolchain:
@@ -26,33 +26,50 @@ class Codec:
 
     def __init__(self, file):
         self.calls = ctypes.CDLL(os.path.abspath(file))
-        self.calls.per_recode.argtypes = u32, u32, ctypes.c_char_p, size, ctypes.c_char_p, size, ctypes.POINTER(size)
-        self.calls.per_recode.restype = u32
+        for call in (self.calls.per_recode, self.calls.per_json):
+            call.argtypes = u32, u32, ctypes.c_char_p, size, ctypes.c_char_p, size, ctypes.POINTER(size)
+            call.restype = u32
         for call in (self.calls.per_type_name, self.calls.per_refusal_name):
             call.argtypes, call.restype = [u32], Name
         self.types = {}
         while name := self.calls.per_type_name(len(self.types)).text:
             self.types[name.decode()] = len(self.types)
 
-    def recode(self, options, type_name, octets, capacity=256):
+    def recode(self, options, type_name, octets):
         """Returns the canonical encoding of the value that octets spell, or the refusal's name."""
+        return self.answer(self.calls.per_recode, options, type_name, octets)
+
+    def json(self, options, type_name, octets):
+        """Returns the JSON text, in UTF-8, of the value that octets spell, or the refusal's name."""
+        return self.answer(self.calls.per_json, options, type_name, octets)
+
+    def answer(self, call, options, type_name, octets, capacity=256):
+        """Returns the octets that a call answers, or the refusal's name."""
         asked = OPTIONS.index(options), self.types[type_name], octets, len(octets)
         out, written = ctypes.create_string_buffer(capacity), size()
-        refusal = self.calls.per_recode(*asked, out, capacity, written)
+        refusal = call(*asked, out, capacity, written)
         if refusal == NO_ROOM:
-            return self.recode(options, type_name, octets, written.value)
+            return self.answer(call, options, type_name, octets, written.value)
         return out.raw[:written.value] if refusal == OK else self.calls.per_refusal_name(refusal).text.decode()
 
 
+def reply(codec, ask, line):
+    """Returns the octets that are replied to a line."""
+    options, type_name, digits = line.rstrip("\n").split(" ")
+    found = ask(options, type_name, bytes.fromhex(digits))
+    if not isinstance(found, bytes):
+        return f"! {found}".encode()
+    return found if ask == codec.json else found.hex().encode()
+
+
 def main():
-    if len(sys.argv) != 3:
-        sys.exit("usage: recode.py LIBRARY FILE")
+    if sys.argv[3:] not in ([], ["json"]) or len(sys.argv) < 3:
+        sys.exit("usage: recode.py LIBRARY FILE [json]")
     codec = Codec(sys.argv[1])
+    ask = codec.json if sys.argv[3:] else codec.recode
     with open(sys.argv[2], encoding="ascii") as it:
         for line in it:
-            options, type_name, digits = line.rstrip("\n").split(" ")
-            found = codec.recode(options, type_name, bytes.fromhex(digits))
-            print(found.hex() if isinstance(found, bytes) else f"! {found}")
+            sys.stdout.buffer.write(reply(codec, ask, line) + b"\n")
 
 
 if __name__ == "__main__":

@@ -2,7 +2,8 @@
  * per.h: a codec for ASN.1's Packed Encoding Rules (ITU-T X.691, 02/2021; sections in parentheses are its own).
  *
  * Octets of a stranger go in; out comes whether they are an encoding of a value of a type, and the one canonical
- * encoding of that value, or why not. Each call is proved to answer so, for any octets (crates/per_c/src/calls.rt).
+ * encoding of that value, or its JSON (X.697), or why not. Each call is proved to answer so, for any octets
+ * (crates/per_c/src/calls.rt).
  *
  * Of a caller:
  * - A pointer with a count points to so many octets that nothing else changes during the call; with a count of 0 it may
@@ -36,7 +37,7 @@ enum per_refusal {
     PER_OUT_OF_MEMORY = 1, /* Memory ran out. */
     PER_UNKNOWN_OPTIONS = 2, /* The options are none of `enum per_options`. */
     PER_UNKNOWN_TYPE = 3, /* The number is none of `enum per_type`'s. */
-    PER_NO_ROOM = 4, /* The canonical encoding is longer than the room for it. */
+    PER_NO_ROOM = 4, /* The answer is longer than the room for it. */
 
     /* Octets are no encoding of a value of the type. */
     PER_DECODE_INCOMPLETE = 5, /* The octets end within a field. */
@@ -71,7 +72,13 @@ enum per_refusal {
     PER_ENCODE_TOO_MANY_ADDITIONS = 32, /* A record has more additions than its schema lists (19). */
     PER_ENCODE_BELOW = 33, /* An identifier or a time has no encoding. */
     PER_ENCODE_ALREADY_FAILED = 34, /* The encoder had refused before. */
-    PER_ENCODE_OUT_OF_TURN = 35 /* A part was presented out of turn. */
+    PER_ENCODE_OUT_OF_TURN = 35, /* A part was presented out of turn. */
+
+    /* A value has no JSON. */
+    PER_JSON_NO_JSON = 36, /* It has a REAL, or a time or a character that no text holds. */
+    PER_JSON_VARIANT_NOT_IN_CHOICE = 37, /* A tag is none of an alternative's. */
+    PER_JSON_ALREADY_FAILED = 38, /* The encoder had refused before. */
+    PER_JSON_OUT_OF_TURN = 39 /* A part was presented out of turn. */
 };
 
 /** The types, as docs/TYPES.md describes them. A later version may add types behind these, and changes none. */
@@ -164,6 +171,19 @@ uint32_t per_check(uint32_t options, uint32_t type, const uint8_t *octets, size_
  */
 uint32_t per_recode(uint32_t options, uint32_t type, const uint8_t *octets, size_t count, uint8_t *out, size_t capacity,
                     size_t *written);
+
+/**
+ * The JSON text (X.697) of the value that `count` octets spell, as `per_check` reads them: in UTF-8, without spaces,
+ * and with no zero behind it. It shows the value's normal form, with the members of a SET OF in the order in which they
+ * were read. The value needs no canonical encoding.
+ *
+ * Returns PER_OK, with the text in the first `*written` of the `capacity` octets at `out`; or PER_NO_ROOM, where it has
+ * `*written` octets, which are more than `capacity`; or the code of another refusal, none of PER_ENCODE_.., with 0 in
+ * `*written`. The other octets at `out`, and in these two cases all of them, stay as they were. With a `capacity` of 0
+ * only the length is asked for.
+ */
+uint32_t per_json(uint32_t options, uint32_t type, const uint8_t *octets, size_t count, uint8_t *out, size_t capacity,
+                  size_t *written);
 
 /** The word that names a type in docs/TYPES.md, by its number, as "integer"; empty where there is no such type. */
 struct per_name per_type_name(uint32_t type);

@@ -1,5 +1,6 @@
 -- Names of refusals are short, and what isn't recoded isn't put.
-use Rattle.std.proofs.Common.{◌≡◌, refl, ℕ, ◌<◌, List, length, nat_lt, true}
+use Rattle.std.proofs.Common.{◌≡◌, refl, ℕ, ◌<◌, List, length, nat_lt, true, Result, Ok, Err}
+use Rattle.std.specs.Prelude.{IfOk, IfErr}
 use Rattle.std.proofs.lemmas.Bool.{ltb-true}
 use Rattle.per_read.specs.Names.{name_of as decode_name}
 use Rattle.per_read.specs.declared.error.DecodeErrorKind.{DecodeErrorKind}
@@ -8,8 +9,11 @@ use Rattle.per_write.specs.Names.{name_of as encode_name}
 use Rattle.per_write.specs.declared.error.EncodeErrorKind.{EncodeErrorKind}
 use Rattle.per_write.specs.declared.error.EncodeErrorKind.TheVariants as Encoding
 use Rattle.per_c.specs.declared.refusal.Refusal.{Refusal}
-use Rattle.per_c.specs.declared.refusal.Refusal.TheVariants.{OutOfMemory, UnknownOptions, UnknownType, NoRoom, Decode, Encode}
-use Rattle.per_c.specs.Answers.{IsRefused, IsUnput}
+use Rattle.per_c.specs.declared.refusal.Refusal.TheVariants.{OutOfMemory, UnknownOptions, UnknownType, NoRoom, Decode, Encode, Json}
+use Rattle.rasn_jer.specs.Names.{name_of as json_name}
+use Rattle.rasn_jer.specs.declared.error.EncodeError.{EncodeError}
+use Rattle.rasn_jer.specs.declared.error.EncodeError.TheVariants as Showing
+use Rattle.per_c.specs.Answers.{IsAnswerPut, IsAnswerUnput, IsUnput, IsUnputBy, Puts}
 
 decode_is_short : (k : DecodeErrorKind) → nat_lt (length (decode_name k)) 32 ≡ true
 decode_is_short (Decoding.Incomplete missing) = refl
@@ -54,11 +58,34 @@ encode_is_short Encoding.OutOfMemory = refl
 pub encode_short : (k : EncodeErrorKind) → length (encode_name k) < 32
 encode_short k = ltb-true (length (encode_name k)) 32 (encode_is_short k)
 
-pub unput : (options number : ℕ) (octets : List ℕ) (room : ℕ) (r : Refusal) → IsRefused options number octets r
-    → IsUnput options number octets room 0 r
-unput options number octets room OutOfMemory refused = (refused, refl)
-unput options number octets room UnknownOptions refused = (refused, refl)
-unput options number octets room UnknownType refused = (refused, refl)
-unput options number octets room NoRoom refused = absurd refused
-unput options number octets room (Decode k) refused = (refused, refl)
-unput options number octets room (Encode k) refused = (refused, refl)
+json_is_short : (e : EncodeError) → nat_lt (length (json_name e)) 32 ≡ true
+json_is_short Showing.OutOfMemory = refl
+json_is_short Showing.NoJson = refl
+json_is_short Showing.VariantNotInChoice = refl
+json_is_short Showing.AlreadyFailed = refl
+json_is_short Showing.OutOfTurn = refl
+
+pub json_short : (e : EncodeError) → length (json_name e) < 32
+json_short e = ltb-true (length (json_name e)) 32 (json_is_short e)
+
+-- what is put is what was answered
+pub put_as : {T : Type 0} (items : T → List ℕ) (are : List ℕ → Type 0) (r : Result T Refusal) (before after : List ℕ) (written : ℕ)
+    → IfOk r (λ t. are (items t)) → IsAnswerPut items r before after written → Puts are before after written
+put_as items are (Ok t) before after written h p = record { octets = items t; answered = h; put = p }
+put_as items are (Err e) before after written h p = absurd p
+
+unput : (are : List ℕ → Type 0) (refused : Refusal → Type 0) (room written : ℕ) (r : Refusal) → (refused NoRoom → ⊥) → refused r → written ≡ 0
+    → IsUnput are refused room written r
+unput are refused room written OutOfMemory n h w = (h, w)
+unput are refused room written UnknownOptions n h w = (h, w)
+unput are refused room written UnknownType n h w = (h, w)
+unput are refused room written NoRoom n h w = absurd (n h)
+unput are refused room written (Decode k) n h w = (h, w)
+unput are refused room written (Encode k) n h w = (h, w)
+unput are refused room written (Json e) n h w = (h, w)
+
+-- and what isn't put lacks room or was refused
+pub unput_by : {T : Type 0} (items : T → List ℕ) (are : List ℕ → Type 0) (refused : Refusal → Type 0) (r : Result T Refusal) (room written code : ℕ)
+    → (refused NoRoom → ⊥) → IfOk r (λ t. are (items t)) → IfErr r (λ e. refused e) → IsAnswerUnput items r room written code → IsUnputBy are refused room written code
+unput_by items are refused (Ok t) room written code n h k u = (NoRoom, record { octets = items t; answered = h; count = u.0; lacks = u.1 }, u.2)
+unput_by items are refused (Err e) room written code n h k u = (e, unput are refused room written e n k u.0, u.1)

@@ -27,7 +27,10 @@ use Rattle.per_write.specs.declared.error.EncodeErrorKind.{EncodeErrorKind}
 use Rattle.per_write.specs.declared.error.EncodeErrorKind.TheVariants as Encoding
 use Rattle.per_c.specs.declared.refusal.Refusal.{Refusal}
 use Rattle.per_c.specs.declared.refusal.Refusal.TheVariants.{OutOfMemory, UnknownOptions, UnknownType, NoRoom}
-use Rattle.per_c.specs.declared.refusal.Refusal.TheVariants.{Decode, Encode}
+use Rattle.per_c.specs.declared.refusal.Refusal.TheVariants.{Decode, Encode, Json}
+use Rattle.rasn_jer.specs.Names.{name_of as json_name}
+use Rattle.rasn_jer.specs.declared.error.EncodeError.{EncodeError}
+use Rattle.rasn_jer.specs.declared.error.EncodeError.TheVariants as Showing
 
 -- X.691 7: a variant, and padding and spare bits of any value or of zeros alone
 abbrev pub options_number : Codec → Padding → ℕ
@@ -85,6 +88,14 @@ encode_code Encoding.Below = 33
 encode_code Encoding.AlreadyFailed = 34
 encode_code Encoding.OutOfTurn = 35
 
+-- where JSON's encoder does
+abbrev pub json_code : EncodeError → ℕ
+json_code Showing.OutOfMemory = 1
+json_code Showing.NoJson = 36
+json_code Showing.VariantNotInChoice = 37
+json_code Showing.AlreadyFailed = 38
+json_code Showing.OutOfTurn = 39
+
 -- the code of a refusal, from 1 on
 abbrev pub code_of : Refusal → ℕ
 code_of OutOfMemory = 1
@@ -93,9 +104,10 @@ code_of UnknownType = 3
 code_of NoRoom = 4
 code_of (Decode kind) = decode_code kind
 code_of (Encode kind) = encode_code kind
+code_of (Json e) = json_code e
 
 abbrev pub last_code : ℕ
-last_code = 35
+last_code = 39
 
 -- its name, as the program prints a kind's
 abbrev pub name_of : Refusal → List ℕ
@@ -105,6 +117,7 @@ name_of UnknownType = codes "UnknownType"
 name_of NoRoom = codes "NoRoom"
 name_of (Decode kind) = decode_name kind
 name_of (Encode kind) = encode_name kind
+name_of (Json e) = json_name e
 
 -- the refusal of a fault; no others are faults of octets
 abbrev pub refusal_of : Fault → Refusal

@@ -1,8 +1,9 @@
 //! What a call answers, before it is put where C has it.
 
 ghost use Rattle.std.specs.Prelude.{◌≡◌, ◌<◌, ◌≤◌, length, take, drop, IfOk, IfErr, true, false};
-ghost use Rattle.per_c.specs.Answers.{AreRecoded, IsRefused};
+ghost use Rattle.per_c.specs.Answers.{AreRecoded, HasNoJson, IsJson, IsRefused};
 
+use crate::json::shown;
 use crate::refusal::Refusal;
 use crate::request::{options_of, type_of};
 use per_lines::recode::recoded;
@@ -21,6 +22,23 @@ pub fn answer(
     let (codec, padding) = options_of(options).ok_or(Refusal::UnknownOptions)?;
     let type_name = type_of(type_number).ok_or(Refusal::UnknownType)?;
     Ok(recoded(alloc, codec, padding, type_name, octets)?)
+}
+
+/// The JSON text of the value that octets spell, of the type and with the options that these numbers stand for.
+pub fn json(
+    alloc: Global,
+    options: u32,
+    type_number: u32,
+    octets: &[u8],
+) -> Result<Vec<u8>, Refusal>
+    ensures ok { IfOk result (λ text. IsJson options type_number octets.now text.items) }
+    ensures err { IfErr result (λ refusal. HasNoJson options type_number octets.now refusal) }
+{
+    let (codec, padding) = options_of(options).ok_or(Refusal::UnknownOptions)?;
+    match type_of(type_number) {
+        Some(type_name) => shown(alloc, codec, padding, type_name, octets),
+        None => Err(Refusal::UnknownType),
+    }
 }
 
 /// Puts octets in the front of a room, if they fit. Answers whether they do.

@@ -3,11 +3,12 @@
 ghost use Rattle.std.specs.Prelude.{◌≡◌, ◌≢◌, ◌<◌, [], ℕ, List, length, slice_get, Some, None};
 ghost use Rattle.per_lines.specs.Words.{type_word};
 ghost use Rattle.per_lines.specs.declared.arguments.TypeName.{TypeName as a_type};
-ghost use Rattle.per_c.specs.Answers.{AreRecoded, IsRefusedBy, Puts, IsUnputBy};
+ghost use Rattle.per_c.specs.Answers.{AreRecoded, HasNoJson, IsAnswerPut, IsAnswerUnput, IsJson, IsRefused};
+ghost use Rattle.per_c.specs.Answers.{IsRefusedBy, IsUnputBy, Puts};
 ghost use Rattle.per_c.specs.Numbers.{types, code_of, last_code, name_of, in_c};
 ghost use Rattle.per_c.specs.declared.refusal.Refusal.{Refusal as a_refusal};
 
-use crate::answer::{answer, put};
+use crate::answer::{answer, json, put};
 use crate::name::Name;
 use crate::refusal::Refusal;
 use crate::request::{type_of, word_of};
@@ -29,7 +30,6 @@ pub extern "C" fn per_check(alloc: Global, options: u32, type_number: u32, octet
 /// Puts the canonical encoding of the value that octets spell in `out`, and how many octets it has in `written`. Where
 /// `out` is too small, it stays as it is. Answers 0, or the code of a refusal.
 #[unsafe(no_mangle)]
-#[tactic(auto, using(crate::proofs::Codes::unput))]
 pub extern "C" fn per_recode(
     alloc: Global,
     options: u32,
@@ -38,15 +38,46 @@ pub extern "C" fn per_recode(
     out: &mut [u8],
     written: &mut usize,
 ) -> u32
-    ensures answered { result ≡ 0 → Puts options type_number octets.now out.old out.new written.new }
-    ensures refused { result ≢ 0 →
-        IsUnputBy options type_number octets.now (length out.old) written.new result }
+    ensures answered { result ≡ 0 → Puts (AreRecoded options type_number octets.now) out.old out.new written.new }
+    ensures refused { result ≢ 0 → IsUnputBy (AreRecoded options type_number octets.now)
+        (IsRefused options type_number octets.now) (length out.old) written.new result }
     ensures kept { result ≢ 0 → out.new ≡ out.old }
 {
-    match answer(alloc, options, type_number, octets) {
-        Ok(canonical) => {
-            *written = canonical.len();
-            if put(canonical.as_slice(), out) {
+    let canonical = answer(alloc, options, type_number, octets);
+    put_answer(canonical, out, written)
+}
+
+/// Puts the JSON text of the value that octets spell (X.697) in `out`, and how many octets it has in `written`. Where
+/// `out` is too small, it stays as it is. Answers 0, or the code of a refusal.
+#[unsafe(no_mangle)]
+pub extern "C" fn per_json(
+    alloc: Global,
+    options: u32,
+    type_number: u32,
+    octets: &[u8],
+    out: &mut [u8],
+    written: &mut usize,
+) -> u32
+    ensures answered { result ≡ 0 → Puts (IsJson options type_number octets.now) out.old out.new written.new }
+    ensures refused { result ≢ 0 → IsUnputBy (IsJson options type_number octets.now)
+        (HasNoJson options type_number octets.now) (length out.old) written.new result }
+    ensures kept { result ≢ 0 → out.new ≡ out.old }
+{
+    let text = json(alloc, options, type_number, octets);
+    put_answer(text, out, written)
+}
+
+/// Puts an answer in `out`, if it fits, and how many octets it has in `written`. Answers 0, or the code of a refusal.
+fn put_answer(answer: Result<Vec<u8>, Refusal>, out: &mut [u8], written: &mut usize) -> u32
+    ensures answered { result ≡ 0 → IsAnswerPut (λ octets. octets.items) answer out.old out.new written.new }
+    ensures refused { result ≢ 0 →
+        IsAnswerUnput (λ octets. octets.items) answer (length out.old) written.new result }
+    ensures kept { result ≢ 0 → out.new ≡ out.old }
+{
+    match answer {
+        Ok(octets) => {
+            *written = octets.len();
+            if put(octets.as_slice(), out) {
                 0
             } else {
                 Refusal::NoRoom.code()

@@ -3,6 +3,7 @@
 
 pub mod answer;
 pub mod calls;
+pub mod json;
 pub mod name;
 pub mod refusal;
 pub mod request;

@@ -1,12 +1,14 @@
 //! Why a call has no answer, and the codes that tell it.
 
 ghost use Rattle.std.specs.Prelude.{◌≡◌, ◌<◌, IsSomeAnd, None, length};
-ghost use Rattle.per_c.specs.Numbers.{code_of, last_code, decode_code, encode_code, name_of, refusal_of};
+ghost use Rattle.per_c.specs.Numbers.{code_of, last_code, decode_code, encode_code, json_code, name_of, refusal_of};
 ghost use Rattle.per_c.specs.declared.refusal.Refusal.{Refusal as a_refusal};
+ghost use Rattle.per_c.specs.declared.refusal.Refusal.TheVariants.{Decode as decode_refusal, Json as json_refusal};
 
 use per_lines::fault::Fault;
 use rasn_below::types::Tag;
-use rasn_per::uper::{DecodeErrorKind, EncodeErrorKind, ParserFailCause};
+use rasn_jer::EncodeError as JsonError;
+use rasn_per::uper::{DecodeError, DecodeErrorKind, EncodeErrorKind, ParserFailCause};
 
 /// Why a call has no answer.
 #[derive(Clone, Copy)]
@@ -17,16 +19,18 @@ pub enum Refusal {
     UnknownOptions,
     /// The number is no type's.
     UnknownType,
-    /// The canonical encoding is longer than the room for it.
+    /// The answer is longer than the room for it.
     NoRoom,
     /// The octets are no encoding of a value of the type.
     Decode(DecodeErrorKind),
     /// The value has no canonical encoding.
     Encode(EncodeErrorKind),
+    /// The value has no JSON.
+    Json(JsonError),
 }
 
 /// A refusal of each code, from 1 on. The numbers in kinds mean nothing here.
-static REFUSALS: [Refusal; 35] = [
+static REFUSALS: [Refusal; 39] = [
     Refusal::OutOfMemory,
     Refusal::UnknownOptions,
     Refusal::UnknownType,
@@ -62,6 +66,10 @@ static REFUSALS: [Refusal; 35] = [
     Refusal::Encode(EncodeErrorKind::Below),
     Refusal::Encode(EncodeErrorKind::AlreadyFailed),
     Refusal::Encode(EncodeErrorKind::OutOfTurn),
+    Refusal::Json(JsonError::NoJson),
+    Refusal::Json(JsonError::VariantNotInChoice),
+    Refusal::Json(JsonError::AlreadyFailed),
+    Refusal::Json(JsonError::OutOfTurn),
 ];
 
 impl Refusal {
@@ -90,6 +98,7 @@ impl Refusal {
             Refusal::NoRoom => 4,
             Refusal::Decode(kind) => decode_code(kind),
             Refusal::Encode(kind) => encode_code(kind),
+            Refusal::Json(error) => json_code(error),
         }
     }
 
@@ -106,6 +115,7 @@ impl Refusal {
             Refusal::NoRoom => "NoRoom",
             Refusal::Decode(kind) => kind.name(),
             Refusal::Encode(kind) => kind.name(),
+            Refusal::Json(error) => json_name(error),
         }
     }
 }
@@ -158,6 +168,45 @@ fn encode_code(kind: &EncodeErrorKind) -> u32
         EncodeErrorKind::Below => 33,
         EncodeErrorKind::AlreadyFailed => 34,
         EncodeErrorKind::OutOfTurn => 35,
+    }
+}
+
+/// The code of a refusal of JSON's encoder.
+fn json_code(error: &JsonError) -> u32
+    ensures code { result ≡ json_code error.now }
+    ensures some { 0 < result }
+{
+    match error {
+        JsonError::OutOfMemory => 1,
+        JsonError::NoJson => 36,
+        JsonError::VariantNotInChoice => 37,
+        JsonError::AlreadyFailed => 38,
+        JsonError::OutOfTurn => 39,
+    }
+}
+
+/// The name of a refusal of JSON's encoder.
+#[tactic(auto, using(crate::proofs::Codes::json_short))]
+fn json_name(error: &JsonError) -> &'static str
+    ensures name { result.now ≡ name_of (json_refusal error.now) }
+    ensures short { length result.now < 32 }
+{
+    error.name()
+}
+
+impl From<DecodeError> for Refusal {
+    ghost from_gives = { λ error refusal. refusal ≡ decode_refusal error.kind };
+
+    fn from(error: DecodeError) -> Refusal {
+        Refusal::Decode(error.kind)
+    }
+}
+
+impl From<JsonError> for Refusal {
+    ghost from_gives = { λ error refusal. refusal ≡ json_refusal error };
+
+    fn from(error: JsonError) -> Refusal {
+        Refusal::Json(error)
     }
 }
 

@@ -186,12 +186,12 @@ group_shown s v j g (shows_item names h) = absurd cc
 group_shown s v j g shows_octets = absurd cc
 group_shown s v j g shows_any = absurd cc
 group_shown s v j g (shows_bits h) = absurd cc
-group_shown s v j g (shows_string h) = absurd (no_string s g h)
+group_shown s v j g (shows_string {s = l} h) = absurd (no_string s v l g h)
   where
-    no_string : (s : Schema) → is_group_schema s ≡ true → IsString s → ⊥
-    no_string (Schema.sequence o ps ext adds) g h = h
-    no_string Schema.cut g h = h
-    no_string _ g h = absurd cc
+    no_string : (s : Schema) (v : Value) (l : List ℕ) → is_group_schema s ≡ true → IsString s v l → ⊥
+    no_string (Schema.sequence o ps ext adds) v l g h = h
+    no_string Schema.cut v l g h = h
+    no_string _ v l g h = absurd cc
 group_shown s v j g (shows_list h) = absurd cc
 group_shown s v j g (shows_bag h) = absurd cc
 group_shown s v j g (shows_record {ps = ps} {qs = qs} {rs = rs} {xs = xs} {ms = ms} {ns = ns} h k) = record {

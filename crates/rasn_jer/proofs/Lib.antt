@@ -7,4 +7,5 @@ pub mod Named
 pub mod Numbered
 pub mod Printed
 pub mod Refusing
+pub mod Spelled
 pub mod Writing

@@ -5,4 +5,5 @@ pub mod Names
 pub mod Places
 pub mod Rules
 pub mod Shown
+pub mod Strings
 pub mod Texts

@@ -1,11 +1,12 @@
 -- Which JSON value shows a value of a schema (ITU-T X.697). The names of members are any: a schema has none.
 use Rattle.std.specs.Prelude.{ℕ, ℤ, ◌≡◌, Bool, true, false, List, [], ◌∷◌, length, slice_get, Option, Some}
-use Rattle.std.specs.Prelude.{codes, decimal}
+use Rattle.std.specs.Prelude.{codes, decimal, encode_utf8_all}
 use Rattle.std.specs.Char.{OutOfScalarRange}
 use Rattle.rasn_types.specs.Packed.{packed}
-use Rattle.rasn_types.specs.Contents.{TimeKind, is_time}
+use Rattle.rasn_types.specs.Contents.{TextKind, TimeKind, is_time}
 use Rattle.rasn_types.specs.Values.{Value, truth, nothing, whole, octets, bits, characters, alternative}
-use Rattle.rasn_types.specs.Values.{bag_of, Side}
+use Rattle.rasn_types.specs.Values.{bag_of, day, Side}
+use Rattle.rasn_types.specs.Identifiers.{contents}
 use Rattle.rasn_constraints.specs.Bounds.{Bounds, Size, fits_i128}
 use Rattle.rasn_schema.specs.Absent.{no_value}
 use Rattle.rasn_schema.specs.Canonised.{canonised, canonised_slots}
@@ -22,6 +23,7 @@ use Rattle.json.specs.Tree.{HasNumbers}
 use Rattle.hex.specs.Hex.{encode_upper}
 use Rattle.std.specs.Fmt.{signed_decimal}
 use Rattle.rasn_jer.specs.Names.{item_by, number_of_item}
+use Rattle.rasn_jer.specs.Strings.{day_text, dotted}
 use Rattle.rasn_jer.specs.Texts.{join, text_of}
 
 -- the text of a whole number is a number of JSON, and its decimal digits where an i128 holds it
@@ -48,10 +50,6 @@ pub record ShowsBits (bs : List Bool) (text : List ℕ) : Type 0 where
   pub are_bits : IsBits bs json
   pub is_text : text ≡ text_of json
 
--- a text is a string of JSON
-abbrev pub IsQuoted : List ℕ → Type 0
-IsQuoted text = (s : List ℕ) × (text ≡ text_of (string s))
-
 -- a character isn't a scalar value of Unicode
 pub record HasNoScalar (cs : List ℕ) : Type 0 where
   pub index : ℕ
@@ -59,14 +57,17 @@ pub record HasNoScalar (cs : List ℕ) : Type 0 where
   pub found : slice_get cs index ≡ Some code
   pub foreign : OutOfScalarRange code
 
--- X.697: the kinds whose JSON is a string of any characters
-abbrev pub IsString : Schema → Type 0
-IsString (Schema.text kind) = Unit {0}
-IsString Schema.identifier = Unit {0}
-IsString (Schema.time kind) = Unit {0}
-IsString Schema.date = Unit {0}
-IsString (Schema.char_string alphabet size mark) = Unit {0}
-IsString _ = ⊥
+-- X.697: the kinds whose JSON is a string, and its characters in UTF-8: those of a character string or a time, an octet
+-- of GeneralString, GraphicString and TeletexString being the character with its number; the arcs of an identifier; and
+-- the year, the month and the day of a date
+abbrev pub IsString : Schema → Value → List ℕ → Type 0
+IsString (Schema.text TextKind.utf8) (octets os) s = s ≡ os
+IsString (Schema.text TextKind.other) (octets os) s = s ≡ encode_utf8_all os
+IsString (Schema.time kind) (characters cs) s = s ≡ encode_utf8_all cs
+IsString (Schema.char_string alphabet size mark) (characters cs) s = s ≡ encode_utf8_all cs
+IsString Schema.identifier (octets os) s = (arcs : List ℕ) × (os ≡ contents arcs) × (s ≡ dotted arcs)
+IsString Schema.date (day year month day_of_month) s = s ≡ day_text year month day_of_month
+IsString _ v s = ⊥
 
 -- a root component is there, and not at its default
 pub data IsThere : Presence → Value → Type 0 where
@@ -89,7 +90,7 @@ mutual
     shows_any : {os : List ℕ} → Shows Schema.any (octets os) (string (encode_upper os))
     shows_bits : {size : Size} {mark named : Bool} {bs : List Bool} {j : Json} → IsBits bs j
         → Shows (Schema.bit_string size mark named) (bits bs) j
-    shows_string : {c : Schema} {v : Value} {s : List ℕ} → IsString c → Shows c v (string s)
+    shows_string : {c : Schema} {v : Value} {s : List ℕ} → IsString c v s → Shows c v (string s)
     shows_list : {e : Schema} {size : Size} {mark : Bool} {vs : List Value} {js : Items} → ShowsAll e vs js
         → Shows (Schema.list e size mark) (list_value vs) (array js)
     -- in any order

@@ -20,15 +20,16 @@
 //!   names in their normal form.
 //! - Strings of characters: a string. In GeneralString, GraphicString and TeletexString each octet is the character
 //!   with its number.
-//! - OBJECT IDENTIFIER: a string, such as `"1.2.840"`. Times: their canonical text. DATE: such as `"2026-11-27"`.
+//! - OBJECT IDENTIFIER: a string, such as `"1.2.840"`. Times: their canonical text. DATE: such as `"2026-11-27"`, with
+//!   a minus sign in front of four digits where the year is below zero.
 //!
 //! Where a type's list of identifiers is too short, an item is its number (those before the extension marker count from
 //! 0, and those behind it go on), and an alternative goes by its tag, as `[2]` or `[UNIVERSAL 1]`.
 //!
 //! **Only tested**: that names are the type's, as a schema has none: those of `FIELDS` and `EXTENDED_FIELDS`, and which
-//! list `IDENTIFIERS` is (that an item is the one at its number of a list, and that number, are proved); the characters
-//! of strings; the digits of a number that no `i128` holds; and that the text is UTF-8. **Neither**: that two values of
-//! a type with equal JSON have equal normal forms.
+//! list `IDENTIFIERS` is (that an item is the one at its number of a list, and that number, are proved); the digits of a
+//! number that no `i128` holds; and that the text is UTF-8. **Neither**: that two values of a type with equal JSON have
+//! equal normal forms.
 #![tactic(auto)]
 
 pub mod encoder;

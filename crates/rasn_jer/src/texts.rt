@@ -1,15 +1,18 @@
 //! The texts of values, and of parts of them.
 
-ghost use Rattle.std.specs.Prelude.{◌≡◌, ◌+◌, ℕ, List, ◌⊎◌, false, map, option_map, slice_get, IfOk, IfErr};
+ghost use Rattle.std.specs.Prelude.{◌≡◌, ◌+◌, ℕ, List, ◌⊎◌, false, map, option_map, slice_get};
+ghost use Rattle.std.specs.Prelude.{◌++◌, flat_map, replicate, encode_utf8_all, string_bytes, IfOk, IfErr, OnOk};
+ghost use Rattle.std.specs.Char.{encode_utf8, OutOfScalarRange};
 ghost use Rattle.rasn_types.specs.Trimmed.{filled_up, trimmed};
-ghost use Rattle.std.specs.Fmt.{signed_decimal};
+ghost use Rattle.std.specs.Fmt.{decimal as decimal_of, signed_decimal};
 ghost use Rattle.rasn_types.specs.Contents.{generalized, is_time, utc};
 ghost use Rattle.rasn_schema.specs.Fields.{tag_of};
 ghost use Rattle.hex.specs.Hex.{encode_upper};
 ghost use Rattle.json.specs.Json.{boolean, null, string};
 ghost use Rattle.json.specs.Print.{IsNumber};
 ghost use Rattle.rasn_jer.specs.Names.{IdentifierOf, NamesAlternative, item_by, number_of_item};
-ghost use Rattle.rasn_jer.specs.Shown.{HasNoScalar, IsQuoted, IsWhole, ShowsBits, ShowsJson};
+ghost use Rattle.rasn_jer.specs.Shown.{HasNoScalar, IsWhole, ShowsBits, ShowsJson};
+ghost use Rattle.rasn_jer.specs.Strings.{behind_dot, day_text, dotted, year_text, zero_padded};
 ghost use Rattle.rasn_jer.specs.Texts.{enclosed as enclosed_text, member_text, text_of};
 ghost use Rattle.rasn_jer.specs.declared.error.EncodeError.TheVariants.{NoJson, OutOfMemory};
 
@@ -195,7 +198,7 @@ pub fn named_bits<A: Allocator + Copy>(
 
 /// Octets as a string, each as the character with its number.
 pub fn latin<A: Allocator + Copy>(alloc: A, octets: &[u8]) -> Result<Vec<u8, A>, AllocError>
-    ensures { IfOk result (λ text. IsQuoted text.items) }
+    ensures { IfOk result (λ text. text.items ≡ text_of (string (encode_utf8_all octets.now))) }
 {
     let mut text = String::new(alloc);
     for octet in octets {
@@ -209,7 +212,7 @@ pub fn scalars<A: Allocator + Copy, S: StaticPermittedAlphabet>(
     alloc: A,
     value: &S,
 ) -> Result<Vec<u8, A>, EncodeError>
-    ensures ok { IfOk result (λ text. IsQuoted text.items) }
+    ensures ok { IfOk result (λ text. text.items ≡ text_of (string (encode_utf8_all (S.characters value.now)))) }
     ensures err { IfErr result (λ e.
         (e ≡ OutOfMemory) ⊎ ((e ≡ NoJson) × HasNoScalar (S.characters value.now))) }
 {
@@ -223,19 +226,29 @@ fn characters<A: Allocator, S: StaticPermittedAlphabet>(
     alloc: A,
     value: &S,
 ) -> Result<String<A>, EncodeError>
-    ensures { IfErr result (λ e.
+    ensures ok { IfOk result (λ text. string_bytes text ≡ encode_utf8_all (S.characters value.now)) }
+    ensures err { IfErr result (λ e.
         (e ≡ OutOfMemory) ⊎ ((e ≡ NoJson) × HasNoScalar (S.characters value.now))) }
 {
     let mut text = String::new(alloc);
     for index in 0..value.len() {
         if let Some(code) = value.character(index) {
-            match char::from_u32(code) {
-                Some(character) => text.push(character)?,
-                None => return Err(EncodeError::NoJson),
-            }
+            push_scalar(&mut text, code)?;
         }
     }
     Ok(text)
+}
+
+/// Appends the character with a number. One that isn't a scalar value of Unicode has no JSON.
+fn push_scalar<A: Allocator>(text: &mut String<A>, code: u32) -> Result<(), EncodeError>
+    ensures ok { OnOk result (string_bytes text.new ≡ string_bytes text.old ++ encode_utf8 code) }
+    ensures err { IfErr result (λ e. (e ≡ OutOfMemory) ⊎ ((e ≡ NoJson) × OutOfScalarRange code)) }
+{
+    match char::from_u32(code) {
+        Some(character) => text.push(character)?,
+        None => return Err(EncodeError::NoJson),
+    }
+    Ok(())
 }
 
 /// The canonical text of a UTCTime as a string (X.690 11.8). A moment that it can't hold has no JSON.
@@ -243,7 +256,7 @@ pub fn utc_time<A: Allocator + Copy, M: UtcMoment>(
     alloc: A,
     value: &M,
 ) -> Result<Vec<u8, A>, EncodeError>
-    ensures ok { IfOk result (λ text. IsQuoted text.items) }
+    ensures ok { IfOk result (λ text. text.items ≡ text_of (string (encode_utf8_all (M.text value.now)))) }
     ensures err { IfErr result (λ e.
         (e ≡ OutOfMemory) ⊎ ((e ≡ NoJson) × (is_time utc (M.text value.now) ≡ false))) }
 {
@@ -262,7 +275,7 @@ pub fn generalized_time<A: Allocator + Copy, M: GeneralizedMoment>(
     alloc: A,
     value: &M,
 ) -> Result<Vec<u8, A>, EncodeError>
-    ensures ok { IfOk result (λ text. IsQuoted text.items) }
+    ensures ok { IfOk result (λ text. text.items ≡ text_of (string (encode_utf8_all (M.text value.now)))) }
     ensures err { IfErr result (λ e.
         (e ≡ OutOfMemory) ⊎ ((e ≡ NoJson) × (is_time generalized (M.text value.now) ≡ false))) }
 {
@@ -276,32 +289,104 @@ pub fn generalized_time<A: Allocator + Copy, M: GeneralizedMoment>(
     }
 }
 
-/// Arcs as a string of numbers with dots between them (X.697, OBJECT IDENTIFIER).
+/// Arcs as a string of numbers with full stops between them (X.697, OBJECT IDENTIFIER).
 pub fn identifier<A: Allocator + Copy>(alloc: A, arcs: &[u32]) -> Result<Vec<u8, A>, AllocError>
-    ensures { IfOk result (λ text. IsQuoted text.items) }
+    ensures { IfOk result (λ text. text.items ≡ text_of (string (dotted arcs.now))) }
 {
     let mut text = String::new(alloc);
-    for arc in arcs {
-        if !text.is_empty() {
-            text.push('.')?;
-        }
-        let mut buffer = Buffer::new();
-        text.push_str(buffer.format(*arc))?;
+    if let Some((first, others)) = arcs.split_first() {
+        push_arc(&mut text, *first)?;
+        push_others(&mut text, others)?;
     }
     quoted(alloc, text.as_str())
 }
 
-/// A day as a string, such as `"2026-11-27"` (X.680 38.4).
+/// Appends the decimal digits of an arc.
+fn push_arc<A: Allocator>(text: &mut String<A>, arc: u32) -> Result<(), AllocError>
+    ensures { OnOk result (string_bytes text.new ≡ string_bytes text.old ++ decimal_of arc) }
+{
+    let mut buffer = Buffer::new();
+    text.push_str(buffer.format(arc))
+}
+
+/// Appends arcs, each behind a full stop.
+fn push_others<A: Allocator>(text: &mut String<A>, arcs: &[u32]) -> Result<(), AllocError>
+    ensures { OnOk result (string_bytes text.new ≡ string_bytes text.old ++ flat_map behind_dot arcs.now) }
+{
+    for arc in arcs {
+        push_other(text, *arc)?;
+    }
+    Ok(())
+}
+
+/// Appends an arc behind a full stop.
+fn push_other<A: Allocator>(text: &mut String<A>, arc: u32) -> Result<(), AllocError>
+    ensures { OnOk result (string_bytes text.new ≡ string_bytes text.old ++ behind_dot arc) }
+{
+    text.push('.')?;
+    push_arc(text, arc)
+}
+
+/// A day as a string, such as `"2026-11-27"` or `"-0044-03-15"` (X.680 38.4).
 pub fn day<A: Allocator + Copy>(
     alloc: A,
     year: i16,
     month: u8,
     day: u8,
 ) -> Result<Vec<u8, A>, AllocError>
-    ensures { IfOk result (λ text. IsQuoted text.items) }
+    ensures { IfOk result (λ text. text.items ≡ text_of (string (day_text year month day))) }
 {
-    let text = format!(in alloc; "{year:04}-{month:02}-{day:02}")?;
+    let text = day_of(alloc, year, month, day)?;
     quoted(alloc, text.as_str())
+}
+
+/// A day by its year, its month and its day of the month.
+fn day_of<A: Allocator>(alloc: A, year: i16, month: u8, day: u8) -> Result<String<A>, AllocError>
+    ensures { IfOk result (λ text. string_bytes text ≡ day_text year month day) }
+{
+    let mut text = String::new(alloc);
+    push_year(&mut text, year)?;
+    text.push('-')?;
+    push_padded(&mut text, u16::from(month), 2)?;
+    text.push('-')?;
+    push_padded(&mut text, u16::from(day), 2)?;
+    Ok(text)
+}
+
+/// Appends a year in four digits, behind a minus sign where it is below zero.
+fn push_year<A: Allocator>(text: &mut String<A>, year: i16) -> Result<(), AllocError>
+    ensures { OnOk result (string_bytes text.new ≡ string_bytes text.old ++ year_text year) }
+{
+    let size = year.unsigned_abs();
+    if year >= 0 {
+        return push_padded(text, size, 4);
+    }
+    text.push('-')?;
+    push_padded(text, size, 4)
+}
+
+/// Appends the decimal digits of a number, behind zeros up to a width.
+fn push_padded<A: Allocator>(
+    text: &mut String<A>,
+    number: u16,
+    width: usize,
+) -> Result<(), AllocError>
+    ensures { OnOk result (string_bytes text.new ≡ string_bytes text.old ++ zero_padded width number) }
+{
+    let mut buffer = Buffer::new();
+    let digits = buffer.format(number);
+    push_zeros(text, width.saturating_sub(digits.len()))?;
+    text.push_str(digits)
+}
+
+/// Appends zeros.
+fn push_zeros<A: Allocator>(text: &mut String<A>, count: usize) -> Result<(), AllocError>
+    ensures { OnOk result (string_bytes text.new ≡ string_bytes text.old ++ replicate count 48) }
+{
+    for index in 0..count {
+        text.push('0')?;
+    }
+    Ok(())
 }
 
 /// An object of one member: the text of a choice's alternative by its identifier among those of the type (X.697,

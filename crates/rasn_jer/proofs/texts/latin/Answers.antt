@@ -1,5 +1,5 @@
-use Rattle.rasn_jer.proofs.Writing.{over_ok}
+use Rattle.rasn_jer.proofs.Spelled.{spelled_within}
 use Rattle.rasn_jer.proofs.texts.latin.Goals as goal
 
-pub returns : goal.returns
-returns g c = over_ok c.quoted.result c.quoted.ensures (λ t e. (c.as_str.result.now, e))
+pub loop-octet-preserved : goal.loop-octet-preserved
+loop-octet-preserved g c = spelled_within c.args.octets.now _ _ c.loop-octet.octet-index c.from.result c.loop-octet.invariant c.loop-octet-test.true c.from.ensures c.in_ok-push.ensures.bytes

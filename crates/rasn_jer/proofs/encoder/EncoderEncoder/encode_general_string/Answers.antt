@@ -1,8 +1,9 @@
-use Rattle.rasn_jer.proofs.Writing.{leaf, over_ok}
+use Rattle.std.proofs.Common.{ap, encode_utf8_all}
+use Rattle.rasn_jer.proofs.Writing.{leaf_as}
 use Rattle.json.specs.Json.{string}
 use Rattle.rasn_jer.specs.Shown.{shows_string}
 use Rattle.rasn_jer.proofs.encoder.EncoderEncoder.encode_general_string.Goals as goal
 
 pub returns : goal.returns
-returns g c = leaf c.latin-text.result (λ t. t.items) c.args.self.now _ _ c.write.result c.write.new.self c.write.ensures
-    (over_ok c.latin-text.result c.latin-text.ensures (λ t h. record { json = string h.0; is_text = h.1; shows = shows_string tt }))
+returns g c = leaf_as c.latin-text.result (λ t. t.items) c.args.self.now _ _ c.write.result c.write.new.self (string (encode_utf8_all c.as_bytes.result.now)) c.write.ensures c.latin-text.ensures
+    (shows_string (ap encode_utf8_all c.as_bytes.ensures))
