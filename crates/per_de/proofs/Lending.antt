@@ -2,6 +2,10 @@
 -- (X.691 11.9, 17).
 use Rattle.std.proofs.Common.{◌≡◌, ◌<◌, ◌≤◌, ◌⊎◌, inl, inr, refl, sym, ◌∙◌, ap, ap₂, subst, ℕ, zero, suc, ◌+◌, ◌-◌, ◌*◌, ◌/◌, ◌%◌, ◌^◌, take, drop, take_at, drop_at, Bool, true, false, cond, nat_lt, List, [], ◌∷◌, ◌++◌, length, Option, Some, None, Global, arith, length-append, length-take, length-drop, take-append-drop, append_assoc}
 use Rattle.std.specs.Prelude.{◌↔◌, Result, Ok, Err, IfOk, IfSome}
+use Rattle.std.proofs.lemmas.List.{take_all}
+use Rattle.rasn_types.specs.Packed.{packed}
+use Rattle.rasn_types.proofs.Octets.{length-pack}
+use Rattle.rasn_types.proofs.Packing.{unpack-packed}
 use Rattle.std.specs.Cow.{cow_slice_items, IsBorrowedSlice, IsOwnedSlice}
 use Rattle.std.specs.List.{between}
 use Rattle.std.specs.declared.borrow.CowSlice.{CowSlice}
@@ -31,10 +35,9 @@ use Rattle.per_read.specs.Stands.{LastTaken}
 use Rattle.per_decoding.specs.Faults.{refusal}
 use Rattle.per_decoding.specs.Rules.{decoder_rules}
 use Rattle.per_decoding.specs.State.{State, reader_of, settings_of, with_last}
-use Rattle.per_de.specs.Lending.{AreLent, ComeAlone, is_counted_once, is_extended}
+use Rattle.per_de.specs.Lending.{AreLent, CanBeLent, ComeAlone, is_counted_once, is_extended}
 use Rattle.per_de.specs.Sources.{bits_of, lends, place_of, span_of, up_to, AreOctetsOf, IsWithin}
 use Rattle.per_de.specs.declared.source.Source.{Source}
-use Rattle.per_de.specs.declared.source.Source.TheVariants as From
 use Rattle.per_de.specs.declared.source.Span.{Span}
 use Rattle.per_de.proofs.Calls.{reads}
 use Rattle.per_de.proofs.Spans.{in_front_of}
@@ -150,13 +153,32 @@ pub if_some : {X : Type 0} (r : Option X) (P Q : X → Type 0) → ((v : X) → 
 if_some None P Q f h = tt
 if_some (Some v) P Q f h = f v h
 
--- octets that come alone are lent exactly where octets of the input stand in front of the last bits
-pub lent_where : {A : Type 0} (size : Size) (mark : Bool) (s : State) (source : Source) (span : Span) (left n : ℕ) → up_to span source ≡ s.source → IsWithin span (bits_of source) → 0 < n → ComeAlone size mark s.bits n → left ≤ span.end
-    → A ↔ ((lends source ≡ true) × ((place_of source + (span.end - left)) % 8 ≡ 0)) → A ↔ AreLent size mark s left n
-lent_where size mark s source span left n e h some alone l i =
+pub if_ok : {X E : Type 0} (r : Result X E) (P Q : X → Type 0) → ((v : X) → P v → Q v) → IfOk r P → IfOk r Q
+if_ok (Err e) P Q f h = tt
+if_ok (Ok v) P Q f h = f v h
+
+-- whole octets that are copied are the bits that they were
+pub copy_same : (bits : Bits) (os : List ℕ) (n : ℕ) → length bits ≡ 8 * n → os ≡ packed bits → unpack os ≡ bits
+copy_same bits os n l e =
+    let many : length os ≡ n = ap length e ∙ length-pack ((length bits + 7) / 8) bits ∙ omega (arith, l) in
+    let whole : length bits ≡ length (unpack os) = omega (arith, l, many, length-unpack os) in
+    sym (take_all (length bits) (unpack os) (omega (arith, whole))) ∙ ap (λ z. take (length bits) (unpack z)) e ∙ unpack-packed bits
+
+-- a copy of the octets that end in front of the place of a bit
+pub copied_octets : (input part : Bits) (place n : ℕ) (os : List ℕ) → 8 * n ≤ place → place ≤ length input → part ≡ take (8 * n) (drop (place - 8 * n) input) → AreOctets os → os ≡ packed part → AreOctetsOf input place n os
+copied_octets input part place n os l within e h same =
+    let rest = drop (place - 8 * n) input in
+    let wide : length part ≡ 8 * n = ap length e ∙ length-take (8 * n) rest ∙ omega (arith, length-drop (place - 8 * n) input, l, within) in
+    let w : 8 * n ≡ place - (place - 8 * n) = omega (arith, l) in
+    record { are = h; same = copy_same part os n wide same ∙ e ∙ ap (λ (i : ℕ). take i rest) w }
+
+-- octets can be lent exactly where octets of the input stand in front of the last bits
+pub lent_where : {A : Type 0} (s : State) (source : Source) (span : Span) (left n : ℕ) → up_to span source ≡ s.source → IsWithin span (bits_of source) → 0 < n → left ≤ span.end
+    → A ↔ ((lends source ≡ true) × ((place_of source + (span.end - left)) % 8 ≡ 0)) → A ↔ CanBeLent s left n
+lent_where s source span left n e h some l i =
     let same : place_of source + (span.end - left) ≡ s.source.place + (length s.source.bits - (s.source.behind + left)) =
     omega (arith, ap (λ z. z.place) e, ap (λ z. z.behind) e, ap (λ z. length z.bits) e, h.enough, l) in (
-      (λ a. let q = i.0 a in record { some = some; alone = alone; lends = sym (ap (λ z. z.lends) e) ∙ q.0; on_octets = ap (λ (k : ℕ). k % 8) (sym same) ∙ q.1 }),
+      (λ a. let q = i.0 a in record { some = some; lends = sym (ap (λ z. z.lends) e) ∙ q.0; on_octets = ap (λ (k : ℕ). k % 8) (sym same) ∙ q.1 }),
       λ w. i.1 (ap (λ z. z.lends) e ∙ w.lends, ap (λ (k : ℕ). k % 8) same ∙ w.on_octets),
     )
 
@@ -201,21 +223,30 @@ module _ (s : State) (size : Size) (mark : Bool) {x y : Taking} (left : ℕ) (t 
         let d : drop k s.bits ≡ unpack q.0 ++ y.bits = ap (λ z. drop k z) h.joins ∙ drop_at h.before (unpack q.0 ++ y.bits) k first in
         unpack_same part q.0 p.are w.1 (p.same ∙ ap (λ z. take m z) d ∙ take_at (unpack q.0) y.bits m many)
 
-    pub lent_read : (v : CowSlice ℕ Global) → AreLent size mark s left n → AreOctetsOf s.bits (length s.bits - left) n (cow_slice_items v) → t ≡ with_last s left
+    pub alone_read : (v : CowSlice ℕ Global) → ComeAlone size mark s.bits n → AreOctetsOf s.bits (length s.bits - left) n (cow_slice_items v) → t ≡ with_last s left
         → Reads decoder_rules (Schemas.octet_string size mark) (λ (v : CowSlice ℕ Global). octets (cow_slice_items v)) s (Ok v) t
-    lent_read v a p h =
+    alone_read v a p h =
         let q = taken n g in
-        let k : Took (Counted (settings_of s) size mark octet_items octet (cow_slice_items v)) s.bits y.bits = subst (λ z. Took (Counted (settings_of s) size mark octet_items octet z) s.bits y.bits) (sym (part_is (cow_slice_items v) a.alone p)) q.2 in
+        let k : Took (Counted (settings_of s) size mark octet_items octet (cow_slice_items v)) s.bits y.bits = subst (λ z. Took (Counted (settings_of s) size mark octet_items octet z) s.bits y.bits) (sym (part_is (cow_slice_items v) a p)) q.2 in
         let r : Takes (memory_or (λ a. IsOfItems a size mark Octet)) (λ a. Counted a size mark octet_items octet) (λ P (v : CowSlice ℕ Global). P (cow_slice_items v)) (reader_of s) (Ok v) y =
         record { ok = k; err = tt; kept = g.kept ∙ ap (λ z. z.options) i } in
         reads s (Schemas.octet_string size mark) (λ v. octets (cow_slice_items v)) live (λ v. reads_octets (settings_of s) size mark (cow_slice_items v)) refl r l (refl, h) (λ d. faulty_octets (settings_of s) size mark s.bits d)
 
-    pub lent_as : (part : List ℕ) → AreLent size mark s left n → AreOctetsOf s.bits (length s.bits - left) n part → t ≡ with_last s left → AreLent size mark s (length t.bits) (length part)
-    lent_as part a p h =
+    -- what comes alone is lent exactly where it can be
+    pub lent_as : (v : CowSlice ℕ Global) → ComeAlone size mark s.bits n → AreOctetsOf s.bits (length s.bits - left) n (cow_slice_items v) → t ≡ with_last s left → IsBorrowedSlice v ↔ CanBeLent s left n
+        → IsBorrowedSlice v ↔ AreLent size mark s (length t.bits) (length (cow_slice_items v))
+    lent_as v alone p h e =
         let q = taken n g in
-        let many : length part ≡ n = ap length (part_is part a.alone p) ∙ q.1 in
-        let rest : length t.bits ≡ left = ap (λ z. length z.bits) h ∙ length-drop (length s.bits - left) s.bits ∙ omega (arith, enough a.alone) in
-        subst (λ (k : ℕ). AreLent size mark s k (length part)) (sym rest) (subst (λ (k : ℕ). AreLent size mark s left k) (sym many) a)
+        let many : length (cow_slice_items v) ≡ n = ap length (part_is (cow_slice_items v) alone p) ∙ q.1 in
+        let rest : length t.bits ≡ left = ap (λ z. length z.bits) h ∙ length-drop (length s.bits - left) s.bits ∙ omega (arith, enough alone) in (
+          (λ b.
+              let w = e.0 b in
+              let a : AreLent size mark s left n = record { some = w.some; alone = alone; lends = w.lends; on_octets = w.on_octets } in
+              subst (λ (k : ℕ). AreLent size mark s k (length (cow_slice_items v))) (sym rest) (subst (λ (k : ℕ). AreLent size mark s left k) (sym many) a)),
+          λ a.
+              let w : AreLent size mark s left n = subst (λ (k : ℕ). AreLent size mark s left k) many (subst (λ (k : ℕ). AreLent size mark s k (length (cow_slice_items v))) rest a) in
+              e.1 (record { some = w.some; lends = w.lends; on_octets = w.on_octets }),
+        )
 
     -- what is copied isn't lent
     pub copied_unlent : (r : Result (CowSlice ℕ Global) DecodeError) → Reads decoder_rules (Schemas.octet_string size mark) (λ (v : CowSlice ℕ Global). octets (cow_slice_items v)) s r t → IfOk r (λ v. IsOwnedSlice v)

@@ -33,7 +33,7 @@ ghost use Rattle.per_decoding.specs.State.{State, Options, fresh, fresh_of, from
 ghost use Rattle.per_de.specs.Lists.{IsOpenList};
 ghost use Rattle.per_de.specs.Openings.{OpensRecord};
 ghost use Rattle.per_de.specs.Outsides.{outside_choice_of, outside_record_of, outside_addition_of};
-ghost use Rattle.per_de.specs.Lending.{AreLent, ComeAlone};
+ghost use Rattle.per_de.specs.Lending.{AreLent, CanBeLent, ComeAlone};
 ghost use Rattle.per_de.specs.Sources.{bits_of, extension_in, flags_in, place_left, span_of, up_to, unread_of};
 ghost use Rattle.per_de.specs.Sources.{AreOctetsOf, IsWithin};
 ghost use Rattle.per_de.specs.Steps.{AsksNext, EndsContents, EntersOpen, HasTwoLevels, IsRootRead, SkipsUnknown};
@@ -66,7 +66,7 @@ use rasn_traits::decoder;
 use rasn_types::bit_string::BitString;
 use rasn_types::octet_strings::{Any, GeneralString, GraphicString, TeletexString, Utf8String};
 use rasn_types::types::{Codec, Tag};
-use std::alloc::{Allocator, Global};
+use std::alloc::{AllocError, Allocator, Global};
 use std::borrow::CowSlice;
 use std::marker::Model;
 use std::mem;
@@ -313,16 +313,19 @@ impl<'input> Decoder<'input> {
             Ok(count) => count,
             Err(kind) => return Err(self.refuse(kind)),
         };
-        let Some(octets) = self.lent(constraints, count, left) else {
-            return self.copied(constraints);
+        if !come_alone(constraints, &self.input(), count) {
+            return self.gathered(constraints);
+        }
+        let octets = match self.octets_before(left, count) {
+            Ok(octets) => octets,
+            Err(_) => return Err(self.refuse(DecodeErrorKind::OutOfMemory)),
         };
         self.keep_last(left);
-        Ok(CowSlice::Borrowed(octets))
+        Ok(octets)
     }
 
-    /// Reads an OCTET STRING under constraints, and answers a copy of its octets.
-    #[inline(always)]
-    fn copied(&mut self, constraints: &Constraints) -> Result<CowSlice<'static, u8>, DecodeError>
+    /// Reads an OCTET STRING under constraints, and answers a copy of its octets, which may come in fragments.
+    fn gathered(&mut self, constraints: &Constraints) -> Result<CowSlice<'static, u8>, DecodeError>
         ensures read { Reads decoder_rules (octet_schema constraints.now) (λ x. octets (cow_slice_items x))
             self.old result self.new }
         ensures owned { IfOk result (λ x. IsOwnedSlice x) }
@@ -335,20 +338,45 @@ impl<'input> Decoder<'input> {
         Ok(CowSlice::Owned(octets))
     }
 
-    /// The `count` octets under a size in front of the last `left` bits, where they can be lent.
+    /// The `count` octets in front of the last `left` bits: those of the input, at least one, are lent, and others are
+    /// copied. The only error is want of memory.
     #[inline(always)]
-    fn lent(&self, constraints: &Constraints, count: usize, left: u128) -> Option<&'input [u8]>
-        requires { ComeAlone (size_of constraints.now) (is_size_marked constraints.now) self.now.bits count
-            → 8 * count + left ≤ length self.now.bits }
+    fn octets_before(&self, left: u128, count: usize) -> Result<CowSlice<'input, u8>, AllocError>
+        requires { 8 * count + left ≤ length self.now.bits }
+        ensures octets { let bits = self.now.bits in
+            IfOk result (λ x. AreOctetsOf bits (length bits - left) count (cow_slice_items x)) }
+        ensures lent { IfOk result (λ x. IsBorrowedSlice x ↔ CanBeLent self.now left count) }
+    {
+        let Some(octets) = self.lent(left, count) else {
+            let octets = self.copied(left, count)?;
+            return Ok(CowSlice::Owned(octets));
+        };
+        Ok(CowSlice::Borrowed(octets))
+    }
+
+    /// The `count` octets in front of the last `left` bits, where they can be lent.
+    #[inline(always)]
+    fn lent(&self, left: u128, count: usize) -> Option<&'input [u8]>
+        requires { 8 * count + left ≤ length self.now.bits }
         ensures some { let bits = self.now.bits in
             IfSome result (λ part. AreOctetsOf bits (length bits - left) count part.now) }
-        ensures lent { let size = size_of constraints.now in let mark = is_size_marked constraints.now in
-            IsSome result ↔ AreLent size mark self.now left count }
+        ensures lent { IsSome result ↔ CanBeLent self.now left count }
     {
-        if count == 0 || !come_alone(constraints, &self.input(), count) {
+        if count == 0 {
             return None;
         }
         self.source.octets_before(self.bits.end - left, count)
+    }
+
+    /// A copy of the `count` octets in front of the last `left` bits. The only error is want of memory.
+    #[inline(always)]
+    fn copied(&self, left: u128, count: usize) -> Result<Vec<u8>, AllocError>
+        requires { 8 * count + left ≤ length self.now.bits }
+        ensures { let bits = self.now.bits in
+            IfOk result (λ copy. AreOctetsOf bits (length bits - left) count copy.items) }
+    {
+        let place = self.bits.end - left;
+        self.source.copy_before(self.alloc, place, count)
     }
 
     /// A reader of the bits that are left.

@@ -1,6 +1,7 @@
 //! Where a decoder's bits come from, and which of them it means: places in a source, and presence bits there.
 
 ghost use Rattle.std.specs.Prelude.{◌≡◌, ◌≤◌, ◌+◌, ◌-◌, ◌*◌, ◌%◌, ◌↔◌, true, [], length, IfSome, IsSome, IsTrue};
+ghost use Rattle.std.specs.Prelude.{IfOk};
 ghost use Rattle.rasn_types.specs.Bits.{Bits};
 ghost use Rattle.per_read.specs.Additions.{NextFlag};
 ghost use Rattle.per_decoding.specs.State.{extension_of};
@@ -10,6 +11,7 @@ ghost use Rattle.per_de.specs.Sources.{IsWithin};
 use per_bits::BitReader;
 use per_read::bitmaps::{Bitmap, next_flag};
 use rasn_types::bit_string::{BitString, note_octets};
+use std::alloc::{AllocError, Global};
 
 /// Where the bits come from that a decoder reads.
 #[derive(Drop)]
@@ -44,6 +46,26 @@ impl<'input> Source<'input> {
             return None;
         };
         octets_before(input, place, count)
+    }
+
+    /// A copy of the last `count` octets in front of a place. The only error is want of memory.
+    pub(crate) fn copy_before(
+        &self,
+        alloc: Global,
+        place: u128,
+        count: usize,
+    ) -> Result<Vec<u8>, AllocError>
+        requires there { 8 * count ≤ place }
+        requires within { place ≤ length (bits_of self.now) }
+        ensures { IfOk result (λ copy. AreOctetsOf (bits_of self.now) place count copy.items) }
+    {
+        let width = 8 * count as u128;
+        let mut copy = Vec::new(alloc);
+        self.bits()
+            .part(place - width, width)
+            .append_octets(&mut copy)?;
+        note_octets(copy.as_slice());
+        Ok(copy)
     }
 }
 
