@@ -8,7 +8,7 @@ use Rattle.rasn_schema.specs.Records.{record_value}
 use Rattle.rasn_schema.specs.Schemas.{by_tag, count, Schema, Parts, no_parts, part}
 use Rattle.rasn_traits.specs.Calls.{Written}
 use Rattle.rasn_traits.specs.Scopes.{OpenedToWrite, PresentsFields}
-use Rattle.per_pieces.specs.OpenSets.{closed, opened, OpenSet, Underway}
+use Rattle.per_pieces.specs.OpenSets.{closed, opened, OpenSet}
 use Rattle.per_write.specs.Components.{Encoding, going_on, OpensComponents, PutsInOrder, underway}
 use Rattle.per_write.specs.declared.error.EncodeError.{EncodeError}
 use Rattle.per_write.specs.declared.error.EncodeErrorKind.TheVariants.{OutOfTurn}
@@ -30,25 +30,25 @@ fields_counted i no_parts = refl
 fields_counted i (part t q s ps) = let n = fields_counted (suc i) ps in omega arith
 
 -- a SET is opened
-pub set_opened : (parts : ℕ → Parts) (marker : Bool) (additions : ℕ → Parts) (x m : Encoding) (front w : State) (o : Scope) (outer : Option OpenSet) (set : OpenSet) (k : ℕ) (behind : Option ℕ)
+pub set_opened : (parts : ℕ → Parts) (marker : Bool) (additions : ℕ → Parts) (x m : Encoding) (front w : State) (o : Scope) (outer set : Option OpenSet) (k : ℕ) (behind : Option ℕ)
     → m ≡ record { writer = (noting x).writer; set = None } → outer ≡ (noting x).set → OpensOrNot 0 behind m.writer (Ok o) front → ((n : ℕ) → behind ≡ behind_marker marker (part_count (additions n)))
     → OpensComponents k front (Ok set) w → ((n : ℕ) → k ≡ count (parts n)) → (marker ≡ false → (n : ℕ) → additions n ≡ no_parts)
-    → OpenedToWrite encoding_rules Opens by_tag parts marker additions x (Ok (o, outer)) (record { writer = w; set = Some set })
+    → OpenedToWrite encoding_rules Opens by_tag parts marker additions x (Ok (o, outer)) (record { writer = w; set = set })
 set_opened parts marker additions x m front w o outer set k behind e a c d p f n = λ j. (
   at j,
   record {
     room = λ r q. record { kind_is = q.kind_is; codec_is = q.codec_is ∙ p.kept ∙ (at j).marked.same ∙ noting_codec x };
     of_record = λ r rs xs l q. refuses_noted r x (Schema.sequence by_tag (parts j) marker (additions j)) (record_value rs xs)
-        (refuses_set (parts j) marker (additions j) x (record { writer = w; set = Some set }) (o, outer) (at j) r rs xs (λ b. n b j) l q);
+        (refuses_set (parts j) marker (additions j) x (record { writer = w; set = set }) (o, outer) (at j) r rs xs (λ b. n b j) l q);
   },
 )
   where
-    at : (j : ℕ) → OpensSet (count (parts j)) (behind_marker marker (part_count (additions j))) x (o, outer) (record { writer = w; set = Some set })
+    at : (j : ℕ) → OpensSet (count (parts j)) (behind_marker marker (part_count (additions j))) x (o, outer) (record { writer = w; set = set })
     at j = record {
       front = front;
       marked = subst (λ (z : Encoding). OpensRecord 0 (behind_marker marker (part_count (additions j))) z.writer o front) e (subst (λ (b : Option ℕ). OpensRecord 0 b m.writer o front) (d j) c.ok);
       waits = a;
-      inside = ap (λ (z : State). record { writer = z; set = Some set }) p.same ∙ ap (λ (u : Underway). going_on u front) p.ok ∙ ap (λ (i : ℕ). going_on (opened i front.pieces) front) (f j);
+      inside = p.ok ∙ ap (λ (i : ℕ). going_on (opened i front.pieces) front) (f j);
     }
 
 -- a SET is closed

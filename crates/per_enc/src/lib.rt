@@ -11,11 +11,10 @@ ghost use Rattle.per_write.specs.Faults.{IsAlready, RefusesOutput};
 ghost use Rattle.per_write.specs.State.{view};
 
 use per_bits::BitList;
-use per_pieces::open_sets::OpenSet;
 pub use per_write::error;
 pub use per_write::error::{EncodeError, EncodeError as Error, EncodeErrorKind};
 use per_write::lists::{UnwrittenElements, close_list, next_element, open_list};
-use per_write::{OutsideAddition, Scope, Writer};
+use per_write::{EnclosingSet, OutsideAddition, Scope, Writer};
 use per_write_types::bags::OpenBag;
 use per_write_types::choices::{OutsideChoice, checked_place, close_choice, open_choice};
 use per_write_types::dates::put_date;
@@ -81,7 +80,7 @@ impl Default for EncoderOptions {
 pub struct Encoder<A: Allocator + Clone> {
     writer: Writer<A>,
     /// The open SET whose components are written at once; none where no SET is open, or inside one of them.
-    set: Option<OpenSet<A>>,
+    set: EnclosingSet<A>,
 }
 
 impl<A: Allocator + Clone> Model for Encoder<A> {
@@ -100,7 +99,7 @@ impl<A: Allocator + Clone> Encoder<A> {
     {
         Encoder {
             writer: Writer::new(alloc, options.codec),
-            set: None,
+            set: EnclosingSet::none(),
         }
     }
 
@@ -111,7 +110,7 @@ impl<A: Allocator + Clone> Encoder<A> {
     {
         Encoder {
             writer: Writer::new_with_output(options.codec, output),
-            set: None,
+            set: EnclosingSet::none(),
         }
     }
 
@@ -169,7 +168,7 @@ impl<A: Allocator + Clone> Encoder<A> {
     /// Begins a value that others stand in, which no SET around it takes for its components. Answers what is kept of
     /// that SET meanwhile.
     #[inline(always)]
-    fn begin_outer_value(&mut self) -> Result<Option<OpenSet<A>>, EncodeError>
+    fn begin_outer_value(&mut self) -> Result<EnclosingSet<A>, EncodeError>
         ensures ok { OnOk result (self.old.writer.failed ≡ false) }
         ensures waits { IfOk result (λ set. set ≡ (noting self.old).set) }
         ensures inside { OnOk result (self.new ≡ record { writer = (noting self.old).writer; set = None }) }
@@ -189,15 +188,15 @@ impl<A: Allocator + Clone> encoder::Encoder for Encoder<A> {
 
     type Error = EncodeError;
 
-    type Scope = (Scope<A>, Option<OpenSet<A>>);
+    type Scope = (Scope<A>, EnclosingSet<A>);
 
-    type Addition = (OutsideAddition<A>, Option<OpenSet<A>>);
+    type Addition = (OutsideAddition<A>, EnclosingSet<A>);
 
-    type Alternative = (OutsideChoice<A>, Option<OpenSet<A>>);
+    type Alternative = (OutsideChoice<A>, EnclosingSet<A>);
 
-    type List = (UnwrittenElements, Option<OpenSet<A>>);
+    type List = (UnwrittenElements, EnclosingSet<A>);
 
-    type Bag = (OpenBag<A>, Option<OpenSet<A>>);
+    type Bag = (OpenBag<A>, EnclosingSet<A>);
 
     ghost rules = { encoding_rules };
 
@@ -417,7 +416,7 @@ impl<A: Allocator + Clone> encoder::Encoder for Encoder<A> {
         &mut self,
         _tag: Tag,
         _identifier: Identifier,
-    ) -> Result<(Scope<A>, Option<OpenSet<A>>), EncodeError> {
+    ) -> Result<(Scope<A>, EnclosingSet<A>), EncodeError> {
         let set = self.begin_outer_value()?;
         let count = C::FIELDS.number_of_optional_and_default_fields();
         let scope = self.writer.open_record(count, addition_count::<C>())?;
@@ -426,7 +425,7 @@ impl<A: Allocator + Clone> encoder::Encoder for Encoder<A> {
 
     fn close_sequence<C: Constructed>(
         &mut self,
-        outside: (Scope<A>, Option<OpenSet<A>>),
+        outside: (Scope<A>, EnclosingSet<A>),
     ) -> Result<(), EncodeError> {
         self.writer.check_unfailed()?;
         let (scope, set) = outside;
@@ -438,20 +437,20 @@ impl<A: Allocator + Clone> encoder::Encoder for Encoder<A> {
         &mut self,
         _tag: Tag,
         _identifier: Identifier,
-    ) -> Result<(Scope<A>, Option<OpenSet<A>>), EncodeError> {
+    ) -> Result<(Scope<A>, EnclosingSet<A>), EncodeError> {
         let outer = self.begin_outer_value()?;
         let scope = self.writer.open_record(0, addition_count::<C>())?;
         let set = self.writer.open_components(C::FIELDS.len())?;
-        self.set = Some(set);
+        self.set = set;
         Ok((scope, outer))
     }
 
     fn close_components<C: Constructed>(
         &mut self,
-        outside: (Scope<A>, Option<OpenSet<A>>),
+        outside: (Scope<A>, EnclosingSet<A>),
     ) -> Result<(), EncodeError> {
         self.writer.check_unfailed()?;
-        let Some(set) = self.set.take() else {
+        let Some(set) = self.set.take_open() else {
             return Err(self.writer.refuse(EncodeErrorKind::OutOfTurn));
         };
         self.writer.put_components(set, &C::FIELDS)?;
@@ -464,7 +463,7 @@ impl<A: Allocator + Clone> encoder::Encoder for Encoder<A> {
         &mut self,
         _tag: Tag,
         _identifier: Identifier,
-    ) -> Result<(Scope<A>, Option<OpenSet<A>>), EncodeError> {
+    ) -> Result<(Scope<A>, EnclosingSet<A>), EncodeError> {
         let set = self.begin_outer_value()?;
         let bits = C::FIELDS.number_of_optional_and_default_fields();
         let added = addition_count::<C>();
@@ -474,7 +473,7 @@ impl<A: Allocator + Clone> encoder::Encoder for Encoder<A> {
 
     fn close_set<C: Constructed>(
         &mut self,
-        outside: (Scope<A>, Option<OpenSet<A>>),
+        outside: (Scope<A>, EnclosingSet<A>),
     ) -> Result<(), EncodeError> {
         self.writer.check_unfailed()?;
         let (ordered, set) = outside;
@@ -486,7 +485,7 @@ impl<A: Allocator + Clone> encoder::Encoder for Encoder<A> {
         &mut self,
         _tag: Tag,
         _identifier: Identifier,
-    ) -> Result<(OutsideChoice<A>, Option<OpenSet<A>>), EncodeError> {
+    ) -> Result<(OutsideChoice<A>, EnclosingSet<A>), EncodeError> {
         let set = self.begin_outer_value()?;
         let choice = open_choice(&mut self.writer, C::VARIANTS.len(), added_count::<C>())?;
         Ok((choice, set))
@@ -494,7 +493,7 @@ impl<A: Allocator + Clone> encoder::Encoder for Encoder<A> {
 
     fn close_choice<C: Choice>(
         &mut self,
-        outside: (OutsideChoice<A>, Option<OpenSet<A>>),
+        outside: (OutsideChoice<A>, EnclosingSet<A>),
         chosen: Tag,
     ) -> Result<(), EncodeError> {
         self.writer.check_unfailed()?;
@@ -510,13 +509,11 @@ impl<A: Allocator + Clone> encoder::Encoder for Encoder<A> {
     #[inline(always)]
     fn set_presence(&mut self, is_there: bool) -> Result<(), EncodeError> {
         self.writer.check_unfailed()?;
-        match &mut self.set {
-            None => self.writer.set_presence(is_there),
-            Some(set) => {
-                self.writer.begin_component(set, is_there);
-                Ok(())
-            }
+        if self.set.is_none() {
+            return self.writer.set_presence(is_there);
         }
+        self.writer.begin_component(&mut self.set, is_there);
+        Ok(())
     }
 
     fn skip_addition(&mut self) -> Result<(), EncodeError> {
@@ -524,7 +521,7 @@ impl<A: Allocator + Clone> encoder::Encoder for Encoder<A> {
         self.writer.skip_addition()
     }
 
-    fn open_addition(&mut self) -> Result<(OutsideAddition<A>, Option<OpenSet<A>>), EncodeError> {
+    fn open_addition(&mut self) -> Result<(OutsideAddition<A>, EnclosingSet<A>), EncodeError> {
         self.writer.check_unfailed()?;
         let open_type = self.writer.open_addition()?;
         Ok((open_type, self.set.take()))
@@ -532,7 +529,7 @@ impl<A: Allocator + Clone> encoder::Encoder for Encoder<A> {
 
     fn close_addition(
         &mut self,
-        addition: (OutsideAddition<A>, Option<OpenSet<A>>),
+        addition: (OutsideAddition<A>, EnclosingSet<A>),
     ) -> Result<(), EncodeError> {
         self.writer.check_unfailed()?;
         let (open_type, set) = addition;
@@ -542,7 +539,7 @@ impl<A: Allocator + Clone> encoder::Encoder for Encoder<A> {
 
     fn close_group<C: AdditionGroup>(
         &mut self,
-        addition: (OutsideAddition<A>, Option<OpenSet<A>>),
+        addition: (OutsideAddition<A>, EnclosingSet<A>),
     ) -> Result<(), EncodeError> {
         self.writer.check_unfailed()?;
         let fields = C::FIELDS;
@@ -558,7 +555,7 @@ impl<A: Allocator + Clone> encoder::Encoder for Encoder<A> {
         constraints: &Constraints,
         count: usize,
         _identifier: Identifier,
-    ) -> Result<(UnwrittenElements, Option<OpenSet<A>>), EncodeError> {
+    ) -> Result<(UnwrittenElements, EnclosingSet<A>), EncodeError> {
         let set = self.begin_outer_value()?;
         let list = open_list(&mut self.writer, constraints, count)?;
         Ok((list, set))
@@ -566,7 +563,7 @@ impl<A: Allocator + Clone> encoder::Encoder for Encoder<A> {
 
     fn next_element(
         &mut self,
-        list: &mut (UnwrittenElements, Option<OpenSet<A>>),
+        list: &mut (UnwrittenElements, EnclosingSet<A>),
     ) -> Result<(), EncodeError> {
         self.writer.check_unfailed()?;
         next_element(&mut self.writer, &mut list.0)
@@ -574,7 +571,7 @@ impl<A: Allocator + Clone> encoder::Encoder for Encoder<A> {
 
     fn close_list(
         &mut self,
-        list: (UnwrittenElements, Option<OpenSet<A>>),
+        list: (UnwrittenElements, EnclosingSet<A>),
     ) -> Result<(), EncodeError> {
         self.writer.check_unfailed()?;
         let (elements, set) = list;
@@ -588,21 +585,18 @@ impl<A: Allocator + Clone> encoder::Encoder for Encoder<A> {
         constraints: &Constraints,
         count: usize,
         _identifier: Identifier,
-    ) -> Result<(OpenBag<A>, Option<OpenSet<A>>), EncodeError> {
+    ) -> Result<(OpenBag<A>, EnclosingSet<A>), EncodeError> {
         let set = self.begin_outer_value()?;
         let bag = OpenBag::open(&mut self.writer, constraints, count)?;
         Ok((bag, set))
     }
 
-    fn next_member(
-        &mut self,
-        bag: &mut (OpenBag<A>, Option<OpenSet<A>>),
-    ) -> Result<(), EncodeError> {
+    fn next_member(&mut self, bag: &mut (OpenBag<A>, EnclosingSet<A>)) -> Result<(), EncodeError> {
         self.writer.check_unfailed()?;
         bag.0.next_member(&mut self.writer)
     }
 
-    fn close_set_of(&mut self, bag: (OpenBag<A>, Option<OpenSet<A>>)) -> Result<(), EncodeError> {
+    fn close_set_of(&mut self, bag: (OpenBag<A>, EnclosingSet<A>)) -> Result<(), EncodeError> {
         self.writer.check_unfailed()?;
         let (open, set) = bag;
         self.set = set;

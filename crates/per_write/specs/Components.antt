@@ -20,6 +20,11 @@ pub record Encoding : Type 0 where
   pub writer : State
   pub set : Option OpenSet
 
+-- an open SET in a box, where there is one
+abbrev pub held : {B : Type 0} → (B → OpenSet) → Option B → Option OpenSet
+held value None = None
+held value (Some b) = Some (value b)
+
 -- an open SET, and the pieces of the component under way
 abbrev pub underway : OpenSet → State → Underway
 underway set x = record { set = set; pieces = x.pieces }
@@ -37,10 +42,15 @@ noted (Some set) x = going_on (begins_value (underway set x)) x
 abbrev pub begun_with : Bool → OpenSet → State → Encoding
 begun_with b set x = going_on (begins (Some b) (underway set x)) x
 
+-- the same, where a SET is open
+abbrev pub begun_within : Bool → Option OpenSet → State → Encoding
+begun_within b None x = record { writer = x; set = None }
+begun_within b (Some set) x = begun_with b set x
+
 -- A call that opens a SET of so many root components: what was written so far stands before it. Or it finds no memory.
-pub record OpensComponents (count : ℕ) (x : State) (result : Result OpenSet EncodeError) (y : State) : Type 0 where
-  pub ok : IfOk result (λ set. underway set y ≡ opened count x.pieces)
-  pub same : OnOk result (y ≡ record x { pieces = y.pieces })
+pub record OpensComponents (count : ℕ) (x : State) (result : Result (Option OpenSet) EncodeError)
+    (y : State) : Type 0 where
+  pub ok : IfOk result (λ set. record { writer = y; set = set } ≡ going_on (opened count x.pieces) x)
   pub err : IfErr result (λ e. IsMemory e x)
   pub fails : OnErr result (y.failed ≡ true)
   pub kept : y.codec ≡ x.codec

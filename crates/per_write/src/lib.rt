@@ -33,6 +33,7 @@ mod unplaced;
 
 use additions::Additions;
 pub use additions::OutsideAddition;
+pub use components::EnclosingSet;
 use error::{EncodeError, EncodeErrorKind};
 use items::Octets;
 use per_bits::per::complete_in_place;
