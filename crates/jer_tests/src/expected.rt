@@ -3,7 +3,8 @@
 use rasn_below::{Decode, Encode};
 use rasn_per::uper;
 use serde_json::Value;
-use std::alloc::Global;
+use show_lines::run::run;
+use std::alloc::{AllocError, Global};
 use std::process::Abort;
 
 /// A value is shown as this JSON, which `serde_json` reads.
@@ -26,4 +27,40 @@ pub(crate) fn expect_shown<T: Decode + Encode>(
         Ok(value) => expect_json(rt, alloc, &value, json),
         Err(error) => assert!(rt; false, "{json:?}: {error:?}"),
     }
+}
+
+/// The words of a text.
+fn words(alloc: Global, text: &str) -> Result<Vec<String>, AllocError> {
+    let mut words = Vec::new(alloc);
+    for word in text.split_ascii_whitespace() {
+        words.push(String::from_str(alloc, word)?)?;
+    }
+    Ok(words)
+}
+
+/// A run of the program with these words and this input prints this, tells that, and ends with this status.
+pub(crate) fn expect_run(
+    rt: &impl Abort,
+    alloc: Global,
+    arguments: &str,
+    input: &str,
+    printed: &str,
+    told: &str,
+    status: u8,
+) -> Result<(), AllocError> {
+    let arguments = words(alloc, arguments)?;
+    let mut rest = input.as_bytes();
+    let mut output = Vec::new(alloc);
+    let mut faults = Vec::new(alloc);
+    let found = run(
+        alloc,
+        arguments.as_slice(),
+        &mut rest,
+        &mut output,
+        &mut faults,
+    );
+    assert_eq!(rt; output.as_slice(), printed.as_bytes());
+    assert_eq!(rt; faults.as_slice(), told.as_bytes());
+    assert_eq!(rt; found, status);
+    Ok(())
 }

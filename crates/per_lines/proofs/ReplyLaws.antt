@@ -5,19 +5,18 @@ use Rattle.std.specs.Io.BufRead.{drop_through}
 use Rattle.std.specs.Io.KnownBytes.{Appends, Keeps, IsAtEnd, prepend_known}
 use Rattle.std.specs.Io.Buffered.{reader_inner, reader_buffer, reader_capacity, reader_remaining}
 use Rattle.std.specs.declared.io.buffered.BufReader.{BufReader}
-use Rattle.per_lines.specs.declared.arguments.Arguments.{Arguments}
 use Rattle.per_lines.specs.declared.fault.Fault.{Fault}
 use Rattle.per_lines.specs.declared.fault.Fault.TheVariants.{WrongArguments, CannotRead, BadHexadecimal, Decode, Encode, CannotWrite, OutOfMemory}
 use Rattle.per_lines.specs.Lines.{lines_of, TakesLine}
 use Rattle.per_lines.proofs.LineLaws.{lines-cons}
-use Rattle.per_lines.specs.Answers.{IsReply, AreReplies, PrintsReplies, PrintsNext, HasReplied, TakesTurns, EndsTurn, EndsReplies}
+use Rattle.per_lines.specs.Printing.{AreReplies, PrintsReplies, PrintsNext, HasReplied, TakesTurns, EndsTurn, EndsReplies}
 
 -- one reply more
-replies-more : (a : Arguments) (lines : List (List ℕ)) (octets line text : List ℕ) →
-    AreReplies a lines octets → IsReply a line text → AreReplies a (lines ++ line ∷ []) (octets ++ text)
-replies-more a [] octets line text e r = (text, [], r, refl, rw e (sym (append-nil text)))
-replies-more a (first ∷ lines) octets line text (t, rest, r0, more, e) r =
-    (t, rest ++ text, r0, replies-more a lines rest line text more r, ap (λ z. z ++ text) e ∙ append_assoc t rest text)
+replies-more : (P : List ℕ → List ℕ → Type 0) (lines : List (List ℕ)) (octets line text : List ℕ) →
+    AreReplies P lines octets → P line text → AreReplies P (lines ++ line ∷ []) (octets ++ text)
+replies-more P [] octets line text e r = (text, [], r, refl, rw e (sym (append-nil text)))
+replies-more P (first ∷ lines) octets line text (t, rest, r0, more, e) r =
+    (t, rest ++ text, r0, replies-more P lines rest line text more r, ap (λ z. z ++ text) e ∙ append_assoc t rest text)
 
 appends-none : (known : Option (List ℕ)) → Appends known known []
 appends-none None = tt
@@ -40,8 +39,8 @@ first-all : (input : Option (List ℕ)) → IfSome input (λ octets. IsSomeAnd i
 first-all None = tt
 first-all (Some octets) = refl
 
-pub replied-none : (a : Arguments) (input before : Option (List ℕ)) → HasReplied a input input before before
-replied-none a input before = record {
+pub replied-none : (P : List ℕ → List ℕ → Type 0) (input before : Option (List ℕ)) → HasReplied P input input before before
+replied-none P input before = record {
   lines = [];
   texts = [];
   first = first-all input;
@@ -59,13 +58,13 @@ first-more (Some octets) (Some rest) left lines line x y = rw y.left
     (x ∙ ap (λ u. lines ++ u) (lines-cons rest y.some ∙ ap (λ u. u ∷ lines_of (drop_through 10 rest)) (sym y.is_line))
     ∙ sym (append_assoc lines (line ∷ []) (lines_of (drop_through 10 rest))))
 
-pub replied-more : (a : Arguments) (input rest left before now after : Option (List ℕ)) →
-    HasReplied a input rest before now → PrintsNext a rest left now after → HasReplied a input left before after
-replied-more a input rest left before now after x y = record {
+pub replied-more : (P : List ℕ → List ℕ → Type 0) (input rest left before now after : Option (List ℕ)) →
+    HasReplied P input rest before now → PrintsNext P rest left now after → HasReplied P input left before after
+replied-more P input rest left before now after x y = record {
   lines = x.lines ++ y.line ∷ [];
   texts = x.texts ++ y.text;
   first = first-more input rest left x.lines y.line x.first y.takes;
-  are_replies = replies-more a x.lines x.texts y.line y.text x.are_replies y.is_reply;
+  are_replies = replies-more P x.lines x.texts y.line y.text x.are_replies y.is_reply;
   printed = appends-more before now after x.texts y.text x.printed y.printed;
 }
 
@@ -74,11 +73,11 @@ more-than-none [] others line e = (cc)
 more-than-none (first ∷ lines) others line e = (cc)
 
 -- a line more is at least one
-pub takes-next : (a : Arguments) (input rest left before now after : Option (List ℕ)) →
-    HasReplied a input rest before now → PrintsNext a rest left now after → TakesTurns a true input left before after
+pub takes-next : (P : List ℕ → List ℕ → Type 0) (input rest left before now after : Option (List ℕ)) →
+    HasReplied P input rest before now → PrintsNext P rest left now after → TakesTurns P true input left before after
 unfolding replied-more
-takes-next a input rest left before now after x y =
-    (replied-more a input rest left before now after x y, more-than-none x.lines [] y.line)
+takes-next P input rest left before now after x y =
+    (replied-more P input rest left before now after x y, more-than-none x.lines [] y.line)
 
 first-end : (input rest : Option (List ℕ)) (lines : List (List ℕ)) →
     IfSome input (λ octets. IsSomeAnd rest (λ others. lines_of octets ≡ lines ++ lines_of others)) →
@@ -87,9 +86,9 @@ first-end None rest lines x e = tt
 first-end (Some octets) None lines x e = elim x [ ]
 first-end (Some octets) (Some rest) lines x e = x ∙ ap (λ u. lines ++ lines_of u) e
 
-pub replied-all : (a : Arguments) (input rest before now after : Option (List ℕ)) →
-    HasReplied a input rest before now → IsAtEnd rest → Keeps now after → PrintsReplies a input [] before after
-replied-all a input rest before now after x e k = record {
+pub replied-all : (P : List ℕ → List ℕ → Type 0) (input rest before now after : Option (List ℕ)) →
+    HasReplied P input rest before now → IsAtEnd rest → Keeps now after → PrintsReplies P input [] before after
+replied-all P input rest before now after x e k = record {
   lines = x.lines;
   texts = x.texts;
   first = first-end input rest x.lines x.first e;
@@ -109,9 +108,9 @@ first-some None rest lines x = tt
 first-some (Some octets) None lines x = elim x [ ]
 first-some (Some octets) (Some rest) lines x = x
 
-pub replied-some : (a : Arguments) (input rest before now after : Option (List ℕ)) →
-    HasReplied a input rest before now → Keeps now after → PrintsReplies a input (left_lines rest) before after
-replied-some a input rest before now after x k = record {
+pub replied-some : (P : List ℕ → List ℕ → Type 0) (input rest before now after : Option (List ℕ)) →
+    HasReplied P input rest before now → Keeps now after → PrintsReplies P input (left_lines rest) before after
+replied-some P input rest before now after x k = record {
   lines = x.lines;
   texts = x.texts;
   first = first-some input rest x.lines x.first;
@@ -120,11 +119,11 @@ replied-some a input rest before now after x k = record {
 }
 
 -- replies behind replies
-replies-then : (a : Arguments) (lines others : List (List ℕ)) (octets more : List ℕ) →
-    AreReplies a lines octets → AreReplies a others more → AreReplies a (lines ++ others) (octets ++ more)
-replies-then a [] others octets more e r = rw e r
-replies-then a (first ∷ lines) others octets more (t, rest, r0, tail, e) r =
-    (t, rest ++ more, r0, replies-then a lines others rest more tail r, ap (λ z. z ++ more) e ∙ append_assoc t rest more)
+replies-then : (P : List ℕ → List ℕ → Type 0) (lines others : List (List ℕ)) (octets more : List ℕ) →
+    AreReplies P lines octets → AreReplies P others more → AreReplies P (lines ++ others) (octets ++ more)
+replies-then P [] others octets more e r = rw e r
+replies-then P (first ∷ lines) others octets more (t, rest, r0, tail, e) r =
+    (t, rest ++ more, r0, replies-then P lines others rest more tail r, ap (λ z. z ++ more) e ∙ append_assoc t rest more)
 
 first-then : (input rest : Option (List ℕ)) (lines others : List (List ℕ)) (P : Option (List ℕ)) →
     IfSome input (λ octets. IsSomeAnd rest (λ left. lines_of octets ≡ lines ++ lines_of left)) →
@@ -143,13 +142,13 @@ last-then None rest lines others last x y = tt
 last-then (Some octets) None lines others last x y = elim x [ ]
 last-then (Some octets) (Some left) lines others last x y = x ∙ ap (λ u. lines ++ u) y ∙ sym (append_assoc lines others last)
 
-pub replied-then : (a : Arguments) (input rest left before now after : Option (List ℕ)) →
-    HasReplied a input rest before now → HasReplied a rest left now after → HasReplied a input left before after
-replied-then a input rest left before now after x y = record {
+pub replied-then : (P : List ℕ → List ℕ → Type 0) (input rest left before now after : Option (List ℕ)) →
+    HasReplied P input rest before now → HasReplied P rest left now after → HasReplied P input left before after
+replied-then P input rest left before now after x y = record {
   lines = x.lines ++ y.lines;
   texts = x.texts ++ y.texts;
   first = first-then input rest x.lines y.lines left x.first y.first;
-  are_replies = replies-then a x.lines y.lines x.texts y.texts x.are_replies y.are_replies;
+  are_replies = replies-then P x.lines y.lines x.texts y.texts x.are_replies y.are_replies;
   printed = appends-more before now after x.texts y.texts x.printed y.printed;
 }
 
@@ -158,9 +157,9 @@ appends-through : (kept : List ℕ) (before after : Option (List ℕ)) (texts : 
     Appends (Some []) (Some kept) texts → Appends before after kept → Appends before after texts
 appends-through kept before after texts x y = rw (sym x) y
 
-pub replied-through : (a : Arguments) (input rest before after : Option (List ℕ)) (kept : List ℕ) →
-    HasReplied a input rest (Some []) (Some kept) → Appends before after kept → HasReplied a input rest before after
-replied-through a input rest before after kept x y = record {
+pub replied-through : (P : List ℕ → List ℕ → Type 0) (input rest before after : Option (List ℕ)) (kept : List ℕ) →
+    HasReplied P input rest (Some []) (Some kept) → Appends before after kept → HasReplied P input rest before after
+replied-through P input rest before after kept x y = record {
   lines = x.lines;
   texts = x.texts;
   first = x.first;
@@ -168,9 +167,9 @@ replied-through a input rest before after kept x y = record {
   printed = appends-through kept before after x.texts x.printed y;
 }
 
-prints-through : (a : Arguments) (input before after : Option (List ℕ)) (last : List (List ℕ)) (kept : List ℕ) →
-    PrintsReplies a input last (Some []) (Some kept) → Appends before after kept → PrintsReplies a input last before after
-prints-through a input before after last kept x y = record {
+prints-through : (P : List ℕ → List ℕ → Type 0) (input before after : Option (List ℕ)) (last : List (List ℕ)) (kept : List ℕ) →
+    PrintsReplies P input last (Some []) (Some kept) → Appends before after kept → PrintsReplies P input last before after
+prints-through P input before after last kept x y = record {
   lines = x.lines;
   texts = x.texts;
   first = x.first;
@@ -178,61 +177,61 @@ prints-through a input before after last kept x y = record {
   printed = appends-through kept before after x.texts x.printed y;
 }
 
-pub turns-through : (a : Arguments) (more : Bool) (input rest before after : Option (List ℕ)) (kept : List ℕ) →
-    TakesTurns a more input rest (Some []) (Some kept) → Appends before after kept → TakesTurns a more input rest before after
+pub turns-through : (P : List ℕ → List ℕ → Type 0) (more : Bool) (input rest before after : Option (List ℕ)) (kept : List ℕ) →
+    TakesTurns P more input rest (Some []) (Some kept) → Appends before after kept → TakesTurns P more input rest before after
 unfolding replied-through
-turns-through a true input rest before after kept x y = (replied-through a input rest before after kept x.0 y, x.1)
-turns-through a false input rest before after kept x y = prints-through a input before after [] kept x y
+turns-through P true input rest before after kept x y = (replied-through P input rest before after kept x.0 y, x.1)
+turns-through P false input rest before after kept x y = prints-through P input before after [] kept x y
 
 -- the same where some turns may have failed
-pub turns-if-ok : (a : Arguments) (taken : Result Bool Fault) (input rest before after start : Option (List ℕ)) (kept : List ℕ) →
-    start ≡ Some [] → IfOk taken (λ more. TakesTurns a more input rest start (Some kept)) → Appends before after kept →
-    IfOk taken (λ more. TakesTurns a more input rest before after)
-turns-if-ok a (Ok more) input rest before after start kept e x y = turns-through a more input rest before after kept (subst (λ z. TakesTurns a more input rest z (Some kept)) e x) y
-turns-if-ok a (Err fault) input rest before after start kept e x y = tt
+pub turns-if-ok : (P : List ℕ → List ℕ → Type 0) (taken : Result Bool Fault) (input rest before after start : Option (List ℕ)) (kept : List ℕ) →
+    start ≡ Some [] → IfOk taken (λ more. TakesTurns P more input rest start (Some kept)) → Appends before after kept →
+    IfOk taken (λ more. TakesTurns P more input rest before after)
+turns-if-ok P (Ok more) input rest before after start kept e x y = turns-through P more input rest before after kept (subst (λ z. TakesTurns P more input rest z (Some kept)) e x) y
+turns-if-ok P (Err fault) input rest before after start kept e x y = tt
 
-pub ends_through : (a : Arguments) (input before after : Option (List ℕ)) (kept : List ℕ) (fault : Fault) →
-    EndsReplies a input (Some []) (Some kept) fault → Appends before after kept → EndsReplies a input before after fault
-ends_through a input before after kept WrongArguments x y = elim x [ ]
-ends_through a input before after kept BadHexadecimal x y = elim x [ ]
-ends_through a input before after kept (Decode _) x y = elim x [ ]
-ends_through a input before after kept (Encode _) x y = elim x [ ]
-ends_through a input before after kept CannotRead x y = (x.0, prints-through a input before after x.0 kept x.1 y)
-ends_through a input before after kept CannotWrite x y = tt
-ends_through a input before after kept OutOfMemory x y = tt
+pub ends_through : (P : List ℕ → List ℕ → Type 0) (input before after : Option (List ℕ)) (kept : List ℕ) (fault : Fault) →
+    EndsReplies P input (Some []) (Some kept) fault → Appends before after kept → EndsReplies P input before after fault
+ends_through P input before after kept WrongArguments x y = elim x [ ]
+ends_through P input before after kept BadHexadecimal x y = elim x [ ]
+ends_through P input before after kept (Decode _) x y = elim x [ ]
+ends_through P input before after kept (Encode _) x y = elim x [ ]
+ends_through P input before after kept CannotRead x y = (x.0, prints-through P input before after x.0 kept x.1 y)
+ends_through P input before after kept CannotWrite x y = tt
+ends_through P input before after kept OutOfMemory x y = tt
 
 -- the last turns
-pub prints-then : (a : Arguments) (input rest before now after : Option (List ℕ)) (last : List (List ℕ)) →
-    HasReplied a input rest before now → PrintsReplies a rest last now after → PrintsReplies a input last before after
-prints-then a input rest before now after last x y = record {
+pub prints-then : (P : List ℕ → List ℕ → Type 0) (input rest before now after : Option (List ℕ)) (last : List (List ℕ)) →
+    HasReplied P input rest before now → PrintsReplies P rest last now after → PrintsReplies P input last before after
+prints-then P input rest before now after last x y = record {
   lines = x.lines ++ y.lines;
   texts = x.texts ++ y.texts;
   first = last-then input rest x.lines y.lines last x.first y.first;
-  are_replies = replies-then a x.lines y.lines x.texts y.texts x.are_replies y.are_replies;
+  are_replies = replies-then P x.lines y.lines x.texts y.texts x.are_replies y.are_replies;
   printed = appends-more before now after x.texts y.texts x.printed y.printed;
 }
 
 -- turns that fail end the replies
-pub ends_then : (a : Arguments) (input rest before now after : Option (List ℕ)) (fault : Fault) →
-    HasReplied a input rest before now → EndsReplies a rest now after fault → EndsReplies a input before after fault
-ends_then a input rest before now after WrongArguments x y = elim y [ ]
-ends_then a input rest before now after BadHexadecimal x y = elim y [ ]
-ends_then a input rest before now after (Decode _) x y = elim y [ ]
-ends_then a input rest before now after (Encode _) x y = elim y [ ]
-ends_then a input rest before now after CannotRead x y = (y.0, prints-then a input rest before now after y.0 x y.1)
-ends_then a input rest before now after CannotWrite x y = tt
-ends_then a input rest before now after OutOfMemory x y = tt
+pub ends_then : (P : List ℕ → List ℕ → Type 0) (input rest before now after : Option (List ℕ)) (fault : Fault) →
+    HasReplied P input rest before now → EndsReplies P rest now after fault → EndsReplies P input before after fault
+ends_then P input rest before now after WrongArguments x y = elim y [ ]
+ends_then P input rest before now after BadHexadecimal x y = elim y [ ]
+ends_then P input rest before now after (Decode _) x y = elim y [ ]
+ends_then P input rest before now after (Encode _) x y = elim y [ ]
+ends_then P input rest before now after CannotRead x y = (y.0, prints-then P input rest before now after y.0 x y.1)
+ends_then P input rest before now after CannotWrite x y = tt
+ends_then P input rest before now after OutOfMemory x y = tt
 
 -- a turn that fails ends the replies
-pub ends_turn : (a : Arguments) (input rest before now after : Option (List ℕ)) (fault : Fault) →
-    HasReplied a input rest before now → EndsTurn now after fault → EndsReplies a input before after fault
-ends_turn a input rest before now after WrongArguments x k = elim k [ ]
-ends_turn a input rest before now after BadHexadecimal x k = elim k [ ]
-ends_turn a input rest before now after (Decode _) x k = elim k [ ]
-ends_turn a input rest before now after (Encode _) x k = elim k [ ]
-ends_turn a input rest before now after CannotRead x k = (left_lines rest, replied-some a input rest before now after x k)
-ends_turn a input rest before now after CannotWrite x k = tt
-ends_turn a input rest before now after OutOfMemory x k = tt
+pub ends_turn : (P : List ℕ → List ℕ → Type 0) (input rest before now after : Option (List ℕ)) (fault : Fault) →
+    HasReplied P input rest before now → EndsTurn now after fault → EndsReplies P input before after fault
+ends_turn P input rest before now after WrongArguments x k = elim k [ ]
+ends_turn P input rest before now after BadHexadecimal x k = elim k [ ]
+ends_turn P input rest before now after (Decode _) x k = elim k [ ]
+ends_turn P input rest before now after (Encode _) x k = elim k [ ]
+ends_turn P input rest before now after CannotRead x k = (left_lines rest, replied-some P input rest before now after x k)
+ends_turn P input rest before now after CannotWrite x k = tt
+ends_turn P input rest before now after OutOfMemory x k = tt
 
 -- known octets are as they were
 pub keeps-same : (known : Option (List ℕ)) → Keeps known known

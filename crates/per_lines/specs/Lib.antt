@@ -2,4 +2,5 @@ pub mod Words
 pub mod Faults
 pub mod Recoding
 pub mod Lines
+pub mod Printing
 pub mod Answers

@@ -7,6 +7,7 @@ ghost use Rattle.per_lines.specs.declared.fault.Fault.TheVariants.{OutOfMemory};
 use crate::arguments::Arguments;
 use crate::fault::Fault;
 use crate::recode::converted;
+use crate::replies::Replies;
 use std::alloc::{AllocError, Global};
 
 /// The canonical encoding that a line of hexadecimal is converted to, in lower case and with a line feed.
@@ -23,15 +24,16 @@ pub fn answer(alloc: Global, arguments: Arguments, line: Vec<u8>) -> Result<Stri
     Ok(text)
 }
 
-/// The reply to a line: its answer, or `! ` and why it has none, and a line feed.
-pub fn reply(alloc: Global, arguments: Arguments, line: Vec<u8>) -> Result<String, Fault>
-    ensures ok { IfOk result (λ text. IsReply arguments line.items (string_bytes text)) }
-    ensures err { IfErr result (λ f. f ≡ OutOfMemory) }
-{
-    match answer(alloc, arguments, line) {
-        Ok(text) => Ok(text),
-        Err(Fault::OutOfMemory) => Err(Fault::OutOfMemory),
-        Err(fault) => Ok(refusal(alloc, fault)?),
+impl Replies for Arguments {
+    ghost replies = { IsReply };
+
+    /// The reply to a line: its answer, or `! ` and why it has none, and a line feed.
+    fn reply(&self, alloc: Global, line: Vec<u8>) -> Result<Vec<u8>, Fault> {
+        match answer(alloc, *self, line) {
+            Ok(text) => Ok(text.into_bytes()),
+            Err(Fault::OutOfMemory) => Err(Fault::OutOfMemory),
+            Err(fault) => Ok(refusal(alloc, fault)?.into_bytes()),
+        }
     }
 }
 

@@ -7,12 +7,11 @@ ghost use Rattle.per_lines.specs.Faults.{AppendsFront};
 use std::io;
 use std::io::{ErrorKind, Write};
 
-/// Writes a text through to where the output goes, and nothing else. Where writing fails, a front of it was written.
-pub fn write<W: Write>(text: &str, output: &mut W) -> io::Result<()>
-    ensures ok { OnOk result (Appends (W.contents output.old) (W.contents output.new) text.now) }
-    ensures front { AppendsFront (W.contents output.old) (W.contents output.new) text.now }
+/// Writes octets through to where the output goes, and nothing else. Where writing fails, a front of them was written.
+pub fn write<W: Write>(octets: &[u8], output: &mut W) -> io::Result<()>
+    ensures ok { OnOk result (Appends (W.contents output.old) (W.contents output.new) octets.now) }
+    ensures front { AppendsFront (W.contents output.old) (W.contents output.new) octets.now }
 {
-    let octets = text.as_bytes();
     write_front(octets, output)?;
     output.flush()
 }

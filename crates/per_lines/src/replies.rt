@@ -1,49 +1,59 @@
 //! The form `lines`: a reply to each line, as a Unix filter gives it.
 
-ghost use Rattle.std.specs.Prelude.{◌≡◌, [], Some, IfOk, IfErr, OnOk, string_bytes};
+ghost use Rattle.std.specs.Prelude.{◌≡◌, ℕ, List, [], Some, IfOk, IfErr, OnOk};
 ghost use Rattle.std.specs.Io.Buffered.{reader_remaining};
-ghost use Rattle.per_lines.specs.Answers.{PrintsReplies, EndsReplies, TakesTurn, TakesTurns, EndsTurn};
+ghost use Rattle.per_lines.specs.Printing.{PrintsReplies, EndsReplies, TakesTurn, TakesTurns, EndsTurn};
+ghost use Rattle.per_lines.specs.declared.fault.Fault.TheVariants.{OutOfMemory};
 
-use crate::answer::reply;
-use crate::arguments::Arguments;
 use crate::fault::Fault;
 use crate::line::next_line;
 use crate::output::write;
 use std::alloc::Global;
 use std::io::{BufRead, BufReader, Read, Write};
 
+/// What replies to lines.
+pub trait Replies {
+    // Which texts are replies to a line.
+    ghost replies: { Self → List ℕ → List ℕ → Type 0 };
+
+    /// The reply to a line, with a line feed.
+    fn reply(&self, alloc: Global, line: Vec<u8>) -> Result<Vec<u8>, Fault>
+        ensures ok { IfOk result (λ text. replies self.now line.items text.items) }
+        ensures err { IfErr result (λ f. f ≡ OutOfMemory) };
+}
+
 /// Prints the reply to each line of `input`, which is read through a buffer.
-pub fn reply_to_lines<R: BufRead, W: Write>(
+pub fn reply_to_lines<T: Replies, R: BufRead, W: Write>(
     alloc: Global,
-    arguments: Arguments,
+    replier: &T,
     input: &mut R,
     output: &mut W,
 ) -> Result<(), Fault>
-    ensures ok { OnOk result
-        (PrintsReplies arguments (R.remaining input.old) [] (W.contents output.old) (W.contents output.new)) }
+    ensures ok { OnOk result (PrintsReplies (T.replies replier.now)
+        (R.remaining input.old) [] (W.contents output.old) (W.contents output.new)) }
     ensures err { IfErr result
-        (EndsReplies arguments (R.remaining input.old) (W.contents output.old) (W.contents output.new)) }
+        (EndsReplies (T.replies replier.now) (R.remaining input.old) (W.contents output.old) (W.contents output.new)) }
 {
     match BufReader::new(alloc, input) {
-        Ok(mut reader) => reply_to_each(alloc, arguments, &mut reader, output),
+        Ok(mut reader) => reply_to_each(alloc, replier, &mut reader, output),
         Err(error) => Err(Fault::of_io(&error, Fault::CannotRead)),
     }
 }
 
 /// Prints the reply to each line.
-fn reply_to_each<R: Read, W: Write>(
+fn reply_to_each<T: Replies, R: Read, W: Write>(
     alloc: Global,
-    arguments: Arguments,
+    replier: &T,
     input: &mut BufReader<R>,
     output: &mut W,
 ) -> Result<(), Fault>
-    ensures ok { OnOk result (PrintsReplies arguments
+    ensures ok { OnOk result (PrintsReplies (T.replies replier.now)
         (reader_remaining R.remaining input.old) [] (W.contents output.old) (W.contents output.new)) }
-    ensures err { IfErr result (EndsReplies arguments
+    ensures err { IfErr result (EndsReplies (T.replies replier.now)
         (reader_remaining R.remaining input.old) (W.contents output.old) (W.contents output.new)) }
 {
     for _ in 0..u64::MAX {
-        if !reply_to_next(alloc, arguments, input, output)? {
+        if !reply_to_next(alloc, replier, input, output)? {
             return Ok(());
         }
     }
@@ -54,20 +64,20 @@ fn reply_to_each<R: Read, W: Write>(
 ///
 /// Lines behind the next one are taken where they are in the buffer already, so no reply is kept back while more of
 /// the input is waited for.
-pub fn reply_to_next<R: Read, W: Write>(
+pub fn reply_to_next<T: Replies, R: Read, W: Write>(
     alloc: Global,
-    arguments: Arguments,
+    replier: &T,
     input: &mut BufReader<R>,
     output: &mut W,
 ) -> Result<bool, Fault>
-    ensures ok { IfOk result (λ more. TakesTurns arguments more (reader_remaining R.remaining input.old)
+    ensures ok { IfOk result (λ more. TakesTurns (T.replies replier.now) more (reader_remaining R.remaining input.old)
         (reader_remaining R.remaining input.new) (W.contents output.old) (W.contents output.new)) }
-    ensures err { IfErr result (EndsReplies arguments
+    ensures err { IfErr result (EndsReplies (T.replies replier.now)
         (reader_remaining R.remaining input.old) (W.contents output.old) (W.contents output.new)) }
 {
-    let mut replies = String::new(alloc);
-    let taken = take_lines(alloc, arguments, input, &mut replies);
-    match write(replies.as_str(), output) {
+    let mut replies = Vec::new(alloc);
+    let taken = take_lines(alloc, replier, input, &mut replies);
+    match write(replies.as_slice(), output) {
         Ok(()) => taken,
         Err(error) => Err(Fault::of_io(&error, Fault::CannotWrite)),
     }
@@ -75,25 +85,25 @@ pub fn reply_to_next<R: Read, W: Write>(
 
 /// Takes the next line, and those behind it that are whole in the buffer, and puts their replies behind `replies`.
 /// Answers whether there may be more.
-fn take_lines<R: Read>(
+fn take_lines<T: Replies, R: Read>(
     alloc: Global,
-    arguments: Arguments,
+    replier: &T,
     input: &mut BufReader<R>,
-    replies: &mut String,
+    replies: &mut Vec<u8>,
 ) -> Result<bool, Fault>
-    ensures ok { IfOk result (λ more. TakesTurns arguments more (reader_remaining R.remaining input.old)
-        (reader_remaining R.remaining input.new) (Some (string_bytes replies.old)) (Some (string_bytes replies.new))) }
-    ensures err { IfErr result (EndsReplies arguments (reader_remaining R.remaining input.old)
-        (Some (string_bytes replies.old)) (Some (string_bytes replies.new))) }
+    ensures ok { IfOk result (λ more. TakesTurns (T.replies replier.now) more (reader_remaining R.remaining input.old)
+        (reader_remaining R.remaining input.new) (Some replies.old.items) (Some replies.new.items)) }
+    ensures err { IfErr result (EndsReplies (T.replies replier.now) (reader_remaining R.remaining input.old)
+        (Some replies.old.items) (Some replies.new.items)) }
 {
-    if !take_line(alloc, arguments, input, replies)? {
+    if !take_line(alloc, replier, input, replies)? {
         return Ok(false);
     }
     for _ in 1..u64::MAX {
         if !input.buffer().contains(&b'\n') {
             break;
         }
-        if !take_line(alloc, arguments, input, replies)? {
+        if !take_line(alloc, replier, input, replies)? {
             return Ok(false);
         }
     }
@@ -101,21 +111,21 @@ fn take_lines<R: Read>(
 }
 
 /// Takes the next line, and puts its reply behind `replies`. Answers whether there was a line.
-fn take_line<R: BufRead>(
+fn take_line<T: Replies, R: BufRead>(
     alloc: Global,
-    arguments: Arguments,
+    replier: &T,
     input: &mut R,
-    replies: &mut String,
+    replies: &mut Vec<u8>,
 ) -> Result<bool, Fault>
-    ensures ok { IfOk result (λ some. TakesTurn arguments some (R.remaining input.old) (R.remaining input.new)
-        (Some (string_bytes replies.old)) (Some (string_bytes replies.new))) }
-    ensures err { IfErr result (EndsTurn (Some (string_bytes replies.old)) (Some (string_bytes replies.new))) }
+    ensures ok { IfOk result (λ some. TakesTurn (T.replies replier.now) some
+        (R.remaining input.old) (R.remaining input.new) (Some replies.old.items) (Some replies.new.items)) }
+    ensures err { IfErr result (EndsTurn (Some replies.old.items) (Some replies.new.items)) }
 {
     let next = next_line(alloc, input).map_err(|error| Fault::of_io(&error, Fault::CannotRead))?;
     let Some(line) = next else {
         return Ok(false);
     };
-    let text = reply(alloc, arguments, line)?;
-    replies.push_str(text.as_str())?;
+    let text = replier.reply(alloc, line)?;
+    replies.extend_from_slice(text.as_slice())?;
     Ok(true)
 }

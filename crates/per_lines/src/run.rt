@@ -2,7 +2,8 @@
 
 ghost use Rattle.std.specs.Prelude.{◌≡◌, ◌≢◌, ◌≤◌, ◌++◌, ◌∷◌, [], IfErr, OnOk};
 ghost use Rattle.std.specs.Io.KnownBytes.{Keeps};
-ghost use Rattle.per_lines.specs.Answers.{Prints, PrintsAnswer, Ends, EndsAnswer, AreUnknown};
+ghost use Rattle.per_lines.specs.Answers.{Prints, IsAnswer, Ends, EndsAnswer, AreUnknown};
+ghost use Rattle.per_lines.specs.Printing.{PrintsAnswer};
 ghost use Rattle.per_lines.specs.Faults.{status_of, text_of, AppendsFront};
 ghost use Rattle.per_lines.specs.Words.{words};
 ghost use Rattle.per_lines.specs.declared.fault.Fault.{Fault as the_fault};
@@ -76,7 +77,7 @@ fn print<R: BufRead, W: Write>(
     };
     match arguments.form {
         Form::OneLine => print_answer(alloc, arguments, input, output),
-        Form::Lines => reply_to_lines(alloc, arguments, input, output),
+        Form::Lines => reply_to_lines(alloc, &arguments, input, output),
         Form::Zero => print_answer(alloc, arguments, input, output),
         Form::As(_) => print_answer(alloc, arguments, input, output),
     }
@@ -90,13 +91,13 @@ fn print_answer<R: BufRead, W: Write>(
     output: &mut W,
 ) -> Result<(), Fault>
     ensures ok { OnOk result
-        (PrintsAnswer arguments (R.remaining input.old) (W.contents output.old) (W.contents output.new)) }
+        (PrintsAnswer (IsAnswer arguments) (R.remaining input.old) (W.contents output.old) (W.contents output.new)) }
     ensures err { IfErr result
         (EndsAnswer arguments (R.remaining input.old) (W.contents output.old) (W.contents output.new)) }
 {
     let line = read_line(alloc, input).map_err(|error| Fault::of_io(&error, Fault::CannotRead))?;
     let text = answer(alloc, arguments, line)?;
-    match write(text.as_str(), output) {
+    match write(text.as_bytes(), output) {
         Ok(()) => Ok(()),
         Err(error) => Err(Fault::of_io(&error, Fault::CannotWrite)),
     }

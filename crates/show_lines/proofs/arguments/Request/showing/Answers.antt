@@ -1,0 +1,6 @@
+use Rattle.std.proofs.Common.{ℕ, List, ◌++◌, ap, ◌∙◌}
+use Rattle.show_lines.specs.Requests.{layout_words}
+use Rattle.show_lines.proofs.arguments.Request.showing.Goals as goal
+
+pub returns : goal.returns
+returns c = c.layout_of_words-layout.ensures ∙ ap (λ (ws : List (List ℕ)). ws ++ layout_words c.layout_of_words-layout.result.0) c.in-Some.ensures.spelled

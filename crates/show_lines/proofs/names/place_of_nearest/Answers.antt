@@ -1,0 +1,28 @@
+use Rattle.std.proofs.Common.{rules, ◌≡◌, ℕ, List, [], Bor, map, get_or, arith, sym, ap, ◌∙◌}
+use Rattle.std.proofs.lemmas.List.{get_or-map}
+use Rattle.show_lines.specs.Nearest.{edits}
+use Rattle.show_lines.proofs.Nearest.{none-nearer}
+use Rattle.show_lines.proofs.names.place_of_nearest.Goals as goal
+use Rattle.show_lines.proofs.names.place_of_nearest.Goals.{then-edits-fewest, else-edits-fewest}
+
+pub loop-place-preserved : goal.loop-place-preserved
+loop-place-preserved c =
+    let names : List (List ℕ) = map (λ (s : Bor (List ℕ)). s.now) c.args.names.now in
+    let l = c.loop-place in
+    let is : c.in_ok-edits.edits ≡ edits (get_or names l.place []) c.args.word.now =
+    c.in_ok-edits.ensures.value ∙ ap (λ n. edits n c.args.word.now)
+    (sym (get_or-map (λ (s : Bor (List ℕ)). s.now) c.args.names.now l.place (record { ref_ptr = (0, 0); now = [] }) [] c.loop-place-test.true)) in
+    elim c.if-edits-fewest.branch [
+      | then-edits-fewest w ↦ (
+        search rules,
+        search rules,
+        rw w.fewest-is (none-nearer names c.args.word.now l.place l.fewest c.in_ok-edits.edits
+            (omega (arith, w.if-edits-fewest.true)) l.invariant.2 (omega (arith, is))),
+      )
+      | else-edits-fewest w ↦ (
+        search rules,
+        search rules,
+        rw w.fewest-is (none-nearer names c.args.word.now l.place l.fewest l.fewest
+            (omega arith) l.invariant.2 (omega (arith, is, w.if-edits-fewest.false))),
+      )
+    ]

@@ -1,0 +1,5 @@
+pub mod Nearest
+pub mod Printing
+pub mod Requests
+pub mod Showing
+pub mod Told

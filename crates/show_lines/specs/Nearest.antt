@@ -1,0 +1,13 @@
+-- The name that is nearest to a word.
+use Rattle.std.specs.Prelude.{ℕ, ◌≤◌, ◌<◌, List, [], length, get_or, nat_eq}
+use Rattle.std.specs.Str.{chars}
+use Rattle.strsim.specs.Edits.{levenshtein_row}
+
+-- the fewest insertions, deletions and replacements of characters that make one text of another
+abbrev pub edits : List ℕ → List ℕ → ℕ
+edits a b = levenshtein_row nat_eq (chars a) (chars b) (length (chars b))
+
+-- no name is nearer to a word than the one at a place
+pub record IsNearest (names : List (List ℕ)) (word : List ℕ) (best : ℕ) : Type 0 where
+  pub within : best < length names
+  pub fewest : (i : ℕ) → i < length names → edits (get_or names best []) word ≤ edits (get_or names i []) word

@@ -1,0 +1,25 @@
+//! How a JSON text is laid out.
+
+ghost use Rattle.std.specs.Prelude.{◌≡◌, IfOk};
+ghost use Rattle.json.specs.Lex.{tokens};
+
+use json::{Pretty, Reader, Scratch, Token};
+use std::alloc::{AllocError, Global};
+
+/// A JSON text with a line for each item and member, two spaces deeper for each bracket. The only error is want of
+/// memory.
+pub fn pretty(alloc: Global, text: &str) -> Result<Vec<u8>, AllocError>
+    ensures { IfOk result (λ laid. tokens laid.items ≡ tokens text.now) }
+{
+    let mut scratch = Scratch::new(alloc);
+    let mut reader = Reader::new(text, &mut scratch)?;
+    let mut writer = Pretty::new(alloc);
+    'tokens: loop {
+        match reader.next() {
+            Some(Token::Bad) => return Vec::from_slice(alloc, text.as_bytes()),
+            Some(token) => writer.token(token)?,
+            None => break,
+        }
+    }
+    Ok(writer.into_inner())
+}
