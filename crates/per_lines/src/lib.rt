@@ -5,6 +5,7 @@ pub mod answer;
 pub mod arguments;
 pub mod fault;
 pub mod line;
+pub mod named;
 pub mod output;
 pub mod recode;
 pub mod replies;
