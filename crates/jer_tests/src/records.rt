@@ -7,6 +7,8 @@ use per_samples_b::added_default::AddedDefault;
 use per_samples_b::alt2::Alt2;
 use per_samples_b::one_needed::OneNeeded;
 use per_samples_b::outer3::Outer3;
+use per_samples_b::pick::Pick;
+use per_samples_b::picked::Picked;
 use per_samples_c::colors::TwoColors;
 use per_samples_lists::filter::Filter;
 use per_samples_lists::nest::Nest;
@@ -71,6 +73,34 @@ fn lists_choices_and_items_are_shown(rt: HostRuntime) {
     expect_shown::<TwoColors>(&rt, rt.alloc(), &[0x80], "\"b\"");
     expect_shown::<Alt2>(&rt, rt.alloc(), &[0x40], "{\"a\":true}");
     expect_shown::<Alt2>(&rt, rt.alloc(), &[0x80, 0x01, 0x80], "{\"b\":true}");
+}
+
+/// The alternative `inner` of `Pick`, in an open type.
+const INNER: &[u8] = &[0x81, 0x04, 0x80, 0x81, 0x01, 0x80];
+
+#[test]
+fn alternatives_under_their_own_tags_stand_under_their_names(rt: HostRuntime) {
+    expect_shown::<Pick>(&rt, rt.alloc(), &[0x20], "{\"flag\":true}");
+    expect_shown::<Pick>(
+        &rt,
+        rt.alloc(),
+        &[0x6a, 0xf3, 0x40],
+        "{\"octets\":\"ABCD\"}",
+    );
+    expect_shown::<Pick>(
+        &rt,
+        rt.alloc(),
+        &[0x80, 0x01, 0x50],
+        "{\"spare\":{\"low\":5}}",
+    );
+    let inner = "{\"inner\":{\"flag\":true,\"octets\":\"010203\"}}";
+    expect_shown::<Pick>(&rt, rt.alloc(), INNER, inner);
+    expect_shown::<Picked>(
+        &rt,
+        rt.alloc(),
+        &[0xc0, 0xe0, 0x24, 0x00, 0x34, 0x00],
+        "{\"first\":true,\"pick\":{\"flag\":true},\"last\":5}",
+    );
 }
 
 #[test]
