@@ -5,8 +5,8 @@
 //! takes their place; what is appended stands behind fewer than eight of them, and the function answers how many bits
 //! are spare then.
 
-ghost use Rattle.std.specs.Prelude.{◌≡◌, ◌+◌, ◌-◌, ◌*◌, ◌%◌, ◌^◌, ◌<◌, ◌≤◌, ◌++◌, length, take, drop, set, vec_len};
-ghost use Rattle.std.specs.Prelude.{vec_capacity, replicate, IfOk, OnOk, OnErr};
+ghost use Rattle.std.specs.Prelude.{◌≡◌, ◌+◌, ◌-◌, ◌*◌, ◌%◌, ◌^◌, ◌<◌, ◌≤◌, [], ◌∷◌, ◌++◌, length, take, drop, set};
+ghost use Rattle.std.specs.Prelude.{vec_len, vec_capacity, replicate, IfOk, OnOk, OnErr};
 ghost use Rattle.rasn_types.specs.Bits.{to_bits, number_of, unpack};
 ghost use Rattle.per_bits.specs.Octets.{word_size, first_word, filled, low_bits_of, AreFilledBy, AreKept, ArePadded};
 ghost use Rattle.per_bits.specs.Octets.{AreWithin, HaveRoom};
@@ -143,6 +143,19 @@ fn put_field<A: Allocator>(octets: &mut Vec<u8, A>, spare: u32, value: u64, widt
     let all = used + width;
     let word = (front << width | low_bits(value, width)) << 1 << (63 - all);
     octets[place..place + 8].copy_from_slice(&word.to_be_bytes());
+}
+
+/// Puts a bit in the place of the first spare one, which is zero.
+#[inline(always)]
+pub(crate) fn put_bit<A: Allocator>(octets: &mut Vec<u8, A>, spare: u32, bit: bool)
+    requires kept { AreKept spare octets.old.items }
+    requires some { 0 < spare }
+    ensures { HaveRoom (filled spare octets.old.items ++ bit ∷ []) (spare - 1) octets.new.items }
+{
+    note_octets(octets.as_slice());
+    let behind = spare - 1;
+    let place = octets.len() - 1 - (behind / 8) as usize;
+    octets[place] |= u8::from(bit) << (behind % 8);
 }
 
 /// Appends the low `width` bits of `value` to octets of which the last `spare` bits are spare, and answers how many are

@@ -14,7 +14,7 @@ ghost use Rattle.per_bits.specs.Octets.{filled, low_bits_of, AreFilledBy, ArePad
 
 use crate::fields::{
     FIELD_BITS, append_field, append_low_bits, append_octets_behind, cut_back, fill_last_octet,
-    put_number, read_field, read_wide_field, with_bit, with_room,
+    put_bit, put_number, read_field, read_wide_field, with_bit, with_room,
 };
 use rasn_types::bit_string::note_octets;
 use std::alloc::{AllocError, Allocator};
@@ -135,11 +135,15 @@ impl<A: Allocator> BitList<A> {
     }
 
     /// Appends a bit. The only error is want of memory, and then the list is as it was.
+    #[inline(always)]
     pub fn push(&mut self, bit: bool) -> Result<(), AllocError>
         ensures ok { OnOk result (self.new ≡ self.old ++ bit ∷ []) }
         ensures err { OnErr result (self.new ≡ self.old) }
     {
-        self.push_bits(u128::from(bit), 1)
+        let spare = with_room(&mut self.octets, self.spare)?;
+        put_bit(&mut self.octets, spare, bit);
+        self.spare = spare - 1;
+        Ok(())
     }
 
     /// Appends the low `width` bits of `value`, highest first: a non-negative-binary-integer (ITU-T X.691, 11.3) where
