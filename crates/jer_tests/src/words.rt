@@ -18,7 +18,10 @@ const ROWS: &[(&str, &str, &str, &str, u8)] = &[
     (
         "uper outer1 lines",
         "40\r\nzz\n\n40",
-        "{\"first\":true,\"second\":false}\n! bad hexadecimal\n! Incomplete at bit 0 of 0\n{\"first\":true,\"second\":false}\n",
+        concat!(
+            "{\"first\":true,\"second\":false}\n! bad hexadecimal\n! Incomplete at bit 0 of 0\n",
+            "{\"first\":true,\"second\":false}\n",
+        ),
         "",
         0,
     ),

@@ -12,8 +12,8 @@ use Rattle.per_lines.specs.declared.arguments.TypeName.TheVariants.{Outers1, Out
 use Rattle.per_lines.specs.declared.arguments.TypeName.TheVariants.{Grouped2, OneColor, TwoColors, DefaultOuter1}
 use Rattle.per_lines.specs.declared.arguments.TypeName.TheVariants.{DefaultOuter3, OneAlternative, TwoAlternatives}
 use Rattle.per_lines.specs.declared.arguments.TypeName.TheVariants.{Alternatives, Many, Bag, UtcTime, Connect, Set}
-use Rattle.per_lines.specs.declared.arguments.TypeName.TheVariants.{SetOptional, SetChoice, Date, DatedNest, Spare, Pick}
-use Rattle.per_lines.specs.declared.arguments.TypeName.TheVariants.{Picked, Signals}
+use Rattle.per_lines.specs.declared.arguments.TypeName.TheVariants.{SetOptional, SetChoice, Date, DatedNest, Spare}
+use Rattle.per_lines.specs.declared.arguments.TypeName.TheVariants.{Pick, Picked, Signals}
 use Rattle.per_lines.specs.declared.arguments.TypeName.{TypeName}
 use Rattle.per_lines.specs.declared.arguments.Padding.{Padding}
 use Rattle.per_lines.specs.declared.arguments.Padding.TheVariants as Paddings

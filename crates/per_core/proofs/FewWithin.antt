@@ -4,7 +4,7 @@ use Rattle.rasn_types.specs.Bits.{Bits}
 use Rattle.rasn_types.specs.Values.{Value, bag_of, alternative, Side, root, added, before, code, sorted}
 use Rattle.rasn_types.proofs.Values.{values-as_values, slots-as_slots}
 use Rattle.rasn_schema.specs.Schemas
-use Rattle.rasn_schema.specs.Schemas.{Schema, Presence, Parts, no_parts, part, tags}
+use Rattle.rasn_schema.specs.Schemas.{Schema, Parts, no_parts, part, tags}
 use Rattle.per_core.specs.Basic.{Rule, IsLeftOut, Choice, Chosen, basic_in, rules_in}
 use Rattle.per_core.specs.Counts.{list_items}
 use Rattle.per_core.specs.Spellings.{Settings}

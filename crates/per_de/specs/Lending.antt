@@ -21,8 +21,8 @@ is_extended true (b ∷ s) = b
 abbrev pub ComeAlone : Size → Bool → Bits → ℕ → Type 0
 ComeAlone size mark s n = (n < 16384) ⊎ ((is_counted_once size.least size.most ≡ true) × (is_extended mark s ≡ false))
 
--- Of the bits that are left, n octets can be lent that stand in front of the last `left` bits: at least one, on octets of
--- the input. So the input's octets end where these bits do.
+-- Of the bits that are left, n octets can be lent that stand in front of the last `left` bits: at least one, on octets
+-- of the input. So the input's octets end where these bits do.
 pub record CanBeLent (s : State) (left n : ℕ) : Type 0 where
   pub some : 0 < n
   pub lends : s.source.lends ≡ true

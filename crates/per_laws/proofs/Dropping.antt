@@ -8,7 +8,7 @@ use Rattle.rasn_schema.specs.Schemas.{tags, count, Presence, Order, Schema, Part
 use Rattle.rasn_schema.specs.Orders.{ordered}
 use Rattle.rasn_schema.specs.Depth.{meets_cut, slots_meet_cut, meets_cut_at, any_of, CutOf, CutParts, cut_here, alike, cut_list, cut_set_of, cut_sequence, cut_choice, no_cut, cut_part}
 use Rattle.per_core.specs.Spellings.{Settings}
-use Rattle.per_core.specs.Basic.{As, Additions_in, Chosen, Rule, basic, basic_in, rules}
+use Rattle.per_core.specs.Basic.{As, Additions_in, Chosen, basic, basic_in, rules}
 use Rattle.per_core.specs.Versions.{project, project_slots, project_at, slot_through, all_of, NewerPresence, Newer, NewerParts, unchanged, newer_list, newer_set_of, newer_sequence, newer_choice, no_more, more_parts, also}
 use Rattle.per_core.proofs.LengthForms.{Zip, or_left, or_right}
 use Rattle.per_core.proofs.Records.{SlotRel, Along}

@@ -9,7 +9,7 @@ use Rattle.rasn_schema.specs.Orders.{ordered}
 use Rattle.rasn_schema.specs.Depth.{any_of, IsLeaf}
 use Rattle.per_core.specs.Spellings.{Settings}
 use Rattle.per_core.specs.Counts.{list_items}
-use Rattle.per_core.specs.Basic.{IsLeftOut, Record, Counted, Rule, IsConstrainedWhole, Chosen, Open, Fills, basic, basic_in, rules}
+use Rattle.per_core.specs.Basic.{Record, Counted, Chosen, Open, Fills, basic, basic_in, rules}
 use Rattle.per_core.proofs.Agree.{Agree, weaken, then_agree, never_agree, turned}
 use Rattle.per_core.proofs.LengthForms.{Zip, bounded_agree, lengthy_agree, or_left, or_right, and_no}
 use Rattle.per_core.proofs.Unique.{as_agree, small_agree, open_agree, fills_agree}

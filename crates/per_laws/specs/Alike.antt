@@ -7,7 +7,7 @@ use Rattle.rasn_types.specs.Values.{as_slots}
 use Rattle.rasn_constraints.specs.Bounds.{allows, Size, any_size}
 use Rattle.rasn_schema.specs.Orders.{ordered}
 use Rattle.rasn_schema.specs.Schemas
-use Rattle.rasn_schema.specs.Schemas.{tags, Presence, Schema, Parts, no_parts, part}
+use Rattle.rasn_schema.specs.Schemas.{tags, Schema, Parts, no_parts, part}
 use Rattle.per_core.specs.Basic.{IsConstrainedWhole, LastCount, Fragment, PaddingIf, Small, Fills, Open, Rule, Flags}
 use Rattle.per_core.specs.Basic.{IsLeftOut, IsBitmap, ExtensionBit, basic}
 use Rattle.per_core.specs.Counts.{list_items, is_aligned}

@@ -1,6 +1,6 @@
 -- The components of a SET that is closed, put behind what stands before it (ITU-T X.691, 21.1).
 use Rattle.std.specs.Prelude.{Result, Ok, Err, IfOk, IfErr, OnOk, OnErr}
-use Rattle.std.proofs.Common.{◌≡◌, refl, sym, ap, ◌∙◌, subst, inl, Bool, true, List, length, Option, Some}
+use Rattle.std.proofs.Common.{◌≡◌, sym, ap, ◌∙◌, subst, inl, true, List, length, Some}
 use Rattle.rasn_schema.specs.Fields.{Shape, shapes_from}
 use Rattle.rasn_schema.specs.Schemas.{count, Parts}
 use Rattle.per_core.specs.Placed.{placed}
@@ -8,7 +8,7 @@ use Rattle.per_core.specs.Writers.{◌▹◌}
 use Rattle.per_pieces.specs.OpenSets.{bit_writers, closed, Component, OpenSet, value_writers}
 use Rattle.per_pieces.specs.Pieces.{Appends, Pieces}
 use Rattle.per_write.specs.declared.error.EncodeError.{EncodeError}
-use Rattle.per_write.specs.Components.{PutsComponents, PutsInOrder, underway}
+use Rattle.per_write.specs.Components.{PutsComponents, underway}
 use Rattle.per_write.specs.Faults.{IsMemory}
 use Rattle.per_write.specs.State.{State}
 

@@ -20,11 +20,6 @@ pub record Encoding : Type 0 where
   pub writer : State
   pub set : Option OpenSet
 
--- an open SET in a box, where there is one
-abbrev pub held : {B : Type 0} → (B → OpenSet) → Option B → Option OpenSet
-held value None = None
-held value (Some b) = Some (value b)
-
 -- an open SET, and the pieces of the component under way
 abbrev pub underway : OpenSet → State → Underway
 underway set x = record { set = set; pieces = x.pieces }

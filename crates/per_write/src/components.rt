@@ -19,13 +19,12 @@ pub struct EnclosingSet<A: Allocator + Clone> {
 }
 
 impl<A: Allocator + Clone> Model for EnclosingSet<A> {
-    ghost use Rattle.std.specs.Prelude.{Option};
+    ghost use Rattle.std.specs.Prelude.{Option, option_map};
     ghost use Rattle.per_pieces.specs.OpenSets.{OpenSet};
-    ghost use Rattle.per_write.specs.Components.{held};
 
     ghost Value = { Option OpenSet };
 
-    ghost view = { λ a. held (λ b. b.value) a.set };
+    ghost view = { λ a. option_map (λ b. b.value) a.set };
 }
 
 impl<A: Allocator + Clone> EnclosingSet<A> {
@@ -60,10 +59,7 @@ impl<A: Allocator + Clone> EnclosingSet<A> {
         ensures value { result ≡ self.old }
         ensures after { self.new ≡ None }
     {
-        match self.set.take() {
-            Some(set) => Some(Box::into_inner(set)),
-            None => None,
-        }
+        self.set.take().map(Box::into_inner)
     }
 }
 

@@ -1,13 +1,12 @@
 -- A day of the calendar as it is written (X.691 32).
 use lib.Signed.{le_z}
-use Rattle.std.proofs.Common.{◌≡◌, sym, ap, ap₂, ◌∙◌, subst, ℕ, ◌+◌, ◌-◌, ◌^◌, ◌<◌, Bool, true, false, cond, leb-true, le-leb, arith, Some, None, ℤ, pos, negsuc}
+use Rattle.std.proofs.Common.{◌≡◌, sym, ap, ap₂, ◌∙◌, subst, ℕ, ◌+◌, ◌-◌, ◌<◌, Bool, true, false, cond, leb-true, arith, Some, None, ℤ, pos, negsuc}
 use Rattle.std.specs.Prelude.{Result, Ok, Err}
 use Rattle.std.proofs.Common.{inl}
 use Rattle.rasn_types.specs.Codecs.{variant_of}
 use Rattle.rasn_types.specs.Contents.{is_date}
 use Rattle.rasn_types.specs.Values.{day}
 use Rattle.rasn_types.specs.Variants.{Variant}
-use Rattle.rasn_constraints.specs.Bounds.{fits_i128}
 use Rattle.rasn_schema.specs.Schemas.{Schema}
 use Rattle.rasn_traits.specs.Calls.{Written}
 use Rattle.per_core.specs.Canon.{canon, date_of, in_range, year_of, year_writer}

@@ -1,5 +1,5 @@
 -- Members that were sorted by their complete encodings are written in ascending order of these (ITU-T X.691, 22).
-use Rattle.std.proofs.Common.{Bor, Ordering, ◌≡◌, refl, sym, ap, subst, ◌∙◌, ℕ, Bool, true, false, cond, List, [], ◌∷◌, ◌++◌, map}
+use Rattle.std.proofs.Common.{Bor, Ordering, ◌≡◌, refl, sym, ap, subst, ◌∙◌, Bool, true, false, cond, List, [], ◌∷◌, ◌++◌, map}
 use Rattle.std.specs.Fn.{Called, Mut}
 use Rattle.std.specs.List.Sorted.{IsSortedBy, IsSortedByClosure, IsStableBy, IsStableByClosure}
 use Rattle.std.specs.Ordering.{is_lt, nat_cmp}
@@ -8,7 +8,7 @@ use Rattle.std.proofs.lemmas.Fn.{always_returns_same}
 use Rattle.rasn_types.specs.Values.{before, put, sorted}
 use Rattle.per_core.specs.Canon.{ascending, octet_key}
 use Rattle.per_core.specs.Writers.{Writer, complete}
-use Rattle.per_pieces.specs.Pieces.{Piece, placed_bits, writer_of}
+use Rattle.per_pieces.specs.Pieces.{placed_bits, writer_of}
 use Rattle.per_write_types.specs.declared.members.Member.{Member}
 use Rattle.per_write_types.specs.Members.{AreKeyed, Every, IsKeyed, comes_before, pieces_of, writers_of}
 use Rattle.per_write_types.proofs.MemberOrder.{before_is, weak}

@@ -1,5 +1,5 @@
 -- The members of a SET OF stand in one order, whatever order they came in (ITU-T X.691, 22).
-use Rattle.std.proofs.Common.{◌≡◌, refl, sym, ap, subst, ◌∙◌, ℕ, ◌<◌, Less, Equal, Greater, Bool, true, false, cond, eqb, List, [], ◌∷◌, map, arith, inl, inr, ◌⊎◌, lt-ltb, le-ltb, eq-eqb, ne_eqb, Option, Some, None, nat_lt, ◌==◌, is_some}
+use Rattle.std.proofs.Common.{◌≡◌, refl, sym, ap, ◌∙◌, ℕ, ◌<◌, Less, Equal, Greater, Bool, true, false, cond, eqb, List, [], ◌∷◌, map, arith, inl, inr, ◌⊎◌, lt-ltb, le-ltb, eq-eqb, Option, Some, None, nat_lt, ◌==◌, is_some}
 use Rattle.std.specs.Cmp.{IsStrictWeakOrder, nat_cmp_total}
 use Rattle.std.specs.Cmp.Lexicographic.{lists_total, slice_cmp}
 use Rattle.std.specs.Ordering.{is_lt, nat_cmp, ordering_then}

@@ -1,5 +1,5 @@
 -- The members of a SET OF that were written before their places are known (ITU-T X.691, 22).
-use Rattle.std.specs.Prelude.{◌≡◌, ℕ, Bool, List, [], ◌∷◌, map}
+use Rattle.std.specs.Prelude.{◌≡◌, Bool, List, [], ◌∷◌, map}
 use Rattle.rasn_types.specs.Values.{before}
 use Rattle.per_core.specs.Writers.{Writer, complete}
 use Rattle.per_pieces.specs.Pieces.{Piece, placed_bits, writer_of}

@@ -27,9 +27,9 @@
 //! 0, and those behind it go on), and an alternative goes by its tag, as `[2]` or `[UNIVERSAL 1]`.
 //!
 //! **Only tested**: that names are the type's, as a schema has none: those of `FIELDS` and `EXTENDED_FIELDS`, and which
-//! list `IDENTIFIERS` is (that an item is the one at its number of a list, and that number, are proved); the digits of a
-//! number that no `i128` holds; and that the text is UTF-8. **Neither**: that two values of a type with equal JSON have
-//! equal normal forms.
+//! list `IDENTIFIERS` is (that an item is the one at its number of a list, and that number, are proved); the digits of
+//! a number that no `i128` holds; and that the text is UTF-8. **Neither**: that two values of a type with equal JSON
+//! have equal normal forms.
 #![tactic(auto)]
 
 pub mod encoder;

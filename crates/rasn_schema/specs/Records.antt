@@ -2,7 +2,7 @@
 use Rattle.std.specs.Prelude.{ℕ, zero, suc, ◌≤◌, Bool, List, Option, Some, None}
 use Rattle.rasn_types.specs.Values.{Value, fields, as_slots}
 use Rattle.rasn_schema.specs.Schemas
-use Rattle.rasn_schema.specs.Schemas.{Schema, Parts, no_parts, part, Order}
+use Rattle.rasn_schema.specs.Schemas.{Schema, Parts, no_parts, Order}
 
 -- X.680 25, 27: a record to a number of levels, of which it takes one; with none left it is cut off
 abbrev pub record_at : Order → (ℕ → Parts) → Bool → (ℕ → Parts) → ℕ → Schema

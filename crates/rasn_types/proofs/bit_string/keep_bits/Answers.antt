@@ -5,7 +5,6 @@ use Rattle.std.specs.Int.{div_ceil}
 use Rattle.rasn_types.specs.Bits.{AreOctets, number_of, to_bits}
 use Rattle.rasn_types.proofs.Packing.{whole_kept, part_kept}
 use Rattle.rasn_types.proofs.bit_string.keep_bits.Goals as goal
-use Rattle.rasn_types.proofs.bit_string.keep_bits.Goals.{Then-len-gt0, Else-len-gt0}
 
 pub returns-then-len-gt0 : goal.returns-then-len-gt0
 returns-then-len-gt0 c =

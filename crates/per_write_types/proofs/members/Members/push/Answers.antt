@@ -1,4 +1,4 @@
-use Rattle.std.proofs.Common.{rules, ◌∙◌, ap}
+use Rattle.std.proofs.Common.{rules}
 use Rattle.per_write_types.proofs.Keyed.{keyed_more}
 use Rattle.per_write_types.proofs.members.Members.push.Goals as goal
 
