@@ -7,3 +7,4 @@ pub mod Second
 pub mod Several
 pub mod Many
 pub mod Picks
+pub mod Classes

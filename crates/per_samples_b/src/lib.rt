@@ -8,6 +8,7 @@ pub mod alt1;
 pub mod alt2;
 pub mod alternative_rows;
 pub mod beside;
+pub mod classed;
 pub mod flagged;
 pub mod grouped;
 pub mod inner;

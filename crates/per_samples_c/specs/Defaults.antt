@@ -1,7 +1,7 @@
 -- SEQUENCE { o outer1 DEFAULT (TRUE, FALSE) } and SEQUENCE { o outer3 DEFAULT (TRUE, FALSE, both additions absent) }
 use Rattle.std.specs.Prelude.{[], ◌∷◌, true, false, Some, None}
 use Rattle.rasn_below.specs.Page.{TypeLists, Value, item, added, truth, record_value, automatic, default, boolean}
-use Rattle.rasn_below.specs.Page.{extensible_enumerated, sequence}
+use Rattle.rasn_below.specs.Page.{extensible_enumerated, identifier_value, object_identifier, sequence}
 use Rattle.rasn_below.specs.Page.{choice, chosen, chosen_behind, chosen_value, list_value, sequence_of, any, size◌to◌}
 use Rattle.per_samples_b.specs.Outers.{outer1, outer3}
 use Rattle.per_samples_b.specs.Second.{alt2}
@@ -33,6 +33,10 @@ abbrev pub default_elements : TypeLists
 default_elements = automatic (
     default (list_value (truth true ∷ truth false ∷ [])) (sequence_of (size 0 to 3) boolean) ∷
     default (list_value (true_false ∷ [])) (sequence_of any (sequence outer1)) ∷ [])
+
+-- SEQUENCE { object OBJECT IDENTIFIER DEFAULT { 1 2 840 }, last BOOLEAN }
+abbrev pub default_identifier : TypeLists
+default_identifier = automatic (default (identifier_value (1 ∷ 2 ∷ 840 ∷ [])) object_identifier ∷ boolean ∷ [])
 
 -- a : TRUE and b : FALSE
 abbrev pub a_true : Value

@@ -5,6 +5,7 @@ pub mod colors;
 pub mod default_choice;
 pub mod default_color;
 pub mod default_elements;
+pub mod default_identifier;
 pub mod default_outer1;
 pub mod default_outer3;
 pub mod group1;

@@ -1,15 +1,9 @@
 -- SETs, each with its components in the order of its type.
-use Rattle.std.specs.Prelude.{ℕ, Bool}
-use Rattle.std.specs.Prelude.{List, [], ◌∷◌, Option, Some}
+use Rattle.std.specs.Prelude.{Bool, List, [], ◌∷◌, Option, Some}
 use Rattle.rasn_below.specs.Page.{Value, nothing, truth, Chosen, at, boolean, choice, chosen, integer, null}
-use Rattle.rasn_below.specs.Page.{optional, u8, under, ◌to◌, TypeLists, own_tags, extensible_own_tags}
-use Rattle.rasn_below.specs.Types.{leaf, TagTree}
+use Rattle.rasn_below.specs.Page.{optional, private, u8, under, ◌to◌, TypeLists, own_tags, extensible_own_tags}
 use Rattle.per_samples_sets.specs.declared.truth_or_none.TruthOrNone.{TruthOrNone}
 use Rattle.per_samples_sets.specs.declared.truth_or_none.TruthOrNone.TheVariants.{M, N}
-
--- X.680 8.1: a private tag
-abbrev pub private : ℕ → TagTree
-private i = leaf (record { class = 3; number = i })
 
 -- SET { b [1] INTEGER (0..255), a [0] BOOLEAN }
 abbrev pub set : TypeLists

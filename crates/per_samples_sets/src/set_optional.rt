@@ -6,7 +6,6 @@ ghost use Rattle.rasn_below.specs.Page.{truth, slot_of, fields_of};
 ghost use Rattle.per_samples_sets.specs.Sets.{set_optional};
 
 use rasn_below::page::*;
-use rasn_below::{Class, Field, Presence};
 
 /// SET { p [PRIVATE 0] BOOLEAN OPTIONAL, q [0] BOOLEAN OPTIONAL, r [1] BOOLEAN OPTIONAL }
 #[derive(Clone, Copy, Debug, PartialEq, Eq)]
@@ -21,43 +20,19 @@ macro_rules! components {
         $to! { [$($with)*]
             optional 0 "q" q: Option<bool> [];
             optional 1 "r" r: Option<bool> [];
-            optional 0 "p" p: Option<bool> [];
+            optional [PRIVATE 0] "p" p: Option<bool> [];
         }
     };
 }
 
-macro_rules! field {
-    ($index:literal $class:ident $number:literal $name:literal) => {
-        Field {
-            index: $index,
-            tag: Tag { class: Class::$class, value: $number },
-            tag_tree: rasn_below::TagTree::Leaf(Tag { class: Class::$class, value: $number }),
-            presence: Presence::Optional,
-            name: $name,
-        }
-    };
-}
-
-/// The components in ascending order of their tags: a private one stands behind those of other classes (X.680 8.6).
-const FIELDS: FieldLists = FieldLists {
-    root: &[
-        field!(0 Context 0 "q"),
-        field!(1 Context 1 "r"),
-        field!(2 Private 0 "p"),
-    ],
-    added: None,
-};
+const FIELDS: FieldLists = components!(fields);
 
 const BOUNDS: Bounds = components!(bounds);
 
-/// The components in the order of the type.
-const COMPONENTS: FieldLists = FieldLists {
-    root: &[
-        field!(0 Private 0 "p"),
-        field!(1 Context 0 "q"),
-        field!(2 Context 1 "r"),
-    ],
-    added: None,
+const COMPONENTS: FieldLists = fields! { []
+    optional [PRIVATE 0] "p" p: Option<bool> [];
+    optional 0 "q" q: Option<bool> [];
+    optional 1 "r" r: Option<bool> [];
 };
 
 impl OfKind for SetOptional {

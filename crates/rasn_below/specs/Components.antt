@@ -1,10 +1,10 @@
 -- The words in which a schema's author lists components, alternatives and items, those of the types of other crates
 -- among them: `automatic (object_identifier ∷ set_of (size 1 to 4) (integer big any) ∷ [])`.
-use Rattle.std.specs.Prelude.{refl}
+use Rattle.std.specs.Prelude.{ℕ, refl}
 use Rattle.rasn_types.specs.Contents.{generalized, other, utc}
 use Rattle.rasn_constraints.specs.declared.constraints.Constraints.{Constraints}
 use Rattle.rasn_schema.specs.Schemas
-use Rattle.rasn_schema.specs.Schemas.{Schema}
+use Rattle.rasn_schema.specs.Schemas.{leaf, Schema, TagTree}
 use Rattle.rasn_schema.specs.Forms.{is_size_marked, size_of}
 use Rattle.rasn_traits.specs.Moments.{date_at}
 use Rattle.rasn_sets.specs.Bags.{set_at, set_fits, set_levelled}
@@ -24,6 +24,14 @@ pub use Rattle.rasn_schema.specs.Components.{sequence, sequence_of, choice}
 pub use Rattle.rasn_schema.specs.Enumerations.{all_items, extensible_items}
 pub use Rattle.rasn_sets.specs.SetRecords.{set}
 pub use Rattle.rasn_additions.specs.Groups.{group}
+
+-- a tag of the class APPLICATION, by its number (X.680 31.2)
+abbrev pub application : ℕ → TagTree
+application i = leaf (record { class = 1; number = i })
+
+-- a tag of the class PRIVATE, by its number (X.680 31.2)
+abbrev pub private : ℕ → TagTree
+private i = leaf (record { class = 3; number = i })
 
 -- OBJECT IDENTIFIER (X.680 32)
 abbrev pub object_identifier : Component

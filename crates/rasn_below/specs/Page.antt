@@ -25,5 +25,5 @@ pub use Rattle.rasn_schema.specs.Components.{sequence, sequence_of, choice}
 pub use Rattle.rasn_schema.specs.Enumerations.{all_items, extensible_items}
 pub use Rattle.rasn_sets.specs.SetRecords.{set}
 pub use Rattle.rasn_additions.specs.Groups.{group}
-pub use Rattle.rasn_below.specs.Components.{object_identifier, date, utc_time, generalized_time, teletex_string}
-pub use Rattle.rasn_below.specs.Components.{graphic_string, general_string, open_type, set_of}
+pub use Rattle.rasn_below.specs.Components.{application, private, object_identifier, date, utc_time, generalized_time}
+pub use Rattle.rasn_below.specs.Components.{teletex_string, graphic_string, general_string, open_type, set_of}

@@ -44,3 +44,4 @@ pub use rasn_schema::types::{Class, Tag};
 pub use rasn_sets::{SetComponents, SetKind, SetRecord, ordered};
 pub use rasn_traits::de;
 pub use rasn_traits::parts::NoAdditions;
+pub use rasn_useful::defaults::Arcs;

@@ -801,6 +801,10 @@ macro_rules! stated_to_write {
         required $tag:ident $(of $tree:ident)? $name:literal $field:ident: $type:ty [$($bounds:tt)*]; $($rest:tt)*
     ) => { $crate::stated_to_write!([$($places)*] [$of]; $($rest)*) };
     ([$place:literal $($places:tt)*] [$of:ident];
+        required [$($tag:tt)*] $(of $tree:ident)? $name:literal
+        $field:ident: $type:ty [$($bounds:tt)*]; $($rest:tt)*
+    ) => { $crate::stated_to_write!([$($places)*] [$of]; $($rest)*) };
+    ([$place:literal $($places:tt)*] [$of:ident];
         $presence:ident $tag:tt $(of $tree:ident)? $name:literal
         $field:ident: $type:ty [$($bounds:tt)*]; $($rest:tt)*
     ) => {{
@@ -823,6 +827,10 @@ macro_rules! stated_to_read {
     ) => { $crate::stated_to_read!([$($places)*] []; $($rest)*) };
     ([$place:literal $($places:tt)*] [];
         required $tag:ident $(of $tree:ident)? $name:literal $field:ident: $type:ty [$($bounds:tt)*]; $($rest:tt)*
+    ) => { $crate::stated_to_read!([$($places)*] []; $($rest)*) };
+    ([$place:literal $($places:tt)*] [];
+        required [$($tag:tt)*] $(of $tree:ident)? $name:literal
+        $field:ident: $type:ty [$($bounds:tt)*]; $($rest:tt)*
     ) => { $crate::stated_to_read!([$($places)*] []; $($rest)*) };
     ([$place:literal $($places:tt)*] [];
         $presence:ident $tag:tt $(of $tree:ident)? $name:literal

@@ -1,9 +1,10 @@
 //! What an author's list of alternatives is handed to whose tags are written, or are their types' own (X.680 29).
 //!
-//! The list is as one with automatic tags, but a line begins with the tag of its alternative: the number of a
-//! context-specific one, or the name of a constant of `Tag`, for an alternative under its type's own. One that is an
-//! untagged CHOICE has the smallest of its tags, and behind `of` a constant of all of them, as `own_tags_of_choice` or
-//! `tags_of_choice` gives it. Those before the extension marker stand in ascending order of these tags (X.691 23.5).
+//! The list is as one with automatic tags, but a line begins with the tag of its alternative: the number of a context-
+//! specific one, `[APPLICATION 1]` or `[PRIVATE 1]`, or the name of a constant of `Tag`, for an alternative under its
+//! type's own. One that is an untagged CHOICE has the smallest of its tags, and behind `of` a constant of all of them,
+//! as `own_tags_of_choice` or `tags_of_choice` gives it. Those before the extension marker stand in ascending order of
+//! these tags (X.691 23.5).
 //!
 //! ```text
 //! macro_rules! alternatives {
@@ -69,10 +70,13 @@ macro_rules! decode_own_alternative {
     };
 }
 
-/// A tag: a context-specific one by its number, or one of a constant of `Tag` (X.680 8.4).
+/// A tag: a context-specific one by its number, one of another class as ASN.1 writes it, as `[APPLICATION 1]`, or one
+/// of a constant of `Tag` (X.680 8.4, 31.2).
 #[macro_export]
 macro_rules! own_tag {
     ($number:literal) => { $crate::context_tag!($number) };
+    ([APPLICATION $number:literal]) => { $crate::Tag { class: $crate::Class::Application, value: $number } };
+    ([PRIVATE $number:literal]) => { $crate::Tag { class: $crate::Class::Private, value: $number } };
     ($kind:ident) => { $crate::Tag::$kind };
 }
 

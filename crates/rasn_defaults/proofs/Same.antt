@@ -29,7 +29,7 @@ equal_lists_self [] = refl
 equal_lists_self (x ∷ xs) = rw (eq-eqb x x refl) (equal_lists_self xs)
 
 -- values with one code are those that are one
-code_decides : {A : Type 0} (value : A → Value) (x y : A) → (code (value x) ≡ code (value y) → x ≡ y) → Decides (same (value x) (value y)) (x ≡ y)
+pub code_decides : {A : Type 0} (value : A → Value) (x y : A) → (code (value x) ≡ code (value y) → x ≡ y) → Decides (same (value x) (value y)) (x ≡ y)
 unfolding same
 code_decides value x y h = (λ e. h (equal_lists_same (code (value x)) (code (value y)) e), λ e. rw e (equal_lists_self (code (value y))))
 

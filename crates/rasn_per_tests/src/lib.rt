@@ -1,6 +1,5 @@
 //! Tests over both modules of what no clause says, and no row of `rows/` or `vectors/` shows: types that the program
-//! doesn't take, the calls for additions and of the crates above, which refusal is named where several would do, and
-//! streams that break under the program.
+//! doesn't take, the calls for additions and of the crates above, and which refusal is named where several would do.
 #![tactic(auto)]
 
 #[cfg(test)]
@@ -16,6 +15,8 @@ mod contents;
 #[cfg(test)]
 mod copies;
 #[cfg(test)]
+mod defaults;
+#[cfg(test)]
 mod expected;
 #[cfg(test)]
 mod header;
@@ -28,11 +29,7 @@ mod records;
 #[cfg(test)]
 mod recursive;
 #[cfg(test)]
-mod runs;
-#[cfg(test)]
 mod sets;
-#[cfg(test)]
-mod streams;
 #[cfg(test)]
 mod texts;
 #[cfg(test)]

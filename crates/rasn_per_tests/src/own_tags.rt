@@ -1,6 +1,7 @@
 //! Alternatives and additions under tags that are written, or are their types' own, as another encoder wrote them.
 
 use crate::expected::{BOTH, expect_coded, expect_value, expect_variants};
+use per_samples_b::classed::Classed;
 use per_samples_b::pick::Pick;
 use per_samples_b::picked::Picked;
 use per_samples_b::spare::Spare;
@@ -68,5 +69,18 @@ fn writes_and_reads_an_untagged_choice_as_an_addition(rt: HostRuntime) {
     }
     for octets in UNALIGNED {
         expect_value::<Picked>(&rt, rt.alloc(), Codec::Uper, octets);
+    }
+}
+
+/// Alternatives are counted in the order of their tags, those of the class APPLICATION behind universal ones and before
+/// context-specific ones (X.680 8.6, X.691 23.5). asn1c wrote these octets.
+#[test]
+fn writes_and_reads_alternatives_under_tags_of_each_class(rt: HostRuntime) {
+    let last = Classed::Last(OctetString::new(Vec::from_slice(rt.alloc(), &[1, 2])?));
+    for codec in BOTH {
+        expect_coded(&rt, rt.alloc(), *codec, &Classed::Flag(true), &[0x20]);
+        expect_coded(&rt, rt.alloc(), *codec, &Classed::Number(5), &[0x68]);
+        expect_coded(&rt, rt.alloc(), *codec, &Classed::Spare, &[0x80]);
+        expect_coded(&rt, rt.alloc(), *codec, &last, &[0xc0, 0x40, 0x80]);
     }
 }

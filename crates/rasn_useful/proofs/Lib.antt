@@ -1,1 +1,2 @@
+mod OneObject
 pub mod Arcs

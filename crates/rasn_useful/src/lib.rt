@@ -2,6 +2,7 @@
 #![tactic(auto)]
 
 pub mod date;
+pub mod defaults;
 pub mod generalized_time;
 mod moment;
 pub mod object_identifier;
