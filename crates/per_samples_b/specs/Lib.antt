@@ -6,5 +6,6 @@ pub mod First
 pub mod Second
 pub mod Several
 pub mod Many
+pub mod ManyExtended
 pub mod Picks
 pub mod Classes

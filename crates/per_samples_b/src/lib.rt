@@ -13,6 +13,7 @@ pub mod flagged;
 pub mod grouped;
 pub mod inner;
 pub mod many;
+pub mod many_extended;
 pub mod many_rows;
 pub mod none_needed;
 pub mod one_needed;

@@ -1,6 +1,7 @@
 //! Cells, of which the list of a record's additions is made. Their tags and constraints stand in lists beside them.
 
-ghost use Rattle.std.specs.Prelude.{◌≡◌, ℕ, max, List, [], ◌∷◌, Option, map};
+ghost use Rattle.std.specs.Prelude.{◌≡◌, ◌≤◌, ℕ, max, List, [], ◌∷◌, Option, map};
+ghost use Rattle.std.proofs.Common.{arith};
 ghost use Rattle.std.specs.Borrow.{Bor};
 ghost use Rattle.rasn_types.specs.Values.{Value};
 ghost use Rattle.rasn_constraints.specs.declared.constraints.Constraint.{Constraint};
@@ -10,12 +11,12 @@ ghost use Rattle.rasn_schema.specs.Extensions.{fields_behind};
 ghost use Rattle.rasn_schema.specs.Fields.{Shape, shape_of, tag_of};
 ghost use Rattle.rasn_traits.specs.Additions.{WritesAdditions};
 ghost use Rattle.rasn_traits.specs.AdditionsRead.{TakesAdditions};
-ghost use Rattle.rasn_record.specs.Lists.{behind, first_given};
+ghost use Rattle.rasn_record.specs.Lists.{Asked, behind, both_asked, both_within, first_given, nothing_asked};
 ghost use Rattle.rasn_additions.specs.Trees.{first_tree_by};
 
 use crate::additions::{DecodeAddition, EncodeAddition};
 use rasn_codec::codec::{Decoder, Encoder};
-use rasn_record::cells::{Cell, End, behind, first_tag, given_or_own};
+use rasn_record::cells::{Cell, EncodeEachAddition, End, behind, first_tag, given_or_own};
 use rasn_record::fields::added;
 use rasn_schema::components::Components;
 use rasn_schema::constraints::Constraint;
@@ -35,6 +36,9 @@ pub trait EncodeAdditionCells {
     // How many levels they take.
     ghost levels: { Self → ℕ };
 
+    // What is asked of a number of levels that holds each.
+    ghost asked: { Self → Asked };
+
     /// Gives the additions in turn.
     fn encode_addition_cells<E: Encoder>(
         &self,
@@ -44,6 +48,9 @@ pub trait EncodeAdditionCells {
     ) -> Result<(), E::Error>
         ensures { WritesAdditions E.rules (Self.additions self.now (map shape_of fields.now) constraints.now)
             (Self.levels self.now) (Self.contents self.now) encoder.old result encoder.new };
+
+    // That is enough.
+    ghost within: { (p : Self) (n : ℕ) → (asked p).Of n → levels p ≤ n };
 }
 
 /// Additions of a record that are still to be read, of which lists state the tags and the constraints.
@@ -118,6 +125,10 @@ impl EncodeAdditionCells for End {
         let _ = encoder;
         Ok(())
     }
+
+    ghost asked = { λ p. nothing_asked };
+
+    ghost within = { λ p n h. omega arith };
 }
 
 impl<C: EncodeAddition, N: EncodeAdditionCells> EncodeAdditionCells for Cell<C, N> {
@@ -140,6 +151,10 @@ impl<C: EncodeAddition, N: EncodeAdditionCells> EncodeAdditionCells for Cell<C, 
         self.next
             .encode_addition_cells(behind(fields), behind(constraints), encoder)
     }
+
+    ghost asked = { λ p. both_asked (C.asked p.component) (N.asked p.next) };
+
+    ghost within = { λ p n h. both_within (C.within p.component n h.0) (N.within p.next n h.1) };
 }
 
 impl<T: Components, P: EncodeAdditionCells> EncodeAdditions for AddedTo<T, P> {
@@ -153,6 +168,12 @@ impl<T: Components, P: EncodeAdditionCells> EncodeAdditions for AddedTo<T, P> {
         self.cells
             .encode_addition_cells(added::<T>(), self.constraints, encoder)
     }
+}
+
+impl<T: Components, P: EncodeAdditionCells> EncodeEachAddition for AddedTo<T, P> {
+    ghost asked = { λ p. P.asked p.cells };
+
+    ghost within = { λ p n h. P.within p.cells n h };
 }
 
 impl<P: EncodeAdditionCells> EncodeAdditions for ListedAdditions<P> {

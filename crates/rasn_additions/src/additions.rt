@@ -1,12 +1,13 @@
 //! One addition of a record behind its extension marker: required, optional, with a default, or a group.
 
-ghost use Rattle.std.specs.Prelude.{ℕ, Option, Some};
+ghost use Rattle.std.specs.Prelude.{◌≤◌, ℕ, Option, Some};
 ghost use Rattle.rasn_types.specs.Values.{Value};
 ghost use Rattle.rasn_schema.specs.Fields.{tagged};
 ghost use Rattle.rasn_schema.specs.Schemas.{Presence, required, optional, group};
 ghost use Rattle.rasn_traits.specs.Presences.{slot_of};
 ghost use Rattle.rasn_additions.specs.OneAddition.{ReadsOneAddition, WritesAddition};
-ghost use Rattle.rasn_record.specs.Slots.{slot_levels};
+ghost use Rattle.rasn_record.specs.Slots.{slot_asked, slot_levels, slot_within};
+ghost use Rattle.rasn_record.specs.Lists.{Asked, at_least};
 
 use crate::{ExtensionDecoder, ExtensionEncoder};
 use rasn_codec::codec::{Decode, Decoder, DecoderExt, Encode, Encoder};
@@ -32,6 +33,9 @@ pub trait EncodeAddition {
     // How many levels it takes.
     ghost levels: { Self → ℕ };
 
+    // What is asked of a number of levels that holds it.
+    ghost asked: { Self → Asked };
+
     /// Gives the addition under a tag and constraints.
     fn encode_addition<E: Encoder>(
         &self,
@@ -41,6 +45,9 @@ pub trait EncodeAddition {
     ) -> Result<(), E::Error>
         ensures { WritesAddition E.rules (presence self.now) (Self.Of.schema constraints.now) (levels self.now)
             (slot self.now) encoder.old result encoder.new };
+
+    // That is enough.
+    ghost within: { (c : Self) (n : ℕ) → (asked c).Of n → levels c ≤ n };
 }
 
 /// An addition of a record that is still to be read (X.691 19.7 to 19.9).
@@ -95,6 +102,10 @@ impl<'a, H: Encode> EncodeAddition for &'a H {
     ) -> Result<(), E::Error> {
         encoder.encode_extension_addition(tag, constraints, *self, H::IDENTIFIER)
     }
+
+    ghost asked = { λ c. at_least (H.levels c.now) };
+
+    ghost within = { λ c n h. h };
 }
 
 impl<'a, H: Encode> EncodeAddition for Optional<&'a Option<H>> {
@@ -119,6 +130,10 @@ impl<'a, H: Encode> EncodeAddition for Optional<&'a Option<H>> {
             None => encoder.skip_addition(),
         }
     }
+
+    ghost asked = { λ c. slot_asked H.levels c.0.now };
+
+    ghost within = { λ c. slot_within H.levels c.0.now };
 }
 
 impl<'a, H: Encode, K: DefaultOf<H>> EncodeAddition for Default<&'a H, K> {
@@ -141,6 +156,10 @@ impl<'a, H: Encode, K: DefaultOf<H>> EncodeAddition for Default<&'a H, K> {
         }
         encoder.encode_extension_addition(tag, constraints, self.value, H::IDENTIFIER)
     }
+
+    ghost asked = { λ c. at_least (H.levels c.value.now) };
+
+    ghost within = { λ c n h. h };
 }
 
 impl<'a, H: Encode + AdditionGroup> EncodeAddition for Group<&'a Option<H>> {
@@ -163,6 +182,10 @@ impl<'a, H: Encode + AdditionGroup> EncodeAddition for Group<&'a Option<H>> {
             None => encoder.skip_addition(),
         }
     }
+
+    ghost asked = { λ c. slot_asked H.levels c.0.now };
+
+    ghost within = { λ c. slot_within H.levels c.0.now };
 }
 
 /// A required addition is read by `PhantomData` of its type.

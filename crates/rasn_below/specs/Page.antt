@@ -7,7 +7,7 @@ pub use Rattle.rasn_schema.specs.Lists.{list_value}
 pub use Rattle.rasn_schema.specs.Records.{record_value}
 pub use Rattle.rasn_traits.specs.Moments.{identifier_value}
 pub use Rattle.rasn_traits.specs.Presences.{slot_of}
-pub use Rattle.rasn_traits.specs.Scopes.{deeper_of}
+pub use Rattle.rasn_record.specs.Lists.{deeper_of}
 pub use Rattle.rasn_record.specs.Slots.{slot_levels}
 pub use Rattle.rasn_sets.specs.SetRecords.{set_value}
 pub use Rattle.rasn_schema.specs.Components.{Component, TypeLists, Chosen, chosen, chosen_behind, fields_in, fields_of}

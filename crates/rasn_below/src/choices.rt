@@ -133,13 +133,14 @@ macro_rules! decode_alternative {
         $tag:literal $name:literal $variant:ident $(: $type:ty [$($bounds:tt)*])?;
     )*) => {{
         let limits = BOUNDS;
-        $crate::with_places!(alternatives_to_read [$decoder $by limits];
+        let place = $crate::by_place::place_before::<Self>($by);
+        $crate::with_places!(alternatives_to_read read [$decoder $by limits place];
             $($tag $name $variant $(: $type [$($bounds)*])?;)*
         )
     }};
     ([$decoder:ident $by:ident] $($list:tt)*) => {{
         let limits = BOUNDS;
-        $crate::with_places!(marked_alternatives_to_read Root read [$decoder $by limits]; $($list)*)
+        $crate::marked_alternatives_to_read!([$decoder $by limits] []; $($list)*)
     }};
 }
 
@@ -174,57 +175,54 @@ macro_rules! alternatives_to_write {
     };
 }
 
-/// The alternatives to read of a list without a marker, behind those that are done.
+/// The alternatives to read of one side of a marker, or of a list without one, behind those that are done.
 #[macro_export]
 macro_rules! alternatives_to_read {
-    ([$place:literal $($places:tt)*] [$decoder:ident $by:ident $limits:ident $($done:tt)*];
+    ([$last:literal $($places:tt)*] $read:ident
+        [$decoder:ident $by:ident $limits:ident $place:ident $($done:tt)*];
         $tag:literal $name:literal $variant:ident $(: $type:ty [$($bounds:tt)*])?;
     ) => {
-        match <Self as $crate::schema::Choice>::VARIANTS.index_of($by) {
+        match $place {
             $($done)*
-            _ => $crate::alternative_to_read!($decoder $by $limits read $place $variant $($type)?),
+            _ => {
+                $crate::by_place::is_last($place, $last);
+                $crate::alternative_to_read!($decoder $by $limits $read $last $variant $($type)?)
+            }
         }
     };
-    ([$place:literal $($places:tt)*] [$decoder:ident $by:ident $limits:ident $($done:tt)*];
+    ([$next:literal $($places:tt)*] $read:ident
+        [$decoder:ident $by:ident $limits:ident $place:ident $($done:tt)*];
         $tag:literal $name:literal $variant:ident $(: $type:ty [$($bounds:tt)*])?; $($rest:tt)+
     ) => {
-        $crate::alternatives_to_read!([$($places)*] [$decoder $by $limits
+        $crate::alternatives_to_read!([$($places)*] $read [$decoder $by $limits $place
             $($done)*
-            Some($place) => $crate::alternative_to_read!($decoder $by $limits read $place $variant $($type)?),
+            $next => $crate::alternative_to_read!($decoder $by $limits $read $next $variant $($type)?),
         ]; $($rest)+)
     };
 }
 
-/// The alternatives to read of a list with a marker, behind those that are done.
+/// The alternatives to read of a list with a marker, behind those before it.
 #[macro_export]
 macro_rules! marked_alternatives_to_read {
-    ([$place:literal $($places:tt)*] $side:ident $read:ident [$decoder:ident $by:ident $limits:ident $($done:tt)*];
-        $tag:literal $name:literal $variant:ident $(: $type:ty [$($bounds:tt)*])?;
-    ) => {{
-        let added = <Self as $crate::schema::Choice>::EXTENDED_VARIANTS;
-        match <Self as $crate::schema::Choice>::VARIANTS.place_of(&added, $by) {
-            $($done)*
-            _ => $crate::alternative_to_read!($decoder $by $limits $read $place $variant $($type)?),
-        }
+    ([$decoder:ident $by:ident $limits:ident] [$($root:tt)*]; ...;) => {{
+        let place = $crate::by_place::place_before::<Self>($by);
+        $crate::with_places!(alternatives_to_read read [$decoder $by $limits place]; $($root)*)
     }};
-    ($places:tt $side:ident $read:ident $done:tt;
-        $tag:literal $name:literal $variant:ident $(: $type:ty [$($bounds:tt)*])?; ...;
-    ) => {
-        $crate::marked_alternatives_to_read!($places $side $read $done;
-            $tag $name $variant $(: $type [$($bounds)*])?;
-        )
+    ([$decoder:ident $by:ident $limits:ident] [$($root:tt)*]; ...; $($added:tt)+) => {
+        match $crate::by_place::stands_at::<Self>($by) {
+            $crate::Place::Root(place) => {
+                $crate::with_places!(alternatives_to_read read [$decoder $by $limits place]; $($root)*)
+            }
+            $crate::Place::Added(place) => {
+                $crate::with_places!(alternatives_to_read read_behind [$decoder $by $limits place]; $($added)+)
+            }
+        }
     };
-    ($places:tt $side:ident $read:ident $done:tt; ...; $($rest:tt)+) => {
-        $crate::with_places!(marked_alternatives_to_read Added read_behind $done; $($rest)+)
-    };
-    ([$place:literal $($places:tt)*] $side:ident $read:ident [$decoder:ident $by:ident $limits:ident $($done:tt)*];
+    ($with:tt [$($root:tt)*];
         $tag:literal $name:literal $variant:ident $(: $type:ty [$($bounds:tt)*])?; $($rest:tt)+
     ) => {
-        $crate::marked_alternatives_to_read!([$($places)*] $side $read [$decoder $by $limits
-            $($done)*
-            Some($crate::Place::$side($place)) => $crate::alternative_to_read!(
-                $decoder $by $limits $read $place $variant $($type)?
-            ),
+        $crate::marked_alternatives_to_read!($with [
+            $($root)* $tag $name $variant $(: $type [$($bounds)*])?;
         ]; $($rest)+)
     };
 }

@@ -269,7 +269,7 @@ macro_rules! encode_components {
         $presence:ident $tag:tt $(of $tree:ident)? $name:literal
         $field:ident: $type:ty [$($bounds:tt)*];
     )* ...; $($behind:tt)*) => {
-        $crate::write::all(
+        $crate::write::extended(
             $of,
             &$crate::of_record!($crate::components_to_write!($of $([$presence $field [$($bounds)*]])*)),
             &$crate::added_to!($crate::additions_to_write!($of $($behind)*)),

@@ -1,10 +1,10 @@
 //! What an author's list of alternatives is handed to whose tags are written, or are their types' own (X.680 29).
 //!
-//! The list is as one with automatic tags, but a line begins with the tag of its alternative: the number of a context-
-//! specific one, `[APPLICATION 1]` or `[PRIVATE 1]`, or the name of a constant of `Tag`, for an alternative under its
-//! type's own. One that is an untagged CHOICE has the smallest of its tags, and behind `of` a constant of all of them,
-//! as `own_tags_of_choice` or `tags_of_choice` gives it. Those before the extension marker stand in ascending order of
-//! these tags (X.691 23.5).
+//! The list is as one with automatic tags, but a line begins with the tag of its alternative: the number of a
+//! context-specific one, `[APPLICATION 1]` or `[PRIVATE 1]`, or the name of a constant of `Tag`, for an alternative
+//! under its type's own. One that is an untagged CHOICE has the smallest of its tags, and behind `of` a constant of all
+//! of them, as `own_tags_of_choice` or `tags_of_choice` gives it. Those before the extension marker stand in ascending
+//! order of these tags (X.691 23.5).
 //!
 //! ```text
 //! macro_rules! alternatives {

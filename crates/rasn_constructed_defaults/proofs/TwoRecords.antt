@@ -9,7 +9,7 @@ use Rattle.rasn_schema.specs.Components.{TypeLists, sequence_at, root_parts, add
 use Rattle.rasn_schema.specs.Normal.{normal, normals}
 use Rattle.rasn_schema.specs.Records.{record_value}
 use Rattle.rasn_schema.specs.Schemas.{Parts}
-use Rattle.rasn_traits.specs.Scopes.{deeper_of}
+use Rattle.rasn_record.specs.Lists.{deeper_of}
 use Rattle.rasn_defaults.specs.Told.{TellsSame}
 use Rattle.rasn_constructed_defaults.specs.Parts.{Form, forms_of, HaveForms, AreFilled, TellsParts, same_slot, same_slots}
 use Rattle.rasn_constructed_defaults.proofs.Equal.{same_decides, both_decide}
@@ -52,12 +52,10 @@ forms_at h zero = h.at_none
 forms_at h (suc n) = h.at_some n
 
 root_within : (k l depth : ℕ) → deeper_of k l ≤ depth → k ≤ depth
-root_within k zero depth h = h
-root_within k (suc l) depth h = omega arith
+root_within k l depth h = omega arith
 
 added_within : (k l depth : ℕ) → deeper_of k l ≤ depth → l ≤ depth
-added_within k zero depth h = omega arith
-added_within k (suc l) depth h = omega arith
+added_within k l depth h = omega arith
 
 -- of a record whose root components are those of the default, by its additions
 added_at : (cs : TypeLists) (fs gs : ℕ → List Form) (k l depth : ℕ) (rs xs ds es : List (Option Value)) (a b : Bool)

@@ -1,3 +1,4 @@
+mod FirstPlace
 pub mod Behind
 pub mod Slots
 pub mod BothRead

@@ -1,5 +1,6 @@
 -- What the lists of a record's fields and constraints state of its components, from one of these on.
-use Rattle.std.specs.Prelude.{◌≡◌, ◌≤◌, ℕ, max, List, [], ◌∷◌, Option, Some, None}
+use Rattle.std.specs.Prelude.{◌≡◌, ◌≢◌, ◌≤◌, ℕ, max, List, [], ◌∷◌, Option, Some, None}
+use Rattle.std.proofs.Common.{arith}
 use Rattle.std.specs.Borrow.{Bor}
 use Rattle.rasn_constraints.specs.Constraints.{Effective, effective}
 use Rattle.rasn_constraints.specs.declared.constraints.Constraint.{Constraint}
@@ -45,6 +46,34 @@ ArePlain cs parts = (n : ℕ) → (root_parts cs n ≡ parts n) × (added_parts 
 abbrev pub deepest : List ℕ → ℕ
 deepest [] = 0
 deepest (l ∷ ls) = max l (deepest ls)
+
+-- the levels of root components and of additions; where there are no additions, those of the root components
+abbrev pub deeper_of : ℕ → ℕ → ℕ
+deeper_of k m = max m k
+
+-- A depth holds components: it is that of the deepest, or each is within it.
+abbrev pub Holds : ℕ → ℕ → Type 0 → Type 0
+Holds depth deepest each = depth ≢ deepest → each
+
+-- what is asked of a number of levels that holds components
+pub record Asked : Type 1 where
+  pub Of : ℕ → Type 0
+
+-- that it is at least another one
+abbrev pub at_least : ℕ → Asked
+at_least l = record { Of = λ n. l ≤ n }
+
+-- nothing
+abbrev pub nothing_asked : Asked
+nothing_asked = record { Of = λ n. Unit {0} }
+
+-- both of these
+abbrev pub both_asked : Asked → Asked → Asked
+both_asked a b = record { Of = λ n. a.Of n × b.Of n }
+
+-- two numbers of levels that are at most this one
+pub both_within : {k l n : ℕ} → k ≤ n → l ≤ n → max k l ≤ n
+both_within h g = omega arith
 
 -- each of some numbers of levels is at most this one
 abbrev pub AreWithin : ℕ → List ℕ → Type 0

@@ -1,15 +1,26 @@
 -- One component of a record, as a cell writes it.
-use Rattle.std.specs.Prelude.{ℕ, Result, Option, Some, None}
+use Rattle.std.specs.Prelude.{◌≡◌, ◌≤◌, ℕ, Result, Option, Some, None, refl}
+use Rattle.std.proofs.Common.{arith}
 use Rattle.rasn_types.specs.Values.{Value}
 use Rattle.rasn_schema.specs.Schemas.{Presence, group, Schema}
 use Rattle.rasn_schema.specs.Normal.{normal}
 use Rattle.rasn_traits.specs.Calls.{AtDepths, Behaves, EncoderRules}
 use Rattle.rasn_traits.specs.Scopes.{WrittenPart}
+use Rattle.rasn_record.specs.Lists.{Asked}
 
 -- how many levels a value takes that may be there
 abbrev pub slot_levels : {T : Type 0} → (T → ℕ) → Option T → ℕ
 slot_levels levels None = 0
 slot_levels levels (Some x) = levels x
+
+-- of a value that may be there: that the number is at least its levels, where it is there
+abbrev pub slot_asked : {T : Type 0} → (T → ℕ) → Option T → Asked
+slot_asked {T} levels o = record { Of = λ n. (x : T) → o ≡ Some x → levels x ≤ n }
+
+pub slot_within : {T : Type 0} (levels : T → ℕ) (o : Option T) (n : ℕ) → (slot_asked levels o).Of n
+    → slot_levels levels o ≤ n
+slot_within levels None n h = omega arith
+slot_within levels (Some x) n h = h x refl
 
 -- a presence other than an addition group's
 abbrev pub IsComponent : Presence → Type 0

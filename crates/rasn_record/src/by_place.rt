@@ -1,20 +1,23 @@
 //! One alternative of a CHOICE, as a list states it, whose constraints stand at its place in another.
 
-ghost use Rattle.std.specs.Prelude.{◌≡◌, ◌≤◌, ℕ, Some};
-ghost use Rattle.rasn_schema.specs.Choices.{alternative_at, choices_of, place_of, variants_behind};
+ghost use Rattle.std.specs.Prelude.{◌≡◌, ◌<◌, ◌≤◌, ℕ, Some, length};
+ghost use Rattle.rasn_schema.specs.Choices.{alternative_at, AreVariants, choices_of, place_of, variants_behind};
+ghost use Rattle.rasn_schema.specs.declared.items.Place.TheVariants.{Root, Added};
 ghost use Rattle.rasn_schema.specs.Components.{added_parts, chosen, chosen_behind, root_parts};
 ghost use Rattle.rasn_schema.specs.Fields.{tag_of};
 ghost use Rattle.rasn_schema.specs.Records.{own_or};
 ghost use Rattle.rasn_traits.specs.Calls.{Reads};
 ghost use Rattle.rasn_traits.specs.Choices.{WritesChosen};
 ghost use Rattle.rasn_record.specs.Lists.{given};
-ghost use Rattle.rasn_record.specs.Places.{given_at};
+ghost use Rattle.rasn_record.specs.Places.{given_at, IsPlaceOf};
 
 use crate::alternatives;
 use crate::bounds::Bounds;
 use rasn_codec::codec::{Decode, Decoder, Encode, Encoder};
 use rasn_schema::alternatives::Alternatives;
+use rasn_schema::choices::Choice;
 use rasn_schema::constraints::Constraint;
+use rasn_schema::items::Place;
 use rasn_types::types::Tag;
 
 /// The constraints at a place of a list: none where it has none there.
@@ -106,3 +109,40 @@ pub fn read_behind<H: Decode, D: Decoder>(
     let limits = limits_at(bounds.lists.added, place);
     alternatives::read::<H, D>(decoder, tag, limits)
 }
+
+/// The place before the extension marker of the alternative that goes by a tag, or the first where none there does.
+#[inline(always)]
+pub fn place_before<T: Choice>(tag: Tag) -> usize
+    requires { 0 < length T.VARIANTS }
+    ensures within { result < length T.VARIANTS }
+    ensures stands { (k : ℕ) → place_of (tag_of tag) T.VARIANTS ≡ Some k → result ≡ k }
+{
+    match T::VARIANTS.index_of(tag) {
+        Some(place) => place,
+        None => 0,
+    }
+}
+
+/// Where the alternative stands that goes by a tag, or the first before the extension marker where none does.
+#[inline(always)]
+pub fn stands_at<T: Choice>(tag: Tag) -> Place
+    requires variants { AreVariants T.VARIANTS T.EXTENDED_VARIANTS }
+    requires some { 0 < length T.VARIANTS }
+    ensures within { IsPlaceOf T.VARIANTS (variants_behind T.EXTENDED_VARIANTS) result }
+    ensures before { (k : ℕ) → place_of (tag_of tag) T.VARIANTS ≡ Some k → result ≡ Root k }
+    ensures behind { (k : ℕ) → place_of (tag_of tag) (variants_behind T.EXTENDED_VARIANTS) ≡ Some k
+        → result ≡ Added k }
+{
+    let added = T::EXTENDED_VARIANTS;
+    match T::VARIANTS.place_of(&added, tag) {
+        Some(place) => place,
+        None => Place::Root(0),
+    }
+}
+
+/// The place is the last.
+#[inline(always)]
+pub fn is_last(place: usize, last: usize)
+    requires { place ≡ last }
+    ensures { place ≡ last }
+{}

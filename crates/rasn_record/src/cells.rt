@@ -1,6 +1,7 @@
 //! Cells, of which the list of a record's components is made. Their tags and constraints stand in lists beside them.
 
-ghost use Rattle.std.specs.Prelude.{◌≡◌, ℕ, List, [], ◌∷◌, Option, map, refl};
+ghost use Rattle.std.specs.Prelude.{◌≡◌, ◌≤◌, ℕ, List, [], ◌∷◌, Option, map, refl};
+ghost use Rattle.std.proofs.Common.{arith};
 ghost use Rattle.std.specs.Borrow.{Bor};
 ghost use Rattle.rasn_types.specs.Values.{Value};
 ghost use Rattle.rasn_constraints.specs.declared.constraints.Constraint.{Constraint};
@@ -9,7 +10,8 @@ ghost use Rattle.rasn_schema.specs.Records.{own_or};
 ghost use Rattle.rasn_schema.specs.Fields.{Shape, shape_of, tag_of, tagged};
 ghost use Rattle.rasn_traits.specs.Optionals.{ReadsComponent};
 ghost use Rattle.rasn_traits.specs.Scopes.{WritesParts, TakesParts};
-ghost use Rattle.rasn_record.specs.Lists.{behind, deepest, first_tag, first_tree, first_given, given};
+ghost use Rattle.rasn_record.specs.Lists.{Asked, behind, both_asked, both_within, deepest, first_given};
+ghost use Rattle.rasn_record.specs.Lists.{first_tag, first_tree, given, nothing_asked};
 ghost use Rattle.rasn_record.specs.Slots.{WritesComponent};
 
 use crate::bounds::Bounds;
@@ -20,7 +22,7 @@ use rasn_schema::components::Components;
 use rasn_schema::constraints::Constraint;
 use rasn_schema::fields::Field;
 use rasn_schema::schema::{AsnType, Constraints};
-use rasn_traits::parts::{DecodeParts, EncodeParts};
+use rasn_traits::parts::{DecodeParts, EncodeAdditions, EncodeParts};
 use rasn_types::types::Tag;
 use std::marker::PhantomData;
 
@@ -35,6 +37,9 @@ pub trait EncodeCells {
     // How many levels each takes.
     ghost levels: { Self → List ℕ };
 
+    // What is asked of a number of levels that holds each.
+    ghost asked: { Self → Asked };
+
     /// Writes the components in turn.
     fn encode_cells<E: Encoder>(
         &self,
@@ -44,6 +49,9 @@ pub trait EncodeCells {
     ) -> Result<(), E::Error>
         ensures { WritesParts E.rules (Self.parts self.now (map shape_of fields.now) constraints.now)
             (deepest (Self.levels self.now)) (Self.contents self.now) encoder.old result encoder.new };
+
+    // That is enough.
+    ghost within: { (p : Self) (n : ℕ) → (asked p).Of n → deepest (levels p) ≤ n };
 }
 
 /// Components of a record that are still to be written, of which each says how many levels it takes.
@@ -53,6 +61,21 @@ pub trait EncodeEach: EncodeParts {
 
     // They take as many as the deepest.
     ghost is_deepest: { (p : Self) → Self.levels p ≡ deepest (each p) };
+
+    // What is asked of a number of levels that holds each.
+    ghost asked: { Self → Asked };
+
+    // That is enough.
+    ghost within: { (p : Self) (n : ℕ) → (asked p).Of n → Self.levels p ≤ n };
+}
+
+/// Additions of a record that are still to be given, of which each says how many levels it takes.
+pub trait EncodeEachAddition: EncodeAdditions {
+    // What is asked of a number of levels that holds each.
+    ghost asked: { Self → Asked };
+
+    // That is enough.
+    ghost within: { (p : Self) (n : ℕ) → (asked p).Of n → Self.levels p ≤ n };
 }
 
 /// Components of a record that are still to be read, of which lists state the tags and the constraints.
@@ -248,6 +271,10 @@ impl EncodeCells for End {
         let _ = encoder;
         Ok(())
     }
+
+    ghost asked = { λ p. nothing_asked };
+
+    ghost within = { λ p n h. omega arith };
 }
 
 impl<C: EncodeComponent, N: EncodeCells> EncodeCells for Cell<C, N> {
@@ -269,6 +296,10 @@ impl<C: EncodeComponent, N: EncodeCells> EncodeCells for Cell<C, N> {
         self.next
             .encode_cells(behind(fields), behind(constraints), encoder)
     }
+
+    ghost asked = { λ p. both_asked (C.asked p.component) (N.asked p.next) };
+
+    ghost within = { λ p n h. both_within (C.within p.component n h.0) (N.within p.next n h.1) };
 }
 
 impl<'a, N: EncodeCells> EncodeCells for &'a N {
@@ -288,6 +319,10 @@ impl<'a, N: EncodeCells> EncodeCells for &'a N {
         let cells: &N = *self;
         cells.encode_cells(fields, constraints, encoder)
     }
+
+    ghost asked = { λ p. N.asked p.now };
+
+    ghost within = { λ p n h. N.within p.now n h };
 }
 
 impl<P: EncodeCells> EncodeParts for Listed<P> {
@@ -320,6 +355,10 @@ impl<T: Components, P: EncodeCells> EncodeEach for OfRecord<T, P> {
     ghost each = { λ p. P.levels p.cells };
 
     ghost is_deepest = { λ p. refl };
+
+    ghost asked = { λ p. P.asked p.cells };
+
+    ghost within = { λ p n h. P.within p.cells n h };
 }
 
 impl DecodeCells for End {

@@ -1,11 +1,12 @@
 //! One component of a record: required, optional, or with a default.
 
-ghost use Rattle.std.specs.Prelude.{ℕ, Option, Some};
+ghost use Rattle.std.specs.Prelude.{◌≤◌, ℕ, Option, Some};
 ghost use Rattle.rasn_types.specs.Values.{Value};
 ghost use Rattle.rasn_schema.specs.Schemas.{Presence, required, optional};
 ghost use Rattle.rasn_traits.specs.Optionals.{ReadsComponent};
 ghost use Rattle.rasn_traits.specs.Presences.{slot_of};
-ghost use Rattle.rasn_record.specs.Slots.{IsComponent, WritesComponent, slot_levels};
+ghost use Rattle.rasn_record.specs.Slots.{IsComponent, WritesComponent, slot_asked, slot_levels, slot_within};
+ghost use Rattle.rasn_record.specs.Lists.{Asked, at_least};
 
 use rasn_codec::codec::{Decode, Decoder, DecoderExt, Encode, Encoder, EncoderExt};
 use rasn_defaults::DefaultOf;
@@ -27,6 +28,9 @@ pub trait EncodeComponent {
     // How many levels it takes.
     ghost levels: { Self → ℕ };
 
+    // What is asked of a number of levels that holds it.
+    ghost asked: { Self → Asked };
+
     /// Writes the component under a tag and constraints.
     fn encode_component<E: Encoder>(
         &self,
@@ -39,6 +43,9 @@ pub trait EncodeComponent {
 
     // It is no addition group.
     ghost is_component: { (c : Self) → IsComponent (presence c) };
+
+    // That is enough.
+    ghost within: { (c : Self) (n : ℕ) → (asked c).Of n → levels c ≤ n };
 }
 
 /// A component of a record that is still to be read.
@@ -101,6 +108,10 @@ impl<'a, H: Encode> EncodeComponent for &'a H {
     }
 
     ghost is_component = { λ c. tt };
+
+    ghost asked = { λ c. at_least (H.levels c.now) };
+
+    ghost within = { λ c n h. h };
 }
 
 impl<'a, H: Encode> EncodeComponent for Optional<&'a Option<H>> {
@@ -131,6 +142,10 @@ impl<'a, H: Encode> EncodeComponent for Optional<&'a Option<H>> {
     }
 
     ghost is_component = { λ c. tt };
+
+    ghost asked = { λ c. slot_asked H.levels c.0.now };
+
+    ghost within = { λ c. slot_within H.levels c.0.now };
 }
 
 impl<'a, H: Encode, K: DefaultOf<H>> EncodeComponent for Default<&'a H, K> {
@@ -156,6 +171,10 @@ impl<'a, H: Encode, K: DefaultOf<H>> EncodeComponent for Default<&'a H, K> {
     }
 
     ghost is_component = { λ c. tt };
+
+    ghost asked = { λ c. at_least (H.levels c.value.now) };
+
+    ghost within = { λ c n h. h };
 }
 
 /// A required component is read by `PhantomData` of its type.

@@ -8,7 +8,7 @@ ghost use Rattle.rasn_schema.specs.Schemas.{Parts, part};
 ghost use Rattle.rasn_schema.specs.Records.{own_or};
 ghost use Rattle.rasn_schema.specs.Fields.{Shape, tagged};
 ghost use Rattle.rasn_traits.specs.Scopes.{TakesParts, WritesParts};
-ghost use Rattle.rasn_record.specs.Lists.{behind, first_given, first_tree};
+ghost use Rattle.rasn_record.specs.Lists.{behind, both_asked, both_within, first_given, first_tree};
 
 use crate::cells::{ByType, DecodeCells, EncodeCells, behind, read_first, write_first};
 use crate::components::{DecodeComponent, EncodeComponent};
@@ -86,6 +86,13 @@ where
         let constraints_5 = behind(constraints_4);
         self.next.encode_cells(fields_5, constraints_5, encoder)
     }
+
+    ghost asked = { λ p. both_asked (A.asked p.first) (both_asked (B.asked p.second) (both_asked (C.asked p.third)
+        (both_asked (D.asked p.fourth) (N.asked p.next)))) };
+
+    ghost within = { λ p n h. both_within (A.within p.first n h.0) (both_within (B.within p.second n h.1.0)
+        (both_within (C.within p.third n h.1.1.0) (both_within (D.within p.fourth n h.1.1.1.0)
+        (N.within p.next n h.1.1.1.1)))) };
 }
 
 impl<A, B, C, D, N> DecodeCells for FourCells<A, B, C, D, N>

@@ -5,10 +5,10 @@ ghost use Rattle.rasn_schema.specs.Schemas.{no_parts, required};
 ghost use Rattle.rasn_schema.specs.Records.{own_or};
 ghost use Rattle.rasn_schema.specs.Components.{added_parts, root_parts, tags_at, presence_at, schema_at, content_at};
 ghost use Rattle.rasn_schema.specs.Components.{at};
-ghost use Rattle.rasn_traits.specs.Scopes.{WritesFields, deeper_of};
-ghost use Rattle.rasn_record.specs.Lists.{AreWithin, first_given};
+ghost use Rattle.rasn_traits.specs.Scopes.{WritesFields};
+ghost use Rattle.rasn_record.specs.Lists.{AreWithin, Holds, deeper_of, first_given};
 
-use crate::cells::EncodeEach;
+use crate::cells::{EncodeEach, EncodeEachAddition};
 use rasn_codec::codec::Encoder;
 use rasn_schema::components::Components;
 use rasn_schema::constraints::Constraint;
@@ -69,6 +69,26 @@ pub fn all<T: Components, P: EncodeParts, Q: EncodeAdditions, E: Encoder>(
 {
     let _ = of;
     cells_and_additions(cells, additions, encoder)
+}
+
+/// Writes all components of a record in turn, and then gives its additions. A record that doesn't state the levels of
+/// the deepest of them states enough for each by itself.
+pub fn extended<T: Components, P: EncodeEach, Q: EncodeEachAddition, E: Encoder>(
+    of: &T,
+    cells: &P,
+    additions: &Q,
+    encoder: &mut E,
+) -> Result<(), E::Error>
+    requires components { (n : ℕ) → root_parts T.components.0 n ≡ P.parts cells.now n }
+    requires additions { (n : ℕ) → added_parts T.components.0 n ≡ Q.additions additions.now n }
+    requires values { T.contents of.now ≡ P.contents cells.now }
+    requires added { T.added of.now ≡ Q.contents additions.now }
+    requires depth { Holds (T.depth of.now) (deeper_of (P.levels cells.now) (Q.levels additions.now))
+        ((P.asked cells.now).Of (T.depth of.now) × (Q.asked additions.now).Of (T.depth of.now)) }
+    ensures { WritesFields E.rules (root_parts T.components.0) (added_parts T.components.0) (T.depth of.now)
+        (T.contents of.now) (T.added of.now) encoder.old result encoder.new }
+{
+    all(of, cells, additions, encoder)
 }
 
 /// Writes all components of a record without additions in turn. That the record states enough levels is asked of each

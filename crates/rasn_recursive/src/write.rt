@@ -12,7 +12,7 @@ ghost use Rattle.rasn_schema.specs.Records.{own_or};
 ghost use Rattle.rasn_schema.specs.Fields.{Shape, shape_of, tag_of, tagged};
 ghost use Rattle.rasn_traits.specs.Calls.{Encodes};
 ghost use Rattle.rasn_traits.specs.Scopes.{WritesParts};
-ghost use Rattle.rasn_record.specs.Lists.{ArePlain, behind, deepest, first_given, first_tree};
+ghost use Rattle.rasn_record.specs.Lists.{ArePlain, at_least, behind, deepest, first_given, first_tree};
 
 use crate::read::Plain;
 use rasn_codec::codec::{Encode, Encoder, EncoderExt};
@@ -97,6 +97,10 @@ impl<'a, H, P: EncodeHoldingCells<H>> EncodeCells for Beside<'a, P, H> {
         self.cells
             .encode_holding(self.held, fields, constraints, encoder)
     }
+
+    ghost asked = { λ p. at_least (deepest (P.levels p.cells.now p.held.now)) };
+
+    ghost within = { λ p n h. h };
 }
 
 impl<H> EncodeHoldingCells<H> for End {

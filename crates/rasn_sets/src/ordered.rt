@@ -2,7 +2,8 @@
 
 ghost use Rattle.std.specs.Prelude.{◌≡◌, ◌≤◌, ℕ};
 ghost use Rattle.rasn_schema.specs.Components.{added_parts};
-ghost use Rattle.rasn_traits.specs.Scopes.{TakesFields, WritesFields, deeper_of};
+ghost use Rattle.rasn_traits.specs.Scopes.{TakesFields, WritesFields};
+ghost use Rattle.rasn_record.specs.Lists.{deeper_of};
 ghost use Rattle.rasn_sets.specs.SetRecords.{parts_in_order, slots_in_order};
 
 use crate::components::SetComponents;

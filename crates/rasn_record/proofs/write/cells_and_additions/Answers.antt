@@ -1,7 +1,8 @@
 use Rattle.std.proofs.Common.{rules}
 use Rattle.std.proofs.lemmas.Result.{err_from_is_err_and}
 use Rattle.rasn_schema.specs.Normal.{normals}
-use Rattle.rasn_traits.proofs.Writing.{behind_root, left_levels, right_levels, root_refused}
+use Rattle.rasn_traits.proofs.Writing.{behind_root, root_refused}
+use Rattle.rasn_record.proofs.Within.{added_within, root_within}
 use Rattle.rasn_record.proofs.write.cells_and_additions.Goals as goal
 
 pub returns-in_err-encode_parts : goal.returns-in_err-encode_parts
@@ -14,7 +15,7 @@ returns-in_err-encode_parts g c =
     record {
       law = rw (p.1, p.2) (record {
         at = λ n le. root_refused g.E.Encoder.rules (ps n) (qs n) c.args.encoder.now (normals (ps n) (g.P.EncodeParts.contents c.args.cells.now))
-            (normals (qs n) (g.Q.EncodeAdditions.contents c.args.additions.now)) c.in_err-encode_parts.field-0.0 c.encode_parts.new.encoder (c.in_err-encode_parts.ensures.law.at n (left_levels k m n le));
+            (normals (qs n) (g.Q.EncodeAdditions.contents c.args.additions.now)) c.in_err-encode_parts.field-0.0 c.encode_parts.new.encoder (c.in_err-encode_parts.ensures.law.at n (root_within k m n le));
       });
       fails = search rules;
       kept = search rules;
@@ -30,7 +31,7 @@ returns g c =
       law = record {
         at = λ n le. behind_root g.E.Encoder.rules g.met.E.Encoder.lawful (ps n) (qs n) c.args.encoder.now c.encode_parts.new.encoder
             (normals (ps n) (g.P.EncodeParts.contents c.args.cells.now)) (normals (qs n) (g.Q.EncodeAdditions.contents c.args.additions.now))
-            (c.in_ok-encode_parts.ensures.law.at n (left_levels k m n le)) _ _ (c.encode_additions.ensures.law.at n (right_levels k m n le));
+            (c.in_ok-encode_parts.ensures.law.at n (root_within k m n le)) _ _ (c.encode_additions.ensures.law.at n (added_within k m n le));
       };
       fails = search rules;
       kept = search rules;

@@ -1,0 +1,35 @@
+-- The place of the first element that a test takes is one of the list's.
+use Rattle.std.proofs.Common.{◌≡◌, refl, ap, ℕ, suc, ◌+◌, ◌<◌, Bool, true, false, cond, List, [], ◌∷◌, map, length, Option, Some, None, arith}
+use Rattle.std.specs.List.{position_from}
+use Rattle.rasn_schema.specs.Choices.{VariantShape, go_by, place_of, StandsAt, variants_behind}
+use Rattle.rasn_schema.specs.declared.items.Place.{Place}
+use Rattle.rasn_schema.specs.declared.items.Place.TheVariants.{Root, Added}
+use Rattle.rasn_record.specs.Places.{IsPlaceOf}
+use Rattle.rasn_schema.specs.Lawful.{same_tag}
+use Rattle.rasn_schema.specs.Schemas.{Tag}
+
+place_within : {A : Type 0} (test : A → Bool) (j i : ℕ) (xs : List A) → position_from test j xs ≡ Some i → i < j + length xs
+place_within test j i [] e = absurd (cc)
+place_within test j i (x ∷ xs) e = go (test x) e (place_within test (j + 1) i xs)
+  where
+    go : (b : Bool) → cond b (Some j) (position_from test (j + 1) xs) ≡ Some i
+        → (position_from test (j + 1) xs ≡ Some i → i < j + 1 + length xs) → i < j + suc (length xs)
+    go true e r = let k : j ≡ i = cc in omega arith
+    go false e r = let l : i < j + 1 + length xs = r e in omega arith
+
+length_map : {A B : Type 0} (f : A → B) (xs : List A) → length (map f xs) ≡ length xs
+length_map f [] = refl
+length_map f (x ∷ xs) = ap suc (length_map f xs)
+
+-- the place of the alternative that goes by a tag is one of its list's
+pub alternative_within : (t : Tag) (vs : List VariantShape) (i : ℕ) → place_of t vs ≡ Some i → i < length vs
+alternative_within t vs i e =
+    let h : i < 0 + length (go_by vs) = place_within (same_tag t) 0 i (go_by vs) e in
+    let l : length (go_by vs) ≡ length vs = length_map (λ v. v.tag) vs in
+    omega arith
+
+-- so is that of one of two lists
+pub stands_within : (t : Tag) (vs : List VariantShape) (xs : Option (List VariantShape)) (p : Place)
+    → StandsAt t vs xs (Some p) → IsPlaceOf vs (variants_behind xs) p
+stands_within t vs xs (Root i) s = alternative_within t vs i s.0
+stands_within t vs xs (Added i) s = alternative_within t (variants_behind xs) i s.1
