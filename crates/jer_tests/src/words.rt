@@ -1,8 +1,6 @@
 //! The program's words, its forms and what it tells.
 
 use crate::expected::expect_run;
-use per_lines::arguments::Arguments;
-use show_lines::names::NAMES;
 use std::alloc::AllocError;
 use std::process::Abort;
 
@@ -73,17 +71,6 @@ const USAGE: &str = "usage: per_show (aper|uper) TYPE [lines] [--pretty] | per_s
 fn answers_words(rt: HostRuntime) -> Result<(), AllocError> {
     for (arguments, input, printed, told, status) in ROWS {
         expect_run(&rt, rt.alloc(), arguments, input, printed, told, *status)?;
-    }
-    Ok(())
-}
-
-#[test]
-fn each_name_is_a_type(rt: HostRuntime) -> Result<(), AllocError> {
-    for name in NAMES {
-        let mut words = Vec::new(rt.alloc());
-        words.push(String::from_str(rt.alloc(), "uper")?)?;
-        words.push(String::from_str(rt.alloc(), name)?)?;
-        assert!(rt; Arguments::of_words(words.as_slice()).is_some(), "{name:?}");
     }
     Ok(())
 }

@@ -5,13 +5,14 @@ use Rattle.per_lines.specs.declared.arguments.TypeName.{TypeName}
 use Rattle.per_lines.specs.declared.arguments.Padding.{Padding}
 use Rattle.per_lines.specs.declared.fault.Fault.{Fault}
 use Rattle.per_lines.specs.declared.fault.Fault.TheVariants as Faults
+use Rattle.per_lines.specs.Types.{types}
+use Rattle.per_lines.specs.Showing.{AreShown, HasNoText}
 use Rattle.per_lines.specs.Recoding.{Recodes, IsRefusal, schema_of, reader_of}
 use Rattle.per_c.specs.declared.refusal.Refusal.{Refusal}
 use Rattle.per_c.specs.declared.refusal.Refusal.TheVariants.{OutOfMemory, UnknownOptions, UnknownType, NoRoom}
 use Rattle.per_c.specs.declared.refusal.Refusal.TheVariants.{Decode, Encode, Json}
 use Rattle.rasn_jer.specs.declared.error.EncodeError.{EncodeError}
-use Rattle.per_c.specs.Numbers.{options_number, types, code_of}
-use Rattle.per_c.specs.Shown.{AreShown, HasNoText}
+use Rattle.per_c.specs.Numbers.{options_number, code_of}
 
 -- the numbers ask for this
 pub record AskFor (options number : ℕ) (codec : Codec) (padding : Padding) (t : TypeName) : Type 0 where

@@ -1,20 +1,6 @@
 -- The numbers by which a caller in C says what it asks for, and those of refusals.
-use Rattle.std.specs.Prelude.{ℕ, ◌-◌, List, [], ◌∷◌, ◌++◌, length, replicate, codes}
+use Rattle.std.specs.Prelude.{ℕ, ◌-◌, List, ◌++◌, length, replicate, codes}
 use Rattle.rasn_below.specs.Rows.{Codec, Aper, Uper}
-use Rattle.per_lines.specs.declared.arguments.TypeName.TheVariants.{Boolean, Null, Integer, UpTo65535, FromMinusOne}
-use Rattle.per_lines.specs.declared.arguments.TypeName.TheVariants.{Natural, ZeroTo65536, OneToTenExtensible, Four}
-use Rattle.per_lines.specs.declared.arguments.TypeName.TheVariants.{Seven, OneDefault, ShortVisible, LettersAToE}
-use Rattle.per_lines.specs.declared.arguments.TypeName.TheVariants.{BitString, OctetString, OnlyX, Items, Byte}
-use Rattle.per_lines.specs.declared.arguments.TypeName.TheVariants.{MaybeEmpty, Nested, Nest, Deep, Bytes, Nulls}
-use Rattle.per_lines.specs.declared.arguments.TypeName.TheVariants.{NullList, Elements, Outer1, Outer2, Outer3}
-use Rattle.per_lines.specs.declared.arguments.TypeName.TheVariants.{Grouped, NoneNeeded, OneNeeded, AddedDefault}
-use Rattle.per_lines.specs.declared.arguments.TypeName.TheVariants.{Outers1, Outers3, BeforeNest, AddedNest, Grouped1}
-use Rattle.per_lines.specs.declared.arguments.TypeName.TheVariants.{Grouped2, OneColor, TwoColors, DefaultOuter1}
-use Rattle.per_lines.specs.declared.arguments.TypeName.TheVariants.{DefaultOuter3, OneAlternative, TwoAlternatives}
-use Rattle.per_lines.specs.declared.arguments.TypeName.TheVariants.{Alternatives, Many, Bag, UtcTime, Connect, Set}
-use Rattle.per_lines.specs.declared.arguments.TypeName.TheVariants.{SetOptional, SetChoice, Date, DatedNest, Spare}
-use Rattle.per_lines.specs.declared.arguments.TypeName.TheVariants.{Pick, Picked, Signals}
-use Rattle.per_lines.specs.declared.arguments.TypeName.{TypeName}
 use Rattle.per_lines.specs.declared.arguments.Padding.{Padding}
 use Rattle.per_lines.specs.declared.arguments.Padding.TheVariants as Paddings
 use Rattle.per_lines.specs.declared.fault.Fault.{Fault}
@@ -38,16 +24,6 @@ options_number Uper Paddings.Any = 0
 options_number Aper Paddings.Any = 1
 options_number Uper Paddings.Zero = 2
 options_number Aper Paddings.Zero = 3
-
--- the types, each at its number, from 0 on
-abbrev pub types : List TypeName
-types =
-    Boolean ∷ Null ∷ Integer ∷ UpTo65535 ∷ FromMinusOne ∷ Natural ∷ ZeroTo65536 ∷ OneToTenExtensible ∷ Four ∷ Seven ∷
-    OneDefault ∷ ShortVisible ∷ LettersAToE ∷ BitString ∷ OctetString ∷ OnlyX ∷ Items ∷ Byte ∷ MaybeEmpty ∷ Nested ∷
-    Nest ∷ Deep ∷ Bytes ∷ Nulls ∷ NullList ∷ Elements ∷ Outer1 ∷ Outer2 ∷ Outer3 ∷ Grouped ∷ NoneNeeded ∷ OneNeeded ∷
-    AddedDefault ∷ Outers1 ∷ Outers3 ∷ BeforeNest ∷ AddedNest ∷ Grouped1 ∷ Grouped2 ∷ OneColor ∷ TwoColors ∷
-    DefaultOuter1 ∷ DefaultOuter3 ∷ OneAlternative ∷ TwoAlternatives ∷ Alternatives ∷ Many ∷ Bag ∷ UtcTime ∷ Connect ∷
-    Set ∷ SetOptional ∷ SetChoice ∷ Date ∷ DatedNest ∷ Spare ∷ Pick ∷ Picked ∷ Signals ∷ []
 
 -- the code of a kind of refusal, where a decoder refuses
 abbrev pub decode_code : DecodeErrorKind → ℕ

@@ -5,7 +5,8 @@ ghost use Rattle.per_c.specs.Answers.{AreRecoded, HasNoJson, IsJson, IsRefused};
 
 use crate::json::shown;
 use crate::refusal::Refusal;
-use crate::request::{options_of, type_of};
+use crate::request::options_of;
+use per_lines::arguments::TypeName;
 use per_lines::recode::recoded;
 use std::alloc::Global;
 
@@ -20,7 +21,7 @@ pub fn answer(
     ensures err { IfErr result (λ refusal. IsRefused options type_number octets.now refusal) }
 {
     let (codec, padding) = options_of(options).ok_or(Refusal::UnknownOptions)?;
-    let type_name = type_of(type_number).ok_or(Refusal::UnknownType)?;
+    let type_name = TypeName::at(type_number as usize).ok_or(Refusal::UnknownType)?;
     Ok(recoded(alloc, codec, padding, type_name, octets)?)
 }
 
@@ -35,7 +36,7 @@ pub fn json(
     ensures err { IfErr result (λ refusal. HasNoJson options type_number octets.now refusal) }
 {
     let (codec, padding) = options_of(options).ok_or(Refusal::UnknownOptions)?;
-    match type_of(type_number) {
+    match TypeName::at(type_number as usize) {
         Some(type_name) => shown(alloc, codec, padding, type_name, octets),
         None => Err(Refusal::UnknownType),
     }

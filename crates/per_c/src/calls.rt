@@ -5,13 +5,14 @@ ghost use Rattle.per_lines.specs.Words.{type_word};
 ghost use Rattle.per_lines.specs.declared.arguments.TypeName.{TypeName as a_type};
 ghost use Rattle.per_c.specs.Answers.{AreRecoded, HasNoJson, IsAnswerPut, IsAnswerUnput, IsJson, IsRefused};
 ghost use Rattle.per_c.specs.Answers.{IsRefusedBy, IsUnputBy, Puts};
-ghost use Rattle.per_c.specs.Numbers.{types, code_of, last_code, name_of, in_c};
+ghost use Rattle.per_lines.specs.Types.{types};
+ghost use Rattle.per_c.specs.Numbers.{code_of, last_code, name_of, in_c};
 ghost use Rattle.per_c.specs.declared.refusal.Refusal.{Refusal as a_refusal};
 
 use crate::answer::{answer, json, put};
 use crate::name::Name;
 use crate::refusal::Refusal;
-use crate::request::{type_of, word_of};
+use per_lines::arguments::TypeName;
 use std::alloc::Global;
 
 /// Whether octets spell a value of a type that has a canonical encoding: 0, or the code of a refusal.
@@ -96,8 +97,8 @@ pub extern "C" fn per_type_name(type_number: u32) -> Name
     ensures known { (t : a_type) → slice_get types type_number ≡ Some t → result.text ≡ in_c (type_word t) }
     ensures unknown { slice_get types type_number ≡ None → result.text ≡ in_c [] }
 {
-    match type_of(type_number) {
-        Some(type_name) => Name::new(word_of(type_name)),
+    match TypeName::at(type_number as usize) {
+        Some(type_name) => Name::new(type_name.word()),
         None => Name::new(""),
     }
 }

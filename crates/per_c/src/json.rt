@@ -2,7 +2,8 @@
 
 ghost use Rattle.std.specs.Prelude.{IfOk, IfErr};
 ghost use Rattle.per_lines.specs.Recoding.{reader_of, schema_of};
-ghost use Rattle.per_c.specs.Shown.{AreShown, IsUnshown};
+ghost use Rattle.per_lines.specs.Showing.{AreShown};
+ghost use Rattle.per_c.specs.Shown.{IsUnshown};
 
 use crate::refusal::Refusal;
 use per_lines::arguments::{Padding, TypeName};

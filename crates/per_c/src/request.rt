@@ -1,76 +1,12 @@
 //! What the numbers of a call ask for.
 
-ghost use Rattle.std.specs.Prelude.{◌≡◌, ◌≢◌, ◌<◌, IfSome, IfNone, length, slice_get};
+ghost use Rattle.std.specs.Prelude.{◌≡◌, ◌≢◌, IfSome, IfNone};
 ghost use Rattle.rasn_below.specs.Rows.{Codec as a_codec};
-ghost use Rattle.per_lines.specs.Words.{type_word};
 ghost use Rattle.per_lines.specs.declared.arguments.Padding.{Padding as a_padding};
-ghost use Rattle.per_c.specs.Numbers.{options_number, types};
+ghost use Rattle.per_c.specs.Numbers.{options_number};
 
-use per_lines::arguments::{Padding, TypeName};
+use per_lines::arguments::Padding;
 use rasn_below::types::Codec;
-
-/// The types, each at its number.
-static TYPES: [TypeName; 59] = [
-    TypeName::Boolean,
-    TypeName::Null,
-    TypeName::Integer,
-    TypeName::UpTo65535,
-    TypeName::FromMinusOne,
-    TypeName::Natural,
-    TypeName::ZeroTo65536,
-    TypeName::OneToTenExtensible,
-    TypeName::Four,
-    TypeName::Seven,
-    TypeName::OneDefault,
-    TypeName::ShortVisible,
-    TypeName::LettersAToE,
-    TypeName::BitString,
-    TypeName::OctetString,
-    TypeName::OnlyX,
-    TypeName::Items,
-    TypeName::Byte,
-    TypeName::MaybeEmpty,
-    TypeName::Nested,
-    TypeName::Nest,
-    TypeName::Deep,
-    TypeName::Bytes,
-    TypeName::Nulls,
-    TypeName::NullList,
-    TypeName::Elements,
-    TypeName::Outer1,
-    TypeName::Outer2,
-    TypeName::Outer3,
-    TypeName::Grouped,
-    TypeName::NoneNeeded,
-    TypeName::OneNeeded,
-    TypeName::AddedDefault,
-    TypeName::Outers1,
-    TypeName::Outers3,
-    TypeName::BeforeNest,
-    TypeName::AddedNest,
-    TypeName::Grouped1,
-    TypeName::Grouped2,
-    TypeName::OneColor,
-    TypeName::TwoColors,
-    TypeName::DefaultOuter1,
-    TypeName::DefaultOuter3,
-    TypeName::OneAlternative,
-    TypeName::TwoAlternatives,
-    TypeName::Alternatives,
-    TypeName::Many,
-    TypeName::Bag,
-    TypeName::UtcTime,
-    TypeName::Connect,
-    TypeName::Set,
-    TypeName::SetOptional,
-    TypeName::SetChoice,
-    TypeName::Date,
-    TypeName::DatedNest,
-    TypeName::Spare,
-    TypeName::Pick,
-    TypeName::Picked,
-    TypeName::Signals,
-];
 
 /// The variant and the padding that a number stands for.
 pub fn options_of(number: u32) -> Option<(Codec, Padding)>
@@ -84,83 +20,5 @@ pub fn options_of(number: u32) -> Option<(Codec, Padding)>
         2 => Some((Codec::Uper, Padding::Zero)),
         3 => Some((Codec::Aper, Padding::Zero)),
         _ => None,
-    }
-}
-
-/// The type at a number.
-pub fn type_of(number: u32) -> Option<TypeName>
-    ensures { result ≡ slice_get types number }
-{
-    match TYPES.get(number as usize) {
-        Some(type_name) => Some(*type_name),
-        None => None,
-    }
-}
-
-/// The word that names a type.
-pub fn word_of(type_name: TypeName) -> &'static str
-    ensures word { result.now ≡ type_word type_name }
-    ensures short { length result.now < 32 }
-{
-    match type_name {
-        TypeName::Boolean => "boolean",
-        TypeName::Null => "null",
-        TypeName::Integer => "integer",
-        TypeName::UpTo65535 => "upto",
-        TypeName::FromMinusOne => "from",
-        TypeName::Natural => "natural",
-        TypeName::ZeroTo65536 => "i65536",
-        TypeName::OneToTenExtensible => "iext",
-        TypeName::Four => "four",
-        TypeName::Seven => "seven",
-        TypeName::OneDefault => "default",
-        TypeName::ShortVisible => "vis",
-        TypeName::LettersAToE => "five",
-        TypeName::BitString => "bits",
-        TypeName::OctetString => "octets",
-        TypeName::OnlyX => "onlyx",
-        TypeName::Items => "items",
-        TypeName::Byte => "byte",
-        TypeName::MaybeEmpty => "empty",
-        TypeName::Nested => "nested",
-        TypeName::Nest => "nest",
-        TypeName::Deep => "deep",
-        TypeName::Bytes => "bytes",
-        TypeName::Nulls => "nulls",
-        TypeName::NullList => "nulllist",
-        TypeName::Elements => "elements",
-        TypeName::Outer1 => "outer1",
-        TypeName::Outer2 => "outer2",
-        TypeName::Outer3 => "outer3",
-        TypeName::Grouped => "group",
-        TypeName::NoneNeeded => "need0",
-        TypeName::OneNeeded => "need",
-        TypeName::AddedDefault => "addd",
-        TypeName::Outers1 => "rel1",
-        TypeName::Outers3 => "rel3",
-        TypeName::BeforeNest => "dv1",
-        TypeName::AddedNest => "dv2",
-        TypeName::Grouped1 => "grp1",
-        TypeName::Grouped2 => "grp2",
-        TypeName::OneColor => "col1",
-        TypeName::TwoColors => "col2",
-        TypeName::DefaultOuter1 => "def1",
-        TypeName::DefaultOuter3 => "def3",
-        TypeName::OneAlternative => "alt1",
-        TypeName::TwoAlternatives => "alt2",
-        TypeName::Alternatives => "alternatives",
-        TypeName::Many => "many",
-        TypeName::Bag => "bag",
-        TypeName::UtcTime => "utc",
-        TypeName::Connect => "connect",
-        TypeName::Set => "set",
-        TypeName::SetOptional => "setopt",
-        TypeName::SetChoice => "setchoice",
-        TypeName::Date => "date",
-        TypeName::DatedNest => "dnest",
-        TypeName::Spare => "spare",
-        TypeName::Pick => "pick",
-        TypeName::Picked => "picked",
-        TypeName::Signals => "signals",
     }
 }

@@ -1,3 +1,5 @@
+pub mod Showing
+pub mod Types
 pub mod Words
 pub mod Faults
 pub mod Recoding

@@ -10,3 +10,4 @@ pub mod output;
 pub mod recode;
 pub mod replies;
 pub mod run;
+pub mod type_names;

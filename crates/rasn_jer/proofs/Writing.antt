@@ -1,17 +1,17 @@
 -- What the trait asks of calls, of what the encoder's own calls do.
 use Rattle.std.proofs.Common.{◌≡◌, Bool, true, false, List, Option, Result, Ok, Err, refl, sym, ap, ◌∙◌, subst, inl, inr, ℕ}
-use Rattle.std.specs.Prelude.{◌⊎◌, if◌then◌else◌, IfOk, OnErr, OnOk}
+use Rattle.std.specs.Prelude.{◌⊎◌, if◌then◌else◌, IfErr, IfOk, OnErr, OnOk}
 use Rattle.rasn_types.specs.Values.{Value, nothing}
 use Rattle.rasn_schema.specs.Records.{record_value}
 use Rattle.rasn_schema.specs.Schemas.{Order, Schema, Parts}
 use Rattle.rasn_traits.specs.Calls.{without_memory, Writes, Written}
 use Rattle.rasn_traits.specs.Scopes.{OpenedToWrite, PresentsFields}
-use Rattle.json.specs.Json.{Json, object}
+use Rattle.json.specs.Json.{Json, object, string}
 use Rattle.rasn_jer.proofs.Fields.{record_shown}
 use Rattle.rasn_jer.proofs.Refusing.{Inside, refused_record, unclosed}
 use Rattle.rasn_jer.specs.Places.{inside, is_complete_of, Place, State, Takes, unfailed_at, vacant_place}
-use Rattle.rasn_jer.specs.Rules.{BehavesSo, Closed, EntersPlace, fault_of, IsRefused, jer_rules, Opens, Refuses, WritesText}
-use Rattle.rasn_jer.specs.Shown.{at_once, HasNoJson, is_null, Shows, StandsIn}
+use Rattle.rasn_jer.specs.Rules.{BehavesSo, Closed, EntersPlace, fault_of, IsRefused, IsUnmade, jer_rules, Opens, Refuses, WritesText}
+use Rattle.rasn_jer.specs.Shown.{at_once, HasNoJson, is_null, IsString, Shows, shows_string, ShowsText, StandsIn}
 use Rattle.rasn_jer.specs.Texts.{enclosed, text_of}
 use Rattle.rasn_jer.specs.declared.error.EncodeError.{EncodeError}
 use Rattle.rasn_jer.specs.declared.error.EncodeError.TheVariants.{AlreadyFailed, NoJson, OutOfMemory}
@@ -22,12 +22,6 @@ use Rattle.rasn_jer.specs.declared.place.Kind.TheVariants as Kinds
 pub over_ok : {T E : Type 0} {P Q : T → Type 0} (r : Result T E) → IfOk r P → ((t : T) → P t → Q t) → IfOk r Q
 over_ok (Ok t) h f = f t h
 over_ok (Err e) h f = tt
-
--- a text shows a value
-pub record ShowsText (s : Schema) (v : Value) (text : List ℕ) : Type 0 where
-  pub json : Json
-  pub is_text : text ≡ text_of json
-  pub shows : Shows s v json
 
 -- a call that writes a text which shows a value
 pub leaf : {T E : Type 0} (text : Result T E) (items : T → List ℕ) (x : State) (s : Schema) (v : Value) (r : Result (Unit {0}) EncodeError) (y : State)
@@ -129,7 +123,15 @@ pub unrefused_behaves : {T : Type 0} (x y : State) (r : Result T EncodeError) �
 unrefused_behaves x y r f k = record { again = λ a. absurd (let t : true ≡ false = sym a ∙ f in cc); fails = k; kept = refl }
 
 -- an error of a text says that memory ran out, or that the value has no JSON
-pub no_json : {K : Type 0} (f : EncodeError) (s : Schema) (v : Value) → ((f ≡ OutOfMemory) ⊎ ((f ≡ NoJson) × K)) → (K → HasNoJson s v)
-    → (f ≡ OutOfMemory) ⊎ StandsIn (fault_of f) s v
-no_json f s v (inl m) h = inl m
-no_json f s v (inr q) h = inr (subst (λ (z : EncodeError). StandsIn (fault_of z) s v) (sym q.0) (at_once (h q.1)))
+pub no_json : (f : EncodeError) (s : Schema) (v : Value) → IsUnmade s v f → (f ≡ OutOfMemory) ⊎ StandsIn (fault_of f) s v
+no_json f s v (inl m) = inl m
+no_json f s v (inr q) = inr (subst (λ (z : EncodeError). StandsIn (fault_of z) s v) (sym q.0) (at_once q.1))
+
+-- a string's text shows its value
+pub string_made : {T E : Type 0} (text : Result T E) (items : T → List ℕ) (s : Schema) (v : Value) (l : List ℕ) → IfOk text (λ t. items t ≡ text_of (string l)) → IsString s v l → IfOk text (λ t. ShowsText s v (items t))
+string_made text items s v l h k = over_ok text h (λ t e. record { json = string _; is_text = e; shows = shows_string k })
+
+-- no text is made where memory ran out, or where the value has no JSON
+pub made_or_not : {K T : Type 0} (text : Result T EncodeError) (s : Schema) (v : Value) → IfErr text (λ e. (e ≡ OutOfMemory) ⊎ ((e ≡ NoJson) × K)) → (K → HasNoJson s v) → IfErr text (IsUnmade s v)
+made_or_not (Ok t) s v h f = tt
+made_or_not (Err e) s v h f = elim h [ inl m ↦ inl m | inr q ↦ inr (q.0, f q.1) ]

@@ -2,6 +2,8 @@
 -- those before an extension marker, and behind them those after it.
 use Rattle.std.specs.Prelude.{ℕ, ◌≡◌, ◌+◌, List, length, slice_get, Option, Some, None, codes, decimal}
 use Rattle.rasn_types.specs.Values.{Value, item, root, added}
+use Rattle.rasn_times.specs.declared.error.TimeError.{TimeError}
+use Rattle.rasn_times.specs.declared.error.TimeError.TheVariants.{Unrepresentable}
 use Rattle.rasn_schema.specs.Choices.{place_of, VariantShape, variants_behind}
 use Rattle.rasn_schema.specs.Schemas
 use Rattle.json.specs.Json.{Json, number, string}
@@ -16,6 +18,11 @@ name_of NoJson = codes "NoJson"
 name_of VariantNotInChoice = codes "VariantNotInChoice"
 name_of OutOfTurn = codes "OutOfTurn"
 name_of AlreadyFailed = codes "AlreadyFailed"
+
+-- a moment that no text of its type holds has no JSON; what else a time's text lacks is memory
+abbrev pub error_of_time : TimeError → EncodeError
+error_of_time Unrepresentable = NoJson
+error_of_time _ = OutOfMemory
 
 -- X.697: an item of an ENUMERATED is its identifier; where the type gives none at its number, it is the number
 abbrev pub named_or : Option (List ℕ) → ℕ → Json

@@ -3,7 +3,7 @@ use Rattle.std.specs.Prelude.{ℕ, ◌≡◌, ◌≢◌, ◌⊎◌, Bool, true, 
 use Rattle.rasn_types.specs.Values.{Value}
 use Rattle.rasn_types.specs.declared.types.Codec.TheVariants.{Uper}
 use Rattle.rasn_schema.specs.Schemas.{Schema}
-use Rattle.rasn_traits.specs.Calls.{Behaves, EncoderRules}
+use Rattle.rasn_traits.specs.Calls.{Behaves, EncoderRules, Writes}
 use Rattle.rasn_traits.specs.Lists.{ListForm}
 use Rattle.json.specs.Json.{Json, object, Items, Members}
 use Rattle.rasn_jer.specs.Places.{behind, behind_all, inside, is_complete, is_full, Place, State}
@@ -125,6 +125,14 @@ pub record WritesText {T E : Type 0} (text : Result T E) (items : T → List ℕ
     (result : Result (Unit {0}) EncodeError) (y : State) : Type 0 where
   pub written : TextWritten result text items x y
   pub behaves : BehavesSo x result y
+
+-- a call writes a JSON value: it presents each value that this shows
+abbrev pub WritesJson : Json → State → Result (Unit {0}) EncodeError → State → Type 0
+WritesJson j x result y = (s : Schema) (v : Value) → Shows s v j → Writes jer_rules s v x result y
+
+-- why no text was made of a value: memory ran out, or it has no JSON
+abbrev pub IsUnmade : Schema → Value → EncodeError → Type 0
+IsUnmade s v e = (e ≡ OutOfMemory) ⊎ ((e ≡ NoJson) × HasNoJson s v)
 
 -- a place is opened, and what was open is answered
 abbrev pub Entered : {E : Type 0} → Result Place EncodeError → Result Place E → State → State → Type 0

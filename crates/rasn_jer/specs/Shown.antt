@@ -136,6 +136,12 @@ mutual
         {xs : List (Option Value)} {ms : Members} → addition_bit p x ≡ Some false → ShowsAdditions ps xs ms
         → ShowsAdditions (part t p s ps) (x ∷ xs) ms
 
+-- a text shows a value
+pub record ShowsText (s : Schema) (v : Value) (text : List ℕ) : Type 0 where
+  pub json : Json
+  pub is_text : text ≡ text_of json
+  pub shows : Shows s v json
+
 -- a component that is there, by its schema
 pub data HasPart (s : Schema) (v : Value) : Parts → List (Option Value) → Type 0 where
   part_here : {t : TagTree} {p : Presence} {ps : Parts} {rs : List (Option Value)}

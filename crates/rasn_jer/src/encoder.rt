@@ -2,13 +2,19 @@
 
 ghost use Rattle.std.specs.Prelude.{◌≡◌, ◌⊎◌, ℕ, List, None, true, false, if◌then◌else◌, IfOk, IfErr, OnOk, OnErr};
 ghost use Rattle.std.specs.Option.{unwrap_or};
-ghost use Rattle.json.specs.Json.{Members, object as the_object};
+ghost use Rattle.std.specs.Prelude.{encode_utf8_all};
+ghost use Rattle.hex.specs.Hex.{encode_upper};
+ghost use Rattle.json.specs.Json.{Members, object as the_object, string};
+ghost use Rattle.rasn_types.specs.Values.{Value};
 ghost use Rattle.rasn_schema.specs.Choices.{place_of, variants_behind};
 ghost use Rattle.rasn_schema.specs.Fields.{tag_of};
 ghost use Rattle.rasn_schema.specs.Forms.{size_of};
+ghost use Rattle.rasn_schema.specs.Schemas.{Schema};
+ghost use Rattle.rasn_traits.specs.Calls.{Writes};
 ghost use Rattle.rasn_jer.specs.Places.{behind, behind_all, inside, is_full, vacant_place};
 ghost use Rattle.rasn_jer.specs.Rules.{AddedSo, BehavesSo, ClosesPlace, EntersPlace, LeavesPlace, NeedsRecord};
-ghost use Rattle.rasn_jer.specs.Rules.{WritesText, jer_rules};
+ghost use Rattle.rasn_jer.specs.Rules.{IsUnmade, WritesJson, WritesText, jer_rules};
+ghost use Rattle.rasn_jer.specs.Shown.{ShowsText};
 ghost use Rattle.rasn_jer.specs.Texts.{enclosed as enclosed_text, member_text, text_of};
 ghost use Rattle.rasn_jer.specs.declared.error.EncodeError.TheVariants.{AlreadyFailed};
 ghost use Rattle.rasn_jer.specs.declared.place.Kind.TheVariants.{Members as members_kind, One};
@@ -112,6 +118,33 @@ impl<A: Allocator + Copy> Encoder<A> {
                 Err(_) => Err(self.refuse_now(EncodeError::OutOfMemory)),
             },
             Err(_) => Err(self.refuse_now(EncodeError::OutOfMemory)),
+        }
+    }
+
+    /// Writes octets as a string of hexadecimal digits (X.697, OCTET STRING).
+    fn write_octets(&mut self, octets: &[u8]) -> Result<(), EncodeError>
+        ensures { WritesJson (string (encode_upper octets.now)) self.old result self.new }
+    {
+        let text = hexadecimal(self.alloc, octets);
+        self.write(text)
+    }
+
+    /// Writes octets as a string, each as the character with its number.
+    fn write_latin(&mut self, octets: &[u8]) -> Result<(), EncodeError>
+        ensures { WritesJson (string (encode_utf8_all octets.now)) self.old result self.new }
+    {
+        let text = latin(self.alloc, octets);
+        self.write(text)
+    }
+
+    /// Writes the text of a value that may have none, or refuses by the error that stands for it.
+    fn write_made(&mut self, text: Result<Vec<u8, A>, EncodeError>) -> Result<(), EncodeError>
+        ensures { (s : Schema) (v : Value) → IfOk text (λ t. ShowsText s v t.items) → IfErr text (IsUnmade s v)
+            → Writes jer_rules s v self.old result self.new }
+    {
+        match text {
+            Ok(text) => self.write(Ok(text)),
+            Err(error) => Err(self.refuse(error)),
         }
     }
 
@@ -304,8 +337,7 @@ impl<A: Allocator + Copy> encoder::Encoder for Encoder<A> {
         value: &Any,
         _identifier: Identifier,
     ) -> Result<(), EncodeError> {
-        let text = hexadecimal(self.alloc, value.as_bytes());
-        self.write(text)
+        self.write_octets(value.as_bytes())
     }
 
     fn encode_octet_string(
@@ -315,8 +347,7 @@ impl<A: Allocator + Copy> encoder::Encoder for Encoder<A> {
         value: &[u8],
         _identifier: Identifier,
     ) -> Result<(), EncodeError> {
-        let text = hexadecimal(self.alloc, value);
-        self.write(text)
+        self.write_octets(value)
     }
 
     fn encode_bit_string(
@@ -349,10 +380,8 @@ impl<A: Allocator + Copy> encoder::Encoder for Encoder<A> {
         value: &S,
         _identifier: Identifier,
     ) -> Result<(), EncodeError> {
-        match scalars(self.alloc, value) {
-            Ok(text) => self.write(Ok(text)),
-            Err(error) => Err(self.refuse(error)),
-        }
+        let text = scalars(self.alloc, value);
+        self.write_made(text)
     }
 
     fn encode_utf8_string(
@@ -373,8 +402,7 @@ impl<A: Allocator + Copy> encoder::Encoder for Encoder<A> {
         value: &GeneralString,
         _identifier: Identifier,
     ) -> Result<(), EncodeError> {
-        let text = latin(self.alloc, value.as_bytes());
-        self.write(text)
+        self.write_latin(value.as_bytes())
     }
 
     fn encode_graphic_string(
@@ -384,8 +412,7 @@ impl<A: Allocator + Copy> encoder::Encoder for Encoder<A> {
         value: &GraphicString,
         _identifier: Identifier,
     ) -> Result<(), EncodeError> {
-        let text = latin(self.alloc, value.as_bytes());
-        self.write(text)
+        self.write_latin(value.as_bytes())
     }
 
     fn encode_teletex_string(
@@ -395,8 +422,7 @@ impl<A: Allocator + Copy> encoder::Encoder for Encoder<A> {
         value: &TeletexString,
         _identifier: Identifier,
     ) -> Result<(), EncodeError> {
-        let text = latin(self.alloc, value.as_bytes());
-        self.write(text)
+        self.write_latin(value.as_bytes())
     }
 
     fn encode_object_identifier(
@@ -415,10 +441,8 @@ impl<A: Allocator + Copy> encoder::Encoder for Encoder<A> {
         value: &M,
         _identifier: Identifier,
     ) -> Result<(), EncodeError> {
-        match utc_time(self.alloc, value) {
-            Ok(text) => self.write(Ok(text)),
-            Err(error) => Err(self.refuse(error)),
-        }
+        let text = utc_time(self.alloc, value);
+        self.write_made(text)
     }
 
     fn encode_generalized_time<M: GeneralizedMoment>(
@@ -427,10 +451,8 @@ impl<A: Allocator + Copy> encoder::Encoder for Encoder<A> {
         value: &M,
         _identifier: Identifier,
     ) -> Result<(), EncodeError> {
-        match generalized_time(self.alloc, value) {
-            Ok(text) => self.write(Ok(text)),
-            Err(error) => Err(self.refuse(error)),
-        }
+        let text = generalized_time(self.alloc, value);
+        self.write_made(text)
     }
 
     fn encode_date<D: CivilDate>(

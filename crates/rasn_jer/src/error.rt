@@ -1,9 +1,10 @@
 //! Why a value was not written as JSON.
 
 ghost use Rattle.std.specs.Prelude.{◌≡◌};
-ghost use Rattle.rasn_jer.specs.Names.{name_of};
+ghost use Rattle.rasn_jer.specs.Names.{error_of_time, name_of};
 ghost use Rattle.rasn_jer.specs.declared.error.EncodeError.TheVariants.{OutOfMemory};
 
+use rasn_times::error::TimeError;
 use std::alloc::AllocError;
 use thiserror::Error;
 
@@ -48,5 +49,17 @@ impl From<AllocError> for EncodeError {
 
     fn from(_error: AllocError) -> EncodeError {
         EncodeError::OutOfMemory
+    }
+}
+
+impl From<TimeError> for EncodeError {
+    ghost from_gives = { λ t e. e ≡ error_of_time t };
+
+    /// A moment that no text of its type holds has no JSON.
+    fn from(error: TimeError) -> EncodeError {
+        match error {
+            TimeError::Unrepresentable => EncodeError::NoJson,
+            _ => EncodeError::OutOfMemory,
+        }
     }
 }

@@ -26,7 +26,6 @@ use rasn_schema::items::Place;
 use rasn_schema::schema::IntegerType;
 use rasn_strings::strings::StaticPermittedAlphabet;
 use rasn_times::civil::{GeneralizedMoment, UtcMoment};
-use rasn_times::error::TimeError;
 use rasn_types::bit_string::BitString;
 use rasn_types::types::{Class, Tag};
 use std::alloc::{AllocError, Allocator};
@@ -260,14 +259,9 @@ pub fn utc_time<A: Allocator + Copy, M: UtcMoment>(
     ensures err { IfErr result (λ e.
         (e ≡ OutOfMemory) ⊎ ((e ≡ NoJson) × (is_time utc (M.text value.now) ≡ false))) }
 {
-    match value.to_canonical_utc_time_bytes(alloc) {
-        Ok(time) => {
-            let text = latin(alloc, time.as_slice())?;
-            Ok(text)
-        }
-        Err(TimeError::Unrepresentable) => Err(EncodeError::NoJson),
-        Err(_) => Err(EncodeError::OutOfMemory),
-    }
+    let time = value.to_canonical_utc_time_bytes(alloc)?;
+    let text = latin(alloc, time.as_slice())?;
+    Ok(text)
 }
 
 /// The canonical text of a GeneralizedTime as a string (X.690 11.7). A moment that it can't hold has no JSON.
@@ -279,14 +273,9 @@ pub fn generalized_time<A: Allocator + Copy, M: GeneralizedMoment>(
     ensures err { IfErr result (λ e.
         (e ≡ OutOfMemory) ⊎ ((e ≡ NoJson) × (is_time generalized (M.text value.now) ≡ false))) }
 {
-    match value.to_canonical_generalized_time_bytes(alloc) {
-        Ok(time) => {
-            let text = latin(alloc, time.as_slice())?;
-            Ok(text)
-        }
-        Err(TimeError::Unrepresentable) => Err(EncodeError::NoJson),
-        Err(_) => Err(EncodeError::OutOfMemory),
-    }
+    let time = value.to_canonical_generalized_time_bytes(alloc)?;
+    let text = latin(alloc, time.as_slice())?;
+    Ok(text)
 }
 
 /// Arcs as a string of numbers with full stops between them (X.697, OBJECT IDENTIFIER).

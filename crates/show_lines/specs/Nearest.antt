@@ -1,5 +1,5 @@
 -- The name that is nearest to a word.
-use Rattle.std.specs.Prelude.{ℕ, ◌≤◌, ◌<◌, List, [], length, get_or, nat_eq}
+use Rattle.std.specs.Prelude.{ℕ, ◌≡◌, ◌≤◌, ◌<◌, List, [], length, get_or, nat_eq}
 use Rattle.std.specs.Str.{chars}
 use Rattle.strsim.specs.Edits.{levenshtein_row}
 
@@ -11,3 +11,9 @@ edits a b = levenshtein_row nat_eq (chars a) (chars b) (length (chars b))
 pub record IsNearest (names : List (List ℕ)) (word : List ℕ) (best : ℕ) : Type 0 where
   pub within : best < length names
   pub fewest : (i : ℕ) → i < length names → edits (get_or names best []) word ≤ edits (get_or names i []) word
+
+-- a name that no other is nearer than to a word
+pub record IsNearestName (names : List (List ℕ)) (word name : List ℕ) : Type 0 where
+  pub best : ℕ
+  pub is_nearest : IsNearest names word best
+  pub found : name ≡ get_or names best []

@@ -3,16 +3,14 @@ use Rattle.std.specs.Prelude.{ℕ, ◌≡◌, ◌≢◌, ◌⊎◌, List, ◌∷
 use Rattle.hex.specs.Hex.{decode_of}
 use Rattle.json.specs.Lex.{tokens}
 use Rattle.per_lines.specs.Recoding.{schema_of}
+use Rattle.per_lines.specs.Showing.{AreShown, HasNoText}
 use Rattle.per_lines.specs.declared.fault.Fault.TheVariants.{BadHexadecimal}
 use Rattle.per_located.specs.Placed.{IsPlaced}
 use Rattle.per_read.specs.declared.error.DecodeErrorKind.TheVariants as Decoding
 use Rattle.rasn_below.specs.Rows.{Codec, variant_of}
-use Rattle.rasn_jer.specs.Calls.{AreText, IsRefusedBy}
-use Rattle.rasn_jer.specs.declared.error.EncodeError.{EncodeError}
-use Rattle.rasn_per.specs.Complete.{AreReadAs, AreUnread}
+use Rattle.rasn_per.specs.Complete.{AreUnread, basically}
 use Rattle.rasn_per.specs.Kinds.{IsInOctets}
 use Rattle.rasn_schema.specs.Schemas.{Schema}
-use Rattle.rasn_types.specs.Values.{Value}
 use Rattle.show_lines.specs.Told.{IsToldAs}
 use Rattle.show_lines.specs.declared.arguments.Layout.{Layout}
 use Rattle.show_lines.specs.declared.arguments.Layout.TheVariants.{Compact, Pretty}
@@ -20,27 +18,13 @@ use Rattle.show_lines.specs.declared.fault.Fault.{Fault}
 use Rattle.show_lines.specs.declared.arguments.Showing.{Showing}
 use Rattle.show_lines.specs.declared.fault.Fault.TheVariants.{Decode, Encode, OfLines}
 
--- octets are read as one value, of which a text is the JSON
-pub record IsShown (codec : Codec) (schema : ℕ → Schema) (octets text : List ℕ) : Type 0 where
-  pub value : Value
-  pub levels : ℕ
-  pub is_read : AreReadAs (variant_of codec) schema value octets
-  pub is_text : AreText schema levels value text
-
--- octets are read as one value, in which the fault stands that an error names, or for which memory ran out
-pub record IsUnshown (codec : Codec) (schema : ℕ → Schema) (octets : List ℕ) (e : EncodeError) : Type 0 where
-  pub value : Value
-  pub levels : ℕ
-  pub is_read : AreReadAs (variant_of codec) schema value octets
-  pub is_refused : IsRefusedBy schema levels value e
-
 -- Why octets have no JSON: they are read as no value, what the kind says is in them, and the place is one of theirs; or
 -- they are read as a value that has none.
 abbrev pub IsRefusal : Codec → (ℕ → Schema) → List ℕ → Fault → Type 0
 IsRefusal codec schema octets (Decode refusal) =
     (refusal.kind ≢ Decoding.OutOfMemory → AreUnread (variant_of codec) schema octets)
     × IsInOctets (variant_of codec) schema octets refusal.kind × IsPlaced octets refusal
-IsRefusal codec schema octets (Encode e) = IsUnshown codec schema octets e
+IsRefusal codec schema octets (Encode e) = HasNoText (basically (variant_of codec)) schema octets e
 IsRefusal codec schema octets _ = ⊥
 
 -- how a JSON text is laid out: as it is, or in lines of the same tokens (RFC 8259 2)
@@ -54,7 +38,7 @@ pub record IsAnswer (a : Showing) (line answer : List ℕ) : Type 0 where
   pub text : List ℕ
   pub laid : List ℕ
   pub hexadecimal : decode_of line ≡ Ok octets
-  pub shown : IsShown a.arguments.codec (schema_of a.arguments.type_name) octets text
+  pub shown : AreShown (basically (variant_of a.arguments.codec)) (schema_of a.arguments.type_name) octets text
   pub laid_out : IsLaidOut a.layout text laid
   pub is_answer : answer ≡ laid ++ 10 ∷ []
 

@@ -56,8 +56,8 @@ impl Fault {
         told.push_str(word)?;
         match self {
             Fault::Decode(refusal) => {
-                let place = place_of(alloc, refusal)?;
-                told.push_str(place.as_str())?;
+                let shown = format!(in alloc; "{refusal}")?;
+                told.push_str(shown.strip_prefix(text).unwrap_or(""))?;
                 Ok(told)
             }
             _ => Ok(told),
@@ -90,15 +90,6 @@ impl Fault {
         };
         self.status()
     }
-}
-
-/// Where octets are refused: the path to the component, and the bit.
-fn place_of(alloc: Global, refusal: &Refusal) -> Result<String, AllocError> {
-    let (bit, bits) = (refusal.bit, refusal.bits);
-    if refusal.path.steps.is_empty() {
-        return format!(in alloc; " at bit {bit} of {bits}");
-    }
-    format!(in alloc; " at {}, bit {bit} of {bits}", refusal.path)
 }
 
 impl From<fault::Fault> for Fault {

@@ -4,6 +4,6 @@
 pub mod arguments;
 pub mod fault;
 mod layout;
-pub mod names;
+mod names;
 pub mod run;
 mod show;

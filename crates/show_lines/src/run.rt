@@ -9,9 +9,8 @@ ghost use Rattle.show_lines.specs.Showing.{IsAnswer};
 
 use crate::arguments::{Request, Showing};
 use crate::fault::Fault;
-use crate::names::NAMES;
 use crate::show::show;
-use per_lines::arguments::Form;
+use per_lines::arguments::{Form, TypeName};
 use per_lines::fault;
 use per_lines::line::read_line;
 use per_lines::output::write;
@@ -74,8 +73,8 @@ fn help(alloc: Global) -> Result<Vec<u8>, AllocError> {
         alloc,
         b"per_show (aper|uper) TYPE [lines] [--pretty]\nReads a value in hexadecimal and prints it as JSON. TYPE:\n",
     )?;
-    for name in NAMES {
-        text.extend_from_slice(name.as_bytes())?;
+    for name in TypeName::all() {
+        text.extend_from_slice(name.word().as_bytes())?;
         text.push(b'\n')?;
     }
     Ok(text)

@@ -2,10 +2,13 @@
 
 ghost use Rattle.std.specs.Prelude.{◌≡◌, ◌⊎◌, IfOk, IfErr};
 ghost use Rattle.per_lines.specs.Recoding.{schema_of};
+ghost use Rattle.per_lines.specs.Showing.{AreShown};
+ghost use Rattle.rasn_below.specs.Rows.{variant_of};
+ghost use Rattle.rasn_per.specs.Complete.{basically};
 ghost use Rattle.per_lines.specs.declared.fault.Fault.TheVariants.{OutOfMemory};
 ghost use Rattle.per_located.specs.Placed.{IsPlaced, unplaced};
 ghost use Rattle.rasn_per.specs.Calls.{Decoded};
-ghost use Rattle.show_lines.specs.Showing.{AreTold, IsAnswer, IsLaidOut, IsRefusal, IsReply, IsShown, IsUnanswered};
+ghost use Rattle.show_lines.specs.Showing.{AreTold, IsAnswer, IsLaidOut, IsRefusal, IsReply, IsUnanswered};
 ghost use Rattle.show_lines.specs.declared.fault.Fault.TheVariants.{OfLines as lines_fault};
 
 use crate::arguments::{Layout, Showing};
@@ -89,7 +92,7 @@ struct Octets<'a> {
 impl<'a> Work for Octets<'a> {
     type Fault = Fault;
 
-    ghost answers = { λ o schema text. IsShown o.codec schema o.octets.now text };
+    ghost answers = { λ o schema text. AreShown (basically (variant_of o.codec)) schema o.octets.now text };
 
     ghost refuses = { λ o schema fault. IsRefusal o.codec schema o.octets.now fault };
 

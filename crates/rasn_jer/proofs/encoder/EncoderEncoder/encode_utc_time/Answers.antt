@@ -1,12 +1,7 @@
 use Rattle.std.proofs.Common.{refl}
-use Rattle.rasn_jer.proofs.Writing.{leaf, no_json, refused_leaf}
-use Rattle.json.specs.Json.{string}
-use Rattle.rasn_jer.specs.Shown.{is_untimely, shows_string}
+use Rattle.rasn_jer.proofs.Writing.{made_or_not, string_made}
+use Rattle.rasn_jer.specs.Shown.{is_untimely}
 use Rattle.rasn_jer.proofs.encoder.EncoderEncoder.encode_utc_time.Goals as goal
 
-pub returns-in-Ok : goal.returns-in-Ok
-returns-in-Ok g c = leaf _ (λ t. t.items) c.args.self.now _ _ c.write.result c.write.new.self c.write.ensures (record { json = string _; is_text = c.in-Ok.ensures.ok; shows = shows_string refl })
-
-pub returns-in-Err : goal.returns-in-Err
-returns-in-Err g c = refused_leaf c.args.self.now.failed c.args.self.now c.refuse.new.self c.refuse.result c.in-Err.error _ _ refl c.refuse.ensures.answers c.refuse.ensures.fails
-    (no_json c.in-Err.error _ _ c.in-Err.ensures.err (λ k. is_untimely k))
+pub returns : goal.returns
+returns g c = c.write_made.ensures _ _ (string_made c.utc_time-text.result (λ t. t.items) _ _ _ c.utc_time-text.ensures.ok refl) (made_or_not c.utc_time-text.result _ _ c.utc_time-text.ensures.err (λ k. is_untimely k))
