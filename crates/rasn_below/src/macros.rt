@@ -496,7 +496,7 @@ macro_rules! write_components {
         )
     };
     ([$of:ident $encoder:ident] $($list:tt)*) => {
-        $crate::write::plain(
+        $crate::write::without_additions(
             $of,
             &$crate::of_record!($crate::components_to_write!($of $($list)*)),
             $encoder,

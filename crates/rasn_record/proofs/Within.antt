@@ -23,3 +23,11 @@ held_by depth k m (inr d) h r a = let p = h d in both_within (a p.1) (r p.0)
 pub held_within : {R A : Type 0} (depth k m : ℕ) → Holds depth (deeper_of k m) (R × A) → (R → k ≤ depth) → (A → m ≤ depth)
     → deeper_of k m ≤ depth
 held_within depth k m h r a = held_by depth k m (cases_eq depth (deeper_of k m)) h r a
+
+plain_by : {R : Type 0} (depth k : ℕ) → (depth ≡ k) ⊎ (depth ≢ k) → Holds depth k R → (R → k ≤ depth) → deeper_of k 0 ≤ depth
+plain_by depth k (inl e) h r = omega (arith, e)
+plain_by depth k (inr d) h r = let p = r (h d) in omega (arith, p)
+
+-- a depth that holds root components alone is at least that of the deepest
+pub plain_within : {R : Type 0} (depth k : ℕ) → Holds depth k R → (R → k ≤ depth) → deeper_of k 0 ≤ depth
+plain_within depth k h r = plain_by depth k (cases_eq depth k) h r

@@ -91,6 +91,24 @@ pub fn extended<T: Components, P: EncodeEach, Q: EncodeEachAddition, E: Encoder>
     all(of, cells, additions, encoder)
 }
 
+/// Writes all components of a record without additions in turn. A record that doesn't state the levels of the deepest
+/// of them states enough for each by itself.
+pub fn without_additions<T: Components, P: EncodeEach, E: Encoder>(
+    of: &T,
+    cells: &P,
+    encoder: &mut E,
+) -> Result<(), E::Error>
+    requires components { (n : ℕ) → root_parts T.components.0 n ≡ P.parts cells.now n }
+    requires additions { (n : ℕ) → added_parts T.components.0 n ≡ no_parts }
+    requires values { T.contents of.now ≡ P.contents cells.now }
+    requires added { T.added of.now ≡ [] }
+    requires depth { Holds (T.depth of.now) (P.levels cells.now) ((P.asked cells.now).Of (T.depth of.now)) }
+    ensures { WritesFields E.rules (root_parts T.components.0) (added_parts T.components.0) (T.depth of.now)
+        (T.contents of.now) (T.added of.now) encoder.old result encoder.new }
+{
+    all(of, cells, &NoAdditions, encoder)
+}
+
 /// Writes all components of a record without additions in turn. That the record states enough levels is asked of each
 /// component by itself.
 pub fn plain<T: Components, P: EncodeEach, E: Encoder>(
