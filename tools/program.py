@@ -10,10 +10,15 @@ VARIANTS = ("aper", "uper")
 CANONICAL = {"canonical.tsv": 2, "spellings.tsv": 3}
 
 
-def known_types():
-    """Returns the types of the table of docs/TYPES.md."""
+def types_and_messages():
+    """Returns the types of the first table of docs/TYPES.md, and the messages of the second."""
     with open(f"{TOP}/docs/TYPES.md", encoding="utf-8") as it:
-        return set(re.findall(r"^\| `(\w+)` \|", it.read(), re.MULTILINE))
+        return [set(re.findall(r"^\| `([\w-]+)` \|", part, re.MULTILINE)) for part in it.read().split("\n## ")]
+
+
+def known_types():
+    """Returns the types that per_check knows."""
+    return types_and_messages()[0]
 
 
 def rows_of(name):

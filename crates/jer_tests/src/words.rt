@@ -14,6 +14,17 @@ const ROWS: &[(&str, &str, &str, &str, u8)] = &[
         0,
     ),
     (
+        "uper BCCH-BCH-Message",
+        "6269b0\n",
+        concat!(
+            "{\"message\":{\"dl-Bandwidth\":\"n50\",\"phich-Config\":{\"phich-Duration\":\"normal\",",
+            "\"phich-Resource\":\"oneSixth\"},\"systemFrameNumber\":\"9A\",\"schedulingInfoSIB1-BR-r13\":13,",
+            "\"systemInfoUnchanged-BR-r15\":true,\"partEARFCN-17\":{\"spare\":\"00\"},\"spare\":\"00\"}}\n",
+        ),
+        "",
+        0,
+    ),
+    (
         "uper outer1 lines",
         "40\r\nzz\n\n40",
         concat!(

@@ -141,11 +141,21 @@ enum per_type {
     PER_TYPE_SPARE = 55,
     PER_TYPE_PICK = 56,
     PER_TYPE_PICKED = 57,
-    PER_TYPE_SIGNALS = 58
+    PER_TYPE_SIGNALS = 58,
+    PER_TYPE_CAM = 59,
+    PER_TYPE_DENM = 60,
+    PER_TYPE_NGAP_PDU = 61,
+    PER_TYPE_NGSETUPREQUEST = 62,
+    PER_TYPE_INITIALUEMESSAGE = 63,
+    PER_TYPE_DOWNLINKNASTRANSPORT = 64,
+    PER_TYPE_UECONTEXTRELEASECOMMAND = 65,
+    PER_TYPE_S1AP_PDU = 66,
+    PER_TYPE_S1SETUPREQUEST = 67,
+    PER_TYPE_BCCH_BCH_MESSAGE = 68
 };
 
 /** How many types there are. */
-#define PER_TYPES 59
+#define PER_TYPES 69
 
 /** A text of at most 31 octets, with zeros behind it. */
 struct per_name {

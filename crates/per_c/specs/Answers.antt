@@ -1,13 +1,13 @@
 -- What the calls answer.
 use Rattle.std.specs.Prelude.{ℕ, ◌≡◌, ◌≢◌, ◌<◌, ◌≤◌, take, drop, List, length, slice_get, Some, None, Result, Ok, Err}
 use Rattle.rasn_below.specs.Rows.{Codec}
-use Rattle.per_lines.specs.declared.arguments.TypeName.{TypeName}
+use Rattle.named_types.specs.declared.types.NamedType.{NamedType}
 use Rattle.per_lines.specs.declared.arguments.Padding.{Padding}
 use Rattle.per_lines.specs.declared.fault.Fault.{Fault}
 use Rattle.per_lines.specs.declared.fault.Fault.TheVariants as Faults
-use Rattle.per_lines.specs.Types.{types}
+use Rattle.named_types.specs.Types.{schema_of, types}
 use Rattle.per_lines.specs.Showing.{AreShown, HasNoText}
-use Rattle.per_lines.specs.Recoding.{Recodes, IsRefusal, schema_of, reader_of}
+use Rattle.per_lines.specs.Recoding.{Recodes, IsRefusal, reader_of}
 use Rattle.per_c.specs.declared.refusal.Refusal.{Refusal}
 use Rattle.per_c.specs.declared.refusal.Refusal.TheVariants.{OutOfMemory, UnknownOptions, UnknownType, NoRoom}
 use Rattle.per_c.specs.declared.refusal.Refusal.TheVariants.{Decode, Encode, Json}
@@ -15,7 +15,7 @@ use Rattle.rasn_jer.specs.declared.error.EncodeError.{EncodeError}
 use Rattle.per_c.specs.Numbers.{options_number, code_of}
 
 -- the numbers ask for this
-pub record AskFor (options number : ℕ) (codec : Codec) (padding : Padding) (t : TypeName) : Type 0 where
+pub record AskFor (options number : ℕ) (codec : Codec) (padding : Padding) (t : NamedType) : Type 0 where
   pub options_are : options ≡ options_number codec padding
   pub is_type : slice_get types number ≡ Some t
 
@@ -23,7 +23,7 @@ pub record AskFor (options number : ℕ) (codec : Codec) (padding : Padding) (t 
 pub record AreRecoded (options number : ℕ) (octets canonical : List ℕ) : Type 0 where
   pub codec : Codec
   pub padding : Padding
-  pub type_name : TypeName
+  pub type_name : NamedType
   pub asked : AskFor options number codec padding type_name
   pub recodes : Recodes (reader_of codec padding) (schema_of type_name) octets canonical
 
@@ -31,7 +31,7 @@ pub record AreRecoded (options number : ℕ) (octets canonical : List ℕ) : Typ
 pub record AreFaulty (options number : ℕ) (octets : List ℕ) (fault : Fault) : Type 0 where
   pub codec : Codec
   pub padding : Padding
-  pub type_name : TypeName
+  pub type_name : NamedType
   pub asked : AskFor options number codec padding type_name
   pub refused : IsRefusal (reader_of codec padding) (schema_of type_name) octets fault
 
@@ -55,7 +55,7 @@ IsRefusedBy options number octets code =
 pub record IsJson (options number : ℕ) (octets text : List ℕ) : Type 0 where
   pub codec : Codec
   pub padding : Padding
-  pub type_name : TypeName
+  pub type_name : NamedType
   pub asked : AskFor options number codec padding type_name
   pub shown : AreShown (reader_of codec padding) (schema_of type_name) octets text
 
@@ -63,7 +63,7 @@ pub record IsJson (options number : ℕ) (octets text : List ℕ) : Type 0 where
 pub record IsTextless (options number : ℕ) (octets : List ℕ) (e : EncodeError) : Type 0 where
   pub codec : Codec
   pub padding : Padding
-  pub type_name : TypeName
+  pub type_name : NamedType
   pub asked : AskFor options number codec padding type_name
   pub unshown : HasNoText (reader_of codec padding) (schema_of type_name) octets e
 

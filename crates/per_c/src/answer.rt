@@ -6,8 +6,8 @@ ghost use Rattle.per_c.specs.Answers.{AreRecoded, HasNoJson, IsJson, IsRefused};
 use crate::json::shown;
 use crate::refusal::Refusal;
 use crate::request::options_of;
-use per_lines::arguments::TypeName;
-use per_lines::recode::recoded;
+use named_types::types::{NamedType, done};
+use per_lines::recode::Recoding;
 use std::alloc::Global;
 
 /// The canonical octets of the value that octets spell, of the type and with the options that these numbers stand for.
@@ -21,8 +21,13 @@ pub fn answer(
     ensures err { IfErr result (λ refusal. IsRefused options type_number octets.now refusal) }
 {
     let (codec, padding) = options_of(options).ok_or(Refusal::UnknownOptions)?;
-    let type_name = TypeName::at(type_number as usize).ok_or(Refusal::UnknownType)?;
-    Ok(recoded(alloc, codec, padding, type_name, octets)?)
+    let type_name = NamedType::at(type_number as usize).ok_or(Refusal::UnknownType)?;
+    let recoding = Recoding {
+        codec,
+        padding,
+        octets,
+    };
+    Ok(done(alloc, type_name, &recoding)?)
 }
 
 /// The JSON text of the value that octets spell, of the type and with the options that these numbers stand for.
@@ -36,7 +41,7 @@ pub fn json(
     ensures err { IfErr result (λ refusal. HasNoJson options type_number octets.now refusal) }
 {
     let (codec, padding) = options_of(options).ok_or(Refusal::UnknownOptions)?;
-    match TypeName::at(type_number as usize) {
+    match NamedType::at(type_number as usize) {
         Some(type_name) => shown(alloc, codec, padding, type_name, octets),
         None => Err(Refusal::UnknownType),
     }

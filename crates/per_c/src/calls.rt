@@ -1,18 +1,17 @@
 //! The calls that `include/per.h` declares.
 
 ghost use Rattle.std.specs.Prelude.{◌≡◌, ◌≢◌, ◌<◌, [], ℕ, List, length, slice_get, Some, None};
-ghost use Rattle.per_lines.specs.Words.{type_word};
-ghost use Rattle.per_lines.specs.declared.arguments.TypeName.{TypeName as a_type};
+ghost use Rattle.named_types.specs.declared.types.NamedType.{NamedType as a_type};
 ghost use Rattle.per_c.specs.Answers.{AreRecoded, HasNoJson, IsAnswerPut, IsAnswerUnput, IsJson, IsRefused};
 ghost use Rattle.per_c.specs.Answers.{IsRefusedBy, IsUnputBy, Puts};
-ghost use Rattle.per_lines.specs.Types.{types};
+ghost use Rattle.named_types.specs.Types.{types, word_of};
 ghost use Rattle.per_c.specs.Numbers.{code_of, last_code, name_of, in_c};
 ghost use Rattle.per_c.specs.declared.refusal.Refusal.{Refusal as a_refusal};
 
 use crate::answer::{answer, json, put};
 use crate::name::Name;
 use crate::refusal::Refusal;
-use per_lines::arguments::TypeName;
+use named_types::types::NamedType;
 use std::alloc::Global;
 
 /// Whether octets spell a value of a type that has a canonical encoding: 0, or the code of a refusal.
@@ -94,10 +93,10 @@ fn put_answer(answer: Result<Vec<u8>, Refusal>, out: &mut [u8], written: &mut us
 /// The word that names a type, by its number; no octets where there is no such type.
 #[unsafe(no_mangle)]
 pub extern "C" fn per_type_name(type_number: u32) -> Name
-    ensures known { (t : a_type) → slice_get types type_number ≡ Some t → result.text ≡ in_c (type_word t) }
+    ensures known { (t : a_type) → slice_get types type_number ≡ Some t → result.text ≡ in_c (word_of t) }
     ensures unknown { slice_get types type_number ≡ None → result.text ≡ in_c [] }
 {
-    match TypeName::at(type_number as usize) {
+    match NamedType::at(type_number as usize) {
         Some(type_name) => Name::new(type_name.word()),
         None => Name::new(""),
     }

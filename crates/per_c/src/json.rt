@@ -1,13 +1,15 @@
 //! From the octets of a value to its JSON.
 
 ghost use Rattle.std.specs.Prelude.{IfOk, IfErr};
-ghost use Rattle.per_lines.specs.Recoding.{reader_of, schema_of};
+ghost use Rattle.named_types.specs.Types.{schema_of};
+ghost use Rattle.per_lines.specs.Recoding.{reader_of};
 ghost use Rattle.per_lines.specs.Showing.{AreShown};
 ghost use Rattle.per_c.specs.Shown.{IsUnshown};
 
 use crate::refusal::Refusal;
-use per_lines::arguments::{Padding, TypeName};
-use per_lines::named::{Work, done};
+use named_types::types::{NamedType, done};
+use per_lines::arguments::Padding;
+use per_lines::named::Work;
 use per_lines::recode::decode;
 use rasn_below::codec::{Decode, Encode};
 use rasn_below::types::Codec;
@@ -19,7 +21,7 @@ pub fn shown(
     alloc: Global,
     codec: Codec,
     padding: Padding,
-    type_name: TypeName,
+    type_name: NamedType,
     octets: &[u8],
 ) -> Result<Vec<u8>, Refusal>
     ensures ok { IfOk result (λ text.

@@ -1,5 +1,4 @@
 pub mod Showing
-pub mod Types
 pub mod Words
 pub mod Faults
 pub mod Recoding

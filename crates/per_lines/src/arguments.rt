@@ -173,7 +173,7 @@ pub struct Arguments {
 }
 
 /// The codec that a word names.
-fn codec_of_word(word: &str) -> Option<Codec>
+pub fn codec_of_word(word: &str) -> Option<Codec>
     ensures named { IfSome result (λ c. word.now ≡ codec_word c) }
     ensures unknown { IfNone result ((c : a_codec) → word.now ≢ codec_word c) }
 {

@@ -50,12 +50,15 @@ pub fn recoded(
     done(alloc, type_name, &recoding)
 }
 
-/// Octets to be recoded: in which variant, and with which padding.
+/// Octets to be recoded.
 #[derive(Drop)]
-struct Recoding<'a> {
-    codec: Codec,
-    padding: Padding,
-    octets: &'a [u8],
+pub struct Recoding<'a> {
+    /// The variant in which they are read and written.
+    pub codec: Codec,
+    /// Which padding is read.
+    pub padding: Padding,
+    /// The octets.
+    pub octets: &'a [u8],
 }
 
 impl<'a> Work for Recoding<'a> {

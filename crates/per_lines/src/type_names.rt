@@ -1,92 +1,11 @@
-//! The types that the program knows, each at its place, and the words that name them.
+//! The words that name the types that the program knows.
 
-ghost use Rattle.std.specs.Prelude.{◌≡◌, ◌<◌, length, slice_get};
+ghost use Rattle.std.specs.Prelude.{◌≡◌, ◌<◌, length};
 ghost use Rattle.per_lines.specs.Words.{type_word};
-ghost use Rattle.per_lines.specs.Types.{types};
 
 use crate::arguments::TypeName;
 
-/// The types, each at its place.
-static TYPES: [TypeName; 59] = [
-    TypeName::Boolean,
-    TypeName::Null,
-    TypeName::Integer,
-    TypeName::UpTo65535,
-    TypeName::FromMinusOne,
-    TypeName::Natural,
-    TypeName::ZeroTo65536,
-    TypeName::OneToTenExtensible,
-    TypeName::Four,
-    TypeName::Seven,
-    TypeName::OneDefault,
-    TypeName::ShortVisible,
-    TypeName::LettersAToE,
-    TypeName::BitString,
-    TypeName::OctetString,
-    TypeName::OnlyX,
-    TypeName::Items,
-    TypeName::Byte,
-    TypeName::MaybeEmpty,
-    TypeName::Nested,
-    TypeName::Nest,
-    TypeName::Deep,
-    TypeName::Bytes,
-    TypeName::Nulls,
-    TypeName::NullList,
-    TypeName::Elements,
-    TypeName::Outer1,
-    TypeName::Outer2,
-    TypeName::Outer3,
-    TypeName::Grouped,
-    TypeName::NoneNeeded,
-    TypeName::OneNeeded,
-    TypeName::AddedDefault,
-    TypeName::Outers1,
-    TypeName::Outers3,
-    TypeName::BeforeNest,
-    TypeName::AddedNest,
-    TypeName::Grouped1,
-    TypeName::Grouped2,
-    TypeName::OneColor,
-    TypeName::TwoColors,
-    TypeName::DefaultOuter1,
-    TypeName::DefaultOuter3,
-    TypeName::OneAlternative,
-    TypeName::TwoAlternatives,
-    TypeName::Alternatives,
-    TypeName::Many,
-    TypeName::Bag,
-    TypeName::UtcTime,
-    TypeName::Connect,
-    TypeName::Set,
-    TypeName::SetOptional,
-    TypeName::SetChoice,
-    TypeName::Date,
-    TypeName::DatedNest,
-    TypeName::Spare,
-    TypeName::Pick,
-    TypeName::Picked,
-    TypeName::Signals,
-];
-
 impl TypeName {
-    /// The types, each at its place.
-    pub fn all() -> &'static [TypeName]
-        ensures { result.now ≡ types }
-    {
-        &TYPES
-    }
-
-    /// The type at a place.
-    pub fn at(place: usize) -> Option<TypeName>
-        ensures { result ≡ slice_get types place }
-    {
-        match TypeName::all().get(place) {
-            Some(name) => Some(*name),
-            None => None,
-        }
-    }
-
     /// The word that names the type.
     pub fn word(self) -> &'static str
         ensures word { result.now ≡ type_word self }

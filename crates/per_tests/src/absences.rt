@@ -3,9 +3,9 @@
 //! The calls are made over any encoder and any decoder, and a scope is held across few of them: to prove them of one
 //! alone, or in one function, costs several times as much. Those that the types of the program make aren't here.
 
-use crate::calls::unaligned;
+use crate::calls::{Part, encoding_of, unaligned};
 use crate::expected::{expect_equal, expect_octets};
-use per_enc::{EncodeError, Encoder, EncoderOptions};
+use per_enc::{EncodeError, EncoderOptions};
 use per_read::error::DecodeError;
 use per_samples_a::some_absent::SomeAbsent;
 use rasn_below::codec::{
@@ -108,23 +108,30 @@ fn put_components<E: AnyEncoder>(
     put_third(encoder, writing, c)
 }
 
-fn put<E: AnyEncoder>(encoder: &mut E, writing: Writing, c: &u8) -> Result<(), E::Error> {
-    let scope = encoder.open_sequence::<SomeAbsent>(SomeAbsent::TAG, NONE)?;
-    put_components(encoder, writing, c)?;
-    encoder.close_sequence::<SomeAbsent>(scope)
+/// The third component of a `SomeAbsent`, and the call that writes the second one.
+#[derive(Clone, Copy)]
+struct Written {
+    writing: Writing,
+    c: u8,
+}
+
+impl Part for Written {
+    fn put<E: AnyEncoder>(&self, encoder: &mut E) -> Result<(), E::Error> {
+        let scope = encoder.open_sequence::<SomeAbsent>(SomeAbsent::TAG, NONE)?;
+        put_components(encoder, self.writing, &self.c)?;
+        encoder.close_sequence::<SomeAbsent>(scope)
+    }
 }
 
 /// The octets of a `SomeAbsent`.
-fn written_of(alloc: Global, writing: Writing, c: &u8) -> Result<Vec<u8>, EncodeError> {
-    let mut encoder = Encoder::new(alloc, EncoderOptions::unaligned());
-    put(&mut encoder, writing, c)?;
-    encoder.output_into_vec()
+fn written_of(alloc: Global, writing: Writing, c: u8) -> Result<Vec<u8>, EncodeError> {
+    encoding_of(alloc, EncoderOptions::unaligned(), &Written { writing, c })
 }
 
 #[test]
 fn writes_components(rt: HostRuntime) -> Result<(), EncodeError> {
     for (writing, _, both, octets) in ROWS {
-        let written = written_of(rt.alloc(), *writing, &both.1)?;
+        let written = written_of(rt.alloc(), *writing, both.1)?;
         expect_octets(&rt, written.as_slice(), octets);
     }
     Ok(())
@@ -166,8 +173,7 @@ fn take<D: AnyDecoder>(decoder: &mut D, reading: Reading) -> Result<Both, D::Err
 
 /// The second and the third component of the `SomeAbsent` in octets.
 fn read_of(alloc: Global, reading: Reading, octets: &[u8]) -> Result<Both, DecodeError> {
-    let mut decoder = unaligned(alloc, octets);
-    take(&mut decoder, reading)
+    take(&mut unaligned(alloc, octets), reading)
 }
 
 #[test]

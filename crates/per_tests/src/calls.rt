@@ -16,12 +16,48 @@ pub(crate) fn unaligned(alloc: Global, octets: &[u8]) -> Decoder<'_> {
     Decoder::from_reader(alloc, bits, DecoderOptions::unaligned())
 }
 
-fn put<T: Encode, E: AnyEncoder>(
-    encoder: &mut E,
-    value: &T,
+/// What an encoder is made to write, and answers.
+///
+/// To prove that this crate's encoder is one of any costs more than most else here: so one function hands it on, for
+/// all parts.
+pub(crate) trait Part {
+    /// Writes it.
+    fn put<E: AnyEncoder>(&self, encoder: &mut E) -> Result<(), E::Error>;
+}
+
+/// The complete encoding of what was written by an encoder: its one exit before the end is here, since each costs the
+/// proof of all that an encoder holds.
+fn completed(
+    encoder: Encoder<Global>,
+    written: Result<(), EncodeError>,
+) -> Result<Vec<u8>, EncodeError> {
+    written?;
+    encoder.output_into_vec()
+}
+
+/// The complete encoding of a part.
+pub(crate) fn encoding_of<P: Part>(
+    alloc: Global,
+    options: EncoderOptions,
+    part: &P,
+) -> Result<Vec<u8>, EncodeError> {
+    let mut encoder = Encoder::new(alloc, options);
+    let written = part.put(&mut encoder);
+    completed(encoder, written)
+}
+
+/// A value under constraints.
+#[derive(Drop)]
+struct Limited<'a, T> {
+    value: &'a T,
     constraints: &'static [Constraint],
-) -> Result<(), E::Error> {
-    value.encode_with_constraints(encoder, &Constraints::new(constraints))
+}
+
+impl<'a, T: Encode> Part for Limited<'a, T> {
+    fn put<E: AnyEncoder>(&self, encoder: &mut E) -> Result<(), E::Error> {
+        let constraints = Constraints::new(self.constraints);
+        self.value.encode_with_constraints(encoder, &constraints)
+    }
 }
 
 /// The complete encoding of a value under constraints, in the UNALIGNED variant.
@@ -30,9 +66,11 @@ pub(crate) fn written_of<T: Encode>(
     value: &T,
     constraints: &'static [Constraint],
 ) -> Result<Vec<u8>, EncodeError> {
-    let mut encoder = Encoder::new(alloc, EncoderOptions::unaligned());
-    put(&mut encoder, value, constraints)?;
-    encoder.output_into_vec()
+    encoding_of(
+        alloc,
+        EncoderOptions::unaligned(),
+        &Limited { value, constraints },
+    )
 }
 
 fn take<T: Decode, D: AnyDecoder>(
@@ -48,6 +86,5 @@ pub(crate) fn read_of<T: Decode>(
     octets: &[u8],
     constraints: &'static [Constraint],
 ) -> Result<T, DecodeError> {
-    let mut decoder = unaligned(alloc, octets);
-    take(&mut decoder, constraints)
+    take(&mut unaligned(alloc, octets), constraints)
 }

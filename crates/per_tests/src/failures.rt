@@ -1,8 +1,10 @@
 //! After a refusal of each kind the same encoder or decoder says AlreadyFailed, also to what takes no bits.
+//!
+//! The calls are made over any encoder and any decoder: to prove them of one alone costs several times as much.
 
-use per_bits::BitReader;
-use per_de::{DecodeError, Decoder, DecoderOptions};
+use crate::calls::unaligned;
 use per_enc::{EncodeError, Encoder, EncoderOptions};
+use per_read::error::DecodeError;
 use per_samples_a::bounded::OneToTenExtensible;
 use per_samples_a::half_bounded::FromMinusOne;
 use per_samples_a::strings::LettersAToE;
@@ -13,35 +15,34 @@ use per_samples_c::colors::TwoColors;
 use per_samples_lists::choice::Outer;
 use per_samples_lists::lists::Nulls;
 use per_samples_lists::nest::Nest;
-use rasn_below::codec::{Decode, Decoder as _, Encoder as AnyEncoder};
+use rasn_below::codec::{Decode, Decoder as AnyDecoder, Encoder as AnyEncoder};
 use rasn_below::types::{Date, Identifier, Integer, Tag, UtcTime, Utf8String, VisibleString};
 use rasn_below::{Constraints, constraints};
 use std::alloc::Global;
 use std::process::Abort;
 
-/// A decoder of octets in the UNALIGNED variant.
-fn decoder_of(alloc: Global, octets: &[u8]) -> Decoder<'_> {
-    let bits = BitReader::from_octets(octets);
-    Decoder::from_reader(alloc, bits, DecoderOptions::unaligned())
+/// Why a decoder refuses a type, and the call behind it.
+fn unread<T: Decode, D: AnyDecoder>(decoder: &mut D) -> (Option<D::Error>, Option<D::Error>) {
+    let first = T::decode(decoder).err();
+    (first, decoder.decode_null(Tag::NULL).err())
 }
 
-/// A decoder has refused with a kind of this name, and refuses again.
-fn expect_failed(
-    rt: &impl Abort,
-    decoder: &mut Decoder<'_>,
-    error: Option<DecodeError>,
-    name: &str,
-) {
-    assert_eq!(rt; error.map(|e| e.kind.name()), Some(name));
-    let again = decoder.decode_null(Tag::NULL).err();
-    assert_eq!(rt; again.map(|e| e.kind.name()), Some("AlreadyFailed"));
+/// The name of an error's kind.
+fn name_of_unread(error: Option<DecodeError>) -> Option<&'static str> {
+    error.map(|e| e.kind.name())
+}
+
+/// A decoder refused with a kind of this name, and again.
+fn expect_failed(rt: &impl Abort, errors: (Option<DecodeError>, Option<DecodeError>), name: &str) {
+    let (first, again) = errors;
+    assert_eq!(rt; name_of_unread(first), Some(name));
+    assert_eq!(rt; name_of_unread(again), Some("AlreadyFailed"));
 }
 
 /// A decoder refuses octets of a type with a kind of this name, and refuses again.
 fn expect_unread<T: Decode>(rt: &impl Abort, alloc: Global, octets: &[u8], name: &str) {
-    let mut decoder = decoder_of(alloc, octets);
-    let error = T::decode(&mut decoder).err();
-    expect_failed(rt, &mut decoder, error, name);
+    let errors = unread::<T, _>(&mut unaligned(alloc, octets));
+    expect_failed(rt, errors, name);
 }
 
 #[test]
@@ -101,34 +102,39 @@ const PAST_64_BITS: &[u8] = &[
     0xc2, 0x40, 0x40, 0x00, 0x00, 0x00, 0x00, 0x00, 0x00, 0x00, 0x00,
 ];
 
+/// A call of a decoder out of turn.
+#[derive(Clone, Copy)]
+enum Taking {
+    Presence,
+    Addition,
+    Real,
+}
+
+fn refusal_to_take<D: AnyDecoder>(decoder: &mut D, taking: Taking) -> Option<D::Error> {
+    match taking {
+        Taking::Presence => decoder.next_presence().err(),
+        Taking::Addition => decoder.open_addition().err(),
+        Taking::Real => decoder.decode_real(Tag::REAL, &Constraints::NONE).err(),
+    }
+}
+
+/// Why a decoder refuses a call out of turn, and the call behind it.
+fn untaken<D: AnyDecoder>(decoder: &mut D, taking: Taking) -> (Option<D::Error>, Option<D::Error>) {
+    let first = refusal_to_take(decoder, taking);
+    (first, decoder.decode_null(Tag::NULL).err())
+}
+
+/// A decoder refuses a call out of turn with a kind of this name, and refuses again.
+fn expect_untaken(rt: &impl Abort, alloc: Global, taking: Taking, name: &str) {
+    let errors = untaken(&mut unaligned(alloc, &[0x80]), taking);
+    expect_failed(rt, errors, name);
+}
+
 #[test]
 fn reads_nothing_behind_a_call_out_of_turn(rt: HostRuntime) {
-    let mut decoder = decoder_of(rt.alloc(), &[0x80]);
-    let error = decoder.next_presence().err();
-    expect_failed(&rt, &mut decoder, error, "MissingTag");
-    let mut decoder = decoder_of(rt.alloc(), &[0x80]);
-    let error = decoder.open_addition().err();
-    expect_failed(&rt, &mut decoder, error, "TypeNotExtensible");
-    let mut decoder = decoder_of(rt.alloc(), &[0x80]);
-    let error = decoder.decode_real(Tag::REAL, &Constraints::NONE).err();
-    expect_failed(&rt, &mut decoder, error, "RealNotSupported");
-}
-
-/// An encoder has refused with a kind of this name, and refuses again.
-fn expect_unwritten(
-    rt: &impl Abort,
-    encoder: &mut Encoder<Global>,
-    error: Option<EncodeError>,
-    name: &str,
-) {
-    assert_eq!(rt; error.map(|e| e.kind.name()), Some(name));
-    let again = encoder.encode_null(Tag::NULL, Identifier::EMPTY).err();
-    assert_eq!(rt; again.map(|e| e.kind.name()), Some("AlreadyFailed"));
-}
-
-/// An encoder in the UNALIGNED variant.
-fn encoder(alloc: Global) -> Encoder<Global> {
-    Encoder::new(alloc, EncoderOptions::unaligned())
+    expect_untaken(&rt, rt.alloc(), Taking::Presence, "MissingTag");
+    expect_untaken(&rt, rt.alloc(), Taking::Addition, "TypeNotExtensible");
+    expect_untaken(&rt, rt.alloc(), Taking::Real, "RealNotSupported");
 }
 
 const NONE: Identifier = Identifier::EMPTY;
@@ -136,23 +142,6 @@ const NONE: Identifier = Identifier::EMPTY;
 const ZERO_TO_SEVEN: Constraints = Constraints(constraints!(0..=7));
 
 const SIZE_3: Constraints = Constraints(constraints!(SIZE 3..=3));
-
-#[test]
-fn writes_nothing_behind_a_value_that_it_refused(rt: HostRuntime) {
-    let mut number = encoder(rt.alloc());
-    let error = number
-        .encode_integer::<i128>(Tag::INTEGER, &ZERO_TO_SEVEN, &9, NONE)
-        .err();
-    expect_unwritten(&rt, &mut number, error, "ValueConstraintNotSatisfied");
-    let mut octets = encoder(rt.alloc());
-    let error = octets
-        .encode_octet_string(Tag::OCTET_STRING, &SIZE_3, &[], NONE)
-        .err();
-    expect_unwritten(&rt, &mut octets, error, "SizeConstraintNotSatisfied");
-    let mut real = encoder(rt.alloc());
-    let error = real.encode_real(Tag::REAL, &Constraints::NONE, NONE).err();
-    expect_unwritten(&rt, &mut real, error, "RealNotSupported");
-}
 
 const FROM_0: Constraints = Constraints(constraints!(0..));
 
@@ -163,7 +152,7 @@ const PAST_127_BITS: &[u8] = &[
 ];
 
 /// Why an encoder refuses 2 to the 127th under a lower bound of 0.
-fn refusal_of_number(alloc: Global, encoder: &mut Encoder<Global>) -> Option<EncodeError> {
+fn refusal_of_number<E: AnyEncoder>(alloc: Global, encoder: &mut E) -> Option<E::Error> {
     let number = Integer::from_signed_octets(alloc, PAST_127_BITS).ok()?;
     encoder
         .encode_integer::<Integer>(Tag::INTEGER, &FROM_0, &number, NONE)
@@ -175,7 +164,7 @@ const A_TO_E: &[u32] = &[65, 66, 67, 68, 69];
 const FROM_A_TO_E: Constraints = Constraints(constraints!(FROM A_TO_E));
 
 /// Why an encoder refuses "F" where the characters are those from A to E.
-fn refusal_of_text(alloc: Global, encoder: &mut Encoder<Global>) -> Option<EncodeError> {
+fn refusal_of_text<E: AnyEncoder>(alloc: Global, encoder: &mut E) -> Option<E::Error> {
     let letter = Vec::from_slice(alloc, b"F").ok()?;
     let text = VisibleString::from_iso646_bytes(letter)?;
     encoder
@@ -190,30 +179,103 @@ fn put_by_another_tag<E: AnyEncoder>(encoder: &mut E) -> Result<(), E::Error> {
     encoder.close_choice::<Alt1>(outside, Tag::BOOL)
 }
 
+/// A call that an encoder refuses.
+#[derive(Clone, Copy)]
+enum Putting {
+    Number,
+    Octets,
+    Real,
+    LongNumber,
+    Text,
+    Choice,
+    Object,
+    Presence,
+    Addition,
+}
+
+/// Why an encoder refuses a value that isn't under its constraints, or a call out of turn.
+fn refusal_of_call<E: AnyEncoder>(encoder: &mut E, putting: Putting) -> Option<E::Error> {
+    let unlimited = &Constraints::NONE;
+    match putting {
+        Putting::Number => {
+            let written = encoder.encode_integer::<i128>(Tag::INTEGER, &ZERO_TO_SEVEN, &9, NONE);
+            written.err()
+        }
+        Putting::Octets => {
+            let written = encoder.encode_octet_string(Tag::OCTET_STRING, &SIZE_3, &[], NONE);
+            written.err()
+        }
+        Putting::Real => encoder.encode_real(Tag::REAL, unlimited, NONE).err(),
+        Putting::Presence => encoder.set_presence(true).err(),
+        _ => encoder.skip_addition().err(),
+    }
+}
+
+/// Why an encoder refuses a call.
+fn refusal_to_put<E: AnyEncoder>(
+    alloc: Global,
+    encoder: &mut E,
+    putting: Putting,
+) -> Option<E::Error> {
+    match putting {
+        Putting::LongNumber => refusal_of_number(alloc, encoder),
+        Putting::Text => refusal_of_text(alloc, encoder),
+        Putting::Choice => put_by_another_tag(encoder).err(),
+        Putting::Object => {
+            let tag = Tag::OBJECT_IDENTIFIER;
+            encoder.encode_object_identifier(tag, &[3], NONE).err()
+        }
+        _ => refusal_of_call(encoder, putting),
+    }
+}
+
+/// Why an encoder refuses a call, and the call behind it.
+fn unput<E: AnyEncoder>(
+    alloc: Global,
+    encoder: &mut E,
+    putting: Putting,
+) -> (Option<E::Error>, Option<E::Error>) {
+    let first = refusal_to_put(alloc, encoder, putting);
+    (first, encoder.encode_null(Tag::NULL, NONE).err())
+}
+
+/// The name of an error's kind.
+fn name_of_unwritten(error: Option<EncodeError>) -> Option<&'static str> {
+    error.map(|e| e.kind.name())
+}
+
+/// An encoder in the UNALIGNED variant refuses a call with a kind of this name, and refuses again.
+fn expect_unwritten(rt: &impl Abort, alloc: Global, putting: Putting, name: &str) {
+    let mut encoder = Encoder::new(alloc, EncoderOptions::unaligned());
+    let (first, again) = unput(alloc, &mut encoder, putting);
+    assert_eq!(rt; name_of_unwritten(first), Some(name));
+    assert_eq!(rt; name_of_unwritten(again), Some("AlreadyFailed"));
+}
+
+#[test]
+fn writes_nothing_behind_a_value_that_it_refused(rt: HostRuntime) {
+    let alloc = rt.alloc();
+    expect_unwritten(&rt, alloc, Putting::Number, "ValueConstraintNotSatisfied");
+    expect_unwritten(&rt, alloc, Putting::Octets, "SizeConstraintNotSatisfied");
+    expect_unwritten(&rt, alloc, Putting::Real, "RealNotSupported");
+}
+
 #[test]
 fn writes_nothing_behind_what_has_no_encoding(rt: HostRuntime) {
-    let mut number = encoder(rt.alloc());
-    let error = refusal_of_number(rt.alloc(), &mut number);
-    expect_unwritten(&rt, &mut number, error, "IntegerTypeConversionFailed");
-    let mut text = encoder(rt.alloc());
-    let error = refusal_of_text(rt.alloc(), &mut text);
-    expect_unwritten(&rt, &mut text, error, "AlphabetConstraintNotSatisfied");
-    let mut choice = encoder(rt.alloc());
-    let error = put_by_another_tag(&mut choice).err();
-    expect_unwritten(&rt, &mut choice, error, "VariantNotInChoice");
-    let mut object = encoder(rt.alloc());
-    let error = object
-        .encode_object_identifier(Tag::OBJECT_IDENTIFIER, &[3], NONE)
-        .err();
-    expect_unwritten(&rt, &mut object, error, "Below");
+    let alloc = rt.alloc();
+    expect_unwritten(
+        &rt,
+        alloc,
+        Putting::LongNumber,
+        "IntegerTypeConversionFailed",
+    );
+    expect_unwritten(&rt, alloc, Putting::Text, "AlphabetConstraintNotSatisfied");
+    expect_unwritten(&rt, alloc, Putting::Choice, "VariantNotInChoice");
+    expect_unwritten(&rt, alloc, Putting::Object, "Below");
 }
 
 #[test]
 fn writes_nothing_behind_a_call_out_of_turn(rt: HostRuntime) {
-    let mut part = encoder(rt.alloc());
-    let error = part.set_presence(true).err();
-    expect_unwritten(&rt, &mut part, error, "OutOfTurn");
-    let mut addition = encoder(rt.alloc());
-    let error = addition.skip_addition().err();
-    expect_unwritten(&rt, &mut addition, error, "TooManyAdditions");
+    expect_unwritten(&rt, rt.alloc(), Putting::Presence, "OutOfTurn");
+    expect_unwritten(&rt, rt.alloc(), Putting::Addition, "TooManyAdditions");
 }

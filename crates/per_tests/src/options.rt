@@ -2,23 +2,28 @@
 //!
 //! The calls are made over any encoder: to prove them of one alone costs several times as much.
 
+use crate::calls::{Part, encoding_of};
 use crate::expected::{expect_equal, expect_octets, expect_unwritten};
-use per_enc::{EncodeError, EncodeErrorKind, Encoder, EncoderOptions};
+use per_enc::{EncodeError, EncodeErrorKind, EncoderOptions};
 use rasn_below::Constraints;
 use rasn_below::codec::{Encode, Encoder as AnyEncoder, EncoderExt as _};
 use rasn_below::types::{Identifier, Tag};
 use std::alloc::Global;
 
-fn put<E: AnyEncoder>(encoder: &mut E, values: &[Option<bool>]) -> Result<(), E::Error> {
-    let name = Identifier::EMPTY;
-    encoder.encode_sequence_of(Tag::SEQUENCE, values, &Constraints::NONE, name)
+/// A SEQUENCE OF BOOLEAN.
+#[derive(Clone, Copy)]
+struct Elements<'a>(&'a [Option<bool>]);
+
+impl<'a> Part for Elements<'a> {
+    fn put<E: AnyEncoder>(&self, encoder: &mut E) -> Result<(), E::Error> {
+        let name = Identifier::EMPTY;
+        encoder.encode_sequence_of(Tag::SEQUENCE, self.0, &Constraints::NONE, name)
+    }
 }
 
 /// The octets of a SEQUENCE OF BOOLEAN.
 fn list_of(alloc: Global, values: &[Option<bool>]) -> Result<Vec<u8>, EncodeError> {
-    let mut encoder = Encoder::new(alloc, EncoderOptions::unaligned());
-    put(&mut encoder, values)?;
-    encoder.output_into_vec()
+    encoding_of(alloc, EncoderOptions::unaligned(), &Elements(values))
 }
 
 #[test]

@@ -1,8 +1,9 @@
 //! SETs written by a closure in the order of `FIELDS`: their components come to stand in ascending order of their tags
 //! (X.691 21.1), and a SET of a component fewer or more is refused.
 
+use crate::calls::{Part, encoding_of};
 use crate::expected::{expect_octets, expect_unwritten};
-use per_enc::{EncodeError, EncodeErrorKind, Encoder, EncoderOptions};
+use per_enc::{EncodeError, EncodeErrorKind, EncoderOptions};
 use per_samples_sets::set::Set;
 use per_samples_sets::set_optional::SetOptional;
 use rasn_below::codec::{Encode, Encoder as AnyEncoder, EncoderExt as _};
@@ -51,16 +52,32 @@ fn put_part<E: AnyEncoder>(encoder: &mut E, part: Option<bool>) -> Result<(), E:
     }
 }
 
+/// A SET of so many components.
+#[derive(Clone, Copy)]
+struct Components(usize);
+
+impl Part for Components {
+    fn put<E: AnyEncoder>(&self, encoder: &mut E) -> Result<(), E::Error> {
+        put_set(encoder, self.0)
+    }
+}
+
+/// A SET of components that may be absent.
+#[derive(Clone, Copy)]
+struct Optional(SetOptional);
+
+impl Part for Optional {
+    fn put<E: AnyEncoder>(&self, encoder: &mut E) -> Result<(), E::Error> {
+        put_optional(encoder, self.0)
+    }
+}
+
 fn set_of(alloc: Global, options: EncoderOptions, count: usize) -> Result<Vec<u8>, EncodeError> {
-    let mut encoder = Encoder::new(alloc, options);
-    put_set(&mut encoder, count)?;
-    encoder.output_into_vec()
+    encoding_of(alloc, options, &Components(count))
 }
 
 fn optional_of(alloc: Global, parts: SetOptional) -> Result<Vec<u8>, EncodeError> {
-    let mut encoder = Encoder::new(alloc, EncoderOptions::unaligned());
-    put_optional(&mut encoder, parts)?;
-    encoder.output_into_vec()
+    encoding_of(alloc, EncoderOptions::unaligned(), &Optional(parts))
 }
 
 #[test]

@@ -28,8 +28,8 @@
 //!
 //! **Only tested**: that names are the type's, as a schema has none: those of `FIELDS` and `EXTENDED_FIELDS`, and which
 //! list `IDENTIFIERS` is (that an item is the one at its number of a list, and that number, are proved); the digits of
-//! a number that no `i128` holds; and that the text is UTF-8. **Neither**: that two values of a type with equal JSON
-//! have equal normal forms.
+//! a number that no `i128` holds; that the text is UTF-8; and that two values of a type with equal JSON have equal
+//! normal forms.
 #![tactic(auto)]
 
 pub mod encoder;

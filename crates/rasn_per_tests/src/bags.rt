@@ -1,14 +1,13 @@
 //! SET OF: members are written in the order of their complete encodings, which end in zero bits, and read in the order
 //! in which they stand.
 
-use crate::expected::{expect_items, expect_written};
+use crate::expected::{expect_items, expect_written, list_of};
 use rasn_below::Decode;
 use rasn_below::types::{BitString, Codec, SetOf};
 use rasn_per::uper;
-use std::alloc::{AllocError, Global};
+use std::alloc::Global;
 use std::fmt::Debug;
 use std::process::Abort;
-use std::test::Fail;
 
 /// Members in the order in which they are kept, and the octets of their bag.
 const WRITTEN: &[(&[i128], &[u8])] = &[
@@ -24,18 +23,12 @@ const WRITTEN: &[(&[i128], &[u8])] = &[
     (&[], &[0]),
 ];
 
-/// A bag of some whole numbers.
-fn bag_of(alloc: Global, members: &[i128]) -> Result<SetOf<i128>, AllocError> {
-    Ok(SetOf::from_vec(Vec::from_slice(alloc, members)?))
-}
-
 #[test]
-fn writes_members_in_ascending_order(rt: HostRuntime) -> Result<(), Fail> {
+fn writes_members_in_ascending_order(rt: HostRuntime) {
     for (members, octets) in WRITTEN {
-        let bag = bag_of(rt.alloc(), members)?;
+        let bag = SetOf::from_vec(list_of(&rt, rt.alloc(), members));
         expect_written(&rt, rt.alloc(), Codec::Uper, &bag, octets);
     }
-    Ok(())
 }
 
 /// These members are read from octets of the UNALIGNED variant, in this order.
@@ -60,25 +53,24 @@ fn reads_members_in_any_order(rt: HostRuntime) {
 
 /// TRUE, FALSE and TRUE are three bits behind their count.
 #[test]
-fn writes_truth_values(rt: HostRuntime) -> Result<(), Fail> {
-    let bag = SetOf::from_vec(Vec::from_slice(rt.alloc(), &[true, false, true])?);
+fn writes_truth_values(rt: HostRuntime) {
+    let bag = SetOf::from_vec(list_of(&rt, rt.alloc(), &[true, false, true]));
     expect_written(&rt, rt.alloc(), Codec::Uper, &bag, &[0x03, 0x60]);
-    Ok(())
 }
 
 /// A bag of the strings of one bit, the greater one first.
-fn one_bit_each(alloc: Global) -> Result<SetOf<BitString>, AllocError> {
-    let mut strings = Vec::new(alloc);
-    strings.push(BitString::from_octets(alloc, &[0x80], 1)?)?;
-    strings.push(BitString::from_octets(alloc, &[0x00], 1)?)?;
-    Ok(SetOf::from_vec(strings))
+fn one_bit_each(rt: &impl Abort, alloc: Global) -> SetOf<BitString> {
+    let first = BitString::from_octets(alloc, &[0x80], 1).expect(rt, "memory");
+    let second = BitString::from_octets(alloc, &[0x00], 1).expect(rt, "memory");
+    let strings = Vec::from_array(alloc, [first, second]).expect(rt, "memory");
+    SetOf::from_vec(strings)
 }
 
 /// A member is put behind the others where it isn't yet known how many bits stand before it: the second begins in the
 /// midst of an octet, where the ALIGNED variant pads.
 #[test]
-fn pads_members_where_they_stand(rt: HostRuntime) -> Result<(), Fail> {
-    let bag = one_bit_each(rt.alloc())?;
+fn pads_members_where_they_stand(rt: HostRuntime) {
+    let bag = one_bit_each(&rt, rt.alloc());
     let aligned = &[0x02, 0x01, 0x00, 0x01, 0x80];
     expect_written(&rt, rt.alloc(), Codec::Aper, &bag, aligned);
     expect_written(
@@ -88,5 +80,4 @@ fn pads_members_where_they_stand(rt: HostRuntime) -> Result<(), Fail> {
         &bag,
         &[0x02, 0x01, 0x00, 0xc0],
     );
-    Ok(())
 }

@@ -1,8 +1,9 @@
 //! Copies of a message that holds values of ASN.1's types: `Clone` is derived.
 
-use crate::expected::expect_equal;
+use crate::expected::{expect_equal, identifier_of};
 use rasn_below::types::{BitString, Integer, ObjectIdentifier, SetOf};
-use std::alloc::{AllocError, Global};
+use std::alloc::Global;
+use std::process::Abort;
 
 /// A message whose parts take memory.
 #[derive(Clone, PartialEq, Debug, Drop)]
@@ -16,23 +17,29 @@ struct Message {
 /// 2^127, which no `i128` holds.
 const LARGE: &[u8] = &[0x00, 0x80, 0, 0, 0, 0, 0, 0, 0, 0, 0, 0, 0, 0, 0, 0, 0];
 
+fn large(rt: &impl Abort, alloc: Global) -> Integer {
+    Integer::from_signed_octets(alloc, LARGE).expect(rt, "memory")
+}
+
+/// A bag of a small number and a large one.
+fn bag(rt: &impl Abort, alloc: Global) -> SetOf<Integer> {
+    let members = [Integer::from(7u8), large(rt, alloc)];
+    SetOf::from_vec(Vec::from_array(alloc, members).expect(rt, "memory"))
+}
+
 /// A message.
-fn make_message(alloc: Global) -> Result<Message, AllocError> {
-    let mut members = Vec::new(alloc);
-    members.push(Integer::from(7u8))?;
-    members.push(Integer::from_signed_octets(alloc, LARGE)?)?;
-    Ok(Message {
-        number: Integer::from_signed_octets(alloc, LARGE)?,
-        object: ObjectIdentifier::from_slice(alloc, &[2, 999, 3])?,
-        bits: BitString::from_slice(alloc, &[true, false, true])?,
-        bag: SetOf::from_vec(members),
-    })
+fn make_message(rt: &impl Abort, alloc: Global) -> Message {
+    Message {
+        number: large(rt, alloc),
+        object: identifier_of(rt, alloc, &[2, 999, 3]),
+        bits: BitString::from_slice(alloc, &[true, false, true]).expect(rt, "memory"),
+        bag: bag(rt, alloc),
+    }
 }
 
 #[test]
-fn copies_a_message(rt: HostRuntime) -> Result<(), AllocError> {
-    let message = make_message(rt.alloc())?;
-    let copy = message.clone()?;
+fn copies_a_message(rt: HostRuntime) {
+    let message = make_message(&rt, rt.alloc());
+    let copy = message.clone().expect(&rt, "memory");
     expect_equal(&rt, &copy, &message);
-    Ok(())
 }

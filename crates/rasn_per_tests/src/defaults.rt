@@ -1,42 +1,38 @@
 //! Defaults of constructed types and of OBJECT IDENTIFIER, as asn1ct writes them.
 
-use crate::expected::{expect_rows, expect_variants};
+use crate::expected::{expect_rows, expect_variants, identifier_of, list_of};
 use per_samples_b::alt2::Alt2;
 use per_samples_b::outer1::Outer1;
 use per_samples_c::default_choice::DefaultChoice;
 use per_samples_c::default_elements::DefaultElements;
 use per_samples_c::default_identifier::DefaultIdentifier;
-use rasn_below::types::ObjectIdentifier;
-use std::alloc::{AllocError, Global};
+use std::alloc::Global;
+use std::process::Abort;
 
-fn identifier(alloc: Global, arcs: &[u32], last: bool) -> Result<DefaultIdentifier, AllocError> {
-    let object = ObjectIdentifier::from_slice(alloc, arcs)?;
-    Ok(DefaultIdentifier { object, last })
+fn identifier(rt: &impl Abort, alloc: Global, arcs: &[u32], last: bool) -> DefaultIdentifier {
+    let object = identifier_of(rt, alloc, arcs);
+    DefaultIdentifier { object, last }
 }
 
 /// An identifier is left out where its arcs are the default's (X.691 19.5).
 #[test]
 fn leaves_an_object_identifier_out_at_its_default(rt: HostRuntime) {
     let alloc = rt.alloc();
-    let own = identifier(alloc, &[1, 2, 840], true)?;
+    let own = identifier(&rt, alloc, &[1, 2, 840], true);
     expect_variants(&rt, alloc, &own, &[0x40], &[0x40]);
-    let other = identifier(alloc, &[1, 3, 6], true)?;
+    let other = identifier(&rt, alloc, &[1, 3, 6], true);
     let aligned = &[0x80, 0x02, 0x2b, 0x06, 0x80];
     expect_variants(&rt, alloc, &other, aligned, &[0x81, 0x15, 0x83, 0x40]);
-    let large = identifier(alloc, &[2, 999, 3], false)?;
+    let large = identifier(&rt, alloc, &[2, 999, 3], false);
     let aligned = &[0x80, 0x03, 0x88, 0x37, 0x03, 0x00];
     expect_variants(&rt, alloc, &large, aligned, &[0x81, 0xc4, 0x1b, 0x81, 0x80]);
 }
 
-fn elements(
-    alloc: Global,
-    flags: &[bool],
-    outers: &[Outer1],
-) -> Result<DefaultElements, AllocError> {
-    Ok(DefaultElements {
-        flags: Vec::from_slice(alloc, flags)?,
-        outers: Vec::from_slice(alloc, outers)?,
-    })
+fn elements(rt: &impl Abort, alloc: Global, flags: &[bool], outers: &[Outer1]) -> DefaultElements {
+    DefaultElements {
+        flags: list_of(rt, alloc, flags),
+        outers: list_of(rt, alloc, outers),
+    }
 }
 
 const TRUE_FALSE: Outer1 = Outer1 {
@@ -53,13 +49,13 @@ const FALSE_TRUE: Outer1 = Outer1 {
 #[test]
 fn leaves_a_list_out_at_its_default(rt: HostRuntime) {
     let alloc = rt.alloc();
-    let both = elements(alloc, &[true, false], &[TRUE_FALSE])?;
+    let both = elements(&rt, alloc, &[true, false], &[TRUE_FALSE]);
     expect_variants(&rt, alloc, &both, &[0x00], &[0x00]);
-    let fewer = elements(alloc, &[true], &[TRUE_FALSE])?;
+    let fewer = elements(&rt, alloc, &[true], &[TRUE_FALSE]);
     expect_variants(&rt, alloc, &fewer, &[0x98], &[0x98]);
-    let none = elements(alloc, &[true, false], &[])?;
+    let none = elements(&rt, alloc, &[true, false], &[]);
     expect_variants(&rt, alloc, &none, &[0x40, 0x00], &[0x40, 0x00]);
-    let further = elements(alloc, &[], &[FALSE_TRUE, TRUE_FALSE])?;
+    let further = elements(&rt, alloc, &[], &[FALSE_TRUE, TRUE_FALSE]);
     expect_variants(
         &rt,
         alloc,

@@ -1,6 +1,7 @@
-//! What several tests expect: as calls that give nothing back, since each exit of a test's own body costs its proof.
+//! What several tests expect, and values that they make: as calls that give no error back, since each exit of a test's
+//! own body costs its proof. Where something isn't as expected, or memory is lacking, the test ends.
 
-use rasn_below::types::Codec;
+use rasn_below::types::{Codec, ObjectIdentifier, OctetString};
 use rasn_below::{Decode, Encode};
 use rasn_per::uper::{DecodeError, DecodeErrorKind, EncodeError, EncodeErrorKind};
 use rasn_per::{aper, uper};
@@ -19,6 +20,21 @@ pub(crate) fn expect_equal<T: PartialEq + Debug>(rt: &impl Abort, found: &T, exp
 /// The items of a list are these.
 pub(crate) fn expect_items<T: PartialEq + Debug>(rt: &impl Abort, found: &[T], expected: &[T]) {
     assert_eq!(rt; found, expected);
+}
+
+/// A list of these.
+pub(crate) fn list_of<T: Copy>(rt: &impl Abort, alloc: Global, items: &[T]) -> Vec<T> {
+    Vec::from_slice(alloc, items).expect(rt, "memory")
+}
+
+/// A string of these octets.
+pub(crate) fn string_of(rt: &impl Abort, alloc: Global, octets: &[u8]) -> OctetString {
+    OctetString::new(list_of(rt, alloc, octets))
+}
+
+/// The identifier of these arcs.
+pub(crate) fn identifier_of(rt: &impl Abort, alloc: Global, arcs: &[u32]) -> ObjectIdentifier {
+    ObjectIdentifier::from_slice(alloc, arcs).expect(rt, "memory")
 }
 
 /// The octets of a value, in the variant of a codec.

@@ -1,12 +1,12 @@
 //! The header of an intelligent transport message, and a record that holds it.
 
-use crate::expected::expect_coded;
+use crate::expected::{expect_coded, list_of, string_of};
 use its_header::header::ItsPduHeader;
 use its_header::message::Message;
 use its_header::position::ReferencePositionLite;
-use rasn_below::types::{Codec, Ia5String, OctetString};
+use rasn_below::types::{Codec, Ia5String};
 use std::alloc::Global;
-use std::test::Fail;
+use std::process::Abort;
 
 const HEADER: ItsPduHeader = ItsPduHeader {
     protocol_version: 2,
@@ -31,19 +31,18 @@ const MESSAGE: &[u8] = &[
     0x0b, 0xaf, 0x34, 0x0d, 0xc0, 0xf7, 0xab, 0x6f, 0x80,
 ];
 
-fn message(alloc: Global) -> Result<Message, Fail> {
-    let name = Ia5String::from_iso646_bytes(Vec::from_slice(alloc, b"Bus 7")?);
-    Ok(Message {
+fn message(rt: &impl Abort, alloc: Global) -> Message {
+    let name = Ia5String::from_iso646_bytes(list_of(rt, alloc, b"Bus 7"));
+    Message {
         header: HEADER,
         position: POSITION,
-        name: name.ok_or("no IA5 string")?,
-        payload: OctetString::new(Vec::from_slice(alloc, &[0xde, 0xad, 0xbe])?),
-    })
+        name: name.expect(rt, "an IA5String"),
+        payload: string_of(rt, alloc, &[0xde, 0xad, 0xbe]),
+    }
 }
 
 #[test]
-fn message_is_194_bits(rt: HostRuntime) -> Result<(), Fail> {
-    let message = message(rt.alloc())?;
+fn message_is_194_bits(rt: HostRuntime) {
+    let message = message(&rt, rt.alloc());
     expect_coded(&rt, rt.alloc(), Codec::Uper, &message, MESSAGE);
-    Ok(())
 }

@@ -1,6 +1,6 @@
 //! Alternatives and additions under tags that are written, or are their types' own, as another encoder wrote them.
 
-use crate::expected::{BOTH, expect_coded, expect_value, expect_variants};
+use crate::expected::{BOTH, expect_coded, expect_value, expect_variants, string_of};
 use per_samples_b::classed::Classed;
 use per_samples_b::pick::Pick;
 use per_samples_b::picked::Picked;
@@ -76,7 +76,7 @@ fn writes_and_reads_an_untagged_choice_as_an_addition(rt: HostRuntime) {
 /// context-specific ones (X.680 8.6, X.691 23.5). asn1c wrote these octets.
 #[test]
 fn writes_and_reads_alternatives_under_tags_of_each_class(rt: HostRuntime) {
-    let last = Classed::Last(OctetString::new(Vec::from_slice(rt.alloc(), &[1, 2])?));
+    let last = Classed::Last(string_of(&rt, rt.alloc(), &[1, 2]));
     for codec in BOTH {
         expect_coded(&rt, rt.alloc(), *codec, &Classed::Flag(true), &[0x20]);
         expect_coded(&rt, rt.alloc(), *codec, &Classed::Number(5), &[0x68]);

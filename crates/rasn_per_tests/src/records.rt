@@ -2,9 +2,9 @@
 //! begins on an octet boundary follows from its bounds. A SEQUENCE of both has the same bits, one component behind the
 //! other (X.691 19).
 
-use crate::expected::{expect_equal, expect_items};
-use rasn_below::codec::{Decode, Decoder as _, Encode, Encoder as _};
-use rasn_below::types::{BitString, Identifier, OctetString, Tag, VisibleString};
+use crate::expected::{expect_equal, expect_items, list_of, string_of};
+use rasn_below::codec::{Decode, Decoder as AnyDecoder, Encode, Encoder as AnyEncoder};
+use rasn_below::types::{BitString, Identifier, Tag, VisibleString};
 use rasn_below::{Constraint, Constraints, constraints};
 use rasn_per::bits::BitReader;
 use rasn_per::per::de::{DecodeError, Decoder, DecoderOptions};
@@ -12,7 +12,16 @@ use rasn_per::per::enc::{EncodeError, Encoder, EncoderOptions};
 use std::alloc::Global;
 use std::fmt::Debug;
 use std::process::Abort;
-use std::test::Fail;
+
+/// Writes TRUE and a value under constraints: over any encoder, since to prove it of one alone costs more.
+fn put<T: Encode, E: AnyEncoder>(
+    encoder: &mut E,
+    limits: &Constraints,
+    value: &T,
+) -> Result<(), E::Error> {
+    encoder.encode_bool(Tag::BOOL, true, Identifier::EMPTY)?;
+    value.encode_with_constraints(encoder, limits)
+}
 
 /// The octets of TRUE and a value under constraints.
 fn encode<T: Encode>(
@@ -21,17 +30,21 @@ fn encode<T: Encode>(
     value: &T,
 ) -> Result<Vec<u8>, EncodeError> {
     let mut encoder = Encoder::new(alloc, EncoderOptions::aligned());
-    encoder.encode_bool(Tag::BOOL, true, Identifier::EMPTY)?;
-    value.encode_with_constraints(&mut encoder, limits)?;
+    put(&mut encoder, limits, value)?;
     encoder.output_into_vec()
+}
+
+/// Reads a BOOLEAN, and the value under constraints behind it.
+fn take<T: Decode, D: AnyDecoder>(decoder: &mut D, limits: &Constraints) -> Result<T, D::Error> {
+    decoder.decode_bool(Tag::BOOL)?;
+    T::decode_with_constraints(decoder, limits)
 }
 
 /// The value under constraints that stands behind a BOOLEAN.
 fn decode<T: Decode>(alloc: Global, limits: &Constraints, octets: &[u8]) -> Result<T, DecodeError> {
     let bits = BitReader::from_octets(octets);
     let mut decoder = Decoder::from_reader(alloc, bits, DecoderOptions::aligned());
-    decoder.decode_bool(Tag::BOOL)?;
-    T::decode_with_constraints(&mut decoder, limits)
+    take(&mut decoder, limits)
 }
 
 /// TRUE and a value under constraints are written as these octets, and the value is read from them.
@@ -72,23 +85,21 @@ const SIZE_TO_65536: &[Constraint] = constraints!(SIZE 1..=65_536);
 
 /// A size counts from its lower bound where its upper one is below 64K, in an octet or two on a boundary (X.691 11.9).
 #[test]
-fn lengths_of_octets_are_aligned(rt: HostRuntime) -> Result<(), Fail> {
-    let octets = OctetString::new(Vec::from_slice(rt.alloc(), &[0x11, 0x22, 0x33])?);
+fn lengths_of_octets_are_aligned(rt: HostRuntime) {
+    let octets = string_of(&rt, rt.alloc(), &[0x11, 0x22, 0x33]);
     let written = &[0x80, 0x02, 0x11, 0x22, 0x33];
     expect_behind_true(&rt, rt.alloc(), SIZE_TO_256, &octets, written);
     let written = &[0x80, 0x00, 0x02, 0x11, 0x22, 0x33];
     expect_behind_true(&rt, rt.alloc(), SIZE_TO_1000, &octets, written);
     let written = &[0x80, 0x03, 0x11, 0x22, 0x33];
     expect_behind_true(&rt, rt.alloc(), SIZE_TO_65536, &octets, written);
-    Ok(())
 }
 
 /// The elements of a list are no octets, so no padding stands behind its count (X.691 20).
 #[test]
-fn length_of_a_list_is_aligned(rt: HostRuntime) -> Result<(), Fail> {
-    let list = Vec::from_slice(rt.alloc(), &[true, false, true])?;
+fn length_of_a_list_is_aligned(rt: HostRuntime) {
+    let list = list_of(&rt, rt.alloc(), &[true, false, true]);
     expect_behind_true(&rt, rt.alloc(), SIZE_TO_256, &list, &[0x80, 0x02, 0xa0]);
-    Ok(())
 }
 
 const SIZE_24: &[Constraint] = constraints!(SIZE 24..=24);
@@ -97,12 +108,11 @@ const SIZE_16: &[Constraint] = constraints!(SIZE 16..=16);
 
 /// A BIT STRING of a fixed size of up to sixteen bits stands in place, a longer one on a boundary (X.691 16.9, 16.10).
 #[test]
-fn bits_of_more_than_two_octets_are_aligned(rt: HostRuntime) -> Result<(), Fail> {
-    let long = BitString::from_octets(rt.alloc(), &[0xab, 0xcd, 0xef], 24)?;
+fn bits_of_more_than_two_octets_are_aligned(rt: HostRuntime) {
+    let long = BitString::from_octets(rt.alloc(), &[0xab, 0xcd, 0xef], 24).expect(&rt, "memory");
     expect_behind_true(&rt, rt.alloc(), SIZE_24, &long, &[0x80, 0xab, 0xcd, 0xef]);
-    let short = BitString::from_octets(rt.alloc(), &[0xab, 0xcd], 16)?;
+    let short = BitString::from_octets(rt.alloc(), &[0xab, 0xcd], 16).expect(&rt, "memory");
     expect_behind_true(&rt, rt.alloc(), SIZE_16, &short, &[0xd5, 0xe6, 0x80]);
-    Ok(())
 }
 
 const SIZE_2: &[Constraint] = constraints!(SIZE 2..=2);
@@ -111,10 +121,9 @@ const SIZE_1_TO_2: &[Constraint] = constraints!(SIZE 1..=2);
 
 /// A string of fewer than sixteen bits, or of a fixed size of sixteen, stands in place (X.691 30.5.6, 30.5.7).
 #[test]
-fn characters_of_a_size_that_varies_are_aligned(rt: HostRuntime) -> Result<(), Fail> {
-    let letters = VisibleString::from_iso646_bytes(Vec::from_slice(rt.alloc(), b"AB")?);
-    let letters = letters.ok_or("no VisibleString")?;
+fn characters_of_a_size_that_varies_are_aligned(rt: HostRuntime) {
+    let letters = VisibleString::from_iso646_bytes(list_of(&rt, rt.alloc(), b"AB"));
+    let letters = letters.expect(&rt, "a VisibleString");
     expect_behind_true(&rt, rt.alloc(), SIZE_2, &letters, &[0xa0, 0xa1, 0x00]);
     expect_behind_true(&rt, rt.alloc(), SIZE_1_TO_2, &letters, &[0xc0, 0x41, 0x42]);
-    Ok(())
 }

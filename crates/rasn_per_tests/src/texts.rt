@@ -1,24 +1,17 @@
 //! Texts of identifiers, times and dates (X.680 12.8 and 38.4, X.690 11.7 and 11.8).
 
-use crate::expected::{expect_equal, expect_items};
+use crate::expected::{expect_items, identifier_of};
 use jiff::civil;
 use rasn_below::ber::BerError;
 use rasn_below::types::{Date, GeneralizedTime, ObjectIdentifier, UtcTime};
-use std::alloc::{AllocError, Global};
+use std::alloc::Global;
 use std::fmt::Display;
 use std::process::Abort;
-use std::test::Fail;
 
 /// A value has this text.
-fn expect_printed<T: Display>(
-    rt: &impl Abort,
-    alloc: Global,
-    value: &T,
-    text: &str,
-) -> Result<(), AllocError> {
-    let printed = format!(in alloc; "{value}")?;
+fn expect_printed<T: Display>(rt: &impl Abort, alloc: Global, value: &T, text: &str) {
+    let printed = format!(in alloc; "{value}").expect(rt, "memory");
     assert_eq!(rt; printed.as_str(), text);
-    Ok(())
 }
 
 /// Arcs and their texts.
@@ -30,24 +23,17 @@ const IDENTIFIERS: &[(&[u32], &str)] = &[
 ];
 
 /// Arcs have this text, and are read from it.
-fn expect_identifier(
-    rt: &impl Abort,
-    alloc: Global,
-    arcs: &[u32],
-    text: &str,
-) -> Result<(), BerError> {
-    let read = ObjectIdentifier::from_text(alloc, text)?;
+fn expect_identifier(rt: &impl Abort, alloc: Global, arcs: &[u32], text: &str) {
+    let read = ObjectIdentifier::from_text(alloc, text).expect(rt, "an identifier");
     expect_items(rt, read.as_arcs(), arcs);
-    expect_printed(rt, alloc, &read, text)?;
-    Ok(())
+    expect_printed(rt, alloc, &read, text);
 }
 
 #[test]
-fn reads_and_prints_identifiers(rt: HostRuntime) -> Result<(), BerError> {
+fn reads_and_prints_identifiers(rt: HostRuntime) {
     for (arcs, text) in IDENTIFIERS {
-        expect_identifier(&rt, rt.alloc(), arcs, text)?;
+        expect_identifier(&rt, rt.alloc(), arcs, text);
     }
-    Ok(())
 }
 
 /// Texts of no identifier.
@@ -73,54 +59,45 @@ fn refuses_other_texts(rt: HostRuntime) {
 }
 
 #[test]
-fn orders_identifiers(rt: HostRuntime) -> Result<(), AllocError> {
-    let shorter = ObjectIdentifier::from_slice(rt.alloc(), &[1, 2])?;
-    let longer = ObjectIdentifier::from_slice(rt.alloc(), &[1, 2, 3])?;
+fn orders_identifiers(rt: HostRuntime) {
+    let shorter = identifier_of(&rt, rt.alloc(), &[1, 2]);
+    let longer = identifier_of(&rt, rt.alloc(), &[1, 2, 3]);
     assert!(rt; shorter < longer);
-    Ok(())
 }
 
 /// A moment of X.690 11.7.5, with nanoseconds.
-fn moment_of(year: i16, nanosecond: i32) -> Result<civil::DateTime, Fail> {
-    let moment = civil::DateTime::new(year, 7, 22, 13, 21, 0, nanosecond)?;
-    Ok(moment)
+fn moment_of(rt: &impl Abort, year: i16, nanosecond: i32) -> civil::DateTime {
+    civil::DateTime::new(year, 7, 22, 13, 21, 0, nanosecond).expect(rt, "a moment")
+}
+
+/// A UTCTime has this text.
+fn expect_utc(rt: &impl Abort, alloc: Global, year: i16, text: &str) {
+    let time = UtcTime::new(moment_of(rt, year, 0));
+    expect_printed(rt, alloc, &time, text);
 }
 
 #[test]
-fn prints_utc_times(rt: HostRuntime) -> Result<(), Fail> {
-    let (held, other) = (moment_of(1992, 0)?, moment_of(2050, 0)?);
-    expect_printed(&rt, rt.alloc(), &UtcTime::new(held), "920722132100Z")?;
-    expect_printed(&rt, rt.alloc(), &UtcTime::new(other), "2050-07-22T13:21:00")?;
-    Ok(())
+fn prints_utc_times(rt: HostRuntime) {
+    expect_utc(&rt, rt.alloc(), 1992, "920722132100Z");
+    expect_utc(&rt, rt.alloc(), 2050, "2050-07-22T13:21:00");
+}
+
+/// A GeneralizedTime with nanoseconds has this text.
+fn expect_generalized(rt: &impl Abort, alloc: Global, year: i16, nanosecond: i32, text: &str) {
+    let time = GeneralizedTime::new(moment_of(rt, year, nanosecond));
+    expect_printed(rt, alloc, &time, text);
 }
 
 #[test]
-fn prints_generalized_times(rt: HostRuntime) -> Result<(), Fail> {
-    let (whole, tenths, nanos) = (
-        moment_of(1992, 0)?,
-        moment_of(1992, 300_000_000)?,
-        moment_of(0, 1)?,
-    );
+fn prints_generalized_times(rt: HostRuntime) {
     let alloc = rt.alloc();
-    expect_printed(&rt, alloc, &GeneralizedTime::new(whole), "19920722132100Z")?;
-    expect_printed(
-        &rt,
-        alloc,
-        &GeneralizedTime::new(tenths),
-        "19920722132100.3Z",
-    )?;
-    expect_printed(
-        &rt,
-        alloc,
-        &GeneralizedTime::new(nanos),
-        "00000722132100.000000001Z",
-    )?;
-    Ok(())
+    expect_generalized(&rt, alloc, 1992, 0, "19920722132100Z");
+    expect_generalized(&rt, alloc, 1992, 300_000_000, "19920722132100.3Z");
+    expect_generalized(&rt, alloc, 0, 1, "00000722132100.000000001Z");
 }
 
 #[test]
-fn prints_dates(rt: HostRuntime) -> Result<(), Fail> {
-    let day = civil::Date::new(2024, 2, 29)?;
-    expect_printed(&rt, rt.alloc(), &Date::new(day), "2024-02-29")?;
-    Ok(())
+fn prints_dates(rt: HostRuntime) {
+    let day = civil::Date::new(2024, 2, 29).expect(&rt, "a day");
+    expect_printed(&rt, rt.alloc(), &Date::new(day), "2024-02-29");
 }

@@ -1,9 +1,10 @@
 -- The nearest of the names so far, and the name that is nearest.
 use Rattle.std.proofs.Common.{ℕ, ◌≡◌, ◌∙◌, ◌+◌, ◌<◌, ◌≤◌, List, [], get_or, length, map, subst, arith, below_more, sym}
 use Rattle.std.proofs.lemmas.List.{get_or-map, length-map}
-use Rattle.per_lines.specs.Words.{type_word}
-use Rattle.per_lines.specs.declared.arguments.TypeName.{TypeName}
+use Rattle.named_types.specs.Types.{word_of}
+use Rattle.named_types.specs.declared.types.NamedType.{NamedType}
 use Rattle.per_lines.specs.declared.arguments.TypeName.TheVariants.{Boolean}
+use Rattle.named_types.specs.declared.types.NamedType.TheVariants.{Sample}
 use Rattle.show_lines.specs.Nearest.{edits, IsNearest, IsNearestName}
 
 -- no name so far is nearer than a number of edits, and so isn't the next one
@@ -14,12 +15,12 @@ none-nearer names word n before now less so_far next = below_more (λ i. now ≤
     (λ i h. let b = so_far i h in omega (arith, less, b)) next
 
 -- the word of the type that is nearest is the nearest name
-pub named_nearest : (types known : List TypeName) (word name : List ℕ) (best : ℕ) → known ≡ types
-    → IsNearest (map type_word known) word best → name ≡ type_word (get_or known best Boolean) → IsNearestName (map type_word types) word name
+pub named_nearest : (types known : List NamedType) (word name : List ℕ) (best : ℕ) → known ≡ types
+    → IsNearest (map word_of known) word best → name ≡ word_of (get_or known best (Sample Boolean)) → IsNearestName (map word_of types) word name
 named_nearest types known word name best e n f =
-    let within : best < length known = omega (arith, n.within, length-map known type_word) in
-    subst (λ (ts : List TypeName). IsNearestName (map type_word ts) word name) e (record {
+    let within : best < length known = omega (arith, n.within, length-map known word_of) in
+    subst (λ (ts : List NamedType). IsNearestName (map word_of ts) word name) e (record {
       best = best;
       is_nearest = n;
-      found = f ∙ sym (get_or-map type_word known best Boolean [] within);
+      found = f ∙ sym (get_or-map word_of known best (Sample Boolean) [] within);
     })

@@ -1,3 +1,5 @@
+pub mod Ends
+pub mod Layouts
 pub mod Nearest
 pub mod Printing
 pub mod Requests

@@ -2,23 +2,23 @@
 use Rattle.std.specs.Prelude.{ℕ, ◌≡◌, List, [], Option}
 use Rattle.std.specs.Io.KnownBytes.{Appends}
 use Rattle.per_lines.specs.Printing.{PrintsAnswer, PrintsReplies}
-use Rattle.per_lines.specs.declared.arguments.Form.{Form}
-use Rattle.per_lines.specs.declared.arguments.Form.TheVariants as Forms
 use Rattle.show_lines.specs.Requests.{request_words}
 use Rattle.show_lines.specs.Showing.{IsAnswer, IsReply}
+use Rattle.show_lines.specs.declared.arguments.Extent.{Extent}
+use Rattle.show_lines.specs.declared.arguments.Extent.TheVariants.{AllLines, FirstLine}
 use Rattle.show_lines.specs.declared.arguments.Request.{Request}
 use Rattle.show_lines.specs.declared.arguments.Request.TheVariants.{Help, Show}
 use Rattle.show_lines.specs.declared.arguments.Showing.{Showing}
 
 -- the answer to the first line, or the replies to all
-abbrev pub PrintsIn : Form → Showing → Option (List ℕ) → Option (List ℕ) → Option (List ℕ) → Type 0
-PrintsIn Forms.Lines a input before after = PrintsReplies (IsReply a) input [] before after
-PrintsIn _ a input before after = PrintsAnswer (IsAnswer a) input before after
+abbrev pub PrintsIn : Extent → Showing → Option (List ℕ) → Option (List ℕ) → Option (List ℕ) → Type 0
+PrintsIn AllLines a input before after = PrintsReplies (IsReply a) input [] before after
+PrintsIn FirstLine a input before after = PrintsAnswer (IsAnswer a) input before after
 
 -- what a request asks for is printed; of its help it isn't said which text
 abbrev pub PrintsFor : Request → Option (List ℕ) → Option (List ℕ) → Option (List ℕ) → Type 0
 PrintsFor Help input before after = (text : List ℕ) × Appends before after text
-PrintsFor (Show a) input before after = PrintsIn a.arguments.form a input before after
+PrintsFor (Show a) input before after = PrintsIn a.extent a input before after
 
 -- an output got what the words and the input ask for, and nothing else
 pub record Prints (words : List (List ℕ)) (input before after : Option (List ℕ)) : Type 0 where

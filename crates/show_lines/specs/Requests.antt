@@ -1,9 +1,13 @@
 -- The words after the program's name.
 use Rattle.std.specs.Prelude.{ℕ, List, [], ◌∷◌, ◌++◌, codes}
-use Rattle.per_lines.specs.Words.{words_of}
+use Rattle.per_lines.specs.Words.{codec_word}
+use Rattle.named_types.specs.Types.{word_of}
+use Rattle.show_lines.specs.declared.arguments.Extent.{Extent}
+use Rattle.show_lines.specs.declared.arguments.Extent.TheVariants.{AllLines, FirstLine}
 use Rattle.show_lines.specs.declared.arguments.Layout.{Layout}
 use Rattle.show_lines.specs.declared.arguments.Layout.TheVariants.{Compact, Pretty}
 use Rattle.show_lines.specs.declared.arguments.Request.{Request}
+use Rattle.show_lines.specs.declared.arguments.Showing.{Showing}
 use Rattle.show_lines.specs.declared.arguments.Request.TheVariants.{Help, Show}
 
 -- nothing, or `--pretty`
@@ -11,7 +15,16 @@ abbrev pub layout_words : Layout → List (List ℕ)
 layout_words Compact = []
 layout_words Pretty = codes "--pretty" ∷ []
 
--- `--help`; or a codec, a type, a form, and a layout
+-- nothing, or `lines`
+abbrev pub extent_words : Extent → List (List ℕ)
+extent_words FirstLine = []
+extent_words AllLines = codes "lines" ∷ []
+
+-- a codec, a type, and which lines
+abbrev pub shown_words : Showing → List (List ℕ)
+shown_words a = codec_word a.codec ∷ word_of a.type_name ∷ extent_words a.extent
+
+-- `--help`; or what is shown, and a layout
 abbrev pub request_words : Request → List (List ℕ)
 request_words Help = codes "--help" ∷ []
-request_words (Show a) = words_of a.arguments ++ layout_words a.layout
+request_words (Show a) = shown_words a ++ layout_words a.layout

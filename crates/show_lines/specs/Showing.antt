@@ -1,8 +1,7 @@
 -- From octets to the JSON of the value that they spell.
 use Rattle.std.specs.Prelude.{ℕ, ◌≡◌, ◌≢◌, ◌⊎◌, List, ◌∷◌, ◌++◌, [], Ok, codes}
 use Rattle.hex.specs.Hex.{decode_of}
-use Rattle.json.specs.Lex.{tokens}
-use Rattle.per_lines.specs.Recoding.{schema_of}
+use Rattle.named_types.specs.Types.{schema_of}
 use Rattle.per_lines.specs.Showing.{AreShown, HasNoText}
 use Rattle.per_lines.specs.declared.fault.Fault.TheVariants.{BadHexadecimal}
 use Rattle.per_located.specs.Placed.{IsPlaced}
@@ -11,9 +10,8 @@ use Rattle.rasn_below.specs.Rows.{Codec, variant_of}
 use Rattle.rasn_per.specs.Complete.{AreUnread, basically}
 use Rattle.rasn_per.specs.Kinds.{IsInOctets}
 use Rattle.rasn_schema.specs.Schemas.{Schema}
+use Rattle.show_lines.specs.Layouts.{IsLaidOut}
 use Rattle.show_lines.specs.Told.{IsToldAs}
-use Rattle.show_lines.specs.declared.arguments.Layout.{Layout}
-use Rattle.show_lines.specs.declared.arguments.Layout.TheVariants.{Compact, Pretty}
 use Rattle.show_lines.specs.declared.fault.Fault.{Fault}
 use Rattle.show_lines.specs.declared.arguments.Showing.{Showing}
 use Rattle.show_lines.specs.declared.fault.Fault.TheVariants.{Decode, Encode, OfLines}
@@ -27,18 +25,13 @@ IsRefusal codec schema octets (Decode refusal) =
 IsRefusal codec schema octets (Encode e) = HasNoText (basically (variant_of codec)) schema octets e
 IsRefusal codec schema octets _ = ⊥
 
--- how a JSON text is laid out: as it is, or in lines of the same tokens (RFC 8259 2)
-abbrev pub IsLaidOut : Layout → List ℕ → List ℕ → Type 0
-IsLaidOut Compact text laid = laid ≡ text
-IsLaidOut Pretty text laid = tokens laid ≡ tokens text
-
 -- a text is the answer to a line: the JSON of the value that its octets spell, and a line feed
 pub record IsAnswer (a : Showing) (line answer : List ℕ) : Type 0 where
   pub octets : List ℕ
   pub text : List ℕ
   pub laid : List ℕ
   pub hexadecimal : decode_of line ≡ Ok octets
-  pub shown : AreShown (basically (variant_of a.arguments.codec)) (schema_of a.arguments.type_name) octets text
+  pub shown : AreShown (basically (variant_of a.codec)) (schema_of a.type_name) octets text
   pub laid_out : IsLaidOut a.layout text laid
   pub is_answer : answer ≡ laid ++ 10 ∷ []
 
@@ -46,7 +39,7 @@ pub record IsAnswer (a : Showing) (line answer : List ℕ) : Type 0 where
 pub record AreRefused (a : Showing) (line : List ℕ) (fault : Fault) : Type 0 where
   pub octets : List ℕ
   pub hexadecimal : decode_of line ≡ Ok octets
-  pub refused : IsRefusal a.arguments.codec (schema_of a.arguments.type_name) octets fault
+  pub refused : IsRefusal a.codec (schema_of a.type_name) octets fault
 
 -- why a line has no answer, memory aside: it isn't pairs of hexadecimal digits, or its octets have no JSON
 abbrev pub IsUnanswered : Showing → List ℕ → Fault → Type 0

@@ -3,7 +3,7 @@
 ghost use Rattle.std.specs.Prelude.{◌≡◌, ◌≢◌, ◌≤◌, ◌++◌, IfOk, string_bytes};
 ghost use Rattle.per_lines.specs.Faults.{hexadecimal_fault};
 ghost use Rattle.per_lines.specs.declared.fault.Fault.TheVariants.{OutOfMemory};
-ghost use Rattle.show_lines.specs.Told.{IsToldAs, of_lines, status_of, text_of};
+ghost use Rattle.show_lines.specs.Told.{IsToldAs, Tells, front_of, of_lines, status_of, text_of};
 ghost use Rattle.show_lines.specs.declared.fault.Fault.TheVariants.{Decode as decode_fault, Encode as encode_fault};
 ghost use Rattle.show_lines.specs.declared.fault.Fault.TheVariants.{OfLines as lines_fault};
 
@@ -33,7 +33,8 @@ pub enum Fault {
 impl Fault {
     /// What is said of the fault but its place, in two pieces.
     pub fn text(&self) -> (&'static str, &'static str)
-        ensures { result.0.now ++ result.1.now ≡ text_of self.now }
+        ensures whole { result.0.now ++ result.1.now ≡ text_of self.now }
+        ensures front { result.0.now ≡ front_of self.now }
     {
         match self {
             Fault::WrongArguments => (
@@ -77,10 +78,11 @@ impl Fault {
         }
     }
 
-    /// Says the fault on a line of `faults`, without its place where memory ran out. Answers the status that the
-    /// program ends with, also where that line can't be written.
+    /// Says the fault on a line of `faults`, without its place or the nearest type where memory ran out, and nothing
+    /// else. Answers the status that the program ends with, also where that line can't be written.
     pub fn report<F: Write>(&self, alloc: Global, faults: &mut F) -> u8
         ensures status { result ≡ status_of self.now }
+        ensures told { Tells self.now (F.contents faults.old) (F.contents faults.new) }
         ensures range { result ≤ 2 }
         ensures some { result ≢ 0 }
     {

@@ -2,14 +2,16 @@
 
 ghost use Rattle.std.specs.Prelude.{◌≡◌, IfOk};
 ghost use Rattle.json.specs.Lex.{tokens};
+ghost use Rattle.show_lines.specs.Layouts.{IsInLines};
 
 use json::{Pretty, Reader, Scratch, Token};
 use std::alloc::{AllocError, Global};
 
-/// A JSON text with a line for each item and member, two spaces deeper for each bracket. The only error is want of
-/// memory.
+/// A JSON text with a line for each item and member, two spaces deeper for each bracket. What isn't JSON stays as it
+/// is. The only error is want of memory.
 pub fn pretty(alloc: Global, text: &str) -> Result<Vec<u8>, AllocError>
-    ensures { IfOk result (λ laid. tokens laid.items ≡ tokens text.now) }
+    ensures tokens { IfOk result (λ laid. tokens laid.items ≡ tokens text.now) }
+    ensures lines { IfOk result (λ laid. IsInLines text.now laid.items) }
 {
     let mut scratch = Scratch::new(alloc);
     let mut reader = Reader::new(text, &mut scratch)?;

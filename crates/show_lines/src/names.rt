@@ -1,27 +1,26 @@
 //! The type whose word is nearest to a word.
 
 ghost use Rattle.std.specs.Prelude.{◌<◌, IfOk, length, map};
-ghost use Rattle.per_lines.specs.Types.{types};
-ghost use Rattle.per_lines.specs.Words.{type_word};
+ghost use Rattle.named_types.specs.Types.{types, word_of};
 ghost use Rattle.show_lines.specs.Nearest.{IsNearest, IsNearestName};
 
-use per_lines::arguments::TypeName;
+use named_types::types::NamedType;
 use std::alloc::{AllocError, Global};
 use strsim::levenshtein;
 
 /// The word of a type that is the fewest edits from another word: the first such. The only error is want of memory.
 pub fn nearest(alloc: Global, word: &str) -> Result<&'static str, AllocError>
-    ensures { IfOk result (λ name. IsNearestName (map type_word types) word.now name.now) }
+    ensures { IfOk result (λ name. IsNearestName (map word_of types) word.now name.now) }
 {
-    let types = TypeName::all();
+    let types = NamedType::all();
     let place = place_of_nearest(alloc, types, word)?;
     Ok(types[place].word())
 }
 
 /// Which type has a word that is the fewest edits from another: the first such. The only error is want of memory.
-fn place_of_nearest(alloc: Global, types: &[TypeName], word: &str) -> Result<usize, AllocError>
+fn place_of_nearest(alloc: Global, types: &[NamedType], word: &str) -> Result<usize, AllocError>
     requires { 0 < length types.now }
-    ensures { IfOk result (λ best. IsNearest (map type_word types.now) word.now best) }
+    ensures { IfOk result (λ best. IsNearest (map word_of types.now) word.now best) }
 {
     let mut best = 0;
     let mut fewest = levenshtein(alloc, types[0].word(), word)?;

@@ -1,16 +1,19 @@
 //! The work of the program, over any reader and writers.
 
-ghost use Rattle.std.specs.Prelude.{◌≡◌, ◌≤◌, OnOk};
+ghost use Rattle.std.specs.Prelude.{◌≡◌, ◌≢◌, ◌≤◌, IfErr, OnOk};
 ghost use Rattle.std.specs.Io.KnownBytes.{Appends, Keeps};
 ghost use Rattle.per_lines.specs.Printing.{PrintsAnswer};
 ghost use Rattle.per_lines.specs.Words.{words};
+ghost use Rattle.show_lines.specs.Ends.{Ends, EndsAnswer, IsOfOutput};
 ghost use Rattle.show_lines.specs.Printing.{Prints};
 ghost use Rattle.show_lines.specs.Showing.{IsAnswer};
+ghost use Rattle.show_lines.specs.Told.{Tells, status_of};
+ghost use Rattle.show_lines.specs.declared.fault.Fault.{Fault as the_fault};
 
-use crate::arguments::{Request, Showing};
+use crate::arguments::{Extent, Request, Showing};
 use crate::fault::Fault;
 use crate::show::show;
-use per_lines::arguments::{Form, TypeName};
+use named_types::types::NamedType;
 use per_lines::fault;
 use per_lines::line::read_line;
 use per_lines::output::write;
@@ -38,6 +41,11 @@ pub fn run<R: BufRead, W: Write, F: Write>(
     ensures printed { result ≡ 0 →
         Prints (words arguments.now) (R.remaining input.old) (W.contents output.old) (W.contents output.new) }
     ensures silent { result ≡ 0 → Keeps (F.contents faults.old) (F.contents faults.new) }
+
+    // Another status is that of a fault that stands, whose line is all that `faults` gets.
+    ensures faulty { result ≢ 0 → (fault : the_fault) × (result ≡ status_of fault)
+        × Ends (words arguments.now) (R.remaining input.old) (W.contents output.old) (W.contents output.new) fault
+        × Tells fault (F.contents faults.old) (F.contents faults.new) }
 {
     match print_asked(alloc, arguments, input, output) {
         Ok(()) => 0,
@@ -52,17 +60,19 @@ fn print_asked<R: BufRead, W: Write>(
     input: &mut R,
     output: &mut W,
 ) -> Result<(), Fault>
-    ensures { OnOk result (
+    ensures ok { OnOk result (
         Prints (words arguments.now) (R.remaining input.old) (W.contents output.old) (W.contents output.new)) }
+    ensures err { IfErr result (
+        Ends (words arguments.now) (R.remaining input.old) (W.contents output.old) (W.contents output.new)) }
 {
     match Request::of_words(alloc, arguments)? {
         Request::Help => {
             let text = help(alloc)?;
             print(text.as_slice(), output)
         }
-        Request::Show(showing) => match showing.arguments.form {
-            Form::Lines => Ok(reply_to_lines(alloc, &showing, input, output)?),
-            Form::OneLine | Form::Zero | Form::As(_) => print_answer(alloc, showing, input, output),
+        Request::Show(showing) => match showing.extent {
+            Extent::FirstLine => print_answer(alloc, showing, input, output),
+            Extent::AllLines => Ok(reply_to_lines(alloc, &showing, input, output)?),
         },
     }
 }
@@ -73,7 +83,7 @@ fn help(alloc: Global) -> Result<Vec<u8>, AllocError> {
         alloc,
         b"per_show (aper|uper) TYPE [lines] [--pretty]\nReads a value in hexadecimal and prints it as JSON. TYPE:\n",
     )?;
-    for name in TypeName::all() {
+    for name in NamedType::all() {
         text.extend_from_slice(name.word().as_bytes())?;
         text.push(b'\n')?;
     }
@@ -87,7 +97,9 @@ fn print_answer<R: BufRead, W: Write>(
     input: &mut R,
     output: &mut W,
 ) -> Result<(), Fault>
-    ensures { OnOk result (PrintsAnswer (IsAnswer showing)
+    ensures ok { OnOk result (PrintsAnswer (IsAnswer showing)
+        (R.remaining input.old) (W.contents output.old) (W.contents output.new)) }
+    ensures err { IfErr result (EndsAnswer showing
         (R.remaining input.old) (W.contents output.old) (W.contents output.new)) }
 {
     let line = read_line(alloc, input).map_err(|error| fault::Fault::of_io(
@@ -100,7 +112,8 @@ fn print_answer<R: BufRead, W: Write>(
 
 /// Prints octets, through to where the output goes.
 fn print<W: Write>(octets: &[u8], output: &mut W) -> Result<(), Fault>
-    ensures { OnOk result (Appends (W.contents output.old) (W.contents output.new) octets.now) }
+    ensures ok { OnOk result (Appends (W.contents output.old) (W.contents output.new) octets.now) }
+    ensures err { IfErr result IsOfOutput }
 {
     write(octets, output).map_err(|error| fault::Fault::of_io(&error, fault::Fault::CannotWrite))?;
     Ok(())

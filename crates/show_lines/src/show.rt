@@ -1,22 +1,22 @@
 //! From the octets of a value to its JSON.
 
 ghost use Rattle.std.specs.Prelude.{◌≡◌, ◌⊎◌, IfOk, IfErr};
-ghost use Rattle.per_lines.specs.Recoding.{schema_of};
 ghost use Rattle.per_lines.specs.Showing.{AreShown};
 ghost use Rattle.rasn_below.specs.Rows.{variant_of};
 ghost use Rattle.rasn_per.specs.Complete.{basically};
 ghost use Rattle.per_lines.specs.declared.fault.Fault.TheVariants.{OutOfMemory};
 ghost use Rattle.per_located.specs.Placed.{IsPlaced, unplaced};
 ghost use Rattle.rasn_per.specs.Calls.{Decoded};
-ghost use Rattle.show_lines.specs.Showing.{AreTold, IsAnswer, IsLaidOut, IsRefusal, IsReply, IsUnanswered};
+ghost use Rattle.show_lines.specs.Layouts.{IsLaidOut};
+ghost use Rattle.show_lines.specs.Showing.{AreTold, IsAnswer, IsRefusal, IsReply, IsUnanswered};
 ghost use Rattle.show_lines.specs.declared.fault.Fault.TheVariants.{OfLines as lines_fault};
 
 use crate::arguments::{Layout, Showing};
 use crate::fault::Fault;
 use crate::layout::pretty;
-use per_lines::arguments::Arguments;
+use named_types::types::done;
 use per_lines::fault;
-use per_lines::named::{Work, done};
+use per_lines::named::Work;
 use per_lines::replies::Replies;
 use per_located::{Refusal, aper, uper};
 use rasn_below::codec::{Decode, Encode};
@@ -30,16 +30,11 @@ pub fn show(alloc: Global, showing: Showing, line: &[u8]) -> Result<Vec<u8>, Fau
     ensures err { IfErr result (λ f. IsUnanswered showing line.now f ⊎ (f ≡ lines_fault OutOfMemory)) }
 {
     let octets = hex::decode(alloc, line)?;
-    let Arguments {
-        codec,
-        type_name,
-        ..
-    } = showing.arguments;
     let octets = Octets {
-        codec,
+        codec: showing.codec,
         octets: octets.as_slice(),
     };
-    let text = done(alloc, type_name, &octets)?;
+    let text = done(alloc, showing.type_name, &octets)?;
     let mut answer = laid_out(alloc, showing.layout, text)?;
     answer.extend_from_slice(b"\n")?;
     Ok(answer)

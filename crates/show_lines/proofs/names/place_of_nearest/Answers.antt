@@ -1,7 +1,8 @@
 use Rattle.std.proofs.Common.{rules, ◌≡◌, ℕ, List, [], map, get_or, arith, sym, ap, ◌∙◌}
 use Rattle.std.proofs.lemmas.List.{get_or-map}
-use Rattle.per_lines.specs.Words.{type_word}
+use Rattle.named_types.specs.Types.{word_of}
 use Rattle.per_lines.specs.declared.arguments.TypeName.TheVariants.{Boolean}
+use Rattle.named_types.specs.declared.types.NamedType.TheVariants.{Sample}
 use Rattle.show_lines.specs.Nearest.{edits}
 use Rattle.show_lines.proofs.Nearest.{none-nearer}
 use Rattle.show_lines.proofs.names.place_of_nearest.Goals as goal
@@ -9,11 +10,11 @@ use Rattle.show_lines.proofs.names.place_of_nearest.Goals.{then-edits-fewest, el
 
 pub loop-place-preserved : goal.loop-place-preserved
 loop-place-preserved c =
-    let names : List (List ℕ) = map type_word c.args.types.now in
+    let names : List (List ℕ) = map word_of c.args.types.now in
     let l = c.loop-place in
     let is : c.in_ok-edits.edits ≡ edits (get_or names l.place []) c.args.word.now =
     c.in_ok-edits.ensures.value ∙ ap (λ n. edits n c.args.word.now)
-    (c.word-in-loop-place.ensures.word ∙ sym (get_or-map type_word c.args.types.now l.place Boolean [] c.loop-place-test.true)) in
+    (c.word-in-loop-place.ensures.word ∙ sym (get_or-map word_of c.args.types.now l.place (Sample Boolean) [] c.loop-place-test.true)) in
     elim c.if-edits-fewest.branch [
       | then-edits-fewest w ↦ (
         search rules,
