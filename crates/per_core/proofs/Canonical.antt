@@ -173,6 +173,7 @@ mutual
   canonical a u (Schema.octet_string size mark) v = sized_octets a size mark v
   canonical a u (Schema.bit_string size mark named) v = bits_within a size mark v
   canonical a u (Schema.char_string alphabet size mark) v = strings_within a alphabet size mark v
+  canonical a u (Schema.containing e) v = open_within a (canon a.variant e v) (basic_in a u e v) (canonical a u e v)
   canonical a u (Schema.list e size mark) v = list_within a e (basic_in a u e) size mark (canonical a u e) v
   canonical a u (Schema.set_of e size mark) v = bags_within a e (basic_in a u e) size mark (canonical a u e) v
   canonical a u (Schema.sequence o ps ext adds) v = fields_within a u o (tags ps) ext (members a.variant ps) (members a.variant adds) (rules_in a u ps) (rules_in a u adds) (paired a u ps) (paired a u adds) v

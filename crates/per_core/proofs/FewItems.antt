@@ -10,6 +10,7 @@ use Rattle.per_core.specs.Counts.{ItemKind, is_aligned}
 use Rattle.per_core.specs.Spellings.{Settings, Spelling, Then}
 use Rattle.per_core.proofs.LengthForms.{and_left, and_right}
 use Rattle.per_core.specs.FewItems.{item_count, most_items}
+use Rattle.per_core.proofs.HeldIn.{open_held}
 use Rattle.per_core.proofs.FewLengths.{last_few, fragment_few, then_length}
 
 module _ {X : Type 0} (a : Settings) (item : X → Spelling) where
@@ -94,6 +95,7 @@ items_few a u (Schema.items r e ext) v p b x = let f = ap item_count x.is in ome
 items_few a u (Schema.octet_string size mark) v p b x = let e = ap item_count x.is in let r = lengthy_few a _ size mark _ x.of p b x.spelled in omega arith
 items_few a u (Schema.bit_string size mark named) v p b x = let e = ap item_count x.is in let r = lengthy_few a _ size mark _ x.of p b x.spelled in omega arith
 items_few a u (Schema.char_string alphabet size mark) v p b x = let e = ap item_count x.is in let r = lengthy_few a _ size mark _ x.of p b x.spelled in omega arith
+items_few a u (Schema.containing e) v p b x = let y = open_held a (length b) (basic_in a u e v) p b (omega arith) x in let r = items_few a u e v y.at y.bits y.spelled in let l = y.fits in omega arith
 items_few a u (Schema.list e size mark) v p b x = let f = ap item_count x.is ∙ list_count x.of in let r = lengthy_few a _ size mark _ x.of p b x.spelled in omega arith
 items_few a u (Schema.set_of e size mark) v p b x = let f = ap item_count x.is ∙ bag_count x.of in let r = lengthy_few a _ size mark _ x.of p b x.spelled in omega arith
 items_few a u (Schema.sequence o ps ext adds) v p b x = let e = ap item_count x.is in omega arith

@@ -43,6 +43,7 @@ mutual
 
   -- all kinds
   pub few_within : (n m : ℕ) (a : Settings) (u : Bool) (s : Schema) (v : Value) → most_items m ≤ n → HeldIn m (basic_in a u s v) → HasAtMost n s v
+  few_within n m a u (Schema.containing e) v h x = few_within n m a u e v h (open_held a m (basic_in a u e v) x.at x.bits x.fits x.spelled)
   few_within n m a u (Schema.list e size mark) v h x =
       let y = x.spelled in
       let each = lengthy_held a m (basic_in a u e) size mark list_items y.of x.at x.bits x.fits y.spelled in

@@ -11,7 +11,7 @@ use Rattle.rasn_schema.specs.Orders.{ordered}
 use Rattle.rasn_schema.specs.Schemas.{tags, Schema, Presence}
 use Rattle.per_core.specs.Canon.{canon, members, Member, shown, flag, flagged, flags_of, bodies_of, bitmap_of, any_set, bitmap, opens_of, extension_bit, with_additions, record_of, chosen, choice_of, item_of, date_of, year_writer, in_range, year_of, char_writers, ascending, on_truth, on_nothing, on_whole, on_octets, on_bits, on_characters, on_item, on_day, on_elements, on_bag, on_fields, on_alternative}
 use Rattle.per_core.specs.Counts.{ItemKind, constrained_whole, in_fragments, determinant, fragment_sizes, counted_under, counted_in, counted, marked_form, padding_if, is_aligned, octet_writers, bit_writers, unconstrained_octets, counted_octets, number_under, number_form, open_bits, small, list_items, octet_items, bit_items}
-use Rattle.per_core.specs.Writers.{Writer, just, refused, ◌▹◌, go_on, join, one_by_one, padding, written_if}
+use Rattle.per_core.specs.Writers.{complete, Writer, just, refused, ◌▹◌, go_on, join, one_by_one, padding, written_if}
 
 pub record Periodic (w : Writer) : Type 0 where
   pub same : (p q : ℕ) → p % 8 ≡ q % 8 → w p ≡ w q
@@ -109,6 +109,11 @@ record_p : (a : Variant) (ext : Bool) (ms adds : List Member) (ss xs : List (Opt
 unfolding record_of
 record_p a ext ms adds ss xs = additions_p a ext adds xs (flags_of ms ss ▹ bodies_of ms ss) (bitmap_of adds xs)
 
+open_p : (a : Variant) (o : Option Bits) → Periodic (open_bits a o)
+unfolding open_bits
+open_p a None = refused_p
+open_p a (Some bits) = octets_p a (complete bits)
+
 choice_p : (a : Variant) (ext : Bool) (ms adds : List Member) (d : Side) (i : ℕ) (v : Value) → Periodic (choice_of a ext ms adds d i v)
 unfolding choice_of
 choice_p a ext ms adds root i v = then_p (constrained_whole a (length ms) i ▹ chosen ms i v) (extension_p ext false)
@@ -196,6 +201,7 @@ canon_p a (Schema.items r e ext) v = on_item_p (item_of a r e ext) (item_p a r e
 canon_p a (Schema.octet_string size mark) v = on_octets_p _ (λ os. counted_p a size mark octet_items (octet_writers os)) v
 canon_p a (Schema.bit_string size mark named) v = on_bits_p _ (λ bs. counted_p a size mark bit_items (bit_writers bs)) v
 canon_p a (Schema.char_string alphabet size mark) v = on_characters_p _ (string_p a alphabet size mark) v
+canon_p a (Schema.containing e) v = open_p a (canon a e v 0)
 canon_p a (Schema.list e size mark) v = on_elements_p _ (λ vs. counted_p a size mark list_items (map (canon a e) vs)) v
 canon_p a (Schema.set_of e size mark) v = on_bag_p _ (λ vs. counted_p a size mark list_items (ascending (map (canon a e) vs))) v
 canon_p a (Schema.sequence o ps ext adds) v = on_fields_p _ (λ r x. record_p a ext (ordered o (tags ps) (members a ps)) (members a adds) (ordered o (tags ps) r) x) v

@@ -349,6 +349,8 @@ mutual
   one_reading a (Schema.octet_string size mark) v w = sized_octets_value a size mark v w
   one_reading a (Schema.bit_string size mark named) v w = bits_value a size mark v w
   one_reading a (Schema.char_string alphabet size mark) v w = string_value a alphabet size mark v w
+  one_reading a (Schema.containing e) v w =
+      open_agree a (Fills a (basic a e v)) (Fills a (basic a e w)) (λ os x y. fills_agree a os (one_reading a e v w) x y)
   one_reading a (Schema.list e size mark) v w = list_value a (λ vs. elements (as_values vs)) (basic a e) size mark (one_reading a e) v w
   one_reading a (Schema.set_of e size mark) v w = list_value a bag_of (basic a e) size mark (one_reading a e) v w
   one_reading a (Schema.sequence o ps ext adds) v w =

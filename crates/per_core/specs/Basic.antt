@@ -376,6 +376,7 @@ unfoldable mutual
   basic_in a u (Schema.octet_string size mark) = As Value.octets (Counted a size mark octet_items octet)
   basic_in a u (Schema.bit_string size mark named) = As Value.bits (Counted a size mark bit_items bit)
   basic_in a u (Schema.char_string alphabet size mark) = As characters (String a alphabet size mark)
+  basic_in a u (Schema.containing e) = OpenOf a (basic_in a u e)
   basic_in a u (Schema.list e size mark) = As (λ vs. elements (as_values vs))
       (Counted a size mark list_items (basic_in a u e))
   basic_in a u (Schema.set_of e size mark) = As bag_of (Counted a size mark list_items (basic_in a u e))

@@ -266,6 +266,7 @@ unfoldable mutual
   canon a (Schema.bit_string size mark named) = on_bits (λ bs. counted a size mark bit_items (bit_writers bs))
   canon a (Schema.char_string alphabet size mark) =
       on_characters (λ cs. counted a size mark (char_items (char_width a alphabet)) (char_writers a alphabet cs))
+  canon a (Schema.containing e) = λ v. open_bits a (canon a e v 0)
   canon a (Schema.list e size mark) = on_elements (λ vs. counted a size mark list_items (map (canon a e) vs))
   canon a (Schema.set_of e size mark) = on_bag (λ vs. counted a size mark list_items (ascending (map (canon a e) vs)))
   canon a (Schema.sequence o ps ext adds) =

@@ -10,8 +10,9 @@ use Rattle.rasn_constraints.specs.Bounds.{Size}
 use Rattle.rasn_schema.specs.Schemas.{Presence, required, optional, group, default, Order, TagTree, Schema, Parts}
 use Rattle.rasn_schema.specs.Schemas.{no_parts, part}
 
--- the element's schema of a list or bag
+-- the schema of a list's or bag's elements, or of a value that is contained
 abbrev pub element_of : Schema → Schema
+element_of (Schema.containing e) = e
 element_of (Schema.list e size mark) = e
 element_of (Schema.set_of e size mark) = e
 element_of _ = Schema.cut
@@ -99,6 +100,7 @@ unfoldable mutual
   -- nothing else changes; none where an alternative or an item stands that it doesn't know. The newer schema comes
   -- first
   pub project : Schema → Schema → Value → Option Value
+  project (Schema.containing e) s = project e (element_of s)
   project (Schema.list e size mark) s = through_elements (project e (element_of s))
   project (Schema.set_of e size mark) s = through_bag (project e (element_of s))
   project (Schema.sequence o ps ext adds) s = through_fields (project_slots ps (root_of s))
@@ -138,6 +140,7 @@ unfoldable mutual
   -- X.680 52: what a newer reader sees of a value: every added part is absent or at its default, at every depth; none
   -- where an added part is required. The newer schema comes first
   pub widen : Schema → Schema → Value → Option Value
+  widen (Schema.containing e) s = widen e (element_of s)
   widen (Schema.list e size mark) s = through_elements (widen e (element_of s))
   widen (Schema.set_of e size mark) s = through_bag (widen e (element_of s))
   widen (Schema.sequence o ps ext adds) s = through_fields (widen_slots ps (root_of s))
@@ -161,6 +164,7 @@ unfoldable mutual
 -- the kinds in which no schema stands and nothing may be added
 abbrev pub IsPlain : Schema → Type 0
 IsPlain (Schema.items r e ext) = ext ≡ false
+IsPlain (Schema.containing e) = ⊥
 IsPlain (Schema.list e size mark) = ⊥
 IsPlain (Schema.set_of e size mark) = ⊥
 IsPlain (Schema.sequence o ps ext adds) = ⊥
@@ -188,6 +192,7 @@ mutual
   pub data Newer : Schema → Schema → Type 0 where
     unchanged : {s : Schema} → IsPlain s → Newer s s
     more_items : {r e e' : ℕ} → e ≤ e' → Newer (Schema.items r e' true) (Schema.items r e true)
+    newer_containing : {e e' : Schema} → Newer e' e → Newer (Schema.containing e') (Schema.containing e)
     newer_list : {e e' : Schema} {size : Size} {mark : Bool} → Newer e' e
         → Newer (Schema.list e' size mark) (Schema.list e size mark)
     newer_set_of : {e e' : Schema} {size : Size} {mark : Bool} → Newer e' e

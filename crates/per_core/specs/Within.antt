@@ -36,6 +36,7 @@ EachSlot P Q (Some v ∷ xs) = P v × Q xs
 unfoldable mutual
   -- X.691 11.9: a value has n items at most, and so has each value within it
   pub HasAtMost : ℕ → Schema → Value → Type 0
+  HasAtMost n (Schema.containing e) v = HasAtMost n e v
   HasAtMost n (Schema.list e size mark) v = (item_count v ≤ n) × EachElement (HasAtMost n e) v
   HasAtMost n (Schema.set_of e size mark) v = (item_count v ≤ n) × EachElement (HasAtMost n e) v
   HasAtMost n (Schema.sequence o ps ext adds) v = (item_count v ≤ n)

@@ -1,11 +1,11 @@
 -- Projection and widening at any depth that holds the newer value.
 use Rattle.std.proofs.Common.{◌≡◌, ◌↔◌, ◌⊎◌, inl, inr, refl, sym, ap, ap₂, ◌∙◌, ℕ, zero, suc, ◌+◌, Bool, false, List, [], ◌∷◌, ◌++◌, arith, Option, Some, None}
 use Rattle.rasn_types.specs.Values.{Value, elements, bag, bag_of, fields, alternative, root, added, as_values, values, slots}
-use Rattle.rasn_schema.specs.Depth.{meets_cut, slots_meet_cut, meets_cut_at, in_slots, in_elements, in_fields, in_alternative, any_of, CutOf, CutParts, alike, cut_list, cut_set_of, cut_sequence, cut_choice, no_cut, cut_part, Unfolds}
+use Rattle.rasn_schema.specs.Depth.{meets_cut, slots_meet_cut, meets_cut_at, in_slots, in_elements, in_fields, in_alternative, any_of, CutOf, CutParts, alike, cut_containing, cut_list, cut_set_of, cut_sequence, cut_choice, no_cut, cut_part, Unfolds}
 use Rattle.rasn_schema.specs.Schemas.{Schema, Parts}
 use Rattle.per_core.specs.Basic.{fills, fills_known, front, read}
 use Rattle.per_core.specs.Spellings.{Settings}
-use Rattle.per_core.specs.Versions.{project, project_slots, project_at, widen, slot_through, slots_through, through_elements, through_bag, through_fields, through_alternative, made, made_both, joined, all_of, IsPlain, Newer, NewerParts, NewerType, unchanged, more_items, newer_list, newer_set_of, newer_sequence, newer_choice, no_more, more_parts, also}
+use Rattle.per_core.specs.Versions.{project, project_slots, project_at, widen, slot_through, slots_through, through_elements, through_bag, through_fields, through_alternative, made, made_both, joined, all_of, IsPlain, Newer, NewerParts, NewerType, unchanged, more_items, newer_containing, newer_list, newer_set_of, newer_sequence, newer_choice, no_more, more_parts, also}
 use Rattle.per_core.proofs.LengthForms.{or_left, or_right}
 use Rattle.per_laws.proofs.Carry.{fills_carry}
 use Rattle.per_laws.proofs.Deeper.{deeper}
@@ -64,6 +64,9 @@ mutual
   pub project_alike : {s' s t' t : Schema} → Newer s' s → CutOf s' t' → CutOf s t → Alike (project s' s) (project t' t) (meets_cut s')
   project_alike (unchanged h) c d = plain_alike h c d
   project_alike (more_items h) (alike i) (alike j) = λ v m. refl
+  project_alike (newer_containing n) (alike i) d = absurd i
+  project_alike (newer_containing n) (cut_containing c) (alike i) = absurd i
+  project_alike (newer_containing n) (cut_containing c) (cut_containing d) = project_alike n c d
   project_alike (newer_list n) (alike i) d = absurd i
   project_alike (newer_list n) (cut_list c) (alike i) = absurd i
   project_alike (newer_list {e = e0} {e' = e1} n) (cut_list {t = f1} c) (cut_list {t = f0} d) = elements_alike (project e1 e0) (project f1 f0) (meets_cut e1) (project_alike n c d)

@@ -40,6 +40,10 @@ fills_carry a os h (inr x) = inr (h.carry 0 [] x.0, x.1)
 pub open_carry : (a : Settings) {C D : List ℕ → Type 0} → ((os : List ℕ) → C os → D os) → Carry (Open a C) (Open a D)
 open_carry a h = record { carry = λ p b x. record { octets = x.octets; are = h x.octets x.are; spelled = x.spelled } }
 
+-- a value in an open type
+pub contained_carry : {f g : Spelling} (a : Settings) → Carry f g → Carry (Open a (Fills a f)) (Open a (Fills a g))
+contained_carry a h = open_carry a (λ os y. fills_carry a os h y)
+
 -- lists, whose members are carried one by one
 module _ {X Y : Type 0} (R : X → Y → Type 0) (f : X → Spelling) (g : Y → Spelling) (each : (x : X) (y : Y) → R x y → Carry (f x) (g y)) where
   zip-length : (xs : List X) (ys : List Y) → Zip R xs ys → length xs ≡ length ys

@@ -3,7 +3,7 @@ use Rattle.std.proofs.Common.{◌≡◌, refl, sym, ap, ◌∙◌, ℕ, zero, su
 use Rattle.rasn_types.specs.Values.{Value, elements, bag, bag_of, fields, alternative, root, added, as_values, as_slots, values, slots}
 use Rattle.rasn_types.proofs.Values.{slots-as_slots, values-as_values}
 use Rattle.rasn_schema.specs.Schemas.{Schema, Parts}
-use Rattle.per_core.specs.Versions.{project, project_slots, project_at, slot_through, slots_through, through_elements, through_bag, through_fields, through_alternative, through_item, made, made_both, joined, all_of, IsPlain, Newer, NewerParts, unchanged, more_items, newer_list, newer_set_of, newer_sequence, newer_choice, no_more, more_parts, also}
+use Rattle.per_core.specs.Versions.{project, project_slots, project_at, slot_through, slots_through, through_elements, through_bag, through_fields, through_alternative, through_item, made, made_both, joined, all_of, IsPlain, Newer, NewerParts, unchanged, more_items, newer_containing, newer_list, newer_set_of, newer_sequence, newer_choice, no_more, more_parts, also}
 use Rattle.per_core.proofs.Bags.{bag_source, bag_becomes, joined_of, sort}
 use Rattle.per_laws.proofs.Older.{made_of, made_both_of, slot_some}
 use Rattle.per_laws.proofs.Takes.{some_is}
@@ -99,6 +99,7 @@ item_same n _ w e = absurd (cc)
 plain_same : (s : Schema) → IsPlain s → (v w : Value) → project s s v ≡ Some w → w ≡ v
 unfolding project
 plain_same (Schema.items r e ext) h v w k = item_same e v w k
+plain_same (Schema.containing e) h v w k = absurd h
 plain_same (Schema.list e size mark) h v w k = absurd h
 plain_same (Schema.set_of e size mark) h v w k = absurd h
 plain_same (Schema.sequence o ps ext adds) h v w k = absurd h
@@ -112,6 +113,8 @@ mutual
   in_steps (unchanged {s = t} h) m = λ v w e. ap (project t _) (plain_same t h v w e)
   in_steps (more_items k) (unchanged h) = λ v w e. absurd (cc)
   in_steps (more_items {e = e1} k) (more_items {e = e0} l) = λ v w e. ap (through_item e0) (item_same e1 v w e)
+  in_steps (newer_containing n) (unchanged h) = absurd h
+  in_steps (newer_containing n) (newer_containing m) = in_steps n m
   in_steps (newer_list n) (unchanged h) = absurd h
   in_steps (newer_list {e = e1} {e' = e2} n) (newer_list {e = e0} m) = elements_steps (project e2 e1) (project e1 e0) (project e2 e0) (in_steps n m)
   in_steps (newer_set_of n) (unchanged h) = absurd h

@@ -2,7 +2,7 @@
 use Rattle.std.proofs.Common.{◌≡◌, refl, sym, ap, ◌∙◌, subst, ℕ, zero, suc, ◌+◌, Bool, true, false, List, [], ◌∷◌, length, arith, Option}
 use Rattle.rasn_types.specs.Values.{sorted, before, code, Value, elements, bag, bag_of, fields, alternative, Side, root, added, as_values, as_slots, values, slots}
 use Rattle.rasn_types.proofs.Values.{slots-as_slots, values-as_values}
-use Rattle.rasn_schema.specs.Depth.{meets_cut, slots_meet_cut, meets_cut_at, in_elements, any_of, IsLeaf, CutOf, CutParts, cut_here, alike, cut_list, cut_set_of, cut_sequence, cut_choice, no_cut, cut_part}
+use Rattle.rasn_schema.specs.Depth.{meets_cut, slots_meet_cut, meets_cut_at, in_elements, any_of, IsLeaf, CutOf, CutParts, cut_here, alike, cut_containing, cut_list, cut_set_of, cut_sequence, cut_choice, no_cut, cut_part}
 use Rattle.rasn_schema.specs.Orders.{ordered}
 use Rattle.rasn_schema.specs.Schemas
 use Rattle.rasn_constraints.specs.Bounds.{Size}
@@ -14,7 +14,7 @@ use Rattle.per_core.proofs.Bags.{any_in_bag}
 use Rattle.per_core.proofs.LengthForms.{Zip, or_left, or_right}
 use Rattle.per_core.proofs.Records.{SlotRel, Along}
 use Rattle.per_core.proofs.Readings.{length-rules-in}
-use Rattle.per_laws.proofs.Carry.{Carry, kept, Leads, AllLead}
+use Rattle.per_laws.proofs.Carry.{Carry, kept, Leads, AllLead, contained_carry}
 use Rattle.per_laws.proofs.Carrying.{lengthy_as, additions_step, record_as, choice_as, rules_on}
 use Rattle.per_laws.proofs.Older.{slot_meets}
 use Rattle.per_laws.proofs.Takes.{slot_meets_not}
@@ -85,6 +85,7 @@ on_either P x y added = y
 
 leaf_let : (a : Settings) (u' u : Bool) (s : Schema) → IsLeaf s → (v : Value) → Carry (basic_in a u' s v) (basic_in a u s v)
 unfolding basic_in
+leaf_let a u' u (Schema.containing e) h v = absurd h
 leaf_let a u' u (Schema.list e size mark) h v = absurd h
 leaf_let a u' u (Schema.set_of e size mark) h v = absurd h
 leaf_let a u' u (Schema.sequence o ps ext adds) h v = absurd h
@@ -114,6 +115,7 @@ mutual
   pub deeper : (a : Settings) (u' u : Bool) → Lets u' u → {s t : Schema} → CutOf s t → (v : Value) → Carry (basic_in a u' s v) (basic_in a u t v)
   deeper a u' u l cut_here v = record { carry = λ p b x. absurd x }
   deeper a u' u l (alike {s = s} h) v = leaf_let a u' u s h v
+  deeper a u' u l (cut_containing c) v = contained_carry a (deeper a u' u l c v)
   deeper a u' u l (cut_list {s = s} {t = t} {size = size} {mark = mark} c) v = list_kept Nothing (basic_in a u' s) (basic_in a u t) (λ w m. deeper a u' u l c w) a size mark v (none_in v)
   deeper a u' u l (cut_set_of {s = s} {t = t} {size = size} {mark = mark} c) v = bag_kept Nothing (basic_in a u' s) (basic_in a u t) (λ w m. deeper a u' u l c w) a size mark v (none_in v)
   deeper a u' u l (cut_sequence {o = o} {ext = ext} {ps = ps} {qs = qs} {adds = adds} {bdds = bdds} c d) v =
@@ -166,6 +168,7 @@ mutual
   pub shallower : (a : Settings) (u : Bool) {s t : Schema} → CutOf s t → (v : Value) → meets_cut s v ≡ false → Carry (basic_in a u t v) (basic_in a u s v)
   shallower a u cut_here v m = absurd (cc)
   shallower a u (alike h) v m = kept
+  shallower a u (cut_containing c) v m = contained_carry a (shallower a u c v m)
   shallower a u (cut_list {s = s} {t = t} {size = size} {mark = mark} c) v m = list_kept (meets_cut s) (basic_in a u t) (basic_in a u s) (λ w m. shallower a u c w m) a size mark v m
   shallower a u (cut_set_of {s = s} {t = t} {size = size} {mark = mark} c) v m = bag_kept (meets_cut s) (basic_in a u t) (basic_in a u s) (λ w m. shallower a u c w m) a size mark v m
   shallower a u (cut_sequence {o = o} {ext = ext} {ps = ps} {qs = qs} {adds = adds} {bdds = bdds} c d) v m =
@@ -210,6 +213,7 @@ mutual
 -- every tree is itself, cut off nowhere
 mutual
   pub uncut : (s : Schema) → CutOf s s
+  uncut (Schema.containing e) = cut_containing (uncut e)
   uncut (Schema.list e size mark) = cut_list (uncut e)
   uncut (Schema.set_of e size mark) = cut_set_of (uncut e)
   uncut (Schema.sequence o ps ext adds) = cut_sequence (uncut_parts ps) (uncut_parts adds)

@@ -2,7 +2,7 @@
 use Rattle.std.proofs.Common.{◌≡◌, refl, ℕ, zero, suc, ◌<◌, Bool, false, arith, Option, List}
 use Rattle.rasn_types.specs.Values.{Value, elements, bag, fields, alternative, root, added, Values, no_values, value, values, Slots, no_slots, absent, there, slots}
 use Rattle.rasn_schema.specs.Schemas.{Schema, Parts, no_parts, part}
-use Rattle.rasn_schema.specs.Depth.{meets_cut, slots_meet_cut, meets_cut_at, in_slots, any_of, CutOf, CutParts, cut_here, alike, cut_list, cut_set_of, cut_sequence, cut_choice, no_cut, cut_part, Unfolds}
+use Rattle.rasn_schema.specs.Depth.{meets_cut, slots_meet_cut, meets_cut_at, in_slots, any_of, CutOf, CutParts, cut_here, alike, cut_containing, cut_list, cut_set_of, cut_sequence, cut_choice, no_cut, cut_part, Unfolds}
 use Rattle.per_laws.proofs.Transitive.{or_both}
 use Rattle.per_laws.specs.Levels.{levels_of, levels_of_values, levels_of_slots, Below, Deep, DeepParts}
 
@@ -24,6 +24,7 @@ mutual
   pub meets_none : (s : Schema) (n : ℕ) → Deep n s → (v : Value) → levels_of v < n → meets_cut s v ≡ false
   meets_none Schema.cut zero d v l = absurd (omega arith)
   meets_none Schema.cut (suc n) d v l = absurd d
+  meets_none (Schema.containing e) n d v l = meets_none e n d v l
   meets_none (Schema.list e size mark) zero d v l = absurd (omega arith)
   meets_none (Schema.list e size mark) (suc n) d (elements vs) l = any_below (meets_cut e) n (meets_none e n d) vs (omega arith)
   meets_none (Schema.list e size mark) (suc n) d (bag vs) l = any_below (meets_cut e) n (meets_none e n d) vs (omega arith)
@@ -64,6 +65,7 @@ deep_family_unfolds T g d = record {
 -- every tree is no level deep
 nothing_deep : (s : Schema) → Deep 0 s
 nothing_deep Schema.cut = tt
+nothing_deep (Schema.containing e) = nothing_deep e
 nothing_deep (Schema.list e size mark) = tt
 nothing_deep (Schema.set_of e size mark) = tt
 nothing_deep (Schema.sequence o ps ext adds) = tt
@@ -77,9 +79,10 @@ below f g h (suc n) x = h n x
 
 mutual
   as_deep : {s t : Schema} → CutOf s t → (n : ℕ) → Deep n s → Deep n t
-  as_deep cut_here zero d = nothing_deep _
+  as_deep (cut_here {t = t}) zero d = nothing_deep t
   as_deep cut_here (suc n) d = absurd d
   as_deep (alike h) n d = d
+  as_deep (cut_containing c) n d = as_deep c n d
   as_deep (cut_list {s = s} {t = t} c) n d = below (λ m. Deep m s) (λ m. Deep m t) (as_deep c) n d
   as_deep (cut_set_of {s = s} {t = t} c) n d = below (λ m. Deep m s) (λ m. Deep m t) (as_deep c) n d
   as_deep (cut_sequence {ps = ps} {qs = qs} {adds = adds} {bdds = bdds} c d) n e =

@@ -6,7 +6,7 @@ use Rattle.rasn_types.specs.Values.{Value}
 use Rattle.rasn_types.specs.Bits.{Bits}
 use Rattle.rasn_types.specs.Variants.{Variant}
 use Rattle.rasn_schema.specs.Schemas.{Presence, required, optional, group, default, Schema, Parts}
-use Rattle.rasn_schema.specs.Depth.{in_elements, in_fields, in_alternative, in_slots, CutOf, CutParts, cut_here, alike, cut_list, cut_set_of, cut_sequence, cut_choice, no_cut, cut_part, Unfolds}
+use Rattle.rasn_schema.specs.Depth.{in_elements, in_fields, in_alternative, in_slots, CutOf, CutParts, cut_here, alike, cut_containing, cut_list, cut_set_of, cut_sequence, cut_choice, no_cut, cut_part, Unfolds}
 use Rattle.per_core.specs.Spellings.{Settings}
 use Rattle.per_core.specs.Canon.{canon, bytes, completed}
 use Rattle.per_core.specs.Basic.{basic, fills, read}
@@ -18,7 +18,7 @@ use Rattle.per_laws.proofs.Deeper.{deeper, uncut}
 use Rattle.per_laws.proofs.Types.{up_to}
 use Rattle.per_laws.specs.Written.{is_written, writes_cut, slots_write_cut, writes_cut_at}
 use Rattle.per_laws.proofs.Same.{same_writer}
-use Rattle.per_laws.proofs.Reading.{SameKind, Reads, ReadsParts, past_cut, one_leaf, of_list, of_set, of_sequence, of_choice, none, both, reads_kept}
+use Rattle.per_laws.proofs.Reading.{SameKind, Reads, ReadsParts, past_cut, one_leaf, of_containing, of_list, of_set, of_sequence, of_choice, none, both, reads_kept}
 
 pub same_kind : (p : Presence) → SameKind p p
 same_kind required = tt
@@ -30,6 +30,7 @@ mutual
   pub cut_reads : {s t : Schema} → CutOf s t → Reads s t
   cut_reads cut_here = past_cut
   cut_reads (alike h) = one_leaf h
+  cut_reads (cut_containing c) = of_containing (cut_reads c)
   cut_reads (cut_list c) = of_list (cut_reads c)
   cut_reads (cut_set_of c) = of_set (cut_reads c)
   cut_reads (cut_sequence c d) = of_sequence (cut_parts c) (cut_parts d)
@@ -46,6 +47,7 @@ mutual
   pub own_test : {s t : Schema} → CutOf s t → writes_cut s t ≡ writes_cut s s
   own_test cut_here = refl
   own_test (alike h) = refl
+  own_test (cut_containing c) = own_test c
   own_test (cut_list c) = ap in_elements (own_test c)
   own_test (cut_set_of c) = ap in_elements (own_test c)
   own_test (cut_sequence c d) = ap₂ in_fields (own_slots c) (own_slots d)

@@ -6,24 +6,24 @@ use Rattle.rasn_types.proofs.Values.{slots-as_slots, values-as_values}
 use Rattle.rasn_constraints.specs.Bounds.{Size}
 use Rattle.rasn_schema.specs.Schemas.{tags, count, Presence, Order, Schema, Parts, no_parts, part}
 use Rattle.rasn_schema.specs.Orders.{ordered}
-use Rattle.rasn_schema.specs.Depth.{meets_cut, slots_meet_cut, meets_cut_at, any_of, CutOf, CutParts, cut_here, alike, cut_list, cut_set_of, cut_sequence, cut_choice, no_cut, cut_part}
+use Rattle.rasn_schema.specs.Depth.{meets_cut, slots_meet_cut, meets_cut_at, any_of, CutOf, CutParts, cut_here, alike, cut_containing, cut_list, cut_set_of, cut_sequence, cut_choice, no_cut, cut_part}
 use Rattle.per_core.specs.Spellings.{Settings}
 use Rattle.per_core.specs.Basic.{As, Additions_in, Chosen, basic, basic_in, rules}
-use Rattle.per_core.specs.Versions.{project, project_slots, project_at, slot_through, all_of, NewerPresence, Newer, NewerParts, unchanged, newer_list, newer_set_of, newer_sequence, newer_choice, no_more, more_parts, also}
+use Rattle.per_core.specs.Versions.{project, project_slots, project_at, slot_through, all_of, NewerPresence, Newer, NewerParts, unchanged, newer_containing, newer_list, newer_set_of, newer_sequence, newer_choice, no_more, more_parts, also}
 use Rattle.per_core.proofs.LengthForms.{Zip, or_left, or_right}
 use Rattle.per_core.proofs.Records.{SlotRel, Along}
 use Rattle.per_core.proofs.Readings.{length-rules}
 use Rattle.per_core.proofs.Bags.{bag_source, any_in_bag, joined_of}
 use Rattle.per_core.proofs.Canonical.{canonical}
 use Rattle.per_laws.proofs.Older.{made_of, made_both_of, slot_some, slot_meets, same_tags}
-use Rattle.per_laws.proofs.Carry.{Carry, kept, Leads, AllLead, skipped_carry, carries}
+use Rattle.per_laws.proofs.Carry.{Carry, kept, Leads, AllLead, skipped_carry, carries, contained_carry}
 use Rattle.per_laws.proofs.Carrying.{lengthy_as, additions_step, record_as, choice_as, rules_on}
 use Rattle.per_laws.proofs.Deeper.{same_cut_tags, cut_count}
 use Rattle.per_laws.proofs.Held.{older_takes}
 use Rattle.per_laws.proofs.Takes.{flags_newer_carry, slot_meets_not, zip_first, same_count, left_out_drops}
 use Rattle.per_laws.specs.Written.{is_written, writes_cut, slots_write_cut, writes_cut_at}
 use Rattle.per_laws.proofs.Same.{and_false, slot_written_cut, slot_cut_not}
-use Rattle.per_laws.proofs.Layers.{Writes, written_rules, chosen_rules, list_layer, bag_layer, record_layer, choice_layer}
+use Rattle.per_laws.proofs.Layers.{Writes, written_rules, chosen_rules, list_layer, bag_layer, record_layer, choice_layer, contained_layer}
 
 -- of a slot of the writer t and one of the reader, whose tree s is the older o cut off
 abbrev Drops : Presence → Schema → Schema → Schema → SlotRel
@@ -167,6 +167,8 @@ mutual
   pub older_writes : (a : Settings) {t o s : Schema} → CutOf s o → Newer t o → (v w : Value) → DropsValue t o s v w → Carry (Writes a t v) (basic a s w)
   older_writes a cut_here n v w h = absurd (let x : true ≡ false = h.2 in cc)
   older_writes a (alike l) n v w h = leaf_drops a n v w h
+  older_writes a (cut_containing c) (unchanged l) v w h = absurd l
+  older_writes a (cut_containing c) (newer_containing {e' = t} n) v w h = carries (contained_layer a t v) (contained_carry a (older_writes a c n v w h))
   older_writes a (cut_list c) (unchanged l) v w h = absurd l
   older_writes a (cut_list {s = s} {t = o} {size = size} {mark = mark} c) (newer_list {e' = t} n) v w h = list_drops a t o s size mark (older_writes a c n) v w h
   older_writes a (cut_set_of c) (unchanged l) v w h = absurd l

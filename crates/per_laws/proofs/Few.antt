@@ -17,7 +17,7 @@ use Rattle.per_core.proofs.Records.{SlotRel, Kin, AllKin, Along, fields_agree}
 use Rattle.per_core.proofs.Bags.{any_in_bag}
 use Rattle.per_core.proofs.Readings.{one_reading, ordered-kin, along-listed, same_flags, same_bit, root_added}
 use Rattle.per_laws.proofs.Transitive.{or_both}
-use Rattle.rasn_schema.specs.Levels.{TakesLevel, TakesNone, ToLevels, PartsToLevels, to_leaf, to_date, no_date, still_cut, no_level, to_list, to_set_of, to_sequence, to_choice, to_no_parts, to_part}
+use Rattle.rasn_schema.specs.Levels.{TakesLevel, TakesNone, ToLevels, PartsToLevels, to_leaf, to_date, no_date, still_cut, no_level, to_containing, to_list, to_set_of, to_sequence, to_choice, to_no_parts, to_part}
 use Rattle.per_laws.specs.Levels.{levels_of, levels_of_values, levels_of_slots}
 use Rattle.per_laws.specs.Written.{is_written, writes_cut, slots_write_cut, writes_cut_at}
 use Rattle.per_laws.proofs.Same.{slot_written_cut}
@@ -143,6 +143,7 @@ unfolding basic_in levels_of
 date_levels a n h v w = record { agree = λ p b c s t x y u. ((λ l. let k = ap levels_of x.is in absurd (omega arith)), ((one_reading a Schema.date v w).agree p b c s t x y u).1) }
 
 pub none_is_leaf : (s : Schema) → TakesNone s → IsLeaf s
+none_is_leaf (Schema.containing e) h = absurd h
 none_is_leaf (Schema.list e size mark) h = absurd h
 none_is_leaf (Schema.set_of e size mark) h = absurd h
 none_is_leaf (Schema.sequence o ps ext adds) h = absurd h
@@ -160,6 +161,7 @@ mutual
   few_written a (no_date {n = n} h) v w = date_levels a n h v w
   few_written a (still_cut h) v w = never_agree
   few_written a (no_level {t = t} h) v w = some_levels a t h v w
+  few_written a (to_containing {t = t} c) v w = open_agree a (Fills a (basic a t v)) (Fills a (basic a t w)) (λ os x y. fills_agree a os (few_written a c v w) x y)
   few_written a (to_list {n = n} {s = s} {t = t} {size = size} {mark = mark} c) v w = list_few a n s t size mark (few_written a c) v w
   few_written a (to_set_of {n = n} {s = s} {t = t} {size = size} {mark = mark} c) v w = bag_few a n s t size mark (few_written a c) v w
   few_written a (to_sequence {n = n} {o = o} {ext = ext} {ps = ps} {qs = qs} {adds = adds} {bdds = bdds} c d) v w = record_few a n o ext ps qs adds bdds (few_kin a c) (few_kin a d) v w

@@ -6,7 +6,7 @@ use Rattle.rasn_schema.specs.Depth.{meets_cut}
 use Rattle.per_core.specs.Spellings.{Settings}
 use Rattle.per_core.specs.Canon.{bytes}
 use Rattle.per_core.specs.Basic.{read}
-use Rattle.per_core.specs.Versions.{project, widen, Newer, NewerParts, unchanged, more_items, newer_list, newer_set_of, newer_sequence, newer_choice, no_more, more_parts, also, NewerType}
+use Rattle.per_core.specs.Versions.{project, widen, Newer, NewerParts, unchanged, more_items, newer_containing, newer_list, newer_set_of, newer_sequence, newer_choice, no_more, more_parts, also, NewerType}
 use Rattle.per_core.proofs.LengthForms.{or_left, or_right}
 use Rattle.per_laws.proofs.Transitive.{or_both}
 use Rattle.per_laws.proofs.Types.{elements_less, fields_less, alternative_less}
@@ -29,6 +29,7 @@ mutual
   pub older_less : {t s : Schema} → Newer t s → (v : Value) → writes_cut t t v ≡ false → writes_cut s t v ≡ false
   older_less (unchanged h) v m = m
   older_less (more_items h) v m = refl
+  older_less (newer_containing n) v m = older_less n v m
   older_less (newer_list {e = s} {e' = t} n) v m = elements_less (writes_cut t t) (writes_cut s t) (older_less n) v m
   older_less (newer_set_of {e = s} {e' = t} n) v m = elements_less (writes_cut t t) (writes_cut s t) (older_less n) v m
   older_less (newer_sequence {ps = ss} {ps' = ts} {adds = sds} {adds' = tds} n ns) v m = fields_less (slots_write_cut ts ts) (slots_write_cut ss ts) (slots_write_cut tds tds) (slots_write_cut sds tds) (older_slots n) (older_slots ns) v m
@@ -54,6 +55,7 @@ mutual
   pub newer_less : {s t : Schema} → Newer s t → (v : Value) → writes_cut t t v ≡ false → writes_cut s t v ≡ false
   newer_less (unchanged h) v m = m
   newer_less (more_items h) v m = refl
+  newer_less (newer_containing n) v m = newer_less n v m
   newer_less (newer_list {e = t} {e' = s} n) v m = elements_less (writes_cut t t) (writes_cut s t) (newer_less n) v m
   newer_less (newer_set_of {e = t} {e' = s} n) v m = elements_less (writes_cut t t) (writes_cut s t) (newer_less n) v m
   newer_less (newer_sequence {ps = ts} {ps' = ss} {adds = tds} {adds' = sds} n ns) v m = fields_less (slots_write_cut ts ts) (slots_write_cut ss ts) (slots_write_cut tds tds) (slots_write_cut sds tds) (newer_slots n) (newer_slots ns) v m

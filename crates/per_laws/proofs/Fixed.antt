@@ -2,7 +2,7 @@
 use Rattle.std.proofs.Common.{◌≡◌, refl, sym, ap, ◌∙◌, subst, ℕ, zero, suc, Bool, true, false, cond, List, [], ◌∷◌, Option, Some, None}
 use Rattle.rasn_types.specs.Values.{Value, put, sorted, before, code, elements, bag, bag_of, fields, alternative, root, added, as_values, as_slots, values, slots}
 use Rattle.rasn_types.proofs.Values.{slots-as_slots, values-as_values, as_values-values}
-use Rattle.rasn_schema.specs.Depth.{CutOf, CutParts, cut_here, alike, cut_list, cut_set_of, cut_sequence, cut_choice, no_cut, cut_part}
+use Rattle.rasn_schema.specs.Depth.{CutOf, CutParts, cut_here, alike, cut_containing, cut_list, cut_set_of, cut_sequence, cut_choice, no_cut, cut_part}
 use Rattle.rasn_schema.specs.Schemas.{Schema, Parts, no_parts, part}
 use Rattle.per_core.specs.Versions.{project, project_slots, project_at, slot_through, slots_through, through_elements, through_bag, through_fields, through_alternative, through_item, made, made_both, joined, all_of}
 use Rattle.per_core.proofs.Bags.{joined_of, sort}
@@ -16,6 +16,7 @@ mutual
   unfolding project Steps StepSlots StepAt
 
   again : (s : Schema) → Steps (project s s) (project s s) (project s s)
+  again (Schema.containing e) = again e
   again (Schema.list e size mark) = elements_steps (project e e) (project e e) (project e e) (again e)
   again (Schema.set_of e size mark) = bags_steps (project e e) (project e e) (project e e) (again e)
   again (Schema.sequence o ps ext adds) =
@@ -145,6 +146,7 @@ mutual
   pub kept_shallower : {s t : Schema} → CutOf s t → Keeps (project t t) (project s s)
   kept_shallower cut_here = λ v e. refl
   kept_shallower (alike h) = λ v e. e
+  kept_shallower (cut_containing c) = kept_shallower c
   kept_shallower (cut_list {s = s} {t = t} c) = elements_keep (project t t) (project s s) (kept_shallower c)
   kept_shallower (cut_set_of {s = s} {t = t} c) = bags_keep (project t t) (project s s) (again t) (kept_shallower c)
   kept_shallower (cut_sequence {ps = ps} {qs = qs} {adds = adds} {bdds = bdds} c d) =

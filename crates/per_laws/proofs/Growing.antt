@@ -6,17 +6,17 @@ use Rattle.rasn_types.proofs.Values.{slots-as_slots, values-as_values}
 use Rattle.rasn_constraints.specs.Bounds.{Size}
 use Rattle.rasn_schema.specs.Schemas.{tags, count, Presence, Order, Schema, Parts, part}
 use Rattle.rasn_schema.specs.Orders.{ordered}
-use Rattle.rasn_schema.specs.Depth.{meets_cut, slots_meet_cut, meets_cut_at, in_slots, any_of, CutOf, CutParts, cut_here, alike, cut_list, cut_set_of, cut_sequence, cut_choice, no_cut, cut_part}
+use Rattle.rasn_schema.specs.Depth.{meets_cut, slots_meet_cut, meets_cut_at, in_slots, any_of, CutOf, CutParts, cut_here, alike, cut_containing, cut_list, cut_set_of, cut_sequence, cut_choice, no_cut, cut_part}
 use Rattle.per_core.specs.Spellings.{Settings}
 use Rattle.per_core.specs.Basic.{IsLeftOut, As, Unknown_in, Additions_in, Chosen, basic_in, rules_in}
-use Rattle.per_core.specs.Versions.{widen, widen_slots, widen_at, filled_in, all_filled_in, slot_through, all_of, NewerPresence, Newer, NewerParts, unchanged, newer_list, newer_set_of, newer_sequence, newer_choice, no_more, more_parts, also}
+use Rattle.per_core.specs.Versions.{widen, widen_slots, widen_at, filled_in, all_filled_in, slot_through, all_of, NewerPresence, Newer, NewerParts, unchanged, newer_containing, newer_list, newer_set_of, newer_sequence, newer_choice, no_more, more_parts, also}
 use Rattle.per_core.proofs.LengthForms.{or_left, or_right}
 use Rattle.per_core.proofs.Records.{SlotRel, Along}
 use Rattle.per_core.proofs.Readings.{length-rules-in}
 use Rattle.per_core.proofs.Bags.{bag_source, any_in_bag, joined_of}
 use Rattle.per_core.proofs.Canonical.{canonical}
 use Rattle.per_laws.proofs.Older.{made_of, made_both_of, slot_some, slot_meets, same_tags}
-use Rattle.per_laws.proofs.Carry.{Carry, kept, Leads, AllLead, carries}
+use Rattle.per_laws.proofs.Carry.{Carry, kept, Leads, AllLead, carries, contained_carry}
 use Rattle.per_laws.proofs.Carrying.{lengthy_as, additions_step, record_as, choice_as, rules_on}
 use Rattle.per_laws.proofs.Deeper.{same_cut_tags, cut_count}
 use Rattle.per_laws.proofs.Takes.{slot_meets_not, same_count}
@@ -24,7 +24,7 @@ use Rattle.per_laws.proofs.Held.{newer_takes}
 use Rattle.per_laws.proofs.Widens.{flags_older_carry, zip_second, filled_left, left_out_grows}
 use Rattle.per_laws.specs.Written.{is_written, writes_cut, slots_write_cut, writes_cut_at}
 use Rattle.per_laws.proofs.Same.{and_false, slot_written_cut, slot_cut_not}
-use Rattle.per_laws.proofs.Layers.{Writes, written_rules, chosen_rules, list_layer, bag_layer, record_layer, choice_layer}
+use Rattle.per_laws.proofs.Layers.{Writes, written_rules, chosen_rules, list_layer, bag_layer, record_layer, choice_layer, contained_layer}
 use Rattle.per_laws.proofs.Dropping.{zip_also, length_written, length_chosen}
 
 -- of a slot of the writer t and one of the reader, whose tree s is the newer o cut off
@@ -173,6 +173,8 @@ mutual
   pub newer_writes : (a : Settings) {t o s : Schema} → CutOf s o → Newer o t → (v w : Value) → GrowsValue t o s v w → Carry (Writes a t v) (basic_in a false s w)
   newer_writes a cut_here n v w h = absurd (let x : true ≡ false = h.2 in cc)
   newer_writes a (alike l) n v w h = leaf_grows a n v w h
+  newer_writes a (cut_containing c) (unchanged l) v w h = absurd l
+  newer_writes a (cut_containing c) (newer_containing {e = t} n) v w h = carries (contained_layer a t v) (contained_carry a (newer_writes a c n v w h))
   newer_writes a (cut_list c) (unchanged l) v w h = absurd l
   newer_writes a (cut_list {s = s} {t = o} {size = size} {mark = mark} c) (newer_list {e = t} n) v w h = list_grows a t o s size mark (newer_writes a c n) v w h
   newer_writes a (cut_set_of c) (unchanged l) v w h = absurd l

@@ -2,14 +2,14 @@
 -- trees that hold the newer value, of which the readers' trees are cuts.
 use Rattle.std.proofs.Common.{◌≡◌, ◌⊎◌, inl, inr, refl, sym, ap, ◌∙◌, subst, ℕ, zero, suc, Bool, true, false, List, [], ◌∷◌, length, arith, Option, Some, None}
 use Rattle.rasn_types.specs.Values.{Value}
-use Rattle.rasn_schema.specs.Depth.{meets_cut, slots_meet_cut, meets_cut_at, in_slots, CutOf, CutParts, cut_here, alike, cut_list, cut_set_of, cut_sequence, cut_choice, no_cut, cut_part}
+use Rattle.rasn_schema.specs.Depth.{meets_cut, slots_meet_cut, meets_cut_at, in_slots, CutOf, CutParts, cut_here, alike, cut_containing, cut_list, cut_set_of, cut_sequence, cut_choice, no_cut, cut_part}
 use Rattle.rasn_schema.specs.Schemas.{count, Order, Presence, TagTree, Schema, Parts, part}
 use Rattle.rasn_constraints.specs.Bounds.{Size}
 use Rattle.per_core.specs.Basic.{Additions_in, Chosen, basic, basic_in, rules, rules_in}
 use Rattle.per_core.specs.Spellings.{Settings, Spelling}
-use Rattle.per_core.specs.Versions.{project, project_slots, project_at, widen, widen_slots, widen_at, filled_in, all_filled_in, joined, slot_through, IsPlain, NewerPresence, Newer, NewerParts, unchanged, more_items, newer_list, newer_set_of, newer_sequence, newer_choice, no_more, more_parts, also}
+use Rattle.per_core.specs.Versions.{project, project_slots, project_at, widen, widen_slots, widen_at, filled_in, all_filled_in, joined, slot_through, IsPlain, NewerPresence, Newer, NewerParts, unchanged, more_items, newer_containing, newer_list, newer_set_of, newer_sequence, newer_choice, no_more, more_parts, also}
 use Rattle.per_core.proofs.Bags.{joined_of}
-use Rattle.per_laws.proofs.Carry.{Carry, AllLead, skipped_carry, kept}
+use Rattle.per_laws.proofs.Carry.{Carry, AllLead, skipped_carry, kept, contained_carry}
 use Rattle.per_laws.proofs.Carrying.{additions_step}
 use Rattle.per_laws.proofs.Deeper.{cut_count, uncut}
 use Rattle.per_laws.proofs.Older.{plain_widen}
@@ -20,6 +20,7 @@ use Rattle.per_laws.proofs.Widens.{Grows, grows, part_grows, list_grows, bag_gro
 pub plain_cut : {s t : Schema} → IsPlain s → CutOf s t → (s ≡ Schema.cut) ⊎ (t ≡ s)
 plain_cut h cut_here = inl refl
 plain_cut h (alike k) = inr refl
+plain_cut h (cut_containing c) = absurd h
 plain_cut h (cut_list c) = absurd h
 plain_cut h (cut_set_of c) = absurd h
 plain_cut h (cut_sequence c cs) = absurd h
@@ -43,6 +44,10 @@ same_filled no_cut = refl
 same_filled (cut_part {p = p} c cs) = ap (joined (filled_in p)) (same_filled cs)
 
 -- what stands in a newer tree is newer
+of_contained : {s' s : Schema} → Newer (Schema.containing s') (Schema.containing s) → Newer s' s
+of_contained (unchanged h) = absurd h
+of_contained (newer_containing n) = n
+
 of_list : {s' s : Schema} {size size' : Size} {mark mark' : Bool} → Newer (Schema.list s' size' mark') (Schema.list s size mark) → Newer s' s
 of_list (unchanged h) = absurd h
 of_list (newer_list n) = n
@@ -77,6 +82,9 @@ mutual
   pub older_holds : (a : Settings) {s' s t' t : Schema} → Newer s' s → CutOf s' t' → CutOf s t → Newer t' t → (v' v : Value) → meets_cut t' v' ≡ false → project t' t v' ≡ Some v → Carry (basic a s' v') (basic a s v)
   older_holds a {t' = t'} {t = t} (unchanged {s = s} h) c d m v' v k e = plain_holds a s t' t h c d v' v e
   older_holds a (more_items {r = r} {e = e0} {e' = e1} h) (alike i) (alike j) m v' v k e = item_takes a r e1 e0 true v' v e
+  older_holds a (newer_containing n) (alike i) d m v' v k e = absurd i
+  older_holds a (newer_containing n) (cut_containing c) (alike i) m v' v k e = absurd i
+  older_holds a (newer_containing n) (cut_containing c) (cut_containing d) m v' v k e = contained_carry a (older_holds a n c d (of_contained m) v' v k e)
   older_holds a (newer_list n) (alike i) d m v' v k e = absurd i
   older_holds a (newer_list n) (cut_list c) (alike i) m v' v k e = absurd i
   older_holds a (newer_list {e = e0} {e' = e1} {size = size} {mark = mark} n) (cut_list {t = f1} c) (cut_list {t = f0} d) m v' v k e =
@@ -144,6 +152,9 @@ mutual
   newer_holds a {t' = t'} {t = t} (unchanged {s = s} h) c d m v v' k e = plain_grows a s t' t h c d v v' e
   newer_holds a (more_items {r = r} {e = e0} {e' = e1} h) (alike i) (alike j) m v v' k e =
       subst (λ z. Carry (basic_in a false (Schema.items r e0 true) v) (basic_in a false (Schema.items r e1 true) z)) (some_is v v' e) (item_grows a r e1 e0 true h v)
+  newer_holds a (newer_containing n) (alike i) d m v v' k e = absurd i
+  newer_holds a (newer_containing n) (cut_containing c) (alike i) m v v' k e = absurd i
+  newer_holds a (newer_containing n) (cut_containing c) (cut_containing d) m v v' k e = contained_carry a (newer_holds a n c d (of_contained m) v v' k e)
   newer_holds a (newer_list n) (alike i) d m v v' k e = absurd i
   newer_holds a (newer_list n) (cut_list c) (alike i) m v v' k e = absurd i
   newer_holds a (newer_list {e = e0} {e' = e1} {size = size} {mark = mark} n) (cut_list {t = f1} c) (cut_list {t = f0} d) m v v' k e =

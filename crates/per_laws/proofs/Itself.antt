@@ -4,9 +4,9 @@ use Rattle.rasn_types.specs.Values.{Value, no_values, value, no_slots, item, ele
 use Rattle.rasn_types.proofs.Values.{slots-as_slots, as_values-values, as_slots-slots}
 use Rattle.rasn_constraints.specs.Bounds.{Size}
 use Rattle.rasn_schema.specs.Schemas.{Presence, required, optional, group, default, Order, TagTree, Schema, Parts, no_parts, part}
-use Rattle.rasn_schema.specs.Depth.{IsLeaf, CutOf, CutParts, cut_here, alike, cut_list, cut_set_of, cut_sequence, cut_choice, no_cut, cut_part, meets_cut, slots_meet_cut, meets_cut_at}
+use Rattle.rasn_schema.specs.Depth.{IsLeaf, CutOf, CutParts, cut_here, alike, cut_containing, cut_list, cut_set_of, cut_sequence, cut_choice, no_cut, cut_part, meets_cut, slots_meet_cut, meets_cut_at}
 use Rattle.rasn_schema.specs.Lawful.{IsLawful, AreLawful, IsLawfulPresence, IsLawfulType, all_pass, is_countable, if_elements, if_bag, if_fields, if_alternative, slot_passes, slots_pass, none_left, is_value, are_values, is_value_at}
-use Rattle.per_core.specs.Versions.{all_of, joined, made, made_both, through_elements, through_bag, through_fields, through_alternative, through_item, slot_through, slots_through, project, project_slots, project_at, widen, widen_slots, widen_at, IsWidened, NewerPresence, Newer, NewerParts, NewerType, unchanged, more_items, newer_list, newer_set_of, newer_sequence, newer_choice, no_more, also}
+use Rattle.per_core.specs.Versions.{all_of, joined, made, made_both, through_elements, through_bag, through_fields, through_alternative, through_item, slot_through, slots_through, project, project_slots, project_at, widen, widen_slots, widen_at, IsWidened, NewerPresence, Newer, NewerParts, NewerType, unchanged, more_items, newer_containing, newer_list, newer_set_of, newer_sequence, newer_choice, no_more, also}
 use Rattle.per_core.proofs.Codes.{same_true}
 use Rattle.per_core.proofs.LengthForms.{and_left, and_right, or_left, or_right}
 use Rattle.per_laws.proofs.Takes.{some_is}
@@ -66,6 +66,7 @@ item_kept r e ext _ h = absurd (cc)
 leaf_projects : (s : Schema) → IsLeaf s → Keeps (is_value s) (project s s)
 unfolding is_value project
 leaf_projects (Schema.items r e ext) h = item_kept r e ext
+leaf_projects (Schema.containing e) h = absurd h
 leaf_projects (Schema.list e size mark) h = absurd h
 leaf_projects (Schema.set_of e size mark) h = absurd h
 leaf_projects (Schema.sequence o ps ext adds) h = absurd h
@@ -78,6 +79,7 @@ mutual
   projects : {s t : Schema} → CutOf s t → Keeps (is_value t) (project s s)
   projects cut_here = λ v e. refl
   projects (alike {s = s} h) = leaf_projects s h
+  projects (cut_containing c) = projects c
   projects (cut_list {s = s} {t = t} c) = elements_keep (is_value t) (project s s) (projects c)
   projects (cut_set_of {s = s} {t = t} c) = bags_keep (is_value t) (project s s) (projects c)
   projects (cut_sequence {ps = ps} {qs = qs} {adds = adds} {bdds = bdds} c d) = fields_keep (are_values qs) (are_values bdds) (project_slots ps ps) (project_slots adds adds) (parts_project c) (parts_project d)
@@ -94,6 +96,7 @@ mutual
 
 leaf_widens : (s : Schema) → IsLeaf s → Keeps (is_value s) (widen s s)
 unfolding is_value widen
+leaf_widens (Schema.containing e) h = absurd h
 leaf_widens (Schema.list e size mark) h = absurd h
 leaf_widens (Schema.set_of e size mark) h = absurd h
 leaf_widens (Schema.sequence o ps ext adds) h = absurd h
@@ -106,6 +109,7 @@ mutual
   widens : {s t : Schema} → CutOf s t → Keeps (is_value t) (widen s s)
   widens cut_here = λ v e. refl
   widens (alike {s = s} h) = leaf_widens s h
+  widens (cut_containing c) = widens c
   widens (cut_list {s = s} {t = t} c) = elements_keep (is_value t) (widen s s) (widens c)
   widens (cut_set_of {s = s} {t = t} c) = bags_keep (is_value t) (widen s s) (widens c)
   widens (cut_sequence {ps = ps} {qs = qs} {adds = adds} {bdds = bdds} c d) = fields_keep (are_values qs) (are_values bdds) (widen_slots ps ps) (widen_slots adds adds) (parts_widen c) (parts_widen d)
@@ -132,6 +136,11 @@ PartsWithin ps = (xs : List (Option Value)) → (qs : Parts) × CutParts ps qs �
 
 abbrev PlacesWithin : Parts → Type 0
 PlacesWithin ps = (i : ℕ) (v : Value) → (qs : Parts) × CutParts ps qs × AreLawful qs × (meets_cut_at qs i v ≡ false)
+
+contained_below : {e t : Schema} (v : Value) → CutOf (Schema.containing e) t → IsLawful t → meets_cut t v ≡ false → (u : Schema) × CutOf e u × IsLawful u × (meets_cut u v ≡ false)
+unfolding IsLawful meets_cut
+contained_below v (alike h) l m = absurd h
+contained_below v (cut_containing {t = u} c) l m = (u, c, l, m)
 
 list_below : {e t : Schema} (size : Size) (mark : Bool) (v : Value) → CutOf (Schema.list e size mark) t → IsLawful t → meets_cut t (elements (value v no_values)) ≡ false → (u : Schema) × CutOf e u × IsLawful u × (meets_cut u v ≡ false)
 unfolding IsLawful meets_cut
@@ -212,6 +221,7 @@ items_kept r e false = unchanged refl
 mutual
   is_newer : (s : Schema) → Within s → Newer s s
   is_newer (Schema.items r e ext) w = items_kept r e ext
+  is_newer (Schema.containing e) w = newer_containing (is_newer e (λ v. let h = w v in contained_below v h.1 h.2 h.3))
   is_newer (Schema.list e size mark) w = newer_list (is_newer e (λ v. let h = w (elements (value v no_values)) in list_below size mark v h.1 h.2 h.3))
   is_newer (Schema.set_of e size mark) w = newer_set_of (is_newer e (λ v. let h = w (bag (value v no_values)) in set_below size mark v h.1 h.2 h.3))
   is_newer (Schema.sequence o ps ext adds) w = newer_sequence

@@ -11,9 +11,9 @@ use Rattle.per_core.specs.Spellings.{Settings, Spelling}
 use Rattle.per_core.specs.Writers.{Writer, written_if}
 use Rattle.per_core.specs.Counts.{list_items}
 use Rattle.per_core.specs.Canon.{canon, members, Member, shown, record_of}
-use Rattle.per_core.specs.Basic.{As, Counted, Rule, Record_in}
+use Rattle.per_core.specs.Basic.{As, Counted, Rule, Record_in, Open, Fills}
 use Rattle.per_core.proofs.Within.{Within, refused_within, if_within}
-use Rattle.per_core.proofs.Presenting.{Pairs, record_within}
+use Rattle.per_core.proofs.Presenting.{Pairs, record_within, open_within}
 use Rattle.per_core.proofs.Canonical.{as_within, ordered-pairs, list_within, bags_within, choices_within}
 use Rattle.per_laws.proofs.Carry.{Carry}
 use Rattle.per_laws.specs.Written.{is_written}
@@ -28,6 +28,11 @@ written_so a t v = record { within = λ p b e. e }
 
 carried : {f : Writer} {g : Spelling} → Within f g → Carry (λ p b. f p ≡ Some b) g
 carried h = record { carry = λ p b e. h.within p b e }
+
+-- octets that contain a value
+pub contained_layer : (a : Settings) (t : Schema) (v : Value) → Carry (Writes a (Schema.containing t) v) (Open a (Fills a (Writes a t v)))
+unfolding canon
+contained_layer a t v = carried (open_within a (canon a.variant t v) (Writes a t v) (written_so a t v))
 
 -- lists
 pub list_layer : (a : Settings) (t : Schema) (size : Size) (mark : Bool) (v : Value) → Carry (Writes a (Schema.list t size mark) v) (As (λ vs. elements (as_values vs)) (Counted a size mark list_items (Writes a t)) v)

@@ -4,14 +4,14 @@ use Rattle.std.proofs.lemmas.Bool.{cases_lt}
 use Rattle.rasn_types.specs.Values.{Value}
 use Rattle.rasn_types.specs.Variants.{Variant}
 use Rattle.rasn_schema.specs.Schemas.{Schema, Parts}
-use Rattle.rasn_schema.specs.Depth.{CutOf, CutParts, cut_here, alike, cut_list, cut_set_of, cut_sequence, cut_choice, no_cut, cut_part, Unfolds}
+use Rattle.rasn_schema.specs.Depth.{CutOf, CutParts, cut_here, alike, cut_containing, cut_list, cut_set_of, cut_sequence, cut_choice, no_cut, cut_part, Unfolds}
 use Rattle.per_core.specs.Spellings.{Settings}
 use Rattle.per_core.specs.Canon.{bytes}
 use Rattle.per_core.specs.Basic.{read}
 use Rattle.per_core.proofs.Laws.{written_is_read}
 use Rattle.per_core.proofs.Unique.{fills_agree}
 use Rattle.per_laws.proofs.Types.{up_to}
-use Rattle.rasn_schema.specs.Levels.{TakesNone, ToLevels, PartsToLevels, to_leaf, to_date, no_date, still_cut, no_level, to_list, to_set_of, to_sequence, to_choice, to_no_parts, to_part, Levelled}
+use Rattle.rasn_schema.specs.Levels.{TakesNone, ToLevels, PartsToLevels, to_leaf, to_date, no_date, still_cut, no_level, to_containing, to_list, to_set_of, to_sequence, to_choice, to_no_parts, to_part, Levelled}
 use Rattle.per_laws.specs.Levels.{levels_of, Deep, DeepParts}
 use Rattle.per_laws.specs.Written.{writes_cut}
 use Rattle.per_laws.proofs.Deeply.{deep_family_unfolds}
@@ -25,6 +25,7 @@ mutual
   to_cut (no_date h) = cut_here
   to_cut (still_cut h) = cut_here
   to_cut (no_level h) = cut_here
+  to_cut (to_containing c) = cut_containing (to_cut c)
   to_cut (to_list c) = cut_list (to_cut c)
   to_cut (to_set_of c) = cut_set_of (to_cut c)
   to_cut (to_sequence c d) = cut_sequence (parts_cut c) (parts_cut d)
@@ -36,6 +37,7 @@ mutual
 
 -- a tree to n levels is deep
 leaf_deep : (s : Schema) → TakesNone s → (m : ℕ) → Deep m s
+leaf_deep (Schema.containing e) h m = absurd h
 leaf_deep (Schema.list e size mark) h m = absurd h
 leaf_deep (Schema.set_of e size mark) h m = absurd h
 leaf_deep (Schema.sequence o ps ext adds) h m = absurd h
@@ -53,6 +55,7 @@ mutual
   levels_deep (still_cut h) zero l = tt
   levels_deep (still_cut h) (suc m) l = absurd (omega arith)
   levels_deep (no_level h) m l = absurd (omega arith)
+  levels_deep (to_containing c) m l = levels_deep c m l
   levels_deep (to_list c) zero l = tt
   levels_deep (to_list c) (suc m) l = levels_deep c m (omega arith)
   levels_deep (to_set_of c) zero l = tt
@@ -77,6 +80,7 @@ mutual
   self_levels (no_date h) = still_cut h
   self_levels (still_cut h) = still_cut h
   self_levels (no_level h) = still_cut (omega arith)
+  self_levels (to_containing c) = to_containing (self_levels c)
   self_levels (to_list c) = to_list (self_levels c)
   self_levels (to_set_of c) = to_set_of (self_levels c)
   self_levels (to_sequence c d) = to_sequence (self_parts c) (self_parts d)
@@ -94,6 +98,7 @@ mutual
   through (to_leaf h) (no_date k) l = absurd h
   through (to_leaf h) (still_cut k) l = absurd h
   through (to_leaf h) (no_level k) l = absurd h
+  through (to_leaf h) (to_containing d) l = absurd h
   through (to_leaf h) (to_list d) l = absurd h
   through (to_leaf h) (to_set_of d) l = absurd h
   through (to_leaf h) (to_sequence d e) l = absurd h
@@ -112,10 +117,13 @@ mutual
   through (no_level h) (no_date k) l = absurd h
   through (no_level h) (still_cut k) l = absurd h
   through (no_level h) (no_level k) l = absurd h
+  through (no_level h) (to_containing d) l = absurd h
   through (no_level h) (to_list d) l = no_level tt
   through (no_level h) (to_set_of d) l = no_level tt
   through (no_level h) (to_sequence d e) l = no_level tt
   through (no_level h) (to_choice d e) l = no_level tt
+  through (to_containing c) (to_leaf k) l = absurd k
+  through (to_containing c) (to_containing d) l = to_containing (through c d l)
   through (to_list c) (to_leaf k) l = absurd k
   through (to_list c) (to_list d) l = to_list (through c d (omega arith))
   through (to_set_of c) (to_leaf k) l = absurd k

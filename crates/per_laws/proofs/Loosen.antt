@@ -13,7 +13,7 @@ use Rattle.per_core.specs.Counts.{ItemKind, list_items, octet_items, bit_items, 
 use Rattle.per_core.specs.Spellings.{Settings, Spelling, exactly, Then, AnyPadding, Field}
 use Rattle.per_core.proofs.LengthForms.{Zip}
 use Rattle.per_core.proofs.Readings.{length-rules-in}
-use Rattle.per_laws.proofs.Carry.{Carry, kept, then_carry, either_carry, when_carry, fills_carry, lengthy_carry, AllLead, carries}
+use Rattle.per_laws.proofs.Carry.{Carry, kept, then_carry, either_carry, when_carry, fills_carry, lengthy_carry, AllLead, carries, contained_carry}
 use Rattle.per_laws.proofs.Carrying.{as_carry, additions_step, record_as, choice_as, rules_on}
 use Rattle.per_laws.proofs.Deeper.{Equal, equals, part_equal, along_equal, list_kept, bag_kept, Nothing, none_in, on_either}
 
@@ -190,6 +190,8 @@ mutual
   loosen a u (Schema.octet_string size mark) v = made_carry Value.octets (Counted a size mark octet_items octet) (Counted (loose a) size mark octet_items octet) (lengthies octet a size mark octet_items) v
   loosen a u (Schema.bit_string size mark named) v = made_carry Value.bits (Counted a size mark bit_items bit) (Counted (loose a) size mark bit_items bit) (lengthies bit a size mark bit_items) v
   loosen a u (Schema.char_string alphabet size mark) v = made_carry characters (String a alphabet size mark) (String (loose a) alphabet size mark) (strings a alphabet size mark) v
+  loosen a u (Schema.containing e) v = carries (contained_carry a (loosen a u e v))
+      (opens a (Fills a (basic_in (loose a) u e v)) (Fills (loose a) (basic_in (loose a) u e v)) (fillses a (basic_in (loose a) u e v)))
   loosen a u (Schema.list e size mark) v = carries
       (list_kept Nothing (basic_in a u e) (basic_in (loose a) u e) (λ w m. loosen a u e w) a size mark v (none_in v))
       (made_carry (λ vs. elements (as_values vs)) (Counted a size mark list_items (basic_in (loose a) u e)) (Counted (loose a) size mark list_items (basic_in (loose a) u e)) (lengthies (basic_in (loose a) u e) a size mark list_items) v)

@@ -4,15 +4,15 @@ use Rattle.rasn_types.specs.Bits.{Bits}
 use Rattle.rasn_types.specs.Values.{Value, elements, as_values, as_slots, bag_of, fields, slots, Side, alternative}
 use Rattle.rasn_types.specs.Variants.{Variant}
 use Rattle.rasn_constraints.specs.Bounds.{Size}
-use Rattle.rasn_schema.specs.Depth.{meets_cut, slots_meet_cut, meets_cut_at, in_elements, in_fields, in_alternative, in_slots, IsLeaf, CutOf, CutParts, cut_here, alike, cut_list, cut_set_of, cut_sequence, cut_choice, no_cut, cut_part, Unfolds}
+use Rattle.rasn_schema.specs.Depth.{meets_cut, slots_meet_cut, meets_cut_at, in_elements, in_fields, in_alternative, in_slots, IsLeaf, CutOf, CutParts, cut_here, alike, cut_containing, cut_list, cut_set_of, cut_sequence, cut_choice, no_cut, cut_part, Unfolds}
 use Rattle.rasn_schema.specs.Normal.{root_of, additions_of, is_idle, are_idle, is_vacant, normal, normals, normal_at}
 use Rattle.rasn_schema.specs.Orders.{ordered}
 use Rattle.rasn_schema.specs.Schemas.{Presence, required, optional, group, default, smallest, tags, Schema, Parts, no_parts, part}
-use Rattle.per_core.specs.Basic.{As, Counted, Record_in, Choice, basic_in, rules_in, Fills, fills, fills_known, front, read}
+use Rattle.per_core.specs.Basic.{As, Counted, Record_in, Choice, basic_in, rules_in, Fills, fills, fills_known, front, read, OpenOf}
 use Rattle.per_core.specs.Canon.{bytes, canon, completed, members, on_bag, on_elements, on_fields, on_alternative, record_of, choice_of, ascending}
-use Rattle.per_core.specs.Counts.{counted, list_items}
+use Rattle.per_core.specs.Counts.{counted, list_items, open_bits}
 use Rattle.per_core.specs.Spellings.{Settings, Spelling}
-use Rattle.per_core.specs.Versions.{project, project_slots, project_at, widen, widen_slots, widen_at, element_of, alternatives_of, added_of, items_of, through_elements, through_bag, through_fields, through_alternative, through_item, slots_through, joined, filled_in, all_filled_in, IsPlain, NewerPresence, Newer, NewerParts, unchanged, more_items, newer_list, newer_set_of, newer_sequence, newer_choice, no_more, more_parts, also}
+use Rattle.per_core.specs.Versions.{project, project_slots, project_at, widen, widen_slots, widen_at, element_of, alternatives_of, added_of, items_of, through_elements, through_bag, through_fields, through_alternative, through_item, slots_through, joined, filled_in, all_filled_in, IsPlain, NewerPresence, Newer, NewerParts, unchanged, more_items, newer_containing, newer_list, newer_set_of, newer_sequence, newer_choice, no_more, more_parts, also}
 use Rattle.per_core.specs.Writers.{Writer}
 use Rattle.per_core.proofs.Laws.{same_normal_bytes}
 use Rattle.per_laws.proofs.AnyDepth
@@ -32,6 +32,7 @@ module _ (a : Settings) (u : Bool) where
     unfolding basic_in without_names
 
     pub read_alike : (s : Schema) → basic_in a u (without_names s) ≡ basic_in a u s
+    read_alike (Schema.containing e) = ap (OpenOf a) (read_alike e)
     read_alike (Schema.list e size mark) = ap (λ f. As (λ vs. elements (as_values vs)) (Counted a size mark list_items f)) (read_alike e)
     read_alike (Schema.set_of e size mark) = ap (λ f. As bag_of (Counted a size mark list_items f)) (read_alike e)
     read_alike (Schema.sequence o ps ext adds) =
@@ -53,6 +54,7 @@ module _ (a : Variant) where
     unfolding canon without_names
 
     pub written_alike : (s : Schema) → canon a (without_names s) ≡ canon a s
+    written_alike (Schema.containing e) = ap (λ f v. open_bits a (f v 0)) (written_alike e)
     written_alike (Schema.list e size mark) = ap (λ f. on_elements (λ vs. counted a size mark list_items (map f vs))) (written_alike e)
     written_alike (Schema.set_of e size mark) = ap (λ f. on_bag (λ vs. counted a size mark list_items (ascending (map f vs)))) (written_alike e)
     written_alike (Schema.sequence o ps ext adds) =
@@ -70,6 +72,7 @@ mutual
   unfolding meets_cut without_names
 
   pub cut_alike : (s : Schema) → meets_cut (without_names s) ≡ meets_cut s
+  cut_alike (Schema.containing e) = cut_alike e
   cut_alike (Schema.list e size mark) = ap in_elements (cut_alike e)
   cut_alike (Schema.set_of e size mark) = ap in_elements (cut_alike e)
   cut_alike (Schema.sequence o ps ext adds) = ap₂ in_fields (cuts_alike ps) (cuts_alike adds)
@@ -87,6 +90,7 @@ mutual
 -- the parts of a schema without names
 element_alike : (s : Schema) → element_of (without_names s) ≡ without_names (element_of s)
 unfolding without_names
+element_alike (Schema.containing e) = refl
 element_alike (Schema.list e size mark) = refl
 element_alike (Schema.set_of e size mark) = refl
 element_alike _ = refl
@@ -121,6 +125,7 @@ mutual
   unfolding project without_names
 
   pub projected_alike : (s' s : Schema) → project (without_names s') (without_names s) ≡ project s' s
+  projected_alike (Schema.containing e) s = ap (project (without_names e)) (element_alike s) ∙ projected_alike e (element_of s)
   projected_alike (Schema.list e size mark) s = ap through_elements (ap (project (without_names e)) (element_alike s) ∙ projected_alike e (element_of s))
   projected_alike (Schema.set_of e size mark) s = ap through_bag (ap (project (without_names e)) (element_alike s) ∙ projected_alike e (element_of s))
   projected_alike (Schema.sequence o ps ext adds) s =
@@ -153,6 +158,7 @@ mutual
   unfolding widen without_names
 
   pub widened_alike : (s' s : Schema) → widen (without_names s') (without_names s) ≡ widen s' s
+  widened_alike (Schema.containing e) s = ap (widen (without_names e)) (element_alike s) ∙ widened_alike e (element_of s)
   widened_alike (Schema.list e size mark) s = ap through_elements (ap (widen (without_names e)) (element_alike s) ∙ widened_alike e (element_of s))
   widened_alike (Schema.set_of e size mark) s = ap through_bag (ap (widen (without_names e)) (element_alike s) ∙ widened_alike e (element_of s))
   widened_alike (Schema.sequence o ps ext adds) s =
@@ -176,6 +182,7 @@ mutual
 -- a newer version is one without names too
 plain_stays : (s : Schema) → IsPlain s → IsPlain (without_names s)
 unfolding without_names
+plain_stays (Schema.containing e) h = absurd h
 plain_stays (Schema.list e size mark) h = absurd h
 plain_stays (Schema.set_of e size mark) h = absurd h
 plain_stays (Schema.sequence o ps ext adds) h = absurd h
@@ -200,6 +207,7 @@ mutual
   pub newer_stays : {s' s : Schema} → Newer s' s → NewerButForNames s' s
   newer_stays {s' = s} (unchanged h) = unchanged (plain_stays s h)
   newer_stays (more_items l) = more_items l
+  newer_stays (newer_containing n) = newer_containing (newer_stays n)
   newer_stays (newer_list n) = newer_list (newer_stays n)
   newer_stays (newer_set_of n) = newer_set_of (newer_stays n)
   newer_stays (newer_sequence n m) = newer_sequence (parts_stay n) (parts_stay m)
@@ -213,6 +221,7 @@ mutual
 -- a family of trees is one without names too
 leaf_stays : (s : Schema) → IsLeaf s → IsLeaf (without_names s)
 unfolding without_names
+leaf_stays (Schema.containing e) h = absurd h
 leaf_stays (Schema.list e size mark) h = absurd h
 leaf_stays (Schema.set_of e size mark) h = absurd h
 leaf_stays (Schema.sequence o ps ext adds) h = absurd h
@@ -225,6 +234,7 @@ mutual
   cut_stays : {s t : Schema} → CutOf s t → CutOf (without_names s) (without_names t)
   cut_stays cut_here = cut_here
   cut_stays {s} (alike h) = alike (leaf_stays s h)
+  cut_stays (cut_containing c) = cut_containing (cut_stays c)
   cut_stays (cut_list c) = cut_list (cut_stays c)
   cut_stays (cut_set_of c) = cut_set_of (cut_stays c)
   cut_stays (cut_sequence c d) = cut_sequence (cuts_stay c) (cuts_stay d)
@@ -259,6 +269,7 @@ mutual
   unfolding normal without_names
 
   pub normal_stays : (s : Schema) → Fixes (normal (without_names s)) (normal s)
+  normal_stays (Schema.containing e) = normal_stays e
   normal_stays (Schema.list e size mark) = elements_fixed (normal (without_names e)) (normal e) (normal_stays e)
   normal_stays (Schema.set_of e size mark) = bags_fixed (normal (without_names e)) (normal e) (normal_stays e)
   normal_stays (Schema.sequence o ps ext adds) =

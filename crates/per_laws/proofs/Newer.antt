@@ -10,7 +10,7 @@ use Rattle.per_core.specs.Basic
 use Rattle.per_core.specs.Basic.{Rule, IsLeftOut, Fills, OpenOf, Root, IsBitmap, Unknown_in, Additions_in, Extended_in, Record_in, As, Counted, basic, basic_in, rules, rules_in}
 use Rattle.per_core.specs.Counts.{list_items}
 use Rattle.per_core.specs.Spellings.{Settings, Then}
-use Rattle.per_core.specs.Versions.{widen, widen_slots, widen_at, filled_in, all_filled_in, slot_through, through_elements, through_fields, made, made_both, joined, all_of, IsPlain, NewerPresence, Newer, NewerParts, unchanged, more_items, newer_list, newer_set_of, newer_sequence, newer_choice, no_more, more_parts, also}
+use Rattle.per_core.specs.Versions.{widen, widen_slots, widen_at, filled_in, all_filled_in, slot_through, through_elements, through_fields, made, made_both, joined, all_of, IsPlain, NewerPresence, Newer, NewerParts, unchanged, more_items, newer_containing, newer_list, newer_set_of, newer_sequence, newer_choice, no_more, more_parts, also}
 use Rattle.per_core.proofs.Agree.{Agree, weaken, then_agree, either_agree, when_agree, never_agree, agree_never, empty_agree, no_yes, yes_no, behind}
 use Rattle.per_core.proofs.Bags.{bag_becomes, any_in_bag}
 use Rattle.per_core.proofs.LengthForms.{Zip, lengthy_agree, or_left, or_right}
@@ -224,11 +224,18 @@ items_widen a r e' e ext v' v = as_agree (WidensValue (Schema.items r e' ext) (S
 plain_widens : (a : Settings) (s : Schema) → IsPlain s → (v' v : Value) → Agree (WidensValue s s v' v) (basic a s v') (basic_in a false s v)
 unfolding widen basic_in
 plain_widens a (Schema.items r e ext) h v' v = items_widen a r e e ext v' v
+plain_widens a (Schema.containing e) h v' v = absurd h
 plain_widens a (Schema.list e size mark) h v' v = absurd h
 plain_widens a (Schema.set_of e size mark) h v' v = absurd h
 plain_widens a (Schema.sequence o ps ext adds) h v' v = absurd h
 plain_widens a (Schema.choice ps adds ext) h v' v = absurd h
 plain_widens a s h v' v = weaken (λ e m. let e' : v ≡ v' = sym e in some_same e') (one_reading a s v' v)
+
+-- the value that octets contain
+contained_reads : (a : Settings) (s' s : Schema) (v' v : Value) → Agree (WidensValue s' s v' v) (basic a s' v') (basic_in a false s v) →
+    Agree (WidensValue (Schema.containing s') (Schema.containing s) v' v) (basic a (Schema.containing s') v') (basic_in a false (Schema.containing s) v)
+unfolding basic_in widen meets_cut
+contained_reads a s' s v' v h = open_agree a (Fills a (basic a s' v')) (Fills a (basic_in a false s v)) (λ os x y. fills_agree a os h x y)
 
 list_reads : (a : Settings) (s' s : Schema) (size : Size) (mark : Bool) → ((v' v : Value) → Agree (WidensValue s' s v' v) (basic a s' v') (basic_in a false s v)) → (v' v : Value) →
     Agree (WidensValue (Schema.list s' size mark) (Schema.list s size mark) v' v) (basic a (Schema.list s' size mark) v') (basic_in a false (Schema.list s size mark) v)
@@ -279,6 +286,7 @@ mutual
   pub newer_reads : (a : Settings) {s' s : Schema} → Newer s' s → (v' v : Value) → Agree (WidensValue s' s v' v) (basic a s' v') (basic_in a false s v)
   newer_reads a (unchanged {s = s} h) v' v = plain_widens a s h v' v
   newer_reads a (more_items {r = r} {e = e} {e' = e'} h) v' v = items_widen a r e' e true v' v
+  newer_reads a (newer_containing {e = e} {e' = e'} n) v' v = contained_reads a e' e v' v (newer_reads a n v' v)
   newer_reads a (newer_list {e = e} {e' = e'} {size = size} {mark = mark} n) v' v = list_reads a e' e size mark (newer_reads a n) v' v
   newer_reads a (newer_set_of {e = e} {e' = e'} {size = size} {mark = mark} n) v' v = bag_reads a e' e size mark (newer_reads a n) v' v
   newer_reads a (newer_sequence {o = o} {ext = ext} {ps = ps} {ps' = ps'} {adds = adds} {adds' = adds'} n ns) v' v = record_reads a o ext ps' ps adds' adds n ns (newer_kin a n) (newer_kin a ns) v' v

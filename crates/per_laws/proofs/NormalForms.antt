@@ -5,7 +5,7 @@ use Rattle.rasn_types.specs.Values.{Value, elements, bag, bag_of, fields, altern
 use Rattle.rasn_types.specs.Variants.{Variant}
 use Rattle.rasn_schema.specs.Schemas.{Presence, required, optional, group, default, Schema, Parts}
 use Rattle.rasn_schema.specs.Normal.{is_idle, are_idle, is_vacant, settle, each_slot, over_elements, over_bag, over_fields, over_alternative, normal, normals, normal_at}
-use Rattle.rasn_schema.specs.Depth.{meets_cut, slots_meet_cut, meets_cut_at, in_elements, in_fields, in_alternative, in_slots, any_of, CutOf, CutParts, cut_here, alike, cut_list, cut_set_of, cut_sequence, cut_choice, no_cut, cut_part, Unfolds}
+use Rattle.rasn_schema.specs.Depth.{meets_cut, slots_meet_cut, meets_cut_at, in_elements, in_fields, in_alternative, in_slots, any_of, CutOf, CutParts, cut_here, alike, cut_containing, cut_list, cut_set_of, cut_sequence, cut_choice, no_cut, cut_part, Unfolds}
 use Rattle.per_core.specs.Canon.{bytes}
 use Rattle.per_core.proofs.LengthForms.{or_left, or_right}
 use Rattle.per_laws.proofs.Types.{up_to}
@@ -47,6 +47,8 @@ pub vacant_alike : {s t : Schema} → CutOf s t → (v : Value) → meets_cut s 
 unfolding is_vacant meets_cut
 vacant_alike cut_here v m w = absurd (cc)
 vacant_alike (alike h) v m w = refl
+vacant_alike (cut_containing c) v m (fields r x) = refl
+vacant_alike (cut_containing c) v m _ = refl
 vacant_alike (cut_list c) v m (fields r x) = refl
 vacant_alike (cut_list c) v m _ = refl
 vacant_alike (cut_set_of c) v m (fields r x) = refl
@@ -78,6 +80,7 @@ mutual
   pub normal_alike : {s t : Schema} → CutOf s t → (v : Value) → meets_cut s v ≡ false → normal s v ≡ normal t v
   normal_alike cut_here v m = absurd (cc)
   normal_alike (alike h) v m = refl
+  normal_alike (cut_containing c) v m = normal_alike c v m
   normal_alike (cut_list {s = s} {t = t} c) v m = elements_alike (normal s) (normal t) (meets_cut s) (normal_alike c) v m
   normal_alike (cut_set_of {s = s} {t = t} c) v m = bags_alike (normal s) (normal t) (meets_cut s) (normal_alike c) v m
   normal_alike (cut_sequence {ps = ps} {qs = qs} {adds = adds} {bdds = bdds} c d) v m = fields_alike (normals ps) (normals qs) (normals adds) (normals bdds) (slots_meet_cut ps) (slots_meet_cut adds) (normals_alike c) (normals_alike d) v m

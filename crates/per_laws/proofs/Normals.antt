@@ -93,6 +93,7 @@ mutual
   unfolding normal
 
   still : (s : Schema) → Still (normal s)
+  still (Schema.containing e) = still e
   still (Schema.list e size mark) = elements_fixed (normal e) (normal e) (still e)
   still (Schema.set_of e size mark) = bags_fixed (normal e) (normal e) (still e)
   still (Schema.sequence o ps ext adds) = fields_fixed (normals ps) (normals ps) (normals adds) (normals adds) (stills ps) (stills adds)

@@ -9,15 +9,15 @@ use Rattle.rasn_schema.specs.Schemas
 use Rattle.rasn_constraints.specs.Bounds.{Size}
 use Rattle.rasn_schema.specs.Schemas.{tags, count, Presence, required, optional, group, default, Order, Schema, Parts, no_parts, part}
 use Rattle.per_core.specs.Basic
-use Rattle.per_core.specs.Basic.{FlagOf, IsLeftOut, Record, Counted, basic, basic_in, rules}
+use Rattle.per_core.specs.Basic.{FlagOf, IsLeftOut, Record, Counted, basic, basic_in, rules, Fills}
 use Rattle.per_core.specs.Counts.{list_items}
 use Rattle.per_core.specs.Spellings.{Settings}
-use Rattle.per_core.specs.Versions.{project, project_slots, project_at, widen, widen_slots, widen_at, slot_through, slots_through, through_elements, through_bag, through_fields, through_alternative, through_item, made, made_both, joined, all_of, IsPlain, NewerPresence, Newer, NewerParts, unchanged, more_items, newer_list, newer_set_of, newer_sequence, newer_choice, no_more, more_parts, also}
+use Rattle.per_core.specs.Versions.{project, project_slots, project_at, widen, widen_slots, widen_at, slot_through, slots_through, through_elements, through_bag, through_fields, through_alternative, through_item, made, made_both, joined, all_of, IsPlain, NewerPresence, Newer, NewerParts, unchanged, more_items, newer_containing, newer_list, newer_set_of, newer_sequence, newer_choice, no_more, more_parts, also}
 use Rattle.per_core.proofs.Agree.{Agree, weaken}
 use Rattle.per_core.proofs.Bags.{bag_becomes, any_in_bag, joined_of}
 use Rattle.per_core.proofs.LengthForms.{Zip, lengthy_agree, or_left, or_right}
 use Rattle.per_core.proofs.Records.{SlotRel, AllKin, Along, fields_agree}
-use Rattle.per_core.proofs.Unique.{as_agree}
+use Rattle.per_core.proofs.Unique.{as_agree, fills_agree, open_agree}
 use Rattle.per_core.proofs.Readings.{one_reading, item_agree, alternative_agree, ordered-kin, along-listed, rel_at, length-rules, same_flags, some_same}
 
 -- what a slot of the newer reader and one of the older have in common, where no default is cut off
@@ -154,6 +154,7 @@ slots_return f g h F G H r rs (x ∷ xs) ys zs e k =
 
 pub plain_widen : (s : Schema) → IsPlain s → (d : Value) → widen s s d ≡ Some d
 unfolding widen
+plain_widen (Schema.containing e) h d = absurd h
 plain_widen (Schema.list e size mark) h d = absurd h
 plain_widen (Schema.set_of e size mark) h d = absurd h
 plain_widen (Schema.sequence o ps ext adds) h d = absurd h
@@ -176,6 +177,7 @@ mutual
   back : {s' s : Schema} → Newer s' s → Returns (widen s' s) (project s s) (project s' s)
   back (unchanged {s = s} p) = plain_return s p
   back (more_items h) = λ d d' d0 e k. let u : d' ≡ d = cc in ap (through_item _) u ∙ k
+  back (newer_containing n) = back n
   back (newer_list {e = e} {e' = e'} n) = elements_return (widen e' e) (project e e) (project e' e) (back n)
   back (newer_set_of {e = e} {e' = e'} n) = bags_return (widen e' e) (project e e) (project e' e) (back n)
   back (newer_sequence {ps = ps} {ps' = ps'} {adds = adds} {adds' = adds'} n m) = fields_return (widen_slots ps' ps) (project_slots ps ps) (project_slots ps' ps) (widen_slots adds' adds) (project_slots adds adds) (project_slots adds' adds) (back_slots n) (back_slots m)
@@ -296,6 +298,7 @@ items_read a r e' e ext v' v = as_agree (ProjectsValue (Schema.items r e' ext) (
 plain_reads : (a : Settings) (s : Schema) → IsPlain s → (v' v : Value) → Agree (ProjectsValue s s v' v) (basic a s v') (basic a s v)
 unfolding project
 plain_reads a (Schema.items r e ext) h v' v = items_read a r e e ext v' v
+plain_reads a (Schema.containing e) h v' v = absurd h
 plain_reads a (Schema.list e size mark) h v' v = absurd h
 plain_reads a (Schema.set_of e size mark) h v' v = absurd h
 plain_reads a (Schema.sequence o ps ext adds) h v' v = absurd h
@@ -311,6 +314,12 @@ bag_project s' s size mark vs ws z m =
     let h : any_of (meets_cut s') sort ≡ false = subst (λ l. any_of (meets_cut s') l ≡ false) (values-as_values sort) m in
     let q = bag_becomes (project s' s) vs ws (all_project s' s vs ws z (any_in_bag (meets_cut s') vs h)) in
     ap (λ l. made bag_of (all_of (project s' s) l)) (values-as_values sort) ∙ ap (made bag_of) q.1 ∙ some_same q.2
+
+-- the value that octets contain
+contained_reads : (a : Settings) (s' s : Schema) (v' v : Value) → Agree (ProjectsValue s' s v' v) (basic a s' v') (basic a s v) →
+    Agree (ProjectsValue (Schema.containing s') (Schema.containing s) v' v) (basic a (Schema.containing s') v') (basic a (Schema.containing s) v)
+unfolding basic_in project meets_cut
+contained_reads a s' s v' v h = open_agree a (Fills a (basic a s' v')) (Fills a (basic a s v)) (λ os x y. fills_agree a os h x y)
 
 list_reads : (a : Settings) (s' s : Schema) (size : Size) (mark : Bool) → ((v' v : Value) → Agree (ProjectsValue s' s v' v) (basic a s' v') (basic a s v)) → (v' v : Value) →
     Agree (ProjectsValue (Schema.list s' size mark) (Schema.list s size mark) v' v) (basic a (Schema.list s' size mark) v') (basic a (Schema.list s size mark) v)
@@ -361,6 +370,7 @@ mutual
   pub older_reads : (a : Settings) {s' s : Schema} → Newer s' s → (v' v : Value) → Agree (ProjectsValue s' s v' v) (basic a s' v') (basic a s v)
   older_reads a (unchanged {s = s} h) v' v = plain_reads a s h v' v
   older_reads a (more_items {r = r} {e = e} {e' = e'} h) v' v = items_read a r e' e true v' v
+  older_reads a (newer_containing {e = e} {e' = e'} n) v' v = contained_reads a e' e v' v (older_reads a n v' v)
   older_reads a (newer_list {e = e} {e' = e'} {size = size} {mark = mark} n) v' v = list_reads a e' e size mark (older_reads a n) v' v
   older_reads a (newer_set_of {e = e} {e' = e'} {size = size} {mark = mark} n) v' v = bag_reads a e' e size mark (older_reads a n) v' v
   older_reads a (newer_sequence {o = o} {ext = ext} n ns) v' v = record_reads a o ext n ns (older_kin a n) (older_kin a ns) v' v

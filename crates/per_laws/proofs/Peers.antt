@@ -4,12 +4,12 @@ use Rattle.std.proofs.Math.Path.{fun_ext}
 use Rattle.rasn_types.specs.Values.{Value, elements, bag, fields, alternative, root, added, values, slots}
 use Rattle.rasn_types.specs.Bits.{Bits}
 use Rattle.rasn_schema.specs.Schemas.{Presence, required, optional, group, default, Schema, Parts, no_parts, part}
-use Rattle.rasn_schema.specs.Depth.{meets_cut, slots_meet_cut, meets_cut_at, in_elements, in_fields, in_alternative, in_slots, CutOf, CutParts, cut_here, alike, cut_list, cut_set_of, cut_sequence, cut_choice, no_cut, cut_part, Unfolds}
+use Rattle.rasn_schema.specs.Depth.{meets_cut, slots_meet_cut, meets_cut_at, in_elements, in_fields, in_alternative, in_slots, CutOf, CutParts, cut_here, alike, cut_containing, cut_list, cut_set_of, cut_sequence, cut_choice, no_cut, cut_part, Unfolds}
 use Rattle.per_core.specs.Spellings.{Settings}
 use Rattle.per_core.specs.Writers.{complete}
 use Rattle.per_core.specs.Canon.{canon, bytes, completed}
 use Rattle.per_core.specs.Basic.{Fills, basic, fills, front, read}
-use Rattle.per_core.specs.Versions.{element_of, alternatives_of, added_of, project, widen, NewerPresence, Newer, NewerParts, unchanged, more_items, newer_list, newer_set_of, newer_sequence, newer_choice, no_more, more_parts, also, NewerType}
+use Rattle.per_core.specs.Versions.{element_of, alternatives_of, added_of, project, widen, NewerPresence, Newer, NewerParts, unchanged, more_items, newer_containing, newer_list, newer_set_of, newer_sequence, newer_choice, no_more, more_parts, also, NewerType}
 use Rattle.rasn_schema.specs.Normal.{root_of, additions_of}
 use Rattle.per_core.proofs.Presenting.{unpack-complete}
 use Rattle.per_core.proofs.Unique.{fills_agree}
@@ -27,7 +27,7 @@ use Rattle.per_laws.proofs.Depths.{cut_reads, encodes_deeper}
 use Rattle.per_laws.proofs.Layers.{Writes}
 use Rattle.per_laws.proofs.Dropping.{older_writes}
 use Rattle.per_laws.proofs.Growing.{newer_writes}
-use Rattle.per_laws.proofs.Reading.{SameKind, Reads, ReadsParts, past_cut, one_leaf, of_items, of_list, of_set, of_sequence, of_older_sequence, of_choice, none, unknown, unwritten, both, reads_kept}
+use Rattle.per_laws.proofs.Reading.{SameKind, Reads, ReadsParts, past_cut, one_leaf, of_items, of_containing, of_list, of_set, of_sequence, of_older_sequence, of_choice, none, unknown, unwritten, both, reads_kept}
 
 -- the reader's tree and the writer's, of two versions
 newer_kind : (s t : Schema) (p' p : Presence) → NewerPresence s t p' p → SameKind p p' × SameKind p' p
@@ -53,10 +53,13 @@ mutual
   older_tree cut_here n = past_cut
   older_tree (alike l) (unchanged h) = one_leaf l
   older_tree (alike l) (more_items h) = of_items
+  older_tree (alike l) (newer_containing n) = absurd l
   older_tree (alike l) (newer_list n) = absurd l
   older_tree (alike l) (newer_set_of n) = absurd l
   older_tree (alike l) (newer_sequence n ns) = absurd l
   older_tree (alike l) (newer_choice n ns) = absurd l
+  older_tree (cut_containing c) (unchanged h) = absurd h
+  older_tree (cut_containing c) (newer_containing n) = of_containing (older_tree c n)
   older_tree (cut_list c) (unchanged h) = absurd h
   older_tree (cut_list c) (newer_list n) = of_list (older_tree c n)
   older_tree (cut_set_of c) (unchanged h) = absurd h
@@ -79,10 +82,13 @@ mutual
   newer_tree cut_here n = past_cut
   newer_tree (alike l) (unchanged h) = one_leaf l
   newer_tree (alike l) (more_items h) = of_items
+  newer_tree (alike l) (newer_containing n) = absurd l
   newer_tree (alike l) (newer_list n) = absurd l
   newer_tree (alike l) (newer_set_of n) = absurd l
   newer_tree (alike l) (newer_sequence n ns) = absurd l
   newer_tree (alike l) (newer_choice n ns) = absurd l
+  newer_tree (cut_containing c) (unchanged h) = absurd h
+  newer_tree (cut_containing c) (newer_containing n) = of_containing (newer_tree c n)
   newer_tree (cut_list c) (unchanged h) = absurd h
   newer_tree (cut_list c) (newer_list n) = of_list (newer_tree c n)
   newer_tree (cut_set_of c) (unchanged h) = absurd h
@@ -106,11 +112,14 @@ mutual
   other_test past_cut c = refl
   other_test (one_leaf l) cut_here = refl
   other_test (one_leaf l) (alike h) = refl
+  other_test (one_leaf l) (cut_containing c) = absurd l
   other_test (one_leaf l) (cut_list c) = absurd l
   other_test (one_leaf l) (cut_set_of c) = absurd l
   other_test (one_leaf l) (cut_sequence c d) = absurd l
   other_test (one_leaf l) (cut_choice c d) = absurd l
   other_test of_items (alike h) = refl
+  other_test (of_containing r) (alike h) = absurd h
+  other_test (of_containing r) (cut_containing c) = other_test r c
   other_test (of_list r) (alike h) = absurd h
   other_test (of_list r) (cut_list c) = ap in_elements (other_test r c)
   other_test (of_set r) (alike h) = absurd h
@@ -180,6 +189,7 @@ mutual
 
   pub uncut_writes : (s t : Schema) (v : Value) → meets_cut s v ≡ false → writes_cut s t v ≡ false
   uncut_writes Schema.cut t v m = m
+  uncut_writes (Schema.containing e) t v m = uncut_writes e (element_of t) v m
   uncut_writes (Schema.list e size mark) t (elements vs) m = any_less (meets_cut e) (writes_cut e (element_of t)) (uncut_writes e (element_of t)) (values vs) m
   uncut_writes (Schema.list e size mark) t (bag vs) m = any_less (meets_cut e) (writes_cut e (element_of t)) (uncut_writes e (element_of t)) (values vs) m
   uncut_writes (Schema.list e size mark) t _ m = refl

@@ -33,6 +33,7 @@ mutual
     past_cut : {t : Schema} → Reads Schema.cut t
     one_leaf : {s : Schema} → IsLeaf s → Reads s s
     of_items : {r e e' : ℕ} {ext : Bool} → Reads (Schema.items r e ext) (Schema.items r e' ext)
+    of_containing : {s t : Schema} → Reads s t → Reads (Schema.containing s) (Schema.containing t)
     of_list : {s t : Schema} {size : Size} {mark : Bool} → Reads s t → Reads (Schema.list s size mark) (Schema.list t size mark)
     of_set : {s t : Schema} {size : Size} {mark : Bool} → Reads s t → Reads (Schema.set_of s size mark) (Schema.set_of t size mark)
     of_sequence : {o : Order} {ext : Bool} {ps qs adds bdds : Parts} → ReadsParts false false ps qs → ReadsParts true false adds bdds → Reads (Schema.sequence o ps ext adds) (Schema.sequence o qs ext bdds)
@@ -227,6 +228,7 @@ choice_kept a ext adds bdds {ps} {qs} n h h' v w = as_agree (λ v w. writes_cut 
 -- all kinds
 pub leaf_kept : (a : Settings) (s : Schema) → IsLeaf s → (v w : Value) → Agree (writes_cut s s v ≡ false) (basic a s v) (basic a s w)
 unfolding basic_in writes_cut
+leaf_kept a (Schema.containing e) h v w = absurd h
 leaf_kept a (Schema.list e size mark) h v w = absurd h
 leaf_kept a (Schema.set_of e size mark) h v w = absurd h
 leaf_kept a (Schema.sequence o ps ext adds) h v w = absurd h
@@ -246,6 +248,7 @@ mutual
   reads_kept a past_cut v w = agree_never
   reads_kept a (one_leaf {s = s} h) v w = leaf_kept a s h v w
   reads_kept a (of_items {r = r} {e = e} {e' = e'} {ext = ext}) v w = items_kept a r e e' ext v w
+  reads_kept a (of_containing {s = s} {t = t} c) v w = open_agree a (Fills a (basic a t v)) (Fills a (basic a s w)) (λ os x y. fills_agree a os (reads_kept a c v w) x y)
   reads_kept a (of_list {s = s} {t = t} {size = size} {mark = mark} c) v w = list_kept a s t size mark (reads_kept a c) v w
   reads_kept a (of_set {s = s} {t = t} {size = size} {mark = mark} c) v w = bag_kept a s t size mark (reads_kept a c) v w
   reads_kept a (of_sequence {o = o} {ext = ext} c d) v w = record_kept a o ext c d (kin_of a c) (kin_of a d) v w

@@ -7,7 +7,7 @@ use Rattle.rasn_types.specs.Bits.{Bits}
 use Rattle.rasn_types.specs.Variants.{Variant}
 use Rattle.rasn_schema.specs.Schemas.{Presence, required, optional, group, default, Order, listed, by_tag, Tag, tags, Schema, Parts}
 use Rattle.rasn_schema.specs.Orders.{ordered, by_tags, insert_at, how_many_less}
-use Rattle.rasn_schema.specs.Depth.{in_slots, any_of, CutOf, CutParts, cut_here, alike, cut_list, cut_set_of, cut_sequence, cut_choice, no_cut, cut_part}
+use Rattle.rasn_schema.specs.Depth.{in_slots, any_of, CutOf, CutParts, cut_here, alike, cut_containing, cut_list, cut_set_of, cut_sequence, cut_choice, no_cut, cut_part}
 use Rattle.per_core.specs.Writers.{Writer, just, refused, ◌▹◌, go_on, written_if}
 use Rattle.per_core.specs.Counts.{counted, list_items, open_bits, constrained_whole, small}
 use Rattle.per_core.specs.Canon.{canon, members, Member, shown, flagged, if_shown, flags_of, bodies_of, also_bit, bitmap_of, bitmap, any_set, opens_of, with_additions, record_of, chosen, extension_bit, ascending}
@@ -204,6 +204,7 @@ mutual
   pub same_writer : (a : Variant) {s t : Schema} → CutOf s t → (v : Value) → writes_cut s t v ≡ false → canon a s v ≡ canon a t v
   same_writer a cut_here v m = absurd (cc)
   same_writer a (alike h) v m = refl
+  same_writer a (cut_containing c) v m = ap (λ w. open_bits a (w 0)) (same_writer a c v m)
   same_writer a (cut_list {s = s} {t = t} {size = size} {mark = mark} c) (elements vs) m = ap (λ l. counted a size mark list_items l) (map_same (canon a s) (canon a t) (writes_cut s t) (same_writer a c) (values vs) m)
   same_writer a (cut_list c) _ m = refl
   same_writer a (cut_set_of {s = s} {t = t} {size = size} {mark = mark} c) (bag vs) m =

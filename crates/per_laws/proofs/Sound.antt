@@ -277,6 +277,7 @@ mutual
   unfolding alike_in kins basic_in
 
   pub all_sound : (a : Settings) (s : Schema) (v : Value) → Sound (basic a s v) (alike_in a s v)
+  all_sound a (Schema.containing e) v = open_sound a (all_sound a e v)
   all_sound a (Schema.list e size mark) v = as_sound (λ vs. elements (as_values vs)) (lengthy_sound a (basic a e) (alike_in a e) (all_sound a e) size mark) v
   all_sound a (Schema.set_of e size mark) v = as_sound bag_of (lengthy_sound a (basic a e) (alike_in a e) (all_sound a e) size mark) v
   all_sound a (Schema.sequence o ps ext adds) v =

@@ -2,14 +2,14 @@
 use Rattle.std.proofs.Common.{◌≡◌, ◌↔◌, refl, sym, ◌∙◌, ℕ, zero, suc, Bool, false, []}
 use Rattle.rasn_types.specs.Values.{Value, elements, bag, fields, alternative, root, added, value, no_values, Slots, no_slots, absent, there, slots}
 use Rattle.rasn_constraints.specs.Bounds.{Size}
-use Rattle.rasn_schema.specs.Depth.{meets_cut, slots_meet_cut, meets_cut_at, CutOf, CutParts, alike, cut_list, cut_set_of, cut_sequence, cut_choice, cut_part, Unfolds}
+use Rattle.rasn_schema.specs.Depth.{meets_cut, slots_meet_cut, meets_cut_at, CutOf, CutParts, alike, cut_containing, cut_list, cut_set_of, cut_sequence, cut_choice, cut_part, Unfolds}
 use Rattle.rasn_schema.specs.Schemas.{Presence, required, optional, group, default, Order, TagTree, Schema, Parts, no_parts, part}
-use Rattle.per_core.specs.Versions.{IsWidened, NewerPresence, Newer, NewerParts, NewerType, unchanged, more_items, newer_list, newer_set_of, newer_sequence, newer_choice, no_more, more_parts, also}
+use Rattle.per_core.specs.Versions.{IsWidened, NewerPresence, Newer, NewerParts, NewerType, unchanged, more_items, newer_containing, newer_list, newer_set_of, newer_sequence, newer_choice, no_more, more_parts, also}
 use Rattle.per_core.proofs.LengthForms.{or_left, or_right}
 use Rattle.per_laws.proofs.Takes.{some_is}
 use Rattle.per_laws.proofs.Types.{deep_enough, up_to}
 use Rattle.per_laws.proofs.Wider.{wider}
-use Rattle.per_laws.specs.Successors.{PresenceSucceeds, Succeeds, SucceedsParts, SucceedsType, succeeds_itself, succeeds_items, succeeds_list, succeeds_set_of, succeeds_sequence, succeeds_choice, none_succeed, added_parts, succeeds_part}
+use Rattle.per_laws.specs.Successors.{PresenceSucceeds, Succeeds, SucceedsParts, SucceedsType, succeeds_itself, succeeds_items, succeeds_containing, succeeds_list, succeeds_set_of, succeeds_sequence, succeeds_choice, none_succeed, added_parts, succeeds_part}
 
 -- deeper trees of the two, along which a value meets no Cut
 record Held (s' s : Schema) (v : Value) : Type 0 where
@@ -29,6 +29,10 @@ record HeldAt (may : Bool) (ps' ps : Parts) (i : ℕ) (v : Value) : Type 0 where
   whole : meets_cut_at newer i v ≡ false
 
 -- what stands in a successor succeeds
+of_contained : {s' s : Schema} → Succeeds (Schema.containing s') (Schema.containing s) → Succeeds s' s
+of_contained (succeeds_itself h) = absurd h
+of_contained (succeeds_containing n) = n
+
 of_list : {s' s : Schema} {size size' : Size} {mark mark' : Bool} → Succeeds (Schema.list s' size' mark') (Schema.list s size mark) → Succeeds s' s
 of_list (succeeds_itself h) = absurd h
 of_list (succeeds_list n) = n
@@ -57,6 +61,10 @@ of_part : {may : Bool} {t t' : TagTree} {p p' : Presence} {s s' : Schema} {ps ps
 of_part (succeeds_part h n ns) = (h, n, ns)
 
 -- what stands in a newer version is newer
+in_newer_contained : {e' e : Schema} → Newer (Schema.containing e') (Schema.containing e) → Newer e' e
+in_newer_contained (unchanged h) = absurd h
+in_newer_contained (newer_containing n) = n
+
 in_newer_list : {e' e : Schema} {size size' : Size} {mark mark' : Bool} → Newer (Schema.list e' size' mark') (Schema.list e size mark) → Newer e' e
 in_newer_list (unchanged h) = absurd h
 in_newer_list (newer_list n) = n
@@ -85,7 +93,16 @@ in_newer_part : {may : Bool} {t t' : TagTree} {p' p : Presence} {s' s : Schema} 
     NewerPresence s' s p' p × Newer s' s × NewerParts may ps' ps
 in_newer_part (also h n ns) = (h, n, ns)
 
--- a tree that holds a list holds its element, and so on
+-- a tree that holds what octets contain, a list or a bag, holds the value or the element, and so on
+in_contained : {s' s : Schema} (v : Value) → Held (Schema.containing s') (Schema.containing s) v → Held s' s v
+unfolding meets_cut
+in_contained {s'} {s} v h = go h.newer h.older h.from_newer h.from_older h.succeeds h.whole
+  where
+    go : (t' t : Schema) → CutOf (Schema.containing s') t' → CutOf (Schema.containing s) t → Succeeds t' t → meets_cut t' v ≡ false → Held s' s v
+    go t' t (alike i) d n m = absurd i
+    go t' t (cut_containing c) (alike i) n m = absurd i
+    go t' t (cut_containing {t = f'} c) (cut_containing {t = f} d) n m = record { newer = f'; older = f; from_newer = c; from_older = d; succeeds = of_contained n; whole = m }
+
 in_list : {s' s : Schema} {size size' : Size} {mark mark' : Bool} (v : Value) → Held (Schema.list s' size' mark') (Schema.list s size mark) (elements (value v no_values)) → Held s' s v
 unfolding meets_cut
 in_list {s'} {s} {size} {size'} {mark} {mark'} v h = go h.newer h.older h.from_newer h.from_older h.succeeds h.whole
@@ -190,6 +207,7 @@ mutual
   newer_held : {s' s : Schema} → Succeeds s' s → Newer s s → ((v : Value) → Held s' s v) → Newer s' s
   newer_held (succeeds_itself i) own h = unchanged i
   newer_held (succeeds_items i) own h = more_items i
+  newer_held (succeeds_containing n) own h = newer_containing (newer_held n (in_newer_contained own) (λ v. in_contained v (h v)))
   newer_held (succeeds_list n) own h = newer_list (newer_held n (in_newer_list own) (λ v. in_list v (h (elements (value v no_values)))))
   newer_held (succeeds_set_of n) own h = newer_set_of (newer_held n (in_newer_bag own) (λ v. in_bag v (h (bag (value v no_values)))))
   newer_held (succeeds_sequence n ns) own h = newer_sequence
@@ -223,6 +241,7 @@ mutual
   pub newer_succeeds : {s' s : Schema} → Newer s' s → Succeeds s' s
   newer_succeeds (unchanged i) = succeeds_itself i
   newer_succeeds (more_items i) = succeeds_items i
+  newer_succeeds (newer_containing n) = succeeds_containing (newer_succeeds n)
   newer_succeeds (newer_list n) = succeeds_list (newer_succeeds n)
   newer_succeeds (newer_set_of n) = succeeds_set_of (newer_succeeds n)
   newer_succeeds (newer_sequence n ns) = succeeds_sequence (parts_succeed n) (parts_succeed ns)

@@ -121,6 +121,7 @@ item_takes a r e' e ext v' v h = as_carry (λ (x : Side × ℕ). Value.item x.0 
 pub plain_takes : (a : Settings) (s : Schema) → IsPlain s → (v' v : Value) → project s s v' ≡ Some v → Carry (basic a s v') (basic a s v)
 unfolding project
 plain_takes a (Schema.items r e ext) h v' v k = item_takes a r e e ext v' v k
+plain_takes a (Schema.containing e) h v' v k = absurd h
 plain_takes a (Schema.list e size mark) h v' v k = absurd h
 plain_takes a (Schema.set_of e size mark) h v' v k = absurd h
 plain_takes a (Schema.sequence o ps ext adds) h v' v k = absurd h

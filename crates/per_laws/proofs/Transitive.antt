@@ -4,7 +4,7 @@ use Rattle.rasn_types.specs.Values.{Value, elements, bag, bag_of, fields, altern
 use Rattle.rasn_types.proofs.Values.{slots-as_slots, values-as_values}
 use Rattle.rasn_schema.specs.Depth.{meets_cut, slots_meet_cut, meets_cut_at, in_slots, in_elements, in_fields, in_alternative, any_of}
 use Rattle.rasn_schema.specs.Schemas.{Presence, required, optional, group, default, Schema, Parts}
-use Rattle.per_core.specs.Versions.{widen, widen_slots, widen_at, filled_in, all_filled_in, slot_through, slots_through, through_elements, through_bag, through_fields, through_alternative, made, made_both, joined, all_of, NewerPresence, Newer, NewerParts, unchanged, more_items, newer_list, newer_set_of, newer_sequence, newer_choice, no_more, more_parts, also}
+use Rattle.per_core.specs.Versions.{widen, widen_slots, widen_at, filled_in, all_filled_in, slot_through, slots_through, through_elements, through_bag, through_fields, through_alternative, made, made_both, joined, all_of, NewerPresence, Newer, NewerParts, unchanged, more_items, newer_containing, newer_list, newer_set_of, newer_sequence, newer_choice, no_more, more_parts, also}
 use Rattle.per_core.proofs.Bags.{any_in_bag, joined_of, sort}
 use Rattle.per_core.proofs.LengthForms.{or_left, or_right}
 use Rattle.per_core.proofs.Readings.{some_same}
@@ -80,6 +80,7 @@ mutual
   pub cuts : {s' s : Schema} → Newer s' s → Cuts (widen s' s) (meets_cut s) (meets_cut s')
   cuts (unchanged {s = s} h) = λ v w e m. subst (λ z. meets_cut s z ≡ false) (sym (some_is v w (sym (plain_widen s h v) ∙ e))) m
   cuts (more_items k) = λ v w e m. refl
+  cuts (newer_containing n) = cuts n
   cuts (newer_list {e = e0} {e' = e1} n) = elements_cuts (widen e1 e0) (meets_cut e0) (meets_cut e1) (cuts n)
   cuts (newer_set_of {e = e0} {e' = e1} n) = bags_cuts (widen e1 e0) (meets_cut e0) (meets_cut e1) (cuts n)
   cuts (newer_sequence {ps = ps} {ps' = ps'} {adds = adds} {adds' = adds'} n ns) =
@@ -342,6 +343,8 @@ mutual
   joins (unchanged {s = t} h) m = record { up = λ v v1 v2 e k c. e ∙ sym (plain_widen t h v1) ∙ k; down = λ v v2 e c. (v2, e, plain_widen t h v2) }
   joins (more_items k) (unchanged h) = absurd (cc)
   joins (more_items k) (more_items l) = record { up = λ v v1 v2 e k c. e ∙ k; down = λ v v2 e c. (v, refl, e) }
+  joins (newer_containing n) (unchanged h) = absurd h
+  joins (newer_containing n) (newer_containing m) = joins n m
   joins (newer_list n) (unchanged h) = absurd h
   joins (newer_list {e = e1} {e' = e2} n) (newer_list {e = e0} m) = elements_joins (widen e1 e0) (widen e2 e1) (widen e2 e0) (meets_cut e2) (joins n m)
   joins (newer_set_of n) (unchanged h) = absurd h
@@ -390,6 +393,8 @@ mutual
   transitive (unchanged h) m = m
   transitive (more_items k) (unchanged h) = more_items k
   transitive (more_items k) (more_items l) = more_items (omega arith)
+  transitive (newer_containing n) (unchanged h) = absurd h
+  transitive (newer_containing n) (newer_containing m) = newer_containing (transitive n m)
   transitive (newer_list n) (unchanged h) = absurd h
   transitive (newer_list n) (newer_list m) = newer_list (transitive n m)
   transitive (newer_set_of n) (unchanged h) = absurd h

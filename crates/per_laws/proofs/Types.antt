@@ -1,7 +1,7 @@
 -- Types in two versions: readers at 128 levels, projection and widening at as many levels as the value has.
 use Rattle.std.proofs.Common.{◌≡◌, ◌↔◌, refl, subst, ℕ, zero, suc, ◌+◌, ◌-◌, ◌≤◌, Bool, true, false, List, [], ◌∷◌, arith, Option, Some, None}
 use Rattle.rasn_types.specs.Values.{Value, elements, bag, fields, alternative, root, added, values, slots}
-use Rattle.rasn_schema.specs.Depth.{meets_cut, slots_meet_cut, meets_cut_at, in_slots, in_elements, in_fields, in_alternative, any_of, CutOf, CutParts, cut_here, alike, cut_list, cut_set_of, cut_sequence, cut_choice, no_cut, cut_part, Unfolds}
+use Rattle.rasn_schema.specs.Depth.{meets_cut, slots_meet_cut, meets_cut_at, in_slots, in_elements, in_fields, in_alternative, any_of, CutOf, CutParts, cut_here, alike, cut_containing, cut_list, cut_set_of, cut_sequence, cut_choice, no_cut, cut_part, Unfolds}
 use Rattle.rasn_schema.specs.Schemas.{Schema, Parts}
 use Rattle.per_core.specs.Basic.{fills, fills_known, read}
 use Rattle.per_core.specs.Spellings.{Settings}
@@ -18,6 +18,8 @@ mutual
   through_cut : {r s t : Schema} → CutOf r s → CutOf s t → CutOf r t
   through_cut cut_here d = cut_here
   through_cut (alike h) d = d
+  through_cut (cut_containing c) (alike h) = absurd h
+  through_cut (cut_containing c) (cut_containing d) = cut_containing (through_cut c d)
   through_cut (cut_list c) (alike h) = absurd h
   through_cut (cut_list c) (cut_list d) = cut_list (through_cut c d)
   through_cut (cut_set_of c) (alike h) = absurd h
@@ -64,6 +66,7 @@ mutual
   pub less_cut : {s t : Schema} → CutOf s t → (v : Value) → meets_cut s v ≡ false → meets_cut t v ≡ false
   less_cut cut_here = λ v m. absurd (cc)
   less_cut (alike h) = λ v m. m
+  less_cut (cut_containing c) = less_cut c
   less_cut (cut_list {s = s} {t = t} c) = elements_less (meets_cut s) (meets_cut t) (less_cut c)
   less_cut (cut_set_of {s = s} {t = t} c) = elements_less (meets_cut s) (meets_cut t) (less_cut c)
   less_cut (cut_sequence {ps = ps} {qs = qs} {adds = adds} {bdds = bdds} c d) = fields_less (slots_meet_cut ps) (slots_meet_cut qs) (slots_meet_cut adds) (slots_meet_cut bdds) (less_slots c) (less_slots d)

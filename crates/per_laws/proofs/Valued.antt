@@ -147,6 +147,7 @@ mutual
   unfolding is_value normal
 
   stays : (s : Schema) → Stays (is_value s) (normal s)
+  stays (Schema.containing e) = stays e
   stays (Schema.list e size mark) = elements_stay (is_value e) (normal e) (stays e)
   stays (Schema.set_of e size mark) = bags_stay (is_value e) (normal e) (stays e)
   stays (Schema.sequence o ps ext adds) = fields_stay (are_values ps) (are_values adds) (normals ps) (normals adds) (parts_stay ps) (parts_stay adds)

@@ -2,7 +2,7 @@
 use Rattle.std.proofs.Common.{◌≡◌, sym, ap, ◌∙◌, subst, ℕ, zero, suc, Bool, false, ◌||◌, ◌⊎◌, inl, inr, List, [], ◌∷◌, Option, Some, None}
 use Rattle.rasn_types.specs.Values.{Value, elements, bag, bag_of, fields, alternative, root, added, as_values, as_slots, values, slots}
 use Rattle.rasn_types.proofs.Values.{slots-as_slots, values-as_values}
-use Rattle.rasn_schema.specs.Depth.{meets_cut, slots_meet_cut, meets_cut_at, in_slots, in_elements, in_fields, in_alternative, any_of, CutOf, CutParts, alike, cut_list, cut_set_of, cut_sequence, cut_choice, no_cut, cut_part}
+use Rattle.rasn_schema.specs.Depth.{meets_cut, slots_meet_cut, meets_cut_at, in_slots, in_elements, in_fields, in_alternative, any_of, CutOf, CutParts, alike, cut_containing, cut_list, cut_set_of, cut_sequence, cut_choice, no_cut, cut_part}
 use Rattle.rasn_schema.specs.Schemas.{Schema, Parts}
 use Rattle.per_core.specs.Versions.{widen, widen_slots, widen_at, slot_through, slots_through, through_elements, through_bag, through_fields, through_alternative, made, made_both, joined, all_of, IsPlain}
 use Rattle.per_core.proofs.Bags.{joined_of}
@@ -11,7 +11,7 @@ use Rattle.per_core.proofs.Readings.{some_same}
 use Rattle.per_laws.proofs.Held.{plain_cut, same_filled}
 use Rattle.per_laws.proofs.Older.{made_of, made_both_of, slot_some}
 use Rattle.per_laws.proofs.Transitive.{Slotted, in_bag, into_slot, slot_apart, slot_test, some_l, some_o}
-use Rattle.per_laws.specs.Successors.{Succeeds, SucceedsParts, succeeds_itself, succeeds_items, succeeds_list, succeeds_set_of, succeeds_sequence, succeeds_choice, none_succeed, added_parts, succeeds_part}
+use Rattle.per_laws.specs.Successors.{Succeeds, SucceedsParts, succeeds_itself, succeeds_items, succeeds_containing, succeeds_list, succeeds_set_of, succeeds_sequence, succeeds_choice, none_succeed, added_parts, succeeds_part}
 
 -- what the first function makes, and meets no Cut, the second one makes too
 abbrev pub Makes : {X : Type 0} → (X → Option X) → (X → Option X) → (X → Bool) → Type 0
@@ -89,6 +89,9 @@ mutual
   widen_both : {s' s t' t : Schema} → Succeeds s' s → CutOf s' t' → CutOf s t → Both (widen s' s) (widen t' t) (meets_cut s')
   widen_both (succeeds_itself h) c d = plain_both h c d
   widen_both (succeeds_items h) (alike i) (alike j) = (λ v w e m. e, λ v w e m. e)
+  widen_both (succeeds_containing n) (alike i) d = absurd i
+  widen_both (succeeds_containing n) (cut_containing c) (alike i) = absurd i
+  widen_both (succeeds_containing n) (cut_containing c) (cut_containing d) = widen_both n c d
   widen_both (succeeds_list n) (alike i) d = absurd i
   widen_both (succeeds_list n) (cut_list c) (alike i) = absurd i
   widen_both (succeeds_list {e = e0} {e' = e1} n) (cut_list {t = f1} c) (cut_list {t = f0} d) =

@@ -192,6 +192,7 @@ unfoldable mutual
   -- two spellings of a value along its schema, from one position on: the same, bit for bit, but for the octets of
   -- additions that the schema doesn't know, and for the octets of the open types in which these stand
   pub alike_in : Settings → Schema → Value → Pair
+  alike_in a (Schema.containing e) = λ v. OpenAlike a (alike_in a e v)
   alike_in a (Schema.list e size mark) =
       AsAlike (λ vs. elements (as_values vs)) (LengthyAlike a size mark (alike_in a e))
   alike_in a (Schema.set_of e size mark) = AsAlike bag_of (LengthyAlike a size mark (alike_in a e))

@@ -33,6 +33,7 @@ Below f (suc n) = f n
 abbrev mutual
   pub Deep : ℕ → Schema → Type 0
   Deep n Schema.cut = Below (λ m. ⊥) n
+  Deep n (Schema.containing e) = Deep n e
   Deep n (Schema.list e size mark) = Below (λ m. Deep m e) n
   Deep n (Schema.set_of e size mark) = Below (λ m. Deep m e) n
   Deep n (Schema.sequence o ps ext adds) = Below (λ m. DeepParts m ps × DeepParts m adds) n

@@ -20,6 +20,7 @@ unfoldable mutual
   -- X.680 22.1: a type whose bits have no names, at every depth
   pub without_names : Schema → Schema
   without_names (Schema.bit_string size mark named) = Schema.bit_string size mark false
+  without_names (Schema.containing e) = Schema.containing (without_names e)
   without_names (Schema.list e size mark) = Schema.list (without_names e) size mark
   without_names (Schema.set_of e size mark) = Schema.set_of (without_names e) size mark
   without_names (Schema.sequence o ps ext adds) =

@@ -25,6 +25,7 @@ mutual
   pub data Succeeds : Schema → Schema → Type 0 where
     succeeds_itself : {s : Schema} → IsPlain s → Succeeds s s
     succeeds_items : {r e e' : ℕ} → e ≤ e' → Succeeds (Schema.items r e' true) (Schema.items r e true)
+    succeeds_containing : {e e' : Schema} → Succeeds e' e → Succeeds (Schema.containing e') (Schema.containing e)
     succeeds_list : {e e' : Schema} {size : Size} {mark : Bool} → Succeeds e' e
         → Succeeds (Schema.list e' size mark) (Schema.list e size mark)
     succeeds_set_of : {e e' : Schema} {size : Size} {mark : Bool} → Succeeds e' e

@@ -18,6 +18,7 @@ unfoldable mutual
 
   pub writes_cut : Schema → Schema → Value → Bool
   writes_cut Schema.cut t = λ v. true
+  writes_cut (Schema.containing e) t = writes_cut e (element_of t)
   writes_cut (Schema.list e size mark) t = in_elements (writes_cut e (element_of t))
   writes_cut (Schema.set_of e size mark) t = in_elements (writes_cut e (element_of t))
   writes_cut (Schema.sequence o ps ext adds) t = in_fields (slots_write_cut ps (root_of t))

@@ -2,6 +2,7 @@
 #![tactic(auto)]
 
 pub mod choices;
+pub mod contents;
 pub mod dates;
 pub mod deep_defaults;
 pub mod extensions;

@@ -21,11 +21,11 @@ use Rattle.per_core.specs.Spellings.{Settings}
 use Rattle.per_core.proofs.Counting.{length-map'}
 use Rattle.per_core.proofs.LengthForms.{and_left, and_right}
 use Rattle.per_core.specs.Within.{Each}
-use Rattle.per_write.specs.Faults.{IsInValue, Outside, OutsideSize, IsPast, has_bound, HasForeign, IsOutOfBounds, IsPastBounds, IsOutOfSize, IsForeign, IsUnlawful, IsReal, IsAbsent, StandsIn, at_once, in_part, in_addition, in_set, in_element, in_member, in_alternative}
+use Rattle.per_write.specs.Faults.{IsInValue, Outside, OutsideSize, IsPast, has_bound, HasForeign, IsOutOfBounds, IsPastBounds, IsOutOfSize, IsForeign, IsUnlawful, IsReal, IsAbsent, StandsIn, at_once, in_part, in_addition, in_set, in_contents, in_element, in_member, in_alternative}
 use Rattle.per_write.specs.declared.error.EncodeErrorKind.{EncodeErrorKind}
 use Rattle.per_write.specs.declared.error.EncodeErrorKind.TheVariants.{SizeConstraintNotSatisfied, ValueConstraintNotSatisfied, AlphabetConstraintNotSatisfied, IntegerTypeConversionFailed, VariantNotInChoice, RealNotSupported, TooManyAdditions, Below, AlreadyFailed, OutOfMemory, OutOfTurn}
 use Rattle.per_versions.specs.Kept.{starts_in_i128, ends_in_i128, are_in_i128, keeps_numbers, keeps_to_i128}
-use Rattle.per_versions.proofs.Read.{IsGood, IsRead, in_root, in_additions, set_good, set_read, element_read, member_read, alternative_read}
+use Rattle.per_versions.proofs.Read.{IsGood, IsRead, in_root, in_additions, set_good, set_read, contained_good, contained_read, element_read, member_read, alternative_read}
 use Rattle.per_versions.proofs.Spelled.{Somewhere, lengthy_spelled}
 
 no : {b : Bool} → b ≡ false → b ≡ true → ⊥
@@ -40,6 +40,7 @@ module _ (fault : Schema → Value → Type 0) (asked : Bool) (a : Settings) (u 
   faultless (in_part xs h st) g r = let q = in_root xs h g r in faultless st q.0 q.1
   faultless (in_addition rs h st) g r = let q = in_additions rs h g r in faultless st q.0 q.1
   faultless (in_set rs xs st) g r = faultless st (set_good g) (set_read rs xs r)
+  faultless (in_contents st) g r = faultless st (contained_good g) (contained_read r)
   faultless (in_element h st) g r = faultless st (record { lawful = g.lawful.1; kept = g.kept }) (element_read h r)
   faultless (in_member h st) g r = faultless st (record { lawful = g.lawful.1; kept = g.kept }) (member_read h r)
   faultless (in_alternative e st) g r = let q = alternative_read e g r in faultless st q.0 q.1
@@ -236,6 +237,7 @@ module _ (a : Settings) (u : Bool) where
   not_absent (Schema.bit_string size mark true) w r f = let x = r.where_it_is.spelled in
       let e : bits (normal_bits size.least x.of) ≡ no_value = sym (r.is ∙ ap (normal (Schema.bit_string size mark true)) x.is) ∙ f in cc
   not_absent (Schema.char_string alphabet size mark) w r f = let x = r.where_it_is.spelled in let e : characters x.of ≡ no_value = sym (r.is ∙ x.is) ∙ f in cc
+  not_absent (Schema.containing e) w r f = not_absent e w (contained_read r) f
   not_absent (Schema.list element size mark) w r f = let x = r.where_it_is.spelled in let e : normal (Schema.list element size mark) (elements (as_values x.of)) ≡ no_value = sym (r.is ∙ ap (normal (Schema.list element size mark)) x.is) ∙ f in cc
   not_absent (Schema.set_of element size mark) w r f = let x = r.where_it_is.spelled in let e : normal (Schema.set_of element size mark) (bag_of x.of) ≡ no_value = sym (r.is ∙ ap (normal (Schema.set_of element size mark)) x.is) ∙ f in cc
   not_absent (Schema.sequence o ps ext adds) w r f = let x = r.where_it_is.spelled in let e : normal (Schema.sequence o ps ext adds) (fields (as_slots x.of.0) (as_slots x.of.1)) ≡ no_value = sym (r.is ∙ ap (normal (Schema.sequence o ps ext adds)) x.is) ∙ f in cc

@@ -1,6 +1,6 @@
 -- Each tree of a type keeps to the numbers of an i128 where that of 128 levels does.
 use Rattle.std.proofs.Common.{◌≡◌, refl, sym, ap₂, subst, ℕ, ◌+◌, Bool, true, ◌&&◌, arith}
-use Rattle.rasn_schema.specs.Depth.{CutOf, CutParts, cut_here, alike, cut_list, cut_set_of, cut_sequence, cut_choice, no_cut, cut_part}
+use Rattle.rasn_schema.specs.Depth.{CutOf, CutParts, cut_here, alike, cut_containing, cut_list, cut_set_of, cut_sequence, cut_choice, no_cut, cut_part}
 use Rattle.rasn_schema.specs.Levels.{Levelled}
 use Rattle.rasn_schema.specs.Schemas.{Schema, Parts}
 use Rattle.per_core.proofs.LengthForms.{and_left, and_right}
@@ -21,6 +21,7 @@ mutual
   cut_kept : {s t : Schema} → CutOf s t → keeps_to_i128 t ≡ true → keeps_to_i128 s ≡ true
   cut_kept cut_here h = refl
   cut_kept (alike l) h = h
+  cut_kept (cut_containing c) h = cut_kept c h
   cut_kept (cut_list c) h = cut_kept c h
   cut_kept (cut_set_of c) h = cut_kept c h
   cut_kept (cut_sequence {ps = ps} {qs = qs} {adds = adds} {bdds = bdds} c d) h =

@@ -2,7 +2,7 @@
 use Rattle.std.proofs.Common.{◌≡◌, refl, sym, ap, ◌∙◌, ap₂, subst, ℕ, zero, suc, ◌+◌, Bool, true, false, cond, not, ◌&&◌, ◌||◌, List, [], ◌∷◌, map, Option, Some, None, inl, inr, arith}
 use Rattle.rasn_types.specs.Values.{Value, code, before, sorted, same, elements, bag, bag_of, fields, alternative, root, added, values, slots}
 use Rattle.rasn_types.proofs.Values.{slots-as_slots, values-as_values}
-use Rattle.rasn_schema.specs.Depth.{IsLeaf, any_of, in_alternative, in_elements, in_fields, in_slots, meets_cut, slots_meet_cut, meets_cut_at, CutOf, CutParts, cut_here, alike, cut_list, cut_set_of, cut_sequence, cut_choice, no_cut, cut_part}
+use Rattle.rasn_schema.specs.Depth.{IsLeaf, any_of, in_alternative, in_elements, in_fields, in_slots, meets_cut, slots_meet_cut, meets_cut_at, CutOf, CutParts, cut_here, alike, cut_containing, cut_list, cut_set_of, cut_sequence, cut_choice, no_cut, cut_part}
 use Rattle.rasn_schema.specs.Lawful.{AreLawful, IsLawful, IsLawfulPresence}
 use Rattle.rasn_schema.specs.Levels.{Levelled}
 use Rattle.rasn_schema.specs.Normal.{is_vacant, settle, each_slot, over_elements, over_bag, over_fields, over_alternative, normal, normals, normal_at}
@@ -100,6 +100,7 @@ slots_low p s t K M g l h h' (Some v ∷ xs) m e =
 
 leaf_low : (s : Schema) → IsLeaf s → Low (writes_cut s s) (meets_cut s) (normal s)
 unfolding normal writes_cut
+leaf_low (Schema.containing e) h = absurd h
 leaf_low (Schema.list e size mark) h = absurd h
 leaf_low (Schema.set_of e size mark) h = absurd h
 leaf_low (Schema.sequence o ps ext adds) h = absurd h
@@ -113,6 +114,7 @@ mutual
   low : {s t : Schema} → CutOf s t → IsLawful t → Low (writes_cut s t) (meets_cut t) (normal t)
   low cut_here l = λ v m e. absurd (cc)
   low (alike {s = s} h) l = leaf_low s h
+  low (cut_containing c) l = low c l
   low (cut_list {s = s} {t = t} c) l = elements_low (writes_cut s t) (meets_cut t) (normal t) (low c l.1)
   low (cut_set_of {s = s} {t = t} c) l = bags_low (writes_cut s t) (meets_cut t) (normal t) (low c l.1)
   low (cut_sequence {ps = ps} {qs = qs} {adds = adds} {bdds = bdds} c d) l =

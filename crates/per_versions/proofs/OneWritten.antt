@@ -25,7 +25,7 @@ use Rattle.per_core.proofs.LengthForms.{and_left, and_right}
 use Rattle.per_core.proofs.Readings.{length-rules-in}
 use Rattle.per_core.specs.Within.{Each}
 use Rattle.per_versions.proofs.Faultless.{length-sorted, read_whole}
-use Rattle.per_versions.proofs.Read.{alternative_read, IsGood, IsRead, member_read, same_itself}
+use Rattle.per_versions.proofs.Read.{alternative_read, contained_read, IsGood, IsRead, member_read, same_itself}
 use Rattle.per_versions.proofs.Spelled.{all_sorted, open_spelled}
 use Rattle.per_versions.specs.Short.{AddedShort, AlternativeShort, AreShort, IsShort}
 use Rattle.per_versions.specs.Writable.{are_writable, is_writable}
@@ -153,6 +153,7 @@ module _ (a : Settings) (u : Bool) (c : Variant) where
         subst (λ v. Total (canon c (Schemas.bit_string size mark false) v)) (sym (r.is ∙ x.is)) (bit_string_total c size mark x.of (is_counted a size mark bit_items bit x.of r.where_it_is.at r.where_it_is.bits x.spelled))
     total (Schema.char_string alphabet size mark) l k = λ w r z. let x = r.where_it_is.spelled in
         subst (λ v. Total (canon c (Schemas.char_string alphabet size mark) v)) (sym (r.is ∙ x.is)) (characters_total a c alphabet size mark x.of r.where_it_is.at r.where_it_is.bits x.spelled)
+    total (Schema.containing e) l k = λ w r z. open_total c (canon c e w) (total e l k w (contained_read r) z.1) z.0
     total (Schema.list e size mark) l k = list_total a u c e (total e l.1 k) size mark
     total (Schema.set_of e size mark) l k = bag_total a u c e (total e l.1 k) size mark
     total (Schema.sequence o ps ext adds) l k =

@@ -8,7 +8,7 @@ use Rattle.rasn_schema.specs.Lawful.{AreLawful, IsLawful, IsLawfulPresence, is_g
 use Rattle.per_laws.proofs.Normals.{named_still}
 use Rattle.rasn_schema.specs.Normal.{is_idle, are_idle, is_vacant, settle, each_slot, if_named, over_elements, over_bag, over_fields, over_alternative, normal, normals, normal_at}
 use Rattle.rasn_schema.specs.Schemas.{Presence, required, optional, group, default, Schema, Parts, no_parts, part}
-use Rattle.per_core.specs.Versions.{project, project_slots, project_at, slot_through, slots_through, through_elements, through_bag, through_fields, through_alternative, made, made_both, joined, all_of, IsPlain, NewerPresence, Newer, NewerParts, unchanged, more_items, newer_list, newer_set_of, newer_sequence, newer_choice, no_more, more_parts, also}
+use Rattle.per_core.specs.Versions.{project, project_slots, project_at, slot_through, slots_through, through_elements, through_bag, through_fields, through_alternative, made, made_both, joined, all_of, IsPlain, NewerPresence, Newer, NewerParts, unchanged, more_items, newer_containing, newer_list, newer_set_of, newer_sequence, newer_choice, no_more, more_parts, also}
 use Rattle.per_core.proofs.Bags.{joined_of, sort}
 use Rattle.per_core.proofs.Codes.{same_true}
 use Rattle.per_core.proofs.LengthForms.{and_left, and_right, or_left, or_right}
@@ -47,6 +47,7 @@ mutual
   unfolding normal meets_cut
 
   pub whole : (s : Schema) → Whole (meets_cut s) (normal s)
+  whole (Schema.containing e) = whole e
   whole (Schema.list e size mark) = elements_low (meets_cut e) (meets_cut e) (normal e) (whole e)
   whole (Schema.set_of e size mark) = bags_low (meets_cut e) (meets_cut e) (normal e) (whole e)
   whole (Schema.sequence o ps ext adds) = fields_low (slots_meet_cut ps) (slots_meet_cut ps) (normals ps) (slots_meet_cut adds) (slots_meet_cut adds) (normals adds) (wholes ps) (wholes adds)
@@ -208,6 +209,7 @@ vacant_stays (newer_sequence {o = o} {ext = ext} {ps = ps} {ps' = ps'} {adds = a
     ∙ ap₂ (λ l k. are_idle ps l && are_idle adds k) (slots-as_slots (normals ps q.0)) (slots-as_slots (normals adds q.1)) ∙ both_true (are_idle ps (normals ps q.0)) (are_idle adds (normals adds q.1)) a b
 vacant_stays (newer_sequence n ns) l k _ u m i e = absurd (cc)
 vacant_stays (more_items h) l k z u m i e = absurd (cc)
+vacant_stays (newer_containing n) l k z u m i e = absurd (cc)
 vacant_stays (newer_list n) l k z u m i e = absurd (cc)
 vacant_stays (newer_set_of n) l k z u m i e = absurd (cc)
 vacant_stays (newer_choice n ns) l k z u m i e = absurd (cc)
@@ -267,6 +269,7 @@ same_some v w e = cc
 
 plain_commute : (s : Schema) → IsPlain s → Commutes (project s s) (normal s) (normal s) (meets_cut s)
 unfolding normal project
+plain_commute (Schema.containing e) h v w m k = absurd h
 plain_commute (Schema.list e size mark) h v w m k = absurd h
 plain_commute (Schema.set_of e size mark) h v w m k = absurd h
 plain_commute (Schema.sequence o ps ext adds) h v w m k = absurd h
@@ -280,6 +283,7 @@ mutual
   pub commute : {s' s : Schema} → Newer s' s → IsLawful s → Commutes (project s' s) (normal s') (normal s) (meets_cut s')
   commute (unchanged {s = s} h) l = plain_commute s h
   commute (more_items h) l = λ v w m e. (w, e, refl)
+  commute (newer_containing n) l = commute n l
   commute (newer_list {e = e} {e' = e'} n) l = elements_commute (project e' e) (normal e') (normal e) (meets_cut e') (commute n l.1)
   commute (newer_set_of {e = e} {e' = e'} n) l = bags_commute (project e' e) (normal e') (normal e) (meets_cut e') (commute n l.1)
   commute (newer_sequence {ps = ps} {ps' = ps'} {adds = adds} {adds' = adds'} n ns) l =

@@ -171,6 +171,17 @@ set_read {a} {u} {ps} {adds} {ext} rs xs r =
     neither : {b c : Bool} → b ≡ false → c ≡ false → (b || c) ≡ false
     neither e f = cc
 
+-- what octets contain
+pub contained_good : {asked : Bool} {e : Schema} → IsGood asked (Schema.containing e) → IsGood asked e
+unfolding IsLawful keeps_to_i128
+contained_good g = record { lawful = g.lawful; kept = g.kept }
+
+pub contained_read : {a : Settings} {u : Bool} {e : Schema} {w : Value} → IsRead a u (Schema.containing e) w → IsRead a u e w
+unfolding basic_in meets_cut normal
+contained_read {a} {u} {e} r =
+    let y = r.where_it_is in
+    record { value = r.value; where_it_is = open_spelled a (basic_in a u e r.value) y.at y.bits y.spelled; uncut = r.uncut; is = r.is }
+
 -- elements of a list
 all_read : (a : Settings) (u : Bool) (e : Schema) (vs : List Value) → Each (λ v. Somewhere (basic_in a u e v)) vs → any_of (meets_cut e) vs ≡ false → Each (IsRead a u e) (map (normal e) vs)
 all_read a u e [] h m = tt

@@ -6,7 +6,7 @@ use Rattle.rasn_schema.specs.Depth.{meets_cut, slots_meet_cut, meets_cut_at, in_
 use Rattle.rasn_schema.specs.Lawful.{AreLawful, IsLawful, IsLawfulPresence, is_group_schema}
 use Rattle.rasn_schema.specs.Normal.{is_idle, are_idle, is_vacant, settle, each_slot, over_elements, over_bag, over_fields, over_alternative, normal, normals, normal_at}
 use Rattle.rasn_schema.specs.Schemas.{Presence, required, optional, group, default, Schema, Parts}
-use Rattle.per_core.specs.Versions.{project, project_slots, project_at, slot_through, slots_through, through_elements, through_bag, through_fields, through_alternative, made, made_both, joined, all_of, IsPlain, NewerPresence, Newer, NewerParts, unchanged, more_items, newer_list, newer_set_of, newer_sequence, newer_choice, no_more, more_parts, also}
+use Rattle.per_core.specs.Versions.{project, project_slots, project_at, slot_through, slots_through, through_elements, through_bag, through_fields, through_alternative, made, made_both, joined, all_of, IsPlain, NewerPresence, Newer, NewerParts, unchanged, more_items, newer_containing, newer_list, newer_set_of, newer_sequence, newer_choice, no_more, more_parts, also}
 use Rattle.per_core.proofs.Bags.{joined_of}
 use Rattle.per_core.proofs.Codes.{same_true}
 use Rattle.per_core.proofs.LengthForms.{and_left, and_right, or_left, or_right}
@@ -96,6 +96,7 @@ vacant_project (newer_sequence {ps = ps} {ps' = ps'} {adds = adds} {adds' = adds
     (fields (as_slots a.0) (as_slots b.0), ap₂ made_both a.1 b.1)
 vacant_project (newer_sequence n ns) k _ m i = absurd (cc)
 vacant_project (more_items h) k z m i = absurd (cc)
+vacant_project (newer_containing n) k z m i = absurd (cc)
 vacant_project (newer_list n) k z m i = absurd (cc)
 vacant_project (newer_set_of n) k z m i = absurd (cc)
 vacant_project (newer_choice n ns) k z m i = absurd (cc)
@@ -135,6 +136,7 @@ slots_return {s'} {s} n p' p k lp h F f' L r (Some v ∷ xs) u m e =
 
 plain_returns : (s : Schema) → IsPlain s → Returns (project s s) (normal s) (meets_cut s)
 unfolding normal project
+plain_returns (Schema.containing e) h v u m k = absurd h
 plain_returns (Schema.list e size mark) h v u m k = absurd h
 plain_returns (Schema.set_of e size mark) h v u m k = absurd h
 plain_returns (Schema.sequence o ps ext adds) h v u m k = absurd h
@@ -148,6 +150,7 @@ mutual
   pub goes_back : {s' s : Schema} → Newer s' s → IsLawful s → Returns (project s' s) (normal s') (meets_cut s')
   goes_back (unchanged {s = s} h) l = plain_returns s h
   goes_back (more_items h) l = λ v u m e. (u, e)
+  goes_back (newer_containing n) l = goes_back n l
   goes_back (newer_list {e = e} {e' = e'} n) l = elements_return (project e' e) (normal e') (meets_cut e') (goes_back n l.1)
   goes_back (newer_set_of {e = e} {e' = e'} n) l = bags_return (project e' e) (normal e') (meets_cut e') (goes_back n l.1)
   goes_back (newer_sequence {ps = ps} {ps' = ps'} {adds = adds} {adds' = adds'} n ns) l =

@@ -29,6 +29,7 @@ unfoldable mutual
   -- whether each INTEGER in a schema is so
   pub keeps_to_i128 : Schema → Bool
   keeps_to_i128 (Schema.number bounds mark range) = keeps_numbers bounds mark range
+  keeps_to_i128 (Schema.containing e) = keeps_to_i128 e
   keeps_to_i128 (Schema.list e size mark) = keeps_to_i128 e
   keeps_to_i128 (Schema.set_of e size mark) = keeps_to_i128 e
   keeps_to_i128 (Schema.sequence o ps ext adds) = keep_to_i128 ps && keep_to_i128 adds

@@ -17,8 +17,10 @@ IsShort o = (bits : Bits) → o ≡ Some bits → allows any_size (length (compl
 unfoldable mutual
   unfolding canon
 
-  -- each open type in which an addition or an added alternative of a value stands is so, at any depth
+  -- each open type in which an addition or an added alternative of a value stands is so, and all octets that contain a
+  -- value, at any depth
   pub AreShort : Variant → Schema → Value → Type 0
+  AreShort a (Schema.containing e) v = IsShort (canon a e v 0) × AreShort a e v
   AreShort a (Schema.list e size mark) v = EachElement (AreShort a e) v
   AreShort a (Schema.set_of e size mark) v = EachElement (AreShort a e) v
   AreShort a (Schema.sequence o ps ext adds) v = OfParts (PartsShort a ps) (AdditionsShort a adds) v

@@ -20,6 +20,7 @@ unfoldable mutual
   -- whether each INTEGER in a schema is so, and each record in it has fewer additions than `usize::MAX`
   pub is_writable : Schema → Bool
   is_writable (Schema.number bounds mark range) = writes_numbers bounds mark range
+  is_writable (Schema.containing e) = is_writable e
   is_writable (Schema.list e size mark) = is_writable e
   is_writable (Schema.set_of e size mark) = is_writable e
   is_writable (Schema.sequence o ps ext adds) = are_writable ps && (are_writable adds && nat_lt (count adds) (2 ^ 64))

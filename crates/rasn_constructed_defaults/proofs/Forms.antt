@@ -23,6 +23,7 @@ normal_bare (Schema.octet_string size mark) v = refl
 normal_bare (Schema.bit_string size mark false) v = refl
 normal_bare (Schema.bit_string size mark true) v = refl
 normal_bare (Schema.char_string alphabet size mark) v = refl
+normal_bare (Schema.containing e) v = refl
 normal_bare (Schema.list e size mark) v = refl
 normal_bare (Schema.set_of e size mark) v = refl
 normal_bare (Schema.sequence o ps ext adds) v = refl

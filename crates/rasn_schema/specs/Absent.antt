@@ -25,6 +25,7 @@ pub normal_none : (s : Schema) → normal s no_value ≡ no_value
 unfolding normal over_bag
 normal_none (Schema.list e size mark) = refl
 normal_none (Schema.set_of e size mark) = refl
+normal_none (Schema.containing e) = normal_none e
 normal_none (Schema.sequence o ps ext adds) = refl
 normal_none (Schema.choice ps adds ext) = refl
 normal_none (Schema.bit_string size mark false) = refl
@@ -50,5 +51,6 @@ none_is_none (Schema.bit_string size mark named) = refl
 none_is_none (Schema.char_string alphabet size mark) = refl
 none_is_none (Schema.list e size mark) = refl
 none_is_none (Schema.set_of e size mark) = refl
+none_is_none (Schema.containing e) = none_is_none e
 none_is_none (Schema.sequence o ps ext adds) = refl
 none_is_none (Schema.choice ps adds ext) = refl

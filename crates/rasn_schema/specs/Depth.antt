@@ -36,6 +36,7 @@ unfoldable mutual
   -- whether a value meets a branch that is cut off, along its schema
   pub meets_cut : Schema → Value → Bool
   meets_cut Schema.cut = λ v. true
+  meets_cut (Schema.containing e) = meets_cut e
   meets_cut (Schema.list e size mark) = in_elements (meets_cut e)
   meets_cut (Schema.set_of e size mark) = in_elements (meets_cut e)
   meets_cut (Schema.sequence o ps ext adds) = in_fields (slots_meet_cut ps) (slots_meet_cut adds)
@@ -54,6 +55,7 @@ unfoldable mutual
 
 -- the kinds in which no schema stands
 abbrev pub IsLeaf : Schema → Type 0
+IsLeaf (Schema.containing e) = ⊥
 IsLeaf (Schema.list e size mark) = ⊥
 IsLeaf (Schema.set_of e size mark) = ⊥
 IsLeaf (Schema.sequence o ps ext adds) = ⊥
@@ -65,6 +67,7 @@ mutual
   pub data CutOf : Schema → Schema → Type 0 where
     cut_here : {t : Schema} → CutOf Schema.cut t
     alike : {s : Schema} → IsLeaf s → CutOf s s
+    cut_containing : {s t : Schema} → CutOf s t → CutOf (Schema.containing s) (Schema.containing t)
     cut_list : {s t : Schema} {size : Size} {mark : Bool} → CutOf s t
         → CutOf (Schema.list s size mark) (Schema.list t size mark)
     cut_set_of : {s t : Schema} {size : Size} {mark : Bool} → CutOf s t

@@ -72,6 +72,7 @@ simple_uncut (Schemas.octet_string z m) h v = refl
 simple_uncut (Schemas.bit_string z m n) h v = refl
 simple_uncut (Schemas.char_string a z m) h v = refl
 simple_uncut Schemas.cut h v = absurd h
+simple_uncut (Schemas.containing e) h v = absurd h
 simple_uncut (Schemas.list e z m) h v = absurd h
 simple_uncut (Schemas.set_of e z m) h v = absurd h
 simple_uncut (Schemas.sequence o p x a) h v = absurd h

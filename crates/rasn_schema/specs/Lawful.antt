@@ -190,6 +190,7 @@ unfoldable mutual
   is_value (Schema.octet_string size mark) = if_octets (λ os. true)
   is_value (Schema.bit_string size mark named) = if_bits
   is_value (Schema.char_string alphabet size mark) = if_characters (λ cs. true)
+  is_value (Schema.containing e) = is_value e
   is_value (Schema.list e size mark) = if_elements (is_value e)
   is_value (Schema.set_of e size mark) = if_bag (is_value e)
   is_value (Schema.sequence o ps ext adds) = if_fields (are_values ps) (are_values adds)
@@ -239,6 +240,7 @@ unfoldable mutual
   IsLawful (Schema.octet_string size mark) = is_lawful_size size.least size.most ≡ true
   IsLawful (Schema.bit_string size mark named) = is_lawful_size size.least size.most ≡ true
   IsLawful (Schema.char_string alphabet size mark) = is_lawful_size size.least size.most ≡ true
+  IsLawful (Schema.containing e) = IsLawful e
   IsLawful (Schema.list e size mark) = (is_lawful_size size.least size.most ≡ true) × IsLawful e
   IsLawful (Schema.set_of e size mark) = (is_lawful_size size.least size.most ≡ true) × IsLawful e
   IsLawful (Schema.sequence o ps ext adds) = IsLawfulRecord o ps adds × AreLawful ps × AreLawful adds

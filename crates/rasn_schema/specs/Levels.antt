@@ -5,7 +5,7 @@ use Rattle.rasn_schema.specs.Schemas.{Presence, Order, TagTree, Schema, Parts, n
 use Rattle.rasn_schema.specs.Forms.{always}
 use Rattle.rasn_schema.specs.Records.{record_at, no_additions}
 
--- kinds that take one level, and kinds that take none; a date takes two
+-- kinds that take one level, and kinds that take none; a date takes two, and what contains a value takes those of that
 abbrev pub TakesLevel : Schema → Type 0
 TakesLevel (Schema.list e size mark) = Unit {0}
 TakesLevel (Schema.set_of e size mark) = Unit {0}
@@ -14,6 +14,7 @@ TakesLevel (Schema.choice ps adds ext) = Unit {0}
 TakesLevel _ = ⊥
 
 abbrev pub TakesNone : Schema → Type 0
+TakesNone (Schema.containing e) = ⊥
 TakesNone (Schema.list e size mark) = ⊥
 TakesNone (Schema.set_of e size mark) = ⊥
 TakesNone (Schema.sequence o ps ext adds) = ⊥
@@ -31,6 +32,7 @@ mutual
     no_date : {n : ℕ} → n < 2 → ToLevels n Schema.cut Schema.date
     still_cut : {n : ℕ} → n < 2 → ToLevels n Schema.cut Schema.cut
     no_level : {t : Schema} → TakesLevel t → ToLevels zero Schema.cut t
+    to_containing : {n : ℕ} {s t : Schema} → ToLevels n s t → ToLevels n (Schema.containing s) (Schema.containing t)
     to_list : {n : ℕ} {s t : Schema} {size : Size} {mark : Bool} → ToLevels n s t
         → ToLevels (suc n) (Schema.list s size mark) (Schema.list t size mark)
     to_set_of : {n : ℕ} {s t : Schema} {size : Size} {mark : Bool} → ToLevels n s t
@@ -66,6 +68,10 @@ parts_levelled n = to_no_parts
 pub part_levelled : {t : TagTree} {p : Presence} {s : ℕ → Schema} {ps : ℕ → Parts} → Levelled s → LevelledParts ps
     → LevelledParts (λ n. part t p (s n) (ps n))
 part_levelled u w n = to_part (u n) (w n)
+
+-- what contains a value
+pub containing_levelled : {s : ℕ → Schema} → Levelled s → Levelled (λ n. Schema.containing (s n))
+containing_levelled u n = to_containing (u n)
 
 -- a record
 pub record_levelled : {o : Order} {extensible : Bool} {ps xs : ℕ → Parts} → LevelledParts ps → LevelledParts xs

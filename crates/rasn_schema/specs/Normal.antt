@@ -102,6 +102,7 @@ unfoldable mutual
   -- X.691 16.2, 19.9: the normal form of a value along its schema, made from the innermost outwards
   pub normal : Schema → Value → Value
   normal (Schema.bit_string size mark named) = if_named named size
+  normal (Schema.containing e) = normal e
   normal (Schema.list e size mark) = over_elements (normal e)
   normal (Schema.set_of e size mark) = over_bag (normal e)
   normal (Schema.sequence o ps ext adds) = over_fields (normals ps) (normals adds)

@@ -35,6 +35,7 @@ universal_numbers (Schemas.time generalized) = 24 ∷ []
 universal_numbers Schemas.date = 31 ∷ []
 universal_numbers (Schemas.choice p a x) = 0 ∷ []
 universal_numbers Schemas.any = 0 ∷ []
+universal_numbers (Schemas.containing e) = 0 ∷ 4 ∷ []
 universal_numbers Schemas.cut = []
 
 -- whether a number is one of a list

@@ -3,7 +3,7 @@ use Rattle.std.proofs.Common.{eqb-true, ◌≡◌, refl, sym, ap, ap₂, ℕ, Bo
 use Rattle.rasn_types.specs.Contents.{TextKind, TimeKind}
 use Rattle.rasn_types.specs.Values.{whole_code}
 use Rattle.rasn_constraints.specs.Bounds.{Bounds, Size}
-use Rattle.rasn_schema.specs.Levels.{ToLevels, PartsToLevels, to_leaf, to_date, no_date, still_cut, no_level, to_list, to_set_of, to_sequence, to_choice, to_no_parts, to_part}
+use Rattle.rasn_schema.specs.Levels.{ToLevels, PartsToLevels, to_leaf, to_date, no_date, still_cut, no_level, to_containing, to_list, to_set_of, to_sequence, to_choice, to_no_parts, to_part}
 use Rattle.rasn_schema.specs.Schemas.{TagTree, TagTrees, leaf, one_of, no_trees, tree, Order, listed, by_tag, Schema, Parts, part}
 use Rattle.per_core.proofs.Codes.{equal_lists_same}
 use Rattle.per_core.proofs.LengthForms.{and_left, and_right}
@@ -83,6 +83,7 @@ mutual
   whole_stays (no_date h) w = absurd (cc)
   whole_stays (still_cut h) w = absurd (cc)
   whole_stays (no_level h) w = absurd (cc)
+  whole_stays (to_containing c) w = ap Schema.containing (whole_stays c w)
   whole_stays (to_list {size = size} {mark = mark} c) w = ap (λ e. Schema.list e size mark) (whole_stays c w)
   whole_stays (to_set_of {size = size} {mark = mark} c) w = ap (λ e. Schema.set_of e size mark) (whole_stays c w)
   whole_stays (to_sequence {o = o} {ext = ext} {ps = ps} {adds = adds} c d) w =

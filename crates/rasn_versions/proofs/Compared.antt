@@ -4,15 +4,15 @@ use Rattle.std.proofs.lemmas.Bool.{leb-true}
 use Rattle.rasn_types.specs.Values.{Value, equal_lists}
 use Rattle.rasn_constraints.specs.Bounds.{Size}
 use Rattle.rasn_schema.specs.Forms.{IsSimple}
-use Rattle.rasn_schema.specs.Levels.{ToLevels, PartsToLevels, to_leaf, to_date, no_date, still_cut, no_level, to_list, to_set_of, to_sequence, to_choice, to_no_parts, to_part}
+use Rattle.rasn_schema.specs.Levels.{ToLevels, PartsToLevels, to_leaf, to_date, no_date, still_cut, no_level, to_containing, to_list, to_set_of, to_sequence, to_choice, to_no_parts, to_part}
 use Rattle.rasn_schema.specs.Schemas.{TagTree, Presence, required, optional, group, default, Order, Schema, Parts, no_parts, part}
 use Rattle.per_core.specs.Versions.{widen}
 use Rattle.per_core.proofs.Codes.{equal_lists_same, same_true}
 use Rattle.per_core.proofs.LengthForms.{and_left, and_right}
-use Rattle.per_laws.specs.Successors.{DefaultSucceeds, PresenceSucceeds, Succeeds, SucceedsParts, succeeds_itself, succeeds_items, succeeds_list, succeeds_set_of, succeeds_sequence, succeeds_choice, none_succeed, added_parts, succeeds_part}
+use Rattle.per_laws.specs.Successors.{DefaultSucceeds, PresenceSucceeds, Succeeds, SucceedsParts, succeeds_itself, succeeds_items, succeeds_containing, succeeds_list, succeeds_set_of, succeeds_sequence, succeeds_choice, none_succeed, added_parts, succeeds_part}
 use Rattle.rasn_versions.specs.Alike.{is_whole, same_bounds, same_order, same_size, same_text, same_time, same_tree, same_truth}
-use Rattle.rasn_versions.specs.Compared.{compare_leaf, compare_list, compare_set_of, compare_sequence, compare_choice, is_made, is_widened, compare_presence, compare_end, compare_part, compare, compare_parts}
-use Rattle.rasn_versions.specs.Verdicts.{Verdict, allowed, other_kind, other_bounds, other_range, other_size, other_alphabet, other_items, other_marker, other_order, other_tag, other_default, no_end, in_element, in_root, in_additions, at_place, both, unless, within}
+use Rattle.rasn_versions.specs.Compared.{compare_leaf, compare_containing, compare_list, compare_set_of, compare_sequence, compare_choice, is_made, is_widened, compare_presence, compare_end, compare_part, compare, compare_parts}
+use Rattle.rasn_versions.specs.Verdicts.{Verdict, allowed, other_kind, other_bounds, other_range, other_size, other_alphabet, other_items, other_marker, other_order, other_tag, other_default, no_end, in_contents, in_element, in_root, in_additions, at_place, both, unless, within}
 use Rattle.rasn_versions.proofs.Alike.{one_truth, one_size, one_bounds, one_text, one_time, one_order, one_tree, whole_stays}
 use Rattle.rasn_versions.proofs.Verdicts.{passed, both_allowed, within_allowed}
 
@@ -23,6 +23,7 @@ simple_stays h to_date = refl
 simple_stays h (no_date l) = absurd h
 simple_stays h (still_cut l) = absurd h
 simple_stays h (no_level i) = absurd h
+simple_stays h (to_containing c) = absurd h
 simple_stays h (to_list c) = absurd h
 simple_stays h (to_set_of c) = absurd h
 simple_stays h (to_sequence c d) = absurd h
@@ -91,6 +92,13 @@ leaf_sound : (s' : Schema) → Sound s' (compare_leaf s')
 leaf_sound s' s h k t' t c d =
     let p = leaf_pass s' s h in
     subst (λ r. Succeeds r t) (sym (simple_stays p.newer c)) (subst (λ r. Succeeds s' r) (sym (simple_stays p.older d)) p.succeeds)
+
+containing_sound : (e' : Schema) (f : Schema → Verdict) → Sound e' f → Sound (Schema.containing e') (compare_containing f)
+containing_sound e' f r (Schema.containing e) h k t' t (to_leaf x) d = absurd x
+containing_sound e' f r (Schema.containing e) h k t' t (to_containing c) (to_leaf x) = absurd x
+containing_sound e' f r (Schema.containing e) h k (Schema.containing t') (Schema.containing t) (to_containing c) (to_containing d) =
+    succeeds_containing (r e (within_allowed in_contents (f e) (λ v. refl) h) k t' t c d)
+containing_sound e' f r _ h k t' t c d = absurd (cc)
 
 list_sound : (e' : Schema) (z' : Size) (m' : Bool) (f : Schema → Verdict) → Sound e' f → Sound (Schema.list e' z' m') (compare_list f z' m')
 list_sound e' z' m' f r (Schema.list e z m) h k t' t (to_leaf x) d = absurd x
@@ -176,6 +184,7 @@ part_sound may t' p' s' ps' f g r q i (part t p s ps) h k (part u' y' w' qs') (p
 
 mutual
   pub sound : (s' : Schema) → Sound s' (compare s')
+  sound (Schema.containing e) = containing_sound e (compare e) (sound e)
   sound (Schema.list e z m) = list_sound e z m (compare e) (sound e)
   sound (Schema.set_of e z m) = set_sound e z m (compare e) (sound e)
   sound (Schema.sequence o ps x adds) = sequence_sound o x ps adds (compare_parts false ps) (compare_parts x adds) (parts_sound false ps) (parts_sound x adds)

@@ -2,7 +2,7 @@
 use Rattle.std.proofs.Common.{◌≡◌, refl, sym, ap, ◌∙◌, ap₂, subst, ℕ, zero, suc, ◌+◌, Bool, true, false, ltb, ◌&&◌, [], ◌∷◌, ◌++◌, arith, Some, None}
 use Rattle.rasn_types.specs.Values.{Value, elements, bag, bag_of, fields, alternative, root, added, values, slots, same}
 use Rattle.rasn_constraints.specs.LawfulConstraints.{are_lawful_bounds, is_lawful_size}
-use Rattle.rasn_schema.specs.Depth.{CutOf, CutParts, cut_here, alike, cut_list, cut_set_of, cut_sequence, cut_choice, no_cut, cut_part, any_of, meets_cut, slots_meet_cut, meets_cut_at}
+use Rattle.rasn_schema.specs.Depth.{CutOf, CutParts, cut_here, alike, cut_containing, cut_list, cut_set_of, cut_sequence, cut_choice, no_cut, cut_part, any_of, meets_cut, slots_meet_cut, meets_cut_at}
 use Rattle.rasn_schema.specs.Lawful.{IsLawfulDefault, leaves, are_distinct, are_lawful_tags, are_required, is_group_schema, is_value, are_values, is_value_at, no_groups, has_bit, presence_bits, tags_below, all_pass, is_countable, if_bag, slot_passes, IsLawful, AreLawful, IsLawfulPresence, IsLawfulRecord, IsLawfulChoice, IsLawfulType}
 use Rattle.rasn_schema.specs.Levels.{Levelled}
 use Rattle.rasn_schema.specs.Normal.{normal}
@@ -14,7 +14,7 @@ use Rattle.per_laws.proofs.Levelled.{levelled_type_unfolds, levels_up_to, to_cut
 use Rattle.per_laws.proofs.NormalForms.{normal_alike}
 use Rattle.rasn_versions.specs.Alike.{is_whole, are_whole}
 use Rattle.rasn_versions.specs.Judged.{is_good_default, are_told_apart, judge_presence, judge_tags, judge_record, judge_choice, judge, judge_parts, judgement}
-use Rattle.rasn_versions.specs.Verdicts.{allowed, bad_bounds, bad_size, root_group, bad_group, many_bits, repeated_tag, bad_alternative, bad_default, no_end, in_element, in_root, in_additions, at_place, both, unless, within}
+use Rattle.rasn_versions.specs.Verdicts.{allowed, bad_bounds, bad_size, root_group, bad_group, many_bits, repeated_tag, bad_alternative, bad_default, no_end, in_contents, in_element, in_root, in_additions, at_place, both, unless, within}
 use Rattle.rasn_versions.proofs.Alike.{whole_stays}
 use Rattle.rasn_versions.proofs.Verdicts.{passed, both_allowed, within_allowed}
 
@@ -67,6 +67,7 @@ mutual
   judged_is_lawful (Schema.octet_string z m) h = ((passed (is_lawful_size z.least z.most) bad_size allowed refl h).0, refl)
   judged_is_lawful (Schema.bit_string z m n) h = ((passed (is_lawful_size z.least z.most) bad_size allowed refl h).0, refl)
   judged_is_lawful (Schema.char_string cs z m) h = ((passed (is_lawful_size z.least z.most) bad_size allowed refl h).0, refl)
+  judged_is_lawful (Schema.containing e) h = judged_is_lawful e (within_allowed in_contents (judge e) (λ v. refl) h)
   judged_is_lawful (Schema.list e z m) h =
       let a = passed (is_lawful_size z.least z.most) bad_size (within in_element (judge e)) refl h in
       let b = judged_is_lawful e (within_allowed in_element (judge e) (λ v. refl) a.1) in
@@ -120,6 +121,7 @@ mutual
   value_cut : {s t : Schema} → CutOf s t → Cut (is_value t) (is_value s) (meets_cut s)
   value_cut cut_here v e m = absurd (cc)
   value_cut (alike h) v e m = e
+  value_cut (cut_containing c) v e m = value_cut c v e m
   value_cut (cut_list {s = s} {t = t} c) (elements vs) e m =
       and_both (is_countable (values vs)) (all_pass (is_value s) (values vs)) (and_left (is_countable (values vs)) (all_pass (is_value t) (values vs)) e)
       (all_cut (is_value t) (is_value s) (meets_cut s) (value_cut c) (values vs) (and_right (is_countable (values vs)) (all_pass (is_value t) (values vs)) e) m)
@@ -187,6 +189,7 @@ record_cut by_tag c d = ap are_distinct (ap₂ (λ us vs. us ++ vs) (tags_cut c)
 group_cut : {s t : Schema} → CutOf s t → is_group_schema t ≡ true → is_group_schema s ≡ true
 group_cut cut_here e = refl
 group_cut (alike h) e = e
+group_cut (cut_containing c) e = absurd (cc)
 group_cut (cut_list c) e = absurd (cc)
 group_cut (cut_set_of c) e = absurd (cc)
 group_cut (cut_sequence {o = listed} c d) e = refl
@@ -209,6 +212,7 @@ mutual
   pub lawful_cut : {s t : Schema} → CutOf s t → IsLawful t → IsLawful s
   lawful_cut cut_here h = tt
   lawful_cut (alike i) h = h
+  lawful_cut (cut_containing c) h = lawful_cut c h
   lawful_cut (cut_list c) h = (h.0, lawful_cut c h.1)
   lawful_cut (cut_set_of c) h = (h.0, lawful_cut c h.1)
   lawful_cut (cut_sequence {o = o} c d) h = (

@@ -1,13 +1,13 @@
 -- A newer version is one along the first levels of both trees, too.
 use Rattle.std.proofs.Common.{◌≡◌, ℕ, ◌+◌, Bool, arith}
 use Rattle.rasn_schema.specs.Lawful.{IsLawfulType}
-use Rattle.rasn_schema.specs.Levels.{TakesLevel, ToLevels, PartsToLevels, Levelled, to_leaf, to_date, no_date, still_cut, no_level, to_list, to_set_of, to_sequence, to_choice, to_no_parts, to_part}
+use Rattle.rasn_schema.specs.Levels.{TakesLevel, ToLevels, PartsToLevels, Levelled, to_leaf, to_date, no_date, still_cut, no_level, to_containing, to_list, to_set_of, to_sequence, to_choice, to_no_parts, to_part}
 use Rattle.rasn_schema.specs.Schemas.{Presence, required, optional, group, default, Schema, Parts}
 use Rattle.per_core.specs.Versions.{IsPlain, NewerType}
 use Rattle.per_laws.proofs.Successors.{successors_are_newer}
 use Rattle.per_laws.proofs.Types.{less_cut}
 use Rattle.per_laws.proofs.Wider.{narrower}
-use Rattle.per_laws.specs.Successors.{PresenceSucceeds, Succeeds, SucceedsParts, SucceedsType, succeeds_itself, succeeds_items, succeeds_list, succeeds_set_of, succeeds_sequence, succeeds_choice, none_succeed, added_parts, succeeds_part}
+use Rattle.per_laws.specs.Successors.{PresenceSucceeds, Succeeds, SucceedsParts, SucceedsType, succeeds_itself, succeeds_items, succeeds_containing, succeeds_list, succeeds_set_of, succeeds_sequence, succeeds_choice, none_succeed, added_parts, succeeds_part}
 use Rattle.per_laws.proofs.Itself.{newer_than_itself}
 use Rattle.per_laws.proofs.Levelled.{levelled_type_unfolds, levels_up_to, to_cut}
 use Rattle.rasn_versions.specs.Compared.{comparison}
@@ -15,6 +15,7 @@ use Rattle.rasn_versions.specs.Verdicts.{allowed}
 use Rattle.rasn_versions.proofs.Compared.{sound}
 
 plain_takes_none : (s : Schema) → IsPlain s → TakesLevel s → ⊥
+plain_takes_none (Schema.containing e) i h = i
 plain_takes_none (Schema.list e z m) i h = i
 plain_takes_none (Schema.set_of e z m) i h = i
 plain_takes_none (Schema.sequence o ps x adds) i h = i
@@ -27,6 +28,7 @@ plain_shallower i (to_leaf h) to_date = absurd h
 plain_shallower i (to_leaf h) (no_date l) = absurd h
 plain_shallower i (to_leaf h) (still_cut l) = absurd h
 plain_shallower i (to_leaf h) (no_level {t = s} j) = absurd (plain_takes_none s i j)
+plain_shallower i (to_leaf h) (to_containing d) = absurd i
 plain_shallower i (to_leaf h) (to_list d) = absurd i
 plain_shallower i (to_leaf h) (to_set_of d) = absurd i
 plain_shallower i (to_leaf h) (to_sequence d d') = absurd i
@@ -42,6 +44,7 @@ plain_shallower i (still_cut l) (to_leaf h) = absurd h
 plain_shallower i (still_cut l) (still_cut m) = succeeds_itself tt
 plain_shallower i (still_cut l) (no_level j) = absurd j
 plain_shallower i (no_level {t = s} h) d = absurd (plain_takes_none s i h)
+plain_shallower i (to_containing c) d = absurd i
 plain_shallower i (to_list c) d = absurd i
 plain_shallower i (to_set_of c) d = absurd i
 plain_shallower i (to_sequence c c') d = absurd i
@@ -61,6 +64,11 @@ mutual
   shallower (succeeds_items i) (to_leaf h) (to_leaf j) = succeeds_items i
   shallower (succeeds_items i) (to_leaf h) (no_level j) = absurd j
   shallower (succeeds_items i) (no_level h) d = absurd h
+  shallower (succeeds_containing n) (to_leaf h) d = absurd h
+  shallower (succeeds_containing n) (no_level h) d = absurd h
+  shallower (succeeds_containing n) (to_containing c) (to_leaf j) = absurd j
+  shallower (succeeds_containing n) (to_containing c) (no_level j) = absurd j
+  shallower (succeeds_containing n) (to_containing c) (to_containing d) = succeeds_containing (shallower n c d)
   shallower (succeeds_list n) (to_leaf h) d = absurd h
   shallower (succeeds_list n) (no_level h) (to_leaf j) = absurd j
   shallower (succeeds_list n) (no_level h) (no_level j) = succeeds_itself tt

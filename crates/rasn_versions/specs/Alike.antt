@@ -57,6 +57,7 @@ abbrev mutual
   -- whether no branch of a schema is cut off
   pub is_whole : Schema → Bool
   is_whole Schema.cut = false
+  is_whole (Schema.containing e) = is_whole e
   is_whole (Schema.list e size mark) = is_whole e
   is_whole (Schema.set_of e size mark) = is_whole e
   is_whole (Schema.sequence o ps ext adds) = are_whole ps && are_whole adds

@@ -10,8 +10,8 @@ use Rattle.rasn_versions.specs.Alike.{is_whole, same_bounds, same_order, same_si
 use Rattle.rasn_versions.specs.Alike.{same_truth}
 use Rattle.rasn_versions.specs.Verdicts.{Verdict, allowed, other_kind, other_bounds, other_range, other_size}
 use Rattle.rasn_versions.specs.Verdicts.{other_alphabet, other_items, other_marker, other_order, other_tag}
-use Rattle.rasn_versions.specs.Verdicts.{other_presence, other_default, left_out, put_in, no_end, in_element, in_root}
-use Rattle.rasn_versions.specs.Verdicts.{in_additions, at_place, both, unless, within}
+use Rattle.rasn_versions.specs.Verdicts.{other_presence, other_default, left_out, put_in, no_end, in_contents}
+use Rattle.rasn_versions.specs.Verdicts.{in_element, in_root, in_additions, at_place, both, unless, within}
 
 -- kinds in which no schema stands: the same, save that items may be added behind a marker
 abbrev pub compare_leaf : Schema → Schema → Verdict
@@ -39,6 +39,11 @@ compare_leaf (Schema.char_string a' z' m') (Schema.char_string a z m) =
     unless (equal_lists a' a) other_alphabet
     (unless (same_size z' z) other_size (unless (same_truth m' m) other_marker allowed))
 compare_leaf _ _ = other_kind
+
+-- octets that contain a value, of which a verdict is there
+abbrev pub compare_containing : (Schema → Verdict) → Schema → Verdict
+compare_containing f (Schema.containing e) = within in_contents (f e)
+compare_containing f _ = other_kind
 
 -- a SEQUENCE OF, of whose elements a verdict is there
 abbrev pub compare_list : (Schema → Verdict) → Size → Bool → Schema → Verdict
@@ -102,6 +107,7 @@ compare_part may t' p' s' f g i (part t p s ps) =
 abbrev mutual
   -- X.680 52: what isn't allowed in a newer schema beside an older one
   pub compare : Schema → Schema → Verdict
+  compare (Schema.containing e) = compare_containing (compare e)
   compare (Schema.list e size mark) = compare_list (compare e) size mark
   compare (Schema.set_of e size mark) = compare_set_of (compare e) size mark
   compare (Schema.sequence o ps ext adds) = compare_sequence o ext (compare_parts false ps 0) (compare_parts ext adds 0)

@@ -9,8 +9,8 @@ use Rattle.rasn_schema.specs.Schemas.{Presence, required, optional, group, defau
 use Rattle.rasn_schema.specs.Schemas.{Parts, no_parts, part}
 use Rattle.rasn_versions.specs.Alike.{is_whole}
 use Rattle.rasn_versions.specs.Verdicts.{Verdict, allowed, bad_bounds, bad_size, root_group, bad_group, many_bits}
-use Rattle.rasn_versions.specs.Verdicts.{repeated_tag, bad_alternative, bad_default, no_end, in_element, in_root}
-use Rattle.rasn_versions.specs.Verdicts.{in_additions, at_place, both, unless, within}
+use Rattle.rasn_versions.specs.Verdicts.{repeated_tag, bad_alternative, bad_default, no_end, in_contents, in_element}
+use Rattle.rasn_versions.specs.Verdicts.{in_root, in_additions, at_place, both, unless, within}
 
 -- X.680 25.9: whether a default is a value of its schema, and in normal form
 unfoldable pub is_good_default : Schema → Value → Bool
@@ -52,6 +52,7 @@ abbrev mutual
   judge (Schema.octet_string size mark) = unless (is_lawful_size size.least size.most) bad_size allowed
   judge (Schema.bit_string size mark named) = unless (is_lawful_size size.least size.most) bad_size allowed
   judge (Schema.char_string alphabet size mark) = unless (is_lawful_size size.least size.most) bad_size allowed
+  judge (Schema.containing e) = within in_contents (judge e)
   judge (Schema.list e size mark) =
       unless (is_lawful_size size.least size.most) bad_size (within in_element (judge e))
   judge (Schema.set_of e size mark) =
