@@ -7,6 +7,8 @@ mod additions;
 #[cfg(test)]
 mod alternatives;
 #[cfg(test)]
+mod contents;
+#[cfg(test)]
 mod expected;
 #[cfg(test)]
 mod lists;

@@ -42,6 +42,7 @@ not_failed Schema.identifier a s h = h
 not_failed (Schema.time kind) a s h = h
 not_failed Schema.date a s h = h
 not_failed Schema.real a s h = h
+not_failed (Schema.containing e) a s h = h
 not_failed (Schema.list e size mark) a s h = h
 not_failed Schema.cut a s h = h
 not_failed _ a s h = h

@@ -1,6 +1,7 @@
 pub mod Additions
 pub mod Calls
 pub mod Choosing
+pub mod Containing
 pub mod Enumerations
 pub mod FewBefore
 pub mod Listing

@@ -22,7 +22,7 @@ use Rattle.per_read.specs.declared.error.DecodeErrorKind.{DecodeErrorKind}
 use Rattle.per_read.specs.declared.error.DecodeErrorKind.TheVariants.{AlreadyFailed, OutOfMemory}
 use Rattle.per_read.specs.declared.lists.UnreadElements.{UnreadElements}
 use Rattle.per_read.proofs.Miscounts.{tested_size}
-use Rattle.per_decoding.specs.Laws.Choices.{moved}
+use Rattle.per_decoding.specs.Laws.Contents.{moved}
 use Rattle.per_decoding.specs.Faults.{Answered, IsOf, in_element, refusal}
 use Rattle.per_de.specs.Lists.{IsOpenList}
 use Rattle.per_decoding.specs.Rules.{decoder_rules}

@@ -18,8 +18,10 @@ ghost use Rattle.per_read.specs.declared.error.DecodeErrorKind.TheVariants.{Alre
 ghost use Rattle.per_read_types.specs.Choices.{index_of};
 ghost use Rattle.per_read.specs.Lists.{most};
 ghost use Rattle.per_decoding.specs.Laws.Additions.{additions_well};
-ghost use Rattle.per_decoding.specs.Additions.{ClosesAddition, EntersContents, OpensAddition, with_outside_addition};
+ghost use Rattle.per_decoding.specs.Additions.{ClosesAddition, EntersContents, OpensAddition, OpensContaining};
+ghost use Rattle.per_decoding.specs.Additions.{with_outside_addition};
 ghost use Rattle.per_decoding.specs.Laws.Choices.{choices_well};
+ghost use Rattle.per_decoding.specs.Laws.Contents.{contents_well};
 ghost use Rattle.per_decoding.specs.Choices.{ClosesChoice, OpensChoice, UnendedChoice};
 ghost use Rattle.per_decoding.specs.Faults.{refusal, Answered, Unended, UnendedAddition};
 ghost use Rattle.per_decoding.specs.Laws.Relations.{decodes_well};
@@ -664,7 +666,7 @@ impl<'input> Decoder<'input> {
     /// Takes the length of an open type (X.691 11.2), enters its contents, and answers what waits outside. Only those
     /// in fragments take memory.
     #[inline(always)]
-    fn open_contents(&mut self) -> Result<Addition<'input>, DecodeError>
+    fn enter_open_type(&mut self) -> Result<Addition<'input>, DecodeError>
         ensures { EntersOpen self.old result self.new }
     {
         let outer = self.bits;
@@ -710,7 +712,7 @@ impl<'input> Decoder<'input> {
 
     /// Leaves an open type where what is left of its contents ends them (X.691 11.1), and else refuses.
     #[inline(always)]
-    fn close_contents(&mut self, outside: Addition<'input>) -> Result<(), DecodeError>
+    fn close_open_type(&mut self, outside: Addition<'input>) -> Result<(), DecodeError>
         ensures { ClosesContents (outside_addition_of self.old.source outside.entry) self.old result self.new }
     {
         match self.end_of_contents(outside.total) {
@@ -741,7 +743,7 @@ impl<'input> Decoder<'input> {
     {
         match place {
             Place::Root(_) => Ok(None),
-            Place::Added(_) => Ok(Some(self.open_contents()?)),
+            Place::Added(_) => Ok(Some(self.enter_open_type()?)),
         }
     }
 
@@ -840,8 +842,8 @@ impl Scope {
     }
 }
 
-/// What waits outside while the open type of an addition is open: the bits behind it, and what is still to be read of
-/// the SEQUENCE there.
+/// What waits outside while the open type of an addition is open, or octets that contain a value: the bits behind it,
+/// and what is still to be read of the SEQUENCE there.
 #[derive(Drop)]
 pub struct Addition<'input> {
     bits: Span,
@@ -882,6 +884,8 @@ impl<'input> decoder::Decoder for Decoder<'input> {
 
     type Alternative = Alternative<'input>;
 
+    type Contents = Addition<'input>;
+
     ghost rules = { decoder_rules };
 
     ghost opens = { λ c s o i. Opens c s (outside_record_of i.source o) i };
@@ -901,6 +905,12 @@ impl<'input> decoder::Decoder for Decoder<'input> {
     ghost closes_choice = { λ s o t. ClosesChoice s (outside_choice_of s.source o) t };
 
     ghost unended_choice = { λ o e s. UnendedChoice (outside_choice_of s.source o).contents e s };
+
+    ghost opens_contents = { λ s o i. OpensContaining s (outside_addition_of i.source o) i };
+
+    ghost closes_contents = { λ s o t. ClosesAddition s (outside_addition_of s.source o) t };
+
+    ghost unended_contents = { λ o e s. UnendedAddition (outside_addition_of s.source o) e s };
 
     ghost amid = { IsOpenList };
 
@@ -1124,14 +1134,14 @@ impl<'input> decoder::Decoder for Decoder<'input> {
     fn open_addition(&mut self) -> Result<Option<Addition<'input>>, DecodeError> {
         self.check_unfailed()?;
         match self.next_addition()? {
-            Some(true) => Ok(Some(self.open_contents()?)),
+            Some(true) => Ok(Some(self.enter_open_type()?)),
             _ => Ok(None),
         }
     }
 
     fn close_addition(&mut self, addition: Addition<'input>) -> Result<(), DecodeError> {
         self.check_unfailed()?;
-        self.close_contents(addition)
+        self.close_open_type(addition)
     }
 
     fn open_choice<C: Choice>(&mut self) -> Result<(Tag, Alternative<'input>), DecodeError> {
@@ -1148,10 +1158,20 @@ impl<'input> decoder::Decoder for Decoder<'input> {
         let scope = alternative.scope;
         let contents = alternative.contents;
         if let Some(contents) = contents {
-            self.close_contents(contents)?;
+            self.close_open_type(contents)?;
         }
         self.leave(scope);
         Ok(())
+    }
+
+    fn open_contents(&mut self, _tag: Tag) -> Result<Addition<'input>, DecodeError> {
+        self.check_unfailed()?;
+        self.enter_open_type()
+    }
+
+    fn close_contents(&mut self, contents: Addition<'input>) -> Result<(), DecodeError> {
+        self.check_unfailed()?;
+        self.close_open_type(contents)
     }
 
     fn open_list(
@@ -1207,6 +1227,8 @@ impl<'input> decoder::Decoder for Decoder<'input> {
     ghost scopes = { scopes_well outside_record_of };
 
     ghost additions = { additions_well outside_addition_of };
+
+    ghost contents = { contents_well outside_addition_of };
 
     ghost choices = { choices_well outside_choice_of };
 

@@ -1,4 +1,5 @@
--- What a decoder reads of the additions of an open record (X.691 19.7 to 19.9), and of the open type of one (11.2).
+-- What a decoder reads of the additions of an open record (X.691 19.7 to 19.9), and of the open type of one (11.2), and
+-- of octets that contain a value.
 use Rattle.std.specs.Prelude.{◌≡◌, ◌≤◌, ◌⊎◌, ◌-◌, ℕ, suc, Bool, true, false, List, [], length, Option, Some, None}
 use Rattle.rasn_types.specs.Bits.{Bits, unpack}
 use Rattle.rasn_types.specs.Values.{Value}
@@ -76,6 +77,12 @@ pub record OpensContents (s : State) (w : OutsideAddition) (i : State) : Type 0 
   pub took : Took (Octets (settings_of s) octets) s.bits w.bits
   pub enters : EntersContents (unpack octets) (with_bits s w.bits) w i
 
+-- Octets that contain a value are an open type, which is entered where no call has refused (X.682, 11; X.691, 11.2). No
+-- level is taken.
+pub record OpensContaining (s : State) (w : OutsideAddition) (i : State) : Type 0 where
+  pub live : s.failed ≡ false
+  pub opens : OpensContents s w i
+
 -- Inside the contents of the next addition's open type, a complete encoding from its own start, nothing of the record
 -- is read (X.691 11.2, 19.9).
 pub record OpensAddition (s : State) (w : OutsideAddition) (i : State) : Type 0 where
@@ -110,7 +117,7 @@ pub record ClosesAddition (j : State) (w : OutsideAddition) (t : State) : Type 0
   pub ends : EndsAs (settings_of j) j.bits w.total
   pub same : t ≡ with_outside_addition j w
 
--- A value is what is read between opening and closing the open type of an addition.
+-- A value is what is read between opening and closing the open type of an addition, or octets that contain it.
 pub record InOpen (c : Schema) (i : State) (w : OutsideAddition) (v : Value) (t : State) : Type 0 where
   pub end : State
   pub reads : Spells c i v end

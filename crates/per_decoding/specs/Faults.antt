@@ -61,6 +61,7 @@ IsAt a Schema.identifier s k = IsOfIdentifier a s k
 IsAt a (Schema.time kind) s k = IsOfTime a kind s k
 IsAt a Schema.date s k = IsOfDate a s k
 IsAt a Schema.real s k = IsOfReal k
+IsAt a (Schema.containing e) s k = ⊥
 IsAt a (Schema.list e size mark) s k = IsOfSize a size mark list_items (basic a e) s k
 IsAt a (Schema.set_of e size mark) s k = IsOfSize a size mark list_items (basic a e) s k
 IsAt a Schema.cut s k = IsOfCut k
@@ -74,9 +75,9 @@ pub record IsOfLacking (t : Schemas.Tag) (k : DecodeErrorKind) : Type 0 where
 
 mutual
   -- The fault that a kind names stands in bits, as a schema reads them: at once, in a root component of a record, in
-  -- its bitmap or behind that, in the alternative of a choice, behind an extension marker in its open type, or in an
-  -- element of a list or a bag, behind others. In a SET it stands where it does in the SEQUENCE of its components in
-  -- ascending order of their tags (X.691 21.1).
+  -- its bitmap or behind that, in the alternative of a choice, behind an extension marker in its open type, in octets
+  -- that contain a value, which are an open type (X.691 11.2), or in an element of a list or a bag, behind others. In a
+  -- SET it stands where it does in the SEQUENCE of its components in ascending order of their tags (X.691 21.1).
   pub data IsInBits (a : Settings) (k : DecodeErrorKind) : Schema → Bits → Type 0 where
     at_once : {c : Schema} {s : Bits} → IsAt a c s k → IsInBits a k c s
     in_root : {ps qs : Parts} {marker : Bool} {s m n : Bits} (extends : Bool) (flags : List Bool)
@@ -94,6 +95,7 @@ mutual
     in_added_alternative : {ps qs : Parts} {marker : Bool} {n : ℕ} {c : Schema} {s m : Bits}
         → Took (index_form a (length (tags_of ps)) (length (tags_of qs)) marker (added, n)) s m
         → alternative_at qs n ≡ Some c → IsInOpen a k c m → IsInBits a k (choice_schema ps marker qs) s
+    in_containing : {e : Schema} {s : Bits} → IsInOpen a k e s → IsInBits a k (Schema.containing e) s
     in_element : {e : Schema} {size : Size} {mark : Bool} {s m : Bits} (vs : List Value)
         → Took (UpTo a size mark (basic a e) vs) s m → IsInBits a k e m → IsInBits a k (Schema.list e size mark) s
     in_member : {e : Schema} {size : Size} {mark : Bool} {s m : Bits} (vs : List Value)

@@ -1,6 +1,7 @@
 pub mod Additions
 pub mod Bags
 pub mod Choices
+pub mod Contents
 pub mod Errors
 pub mod Records
 pub mod Relations

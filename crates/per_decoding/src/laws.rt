@@ -11,7 +11,7 @@ ghost use Rattle.rasn_schema.specs.Schemas.{Parts, Schema, by_tag};
 ghost use Rattle.rasn_traits.specs.Additions.{extended};
 ghost use Rattle.per_core.specs.Spellings.{Settings};
 ghost use Rattle.per_read.specs.declared.error.DecodeErrorKind.{DecodeErrorKind};
-ghost use Rattle.per_decoding.specs.Additions.{AddsValue, InOpen, OpensAddition, OutsideAddition};
+ghost use Rattle.per_decoding.specs.Additions.{AddsValue, InOpen, OpensAddition, OpensContaining, OutsideAddition};
 ghost use Rattle.per_decoding.specs.Choices.{OutsideChoice, OpensChoice, Stands};
 ghost use Rattle.per_decoding.specs.Faults.{IsInBits};
 ghost use Rattle.per_decoding.specs.Scopes.{InScope, Opens, OutsideRecord};
@@ -43,6 +43,13 @@ pub fn addition_is_what_stands_in_its_open_type()
 pub fn addition_can_be_opened()
     ensures { (c : Schema) (s t : State) (v : Value) → AddsValue c s v t
         → (w : OutsideAddition) × (i : State) × OpensAddition s w i }
+{}
+
+/// Where octets were opened that contain a value, they contain one exactly where it is read there and they end behind it
+/// (X.682 11; X.691 11.2).
+pub fn contained_value_is_what_stands_in_its_octets()
+    ensures { (c : Schema) (s i t : State) (w : OutsideAddition) (v : Value) → OpensContaining s w i
+        → Spells (Schema.containing c) s v t ↔ InOpen c i w v t }
 {}
 
 /// Where a choice was opened, a value of its schema is read exactly where it is the alternative behind the index, its

@@ -30,7 +30,7 @@ use Rattle.per_enc.specs.Scopes.{IsOpenBag, IsOpenList, Opens, OpensChoice, Open
 use Rattle.per_enc.proofs.Inside.{fields_inside, fields_refused, value_inside}
 use Rattle.per_enc.proofs.Noting.{noting_codec, refuses_noted, written_noted}
 
-memory_noted : (e : EncodeError) (x : Encoding) → IsMemory e (noting x).writer → IsMemory e x.writer
+pub memory_noted : (e : EncodeError) (x : Encoding) → IsMemory e (noting x).writer → IsMemory e x.writer
 memory_noted e x m = record { kind_is = m.kind_is; codec_is = m.codec_is ∙ noting_codec x }
 
 -- a SEQUENCE

@@ -32,6 +32,7 @@ use Rattle.per_write.specs.Rules.{encoder_rules}
 use Rattle.per_write.specs.State.{Puts, Scope, State, Presents, StateAppends, empty_scope, view}
 use Rattle.per_write.proofs.Indexes.{joined}
 use Rattle.per_write_types.proofs.Placing.{index_placed, then_within}
+use Rattle.per_write.proofs.Refusing.{no_contents}
 use Rattle.per_write.proofs.Writing.{wrote_same, wrote_then}
 use Rattle.per_enc.specs.Choices.{OpensChoice, counted_variants}
 use Rattle.per_enc.specs.Records.{behind_marker}
@@ -53,7 +54,7 @@ index_below (part t q c ps) zero s e = omega arith
 index_below (part t q c ps) (suc k) s e = let h = index_below ps k s e in omega arith
 
 -- nothing in front changes nothing
-from_start : (g : Writer) (p : ℕ) → p < 8 → (just [] ▹ g) p ≡ g p
+pub from_start : (g : Writer) (p : ℕ) → p < 8 → (just [] ▹ g) p ≡ g p
 from_start g p h = let e : after p [] ≡ p = omega arith in ap (λ (q : ℕ). join [] (g q)) e ∙ alone (g p)
   where
     alone : (o : Option Bits) → join [] o ≡ o
@@ -71,10 +72,6 @@ added_form : (a : Variant) (ps : Parts) (marker : Bool) (qs : Parts) (k : ℕ) (
     (extension_bit marker true ▹ (small a k ▹ open_bits a (chosen (members a qs) k v 0))) p ≡ canon a (choice_schema ps marker qs) (alternative added k v) p
 unfolding canon choice_writer
 added_form a ps marker qs k v p = refl
-
-no_contents : (a : Variant) (p : ℕ) → open_bits a None p ≡ None
-unfolding open_bits
-no_contents a p = refl
 
 -- an alternative's fault is one of the choice
 stands_in_alternative : (kind : EncodeErrorKind) (x m : State) (ps : Parts) (marker : Bool) (qs : Parts) (d : Side) (k : ℕ) (s : Schema) (v : Value) → m.failed ≡ false

@@ -1,6 +1,7 @@
 pub mod Choices
 pub mod Bags
 pub mod Chain
+pub mod Contents
 pub mod Extending
 pub mod Given
 pub mod Presenting

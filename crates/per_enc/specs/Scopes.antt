@@ -13,6 +13,7 @@ use Rattle.per_write.specs.declared.lists.UnwrittenElements.{UnwrittenElements}
 use Rattle.per_write.specs.Lists.{IsOpenList as IsOpenListIn}
 use Rattle.per_write.specs.Records.{Opens as OpensRecord}
 use Rattle.per_write.specs.State.{Scope, State}
+use Rattle.per_write.specs.Unplaced.{BeginsUnplaced, OutsideUnplaced}
 use Rattle.per_write_types.specs.Bags.{IsOpenBag as IsOpenBagIn, OpenBag}
 use Rattle.per_write_types.specs.Choices.{OutsideChoice}
 use Rattle.per_enc.specs.Choices.{OpensChoice as OpensChoiceIn}
@@ -44,6 +45,10 @@ Opens s = OpensWithin (OpensRecord (presence_bits (root_of s)) (addition_count s
 -- X.691 23: a CHOICE is opened
 abbrev pub OpensChoice : Schema → Encoding → (OutsideChoice × Option OpenSet) → Encoding → Type 0
 OpensChoice s = OpensWithin (OpensChoiceIn s)
+
+-- X.682 11, X.691 11.2: octets that are to contain a value are opened; it has no place yet
+abbrev pub OpensContents : Encoding → (OutsideUnplaced × Option OpenSet) → Encoding → Type 0
+OpensContents = OpensWithin BeginsUnplaced
 
 -- X.691 19.9: the open type of the next addition is opened
 pub record OpensOpenType (x : Encoding) (o : OutsideAddition × Option OpenSet) (y : Encoding) : Type 0 where

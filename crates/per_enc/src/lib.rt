@@ -14,7 +14,7 @@ use per_bits::BitList;
 pub use per_write::error;
 pub use per_write::error::{EncodeError, EncodeError as Error, EncodeErrorKind};
 use per_write::lists::{UnwrittenElements, close_list, next_element, open_list};
-use per_write::{EnclosingSet, OutsideAddition, Scope, Writer};
+use per_write::{EnclosingSet, OutsideAddition, OutsideUnplaced, Scope, Writer};
 use per_write_types::bags::OpenBag;
 use per_write_types::choices::{OutsideChoice, checked_place, close_choice, open_choice};
 use per_write_types::dates::put_date;
@@ -184,7 +184,7 @@ impl<A: Allocator + Clone> Encoder<A> {
 impl<A: Allocator + Clone> encoder::Encoder for Encoder<A> {
     ghost use Rattle.per_enc.specs.Laws.Relations.{presents_well};
     ghost use Rattle.per_enc.specs.Laws.Sets.{sets_written};
-    ghost use Rattle.per_enc.specs.Scopes.{IsOpenBag, IsOpenList, Opens, OpensChoice, OpensOpenType};
+    ghost use Rattle.per_enc.specs.Scopes.{IsOpenBag, IsOpenList, Opens, OpensChoice, OpensContents, OpensOpenType};
 
     type Error = EncodeError;
 
@@ -193,6 +193,8 @@ impl<A: Allocator + Clone> encoder::Encoder for Encoder<A> {
     type Addition = (OutsideAddition<A>, EnclosingSet<A>);
 
     type Alternative = (OutsideChoice<A>, EnclosingSet<A>);
+
+    type Contents = (OutsideUnplaced<A>, EnclosingSet<A>);
 
     type List = (UnwrittenElements, EnclosingSet<A>);
 
@@ -205,6 +207,8 @@ impl<A: Allocator + Clone> encoder::Encoder for Encoder<A> {
     ghost opens_addition = { OpensOpenType };
 
     ghost opens_choice = { OpensChoice };
+
+    ghost opens_contents = { OpensContents };
 
     ghost amid = { IsOpenList };
 
@@ -504,6 +508,27 @@ impl<A: Allocator + Clone> encoder::Encoder for Encoder<A> {
         let (choice, set) = outside;
         self.set = set;
         close_choice(&mut self.writer, variants.len(), place, choice)
+    }
+
+    fn open_contents(
+        &mut self,
+        _tag: Tag,
+        _identifier: Identifier,
+    ) -> Result<(OutsideUnplaced<A>, EnclosingSet<A>), EncodeError> {
+        let set = self.begin_outer_value()?;
+        let waiting = self.writer.open_unplaced()?;
+        Ok((waiting, set))
+    }
+
+    fn close_contents(
+        &mut self,
+        outside: (OutsideUnplaced<A>, EnclosingSet<A>),
+    ) -> Result<(), EncodeError> {
+        self.writer.check_unfailed()?;
+        let (waiting, set) = outside;
+        self.set = set;
+        let contents = self.writer.close_unplaced(waiting);
+        self.writer.put_open_pieces(contents)
     }
 
     #[inline(always)]

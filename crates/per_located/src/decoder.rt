@@ -26,6 +26,9 @@ pub trait Positioned: Decoder + Drop {
     /// Whether the extension bit that is ahead is 1 (X.691 19.1, 23.5).
     fn is_extended(&self) -> bool;
 
+    /// The open type that is next (X.691 11.2).
+    fn open_ahead(&self) -> OpenAhead;
+
     /// The open type of the next addition of a SEQUENCE, behind the bitmap of its additions where that is still ahead
     /// (X.691 19.7 to 19.9).
     fn addition_ahead(&self, bitmap: bool) -> OpenAhead;
@@ -108,6 +111,8 @@ impl<D: Positioned> Decoder for Located<D> {
 
     type Alternative = D::Alternative;
 
+    type Contents = D::Contents;
+
     ghost rules = { D.rules };
 
     ghost opens = { D.opens };
@@ -119,6 +124,12 @@ impl<D: Positioned> Decoder for Located<D> {
     ghost closes_choice = { D.closes_choice };
 
     ghost unended_choice = { D.unended_choice };
+
+    ghost opens_contents = { D.opens_contents };
+
+    ghost closes_contents = { D.closes_contents };
+
+    ghost unended_contents = { D.unended_contents };
 
     ghost amid = { D.amid };
 
@@ -343,6 +354,25 @@ impl<D: Positioned> Decoder for Located<D> {
         self.seen(answer)
     }
 
+    fn open_contents(&mut self, tag: Tag) -> Result<D::Contents, D::Error> {
+        self.trail.begin();
+        let open = self.inner.open_ahead();
+        let answer = self.inner.open_contents(tag);
+        if answer.is_ok() {
+            let left = self.inner.left();
+            self.trail.enter_contents(open, left);
+        }
+        self.seen(answer)
+    }
+
+    fn close_contents(&mut self, contents: D::Contents) -> Result<(), D::Error> {
+        let answer = self.inner.close_contents(contents);
+        if answer.is_ok() {
+            self.trail.leave();
+        }
+        self.seen(answer)
+    }
+
     fn next_presence(&mut self) -> Result<bool, D::Error> {
         self.trail.pause();
         let answer = self.inner.next_presence();
@@ -402,6 +432,8 @@ impl<D: Positioned> Decoder for Located<D> {
     ghost scopes = { D.scopes };
 
     ghost additions = { D.additions };
+
+    ghost contents = { D.contents };
 
     ghost choices = { D.choices };
 

@@ -20,6 +20,10 @@ impl<'input> Positioned for Decoder<'input> {
         !input.is_empty() && input.first_bits(1) == 1
     }
 
+    fn open_ahead(&self) -> OpenAhead {
+        open_ahead(reader_of(self))
+    }
+
     fn addition_ahead(&self, bitmap: bool) -> OpenAhead {
         let mut reader = reader_of(self);
         if bitmap {

@@ -111,6 +111,8 @@ pub(crate) enum Frame {
     List(ListFrame),
     /// The alternative of a CHOICE: its identifier, and where the bits outside its open type end, if it has one.
     Alternative(&'static str, Option<Extent>),
+    /// The value that octets contain, which is reached without a step: where the bits outside end.
+    Contents(Extent),
 }
 
 impl Frame {
@@ -138,6 +140,7 @@ impl Frame {
             Frame::List(list) if list.is_inside => Some(Step::Element(list.begun)),
             Frame::List(_) => None,
             Frame::Alternative(name, _) => Some(Step::Named(*name)),
+            Frame::Contents(_) => None,
         }
     }
 }
@@ -200,8 +203,10 @@ impl Trail {
         if self.stopped.is_some() {
             return;
         }
-        if let Some(Frame::Alternative(_, Some(outside))) = self.frames.pop() {
-            self.extent = outside;
+        match self.frames.pop() {
+            Some(Frame::Alternative(_, Some(outside))) => self.extent = outside,
+            Some(Frame::Contents(outside)) => self.extent = outside,
+            _ => {}
         }
     }
 
@@ -288,6 +293,15 @@ impl Trail {
                 self.extent = outside.of_contents(self.bits, open);
             }
         }
+    }
+
+    /// Enters octets that contain a value, where the last `left` bits of them are left.
+    pub(crate) fn enter_contents(&mut self, open: OpenAhead, left: u128) {
+        let outside = self.extent;
+        if self.stopped.is_none() {
+            self.extent = outside.of_contents(self.bits, open);
+        }
+        self.enter(Frame::Contents(outside), left);
     }
 
     /// How many bits stand in front of where it stopped.

@@ -13,7 +13,7 @@ use Rattle.per_write.specs.Rules.{encoder_rules}
 use Rattle.rasn_schema.specs.Absent.{no_value}
 use Rattle.rasn_schema.specs.Schemas.{Schema}
 use Rattle.per_core.specs.Canon.{canon, char_writers, date_of}
-use Rattle.per_core.specs.Counts.{constrained_whole, counted, ItemKind, counted_in, counted_under, determinant, in_fragments, is_aligned, marked_form, octet_items, octet_writers, padding_if, fragment_sizes, bit_items, bit_writers, char_items}
+use Rattle.per_core.specs.Counts.{constrained_whole, counted, ItemKind, counted_in, counted_under, determinant, in_fragments, is_aligned, marked_form, octet_items, open_bits, octet_writers, padding_if, fragment_sizes, bit_items, bit_writers, char_items}
 use Rattle.per_core.specs.Writers.{Writer, go_on, one_by_one, just, padding, written_if, ◌▹◌}
 use Rattle.per_write.specs.declared.error.EncodeError.{EncodeError}
 use Rattle.per_write.specs.declared.error.EncodeErrorKind.{EncodeErrorKind}
@@ -189,6 +189,11 @@ real_refused e x h v = record {
   codec_is = h.codec_is;
 }
 
+-- X.691 11.2: contents that have no encoding have none in octets
+pub no_contents : (a : Variant) (p : ℕ) → open_bits a None p ≡ None
+unfolding open_bits
+no_contents a p = refl
+
 -- X.680 25.6: what is absent has no encoding
 pub none_of_absent : (a : Variant) (s : Schema) (p : ℕ) → canon a s no_value p ≡ None
 unfolding canon date_of
@@ -206,6 +211,7 @@ none_of_absent a (Schema.items r e ext) p = refl
 none_of_absent a (Schema.octet_string size mark) p = refl
 none_of_absent a (Schema.bit_string size mark named) p = refl
 none_of_absent a (Schema.char_string alphabet size mark) p = refl
+none_of_absent a (Schema.containing e) p = ap (λ (o : Option Bits). open_bits a o p) (none_of_absent a e 0) ∙ no_contents a p
 none_of_absent a (Schema.list e size mark) p = refl
 none_of_absent a (Schema.set_of e size mark) p = refl
 none_of_absent a (Schema.sequence o ps ext adds) p = refl

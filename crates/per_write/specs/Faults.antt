@@ -127,7 +127,8 @@ pub data HasElement (v : Value) : List Value → Type 0 where
   element_here : {vs : List Value} → HasElement v (v ∷ vs)
   element_behind : {w : Value} {vs : List Value} → HasElement v vs → HasElement v (w ∷ vs)
 
--- a fault stands in a value: at once, in a component, an addition, an element or a member of it, or in its alternative
+-- a fault stands in a value: at once, in a component, an addition, an element or a member of it, in its alternative, or
+-- in the value that octets contain
 pub data StandsIn (fault : Schema → Value → Type 0) : Schema → Value → Type 0 where
   at_once : {s : Schema} {v : Value} → fault s v → StandsIn fault s v
   in_part : {s : Schema} {v : Value} {ps qs : Parts} {marker : Bool} {rs : List (Option Value)}
@@ -144,6 +145,7 @@ pub data StandsIn (fault : Schema → Value → Type 0) : Schema → Value → T
       → StandsIn fault e v → StandsIn fault (Schema.list e size mark) (list_value vs)
   in_member : {e : Schema} {size : Size} {mark : Bool} {v : Value} {vs : List Value} → HasElement v vs
       → StandsIn fault e v → StandsIn fault (Schema.set_of e size mark) (bag_of vs)
+  in_contents : {e : Schema} {v : Value} → StandsIn fault e v → StandsIn fault (Schema.containing e) v
   in_alternative : {s : Schema} {v : Value} {ps qs : Parts} {marker : Bool} {d : Side} {k : ℕ}
       → alternative_in (choice_schema ps marker qs) d k ≡ Some s → StandsIn fault s v
       → StandsIn fault (choice_schema ps marker qs) (alternative d k v)

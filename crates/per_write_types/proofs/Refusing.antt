@@ -14,7 +14,7 @@ use Rattle.per_core.proofs.Bags.{sort}
 use Rattle.per_write.specs.declared.error.EncodeError.{EncodeError}
 use Rattle.per_write.specs.declared.error.EncodeErrorKind.{EncodeErrorKind}
 use Rattle.per_write.specs.declared.error.EncodeErrorKind.TheVariants.{SizeConstraintNotSatisfied, ValueConstraintNotSatisfied, AlphabetConstraintNotSatisfied, IntegerTypeConversionFailed, VariantNotInChoice, RealNotSupported, TooManyAdditions, Below, AlreadyFailed, OutOfMemory, OutOfTurn}
-use Rattle.per_write.specs.Faults.{HasElement, element_here, element_behind, IsAbsent, IsForeign, IsOutOfBounds, IsOutOfSize, IsPastBounds, IsReal, IsUnlawful, OutsideSize, RefusesValue, Stands, StandsIn, at_once, in_addition, in_alternative, in_element, in_member, in_part, in_set}
+use Rattle.per_write.specs.Faults.{HasElement, element_here, element_behind, IsAbsent, IsForeign, IsOutOfBounds, IsOutOfSize, IsPastBounds, IsReal, IsUnlawful, OutsideSize, RefusesValue, Stands, StandsIn, at_once, in_addition, in_alternative, in_contents, in_element, in_member, in_part, in_set}
 use Rattle.per_write.specs.Items.{HasRefused, refused_behind, refused_here}
 use Rattle.per_write.specs.State.{State}
 use Rattle.per_write.proofs.Elements.{length-forms}
@@ -111,6 +111,7 @@ bag_stands fault e size mark ws vs moves once s v i j (in_part xs h k) = absurd 
 bag_stands fault e size mark ws vs moves once s v i j (in_addition rs h k) = absurd cc
 bag_stands fault e size mark ws vs moves once s v i j (in_set rs xs k) = absurd cc
 bag_stands fault e size mark ws vs moves once s v i j (in_member h k) = absurd cc
+bag_stands fault e size mark ws vs moves once s v i j (in_contents k) = absurd cc
 bag_stands fault e size mark ws vs moves once s v i j (in_alternative h k) = absurd cc
 
 count_stands : (n : ℕ) (l u : Option ℕ) (e : Schema) (size : Size) (mark : Bool) (ws vs : List Value) → length ws ≡ length vs

@@ -6,6 +6,7 @@ pub mod BagsRead
 pub mod Boxes
 pub mod Calls
 pub mod Choices
+pub mod Contents
 pub mod Errors
 pub mod Lists
 pub mod Moments

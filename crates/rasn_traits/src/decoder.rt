@@ -19,6 +19,7 @@ ghost use Rattle.rasn_traits.specs.BagsRead.{BagsWell};
 ghost use Rattle.rasn_traits.specs.Optionals.{ReadsBit};
 ghost use Rattle.rasn_traits.specs.Calls.{DecoderRules, freely_read, Reads, DecodesWell};
 ghost use Rattle.rasn_traits.specs.Choices.{ChoicesWell, OpensToChoose};
+ghost use Rattle.rasn_traits.specs.Contents.{ContentsWell, OpensContentsToRead};
 ghost use Rattle.rasn_traits.specs.Errors.{ErrorsWell};
 ghost use Rattle.rasn_traits.specs.Reals.{ReadsNoReal};
 ghost use Rattle.rasn_traits.specs.Lists.{AmidRead, OpensListToRead, ReadsNext};
@@ -64,6 +65,9 @@ pub trait Decoder: Sized {
     /// What waits outside while a choice is open.
     type Alternative: Drop;
 
+    /// What waits outside while octets that contain a value are open.
+    type Contents: Drop;
+
     // What is read, and what states and errors say.
     ghost rules: { DecoderRules Self.Error Self };
 
@@ -99,6 +103,15 @@ pub trait Decoder: Sized {
 
     // The fault that an error names stands at the end of an open type.
     ghost unended_addition: { Self.Addition → Self.Error → Self → Type 0 };
+
+    // Octets that contain a value are opened to read it: what was before, what waits outside, and how it is inside.
+    ghost opens_contents: { Self → Self.Contents → Self → Type 0 };
+
+    // They end: how it is inside, what waited outside, and how it is behind them.
+    ghost closes_contents: { Self → Self.Contents → Self → Type 0 };
+
+    // The fault that an error names stands at the end of octets that contain a value.
+    ghost unended_contents: { Self.Contents → Self.Error → Self → Type 0 };
 
     // Octets of an OCTET STRING are lent: its size and whether that has an extension marker, what was before, what is
     // left behind them, and how many they are.
@@ -266,6 +279,15 @@ pub trait Decoder: Sized {
     /// over is refused.
     fn close_choice(&mut self, alternative: Self::Alternative) -> Result<(), Self::Error>
         ensures { ClosesRead rules unended_choice closes_choice alternative self.old result self.new };
+
+    /// Opens octets that contain a value (X.682 11; X.691 11.2): the calls from here to `close_contents` read it, by
+    /// itself.
+    fn open_contents(&mut self, tag: Tag) -> Result<Self::Contents, Self::Error>
+        ensures { OpensContentsToRead rules opens_contents self.old result self.new };
+
+    /// Closes octets of which the value that they contain was read. Whole octets that are left over are refused.
+    fn close_contents(&mut self, contents: Self::Contents) -> Result<(), Self::Error>
+        ensures { ClosesRead rules unended_contents closes_contents contents self.old result self.new };
 
     /// Reads the presence bit of the next component of the open SEQUENCE that has one (X.691 19.2). Takes no memory.
     fn next_presence(&mut self) -> Result<bool, Self::Error>
@@ -442,6 +464,9 @@ pub trait Decoder: Sized {
 
     // What holds of each decoder's open types.
     ghost additions: { AdditionsWell rules unended_addition opens_addition closes_addition };
+
+    // What holds of each decoder's octets that contain a value.
+    ghost contents: { ContentsWell rules unended_contents opens_contents closes_contents };
 
     // What holds of each decoder's choices.
     ghost choices: { ChoicesWell rules unended_choice opens_choice closes_choice };

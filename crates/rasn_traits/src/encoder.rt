@@ -19,6 +19,7 @@ ghost use Rattle.rasn_traits.specs.Calls.{EncoderRules, without_memory, Writes, 
 ghost use Rattle.rasn_schema.specs.Choices.{choices_of};
 ghost use Rattle.rasn_schema.specs.Fields.{tag_of};
 ghost use Rattle.rasn_traits.specs.Choices.{ClosesChoice, OpensChoice, WritesChoice};
+ghost use Rattle.rasn_traits.specs.Contents.{ClosesContents, OpensContents};
 ghost use Rattle.rasn_traits.specs.Lists.{Amid, OpensList, WritesNext, ClosesList};
 ghost use Rattle.rasn_traits.specs.Moments.{identifier_value};
 ghost use Rattle.rasn_traits.specs.Reals.{WritesNoReal};
@@ -53,6 +54,9 @@ pub trait Encoder: Sized {
     /// What waits outside while a choice is open.
     type Alternative: Drop;
 
+    /// What waits outside while octets that contain a value are open.
+    type Contents: Drop;
+
     /// What is left of an open list.
     type List: Drop;
 
@@ -70,6 +74,9 @@ pub trait Encoder: Sized {
 
     // A choice is opened to write a schema: what was before, what waits outside, and how it is inside.
     ghost opens_choice: { Schema → Self → Self.Alternative → Self → Type 0 };
+
+    // Octets that are to contain a value are opened: what was before, what waits outside, and how it is inside.
+    ghost opens_contents: { Self → Self.Contents → Self → Type 0 };
 
     // A list is open: which one, what was before it, its elements still to be written, what is left of it, and now.
     ghost amid: { Amid Self Self.List };
@@ -324,6 +331,20 @@ pub trait Encoder: Sized {
     ) -> Result<(), Self::Error>
         ensures { ClosesChoice rules opens_choice (choices_of C.alternatives C.EXTENDED_VARIANTS C.added) C.VARIANTS
             C.EXTENDED_VARIANTS alternative (tag_of chosen) self.old result self.new };
+
+    /// Opens octets that contain a value (X.682 11; X.691 11.2): the calls from here to `close_contents` write it, by
+    /// itself.
+    fn open_contents(
+        &mut self,
+        tag: Tag,
+        identifier: Identifier,
+    ) -> Result<Self::Contents, Self::Error>
+        ensures { OpensContents rules opens_contents self.old result self.new };
+
+    /// Closes octets in which one value was written: they are its complete encoding (X.691 11.1), behind an
+    /// unconstrained length.
+    fn close_contents(&mut self, contents: Self::Contents) -> Result<(), Self::Error>
+        ensures { ClosesContents rules opens_contents contents self.old result self.new };
 
     /// Gives the presence bit of the next component of the open SEQUENCE that has one (X.691 19.2). Takes no memory.
     fn set_presence(&mut self, is_there: bool) -> Result<(), Self::Error>

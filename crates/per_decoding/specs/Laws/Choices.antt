@@ -1,8 +1,8 @@
 -- The laws of the decoder's choices: a choice is its index, and the alternative at that place, which stands behind an
 -- extension marker in an open type (X.691 23).
-use Rattle.std.proofs.Common.{◌≡◌, ◌∙◌, ◌<◌, ◌≤◌, inl, inr, refl, sym, ap, subst, arith, ℕ, zero, suc, Bool, false}
-use Rattle.std.proofs.Common.{List, length, length-append, Option, Some, None}
-use Rattle.rasn_types.specs.Bits.{Bits, unpack}
+use Rattle.std.proofs.Common.{◌≡◌, ◌∙◌, ◌<◌, inl, inr, refl, sym, ap, subst, arith, ℕ, zero, suc, Bool, false}
+use Rattle.std.proofs.Common.{List, length, Option, Some, None}
+use Rattle.rasn_types.specs.Bits.{Bits}
 use Rattle.rasn_types.specs.Values.{Value, alternative, item, Side, root, added}
 use Rattle.rasn_schema.specs.Choices.{alternative_at, alternative_in, choice_schema, tags_of}
 use Rattle.rasn_schema.specs.Schemas.{Schema, Parts, no_parts, part}
@@ -16,16 +16,14 @@ use Rattle.per_core.proofs.Took.{took_then, then_took, took_map, took_agree}
 use Rattle.per_read_types.specs.Choices.{index_form}
 use Rattle.per_read.specs.Kinds.{NoneIn}
 use Rattle.per_read.specs.declared.error.DecodeError.{DecodeError}
-use Rattle.per_read.specs.declared.error.DecodeErrorKind.{DecodeErrorKind}
 use Rattle.per_read.specs.declared.error.DecodeErrorKind.TheVariants.{OutOfMemory}
-use Rattle.per_read.specs.Ends.{EndsAs, IsOfEnd}
-use Rattle.per_read.proofs.Opened.{no_open, open_took, took_open}
-use Rattle.per_decoding.specs.Laws.Additions.{new_why}
-use Rattle.per_decoding.specs.Additions.{OpensContents, OutsideAddition, with_outside_addition}
+use Rattle.per_read.proofs.Opened.{no_open}
+use Rattle.per_decoding.specs.Laws.Contents.{back, moved, of_contents, of_end, opened, outside_again}
+use Rattle.per_decoding.specs.Additions.{OutsideAddition, with_outside_addition}
 use Rattle.per_decoding.specs.Choices.{OutsideChoice, ClosesChoice, EndsFrom, OpensChoice, StandsFrom, UnendedChoice}
-use Rattle.per_decoding.specs.Faults.{Fault, IsInBits, IsInOpen, UnendedAddition, at_their_end, in_added_alternative}
-use Rattle.per_decoding.specs.Faults.{in_alternative, in_contents}
-use Rattle.per_decoding.specs.Laws.Records.{IsNew, in_bits, is_new, of_bits}
+use Rattle.per_decoding.specs.Faults.{Fault, IsInBits, in_added_alternative}
+use Rattle.per_decoding.specs.Faults.{in_alternative}
+use Rattle.per_decoding.specs.Laws.Records.{in_bits, is_new, of_bits}
 use Rattle.per_decoding.specs.Rules.{decoder_rules}
 use Rattle.per_decoding.specs.Scopes.{with_outside_record}
 use Rattle.per_decoding.specs.Laws.Spelled.{spelled}
@@ -216,74 +214,6 @@ alike added (Some w) m i f =
       codec =
           ap (λ z. z.codec) e;
     }
-
-pub moved : {a b : Settings} {k : DecodeErrorKind} {c : Schema} {m : Bits} → a ≡ b → IsInBits a k c m → IsInBits b k c m
-moved {k = k} {c} {m} e h = subst (λ z. IsInBits z k c m) e h
-
--- an open type behind the extension marker
-module _ (a : Settings) (c : Schema) {m i : State} {w : OutsideAddition} (f : OpensContents m w i)
-    (e : settings_of m ≡ a) where
-  octets_took : Took (Octets a f.octets) m.bits w.bits
-  octets_took = subst (λ z. Took (Octets z f.octets) m.bits w.bits) e f.took
-
-  inner_settings : settings_of i ≡ a
-  inner_settings = ap settings_of f.enters.same ∙ e
-
-  whole : w.total ≡ length (unpack f.octets)
-  whole = ap (λ z. z.total) f.enters.waits
-
-  contents_took : (v : Value) (j : State) → Spells c i v j → Took (basic a c v) (unpack f.octets) j.bits
-  contents_took v j h = subst (λ z. Took (basic a c v) z j.bits) f.enters.inside
-      (subst (λ z. Took (basic z c v) i.bits j.bits) inner_settings h.took)
-
-  -- a fault in the contents
-  of_contents : (k : DecodeErrorKind) → IsInBits (settings_of i) k c i.bits → IsInOpen a k c m.bits
-  of_contents k h = in_contents f.octets octets_took (subst (λ z. IsInBits a k c z) f.enters.inside
-      (moved inner_settings h))
-
-  -- at their end
-  of_end : (v : Value) (err : DecodeError) (j : State) → Spells c i v j → UnendedAddition w err j
-      → IsInOpen a err.kind c m.bits × IsNew err.kind
-  of_end v err j h u =
-      let k : settings_of j ≡ a = ap settings_of h.same ∙ inner_settings in
-      let q = contents_took v j h in
-      let less : length j.bits ≤ w.total = omega (arith, whole, ap length q.joins, length-append q.front j.bits) in
-      let y : IsOfEnd (settings_of j) j.bits w.total err.kind = u.stands less in
-      let x : IsOfEnd a j.bits (length (unpack f.octets)) err.kind =
-      subst (λ (z : ℕ). IsOfEnd a j.bits z err.kind) whole (subst (λ z. IsOfEnd z j.bits w.total err.kind) k y) in
-      (at_their_end f.octets v octets_took q x, subst IsNew (sym y.names) (new_why y.why))
-
-  -- the open type, where the contents end
-  opened : (v : Value) (j : State) → Spells c i v j → EndsAs (settings_of j) j.bits w.total
-      → Took (Open a (Fills a (basic a c v))) m.bits w.bits
-  opened v j h n =
-      let k : settings_of j ≡ a = ap settings_of h.same ∙ inner_settings in
-      open_took a (basic a c v) f.octets octets_took j.bits (contents_took v j h)
-      (subst (λ (z : ℕ). EndsAs a j.bits z) whole (subst (λ z. EndsAs z j.bits w.total) k n))
-
-  -- contents of an open type that are read up to their end: the bits of the value, and what is left, which ends them
-  record Contents (v : Value) (t : Bits) : Type 0 where
-    same : w.bits ≡ t
-    left : Bits
-    took : Took (basic (settings_of i) c v) i.bits left
-    ends : EndsAs (settings_of i) left w.total
-
-  back : (v : Value) (t : Bits) → Took (Open a (Fills a (basic a c v))) m.bits t → Contents v t
-  back v t h =
-      let q = took_open a (basic a c v) f.octets octets_took t h in
-      record {
-        same = q.0;
-        left = q.1;
-        took = subst (λ z. Took (basic z c v) i.bits q.1) (sym inner_settings)
-            (subst (λ z. Took (basic a c v) z q.1) (sym f.enters.inside) q.2);
-        ends = subst (λ z. EndsAs z q.1 w.total) (sym inner_settings)
-            (subst (λ (z : ℕ). EndsAs a q.1 z) (sym whole) q.3);
-      }
-
-  -- what waited outside is back
-  outside_again : with_outside_addition i w ≡ with_bits m w.bits
-  outside_again = ap (λ z. with_outside_addition z w) f.enters.same
-      ∙ ap (λ z. with_outside_addition (with_bits m w.bits) z) f.enters.waits
 
 -- a choice that was opened
 module _ (ps : Parts) (marker : Bool) (qs : Parts) (d : Side) (k : ℕ) (c : Schema) {s i : State} {w : OutsideChoice}

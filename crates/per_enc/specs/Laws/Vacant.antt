@@ -16,7 +16,8 @@ use Rattle.per_write.specs.declared.error.EncodeErrorKind.TheVariants.{IntegerTy
 use Rattle.per_write.specs.declared.error.EncodeErrorKind.TheVariants.{RealNotSupported, TooManyAdditions, Below}
 use Rattle.per_write.specs.declared.error.EncodeErrorKind.TheVariants.{AlreadyFailed, OutOfMemory, OutOfTurn}
 use Rattle.per_write.specs.Faults.{HasPart, part_here, part_behind, StandsIn, at_once, in_part, in_addition, in_element}
-use Rattle.per_write.specs.Faults.{in_member, in_alternative, in_set, IsAbsent, IsForeign, IsOutOfBounds, IsOutOfSize}
+use Rattle.per_write.specs.Faults.{in_member, in_alternative, in_contents, in_set, IsAbsent, IsForeign}
+use Rattle.per_write.specs.Faults.{IsOutOfBounds, IsOutOfSize}
 use Rattle.per_write.specs.Faults.{IsPastBounds, IsReal, IsUnlawful, Stands}
 use Rattle.per_write.specs.State.{State}
 
@@ -63,6 +64,7 @@ none_stands fault f s v g i (in_addition {ps = ps} {qs = qs} {xs = xs} rs h k) =
 none_stands fault f s v g i (in_element h k) = absurd cc
 none_stands fault f s v g i (in_member h k) = absurd cc
 none_stands fault f s v g i (in_set rs xs k) = absurd cc
+none_stands fault f s v g i (in_contents k) = absurd cc
 none_stands fault f s v g i (in_alternative h k) = absurd cc
 
 no_size : (n : ℕ) (l u : Option ℕ) (s : Schema) (v : Value) → is_group_schema s ≡ true → IsOutOfSize n l u s v → ⊥

@@ -1,0 +1,53 @@
+-- What opening octets that contain a value takes, and why it refuses.
+use Rattle.std.proofs.Common.{◌≡◌, ◌⊎◌, inl, inr, refl, sym, ◌∙◌, ap, subst, false}
+use Rattle.std.specs.Prelude.{Result, Ok, Err}
+use Rattle.rasn_schema.specs.Schemas.{Schema}
+use Rattle.rasn_traits.specs.Calls.{Refuses}
+use Rattle.rasn_traits.specs.Contents.{OpensContentsToRead}
+use Rattle.per_core.specs.Basic.{Fills, Octets, basic}
+use Rattle.per_read.specs.Kinds.{NoneIn, Stopped}
+use Rattle.per_read.specs.declared.error.DecodeError.{DecodeError}
+use Rattle.per_read.specs.declared.error.DecodeErrorKind.{DecodeErrorKind}
+use Rattle.per_read.specs.declared.error.DecodeErrorKind.TheVariants.{OutOfMemory}
+use Rattle.per_read.proofs.Opened.{no_open}
+use Rattle.per_decoding.specs.Additions.{OpensContaining}
+use Rattle.per_decoding.specs.Faults.{Fault, in_containing, in_octets, refusal}
+use Rattle.per_decoding.specs.Laws.Contents.{took_containing}
+use Rattle.per_decoding.specs.Laws.Records.{of_bits}
+use Rattle.per_decoding.specs.Laws.Tails.{tested_new}
+use Rattle.per_decoding.specs.Rules.{decoder_rules}
+use Rattle.per_decoding.specs.State.{State, Spells, settings_of}
+use Rattle.per_de.specs.Outsides.{outside_addition_of}
+use Rattle.per_de.specs.Steps.{EntersOpen, RefusedAs}
+use Rattle.per_de.specs.declared.Addition.{Addition}
+
+-- no octets stand at the front
+pub no_octets : (s : State) (e : DecodeError) (t : State) → RefusedAs (Stopped (NoneIn (Octets (settings_of s)) s.bits)) s e t
+    → (e ≡ refusal OutOfMemory s) ⊎ ((c : Schema) → Refuses (Spells (Schema.containing c)) (Fault (Schema.containing c)) e s)
+no_octets s e t h = go h.kind h.is h.because
+  where
+    go : (d : DecodeErrorKind) → e ≡ refusal d s → Stopped (NoneIn (Octets (settings_of s)) s.bits) d
+        → (e ≡ refusal OutOfMemory s) ⊎ ((c : Schema) → Refuses (Spells (Schema.containing c)) (Fault (Schema.containing c)) e s)
+    go d i (inl o) = inl (i ∙ ap (λ z. refusal z s) o)
+    go d i (inr o) = inr (λ c. record {
+      nothing = λ v y b. no_open (settings_of s) (Fills (settings_of s) (basic (settings_of s) c v)) o.1 y.bits (took_containing (settings_of s) c v b.took);
+      stands = subst (λ z. Fault (Schema.containing c) z s) (sym i) (record {
+        codec = refl;
+        stands = of_bits d (Schema.containing c) s (tested_new d o.0) (in_containing (in_octets o.0 o.1));
+      });
+    })
+
+-- octets that contain a value are open, and what waits outside
+abbrev pub are_open : State → Addition → State → Type 0
+are_open s o i = OpensContaining s (outside_addition_of i.source o) i
+
+-- an open type is entered as what contains a value
+pub contents_opened : (s i : State) (result : Result Addition DecodeError) → s.failed ≡ false → EntersOpen s result i → OpensContentsToRead decoder_rules are_open s result i
+contents_opened s i (Ok o) live h = record {
+  law = record { live = live; opens = h };
+  behaves = record { again = λ f. absurd cc; fails = tt; kept = ap (λ z. z.codec) h.enters.same };
+}
+contents_opened s i (Err e) live h = record {
+  law = no_octets s e i h;
+  behaves = record { again = λ f. absurd cc; fails = h.failed; kept = h.codec };
+}
