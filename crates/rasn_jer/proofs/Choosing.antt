@@ -16,9 +16,9 @@ use Rattle.rasn_jer.proofs.Refusing.{bit_there, not_outside}
 use Rattle.rasn_jer.proofs.Writing.{leaf, over_ok}
 use Rattle.rasn_jer.specs.Laws.Relations.{unrefused}
 use Rattle.rasn_jer.specs.Laws.Vacant.{written_busy}
-use Rattle.rasn_jer.specs.Places.{behind, behind_all, inside, is_complete, is_full, IsPiece, Place, State, unfailed_at, vacant_place}
+use Rattle.rasn_jer.specs.Places.{behind, behind_all, inside, is_complete, is_full, past_added, Place, State, unfailed_at, vacant_place, with_addition, with_group, with_value}
 use Rattle.rasn_jer.specs.Rules.{AddedSo, EntersPlace, IsOutside, IsRefused, IsUnclosed, jer_rules, Opens, OpensAddition, Presents, Stays, WritesText}
-use Rattle.rasn_jer.specs.Shown.{in_alternative, IsString, IsThere, is_present, is_required, Shows, shows_alternative, shows_any, shows_bag, shows_bits, shows_item, shows_list, shows_nothing, shows_octets, shows_ordered, shows_record, shows_string, shows_truth, shows_whole}
+use Rattle.rasn_jer.specs.Shown.{in_alternative, IsString, IsThere, is_present, is_required, Shows, shows_contents, shows_alternative, shows_any, shows_bag, shows_bits, shows_item, shows_list, shows_nothing, shows_octets, shows_ordered, shows_record, shows_string, shows_truth, shows_whole}
 use Rattle.rasn_jer.specs.Shown.{addition_left_out, addition_spread, addition_there, additions_end, part_left_out, part_there, parts_end, ShowsAdditions, ShowsParts}
 use Rattle.rasn_jer.specs.Texts.{enclosed, member_text, text_of}
 use Rattle.rasn_jer.specs.declared.error.EncodeError.{EncodeError}
@@ -39,8 +39,7 @@ pub record Alone (s : Schema) (v : Value) (j : State) : Type 0 where
 pub alone : (i j : State) (s : Schema) (v : Value) → i ≡ inside Kinds.One → Presents i s v j → Alone s v j
 alone i j s v e w =
     let before : i.place ≡ vacant_place Kinds.One = ap (λ (z : State). z.place) e in
-    let piece : w.taken.piece ≡ text_of w.json = subst (λ (p : Place). IsPiece p.kind (text_of w.json) w.taken.piece) before w.taken.is_piece in
-    let now : j.place ≡ behind (vacant_place Kinds.One) (text_of w.json) = w.taken.written ∙ ap₂ behind before piece in
+    let now : j.place ≡ behind (vacant_place Kinds.One) (text_of w.json) = w.taken.written ∙ ap (λ (p : Place). with_value p.kind p (text_of w.json)) before in
     record {
       unfailed = w.left;
       kind = ap (λ (p : Place). p.kind) now;
@@ -127,7 +126,7 @@ never_outside e x b m h = not_outside e x (record { unfailed = b; members = m })
 -- an addition is closed: its value is a member
 pub addition_closed : (s : Schema) (v : Value) (x i j m : State) (o p : Place) (r : Result (Unit {0}) EncodeError) (y : State) → OpensAddition x o i → Presents i s v j
     → p ≡ j.place → m ≡ unfailed_at o
-    → AddedSo (λ q. (name : List ℕ) × (q ≡ behind m.place (member_text name p.text))) m r y → AdditionClosed jer_rules s (Some v) x r y
+    → AddedSo (λ q. q ≡ with_addition m.place p.text) m r y → AdditionClosed jer_rules s (Some v) x r y
 addition_closed s v x i j m o p (Ok u) y h w e f q =
     let one = alone i j s v h.opened.within w in
     let inner : p.text ≡ text_of one.json = ap (λ (z : Place). z.text) e ∙ one.text in
@@ -138,7 +137,7 @@ addition_closed s v x i j m o p (Ok u) y h w e f q =
       left = q.2;
       json = one.json;
       shows = one.shows;
-      added = inl (q.3.0, q.3.1 ∙ ap₂ (λ (z : State) (l : List ℕ). behind z.place (member_text q.3.0 l)) outside inner);
+      added = inl (q.3 ∙ ap₂ (λ (z : State) (l : List ℕ). with_addition z.place l) outside inner);
     }
 addition_closed s v x i j m o p (Err e) y h w g f q =
     let outside : m ≡ x = f ∙ back o x h.opened.outer h.opened.begun in
@@ -155,7 +154,7 @@ unfolding is_idle
 there_busy p v is_required e = absurd cc
 there_busy p v (is_present h) e = absurd (let t : true ≡ false = sym e ∙ written_busy p v (bit_there p v h) in cc)
 
-idle_parts : {ps : Parts} {rs : List (Option Value)} {ns ms : Members} → ShowsParts ps rs ns ms → are_idle ps rs ≡ true → ms ≡ ns
+idle_parts : {names : List (List ℕ)} {ps : Parts} {rs : List (Option Value)} {ns ms : Members} → ShowsParts names ps rs ns ms → are_idle ps rs ≡ true → ms ≡ ns
 unfolding are_idle
 idle_parts parts_end e = refl
 idle_parts (part_there {p = p} {ps = ps} {v = v} {rs = rs} t h k) e = absurd (there_busy p v t (both (is_idle p (Some v)) (are_idle ps rs) e).0)
@@ -164,7 +163,7 @@ idle_parts (part_left_out {p = p} {ps = ps} {r = r} {rs = rs} b k) e = idle_part
 busy_there : (p : Presence) (v : Value) → addition_bit p (Some v) ≡ Some true → is_idle p (Some v) ≡ true → ⊥
 busy_there p v h e = absurd (let t : true ≡ false = sym e ∙ written_busy p v h in cc)
 
-idle_additions : {qs : Parts} {xs : List (Option Value)} {ms : Members} → ShowsAdditions qs xs ms → are_idle qs xs ≡ true → ms ≡ no_members
+idle_additions : {names : List (List ℕ)} {qs : Parts} {xs : List (Option Value)} {ms : Members} → ShowsAdditions names qs xs ms → are_idle qs xs ≡ true → ms ≡ no_members
 unfolding are_idle
 idle_additions additions_end e = refl
 idle_additions (addition_there {p = p} {ps = ps} {v = v} {xs = xs} b h k) e = absurd (busy_there p v b (both (is_idle p (Some v)) (are_idle ps xs) e).0)
@@ -194,13 +193,14 @@ group_shown s v j g (shows_string {s = l} h) = absurd (no_string s v l g h)
     no_string _ v l g h = absurd cc
 group_shown s v j g (shows_list h) = absurd cc
 group_shown s v j g (shows_bag h) = absurd cc
-group_shown s v j g (shows_record {ps = ps} {qs = qs} {rs = rs} {xs = xs} {ms = ms} {ns = ns} h k) = record {
+group_shown s v j g (shows_record {ps = ps} {qs = qs} {rs = rs} {xs = xs} {ms = ms} {ns = ns} root added h k) = record {
   members = ms;
   is_object = refl;
   vacant = λ e. (let split = both (are_idle ps rs) (are_idle qs xs) (rw (slots-as_slots rs, slots-as_slots xs) at e) in
       idle_parts h split.0 ∙ idle_additions k split.1);
 }
 group_shown s v j g (shows_ordered rs xs h) = absurd cc
+group_shown s v j g (shows_contents h) = absurd cc
 group_shown s v j g (shows_alternative e h) = absurd cc
 
 pub group_at : (parts additions : ℕ → Parts) (marker : Bool) (n : ℕ) → is_group_schema (record_at listed parts marker additions n) ≡ true
@@ -208,11 +208,11 @@ group_at parts additions marker zero = refl
 group_at parts additions marker (suc n) = refl
 
 -- no members change nothing
-abbrev place_of : Kind → Bool → List ℕ → Place
-place_of kind is_empty text = record { kind = kind; is_empty = is_empty; text = text }
+abbrev place_of : Place → Bool → List ℕ → Place
+place_of p is_empty text = record p { is_empty = is_empty; text = text }
 
 none_more : (p : Place) → behind_all p no_members ≡ p
-none_more p = ap₂ (place_of p.kind) (and_true p.is_empty) (append-nil p.text)
+none_more p = ap₂ (place_of p) (and_true p.is_empty) (append-nil p.text)
   where
     and_true : (b : Bool) → (b && true) ≡ b
     and_true true = refl
@@ -221,7 +221,7 @@ none_more p = ap₂ (place_of p.kind) (and_true p.is_empty) (append-nil p.text)
 -- a group is closed: its members stand among the others
 pub group_closed : (s : Schema) (v : Value) (x i j m : State) (o p : Place) (r : Result (Unit {0}) EncodeError) (y : State) → is_group_schema s ≡ true → OpensAddition x o i
     → Presents i s v j → p ≡ j.place → m ≡ unfailed_at o
-    → ((gs : Members) → p.text ≡ text_of (object gs) → AddedSo (λ q. q ≡ behind_all m.place gs) m r y) → AdditionClosed jer_rules s (settle group s v) x r y
+    → ((gs : Members) → p.text ≡ text_of (object gs) → AddedSo (λ q. q ≡ with_group m.place gs) m r y) → AdditionClosed jer_rules s (settle group s v) x r y
 unfolding settle
 group_closed s v x i j m o p r y g h w e f q =
     let one = alone i j s v h.opened.within w in
@@ -232,14 +232,14 @@ group_closed s v x i j m o p r y g h w e f q =
     outside : m ≡ x
     outside = f ∙ back o x h.opened.outer h.opened.begun
 
-    settled : (b : Bool) → is_vacant s v ≡ b → (r : Result (Unit {0}) EncodeError) → AddedSo (λ q. q ≡ behind_all m.place (group_shown s v (alone i j s v h.opened.within w).json g (alone i j s v h.opened.within w).shows).members) m r y
+    settled : (b : Bool) → is_vacant s v ≡ b → (r : Result (Unit {0}) EncodeError) → AddedSo (λ q. q ≡ with_group m.place (group_shown s v (alone i j s v h.opened.within w).json g (alone i j s v h.opened.within w).shows).members) m r y
         → AdditionClosed jer_rules s (if b then None else Some v) x r y
     settled true t (Ok u) k =
         let shown = group_shown s v (alone i j s v h.opened.within w).json g (alone i j s v h.opened.within w).shows in
         record {
           begun = h.opened.begun;
           members = h.members;
-          same = ap₂ state_of (k.3 ∙ ap (behind_all m.place) (shown.vacant t) ∙ none_more m.place ∙ ap (λ (z : State). z.place) outside) (k.2 ∙ sym h.opened.begun);
+          moved = ap₂ state_of (k.3 ∙ ap (with_group m.place) (shown.vacant t) ∙ none_more (past_added m.place) ∙ ap (λ (z : State). past_added z.place) outside) k.2;
         }
     settled false t (Ok u) k =
         let one = alone i j s v h.opened.within w in
@@ -250,7 +250,7 @@ group_closed s v x i j m o p r y g h w e f q =
           left = k.2;
           json = one.json;
           shows = one.shows;
-          added = inr (shown.members, shown.is_object, k.3 ∙ ap (λ (z : State). behind_all z.place shown.members) outside);
+          added = inr (shown.members, shown.is_object, k.3 ∙ ap (λ (z : State). with_group z.place shown.members) outside);
         }
     settled true t (Err e) k = elim k [ inl z ↦ z | inr z ↦ absurd (never_outside e m (ap (λ (k : State). k.failed) outside ∙ h.opened.begun) (ap (λ (k : State). k.place.kind) outside ∙ h.members) z) ]
     settled false t (Err e) k = elim k [ inl z ↦ z | inr z ↦ absurd (never_outside e m (ap (λ (k : State). k.failed) outside ∙ h.opened.begun) (ap (λ (k : State). k.place.kind) outside ∙ h.members) z) ]

@@ -1,4 +1,5 @@
 pub mod Choosing
+pub mod Contained
 pub mod Digits
 pub mod Fields
 pub mod Items

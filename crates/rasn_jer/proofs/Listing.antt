@@ -10,7 +10,7 @@ use Rattle.rasn_traits.specs.Lists.{AwaitsElement, ListForm, ListOpened, schema_
 use Rattle.json.specs.Json.{array, no_items, item}
 use Rattle.rasn_jer.proofs.Writing.{already, closed}
 use Rattle.rasn_jer.specs.Laws.Relations.{unrefused}
-use Rattle.rasn_jer.specs.Places.{behind, inside, is_full_of, IsPiece, Place, State, unfailed_at, vacant_place}
+use Rattle.rasn_jer.specs.Places.{behind, inside, is_full_of, Place, State, unfailed_at, vacant_place, with_value}
 use Rattle.rasn_jer.specs.Rules.{Closed, EntersPlace, fault_of, IsOpenList, jer_rules, Presents, Refuses}
 use Rattle.rasn_jer.specs.Shown.{element_here, element_behind, HasElement, in_element, in_member, shows_bag, shows_end, shows_list, shows_next, StandsIn}
 use Rattle.rasn_jer.specs.Texts.{comma, enclosed, items_text, text_of}
@@ -53,8 +53,7 @@ bag_opened size mark count (Err n) x (Err d) y w h = elim w.entered [ inl m ↦ 
 -- one element more
 one_more : (f : ListForm) (x : State) (v : Value) (vs : List Value) (o : Place) (y z : State) → IsOpenList f x (v ∷ vs) o y → Presents y f.element v z → IsOpenList f x vs o z
 one_more f x v vs o y z h w =
-    let piece : w.taken.piece ≡ text_of w.json = subst (λ (k : Kind). IsPiece k (text_of w.json) w.taken.piece) h.items w.taken.is_piece in
-    let now : z.place ≡ behind y.place (text_of w.json) = w.taken.written ∙ ap (behind y.place) piece in
+    let now : z.place ≡ behind y.place (text_of w.json) = subst (λ (k : Kind). z.place ≡ with_value k y.place (text_of w.json)) h.items w.taken.written in
     record {
       begun = h.begun;
       outer = h.outer;

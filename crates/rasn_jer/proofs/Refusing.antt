@@ -1,5 +1,5 @@
 -- Where a refusal of a part is one of the whole.
-use Rattle.std.proofs.Common.{◌≡◌, Bool, true, false, List, ◌∷◌, Option, Some, refl, sym, ap, ◌∙◌, subst, inl, inr}
+use Rattle.std.proofs.Common.{◌≡◌, Bool, true, false, List, ◌∷◌, Option, Some, refl, sym, ap, ◌∙◌, subst, inl, inr, ℕ}
 use Rattle.rasn_types.specs.Values.{Value}
 use Rattle.rasn_schema.specs.Records.{record_value}
 use Rattle.rasn_schema.specs.Schemas.{Order, Presence, required, optional, group, default, Schema, Parts, part}
@@ -7,8 +7,8 @@ use Rattle.rasn_traits.specs.Additions.{addition_bit, PresentsAddition, RefusesA
 use Rattle.rasn_traits.specs.Presences.{presence_bit}
 use Rattle.rasn_traits.specs.Scopes.{PresentsPart, presents_required, presents_there, presents_left_out, PresentsParts, presents_end, presents_next, RefusesPart, refuses_required, refuses_there, refuses_bit, RefusesParts, refuses_here, refuses_behind, RefusesFields, refuses_root, refuses_behind_root}
 use Rattle.rasn_jer.specs.Laws.Relations.{unrefused}
-use Rattle.rasn_jer.specs.Places.{is_full, is_full_of, Place, State}
-use Rattle.rasn_jer.specs.Rules.{fault_of, IsOutside, IsRefused, IsUnclosed, jer_rules, Refuses, Stays, Presents}
+use Rattle.rasn_jer.specs.Places.{is_full, is_full_of, marked, Place, State, with_value}
+use Rattle.rasn_jer.specs.Rules.{fault_of, IsOutside, IsRefused, IsUnclosed, jer_rules, Marks, Refuses, Skips, Presents}
 use Rattle.rasn_jer.specs.Places.{is_complete}
 use Rattle.rasn_jer.specs.Shown.{HasPart, part_here, part_behind, StandsIn, in_part, in_addition}
 use Rattle.rasn_jer.specs.declared.error.EncodeError.{EncodeError}
@@ -44,16 +44,29 @@ bit_there (default d) v e = e
 standing : (e : EncodeError) (x : State) (s : Schema) (v : Value) → Inside x → Refuses e x s v → StandsIn (fault_of e) s v
 standing e x s v h k = elim k [ inl q ↦ absurd (unrefused e x h.unfailed (not_full x h) q) | inr q ↦ q ]
 
-pub presents_inside : (x : State) (s : Schema) (v : Value) (y : State) → Inside x → Presents x s v y → Inside y
-presents_inside x s v y h w = record { unfailed = w.left; members = ap (λ (q : Place). q.kind) w.taken.written ∙ h.members }
+-- a place stays one of members
+value_kind : (k : Kind) (p : Place) (text : List ℕ) → (with_value k p text).kind ≡ p.kind
+value_kind Kinds.One p text = refl
+value_kind Kinds.Items p text = refl
+value_kind Kinds.Members p text = refl
 
-stays_inside : (x y : State) → Stays x y → Inside y
-stays_inside x y k = record { unfailed = ap (λ (z : State). z.failed) k.same ∙ k.begun; members = ap (λ (z : State). z.place.kind) k.same ∙ k.members }
+marked_kind : (b : Bool) (p : Place) → (marked b p).kind ≡ p.kind
+marked_kind true p = refl
+marked_kind false p = refl
+
+pub presents_inside : (x : State) (s : Schema) (v : Value) (y : State) → Inside x → Presents x s v y → Inside y
+presents_inside x s v y h w = record { unfailed = w.left; members = ap (λ (q : Place). q.kind) w.taken.written ∙ value_kind x.place.kind x.place _ ∙ h.members }
+
+marks_inside : (x : State) (b : Bool) (y : State) → Marks x b y → Inside y
+marks_inside x b y k = record { unfailed = ap (λ (z : State). z.failed) k.moved; members = ap (λ (z : State). z.place.kind) k.moved ∙ marked_kind b x.place ∙ k.members }
+
+skips_inside : (x y : State) → Skips x y → Inside y
+skips_inside x y k = record { unfailed = ap (λ (z : State). z.failed) k.moved; members = ap (λ (z : State). z.place.kind) k.moved ∙ k.members }
 
 pub part_inside : {p : Presence} {s : Schema} {x y : State} {r : Option Value} → Inside x → PresentsPart jer_rules p s x r y → Inside y
 part_inside {x = x} {y = y} h (presents_required w) = presents_inside x _ _ y h w
-part_inside {x = x} {y = y} h (presents_there {m = m} b k w) = presents_inside m _ _ y (stays_inside x m k) w
-part_inside {x = x} {y = y} h (presents_left_out b k) = stays_inside x y k
+part_inside {x = x} {y = y} h (presents_there {m = m} b k w) = presents_inside m _ _ y (marks_inside x true m k) w
+part_inside {x = x} {y = y} h (presents_left_out b k) = marks_inside x false y k
 
 parts_inside : {ps : Parts} {x y : State} {rs : List (Option Value)} → Inside x → PresentsParts jer_rules ps x rs y → Inside y
 parts_inside h presents_end = h
@@ -62,14 +75,14 @@ parts_inside h (presents_next p q) = parts_inside (part_inside h p) q
 pub addition_inside : {p : Presence} {s : Schema} {x y : State} {r : Option Value} → Inside x → PresentsAddition jer_rules p s x r y → Inside y
 addition_inside h (presents_added b w) = record {
   unfailed = w.left;
-  members = elim w.added [ inl q ↦ ap (λ (p : Place). p.kind) q.1 ∙ h.members | inr q ↦ ap (λ (p : Place). p.kind) q.2 ∙ h.members ];
+  members = elim w.added [ inl q ↦ ap (λ (p : Place). p.kind) q ∙ h.members | inr q ↦ ap (λ (p : Place). p.kind) q.2 ∙ h.members ];
 }
-addition_inside {x = x} {y = y} h (presents_skipped b k) = stays_inside x y k
+addition_inside {x = x} {y = y} h (presents_skipped b k) = skips_inside x y k
 
 refused_part : {e : EncodeError} {p : Presence} {s : Schema} {x : State} {r : Option Value} → Inside x → RefusesPart jer_rules e p s x r
     → (v : Value) × (r ≡ Some v) × (addition_bit p (Some v) ≡ Some true) × StandsIn (fault_of e) s v
 refused_part {e = e} {x = x} h (refuses_required {v = v} k) = (v, refl, refl, standing e x _ v h k)
-refused_part {e = e} {p = p} {x = x} h (refuses_there {m = m} {v = v} b k q) = (v, refl, bit_there p v b, standing e m _ v (stays_inside x m k) q)
+refused_part {e = e} {p = p} {x = x} h (refuses_there {m = m} {v = v} b k q) = (v, refl, bit_there p v b, standing e m _ v (marks_inside x true m k) q)
 refused_part {e = e} {x = x} h (refuses_bit b k) = absurd (not_outside e x h k)
 
 refused_parts : {e : EncodeError} {ps : Parts} {x : State} {rs : List (Option Value)} → Inside x → RefusesParts jer_rules e ps x rs → FaultyPart e ps rs

@@ -1,16 +1,19 @@
 -- What the trait asks of calls, of what the encoder's own calls do.
-use Rattle.std.proofs.Common.{◌≡◌, Bool, true, false, List, Option, Result, Ok, Err, refl, sym, ap, ◌∙◌, subst, inl, inr, ℕ}
+use Rattle.std.proofs.Common.{◌≡◌, Bool, true, false, List, Option, Result, Ok, Err, refl, sym, ap, ◌∙◌, subst, inl, inr, ℕ, suc, length, arith}
+use Rattle.std.proofs.lemmas.List.{length-map}
 use Rattle.std.specs.Prelude.{◌⊎◌, if◌then◌else◌, IfErr, IfOk, OnErr, OnOk}
 use Rattle.rasn_types.specs.Values.{Value, nothing}
+use Rattle.rasn_schema.specs.Fields.{Shape, shape_of, shapes_from}
 use Rattle.rasn_schema.specs.Records.{record_value}
-use Rattle.rasn_schema.specs.Schemas.{Order, Schema, Parts}
+use Rattle.rasn_schema.specs.Schemas.{count, no_parts, Order, part, Schema, Parts}
 use Rattle.rasn_traits.specs.Calls.{without_memory, Writes, Written}
 use Rattle.rasn_traits.specs.Scopes.{OpenedToWrite, PresentsFields}
 use Rattle.json.specs.Json.{Json, object, string}
 use Rattle.rasn_jer.proofs.Fields.{record_shown}
 use Rattle.rasn_jer.proofs.Refusing.{Inside, refused_record, unclosed}
-use Rattle.rasn_jer.specs.Places.{inside, is_complete_of, Place, State, Takes, unfailed_at, vacant_place}
-use Rattle.rasn_jer.specs.Rules.{BehavesSo, Closed, EntersPlace, fault_of, IsRefused, IsUnmade, jer_rules, Opens, Refuses, WritesText}
+use Rattle.rasn_jer.specs.Names.{AreNamesOf}
+use Rattle.rasn_jer.specs.Places.{is_complete_of, IsNamedBy, named_place, Place, State, Takes, unfailed_at}
+use Rattle.rasn_jer.specs.Rules.{BehavesSo, Closed, EntersPlace, fault_of, IsRefused, IsUnmade, jer_rules, OpensRecord, Refuses, WritesText}
 use Rattle.rasn_jer.specs.Shown.{at_once, HasNoJson, is_null, IsString, Shows, shows_string, ShowsText, StandsIn}
 use Rattle.rasn_jer.specs.Texts.{enclosed, text_of}
 use Rattle.rasn_jer.specs.declared.error.EncodeError.{EncodeError}
@@ -67,15 +70,24 @@ pub already : (e : EncodeError) (x : State) → e ≡ AlreadyFailed → x.failed
 already e x m f = subst (λ (z : EncodeError). IsRefused z x) (sym m) f
 
 -- a record is opened
-pub record_opened : (order : Order) (parts additions : ℕ → Parts) (marker : Bool) {E : Type 0} (place : Result Place E) (x : State) (r : Result Place EncodeError) (y : State)
-    → EntersPlace place x r y → IfOk place (λ p. p ≡ vacant_place Kinds.Members) → OpenedToWrite jer_rules (λ s. Opens Kinds.Members) order parts marker additions x r y
-record_opened order parts additions marker (Ok p) x (Ok o) y w h = λ n.
-    let within : y ≡ inside Kinds.Members = w.entered.2 ∙ ap unfailed_at h in
+-- one field for each component
+pub fields_counted : (i : ℕ) (ps : Parts) → length (shapes_from i ps) ≡ count ps
+fields_counted i no_parts = refl
+fields_counted i (part t p s ps) = let e = fields_counted (suc i) ps in omega (arith, e)
+
+names_counted : (shapes : List Shape) (names : List (List ℕ)) → AreNamesOf shapes names → length names ≡ length shapes
+names_counted shapes names h = ap (λ (l : List (List ℕ)). length l) h.are_names ∙ length-map h.fields _ ∙ sym (length-map h.fields shape_of) ∙ ap (λ (l : List Shape). length l) h.are_these
+
+pub record_opened : (order : Order) (parts additions : ℕ → Parts) (marker : Bool) (root added : List Shape) {E : Type 0} (place : Result Place E) (x : State) (r : Result Place EncodeError) (y : State)
+    → ((n : ℕ) → length root ≡ count (parts n)) → ((n : ℕ) → length added ≡ count (additions n))
+    → EntersPlace place x r y → IfOk place (IsNamedBy root added) → OpenedToWrite jer_rules OpensRecord order parts marker additions x r y
+record_opened order parts additions marker root added (Ok p) x (Ok o) y c d w h = λ n.
+    let within : y ≡ unfailed_at (named_place Kinds.Members p.root p.added) = w.entered.2 ∙ ap unfailed_at h.is_vacant in
     let in_it : Inside y = record { unfailed = ap (λ (z : State). z.failed) within; members = ap (λ (z : State). z.place.kind) within } in
-    (record { begun = w.entered.0; outer = w.entered.1; within = within }, record { room = λ e m. m; of_record = λ e rs xs c k. refused_record order marker x in_it k })
-record_opened order parts additions marker (Err n) x (Ok o) y w h = absurd w.entered
-record_opened order parts additions marker (Ok p) x (Err e) y w h = elim w.entered [ inl m ↦ inl m | inr q ↦ inr (λ n v. inl (already e x q.0 q.1)) ]
-record_opened order parts additions marker (Err n) x (Err e) y w h = elim w.entered [ inl m ↦ inl m | inr q ↦ inr (λ n v. inl (already e x q.0 q.1)) ]
+    (record { begun = w.entered.0; outer = w.entered.1; root = p.root; added = p.added; counted = (names_counted root p.root h.of_root ∙ c n, names_counted added p.added h.of_added ∙ d n); within = within }, record { room = λ e m. m; of_record = λ e rs xs c k. refused_record order marker x in_it k })
+record_opened order parts additions marker root added (Err n) x (Ok o) y c d w h = absurd w.entered
+record_opened order parts additions marker root added (Ok p) x (Err e) y c d w h = elim w.entered [ inl m ↦ inl m | inr q ↦ inr (λ n v. inl (already e x q.0 q.1)) ]
+record_opened order parts additions marker root added (Err n) x (Err e) y c d w h = elim w.entered [ inl m ↦ inl m | inr q ↦ inr (λ n v. inl (already e x q.0 q.1)) ]
 
 -- what was presented inside shows the whole, between two characters
 pub closed : (kind : Kind) (opening closing : ℕ) (o : Place) (x j : State) (s : Schema) (v : Value) (json : Json) (r : Result (Unit {0}) EncodeError) (y : State)
@@ -95,10 +107,10 @@ closed kind opening closing o x j s v json (Err e) y c b w f k h t q = elim q [
 
 -- a record is closed
 pub record_closed : (order : Order) (ps : Parts) (marker : Bool) (qs : Parts) (x i j : State) (rs xs : List (Option Value)) (o : Place) (r : Result (Unit {0}) EncodeError) (y : State)
-    → Closed Kinds.Members 123 125 o j r y → Opens Kinds.Members x o i → PresentsFields jer_rules ps qs i rs xs j
+    → Closed Kinds.Members 123 125 o j r y → OpensRecord (Schema.sequence order ps marker qs) x o i → PresentsFields jer_rules ps qs i rs xs j
     → Written jer_rules (Schema.sequence order ps marker qs) (record_value rs xs) x r y
 record_closed order ps marker qs x i j rs xs o r y q h k =
-    let shown = record_shown order marker h.within k in
+    let shown = record_shown order marker h.counted.0 h.counted.1 h.within k in
     closed Kinds.Members 123 125 o x j _ _ (object shown.members) r y refl h.begun h.outer shown.within.unfailed shown.within.members shown.shown (ap (λ (l : List ℕ). enclosed 123 l 125) shown.written) q
 
 -- what holds of a success holds of what follows from it

@@ -1,11 +1,13 @@
--- The names of errors; and the identifiers of items and alternatives, in the order of a type's lists (ITU-T X.697):
--- those before an extension marker, and behind them those after it.
-use Rattle.std.specs.Prelude.{ℕ, ◌≡◌, ◌+◌, List, length, slice_get, Option, Some, None, codes, decimal}
+-- The names of errors; those of components; and the identifiers of items and alternatives, in the order of a type's
+-- lists (ITU-T X.697): those before an extension marker, and behind them those after it.
+use Rattle.std.specs.Prelude.{ℕ, ◌≡◌, ◌+◌, List, [], length, get_or, map, slice_get, Option, Some, None, codes, decimal}
 use Rattle.rasn_types.specs.Values.{Value, item, root, added}
 use Rattle.rasn_times.specs.declared.error.TimeError.{TimeError}
 use Rattle.rasn_times.specs.declared.error.TimeError.TheVariants.{Unrepresentable}
 use Rattle.rasn_schema.specs.Choices.{place_of, VariantShape, variants_behind}
+use Rattle.rasn_schema.specs.Fields.{Shape, shape_of}
 use Rattle.rasn_schema.specs.Schemas
+use Rattle.rasn_schema.specs.declared.fields.Field.{Field}
 use Rattle.json.specs.Json.{Json, number, string}
 use Rattle.rasn_jer.specs.declared.error.EncodeError.{EncodeError}
 use Rattle.rasn_jer.specs.declared.error.EncodeError.TheVariants.{AlreadyFailed, NoJson, OutOfMemory, OutOfTurn}
@@ -23,6 +25,20 @@ name_of AlreadyFailed = codes "AlreadyFailed"
 abbrev pub error_of_time : TimeError → EncodeError
 error_of_time Unrepresentable = NoJson
 error_of_time _ = OutOfMemory
+
+-- the next of the names that are left, which is empty behind the last
+abbrev pub next_name : List (List ℕ) → List ℕ
+next_name names = get_or names 0 []
+
+-- the names of fields, in their order
+abbrev pub names_of : List Field → List (List ℕ)
+names_of fields = map (λ f. f.name.now) fields
+
+-- names are those of fields of such shapes, in their order: contracts see the fields of a type without their names
+pub record AreNamesOf (shapes : List Shape) (names : List (List ℕ)) : Type 0 where
+  pub fields : List Field
+  pub are_these : map shape_of fields ≡ shapes
+  pub are_names : names ≡ names_of fields
 
 -- X.697: an item of an ENUMERATED is its identifier; where the type gives none at its number, it is the number
 abbrev pub named_or : Option (List ℕ) → ℕ → Json

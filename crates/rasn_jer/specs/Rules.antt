@@ -1,15 +1,15 @@
 -- The rules of an encoder that writes JSON.
-use Rattle.std.specs.Prelude.{ℕ, ◌≡◌, ◌≢◌, ◌⊎◌, Bool, true, false, List, ◌++◌, Result, Ok, Err}
+use Rattle.std.specs.Prelude.{ℕ, ◌≡◌, ◌≢◌, ◌⊎◌, Bool, true, false, List, ◌++◌, length, Result, Ok, Err}
 use Rattle.rasn_types.specs.Values.{Value}
 use Rattle.rasn_types.specs.declared.types.Codec.TheVariants.{Uper}
-use Rattle.rasn_schema.specs.Schemas.{Schema}
+use Rattle.rasn_schema.specs.Schemas.{count, Schema}
 use Rattle.rasn_traits.specs.Calls.{Behaves, EncoderRules, Writes}
 use Rattle.rasn_traits.specs.Lists.{ListForm}
 use Rattle.json.specs.Json.{Json, object, Items, Members}
-use Rattle.rasn_jer.specs.Places.{behind, behind_all, inside, is_complete, is_full, Place, State}
-use Rattle.rasn_jer.specs.Places.{Takes, unfailed_at}
+use Rattle.rasn_jer.specs.Places.{inside, is_complete, is_full, marked, named_place, past_added, Place, State}
+use Rattle.rasn_jer.specs.Places.{Takes, unfailed_at, with_addition, with_group}
 use Rattle.rasn_jer.specs.Shown.{HasElement, HasNoJson, IsNull, Shows, ShowsAll, StandsIn}
-use Rattle.rasn_jer.specs.Texts.{enclosed, items_text, member_text, text_of}
+use Rattle.rasn_jer.specs.Texts.{enclosed, items_text, text_of}
 use Rattle.rasn_jer.specs.declared.error.EncodeError.{EncodeError}
 use Rattle.rasn_jer.specs.declared.error.EncodeError.TheVariants.{AlreadyFailed, NoJson, OutOfMemory, OutOfTurn}
 use Rattle.rasn_jer.specs.declared.error.EncodeError.TheVariants.{VariantNotInChoice}
@@ -30,10 +30,21 @@ pub record Stays (x y : State) : Type 0 where
   pub members : x.place.kind ≡ Kinds.Members
   pub same : y ≡ x
 
--- an addition as a member, or the members of a group among the others
+-- inside a record the next presence bit is given
+pub record Marks (x : State) (is_there : Bool) (y : State) : Type 0 where
+  pub begun : x.failed ≡ false
+  pub members : x.place.kind ≡ Kinds.Members
+  pub moved : y ≡ unfailed_at (marked is_there x.place)
+
+-- inside a record the next addition is left out, and its name with it
+pub record Skips (x y : State) : Type 0 where
+  pub begun : x.failed ≡ false
+  pub members : x.place.kind ≡ Kinds.Members
+  pub moved : y ≡ unfailed_at (past_added x.place)
+
+-- an addition as a member behind the next name, or the members of a group among the others
 abbrev pub IsAdded : Place → Json → Place → Type 0
-IsAdded p j q = ((name : List ℕ) × (q ≡ behind p (member_text name (text_of j))))
-    ⊎ ((gs : Members) × (j ≡ object gs) × (q ≡ behind_all p gs))
+IsAdded p j q = (q ≡ with_addition p (text_of j)) ⊎ ((gs : Members) × (j ≡ object gs) × (q ≡ with_group p gs))
 
 -- inside a record an addition is written
 pub record Adds (x : State) (s : Schema) (v : Value) (y : State) : Type 0 where
@@ -49,6 +60,24 @@ pub record Opens (kind : Kind) (x : State) (o : Place) (i : State) : Type 0 wher
   pub begun : x.failed ≡ false
   pub outer : o ≡ x.place
   pub within : i ≡ inside kind
+
+-- names of a record's root components, and of its additions: one for each
+abbrev pub AreCounted : Schema → List (List ℕ) → List (List ℕ) → Type 0
+AreCounted (Schema.sequence order ps marker qs) root added = (length root ≡ count ps) × (length added ≡ count qs)
+AreCounted _ root added = ⊥
+
+-- a record is opened, with names of its components: what was open waits outside
+pub record OpensRecord (s : Schema) (x : State) (o : Place) (i : State) : Type 0 where
+  pub begun : x.failed ≡ false
+  pub outer : o ≡ x.place
+  pub root : List (List ℕ)
+  pub added : List (List ℕ)
+  pub counted : AreCounted s root added
+  pub within : i ≡ unfailed_at (named_place Kinds.Members root added)
+
+-- octets that contain a value are shown as it: nothing is opened
+abbrev pub OpensContents : State → Unit {0} → State → Type 0
+OpensContents x o i = (x.failed ≡ false) × (i ≡ x)
 
 -- the value of an addition is awaited, by itself
 pub record Begins (x i : State) : Type 0 where
@@ -96,8 +125,8 @@ IsOutside _ x = ⊥
 abbrev pub jer_rules : EncoderRules EncodeError State
 jer_rules = record {
   presents = Presents;
-  marks = λ x b y. Stays x y;
-  skips = Stays;
+  marks = Marks;
+  skips = Skips;
   begins = Begins;
   adds = Adds;
   refuses = Refuses;

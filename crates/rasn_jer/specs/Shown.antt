@@ -1,4 +1,4 @@
--- Which JSON value shows a value of a schema (ITU-T X.697). The names of members are any: a schema has none.
+-- Which JSON value shows a value of a schema (ITU-T X.697). Lists of names are any: a schema has none.
 use Rattle.std.specs.Prelude.{ℕ, ℤ, ◌≡◌, Bool, true, false, List, [], ◌∷◌, length, slice_get, Option, Some}
 use Rattle.std.specs.Prelude.{codes, decimal, encode_utf8_all}
 use Rattle.std.specs.Char.{OutOfScalarRange}
@@ -96,13 +96,16 @@ mutual
     -- in any order
     shows_bag : {e : Schema} {size : Size} {mark : Bool} {vs : List Value} {js : Items} → ShowsAll e vs js
         → Shows (Schema.set_of e size mark) (bag_of vs) (array js)
+    -- by a list of names for the root, and one for the additions, with a name for each component
     shows_record : {o : Order} {ps qs : Parts} {marker : Bool} {rs xs : List (Option Value)} {ms ns : Members}
-        → ShowsParts ps rs ns ms → ShowsAdditions qs xs ns
+        (root added : List (List ℕ)) → ShowsParts root ps rs ns ms → ShowsAdditions added qs xs ns
         → Shows (Schema.sequence o ps marker qs) (record_value rs xs) (object ms)
     -- as the SEQUENCE of its components in ascending order of their smallest tags
     shows_ordered : {ps qs : Parts} {marker : Bool} {j : Json} (rs xs : List (Option Value))
         → Shows (Schema.sequence listed (canonised ps) marker qs) (record_value (canonised_slots ps rs) xs) j
         → Shows (Schema.sequence by_tag ps marker qs) (record_value rs xs) j
+    -- X.682 11: octets that contain a value are shown as it
+    shows_contents : {e : Schema} {v : Value} {j : Json} → Shows e v j → Shows (Schema.containing e) v j
     shows_alternative : {s : Schema} {ps qs : Parts} {marker : Bool} {d : Side} {k : ℕ} {v : Value} {j : Json}
         {name : List ℕ} → alternative_in (choice_schema ps marker qs) d k ≡ Some s → Shows s v j
         → Shows (choice_schema ps marker qs) (alternative d k v) (object (member name j no_members))
@@ -113,28 +116,32 @@ mutual
     shows_next : {e : Schema} {v : Value} {vs : List Value} {j : Json} {js : Items} → Shows e v j → ShowsAll e vs js
         → ShowsAll e (v ∷ vs) (item j js)
 
-  -- members show root components, in front of further ones: one that is absent or at its default is left out
-  pub data ShowsParts : Parts → List (Option Value) → Members → Members → Type 0 where
-    parts_end : {ns : Members} → ShowsParts no_parts [] ns ns
-    part_there : {t : TagTree} {p : Presence} {s : Schema} {ps : Parts} {v : Value} {rs : List (Option Value)}
-        {name : List ℕ} {j : Json} {ns ms : Members} → IsThere p v → Shows s v j → ShowsParts ps rs ns ms
-        → ShowsParts (part t p s ps) (Some v ∷ rs) ns (member name j ms)
-    part_left_out : {t : TagTree} {p : Presence} {s : Schema} {ps : Parts} {r : Option Value}
-        {rs : List (Option Value)} {ns ms : Members} → presence_bit p r ≡ Some false → ShowsParts ps rs ns ms
-        → ShowsParts (part t p s ps) (r ∷ rs) ns ms
+  -- Members show root components, in front of further ones: each component has its own name, and one that is absent or
+  -- at its default is left out.
+  pub data ShowsParts : List (List ℕ) → Parts → List (Option Value) → Members → Members → Type 0 where
+    parts_end : {ns : Members} → ShowsParts [] no_parts [] ns ns
+    part_there : {name : List ℕ} {names : List (List ℕ)} {t : TagTree} {p : Presence} {s : Schema} {ps : Parts}
+        {v : Value} {rs : List (Option Value)} {j : Json} {ns ms : Members} → IsThere p v → Shows s v j
+        → ShowsParts names ps rs ns ms
+        → ShowsParts (name ∷ names) (part t p s ps) (Some v ∷ rs) ns (member name j ms)
+    part_left_out : {name : List ℕ} {names : List (List ℕ)} {t : TagTree} {p : Presence} {s : Schema} {ps : Parts}
+        {r : Option Value} {rs : List (Option Value)} {ns ms : Members} → presence_bit p r ≡ Some false
+        → ShowsParts names ps rs ns ms → ShowsParts (name ∷ names) (part t p s ps) (r ∷ rs) ns ms
 
-  -- members show additions: those of a group stand among the others
-  pub data ShowsAdditions : Parts → List (Option Value) → Members → Type 0 where
-    additions_end : ShowsAdditions no_parts [] no_members
-    addition_there : {t : TagTree} {p : Presence} {s : Schema} {ps : Parts} {v : Value} {xs : List (Option Value)}
-        {name : List ℕ} {j : Json} {ms : Members} → addition_bit p (Some v) ≡ Some true → Shows s v j
-        → ShowsAdditions ps xs ms → ShowsAdditions (part t p s ps) (Some v ∷ xs) (member name j ms)
-    addition_spread : {t : TagTree} {p : Presence} {s : Schema} {ps : Parts} {v : Value} {xs : List (Option Value)}
-        {gs ms : Members} → addition_bit p (Some v) ≡ Some true → Shows s v (object gs)
-        → ShowsAdditions ps xs ms → ShowsAdditions (part t p s ps) (Some v ∷ xs) (join gs ms)
-    addition_left_out : {t : TagTree} {p : Presence} {s : Schema} {ps : Parts} {x : Option Value}
-        {xs : List (Option Value)} {ms : Members} → addition_bit p x ≡ Some false → ShowsAdditions ps xs ms
-        → ShowsAdditions (part t p s ps) (x ∷ xs) ms
+  -- Members show additions: each addition has its own name, and the members of a group stand among the others.
+  pub data ShowsAdditions : List (List ℕ) → Parts → List (Option Value) → Members → Type 0 where
+    additions_end : ShowsAdditions [] no_parts [] no_members
+    addition_there : {name : List ℕ} {names : List (List ℕ)} {t : TagTree} {p : Presence} {s : Schema} {ps : Parts}
+        {v : Value} {xs : List (Option Value)} {j : Json} {ms : Members} → addition_bit p (Some v) ≡ Some true
+        → Shows s v j → ShowsAdditions names ps xs ms
+        → ShowsAdditions (name ∷ names) (part t p s ps) (Some v ∷ xs) (member name j ms)
+    addition_spread : {name : List ℕ} {names : List (List ℕ)} {t : TagTree} {p : Presence} {s : Schema} {ps : Parts}
+        {v : Value} {xs : List (Option Value)} {gs ms : Members} → addition_bit p (Some v) ≡ Some true
+        → Shows s v (object gs) → ShowsAdditions names ps xs ms
+        → ShowsAdditions (name ∷ names) (part t p s ps) (Some v ∷ xs) (join gs ms)
+    addition_left_out : {name : List ℕ} {names : List (List ℕ)} {t : TagTree} {p : Presence} {s : Schema} {ps : Parts}
+        {x : Option Value} {xs : List (Option Value)} {ms : Members} → addition_bit p x ≡ Some false
+        → ShowsAdditions names ps xs ms → ShowsAdditions (name ∷ names) (part t p s ps) (x ∷ xs) ms
 
 -- a text shows a value
 pub record ShowsText (s : Schema) (v : Value) (text : List ℕ) : Type 0 where
@@ -185,6 +192,7 @@ pub data StandsIn (fault : Schema → Value → Type 0) : Schema → Value → T
       → StandsIn fault e v → StandsIn fault (Schema.list e size mark) (list_value vs)
   in_member : {e : Schema} {size : Size} {mark : Bool} {v : Value} {vs : List Value} → HasElement v vs
       → StandsIn fault e v → StandsIn fault (Schema.set_of e size mark) (bag_of vs)
+  in_contents : {e : Schema} {v : Value} → StandsIn fault e v → StandsIn fault (Schema.containing e) v
   in_alternative : {s : Schema} {v : Value} {ps qs : Parts} {marker : Bool} {d : Side} {k : ℕ}
       → alternative_in (choice_schema ps marker qs) d k ≡ Some s → StandsIn fault s v
       → StandsIn fault (choice_schema ps marker qs) (alternative d k v)

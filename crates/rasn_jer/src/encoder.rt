@@ -7,17 +7,19 @@ ghost use Rattle.hex.specs.Hex.{encode_upper};
 ghost use Rattle.json.specs.Json.{Members, object as the_object, string};
 ghost use Rattle.rasn_types.specs.Values.{Value};
 ghost use Rattle.rasn_schema.specs.Choices.{place_of, variants_behind};
-ghost use Rattle.rasn_schema.specs.Fields.{tag_of};
+ghost use Rattle.rasn_schema.specs.Extensions.{fields_behind};
+ghost use Rattle.rasn_schema.specs.Fields.{in_tag_order, tag_of};
 ghost use Rattle.rasn_schema.specs.Forms.{size_of};
 ghost use Rattle.rasn_schema.specs.Schemas.{Schema};
 ghost use Rattle.rasn_traits.specs.Calls.{Writes};
-ghost use Rattle.rasn_jer.specs.Places.{behind, behind_all, inside, is_full, vacant_place};
+ghost use Rattle.rasn_jer.specs.Names.{AreNamesOf};
+ghost use Rattle.rasn_jer.specs.Places.{inside, is_full, IsNamedBy, with_addition, with_group};
 ghost use Rattle.rasn_jer.specs.Rules.{AddedSo, BehavesSo, ClosesPlace, EntersPlace, LeavesPlace, NeedsRecord};
 ghost use Rattle.rasn_jer.specs.Rules.{IsUnmade, WritesJson, WritesText, jer_rules};
 ghost use Rattle.rasn_jer.specs.Shown.{ShowsText};
-ghost use Rattle.rasn_jer.specs.Texts.{enclosed as enclosed_text, member_text, text_of};
+ghost use Rattle.rasn_jer.specs.Texts.{enclosed as enclosed_text, text_of};
 ghost use Rattle.rasn_jer.specs.declared.error.EncodeError.TheVariants.{AlreadyFailed};
-ghost use Rattle.rasn_jer.specs.declared.place.Kind.TheVariants.{Members as members_kind, One};
+ghost use Rattle.rasn_jer.specs.declared.place.Kind.TheVariants.{One};
 
 use crate::error::EncodeError;
 use crate::place::{Kind, Names, Place};
@@ -219,8 +221,7 @@ impl<A: Allocator + Copy> Encoder<A> {
 
     /// Writes the text of an addition as a member of the open record.
     fn add(&mut self, text: &[u8]) -> Result<(), EncodeError>
-        ensures added { AddedSo (λ q. (name : List ℕ) × (q ≡ behind self.old.place (member_text name text.now)))
-            self.old result self.new }
+        ensures added { AddedSo (λ q. q ≡ with_addition self.old.place text.now) self.old result self.new }
         ensures behaves { BehavesSo self.old result self.new }
     {
         match self.check_members() {
@@ -235,7 +236,7 @@ impl<A: Allocator + Copy> Encoder<A> {
     /// Writes the members of an object's text among those of the open record.
     fn add_all(&mut self, object: &[u8]) -> Result<(), EncodeError>
         ensures added { (gs : Members) → object.now ≡ text_of (the_object gs)
-            → AddedSo (λ q. q ≡ behind_all self.old.place gs) self.old result self.new }
+            → AddedSo (λ q. q ≡ with_group self.old.place gs) self.old result self.new }
         ensures behaves { BehavesSo self.old result self.new }
     {
         match self.check_members() {
@@ -249,7 +250,7 @@ impl<A: Allocator + Copy> Encoder<A> {
 }
 
 impl<A: Allocator + Copy> encoder::Encoder for Encoder<A> {
-    ghost use Rattle.rasn_jer.specs.Rules.{IsOpenList, Opens, OpensAddition};
+    ghost use Rattle.rasn_jer.specs.Rules.{IsOpenList, Opens, OpensAddition, OpensContents, OpensRecord};
     ghost use Rattle.rasn_jer.specs.Laws.Relations.{presents_well, sets_written};
     ghost use Rattle.rasn_jer.specs.declared.place.Kind.TheVariants as Kinds;
 
@@ -261,17 +262,22 @@ impl<A: Allocator + Copy> encoder::Encoder for Encoder<A> {
 
     type Alternative = Place<A>;
 
+    /// Octets that contain a value are shown as it.
+    type Contents = ();
+
     type List = Place<A>;
 
     type Bag = Place<A>;
 
     ghost rules = { jer_rules };
 
-    ghost opens = { λ s. Opens Kinds.Members };
+    ghost opens = { OpensRecord };
 
     ghost opens_addition = { OpensAddition };
 
     ghost opens_choice = { λ s. Opens Kinds.One };
+
+    ghost opens_contents = { OpensContents };
 
     ghost amid = { IsOpenList };
 
@@ -539,6 +545,14 @@ impl<A: Allocator + Copy> encoder::Encoder for Encoder<A> {
         self.check_members()
     }
 
+    fn open_contents(&mut self, _tag: Tag, _identifier: Identifier) -> Result<(), EncodeError> {
+        self.check_unfailed()
+    }
+
+    fn close_contents(&mut self, _contents: ()) -> Result<(), EncodeError> {
+        self.check_unfailed()
+    }
+
     fn skip_addition(&mut self) -> Result<(), EncodeError> {
         self.place.skip_added();
         self.check_members()
@@ -617,7 +631,7 @@ impl<A: Allocator + Copy> encoder::Encoder for Encoder<A> {
 
 /// The place of a record's members, by the names of its fields as they are listed.
 fn members_of<C: Constructed, A: Allocator + Copy>(alloc: A) -> Result<Place<A>, AllocError>
-    ensures { IfOk result (λ place. place ≡ vacant_place members_kind) }
+    ensures { IfOk result (IsNamedBy C.FIELDS (fields_behind C.EXTENDED_FIELDS)) }
 {
     let root = C::FIELDS;
     let root = Names::of_fields(alloc, root.list)?;
@@ -627,7 +641,7 @@ fn members_of<C: Constructed, A: Allocator + Copy>(alloc: A) -> Result<Place<A>,
 
 /// The place of a SET's members, by the names of its fields in ascending order of their smallest tags.
 fn ordered_members_of<C: Constructed, A: Allocator + Copy>(alloc: A) -> Result<Place<A>, AllocError>
-    ensures { IfOk result (λ place. place ≡ vacant_place members_kind) }
+    ensures { IfOk result (IsNamedBy (in_tag_order C.FIELDS) (fields_behind C.EXTENDED_FIELDS)) }
 {
     let fields = C::FIELDS.canonised(alloc)?;
     let root = Names::of_fields(alloc, fields.as_slice())?;
@@ -636,7 +650,9 @@ fn ordered_members_of<C: Constructed, A: Allocator + Copy>(alloc: A) -> Result<P
 }
 
 /// The names of a record's additions.
-fn added_names<C: Constructed, A: Allocator + Copy>(alloc: A) -> Result<Names<A>, AllocError> {
+fn added_names<C: Constructed, A: Allocator + Copy>(alloc: A) -> Result<Names<A>, AllocError>
+    ensures { IfOk result (AreNamesOf (fields_behind C.EXTENDED_FIELDS)) }
+{
     match C::EXTENDED_FIELDS {
         Some(fields) => Names::of_fields(alloc, fields.list),
         None => Ok(Names::none(alloc)),

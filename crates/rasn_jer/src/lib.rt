@@ -26,10 +26,10 @@
 //! Where a type's list of identifiers is too short, an item is its number (those before the extension marker count from
 //! 0, and those behind it go on), and an alternative goes by its tag, as `[2]` or `[UNIVERSAL 1]`.
 //!
-//! **Only tested**: that names are the type's, as a schema has none: those of `FIELDS` and `EXTENDED_FIELDS`, and which
-//! list `IDENTIFIERS` is (that an item is the one at its number of a list, and that number, are proved); the digits of
-//! a number that no `i128` holds; that the text is UTF-8; and that two values of a type with equal JSON have equal
-//! normal forms.
+//! **Only tested**: that lists of names are the type's, as a schema has none: those of `FIELDS` and `EXTENDED_FIELDS`,
+//! and `IDENTIFIERS` (that a component, there or not, has its own name of a list, and an item the one at its number,
+//! is proved); the digits of a number that no `i128` holds; that the text is UTF-8; and that two values of a type with
+//! equal JSON have equal normal forms.
 #![tactic(auto)]
 
 pub mod encoder;

@@ -1,9 +1,11 @@
 //! Where values are written: one value, the items of an array, or the members of an object.
 
-ghost use Rattle.std.specs.Prelude.{◌≡◌, ◌≢◌, ℕ, List, true, false, OnOk};
+ghost use Rattle.std.specs.Prelude.{◌≡◌, ◌≢◌, [], drop, true, false, IfOk, OnOk};
 ghost use Rattle.json.specs.Json.{Members as JsonMembers};
-ghost use Rattle.rasn_jer.specs.Places.{Takes, behind, behind_all, is_complete, is_full, vacant_place};
-ghost use Rattle.rasn_jer.specs.Texts.{member_text, members_text};
+ghost use Rattle.rasn_jer.specs.Names.{names_of, next_name};
+ghost use Rattle.rasn_jer.specs.Places.{Takes, behind, is_complete, is_full, named_place, past_added, past_root};
+ghost use Rattle.rasn_jer.specs.Places.{vacant_place, with_addition, with_group};
+ghost use Rattle.rasn_jer.specs.Texts.{members_text};
 ghost use Rattle.rasn_jer.specs.declared.place.Kind.TheVariants.{Members};
 
 use crate::texts::member;
@@ -22,16 +24,26 @@ pub enum Kind {
     Members,
 }
 
-/// Names of a record's components that are still to be written.
+/// Names of a record's components, and which of them is the next: contracts see those that are left.
 #[derive(Drop)]
 pub struct Names<A: Allocator> {
     list: Vec<&'static str, A>,
     next: usize,
 }
 
+impl<A: Allocator> Model for Names<A> {
+    ghost use Rattle.std.specs.Prelude.{ℕ, List, drop, map};
+
+    ghost Value = { List (List ℕ) };
+
+    ghost view = { λ names. drop names.next (map (λ s. s.now) names.list.items) };
+}
+
 impl<A: Allocator> Names<A> {
     /// No names.
-    pub fn none(alloc: A) -> Names<A> {
+    pub fn none(alloc: A) -> Names<A>
+        ensures { result ≡ [] }
+    {
         Names {
             list: Vec::new(alloc),
             next: 0,
@@ -39,7 +51,9 @@ impl<A: Allocator> Names<A> {
     }
 
     /// The names of fields, in their order.
-    pub fn of_fields(alloc: A, fields: &[Field]) -> Result<Names<A>, AllocError> {
+    pub fn of_fields(alloc: A, fields: &[Field]) -> Result<Names<A>, AllocError>
+        ensures { IfOk result (λ names. names ≡ names_of fields.now) }
+    {
         let mut list = Vec::new(alloc);
         for field in fields {
             list.push(field.name)?;
@@ -47,8 +61,12 @@ impl<A: Allocator> Names<A> {
         Ok(Names { list, next: 0 })
     }
 
-    /// The next name. Behind the last one, where no component of a lawful type stands, it is empty.
-    pub fn take(&mut self) -> &'static str {
+    /// The next name, which isn't left then. Behind the last one, where no component of a lawful type stands, it is
+    /// empty.
+    pub fn take(&mut self) -> &'static str
+        ensures answers { result.now ≡ next_name self.old }
+        ensures leaves { self.new ≡ drop 1 self.old }
+    {
         match self.list.get(self.next) {
             Some(name) => {
                 self.next += 1;
@@ -74,7 +92,13 @@ impl<A: Allocator> Model for Place<A> {
 
     ghost Value = { ThePlace };
 
-    ghost view = { λ p. record { kind = p.kind; is_empty = p.is_empty; text = p.text.items } };
+    ghost view = { λ p. record {
+      kind = p.kind;
+      is_empty = p.is_empty;
+      text = p.text.items;
+      root = p.root;
+      added = p.added;
+    } };
 }
 
 impl<A: Allocator + Copy> Place<A> {
@@ -87,14 +111,14 @@ impl<A: Allocator + Copy> Place<A> {
 
     /// A place of members that are named so: those of the root, and those of additions.
     pub fn of_members(alloc: A, root: Names<A>, added: Names<A>) -> Place<A>
-        ensures { result ≡ vacant_place Members }
+        ensures { result ≡ named_place Members root added }
     {
         Place::with_names(alloc, Kind::Members, root, added)
     }
 
     /// A place of a kind with names.
     fn with_names(alloc: A, kind: Kind, root: Names<A>, added: Names<A>) -> Place<A>
-        ensures { result ≡ vacant_place kind }
+        ensures { result ≡ named_place kind root added }
     {
         Place {
             kind,
@@ -167,7 +191,7 @@ impl<A: Allocator + Copy> Place<A> {
 
     /// Writes the text of an addition behind the next of their names. The only error is want of memory.
     pub fn add(&mut self, text: &[u8]) -> Result<(), AllocError>
-        ensures { OnOk result ((name : List ℕ) × (self.new ≡ behind self.old (member_text name text.now))) }
+        ensures { OnOk result (self.new ≡ with_addition self.old text.now) }
     {
         let named = member(*self.text.allocator(), self.added.take(), text)?;
         self.append(named.as_slice())
@@ -176,7 +200,7 @@ impl<A: Allocator + Copy> Place<A> {
     /// Writes members in place of the next addition. The only error is want of memory.
     pub fn add_all(&mut self, members: &[u8]) -> Result<(), AllocError>
         ensures { (gs : JsonMembers) → members.now ≡ members_text true gs
-            → OnOk result (self.new ≡ behind_all self.old gs) }
+            → OnOk result (self.new ≡ with_group self.old gs) }
     {
         let _ = self.added.take();
         if members.is_empty() {
@@ -187,14 +211,14 @@ impl<A: Allocator + Copy> Place<A> {
 
     /// Leaves the next component of the root out.
     pub fn skip_root(&mut self)
-        ensures { self.new ≡ self.old }
+        ensures { self.new ≡ past_root self.old }
     {
         let _ = self.root.take();
     }
 
     /// Leaves the next addition out.
     pub fn skip_added(&mut self)
-        ensures { self.new ≡ self.old }
+        ensures { self.new ≡ past_added self.old }
     {
         let _ = self.added.take();
     }

@@ -10,7 +10,7 @@ use Rattle.rasn_traits.specs.Additions.{addition_bit}
 use Rattle.rasn_jer.specs.Rules.{fault_of}
 use Rattle.rasn_jer.specs.Shown.{HasNoJson, is_real, is_absent, is_untimely, is_no_text, IsNull, is_null}
 use Rattle.rasn_jer.specs.Shown.{HasPart, part_here, part_behind, StandsIn, at_once, in_part, in_addition, in_set}
-use Rattle.rasn_jer.specs.Shown.{in_element, in_member, in_alternative}
+use Rattle.rasn_jer.specs.Shown.{in_element, in_member, in_contents, in_alternative}
 use Rattle.rasn_jer.specs.declared.error.EncodeError.{EncodeError}
 use Rattle.rasn_jer.specs.declared.error.EncodeError.TheVariants.{AlreadyFailed, NoJson, OutOfMemory, OutOfTurn}
 use Rattle.rasn_jer.specs.declared.error.EncodeError.TheVariants.{VariantNotInChoice}
@@ -74,4 +74,5 @@ none_in_vacant e s v g i (in_addition {ps = ps} {qs = qs} {xs = xs} rs h k) =
 none_in_vacant e s v g i (in_element h k) = absurd cc
 none_in_vacant e s v g i (in_member h k) = absurd cc
 none_in_vacant e s v g i (in_set rs xs k) = absurd cc
+none_in_vacant e s v g i (in_contents k) = absurd cc
 none_in_vacant e s v g i (in_alternative h k) = absurd cc

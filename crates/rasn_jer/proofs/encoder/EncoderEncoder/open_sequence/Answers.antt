@@ -1,4 +1,6 @@
-use Rattle.rasn_jer.proofs.Writing.{record_opened}
+use Rattle.std.proofs.Common.{ap, ◌∙◌, length, List}
+use Rattle.rasn_jer.proofs.Writing.{fields_counted, record_opened}
+use Rattle.rasn_schema.specs.Fields.{Shape}
 use Rattle.rasn_schema.specs.Schemas.{listed}
 use Rattle.rasn_jer.proofs.encoder.EncoderEncoder.open_sequence.Goals as goal
 
@@ -6,6 +8,7 @@ pub returns : goal.returns
 returns g c =
     let C = g.C.Constructed in
     record {
-      law = record_opened listed C.parts C.additions C.IS_EXTENSIBLE c.members_of-place.result c.args.self.now c.enter.result c.enter.new.self c.enter.ensures c.members_of-place.ensures;
+      law = record_opened listed C.parts C.additions C.IS_EXTENSIBLE _ _ c.members_of-place.result c.args.self.now c.enter.result c.enter.new.self
+          (λ n. ap (λ (l : List Shape). length l) (C.described n) ∙ fields_counted 0 (C.parts n)) (λ n. ap (λ (l : List Shape). length l) (C.extends.described n) ∙ fields_counted 0 (C.additions n)) c.enter.ensures c.members_of-place.ensures;
       behaves = c.enter.ensures.behaves;
     }

@@ -1,4 +1,7 @@
-use Rattle.rasn_jer.proofs.Writing.{record_opened}
+use Rattle.std.proofs.Common.{ap, ◌∙◌, length, List, sym}
+use Rattle.rasn_jer.proofs.Writing.{fields_counted, record_opened}
+use Rattle.rasn_schema.proofs.Canonised.{count_ordered, length-by_tags}
+use Rattle.rasn_schema.specs.Fields.{Shape}
 use Rattle.rasn_schema.specs.Schemas.{listed}
 use Rattle.rasn_schema.specs.Canonised.{canonised_at}
 use Rattle.rasn_jer.proofs.encoder.EncoderEncoder.open_set.Goals as goal
@@ -7,6 +10,8 @@ pub returns : goal.returns
 returns g c =
     let C = g.C.Constructed in
     record {
-      law = record_opened listed (canonised_at C.parts) C.additions C.IS_EXTENSIBLE c.ordered_members_of-place.result c.args.self.now c.enter.result c.enter.new.self c.enter.ensures c.ordered_members_of-place.ensures;
+      law = record_opened listed (canonised_at C.parts) C.additions C.IS_EXTENSIBLE _ _ c.ordered_members_of-place.result c.args.self.now c.enter.result c.enter.new.self
+          (λ n. length-by_tags _ C.FIELDS ∙ ap (λ (l : List Shape). length l) (C.described n) ∙ fields_counted 0 (C.parts n) ∙ sym (count_ordered (C.parts n)))
+          (λ n. ap (λ (l : List Shape). length l) (C.extends.described n) ∙ fields_counted 0 (C.additions n)) c.enter.ensures c.ordered_members_of-place.ensures;
       behaves = c.enter.ensures.behaves;
     }
