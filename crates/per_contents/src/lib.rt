@@ -1,12 +1,13 @@
-//! Values within octets: what an OCTET STRING (CONTAINING T) (X.682 11) or an open type (X.681 14) of a message holds,
-//! and what is put there. Their octets are a complete encoding (X.691 11.1) in the variant of the message.
+//! Values within octets that are read and written as they are (`EncodingOf`): what they are meant to contain, as an
+//! OCTET STRING (CONTAINING T) under a size (X.682 11), and what is put there. The octets are a complete encoding
+//! (X.691 11.1) in the variant of the message.
 #![tactic(auto)]
 
 ghost use Rattle.rasn_per.specs.Calls.{Decoded};
 ghost use Rattle.per_contents.specs.Within.{Wraps};
 
 use rasn_codec::codec::{Decode, Encode};
-pub use rasn_contents::{Contains, EncodingOf, HoldsOctets, OpenType};
+pub use rasn_contents::{EncodingOf, HoldsOctets};
 use rasn_per::aper;
 use rasn_per::uper::{self, DecodeError, EncodeError};
 use rasn_types::types::Codec;

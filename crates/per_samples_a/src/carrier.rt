@@ -1,4 +1,4 @@
-//! A SEQUENCE of which components contain the encodings of another type.
+//! A SEQUENCE of which components contain values of another type.
 
 ghost use Rattle.std.specs.Prelude.{[], ◌∷◌, Some, pos, refl};
 ghost use Rattle.rasn_below.specs.Page.{fields_of, octets, whole};
@@ -16,14 +16,14 @@ pub struct Carrier {
     pub id: u8,
     pub value: OpenType<Pair>,
     pub payload: Contains<Pair>,
-    pub short: Contains<Pair>,
+    pub short: EncodingOf<Pair, OctetString>,
 }
 
 macro_rules! components { ($to:ident $($with:ident)*) => { $to! { [$($with)*]
     required 0 "id" id: u8 [0..=255];
     required 1 "value" value: OpenType<Pair> [];
     required 2 "payload" payload: Contains<Pair> [];
-    required 3 "short" short: Contains<Pair> [SIZE 1..=4];
+    required 3 "short" short: EncodingOf<Pair, OctetString> [SIZE 1..=4];
 } }; }
 
 const FIELDS: FieldLists = components!(fields);
@@ -37,8 +37,10 @@ impl Components for Carrier {
 
     ghost components = { (carrier, refl) };
 
-    ghost contents = { λ x. Some (whole (pos x.id)) ∷ Some (octets x.value.octets) ∷ Some (octets x.payload.octets) ∷
-        Some (octets x.short.octets) ∷ [] };
+    ghost contents = { λ x. Some (whole (pos x.id)) ∷ Some (⟦<Pair as AsnType>⟧.value x.value.value) ∷
+        Some (⟦<Pair as AsnType>⟧.value x.payload.value) ∷ Some (octets x.short.octets) ∷ [] };
+
+    ghost depth = { λ _. 1 };
 }
 
 impl Record for Carrier {

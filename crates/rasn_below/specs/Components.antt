@@ -6,6 +6,7 @@ use Rattle.rasn_constraints.specs.declared.constraints.Constraints.{Constraints}
 use Rattle.rasn_schema.specs.Schemas
 use Rattle.rasn_schema.specs.Schemas.{leaf, Schema, TagTree}
 use Rattle.rasn_schema.specs.Forms.{is_size_marked, size_of}
+use Rattle.rasn_schema.specs.Levels.{containing_levelled}
 use Rattle.rasn_traits.specs.Moments.{date_at}
 use Rattle.rasn_sets.specs.Bags.{set_at, set_fits, set_levelled}
 use Rattle.rasn_useful.specs.Laws.Dates.{date_fits, date_levelled}
@@ -69,6 +70,26 @@ general_string = simple 27 (Schema.text other) tt refl
 -- one
 abbrev pub open_type : Component
 open_type = simple 0 Schemas.any tt refl
+
+-- OCTET STRING (CONTAINING ..) (X.682 11), by what it contains: `containing boolean`
+abbrev pub containing : Component → Component
+containing c = record {
+  tags = universal 4;
+  presence = Schemas.required;
+  schema = λ n. Schema.containing (c.schema n);
+  levelled = containing_levelled c.levelled;
+  fits = λ n. refl;
+}
+
+-- an open type whose values are of one type, as an object set tells it (X.681 14)
+abbrev pub open_type_of : Component → Component
+open_type_of c = record {
+  tags = universal 0;
+  presence = Schemas.required;
+  schema = λ n. Schema.containing (c.schema n);
+  levelled = containing_levelled c.levelled;
+  fits = λ n. refl;
+}
 
 -- SET OF under a size, or none (X.680 28): `set_of (size 1 to 4) boolean` is SET (SIZE (1..4)) OF BOOLEAN
 abbrev pub set_of : Constraints → Component → Component

@@ -27,3 +27,4 @@ pub use Rattle.rasn_sets.specs.SetRecords.{set}
 pub use Rattle.rasn_additions.specs.Groups.{group}
 pub use Rattle.rasn_below.specs.Components.{application, private, object_identifier, date, utc_time, generalized_time}
 pub use Rattle.rasn_below.specs.Components.{teletex_string, graphic_string, general_string, open_type, set_of}
+pub use Rattle.rasn_below.specs.Components.{containing, open_type_of}

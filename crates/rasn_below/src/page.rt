@@ -3,9 +3,9 @@
 //! a type of the same file is written as.
 
 pub use crate::types::{
-    Any, BitString, BmpString, Contains, GeneralString, GraphicString, Ia5String, Integer,
-    NamedBits, NumericString, ObjectIdentifier, OctetString, OpenType, PrintableString, SetOf,
-    TeletexString, Utf8String, VisibleString,
+    Any, BitString, BmpString, Contains, EncodingOf, GeneralString, GraphicString, Ia5String,
+    Integer, NamedBits, NumericString, ObjectIdentifier, OctetString, OpenType, PrintableString,
+    SetOf, TeletexString, Utf8String, VisibleString,
 };
 pub use crate::{
     Alternatives, AsnType, Bits, Bounds, ByKind, ChoiceKind, CodedAlternatives, Components,

@@ -1,108 +1,126 @@
-//! Types whose values are octets that are meant to be the complete encoding of a value of another type: OCTET STRING
+//! Types whose values are octets that contain a value of another type, as its complete encoding: OCTET STRING
 //! (CONTAINING T) (X.682 11), and open types of which an object set tells the type (X.682 10).
 #![tactic(auto)]
 
-ghost use Rattle.std.specs.Prelude.{◌≡◌, ℕ, List};
+pub mod encoding_of;
 
+ghost use Rattle.std.specs.Prelude.{◌≡◌, false, refl, Some, true};
+ghost use Rattle.rasn_types.specs.declared.types.TheConstants.Tag.{EOC, OCTET_STRING};
+ghost use Rattle.rasn_constraints.specs.Ranges.{no_constraints};
+ghost use Rattle.rasn_schema.specs.Fields.{tagged};
+ghost use Rattle.rasn_schema.specs.Levels.{containing_levelled};
+ghost use Rattle.rasn_schema.specs.Schemas.{Schema};
+ghost use Rattle.rasn_schema.specs.Tags.{is_tag_of, IsStatedOf};
+
+pub use encoding_of::{EncodingOf, HoldsOctets};
 use rasn_codec::codec::{Decode, Decoder, Encode, Encoder};
-use rasn_schema::fields::TypeTree;
+use rasn_schema::fields::{TagTree, TypeTree};
 use rasn_schema::schema::{AsnType, Constraints};
-use rasn_types::octet_strings::{Any, OctetString, OctetsOf};
 use rasn_types::types::{Identifier, Tag};
 use std::marker::PhantomData;
 
-/// OCTET STRING (CONTAINING T) (X.682 11).
-pub type Contains<T> = EncodingOf<T, OctetString>;
+/// OCTET STRING (CONTAINING T) (X.682 11): a value of `T`.
+pub type Contains<T> = Containing<T, InOctetString>;
 
 /// An open type (X.681 14) whose values are of a type `T`.
-pub type OpenType<T> = EncodingOf<T, Any>;
+pub type OpenType<T> = Containing<T, InOpenType>;
 
-/// Octets that are meant to be the complete encoding of a `T` (X.691 11.1). They are written and read as the octets
-/// that they are, whether they are one or not; `per_contents` looks into them.
+/// A value that stands as its complete encoding (X.691 11.1) in octets of a kind, behind an unconstrained length. Octets
+/// that are no encoding of a `T` are refused. No constraint on the octets is visible: of octets under a size,
+/// `EncodingOf` says what they are meant to be.
 #[derive(Debug, Drop, PartialEq, Eq)]
-pub struct EncodingOf<T, O> {
-    /// The octets.
-    pub octets: O,
-    /// The type whose encoding they are meant to be.
-    pub of: PhantomData<T>,
+pub struct Containing<T, K> {
+    /// The value.
+    pub value: T,
+    /// What the octets are.
+    pub kind: PhantomData<K>,
 }
 
-/// What holds octets, any of them: an `OctetString`, or `Any`.
-pub trait HoldsOctets {
-    // The octets.
-    ghost octets: { Self → List ℕ };
-
-    /// What holds these octets.
-    fn holding(list: Vec<u8>) -> Self
-        ensures { octets result ≡ list.items };
-
-    /// The octets.
-    fn held(&self) -> &[u8]
-        ensures { result.now ≡ octets self.now };
-}
-
-impl<K> HoldsOctets for OctetsOf<K> {
-    ghost octets = { λ o. o };
-
-    fn holding(list: Vec<u8>) -> OctetsOf<K> {
-        OctetsOf::new(list)
-    }
-
-    fn held(&self) -> &[u8] {
-        self.as_bytes()
-    }
-}
-
-impl<T, O: HoldsOctets> EncodingOf<T, O> {
-    /// These octets, whether they are an encoding of a `T` or not.
-    pub fn new(octets: Vec<u8>) -> Self
-        ensures { O.octets result.octets ≡ octets.items }
+impl<T, K> Containing<T, K> {
+    /// This value, in octets.
+    pub fn new(value: T) -> Self
+        ensures { result.value ≡ value }
     {
-        EncodingOf {
-            octets: O::holding(octets),
-            of: PhantomData::<T>,
+        Containing {
+            value,
+            kind: PhantomData::<K>,
         }
     }
-
-    /// The octets.
-    pub fn as_bytes(&self) -> &[u8]
-        ensures { result.now ≡ O.octets self.now.octets }
-    {
-        self.octets.held()
-    }
 }
 
-impl<T, O: AsnType> AsnType for EncodingOf<T, O> {
-    const TAG: Tag = O::TAG;
+/// The octets are an OCTET STRING.
+#[derive(Clone, Copy, Debug, PartialEq, Eq)]
+pub struct InOctetString;
 
-    ghost TAG = { O.TAG };
+/// The octets are an open type.
+#[derive(Clone, Copy, Debug, PartialEq, Eq)]
+pub struct InOpenType;
 
-    const TAG_TREE: TypeTree = O::TAG_TREE;
+/// What octets are that contain a value.
+pub trait Container {
+    ghost use Rattle.rasn_types.specs.declared.types.Tag.{Tag};
 
-    ghost TAG_TREE = { O.TAG_TREE };
+    /// The tag of the type (X.680 8.4).
+    const TAG: Tag;
 
-    const IS_CHOICE: bool = O::IS_CHOICE;
+    ghost TAG: { Tag };
 
-    ghost IS_CHOICE = { O.IS_CHOICE };
+    // The tag is one of octets that contain a value.
+    ghost tag_fits: { (s : Schema) → is_tag_of TAG (Schema.containing s) ≡ true };
 
-    const CONSTRAINTS: Constraints = O::CONSTRAINTS;
-
-    ghost CONSTRAINTS = { O.CONSTRAINTS };
-
-    ghost schema = { O.schema };
-
-    ghost value = { λ x. O.value x.octets };
-
-    ghost levels = { λ x. O.levels x.octets };
-
-    ghost levelled = { O.levelled };
-
-    ghost tag_fits = { O.tag_fits };
-
-    ghost tree_fits = { O.tree_fits };
+    // The tag is the whole tag tree.
+    ghost tree_fits: { (s : Schema) → IsStatedOf TAG (Some (tagged TAG)) false (Schema.containing s) };
 }
 
-impl<T, O: Encode> Encode for EncodingOf<T, O> {
+impl Container for InOctetString {
+    const TAG: Tag = Tag::OCTET_STRING;
+
+    ghost TAG = { OCTET_STRING };
+
+    ghost tag_fits = { λ _. refl };
+
+    ghost tree_fits = { λ _. (refl, refl) };
+}
+
+impl Container for InOpenType {
+    const TAG: Tag = Tag::EOC;
+
+    ghost TAG = { EOC };
+
+    ghost tag_fits = { λ _. refl };
+
+    ghost tree_fits = { λ _. (refl, refl) };
+}
+
+impl<T: AsnType, K: Container> AsnType for Containing<T, K> {
+    const TAG: Tag = K::TAG;
+
+    ghost TAG = { K.TAG };
+
+    const TAG_TREE: TypeTree = TypeTree(TagTree::Leaf(K::TAG));
+
+    ghost TAG_TREE = { Some (tagged K.TAG) };
+
+    const IS_CHOICE: bool = false;
+
+    const CONSTRAINTS: Constraints = Constraints::NONE;
+
+    ghost CONSTRAINTS = { no_constraints };
+
+    ghost schema = { λ _ n. Schema.containing (T.schema T.CONSTRAINTS n) };
+
+    ghost value = { λ x. T.value x.value };
+
+    ghost levels = { λ x. T.levels x.value };
+
+    ghost levelled = { λ _. containing_levelled (T.levelled T.CONSTRAINTS) };
+
+    ghost tag_fits = { λ _ n. K.tag_fits (T.schema T.CONSTRAINTS n) };
+
+    ghost tree_fits = { λ _ n. K.tree_fits (T.schema T.CONSTRAINTS n) };
+}
+
+impl<T: Encode, K: Container> Encode for Containing<T, K> {
     fn encode_with_tag_and_constraints<E: Encoder>(
         &self,
         encoder: &mut E,
@@ -110,21 +128,21 @@ impl<T, O: Encode> Encode for EncodingOf<T, O> {
         constraints: &Constraints,
         identifier: Identifier,
     ) -> Result<(), E::Error> {
-        self.octets
-            .encode_with_tag_and_constraints(encoder, tag, constraints, identifier)
+        let outside = encoder.open_contents(tag, identifier)?;
+        self.value.encode(encoder)?;
+        encoder.close_contents(outside)
     }
 }
 
-impl<T: Drop, O: Decode> Decode for EncodingOf<T, O> {
+impl<T: Decode, K: Container> Decode for Containing<T, K> {
     fn decode_with_tag_and_constraints<D: Decoder>(
         decoder: &mut D,
         tag: Tag,
         constraints: &Constraints,
-    ) -> Result<EncodingOf<T, O>, D::Error> {
-        let octets = O::decode_with_tag_and_constraints(decoder, tag, constraints)?;
-        Ok(EncodingOf {
-            octets,
-            of: PhantomData::<T>,
-        })
+    ) -> Result<Containing<T, K>, D::Error> {
+        let outside = decoder.open_contents(tag)?;
+        let value = T::decode(decoder)?;
+        decoder.close_contents(outside)?;
+        Ok(Containing::new(value))
     }
 }

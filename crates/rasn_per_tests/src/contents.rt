@@ -1,10 +1,10 @@
 //! What components contain, as another encoder wrote it.
 
 use crate::expected::{expect_equal, expect_items, expect_value};
-use per_contents::{Contains, EncodingOf, HoldsOctets, unwrap, wrap};
+use per_contents::{EncodingOf, unwrap, wrap};
 use per_samples_a::carrier::Carrier;
 use per_samples_a::pair::Pair;
-use rasn_below::types::Codec;
+use rasn_below::types::{Codec, OctetString};
 use rasn_per::uper::{DecodeError, DecodeErrorKind};
 use rasn_per::{aper, uper};
 use std::alloc::Global;
@@ -12,24 +12,13 @@ use std::process::Abort;
 
 const PAIR: Pair = Pair { a: true, b: 5 };
 
-/// A component contains this pair.
-fn expect_pair<O: HoldsOctets>(
-    rt: &impl Abort,
-    alloc: Global,
-    codec: Codec,
-    component: &EncodingOf<Pair, O>,
-) {
-    let found = unwrap(alloc, codec, component);
-    expect_equal(rt, &found.ok(), &Some(PAIR));
-}
-
-/// Each component of a message contains the pair.
+/// Each component of a message contains the pair; the one under a size holds octets that are looked into here.
 fn expect_pairs(rt: &impl Abort, alloc: Global, codec: Codec, read: &Result<Carrier, DecodeError>) {
     match read {
         Ok(carrier) => {
-            expect_pair(rt, alloc, codec, &carrier.value);
-            expect_pair(rt, alloc, codec, &carrier.payload);
-            expect_pair(rt, alloc, codec, &carrier.short);
+            expect_equal(rt, &carrier.value.value, &PAIR);
+            expect_equal(rt, &carrier.payload.value, &PAIR);
+            expect_equal(rt, &unwrap(alloc, codec, &carrier.short).ok(), &Some(PAIR));
         }
         Err(error) => assert!(rt; false, "{error:?}"),
     }
@@ -58,7 +47,7 @@ fn reads_what_components_contain(rt: HostRuntime) {
 fn expect_wrapped(rt: &impl Abort, alloc: Global, codec: Codec, octets: &[u8]) {
     match wrap(alloc, codec, &PAIR) {
         Ok(component) => {
-            let component: Contains<Pair> = component;
+            let component: EncodingOf<Pair, OctetString> = component;
             expect_items(rt, component.as_bytes(), octets);
         }
         Err(error) => assert!(rt; false, "{error:?}"),
@@ -66,15 +55,39 @@ fn expect_wrapped(rt: &impl Abort, alloc: Global, codec: Codec, octets: &[u8]) {
 }
 
 #[test]
-fn writes_what_components_contain(rt: HostRuntime) {
+fn writes_what_octets_are_meant_to_contain(rt: HostRuntime) {
     expect_wrapped(&rt, rt.alloc(), Codec::Aper, &[0x80, 0x01, 0x05]);
     expect_wrapped(&rt, rt.alloc(), Codec::Uper, &[0x80, 0x82, 0x80]);
 }
 
-/// A message is read whatever its components contain; what isn't an encoding is refused where it is looked into.
+/// A message is refused whose payload (the octets from the sixth on) is no encoding of a pair: it ends within the
+/// pair's second component, an octet is left over behind it, or it has no octet.
 #[test]
-fn refuses_octets_that_are_no_encoding(rt: HostRuntime) {
-    let empty: Contains<Pair> = EncodingOf::new(Vec::new(rt.alloc()));
+fn refuses_octets_that_contain_no_value(rt: HostRuntime) {
+    let refused = |octets: &[u8]| {
+        let read: Result<Carrier, DecodeError> = aper::decode(rt.alloc(), octets);
+        read.err().map(|error| error.kind)
+    };
+    let short = [
+        0x01, 0x03, 0x80, 0x01, 0x05, 0x02, 0x80, 0x01, 0x80, 0x80, 0x01, 0x05,
+    ];
+    expect_equal(&rt, &refused(&short), &Some(DecodeErrorKind::Incomplete(8)));
+    let long = [
+        0x01, 0x03, 0x80, 0x01, 0x05, 0x04, 0x80, 0x01, 0x05, 0x00, 0x80, 0x80, 0x01, 0x05,
+    ];
+    expect_equal(
+        &rt,
+        &refused(&long),
+        &Some(DecodeErrorKind::UnexpectedExtraData(1)),
+    );
+    let empty = [0x01, 0x03, 0x80, 0x01, 0x05, 0x00, 0x80, 0x80, 0x01, 0x05];
+    expect_equal(&rt, &refused(&empty), &Some(DecodeErrorKind::Incomplete(1)));
+}
+
+/// Octets under a size are read whatever they contain; what isn't an encoding is refused where it is looked into.
+#[test]
+fn refuses_to_look_into_octets_that_are_no_encoding(rt: HostRuntime) {
+    let empty: EncodingOf<Pair, OctetString> = EncodingOf::new(Vec::new(rt.alloc()));
     let refused = unwrap(rt.alloc(), Codec::Uper, &empty).err();
     let missing = DecodeError {
         kind: DecodeErrorKind::Incomplete(1),

@@ -10,6 +10,7 @@ use per_samples_b::outer1::{Outer1, Outers1};
 use per_samples_b::outer2::Outer2;
 use per_samples_b::outer3::{Outer3, Outers3};
 use rasn_below::AsnType;
+use rasn_below::types::Contains;
 use rasn_versions::is_newer_version;
 
 /// An addition group is added.
@@ -34,6 +35,14 @@ pub fn outer3_adds_to_outer1()
         NewerType (newer.schema newer.CONSTRAINTS) (older.schema older.CONSTRAINTS) }
 {
     is_newer_version::<Outer3, Outer1>();
+}
+
+/// What octets contain is a newer version where their type is.
+pub fn what_contains_outer3_adds_to_what_contains_outer1()
+    ensures { let newer = ⟦<Contains<Outer3> as AsnType>⟧ in let older = ⟦<Contains<Outer1> as AsnType>⟧ in
+        NewerType (newer.schema newer.CONSTRAINTS) (older.schema older.CONSTRAINTS) }
+{
+    is_newer_version::<Contains<Outer3>, Contains<Outer1>>();
 }
 
 /// A required addition is added, which an older sender never gives, and an optional one.

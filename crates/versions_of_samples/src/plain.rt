@@ -7,10 +7,13 @@ use per_samples_a::bounded::{MinusOneTo254, OneToTenExtensible, ZeroTo65536};
 use per_samples_a::half_bounded::{FromMinusOne, Natural, UpTo65535};
 use per_samples_a::strings::{LettersAToE, OnlyX, ShortVisible};
 use rasn_below::AsnType;
-use rasn_below::types::{BitString, Date, Integer, NamedBits, OctetString, SetOf, UtcTime};
+use rasn_below::types::{
+    BitString, Contains, Date, Integer, NamedBits, OctetString, SetOf, UtcTime,
+};
 use rasn_versions::is_lawful;
 
-/// BOOLEAN, NULL, INTEGER, BIT STRING with and without names, OCTET STRING, UTCTime, DATE, and a SET OF.
+/// BOOLEAN, NULL, INTEGER, BIT STRING with and without names, OCTET STRING, UTCTime, DATE, a SET OF, and an OCTET
+/// STRING that contains one.
 pub fn library_types_are_lawful()
     ensures truth { let own = ⟦<bool as AsnType>⟧ in IsLawfulType (own.schema own.CONSTRAINTS) }
     ensures null { let own = ⟦<() as AsnType>⟧ in IsLawfulType (own.schema own.CONSTRAINTS) }
@@ -21,6 +24,8 @@ pub fn library_types_are_lawful()
     ensures time { let own = ⟦<UtcTime as AsnType>⟧ in IsLawfulType (own.schema own.CONSTRAINTS) }
     ensures date { let own = ⟦<Date as AsnType>⟧ in IsLawfulType (own.schema own.CONSTRAINTS) }
     ensures bag { let own = ⟦<SetOf<Integer> as AsnType>⟧ in IsLawfulType (own.schema own.CONSTRAINTS) }
+    ensures contents { let own = ⟦<Contains<SetOf<Integer>> as AsnType>⟧ in
+        IsLawfulType (own.schema own.CONSTRAINTS) }
 {
     is_lawful::<bool>();
     is_lawful::<()>();
@@ -31,6 +36,7 @@ pub fn library_types_are_lawful()
     is_lawful::<UtcTime>();
     is_lawful::<Date>();
     is_lawful::<SetOf<Integer>>();
+    is_lawful::<Contains<SetOf<Integer>>>();
 }
 
 /// INTEGER under each form of bounds.

@@ -3,6 +3,7 @@
 use crate::each_row::{Rows, is_any_row_refused};
 use its_header::message::Message;
 use per_samples_a::absent::OneDefault;
+use per_samples_a::carrier::Carrier;
 use per_samples_a::four::Four;
 use per_samples_a::seven::Seven;
 use per_samples_c::items::WithItem;
@@ -55,6 +56,21 @@ const MESSAGE: Rows = &[(
     ],
 )];
 
+const CARRIER: Rows = &[
+    (
+        Aper,
+        &[
+            0x01, 0x03, 0x80, 0x01, 0x05, 0x03, 0x80, 0x01, 0x05, 0x80, 0x80, 0x01, 0x05,
+        ],
+    ),
+    (
+        Uper,
+        &[
+            0x01, 0x03, 0x80, 0x82, 0x80, 0x03, 0x80, 0x82, 0x80, 0xa0, 0x20, 0xa0, 0x00,
+        ],
+    ),
+];
+
 /// Whether a call for one of the rows was refused.
 fn is_one_refused(rt: &impl Abort, alloc: Global) -> bool {
     is_any_row_refused::<()>(rt, alloc, NULL)
@@ -65,6 +81,7 @@ fn is_one_refused(rt: &impl Abort, alloc: Global) -> bool {
         || is_any_row_refused::<Byte>(rt, alloc, BYTE)
         || is_any_row_refused::<MaybeEmpty>(rt, alloc, MAYBE_EMPTY)
         || is_any_row_refused::<Message>(rt, alloc, MESSAGE)
+        || is_any_row_refused::<Carrier>(rt, alloc, CARRIER)
 }
 
 #[test]
