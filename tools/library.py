@@ -1,0 +1,29 @@
+"""The static library per_c, and the numbers of its header."""
+import re
+import subprocess
+
+from repository import Failure, Kit, folder_of, read_crates
+
+PER_C = folder_of("per_c")
+
+
+def static_library(folder, toolchain=None):
+    """Returns the static library, which is proved over the libraries as the gate left them, and compiled by the kit's
+    toolchain or another."""
+    kit, crates = Kit(), read_crates()
+    words = kit.check("per_c", "src/lib.rt")
+    words[1] = "build"
+    words += ["--crate-type", "staticlib", "--toolchain", toolchain or f"{kit.folder}/toolchain", "--backend", "llvm"]
+    library = f"{folder}/libper_c.a"
+    words += [*kit.built(crates["per_c"], crates), "-o", library]
+    ran = subprocess.run(words, capture_output=True, check=False, cwd=PER_C)
+    if ran.returncode:
+        raise Failure(f"the static library isn't built:\n{ran.stderr[-2000:].decode(errors='replace')}")
+    return library
+
+
+def enumerators(name):
+    """Returns the enumerators of an enum of per.h by their numbers."""
+    with open(f"{PER_C}/include/per.h", encoding="utf-8") as it:
+        body = re.search(rf"^enum {name} {{\n(.*?)\n}};", it.read(), re.M | re.S)[1]
+    return {int(number): word for word, number in re.findall(r"^ +(PER_\w+) = (\d+)", body, re.M)}
