@@ -95,6 +95,8 @@ class Items:
             self.need(item, target, name, line)
         elif of.kind in LISTS:
             self.need_element(item, of.element, name, line)
+        elif of.contained:
+            self.need_contents(item, of.contained, name, line)
         elif of.kind == "ENUMERATED":
             self.expect_few(of.items, of.added_items, MOST_ITEMS)
         elif of.parts is not None:
@@ -144,6 +146,8 @@ class Items:
             use.item = found
         elif use.type.kind in LISTS:
             return self.need_element(item, use.type.element, path, line)
+        elif use.type.contained:
+            return self.need_contents(item, use.type.contained, path, line)
         else:
             return None
         item.needs.append(found)
@@ -152,11 +156,19 @@ class Items:
     def need_element(self, item, use, path, line):
         """Gives the elements of a list a name, where they stand under constraints: those of a list have their type's
         alone. The name of a definition of the same crate serves; that of another crate isn't changed for a list here."""
-        found = self.need(item, use, f"{path}/Item", line)
+        return self.need_inner(item, use, f"{path}/Item", f"{path}/Element", line)
+
+    def need_contents(self, item, use, path, line):
+        """Gives what octets contain a name in the same way: it has its type's constraints alone."""
+        return self.need_inner(item, use, f"{path}/Contents", f"{path}/Contents", line)
+
+    def need_inner(self, item, use, path, limited_path, line):
+        """Returns the item of an element, or of what octets contain, or None."""
+        found = self.need(item, use, path, line)
         if use.type.kind not in WITH_PAGE and use.type.limits:
             is_written_here = use.own or use.name is None
             if is_written_here or found.crate != item.crate:
-                key, target = (item.key[0], f"{path}/Element"), None if is_written_here else use
+                key, target = (item.key[0], limited_path), None if is_written_here else use
                 text = definition(key[1].replace("/", "."), use)
                 found = self.items.get(key) or self.made(key, use.type, line, text, target)
                 item.needs.append(found)
@@ -179,6 +191,8 @@ class Items:
             return None
         if use.type.kind == "DATE":
             return 2
+        if use.type.contained:
+            return self.levels(use.type.contained)
         if use.type.parts is None:
             return 0
         depth = self.owner(use).depth

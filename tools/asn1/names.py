@@ -17,14 +17,15 @@ generalized_time teletex_string graphic_string general_string open_type optional
 from_minus up_to up_to_minus size_from size_up_to extensible of_characters from_to u8 u16 u32 u64 i8 i16 i32 i64
 i128 big universal simple chosen chosen_behind whole truth nothing item root added octets bits characters code
 day alternative fields_in fields_of parts_of variants_listed all_items extensible_items slot_of slot_levels deeper_of
-record_value list_value to minus size to_minus components contents""".split())
+record_value list_value to minus size to_minus components contents containing""".split())
 # The names that a page's own text has from the library, and from Rust.
 TAKEN = """Alternatives AsnType Bounded Bounds ByKind ChoiceKind Class CodedAlternatives Components Constrained
 Constraint Constraints Constructed Decode Decoder Encode Encoder EnumeratedKind Extensible
 Field FieldLists Fields Identifier ItemCounts ItemLists Items Limits OfKind Place Presence Record Tag TagTree VariantLists Variants
 Any BitString NamedBits OctetString Integer Ia5String VisibleString PrintableString NumericString BmpString Utf8String
 TeletexString GraphicString GeneralString ObjectIdentifier UtcTime GeneralizedTime Date SetOf SetKind
-SetComponents SetRecord EmptyList Item Octets Text Utf8Text Result Ok Err Vec String Box Drop Clone Copy Debug Eq PartialEq Self""".split()
+SetComponents SetRecord Contains EmptyList Item Octets Text Utf8Text Result Ok Err Vec String Box Drop Clone Copy Debug
+Eq PartialEq Self""".split()
 NOT_ALONE = ("Self", "None", "Some", "Ok", "Err", "Vec", "Option", "Box")
 # The toolchain makes names of files of those of types.
 LONGEST = 56

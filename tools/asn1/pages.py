@@ -23,7 +23,8 @@ VALUES = {"BOOLEAN": "truth", "OCTET STRING": "octets", "OPEN": "octets", "BIT S
 # Those that the module of names doesn't pass on.
 TIMES = ("UTCTime", "GeneralizedTime", "DATE")
 # The names of these that the library has.
-LIBRARY = {HELD[kind] for kind in HELD if kind not in ("BOOLEAN", "NULL", *TIMES)} | {"Integer", "SetOf", "Constrained"}
+LIBRARY = {"Integer", "SetOf", "Constrained", "Contains"}
+LIBRARY |= {HELD[kind] for kind in HELD if kind not in ("BOOLEAN", "NULL", *TIMES)}
 
 # The module with what a page names.
 PAGE = "rasn_below::page"
@@ -75,13 +76,15 @@ class Page:
             if of.kind == "SEQUENCE OF":
                 return f"Vec<{element}>"
             return f"SetOf<{element}>"
+        if of.contained:
+            return f"Contains<{self.element(of.contained)}>"
         name = holder(of.limits) if of.kind == "INTEGER" else HELD[of.held_kind]
         if of.kind in TIMES:
             self.imports.use("rasn_below::types", name)
         return name
 
     def element(self, use):
-        """Returns the type of a list's elements: under constraints where they have any."""
+        """Returns the type of a list's elements, or of what octets contain: under constraints where they have any."""
         return self.brought(use.limited, f"Limited{use.limited.rust}") if use.limited else self.rust(use)
 
     def brought(self, item, name):
@@ -111,9 +114,10 @@ class Page:
             return f"{self.value('whole')} (pos {name})" if name else f"(λ v. {self.value('whole')} (pos v))"
         if kind == "NULL":
             return self.value("nothing") if name else f"(λ _. {self.value('nothing')})"
-        word = self.value("whole" if kind == "INTEGER" else VALUES[kind]) if kind == "INTEGER" or kind in VALUES else None
-        if word is None:
+        if use.type.contained or kind != "INTEGER" and kind not in VALUES:
             word = f"⟦<{self.rust(use)} as AsnType>⟧.value"
+        else:
+            word = self.value("whole" if kind == "INTEGER" else VALUES[kind])
         return f"{word} {name}" if name else word
 
     def slots(self, parts):

@@ -14,6 +14,8 @@ PLAIN = {"BOOLEAN", "NULL", "OBJECT IDENTIFIER", "UTCTime", "GeneralizedTime", "
 TEXTS = ("UTF8String", *LETTERS)
 OTHER_NAMES = {"ISO646String": "VisibleString", "T61String": "TeletexString"}
 MOST_NUMBER = 1 << 31
+# What octets contain that stay octets.
+UNREAD = "unread"
 
 
 @dataclass
@@ -27,15 +29,23 @@ class Type:
     added: list = None      # those behind the marker, where there is one: components and groups
     element: "Use" = None   # of a list
     note: str = ""          # of an open type: what it may hold
+    contents: object = None # of octets: the use of the type that they contain, or UNREAD
 
     @property
     def all_parts(self):
         return [*(self.parts or []), *(self.added or [])]
 
     @property
+    def contained(self):
+        """The use of the type whose value octets are written as, or None."""
+        return None if self.contents is UNREAD else self.contents
+
+    @property
     def held_kind(self):
         """Its kind; 'NAMED BITS' for bits with names of which PER leaves out 0 bits at the end (X.680 22.7, X.691 16.2),
         which changes nothing under a size that is one number."""
+        if self.contained:
+            return "OCTET STRING (CONTAINING)"
         low, high, marked = self.limits.size or (None, None, True)
         is_trimmed = self.kind == "BIT STRING" and self.names and (low != high or marked)
         return "NAMED BITS" if is_trimmed else self.kind
@@ -76,9 +86,9 @@ class Modules(Constraints):
     """The types of all modules. `given` is what stands for the parameters of the definition that is read, by their names:
     what was given, and the module and the parameters where it was."""
 
-    def __init__(self, front):
+    def __init__(self, front, reads_contents=False):
         super().__init__(front)
-        self.cache = {}
+        self.cache, self.reads_contents = {}, reads_contents
 
     def use_of(self, module, name):
         """Returns the use of a definition by its name."""
@@ -104,8 +114,22 @@ class Modules(Constraints):
         limits = self.limited(use.type.limits, node["constraint"], module, given, use.type.kind)
         if limits != use.type.limits:
             use = replace(use, type=replace(use.type, limits=limits), own=use.name is not None)
+        contents = self.contents(use.type, node["constraint"], module, given, path)
+        if contents is not use.type.contents:
+            of = replace(use.type, contents=contents)
+            use = replace(use, type=of) if use.own else Use(of)
         tags = [(tag["class"], tag["number"]) for tag in node["tag"]]
         return replace(use, tags=tags) if tags else use
+
+    def contents(self, of, constraints, module, given, path):
+        """Returns what octets of a type contain under constraints that are put behind it (X.682 11): the use of a type;
+        UNREAD where there is a size, ENCODED BY or more than one CONTAINING; or None."""
+        found = [parts(it) for it in constraints if kind(it) == "contentsconstraint"]
+        if not self.reads_contents or of.kind != "OCTET STRING" or not found and not of.contents:
+            return None
+        if of.limits.size or found and (of.contents or len(found) > 1 or found[0][1]):
+            return UNREAD
+        return self.type(found[0][0], module, given, (*path, "Contents")) if found else of.contents
 
     def without_constraints(self, definition, module, given, path):
         head = kind(definition)

@@ -32,16 +32,18 @@ def letters(alphabet):
     return " | ".join(low if low == high else f"{low}..{high}" for low, high in shown)
 
 
-def constraint(limits, of):
+def constraint(of, indent):
     """Spells the constraints of a type, with a blank before each."""
-    found = []
+    found, limits = [], of.limits
     if limits.value:
         found.append(f"({bounds(*limits.value)})")
-    if of in LETTERS and limits.alphabet is not None:
+    if of.kind in LETTERS and limits.alphabet is not None:
         found.append(f"(FROM ({letters(limits.alphabet)}))")
     if limits.size:
         low, high, marked = limits.size
         found.append(f"(SIZE ({bounds(low, high, marked)}))")
+    if of.contained:
+        found.append(f"(CONTAINING {spelled(of.contained, indent)})")
     return "".join(f" {it}" for it in found)
 
 
@@ -53,9 +55,9 @@ def spelled(use, indent=""):
     """Spells a type where it is used; lines behind the first are indented by `indent`."""
     of = use.type
     if use.name:
-        return use.name[1] + (constraint(of.limits, of.kind) if use.own else "")
+        return use.name[1] + (constraint(of, indent) if use.own else "")
     if of.kind in ("SEQUENCE OF", "SET OF"):
-        return f"{of.kind[:-3]}{constraint(of.limits, of.kind)} OF {spelled(of.element, indent)}"
+        return f"{of.kind[:-3]}{constraint(of, indent)} OF {spelled(of.element, indent)}"
     if of.kind == "ENUMERATED":
         items = [f"{name}({of.names[name]})" for name in of.items]
         more = None if of.added_items is None else ["...", *(f"{name}({of.names[name]})" for name in of.added_items)]
@@ -68,7 +70,7 @@ def spelled(use, indent=""):
         return f"{of.kind} {{\n{inner}\n{indent}}}" if lines else f"{of.kind} {{}}"
     if of.kind == "OPEN":
         return of.note
-    return of.kind + named(of.names) + constraint(of.limits, of.kind)
+    return of.kind + named(of.names) + constraint(of, indent)
 
 
 def value(default):

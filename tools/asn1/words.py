@@ -183,6 +183,8 @@ class Schemas:
         if of.kind == "INTEGER":
             name = holder(of.limits)
             return f"{imports.word('integer')} {imports.word('big' if name == 'Integer' else name)} {limit_words(of, imports)}"
+        if of.contained:
+            return f"{imports.word('containing')} {bracketed(self.of_use(of.contained, at, imports))}"
         if of.kind in SIZED:
             return f"{imports.word(SIZED[of.held_kind])} {limit_words(of, imports)}"
         if of.kind in PLAIN:
