@@ -28,9 +28,9 @@ static void demand(int holds) {
     if (!holds) abort();
 }
 
-/* The answer of a call in a room of its length and no more; what it has in front stays. */
 typedef uint32_t call(uint32_t, uint32_t, const uint8_t *, size_t, uint8_t *, size_t, size_t *);
 
+/* The answer of a call in a room of its length and no more; what stands in front of it stays. */
 static uint32_t answered(call *of, uint32_t options, uint32_t type, const uint8_t *octets, size_t count, uint8_t *end,
                          size_t *written) {
     size_t length = 0;
