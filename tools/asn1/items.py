@@ -12,7 +12,7 @@ MOST_ITEMS = 256
 WITH_PAGE = ("SEQUENCE", "CHOICE", "ENUMERATED")
 LISTS = ("SEQUENCE OF", "SET OF")
 # Those of which a list can say each default.
-DEFAULTS = ("BOOLEAN", "ENUMERATED", "INTEGER", "BIT STRING", "OCTET STRING")
+DEFAULTS = ("BOOLEAN", "ENUMERATED", "INTEGER", "BIT STRING", "NAMED BITS", "OCTET STRING")
 OTHER_FILES = ("lib", "aliases", "tables")
 
 
@@ -126,7 +126,7 @@ class Items:
     @staticmethod
     def need_default(part):
         """Refuses a default that a list can't say, or that isn't of its type."""
-        of, default = part.use.type, part.default
+        of, default = part.use.type, part.normal_default
         is_text = of.kind in TEXTS and of.kind != "BMPString"
         is_empty = of.kind == "SEQUENCE OF" and not default
         if of.held_kind not in DEFAULTS and not is_text and not is_empty:

@@ -190,7 +190,7 @@ class Page:
         if of.kind == "INTEGER":
             return f"{grouped(part.default)}_{holder(of.limits).replace('Integer', 'i128')}"
         if of.kind == "BIT STRING":
-            return f"Bits([{', '.join('true' if bit == '1' else 'false' for bit in part.default)}])"
+            return f"Bits([{', '.join('true' if bit == '1' else 'false' for bit in part.normal_default)}])"
         if of.kind == "OCTET STRING":
             return f"Octets([{', '.join(map(str, part.default))}])"
         if of.kind in TEXTS:

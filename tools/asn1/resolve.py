@@ -81,6 +81,14 @@ class Part:
         """Whether it may be absent, so that its field is an Option."""
         return self.presence == "optional" or self.group is not None
 
+    @property
+    def normal_default(self):
+        """Its default; of named bits without 0 bits at their end but those that the size asks for (X.680 22.7, X.691 16.2)."""
+        of = self.use.type
+        if of.held_kind != "NAMED BITS":
+            return self.default
+        return Bits(self.default.rstrip("0").ljust(of.limits.size[0] if of.limits.size else 0, "0"))
+
 
 class Modules(Constraints):
     """The types of all modules. `given` is what stands for the parameters of the definition that is read, by their names:

@@ -198,7 +198,7 @@ class Schemas:
 
     def default(self, part, imports):
         """Returns a default in the words of values."""
-        of, value = part.use.type, part.default
+        of, value = part.use.type, part.normal_default
         if of.kind == "BOOLEAN":
             imports.prelude("true" if value else "false")
             return f"({imports.word('truth')} {'true' if value else 'false'})"

@@ -45,8 +45,8 @@ pub fn addition_can_be_opened()
         → (w : OutsideAddition) × (i : State) × OpensAddition s w i }
 {}
 
-/// Where octets were opened that contain a value, they contain one exactly where it is read there and they end behind it
-/// (X.682 11; X.691 11.2).
+/// Where octets were opened that contain a value, they contain one exactly where it is read there and they end behind
+/// it (X.682 11; X.691 11.2).
 pub fn contained_value_is_what_stands_in_its_octets()
     ensures { (c : Schema) (s i t : State) (w : OutsideAddition) (v : Value) → OpensContaining s w i
         → Spells (Schema.containing c) s v t ↔ InOpen c i w v t }

@@ -4,7 +4,7 @@
 -- }
 use Rattle.std.specs.Prelude.{[], ◌∷◌, true, false, codes, negsuc, pos}
 use Rattle.rasn_below.specs.Page.{automatic, default, whole, octets, bits, characters, list_value, TypeLists}
-use Rattle.rasn_below.specs.Page.{boolean, integer, bit_string, octet_string, visible_string, sequence_of}
+use Rattle.rasn_below.specs.Page.{boolean, integer, bit_string, named_bits, octet_string, visible_string, sequence_of}
 use Rattle.rasn_below.specs.Page.{big, i8, any, minus◌to◌, size◌to◌}
 
 abbrev pub defaults : TypeLists
@@ -26,3 +26,11 @@ abbrev pub default_bits : TypeLists
 default_bits = automatic (
     default (bits (true ∷ false ∷ true ∷ [])) (bit_string (size 0 to 7)) ∷
     boolean ∷ [])
+
+-- SEQUENCE { any Lights DEFAULT {green}, bounded Lights (SIZE (4..8)) DEFAULT {red} }, where Lights ::= BIT STRING {
+--     red(0), yellow(1), green(2)
+-- }
+abbrev pub default_named_bits : TypeLists
+default_named_bits = automatic (
+    default (bits (false ∷ false ∷ true ∷ [])) (named_bits any) ∷
+    default (bits (true ∷ false ∷ false ∷ false ∷ [])) (named_bits (size 4 to 8)) ∷ [])

@@ -9,6 +9,7 @@ pub mod brackets;
 pub mod carrier;
 pub mod default_bits;
 pub mod default_list;
+pub mod default_named_bits;
 pub mod defaults;
 pub mod eight;
 pub mod eighteen;

@@ -61,7 +61,7 @@ macro_rules! a_true { ($to:ident $($with:ident)*) => { $to! { [$($with)*]
 impl DefaultOf<Alt2> for ATrue {
     ghost default = { λ _. a_true };
 
-    fn stands_for(&self, component: &Alt2) -> bool {
+    fn stands_for(&self, component: &Alt2, _constraints: &Constraints) -> bool {
         a_true!(alternative_stands_for component Alt2)
     }
 
@@ -82,7 +82,7 @@ macro_rules! b_false { ($to:ident $($with:ident)*) => { $to! { [$($with)*]
 impl DefaultOf<Alt2> for BFalse {
     ghost default = { λ _. b_false };
 
-    fn stands_for(&self, component: &Alt2) -> bool {
+    fn stands_for(&self, component: &Alt2, _constraints: &Constraints) -> bool {
         b_false!(alternative_behind_stands_for component Alt2)
     }
 

@@ -57,7 +57,7 @@ macro_rules! true_false { ($to:ident $($with:ident)*) => { $to! { [$($with)*]
 impl DefaultOf<Outer1> for TrueFalse {
     ghost default = { λ _. true_false };
 
-    fn stands_for(&self, component: &Outer1) -> bool {
+    fn stands_for(&self, component: &Outer1, _constraints: &Constraints) -> bool {
         true_false!(stands_for_record component)
     }
 

@@ -61,7 +61,7 @@ macro_rules! true_false_alone { ($to:ident $($with:ident)*) => { $to! { [$($with
 impl DefaultOf<Outer3> for TrueFalseAlone {
     ghost default = { λ _. true_false_alone };
 
-    fn stands_for(&self, component: &Outer3) -> bool {
+    fn stands_for(&self, component: &Outer3, _constraints: &Constraints) -> bool {
         true_false_alone!(stands_for_record component)
     }
 

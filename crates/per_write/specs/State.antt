@@ -20,8 +20,8 @@ pub record Additions : Type 0 where
   pub opens : Bits
 
 -- what is kept of an open SEQUENCE or CHOICE: its presence bits that are still to be given, and, behind an extension
--- marker, its additions; and whether anything is open: a SEQUENCE, a SET, a CHOICE, a list, a bag, or octets that are to
--- contain a value
+-- marker, its additions; and whether anything is open: a SEQUENCE, a SET, a CHOICE, a list, a bag, or octets that are
+-- to contain a value
 pub record Scope : Type 0 where
   pub presences : Presences
   pub additions : Option Additions

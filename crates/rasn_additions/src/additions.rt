@@ -151,7 +151,7 @@ impl<'a, H: Encode, K: DefaultOf<H>> EncodeAddition for Default<&'a H, K> {
         tag: Tag,
         constraints: &Constraints,
     ) -> Result<(), E::Error> {
-        if self.default.stands_for(self.value) {
+        if self.default.stands_for(self.value, constraints) {
             return encoder.skip_addition();
         }
         encoder.encode_extension_addition(tag, constraints, self.value, H::IDENTIFIER)

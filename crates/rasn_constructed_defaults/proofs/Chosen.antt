@@ -3,7 +3,6 @@ use Rattle.std.proofs.Common.{◌≡◌, refl, sym, ap, ◌∙◌, ℕ, zero, su
 use Rattle.std.proofs.lemmas.Bool.{eq-eqb}
 use Rattle.std.proofs.lemmas.Bool.Decides.{same_from_decides}
 use Rattle.rasn_types.specs.Values.{Value, alternative, Side, root, added, side_code, same}
-use Rattle.rasn_constraints.specs.Constraints.{Effective}
 use Rattle.rasn_schema.specs.Choices.{alternative_at}
 use Rattle.rasn_schema.specs.Components.{TypeLists, Chosen, chosen_value, alternatives_at, root_parts, added_parts}
 use Rattle.rasn_schema.specs.Normal.{normal, normal_at}
@@ -38,8 +37,8 @@ root_at cs i depth k schema v d b t l h (suc (suc n)) le = h (suc n) (omega arit
 
 pub told_root : (cs : TypeLists) (i depth k : ℕ) (schema : ℕ → Schema) (v d : Value) (b : Bool) → HasType (root_parts cs) i schema → k ≤ depth
     → ((n : ℕ) → k ≤ n → b ≡ same (normal (schema n) v) d)
-    → TellsSame (λ (_ : Effective). alternatives_at cs.before cs.behind) (suc depth) (alternative root i v) (alternative root i d) b
-told_root cs i depth k schema v d b t l h = record { at = λ c. record { at = root_at cs i depth k schema v d b t l h } }
+    → TellsSame (alternatives_at cs.before cs.behind) (suc depth) (alternative root i v) (alternative root i d) b
+told_root cs i depth k schema v d b t l h = record { at = root_at cs i depth k schema v d b t l h }
 
 -- the alternative at a place behind the extension marker
 added_at : (cs : TypeLists) (i depth k : ℕ) (schema : ℕ → Schema) (v d : Value) (b : Bool) → HasType (added_parts cs) i schema → k ≤ depth
@@ -54,8 +53,8 @@ added_at cs i depth k schema v d b t l h (suc (suc n)) le = h (suc n) (omega ari
 
 pub told_added : (cs : TypeLists) (i depth k : ℕ) (schema : ℕ → Schema) (v d : Value) (b : Bool) → HasType (added_parts cs) i schema → k ≤ depth
     → ((n : ℕ) → k ≤ n → b ≡ same (normal (schema n) v) d)
-    → TellsSame (λ (_ : Effective). alternatives_at cs.before cs.behind) (suc depth) (alternative added i v) (alternative added i d) b
-told_added cs i depth k schema v d b t l h = record { at = λ c. record { at = added_at cs i depth k schema v d b t l h } }
+    → TellsSame (alternatives_at cs.before cs.behind) (suc depth) (alternative added i v) (alternative added i d) b
+told_added cs i depth k schema v d b t l h = record { at = added_at cs i depth k schema v d b t l h }
 
 -- another one
 apart : (s t : Side) (i j : ℕ) (v d : Value) → not (eqb (side_code s) (side_code t) && eqb i j) ≡ true → false ≡ same (alternative s i v) (alternative t j d)
@@ -80,5 +79,5 @@ another_at cs root i v side j d h (suc n) le = apart root side i j _ d h
 another_at cs added i v side j d h (suc n) le = apart added side i j _ d h
 
 pub told_another : (cs : TypeLists) (depth : ℕ) (c : Chosen) (side : Side) (j : ℕ) (d : Value) → is_another side j c ≡ true
-    → TellsSame (λ (_ : Effective). alternatives_at cs.before cs.behind) (suc depth) (chosen_value c) (alternative side j d) false
-told_another cs depth c side j d h = record { at = λ k. record { at = λ n le. another_at cs c.side c.place c.value side j d h n (omega arith) } }
+    → TellsSame (alternatives_at cs.before cs.behind) (suc depth) (chosen_value c) (alternative side j d) false
+told_another cs depth c side j d h = record { at = λ n le. another_at cs c.side c.place c.value side j d h n (omega arith) }

@@ -4,7 +4,6 @@ use Rattle.std.specs.Bool.{Decides}
 use Rattle.std.proofs.lemmas.Bool.Decides.{same_from_decides}
 use Rattle.rasn_types.specs.Values.{Value, as_slots, slots, same}
 use Rattle.rasn_types.proofs.Values.{slots-as_slots}
-use Rattle.rasn_constraints.specs.Constraints.{Effective}
 use Rattle.rasn_schema.specs.Components.{TypeLists, sequence_at, root_parts, added_parts}
 use Rattle.rasn_schema.specs.Normal.{normal, normals}
 use Rattle.rasn_schema.specs.Records.{record_value}
@@ -71,9 +70,9 @@ added_at cs fs gs k l depth rs xs ds es a b hf hg f g d t e u (suc n) le =
 pub told_additions : (cs : TypeLists) (fs gs : ℕ → List Form) (k l depth : ℕ) (rs xs ds es : List (Option Value)) (a b : Bool)
     → HaveForms (root_parts cs) fs → HaveForms (added_parts cs) gs → AreFilled fs → AreFilled gs → deeper_of k l ≤ depth
     → TellsParts fs k rs ds a → a ≡ true → TellsParts gs l xs es b
-    → TellsSame (λ (_ : Effective). sequence_at cs) (suc depth) (record_value rs xs) (record_value ds es) b
+    → TellsSame (sequence_at cs) (suc depth) (record_value rs xs) (record_value ds es) b
 told_additions cs fs gs k l depth rs xs ds es a b hf hg f g d t e u =
-    record { at = λ c. record { at = added_at cs fs gs k l depth rs xs ds es a b hf hg f g d t e u } }
+    record { at = added_at cs fs gs k l depth rs xs ds es a b hf hg f g d t e u }
 
 -- of one whose root components are others
 root_at : (cs : TypeLists) (fs : ℕ → List Form) (k l depth : ℕ) (rs xs ds es : List (Option Value)) (a : Bool)
@@ -86,5 +85,5 @@ root_at cs fs k l depth rs xs ds es a hf f d t e (suc n) le =
 
 pub told_root : (cs : TypeLists) (fs : ℕ → List Form) (k l depth : ℕ) (rs xs ds es : List (Option Value)) (a : Bool)
     → HaveForms (root_parts cs) fs → AreFilled fs → deeper_of k l ≤ depth → TellsParts fs k rs ds a → a ≡ false
-    → TellsSame (λ (_ : Effective). sequence_at cs) (suc depth) (record_value rs xs) (record_value ds es) false
-told_root cs fs k l depth rs xs ds es a hf f d t e = record { at = λ c. record { at = root_at cs fs k l depth rs xs ds es a hf f d t e } }
+    → TellsSame (sequence_at cs) (suc depth) (record_value rs xs) (record_value ds es) false
+told_root cs fs k l depth rs xs ds es a hf f d t e = record { at = root_at cs fs k l depth rs xs ds es a hf f d t e }

@@ -2,7 +2,6 @@
 
 ghost use Rattle.std.specs.Prelude.{◌≡◌, ◌≤◌, suc, true, IfOk};
 ghost use Rattle.rasn_types.specs.Values.{added, root};
-ghost use Rattle.rasn_constraints.specs.Constraints.{Effective};
 ghost use Rattle.rasn_schema.specs.Components.{added_parts, alternatives_at, chosen, chosen_behind, chosen_value};
 ghost use Rattle.rasn_schema.specs.Components.{root_parts};
 ghost use Rattle.rasn_defaults.specs.Told.{TellsSame};
@@ -24,13 +23,13 @@ pub fn is_default<T: Alternatives, H: AsnType, K: DefaultOf<H>>(
     requires schema { HasType (root_parts T.alternatives.0) place (H.schema H.CONSTRAINTS) }
     requires value { T.chosen of.now ≡ chosen place (H.value value.now) }
     requires levels { H.levels value.now ≤ T.depth of.now }
-    ensures { TellsSame (λ (_ : Effective). alternatives_at T.alternatives.0.before T.alternatives.0.behind)
+    ensures { TellsSame (alternatives_at T.alternatives.0.before T.alternatives.0.behind)
         (suc (T.depth of.now)) (chosen_value (T.chosen of.now))
         (chosen_value (chosen place (K.default default.now))) result }
 {
     let _ = of;
     let _ = place;
-    default.stands_for(value)
+    default.stands_for(value, &H::CONSTRAINTS)
 }
 
 /// Whether a choice of another alternative is the one at a place before the extension marker: it isn't.
@@ -41,7 +40,7 @@ pub fn is_another<T: Alternatives, H: AsnType, K: DefaultOf<H>>(
     default: &K,
 ) -> bool
     requires another { is_another root place (T.chosen of.now) ≡ true }
-    ensures { TellsSame (λ (_ : Effective). alternatives_at T.alternatives.0.before T.alternatives.0.behind)
+    ensures { TellsSame (alternatives_at T.alternatives.0.before T.alternatives.0.behind)
         (suc (T.depth of.now)) (chosen_value (T.chosen of.now))
         (chosen_value (chosen place (K.default default.now))) result }
 {
@@ -62,13 +61,13 @@ pub fn is_default_behind<T: Alternatives, H: AsnType, K: DefaultOf<H>>(
     requires schema { HasType (added_parts T.alternatives.0) place (H.schema H.CONSTRAINTS) }
     requires value { T.chosen of.now ≡ chosen_behind place (H.value value.now) }
     requires levels { H.levels value.now ≤ T.depth of.now }
-    ensures { TellsSame (λ (_ : Effective). alternatives_at T.alternatives.0.before T.alternatives.0.behind)
+    ensures { TellsSame (alternatives_at T.alternatives.0.before T.alternatives.0.behind)
         (suc (T.depth of.now)) (chosen_value (T.chosen of.now))
         (chosen_value (chosen_behind place (K.default default.now))) result }
 {
     let _ = of;
     let _ = place;
-    default.stands_for(value)
+    default.stands_for(value, &H::CONSTRAINTS)
 }
 
 /// Whether a choice of another alternative is the one at a place behind the extension marker: it isn't.
@@ -79,7 +78,7 @@ pub fn is_another_behind<T: Alternatives, H: AsnType, K: DefaultOf<H>>(
     default: &K,
 ) -> bool
     requires another { is_another added place (T.chosen of.now) ≡ true }
-    ensures { TellsSame (λ (_ : Effective). alternatives_at T.alternatives.0.before T.alternatives.0.behind)
+    ensures { TellsSame (alternatives_at T.alternatives.0.before T.alternatives.0.behind)
         (suc (T.depth of.now)) (chosen_value (T.chosen of.now))
         (chosen_value (chosen_behind place (K.default default.now))) result }
 {

@@ -66,7 +66,7 @@ impl<H: AsnType, K: DefaultOf<H>> ComponentDefault<H> for Always<K> {
     ghost default = { λ d. Some (K.default d.0) };
 
     fn is_field(&self, field: &H) -> bool {
-        self.0.stands_for(field)
+        self.0.stands_for(field, &H::CONSTRAINTS)
     }
 
     fn field(&self, alloc: Global) -> Result<H, AllocError> {
@@ -85,7 +85,7 @@ impl<H: AsnType, K: DefaultOf<H>> ComponentDefault<Option<H>> for Present<K> {
 
     fn is_field(&self, field: &Option<H>) -> bool {
         match field {
-            Some(value) => self.0.stands_for(value),
+            Some(value) => self.0.stands_for(value, &H::CONSTRAINTS),
             None => false,
         }
     }
@@ -124,7 +124,7 @@ impl<G: Components, K: DefaultOf<G>> ComponentDefault<Option<G>> for PresentGrou
 
     fn is_field(&self, field: &Option<G>) -> bool {
         match field {
-            Some(value) => self.0.stands_for(value),
+            Some(value) => self.0.stands_for(value, &G::CONSTRAINTS),
             None => false,
         }
     }

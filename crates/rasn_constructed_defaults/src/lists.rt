@@ -6,7 +6,7 @@ ghost use Rattle.rasn_schema.specs.Lists.{deepest, list_value};
 ghost use Rattle.rasn_constructed_defaults.specs.Listed.{TellsElements};
 
 use rasn_defaults::DefaultOf;
-use rasn_schema::schema::AsnType;
+use rasn_schema::schema::{AsnType, Constraints};
 use std::alloc::{AllocError, Global};
 
 /// Defaults of a list's elements, in their order.
@@ -62,7 +62,7 @@ impl<T: AsnType + Drop, K: DefaultOf<T>, N: ElementDefaults<T>> ElementDefaults<
     fn stand_for(&self, elements: &[T]) -> bool {
         match elements {
             [first, behind @ ..] => {
-                self.default.stands_for(first) && self.next.stand_for(behind)
+                self.default.stands_for(first, &T::CONSTRAINTS) && self.next.stand_for(behind)
             }
             [] => false,
         }
@@ -77,7 +77,7 @@ impl<T: AsnType + Drop, K: DefaultOf<T>, N: ElementDefaults<T>> ElementDefaults<
 impl<T: AsnType + Drop, P: ElementDefaults<T>> DefaultOf<Vec<T>> for Elements<P> {
     ghost default = { λ d. list_value (P.defaults d.0) };
 
-    fn stands_for(&self, component: &Vec<T>) -> bool {
+    fn stands_for(&self, component: &Vec<T>, _constraints: &Constraints) -> bool {
         self.0.stand_for(component.as_slice())
     }
 

@@ -3,6 +3,7 @@
 ghost use Rattle.rasn_types.specs.Values.{nothing};
 
 use rasn_defaults::DefaultOf;
+use rasn_schema::schema::Constraints;
 use std::alloc::{AllocError, Global};
 
 /// The value of NULL, as its default.
@@ -12,7 +13,7 @@ pub struct Null;
 impl DefaultOf<()> for Null {
     ghost default = { λ _. nothing };
 
-    fn stands_for(&self, _: &()) -> bool {
+    fn stands_for(&self, _: &(), _constraints: &Constraints) -> bool {
         true
     }
 

@@ -1,7 +1,6 @@
 //! Defaults of SEQUENCE (X.680 25), by those of its components.
 
 ghost use Rattle.std.specs.Prelude.{◌≡◌, ◌≤◌, suc, []};
-ghost use Rattle.rasn_constraints.specs.Constraints.{Effective};
 ghost use Rattle.rasn_schema.specs.Components.{added_parts, root_parts, sequence_at};
 ghost use Rattle.rasn_schema.specs.Records.{record_value};
 ghost use Rattle.rasn_record.specs.Lists.{AreWithin, deepest, deeper_of};
@@ -25,7 +24,7 @@ pub fn are_all<T: Components, P: ComparedParts, Q: ComparedParts>(
     requires values { T.contents of.now ≡ P.contents root.now }
     requires added { T.added of.now ≡ Q.contents additions.now }
     requires depth { deeper_of (deepest (P.levels root.now)) (deepest (Q.levels additions.now)) ≤ T.depth of.now }
-    ensures { TellsSame (λ (_ : Effective). sequence_at T.components.0) (suc (T.depth of.now))
+    ensures { TellsSame (sequence_at T.components.0) (suc (T.depth of.now))
         (record_value (T.contents of.now) (T.added of.now))
         (record_value (P.defaults root.now) (Q.defaults additions.now)) result }
 {
@@ -45,7 +44,7 @@ pub fn are_plain<T: Components, P: ComparedParts>(of: &T, root: &P) -> bool
     requires values { T.contents of.now ≡ P.contents root.now }
     requires added { T.added of.now ≡ [] }
     requires depth { AreWithin (T.depth of.now) (P.levels root.now) }
-    ensures { TellsSame (λ (_ : Effective). sequence_at T.components.0) (suc (T.depth of.now))
+    ensures { TellsSame (sequence_at T.components.0) (suc (T.depth of.now))
         (record_value (T.contents of.now) (T.added of.now)) (record_value (P.defaults root.now) []) result }
 {
     are_all(of, root, &End {})

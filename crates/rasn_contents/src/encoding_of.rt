@@ -1,5 +1,5 @@
-//! Octets that are meant to be the complete encoding of a value of another type, and that aren't looked into while their
-//! message is read or written.
+//! Octets that are meant to be the complete encoding of a value of another type, and that aren't looked into while
+//! their message is read or written.
 ghost use Rattle.std.specs.Prelude.{◌≡◌, ℕ, List};
 
 use rasn_codec::codec::{Decode, Decoder, Encode, Encoder};

@@ -6,8 +6,8 @@ use Rattle.rasn_schema.specs.Normal.{normal}
 use Rattle.rasn_traits.specs.Calls.{AtDepths}
 
 -- a test of whether two values are one: at each depth that holds the first, its normal form is the second
-pub record TellsSame {C : Type 0} (schema : C → ℕ → Schema) (k : ℕ) (v d : Value) (b : Bool) : Type 0 where
-  pub at : (c : C) → AtDepths (schema c) k (λ s. b ≡ same (normal s v) d)
+abbrev pub TellsSame : (ℕ → Schema) → ℕ → Value → Value → Bool → Type 0
+TellsSame schema k v d b = AtDepths schema k (λ s. b ≡ same (normal s v) d)
 
 -- whether all characters are some of those that a test takes
 abbrev pub are_all : (ℕ → Bool) → List ℕ → Bool

@@ -13,7 +13,7 @@ pub mod numbers;
 pub mod octets;
 pub mod texts;
 
-use rasn_schema::schema::AsnType;
+use rasn_schema::schema::{AsnType, Constraints};
 use std::alloc::{AllocError, Global};
 
 /// A default of a type: components are compared with it, and made of it.
@@ -21,9 +21,10 @@ pub trait DefaultOf<T: AsnType> {
     // The value that it is.
     ghost default: { Self → Value };
 
-    /// Whether it stands for a component.
-    fn stands_for(&self, component: &T) -> bool
-        ensures { TellsSame T.schema (T.levels component.now) (T.value component.now) (default self.now) result };
+    /// Whether it stands for a component of the type under constraints.
+    fn stands_for(&self, component: &T, constraints: &Constraints) -> bool
+        ensures { TellsSame (T.schema constraints.now) (T.levels component.now) (T.value component.now)
+            (default self.now) result };
 
     /// A component that it stands for, in memory of `alloc`. The only error is want of memory.
     fn made(&self, alloc: Global) -> Result<T, AllocError>

@@ -4,7 +4,7 @@ ghost use Rattle.std.specs.Prelude.{[]};
 ghost use Rattle.rasn_schema.specs.Lists.{list_value};
 
 use crate::DefaultOf;
-use rasn_schema::schema::AsnType;
+use rasn_schema::schema::{AsnType, Constraints};
 use std::alloc::{AllocError, Global};
 
 /// The list without elements, `{}`, as a default of SEQUENCE OF.
@@ -14,7 +14,7 @@ pub struct EmptyList;
 impl<T: AsnType> DefaultOf<Vec<T>> for EmptyList {
     ghost default = { λ _. list_value [] };
 
-    fn stands_for(&self, component: &Vec<T>) -> bool {
+    fn stands_for(&self, component: &Vec<T>, _constraints: &Constraints) -> bool {
         component.as_slice().is_empty()
     }
 

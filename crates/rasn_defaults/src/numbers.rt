@@ -5,13 +5,14 @@ ghost use Rattle.std.specs.Prelude.{pos};
 ghost use Rattle.rasn_types.specs.Values.{truth, whole};
 
 use crate::DefaultOf;
+use rasn_schema::schema::Constraints;
 use rasn_types::big::Integer;
 use std::alloc::{AllocError, Global};
 
 impl DefaultOf<bool> for bool {
     ghost default = { truth };
 
-    fn stands_for(&self, component: &bool) -> bool {
+    fn stands_for(&self, component: &bool, _constraints: &Constraints) -> bool {
         *self == *component
     }
 
@@ -23,7 +24,7 @@ impl DefaultOf<bool> for bool {
 impl DefaultOf<u8> for u8 {
     ghost default = { λ d. whole (pos d) };
 
-    fn stands_for(&self, component: &u8) -> bool {
+    fn stands_for(&self, component: &u8, _constraints: &Constraints) -> bool {
         *self == *component
     }
 
@@ -35,7 +36,7 @@ impl DefaultOf<u8> for u8 {
 impl DefaultOf<u16> for u16 {
     ghost default = { λ d. whole (pos d) };
 
-    fn stands_for(&self, component: &u16) -> bool {
+    fn stands_for(&self, component: &u16, _constraints: &Constraints) -> bool {
         *self == *component
     }
 
@@ -47,7 +48,7 @@ impl DefaultOf<u16> for u16 {
 impl DefaultOf<u32> for u32 {
     ghost default = { λ d. whole (pos d) };
 
-    fn stands_for(&self, component: &u32) -> bool {
+    fn stands_for(&self, component: &u32, _constraints: &Constraints) -> bool {
         *self == *component
     }
 
@@ -59,7 +60,7 @@ impl DefaultOf<u32> for u32 {
 impl DefaultOf<u64> for u64 {
     ghost default = { λ d. whole (pos d) };
 
-    fn stands_for(&self, component: &u64) -> bool {
+    fn stands_for(&self, component: &u64, _constraints: &Constraints) -> bool {
         *self == *component
     }
 
@@ -71,7 +72,7 @@ impl DefaultOf<u64> for u64 {
 impl DefaultOf<i8> for i8 {
     ghost default = { whole };
 
-    fn stands_for(&self, component: &i8) -> bool {
+    fn stands_for(&self, component: &i8, _constraints: &Constraints) -> bool {
         self == component
     }
 
@@ -83,7 +84,7 @@ impl DefaultOf<i8> for i8 {
 impl DefaultOf<i16> for i16 {
     ghost default = { whole };
 
-    fn stands_for(&self, component: &i16) -> bool {
+    fn stands_for(&self, component: &i16, _constraints: &Constraints) -> bool {
         self == component
     }
 
@@ -95,7 +96,7 @@ impl DefaultOf<i16> for i16 {
 impl DefaultOf<i32> for i32 {
     ghost default = { whole };
 
-    fn stands_for(&self, component: &i32) -> bool {
+    fn stands_for(&self, component: &i32, _constraints: &Constraints) -> bool {
         self == component
     }
 
@@ -107,7 +108,7 @@ impl DefaultOf<i32> for i32 {
 impl DefaultOf<i64> for i64 {
     ghost default = { whole };
 
-    fn stands_for(&self, component: &i64) -> bool {
+    fn stands_for(&self, component: &i64, _constraints: &Constraints) -> bool {
         self == component
     }
 
@@ -119,7 +120,7 @@ impl DefaultOf<i64> for i64 {
 impl DefaultOf<i128> for i128 {
     ghost default = { whole };
 
-    fn stands_for(&self, component: &i128) -> bool {
+    fn stands_for(&self, component: &i128, _constraints: &Constraints) -> bool {
         self == component
     }
 
@@ -131,7 +132,7 @@ impl DefaultOf<i128> for i128 {
 impl DefaultOf<Integer> for i128 {
     ghost default = { whole };
 
-    fn stands_for(&self, component: &Integer) -> bool {
+    fn stands_for(&self, component: &Integer, _constraints: &Constraints) -> bool {
         Integer::from(*self) == *component
     }
 

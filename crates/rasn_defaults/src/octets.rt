@@ -3,6 +3,7 @@
 ghost use Rattle.rasn_types.specs.Values.{octets};
 
 use crate::DefaultOf;
+use rasn_schema::schema::Constraints;
 use rasn_types::octet_strings::OctetString;
 use std::alloc::{AllocError, Global};
 
@@ -13,7 +14,7 @@ pub struct Octets<const N: usize>(pub [u8; N]);
 impl<const N: usize> DefaultOf<OctetString> for Octets<N> {
     ghost default = { λ d. octets d.0 };
 
-    fn stands_for(&self, component: &OctetString) -> bool {
+    fn stands_for(&self, component: &OctetString, _constraints: &Constraints) -> bool {
         component.as_bytes() == &self.0[..]
     }
 

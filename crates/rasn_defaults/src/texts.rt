@@ -6,6 +6,7 @@ ghost use Rattle.rasn_types.specs.Values.{characters, octets};
 ghost use Rattle.rasn_defaults.specs.Told.{are_all, kept};
 
 use crate::DefaultOf;
+use rasn_schema::schema::Constraints;
 use rasn_strings::strings::{
     Ia5String, NumericString, PrintableString, StaticPermittedAlphabet, VisibleString,
 };
@@ -24,7 +25,7 @@ pub struct Utf8Text(pub &'static str);
 impl DefaultOf<Utf8String> for Utf8Text {
     ghost default = { λ d. octets d.0.now };
 
-    fn stands_for(&self, component: &Utf8String) -> bool {
+    fn stands_for(&self, component: &Utf8String, _constraints: &Constraints) -> bool {
         component.as_str() == self.0
     }
 
@@ -36,7 +37,7 @@ impl DefaultOf<Utf8String> for Utf8Text {
 impl<const N: usize> DefaultOf<Ia5String> for Text<N> {
     ghost default = { λ d. characters (kept (λ c. nat_lt c 128) d.0) };
 
-    fn stands_for(&self, component: &Ia5String) -> bool {
+    fn stands_for(&self, component: &Ia5String, _constraints: &Constraints) -> bool {
         component.as_iso646_bytes() == own::<Ia5String>(&self.0)
     }
 
@@ -48,7 +49,7 @@ impl<const N: usize> DefaultOf<Ia5String> for Text<N> {
 impl<const N: usize> DefaultOf<VisibleString> for Text<N> {
     ghost default = { λ d. characters (kept (has visible) d.0) };
 
-    fn stands_for(&self, component: &VisibleString) -> bool {
+    fn stands_for(&self, component: &VisibleString, _constraints: &Constraints) -> bool {
         component.as_iso646_bytes() == own::<VisibleString>(&self.0)
     }
 
@@ -60,7 +61,7 @@ impl<const N: usize> DefaultOf<VisibleString> for Text<N> {
 impl<const N: usize> DefaultOf<PrintableString> for Text<N> {
     ghost default = { λ d. characters (kept (has printable) d.0) };
 
-    fn stands_for(&self, component: &PrintableString) -> bool {
+    fn stands_for(&self, component: &PrintableString, _constraints: &Constraints) -> bool {
         component.as_bytes() == own::<PrintableString>(&self.0)
     }
 
@@ -72,7 +73,7 @@ impl<const N: usize> DefaultOf<PrintableString> for Text<N> {
 impl<const N: usize> DefaultOf<NumericString> for Text<N> {
     ghost default = { λ d. characters (kept (has numeric) d.0) };
 
-    fn stands_for(&self, component: &NumericString) -> bool {
+    fn stands_for(&self, component: &NumericString, _constraints: &Constraints) -> bool {
         component.as_bytes() == own::<NumericString>(&self.0)
     }
 

@@ -1,11 +1,13 @@
 //! Defaults of constructed types and of OBJECT IDENTIFIER, as asn1ct writes them.
 
-use crate::expected::{expect_rows, expect_variants, identifier_of, list_of};
+use crate::expected::{expect_rows, expect_variants, expect_written, identifier_of, list_of};
+use per_samples_a::default_named_bits::DefaultNamedBits;
 use per_samples_b::alt2::Alt2;
 use per_samples_b::outer1::Outer1;
 use per_samples_c::default_choice::DefaultChoice;
 use per_samples_c::default_elements::DefaultElements;
 use per_samples_c::default_identifier::DefaultIdentifier;
+use rasn_below::types::{BitString, Codec, NamedBits};
 use std::alloc::Global;
 use std::process::Abort;
 
@@ -92,4 +94,44 @@ fn leaves_a_choice_out_at_its_default(rt: HostRuntime) {
         &[0xa0, 0x00, 0x01, 0x00],
         unaligned,
     );
+}
+
+fn named(rt: &impl Abort, alloc: Global, bits: &[bool]) -> NamedBits {
+    NamedBits::new(BitString::from_slice(alloc, bits).expect(rt, "memory"))
+}
+
+fn lights(rt: &impl Abort, alloc: Global, any: &[bool], bounded: &[bool]) -> DefaultNamedBits {
+    DefaultNamedBits {
+        any: named(rt, alloc, any),
+        bounded: named(rt, alloc, bounded),
+    }
+}
+
+/// Named bits are left out where they are the default's but for zero bits at their end (X.680 22.7; X.691 19.5).
+#[test]
+fn leaves_named_bits_out_at_their_default(rt: HostRuntime) {
+    let alloc = rt.alloc();
+    let green = lights(
+        &rt,
+        alloc,
+        &[false, false, true],
+        &[true, false, false, false],
+    );
+    expect_variants(&rt, alloc, &green, &[0x00], &[0x00]);
+    let longer = lights(&rt, alloc, &[false, false, true, false], &[true]);
+    expect_written(&rt, alloc, Codec::Aper, &longer, &[0x00]);
+    expect_written(&rt, alloc, Codec::Uper, &longer, &[0x00]);
+    let none = lights(&rt, alloc, &[], &[false; 4]);
+    let aligned = &[0xc0, 0x00, 0x00, 0x00];
+    expect_variants(&rt, alloc, &none, aligned, &[0xc0, 0x00, 0x00]);
+    let yellow = lights(&rt, alloc, &[false, true], &[true, false, false, false]);
+    expect_variants(&rt, alloc, &yellow, &[0x80, 0x02, 0x40], &[0x80, 0x90]);
+    let fifth = lights(
+        &rt,
+        alloc,
+        &[false, true],
+        &[true, false, false, false, true],
+    );
+    let aligned = &[0xc0, 0x02, 0x48, 0x88];
+    expect_variants(&rt, alloc, &fifth, aligned, &[0xc0, 0x93, 0x10]);
 }

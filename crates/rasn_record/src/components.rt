@@ -164,7 +164,7 @@ impl<'a, H: Encode, K: DefaultOf<H>> EncodeComponent for Default<&'a H, K> {
         tag: Tag,
         constraints: &Constraints,
     ) -> Result<(), E::Error> {
-        if self.default.stands_for(self.value) {
+        if self.default.stands_for(self.value, constraints) {
             return encoder.set_presence(false);
         }
         encoder.encode_some_with_tag_and_constraints(tag, constraints, self.value, H::IDENTIFIER)

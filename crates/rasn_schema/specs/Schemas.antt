@@ -74,8 +74,8 @@ mutual
     bit_string : Size → (marked named : Bool) → Schema
     -- X.691 30.5: a known-multiplier string over its permitted characters, in ascending order
     char_string : (alphabet : List ℕ) → Size → (marked : Bool) → Schema
-    -- X.682 11, X.691 11.2: octets that are the complete encoding of a value: an OCTET STRING (CONTAINING ..), or an open
-    -- type of which the type is told
+    -- X.682 11, X.691 11.2: octets that are the complete encoding of a value: an OCTET STRING (CONTAINING ..), or an
+    -- open type of which the type is told
     containing : Schema → Schema
     -- X.691 20: SEQUENCE OF
     list : Schema → Size → (marked : Bool) → Schema

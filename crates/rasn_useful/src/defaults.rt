@@ -7,6 +7,7 @@ ghost use Rattle.rasn_traits.specs.Moments.{identifier_value};
 
 use crate::object_identifier::ObjectIdentifier;
 use rasn_defaults::DefaultOf;
+use rasn_schema::schema::Constraints;
 use std::alloc::{AllocError, Global};
 
 /// Arcs, as a default of OBJECT IDENTIFIER: `Arcs([1, 2, 840])`.
@@ -17,7 +18,7 @@ impl<const N: usize> DefaultOf<ObjectIdentifier> for Arcs<N> {
     ghost default = { λ d. identifier_value d.0 };
 
     #[tactic(auto, unfolding(rasn_schema::specs::Normal::normal))]
-    fn stands_for(&self, component: &ObjectIdentifier) -> bool {
+    fn stands_for(&self, component: &ObjectIdentifier, _constraints: &Constraints) -> bool {
         are_of_one_object(component.as_arcs(), &self.0)
     }
 

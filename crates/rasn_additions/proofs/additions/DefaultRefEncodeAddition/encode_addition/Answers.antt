@@ -9,7 +9,7 @@ unfolding settle
 returns-then-stands_for g c = record {
   law = record {
     at = λ n le.
-        let e = ap (λ b. Some (not b)) (sym ((c.stands_for.ensures.at _).at n le) ∙ c.if-stands_for.true) in
+        let e = ap (λ b. Some (not b)) (sym (c.stands_for.ensures.at n le) ∙ c.if-stands_for.true) in
         given_absent g.E.Encoder.rules (default (g.K.DefaultOf.default c.args.self.now.default)) _ _ _ _ _ e c.skip_addition.ensures.law;
   };
   behaves = c.skip_addition.ensures.behaves;
@@ -20,7 +20,7 @@ unfolding settle
 returns g c = record {
   law = record {
     at = λ n le.
-        let e = ap (λ b. Some (not b)) (sym ((c.stands_for.ensures.at _).at n le) ∙ c.if-stands_for.false) in
+        let e = ap (λ b. Some (not b)) (sym (c.stands_for.ensures.at n le) ∙ c.if-stands_for.false) in
         given_there g.E.Encoder.rules (default (g.K.DefaultOf.default c.args.self.now.default)) _ _ _ _ _ e (c.encode_extension_addition.ensures.law.at n le);
   };
   behaves = c.encode_extension_addition.ensures.behaves;

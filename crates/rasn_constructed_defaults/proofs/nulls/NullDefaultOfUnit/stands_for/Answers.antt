@@ -5,4 +5,4 @@ use Rattle.rasn_constructed_defaults.proofs.nulls.NullDefaultOfUnit.stands_for.G
 
 pub returns : goal.returns
 unfolding normal same code
-returns c = record { at = λ k. record { at = λ n le. refl } }
+returns c = record { at = λ n le. refl }

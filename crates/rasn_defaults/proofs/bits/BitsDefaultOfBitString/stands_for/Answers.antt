@@ -4,4 +4,4 @@ use Rattle.rasn_defaults.proofs.bits.BitsDefaultOfBitString.stands_for.Goals as 
 
 pub returns : goal.returns
 unfolding normal
-returns g c = record { at = λ k. record { at = λ n le. rw c.are_bits.ensures (same_bits c.args.self.now.0 c.args.component.now) } }
+returns g c = record { at = λ n le. rw c.are_bits.ensures (same_bits c.args.self.now.0 c.args.component.now) }

@@ -3,4 +3,4 @@ use Rattle.rasn_defaults.proofs.Same.{same_empty}
 use Rattle.rasn_defaults.proofs.lists.EmptyListDefaultOfVec.stands_for.Goals as goal
 
 pub returns : goal.returns
-returns g c = record { at = λ k. record { at = λ n le. rw (c.is_empty.ensures, c.as_slice.ensures.value) (same_empty g.T.AsnType.value _ _ _ c.args.component.now.items n (omega arith)) } }
+returns g c = record { at = λ n le. rw (c.is_empty.ensures, c.as_slice.ensures.value) (same_empty g.T.AsnType.value _ _ _ c.args.component.now.items n (omega arith)) }

@@ -10,4 +10,4 @@ unfolding normal
 returns c =
     let own : FitsSigned w128 c.args.self.now = search rules in
     let e = same_whole (to_z w128 (of_z w128 c.args.self.now)) c.args.component.now ∙ ap (λ (z : ℤ). same (whole c.args.component.now) (whole z)) (to_z-of_z own) in
-    record { at = λ k. record { at = λ n le. rw (c.eq-2.ensures, c.from.ensures) e } }
+    record { at = λ n le. rw (c.eq-2.ensures, c.from.ensures) e }

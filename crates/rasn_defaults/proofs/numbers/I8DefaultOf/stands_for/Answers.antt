@@ -9,4 +9,4 @@ unfolding normal
 returns c =
     let own : FitsSigned w8 c.args.self.now = search rules in
     let other : FitsSigned w8 c.args.component.now = search rules in
-    record { at = λ k. record { at = λ n le. same_signed w8 c.args.self.now c.args.component.now own other } }
+    record { at = λ n le. same_signed w8 c.args.self.now c.args.component.now own other }

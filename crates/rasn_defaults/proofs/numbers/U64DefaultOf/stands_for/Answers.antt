@@ -4,4 +4,4 @@ use Rattle.rasn_defaults.proofs.numbers.U64DefaultOf.stands_for.Goals as goal
 
 pub returns : goal.returns
 unfolding normal
-returns c = record { at = λ k. record { at = λ n le. same_number c.args.self.now c.args.component.now } }
+returns c = record { at = λ n le. same_number c.args.self.now c.args.component.now }

@@ -4,4 +4,4 @@ use Rattle.rasn_defaults.proofs.octets.OctetsDefaultOfOctetString.stands_for.Goa
 
 pub returns : goal.returns
 unfolding normal
-returns g c = record { at = λ k. record { at = λ n le. rw (c.eq.ensures, c.as_bytes.ensures) (same_octets c.args.self.now.0 c.args.component.now) } }
+returns g c = record { at = λ n le. rw (c.eq.ensures, c.as_bytes.ensures) (same_octets c.args.self.now.0 c.args.component.now) }

@@ -7,4 +7,4 @@ use Rattle.rasn_defaults.proofs.texts.TextDefaultOfIa5String.stands_for.Goals as
 
 pub returns : goal.returns
 unfolding normal
-returns g c = record { at = λ k. record { at = λ n le. rw (c.eq.ensures, c.as_iso646_bytes.ensures.characters, c.own.ensures, kept_ia5) (same_characters (kept (λ c. ltb c 128) c.args.self.now.0) c.args.component.now) } }
+returns g c = record { at = λ n le. rw (c.eq.ensures, c.as_iso646_bytes.ensures.characters, c.own.ensures, kept_ia5) (same_characters (kept (λ c. ltb c 128) c.args.self.now.0) c.args.component.now) }

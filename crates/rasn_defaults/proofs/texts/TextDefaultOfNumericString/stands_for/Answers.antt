@@ -6,4 +6,4 @@ use Rattle.rasn_defaults.proofs.texts.TextDefaultOfNumericString.stands_for.Goal
 
 pub returns : goal.returns
 unfolding normal
-returns g c = record { at = λ k. record { at = λ n le. rw (c.eq.ensures, c.as_bytes.ensures.characters, c.own.ensures) (same_characters (kept (has numeric) c.args.self.now.0) c.args.component.now) } }
+returns g c = record { at = λ n le. rw (c.eq.ensures, c.as_bytes.ensures.characters, c.own.ensures) (same_characters (kept (has numeric) c.args.self.now.0) c.args.component.now) }

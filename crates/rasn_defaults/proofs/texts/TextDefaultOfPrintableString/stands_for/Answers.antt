@@ -6,4 +6,4 @@ use Rattle.rasn_defaults.proofs.texts.TextDefaultOfPrintableString.stands_for.Go
 
 pub returns : goal.returns
 unfolding normal
-returns g c = record { at = λ k. record { at = λ n le. rw (c.eq.ensures, c.as_bytes.ensures.characters, c.own.ensures) (same_characters (kept (has printable) c.args.self.now.0) c.args.component.now) } }
+returns g c = record { at = λ n le. rw (c.eq.ensures, c.as_bytes.ensures.characters, c.own.ensures) (same_characters (kept (has printable) c.args.self.now.0) c.args.component.now) }

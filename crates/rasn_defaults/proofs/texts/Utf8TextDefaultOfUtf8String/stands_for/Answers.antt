@@ -5,4 +5,4 @@ use Rattle.rasn_defaults.proofs.texts.Utf8TextDefaultOfUtf8String.stands_for.Goa
 
 pub returns : goal.returns
 unfolding normal
-returns c = record { at = λ k. record { at = λ n le. rw (c.eq.ensures, c.as_str.ensures.value) (same_octets c.args.self.now.0.now (string_bytes c.args.component.now)) } }
+returns c = record { at = λ n le. rw (c.eq.ensures, c.as_str.ensures.value) (same_octets c.args.self.now.0.now (string_bytes c.args.component.now)) }

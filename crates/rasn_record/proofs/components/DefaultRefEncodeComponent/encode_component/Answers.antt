@@ -7,7 +7,7 @@ pub returns-then-stands_for : goal.returns-then-stands_for
 returns-then-stands_for g c = record {
   law = record {
     at = λ n le.
-        let e = ap (λ b. Some (not b)) (sym ((c.stands_for.ensures.at _).at n le) ∙ c.if-stands_for.true) in
+        let e = ap (λ b. Some (not b)) (sym (c.stands_for.ensures.at n le) ∙ c.if-stands_for.true) in
         of_freely g.E.Encoder.rules _ _ _ _ _ _ (bit_written g.E.Encoder.rules _ _ _ (default (g.K.DefaultOf.default c.args.self.now.default)) _ _ e c.set_presence.ensures.law);
   };
   behaves = search rules;
@@ -19,7 +19,7 @@ returns g c =
     record {
       law = record {
         at = λ n le.
-            let e = ap (λ b. Some (not b)) (sym ((c.stands_for.ensures.at _).at n le) ∙ c.if-stands_for.false) in
+            let e = ap (λ b. Some (not b)) (sym (c.stands_for.ensures.at n le) ∙ c.if-stands_for.false) in
             written_as g.E.Encoder.rules _ _ _ optional (default (g.K.DefaultOf.default c.args.self.now.default)) _ _ refl e (w.at n le);
       };
       behaves = search rules;
