@@ -11,7 +11,7 @@ from repository import TOP, Failure, below, read_crates
 HERE = os.path.dirname(os.path.realpath(__file__))
 VARIANTS = ("uper", "aper")
 # The libraries that the program in Rattle names.
-LIBRARIES = ["rasn_below", "rasn_per", "per_samples_a", "per_samples_b", "its_container", "cam", "ngap_setup"]
+LIBRARIES = ["rasn_below", "per_enc", "per_de", "rasn_per", "per_samples_a", "per_samples_b", "its_container", "cam", "ngap_setup"]
 # The modules of ASN.1 of the messages, each in a file of its name.
 MODULES = {
     "uper": {"ITS-Container": "its/ITS-Container", "CAM-PDU-Descriptions": "its/CAM"},

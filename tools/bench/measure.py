@@ -3,6 +3,7 @@ import concurrent.futures
 import json
 import os
 import re
+import resource
 import statistics
 import subprocess
 
@@ -142,3 +143,43 @@ def grow(folder):
             memory.append(int(kibibytes) * 1024)
         grown.append((size, min(seconds), statistics.median(memory)))
     folder.written("growth.json", json.dumps(grown))
+
+
+# `Nest ::= SEQUENCE { inner Nest OPTIONAL }` of so many levels.
+LEVELS = (1, 128)
+PAGE = 4096
+
+
+def runs_within(folder, octets, levels):
+    """Returns whether `per_check` answers for a value of so many levels with a stack of so many octets."""
+    bits = "1" * (levels - 1) + "0"
+    line = f"{int(bits.ljust(-len(bits) % 8 + len(bits), '0'), 2):0{-(-len(bits) // 8) * 2}x}\n"
+
+    def limited():
+        resource.setrlimit(resource.RLIMIT_STACK, (octets, octets))
+
+    words = [f"{folder.path}/bin/per_check", "uper", "nest"]
+    done = subprocess.run(words, input=line, capture_output=True, text=True, preexec_fn=limited)
+    return done.returncode == 0 and done.stdout == line
+
+
+def least_stack(folder, levels):
+    """Returns the least stack in octets, whole pages, with which `per_check` reads and writes so many levels."""
+    few, enough = 0, 1 << 11
+    if not runs_within(folder, enough * PAGE, levels):
+        raise Failure(f"{levels} levels take more than {enough * PAGE} octets of stack")
+    while enough - few > 1:
+        middle = (few + enough) // 2
+        few, enough = (few, middle) if runs_within(folder, middle * PAGE, levels) else (middle, enough)
+    return enough * PAGE
+
+
+def take_sizes(folder):
+    """Takes the octets of the codecs and of what their calls answer, and the stack that nesting takes."""
+    with open(folder.input("uper", "four"), encoding="utf-8") as line:
+        words = folder.program("rasn", "uper", "check", "sizes", 0)
+        done = subprocess.run(words, stdin=line, capture_output=True, text=True, check=True)
+    encoder, encoded, decoder, decoded = map(int, done.stdout.split())
+    found = {"Encoder": encoder, "Result<(), EncodeError>": encoded, "Decoder": decoder, "Result<bool, DecodeError>": decoded}
+    found |= {f"stack of `per_check` at {it} level{'s' * (it > 1)}": least_stack(folder, it) for it in LEVELS}
+    folder.written("sizes.json", json.dumps(found))

@@ -11,6 +11,16 @@ from repository import TOP
 SIDES = {"enc": "encode_buf", "new": "encode", "dec": "decode"}
 OTHERS = {"asn1c": "asn1c", "erlang": "Erlang", "c": "C"}
 MOST = 3
+# The instructions that an encoding and a decoding of a kind are to take at most.
+GOALS = {
+    "four": (550, 450),
+    "integer": (380, 280),
+    "optional": (800, 800),
+    "list": (30000, 30000),
+    "group": (1000, 1000),
+    "choice": (600, 550),
+    "visible1k": (8000, 9000),
+}
 
 
 def first_line(*words):
@@ -100,11 +110,13 @@ def instruction_rows(counted):
         if f"rasn new {kind}" not in counted:
             continue
         row = [title]
-        for operation in ("new", "dec"):
+        for operation, goal in zip(("new", "dec"), GOALS.get(kind, ("", ""))):
             found = [counted.get(f"{name} {operation} {kind}") for name in ("rasn", "asn1c", "c")]
-            row += [f"{sum(it.values()):,.0f}" if it else "" for it in found]
+            sums = [f"{sum(it.values()):,.0f}" if it else "" for it in found]
             own = counted[f"rasn {operation} {kind}"]
             total = sum(own.values()) or 1
+            verdict = "" if goal == "" else "reached" if total <= goal else f"{total / goal:.1f}"
+            row += [sums[0], f"{goal:,}" if goal else "", verdict, *sums[1:]]
             first = sorted(own, key=own.get, reverse=True)[:MOST]
             most.append([f"{SIDES[operation]}: {title}", ", ".join(f"`{plain(it)}` {100 * own[it] / total:.0f}%" for it in first)])
         rows.append(row)
@@ -130,7 +142,7 @@ def report(folder):
         with open(path, encoding="utf-8") as it:
             return json.load(it)
 
-    times, counted, grown = kept("times"), kept("instructions"), kept("growth")
+    times, counted, grown, sizes = kept("times"), kept("instructions"), kept("growth"), kept("sizes")
     text = versions() + "\n"
     if times:
         for variant in ("uper", "aper"):
@@ -140,10 +152,14 @@ def report(folder):
         text += "\nNot ahead of asn1c or Erlang:" + ("\n\n" + "".join(f"- {it}\n" for it in late) if late else " nowhere.\n")
     if counted:
         rows, most = instruction_rows(counted)
-        head = ["Instructions, UPER", "encode", "asn1c", "C", "decode", "asn1c", "C"]
+        head = ["Instructions, UPER"]
+        for side in ("encode", "decode"):
+            head += [side, "goal", "times the goal", "asn1c", "C"]
         text += f"\n{table(head, rows)}\n{table(['Most instructions', 'of this project, by function'], most)}"
     if grown:
         text += "\n" + table(["Octets of value", "seconds", "KiB resident", "more octets for each octet more"], growth_rows(grown))
+    if sizes:
+        text += "\n" + table(["Octets of", ""], [[name, f"{octets:,}"] for name, octets in sizes.items()])
     with open(f"{folder.path}/differences.txt", encoding="utf-8") as it:
         told = it.read()
     folder.written("report.md", text + (f"\n{told}" if told else ""))
