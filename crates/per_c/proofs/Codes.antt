@@ -23,8 +23,8 @@ decode_is_short Decoding.MissingTag = refl
 decode_is_short Decoding.TypeNotExtensible = refl
 decode_is_short Decoding.ExceedsMaxLength = refl
 decode_is_short (Decoding.IntegerOverflow width) = refl
-decode_is_short (Decoding.SizeConstraintNotSatisfied count least most) = refl
-decode_is_short (Decoding.ValueConstraintNotSatisfied number least most) = refl
+decode_is_short (Decoding.SizeConstraintNotSatisfied told) = refl
+decode_is_short (Decoding.ValueConstraintNotSatisfied told) = refl
 decode_is_short Decoding.PermittedAlphabet = refl
 decode_is_short (Decoding.EnumerationIndexNotFound index added) = refl
 decode_is_short (Decoding.ChoiceIndexNotFound index) = refl
@@ -43,8 +43,8 @@ pub decode_short : (k : DecodeErrorKind) → length (decode_name k) < 32
 decode_short k = ltb-true (length (decode_name k)) 32 (decode_is_short k)
 
 encode_is_short : (k : EncodeErrorKind) → nat_lt (length (encode_name k)) 32 ≡ true
-encode_is_short (Encoding.SizeConstraintNotSatisfied count least most) = refl
-encode_is_short (Encoding.ValueConstraintNotSatisfied number least most) = refl
+encode_is_short (Encoding.SizeConstraintNotSatisfied told) = refl
+encode_is_short (Encoding.ValueConstraintNotSatisfied told) = refl
 encode_is_short Encoding.AlphabetConstraintNotSatisfied = refl
 encode_is_short Encoding.IntegerTypeConversionFailed = refl
 encode_is_short Encoding.VariantNotInChoice = refl

@@ -35,8 +35,8 @@ decode_code Decoding.MissingTag = 8
 decode_code Decoding.TypeNotExtensible = 9
 decode_code Decoding.ExceedsMaxLength = 10
 decode_code (Decoding.IntegerOverflow width) = 11
-decode_code (Decoding.SizeConstraintNotSatisfied count least most) = 12
-decode_code (Decoding.ValueConstraintNotSatisfied number least most) = 13
+decode_code (Decoding.SizeConstraintNotSatisfied told) = 12
+decode_code (Decoding.ValueConstraintNotSatisfied told) = 13
 decode_code Decoding.PermittedAlphabet = 14
 decode_code (Decoding.EnumerationIndexNotFound index added) = 15
 decode_code (Decoding.ChoiceIndexNotFound index) = 16
@@ -53,8 +53,8 @@ decode_code Decoding.AlreadyFailed = 25
 -- where an encoder does
 abbrev pub encode_code : EncodeErrorKind → ℕ
 encode_code Encoding.OutOfMemory = 1
-encode_code (Encoding.SizeConstraintNotSatisfied count least most) = 26
-encode_code (Encoding.ValueConstraintNotSatisfied number least most) = 27
+encode_code (Encoding.SizeConstraintNotSatisfied told) = 26
+encode_code (Encoding.ValueConstraintNotSatisfied told) = 27
 encode_code Encoding.AlphabetConstraintNotSatisfied = 28
 encode_code Encoding.IntegerTypeConversionFailed = 29
 encode_code Encoding.VariantNotInChoice = 30

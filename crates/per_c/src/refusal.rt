@@ -3,8 +3,14 @@
 ghost use Rattle.std.specs.Prelude.{◌≡◌, ◌<◌, IsSomeAnd, None, length};
 ghost use Rattle.per_c.specs.Numbers.{code_of, last_code, decode_code, encode_code, json_code, name_of, refusal_of};
 ghost use Rattle.per_c.specs.declared.refusal.Refusal.{Refusal as a_refusal};
-ghost use Rattle.per_c.specs.declared.refusal.Refusal.TheVariants.{Decode as decode_refusal, Json as json_refusal};
+ghost use Rattle.per_c.specs.declared.refusal.Refusal.TheVariants.{Decode as decode_refusal, Encode as encode_refusal};
+ghost use Rattle.per_c.specs.declared.refusal.Refusal.TheVariants.{Json as json_refusal};
+ghost use Rattle.per_read.specs.declared.error.DecodeErrorKind.{DecodeErrorKind as a_decode_kind};
+ghost use Rattle.per_write.specs.declared.error.EncodeErrorKind.{EncodeErrorKind as an_encode_kind};
 
+use per_errors::bounds::OutOfBounds;
+use per_errors::count::Count;
+use per_errors::sizes::OutOfSize;
 use per_lines::fault::Fault;
 use rasn_below::types::Tag;
 use rasn_jer::EncodeError as JsonError;
@@ -29,49 +35,6 @@ pub enum Refusal {
     Json(JsonError),
 }
 
-/// A refusal of each code, from 1 on. The numbers in kinds mean nothing here.
-static REFUSALS: [Refusal; 39] = [
-    Refusal::OutOfMemory,
-    Refusal::UnknownOptions,
-    Refusal::UnknownType,
-    Refusal::NoRoom,
-    Refusal::Decode(DecodeErrorKind::Incomplete(0)),
-    Refusal::Decode(DecodeErrorKind::ParserFail(ParserFailCause::FragmentCode)),
-    Refusal::Decode(DecodeErrorKind::UnexpectedExtraData(0)),
-    Refusal::Decode(DecodeErrorKind::MissingTag),
-    Refusal::Decode(DecodeErrorKind::TypeNotExtensible),
-    Refusal::Decode(DecodeErrorKind::ExceedsMaxLength),
-    Refusal::Decode(DecodeErrorKind::IntegerOverflow(0)),
-    Refusal::Decode(DecodeErrorKind::SizeConstraintNotSatisfied(0, None, None)),
-    Refusal::Decode(DecodeErrorKind::ValueConstraintNotSatisfied(None, None, None)),
-    Refusal::Decode(DecodeErrorKind::PermittedAlphabet),
-    Refusal::Decode(DecodeErrorKind::EnumerationIndexNotFound(0, false)),
-    Refusal::Decode(DecodeErrorKind::ChoiceIndexNotFound(0)),
-    Refusal::Decode(DecodeErrorKind::ChoiceIndexExceedsPlatformWidth),
-    Refusal::Decode(DecodeErrorKind::RequiredExtensionNotPresent(Tag::EOC)),
-    Refusal::Decode(DecodeErrorKind::ExceedsMaxParseDepth),
-    Refusal::Decode(DecodeErrorKind::StringConversionFailed),
-    Refusal::Decode(DecodeErrorKind::InvalidDate),
-    Refusal::Decode(DecodeErrorKind::RealNotSupported),
-    Refusal::Decode(DecodeErrorKind::Below),
-    Refusal::Decode(DecodeErrorKind::UnexpectedEmptyInput),
-    Refusal::Decode(DecodeErrorKind::AlreadyFailed),
-    Refusal::Encode(EncodeErrorKind::SizeConstraintNotSatisfied(0, None, None)),
-    Refusal::Encode(EncodeErrorKind::ValueConstraintNotSatisfied(None, None, None)),
-    Refusal::Encode(EncodeErrorKind::AlphabetConstraintNotSatisfied),
-    Refusal::Encode(EncodeErrorKind::IntegerTypeConversionFailed),
-    Refusal::Encode(EncodeErrorKind::VariantNotInChoice),
-    Refusal::Encode(EncodeErrorKind::RealNotSupported),
-    Refusal::Encode(EncodeErrorKind::TooManyAdditions),
-    Refusal::Encode(EncodeErrorKind::Below),
-    Refusal::Encode(EncodeErrorKind::AlreadyFailed),
-    Refusal::Encode(EncodeErrorKind::OutOfTurn),
-    Refusal::Json(JsonError::NoJson),
-    Refusal::Json(JsonError::VariantNotInChoice),
-    Refusal::Json(JsonError::AlreadyFailed),
-    Refusal::Json(JsonError::OutOfTurn),
-];
-
 impl Refusal {
     /// A refusal that has the code.
     pub fn of_code(code: u32) -> Option<Refusal>
@@ -80,9 +43,18 @@ impl Refusal {
         ensures none { code ≡ 0 → result ≡ None }
         ensures unknown { last_code < code → result ≡ None }
     {
-        match REFUSALS.get(code.checked_sub(1)? as usize) {
-            Some(refusal) => Some(*refusal),
-            None => None,
+        match code {
+            1 => Some(Refusal::OutOfMemory),
+            2 => Some(Refusal::UnknownOptions),
+            3 => Some(Refusal::UnknownType),
+            4 => Some(Refusal::NoRoom),
+            5..=25 => Some(Refusal::Decode(decode_kind(code))),
+            26..=35 => Some(Refusal::Encode(encode_kind(code))),
+            36 => Some(Refusal::Json(JsonError::NoJson)),
+            37 => Some(Refusal::Json(JsonError::VariantNotInChoice)),
+            38 => Some(Refusal::Json(JsonError::AlreadyFailed)),
+            39 => Some(Refusal::Json(JsonError::OutOfTurn)),
+            _ => None,
         }
     }
 
@@ -120,6 +92,65 @@ impl Refusal {
     }
 }
 
+/// A kind of a decoder's refusal that has the code, where one has. The numbers in it mean nothing.
+fn decode_kind(code: u32) -> DecodeErrorKind
+    ensures { (kind : a_decode_kind) → code ≡ decode_code kind → name_of (decode_refusal result)
+        ≡ name_of (decode_refusal kind) }
+{
+    match code {
+        5 => DecodeErrorKind::Incomplete(Count::new(0)),
+        6 => DecodeErrorKind::ParserFail(ParserFailCause::FragmentCode),
+        7 => DecodeErrorKind::UnexpectedExtraData(Count::new(0)),
+        8 => DecodeErrorKind::MissingTag,
+        9 => DecodeErrorKind::TypeNotExtensible,
+        10 => DecodeErrorKind::ExceedsMaxLength,
+        11 => DecodeErrorKind::IntegerOverflow(0),
+        12 => DecodeErrorKind::SizeConstraintNotSatisfied(OutOfSize {
+            size: 0,
+            lower: None,
+            upper: None,
+        }),
+        13 => DecodeErrorKind::ValueConstraintNotSatisfied(OutOfBounds::new(None, None, None)),
+        14 => DecodeErrorKind::PermittedAlphabet,
+        15 => DecodeErrorKind::EnumerationIndexNotFound(0, false),
+        16 => DecodeErrorKind::ChoiceIndexNotFound(0),
+        17 => DecodeErrorKind::ChoiceIndexExceedsPlatformWidth,
+        18 => DecodeErrorKind::RequiredExtensionNotPresent(Tag::EOC),
+        19 => DecodeErrorKind::ExceedsMaxParseDepth,
+        20 => DecodeErrorKind::StringConversionFailed,
+        21 => DecodeErrorKind::InvalidDate,
+        22 => DecodeErrorKind::RealNotSupported,
+        23 => DecodeErrorKind::Below,
+        24 => DecodeErrorKind::UnexpectedEmptyInput,
+        25 => DecodeErrorKind::AlreadyFailed,
+        _ => DecodeErrorKind::OutOfMemory,
+    }
+}
+
+/// A kind of an encoder's refusal that has the code, where one has. The numbers in it mean nothing.
+fn encode_kind(code: u32) -> EncodeErrorKind
+    ensures { (kind : an_encode_kind) → code ≡ encode_code kind → name_of (encode_refusal result)
+        ≡ name_of (encode_refusal kind) }
+{
+    match code {
+        26 => EncodeErrorKind::SizeConstraintNotSatisfied(OutOfSize {
+            size: 0,
+            lower: None,
+            upper: None,
+        }),
+        27 => EncodeErrorKind::ValueConstraintNotSatisfied(OutOfBounds::new(None, None, None)),
+        28 => EncodeErrorKind::AlphabetConstraintNotSatisfied,
+        29 => EncodeErrorKind::IntegerTypeConversionFailed,
+        30 => EncodeErrorKind::VariantNotInChoice,
+        31 => EncodeErrorKind::RealNotSupported,
+        32 => EncodeErrorKind::TooManyAdditions,
+        33 => EncodeErrorKind::Below,
+        34 => EncodeErrorKind::AlreadyFailed,
+        35 => EncodeErrorKind::OutOfTurn,
+        _ => EncodeErrorKind::OutOfMemory,
+    }
+}
+
 /// The code of a decoder's refusal.
 fn decode_code(kind: &DecodeErrorKind) -> u32
     ensures code { result ≡ decode_code kind.now }
@@ -134,8 +165,8 @@ fn decode_code(kind: &DecodeErrorKind) -> u32
         DecodeErrorKind::TypeNotExtensible => 9,
         DecodeErrorKind::ExceedsMaxLength => 10,
         DecodeErrorKind::IntegerOverflow(_) => 11,
-        DecodeErrorKind::SizeConstraintNotSatisfied(..) => 12,
-        DecodeErrorKind::ValueConstraintNotSatisfied(..) => 13,
+        DecodeErrorKind::SizeConstraintNotSatisfied(_) => 12,
+        DecodeErrorKind::ValueConstraintNotSatisfied(_) => 13,
         DecodeErrorKind::PermittedAlphabet => 14,
         DecodeErrorKind::EnumerationIndexNotFound(..) => 15,
         DecodeErrorKind::ChoiceIndexNotFound(_) => 16,
@@ -158,8 +189,8 @@ fn encode_code(kind: &EncodeErrorKind) -> u32
 {
     match kind {
         EncodeErrorKind::OutOfMemory => 1,
-        EncodeErrorKind::SizeConstraintNotSatisfied(..) => 26,
-        EncodeErrorKind::ValueConstraintNotSatisfied(..) => 27,
+        EncodeErrorKind::SizeConstraintNotSatisfied(_) => 26,
+        EncodeErrorKind::ValueConstraintNotSatisfied(_) => 27,
         EncodeErrorKind::AlphabetConstraintNotSatisfied => 28,
         EncodeErrorKind::IntegerTypeConversionFailed => 29,
         EncodeErrorKind::VariantNotInChoice => 30,

@@ -12,6 +12,7 @@ use Rattle.per_core.specs.Spellings.{Settings, Spelling}
 use Rattle.per_core.specs.Basic.{basic, basic_in, bit, IsNumberOf}
 use Rattle.per_core.specs.Took.{Took}
 use Rattle.per_core.proofs.Took.{took_map}
+use Rattle.per_errors.specs.Counts.{count_of}
 use Rattle.per_read.specs.Kinds.{Faulty, NoneIn}
 use Rattle.per_read.specs.Numbers.{IsOfNumber}
 use Rattle.per_read.specs.declared.error.DecodeError.{DecodeError}
@@ -77,7 +78,7 @@ bool_answers s (Ok b) t live h = record {
   behaves = record { again = λ f. absurd cc; fails = tt; kept = ap (λ z. z.codec) h.1 };
 }
 bool_answers s (Err e) t live h = record {
-  law = inr (refuses Schemas.boolean s (Incomplete 1) e h.1 tt (no_truth (settings_of s) (none_left h.0)));
+  law = inr (refuses Schemas.boolean s (Incomplete (count_of 1)) e h.1 tt (no_truth (settings_of s) (none_left h.0)));
   behaves = record { again = λ f. absurd cc; fails = ap (λ z. z.failed) h.2; kept = ap (λ z. z.codec) h.2 };
 }
 

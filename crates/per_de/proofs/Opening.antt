@@ -10,6 +10,7 @@ use Rattle.rasn_traits.specs.Calls.{Refuses}
 use Rattle.per_core.specs.Basic.{ExtensionBit}
 use Rattle.per_core.specs.Took.{Took}
 use Rattle.per_core.proofs.Took.{then_took, took_agree}
+use Rattle.per_errors.specs.Counts.{count_of}
 use Rattle.per_read.specs.declared.error.DecodeError.{DecodeError}
 use Rattle.per_read.specs.declared.error.DecodeErrorKind.{DecodeErrorKind}
 use Rattle.per_read.specs.declared.error.DecodeErrorKind.TheVariants.{Incomplete, OutOfMemory}
@@ -67,7 +68,7 @@ module _ (flag : Bool) (count : ℕ) (s t u : State) (m : ℕ) (b : Bool) (deepe
   no_front parts additions marker e v f i h =
       let c = extended (parts m) marker (additions m) in
       inr (subst (λ l. Refuses (Spells (record_at listed parts marker additions l)) (Fault (record_at listed parts marker additions l)) e s) (sym deeper)
-      (refuses c s (Incomplete (count - length u.bits)) e (h.1 ∙ ap (λ z. refusal (Incomplete (count - length u.bits)) z) behind_bit) tt
+      (refuses c s (Incomplete (count_of (count - length u.bits))) e (h.1 ∙ ap (λ z. refusal (Incomplete (count_of (count - length u.bits))) z) behind_bit) tt
       (λ w y d. let q = took_record (settings_of s) (parts m) marker (additions m) w s.bits y d in
       let g = took_agree (bit_agree marker b q.extends) (subst (λ (z : Bool). Took (ExtensionBit z b) s.bits u.bits) f bit_took) q.bit in
       let r = then_took (record { front = q.root.front; joins = q.root.joins; spelled = q.root.spelled.spelled }) in

@@ -6,6 +6,7 @@ use Rattle.rasn_schema.specs.Schemas.{Schema}
 use Rattle.rasn_schema.specs.declared.items.Place.{Place}
 use Rattle.per_core.specs.Basic.{ExtensionBit, IsBitmap, Octets, Unknown, bit}
 use Rattle.per_core.specs.Took.{Took}
+use Rattle.per_errors.specs.Counts.{count_of}
 use Rattle.per_read_types.specs.Choices.{IsOfIndex, index_form, index_of}
 use Rattle.per_read.specs.Kinds.{IsTested, NoneIn, Stopped}
 use Rattle.per_read.specs.Takes.{Front}
@@ -42,13 +43,13 @@ HasTwoLevels s (Err e) t = (s.levels < 2) × (e ≡ refusal ExceedsMaxParseDepth
 -- decoder refuses (X.691 19.2).
 abbrev pub TakesPresences : ℕ → State → Result Span DecodeError → State → Type 0
 TakesPresences n s (Ok p) t = Took (Front n (span_of p s.source.bits)) s.bits t.bits × (t ≡ with_bits s t.bits)
-TakesPresences n s (Err e) t = (length s.bits < n) × (e ≡ refusal (Incomplete (n - length s.bits)) s)
+TakesPresences n s (Err e) t = (length s.bits < n) × (e ≡ refusal (Incomplete (count_of (n - length s.bits))) s)
     × (t ≡ record s { failed = true })
 
 -- A bit is taken off the bits left; where none is left the decoder refuses.
 abbrev pub TakesBit : State → Result Bool DecodeError → State → Type 0
 TakesBit s (Ok b) t = Took (bit b) s.bits t.bits × (t ≡ with_bits s t.bits)
-TakesBit s (Err e) t = (s.bits ≡ []) × (e ≡ refusal (Incomplete 1) s) × (t ≡ record s { failed = true })
+TakesBit s (Err e) t = (s.bits ≡ []) × (e ≡ refusal (Incomplete (count_of 1)) s) × (t ≡ record s { failed = true })
 
 -- The extension bit is taken off the bits left, where there is a marker (X.691 19.1).
 abbrev pub TakesExtensionBit : Bool → State → Result Bool DecodeError → State → Type 0

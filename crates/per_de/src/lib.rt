@@ -44,6 +44,7 @@ ghost use Rattle.per_de.specs.Steps.{TakesBit, TakesBitmap, TakesExtensionBit, T
 
 use per_bits::{BitList, BitReader};
 use per_core::lengths::FRAGMENT;
+use per_errors::count::Count;
 use per_read::bitmaps::{PresenceBits, skip_unknown, take_bitmap};
 pub use per_read::error;
 pub use per_read::error::{DecodeError, DecodeErrorKind, ParserFailCause};
@@ -475,7 +476,7 @@ impl<'input> Decoder<'input> {
     {
         let left = self.bits.len();
         if left < count {
-            return Err(self.refuse(DecodeErrorKind::Incomplete(count - left)));
+            return Err(self.refuse(DecodeErrorKind::Incomplete(Count::new(count - left))));
         }
         let begin = self.bits.begin;
         self.bits = self.bits.behind(count);
@@ -539,7 +540,7 @@ impl<'input> Decoder<'input> {
     {
         let bits = self.input();
         if bits.is_empty() {
-            return Err(self.refuse(DecodeErrorKind::Incomplete(1)));
+            return Err(self.refuse(DecodeErrorKind::Incomplete(Count::new(1))));
         }
         let bit = bits.first_bits(1) == 1;
         self.bits = self.bits.behind(1);
@@ -690,7 +691,7 @@ impl<'input> Decoder<'input> {
         let reader = self.reader();
         let left = reader.bits().len();
         if left > total.bits() {
-            return Err(DecodeErrorKind::UnexpectedExtraData(left - total.bits()));
+            return Err(DecodeErrorKind::UnexpectedExtraData(Count::new(left - total.bits())));
         }
         end_of_open(&reader, total.bits())
     }

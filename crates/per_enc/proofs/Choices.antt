@@ -76,10 +76,10 @@ added_form a ps marker qs k v p = refl
 -- an alternative's fault is one of the choice
 stands_in_alternative : (kind : EncodeErrorKind) (x m : State) (ps : Parts) (marker : Bool) (qs : Parts) (d : Side) (k : ℕ) (s : Schema) (v : Value) → m.failed ≡ false
     → alternative_in (choice_schema ps marker qs) d k ≡ Some s → Stands kind m s v → Stands kind x (choice_schema ps marker qs) (alternative d k v)
-stands_in_alternative (ValueConstraintNotSatisfied value lower upper) x m ps marker qs d k s v f h t = in_alternative h t
+stands_in_alternative (ValueConstraintNotSatisfied told) x m ps marker qs d k s v f h t = in_alternative h t
 stands_in_alternative IntegerTypeConversionFailed x m ps marker qs d k s v f h t = in_alternative h t
 stands_in_alternative AlreadyFailed x m ps marker qs d k s v f h t = absurd cc
-stands_in_alternative (SizeConstraintNotSatisfied length lower upper) x m ps marker qs d k s v f h t = in_alternative h t
+stands_in_alternative (SizeConstraintNotSatisfied told) x m ps marker qs d k s v f h t = in_alternative h t
 stands_in_alternative AlphabetConstraintNotSatisfied x m ps marker qs d k s v f h t = in_alternative h t
 stands_in_alternative VariantNotInChoice x m ps marker qs d k s v f h t = absurd t
 stands_in_alternative RealNotSupported x m ps marker qs d k s v f h t = in_alternative h t

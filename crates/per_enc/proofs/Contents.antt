@@ -1,5 +1,5 @@
 -- Octets that are to contain a value: how they are opened, refused and closed.
-use Rattle.std.proofs.Common.{◌≡◌, refl, sym, ap, ap₂, ◌∙◌, arith, inl, subst, ℕ, Bool, true, false, Option, Some, None}
+use Rattle.std.proofs.Common.{◌≡◌, refl, sym, ap, ap₂, ◌∙◌, arith, inl, subst, ℕ, Bool, true, false, Option, None}
 use Rattle.std.specs.Prelude.{Result, Ok, Err}
 use Rattle.rasn_types.specs.Bits.{Bits}
 use Rattle.rasn_types.specs.Codecs.{variant_of}
@@ -11,9 +11,8 @@ use Rattle.rasn_traits.specs.Calls.{Written}
 use Rattle.rasn_traits.specs.Contents.{OpenedContents}
 use Rattle.per_core.specs.Canon.{canon}
 use Rattle.per_core.specs.Counts.{open_bits}
-use Rattle.per_core.specs.Writers.{Writer}
 use Rattle.per_pieces.specs.OpenSets.{OpenSet}
-use Rattle.per_pieces.specs.Pieces.{placed_bits, unplaced}
+use Rattle.per_pieces.specs.Pieces.{unplaced}
 use Rattle.per_write.specs.Components.{Encoding}
 use Rattle.per_write.specs.declared.error.EncodeError.{EncodeError}
 use Rattle.per_write.specs.declared.error.EncodeErrorKind.{EncodeErrorKind}
@@ -37,10 +36,10 @@ contents_form a s v p = refl
 
 -- a fault of what is contained is one of what contains it
 stands_in_contents : (kind : EncodeErrorKind) (x i : State) (s : Schema) (v : Value) → i.failed ≡ false → Stands kind i s v → Stands kind x (Schema.containing s) v
-stands_in_contents (ValueConstraintNotSatisfied value lower upper) x i s v f t = in_contents t
+stands_in_contents (ValueConstraintNotSatisfied told) x i s v f t = in_contents t
 stands_in_contents IntegerTypeConversionFailed x i s v f t = in_contents t
 stands_in_contents AlreadyFailed x i s v f t = absurd cc
-stands_in_contents (SizeConstraintNotSatisfied length lower upper) x i s v f t = in_contents t
+stands_in_contents (SizeConstraintNotSatisfied told) x i s v f t = in_contents t
 stands_in_contents AlphabetConstraintNotSatisfied x i s v f t = in_contents t
 stands_in_contents VariantNotInChoice x i s v f t = absurd t
 stands_in_contents RealNotSupported x i s v f t = in_contents t

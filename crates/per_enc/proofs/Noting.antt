@@ -36,8 +36,8 @@ behaves_refused a f s = record { again = λ q. a; fails = ap (λ (z : Encoding).
 -- a fault stands alike in what failed alike
 stands_alike : (kind : EncodeErrorKind) (x y : State) (s : Schema) (v : Value) → x.failed ≡ y.failed → Stands kind x s v → Stands kind y s v
 stands_alike AlreadyFailed x y s v f h = sym f ∙ h
-stands_alike (SizeConstraintNotSatisfied n l u) x y s v f h = h
-stands_alike (ValueConstraintNotSatisfied n l u) x y s v f h = h
+stands_alike (SizeConstraintNotSatisfied told) x y s v f h = h
+stands_alike (ValueConstraintNotSatisfied told) x y s v f h = h
 stands_alike AlphabetConstraintNotSatisfied x y s v f h = h
 stands_alike IntegerTypeConversionFailed x y s v f h = h
 stands_alike VariantNotInChoice x y s v f h = h

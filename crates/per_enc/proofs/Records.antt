@@ -56,16 +56,16 @@ plain_form a ps rs p = rw (slots-as_slots rs) refl
 -- a fault of a component is one of the record
 pub stands_in : (kind : EncodeErrorKind) (x m : State) (s : Schema) (v : Value) (ps : Parts) (marker : Bool) (qs : Parts) (rs xs : List (Option Value)) → m.failed ≡ false → HasPart s v ps rs ⊎ HasPart s v qs xs → Stands kind m s v →
     Stands kind x (extended ps marker qs) (record_value rs xs)
-stands_in (ValueConstraintNotSatisfied value lower upper) x m s v ps marker qs rs xs f (inl h) k = in_part xs h k
+stands_in (ValueConstraintNotSatisfied told) x m s v ps marker qs rs xs f (inl h) k = in_part xs h k
 stands_in IntegerTypeConversionFailed x m s v ps marker qs rs xs f (inl h) k = in_part xs h k
-stands_in (SizeConstraintNotSatisfied length lower upper) x m s v ps marker qs rs xs f (inl h) k = in_part xs h k
+stands_in (SizeConstraintNotSatisfied told) x m s v ps marker qs rs xs f (inl h) k = in_part xs h k
 stands_in AlphabetConstraintNotSatisfied x m s v ps marker qs rs xs f (inl h) k = in_part xs h k
 stands_in RealNotSupported x m s v ps marker qs rs xs f (inl h) k = in_part xs h k
 stands_in OutOfTurn x m s v ps marker qs rs xs f (inl h) k = in_part xs h k
 stands_in Below x m s v ps marker qs rs xs f (inl h) k = in_part xs h k
-stands_in (ValueConstraintNotSatisfied value lower upper) x m s v ps marker qs rs xs f (inr h) k = in_addition rs h k
+stands_in (ValueConstraintNotSatisfied told) x m s v ps marker qs rs xs f (inr h) k = in_addition rs h k
 stands_in IntegerTypeConversionFailed x m s v ps marker qs rs xs f (inr h) k = in_addition rs h k
-stands_in (SizeConstraintNotSatisfied length lower upper) x m s v ps marker qs rs xs f (inr h) k = in_addition rs h k
+stands_in (SizeConstraintNotSatisfied told) x m s v ps marker qs rs xs f (inr h) k = in_addition rs h k
 stands_in AlphabetConstraintNotSatisfied x m s v ps marker qs rs xs f (inr h) k = in_addition rs h k
 stands_in RealNotSupported x m s v ps marker qs rs xs f (inr h) k = in_addition rs h k
 stands_in OutOfTurn x m s v ps marker qs rs xs f (inr h) k = in_addition rs h k

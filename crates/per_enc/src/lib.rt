@@ -226,7 +226,8 @@ impl<A: Allocator + Clone> encoder::Encoder for Encoder<A> {
         _identifier: Identifier,
     ) -> Result<(), EncodeError> {
         self.begin_value()?;
-        self.writer.put_bit(value)
+        self.writer.put_bit(value)?;
+        Ok(())
     }
 
     #[inline(always)]
@@ -251,17 +252,20 @@ impl<A: Allocator + Clone> encoder::Encoder for Encoder<A> {
         _identifier: Identifier,
     ) -> Result<(), EncodeError> {
         self.writer.check_unfailed()?;
-        self.writer.refuse_real()
+        self.writer.refuse_real()?;
+        Ok(())
     }
 
     fn encode_absent(&mut self, _tag: Tag, _identifier: Identifier) -> Result<(), EncodeError> {
         self.writer.check_unfailed()?;
-        self.writer.refuse_absent()
+        self.writer.refuse_absent()?;
+        Ok(())
     }
 
     #[inline(always)]
     fn encode_null(&mut self, _tag: Tag, _identifier: Identifier) -> Result<(), EncodeError> {
-        self.begin_value()
+        self.begin_value()?;
+        Ok(())
     }
 
     #[inline(always)]
@@ -272,7 +276,8 @@ impl<A: Allocator + Clone> encoder::Encoder for Encoder<A> {
         _identifier: Identifier,
     ) -> Result<(), EncodeError> {
         self.begin_value()?;
-        put_enumerated(&mut self.writer, value)
+        put_enumerated(&mut self.writer, value)?;
+        Ok(())
     }
 
     fn encode_any(
@@ -282,7 +287,8 @@ impl<A: Allocator + Clone> encoder::Encoder for Encoder<A> {
         _identifier: Identifier,
     ) -> Result<(), EncodeError> {
         self.begin_value()?;
-        self.writer.put_octets(value.as_bytes())
+        self.writer.put_octets(value.as_bytes())?;
+        Ok(())
     }
 
     #[inline(always)]
@@ -294,7 +300,8 @@ impl<A: Allocator + Clone> encoder::Encoder for Encoder<A> {
         _identifier: Identifier,
     ) -> Result<(), EncodeError> {
         self.begin_value()?;
-        self.writer.put_octet_string(constraints, value)
+        self.writer.put_octet_string(constraints, value)?;
+        Ok(())
     }
 
     #[inline(always)]
@@ -306,7 +313,8 @@ impl<A: Allocator + Clone> encoder::Encoder for Encoder<A> {
         _identifier: Identifier,
     ) -> Result<(), EncodeError> {
         self.begin_value()?;
-        self.writer.put_bit_string(constraints, value)
+        self.writer.put_bit_string(constraints, value)?;
+        Ok(())
     }
 
     fn encode_named_bits(
@@ -317,7 +325,8 @@ impl<A: Allocator + Clone> encoder::Encoder for Encoder<A> {
         _identifier: Identifier,
     ) -> Result<(), EncodeError> {
         self.begin_value()?;
-        self.writer.put_named_bits(constraints, value)
+        self.writer.put_named_bits(constraints, value)?;
+        Ok(())
     }
 
     #[inline(always)]
@@ -329,7 +338,8 @@ impl<A: Allocator + Clone> encoder::Encoder for Encoder<A> {
         _identifier: Identifier,
     ) -> Result<(), EncodeError> {
         self.begin_value()?;
-        self.writer.put_characters(constraints, value)
+        self.writer.put_characters(constraints, value)?;
+        Ok(())
     }
 
     fn encode_utf8_string(
@@ -340,7 +350,8 @@ impl<A: Allocator + Clone> encoder::Encoder for Encoder<A> {
         _identifier: Identifier,
     ) -> Result<(), EncodeError> {
         self.begin_value()?;
-        self.writer.put_octets(value.as_bytes())
+        self.writer.put_octets(value.as_bytes())?;
+        Ok(())
     }
 
     fn encode_general_string(
@@ -351,7 +362,8 @@ impl<A: Allocator + Clone> encoder::Encoder for Encoder<A> {
         _identifier: Identifier,
     ) -> Result<(), EncodeError> {
         self.begin_value()?;
-        self.writer.put_octets(value.as_bytes())
+        self.writer.put_octets(value.as_bytes())?;
+        Ok(())
     }
 
     fn encode_graphic_string(
@@ -362,7 +374,8 @@ impl<A: Allocator + Clone> encoder::Encoder for Encoder<A> {
         _identifier: Identifier,
     ) -> Result<(), EncodeError> {
         self.begin_value()?;
-        self.writer.put_octets(value.as_bytes())
+        self.writer.put_octets(value.as_bytes())?;
+        Ok(())
     }
 
     fn encode_teletex_string(
@@ -373,7 +386,8 @@ impl<A: Allocator + Clone> encoder::Encoder for Encoder<A> {
         _identifier: Identifier,
     ) -> Result<(), EncodeError> {
         self.begin_value()?;
-        self.writer.put_octets(value.as_bytes())
+        self.writer.put_octets(value.as_bytes())?;
+        Ok(())
     }
 
     fn encode_object_identifier(
@@ -383,7 +397,8 @@ impl<A: Allocator + Clone> encoder::Encoder for Encoder<A> {
         _identifier: Identifier,
     ) -> Result<(), EncodeError> {
         self.begin_value()?;
-        put_object_identifier(&mut self.writer, value)
+        put_object_identifier(&mut self.writer, value)?;
+        Ok(())
     }
 
     fn encode_utc_time<M: UtcMoment>(
@@ -393,7 +408,8 @@ impl<A: Allocator + Clone> encoder::Encoder for Encoder<A> {
         _identifier: Identifier,
     ) -> Result<(), EncodeError> {
         self.begin_value()?;
-        put_utc_time(&mut self.writer, value)
+        put_utc_time(&mut self.writer, value)?;
+        Ok(())
     }
 
     fn encode_generalized_time<M: GeneralizedMoment>(
@@ -403,7 +419,8 @@ impl<A: Allocator + Clone> encoder::Encoder for Encoder<A> {
         _identifier: Identifier,
     ) -> Result<(), EncodeError> {
         self.begin_value()?;
-        put_generalized_time(&mut self.writer, value)
+        put_generalized_time(&mut self.writer, value)?;
+        Ok(())
     }
 
     fn encode_date<D: CivilDate>(
@@ -413,7 +430,8 @@ impl<A: Allocator + Clone> encoder::Encoder for Encoder<A> {
         _identifier: Identifier,
     ) -> Result<(), EncodeError> {
         self.begin_value()?;
-        put_date(&mut self.writer, value)
+        put_date(&mut self.writer, value)?;
+        Ok(())
     }
 
     fn open_sequence<C: Constructed>(
@@ -434,7 +452,8 @@ impl<A: Allocator + Clone> encoder::Encoder for Encoder<A> {
         self.writer.check_unfailed()?;
         let (scope, set) = outside;
         self.set = set;
-        self.writer.close_record(scope)
+        self.writer.close_record(scope)?;
+        Ok(())
     }
 
     fn open_components<C: Constructed>(
@@ -460,7 +479,8 @@ impl<A: Allocator + Clone> encoder::Encoder for Encoder<A> {
         self.writer.put_components(set, &C::FIELDS)?;
         let (record, outer) = outside;
         self.set = outer;
-        self.writer.close_record(record)
+        self.writer.close_record(record)?;
+        Ok(())
     }
 
     fn open_set<C: Constructed>(
@@ -482,7 +502,8 @@ impl<A: Allocator + Clone> encoder::Encoder for Encoder<A> {
         self.writer.check_unfailed()?;
         let (ordered, set) = outside;
         self.set = set;
-        self.writer.close_record(ordered)
+        self.writer.close_record(ordered)?;
+        Ok(())
     }
 
     fn open_choice<C: Choice>(
@@ -507,7 +528,8 @@ impl<A: Allocator + Clone> encoder::Encoder for Encoder<A> {
         let place = checked_place(&mut self.writer, found)?;
         let (choice, set) = outside;
         self.set = set;
-        close_choice(&mut self.writer, variants.len(), place, choice)
+        close_choice(&mut self.writer, variants.len(), place, choice)?;
+        Ok(())
     }
 
     fn open_contents(
@@ -528,7 +550,8 @@ impl<A: Allocator + Clone> encoder::Encoder for Encoder<A> {
         let (waiting, set) = outside;
         self.set = set;
         let contents = self.writer.close_unplaced(waiting);
-        self.writer.put_open_pieces(contents)
+        self.writer.put_open_pieces(contents)?;
+        Ok(())
     }
 
     #[inline(always)]
@@ -543,7 +566,8 @@ impl<A: Allocator + Clone> encoder::Encoder for Encoder<A> {
 
     fn skip_addition(&mut self) -> Result<(), EncodeError> {
         self.writer.check_unfailed()?;
-        self.writer.skip_addition()
+        self.writer.skip_addition()?;
+        Ok(())
     }
 
     fn open_addition(&mut self) -> Result<(OutsideAddition<A>, EnclosingSet<A>), EncodeError> {
@@ -559,7 +583,8 @@ impl<A: Allocator + Clone> encoder::Encoder for Encoder<A> {
         self.writer.check_unfailed()?;
         let (open_type, set) = addition;
         self.set = set;
-        self.writer.close_addition(open_type)
+        self.writer.close_addition(open_type)?;
+        Ok(())
     }
 
     fn close_group<C: AdditionGroup>(
@@ -571,7 +596,8 @@ impl<A: Allocator + Clone> encoder::Encoder for Encoder<A> {
         let has_required = fields.number_of_optional_and_default_fields() < fields.len();
         let (open_type, set) = addition;
         self.set = set;
-        self.writer.close_group(open_type, has_required)
+        self.writer.close_group(open_type, has_required)?;
+        Ok(())
     }
 
     fn open_list(
@@ -601,7 +627,8 @@ impl<A: Allocator + Clone> encoder::Encoder for Encoder<A> {
         self.writer.check_unfailed()?;
         let (elements, set) = list;
         self.set = set;
-        close_list(&mut self.writer, elements)
+        close_list(&mut self.writer, elements)?;
+        Ok(())
     }
 
     fn open_set_of(

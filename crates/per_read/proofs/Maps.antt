@@ -140,7 +140,7 @@ module _ (a : Settings) {s : Bits} where
 
 -- every count of a string of any size is one that the size allows
 pub tested_bits : (a : Settings) (s : Bits) (k : DecodeErrorKind) → IsOfItems a any_size false Bit s k → IsTested k
-tested_bits a s (SizeConstraintNotSatisfied n least most) h =
+tested_bits a s (SizeConstraintNotSatisfied told) h =
     let e : true ≡ false = sym h.took.spelled.allowed ∙ ap (allows any_size) h.count ∙ h.refused in absurd (cc)
 tested_bits a s _ h = h
 

@@ -17,7 +17,7 @@ use Rattle.per_read.proofs.SizeForms.{sized_of, of_sized, one_size}
 
 -- a kind that tests show may come with items
 pub tested_size : {X : Type 0} (a : Settings) (size : Size) (mark : Bool) (kind : ItemKind) (item : X → Spelling) (s : Bits) (k : DecodeErrorKind) → IsTested k → IsOfSize a size mark kind item s k
-tested_size a size mark kind item s (SizeConstraintNotSatisfied n least most) h = absurd h
+tested_size a size mark kind item s (SizeConstraintNotSatisfied told) h = absurd h
 tested_size a size mark kind item s _ h = h
 
 module _ (a : Settings) (i : Item) where
@@ -37,7 +37,7 @@ module _ (a : Settings) (i : Item) where
 
     -- and items whose count it doesn't
     pub miscounted : {C : Type 0} {holds : C → C → List ℕ → Type 0} {n : ℕ} {before after : C} {s t : Bits} {least most : Option ℕ} → allows size n ≡ false → least ≡ size.least → most ≡ size.most
-        → TookItems holds (items_under a size i) n before after s t → IsOfItems a size false i s (SizeConstraintNotSatisfied n least most) × NoneIn (sized_items a size i) s
+        → TookItems holds (items_under a size i) n before after s t → IsOfItems a size false i s (SizeConstraintNotSatisfied (record { size = n; lower = least; upper = most })) × NoneIn (sized_items a size i) s
     miscounted {n = n} {s = s} {t = t} h l u b = (
       record { items = b.codes; rest = t; count = b.count; is_least = l; is_most = u; refused = h; took = b.took },
       λ xs v c.
@@ -65,7 +65,7 @@ module _ (a : Settings) (i : Item) where
       }
 
       in_kind : (k : DecodeErrorKind) → s ≡ false ∷ m → IsOfItems a size false i m k → IsOfItems a size true i s k
-      in_kind (SizeConstraintNotSatisfied n least most) e h = record {
+      in_kind (SizeConstraintNotSatisfied told) e h = record {
         items = h.items;
         rest = h.rest;
         count = h.count;

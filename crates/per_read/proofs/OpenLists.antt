@@ -218,7 +218,7 @@ module _ {X : Type 0} (f : ListRule X) {start : Bits} {before : List X} where
     pub list_ends : allows (size_between l.size) l.count ≡ true → Took (list_form f before) start here
     list_ends ok = h.on before here (record { others = []; all = sym (append-nil before); allowed = ap (allows (size_between l.size)) (sym h.count) ∙ ok; took = ended })
 
-    pub list_miscounted : l.count < 2 ^ 64 → allows (size_between l.size) l.count ≡ false → RefusesList f start (SizeConstraintNotSatisfied l.count (start_of l.size) (end_of l.size))
+    pub list_miscounted : l.count < 2 ^ 64 → allows (size_between l.size) l.count ≡ false → RefusesList f start (SizeConstraintNotSatisfied (record { size = l.count; lower = start_of l.size; upper = end_of l.size }))
     list_miscounted few refused = record {
       says = subst (λ (n : ℕ). Miscounted f.settings f.size f.mark list_items f.item n (start_of l.size) (end_of l.size) start) (sym counted)
           (h.miscounted [] here (ap (allows (size_between l.size)) (sym counted) ∙ refused) (omega (arith, few, counted)) ended);

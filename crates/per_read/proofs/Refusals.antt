@@ -11,7 +11,7 @@ use Rattle.per_read.specs.declared.error.DecodeErrorKind.TheVariants.{Unexpected
 -- a kind that tests show may come with numbers and octets
 pub tested_number : (a : Settings) (bounds : Bounds) (mark : Bool) (s : Bits) (k : DecodeErrorKind) → IsTested k → IsOfNumber a bounds mark s k
 tested_number a bounds mark s UnexpectedEmptyInput h = absurd h
-tested_number a bounds mark s (ValueConstraintNotSatisfied named low high) h = absurd h
+tested_number a bounds mark s (ValueConstraintNotSatisfied told) h = absurd h
 tested_number a bounds mark s (IntegerOverflow width) h = absurd h
 tested_number a bounds mark s _ h = h
 

@@ -5,6 +5,7 @@ use Rattle.per_core.specs.Ends.{Ends}
 use Rattle.per_bits.specs.Surpluses.{IsWhy}
 use Rattle.per_core.specs.Spellings.{Settings, Spelling}
 use Rattle.per_core.specs.Took.{Took}
+use Rattle.per_errors.specs.Counts.{count_of}
 use Rattle.per_bits.specs.declared.ended.Surplus.{Surplus}
 use Rattle.per_bits.specs.declared.ended.Surplus.TheVariants.{Missing, NonzeroOctet, NonzeroSpareBits, ExtraOctets}
 use Rattle.per_read.specs.State.{State, settings_of}
@@ -25,10 +26,10 @@ pub record IsWhole (a : Settings) (f : Spelling) (octets : List ℕ) : Type 0 wh
 
 -- the kind of a refusal that says why
 abbrev pub kind_of : Surplus → DecodeErrorKind
-kind_of (Missing bits) = Incomplete bits
+kind_of (Missing bits) = Incomplete (count_of bits)
 kind_of NonzeroOctet = ParserFail NonzeroEmptyValue
 kind_of NonzeroSpareBits = ParserFail NonzeroPadding
-kind_of (ExtraOctets octets) = UnexpectedExtraData octets
+kind_of (ExtraOctets octets) = UnexpectedExtraData (count_of octets)
 
 -- why bits don't end a complete encoding, as a kind says it
 pub record IsOfEnd (a : Settings) (left : Bits) (n : ℕ) (k : DecodeErrorKind) : Type 0 where

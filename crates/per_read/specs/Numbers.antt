@@ -7,6 +7,7 @@ use Rattle.rasn_constraints.specs.Bounds.{above, holds, fits_i128, Bounds, unbou
 use Rattle.per_core.specs.Spellings.{Settings, Spelling, Then, When, never, AnyPadding, Field}
 use Rattle.per_core.specs.Basic.{IsSemiConstrainedWhole, IsUnconstrainedWhole, Octets, Marked, constrained_form}
 use Rattle.per_core.specs.Took.{Took}
+use Rattle.per_errors.specs.Bounds.{lower_of, upper_of, value_of}
 use Rattle.per_read.specs.Kinds.{IsTested}
 use Rattle.per_read.specs.declared.error.DecodeErrorKind.{DecodeErrorKind}
 use Rattle.per_read.specs.declared.error.DecodeErrorKind.TheVariants.{ValueConstraintNotSatisfied, IntegerOverflow}
@@ -86,6 +87,7 @@ IsOfForm a (Some l) (Some u) s k = IsTested k
 -- What a kind says of a number under bounds. That one which its type doesn't hold is named so is tested.
 abbrev pub IsOfNumber : Settings → Bounds → Bool → Bits → DecodeErrorKind → Type 0
 IsOfNumber a bounds mark s UnexpectedEmptyInput = IsEmpty a bounds mark s
-IsOfNumber a bounds mark s (ValueConstraintNotSatisfied named low high) = IsOutside a bounds mark named low high s
+IsOfNumber a bounds mark s (ValueConstraintNotSatisfied told) =
+    IsOutside a bounds mark (value_of told) (lower_of told) (upper_of told) s
 IsOfNumber a bounds mark s (IntegerOverflow width) = Unit {0}
 IsOfNumber a bounds mark s k = IsTested k

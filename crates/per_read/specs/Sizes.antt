@@ -50,8 +50,8 @@ pub record Miscounted {X : Type 0} (a : Settings) (size : Size) (mark : Bool) (k
 -- what a kind says of items under a size
 abbrev pub IsOfSize : {X : Type 0} → Settings → Size → Bool → ItemKind → (X → Spelling) → Bits
     → DecodeErrorKind → Type 0
-IsOfSize a size mark kind item s (SizeConstraintNotSatisfied n least most) =
-    Miscounted a size mark kind item n least most s
+IsOfSize a size mark kind item s (SizeConstraintNotSatisfied told) =
+    Miscounted a size mark kind item told.size told.lower told.upper s
 IsOfSize a size mark kind item s k = IsTested k
 
 -- what a kind says of items of as many bits each, under a size

@@ -1,10 +1,14 @@
 //! Why a decoder refuses.
 
 ghost use Rattle.std.specs.Prelude.{◌≡◌};
+ghost use Rattle.per_errors.specs.Counts.{count_of};
 ghost use Rattle.per_read.specs.Lacking.{NamesLacking};
 ghost use Rattle.per_read.specs.Names.{name_of};
-ghost use Rattle.per_read.specs.declared.error.DecodeErrorKind.TheVariants.{OutOfMemory};
+ghost use Rattle.per_read.specs.declared.error.DecodeErrorKind.TheVariants.{Incomplete, OutOfMemory};
 
+use per_errors::bounds::OutOfBounds;
+use per_errors::count::Count;
+use per_errors::sizes::OutOfSize;
 use rasn_traits::de;
 use rasn_types::types::{Codec, Tag};
 use std::alloc::{AllocError, AllocFailed};
@@ -36,7 +40,7 @@ impl de::Error for DecodeError {
 pub enum DecodeErrorKind {
     /// The input ends within a field: how many bits of the field are missing.
     #[error("the input ends {0} bits early")]
-    Incomplete(u128),
+    Incomplete(Count),
 
     /// The bits spell no value of any type.
     #[error("{0}")]
@@ -44,7 +48,7 @@ pub enum DecodeErrorKind {
 
     /// Whole octets are left over, at the end or in an open type: how many (X.691 11.1, 11.2).
     #[error("{0} octets are left over")]
-    UnexpectedExtraData(u128),
+    UnexpectedExtraData(Count),
 
     /// An optional part or an addition was asked for out of turn, or was left unread.
     #[error("a part was read out of turn")]
@@ -63,12 +67,12 @@ pub enum DecodeErrorKind {
     IntegerOverflow(u32),
 
     /// The size of a string or a list is outside its bounds: the size, and the bounds.
-    #[error("the size {0} is not between {1:?} and {2:?}")]
-    SizeConstraintNotSatisfied(usize, Option<usize>, Option<usize>),
+    #[error("the size {} is not between {:?} and {:?}", .0.size, .0.lower, .0.upper)]
+    SizeConstraintNotSatisfied(OutOfSize),
 
     /// A number is outside its bounds: the number, absent where it passes an `i128`, and the bounds.
-    #[error("the number {0:?} is not between {1:?} and {2:?}")]
-    ValueConstraintNotSatisfied(Option<i128>, Option<i128>, Option<i128>),
+    #[error("the number {:?} is not between {:?} and {:?}", .0.value(), .0.lower(), .0.upper())]
+    ValueConstraintNotSatisfied(OutOfBounds),
 
     /// No permitted character has the code (X.691 30.5).
     #[error("a character is not in the permitted alphabet")]
@@ -156,8 +160,8 @@ impl DecodeErrorKind {
             DecodeErrorKind::TypeNotExtensible => "TypeNotExtensible",
             DecodeErrorKind::ExceedsMaxLength => "ExceedsMaxLength",
             DecodeErrorKind::IntegerOverflow(_) => "IntegerOverflow",
-            DecodeErrorKind::SizeConstraintNotSatisfied(..) => "SizeConstraintNotSatisfied",
-            DecodeErrorKind::ValueConstraintNotSatisfied(..) => "ValueConstraintNotSatisfied",
+            DecodeErrorKind::SizeConstraintNotSatisfied(_) => "SizeConstraintNotSatisfied",
+            DecodeErrorKind::ValueConstraintNotSatisfied(_) => "ValueConstraintNotSatisfied",
             DecodeErrorKind::PermittedAlphabet => "PermittedAlphabet",
             DecodeErrorKind::EnumerationIndexNotFound(..) => "EnumerationIndexNotFound",
             DecodeErrorKind::ChoiceIndexNotFound(_) => "ChoiceIndexNotFound",
@@ -173,6 +177,14 @@ impl DecodeErrorKind {
             DecodeErrorKind::OutOfMemory => "OutOfMemory",
         }
     }
+}
+
+/// The kind of a refusal where so many bits of a field are missing.
+#[inline(always)]
+pub(crate) fn missing(bits: u128) -> DecodeErrorKind
+    ensures { result ≡ Incomplete (count_of bits) }
+{
+    DecodeErrorKind::Incomplete(Count::new(bits))
 }
 
 impl From<AllocError> for DecodeErrorKind {

@@ -14,7 +14,7 @@ ghost use Rattle.per_read.specs.Strings.{AreRead};
 
 use crate::Reader;
 use crate::alphabet::ReadAlphabet;
-use crate::error::DecodeErrorKind;
+use crate::error::{DecodeErrorKind, missing};
 use per_bits::{BitList, BitReader};
 use per_core::items::Item;
 use rasn_strings::strings::StaticPermittedAlphabet;
@@ -325,10 +325,7 @@ impl Reader<'_> {
         ensures { Collects C.holds C.item C.count count items.old self.old result items.new self.new }
     {
         let width = items.item().width();
-        let bits = self
-            .bits
-            .take(width * count as u128)
-            .map_err(DecodeErrorKind::Incomplete)?;
+        let bits = self.bits.take(width * count as u128).map_err(missing)?;
         items.push_items(bits, count)?;
         Ok(())
     }

@@ -24,7 +24,7 @@ mod sizes;
 pub mod small_numbers;
 mod strings;
 
-use error::DecodeErrorKind;
+use error::{DecodeErrorKind, missing};
 use per_bits::BitReader;
 use rasn_types::types::Codec;
 use std::alloc::Global;
@@ -106,7 +106,7 @@ impl<'input> Reader<'input> {
     pub fn take_front(&mut self, count: u128) -> Result<BitReader<'input>, DecodeErrorKind>
         ensures { Takes short (λ a. Front count) (λ P front. P front.bits) self.old result self.new }
     {
-        self.bits.take(count).map_err(DecodeErrorKind::Incomplete)
+        self.bits.take(count).map_err(missing)
     }
 
     /// Takes the next `width` bits, highest first: the number that they mean (X.691 11.3).
@@ -115,7 +115,7 @@ impl<'input> Reader<'input> {
         requires { width ≤ 128 }
         ensures { Takes short (λ a. Field width) itself self.old result self.new }
     {
-        let front = self.bits.take(width).map_err(DecodeErrorKind::Incomplete)?;
+        let front = self.bits.take(width).map_err(missing)?;
         Ok(front.first_bits(width))
     }
 

@@ -12,6 +12,7 @@ use crate::ahead::ahead_of;
 use crate::error::{DecodeErrorKind, ParserFailCause};
 use crate::lengths::Length;
 use per_bits::ended::{Surplus, ended};
+use per_errors::count::Count;
 
 /// The octets of an open type.
 #[derive(Drop)]
@@ -78,9 +79,9 @@ fn refusal(surplus: Surplus) -> DecodeErrorKind
     ensures { result ≡ kind_of surplus }
 {
     match surplus {
-        Surplus::Missing(bits) => DecodeErrorKind::Incomplete(bits),
+        Surplus::Missing(bits) => DecodeErrorKind::Incomplete(Count::new(bits)),
         Surplus::NonzeroOctet => DecodeErrorKind::ParserFail(ParserFailCause::NonzeroEmptyValue),
         Surplus::NonzeroSpareBits => DecodeErrorKind::ParserFail(ParserFailCause::NonzeroPadding),
-        Surplus::ExtraOctets(octets) => DecodeErrorKind::UnexpectedExtraData(octets),
+        Surplus::ExtraOctets(octets) => DecodeErrorKind::UnexpectedExtraData(Count::new(octets)),
     }
 }

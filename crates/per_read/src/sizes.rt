@@ -18,6 +18,7 @@ use crate::items::Collector;
 use crate::lengths::Length;
 use per_core::items::Item;
 use per_core::lengths::constrained_bounds;
+use per_errors::sizes::OutOfSize;
 use rasn_schema::constraints::{Bounded, Extensible};
 
 impl Reader<'_> {
@@ -193,12 +194,20 @@ pub(crate) fn constrained_size(size: &Bounded<usize>) -> Option<(usize, usize)>
 #[inline(always)]
 pub(crate) fn check_size(size: &Bounded<usize>, count: usize) -> Result<(), DecodeErrorKind>
     ensures ok { OnOk result (allows (size_between size.now) count ≡ true) }
-    ensures err { IfErr result (λ kind. kind ≡ SizeConstraintNotSatisfied count (start_of size.now) (end_of size.now)) }
+    ensures err { IfErr result (λ kind. kind ≡ SizeConstraintNotSatisfied (record {
+      size = count;
+      lower = start_of size.now;
+      upper = end_of size.now;
+    })) }
     ensures not { OnErr result (allows (size_between size.now) count ≡ false) }
 {
     if size.contains(&count) {
         return Ok(());
     }
     let (lower, upper) = size.start_and_end();
-    Err(DecodeErrorKind::SizeConstraintNotSatisfied(count, lower, upper))
+    Err(DecodeErrorKind::SizeConstraintNotSatisfied(OutOfSize {
+        size: count,
+        lower,
+        upper,
+    }))
 }

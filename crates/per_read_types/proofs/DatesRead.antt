@@ -12,6 +12,7 @@ use Rattle.rasn_schema.specs.Schemas.{Schema}
 use Rattle.per_core.specs.Basic.{IsConstrainedWhole, IsNumberOf, Year, YearIn, basic, basic_in, constrained_by, constrained_form, year_form}
 use Rattle.per_core.specs.Spellings.{Settings, Field, Then}
 use Rattle.per_core.specs.Took.{Took}
+use Rattle.per_errors.specs.Bounds.{lower_of, upper_of, value_of}
 use Rattle.per_core.proofs.Agree.{Agree, field_agree, never_agree, then_agree, weaken}
 use Rattle.per_core.proofs.LengthForms.{and_left, bounded_agree}
 use Rattle.per_core.proofs.Took.{then_took, took_agree, took_map, took_then}
@@ -143,7 +144,7 @@ module _ (a : Settings) where
 
     year_kind : (s m : Bits) → ((p : ℕ) (t : Bits) → Took (constrained_form a n p) m t → p < n) → (k : DecodeErrorKind) → IsOfNumber a (between (pos l) (pos u)) false m k → IsOfYear a s k
     year_kind s m full UnexpectedEmptyInput h = absurd (not_empty a (pos l) (pos u) m h)
-    year_kind s m full (ValueConstraintNotSatisfied named low high) h = absurd (not_outside a l u n named low high m e o full h)
+    year_kind s m full (ValueConstraintNotSatisfied told) h = absurd (not_outside a l u n (value_of told) (lower_of told) (upper_of told) m e o full h)
     year_kind s m full (IntegerOverflow width) h = tt
     year_kind s m full _ h = h
 
@@ -177,7 +178,7 @@ module _ (a : Settings) where
 
   any_kind : {s m : Bits} (k : DecodeErrorKind) → Took (Field 2 3) s m → IsOfNumber a unbounded false m k → IsOfYear a s k
   any_kind UnexpectedEmptyInput b h = record { rest = h.rest; took = took_then b h.took }
-  any_kind (ValueConstraintNotSatisfied named low high) b h = absurd (let i : true ≡ false = h.outside in cc)
+  any_kind (ValueConstraintNotSatisfied told) b h = absurd (let i : true ≡ false = h.outside in cc)
   any_kind (IntegerOverflow width) b h = tt
   any_kind _ b h = h
 
@@ -221,21 +222,21 @@ module _ (a : Settings) where
 
   pub year_fault : (s : Bits) (k : DecodeErrorKind) → IsOfYear a s k → IsOfDate a s k
   year_fault s InvalidDate h = absurd h
-  year_fault s (ValueConstraintNotSatisfied named low high) h = absurd h
+  year_fault s (ValueConstraintNotSatisfied told) h = absurd h
   year_fault s UnexpectedEmptyInput h = h
   year_fault s (IntegerOverflow width) h = tt
   year_fault s _ h = h
 
   month_kind : (y : ℤ) {s m : Bits} (k : DecodeErrorKind) → Took (Year a y) s m → IsOfNumber a (between (pos 1) (pos 12)) false m k → IsOfDate a s k
   month_kind y {m = m} UnexpectedEmptyInput by h = absurd (not_empty a (pos 1) (pos 12) m h)
-  month_kind y (ValueConstraintNotSatisfied named low high) by h = no_month y by h
+  month_kind y (ValueConstraintNotSatisfied told) by h = no_month y by h
   month_kind y (IntegerOverflow width) by h = tt
   month_kind y InvalidDate by h = absurd h
   month_kind y _ by h = h
 
   day_kind : (y : ℤ) (j : ℕ) {s m n : Bits} (k : DecodeErrorKind) → Took (Year a y) s m → Took (IsConstrainedWhole a 12 j) m n → IsOfNumber a (between (pos 1) (pos 31)) false n k → IsOfDate a s k
   day_kind y j {n = n} UnexpectedEmptyInput by bm h = absurd (not_empty a (pos 1) (pos 31) n h)
-  day_kind y j (ValueConstraintNotSatisfied named low high) by bm h = no_day_in_month y j by bm h
+  day_kind y j (ValueConstraintNotSatisfied told) by bm h = no_day_in_month y j by bm h
   day_kind y j (IntegerOverflow width) by bm h = tt
   day_kind y j InvalidDate by bm h = absurd h
   day_kind y j _ by bm h = h

@@ -1,5 +1,5 @@
 -- Items of an ENUMERATED, seen from the bits that are left (X.691 14).
-use Rattle.std.proofs.Common.{◌≡◌, ◌∙◌, refl, sym, ap, subst, ℕ, zero, suc, ◌+◌, ◌-◌, ◌^◌, ◌<◌, ◌≤◌, Bool, true, false, [], ◌∷◌, Option, arith}
+use Rattle.std.proofs.Common.{◌≡◌, ◌∙◌, refl, sym, ap, subst, ℕ, zero, suc, ◌+◌, ◌-◌, ◌^◌, ◌<◌, ◌≤◌, Bool, true, false, ◌∷◌, Option, arith}
 use Rattle.rasn_types.specs.Bits.{Bits, width, width_from}
 use Rattle.rasn_types.specs.Values.{Value, item, Side, root, added}
 use Rattle.rasn_types.specs.Variants.{Variant, aligned, unaligned}

@@ -37,7 +37,7 @@ module _ (a : Settings) (bounds range : Bounds) (s t : Bits) {l u : Option ℤ} 
   fit_number r b z f = number_within a bounds range z (constrained_whole z (subst (λ y. OfRead (λ z. Took (under_bounds a l u z) s t) y) f.held b)) f.fits f.within f.in_range
 
   missed_in_bits : (w : ℕ) (k : DecodeErrorKind) (z : ℤ) → IsMissed bounds w k z → Took (under_bounds a bounds.low bounds.high z) s t → IsOfNumber a bounds false s k
-  missed_in_bits w (ValueConstraintNotSatisfied named low high) z h b = record { number = z; rest = t; outside = h.0; is_named = h.1; is_low = h.2; is_high = h.3; took = b }
+  missed_in_bits w (ValueConstraintNotSatisfied told) z h b = record { number = z; rest = t; outside = h.0; is_named = h.1; is_low = h.2; is_high = h.3; took = b }
   missed_in_bits w (IntegerOverflow v) z h b = tt
   missed_in_bits w _ z h b = absurd h
 
@@ -65,11 +65,11 @@ form_number a bounds s {u = u} el eu k h = go bounds.low bounds.high k (subst (�
   where
     go : (l u : Option ℤ) (k : DecodeErrorKind) → IsOfForm a l u s k → IsOfNumber a (record { low = l; high = u }) false s k
     go None u UnexpectedEmptyInput h = record { rest = h.0; took = h.1 }
-    go None u (ValueConstraintNotSatisfied named low high) h = absurd h
+    go None u (ValueConstraintNotSatisfied told) h = absurd h
     go None u (IntegerOverflow width) h = absurd h
     go None u _ h = h
     go (Some l) None UnexpectedEmptyInput h = record { rest = h.0; took = h.1 }
-    go (Some l) None (ValueConstraintNotSatisfied named low high) h = absurd h
+    go (Some l) None (ValueConstraintNotSatisfied told) h = absurd h
     go (Some l) None (IntegerOverflow width) h = absurd h
     go (Some l) None _ h = h
     go (Some l) (Some u) k h = tested_number a (record { low = Some l; high = Some u }) false s k h

@@ -39,7 +39,7 @@ module _ (a : Settings) (bounds range : Bounds) {s m : Bits} where
   -- a fault behind the bit is one of the whole
   root_kind : (k : DecodeErrorKind) → s ≡ false ∷ m → IsOfNumber a bounds false m k → IsOfNumber a bounds true s k
   root_kind UnexpectedEmptyInput e h = record { rest = h.rest; took = mark_in (no_octets a) (λ b. no_octets a unbounded) e bounds h.rest h.took }
-  root_kind (ValueConstraintNotSatisfied named low high) e h = record {
+  root_kind (ValueConstraintNotSatisfied told) e h = record {
     number = h.number;
     rest = h.rest;
     outside = h.outside;
@@ -52,7 +52,7 @@ module _ (a : Settings) (bounds range : Bounds) {s m : Bits} where
 
   past_kind : (k : DecodeErrorKind) → s ≡ true ∷ m → IsOfNumber a unbounded false m k → IsOfNumber a bounds true s k
   past_kind UnexpectedEmptyInput e h = record { rest = h.rest; took = mark_past (no_octets a) (λ b. no_octets a unbounded) e bounds h.rest h.took }
-  past_kind (ValueConstraintNotSatisfied named low high) e h = let i : true ≡ false = h.outside in absurd (cc)
+  past_kind (ValueConstraintNotSatisfied told) e h = let i : true ≡ false = h.outside in absurd (cc)
   past_kind _ e h = h
 
   pub faulty_root : (k : DecodeErrorKind) → s ≡ false ∷ m → Faulty (IsOfNumber a bounds false m) (NoneIn (IsNumberOf a bounds false range) m) k

@@ -6,6 +6,7 @@ use Rattle.rasn_constraints.specs.Bounds.{between}
 use Rattle.per_core.specs.Basic.{IsConstrainedWhole, Octets, Year}
 use Rattle.per_core.specs.Spellings.{Settings, Spelling, Field, Then}
 use Rattle.per_core.specs.Took.{Took}
+use Rattle.per_errors.specs.Bounds.{lower_of, upper_of, value_of}
 use Rattle.per_read.specs.Kinds.{IsTested}
 use Rattle.per_read.specs.Numbers.{IsOutside}
 use Rattle.per_read.specs.declared.error.DecodeErrorKind.{DecodeErrorKind}
@@ -42,7 +43,7 @@ pub record IsEmptyYear (a : Settings) (s : Bits) : Type 0 where
 -- What a kind says of a DATE. That no number is named as one past its type is tested.
 abbrev pub IsOfDate : Settings → Bits → DecodeErrorKind → Type 0
 IsOfDate a s InvalidDate = IsNoDay a s
-IsOfDate a s (ValueConstraintNotSatisfied named low high) = IsNoPart a named low high s
+IsOfDate a s (ValueConstraintNotSatisfied told) = IsNoPart a (value_of told) (lower_of told) (upper_of told) s
 IsOfDate a s UnexpectedEmptyInput = IsEmptyYear a s
 IsOfDate a s (IntegerOverflow width) = Unit {0}
 IsOfDate a s k = IsTested k

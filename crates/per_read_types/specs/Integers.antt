@@ -3,6 +3,7 @@ use Rattle.std.specs.Prelude.{◌≡◌, ℕ, ◌^◌, ◌≤◌, Bool, true, fa
 use Rattle.rasn_types.specs.Bits.{width}
 use Rattle.rasn_constraints.specs.Bounds.{holds, fits_i128, Bounds}
 use Rattle.per_core.specs.Basic.{IsNumberOf}
+use Rattle.per_errors.specs.Bounds.{lower_of, upper_of, value_of}
 use Rattle.per_read.specs.State.{State}
 use Rattle.per_read.specs.Takes.{Takes, memory_or}
 use Rattle.per_read.specs.declared.error.DecodeErrorKind.{DecodeErrorKind}
@@ -20,8 +21,8 @@ OfEach P Above = (n : ℕ) → 2 ^ 127 ≤ n → P (pos n)
 -- What a kind says of a number that is no value of a type of a width: it stands outside its bounds, or within these but
 -- not in the type.
 abbrev pub IsMissed : Bounds → ℕ → DecodeErrorKind → ℤ → Type 0
-IsMissed bounds width (ValueConstraintNotSatisfied named low high) z = (holds bounds z ≡ false) × (named ≡ in_i128 z)
-    × (low ≡ bounds.low) × (high ≡ bounds.high)
+IsMissed bounds width (ValueConstraintNotSatisfied told) z = (holds bounds z ≡ false) × (value_of told ≡ in_i128 z)
+    × (lower_of told ≡ bounds.low) × (upper_of told ≡ bounds.high)
 IsMissed bounds width (IntegerOverflow w) z = (holds bounds z ≡ true) × (w ≡ width)
 IsMissed bounds width _ z = ⊥
 

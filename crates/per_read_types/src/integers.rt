@@ -6,6 +6,7 @@ ghost use Rattle.rasn_constraints.specs.Constraints.{bounds_of, bounds_in, is_ma
 ghost use Rattle.per_core.specs.Basic.{IsNumberOf};
 ghost use Rattle.per_read_types.specs.Integers.{OfEach, IsFit, Misfit, AreSome, TakesInteger};
 
+use per_errors::bounds::OutOfBounds;
 use per_read::Reader;
 use per_read::error::DecodeErrorKind;
 use per_read::numbers::ReadNumber;
@@ -121,5 +122,5 @@ fn fit<I: IntegerType>(number: ReadNumber, bounds: &Bounded<i128>) -> Result<I, 
         ReadNumber::Above if upper.is_some() => None,
         _ => return Err(DecodeErrorKind::IntegerOverflow(I::WIDTH)),
     };
-    Err(DecodeErrorKind::ValueConstraintNotSatisfied(outside, lower, upper))
+    Err(DecodeErrorKind::ValueConstraintNotSatisfied(OutOfBounds::new(outside, lower, upper)))
 }

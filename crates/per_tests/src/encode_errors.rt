@@ -1,23 +1,13 @@
 //! The names and the texts of an encoder's errors and options.
 
 use per_enc::{EncodeError, EncodeErrorKind, EncoderOptions};
+use per_errors::bounds::OutOfBounds;
+use per_errors::sizes::OutOfSize;
 use rasn_below::types::Codec;
 use std::test::Fail;
 
-/// The kinds of an error in the UNALIGNED variant, each with its name and what the error says.
+/// The kinds of an error that tell no numbers, each with its name and what the error says in the UNALIGNED variant.
 const ROWS: &[(EncodeErrorKind, &str)] = &[
-    (
-        EncodeErrorKind::SizeConstraintNotSatisfied(4, Some(1), Some(3)),
-        "SizeConstraintNotSatisfied: the size 4 is not in 1..3 (Uper)",
-    ),
-    (
-        EncodeErrorKind::ValueConstraintNotSatisfied(Some(-16), None, Some(10)),
-        "ValueConstraintNotSatisfied: -16 is not in MIN..10 (Uper)",
-    ),
-    (
-        EncodeErrorKind::ValueConstraintNotSatisfied(None, Some(1), None),
-        "ValueConstraintNotSatisfied: a number past 128 bits is not in 1..MAX (Uper)",
-    ),
     (
         EncodeErrorKind::AlphabetConstraintNotSatisfied,
         "AlphabetConstraintNotSatisfied: a character is not in the permitted alphabet (Uper)",
@@ -64,9 +54,36 @@ fn error_of(kind: EncodeErrorKind) -> EncodeError {
     }
 }
 
+/// The kinds that tell numbers, likewise.
+fn numbered() -> [(EncodeErrorKind, &'static str); 3] {
+    [
+        (
+            EncodeErrorKind::SizeConstraintNotSatisfied(OutOfSize {
+                size: 4,
+                lower: Some(1),
+                upper: Some(3),
+            }),
+            "SizeConstraintNotSatisfied: the size 4 is not in 1..3 (Uper)",
+        ),
+        (
+            EncodeErrorKind::ValueConstraintNotSatisfied(OutOfBounds::new(
+                Some(-16),
+                None,
+                Some(10),
+            )),
+            "ValueConstraintNotSatisfied: -16 is not in MIN..10 (Uper)",
+        ),
+        (
+            EncodeErrorKind::ValueConstraintNotSatisfied(OutOfBounds::new(None, Some(1), None)),
+            "ValueConstraintNotSatisfied: a number past 128 bits is not in 1..MAX (Uper)",
+        ),
+    ]
+}
+
 #[test]
 fn tells_its_errors(rt: HostRuntime) -> Result<(), Fail> {
-    for (kind, text) in ROWS {
+    let numbered = numbered();
+    for (kind, text) in ROWS.iter().chain(&numbered) {
         let (name, error) = (kind.name(), error_of(*kind));
         let shown = format!(in rt.alloc(); "{name}: {error}")?;
         assert_eq!(rt; shown.as_str(), *text);
@@ -82,6 +99,12 @@ fn shows_its_errors_and_options(rt: HostRuntime) -> Result<(), Fail> {
     assert_eq!(rt;
         shown.as_str(),
         "EncodeError { kind: OutOfMemory, codec: Uper }, EncoderOptions { codec: Uper }"
+    );
+    let kind = EncodeErrorKind::ValueConstraintNotSatisfied(OutOfBounds::new(None, Some(-1), None));
+    let shown = format!(in rt.alloc(); "{kind:?}")?;
+    assert_eq!(rt;
+        shown.as_str(),
+        "ValueConstraintNotSatisfied(OutOfBounds { value: None, lower: Some(-1), upper: None })"
     );
     Ok(())
 }

@@ -3,6 +3,9 @@
 use crate::calls::{read_of, written_of};
 use crate::expected::{expect_unread, expect_unwritten};
 use per_enc::EncodeErrorKind;
+use per_errors::bounds::OutOfBounds;
+use per_errors::count::Count;
+use per_errors::sizes::OutOfSize;
 use per_read::error::DecodeErrorKind;
 use rasn_below::codec::Decode;
 use rasn_below::types::{OctetString, VisibleString};
@@ -27,66 +30,98 @@ const FIVE: &[Constraint] = constraints!(FROM A_TO_E, SIZE 1..=20);
 const ONE_OF_FIVE: &[Constraint] = constraints!(FROM A_TO_E, SIZE 1..=1);
 
 /// Octets that are read as no value of a type under constraints, and why.
-type Rows = &'static [(&'static [Constraint], &'static [u8], DecodeErrorKind)];
+type Row = (&'static [Constraint], &'static [u8], DecodeErrorKind);
 
-const NUMBERS: Rows = &[
-    // a fragment of 16384 octets, of which one is there
-    (
-        constraints!(),
-        &[0xc1, 0x00],
-        DecodeErrorKind::Incomplete(131_064),
-    ),
-    (
-        FROM_1_TO_10,
-        &[0x78],
-        DecodeErrorKind::ValueConstraintNotSatisfied(Some(16), Some(1), Some(10)),
-    ),
-    // 2 to the power 127 is named by its absence
-    (
-        UP_TO_65535,
-        &[0x11, 0, 0x80, 0, 0, 0, 0, 0, 0, 0, 0, 0, 0, 0, 0, 0, 0, 0],
-        DecodeErrorKind::ValueConstraintNotSatisfied(None, None, Some(65535)),
-    ),
-];
+fn numbers() -> [Row; 3] {
+    [
+        // a fragment of 16384 octets, of which one is there
+        (
+            constraints!(),
+            &[0xc1, 0x00],
+            DecodeErrorKind::Incomplete(Count::new(131_064)),
+        ),
+        (
+            FROM_1_TO_10,
+            &[0x78],
+            DecodeErrorKind::ValueConstraintNotSatisfied(OutOfBounds::new(
+                Some(16),
+                Some(1),
+                Some(10),
+            )),
+        ),
+        // 2 to the power 127 is named by its absence
+        (
+            UP_TO_65535,
+            &[0x11, 0, 0x80, 0, 0, 0, 0, 0, 0, 0, 0, 0, 0, 0, 0, 0, 0, 0],
+            DecodeErrorKind::ValueConstraintNotSatisfied(OutOfBounds::new(None, None, Some(65535))),
+        ),
+    ]
+}
 
-const OCTETS: Rows = &[
-    (
-        UP_TO_4,
-        &[0x06, 1, 2, 3, 4, 5, 6],
-        DecodeErrorKind::SizeConstraintNotSatisfied(6, None, Some(4)),
-    ),
-    // the octets are read before their count is checked
-    (
-        UP_TO_4,
-        &[0x06, 1, 2, 3, 4, 5],
-        DecodeErrorKind::Incomplete(8),
-    ),
-];
+fn octets() -> [Row; 2] {
+    [
+        (
+            UP_TO_4,
+            &[0x06, 1, 2, 3, 4, 5, 6],
+            DecodeErrorKind::SizeConstraintNotSatisfied(OutOfSize {
+                size: 6,
+                lower: None,
+                upper: Some(4),
+            }),
+        ),
+        // the octets are read before their count is checked
+        (
+            UP_TO_4,
+            &[0x06, 1, 2, 3, 4, 5],
+            DecodeErrorKind::Incomplete(Count::new(8)),
+        ),
+    ]
+}
 
-const STRINGS: Rows = &[
-    // a code without a character in a string that is too long
-    (
-        FIVE,
-        &[
-            0xff, 0xff, 0xff, 0xff, 0xff, 0xff, 0xff, 0xff, 0xff, 0xff, 0xff, 0xff, 0xff,
-        ],
-        DecodeErrorKind::SizeConstraintNotSatisfied(32, Some(1), Some(20)),
-    ),
-    // three characters of seven bits, of which none is there
-    (constraints!(), &[0x03], DecodeErrorKind::Incomplete(21)),
-];
+fn strings() -> [Row; 2] {
+    [
+        // a code without a character in a string that is too long
+        (
+            FIVE,
+            &[
+                0xff, 0xff, 0xff, 0xff, 0xff, 0xff, 0xff, 0xff, 0xff, 0xff, 0xff, 0xff, 0xff,
+            ],
+            DecodeErrorKind::SizeConstraintNotSatisfied(OutOfSize {
+                size: 32,
+                lower: Some(1),
+                upper: Some(20),
+            }),
+        ),
+        // three characters of seven bits, of which none is there
+        (
+            constraints!(),
+            &[0x03],
+            DecodeErrorKind::Incomplete(Count::new(21)),
+        ),
+    ]
+}
 
-const LISTS: Rows = &[
-    (
-        FROM_1_TO_300,
-        &[0x96, 0x00],
-        DecodeErrorKind::SizeConstraintNotSatisfied(301, Some(1), Some(300)),
-    ),
-    // behind a fragment a further length stands
-    (constraints!(), &[0xc1], DecodeErrorKind::Incomplete(1)),
-];
+fn lists() -> [Row; 2] {
+    [
+        (
+            FROM_1_TO_300,
+            &[0x96, 0x00],
+            DecodeErrorKind::SizeConstraintNotSatisfied(OutOfSize {
+                size: 301,
+                lower: Some(1),
+                upper: Some(300),
+            }),
+        ),
+        // behind a fragment a further length stands
+        (
+            constraints!(),
+            &[0xc1],
+            DecodeErrorKind::Incomplete(Count::new(1)),
+        ),
+    ]
+}
 
-fn expect_refusals<T: Decode>(rt: &impl Abort, alloc: Global, rows: Rows) {
+fn expect_refusals<T: Decode>(rt: &impl Abort, alloc: Global, rows: &[Row]) {
     for (constraints, octets, kind) in rows {
         let read = read_of::<T>(alloc, octets, constraints);
         expect_unread(rt, read.err(), *kind);
@@ -95,16 +130,17 @@ fn expect_refusals<T: Decode>(rt: &impl Abort, alloc: Global, rows: Rows) {
 
 #[test]
 fn names_why_octets_are_no_value(rt: HostRuntime) {
-    expect_refusals::<i128>(&rt, rt.alloc(), NUMBERS);
-    expect_refusals::<OctetString>(&rt, rt.alloc(), OCTETS);
-    expect_refusals::<VisibleString>(&rt, rt.alloc(), STRINGS);
-    expect_refusals::<Vec<()>>(&rt, rt.alloc(), LISTS);
+    expect_refusals::<i128>(&rt, rt.alloc(), &numbers());
+    expect_refusals::<OctetString>(&rt, rt.alloc(), &octets());
+    expect_refusals::<VisibleString>(&rt, rt.alloc(), &strings());
+    expect_refusals::<Vec<()>>(&rt, rt.alloc(), &lists());
 }
 
 #[test]
 fn names_why_a_number_is_not_written(rt: HostRuntime) {
     let written = written_of(rt.alloc(), &16_i128, BOUNDED);
-    let kind = EncodeErrorKind::ValueConstraintNotSatisfied(Some(16), Some(1), Some(10));
+    let told = OutOfBounds::new(Some(16), Some(1), Some(10));
+    let kind = EncodeErrorKind::ValueConstraintNotSatisfied(told);
     expect_unwritten(&rt, written.err(), kind);
 }
 
@@ -120,7 +156,12 @@ fn names_why_a_string_is_not_written(rt: HostRuntime) -> Result<(), AllocError> 
             EncodeErrorKind::AlphabetConstraintNotSatisfied,
         );
         let long = written_of(rt.alloc(), &string, ONE_OF_FIVE).err();
-        let kind = EncodeErrorKind::SizeConstraintNotSatisfied(2, Some(1), Some(1));
+        let told = OutOfSize {
+            size: 2,
+            lower: Some(1),
+            upper: Some(1),
+        };
+        let kind = EncodeErrorKind::SizeConstraintNotSatisfied(told);
         expect_unwritten(&rt, long, kind);
     }
     Ok(())

@@ -27,8 +27,8 @@ use Rattle.per_versions.specs.Answers.{Passes}
 use Rattle.per_versions.specs.Readings.{depth_of}
 
 out_of_memory : (k : EncodeErrorKind) → (k ≢ OutOfMemory → ⊥) → k ≡ OutOfMemory
-out_of_memory (SizeConstraintNotSatisfied n l u) h = absurd (h (λ e. cc))
-out_of_memory (ValueConstraintNotSatisfied n l u) h = absurd (h (λ e. cc))
+out_of_memory (SizeConstraintNotSatisfied told) h = absurd (h (λ e. cc))
+out_of_memory (ValueConstraintNotSatisfied told) h = absurd (h (λ e. cc))
 out_of_memory AlphabetConstraintNotSatisfied h = absurd (h (λ e. cc))
 out_of_memory IntegerTypeConversionFailed h = absurd (h (λ e. cc))
 out_of_memory VariantNotInChoice h = absurd (h (λ e. cc))

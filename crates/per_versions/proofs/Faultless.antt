@@ -11,6 +11,7 @@ use Rattle.rasn_constraints.specs.Bounds.{allows, holds, not_below, not_above, f
 use Rattle.rasn_schema.specs.Absent.{no_value}
 use Rattle.rasn_schema.specs.Depth.{meets_cut}
 use Rattle.rasn_schema.specs.Lawful.{IsLawful}
+use Rattle.per_errors.specs.Bounds.{value_of, lower_of, upper_of}
 use Rattle.per_laws.proofs.Named.{normal_allowed}
 use Rattle.rasn_schema.specs.Normal.{normal, normal_at, normal_bits, over_alternative, over_bag}
 use Rattle.rasn_schema.specs.Schemas
@@ -251,8 +252,8 @@ module _ (a : Settings) (u : Bool) (s : Schema) (w : Value) (r : IsRead a u s w)
 
   -- one fault at most: a number past an i128
   pub one_fault : (kind : EncodeErrorKind) → IsLawful s → IsInValue kind s w → kind ≡ IntegerTypeConversionFailed
-  one_fault (SizeConstraintNotSatisfied n l h) g f = absurd (any_schema (IsOutOfSize n l h) (within_size a u n l h) g f)
-  one_fault (ValueConstraintNotSatisfied n l h) g f = absurd (any_schema (IsOutOfBounds n l h) (within_bounds a u n l h) g f)
+  one_fault (SizeConstraintNotSatisfied told) g f = absurd (any_schema (IsOutOfSize told.size told.lower told.upper) (within_size a u told.size told.lower told.upper) g f)
+  one_fault (ValueConstraintNotSatisfied told) g f = absurd (any_schema (IsOutOfBounds (value_of told) (lower_of told) (upper_of told)) (within_bounds a u (value_of told) (lower_of told) (upper_of told)) g f)
   one_fault AlphabetConstraintNotSatisfied g f = absurd (any_schema IsForeign (permitted a u) g f)
   one_fault IntegerTypeConversionFailed g f = refl
   one_fault RealNotSupported g f = absurd (any_schema IsReal (not_real a u) g f)

@@ -210,11 +210,11 @@ wrote_outside writers kind size under mark x m y e d h v w =
 -- a count that is refused
 pub refuses_count : (size : Size) (mark : Bool) (fault : EncodeErrorKind → Type 0) (items : List Writer) (e : EncodeError) (x : State) (lower upper : Option ℕ) (n : ℕ) →
     n ≡ length items → mark ≡ false → size ≡ record { least = lower; most = upper } → allows (record { least = lower; most = upper }) (length items) ≡ false →
-    IsError (SizeConstraintNotSatisfied n lower upper) e x → RefusesCounted size mark fault items e x
+    IsError (SizeConstraintNotSatisfied (record { size = n; lower = lower; upper = upper })) e x → RefusesCounted size mark fault items e x
 refuses_count size mark fault items e x lower upper n d m s h i =
     wrong_count m (record {
       out_of_size = ap (λ (t : Size). allows t (length items)) s ∙ h;
       count_is = refl;
       lower_is = sym (ap (λ (t : Size). t.least) s);
       upper_is = sym (ap (λ (t : Size). t.most) s);
-    }) (subst (λ (k : ℕ). IsError (SizeConstraintNotSatisfied k lower upper) e x) d i)
+    }) (subst (λ (k : ℕ). IsError (SizeConstraintNotSatisfied (record { size = k; lower = lower; upper = upper })) e x) d i)

@@ -200,7 +200,7 @@ begins_outside size under mark x m y count l small e d h v w = record { counted 
 
 -- a count that is refused
 pub refuses_count_of : (size : Size) (mark : Bool) (e : EncodeError) (x : State) (lower upper : Option ℕ) (count : ℕ) → mark ≡ false → size ≡ record { least = lower; most = upper } →
-    allows (record { least = lower; most = upper }) count ≡ false → IsError (SizeConstraintNotSatisfied count lower upper) e x → RefusesCount size mark count e x
+    allows (record { least = lower; most = upper }) count ≡ false → IsError (SizeConstraintNotSatisfied (record { size = count; lower = lower; upper = upper })) e x → RefusesCount size mark count e x
 refuses_count_of size mark e x lower upper count m s h i = count_outside m (record {
   out_of_size = ap (λ (t : Size). allows t count) s ∙ h;
   count_is = refl;
@@ -283,18 +283,18 @@ list_begun size mark count x y l h e vs k =
 
 -- a count is refused
 list_of_count : (x : State) (e : Schema) (size : Size) (mark : Bool) (vs : List Value) (lower upper : Option ℕ) → mark ≡ false → OutsideSize size (length vs) (length vs) lower upper →
-    Stands (SizeConstraintNotSatisfied (length vs) lower upper) x (Schema.list e size mark) (list_value vs)
+    Stands (SizeConstraintNotSatisfied (record { size = length vs; lower = lower; upper = upper })) x (Schema.list e size mark) (list_value vs)
 list_of_count x e size true vs lower upper m o = absurd cc
 list_of_count x e size false vs lower upper m o = at_once (subst (λ (ws : List Value). OutsideSize size (length ws) (length vs) lower upper) (sym (values-as_values vs)) o)
 
 count_refused : (size : Size) (mark : Bool) (x : State) (d : EncodeError) (e : Schema) (vs : List Value) (count : ℕ) (lower upper : Option ℕ) → length vs ≡ count → mark ≡ false → OutsideSize size count count lower upper →
-    IsError (SizeConstraintNotSatisfied count lower upper) d x → RefusesValue d x (Schema.list e size mark) (list_value vs)
+    IsError (SizeConstraintNotSatisfied (record { size = count; lower = lower; upper = upper })) d x → RefusesValue d x (Schema.list e size mark) (list_value vs)
 count_refused size mark x d e vs count lower upper k m o h =
     let a = variant_of x.codec in
     let n : length (map (canon a e) vs) ≡ count = length-forms (canon a e) vs ∙ k in record {
       none = λ f p. sym (list_form a e size mark vs p) ∙ none_outside a size mark list_items (map (canon a e) vs) m (ap (allows size) n ∙ o.out_of_size) p;
       stands = subst (λ q. Stands q x (Schema.list e size mark) (list_value vs)) (sym h.kind_is)
-          (subst (λ (i : ℕ). Stands (SizeConstraintNotSatisfied i lower upper) x (Schema.list e size mark) (list_value vs)) k
+          (subst (λ (i : ℕ). Stands (SizeConstraintNotSatisfied (record { size = i; lower = lower; upper = upper })) x (Schema.list e size mark) (list_value vs)) k
           (list_of_count x e size mark vs lower upper m (subst (λ (i : ℕ). OutsideSize size i i lower upper) (sym k) o)));
       codec_is = h.codec_is;
     }
@@ -310,10 +310,10 @@ element_in (w ∷ front) v vs = element_behind (element_in front v vs)
 
 stands_in_element : (kind : EncodeErrorKind) (x y : State) (e : Schema) (size : Size) (mark : Bool) (v : Value) (vs : List Value) → y.failed ≡ false → HasElement v vs → Stands kind y e v →
     Stands kind x (Schema.list e size mark) (list_value vs)
-stands_in_element (ValueConstraintNotSatisfied value lower upper) x y e size mark v vs f h k = in_element h k
+stands_in_element (ValueConstraintNotSatisfied told) x y e size mark v vs f h k = in_element h k
 stands_in_element IntegerTypeConversionFailed x y e size mark v vs f h k = in_element h k
 stands_in_element AlreadyFailed x y e size mark v vs f h k = absurd cc
-stands_in_element (SizeConstraintNotSatisfied length lower upper) x y e size mark v vs f h k = in_element h k
+stands_in_element (SizeConstraintNotSatisfied told) x y e size mark v vs f h k = in_element h k
 stands_in_element AlphabetConstraintNotSatisfied x y e size mark v vs f h k = in_element h k
 stands_in_element VariantNotInChoice x y e size mark v vs f h k = absurd k
 stands_in_element RealNotSupported x y e size mark v vs f h k = in_element h k

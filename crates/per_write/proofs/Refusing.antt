@@ -98,7 +98,7 @@ none_outside a size false kind ws m h p = ap (λ (b : Bool). written_if b (count
 -- what a call that writes counted items owes, where they are a value of a schema
 module _ (x y : State) (s : Schema) (v : Value) (size : Size) (mark : Bool) (kind : ItemKind) (fault : EncodeErrorKind → Type 0) (ws : List Writer)
     (same : (p : ℕ) → counted (variant_of x.codec) size mark kind ws p ≡ canon (variant_of x.codec) s v p)
-    (of_count : (lower upper : Option ℕ) → mark ≡ false → OutsideSize size (length ws) (length ws) lower upper → Stands (SizeConstraintNotSatisfied (length ws) lower upper) x s v)
+    (of_count : (lower upper : Option ℕ) → mark ≡ false → OutsideSize size (length ws) (length ws) lower upper → Stands (SizeConstraintNotSatisfied (record { size = length ws; lower = lower; upper = upper })) x s v)
     (of_item : (k : EncodeErrorKind) → (mark || allows size (length ws)) ≡ true → fault k → Stands k x s v) where
   refuses_counted : (e : EncodeError) → RefusesCounted size mark fault ws e x → IsMemory e x ⊎ RefusesValue e x s v
   refuses_counted e (no_memory h) = inl h
@@ -124,7 +124,7 @@ unfolding canon
 octet_string_form a size mark os p = refl
 
 octet_count : (x : State) (size : Size) (mark : Bool) (os : List ℕ) (lower upper : Option ℕ) → mark ≡ false → OutsideSize size (length (octet_writers os)) (length (octet_writers os)) lower upper →
-    Stands (SizeConstraintNotSatisfied (length (octet_writers os)) lower upper) x (Schema.octet_string size mark) (octets os)
+    Stands (SizeConstraintNotSatisfied (record { size = length (octet_writers os); lower = lower; upper = upper })) x (Schema.octet_string size mark) (octets os)
 octet_count x size true os lower upper m o = absurd cc
 octet_count x size false os lower upper m o = at_once (subst (λ (n : ℕ). OutsideSize size n (length (octet_writers os)) lower upper) (length-octet_writers os) o)
 
@@ -140,7 +140,7 @@ unfolding canon
 bit_string_form a size mark named bs p = refl
 
 bit_count : (x : State) (size : Size) (mark named : Bool) (bs : Bits) (lower upper : Option ℕ) → mark ≡ false → OutsideSize size (length (bit_writers bs)) (length (bit_writers bs)) lower upper →
-    Stands (SizeConstraintNotSatisfied (length (bit_writers bs)) lower upper) x (Schema.bit_string size mark named) (bits bs)
+    Stands (SizeConstraintNotSatisfied (record { size = length (bit_writers bs); lower = lower; upper = upper })) x (Schema.bit_string size mark named) (bits bs)
 bit_count x size true named bs lower upper m o = absurd cc
 bit_count x size false named bs lower upper m o = at_once (subst (λ (n : ℕ). OutsideSize size n (length (bit_writers bs)) lower upper) (length-bit_writers bs) o)
 
@@ -158,7 +158,7 @@ char_string_form a alphabet size mark cs p = refl
 
 char_count : (x : State) (a : Variant) (alphabet : List ℕ) (size : Size) (mark : Bool) (cs : List ℕ) (lower upper : Option ℕ) → mark ≡ false →
     OutsideSize size (length (char_writers a alphabet cs)) (length (char_writers a alphabet cs)) lower upper →
-    Stands (SizeConstraintNotSatisfied (length (char_writers a alphabet cs)) lower upper) x (Schema.char_string alphabet size mark) (characters cs)
+    Stands (SizeConstraintNotSatisfied (record { size = length (char_writers a alphabet cs); lower = lower; upper = upper })) x (Schema.char_string alphabet size mark) (characters cs)
 char_count x a alphabet size true cs lower upper m o = absurd cc
 char_count x a alphabet size false cs lower upper m o = at_once (subst (λ (n : ℕ). OutsideSize size n (length (char_writers a alphabet cs)) lower upper) (length-char_writers a alphabet cs) o)
 

@@ -15,6 +15,7 @@ use Rattle.rasn_schema.specs.Records.{record_value}
 use Rattle.rasn_schema.specs.Schemas.{by_tag, Schema, Parts, part, Presence, TagTree}
 use Rattle.rasn_traits.specs.Additions.{extended}
 use Rattle.per_core.specs.Canon.{canon, shown}
+use Rattle.per_errors.specs.Bounds.{value_of, lower_of, upper_of}
 use Rattle.per_write.specs.State.{State}
 use Rattle.per_write.specs.declared.error.EncodeError.{EncodeError}
 use Rattle.per_write.specs.declared.error.EncodeErrorKind.{EncodeErrorKind}
@@ -153,8 +154,9 @@ pub data StandsIn (fault : Schema → Value → Type 0) : Schema → Value → T
 -- Where a kind's fault stands in a value. No list of additions is longer than its schema's, and no choice that a lawful
 -- type writes has a tag of none of its alternatives; want of memory and an earlier refusal are none of a value.
 abbrev pub IsInValue : EncodeErrorKind → Schema → Value → Type 0
-IsInValue (SizeConstraintNotSatisfied length lower upper) s v = StandsIn (IsOutOfSize length lower upper) s v
-IsInValue (ValueConstraintNotSatisfied value lower upper) s v = StandsIn (IsOutOfBounds value lower upper) s v
+IsInValue (SizeConstraintNotSatisfied told) s v = StandsIn (IsOutOfSize told.size told.lower told.upper) s v
+IsInValue (ValueConstraintNotSatisfied told) s v =
+    StandsIn (IsOutOfBounds (value_of told) (lower_of told) (upper_of told)) s v
 IsInValue AlphabetConstraintNotSatisfied s v = StandsIn IsForeign s v
 IsInValue IntegerTypeConversionFailed s v = StandsIn IsPastBounds s v
 IsInValue VariantNotInChoice s v = ⊥

@@ -45,7 +45,8 @@ pub data RefusesCounted (size : Size) (mark : Bool) (fault : EncodeErrorKind →
     (e : EncodeError) (x : State) : Type 0 where
   no_memory : IsMemory e x → RefusesCounted size mark fault items e x
   wrong_count : {lower upper : Option ℕ} → mark ≡ false → OutsideSize size (length items) (length items) lower upper →
-      IsError (SizeConstraintNotSatisfied (length items) lower upper) e x → RefusesCounted size mark fault items e x
+      IsError (SizeConstraintNotSatisfied (record { size = length items; lower = lower; upper = upper })) e x
+      → RefusesCounted size mark fault items e x
   wrong_item : (mark || allows size (length items)) ≡ true → RefusesItem fault items e x
       → RefusesCounted size mark fault items e x
 

@@ -77,7 +77,8 @@ pub record EntersItems (errors : EncodeError → State → Type 0) (form : Varia
 pub data RefusesCount (size : Size) (mark : Bool) (count : ℕ) (e : EncodeError) (x : State) : Type 0 where
   count_memory : IsMemory e x → RefusesCount size mark count e x
   count_outside : {lower upper : Option ℕ} → mark ≡ false → OutsideSize size count count lower upper →
-      IsError (SizeConstraintNotSatisfied count lower upper) e x → RefusesCount size mark count e x
+      IsError (SizeConstraintNotSatisfied (record { size = count; lower = lower; upper = upper })) e x
+      → RefusesCount size mark count e x
 
 -- A list is open, which began at x: its last elements are still to be written, and with them it has its canonical bits.
 -- Something is open until it is closed.

@@ -9,8 +9,8 @@ use Rattle.per_write.specs.declared.error.EncodeErrorKind.TheVariants.{RealNotSu
 use Rattle.per_write.specs.declared.error.EncodeErrorKind.TheVariants.{AlreadyFailed, OutOfMemory, OutOfTurn}
 
 abbrev pub name_of : EncodeErrorKind → List ℕ
-name_of (SizeConstraintNotSatisfied length lower upper) = codes "SizeConstraintNotSatisfied"
-name_of (ValueConstraintNotSatisfied value lower upper) = codes "ValueConstraintNotSatisfied"
+name_of (SizeConstraintNotSatisfied told) = codes "SizeConstraintNotSatisfied"
+name_of (ValueConstraintNotSatisfied told) = codes "ValueConstraintNotSatisfied"
 name_of AlphabetConstraintNotSatisfied = codes "AlphabetConstraintNotSatisfied"
 name_of IntegerTypeConversionFailed = codes "IntegerTypeConversionFailed"
 name_of VariantNotInChoice = codes "VariantNotInChoice"

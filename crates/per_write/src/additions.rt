@@ -66,7 +66,8 @@ impl<A: Allocator + Clone> Writer<A> {
         ensures { SkipsOrNot self.old result self.new }
     {
         let additions = self.take_additions()?;
-        self.give_addition(additions, false)
+        self.give_addition(additions, false)?;
+        Ok(())
     }
 
     /// Opens the open type of the next addition of the open SEQUENCE: its contents are written from position 0 on.
@@ -101,7 +102,8 @@ impl<A: Allocator + Clone> Writer<A> {
         } = outside;
         let additions = self.put_addition(additions, pieces)?;
         self.presences = presences;
-        self.give_addition(additions, true)
+        self.give_addition(additions, true)?;
+        Ok(())
     }
 
     /// Closes the open type of an addition group. Where none of its parts is required, and all bits that were written
@@ -126,7 +128,8 @@ impl<A: Allocator + Clone> Writer<A> {
         } = outside;
         self.scratch = mem::replace(&mut self.pieces, pieces).into_placed().ok();
         self.presences = presences;
-        self.give_addition(additions, false)
+        self.give_addition(additions, false)?;
+        Ok(())
     }
 
     /// Puts what was written, as the contents of an open type (X.691 11.2), behind the open types of other additions.
@@ -228,7 +231,8 @@ impl<A: Allocator + Clone> Writer<A> {
         self.pieces.set(additions.extension, true);
         self.put_bitmap(&additions.flags, additions.count)?;
         self.put_padding()?;
-        self.put_reader(&BitReader::new(&additions.opens))
+        self.put_reader(&BitReader::new(&additions.opens))?;
+        Ok(())
     }
 
     /// Writes zero bits up to the next octet in the aligned variant.
@@ -238,7 +242,8 @@ impl<A: Allocator + Clone> Writer<A> {
         ensures { PutsIn IsMemory padding self.old result self.new }
     {
         let pushed = push_padding(&mut self.pieces, self.codec);
-        self.unless_out_of_memory(pushed)
+        self.unless_out_of_memory(pushed)?;
+        Ok(())
     }
 }
 

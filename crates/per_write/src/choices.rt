@@ -63,7 +63,8 @@ impl<A: Allocator + Clone> Writer<A> {
             return Ok(());
         }
         let pushed = push_padding(&mut self.pieces, self.codec);
-        self.unless_out_of_memory(pushed)
+        self.unless_out_of_memory(pushed)?;
+        Ok(())
     }
 }
 

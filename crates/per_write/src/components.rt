@@ -108,7 +108,8 @@ impl<A: Allocator + Clone> Writer<A> {
             return Err(self.refuse(EncodeErrorKind::OutOfTurn));
         };
         let pushed = push_set_root(&mut self.pieces, fields, &components);
-        self.unless_out_of_memory(pushed)
+        self.unless_out_of_memory(pushed)?;
+        Ok(())
     }
 }
 

@@ -3,6 +3,8 @@
 ghost use Rattle.std.specs.Prelude.{◌≡◌};
 ghost use Rattle.per_write.specs.Names.{name_of};
 
+use per_errors::bounds::OutOfBounds;
+use per_errors::sizes::OutOfSize;
 use rasn_types::types::Codec;
 use std::fmt;
 use thiserror::Error;
@@ -22,14 +24,16 @@ pub struct EncodeError {
 pub enum EncodeErrorKind {
     /// The size of a string or a list is outside bounds that aren't extensible (X.691 16 to 20, 30): the size, and the
     /// bounds.
-    #[error("the size {0} is not in {lower}..{upper}", lower = Known(*.1, "MIN"), upper = Known(*.2, "MAX"))]
-    SizeConstraintNotSatisfied(usize, Option<usize>, Option<usize>),
+    #[error("the size {size} is not in {lower}..{upper}", size = .0.size,
+    // The bounds.
+    lower = Known(.0.lower, "MIN"), upper = Known(.0.upper, "MAX"))]
+    SizeConstraintNotSatisfied(OutOfSize),
     /// A number is outside bounds that aren't extensible (X.691 13): the number, absent where it passes an `i128`, and
     /// the bounds.
-    #[error("{number} is not in {lower}..{upper}", number = Known(*.0, "a number past 128 bits"),
+    #[error("{number} is not in {lower}..{upper}", number = Known(.0.value(), "a number past 128 bits"),
     // The bounds.
-    lower = Known(*.1, "MIN"), upper = Known(*.2, "MAX"))]
-    ValueConstraintNotSatisfied(Option<i128>, Option<i128>, Option<i128>),
+    lower = Known(.0.lower(), "MIN"), upper = Known(.0.upper(), "MAX"))]
+    ValueConstraintNotSatisfied(OutOfBounds),
     /// A character is not permitted (X.691 30.5).
     #[error("a character is not in the permitted alphabet")]
     AlphabetConstraintNotSatisfied,

@@ -214,7 +214,8 @@ impl<A: Allocator + Clone> Writer<A> {
         ensures { Puts IsMemory (just (bit ∷ [])) self.old result self.new }
     {
         let pushed = self.pieces.push(bit);
-        self.unless_out_of_memory(pushed)
+        self.unless_out_of_memory(pushed)?;
+        Ok(())
     }
 
     /// Writes the low `width` bits of a number, highest first (X.691 11.3).
@@ -225,7 +226,8 @@ impl<A: Allocator + Clone> Writer<A> {
         ensures { Puts IsMemory (just (to_bits width number)) self.old result self.new }
     {
         let pushed = self.pieces.push_bits(number, width);
-        self.unless_out_of_memory(pushed)
+        self.unless_out_of_memory(pushed)?;
+        Ok(())
     }
 
     /// Writes the low `width` bits of each octet, highest first.
@@ -235,7 +237,8 @@ impl<A: Allocator + Clone> Writer<A> {
         ensures { Puts IsMemory (just (low_bits_of width octets.now)) self.old result self.new }
     {
         let pushed = self.pieces.push_low_bits(octets, width);
-        self.unless_out_of_memory(pushed)
+        self.unless_out_of_memory(pushed)?;
+        Ok(())
     }
 
     /// Writes the bits that a reader has left.
@@ -244,7 +247,8 @@ impl<A: Allocator + Clone> Writer<A> {
         ensures { Puts IsMemory (just reader.now.bits) self.old result self.new }
     {
         let pushed = self.pieces.push_reader(reader);
-        self.unless_out_of_memory(pushed)
+        self.unless_out_of_memory(pushed)?;
+        Ok(())
     }
 
     /// Writes octets with no length.
@@ -253,7 +257,8 @@ impl<A: Allocator + Clone> Writer<A> {
         ensures { Puts IsMemory (one_by_one (octet_writers octets.now)) self.old result self.new }
     {
         let pushed = self.pieces.push_octets(octets);
-        self.unless_out_of_memory(pushed)
+        self.unless_out_of_memory(pushed)?;
+        Ok(())
     }
 
     /// Writes octets behind an unconstrained length (X.691 11.9.3.5 to 11.9.3.8).
@@ -261,7 +266,8 @@ impl<A: Allocator + Clone> Writer<A> {
         requires { self.old.failed ≡ false }
         ensures { Puts IsMemory (unconstrained_octets (variant_of self.old.codec) octets.now) self.old result self.new }
     {
-        self.put_unconstrained_items(&Octets(octets))
+        self.put_unconstrained_items(&Octets(octets))?;
+        Ok(())
     }
 
     /// What was made, unless memory ran out; then the writer has failed.

@@ -13,6 +13,7 @@ ghost use Rattle.per_write.specs.Rules.{encoder_rules};
 use crate::Writer;
 use crate::error::{EncodeError, EncodeErrorKind};
 use per_core::lengths::{FRAGMENT, constrained_bounds};
+use per_errors::sizes::OutOfSize;
 use rasn_schema::constraints::{Bounded, Extensible};
 use rasn_schema::schema::Constraints;
 use std::alloc::Allocator;
@@ -118,7 +119,12 @@ fn begin_counted<A: Allocator + Clone>(
             begin_fragment(writer, count, around)
         }
         (false, false) => {
-            let kind = EncodeErrorKind::SizeConstraintNotSatisfied(count, lower, upper);
+            let told = OutOfSize {
+                size: count,
+                lower,
+                upper,
+            };
+            let kind = EncodeErrorKind::SizeConstraintNotSatisfied(told);
             Err(writer.refuse(kind))
         }
     }

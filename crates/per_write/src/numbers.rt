@@ -31,7 +31,8 @@ impl<A: Allocator + Clone> Writer<A> {
             return self.put_octets(&octets);
         };
         let pushed = push_unconstrained_whole(&mut self.pieces, self.codec, number);
-        self.unless_out_of_memory(pushed)
+        self.unless_out_of_memory(pushed)?;
+        Ok(())
     }
 
     /// Writes a number of an `i128` that is within bounds (X.691 13.2).
@@ -67,7 +68,8 @@ impl<A: Allocator + Clone> Writer<A> {
         if !extensible {
             return Ok(());
         }
-        self.put_bit(extended)
+        self.put_bit(extended)?;
+        Ok(())
     }
 
     /// Writes a normally small number (X.691 11.6).
@@ -76,7 +78,8 @@ impl<A: Allocator + Clone> Writer<A> {
         ensures { PutsIn IsMemory (λ a. small a number) self.old result self.new }
     {
         let pushed = push_small(&mut self.pieces, self.codec, number);
-        self.unless_out_of_memory(pushed)
+        self.unless_out_of_memory(pushed)?;
+        Ok(())
     }
 
     /// Writes one of the numbers from 0 to `greatest`, a constrained whole number (X.691 11.5).
@@ -87,7 +90,8 @@ impl<A: Allocator + Clone> Writer<A> {
         ensures { PutsIn IsMemory (λ a. constrained_whole a (greatest + 1) offset) self.old result self.new }
     {
         let pushed = push_constrained_whole(&mut self.pieces, self.codec, greatest, offset);
-        self.unless_out_of_memory(pushed)
+        self.unless_out_of_memory(pushed)?;
+        Ok(())
     }
 }
 

@@ -22,7 +22,8 @@ impl<A: Allocator + Clone> Writer<A> {
         if contents.is_empty() {
             return self.put_octets(&[0]);
         }
-        self.put_octets(contents.as_octets())
+        self.put_octets(contents.as_octets())?;
+        Ok(())
     }
 
     /// Writes an open type (X.691 11.2) whose contents were written before.

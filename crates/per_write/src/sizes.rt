@@ -12,6 +12,7 @@ use crate::Writer;
 use crate::error::{EncodeError, EncodeErrorKind};
 use crate::items::Items;
 use per_core::lengths::{FRAGMENT, constrained_bounds};
+use per_errors::sizes::OutOfSize;
 use per_pieces::lengths::{push_constrained_length, push_unconstrained_length};
 use rasn_schema::constraints::{Bounded, Extensible};
 use std::alloc::Allocator;
@@ -41,7 +42,12 @@ impl<A: Allocator + Clone> Writer<A> {
                 self.put_unconstrained_items(items)
             }
             (false, false) => {
-                let kind = EncodeErrorKind::SizeConstraintNotSatisfied(count, lower, upper);
+                let told = OutOfSize {
+                    size: count,
+                    lower,
+                    upper,
+                };
+                let kind = EncodeErrorKind::SizeConstraintNotSatisfied(told);
                 Err(self.refuse(kind))
             }
         }
@@ -83,7 +89,8 @@ impl<A: Allocator + Clone> Writer<A> {
             self.put_fragment(items, start, end)?;
             start = end;
         }
-        self.put_fragment(items, start, count)
+        self.put_fragment(items, start, count)?;
+        Ok(())
     }
 
     /// Writes the items from an index on and before another, behind one length.
@@ -108,7 +115,8 @@ impl<A: Allocator + Clone> Writer<A> {
         ensures { PutsIn IsMemory (λ a. unconstrained_length a count) self.old result self.new }
     {
         let pushed = push_unconstrained_length(&mut self.pieces, self.codec, count);
-        self.unless_out_of_memory(pushed)
+        self.unless_out_of_memory(pushed)?;
+        Ok(())
     }
 
     /// Writes how many items follow, as a constrained whole number, and the padding in front of items that begin on an
@@ -134,6 +142,7 @@ impl<A: Allocator + Clone> Writer<A> {
             count,
             on_octet,
         );
-        self.unless_out_of_memory(pushed)
+        self.unless_out_of_memory(pushed)?;
+        Ok(())
     }
 }

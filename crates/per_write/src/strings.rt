@@ -30,7 +30,8 @@ impl<A: Allocator + Clone> Writer<A> {
         requires { self.old.failed ≡ false }
         ensures { Writes encoder_rules (octet_schema constraints.now) (octets value.now) self.old result self.new }
     {
-        self.put_counted(constraints.size(), &Octets(value))
+        self.put_counted(constraints.size(), &Octets(value))?;
+        Ok(())
     }
 
     /// Writes a BIT STRING under constraints (X.691 16).
@@ -42,7 +43,8 @@ impl<A: Allocator + Clone> Writer<A> {
         requires { self.old.failed ≡ false }
         ensures { Writes encoder_rules (bit_schema constraints.now) (bits value.now) self.old result self.new }
     {
-        self.put_counted(constraints.size(), value)
+        self.put_counted(constraints.size(), value)?;
+        Ok(())
     }
 
     /// Writes a BIT STRING under constraints whose bits have names (X.691 16.2): without the zero bits at its end, and
@@ -59,7 +61,8 @@ impl<A: Allocator + Clone> Writer<A> {
         let size = constraints.size();
         let bits = value.trimmed_to(least_count(size));
         let bits = self.unless_out_of_memory(bits)?;
-        self.put_counted(size, &bits)
+        self.put_counted(size, &bits)?;
+        Ok(())
     }
 
     /// Writes a string of a known-multiplier type under constraints (X.691 30.5).
@@ -76,7 +79,8 @@ impl<A: Allocator + Clone> Writer<A> {
             string: value,
             alphabet: alphabet_under::<S>(constraints, self.codec),
         };
-        self.put_counted(constraints.size(), &characters)
+        self.put_counted(constraints.size(), &characters)?;
+        Ok(())
     }
 }
 

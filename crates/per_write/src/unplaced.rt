@@ -66,7 +66,8 @@ impl<A: Allocator + Clone> Writer<A> {
         ensures { Puts IsMemory (writer_of pieces.now.list) self.old result self.new }
     {
         let pushed = self.pieces.push_pieces(pieces);
-        self.unless_out_of_memory(pushed)
+        self.unless_out_of_memory(pushed)?;
+        Ok(())
     }
 }
 

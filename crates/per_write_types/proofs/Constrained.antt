@@ -11,6 +11,8 @@ use Rattle.rasn_types.specs.Values.{whole}
 use Rattle.rasn_types.specs.Variants.{Variant}
 use Rattle.rasn_constraints.specs.Bounds.{above, fits_i128, holds, not_above, Bounds}
 use Rattle.rasn_traits.specs.Calls.{Written}
+use Rattle.per_errors.specs.Bounds.{value_of, lower_of, upper_of}
+use Rattle.per_errors.specs.declared.bounds.OutOfBounds.{OutOfBounds}
 use Rattle.per_write.specs.Rules.{encoder_rules}
 use Rattle.rasn_schema.specs.Schemas.{Schema}
 use Rattle.per_core.specs.Canon.{canon}
@@ -97,9 +99,9 @@ refuses_past e x m b mark range z c h i k = record {
 }
 
 -- out of bounds, without a mark
-pub refuses_outside : (e : EncodeError) (x : State) (b range : Bounds) (z : ℤ) (value lower upper : Option ℤ) → holds range z ≡ true → IsError (ValueConstraintNotSatisfied value lower upper) e x → Outside b z value lower upper →
+pub refuses_outside : (e : EncodeError) (x : State) (b range : Bounds) (z : ℤ) (told : OutOfBounds) → holds range z ≡ true → IsError (ValueConstraintNotSatisfied told) e x → Outside b z (value_of told) (lower_of told) (upper_of told) →
     RefusesValue e x (Schema.number b false range) (whole z)
-refuses_outside e x b range z value lower upper h i k = record {
+refuses_outside e x b range z told h i k = record {
   none = λ f p. sym (number_canon (variant_of x.codec) b false range z false h k.out_of_bounds p);
   stands = subst (λ k. Stands k x (Schema.number b false range) (whole z)) (sym i.kind_is) (at_once k);
   codec_is = i.codec_is;

@@ -4,7 +4,7 @@ use Rattle.std.specs.Cmp.{IsStrictWeakOrder, nat_cmp_total}
 use Rattle.std.specs.Cmp.Lexicographic.{lists_total, slice_cmp}
 use Rattle.std.specs.Ordering.{is_lt, nat_cmp, ordering_then}
 use Rattle.std.proofs.lemmas.List.Sorted.{ranks_by}
-use Rattle.rasn_types.specs.Values.{Value, as_values, bag, bag_of, before, code, equal_lists, put, same, sorted, values}
+use Rattle.rasn_types.specs.Values.{Value, as_values, bag_of, before, code, equal_lists, put, same, sorted, values}
 use Rattle.rasn_types.specs.Variants.{Variant}
 use Rattle.rasn_types.proofs.Values.{values-as_values}
 use Rattle.rasn_constraints.specs.Bounds.{Size}

@@ -11,6 +11,7 @@ use Rattle.per_core.specs.Canon.{ascending, canon, octet_key}
 use Rattle.per_core.specs.Counts.{counted, list_items}
 use Rattle.per_core.specs.Writers.{Writer, written_if}
 use Rattle.per_core.proofs.Bags.{sort}
+use Rattle.per_errors.specs.Bounds.{value_of, lower_of, upper_of}
 use Rattle.per_write.specs.declared.error.EncodeError.{EncodeError}
 use Rattle.per_write.specs.declared.error.EncodeErrorKind.{EncodeErrorKind}
 use Rattle.per_write.specs.declared.error.EncodeErrorKind.TheVariants.{SizeConstraintNotSatisfied, ValueConstraintNotSatisfied, AlphabetConstraintNotSatisfied, IntegerTypeConversionFailed, VariantNotInChoice, RealNotSupported, TooManyAdditions, Below, AlreadyFailed, OutOfMemory, OutOfTurn}
@@ -85,10 +86,10 @@ none_of_count a e size mark vs m h p =
 -- a fault that stands in a member
 pub stands_in_member : (kind : EncodeErrorKind) (x y : State) (e : Schema) (size : Size) (mark : Bool) (v : Value) (vs : List Value) → y.failed ≡ false → HasElement v vs → Stands kind y e v
     → Stands kind x (Schema.set_of e size mark) (bag_of vs)
-stands_in_member (ValueConstraintNotSatisfied value lower upper) x y e size mark v vs f h k = in_member h k
+stands_in_member (ValueConstraintNotSatisfied told) x y e size mark v vs f h k = in_member h k
 stands_in_member IntegerTypeConversionFailed x y e size mark v vs f h k = in_member h k
 stands_in_member AlreadyFailed x y e size mark v vs f h k = absurd cc
-stands_in_member (SizeConstraintNotSatisfied length lower upper) x y e size mark v vs f h k = in_member h k
+stands_in_member (SizeConstraintNotSatisfied told) x y e size mark v vs f h k = in_member h k
 stands_in_member AlphabetConstraintNotSatisfied x y e size mark v vs f h k = in_member h k
 stands_in_member VariantNotInChoice x y e size mark v vs f h k = absurd k
 stands_in_member RealNotSupported x y e size mark v vs f h k = in_member h k
@@ -125,8 +126,8 @@ count_stands n l u e size false ws vs s h =
 
 stands_as_bag : (kind : EncodeErrorKind) (x : State) (e : Schema) (size : Size) (mark : Bool) (ws vs : List Value) → length ws ≡ length vs → ((v : Value) → HasElement v ws → HasElement v vs)
     → Stands kind x (Schema.list e size mark) (list_value ws) → Stands kind x (Schema.set_of e size mark) (bag_of vs)
-stands_as_bag (SizeConstraintNotSatisfied n l u) x e size mark ws vs s moves h = bag_stands (IsOutOfSize n l u) e size mark ws vs moves (count_stands n l u e size mark ws vs s) _ _ refl refl h
-stands_as_bag (ValueConstraintNotSatisfied n l u) x e size mark ws vs s moves h = bag_stands (IsOutOfBounds n l u) e size mark ws vs moves (λ q. absurd q) _ _ refl refl h
+stands_as_bag (SizeConstraintNotSatisfied told) x e size mark ws vs s moves h = bag_stands (IsOutOfSize told.size told.lower told.upper) e size mark ws vs moves (count_stands told.size told.lower told.upper e size mark ws vs s) _ _ refl refl h
+stands_as_bag (ValueConstraintNotSatisfied told) x e size mark ws vs s moves h = bag_stands (IsOutOfBounds (value_of told) (lower_of told) (upper_of told)) e size mark ws vs moves (λ q. absurd q) _ _ refl refl h
 stands_as_bag AlphabetConstraintNotSatisfied x e size mark ws vs s moves h = bag_stands IsForeign e size mark ws vs moves (λ q. absurd q) _ _ refl refl h
 stands_as_bag IntegerTypeConversionFailed x e size mark ws vs s moves h = bag_stands IsPastBounds e size mark ws vs moves (λ q. absurd q) _ _ refl refl h
 stands_as_bag VariantNotInChoice x e size mark ws vs s moves h = absurd h

@@ -25,7 +25,8 @@ pub fn put_date<A: Allocator + Clone, D: CivilDate>(
     ensures { Writes encoder_rules Schema.date (D.value date.now) writer.old result writer.new }
 {
     let (year, month, day) = date.to_parts();
-    put_numbers(writer, i128::from(year), month, day)
+    put_numbers(writer, i128::from(year), month, day)?;
+    Ok(())
 }
 
 /// Writes the numbers of a day of the calendar: its year, its month and its day of the month, from 1 both.
@@ -41,7 +42,8 @@ fn put_numbers<A: Allocator + Clone>(
 {
     put_year(writer, year)?;
     writer.put_number(Some(1), Some(12), i128::from(month))?;
-    writer.put_number(Some(1), Some(31), i128::from(day))
+    writer.put_number(Some(1), Some(31), i128::from(day))?;
+    Ok(())
 }
 
 /// Writes a year: the index of the range that holds it, and the year in that; or the last index, and the year as a
@@ -58,7 +60,8 @@ fn put_year<A: Allocator + Clone>(writer: &mut Writer<A>, year: i128) -> Result<
         put_year_within(writer, 2, 1749, 2004, year)
     } else {
         writer.put_number(Some(0), Some(3), 3)?;
-        writer.put_number(None, None, year)
+        writer.put_number(None, None, year)?;
+        Ok(())
     }
 }
 
@@ -83,5 +86,6 @@ fn put_year_within<A: Allocator + Clone>(
     ensures { PutsIn IsMemory (λ a. put_within a index first last year) writer.old result writer.new }
 {
     writer.put_number(Some(0), Some(3), index)?;
-    writer.put_number(Some(first), Some(last), year)
+    writer.put_number(Some(first), Some(last), year)?;
+    Ok(())
 }

@@ -10,6 +10,7 @@ ghost use Rattle.per_write.specs.Rules.{encoder_rules};
 ghost use Rattle.per_write_types.specs.Integers.{PutsWithin, stated_number};
 
 use per_bits::BitList;
+use per_errors::bounds::OutOfBounds;
 use per_write::Writer;
 use per_write::error::{EncodeError, EncodeErrorKind};
 use per_write::numbers::number_octets;
@@ -67,7 +68,8 @@ pub fn put_integer<A: Allocator + Clone, I: IntegerType>(
         }
         (false, false) => {
             let (lower, upper) = bounds.start_and_end();
-            Err(writer.refuse(EncodeErrorKind::ValueConstraintNotSatisfied(number, lower, upper)))
+            let told = OutOfBounds::new(number, lower, upper);
+            Err(writer.refuse(EncodeErrorKind::ValueConstraintNotSatisfied(told)))
         }
     }
 }

@@ -58,7 +58,8 @@ impl Items for Text<'_> {
             };
             push_to_field(writer, &mut gathered, code, width)?;
         }
-        put_bit_field(writer, &gathered)
+        put_bit_field(writer, &gathered)?;
+        Ok(())
     }
 }
 
@@ -80,7 +81,8 @@ pub fn put_utc_time<A: Allocator + Clone, M: UtcMoment>(
     let alloc = writer.allocator()?;
     let text = moment.to_canonical_utc_time_bytes(alloc);
     let text = unless_unwritten(writer, text)?;
-    put_text(writer, &text)
+    put_text(writer, &text)?;
+    Ok(())
 }
 
 /// Writes a GeneralizedTime by its moment in UTC (X.691 30, X.690 11.7). A moment that the text can't hold is
@@ -96,7 +98,8 @@ pub fn put_generalized_time<A: Allocator + Clone, M: GeneralizedMoment>(
     let alloc = writer.allocator()?;
     let text = moment.to_canonical_generalized_time_bytes(alloc);
     let text = unless_unwritten(writer, text)?;
-    put_text(writer, &text)
+    put_text(writer, &text)?;
+    Ok(())
 }
 
 /// The text of a time, unless it has none or memory ran out; then the writer has failed.
@@ -126,5 +129,6 @@ fn put_text<A: Allocator + Clone>(writer: &mut Writer<A>, text: &[u8]) -> Result
         characters: text,
         alphabet: alphabet_under::<VisibleString>(&Constraints::NONE, writer.codec()),
     };
-    writer.put_unconstrained_items(&text)
+    writer.put_unconstrained_items(&text)?;
+    Ok(())
 }

@@ -54,7 +54,8 @@ pub trait Encode: AsnType {
         ensures { Encodes E.rules (Self.schema Self.CONSTRAINTS) (Self.levels self.now) (Self.value self.now)
             encoder.old result encoder.new }
     {
-        self.encode_with_tag_and_constraints(encoder, tag, &Self::CONSTRAINTS, Self::IDENTIFIER)
+        self.encode_with_tag_and_constraints(encoder, tag, &Self::CONSTRAINTS, Self::IDENTIFIER)?;
+        Ok(())
     }
 
     /// Writes the value under constraints, and its type's own tag and name.
@@ -66,7 +67,8 @@ pub trait Encode: AsnType {
         ensures { Encodes E.rules (Self.schema constraints.now) (Self.levels self.now) (Self.value self.now)
             encoder.old result encoder.new }
     {
-        self.encode_with_tag_and_constraints(encoder, Self::TAG, constraints, Self::IDENTIFIER)
+        self.encode_with_tag_and_constraints(encoder, Self::TAG, constraints, Self::IDENTIFIER)?;
+        Ok(())
     }
 }
 

@@ -14,7 +14,8 @@ impl<T: Items + OfKind<Kind = EnumeratedKind>> EncodeKind<T> for EnumeratedKind 
         tag: Tag,
         identifier: Identifier,
     ) -> Result<(), E::Error> {
-        encoder.encode_enumerated(tag, value, identifier)
+        encoder.encode_enumerated(tag, value, identifier)?;
+        Ok(())
     }
 }
 

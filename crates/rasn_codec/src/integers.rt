@@ -15,7 +15,8 @@ impl Encode for i8 {
         constraints: &Constraints,
         identifier: Identifier,
     ) -> Result<(), E::Error> {
-        encoder.encode_integer::<i8>(tag, constraints, self, identifier)
+        encoder.encode_integer::<i8>(tag, constraints, self, identifier)?;
+        Ok(())
     }
 }
 
@@ -40,7 +41,8 @@ impl Encode for i16 {
         constraints: &Constraints,
         identifier: Identifier,
     ) -> Result<(), E::Error> {
-        encoder.encode_integer::<i16>(tag, constraints, self, identifier)
+        encoder.encode_integer::<i16>(tag, constraints, self, identifier)?;
+        Ok(())
     }
 }
 
@@ -65,7 +67,8 @@ impl Encode for i32 {
         constraints: &Constraints,
         identifier: Identifier,
     ) -> Result<(), E::Error> {
-        encoder.encode_integer::<i32>(tag, constraints, self, identifier)
+        encoder.encode_integer::<i32>(tag, constraints, self, identifier)?;
+        Ok(())
     }
 }
 
@@ -90,7 +93,8 @@ impl Encode for i64 {
         constraints: &Constraints,
         identifier: Identifier,
     ) -> Result<(), E::Error> {
-        encoder.encode_integer::<i64>(tag, constraints, self, identifier)
+        encoder.encode_integer::<i64>(tag, constraints, self, identifier)?;
+        Ok(())
     }
 }
 
@@ -115,7 +119,8 @@ impl Encode for i128 {
         constraints: &Constraints,
         identifier: Identifier,
     ) -> Result<(), E::Error> {
-        encoder.encode_integer::<i128>(tag, constraints, self, identifier)
+        encoder.encode_integer::<i128>(tag, constraints, self, identifier)?;
+        Ok(())
     }
 }
 
@@ -140,7 +145,8 @@ impl Encode for u8 {
         constraints: &Constraints,
         identifier: Identifier,
     ) -> Result<(), E::Error> {
-        encoder.encode_integer::<u8>(tag, constraints, self, identifier)
+        encoder.encode_integer::<u8>(tag, constraints, self, identifier)?;
+        Ok(())
     }
 }
 
@@ -165,7 +171,8 @@ impl Encode for u16 {
         constraints: &Constraints,
         identifier: Identifier,
     ) -> Result<(), E::Error> {
-        encoder.encode_integer::<u16>(tag, constraints, self, identifier)
+        encoder.encode_integer::<u16>(tag, constraints, self, identifier)?;
+        Ok(())
     }
 }
 
@@ -190,7 +197,8 @@ impl Encode for u32 {
         constraints: &Constraints,
         identifier: Identifier,
     ) -> Result<(), E::Error> {
-        encoder.encode_integer::<u32>(tag, constraints, self, identifier)
+        encoder.encode_integer::<u32>(tag, constraints, self, identifier)?;
+        Ok(())
     }
 }
 
@@ -215,7 +223,8 @@ impl Encode for u64 {
         constraints: &Constraints,
         identifier: Identifier,
     ) -> Result<(), E::Error> {
-        encoder.encode_integer::<u64>(tag, constraints, self, identifier)
+        encoder.encode_integer::<u64>(tag, constraints, self, identifier)?;
+        Ok(())
     }
 }
 
@@ -240,7 +249,8 @@ impl Encode for Integer {
         constraints: &Constraints,
         identifier: Identifier,
     ) -> Result<(), E::Error> {
-        encoder.encode_integer::<Integer>(tag, constraints, self, identifier)
+        encoder.encode_integer::<Integer>(tag, constraints, self, identifier)?;
+        Ok(())
     }
 }
 

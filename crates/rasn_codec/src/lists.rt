@@ -12,7 +12,8 @@ impl<T: Encode> Encode for Vec<T> {
         constraints: &Constraints,
         identifier: Identifier,
     ) -> Result<(), E::Error> {
-        encoder.encode_sequence_of(tag, self, constraints, identifier)
+        encoder.encode_sequence_of(tag, self, constraints, identifier)?;
+        Ok(())
     }
 }
 

@@ -18,7 +18,8 @@ impl Encode for OctetString {
         constraints: &Constraints,
         identifier: Identifier,
     ) -> Result<(), E::Error> {
-        encoder.encode_octet_string(tag, constraints, self.as_bytes(), identifier)
+        encoder.encode_octet_string(tag, constraints, self.as_bytes(), identifier)?;
+        Ok(())
     }
 }
 
@@ -47,7 +48,8 @@ impl Encode for BitString {
         constraints: &Constraints,
         identifier: Identifier,
     ) -> Result<(), E::Error> {
-        encoder.encode_bit_string(tag, constraints, self, identifier)
+        encoder.encode_bit_string(tag, constraints, self, identifier)?;
+        Ok(())
     }
 }
 
@@ -71,7 +73,8 @@ impl Encode for NamedBits {
         constraints: &Constraints,
         identifier: Identifier,
     ) -> Result<(), E::Error> {
-        encoder.encode_named_bits(tag, constraints, self.bits(), identifier)
+        encoder.encode_named_bits(tag, constraints, self.bits(), identifier)?;
+        Ok(())
     }
 }
 
@@ -98,7 +101,8 @@ impl Encode for Any {
         identifier: Identifier,
     ) -> Result<(), E::Error> {
         let _ = constraints;
-        encoder.encode_any(tag, self, identifier)
+        encoder.encode_any(tag, self, identifier)?;
+        Ok(())
     }
 }
 

@@ -15,7 +15,8 @@ impl Encode for bool {
         identifier: Identifier,
     ) -> Result<(), E::Error> {
         let _ = constraints;
-        encoder.encode_bool(tag, *self, identifier)
+        encoder.encode_bool(tag, *self, identifier)?;
+        Ok(())
     }
 }
 
@@ -42,7 +43,8 @@ impl Encode for () {
         identifier: Identifier,
     ) -> Result<(), E::Error> {
         let _ = constraints;
-        encoder.encode_null(tag, identifier)
+        encoder.encode_null(tag, identifier)?;
+        Ok(())
     }
 }
 

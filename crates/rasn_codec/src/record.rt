@@ -31,7 +31,8 @@ impl<T: Record> EncodeKind<T> for SequenceKind {
     ) -> Result<(), E::Error> {
         let outside = encoder.open_sequence::<T>(tag, identifier)?;
         value.encode_components(encoder)?;
-        encoder.close_sequence::<T>(outside)
+        encoder.close_sequence::<T>(outside)?;
+        Ok(())
     }
 }
 

@@ -16,7 +16,8 @@ impl<K: TaggedCharacters> Encode for CharactersOf<K> {
         constraints: &Constraints,
         identifier: Identifier,
     ) -> Result<(), E::Error> {
-        encoder.encode_known_multiplier_string(tag, constraints, self, identifier)
+        encoder.encode_known_multiplier_string(tag, constraints, self, identifier)?;
+        Ok(())
     }
 }
 
@@ -39,7 +40,8 @@ impl Encode for Utf8String {
         constraints: &Constraints,
         identifier: Identifier,
     ) -> Result<(), E::Error> {
-        encoder.encode_utf8_string(tag, constraints, self.as_str(), identifier)
+        encoder.encode_utf8_string(tag, constraints, self.as_str(), identifier)?;
+        Ok(())
     }
 }
 
@@ -62,7 +64,8 @@ impl Encode for GeneralString {
         constraints: &Constraints,
         identifier: Identifier,
     ) -> Result<(), E::Error> {
-        encoder.encode_general_string(tag, constraints, self, identifier)
+        encoder.encode_general_string(tag, constraints, self, identifier)?;
+        Ok(())
     }
 }
 
@@ -85,7 +88,8 @@ impl Encode for GraphicString {
         constraints: &Constraints,
         identifier: Identifier,
     ) -> Result<(), E::Error> {
-        encoder.encode_graphic_string(tag, constraints, self, identifier)
+        encoder.encode_graphic_string(tag, constraints, self, identifier)?;
+        Ok(())
     }
 }
 
@@ -108,7 +112,8 @@ impl Encode for TeletexString {
         constraints: &Constraints,
         identifier: Identifier,
     ) -> Result<(), E::Error> {
-        encoder.encode_teletex_string(tag, constraints, self, identifier)
+        encoder.encode_teletex_string(tag, constraints, self, identifier)?;
+        Ok(())
     }
 }
 

@@ -8,6 +8,7 @@ use Rattle.per_core.specs.Basic.{basic}
 use Rattle.per_core.specs.Ends.{AreOver, spare}
 use Rattle.per_core.specs.Spellings.{Settings, ZeroIf}
 use Rattle.per_core.specs.Took.{Took}
+use Rattle.per_errors.specs.Counts.{count_of, number_of}
 use Rattle.per_bits.specs.declared.ended.Surplus.{Surplus}
 use Rattle.per_bits.specs.declared.ended.Surplus.TheVariants.{Missing, NonzeroOctet, NonzeroSpareBits, ExtraOctets}
 use Rattle.per_decoding.specs.Faults.{IsInBits}
@@ -19,10 +20,10 @@ use Rattle.rasn_per.specs.Complete.{basically}
 
 -- the refusal of octets that are no complete encoding
 abbrev pub kind_of : Surplus → DecodeErrorKind
-kind_of (Missing bits) = Incomplete bits
+kind_of (Missing bits) = Incomplete (count_of bits)
 kind_of NonzeroOctet = ParserFail NonzeroEmptyValue
 kind_of NonzeroSpareBits = ParserFail NonzeroPadding
-kind_of (ExtraOctets octets) = UnexpectedExtraData octets
+kind_of (ExtraOctets octets) = UnexpectedExtraData (count_of octets)
 
 -- X.691 11.1: behind what spells a value, and spare bits as they have to be, whole octets are left over
 pub record LeaveOver (a : Settings) (schema : ℕ → Schema) (octets : List ℕ) (over : ℕ) : Type 0 where
@@ -43,7 +44,7 @@ IsInFront a schema octets k = IsInBits a k (schema 128) (unpack octets)
 -- What a kind says of the octets, as a type's schema reads them within 128 levels, where all of them have to be read:
 -- octets are left over behind the value, or in the open type of an addition.
 abbrev pub IsInOctetsBy : Settings → (ℕ → Schema) → List ℕ → DecodeErrorKind → Type 0
-IsInOctetsBy a schema octets (UnexpectedExtraData over) = LeaveOver a schema octets over
+IsInOctetsBy a schema octets (UnexpectedExtraData over) = LeaveOver a schema octets (number_of over)
     ⊎ IsInBits a (UnexpectedExtraData over) (schema 128) (unpack octets)
 IsInOctetsBy a schema octets k = IsInFront a schema octets k
 

@@ -13,6 +13,7 @@ use per_bits::{BitList, BitReader};
 use per_de::error::{DecodeError, DecodeErrorKind, ParserFailCause};
 use per_de::{Decoder, DecoderOptions};
 use per_enc::{EncodeError, EncodeErrorKind, Encoder, EncoderOptions};
+use per_errors::count::Count;
 use rasn_codec::codec::{Decode, Encode};
 use rasn_schema::constraints::Constraints;
 use rasn_schema::limits::is_lawful;
@@ -150,10 +151,10 @@ fn refusal(surplus: Surplus, codec: Codec) -> DecodeError
     ensures { result ≡ record { kind = kind_of surplus; codec = codec } }
 {
     let kind = match surplus {
-        Surplus::Missing(bits) => DecodeErrorKind::Incomplete(bits),
+        Surplus::Missing(bits) => DecodeErrorKind::Incomplete(Count::new(bits)),
         Surplus::NonzeroOctet => DecodeErrorKind::ParserFail(ParserFailCause::NonzeroEmptyValue),
         Surplus::NonzeroSpareBits => DecodeErrorKind::ParserFail(ParserFailCause::NonzeroPadding),
-        Surplus::ExtraOctets(octets) => DecodeErrorKind::UnexpectedExtraData(octets),
+        Surplus::ExtraOctets(octets) => DecodeErrorKind::UnexpectedExtraData(Count::new(octets)),
     };
     DecodeError { kind, codec }
 }

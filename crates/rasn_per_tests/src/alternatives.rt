@@ -27,15 +27,14 @@ fn writes_and_reads_several_alternatives(rt: HostRuntime) {
 }
 
 /// An index behind the last one.
-const REFUSED: &[(&[u8], DecodeErrorKind)] = &[(
-    &[0x82, 0x01, 0x00],
-    DecodeErrorKind::ChoiceIndexNotFound(2),
-)];
+fn refused() -> [(&'static [u8], DecodeErrorKind); 1] {
+    [(&[0x82, 0x01, 0x00], DecodeErrorKind::ChoiceIndexNotFound(2))]
+}
 
 #[test]
 fn refuses_an_index_behind_the_last(rt: HostRuntime) {
     for codec in BOTH {
-        expect_unread::<Several>(&rt, rt.alloc(), *codec, REFUSED);
+        expect_unread::<Several>(&rt, rt.alloc(), *codec, &refused());
     }
 }
 

@@ -4,6 +4,8 @@
 use crate::expected::{
     BOTH, expect_coded, expect_equal, expect_items, expect_read, expect_unread, expect_written,
 };
+use per_errors::count::Count;
+use per_errors::sizes::OutOfSize;
 use per_samples_a::bounded::MinusOneTo254;
 use per_samples_a::strings::LettersAToE;
 use per_samples_b::grouped::Grouped;
@@ -97,17 +99,19 @@ fn components_are_read_by_their_indices(rt: HostRuntime) {
 }
 
 /// Octets that begin with no value of NULL, and why.
-const NO_NULLS: &[(&[u8], DecodeErrorKind)] = &[
-    (&[], DecodeErrorKind::Incomplete(8)),
-    (
-        &[0x01, 0x00],
-        DecodeErrorKind::ParserFail(ParserFailCause::NonzeroEmptyValue),
-    ),
-];
+fn no_nulls() -> [(&'static [u8], DecodeErrorKind); 2] {
+    [
+        (&[], DecodeErrorKind::Incomplete(Count::new(8))),
+        (
+            &[0x01, 0x00],
+            DecodeErrorKind::ParserFail(ParserFailCause::NonzeroEmptyValue),
+        ),
+    ]
+}
 
 #[test]
 fn names_what_no_value_begins_with(rt: HostRuntime) {
-    for (octets, kind) in NO_NULLS {
+    for (octets, kind) in &no_nulls() {
         let refused = decode_with_remainder::<()>(rt.alloc(), octets).err();
         let error = DecodeError {
             kind: *kind,
@@ -130,14 +134,16 @@ fn answers_what_stands_behind_a_value(rt: HostRuntime) {
 }
 
 /// -1, which is in its bounds and no `u8`.
-const BELOW_ITS_TYPE: &[(&[u8], DecodeErrorKind)] = &[(&[0], DecodeErrorKind::IntegerOverflow(8))];
+fn below_its_type() -> [(&'static [u8], DecodeErrorKind); 1] {
+    [(&[0], DecodeErrorKind::IntegerOverflow(8))]
+}
 
 #[test]
 fn refuses_a_number_that_its_type_lacks(rt: HostRuntime) {
     let five = MinusOneTo254::new(5);
     for codec in BOTH {
         expect_coded(&rt, rt.alloc(), *codec, &five, &[0x06]);
-        expect_unread::<MinusOneTo254>(&rt, rt.alloc(), *codec, BELOW_ITS_TYPE);
+        expect_unread::<MinusOneTo254>(&rt, rt.alloc(), *codec, &below_its_type());
     }
 }
 
@@ -150,7 +156,11 @@ fn tells_a_size_past_its_bounds(rt: HostRuntime) {
     let octets: &[u8] = &[0xff; 20];
     let read = decode_with_constraints::<VisibleString>(rt.alloc(), &limits, octets);
     let error = DecodeError {
-        kind: DecodeErrorKind::SizeConstraintNotSatisfied(16, Some(1), Some(10)),
+        kind: DecodeErrorKind::SizeConstraintNotSatisfied(OutOfSize {
+            size: 16,
+            lower: Some(1),
+            upper: Some(10),
+        }),
         codec: Codec::Uper,
     };
     expect_equal(&rt, &read.err(), &Some(error));
@@ -200,21 +210,31 @@ fn reads_a_group_of_a_newer_version(rt: HostRuntime) {
 }
 
 /// A BOOLEAN and an octet more, and one and two more.
-const BOOLEAN_AND_MORE: &[(&[u8], DecodeErrorKind)] = &[
-    (&[0x00, 0x00], DecodeErrorKind::UnexpectedExtraData(1)),
-    (&[0x80, 0xaa, 0xbb], DecodeErrorKind::UnexpectedExtraData(2)),
-];
+fn boolean_and_more() -> [(&'static [u8], DecodeErrorKind); 2] {
+    [
+        (
+            &[0x00, 0x00],
+            DecodeErrorKind::UnexpectedExtraData(Count::new(1)),
+        ),
+        (
+            &[0x80, 0xaa, 0xbb],
+            DecodeErrorKind::UnexpectedExtraData(Count::new(2)),
+        ),
+    ]
+}
 
 /// A group that holds nothing, in an open type of two octets, where one does.
-const GROUP_AND_MORE: &[(&[u8], DecodeErrorKind)] = &[(
-    &[0xc0, 0x40, 0x80, 0x00, 0x00],
-    DecodeErrorKind::UnexpectedExtraData(1),
-)];
+fn group_and_more() -> [(&'static [u8], DecodeErrorKind); 1] {
+    [(
+        &[0xc0, 0x40, 0x80, 0x00, 0x00],
+        DecodeErrorKind::UnexpectedExtraData(Count::new(1)),
+    )]
+}
 
 #[test]
 fn counts_the_octets_that_are_left_over(rt: HostRuntime) {
-    expect_unread::<bool>(&rt, rt.alloc(), Codec::Uper, BOOLEAN_AND_MORE);
-    expect_unread::<Grouped>(&rt, rt.alloc(), Codec::Uper, GROUP_AND_MORE);
+    expect_unread::<bool>(&rt, rt.alloc(), Codec::Uper, &boolean_and_more());
+    expect_unread::<Grouped>(&rt, rt.alloc(), Codec::Uper, &group_and_more());
 }
 
 const ONE_TO_GREATEST: &[Constraint] = constraints!(

@@ -2,6 +2,7 @@
 
 use crate::expected::{expect_equal, expect_items, expect_value};
 use per_contents::{EncodingOf, unwrap, wrap};
+use per_errors::count::Count;
 use per_samples_a::carrier::Carrier;
 use per_samples_a::pair::Pair;
 use rasn_below::types::{Codec, OctetString};
@@ -71,17 +72,25 @@ fn refuses_octets_that_contain_no_value(rt: HostRuntime) {
     let short = [
         0x01, 0x03, 0x80, 0x01, 0x05, 0x02, 0x80, 0x01, 0x80, 0x80, 0x01, 0x05,
     ];
-    expect_equal(&rt, &refused(&short), &Some(DecodeErrorKind::Incomplete(8)));
+    expect_equal(
+        &rt,
+        &refused(&short),
+        &Some(DecodeErrorKind::Incomplete(Count::new(8))),
+    );
     let long = [
         0x01, 0x03, 0x80, 0x01, 0x05, 0x04, 0x80, 0x01, 0x05, 0x00, 0x80, 0x80, 0x01, 0x05,
     ];
     expect_equal(
         &rt,
         &refused(&long),
-        &Some(DecodeErrorKind::UnexpectedExtraData(1)),
+        &Some(DecodeErrorKind::UnexpectedExtraData(Count::new(1))),
     );
     let empty = [0x01, 0x03, 0x80, 0x01, 0x05, 0x00, 0x80, 0x80, 0x01, 0x05];
-    expect_equal(&rt, &refused(&empty), &Some(DecodeErrorKind::Incomplete(1)));
+    expect_equal(
+        &rt,
+        &refused(&empty),
+        &Some(DecodeErrorKind::Incomplete(Count::new(1))),
+    );
 }
 
 /// Octets under a size are read whatever they contain; what isn't an encoding is refused where it is looked into.
@@ -90,7 +99,7 @@ fn refuses_to_look_into_octets_that_are_no_encoding(rt: HostRuntime) {
     let empty: EncodingOf<Pair, OctetString> = EncodingOf::new(Vec::new(rt.alloc()));
     let refused = unwrap(rt.alloc(), Codec::Uper, &empty).err();
     let missing = DecodeError {
-        kind: DecodeErrorKind::Incomplete(1),
+        kind: DecodeErrorKind::Incomplete(Count::new(1)),
         codec: Codec::Uper,
     };
     expect_equal(&rt, &refused, &Some(missing));

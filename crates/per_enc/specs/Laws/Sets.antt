@@ -25,8 +25,8 @@ stands_in_set : (kind : EncodeErrorKind) (x : State) (ps : Parts) (marker : Bool
     (rs xs : List (Option Value))
     → Stands kind x (Schema.sequence listed (canonised ps) marker qs) (record_value (canonised_slots ps rs) xs)
     → Stands kind x (Schema.sequence by_tag ps marker qs) (record_value rs xs)
-stands_in_set (SizeConstraintNotSatisfied n l u) x ps marker qs rs xs h = in_set rs xs h
-stands_in_set (ValueConstraintNotSatisfied n l u) x ps marker qs rs xs h = in_set rs xs h
+stands_in_set (SizeConstraintNotSatisfied told) x ps marker qs rs xs h = in_set rs xs h
+stands_in_set (ValueConstraintNotSatisfied told) x ps marker qs rs xs h = in_set rs xs h
 stands_in_set AlphabetConstraintNotSatisfied x ps marker qs rs xs h = in_set rs xs h
 stands_in_set IntegerTypeConversionFailed x ps marker qs rs xs h = in_set rs xs h
 stands_in_set VariantNotInChoice x ps marker qs rs xs h = h

@@ -8,6 +8,7 @@ use Rattle.rasn_schema.specs.Lawful.{is_group_schema}
 use Rattle.rasn_schema.specs.Normal.{are_idle, is_idle, is_vacant}
 use Rattle.rasn_schema.specs.Schemas.{Schema, Parts, no_parts, part, Presence, required, optional, group, default}
 use Rattle.per_core.specs.Canon.{shown}
+use Rattle.per_errors.specs.Bounds.{value_of, lower_of, upper_of}
 use Rattle.per_write.specs.declared.error.EncodeErrorKind.{EncodeErrorKind}
 use Rattle.per_write.specs.declared.error.EncodeErrorKind.TheVariants.{SizeConstraintNotSatisfied}
 use Rattle.per_write.specs.declared.error.EncodeErrorKind.TheVariants.{ValueConstraintNotSatisfied}
@@ -104,10 +105,12 @@ no_absent s v g i h = let t : is_vacant s no_value ≡ true = subst (λ w. is_va
 
 pub none_in_vacant : (kind : EncodeErrorKind) (x : State) (s : Schema) (v : Value) → x.failed ≡ false
     → is_group_schema s ≡ true → is_vacant s v ≡ true → Stands kind x s v → ⊥
-none_in_vacant (SizeConstraintNotSatisfied n l u) x s v f g i h = none_stands (IsOutOfSize n l u)
-    (λ t w k _. no_size n l u t w k) s v g i h
-none_in_vacant (ValueConstraintNotSatisfied n l u) x s v f g i h = none_stands (IsOutOfBounds n l u)
-    (λ t w k _. no_bounds n l u t w k) s v g i h
+none_in_vacant (SizeConstraintNotSatisfied told) x s v f g i h =
+    none_stands (IsOutOfSize told.size told.lower told.upper)
+    (λ t w k _. no_size told.size told.lower told.upper t w k) s v g i h
+none_in_vacant (ValueConstraintNotSatisfied told) x s v f g i h =
+    none_stands (IsOutOfBounds (value_of told) (lower_of told) (upper_of told))
+    (λ t w k _. no_bounds (value_of told) (lower_of told) (upper_of told) t w k) s v g i h
 none_in_vacant AlphabetConstraintNotSatisfied x s v f g i h = none_stands IsForeign
     (λ t w k _. no_foreign t w k) s v g i h
 none_in_vacant IntegerTypeConversionFailed x s v f g i h = none_stands IsPastBounds

@@ -1,7 +1,8 @@
-use Rattle.std.proofs.Common.{◌∙◌, sym, refl, inr, rules}
+use Rattle.std.proofs.Common.{◌≡◌, ◌∙◌, sym, refl, subst, inr, rules, false, ℤ, Option, MatchOption}
 use Rattle.std.proofs.lemmas.Iterator.Adapters.{option_map_id}
 use Rattle.std.proofs.lemmas.Result.{on_ok_weaker, IfOk-at_ok}
 use Rattle.rasn_constraints.specs.Constraints.{bounds_of}
+use Rattle.rasn_constraints.specs.Bounds.{fits_i128}
 use Rattle.per_write.proofs.Unbounded.{whole_written}
 use Rattle.per_write_types.proofs.Constrained.{presents_within, presents_marked, presents_outside, within_law, outside_law, refuses_outside}
 use Rattle.per_write_types.proofs.integers.put_integer.Goals as goal
@@ -48,14 +49,14 @@ pub returns-in-false-false : goal.returns-in-false-false
 returns-in-false-false g c =
     let x = c.unless_out_of_memory.new.self in
     let b = bounds_of c.args.stated.constraint in
+    let z = g.I.IntegerType.number c.args.value.now in
     record {
       law = rw (← c.in_ok-within.ensures.kept, c.in-false-false.is-1)
-          (inr (refuses_outside c.refuse.result x b g.I.IntegerType.range (g.I.IntegerType.number c.args.value.now) c.to_i128-number.result c.start_and_end-lower.result.0 c.start_and_end-lower.result.1
-          c.to_i128-number.ensures.held c.refuse.ensures.error (record {
+          (inr (refuses_outside c.refuse.result x b g.I.IntegerType.range z c.new-told.result c.to_i128-number.ensures.held c.refuse.ensures.error (record {
             out_of_bounds = sym (IfOk-at_ok _ c.in_ok-within.ensures.ok c.is_within-within.ensures) ∙ c.in-false-false.is-0;
-            value_is = c.to_i128-number.ensures.number;
-            lower_is = c.start_and_end-lower.ensures.start ∙ sym (option_map_id _);
-            upper_is = c.start_and_end-lower.ensures.end ∙ sym (option_map_id _);
+            value_is = subst (λ (n : Option ℤ). MatchOption n (fits_i128 z ≡ false) (λ m. m ≡ z)) (sym c.new-told.ensures.value) c.to_i128-number.ensures.number;
+            lower_is = c.new-told.ensures.lower ∙ c.start_and_end-lower.ensures.start ∙ sym (option_map_id _);
+            upper_is = c.new-told.ensures.upper ∙ c.start_and_end-lower.ensures.end ∙ sym (option_map_id _);
           })));
       behaves = search rules;
     }

@@ -1,0 +1,3 @@
+-- What errors tell.
+pub mod Bounds
+pub mod Counts
