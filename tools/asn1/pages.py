@@ -232,8 +232,7 @@ class Page:
         levels = [self.levels(parts) for parts in (of.parts, of.added or [])]
         if levels == [["0"], ["0"]]:
             return []
-        # Beside a long list the prover doesn't see that no additions take no level.
-        if of.added is None or not of.added and len(levels[0]) > 9:
+        if not of.added:
             lines = ["    ghost depth = { λ x.", *indented(levels[0], 8)]
         else:
             lines = [f"    ghost depth = {{ λ x. {self.value('deeper_of')}", *indented(sum(levels, []), 8)]

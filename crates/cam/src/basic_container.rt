@@ -1,7 +1,7 @@
 //! BasicContainer, of the module CAM-PDU-Descriptions.
 
 ghost use Rattle.cam.specs.CamPduDescriptions.{basic_container_lists};
-ghost use Rattle.rasn_below.specs.Page.{deeper_of, fields_of, whole};
+ghost use Rattle.rasn_below.specs.Page.{fields_of, whole};
 ghost use Rattle.std.specs.Prelude.{Some, [], max, pos, refl, ◌∷◌};
 
 use its_container::aliases::StationType;
@@ -41,10 +41,9 @@ impl Components for BasicContainer {
         Some (⟦<ReferencePosition as AsnType>⟧.value x.reference_position) ∷
         [] };
 
-    ghost depth = { λ x. deeper_of
+    ghost depth = { λ x.
         (max 0
-        (max (⟦<ReferencePosition as AsnType>⟧.levels x.reference_position) 0))
-        0 };
+        (max (⟦<ReferencePosition as AsnType>⟧.levels x.reference_position) 0)) };
 }
 
 impl Record for BasicContainer {

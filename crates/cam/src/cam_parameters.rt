@@ -1,7 +1,7 @@
 //! CamParameters, of the module CAM-PDU-Descriptions.
 
 ghost use Rattle.cam.specs.CamPduDescriptions.{cam_parameters_lists};
-ghost use Rattle.rasn_below.specs.Page.{deeper_of, fields_of, slot_levels, slot_of};
+ghost use Rattle.rasn_below.specs.Page.{fields_of, slot_levels, slot_of};
 ghost use Rattle.std.specs.Prelude.{Some, [], max, refl, ◌∷◌};
 
 use crate::basic_container::BasicContainer;
@@ -51,12 +51,11 @@ impl Components for CamParameters {
         slot_of ⟦<SpecialVehicleContainer as AsnType>⟧.value x.special_vehicle_container ∷
         [] };
 
-    ghost depth = { λ x. deeper_of
+    ghost depth = { λ x.
         (max (⟦<BasicContainer as AsnType>⟧.levels x.basic_container)
         (max (⟦<HighFrequencyContainer as AsnType>⟧.levels x.high_frequency_container)
         (max (slot_levels ⟦<LowFrequencyContainer as AsnType>⟧.levels x.low_frequency_container)
-        (max (slot_levels ⟦<SpecialVehicleContainer as AsnType>⟧.levels x.special_vehicle_container) 0))))
-        0 };
+        (max (slot_levels ⟦<SpecialVehicleContainer as AsnType>⟧.levels x.special_vehicle_container) 0)))) };
 }
 
 impl Record for CamParameters {

@@ -1,7 +1,7 @@
 //! RsuContainerHighFrequency, of the module CAM-PDU-Descriptions.
 
 ghost use Rattle.cam_high_frequency.specs.CamPduDescriptions.{rsu_container_high_frequency_lists};
-ghost use Rattle.rasn_below.specs.Page.{deeper_of, fields_of, slot_levels, slot_of};
+ghost use Rattle.rasn_below.specs.Page.{fields_of, slot_levels, slot_of};
 ghost use Rattle.std.specs.Prelude.{[], max, refl, ◌∷◌};
 
 use its_container::aliases::ProtectedCommunicationZonesRsu;
@@ -37,9 +37,9 @@ impl Components for RsuContainerHighFrequency {
         slot_of ⟦<ProtectedCommunicationZonesRsu as AsnType>⟧.value x.protected_communication_zones_rsu ∷
         [] };
 
-    ghost depth = { λ x. deeper_of
-        (max (slot_levels ⟦<ProtectedCommunicationZonesRsu as AsnType>⟧.levels x.protected_communication_zones_rsu) 0)
-        0 };
+    ghost depth = { λ x.
+        (max (slot_levels ⟦<ProtectedCommunicationZonesRsu as AsnType>⟧.levels x.protected_communication_zones_rsu)
+        0) };
 }
 
 impl Record for RsuContainerHighFrequency {

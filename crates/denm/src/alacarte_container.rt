@@ -1,7 +1,7 @@
 //! AlacarteContainer, of the module DENM-PDU-Descriptions.
 
 ghost use Rattle.denm.specs.DenmPduDescriptions.{alacarte_container_lists};
-ghost use Rattle.rasn_below.specs.Page.{deeper_of, fields_of, slot_levels, slot_of, whole};
+ghost use Rattle.rasn_below.specs.Page.{fields_of, slot_levels, slot_of, whole};
 ghost use Rattle.std.specs.Prelude.{[], max, refl, ◌∷◌};
 
 use crate::impact_reduction_container::ImpactReductionContainer;
@@ -61,14 +61,13 @@ impl Components for AlacarteContainer {
         slot_of ⟦<StationaryVehicleContainer as AsnType>⟧.value x.stationary_vehicle ∷
         [] };
 
-    ghost depth = { λ x. deeper_of
+    ghost depth = { λ x.
         (max (slot_levels ⟦<LanePosition as AsnType>⟧.levels x.lane_position)
         (max (slot_levels ⟦<ImpactReductionContainer as AsnType>⟧.levels x.impact_reduction)
         (max (slot_levels ⟦<Temperature as AsnType>⟧.levels x.external_temperature)
         (max (slot_levels ⟦<RoadWorksContainerExtended as AsnType>⟧.levels x.road_works)
         (max (slot_levels ⟦<PositioningSolutionType as AsnType>⟧.levels x.positioning_solution)
-        (max (slot_levels ⟦<StationaryVehicleContainer as AsnType>⟧.levels x.stationary_vehicle) 0))))))
-        0 };
+        (max (slot_levels ⟦<StationaryVehicleContainer as AsnType>⟧.levels x.stationary_vehicle) 0)))))) };
 }
 
 impl Record for AlacarteContainer {

@@ -1,7 +1,7 @@
 //! LocationContainer, of the module DENM-PDU-Descriptions.
 
 ghost use Rattle.denm.specs.DenmPduDescriptions.{location_container_lists};
-ghost use Rattle.rasn_below.specs.Page.{deeper_of, fields_of, slot_levels, slot_of};
+ghost use Rattle.rasn_below.specs.Page.{fields_of, slot_levels, slot_of};
 ghost use Rattle.std.specs.Prelude.{Some, [], max, refl, ◌∷◌};
 
 use its_container::heading::Heading;
@@ -51,12 +51,11 @@ impl Components for LocationContainer {
         slot_of ⟦<RoadType as AsnType>⟧.value x.road_type ∷
         [] };
 
-    ghost depth = { λ x. deeper_of
+    ghost depth = { λ x.
         (max (slot_levels ⟦<Speed as AsnType>⟧.levels x.event_speed)
         (max (slot_levels ⟦<Heading as AsnType>⟧.levels x.event_position_heading)
         (max (⟦<Traces as AsnType>⟧.levels x.traces)
-        (max (slot_levels ⟦<RoadType as AsnType>⟧.levels x.road_type) 0))))
-        0 };
+        (max (slot_levels ⟦<RoadType as AsnType>⟧.levels x.road_type) 0)))) };
 }
 
 impl Record for LocationContainer {

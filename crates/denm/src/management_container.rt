@@ -1,7 +1,7 @@
 //! ManagementContainer, of the module DENM-PDU-Descriptions.
 
 ghost use Rattle.denm.specs.DenmPduDescriptions.{management_container_lists};
-ghost use Rattle.rasn_below.specs.Page.{deeper_of, fields_of, slot_levels, slot_of, whole};
+ghost use Rattle.rasn_below.specs.Page.{fields_of, slot_levels, slot_of, whole};
 ghost use Rattle.std.specs.Prelude.{Some, [], max, pos, refl, ◌∷◌};
 
 use crate::termination::Termination;
@@ -78,7 +78,7 @@ impl Components for ManagementContainer {
         Some (whole (pos x.station_type)) ∷
         [] };
 
-    ghost depth = { λ x. deeper_of
+    ghost depth = { λ x.
         (max (⟦<ActionId as AsnType>⟧.levels x.action_id)
         (max 0
         (max 0
@@ -87,8 +87,7 @@ impl Components for ManagementContainer {
         (max (slot_levels ⟦<RelevanceDistance as AsnType>⟧.levels x.relevance_distance)
         (max (slot_levels ⟦<RelevanceTrafficDirection as AsnType>⟧.levels x.relevance_traffic_direction)
         (max 0
-        (max (slot_levels ⟦<TransmissionInterval as AsnType>⟧.levels x.transmission_interval) 0)))))))))
-        0 };
+        (max (slot_levels ⟦<TransmissionInterval as AsnType>⟧.levels x.transmission_interval) 0))))))))) };
 }
 
 impl Record for ManagementContainer {

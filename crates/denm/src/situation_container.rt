@@ -1,7 +1,7 @@
 //! SituationContainer, of the module DENM-PDU-Descriptions.
 
 ghost use Rattle.denm.specs.DenmPduDescriptions.{situation_container_lists};
-ghost use Rattle.rasn_below.specs.Page.{deeper_of, fields_of, slot_levels, slot_of, whole};
+ghost use Rattle.rasn_below.specs.Page.{fields_of, slot_levels, slot_of, whole};
 ghost use Rattle.std.specs.Prelude.{Some, [], max, pos, refl, ◌∷◌};
 
 use its_container::cause_code::CauseCode;
@@ -49,12 +49,11 @@ impl Components for SituationContainer {
         slot_of ⟦<EventHistory as AsnType>⟧.value x.event_history ∷
         [] };
 
-    ghost depth = { λ x. deeper_of
+    ghost depth = { λ x.
         (max 0
         (max (⟦<CauseCode as AsnType>⟧.levels x.event_type)
         (max (slot_levels ⟦<CauseCode as AsnType>⟧.levels x.linked_cause)
-        (max (slot_levels ⟦<EventHistory as AsnType>⟧.levels x.event_history) 0))))
-        0 };
+        (max (slot_levels ⟦<EventHistory as AsnType>⟧.levels x.event_history) 0)))) };
 }
 
 impl Record for SituationContainer {

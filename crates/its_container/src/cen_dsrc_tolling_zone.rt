@@ -1,7 +1,7 @@
 //! CenDsrcTollingZone, of the module ITS-Container.
 
 ghost use Rattle.its_container.specs.ItsContainer.{cen_dsrc_tolling_zone_lists};
-ghost use Rattle.rasn_below.specs.Page.{deeper_of, fields_of, slot_levels, slot_of, whole};
+ghost use Rattle.rasn_below.specs.Page.{fields_of, slot_levels, slot_of, whole};
 ghost use Rattle.std.specs.Prelude.{Some, [], max, pos, refl, ◌∷◌};
 
 use crate::aliases::{CenDsrcTollingZoneId, Latitude, Longitude};
@@ -44,11 +44,10 @@ impl Components for CenDsrcTollingZone {
         slot_of (λ v. whole (pos v)) x.cen_dsrc_tolling_zone_id ∷
         [] };
 
-    ghost depth = { λ x. deeper_of
+    ghost depth = { λ x.
         (max 0
         (max 0
-        (max (slot_levels ⟦<CenDsrcTollingZoneId as AsnType>⟧.levels x.cen_dsrc_tolling_zone_id) 0)))
-        0 };
+        (max (slot_levels ⟦<CenDsrcTollingZoneId as AsnType>⟧.levels x.cen_dsrc_tolling_zone_id) 0))) };
 }
 
 impl Record for CenDsrcTollingZone {

@@ -1,7 +1,7 @@
 //! ClosedLanes, of the module ITS-Container.
 
 ghost use Rattle.its_container.specs.ItsContainer.{closed_lanes_lists};
-ghost use Rattle.rasn_below.specs.Page.{bits, deeper_of, fields_of, slot_levels, slot_of};
+ghost use Rattle.rasn_below.specs.Page.{bits, fields_of, slot_levels, slot_of};
 ghost use Rattle.std.specs.Prelude.{[], max, refl, ◌∷◌};
 
 use crate::aliases::DrivingLaneStatus;
@@ -45,11 +45,10 @@ impl Components for ClosedLanes {
         slot_of bits x.driving_lane_status ∷
         [] };
 
-    ghost depth = { λ x. deeper_of
+    ghost depth = { λ x.
         (max (slot_levels ⟦<HardShoulderStatus as AsnType>⟧.levels x.innerhard_shoulder_status)
         (max (slot_levels ⟦<HardShoulderStatus as AsnType>⟧.levels x.outerhard_shoulder_status)
-        (max (slot_levels ⟦<DrivingLaneStatus as AsnType>⟧.levels x.driving_lane_status) 0)))
-        0 };
+        (max (slot_levels ⟦<DrivingLaneStatus as AsnType>⟧.levels x.driving_lane_status) 0))) };
 }
 
 impl Record for ClosedLanes {

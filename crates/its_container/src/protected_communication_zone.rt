@@ -1,7 +1,7 @@
 //! ProtectedCommunicationZone, of the module ITS-Container.
 
 ghost use Rattle.its_container.specs.ItsContainer.{protected_communication_zone_lists};
-ghost use Rattle.rasn_below.specs.Page.{deeper_of, fields_of, slot_levels, slot_of, whole};
+ghost use Rattle.rasn_below.specs.Page.{fields_of, slot_levels, slot_of, whole};
 ghost use Rattle.std.specs.Prelude.{Some, [], max, pos, refl, ◌∷◌};
 
 use crate::aliases::{Latitude, Longitude, ProtectedZoneId, ProtectedZoneRadius, TimestampIts};
@@ -57,14 +57,13 @@ impl Components for ProtectedCommunicationZone {
         slot_of (λ v. whole (pos v)) x.protected_zone_id ∷
         [] };
 
-    ghost depth = { λ x. deeper_of
+    ghost depth = { λ x.
         (max 0
         (max (slot_levels ⟦<TimestampIts as AsnType>⟧.levels x.expiry_time)
         (max 0
         (max 0
         (max (slot_levels ⟦<ProtectedZoneRadius as AsnType>⟧.levels x.protected_zone_radius)
-        (max (slot_levels ⟦<ProtectedZoneId as AsnType>⟧.levels x.protected_zone_id) 0))))))
-        0 };
+        (max (slot_levels ⟦<ProtectedZoneId as AsnType>⟧.levels x.protected_zone_id) 0)))))) };
 }
 
 impl Record for ProtectedCommunicationZone {

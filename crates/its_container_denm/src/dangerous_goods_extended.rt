@@ -1,7 +1,7 @@
 //! DangerousGoodsExtended, of the module ITS-Container.
 
 ghost use Rattle.its_container_denm.specs.ItsContainer.{dangerous_goods_extended_lists};
-ghost use Rattle.rasn_below.specs.Page.{characters, deeper_of, fields_of, slot_levels, slot_of, truth, whole};
+ghost use Rattle.rasn_below.specs.Page.{characters, fields_of, slot_levels, slot_of, truth, whole};
 ghost use Rattle.std.specs.Prelude.{Some, [], max, pos, refl, ◌∷◌};
 
 use crate::aliases::PhoneNumber;
@@ -65,7 +65,7 @@ impl Components for DangerousGoodsExtended {
         slot_of ⟦<Utf8String as AsnType>⟧.value x.company_name ∷
         [] };
 
-    ghost depth = { λ x. deeper_of
+    ghost depth = { λ x.
         (max 0
         (max 0
         (max 0
@@ -73,8 +73,7 @@ impl Components for DangerousGoodsExtended {
         (max 0
         (max (slot_levels ⟦<Ia5String as AsnType>⟧.levels x.emergency_action_code)
         (max (slot_levels ⟦<PhoneNumber as AsnType>⟧.levels x.phone_number)
-        (max (slot_levels ⟦<Utf8String as AsnType>⟧.levels x.company_name) 0))))))))
-        0 };
+        (max (slot_levels ⟦<Utf8String as AsnType>⟧.levels x.company_name) 0)))))))) };
 }
 
 impl Record for DangerousGoodsExtended {

@@ -1,7 +1,7 @@
 //! VehicleIdentification, of the module ITS-Container.
 
 ghost use Rattle.its_container_denm.specs.ItsContainer.{vehicle_identification_lists};
-ghost use Rattle.rasn_below.specs.Page.{characters, deeper_of, fields_of, slot_levels, slot_of};
+ghost use Rattle.rasn_below.specs.Page.{characters, fields_of, slot_levels, slot_of};
 ghost use Rattle.std.specs.Prelude.{[], max, refl, ◌∷◌};
 
 use crate::aliases::{Vds, WmInumber};
@@ -40,10 +40,9 @@ impl Components for VehicleIdentification {
         slot_of characters x.vds ∷
         [] };
 
-    ghost depth = { λ x. deeper_of
+    ghost depth = { λ x.
         (max (slot_levels ⟦<WmInumber as AsnType>⟧.levels x.wm_inumber)
-        (max (slot_levels ⟦<Vds as AsnType>⟧.levels x.vds) 0))
-        0 };
+        (max (slot_levels ⟦<Vds as AsnType>⟧.levels x.vds) 0)) };
 }
 
 impl Record for VehicleIdentification {

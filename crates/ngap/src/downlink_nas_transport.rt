@@ -1,7 +1,7 @@
 //! DownlinkNasTransport, of the module NGAP-PDU-Contents.
 
 ghost use Rattle.ngap.specs.NgapPduContents.{downlink_nas_transport_lists};
-ghost use Rattle.rasn_below.specs.Page.{deeper_of, fields_of};
+ghost use Rattle.rasn_below.specs.Page.{fields_of};
 ghost use Rattle.std.specs.Prelude.{Some, [], max, refl, ◌∷◌};
 
 use crate::aliases::ProtocolIeContainer;
@@ -36,9 +36,8 @@ impl Components for DownlinkNasTransport {
         Some (⟦<ProtocolIeContainer as AsnType>⟧.value x.protocol_ies) ∷
         [] };
 
-    ghost depth = { λ x. deeper_of
-        (max (⟦<ProtocolIeContainer as AsnType>⟧.levels x.protocol_ies) 0)
-        0 };
+    ghost depth = { λ x.
+        (max (⟦<ProtocolIeContainer as AsnType>⟧.levels x.protocol_ies) 0) };
 }
 
 impl Record for DownlinkNasTransport {

@@ -1,7 +1,7 @@
 //! MobilityRestrictionList, of the module NGAP-IEs.
 
 ghost use Rattle.ngap_downlink.specs.NgapIes.{mobility_restriction_list_lists};
-ghost use Rattle.rasn_below.specs.Page.{deeper_of, fields_of, octets, slot_levels, slot_of};
+ghost use Rattle.rasn_below.specs.Page.{fields_of, octets, slot_levels, slot_of};
 ghost use Rattle.std.specs.Prelude.{Some, [], max, refl, ◌∷◌};
 
 use crate::aliases::{
@@ -60,14 +60,13 @@ impl Components for MobilityRestrictionList {
         slot_of ⟦<ProtocolExtensionContainer as AsnType>⟧.value x.ie_extensions ∷
         [] };
 
-    ghost depth = { λ x. deeper_of
+    ghost depth = { λ x.
         (max 0
         (max (slot_levels ⟦<EquivalentPlmns as AsnType>⟧.levels x.equivalent_plmns)
         (max (slot_levels ⟦<RatRestrictions as AsnType>⟧.levels x.rat_restrictions)
         (max (slot_levels ⟦<ForbiddenAreaInformation as AsnType>⟧.levels x.forbidden_area_information)
         (max (slot_levels ⟦<ServiceAreaInformation as AsnType>⟧.levels x.service_area_information)
-        (max (slot_levels ⟦<ProtocolExtensionContainer as AsnType>⟧.levels x.ie_extensions) 0))))))
-        0 };
+        (max (slot_levels ⟦<ProtocolExtensionContainer as AsnType>⟧.levels x.ie_extensions) 0)))))) };
 }
 
 impl Record for MobilityRestrictionList {

@@ -1,7 +1,7 @@
 //! ScheduledCommunicationTime, of the module NGAP-IEs.
 
 ghost use Rattle.ngap_downlink.specs.NgapIes.{scheduled_communication_time_lists};
-ghost use Rattle.rasn_below.specs.Page.{bits, deeper_of, fields_of, slot_levels, slot_of, whole};
+ghost use Rattle.rasn_below.specs.Page.{bits, fields_of, slot_levels, slot_of, whole};
 ghost use Rattle.std.specs.Prelude.{[], max, refl, ◌∷◌};
 
 use ngap::aliases::ProtocolExtensionContainer;
@@ -48,12 +48,11 @@ impl Components for ScheduledCommunicationTime {
         slot_of ⟦<ProtocolExtensionContainer as AsnType>⟧.value x.ie_extensions ∷
         [] };
 
-    ghost depth = { λ x. deeper_of
+    ghost depth = { λ x.
         (max (slot_levels ⟦<BitString as AsnType>⟧.levels x.dayof_week)
         (max (slot_levels ⟦<Integer as AsnType>⟧.levels x.timeof_day_start)
         (max (slot_levels ⟦<Integer as AsnType>⟧.levels x.timeof_day_end)
-        (max (slot_levels ⟦<ProtocolExtensionContainer as AsnType>⟧.levels x.ie_extensions) 0))))
-        0 };
+        (max (slot_levels ⟦<ProtocolExtensionContainer as AsnType>⟧.levels x.ie_extensions) 0)))) };
 }
 
 impl Record for ScheduledCommunicationTime {

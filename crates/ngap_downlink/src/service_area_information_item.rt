@@ -1,7 +1,7 @@
 //! ServiceAreaInformationItem, of the module NGAP-IEs.
 
 ghost use Rattle.ngap_downlink.specs.NgapIes.{service_area_information_item_lists};
-ghost use Rattle.rasn_below.specs.Page.{deeper_of, fields_of, octets, slot_levels, slot_of};
+ghost use Rattle.rasn_below.specs.Page.{fields_of, octets, slot_levels, slot_of};
 ghost use Rattle.std.specs.Prelude.{Some, [], max, refl, ◌∷◌};
 
 use crate::aliases::{AllowedTacs, NotAllowedTacs};
@@ -50,12 +50,11 @@ impl Components for ServiceAreaInformationItem {
         slot_of ⟦<ProtocolExtensionContainer as AsnType>⟧.value x.ie_extensions ∷
         [] };
 
-    ghost depth = { λ x. deeper_of
+    ghost depth = { λ x.
         (max 0
         (max (slot_levels ⟦<AllowedTacs as AsnType>⟧.levels x.allowed_tacs)
         (max (slot_levels ⟦<NotAllowedTacs as AsnType>⟧.levels x.not_allowed_tacs)
-        (max (slot_levels ⟦<ProtocolExtensionContainer as AsnType>⟧.levels x.ie_extensions) 0))))
-        0 };
+        (max (slot_levels ⟦<ProtocolExtensionContainer as AsnType>⟧.levels x.ie_extensions) 0)))) };
 }
 
 impl Record for ServiceAreaInformationItem {

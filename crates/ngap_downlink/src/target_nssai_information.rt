@@ -1,7 +1,7 @@
 //! TargetNssaiInformation, of the module NGAP-IEs.
 
 ghost use Rattle.ngap_downlink.specs.NgapIes.{target_nssai_information_lists};
-ghost use Rattle.rasn_below.specs.Page.{deeper_of, fields_of, slot_levels, slot_of, whole};
+ghost use Rattle.rasn_below.specs.Page.{fields_of, slot_levels, slot_of, whole};
 ghost use Rattle.std.specs.Prelude.{Some, [], max, refl, ◌∷◌};
 
 use crate::aliases::{IndexToRfsp, TargetNssai};
@@ -45,11 +45,10 @@ impl Components for TargetNssaiInformation {
         slot_of ⟦<ProtocolExtensionContainer as AsnType>⟧.value x.ie_extensions ∷
         [] };
 
-    ghost depth = { λ x. deeper_of
+    ghost depth = { λ x.
         (max (⟦<TargetNssai as AsnType>⟧.levels x.target_nssai)
         (max 0
-        (max (slot_levels ⟦<ProtocolExtensionContainer as AsnType>⟧.levels x.ie_extensions) 0)))
-        0 };
+        (max (slot_levels ⟦<ProtocolExtensionContainer as AsnType>⟧.levels x.ie_extensions) 0))) };
 }
 
 impl Record for TargetNssaiInformation {

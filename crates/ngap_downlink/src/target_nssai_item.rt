@@ -1,7 +1,7 @@
 //! TargetNssaiItem, of the module NGAP-IEs.
 
 ghost use Rattle.ngap_downlink.specs.NgapIes.{target_nssai_item_lists};
-ghost use Rattle.rasn_below.specs.Page.{deeper_of, fields_of, slot_levels, slot_of};
+ghost use Rattle.rasn_below.specs.Page.{fields_of, slot_levels, slot_of};
 ghost use Rattle.std.specs.Prelude.{Some, [], max, refl, ◌∷◌};
 
 use ngap::aliases::ProtocolExtensionContainer;
@@ -41,10 +41,9 @@ impl Components for TargetNssaiItem {
         slot_of ⟦<ProtocolExtensionContainer as AsnType>⟧.value x.ie_extensions ∷
         [] };
 
-    ghost depth = { λ x. deeper_of
+    ghost depth = { λ x.
         (max (⟦<SNssai as AsnType>⟧.levels x.s_nssai)
-        (max (slot_levels ⟦<ProtocolExtensionContainer as AsnType>⟧.levels x.ie_extensions) 0))
-        0 };
+        (max (slot_levels ⟦<ProtocolExtensionContainer as AsnType>⟧.levels x.ie_extensions) 0)) };
 }
 
 impl Record for TargetNssaiItem {

@@ -1,7 +1,7 @@
 //! UeAggregateMaximumBitRate, of the module NGAP-IEs.
 
 ghost use Rattle.ngap_downlink.specs.NgapIes.{ue_aggregate_maximum_bit_rate_lists};
-ghost use Rattle.rasn_below.specs.Page.{deeper_of, fields_of, slot_levels, slot_of, whole};
+ghost use Rattle.rasn_below.specs.Page.{fields_of, slot_levels, slot_of, whole};
 ghost use Rattle.std.specs.Prelude.{Some, [], max, refl, ◌∷◌};
 
 use crate::aliases::BitRate;
@@ -45,11 +45,10 @@ impl Components for UeAggregateMaximumBitRate {
         slot_of ⟦<ProtocolExtensionContainer as AsnType>⟧.value x.ie_extensions ∷
         [] };
 
-    ghost depth = { λ x. deeper_of
+    ghost depth = { λ x.
         (max 0
         (max 0
-        (max (slot_levels ⟦<ProtocolExtensionContainer as AsnType>⟧.levels x.ie_extensions) 0)))
-        0 };
+        (max (slot_levels ⟦<ProtocolExtensionContainer as AsnType>⟧.levels x.ie_extensions) 0))) };
 }
 
 impl Record for UeAggregateMaximumBitRate {

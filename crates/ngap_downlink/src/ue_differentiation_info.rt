@@ -1,7 +1,7 @@
 //! UeDifferentiationInfo, of the module NGAP-IEs.
 
 ghost use Rattle.ngap_downlink.specs.NgapIes.{ue_differentiation_info_lists};
-ghost use Rattle.rasn_below.specs.Page.{deeper_of, fields_of, slot_levels, slot_of, whole};
+ghost use Rattle.rasn_below.specs.Page.{fields_of, slot_levels, slot_of, whole};
 ghost use Rattle.std.specs.Prelude.{[], max, refl, ◌∷◌};
 
 use crate::scheduled_communication_time::ScheduledCommunicationTime;
@@ -70,7 +70,7 @@ impl Components for UeDifferentiationInfo {
         slot_of ⟦<ProtocolExtensionContainer as AsnType>⟧.value x.ie_extensions ∷
         [] };
 
-    ghost depth = { λ x. deeper_of
+    ghost depth = { λ x.
         (max (slot_levels ⟦<UeDifferentiationInfoPeriodicCommunicationIndicator as AsnType>⟧.levels
         x.periodic_communication_indicator)
         (max (slot_levels ⟦<Integer as AsnType>⟧.levels x.periodic_time)
@@ -78,8 +78,7 @@ impl Components for UeDifferentiationInfo {
         (max (slot_levels ⟦<UeDifferentiationInfoStationaryIndication as AsnType>⟧.levels x.stationary_indication)
         (max (slot_levels ⟦<UeDifferentiationInfoTrafficProfile as AsnType>⟧.levels x.traffic_profile)
         (max (slot_levels ⟦<UeDifferentiationInfoBatteryIndication as AsnType>⟧.levels x.battery_indication)
-        (max (slot_levels ⟦<ProtocolExtensionContainer as AsnType>⟧.levels x.ie_extensions) 0)))))))
-        0 };
+        (max (slot_levels ⟦<ProtocolExtensionContainer as AsnType>⟧.levels x.ie_extensions) 0))))))) };
 }
 
 impl Record for UeDifferentiationInfo {

@@ -1,7 +1,7 @@
 //! SNssai, of the module NGAP-IEs.
 
 ghost use Rattle.ngap_ies.specs.NgapIes.{s_nssai_lists};
-ghost use Rattle.rasn_below.specs.Page.{deeper_of, fields_of, octets, slot_levels, slot_of};
+ghost use Rattle.rasn_below.specs.Page.{fields_of, octets, slot_levels, slot_of};
 ghost use Rattle.std.specs.Prelude.{Some, [], max, refl, ◌∷◌};
 
 use crate::aliases::{Sd, Sst};
@@ -45,11 +45,10 @@ impl Components for SNssai {
         slot_of ⟦<ProtocolExtensionContainer as AsnType>⟧.value x.ie_extensions ∷
         [] };
 
-    ghost depth = { λ x. deeper_of
+    ghost depth = { λ x.
         (max 0
         (max (slot_levels ⟦<Sd as AsnType>⟧.levels x.sd)
-        (max (slot_levels ⟦<ProtocolExtensionContainer as AsnType>⟧.levels x.ie_extensions) 0)))
-        0 };
+        (max (slot_levels ⟦<ProtocolExtensionContainer as AsnType>⟧.levels x.ie_extensions) 0))) };
 }
 
 impl Record for SNssai {

@@ -1,7 +1,7 @@
 //! SourceToTargetAmfInformationReroute, of the module NGAP-IEs.
 
 ghost use Rattle.ngap_initial_ue.specs.NgapIes.{source_to_target_amf_information_reroute_lists};
-ghost use Rattle.rasn_below.specs.Page.{deeper_of, fields_of, octets, slot_levels, slot_of};
+ghost use Rattle.rasn_below.specs.Page.{fields_of, octets, slot_levels, slot_of};
 ghost use Rattle.std.specs.Prelude.{[], max, refl, ◌∷◌};
 
 use crate::aliases::{ConfiguredNssai, RejectedNssaIinPlmn, RejectedNssaIinTa};
@@ -49,12 +49,11 @@ impl Components for SourceToTargetAmfInformationReroute {
         slot_of ⟦<ProtocolExtensionContainer as AsnType>⟧.value x.ie_extensions ∷
         [] };
 
-    ghost depth = { λ x. deeper_of
+    ghost depth = { λ x.
         (max (slot_levels ⟦<ConfiguredNssai as AsnType>⟧.levels x.configured_nssai)
         (max (slot_levels ⟦<RejectedNssaIinPlmn as AsnType>⟧.levels x.rejected_nssa_iin_plmn)
         (max (slot_levels ⟦<RejectedNssaIinTa as AsnType>⟧.levels x.rejected_nssa_iin_ta)
-        (max (slot_levels ⟦<ProtocolExtensionContainer as AsnType>⟧.levels x.ie_extensions) 0))))
-        0 };
+        (max (slot_levels ⟦<ProtocolExtensionContainer as AsnType>⟧.levels x.ie_extensions) 0)))) };
 }
 
 impl Record for SourceToTargetAmfInformationReroute {

@@ -1,7 +1,7 @@
 //! UserLocationInformationEutra, of the module NGAP-IEs.
 
 ghost use Rattle.ngap_initial_ue.specs.NgapIes.{user_location_information_eutra_lists};
-ghost use Rattle.rasn_below.specs.Page.{deeper_of, fields_of, octets, slot_levels, slot_of};
+ghost use Rattle.rasn_below.specs.Page.{fields_of, octets, slot_levels, slot_of};
 ghost use Rattle.std.specs.Prelude.{Some, [], max, refl, ◌∷◌};
 
 use crate::aliases::TimeStamp;
@@ -51,12 +51,11 @@ impl Components for UserLocationInformationEutra {
         slot_of ⟦<ProtocolExtensionContainer as AsnType>⟧.value x.ie_extensions ∷
         [] };
 
-    ghost depth = { λ x. deeper_of
+    ghost depth = { λ x.
         (max (⟦<EutraCgi as AsnType>⟧.levels x.eutra_cgi)
         (max (⟦<Tai as AsnType>⟧.levels x.tai)
         (max (slot_levels ⟦<TimeStamp as AsnType>⟧.levels x.time_stamp)
-        (max (slot_levels ⟦<ProtocolExtensionContainer as AsnType>⟧.levels x.ie_extensions) 0))))
-        0 };
+        (max (slot_levels ⟦<ProtocolExtensionContainer as AsnType>⟧.levels x.ie_extensions) 0)))) };
 }
 
 impl Record for UserLocationInformationEutra {

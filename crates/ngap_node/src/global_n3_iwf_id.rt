@@ -1,7 +1,7 @@
 //! GlobalN3IwfId, of the module NGAP-IEs.
 
 ghost use Rattle.ngap_node.specs.NgapIes.{global_n3_iwf_id_lists};
-ghost use Rattle.rasn_below.specs.Page.{deeper_of, fields_of, octets, slot_levels, slot_of};
+ghost use Rattle.rasn_below.specs.Page.{fields_of, octets, slot_levels, slot_of};
 ghost use Rattle.std.specs.Prelude.{Some, [], max, refl, ◌∷◌};
 
 use crate::n3_iwf_id::N3IwfId;
@@ -46,11 +46,10 @@ impl Components for GlobalN3IwfId {
         slot_of ⟦<ProtocolExtensionContainer as AsnType>⟧.value x.ie_extensions ∷
         [] };
 
-    ghost depth = { λ x. deeper_of
+    ghost depth = { λ x.
         (max 0
         (max (⟦<N3IwfId as AsnType>⟧.levels x.n3_iwf_id)
-        (max (slot_levels ⟦<ProtocolExtensionContainer as AsnType>⟧.levels x.ie_extensions) 0)))
-        0 };
+        (max (slot_levels ⟦<ProtocolExtensionContainer as AsnType>⟧.levels x.ie_extensions) 0))) };
 }
 
 impl Record for GlobalN3IwfId {

@@ -1,7 +1,7 @@
 //! GlobalNgEnbId, of the module NGAP-IEs.
 
 ghost use Rattle.ngap_node.specs.NgapIes.{global_ng_enb_id_lists};
-ghost use Rattle.rasn_below.specs.Page.{deeper_of, fields_of, octets, slot_levels, slot_of};
+ghost use Rattle.rasn_below.specs.Page.{fields_of, octets, slot_levels, slot_of};
 ghost use Rattle.std.specs.Prelude.{Some, [], max, refl, ◌∷◌};
 
 use crate::ng_enb_id::NgEnbId;
@@ -46,11 +46,10 @@ impl Components for GlobalNgEnbId {
         slot_of ⟦<ProtocolExtensionContainer as AsnType>⟧.value x.ie_extensions ∷
         [] };
 
-    ghost depth = { λ x. deeper_of
+    ghost depth = { λ x.
         (max 0
         (max (⟦<NgEnbId as AsnType>⟧.levels x.ng_enb_id)
-        (max (slot_levels ⟦<ProtocolExtensionContainer as AsnType>⟧.levels x.ie_extensions) 0)))
-        0 };
+        (max (slot_levels ⟦<ProtocolExtensionContainer as AsnType>⟧.levels x.ie_extensions) 0))) };
 }
 
 impl Record for GlobalNgEnbId {

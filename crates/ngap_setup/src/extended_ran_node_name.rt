@@ -1,7 +1,7 @@
 //! ExtendedRanNodeName, of the module NGAP-IEs.
 
 ghost use Rattle.ngap_setup.specs.NgapIes.{extended_ran_node_name_lists};
-ghost use Rattle.rasn_below.specs.Page.{characters, deeper_of, fields_of, slot_levels, slot_of};
+ghost use Rattle.rasn_below.specs.Page.{characters, fields_of, slot_levels, slot_of};
 ghost use Rattle.std.specs.Prelude.{[], max, refl, ◌∷◌};
 
 use crate::aliases::{RanNodeNameUtf8String, RanNodeNameVisibleString};
@@ -46,11 +46,10 @@ impl Components for ExtendedRanNodeName {
         slot_of ⟦<ProtocolExtensionContainer as AsnType>⟧.value x.ie_extensions ∷
         [] };
 
-    ghost depth = { λ x. deeper_of
+    ghost depth = { λ x.
         (max (slot_levels ⟦<RanNodeNameVisibleString as AsnType>⟧.levels x.ran_node_name_visible_string)
         (max (slot_levels ⟦<RanNodeNameUtf8String as AsnType>⟧.levels x.ran_node_name_utf8_string)
-        (max (slot_levels ⟦<ProtocolExtensionContainer as AsnType>⟧.levels x.ie_extensions) 0)))
-        0 };
+        (max (slot_levels ⟦<ProtocolExtensionContainer as AsnType>⟧.levels x.ie_extensions) 0))) };
 }
 
 impl Record for ExtendedRanNodeName {

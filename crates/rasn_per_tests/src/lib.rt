@@ -19,6 +19,8 @@ mod defaults;
 #[cfg(test)]
 mod expected;
 #[cfg(test)]
+mod forms;
+#[cfg(test)]
 mod header;
 #[cfg(test)]
 mod moments;

@@ -2,6 +2,7 @@
 
 use crate::expected::{expect_coded, expect_value};
 use per_samples_lists::filter::Filter;
+use per_samples_lists::ping::Ping;
 use per_samples_lists::tree::Tree;
 use rasn_below::types::Codec;
 
@@ -58,4 +59,13 @@ fn an_empty_list_of_filters_is_its_index_and_its_count(rt: HostRuntime) {
     let none = Filter::Or(Vec::new(rt.alloc()));
     expect_coded(&rt, rt.alloc(), Codec::Uper, &none, &[0x40, 0x00]);
     expect_coded(&rt, rt.alloc(), Codec::Aper, &none, &[0x40, 0x00]);
+}
+
+/// Types that hold one another have a presence bit for each level.
+#[test]
+fn pings_are_written_as_they_were_read(rt: HostRuntime) {
+    for octets in [&[0x00], &[0x80], &[0xe0]] {
+        expect_value::<Ping>(&rt, rt.alloc(), Codec::Aper, octets);
+        expect_value::<Ping>(&rt, rt.alloc(), Codec::Uper, octets);
+    }
 }

@@ -1,6 +1,6 @@
 //! One alternative of a CHOICE, as a list states it, whose constraints stand at its place in another.
 
-ghost use Rattle.std.specs.Prelude.{◌≡◌, ◌<◌, ◌≤◌, ℕ, Some, length};
+ghost use Rattle.std.specs.Prelude.{◌≡◌, ◌<◌, ◌≤◌, ℕ, None, Some, length};
 ghost use Rattle.rasn_schema.specs.Choices.{alternative_at, AreVariants, choices_of, place_of, variants_behind};
 ghost use Rattle.rasn_schema.specs.declared.items.Place.TheVariants.{Root, Added};
 ghost use Rattle.rasn_schema.specs.Components.{added_parts, chosen, chosen_behind, root_parts};
@@ -116,6 +116,7 @@ pub fn place_before<T: Choice>(tag: Tag) -> usize
     requires { 0 < length T.VARIANTS }
     ensures within { result < length T.VARIANTS }
     ensures stands { (k : ℕ) → place_of (tag_of tag) T.VARIANTS ≡ Some k → result ≡ k }
+    ensures otherwise { place_of (tag_of tag) T.VARIANTS ≡ None → result ≡ 0 }
 {
     match T::VARIANTS.index_of(tag) {
         Some(place) => place,
@@ -132,6 +133,8 @@ pub fn stands_at<T: Choice>(tag: Tag) -> Place
     ensures before { (k : ℕ) → place_of (tag_of tag) T.VARIANTS ≡ Some k → result ≡ Root k }
     ensures behind { (k : ℕ) → place_of (tag_of tag) (variants_behind T.EXTENDED_VARIANTS) ≡ Some k
         → result ≡ Added k }
+    ensures otherwise { place_of (tag_of tag) T.VARIANTS ≡ None
+        → place_of (tag_of tag) (variants_behind T.EXTENDED_VARIANTS) ≡ None → result ≡ Root 0 }
 {
     let added = T::EXTENDED_VARIANTS;
     match T::VARIANTS.place_of(&added, tag) {

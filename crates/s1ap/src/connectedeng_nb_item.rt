@@ -1,6 +1,6 @@
 //! ConnectedengNbItem, of the module S1AP-IEs.
 
-ghost use Rattle.rasn_below.specs.Page.{bits, deeper_of, fields_of, slot_levels, slot_of};
+ghost use Rattle.rasn_below.specs.Page.{bits, fields_of, slot_levels, slot_of};
 ghost use Rattle.s1ap.specs.S1ApIes.{connectedeng_nb_item_lists};
 ghost use Rattle.std.specs.Prelude.{Some, [], max, refl, ◌∷◌};
 
@@ -44,11 +44,10 @@ impl Components for ConnectedengNbItem {
         slot_of ⟦<ProtocolExtensionContainer as AsnType>⟧.value x.ie_extensions ∷
         [] };
 
-    ghost depth = { λ x. deeper_of
+    ghost depth = { λ x.
         (max 0
         (max (⟦<SupportedTas as AsnType>⟧.levels x.supported_tas)
-        (max (slot_levels ⟦<ProtocolExtensionContainer as AsnType>⟧.levels x.ie_extensions) 0)))
-        0 };
+        (max (slot_levels ⟦<ProtocolExtensionContainer as AsnType>⟧.levels x.ie_extensions) 0))) };
 }
 
 impl Record for ConnectedengNbItem {

@@ -1,6 +1,6 @@
 //! CsgIdListItem, of the module S1AP-IEs.
 
-ghost use Rattle.rasn_below.specs.Page.{bits, deeper_of, fields_of, slot_levels, slot_of};
+ghost use Rattle.rasn_below.specs.Page.{bits, fields_of, slot_levels, slot_of};
 ghost use Rattle.s1ap.specs.S1ApIes.{csg_id_list_item_lists};
 ghost use Rattle.std.specs.Prelude.{Some, [], max, refl, ◌∷◌};
 
@@ -40,10 +40,9 @@ impl Components for CsgIdListItem {
         slot_of ⟦<ProtocolExtensionContainer as AsnType>⟧.value x.ie_extensions ∷
         [] };
 
-    ghost depth = { λ x. deeper_of
+    ghost depth = { λ x.
         (max 0
-        (max (slot_levels ⟦<ProtocolExtensionContainer as AsnType>⟧.levels x.ie_extensions) 0))
-        0 };
+        (max (slot_levels ⟦<ProtocolExtensionContainer as AsnType>⟧.levels x.ie_extensions) 0)) };
 }
 
 impl Record for CsgIdListItem {

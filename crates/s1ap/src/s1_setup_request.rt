@@ -1,6 +1,6 @@
 //! S1SetupRequest, of the module S1AP-PDU-Contents.
 
-ghost use Rattle.rasn_below.specs.Page.{deeper_of, fields_of};
+ghost use Rattle.rasn_below.specs.Page.{fields_of};
 ghost use Rattle.s1ap.specs.S1ApPduContents.{s1_setup_request_lists};
 ghost use Rattle.std.specs.Prelude.{Some, [], max, refl, ◌∷◌};
 
@@ -36,9 +36,8 @@ impl Components for S1SetupRequest {
         Some (⟦<ProtocolIeContainer as AsnType>⟧.value x.protocol_ies) ∷
         [] };
 
-    ghost depth = { λ x. deeper_of
-        (max (⟦<ProtocolIeContainer as AsnType>⟧.levels x.protocol_ies) 0)
-        0 };
+    ghost depth = { λ x.
+        (max (⟦<ProtocolIeContainer as AsnType>⟧.levels x.protocol_ies) 0) };
 }
 
 impl Record for S1SetupRequest {

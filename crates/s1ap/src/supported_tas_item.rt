@@ -1,6 +1,6 @@
 //! SupportedTasItem, of the module S1AP-IEs.
 
-ghost use Rattle.rasn_below.specs.Page.{deeper_of, fields_of, octets, slot_levels, slot_of};
+ghost use Rattle.rasn_below.specs.Page.{fields_of, octets, slot_levels, slot_of};
 ghost use Rattle.s1ap.specs.S1ApIes.{supported_tas_item_lists};
 ghost use Rattle.std.specs.Prelude.{Some, [], max, refl, ◌∷◌};
 
@@ -44,11 +44,10 @@ impl Components for SupportedTasItem {
         slot_of ⟦<ProtocolExtensionContainer as AsnType>⟧.value x.ie_extensions ∷
         [] };
 
-    ghost depth = { λ x. deeper_of
+    ghost depth = { λ x.
         (max 0
         (max (⟦<Bplmns as AsnType>⟧.levels x.broadcast_plmns)
-        (max (slot_levels ⟦<ProtocolExtensionContainer as AsnType>⟧.levels x.ie_extensions) 0)))
-        0 };
+        (max (slot_levels ⟦<ProtocolExtensionContainer as AsnType>⟧.levels x.ie_extensions) 0))) };
 }
 
 impl Record for SupportedTasItem {
