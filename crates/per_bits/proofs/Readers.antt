@@ -1,5 +1,5 @@
 -- The bits that a reader has left, and the bits that octets are filled with.
-use Rattle.std.proofs.Common.{◌≡◌, refl, sym, ap, ap₂, ◌∙◌, ℕ, ◌+◌, ◌-◌, ◌*◌, ◌/◌, ◌%◌, ◌≤◌, false, IsTrue, nat_eq, eqb-true, eq-eqb, List, [], ◌++◌, length, take, drop, replicate, arith, length-append, length-take, length-drop}
+use Rattle.std.proofs.Common.{◌≡◌, refl, sym, ap, ap₂, ◌∙◌, ℕ, ◌+◌, ◌-◌, ◌*◌, ◌/◌, ◌%◌, ◌≤◌, ◌<◌, false, IsTrue, nat_eq, eqb-true, eq-eqb, List, [], ◌++◌, length, take, drop, replicate, arith, length-append, length-take, length-drop}
 use Rattle.std.specs.Prelude.{Result, Ok, Err, IsOk, OnErr}
 use Rattle.std.proofs.lemmas.List.{append-nil, take-take, drop-take, drop-drop, take-append-drop, nil_from_length, take_all, take_at, length-replicate}
 use Rattle.std.proofs.lemmas.Slice.{between_to_end}
@@ -46,6 +46,11 @@ part_taken s n k m p os h e =
     let bits = drop s (unpack os) in
     let rest : take m (drop k (take n bits)) ≡ take m (drop k bits) = ap (λ (i : ℕ). take m (drop k (take i bits))) (let i : n ≡ k + (n - k) = omega arith in i) ∙ ap (λ bs. take m bs) (drop-take k (n - k) bits) ∙ take-take m (n - k) (drop k bits) (omega arith) in
     ap (λ bs. take m bs) (from_place s k p os e) ∙ sym rest
+
+-- the first bit that is left stands in the first octet
+pub first_of_octet : (s : ℕ) (os : List ℕ) → s < 8 → take 1 (drop s (unpack (take 1 os))) ≡ take 1 (drop s (unpack os))
+first_of_octet s os h = ap (λ bs. take 1 (drop s bs)) (sym (unpack-take 1 os) ∙ ap (λ (n : ℕ). take n (unpack os)) (let e : 8 * 1 ≡ s + (8 - s) = omega arith in e))
+    ∙ ap (λ bs. take 1 bs) (drop-take s (8 - s) (unpack os)) ∙ take-take 1 (8 - s) (drop s (unpack os)) (omega arith)
 
 pub empty_iff : (n : ℕ) (xs : Bits) → length xs ≡ n → (IsTrue (nat_eq n 0) → xs ≡ []) × (xs ≡ [] → IsTrue (nat_eq n 0))
 empty_iff n xs e = (λ t. nil_from_length xs (e ∙ eqb-true n 0 t), λ t. eq-eqb n 0 (sym e ∙ ap length t))

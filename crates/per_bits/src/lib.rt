@@ -348,6 +348,15 @@ impl<'input> BitReader<'input> {
         }
     }
 
+    /// The first bit, 0 or 1, which is still left.
+    #[inline(always)]
+    pub fn first_bit(&self) -> u64
+        requires { 1 ≤ length self.now.bits }
+        ensures { result ≡ number_of (take 1 self.now.bits) }
+    {
+        read_field(&self.octets[..1], self.skip, 1)
+    }
+
     /// The number that the first `width` bits mean, at most the 56 of a field. They are then no longer left.
     pub fn take_field(&mut self, width: u32) -> u64
         requires few { width ≤ FIELD_BITS }

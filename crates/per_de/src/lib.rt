@@ -407,7 +407,7 @@ impl<'input> Decoder<'input> {
         if presences.is_empty() {
             return None;
         }
-        Some(presences.first_bits(1) == 1)
+        Some(presences.first_bit() == 1)
     }
 
     /// An error of a kind, with the variant in use.
@@ -542,7 +542,7 @@ impl<'input> Decoder<'input> {
         if bits.is_empty() {
             return Err(self.refuse(DecodeErrorKind::Incomplete(Count::new(1))));
         }
-        let bit = bits.first_bits(1) == 1;
+        let bit = bits.first_bit() == 1;
         self.bits = self.bits.behind(1);
         Ok(bit)
     }
@@ -780,7 +780,7 @@ fn come_alone(constraints: &Constraints, bits: &BitReader<'_>, count: usize) -> 
     let (Some(_), Some(upper)) = size.constraint.start_and_end() else {
         return false;
     };
-    upper < 65536 && !(size.extensible && !bits.is_empty() && bits.first_bits(1) == 1)
+    upper < 65536 && !(size.extensible && !bits.is_empty() && bits.first_bit() == 1)
 }
 
 /// How many additions a type has.

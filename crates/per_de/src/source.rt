@@ -153,7 +153,7 @@ impl Span {
             return None;
         }
         *self = self.behind(1);
-        Some(bits.first_bits(1) == 1)
+        Some(bits.first_bit() == 1)
     }
 
     /// These bits of a source, as far as they are there.

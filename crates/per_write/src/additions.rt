@@ -102,8 +102,7 @@ impl<A: Allocator + Clone> Writer<A> {
         } = outside;
         let additions = self.put_addition(additions, pieces)?;
         self.presences = presences;
-        self.give_addition(additions, true)?;
-        Ok(())
+        self.give_addition(additions, true)
     }
 
     /// Closes the open type of an addition group. Where none of its parts is required, and all bits that were written
@@ -128,8 +127,7 @@ impl<A: Allocator + Clone> Writer<A> {
         } = outside;
         self.scratch = mem::replace(&mut self.pieces, pieces).into_placed().ok();
         self.presences = presences;
-        self.give_addition(additions, false)?;
-        Ok(())
+        self.give_addition(additions, false)
     }
 
     /// Puts what was written, as the contents of an open type (X.691 11.2), behind the open types of other additions.
@@ -231,8 +229,7 @@ impl<A: Allocator + Clone> Writer<A> {
         self.pieces.set(additions.extension, true);
         self.put_bitmap(&additions.flags, additions.count)?;
         self.put_padding()?;
-        self.put_reader(&BitReader::new(&additions.opens))?;
-        Ok(())
+        self.put_reader(&BitReader::new(&additions.opens))
     }
 
     /// Writes zero bits up to the next octet in the aligned variant.

@@ -24,7 +24,6 @@ impl<A: Allocator + Clone> Writer<A> {
         }
         self.put_bit(false)?;
         self.put_bits(count.saturating_sub(1) as u128, 6)?;
-        self.put_reader(&BitReader::new(flags))?;
-        Ok(())
+        self.put_reader(&BitReader::new(flags))
     }
 }

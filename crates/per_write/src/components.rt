@@ -108,8 +108,7 @@ impl<A: Allocator + Clone> Writer<A> {
             return Err(self.refuse(EncodeErrorKind::OutOfTurn));
         };
         let pushed = push_set_root(&mut self.pieces, fields, &components);
-        self.unless_out_of_memory(pushed)?;
-        Ok(())
+        self.unless_out_of_memory(pushed)
     }
 }
 

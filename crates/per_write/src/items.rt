@@ -69,8 +69,7 @@ impl Items for Octets<'_> {
         start: usize,
         end: usize,
     ) -> Result<(), EncodeError> {
-        writer.put_bare_octets(&self.0[start..end])?;
-        Ok(())
+        writer.put_bare_octets(&self.0[start..end])
     }
 }
 
@@ -96,8 +95,7 @@ impl Items for BitString {
         let mut rest = BitReader::from_octets(self.as_octets());
         rest.take(start as u128).unwrap();
         let bits = rest.take((end - start) as u128).unwrap();
-        writer.put_reader(&bits)?;
-        Ok(())
+        writer.put_reader(&bits)
     }
 }
 
@@ -132,8 +130,7 @@ impl<B: Allocator> Items for Flags<'_, B> {
         let mut rest = BitReader::new(self.bits);
         rest.take(start as u128).unwrap();
         let bits = rest.take((end - start) as u128).unwrap();
-        writer.put_reader(&bits)?;
-        Ok(())
+        writer.put_reader(&bits)
     }
 }
 

@@ -257,8 +257,7 @@ impl<A: Allocator + Clone> Writer<A> {
         ensures { Puts IsMemory (one_by_one (octet_writers octets.now)) self.old result self.new }
     {
         let pushed = self.pieces.push_octets(octets);
-        self.unless_out_of_memory(pushed)?;
-        Ok(())
+        self.unless_out_of_memory(pushed)
     }
 
     /// Writes octets behind an unconstrained length (X.691 11.9.3.5 to 11.9.3.8).

@@ -22,8 +22,7 @@ impl<A: Allocator + Clone> Writer<A> {
         if contents.is_empty() {
             return self.put_octets(&[0]);
         }
-        self.put_octets(contents.as_octets())?;
-        Ok(())
+        self.put_octets(contents.as_octets())
     }
 
     /// Writes an open type (X.691 11.2) whose contents were written before.

@@ -89,8 +89,7 @@ impl<A: Allocator + Clone> Writer<A> {
             self.put_fragment(items, start, end)?;
             start = end;
         }
-        self.put_fragment(items, start, count)?;
-        Ok(())
+        self.put_fragment(items, start, count)
     }
 
     /// Writes the items from an index on and before another, behind one length.

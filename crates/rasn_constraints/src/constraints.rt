@@ -43,6 +43,7 @@ impl<T: Copy> Bounded<T> {
     ghost use Rattle.rasn_constraints.specs.Constraints.{start_of, end_of};
 
     /// The start and the end, each where there is one. A single value is its own start and end.
+    #[inline(always)]
     pub fn start_and_end(&self) -> (Option<T>, Option<T>)
         ensures start { result.0 ≡ start_of self.now }
         ensures end { result.1 ≡ end_of self.now }
@@ -59,6 +60,7 @@ impl<T: Number> Bounded<T> {
     ghost use Rattle.rasn_constraints.specs.Constraints.{bounds_by, how_many};
 
     /// Whether a value is within the bounds: none is, where the start is above the end.
+    #[inline(always)]
     pub fn contains(&self, value: &T) -> bool
         ensures { result ≡ holds (bounds_by T.whole self.now) (T.whole value.now) }
     {
@@ -222,6 +224,7 @@ impl Constraints {
     }
 
     /// The first value constraint, where there is one.
+    #[inline(always)]
     pub fn value(&self) -> Option<Extensible<Bounded<i128>>>
         ensures { result ≡ self.now.value }
     {

@@ -11,4 +11,4 @@ returns c =
     let span = c.self.inside.bits in
     let source = bits_of c.self.inside.source in
     rw (← c.self.view_is, c.behind-self-inside.ensures)
-    (record { front = _; joins = next_of span source c.input-bits.result.bits c.first_bits-bit.result (c.input-bits.ensures.bits ∙ sym (ap (λ z. z.bits) c.self.view_is)) (search rules) c.first_bits-bit.ensures; spelled = refl }, refl)
+    (record { front = _; joins = next_of span source c.input-bits.result.bits c.first_bit-bit.result (c.input-bits.ensures.bits ∙ sym (ap (λ z. z.bits) c.self.view_is)) (search rules) c.first_bit-bit.ensures; spelled = refl }, refl)

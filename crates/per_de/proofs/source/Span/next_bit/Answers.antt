@@ -6,5 +6,5 @@ use Rattle.per_de.proofs.source.Span.next_bit.Goals as goal
 
 pub returns : goal.returns
 returns c =
-    next_of c.args.self.now c.args.source.bits c.part_of-bits.result.bits c.first_bits.result c.part_of-bits.ensures (search rules) c.first_bits.ensures
-    ∙ ap (λ (z : Span). nat_eq c.first_bits.result 1 ∷ span_of z c.args.source.bits) (sym c.behind.ensures)
+    next_of c.args.self.now c.args.source.bits c.part_of-bits.result.bits c.first_bit.result c.part_of-bits.ensures (search rules) c.first_bit.ensures
+    ∙ ap (λ (z : Span). nat_eq c.first_bit.result 1 ∷ span_of z c.args.source.bits) (sym c.behind.ensures)
