@@ -31,8 +31,7 @@ impl<A: Allocator + Clone> Writer<A> {
             return self.put_octets(&octets);
         };
         let pushed = push_unconstrained_whole(&mut self.pieces, self.codec, number);
-        self.unless_out_of_memory(pushed)?;
-        Ok(())
+        self.unless_out_of_memory(pushed)
     }
 
     /// Writes a number of an `i128` that is within bounds (X.691 13.2).

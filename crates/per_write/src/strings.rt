@@ -30,8 +30,7 @@ impl<A: Allocator + Clone> Writer<A> {
         requires { self.old.failed ≡ false }
         ensures { Writes encoder_rules (octet_schema constraints.now) (octets value.now) self.old result self.new }
     {
-        self.put_counted(constraints.size(), &Octets(value))?;
-        Ok(())
+        self.put_counted(constraints.size(), &Octets(value))
     }
 
     /// Writes a BIT STRING under constraints (X.691 16).
@@ -43,8 +42,7 @@ impl<A: Allocator + Clone> Writer<A> {
         requires { self.old.failed ≡ false }
         ensures { Writes encoder_rules (bit_schema constraints.now) (bits value.now) self.old result self.new }
     {
-        self.put_counted(constraints.size(), value)?;
-        Ok(())
+        self.put_counted(constraints.size(), value)
     }
 
     /// Writes a BIT STRING under constraints whose bits have names (X.691 16.2): without the zero bits at its end, and
@@ -61,8 +59,7 @@ impl<A: Allocator + Clone> Writer<A> {
         let size = constraints.size();
         let bits = value.trimmed_to(least_count(size));
         let bits = self.unless_out_of_memory(bits)?;
-        self.put_counted(size, &bits)?;
-        Ok(())
+        self.put_counted(size, &bits)
     }
 
     /// Writes a string of a known-multiplier type under constraints (X.691 30.5).
@@ -79,8 +76,7 @@ impl<A: Allocator + Clone> Writer<A> {
             string: value,
             alphabet: alphabet_under::<S>(constraints, self.codec),
         };
-        self.put_counted(constraints.size(), &characters)?;
-        Ok(())
+        self.put_counted(constraints.size(), &characters)
     }
 }
 
