@@ -226,8 +226,7 @@ impl<A: Allocator + Clone> encoder::Encoder for Encoder<A> {
         _identifier: Identifier,
     ) -> Result<(), EncodeError> {
         self.begin_value()?;
-        self.writer.put_bit(value)?;
-        Ok(())
+        self.writer.put_bit(value)
     }
 
     #[inline(always)]
@@ -252,20 +251,17 @@ impl<A: Allocator + Clone> encoder::Encoder for Encoder<A> {
         _identifier: Identifier,
     ) -> Result<(), EncodeError> {
         self.writer.check_unfailed()?;
-        self.writer.refuse_real()?;
-        Ok(())
+        self.writer.refuse_real()
     }
 
     fn encode_absent(&mut self, _tag: Tag, _identifier: Identifier) -> Result<(), EncodeError> {
         self.writer.check_unfailed()?;
-        self.writer.refuse_absent()?;
-        Ok(())
+        self.writer.refuse_absent()
     }
 
     #[inline(always)]
     fn encode_null(&mut self, _tag: Tag, _identifier: Identifier) -> Result<(), EncodeError> {
-        self.begin_value()?;
-        Ok(())
+        self.begin_value()
     }
 
     #[inline(always)]
@@ -276,8 +272,7 @@ impl<A: Allocator + Clone> encoder::Encoder for Encoder<A> {
         _identifier: Identifier,
     ) -> Result<(), EncodeError> {
         self.begin_value()?;
-        put_enumerated(&mut self.writer, value)?;
-        Ok(())
+        put_enumerated(&mut self.writer, value)
     }
 
     fn encode_any(
@@ -287,8 +282,7 @@ impl<A: Allocator + Clone> encoder::Encoder for Encoder<A> {
         _identifier: Identifier,
     ) -> Result<(), EncodeError> {
         self.begin_value()?;
-        self.writer.put_octets(value.as_bytes())?;
-        Ok(())
+        self.writer.put_octets(value.as_bytes())
     }
 
     #[inline(always)]
@@ -300,8 +294,7 @@ impl<A: Allocator + Clone> encoder::Encoder for Encoder<A> {
         _identifier: Identifier,
     ) -> Result<(), EncodeError> {
         self.begin_value()?;
-        self.writer.put_octet_string(constraints, value)?;
-        Ok(())
+        self.writer.put_octet_string(constraints, value)
     }
 
     #[inline(always)]
@@ -313,8 +306,7 @@ impl<A: Allocator + Clone> encoder::Encoder for Encoder<A> {
         _identifier: Identifier,
     ) -> Result<(), EncodeError> {
         self.begin_value()?;
-        self.writer.put_bit_string(constraints, value)?;
-        Ok(())
+        self.writer.put_bit_string(constraints, value)
     }
 
     fn encode_named_bits(
@@ -325,8 +317,7 @@ impl<A: Allocator + Clone> encoder::Encoder for Encoder<A> {
         _identifier: Identifier,
     ) -> Result<(), EncodeError> {
         self.begin_value()?;
-        self.writer.put_named_bits(constraints, value)?;
-        Ok(())
+        self.writer.put_named_bits(constraints, value)
     }
 
     #[inline(always)]
@@ -338,8 +329,7 @@ impl<A: Allocator + Clone> encoder::Encoder for Encoder<A> {
         _identifier: Identifier,
     ) -> Result<(), EncodeError> {
         self.begin_value()?;
-        self.writer.put_characters(constraints, value)?;
-        Ok(())
+        self.writer.put_characters(constraints, value)
     }
 
     fn encode_utf8_string(
@@ -350,8 +340,7 @@ impl<A: Allocator + Clone> encoder::Encoder for Encoder<A> {
         _identifier: Identifier,
     ) -> Result<(), EncodeError> {
         self.begin_value()?;
-        self.writer.put_octets(value.as_bytes())?;
-        Ok(())
+        self.writer.put_octets(value.as_bytes())
     }
 
     fn encode_general_string(
@@ -362,8 +351,7 @@ impl<A: Allocator + Clone> encoder::Encoder for Encoder<A> {
         _identifier: Identifier,
     ) -> Result<(), EncodeError> {
         self.begin_value()?;
-        self.writer.put_octets(value.as_bytes())?;
-        Ok(())
+        self.writer.put_octets(value.as_bytes())
     }
 
     fn encode_graphic_string(
@@ -374,8 +362,7 @@ impl<A: Allocator + Clone> encoder::Encoder for Encoder<A> {
         _identifier: Identifier,
     ) -> Result<(), EncodeError> {
         self.begin_value()?;
-        self.writer.put_octets(value.as_bytes())?;
-        Ok(())
+        self.writer.put_octets(value.as_bytes())
     }
 
     fn encode_teletex_string(
@@ -386,8 +373,7 @@ impl<A: Allocator + Clone> encoder::Encoder for Encoder<A> {
         _identifier: Identifier,
     ) -> Result<(), EncodeError> {
         self.begin_value()?;
-        self.writer.put_octets(value.as_bytes())?;
-        Ok(())
+        self.writer.put_octets(value.as_bytes())
     }
 
     fn encode_object_identifier(
@@ -397,8 +383,7 @@ impl<A: Allocator + Clone> encoder::Encoder for Encoder<A> {
         _identifier: Identifier,
     ) -> Result<(), EncodeError> {
         self.begin_value()?;
-        put_object_identifier(&mut self.writer, value)?;
-        Ok(())
+        put_object_identifier(&mut self.writer, value)
     }
 
     fn encode_utc_time<M: UtcMoment>(
@@ -408,8 +393,7 @@ impl<A: Allocator + Clone> encoder::Encoder for Encoder<A> {
         _identifier: Identifier,
     ) -> Result<(), EncodeError> {
         self.begin_value()?;
-        put_utc_time(&mut self.writer, value)?;
-        Ok(())
+        put_utc_time(&mut self.writer, value)
     }
 
     fn encode_generalized_time<M: GeneralizedMoment>(
@@ -419,8 +403,7 @@ impl<A: Allocator + Clone> encoder::Encoder for Encoder<A> {
         _identifier: Identifier,
     ) -> Result<(), EncodeError> {
         self.begin_value()?;
-        put_generalized_time(&mut self.writer, value)?;
-        Ok(())
+        put_generalized_time(&mut self.writer, value)
     }
 
     fn encode_date<D: CivilDate>(
@@ -430,8 +413,7 @@ impl<A: Allocator + Clone> encoder::Encoder for Encoder<A> {
         _identifier: Identifier,
     ) -> Result<(), EncodeError> {
         self.begin_value()?;
-        put_date(&mut self.writer, value)?;
-        Ok(())
+        put_date(&mut self.writer, value)
     }
 
     fn open_sequence<C: Constructed>(
@@ -452,8 +434,7 @@ impl<A: Allocator + Clone> encoder::Encoder for Encoder<A> {
         self.writer.check_unfailed()?;
         let (scope, set) = outside;
         self.set = set;
-        self.writer.close_record(scope)?;
-        Ok(())
+        self.writer.close_record(scope)
     }
 
     fn open_components<C: Constructed>(
@@ -479,8 +460,7 @@ impl<A: Allocator + Clone> encoder::Encoder for Encoder<A> {
         self.writer.put_components(set, &C::FIELDS)?;
         let (record, outer) = outside;
         self.set = outer;
-        self.writer.close_record(record)?;
-        Ok(())
+        self.writer.close_record(record)
     }
 
     fn open_set<C: Constructed>(
@@ -502,8 +482,7 @@ impl<A: Allocator + Clone> encoder::Encoder for Encoder<A> {
         self.writer.check_unfailed()?;
         let (ordered, set) = outside;
         self.set = set;
-        self.writer.close_record(ordered)?;
-        Ok(())
+        self.writer.close_record(ordered)
     }
 
     fn open_choice<C: Choice>(
@@ -528,8 +507,7 @@ impl<A: Allocator + Clone> encoder::Encoder for Encoder<A> {
         let place = checked_place(&mut self.writer, found)?;
         let (choice, set) = outside;
         self.set = set;
-        close_choice(&mut self.writer, variants.len(), place, choice)?;
-        Ok(())
+        close_choice(&mut self.writer, variants.len(), place, choice)
     }
 
     fn open_contents(
@@ -550,8 +528,7 @@ impl<A: Allocator + Clone> encoder::Encoder for Encoder<A> {
         let (waiting, set) = outside;
         self.set = set;
         let contents = self.writer.close_unplaced(waiting);
-        self.writer.put_open_pieces(contents)?;
-        Ok(())
+        self.writer.put_open_pieces(contents)
     }
 
     #[inline(always)]
@@ -566,8 +543,7 @@ impl<A: Allocator + Clone> encoder::Encoder for Encoder<A> {
 
     fn skip_addition(&mut self) -> Result<(), EncodeError> {
         self.writer.check_unfailed()?;
-        self.writer.skip_addition()?;
-        Ok(())
+        self.writer.skip_addition()
     }
 
     fn open_addition(&mut self) -> Result<(OutsideAddition<A>, EnclosingSet<A>), EncodeError> {
@@ -583,8 +559,7 @@ impl<A: Allocator + Clone> encoder::Encoder for Encoder<A> {
         self.writer.check_unfailed()?;
         let (open_type, set) = addition;
         self.set = set;
-        self.writer.close_addition(open_type)?;
-        Ok(())
+        self.writer.close_addition(open_type)
     }
 
     fn close_group<C: AdditionGroup>(
@@ -596,8 +571,7 @@ impl<A: Allocator + Clone> encoder::Encoder for Encoder<A> {
         let has_required = fields.number_of_optional_and_default_fields() < fields.len();
         let (open_type, set) = addition;
         self.set = set;
-        self.writer.close_group(open_type, has_required)?;
-        Ok(())
+        self.writer.close_group(open_type, has_required)
     }
 
     fn open_list(
@@ -627,8 +601,7 @@ impl<A: Allocator + Clone> encoder::Encoder for Encoder<A> {
         self.writer.check_unfailed()?;
         let (elements, set) = list;
         self.set = set;
-        close_list(&mut self.writer, elements)?;
-        Ok(())
+        close_list(&mut self.writer, elements)
     }
 
     fn open_set_of(

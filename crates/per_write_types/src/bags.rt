@@ -75,8 +75,7 @@ impl<A: Allocator + Clone> OpenBag<A> {
         let sorted = self.members.sort();
         writer.unless_out_of_memory(sorted)?;
         let OpenBag { list, members, .. } = self;
-        put_members(writer, list, &members)?;
-        Ok(())
+        put_members(writer, list, &members)
     }
 
     /// Keeps the member that was begun, if one was: what waited is there again.

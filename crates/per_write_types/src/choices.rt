@@ -170,8 +170,7 @@ fn put_root_alternative<A: Allocator + Clone>(
 {
     writer.put_extension_bit(true, false)?;
     put_index(writer, roots, index)?;
-    writer.put_pieces(value)?;
-    Ok(())
+    writer.put_pieces(value)
 }
 
 /// Writes an added alternative of a CHOICE (X.691 23.5, 23.8): its value is in an open type.
@@ -186,8 +185,7 @@ fn put_added_alternative<A: Allocator + Clone>(
 {
     writer.put_extension_bit(true, true)?;
     writer.put_small(index)?;
-    writer.put_open_pieces(value)?;
-    Ok(())
+    writer.put_open_pieces(value)
 }
 
 /// Writes the index of one of so many root alternatives (X.691 23.6).
@@ -201,6 +199,5 @@ fn put_index<A: Allocator + Clone>(
 {
     let width = index_width(writer.codec(), roots);
     writer.put_index_padding(roots)?;
-    writer.put_bits(index as u128, width as u128)?;
-    Ok(())
+    writer.put_bits(index as u128, width as u128)
 }

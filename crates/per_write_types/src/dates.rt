@@ -25,8 +25,7 @@ pub fn put_date<A: Allocator + Clone, D: CivilDate>(
     ensures { Writes encoder_rules Schema.date (D.value date.now) writer.old result writer.new }
 {
     let (year, month, day) = date.to_parts();
-    put_numbers(writer, i128::from(year), month, day)?;
-    Ok(())
+    put_numbers(writer, i128::from(year), month, day)
 }
 
 /// Writes the numbers of a day of the calendar: its year, its month and its day of the month, from 1 both.
@@ -42,8 +41,7 @@ fn put_numbers<A: Allocator + Clone>(
 {
     put_year(writer, year)?;
     writer.put_number(Some(1), Some(12), i128::from(month))?;
-    writer.put_number(Some(1), Some(31), i128::from(day))?;
-    Ok(())
+    writer.put_number(Some(1), Some(31), i128::from(day))
 }
 
 /// Writes a year: the index of the range that holds it, and the year in that; or the last index, and the year as a
@@ -86,6 +84,5 @@ fn put_year_within<A: Allocator + Clone>(
     ensures { PutsIn IsMemory (λ a. put_within a index first last year) writer.old result writer.new }
 {
     writer.put_number(Some(0), Some(3), index)?;
-    writer.put_number(Some(first), Some(last), year)?;
-    Ok(())
+    writer.put_number(Some(first), Some(last), year)
 }

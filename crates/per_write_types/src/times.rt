@@ -58,8 +58,7 @@ impl Items for Text<'_> {
             };
             push_to_field(writer, &mut gathered, code, width)?;
         }
-        put_bit_field(writer, &gathered)?;
-        Ok(())
+        put_bit_field(writer, &gathered)
     }
 }
 
@@ -81,8 +80,7 @@ pub fn put_utc_time<A: Allocator + Clone, M: UtcMoment>(
     let alloc = writer.allocator()?;
     let text = moment.to_canonical_utc_time_bytes(alloc);
     let text = unless_unwritten(writer, text)?;
-    put_text(writer, &text)?;
-    Ok(())
+    put_text(writer, &text)
 }
 
 /// Writes a GeneralizedTime by its moment in UTC (X.691 30, X.690 11.7). A moment that the text can't hold is
@@ -98,8 +96,7 @@ pub fn put_generalized_time<A: Allocator + Clone, M: GeneralizedMoment>(
     let alloc = writer.allocator()?;
     let text = moment.to_canonical_generalized_time_bytes(alloc);
     let text = unless_unwritten(writer, text)?;
-    put_text(writer, &text)?;
-    Ok(())
+    put_text(writer, &text)
 }
 
 /// The text of a time, unless it has none or memory ran out; then the writer has failed.
