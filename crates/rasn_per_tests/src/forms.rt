@@ -21,10 +21,15 @@ use per_samples_b::outer3::Outer3;
 use per_samples_b::several::Several;
 use per_samples_c::colors::TwoColors;
 use per_samples_c::default_color::DefaultColor;
+use per_samples_c::levels::Level;
 use per_samples_sets::membership::Membership;
 use per_samples_sets::set_pair::SetPair;
+use per_samples_sets::texts::SomeTexts;
 use per_samples_sets::truth_or_none::TruthOrNone;
-use rasn_below::types::{BitString, Codec, Integer, SetOf, VisibleString};
+use rasn_below::types::{
+    Any, BitString, Codec, GeneralString, GraphicString, Integer, SetOf, TeletexString,
+    VisibleString,
+};
 use std::alloc::Global;
 use std::process::Abort;
 
@@ -416,4 +421,34 @@ fn writes_and_reads_alternatives_of_each_form(rt: HostRuntime) {
     let aligned = &[0x80, 0x04, 0x80, 0x01, 0x02, 0x03];
     let unaligned = &[0x80, 0x04, 0x80, 0x81, 0x01, 0x80];
     expect_variants(&rt, alloc, &added, aligned, unaligned);
+}
+
+/// The first, another and the last of 64 items.
+#[test]
+fn writes_and_reads_items_of_sixty_four(rt: HostRuntime) {
+    let rows: &[(Level, &[u8])] = &[
+        (Level::L0, &[0x00]),
+        (Level::L48, &[0xc0]),
+        (Level::L63, &[0xfc]),
+    ];
+    expect_rows(&rt, rt.alloc(), rows);
+}
+
+/// Texts that are kept as octets, and a value whose type isn't known.
+#[test]
+fn writes_and_reads_texts_and_a_value_of_any_type(rt: HostRuntime) {
+    let alloc = rt.alloc();
+    let texts = SomeTexts {
+        title: TeletexString::new(list_of(&rt, alloc, b"ab")),
+        figure: GraphicString::new(list_of(&rt, alloc, b"c")),
+        note: Some(GeneralString::new(list_of(&rt, alloc, b"de"))),
+        rest: Any::new(list_of(&rt, alloc, &[1, 2])),
+    };
+    let aligned = &[
+        0x80, 0x02, 0x61, 0x62, 0x01, 0x63, 0x02, 0x64, 0x65, 0x02, 0x01, 0x02,
+    ];
+    let unaligned = &[
+        0x81, 0x30, 0xb1, 0x00, 0xb1, 0x81, 0x32, 0x32, 0x81, 0x00, 0x81, 0x00,
+    ];
+    expect_variants(&rt, alloc, &texts, aligned, unaligned);
 }
