@@ -23,7 +23,6 @@ use per_samples_c::colors::TwoColors;
 use per_samples_c::default_color::DefaultColor;
 use per_samples_c::levels::Level;
 use per_samples_sets::membership::Membership;
-use per_samples_sets::set_pair::SetPair;
 use per_samples_sets::texts::SomeTexts;
 use per_samples_sets::truth_or_none::TruthOrNone;
 use rasn_below::types::{
@@ -376,28 +375,6 @@ fn leaves_an_item_and_a_record_out_at_their_defaults(rt: HostRuntime) {
         (value(TwoColors::B, both_false, false), &[0x40]),
     ];
     expect_rows(&rt, rt.alloc(), rows);
-}
-
-/// A SET's components stand in the order of their tags (X.691 21).
-#[test]
-fn writes_and_reads_a_set_of_two(rt: HostRuntime) {
-    let thousand = SetPair { b: 1000, a: true };
-    let unaligned = &[0x81, 0x01, 0xf4, 0x00];
-    expect_variants(
-        &rt,
-        rt.alloc(),
-        &thousand,
-        &[0x80, 0x02, 0x03, 0xe8],
-        unaligned,
-    );
-    let negative = SetPair { b: -5, a: false };
-    expect_variants(
-        &rt,
-        rt.alloc(),
-        &negative,
-        &[0x00, 0x01, 0xfb],
-        &[0x00, 0xfd, 0x80],
-    );
 }
 
 /// Alternatives under tags that are written, and one that is a record.
