@@ -44,8 +44,7 @@ impl<T: CodedAlternatives + OfKind<Kind = ChoiceKind>> EncodeKind<T> for ChoiceK
     ) -> Result<(), E::Error> {
         let outside = encoder.open_choice::<T>(tag, identifier)?;
         let chosen = value.encode_alternative(encoder)?;
-        encoder.close_choice::<T>(outside, chosen)?;
-        Ok(())
+        encoder.close_choice::<T>(outside, chosen)
     }
 }
 

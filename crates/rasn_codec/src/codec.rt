@@ -54,8 +54,7 @@ pub trait Encode: AsnType {
         ensures { Encodes E.rules (Self.schema Self.CONSTRAINTS) (Self.levels self.now) (Self.value self.now)
             encoder.old result encoder.new }
     {
-        self.encode_with_tag_and_constraints(encoder, tag, &Self::CONSTRAINTS, Self::IDENTIFIER)?;
-        Ok(())
+        self.encode_with_tag_and_constraints(encoder, tag, &Self::CONSTRAINTS, Self::IDENTIFIER)
     }
 
     /// Writes the value under constraints, and its type's own tag and name.
@@ -67,8 +66,7 @@ pub trait Encode: AsnType {
         ensures { Encodes E.rules (Self.schema constraints.now) (Self.levels self.now) (Self.value self.now)
             encoder.old result encoder.new }
     {
-        self.encode_with_tag_and_constraints(encoder, Self::TAG, constraints, Self::IDENTIFIER)?;
-        Ok(())
+        self.encode_with_tag_and_constraints(encoder, Self::TAG, constraints, Self::IDENTIFIER)
     }
 }
 

@@ -35,8 +35,7 @@ pub trait EncoderExt: Encoder {
             self.next_element(&mut list)?;
             value.encode(self)?;
         }
-        self.close_list(list)?;
-        Ok(())
+        self.close_list(list)
     }
 
     /// Writes a CHOICE (X.691 23) by the value of the alternative that goes by the tag `chosen`: the type's own tag, or
@@ -54,8 +53,7 @@ pub trait EncoderExt: Encoder {
     {
         let outside = self.open_choice::<C>(tag, identifier)?;
         value.encode_with_tag(self, chosen)?;
-        self.close_choice::<C>(outside, chosen)?;
-        Ok(())
+        self.close_choice::<C>(outside, chosen)
     }
 
     /// Writes a value whose type has an explicit tag (X.680 31): no tag is written in PER, so the value stands alone.
@@ -80,8 +78,7 @@ pub trait EncoderExt: Encoder {
         ensures { EncodesSome Self.rules (T.schema T.CONSTRAINTS) (T.levels value.now) (T.value value.now)
             self.old result self.new }
     {
-        self.encode_some_with_tag(T::TAG, value, identifier)?;
-        Ok(())
+        self.encode_some_with_tag(T::TAG, value, identifier)
     }
 
     /// Writes an optional component that is there, under a tag and its type's own constraints.
@@ -94,8 +91,7 @@ pub trait EncoderExt: Encoder {
         ensures { EncodesSome Self.rules (T.schema T.CONSTRAINTS) (T.levels value.now) (T.value value.now)
             self.old result self.new }
     {
-        self.encode_some_with_tag_and_constraints(tag, &T::CONSTRAINTS, value, identifier)?;
-        Ok(())
+        self.encode_some_with_tag_and_constraints(tag, &T::CONSTRAINTS, value, identifier)
     }
 
     /// Writes an optional component that is there, under its type's own tag and under constraints.
@@ -108,8 +104,7 @@ pub trait EncoderExt: Encoder {
         ensures { EncodesSome Self.rules (T.schema constraints.now) (T.levels value.now) (T.value value.now)
             self.old result self.new }
     {
-        self.encode_some_with_tag_and_constraints(T::TAG, constraints, value, identifier)?;
-        Ok(())
+        self.encode_some_with_tag_and_constraints(T::TAG, constraints, value, identifier)
     }
 
     /// Writes an optional component that is there: its presence bit, 1, and its value (X.691 19.2).
@@ -132,8 +127,7 @@ pub trait EncoderExt: Encoder {
     final fn encode_none<T: Encode>(&mut self, identifier: Identifier) -> Result<(), Self::Error>
         ensures { EncodesNone Self.rules self.old result self.new }
     {
-        self.encode_none_with_tag(T::TAG, identifier)?;
-        Ok(())
+        self.encode_none_with_tag(T::TAG, identifier)
     }
 
     /// Writes an optional component that is absent: its presence bit, 0 (X.691 19.2). Takes no memory.
@@ -145,8 +139,7 @@ pub trait EncoderExt: Encoder {
     ) -> Result<(), Self::Error>
         ensures { EncodesNone Self.rules self.old result self.new }
     {
-        self.set_presence(false)?;
-        Ok(())
+        self.set_presence(false)
     }
 
     /// Writes a component with a default, under its type's own tag and constraints.
@@ -160,8 +153,7 @@ pub trait EncoderExt: Encoder {
         ensures { EncodesDefault Self.rules (T.schema T.CONSTRAINTS) (T.levels value.now) (T.value value.now)
             (FnOnceReturnsAt F.FnOnce is_default value.now) self.old result self.new }
     {
-        self.encode_default_with_tag(T::TAG, value, is_default, identifier)?;
-        Ok(())
+        self.encode_default_with_tag(T::TAG, value, is_default, identifier)
     }
 
     /// Writes a component with a default, under a tag and its type's own constraints.
@@ -223,8 +215,7 @@ pub trait EncoderExt: Encoder {
         if is_default(value) {
             return self.set_presence(false);
         }
-        self.encode_some_with_tag_and_constraints(tag, constraints, value, identifier)?;
-        Ok(())
+        self.encode_some_with_tag_and_constraints(tag, constraints, value, identifier)
     }
 }
 

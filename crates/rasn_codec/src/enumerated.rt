@@ -14,8 +14,7 @@ impl<T: Items + OfKind<Kind = EnumeratedKind>> EncodeKind<T> for EnumeratedKind 
         tag: Tag,
         identifier: Identifier,
     ) -> Result<(), E::Error> {
-        encoder.encode_enumerated(tag, value, identifier)?;
-        Ok(())
+        encoder.encode_enumerated(tag, value, identifier)
     }
 }
 

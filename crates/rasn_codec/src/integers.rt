@@ -15,8 +15,7 @@ impl Encode for i8 {
         constraints: &Constraints,
         identifier: Identifier,
     ) -> Result<(), E::Error> {
-        encoder.encode_integer::<i8>(tag, constraints, self, identifier)?;
-        Ok(())
+        encoder.encode_integer::<i8>(tag, constraints, self, identifier)
     }
 }
 
@@ -41,8 +40,7 @@ impl Encode for i16 {
         constraints: &Constraints,
         identifier: Identifier,
     ) -> Result<(), E::Error> {
-        encoder.encode_integer::<i16>(tag, constraints, self, identifier)?;
-        Ok(())
+        encoder.encode_integer::<i16>(tag, constraints, self, identifier)
     }
 }
 
@@ -67,8 +65,7 @@ impl Encode for i32 {
         constraints: &Constraints,
         identifier: Identifier,
     ) -> Result<(), E::Error> {
-        encoder.encode_integer::<i32>(tag, constraints, self, identifier)?;
-        Ok(())
+        encoder.encode_integer::<i32>(tag, constraints, self, identifier)
     }
 }
 
@@ -93,8 +90,7 @@ impl Encode for i64 {
         constraints: &Constraints,
         identifier: Identifier,
     ) -> Result<(), E::Error> {
-        encoder.encode_integer::<i64>(tag, constraints, self, identifier)?;
-        Ok(())
+        encoder.encode_integer::<i64>(tag, constraints, self, identifier)
     }
 }
 
@@ -119,8 +115,7 @@ impl Encode for i128 {
         constraints: &Constraints,
         identifier: Identifier,
     ) -> Result<(), E::Error> {
-        encoder.encode_integer::<i128>(tag, constraints, self, identifier)?;
-        Ok(())
+        encoder.encode_integer::<i128>(tag, constraints, self, identifier)
     }
 }
 
@@ -145,8 +140,7 @@ impl Encode for u8 {
         constraints: &Constraints,
         identifier: Identifier,
     ) -> Result<(), E::Error> {
-        encoder.encode_integer::<u8>(tag, constraints, self, identifier)?;
-        Ok(())
+        encoder.encode_integer::<u8>(tag, constraints, self, identifier)
     }
 }
 
@@ -171,8 +165,7 @@ impl Encode for u16 {
         constraints: &Constraints,
         identifier: Identifier,
     ) -> Result<(), E::Error> {
-        encoder.encode_integer::<u16>(tag, constraints, self, identifier)?;
-        Ok(())
+        encoder.encode_integer::<u16>(tag, constraints, self, identifier)
     }
 }
 
@@ -197,8 +190,7 @@ impl Encode for u32 {
         constraints: &Constraints,
         identifier: Identifier,
     ) -> Result<(), E::Error> {
-        encoder.encode_integer::<u32>(tag, constraints, self, identifier)?;
-        Ok(())
+        encoder.encode_integer::<u32>(tag, constraints, self, identifier)
     }
 }
 
@@ -223,8 +215,7 @@ impl Encode for u64 {
         constraints: &Constraints,
         identifier: Identifier,
     ) -> Result<(), E::Error> {
-        encoder.encode_integer::<u64>(tag, constraints, self, identifier)?;
-        Ok(())
+        encoder.encode_integer::<u64>(tag, constraints, self, identifier)
     }
 }
 
@@ -249,8 +240,7 @@ impl Encode for Integer {
         constraints: &Constraints,
         identifier: Identifier,
     ) -> Result<(), E::Error> {
-        encoder.encode_integer::<Integer>(tag, constraints, self, identifier)?;
-        Ok(())
+        encoder.encode_integer::<Integer>(tag, constraints, self, identifier)
     }
 }
 

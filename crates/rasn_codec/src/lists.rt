@@ -12,8 +12,7 @@ impl<T: Encode> Encode for Vec<T> {
         constraints: &Constraints,
         identifier: Identifier,
     ) -> Result<(), E::Error> {
-        encoder.encode_sequence_of(tag, self, constraints, identifier)?;
-        Ok(())
+        encoder.encode_sequence_of(tag, self, constraints, identifier)
     }
 }
 

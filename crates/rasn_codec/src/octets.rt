@@ -18,8 +18,7 @@ impl Encode for OctetString {
         constraints: &Constraints,
         identifier: Identifier,
     ) -> Result<(), E::Error> {
-        encoder.encode_octet_string(tag, constraints, self.as_bytes(), identifier)?;
-        Ok(())
+        encoder.encode_octet_string(tag, constraints, self.as_bytes(), identifier)
     }
 }
 
@@ -48,8 +47,7 @@ impl Encode for BitString {
         constraints: &Constraints,
         identifier: Identifier,
     ) -> Result<(), E::Error> {
-        encoder.encode_bit_string(tag, constraints, self, identifier)?;
-        Ok(())
+        encoder.encode_bit_string(tag, constraints, self, identifier)
     }
 }
 
@@ -73,8 +71,7 @@ impl Encode for NamedBits {
         constraints: &Constraints,
         identifier: Identifier,
     ) -> Result<(), E::Error> {
-        encoder.encode_named_bits(tag, constraints, self.bits(), identifier)?;
-        Ok(())
+        encoder.encode_named_bits(tag, constraints, self.bits(), identifier)
     }
 }
 
@@ -101,8 +98,7 @@ impl Encode for Any {
         identifier: Identifier,
     ) -> Result<(), E::Error> {
         let _ = constraints;
-        encoder.encode_any(tag, self, identifier)?;
-        Ok(())
+        encoder.encode_any(tag, self, identifier)
     }
 }
 

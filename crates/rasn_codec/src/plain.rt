@@ -15,8 +15,7 @@ impl Encode for bool {
         identifier: Identifier,
     ) -> Result<(), E::Error> {
         let _ = constraints;
-        encoder.encode_bool(tag, *self, identifier)?;
-        Ok(())
+        encoder.encode_bool(tag, *self, identifier)
     }
 }
 
@@ -43,8 +42,7 @@ impl Encode for () {
         identifier: Identifier,
     ) -> Result<(), E::Error> {
         let _ = constraints;
-        encoder.encode_null(tag, identifier)?;
-        Ok(())
+        encoder.encode_null(tag, identifier)
     }
 }
 

@@ -31,8 +31,7 @@ impl<T: Record> EncodeKind<T> for SequenceKind {
     ) -> Result<(), E::Error> {
         let outside = encoder.open_sequence::<T>(tag, identifier)?;
         value.encode_components(encoder)?;
-        encoder.close_sequence::<T>(outside)?;
-        Ok(())
+        encoder.close_sequence::<T>(outside)
     }
 }
 

@@ -16,8 +16,7 @@ impl<K: TaggedCharacters> Encode for CharactersOf<K> {
         constraints: &Constraints,
         identifier: Identifier,
     ) -> Result<(), E::Error> {
-        encoder.encode_known_multiplier_string(tag, constraints, self, identifier)?;
-        Ok(())
+        encoder.encode_known_multiplier_string(tag, constraints, self, identifier)
     }
 }
 
@@ -40,8 +39,7 @@ impl Encode for Utf8String {
         constraints: &Constraints,
         identifier: Identifier,
     ) -> Result<(), E::Error> {
-        encoder.encode_utf8_string(tag, constraints, self.as_str(), identifier)?;
-        Ok(())
+        encoder.encode_utf8_string(tag, constraints, self.as_str(), identifier)
     }
 }
 
@@ -64,8 +62,7 @@ impl Encode for GeneralString {
         constraints: &Constraints,
         identifier: Identifier,
     ) -> Result<(), E::Error> {
-        encoder.encode_general_string(tag, constraints, self, identifier)?;
-        Ok(())
+        encoder.encode_general_string(tag, constraints, self, identifier)
     }
 }
 
@@ -88,8 +85,7 @@ impl Encode for GraphicString {
         constraints: &Constraints,
         identifier: Identifier,
     ) -> Result<(), E::Error> {
-        encoder.encode_graphic_string(tag, constraints, self, identifier)?;
-        Ok(())
+        encoder.encode_graphic_string(tag, constraints, self, identifier)
     }
 }
 
@@ -112,8 +108,7 @@ impl Encode for TeletexString {
         constraints: &Constraints,
         identifier: Identifier,
     ) -> Result<(), E::Error> {
-        encoder.encode_teletex_string(tag, constraints, self, identifier)?;
-        Ok(())
+        encoder.encode_teletex_string(tag, constraints, self, identifier)
     }
 }
 

@@ -167,8 +167,7 @@ impl<'a, H: Encode, K: DefaultOf<H>> EncodeComponent for Default<&'a H, K> {
         if self.default.stands_for(self.value, constraints) {
             return encoder.set_presence(false);
         }
-        encoder.encode_some_with_tag_and_constraints(tag, constraints, self.value, H::IDENTIFIER)?;
-        Ok(())
+        encoder.encode_some_with_tag_and_constraints(tag, constraints, self.value, H::IDENTIFIER)
     }
 
     ghost is_component = { λ c. tt };

@@ -84,8 +84,7 @@ where
         write_first(&self.fourth, fields_4, constraints_4, encoder)?;
         let fields_5 = behind(fields_4);
         let constraints_5 = behind(constraints_4);
-        self.next.encode_cells(fields_5, constraints_5, encoder)?;
-        Ok(())
+        self.next.encode_cells(fields_5, constraints_5, encoder)
     }
 
     ghost asked = { λ p. both_asked (A.asked p.first) (both_asked (B.asked p.second) (both_asked (C.asked p.third)
