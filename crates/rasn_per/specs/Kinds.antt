@@ -42,7 +42,7 @@ IsInFront a schema octets OutOfMemory = Unit {0}
 IsInFront a schema octets k = IsInBits a k (schema 128) (unpack octets)
 
 -- What a kind says of the octets, as a type's schema reads them within 128 levels, where all of them have to be read:
--- octets are left over behind the value, or in the open type of an addition.
+-- octets are left over behind the value, or behind one whose octets an open type or an OCTET STRING contains.
 abbrev pub IsInOctetsBy : Settings → (ℕ → Schema) → List ℕ → DecodeErrorKind → Type 0
 IsInOctetsBy a schema octets (UnexpectedExtraData over) = LeaveOver a schema octets (number_of over)
     ⊎ IsInBits a (UnexpectedExtraData over) (schema 128) (unpack octets)
