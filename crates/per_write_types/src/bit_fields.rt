@@ -95,6 +95,5 @@ pub(crate) fn put_bit_field<A: Allocator + Clone>(
     requires { writer.old.failed ≡ false }
     ensures { Puts IsMemory (just gathered.now) writer.old result writer.new }
 {
-    writer.put_bits(u128::from(gathered.value), u128::from(gathered.width))?;
-    Ok(())
+    writer.put_bits(u128::from(gathered.value), u128::from(gathered.width))
 }

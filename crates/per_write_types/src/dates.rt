@@ -58,8 +58,7 @@ fn put_year<A: Allocator + Clone>(writer: &mut Writer<A>, year: i128) -> Result<
         put_year_within(writer, 2, 1749, 2004, year)
     } else {
         writer.put_number(Some(0), Some(3), 3)?;
-        writer.put_number(None, None, year)?;
-        Ok(())
+        writer.put_number(None, None, year)
     }
 }
 

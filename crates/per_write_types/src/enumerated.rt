@@ -27,7 +27,6 @@ pub fn put_enumerated<A: Allocator + Clone, E: Enumerated>(
         writer.put_small(index)
     } else {
         writer.put_extension_bit(E::EXTENSIBLE, false)?;
-        writer.put_constrained_whole((E::variance() - 1) as u128, index as u128)?;
-        Ok(())
+        writer.put_constrained_whole((E::variance() - 1) as u128, index as u128)
     }
 }

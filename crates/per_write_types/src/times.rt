@@ -126,6 +126,5 @@ fn put_text<A: Allocator + Clone>(writer: &mut Writer<A>, text: &[u8]) -> Result
         characters: text,
         alphabet: alphabet_under::<VisibleString>(&Constraints::NONE, writer.codec()),
     };
-    writer.put_unconstrained_items(&text)?;
-    Ok(())
+    writer.put_unconstrained_items(&text)
 }
