@@ -71,23 +71,25 @@ general_string = simple 27 (Schema.text other) tt refl
 abbrev pub open_type : Component
 open_type = simple 0 Schemas.any tt refl
 
--- octets that are the complete encoding of a value of a component's type, under a universal tag, by its number
-abbrev pub containing_under : ℕ → Component → Component
-containing_under i c = record {
-  tags = universal i;
+-- OCTET STRING (CONTAINING ..) (X.682 11), by what it contains: `containing boolean`
+abbrev pub containing : Component → Component
+containing c = record {
+  tags = universal 4;
   presence = Schemas.required;
   schema = λ n. Schema.containing (c.schema n);
   levelled = containing_levelled c.levelled;
   fits = λ n. refl;
 }
 
--- OCTET STRING (CONTAINING ..) (X.682 11), by what it contains: `containing boolean`
-abbrev pub containing : Component → Component
-containing = containing_under 4
-
 -- an open type whose values are of one type, as an object set tells it (X.681 14)
 abbrev pub open_type_of : Component → Component
-open_type_of = containing_under 0
+open_type_of c = record {
+  tags = universal 0;
+  presence = Schemas.required;
+  schema = λ n. Schema.containing (c.schema n);
+  levelled = containing_levelled c.levelled;
+  fits = λ n. refl;
+}
 
 -- SET OF under a size, or none (X.680 28): `set_of (size 1 to 4) boolean` is SET (SIZE (1..4)) OF BOOLEAN
 abbrev pub set_of : Constraints → Component → Component
