@@ -1,12 +1,14 @@
 -- What the kind of a refused reading says of the octets.
-use Rattle.std.proofs.Common.{◌≡◌, sym, ap, subst, ℕ, Bool, List, ◌⊎◌, inl, inr, Result, Err}
+use Rattle.std.proofs.Common.{◌≡◌, sym, ap, subst, ℕ, Bool, List, length, ◌⊎◌, inl, inr, Result, Err, arith}
 use Rattle.std.specs.Prelude.{IfErr}
-use Rattle.rasn_types.specs.Bits.{Bits}
+use Rattle.rasn_types.specs.Bits.{Bits, unpack}
 use Rattle.rasn_types.specs.Codecs.{variant_of}
 use Rattle.rasn_types.specs.Values.{Value}
 use Rattle.rasn_types.specs.declared.types.Codec.{Codec}
 use Rattle.rasn_schema.specs.Schemas.{Schema}
 use Rattle.rasn_traits.specs.Calls.{Refuses}
+use Rattle.per_core.specs.Ends.{AreOver}
+use Rattle.per_errors.specs.Counts.{count_of, number_of}
 use Rattle.per_bits.specs.Surpluses.{IsWhy}
 use Rattle.per_bits.specs.declared.ended.Surplus.{Surplus}
 use Rattle.per_bits.specs.declared.ended.Surplus.TheVariants.{Missing, NonzeroOctet, NonzeroSpareBits, ExtraOctets}
@@ -19,6 +21,10 @@ use Rattle.rasn_per.specs.Kinds.{IsInFront, IsInOctetsBy, kind_of}
 use Rattle.rasn_per.specs.Complete.{reading}
 use Rattle.rasn_per.specs.Remainders.{IsWhyNone}
 use Rattle.rasn_per.proofs.Decoded.{fresh, Ended, so}
+
+-- two words of a number are the number
+counted : (n : ℕ) → number_of (count_of n) ≡ n
+counted n = omega arith
 
 module _ (a : Codec) (strict : Bool) (schema : ℕ → Schema) (octets : List ℕ) where
   of_fresh : (k : DecodeErrorKind) → IsOf k (schema 128) (fresh a strict octets) → IsInOctetsBy (reading strict (variant_of a)) schema octets k
@@ -72,6 +78,6 @@ module _ (a : Codec) (strict : Bool) (schema : ℕ → Schema) (octets : List �
     value = v;
     left = t.bits;
     read = (subst (λ z. Spells (schema z.levels) z v t) e h).took;
-    are_over = (so a strict schema octets (λ l m. IsWhy strict l m (ExtraOctets n)) t b d).0;
+    are_over = subst (λ m. AreOver t.bits (length (unpack octets)) m) (sym (counted n)) (so a strict schema octets (λ l m. IsWhy strict l m (ExtraOctets n)) t b d).0;
     zeros = (so a strict schema octets (λ l m. IsWhy strict l m (ExtraOctets n)) t b d).1;
   })
