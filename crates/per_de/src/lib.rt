@@ -6,13 +6,13 @@ ghost use Rattle.std.specs.Prelude.{MatchOption};
 ghost use Rattle.std.specs.Prelude.{◌↔◌, IfOk, IfSome, IsSome, OnOk, OnErr, IfErr};
 ghost use Rattle.std.specs.Cow.{cow_slice_items, IsBorrowedSlice, IsOwnedSlice};
 ghost use Rattle.rasn_types.specs.Bits.{unpack};
-ghost use Rattle.rasn_types.specs.Values.{octets};
+ghost use Rattle.rasn_types.specs.Values.{octets, whole};
 ghost use Rattle.rasn_types.specs.declared.types.Codec.TheVariants.{Aper, Uper};
 ghost use Rattle.rasn_schema.specs.Choices.{go_by, is_extensible, variants_behind, variants_on};
 ghost use Rattle.rasn_schema.specs.Enumerations.{addeds_of, is_extensible as is_marked};
 ghost use Rattle.rasn_schema.specs.Extensions.{fields_behind};
 ghost use Rattle.rasn_schema.specs.Fields.{tag_of};
-ghost use Rattle.rasn_schema.specs.Forms.{octet_schema, size_of, is_size_marked};
+ghost use Rattle.rasn_schema.specs.Forms.{number_schema, octet_schema, size_of, is_size_marked};
 ghost use Rattle.rasn_traits.specs.Calls.{Reads};
 ghost use Rattle.per_read.specs.declared.error.DecodeErrorKind.TheVariants.{AlreadyFailed};
 ghost use Rattle.per_read_types.specs.Choices.{index_of};
@@ -55,7 +55,7 @@ use per_read_types::choices::take_choice_index;
 use per_read_types::dates::take_date;
 use per_read_types::enumerated::take_enumerated;
 use per_read_types::identifiers::take_object_identifier;
-use per_read_types::integers::take_integer;
+use per_read_types::integers::{take_integer, take_short_integer};
 use per_read_types::times::{take_generalized_time, take_utc_time};
 use rasn_schema::choices::Choice;
 use rasn_schema::constraints::Constraints;
@@ -339,6 +339,19 @@ impl<'input> Decoder<'input> {
         let left = reader.bits().len();
         let octets = self.answer(taken, left)?;
         Ok(CowSlice::Owned(octets))
+    }
+
+    /// Reads an INTEGER under constraints in whichever form it is written (X.691 13).
+    #[inline(never)]
+    fn read_integer<I: IntegerType>(&mut self, constraints: &Constraints) -> Result<I, DecodeError>
+        ensures { Reads decoder_rules (number_schema constraints.now I.range) (λ i. whole (I.number i))
+            self.old result self.new }
+    {
+        self.check_unfailed()?;
+        let mut reader = self.reader();
+        let taken = take_integer(&mut reader, constraints);
+        let left = reader.bits().len();
+        self.answer(taken, left)
     }
 
     /// The `count` octets in front of the last `left` bits: those of the input, at least one, are lent, and others are
@@ -945,9 +958,13 @@ impl<'input> decoder::Decoder for Decoder<'input> {
     ) -> Result<I, DecodeError> {
         self.check_unfailed()?;
         let mut reader = self.reader();
-        let taken = take_integer(&mut reader, constraints);
+        let taken = take_short_integer(&mut reader, constraints);
         let left = reader.bits().len();
-        self.answer(taken, left)
+        let Some(number) = taken else {
+            return self.read_integer(constraints);
+        };
+        self.keep_last(left);
+        Ok(number)
     }
 
     fn decode_real(&mut self, _tag: Tag, _constraints: &Constraints) -> Result<(), DecodeError> {

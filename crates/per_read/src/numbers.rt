@@ -1,6 +1,6 @@
 //! Whole numbers as their bounds have them written, before these bounds are asked (X.691 11.5, 11.7, 11.8 and 13.2).
 
-ghost use Rattle.std.specs.Prelude.{◌≡◌, ◌+◌, ◌/◌, ◌^◌, ◌<◌, ◌≤◌, Some, None, MatchOption, IfOk};
+ghost use Rattle.std.specs.Prelude.{◌≡◌, ◌+◌, ◌/◌, ◌^◌, ◌<◌, ◌≤◌, Some, None, Ok, MatchOption, IfOk, IfSome};
 ghost use Rattle.rasn_types.specs.Octets.{signed, unsigned};
 ghost use Rattle.rasn_types.specs.Variants.{aligned};
 ghost use Rattle.rasn_constraints.specs.Bounds.{above};
@@ -53,6 +53,17 @@ impl Reader<'_> {
     {
         let offset = self.take_constrained_whole(distance_above(lower, upper))?;
         Ok(number_above(lower, offset))
+    }
+
+    /// Takes a number with both bounds, as `take_number` does, where it is written in one field. `None` says nothing of
+    /// the number, and leaves the reader of no further use. No error is made, and so no room for one is looked after.
+    #[inline(always)]
+    pub fn take_short_between(&mut self, lower: i128, upper: i128) -> Option<ReadNumber>
+        ensures { let form = λ (a : Settings). under_bounds a (Some lower) (Some upper) in
+            IfSome result (λ number. Takes tested form OfRead self.old (Ok number) self.new) }
+    {
+        let offset = self.take_short_whole(distance_above(lower, upper))?;
+        Some(number_above(lower, offset))
     }
 
     /// Takes a number with a lower bound alone: how far it is above the bound (X.691 11.7).
@@ -123,6 +134,21 @@ impl Reader<'_> {
         }
     }
 
+    /// Takes one of the numbers from 0 to `greatest`, as `take_constrained_whole` does, where it is written in one field.
+    #[inline(always)]
+    fn take_short_whole(&mut self, greatest: u128) -> Option<u128>
+        ensures { let form = λ (a : Settings). constrained_form a (greatest + 1) in
+            IfSome result (λ number. Takes tested form itself self.old (Ok number) self.new) }
+    {
+        match (self.options.codec, greatest) {
+            (Codec::Uper, _) => self.take_bits(width_to(greatest)).ok(),
+            (Codec::Aper, 0..=254) => self.take_bits(width_to(greatest)).ok(),
+            (Codec::Aper, 255) => self.take_on_octet(8).ok(),
+            (Codec::Aper, 256..=65535) => self.take_on_octet(16).ok(),
+            (Codec::Aper, _) => None,
+        }
+    }
+
     /// Takes one of the numbers from 0 to `greatest` in the aligned variant (X.691 11.5.7): of 255 numbers or fewer in
     /// bits, of 256 in an octet, of 65536 or fewer in two, and of more in octets, which their count precedes.
     fn take_constrained_whole_aligned(&mut self, greatest: u128) -> Result<u128, DecodeErrorKind>
@@ -155,6 +181,7 @@ impl Reader<'_> {
     }
 
     /// Takes `width` bits from the next octet on, in the aligned variant.
+    #[inline(always)]
     fn take_on_octet(&mut self, width: u128) -> Result<u128, DecodeErrorKind>
         requires { width ≤ 128 }
         ensures { Takes tested (λ a. padded_field a width) itself self.old result self.new }

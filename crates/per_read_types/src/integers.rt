@@ -1,6 +1,6 @@
 //! INTEGER (X.691 13).
 
-ghost use Rattle.std.specs.Prelude.{◌≡◌, false, IfOk, IfErr};
+ghost use Rattle.std.specs.Prelude.{◌≡◌, false, Ok, IfOk, IfErr, IfSome};
 ghost use Rattle.rasn_constraints.specs.Bounds.{unbounded};
 ghost use Rattle.rasn_constraints.specs.Constraints.{bounds_of, bounds_in, is_marked};
 ghost use Rattle.per_core.specs.Basic.{IsNumberOf};
@@ -26,6 +26,51 @@ pub fn take_integer<I: IntegerType>(
         Some(value) => take_extensible_integer(reader, value),
         None => take_unconstrained_integer(reader),
     }
+}
+
+/// Takes an INTEGER as `take_integer` does, where it is written in one field or in few octets, without an extension bit.
+/// `None` says nothing of the number, and leaves the reader of no further use. No error is made, and so no room for one
+/// is looked after.
+#[inline(always)]
+pub fn take_short_integer<I: IntegerType>(
+    reader: &mut Reader<'_>,
+    constraints: &Constraints,
+) -> Option<I>
+    ensures { let value = constraints.now.value in IfSome result
+        (λ i. TakesInteger (bounds_in value) (is_marked value) I.range I.number reader.old (Ok i) reader.new) }
+{
+    let Some(value) = constraints.value() else {
+        return take_short_unconstrained(reader);
+    };
+    if value.extensible {
+        return None;
+    }
+    take_short_within(reader, &value.constraint)
+}
+
+/// Takes a number without bounds, where it is written in few octets.
+#[inline(always)]
+fn take_short_unconstrained<I: IntegerType>(reader: &mut Reader<'_>) -> Option<I>
+    ensures { IfSome result
+        (λ i. TakesInteger unbounded false I.range I.number reader.old (Ok i) reader.new) }
+{
+    let Ok(Some(octets)) = reader.take_few_octets() else {
+        return None;
+    };
+    I::try_from_i128(octets.signed())
+}
+
+/// Takes a number under two bounds, where it is written in one field.
+#[inline(always)]
+fn take_short_within<I: IntegerType>(reader: &mut Reader<'_>, bounds: &Bounded<i128>) -> Option<I>
+    ensures { IfSome result
+        (λ i. TakesInteger (bounds_of bounds.now) false I.range I.number reader.old (Ok i) reader.new) }
+{
+    let (Some(lower), Some(upper)) = bounds.start_and_end() else {
+        return None;
+    };
+    let number = reader.take_short_between(lower, upper)?;
+    fit(number, bounds).ok()
 }
 
 /// Takes a number under a value constraint. Where that has an extension marker, one bit comes first: 0 and the
