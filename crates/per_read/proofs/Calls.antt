@@ -1,6 +1,7 @@
 -- What a call takes, by what the calls that it is made of took.
 use Rattle.std.proofs.Common.{◌≡◌, ◌∙◌, ◌<◌, ◌≤◌, ◌⊎◌, inl, inr, sym, ap, subst, refl, ℕ, Bool, nat_eq, List, [], ◌∷◌, ◌++◌, length, take, drop, length-take, arith}
-use Rattle.std.specs.Prelude.{Result, Ok, Err, IsErrAnd}
+use Rattle.std.specs.Prelude.{Option, Result, Ok, Err, IsErrAnd, IfOk, IfSome}
+use Rattle.std.specs.Result.{result_ok}
 use Rattle.std.proofs.lemmas.Bool.{cases_lt}
 use Rattle.std.proofs.lemmas.List.{take-append-drop}
 use Rattle.std.proofs.lemmas.Result.{IfOk-weaker, IfErr-weaker}
@@ -38,6 +39,11 @@ module _ {T X : Type 0} {why : Reason} {form : Settings → X → Spelling} {of 
         → ((k : DecodeErrorKind) → because (settings_of m) m.bits (NoneIn (last (settings_of m)) m.bits) k → why (settings_of x) x.bits (NoneIn (form (settings_of x)) x.bits) k)
         → Takes why form of x r y
     takes_last {r} a e f g = record { ok = IfOk-weaker r _ _ f a.ok; err = IfErr-weaker r _ _ g a.err; kept = a.kept ∙ e }
+
+-- what is answered without an error
+pub if_some : {T E : Type 0} (P : T → Type 0) (r : Result T E) {o : Option T} → o ≡ result_ok r → IfOk r P → IfSome o P
+if_some P (Ok v) e h = subst (λ o. IfSome o P) (sym e) h
+if_some P (Err k) e h = subst (λ o. IfSome o P) (sym e) tt
 
 module _ {C : Type 0} {holds : C → C → List ℕ → Type 0} {why : Reason} {form : Settings → List ℕ → Spelling} {before after : C} {x y : State} where
   pub answers_items : (n : ℕ) → y.options ≡ x.options → TookItems holds (form (settings_of x)) n before after x.bits y.bits → TakesItems holds why form before x (Ok n) after y

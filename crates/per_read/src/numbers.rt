@@ -136,7 +136,7 @@ impl Reader<'_> {
 
     /// Takes one of the numbers from 0 to `greatest`, as `take_constrained_whole` does, where it is written in one field.
     #[inline(always)]
-    fn take_short_whole(&mut self, greatest: u128) -> Option<u128>
+    pub fn take_short_whole(&mut self, greatest: u128) -> Option<u128>
         ensures { let form = λ (a : Settings). constrained_form a (greatest + 1) in
             IfSome result (λ number. Takes tested form itself self.old (Ok number) self.new) }
     {

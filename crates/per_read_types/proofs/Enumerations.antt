@@ -1,10 +1,11 @@
 -- Items of an ENUMERATED, seen from the bits that are left (X.691 14).
-use Rattle.std.proofs.Common.{◌≡◌, ◌∙◌, refl, sym, ap, subst, ℕ, zero, suc, ◌+◌, ◌-◌, ◌^◌, ◌<◌, ◌≤◌, Bool, true, false, ◌∷◌, Option, arith}
+use Rattle.std.proofs.Common.{◌≡◌, ◌∙◌, refl, sym, ap, subst, ℕ, zero, suc, ◌+◌, ◌-◌, ◌^◌, ◌<◌, ◌≤◌, Bool, true, false, ◌∷◌, Option, Some, None, arith}
+use Rattle.std.specs.Prelude.{Ok, IfSome}
 use Rattle.rasn_types.specs.Bits.{Bits, width, width_from}
 use Rattle.rasn_types.specs.Values.{Value, item, Side, root, added}
 use Rattle.rasn_types.specs.Variants.{Variant, aligned, unaligned}
 use Rattle.per_core.specs.Basic.{ExtensionBit, Item, IsSemiConstrainedWhole, Small, constrained_by, constrained_form}
-use Rattle.per_core.specs.Spellings.{Settings, Field}
+use Rattle.per_core.specs.Spellings.{Settings, Spelling, Field}
 use Rattle.per_core.specs.Took.{Took}
 use Rattle.per_core.proofs.Agree.{Agree, field_agree}
 use Rattle.per_core.proofs.LengthForms.{bounded_form_agree}
@@ -13,6 +14,8 @@ use Rattle.per_core.proofs.Unique.{in_natural_agree, marked_agree}
 use Rattle.per_read_types.specs.Enumerations.{IsMissing, IsOfItem, IsOfPlace, IsPlace, IsThere, count_of, item_form, place_form, side_of}
 use Rattle.per_read.specs.Kinds.{IsTested, NoneIn}
 use Rattle.per_read.specs.SmallNumbers.{OfIndex, small_form}
+use Rattle.per_read.specs.State.{State, settings_of}
+use Rattle.per_read.specs.Takes.{Takes, tested}
 use Rattle.per_read.specs.declared.error.DecodeErrorKind.{DecodeErrorKind}
 use Rattle.per_read.specs.declared.error.DecodeErrorKind.TheVariants.{EnumerationIndexNotFound, IntegerOverflow, UnexpectedEmptyInput}
 use Rattle.per_read.proofs.Fields.{exactly_took}
@@ -126,3 +129,9 @@ module _ (a : Settings) (r e : ℕ) (ext b : Bool) {s m : Bits} (bit : Took (Ext
       let k = subst (λ o. OfIndex (λ i. Took (place_form a (count_of r e b) b i) m t) o) h.0 p in
       ((h.1, (b, k.0, k.1, record { rest = t; took = took_then bit k.2 })), no_item k.0 t k.2 (omega (arith, few, k.1)))
   item_missing place _ t few p h = absurd h
+
+-- a place in a field that a `usize` holds
+pub short_place : (form : Settings → ℕ → Spelling) (x y : State) (r : Option ℕ) → y.options ≡ x.options → OfIndex (λ i. Took (form (settings_of x) i) x.bits y.bits) r
+    → IfSome r (λ i. Takes tested form OfIndex x (Ok (Some i)) y)
+short_place form x y None e h = tt
+short_place form x y (Some i) e h = record { ok = h; err = tt; kept = e }

@@ -1,12 +1,12 @@
 //! The index of a CHOICE (X.691 23.5 to 23.8).
 
-ghost use Rattle.std.specs.Prelude.{◌≡◌, IfErr, IfOk};
+ghost use Rattle.std.specs.Prelude.{◌≡◌, Ok, IfErr, IfOk, IfSome};
 ghost use Rattle.rasn_schema.specs.Enumerations.{addeds_of, is_extensible};
 ghost use Rattle.per_read_types.specs.Choices.{IsKnown, IsOfIndex, IsUnknown, index_form, index_of};
 ghost use Rattle.per_read_types.specs.Enumerations.{count_of};
 ghost use Rattle.per_read.specs.Takes.{Takes, telling};
 
-use crate::enumerated::{take_extension_bit, take_place};
+use crate::enumerated::{take_extension_bit, take_place, take_short_place};
 use per_read::Reader;
 use per_read::error::DecodeErrorKind;
 use rasn_schema::items::Place;
@@ -26,6 +26,26 @@ pub fn take_choice_index(
     let count = alternative_count(roots, addeds, extended);
     let place = take_place(reader, count, extended)?;
     place_at_index(place, count, extended)
+}
+
+/// Takes the index of a root alternative as `take_choice_index` does, where it is written in one field. `None` says
+/// nothing of the index, and leaves the reader of no further use. No error is made, and so no room for one is looked
+/// after.
+#[inline(always)]
+pub fn take_root_index(
+    reader: &mut Reader<'_>,
+    roots: usize,
+    addeds: Option<usize>,
+) -> Option<Place>
+    ensures { IfSome result (λ place. Takes (telling (λ a. IsOfIndex a roots (addeds_of addeds) (is_extensible addeds)))
+        (λ a. index_form a roots (addeds_of addeds) (is_extensible addeds)) (λ P place. P (index_of place))
+        reader.old (Ok place) reader.new) }
+{
+    let Ok(false) = take_extension_bit(reader, has_marker(addeds)) else {
+        return None;
+    };
+    let place = take_short_place(reader, roots)?;
+    place_at_index(Some(place), roots, false).ok()
 }
 
 /// Whether a CHOICE has an extension marker.

@@ -1,7 +1,8 @@
 //! ENUMERATED (X.691 14).
 
-ghost use Rattle.std.specs.Prelude.{◌≡◌, IfErr, IfOk};
+ghost use Rattle.std.specs.Prelude.{◌≡◌, Ok, Some, IfErr, IfOk, IfSome};
 ghost use Rattle.per_core.specs.Basic.{ExtensionBit, constrained_form};
+ghost use Rattle.per_core.specs.Spellings.{Settings};
 ghost use Rattle.per_read_types.specs.Enumerations.{IsMissing, IsOfItem, IsOfPlace, IsThere, count_of, item_form};
 ghost use Rattle.per_read_types.specs.Enumerations.{place_form};
 ghost use Rattle.per_read.specs.SmallNumbers.{OfIndex};
@@ -22,8 +23,24 @@ pub fn take_enumerated<E: Enumerated>(reader: &mut Reader<'_>) -> Result<E, Deco
     item_at(place, extended)
 }
 
+/// Takes an item as `take_enumerated` does, where it stands before the extension marker and is written in one field.
+/// `None` says nothing of the item, and leaves the reader of no further use. No error is made, and so no room for one is
+/// looked after.
+#[inline(always)]
+pub fn take_root_item<E: Enumerated>(reader: &mut Reader<'_>) -> Option<E>
+    ensures { IfSome result (λ x. Takes (telling (λ a. IsOfItem a E.roots E.addeds E.EXTENSIBLE))
+        (λ a. item_form a E.roots E.addeds E.EXTENSIBLE) (λ P x. P (E.value x)) reader.old (Ok x) reader.new) }
+{
+    let Ok(false) = take_extension_bit(reader, E::EXTENSIBLE) else {
+        return None;
+    };
+    let place = take_short_place(reader, item_count::<E>(false))?;
+    item_at(Some(place), false).ok()
+}
+
 /// Takes the extension bit of a type with an extension marker, whether what follows stands after the marker (X.691
 /// 14.3). In another type nothing does.
+#[inline(always)]
 pub(crate) fn take_extension_bit(
     reader: &mut Reader<'_>,
     extensible: bool,
@@ -63,6 +80,16 @@ pub(crate) fn take_root_place(
 {
     let code = reader.take_constrained_whole(count.saturating_sub(1) as u128)?;
     Ok(usize::try_from(code).ok())
+}
+
+/// Takes a place among `count` items before the extension marker, as `take_place` does, where it is written in one field.
+#[inline(always)]
+pub(crate) fn take_short_place(reader: &mut Reader<'_>, count: usize) -> Option<usize>
+    ensures { let form = λ (a : Settings). constrained_form a count in
+        IfSome result (λ place. Takes tested form OfIndex reader.old (Ok (Some place)) reader.new) }
+{
+    let code = reader.take_short_whole(count.saturating_sub(1) as u128)?;
+    usize::try_from(code).ok()
 }
 
 /// How many items a list has, that before the extension marker or that after it.
