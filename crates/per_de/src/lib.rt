@@ -608,10 +608,10 @@ impl<'input> Decoder<'input> {
     fn check_root_read(&mut self) -> Result<(), DecodeError>
         ensures { IsRootRead self.old result self.new }
     {
-        if !self.presence_bits().is_empty() {
-            return Err(self.refuse(DecodeErrorKind::MissingTag));
+        if self.presences.is_empty() || self.presence_bits().is_empty() {
+            return Ok(());
         }
-        Ok(())
+        Err(self.refuse(DecodeErrorKind::MissingTag))
     }
 
     /// Asks for the next addition of the open SEQUENCE (X.691 19.7, 19.8): its presence bit, or none past the end of

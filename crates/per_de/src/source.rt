@@ -101,6 +101,13 @@ impl Span {
         self.end.saturating_sub(self.begin)
     }
 
+    /// Whether it has none, whichever the source.
+    pub(crate) fn is_empty(self) -> bool
+        ensures { IsTrue result → (source : Bits) → span_of self source ≡ [] }
+    {
+        self.end <= self.begin
+    }
+
     /// The bits behind the first `count` of them.
     pub(crate) fn behind(self, count: u128) -> Span
         requires { count ≤ self.end - self.begin }
@@ -200,7 +207,7 @@ impl Flags {
         ensures { IsTrue result → (source : Bits) → flags_in source self.now ≡ [] }
     {
         match self {
-            Flags::InPlace(span) => span.len() == 0,
+            Flags::InPlace(span) => span.is_empty(),
             Flags::Gathered(..) => false,
         }
     }
