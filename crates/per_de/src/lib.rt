@@ -38,7 +38,7 @@ ghost use Rattle.per_de.specs.Outsides.{outside_choice_of, outside_record_of, ou
 ghost use Rattle.per_de.specs.Lending.{AreLent, CanBeLent, ComeAlone};
 ghost use Rattle.per_de.specs.Sources.{bits_of, extension_in, flags_in, place_left, span_of, up_to, unread_of};
 ghost use Rattle.per_de.specs.Sources.{AreOctetsOf, IsWithin};
-ghost use Rattle.per_de.specs.Steps.{AsksNext, EndsContents, EntersOpen, HasTwoLevels, IsRootRead, SkipsUnknown};
+ghost use Rattle.per_de.specs.Steps.{AsksNext, EndsContents, EntersOpen, HasTwoLevels, IsRootRead, SkipsRest, SkipsUnknown};
 ghost use Rattle.per_de.specs.Steps.{ClosesContents, EntersAlternative, TakesIndex};
 ghost use Rattle.per_de.specs.Steps.{TakesBit, TakesBitmap, TakesExtensionBit, TakesFlags, TakesPresences};
 
@@ -763,6 +763,26 @@ impl<'input> Decoder<'input> {
         let left = reader.bits().len();
         self.answer(taken, left)
     }
+
+    /// Skips what is left of the open SEQUENCE's additions, which its type doesn't know, behind their bitmap where that
+    /// is still ahead (X.691 19.7 to 19.9).
+    fn skip_left(&mut self) -> Result<(), DecodeError>
+        ensures { SkipsRest self.old result self.new }
+    {
+        let flags = self.take_extension()?;
+        self.skip_additions(flags)
+    }
+
+    /// Skips what is left of the open SEQUENCE's additions, where anything may be left.
+    #[inline(always)]
+    fn skip_rest(&mut self) -> Result<(), DecodeError>
+        ensures { SkipsRest self.old result self.new }
+    {
+        if self.extension.is_over() {
+            return Ok(());
+        }
+        self.skip_left()
+    }
 }
 
 /// Whether so many octets under a size, which stand at the front of bits, come with one count alone or with none
@@ -1126,8 +1146,7 @@ impl<'input> decoder::Decoder for Decoder<'input> {
         if self.expected > 0 {
             return Err(self.refuse(DecodeErrorKind::MissingTag));
         }
-        let flags = self.take_extension()?;
-        self.skip_additions(flags)?;
+        self.skip_rest()?;
         self.leave(scope);
         Ok(())
     }

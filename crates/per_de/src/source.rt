@@ -4,7 +4,7 @@ ghost use Rattle.std.specs.Prelude.{◌≡◌, ◌≤◌, ◌+◌, ◌-◌, ◌*
 ghost use Rattle.std.specs.Prelude.{IfOk};
 ghost use Rattle.rasn_types.specs.Bits.{Bits};
 ghost use Rattle.per_read.specs.Additions.{NextFlag};
-ghost use Rattle.per_decoding.specs.State.{extension_of};
+ghost use Rattle.per_decoding.specs.State.{extension_of, shown};
 ghost use Rattle.per_de.specs.Sources.{bits_of, extension_in, flags_in, lends, place_of, span_of, AreOctetsOf};
 ghost use Rattle.per_de.specs.Sources.{IsWithin};
 
@@ -241,5 +241,15 @@ impl Extension {
             return Extension::Ahead;
         }
         Extension::Shown(Flags::InPlace(Span::empty()))
+    }
+
+    /// Whether surely nothing of it is left, whichever the source.
+    pub(crate) fn is_over(&self) -> bool
+        ensures { IsTrue result → (source : Bits) → extension_in source self.now ≡ shown [] }
+    {
+        match self {
+            Extension::Ahead => false,
+            Extension::Shown(flags) => flags.are_none(),
+        }
     }
 }
