@@ -35,7 +35,7 @@ ghost use Rattle.per_decoding.specs.State.{State, Options, fresh, fresh_of, from
 ghost use Rattle.per_de.specs.Lists.{IsOpenList};
 ghost use Rattle.per_de.specs.Openings.{OpensRecord};
 ghost use Rattle.per_de.specs.Outsides.{outside_choice_of, outside_record_of, outside_addition_of};
-ghost use Rattle.per_de.specs.Lending.{AreLent, CanBeLent, ComeAlone};
+ghost use Rattle.per_de.specs.Lending.{AreCountedOnce, AreLent, CanBeLent, ComeAlone};
 ghost use Rattle.per_de.specs.Sources.{bits_of, extension_in, flags_in, place_left, span_of, up_to, unread_of};
 ghost use Rattle.per_de.specs.Sources.{AreOctetsOf, IsWithin};
 ghost use Rattle.per_de.specs.Steps.{AsksNext, EndsContents, EntersOpen, HasTwoLevels, IsRootRead, SkipsRest, SkipsUnknown};
@@ -316,7 +316,7 @@ impl<'input> Decoder<'input> {
             Ok(count) => count,
             Err(kind) => return Err(self.refuse(kind)),
         };
-        if !come_alone(constraints, &self.input(), count) {
+        if !self.come_alone(constraints, count) {
             return self.gathered(constraints);
         }
         let octets = match self.octets_before(left, count) {
@@ -325,6 +325,16 @@ impl<'input> Decoder<'input> {
         };
         self.keep_last(left);
         Ok(octets)
+    }
+
+    /// Whether so many octets under a size, which stand at the front of the bits that are left, come with one count
+    /// alone or with none (X.691 11.9.3.3 to 11.9.3.8).
+    #[inline(always)]
+    fn come_alone(&self, constraints: &Constraints, count: usize) -> bool
+        ensures { let size = size_of constraints.now in let mark = is_size_marked constraints.now in
+            (result ≡ true) ↔ ComeAlone size mark self.now.bits count }
+    {
+        count < FRAGMENT || are_counted_once(constraints, &self.input())
     }
 
     /// Reads an OCTET STRING under constraints, and answers a copy of its octets, which may come in fragments.
@@ -754,9 +764,6 @@ impl<'input> Decoder<'input> {
     fn skip_additions(&mut self, flags: Flags) -> Result<(), DecodeError>
         ensures { SkipsUnknown (flags_in self.old.source.bits flags) self.old result self.new }
     {
-        if flags.are_none() {
-            return Ok(());
-        }
         let bitmap = flags.into_bitmap(self.source.bits());
         let mut reader = self.reader();
         let taken = skip_unknown(&mut reader, bitmap);
@@ -785,15 +792,12 @@ impl<'input> Decoder<'input> {
     }
 }
 
-/// Whether so many octets under a size, which stand at the front of bits, come with one count alone or with none
-/// (X.691 11.9.3.3 to 11.9.3.8).
-fn come_alone(constraints: &Constraints, bits: &BitReader<'_>, count: usize) -> bool
+/// Whether octets under a size, which stand at the front of bits, come with one count or with none, however many they
+/// are (X.691 11.9.3.3, 11.9.4.1, 17.3).
+fn are_counted_once(constraints: &Constraints, bits: &BitReader<'_>) -> bool
     ensures { let size = size_of constraints.now in let mark = is_size_marked constraints.now in
-        (result ≡ true) ↔ ComeAlone size mark bits.now.bits count }
+        (result ≡ true) ↔ AreCountedOnce size mark bits.now.bits }
 {
-    if count < FRAGMENT {
-        return true;
-    }
     let Some(size) = constraints.size() else {
         return false;
     };
