@@ -360,36 +360,8 @@ impl<'input> Decoder<'input> {
             IfOk result (λ x. AreOctetsOf bits (length bits - left) count (cow_slice_items x)) }
         ensures lent { IfOk result (λ x. IsBorrowedSlice x ↔ CanBeLent self.now left count) }
     {
-        let Some(octets) = self.lent(left, count) else {
-            let octets = self.copied(left, count)?;
-            return Ok(CowSlice::Owned(octets));
-        };
-        Ok(CowSlice::Borrowed(octets))
-    }
-
-    /// The `count` octets in front of the last `left` bits, where they can be lent.
-    #[inline(always)]
-    fn lent(&self, left: u128, count: usize) -> Option<&'input [u8]>
-        requires { 8 * count + left ≤ length self.now.bits }
-        ensures some { let bits = self.now.bits in
-            IfSome result (λ part. AreOctetsOf bits (length bits - left) count part.now) }
-        ensures lent { IsSome result ↔ CanBeLent self.now left count }
-    {
-        if count == 0 {
-            return None;
-        }
-        self.source.octets_before(self.bits.end - left, count)
-    }
-
-    /// A copy of the `count` octets in front of the last `left` bits. The only error is want of memory.
-    #[inline(always)]
-    fn copied(&self, left: u128, count: usize) -> Result<Vec<u8>, AllocError>
-        requires { 8 * count + left ≤ length self.now.bits }
-        ensures { let bits = self.now.bits in
-            IfOk result (λ copy. AreOctetsOf bits (length bits - left) count copy.items) }
-    {
         let place = self.bits.end - left;
-        self.source.copy_before(self.alloc, place, count)
+        self.source.octets_before(self.alloc, place, count)
     }
 
     /// A reader of the bits that are left.
@@ -476,8 +448,7 @@ impl<'input> Decoder<'input> {
     fn keep_last(&mut self, left: u128)
         ensures { self.new ≡ with_last self.old left }
     {
-        let count = self.bits.len().saturating_sub(left);
-        self.bits = self.bits.behind(count);
+        self.bits.begin = self.bits.begin.max(self.bits.end.saturating_sub(left));
     }
 
     /// Takes so many presence bits off the bits left, and answers where they stand. Where fewer are left it refuses.
