@@ -1,6 +1,6 @@
 -- What opening and closing a record with additions, and the open type of one, take, and why they refuse (X.691 19.7 to 19.9).
 use Rattle.std.proofs.Common.{◌≡◌, ◌⊎◌, inl, inr, refl, sym, ◌∙◌, ap, subst, ℕ, suc, true, false, [], Option, Some, None, length, arith}
-use Rattle.std.specs.Prelude.{Ok, Err}
+use Rattle.std.specs.Prelude.{Ok, Err, Result}
 use Rattle.rasn_types.specs.Values.{Value}
 use Rattle.rasn_schema.specs.Fields.{shapes_from}
 use Rattle.rasn_schema.specs.Schemas.{Schema, Parts, no_parts, part, count}
@@ -22,7 +22,7 @@ use Rattle.per_decoding.specs.Scopes.{Closes, OutsideRecord, with_outside_record
 use Rattle.per_decoding.specs.State.{Extension, State, ahead, settings_of, with_bits}
 use Rattle.per_decoding.specs.Laws.Tails.{asks_agree, shown_agree, tested_new}
 use Rattle.per_de.specs.Sources.{flags_in}
-use Rattle.per_de.specs.Steps.{IsOfBitmap, RefusedAs, SkipsUnknown, TakesFlags, Unasked}
+use Rattle.per_de.specs.Steps.{IsOfBitmap, IsUnskipped, RefusedAs, SkipsRest, SkipsUnknown, TakesFlags, Unasked}
 use Rattle.per_de.specs.declared.source.Flags.{Flags}
 
 -- how many parts there are
@@ -41,14 +41,12 @@ pub addition_unread : (s : State) (w : OutsideRecord) (e : DecodeError) → e �
 addition_unread s w e i none = inr ((λ u h. none h.none), subst (λ z. Unended z s) (sym i) (record { codec = refl; stands = unread refl (λ p q. none q) }))
 
 -- no bitmap stands where one is ahead
-pub bitmap_unread : (s m t : State) (w : OutsideRecord) (e : DecodeError) → m ≡ s → s.presences ≡ [] → s.expected ≡ 0 → TakesFlags m (Err e) t → Endless s w e
-bitmap_unread s m t w e same done none h =
-    let k : TakesFlags s (Err e) t = subst (λ z. TakesFlags z (Err e) t) same h in
-    go k.0 k.1.kind k.1.is k.1.because
+bitmap_unread : (s t : State) (w : OutsideRecord) (e : DecodeError) → s.presences ≡ [] → s.expected ≡ 0 → s.extension ≡ ahead → RefusedAs (IsOfBitmap s) s e t → Endless s w e
+bitmap_unread s t w e done none x r = go r.kind r.is r.because
   where
-    go : s.extension ≡ ahead → (d : DecodeErrorKind) → e ≡ refusal d s → IsOfBitmap s d → Endless s w e
-    go x d i (inl o) = inl (i ∙ ap (λ z. refusal z s) o)
-    go x d i (inr o) = inr (
+    go : (d : DecodeErrorKind) → e ≡ refusal d s → IsOfBitmap s d → Endless s w e
+    go d i (inl o) = inl (i ∙ ap (λ z. refusal z s) o)
+    go d i (inr o) = inr (
       (λ u c. let q = then_took c.skipped in o.1 c.flags q.0 (subst (λ (z : Extension). Took (Shown (settings_of s) z c.flags) s.bits q.0) x q.1)),
       subst (λ z. Unended z s) (sym i) (record {
         codec = refl;
@@ -56,48 +54,54 @@ bitmap_unread s m t w e same done none h =
       }),
     )
 
--- behind the bitmap
-module _ (s m n : State) (flags : Flags) (same : m ≡ s) (done : s.presences ≡ []) (none : s.expected ≡ 0) (h : TakesFlags m (Ok flags) n) where
-  took_flags : TakesFlags s (Ok flags) n
-  took_flags = subst (λ z. TakesFlags z (Ok flags) n) same h
+-- an unknown addition isn't there
+unknown_unread : (s t : State) (w : OutsideRecord) (e : DecodeError) → s.presences ≡ [] → s.expected ≡ 0 → RefusedAs (IsUnskipped s) s e t → Endless s w e
+unknown_unread s t w e done none r =
+    let h = r.because in
+    inr (
+      (λ u c. let q = then_took c.skipped in
+          let g = took_agree (shown_agree (settings_of s) s.extension c.flags h.flags) q.1 h.shows in
+          h.none tt u.bits (subst (λ z. Took (Unknown (settings_of s) z) h.left u.bits) g.0 (subst (λ z. Took (Unknown (settings_of s) c.flags) z u.bits) g.1 q.2))),
+      subst (λ z. Unended z s) (sym r.is) (record { codec = refl; stands = unskipped done none (behind_bitmap h.flags h.shows (in_unknown h.tested h.none)) }),
+    )
 
-  source_kept : n.source ≡ s.source
-  source_kept = ap (λ z. z.source) took_flags.1
+-- what is left of the additions, behind the presence bits that are shown
+pub rest_skipped : (s n : State) (flags : Flags) (t : State) (result : Result (Unit {0}) DecodeError) → TakesFlags s (Ok flags) n → SkipsUnknown (flags_in n.source.bits flags) n result t → SkipsRest s result t
+rest_skipped s n flags t result h r = go result r
+  where
+    same_flags : flags_in n.source.bits flags ≡ flags_in s.source.bits flags
+    same_flags = ap (λ z. flags_in z.source.bits flags) h.1
 
-  settings_kept : settings_of n ≡ settings_of s
-  settings_kept = ap settings_of took_flags.1
+    settings_kept : settings_of n ≡ settings_of s
+    settings_kept = ap settings_of h.1
 
-  same_flags : flags_in n.source.bits flags ≡ flags_in s.source.bits flags
-  same_flags = ap (λ z. flags_in z.bits flags) source_kept
+    go : (result : Result (Unit {0}) DecodeError) → SkipsUnknown (flags_in n.source.bits flags) n result t → SkipsRest s result t
+    go (Ok u) r =
+        let k : Took (Unknown (settings_of s) (flags_in s.source.bits flags)) n.bits t.bits = subst (λ z. Took (Unknown z (flags_in s.source.bits flags)) n.bits t.bits) settings_kept (subst (λ z. Took (Unknown (settings_of n) z) n.bits t.bits) same_flags r.0) in
+        (flags_in s.source.bits flags, took_then h.0 k, r.1 ∙ ap (λ z. with_bits z t.bits) h.1)
+    go (Err e) r =
+        let no : NoneIn (skipped_unknown (flags_in s.source.bits flags) (settings_of s)) n.bits = subst (λ z. NoneIn (skipped_unknown (flags_in s.source.bits flags) z) n.bits) settings_kept (subst (λ z. NoneIn (skipped_unknown z (settings_of n)) n.bits) same_flags r.because.1) in
+        inr (record {
+          kind = r.kind;
+          is = r.is ∙ ap (λ z. refusal r.kind z) h.1;
+          because = record { flags = flags_in s.source.bits flags; left = n.bits; shows = h.0; tested = r.because.0; none = no };
+          failed = r.failed;
+          codec = r.codec ∙ ap (λ z. z.codec) h.1;
+        })
 
-  -- an unknown addition isn't there
-  pub unknown_unread : (t : State) (w : OutsideRecord) (e : DecodeError) → SkipsUnknown (flags_in n.source.bits flags) n (Err e) t → Endless s w e
-  unknown_unread t w e r =
-      let no : NoneIn (skipped_unknown (flags_in s.source.bits flags) (settings_of s)) n.bits = subst (λ z. NoneIn (skipped_unknown (flags_in s.source.bits flags) z) n.bits) settings_kept (subst (λ z. NoneIn (skipped_unknown z (settings_of n)) n.bits) same_flags r.because.1) in
-      let codec : e.codec ≡ s.codec = ap (λ z. z.codec) r.is ∙ ap (λ z. z.codec) took_flags.1 in
-      let kind : r.kind ≡ e.kind = ap (λ z. z.kind) (sym r.is) in
-      inr (
-        (λ u c. let q = then_took c.skipped in
-            let g = took_agree (shown_agree (settings_of s) s.extension c.flags (flags_in s.source.bits flags)) q.1 took_flags.0 in
-            no tt u.bits (subst (λ z. Took (Unknown (settings_of s) z) n.bits u.bits) g.0 (subst (λ z. Took (Unknown (settings_of s) c.flags) z u.bits) g.1 q.2))),
-        record {
-          codec = codec;
-          stands = unskipped done none (subst (λ z. IsInTail (settings_of s) z no_parts s.extension s.bits) kind (behind_bitmap (flags_in s.source.bits flags) took_flags.0 (in_unknown r.because.0 no)));
-        },
-      )
+-- they can't be skipped
+pub rest_unread : (s m t : State) (w : OutsideRecord) (e : DecodeError) → m ≡ s → s.presences ≡ [] → s.expected ≡ 0 → SkipsRest m (Err e) t → Endless s w e
+rest_unread s m t w e same done none h = go (subst (λ z. SkipsRest z (Err e) t) same h)
+  where
+    go : SkipsRest s (Err e) t → Endless s w e
+    go (inl r) = bitmap_unread s t w e done none r.0 r.1
+    go (inr r) = unknown_unread s t w e done none r
 
-  -- they were skipped
-  pub record_closed : (u t : State) (w : OutsideRecord) → s.failed ≡ false → SkipsUnknown (flags_in n.source.bits flags) n (Ok tt) u → t ≡ with_outside_record u w → Closes s w t
-  record_closed u t w live r e =
-      let k : Took (Unknown (settings_of s) (flags_in s.source.bits flags)) n.bits u.bits = subst (λ z. Took (Unknown z (flags_in s.source.bits flags)) n.bits u.bits) settings_kept (subst (λ z. Took (Unknown (settings_of n) z) n.bits u.bits) same_flags r.0) in
-      subst (λ z. Closes s w z) (sym e) (record {
-        live = live;
-        done = done;
-        none = none;
-        flags = flags_in s.source.bits flags;
-        skipped = took_then took_flags.0 k;
-        same = ap (λ z. with_outside_record z w) r.1 ∙ ap (λ z. with_outside_record (with_bits z u.bits) w) took_flags.1;
-      })
+-- they were skipped
+pub record_closed : (s m u t : State) (w : OutsideRecord) → m ≡ s → s.presences ≡ [] → s.expected ≡ 0 → s.failed ≡ false → SkipsRest m (Ok tt) u → t ≡ with_outside_record u w → Closes s w t
+record_closed s m u t w same done none live h e =
+    let r : SkipsRest s (Ok tt) u = subst (λ z. SkipsRest z (Ok tt) u) same h in
+    subst (λ z. Closes s w z) (sym e) (record { live = live; done = done; none = none; flags = r.0; skipped = r.1; same = ap (λ z. with_outside_record z w) r.2 })
 
 -- the open type of the next addition
 pub opens_addition : (s m : State) (w : OutsideAddition) (i : State) → Asks s (Some true) m → OpensContents m w i → OpensAddition s w i

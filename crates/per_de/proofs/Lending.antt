@@ -1,7 +1,7 @@
 -- Octets that come with one count alone, or with none, are the last bits that were taken, and are lent where these are octets of the input
 -- (X.691 11.9, 17).
 use Rattle.std.proofs.Common.{◌≡◌, ◌<◌, ◌≤◌, ◌⊎◌, inl, inr, refl, sym, ◌∙◌, ap, ap₂, subst, ℕ, zero, suc, ◌+◌, ◌-◌, ◌*◌, ◌/◌, ◌%◌, ◌^◌, take, drop, take_at, drop_at, Bool, true, false, cond, nat_lt, List, [], ◌∷◌, ◌++◌, length, Option, Some, None, Global, arith, length-append, length-take, length-drop, take-append-drop, append_assoc}
-use Rattle.std.specs.Prelude.{◌↔◌, Result, Ok, Err, IfOk, IfSome}
+use Rattle.std.specs.Prelude.{◌↔◌, Result, Ok, Err, IfOk}
 use Rattle.std.proofs.lemmas.List.{take_all}
 use Rattle.rasn_types.specs.Packed.{packed}
 use Rattle.rasn_types.proofs.Octets.{length-pack}
@@ -17,7 +17,6 @@ use Rattle.rasn_types.proofs.Fewest.{pack-unpack}
 use Rattle.rasn_constraints.specs.Bounds.{Size}
 use Rattle.rasn_schema.specs.Schemas
 use Rattle.rasn_traits.specs.Calls.{Reads}
-use Rattle.per_bits.specs.Octets.{AreWholeOctets, Reading}
 use Rattle.per_core.specs.Basic.{InFragments, Counted, OneByOne, UnconstrainedLength, length_form, octet}
 use Rattle.per_core.specs.Counts.{octet_items}
 use Rattle.per_core.specs.Spellings.{Settings, Spelling, Then}
@@ -36,7 +35,7 @@ use Rattle.per_decoding.specs.Faults.{refusal}
 use Rattle.per_decoding.specs.Rules.{decoder_rules}
 use Rattle.per_decoding.specs.State.{State, reader_of, settings_of, with_last}
 use Rattle.per_de.specs.Lending.{AreLent, CanBeLent, ComeAlone, is_counted_once, is_extended}
-use Rattle.per_de.specs.Sources.{bits_of, lends, place_of, span_of, up_to, AreOctetsOf, IsWithin}
+use Rattle.per_de.specs.Sources.{bits_of, place_of, span_of, up_to, AreInInput, AreOctetsIn, AreOctetsOf, IsWithin}
 use Rattle.per_de.specs.declared.source.Source.{Source}
 use Rattle.per_de.specs.declared.source.Span.{Span}
 use Rattle.per_de.proofs.Calls.{reads}
@@ -116,23 +115,6 @@ unpack_same xs ys h k e =
     let n : length xs ≡ length ys = omega (arith, ap length e, length-unpack xs, length-unpack ys) in
     sym (pack-unpack xs h) ∙ ap₂ (λ (n : ℕ) (b : Bits). pack n b) n e ∙ pack-unpack ys k
 
--- octets of a reader's input that end in front of the place of a bit
-pub input_octets : (input part : Reading) (place n : ℕ) (os : List ℕ) → 8 * n ≤ place → part.bits ≡ take (8 * n) (drop (place - 8 * n) input.bits) → AreOctets os → unpack os ≡ part.bits
-    → AreOctetsOf input.bits place n os
-input_octets input part place n os l e h same =
-    let w : 8 * n ≡ place - (place - 8 * n) = omega (arith, l) in
-    record { are = h; same = same ∙ e ∙ ap (λ (i : ℕ). take i (drop (place - 8 * n) input.bits)) w }
-
--- these are whole octets exactly where that place begins an octet
-pub whole_where : (input part : Reading) (place n : ℕ) → 8 * n ≤ place → place ≤ length input.bits → part.bits ≡ take (8 * n) (drop (place - 8 * n) input.bits) → part.place ≡ (input.place + (place - 8 * n)) % 8
-    → AreWholeOctets part ↔ ((input.place + place) % 8 ≡ 0)
-whole_where input part place n l within e p =
-    let rest = drop (place - 8 * n) input.bits in
-    let wide : length part.bits ≡ 8 * n = ap length e ∙ length-take (8 * n) rest ∙ omega (arith, length-drop (place - 8 * n) input.bits, l, within) in (
-      (λ w. omega (arith, w.begins, p, l)),
-      λ h. record { begins = omega (arith, h, p, l); ends = omega (arith, wide) },
-    )
-
 -- a part of the bits that are left, as a part of those in which they stand
 inner : (span : Span) (source : Bits) (left m : ℕ) → IsWithin span source → m + left ≤ length (span_of span source)
     → between (span.end - left - m) (span.end - left) source ≡ between (length (span_of span source) - left - m) (length (span_of span source) - left) (span_of span source)
@@ -149,10 +131,6 @@ part_inside span source bits left n part h e l p =
     let few : 8 * n + left ≤ length (span_of span source) = omega (arith, l, ap length e) in
     subst (λ z. AreOctetsOf z (length z - left) n part) e (record { are = p.are; same = p.same ∙ inner span source left (8 * n) h few })
 
-pub if_some : {X : Type 0} (r : Option X) (P Q : X → Type 0) → ((v : X) → P v → Q v) → IfSome r P → IfSome r Q
-if_some None P Q f h = tt
-if_some (Some v) P Q f h = f v h
-
 pub if_ok : {X E : Type 0} (r : Result X E) (P Q : X → Type 0) → ((v : X) → P v → Q v) → IfOk r P → IfOk r Q
 if_ok (Err e) P Q f h = tt
 if_ok (Ok v) P Q f h = f v h
@@ -164,22 +142,17 @@ copy_same bits os n l e =
     let whole : length bits ≡ length (unpack os) = omega (arith, l, many, length-unpack os) in
     sym (take_all (length bits) (unpack os) (omega (arith, whole))) ∙ ap (λ z. take (length bits) (unpack z)) e ∙ unpack-packed bits
 
--- a copy of the octets that end in front of the place of a bit
-pub copied_octets : (input part : Bits) (place n : ℕ) (os : List ℕ) → 8 * n ≤ place → place ≤ length input → part ≡ take (8 * n) (drop (place - 8 * n) input) → AreOctets os → os ≡ packed part → AreOctetsOf input place n os
-copied_octets input part place n os l within e h same =
-    let rest = drop (place - 8 * n) input in
-    let wide : length part ≡ 8 * n = ap length e ∙ length-take (8 * n) rest ∙ omega (arith, length-drop (place - 8 * n) input, l, within) in
-    let w : 8 * n ≡ place - (place - 8 * n) = omega (arith, l) in
-    record { are = h; same = copy_same part os n wide same ∙ e ∙ ap (λ (i : ℕ). take i rest) w }
+pub octets_copied : (bits : Bits) (os : List ℕ) → length bits % 8 ≡ 0 → AreOctets os → os ≡ packed bits → AreOctetsIn bits os
+octets_copied bits os whole h e = record { are = h; same = copy_same bits os (length bits / 8) (omega (arith, whole)) e }
 
 -- octets can be lent exactly where octets of the input stand in front of the last bits
-pub lent_where : {A : Type 0} (s : State) (source : Source) (span : Span) (left n : ℕ) → up_to span source ≡ s.source → IsWithin span (bits_of source) → 0 < n → left ≤ span.end
-    → A ↔ ((lends source ≡ true) × ((place_of source + (span.end - left)) % 8 ≡ 0)) → A ↔ CanBeLent s left n
-lent_where s source span left n e h some l i =
+pub lent_where : {A : Type 0} (s : State) (source : Source) (span : Span) (left n : ℕ) → up_to span source ≡ s.source → IsWithin span (bits_of source) → left ≤ span.end
+    → A ↔ AreInInput source (span.end - left) n → A ↔ CanBeLent s left n
+lent_where s source span left n e h l i =
     let same : place_of source + (span.end - left) ≡ s.source.place + (length s.source.bits - (s.source.behind + left)) =
     omega (arith, ap (λ z. z.place) e, ap (λ z. z.behind) e, ap (λ z. length z.bits) e, h.enough, l) in (
-      (λ a. let q = i.0 a in record { some = some; lends = sym (ap (λ z. z.lends) e) ∙ q.0; on_octets = ap (λ (k : ℕ). k % 8) (sym same) ∙ q.1 }),
-      λ w. i.1 (ap (λ z. z.lends) e ∙ w.lends, ap (λ (k : ℕ). k % 8) same ∙ w.on_octets),
+      (λ a. let q = i.0 a in record { some = q.some; lends = sym (ap (λ z. z.lends) e) ∙ q.input; on_octets = ap (λ (k : ℕ). k % 8) (sym same) ∙ q.on_octets }),
+      λ w. i.1 (record { some = w.some; input = ap (λ z. z.lends) e ∙ w.lends; on_octets = ap (λ (k : ℕ). k % 8) same ∙ w.on_octets }),
     )
 
 owned_not : (x : CowSlice ℕ Global) → IsOwnedSlice x → IsBorrowedSlice x → ⊥

@@ -96,10 +96,6 @@ next_of span source bits n e some m = go bits e some m
 pub span_whole : (source : Bits) (n : ℕ) → n ≡ length source → span_of (record { begin = 0; end = n }) source ≡ source
 span_whole source n e = take_all (n - 0) source (omega (arith, e))
 
--- a span that ends where it begins
-pub no_bits : (span : Span) (source : Bits) → span.end - span.begin ≡ 0 → span_of span source ≡ []
-no_bits span source e = ap (λ (n : ℕ). take n (drop span.begin source)) e
-
 -- a span of some bits
 pub some_left : (span : Span) (source bits : Bits) → bits ≡ span_of span source → (bits ≡ [] → ⊥) → 1 ≤ span.end - span.begin
 some_left span source [] e some = absurd (some refl)

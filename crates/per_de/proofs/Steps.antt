@@ -1,5 +1,5 @@
 -- What the steps of the calls take, and why they refuse.
-use Rattle.std.proofs.Common.{◌≡◌, ◌⊎◌, inl, inr, refl, sym, ◌∙◌, ap, subst, ℕ, ◌+◌, ◌-◌, ◌≤◌, ◌%◌, Bool, true, List, [], ◌++◌, length, length-append, arith}
+use Rattle.std.proofs.Common.{◌≡◌, ◌⊎◌, inl, inr, sym, ◌∙◌, ap, subst, ℕ, ◌+◌, ◌-◌, ◌≤◌, ◌%◌, Bool, true, List, [], ◌++◌, length, length-append, arith}
 use Rattle.std.specs.Prelude.{Result, Ok, Err}
 use Rattle.rasn_types.specs.Bits.{Bits, unpack}
 use Rattle.rasn_types.proofs.Bits.{length-unpack}
@@ -7,7 +7,6 @@ use Rattle.rasn_schema.specs.declared.items.Place.{Place}
 use Rattle.per_core.specs.Basic.{ExtensionBit, IsBitmap, Octets, Unknown}
 use Rattle.per_core.specs.Spellings.{Settings, Spelling}
 use Rattle.per_core.specs.Took.{Took}
-use Rattle.per_core.proofs.Took.{took_nothing}
 use Rattle.per_errors.specs.Counts.{count_of}
 use Rattle.per_read_types.specs.Choices.{IsOfIndex, index_form, index_of}
 use Rattle.per_read.specs.Kinds.{IsTested, NoneIn, Stopped}
@@ -155,9 +154,6 @@ unknown_skipped flags bitmap s {y = y} t (Ok u) b i g l a =
     (subst (λ z. Took (Unknown (settings_of s) flags) s.bits z) n (subst (λ z. Took (Unknown (settings_of s) z) s.bits y.bits) b w.0), w.1 ∙ ap (λ z. with_bits s z) n)
 unknown_skipped flags bitmap s t (Err e) b i g l a =
     subst (λ z. RefusedAs (λ k. IsTested k × NoneIn (skipped_unknown z (settings_of s)) s.bits) s e t) b (went_err s _ e i g a)
-
-pub none_skipped : (flags : List Bool) (s : State) → flags ≡ [] → SkipsUnknown flags s (Ok tt) s
-none_skipped flags s e = subst (λ z. SkipsUnknown z s (Ok tt) s) (sym e) (took_nothing s.bits, refl)
 
 -- the contents of an open type
 module _ (s : State) {x y : Taking} (left : ℕ) (t : State) {taken : Result Contents DecodeErrorKind} (i : x ≡ reader_of s) (g : Takes (gathering fragments_of) Octets (HasOctets x.bits y.bits) x taken y) where

@@ -16,10 +16,14 @@ is_extended false s = false
 is_extended true [] = false
 is_extended true (b ∷ s) = b
 
+-- octets at the front of bits come with one count, or with none, however many they are
+abbrev pub AreCountedOnce : Size → Bool → Bits → Type 0
+AreCountedOnce size mark s = (is_counted_once size.least size.most ≡ true) × (is_extended mark s ≡ false)
+
 -- X.691 11.9.3.5 to 11.9.3.8: n octets at the front of bits come with one count alone, or with none. From 16384 on
 -- those behind an unconstrained length stand in fragments, each of which a further count follows; fewer don't.
 abbrev pub ComeAlone : Size → Bool → Bits → ℕ → Type 0
-ComeAlone size mark s n = (n < 16384) ⊎ ((is_counted_once size.least size.most ≡ true) × (is_extended mark s ≡ false))
+ComeAlone size mark s n = (n < 16384) ⊎ AreCountedOnce size mark s
 
 -- Of the bits that are left, n octets can be lent that stand in front of the last `left` bits: at least one, on octets
 -- of the input. So the input's octets end where these bits do.

@@ -1,5 +1,5 @@
 -- Where the bits come from that a decoder reads, and which of them it means.
-use Rattle.std.specs.Prelude.{◌≤◌, ◌≡◌, ◌+◌, ◌-◌, ◌*◌, ◌%◌, ℕ, List, Bool, true, false, drop, length}
+use Rattle.std.specs.Prelude.{◌<◌, ◌≤◌, ◌≡◌, ◌+◌, ◌-◌, ◌*◌, ◌%◌, ℕ, List, Bool, true, false, drop, length}
 use Rattle.std.specs.List.{between}
 use Rattle.rasn_types.specs.Bits.{AreOctets, Bits, unpack}
 use Rattle.per_decoding.specs.State
@@ -52,6 +52,17 @@ span_of span source = between span.begin span.end source
 pub record AreOctetsOf (bits : Bits) (place n : ℕ) (part : List ℕ) : Type 0 where
   pub are : AreOctets part
   pub same : unpack part ≡ between (place - 8 * n) place bits
+
+-- octets are all of some bits
+pub record AreOctetsIn (bits : Bits) (part : List ℕ) : Type 0 where
+  pub are : AreOctets part
+  pub same : unpack part ≡ bits
+
+-- n octets of a source in front of the place of a bit can be lent: at least one, on octets of the input
+pub record AreInInput (source : Source) (place n : ℕ) : Type 0 where
+  pub some : 0 < n
+  pub input : lends source ≡ true
+  pub on_octets : (place_of source + place) % 8 ≡ 0
 
 -- a source has all of them
 pub record IsWithin (span : Span) (source : Bits) : Type 0 where

@@ -1,10 +1,12 @@
 -- The steps of a decoder's calls: what each takes off the front of the bits left, or why it refuses.
 use Rattle.std.specs.Prelude.{◌≡◌, ◌-◌, ◌<◌, ◌≤◌, ◌⊎◌, ℕ, true, List, [], Bool, Option, length, Result, Ok, Err, OnOk}
 use Rattle.std.specs.Prelude.{IfErr}
+use Rattle.rasn_types.specs.Bits.{Bits}
 use Rattle.rasn_types.specs.Values.{Side, added}
 use Rattle.rasn_schema.specs.Schemas.{Schema}
 use Rattle.rasn_schema.specs.declared.items.Place.{Place}
 use Rattle.per_core.specs.Basic.{ExtensionBit, IsBitmap, Octets, Unknown, bit}
+use Rattle.per_core.specs.Spellings.{Then}
 use Rattle.per_core.specs.Took.{Took}
 use Rattle.per_errors.specs.Counts.{count_of}
 use Rattle.per_read_types.specs.Choices.{IsOfIndex, index_form, index_of}
@@ -94,6 +96,22 @@ abbrev pub SkipsUnknown : List Bool → State → Result (Unit {0}) DecodeError 
 SkipsUnknown flags s (Ok u) t = Took (Unknown (settings_of s) flags) s.bits t.bits × (t ≡ with_bits s t.bits)
 SkipsUnknown flags s (Err e) t = RefusedAs (λ k. IsTested k × NoneIn
     (skipped_unknown flags (settings_of s)) s.bits) s e t
+
+-- Presence bits of additions are left, or a bitmap with them is taken off the bits left, and an addition that they show
+-- isn't there behind it, which the schema doesn't know (X.691 19.9).
+pub record IsUnskipped (s : State) (k : DecodeErrorKind) : Type 0 where
+  pub flags : List Bool
+  pub left : Bits
+  pub shows : Took (Shown (settings_of s) s.extension flags) s.bits left
+  pub tested : IsTested k
+  pub none : NoneIn (skipped_unknown flags (settings_of s)) left
+
+-- What is left of the additions is taken off the bits left: the bitmap where it is still ahead, and the additions that
+-- the schema doesn't know (X.691 19.7 to 19.9).
+abbrev pub SkipsRest : State → Result (Unit {0}) DecodeError → State → Type 0
+SkipsRest s (Ok u) t = (flags : List Bool) × Took (Then (Shown (settings_of s) s.extension flags)
+    (Unknown (settings_of s) flags)) s.bits t.bits × (t ≡ record s { bits = t.bits; extension = shown [] })
+SkipsRest s (Err e) t = ((s.extension ≡ ahead) × RefusedAs (IsOfBitmap s) s e t) ⊎ RefusedAs (IsUnskipped s) s e t
 
 -- Whether what is left of contents of n bits ends them: Ok comes exactly where it does, and Err says why it doesn't,
 -- where no more is left than they had (X.691 11.1).

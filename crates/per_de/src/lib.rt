@@ -35,10 +35,10 @@ ghost use Rattle.per_decoding.specs.State.{State, Options, fresh, fresh_of, from
 ghost use Rattle.per_de.specs.Lists.{IsOpenList};
 ghost use Rattle.per_de.specs.Openings.{OpensRecord};
 ghost use Rattle.per_de.specs.Outsides.{outside_choice_of, outside_record_of, outside_addition_of};
-ghost use Rattle.per_de.specs.Lending.{AreLent, CanBeLent, ComeAlone};
+ghost use Rattle.per_de.specs.Lending.{AreCountedOnce, AreLent, CanBeLent, ComeAlone};
 ghost use Rattle.per_de.specs.Sources.{bits_of, extension_in, flags_in, place_left, span_of, up_to, unread_of};
 ghost use Rattle.per_de.specs.Sources.{AreOctetsOf, IsWithin};
-ghost use Rattle.per_de.specs.Steps.{AsksNext, EndsContents, EntersOpen, HasTwoLevels, IsRootRead, SkipsUnknown};
+ghost use Rattle.per_de.specs.Steps.{AsksNext, EndsContents, EntersOpen, HasTwoLevels, IsRootRead, SkipsRest, SkipsUnknown};
 ghost use Rattle.per_de.specs.Steps.{ClosesContents, EntersAlternative, TakesIndex};
 ghost use Rattle.per_de.specs.Steps.{TakesBit, TakesBitmap, TakesExtensionBit, TakesFlags, TakesPresences};
 
@@ -316,7 +316,7 @@ impl<'input> Decoder<'input> {
             Ok(count) => count,
             Err(kind) => return Err(self.refuse(kind)),
         };
-        if !come_alone(constraints, &self.input(), count) {
+        if !self.come_alone(constraints, count) {
             return self.gathered(constraints);
         }
         let octets = match self.octets_before(left, count) {
@@ -325,6 +325,16 @@ impl<'input> Decoder<'input> {
         };
         self.keep_last(left);
         Ok(octets)
+    }
+
+    /// Whether so many octets under a size, which stand at the front of the bits that are left, come with one count
+    /// alone or with none (X.691 11.9.3.3 to 11.9.3.8).
+    #[inline(always)]
+    fn come_alone(&self, constraints: &Constraints, count: usize) -> bool
+        ensures { let size = size_of constraints.now in let mark = is_size_marked constraints.now in
+            (result ≡ true) ↔ ComeAlone size mark self.now.bits count }
+    {
+        count < FRAGMENT || are_counted_once(constraints, &self.input())
     }
 
     /// Reads an OCTET STRING under constraints, and answers a copy of its octets, which may come in fragments.
@@ -363,36 +373,8 @@ impl<'input> Decoder<'input> {
             IfOk result (λ x. AreOctetsOf bits (length bits - left) count (cow_slice_items x)) }
         ensures lent { IfOk result (λ x. IsBorrowedSlice x ↔ CanBeLent self.now left count) }
     {
-        let Some(octets) = self.lent(left, count) else {
-            let octets = self.copied(left, count)?;
-            return Ok(CowSlice::Owned(octets));
-        };
-        Ok(CowSlice::Borrowed(octets))
-    }
-
-    /// The `count` octets in front of the last `left` bits, where they can be lent.
-    #[inline(always)]
-    fn lent(&self, left: u128, count: usize) -> Option<&'input [u8]>
-        requires { 8 * count + left ≤ length self.now.bits }
-        ensures some { let bits = self.now.bits in
-            IfSome result (λ part. AreOctetsOf bits (length bits - left) count part.now) }
-        ensures lent { IsSome result ↔ CanBeLent self.now left count }
-    {
-        if count == 0 {
-            return None;
-        }
-        self.source.octets_before(self.bits.end - left, count)
-    }
-
-    /// A copy of the `count` octets in front of the last `left` bits. The only error is want of memory.
-    #[inline(always)]
-    fn copied(&self, left: u128, count: usize) -> Result<Vec<u8>, AllocError>
-        requires { 8 * count + left ≤ length self.now.bits }
-        ensures { let bits = self.now.bits in
-            IfOk result (λ copy. AreOctetsOf bits (length bits - left) count copy.items) }
-    {
         let place = self.bits.end - left;
-        self.source.copy_before(self.alloc, place, count)
+        self.source.octets_before(self.alloc, place, count)
     }
 
     /// A reader of the bits that are left.
@@ -479,8 +461,7 @@ impl<'input> Decoder<'input> {
     fn keep_last(&mut self, left: u128)
         ensures { self.new ≡ with_last self.old left }
     {
-        let count = self.bits.len().saturating_sub(left);
-        self.bits = self.bits.behind(count);
+        self.bits.begin = self.bits.begin.max(self.bits.end.saturating_sub(left));
     }
 
     /// Takes so many presence bits off the bits left, and answers where they stand. Where fewer are left it refuses.
@@ -621,10 +602,10 @@ impl<'input> Decoder<'input> {
     fn check_root_read(&mut self) -> Result<(), DecodeError>
         ensures { IsRootRead self.old result self.new }
     {
-        if !self.presence_bits().is_empty() {
-            return Err(self.refuse(DecodeErrorKind::MissingTag));
+        if self.presences.is_empty() || self.presence_bits().is_empty() {
+            return Ok(());
         }
-        Ok(())
+        Err(self.refuse(DecodeErrorKind::MissingTag))
     }
 
     /// Asks for the next addition of the open SEQUENCE (X.691 19.7, 19.8): its presence bit, or none past the end of
@@ -767,26 +748,40 @@ impl<'input> Decoder<'input> {
     fn skip_additions(&mut self, flags: Flags) -> Result<(), DecodeError>
         ensures { SkipsUnknown (flags_in self.old.source.bits flags) self.old result self.new }
     {
-        if flags.are_none() {
-            return Ok(());
-        }
         let bitmap = flags.into_bitmap(self.source.bits());
         let mut reader = self.reader();
         let taken = skip_unknown(&mut reader, bitmap);
         let left = reader.bits().len();
         self.answer(taken, left)
     }
+
+    /// Skips what is left of the open SEQUENCE's additions, which its type doesn't know, behind their bitmap where that
+    /// is still ahead (X.691 19.7 to 19.9).
+    fn skip_left(&mut self) -> Result<(), DecodeError>
+        ensures { SkipsRest self.old result self.new }
+    {
+        let flags = self.take_extension()?;
+        self.skip_additions(flags)
+    }
+
+    /// Skips what is left of the open SEQUENCE's additions, where anything may be left.
+    #[inline(always)]
+    fn skip_rest(&mut self) -> Result<(), DecodeError>
+        ensures { SkipsRest self.old result self.new }
+    {
+        if self.extension.is_over() {
+            return Ok(());
+        }
+        self.skip_left()
+    }
 }
 
-/// Whether so many octets under a size, which stand at the front of bits, come with one count alone or with none
-/// (X.691 11.9.3.3 to 11.9.3.8).
-fn come_alone(constraints: &Constraints, bits: &BitReader<'_>, count: usize) -> bool
+/// Whether octets under a size, which stand at the front of bits, come with one count or with none, however many they
+/// are (X.691 11.9.3.3, 11.9.4.1, 17.3).
+fn are_counted_once(constraints: &Constraints, bits: &BitReader<'_>) -> bool
     ensures { let size = size_of constraints.now in let mark = is_size_marked constraints.now in
-        (result ≡ true) ↔ ComeAlone size mark bits.now.bits count }
+        (result ≡ true) ↔ AreCountedOnce size mark bits.now.bits }
 {
-    if count < FRAGMENT {
-        return true;
-    }
     let Some(size) = constraints.size() else {
         return false;
     };
@@ -1143,8 +1138,7 @@ impl<'input> decoder::Decoder for Decoder<'input> {
         if self.expected > 0 {
             return Err(self.refuse(DecodeErrorKind::MissingTag));
         }
-        let flags = self.take_extension()?;
-        self.skip_additions(flags)?;
+        self.skip_rest()?;
         self.leave(scope);
         Ok(())
     }

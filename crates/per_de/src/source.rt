@@ -2,16 +2,19 @@
 
 ghost use Rattle.std.specs.Prelude.{◌≡◌, ◌≤◌, ◌+◌, ◌-◌, ◌*◌, ◌%◌, ◌↔◌, true, [], length, IfSome, IsSome, IsTrue};
 ghost use Rattle.std.specs.Prelude.{IfOk};
+ghost use Rattle.std.specs.Cow.{cow_slice_items, IsBorrowedSlice};
 ghost use Rattle.rasn_types.specs.Bits.{Bits};
+ghost use Rattle.per_bits.specs.Octets.{AreWholeOctets};
 ghost use Rattle.per_read.specs.Additions.{NextFlag};
-ghost use Rattle.per_decoding.specs.State.{extension_of};
-ghost use Rattle.per_de.specs.Sources.{bits_of, extension_in, flags_in, lends, place_of, span_of, AreOctetsOf};
-ghost use Rattle.per_de.specs.Sources.{IsWithin};
+ghost use Rattle.per_decoding.specs.State.{extension_of, shown};
+ghost use Rattle.per_de.specs.Sources.{bits_of, extension_in, flags_in, place_of, span_of};
+ghost use Rattle.per_de.specs.Sources.{AreInInput, AreOctetsIn, AreOctetsOf, IsWithin};
 
 use per_bits::BitReader;
 use per_read::bitmaps::{Bitmap, next_flag};
 use rasn_types::bit_string::{BitString, note_octets};
 use std::alloc::{AllocError, Global};
+use std::borrow::CowSlice;
 
 /// Where the bits come from that a decoder reads.
 #[derive(Drop)]
@@ -35,55 +38,58 @@ impl<'input> Source<'input> {
         BitReader::from_octets(octets)
     }
 
-    /// The last `count` octets in front of a place, where they are octets of the input.
-    pub(crate) fn octets_before(&self, place: u128, count: usize) -> Option<&'input [u8]>
-        requires there { 8 * count ≤ place }
-        requires within { place ≤ length (bits_of self.now) }
-        ensures some { IfSome result (λ part. AreOctetsOf (bits_of self.now) place count part.now) }
-        ensures lent { IsSome result ↔ ((lends self.now ≡ true) × ((place_of self.now + place) % 8 ≡ 0)) }
-    {
-        let Source::Input(input) = self else {
-            return None;
-        };
-        octets_before(input, place, count)
-    }
-
-    /// A copy of the last `count` octets in front of a place. The only error is want of memory.
-    pub(crate) fn copy_before(
+    /// The last `count` octets in front of a place: those of the input, at least one, are lent, and others are copied.
+    /// The only error is want of memory.
+    pub(crate) fn octets_before(
         &self,
         alloc: Global,
         place: u128,
         count: usize,
-    ) -> Result<Vec<u8>, AllocError>
+    ) -> Result<CowSlice<'input, u8>, AllocError>
         requires there { 8 * count ≤ place }
         requires within { place ≤ length (bits_of self.now) }
-        ensures { IfOk result (λ copy. AreOctetsOf (bits_of self.now) place count copy.items) }
+        ensures octets { IfOk result (λ x. AreOctetsOf (bits_of self.now) place count (cow_slice_items x)) }
+        ensures lent { IfOk result (λ x. IsBorrowedSlice x ↔ AreInInput self.now place count) }
     {
         let width = 8 * count as u128;
-        let mut copy = Vec::new(alloc);
-        self.bits()
-            .part(place - width, width)
-            .append_octets(&mut copy)?;
-        note_octets(copy.as_slice());
-        Ok(copy)
+        let octets = match self {
+            Source::Input(input) => return octets_of(alloc, input.part(place - width, width)),
+            Source::Gathered(octets) => octets.as_slice(),
+        };
+        let bits = BitReader::from_octets(octets).part(place - width, width);
+        Ok(CowSlice::Owned(copy_of(alloc, &bits)?))
     }
 }
 
-/// The last `count` octets in front of the place of a bit, where these are octets of what is read.
-fn octets_before<'input>(
-    input: &BitReader<'input>,
-    place: u128,
-    count: usize,
-) -> Option<&'input [u8]>
-    requires there { 8 * count ≤ place }
-    requires within { place ≤ length input.now.bits }
-    ensures some { IfSome result (λ part. AreOctetsOf input.now.bits place count part.now) }
-    ensures whole { IsSome result ↔ ((input.now.place + place) % 8 ≡ 0) }
+/// The octets that bits fill: they are lent where there is one and the bits begin an octet, and else copied. The only
+/// error is want of memory.
+fn octets_of<'input>(
+    alloc: Global,
+    bits: BitReader<'input>,
+) -> Result<CowSlice<'input, u8>, AllocError>
+    requires { length bits.bits % 8 ≡ 0 }
+    ensures octets { IfOk result (λ x. AreOctetsIn bits.entry.bits (cow_slice_items x)) }
+    ensures lent { IfOk result (λ x. IsBorrowedSlice x ↔ ((bits.entry.bits ≡ [] → ⊥) × AreWholeOctets bits.entry)) }
 {
-    let width = 8 * count as u128;
-    let octets = input.part(place - width, width).aligned_octets()?;
+    if bits.is_empty() {
+        return Ok(CowSlice::Owned(Vec::new(alloc)));
+    }
+    let Some(octets) = bits.aligned_octets() else {
+        return Ok(CowSlice::Owned(copy_of(alloc, &bits)?));
+    };
     note_octets(octets);
-    Some(octets)
+    Ok(CowSlice::Borrowed(octets))
+}
+
+/// A copy of the octets that bits fill. The only error is want of memory.
+fn copy_of(alloc: Global, bits: &BitReader<'_>) -> Result<Vec<u8>, AllocError>
+    requires { length bits.now.bits % 8 ≡ 0 }
+    ensures { IfOk result (λ copy. AreOctetsIn bits.now.bits copy.items) }
+{
+    let mut copy = Vec::new(alloc);
+    bits.append_octets(&mut copy)?;
+    note_octets(copy.as_slice());
+    Ok(copy)
 }
 
 /// Bits of a source: those from a place on, in front of another.
@@ -99,6 +105,13 @@ impl Span {
         ensures { result ≡ self.end - self.begin }
     {
         self.end.saturating_sub(self.begin)
+    }
+
+    /// Whether it has none, whichever the source.
+    pub(crate) fn is_empty(self) -> bool
+        ensures { IsTrue result → (source : Bits) → span_of self source ≡ [] }
+    {
+        self.end <= self.begin
     }
 
     /// The bits behind the first `count` of them.
@@ -200,7 +213,7 @@ impl Flags {
         ensures { IsTrue result → (source : Bits) → flags_in source self.now ≡ [] }
     {
         match self {
-            Flags::InPlace(span) => span.len() == 0,
+            Flags::InPlace(span) => span.is_empty(),
             Flags::Gathered(..) => false,
         }
     }
@@ -234,5 +247,15 @@ impl Extension {
             return Extension::Ahead;
         }
         Extension::Shown(Flags::InPlace(Span::empty()))
+    }
+
+    /// Whether surely nothing of it is left, whichever the source.
+    pub(crate) fn is_over(&self) -> bool
+        ensures { IsTrue result → (source : Bits) → extension_in source self.now ≡ shown [] }
+    {
+        match self {
+            Extension::Ahead => false,
+            Extension::Shown(flags) => flags.are_none(),
+        }
     }
 }

@@ -1,12 +1,9 @@
-use Rattle.std.proofs.Common.{ap, ◌∙◌, length, rules}
+use Rattle.std.proofs.Common.{ap, ◌∙◌, length}
 use Rattle.per_de.specs.Sources.{flags_in}
-use Rattle.per_de.proofs.Steps.{none_skipped, unknown_skipped}
+use Rattle.per_de.proofs.Steps.{unknown_skipped}
 use Rattle.per_de.proofs.Decoder.skip_additions.Goals as goal
 
 pub returns : goal.returns
 returns c =
     unknown_skipped _ _ c.args.self.now _ c.answer.result (c.into_bitmap-bitmap.ensures ∙ ap (λ z. flags_in z c.args.flags) (c.bits.ensures.bits ∙ ap (λ z. z.source.bits) c.self.view_is)) c.reader-reader.ensures c.skip_unknown-taken.ensures
     (c.len-left.ensures ∙ ap length c.bits-2.ensures) c.answer.ensures
-
-pub returns-then-are_none : goal.returns-then-are_none
-returns-then-are_none c = none_skipped _ c.args.self.now (c.are_none.ensures (search rules) _)

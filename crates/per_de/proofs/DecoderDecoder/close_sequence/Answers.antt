@@ -2,37 +2,25 @@ use Rattle.std.proofs.Common.{◌≡◌, ◌∙◌, ap, arith, rules}
 use Rattle.std.proofs.lemmas.Result.{err_from_is_err_and}
 use Rattle.per_decoding.specs.Scopes.{with_outside_record}
 use Rattle.per_de.specs.Outsides.{outside_record_of}
-use Rattle.per_de.proofs.Additions.{bitmap_unread, record_closed, unknown_unread}
+use Rattle.per_de.proofs.Additions.{record_closed, rest_unread}
 use Rattle.per_de.proofs.DecoderDecoder.close_sequence.Goals as goal
 
-pub returns-in_err-flags : goal.returns-in_err-flags
-returns-in_err-flags c =
-    let p = err_from_is_err_and c.from_residual-in_err-flags.result c.from_residual-in_err-flags.ensures.1 in
+pub returns-in_err-skip_rest : goal.returns-in_err-skip_rest
+returns-in_err-skip_rest c =
+    let p = err_from_is_err_and c.from_residual-in_err-skip_rest.result c.from_residual-in_err-skip_rest.ensures.1 in
     let s = c.args.self.now in
     let r = c.in_ok-check_root_read.ensures in
     let none : s.expected ≡ 0 = omega (arith, c.if-self-gt0.false, ap (λ z. z.expected) c.self.view_is, ap (λ z. z.expected) r.1) in
-    record { law = λ live. rw (p.1, p.2) (bitmap_unread s _ _ (outside_record_of s.source c.args.scope) _ r.1 r.0 none c.in_err-flags.ensures); behaves = search rules }
-
-pub returns-in_err-skip_additions : goal.returns-in_err-skip_additions
-returns-in_err-skip_additions c =
-    let p = err_from_is_err_and c.from_residual-in_err-skip_additions.result c.from_residual-in_err-skip_additions.ensures.1 in
-    let s = c.args.self.now in
-    let r = c.in_ok-check_root_read.ensures in
-    let none : s.expected ≡ 0 = omega (arith, c.if-self-gt0.false, ap (λ z. z.expected) c.self.view_is, ap (λ z. z.expected) r.1) in
-    record {
-      law = λ live. rw (p.1, p.2) (unknown_unread s _ _ c.in_ok-flags.flags r.1 r.0 none c.in_ok-flags.ensures _ (outside_record_of s.source c.args.scope) _ c.in_err-skip_additions.ensures);
-      behaves = search rules;
-    }
+    record { law = λ live. rw (p.1, p.2) (rest_unread s _ _ (outside_record_of s.source c.args.scope) _ r.1 r.0 none c.in_err-skip_rest.ensures); behaves = search rules }
 
 pub returns : goal.returns
 returns c =
     let s = c.args.self.now in
     let r = c.in_ok-check_root_read.ensures in
     let none : s.expected ≡ 0 = omega (arith, c.if-self-gt0.false, ap (λ z. z.expected) c.self.view_is, ap (λ z. z.expected) r.1) in
-    let u = c.skip_additions.new.self in
-    let source : u.source ≡ s.source = ap (λ z. z.source) c.in_ok-skip_additions.ensures.1 ∙ ap (λ z. z.source) c.in_ok-flags.ensures.1 ∙ ap (λ z. z.source) r.1 in
+    let u = c.skip_rest.new.self in
+    let source : u.source ≡ s.source = ap (λ z. z.source) c.in_ok-skip_rest.ensures.2 ∙ ap (λ z. z.source) r.1 in
     record {
-      law = λ live. record_closed s _ _ c.in_ok-flags.flags r.1 r.0 none c.in_ok-flags.ensures u _ (outside_record_of s.source c.args.scope) live c.in_ok-skip_additions.ensures
-          (c.leave.ensures ∙ ap (λ z. with_outside_record u (outside_record_of z c.args.scope)) source);
+      law = λ live. record_closed s _ u _ (outside_record_of s.source c.args.scope) r.1 r.0 none live c.in_ok-skip_rest.ensures (c.leave.ensures ∙ ap (λ z. with_outside_record u (outside_record_of z c.args.scope)) source);
       behaves = search rules;
     }

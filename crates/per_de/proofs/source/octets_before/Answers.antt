@@ -1,1 +1,0 @@
-use Rattle.per_de.proofs.source.octets_before.Goals as goal
