@@ -13,7 +13,8 @@ ghost use Rattle.rasn_schema.specs.Enumerations.{addeds_of, is_extensible as is_
 ghost use Rattle.rasn_schema.specs.Extensions.{fields_behind};
 ghost use Rattle.rasn_schema.specs.Fields.{tag_of};
 ghost use Rattle.rasn_schema.specs.Forms.{number_schema, octet_schema, size_of, is_size_marked};
-ghost use Rattle.rasn_traits.specs.Calls.{Reads};
+ghost use Rattle.rasn_schema.specs.Schemas.{Schema};
+ghost use Rattle.rasn_traits.specs.Calls.{Reads, freely_read};
 ghost use Rattle.per_read.specs.declared.error.DecodeErrorKind.TheVariants.{AlreadyFailed};
 ghost use Rattle.per_read_types.specs.Choices.{index_of};
 ghost use Rattle.per_read.specs.Lists.{most};
@@ -51,9 +52,9 @@ pub use per_read::error::{DecodeError, DecodeErrorKind, ParserFailCause};
 use per_read::lists::UnreadElements;
 use per_read::open_types::{Contents, end_of_open, take_open};
 use per_read::{Reader, ReaderOptions};
-use per_read_types::choices::take_choice_index;
+use per_read_types::choices::{take_choice_index, take_root_index};
 use per_read_types::dates::take_date;
-use per_read_types::enumerated::take_enumerated;
+use per_read_types::enumerated::{take_enumerated, take_root_item};
 use per_read_types::identifiers::take_object_identifier;
 use per_read_types::integers::{take_integer, take_short_integer};
 use per_read_types::times::{take_generalized_time, take_utc_time};
@@ -349,6 +350,19 @@ impl<'input> Decoder<'input> {
         let left = reader.bits().len();
         let octets = self.answer(taken, left)?;
         Ok(CowSlice::Owned(octets))
+    }
+
+    /// Reads an ENUMERATED in whichever form it is written (X.691 14).
+    #[inline(never)]
+    fn read_enumerated<E: Enumerated>(&mut self) -> Result<E, DecodeError>
+        ensures { Reads (freely_read decoder_rules) (Schema.items E.roots E.addeds E.EXTENSIBLE) E.value
+            self.old result self.new }
+    {
+        self.check_unfailed()?;
+        let mut reader = self.reader();
+        let taken = take_enumerated(&mut reader);
+        let left = reader.bits().len();
+        self.answer(taken, left)
     }
 
     /// Reads an INTEGER under constraints in whichever form it is written (X.691 13).
@@ -726,6 +740,23 @@ impl<'input> Decoder<'input> {
     {
         let variants = C::VARIANTS;
         let mut reader = self.reader();
+        let taken = take_root_index(&mut reader, variants.len(), added_count::<C>());
+        let left = reader.bits().len();
+        let Some(place) = taken else {
+            return self.take_any_index::<C>();
+        };
+        self.keep_last(left);
+        Ok(place)
+    }
+
+    /// Takes the index of a CHOICE in whichever form it is written.
+    #[inline(never)]
+    fn take_any_index<C: Choice>(&mut self) -> Result<Place, DecodeError>
+        ensures { TakesIndex (length C.VARIANTS) (length (variants_behind C.EXTENDED_VARIANTS))
+            (is_extensible C.EXTENDED_VARIANTS) self.old result self.new }
+    {
+        let variants = C::VARIANTS;
+        let mut reader = self.reader();
         let taken = take_choice_index(&mut reader, variants.len(), added_count::<C>());
         let left = reader.bits().len();
         self.answer(taken, left)
@@ -975,9 +1006,13 @@ impl<'input> decoder::Decoder for Decoder<'input> {
     fn decode_enumerated<E: Enumerated>(&mut self, _tag: Tag) -> Result<E, DecodeError> {
         self.check_unfailed()?;
         let mut reader = self.reader();
-        let taken = take_enumerated(&mut reader);
+        let taken = take_root_item(&mut reader);
         let left = reader.bits().len();
-        self.answer(taken, left)
+        let Some(item) = taken else {
+            return self.read_enumerated();
+        };
+        self.keep_last(left);
+        Ok(item)
     }
 
     fn decode_any(&mut self, _tag: Tag) -> Result<Any, DecodeError> {
