@@ -1,6 +1,6 @@
 -- What a call takes, by what the calls that it is made of took.
 use Rattle.std.proofs.Common.{◌≡◌, ◌∙◌, ◌<◌, ◌≤◌, ◌⊎◌, inl, inr, sym, ap, subst, refl, ℕ, Bool, nat_eq, List, [], ◌∷◌, ◌++◌, length, take, drop, length-take, arith}
-use Rattle.std.specs.Prelude.{Option, Result, Ok, Err, IsErrAnd, IfOk, IfSome}
+use Rattle.std.specs.Prelude.{Option, Some, None, Result, Ok, Err, IsErrAnd, IfOk, IfSome}
 use Rattle.std.specs.Result.{result_ok}
 use Rattle.std.proofs.lemmas.Bool.{cases_lt}
 use Rattle.std.proofs.lemmas.List.{take-append-drop}
@@ -10,7 +10,7 @@ use Rattle.per_core.specs.Basic.{bit}
 use Rattle.per_core.specs.Spellings.{Settings, Spelling, Field}
 use Rattle.per_core.specs.Took.{Took}
 use Rattle.per_core.proofs.Took.{took_bit}
-use Rattle.per_read.specs.Items.{TookItems, TakesItems}
+use Rattle.per_read.specs.Items.{HasCount, TookItems, TakesItems}
 use Rattle.per_read.specs.Kinds.{IsShort, IsTested, NoneIn}
 use Rattle.per_read.specs.State.{State, settings_of}
 use Rattle.per_read.specs.Takes.{Reason, Takes}
@@ -109,3 +109,9 @@ ended {s} = go s
 
 pub begins : {b d : Bool} {s t : Bits} → Took (bit b) s t → b ≡ d → s ≡ d ∷ t
 begins {t = t} h e = h.joins ∙ ap (λ z. z ++ t) h.spelled ∙ ap (λ z. z ∷ t) e
+
+-- items that were counted alone
+pub octets_counted : (C : Type 0) (holds : C → C → List ℕ → Type 0) (because why : Reason) (form : Settings → List ℕ → Spelling) (before after : C) (x y : State) (r : Option ℕ)
+    → IfSome r (λ n. TakesItems holds because form before x (Ok n) after y) → IfSome r (λ n. Takes why form HasCount x (Ok n) y)
+octets_counted C holds because why form before after x y None h = tt
+octets_counted C holds because why form before after x y (Some n) h = record { ok = record { octets = h.ok.codes; many = h.ok.count; held = h.ok.took }; err = tt; kept = h.kept }
