@@ -38,8 +38,8 @@ ghost use Rattle.per_de.specs.Outsides.{outside_choice_of, outside_record_of, ou
 ghost use Rattle.per_de.specs.Lending.{AreCountedOnce, AreLent, CanBeLent, ComeAlone};
 ghost use Rattle.per_de.specs.Sources.{bits_of, extension_in, flags_in, place_left, span_of, up_to, unread_of};
 ghost use Rattle.per_de.specs.Sources.{AreOctetsOf, IsWithin};
-ghost use Rattle.per_de.specs.Steps.{AsksNext, EndsContents, EntersOpen, HasTwoLevels, IsRootRead, SkipsRest, SkipsUnknown};
-ghost use Rattle.per_de.specs.Steps.{ClosesContents, EntersAlternative, TakesIndex};
+ghost use Rattle.per_de.specs.Steps.{AsksNext, EndsContents, EntersOpen, HasTwoLevels, IsRootRead};
+ghost use Rattle.per_de.specs.Steps.{ClosesContents, EntersAlternative, SkipsRest, SkipsUnknown, TakesIndex};
 ghost use Rattle.per_de.specs.Steps.{TakesBit, TakesBitmap, TakesExtensionBit, TakesFlags, TakesPresences};
 
 use per_bits::{BitList, BitReader};

@@ -61,7 +61,7 @@ impl<'input> Source<'input> {
     }
 }
 
-/// The octets that bits fill: they are lent where there is one and the bits begin an octet, and else copied. The only
+/// The octets that bits fill: where these begin with an octet, and are some, they are lent, and else copied. The only
 /// error is want of memory.
 fn octets_of<'input>(
     alloc: Global,
