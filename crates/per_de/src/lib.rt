@@ -496,10 +496,10 @@ impl<'input> Decoder<'input> {
             (outside_record_of self.new.source result) self.new }
     {
         Scope {
-            levels: mem::replace(&mut self.levels, inside.levels),
             presences: mem::replace(&mut self.presences, inside.presences),
             extension: mem::replace(&mut self.extension, inside.extension),
             expected: mem::replace(&mut self.expected, inside.expected),
+            levels: mem::replace(&mut self.levels, inside.levels),
         }
     }
 
@@ -508,10 +508,10 @@ impl<'input> Decoder<'input> {
     fn leave(&mut self, outside: Scope)
         ensures { self.new ≡ with_outside_record self.old (outside_record_of self.old.source outside) }
     {
-        self.levels = outside.levels;
         self.presences = outside.presences;
         self.extension = outside.extension;
         self.expected = outside.expected;
+        self.levels = outside.levels;
     }
 
     /// Takes the next bit off the bits left. Where none is left it refuses.
@@ -551,10 +551,10 @@ impl<'input> Decoder<'input> {
         let count = C::FIELDS.number_of_optional_and_default_fields();
         let presences = self.take_presences(count as u128)?;
         Ok(self.enter(Scope {
-            levels,
             presences,
             extension: Extension::of_bit(extends),
             expected: addition_count::<C>(),
+            levels,
         }))
     }
 
@@ -579,8 +579,9 @@ impl<'input> Decoder<'input> {
         ensures { TakesFlags self.old result self.new }
     {
         match mem::replace(&mut self.extension, Extension::of_bit(false)) {
-            Extension::Shown(flags) => Ok(flags),
             Extension::Ahead => self.take_flags(),
+            Extension::InPlace(span) => Ok(Flags::InPlace(span)),
+            Extension::Gathered(bits, read) => Ok(Flags::Gathered(bits, read)),
         }
     }
 
@@ -607,7 +608,7 @@ impl<'input> Decoder<'input> {
         };
         let mut flags = self.take_extension()?;
         let flag = flags.next(self.source.bits());
-        self.extension = Extension::Shown(flags);
+        self.extension = Extension::of_flags(flags);
         self.expected = expected;
         Ok(flag)
     }
@@ -817,10 +818,11 @@ fn tag_at<C: Choice>(place: Place) -> Tag
 /// SEQUENCE there.
 #[derive(Drop)]
 pub struct Scope {
-    levels: u32,
+    // the wide ones first, so that no padding stands between them
     presences: Span,
     extension: Extension,
     expected: usize,
+    levels: u32,
 }
 
 impl Scope {
@@ -830,10 +832,10 @@ impl Scope {
         ensures { (s : State) → outside_record_of s.source result ≡ no_record levels }
     {
         Scope {
-            levels,
             presences: Span::empty(),
             extension: Extension::of_bit(false),
             expected: 0,
+            levels,
         }
     }
 }

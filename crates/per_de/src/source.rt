@@ -208,16 +208,6 @@ impl Flags {
         }
     }
 
-    /// Whether there is surely none of them, whichever the source.
-    pub(crate) fn are_none(&self) -> bool
-        ensures { IsTrue result → (source : Bits) → flags_in source self.now ≡ [] }
-    {
-        match self {
-            Flags::InPlace(span) => span.is_empty(),
-            Flags::Gathered(..) => false,
-        }
-    }
-
     /// They in turn, where they stand in a source.
     pub(crate) fn into_bitmap<'source>(self, source: BitReader<'source>) -> Bitmap<'source>
         ensures { result ≡ flags_in source.entry.bits self }
@@ -229,13 +219,16 @@ impl Flags {
     }
 }
 
-/// What is still to be read of the bitmap of the open SEQUENCE's additions (X.691 19.7).
+/// What is still to be read of the bitmap of the open SEQUENCE's additions (X.691 19.7). The presence bits that are left
+/// are no `Flags` here, which would make it larger.
 #[derive(Drop)]
 pub(crate) enum Extension {
     /// All of it: it stands behind the root components.
     Ahead,
-    /// The presence bits that are left.
-    Shown(Flags),
+    /// The presence bits that are left, in the source.
+    InPlace(Span),
+    /// Those of a bitmap in fragments, one after another, and how many of them were read.
+    Gathered(BitString, usize),
 }
 
 impl Extension {
@@ -246,7 +239,17 @@ impl Extension {
         if extends {
             return Extension::Ahead;
         }
-        Extension::Shown(Flags::InPlace(Span::empty()))
+        Extension::InPlace(Span::empty())
+    }
+
+    /// These presence bits are left of it.
+    pub(crate) fn of_flags(flags: Flags) -> Self
+        ensures { (source : Bits) → extension_in source result ≡ shown (flags_in source flags) }
+    {
+        match flags {
+            Flags::InPlace(span) => Extension::InPlace(span),
+            Flags::Gathered(bits, read) => Extension::Gathered(bits, read),
+        }
     }
 
     /// Whether surely nothing of it is left, whichever the source.
@@ -254,8 +257,8 @@ impl Extension {
         ensures { IsTrue result → (source : Bits) → extension_in source self.now ≡ shown [] }
     {
         match self {
-            Extension::Ahead => false,
-            Extension::Shown(flags) => flags.are_none(),
+            Extension::InPlace(span) => span.is_empty(),
+            Extension::Ahead | Extension::Gathered(..) => false,
         }
     }
 }
