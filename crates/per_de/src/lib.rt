@@ -385,11 +385,7 @@ impl<'input> Decoder<'input> {
     fn first_presence(&self) -> Option<bool>
         ensures { result ≡ slice_get self.now.presences 0 }
     {
-        let presences = self.presence_bits();
-        if presences.is_empty() {
-            return None;
-        }
-        Some(presences.first_bit() == 1)
+        self.presences.first_of(&self.source.bits())
     }
 
     /// An error of a kind, with the variant in use.

@@ -1,7 +1,7 @@
 //! Where a decoder's bits come from, and which of them it means: places in a source, and presence bits there.
 
 ghost use Rattle.std.specs.Prelude.{◌≡◌, ◌≤◌, ◌+◌, ◌-◌, ◌*◌, ◌%◌, ◌↔◌, true, [], length, IfSome, IsSome, IsTrue};
-ghost use Rattle.std.specs.Prelude.{IfOk};
+ghost use Rattle.std.specs.Prelude.{IfOk, slice_get};
 ghost use Rattle.std.specs.Cow.{cow_slice_items, IsBorrowedSlice};
 ghost use Rattle.rasn_types.specs.Bits.{Bits};
 ghost use Rattle.per_bits.specs.Octets.{AreWholeOctets};
@@ -161,12 +161,19 @@ impl Span {
     pub(crate) fn next_bit(&mut self, source: BitReader<'_>) -> Option<bool>
         ensures { NextFlag (span_of self.old source.entry.bits) result (span_of self.new source.entry.bits) }
     {
-        let bits = self.part_of(source);
-        if bits.is_empty() {
+        let bit = self.first_of(&source)?;
+        *self = self.behind(1);
+        Some(bit)
+    }
+
+    /// The first of these bits of a source, where one is there.
+    pub(crate) fn first_of(self, source: &BitReader<'_>) -> Option<bool>
+        ensures { result ≡ slice_get (span_of self source.now.bits) 0 }
+    {
+        if self.end.min(source.len()) <= self.begin {
             return None;
         }
-        *self = self.behind(1);
-        Some(bits.first_bit() == 1)
+        Some(source.part(self.begin, 1).first_bit() == 1)
     }
 
     /// These bits of a source, as far as they are there.
