@@ -372,15 +372,7 @@ impl<'input> Decoder<'input> {
         Reader::new(self.alloc, self.input(), self.options)
     }
 
-    /// The presence bits of the open SEQUENCE that are still to be read.
-    #[inline(always)]
-    fn presence_bits(&self) -> BitReader<'_>
-        ensures { result.bits ≡ self.now.presences }
-    {
-        self.presences.part_of(self.source.bits())
-    }
-
-    /// The next presence bit, where one is left.
+    /// The next presence bit of the open SEQUENCE's root components, where one is left.
     #[inline(always)]
     fn first_presence(&self) -> Option<bool>
         ensures { result ≡ slice_get self.now.presences 0 }
@@ -586,7 +578,7 @@ impl<'input> Decoder<'input> {
     fn check_root_read(&mut self) -> Result<(), DecodeError>
         ensures { IsRootRead self.old result self.new }
     {
-        if self.presences.is_empty() || self.presence_bits().is_empty() {
+        if self.presences.is_empty() || self.first_presence().is_none() {
             return Ok(());
         }
         Err(self.refuse(DecodeErrorKind::MissingTag))
