@@ -10,7 +10,7 @@ use Rattle.per_de.specs.declared.source.Span.{Span}
 use Rattle.per_de.specs.declared.source.Flags.{Flags}
 use Rattle.per_de.specs.declared.source.Flags.TheVariants as Kept
 use Rattle.per_de.specs.declared.source.Extension.{Extension}
-use Rattle.per_de.specs.declared.source.Extension.TheVariants.{Ahead, Shown}
+use Rattle.per_de.specs.declared.source.Extension.TheVariants as Left
 
 -- all bits of a source
 abbrev pub bits_of : Source → Bits
@@ -76,5 +76,6 @@ flags_in source (Kept.Gathered bits read) = drop read bits
 
 -- what is still to be read of a bitmap
 abbrev pub extension_in : Bits → Extension → State.Extension
-extension_in source Ahead = ahead
-extension_in source (Shown flags) = shown (flags_in source flags)
+extension_in source Left.Ahead = ahead
+extension_in source (Left.InPlace span) = shown (span_of span source)
+extension_in source (Left.Gathered bits read) = shown (drop read bits)

@@ -39,8 +39,8 @@ ghost use Rattle.per_de.specs.Outsides.{outside_choice_of, outside_record_of, ou
 ghost use Rattle.per_de.specs.Lending.{AreCountedOnce, AreLent, CanBeLent, ComeAlone};
 ghost use Rattle.per_de.specs.Sources.{bits_of, extension_in, flags_in, place_left, span_of, up_to, unread_of};
 ghost use Rattle.per_de.specs.Sources.{AreOctetsOf, IsWithin};
-ghost use Rattle.per_de.specs.Steps.{AsksNext, EndsContents, EntersOpen, HasTwoLevels, IsRootRead, SkipsRest, SkipsUnknown};
-ghost use Rattle.per_de.specs.Steps.{ClosesContents, EntersAlternative, TakesIndex};
+ghost use Rattle.per_de.specs.Steps.{AsksNext, EndsContents, EntersOpen, HasTwoLevels, IsRootRead};
+ghost use Rattle.per_de.specs.Steps.{ClosesContents, EntersAlternative, SkipsRest, SkipsUnknown, TakesIndex};
 ghost use Rattle.per_de.specs.Steps.{TakesBit, TakesBitmap, TakesExtensionBit, TakesFlags, TakesPresences};
 
 use per_bits::{BitList, BitReader};
@@ -399,24 +399,12 @@ impl<'input> Decoder<'input> {
         Reader::new(self.alloc, self.input(), self.options)
     }
 
-    /// The presence bits of the open SEQUENCE that are still to be read.
-    #[inline(always)]
-    fn presence_bits(&self) -> BitReader<'_>
-        ensures { result.bits ≡ self.now.presences }
-    {
-        self.presences.part_of(self.source.bits())
-    }
-
-    /// The next presence bit, where one is left.
+    /// The next presence bit of the open SEQUENCE's root components, where one is left.
     #[inline(always)]
     fn first_presence(&self) -> Option<bool>
         ensures { result ≡ slice_get self.now.presences 0 }
     {
-        let presences = self.presence_bits();
-        if presences.is_empty() {
-            return None;
-        }
-        Some(presences.first_bit() == 1)
+        self.presences.first_of(&self.source.bits())
     }
 
     /// An error of a kind, with the variant in use.
@@ -523,10 +511,10 @@ impl<'input> Decoder<'input> {
             (outside_record_of self.new.source result) self.new }
     {
         Scope {
-            levels: mem::replace(&mut self.levels, inside.levels),
             presences: mem::replace(&mut self.presences, inside.presences),
             extension: mem::replace(&mut self.extension, inside.extension),
             expected: mem::replace(&mut self.expected, inside.expected),
+            levels: mem::replace(&mut self.levels, inside.levels),
         }
     }
 
@@ -535,10 +523,10 @@ impl<'input> Decoder<'input> {
     fn leave(&mut self, outside: Scope)
         ensures { self.new ≡ with_outside_record self.old (outside_record_of self.old.source outside) }
     {
-        self.levels = outside.levels;
         self.presences = outside.presences;
         self.extension = outside.extension;
         self.expected = outside.expected;
+        self.levels = outside.levels;
     }
 
     /// Takes the next bit off the bits left. Where none is left it refuses.
@@ -578,10 +566,10 @@ impl<'input> Decoder<'input> {
         let count = C::FIELDS.number_of_optional_and_default_fields();
         let presences = self.take_presences(count as u128)?;
         Ok(self.enter(Scope {
-            levels,
             presences,
             extension: Extension::of_bit(extends),
             expected: addition_count::<C>(),
+            levels,
         }))
     }
 
@@ -606,8 +594,9 @@ impl<'input> Decoder<'input> {
         ensures { TakesFlags self.old result self.new }
     {
         match mem::replace(&mut self.extension, Extension::of_bit(false)) {
-            Extension::Shown(flags) => Ok(flags),
             Extension::Ahead => self.take_flags(),
+            Extension::InPlace(span) => Ok(Flags::InPlace(span)),
+            Extension::Gathered(bits, read) => Ok(Flags::Gathered(bits, read)),
         }
     }
 
@@ -616,7 +605,7 @@ impl<'input> Decoder<'input> {
     fn check_root_read(&mut self) -> Result<(), DecodeError>
         ensures { IsRootRead self.old result self.new }
     {
-        if self.presences.is_empty() || self.presence_bits().is_empty() {
+        if self.presences.is_empty() || self.first_presence().is_none() {
             return Ok(());
         }
         Err(self.refuse(DecodeErrorKind::MissingTag))
@@ -634,7 +623,7 @@ impl<'input> Decoder<'input> {
         };
         let mut flags = self.take_extension()?;
         let flag = flags.next(self.source.bits());
-        self.extension = Extension::Shown(flags);
+        self.extension = Extension::of_flags(flags);
         self.expected = expected;
         Ok(flag)
     }
@@ -861,10 +850,11 @@ fn tag_at<C: Choice>(place: Place) -> Tag
 /// SEQUENCE there.
 #[derive(Drop)]
 pub struct Scope {
-    levels: u32,
+    // the wide ones first, so that no padding stands between them
     presences: Span,
     extension: Extension,
     expected: usize,
+    levels: u32,
 }
 
 impl Scope {
@@ -874,10 +864,10 @@ impl Scope {
         ensures { (s : State) → outside_record_of s.source result ≡ no_record levels }
     {
         Scope {
-            levels,
             presences: Span::empty(),
             extension: Extension::of_bit(false),
             expected: 0,
+            levels,
         }
     }
 }

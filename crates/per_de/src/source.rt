@@ -1,7 +1,7 @@
 //! Where a decoder's bits come from, and which of them it means: places in a source, and presence bits there.
 
 ghost use Rattle.std.specs.Prelude.{◌≡◌, ◌≤◌, ◌+◌, ◌-◌, ◌*◌, ◌%◌, ◌↔◌, true, [], length, IfSome, IsSome, IsTrue};
-ghost use Rattle.std.specs.Prelude.{IfOk};
+ghost use Rattle.std.specs.Prelude.{IfOk, slice_get};
 ghost use Rattle.std.specs.Cow.{cow_slice_items, IsBorrowedSlice};
 ghost use Rattle.rasn_types.specs.Bits.{Bits};
 ghost use Rattle.per_bits.specs.Octets.{AreWholeOctets};
@@ -61,7 +61,7 @@ impl<'input> Source<'input> {
     }
 }
 
-/// The octets that bits fill: they are lent where there is one and the bits begin an octet, and else copied. The only
+/// The octets that bits fill: where these begin with an octet, and are some, they are lent, and else copied. The only
 /// error is want of memory.
 fn octets_of<'input>(
     alloc: Global,
@@ -161,12 +161,19 @@ impl Span {
     pub(crate) fn next_bit(&mut self, source: BitReader<'_>) -> Option<bool>
         ensures { NextFlag (span_of self.old source.entry.bits) result (span_of self.new source.entry.bits) }
     {
-        let bits = self.part_of(source);
-        if bits.is_empty() {
+        let bit = self.first_of(&source)?;
+        *self = self.behind(1);
+        Some(bit)
+    }
+
+    /// The first of these bits of a source, where one is there.
+    pub(crate) fn first_of(self, source: &BitReader<'_>) -> Option<bool>
+        ensures { result ≡ slice_get (span_of self source.now.bits) 0 }
+    {
+        if self.end.min(source.len()) <= self.begin {
             return None;
         }
-        *self = self.behind(1);
-        Some(bits.first_bit() == 1)
+        Some(source.part(self.begin, 1).first_bit() == 1)
     }
 
     /// These bits of a source, as far as they are there.
@@ -208,16 +215,6 @@ impl Flags {
         }
     }
 
-    /// Whether there is surely none of them, whichever the source.
-    pub(crate) fn are_none(&self) -> bool
-        ensures { IsTrue result → (source : Bits) → flags_in source self.now ≡ [] }
-    {
-        match self {
-            Flags::InPlace(span) => span.is_empty(),
-            Flags::Gathered(..) => false,
-        }
-    }
-
     /// They in turn, where they stand in a source.
     pub(crate) fn into_bitmap<'source>(self, source: BitReader<'source>) -> Bitmap<'source>
         ensures { result ≡ flags_in source.entry.bits self }
@@ -229,13 +226,16 @@ impl Flags {
     }
 }
 
-/// What is still to be read of the bitmap of the open SEQUENCE's additions (X.691 19.7).
+/// What is still to be read of the bitmap of the open SEQUENCE's additions (X.691 19.7). The presence bits that are left
+/// are no `Flags` here, which would make it larger.
 #[derive(Drop)]
 pub(crate) enum Extension {
     /// All of it: it stands behind the root components.
     Ahead,
-    /// The presence bits that are left.
-    Shown(Flags),
+    /// The presence bits that are left, in the source.
+    InPlace(Span),
+    /// Those of a bitmap in fragments, one after another, and how many of them were read.
+    Gathered(BitString, usize),
 }
 
 impl Extension {
@@ -246,7 +246,17 @@ impl Extension {
         if extends {
             return Extension::Ahead;
         }
-        Extension::Shown(Flags::InPlace(Span::empty()))
+        Extension::InPlace(Span::empty())
+    }
+
+    /// These presence bits are left of it.
+    pub(crate) fn of_flags(flags: Flags) -> Self
+        ensures { (source : Bits) → extension_in source result ≡ shown (flags_in source flags) }
+    {
+        match flags {
+            Flags::InPlace(span) => Extension::InPlace(span),
+            Flags::Gathered(bits, read) => Extension::Gathered(bits, read),
+        }
     }
 
     /// Whether surely nothing of it is left, whichever the source.
@@ -254,8 +264,8 @@ impl Extension {
         ensures { IsTrue result → (source : Bits) → extension_in source self.now ≡ shown [] }
     {
         match self {
-            Extension::Ahead => false,
-            Extension::Shown(flags) => flags.are_none(),
+            Extension::InPlace(span) => span.is_empty(),
+            Extension::Ahead | Extension::Gathered(..) => false,
         }
     }
 }

@@ -1,10 +1,13 @@
-use Rattle.std.proofs.Common.{◌∙◌, rules, ◌∷◌, ap, sym, nat_eq}
+use Rattle.std.proofs.Common.{◌≡◌, ◌∙◌, ◌∷◌, ap, sym, slice_get, Some}
 use Rattle.per_de.specs.Sources.{span_of}
 use Rattle.per_de.specs.declared.source.Span.{Span}
-use Rattle.per_de.proofs.Spans.{next_of}
+use Rattle.per_de.proofs.Spans.{behind, first_bit, one_more}
 use Rattle.per_de.proofs.source.Span.next_bit.Goals as goal
 
 pub returns : goal.returns
 returns c =
-    next_of c.args.self.now c.args.source.bits c.part_of-bits.result.bits c.first_bit.result c.part_of-bits.ensures (search rules) c.first_bit.ensures
-    ∙ ap (λ (z : Span). nat_eq c.first_bit.result 1 ∷ span_of z c.args.source.bits) (sym c.behind.ensures)
+    let span = c.args.self.now in
+    let source = c.args.source.bits in
+    let there : slice_get (span_of span source) 0 ≡ Some c.in_ok-bit.bit = sym c.in_ok-bit.ensures in
+    first_bit (span_of span source) c.in_ok-bit.bit there
+    ∙ ap (λ z. c.in_ok-bit.bit ∷ z) (behind span source 1 (one_more span source c.in_ok-bit.bit there) ∙ ap (λ (z : Span). span_of z source) (sym c.behind.ensures))
