@@ -1,17 +1,17 @@
 -- What one octet more, or one number more, makes of a word and of octets.
-use Rattle.std.proofs.Common.{zero, suc, ◌≡◌, sym, ap, ap₂, ◌∙◌, subst, ℕ, ◌+◌, ◌-◌, ◌*◌, ◌/◌, ◌%◌, ◌^◌, ◌<◌, ◌≤◌, false, List, [], ◌∷◌, ◌++◌, length, take, drop, replicate, get_or, arith, pow_pos, pow-add, mod-eq_of_lt, mod-lt, append_assoc, append-nil, length-append, bit_or, mul_assoc}
-use Rattle.std.proofs.lemmas.List.{set_split, drop_all, take_at, take-replicate, take_more, take_all}
-use Rattle.std.proofs.lemmas.Nat.{mul-le, shl_whole, or_shifted, shl_below, shr_below, shr-shr}
+use Rattle.std.proofs.Common.{Fits, w8, zero, suc, ◌≡◌, sym, ap, ap₂, ◌∙◌, subst, ℕ, ◌+◌, ◌-◌, ◌*◌, ◌/◌, ◌%◌, ◌^◌, ◌<◌, ◌≤◌, false, List, [], ◌∷◌, ◌++◌, length, take, drop, replicate, get_or, arith, pow_pos, pow-add, mod-eq_of_lt, mod-lt, append_assoc, append-nil, length-append, bit_or, mul_assoc, length-take}
+use Rattle.std.proofs.lemmas.List.{set_split, drop_all, take_at, take-replicate, take_more, take_all, take-append-le, take-take, take-append-drop}
+use Rattle.std.proofs.lemmas.Nat.{mul-le, shl_whole, or_shifted, shl_below, shr_below, shr-shr, be_bytes_4}
 use Rattle.std.proofs.Math.Seq.{take-append-add}
 use Rattle.std.proofs.Math.Nat.{add-mul}
-use Rattle.std.specs.Int.{w64, to_be_bytes}
+use Rattle.std.specs.Int.{w32, w64, to_be_bytes, from_be_bytes}
 use Rattle.std.proofs.Math.ListN.{set}
 use Rattle.rasn_types.specs.Bits.{AreOctets, Bits, to_bits, unpack}
 use Rattle.rasn_types.proofs.Bits.{length-to_bits, length-unpack, unpack-append, to_bits-same, to_bits-split}
 use Rattle.rasn_types.proofs.Packing.{unpack-take}
 use Rattle.per_bits.specs.Octets.{word_size, first_word, filled, AreFilledBy}
 use Rattle.per_bits.proofs.Readers.{filled_all}
-use Rattle.per_bits.proofs.Words.{word_size-is, to_bits-join, to_bits-zeros, unpack-bytes, first_word-short, part_bits}
+use Rattle.per_bits.proofs.Words.{word_size-is, to_bits-join, to_bits-zeros, unpack-bytes, octets_taken, first_word-short, inner-first_word, part_bits}
 
 -- ---- a number below a power, and another behind it
 
@@ -45,9 +45,47 @@ octets_all os n w e h l b = ap (λ (m : ℕ). to_bits word_size (m * 2 ^ (56 - 8
     moved : w * 2 ^ 8 * 2 ^ (56 - 8 * n) ≡ w * 2 ^ (64 - 8 * n) + 0
     moved = mul_assoc w (2 ^ 8) (2 ^ (56 - 8 * n)) ∙ ap (λ (m : ℕ). w * m) (sym (pow-add 2 8 (56 - 8 * n)) ∙ ap (λ (m : ℕ). 2 ^ m) (let i : 8 + (56 - 8 * n) ≡ 64 - 8 * n = omega arith in i)) ∙ omega arith
 
+-- ---- the first octets and a word of those behind them
+
+-- the number n of the first k octets, and r behind it in a word
+pub front_word : (k n r : ℕ) (os : List ℕ) → k ≤ 8 → r < 2 ^ (64 - 8 * k) → to_bits (8 * k) n ≡ unpack (take k os) → to_bits word_size (n * 2 ^ (64 - 8 * k) + r) ≡ unpack (take k os) ++ to_bits (64 - 8 * k) r
+front_word k n r os h l b = ap (λ (m : ℕ). to_bits m (n * 2 ^ (64 - 8 * k) + r)) (let i : word_size ≡ 8 * k + (64 - 8 * k) = omega (arith, word_size-is) in i)
+    ∙ to_bits-join (8 * k) (64 - 8 * k) n r l ∙ ap (λ bs. bs ++ to_bits (64 - 8 * k) r) b
+
+-- where no bit behind the first k octets is asked for
+pub front_alone : (k n c : ℕ) (os : List ℕ) → k ≤ 8 → k ≤ length os → c ≤ 8 * k → to_bits (8 * k) n ≡ unpack (take k os) → take c (to_bits word_size (n * 2 ^ (64 - 8 * k) + 0)) ≡ take c (first_word os)
+front_alone k n c os h l f b = ap (λ bs. take c bs) (front_word k n 0 os h (pow_pos (64 - 8 * k)) b ∙ ap (λ bs. bs ++ to_bits (64 - 8 * k) 0) (sym (unpack-take k os)))
+    ∙ take-append-le c (take (8 * k) (unpack os)) (to_bits (64 - 8 * k) 0) (omega (arith, length-take (8 * k) (unpack os), length-unpack os)) ∙ take-take c (8 * k) (unpack os) f
+    ∙ sym (inner-first_word 0 c os (omega arith) (omega arith))
+
+-- where the word r is that of the octets behind the first k
+pub front_and_rest : (k n r : ℕ) (os : List ℕ) → k ≤ 8 → k ≤ length os → r < 2 ^ 64 → to_bits (8 * k) n ≡ unpack (take k os) → to_bits word_size r ≡ first_word (drop k os) →
+    to_bits word_size (n * 2 ^ (64 - 8 * k) + r / 2 ^ (8 * k)) ≡ first_word os
+front_and_rest k n r os h l f b e = front_word k n (r / 2 ^ (8 * k)) os h (shr_below r left (8 * k) (subst (λ (m : ℕ). r < 2 ^ m) (let i : 64 ≡ left + 8 * k = omega arith in i) f)) b
+    ∙ ap (λ bs. unpack (take k os) ++ bs) high ∙ sym both
+  where
+    left : ℕ
+    left = 64 - 8 * k
+
+    zeros : Bits
+    zeros = replicate word_size false
+
+    high : to_bits left (r / 2 ^ (8 * k)) ≡ take left (unpack (drop k os) ++ zeros)
+    high = sym (take_at (to_bits left (r / 2 ^ (8 * k))) (to_bits (8 * k) r) left (length-to_bits left (r / 2 ^ (8 * k)))) ∙ ap (λ bs. take left bs) (sym (to_bits-split left (8 * k) r) ∙ ap (λ (m : ℕ). to_bits m r) (let i : left + 8 * k ≡ word_size = omega (arith, word_size-is) in i) ∙ e)
+        ∙ take-take left word_size (unpack (drop k os) ++ zeros) (omega (arith, word_size-is))
+
+    both : first_word os ≡ unpack (take k os) ++ take left (unpack (drop k os) ++ zeros)
+    both = ap₂ (λ (m : ℕ) bs. take m (bs ++ zeros)) (let i : word_size ≡ length (unpack (take k os)) + left = omega (arith, word_size-is, length-unpack (take k os), length-take k os) in i)
+        (sym (ap unpack (take-append-drop k os)) ∙ unpack-append (take k os) (drop k os))
+        ∙ ap (λ bs. take (length (unpack (take k os)) + left) bs) (append_assoc (unpack (take k os)) (unpack (drop k os)) zeros) ∙ take-append-add (unpack (take k os)) (unpack (drop k os) ++ zeros) left
+
+-- the number of four octets
+pub unpack-half : (n : ℕ) (os qs : List ℕ) → 4 ≤ length os → qs ≡ take 4 os → ((i : ℕ) → Fits w8 (get_or os i 0)) → n ≡ from_be_bytes w32 qs → to_bits (8 * 4) n ≡ unpack (take 4 os)
+unpack-half n os qs h e f i = sym (unpack-bytes 4 n) ∙ ap unpack (be_bytes_4 qs n (ap length e ∙ length-take 4 os ∙ omega arith) (octets_taken 4 os qs h e f) i ∙ e)
+
 -- ---- what `part` answers
 
-pub part_is : (s c w r : ℕ) (os : List ℕ) → s < 8 → c ≤ 56 → s + c ≤ 8 * length os → to_bits word_size w ≡ first_word os → r ≡ w / 2 / 2 ^ (63 - s - c) % 2 ^ c → to_bits c r ≡ take c (drop s (unpack os))
+pub part_is : (s c w r : ℕ) (os : List ℕ) → s < 8 → c ≤ 56 → s + c ≤ 8 * length os → take (s + c) (to_bits word_size w) ≡ take (s + c) (first_word os) → r ≡ w / 2 / 2 ^ (63 - s - c) % 2 ^ c → to_bits c r ≡ take c (drop s (unpack os))
 part_is s c w r os h f l e i = to_bits-same c r (w / 2 ^ (64 - s - c)) (ap (λ (m : ℕ). m % 2 ^ c) i ∙ mod-eq_of_lt (mod-lt (w / 2 / 2 ^ (63 - s - c)) (pow_pos c)) ∙ ap (λ (m : ℕ). m % 2 ^ c) (shr-shr w 1 (63 - s - c) ∙ ap (λ (m : ℕ). w / 2 ^ m) (omega arith))) ∙ part_bits s c w os (omega arith) l e
 
 -- ---- one number more

@@ -81,7 +81,7 @@ pub inner-first_word : (s c : ℕ) (os : List ℕ) → s + c ≤ 64 → s + c �
 inner-first_word s c os h l = inner-front s c word_size (unpack os ++ replicate word_size false) (omega (arith, word_size-is))
     ∙ inner-append s c (unpack os) (replicate word_size false) (omega (arith, length-unpack os))
 
--- what `part` reads: w is the first word
-pub part_bits : (s c w : ℕ) (os : List ℕ) → s + c ≤ 63 → s + c ≤ 8 * length os → to_bits word_size w ≡ first_word os → to_bits c (w / 2 ^ (64 - s - c)) ≡ take c (drop s (unpack os))
+-- what `part` reads: w begins as the first word does
+pub part_bits : (s c w : ℕ) (os : List ℕ) → s + c ≤ 63 → s + c ≤ 8 * length os → take (s + c) (to_bits word_size w) ≡ take (s + c) (first_word os) → to_bits c (w / 2 ^ (64 - s - c)) ≡ take c (drop s (unpack os))
 part_bits s c w os h l e = sym (to_bits-inner s c (64 - s - c) w) ∙ ap (λ (n : ℕ). take c (drop s (to_bits n w))) (let i : s + (c + (64 - s - c)) ≡ word_size = omega (arith, word_size-is) in i)
-    ∙ ap (λ bs. take c (drop s bs)) e ∙ inner-first_word s c os (omega arith) l
+    ∙ sym (inner-front s c (s + c) (to_bits word_size w) (omega arith)) ∙ ap (λ bs. take c (drop s bs)) e ∙ inner-front s c (s + c) (first_word os) (omega arith) ∙ inner-first_word s c os (omega arith) l

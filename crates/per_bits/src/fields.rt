@@ -17,19 +17,37 @@ use std::alloc::{AllocError, Allocator};
 /// The most bits of a field: those of a word less an octet, since up to seven other bits stand in its first octet.
 pub(crate) const FIELD_BITS: u32 = 56;
 
-/// The first 64 bits of the octets, the first the highest; zeros behind them where there are fewer.
+/// A word that begins with the first `count` bits of the octets, the first the highest.
 #[inline(always)]
-fn load_word(octets: &[u8]) -> u64
-    ensures { to_bits word_size result ≡ first_word octets.now }
+fn load_word(octets: &[u8], count: u32) -> u64
+    ensures { take count (to_bits word_size result) ≡ take count (first_word octets.now) }
 {
     match octets.first_chunk::<8>() {
         Some(chunk) => u64::from_be_bytes(*chunk),
-        None => load_short_word(octets),
+        None => load_short_word(octets, count),
+    }
+}
+
+/// The same of fewer than eight octets. Those behind the fourth are read where bits stand in them.
+fn load_short_word(octets: &[u8], count: u32) -> u64
+    requires { length octets.now < 8 }
+    ensures { take count (to_bits word_size result) ≡ take count (first_word octets.now) }
+{
+    match octets.first_chunk::<4>() {
+        Some(chunk) => {
+            let front = u64::from(u32::from_be_bytes(*chunk)) << 32;
+            if count <= 32 {
+                front
+            } else {
+                front | load_octets(&octets[4..]) >> 32
+            }
+        }
+        None => load_octets(octets),
     }
 }
 
 /// The bits of fewer than eight octets, the first the highest, zeros behind them.
-fn load_short_word(octets: &[u8]) -> u64
+fn load_octets(octets: &[u8]) -> u64
     requires { length octets.now < 8 }
     ensures { to_bits word_size result ≡ first_word octets.now }
 {
@@ -63,7 +81,8 @@ pub(crate) fn read_field(octets: &[u8], skip: u32, count: u32) -> u64
     ensures bits { to_bits count result ≡ take count (drop skip (unpack octets.now)) }
     ensures below { result < 2 ^ count }
 {
-    low_bits(load_word(octets) >> 1 >> (63 - skip - count), count)
+    let word = load_word(octets, skip + count);
+    low_bits(word >> 1 >> (63 - skip - count), count)
 }
 
 /// The number that `count` bits of the octets mean, behind `skip` others, more of them than a field may have.

@@ -1,19 +1,24 @@
 -- Numbers in few octets, which are read as one field (X.691 11.3, 11.4).
-use Rattle.std.proofs.Common.{◌≡◌, ◌∙◌, ◌<◌, ◌≤◌, ◌*◌, ◌-◌, ◌^◌, sym, ap, subst, arith, pow_mono, pow-suc, to_z, of_z, ◌-ℤ◌, ◌%◌, ℕ, suc, true, false, List, [], ◌∷◌, length, Option, pos, negsuc}
+use Rattle.std.proofs.Common.{◌≡◌, ◌∙◌, ◌<◌, ◌≤◌, ◌*◌, ◌-◌, ◌^◌, sym, ap, subst, arith, pow_mono, pow-suc, to_z, of_z, ◌-ℤ◌, ◌%◌, ℕ, suc, Bool, true, false, inl, List, [], ◌∷◌, ◌++◌, length, take, drop, length-take, length-drop, length-append, append_assoc, ◌+◌, ◌/◌, ap₂, refl, Option, pos, negsuc}
 use Rattle.std.specs.Int.{w128}
 use Rattle.std.proofs.lemmas.Int.{ints, to_z-of_z, to_z_pos}
 use Rattle.std.specs.Prelude.{Result, Ok, Err, IsErrAnd}
 use Rattle.std.proofs.lemmas.Bool.{lt-ltb}
+use Rattle.std.proofs.lemmas.List.{take-append-drop}
+use Rattle.std.proofs.lemmas.Nat.{shr_high, shr-shr}
+use Rattle.std.proofs.Math.Seq.{take-append-add}
 use Rattle.rasn_types.specs.Bits.{Bits, number_of, unpack, pack}
 use Rattle.rasn_types.specs.Octets.{signed, signed_bits}
 use Rattle.rasn_types.proofs.Bits.{length-unpack, number_below}
 use Rattle.rasn_types.proofs.Octets.{length-pack, unpack-pack}
+use Rattle.rasn_types.proofs.Reading.{number_of-append}
 use Rattle.rasn_constraints.specs.Bounds.{allows, any_size}
-use Rattle.per_core.specs.Basic.{Octets, OneByOne}
+use Rattle.per_core.specs.Basic.{LastCount, Octets, OneByOne}
 use Rattle.per_core.specs.Counts.{octet_items}
-use Rattle.per_core.specs.Spellings.{Settings, Field}
-use Rattle.per_core.specs.Took.{Took}
-use Rattle.per_core.proofs.Took.{took_map}
+use Rattle.per_core.specs.Spellings.{AnyPadding, Settings, Field, ZeroIf}
+use Rattle.per_core.specs.Took.{place, Took}
+use Rattle.per_core.specs.Writers.{pad}
+use Rattle.per_core.proofs.Took.{took_map, took_then}
 use Rattle.per_read.specs.FewOctets.{AreOctetsOf, TookFew, TakesFew}
 use Rattle.per_read.specs.Kinds.{NoneIn, Refused}
 use Rattle.per_read.specs.Lengths.{LengthOf, count_of}
@@ -47,6 +52,69 @@ few_took {a} c n {s} {m} {t} b e some few d = record {
       took_map (λ p x y. record { allowed = allowed; spelled = y }) (last_part (Field 8) last (length-pack c d.front) (octets_of_field c d));
 }
 
+-- padding of no bits
+pub no_padding_there : {a : Settings} {s : Bits} → pad a.variant (place s) ≡ 0 → Took (AnyPadding a) s s
+no_padding_there {a} {s} h = record { front = []; joins = refl; spelled = record { fits = sym h; zeros = none a.strict } }
+  where
+    none : (strict : Bool) → ZeroIf strict []
+    none true = refl
+    none false = tt
+
+-- a field of 56 bits: the length c, as many octets, and other bits
+pub at_once : {a : Settings} (w c n : ℕ) {s t : Bits} (f : Bits) → 56 ≤ length s → w ≡ number_of (take 56 s) → c ≤ 6 → s ≡ f ++ t → length f ≡ 8 + 8 * c
+    → pad a.variant (place s) ≡ 0 → c ≡ w / 2 ^ 48 → 0 < c → n ≡ w * 2 ^ 16 % 2 ^ 64 / 2 ^ (64 - 8 * c) → TookFew a (record { number = n; count = c }) s t
+at_once {a} w c n {s} {t} f long is few joins wide unpadded e some i =
+    few_took c n (took_then (no_padding_there {a = a} {s = s} unpadded) counted) refl some (omega arith) (record { front = octets; joins = refl; spelled = record { wide = octets_wide; means = number_is } })
+  where
+    first : Bits
+    first = take 8 f
+
+    octets : Bits
+    octets = drop 8 f
+
+    rest : Bits
+    rest = take (48 - 8 * c) t
+
+    octets_wide : length octets ≡ 8 * c
+    octets_wide = length-drop 8 f ∙ omega arith
+
+    rest_wide : length rest ≡ 48 - 8 * c
+    rest_wide = length-take (48 - 8 * c) t ∙ omega (arith, ap length joins, length-append f t)
+
+    behind : ℕ
+    behind = number_of (octets ++ rest)
+
+    behind_wide : length (octets ++ rest) ≡ 48
+    behind_wide = length-append octets rest ∙ omega (arith, octets_wide, rest_wide)
+
+    behind_below : behind < 2 ^ 48
+    behind_below = subst (λ (k : ℕ). behind < 2 ^ k) behind_wide (number_below (octets ++ rest))
+
+    field_parts : take 56 s ≡ first ++ (octets ++ rest)
+    field_parts = ap (λ z. take 56 z) joins ∙ ap (λ (k : ℕ). take k (f ++ t)) (let l : 56 ≡ length f + (48 - 8 * c) = omega arith in l) ∙ take-append-add f t (48 - 8 * c)
+        ∙ ap (λ z. z ++ rest) (sym (take-append-drop 8 f)) ∙ append_assoc first octets rest
+
+    parts : w ≡ number_of first * 2 ^ 48 + behind
+    parts = is ∙ ap number_of field_parts ∙ number_of-append first (octets ++ rest) ∙ ap (λ (k : ℕ). number_of first * 2 ^ k + behind) behind_wide
+
+    counted : Took (LastCount c) s (octets ++ t)
+    counted = record {
+      front = first;
+      joins = joins ∙ ap (λ z. z ++ t) (sym (take-append-drop 8 f)) ∙ append_assoc first octets t;
+      spelled = inl (omega arith, record { wide = length-take 8 f ∙ omega arith; means = omega (arith, parts, behind_below) });
+    }
+
+    moved : w * 2 ^ 16 % 2 ^ 64 ≡ behind * 2 ^ 16
+    moved = omega (arith, parts, behind_below)
+
+    back : behind * 2 ^ 16 / 2 ^ 16 ≡ number_of octets * 2 ^ (48 - 8 * c) + number_of rest
+    back = (let b : behind * 2 ^ 16 / 2 ^ 16 ≡ behind = omega arith in b) ∙ number_of-append octets rest ∙ ap (λ (k : ℕ). number_of octets * 2 ^ k + number_of rest) rest_wide
+
+    number_is : number_of octets ≡ n
+    number_is = sym (i ∙ ap₂ (λ (x y : ℕ). x / 2 ^ y) moved (let b : 64 - 8 * c ≡ 16 + (48 - 8 * c) = omega arith in b) ∙ sym (shr-shr (behind * 2 ^ 16) 16 (48 - 8 * c))
+        ∙ ap (λ (x : ℕ). x / 2 ^ (48 - 8 * c)) back
+        ∙ shr_high (number_of octets) (48 - 8 * c) (number_of rest) (subst (λ (k : ℕ). number_of rest < 2 ^ k) rest_wide (number_below rest)))
+
 module _ (a : Settings) (s : Bits) where
   -- nothing is there where there is no length, or where its octets end early
   pub few_no_length : NoneIn (LengthOf a) s → NoneIn (Octets a) s
@@ -60,6 +128,13 @@ pub few_refused : {x y : State} (r : Result (Option FewOctets) DecodeErrorKind) 
     → Refused (NoneIn (Octets (settings_of x)) x.bits) k → TakesFew x r y
 few_refused (Ok v) k h e i = absurd h
 few_refused {x} (Err f) k h e i = record { ok = tt; err = subst (Refused (NoneIn (Octets (settings_of x)) x.bits)) (sym h) i; kept = e }
+
+-- a call where nothing was taken before
+pub few_after : {x m y : State} {r : Result (Option FewOctets) DecodeErrorKind} → m.bits ≡ x.bits → m.options ≡ x.options → TakesFew m r y → TakesFew x r y
+few_after {x} {m} {y} {r} e f h = subst (λ z. TakesFew z r y) same h
+  where
+    same : m ≡ x
+    same = ap (λ b. record { bits = b; options = m.options }) e ∙ ap (λ o. record { bits = x.bits; options = o }) f
 
 -- ---- what it means in two's complement
 

@@ -1,12 +1,16 @@
 //! Numbers in few octets, which are read as one field and take no memory (X.691 11.3, 11.4).
 
-ghost use Rattle.std.specs.Prelude.{◌≡◌, ℕ, List};
+ghost use Rattle.std.specs.Prelude.{◌≡◌, ◌↔◌, ℕ, List, IsTrue};
 ghost use Rattle.rasn_types.specs.Octets.{signed};
-ghost use Rattle.per_read.specs.FewOctets.{AreOctetsOf, TakesFew};
+ghost use Rattle.per_core.specs.Took.{place};
+ghost use Rattle.per_core.specs.Writers.{pad};
+ghost use Rattle.per_read.specs.FewOctets.{AreOctetsOf, OfFew, TakesFew};
+ghost use Rattle.per_read.specs.State.{settings_of};
 
 use crate::Reader;
 use crate::error::DecodeErrorKind;
 use crate::lengths::Length;
+use rasn_types::types::Codec;
 
 /// From 1 to 16 octets of a number.
 #[derive(Drop)]
@@ -38,6 +42,51 @@ impl Reader<'_> {
     /// `None`, and nothing is taken.
     #[inline(always)]
     pub fn take_few_octets(&mut self) -> Result<Option<FewOctets>, DecodeErrorKind>
+        ensures { TakesFew self.old result self.new }
+    {
+        if let Some(octets) = self.take_octets_at_once() {
+            return Ok(Some(octets));
+        }
+        self.take_octets_behind_length()
+    }
+
+    /// Takes octets and their length as one field of 56 bits, where no padding precedes them and there are from 1 to 6.
+    /// Else `None`, and nothing is taken.
+    #[inline(always)]
+    fn take_octets_at_once(&mut self) -> Option<FewOctets>
+        ensures took { OfFew (settings_of self.old) self.old.bits self.new.bits result }
+        ensures kept { self.new.options ≡ self.old.options }
+    {
+        if self.bits.len() < 56 || !self.is_unpadded() {
+            return None;
+        }
+        let field = self.bits.first_bits(56) as u64;
+        match field >> 48 {
+            count @ 1..=6 => {
+                self.bits.take(u128::from(8 + 8 * count)).unwrap();
+                let number = field << 16 >> (64 - 8 * count);
+                Some(FewOctets {
+                    number: u128::from(number),
+                    count: u128::from(count),
+                })
+            }
+            _ => None,
+        }
+    }
+
+    /// Whether no padding precedes what begins on an octet in the aligned variant.
+    #[inline(always)]
+    fn is_unpadded(&self) -> bool
+        ensures { IsTrue result ↔ (pad (settings_of self.now).variant (place self.now.bits) ≡ 0) }
+    {
+        match self.options.codec {
+            Codec::Aper => self.bits.len() % 8 == 0,
+            Codec::Uper => true,
+        }
+    }
+
+    /// Takes what `take_few_octets` does, the length first.
+    fn take_octets_behind_length(&mut self) -> Result<Option<FewOctets>, DecodeErrorKind>
         ensures { TakesFew self.old result self.new }
     {
         let start = self.bits();

@@ -1,17 +1,20 @@
-use Rattle.std.proofs.Common.{◌≡◌, ◌<◌, ◌+◌, ◌-◌, ◌*◌, ◌%◌, ◌^◌, ℕ, length, subst, bit_or, arith}
+use Rattle.std.proofs.Common.{◌≡◌, ◌∙◌, ◌+◌, ◌*◌, ◌/◌, ◌%◌, ◌^◌, ℕ, ap, length, take, arith}
+use Rattle.std.proofs.lemmas.Nat.{shr_below}
+use Rattle.std.proofs.lemmas.Slice.{between_to_end}
 use Rattle.rasn_types.specs.Bits.{to_bits}
 use Rattle.per_bits.specs.Octets.{word_size, first_word}
-use Rattle.per_bits.proofs.Joins.{octet_more, octets_all, put_behind}
+use Rattle.per_bits.proofs.Joins.{put_behind, unpack-half, front_alone, front_and_rest}
 use Rattle.per_bits.proofs.fields.load_short_word.Goals as goal
 
-pub loop-octet-preserved : goal.loop-octet-preserved
-loop-octet-preserved c =
-    let small : c.from.result < 2 ^ 8 = omega (arith, c.type_inv.octets c.loop-octet.octet-index) in
-    let m = octet_more c.args.octets.now c.loop-octet.octet-index c.loop-octet.word c.from.result c.loop-octet-test.true c.from.ensures c.loop-octet.invariant.below small c.loop-octet.invariant.bits in
-    let e : bit_or (c.loop-octet.word * 2 ^ 8 % 2 ^ 64) c.from.result ≡ c.loop-octet.word * 2 ^ 8 + c.from.result = put_behind 64 c.loop-octet.word c.from.result (8 * c.loop-octet.octet-index) 8 c.loop-octet.invariant.below small (omega arith) in
-    record { bits = rw e m.0; below = rw e m.1 }
+pub returns-then-count-le32 : goal.returns-then-count-le32
+returns-then-count-le32 c =
+    let w : c.from-front.result * 2 ^ 32 % 2 ^ 64 ≡ c.from-front.result * 2 ^ 32 + 0 = omega (arith, c.from_be_bytes.type_inv) in
+    ap (λ (m : ℕ). take c.args.count (to_bits word_size m)) w ∙ front_alone 4 c.from-front.result c.args.count c.args.octets.now (omega arith) c.in-Some.ensures.cases.enough (omega arith)
+    (unpack-half c.from-front.result c.args.octets.now c.in-Some.chunk.now c.in-Some.ensures.cases.enough c.in-Some.ensures.cases.same c.type_inv.octets (c.from-front.ensures ∙ c.from_be_bytes.ensures))
 
-pub returns : goal.returns
-returns c = let n : c.loop-octet.octet-index ≡ length c.args.octets.now = omega arith in
-    subst (λ (k : ℕ). to_bits word_size (c.loop-octet.word * 2 ^ 8 % 2 ^ 64 * 2 ^ (56 - 8 * k) % 2 ^ 64) ≡ first_word c.args.octets.now) n
-    (octets_all c.args.octets.now c.loop-octet.octet-index c.loop-octet.word n (omega arith) c.loop-octet.invariant.below c.loop-octet.invariant.bits)
+pub returns-else-count-le32 : goal.returns-else-count-le32
+returns-else-count-le32 c =
+    let w = put_behind 64 c.from-front.result (c.load_octets.result / 2 ^ 32) 32 32 (omega (arith, c.from_be_bytes.type_inv)) (shr_below c.load_octets.result 32 32 c.load_octets.type_inv) (omega arith) in
+    ap (λ (m : ℕ). take c.args.count (to_bits word_size m)) w ∙ ap (λ bs. take c.args.count bs) (front_and_rest 4 c.from-front.result c.load_octets.result c.args.octets.now (omega arith) c.in-Some.ensures.cases.enough c.load_octets.type_inv
+    (unpack-half c.from-front.result c.args.octets.now c.in-Some.chunk.now c.in-Some.ensures.cases.enough c.in-Some.ensures.cases.same c.type_inv.octets (c.from-front.ensures ∙ c.from_be_bytes.ensures))
+    (c.load_octets.ensures ∙ ap first_word (between_to_end c.args.octets.now 4 (length c.args.octets.now) (omega arith))))

@@ -1,6 +1,6 @@
 use Rattle.std.proofs.Common.{◌≡◌, ◌*◌, ◌^◌, ◌<◌, take}
 use Rattle.rasn_types.specs.Bits.{to_bits, unpack}
-use Rattle.per_bits.proofs.fields.load_short_word.Given as goal
+use Rattle.per_bits.proofs.fields.load_octets.Given as goal
 
 -- the word is the number of the octets so far
 abbrev pub invariant-loop-octet : goal.invariant-loop-octet
