@@ -311,6 +311,36 @@ impl<'input> Decoder<'input> {
     {
         self.check_unfailed()?;
         let mut reader = self.reader();
+        let skipped = reader.skip_short_octet_string(constraints);
+        let left = reader.bits().len();
+        let Some(count) = skipped else {
+            return self.read_octet_string(constraints);
+        };
+        if !self.come_alone(constraints, count) {
+            return self.gathered(constraints);
+        }
+        let octets = match self.octets_before(left, count) {
+            Ok(octets) => octets,
+            Err(_) => return Err(self.refuse(DecodeErrorKind::OutOfMemory)),
+        };
+        self.keep_last(left);
+        Ok(octets)
+    }
+
+    /// Reads an OCTET STRING as `decode_octet_string` does, in whichever form it is written.
+    #[inline(never)]
+    fn read_octet_string(
+        &mut self,
+        constraints: &Constraints,
+    ) -> Result<CowSlice<'input, u8>, DecodeError>
+        ensures read { Reads decoder_rules (octet_schema constraints.now) (λ x. octets (cow_slice_items x))
+            self.old result self.new }
+        ensures lent { let size = size_of constraints.now in let mark = is_size_marked constraints.now in
+            let left = length self.new.bits in
+            IfOk result (λ x. IsBorrowedSlice x ↔ AreLent size mark self.old left (length (cow_slice_items x))) }
+    {
+        self.check_unfailed()?;
+        let mut reader = self.reader();
         let skipped = reader.skip_octet_string(constraints);
         let left = reader.bits().len();
         let count = match skipped {
