@@ -1,16 +1,17 @@
 -- Numbers in few octets, which are read as one field (X.691 11.3, 11.4).
-use Rattle.std.proofs.Common.{◌≡◌, ◌∙◌, ◌<◌, ◌≤◌, ◌*◌, ◌-◌, ◌^◌, sym, ap, subst, arith, pow_mono, pow-suc, to_z, of_z, ◌-ℤ◌, ◌%◌, ℕ, suc, Bool, true, false, inl, List, [], ◌∷◌, ◌++◌, length, take, drop, length-take, length-drop, length-append, append_assoc, ◌+◌, ◌/◌, ap₂, refl, Option, pos, negsuc}
+use Rattle.std.proofs.Common.{◌≡◌, ◌∙◌, ◌<◌, ◌≤◌, ◌*◌, ◌-◌, ◌^◌, sym, ap, subst, arith, pow_mono, pow-suc, to_z, of_z, ◌-ℤ◌, ◌%◌, ℕ, suc, Bool, true, false, inl, List, [], ◌∷◌, ◌++◌, length, take, drop, length-take, length-drop, length-append, append_assoc, ◌+◌, ◌/◌, ◌⊎◌, ap₂, refl, inr, replicate, min, take_all, mod-eq_of_lt, Option, pos, negsuc}
 use Rattle.std.specs.Int.{w128}
 use Rattle.std.proofs.lemmas.Int.{ints, to_z-of_z, to_z_pos}
 use Rattle.std.specs.Prelude.{Result, Ok, Err, IsErrAnd}
-use Rattle.std.proofs.lemmas.Bool.{lt-ltb}
-use Rattle.std.proofs.lemmas.List.{take-append-drop}
+use Rattle.std.proofs.lemmas.Bool.{cases_lt, lt-ltb}
+use Rattle.std.proofs.lemmas.List.{length-replicate, take-append-drop, take-append-le, take-replicate}
 use Rattle.std.proofs.lemmas.Nat.{shr_high, shr-shr}
 use Rattle.std.proofs.Math.Seq.{take-append-add}
 use Rattle.rasn_types.specs.Bits.{Bits, number_of, unpack, pack}
 use Rattle.rasn_types.specs.Octets.{signed, signed_bits}
 use Rattle.rasn_types.proofs.Bits.{length-unpack, number_below}
 use Rattle.rasn_types.proofs.Octets.{length-pack, unpack-pack}
+use Rattle.rasn_types.proofs.Packing.{number-zeros}
 use Rattle.rasn_types.proofs.Reading.{number_of-append}
 use Rattle.rasn_constraints.specs.Bounds.{allows, any_size}
 use Rattle.per_core.specs.Basic.{LastCount, Octets, OneByOne}
@@ -60,10 +61,38 @@ no_padding_there {a} {s} h = record { front = []; joins = refl; spelled = record
     none true = refl
     none false = tt
 
--- a field of 56 bits: the length c, as many octets, and other bits
-pub at_once : {a : Settings} (w c n : ℕ) {s t : Bits} (f : Bits) → 56 ≤ length s → w ≡ number_of (take 56 s) → c ≤ 6 → s ≡ f ++ t → length f ≡ 8 + 8 * c
+-- the first 56 bits, with zeros behind the last
+abbrev pub padded : Bits → Bits
+padded s = take 56 (s ++ replicate 56 false)
+
+padded_wide : (s : Bits) → length (padded s) ≡ 56
+padded_wide s = length-take 56 (s ++ replicate 56 false) ∙ omega (arith, length-append s (replicate 56 false), length-replicate 56 false)
+
+-- those that are there, as a number
+pub first_below : (k : ℕ) (s : Bits) → k ≤ 56 → number_of (take k s) < 2 ^ 56
+first_below k s h = let m : 2 ^ length (take k s) ≤ 2 ^ 56 = pow_mono {i = length (take k s)} {j = 56} (omega (arith, length-take k s)) in omega (arith, m, number_below (take k s))
+
+pub padded_is : (k n : ℕ) (s : Bits) → k ≡ min (length s) 56 → n ≡ number_of (take k s) → n * 2 ^ (56 - k) % 2 ^ 64 ≡ number_of (padded s)
+padded_is k n s h i = ap (λ (m : ℕ). m % 2 ^ 64) whole ∙ mod-eq_of_lt (let b : number_of (padded s) < 2 ^ 56 = subst (λ (j : ℕ). number_of (padded s) < 2 ^ j) (padded_wide s) (number_below (padded s)) in omega (arith, b))
+  where
+    go : (length s < 56) ⊎ (56 ≤ length s) → n * 2 ^ (56 - k) ≡ number_of (padded s)
+    go (inl l) =
+        let e : k ≡ length s = omega arith in
+        let left = 56 - length s in
+        let zeros : padded s ≡ s ++ replicate left false = ap (λ (j : ℕ). take j (s ++ replicate 56 false)) (let j : 56 ≡ length s + left = omega arith in j) ∙ take-append-add s (replicate 56 false) left ∙ ap (λ z. s ++ z) (take-replicate left 56 false (omega arith)) in
+        let sum : number_of (padded s) ≡ number_of s * 2 ^ left + 0 = ap number_of zeros ∙ number_of-append s (replicate left false) ∙ ap₂ (λ (x y : ℕ). number_of s * 2 ^ x + y) (length-replicate left false) (number-zeros left) in
+        ap₂ (λ (x y : ℕ). x * 2 ^ (56 - y)) (i ∙ ap number_of (take_all k s (omega arith))) e ∙ omega (arith, sum)
+    go (inr l) =
+        let e : k ≡ 56 = omega arith in
+        ap₂ (λ (x y : ℕ). x * 2 ^ (56 - y)) (i ∙ ap (λ (j : ℕ). number_of (take j s)) e) e ∙ (let j : number_of (take 56 s) * 2 ^ 0 ≡ number_of (take 56 s) = omega arith in j) ∙ ap number_of (sym (take-append-le 56 s (replicate 56 false) l))
+
+    whole : n * 2 ^ (56 - k) ≡ number_of (padded s)
+    whole = go (cases_lt (length s) 56)
+
+-- a field of 56 bits: the length c, as many octets, and what is behind them
+pub at_once : {a : Settings} (w c n : ℕ) {s t : Bits} (f : Bits) → w ≡ number_of (padded s) → c ≤ 6 → s ≡ f ++ t → length f ≡ 8 + 8 * c
     → pad a.variant (place s) ≡ 0 → c ≡ w / 2 ^ 48 → 0 < c → n ≡ w * 2 ^ 16 % 2 ^ 64 / 2 ^ (64 - 8 * c) → TookFew a (record { number = n; count = c }) s t
-at_once {a} w c n {s} {t} f long is few joins wide unpadded e some i =
+at_once {a} w c n {s} {t} f is few joins wide unpadded e some i =
     few_took c n (took_then (no_padding_there {a = a} {s = s} unpadded) counted) refl some (omega arith) (record { front = octets; joins = refl; spelled = record { wide = octets_wide; means = number_is } })
   where
     first : Bits
@@ -73,13 +102,13 @@ at_once {a} w c n {s} {t} f long is few joins wide unpadded e some i =
     octets = drop 8 f
 
     rest : Bits
-    rest = take (48 - 8 * c) t
+    rest = take (48 - 8 * c) (t ++ replicate 56 false)
 
     octets_wide : length octets ≡ 8 * c
     octets_wide = length-drop 8 f ∙ omega arith
 
     rest_wide : length rest ≡ 48 - 8 * c
-    rest_wide = length-take (48 - 8 * c) t ∙ omega (arith, ap length joins, length-append f t)
+    rest_wide = length-take (48 - 8 * c) (t ++ replicate 56 false) ∙ omega (arith, length-append t (replicate 56 false), length-replicate 56 false)
 
     behind : ℕ
     behind = number_of (octets ++ rest)
@@ -90,8 +119,8 @@ at_once {a} w c n {s} {t} f long is few joins wide unpadded e some i =
     behind_below : behind < 2 ^ 48
     behind_below = subst (λ (k : ℕ). behind < 2 ^ k) behind_wide (number_below (octets ++ rest))
 
-    field_parts : take 56 s ≡ first ++ (octets ++ rest)
-    field_parts = ap (λ z. take 56 z) joins ∙ ap (λ (k : ℕ). take k (f ++ t)) (let l : 56 ≡ length f + (48 - 8 * c) = omega arith in l) ∙ take-append-add f t (48 - 8 * c)
+    field_parts : padded s ≡ first ++ (octets ++ rest)
+    field_parts = ap (λ z. padded z) joins ∙ ap₂ (λ (k : ℕ) z. take k z) (let l : 56 ≡ length f + (48 - 8 * c) = omega arith in l) (append_assoc f t (replicate 56 false)) ∙ take-append-add f (t ++ replicate 56 false) (48 - 8 * c)
         ∙ ap (λ z. z ++ rest) (sym (take-append-drop 8 f)) ∙ append_assoc first octets rest
 
     parts : w ≡ number_of first * 2 ^ 48 + behind

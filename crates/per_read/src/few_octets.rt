@@ -1,6 +1,7 @@
 //! Numbers in few octets, which are read as one field and take no memory (X.691 11.3, 11.4).
 
-ghost use Rattle.std.specs.Prelude.{◌≡◌, ◌↔◌, ℕ, List, IsTrue};
+ghost use Rattle.std.specs.Prelude.{◌≡◌, ◌↔◌, ◌++◌, ℕ, List, IsTrue, take, replicate, false};
+ghost use Rattle.rasn_types.specs.Bits.{number_of};
 ghost use Rattle.rasn_types.specs.Octets.{signed};
 ghost use Rattle.per_core.specs.Took.{place};
 ghost use Rattle.per_core.specs.Writers.{pad};
@@ -50,20 +51,22 @@ impl Reader<'_> {
         self.take_octets_behind_length()
     }
 
-    /// Takes octets and their length as one field of 56 bits, where no padding precedes them and there are from 1 to 6.
-    /// Else `None`, and nothing is taken.
+    /// Takes octets and their length as one field, where no padding precedes them and there are from 1 to 6. Else
+    /// `None`, and nothing is taken.
     #[inline(always)]
     fn take_octets_at_once(&mut self) -> Option<FewOctets>
         ensures took { OfFew (settings_of self.old) self.old.bits self.new.bits result }
         ensures kept { self.new.options ≡ self.old.options }
     {
-        if self.bits.len() < 56 || !self.is_unpadded() {
+        if !self.is_unpadded() {
             return None;
         }
-        let field = self.bits.first_bits(56) as u64;
+        let field = self.first_field();
         match field >> 48 {
             count @ 1..=6 => {
-                self.bits.take(u128::from(8 + 8 * count)).unwrap();
+                let Ok(_) = self.bits.take(u128::from(8 + 8 * count)) else {
+                    return None;
+                };
                 let number = field << 16 >> (64 - 8 * count);
                 Some(FewOctets {
                     number: u128::from(number),
@@ -72,6 +75,15 @@ impl Reader<'_> {
             }
             _ => None,
         }
+    }
+
+    /// The number that the first 56 bits mean, the first the highest, with zeros for those that aren't left.
+    #[inline(always)]
+    fn first_field(&self) -> u64
+        ensures { result ≡ number_of (take 56 (self.now.bits ++ replicate 56 false)) }
+    {
+        let width = self.bits.len().min(56);
+        (self.bits.first_bits(width) as u64) << (56 - width)
     }
 
     /// Whether no padding precedes what begins on an octet in the aligned variant.
