@@ -140,6 +140,18 @@ pub(crate) fn expect_value<T: Encode + Decode>(
     expect_recoded::<T>(rt, alloc, codec, octets, octets);
 }
 
+/// Some value of the type is read from each of these octets, and written as them, in the variant of a codec.
+pub(crate) fn expect_values<T: Encode + Decode>(
+    rt: &impl Abort,
+    alloc: Global,
+    codec: Codec,
+    each: &[&[u8]],
+) {
+    for octets in each {
+        expect_value::<T>(rt, alloc, codec, octets);
+    }
+}
+
 /// These octets are refused in the variant of a codec, each for the reason beside it.
 pub(crate) fn expect_unread<T: Decode>(
     rt: &impl Abort,

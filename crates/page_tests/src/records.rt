@@ -14,39 +14,14 @@ pub(crate) const FALSE_TRUE: Outer1 = Outer1 {
     second: true,
 };
 
+/// A record of which each of these components is absent.
+macro_rules! none_of {
+    ($record:ident { $($component:ident)* }) => { $record { $($component: None),* } }
+}
+
 /// No component and no addition.
-pub(crate) const NOTHING: ManyExtended = ManyExtended {
-    a: None,
-    b: None,
-    c: None,
-    d: None,
-    e: None,
-    f: None,
-    g: None,
-    h: None,
-    i: None,
-    j: None,
-    k: None,
-    l: None,
-    m: None,
-    n: None,
-    o: None,
-    p: None,
-    more: None,
-};
+pub(crate) const NOTHING: ManyExtended =
+    none_of!(ManyExtended { a b c d e f g h i j k l m n o p more });
 
 /// None of twelve components.
-pub(crate) const NONE_OF_TWELVE: Twelve = Twelve {
-    a: None,
-    b: None,
-    c: None,
-    d: None,
-    e: None,
-    f: None,
-    g: None,
-    h: None,
-    i: None,
-    j: None,
-    k: None,
-    l: None,
-};
+pub(crate) const NONE_OF_TWELVE: Twelve = none_of!(Twelve { a b c d e f g h i j k l });

@@ -1,6 +1,6 @@
 //! Pages of SETs, and of bits with a default, as another encoder wrote their values.
 
-use crate::expected::{expect_read, expect_value, expect_variants};
+use crate::expected::{expect_read, expect_values, expect_variants};
 use per_samples_a::default_bits::DefaultBits;
 use per_samples_sets::extended_set::ExtendedSet;
 use per_samples_sets::holder::Holder;
@@ -57,12 +57,8 @@ const UNALIGNED_BITS: &[&[u8]] = &[&[0x40], &[0x9c], &[0xb5], &[0xfa, 0xb0], &[0
 /// Bits at their default aren't written, and others are (X.691 19.5).
 #[test]
 fn writes_and_reads_bits_with_a_default(rt: HostRuntime) {
-    for octets in ALIGNED_BITS {
-        expect_value::<DefaultBits>(&rt, rt.alloc(), Codec::Aper, octets);
-    }
-    for octets in UNALIGNED_BITS {
-        expect_value::<DefaultBits>(&rt, rt.alloc(), Codec::Uper, octets);
-    }
+    expect_values::<DefaultBits>(&rt, rt.alloc(), Codec::Aper, ALIGNED_BITS);
+    expect_values::<DefaultBits>(&rt, rt.alloc(), Codec::Uper, UNALIGNED_BITS);
 }
 
 /// Components of a SET, each read by its index.
