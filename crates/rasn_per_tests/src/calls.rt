@@ -1,20 +1,13 @@
 //! Calls of the crates above `rasn_per`, what the calls of `uper` say of values and octets that they refuse, and which
 //! constraints are lawful.
 
-use crate::expected::{
-    BOTH, expect_coded, expect_equal, expect_items, expect_read, expect_unread, expect_written,
-};
+use crate::expected::{expect_equal, expect_items};
 use per_errors::count::Count;
 use per_errors::sizes::OutOfSize;
-use per_samples_a::bounded::MinusOneTo254;
 use per_samples_a::strings::LettersAToE;
-use per_samples_b::grouped::Grouped;
 use per_samples_b::outer1::Outer1;
 use per_samples_c::colors::TwoColors;
-use per_samples_c::group1::Group1;
-use per_samples_c::grouped1::Grouped1;
 use per_samples_c::one_color::OneColor;
-use per_samples_sets::set_each::SetEach;
 use per_versions::exchange::{ExchangeError, read_by_newer, read_by_older};
 use rasn_below::types::{Codec, VisibleString};
 use rasn_below::{Constraint, Constraints, Decode, constraints};
@@ -26,6 +19,9 @@ use rasn_per::uper::{
 };
 use std::alloc::Global;
 use std::test::Fail;
+
+/// The codecs of both variants.
+const BOTH: &[Codec] = &[Codec::Aper, Codec::Uper];
 
 /// TRUE and FALSE, behind an extension bit 0.
 const OUTER: &[u8] = &[0x40];
@@ -70,34 +66,6 @@ fn older_reader_refuses_an_added_item(rt: HostRuntime) {
     }
 }
 
-/// Components of a SET, each read by its index.
-const EACH: &[(SetEach, &[u8])] = &[
-    (
-        SetEach {
-            p: Some(true),
-            q: Some(false),
-            r: None,
-        },
-        &[0xa8],
-    ),
-    (
-        SetEach {
-            p: None,
-            q: None,
-            r: Some(true),
-        },
-        &[0x50],
-    ),
-];
-
-#[test]
-fn components_are_read_by_their_indices(rt: HostRuntime) {
-    for (set, octets) in EACH {
-        expect_read(&rt, rt.alloc(), Codec::Aper, set, octets);
-        expect_read(&rt, rt.alloc(), Codec::Uper, set, octets);
-    }
-}
-
 /// Octets that begin with no value of NULL, and why.
 fn no_nulls() -> [(&'static [u8], DecodeErrorKind); 2] {
     [
@@ -130,20 +98,6 @@ fn answers_what_stands_behind_a_value(rt: HostRuntime) {
             expect_items(&rt, behind, &[0xaa, 0xbb]);
         }
         Err(error) => assert!(rt; false, "{error:?}"),
-    }
-}
-
-/// -1, which is in its bounds and no `u8`.
-fn below_its_type() -> [(&'static [u8], DecodeErrorKind); 1] {
-    [(&[0], DecodeErrorKind::IntegerOverflow(8))]
-}
-
-#[test]
-fn refuses_a_number_that_its_type_lacks(rt: HostRuntime) {
-    let five = MinusOneTo254::new(5);
-    for codec in BOTH {
-        expect_coded(&rt, rt.alloc(), *codec, &five, &[0x06]);
-        expect_unread::<MinusOneTo254>(&rt, rt.alloc(), *codec, &below_its_type());
     }
 }
 
@@ -193,48 +147,6 @@ fn leaves_no_octets_of_a_refused_value(rt: HostRuntime) -> Result<(), Fail> {
     expect_equal(&rt, &refused, &Some(NOT_PERMITTED));
     expect_items(&rt, buffer.as_slice(), &[]);
     Ok(())
-}
-
-const GROUPED: Grouped1 = Grouped1 {
-    first: true,
-    group: Some(Group1 { x: None }),
-};
-
-/// A newer version's group, of which this one knows the part that is absent; so it is a group that holds nothing, and
-/// isn't written.
-#[test]
-fn reads_a_group_of_a_newer_version(rt: HostRuntime) {
-    let octets = &[0xc0, 0x41, 0x20, 0x10, 0x18, 0x00, 0x00];
-    expect_read(&rt, rt.alloc(), Codec::Uper, &GROUPED, octets);
-    expect_written(&rt, rt.alloc(), Codec::Uper, &GROUPED, &[0x40]);
-}
-
-/// A BOOLEAN and an octet more, and one and two more.
-fn boolean_and_more() -> [(&'static [u8], DecodeErrorKind); 2] {
-    [
-        (
-            &[0x00, 0x00],
-            DecodeErrorKind::UnexpectedExtraData(Count::new(1)),
-        ),
-        (
-            &[0x80, 0xaa, 0xbb],
-            DecodeErrorKind::UnexpectedExtraData(Count::new(2)),
-        ),
-    ]
-}
-
-/// A group that holds nothing, in an open type of two octets, where one does.
-fn group_and_more() -> [(&'static [u8], DecodeErrorKind); 1] {
-    [(
-        &[0xc0, 0x40, 0x80, 0x00, 0x00],
-        DecodeErrorKind::UnexpectedExtraData(Count::new(1)),
-    )]
-}
-
-#[test]
-fn counts_the_octets_that_are_left_over(rt: HostRuntime) {
-    expect_unread::<bool>(&rt, rt.alloc(), Codec::Uper, &boolean_and_more());
-    expect_unread::<Grouped>(&rt, rt.alloc(), Codec::Uper, &group_and_more());
 }
 
 const ONE_TO_GREATEST: &[Constraint] = constraints!(

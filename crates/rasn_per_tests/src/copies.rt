@@ -1,6 +1,6 @@
 //! Copies of a message that holds values of ASN.1's types: `Clone` is derived.
 
-use crate::expected::{expect_equal, identifier_of};
+use crate::expected::expect_equal;
 use rasn_below::types::{BitString, Integer, ObjectIdentifier, SetOf};
 use std::alloc::Global;
 use std::process::Abort;
@@ -31,7 +31,7 @@ fn bag(rt: &impl Abort, alloc: Global) -> SetOf<Integer> {
 fn make_message(rt: &impl Abort, alloc: Global) -> Message {
     Message {
         number: large(rt, alloc),
-        object: identifier_of(rt, alloc, &[2, 999, 3]),
+        object: ObjectIdentifier::from_slice(alloc, &[2, 999, 3]).expect(rt, "memory"),
         bits: BitString::from_slice(alloc, &[true, false, true]).expect(rt, "memory"),
         bag: bag(rt, alloc),
     }

@@ -1,38 +1,19 @@
-//! Tests over both modules of what no clause says, and no row of `rows/` or `vectors/` shows: types that the program
-//! doesn't take, the calls for additions and of the crates above, and which refusal is named where several would do.
+//! Tests of calls, over both modules (`rasn_per`) and the crate above them (`per_versions`), of what no clause says and
+//! no row of `rows/` or `vectors/` shows: by an encoder and a decoder of one's own, the calls for additions, what `uper`
+//! says of what it refuses, texts and copies of values.
 #![tactic(auto)]
 
 #[cfg(test)]
 mod additions;
 #[cfg(test)]
-mod alternatives;
-#[cfg(test)]
-mod bags;
-#[cfg(test)]
 mod calls;
-#[cfg(test)]
-mod contents;
 #[cfg(test)]
 mod copies;
 #[cfg(test)]
-mod defaults;
-#[cfg(test)]
 mod expected;
-#[cfg(test)]
-mod forms;
-#[cfg(test)]
-mod header;
-#[cfg(test)]
-mod moments;
-#[cfg(test)]
-mod own_tags;
 #[cfg(test)]
 mod records;
 #[cfg(test)]
-mod recursive;
-#[cfg(test)]
-mod sets;
+mod scopes;
 #[cfg(test)]
 mod texts;
-#[cfg(test)]
-mod values;

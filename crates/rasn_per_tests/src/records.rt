@@ -2,9 +2,9 @@
 //! begins on an octet boundary follows from its bounds. A SEQUENCE of both has the same bits, one component behind the
 //! other (X.691 19).
 
-use crate::expected::{expect_equal, expect_items, list_of, string_of};
+use crate::expected::{expect_equal, expect_items};
 use rasn_below::codec::{Decode, Decoder as AnyDecoder, Encode, Encoder as AnyEncoder};
-use rasn_below::types::{BitString, Identifier, Tag, VisibleString};
+use rasn_below::types::{BitString, Identifier, OctetString, Tag, VisibleString};
 use rasn_below::{Constraint, Constraints, constraints};
 use rasn_per::bits::BitReader;
 use rasn_per::per::de::{DecodeError, Decoder, DecoderOptions};
@@ -66,6 +66,11 @@ fn expect_behind_true<T: Encode + Decode + PartialEq + Debug>(
     }
 }
 
+/// A list of these.
+fn list_of<T: Copy>(rt: &impl Abort, alloc: Global, items: &[T]) -> Vec<T> {
+    Vec::from_slice(alloc, items).expect(rt, "memory")
+}
+
 const ZERO_TO_254: &[Constraint] = constraints!(0..=254);
 
 const ZERO_TO_256: &[Constraint] = constraints!(0..=256);
@@ -86,7 +91,7 @@ const SIZE_TO_65536: &[Constraint] = constraints!(SIZE 1..=65_536);
 /// A size counts from its lower bound where its upper one is below 64K, in an octet or two on a boundary (X.691 11.9).
 #[test]
 fn lengths_of_octets_are_aligned(rt: HostRuntime) {
-    let octets = string_of(&rt, rt.alloc(), &[0x11, 0x22, 0x33]);
+    let octets = OctetString::new(list_of(&rt, rt.alloc(), &[0x11, 0x22, 0x33]));
     let written = &[0x80, 0x02, 0x11, 0x22, 0x33];
     expect_behind_true(&rt, rt.alloc(), SIZE_TO_256, &octets, written);
     let written = &[0x80, 0x00, 0x02, 0x11, 0x22, 0x33];

@@ -1,6 +1,6 @@
 //! Texts of identifiers, times and dates (X.680 12.8 and 38.4, X.690 11.7 and 11.8).
 
-use crate::expected::{expect_items, identifier_of};
+use crate::expected::expect_items;
 use jiff::civil;
 use rasn_below::ber::BerError;
 use rasn_below::types::{Date, GeneralizedTime, ObjectIdentifier, UtcTime};
@@ -56,6 +56,11 @@ fn refuses_other_texts(rt: HostRuntime) {
         let read = ObjectIdentifier::from_text(rt.alloc(), text);
         assert!(rt; read == Err(BerError::InvalidObjectIdentifier), "{text}");
     }
+}
+
+/// The identifier of these arcs.
+fn identifier_of(rt: &impl Abort, alloc: Global, arcs: &[u32]) -> ObjectIdentifier {
+    ObjectIdentifier::from_slice(alloc, arcs).expect(rt, "memory")
 }
 
 #[test]

@@ -1,6 +1,7 @@
 //! Defaults of constructed types and of OBJECT IDENTIFIER, as asn1ct writes them.
 
 use crate::expected::{expect_rows, expect_variants, expect_written, identifier_of, list_of};
+use crate::records::{FALSE_TRUE, TRUE_FALSE};
 use per_samples_a::default_named_bits::DefaultNamedBits;
 use per_samples_b::alt2::Alt2;
 use per_samples_b::outer1::Outer1;
@@ -36,16 +37,6 @@ fn elements(rt: &impl Abort, alloc: Global, flags: &[bool], outers: &[Outer1]) -
         outers: list_of(rt, alloc, outers),
     }
 }
-
-const TRUE_FALSE: Outer1 = Outer1 {
-    first: true,
-    second: false,
-};
-
-const FALSE_TRUE: Outer1 = Outer1 {
-    first: false,
-    second: true,
-};
 
 /// A list is left out where its elements are the default's, as many and in their order (X.691 19.5).
 #[test]

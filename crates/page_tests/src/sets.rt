@@ -1,10 +1,11 @@
 //! Pages of SETs, and of bits with a default, as another encoder wrote their values.
 
-use crate::expected::{expect_value, expect_variants};
+use crate::expected::{expect_read, expect_values, expect_variants};
 use per_samples_a::default_bits::DefaultBits;
 use per_samples_sets::extended_set::ExtendedSet;
 use per_samples_sets::holder::Holder;
 use per_samples_sets::set::Set;
+use per_samples_sets::set_each::SetEach;
 use rasn_below::types::Codec;
 
 /// The root stands in the order of its tags, and behind it the additions as they are listed (X.691 19.7, 21).
@@ -56,10 +57,34 @@ const UNALIGNED_BITS: &[&[u8]] = &[&[0x40], &[0x9c], &[0xb5], &[0xfa, 0xb0], &[0
 /// Bits at their default aren't written, and others are (X.691 19.5).
 #[test]
 fn writes_and_reads_bits_with_a_default(rt: HostRuntime) {
-    for octets in ALIGNED_BITS {
-        expect_value::<DefaultBits>(&rt, rt.alloc(), Codec::Aper, octets);
-    }
-    for octets in UNALIGNED_BITS {
-        expect_value::<DefaultBits>(&rt, rt.alloc(), Codec::Uper, octets);
+    expect_values::<DefaultBits>(&rt, rt.alloc(), Codec::Aper, ALIGNED_BITS);
+    expect_values::<DefaultBits>(&rt, rt.alloc(), Codec::Uper, UNALIGNED_BITS);
+}
+
+/// Components of a SET, each read by its index.
+const EACH: &[(SetEach, &[u8])] = &[
+    (
+        SetEach {
+            p: Some(true),
+            q: Some(false),
+            r: None,
+        },
+        &[0xa8],
+    ),
+    (
+        SetEach {
+            p: None,
+            q: None,
+            r: Some(true),
+        },
+        &[0x50],
+    ),
+];
+
+#[test]
+fn components_are_read_by_their_indices(rt: HostRuntime) {
+    for (set, octets) in EACH {
+        expect_read(&rt, rt.alloc(), Codec::Aper, set, octets);
+        expect_read(&rt, rt.alloc(), Codec::Uper, set, octets);
     }
 }

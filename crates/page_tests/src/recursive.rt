@@ -1,6 +1,6 @@
 //! Types that hold themselves: what Erlang's `asn1ct` writes of them is read, and written as the same.
 
-use crate::expected::{expect_coded, expect_value};
+use crate::expected::{expect_coded, expect_values};
 use per_samples_lists::filter::Filter;
 use per_samples_lists::ping::Ping;
 use per_samples_lists::tree::Tree;
@@ -22,10 +22,8 @@ const TREES: &[&[u8]] = &[
 
 #[test]
 fn trees_are_written_as_they_were_read(rt: HostRuntime) {
-    for octets in TREES {
-        expect_value::<Tree>(&rt, rt.alloc(), Codec::Aper, octets);
-        expect_value::<Tree>(&rt, rt.alloc(), Codec::Uper, octets);
-    }
+    expect_values::<Tree>(&rt, rt.alloc(), Codec::Aper, TREES);
+    expect_values::<Tree>(&rt, rt.alloc(), Codec::Uper, TREES);
 }
 
 /// Filters in the UNALIGNED variant: octets, a list of two, an empty list, and three negations.
@@ -46,12 +44,8 @@ const ALIGNED_FILTERS: &[&[u8]] = &[
 
 #[test]
 fn filters_are_written_as_they_were_read(rt: HostRuntime) {
-    for octets in UNALIGNED_FILTERS {
-        expect_value::<Filter>(&rt, rt.alloc(), Codec::Uper, octets);
-    }
-    for octets in ALIGNED_FILTERS {
-        expect_value::<Filter>(&rt, rt.alloc(), Codec::Aper, octets);
-    }
+    expect_values::<Filter>(&rt, rt.alloc(), Codec::Uper, UNALIGNED_FILTERS);
+    expect_values::<Filter>(&rt, rt.alloc(), Codec::Aper, ALIGNED_FILTERS);
 }
 
 #[test]
@@ -62,10 +56,10 @@ fn an_empty_list_of_filters_is_its_index_and_its_count(rt: HostRuntime) {
 }
 
 /// Types that hold one another have a presence bit for each level.
+const PINGS: &[&[u8]] = &[&[0x00], &[0x80], &[0xe0]];
+
 #[test]
 fn pings_are_written_as_they_were_read(rt: HostRuntime) {
-    for octets in [&[0x00], &[0x80], &[0xe0]] {
-        expect_value::<Ping>(&rt, rt.alloc(), Codec::Aper, octets);
-        expect_value::<Ping>(&rt, rt.alloc(), Codec::Uper, octets);
-    }
+    expect_values::<Ping>(&rt, rt.alloc(), Codec::Aper, PINGS);
+    expect_values::<Ping>(&rt, rt.alloc(), Codec::Uper, PINGS);
 }

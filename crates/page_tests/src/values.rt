@@ -1,8 +1,11 @@
 //! Values of types that the program doesn't take, and the octets of their complete encodings.
 
-use crate::expected::{BOTH, expect_recoded, expect_rows, expect_value, expect_variants};
+use crate::expected::{
+    BOTH, expect_coded, expect_recoded, expect_rows, expect_unread, expect_value, expect_variants,
+};
 use its_header::speed::Speed;
 use per_samples_a::alternative::{Alternative, ZeroTo7};
+use per_samples_a::bounded::MinusOneTo254;
 use per_samples_a::nested::Nested;
 use per_samples_a::pair::Pair;
 use per_samples_a::signals::Signals;
@@ -11,6 +14,7 @@ use rasn_below::types::{
     Any, BmpString, Codec, GeneralString, GraphicString, Ia5String, NamedBits, NumericString,
     PrintableString, TeletexString, Utf8String, VisibleString,
 };
+use rasn_per::uper::DecodeErrorKind;
 
 #[test]
 fn writes_and_reads_octets_behind_a_length(rt: HostRuntime) {
@@ -96,4 +100,18 @@ fn writes_and_reads_choices(rt: HostRuntime) {
     let second = Alternative::Y(ZeroTo7::new(5));
     expect_variants(&rt, rt.alloc(), &second, &[0xd0], &[0xd0]);
     expect_rows(&rt, rt.alloc(), NESTED);
+}
+
+/// -1, which is in its bounds and no `u8`.
+fn below_its_type() -> [(&'static [u8], DecodeErrorKind); 1] {
+    [(&[0], DecodeErrorKind::IntegerOverflow(8))]
+}
+
+#[test]
+fn refuses_a_number_that_its_type_lacks(rt: HostRuntime) {
+    let five = MinusOneTo254::new(5);
+    for codec in BOTH {
+        expect_coded(&rt, rt.alloc(), *codec, &five, &[0x06]);
+        expect_unread::<MinusOneTo254>(&rt, rt.alloc(), *codec, &below_its_type());
+    }
 }

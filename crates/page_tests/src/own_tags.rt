@@ -1,6 +1,8 @@
 //! Alternatives and additions under tags that are written, or are their types' own, as another encoder wrote them.
 
-use crate::expected::{BOTH, expect_coded, expect_value, expect_variants, string_of};
+use crate::expected::{
+    BOTH, expect_coded, expect_value, expect_values, expect_variants, string_of,
+};
 use per_samples_b::classed::Classed;
 use per_samples_b::pick::Pick;
 use per_samples_b::picked::Picked;
@@ -64,12 +66,8 @@ fn writes_and_reads_an_untagged_choice_as_an_addition(rt: HostRuntime) {
     let unaligned = &[0xc0, 0xe0, 0x70, 0x00, 0x2a, 0x00, 0x3c, 0x00];
     expect_coded(&rt, rt.alloc(), Codec::Aper, &picked, aligned);
     expect_coded(&rt, rt.alloc(), Codec::Uper, &picked, unaligned);
-    for octets in ALIGNED {
-        expect_value::<Picked>(&rt, rt.alloc(), Codec::Aper, octets);
-    }
-    for octets in UNALIGNED {
-        expect_value::<Picked>(&rt, rt.alloc(), Codec::Uper, octets);
-    }
+    expect_values::<Picked>(&rt, rt.alloc(), Codec::Aper, ALIGNED);
+    expect_values::<Picked>(&rt, rt.alloc(), Codec::Uper, UNALIGNED);
 }
 
 /// Alternatives are counted in the order of their tags, those of the class APPLICATION behind universal ones and before

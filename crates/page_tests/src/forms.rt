@@ -3,6 +3,7 @@
 use crate::expected::{
     expect_rows, expect_value, expect_variants, expect_written, identifier_of, list_of, string_of,
 };
+use crate::records::{FALSE_TRUE, NONE_OF_TWELVE, NOTHING, TRUE_FALSE};
 use per_samples_a::brackets::Brackets;
 use per_samples_a::default_list::DefaultList;
 use per_samples_a::eight::Eight;
@@ -47,27 +48,6 @@ fn leaves_an_empty_list_out(rt: HostRuntime) {
     }
 }
 
-/// No component and no addition.
-const NOTHING: ManyExtended = ManyExtended {
-    a: None,
-    b: None,
-    c: None,
-    d: None,
-    e: None,
-    f: None,
-    g: None,
-    h: None,
-    i: None,
-    j: None,
-    k: None,
-    l: None,
-    m: None,
-    n: None,
-    o: None,
-    p: None,
-    more: None,
-};
-
 fn flagged(rt: &impl Abort, alloc: Global, flag: bool, octets: &[u8]) -> Option<Flagged> {
     let octets = string_of(rt, alloc, octets);
     Some(Flagged { flag, octets })
@@ -92,16 +72,6 @@ fn writes_and_reads_some_of_sixteen_components(rt: HostRuntime) {
     let unaligned = &[0x54, 0x85, 0x68, 0x3c, 0x00, 0x0c, 0x00, 0x17, 0xf9, 0xc0];
     expect_variants(&rt, rt.alloc(), &plain, aligned, unaligned);
 }
-
-const TRUE_FALSE: Outer1 = Outer1 {
-    first: true,
-    second: false,
-};
-
-const FALSE_TRUE: Outer1 = Outer1 {
-    first: false,
-    second: true,
-};
 
 /// A component of each constructed type, and the addition behind its own open type (X.691 19.9).
 #[test]
@@ -294,22 +264,6 @@ fn writes_and_reads_eighteen_components(rt: HostRuntime) {
     ];
     expect_rows(&rt, rt.alloc(), rows);
 }
-
-/// None of twelve components.
-const NONE_OF_TWELVE: Twelve = Twelve {
-    a: None,
-    b: None,
-    c: None,
-    d: None,
-    e: None,
-    f: None,
-    g: None,
-    h: None,
-    i: None,
-    j: None,
-    k: None,
-    l: None,
-};
 
 /// Optional lists and records beside one another.
 #[test]
