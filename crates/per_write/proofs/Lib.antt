@@ -11,6 +11,7 @@ pub mod SetRoots
 pub mod Refusing
 pub mod Steps
 pub mod Vacant
+pub mod WordFlags
 pub mod Writing
 pub mod Unbounded
 pub mod Elements

@@ -2,7 +2,6 @@
 //! open, and stand behind the root when it is closed.
 
 ghost use Rattle.std.specs.Prelude.{◌≡◌, length, true, false, nat_lt, Some};
-ghost use Rattle.per_core.specs.Canon.{any_set};
 ghost use Rattle.per_core.specs.Writers.{padding};
 ghost use Rattle.per_pieces.specs.Pieces.{placed_bits};
 ghost use Rattle.per_write.specs.Additions.{ClosesOrNot as ClosesOpenType, GivesOrNot, is_group_there};
@@ -12,6 +11,7 @@ ghost use Rattle.per_write.specs.Records.{KeepsOrNot, PutsAdditions};
 ghost use Rattle.per_write.specs.State.{PutsIn};
 
 use crate::error::{EncodeError, EncodeErrorKind};
+use crate::flags::{GatheredFlags, has_one};
 use crate::presences::Presences;
 use crate::{Writer, cleared_or_new, no_bits};
 use per_bits::{BitList, BitReader};
@@ -29,7 +29,7 @@ pub struct Additions<A: Allocator + Clone> {
     /// How many additions the schema has.
     count: usize,
     /// A bit for each that was given so far: whether it is there.
-    flags: BitList<A>,
+    flags: GatheredFlags<A>,
     /// The open types of those that are there, one behind another.
     opens: BitList<A>,
 }
@@ -176,14 +176,12 @@ impl<A: Allocator + Clone> Writer<A> {
         let extension = self.pieces.len();
         let pushed = self.pieces.push(false);
         self.unless_out_of_memory(pushed)?;
-        let flags = no_bits(self.pieces.bits());
-        let flags = self.unless_out_of_memory(flags)?;
         let opens = no_bits(self.pieces.bits());
         let opens = self.unless_out_of_memory(opens)?;
         Ok(Some(Additions {
             extension,
             count,
-            flags,
+            flags: GatheredFlags::new(),
             opens,
         }))
     }
@@ -207,7 +205,7 @@ impl<A: Allocator + Clone> Writer<A> {
         ensures { GivesOrNot is_there additions self.old result self.new }
     {
         let mut additions = additions;
-        let pushed = additions.flags.push(is_there);
+        let pushed = additions.flags.push(is_there, self.pieces.bits());
         self.unless_out_of_memory(pushed)?;
         self.additions = Some(additions);
         Ok(())
@@ -223,7 +221,7 @@ impl<A: Allocator + Clone> Writer<A> {
         if additions.flags.len() != additions.count as u128 {
             return Err(self.refuse(EncodeErrorKind::OutOfTurn));
         }
-        if !has_one(&additions.flags) {
+        if !additions.flags.has_one() {
             return Ok(());
         }
         self.pieces.set(additions.extension, true);
@@ -251,16 +249,4 @@ impl<A: Allocator + Clone> Additions<A> {
     {
         self.flags.len() < self.count as u128
     }
-}
-
-/// Whether one of the bits is 1.
-fn has_one<A: Allocator>(bits: &BitList<A>) -> bool
-    ensures { result ≡ any_set bits.now }
-{
-    for index in 0..bits.len() {
-        if bits.get(index).unwrap_or(false) {
-            return true;
-        }
-    }
-    false
 }

@@ -21,6 +21,7 @@ mod bitmaps;
 pub mod choices;
 mod components;
 pub mod error;
+mod flags;
 pub mod items;
 pub mod lists;
 pub mod numbers;
