@@ -65,8 +65,13 @@ impl<A: Allocator + Clone> Writer<A> {
         requires { self.old.failed ≡ false }
         ensures { SkipsOrNot self.old result self.new }
     {
-        let additions = self.take_additions()?;
-        self.give_addition(additions, false)?;
+        let pushed = match &mut self.additions {
+            Some(additions) if additions.is_left() => {
+                additions.flags.push(false, self.pieces.bits())
+            }
+            _ => return Err(self.refuse(EncodeErrorKind::TooManyAdditions)),
+        };
+        self.unless_out_of_memory(pushed)?;
         Ok(())
     }
 
