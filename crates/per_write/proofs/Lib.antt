@@ -9,6 +9,7 @@ pub mod OpenTypes
 pub mod RecordsClosed
 pub mod SetRoots
 pub mod Refusing
+pub mod ShortOpens
 pub mod Steps
 pub mod Vacant
 pub mod WordFlags

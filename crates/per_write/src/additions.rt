@@ -5,13 +5,15 @@ ghost use Rattle.std.specs.Prelude.{◌≡◌, length, true, false, nat_lt, Some
 ghost use Rattle.per_core.specs.Writers.{padding};
 ghost use Rattle.per_pieces.specs.Pieces.{placed_bits};
 ghost use Rattle.per_write.specs.Additions.{ClosesOrNot as ClosesOpenType, GivesOrNot, is_group_there};
-ghost use Rattle.per_write.specs.Additions.{OpensOrNot as OpensOpenType, PutsAddition, SkipsOrNot, TakesOrNot};
+ghost use Rattle.per_write.specs.Additions.{OpensOrNot as OpensOpenType, PutsAddition, PutsContents};
+ghost use Rattle.per_write.specs.Additions.{SkipsOrNot, TakesOrNot};
 ghost use Rattle.per_write.specs.Faults.{IsMemory};
 ghost use Rattle.per_write.specs.Records.{KeepsOrNot, PutsAdditions};
 ghost use Rattle.per_write.specs.State.{PutsIn};
 
 use crate::error::{EncodeError, EncodeErrorKind};
 use crate::flags::{GatheredFlags, has_one};
+use crate::open_types::{SHORT_CONTENTS, into_short_open_type};
 use crate::presences::Presences;
 use crate::{Writer, cleared_or_new, no_bits};
 use per_bits::{BitList, BitReader};
@@ -136,14 +138,33 @@ impl<A: Allocator + Clone> Writer<A> {
     }
 
     /// Puts what was written, as the contents of an open type (X.691 11.2), behind the open types of other additions.
-    /// What was written before is there again.
+    /// Where there is none, short contents become it in their own memory. What was written before is there again.
     fn put_addition(
         &mut self,
-        additions: Additions<A>,
+        mut additions: Additions<A>,
         before: Pieces<A>,
     ) -> Result<Additions<A>, EncodeError>
         requires { self.old.failed ≡ false }
         ensures { PutsAddition additions before self.old result self.new }
+    {
+        let contents = mem::replace(&mut self.pieces, before).into_placed();
+        let contents = self.unless_out_of_memory(contents)?;
+        if !additions.opens.is_empty() || contents.len() > SHORT_CONTENTS {
+            return self.put_behind(additions, contents);
+        }
+        let opens = into_short_open_type(contents);
+        additions.opens = self.unless_out_of_memory(opens)?;
+        Ok(additions)
+    }
+
+    /// Puts the contents of an open type (X.691 11.2) behind the open types of other additions.
+    fn put_behind(
+        &mut self,
+        additions: Additions<A>,
+        contents: BitList<A>,
+    ) -> Result<Additions<A>, EncodeError>
+        requires { self.old.failed ≡ false }
+        ensures { PutsContents additions contents self.old result self.new }
     {
         let Additions {
             extension,
@@ -151,8 +172,7 @@ impl<A: Allocator + Clone> Writer<A> {
             flags,
             opens,
         } = additions;
-        let contents = mem::replace(&mut self.pieces, Pieces::from_bits(opens)).into_placed();
-        let contents = self.unless_out_of_memory(contents)?;
+        let before = mem::replace(&mut self.pieces, Pieces::from_bits(opens));
         self.put_open_type(&contents)?;
         self.scratch = Some(contents);
         let opens = mem::replace(&mut self.pieces, before).into_placed();
