@@ -252,7 +252,10 @@ impl<A: Allocator + Clone> Writer<A> {
         self.pieces.set(additions.extension, true);
         self.put_bitmap(&additions.flags, additions.count)?;
         self.put_padding()?;
-        self.put_reader(&BitReader::new(&additions.opens))
+        let opens = additions.opens;
+        self.put_reader(&BitReader::new(&opens))?;
+        self.scratch = Some(opens);
+        Ok(())
     }
 
     /// Writes zero bits up to the next octet in the aligned variant.

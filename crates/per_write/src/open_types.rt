@@ -1,6 +1,6 @@
 //! Open types (X.691 11.2).
 
-ghost use Rattle.std.specs.Prelude.{◌≡◌, ◌≤◌, ◌*◌, false, length, Some, IfOk};
+ghost use Rattle.std.specs.Prelude.{◌≡◌, ◌≤◌, false, length, Some, IfOk};
 ghost use Rattle.rasn_types.specs.Variants.{Variant};
 ghost use Rattle.per_core.specs.Counts.{open_bits};
 ghost use Rattle.per_write.specs.Faults.{IsMemory};
@@ -48,7 +48,7 @@ impl<A: Allocator + Clone> Writer<A> {
 pub(crate) fn into_short_open_type<A: Allocator>(
     contents: BitList<A>,
 ) -> Result<BitList<A>, AllocError>
-    requires { length contents ≤ 8 * 127 }
+    requires { length contents ≤ SHORT_CONTENTS }
     ensures { IfOk result (λ opened. (a : Variant) → Some opened ≡ open_bits a (Some contents) 0) }
 {
     let mut octets = complete_in_place(contents)?;
