@@ -1,6 +1,6 @@
 //! The bitmap of a SEQUENCE's additions (X.691 19.7, 19.8).
 
-ghost use Rattle.std.specs.Prelude.{◌≡◌, ◌<◌, ◌≤◌, length, true, false};
+ghost use Rattle.std.specs.Prelude.{◌≡◌, ◌<◌, ◌≤◌, ◌^◌, length, true, false};
 ghost use Rattle.rasn_types.specs.Bits.{to_bits};
 ghost use Rattle.per_core.specs.Canon.{bitmap};
 ghost use Rattle.per_write.specs.Faults.{IsMemory};
@@ -30,15 +30,16 @@ impl<A: Allocator + Clone> Writer<A> {
         }
     }
 
-    /// Writes up to 64 bits as a bitmap: the low `count` ones of a word, highest first.
+    /// Writes up to 64 bits as a bitmap: the low `count` ones of a word, highest first. They and what stands in front
+    /// of them, a zero and the count less one in six bits, are one number.
     fn put_small_bitmap(&mut self, word: u64, count: u32) -> Result<(), EncodeError>
         requires begun { self.old.failed ≡ false }
         requires few { count ≤ 64 }
+        requires fits { word < 2 ^ count }
         ensures { PutsIn IsMemory (λ a. bitmap a (to_bits count word)) self.old result self.new }
     {
-        self.put_bit(false)?;
-        self.put_bits(u128::from(count.saturating_sub(1)), 6)?;
-        self.put_bits(u128::from(word), u128::from(count))
+        let front = u128::from(count.saturating_sub(1));
+        self.put_bits(front << count | u128::from(word), 7 + u128::from(count))
     }
 
     /// Writes more than 64 bits as a bitmap.
