@@ -71,6 +71,13 @@ impl<A: Allocator> BitList<A> {
         Ok(list)
     }
 
+    /// The bits of octets, the highest of each octet first, in the octets' own memory.
+    pub fn from_whole_octets(octets: Vec<u8, A>) -> Self
+        ensures { result ≡ unpack octets.items }
+    {
+        BitList { octets, spare: 0 }
+    }
+
     /// The allocator that the memory comes from.
     pub fn allocator(&self) -> &A {
         self.octets.allocator()

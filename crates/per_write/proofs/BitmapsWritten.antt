@@ -1,6 +1,6 @@
 -- The bitmap of additions, and open types, as they are written.
 use Rattle.std.specs.Prelude.{Result, Ok, Err, slice_get, unwrap_or}
-use Rattle.std.proofs.Common.{◌≡◌, refl, ap, ◌∙◌, subst, inl, inr, ℕ, zero, suc, ◌+◌, ◌-◌, ◌/◌, ◌<◌, ◌≤◌, max, Bool, true, false, ◌||◌, [], ◌∷◌, length, drop, Some, arith, le-leb}
+use Rattle.std.proofs.Common.{◌≡◌, refl, sym, ap, ◌∙◌, ◌*◌, ◌%◌, ◌^◌, ◌++◌, bit_or, subst, inl, inr, ℕ, zero, suc, ◌+◌, ◌-◌, ◌/◌, ◌<◌, ◌≤◌, max, Bool, true, false, ◌||◌, [], ◌∷◌, length, drop, Some, arith, le-leb}
 use Rattle.std.proofs.lemmas.Bool.{lt-leb}
 use Rattle.rasn_types.specs.Bits.{Bits, pack, to_bits}
 use Rattle.rasn_types.specs.Codecs.{variant_of}
@@ -8,6 +8,9 @@ use Rattle.rasn_types.specs.Packed.{packed}
 use Rattle.rasn_types.specs.Variants.{Variant}
 use Rattle.rasn_types.specs.declared.types.Codec.{Codec}
 use Rattle.rasn_constraints.specs.Bounds.{any_size}
+use Rattle.rasn_types.proofs.Bits.{length-to_bits}
+use Rattle.per_bits.proofs.Joins.{put_behind}
+use Rattle.per_bits.proofs.Words.{to_bits-join}
 use Rattle.per_core.specs.Canon.{any_set, bitmap}
 use Rattle.per_core.specs.Counts.{bit_items, bit_writers, counted_in, open_bits, unconstrained_octets}
 use Rattle.per_core.specs.Writers.{just, ◌▹◌}
@@ -45,9 +48,10 @@ large_form : (a : Variant) (flags : Bits) → 64 < length flags → (p : ℕ) �
 unfolding bitmap
 large_form a flags h p = rw (lt-leb (length flags) 64 h) refl
 
-small_form : (a : Variant) (flags : Bits) → length flags ≤ 64 → (p : ℕ) → ((just (false ∷ []) ▹ just (to_bits 6 (length flags - 1))) ▹ just flags) p ≡ bitmap a flags p
+-- X.691 19.8, 11.9.3.4: a zero and the length less one in six bits, which are seven bits of it
+small_form : (a : Variant) (flags : Bits) → length flags ≤ 64 → (p : ℕ) → just (to_bits 7 (length flags - 1) ++ flags) p ≡ bitmap a flags p
 unfolding bitmap
-small_form a flags h p = rw (le-leb (length flags) 64 h) refl
+small_form a flags h p = rw (le-leb (length flags) 64 h) (ap (λ (b : Bool). Some ((b ∷ to_bits 6 (length flags - 1)) ++ flags)) (lt-leb 64 ((length flags - 1) % 128) (omega arith)))
 
 pub large_bitmap : (x m y : State) (flags : Bits) (result : Result (Unit {0}) EncodeError) → 64 < length flags → StateAppends x (just (true ∷ [])) m →
     Puts (IsMemoryOrItem (λ k. ⊥) (bit_writers flags)) (counted_in (variant_of m.codec) any_size bit_items (bit_writers flags)) m result y → Puts IsMemory (bitmap (variant_of x.codec) flags) x result y
@@ -65,18 +69,18 @@ large_bitmap x m y flags (Err e) h w p = record {
   kept = p.kept ∙ w.same;
 }
 
-pub small_bitmap : (x m n y : State) (flags : Bits) (less : ℕ) (result : Result (Unit {0}) EncodeError) → length flags ≤ 64 → less ≡ length flags - 1 → StateAppends x (just (false ∷ [])) m → StateAppends m (just (to_bits 6 less)) n →
-    Puts IsMemory (just flags) n result y → Puts IsMemory (bitmap (variant_of x.codec) flags) x result y
-small_bitmap x m n y flags less (Ok u) h e w v p = record {
-  ok = wrote_same x y _ _ (small_form (variant_of x.codec) flags h) (wrote_then x n y (just (false ∷ []) ▹ just (to_bits 6 (length flags - 1))) (just flags)
-      (wrote_then x m n (just (false ∷ [])) (just (to_bits 6 (length flags - 1))) w (subst (λ (k : ℕ). StateAppends m (just (to_bits 6 k)) n) e v)) p.ok);
+pub small_bitmap : (x y : State) (flags all : Bits) (result : Result (Unit {0}) EncodeError) → length flags ≤ 64 → all ≡ to_bits 7 (length flags - 1) ++ flags → Puts IsMemory (just all) x result y →
+    Puts IsMemory (bitmap (variant_of x.codec) flags) x result y
+small_bitmap x y flags all (Ok u) h e p = record {
+  ok = wrote_same x y _ _ (λ q. ap Some e ∙ small_form (variant_of x.codec) flags h q) p.ok;
   err = tt;
   fails = tt;
-  kept = p.kept ∙ v.same ∙ w.same;
+  kept = p.kept;
 }
-small_bitmap x m n y flags less (Err d) h e w v p = record {
-  ok = tt;
-  err = record { kind_is = p.err.kind_is; codec_is = p.err.codec_is ∙ v.same ∙ w.same };
-  fails = p.fails;
-  kept = p.kept ∙ v.same ∙ w.same;
-}
+small_bitmap x y flags all (Err d) h e p = record { ok = tt; err = p.err; fails = p.fails; kept = p.kept }
+
+-- a word of so many bits behind their count less one
+pub word_behind : (word count front number : ℕ) → word < 2 ^ count → count ≤ 64 → front ≡ count - 1 → number ≡ bit_or (front * 2 ^ count % 2 ^ 128) word → to_bits (7 + count) number ≡ to_bits 7 (length (to_bits count word) - 1) ++ to_bits count word
+word_behind word count front number h l e k =
+    ap (to_bits (7 + count)) (k ∙ put_behind 128 front word 7 count (omega arith) h (omega arith)) ∙ to_bits-join 7 count front word h
+    ∙ ap (λ (n : ℕ). to_bits 7 n ++ to_bits count word) (e ∙ ap (λ (n : ℕ). n - 1) (sym (length-to_bits count word)))

@@ -16,7 +16,7 @@ use Rattle.per_write.proofs.Steps.{next_between}
 use Rattle.per_write.proofs.Writing.{remains_last}
 
 -- a field with one number more
-pub field_more : (value i number k new n : ℕ) → value < 2 ^ i → number < 2 ^ k → i + k ≤ 56 → n ≡ number → new ≡ bit_or (value * 2 ^ k % 2 ^ 64) n →
+pub field_more : (value i number k new n : ℕ) → value < 2 ^ i → number < 2 ^ k → i + k ≤ 64 → n ≡ number → new ≡ bit_or (value * 2 ^ k % 2 ^ 64) n →
     (new < 2 ^ (i + k)) × (to_bits (i + k) new ≡ to_bits i value ++ to_bits k number)
 field_more value i number k new n h l e f d =
     let is : new ≡ value * 2 ^ k + number = d ∙ ap (λ (m : ℕ). bit_or (value * 2 ^ k % 2 ^ 64) m) f ∙ put_behind 64 value number i k h l (omega arith) in (

@@ -9,8 +9,10 @@ pub mod OpenTypes
 pub mod RecordsClosed
 pub mod SetRoots
 pub mod Refusing
+pub mod ShortOpens
 pub mod Steps
 pub mod Vacant
+pub mod WordFlags
 pub mod Writing
 pub mod Unbounded
 pub mod Elements

@@ -1,18 +1,18 @@
 -- A SEQUENCE that is opened and closed, and a group that is left out.
 use Rattle.std.specs.Prelude.{Result, Ok, Err}
-use Rattle.std.proofs.Common.{◌≡◌, refl, sym, ap, ap₂, ◌∙◌, subst, inl, ℕ, zero, suc, Bool, true, false, ◌||◌, [], ◌∷◌, ◌++◌, List, length, replicate, Option, Some, ◌+◌, append-nil}
+use Rattle.std.proofs.Common.{◌≡◌, refl, sym, ap, ap₂, ◌∙◌, subst, inl, ℕ, zero, suc, Bool, true, false, ◌||◌, [], ◌∷◌, ◌++◌, List, length, replicate, Option, Some, None, ◌+◌, append-nil}
 use Rattle.rasn_types.specs.Bits.{Bits}
 use Rattle.rasn_types.specs.Codecs.{variant_of}
-use Rattle.rasn_types.specs.Variants.{aligned}
+use Rattle.rasn_types.specs.Variants.{Variant, aligned}
 use Rattle.rasn_types.specs.declared.types.Codec.{Codec}
 use Rattle.per_core.specs.Canon.{any_set, bitmap}
 use Rattle.per_core.specs.Counts.{open_bits}
-use Rattle.per_core.specs.Writers.{just, pad, padding, ◌▹◌}
+use Rattle.per_core.specs.Writers.{join, just, pad, padding, ◌▹◌}
 use Rattle.per_pieces.specs.Pieces.{Appends, Piece, bit, to_octet, Pieces, bit_count, bits_of, plain, placed_bits, with_bit, with_bits}
 use Rattle.per_pieces.proofs.Placed.{settle_plain}
 use Rattle.per_pieces.proofs.Zeros.{with_both}
 use Rattle.per_write.specs.declared.error.EncodeError.{EncodeError}
-use Rattle.per_write.specs.Additions.{ClosesOrNot, GivesOrNot, OutsideAddition, PutsAddition, is_group_there, with_next}
+use Rattle.per_write.specs.Additions.{ClosesOrNot, GivesOrNot, OutsideAddition, PutsAddition, PutsContents, is_group_there, with_next}
 use Rattle.per_write.specs.Faults.{IsMemory}
 use Rattle.per_write.specs.Records.{ExtendedBehind, Opens, PutsAdditions, behind_root, extension_room, kept_additions}
 use Rattle.per_write.specs.State.{Additions, AppendsBits, Puts, Scope, State, StateAppends}
@@ -77,21 +77,55 @@ any_settled [] p = refl
 any_settled (bit b ∷ ps) p = ap (λ (c : Bool). b || c) (any_settled ps (p + 1))
 any_settled (to_octet ∷ ps) p = zeros_behind (pad aligned p) (placed_bits ps 0) ∙ any_settled ps 0
 
--- X.691 11.2: what was written is the contents of an open type, behind others
-pub addition_put : (k l : Additions) (before q d : Pieces) (x m w y : State) (contents opens others : Bits) → x.failed ≡ false → m ≡ record x { pieces = q } → q ≡ record { list = plain others; placed = true } → others ≡ k.opens →
-    contents ≡ placed_bits x.pieces.list 0 → StateAppends m (open_bits (variant_of m.codec) (Some contents)) w → opens ≡ placed_bits w.pieces.list 0 → y ≡ record w { pieces = d } → d ≡ before → l ≡ record k { opens = opens } → PutsAddition k before x (Ok l) y
-addition_put k l before q d x m w y contents opens others f e i n c h o t b j =
+-- X.691 11.2: the contents of an open type, behind others
+pub contents_put : (k l : Additions) (q d : Pieces) (x m w y : State) (contents opens others : Bits) → x.failed ≡ false → m ≡ record x { pieces = q } → q ≡ record { list = plain others; placed = true } → others ≡ k.opens →
+    StateAppends m (open_bits (variant_of m.codec) (Some contents)) w → opens ≡ placed_bits w.pieces.list 0 → y ≡ record w { pieces = d } → d ≡ x.pieces → l ≡ record k { opens = opens } → PutsContents k contents x (Ok l) y
+contents_put k l q d x m w y contents opens others f e i n h o t b j =
     let codec : m.codec ≡ x.codec = ap (λ (s : State). s.codec) e in
     let list : placed_bits m.pieces.list 0 ≡ k.opens = ap (λ (s : State). placed_bits s.pieces.list 0) e ∙ ap (λ (z : Pieces). placed_bits z.list 0) i ∙ settle_plain others 0 ∙ n in
     record {
       opens = ap Some (ap (λ (a : Additions). a.opens) j ∙ o) ∙ h.appended.written 0 (λ t. refl)
-          ∙ ap₂ (λ (bs : Bits) (z : Codec). (just bs ▹ open_bits (variant_of z) (Some contents)) 0) list codec ∙ ap (λ (bs : Bits). (just k.opens ▹ open_bits (variant_of x.codec) (Some bs)) 0) c;
+          ∙ ap₂ (λ (bs : Bits) (z : Codec). (just bs ▹ open_bits (variant_of z) (Some contents)) 0) list codec;
       others = j ∙ ap (λ (bs : Bits). record k { opens = bs }) (sym (ap (λ (a : Additions). a.opens) j));
-      same = t ∙ same_state d before w.failed x.failed w.codec x.codec w.scope x.scope b (h.left ∙ sym f) (h.same ∙ codec) (h.beside ∙ ap (λ (s : State). s.scope) e);
+      same = t ∙ same_state d x.pieces w.failed x.failed w.codec x.codec w.scope x.scope b (h.left ∙ sym f) (h.same ∙ codec) (h.beside ∙ ap (λ (s : State). s.scope) e);
       err = tt;
       fails = tt;
       kept = ap (λ (s : State). s.codec) t ∙ h.same ∙ codec;
     }
+
+-- what was written is these contents
+pub addition_put : (k : Additions) (before d : Pieces) (x z y : State) (contents : Bits) (result : Result Additions EncodeError) → z ≡ record x { pieces = d } → d ≡ before → contents ≡ placed_bits x.pieces.list 0 →
+    PutsContents k contents z result y → PutsAddition k before x result y
+addition_put k before d x z y contents (Ok l) e b c p =
+    let codec : z.codec ≡ x.codec = ap (λ (s : State). s.codec) e in
+    record {
+      opens = p.opens ∙ ap₂ (λ (bs : Bits) (v : Codec). (just k.opens ▹ open_bits (variant_of v) (Some bs)) 0) c codec;
+      others = p.others;
+      same = p.same ∙ e ∙ ap (λ (w : Pieces). record x { pieces = w }) b;
+      err = tt;
+      fails = tt;
+      kept = p.kept ∙ codec;
+    }
+addition_put k before d x z y contents (Err f) e b c p =
+    let codec : z.codec ≡ x.codec = ap (λ (s : State). s.codec) e in
+    record { opens = tt; others = tt; same = tt; err = record { kind_is = p.err.kind_is; codec_is = p.err.codec_is ∙ codec }; fails = p.fails; kept = p.kept ∙ codec }
+
+join_nothing : (o : Option Bits) → join [] o ≡ o
+join_nothing None = refl
+join_nothing (Some b) = refl
+
+-- the first open type
+pub first_put : (k l : Additions) (before d : Pieces) (x y : State) (contents opens : Bits) → k.opens ≡ [] → y ≡ record x { pieces = d } → d ≡ before → contents ≡ placed_bits x.pieces.list 0 →
+    ((a : Variant) → Some opens ≡ open_bits a (Some contents) 0) → l ≡ record k { opens = opens } → PutsAddition k before x (Ok l) y
+first_put k l before d x y contents opens n e b c o j = record {
+  opens = ap (λ (a : Additions). Some a.opens) j ∙ o (variant_of x.codec) ∙ sym (join_nothing (open_bits (variant_of x.codec) (Some contents) 0))
+      ∙ ap₂ (λ (bs cs : Bits). (just bs ▹ open_bits (variant_of x.codec) (Some cs)) 0) (sym n) c;
+  others = j ∙ ap (λ (bs : Bits). record k { opens = bs }) (sym (ap (λ (a : Additions). a.opens) j));
+  same = e ∙ ap (λ (w : Pieces). record x { pieces = w }) b;
+  err = tt;
+  fails = tt;
+  kept = ap (λ (s : State). s.codec) e;
+}
 
 pub addition_closed : (x w y : State) (o : OutsideAddition) (k l : Additions) (result : Result (Unit {0}) EncodeError) → x.failed ≡ false → k ≡ o.additions →
     AppendsBits k.opens (open_bits (variant_of x.codec) (Some (placed_bits x.pieces.list 0))) l.opens → l ≡ record k { opens = l.opens } → w.pieces ≡ o.pieces → w.failed ≡ x.failed → w.codec ≡ x.codec →

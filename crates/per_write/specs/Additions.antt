@@ -142,6 +142,16 @@ pub record PutsAddition (k : Additions) (before : Pieces) (x : State) (result : 
   pub fails : OnErr result (y.failed ≡ true)
   pub kept : y.codec ≡ x.codec
 
+-- A call that puts the contents of an open type behind the open types of other additions.
+pub record PutsContents (k : Additions) (contents : Bits) (x : State) (result : Result Additions EncodeError)
+    (y : State) : Type 0 where
+  pub opens : IfOk result (λ l. AppendsBits k.opens (open_bits (variant_of x.codec) (Some contents)) l.opens)
+  pub others : IfOk result (λ l. l ≡ record k { opens = l.opens })
+  pub same : OnOk result (y ≡ x)
+  pub err : IfErr result (λ e. IsMemory e x)
+  pub fails : OnErr result (y.failed ≡ true)
+  pub kept : y.codec ≡ x.codec
+
 -- A call that closes the open type of an addition.
 pub record ClosesOrNot (is_there : Bool) (outside : OutsideAddition) (x : State)
     (result : Result (Unit {0}) EncodeError) (y : State) : Type 0 where

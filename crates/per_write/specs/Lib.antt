@@ -3,6 +3,7 @@ pub mod Choices
 pub mod Components
 pub mod Characters
 pub mod Faults
+pub mod Gathered
 pub mod Items
 pub mod Names
 pub mod Numbers

@@ -2,16 +2,18 @@
 //! open, and stand behind the root when it is closed.
 
 ghost use Rattle.std.specs.Prelude.{◌≡◌, length, true, false, nat_lt, Some};
-ghost use Rattle.per_core.specs.Canon.{any_set};
 ghost use Rattle.per_core.specs.Writers.{padding};
 ghost use Rattle.per_pieces.specs.Pieces.{placed_bits};
 ghost use Rattle.per_write.specs.Additions.{ClosesOrNot as ClosesOpenType, GivesOrNot, is_group_there};
-ghost use Rattle.per_write.specs.Additions.{OpensOrNot as OpensOpenType, PutsAddition, SkipsOrNot, TakesOrNot};
+ghost use Rattle.per_write.specs.Additions.{OpensOrNot as OpensOpenType, PutsAddition, PutsContents};
+ghost use Rattle.per_write.specs.Additions.{SkipsOrNot, TakesOrNot};
 ghost use Rattle.per_write.specs.Faults.{IsMemory};
 ghost use Rattle.per_write.specs.Records.{KeepsOrNot, PutsAdditions};
 ghost use Rattle.per_write.specs.State.{PutsIn};
 
 use crate::error::{EncodeError, EncodeErrorKind};
+use crate::flags::{GatheredFlags, has_one};
+use crate::open_types::{SHORT_CONTENTS, into_short_open_type};
 use crate::presences::Presences;
 use crate::{Writer, cleared_or_new, no_bits};
 use per_bits::{BitList, BitReader};
@@ -29,7 +31,7 @@ pub struct Additions<A: Allocator + Clone> {
     /// How many additions the schema has.
     count: usize,
     /// A bit for each that was given so far: whether it is there.
-    flags: BitList<A>,
+    flags: GatheredFlags<A>,
     /// The open types of those that are there, one behind another.
     opens: BitList<A>,
 }
@@ -65,8 +67,13 @@ impl<A: Allocator + Clone> Writer<A> {
         requires { self.old.failed ≡ false }
         ensures { SkipsOrNot self.old result self.new }
     {
-        let additions = self.take_additions()?;
-        self.give_addition(additions, false)?;
+        let pushed = match &mut self.additions {
+            Some(additions) if additions.is_left() => {
+                additions.flags.push(false, self.pieces.bits())
+            }
+            _ => return Err(self.refuse(EncodeErrorKind::TooManyAdditions)),
+        };
+        self.unless_out_of_memory(pushed)?;
         Ok(())
     }
 
@@ -131,14 +138,33 @@ impl<A: Allocator + Clone> Writer<A> {
     }
 
     /// Puts what was written, as the contents of an open type (X.691 11.2), behind the open types of other additions.
-    /// What was written before is there again.
+    /// Where there is none, short contents become it in their own memory. What was written before is there again.
     fn put_addition(
         &mut self,
-        additions: Additions<A>,
+        mut additions: Additions<A>,
         before: Pieces<A>,
     ) -> Result<Additions<A>, EncodeError>
         requires { self.old.failed ≡ false }
         ensures { PutsAddition additions before self.old result self.new }
+    {
+        let contents = mem::replace(&mut self.pieces, before).into_placed();
+        let contents = self.unless_out_of_memory(contents)?;
+        if !additions.opens.is_empty() || contents.len() > SHORT_CONTENTS {
+            return self.put_behind(additions, contents);
+        }
+        let opens = into_short_open_type(contents);
+        additions.opens = self.unless_out_of_memory(opens)?;
+        Ok(additions)
+    }
+
+    /// Puts the contents of an open type (X.691 11.2) behind the open types of other additions.
+    fn put_behind(
+        &mut self,
+        additions: Additions<A>,
+        contents: BitList<A>,
+    ) -> Result<Additions<A>, EncodeError>
+        requires { self.old.failed ≡ false }
+        ensures { PutsContents additions contents self.old result self.new }
     {
         let Additions {
             extension,
@@ -146,8 +172,7 @@ impl<A: Allocator + Clone> Writer<A> {
             flags,
             opens,
         } = additions;
-        let contents = mem::replace(&mut self.pieces, Pieces::from_bits(opens)).into_placed();
-        let contents = self.unless_out_of_memory(contents)?;
+        let before = mem::replace(&mut self.pieces, Pieces::from_bits(opens));
         self.put_open_type(&contents)?;
         self.scratch = Some(contents);
         let opens = mem::replace(&mut self.pieces, before).into_placed();
@@ -176,14 +201,12 @@ impl<A: Allocator + Clone> Writer<A> {
         let extension = self.pieces.len();
         let pushed = self.pieces.push(false);
         self.unless_out_of_memory(pushed)?;
-        let flags = no_bits(self.pieces.bits());
-        let flags = self.unless_out_of_memory(flags)?;
         let opens = no_bits(self.pieces.bits());
         let opens = self.unless_out_of_memory(opens)?;
         Ok(Some(Additions {
             extension,
             count,
-            flags,
+            flags: GatheredFlags::new(),
             opens,
         }))
     }
@@ -207,7 +230,7 @@ impl<A: Allocator + Clone> Writer<A> {
         ensures { GivesOrNot is_there additions self.old result self.new }
     {
         let mut additions = additions;
-        let pushed = additions.flags.push(is_there);
+        let pushed = additions.flags.push(is_there, self.pieces.bits());
         self.unless_out_of_memory(pushed)?;
         self.additions = Some(additions);
         Ok(())
@@ -223,13 +246,16 @@ impl<A: Allocator + Clone> Writer<A> {
         if additions.flags.len() != additions.count as u128 {
             return Err(self.refuse(EncodeErrorKind::OutOfTurn));
         }
-        if !has_one(&additions.flags) {
+        if !additions.flags.has_one() {
             return Ok(());
         }
         self.pieces.set(additions.extension, true);
         self.put_bitmap(&additions.flags, additions.count)?;
         self.put_padding()?;
-        self.put_reader(&BitReader::new(&additions.opens))
+        let opens = additions.opens;
+        self.put_reader(&BitReader::new(&opens))?;
+        self.scratch = Some(opens);
+        Ok(())
     }
 
     /// Writes zero bits up to the next octet in the aligned variant.
@@ -251,16 +277,4 @@ impl<A: Allocator + Clone> Additions<A> {
     {
         self.flags.len() < self.count as u128
     }
-}
-
-/// Whether one of the bits is 1.
-fn has_one<A: Allocator>(bits: &BitList<A>) -> bool
-    ensures { result ≡ any_set bits.now }
-{
-    for index in 0..bits.len() {
-        if bits.get(index).unwrap_or(false) {
-            return true;
-        }
-    }
-    false
 }

@@ -21,6 +21,7 @@ mod bitmaps;
 pub mod choices;
 mod components;
 pub mod error;
+mod flags;
 pub mod items;
 pub mod lists;
 pub mod numbers;
@@ -58,7 +59,8 @@ pub struct Writer<A: Allocator + Clone> {
     additions: Option<Additions<A>>,
     /// Whether a SEQUENCE, a SET, a CHOICE, a list or a bag is open.
     is_open: bool,
-    /// The contents of the last open type, where it isn't in use. No contract speaks of it: only its memory counts.
+    /// Bits that aren't in use any more, in whose memory the contents of the next open type are written. No contract
+    /// speaks of them.
     scratch: Option<BitList<A>>,
 }
 

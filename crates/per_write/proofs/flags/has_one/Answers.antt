@@ -2,7 +2,7 @@ use Rattle.std.proofs.Common.{◌+◌, ◌≤◌, ◌∙◌, ◌||◌, sym, ap, 
 use Rattle.std.specs.Prelude.{unwrap_or}
 use Rattle.per_core.specs.Canon.{any_set}
 use Rattle.per_write.proofs.BitmapsWritten.{next_set, none_past}
-use Rattle.per_write.proofs.additions.has_one.Goals as goal
+use Rattle.per_write.proofs.flags.has_one.Goals as goal
 
 pub loop-index-preserved : goal.loop-index-preserved
 loop-index-preserved g c =
