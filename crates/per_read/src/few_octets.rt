@@ -54,7 +54,7 @@ impl Reader<'_> {
     /// Takes octets and their length as one field, where no padding precedes them and there are from 1 to 6. Else
     /// `None`, and nothing is taken.
     #[inline(always)]
-    fn take_octets_at_once(&mut self) -> Option<FewOctets>
+    pub fn take_octets_at_once(&mut self) -> Option<FewOctets>
         ensures took { OfFew (settings_of self.old) self.old.bits self.new.bits result }
         ensures kept { self.new.options ≡ self.old.options }
     {

@@ -54,9 +54,7 @@ fn take_short_unconstrained<I: IntegerType>(reader: &mut Reader<'_>) -> Option<I
     ensures { IfSome result
         (λ i. TakesInteger unbounded false I.range I.number reader.old (Ok i) reader.new) }
 {
-    let Ok(Some(octets)) = reader.take_few_octets() else {
-        return None;
-    };
+    let octets = reader.take_octets_at_once()?;
     I::try_from_i128(octets.signed())
 }
 
