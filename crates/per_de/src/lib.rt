@@ -783,6 +783,7 @@ impl<'input> Decoder<'input> {
 
     /// Enters the open type of an alternative that stands behind the extension marker (X.691 23.8), and answers what
     /// waits outside it. One of the root has none.
+    #[inline(always)]
     fn open_alternative(&mut self, place: Place) -> Result<Option<Addition<'input>>, DecodeError>
         ensures { EntersAlternative (index_of place).0 self.old result self.new }
     {

@@ -6,8 +6,8 @@ use Rattle.rasn_types.specs.Codecs.{variant_of}
 use Rattle.rasn_types.specs.Values.{Value, truth, nothing, octets, whole}
 use Rattle.rasn_types.specs.Contents.{is_text, other, TextKind}
 use Rattle.rasn_types.specs.Variants.{Variant}
-use Rattle.rasn_constraints.specs.Bounds.{Bounds, unbounded}
-use Rattle.rasn_constraints.specs.Constraints.{bounds_in, is_marked}
+use Rattle.rasn_constraints.specs.Bounds.{Bounds, holds, unbounded}
+use Rattle.rasn_constraints.specs.Constraints.{bounds_in, bounds_of, is_marked}
 use Rattle.rasn_constraints.specs.declared.constraints.Bounded.{Bounded}
 use Rattle.rasn_constraints.specs.declared.constraints.Extensible.{Extensible}
 use Rattle.rasn_schema.specs.Schemas.{Schema}
@@ -21,7 +21,9 @@ use Rattle.per_write.specs.declared.error.EncodeError.{EncodeError}
 use Rattle.per_write.specs.Faults.{IsMemory, IsAlready, RefusesValue, Stands}
 use Rattle.per_write.specs.Numbers.{unconstrained_whole}
 use Rattle.per_write.specs.Rules.{encoder_rules}
-use Rattle.per_write.specs.State.{State, StateAppends, Puts, Presents, view}
+use Rattle.per_write.specs.State.{State, StateAppends, Puts, PutsIn, Presents, view}
+use Rattle.per_write_types.specs.Integers.{IsBetween}
+use Rattle.per_write_types.specs.declared.integers.Between.{Between}
 
 -- how a call behaves that an unfailed encoder makes
 pub behaves : (x y : State) (result : Result (Unit {0}) EncodeError) → x.failed ≡ false → OnErr result (y.failed ≡ true) → y.codec ≡ x.codec →
@@ -60,6 +62,19 @@ pub unbounded_law : (x y : State) (value : Option (Extensible (Bounded ℤ))) (r
     Writes encoder_rules (Schema.number (bounds_in value) (is_marked value) range) (whole z) x result y
 unbounded_law x y value range z result n f p =
     rw n (writes x y (unconstrained_whole (variant_of x.codec) range z) (Schema.number unbounded false range) (whole z) result (unbounded_bits (variant_of x.codec) range z) f p)
+
+-- X.691 13.2: a number between two bounds
+between_bits : (a : Variant) (b range : Bounds) (z : ℤ) → holds range z ≡ true → holds b z ≡ true → number_under a b.low b.high z ≡ canon a (Schema.number b false range) (whole z)
+unfolding canon number_form
+between_bits a b range z h k = sym (rw (h, k) refl)
+
+pub between_law : (x y : State) (stated : Extensible (Bounded ℤ)) (range : Bounds) (z : ℤ) (b : Between) (result : Result (Unit {0}) EncodeError) → x.failed ≡ false → IsBetween stated range z b →
+    PutsIn IsMemory (λ a. number_under a (Some b.lower) (Some b.upper) b.number) x result y → Writes encoder_rules (Schema.number (bounds_of stated.constraint) stated.extensible range) (whole z) x result y
+between_law x y stated range z b result f i p =
+    let bounds = bounds_of stated.constraint in
+    let a = variant_of x.codec in
+    let same : number_under a (Some b.lower) (Some b.upper) b.number ≡ number_under a bounds.low bounds.high z = rw (i.low, i.high, i.is) refl in
+    rw i.unmarked (writes x y (number_under a (Some b.lower) (Some b.upper) b.number) (Schema.number bounds false range) (whole z) result (same ∙ between_bits a bounds range z i.held i.within) f p)
 
 -- X.691 11.2: octets of a type that isn't known
 any_bits : (a : Variant) (os : List ℕ) → unconstrained_octets a os ≡ canon a Schema.any (octets os)

@@ -20,7 +20,7 @@ use per_write_types::choices::{OutsideChoice, checked_place, close_choice, open_
 use per_write_types::dates::put_date;
 use per_write_types::enumerated::put_enumerated;
 use per_write_types::identifiers::put_object_identifier;
-use per_write_types::integers::put_integer;
+use per_write_types::integers::{Between, number_between, put_integer};
 use per_write_types::times::{put_generalized_time, put_utc_time};
 use rasn_schema::choices::Choice;
 use rasn_schema::enumerated::Enumerated;
@@ -239,7 +239,16 @@ impl<A: Allocator + Clone> encoder::Encoder for Encoder<A> {
     ) -> Result<(), EncodeError> {
         self.begin_value()?;
         match constraints.value() {
-            Some(stated) => put_integer(&mut self.writer, stated, value),
+            Some(stated) => match number_between(&stated, value) {
+                Some(
+                    Between {
+                        lower,
+                        upper,
+                        number,
+                    },
+                ) => self.writer.put_number(Some(lower), Some(upper), number),
+                None => put_integer(&mut self.writer, stated, value),
+            },
             None => self.writer.put_unconstrained_whole(value),
         }
     }

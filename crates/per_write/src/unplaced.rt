@@ -35,6 +35,7 @@ impl<A: Allocator + Clone> Model for OutsideUnplaced<A> {
 impl<A: Allocator + Clone> Writer<A> {
     /// What is written from now on has no place yet. Answers what waits until `close_unplaced`. The only error is want
     /// of memory.
+    #[inline(always)]
     pub fn open_unplaced(&mut self) -> Result<OutsideUnplaced<A>, EncodeError>
         requires { self.old.failed ≡ false }
         ensures { BeginsUnplacedOrNot self.old result self.new }
@@ -50,6 +51,7 @@ impl<A: Allocator + Clone> Writer<A> {
     }
 
     /// Takes out what was written since `open_unplaced`; what waited is there again.
+    #[inline(always)]
     pub fn close_unplaced(&mut self, waiting: OutsideUnplaced<A>) -> Pieces<A>
         ensures taken { result ≡ self.old.pieces }
         ensures outside { self.new ≡ record self.old { pieces = waiting.pieces; scope = waiting.scope } }

@@ -37,6 +37,7 @@ impl<A: Allocator + Clone> Model for OutsideChoice<A> {
 
 /// Opens a CHOICE of so many root alternatives, and, where it has an extension marker, of so many added ones.
 /// Answers what waits outside until the CHOICE is closed. The only error is want of memory.
+#[inline(always)]
 pub fn open_choice<A: Allocator + Clone>(
     writer: &mut Writer<A>,
     roots: usize,
@@ -55,6 +56,7 @@ pub fn open_choice<A: Allocator + Clone>(
 /// index are known now, and a value without a place is put behind them, that of an added alternative in an open
 /// type (X.691 23.5 to 23.8). What waited outside is there again. An added alternative that was written in place is
 /// refused.
+#[inline(always)]
 pub fn close_choice<A: Allocator + Clone>(
     writer: &mut Writer<A>,
     roots: usize,
@@ -110,6 +112,7 @@ fn open_in_place<A: Allocator + Clone>(
 }
 
 /// Opens a CHOICE of added alternatives too: the one that is written has no place yet.
+#[inline(always)]
 fn open_without_place<A: Allocator + Clone>(
     writer: &mut Writer<A>,
 ) -> Result<OutsideChoice<A>, EncodeError>
@@ -140,6 +143,7 @@ fn close_in_place<A: Allocator + Clone>(
 }
 
 /// Closes a CHOICE whose alternative was written before its place was known.
+#[inline(always)]
 fn close_without_place<A: Allocator + Clone>(
     writer: &mut Writer<A>,
     roots: usize,
@@ -158,6 +162,7 @@ fn close_without_place<A: Allocator + Clone>(
 }
 
 /// Writes a root alternative of a CHOICE with an extension marker (X.691 23.5 to 23.7).
+#[inline(always)]
 fn put_root_alternative<A: Allocator + Clone>(
     writer: &mut Writer<A>,
     roots: usize,
@@ -189,6 +194,7 @@ fn put_added_alternative<A: Allocator + Clone>(
 }
 
 /// Writes the index of one of so many root alternatives (X.691 23.6).
+#[inline(always)]
 fn put_index<A: Allocator + Clone>(
     writer: &mut Writer<A>,
     roots: usize,

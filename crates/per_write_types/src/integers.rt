@@ -1,13 +1,13 @@
 //! INTEGER (X.691 13).
 
-ghost use Rattle.std.specs.Prelude.{◌≡◌, ◌<ℤ◌, ◌↔◌, IsTrue, pos, true, false, IfOk};
+ghost use Rattle.std.specs.Prelude.{◌≡◌, ◌<ℤ◌, ◌↔◌, IsTrue, pos, true, false, IfOk, IfSome};
 ghost use Rattle.rasn_types.specs.Octets.{signed};
 ghost use Rattle.rasn_types.specs.Values.{whole};
 ghost use Rattle.rasn_constraints.specs.Bounds.{holds};
 ghost use Rattle.rasn_traits.specs.Calls.{Writes};
 ghost use Rattle.rasn_constraints.specs.Constraints.{bounds_of};
 ghost use Rattle.per_write.specs.Rules.{encoder_rules};
-ghost use Rattle.per_write_types.specs.Integers.{PutsWithin, stated_number};
+ghost use Rattle.per_write_types.specs.Integers.{IsBetween, PutsWithin, stated_number};
 
 use per_bits::BitList;
 use per_errors::bounds::OutOfBounds;
@@ -40,9 +40,42 @@ fn put_within<A: Allocator + Clone, I: IntegerType>(
     writer.put_number(lower, upper, number)
 }
 
+/// A number and the two bounds that it is within.
+pub struct Between {
+    /// The lower bound.
+    pub lower: i128,
+    /// The upper bound.
+    pub upper: i128,
+    /// The number.
+    pub number: i128,
+}
+
+/// A number and its bounds, where there are both, it is within them, and no extension bit precedes it (X.691 13.2.1,
+/// 13.2.2): then `Writer::put_number` writes it. Else `None`.
+#[inline(always)]
+pub fn number_between<I: IntegerType>(
+    stated: &Extensible<Bounded<i128>>,
+    value: &I,
+) -> Option<Between>
+    ensures { IfSome result (λ b. IsBetween stated.now I.range (I.number value.now) b) }
+{
+    let (Some(lower), Some(upper)) = stated.constraint.start_and_end() else {
+        return None;
+    };
+    let number = value.to_i128()?;
+    if stated.extensible || !stated.constraint.contains(&number) {
+        return None;
+    }
+    Some(Between {
+        lower,
+        upper,
+        number,
+    })
+}
+
 /// Writes an INTEGER under a value constraint (X.691 13): where the constraint is extensible, behind a bit that
 /// says whether the number is outside.
-#[inline(always)]
+#[inline(never)]
 pub fn put_integer<A: Allocator + Clone, I: IntegerType>(
     writer: &mut Writer<A>,
     stated: Extensible<Bounded<i128>>,
