@@ -226,8 +226,8 @@ impl Flags {
     }
 }
 
-/// What is still to be read of the bitmap of the open SEQUENCE's additions (X.691 19.7). The presence bits that are left
-/// are no `Flags` here, which would make it larger.
+/// What is still to be read of the bitmap of the open SEQUENCE's additions (X.691 19.7). The presence bits that are
+/// left are no `Flags` here, which would make it larger.
 #[derive(Drop)]
 pub(crate) enum Extension {
     /// All of it: it stands behind the root components.

@@ -56,7 +56,7 @@ impl Reader<'_> {
     }
 
     /// Takes a number with both bounds, as `take_number` does, where it is written in one field. `None` says nothing of
-    /// the number, and leaves the reader of no further use. No error is made, and so no room for one is looked after.
+    /// the number, and leaves the reader of no further use. No error is made, and so none needs room.
     #[inline(always)]
     pub fn take_short_between(&mut self, lower: i128, upper: i128) -> Option<ReadNumber>
         ensures { let form = λ (a : Settings). under_bounds a (Some lower) (Some upper) in
@@ -134,7 +134,8 @@ impl Reader<'_> {
         }
     }
 
-    /// Takes one of the numbers from 0 to `greatest`, as `take_constrained_whole` does, where it is written in one field.
+    /// Takes one of the numbers from 0 to `greatest`, as `take_constrained_whole` does, where it is written in one
+    /// field.
     #[inline(always)]
     pub fn take_short_whole(&mut self, greatest: u128) -> Option<u128>
         ensures { let form = λ (a : Settings). constrained_form a (greatest + 1) in

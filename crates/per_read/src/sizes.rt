@@ -150,7 +150,7 @@ impl Reader<'_> {
     }
 
     /// Takes items under a size as `take_items` does, where their count is written in one field. `None` says nothing of
-    /// them, and leaves the reader of no further use. No error is made, and so no room for one is looked after.
+    /// them, and leaves the reader of no further use. No error is made, and so none needs room.
     #[inline(always)]
     pub(crate) fn take_short_items<C: Collector>(
         &mut self,

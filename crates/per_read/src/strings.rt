@@ -54,8 +54,8 @@ impl Reader<'_> {
     }
 
     /// Skips an OCTET STRING as `skip_octet_string` does, where it comes with one count alone or with none, without an
-    /// extension bit. `None` says nothing of it, and leaves the reader of no further use. No error is made, and so no
-    /// room for one is looked after.
+    /// extension bit. `None` says nothing of it, and leaves the reader of no further use. No error is made, and so none
+    /// needs room.
     #[inline(always)]
     pub fn skip_short_octet_string(&mut self, constraints: &Constraints) -> Option<usize>
         ensures { let size = size_of constraints.now in let mark = is_size_marked constraints.now in

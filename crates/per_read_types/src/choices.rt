@@ -29,8 +29,7 @@ pub fn take_choice_index(
 }
 
 /// Takes the index of a root alternative as `take_choice_index` does, where it is written in one field. `None` says
-/// nothing of the index, and leaves the reader of no further use. No error is made, and so no room for one is looked
-/// after.
+/// nothing of the index, and leaves the reader of no further use. No error is made, and so none needs room.
 #[inline(always)]
 pub fn take_root_index(
     reader: &mut Reader<'_>,

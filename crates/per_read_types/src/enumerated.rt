@@ -24,8 +24,7 @@ pub fn take_enumerated<E: Enumerated>(reader: &mut Reader<'_>) -> Result<E, Deco
 }
 
 /// Takes an item as `take_enumerated` does, where it stands before the extension marker and is written in one field.
-/// `None` says nothing of the item, and leaves the reader of no further use. No error is made, and so no room for one is
-/// looked after.
+/// `None` says nothing of the item, and leaves the reader of no further use. No error is made, and so none needs room.
 #[inline(always)]
 pub fn take_root_item<E: Enumerated>(reader: &mut Reader<'_>) -> Option<E>
     ensures { IfSome result (λ x. Takes (telling (λ a. IsOfItem a E.roots E.addeds E.EXTENSIBLE))
@@ -82,7 +81,8 @@ pub(crate) fn take_root_place(
     Ok(usize::try_from(code).ok())
 }
 
-/// Takes a place among `count` items before the extension marker, as `take_place` does, where it is written in one field.
+/// Takes a place among `count` items before the extension marker, as `take_place` does, where it is written in one
+/// field.
 #[inline(always)]
 pub(crate) fn take_short_place(reader: &mut Reader<'_>, count: usize) -> Option<usize>
     ensures { let form = λ (a : Settings). constrained_form a count in

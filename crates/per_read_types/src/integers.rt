@@ -28,9 +28,9 @@ pub fn take_integer<I: IntegerType>(
     }
 }
 
-/// Takes an INTEGER as `take_integer` does, where it is written in one field or in few octets, without an extension bit.
-/// `None` says nothing of the number, and leaves the reader of no further use. No error is made, and so no room for one
-/// is looked after.
+/// Takes an INTEGER as `take_integer` does, where it is written in one field or in few octets, and behind no extension
+/// bit. `None` says nothing of the number, and leaves the reader of no further use. No error is made, and so none needs
+/// room.
 #[inline(always)]
 pub fn take_short_integer<I: IntegerType>(
     reader: &mut Reader<'_>,
