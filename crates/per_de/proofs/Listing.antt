@@ -1,5 +1,5 @@
 -- What opening a list and going on in it take, and why they refuse (ITU-T X.691, 20).
-use Rattle.std.proofs.Common.{◌≡◌, inr, refl, sym, ◌∙◌, ap, subst, ℕ, suc, Bool, true, false, List, length, arith}
+use Rattle.std.proofs.Common.{◌≡◌, inr, refl, sym, ◌∙◌, ap, subst, ℕ, suc, Bool, true, false, List, length, drop, ◌-◌, arith}
 use Rattle.std.specs.Prelude.{Result, Ok, Err}
 use Rattle.rasn_types.specs.Bits.{Bits}
 use Rattle.rasn_types.specs.Values.{Value}
@@ -27,7 +27,7 @@ use Rattle.per_decoding.specs.Faults.{Answered, IsOf, in_element, refusal}
 use Rattle.per_de.specs.Lists.{IsOpenList}
 use Rattle.per_decoding.specs.Rules.{decoder_rules}
 use Rattle.per_decoding.specs.Laws.Spelled.{spelled}
-use Rattle.per_decoding.specs.State.{State, Spells, reader_of, settings_of, with_bits}
+use Rattle.per_decoding.specs.State.{State, Spells, reader_of, settings_of, with_bits, with_last}
 use Rattle.per_de.specs.declared.ListScope.{ListScope}
 use Rattle.per_de.proofs.Calls.{refuses}
 use Rattle.per_de.proofs.FewBefore.{one_more_few, took_up_to_few}
@@ -150,3 +150,7 @@ module _ {e : Schema} {size : Size} {mark : Bool} {s : State} {vs : List Value} 
         in_element = λ d k. record { codec = k.codec ∙ same_codec; stands = of_element d.kind w k.stands };
         room = λ d k. k ∙ ap (λ c. record { kind = OutOfMemory; codec = c }) same_codec;
       })
+
+-- a state of which all bits are left
+pub whole_left : (s : State) → s ≡ with_last s (length s.bits)
+whole_left s = ap (λ (n : ℕ). with_bits s (drop n s.bits)) {x = 0} {y = length s.bits - length s.bits} (omega arith)

@@ -1262,6 +1262,9 @@ impl<'input> decoder::Decoder for Decoder<'input> {
 
     fn next_element(&mut self, scope: &mut ListScope) -> Result<bool, DecodeError> {
         self.check_unfailed()?;
+        if scope.list.go_on() {
+            return Ok(true);
+        }
         let mut reader = self.reader();
         let taken = reader.next_element(&mut scope.list);
         let left = reader.bits().len();

@@ -1,9 +1,10 @@
 //! SEQUENCE OF, whose elements are read one after another from outside (X.691 20).
 
-ghost use Rattle.std.specs.Prelude.{◌≡◌, true, false, OnOk};
+ghost use Rattle.std.specs.Prelude.{◌≡◌, true, false, Ok, OnOk, IsTrue};
 ghost use Rattle.rasn_constraints.specs.Constraints.{size_between};
 ghost use Rattle.rasn_schema.specs.Forms.{is_size_marked, size_of};
 ghost use Rattle.per_read.specs.Lists.{BeginsFragment, OpensList, ReadsNext};
+ghost use Rattle.per_read.specs.State.{State};
 
 use crate::Reader;
 use crate::error::DecodeErrorKind;
@@ -21,6 +22,23 @@ pub struct UnreadElements {
     left: usize,
     // Whether a further length stands behind these.
     more: bool,
+}
+
+impl UnreadElements {
+    /// Goes on to the next element where it stands behind a length that was read, as `Reader::next_element` does, which
+    /// then takes no bits. Else nothing changes.
+    #[inline(always)]
+    pub fn go_on(&mut self) -> bool
+        ensures goes { IsTrue result → (reader : State) → ReadsNext self.old reader (Ok true) self.new reader }
+        ensures stays { result ≡ false → self.new ≡ self.old }
+    {
+        let (Some(left), Some(count)) = (self.left.checked_sub(1), self.count.checked_add(1)) else {
+            return false;
+        };
+        self.left = left;
+        self.count = count;
+        true
+    }
 }
 
 impl Reader<'_> {
