@@ -1,6 +1,6 @@
 -- What one octet more, or one number more, makes of a word and of octets.
 use Rattle.std.proofs.Common.{Fits, w8, zero, suc, ◌≡◌, sym, ap, ap₂, ◌∙◌, subst, ℕ, ◌+◌, ◌-◌, ◌*◌, ◌/◌, ◌%◌, ◌^◌, ◌<◌, ◌≤◌, false, List, [], ◌∷◌, ◌++◌, length, take, drop, replicate, get_or, arith, pow_pos, pow-add, mod-eq_of_lt, mod-lt, append_assoc, append-nil, length-append, bit_or, mul_assoc, length-take}
-use Rattle.std.proofs.lemmas.List.{set_split, drop_all, take_at, take-replicate, take_more, take_all, take-append-le, take-take, take-append-drop}
+use Rattle.std.proofs.lemmas.List.{set_split, drop_all, drop_at, drop-drop, get_or-drop, length-drop, take_at, take-replicate, take_more, take_all, take-append-le, take-take, take-append-drop}
 use Rattle.std.proofs.lemmas.Nat.{mul-le, shl_whole, or_shifted, shl_below, shr_below, shr-shr, be_bytes_4}
 use Rattle.std.proofs.Math.Seq.{take-append-add}
 use Rattle.std.proofs.Math.Nat.{add-mul}
@@ -11,7 +11,7 @@ use Rattle.rasn_types.proofs.Bits.{length-to_bits, length-unpack, unpack-append,
 use Rattle.rasn_types.proofs.Packing.{unpack-take}
 use Rattle.per_bits.specs.Octets.{word_size, first_word, filled, AreFilledBy}
 use Rattle.per_bits.proofs.Readers.{filled_all}
-use Rattle.per_bits.proofs.Words.{word_size-is, to_bits-join, to_bits-zeros, unpack-bytes, octets_taken, first_word-short, inner-first_word, part_bits}
+use Rattle.per_bits.proofs.Words.{word_size-is, to_bits-join, to_bits-zeros, unpack-bytes, octets_taken, first_word-short, inner-first_word, part_bits, unpack-drop}
 
 -- ---- a number below a power, and another behind it
 
@@ -82,6 +82,36 @@ front_and_rest k n r os h l f b e = front_word k n (r / 2 ^ (8 * k)) os h (shr_b
 -- the number of four octets
 pub unpack-half : (n : ℕ) (os qs : List ℕ) → 4 ≤ length os → qs ≡ take 4 os → ((i : ℕ) → Fits w8 (get_or os i 0)) → n ≡ from_be_bytes w32 qs → to_bits (8 * 4) n ≡ unpack (take 4 os)
 unpack-half n os qs h e f i = sym (unpack-bytes 4 n) ∙ ap unpack (be_bytes_4 qs n (ap length e ∙ length-take 4 os ∙ omega arith) (octets_taken 4 os qs h e f) i ∙ e)
+
+-- the number of the last four octets of fewer than eight, moved up, has the bits of those behind the first four
+pub last_four : (n : ℕ) (os qs : List ℕ) → 4 ≤ length os → length os < 8 → qs ≡ drop (length os - 4) os → ((i : ℕ) → Fits w8 (get_or os i 0)) → n ≡ from_be_bytes w32 qs
+    → to_bits word_size (n * 2 ^ (96 - 8 * length os) % 2 ^ 64) ≡ first_word (drop 4 os)
+last_four n os qs h l e f i = to_bits-same word_size (moved % 2 ^ 64) moved (ap (λ (m : ℕ). moved % 2 ^ 64 % 2 ^ m) word_size-is ∙ mod-eq_of_lt (mod-lt moved (pow_pos 64)) ∙ ap (λ (m : ℕ). moved % 2 ^ m) (sym word_size-is))
+    ∙ ap₂ to_bits (let j : word_size ≡ mine + left = omega (arith, word_size-is) in j) (let j : moved ≡ n * 2 ^ left + 0 = omega arith in j)
+    ∙ to_bits-join mine left n 0 (pow_pos left) ∙ ap₂ (λ bs cs. bs ++ cs) low (to_bits-zeros left ∙ ap (λ (m : ℕ). replicate m false) (let j : left ≡ 64 - 8 * length (drop 4 os) = omega (arith, length-drop 4 os) in j))
+    ∙ sym (first_word-short (drop 4 os) (omega (arith, length-drop 4 os)))
+  where
+    left : ℕ
+    left = 96 - 8 * length os
+
+    mine : ℕ
+    mine = 8 * length os - 32
+
+    gone : ℕ
+    gone = 8 - length os
+
+    moved : ℕ
+    moved = n * 2 ^ left
+
+    small : (i : ℕ) → get_or qs i 0 < 256
+    small i = subst (λ (m : ℕ). m < 256) (sym (ap (λ ps. get_or ps i 0) e ∙ get_or-drop (length os - 4) os i 0)) (omega (arith, f (length os - 4 + i)))
+
+    whole : to_bits (8 * gone + mine) n ≡ unpack qs
+    whole = ap (λ (m : ℕ). to_bits m n) (let j : 8 * gone + mine ≡ 8 * 4 = omega arith in j) ∙ sym (unpack-bytes 4 n) ∙ ap unpack (be_bytes_4 qs n (ap length e ∙ length-drop (length os - 4) os ∙ omega arith) small i)
+
+    low : to_bits mine n ≡ unpack (drop 4 os)
+    low = sym (drop_at (to_bits (8 * gone) (n / 2 ^ mine)) (to_bits mine n) (8 * gone) (length-to_bits (8 * gone) (n / 2 ^ mine))) ∙ ap (λ bs. drop (8 * gone) bs) (sym (to_bits-split (8 * gone) mine n) ∙ whole)
+        ∙ unpack-drop gone qs ∙ ap unpack (ap (λ ps. drop gone ps) e ∙ drop-drop gone (length os - 4) os ∙ ap (λ (m : ℕ). drop m os) (let j : length os - 4 + gone ≡ 4 = omega arith in j))
 
 -- ---- what `part` answers
 

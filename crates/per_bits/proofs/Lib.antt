@@ -1,3 +1,5 @@
+pub mod Eights
+pub mod Lanes
 pub mod Joins
 pub mod Loops
 pub mod Packs
@@ -5,6 +7,7 @@ pub mod Readers
 pub mod Room
 pub mod Sets
 pub mod Shifts
+pub mod Spreads
 pub mod Words
 pub mod LowBits
 pub mod Spare

@@ -1,6 +1,6 @@
 -- The low bits of each of some octets.
 use Rattle.std.proofs.Common.{◌≡◌, refl, sym, ap, ap₂, ◌∙◌, subst, ℕ, ◌+◌, ◌-◌, ◌*◌, ◌%◌, ◌^◌, ◌<◌, ◌≤◌, List, [], ◌∷◌, ◌++◌, length, take, drop, get_or, slice_range, arith, pow_pos, mod-eq_of_lt, mod-lt, append_assoc, append-nil, length-append, length-take, bit_or}
-use Rattle.std.proofs.lemmas.List.{drop-drop, length-drop, take_more, take-append-drop}
+use Rattle.std.proofs.lemmas.List.{drop-drop, length-drop, take_at, take_more, take-append-drop}
 use Rattle.std.proofs.lemmas.Nat.{mul-le}
 use Rattle.std.proofs.Math.Nat.{mul-add, mul-suc}
 use Rattle.rasn_types.specs.Bits.{to_bits, unpack}
@@ -24,6 +24,10 @@ low-eight (o ∷ os) = ap (λ bs. to_bits 8 o ++ bs) (low-eight os)
 
 pub low-split : (w k : ℕ) (os : List ℕ) → low_bits_of w os ≡ low_bits_of w (take k os) ++ low_bits_of w (drop k os)
 low-split w k os = ap (low_bits_of w) (sym (take-append-drop k os)) ∙ low-append w (take k os) (drop k os)
+
+-- the low bits of the first octets
+pub low-take : (w k : ℕ) (os : List ℕ) → k ≤ length os → low_bits_of w (take k os) ≡ take (w * k) (low_bits_of w os)
+low-take w k os h = sym (ap (take (w * k)) (low-split w k os) ∙ take_at (low_bits_of w (take k os)) (low_bits_of w (drop k os)) (w * k) (length-low w (take k os) ∙ ap (λ (n : ℕ). w * n) (length-take k os ∙ omega arith)))
 
 -- one octet more
 pub record OfOctets (w i field : ℕ) (os : List ℕ) : Type 0 where

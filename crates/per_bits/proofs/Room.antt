@@ -33,7 +33,7 @@ cut spare n os qs h e q = record {
       ∙ take-append-add (filled spare os) (replicate spare false) (spare % 8) ∙ ap (λ bs. filled spare os ++ bs) (take-replicate (spare % 8) spare false (omega arith));
 }
 
-unpack-zeros : (k : ℕ) → unpack (replicate k 0) ≡ replicate (8 * k) false
+pub unpack-zeros : (k : ℕ) → unpack (replicate k 0) ≡ replicate (8 * k) false
 unpack-zeros zero = refl
 unpack-zeros (suc k) = ap₂ (λ bs cs. bs ++ cs) (to_bits-zeros 8) (unpack-zeros k) ∙ replicate-append-replicate 8 (8 * k) false ∙ ap (λ (n : ℕ). replicate n false) (let e : 8 + 8 * k ≡ 8 * suc k = omega arith in e)
 

@@ -32,6 +32,10 @@ pub record HaveRoom (bits : Bits) (spare : ℕ) (octets : List ℕ) : Type 0 whe
 abbrev pub AreKept : ℕ → List ℕ → Type 0
 AreKept spare octets = HaveRoom (filled spare octets) spare octets
 
+-- only zeros stand in octets behind the first bits
+abbrev pub HaveZeros : ℕ → List ℕ → Type 0
+HaveZeros used octets = unpack octets ≡ take used (unpack octets) ++ replicate (8 * length octets - used) false
+
 -- `count` bits stand in octets behind `skip` others
 pub record AreWithin (skip count : ℕ) (octets : List ℕ) : Type 0 where
   pub few : skip < 8

@@ -24,6 +24,7 @@ pub enum Surplus {
 ///
 /// Fewer than eight bits may be left, whatever they are, or zero bits where `zero_padding` asks for these; they are
 /// looked at before whole octets that are left over. A value of no bits takes one octet, which is zero.
+#[inline(always)]
 pub fn ended(left: &BitReader<'_>, total: u128, zero_padding: bool) -> Result<(), Surplus>
     requires fits { length left.now.bits ≤ total }
     requires octets { total % 8 ≡ 0 }

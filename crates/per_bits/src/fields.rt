@@ -5,11 +5,12 @@
 //! takes their place; what is appended stands behind fewer than eight of them, and the function answers how many bits
 //! are spare then.
 
-ghost use Rattle.std.specs.Prelude.{◌≡◌, ◌+◌, ◌-◌, ◌*◌, ◌%◌, ◌^◌, ◌<◌, ◌≤◌, [], ◌∷◌, ◌++◌, length, take, drop, set};
-ghost use Rattle.std.specs.Prelude.{vec_len, vec_capacity, replicate, IfOk, OnOk, OnErr};
+ghost use Rattle.std.specs.Prelude.{◌≡◌, ◌+◌, ◌-◌, ◌*◌, ◌/◌, ◌%◌, ◌^◌, ◌<◌, ◌≤◌, [], ◌∷◌, ◌++◌, length, take, drop};
+ghost use Rattle.std.specs.Prelude.{set, vec_len, vec_capacity, replicate, false, IfOk, OnOk, OnErr};
 ghost use Rattle.rasn_types.specs.Bits.{to_bits, number_of, unpack};
+ghost use Rattle.per_bits.specs.Lanes.{low_of_each, ones_of, AreNarrow, Joined, Parted};
 ghost use Rattle.per_bits.specs.Octets.{word_size, first_word, filled, low_bits_of, AreFilledBy, AreKept, ArePadded};
-ghost use Rattle.per_bits.specs.Octets.{AreWithin, HaveRoom};
+ghost use Rattle.per_bits.specs.Octets.{AreWithin, HaveRoom, HaveZeros};
 
 use rasn_types::bit_string::note_octets;
 use std::alloc::{AllocError, Allocator};
@@ -17,33 +18,38 @@ use std::alloc::{AllocError, Allocator};
 /// The most bits of a field: those of a word less an octet, since up to seven other bits stand in its first octet.
 pub(crate) const FIELD_BITS: u32 = 56;
 
-/// A word that begins with the first `count` bits of the octets, the first the highest.
+/// The first eight octets as a word, the first the highest, zeros behind them where there are fewer.
 #[inline(always)]
-fn load_word(octets: &[u8], count: u32) -> u64
-    ensures { take count (to_bits word_size result) ≡ take count (first_word octets.now) }
+fn load_word(octets: &[u8]) -> u64
+    ensures { to_bits word_size result ≡ first_word octets.now }
 {
     match octets.first_chunk::<8>() {
         Some(chunk) => u64::from_be_bytes(*chunk),
-        None => load_short_word(octets, count),
+        None => load_short_word(octets),
     }
 }
 
-/// The same of fewer than eight octets. Those behind the fourth are read where bits stand in them.
-fn load_short_word(octets: &[u8], count: u32) -> u64
+/// The same of fewer than eight octets: of four and more, the first four and the last four, which may overlap.
+fn load_short_word(octets: &[u8]) -> u64
     requires { length octets.now < 8 }
-    ensures { take count (to_bits word_size result) ≡ take count (first_word octets.now) }
+    ensures { to_bits word_size result ≡ first_word octets.now }
 {
-    match octets.first_chunk::<4>() {
-        Some(chunk) => {
-            let front = u64::from(u32::from_be_bytes(*chunk)) << 32;
-            if count <= 32 {
-                front
-            } else {
-                front | load_octets(&octets[4..]) >> 32
-            }
+    match (octets.first_chunk::<4>(), octets.last_chunk::<4>()) {
+        (Some(first), Some(last)) => {
+            let behind = load_last(u32::from_be_bytes(*last), octets.len());
+            u64::from(u32::from_be_bytes(*first)) << 32 | behind >> 32
         }
-        None => load_octets(octets),
+        _ => load_octets(octets),
     }
+}
+
+/// The octets behind the first four of `count` as a word, by the number of the last four; zeros stand behind them.
+fn load_last(last: u32, count: usize) -> u64
+    requires some { 4 ≤ count }
+    requires few { count < 8 }
+    ensures { result ≡ last * 2 ^ (96 - 8 * count) % 2 ^ 64 }
+{
+    u64::from(last) << 32 << (64 - 8 * count)
 }
 
 /// The bits of fewer than eight octets, the first the highest, zeros behind them.
@@ -81,7 +87,7 @@ pub(crate) fn read_field(octets: &[u8], skip: u32, count: u32) -> u64
     ensures bits { to_bits count result ≡ take count (drop skip (unpack octets.now)) }
     ensures below { result < 2 ^ count }
 {
-    let word = load_word(octets, skip + count);
+    let word = load_word(octets);
     low_bits(word >> 1 >> (63 - skip - count), count)
 }
 
@@ -275,20 +281,6 @@ fn put_wide_field<A: Allocator>(octets: &mut Vec<u8, A>, spare: u32, value: u128
     }
 }
 
-/// The number whose bits are the low `width` ones of each of some octets, no more than a field has. Eight octets are
-/// told apart, since the compiler makes no loop of so many.
-fn field_of_octets(octets: &[u8], width: u32) -> u64
-    requires width { width ≤ 8 }
-    requires few { width * length octets.now ≤ FIELD_BITS }
-    ensures { to_bits (width * length octets.now) result ≡ low_bits_of width octets.now }
-{
-    if octets.len() == 8 {
-        field_of(&octets[..8], width)
-    } else {
-        field_of(octets, width)
-    }
-}
-
 /// The low `width` bits of each octet as one number, the first octet's highest, by one loop over the octets.
 #[inline]
 fn field_of(octets: &[u8], width: u32) -> u64
@@ -303,8 +295,35 @@ fn field_of(octets: &[u8], width: u32) -> u64
     field
 }
 
-/// Appends the low `width` bits of each of some octets, as many octets at a time as one field has, and answers how many
-/// bits are spare then.
+/// The number whose bits are the low `width` ones of each octet of a word, the first octet's highest. They are moved
+/// together in all octets at once: in pairs, these in pairs again, and the two that are left.
+#[inline(always)]
+fn squeezed(word: u64, width: u32) -> u64
+    requires { width ≤ 8 }
+    ensures bits { to_bits (8 * width) result ≡ low_of_each width 8 8 word }
+    ensures below { result < 2 ^ (8 * width) }
+{
+    let octets = word & (0x0101_0101_0101_0101 * ((1 << width) - 1));
+    let pairs = joined(octets, 0x00ff_00ff_00ff_00ff, 8, width);
+    let fours = joined(pairs, 0x0000_ffff_0000_ffff, 16, 2 * width);
+    joined(fours, 0x0000_0000_ffff_ffff, 32, 4 * width)
+}
+
+/// A word whose fields of `size` bits are moved together in pairs: the upper field of each, which is multiplied by its
+/// worth, comes down to right above the `width` bits that the lower one uses. `lower` has ones in the lower fields.
+#[inline(always)]
+fn joined(word: u64, lower: u64, size: u32, width: u32) -> u64
+    requires width { width ≤ size }
+    requires size { size ≤ 32 }
+    requires lower { lower ≡ ones_of size (2 * size) (32 / size) }
+    requires narrow { AreNarrow width size (2 * (32 / size)) word }
+    ensures { Joined width size (32 / size) word result }
+{
+    word - (word >> size & lower) * ((1 << size) - (1 << width))
+}
+
+/// Appends the low `width` bits of each of some octets, eight octets at a time and then those that are left, and
+/// answers how many bits are spare then.
 pub(crate) fn append_low_bits<A: Allocator>(
     octets: &mut Vec<u8, A>,
     spare: u32,
@@ -312,20 +331,61 @@ pub(crate) fn append_low_bits<A: Allocator>(
     width: u32,
 ) -> u32
     requires padded { ArePadded spare octets.old.items }
-    requires width { width ≤ 8 }
+    requires width { width < 8 }
     requires room { vec_len octets.old + length from.now + 9 ≤ vec_capacity octets.old }
     ensures { AreFilledBy (filled spare octets.old.items ++ low_bits_of width from.now) result octets.new.items }
 {
-    let most = (FIELD_BITS / width.max(1)) as usize;
-    let mut unused = spare;
-    let mut at = 0;
-    while at < from.len() {
-        let next = at + most.min(from.len() - at);
-        let field = field_of_octets(&from[at..next], width);
-        unused = append_field(octets, unused, field, width * (next - at) as u32);
-        at = next;
+    let whole = from.len() / 8 * 8;
+    append_eights(octets, spare, &from[..whole], width);
+    let rest = &from[whole..];
+    let field = field_of(rest, width);
+    append_field(octets, spare, field, width * rest.len() as u32)
+}
+
+/// Appends the low `width` bits of each octet of some eights. As many bits as before are spare then.
+fn append_eights<A: Allocator>(octets: &mut Vec<u8, A>, spare: u32, from: &[u8], width: u32)
+    requires padded { ArePadded spare octets.old.items }
+    requires width { width < 8 }
+    requires whole { length from.now % 8 ≡ 0 }
+    requires room { vec_len octets.old + length from.now + 8 ≤ vec_capacity octets.old }
+    ensures bits { AreFilledBy (filled spare octets.old.items ++ low_bits_of width from.now) spare octets.new.items }
+    ensures room { vec_capacity octets.old ≤ vec_capacity octets.new }
+{
+    if from.is_empty() {
+        return;
     }
-    unused
+    let begun = spare.div_ceil(8);
+    let begin = octets.len() - begun as usize;
+    let grown = begin + from.len() / 8 * width as usize;
+    octets.resize(grown + 8, 0).unwrap();
+    put_eights(&mut octets[begin..], 8 * begun - spare, from, width);
+    octets.truncate(grown + begun as usize);
+}
+
+/// Puts the low `width` bits of each octet of some eights behind the first `used` bits of others, which are followed by
+/// zeros. A word is written for each eight, which ends within the next one's first octet: the bits there go on to it.
+fn put_eights(octets: &mut [u8], used: u32, from: &[u8], width: u32)
+    requires used { used < 8 }
+    requires width { width < 8 }
+    requires whole { length from.now % 8 ≡ 0 }
+    requires long { length octets.old ≡ length from.now / 8 * width + 8 }
+    requires zeros { HaveZeros used octets.old }
+    ensures { let bits = take used (unpack octets.old) ++ low_bits_of width from.now in
+        unpack octets.new ≡ bits ++ replicate (64 - used) false }
+{
+    let size = 8 * width;
+    let up = 63 - used - size;
+    let mut front = load_word(octets);
+    let mut place = 0;
+    let mut rest = from;
+    while rest.len() >= 8 {
+        let word = front | squeezed(load_word(rest), width) << 1 << up;
+        octets[place..place + 8].copy_from_slice(&word.to_be_bytes());
+        front = word << size;
+        place += width as usize;
+        rest = &rest[8..];
+    }
+    octets[place..place + 8].copy_from_slice(&front.to_be_bytes());
 }
 
 /// Appends `count` octets of the bits of others, from the bit behind the first `skip` on.
@@ -357,4 +417,86 @@ fn shift_octets(octets: &mut [u8], from: &[u8], skip: u32)
         let pair = u16::from(from[index]) << 8 | u16::from(from[index + 1]);
         octets[index] = ((pair >> (8 - skip)) % 256) as u8;
     }
+}
+
+/// The first eight octets as `load_word` has them, where these are read in a loop.
+#[inline(always)]
+fn load_next_word(octets: &[u8]) -> u64
+    ensures { to_bits word_size result ≡ first_word octets.now }
+{
+    match octets.first_chunk::<8>() {
+        Some(chunk) => u64::from_be_bytes(*chunk),
+        None => load_last_word(octets),
+    }
+}
+
+/// The same of fewer than eight octets: a call of its own, which leaves the loop before it short.
+#[inline(never)]
+fn load_last_word(octets: &[u8]) -> u64
+    requires { length octets.now < 8 }
+    ensures { to_bits word_size result ≡ first_word octets.now }
+{
+    load_short_word(octets)
+}
+
+/// Puts numbers of `width` bits each into the low bits of the first `count` octets: those that stand one behind another
+/// in other octets, behind the first `skip` bits. A word is read and one written for each eight numbers, so that eight
+/// octets more may change.
+pub(crate) fn spread_octets(octets: &mut [u8], count: usize, from: &[u8], skip: u32, width: u32)
+    requires width { width < 8 }
+    requires within { AreWithin skip (width * count) from.now }
+    requires room { count + 8 ≤ length octets.old }
+    ensures bits { low_bits_of width (take count octets.new) ≡ take (width * count) (drop skip (unpack from.now)) }
+    ensures len { length octets.new ≡ length octets.old }
+{
+    let gap = 63 - 8 * width;
+    let mut place = 0;
+    let mut at = 0;
+    while at < count {
+        let word = load_next_word(&from[place..]) << skip >> 1 >> gap;
+        octets[at..at + 8].copy_from_slice(&spread(word, width).to_be_bytes());
+        at += 8;
+        place += width as usize;
+    }
+}
+
+/// Puts the bits of others into the first `count` octets, from the bit behind the first `skip` on.
+pub(crate) fn copy_octets(octets: &mut [u8], count: usize, from: &[u8], skip: u32)
+    requires within { AreWithin skip (8 * count) from.now }
+    requires room { count ≤ length octets.old }
+    ensures bits { unpack (take count octets.new) ≡ take (8 * count) (drop skip (unpack from.now)) }
+    ensures len { length octets.new ≡ length octets.old }
+{
+    if skip == 0 {
+        octets[..count].copy_from_slice(&from[..count]);
+    } else {
+        shift_octets(&mut octets[..count], from, skip);
+    }
+}
+
+/// The word of eight octets whose low `width` bits are those of a number of so many, the first octet's highest. They
+/// are moved apart in all octets at once: in two halves, each of these in two, and these in two again.
+#[inline(always)]
+fn spread(word: u64, width: u32) -> u64
+    requires width { width ≤ 8 }
+    requires below { word < 2 ^ (8 * width) }
+    ensures { low_of_each width 8 8 result ≡ to_bits (8 * width) word }
+{
+    let fours = parted(word, 0x0000_0000_ffff_ffff, 32, 4 * width);
+    let pairs = parted(fours, 0x0000_ffff_0000_ffff, 16, 2 * width);
+    parted(pairs, 0x00ff_00ff_00ff_00ff, 8, width)
+}
+
+/// A word whose fields of twice `size` bits, which use twice `width`, are parted in two: the upper half of the bits of
+/// each goes up to the upper field. `lower` has ones in the lower fields.
+#[inline(always)]
+fn parted(word: u64, lower: u64, size: u32, width: u32) -> u64
+    requires width { width ≤ size }
+    requires size { size ≤ 32 }
+    requires lower { lower ≡ ones_of size (2 * size) (32 / size) }
+    requires whole { size * (32 / size) ≡ 32 }
+    requires narrow { AreNarrow (2 * width) (2 * size) (32 / size) word }
+    ensures { Parted width size (32 / size) word result }
+{
+    word + (word >> width & lower) * ((1 << size) - (1 << width))
 }

@@ -13,8 +13,9 @@ ghost use Rattle.rasn_types.specs.Packed.{packed};
 ghost use Rattle.per_bits.specs.Octets.{filled, low_bits_of, AreFilledBy, ArePadded, AreWholeOctets};
 
 use crate::fields::{
-    FIELD_BITS, append_field, append_low_bits, append_octets_behind, cut_back, fill_last_octet,
-    put_bit, put_number, read_field, read_wide_field, with_bit, with_room,
+    FIELD_BITS, append_field, append_low_bits, append_octets_behind, copy_octets, cut_back,
+    fill_last_octet, put_bit, put_number, read_field, read_wide_field, spread_octets, with_bit,
+    with_room,
 };
 use rasn_types::bit_string::note_octets;
 use std::alloc::{AllocError, Allocator};
@@ -376,6 +377,22 @@ impl<'input> BitReader<'input> {
         number
     }
 
+    /// Puts the first bits that are left into the first `count` octets, as the low `width` bits of each. They are still
+    /// left. There are eight octets more at least, and it isn't said what these are then.
+    pub fn spread_bits(&self, octets: &mut [u8], count: usize, width: u32)
+        requires width { width ≤ 8 }
+        requires left { width * count ≤ length self.now.bits }
+        requires room { count + 8 ≤ length octets.old }
+        ensures bits { low_bits_of width (take count octets.new) ≡ take (width * count) self.now.bits }
+        ensures len { length octets.new ≡ length octets.old }
+    {
+        if width < 8 {
+            spread_octets(octets, count, self.octets, self.skip, width);
+        } else {
+            copy_octets(octets, count, self.octets, self.skip);
+        }
+    }
+
     /// Appends the bits that are left to octets: the fewest octets, the first bit highest, and zero bits behind the
     /// last. The only error is want of memory, and then the octets are as they were.
     pub fn append_octets<A: Allocator>(&self, octets: &mut Vec<u8, A>) -> Result<(), AllocError>
@@ -398,6 +415,18 @@ impl<'input> BitReader<'input> {
         let count = (self.len / 8) as usize;
         append_octets_behind(octets, self.octets, self.skip, count);
         self.take(8 * count as u128).unwrap();
+    }
+
+    /// Appends the octets that the bits fill, unless one field has them all. They are then no longer left.
+    fn move_front<A: Allocator>(&mut self, octets: &mut Vec<u8, A>)
+        requires room { 8 * vec_len octets.old + length self.old.bits ≤ 8 * vec_capacity octets.old }
+        ensures bits { unpack octets.new.items ++ self.new.bits ≡ unpack octets.old.items ++ self.old.bits }
+        ensures few { length self.new.bits ≤ FIELD_BITS }
+        ensures room { vec_capacity octets.old ≤ vec_capacity octets.new }
+    {
+        if self.len > u128::from(FIELD_BITS) {
+            self.move_octets(octets);
+        }
     }
 
     /// How many octets of room `append_reader` wants for the bits that are left: what they fill, one that they begin,
@@ -444,13 +473,14 @@ fn append_reader<A: Allocator>(octets: &mut Vec<u8, A>, spare: u32, reader: BitR
     append_from_octet(octets, left)
 }
 
-/// Appends all bits of a reader to octets of which no bit is spare, and answers how many are spare then.
+/// Appends all bits of a reader to octets of which no bit is spare, and answers how many are spare then. Those of a
+/// field are one number.
 fn append_from_octet<A: Allocator>(octets: &mut Vec<u8, A>, reader: BitReader<'_>) -> u32
     requires { 8 * vec_len octets.old + length reader.bits + 64 ≤ 8 * vec_capacity octets.old }
     ensures { AreFilledBy (unpack octets.old.items ++ reader.entry.bits) result octets.new.items }
 {
     let mut left = reader;
-    left.move_octets(octets);
+    left.move_front(octets);
     let width = left.len() as u32;
     let number = left.take_field(width);
     append_field(octets, 0, number, width)

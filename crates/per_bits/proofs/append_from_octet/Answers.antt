@@ -8,14 +8,14 @@ use Rattle.per_bits.proofs.append_from_octet.Goals as goal
 
 pub append_field-requires-clause-room : goal.append_field-requires-clause-room
 append_field-requires-clause-room g c =
-    let m = moved_length c.args.octets.now.items c.move_octets.new.octets.items c.move_octets.new.self.bits c.args.reader.bits c.move_octets.ensures.bits in
-    omega (arith, c.requires, c.move_octets.ensures.room)
+    let m = moved_length c.args.octets.now.items c.move_front.new.octets.items c.move_front.new.self.bits c.args.reader.bits c.move_front.ensures.bits in
+    omega (arith, c.requires, c.move_front.ensures.room)
 
 pub returns : goal.returns
 returns g c =
     let field = to_bits c.len-width.result c.take_field-number.result in
     let count = ap length c.take_field-number.ensures.bits ∙ length-append field c.take_field-number.new.self.bits in
     let none : c.take_field-number.new.self.bits ≡ [] = nil_from_length c.take_field-number.new.self.bits (omega (arith, length-to_bits c.len-width.result c.take_field-number.result)) in
-    let all : filled 0 c.move_octets.new.octets.items ++ field ≡ unpack c.args.octets.now.items ++ c.args.reader.bits = ap₂ (λ bs cs. bs ++ cs) (filled_all c.move_octets.new.octets.items)
-    (sym (append-nil field) ∙ ap (λ bs. field ++ bs) (sym none) ∙ sym c.take_field-number.ensures.bits) ∙ c.move_octets.ensures.bits in
+    let all : filled 0 c.move_front.new.octets.items ++ field ≡ unpack c.args.octets.now.items ++ c.args.reader.bits = ap₂ (λ bs cs. bs ++ cs) (filled_all c.move_front.new.octets.items)
+    (sym (append-nil field) ∙ ap (λ bs. field ++ bs) (sym none) ∙ sym c.take_field-number.ensures.bits) ∙ c.move_front.ensures.bits in
     subst (λ bs. AreFilledBy bs c.append_field.result c.append_field.new.octets.items) all c.append_field.ensures.bits

@@ -1,20 +1,17 @@
-use Rattle.std.proofs.Common.{arith, refl, ◌*◌, ◌+◌, ◌-◌}
-use Rattle.rasn_types.specs.Bits.{to_bits}
-use Rattle.rasn_types.proofs.Bits.{length-to_bits}
-use Rattle.per_bits.proofs.LowBits.{field_there}
-use Rattle.per_bits.proofs.Loops.{filled_more, put_before}
-use Rattle.per_bits.proofs.Readers.{padded_by}
+use Rattle.std.proofs.Common.{◌*◌, ◌/◌, length, length-take, arith}
+use Rattle.std.proofs.lemmas.Slice.{between_to_end}
+use Rattle.per_bits.proofs.Eights.{both_put, eights_length}
+use Rattle.per_bits.proofs.Readers.{padded_by, spare_there}
 use Rattle.per_bits.proofs.fields.append_low_bits.Goals as goal
 
-pub loop-at-preserved : goal.loop-at-preserved
-loop-at-preserved g c =
-    let width = c.args.width * (c.loop-at.at + c.min.result - c.loop-at.at) in
-    let bits = to_bits width c.field_of_octets-field.result in
-    let there = field_there c.args.width c.loop-at.at c.min.result width c.field_of_octets-field.result c.args.from.now (omega arith) c.requires.width refl c.field_of_octets-field.ensures in
-    let more = filled_more c.loop-at.unused c.append_field-unused.result c.loop-at.octets.items c.append_field-unused.new.octets.items bits c.loop-at.invariant.padded c.append_field-unused.ensures.bits in
-    record {
-      within = there.within;
-      padded = padded_by c.append_field-unused.ensures.bits;
-      bits = put_before c.loop-at.unused c.append_field-unused.result c.loop-at.octets.items c.append_field-unused.new.octets.items _ _ _ _ c.append_field-unused.ensures.bits there.bits c.loop-at.invariant.bits;
-      room = omega (arith, c.loop-at.invariant.room, more, c.append_field-unused.ensures.room, length-to_bits width c.field_of_octets-field.result, there.few);
-    }
+pub append_field-requires-clause-there : goal.append_field-requires-clause-there
+append_field-requires-clause-there g c = spare_there c.args.spare c.append_eights.new.octets.items (padded_by c.append_eights.ensures.bits)
+
+pub append_field-requires-clause-room : goal.append_field-requires-clause-room
+append_field-requires-clause-room g c =
+    omega (arith, c.requires.room, c.append_eights.ensures.room, length-take (length c.args.from.now / 8 * 8) c.args.from.now, eights_length c.args.spare c.args.width c.args.octets.now.items c.append_eights.new.octets.items _ c.requires.padded (omega arith) c.append_eights.ensures.bits)
+
+pub returns : goal.returns
+returns g c =
+    both_put c.args.spare c.append_field.result c.args.width (length c.args.from.now / 8 * 8) c.args.octets.now.items c.append_eights.new.octets.items c.append_field.new.octets.items c.args.from.now _ c.field_of-field.result
+    c.append_eights.ensures.bits (between_to_end c.args.from.now (length c.args.from.now / 8 * 8) (length c.args.from.now) (omega arith)) c.field_of-field.ensures c.append_field.ensures.bits
